@@ -1,0 +1,4 @@
+pub mod Task
+pub mod Typing
+pub mod Valid
+pub mod Meaning
