@@ -1,0 +1,62 @@
+-- Marks that are made one after another.
+use Rattle.std.proofs.Common.{◌≡◌, ℕ, ◌<◌, ◌≤◌, ◌+◌, ◌||◌, Bool, true, false, List, ◌∷◌, length, get_or, drop, drop-cons, add-one, suc, map, refl, sym, ap, ◌∙◌, arith}
+use Rattle.std.proofs.lemmas.List.{drop_all}
+use Rattle.std.specs.List.{list_any}
+use Rattle.trees.specs.Tree.{Tree}
+use Rattle.trees.specs.declared.TermId.{TermId}
+use Rattle.trees.specs.Node.{tree_at}
+use Rattle.tasks.specs.declared.declaration.Body.{Body}
+use Rattle.tasks.specs.declared.declaration.Body.TheVariants.{Symbol, Prop}
+use Rattle.tasks.specs.declared.declaration.Decl.{Decl}
+use Rattle.tasks.specs.Task.{props_of}
+use Rattle.tasks.specs.Meaning.{trees_at, body_at, declarations_at}
+use Rattle.problems.specs.Used.{occurs}
+use Rattle.problems.specs.Marks.{Marks, formula_of, said}
+
+or_false : (b : Bool) → b ≡ (b || false)
+or_false true = refl
+or_false false = refl
+
+or_assoc : (a b c : Bool) → ((a || b) || c) ≡ (a || (b || c))
+or_assoc true b c = refl
+or_assoc false b c = refl
+
+pub marks_none : (a : List Bool) → Marks a a (λ k. false)
+marks_none a = record { as_long = refl; each = λ k h. or_false (get_or a k false) }
+
+pub marks_then : {a b c : List Bool} {f g : ℕ → Bool} → Marks a b f → Marks b c g → Marks a c (λ k. f k || g k)
+marks_then {a = a} {f = f} {g = g} one two = record {
+  as_long = two.as_long ∙ one.as_long;
+  each = λ k h. two.each k (omega (arith, one.as_long)) ∙ ap (λ x. x || g k) (one.each k h) ∙ or_assoc (get_or a k false) (f k) (g k);
+}
+
+-- the symbols of formulas, of propositions
+abbrev pub in_formulas : List Tree → List TermId → ℕ → Bool
+in_formulas s ids k = list_any (occurs k) (trees_at s ids)
+
+abbrev pub in_props : List Tree → List Decl → ℕ → Bool
+in_props s ds k = list_any (occurs k) (map formula_of (props_of (declarations_at s ds)))
+
+pub cut_at : {X : Type 0} (xs : List X) (i : ℕ) (x : X) → i < length xs → x ≡ get_or xs i x → drop i xs ≡ x ∷ drop (i + 1) xs
+cut_at xs i x h e = rw (add-one) (drop-cons xs i x h ∙ ap (λ z. z ∷ drop (suc i) xs) (sym e))
+
+pub formula_step : (s : List Tree) (ids : List TermId) (i : ℕ) (d : TermId) (a b m : List Bool) → i < length ids
+    → Marks a b (λ k. occurs k (tree_at s (get_or ids i d))) → Marks b m (in_formulas s (drop (i + 1) ids)) → Marks a m (in_formulas s (drop i ids))
+formula_step s ids i d a b m h one two =
+    let more : Marks b m (in_formulas s (drop (suc i) ids)) = rw (add-one) at two in
+    rw (drop-cons ids i d h) (marks_then one more)
+
+body_step : (s : List Tree) (d : Decl) (ds : List Decl) (body : Body) (a b m : List Bool) → d.body ≡ body
+    → Marks a b (λ k. said k (body_at s body)) → Marks b m (in_props s ds) → Marks a m (in_props s (d ∷ ds))
+body_step s d ds (Symbol j) a b m e one two = rw e (marks_then one two)
+body_step s d ds (Prop f) a b m e one two = rw e (marks_then one two)
+
+pub prop_step : (s : List Tree) (ds : List Decl) (i : ℕ) (d : Decl) (a b m : List Bool) → i < length ds → d ≡ get_or ds i d
+    → Marks a b (λ k. said k (body_at s d.body)) → Marks b m (in_props s (drop (i + 1) ds)) → Marks a m (in_props s (drop i ds))
+prop_step s ds i d a b m h e one two = rw (cut_at ds i d h e) (body_step s d (drop (i + 1) ds) d.body a b m refl one two)
+
+pub formula_end : (s : List Tree) (ids : List TermId) (i : ℕ) (a : List Bool) → length ids ≤ i → Marks a a (in_formulas s (drop i ids))
+formula_end s ids i a h = rw (drop_all i ids h) (marks_none a)
+
+pub prop_end : (s : List Tree) (ds : List Decl) (i : ℕ) (a : List Bool) → length ds ≤ i → Marks a a (in_props s (drop i ds))
+prop_end s ds i a h = rw (drop_all i ds h) (marks_none a)
