@@ -1,0 +1,3 @@
+pub mod Text
+pub mod Index
+pub mod Facts
