@@ -1,6 +1,6 @@
 -- What a task in a store stands for.
 -- That its numbers are held is said apart, by `TaskHeld`.
-use Rattle.std.specs.Prelude.{List, map, All, IfSome}
+use Rattle.std.specs.Prelude.{ℕ, Bool, false, ◌==◌, List, map, All, IfSome}
 use Rattle.std.specs.Option.{option_map}
 use Rattle.trees.specs.declared.TermId.{TermId}
 use Rattle.trees.specs.Tree.{Tree}
@@ -24,6 +24,11 @@ symbols_at s is = map (symbol_at s) is
 abbrev pub body_at : List Tree → Body → BodyTree
 body_at s (Symbol k) = Makes k
 body_at s (Prop a) = Says (tree_at s a)
+
+-- whether a declaration makes the symbol
+abbrev pub makes : ℕ → Body → Bool
+makes k (Symbol j) = j == k
+makes k (Prop a) = false
 
 abbrev pub declaration_at : List Tree → Decl → DeclarationTree
 declaration_at s d = record { theory = d.theory; name = d.name; vars = d.vars; body = body_at s d.body }

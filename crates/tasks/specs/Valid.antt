@@ -41,6 +41,12 @@ pub record IsFormula (t : TaskTree) (params : List Tree) (vars : ℕ) (e : Tree)
   pub parameters : ParametersOf params e
   pub variables : VariablesBelow vars e
 
+-- a formula of a sequent: closed, typed in the task and free of schematic types; parameters of any type may stand in it
+pub record IsGroundFormula (t : TaskTree) (e : Tree) : Type 0 where
+  pub sort : sort_of e ≡ sort.Formula
+  pub typed : IsTyped t e
+  pub ground : IsGround e
+
 -- a type of the task, with the schematic type variables below this number
 pub record IsTypeOver (t : TaskTree) (vars : ℕ) (e : Tree) : Type 0 where
   pub sort : sort_of e ≡ sort.Kind
