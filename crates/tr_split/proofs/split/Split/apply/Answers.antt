@@ -1,0 +1,7 @@
+use Rattle.std.proofs.lemmas.Result.{IfOk-weaker}
+use Rattle.tr_split.proofs.Tasks.{tasks_split}
+use Rattle.tr_split.proofs.split.Split.apply.Goals as goal
+
+pub returns-clause-tasks : goal.returns-clause-tasks
+returns-clause-tasks c = IfOk-weaker c.tasks_for.result _ _ (λ ts t. tasks_split c.args.store.now _ c.args.task.now _ _ _ ts.items c.in_ok-add_parts.ensures.grows c.requires.held
+    c.new-goals.ensures.items c.deref.ensures.value c.in_ok-add_parts.ensures.gains t) c.tasks_for.ensures.tasks
