@@ -16,7 +16,7 @@ use Rattle.problems.specs.declared.names.NameEntry.{NameEntry}
 use Rattle.problems.specs.Names.{entry_of, entries_from}
 use Rattle.problems.specs.Named.{PushesMade, marked}
 use Rattle.problems.specs.Marks.{MarksUsed}
-use Rattle.problems.specs.Used.{is_used, used_symbols}
+use Rattle.problems.specs.Used.{is_used, used_symbols, DeclaresEntries}
 
 -- a symbol that isn't marked adds nothing
 pub push_none : (t : Task) (marks : List Bool) (k : ℕ) (names : List NameEntry) → get_or marks k false ≡ false → PushesMade t marks (Symbol k) names names
@@ -81,8 +81,11 @@ made_within t [] a = All-nil (λ k. k < length t.symbols)
 made_within t (d ∷ ds) a =
     All-append (λ k. k < length t.symbols) (made_by d.body) (made ds) (body_within t d.vars d.body (a 0 d (omega arith))) (made_within t ds (λ j e l. a (suc j) e (omega arith)))
 
-pub marked-used : (t : TaskTree) (marks : List Bool) → IsValid t → MarksUsed t marks → marked marks (made t.decls) ≡ used_symbols t
-marked-used t marks v m = same_filter (λ k. get_or marks k false) (is_used t) (length t.symbols) (made t.decls) m.each (made_within t t.decls v.decls)
+pub marked-used : (t : TaskTree) (marks : List Bool) → DeclaresEntries t → MarksUsed t marks → marked marks (made t.decls) ≡ used_symbols t
+marked-used t marks v m = same_filter (λ k. get_or marks k false) (is_used t) (length t.symbols) (made t.decls) m.each v
+
+pub valid-entries : (t : TaskTree) → IsValid t → DeclaresEntries t
+valid-entries t v = made_within t t.decls v.decls
 
 pub name_within : (s : List Tree) (infos seen : List SymbolInfo) (k : ℕ) (i : SymbolInfo) → seen ≡ infos → k < length seen → (get_or seen k i).name ≡ (symbol_or (symbols_at s infos) k).name
 name_within s infos seen k i same h =

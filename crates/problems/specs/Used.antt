@@ -1,5 +1,5 @@
 -- The symbols that occur in a task's formulas.
-use Rattle.std.specs.Prelude.{ℕ, Bool, false, ◌||◌, ◌==◌, List, [], ◌∷◌, ◌++◌, map, filter}
+use Rattle.std.specs.Prelude.{ℕ, ◌<◌, Bool, ◌||◌, ◌==◌, false, List, [], ◌∷◌, ◌++◌, map, filter, length, All}
 use Rattle.std.specs.List.{list_any}
 use Rattle.trees.specs.Tree.{Tree, Leaf, One, Two, Three, Head, HPred, HFun}
 use Rattle.tasks.specs.Task.{TaskTree, made, props}
@@ -26,3 +26,7 @@ is_used t k = list_any (occurs k) (formulas t)
 -- the symbols that occur, in the order of their declarations
 abbrev pub used_symbols : TaskTree → List ℕ
 used_symbols t = filter (is_used t) (made t.decls)
+
+-- each symbol that a declaration makes is an entry of the signature, as in a valid task
+abbrev pub DeclaresEntries : TaskTree → Type 0
+DeclaresEntries t = All (λ k. k < length t.symbols) (made t.decls)

@@ -1,7 +1,7 @@
 // The entries of a name table.
 ghost use Rattle.std.specs.Prelude.{◌≡◌, ◌++◌, false, map, slice_index_or, IfOk, OnOk};
 ghost use Rattle.tasks.specs.Meaning.{task_at, TaskHeld};
-ghost use Rattle.tasks.specs.Valid.{IsValid};
+ghost use Rattle.problems.specs.Used.{DeclaresEntries};
 ghost use Rattle.problems.specs.Named.{IsNameOf, PushesMade};
 ghost use Rattle.problems.specs.Clean.{clean_byte, lower, clean, name_at_place};
 ghost use Rattle.problems.specs.Names.{plain_names, int_entry, entry_of};
@@ -133,7 +133,7 @@ fn int_entry(alloc: Global) -> Result<NameEntry, AllocError>
 /// their declarations.
 pub fn plain_names(alloc: Global, store: &Store, task: &Task) -> Result<Vec<NameEntry>, AllocError>
     requires held { TaskHeld store.now task.now }
-    requires valid { IsValid (task_at store.now task.now) }
+    requires entries { DeclaresEntries (task_at store.now task.now) }
     ensures { IfOk result (λ v. v.items ≡ plain_names (task_at store.now task.now)) }
 {
     let used = used_marks(alloc, store, task)?;

@@ -1,15 +1,17 @@
 -- What a theory that was read stands for.
-use Rattle.std.specs.Prelude.{◌≡◌, ℕ, List, [], map, take, All, Option, Some, None, Result, Ok, Err, if◌then◌else◌}
+use Rattle.std.specs.Prelude.{◌≡◌, ℕ, List, [], map, take, All, Option, Some, None, Result, Ok, Err, ◌⊎◌, if◌then◌else◌}
 use Rattle.std.specs.Str.{bytes_eq}
 use Rattle.trees.specs.Tree.{Tree}
 use Rattle.trees.specs.Node.{tree_at, Holds}
 use Rattle.tasks.specs.Task.{SymbolTree, DeclarationTree, TaskTree}
-use Rattle.tasks.specs.Meaning.{symbols_at, declarations_at, SymbolHeld, DeclHeld}
+use Rattle.tasks.specs.Meaning.{symbols_at, declarations_at, task_at, SymbolHeld, DeclHeld}
 use Rattle.sources.specs.declared.theory.GoalAt.{GoalAt}
 use Rattle.sources.specs.declared.theory.Theory.{Theory}
+use Rattle.tasks.specs.declared.task.Task.{Task}
+use Rattle.sources.specs.declared.task.Found.{Found}
 use Rattle.sources.specs.declared.theory.TaskFault.{TaskFault}
-use Rattle.sources.specs.declared.theory.TaskFault.TheVariants.{NoTheory, NoGoal}
-use Rattle.sources.specs.Source.{TheoryText, GoalTree, symbols_of, declarations_of, goals_of, goal_named}
+use Rattle.sources.specs.declared.theory.TaskFault.TheVariants.{Memory, NoTheory, NoGoal}
+use Rattle.sources.specs.Source.{TheoryText, IsSource, GoalTree, symbols_of, declarations_of, goals_of, goal_named}
 
 -- a theory in trees
 pub record TheoryTree : Type 0 where
@@ -45,3 +47,21 @@ if_goal t (Some g) = Ok (task_before t g)
 -- the task of a goal by its theory's name and its own
 abbrev pub task_named : TheoryTree → List ℕ → List ℕ → Result TaskTree TaskFault
 task_named t path goal = if bytes_eq t.path path then if_goal t (goal_named goal t.goals) else Err NoTheory
+
+-- the bytes are a source of this theory
+abbrev pub IsRead : List ℕ → TheoryTree → Type 0
+IsRead text t = (u : TheoryText) × IsSource text u × (t ≡ theory_of u)
+
+-- the bytes are the source of no theory
+abbrev pub IsNoSource : List ℕ → Type 0
+IsNoSource text = (t : TheoryText) → ¬ IsSource text t
+
+-- what looking for a goal gives
+abbrev pub FindsGoal : List GoalAt → List ℕ → Option Found → Type 0
+FindsGoal goals name None = (s : List Tree) → goal_named name (map (goal_at s) goals) ≡ None
+FindsGoal goals name (Some f) = (s : List Tree) → All (λ (g : GoalAt). Holds s g.prop) goals → Holds s f.prop × (goal_named name (map (goal_at s) goals) ≡ Some (record { name = name; before = f.before; prop = tree_at s f.prop }))
+
+-- The answer is the task of the names, or why there is none; memory may fail.
+abbrev pub IsTaskOf : List Tree → Theory → List ℕ → List ℕ → Result Task TaskFault → Type 0
+IsTaskOf s t path goal (Ok k) = task_named (theory_at s t) path goal ≡ Ok (task_at s k)
+IsTaskOf s t path goal (Err e) = (e ≡ Memory) ⊎ (task_named (theory_at s t) path goal ≡ Err e)

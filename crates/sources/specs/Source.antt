@@ -1,13 +1,12 @@
 -- What can be written in the propositional fragment, and the task of a goal (Why3 manual, "syntax of logical formulas", "tasks").
 -- A source is the words of a theory: the trees below say what can be written, and nothing of how it is read.
-use Rattle.std.specs.Prelude.{◌≡◌, ℕ, ◌+◌, ◌≤◌, Bool, false, ◌||◌, not, if◌then◌else◌, List, [], ◌∷◌, ◌++◌, length, map, IsTrue, Option, Some, None, codes}
+use Rattle.std.specs.Prelude.{ℕ, ◌+◌, ◌≤◌, Bool, not, if◌then◌else◌, List, [], ◌∷◌, ◌++◌, length, map, IsTrue, Option, Some, None, codes}
 use Rattle.std.specs.List.{list_any, flat_map}
-use Rattle.std.specs.Option.{option_map}
 use Rattle.std.specs.Str.{bytes_eq}
 use Rattle.trees.specs.Tree.{Tree, Leaf, Two, HPred, HJoin, HEnd}
 use Rattle.trees.specs.declared.Op.TheVariants.{And, Imp}
 use Rattle.tasks.specs.declared.signature.SymbolKind.TheVariants.{Predicate}
-use Rattle.tasks.specs.Task.{SymbolTree, int_symbol, BodyTree, Makes, Says, DeclarationTree, TaskTree}
+use Rattle.tasks.specs.Task.{SymbolTree, int_symbol, BodyTree, Makes, Says, DeclarationTree}
 use Rattle.sources.specs.Bytes.{Spells, is_lident, is_uident}
 
 -- formulas as they are written; parentheses are a tree of their own

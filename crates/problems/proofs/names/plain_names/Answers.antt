@@ -24,4 +24,4 @@ returns c =
     sym (grown_end c.args.task.now s marks c.loop-decl.names.items ds c.loop-decl.decl-index c.loop-decl-test.false) ∙ c.loop-decl.invariant in
     whole ∙ ap (Grown c.args.task.now s marks c.push.new.self.items) c.as_slice-decl-items.ensures
     ∙ ap (λ (z : List NameEntry). Grown c.args.task.now s marks z c.args.task.now.decls) first
-    ∙ ap (λ ks. int_entry ∷ entries_from (task_at s c.args.task.now) 1 ks) (marked-used (task_at s c.args.task.now) marks c.requires.valid c.in_ok-used.ensures)
+    ∙ ap (λ ks. int_entry ∷ entries_from (task_at s c.args.task.now) 1 ks) (marked-used (task_at s c.args.task.now) marks c.requires.entries c.in_ok-used.ensures)

@@ -1,0 +1,18 @@
+-- A goal's task by its names, as a step of the order.
+use Rattle.std.proofs.Common.{◌≡◌, ◌≢◌, ◌⊎◌, ℕ, List, Ok, Err, Result, inl, inr, refl, ◌∙◌, ap}
+use Rattle.tasks.specs.Task.{TaskTree}
+use Rattle.sources.specs.Meaning.{TheoryTree, task_named}
+use Rattle.sources.specs.declared.theory.TaskFault.{TaskFault}
+use Rattle.sources.specs.declared.theory.TaskFault.TheVariants.{Memory}
+use Rattle.program.specs.Order.{Meaning, Answer, Stop, or_stop, stop_of}
+
+-- what is left after the source
+abbrev pub naming : (theory goal : List ℕ) → TheoryTree → Meaning TaskTree
+naming theory goal t files limit = Answer (or_stop (task_named t theory goal))
+
+pub named-ok : (r : Result TaskTree TaskFault) (t : TaskTree) → r ≡ Ok t → Ok t ≡ or_stop r
+named-ok r t e = rw e refl
+
+pub named-err : (r : Result TaskTree TaskFault) (e x : TaskFault) → e ≡ x → x ≢ Memory → (e ≡ Memory) ⊎ (r ≡ Err e) → Err (stop_of x) ≡ or_stop r
+named-err r e x same ne (inl m) = absurd (ne (cc))
+named-err r e x same ne (inr h) = rw (h, same) refl

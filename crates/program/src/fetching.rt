@@ -1,0 +1,29 @@
+// The files that a run fetches, by their numbers.
+ghost use Rattle.std.specs.Prelude.{◌≡◌, ◌+◌, ℕ};
+ghost use Rattle.outside.specs.Shelf.{Shelf};
+ghost use Rattle.program.specs.Meets.{Answers, bytes_of};
+ghost use Rattle.program.specs.Order.{ShortFile};
+
+use crate::{Fault, RunFault};
+use outside::{FetchFault, Library};
+
+// One byte more than a file may have.
+const MOST: usize = 67_108_865;
+
+/// A file of at most 67,108,864 bytes, which is fetched with this number.
+pub fn fetch_short<L: Library>(lib: &mut L, file: usize, name: &str) -> Result<Vec<u8>, RunFault>
+    ensures { Answers (ShortFile file name.now) file (λ _. file + 1) (L.shelf lib.old) (L.shelf lib.new) (bytes_of result) }
+{
+    match lib.fetch(name, MOST) {
+        Ok(bytes) => {
+            if bytes.len() == MOST {
+                Err(RunFault::Refused(Fault::TooLong { file }))
+            } else {
+                Ok(bytes)
+            }
+        }
+        Err(FetchFault::Memory) => Err(RunFault::Memory),
+        Err(FetchFault::Absent) => Err(RunFault::Absent { file }),
+        Err(FetchFault::Failed) => Err(RunFault::ReadFault { file }),
+    }
+}
