@@ -1,0 +1,9 @@
+pub mod Lists
+pub mod GapLemmas
+pub mod NumberLemmas
+pub mod LongestLemmas
+pub mod TokenLemmas
+pub mod TurnLemmas
+pub mod ClauseLemmas
+pub mod TokensLemmas
+pub mod Rows

@@ -1,0 +1,12 @@
+use Rattle.std.proofs.Common.{sym, ap, ◌∙◌}
+use Rattle.word_tables.specs.Words.{place_of}
+use Rattle.tokens_why.specs.Strings.{placed_kind}
+use Rattle.tokens_why.proofs.kinds.word_kind.Goals as goal
+
+pub returns-in-Some : goal.returns-in-Some
+returns-in-Some c =
+    ap (λ o. placed_kind o c.args.word.now) (sym c.in-Some.is ∙ c.find.ensures.place ∙ ap (place_of c.args.word.now) c.requires.words)
+
+pub returns-in-None : goal.returns-in-None
+returns-in-None c =
+    c.letters_kind.ensures ∙ ap (λ o. placed_kind o c.args.word.now) (sym c.in-None.is ∙ c.find.ensures.place ∙ ap (place_of c.args.word.now) c.requires.words)

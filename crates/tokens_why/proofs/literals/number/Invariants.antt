@@ -1,0 +1,9 @@
+use Rattle.std.proofs.Common.{◌≡◌, ◌≤◌, drop}
+use Rattle.tokens_why.specs.Literal.{number, greatest}
+use Rattle.tokens_why.proofs.literals.number.Given as goal
+
+abbrev pub invariant-loop-byte : goal.invariant-loop-byte
+invariant-loop-byte l = record {
+  small : l.number ≤ greatest;
+  same : number l.radix 0 l.digits ≡ number l.radix l.number (drop l.byte-index l.digits);
+}

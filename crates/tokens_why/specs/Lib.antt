@@ -1,0 +1,9 @@
+pub mod Bytes
+pub mod Classes
+pub mod Gap
+pub mod Literal
+pub mod Longest
+pub mod Reserved
+pub mod Strings
+pub mod Terminals
+pub mod Tokens

@@ -1,0 +1,202 @@
+// What a token is to the grammar: a terminal symbol.
+ghost use Rattle.std.specs.Prelude.{◌≡◌};
+ghost use Rattle.tokens_why.specs.Terminals.{terminal_of};
+ghost use Rattle.tokens_why.specs.declared.token.TokenKind.TheVariants.{Operator, Reserved};
+
+use crate::token::TokenKind;
+
+/// The terminal symbols of the grammar, as those of Why3's parser: one for each word that a declaration or an expression
+/// has, for each level of operators, and for each other kind of token.
+///
+/// `ProgramWord` is a word that begins a declaration of programs and nothing else (`coinductive`, `exception`, `meta`,
+/// `val`), and `OtherWord` is any other reserved word.
+#[derive(Clone, Copy, Debug, PartialEq, Eq)]
+pub enum Terminal {
+    Lident,
+    Uident,
+    Wild,
+    TyVar,
+    Int,
+    StarName,
+    LParen,
+    RParen,
+    LBrack,
+    RBrack,
+    LBrace,
+    RBrace,
+    Comma,
+    Dot,
+    Colon,
+    Semi,
+    Bar,
+    Arrow,
+    Equiv,
+    Conj,
+    AndAnd,
+    Disj,
+    OrOr,
+    Equal,
+    Minus,
+    Operator1,
+    Operator2,
+    Operator3,
+    Operator4,
+    PrefixOperator,
+    AsWord,
+    AxiomWord,
+    CloneWord,
+    ConstantWord,
+    ElseWord,
+    EndWord,
+    ExistsWord,
+    ExportWord,
+    FalseWord,
+    ForallWord,
+    FunctionWord,
+    GoalWord,
+    IfWord,
+    ImportWord,
+    InWord,
+    InductiveWord,
+    LemmaWord,
+    LetWord,
+    MatchWord,
+    ModuleWord,
+    NotWord,
+    PredicateWord,
+    ScopeWord,
+    ThenWord,
+    TheoryWord,
+    TrueWord,
+    TypeWord,
+    UseWord,
+    WithWord,
+    ProgramWord,
+    OtherWord,
+}
+
+/// The terminal of each reserved word, in the words' order.
+const WORD_TERMINALS: [Terminal; 63] = [
+    Terminal::OtherWord,
+    Terminal::OtherWord,
+    Terminal::OtherWord,
+    Terminal::OtherWord,
+    Terminal::AsWord,
+    Terminal::AxiomWord,
+    Terminal::OtherWord,
+    Terminal::OtherWord,
+    Terminal::CloneWord,
+    Terminal::ProgramWord,
+    Terminal::ConstantWord,
+    Terminal::OtherWord,
+    Terminal::OtherWord,
+    Terminal::OtherWord,
+    Terminal::ElseWord,
+    Terminal::EndWord,
+    Terminal::OtherWord,
+    Terminal::OtherWord,
+    Terminal::ProgramWord,
+    Terminal::ExistsWord,
+    Terminal::ExportWord,
+    Terminal::FalseWord,
+    Terminal::OtherWord,
+    Terminal::ForallWord,
+    Terminal::OtherWord,
+    Terminal::FunctionWord,
+    Terminal::OtherWord,
+    Terminal::GoalWord,
+    Terminal::IfWord,
+    Terminal::ImportWord,
+    Terminal::InWord,
+    Terminal::InductiveWord,
+    Terminal::OtherWord,
+    Terminal::LemmaWord,
+    Terminal::LetWord,
+    Terminal::MatchWord,
+    Terminal::ProgramWord,
+    Terminal::ModuleWord,
+    Terminal::OtherWord,
+    Terminal::NotWord,
+    Terminal::PredicateWord,
+    Terminal::OtherWord,
+    Terminal::OtherWord,
+    Terminal::OtherWord,
+    Terminal::OtherWord,
+    Terminal::OtherWord,
+    Terminal::OtherWord,
+    Terminal::OtherWord,
+    Terminal::OtherWord,
+    Terminal::ScopeWord,
+    Terminal::OtherWord,
+    Terminal::ThenWord,
+    Terminal::TheoryWord,
+    Terminal::OtherWord,
+    Terminal::TrueWord,
+    Terminal::OtherWord,
+    Terminal::TypeWord,
+    Terminal::UseWord,
+    Terminal::ProgramWord,
+    Terminal::OtherWord,
+    Terminal::OtherWord,
+    Terminal::WithWord,
+    Terminal::OtherWord,
+];
+
+fn operator(level: usize, prefix: bool) -> Terminal
+    ensures { result ≡ terminal_of (Operator level prefix) }
+{
+    if prefix {
+        return Terminal::PrefixOperator;
+    }
+    match level {
+        1 => Terminal::Operator1,
+        2 => Terminal::Operator2,
+        3 => Terminal::Operator3,
+        _ => Terminal::Operator4,
+    }
+}
+
+fn word(place: usize) -> Terminal
+    ensures { result ≡ terminal_of (Reserved place) }
+{
+    if place < WORD_TERMINALS.len() {
+        WORD_TERMINALS[place]
+    } else {
+        Terminal::OtherWord
+    }
+}
+
+/// The terminal symbol that a kind of token is.
+pub fn classify(kind: TokenKind) -> Terminal
+    ensures { result ≡ terminal_of kind }
+{
+    match kind {
+        TokenKind::Lident => Terminal::Lident,
+        TokenKind::Uident => Terminal::Uident,
+        TokenKind::Wild => Terminal::Wild,
+        TokenKind::TyVar => Terminal::TyVar,
+        TokenKind::Int => Terminal::Int,
+        TokenKind::StarName => Terminal::StarName,
+        TokenKind::LParen => Terminal::LParen,
+        TokenKind::RParen => Terminal::RParen,
+        TokenKind::LBrack => Terminal::LBrack,
+        TokenKind::RBrack => Terminal::RBrack,
+        TokenKind::LBrace => Terminal::LBrace,
+        TokenKind::RBrace => Terminal::RBrace,
+        TokenKind::Comma => Terminal::Comma,
+        TokenKind::Dot => Terminal::Dot,
+        TokenKind::Colon => Terminal::Colon,
+        TokenKind::Semi => Terminal::Semi,
+        TokenKind::Bar => Terminal::Bar,
+        TokenKind::Arrow => Terminal::Arrow,
+        TokenKind::Equiv => Terminal::Equiv,
+        TokenKind::Conj => Terminal::Conj,
+        TokenKind::AndAnd => Terminal::AndAnd,
+        TokenKind::Disj => Terminal::Disj,
+        TokenKind::OrOr => Terminal::OrOr,
+        TokenKind::Equal => Terminal::Equal,
+        TokenKind::Minus => Terminal::Minus,
+        TokenKind::Operator(level, prefix) => operator(level, prefix),
+        TokenKind::Reserved(place) => word(place),
+    }
+}
