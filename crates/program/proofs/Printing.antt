@@ -27,13 +27,13 @@ entries_below : (n : ℕ) (t : TaskTree) (place : ℕ) (ks : List ℕ) → All (
 entries_below n t place [] a = All-nil (EntryBelow n)
 entries_below n t place (k ∷ ks) a =
     All-cons (EntryBelow n) (entry_of (symbol_or t.symbols k).name place k) (entries_from t (place + 1) ks) (a 0 k (omega arith))
-      (entries_below n t (place + 1) ks (λ j d h. a (suc j) d (omega arith)))
+    (entries_below n t (place + 1) ks (λ j d h. a (suc j) d (omega arith)))
 
 pub names_below : (t : TaskTree) → DeclaresEntries t → SymbolsBelow (length t.symbols) (plain_names t)
 names_below t d =
     let n = length t.symbols in
     All-cons (EntryBelow n) int_entry (entries_from t 1 (used_symbols t)) tt
-      (entries_below n t 1 (used_symbols t) (All-filter (is_used t) (λ k. k < n) (made t.decls) d))
+    (entries_below n t 1 (used_symbols t) (All-filter (is_used t) (λ k. k < n) (made t.decls) d))
 
 -- as the code has the signature
 pub names_below_at : (s : List Tree) (infos : List SymbolInfo) (names : List NameEntry) (t : TaskTree) → t.symbols ≡ symbols_at s infos → names ≡ plain_names t

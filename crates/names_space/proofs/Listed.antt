@@ -1,0 +1,194 @@
+-- Lists of entries as they grow by one, and the map beside them.
+use Rattle.std.proofs.Common.{◌≡◌, ℕ, ◌+◌, ◌-◌, Bool, true, false, cond, ◌&&◌, ◌||◌, List, [], ◌∷◌, ◌++◌, length, drop, map, Option, Some, None, String, string_bytes, sym, refl, ap, ◌∙◌, arith, append_assoc}
+use Rattle.std.proofs.lemmas.Grind.{common_steps}
+use Rattle.std.specs.HashMap.{HashMap, get_by_text}
+use Rattle.std.specs.Str.{bytes_eq}
+use Rattle.std.proofs.lemmas.Slice.Eq.{bytes_eq-Decides}
+use Rattle.names_space.specs.declared.Table.{Table}
+use Rattle.names_space.specs.declared.Table.TheVariants.{Types, Symbols, Propositions, Scopes}
+use Rattle.names_space.specs.declared.entries.Meaning.{Meaning}
+use Rattle.names_space.specs.declared.entries.Meanings.{Meanings}
+use Rattle.names_space.specs.declared.entries.Stored.{Stored}
+use Rattle.names_space.specs.declared.entries.Item.{Item}
+use Rattle.names_space.specs.Names.{Entry, is_named, same_table, latest, is_declared, imported}
+use Rattle.names_space.specs.Kept.{entry_of, entries_before, latest_first, brought, brought_before, was_declared, thing_of, with_meaning, meaning, meaning_in, meaning_at, KeepBefore, IsKept}
+
+pub same_table_is : (t u : Table) → same_table t u ≡ true → t ≡ u
+same_table_is Types Types h = refl
+same_table_is Symbols Symbols h = refl
+same_table_is Propositions Propositions h = refl
+same_table_is Scopes Scopes h = refl
+same_table_is Types Symbols h = cc
+same_table_is Types Propositions h = cc
+same_table_is Types Scopes h = cc
+same_table_is Symbols Types h = cc
+same_table_is Symbols Propositions h = cc
+same_table_is Symbols Scopes h = cc
+same_table_is Propositions Types h = cc
+same_table_is Propositions Symbols h = cc
+same_table_is Propositions Scopes h = cc
+same_table_is Scopes Types h = cc
+same_table_is Scopes Symbols h = cc
+same_table_is Scopes Propositions h = cc
+
+pub same_table_refl : (t : Table) → same_table t t ≡ true
+same_table_refl Types = refl
+same_table_refl Symbols = refl
+same_table_refl Propositions = refl
+same_table_refl Scopes = refl
+
+pub bytes_eq_is : (xs ys : List ℕ) → bytes_eq xs ys ≡ true → xs ≡ ys
+bytes_eq_is xs ys h = (bytes_eq-Decides xs ys).0 h
+
+pub bytes_eq_refl : (xs : List ℕ) → bytes_eq xs xs ≡ true
+bytes_eq_refl xs = (bytes_eq-Decides xs xs).1 refl
+
+thing_at : (b : Bool) (e : Entry) (m : Option Meaning) (rest : Option ℕ) → thing_of m ≡ rest → thing_of (cond b (with_meaning e m) m) ≡ cond b (Some e.thing) rest
+thing_at true e m rest h = refl
+thing_at false e m rest h = h
+
+pub thing_of-meaning : (t : Table) (n : List ℕ) (es : List Entry) → thing_of (meaning t n es) ≡ latest t n es
+thing_of-meaning t n [] = refl
+thing_of-meaning t n (e ∷ es) = thing_at (is_named t n e) e (meaning t n es) (latest t n es) (thing_of-meaning t n es)
+
+declared_at : (b : Bool) (e : Entry) (m : Option Meaning) (rest : Bool) → was_declared m ≡ rest → was_declared (cond b (with_meaning e m) m) ≡ ((b && e.declared) || rest)
+declared_at true e m rest h = ap (λ (d : Bool). e.declared || d) h
+declared_at false e m rest h = h
+
+pub was_declared-meaning : (t : Table) (n : List ℕ) (es : List Entry) → was_declared (meaning t n es) ≡ is_declared t n es
+was_declared-meaning t n [] = refl
+was_declared-meaning t n (e ∷ es) = declared_at (is_named t n e) e (meaning t n es) (is_declared t n es) (was_declared-meaning t n es)
+
+pub entries_before-snoc : (es : List Entry) (xs : List Stored) (x : Stored) → entries_before es (xs ++ x ∷ []) ≡ entry_of x ∷ entries_before es xs
+entries_before-snoc es [] x = refl
+entries_before-snoc es (y ∷ ys) x = entries_before-snoc (entry_of y ∷ es) ys x
+
+pub length-entries_before : (es : List Entry) (xs : List Stored) → length (entries_before es xs) ≡ length xs + length es
+length-entries_before es [] = omega arith
+length-entries_before es (y ∷ ys) = omega (arith, length-entries_before (entry_of y ∷ es) ys)
+
+pub length-latest_first : (xs : List Stored) → length (latest_first xs) ≡ length xs
+length-latest_first xs = omega (arith, length-entries_before [] xs)
+
+pub brought_before-snoc : (es : List Entry) (xs : List Item) (x : Item) → brought_before es (xs ++ x ∷ []) ≡ brought x ∷ brought_before es xs
+brought_before-snoc es [] x = refl
+brought_before-snoc es (y ∷ ys) x = brought_before-snoc (brought y ∷ es) ys x
+
+-- a further item, in the form of the loop that makes the items
+pub items_more : (xs old : List Stored) (items new : List Item) (x : Stored) (it : Item)
+    → xs ≡ old ++ x ∷ [] → new ≡ items ++ it ∷ [] → brought it ≡ imported (entry_of x)
+    → ((more : List Entry) → brought_before more items ≡ map imported (latest_first old) ++ more)
+    → (more : List Entry) → brought_before more new ≡ map imported (latest_first xs) ++ more
+items_more xs old items new x it is_xs is_new same before more =
+    ap (brought_before more) is_new ∙ brought_before-snoc more items it ∙ ap (λ (e : Entry). e ∷ brought_before more items) same
+    ∙ ap (λ (es : List Entry). imported (entry_of x) ∷ es) (before more)
+    ∙ sym (ap (λ (es : List Entry). map imported es ++ more) (ap latest_first is_xs ∙ entries_before-snoc [] old x))
+
+-- the list without its last element
+pub popped : (stored xs : List Stored) (x : Stored) (now : List Entry) → stored ≡ xs ++ x ∷ [] → latest_first stored ≡ now → latest_first xs ≡ drop 1 now
+popped stored xs x now is_stored is_now =
+    let whole : entry_of x ∷ latest_first xs ≡ now = sym (entries_before-snoc [] xs x) ∙ ap latest_first (sym is_stored) ∙ is_now in
+    let first : drop 1 (entry_of x ∷ latest_first xs) ≡ latest_first xs = refl in
+    sym first ∙ ap (drop 1) whole
+
+pub keep_before-snoc : (es : List Entry) (xs : List Stored) (x : Stored) → KeepBefore es xs → x.before ≡ meaning x.table (string_bytes x.name) (entries_before es xs) → KeepBefore es (xs ++ x ∷ [])
+keep_before-snoc es [] x h b = (b, tt)
+keep_before-snoc es (y ∷ ys) x h b = (h.0, keep_before-snoc (entry_of y ∷ es) ys x h.1 b)
+
+pub keep_before-front : (es : List Entry) (xs : List Stored) (x : Stored) → KeepBefore es (xs ++ x ∷ []) → KeepBefore es xs
+keep_before-front es [] x h = tt
+keep_before-front es (y ∷ ys) x h = (h.0, keep_before-front (entry_of y ∷ es) ys x h.1)
+
+pub keep_before-last : (es : List Entry) (xs : List Stored) (x : Stored) → KeepBefore es (xs ++ x ∷ []) → x.before ≡ meaning x.table (string_bytes x.name) (entries_before es xs)
+keep_before-last es [] x h = h.0
+keep_before-last es (y ∷ ys) x h = keep_before-last (entry_of y ∷ es) ys x h.1
+
+pub length-brought_before : (es : List Entry) (xs : List Item) → length (brought_before es xs) ≡ length xs + length es
+length-brought_before es [] = omega arith
+length-brought_before es (y ∷ ys) = omega (arith, length-brought_before (brought y ∷ es) ys)
+
+brought_before-append : (es : List Entry) (xs : List Item) → brought_before es xs ≡ brought_before [] xs ++ es
+brought_before-append es [] = refl
+brought_before-append es (y ∷ ys) =
+    let one : brought_before (brought y ∷ []) ys ≡ brought_before [] ys ++ brought y ∷ [] = brought_before-append (brought y ∷ []) ys in
+    brought_before-append (brought y ∷ es) ys ∙ sym (append_assoc (brought_before [] ys) (brought y ∷ []) es) ∙ ap (λ l. l ++ es) (sym one)
+
+drop-append-rest : (p es : List Entry) → drop (length (p ++ es) - length es) (p ++ es) ≡ es
+drop-append-rest p es = grind (arith, common_steps)
+
+pub drop-brought_before : (es : List Entry) (xs : List Item) → drop (length (brought_before es xs) - length es) (brought_before es xs) ≡ es
+drop-brought_before es xs = rw (brought_before-append es xs) (drop-append-rest (brought_before [] xs) es)
+
+module _ {Y S : Type 0} where
+  -- the meaning at a name, where the map changed at one
+  changed : (x : Stored) (q : List ℕ) (old new : HashMap (String Y) Meanings S) (next : Meanings) → get_by_text new q ≡ cond (bytes_eq (string_bytes x.name) q) (Some next) (get_by_text old q) → (t : Table) → meaning_at t (get_by_text new q) ≡ cond (bytes_eq (string_bytes x.name) q) (meaning_in t next) (meaning_at t (get_by_text old q))
+  changed x q old new next e t = rw e (at (bytes_eq (string_bytes x.name) q)) where
+    at : (b : Bool) → meaning_at t (cond b (Some next) (get_by_text old q)) ≡ cond b (meaning_in t next) (meaning_at t (get_by_text old q))
+    at true = refl
+    at false = refl
+
+  -- a further entry
+  pub kept_push : (xs : List Stored) (x : Stored) (old new : HashMap (String Y) Meanings S) (known next : Meanings)
+      → IsKept xs old
+      → ((t : Table) → meaning_in t known ≡ meaning t (string_bytes x.name) (latest_first xs))
+      → ((t : Table) → meaning_in t next ≡ cond (same_table t x.table) (with_meaning (entry_of x) x.before) (meaning_in t known))
+      → x.before ≡ meaning_in x.table known
+      → ((q : List ℕ) → get_by_text new q ≡ cond (bytes_eq (string_bytes x.name) q) (Some next) (get_by_text old q))
+      → IsKept (xs ++ x ∷ []) new
+  kept_push xs x old new known next kept is_known is_next is_before updates = record {
+    meanings = λ t q. changed x q old new next (updates q) t ∙ step t q (bytes_eq (string_bytes x.name) q) (same_table t x.table) refl refl ∙ ap (meaning t q) (sym (entries_before-snoc [] xs x));
+    before = keep_before-snoc [] xs x kept.before (is_before ∙ is_known x.table);
+  } where
+    step : (t : Table) (q : List ℕ) (b s : Bool) → bytes_eq (string_bytes x.name) q ≡ b → same_table t x.table ≡ s
+        → cond b (meaning_in t next) (meaning_at t (get_by_text old q)) ≡ cond (s && b) (with_meaning (entry_of x) (meaning t q (latest_first xs))) (meaning t q (latest_first xs))
+    step t q true true hb hs =
+        let same_name : string_bytes x.name ≡ q = bytes_eq_is _ _ hb in
+        let same : t ≡ x.table = same_table_is _ _ hs in
+        is_next t ∙ ap (λ (s : Bool). cond s (with_meaning (entry_of x) x.before) (meaning_in t known)) hs
+        ∙ ap (with_meaning (entry_of x)) (is_before ∙ is_known x.table ∙ ap (λ (u : Table). meaning u (string_bytes x.name) (latest_first xs)) (sym same) ∙ ap (λ (n : List ℕ). meaning t n (latest_first xs)) same_name)
+    step t q true false hb hs =
+        let same_name : string_bytes x.name ≡ q = bytes_eq_is _ _ hb in
+        is_next t ∙ ap (λ (s : Bool). cond s (with_meaning (entry_of x) x.before) (meaning_in t known)) hs ∙ is_known t ∙ ap (λ (n : List ℕ). meaning t n (latest_first xs)) same_name
+    step t q false true hb hs = kept.meanings t q
+    step t q false false hb hs = kept.meanings t q
+
+  -- the last entry goes
+  pub kept_pop : (xs : List Stored) (x : Stored) (old new : HashMap (String Y) Meanings S) (known next : Meanings)
+      → IsKept (xs ++ x ∷ []) old
+      → get_by_text old (string_bytes x.name) ≡ Some known
+      → ((t : Table) → meaning_in t next ≡ cond (same_table t x.table) x.before (meaning_in t known))
+      → ((q : List ℕ) → get_by_text new q ≡ cond (bytes_eq (string_bytes x.name) q) (Some next) (get_by_text old q))
+      → IsKept xs new
+  kept_pop xs x old new known next kept is_known is_next updates = record {
+    meanings = λ t q. changed x q old new next (updates q) t ∙ step t q (bytes_eq (string_bytes x.name) q) (same_table t x.table) refl refl;
+    before = keep_before-front [] xs x kept.before;
+  } where
+    old_at : (t : Table) (q : List ℕ) → meaning_at t (get_by_text old q) ≡ meaning t q (entry_of x ∷ latest_first xs)
+    old_at t q = kept.meanings t q ∙ ap (meaning t q) (entries_before-snoc [] xs x)
+
+    step : (t : Table) (q : List ℕ) (b s : Bool) → bytes_eq (string_bytes x.name) q ≡ b → same_table t x.table ≡ s
+        → cond b (meaning_in t next) (meaning_at t (get_by_text old q)) ≡ meaning t q (latest_first xs)
+    step t q true true hb hs =
+        let same_name : string_bytes x.name ≡ q = bytes_eq_is _ _ hb in
+        let same : t ≡ x.table = same_table_is _ _ hs in
+        is_next t ∙ ap (λ (s : Bool). cond s x.before (meaning_in t known)) hs
+        ∙ keep_before-last [] xs x kept.before ∙ ap (λ (u : Table). meaning u (string_bytes x.name) (latest_first xs)) (sym same) ∙ ap (λ (n : List ℕ). meaning t n (latest_first xs)) same_name
+    step t q true false hb hs =
+        let same_name : string_bytes x.name ≡ q = bytes_eq_is _ _ hb in
+        is_next t ∙ ap (λ (s : Bool). cond s x.before (meaning_in t known)) hs
+        ∙ sym (ap (meaning_at t) is_known) ∙ old_at t (string_bytes x.name)
+        ∙ ap (λ (s : Bool). cond (s && bytes_eq (string_bytes x.name) (string_bytes x.name)) (with_meaning (entry_of x) (meaning t (string_bytes x.name) (latest_first xs))) (meaning t (string_bytes x.name) (latest_first xs))) hs
+        ∙ ap (λ (n : List ℕ). meaning t n (latest_first xs)) same_name
+    step t q false true hb hs = old_at t q ∙ ap (λ (s : Bool). cond (s && bytes_eq (string_bytes x.name) q) (with_meaning (entry_of x) (meaning t q (latest_first xs))) (meaning t q (latest_first xs))) hs
+        ∙ ap (λ (b : Bool). cond b (with_meaning (entry_of x) (meaning t q (latest_first xs))) (meaning t q (latest_first xs))) hb
+    step t q false false hb hs = old_at t q ∙ ap (λ (s : Bool). cond (s && bytes_eq (string_bytes x.name) q) (with_meaning (entry_of x) (meaning t q (latest_first xs))) (meaning t q (latest_first xs))) hs
+
+  -- the name of an entry has a meaning
+  pub kept_present : (xs : List Stored) (x : Stored) (old : HashMap (String Y) Meanings S) → IsKept (xs ++ x ∷ []) old → get_by_text old (string_bytes x.name) ≡ None → ⊥
+  kept_present xs x old kept absent =
+      let names = string_bytes x.name in
+      let named : is_named x.table (string_bytes x.name) (entry_of x) ≡ true = ap (λ (s : Bool). s && bytes_eq (string_bytes x.name) (string_bytes x.name)) (same_table_refl x.table) ∙ bytes_eq_refl (string_bytes x.name) in
+      let there : meaning_at x.table (get_by_text old (string_bytes x.name)) ≡ meaning x.table (string_bytes x.name) (entry_of x ∷ latest_first xs) = kept.meanings x.table (string_bytes x.name) ∙ ap (meaning x.table (string_bytes x.name)) (entries_before-snoc [] xs x) in
+      let some : meaning x.table (string_bytes x.name) (entry_of x ∷ latest_first xs) ≡ with_meaning (entry_of x) (meaning x.table (string_bytes x.name) (latest_first xs)) = ap (λ (b : Bool). cond b (with_meaning (entry_of x) (meaning x.table (string_bytes x.name) (latest_first xs))) (meaning x.table (string_bytes x.name) (latest_first xs))) named in
+      let none : meaning_at x.table (get_by_text old (string_bytes x.name)) ≡ None = ap (meaning_at x.table) absent in
+      cc

@@ -1,0 +1,67 @@
+-- How a scope keeps its entries: in the order in which they came, and by name in a map.
+use Rattle.std.specs.Prelude.{◌≡◌, ℕ, Bool, false, cond, ◌||◌, List, [], ◌∷◌, Option, Some, None, String, string_bytes}
+use Rattle.std.specs.HashMap.{HashMap, get_by_text}
+use Rattle.names_space.specs.declared.Table.{Table}
+use Rattle.names_space.specs.declared.Table.TheVariants.{Types, Symbols, Propositions, Scopes}
+use Rattle.names_space.specs.declared.entries.Meaning.{Meaning}
+use Rattle.names_space.specs.declared.entries.Meanings.{Meanings}
+use Rattle.names_space.specs.declared.entries.Stored.{Stored}
+use Rattle.names_space.specs.declared.entries.Item.{Item}
+use Rattle.names_space.specs.Names.{Entry, is_named}
+
+abbrev pub entry_of : Stored → Entry
+entry_of x = record { table = x.table; name = string_bytes x.name; thing = x.thing; declared = x.declared }
+
+-- before these
+abbrev pub entries_before : List Entry → List Stored → List Entry
+entries_before es [] = es
+entries_before es (x ∷ xs) = entries_before (entry_of x ∷ es) xs
+
+-- the entries that came in this order, latest first
+abbrev pub latest_first : List Stored → List Entry
+latest_first xs = entries_before [] xs
+
+-- an entry that is brought in
+abbrev pub brought : Item → Entry
+brought x = record { table = x.table; name = string_bytes x.name; thing = x.thing; declared = false }
+
+-- the entries that come in this order, before these
+abbrev pub brought_before : List Entry → List Item → List Entry
+brought_before es [] = es
+brought_before es (x ∷ xs) = brought_before (brought x ∷ es) xs
+
+abbrev pub was_declared : Option Meaning → Bool
+was_declared None = false
+was_declared (Some m) = m.declared
+
+abbrev pub thing_of : Option Meaning → Option ℕ
+thing_of None = None
+thing_of (Some m) = Some m.thing
+
+abbrev pub with_meaning : Entry → Option Meaning → Option Meaning
+with_meaning e m = Some (record { thing = e.thing; declared = e.declared || was_declared m })
+
+-- the latest thing of a name in a table, and whether the name was declared
+abbrev pub meaning : Table → List ℕ → List Entry → Option Meaning
+meaning table name [] = None
+meaning table name (e ∷ es) = cond (is_named table name e) (with_meaning e (meaning table name es)) (meaning table name es)
+
+abbrev pub meaning_in : Table → Meanings → Option Meaning
+meaning_in Types m = m.types
+meaning_in Symbols m = m.symbols
+meaning_in Propositions m = m.propositions
+meaning_in Scopes m = m.scopes
+
+abbrev pub meaning_at : Table → Option Meanings → Option Meaning
+meaning_at table None = None
+meaning_at table (Some m) = meaning_in table m
+
+-- each entry keeps what its name meant before it
+abbrev pub KeepBefore : List Entry → List Stored → Type 0
+KeepBefore es [] = Unit {0}
+KeepBefore es (x ∷ xs) = (x.before ≡ meaning x.table (string_bytes x.name) es) × KeepBefore (entry_of x ∷ es) xs
+
+-- the map has what each name means
+pub record IsKept {Y S : Type 0} (xs : List Stored) (m : HashMap (String Y) Meanings S) : Type 0 where
+  pub meanings : (table : Table) (name : List ℕ) → meaning_at table (get_by_text m name) ≡ meaning table name (latest_first xs)
+  pub before : KeepBefore [] xs

@@ -1,0 +1,109 @@
+-- What a name means: scopes, each a list of entries, and the search for a name with its qualifiers.
+-- The rules of names of the Why3 language reference, as this project reads them.
+use Rattle.std.specs.Prelude.{ℕ, Bool, true, false, cond, ◌&&◌, ◌||◌, List, [], ◌∷◌, ◌++◌, length, get_or, map, set, Option, Some, None}
+use Rattle.std.specs.Str.{bytes_eq}
+use Rattle.names_space.specs.declared.Table.{Table}
+use Rattle.names_space.specs.declared.Table.TheVariants.{Types, Symbols, Propositions, Scopes}
+
+-- a name in a table: the thing that it stands for, and whether the scope declared it or has it by an import. What a name of
+-- the table of scopes stands for is a scope's number
+pub record Entry : Type 0 where
+  pub table : Table
+  pub name : List ℕ
+  pub thing : ℕ
+  pub declared : Bool
+
+-- the entries of every scope by its number, latest first, and the numbers of the open scopes, innermost first
+pub record Names : Type 0 where
+  pub entries : List (List Entry)
+  pub nested : List ℕ
+
+abbrev pub same_table : Table → Table → Bool
+same_table Types Types = true
+same_table Symbols Symbols = true
+same_table Propositions Propositions = true
+same_table Scopes Scopes = true
+same_table _ _ = false
+
+-- whether an entry has this name in this table
+abbrev pub is_named : Table → List ℕ → Entry → Bool
+is_named table name e = same_table table e.table && bytes_eq e.name name
+
+-- what the latest entry with this name in this table stands for
+abbrev pub latest : Table → List ℕ → List Entry → Option ℕ
+latest table name [] = None
+latest table name (e ∷ es) = cond (is_named table name e) (Some e.thing) (latest table name es)
+
+-- whether the name was declared in this table
+abbrev pub is_declared : Table → List ℕ → List Entry → Bool
+is_declared table name [] = false
+is_declared table name (e ∷ es) = (is_named table name e && e.declared) || is_declared table name es
+
+-- the entries of the scope with this number
+abbrev pub entries_of : Names → ℕ → List Entry
+entries_of s number = get_or s.entries number []
+
+abbrev pub or_else : Option ℕ → Option ℕ → Option ℕ
+or_else None more = more
+or_else (Some thing) more = Some thing
+
+-- what a name without qualifiers stands for: the first of these scopes that has it decides
+abbrev pub first_found : Table → List ℕ → List (List Entry) → List ℕ → Option ℕ
+first_found table name entries [] = None
+first_found table name entries (number ∷ numbers) = or_else (latest table name (get_or entries number [])) (first_found table name entries numbers)
+
+-- a qualifier is looked for in the table of scopes
+abbrev pub table_before : Table → List (List ℕ) → Table
+table_before table [] = table
+table_before table (name ∷ names) = Scopes
+
+-- the search goes on in the found scope's own entries
+abbrev pub find_within : List (List Entry) → Table → Option ℕ → List (List ℕ) → Option ℕ
+find_within entries table found [] = found
+find_within entries table None (name ∷ names) = None
+find_within entries table (Some number) (name ∷ names) = find_within entries table (latest (table_before table names) name (get_or entries number [])) names
+
+-- what a name stands for, its qualifiers before it
+abbrev pub find : Names → Table → List (List ℕ) → Option ℕ
+find s table [] = None
+find s table (name ∷ names) = find_within s.entries table (first_found (table_before table names) name s.entries s.nested) names
+
+abbrev pub first_or_zero : List ℕ → ℕ
+first_or_zero [] = 0
+first_or_zero (number ∷ numbers) = number
+
+abbrev pub rest_of : List ℕ → List ℕ
+rest_of [] = []
+rest_of (number ∷ numbers) = numbers
+
+abbrev pub innermost : Names → ℕ
+innermost s = first_or_zero s.nested
+
+-- one open scope, without entries
+abbrev pub start : Names
+start = record { entries = [] ∷ []; nested = 0 ∷ [] }
+
+-- further entries of the innermost scope
+abbrev pub with_entries : List Entry → Names → Names
+with_entries es s = record { entries = set s.entries (innermost s) (es ++ entries_of s (innermost s)); nested = s.nested }
+
+-- a further entry of the innermost scope
+abbrev pub with_entry : Table → List ℕ → ℕ → Bool → Names → Names
+with_entry table name thing declared s = record { entries = set s.entries (innermost s) (record { table = table; name = name; thing = thing; declared = declared } ∷ entries_of s (innermost s)); nested = s.nested }
+
+-- a new scope, whose name the innermost one gets, is the innermost one
+abbrev pub with_scope : List ℕ → Bool → Names → Names
+with_scope name declared s =
+    let named = with_entry Scopes name (length s.entries) declared s
+    in record { entries = named.entries ++ [] ∷ []; nested = length s.entries ∷ s.nested }
+
+-- the innermost scope is left
+abbrev pub closed : Names → Names
+closed s = record { entries = s.entries; nested = rest_of s.nested }
+
+abbrev pub imported : Entry → Entry
+imported e = record { table = e.table; name = e.name; thing = e.thing; declared = false }
+
+-- the names of the scope with this number are brought into the innermost one
+abbrev pub with_import : ℕ → Names → Names
+with_import number s = with_entries (map imported (entries_of s number)) s

@@ -1,0 +1,58 @@
+//! What a name means at a place: scopes inside one another, each with four tables of names.
+//! It stands under the elaboration of declarations and of theories.
+#![tactic(auto)]
+
+ghost use Rattle.std.specs.Prelude.{◌≡◌};
+
+use std::alloc::{AllocError, AllocFailed};
+
+mod entries;
+mod nested;
+
+pub use nested::Scope;
+
+#[cfg(test)]
+mod tests;
+
+/// The tables of a scope: type symbols; functions, predicates, constants and constructors; axioms, lemmas, goals and
+/// clauses; scopes.
+#[derive(Clone, Copy, Debug, PartialEq, Eq)]
+pub enum Table {
+    Types,
+    Symbols,
+    Propositions,
+    Scopes,
+}
+
+/// Why a name isn't entered or brought in.
+#[derive(Clone, Copy, Debug, PartialEq, Eq)]
+pub enum NameFault {
+    /// Memory is wanting.
+    Memory,
+    /// The innermost scope declared the name in this table before.
+    Duplicate,
+    /// Nothing has this name.
+    Unknown,
+}
+
+impl From<AllocError> for NameFault {
+    ghost use Rattle.std.specs.Prelude.{◌≡◌};
+    ghost use Rattle.names_space.specs.declared.NameFault.TheVariants.{Memory as NoMemory};
+
+    ghost from_gives = { λ _ e. e ≡ NoMemory };
+
+    fn from(_: AllocError) -> Self {
+        NameFault::Memory
+    }
+}
+
+impl<T: Drop> From<AllocFailed<T>> for NameFault {
+    ghost use Rattle.std.specs.Prelude.{◌≡◌};
+    ghost use Rattle.names_space.specs.declared.NameFault.TheVariants.{Memory as NoMemory};
+
+    ghost from_gives = { λ _ e. e ≡ NoMemory };
+
+    fn from(_: AllocFailed<T>) -> Self {
+        NameFault::Memory
+    }
+}
