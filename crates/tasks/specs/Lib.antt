@@ -5,3 +5,4 @@ pub mod Meaning
 pub mod Copying
 pub mod Types
 pub mod Binders
+pub mod Codes

@@ -9,8 +9,9 @@ use Rattle.tasks.specs.declared.signature.SymbolInfo.{SymbolInfo}
 use Rattle.tasks.specs.declared.declaration.Body.{Body}
 use Rattle.tasks.specs.declared.declaration.Body.TheVariants.{Symbol, Prop}
 use Rattle.tasks.specs.declared.declaration.Decl.{Decl}
+use Rattle.tasks.specs.declared.proposition.Proposition.{Proposition as StoredProposition}
 use Rattle.tasks.specs.declared.task.Task.{Task}
-use Rattle.tasks.specs.Task.{SymbolTree, BodyTree, Makes, Says, DeclarationTree, TaskTree}
+use Rattle.tasks.specs.Task.{SymbolTree, BodyTree, Makes, Says, DeclarationTree, Proposition, TaskTree}
 
 abbrev pub trees_at : List Tree → List TermId → List Tree
 trees_at s ids = map (tree_at s) ids
@@ -38,6 +39,9 @@ declarations_at s ds = map (declaration_at s) ds
 
 abbrev pub task_at : List Tree → Task → TaskTree
 task_at s t = record { symbols = symbols_at s t.sig.value.symbols; rigid = t.rigid; decls = declarations_at s t.decls; params = trees_at s t.params; locals = trees_at s t.locals; goal = tree_at s t.goal }
+
+abbrev pub proposition_at : List Tree → StoredProposition → Proposition
+proposition_at s p = record { vars = p.vars; formula = tree_at s p.formula }
 
 abbrev pub tasks_at : List Tree → List Task → List TaskTree
 tasks_at s ts = map (task_at s) ts

@@ -5,12 +5,16 @@
 mod binders;
 mod copying;
 mod declaration;
+mod fitting;
+mod proposition;
 mod signature;
 mod task;
 mod types;
 mod typing;
 
 pub use declaration::{Body, Decl};
+pub use fitting::fits;
+pub use proposition::{Proposition, nth_proposition};
 pub use signature::{Signature, SymbolInfo, SymbolKind};
 pub use task::{Task, nodes};
 pub use types::{Types, is_instance, sort_of};

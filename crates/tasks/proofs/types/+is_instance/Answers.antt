@@ -1,6 +1,6 @@
 use Rattle.std.proofs.Common.{◌≡◌, true, false, sym, ap, ◌∙◌}
 use Rattle.trees.specs.declared.Parts.TheVariants.{Two}
-use Rattle.trees.specs.Node.{tree_at, parts_of, head_of_node, assemble}
+use Rattle.trees.specs.Node.{parts_of, head_of_node, assemble}
 use Rattle.tasks.specs.Types.{types_at}
 use Rattle.tasks.proofs.Instances.{inst_past, two_instance}
 use Rattle.tasks.proofs.types.+is_instance.Goals as goal

@@ -1,0 +1,4 @@
+pub mod Kept
+pub mod Typed
+pub mod Rules
+pub mod Lifted

@@ -1,0 +1,37 @@
+use Rattle.std.proofs.Common.{◌≡◌, ◌∙◌, ap, subst, ◌++◌, ◌∷◌, [], List}
+use Rattle.std.proofs.lemmas.Result.{IfOk-weaker}
+use Rattle.trees.specs.declared.TermId.{TermId}
+use Rattle.trees.specs.Tree.{Tree}
+use Rattle.trees.specs.Node.{tree_at}
+use Rattle.tasks.proofs.Growth.{trees_later}
+use Rattle.evidence.specs.Drafts.{Refutes}
+use Rattle.evidence.specs.Laws.{Extends_trans}
+use Rattle.evidence.proofs.Lifted.{negation_of, fact_kept, fact_cut}
+use Rattle.evidence.proofs.lift.lift_fact.Goals as goal
+
+pub keep-requires-clause-right : goal.keep-requires-clause-right
+keep-requires-clause-right c =
+    let d = c.args.draft.now in
+    let n = c.only_formula-negation.result in
+    let ids = c.args.sequent.now in
+    let w : c.deref.result.now ≡ ids ++ n ∷ [] = c.deref.ensures.value ∙ c.in_ok-push.ensures.items ∙ ap (λ (z : List TermId). z ++ n ∷ []) c.in_ok-wide.ensures.items in
+    fact_kept d ids c.deref.result.now n c.args.lemma w c.requires.formulas c.only_formula-negation.ensures.formula c.only_formula-negation.ensures.tree c.requires.cut.proved.within
+
+pub cut-requires-clause-right : goal.cut-requires-clause-right
+cut-requires-clause-right c =
+    let d = c.args.draft.now in
+    let n = c.only_formula-negation.result in
+    let ids = c.args.sequent.now in
+    let w : c.deref.result.now ≡ ids ++ n ∷ [] = c.deref.ensures.value ∙ c.in_ok-push.ensures.items ∙ ap (λ (z : List TermId). z ++ n ∷ []) c.in_ok-wide.ensures.items in
+    let g = negation_of d c.args.lemma (tree_at d.trees n) c.requires.cut.fact c.only_formula-negation.ensures.tree c.requires.cut.proved in
+    fact_cut d c.keep.new.self ids c.deref.result.now n c.negated-fact.result c.requires.cut.fact c.args.with_fact c.in_ok-without.without c.in_ok-without.ensures.grows w
+    c.requires.held c.negated-fact.ensures.held c.requires.formulas c.only_formula-negation.ensures.formula c.negated-fact.ensures.tree g c.requires.cut.taken c.in_ok-without.ensures.refutes
+
+pub returns-clause-refutes : goal.returns-clause-refutes
+returns-clause-refutes c =
+    let d = c.args.draft.now in
+    let e = trees_later d.trees c.keep.new.self.trees c.in_ok-without.ensures.grows.trees c.args.sequent.now c.requires.held in
+    IfOk-weaker c.cut.result _ _ (λ k r. subst (λ (q : List Tree). Refutes c.cut.new.self k q) e r) c.cut.ensures.refutes
+
+pub returns-clause-grows : goal.returns-clause-grows
+returns-clause-grows c = Extends_trans _ _ _ c.in_ok-without.ensures.grows c.cut.ensures.grows

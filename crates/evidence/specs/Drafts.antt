@@ -1,0 +1,39 @@
+-- What a draft is, in trees, and how drafts grow.
+use Rattle.std.specs.Prelude.{◌≡◌, ℕ, ◌<◌, List, [], ◌∷◌, ◌++◌, length, refl}
+use Rattle.std.specs.Coded.{Coded, code_by, coded×}
+use Rattle.trees.specs.Tree.{Tree}
+use Rattle.trees.specs.Node.{Grows}
+use Rattle.trees.specs.Coding.{trees_code}
+use Rattle.tasks.specs.Task.{TaskTree}
+use Rattle.kernel.specs.Trees.{StepTree, RCut, RKeep}
+use Rattle.kernel.specs.Rows.{step_or}
+use Rattle.kernel.specs.Codes.{steps_code}
+use Rattle.tasks.specs.Codes.{task_code}
+
+-- the trees of the store, the task and the steps
+pub record DraftTree : Type 0 where
+  pub trees : List Tree
+  pub task : TaskTree
+  pub steps : List StepTree
+
+abbrev pub draft_code : Coded DraftTree
+draft_code = code_by (List Tree × (TaskTree × List StepTree)) (coded× trees_code (coded× task_code steps_code))
+    (λ d. (d.trees, (d.task, d.steps))) (λ p. record { trees = p.0; task = p.1.0; steps = p.1.1 }) (λ _. refl)
+
+-- all that was there stays, under the same numbers
+pub record Extends (old new : DraftTree) : Type 0 where
+  pub trees : Grows old.trees new.trees
+  pub task : new.task ≡ old.task
+  pub more : List StepTree
+  pub steps : new.steps ≡ old.steps ++ more
+
+-- the draft has a step with this number and sequent
+pub record Refutes (d : DraftTree) (k : ℕ) (sequent : List Tree) : Type 0 where
+  pub within : k < length d.steps
+  pub is : (step_or d.steps k).sequent ≡ sequent
+
+abbrev pub cut_step : List Tree → Tree → ℕ → ℕ → StepTree
+cut_step s a first second = record { sequent = s; rule = RCut a; premises = first ∷ second ∷ [] }
+
+abbrev pub keep_step : List Tree → List ℕ → ℕ → StepTree
+keep_step s places k = record { sequent = s; rule = RKeep places; premises = k ∷ [] }

@@ -1,0 +1,10 @@
+//! Evidence: drafts of derivations, transformations with the laws by which refutations of what they make are brought back,
+//! and a whole stage brought back. It stands on the kernel; each transformation stands on it.
+#![tactic(auto)]
+
+mod draft;
+mod lift;
+mod stage;
+
+pub use draft::Draft;
+pub use stage::{StageFault, Transform};

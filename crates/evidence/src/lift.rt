@@ -1,0 +1,217 @@
+// A stage brought back: from derivations of the tasks that a task became, a derivation of the task.
+ghost use Rattle.std.specs.Prelude.{◌≡◌, ◌<◌, [], ◌∷◌, length, map, get_or, All, IfOk};
+ghost use Rattle.trees.specs.Node.{tree_at, Holds};
+ghost use Rattle.tasks.specs.Task.{neg, start};
+ghost use Rattle.tasks.specs.Valid.{IsGroundFormula};
+ghost use Rattle.tasks.specs.Meaning.{trees_at, task_at, tasks_at, TasksHeld};
+ghost use Rattle.kernel.specs.Rows.{IsRight, AreRight, Closes, step_or};
+ghost use Rattle.kernel.specs.Meaning.{step_at, steps_at, StepHeld, StepsHeld};
+ghost use Rattle.evidence.specs.Drafts.{Extends, Refutes};
+ghost use Rattle.evidence.specs.Stages.{IsNegation, HasFormulas, IsOwn, InStage, StandFor, HasSequents, IsCutBy, parts_at, PartsHeld, PartsClose};
+
+use crate::{Draft, Transform};
+use kernel::{Rule, Step};
+use outside::Seq;
+use std::alloc::{AllocError, Global};
+use tasks::Task;
+use term_store::Grow;
+use trees::{Node, TermId};
+
+// A copy of a rule.
+fn copy_of(rule: &Rule) -> Result<Rule, AllocError>
+    ensures { IfOk result (λ r. r ≡ rule.now) }
+{
+    Ok(match rule {
+        Rule::Clash(i, j) => Rule::Clash(*i, *j),
+        Rule::NotNot(i) => Rule::NotNot(*i),
+        Rule::And(i) => Rule::And(*i),
+        Rule::NotAnd(i) => Rule::NotAnd(*i),
+        Rule::Imp(i) => Rule::Imp(*i),
+        Rule::NotImp(i) => Rule::NotImp(*i),
+        Rule::Cut(a) => Rule::Cut(*a),
+        Rule::Keep(places) => Rule::Keep(places.clone()?),
+        Rule::Fact(k, types) => Rule::Fact(*k, types.clone()?),
+    })
+}
+
+// The numbers of premises in a draft.
+fn renumbered(
+    alloc: Global,
+    numbers: &[usize],
+    premises: &[usize],
+) -> Result<Seq<usize>, AllocError>
+    requires { All (λ k. k < length numbers.now) premises.now }
+    ensures { IfOk result (λ ps. ps ≡ map (λ k. get_or numbers.now k 0) premises.now) }
+{
+    let mut made = Vec::with_capacity(alloc, premises.len())?;
+    for k in premises {
+        made.push(numbers[*k])?;
+    }
+    Ok(Seq::from_vec(made))
+}
+
+// A step that cites no fact, as it is but for the numbers of its premises.
+fn lift_other(step: &Step, premises: Seq<usize>, draft: &mut Draft) -> Result<usize, AllocError>
+    requires held { StepHeld draft.old.trees step.now }
+    requires right { IsRight draft.old.task draft.old.steps (record (step_at draft.old.trees step.now) { premises = premises }) }
+    ensures refutes { IfOk result (λ k. Refutes draft.new k (trees_at draft.old.trees step.now.sequent)) }
+    ensures grows { Extends draft.old draft.new }
+{
+    let sequent = step.sequent.clone()?;
+    let rule = copy_of(&step.rule)?;
+    draft.push(Step {
+        sequent,
+        rule,
+        premises,
+    })
+}
+
+// A step that cites a fact: a cut on the fact, whose second premise keeps its negation alone.
+fn lift_fact(
+    sequent: &[TermId],
+    with_fact: usize,
+    lemma: usize,
+    draft: &mut Draft,
+) -> Result<usize, AllocError>
+    requires held { All (Holds draft.old.trees) sequent.now }
+    requires formulas { All (IsGroundFormula draft.old.task) (trees_at draft.old.trees sequent.now) }
+    requires cut { IsCutBy draft.old (trees_at draft.old.trees sequent.now) with_fact lemma }
+    ensures refutes { IfOk result (λ k. Refutes draft.new k (trees_at draft.old.trees sequent.now)) }
+    ensures grows { Extends draft.old draft.new }
+{
+    let negation = only_formula(draft, lemma);
+    let fact = negated(draft, negation);
+    let mut wide = Vec::from_slice(draft.allocator(), sequent)?;
+    wide.push(negation)?;
+    let without = draft.keep(&wide, &[sequent.len()], lemma)?;
+    draft.cut(sequent, fact, with_fact, without)
+}
+
+// The formula of a step that has one.
+fn only_formula(draft: &Draft, number: usize) -> TermId
+    requires within { number < length draft.now.steps }
+    requires one { length (step_or draft.now.steps number).sequent ≡ 1 }
+    ensures held { Holds draft.now.trees result }
+    ensures tree { (step_or draft.now.steps number).sequent ≡ tree_at draft.now.trees result ∷ [] }
+    ensures formula { IsGroundFormula draft.now.task (tree_at draft.now.trees result) }
+{
+    draft.steps()[number].sequent.as_slice()[0]
+}
+
+// What a negation negates.
+fn negated(draft: &Draft, id: TermId) -> TermId
+    requires held { Holds draft.now.trees id }
+    requires negation { IsNegation (tree_at draft.now.trees id) }
+    ensures held { Holds draft.now.trees result }
+    ensures tree { tree_at draft.now.trees id ≡ neg (tree_at draft.now.trees result) }
+{
+    match draft.store().node(id) {
+        Node::Not(a) => a,
+        _ => unreachable!(),
+    }
+}
+
+// A step of a task, in a draft of the task that it was made from.
+fn lift_step<T: Transform>(
+    stage: &T,
+    from: &Task,
+    to: &Task,
+    before: &[Step],
+    numbers: &[usize],
+    step: &Step,
+    draft: &mut Draft,
+) -> Result<usize, AllocError>
+    requires stage { InStage (T.becomes stage.now) draft.old from.now to.now }
+    requires lifts { T.lifts stage.now draft.old.task }
+    requires held { StepHeld draft.old.trees step.now }
+    requires formulas { HasFormulas (task_at draft.old.trees to.now) (steps_at draft.old.trees before.now) }
+    requires right { IsRight (task_at draft.old.trees to.now) (steps_at draft.old.trees before.now) (step_at draft.old.trees step.now) }
+    requires numbers { StandFor draft.old numbers.now (steps_at draft.old.trees before.now) }
+    ensures refutes { IfOk result (λ k. Refutes draft.new k (trees_at draft.old.trees step.now.sequent)) }
+    ensures grows { Extends draft.old draft.new }
+{
+    let premises = renumbered(draft.allocator(), numbers, step.premises.as_slice())?;
+    match &step.rule {
+        Rule::Fact(k, types) => {
+            let lemma = stage.fact(from, to, *k, types.as_slice(), draft)?;
+            lift_fact(
+                step.sequent.as_slice(),
+                premises.as_slice()[0],
+                lemma,
+                draft,
+            )
+        }
+        _ => lift_other(step, premises, draft),
+    }
+}
+
+// The steps of a task, in a draft of the task that it was made from.
+fn lift_part<T: Transform>(
+    stage: &T,
+    from: &Task,
+    to: &Task,
+    part: &[Step],
+    draft: &mut Draft,
+) -> Result<Vec<usize>, AllocError>
+    requires stage { InStage (T.becomes stage.now) draft.old from.now to.now }
+    requires lifts { T.lifts stage.now draft.old.task }
+    requires held { StepsHeld draft.old.trees part.now }
+    requires right { AreRight (task_at draft.old.trees to.now) (steps_at draft.old.trees part.now) }
+    ensures numbers { IfOk result (λ v. StandFor draft.new v.items (steps_at draft.old.trees part.now)) }
+    ensures grows { Extends draft.old draft.new }
+{
+    let mut numbers: Vec<usize> = Vec::new(draft.allocator());
+    for j in 0..part.len() {
+        let number = lift_step(stage, from, to, &part[..j], &numbers, &part[j], draft)?;
+        numbers.push(number)?;
+    }
+    Ok(numbers)
+}
+
+// The steps of a task, of which the last one has its start.
+fn lift_end<T: Transform>(
+    stage: &T,
+    from: &Task,
+    to: &Task,
+    part: &[Step],
+    draft: &mut Draft,
+) -> Result<usize, AllocError>
+    requires stage { InStage (T.becomes stage.now) draft.old from.now to.now }
+    requires lifts { T.lifts stage.now draft.old.task }
+    requires held { StepsHeld draft.old.trees part.now }
+    requires closes { Closes (task_at draft.old.trees to.now) (steps_at draft.old.trees part.now) }
+    ensures refutes { IfOk result (λ k. Refutes draft.new k (start (task_at draft.old.trees to.now))) }
+    ensures sequents { IfOk result (λ _. HasSequents draft.new (steps_at draft.old.trees part.now)) }
+    ensures grows { Extends draft.old draft.new }
+{
+    let numbers = lift_part(stage, from, to, part, draft)?;
+    Ok(numbers[part.len() - 1])
+}
+
+/// From steps that derive each of the tasks that the draft's task becomes, a step whose sequent is the start of the
+/// draft's task. The draft then has, for each of those steps, a step with its sequent. After a refusal the draft has
+/// further right steps.
+pub fn lift_stage<T: Transform>(
+    stage: &T,
+    from: &Task,
+    to: &Vec<Task>,
+    parts: &[Seq<Step>],
+    draft: &mut Draft,
+) -> Result<usize, AllocError>
+    requires own { IsOwn draft.old from.now }
+    requires lifts { T.lifts stage.now draft.old.task }
+    requires to_held { TasksHeld draft.old.trees to.now.items }
+    requires becomes { T.becomes stage.now draft.old.task (tasks_at draft.old.trees to.now.items) }
+    requires parts_held { PartsHeld draft.old.trees parts.now }
+    requires close { PartsClose (tasks_at draft.old.trees to.now.items) (parts_at draft.old.trees parts.now) }
+    ensures refutes { IfOk result (λ k. Refutes draft.new k (start draft.old.task)) }
+    ensures sequents { IfOk result (λ _. All (HasSequents draft.new) (parts_at draft.old.trees parts.now)) }
+    ensures grows { Extends draft.old draft.new }
+{
+    let mut ends: Vec<usize> = Vec::new(draft.allocator());
+    for i in 0..to.len() {
+        let end = lift_end(stage, from, &to[i], parts[i].as_slice(), draft)?;
+        ends.push(end)?;
+    }
+    stage.glue(from, to, &ends, draft)
+}
