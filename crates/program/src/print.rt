@@ -18,7 +18,7 @@ use problems::plain_names;
 use std::alloc::{AllocError, Global};
 use tasks::Task;
 use term_store::Store;
-use tr_split::Split;
+use tr_split::split_goal;
 
 // Appends the text of a problem.
 fn push_problem(
@@ -59,7 +59,7 @@ fn print_task(alloc: Global, store: &mut Store, task: &Task) -> Result<Vec<u8>, 
     requires valid { IsValid (task_at store.old task.now) }
     ensures { IfOk result (λ v. v.items ≡ printed (task_at store.old task.now)) }
 {
-    let tasks = Split.apply(alloc, store, task)?;
+    let tasks = split_goal(alloc, store, task)?;
     problem_texts(alloc, store, &tasks)
 }
 

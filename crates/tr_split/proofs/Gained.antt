@@ -1,5 +1,5 @@
 -- How lists of formulas that gain others compose.
-use Rattle.std.proofs.Common.{◌≡◌, ℕ, ◌<◌, ◌≤◌, ◌+◌, List, [], ◌∷◌, ◌++◌, length, map, take, get_or, All, refl, sym, ap, subst, ◌∙◌, append_assoc, arith}
+use Rattle.std.proofs.Common.{◌≡◌, ℕ, ◌<◌, ◌≤◌, ◌+◌, List, [], ◌∷◌, ◌++◌, length, map, take, get_or, All, sym, ap, subst, ◌∙◌, append_assoc, arith}
 use Rattle.std.proofs.lemmas.List.{append-nil, map-append, length-map, get_or-map, take_more, take_all}
 use Rattle.std.proofs.lemmas.List.Elements.{All-append, All-push, All-cons, All-nil}
 use Rattle.trees.specs.declared.TermId.{TermId}
@@ -7,7 +7,6 @@ use Rattle.trees.specs.Tree.{Tree, Two, Head}
 use Rattle.trees.specs.Node.{tree_at, Holds, Grows}
 use Rattle.tasks.specs.Meaning.{trees_at}
 use Rattle.tasks.proofs.Growth.{trees_later, all_held_later}
-use Rattle.trees.proofs.Nodes.{Grows_trans}
 use Rattle.tr_split.specs.Split.{imp, split}
 use Rattle.tr_split.specs.Parts.{IsSentence, Gains, Wraps}
 

@@ -1,3 +1,7 @@
 pub mod Sentences
 pub mod Gained
 pub mod Tasks
+pub mod Pieces
+pub mod Glued
+pub mod Instances
+pub mod Facts

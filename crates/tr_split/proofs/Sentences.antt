@@ -1,5 +1,5 @@
 -- What makes formulas of formulas.
-use Rattle.std.proofs.Common.{◌≡◌, ◌<◌, List, length, inl, inr, refl, sym, ap, subst, ◌∙◌}
+use Rattle.std.proofs.Common.{◌≡◌, List, inl, inr, refl, sym, ap, subst, ◌∙◌}
 use Rattle.trees.specs.declared.Op.{Op}
 use Rattle.trees.specs.declared.Op.TheVariants.{Imp}
 use Rattle.trees.specs.declared.TermId.{TermId}

@@ -1,13 +1,12 @@
 -- One task more, for one goal more.
 use Rattle.std.proofs.Common.{◌≡◌, ℕ, ◌<◌, ◌+◌, List, [], ◌∷◌, ◌++◌, length, map, take, get_or, sym, ap, ◌∙◌}
 use Rattle.std.proofs.lemmas.List.{map-append, take_more}
-use Rattle.std.proofs.lemmas.List.Elements.{All-push}
 use Rattle.trees.specs.declared.TermId.{TermId}
 use Rattle.trees.specs.Tree.{Tree}
-use Rattle.trees.specs.Node.{tree_at, Holds, Grows}
+use Rattle.trees.specs.Node.{tree_at, Grows}
 use Rattle.tasks.specs.declared.task.Task.{Task}
 use Rattle.tasks.specs.Task.{TaskTree}
-use Rattle.tasks.specs.Meaning.{trees_at, task_at, tasks_at, TaskHeld, TasksHeld}
+use Rattle.tasks.specs.Meaning.{trees_at, task_at, tasks_at, TaskHeld}
 use Rattle.tasks.specs.Copying.{with_goal, IsWithGoal}
 use Rattle.tasks.proofs.Growth.{task_later}
 use Rattle.tr_split.specs.Split.{split, split_task}

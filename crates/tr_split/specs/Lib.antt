@@ -1,2 +1,5 @@
 pub mod Split
 pub mod Parts
+pub mod Glue
+pub mod Instance
+pub mod Kept

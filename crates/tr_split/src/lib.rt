@@ -1,8 +1,12 @@
 //! Splits the goal of a task into its parts (Why3 manual, "split_goal_right").
-//! It stands on tasks; the program applies it.
+//! It stands on the transformations of evidence; the program splits with it.
 #![tactic(auto)]
 
+mod derive;
+mod fact;
+mod glue;
+mod instance;
 mod parts;
 mod split;
 
-pub use split::Split;
+pub use split::{Split, split_goal};

@@ -4,36 +4,86 @@ ghost use Rattle.trees.specs.Node.{Holds, Grows};
 ghost use Rattle.tasks.specs.Copying.{with_goal};
 ghost use Rattle.tasks.specs.Meaning.{trees_at, task_at, tasks_at, TaskHeld, TasksHeld};
 ghost use Rattle.tasks.specs.Valid.{IsValid};
+ghost use Rattle.tasks.specs.Task.{start};
+ghost use Rattle.evidence.specs.Drafts.{Extends, Refutes};
+ghost use Rattle.evidence.specs.Stages.{IsOwn, EndIn};
+ghost use Rattle.tr_split.specs.Glue.{Glues};
+ghost use Rattle.tr_split.specs.Kept.{keeps_declared};
 ghost use Rattle.tr_split.specs.Split.{split_task};
 
+use crate::fact::base_lemma;
+use crate::glue::glue_formula;
 use crate::parts::add_parts;
+use evidence::{Draft, StageFault, Transform};
 use std::alloc::{AllocError, Global};
-use tasks::Task;
-use term_store::Store;
+use tasks::{Task, nth_proposition};
+use term_store::{Grow, Store};
 use trees::TermId;
 
 /// The transformation that takes a goal apart.
 #[derive(Clone, Copy, Debug)]
 pub struct Split;
 
-impl Split {
+impl Transform for Split {
+    ghost becomes = { λ _ from ts. ts ≡ split_task from };
+
+    ghost lifts = { λ _ from. Glues from.goal };
+
     /// A task for each part of the goal, in order.
-    pub fn apply(
+    fn apply(
         &self,
         alloc: Global,
         store: &mut Store,
         task: &Task,
-    ) -> Result<Vec<Task>, AllocError>
-        requires held { TaskHeld store.old task.now }
-        requires valid { IsValid (task_at store.old task.now) }
-        ensures held { IfOk result (λ ts. TasksHeld store.new ts.items) }
-        ensures tasks { IfOk result (λ ts. tasks_at store.new ts.items ≡ split_task (task_at store.old task.now)) }
-        ensures grows { Grows store.old store.new }
-    {
-        let mut goals = Vec::new(alloc);
-        add_parts(alloc, store, task.goal, &mut goals)?;
-        tasks_for(alloc, store, task, &goals)
+    ) -> Result<Vec<Task>, StageFault> {
+        match split_goal(alloc, store, task) {
+            Ok(tasks) => Ok(tasks),
+            Err(_) => Err(StageFault::Memory),
+        }
     }
+
+    fn fact(
+        &self,
+        from: &Task,
+        to: &Task,
+        prop: usize,
+        types: &[TermId],
+        draft: &mut Draft,
+    ) -> Result<usize, AllocError> {
+        let _ = from;
+        match nth_proposition(draft.store(), to, prop) {
+            Some(said) => base_lemma(draft, said.formula, prop, types),
+            None => unreachable!(),
+        }
+    }
+
+    fn glue(
+        &self,
+        from: &Task,
+        to: &Vec<Task>,
+        ends: &[usize],
+        draft: &mut Draft,
+    ) -> Result<usize, AllocError> {
+        let _ = to;
+        glue_formula(draft, from.locals.as_slice(), from.goal, ends)
+    }
+
+    ghost keeps_declared = { λ _ from ts h. keeps_declared from ts h };
+}
+
+/// A task for each part of the goal, in order: `split_goal_right` of the Why3 manual, by cases on the formula.
+///
+/// Only want of memory refuses.
+pub fn split_goal(alloc: Global, store: &mut Store, task: &Task) -> Result<Vec<Task>, AllocError>
+    requires held { TaskHeld store.old task.now }
+    requires valid { IsValid (task_at store.old task.now) }
+    ensures held { IfOk result (λ ts. TasksHeld store.new ts.items) }
+    ensures tasks { IfOk result (λ ts. tasks_at store.new ts.items ≡ split_task (task_at store.old task.now)) }
+    ensures grows { Grows store.old store.new }
+{
+    let mut goals = Vec::new(alloc);
+    add_parts(alloc, store, task.goal, &mut goals)?;
+    tasks_for(alloc, store, task, &goals)
 }
 
 // The task with each of these goals in turn.

@@ -1,19 +1,16 @@
-use Rattle.std.proofs.Common.{◌≡◌, [], ◌∷◌, ◌++◌, ◌<◌, List, length, map, refl, sym, ap, subst, ◌∙◌, arith, rules}
+use Rattle.std.proofs.Common.{◌≡◌, ◌<◌, length, refl, sym, ap, subst, ◌∙◌, arith, rules}
 use Rattle.std.proofs.lemmas.Result.{IfOk-weaker}
-use Rattle.trees.specs.declared.TermId.{TermId}
 use Rattle.trees.specs.declared.Op.{Op}
-use Rattle.trees.specs.declared.Op.TheVariants.{And, AndThen, Imp}
-use Rattle.trees.specs.declared.Node.{Node}
-use Rattle.trees.specs.declared.Node.TheVariants.{Join}
-use Rattle.trees.specs.Tree.{Tree, Two, Three, HJoin, HForall, HLet, HIf}
+use Rattle.trees.specs.declared.Op.TheVariants.{And, AndThen}
+use Rattle.trees.specs.Tree.{Two, Three, HJoin, HForall, HLet, HIf}
 use Rattle.trees.specs.Node.{tree_at, head_of_node, Holds, Grows}
 use Rattle.trees.specs.Sorts.{Fits}
 use Rattle.trees.proofs.Nodes.{Grows_trans}
 use Rattle.tasks.specs.Task.{neg}
 use Rattle.tasks.proofs.Growth.{all_held_later}
-use Rattle.tr_split.specs.Parts.{IsSentence, Gains, HasTwo, Wraps}
-use Rattle.tr_split.specs.Split.{imp, split}
-use Rattle.tr_split.proofs.Sentences.{joins, sentence_later, let_sentence, then_sentence, else_sentence, wraps_imp, wraps_forall, wraps_let}
+use Rattle.tr_split.specs.Parts.{IsSentence}
+use Rattle.tr_split.specs.Split.{split}
+use Rattle.tr_split.proofs.Sentences.{sentence_later, let_sentence, then_sentence, else_sentence, wraps_imp, wraps_forall, wraps_let}
 use Rattle.tr_split.proofs.Gained.{gains_then, gains_grown, gains_under, split_later, imp_later}
 use Rattle.tr_split.proofs.parts.+parts.Goals as goal
 

@@ -1,11 +1,9 @@
 use Rattle.std.proofs.Common.{◌≡◌, ◌++◌, ◌∷◌, [], List, refl, sym, subst, ap, ◌∙◌}
 use Rattle.trees.specs.declared.TermId.{TermId}
-use Rattle.trees.specs.Tree.{Tree}
 use Rattle.trees.specs.Node.{tree_at}
-use Rattle.trees.proofs.Nodes.{Grows_trans}
 use Rattle.tr_split.specs.Parts.{Gains}
 use Rattle.tr_split.specs.Split.{imp}
-use Rattle.tr_split.proofs.Gained.{gains_one, gains_grown, gains_both}
+use Rattle.tr_split.proofs.Gained.{gains_one, gains_both}
 use Rattle.tr_split.proofs.parts.add_both_ways.Goals as goal
 
 pub returns-clause-gains : goal.returns-clause-gains

@@ -1,9 +1,9 @@
-use Rattle.std.proofs.Common.{◌≡◌, ◌++◌, ◌∷◌, [], List, sym, subst, ap, ◌∙◌, get_or}
+use Rattle.std.proofs.Common.{sym, subst, get_or}
 use Rattle.trees.specs.declared.TermId.{TermId}
 use Rattle.trees.specs.Tree.{Two}
 use Rattle.trees.specs.Node.{tree_at, head_of_node}
 use Rattle.trees.proofs.Nodes.{Grows_trans}
-use Rattle.tr_split.specs.Parts.{IsSentence, Gains}
+use Rattle.tr_split.specs.Parts.{IsSentence}
 use Rattle.tr_split.proofs.Gained.{sentence_at, gains_wrapped, gains_all}
 use Rattle.tr_split.proofs.parts.add_wrapped.Goals as goal
 

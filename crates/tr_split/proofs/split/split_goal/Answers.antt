@@ -1,6 +1,6 @@
 use Rattle.std.proofs.lemmas.Result.{IfOk-weaker}
 use Rattle.tr_split.proofs.Tasks.{tasks_split}
-use Rattle.tr_split.proofs.split.Split.apply.Goals as goal
+use Rattle.tr_split.proofs.split.split_goal.Goals as goal
 
 pub returns-clause-tasks : goal.returns-clause-tasks
 returns-clause-tasks c = IfOk-weaker c.tasks_for.result _ _ (λ ts t. tasks_split c.args.store.now _ c.args.task.now _ _ _ ts.items c.in_ok-add_parts.ensures.grows c.requires.held

@@ -1,0 +1,50 @@
+-- Steps that cite a proposition are right.
+use Rattle.std.proofs.Common.{◌≡◌, ℕ, ◌<◌, List, [], ◌∷◌, ◌++◌, Some, IsSomeAnd, length, map, get_or, slice_get, All, refl, sym, ap, subst, ◌∙◌, arith}
+use Rattle.std.proofs.lemmas.List.Elements.{All-cons, All-nil}
+use Rattle.std.proofs.lemmas.Option.{slice_get-get_or}
+use Rattle.trees.specs.declared.TermId.{TermId}
+use Rattle.trees.specs.declared.Sort.TheVariants.{Kind}
+use Rattle.trees.specs.Tree.{Tree}
+use Rattle.trees.specs.Sorts.{sort_of}
+use Rattle.trees.specs.Node.{tree_at, Holds}
+use Rattle.trees.specs.Binding.{inst_types}
+use Rattle.tasks.specs.Task.{TaskTree, Proposition, props, neg}
+use Rattle.tasks.specs.Valid.{IsTypeOver, IsGroundFormula}
+use Rattle.tasks.specs.Meaning.{trees_at}
+use Rattle.tasks.proofs.Growth.{trees_later, all_held_later}
+use Rattle.kernel.specs.Trees.{RFact, StepTree}
+use Rattle.kernel.specs.Rows.{IsRight, sequents, step_or}
+use Rattle.evidence.specs.Drafts.{DraftTree, Extends, Refutes}
+use Rattle.evidence.specs.Stages.{IsFact, fact_of, prop_or, no_proposition}
+use Rattle.tr_split.specs.Glue.{IsFormulaAt}
+use Rattle.tr_split.specs.Instance.{AreKinds}
+use Rattle.tr_split.proofs.Pieces.{step_of}
+
+pub fact_right : (d : DraftTree) (n : Tree) (k : ℕ) (types : List Tree) (clash : ℕ) → IsGroundFormula d.task n → IsFact d.task d.task k types → Refutes d clash (n ∷ fact_of d.task k types ∷ [])
+    → IsRight d.task d.steps (step_of (n ∷ []) (RFact k types) (clash ∷ []))
+fact_right d n k types clash g f r =
+    let P : Proposition → Type 0 = λ p. (length types ≡ p.vars) × All (IsTypeOver d.task 0) types × (sequents d.steps (clash ∷ []) ≡ (n ∷ inst_types p.formula types ∷ []) ∷ []) in
+    let e : slice_get (props d.task) k ≡ Some (prop_or (props d.task) k) = slice_get-get_or (props d.task) k no_proposition f.place in
+    let q : sequents d.steps (clash ∷ []) ≡ (n ∷ fact_of d.task k types ∷ []) ∷ [] = ap (λ (z : List Tree). z ∷ []) r.is in
+    let row : IsSomeAnd (Some (prop_or (props d.task) k)) P = (f.as_many, f.ground, q) in
+    record {
+      formulas = All-cons (IsGroundFormula d.task) n [] g (All-nil (IsGroundFormula d.task));
+      earlier = All-cons (λ z. z < length d.steps) clash [] r.within (All-nil (λ z. z < length d.steps));
+      row = rw e row;
+    }
+
+-- a fact stays one
+pub fact_later : (d d1 : DraftTree) (x : Extends d d1) (k : ℕ) (types : List TermId) → All (Holds d.trees) types → IsFact d.task d.task k (trees_at d.trees types) → IsFact d1.task d1.task k (trees_at d1.trees types)
+fact_later d d1 x k types h f =
+    subst (λ (z : List Tree). IsFact d1.task d1.task k z) (sym (trees_later d.trees d1.trees x.trees types h)) (subst (λ (z : TaskTree). IsFact z z k (trees_at d.trees types)) (sym x.task) f)
+
+pub fact_same : (d d1 : DraftTree) (x : Extends d d1) (k : ℕ) (types : List TermId) → All (Holds d.trees) types → fact_of d1.task k (trees_at d1.trees types) ≡ fact_of d.task k (trees_at d.trees types)
+fact_same d d1 x k types h =
+    ap (λ (z : List Tree). fact_of d1.task k z) (trees_later d.trees d1.trees x.trees types h) ∙ ap (λ (z : TaskTree). fact_of z k (trees_at d.trees types)) x.task
+
+pub fact_kinds : (d : DraftTree) (k : ℕ) (types : List Tree) → IsFact d.task d.task k types → AreKinds types
+fact_kinds d k types f i z h = (f.ground i z h).sort
+
+pub fact_formula : (d d1 : DraftTree) (x : Extends d d1) (k : ℕ) (types : List Tree) (id : TermId) → IsFact d.task d.task k types → Holds d1.trees id → tree_at d1.trees id ≡ fact_of d.task k types → IsFormulaAt d1 id
+fact_formula d d1 x k types id f h e =
+    record { held = h; ground = subst (IsGroundFormula d1.task) (sym e) (subst (λ (z : TaskTree). IsGroundFormula z (fact_of d.task k types)) (sym x.task) f.formula) }

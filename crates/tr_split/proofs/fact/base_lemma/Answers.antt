@@ -1,0 +1,46 @@
+use Rattle.std.proofs.Common.{◌≡◌, ◌∙◌, ◌++◌, ◌∷◌, [], List, Some, refl, sym, ap, subst, arith}
+use Rattle.std.proofs.lemmas.Result.{IfOk-weaker}
+use Rattle.trees.specs.declared.TermId.{TermId}
+use Rattle.trees.specs.Tree.{Tree}
+use Rattle.trees.specs.Node.{tree_at}
+use Rattle.trees.specs.Binding.{inst_types}
+use Rattle.tasks.specs.Task.{neg}
+use Rattle.tasks.specs.Meaning.{trees_at}
+use Rattle.tasks.proofs.Growth.{all_held_later}
+use Rattle.evidence.specs.Drafts.{Extends, Refutes}
+use Rattle.evidence.specs.Laws.{Extends_refl, Extends_trans}
+use Rattle.evidence.specs.Stages.{fact_of}
+use Rattle.tr_split.proofs.Pieces.{none_formulas, two_formulas, clash_at, formula_later, formula_negation}
+use Rattle.tr_split.proofs.Facts.{fact_right, fact_later, fact_same, fact_kinds, fact_formula}
+use Rattle.tr_split.proofs.fact.base_lemma.Goals as goal
+
+pub instance-requires-clause-kinds : goal.instance-requires-clause-kinds
+instance-requires-clause-kinds c = let d = c.args.draft.now in fact_kinds d c.args.prop (trees_at d.trees c.args.types.now) c.requires.fact
+
+pub lemma_of-requires-clause-formula : goal.lemma_of-requires-clause-formula
+lemma_of-requires-clause-formula c =
+    let d = c.args.draft.now in
+    let tys = trees_at d.trees c.args.types.now in
+    fact_formula d c.instance.new.draft c.in_ok-fact.ensures.grows c.args.prop tys c.in_ok-fact.fact c.requires.fact c.in_ok-fact.ensures.held
+    (c.in_ok-fact.ensures.tree ∙ ap (λ (z : Tree). inst_types z tys) (sym c.requires.is))
+
+pub lemma_of-requires-clause-types_held : goal.lemma_of-requires-clause-types_held
+lemma_of-requires-clause-types_held c = all_held_later c.args.draft.now.trees c.instance.new.draft.trees c.in_ok-fact.ensures.grows.trees c.args.types.now c.requires.types_held
+
+pub lemma_of-requires-clause-fact : goal.lemma_of-requires-clause-fact
+lemma_of-requires-clause-fact c = fact_later c.args.draft.now c.instance.new.draft c.in_ok-fact.ensures.grows c.args.prop c.args.types.now c.requires.types_held c.requires.fact
+
+pub lemma_of-requires-clause-is : goal.lemma_of-requires-clause-is
+lemma_of-requires-clause-is c =
+    let d = c.args.draft.now in
+    let tys = trees_at d.trees c.args.types.now in
+    c.in_ok-fact.ensures.tree ∙ ap (λ (z : Tree). inst_types z tys) (sym c.requires.is) ∙ sym (fact_same d c.instance.new.draft c.in_ok-fact.ensures.grows c.args.prop c.args.types.now c.requires.types_held)
+
+pub returns-clause-refutes : goal.returns-clause-refutes
+returns-clause-refutes c =
+    let d = c.args.draft.now in
+    let e = fact_same d c.instance.new.draft c.in_ok-fact.ensures.grows c.args.prop c.args.types.now c.requires.types_held in
+    IfOk-weaker c.lemma_of.result _ _ (λ k r. subst (λ (z : Tree). Refutes c.lemma_of.new.draft k (neg z ∷ [])) e r) c.lemma_of.ensures.refutes
+
+pub returns-clause-grows : goal.returns-clause-grows
+returns-clause-grows c = Extends_trans _ _ _ c.in_ok-fact.ensures.grows c.lemma_of.ensures.grows

@@ -1,0 +1,63 @@
+use Rattle.std.proofs.Common.{◌≡◌, ◌∙◌, ◌++◌, ◌∷◌, [], List, Some, refl, sym, ap, subst, arith}
+use Rattle.std.proofs.lemmas.Result.{IfOk-weaker}
+use Rattle.trees.specs.declared.TermId.{TermId}
+use Rattle.trees.specs.Tree.{Tree}
+use Rattle.trees.specs.Node.{tree_at}
+use Rattle.trees.specs.Binding.{inst_types}
+use Rattle.tasks.specs.Task.{neg}
+use Rattle.tasks.specs.Meaning.{trees_at}
+use Rattle.tasks.proofs.Growth.{all_held_later}
+use Rattle.evidence.specs.Drafts.{Extends, Refutes}
+use Rattle.evidence.specs.Laws.{Extends_refl, Extends_trans}
+use Rattle.evidence.specs.Stages.{fact_of}
+use Rattle.tr_split.proofs.Pieces.{none_formulas, two_formulas, clash_at, formula_later, formula_negation}
+use Rattle.tr_split.proofs.Facts.{fact_right, fact_later, fact_same, fact_kinds, fact_formula}
+use Rattle.tr_split.proofs.fact.lemma_of.Goals as goal
+
+pub clash_of-requires-clause-fact : goal.clash_of-requires-clause-fact
+clash_of-requires-clause-fact c = formula_later c.args.draft.now c.negation.new.draft c.in_ok-no_fact.ensures.grows c.args.fact c.requires.formula
+
+pub clash_of-requires-clause-negated : goal.clash_of-requires-clause-negated
+clash_of-requires-clause-negated c = c.in_ok-no_fact.ensures.tree ∙ ap neg (sym (c.in_ok-no_fact.ensures.grows.trees.same _ c.requires.formula.held))
+
+pub returns-in_err-clash-clause-grows : goal.returns-in_err-clash-clause-grows
+returns-in_err-clash-clause-grows c = Extends_trans _ _ _ c.in_ok-no_fact.ensures.grows c.clash_of.ensures.grows
+
+pub cite-requires-clause-no_fact : goal.cite-requires-clause-no_fact
+cite-requires-clause-no_fact c = formula_later c.negation.new.draft c.clash_of.new.draft c.in_ok-clash.ensures.grows c.in_ok-no_fact.no_fact c.in_ok-no_fact.ensures.formula
+
+pub cite-requires-clause-types_held : goal.cite-requires-clause-types_held
+cite-requires-clause-types_held c =
+    let x = Extends_trans c.args.draft.now c.negation.new.draft c.clash_of.new.draft c.in_ok-no_fact.ensures.grows c.in_ok-clash.ensures.grows in
+    all_held_later c.args.draft.now.trees c.clash_of.new.draft.trees x.trees c.args.types.now c.requires.types_held
+
+pub cite-requires-clause-fact : goal.cite-requires-clause-fact
+cite-requires-clause-fact c =
+    let x = Extends_trans c.args.draft.now c.negation.new.draft c.clash_of.new.draft c.in_ok-no_fact.ensures.grows c.in_ok-clash.ensures.grows in
+    fact_later c.args.draft.now c.clash_of.new.draft x c.args.prop c.args.types.now c.requires.types_held c.requires.fact
+
+pub cite-requires-clause-clash : goal.cite-requires-clause-clash
+cite-requires-clause-clash c =
+    let d = c.args.draft.now in
+    let d1 = c.negation.new.draft in
+    let d2 = c.clash_of.new.draft in
+    let x1 = c.in_ok-no_fact.ensures.grows in
+    let x2 = c.in_ok-clash.ensures.grows in
+    let x = Extends_trans d d1 d2 x1 x2 in
+    let n = c.in_ok-no_fact.no_fact in
+    let a : tree_at d1.trees n ≡ tree_at d2.trees n = sym (x2.trees.same _ c.in_ok-no_fact.ensures.formula.held) in
+    let b : tree_at d1.trees c.args.fact ≡ fact_of d2.task c.args.prop (trees_at d2.trees c.args.types.now) =
+    x1.trees.same _ c.requires.formula.held ∙ c.requires.is ∙ sym (fact_same d d2 x c.args.prop c.args.types.now c.requires.types_held) in
+    let r = c.in_ok-clash.ensures.refutes in
+    record { within = r.within; is = r.is ∙ ap (λ (z : Tree). z ∷ tree_at d1.trees c.args.fact ∷ []) a ∙ ap (λ (z : Tree). tree_at d2.trees n ∷ z ∷ []) b }
+
+pub returns-clause-refutes : goal.returns-clause-refutes
+returns-clause-refutes c =
+    let d = c.args.draft.now in
+    let d2 = c.clash_of.new.draft in
+    let e : tree_at d2.trees c.in_ok-no_fact.no_fact ≡ neg (fact_of d.task c.args.prop (trees_at d.trees c.args.types.now)) =
+    c.in_ok-clash.ensures.grows.trees.same _ c.in_ok-no_fact.ensures.formula.held ∙ c.in_ok-no_fact.ensures.tree ∙ ap neg c.requires.is in
+    IfOk-weaker c.cite.result _ _ (λ k r. subst (λ (z : Tree). Refutes c.cite.new.draft k (z ∷ [])) e r) c.cite.ensures.refutes
+
+pub returns-clause-grows : goal.returns-clause-grows
+returns-clause-grows c = Extends_trans _ _ _ (Extends_trans _ _ _ c.in_ok-no_fact.ensures.grows c.in_ok-clash.ensures.grows) c.cite.ensures.grows

@@ -1,0 +1,51 @@
+use Rattle.std.proofs.Common.{◌++◌, ◌∷◌, [], subst}
+use Rattle.std.proofs.lemmas.Result.{IfOk-weaker}
+use Rattle.trees.specs.Tree.{Tree}
+use Rattle.trees.specs.Node.{tree_at}
+use Rattle.tasks.specs.Task.{neg}
+use Rattle.tasks.specs.Meaning.{trees_at}
+use Rattle.evidence.specs.Drafts.{Refutes}
+use Rattle.evidence.specs.Laws.{Extends_trans}
+use Rattle.evidence.proofs.Rules.{refutes_later}
+use Rattle.tr_split.proofs.Pieces.{one_formula, two_formulas, formulas_later, forth, back, back_but, cut_at}
+use Rattle.tr_split.proofs.glue.end_cut.Goals as goal
+
+pub keep_but-requires-clause-front : goal.keep_but-requires-clause-front
+keep_but-requires-clause-front c = formulas_later c.args.draft.now c.imp_closes.new.draft c.in_ok-closed.ensures.grows c.args.front.now c.requires.front
+
+pub keep_but-requires-clause-step : goal.keep_but-requires-clause-step
+keep_but-requires-clause-step c =
+    let d = c.args.draft.now in
+    let u = c.args.u.now in
+    forth d c.imp_closes.new.draft c.in_ok-closed.ensures.grows c.args.front.now (u.no_whole ∷ []) c.requires.front (one_formula d u.no_whole c.requires.under.no_whole) c.args.end c.requires.end
+
+pub returns-in_err-kept-clause-grows : goal.returns-in_err-kept-clause-grows
+returns-in_err-kept-clause-grows c = Extends_trans _ _ _ c.in_ok-closed.ensures.grows c.keep_but.ensures.grows
+
+pub derive-requires-clause-right : goal.derive-requires-clause-right
+derive-requires-clause-right c =
+    let d = c.args.draft.now in
+    let d1 = c.imp_closes.new.draft in
+    let d2 = c.keep_but.new.draft in
+    let u = c.args.u.now in
+    let F = c.args.front.now in
+    let h = c.requires.under in
+    let ft = two_formulas d u.hypothesis u.no_part h.hypothesis h.no_part in
+    let x = Extends_trans d d1 d2 c.in_ok-closed.ensures.grows c.in_ok-kept.ensures.grows in
+    let closed = refutes_later d1 d2 c.in_ok-kept.ensures.grows c.in_ok-closed.closed _ c.in_ok-closed.ensures.refutes in
+    let kept : Refutes d2 c.in_ok-kept.kept (trees_at d.trees F ++ (trees_at d.trees (u.hypothesis ∷ u.no_part ∷ []) ++ neg (tree_at d.trees u.whole) ∷ [])) =
+    subst (λ (z : Tree). Refutes d2 c.in_ok-kept.kept (trees_at d.trees F ++ (trees_at d.trees (u.hypothesis ∷ u.no_part ∷ []) ++ z ∷ []))) h.whole_negated
+    (back_but d d1 c.in_ok-closed.ensures.grows F (u.hypothesis ∷ u.no_part ∷ []) (u.no_whole ∷ []) c.requires.front ft (one_formula d u.no_whole h.no_whole) d2 c.in_ok-kept.kept c.in_ok-kept.ensures.refutes) in
+    cut_at d d2 x F (u.hypothesis ∷ u.no_part ∷ []) c.requires.front ft u.whole c.in_ok-closed.closed c.in_ok-kept.kept h.whole closed kept
+
+pub returns-clause-refutes : goal.returns-clause-refutes
+returns-clause-refutes c =
+    let d = c.args.draft.now in
+    let d2 = c.keep_but.new.draft in
+    let u = c.args.u.now in
+    let h = c.requires.under in
+    let x = Extends_trans d c.imp_closes.new.draft d2 c.in_ok-closed.ensures.grows c.in_ok-kept.ensures.grows in
+    IfOk-weaker c.derive.result _ _ (λ k r. back d d2 x c.args.front.now (u.hypothesis ∷ u.no_part ∷ []) c.requires.front (two_formulas d u.hypothesis u.no_part h.hypothesis h.no_part) c.derive.new.draft k r) c.derive.ensures.refutes
+
+pub returns-clause-grows : goal.returns-clause-grows
+returns-clause-grows c = Extends_trans _ _ _ (Extends_trans _ _ _ c.in_ok-closed.ensures.grows c.in_ok-kept.ensures.grows) c.derive.ensures.grows

@@ -1,0 +1,48 @@
+use Rattle.std.proofs.Common.{◌≡◌, ◌∙◌, ◌++◌, ◌∷◌, [], ap, subst}
+use Rattle.std.proofs.lemmas.Result.{IfOk-weaker}
+use Rattle.trees.specs.declared.TermId.{TermId}
+use Rattle.trees.specs.Tree.{Tree}
+use Rattle.trees.specs.Node.{tree_at}
+use Rattle.tasks.specs.Task.{neg}
+use Rattle.tasks.specs.Meaning.{trees_at}
+use Rattle.evidence.specs.Drafts.{Refutes}
+use Rattle.evidence.specs.Laws.{Extends_trans}
+use Rattle.tr_split.specs.Split.{imp}
+use Rattle.tr_split.proofs.Pieces.{formulas_later, end_later, under_back}
+use Rattle.tr_split.proofs.glue.end_under.Goals as goal
+
+pub end_cut-requires-clause-front : goal.end_cut-requires-clause-front
+end_cut-requires-clause-front c = formulas_later c.args.draft.now c.read_under.new.draft c.in_ok-u.ensures.grows c.args.front.now c.requires.front
+
+pub end_cut-requires-clause-end : goal.end_cut-requires-clause-end
+end_cut-requires-clause-end c =
+    let d = c.args.draft.now in
+    let d1 = c.read_under.new.draft in
+    let x = c.in_ok-u.ensures.grows in
+    let u = c.in_ok-u.u in
+    let under = c.in_ok-u.ensures.under in
+    let F = trees_at d.trees c.args.front.now in
+    let H = tree_at d.trees c.args.hypothesis in
+    let part = c.requires.end.part in
+    let eh : tree_at d1.trees u.hypothesis ≡ H = ap (tree_at d1.trees) c.in_ok-u.ensures.hypothesis ∙ x.trees.same _ c.requires.hypothesis.held in
+    let ep : tree_at d1.trees u.part ≡ part = c.in_ok-u.ensures.part F part c.requires.end.refutes in
+    let ei : imp (tree_at d1.trees u.hypothesis) (tree_at d1.trees u.part) ≡ imp H part = ap (λ (z : Tree). imp z (tree_at d1.trees u.part)) eh ∙ ap (imp H) ep in
+    let e : tree_at d1.trees u.no_whole ≡ neg (imp H part) = under.whole_negated ∙ ap neg (under.implied ∙ ei) in
+    end_later d d1 x c.args.front.now c.requires.front c.args.end u.no_whole (imp H part) c.requires.end.refutes e
+
+pub returns-clause-refutes : goal.returns-clause-refutes
+returns-clause-refutes c =
+    let d = c.args.draft.now in
+    let d1 = c.read_under.new.draft in
+    let d2 = c.end_cut.new.draft in
+    let x = c.in_ok-u.ensures.grows in
+    let u = c.in_ok-u.u in
+    let under = c.in_ok-u.ensures.under in
+    let front = c.args.front.now in
+    IfOk-weaker c.end_cut.result _ _ (λ k r part ref.
+    let e : tree_at d1.trees u.no_part ≡ neg part = under.part_negated ∙ ap neg (c.in_ok-u.ensures.part (trees_at d.trees front) part ref) in
+    let q = subst (λ (z : TermId). Refutes d2 k (trees_at d1.trees front ++ trees_at d1.trees (z ∷ u.no_part ∷ []))) c.in_ok-u.ensures.hypothesis r in
+    under_back d d1 x front c.requires.front d2 k c.args.hypothesis u.no_part part c.requires.hypothesis e q) c.end_cut.ensures.refutes
+
+pub returns-clause-grows : goal.returns-clause-grows
+returns-clause-grows c = Extends_trans _ _ _ c.in_ok-u.ensures.grows c.end_cut.ensures.grows

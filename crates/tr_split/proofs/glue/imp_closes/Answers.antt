@@ -1,0 +1,81 @@
+use Rattle.std.proofs.Common.{◌≡◌, ◌++◌, ◌∷◌, ◌+◌, ℕ, [], List, Some, length, refl, ap, subst, arith}
+use Rattle.std.proofs.lemmas.Result.{IfOk-weaker}
+use Rattle.trees.specs.declared.TermId.{TermId}
+use Rattle.trees.specs.Tree.{Tree}
+use Rattle.trees.specs.Node.{tree_at}
+use Rattle.tasks.specs.Task.{neg}
+use Rattle.tasks.specs.Meaning.{trees_at}
+use Rattle.kernel.specs.Trees.{RClash}
+use Rattle.kernel.specs.Rows.{IsRight}
+use Rattle.evidence.specs.Drafts.{DraftTree, Refutes}
+use Rattle.evidence.specs.Laws.{Extends_refl, Extends_trans}
+use Rattle.evidence.proofs.Rules.{refutes_later}
+use Rattle.tr_split.specs.declared.glue.Under.{Under}
+use Rattle.tr_split.specs.Glue.{AreFormulas, IsUnder}
+use Rattle.tr_split.proofs.Pieces.{step_of, none_formulas, more_formulas, clash_at, imp_at, back}
+use Rattle.tr_split.proofs.glue.imp_closes.Goals as goal
+
+abbrev one : Under → List TermId
+one u = u.hypothesis ∷ u.no_part ∷ u.whole ∷ u.no_hypothesis ∷ []
+
+abbrev two : Under → List TermId
+two u = u.hypothesis ∷ u.no_part ∷ u.whole ∷ u.part ∷ []
+
+abbrev three : Under → List TermId
+three u = u.hypothesis ∷ u.no_part ∷ u.whole ∷ []
+
+are_one : (d : DraftTree) (u : Under) → IsUnder d u → AreFormulas d (one u)
+are_one d u h = more_formulas d u.hypothesis _ h.hypothesis (more_formulas d u.no_part _ h.no_part (more_formulas d u.whole _ h.whole (more_formulas d u.no_hypothesis _ h.no_hypothesis (none_formulas d))))
+
+are_two : (d : DraftTree) (u : Under) → IsUnder d u → AreFormulas d (two u)
+are_two d u h = more_formulas d u.hypothesis _ h.hypothesis (more_formulas d u.no_part _ h.no_part (more_formulas d u.whole _ h.whole (more_formulas d u.part _ h.part (none_formulas d))))
+
+are_three : (d : DraftTree) (u : Under) → IsUnder d u → AreFormulas d (three u)
+are_three d u h = more_formulas d u.hypothesis _ h.hypothesis (more_formulas d u.no_part _ h.no_part (more_formulas d u.whole _ h.whole (none_formulas d)))
+
+pub derive-requires-clause-right : goal.derive-requires-clause-right
+derive-requires-clause-right c =
+    let d = c.args.draft.now in
+    let u = c.args.u.now in
+    let F = c.args.front.now in
+    let n : length F + 0 ≡ length F = omega arith in
+    let P : ℕ → Type 0 = λ z. IsRight d.task d.steps (step_of (trees_at d.trees F ++ trees_at d.trees (one u)) (RClash z (length F + 3)) []) in
+    subst P n (clash_at d d (Extends_refl d) F (one u) c.requires.front (are_one d u c.requires.under) 0 3 (tree_at d.trees u.hypothesis) refl (omega arith)
+    (ap (λ (z : Tree). Some z) c.requires.under.hypothesis_negated) (omega arith))
+
+pub derive-requires-2-clause-right : goal.derive-requires-2-clause-right
+derive-requires-2-clause-right c =
+    let d = c.args.draft.now in
+    let u = c.args.u.now in
+    clash_at d c.derive.new.draft c.in_ok-first.ensures.grows c.args.front.now (two u) c.requires.front (are_two d u c.requires.under) 3 1 (tree_at d.trees u.part) refl (omega arith)
+    (ap (λ (z : Tree). Some z) c.requires.under.part_negated) (omega arith)
+
+pub derive-requires-3-clause-right : goal.derive-requires-3-clause-right
+derive-requires-3-clause-right c =
+    let d = c.args.draft.now in
+    let d1 = c.derive.new.draft in
+    let d2 = c.derive-2.new.draft in
+    let u = c.args.u.now in
+    let F = c.args.front.now in
+    let h = c.requires.under in
+    let x = Extends_trans d d1 d2 c.in_ok-first.ensures.grows c.in_ok-second.ensures.grows in
+    let first : Refutes d2 c.in_ok-first.first (trees_at d.trees F ++ (trees_at d.trees (three u) ++ neg (tree_at d.trees u.hypothesis) ∷ [])) =
+    subst (λ (z : Tree). Refutes d2 c.in_ok-first.first (trees_at d.trees F ++ (trees_at d.trees (three u) ++ z ∷ []))) h.hypothesis_negated
+    (refutes_later d1 d2 c.in_ok-second.ensures.grows c.in_ok-first.first _ c.in_ok-first.ensures.refutes) in
+    let second : Refutes d2 c.in_ok-second.second (trees_at d.trees F ++ (trees_at d.trees (three u) ++ tree_at d.trees u.part ∷ [])) =
+    back d d1 c.in_ok-first.ensures.grows F (two u) c.requires.front (are_two d u h) d2 c.in_ok-second.second c.in_ok-second.ensures.refutes in
+    imp_at d d2 x F (three u) c.requires.front (are_three d u h) 2 (tree_at d.trees u.hypothesis) (tree_at d.trees u.part) c.in_ok-first.first c.in_ok-second.second
+    (ap (λ (z : Tree). Some z) h.implied) (omega arith) first second
+
+pub returns-clause-refutes : goal.returns-clause-refutes
+returns-clause-refutes c =
+    let d = c.args.draft.now in
+    let u = c.args.u.now in
+    let x = Extends_trans d c.derive.new.draft c.derive-2.new.draft c.in_ok-first.ensures.grows c.in_ok-second.ensures.grows in
+    IfOk-weaker c.derive-3.result _ _ (λ k r. back d c.derive-2.new.draft x c.args.front.now (three u) c.requires.front (are_three d u c.requires.under) c.derive-3.new.draft k r) c.derive-3.ensures.refutes
+
+pub returns-clause-grows : goal.returns-clause-grows
+returns-clause-grows c = Extends_trans _ _ _ (Extends_trans _ _ _ c.in_ok-first.ensures.grows c.in_ok-second.ensures.grows) c.derive-3.ensures.grows
+
+pub returns-in_err-second-clause-grows : goal.returns-in_err-second-clause-grows
+returns-in_err-second-clause-grows c = Extends_trans _ _ _ c.in_ok-first.ensures.grows c.derive-2.ensures.grows

@@ -1,0 +1,85 @@
+// A step that refutes the negation of a proposition of the draft's task, at types.
+ghost use Rattle.std.specs.Prelude.{◌≡◌, [], ◌∷◌, All, IfOk};
+ghost use Rattle.trees.specs.Node.{tree_at, Holds};
+ghost use Rattle.tasks.specs.Task.{neg, props};
+ghost use Rattle.tasks.specs.Meaning.{trees_at};
+ghost use Rattle.evidence.specs.Drafts.{Extends, Refutes};
+ghost use Rattle.evidence.specs.Stages.{IsFact, fact_of, prop_or};
+ghost use Rattle.tr_split.specs.Glue.{IsFormulaAt};
+ghost use Rattle.tr_split.specs.Instance.{AreKinds};
+
+use crate::derive::derive;
+use crate::glue::negation;
+use crate::instance::instance;
+use evidence::Draft;
+use kernel::Rule;
+use outside::Seq;
+use std::alloc::AllocError;
+use trees::TermId;
+
+// The clash of a negation with what it negates.
+fn clash_of(draft: &mut Draft, no_fact: TermId, fact: TermId) -> Result<usize, AllocError>
+    requires no_fact { IsFormulaAt draft.old no_fact }
+    requires fact { IsFormulaAt draft.old fact }
+    requires negated { tree_at draft.old.trees no_fact ≡ neg (tree_at draft.old.trees fact) }
+    ensures refutes { IfOk result (λ k. Refutes draft.new k (trees_at draft.old.trees (no_fact ∷ fact ∷ []))) }
+    ensures grows { Extends draft.old draft.new }
+{
+    derive(draft, &[], &[no_fact, fact], Rule::Clash(1, 0), &[])
+}
+
+// The proposition's step over the clash.
+fn cite(
+    draft: &mut Draft,
+    no_fact: TermId,
+    prop: usize,
+    types: &[TermId],
+    clash: usize,
+) -> Result<usize, AllocError>
+    requires no_fact { IsFormulaAt draft.old no_fact }
+    requires types_held { All (Holds draft.old.trees) types.now }
+    requires fact { IsFact draft.old.task draft.old.task prop (trees_at draft.old.trees types.now) }
+    requires clash { Refutes draft.old clash (tree_at draft.old.trees no_fact ∷ fact_of draft.old.task prop (trees_at draft.old.trees types.now) ∷ []) }
+    ensures refutes { IfOk result (λ k. Refutes draft.new k (tree_at draft.old.trees no_fact ∷ [])) }
+    ensures grows { Extends draft.old draft.new }
+{
+    let types = Seq::from_slice(draft.allocator(), types)?;
+    derive(draft, &[], &[no_fact], Rule::Fact(prop, types), &[clash])
+}
+
+// The step, from the proposition at the types.
+fn lemma_of(
+    draft: &mut Draft,
+    fact: TermId,
+    prop: usize,
+    types: &[TermId],
+) -> Result<usize, AllocError>
+    requires formula { IsFormulaAt draft.old fact }
+    requires types_held { All (Holds draft.old.trees) types.now }
+    requires fact { IsFact draft.old.task draft.old.task prop (trees_at draft.old.trees types.now) }
+    requires is { tree_at draft.old.trees fact ≡ fact_of draft.old.task prop (trees_at draft.old.trees types.now) }
+    ensures refutes { IfOk result (λ k. Refutes draft.new k (neg (fact_of draft.old.task prop (trees_at draft.old.trees types.now)) ∷ [])) }
+    ensures grows { Extends draft.old draft.new }
+{
+    let no_fact = negation(draft, fact)?;
+    let clash = clash_of(draft, no_fact, fact)?;
+    cite(draft, no_fact, prop, types, clash)
+}
+
+// The step, from the number of the proposition's formula.
+pub(crate) fn base_lemma(
+    draft: &mut Draft,
+    formula: TermId,
+    prop: usize,
+    types: &[TermId],
+) -> Result<usize, AllocError>
+    requires formula_held { Holds draft.old.trees formula }
+    requires types_held { All (Holds draft.old.trees) types.now }
+    requires fact { IsFact draft.old.task draft.old.task prop (trees_at draft.old.trees types.now) }
+    requires is { (prop_or (props draft.old.task) prop).formula ≡ tree_at draft.old.trees formula }
+    ensures refutes { IfOk result (λ k. Refutes draft.new k (neg (fact_of draft.old.task prop (trees_at draft.old.trees types.now)) ∷ [])) }
+    ensures grows { Extends draft.old draft.new }
+{
+    let fact = instance(draft, formula, types)?;
+    lemma_of(draft, fact, prop, types)
+}

@@ -1,0 +1,291 @@
+// Random systems of equations, against a plain unifier that walks trees and takes the equations from the last on.
+use crate::UnifyFault;
+use crate::tests::{answer, applied, variable};
+use std::alloc::Global;
+use std::process::Abort;
+use std::test::Fail;
+use term_store::Store;
+use trees::{Node, TermId};
+
+// The first type variable stands for itself, the next four are unknowns.
+const RIGID: usize = 1;
+
+const VARIABLES: usize = 5;
+
+// A number below a bound, from a linear congruential generator.
+fn random(seed: &mut u64, bound: u64) -> u64 {
+    *seed = (*seed % 2_147_483_648 * 1_103_515_245 + 12_345) % 2_147_483_648;
+    *seed / 65_536 % bound.max(1)
+}
+
+// One of some types.
+fn any(seed: &mut u64, types: &[TermId]) -> Result<TermId, Fail> {
+    let at = random(seed, 1000) as usize % types.len().max(1);
+    let found = types.get(at).ok_or("no type")?;
+    Ok(*found)
+}
+
+// Variables, a type symbol, and types made of them.
+fn types(
+    rt: &impl Abort,
+    alloc: Global,
+    store: &mut Store,
+    seed: &mut u64,
+) -> Result<Vec<TermId>, Fail> {
+    let mut made = Vec::new(alloc);
+    for j in 0..VARIABLES {
+        made.push(variable(store, j)?)?;
+    }
+    made.push(applied(rt, store, 0, &[])?)?;
+    for _ in 0..6 {
+        let a = any(seed, &made)?;
+        let b = any(seed, &made)?;
+        if random(seed, 3) == 0 {
+            made.push(applied(rt, store, 2, &[a])?)?;
+        } else {
+            made.push(applied(rt, store, 3, &[a, b])?)?;
+        }
+    }
+    Ok(made)
+}
+
+// What a type is bound to in the end.
+fn resolve(
+    rt: &impl Abort,
+    store: &Store,
+    bound: &[Option<TermId>],
+    e: TermId,
+) -> Result<TermId, Fail> {
+    let mut at = e;
+    for _ in 0..VARIABLES {
+        assert!(rt; store.holds(at));
+        let Node::TyVar(j) = store.node(at) else {
+            return Ok(at);
+        };
+        let Some(Some(next)) = bound.get(j) else {
+            return Ok(at);
+        };
+        at = *next;
+    }
+    Ok(at)
+}
+
+// Whether a type variable occurs in a type.
+fn occurs(
+    rt: &impl Abort,
+    alloc: Global,
+    store: &Store,
+    bound: &[Option<TermId>],
+    variable: usize,
+    e: TermId,
+) -> Result<bool, Fail> {
+    let mut waiting = Vec::new(alloc);
+    waiting.push(e)?;
+    for _ in 0..1_000_000 {
+        let Some(e) = waiting.pop() else {
+            return Ok(false);
+        };
+        let at = resolve(rt, store, bound, e)?;
+        assert!(rt; store.holds(at));
+        match store.node(at) {
+            Node::TyVar(j) => {
+                if j == variable {
+                    return Ok(true);
+                }
+            }
+            Node::TyApp(_, list) => waiting.push(list)?,
+            Node::Cell(first, rest) => {
+                waiting.push(first)?;
+                waiting.push(rest)?;
+            }
+            _ => {}
+        }
+    }
+    Err("an endless type")?
+}
+
+// Binds an unknown, unless it occurs in the type.
+fn bind(
+    rt: &impl Abort,
+    alloc: Global,
+    store: &Store,
+    bound: &mut [Option<TermId>],
+    unknown: usize,
+    e: TermId,
+) -> Result<bool, Fail> {
+    if occurs(rt, alloc, store, bound, unknown, e)? {
+        return Ok(false);
+    }
+    if let Some(place) = bound.get_mut(unknown) {
+        *place = Some(e);
+    }
+    Ok(true)
+}
+
+// Makes two types the same, where that can be.
+fn unify_plainly(
+    rt: &impl Abort,
+    alloc: Global,
+    store: &Store,
+    bound: &mut [Option<TermId>],
+    pair: (TermId, TermId),
+) -> Result<bool, Fail> {
+    let mut waiting = Vec::new(alloc);
+    waiting.push(pair)?;
+    for _ in 0..1_000_000 {
+        let Some((left, right)) = waiting.pop() else {
+            return Ok(true);
+        };
+        let a = resolve(rt, store, bound, left)?;
+        let b = resolve(rt, store, bound, right)?;
+        assert!(rt; store.holds(a));
+        assert!(rt; store.holds(b));
+        let same = match (store.node(a), store.node(b)) {
+            (Node::TyVar(j), Node::TyVar(k)) if j == k => true,
+            (Node::TyVar(j), _) if j >= RIGID => bind(rt, alloc, store, bound, j, b)?,
+            (_, Node::TyVar(k)) if k >= RIGID => bind(rt, alloc, store, bound, k, a)?,
+            (Node::TyApp(f, xs), Node::TyApp(g, ys)) => {
+                waiting.push((xs, ys))?;
+                f == g
+            }
+            (Node::Cell(x, xs), Node::Cell(y, ys)) => {
+                waiting.push((x, y))?;
+                waiting.push((xs, ys))?;
+                true
+            }
+            (Node::End, Node::End) => true,
+            _ => false,
+        };
+        if !same {
+            return Ok(false);
+        }
+    }
+    Err("an endless equation")?
+}
+
+// What the first equations bind, from the last of them on; none where they have no solution.
+fn bindings(
+    rt: &impl Abort,
+    alloc: Global,
+    store: &Store,
+    pairs: &[(TermId, TermId)],
+    count: usize,
+) -> Result<Option<Vec<Option<TermId>>>, Fail> {
+    let mut bound = Vec::new(alloc);
+    for _ in 0..VARIABLES {
+        bound.push(None)?;
+    }
+    for pair in pairs.iter().take(count).rev() {
+        if !unify_plainly(rt, alloc, store, &mut bound, *pair)? {
+            return Ok(None);
+        }
+    }
+    Ok(Some(bound))
+}
+
+// A type written out; none where an unknown is left in it.
+fn written(
+    rt: &impl Abort,
+    alloc: Global,
+    store: &Store,
+    bound: &[Option<TermId>],
+    e: TermId,
+) -> Result<Option<Vec<usize>>, Fail> {
+    let mut text = Vec::new(alloc);
+    let mut waiting = Vec::new(alloc);
+    waiting.push(e)?;
+    for _ in 0..1_000_000 {
+        let Some(e) = waiting.pop() else {
+            return Ok(Some(text));
+        };
+        let at = resolve(rt, store, bound, e)?;
+        assert!(rt; store.holds(at));
+        match store.node(at) {
+            Node::TyVar(j) => {
+                if j >= RIGID {
+                    return Ok(None);
+                }
+                text.push(0)?;
+            }
+            Node::TyApp(symbol, list) => {
+                text.push(1)?;
+                text.push(symbol)?;
+                waiting.push(list)?;
+            }
+            Node::Cell(first, rest) => {
+                text.push(2)?;
+                waiting.push(rest)?;
+                waiting.push(first)?;
+            }
+            _ => text.push(3)?,
+        }
+    }
+    Err("an endless type")?
+}
+
+// How many systems clash, and how many unknowns have a value.
+#[derive(Drop)]
+struct Counts {
+    clashes: u32,
+    values: u32,
+}
+
+// Compares the answers to one system.
+fn compare(
+    rt: &impl Abort,
+    alloc: Global,
+    seed: &mut u64,
+    counts: &mut Counts,
+) -> Result<(), Fail> {
+    let mut store = Store::new(alloc);
+    let all = types(rt, alloc, &mut store, seed)?;
+    let mut pairs = Vec::new(alloc);
+    for _ in 0..random(seed, 4).saturating_add(1) {
+        pairs.push((any(seed, &all)?, any(seed, &all)?))?;
+    }
+    let mut clash = None;
+    for k in 0..pairs.len() {
+        if clash.is_none() && bindings(rt, alloc, &store, &pairs, k + 1)?.is_none() {
+            clash = Some(k);
+        }
+    }
+    let solution = match answer(rt, alloc, &mut store, RIGID, &pairs)? {
+        Ok(solution) => solution,
+        Err(UnifyFault::Clash { k }) => {
+            assert_eq!(rt; clash, Some(k));
+            counts.clashes = counts.clashes.saturating_add(1);
+            return Ok(());
+        }
+        Err(UnifyFault::Memory) => Err("no memory")?,
+    };
+    assert_eq!(rt; clash, None);
+    let bound = bindings(rt, alloc, &store, &pairs, pairs.len())?.ok_or("a clash")?;
+    for u in RIGID..VARIABLES {
+        let unknown = variable(&mut store, u)?;
+        let expected = written(rt, alloc, &store, &bound, unknown)?;
+        let found = match solution.value(u) {
+            Some(value) => {
+                counts.values = counts.values.saturating_add(1);
+                written(rt, alloc, &store, &[], value)?
+            }
+            None => None,
+        };
+        assert!(rt; expected == found);
+    }
+    Ok(())
+}
+
+#[test]
+fn random_systems_are_solved_as_a_plain_unifier_does(rt: HostRuntime) -> Result<(), Fail> {
+    let mut seed = 2026;
+    let mut counts = Counts {
+        clashes: 0,
+        values: 0,
+    };
+    for _ in 0..3000 {
+        compare(&rt, rt.alloc(), &mut seed, &mut counts)?;
+    }
+    assert!(rt; counts.clashes > 300);
+    assert!(rt; counts.values > 300);
+    Ok(())
+}
