@@ -1,0 +1,5 @@
+pub mod Splitting
+pub mod Plain
+pub mod Picking
+pub mod Growth
+pub mod Progress

@@ -1,0 +1,13 @@
+//! Step files: refutations and derivations as lines of text, read and written.
+//! It stands on the kernel and the name tables; the program stands on it.
+#![tactic(auto)]
+
+mod fault;
+mod good;
+mod reader;
+mod step_reader;
+mod things;
+mod words;
+
+pub use fault::ReadFault;
+pub use step_reader::StepReader;
