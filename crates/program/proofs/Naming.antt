@@ -1,10 +1,10 @@
 -- A goal's task by its names, as a step of the order.
-use Rattle.std.proofs.Common.{◌≡◌, ◌≢◌, ◌⊎◌, ℕ, List, Ok, Err, Result, inl, inr, refl, ◌∙◌, ap}
+use Rattle.std.proofs.Common.{◌≡◌, ◌≢◌, ◌⊎◌, ℕ, List, Ok, Err, Result, inl, inr, refl}
 use Rattle.tasks.specs.Task.{TaskTree}
 use Rattle.sources.specs.Meaning.{TheoryTree, task_named}
 use Rattle.sources.specs.declared.theory.TaskFault.{TaskFault}
 use Rattle.sources.specs.declared.theory.TaskFault.TheVariants.{Memory}
-use Rattle.program.specs.Order.{Meaning, Answer, Stop, or_stop, stop_of}
+use Rattle.program.specs.Order.{Meaning, Answer, or_stop, stop_of}
 
 -- what is left after the source
 abbrev pub naming : (theory goal : List ℕ) → TheoryTree → Meaning TaskTree

@@ -1,15 +1,16 @@
 -- A run has one answer: each stage has at most one, and so has the whole order.
-use Rattle.std.proofs.Common.{◌≡◌, ◌⊎◌, ◌∙◌, ℕ, List, Option, Some, None, Result, Ok, Err, inl, inr, sym, ap, subst, refl}
+use Rattle.std.proofs.Common.{◌≡◌, ◌⊎◌, ◌∙◌, ℕ, List, Option, Some, None, Result, Ok, Err, inl, inr, sym, ap, subst}
 use Rattle.outside.specs.Shelf.{Files}
 use Rattle.tasks.specs.Task.{TaskTree}
-use Rattle.sources.specs.Source.{TheoryText, IsSource}
-use Rattle.sources.specs.Meaning.{TheoryTree, theory_of, task_named, IsRead, IsNoSource}
+use Rattle.sources.specs.Meaning.{TheoryTree, theory_of, task_named}
 use Rattle.sources.proofs.Completeness.{one_source}
 use Rattle.program.specs.Texts.{printed}
-use Rattle.program.specs.Order.{Stop, refused, absent, unread, misused, Stage, Answer, After, Meaning, fetched, if_short, ShortFile, Reads, Source, or_stop, Goal, PrintText, word, TextOf, AnswerBy, AnswerOf}
+use Rattle.program.specs.Order.{Stop, refused, misused, Stage, Answer, After, fetched, if_short, ShortFile, Reads, Source, or_stop, Goal, PrintText, WholeFile, Checks, Derivation, CheckText, word, TextOf, AnswerBy, AnswerOf}
+use Rattle.program.proofs.Checking.{one_outcome, one_wrong}
 use Rattle.program.specs.Words.{command_of}
+use Rattle.program.specs.declared.status.Fault.TheVariants.{WrongLine}
 use Rattle.program.specs.declared.words.Command.{Command}
-use Rattle.program.specs.declared.words.Command.TheVariants.{Print}
+use Rattle.program.specs.declared.words.Command.TheVariants.{Print, Check}
 
 -- a stage has one answer at most
 abbrev pub One : {A : Type 0} → Stage A → Type 0
@@ -53,8 +54,24 @@ one_print : (src theory goal : List ℕ) (files : Files) (limit : Option ℕ) �
 one_print src theory goal files limit =
     one_after (Goal src theory goal files limit) (λ t. Answer (Ok (printed t))) (one_goal src theory goal files limit) (λ t. one_answer _)
 
+one_checks : (t : TaskTree) (bytes : List ℕ) → One (Checks t bytes)
+one_checks t bytes (Ok a) (Ok b) x y = ap (λ (z : List ℕ). Ok z) (x.2 ∙ sym y.2)
+one_checks t bytes (Ok a) (Err stop) x y = absurd (one_outcome t bytes x.0 y.0 x.1 y.1)
+one_checks t bytes (Err stop) (Ok b) x y = absurd (one_outcome t bytes y.0 x.0 y.1 x.1)
+one_checks t bytes (Err stop) (Err other) x y =
+    let line : x.0 ≡ y.0 = one_wrong t bytes x.0 y.0 x.1 y.1 in
+    ap (λ (z : Stop). Err z) (x.2 ∙ ap (λ (n : ℕ). refused (WrongLine 1 n)) line ∙ sym y.2)
+
+one_derivation : (der : List ℕ) (t : TaskTree) (files : Files) (limit : Option ℕ) → One (Derivation der t files limit)
+one_derivation der t files limit = one_after (WholeFile 1 der files limit) (Checks t) (one_answer _) (one_checks t)
+
+one_check : (src theory goal der : List ℕ) (files : Files) (limit : Option ℕ) → One (CheckText src theory goal der files limit)
+one_check src theory goal der files limit =
+    one_after (Goal src theory goal files limit) (λ t. Derivation der t files limit) (one_goal src theory goal files limit) (λ t. one_derivation der t files limit)
+
 one_text : (command : Command) (words : List (List ℕ)) (files : Files) (limit : Option ℕ) → One (TextOf command words files limit)
 one_text Print words files limit = one_print (word words 2) (word words 4) (word words 5) files limit
+one_text Check words files limit = one_check (word words 2) (word words 3) (word words 4) (word words 5) files limit
 
 one_by : (command : Option Command) (words : List (List ℕ)) (files : Files) (limit : Option ℕ) → One (AnswerBy command words files limit)
 one_by None words files limit = one_answer (Err misused)

@@ -1,5 +1,5 @@
 -- The names of a problem are entries of its signature, and its parts have the entries of the whole.
-use Rattle.std.proofs.Common.{◌≡◌, ◌∙◌, ℕ, ◌<◌, ◌+◌, List, [], ◌∷◌, length, map, suc, All, refl, ap, sym, subst, arith}
+use Rattle.std.proofs.Common.{◌≡◌, ◌∙◌, ℕ, ◌<◌, ◌+◌, List, [], ◌∷◌, length, suc, All, ap, sym, subst, arith}
 use Rattle.std.proofs.lemmas.List.{length-map, get_or-map}
 use Rattle.std.proofs.Common.{◌++◌, get_or, drop, append_assoc}
 use Rattle.tasks.specs.declared.task.Task.{Task}
@@ -7,7 +7,7 @@ use Rattle.problems.proofs.Marking.{cut_at}
 use Rattle.program.specs.Texts.{problem_text, texts_from}
 use Rattle.std.proofs.lemmas.List.Elements.{All-filter, All-nil, All-cons, All-map}
 use Rattle.trees.specs.Tree.{Tree}
-use Rattle.tasks.specs.Task.{TaskTree, SymbolTree, made, symbol_or}
+use Rattle.tasks.specs.Task.{TaskTree, made, symbol_or}
 use Rattle.tasks.specs.declared.signature.SymbolInfo.{SymbolInfo}
 use Rattle.tasks.specs.Meaning.{symbol_at, symbols_at, task_at, tasks_at}
 use Rattle.tasks.specs.Copying.{with_goal}

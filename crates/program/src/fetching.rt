@@ -2,7 +2,7 @@
 ghost use Rattle.std.specs.Prelude.{◌≡◌, ◌+◌, ℕ};
 ghost use Rattle.outside.specs.Shelf.{Shelf};
 ghost use Rattle.program.specs.Meets.{Answers, bytes_of};
-ghost use Rattle.program.specs.Order.{ShortFile};
+ghost use Rattle.program.specs.Order.{ShortFile, WholeFile};
 
 use crate::{Fault, RunFault};
 use outside::{FetchFault, Library};
@@ -22,6 +22,18 @@ pub fn fetch_short<L: Library>(lib: &mut L, file: usize, name: &str) -> Result<V
                 Ok(bytes)
             }
         }
+        Err(FetchFault::Memory) => Err(RunFault::Memory),
+        Err(FetchFault::Absent) => Err(RunFault::Absent { file }),
+        Err(FetchFault::Failed) => Err(RunFault::ReadFault { file }),
+    }
+}
+
+/// A whole file, which is fetched with this number.
+pub fn fetch_whole<L: Library>(lib: &mut L, file: usize, name: &str) -> Result<Vec<u8>, RunFault>
+    ensures { Answers (WholeFile file name.now) file (λ _. file + 1) (L.shelf lib.old) (L.shelf lib.new) (bytes_of result) }
+{
+    match lib.fetch(name, usize::MAX) {
+        Ok(bytes) => Ok(bytes),
         Err(FetchFault::Memory) => Err(RunFault::Memory),
         Err(FetchFault::Absent) => Err(RunFault::Absent { file }),
         Err(FetchFault::Failed) => Err(RunFault::ReadFault { file }),

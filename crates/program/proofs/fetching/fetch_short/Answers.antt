@@ -1,8 +1,8 @@
-use Rattle.std.proofs.Common.{rules, arith, ◌+◌, ◌≡◌, true, false, length, ◌==◌, Ok, Err, ℕ, Option, None, refl}
+use Rattle.std.proofs.Common.{rules, arith, ◌+◌, ◌≡◌, true, false, length, ◌==◌, Ok, Err, ℕ, Option, None}
 use Rattle.std.proofs.lemmas.Bool.Decides.{nat_tests}
 use Rattle.outside.specs.Shelf.{IsFront}
 use Rattle.program.specs.Meets.{Reaches}
-use Rattle.program.specs.Order.{ShortFile, refused, if_short}
+use Rattle.program.specs.Order.{ShortFile, refused}
 use Rattle.program.specs.declared.status.Fault.TheVariants.{TooLong}
 use Rattle.program.proofs.Meeting.{told, short_file-ok, short_file-long, if_short-long}
 use Rattle.program.proofs.fetching.fetch_short.Goals as goal

@@ -1,4 +1,4 @@
-use Rattle.std.proofs.Common.{◌≡◌, ◌∙◌, ℕ, List, Ok, Err, refl, ap, subst, arith}
+use Rattle.std.proofs.Common.{ℕ, List, Err, refl, ap, subst, arith}
 use Rattle.sources.specs.Meaning.{TheoryTree, IsRead, IsNoSource, theory_at}
 use Rattle.sources.specs.declared.fault.SourceFault.{SourceFault}
 use Rattle.program.specs.Order.{Meaning, Reads}

@@ -1,4 +1,4 @@
-use Rattle.std.proofs.Common.{◌≡◌, ◌∙◌, Ok, arith}
+use Rattle.std.proofs.Common.{arith}
 use Rattle.tasks.specs.Meaning.{task_at}
 use Rattle.sources.specs.Meaning.{theory_at, task_named}
 use Rattle.sources.specs.declared.theory.TaskFault.TheVariants.{NoTheory, NoGoal}
