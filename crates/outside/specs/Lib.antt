@@ -1,3 +1,3 @@
-pub mod Shelf
+pub mod State
 pub mod Told
 pub mod formers
