@@ -146,6 +146,7 @@ fn meaning_after(before: Option<Meaning>, thing: usize, declared: bool) -> Meani
 impl Entries {
     ghost use Rattle.names_space.specs.Kept.{brought_before, meaning, meaning_in};
 
+    /// No entries. It takes no memory.
     pub fn new(alloc: Global) -> Entries
         ensures { result ≡ [] }
     {
@@ -155,6 +156,7 @@ impl Entries {
         }
     }
 
+    /// The number of entries.
     pub fn len(&self) -> usize
         ensures { result ≡ length self.now }
     {

@@ -1,16 +1,18 @@
 -- Marks that are made one after another.
-use Rattle.std.proofs.Common.{◌≡◌, ℕ, ◌<◌, ◌≤◌, ◌+◌, ◌||◌, Bool, true, false, List, ◌∷◌, length, get_or, drop, drop-cons, add-one, suc, map, refl, sym, ap, ◌∙◌, arith}
+use Rattle.std.proofs.Common.{◌≡◌, ℕ, ◌<◌, ◌≤◌, ◌+◌, ◌||◌, Bool, true, false, List, ◌∷◌, length, get_or, drop, drop-cons, add-one, suc, map, refl, sym, ap, subst, ◌∙◌, arith}
 use Rattle.std.proofs.lemmas.List.{drop_all}
 use Rattle.std.specs.List.{list_any}
 use Rattle.trees.specs.Tree.{Tree}
 use Rattle.trees.specs.declared.TermId.{TermId}
-use Rattle.trees.specs.Node.{tree_at}
+use Rattle.trees.specs.declared.Node.{Node}
+use Rattle.trees.specs.declared.Parts.TheVariants as parts
+use Rattle.trees.specs.Node.{tree_at, node_tree, head_of_node, parts_of, assemble}
 use Rattle.tasks.specs.declared.declaration.Body.{Body}
 use Rattle.tasks.specs.declared.declaration.Body.TheVariants.{Symbol, Prop}
 use Rattle.tasks.specs.declared.declaration.Decl.{Decl}
 use Rattle.tasks.specs.Task.{props_of}
 use Rattle.tasks.specs.Meaning.{trees_at, body_at, declarations_at}
-use Rattle.problems.specs.Used.{occurs}
+use Rattle.problems.specs.Used.{is_symbol, occurs}
 use Rattle.problems.specs.Marks.{Marks, formula_of, said}
 
 or_false : (b : Bool) → b ≡ (b || false)
@@ -29,6 +31,23 @@ marks_then {a = a} {f = f} {g = g} one two = record {
   as_long = two.as_long ∙ one.as_long;
   each = λ k h. two.each k (omega (arith, one.as_long)) ∙ ap (λ x. x || g k) (one.each k h) ∙ or_assoc (get_or a k false) (f k) (g k);
 }
+
+-- the symbols of a node's tree: those of its head, then those of its children
+module _ (s : List Tree) (n : Node) (e : TermId) where
+  pub one_child : (a : TermId) {m0 m1 m2 : List Bool} → tree_at s e ≡ node_tree s n → parts_of n ≡ parts.One a
+      → Marks m0 m1 (is_symbol (head_of_node n)) → Marks m1 m2 (λ k. occurs k (tree_at s a)) → Marks m0 m2 (λ k. occurs k (tree_at s e))
+  one_child a {m0 = m0} {m2 = m2} t p h one =
+      subst (λ x. Marks m0 m2 (λ k. occurs k x)) (sym (t ∙ ap (assemble s (head_of_node n)) p)) (marks_then h one)
+
+  pub two_children : (a b : TermId) {m0 m1 m2 m3 : List Bool} → tree_at s e ≡ node_tree s n → parts_of n ≡ parts.Two a b
+      → Marks m0 m1 (is_symbol (head_of_node n)) → Marks m1 m2 (λ k. occurs k (tree_at s a)) → Marks m2 m3 (λ k. occurs k (tree_at s b)) → Marks m0 m3 (λ k. occurs k (tree_at s e))
+  two_children a b {m0 = m0} {m3 = m3} t p h one two =
+      subst (λ x. Marks m0 m3 (λ k. occurs k x)) (sym (t ∙ ap (assemble s (head_of_node n)) p)) (marks_then h (marks_then one two))
+
+  pub three_children : (a b c : TermId) {m0 m1 m2 m3 m4 : List Bool} → tree_at s e ≡ node_tree s n → parts_of n ≡ parts.Three a b c
+      → Marks m0 m1 (is_symbol (head_of_node n)) → Marks m1 m2 (λ k. occurs k (tree_at s a)) → Marks m2 m3 (λ k. occurs k (tree_at s b)) → Marks m3 m4 (λ k. occurs k (tree_at s c)) → Marks m0 m4 (λ k. occurs k (tree_at s e))
+  three_children a b c {m0 = m0} {m4 = m4} t p h one two three =
+      subst (λ x. Marks m0 m4 (λ k. occurs k x)) (sym (t ∙ ap (assemble s (head_of_node n)) p)) (marks_then h (marks_then one (marks_then two three)))
 
 -- the symbols of formulas, of propositions
 abbrev pub in_formulas : List Tree → List TermId → ℕ → Bool

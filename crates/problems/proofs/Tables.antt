@@ -29,11 +29,11 @@ push_one t marks k names name n e is h s = rw (e, is s, h) refl
 pub push_prop : (t : Task) (marks : List Bool) (names : List NameEntry) (body : Body) → ((s : List Tree) → made_by (body_at s body) ≡ []) → PushesMade t marks body names names
 push_prop t marks names body none s = rw (none s) (sym (append-nil names))
 
-length-entries : (t : TaskTree) (n : ℕ) (ks : List ℕ) → length (entries_from t n ks) ≡ length ks
+pub length-entries : (t : TaskTree) (n : ℕ) (ks : List ℕ) → length (entries_from t n ks) ≡ length ks
 length-entries t n [] = refl
 length-entries t n (k ∷ ks) = omega (arith, length-entries t (n + 1) ks)
 
-entries-append : (t : TaskTree) (n : ℕ) (xs ys : List ℕ) → entries_from t n (xs ++ ys) ≡ entries_from t n xs ++ entries_from t (n + length xs) ys
+pub entries-append : (t : TaskTree) (n : ℕ) (xs ys : List ℕ) → entries_from t n (xs ++ ys) ≡ entries_from t n xs ++ entries_from t (n + length xs) ys
 entries-append t n [] ys = ap (λ m. entries_from t m ys) (let e : n ≡ n + 0 = omega arith in e)
 entries-append t n (x ∷ xs) ys =
     let e : n + 1 + length xs ≡ n + length (x ∷ xs) = omega arith in

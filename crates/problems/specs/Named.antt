@@ -1,12 +1,12 @@
 -- The own name of a symbol of a task.
-use Rattle.std.specs.Prelude.{◌≡◌, ℕ, Bool, false, List, ◌++◌, filter, length, get_or}
+use Rattle.std.specs.Prelude.{◌≡◌, ℕ, Bool, false, List, [], ◌∷◌, ◌++◌, filter, length, get_or}
 use Rattle.trees.specs.Tree.{Tree}
 use Rattle.tasks.specs.declared.task.Task.{Task}
 use Rattle.tasks.specs.declared.declaration.Body.{Body}
 use Rattle.tasks.specs.Task.{symbol_or, made_by}
 use Rattle.tasks.specs.Meaning.{symbols_at, body_at, task_at}
 use Rattle.problems.specs.declared.names.NameEntry.{NameEntry}
-use Rattle.problems.specs.Names.{entries_from}
+use Rattle.problems.specs.Names.{rigid_from, entries_from}
 
 -- whatever the store: names are texts
 abbrev pub IsNameOf : Task → ℕ → List ℕ → Type 0
@@ -20,3 +20,15 @@ marked marks ks = filter (λ k. get_or marks k false) ks
 abbrev pub PushesMade : Task → List Bool → Body → List NameEntry → List NameEntry → Type 0
 PushesMade t marks body old new =
     (s : List Tree) → new ≡ old ++ entries_from (task_at s t) (length old) (marked marks (made_by (body_at s body)))
+
+-- the table gains the entries of type variables
+abbrev pub PushesRigid : Task → List ℕ → List NameEntry → List NameEntry → Type 0
+PushesRigid t ks old new = (s : List Tree) → new ≡ old ++ rigid_from (task_at s t) (length old) ks
+
+-- the table gains the entry of a symbol
+abbrev pub PushesSymbol : Task → ℕ → List NameEntry → List NameEntry → Type 0
+PushesSymbol t k old new = (s : List Tree) → new ≡ old ++ entries_from (task_at s t) (length old) (k ∷ [])
+
+-- the table gains the entry of the symbol that a body makes
+abbrev pub PushesAny : Task → Body → List NameEntry → List NameEntry → Type 0
+PushesAny t body old new = (s : List Tree) → new ≡ old ++ entries_from (task_at s t) (length old) (made_by (body_at s body))

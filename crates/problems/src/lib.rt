@@ -5,4 +5,4 @@
 mod names;
 mod used;
 
-pub use names::{NameEntry, NameOf, plain_names};
+pub use names::{NameEntry, NameOf, plain_names, task_names};

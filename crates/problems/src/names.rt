@@ -2,9 +2,9 @@
 ghost use Rattle.std.specs.Prelude.{◌≡◌, ◌++◌, false, map, slice_index_or, IfOk, OnOk};
 ghost use Rattle.tasks.specs.Meaning.{task_at, TaskHeld};
 ghost use Rattle.problems.specs.Used.{DeclaresEntries};
-ghost use Rattle.problems.specs.Named.{IsNameOf, PushesMade};
+ghost use Rattle.problems.specs.Named.{IsNameOf, PushesMade, PushesRigid, PushesSymbol, PushesAny};
 ghost use Rattle.problems.specs.Clean.{clean_byte, lower, clean, name_at_place};
-ghost use Rattle.problems.specs.Names.{plain_names, int_entry, entry_of};
+ghost use Rattle.problems.specs.Names.{plain_names, task_names, int_entry, entry_of, rigid_entry};
 
 use crate::used::used_marks;
 use outside::{Seq, Text};
@@ -118,6 +118,22 @@ fn symbol_entry(
     })
 }
 
+// The entry of a type variable at a place.
+fn rigid_entry(
+    alloc: Global,
+    name: &[u8],
+    place: usize,
+    symbol: usize,
+) -> Result<NameEntry, AllocError>
+    ensures { IfOk result (λ n. n ≡ rigid_entry name.now place symbol) }
+{
+    Ok(NameEntry {
+        name: name_at_place(alloc, name, place)?,
+        symbol: NameOf::Rigid(symbol),
+        types: Seq::new(alloc),
+    })
+}
+
 // The entry of the type `int`.
 fn int_entry(alloc: Global) -> Result<NameEntry, AllocError>
     ensures { IfOk result (λ n. n ≡ int_entry) }
@@ -174,6 +190,18 @@ fn push_marked(
     if !is_marked(marks, symbol) {
         return Ok(());
     }
+    push_symbol(alloc, task, symbol, names)
+}
+
+// The entry of a symbol.
+fn push_symbol(
+    alloc: Global,
+    task: &Task,
+    symbol: usize,
+    names: &mut Vec<NameEntry>,
+) -> Result<(), AllocError>
+    ensures { OnOk result (PushesSymbol task.now symbol names.old.items names.new.items) }
+{
     let name = symbol_name(task, symbol);
     let place = names.len();
     names.push(symbol_entry(alloc, name, place, symbol)?)?;
@@ -186,5 +214,52 @@ fn is_marked(marks: &[bool], symbol: usize) -> bool
     match marks.get(symbol) {
         Some(mark) => *mark,
         None => false,
+    }
+}
+
+/// The name table of a task: `int`, the goal's type variables by first appearance, then each symbol that a
+/// declaration makes, in the order of the declarations. Each stands whole. Only want of memory refuses.
+pub fn task_names(alloc: Global, store: &Store, task: &Task) -> Result<Vec<NameEntry>, AllocError>
+    ensures { IfOk result (λ v. v.items ≡ task_names (task_at store.now task.now)) }
+{
+    let _ = store;
+    let mut names = Vec::new(alloc);
+    names.push(int_entry(alloc)?)?;
+    push_rigid(alloc, task, task.rigid.as_slice(), &mut names)?;
+    for decl in task.decls.as_slice() {
+        push_any(alloc, task, decl.body, &mut names)?;
+    }
+    Ok(names)
+}
+
+// The entries of type variables.
+fn push_rigid(
+    alloc: Global,
+    task: &Task,
+    rigid: &[usize],
+    names: &mut Vec<NameEntry>,
+) -> Result<(), AllocError>
+    ensures { OnOk result (PushesRigid task.now rigid.now names.old.items names.new.items) }
+{
+    for symbol in rigid {
+        let name = symbol_name(task, *symbol);
+        let next = names.len();
+        names.push(rigid_entry(alloc, name, next, *symbol)?)?;
+    }
+    Ok(())
+}
+
+// The entry of the symbol that a declaration makes.
+fn push_any(
+    alloc: Global,
+    task: &Task,
+    body: Body,
+    names: &mut Vec<NameEntry>,
+) -> Result<(), AllocError>
+    ensures { OnOk result (PushesAny task.now body names.old.items names.new.items) }
+{
+    match body {
+        Body::Symbol(symbol) => push_symbol(alloc, task, symbol, names),
+        Body::Prop(_) => Ok(()),
     }
 }

@@ -12,13 +12,14 @@ fn is_blank(byte: u8) -> bool
     byte == b' ' || byte == b'\t' || byte == b'\r' || byte == b'\n'
 }
 
+/// Whether a byte is a letter of upper case.
 pub fn is_upper(byte: u8) -> bool
     ensures { result ≡ spec.is_upper byte }
 {
     b'A' <= byte && byte <= b'Z'
 }
 
-// `_` counts as a letter of lower case.
+/// Whether a byte is a letter of lower case, of which `_` is one.
 pub fn is_lower(byte: u8) -> bool
     ensures { result ≡ spec.is_lower byte }
 {
@@ -37,7 +38,7 @@ fn is_digit(byte: u8) -> bool
     b'0' <= byte && byte <= b'9'
 }
 
-// A letter, a digit or an apostrophe.
+/// Whether a byte may stand behind the first one of a name: a letter, a digit or an apostrophe.
 pub fn is_name_byte(byte: u8) -> bool
     ensures { result ≡ spec.is_name_byte byte }
 {

@@ -178,6 +178,7 @@ pub fn is_new(names: &[Text], word: &[u8]) -> bool
     is_lident(word) && place_of(names, word).is_none()
 }
 
+/// The keyword of the fragment that a word is, if it is one.
 pub fn keyword_of(word: &[u8]) -> Keyword
     ensures { result ≡ machine.keyword_of word.now }
 {
@@ -194,6 +195,7 @@ pub fn keyword_of(word: &[u8]) -> Keyword
     }
 }
 
+/// The sign of the fragment that a word is, if it is one.
 pub fn sign_of(word: &[u8]) -> Sign
     ensures { result ≡ machine.sign_of word.now }
 {

@@ -1,6 +1,6 @@
 // Sources and what they are read as.
 use crate::{SourceFault, TaskFault, read_source, task_of};
-use std::alloc::Global;
+use std::alloc::{AllocError, Global};
 use std::test::Fail;
 use term_store::Store;
 
@@ -59,28 +59,28 @@ const FORMULAS: [(&str, &str, bool); 9] = [
     ("p -> q", "q -> p", false),
 ];
 
-fn is_read(alloc: Global, text: &str) -> bool {
-    let mut store = Store::new(alloc);
-    read_source(alloc, &mut store, text.as_bytes()).is_ok()
+fn is_read(alloc: Global, text: &str) -> Result<bool, AllocError> {
+    let mut store = Store::new(alloc)?;
+    Ok(read_source(alloc, &mut store, text.as_bytes()).is_ok())
 }
 
-fn is_refused(alloc: Global, text: &str) -> bool {
-    let mut store = Store::new(alloc);
-    match read_source(alloc, &mut store, text.as_bytes()) {
+fn is_refused(alloc: Global, text: &str) -> Result<bool, AllocError> {
+    let mut store = Store::new(alloc)?;
+    Ok(match read_source(alloc, &mut store, text.as_bytes()) {
         Ok(_) => false,
         Err(fault) => fault == SourceFault::NotYet,
-    }
+    })
 }
 
 #[test]
 fn sources_are_read_and_others_refused(rt: HostRuntime) -> Result<(), Fail> {
     let alloc = rt.alloc();
-    assert!(rt; is_read(alloc, EXAMPLE));
+    assert!(rt; is_read(alloc, EXAMPLE)?);
     for text in READ.as_slice() {
-        assert!(rt; is_read(alloc, text));
+        assert!(rt; is_read(alloc, text)?);
     }
     for text in REFUSED.as_slice() {
-        assert!(rt; is_refused(alloc, text));
+        assert!(rt; is_refused(alloc, text)?);
     }
     Ok(())
 }
@@ -93,7 +93,7 @@ fn formulas_group_as_the_levels_say(rt: HostRuntime) -> Result<(), Fail> {
         let text = format!(in alloc;
             "theory T predicate p predicate q predicate r goal a: {a} goal b: {b} end"
         )?;
-        let mut store = Store::new(alloc);
+        let mut store = Store::new(alloc)?;
         match read_source(alloc, &mut store, text.as_bytes()) {
             Ok(theory) => {
                 let props = match theory.goals.as_slice() {
@@ -111,7 +111,7 @@ fn formulas_group_as_the_levels_say(rt: HostRuntime) -> Result<(), Fail> {
 #[test]
 fn a_goal_has_its_task(rt: HostRuntime) -> Result<(), Fail> {
     let alloc = rt.alloc();
-    let mut store = Store::new(alloc);
+    let mut store = Store::new(alloc)?;
     let faults = [
         ("U", "g", TaskFault::NoTheory),
         ("U", "h", TaskFault::NoTheory),
@@ -134,7 +134,7 @@ fn a_goal_has_its_task(rt: HostRuntime) -> Result<(), Fail> {
             match task_of(alloc, &store, theory, "T", "g") {
                 Ok(task) => {
                     assert_eq!(rt; task.decls.len(), 3);
-                    assert_eq!(rt; task.goal.0, 4);
+                    assert_eq!(rt; task.goal.0, 5);
                 }
                 Err(_) => assert!(rt; false),
             }

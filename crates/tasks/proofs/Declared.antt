@@ -23,7 +23,7 @@ contains_head x k xs e = (0, omega arith, sym e)
 contains_tail : (x k : ℕ) (xs : List ℕ) → Contains xs k → Contains (x ∷ xs) k
 contains_tail x k xs h = (suc h.0, let l : h.0 < length xs = h.1 in omega arith, h.2)
 
-contains_cases : (x k : ℕ) (xs : List ℕ) → Contains (x ∷ xs) k → (k ≡ x) ⊎ Contains xs k
+pub contains_cases : (x k : ℕ) (xs : List ℕ) → Contains (x ∷ xs) k → (k ≡ x) ⊎ Contains xs k
 contains_cases x k xs (zero, l, e) = inl (sym e)
 contains_cases x k xs (suc j, l, e) = inr (j, omega arith, e)
 
@@ -39,7 +39,7 @@ left_is k xs ys h = yes (Contains-append_left xs ys k h)
 pub right_is : (k : ℕ) (xs ys : List ℕ) (r : Bool) → (Contains xs k → ⊥) → IsTrue r ↔ Contains ys k → IsTrue r ↔ Contains (xs ++ ys) k
 right_is k xs ys r n h = (λ t. Contains-append_right xs ys k (h.0 t), λ m. elim (Contains-append_cases xs ys k m) [ inl e ↦ absurd (n e) | inr i ↦ h.1 i ])
 
-none_in : (k : ℕ) → Contains {X = ℕ} [] k → ⊥
+pub none_in : (k : ℕ) → Contains {X = ℕ} [] k → ⊥
 none_in k h = omega (arith, h.1)
 
 by_test : (j k : ℕ) (r : Bool) (ms : List ℕ) (b : Bool) → (j == k) ≡ b → IsTrue r ↔ Contains ms k → IsTrue (b || r) ↔ Contains (j ∷ ms) k

@@ -1,3 +1,3 @@
 pub mod Growth
-pub mod Instances
 pub mod Declared
+pub mod TypeInstances

@@ -5,7 +5,6 @@
 mod binders;
 mod copying;
 mod declaration;
-mod fitting;
 mod proposition;
 mod signature;
 mod task;
@@ -13,9 +12,8 @@ mod types;
 mod typing;
 
 pub use declaration::{Body, Decl};
-pub use fitting::fits;
 pub use proposition::{Proposition, nth_proposition};
 pub use signature::{Signature, SymbolInfo, SymbolKind};
 pub use task::{Task, nodes};
-pub use types::{Types, is_instance, sort_of};
+pub use types::{Types, is_instance};
 pub use typing::{is_ground, is_ground_formula, is_ground_type, well_typed};

@@ -3,7 +3,7 @@ ghost use Rattle.std.specs.Prelude.{◌≡◌, ◌↔◌, ℕ, ◌+◌, Some, Is
 ghost use Rattle.std.specs.Option.{option_map};
 ghost use Rattle.trees.specs.Tree.{Leaf, HEnd};
 ghost use Rattle.trees.specs.Node.{tree_at, Holds};
-ghost use Rattle.trees.specs.Sorts.{yield, yield_type, type_of, sort_of, int_type};
+ghost use Rattle.trees.specs.Sorts.{yield, yield_type, type_of, int_type};
 ghost use Rattle.trees.specs.Binding.{inst_types};
 ghost use Rattle.tasks.specs.Typing.{members};
 ghost use Rattle.tasks.specs.Types.{type_at, TypeHeld, types_at, TypesHeld};
@@ -41,18 +41,6 @@ pub(crate) fn yield_of(store: &Store, e: TermId) -> Sort
         Node::Cell(a, _) => yield_of(store, a),
         Node::Let(_, b) | Node::Case(_, b) | Node::Arm(_, b) => yield_of(store, b),
         Node::If(_, b, _) => yield_of(store, b),
-    }
-}
-
-/// What sort of thing a tree is.
-pub fn sort_of(store: &Store, e: TermId) -> Sort
-    requires { Holds store.now e }
-    ensures { result ≡ sort_of (tree_at store.now e) }
-{
-    match store.node(e) {
-        Node::End | Node::Cell(_, _) => Sort::List,
-        Node::Arm(_, _) => Sort::Branch,
-        _ => yield_of(store, e),
     }
 }
 

@@ -18,7 +18,7 @@ use crate::binders::{Binder, Binders, bound_type};
 use crate::types::{
     TypeOf, Types, has_members, is_instance, is_instance_of_int, same_types, type_of, yield_of,
 };
-use crate::{Body, Decl, SymbolInfo, SymbolKind, Task, sort_of};
+use crate::{Body, Decl, SymbolInfo, SymbolKind, Task};
 use term_store::Store;
 use trees::{Node, Parts, Sort, TermId};
 
@@ -360,7 +360,7 @@ pub fn is_ground_formula(store: &Store, task: &Task, e: TermId) -> bool
     requires held { Holds store.now e }
     ensures { IsTrue result ↔ IsGroundFormula (task_at store.now task.now) (tree_at store.now e) }
 {
-    sort_of(store, e) == Sort::Formula && well_typed(store, task, e) && is_ground(store, e)
+    store.sort(e) == Sort::Formula && well_typed(store, task, e) && is_ground(store, e)
 }
 
 /// Whether a tree is a type of the task without schematic type variables.
@@ -369,5 +369,5 @@ pub fn is_ground_type(store: &Store, task: &Task, e: TermId) -> bool
     requires held { Holds store.now e }
     ensures { IsTrue result ↔ IsTypeOver (task_at store.now task.now) 0 (tree_at store.now e) }
 {
-    sort_of(store, e) == Sort::Kind && well_typed(store, task, e) && is_ground(store, e)
+    store.sort(e) == Sort::Kind && well_typed(store, task, e) && is_ground(store, e)
 }

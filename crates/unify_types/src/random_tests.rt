@@ -237,7 +237,7 @@ fn compare(
     seed: &mut u64,
     counts: &mut Counts,
 ) -> Result<(), Fail> {
-    let mut store = Store::new(alloc);
+    let mut store = Store::new(alloc)?;
     let all = types(rt, alloc, &mut store, seed)?;
     let mut pairs = Vec::new(alloc);
     for _ in 0..random(seed, 4).saturating_add(1) {

@@ -99,7 +99,7 @@ fn clash(answer: Result<Solution, UnifyFault>) -> Option<usize> {
 
 #[test]
 fn the_least_prefix_is_named(rt: HostRuntime) -> Result<(), Fail> {
-    let mut store = Store::new(rt.alloc());
+    let mut store = Store::new(rt.alloc())?;
     let int = applied(&rt, &mut store, 0, &[])?;
     let t = applied(&rt, &mut store, 1, &[])?;
     let u = variable(&mut store, 0)?;
@@ -121,7 +121,7 @@ fn the_least_prefix_is_named(rt: HostRuntime) -> Result<(), Fail> {
 
 #[test]
 fn determined_unknowns_have_values(rt: HostRuntime) -> Result<(), Fail> {
-    let mut store = Store::new(rt.alloc());
+    let mut store = Store::new(rt.alloc())?;
     let int = applied(&rt, &mut store, 0, &[])?;
     let rigid = variable(&mut store, 0)?;
     let first = variable(&mut store, 1)?;
@@ -152,7 +152,7 @@ fn determined_unknowns_have_values(rt: HostRuntime) -> Result<(), Fail> {
 
 #[test]
 fn shared_types_are_solved_at_once(rt: HostRuntime) -> Result<(), Fail> {
-    let mut store = Store::new(rt.alloc());
+    let mut store = Store::new(rt.alloc())?;
     let mut pairs = Vec::new(rt.alloc());
     for i in 0..40 {
         for side in 0..2 {
