@@ -9,4 +9,7 @@ mod shapes;
 mod steps;
 
 pub use rule::{Rule, Step};
-pub use steps::{closes, first_wrong, right_step};
+pub use steps::{closes, ends_in_start, first_wrong, right_step};
+
+#[cfg(test)]
+mod tests;

@@ -76,8 +76,8 @@ fn is_start(store: &Store, task: &Task, sequent: &[TermId]) -> bool
     )
 }
 
-// Whether a task's start is the sequent of the last step.
-fn ends_in_start(store: &Store, task: &Task, steps: &[Step]) -> bool
+/// Whether there is a last step and its sequent is the task's start. Right steps derive the task where this holds.
+pub fn ends_in_start(store: &Store, task: &Task, steps: &[Step]) -> bool
     requires task_held { TaskHeld store.now task.now }
     requires steps_held { StepsHeld store.now steps.now }
     ensures { IsTrue result ↔ last_starts (task_at store.now task.now) (steps_at store.now steps.now) }

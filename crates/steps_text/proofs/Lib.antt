@@ -3,3 +3,14 @@ pub mod Plain
 pub mod Picking
 pub mod Growth
 pub mod Progress
+pub mod Exact
+pub mod Numerals
+pub mod Spacing
+pub mod Lines
+pub mod Putting
+pub mod Naming
+pub mod Writing
+pub mod Answers
+pub mod Stepping
+pub mod Writable
+pub mod PlainTables

@@ -2,3 +2,6 @@ pub mod Words
 pub mod Lines
 pub mod Reading
 pub mod Fed
+pub mod Writing
+pub mod Text
+pub mod Written

@@ -8,6 +8,13 @@ mod reader;
 mod step_reader;
 mod things;
 mod words;
+mod writer;
 
 pub use fault::ReadFault;
 pub use step_reader::StepReader;
+pub use writer::write_steps;
+
+#[cfg(test)]
+mod round_trips;
+#[cfg(test)]
+mod tests;

@@ -13,7 +13,7 @@ use crate::fault::ReadFault;
 use crate::good::right_thing;
 use crate::things::Thing;
 use crate::words::lines;
-use kernel::{Step, closes};
+use kernel::{Step, ends_in_start};
 use problems::NameEntry;
 use std::alloc::{AllocError, Global};
 use tasks::Task;
@@ -75,7 +75,7 @@ pub(crate) fn read_whole(
         };
         keep(&mut formulas, &mut steps, thing)?;
     }
-    if closes(store, task, &steps) {
+    if ends_in_start(store, task, &steps) {
         Ok(steps)
     } else {
         Err(wrong_after(all.len()))

@@ -1,7 +1,8 @@
 // A reader that is fed a step file in pieces.
-ghost use Rattle.std.specs.Prelude.{◌≡◌, ◌++◌, [], true, false, Err, IfOk, IfErr, OnOk, OnErr};
+ghost use Rattle.std.specs.Prelude.{◌≡◌, List, ◌++◌, [], true, false, Err, IfOk, IfErr, OnOk, OnErr};
 ghost use Rattle.trees.specs.Node.{Grows};
 ghost use Rattle.tasks.specs.Meaning.{task_at, TaskHeld};
+ghost use Rattle.kernel.specs.Trees.{StepTree};
 ghost use Rattle.kernel.specs.Rows.{Closes};
 ghost use Rattle.kernel.specs.Meaning.{steps_at, StepsHeld};
 ghost use Rattle.steps_text.specs.Lines.{StepsOf};
@@ -91,6 +92,7 @@ impl StepReader {
         ensures held { IfOk result (λ v. StepsHeld store.new v.items) }
         ensures whole { OnOk result (self.lost ≡ false) }
         ensures fault { IfErr result (IsFault (task_at store.old task.now) names.now self.tallest self.bytes) }
+        ensures complete { IfErr result (λ e. (steps : List StepTree) → StepsOf (task_at store.old task.now) names.now self.tallest self.bytes steps → e ≡ Memory) }
         ensures lost { self.lost ≡ true → result ≡ Err Memory }
         ensures grows { Grows store.old store.new }
     {

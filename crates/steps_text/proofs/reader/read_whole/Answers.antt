@@ -6,7 +6,7 @@ use Rattle.tasks.specs.Task.{TaskTree}
 use Rattle.tasks.specs.Meaning.{task_at}
 use Rattle.tasks.proofs.Growth.{task_held_later, task_later}
 use Rattle.kernel.specs.declared.rule.Step.{Step}
-use Rattle.kernel.specs.Rows.{Closes, last_starts}
+use Rattle.kernel.specs.Rows.{last_starts}
 use Rattle.kernel.specs.Meaning.{steps_at}
 use Rattle.steps_text.specs.Words.{texts}
 use Rattle.steps_text.specs.Lines.{nothing_read, AreRead, IsWrongLine, LineIsRight}
@@ -18,8 +18,8 @@ use Rattle.steps_text.proofs.reader.read_whole.Goals as goal
 pub right_thing-requires-clause-task : goal.right_thing-requires-clause-task
 right_thing-requires-clause-task c = task_held_later c.args.store.now c.loop-i.store c.loop-i.invariant.grows c.args.task.now c.requires
 
-pub closes-requires-clause-task_held : goal.closes-requires-clause-task_held
-closes-requires-clause-task_held c = task_held_later c.args.store.now c.loop-i.store c.loop-i.invariant.grows c.args.task.now c.requires
+pub ends_in_start-requires-clause-task_held : goal.ends_in_start-requires-clause-task_held
+ends_in_start-requires-clause-task_held c = task_held_later c.args.store.now c.loop-i.store c.loop-i.invariant.grows c.args.task.now c.requires
 
 pub returns-in_default-clause-fault : goal.returns-in_default-clause-fault
 returns-in_default-clause-fault c =
@@ -67,14 +67,17 @@ loop-i-preserved c =
       stands = n.2;
     }
 
-pub returns-then-closes-clause-closes : goal.returns-then-closes-clause-closes
-returns-then-closes-clause-closes c =
+pub returns-then-ends_in_start-clause-closes : goal.returns-then-ends_in_start-clause-closes
+returns-then-ends_in_start-clause-closes c =
     let s = c.loop-i.store in
-    subst (λ x. Closes x (steps_at s c.loop-i.steps.items)) (task_later c.args.store.now s c.loop-i.invariant.grows c.args.task.now c.requires)
-    (subst (λ l. Closes (task_at s c.args.task.now) (steps_at s l)) c.deref-2.ensures.value (c.closes.ensures.0 c.if-closes.true))
+    record {
+      right = c.loop-i.invariant.stands.right;
+      starts = subst (λ x. last_starts x (steps_at s c.loop-i.steps.items)) (task_later c.args.store.now s c.loop-i.invariant.grows c.args.task.now c.requires)
+          (subst (λ l. last_starts (task_at s c.args.task.now) (steps_at s l)) c.deref-2.ensures.value (c.ends_in_start.ensures.0 c.if-ends_in_start.true));
+    }
 
-pub returns-then-closes-clause-steps : goal.returns-then-closes-clause-steps
-returns-then-closes-clause-steps c =
+pub returns-then-ends_in_start-clause-steps : goal.returns-then-ends_in_start-clause-steps
+returns-then-ends_in_start-clause-steps c =
     let s = c.loop-i.store in
     let t = task_at c.args.store.now c.args.task.now in
     let names = c.args.names.now in
@@ -83,9 +86,9 @@ returns-then-closes-clause-steps c =
     let r = reading_at s c.loop-i.formulas.items c.loop-i.steps.items in
     let i = c.loop-i.i in
     let past : length ls ≤ i = subst (λ n. n ≤ i) (sym (texts_length all)) (search rules) in
-    let done = subst (λ x. Closes x r.steps) (task_later c.args.store.now s c.loop-i.invariant.grows c.args.task.now c.requires)
-    (subst (λ l. Closes (task_at s c.args.task.now) (steps_at s l)) c.deref-2.ensures.value (c.closes.ensures.0 c.if-closes.true)) in
-    subst (λ l. AreRead t names c.args.tallest nothing_read l r.steps) c.in_ok-all.ensures (stands_read t names c.args.tallest ls r i c.loop-i.invariant.stands past done.starts)
+    let starts : last_starts t r.steps = subst (λ x. last_starts x r.steps) (task_later c.args.store.now s c.loop-i.invariant.grows c.args.task.now c.requires)
+    (subst (λ l. last_starts (task_at s c.args.task.now) (steps_at s l)) c.deref-2.ensures.value (c.ends_in_start.ensures.0 c.if-ends_in_start.true)) in
+    subst (λ l. AreRead t names c.args.tallest nothing_read l r.steps) c.in_ok-all.ensures (stands_read t names c.args.tallest ls r i c.loop-i.invariant.stands past starts)
 
 pub returns-clause-fault : goal.returns-clause-fault
 returns-clause-fault c =
@@ -99,7 +102,7 @@ returns-clause-fault c =
     let e : task_at s c.args.task.now ≡ t = task_later c.args.store.now s c.loop-i.invariant.grows c.args.task.now c.requires in
     let past : length ls ≤ i = subst (λ n. n ≤ i) (sym (texts_length all)) (search rules) in
     let same : i ≡ c.len.result = search rules in
-    let n : last_starts t r.steps → ⊥ = λ starts. no_true (c.if-closes.ensures.1 (subst (λ l. Closes (task_at s c.args.task.now) (steps_at s l)) (sym c.deref-2.ensures.value)
-    (subst (λ x. Closes x r.steps) (sym e) (record { right = c.loop-i.invariant.stands.right; starts = starts })))) in
+    let n : last_starts t r.steps → ⊥ = λ starts. no_true (c.if-ends_in_start.ensures.1 (subst (λ l. last_starts (task_at s c.args.task.now) (steps_at s l)) (sym c.deref-2.ensures.value)
+    (subst (λ x. last_starts x r.steps) (sym e) starts))) in
     let w = subst (λ l. IsWrongLine t names c.args.tallest nothing_read l i) c.in_ok-all.ensures (stands_unfinished t names c.args.tallest ls r i c.loop-i.invariant.stands past n) in
-    subst (IsFault t names c.args.tallest c.args.bytes.now) (sym c.wrong_after-else-closes.ensures) (c.len.result, refl, subst (IsWrongLine t names c.args.tallest nothing_read _) same w)
+    subst (IsFault t names c.args.tallest c.args.bytes.now) (sym c.wrong_after-else-ends_in_start.ensures) (c.len.result, refl, subst (IsWrongLine t names c.args.tallest nothing_read _) same w)
