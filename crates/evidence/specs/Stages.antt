@@ -4,13 +4,20 @@ use Rattle.trees.specs.Tree.{Tree, Leaf, One, HEnd, HNot}
 use Rattle.trees.specs.Binding.{inst_types}
 use Rattle.tasks.specs.declared.task.Task.{Task}
 use Rattle.tasks.specs.Task.{TaskTree, Proposition, made, props, neg, start}
-use Rattle.tasks.specs.Valid.{IsValid, IsTypeOver, IsGroundFormula}
+use Rattle.tasks.specs.Valid.{IsValid, IsTypeOver}
 use Rattle.tasks.specs.Meaning.{task_at, TaskHeld}
 use Rattle.kernel.specs.declared.rule.Step.{Step}
 use Rattle.kernel.specs.Trees.{StepTree}
 use Rattle.kernel.specs.Rows.{Closes, step_or}
 use Rattle.kernel.specs.Meaning.{steps_at, StepsHeld}
 use Rattle.evidence.specs.Drafts.{DraftTree, Refutes}
+use Rattle.evidence.specs.declared.stage.StageFault.{StageFault}
+use Rattle.evidence.specs.declared.stage.StageFault.TheVariants.{Memory}
+
+-- want of memory, or a fault for which the equation refuses the task
+abbrev pub IsStageFault : (StageFault → Type 0) → StageFault → Type 0
+IsStageFault refuses Memory = Unit {0}
+IsStageFault refuses fault = refuses fault
 
 abbrev pub no_task : TaskTree
 no_task = record { symbols = []; rigid = []; decls = []; params = []; locals = []; goal = Leaf HEnd }
@@ -33,7 +40,6 @@ pub record IsFact (from t : TaskTree) (k : ℕ) (types : List Tree) : Type 0 whe
   pub place : k < length (props t)
   pub as_many : length types ≡ (prop_or (props t) k).vars
   pub ground : All (IsTypeOver from 0) types
-  pub formula : IsGroundFormula from (fact_of t k types)
 
 -- the task has the symbols of the other, and declares the same ones
 pub record KeepsDeclared (from t : TaskTree) : Type 0 where
@@ -107,7 +113,3 @@ pub record PartsClose (tasks : List TaskTree) (parts : List (List StepTree)) : T
 abbrev pub IsNegation : Tree → Type 0
 IsNegation (One HNot a) = Unit {0}
 IsNegation _ = ⊥
-
--- the sequents have formulas of the task alone
-abbrev pub HasFormulas : TaskTree → List StepTree → Type 0
-HasFormulas t steps = (k : ℕ) → k < length steps → All (IsGroundFormula t) (step_or steps k).sequent

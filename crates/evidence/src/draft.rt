@@ -6,6 +6,7 @@ ghost use Rattle.tasks.specs.Valid.{IsValid};
 ghost use Rattle.kernel.specs.Rows.{IsRight, AreRight};
 ghost use Rattle.kernel.specs.Meaning.{step_at, steps_at, StepHeld, StepsHeld};
 ghost use Rattle.evidence.specs.Drafts.{Extends, Refutes, cut_step, keep_step};
+ghost use Rattle.evidence.specs.Propositional.{StepInForm, StepsInForm};
 ghost use Rattle.evidence.specs.Laws.{Extends_refl, Extends_trans, Extends_trees};
 
 use kernel::{Rule, Step};
@@ -71,6 +72,7 @@ impl Draft {
         ensures held { StepsHeld self.now.trees result.now }
         ensures trees { steps_at self.now.trees result.now ≡ self.now.steps }
         ensures right { AreRight self.now.task self.now.steps }
+        ensures form { StepsInForm self.now.task self.now.steps }
     {
         &self.steps
     }
@@ -81,6 +83,7 @@ impl Draft {
         ensures held { StepsHeld result.0 result.1.items }
         ensures steps { steps_at result.0 result.1.items ≡ self.steps }
         ensures right { AreRight self.task self.steps }
+        ensures form { StepsInForm self.task self.steps }
     {
         let Draft {
             store,
@@ -96,10 +99,11 @@ impl Draft {
         self.alloc
     }
 
-    /// Puts a right step at the end, and gives its number.
+    /// Puts a right step at the end, and gives its number. In a propositional task it is a propositional step.
     pub fn push(&mut self, step: Step) -> Result<usize, AllocError>
         requires held { StepHeld self.old.trees step }
         requires right { IsRight self.old.task self.old.steps (step_at self.old.trees step) }
+        requires form { StepInForm self.old.task (step_at self.old.trees step) }
         ensures number { IfOk result (λ k. k ≡ length self.old.steps) }
         ensures pushed { IfOk result (λ _. self.new ≡ record self.old { steps = self.old.steps ++ step_at self.old.trees step ∷ [] }) }
         ensures unchanged { OnErr result (self.new ≡ self.old) }
@@ -122,6 +126,7 @@ impl Draft {
         requires sequent_held { All (Holds self.old.trees) sequent.now }
         requires formula_held { Holds self.old.trees formula }
         requires right { IsRight self.old.task self.old.steps (cut_step (trees_at self.old.trees sequent.now) (tree_at self.old.trees formula) yes no) }
+        requires form { StepInForm self.old.task (cut_step (trees_at self.old.trees sequent.now) (tree_at self.old.trees formula) yes no) }
         ensures refutes { IfOk result (λ k. Refutes self.new k (trees_at self.old.trees sequent.now)) }
         ensures grows { Extends self.old self.new }
     {
@@ -143,6 +148,7 @@ impl Draft {
     ) -> Result<usize, AllocError>
         requires sequent_held { All (Holds self.old.trees) sequent.now }
         requires right { IsRight self.old.task self.old.steps (keep_step (trees_at self.old.trees sequent.now) places.now step) }
+        requires form { StepInForm self.old.task (keep_step (trees_at self.old.trees sequent.now) places.now step) }
         ensures refutes { IfOk result (λ k. Refutes self.new k (trees_at self.old.trees sequent.now)) }
         ensures grows { Extends self.old self.new }
     {

@@ -7,4 +7,5 @@ mod lift;
 mod stage;
 
 pub use draft::Draft;
+pub use lift::lift_stage;
 pub use stage::{StageFault, Transform};

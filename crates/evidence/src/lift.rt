@@ -7,7 +7,8 @@ ghost use Rattle.tasks.specs.Meaning.{trees_at, task_at, tasks_at, TasksHeld};
 ghost use Rattle.kernel.specs.Rows.{IsRight, AreRight, Closes, step_or};
 ghost use Rattle.kernel.specs.Meaning.{step_at, steps_at, StepHeld, StepsHeld};
 ghost use Rattle.evidence.specs.Drafts.{Extends, Refutes};
-ghost use Rattle.evidence.specs.Stages.{IsNegation, HasFormulas, IsOwn, InStage, StandFor, HasSequents, IsCutBy, parts_at, PartsHeld, PartsClose};
+ghost use Rattle.evidence.specs.Propositional.{InForm, AllInForm, StepInForm, StepsInForm};
+ghost use Rattle.evidence.specs.Stages.{IsNegation, IsOwn, InStage, StandFor, HasSequents, IsCutBy, parts_at, PartsHeld, PartsClose};
 
 use crate::{Draft, Transform};
 use kernel::{Rule, Step};
@@ -54,6 +55,7 @@ fn renumbered(
 fn lift_other(step: &Step, premises: Seq<usize>, draft: &mut Draft) -> Result<usize, AllocError>
     requires held { StepHeld draft.old.trees step.now }
     requires right { IsRight draft.old.task draft.old.steps (record (step_at draft.old.trees step.now) { premises = premises }) }
+    requires form { StepInForm draft.old.task (step_at draft.old.trees step.now) }
     ensures refutes { IfOk result (λ k. Refutes draft.new k (trees_at draft.old.trees step.now.sequent)) }
     ensures grows { Extends draft.old draft.new }
 {
@@ -75,6 +77,7 @@ fn lift_fact(
 ) -> Result<usize, AllocError>
     requires held { All (Holds draft.old.trees) sequent.now }
     requires formulas { All (IsGroundFormula draft.old.task) (trees_at draft.old.trees sequent.now) }
+    requires form { AllInForm draft.old.task (trees_at draft.old.trees sequent.now) }
     requires cut { IsCutBy draft.old (trees_at draft.old.trees sequent.now) with_fact lemma }
     ensures refutes { IfOk result (λ k. Refutes draft.new k (trees_at draft.old.trees sequent.now)) }
     ensures grows { Extends draft.old draft.new }
@@ -94,6 +97,7 @@ fn only_formula(draft: &Draft, number: usize) -> TermId
     ensures held { Holds draft.now.trees result }
     ensures tree { (step_or draft.now.steps number).sequent ≡ tree_at draft.now.trees result ∷ [] }
     ensures formula { IsGroundFormula draft.now.task (tree_at draft.now.trees result) }
+    ensures form { InForm draft.now.task (tree_at draft.now.trees result) }
 {
     draft.steps()[number].sequent.as_slice()[0]
 }
@@ -124,9 +128,9 @@ fn lift_step<T: Transform>(
     requires stage { InStage (T.becomes stage.now) draft.old from.now to.now }
     requires lifts { T.lifts stage.now draft.old.task }
     requires held { StepHeld draft.old.trees step.now }
-    requires formulas { HasFormulas (task_at draft.old.trees to.now) (steps_at draft.old.trees before.now) }
     requires right { IsRight (task_at draft.old.trees to.now) (steps_at draft.old.trees before.now) (step_at draft.old.trees step.now) }
     requires numbers { StandFor draft.old numbers.now (steps_at draft.old.trees before.now) }
+    requires form { StepInForm draft.old.task (step_at draft.old.trees step.now) }
     ensures refutes { IfOk result (λ k. Refutes draft.new k (trees_at draft.old.trees step.now.sequent)) }
     ensures grows { Extends draft.old draft.new }
 {
@@ -157,6 +161,7 @@ fn lift_part<T: Transform>(
     requires lifts { T.lifts stage.now draft.old.task }
     requires held { StepsHeld draft.old.trees part.now }
     requires right { AreRight (task_at draft.old.trees to.now) (steps_at draft.old.trees part.now) }
+    requires form { StepsInForm draft.old.task (steps_at draft.old.trees part.now) }
     ensures numbers { IfOk result (λ v. StandFor draft.new v.items (steps_at draft.old.trees part.now)) }
     ensures grows { Extends draft.old draft.new }
 {
@@ -180,6 +185,7 @@ fn lift_end<T: Transform>(
     requires lifts { T.lifts stage.now draft.old.task }
     requires held { StepsHeld draft.old.trees part.now }
     requires closes { Closes (task_at draft.old.trees to.now) (steps_at draft.old.trees part.now) }
+    requires form { StepsInForm draft.old.task (steps_at draft.old.trees part.now) }
     ensures refutes { IfOk result (λ k. Refutes draft.new k (start (task_at draft.old.trees to.now))) }
     ensures sequents { IfOk result (λ _. HasSequents draft.new (steps_at draft.old.trees part.now)) }
     ensures grows { Extends draft.old draft.new }
@@ -190,7 +196,7 @@ fn lift_end<T: Transform>(
 
 /// From steps that derive each of the tasks that the draft's task becomes, a step whose sequent is the start of the
 /// draft's task. The draft then has, for each of those steps, a step with its sequent. After a refusal the draft has
-/// further right steps.
+/// further right steps. In a propositional task the handed steps are propositional.
 pub fn lift_stage<T: Transform>(
     stage: &T,
     from: &Task,
@@ -204,6 +210,7 @@ pub fn lift_stage<T: Transform>(
     requires becomes { T.becomes stage.now draft.old.task (tasks_at draft.old.trees to.now.items) }
     requires parts_held { PartsHeld draft.old.trees parts.now }
     requires close { PartsClose (tasks_at draft.old.trees to.now.items) (parts_at draft.old.trees parts.now) }
+    requires form { All (StepsInForm draft.old.task) (parts_at draft.old.trees parts.now) }
     ensures refutes { IfOk result (λ k. Refutes draft.new k (start draft.old.task)) }
     ensures sequents { IfOk result (λ _. All (HasSequents draft.new) (parts_at draft.old.trees parts.now)) }
     ensures grows { Extends draft.old draft.new }

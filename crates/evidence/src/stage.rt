@@ -1,11 +1,12 @@
 // Transformations, and the laws by which refutations of what they make are brought back.
-ghost use Rattle.std.specs.Prelude.{◌≡◌, List, [], ◌∷◌, All, IfOk, ⊤};
+ghost use Rattle.std.specs.Prelude.{◌≡◌, List, [], ◌∷◌, All, IfOk, IfErr, ⊤};
 ghost use Rattle.trees.specs.Node.{Holds, Grows};
 ghost use Rattle.tasks.specs.Task.{TaskTree, neg, start};
 ghost use Rattle.tasks.specs.Valid.{IsValid};
 ghost use Rattle.tasks.specs.Meaning.{trees_at, task_at, tasks_at, TaskHeld, TasksHeld};
 ghost use Rattle.evidence.specs.Drafts.{Extends, Refutes};
-ghost use Rattle.evidence.specs.Stages.{fact_of, IsFact, KeepsDeclared, IsOwn, InStage, EndIn};
+ghost use Rattle.evidence.specs.declared.stage.StageFault.{StageFault};
+ghost use Rattle.evidence.specs.Stages.{IsStageFault, fact_of, IsFact, KeepsDeclared, IsOwn, InStage, EndIn};
 
 use crate::Draft;
 use std::alloc::{AllocError, Global};
@@ -34,6 +35,9 @@ pub trait Transform {
     /// The equation: which tasks a task becomes.
     ghost becomes: { Self → TaskTree → List TaskTree → Type 0 };
 
+    /// Why a task becomes no tasks: by default it always does.
+    ghost refuses: { Self → TaskTree → StageFault → Type 0 } = { λ _ _ _. ⊥ };
+
     /// The tasks for which it brings refutations back.
     ghost lifts: { Self → TaskTree → Type 0 } = { λ _ _. ⊤ };
 
@@ -43,6 +47,7 @@ pub trait Transform {
         requires valid { IsValid (task_at store.old task.now) }
         ensures held { IfOk result (λ ts. TasksHeld store.new ts.items) }
         ensures tasks { IfOk result (λ ts. becomes self.now (task_at store.old task.now) (tasks_at store.new ts.items)) }
+        ensures fault { IfErr result (IsStageFault (refuses self.now (task_at store.old task.now))) }
         ensures grows { Grows store.old store.new };
 
     /// A step whose sequent is the negation of a fact of `to` at these types, alone: the proposition `prop` of a task

@@ -1,20 +1,21 @@
 -- Steps that cite a proposition are right.
-use Rattle.std.proofs.Common.{◌≡◌, ℕ, ◌<◌, List, [], ◌∷◌, ◌++◌, Some, IsSomeAnd, length, map, get_or, slice_get, All, refl, sym, ap, subst, ◌∙◌, arith}
+use Rattle.std.proofs.Common.{◌≡◌, ℕ, ◌<◌, List, [], ◌∷◌, Some, IsSomeAnd, length, slice_get, All, refl, sym, ap, subst, ◌∙◌}
 use Rattle.std.proofs.lemmas.List.Elements.{All-cons, All-nil}
 use Rattle.std.proofs.lemmas.Option.{slice_get-get_or}
 use Rattle.trees.specs.declared.TermId.{TermId}
-use Rattle.trees.specs.declared.Sort.TheVariants.{Kind}
-use Rattle.trees.specs.Tree.{Tree}
-use Rattle.trees.specs.Sorts.{sort_of}
+use Rattle.trees.specs.declared.Op.TheVariants.{And, Imp}
+use Rattle.trees.specs.Tree.{Tree, Leaf, One, Two, Three, HEnd, HNot, HPred, HJoin}
 use Rattle.trees.specs.Node.{tree_at, Holds}
 use Rattle.trees.specs.Binding.{inst_types}
-use Rattle.tasks.specs.Task.{TaskTree, Proposition, props, neg}
-use Rattle.tasks.specs.Valid.{IsTypeOver, IsGroundFormula}
+use Rattle.tasks.specs.Task.{TaskTree, Proposition, props}
+use Rattle.tasks.specs.Valid.{IsValid, IsTypeOver, IsGroundFormula}
 use Rattle.tasks.specs.Meaning.{trees_at}
-use Rattle.tasks.proofs.Growth.{trees_later, all_held_later}
-use Rattle.kernel.specs.Trees.{RFact, StepTree}
-use Rattle.kernel.specs.Rows.{IsRight, sequents, step_or}
+use Rattle.tasks.proofs.TypeInstances.{proposition_at_types}
+use Rattle.tasks.proofs.Growth.{trees_later}
+use Rattle.kernel.specs.Trees.{RFact}
+use Rattle.kernel.specs.Rows.{IsRight, sequents}
 use Rattle.evidence.specs.Drafts.{DraftTree, Extends, Refutes}
+use Rattle.evidence.specs.Propositional.{IsPropositional, InForm}
 use Rattle.evidence.specs.Stages.{IsFact, fact_of, prop_or, no_proposition}
 use Rattle.tr_split.specs.Glue.{IsFormulaAt}
 use Rattle.tr_split.specs.Instance.{AreKinds}
@@ -45,6 +46,28 @@ fact_same d d1 x k types h =
 pub fact_kinds : (d : DraftTree) (k : ℕ) (types : List Tree) → IsFact d.task d.task k types → AreKinds types
 fact_kinds d k types f i z h = (f.ground i z h).sort
 
-pub fact_formula : (d d1 : DraftTree) (x : Extends d d1) (k : ℕ) (types : List Tree) (id : TermId) → IsFact d.task d.task k types → Holds d1.trees id → tree_at d1.trees id ≡ fact_of d.task k types → IsFormulaAt d1 id
-fact_formula d d1 x k types id f h e =
-    record { held = h; ground = subst (IsGroundFormula d1.task) (sym e) (subst (λ (z : TaskTree). IsGroundFormula z (fact_of d.task k types)) (sym x.task) f.formula) }
+-- a propositional formula is its own instance at any types, and so it stays one
+in_form_at_types : (types : List Tree) (e : Tree) → IsPropositional e → IsPropositional (inst_types e types)
+in_form_at_types types (Leaf h) f = absurd f
+in_form_at_types types (One HNot a) f = in_form_at_types types a f
+in_form_at_types types (One _ a) f = absurd f
+in_form_at_types types (Two (HPred k) a b) f =
+    let P : Tree → Tree → Type 0 = λ x y. IsPropositional (inst_types (Two (HPred k) x y) types) in
+    subst (λ (x : Tree). P x b) (sym f.0) (subst (λ (y : Tree). P (Leaf HEnd) y) (sym f.1) (refl, refl))
+in_form_at_types types (Two (HJoin And) a b) f = (in_form_at_types types a f.0, in_form_at_types types b f.1)
+in_form_at_types types (Two (HJoin Imp) a b) f = (in_form_at_types types a f.0, in_form_at_types types b f.1)
+in_form_at_types types (Two _ a b) f = absurd f
+in_form_at_types types (Three h a b c) f = absurd f
+
+fact_in_form : (t : TaskTree) (k : ℕ) (types : List Tree) → k < length (props t) → InForm t (fact_of t k types)
+fact_in_form t k types l m = in_form_at_types types (prop_or (props t) k).formula (m.props k no_proposition l).1
+
+-- the number of an instance of a proposition of a valid task
+pub fact_formula : (d d1 : DraftTree) (x : Extends d d1) (k : ℕ) (types : List Tree) (id : TermId) → IsValid d.task → IsFact d.task d.task k types → Holds d1.trees id → tree_at d1.trees id ≡ fact_of d.task k types → IsFormulaAt d1 id
+fact_formula d d1 x k types id v f h e =
+    let ground : IsGroundFormula d.task (fact_of d.task k types) = proposition_at_types d.task v k no_proposition f.place types f.ground f.as_many in
+    record {
+      held = h;
+      ground = subst (IsGroundFormula d1.task) (sym e) (subst (λ (z : TaskTree). IsGroundFormula z (fact_of d.task k types)) (sym x.task) ground);
+      form = subst (InForm d1.task) (sym e) (subst (λ (z : TaskTree). InForm z (fact_of d.task k types)) (sym x.task) (fact_in_form d.task k types f.place));
+    }

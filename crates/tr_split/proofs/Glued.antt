@@ -1,12 +1,11 @@
 -- What a valid task and the ends of its parts give.
-use Rattle.std.proofs.Common.{◌≡◌, ℕ, ◌<◌, List, [], ◌∷◌, ◌++◌, length, map, get_or, slice_get, Option, Some, None, All, refl, sym, ap, subst, ◌∙◌, arith}
+use Rattle.std.proofs.Common.{◌≡◌, ℕ, ◌<◌, List, [], ◌∷◌, ◌++◌, length, map, get_or, slice_get, Some, None, All, refl, sym, ap, subst, ◌∙◌, arith}
 use Rattle.std.proofs.lemmas.List.{get_or-map, length-map}
 use Rattle.std.proofs.lemmas.Option.{get_or_from_slice_get, slice_get-get_or}
 use Rattle.std.proofs.lemmas.List.Elements.{All-weaker, All-map}
 use Rattle.trees.specs.Tree.{Tree, Leaf, HEnd}
 use Rattle.trees.specs.Node.{tree_at}
 use Rattle.trees.specs.Binding.{inst_types}
-use Rattle.std.specs.Option.{option_map}
 use Rattle.tasks.specs.Meaning.{proposition_at}
 use Rattle.tasks.specs.declared.proposition.Proposition.{Proposition as StoredProposition}
 use Rattle.tasks.specs.declared.task.Task.{Task}
@@ -15,6 +14,7 @@ use Rattle.tasks.specs.Valid.{IsFormula, IsGroundFormula}
 use Rattle.tasks.specs.Meaning.{trees_at}
 use Rattle.tasks.specs.Copying.{with_goal}
 use Rattle.evidence.specs.Drafts.{DraftTree, Refutes}
+use Rattle.evidence.specs.Propositional.{InForm, AllInForm}
 use Rattle.evidence.specs.Stages.{IsOwn, EndIn, IsAmong, IsFact, fact_of, prop_or, no_task, start_of, no_proposition}
 use Rattle.tr_split.specs.Split.{split, split_task}
 use Rattle.tr_split.specs.Glue.{AreFormulas, IsFormulaAt, Ends}
@@ -25,10 +25,13 @@ ground_of t e f = record { sort = f.sort; typed = f.typed; ground = f.variables 
 pub own_locals : (d : DraftTree) (from : Task) → IsOwn d from → AreFormulas d from.locals
 own_locals d from o =
     let ground : All (IsGroundFormula d.task) d.task.locals = All-weaker (IsFormula d.task d.task.params 0) (IsGroundFormula d.task) (ground_of d.task) d.task.locals o.valid.locals in
-    record { held = o.held.locals; ground = subst (All (IsGroundFormula d.task)) (sym (ap (λ (t : TaskTree). t.locals) o.is)) ground }
+    let form : AllInForm d.task d.task.locals = λ m. m.locals in
+    record { held = o.held.locals; ground = subst (All (IsGroundFormula d.task)) (sym (ap (λ (t : TaskTree). t.locals) o.is)) ground; form = subst (AllInForm d.task) (sym (ap (λ (t : TaskTree). t.locals) o.is)) form }
 
 pub own_goal : (d : DraftTree) (from : Task) → IsOwn d from → IsFormulaAt d from.goal
-own_goal d from o = record { held = o.held.goal; ground = subst (IsGroundFormula d.task) (sym (ap (λ (t : TaskTree). t.goal) o.is)) (ground_of d.task d.task.goal o.valid.goal) }
+own_goal d from o =
+    let form : InForm d.task d.task.goal = λ m. m.goal in
+    record { held = o.held.goal; ground = subst (IsGroundFormula d.task) (sym (ap (λ (t : TaskTree). t.goal) o.is)) (ground_of d.task d.task.goal o.valid.goal); form = subst (InForm d.task) (sym (ap (λ (t : TaskTree). t.goal) o.is)) form }
 
 starts_at : (t : TaskTree) (es : List Tree) (i : ℕ) → i < length es → start_of (map (with_goal t) es) i ≡ t.locals ++ neg (get_or es i (Leaf HEnd)) ∷ []
 starts_at t es i h = ap start (get_or-map (with_goal t) es i (Leaf HEnd) no_task h)
@@ -64,7 +67,6 @@ own_fact d t k types a f =
       place = subst (λ (z : List Proposition). k < length z) e f.place;
       as_many = f.as_many ∙ ap (λ (z : List Proposition). (prop_or z k).vars) e;
       ground = f.ground;
-      formula = subst (IsGroundFormula d.task) (fact_kept d.task t k types a) f.formula;
     }
 
 -- the number of a proposition's formula

@@ -1,9 +1,8 @@
 -- A tree at types is made of its parts at those types.
-use Rattle.std.proofs.Common.{◌≡◌, ℕ, ◌<◌, ◌≤◌, ◌+◌, List, length, get_or, All, inl, inr, refl, sym, ap, subst, ◌∙◌, arith}
+use Rattle.std.proofs.Common.{◌≡◌, ℕ, ◌+◌, List, length, All, inl, inr, refl, sym, ap, subst, ◌∙◌}
 use Rattle.std.proofs.lemmas.List.{get_or_past}
 use Rattle.std.proofs.lemmas.Bool.{cases_lt}
-use Rattle.trees.specs.declared.Sort.TheVariants.{Kind}
-use Rattle.trees.specs.Tree.{Tree, Leaf, One, Two, Three, Head, HTyVar, HBound, HParam, binders_over}
+use Rattle.trees.specs.Tree.{Tree, Leaf, One, Two, Three, Head, HBound, HParam, binders_over}
 use Rattle.trees.specs.Sorts.{sort_of, Fits}
 use Rattle.trees.specs.Binding.{change, one_by, typing, inst_types, TyVar}
 use Rattle.trees.specs.Facts.{PutsSorts}

@@ -8,6 +8,7 @@ use Rattle.tasks.specs.Task.{neg}
 use Rattle.tasks.specs.Valid.{IsGroundFormula}
 use Rattle.tasks.specs.Meaning.{trees_at}
 use Rattle.evidence.specs.Drafts.{DraftTree, Refutes}
+use Rattle.evidence.specs.Propositional.{InForm, AllInForm}
 use Rattle.evidence.specs.Stages.{HaveSequents}
 use Rattle.tr_split.specs.declared.glue.Under.{Under}
 use Rattle.tr_split.specs.Split.{imp}
@@ -36,6 +37,7 @@ Ends d ends front parts = HaveSequents d ends (end_of front parts) (length parts
 pub record AreFormulas (d : DraftTree) (ids : List TermId) : Type 0 where
   pub held : All (Holds d.trees) ids
   pub ground : All (IsGroundFormula d.task) (trees_at d.trees ids)
+  pub form : AllInForm d.task (trees_at d.trees ids)
 
 -- so many numbers from this one on
 abbrev pub counted : ℕ → ℕ → List ℕ
@@ -49,6 +51,7 @@ conj a b = Two (HJoin And) a b
 pub record IsFormulaAt (d : DraftTree) (id : TermId) : Type 0 where
   pub held : Holds d.trees id
   pub ground : IsGroundFormula d.task (tree_at d.trees id)
+  pub form : InForm d.task (tree_at d.trees id)
 
 -- the numbers of a hypothesis, a part, the implication of the two, and their negations
 pub record IsUnder (d : DraftTree) (u : Under) : Type 0 where

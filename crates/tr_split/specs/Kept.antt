@@ -1,5 +1,5 @@
 -- The tasks of a split keep the symbols and the declarations.
-use Rattle.std.specs.Prelude.{◌≡◌, ℕ, List, map, All, refl}
+use Rattle.std.specs.Prelude.{◌≡◌, List, All, refl}
 use Rattle.std.proofs.Common.{subst, sym}
 use Rattle.std.proofs.lemmas.List.Elements.{All-map}
 use Rattle.trees.specs.Tree.{Tree}

@@ -5,6 +5,7 @@ ghost use Rattle.tasks.specs.Meaning.{trees_at};
 ghost use Rattle.kernel.specs.Rows.{IsRight};
 ghost use Rattle.kernel.specs.Meaning.{rule_at, RuleHeld};
 ghost use Rattle.evidence.specs.Drafts.{Extends, Refutes};
+ghost use Rattle.evidence.specs.Propositional.{StepInForm};
 ghost use Rattle.tr_split.specs.Glue.{AreFormulas, counted};
 
 use evidence::Draft;
@@ -38,6 +39,7 @@ pub(crate) fn derive(
     requires tail_held { All (Holds draft.old.trees) tail.now }
     requires rule_held { RuleHeld draft.old.trees rule }
     requires right { IsRight draft.old.task draft.old.steps (record { sequent = trees_at draft.old.trees front.now ++ trees_at draft.old.trees tail.now; rule = rule_at draft.old.trees rule; premises = premises.now }) }
+    requires form { StepInForm draft.old.task (record { sequent = trees_at draft.old.trees front.now ++ trees_at draft.old.trees tail.now; rule = rule_at draft.old.trees rule; premises = premises.now }) }
     ensures refutes { IfOk result (λ k. Refutes draft.new k (trees_at draft.old.trees front.now ++ trees_at draft.old.trees tail.now)) }
     ensures grows { Extends draft.old draft.new }
 {

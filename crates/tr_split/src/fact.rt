@@ -3,6 +3,7 @@ ghost use Rattle.std.specs.Prelude.{◌≡◌, [], ◌∷◌, All, IfOk};
 ghost use Rattle.trees.specs.Node.{tree_at, Holds};
 ghost use Rattle.tasks.specs.Task.{neg, props};
 ghost use Rattle.tasks.specs.Meaning.{trees_at};
+ghost use Rattle.tasks.specs.Valid.{IsValid};
 ghost use Rattle.evidence.specs.Drafts.{Extends, Refutes};
 ghost use Rattle.evidence.specs.Stages.{IsFact, fact_of, prop_or};
 ghost use Rattle.tr_split.specs.Glue.{IsFormulaAt};
@@ -57,6 +58,7 @@ fn lemma_of(
     requires formula { IsFormulaAt draft.old fact }
     requires types_held { All (Holds draft.old.trees) types.now }
     requires fact { IsFact draft.old.task draft.old.task prop (trees_at draft.old.trees types.now) }
+    requires valid { IsValid draft.old.task }
     requires is { tree_at draft.old.trees fact ≡ fact_of draft.old.task prop (trees_at draft.old.trees types.now) }
     ensures refutes { IfOk result (λ k. Refutes draft.new k (neg (fact_of draft.old.task prop (trees_at draft.old.trees types.now)) ∷ [])) }
     ensures grows { Extends draft.old draft.new }
@@ -76,6 +78,7 @@ pub(crate) fn base_lemma(
     requires formula_held { Holds draft.old.trees formula }
     requires types_held { All (Holds draft.old.trees) types.now }
     requires fact { IsFact draft.old.task draft.old.task prop (trees_at draft.old.trees types.now) }
+    requires valid { IsValid draft.old.task }
     requires is { (prop_or (props draft.old.task) prop).formula ≡ tree_at draft.old.trees formula }
     ensures refutes { IfOk result (λ k. Refutes draft.new k (neg (fact_of draft.old.task prop (trees_at draft.old.trees types.now)) ∷ [])) }
     ensures grows { Extends draft.old draft.new }

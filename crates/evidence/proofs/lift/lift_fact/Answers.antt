@@ -3,10 +3,11 @@ use Rattle.std.proofs.lemmas.Result.{IfOk-weaker}
 use Rattle.trees.specs.declared.TermId.{TermId}
 use Rattle.trees.specs.Tree.{Tree}
 use Rattle.trees.specs.Node.{tree_at}
+use Rattle.tasks.specs.Meaning.{trees_at}
 use Rattle.tasks.proofs.Growth.{trees_later}
 use Rattle.evidence.specs.Drafts.{Refutes}
 use Rattle.evidence.specs.Laws.{Extends_trans}
-use Rattle.evidence.proofs.Lifted.{negation_of, fact_kept, fact_cut}
+use Rattle.evidence.proofs.Lifted.{negation_of, fact_kept, fact_cut, keep_in_form, cut_in_form, wide_trees}
 use Rattle.evidence.proofs.lift.lift_fact.Goals as goal
 
 pub keep-requires-clause-right : goal.keep-requires-clause-right
@@ -16,6 +17,23 @@ keep-requires-clause-right c =
     let ids = c.args.sequent.now in
     let w : c.deref.result.now ≡ ids ++ n ∷ [] = c.deref.ensures.value ∙ c.in_ok-push.ensures.items ∙ ap (λ (z : List TermId). z ++ n ∷ []) c.in_ok-wide.ensures.items in
     fact_kept d ids c.deref.result.now n c.args.lemma w c.requires.formulas c.only_formula-negation.ensures.formula c.only_formula-negation.ensures.tree c.requires.cut.proved.within
+
+pub keep-requires-clause-form : goal.keep-requires-clause-form
+keep-requires-clause-form c =
+    let d = c.args.draft.now in
+    let n = c.only_formula-negation.result in
+    let ids = c.args.sequent.now in
+    let w : c.deref.result.now ≡ ids ++ n ∷ [] = c.deref.ensures.value ∙ c.in_ok-push.ensures.items ∙ ap (λ (z : List TermId). z ++ n ∷ []) c.in_ok-wide.ensures.items in
+    keep_in_form d.task (trees_at d.trees ids) (trees_at d.trees c.deref.result.now) (tree_at d.trees n) _ c.args.lemma (wide_trees d.trees ids c.deref.result.now n w) c.requires.form c.only_formula-negation.ensures.form
+
+pub cut-requires-clause-form : goal.cut-requires-clause-form
+cut-requires-clause-form c =
+    let d = c.args.draft.now in
+    let d1 = c.keep.new.self in
+    let n = c.only_formula-negation.result in
+    let x = c.in_ok-without.ensures.grows in
+    cut_in_form d.task d1.task (trees_at d.trees c.args.sequent.now) (trees_at d1.trees c.args.sequent.now) (tree_at d.trees n) (tree_at d.trees c.negated-fact.result) (tree_at d1.trees c.negated-fact.result) c.args.with_fact c.in_ok-without.without
+    x.task (trees_later d.trees d1.trees x.trees c.args.sequent.now c.requires.held) (x.trees.same _ c.negated-fact.ensures.held) c.negated-fact.ensures.tree c.requires.form c.only_formula-negation.ensures.form
 
 pub cut-requires-clause-right : goal.cut-requires-clause-right
 cut-requires-clause-right c =

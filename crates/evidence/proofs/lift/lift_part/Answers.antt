@@ -4,7 +4,7 @@ use Rattle.kernel.specs.Meaning.{steps_at}
 use Rattle.evidence.specs.Drafts.{Refutes}
 use Rattle.evidence.specs.Stages.{sequent_of}
 use Rattle.evidence.specs.Laws.{Extends_trans}
-use Rattle.evidence.proofs.Lifted.{in_stage_later, lifts_later, part_right, part_formulas, stand_part, step_sequent, have_more}
+use Rattle.evidence.proofs.Lifted.{in_stage_later, lifts_later, part_right, part_step_form, stand_part, step_sequent, have_more}
 use Rattle.evidence.proofs.lift.lift_part.Goals as goal
 
 pub lift_step-requires-clause-stage : goal.lift_step-requires-clause-stage
@@ -13,9 +13,8 @@ lift_step-requires-clause-stage g c = in_stage_later (g.T.Transform.becomes c.ar
 pub lift_step-requires-clause-lifts : goal.lift_step-requires-clause-lifts
 lift_step-requires-clause-lifts g c = lifts_later (g.T.Transform.lifts c.args.stage.now) c.args.draft.now c.loop-j.draft c.loop-j.invariant.grows c.requires.lifts
 
-pub lift_step-requires-clause-formulas : goal.lift_step-requires-clause-formulas
-lift_step-requires-clause-formulas g c = part_formulas c.args.draft.now c.loop-j.draft c.args.part.now c.loop-j.invariant.grows c.requires.held c.args.to.now c.loop-j.j
-    c.requires.stage.held c.requires.right c.loop-j-test.true
+pub lift_step-requires-clause-form : goal.lift_step-requires-clause-form
+lift_step-requires-clause-form g c = part_step_form c.args.draft.now c.loop-j.draft c.args.part.now c.loop-j.invariant.grows c.requires.held c.loop-j.j c.index-part-j.result c.requires.form c.loop-j-test.true c.index-part-j.is
 
 pub lift_step-requires-clause-right : goal.lift_step-requires-clause-right
 lift_step-requires-clause-right g c = part_right c.args.draft.now c.loop-j.draft c.args.part.now c.loop-j.invariant.grows c.requires.held c.args.to.now c.loop-j.j c.index-part-j.result

@@ -10,7 +10,7 @@ use Rattle.kernel.specs.Meaning.{steps_at}
 use Rattle.evidence.specs.Drafts.{Refutes}
 use Rattle.evidence.specs.Stages.{HasSequents, start_of, parts_at, part_or}
 use Rattle.evidence.specs.Laws.{Extends_trans}
-use Rattle.evidence.proofs.Lifted.{in_stage_later, in_stage_of, own_later, lifts_later, closes_later, start_later, part_later, part_held_later, have_more, sequents_more, tasks_later, tasks_held_later, end_all, has_later}
+use Rattle.evidence.proofs.Lifted.{in_stage_later, in_stage_of, own_later, lifts_later, closes_later, form_later, start_later, part_later, part_held_later, have_more, sequents_more, tasks_later, tasks_held_later, end_all, has_later}
 use Rattle.evidence.proofs.lift.lift_stage.Goals as goal
 
 pub lift_end-requires-clause-stage : goal.lift_end-requires-clause-stage
@@ -34,6 +34,15 @@ lift_end-requires-clause-held g c =
     let parts = c.args.parts.now in
     let m : i < length parts = omega (arith, c.requires.close.as_many, length-map parts (steps_at d.trees), length-map to (task_at d.trees), c.args.to.now.ok.0) in
     part_held_later d c.loop-i.draft c.loop-i.invariant.grows parts i c.index-parts-i.result c.as_slice.result.now c.requires.parts_held m c.index-parts-i.is c.as_slice.ensures
+
+pub lift_end-requires-clause-form : goal.lift_end-requires-clause-form
+lift_end-requires-clause-form g c =
+    let d = c.args.draft.now in
+    let to = c.args.to.now.items in
+    let i = c.loop-i.i in
+    let parts = c.args.parts.now in
+    let m : i < length parts = omega (arith, c.requires.close.as_many, length-map parts (steps_at d.trees), length-map to (task_at d.trees), c.args.to.now.ok.0) in
+    form_later d c.loop-i.draft c.loop-i.invariant.grows parts i c.index-parts-i.result c.as_slice.result.now c.requires.parts_held c.requires.form m c.index-parts-i.is c.as_slice.ensures
 
 pub lift_end-requires-clause-closes : goal.lift_end-requires-clause-closes
 lift_end-requires-clause-closes g c =

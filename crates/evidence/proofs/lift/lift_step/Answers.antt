@@ -9,7 +9,7 @@ use Rattle.kernel.specs.Meaning.{rule_at, step_at, steps_at}
 use Rattle.evidence.specs.Drafts.{Refutes}
 use Rattle.evidence.specs.Laws.{Extends_trans}
 use Rattle.evidence.specs.Stages.{fact_of}
-use Rattle.evidence.proofs.Lifted.{cites, cites_none, right_lifted, among_keeps, formulas_lifted, cut_lifted}
+use Rattle.evidence.proofs.Lifted.{cites, cites_none, right_lifted, among_keeps, formulas_lifted, all_in_form_later, cut_lifted}
 use Rattle.evidence.proofs.lift.lift_step.Goals as goal
 
 pub fact-requires-clause-fact : goal.fact-requires-clause-fact
@@ -20,7 +20,7 @@ fact-requires-clause-fact g c =
     let kept = among_keeps (g.T.Transform.becomes c.args.stage.now d.task) d.task (task_at s to) (g.met.T.Transform.keeps_declared c.args.stage.now d.task) c.requires.stage.among in
     let p : c.in_ok-premises.premises ≡ map (λ (z : ℕ). get_or c.args.numbers.now z 0) c.args.step.now.premises = c.in_ok-premises.ensures ∙ ap (map (λ (z : ℕ). get_or c.args.numbers.now z 0)) c.as_slice.ensures in
     let q = cites d (task_at s to) (steps_at s c.args.before.now) (step_at s c.args.step.now) c.in-Fact.k (trees_at s c.in-Fact.types) c.args.numbers.now c.in_ok-premises.premises kept
-    c.requires.formulas c.requires.right (ap (rule_at s) c.in-Fact.is) c.requires.numbers p in
+    c.requires.right (ap (rule_at s) c.in-Fact.is) c.requires.numbers p in
     rw c.as_slice-in-Fact.ensures q.fact
 
 pub lift_fact-requires-clause-formulas : goal.lift_fact-requires-clause-formulas
@@ -32,6 +32,12 @@ lift_fact-requires-clause-formulas g c =
     rw c.as_slice-in-Fact-2.ensures
     (formulas_lifted d c.fact.new.draft (task_at s to) c.args.step.now.sequent kept c.in_ok-lemma-in-Fact.ensures.grows c.requires.held.sequent c.requires.right.formulas)
 
+pub lift_fact-requires-clause-form : goal.lift_fact-requires-clause-form
+lift_fact-requires-clause-form g c =
+    let d = c.args.draft.now in
+    rw c.as_slice-in-Fact-2.ensures
+    (all_in_form_later d c.fact.new.draft c.args.step.now.sequent c.in_ok-lemma-in-Fact.ensures.grows c.requires.held.sequent (λ m. (c.requires.form m).sequent))
+
 pub lift_fact-requires-clause-cut : goal.lift_fact-requires-clause-cut
 lift_fact-requires-clause-cut g c =
     let d = c.args.draft.now in
@@ -41,7 +47,7 @@ lift_fact-requires-clause-cut g c =
     let kept = among_keeps (g.T.Transform.becomes c.args.stage.now d.task) d.task (task_at s to) (g.met.T.Transform.keeps_declared c.args.stage.now d.task) c.requires.stage.among in
     let p : c.in_ok-premises.premises ≡ map (λ (z : ℕ). get_or c.args.numbers.now z 0) c.args.step.now.premises = c.in_ok-premises.ensures ∙ ap (map (λ (z : ℕ). get_or c.args.numbers.now z 0)) c.as_slice.ensures in
     let q = cites d (task_at s to) (steps_at s c.args.before.now) (step_at s c.args.step.now) c.in-Fact.k (trees_at s c.in-Fact.types) c.args.numbers.now c.in_ok-premises.premises kept
-    c.requires.formulas c.requires.right (ap (rule_at s) c.in-Fact.is) c.requires.numbers p in
+    c.requires.right (ap (rule_at s) c.in-Fact.is) c.requires.numbers p in
     let proved = subst (λ (z : List TermId). Refutes d1 c.in_ok-lemma-in-Fact.lemma (neg (fact_of (task_at s to) c.in-Fact.k (trees_at s z)) ∷ [])) c.as_slice-in-Fact.ensures c.in_ok-lemma-in-Fact.ensures.refutes in
     rw (c.as_slice-in-Fact-2.ensures, c.as_slice-in-Fact-3.ensures)
     (cut_lifted d d1 c.args.step.now.sequent (fact_of (task_at s to) c.in-Fact.k (trees_at s c.in-Fact.types)) (get_or c.in_ok-premises.premises 0 0) c.in_ok-lemma-in-Fact.lemma
@@ -57,6 +63,7 @@ lift_other-requires g c =
     let none = cites_none s c.args.step.now.rule (λ k types. c.in_default.not-Fact k types) in
     record {
       held = c.requires.held;
+      form = c.requires.form;
       right = right_lifted d (task_at s to) (steps_at s c.args.before.now) (step_at s c.args.step.now) c.args.numbers.now c.in_ok-premises.premises kept c.requires.right none c.requires.numbers p;
     }
 

@@ -1,17 +1,14 @@
-use Rattle.std.proofs.Common.{◌≡◌, ◌∙◌, ◌++◌, ◌∷◌, [], List, Some, refl, sym, ap, subst, arith}
+use Rattle.std.proofs.Common.{◌∙◌, ◌∷◌, [], sym, ap, subst}
 use Rattle.std.proofs.lemmas.Result.{IfOk-weaker}
-use Rattle.trees.specs.declared.TermId.{TermId}
 use Rattle.trees.specs.Tree.{Tree}
-use Rattle.trees.specs.Node.{tree_at}
 use Rattle.trees.specs.Binding.{inst_types}
 use Rattle.tasks.specs.Task.{neg}
 use Rattle.tasks.specs.Meaning.{trees_at}
+use Rattle.tasks.specs.Valid.{IsValid}
 use Rattle.tasks.proofs.Growth.{all_held_later}
-use Rattle.evidence.specs.Drafts.{Extends, Refutes}
-use Rattle.evidence.specs.Laws.{Extends_refl, Extends_trans}
-use Rattle.evidence.specs.Stages.{fact_of}
-use Rattle.tr_split.proofs.Pieces.{none_formulas, two_formulas, clash_at, formula_later, formula_negation}
-use Rattle.tr_split.proofs.Facts.{fact_right, fact_later, fact_same, fact_kinds, fact_formula}
+use Rattle.evidence.specs.Drafts.{Refutes}
+use Rattle.evidence.specs.Laws.{Extends_trans}
+use Rattle.tr_split.proofs.Facts.{fact_later, fact_same, fact_kinds, fact_formula}
 use Rattle.tr_split.proofs.fact.base_lemma.Goals as goal
 
 pub instance-requires-clause-kinds : goal.instance-requires-clause-kinds
@@ -21,7 +18,7 @@ pub lemma_of-requires-clause-formula : goal.lemma_of-requires-clause-formula
 lemma_of-requires-clause-formula c =
     let d = c.args.draft.now in
     let tys = trees_at d.trees c.args.types.now in
-    fact_formula d c.instance.new.draft c.in_ok-fact.ensures.grows c.args.prop tys c.in_ok-fact.fact c.requires.fact c.in_ok-fact.ensures.held
+    fact_formula d c.instance.new.draft c.in_ok-fact.ensures.grows c.args.prop tys c.in_ok-fact.fact c.requires.valid c.requires.fact c.in_ok-fact.ensures.held
     (c.in_ok-fact.ensures.tree ∙ ap (λ (z : Tree). inst_types z tys) (sym c.requires.is))
 
 pub lemma_of-requires-clause-types_held : goal.lemma_of-requires-clause-types_held
@@ -29,6 +26,9 @@ lemma_of-requires-clause-types_held c = all_held_later c.args.draft.now.trees c.
 
 pub lemma_of-requires-clause-fact : goal.lemma_of-requires-clause-fact
 lemma_of-requires-clause-fact c = fact_later c.args.draft.now c.instance.new.draft c.in_ok-fact.ensures.grows c.args.prop c.args.types.now c.requires.types_held c.requires.fact
+
+pub lemma_of-requires-clause-valid : goal.lemma_of-requires-clause-valid
+lemma_of-requires-clause-valid c = subst IsValid (sym c.in_ok-fact.ensures.grows.task) c.requires.valid
 
 pub lemma_of-requires-clause-is : goal.lemma_of-requires-clause-is
 lemma_of-requires-clause-is c =

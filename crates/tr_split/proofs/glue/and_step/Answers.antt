@@ -7,7 +7,7 @@ use Rattle.kernel.specs.Trees.{RNotAnd}
 use Rattle.evidence.specs.Drafts.{Refutes}
 use Rattle.evidence.specs.Laws.{Extends_trans}
 use Rattle.evidence.proofs.Rules.{refutes_later}
-use Rattle.tr_split.proofs.Pieces.{one_formula, formulas_later, forth, back, back_but, notand_at, first_place}
+use Rattle.tr_split.proofs.Pieces.{one_formula, formulas_later, forth, back, back_but, notand_at, first_place, form_at}
 use Rattle.tr_split.proofs.glue.and_step.Goals as goal
 
 pub keep_but-requires-2-clause-front : goal.keep_but-requires-2-clause-front
@@ -50,3 +50,10 @@ returns-clause-refutes c =
 
 pub returns-clause-grows : goal.returns-clause-grows
 returns-clause-grows c = Extends_trans _ _ _ (Extends_trans _ _ _ c.in_ok-first.ensures.grows c.in_ok-second.ensures.grows) c.derive.ensures.grows
+
+pub derive-requires-clause-form : goal.derive-requires-clause-form
+derive-requires-clause-form c =
+    let d = c.args.draft.now in
+    let w = c.args.no_whole in
+    let x = Extends_trans d c.keep_but.new.draft c.keep_but-2.new.draft c.in_ok-first.ensures.grows c.in_ok-second.ensures.grows in
+    form_at d c.keep_but-2.new.draft x c.args.front.now (w ∷ []) c.requires.front (one_formula d w c.requires.no_whole) _ _ (λ m. tt)

@@ -1,13 +1,14 @@
-use Rattle.std.proofs.Common.{◌++◌, ◌∷◌, [], subst}
+use Rattle.std.proofs.Common.{◌++◌, ◌∷◌, [], subst, sym}
 use Rattle.std.proofs.lemmas.Result.{IfOk-weaker}
 use Rattle.trees.specs.Tree.{Tree}
 use Rattle.trees.specs.Node.{tree_at}
 use Rattle.tasks.specs.Task.{neg}
 use Rattle.tasks.specs.Meaning.{trees_at}
 use Rattle.evidence.specs.Drafts.{Refutes}
+use Rattle.evidence.specs.Propositional.{IsPropositional}
 use Rattle.evidence.specs.Laws.{Extends_trans}
 use Rattle.evidence.proofs.Rules.{refutes_later}
-use Rattle.tr_split.proofs.Pieces.{one_formula, two_formulas, formulas_later, forth, back, back_but, cut_at}
+use Rattle.tr_split.proofs.Pieces.{one_formula, two_formulas, formulas_later, forth, back, back_but, cut_at, form_at}
 use Rattle.tr_split.proofs.glue.end_cut.Goals as goal
 
 pub keep_but-requires-clause-front : goal.keep_but-requires-clause-front
@@ -49,3 +50,13 @@ returns-clause-refutes c =
 
 pub returns-clause-grows : goal.returns-clause-grows
 returns-clause-grows c = Extends_trans _ _ _ (Extends_trans _ _ _ c.in_ok-closed.ensures.grows c.in_ok-kept.ensures.grows) c.derive.ensures.grows
+
+pub derive-requires-clause-form : goal.derive-requires-clause-form
+derive-requires-clause-form c =
+    let d = c.args.draft.now in
+    let d2 = c.keep_but.new.draft in
+    let u = c.args.u.now in
+    let h = c.requires.under in
+    let x = Extends_trans d c.imp_closes.new.draft d2 c.in_ok-closed.ensures.grows c.in_ok-kept.ensures.grows in
+    form_at d d2 x c.args.front.now (u.hypothesis ∷ u.no_part ∷ []) c.requires.front (two_formulas d u.hypothesis u.no_part h.hypothesis h.no_part) _ _ (λ m.
+    subst IsPropositional (sym (x.trees.same _ h.whole.held)) (h.whole.form m))

@@ -12,7 +12,7 @@ use Rattle.evidence.specs.Laws.{Extends_refl, Extends_trans}
 use Rattle.evidence.proofs.Rules.{refutes_later}
 use Rattle.tr_split.specs.declared.glue.Under.{Under}
 use Rattle.tr_split.specs.Glue.{AreFormulas, IsUnder}
-use Rattle.tr_split.proofs.Pieces.{step_of, none_formulas, more_formulas, clash_at, imp_at, back}
+use Rattle.tr_split.proofs.Pieces.{step_of, none_formulas, more_formulas, clash_at, imp_at, back, form_at}
 use Rattle.tr_split.proofs.glue.imp_closes.Goals as goal
 
 abbrev one : Under → List TermId
@@ -79,3 +79,22 @@ returns-clause-grows c = Extends_trans _ _ _ (Extends_trans _ _ _ c.in_ok-first.
 
 pub returns-in_err-second-clause-grows : goal.returns-in_err-second-clause-grows
 returns-in_err-second-clause-grows c = Extends_trans _ _ _ c.in_ok-first.ensures.grows c.derive-2.ensures.grows
+
+pub derive-requires-clause-form : goal.derive-requires-clause-form
+derive-requires-clause-form c =
+    let d = c.args.draft.now in
+    let u = c.args.u.now in
+    form_at d d (Extends_refl d) c.args.front.now (one u) c.requires.front (are_one d u c.requires.under) _ _ (λ m. tt)
+
+pub derive-requires-2-clause-form : goal.derive-requires-2-clause-form
+derive-requires-2-clause-form c =
+    let d = c.args.draft.now in
+    let u = c.args.u.now in
+    form_at d c.derive.new.draft c.in_ok-first.ensures.grows c.args.front.now (two u) c.requires.front (are_two d u c.requires.under) _ _ (λ m. tt)
+
+pub derive-requires-3-clause-form : goal.derive-requires-3-clause-form
+derive-requires-3-clause-form c =
+    let d = c.args.draft.now in
+    let u = c.args.u.now in
+    let x = Extends_trans d c.derive.new.draft c.derive-2.new.draft c.in_ok-first.ensures.grows c.in_ok-second.ensures.grows in
+    form_at d c.derive-2.new.draft x c.args.front.now (three u) c.requires.front (are_three d u c.requires.under) _ _ (λ m. tt)

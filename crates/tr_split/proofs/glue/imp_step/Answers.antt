@@ -7,7 +7,7 @@ use Rattle.tasks.specs.Meaning.{trees_at}
 use Rattle.kernel.specs.Trees.{RNotImp}
 use Rattle.evidence.specs.Drafts.{Refutes}
 use Rattle.evidence.specs.Laws.{Extends_trans}
-use Rattle.tr_split.proofs.Pieces.{one_formula, back, notimp_at, first_place}
+use Rattle.tr_split.proofs.Pieces.{one_formula, back, notimp_at, first_place, form_at}
 use Rattle.tr_split.proofs.glue.imp_step.Goals as goal
 
 pub derive-requires-clause-right : goal.derive-requires-clause-right
@@ -31,3 +31,9 @@ returns-clause-refutes c =
 
 pub returns-clause-grows : goal.returns-clause-grows
 returns-clause-grows c = Extends_trans _ _ _ c.in_ok-kept.ensures.grows c.derive.ensures.grows
+
+pub derive-requires-clause-form : goal.derive-requires-clause-form
+derive-requires-clause-form c =
+    let d = c.args.draft.now in
+    let w = c.args.no_whole in
+    form_at d c.keep_but.new.draft c.in_ok-kept.ensures.grows c.args.front.now (w ∷ []) c.requires.front (one_formula d w c.requires.no_whole) _ _ (λ m. tt)

@@ -1,16 +1,13 @@
-use Rattle.std.proofs.Common.{◌≡◌, ◌∙◌, ◌<◌, List, sym, ap, subst, arith, rules}
+use Rattle.std.proofs.Common.{◌≡◌, ◌∙◌, ◌<◌, sym, ap, subst, arith, rules}
 use Rattle.std.proofs.lemmas.Result.{IfOk-weaker}
-use Rattle.trees.specs.declared.TermId.{TermId}
 use Rattle.trees.specs.Tree.{Tree, One, Two, Three}
 use Rattle.trees.specs.Node.{tree_at, assemble, head_of_node, Holds, AreBelow}
 use Rattle.trees.specs.Sorts.{Fits}
 use Rattle.trees.specs.Binding.{inst_types}
 use Rattle.tasks.specs.Meaning.{trees_at}
-use Rattle.tasks.proofs.Growth.{trees_later, all_held_later}
-use Rattle.evidence.specs.Drafts.{DraftTree, Extends}
+use Rattle.tasks.proofs.Growth.{all_held_later}
 use Rattle.evidence.specs.Laws.{Extends_trans}
-use Rattle.tr_split.specs.Instance.{AreKinds}
-use Rattle.tr_split.proofs.Instances.{inst_two, inst_three, inst_fits_one, inst_fits_two, inst_fits_three, types_kept, part_kept}
+use Rattle.tr_split.proofs.Instances.{inst_two, inst_fits_one, inst_fits_two, inst_fits_three, types_kept, part_kept}
 use Rattle.tr_split.proofs.instance.+instance.Goals as goal
 
 pub remake-requires-clause-fits : goal.remake-requires-clause-fits
