@@ -1,10 +1,9 @@
 -- A step file is a derivation or has a first wrong line, never both, and one such line.
 use Rattle.std.proofs.Common.{◌≡◌, ◌+◌, ◌∙◌, ℕ, zero, suc, min, List, [], ◌∷◌, Option, Some, None, Result, Ok, Err, IsSomeAnd, arith, sym, ap, refl}
-use Rattle.outside.specs.Shelf.{Shelf}
+use Rattle.outside.specs.State.{LibraryState}
 use Rattle.tasks.specs.Task.{TaskTree}
 use Rattle.kernel.specs.Trees.{StepTree}
 use Rattle.problems.specs.declared.names.NameEntry.{NameEntry}
-use Rattle.problems.specs.Names.{plain_names}
 use Rattle.steps_text.specs.Words.{lines_of}
 use Rattle.steps_text.specs.Lines.{Reading, nothing_read, thing_of, IsGood, after, AreRead, IsWrongLine, StepsOf, FirstWrong}
 use Rattle.program.specs.Meets.{Answers, GivesOr}
@@ -38,16 +37,25 @@ module _ (t : TaskTree) (names : List NameEntry) (tallest : Option ℕ) where
       some_both (thing_of t names r.formulas line) (λ x. IsGood t tallest r x × IsWrongLine t names tallest (after r x) lines k) (λ x. IsGood t tallest r x × IsWrongLine t names tallest (after r x) lines l) (suc k ≡ suc l) a b
       (λ x p q. ap suc (wrong_once (after r x) lines k l p.1 q.1))
 
-pub one_outcome : (t : TaskTree) (bytes : List ℕ) (steps : List StepTree) (line : ℕ) → StepsOf t (plain_names t) None bytes steps → FirstWrong t (plain_names t) None bytes line → ⊥
-one_outcome t bytes steps line a w = read_no_wrong t (plain_names t) None nothing_read (lines_of bytes) steps w.0 a w.2
+  read_once : (r : Reading) (lines : List (List ℕ)) (steps others : List StepTree) → AreRead t names tallest r lines steps → AreRead t names tallest r lines others → steps ≡ others
+  read_once r [] steps others a b = a.0 ∙ sym b.0
+  read_once r (line ∷ lines) steps others a b =
+      some_both (thing_of t names r.formulas line) (λ x. IsGood t tallest r x × AreRead t names tallest (after r x) lines steps) (λ x. IsGood t tallest r x × AreRead t names tallest (after r x) lines others) (steps ≡ others) a b
+      (λ x p q. read_once (after r x) lines steps others p.1 q.1)
 
-pub one_wrong : (t : TaskTree) (bytes : List ℕ) (line other : ℕ) → FirstWrong t (plain_names t) None bytes line → FirstWrong t (plain_names t) None bytes other → line ≡ other
-one_wrong t bytes line other a b =
-    let same : a.0 ≡ b.0 = wrong_once t (plain_names t) None nothing_read (lines_of bytes) a.0 b.0 a.2 b.2 in
+pub one_outcome : (t : TaskTree) (names : List NameEntry) (tallest : Option ℕ) (bytes : List ℕ) (steps : List StepTree) (line : ℕ) → StepsOf t names tallest bytes steps → FirstWrong t names tallest bytes line → ⊥
+one_outcome t names tallest bytes steps line a w = read_no_wrong t names tallest nothing_read (lines_of bytes) steps w.0 a w.2
+
+pub one_wrong : (t : TaskTree) (names : List NameEntry) (tallest : Option ℕ) (bytes : List ℕ) (line other : ℕ) → FirstWrong t names tallest bytes line → FirstWrong t names tallest bytes other → line ≡ other
+one_wrong t names tallest bytes line other a b =
+    let same : a.0 ≡ b.0 = wrong_once t names tallest nothing_read (lines_of bytes) a.0 b.0 a.2 b.2 in
     a.1 ∙ ap (λ (k : ℕ). min (k + 1) 18446744073709551615) same ∙ sym b.1
 
+pub one_list : (t : TaskTree) (names : List NameEntry) (tallest : Option ℕ) (bytes : List ℕ) (steps others : List StepTree) → StepsOf t names tallest bytes steps → StepsOf t names tallest bytes others → steps ≡ others
+one_list t names tallest bytes steps others a b = read_once t names tallest nothing_read (lines_of bytes) steps others a b
+
 -- a stage that fetches nothing, as a part of a run
-pub answers_stage : {A : Type 0} (stage : Stage A) (start : ℕ) (s : Shelf) (r : Result A RunFault) → GivesOr stage r → Answers (λ files limit. stage) start (λ _. start) s s r
+pub answers_stage : {A : Type 0} (stage : Stage A) (start : ℕ) (s : LibraryState) (r : Result A RunFault) → GivesOr stage r → Answers (λ files limit. stage) start (λ _. start) s s r
 answers_stage stage start s (Ok value) h = answers_value {next = λ _. start} (omega arith) (λ files limit. h)
 answers_stage stage start s (Err run_fault.Memory) h = answers_memory
 answers_stage stage start s (Err (run_fault.Refused fault)) h = answers_refused (λ files. h)

@@ -1,8 +1,7 @@
 // The command `check`: whether a file derives a goal from the goal's own theory.
 ghost use Rattle.std.specs.Prelude.{◌≡◌};
-ghost use Rattle.outside.specs.Shelf.{Shelf};
+ghost use Rattle.outside.specs.State.{LibraryState};
 ghost use Rattle.tasks.specs.Meaning.{task_at, TaskHeld};
-ghost use Rattle.problems.specs.Used.{DeclaresEntries};
 ghost use Rattle.program.specs.Meets.{Ends, GivesOr, bytes_of};
 ghost use Rattle.program.specs.Order.{CheckText, Checks};
 
@@ -10,7 +9,7 @@ use crate::fetching::fetch_whole;
 use crate::goal::find_task;
 use crate::{Fault, RunFault};
 use outside::Library;
-use problems::plain_names;
+use problems::task_names;
 use std::alloc::Global;
 use steps_text::{ReadFault, StepReader};
 use tasks::Task;
@@ -24,10 +23,9 @@ fn check_steps(
     bytes: &[u8],
 ) -> Result<Vec<u8>, RunFault>
     requires held { TaskHeld store.old task.now }
-    requires entries { DeclaresEntries (task_at store.old task.now) }
     ensures { GivesOr (Checks (task_at store.old task.now) bytes.now) (bytes_of result) }
 {
-    let names = plain_names(alloc, store, task)?;
+    let names = task_names(alloc, store, task)?;
     let mut reader = StepReader::new(alloc, None);
     if reader.feed(store, task, &names, bytes).is_err() {
         return Err(RunFault::Memory);
@@ -53,9 +51,9 @@ pub fn check_goal<L: Library>(
     goal: &str,
     der: &str,
 ) -> Result<Vec<u8>, RunFault>
-    ensures { Ends (CheckText src.now theory.now goal.now der.now) (L.shelf lib.old) (L.shelf lib.new) (bytes_of result) }
+    ensures { Ends (CheckText src.now theory.now goal.now der.now) (L.state lib.old) (L.state lib.new) (bytes_of result) }
 {
-    let mut store = Store::new(alloc);
+    let mut store = Store::new(alloc)?;
     let task = find_task(alloc, lib, &mut store, src, theory, goal)?;
     let bytes = fetch_whole(lib, 1, der)?;
     check_steps(alloc, &mut store, &task, &bytes)

@@ -1,10 +1,11 @@
 // The task of a goal, from a source that is fetched.
 ghost use Rattle.std.specs.Prelude.{◌≡◌, ℕ, List, IfOk};
-ghost use Rattle.outside.specs.Shelf.{Shelf};
+ghost use Rattle.outside.specs.State.{LibraryState};
 ghost use Rattle.trees.specs.Node.{Grows};
 ghost use Rattle.tasks.specs.Meaning.{task_at, TaskHeld};
 ghost use Rattle.tasks.specs.Valid.{IsValid};
 ghost use Rattle.sources.specs.Meaning.{theory_at, TheoryHeld};
+ghost use Rattle.program.specs.Fragment.{IsInFragment};
 ghost use Rattle.program.specs.Meets.{Answers};
 ghost use Rattle.program.specs.Order.{Source, Goal};
 ghost use Rattle.program.specs.Values.{theory_in, task_in, IsOfSource};
@@ -24,7 +25,7 @@ fn fetch_theory<L: Library>(
     store: &mut Store,
     src: &str,
 ) -> Result<Theory, RunFault>
-    ensures answers { Answers (Source src.now) 0 (λ _. 1) (L.shelf lib.old) (L.shelf lib.new) (theory_in store.new result) }
+    ensures answers { Answers (Source src.now) 0 (λ _. 1) (L.state lib.old) (L.state lib.new) (theory_in store.new result) }
     ensures held { IfOk result (TheoryHeld store.new) }
     ensures read { IfOk result (λ t. IsOfSource (theory_at store.new t)) }
 {
@@ -45,9 +46,10 @@ pub fn find_task<L: Library>(
     theory: &str,
     goal: &str,
 ) -> Result<Task, RunFault>
-    ensures answers { Answers (Goal src.now theory.now goal.now) 0 (λ _. 1) (L.shelf lib.old) (L.shelf lib.new) (task_in store.new result) }
+    ensures answers { Answers (Goal src.now theory.now goal.now) 0 (λ _. 1) (L.state lib.old) (L.state lib.new) (task_in store.new result) }
     ensures held { IfOk result (TaskHeld store.new) }
     ensures valid { IfOk result (λ t. IsValid (task_at store.new t)) }
+    ensures fragment { IfOk result (λ t. IsInFragment (task_at store.new t)) }
 {
     let found = fetch_theory(alloc, lib, store, src)?;
     match task_of(alloc, store, found, theory, goal) {

@@ -1,6 +1,6 @@
 // The command `print`: the problems of a goal, in order.
 ghost use Rattle.std.specs.Prelude.{◌≡◌, ◌++◌, ℕ, codes, All, IfOk, OnOk};
-ghost use Rattle.outside.specs.Shelf.{Shelf};
+ghost use Rattle.outside.specs.State.{LibraryState};
 ghost use Rattle.trees.specs.Node.{Grows};
 ghost use Rattle.tasks.specs.Meaning.{task_at, tasks_at, TaskHeld, TasksHeld};
 ghost use Rattle.tasks.specs.Valid.{IsValid};
@@ -76,10 +76,10 @@ pub fn print_goal<L: Library>(
     goal: &str,
 ) -> Result<Vec<u8>, RunFault>
     requires { drv.now ≡ codes "plain.drv" }
-    ensures { Ends (PrintText src.now theory.now goal.now) (L.shelf lib.old) (L.shelf lib.new) (bytes_of result) }
+    ensures { Ends (PrintText src.now theory.now goal.now) (L.state lib.old) (L.state lib.new) (bytes_of result) }
 {
     let _ = drv;
-    let mut store = Store::new(alloc);
+    let mut store = Store::new(alloc)?;
     let task = find_task(alloc, lib, &mut store, src, theory, goal)?;
     let text = print_task(alloc, &mut store, &task)?;
     Ok(text)

@@ -1,14 +1,10 @@
 use Rattle.std.proofs.Common.{rules, List, ℕ, subst}
 use Rattle.tasks.specs.Meaning.{task_at}
-use Rattle.problems.proofs.Tables.{valid-entries}
 use Rattle.program.specs.Meets.{GivesOr, bytes_of}
 use Rattle.program.specs.Order.{Checks, Derivation}
 use Rattle.program.proofs.Meeting.{answers_then, answers_stop, ends}
 use Rattle.program.proofs.Checking.{answers_stage}
 use Rattle.program.proofs.check.check_goal.Goals as goal
-
-pub check_steps-requires-clause-entries : goal.check_steps-requires-clause-entries
-check_steps-requires-clause-entries g c = valid-entries (task_at c.find_task.new.store c.in_ok-task.task) c.in_ok-task.ensures.valid
 
 pub returns : goal.returns
 returns g c =

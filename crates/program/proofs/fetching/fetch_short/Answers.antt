@@ -1,6 +1,6 @@
 use Rattle.std.proofs.Common.{rules, arith, ◌+◌, ◌≡◌, true, false, length, ◌==◌, Ok, Err, ℕ, Option, None}
 use Rattle.std.proofs.lemmas.Bool.Decides.{nat_tests}
-use Rattle.outside.specs.Shelf.{IsFront}
+use Rattle.outside.specs.State.{IsFront}
 use Rattle.program.specs.Meets.{Reaches}
 use Rattle.program.specs.Order.{ShortFile, refused}
 use Rattle.program.specs.declared.status.Fault.TheVariants.{TooLong}
@@ -15,7 +15,7 @@ returns-then-len-eq-MOST g c =
       files = search rules;
       meets = (
         record { faults = search rules; absents = search rules },
-        told (g.L.Library.shelf c.args.lib.now).files (λ files. IsFront (files c.args.name.now) 67108865 bytes)
+        told (g.L.Library.state c.args.lib.now).files (λ files. IsFront (files c.args.name.now) 67108865 bytes)
             (λ files. ShortFile c.args.file c.args.name.now files None (Err (refused (TooLong c.args.file))))
             (λ files front. short_file-long c.args.file c.args.name.now bytes files front _ (if_short-long c.args.file bytes long)) c.in-Ok.ensures.answer.0,
       );
@@ -30,7 +30,7 @@ returns-else-len-eq-MOST g c =
       meets = (
         record { faults = search rules; absents = search rules },
         omega arith,
-        told (g.L.Library.shelf c.args.lib.now).files (λ files. IsFront (files c.args.name.now) 67108865 bytes)
+        told (g.L.Library.state c.args.lib.now).files (λ files. IsFront (files c.args.name.now) 67108865 bytes)
             (λ files. (limit : Option ℕ) → Reaches limit (c.args.file + 1) → ShortFile c.args.file c.args.name.now files limit (Ok bytes))
             (λ files front limit reached. short_file-ok c.args.file c.args.name.now bytes files limit front fits reached) c.in-Ok.ensures.answer.0,
       );

@@ -3,6 +3,7 @@ use Rattle.tasks.specs.Meaning.{task_at}
 use Rattle.sources.specs.Meaning.{theory_at, task_named}
 use Rattle.sources.specs.declared.theory.TaskFault.TheVariants.{NoTheory, NoGoal}
 use Rattle.program.proofs.Meeting.{answers_then, answers_value, answers_refused}
+use Rattle.program.proofs.Fragment.{fragment_task}
 use Rattle.program.proofs.Naming.{naming, named-ok, named-err}
 use Rattle.program.proofs.goal.find_task.Goals as goal
 
@@ -27,3 +28,7 @@ returns-in-Err-NoGoal-clause-answers g c =
     let named = task_named (theory_at c.fetch_theory.new.store c.in_ok-found.found) c.args.theory.now c.args.goal.now in
     answers_then (naming c.args.theory.now c.args.goal.now) c.in_ok-found.ensures.answers
     (answers_refused {next = λ _. 1} (λ files. named-err named c.in-Err-NoGoal.field-0 NoGoal c.in-Err-NoGoal.field-0-is (λ e. cc) c.in-Err-NoGoal.ensures.task))
+
+pub returns-in-Ok-clause-fragment : goal.returns-in-Ok-clause-fragment
+returns-in-Ok-clause-fragment g c =
+    fragment_task c.in_ok-found.ensures.read.0 (theory_at c.fetch_theory.new.store c.in_ok-found.found) c.args.theory.now c.args.goal.now (task_at c.fetch_theory.new.store c.in-Ok.task) c.in_ok-found.ensures.read.1 c.in-Ok.ensures.task

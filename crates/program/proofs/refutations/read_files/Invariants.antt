@@ -1,0 +1,16 @@
+use Rattle.std.proofs.Common.{◌+◌, Ok, map, string_bytes}
+use Rattle.trees.specs.Node.{Grows}
+use Rattle.tasks.specs.Meaning.{tasks_at}
+use Rattle.evidence.specs.Stages.{parts_at, PartsHeld}
+use Rattle.program.specs.Lifted.{AreRefuted}
+use Rattle.program.specs.Meets.{Answers}
+use Rattle.program.specs.Order.{FirstFiles}
+use Rattle.program.proofs.refutations.read_files.Given as goal
+
+abbrev pub invariant-loop-place : goal.invariant-loop-place
+invariant-loop-place g l = record {
+  answers : Answers (FirstFiles (tasks_at l.initial.store l.parts) (map string_bytes l.names) l.place) 2 (λ _. l.place + 2) (g.L.Library.state l.initial.lib) (g.L.Library.state l.lib) (Ok (parts_at l.store l.handed.items));
+  held : PartsHeld l.store l.handed.items;
+  refuted : AreRefuted (tasks_at l.initial.store l.parts) (parts_at l.store l.handed.items) l.place;
+  grows : Grows l.initial.store l.store;
+}

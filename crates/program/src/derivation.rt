@@ -1,0 +1,106 @@
+// The derivation of a task that refutations of its parts are lifted to, and its text.
+ghost use Rattle.std.specs.Prelude.{◌≡◌, ◌<◌, ◌-◌, ◌+◌, ◌++◌, length, All, IfOk};
+ghost use Rattle.trees.specs.Node.{Grows};
+ghost use Rattle.tasks.specs.Task.{start};
+ghost use Rattle.tasks.specs.Meaning.{task_at, tasks_at, TaskHeld, TasksHeld};
+ghost use Rattle.tasks.specs.Valid.{IsValid};
+ghost use Rattle.kernel.specs.Rows.{Closes, last_starts, step_or};
+ghost use Rattle.kernel.specs.Meaning.{steps_at, StepsHeld};
+ghost use Rattle.evidence.specs.Drafts.{Extends, Refutes};
+ghost use Rattle.evidence.specs.Stages.{parts_at, PartsHeld};
+ghost use Rattle.tr_split.specs.Split.{split_task};
+ghost use Rattle.tr_split.specs.Glue.{counted};
+ghost use Rattle.program.specs.Lifted.{IsLifted, HasSequents, AreRefuted};
+ghost use Rattle.program.specs.Fragment.{IsInFragment};
+
+use evidence::{Draft, lift_stage};
+use kernel::{Rule, Step};
+use outside::Seq;
+use problems::task_names;
+use std::alloc::{AllocError, Global};
+use std::rc::Rc;
+use steps_text::write_steps;
+use tasks::Task;
+use term_store::Store;
+use tr_split::Split;
+
+// The numbers from 0 on, so many.
+fn first_numbers(alloc: Global, count: usize) -> Result<Vec<usize>, AllocError>
+    ensures { IfOk result (λ v. v.items ≡ counted 0 count) }
+{
+    let mut numbers = Vec::new(alloc);
+    for k in 0..count {
+        numbers.push(k)?;
+    }
+    Ok(numbers)
+}
+
+// Puts a step with the sequent of this one at the end, if it isn't the last.
+fn end_with(draft: &mut Draft, number: usize) -> Result<(), AllocError>
+    requires start { Refutes draft.old number (start draft.old.task) }
+    ensures starts { IfOk result (λ _. last_starts draft.new.task draft.new.steps) }
+    ensures grows { Extends draft.old draft.new }
+{
+    let alloc = draft.allocator();
+    let steps = draft.steps();
+    if number + 1 == steps.len() {
+        return Ok(());
+    }
+    let sequent = steps[number].sequent.clone()?;
+    let places = Seq::from_vec(first_numbers(alloc, sequent.len())?);
+    let premises = Seq::from_vec(vec![in alloc; number]?);
+    draft.push(Step {
+        sequent,
+        rule: Rule::Keep(places),
+        premises,
+    })?;
+    Ok(())
+}
+
+// A draft of the task that ends in its start, and has the sequents of the handed steps.
+fn lifted_draft(
+    draft: &mut Draft,
+    task: &Task,
+    parts: &Vec<Task>,
+    handed: &[Seq<Step>],
+) -> Result<(), AllocError>
+    requires task_held { TaskHeld draft.old.trees task.now }
+    requires own { task_at draft.old.trees task.now ≡ draft.old.task }
+    requires valid { IsValid draft.old.task }
+    requires fragment { IsInFragment draft.old.task }
+    requires parts_held { TasksHeld draft.old.trees parts.now.items }
+    requires split { tasks_at draft.old.trees parts.now.items ≡ split_task draft.old.task }
+    requires handed_held { PartsHeld draft.old.trees handed.now }
+    requires refuted { AreRefuted (tasks_at draft.old.trees parts.now.items) (parts_at draft.old.trees handed.now) (length parts.now.items) }
+    ensures starts { IfOk result (λ _. last_starts draft.new.task draft.new.steps) }
+    ensures sequents { IfOk result (λ _. HasSequents draft.new.steps (parts_at draft.old.trees handed.now)) }
+    ensures grows { Extends draft.old draft.new }
+{
+    let number = lift_stage(&Split, task, parts, handed, draft)?;
+    end_with(draft, number)
+}
+
+/// The text of a derivation of a task, from refutations of the parts of its goal.
+pub(crate) fn lifted_text(
+    alloc: Global,
+    store: Store,
+    task: Task,
+    parts: &Vec<Task>,
+    handed: &[Seq<Step>],
+) -> Result<Vec<u8>, AllocError>
+    requires task_held { TaskHeld store task }
+    requires valid { IsValid (task_at store task) }
+    requires fragment { IsInFragment (task_at store task) }
+    requires parts_held { TasksHeld store parts.now.items }
+    requires split { tasks_at store parts.now.items ≡ split_task (task_at store task) }
+    requires handed_held { PartsHeld store handed.now }
+    requires refuted { AreRefuted (tasks_at store parts.now.items) (parts_at store handed.now) (length parts.now.items) }
+    ensures { IfOk result (λ v. IsLifted (task_at store task) (parts_at store handed.now) v.items) }
+{
+    let task = Rc::new(alloc, task)?;
+    let mut draft = Draft::new(alloc, store, task.clone()?);
+    lifted_draft(&mut draft, &task, parts, handed)?;
+    let (store, steps) = draft.into_parts();
+    let names = task_names(alloc, &store, &task)?;
+    write_steps(alloc, &store, &task, &names, &steps)
+}
