@@ -7,3 +7,4 @@ pub mod TurnLemmas
 pub mod ClauseLemmas
 pub mod TokensLemmas
 pub mod Rows
+pub mod WholeTexts

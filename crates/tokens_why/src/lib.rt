@@ -12,12 +12,14 @@ mod longest;
 mod reserved;
 mod terminal;
 mod token;
+mod whole;
 
 pub use fault::LexFault;
 pub use lexer::lex;
 pub use literals::literal_value;
 pub use terminal::{Terminal, classify};
 pub use token::{Token, TokenKind};
+pub use whole::kind_of_text;
 
 #[cfg(test)]
 mod tests;

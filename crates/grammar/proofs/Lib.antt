@@ -1,0 +1,9 @@
+pub mod Walks
+pub mod FormReading
+pub mod FormMoves
+pub mod FormClosing
+pub mod Ending
+pub mod Reading
+pub mod Moves
+pub mod Closing
+pub mod Places

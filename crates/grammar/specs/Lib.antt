@@ -1,0 +1,4 @@
+pub mod Walk
+pub mod FormMachine
+pub mod Machine
+pub mod Completion

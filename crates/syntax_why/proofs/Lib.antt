@@ -1,0 +1,10 @@
+pub mod TreeLemmas
+pub mod PlaceLemmas
+pub mod PlaceRows
+pub mod WordRows
+pub mod DeclRows
+pub mod NameLemmas
+pub mod DeclLemmas
+pub mod PathLemmas
+pub mod DeclPlaceLemmas
+pub mod DeclPlaceRows

@@ -1,0 +1,11 @@
+pub mod Tree
+pub mod Lexeme
+pub mod Write
+pub mod Levels
+pub mod Expressions
+pub mod Carried
+pub mod Places
+pub mod Declarations
+pub mod WriteDeclarations
+pub mod CarriedDeclarations
+pub mod DeclarationPlaces

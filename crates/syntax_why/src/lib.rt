@@ -1,0 +1,29 @@
+//! The surface trees of Why3 sources, their makers, and the tokens of a tree.
+//! It stands on the tokens, and under the grammar and the readers.
+#![tactic(auto)]
+
+mod declarations;
+mod declaring;
+mod expressions;
+mod making;
+mod marks;
+mod names;
+mod patterns;
+mod types;
+mod unparsing;
+mod writing;
+
+pub use declarations::{
+    AlgTree, ClauseTree, ConTree, DeclNode, DeclTree, ElemNode, ElemTree, File, IndTree, Link,
+    MemberTree, ParamTree, PropKind, SymbolWord, TheoryTree,
+};
+pub use expressions::{BinderTree, BranchTree, Expr, ExprNode, TriggerTree};
+pub use marks::Mark;
+pub use names::{At, Name, OpName, Path, QName, Style};
+pub use patterns::{Pat, PatNode};
+pub use types::{TypeNode, TypeTree};
+pub use unparsing::unparse;
+pub use writing::unparse_expr;
+
+#[cfg(test)]
+mod tests;

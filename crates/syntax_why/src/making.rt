@@ -1,0 +1,320 @@
+// Makers of trees, each of which says what plain tree it makes and which places that carries.
+ghost use Rattle.std.specs.Prelude.{◌≡◌, [], ◌∷◌, ◌++◌, map, option_map, IfOk};
+ghost use Rattle.std.specs.List.{concat};
+ghost use Rattle.std.specs.Option.{unwrap_or};
+ghost use Rattle.syntax_why.specs.Tree.{type_of, pattern_of, tree_of, arm_of, terms_of, binder_of, op_of, called_of, forms, trees, branches, trigger, patterns, alternatives, wild, variable, type_variable, composed, enclosed, aliased, apply, literal, truth, falsity, group, cast, cases, prefixed, negation, binary, choice, binding, quantified};
+ghost use Rattle.syntax_why.specs.Carried.{type_places_of, pattern_places_of, patterns_places_of, alternatives_places_of, binders_places_of, places_of, branch_places_of, trigger_places_of};
+
+use crate::expressions::{BinderTree, BranchTree, Expr, ExprNode, TriggerTree};
+use crate::names::{At, Name, OpName, QName};
+use crate::patterns::{Pat, PatNode};
+use crate::types::{TypeNode, TypeTree};
+use outside::{Boxed, Seq, Text};
+use std::alloc::{AllocError, Global};
+
+#[tactic(auto, using(crate::proofs::TreeLemmas::made, crate::proofs::PlaceLemmas::placed))]
+impl TypeTree {
+    /// A type variable; its text has the quote.
+    pub fn variable(at: At, text: Text) -> TypeTree
+        ensures tree { type_of result ≡ type_variable text }
+        ensures places { type_places_of result ≡ at.first ∷ at.main ∷ [] }
+    {
+        TypeTree {
+            at,
+            node: TypeNode::Var(text),
+        }
+    }
+
+    /// A type symbol with its arguments.
+    pub fn named(at: At, name: QName, arguments: Seq<TypeTree>) -> TypeTree
+        ensures tree { type_of result ≡ composed (called_of name) (forms (map type_of arguments)) }
+        ensures places { type_places_of result ≡ at.first ∷ at.main ∷ name.at ∷ concat (map type_places_of arguments) }
+    {
+        TypeTree {
+            at,
+            node: TypeNode::Named(name, arguments),
+        }
+    }
+
+    /// Types in parentheses.
+    pub fn group(at: At, parts: Seq<TypeTree>) -> TypeTree
+        ensures tree { type_of result ≡ enclosed (forms (map type_of parts)) }
+        ensures places { type_places_of result ≡ at.first ∷ at.main ∷ concat (map type_places_of parts) }
+    {
+        TypeTree {
+            at,
+            node: TypeNode::Group(parts),
+        }
+    }
+}
+
+#[tactic(auto, using(crate::proofs::TreeLemmas::made, crate::proofs::PlaceLemmas::placed))]
+impl Pat {
+    /// The pattern `_`.
+    pub fn wildcard(at: At) -> Pat
+        ensures tree { pattern_of result ≡ wild }
+        ensures places { pattern_places_of result ≡ at.first ∷ at.main ∷ [] }
+    {
+        Pat {
+            at,
+            node: PatNode::Wild,
+        }
+    }
+
+    /// A variable.
+    pub fn variable(at: At, name: Name) -> Pat
+        ensures tree { pattern_of result ≡ variable name.text }
+        ensures places { pattern_places_of result ≡ at.first ∷ at.main ∷ name.at ∷ [] }
+    {
+        Pat {
+            at,
+            node: PatNode::Var(name),
+        }
+    }
+
+    /// A constructor with its parts.
+    pub fn constructor(at: At, name: QName, parts: Seq<Pat>) -> Pat
+        ensures tree { pattern_of result ≡ composed (called_of name) (forms (map pattern_of parts)) }
+        ensures places { pattern_places_of result ≡ at.first ∷ at.main ∷ name.at ∷ patterns_places_of parts }
+    {
+        Pat {
+            at,
+            node: PatNode::Con(name, parts),
+        }
+    }
+
+    /// Patterns in parentheses.
+    pub fn group(at: At, parts: Seq<Pat>) -> Pat
+        ensures tree { pattern_of result ≡ enclosed (forms (map pattern_of parts)) }
+        ensures places { pattern_places_of result ≡ at.first ∷ at.main ∷ patterns_places_of parts }
+    {
+        Pat {
+            at,
+            node: PatNode::Group(parts),
+        }
+    }
+
+    /// A pattern `p as x`; only want of memory refuses it.
+    pub fn alias(alloc: Global, at: At, pattern: Pat, name: Name) -> Result<Pat, AllocError>
+        ensures tree { IfOk result (λ p. pattern_of p ≡ aliased (pattern_of pattern) name.text) }
+        ensures places { IfOk result (λ p. pattern_places_of p ≡ at.first ∷ at.main ∷ pattern_places_of pattern ++ (name.at ∷ [])) }
+    {
+        let pattern = Boxed::new(alloc, pattern)?;
+        Ok(Pat {
+            at,
+            node: PatNode::Alias(pattern, name),
+        })
+    }
+}
+
+#[tactic(auto, using(crate::proofs::TreeLemmas::made, crate::proofs::PlaceLemmas::placed))]
+impl Expr {
+    /// A name with its arguments, or the name alone.
+    pub fn apply(at: At, function: QName, arguments: Seq<Expr>) -> Expr
+        ensures tree { tree_of result ≡ apply (called_of function) (trees (map tree_of arguments)) }
+        ensures places { places_of result ≡ at.first ∷ at.main ∷ function.at ∷ concat (map places_of arguments) }
+    {
+        Expr {
+            at,
+            node: ExprNode::Apply(function, arguments),
+        }
+    }
+
+    /// An integer.
+    pub fn integer(at: At, value: i128) -> Expr
+        ensures tree { tree_of result ≡ literal value }
+        ensures places { places_of result ≡ at.first ∷ at.main ∷ [] }
+    {
+        Expr {
+            at,
+            node: ExprNode::Int(value),
+        }
+    }
+
+    /// The formula `true`.
+    pub fn truth(at: At) -> Expr
+        ensures tree { tree_of result ≡ truth }
+        ensures places { places_of result ≡ at.first ∷ at.main ∷ [] }
+    {
+        Expr {
+            at,
+            node: ExprNode::True,
+        }
+    }
+
+    /// The formula `false`.
+    pub fn falsity(at: At) -> Expr
+        ensures tree { tree_of result ≡ falsity }
+        ensures places { places_of result ≡ at.first ∷ at.main ∷ [] }
+    {
+        Expr {
+            at,
+            node: ExprNode::False,
+        }
+    }
+
+    /// Expressions in parentheses.
+    pub fn group(at: At, parts: Seq<Expr>) -> Expr
+        ensures tree { tree_of result ≡ group (trees (map tree_of parts)) }
+        ensures places { places_of result ≡ at.first ∷ at.main ∷ concat (map places_of parts) }
+    {
+        Expr {
+            at,
+            node: ExprNode::Group(parts),
+        }
+    }
+
+    /// An expression with its type, `(e : t)`; only want of memory refuses it.
+    pub fn cast(alloc: Global, at: At, inner: Expr, ty: TypeTree) -> Result<Expr, AllocError>
+        ensures tree { IfOk result (λ e. tree_of e ≡ cast (tree_of inner) (type_of ty)) }
+        ensures places { IfOk result (λ e. places_of e ≡ at.first ∷ at.main ∷ places_of inner ++ type_places_of ty) }
+    {
+        let inner = Boxed::new(alloc, inner)?;
+        Ok(Expr {
+            at,
+            node: ExprNode::Cast(inner, ty),
+        })
+    }
+
+    /// A `match`; `bar` says that a `|` stands before the first branch.
+    pub fn cases(at: At, scrutinees: Seq<Expr>, bar: bool, arms: Seq<BranchTree>) -> Expr
+        ensures tree { tree_of result ≡ cases (trees (map tree_of scrutinees)) bar (branches (map arm_of arms)) }
+        ensures places { places_of result ≡ at.first ∷ at.main ∷ concat (map places_of scrutinees) ++ concat (map branch_places_of arms) }
+    {
+        Expr {
+            at,
+            node: ExprNode::Match(scrutinees, bar, arms),
+        }
+    }
+
+    /// A prefix operator with its operand; only want of memory refuses it.
+    pub fn prefix(
+        alloc: Global,
+        at: At,
+        operator: OpName,
+        operand: Expr,
+    ) -> Result<Expr, AllocError>
+        ensures tree { IfOk result (λ e. tree_of e ≡ prefixed (op_of operator) (tree_of operand)) }
+        ensures places { IfOk result (λ e. places_of e ≡ at.first ∷ at.main ∷ operator.at ∷ places_of operand) }
+    {
+        let operand = Boxed::new(alloc, operand)?;
+        Ok(Expr {
+            at,
+            node: ExprNode::Prefix(operator, operand),
+        })
+    }
+
+    /// A formula `not e`; only want of memory refuses it.
+    pub fn negation(alloc: Global, at: At, operand: Expr) -> Result<Expr, AllocError>
+        ensures tree { IfOk result (λ e. tree_of e ≡ negation (tree_of operand)) }
+        ensures places { IfOk result (λ e. places_of e ≡ at.first ∷ at.main ∷ places_of operand) }
+    {
+        let operand = Boxed::new(alloc, operand)?;
+        Ok(Expr {
+            at,
+            node: ExprNode::Not(operand),
+        })
+    }
+
+    /// Two operands with an operator between; only want of memory refuses it.
+    pub fn binary(
+        alloc: Global,
+        at: At,
+        left: Expr,
+        operator: OpName,
+        right: Expr,
+    ) -> Result<Expr, AllocError>
+        ensures tree { IfOk result (λ e. tree_of e ≡ binary (tree_of left) (op_of operator) (tree_of right)) }
+        ensures places { IfOk result (λ e. places_of e ≡ at.first ∷ at.main ∷ places_of left ++ (operator.at ∷ places_of right)) }
+    {
+        let left = Boxed::new(alloc, left)?;
+        let right = Boxed::new(alloc, right)?;
+        Ok(Expr {
+            at,
+            node: ExprNode::Binary(left, operator, right),
+        })
+    }
+
+    /// An `if`; only want of memory refuses it.
+    pub fn choice(
+        alloc: Global,
+        at: At,
+        condition: Expr,
+        consequent: Expr,
+        alternative: Expr,
+    ) -> Result<Expr, AllocError>
+        ensures tree { IfOk result (λ e. tree_of e ≡ choice (tree_of condition) (tree_of consequent) (tree_of alternative)) }
+        ensures places { IfOk result (λ e. places_of e ≡ at.first ∷ at.main ∷ places_of condition ++ (places_of consequent ++ places_of alternative)) }
+    {
+        let condition = Boxed::new(alloc, condition)?;
+        let consequent = Boxed::new(alloc, consequent)?;
+        let alternative = Boxed::new(alloc, alternative)?;
+        Ok(Expr {
+            at,
+            node: ExprNode::If(condition, consequent, alternative),
+        })
+    }
+
+    /// A `let`; only want of memory refuses it.
+    pub fn binding(
+        alloc: Global,
+        at: At,
+        bound: Seq<Pat>,
+        value: Expr,
+        body: Expr,
+    ) -> Result<Expr, AllocError>
+        ensures tree { IfOk result (λ e. tree_of e ≡ binding (patterns bound) (tree_of value) (tree_of body)) }
+        ensures places { IfOk result (λ e. places_of e ≡ at.first ∷ at.main ∷ patterns_places_of bound ++ (places_of value ++ places_of body)) }
+    {
+        let value = Boxed::new(alloc, value)?;
+        let body = Boxed::new(alloc, body)?;
+        Ok(Expr {
+            at,
+            node: ExprNode::Let(bound, value, body),
+        })
+    }
+
+    /// A quantifier, `forall` or else `exists`; only want of memory refuses it.
+    pub fn quantified(
+        alloc: Global,
+        at: At,
+        forall: bool,
+        binders: Seq<BinderTree>,
+        triggers: Option<TriggerTree>,
+        body: Expr,
+    ) -> Result<Expr, AllocError>
+        ensures tree { IfOk result (λ e. tree_of e ≡ quantified forall (map binder_of binders) (trigger (option_map terms_of triggers)) (tree_of body)) }
+        ensures places { IfOk result (λ e. places_of e ≡ at.first ∷ at.main ∷ binders_places_of binders ++ (unwrap_or (option_map trigger_places_of triggers) [] ++ places_of body)) }
+    {
+        let body = Boxed::new(alloc, body)?;
+        Ok(Expr {
+            at,
+            node: ExprNode::Quant(forall, binders, triggers, body),
+        })
+    }
+}
+
+impl BranchTree {
+    /// A branch of a `match`.
+    #[tactic(auto, using(crate::proofs::TreeLemmas::fields, crate::proofs::PlaceLemmas::placed_parts))]
+    pub fn new(of: Seq<Seq<Pat>>, body: Expr) -> BranchTree
+        ensures tree { arm_of result ≡ record { alternatives = alternatives of; body = tree_of body } }
+        ensures places { branch_places_of result ≡ alternatives_places_of of ++ places_of body }
+    {
+        BranchTree {
+            alternatives: of,
+            body,
+        }
+    }
+}
+
+impl TriggerTree {
+    /// Triggers; `bars` says of each separator whether it is `|`.
+    #[tactic(auto, using(crate::proofs::TreeLemmas::fields, crate::proofs::PlaceLemmas::placed_parts))]
+    pub fn new(terms: Seq<Expr>, bars: Seq<bool>) -> TriggerTree
+        ensures tree { terms_of result ≡ record { terms = trees (map tree_of terms); bars = bars } }
+        ensures places { trigger_places_of result ≡ concat (map places_of terms) }
+    {
+        TriggerTree { terms, bars }
+    }
+}

@@ -1,0 +1,21 @@
+use crate::names::{At, Name, QName};
+use outside::{Boxed, Seq};
+
+/// A pattern and where it stands.
+#[cycle(pattern_tree)]
+#[derive(Drop)]
+pub struct Pat {
+    pub at: At,
+    pub node: PatNode,
+}
+
+/// A wildcard, a variable, a constructor with its parts, patterns in parentheses, or `p as x`.
+#[cycle(pattern_tree)]
+#[derive(Drop)]
+pub enum PatNode {
+    Wild,
+    Var(Name),
+    Con(QName, Seq<Pat>),
+    Group(Seq<Pat>),
+    Alias(Boxed<Pat>, Name),
+}
