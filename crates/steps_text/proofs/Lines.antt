@@ -1,5 +1,5 @@
 -- What the lines of formulas and steps make when they are read back.
-use Rattle.std.proofs.Common.{◌≡◌, ◌≢◌, ℕ, ◌+◌, ◌<◌, ◌^◌, ◌==◌, ◌&&◌, nat_eq, nat_lt, Bool, true, false, cond, suc, List, [], ◌∷◌, ◌++◌, length, get_or, map, All, Option, Some, None, refl, sym, ap, subst, ◌∙◌, arith, append_assoc}
+use Rattle.std.proofs.Common.{◌≡◌, ◌≢◌, ℕ, ◌<◌, ◌^◌, ◌&&◌, nat_eq, nat_lt, Bool, true, false, suc, List, [], ◌∷◌, ◌++◌, All, Option, Some, refl, sym, ap, ◌∙◌, arith, append_assoc}
 use Rattle.std.specs.Prelude.{codes, slice_get}
 use Rattle.std.proofs.lemmas.Bool.Decides.{nat_tests}
 use Rattle.std.proofs.lemmas.List.{append-nil}
@@ -11,20 +11,19 @@ use Rattle.std.specs.Str.Parse.{AllDigits}
 use Rattle.std.specs.Option.{option_and_then, option_map}
 use Rattle.std.specs.List.{list_all}
 use Rattle.trees.specs.declared.TermId.{TermId}
-use Rattle.trees.specs.declared.Op.{Op}
 use Rattle.trees.specs.declared.Op.TheVariants as op
-use Rattle.trees.specs.Tree.{Tree, Leaf, One, Two, HEnd, HNot, HJoin, HPred}
+use Rattle.trees.specs.Tree.{Tree, One, Two, HNot, HJoin}
 use Rattle.trees.specs.Node.{tree_at}
 use Rattle.tasks.specs.Task.{TaskTree}
 use Rattle.tasks.specs.Meaning.{trees_at}
 use Rattle.kernel.specs.declared.rule.Step.{Step}
 use Rattle.kernel.specs.declared.rule.Rule.{Rule}
 use Rattle.kernel.specs.declared.rule.Rule.TheVariants.{Clash, NotNot, And, NotAnd, Imp, NotImp, Cut, Keep, Fact}
-use Rattle.kernel.specs.Trees.{RuleTree, RCut, RFact, StepTree}
+use Rattle.kernel.specs.Trees.{RuleTree, RCut, RFact}
 use Rattle.kernel.specs.Meaning.{rule_at, step_at}
 use Rattle.problems.specs.declared.names.NameEntry.{NameEntry}
 use Rattle.steps_text.specs.Words.{numbers_from, numbers, is_colon, before_colon, after_colon}
-use Rattle.steps_text.specs.Lines.{Thing, Formula, Derived, symbol_formula, picked_from, referred, joined, negation, rule_of, rule_words, derived, step_of, words_made}
+use Rattle.steps_text.specs.Lines.{Formula, Derived, symbol_formula, picked_from, referred, joined, negation, rule_of, rule_words, derived, step_of, words_made}
 use Rattle.steps_text.specs.Writing.{IsWord, HasNoTypes}
 use Rattle.steps_text.specs.Text.{decimals, lines_in, line_in, rule_word, rule_numbers, step_words, AreNumbers, StepFits}
 use Rattle.steps_text.specs.Written.{cut_formulas}

@@ -1,7 +1,7 @@
 -- Formulas and steps that are written one after another.
-use Rattle.std.proofs.Common.{◌≡◌, ◌≢◌, ℕ, ◌+◌, ◌-◌, ◌<◌, ◌≤◌, suc, List, [], ◌∷◌, ◌++◌, length, get_or, take, map, All, Option, Some, None, refl, sym, ap, subst, ◌∙◌, arith}
+use Rattle.std.proofs.Common.{◌≡◌, ℕ, ◌+◌, ◌<◌, ◌≤◌, suc, List, [], ◌∷◌, ◌++◌, length, get_or, take, All, Option, Some, None, refl, sym, ap, subst, ◌∙◌, arith}
 use Rattle.std.specs.Prelude.{codes, slice_get, IsSomeAnd}
-use Rattle.std.proofs.lemmas.List.{map-append, map_push, take_more, take_all, get_or-map, length-map}
+use Rattle.std.proofs.lemmas.List.{map_push, take_more, take_all, get_or-map}
 use Rattle.std.proofs.lemmas.List.Elements.{All-cons, All-nil, All-append}
 use Rattle.trees.specs.declared.TermId.{TermId}
 use Rattle.trees.specs.declared.Node.{Node}
@@ -18,8 +18,8 @@ use Rattle.kernel.specs.Rows.{Row, IsRight, Closes, last_starts, step_or, sequen
 use Rattle.kernel.specs.Meaning.{rule_at, step_at, steps_at}
 use Rattle.problems.specs.declared.names.NameEntry.{NameEntry}
 use Rattle.steps_text.specs.Words.{lines_of}
-use Rattle.steps_text.specs.Lines.{Reading, nothing_read, Thing, Formula, Derived, thing_of, IsGood, after, AreRead, StepsOf}
-use Rattle.steps_text.specs.Writing.{AreNames, IsWritable, IsLow, IsWritableStep, AreWritable, AreLow, HasNoTypes, rule_formulas, formulas_of}
+use Rattle.steps_text.specs.Lines.{Reading, nothing_read, Derived, IsGood, after, AreRead, StepsOf}
+use Rattle.steps_text.specs.Writing.{AreNames, IsLow, IsWritableStep, AreWritable, AreLow, HasNoTypes, rule_formulas, formulas_of}
 use Rattle.steps_text.specs.Text.{line_text, step_words, StepFits}
 use Rattle.steps_text.specs.Written.{Reads, IsText, IsNumbered, AreNumbered, term_id, parts, cut_formulas, reading, IsWriting, CanWrite, Continues, ContinuesWith, Keeps}
 use Rattle.steps_text.specs.declared.writer.Writer.{Writer}

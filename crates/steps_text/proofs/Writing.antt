@@ -1,6 +1,6 @@
 -- What has been written is read back, line after line.
-use Rattle.std.proofs.Common.{◌≡◌, ◌≢◌, ℕ, ◌+◌, ◌<◌, ◌≤◌, ◌==◌, ◌&&◌, min, max, Bool, true, false, cond, zero, suc, List, [], ◌∷◌, ◌++◌, length, get_or, map, All, Option, Some, None, refl, sym, ap, subst, ◌∙◌, arith, append_assoc}
-use Rattle.std.specs.Prelude.{codes, slice_get, ◌⊎◌, IsTrue}
+use Rattle.std.proofs.Common.{◌≡◌, ◌≢◌, ℕ, ◌+◌, ◌≤◌, ◌==◌, ◌&&◌, min, max, true, false, zero, suc, List, [], ◌∷◌, ◌++◌, length, get_or, All, Option, Some, None, refl, sym, ap, subst, ◌∙◌, arith}
+use Rattle.std.specs.Prelude.{codes, slice_get, ◌⊎◌}
 use Rattle.std.proofs.Common.{inl, inr}
 use Rattle.std.specs.Option.{option_map}
 use Rattle.std.proofs.lemmas.Bool.Decides.{nat_tests}
@@ -17,14 +17,12 @@ use Rattle.trees.specs.Node.{tree_at, node_tree}
 use Rattle.tasks.specs.Task.{TaskTree}
 use Rattle.tasks.specs.Typing.{IsTyped}
 use Rattle.tasks.specs.Meaning.{trees_at}
-use Rattle.kernel.specs.Trees.{StepTree}
 use Rattle.problems.specs.declared.names.NameEntry.{NameEntry}
-use Rattle.steps_text.specs.Words.{words_of, lines_of}
-use Rattle.steps_text.specs.Lines.{Reading, nothing_read, Thing, Formula, Derived, IsGood, after, thing_of, words_made}
+use Rattle.steps_text.specs.Lines.{Reading, nothing_read, Thing, Formula, IsGood, after, words_made}
 use Rattle.steps_text.specs.Reading.{MakesGood}
 use Rattle.steps_text.specs.Writing.{IsWord, IsWritable, IsLow, is_writable, is_end, is_named}
-use Rattle.steps_text.specs.Text.{spaced, whole, line_text, line_or, line_in, lines_in, decimals, name_of, op_word, formula_words, FormulaFits}
-use Rattle.steps_text.specs.Written.{Reads, IsText, IsNumbering, IsNumbered, AreNumbered, term_id, parts, reading, IsWriting, CanWrite, Continues, Keeps, Sets, Adds}
+use Rattle.steps_text.specs.Text.{spaced, line_text, line_or, lines_in, decimals, name_of, formula_words, FormulaFits}
+use Rattle.steps_text.specs.Written.{Reads, IsText, IsNumbering, IsNumbered, AreNumbered, term_id, parts, reading, CanWrite, Continues, Keeps, Sets, Adds}
 use Rattle.steps_text.specs.declared.writer.Writer.{Writer}
 use Rattle.steps_text.proofs.Spacing.{NoFeed, words_back, whole_more, line_feed}
 use Rattle.steps_text.proofs.Lines.{Finds, and_made, imp_made, not_made, symbol_made, decimals_words, word_past_space, both_true}

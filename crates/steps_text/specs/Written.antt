@@ -16,7 +16,7 @@ use Rattle.problems.specs.declared.names.NameEntry.{NameEntry}
 use Rattle.steps_text.specs.Lines.{Reading, nothing_read, Thing, after}
 use Rattle.steps_text.specs.Reading.{MakesGood}
 use Rattle.steps_text.specs.Text.{whole}
-use Rattle.steps_text.specs.Writing.{AreNames, IsWritable, IsLow, IsWritableStep, formulas_of}
+use Rattle.steps_text.specs.Writing.{AreNames, IsWritable, IsLow, formulas_of}
 use Rattle.steps_text.specs.declared.writer.Writer.{Writer}
 
 -- lines lead from one reading to another

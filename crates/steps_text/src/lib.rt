@@ -15,6 +15,10 @@ pub use step_reader::StepReader;
 pub use writer::write_steps;
 
 #[cfg(test)]
+mod mutations;
+#[cfg(test)]
+mod plain_check;
+#[cfg(test)]
 mod round_trips;
 #[cfg(test)]
 mod tests;

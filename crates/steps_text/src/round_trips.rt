@@ -17,7 +17,7 @@ use trees::{Node, Op, TermId};
 
 // The axiom is p. Each row: whether the goal is q -> p and not p, the file, and the file as it is written, in which each
 // formula stands where it is first needed.
-const FILES: [(bool, &str, &str); 2] = [
+pub(crate) const FILES: [(bool, &str, &str); 2] = [
     (
         false,
         "e sym p_1\ne not 0\ns 1 0 : clash 1 0 :\ns 1 : fact 0 : 0\n",
@@ -117,7 +117,8 @@ fn line_of(read: Result<Vec<Step>, ReadFault>) -> Result<u64, ReadFault> {
     }
 }
 
-fn wrong_line(alloc: Global, second: bool, bytes: &[u8]) -> Result<u64, ReadFault> {
+// The first wrong line of a file over the first problem, or the second.
+pub(crate) fn wrong_line(alloc: Global, second: bool, bytes: &[u8]) -> Result<u64, ReadFault> {
     let mut store = Store::new(alloc)?;
     let task = problem(alloc, &mut store, second)?;
     let names = names(alloc)?;

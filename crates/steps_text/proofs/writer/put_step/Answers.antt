@@ -2,7 +2,7 @@
 use Rattle.std.proofs.Common.{◌≡◌, ◌++◌, ◌∷◌, ℕ, List, subst}
 use Rattle.std.specs.Prelude.{codes}
 use Rattle.trees.specs.declared.TermId.{TermId}
-use Rattle.steps_text.specs.Text.{spaced, decimals, lines_in, rule_word, rule_numbers, step_words, AreNumbers}
+use Rattle.steps_text.specs.Text.{spaced, decimals, lines_in, rule_word, rule_numbers, step_words}
 use Rattle.steps_text.proofs.Putting.{line_put, step_put}
 use Rattle.steps_text.proofs.writer.put_step.Goals as goal
 

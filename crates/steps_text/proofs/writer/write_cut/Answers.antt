@@ -1,4 +1,4 @@
-use Rattle.std.proofs.Common.{List, sym, subst}
+use Rattle.std.proofs.Common.{sym, subst}
 use Rattle.std.specs.Prelude.{OnOk}
 use Rattle.kernel.specs.Meaning.{rule_at}
 use Rattle.steps_text.specs.Writing.{rule_formulas}
