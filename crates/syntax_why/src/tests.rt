@@ -152,12 +152,16 @@ fn conditional(alloc: Global) -> Result<Expr, AllocError> {
 }
 
 /// `let _ = (-_) in if true then false else (x: ('a))`
+fn open_form(alloc: Global) -> Result<Expr, AllocError> {
+    let minus = Expr::apply(HERE, called(alloc, Style::Prefix, "-")?, Seq::new(alloc));
+    let bound = one(alloc, Pat::wildcard(HERE))?;
+    Expr::binding(alloc, HERE, bound, minus, conditional(alloc)?)
+}
+
 #[test]
 fn writes_open_forms(rt: HostRuntime) -> Result<(), Fail> {
     let alloc = rt.alloc();
-    let minus = Expr::apply(HERE, called(alloc, Style::Prefix, "-")?, Seq::new(alloc));
-    let bound = one(alloc, Pat::wildcard(HERE))?;
-    let whole = Expr::binding(alloc, HERE, bound, minus, conditional(alloc)?)?;
+    let whole = open_form(alloc)?;
     let kinds = [
         TokenKind::Reserved(34),
         TokenKind::Wild,
@@ -200,12 +204,16 @@ fn branch(alloc: Global) -> Result<BranchTree, AllocError> {
 }
 
 /// `match (*) with | C x as y | () -> a end`
+fn cases(alloc: Global) -> Result<Expr, AllocError> {
+    let star = Expr::apply(HERE, called(alloc, Style::Star, "*")?, Seq::new(alloc));
+    let arms = one(alloc, branch(alloc)?)?;
+    Ok(Expr::cases(HERE, one(alloc, star)?, true, arms))
+}
+
 #[test]
 fn writes_cases(rt: HostRuntime) -> Result<(), Fail> {
     let alloc = rt.alloc();
-    let star = Expr::apply(HERE, called(alloc, Style::Star, "*")?, Seq::new(alloc));
-    let arms = one(alloc, branch(alloc)?)?;
-    let whole = Expr::cases(HERE, one(alloc, star)?, true, arms);
+    let whole = cases(alloc)?;
     let kinds = [
         TokenKind::Reserved(35),
         TokenKind::StarName,
