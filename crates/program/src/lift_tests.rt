@@ -83,35 +83,57 @@ fn files_are_lifted_or_refused(rt: HostRuntime) -> Result<(), Fail> {
     Ok(())
 }
 
-// The words of some runs, with the code of the status and the line on the second sink.
+// The words, then the code of the status and the line on the second sink.
 const WORDS: [(&[&str], u8, &str); 5] = [
-    (&["s", "plain.drv", "T", "g", "1"], 1, "refused: 90 2 1\n"),
-    (&["s", "plain.drv", "T", "g"], 1, "refused: 90 2 0\n"),
     (
-        &["s", "plain.drv", "T", "g", "x", "y", "z"],
+        &["why3lift", "lift", "s", "plain.drv", "T", "g", "1"],
+        1,
+        "refused: 90 2 1\n",
+    ),
+    (
+        &["why3lift", "lift", "s", "plain.drv", "T", "g"],
+        1,
+        "refused: 90 2 0\n",
+    ),
+    (
+        &[
+            "why3lift",
+            "lift",
+            "s",
+            "plain.drv",
+            "T",
+            "g",
+            "x",
+            "y",
+            "z",
+        ],
         1,
         "refused: 90 2 3\n",
     ),
-    (&["s", "plain.drv", "T", "g", "x", "2"], 4, "absent: 2\n"),
-    (&["s", "plain.drv", "T", "g", "1", "x"], 4, "absent: 3\n"),
+    (
+        &["why3lift", "lift", "s", "plain.drv", "T", "g", "x", "2"],
+        4,
+        "absent: 2\n",
+    ),
+    (
+        &["why3lift", "lift", "s", "plain.drv", "T", "g", "1", "x"],
+        4,
+        "absent: 3\n",
+    ),
 ];
 
 #[test]
 fn files_are_counted_and_numbered(rt: HostRuntime) -> Result<(), Fail> {
     let alloc = rt.alloc();
-    for (operands, code, line) in WORDS {
+    for (words, code, line) in WORDS {
         let line = line.as_bytes();
         let mut lib = library(alloc, FIRST.as_bytes(), SECOND.as_bytes(), &[])?;
         let mut out = sink(alloc, &[])?;
         let mut err = sink(alloc, &[])?;
-        let mut words = strings(alloc, &["why3lift", "lift"])?;
-        for word in operands {
-            words.push(String::from_str(alloc, word)?)?;
-        }
-        let status = run(alloc, &words, &mut lib, &mut out, &mut err);
+        let status = run(alloc, &strings(alloc, words)?, &mut lib, &mut out, &mut err);
         assert_eq!(rt; status.code(), code);
         assert_eq!(rt; err.written(), line);
-        assert_eq!(rt; out.written(), b"".as_slice());
+        assert_eq!(rt; out.written().len(), 0);
     }
     Ok(())
 }
