@@ -12,8 +12,6 @@ ghost use Rattle.trees.specs.Facts.{has_param, Occurs, IndicesFit, PutsSorts};
 ghost use Rattle.trees.specs.Binding.{Change, change, shifting, shift, instantiating, inst, instantiating_many, inst_many, typing, inst_types, closing, close, Param, ParamHasType};
 
 mod instances;
-#[cfg(test)]
-mod tests;
 
 pub use instances::{is_inst, is_inst_types};
 use std::alloc::AllocError;

@@ -2,7 +2,8 @@
 use crate::{SourceFault, TaskFault, read_source, task_of};
 use std::alloc::{AllocError, Global};
 use std::test::Fail;
-use term_store::Store;
+use term_store::{Grow, Store};
+use trees::Node;
 
 const EXAMPLE: &str = "theory T predicate p predicate q axiom a: p goal g: p /\\ (q -> p) end";
 
@@ -139,6 +140,25 @@ fn a_goal_has_its_task(rt: HostRuntime) -> Result<(), Fail> {
                 Err(_) => assert!(rt; false),
             }
         }
+        Err(_) => assert!(rt; false),
+    }
+    Ok(())
+}
+
+#[test]
+fn a_task_starts_with_its_goal_negated(rt: HostRuntime) -> Result<(), Fail> {
+    let alloc = rt.alloc();
+    let mut store = Store::new(alloc)?;
+    let text = EXAMPLE.as_bytes();
+    match read_source(alloc, &mut store, text) {
+        Ok(theory) => match task_of(alloc, &store, theory, "T", "g") {
+            Ok(task) => {
+                let start = task.start(alloc, &mut store)?;
+                let negated = store.add(Node::Not(task.goal))?;
+                assert_eq!(rt; start.as_slice(), [negated].as_slice());
+            }
+            Err(_) => assert!(rt; false),
+        },
         Err(_) => assert!(rt; false),
     }
     Ok(())

@@ -13,12 +13,3 @@ mod writer;
 pub use fault::ReadFault;
 pub use step_reader::StepReader;
 pub use writer::write_steps;
-
-#[cfg(test)]
-mod mutations;
-#[cfg(test)]
-mod plain_check;
-#[cfg(test)]
-mod round_trips;
-#[cfg(test)]
-mod tests;
