@@ -1,4 +1,4 @@
-use Rattle.unify_types.proofs.tests.+typed.Given as goal
+use Rattle.unify_types_tests.proofs.tables.+typed.Given as goal
 
 abbrev pub decreases-is_type : goal.decreases-is_type
 decreases-is_type l = l.e.0

@@ -1,11 +1,11 @@
 // Random systems of equations, against a plain unifier that walks trees and takes the equations from the last on.
-use crate::UnifyFault;
-use crate::tests::{answer, applied, variable};
+use crate::tables::{answer, applied, variable};
 use std::alloc::Global;
 use std::process::Abort;
 use std::test::Fail;
 use term_store::Store;
 use trees::{Node, TermId};
+use unify_types::UnifyFault;
 
 // The first type variable stands for itself, the next four are unknowns.
 const RIGID: usize = 1;
@@ -49,6 +49,27 @@ fn types(
     Ok(made)
 }
 
+// What a number stands for, as far as types go.
+#[derive(Clone, Copy)]
+enum Shape {
+    Variable(usize),
+    Applied(usize, TermId),
+    Cell(TermId, TermId),
+    End,
+    Other,
+}
+
+fn shape_of(rt: &impl Abort, store: &Store, e: TermId) -> Shape {
+    assert!(rt; store.holds(e));
+    match store.node(e) {
+        Node::TyVar(j) => Shape::Variable(j),
+        Node::TyApp(symbol, list) => Shape::Applied(symbol, list),
+        Node::Cell(first, rest) => Shape::Cell(first, rest),
+        Node::End => Shape::End,
+        _ => Shape::Other,
+    }
+}
+
 // What a type is bound to in the end.
 fn resolve(
     rt: &impl Abort,
@@ -58,8 +79,7 @@ fn resolve(
 ) -> Result<TermId, Fail> {
     let mut at = e;
     for _ in 0..VARIABLES {
-        assert!(rt; store.holds(at));
-        let Node::TyVar(j) = store.node(at) else {
+        let Shape::Variable(j) = shape_of(rt, store, at) else {
             return Ok(at);
         };
         let Some(Some(next)) = bound.get(j) else {
@@ -86,19 +106,18 @@ fn occurs(
             return Ok(false);
         };
         let at = resolve(rt, store, bound, e)?;
-        assert!(rt; store.holds(at));
-        match store.node(at) {
-            Node::TyVar(j) => {
+        match shape_of(rt, store, at) {
+            Shape::Variable(j) => {
                 if j == variable {
                     return Ok(true);
                 }
             }
-            Node::TyApp(_, list) => waiting.push(list)?,
-            Node::Cell(first, rest) => {
+            Shape::Applied(_, list) => waiting.push(list)?,
+            Shape::Cell(first, rest) => {
                 waiting.push(first)?;
                 waiting.push(rest)?;
             }
-            _ => {}
+            Shape::End | Shape::Other => {}
         }
     }
     Err("an endless type")?
@@ -138,22 +157,20 @@ fn unify_plainly(
         };
         let a = resolve(rt, store, bound, left)?;
         let b = resolve(rt, store, bound, right)?;
-        assert!(rt; store.holds(a));
-        assert!(rt; store.holds(b));
-        let same = match (store.node(a), store.node(b)) {
-            (Node::TyVar(j), Node::TyVar(k)) if j == k => true,
-            (Node::TyVar(j), _) if j >= RIGID => bind(rt, alloc, store, bound, j, b)?,
-            (_, Node::TyVar(k)) if k >= RIGID => bind(rt, alloc, store, bound, k, a)?,
-            (Node::TyApp(f, xs), Node::TyApp(g, ys)) => {
+        let same = match (shape_of(rt, store, a), shape_of(rt, store, b)) {
+            (Shape::Variable(j), Shape::Variable(k)) if j == k => true,
+            (Shape::Variable(j), _) if j >= RIGID => bind(rt, alloc, store, bound, j, b)?,
+            (_, Shape::Variable(k)) if k >= RIGID => bind(rt, alloc, store, bound, k, a)?,
+            (Shape::Applied(f, xs), Shape::Applied(g, ys)) => {
                 waiting.push((xs, ys))?;
                 f == g
             }
-            (Node::Cell(x, xs), Node::Cell(y, ys)) => {
+            (Shape::Cell(x, xs), Shape::Cell(y, ys)) => {
                 waiting.push((x, y))?;
                 waiting.push((xs, ys))?;
                 true
             }
-            (Node::End, Node::End) => true,
+            (Shape::End, Shape::End) => true,
             _ => false,
         };
         if !same {
@@ -199,25 +216,24 @@ fn written(
             return Ok(Some(text));
         };
         let at = resolve(rt, store, bound, e)?;
-        assert!(rt; store.holds(at));
-        match store.node(at) {
-            Node::TyVar(j) => {
+        match shape_of(rt, store, at) {
+            Shape::Variable(j) => {
                 if j >= RIGID {
                     return Ok(None);
                 }
                 text.push(0)?;
             }
-            Node::TyApp(symbol, list) => {
+            Shape::Applied(symbol, list) => {
                 text.push(1)?;
                 text.push(symbol)?;
                 waiting.push(list)?;
             }
-            Node::Cell(first, rest) => {
+            Shape::Cell(first, rest) => {
                 text.push(2)?;
                 waiting.push(rest)?;
                 waiting.push(first)?;
             }
-            _ => text.push(3)?,
+            Shape::End | Shape::Other => text.push(3)?,
         }
     }
     Err("an endless type")?

@@ -3,12 +3,12 @@ ghost use Rattle.std.specs.Prelude.{◌≡◌, true, false};
 ghost use Rattle.trees.specs.Node.{tree_at, Holds, Grows};
 ghost use Rattle.unify_types.specs.Assigned.{IsTyped};
 
-use crate::{Equation, Solution, UnifyFault, solve};
 use std::alloc::Global;
 use std::process::Abort;
 use std::test::Fail;
 use term_store::{Grow, Store};
 use trees::{Node, TermId};
+use unify_types::{Equation, Solution, UnifyFault, solve};
 
 #[cycle(typed)]
 fn is_type(store: &Store, e: TermId) -> bool
@@ -40,28 +40,24 @@ pub(crate) fn variable(store: &mut Store, j: usize) -> Result<TermId, Fail> {
     Ok(store.add(Node::TyVar(j))?)
 }
 
+// Adds a node that fits.
+fn put(rt: &impl Abort, store: &mut Store, node: Node) -> Result<TermId, Fail> {
+    assert!(rt; store.accepts(node), "{node:?}");
+    Ok(store.add(node)?)
+}
+
 // A type symbol with its arguments.
-#[tactic(auto, using(crate::proofs::Resolved::list_sort, crate::proofs::Resolved::type_no_list, crate::proofs::Resolved::first_kind, crate::proofs::Resolved::first_like))]
 pub(crate) fn applied(
     rt: &impl Abort,
     store: &mut Store,
     symbol: usize,
     types: &[TermId],
 ) -> Result<TermId, Fail> {
-    let mut list = store.add(Node::End)?;
-    let mut left = types.len();
-    while left > 0 {
-        left -= 1;
-        let a = types[left];
-        assert!(rt; store.holds(a));
-        assert!(rt; store.holds(list));
-        assert!(rt; is_type(store, a));
-        assert!(rt; is_list(store, list));
-        list = store.add(Node::Cell(a, list))?;
+    let mut list = put(rt, store, Node::End)?;
+    for ty in types.iter().rev() {
+        list = put(rt, store, Node::Cell(*ty, list))?;
     }
-    assert!(rt; store.holds(list));
-    assert!(rt; is_list(store, list));
-    Ok(store.add(Node::TyApp(symbol, list))?)
+    put(rt, store, Node::TyApp(symbol, list))
 }
 
 // The answer to equations, given as pairs of types.
