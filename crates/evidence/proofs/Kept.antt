@@ -1,6 +1,6 @@
 -- A draft stays one as its store grows and right steps are put at its end.
-use Rattle.std.proofs.Common.{◌≡◌, List, [], ◌∷◌, ◌++◌, sym, subst, ◌∙◌}
-use Rattle.std.proofs.lemmas.List.{map-append, append-nil}
+use Rattle.std.proofs.Common.{◌≡◌, List, [], ◌∷◌, ◌++◌, subst}
+use Rattle.std.proofs.lemmas.List.{map-append}
 use Rattle.std.proofs.lemmas.List.Elements.{All-push}
 use Rattle.trees.specs.Tree.{Tree}
 use Rattle.trees.specs.Node.{Grows}
@@ -12,8 +12,7 @@ use Rattle.kernel.specs.declared.rule.Step.{Step}
 use Rattle.kernel.specs.Rows.{IsRight, AreRight}
 use Rattle.kernel.specs.Meaning.{step_at, steps_at, StepHeld}
 use Rattle.kernel.proofs.Growth.{right_more, steps_later, steps_held_later}
-use Rattle.evidence.specs.Drafts.{DraftTree, Extends}
-use Rattle.evidence.specs.Propositional.{StepInForm, StepsInForm}
+use Rattle.evidence.specs.Drafts.{DraftTree, AddsTrees}
 use Rattle.evidence.specs.Inside.{IsDraft}
 
 abbrev seen : List Tree → Task → List Step → DraftTree
@@ -23,25 +22,23 @@ steps_pushed : (s : List Tree) (list : List Step) (st : Step) → steps_at s (li
 steps_pushed s list st = map-append (step_at s) list (st ∷ [])
 
 pub draft_pushed : (s : List Tree) (t : Task) (list : List Step) (st : Step) (d : DraftTree) → seen s t list ≡ d → IsDraft s t list
-    → StepHeld d.trees st → IsRight d.task d.steps (step_at d.trees st) → StepInForm d.task (step_at d.trees st) → IsDraft s t (list ++ st ∷ [])
+    → StepHeld d.trees st → IsRight d.task d.steps (step_at d.trees st) → IsDraft s t (list ++ st ∷ [])
 draft_pushed s t list st d is inv =
-    let P : DraftTree → Type 0 = λ x. StepHeld x.trees st → IsRight x.task x.steps (step_at x.trees st) → StepInForm x.task (step_at x.trees st) → IsDraft s t (list ++ st ∷ []) in
-    subst P is (λ h r f. record {
+    let P : DraftTree → Type 0 = λ x. StepHeld x.trees st → IsRight x.task x.steps (step_at x.trees st) → IsDraft s t (list ++ st ∷ []) in
+    subst P is (λ h r. record {
       task = inv.task;
       valid = inv.valid;
       held = All-push (StepHeld s) list st inv.held h;
       right = rw (steps_pushed s list st) (right_more (task_at s t) (steps_at s list) (step_at s st) inv.right r);
-      form = rw (steps_pushed s list st) (All-push (StepInForm (task_at s t)) (steps_at s list) (step_at s st) inv.form f);
     })
 
 pub draft_later : (s s' : List Tree) (t : Task) (list : List Step) → Grows s s' → IsDraft s t list → IsDraft s' t list
 draft_later s s' t list g inv =
     let Q : AreRight (task_at s' t) (steps_at s' list) = rw (task_later s s' g t inv.task, steps_later s s' g list inv.held) inv.right in
-    let F : StepsInForm (task_at s' t) (steps_at s' list) = rw (task_later s s' g t inv.task, steps_later s s' g list inv.held) inv.form in
     let v : IsValid (task_at s' t) = rw (task_later s s' g t inv.task) inv.valid in
-    record { task = task_held_later s s' g t inv.task; valid = v; held = steps_held_later s s' g list inv.held; right = Q; form = F }
+    record { task = task_held_later s s' g t inv.task; valid = v; held = steps_held_later s s' g list inv.held; right = Q }
 
-pub draft_extends : (s s' : List Tree) (t : Task) (list : List Step) (d : DraftTree) → seen s t list ≡ d → Grows s s' → IsDraft s t list → Extends d (seen s' t list)
-draft_extends s s' t list d is g inv =
-    subst (λ (x : DraftTree). Extends x (seen s' t list)) is
-    (record { trees = g; task = task_later s s' g t inv.task; more = []; steps = steps_later s s' g list inv.held ∙ sym (append-nil (steps_at s list)) })
+pub draft_adds : (s s' : List Tree) (t : Task) (list : List Step) (d : DraftTree) → seen s t list ≡ d → Grows s s' → IsDraft s t list → AddsTrees d (seen s' t list)
+draft_adds s s' t list d is g inv =
+    subst (λ (x : DraftTree). AddsTrees x (seen s' t list)) is
+    (record { trees = g; task = task_later s s' g t inv.task; steps = steps_later s s' g list inv.held })

@@ -2,3 +2,4 @@ pub mod Kept
 pub mod Typed
 pub mod Rules
 pub mod Lifted
+pub mod Staying

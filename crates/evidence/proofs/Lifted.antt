@@ -1,7 +1,7 @@
 -- Steps that are lifted are right.
 use Rattle.std.proofs.Common.{◌≡◌, ℕ, ◌<◌, ◌≤◌, List, [], ◌∷◌, ◌++◌, ◌+◌, ◌-◌, Option, None, Some, IsSomeAnd, length, map, get_or, slice_get, take, All, inl, inr, refl, sym, ap, subst, ◌∙◌, arith}
 use Rattle.std.proofs.lemmas.List.{map-append, length-map, length-append, get_or_append_left, get_or-map, take-map, length-take-le, get_or-take}
-use Rattle.std.proofs.lemmas.List.Elements.{All-map, All-head, All-push}
+use Rattle.std.proofs.lemmas.List.Elements.{All-map, All-head}
 use Rattle.std.proofs.lemmas.Option.{get_or_from_slice_get, slice_get_within}
 use Rattle.std.proofs.lemmas.Bool.{cases_lt}
 use Rattle.std.proofs.Math.Seq.{get_or-append_seam}
@@ -24,8 +24,8 @@ use Rattle.kernel.proofs.Growth.{steps_later, steps_held_later}
 use Rattle.kernel.proofs.Places.{step_or-at}
 use Rattle.kernel.proofs.Sequents.{map_twice}
 use Rattle.evidence.specs.Drafts.{DraftTree, Extends, Refutes, cut_step, keep_step}
-use Rattle.evidence.specs.Propositional.{IsPropositional, InForm, AllInForm, StepInForm, StepsInForm}
 use Rattle.evidence.specs.Stages.{HaveSequents, StandFor, EndIn, HasSequents, KeepsDeclared, IsAmong, IsOwn, InStage, IsFact, IsCutBy, PartsClose, PartsHeld, parts_at, part_or, task_or, prop_or, no_proposition, fact_of, no_task, sequent_of, start_of}
+use Rattle.evidence.specs.Languages.{Language, StepIsIn, StepsAreIn}
 use Rattle.evidence.proofs.Typed.{formula_moved, formulas_moved, types_moved, formula_negated}
 use Rattle.evidence.proofs.Rules.{refutes_later, keep_right, cut_right}
 
@@ -136,26 +136,6 @@ fact_cut d d1 ids wide n fact g j k x w h hf m f is is_g taken z =
     let no' : Refutes d1 k (s ++ neg a ∷ []) = record { within = z.within; is = z.is ∙ wide_trees d.trees ids wide n w ∙ ap (λ (v : Tree). s ++ v ∷ []) is } in
     rw (e1, e2) (cut_right d1 s a j k formulas formula yes' no')
 
--- a step that has another's sequent and rule is in form where that is
-pub form_of : (t : TaskTree) (st : StepTree) (premises : List ℕ) → StepInForm t st → StepInForm t (record { sequent = st.sequent; rule = st.rule; premises = premises })
-form_of t st premises f m = record { sequent = (f m).sequent; rule = (f m).rule }
-
--- the formula of a step's sequent
-pub only_in_form : (t : TaskTree) (steps : List StepTree) (k : ℕ) (a : Tree) → StepsInForm t steps → k < length steps → (step_or steps k).sequent ≡ a ∷ [] → InForm t a
-only_in_form t steps k a form l e m = All-head IsPropositional a [] (subst (All IsPropositional) e (form k no_step l m).sequent)
-
-pub keep_in_form : (t : TaskTree) (s wide : List Tree) (n : Tree) (places : List ℕ) (k : ℕ) → wide ≡ s ++ n ∷ [] → AllInForm t s → InForm t n → StepInForm t (keep_step wide places k)
-keep_in_form t s wide n places k w f g m = record { sequent = subst (All IsPropositional) (sym w) (All-push IsPropositional s n (f m) (g m)); rule = tt }
-
-pub cut_in_form : (t u : TaskTree) (s s1 : List Tree) (n fact fact1 : Tree) (j k : ℕ) → u ≡ t → s1 ≡ s → fact1 ≡ fact → n ≡ neg fact → AllInForm t s → InForm t n → StepInForm u (cut_step s1 fact1 j k)
-cut_in_form t u s s1 n fact fact1 j k tu es ef is f g =
-    rw (tu, es, ef) (λ m. record { sequent = f m; rule = subst IsPropositional is (g m) })
-
-pub all_in_form_later : (d d1 : DraftTree) (ids : List TermId) → Extends d d1 → All (Holds d.trees) ids → AllInForm d.task (trees_at d.trees ids) → AllInForm d1.task (trees_at d1.trees ids)
-all_in_form_later d d1 ids x h f =
-    let a : trees_at d1.trees ids ≡ trees_at d.trees ids = trees_later d.trees d1.trees x.trees ids h in
-    rw (a, x.task) f
-
 pub formulas_lifted : (d d1 : DraftTree) (t : TaskTree) (ids : List TermId) → KeepsDeclared d.task t → Extends d d1 → All (Holds d.trees) ids → All (IsGroundFormula t) (trees_at d.trees ids)
     → All (IsGroundFormula d1.task) (trees_at d1.trees ids)
 formulas_lifted d d1 t ids kept x h m =
@@ -224,8 +204,8 @@ module _ (d d1 : DraftTree) (part : List Step) (g : Extends d d1) (ph : StepsHel
       let e1 : task_at d1.trees to ≡ task_at d.trees to = task_later d.trees d1.trees g.trees to th in
       rw (e1, front_later j, step_moved j x l is) (a j (rw (length-map part (step_at d.trees)) l))
 
-  pub part_step_form : (j : ℕ) (x : Step) → StepsInForm d.task (steps_at d.trees part) → j < length part → x ≡ get_or part j x → StepInForm d1.task (step_at d1.trees x)
-  part_step_form j x f l is = rw (g.task, step_moved j x l is) (f j no_step (rw (length-map part (step_at d.trees)) l))
+  pub part_step_in : (p : Language) (j : ℕ) (x : Step) → StepsAreIn p (steps_at d.trees part) → j < length part → x ≡ get_or part j x → StepIsIn p (step_at d1.trees x)
+  part_step_in p j x f l is = rw (step_moved j x l is) (f j no_step (rw (length-map part (step_at d.trees)) l))
 
   pub stand_part : (j : ℕ) (ns these : List ℕ) → j < length part → these ≡ ns → HaveSequents d1 ns (sequent_of (steps_at d.trees part)) j → StandFor d1 these (steps_at d1.trees (take j part))
   stand_part j ns these l e u =
@@ -294,10 +274,9 @@ module _ (d d1 : DraftTree) (g : Extends d d1) where
       let b : steps_at d1.trees these ≡ part_or (parts_at d.trees parts) i = part_later parts i y these ph m iy e in
       rw (a, b) (c.each i (rw (length-map to (task_at d.trees)) l))
 
-  pub form_later : (parts : List (List Step)) (i : ℕ) (y these : List Step) → PartsHeld d.trees parts → All (StepsInForm d.task) (parts_at d.trees parts) → i < length parts → y ≡ get_or parts i y → these ≡ y
-      → StepsInForm d1.task (steps_at d1.trees these)
-  form_later parts i y these ph f m iy e =
-      rw (g.task, part_later parts i y these ph m iy e) (f i [] (rw (length-map parts (steps_at d.trees)) m))
+  pub part_in : (p : Language) (parts : List (List Step)) (i : ℕ) (y these : List Step) → PartsHeld d.trees parts → All (StepsAreIn p) (parts_at d.trees parts) → i < length parts → y ≡ get_or parts i y → these ≡ y
+      → StepsAreIn p (steps_at d1.trees these)
+  part_in p parts i y these ph f m iy e = rw (part_later parts i y these ph m iy e) (f i [] (rw (length-map parts (steps_at d.trees)) m))
 
   pub sequents_more : (q : ℕ → List StepTree) (n : ℕ) → ((i : ℕ) → i < n → HasSequents d (q i)) → HasSequents d1 (q n) → (i : ℕ) → i < n + 1 → HasSequents d1 (q i)
   sequents_more q n a h i l = elim (cases_lt i n) [

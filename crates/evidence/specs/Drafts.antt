@@ -27,6 +27,12 @@ pub record Extends (old new : DraftTree) : Type 0 where
   pub more : List StepTree
   pub steps : new.steps ≡ old.steps ++ more
 
+-- trees were added, and nothing else changed
+pub record AddsTrees (old new : DraftTree) : Type 0 where
+  pub trees : Grows old.trees new.trees
+  pub task : new.task ≡ old.task
+  pub steps : new.steps ≡ old.steps
+
 -- the draft has a step with this number and sequent
 pub record Refutes (d : DraftTree) (k : ℕ) (sequent : List Tree) : Type 0 where
   pub within : k < length d.steps

@@ -7,11 +7,9 @@ use Rattle.tasks.specs.Valid.{IsValid}
 use Rattle.kernel.specs.declared.rule.Step.{Step}
 use Rattle.kernel.specs.Rows.{AreRight}
 use Rattle.kernel.specs.Meaning.{steps_at, StepsHeld}
-use Rattle.evidence.specs.Propositional.{StepsInForm}
 
 pub record IsDraft (s : List Tree) (t : Task) (list : List Step) : Type 0 where
   pub task : TaskHeld s t
   pub valid : IsValid (task_at s t)
   pub held : StepsHeld s list
   pub right : AreRight (task_at s t) (steps_at s list)
-  pub form : StepsInForm (task_at s t) (steps_at s list)

@@ -5,9 +5,8 @@ ghost use Rattle.tasks.specs.Meaning.{trees_at, task_at, TaskHeld};
 ghost use Rattle.tasks.specs.Valid.{IsValid};
 ghost use Rattle.kernel.specs.Rows.{IsRight, AreRight};
 ghost use Rattle.kernel.specs.Meaning.{step_at, steps_at, StepHeld, StepsHeld};
-ghost use Rattle.evidence.specs.Drafts.{Extends, Refutes, cut_step, keep_step};
-ghost use Rattle.evidence.specs.Propositional.{StepInForm, StepsInForm};
-ghost use Rattle.evidence.specs.Laws.{Extends_refl, Extends_trans, Extends_trees};
+ghost use Rattle.evidence.specs.Drafts.{Extends, AddsTrees, Refutes, cut_step, keep_step};
+ghost use Rattle.evidence.specs.Laws.{AddsTrees_refl, AddsTrees_trans, AddsTrees_trees};
 
 use kernel::{Rule, Step};
 use outside::Seq;
@@ -72,7 +71,6 @@ impl Draft {
         ensures held { StepsHeld self.now.trees result.now }
         ensures trees { steps_at self.now.trees result.now ≡ self.now.steps }
         ensures right { AreRight self.now.task self.now.steps }
-        ensures form { StepsInForm self.now.task self.now.steps }
     {
         &self.steps
     }
@@ -83,7 +81,6 @@ impl Draft {
         ensures held { StepsHeld result.0 result.1.items }
         ensures steps { steps_at result.0 result.1.items ≡ self.steps }
         ensures right { AreRight self.task self.steps }
-        ensures form { StepsInForm self.task self.steps }
     {
         let Draft {
             store,
@@ -99,11 +96,10 @@ impl Draft {
         self.alloc
     }
 
-    /// Puts a right step at the end, and gives its number. In a propositional task it is a propositional step.
+    /// Puts a right step at the end, and gives its number.
     pub fn push(&mut self, step: Step) -> Result<usize, AllocError>
         requires held { StepHeld self.old.trees step }
         requires right { IsRight self.old.task self.old.steps (step_at self.old.trees step) }
-        requires form { StepInForm self.old.task (step_at self.old.trees step) }
         ensures number { IfOk result (λ k. k ≡ length self.old.steps) }
         ensures pushed { IfOk result (λ _. self.new ≡ record self.old { steps = self.old.steps ++ step_at self.old.trees step ∷ [] }) }
         ensures unchanged { OnErr result (self.new ≡ self.old) }
@@ -126,7 +122,9 @@ impl Draft {
         requires sequent_held { All (Holds self.old.trees) sequent.now }
         requires formula_held { Holds self.old.trees formula }
         requires right { IsRight self.old.task self.old.steps (cut_step (trees_at self.old.trees sequent.now) (tree_at self.old.trees formula) yes no) }
-        requires form { StepInForm self.old.task (cut_step (trees_at self.old.trees sequent.now) (tree_at self.old.trees formula) yes no) }
+        ensures number { IfOk result (λ k. k ≡ length self.old.steps) }
+        ensures pushed { IfOk result (λ _. self.new ≡ record self.old { steps = self.old.steps ++ cut_step (trees_at self.old.trees sequent.now) (tree_at self.old.trees formula) yes no ∷ [] }) }
+        ensures unchanged { OnErr result (self.new ≡ self.old) }
         ensures refutes { IfOk result (λ k. Refutes self.new k (trees_at self.old.trees sequent.now)) }
         ensures grows { Extends self.old self.new }
     {
@@ -148,7 +146,9 @@ impl Draft {
     ) -> Result<usize, AllocError>
         requires sequent_held { All (Holds self.old.trees) sequent.now }
         requires right { IsRight self.old.task self.old.steps (keep_step (trees_at self.old.trees sequent.now) places.now step) }
-        requires form { StepInForm self.old.task (keep_step (trees_at self.old.trees sequent.now) places.now step) }
+        ensures number { IfOk result (λ k. k ≡ length self.old.steps) }
+        ensures pushed { IfOk result (λ _. self.new ≡ record self.old { steps = self.old.steps ++ keep_step (trees_at self.old.trees sequent.now) places.now step ∷ [] }) }
+        ensures unchanged { OnErr result (self.new ≡ self.old) }
         ensures refutes { IfOk result (λ k. Refutes self.new k (trees_at self.old.trees sequent.now)) }
         ensures grows { Extends self.old self.new }
     {
@@ -163,16 +163,17 @@ impl Draft {
     }
 }
 
+/// Its store grows, and nothing else changes.
 impl Grow for Draft {
     ghost trees = { λ d. d.trees };
 
-    ghost grows = { Extends };
+    ghost grows = { AddsTrees };
 
-    ghost keeps_trees = { Extends_trees };
+    ghost keeps_trees = { AddsTrees_trees };
 
-    ghost grows_refl = { Extends_refl };
+    ghost grows_refl = { AddsTrees_refl };
 
-    ghost grows_trans = { Extends_trans };
+    ghost grows_trans = { AddsTrees_trans };
 
     fn add(&mut self, node: Node) -> Result<TermId, AllocError> {
         self.store.add(node)

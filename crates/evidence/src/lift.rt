@@ -7,8 +7,8 @@ ghost use Rattle.tasks.specs.Meaning.{trees_at, task_at, tasks_at, TasksHeld};
 ghost use Rattle.kernel.specs.Rows.{IsRight, AreRight, Closes, step_or};
 ghost use Rattle.kernel.specs.Meaning.{step_at, steps_at, StepHeld, StepsHeld};
 ghost use Rattle.evidence.specs.Drafts.{Extends, Refutes};
-ghost use Rattle.evidence.specs.Propositional.{InForm, AllInForm, StepInForm, StepsInForm};
 ghost use Rattle.evidence.specs.Stages.{IsNegation, IsOwn, InStage, StandFor, HasSequents, IsCutBy, parts_at, PartsHeld, PartsClose};
+ghost use Rattle.evidence.specs.Languages.{AreIn, StepIsIn, StepsAreIn, RespectsNegation, IsLanguageOf, StaysIn};
 
 use crate::{Draft, Transform};
 use kernel::{Rule, Step};
@@ -55,8 +55,8 @@ fn renumbered(
 fn lift_other(step: &Step, premises: Seq<usize>, draft: &mut Draft) -> Result<usize, AllocError>
     requires held { StepHeld draft.old.trees step.now }
     requires right { IsRight draft.old.task draft.old.steps (record (step_at draft.old.trees step.now) { premises = premises }) }
-    requires form { StepInForm draft.old.task (step_at draft.old.trees step.now) }
     ensures refutes { IfOk result (λ k. Refutes draft.new k (trees_at draft.old.trees step.now.sequent)) }
+    ensures language { StaysIn (λ p. StepIsIn p (step_at draft.old.trees step.now)) draft.old draft.new }
     ensures grows { Extends draft.old draft.new }
 {
     let sequent = step.sequent.clone()?;
@@ -77,9 +77,9 @@ fn lift_fact(
 ) -> Result<usize, AllocError>
     requires held { All (Holds draft.old.trees) sequent.now }
     requires formulas { All (IsGroundFormula draft.old.task) (trees_at draft.old.trees sequent.now) }
-    requires form { AllInForm draft.old.task (trees_at draft.old.trees sequent.now) }
     requires cut { IsCutBy draft.old (trees_at draft.old.trees sequent.now) with_fact lemma }
     ensures refutes { IfOk result (λ k. Refutes draft.new k (trees_at draft.old.trees sequent.now)) }
+    ensures language { StaysIn (λ p. RespectsNegation p × AreIn p (trees_at draft.old.trees sequent.now)) draft.old draft.new }
     ensures grows { Extends draft.old draft.new }
 {
     let negation = only_formula(draft, lemma);
@@ -97,7 +97,6 @@ fn only_formula(draft: &Draft, number: usize) -> TermId
     ensures held { Holds draft.now.trees result }
     ensures tree { (step_or draft.now.steps number).sequent ≡ tree_at draft.now.trees result ∷ [] }
     ensures formula { IsGroundFormula draft.now.task (tree_at draft.now.trees result) }
-    ensures form { InForm draft.now.task (tree_at draft.now.trees result) }
 {
     draft.steps()[number].sequent.as_slice()[0]
 }
@@ -130,8 +129,8 @@ fn lift_step<T: Transform>(
     requires held { StepHeld draft.old.trees step.now }
     requires right { IsRight (task_at draft.old.trees to.now) (steps_at draft.old.trees before.now) (step_at draft.old.trees step.now) }
     requires numbers { StandFor draft.old numbers.now (steps_at draft.old.trees before.now) }
-    requires form { StepInForm draft.old.task (step_at draft.old.trees step.now) }
     ensures refutes { IfOk result (λ k. Refutes draft.new k (trees_at draft.old.trees step.now.sequent)) }
+    ensures language { StaysIn (λ p. IsLanguageOf (T.closed stage.now) draft.old.task p × StepIsIn p (step_at draft.old.trees step.now)) draft.old draft.new }
     ensures grows { Extends draft.old draft.new }
 {
     let premises = renumbered(draft.allocator(), numbers, step.premises.as_slice())?;
@@ -161,8 +160,8 @@ fn lift_part<T: Transform>(
     requires lifts { T.lifts stage.now draft.old.task }
     requires held { StepsHeld draft.old.trees part.now }
     requires right { AreRight (task_at draft.old.trees to.now) (steps_at draft.old.trees part.now) }
-    requires form { StepsInForm draft.old.task (steps_at draft.old.trees part.now) }
     ensures numbers { IfOk result (λ v. StandFor draft.new v.items (steps_at draft.old.trees part.now)) }
+    ensures language { StaysIn (λ p. IsLanguageOf (T.closed stage.now) draft.old.task p × StepsAreIn p (steps_at draft.old.trees part.now)) draft.old draft.new }
     ensures grows { Extends draft.old draft.new }
 {
     let mut numbers: Vec<usize> = Vec::new(draft.allocator());
@@ -185,9 +184,9 @@ fn lift_end<T: Transform>(
     requires lifts { T.lifts stage.now draft.old.task }
     requires held { StepsHeld draft.old.trees part.now }
     requires closes { Closes (task_at draft.old.trees to.now) (steps_at draft.old.trees part.now) }
-    requires form { StepsInForm draft.old.task (steps_at draft.old.trees part.now) }
     ensures refutes { IfOk result (λ k. Refutes draft.new k (start (task_at draft.old.trees to.now))) }
     ensures sequents { IfOk result (λ _. HasSequents draft.new (steps_at draft.old.trees part.now)) }
+    ensures language { StaysIn (λ p. IsLanguageOf (T.closed stage.now) draft.old.task p × StepsAreIn p (steps_at draft.old.trees part.now)) draft.old draft.new }
     ensures grows { Extends draft.old draft.new }
 {
     let numbers = lift_part(stage, from, to, part, draft)?;
@@ -195,8 +194,9 @@ fn lift_end<T: Transform>(
 }
 
 /// From steps that derive each of the tasks that the draft's task becomes, a step whose sequent is the start of the
-/// draft's task. The draft then has, for each of those steps, a step with its sequent. After a refusal the draft has
-/// further right steps. In a propositional task the handed steps are propositional.
+/// draft's task. The draft then has, for each of those steps, a step with its sequent. Its new steps are made of the
+/// formulas of the task and of the handed steps: they are in each language of the task that has these, and is closed
+/// under what the transformation's steps do. After a refusal the draft has further right steps, in these languages.
 pub fn lift_stage<T: Transform>(
     stage: &T,
     from: &Task,
@@ -210,9 +210,9 @@ pub fn lift_stage<T: Transform>(
     requires becomes { T.becomes stage.now draft.old.task (tasks_at draft.old.trees to.now.items) }
     requires parts_held { PartsHeld draft.old.trees parts.now }
     requires close { PartsClose (tasks_at draft.old.trees to.now.items) (parts_at draft.old.trees parts.now) }
-    requires form { All (StepsInForm draft.old.task) (parts_at draft.old.trees parts.now) }
     ensures refutes { IfOk result (λ k. Refutes draft.new k (start draft.old.task)) }
     ensures sequents { IfOk result (λ _. All (HasSequents draft.new) (parts_at draft.old.trees parts.now)) }
+    ensures language { StaysIn (λ p. IsLanguageOf (T.closed stage.now) draft.old.task p × All (StepsAreIn p) (parts_at draft.old.trees parts.now)) draft.old draft.new }
     ensures grows { Extends draft.old draft.new }
 {
     let mut ends: Vec<usize> = Vec::new(draft.allocator());

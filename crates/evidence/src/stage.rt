@@ -7,6 +7,7 @@ ghost use Rattle.tasks.specs.Meaning.{trees_at, task_at, tasks_at, TaskHeld, Tas
 ghost use Rattle.evidence.specs.Drafts.{Extends, Refutes};
 ghost use Rattle.evidence.specs.declared.stage.StageFault.{StageFault};
 ghost use Rattle.evidence.specs.Stages.{IsStageFault, fact_of, IsFact, KeepsDeclared, IsOwn, InStage, EndIn};
+ghost use Rattle.evidence.specs.Languages.{Language, AreIn, IsLanguageOf, StaysIn};
 
 use crate::Draft;
 use std::alloc::{AllocError, Global};
@@ -41,6 +42,10 @@ pub trait Transform {
     /// The tasks for which it brings refutations back.
     ghost lifts: { Self → TaskTree → Type 0 } = { λ _ _. ⊤ };
 
+    /// The languages (sets of formulas and types) that are closed under what its steps for a task do: such a language of
+    /// the task has the formulas of the steps that `fact` and `glue` put in, where it has those of the earlier steps.
+    ghost closed: { Self → TaskTree → Language → Type 0 };
+
     /// The tasks of the equation.
     fn apply(&self, alloc: Global, store: &mut Store, task: &Task) -> Result<Vec<Task>, StageFault>
         requires held { TaskHeld store.old task.now }
@@ -65,6 +70,7 @@ pub trait Transform {
         requires types_held { All (Holds draft.old.trees) types.now }
         requires fact { IsFact draft.old.task (task_at draft.old.trees to.now) prop (trees_at draft.old.trees types.now) }
         ensures refutes { IfOk result (λ k. Refutes draft.new k (neg (fact_of (task_at draft.old.trees to.now) prop (trees_at draft.old.trees types.now)) ∷ [])) }
+        ensures language { StaysIn (λ p. IsLanguageOf (closed self.now) draft.old.task p × AreIn p (trees_at draft.old.trees types.now)) draft.old draft.new }
         ensures grows { Extends draft.old draft.new };
 
     /// From steps whose sequents are the starts of `to`, the tasks that the draft's task becomes, a step whose sequent is
@@ -82,6 +88,7 @@ pub trait Transform {
         requires becomes { becomes self.now draft.old.task (tasks_at draft.old.trees to.now.items) }
         requires ends { EndIn draft.old ends.now (tasks_at draft.old.trees to.now.items) }
         ensures refutes { IfOk result (λ k. Refutes draft.new k (start draft.old.task)) }
+        ensures language { StaysIn (IsLanguageOf (closed self.now) draft.old.task) draft.old draft.new }
         ensures grows { Extends draft.old draft.new };
 
     /// The tasks have the symbols of the old one, and declare the same.

@@ -20,7 +20,6 @@ use Rattle.problems.specs.declared.names.NameEntry.{NameEntry}
 use Rattle.problems.specs.Names.{task_names}
 use Rattle.steps_text.specs.Lines.{StepsOf}
 use Rattle.evidence.specs.Drafts.{DraftTree, Extends, Refutes, keep_step}
-use Rattle.evidence.specs.Propositional.{StepsInForm}
 use Rattle.evidence.specs.Stages.{part_or, PartsClose, HasSequents as DraftHasSequents}
 use Rattle.tr_split.specs.Glue.{counted}
 use Rattle.tr_split.proofs.Pieces.{but_right}
@@ -56,12 +55,9 @@ last_added t steps st e =
     let at : slice_get (map f (steps ++ st ∷ [])) (length (steps ++ st ∷ []) - 1) ≡ Some (f st) = ap (λ (z : List (List Tree)). slice_get z (length (steps ++ st ∷ []) - 1)) is ∙ ap (slice_get (xs ++ f st ∷ [])) n ∙ got in
     subst (λ (o : Option (List Tree)). IsSomeAnd o (λ q. q ≡ start t)) (sym at) e
 
--- the parts derive their tasks, and their steps are propositional
+-- the parts derive their tasks
 pub parts_close : (parts : List TaskTree) (handed : List (List StepTree)) (n : ℕ) → n ≡ length parts → AreRefuted parts handed n → PartsClose parts handed
 parts_close parts handed n e a = record { as_many = a.as_many ∙ e; each = λ i l. (a.each i (omega arith)).closes }
-
-pub parts_form : (t : TaskTree) (parts : List TaskTree) (handed : List (List StepTree)) (n : ℕ) → AreRefuted parts handed n → All (StepsInForm t) handed
-parts_form t parts handed n a = All-from_get_or (StepsInForm t) handed [] (λ i l. λ j d m p. (a.each i (omega (arith, a.as_many))).form j d m)
 
 -- the sequents of the handed steps, in a draft that has grown
 pub sequents_kept : (d d' : DraftTree) (handed : List (List StepTree)) → Extends d d' → All (DraftHasSequents d) handed → HasSequents d'.steps handed

@@ -4,7 +4,7 @@ use Rattle.std.specs.List.{list_all}
 use Rattle.std.specs.Str.{bytes_eq}
 use Rattle.std.proofs.lemmas.List.Elements.{All-nil, All-cons, All-append, All-map, All-take}
 use Rattle.tasks.specs.Task.{SymbolTree, int_symbol, BodyTree, Makes, Says, DeclarationTree, TaskTree, Proposition, said_by, props_of}
-use Rattle.evidence.specs.Propositional.{IsPropositional}
+use Rattle.program.specs.Propositional.{IsPropositional}
 use Rattle.sources.specs.Bytes.{is_lower, is_name_byte, is_lident, is_reserved}
 use Rattle.sources.specs.Source.{Formula, name, group, both, implies, Item, declares, assumes, claims, TheoryText, ItemsFit, predicates_of, formula_tree, predicate_symbol, symbols_of, declaration, declarations_of, GoalTree, goals_of, goal_named}
 use Rattle.sources.specs.Meaning.{TheoryTree, theory_of, task_before, if_goal, task_named, IsRead}

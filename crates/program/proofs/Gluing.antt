@@ -1,7 +1,7 @@
 -- The parts of a propositional goal are brought back by the rules of the calculus.
 use Rattle.trees.specs.declared.Op.TheVariants.{And, Imp}
 use Rattle.trees.specs.Tree.{Tree, One, Two, HNot, HPred, HJoin}
-use Rattle.evidence.specs.Propositional.{IsPropositional}
+use Rattle.program.specs.Propositional.{IsPropositional}
 use Rattle.tr_split.specs.Glue.{Glues}
 
 pub glues : (a : Tree) → IsPropositional a → Glues a

@@ -12,7 +12,7 @@ use Rattle.tasks.specs.Task.{SymbolTree, TaskTree}
 use Rattle.tasks.specs.Typing.{entry}
 use Rattle.kernel.specs.Trees.{RuleTree, RClash, RNotNot, RAnd, RNotAnd, RImp, RNotImp, RCut, RKeep, RFact, StepTree}
 use Rattle.problems.specs.declared.names.NameEntry.{NameEntry}
-use Rattle.evidence.specs.Propositional.{IsPropositional, RuleIsPropositional, StepIsPropositional}
+use Rattle.program.specs.Propositional.{IsPropositional, RuleIsPropositional, StepIsPropositional}
 use Rattle.steps_text.specs.Words.{lines_of, words_of, numbers, before_colon, after_colon}
 use Rattle.steps_text.specs.Lines.{Reading, nothing_read, Thing, Formula, Derived, symbol_named, plain_formula, symbol_formula, picked_from, referred, joined, negation, only_word, formula_of, one_place, two_places, one_formula, rule_of, rule_words, step_of, derived, words_made, thing_of, IsGood, after, AreRead, StepsOf}
 

@@ -1,5 +1,5 @@
--- The table of a task of the fragment: its names are words and differ, and propositional formulas and steps of the task
--- can be written with it.
+-- The table of a task of the fragment: its names are words and differ, and propositional formulas of the task can be
+-- written with it.
 use Rattle.std.proofs.Common.{◌≡◌, ◌≢◌, ℕ, ◌+◌, ◌<◌, ◌≤◌, ◌^◌, ◌&&◌, Bool, true, false, suc, zero, List, [], ◌∷◌, ◌++◌, length, get_or, slice_get, All, AllPairs, Contains, IsTrue, IsSomeAnd, Option, Some, refl, sym, ap, subst, ◌∙◌, arith, codes}
 use Rattle.std.specs.List.{list_all}
 use Rattle.std.proofs.lemmas.Bool.Decides.{nat_tests}
@@ -15,7 +15,7 @@ use Rattle.kernel.specs.Rows.{Row, IsRight, AreRight, step_or}
 use Rattle.problems.specs.declared.names.NameEntry.{NameEntry}
 use Rattle.problems.specs.Clean.{name_at_place}
 use Rattle.problems.specs.Names.{int_entry, rigid_from, entries_from, task_names}
-use Rattle.evidence.specs.Propositional.{IsPropositional, RuleIsPropositional, StepIsPropositional, StepsInForm}
+use Rattle.program.specs.Propositional.{IsPropositional}
 use Rattle.sources.specs.Bytes.{is_name_byte}
 use Rattle.steps_text.specs.Writing.{IsWord, AreNames, is_named, is_writable, IsWritable, rule_formulas, HasNoTypes, IsWritableStep, AreWritable}
 use Rattle.steps_text.proofs.Lines.{word_past_space}
@@ -53,7 +53,7 @@ table_names t ks a small = record {
 name_byte : (c : ℕ) → IsTrue (is_name_byte c) → 39 ≤ c
 name_byte c h = grind (arith, nat_tests)
 
-both : (a b : Bool) → IsTrue (a && b) → IsTrue a × IsTrue b
+pub both : (a b : Bool) → IsTrue (a && b) → IsTrue a × IsTrue b
 both true b h = (refl, h)
 both false b h = absurd (cc)
 
@@ -98,10 +98,7 @@ both_true : (a b : Bool) → a ≡ true → b ≡ true → (a && b) ≡ true
 both_true a b h k = ap (λ x. x && b) h ∙ k
 
 module _ (t : TaskTree) (v : IsValid t) (f : IsInFragment t) where
-  abbrev Can : Tree → Type 0
-  Can = IsWritable (task_names t)
-
-  writable : (types : List Tree) (a : Tree) → IsPropositional a → TypedUnder t types a → Can a
+  pub writable : (types : List Tree) (a : Tree) → IsPropositional a → TypedUnder t types a → IsWritable (task_names t) a
   writable types (One HNot a) p y = writable types a p y.2
   writable types (Two (HPred k) a b) p y =
       let named = predicate_named t v f k a b y.1.0 y.1.1 in
@@ -109,30 +106,3 @@ module _ (t : TaskTree) (v : IsValid t) (f : IsInFragment t) where
   writable types (Two (HJoin And) a b) p y = both_true (is_writable (task_names t) a) (is_writable (task_names t) b) (writable types a p.0 y.2) (writable types b p.1 y.3)
   writable types (Two (HJoin Imp) a b) p y = both_true (is_writable (task_names t) a) (is_writable (task_names t) b) (writable types a p.0 y.2) (writable types b p.1 y.3)
   writable types _ p y = absurd p
-
-  all_writable : (es : List Tree) → All IsPropositional es → All (IsGroundFormula t) es → All Can es
-  all_writable es p g i d l = writable [] (get_or es i d) (p i d l) (g i d l).typed
-
-  rule_writable : (s : List Tree) (r : RuleTree) (ps : List (List Tree)) → RuleIsPropositional r → Row t s r ps → All Can (rule_formulas r)
-  rule_writable s (RCut a) ps p w = All-cons Can a [] (writable [] a p w.0.typed) (All-nil Can)
-  rule_writable s _ ps p w = All-nil Can
-
-  no_length : (types : List Tree) → length types ≡ 0 → types ≡ []
-  no_length [] e = refl
-  no_length (x ∷ xs) e = absurd (omega arith)
-
-  rule_types : (s : List Tree) (r : RuleTree) (ps : List (List Tree)) → Row t s r ps → HasNoTypes r
-  rule_types s (RFact k types) ps w =
-      some_with (slice_get (props t) k) (λ (p : Proposition). (p.vars ≡ 0) × IsPropositional p.formula) _ (types ≡ []) (got_all (λ (p : Proposition). (p.vars ≡ 0) × IsPropositional p.formula) (props t) k f.formulas.props) w
-      (λ p h q. no_length types (q.0 ∙ h.0))
-  rule_types s _ ps w = tt
-
-  step_writable : (before : List StepTree) (st : StepTree) → StepIsPropositional st → IsRight t before st → IsWritableStep (task_names t) st
-  step_writable before st p r = record {
-    formulas = All-append Can st.sequent (rule_formulas st.rule) (all_writable st.sequent p.sequent r.formulas) (rule_writable st.sequent st.rule _ p.rule r.row);
-    types = rule_types st.sequent st.rule _ r.row;
-  }
-
-  pub steps_writable : (steps : List StepTree) → StepsInForm t steps → AreRight t steps → AreWritable (task_names t) steps
-  steps_writable steps p r =
-      All-from_get_or (IsWritableStep (task_names t)) steps no_step (λ i l. step_writable _ (step_or steps i) (p i no_step l f.formulas) (r i l))

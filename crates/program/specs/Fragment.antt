@@ -2,7 +2,7 @@
 use Rattle.std.specs.Prelude.{◌≡◌, [], All, IsTrue}
 use Rattle.std.specs.List.{list_all}
 use Rattle.tasks.specs.Task.{SymbolTree, TaskTree}
-use Rattle.evidence.specs.Propositional.{IsPropositionalTask}
+use Rattle.program.specs.Propositional.{IsPropositionalTask}
 use Rattle.sources.specs.Bytes.{is_name_byte}
 
 -- its formulas are propositional, its goal has no type variables, and names have letters, digits, `_` and apostrophes

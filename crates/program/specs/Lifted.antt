@@ -5,7 +5,7 @@ use Rattle.kernel.specs.Trees.{StepTree}
 use Rattle.kernel.specs.Rows.{Closes, step_or}
 use Rattle.problems.specs.Names.{task_names}
 use Rattle.steps_text.specs.Lines.{StepsOf}
-use Rattle.evidence.specs.Propositional.{StepIsPropositional}
+use Rattle.program.specs.Propositional.{StepIsPropositional}
 use Rattle.evidence.specs.Stages.{task_or, part_or}
 
 -- one of the steps has the sequent of this one

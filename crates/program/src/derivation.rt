@@ -1,5 +1,5 @@
 // The derivation of a task that refutations of its parts are lifted to, and its text.
-ghost use Rattle.std.specs.Prelude.{◌≡◌, ◌<◌, ◌-◌, ◌+◌, ◌++◌, length, All, IfOk};
+ghost use Rattle.std.specs.Prelude.{◌≡◌, ◌<◌, ◌-◌, ◌+◌, [], ◌++◌, length, All, IfOk, ⊤};
 ghost use Rattle.trees.specs.Node.{Grows};
 ghost use Rattle.tasks.specs.Task.{start};
 ghost use Rattle.tasks.specs.Meaning.{task_at, tasks_at, TaskHeld, TasksHeld};
@@ -8,6 +8,9 @@ ghost use Rattle.kernel.specs.Rows.{Closes, last_starts, step_or};
 ghost use Rattle.kernel.specs.Meaning.{steps_at, StepsHeld};
 ghost use Rattle.evidence.specs.Drafts.{Extends, Refutes};
 ghost use Rattle.evidence.specs.Stages.{parts_at, PartsHeld};
+ghost use Rattle.evidence.specs.Languages.{StepsAreIn, StaysIn};
+ghost use Rattle.problems.specs.Names.{task_names};
+ghost use Rattle.steps_text.specs.Writing.{is_writable};
 ghost use Rattle.tr_split.specs.Split.{split_task};
 ghost use Rattle.tr_split.specs.Glue.{counted};
 ghost use Rattle.program.specs.Lifted.{IsLifted, HasSequents, AreRefuted};
@@ -39,6 +42,7 @@ fn first_numbers(alloc: Global, count: usize) -> Result<Vec<usize>, AllocError>
 fn end_with(draft: &mut Draft, number: usize) -> Result<(), AllocError>
     requires start { Refutes draft.old number (start draft.old.task) }
     ensures starts { IfOk result (λ _. last_starts draft.new.task draft.new.steps) }
+    ensures language { StaysIn (λ _. ⊤) draft.old draft.new }
     ensures grows { Extends draft.old draft.new }
 {
     let alloc = draft.allocator();
@@ -57,7 +61,7 @@ fn end_with(draft: &mut Draft, number: usize) -> Result<(), AllocError>
     Ok(())
 }
 
-// A draft of the task that ends in its start, and has the sequents of the handed steps.
+// Makes an empty draft of the task one that ends in its start and has the sequents of the handed steps.
 fn lifted_draft(
     draft: &mut Draft,
     task: &Task,
@@ -67,6 +71,7 @@ fn lifted_draft(
     requires task_held { TaskHeld draft.old.trees task.now }
     requires own { task_at draft.old.trees task.now ≡ draft.old.task }
     requires valid { IsValid draft.old.task }
+    requires empty { draft.old.steps ≡ [] }
     requires fragment { IsInFragment draft.old.task }
     requires parts_held { TasksHeld draft.old.trees parts.now.items }
     requires split { tasks_at draft.old.trees parts.now.items ≡ split_task draft.old.task }
@@ -74,6 +79,7 @@ fn lifted_draft(
     requires refuted { AreRefuted (tasks_at draft.old.trees parts.now.items) (parts_at draft.old.trees handed.now) (length parts.now.items) }
     ensures starts { IfOk result (λ _. last_starts draft.new.task draft.new.steps) }
     ensures sequents { IfOk result (λ _. HasSequents draft.new.steps (parts_at draft.old.trees handed.now)) }
+    ensures language { StepsAreIn (is_writable (task_names draft.old.task)) draft.new.steps }
     ensures grows { Extends draft.old draft.new }
 {
     let number = lift_stage(&Split, task, parts, handed, draft)?;

@@ -15,7 +15,6 @@ use Rattle.tasks.proofs.Growth.{trees_later}
 use Rattle.kernel.specs.Trees.{RFact}
 use Rattle.kernel.specs.Rows.{IsRight, sequents}
 use Rattle.evidence.specs.Drafts.{DraftTree, Extends, Refutes}
-use Rattle.evidence.specs.Propositional.{IsPropositional, InForm}
 use Rattle.evidence.specs.Stages.{IsFact, fact_of, prop_or, no_proposition}
 use Rattle.tr_split.specs.Glue.{IsFormulaAt}
 use Rattle.tr_split.specs.Instance.{AreKinds}
@@ -46,22 +45,6 @@ fact_same d d1 x k types h =
 pub fact_kinds : (d : DraftTree) (k : ℕ) (types : List Tree) → IsFact d.task d.task k types → AreKinds types
 fact_kinds d k types f i z h = (f.ground i z h).sort
 
--- a propositional formula is its own instance at any types, and so it stays one
-in_form_at_types : (types : List Tree) (e : Tree) → IsPropositional e → IsPropositional (inst_types e types)
-in_form_at_types types (Leaf h) f = absurd f
-in_form_at_types types (One HNot a) f = in_form_at_types types a f
-in_form_at_types types (One _ a) f = absurd f
-in_form_at_types types (Two (HPred k) a b) f =
-    let P : Tree → Tree → Type 0 = λ x y. IsPropositional (inst_types (Two (HPred k) x y) types) in
-    subst (λ (x : Tree). P x b) (sym f.0) (subst (λ (y : Tree). P (Leaf HEnd) y) (sym f.1) (refl, refl))
-in_form_at_types types (Two (HJoin And) a b) f = (in_form_at_types types a f.0, in_form_at_types types b f.1)
-in_form_at_types types (Two (HJoin Imp) a b) f = (in_form_at_types types a f.0, in_form_at_types types b f.1)
-in_form_at_types types (Two _ a b) f = absurd f
-in_form_at_types types (Three h a b c) f = absurd f
-
-fact_in_form : (t : TaskTree) (k : ℕ) (types : List Tree) → k < length (props t) → InForm t (fact_of t k types)
-fact_in_form t k types l m = in_form_at_types types (prop_or (props t) k).formula (m.props k no_proposition l).1
-
 -- the number of an instance of a proposition of a valid task
 pub fact_formula : (d d1 : DraftTree) (x : Extends d d1) (k : ℕ) (types : List Tree) (id : TermId) → IsValid d.task → IsFact d.task d.task k types → Holds d1.trees id → tree_at d1.trees id ≡ fact_of d.task k types → IsFormulaAt d1 id
 fact_formula d d1 x k types id v f h e =
@@ -69,5 +52,4 @@ fact_formula d d1 x k types id v f h e =
     record {
       held = h;
       ground = subst (IsGroundFormula d1.task) (sym e) (subst (λ (z : TaskTree). IsGroundFormula z (fact_of d.task k types)) (sym x.task) ground);
-      form = subst (InForm d1.task) (sym e) (subst (λ (z : TaskTree). InForm z (fact_of d.task k types)) (sym x.task) (fact_in_form d.task k types f.place));
     }

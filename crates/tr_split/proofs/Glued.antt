@@ -14,7 +14,6 @@ use Rattle.tasks.specs.Valid.{IsFormula, IsGroundFormula}
 use Rattle.tasks.specs.Meaning.{trees_at}
 use Rattle.tasks.specs.Copying.{with_goal}
 use Rattle.evidence.specs.Drafts.{DraftTree, Refutes}
-use Rattle.evidence.specs.Propositional.{InForm, AllInForm}
 use Rattle.evidence.specs.Stages.{IsOwn, EndIn, IsAmong, IsFact, fact_of, prop_or, no_task, start_of, no_proposition}
 use Rattle.tr_split.specs.Split.{split, split_task}
 use Rattle.tr_split.specs.Glue.{AreFormulas, IsFormulaAt, Ends}
@@ -25,13 +24,11 @@ ground_of t e f = record { sort = f.sort; typed = f.typed; ground = f.variables 
 pub own_locals : (d : DraftTree) (from : Task) → IsOwn d from → AreFormulas d from.locals
 own_locals d from o =
     let ground : All (IsGroundFormula d.task) d.task.locals = All-weaker (IsFormula d.task d.task.params 0) (IsGroundFormula d.task) (ground_of d.task) d.task.locals o.valid.locals in
-    let form : AllInForm d.task d.task.locals = λ m. m.locals in
-    record { held = o.held.locals; ground = subst (All (IsGroundFormula d.task)) (sym (ap (λ (t : TaskTree). t.locals) o.is)) ground; form = subst (AllInForm d.task) (sym (ap (λ (t : TaskTree). t.locals) o.is)) form }
+    record { held = o.held.locals; ground = subst (All (IsGroundFormula d.task)) (sym (ap (λ (t : TaskTree). t.locals) o.is)) ground }
 
 pub own_goal : (d : DraftTree) (from : Task) → IsOwn d from → IsFormulaAt d from.goal
 own_goal d from o =
-    let form : InForm d.task d.task.goal = λ m. m.goal in
-    record { held = o.held.goal; ground = subst (IsGroundFormula d.task) (sym (ap (λ (t : TaskTree). t.goal) o.is)) (ground_of d.task d.task.goal o.valid.goal); form = subst (InForm d.task) (sym (ap (λ (t : TaskTree). t.goal) o.is)) form }
+    record { held = o.held.goal; ground = subst (IsGroundFormula d.task) (sym (ap (λ (t : TaskTree). t.goal) o.is)) (ground_of d.task d.task.goal o.valid.goal) }
 
 starts_at : (t : TaskTree) (es : List Tree) (i : ℕ) → i < length es → start_of (map (with_goal t) es) i ≡ t.locals ++ neg (get_or es i (Leaf HEnd)) ∷ []
 starts_at t es i h = ap start (get_or-map (with_goal t) es i (Leaf HEnd) no_task h)

@@ -11,7 +11,7 @@ use Rattle.trees.specs.declared.TermId.{TermId}
 use Rattle.trees.specs.Node.{tree_at, Holds}
 use Rattle.tasks.specs.Meaning.{trees_at}
 use Rattle.tasks.proofs.Growth.{trees_later}
-use Rattle.evidence.specs.Drafts.{DraftTree, Extends}
+use Rattle.evidence.specs.Drafts.{DraftTree, AddsTrees}
 use Rattle.tr_split.specs.Instance.{AreKinds}
 
 one_same : (tys : List Tree) (d : ℕ) (h : Head) (x : Tree) → one_by (typing tys) d h x ≡ One h x
@@ -58,10 +58,10 @@ module _ (tys : List Tree) (k : AreKinds tys) where
   pub inst_fits_three : (h : Head) (a b c : Tree) → Fits (Three h a b c) → Fits (Three h (inst_types a tys) (inst_types b tys) (inst_types c tys))
   inst_fits_three h a b c f = three_fits (typing tys) (puts tys k) 0 h a b c f
 
-pub types_kept : (d d1 : DraftTree) (x : Extends d d1) (types : List TermId) → All (Holds d.trees) types → AreKinds (trees_at d.trees types) → AreKinds (trees_at d1.trees types)
+pub types_kept : (d d1 : DraftTree) (x : AddsTrees d d1) (types : List TermId) → All (Holds d.trees) types → AreKinds (trees_at d.trees types) → AreKinds (trees_at d1.trees types)
 types_kept d d1 x types h k = subst AreKinds (sym (trees_later d.trees d1.trees x.trees types h)) k
 
-pub part_kept : (d d1 : DraftTree) (x : Extends d d1) (a : TermId) (types : List TermId) → Holds d.trees a → All (Holds d.trees) types
+pub part_kept : (d d1 : DraftTree) (x : AddsTrees d d1) (a : TermId) (types : List TermId) → Holds d.trees a → All (Holds d.trees) types
     → inst_types (tree_at d1.trees a) (trees_at d1.trees types) ≡ inst_types (tree_at d.trees a) (trees_at d.trees types)
 part_kept d d1 x a types g h =
     ap (λ (z : Tree). inst_types z (trees_at d1.trees types)) (x.trees.same a.0 g) ∙ ap (inst_types (tree_at d.trees a)) (trees_later d.trees d1.trees x.trees types h)

@@ -5,3 +5,4 @@ pub mod Pieces
 pub mod Glued
 pub mod Instances
 pub mod Facts
+pub mod Sides

@@ -17,7 +17,6 @@ use Rattle.kernel.specs.Meaning.{step_at, steps_at, StepHeld, StepsHeld}
 use Rattle.kernel.proofs.Places.{step_or-at}
 use Rattle.kernel.proofs.Sequents.{All-unmap}
 use Rattle.evidence.specs.Drafts.{DraftTree, Extends, Refutes}
-use Rattle.evidence.specs.Propositional.{IsPropositional, IsPropositionalTask, RuleIsPropositional, InForm, AllInForm, StepInForm, StepsInForm}
 use Rattle.evidence.specs.Stages.{HaveSequents}
 use Rattle.evidence.proofs.Rules.{refutes_later}
 use Rattle.trees.specs.declared.Op.{Op}
@@ -34,8 +33,7 @@ module _ (d d1 : DraftTree) (x : Extends d d1) where
   pub formulas_later : (ids : List TermId) → AreFormulas d ids → AreFormulas d1 ids
   formulas_later ids f =
       let ground : All (IsGroundFormula d1.task) (trees_at d1.trees ids) = rw (same ids f, x.task) f.ground in
-      let form : AllInForm d1.task (trees_at d1.trees ids) = rw (same ids f, x.task) f.form in
-      record { held = all_held_later d.trees d1.trees x.trees ids f.held; ground = ground; form = form }
+      record { held = all_held_later d.trees d1.trees x.trees ids f.held; ground = ground }
 
 -- a place behind the front
 behind : (front tail : List Tree) (k : ℕ) (a : Tree) → slice_get tail k ≡ Some a → k < length tail → slice_get (front ++ tail) (length front + k) ≡ Some a
@@ -155,21 +153,13 @@ but_at d front middle last ds empty first places k f m l r is none e g =
     let p : places ≡ counted 0 (length F) ++ counted (length F + length M) (length L) = g ∙ cc (one, two) in
     rw (t, p) (but_right d F M L k f.ground m.ground l.ground r)
 
-pub form_but : (d : DraftTree) (front middle last ds : List TermId) (places : List ℕ) (k : ℕ) → AreFormulas d front → AreFormulas d middle → AreFormulas d last → ds ≡ middle ++ last
-    → StepInForm d.task (step_of (trees_at d.trees front ++ trees_at d.trees ds) (RKeep places) (k ∷ []))
-form_but d front middle last ds places k f m l is p =
-    let t : trees_at d.trees ds ≡ trees_at d.trees middle ++ trees_at d.trees last = ap (trees_at d.trees) is ∙ map-append (tree_at d.trees) middle last in
-    let tail : All IsPropositional (trees_at d.trees ds) = subst (All IsPropositional) (sym t) (All-append IsPropositional (trees_at d.trees middle) (trees_at d.trees last) (m.form p) (l.form p)) in
-    record { sequent = All-append IsPropositional (trees_at d.trees front) (trees_at d.trees ds) (f.form p) tail; rule = tt }
-
 pub none_formulas : (d : DraftTree) → AreFormulas d []
-none_formulas d = record { held = All-nil (Holds d.trees); ground = All-nil (IsGroundFormula d.task); form = λ m. All-nil IsPropositional }
+none_formulas d = record { held = All-nil (Holds d.trees); ground = All-nil (IsGroundFormula d.task) }
 
 pub more_formulas : (d : DraftTree) (id : TermId) (ids : List TermId) → IsFormulaAt d id → AreFormulas d ids → AreFormulas d (id ∷ ids)
 more_formulas d id ids f g = record {
   held = All-cons (Holds d.trees) id ids f.held g.held;
   ground = All-cons (IsGroundFormula d.task) (tree_at d.trees id) (trees_at d.trees ids) f.ground g.ground;
-  form = λ m. All-cons IsPropositional (tree_at d.trees id) (trees_at d.trees ids) (f.form m) (g.form m);
 }
 
 -- the same over a draft that has grown
@@ -184,13 +174,6 @@ module _ (d d1 : DraftTree) (x : Extends d d1) (front tail : List TermId) (f : A
       let b : trees_at d1.trees tail ≡ trees_at d.trees tail = same d d1 x tail t in
       let n : length (trees_at d.trees front) ≡ length front = length-map front (tree_at d.trees) in
       rw (a, b) (subst (λ (z : ℕ). IsRight d1.task d1.steps (step_of (trees_at d.trees front ++ trees_at d.trees tail) (r z) premises)) n h)
-
-  -- the step of the front and the tail is in form
-  pub form_at : (r : RuleTree) (premises : List ℕ) → (IsPropositionalTask d.task → RuleIsPropositional r) → StepInForm d1.task (step_of (trees_at d1.trees front ++ trees_at d1.trees tail) r premises)
-  form_at r premises h =
-      let a : trees_at d1.trees front ≡ trees_at d.trees front = same d d1 x front f in
-      let b : trees_at d1.trees tail ≡ trees_at d.trees tail = same d d1 x tail t in
-      rw (a, b, x.task) (λ m. record { sequent = All-append IsPropositional (trees_at d.trees front) (trees_at d.trees tail) (f.form m) (t.form m); rule = h m })
 
   pub clash_at : (i j : ℕ) (a : Tree) → slice_get (trees_at d.trees tail) i ≡ Some a → i < length (trees_at d.trees tail) → slice_get (trees_at d.trees tail) j ≡ Some (neg a) → j < length (trees_at d.trees tail)
       → IsRight d1.task d1.steps (step_of (trees_at d1.trees front ++ trees_at d1.trees tail) (RClash (length front + i) (length front + j)) [])
@@ -224,13 +207,6 @@ one_formula d id f = more_formulas d id [] f (none_formulas d)
 pub two_formulas : (d : DraftTree) (a b : TermId) → IsFormulaAt d a → IsFormulaAt d b → AreFormulas d (a ∷ b ∷ [])
 two_formulas d a b f g = more_formulas d a (b ∷ []) f (one_formula d b g)
 
-pub formula_negation : (d d1 : DraftTree) (x : Extends d d1) (id n : TermId) → IsFormulaAt d id → Holds d1.trees n → tree_at d1.trees n ≡ neg (tree_at d.trees id) → IsFormulaAt d1 n
-formula_negation d d1 x id n f h e =
-    let g : IsGroundFormula d1.task (neg (tree_at d.trees id)) = subst (λ (z : TaskTree). IsGroundFormula z (neg (tree_at d.trees id))) (sym x.task)
-    (record { sort = refl; typed = (f.ground.sort, tt, f.ground.typed); ground = f.ground.ground }) in
-    let m : InForm d1.task (neg (tree_at d.trees id)) = rw x.task f.form in
-    record { held = h; ground = subst (IsGroundFormula d1.task) (sym e) g; form = subst (InForm d1.task) (sym e) m }
-
 module _ (d d1 : DraftTree) (x : Extends d d1) (front tail : List TermId) (f : AreFormulas d front) (t : AreFormulas d tail) where
   pub cut_at : (a : TermId) (j k : ℕ) → IsFormulaAt d a → Refutes d1 j (trees_at d.trees front ++ (trees_at d.trees tail ++ tree_at d.trees a ∷ []))
       → Refutes d1 k (trees_at d.trees front ++ (trees_at d.trees tail ++ neg (tree_at d.trees a) ∷ []))
@@ -263,20 +239,19 @@ back_but d d1 x front middle last f m l d2 k r =
 pub first_place : (d1 : DraftTree) (s : List Tree) (r : ℕ → RuleTree) (premises : List ℕ) (n : ℕ) → IsRight d1.task d1.steps (step_of s (r (n + 0)) premises) → IsRight d1.task d1.steps (step_of s (r n) premises)
 first_place d1 s r premises n h = let e : n + 0 ≡ n = omega arith in subst (λ (z : ℕ). IsRight d1.task d1.steps (step_of s (r z) premises)) e h
 
-pub last_at : (d : DraftTree) (steps : List Step) (k : ℕ) (x : Step) (seq : List TermId) (z : TermId) (front : List Tree) (last : Tree) → StepsHeld d.trees steps → steps_at d.trees steps ≡ d.steps → AreRight d.task d.steps → StepsInForm d.task d.steps
+pub last_at : (d : DraftTree) (steps : List Step) (k : ℕ) (x : Step) (seq : List TermId) (z : TermId) (front : List Tree) (last : Tree) → StepsHeld d.trees steps → steps_at d.trees steps ≡ d.steps → AreRight d.task d.steps
     → x ≡ get_or steps k x → seq ≡ x.sequent → Refutes d k (front ++ last ∷ []) → IsFormulaAt d (get_or seq (length seq - 1) z)
-last_at d steps k x seq z front last h e right form is same' r =
+last_at d steps k x seq z front last h e right is same' r =
     let n : length d.steps ≡ length steps = ap length (sym e) ∙ length-map steps (step_at d.trees) in
     let l : k < length steps = omega (arith, r.within) in
     let t : step_or d.steps k ≡ step_at d.trees x = ap (λ (q : List StepTree). step_or q k) (sym e) ∙ step_or-at d.trees steps k x is l in
     let q : trees_at d.trees seq ≡ (step_or d.steps k).sequent = ap (trees_at d.trees) same' ∙ ap (λ (y : StepTree). y.sequent) (sym t) in
     let ground : All (IsGroundFormula d.task) (trees_at d.trees seq) = subst (All (IsGroundFormula d.task)) (sym q) (right k r.within).formulas in
-    let plain : AllInForm d.task (trees_at d.trees seq) = λ m. subst (All IsPropositional) (sym q) (form k no_step r.within m).sequent in
     let sh : StepHeld d.trees x = subst (StepHeld d.trees) (sym is) (h k x l) in
     let held : All (Holds d.trees) seq = subst (All (Holds d.trees)) (sym same') sh.sequent in
     let m : length seq ≡ length front + 1 = sym (length-map seq (tree_at d.trees)) ∙ ap length (q ∙ r.is) ∙ length-append front (last ∷ []) in
     let at : length seq - 1 < length seq = omega arith in
-    record { held = held (length seq - 1) z at; ground = All-unmap (IsGroundFormula d.task) (tree_at d.trees) seq ground (length seq - 1) z at; form = λ m. All-unmap IsPropositional (tree_at d.trees) seq (plain m) (length seq - 1) z at }
+    record { held = held (length seq - 1) z at; ground = All-unmap (IsGroundFormula d.task) (tree_at d.trees) seq ground (length seq - 1) z at }
 
 -- a sequent that ends in a negation, over a draft that has the negation's number
 pub end_later : (d d1 : DraftTree) (x : Extends d d1) (front : List TermId) (f : AreFormulas d front) (k : ℕ) (n : TermId) (a : Tree) → Refutes d k (trees_at d.trees front ++ neg a ∷ [])
@@ -312,8 +287,7 @@ pub formula_later : (d d1 : DraftTree) (x : Extends d d1) (id : TermId) → IsFo
 formula_later d d1 x id f =
     let e : tree_at d1.trees id ≡ tree_at d.trees id = x.trees.same id.0 f.held in
     let g : IsGroundFormula d1.task (tree_at d1.trees id) = rw (e, x.task) f.ground in
-    let m : InForm d1.task (tree_at d1.trees id) = rw (e, x.task) f.form in
-    record { held = omega (arith, x.trees.longer, f.held); ground = g; form = m }
+    record { held = omega (arith, x.trees.longer, f.held); ground = g }
 
 -- an end of an implication's parts, over a draft that has grown
 pub part_under : (d d1 : DraftTree) (x : Extends d d1) (front : List TermId) (f : AreFormulas d front) (h : TermId) (g : IsFormulaAt d h) (ends : List ℕ) (parts : List Tree) (i : ℕ)
@@ -343,14 +317,6 @@ ends_all d ns ends front more parts h n u e l m =
     let k : n ≡ length parts = omega (arith, length-map parts (imp h)) in
     record { as_many = u.as_many ∙ k; each = λ i q. u.each i (omega arith) }
 
-joined_form : (op : Op) (a b : Tree) → IsPropositional (Two (HJoin op) a b) → IsPropositional a × IsPropositional b
-joined_form And a b h = h
-joined_form Imp a b h = h
-joined_form AndThen a b h = absurd h
-joined_form Or a b h = absurd h
-joined_form OrElse a b h = absurd h
-joined_form Iff a b h = absurd h
-
 -- the sides of a formula that joins two are formulas of sequents
 pub record Sides (d : DraftTree) (a b : TermId) : Type 0 where
   pub left : IsFormulaAt d a
@@ -359,13 +325,11 @@ pub record Sides (d : DraftTree) (a b : TermId) : Type 0 where
 pub sides_of : (d : DraftTree) (id : TermId) (op : Op) (a b : TermId) → Joins d.trees id op a b → IsFormulaAt d id → Sides d a b
 sides_of d id op a b j f =
     let g : IsGroundFormula d.task (Two (HJoin op) (tree_at d.trees a) (tree_at d.trees b)) = subst (IsGroundFormula d.task) j.tree f.ground in
-    let form : IsPropositionalTask d.task → IsPropositional (tree_at d.trees a) × IsPropositional (tree_at d.trees b) =
-    λ m. joined_form op (tree_at d.trees a) (tree_at d.trees b) (subst IsPropositional j.tree (f.form m)) in
     let l : a.0 < id.0 = j.below.0 in
     let k : b.0 < id.0 = j.below.1 in
     record {
-      left = record { held = omega (arith, f.held); ground = record { sort = j.left; typed = g.typed.2; ground = g.ground.0 }; form = λ m. (form m).0 };
-      right = record { held = omega (arith, f.held); ground = record { sort = j.right; typed = g.typed.3; ground = g.ground.1 }; form = λ m. (form m).1 };
+      left = record { held = omega (arith, f.held); ground = record { sort = j.left; typed = g.typed.2; ground = g.ground.0 } };
+      right = record { held = omega (arith, f.held); ground = record { sort = j.right; typed = g.typed.3; ground = g.ground.1 } };
     }
 
 pub ends_later : (d d1 : DraftTree) (x : Extends d d1) (front : List TermId) (f : AreFormulas d front) (ends : List ℕ) (parts : List Tree) → Ends d ends (trees_at d.trees front) parts → Ends d1 ends (trees_at d1.trees front) parts
@@ -428,8 +392,7 @@ pub wider_formulas : (d : DraftTree) (front wider : List TermId) (a : TermId) �
 wider_formulas d front wider a e f g =
     let t : trees_at d.trees (front ++ a ∷ []) ≡ trees_at d.trees front ++ tree_at d.trees a ∷ [] = map-append (tree_at d.trees) front (a ∷ []) in
     let ground : All (IsGroundFormula d.task) (trees_at d.trees (front ++ a ∷ [])) = subst (All (IsGroundFormula d.task)) (sym t) (All-push (IsGroundFormula d.task) (trees_at d.trees front) (tree_at d.trees a) f.ground g.ground) in
-    let form : AllInForm d.task (trees_at d.trees (front ++ a ∷ [])) = λ m. subst (All IsPropositional) (sym t) (All-push IsPropositional (trees_at d.trees front) (tree_at d.trees a) (f.form m) (g.form m)) in
-    subst (AreFormulas d) (sym e) (record { held = All-push (Holds d.trees) front a f.held g.held; ground = ground; form = form })
+    subst (AreFormulas d) (sym e) (record { held = All-push (Holds d.trees) front a f.held g.held; ground = ground })
 
 pub wider_is : (d d1 : DraftTree) (x : Extends d d1) (front wider : List TermId) (a : TermId) → wider ≡ front ++ a ∷ [] → AreFormulas d front → IsFormulaAt d a
     → trees_at d1.trees wider ≡ trees_at d.trees front ++ tree_at d.trees a ∷ []

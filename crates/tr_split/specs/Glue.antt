@@ -8,8 +8,8 @@ use Rattle.tasks.specs.Task.{neg}
 use Rattle.tasks.specs.Valid.{IsGroundFormula}
 use Rattle.tasks.specs.Meaning.{trees_at}
 use Rattle.evidence.specs.Drafts.{DraftTree, Refutes}
-use Rattle.evidence.specs.Propositional.{InForm, AllInForm}
 use Rattle.evidence.specs.Stages.{HaveSequents}
+use Rattle.evidence.specs.Languages.{Language, IsIn, AreIn, RespectsNegation}
 use Rattle.tr_split.specs.declared.glue.Under.{Under}
 use Rattle.tr_split.specs.Split.{imp}
 
@@ -37,7 +37,6 @@ Ends d ends front parts = HaveSequents d ends (end_of front parts) (length parts
 pub record AreFormulas (d : DraftTree) (ids : List TermId) : Type 0 where
   pub held : All (Holds d.trees) ids
   pub ground : All (IsGroundFormula d.task) (trees_at d.trees ids)
-  pub form : AllInForm d.task (trees_at d.trees ids)
 
 -- so many numbers from this one on
 abbrev pub counted : ℕ → ℕ → List ℕ
@@ -47,11 +46,22 @@ counted from (suc n) = from ∷ counted (from + 1) n
 abbrev pub conj : Tree → Tree → Tree
 conj a b = Two (HJoin And) a b
 
+-- with a conjunction or an implication, both sides are in the language
+pub record HasSides (p : Language) : Type 0 where
+  pub conjunction : (a b : Tree) → IsIn p (conj a b) → IsIn p a × IsIn p b
+  pub implication : (a b : Tree) → IsIn p (imp a b) → IsIn p a × IsIn p b
+
+-- a language that respects negation and has sides, with these formulas in it
+pub record HasFormulas (d : DraftTree) (fs ts : List TermId) (p : Language) : Type 0 where
+  pub negation : RespectsNegation p
+  pub sides : HasSides p
+  pub front : AreIn p (trees_at d.trees fs)
+  pub tail : AreIn p (trees_at d.trees ts)
+
 -- the number of a formula of sequents
 pub record IsFormulaAt (d : DraftTree) (id : TermId) : Type 0 where
   pub held : Holds d.trees id
   pub ground : IsGroundFormula d.task (tree_at d.trees id)
-  pub form : InForm d.task (tree_at d.trees id)
 
 -- the numbers of a hypothesis, a part, the implication of the two, and their negations
 pub record IsUnder (d : DraftTree) (u : Under) : Type 0 where

@@ -5,7 +5,7 @@ ghost use Rattle.tasks.specs.Meaning.{trees_at};
 ghost use Rattle.kernel.specs.Rows.{IsRight};
 ghost use Rattle.kernel.specs.Meaning.{rule_at, RuleHeld};
 ghost use Rattle.evidence.specs.Drafts.{Extends, Refutes};
-ghost use Rattle.evidence.specs.Propositional.{StepInForm};
+ghost use Rattle.evidence.specs.Languages.{AreIn, RuleIsIn, StaysIn};
 ghost use Rattle.tr_split.specs.Glue.{AreFormulas, counted};
 
 use evidence::Draft;
@@ -39,8 +39,8 @@ pub(crate) fn derive(
     requires tail_held { All (Holds draft.old.trees) tail.now }
     requires rule_held { RuleHeld draft.old.trees rule }
     requires right { IsRight draft.old.task draft.old.steps (record { sequent = trees_at draft.old.trees front.now ++ trees_at draft.old.trees tail.now; rule = rule_at draft.old.trees rule; premises = premises.now }) }
-    requires form { StepInForm draft.old.task (record { sequent = trees_at draft.old.trees front.now ++ trees_at draft.old.trees tail.now; rule = rule_at draft.old.trees rule; premises = premises.now }) }
     ensures refutes { IfOk result (λ k. Refutes draft.new k (trees_at draft.old.trees front.now ++ trees_at draft.old.trees tail.now)) }
+    ensures language { StaysIn (λ p. AreIn p (trees_at draft.old.trees front.now) × AreIn p (trees_at draft.old.trees tail.now) × RuleIsIn p (rule_at draft.old.trees rule)) draft.old draft.new }
     ensures grows { Extends draft.old draft.new }
 {
     let alloc = draft.allocator();
@@ -77,6 +77,7 @@ pub(crate) fn keep_but(
     requires last { AreFormulas draft.old last.now }
     requires step { Refutes draft.old step (trees_at draft.old.trees front.now ++ trees_at draft.old.trees last.now) }
     ensures refutes { IfOk result (λ k. Refutes draft.new k (trees_at draft.old.trees front.now ++ (trees_at draft.old.trees middle.now ++ trees_at draft.old.trees last.now))) }
+    ensures language { StaysIn (λ p. AreIn p (trees_at draft.old.trees front.now) × AreIn p (trees_at draft.old.trees middle.now) × AreIn p (trees_at draft.old.trees last.now)) draft.old draft.new }
     ensures grows { Extends draft.old draft.new }
 {
     let alloc = draft.allocator();

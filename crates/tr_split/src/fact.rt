@@ -6,6 +6,7 @@ ghost use Rattle.tasks.specs.Meaning.{trees_at};
 ghost use Rattle.tasks.specs.Valid.{IsValid};
 ghost use Rattle.evidence.specs.Drafts.{Extends, Refutes};
 ghost use Rattle.evidence.specs.Stages.{IsFact, fact_of, prop_or};
+ghost use Rattle.evidence.specs.Languages.{IsIn, AreIn, RespectsNegation, StaysIn};
 ghost use Rattle.tr_split.specs.Glue.{IsFormulaAt};
 ghost use Rattle.tr_split.specs.Instance.{AreKinds};
 
@@ -24,6 +25,7 @@ fn clash_of(draft: &mut Draft, no_fact: TermId, fact: TermId) -> Result<usize, A
     requires fact { IsFormulaAt draft.old fact }
     requires negated { tree_at draft.old.trees no_fact ≡ neg (tree_at draft.old.trees fact) }
     ensures refutes { IfOk result (λ k. Refutes draft.new k (trees_at draft.old.trees (no_fact ∷ fact ∷ []))) }
+    ensures language { StaysIn (λ p. AreIn p (trees_at draft.old.trees (no_fact ∷ fact ∷ []))) draft.old draft.new }
     ensures grows { Extends draft.old draft.new }
 {
     derive(draft, &[], &[no_fact, fact], Rule::Clash(1, 0), &[])
@@ -42,6 +44,7 @@ fn cite(
     requires fact { IsFact draft.old.task draft.old.task prop (trees_at draft.old.trees types.now) }
     requires clash { Refutes draft.old clash (tree_at draft.old.trees no_fact ∷ fact_of draft.old.task prop (trees_at draft.old.trees types.now) ∷ []) }
     ensures refutes { IfOk result (λ k. Refutes draft.new k (tree_at draft.old.trees no_fact ∷ [])) }
+    ensures language { StaysIn (λ p. IsIn p (tree_at draft.old.trees no_fact) × AreIn p (trees_at draft.old.trees types.now)) draft.old draft.new }
     ensures grows { Extends draft.old draft.new }
 {
     let types = Seq::from_slice(draft.allocator(), types)?;
@@ -61,6 +64,7 @@ fn lemma_of(
     requires valid { IsValid draft.old.task }
     requires is { tree_at draft.old.trees fact ≡ fact_of draft.old.task prop (trees_at draft.old.trees types.now) }
     ensures refutes { IfOk result (λ k. Refutes draft.new k (neg (fact_of draft.old.task prop (trees_at draft.old.trees types.now)) ∷ [])) }
+    ensures language { StaysIn (λ p. RespectsNegation p × IsIn p (fact_of draft.old.task prop (trees_at draft.old.trees types.now)) × AreIn p (trees_at draft.old.trees types.now)) draft.old draft.new }
     ensures grows { Extends draft.old draft.new }
 {
     let no_fact = negation(draft, fact)?;
@@ -81,6 +85,7 @@ pub(crate) fn base_lemma(
     requires valid { IsValid draft.old.task }
     requires is { (prop_or (props draft.old.task) prop).formula ≡ tree_at draft.old.trees formula }
     ensures refutes { IfOk result (λ k. Refutes draft.new k (neg (fact_of draft.old.task prop (trees_at draft.old.trees types.now)) ∷ [])) }
+    ensures language { StaysIn (λ p. RespectsNegation p × IsIn p (fact_of draft.old.task prop (trees_at draft.old.trees types.now)) × AreIn p (trees_at draft.old.trees types.now)) draft.old draft.new }
     ensures grows { Extends draft.old draft.new }
 {
     let fact = instance(draft, formula, types)?;

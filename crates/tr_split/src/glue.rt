@@ -4,11 +4,12 @@ ghost use Rattle.trees.specs.Tree.{Tree, Two, HJoin};
 ghost use Rattle.trees.specs.Node.{tree_at, Holds};
 ghost use Rattle.tasks.specs.Task.{neg};
 ghost use Rattle.tasks.specs.Meaning.{trees_at};
-ghost use Rattle.evidence.specs.Drafts.{Extends, Refutes};
+ghost use Rattle.evidence.specs.Drafts.{Extends, AddsTrees, Refutes};
 ghost use Rattle.evidence.specs.Stages.{IsNegation};
+ghost use Rattle.evidence.specs.Languages.{StaysIn};
 ghost use Rattle.tr_split.specs.Parts.{Joins};
 ghost use Rattle.tr_split.specs.Split.{imp, split};
-ghost use Rattle.tr_split.specs.Glue.{AreFormulas, IsFormulaAt, Glues, Ends, IsUnder, AreSides, IsImplied, HasLast, EndsUnder, IsImplication, PartUnder, conj};
+ghost use Rattle.tr_split.specs.Glue.{AreFormulas, IsFormulaAt, HasFormulas, Glues, Ends, IsUnder, AreSides, IsImplied, HasLast, EndsUnder, IsImplication, PartUnder, conj};
 
 use crate::derive::{derive, joined, keep_but};
 use evidence::Draft;
@@ -33,6 +34,7 @@ fn imp_closes(draft: &mut Draft, front: &[TermId], u: &Under) -> Result<usize, A
     requires front { AreFormulas draft.old front.now }
     requires under { IsUnder draft.old u.now }
     ensures refutes { IfOk result (λ k. Refutes draft.new k (trees_at draft.old.trees front.now ++ trees_at draft.old.trees (u.now.hypothesis ∷ u.now.no_part ∷ u.now.whole ∷ []))) }
+    ensures language { StaysIn (HasFormulas draft.old front.now (u.now.whole ∷ [])) draft.old draft.new }
     ensures grows { Extends draft.old draft.new }
 {
     let n = front.len();
@@ -64,7 +66,7 @@ pub(crate) fn negation(draft: &mut Draft, formula: TermId) -> Result<TermId, All
     requires { IsFormulaAt draft.old formula }
     ensures formula { IfOk result (IsFormulaAt draft.new) }
     ensures tree { IfOk result (λ id. tree_at draft.new.trees id ≡ neg (tree_at draft.old.trees formula)) }
-    ensures grows { Extends draft.old draft.new }
+    ensures grows { AddsTrees draft.old draft.new }
 {
     draft.add(Node::Not(formula))
 }
@@ -75,6 +77,7 @@ fn end_cut(draft: &mut Draft, front: &[TermId], u: &Under, end: usize) -> Result
     requires under { IsUnder draft.old u.now }
     requires end { Refutes draft.old end (trees_at draft.old.trees front.now ++ trees_at draft.old.trees (u.now.no_whole ∷ [])) }
     ensures refutes { IfOk result (λ k. Refutes draft.new k (trees_at draft.old.trees front.now ++ trees_at draft.old.trees (u.now.hypothesis ∷ u.now.no_part ∷ []))) }
+    ensures language { StaysIn (HasFormulas draft.old front.now (u.now.whole ∷ [])) draft.old draft.new }
     ensures grows { Extends draft.old draft.new }
 {
     let closed = imp_closes(draft, front, u)?;
@@ -106,6 +109,7 @@ fn and_step(
     requires left { Refutes draft.old left (trees_at draft.old.trees front.now ++ trees_at draft.old.trees (no_left ∷ [])) }
     requires right { Refutes draft.old right (trees_at draft.old.trees front.now ++ trees_at draft.old.trees (no_right ∷ [])) }
     ensures refutes { IfOk result (λ k. Refutes draft.new k (trees_at draft.old.trees front.now ++ trees_at draft.old.trees (no_whole ∷ []))) }
+    ensures language { StaysIn (HasFormulas draft.old front.now (no_whole ∷ no_left ∷ no_right ∷ [])) draft.old draft.new }
     ensures grows { Extends draft.old draft.new }
 {
     let first = keep_but(draft, front, &[no_whole], &[no_left], left)?;
@@ -135,6 +139,7 @@ fn imp_step(
     requires implied { IsImplied (tree_at draft.old.trees no_whole) (tree_at draft.old.trees hypothesis) (tree_at draft.old.trees no_part) }
     requires step { Refutes draft.old step (trees_at draft.old.trees front.now ++ trees_at draft.old.trees (hypothesis ∷ no_part ∷ [])) }
     ensures refutes { IfOk result (λ k. Refutes draft.new k (trees_at draft.old.trees front.now ++ trees_at draft.old.trees (no_whole ∷ []))) }
+    ensures language { StaysIn (HasFormulas draft.old front.now (no_whole ∷ hypothesis ∷ no_part ∷ [])) draft.old draft.new }
     ensures grows { Extends draft.old draft.new }
 {
     let kept = keep_but(draft, front, &[no_whole], &[hypothesis, no_part], step)?;
@@ -223,7 +228,7 @@ fn read_under(
     ensures under { IfOk result (IsUnder draft.new) }
     ensures hypothesis { IfOk result (λ u. u.hypothesis ≡ hypothesis) }
     ensures part { IfOk result (λ u. (front : List Tree) (part : Tree) → Refutes draft.old end (front ++ neg (imp (tree_at draft.old.trees hypothesis) part) ∷ []) → tree_at draft.new.trees u.part ≡ part) }
-    ensures grows { Extends draft.old draft.new }
+    ensures grows { AddsTrees draft.old draft.new }
 {
     let no_whole = last_formula(draft, end);
     let whole = negated(draft, no_whole);
@@ -257,6 +262,7 @@ fn and_from(
     requires left { Refutes draft.old left (trees_at draft.old.trees front.now ++ neg (tree_at draft.old.trees a) ∷ []) }
     requires right { Refutes draft.old right (trees_at draft.old.trees front.now ++ neg (tree_at draft.old.trees b) ∷ []) }
     ensures refutes { IfOk result (λ k. Refutes draft.new k (trees_at draft.old.trees front.now ++ neg (tree_at draft.old.trees whole) ∷ [])) }
+    ensures language { StaysIn (HasFormulas draft.old front.now (whole ∷ [])) draft.old draft.new }
     ensures grows { Extends draft.old draft.new }
 {
     let no_whole = negation(draft, whole)?;
@@ -281,6 +287,7 @@ fn imp_from(
     requires sides { tree_at draft.old.trees whole ≡ imp (tree_at draft.old.trees a) (tree_at draft.old.trees b) }
     requires step { Refutes draft.old step ((trees_at draft.old.trees front.now ++ tree_at draft.old.trees a ∷ []) ++ neg (tree_at draft.old.trees b) ∷ []) }
     ensures refutes { IfOk result (λ k. Refutes draft.new k (trees_at draft.old.trees front.now ++ neg (tree_at draft.old.trees whole) ∷ [])) }
+    ensures language { StaysIn (HasFormulas draft.old front.now (whole ∷ [])) draft.old draft.new }
     ensures grows { Extends draft.old draft.new }
 {
     let no_whole = negation(draft, whole)?;
@@ -302,6 +309,7 @@ fn end_under(
     requires negated { tree_at draft.old.trees no_hypothesis ≡ neg (tree_at draft.old.trees hypothesis) }
     requires end { PartUnder draft.old end (trees_at draft.old.trees front.now) (tree_at draft.old.trees hypothesis) }
     ensures refutes { IfOk result (λ k. (part : Tree) → Refutes draft.old end (trees_at draft.old.trees front.now ++ neg (imp (tree_at draft.old.trees hypothesis) part) ∷ []) → Refutes draft.new k ((trees_at draft.old.trees front.now ++ tree_at draft.old.trees hypothesis ∷ []) ++ neg part ∷ [])) }
+    ensures language { StaysIn (HasFormulas draft.old front.now (hypothesis ∷ [])) draft.old draft.new }
     ensures grows { Extends draft.old draft.new }
 {
     let u = read_under(draft, hypothesis, no_hypothesis, end)?;
@@ -323,6 +331,7 @@ fn ends_under(
     requires negated { tree_at draft.old.trees no_hypothesis ≡ neg (tree_at draft.old.trees hypothesis) }
     requires ends { Ends draft.old ends.now (trees_at draft.old.trees front.now) (map (imp (tree_at draft.old.trees hypothesis)) (split (tree_at draft.old.trees formula))) }
     ensures ends { IfOk result (λ v. Ends draft.new v.items (trees_at draft.old.trees front.now ++ tree_at draft.old.trees hypothesis ∷ []) (split (tree_at draft.old.trees formula))) }
+    ensures language { StaysIn (HasFormulas draft.old front.now (hypothesis ∷ [])) draft.old draft.new }
     ensures grows { Extends draft.old draft.new }
 {
     let _ = formula;
@@ -347,6 +356,7 @@ pub(crate) fn glue_formula(
     requires glues { Glues (tree_at draft.old.trees formula) }
     requires ends { Ends draft.old ends.now (trees_at draft.old.trees front.now) (split (tree_at draft.old.trees formula)) }
     ensures refutes { IfOk result (λ k. Refutes draft.new k (trees_at draft.old.trees front.now ++ neg (tree_at draft.old.trees formula) ∷ [])) }
+    ensures language { StaysIn (HasFormulas draft.old front.now (formula ∷ [])) draft.old draft.new }
     ensures grows { Extends draft.old draft.new }
 {
     match draft.store().node(formula) {
@@ -372,6 +382,7 @@ fn glue_joined(
     requires glues { Glues (tree_at draft.old.trees formula) }
     requires ends { Ends draft.old ends.now (trees_at draft.old.trees front.now) (split (tree_at draft.old.trees formula)) }
     ensures refutes { IfOk result (λ k. Refutes draft.new k (trees_at draft.old.trees front.now ++ neg (tree_at draft.old.trees formula) ∷ [])) }
+    ensures language { StaysIn (HasFormulas draft.old front.now (formula ∷ [])) draft.old draft.new }
     ensures grows { Extends draft.old draft.new }
 {
     match op {
@@ -398,6 +409,7 @@ fn glue_and(
     requires glues { Glues (tree_at draft.old.trees formula) }
     requires ends { Ends draft.old ends.now (trees_at draft.old.trees front.now) (split (tree_at draft.old.trees formula)) }
     ensures refutes { IfOk result (λ k. Refutes draft.new k (trees_at draft.old.trees front.now ++ neg (tree_at draft.old.trees formula) ∷ [])) }
+    ensures language { StaysIn (HasFormulas draft.old front.now (formula ∷ [])) draft.old draft.new }
     ensures grows { Extends draft.old draft.new }
 {
     let count = part_count(draft.store(), a);
@@ -423,6 +435,7 @@ fn glue_imp(
     requires glues { Glues (tree_at draft.old.trees formula) }
     requires ends { Ends draft.old ends.now (trees_at draft.old.trees front.now) (split (tree_at draft.old.trees formula)) }
     ensures refutes { IfOk result (λ k. Refutes draft.new k (trees_at draft.old.trees front.now ++ neg (tree_at draft.old.trees formula) ∷ [])) }
+    ensures language { StaysIn (HasFormulas draft.old front.now (formula ∷ [])) draft.old draft.new }
     ensures grows { Extends draft.old draft.new }
 {
     let no_a = negation(draft, a)?;

@@ -4,7 +4,7 @@ ghost use Rattle.trees.specs.Node.{tree_at, node_tree, assemble, parts_of, head_
 ghost use Rattle.trees.specs.Sorts.{sort_of, Fits};
 ghost use Rattle.trees.specs.Binding.{inst_types};
 ghost use Rattle.tasks.specs.Meaning.{trees_at};
-ghost use Rattle.evidence.specs.Drafts.{Extends};
+ghost use Rattle.evidence.specs.Drafts.{AddsTrees};
 ghost use Rattle.tr_split.specs.Instance.{AreKinds, IsLeaf};
 
 use evidence::Draft;
@@ -29,7 +29,7 @@ fn remake(draft: &mut Draft, node: Node, parts: Parts) -> Result<TermId, AllocEr
     requires fits { Fits (assemble draft.old.trees (head_of_node node) parts) }
     ensures held { IfOk result (Holds draft.new.trees) }
     ensures tree { IfOk result (λ id. tree_at draft.new.trees id ≡ assemble draft.old.trees (head_of_node node) parts) }
-    ensures grows { Extends draft.old draft.new }
+    ensures grows { AddsTrees draft.old draft.new }
 {
     draft.add(node.with_parts(parts))
 }
@@ -58,7 +58,7 @@ pub(crate) fn instance(draft: &mut Draft, e: TermId, types: &[TermId]) -> Result
     requires kinds { AreKinds (trees_at draft.old.trees types.now) }
     ensures held { IfOk result (Holds draft.new.trees) }
     ensures tree { IfOk result (λ id. tree_at draft.new.trees id ≡ inst_types (tree_at draft.old.trees e) (trees_at draft.old.trees types.now)) }
-    ensures grows { Extends draft.old draft.new }
+    ensures grows { AddsTrees draft.old draft.new }
 {
     let node = node_of(draft, e);
     match node.parts() {

@@ -7,7 +7,7 @@ ghost use Rattle.tasks.specs.Valid.{IsValid};
 ghost use Rattle.tasks.specs.Task.{start};
 ghost use Rattle.evidence.specs.Drafts.{Extends, Refutes};
 ghost use Rattle.evidence.specs.Stages.{IsOwn, EndIn};
-ghost use Rattle.tr_split.specs.Glue.{Glues};
+ghost use Rattle.tr_split.specs.Glue.{Glues, HasSides};
 ghost use Rattle.tr_split.specs.Kept.{keeps_declared};
 ghost use Rattle.tr_split.specs.Split.{split_task};
 
@@ -20,7 +20,8 @@ use tasks::{Task, nth_proposition};
 use term_store::{Grow, Store};
 use trees::TermId;
 
-/// The transformation that takes a goal apart.
+/// The transformation that takes a goal apart. Its steps are made of sides of conjunctions and implications, and of
+/// negations.
 #[derive(Clone, Copy, Debug)]
 pub struct Split;
 
@@ -28,6 +29,8 @@ impl Transform for Split {
     ghost becomes = { λ _ from ts. ts ≡ split_task from };
 
     ghost lifts = { λ _ from. Glues from.goal };
+
+    ghost closed = { λ _ _ p. HasSides p };
 
     /// A task for each part of the goal, in order.
     fn apply(

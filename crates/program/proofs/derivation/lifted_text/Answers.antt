@@ -6,14 +6,15 @@ use Rattle.kernel.specs.Trees.{StepTree}
 use Rattle.kernel.specs.Rows.{Closes, AreRight}
 use Rattle.kernel.specs.Meaning.{steps_at}
 use Rattle.evidence.specs.Drafts.{DraftTree}
-use Rattle.evidence.specs.Propositional.{StepsInForm}
+use Rattle.evidence.specs.Languages.{StepsAreIn}
 use Rattle.evidence.specs.Stages.{parts_at}
 use Rattle.problems.specs.declared.names.NameEntry.{NameEntry}
 use Rattle.problems.specs.Names.{task_names}
-use Rattle.steps_text.specs.Writing.{AreWritable}
+use Rattle.steps_text.specs.Writing.{is_writable, AreWritable}
 use Rattle.program.specs.Lifted.{HasSequents}
 use Rattle.program.proofs.Closing.{own_task, draft_task, closes_of, lifted_ok}
-use Rattle.program.proofs.TaskTable.{are_names, steps_writable}
+use Rattle.program.proofs.TaskTable.{are_names}
+use Rattle.program.proofs.TaskLanguage.{steps_writable}
 use Rattle.program.proofs.derivation.lifted_text.Goals as goal
 
 pub write_steps-requires-clause-closes : goal.write_steps-requires-clause-closes
@@ -54,10 +55,11 @@ write_steps-requires-clause-writable c =
     let names : c.deref-4.result.now ≡ task_names t = c.deref-4.ensures.value ∙ c.in_ok-names.ensures ∙ ap task_names is in
     let steps : steps_at c.into_parts-store.result.0 c.deref-5.result.now ≡ d.steps = ap (steps_at c.into_parts-store.result.0) c.deref-5.ensures.value ∙ c.into_parts-store.ensures.steps in
     let own : d.task ≡ t = draft_task c.args.store c.args.task c.new-draft.result d begun c.lifted_draft.ensures.grows in
-    let form : StepsInForm t d.steps = subst (λ (z : TaskTree). StepsInForm z d.steps) own c.into_parts-store.ensures.form in
+    let same : c.new-draft.result.task ≡ t = ap (λ (z : DraftTree). z.task) begun in
+    let formulas : StepsAreIn (is_writable (task_names t)) d.steps = subst (λ (z : TaskTree). StepsAreIn (is_writable (task_names z)) d.steps) same c.lifted_draft.ensures.language in
     let right : AreRight t d.steps = subst (λ (z : TaskTree). AreRight z d.steps) own c.into_parts-store.ensures.right in
     subst (λ (z : List NameEntry). AreWritable z (steps_at c.into_parts-store.result.0 c.deref-5.result.now)) (sym names)
-    (subst (λ (z : List StepTree). AreWritable (task_names t) z) (sym steps) (steps_writable t c.requires.valid c.requires.fragment d.steps form right))
+    (subst (λ (z : List StepTree). AreWritable (task_names t) z) (sym steps) (steps_writable t c.requires.fragment d.steps formulas right))
 
 pub returns : goal.returns
 returns c =

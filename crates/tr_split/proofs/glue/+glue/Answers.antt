@@ -8,7 +8,7 @@ use Rattle.trees.specs.Tree.{Tree}
 use Rattle.trees.specs.Node.{tree_at}
 use Rattle.tasks.specs.Task.{neg}
 use Rattle.tasks.specs.Meaning.{trees_at}
-use Rattle.evidence.specs.Laws.{Extends_refl, Extends_trans}
+use Rattle.evidence.specs.Laws.{Extends_refl, Extends_trans, AddsTrees_extends}
 use Rattle.evidence.proofs.Rules.{refutes_later}
 use Rattle.tr_split.specs.Parts.{Joins}
 use Rattle.tr_split.specs.Split.{imp, split}
@@ -16,6 +16,13 @@ use Rattle.tr_split.specs.Glue.{Glues, Ends}
 use Rattle.tr_split.proofs.Sentences.{joins}
 use Rattle.tr_split.proofs.Gained.{split_later}
 use Rattle.tr_split.proofs.Pieces.{same, sides_of, formulas_later, formula_later, ends_later, ends_left, ends_right, count_is, neg_moved, neg_back, ends_of_imp, wider_formulas, wider_is}
+use Rattle.trees.specs.declared.TermId.{TermId}
+use Rattle.evidence.specs.Drafts.{DraftTree, Extends, AddsTrees}
+use Rattle.evidence.specs.Languages.{Language, StaysIn}
+use Rattle.evidence.proofs.Staying.{stays_same, stays_by, stays_then}
+use Rattle.tr_split.specs.Glue.{AreFormulas, IsFormulaAt, HasFormulas}
+use Rattle.tr_split.proofs.Pieces.{Sides, one_formula}
+use Rattle.tr_split.proofs.Sides.{in_later, has_later, has_one, conj_in, imp_in, joined_in, one_in}
 use Rattle.tr_split.proofs.glue.+glue.Goals as goal
 
 pub glue_and-glue_formula-requires : goal.glue_and-glue_formula-requires
@@ -107,7 +114,7 @@ glue_formula-glue_joined-requires t c =
     (search rules, (c.requires.front, (c.requires.formula, (subst (λ (z : List Tree). Joins z c.args.formula c.in-Join.op c.in-Join.a c.in-Join.b) c.store.ensures j, (c.requires.glues, c.requires.ends)))))
 
 pub glue_imp-ends_under-requires-clause-front : goal.glue_imp-ends_under-requires-clause-front
-glue_imp-ends_under-requires-clause-front t c = formulas_later c.args.draft.now c.negation.new.draft c.in_ok-no_a.ensures.grows c.args.front.now c.requires.front
+glue_imp-ends_under-requires-clause-front t c = formulas_later c.args.draft.now c.negation.new.draft (AddsTrees_extends _ _ c.in_ok-no_a.ensures.grows) c.args.front.now c.requires.front
 
 pub glue_imp-ends_under-requires-clause-ends : goal.glue_imp-ends_under-requires-clause-ends
 glue_imp-ends_under-requires-clause-ends t c =
@@ -116,14 +123,14 @@ glue_imp-ends_under-requires-clause-ends t c =
     let j = c.requires.joins in
     let s = sides_of d c.args.formula Imp c.args.a c.args.b j c.requires.formula in
     let d1 = c.negation.new.draft in
-    let x1 = c.in_ok-no_a.ensures.grows in
+    let x1 = (AddsTrees_extends _ _ c.in_ok-no_a.ensures.grows) in
     ends_of_imp d d1 x1 front c.requires.front c.args.a c.args.b s c.args.ends.now (subst (Ends d c.args.ends.now (trees_at d.trees front)) (ap split j.tree) c.requires.ends)
 
 pub glue_imp-returns-in_err-made-clause-grows : goal.glue_imp-returns-in_err-made-clause-grows
-glue_imp-returns-in_err-made-clause-grows t c = Extends_trans _ _ _ c.in_ok-no_a.ensures.grows c.ends_under.ensures.grows
+glue_imp-returns-in_err-made-clause-grows t c = Extends_trans _ _ _ (AddsTrees_extends _ _ c.in_ok-no_a.ensures.grows) c.ends_under.ensures.grows
 
 pub glue_imp-returns-in_err-wider-clause-grows : goal.glue_imp-returns-in_err-wider-clause-grows
-glue_imp-returns-in_err-wider-clause-grows t c = Extends_trans _ _ _ c.in_ok-no_a.ensures.grows c.ends_under.ensures.grows
+glue_imp-returns-in_err-wider-clause-grows t c = Extends_trans _ _ _ (AddsTrees_extends _ _ c.in_ok-no_a.ensures.grows) c.ends_under.ensures.grows
 
 pub glue_imp-glue_formula-requires : goal.glue_imp-glue_formula-requires
 glue_imp-glue_formula-requires t c =
@@ -132,7 +139,7 @@ glue_imp-glue_formula-requires t c =
     let j = c.requires.joins in
     let s = sides_of d c.args.formula Imp c.args.a c.args.b j c.requires.formula in
     let d1 = c.negation.new.draft in
-    let x1 = c.in_ok-no_a.ensures.grows in
+    let x1 = (AddsTrees_extends _ _ c.in_ok-no_a.ensures.grows) in
     let d2 = c.ends_under.new.draft in
     let x2 = c.in_ok-made.ensures.grows in
     let x = Extends_trans d d1 d2 x1 x2 in
@@ -160,7 +167,7 @@ glue_imp-glue_formula-requires t c =
     )
 
 pub glue_imp-returns-in_err-step-clause-grows : goal.glue_imp-returns-in_err-step-clause-grows
-glue_imp-returns-in_err-step-clause-grows t c = Extends_trans _ _ _ (Extends_trans _ _ _ c.in_ok-no_a.ensures.grows c.in_ok-made.ensures.grows) c.glue_formula.ensures.grows
+glue_imp-returns-in_err-step-clause-grows t c = Extends_trans _ _ _ (Extends_trans _ _ _ (AddsTrees_extends _ _ c.in_ok-no_a.ensures.grows) c.in_ok-made.ensures.grows) c.glue_formula.ensures.grows
 
 pub glue_imp-imp_from-requires-clause-front : goal.glue_imp-imp_from-requires-clause-front
 glue_imp-imp_from-requires-clause-front t c =
@@ -169,7 +176,7 @@ glue_imp-imp_from-requires-clause-front t c =
     let j = c.requires.joins in
     let s = sides_of d c.args.formula Imp c.args.a c.args.b j c.requires.formula in
     let d1 = c.negation.new.draft in
-    let x1 = c.in_ok-no_a.ensures.grows in
+    let x1 = (AddsTrees_extends _ _ c.in_ok-no_a.ensures.grows) in
     let d2 = c.ends_under.new.draft in
     let x2 = c.in_ok-made.ensures.grows in
     let x = Extends_trans d d1 d2 x1 x2 in
@@ -184,7 +191,7 @@ glue_imp-imp_from-requires-clause-step t c =
     let j = c.requires.joins in
     let s = sides_of d c.args.formula Imp c.args.a c.args.b j c.requires.formula in
     let d1 = c.negation.new.draft in
-    let x1 = c.in_ok-no_a.ensures.grows in
+    let x1 = (AddsTrees_extends _ _ c.in_ok-no_a.ensures.grows) in
     let d2 = c.ends_under.new.draft in
     let x2 = c.in_ok-made.ensures.grows in
     let x = Extends_trans d d1 d2 x1 x2 in
@@ -208,7 +215,7 @@ glue_imp-returns-clause-refutes t c =
     let j = c.requires.joins in
     let s = sides_of d c.args.formula Imp c.args.a c.args.b j c.requires.formula in
     let d1 = c.negation.new.draft in
-    let x1 = c.in_ok-no_a.ensures.grows in
+    let x1 = (AddsTrees_extends _ _ c.in_ok-no_a.ensures.grows) in
     let d2 = c.ends_under.new.draft in
     let x2 = c.in_ok-made.ensures.grows in
     let x = Extends_trans d d1 d2 x1 x2 in
@@ -219,7 +226,7 @@ glue_imp-returns-clause-refutes t c =
 
 pub glue_imp-returns-clause-grows : goal.glue_imp-returns-clause-grows
 glue_imp-returns-clause-grows t c =
-    Extends_trans _ _ _ (Extends_trans _ _ _ (Extends_trans _ _ _ c.in_ok-no_a.ensures.grows c.in_ok-made.ensures.grows) c.in_ok-step.ensures.grows) c.imp_from.ensures.grows
+    Extends_trans _ _ _ (Extends_trans _ _ _ (Extends_trans _ _ _ (AddsTrees_extends _ _ c.in_ok-no_a.ensures.grows) c.in_ok-made.ensures.grows) c.in_ok-step.ensures.grows) c.imp_from.ensures.grows
 
 pub glue_joined-glue_and-requires : goal.glue_joined-glue_and-requires
 glue_joined-glue_and-requires t c =
@@ -228,3 +235,118 @@ glue_joined-glue_and-requires t c =
 pub glue_joined-glue_imp-requires : goal.glue_joined-glue_imp-requires
 glue_joined-glue_imp-requires t c =
     (search rules, (c.requires.front, (c.requires.formula, (subst (λ (o : Op). Joins c.args.draft.now.trees c.args.formula o c.args.a c.args.b) c.in-Imp.is c.requires.joins, (c.requires.glues, c.requires.ends)))))
+
+pub glue_and-returns-in_err-left-clause-language : goal.glue_and-returns-in_err-left-clause-language
+glue_and-returns-in_err-left-clause-language t c =
+    let d = c.args.draft.now in
+    stays_by _ _ _ _ c.glue_formula.ensures.language (λ p k s.
+    has_one d c.args.front.now c.args.formula c.args.a c.args.b p k c.args.a (conj_in d c.args.front.now c.args.formula c.args.a c.args.b p k c.requires.joins.tree).0)
+
+pub glue_and-returns-in_err-right-clause-language : goal.glue_and-returns-in_err-right-clause-language
+glue_and-returns-in_err-right-clause-language t c =
+    let d = c.args.draft.now in
+    let d1 = c.glue_formula.new.draft in
+    let front = c.args.front.now in
+    let w = c.args.formula in
+    let a = c.args.a in
+    let b = c.args.b in
+    let j = c.requires.joins in
+    let sides = sides_of d w And a b j c.requires.formula in
+    let x = c.in_ok-left.ensures.grows in
+    let left : StaysIn (HasFormulas d front (w ∷ [])) d d1 = stays_by _ _ _ _ c.glue_formula.ensures.language (λ p k s. has_one d front w a b p k a (conj_in d front w a b p k j.tree).0) in
+    stays_then _ _ _ _ _ left c.glue_formula-2.ensures.language (λ p k s.
+    has_later d d1 x p front (b ∷ []) c.requires.front (one_formula d b sides.right) (has_one d front w a b p k b (conj_in d front w a b p k j.tree).1))
+
+pub glue_and-returns-clause-language : goal.glue_and-returns-clause-language
+glue_and-returns-clause-language t c =
+    let d = c.args.draft.now in
+    let d1 = c.glue_formula.new.draft in
+    let d2 = c.glue_formula-2.new.draft in
+    let front = c.args.front.now in
+    let w = c.args.formula in
+    let a = c.args.a in
+    let b = c.args.b in
+    let j = c.requires.joins in
+    let sides = sides_of d w And a b j c.requires.formula in
+    let x = c.in_ok-left.ensures.grows in
+    let y = Extends_trans d d1 d2 x c.in_ok-right.ensures.grows in
+    let left : StaysIn (HasFormulas d front (w ∷ [])) d d1 = stays_by _ _ _ _ c.glue_formula.ensures.language (λ p k s. has_one d front w a b p k a (conj_in d front w a b p k j.tree).0) in
+    let right : StaysIn (HasFormulas d front (w ∷ [])) d d2 = stays_then _ _ _ _ _ left c.glue_formula-2.ensures.language (λ p k s.
+    has_later d d1 x p front (b ∷ []) c.requires.front (one_formula d b sides.right) (has_one d front w a b p k b (conj_in d front w a b p k j.tree).1)) in
+    stays_then _ _ _ _ _ right c.and_from.ensures.language (λ p k s. has_later d d2 y p front (w ∷ []) c.requires.front (one_formula d w c.requires.formula) k)
+
+pub glue_imp-returns-in_err-no_a-clause-language : goal.glue_imp-returns-in_err-no_a-clause-language
+glue_imp-returns-in_err-no_a-clause-language t c = stays_same _ _ _ c.negation.ensures.grows.steps
+
+-- the hypothesis, once its negation has a number
+hypothesis_in : (d d1 : DraftTree) (g : AddsTrees d d1) (front : List TermId) (w a b : TermId) (f : AreFormulas d front) (j : Joins d.trees w Imp a b) (h : IsFormulaAt d a) (p : Language)
+    → HasFormulas d front (w ∷ []) p → HasFormulas d1 front (a ∷ []) p
+hypothesis_in d d1 g front w a b f j h p k =
+    has_later d d1 (AddsTrees_extends d d1 g) p front (a ∷ []) f (one_formula d a h) (has_one d front w a b p k a (imp_in d front w a b p k j.tree).0)
+
+pub glue_imp-returns-in_err-made-clause-language : goal.glue_imp-returns-in_err-made-clause-language
+glue_imp-returns-in_err-made-clause-language t c =
+    let d = c.args.draft.now in
+    let d1 = c.negation.new.draft in
+    let j = c.requires.joins in
+    let sides = sides_of d c.args.formula Imp c.args.a c.args.b j c.requires.formula in
+    let g = c.in_ok-no_a.ensures.grows in
+    stays_then _ _ d d1 _ (stays_same _ d d1 g.steps) c.ends_under.ensures.language (λ p k s. hypothesis_in d d1 g c.args.front.now c.args.formula c.args.a c.args.b c.requires.front j sides.left p k)
+
+pub glue_imp-returns-in_err-wider-clause-language : goal.glue_imp-returns-in_err-wider-clause-language
+glue_imp-returns-in_err-wider-clause-language t c =
+    let d = c.args.draft.now in
+    let d1 = c.negation.new.draft in
+    let j = c.requires.joins in
+    let sides = sides_of d c.args.formula Imp c.args.a c.args.b j c.requires.formula in
+    let g = c.in_ok-no_a.ensures.grows in
+    stays_then _ _ d d1 _ (stays_same _ d d1 g.steps) c.ends_under.ensures.language (λ p k s. hypothesis_in d d1 g c.args.front.now c.args.formula c.args.a c.args.b c.requires.front j sides.left p k)
+
+-- the right side of an implication, under its left one
+right_in : (d d1 : DraftTree) (x : Extends d d1) (front wider : List TermId) (w a b : TermId) (f : AreFormulas d front) (s : Sides d a b) (e : tree_at d.trees w ≡ imp (tree_at d.trees a) (tree_at d.trees b))
+    → wider ≡ front ++ a ∷ [] → (p : Language) → HasFormulas d front (w ∷ []) p → HasFormulas d1 wider (b ∷ []) p
+right_in d d1 x front wider w a b f s e is p k =
+    let both = imp_in d front w a b p k e in
+    record {
+      negation = k.negation;
+      sides = k.sides;
+      front = joined_in d1.trees p front (a ∷ []) wider is (in_later d d1 x p front f k.front) (in_later d d1 x p (a ∷ []) (one_formula d a s.left) (one_in d.trees p a both.0));
+      tail = in_later d d1 x p (b ∷ []) (one_formula d b s.right) (one_in d.trees p b both.1);
+    }
+
+pub glue_imp-returns-in_err-step-clause-language : goal.glue_imp-returns-in_err-step-clause-language
+glue_imp-returns-in_err-step-clause-language t c =
+    let d = c.args.draft.now in
+    let d1 = c.negation.new.draft in
+    let d2 = c.ends_under.new.draft in
+    let front = c.args.front.now in
+    let w = c.args.formula in
+    let a = c.args.a in
+    let b = c.args.b in
+    let j = c.requires.joins in
+    let sides = sides_of d w Imp a b j c.requires.formula in
+    let g = c.in_ok-no_a.ensures.grows in
+    let x = Extends_trans d d1 d2 (AddsTrees_extends d d1 g) c.in_ok-made.ensures.grows in
+    let is : c.deref.result.now ≡ front ++ a ∷ [] = c.deref.ensures.value ∙ c.in_ok-wider.ensures in
+    let made : StaysIn (HasFormulas d front (w ∷ [])) d d2 = stays_then _ _ d d1 _ (stays_same _ d d1 g.steps) c.ends_under.ensures.language (λ p k s. hypothesis_in d d1 g front w a b c.requires.front j sides.left p k) in
+    stays_then _ _ d d2 _ made c.glue_formula.ensures.language (λ p k s. right_in d d2 x front c.deref.result.now w a b c.requires.front sides j.tree is p k)
+
+pub glue_imp-returns-clause-language : goal.glue_imp-returns-clause-language
+glue_imp-returns-clause-language t c =
+    let d = c.args.draft.now in
+    let d1 = c.negation.new.draft in
+    let d2 = c.ends_under.new.draft in
+    let d3 = c.glue_formula.new.draft in
+    let front = c.args.front.now in
+    let w = c.args.formula in
+    let a = c.args.a in
+    let b = c.args.b in
+    let j = c.requires.joins in
+    let sides = sides_of d w Imp a b j c.requires.formula in
+    let g = c.in_ok-no_a.ensures.grows in
+    let x = Extends_trans d d1 d2 (AddsTrees_extends d d1 g) c.in_ok-made.ensures.grows in
+    let y = Extends_trans d d2 d3 x c.in_ok-step.ensures.grows in
+    let is : c.deref.result.now ≡ front ++ a ∷ [] = c.deref.ensures.value ∙ c.in_ok-wider.ensures in
+    let made : StaysIn (HasFormulas d front (w ∷ [])) d d2 = stays_then _ _ d d1 _ (stays_same _ d d1 g.steps) c.ends_under.ensures.language (λ p k s. hypothesis_in d d1 g front w a b c.requires.front j sides.left p k) in
+    let step : StaysIn (HasFormulas d front (w ∷ [])) d d3 = stays_then _ _ d d2 _ made c.glue_formula.ensures.language (λ p k s. right_in d d2 x front c.deref.result.now w a b c.requires.front sides j.tree is p k) in
+    stays_then _ _ d d3 _ step c.imp_from.ensures.language (λ p k s. has_later d d3 y p front (w ∷ []) c.requires.front (one_formula d w c.requires.formula) k)

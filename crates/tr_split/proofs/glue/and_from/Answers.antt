@@ -1,16 +1,18 @@
-use Rattle.std.proofs.Common.{◌≡◌, ◌∙◌, ap}
+use Rattle.std.proofs.Common.{◌≡◌, ◌∙◌, [], ap, sym, subst}
 use Rattle.std.proofs.lemmas.Result.{IfOk-weaker}
 use Rattle.trees.specs.Node.{tree_at}
 use Rattle.tasks.specs.Task.{neg}
-use Rattle.evidence.specs.Laws.{Extends_trans}
+use Rattle.evidence.specs.Laws.{Extends_trans, AddsTrees_trans, AddsTrees_extends}
 use Rattle.tr_split.proofs.Pieces.{formulas_later, end_later, end_back}
+use Rattle.evidence.proofs.Staying.{stays_same, stays_then}
+use Rattle.tr_split.proofs.Sides.{in_later, three_in, negation_in, first_in, conj_in}
 use Rattle.tr_split.proofs.glue.and_from.Goals as goal
 
 pub returns-in_err-no_a-clause-grows : goal.returns-in_err-no_a-clause-grows
-returns-in_err-no_a-clause-grows c = Extends_trans _ _ _ c.in_ok-no_whole.ensures.grows c.negation-2.ensures.grows
+returns-in_err-no_a-clause-grows c = Extends_trans _ _ _ (AddsTrees_extends _ _ c.in_ok-no_whole.ensures.grows) (AddsTrees_extends _ _ c.negation-2.ensures.grows)
 
 pub returns-in_err-no_b-clause-grows : goal.returns-in_err-no_b-clause-grows
-returns-in_err-no_b-clause-grows c = Extends_trans _ _ _ (Extends_trans _ _ _ c.in_ok-no_whole.ensures.grows c.in_ok-no_a.ensures.grows) c.negation-3.ensures.grows
+returns-in_err-no_b-clause-grows c = Extends_trans _ _ _ (Extends_trans _ _ _ (AddsTrees_extends _ _ c.in_ok-no_whole.ensures.grows) (AddsTrees_extends _ _ c.in_ok-no_a.ensures.grows)) (AddsTrees_extends _ _ c.negation-3.ensures.grows)
 
 pub and_step-requires-clause-front : goal.and_step-requires-clause-front
 and_step-requires-clause-front c =
@@ -18,7 +20,7 @@ and_step-requires-clause-front c =
     let d1 = c.negation.new.draft in
     let d2 = c.negation-2.new.draft in
     let d3 = c.negation-3.new.draft in
-    let x = Extends_trans d d2 d3 (Extends_trans d d1 d2 c.in_ok-no_whole.ensures.grows c.in_ok-no_a.ensures.grows) c.in_ok-no_b.ensures.grows in
+    let x = Extends_trans d d2 d3 (Extends_trans d d1 d2 (AddsTrees_extends _ _ c.in_ok-no_whole.ensures.grows) (AddsTrees_extends _ _ c.in_ok-no_a.ensures.grows)) (AddsTrees_extends _ _ c.in_ok-no_b.ensures.grows) in
     formulas_later d d3 x c.args.front.now c.requires.front
 
 pub and_step-requires-clause-left : goal.and_step-requires-clause-left
@@ -27,7 +29,7 @@ and_step-requires-clause-left c =
     let d1 = c.negation.new.draft in
     let d2 = c.negation-2.new.draft in
     let d3 = c.negation-3.new.draft in
-    let x = Extends_trans d d2 d3 (Extends_trans d d1 d2 c.in_ok-no_whole.ensures.grows c.in_ok-no_a.ensures.grows) c.in_ok-no_b.ensures.grows in
+    let x = Extends_trans d d2 d3 (Extends_trans d d1 d2 (AddsTrees_extends _ _ c.in_ok-no_whole.ensures.grows) (AddsTrees_extends _ _ c.in_ok-no_a.ensures.grows)) (AddsTrees_extends _ _ c.in_ok-no_b.ensures.grows) in
     let e : tree_at d3.trees c.in_ok-no_a.no_a ≡ neg (tree_at d.trees c.args.a) =
     c.in_ok-no_b.ensures.grows.trees.same _ c.in_ok-no_a.ensures.formula.held ∙ c.in_ok-no_a.ensures.tree ∙ ap neg (c.in_ok-no_whole.ensures.grows.trees.same _ c.requires.a.held) in
     end_later d d3 x c.args.front.now c.requires.front c.args.left c.in_ok-no_a.no_a (tree_at d.trees c.args.a) c.requires.left e
@@ -38,8 +40,8 @@ and_step-requires-clause-right c =
     let d1 = c.negation.new.draft in
     let d2 = c.negation-2.new.draft in
     let d3 = c.negation-3.new.draft in
-    let y = Extends_trans d d1 d2 c.in_ok-no_whole.ensures.grows c.in_ok-no_a.ensures.grows in
-    let x = Extends_trans d d2 d3 y c.in_ok-no_b.ensures.grows in
+    let y = Extends_trans d d1 d2 (AddsTrees_extends _ _ c.in_ok-no_whole.ensures.grows) (AddsTrees_extends _ _ c.in_ok-no_a.ensures.grows) in
+    let x = Extends_trans d d2 d3 y (AddsTrees_extends _ _ c.in_ok-no_b.ensures.grows) in
     let e : tree_at d3.trees c.in_ok-no_b.no_b ≡ neg (tree_at d.trees c.args.b) = c.in_ok-no_b.ensures.tree ∙ ap neg (y.trees.same _ c.requires.b.held) in
     end_later d d3 x c.args.front.now c.requires.front c.args.right c.in_ok-no_b.no_b (tree_at d.trees c.args.b) c.requires.right e
 
@@ -49,10 +51,48 @@ returns-clause-refutes c =
     let d1 = c.negation.new.draft in
     let d2 = c.negation-2.new.draft in
     let d3 = c.negation-3.new.draft in
-    let z = Extends_trans d1 d2 d3 c.in_ok-no_a.ensures.grows c.in_ok-no_b.ensures.grows in
-    let x = Extends_trans d d1 d3 c.in_ok-no_whole.ensures.grows z in
+    let z = Extends_trans d1 d2 d3 (AddsTrees_extends _ _ c.in_ok-no_a.ensures.grows) (AddsTrees_extends _ _ c.in_ok-no_b.ensures.grows) in
+    let x = Extends_trans d d1 d3 (AddsTrees_extends _ _ c.in_ok-no_whole.ensures.grows) z in
     let e : tree_at d3.trees c.in_ok-no_whole.no_whole ≡ neg (tree_at d.trees c.args.whole) = z.trees.same _ c.in_ok-no_whole.ensures.formula.held ∙ c.in_ok-no_whole.ensures.tree in
     IfOk-weaker c.and_step.result _ _ (λ k r. end_back d d3 x c.args.front.now c.requires.front c.and_step.new.draft k c.in_ok-no_whole.no_whole (tree_at d.trees c.args.whole) e r) c.and_step.ensures.refutes
 
 pub returns-clause-grows : goal.returns-clause-grows
-returns-clause-grows c = Extends_trans _ _ _ (Extends_trans _ _ _ (Extends_trans _ _ _ c.in_ok-no_whole.ensures.grows c.in_ok-no_a.ensures.grows) c.in_ok-no_b.ensures.grows) c.and_step.ensures.grows
+returns-clause-grows c = Extends_trans _ _ _ (Extends_trans _ _ _ (Extends_trans _ _ _ (AddsTrees_extends _ _ c.in_ok-no_whole.ensures.grows) (AddsTrees_extends _ _ c.in_ok-no_a.ensures.grows)) (AddsTrees_extends _ _ c.in_ok-no_b.ensures.grows)) c.and_step.ensures.grows
+
+pub returns-in_err-no_whole-clause-language : goal.returns-in_err-no_whole-clause-language
+returns-in_err-no_whole-clause-language c = stays_same _ _ _ c.negation.ensures.grows.steps
+
+pub returns-in_err-no_a-clause-language : goal.returns-in_err-no_a-clause-language
+returns-in_err-no_a-clause-language c = stays_same _ _ _ (c.negation-2.ensures.grows.steps ∙ c.in_ok-no_whole.ensures.grows.steps)
+
+pub returns-in_err-no_b-clause-language : goal.returns-in_err-no_b-clause-language
+returns-in_err-no_b-clause-language c = stays_same _ _ _ (c.negation-3.ensures.grows.steps ∙ c.in_ok-no_a.ensures.grows.steps ∙ c.in_ok-no_whole.ensures.grows.steps)
+
+pub returns-clause-language : goal.returns-clause-language
+returns-clause-language c =
+    let d = c.args.draft.now in
+    let d1 = c.negation.new.draft in
+    let d2 = c.negation-2.new.draft in
+    let d3 = c.negation-3.new.draft in
+    let g1 = c.in_ok-no_whole.ensures.grows in
+    let g2 = c.in_ok-no_a.ensures.grows in
+    let g3 = c.in_ok-no_b.ensures.grows in
+    let g12 = AddsTrees_trans d d1 d2 g1 g2 in
+    let g23 = AddsTrees_trans d1 d2 d3 g2 g3 in
+    let g = AddsTrees_trans d d1 d3 g1 g23 in
+    let F = c.args.front.now in
+    let w = c.args.whole in
+    let a = c.args.a in
+    let b = c.args.b in
+    let ew : tree_at d3.trees c.in_ok-no_whole.no_whole ≡ neg (tree_at d.trees w) = g23.trees.same _ c.in_ok-no_whole.ensures.formula.held ∙ c.in_ok-no_whole.ensures.tree in
+    let ea : tree_at d3.trees c.in_ok-no_a.no_a ≡ neg (tree_at d.trees a) = g3.trees.same _ c.in_ok-no_a.ensures.formula.held ∙ c.in_ok-no_a.ensures.tree ∙ ap neg (g1.trees.same _ c.requires.a.held) in
+    let eb : tree_at d3.trees c.in_ok-no_b.no_b ≡ neg (tree_at d.trees b) = c.in_ok-no_b.ensures.tree ∙ ap neg (g12.trees.same _ c.requires.b.held) in
+    stays_then _ _ d d3 _ (stays_same _ d d3 g.steps) c.and_step.ensures.language (λ p k s.
+    let both = conj_in d F w a b p k c.requires.sides in
+    record {
+      negation = k.negation;
+      sides = k.sides;
+      front = in_later d d3 (AddsTrees_extends d d3 g) p F c.requires.front k.front;
+      tail = three_in d3.trees p c.in_ok-no_whole.no_whole c.in_ok-no_a.no_a c.in_ok-no_b.no_b (negation_in p k.negation _ _ ew (first_in d.trees p w [] k.tail))
+          (negation_in p k.negation _ _ ea both.0) (negation_in p k.negation _ _ eb both.1);
+    })

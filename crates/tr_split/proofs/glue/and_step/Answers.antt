@@ -7,7 +7,11 @@ use Rattle.kernel.specs.Trees.{RNotAnd}
 use Rattle.evidence.specs.Drafts.{Refutes}
 use Rattle.evidence.specs.Laws.{Extends_trans}
 use Rattle.evidence.proofs.Rules.{refutes_later}
-use Rattle.tr_split.proofs.Pieces.{one_formula, formulas_later, forth, back, back_but, notand_at, first_place, form_at}
+use Rattle.tr_split.proofs.Pieces.{one_formula, formulas_later, forth, back, back_but, notand_at, first_place}
+use Rattle.evidence.specs.Languages.{StaysIn}
+use Rattle.evidence.proofs.Staying.{stays_by, stays_then}
+use Rattle.tr_split.specs.Glue.{HasFormulas}
+use Rattle.tr_split.proofs.Sides.{in_later, one_in, first_in, second_in, third_in}
 use Rattle.tr_split.proofs.glue.and_step.Goals as goal
 
 pub keep_but-requires-2-clause-front : goal.keep_but-requires-2-clause-front
@@ -51,9 +55,53 @@ returns-clause-refutes c =
 pub returns-clause-grows : goal.returns-clause-grows
 returns-clause-grows c = Extends_trans _ _ _ (Extends_trans _ _ _ c.in_ok-first.ensures.grows c.in_ok-second.ensures.grows) c.derive.ensures.grows
 
-pub derive-requires-clause-form : goal.derive-requires-clause-form
-derive-requires-clause-form c =
-    let d = c.args.draft.now in
+pub returns-in_err-first-clause-language : goal.returns-in_err-first-clause-language
+returns-in_err-first-clause-language c =
+    let t = c.args.draft.now.trees in
     let w = c.args.no_whole in
-    let x = Extends_trans d c.keep_but.new.draft c.keep_but-2.new.draft c.in_ok-first.ensures.grows c.in_ok-second.ensures.grows in
-    form_at d c.keep_but-2.new.draft x c.args.front.now (w ∷ []) c.requires.front (one_formula d w c.requires.no_whole) _ _ (λ m. tt)
+    let l = c.args.no_left in
+    let r = c.args.no_right in
+    stays_by _ _ _ _ c.keep_but.ensures.language (λ p k s. (k.front, one_in t p w (first_in t p w (l ∷ r ∷ []) k.tail), one_in t p l (second_in t p w l (r ∷ []) k.tail)))
+
+pub returns-in_err-second-clause-language : goal.returns-in_err-second-clause-language
+returns-in_err-second-clause-language c =
+    let d = c.args.draft.now in
+    let d1 = c.keep_but.new.draft in
+    let t = d.trees in
+    let F = c.args.front.now in
+    let w = c.args.no_whole in
+    let l = c.args.no_left in
+    let r = c.args.no_right in
+    let x = c.in_ok-first.ensures.grows in
+    let first : StaysIn (HasFormulas d F (w ∷ l ∷ r ∷ [])) d d1 =
+    stays_by _ _ _ _ c.keep_but.ensures.language (λ p k s. (k.front, one_in t p w (first_in t p w (l ∷ r ∷ []) k.tail), one_in t p l (second_in t p w l (r ∷ []) k.tail))) in
+    stays_then _ _ _ _ _ first c.keep_but-2.ensures.language (λ p k s. (
+      in_later d d1 x p F c.requires.front k.front,
+      in_later d d1 x p (w ∷ []) (one_formula d w c.requires.no_whole) (one_in t p w (first_in t p w (l ∷ r ∷ []) k.tail)),
+      in_later d d1 x p (r ∷ []) (one_formula d r c.requires.no_right) (one_in t p r (third_in t p w l r [] k.tail)),
+    ))
+
+pub returns-clause-language : goal.returns-clause-language
+returns-clause-language c =
+    let d = c.args.draft.now in
+    let d1 = c.keep_but.new.draft in
+    let d2 = c.keep_but-2.new.draft in
+    let t = d.trees in
+    let F = c.args.front.now in
+    let w = c.args.no_whole in
+    let l = c.args.no_left in
+    let r = c.args.no_right in
+    let x = c.in_ok-first.ensures.grows in
+    let y = Extends_trans d d1 d2 x c.in_ok-second.ensures.grows in
+    let first : StaysIn (HasFormulas d F (w ∷ l ∷ r ∷ [])) d d1 =
+    stays_by _ _ _ _ c.keep_but.ensures.language (λ p k s. (k.front, one_in t p w (first_in t p w (l ∷ r ∷ []) k.tail), one_in t p l (second_in t p w l (r ∷ []) k.tail))) in
+    let second : StaysIn (HasFormulas d F (w ∷ l ∷ r ∷ [])) d d2 = stays_then _ _ _ _ _ first c.keep_but-2.ensures.language (λ p k s. (
+      in_later d d1 x p F c.requires.front k.front,
+      in_later d d1 x p (w ∷ []) (one_formula d w c.requires.no_whole) (one_in t p w (first_in t p w (l ∷ r ∷ []) k.tail)),
+      in_later d d1 x p (r ∷ []) (one_formula d r c.requires.no_right) (one_in t p r (third_in t p w l r [] k.tail)),
+    )) in
+    stays_then _ _ _ _ _ second c.derive.ensures.language (λ p k s. (
+      in_later d d2 y p F c.requires.front k.front,
+      in_later d d2 y p (w ∷ []) (one_formula d w c.requires.no_whole) (one_in t p w (first_in t p w (l ∷ r ∷ []) k.tail)),
+      tt,
+    ))

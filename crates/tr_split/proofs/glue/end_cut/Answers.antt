@@ -5,10 +5,13 @@ use Rattle.trees.specs.Node.{tree_at}
 use Rattle.tasks.specs.Task.{neg}
 use Rattle.tasks.specs.Meaning.{trees_at}
 use Rattle.evidence.specs.Drafts.{Refutes}
-use Rattle.evidence.specs.Propositional.{IsPropositional}
 use Rattle.evidence.specs.Laws.{Extends_trans}
 use Rattle.evidence.proofs.Rules.{refutes_later}
-use Rattle.tr_split.proofs.Pieces.{one_formula, two_formulas, formulas_later, forth, back, back_but, cut_at, form_at}
+use Rattle.tr_split.proofs.Pieces.{one_formula, two_formulas, formulas_later, forth, back, back_but, cut_at}
+use Rattle.evidence.specs.Languages.{IsIn, StaysIn}
+use Rattle.evidence.proofs.Staying.{stays_then}
+use Rattle.tr_split.specs.Glue.{HasFormulas}
+use Rattle.tr_split.proofs.Sides.{in_later, one_in, two_in, under_in}
 use Rattle.tr_split.proofs.glue.end_cut.Goals as goal
 
 pub keep_but-requires-clause-front : goal.keep_but-requires-clause-front
@@ -51,12 +54,41 @@ returns-clause-refutes c =
 pub returns-clause-grows : goal.returns-clause-grows
 returns-clause-grows c = Extends_trans _ _ _ (Extends_trans _ _ _ c.in_ok-closed.ensures.grows c.in_ok-kept.ensures.grows) c.derive.ensures.grows
 
-pub derive-requires-clause-form : goal.derive-requires-clause-form
-derive-requires-clause-form c =
+pub returns-in_err-kept-clause-language : goal.returns-in_err-kept-clause-language
+returns-in_err-kept-clause-language c =
     let d = c.args.draft.now in
+    let d1 = c.imp_closes.new.draft in
+    let u = c.args.u.now in
+    let F = c.args.front.now in
+    let h = c.requires.under in
+    let x = c.in_ok-closed.ensures.grows in
+    stays_then _ _ _ _ _ c.imp_closes.ensures.language c.keep_but.ensures.language (λ p k s.
+    let v = under_in d F u p h k in (
+      in_later d d1 x p F c.requires.front k.front,
+      in_later d d1 x p (u.hypothesis ∷ u.no_part ∷ []) (two_formulas d u.hypothesis u.no_part h.hypothesis h.no_part) (two_in d.trees p u.hypothesis u.no_part v.hypothesis v.no_part),
+      in_later d d1 x p (u.no_whole ∷ []) (one_formula d u.no_whole h.no_whole) (one_in d.trees p u.no_whole v.no_whole),
+    ))
+
+pub returns-clause-language : goal.returns-clause-language
+returns-clause-language c =
+    let d = c.args.draft.now in
+    let d1 = c.imp_closes.new.draft in
     let d2 = c.keep_but.new.draft in
     let u = c.args.u.now in
+    let F = c.args.front.now in
     let h = c.requires.under in
-    let x = Extends_trans d c.imp_closes.new.draft d2 c.in_ok-closed.ensures.grows c.in_ok-kept.ensures.grows in
-    form_at d d2 x c.args.front.now (u.hypothesis ∷ u.no_part ∷ []) c.requires.front (two_formulas d u.hypothesis u.no_part h.hypothesis h.no_part) _ _ (λ m.
-    subst IsPropositional (sym (x.trees.same _ h.whole.held)) (h.whole.form m))
+    let ft = two_formulas d u.hypothesis u.no_part h.hypothesis h.no_part in
+    let x = c.in_ok-closed.ensures.grows in
+    let y = Extends_trans d d1 d2 x c.in_ok-kept.ensures.grows in
+    let kept : StaysIn (HasFormulas d F (u.whole ∷ [])) d d2 = stays_then _ _ _ _ _ c.imp_closes.ensures.language c.keep_but.ensures.language (λ p k s.
+    let v = under_in d F u p h k in (
+      in_later d d1 x p F c.requires.front k.front,
+      in_later d d1 x p (u.hypothesis ∷ u.no_part ∷ []) ft (two_in d.trees p u.hypothesis u.no_part v.hypothesis v.no_part),
+      in_later d d1 x p (u.no_whole ∷ []) (one_formula d u.no_whole h.no_whole) (one_in d.trees p u.no_whole v.no_whole),
+    )) in
+    stays_then _ _ _ _ _ kept c.derive.ensures.language (λ p k s.
+    let v = under_in d F u p h k in (
+      in_later d d2 y p F c.requires.front k.front,
+      in_later d d2 y p (u.hypothesis ∷ u.no_part ∷ []) ft (two_in d.trees p u.hypothesis u.no_part v.hypothesis v.no_part),
+      subst (IsIn p) (sym (y.trees.same _ h.whole.held)) v.whole,
+    ))

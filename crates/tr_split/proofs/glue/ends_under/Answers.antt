@@ -7,7 +7,9 @@ use Rattle.evidence.specs.Laws.{Extends_trans}
 use Rattle.evidence.proofs.Lifted.{have_more}
 use Rattle.tr_split.specs.Split.{split}
 use Rattle.tr_split.specs.Glue.{end_of}
-use Rattle.tr_split.proofs.Pieces.{formulas_later, formula_later, part_under, part_done, ends_all}
+use Rattle.tr_split.proofs.Pieces.{one_formula, formulas_later, formula_later, part_under, part_done, ends_all}
+use Rattle.evidence.proofs.Staying.{stays_then}
+use Rattle.tr_split.proofs.Sides.{has_later}
 use Rattle.tr_split.proofs.glue.ends_under.Goals as goal
 
 pub end_under-requires-clause-front : goal.end_under-requires-clause-front
@@ -55,6 +57,8 @@ loop-end-preserved c =
     let q : ℕ → List Tree = end_of (trees_at d.trees c.args.front.now ++ tree_at d.trees c.args.hypothesis ∷ []) parts in
     record {
       grows = Extends_trans _ _ _ x c.end_under.ensures.grows;
+      language = stays_then _ _ _ _ _ c.loop-end.invariant.language c.end_under.ensures.language
+          (λ p k s. has_later d d1 x p c.args.front.now (c.args.hypothesis ∷ []) c.requires.front (one_formula d c.args.hypothesis c.requires.hypothesis) k);
       made = rw c.in_ok-push.ensures.items (have_more d1 d2 c.loop-end.made.items q i k c.end_under.ensures.grows c.loop-end.invariant.made done);
     }
 
@@ -65,3 +69,13 @@ returns-clause-ends c =
     let H = tree_at d.trees c.args.hypothesis in
     ends_all c.loop-end.draft c.loop-end.made.items c.args.ends.now F (F ++ H ∷ []) (split (tree_at d.trees c.args.formula)) H c.loop-end.end-index c.loop-end.invariant.made c.requires.ends.as_many
     c.loop-end-test.false c.loop-end.auto.end-index-end
+
+pub returns-in_err-step-clause-language : goal.returns-in_err-step-clause-language
+returns-in_err-step-clause-language c =
+    stays_then _ _ _ _ _ c.loop-end.invariant.language c.end_under.ensures.language
+    (λ p k s. has_later c.args.draft.now c.loop-end.draft c.loop-end.invariant.grows p c.args.front.now (c.args.hypothesis ∷ []) c.requires.front (one_formula c.args.draft.now c.args.hypothesis c.requires.hypothesis) k)
+
+pub returns-in_err-push-clause-language : goal.returns-in_err-push-clause-language
+returns-in_err-push-clause-language c =
+    stays_then _ _ _ _ _ c.loop-end.invariant.language c.end_under.ensures.language
+    (λ p k s. has_later c.args.draft.now c.loop-end.draft c.loop-end.invariant.grows p c.args.front.now (c.args.hypothesis ∷ []) c.requires.front (one_formula c.args.draft.now c.args.hypothesis c.requires.hypothesis) k)

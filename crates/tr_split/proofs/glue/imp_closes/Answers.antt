@@ -12,7 +12,11 @@ use Rattle.evidence.specs.Laws.{Extends_refl, Extends_trans}
 use Rattle.evidence.proofs.Rules.{refutes_later}
 use Rattle.tr_split.specs.declared.glue.Under.{Under}
 use Rattle.tr_split.specs.Glue.{AreFormulas, IsUnder}
-use Rattle.tr_split.proofs.Pieces.{step_of, none_formulas, more_formulas, clash_at, imp_at, back, form_at}
+use Rattle.tr_split.proofs.Pieces.{step_of, none_formulas, more_formulas, clash_at, imp_at, back}
+use Rattle.evidence.specs.Languages.{Language, AreIn, StaysIn}
+use Rattle.evidence.proofs.Staying.{stays_by, stays_then}
+use Rattle.tr_split.specs.Glue.{HasFormulas}
+use Rattle.tr_split.proofs.Sides.{in_later, one_in, more_in, under_in}
 use Rattle.tr_split.proofs.glue.imp_closes.Goals as goal
 
 abbrev one : Under → List TermId
@@ -80,21 +84,51 @@ returns-clause-grows c = Extends_trans _ _ _ (Extends_trans _ _ _ c.in_ok-first.
 pub returns-in_err-second-clause-grows : goal.returns-in_err-second-clause-grows
 returns-in_err-second-clause-grows c = Extends_trans _ _ _ c.in_ok-first.ensures.grows c.derive-2.ensures.grows
 
-pub derive-requires-clause-form : goal.derive-requires-clause-form
-derive-requires-clause-form c =
-    let d = c.args.draft.now in
-    let u = c.args.u.now in
-    form_at d d (Extends_refl d) c.args.front.now (one u) c.requires.front (are_one d u c.requires.under) _ _ (λ m. tt)
+one_are_in : (d : DraftTree) (front : List TermId) (u : Under) (p : Language) → IsUnder d u → HasFormulas d front (u.whole ∷ []) p → AreIn p (trees_at d.trees (one u))
+one_are_in d front u p h k =
+    let s = d.trees in
+    let v = under_in d front u p h k in
+    more_in s p u.hypothesis (u.no_part ∷ u.whole ∷ u.no_hypothesis ∷ []) v.hypothesis (more_in s p u.no_part (u.whole ∷ u.no_hypothesis ∷ []) v.no_part (more_in s p u.whole (u.no_hypothesis ∷ []) v.whole (one_in s p u.no_hypothesis v.no_hypothesis)))
 
-pub derive-requires-2-clause-form : goal.derive-requires-2-clause-form
-derive-requires-2-clause-form c =
-    let d = c.args.draft.now in
-    let u = c.args.u.now in
-    form_at d c.derive.new.draft c.in_ok-first.ensures.grows c.args.front.now (two u) c.requires.front (are_two d u c.requires.under) _ _ (λ m. tt)
+two_are_in : (d : DraftTree) (front : List TermId) (u : Under) (p : Language) → IsUnder d u → HasFormulas d front (u.whole ∷ []) p → AreIn p (trees_at d.trees (two u))
+two_are_in d front u p h k =
+    let s = d.trees in
+    let v = under_in d front u p h k in
+    more_in s p u.hypothesis (u.no_part ∷ u.whole ∷ u.part ∷ []) v.hypothesis (more_in s p u.no_part (u.whole ∷ u.part ∷ []) v.no_part (more_in s p u.whole (u.part ∷ []) v.whole (one_in s p u.part v.part)))
 
-pub derive-requires-3-clause-form : goal.derive-requires-3-clause-form
-derive-requires-3-clause-form c =
-    let d = c.args.draft.now in
+three_are_in : (d : DraftTree) (front : List TermId) (u : Under) (p : Language) → IsUnder d u → HasFormulas d front (u.whole ∷ []) p → AreIn p (trees_at d.trees (three u))
+three_are_in d front u p h k =
+    let s = d.trees in
+    let v = under_in d front u p h k in
+    more_in s p u.hypothesis (u.no_part ∷ u.whole ∷ []) v.hypothesis (more_in s p u.no_part (u.whole ∷ []) v.no_part (one_in s p u.whole v.whole))
+
+pub returns-in_err-first-clause-language : goal.returns-in_err-first-clause-language
+returns-in_err-first-clause-language c =
     let u = c.args.u.now in
-    let x = Extends_trans d c.derive.new.draft c.derive-2.new.draft c.in_ok-first.ensures.grows c.in_ok-second.ensures.grows in
-    form_at d c.derive-2.new.draft x c.args.front.now (three u) c.requires.front (are_three d u c.requires.under) _ _ (λ m. tt)
+    stays_by _ _ _ _ c.derive.ensures.language (λ p k s. (k.front, one_are_in c.args.draft.now c.args.front.now u p c.requires.under k, tt))
+
+pub returns-in_err-second-clause-language : goal.returns-in_err-second-clause-language
+returns-in_err-second-clause-language c =
+    let d = c.args.draft.now in
+    let d1 = c.derive.new.draft in
+    let u = c.args.u.now in
+    let F = c.args.front.now in
+    let h = c.requires.under in
+    let x = c.in_ok-first.ensures.grows in
+    let first : StaysIn (HasFormulas d F (u.whole ∷ [])) d d1 = stays_by _ _ _ _ c.derive.ensures.language (λ p k s. (k.front, one_are_in d F u p h k, tt)) in
+    stays_then _ _ _ _ _ first c.derive-2.ensures.language (λ p k s. (in_later d d1 x p F c.requires.front k.front, in_later d d1 x p (two u) (are_two d u h) (two_are_in d F u p h k), tt))
+
+pub returns-clause-language : goal.returns-clause-language
+returns-clause-language c =
+    let d = c.args.draft.now in
+    let d1 = c.derive.new.draft in
+    let d2 = c.derive-2.new.draft in
+    let u = c.args.u.now in
+    let F = c.args.front.now in
+    let h = c.requires.under in
+    let x = c.in_ok-first.ensures.grows in
+    let y = Extends_trans d d1 d2 x c.in_ok-second.ensures.grows in
+    let first : StaysIn (HasFormulas d F (u.whole ∷ [])) d d1 = stays_by _ _ _ _ c.derive.ensures.language (λ p k s. (k.front, one_are_in d F u p h k, tt)) in
+    let second : StaysIn (HasFormulas d F (u.whole ∷ [])) d d2 = stays_then _ _ _ _ _ first c.derive-2.ensures.language (λ p k s.
+    (in_later d d1 x p F c.requires.front k.front, in_later d d1 x p (two u) (are_two d u h) (two_are_in d F u p h k), tt)) in
+    stays_then _ _ _ _ _ second c.derive-3.ensures.language (λ p k s. (in_later d d2 y p F c.requires.front k.front, in_later d d2 y p (three u) (are_three d u h) (three_are_in d F u p h k), tt))

@@ -7,7 +7,11 @@ use Rattle.tasks.specs.Meaning.{trees_at}
 use Rattle.kernel.specs.Trees.{RNotImp}
 use Rattle.evidence.specs.Drafts.{Refutes}
 use Rattle.evidence.specs.Laws.{Extends_trans}
-use Rattle.tr_split.proofs.Pieces.{one_formula, back, notimp_at, first_place, form_at}
+use Rattle.tr_split.proofs.Pieces.{one_formula, back, notimp_at, first_place}
+use Rattle.evidence.specs.Languages.{StaysIn}
+use Rattle.evidence.proofs.Staying.{stays_by, stays_then}
+use Rattle.tr_split.specs.Glue.{HasFormulas}
+use Rattle.tr_split.proofs.Sides.{in_later, one_in, two_in, first_in, second_in, third_in}
 use Rattle.tr_split.proofs.glue.imp_step.Goals as goal
 
 pub derive-requires-clause-right : goal.derive-requires-clause-right
@@ -32,8 +36,29 @@ returns-clause-refutes c =
 pub returns-clause-grows : goal.returns-clause-grows
 returns-clause-grows c = Extends_trans _ _ _ c.in_ok-kept.ensures.grows c.derive.ensures.grows
 
-pub derive-requires-clause-form : goal.derive-requires-clause-form
-derive-requires-clause-form c =
-    let d = c.args.draft.now in
+pub returns-in_err-kept-clause-language : goal.returns-in_err-kept-clause-language
+returns-in_err-kept-clause-language c =
+    let t = c.args.draft.now.trees in
     let w = c.args.no_whole in
-    form_at d c.keep_but.new.draft c.in_ok-kept.ensures.grows c.args.front.now (w ∷ []) c.requires.front (one_formula d w c.requires.no_whole) _ _ (λ m. tt)
+    let h = c.args.hypothesis in
+    let n = c.args.no_part in
+    stays_by _ _ _ _ c.keep_but.ensures.language (λ p k s.
+    (k.front, one_in t p w (first_in t p w (h ∷ n ∷ []) k.tail), two_in t p h n (second_in t p w h (n ∷ []) k.tail) (third_in t p w h n [] k.tail)))
+
+pub returns-clause-language : goal.returns-clause-language
+returns-clause-language c =
+    let d = c.args.draft.now in
+    let d1 = c.keep_but.new.draft in
+    let t = d.trees in
+    let F = c.args.front.now in
+    let w = c.args.no_whole in
+    let h = c.args.hypothesis in
+    let n = c.args.no_part in
+    let x = c.in_ok-kept.ensures.grows in
+    let kept : StaysIn (HasFormulas d F (w ∷ h ∷ n ∷ [])) d d1 = stays_by _ _ _ _ c.keep_but.ensures.language (λ p k s.
+    (k.front, one_in t p w (first_in t p w (h ∷ n ∷ []) k.tail), two_in t p h n (second_in t p w h (n ∷ []) k.tail) (third_in t p w h n [] k.tail))) in
+    stays_then _ _ _ _ _ kept c.derive.ensures.language (λ p k s. (
+      in_later d d1 x p F c.requires.front k.front,
+      in_later d d1 x p (w ∷ []) (one_formula d w c.requires.no_whole) (one_in t p w (first_in t p w (h ∷ n ∷ []) k.tail)),
+      tt,
+    ))

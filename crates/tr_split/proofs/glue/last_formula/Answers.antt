@@ -13,4 +13,4 @@ returns-clause-formula c =
     let k = c.args.step in
     let x : Step = get_or steps k c.index-steps-step.result in
     last_at c.args.draft.now steps k x c.as_slice-sequent.result.now none c.requires.front c.requires.last
-    c.steps.ensures.held c.steps.ensures.trees c.steps.ensures.right c.steps.ensures.form (ap (λ (z : Step). get_or steps k z) c.index-steps-step.is) c.as_slice-sequent.ensures c.requires.refutes
+    c.steps.ensures.held c.steps.ensures.trees c.steps.ensures.right (ap (λ (z : Step). get_or steps k z) c.index-steps-step.is) c.as_slice-sequent.ensures c.requires.refutes

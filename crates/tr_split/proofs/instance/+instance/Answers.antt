@@ -6,7 +6,7 @@ use Rattle.trees.specs.Sorts.{Fits}
 use Rattle.trees.specs.Binding.{inst_types}
 use Rattle.tasks.specs.Meaning.{trees_at}
 use Rattle.tasks.proofs.Growth.{all_held_later}
-use Rattle.evidence.specs.Laws.{Extends_trans}
+use Rattle.evidence.specs.Laws.{AddsTrees_trans}
 use Rattle.tr_split.proofs.Instances.{inst_two, inst_fits_one, inst_fits_two, inst_fits_three, types_kept, part_kept}
 use Rattle.tr_split.proofs.instance.+instance.Goals as goal
 
@@ -106,11 +106,11 @@ instance-requires-in-Three-3 t c =
     let x1 = c.in_ok-x-in-Three.ensures.grows in
     let d2 = c.instance-in-Three-2.new.draft in
     let x2 = c.in_ok-y-in-Three.ensures.grows in
-    let x12 = Extends_trans d d1 d2 x1 x2 in
+    let x12 = AddsTrees_trans d d1 d2 x1 x2 in
     (search rules, (omega (arith, x12.trees.longer, hr), (all_held_later s d2.trees x12.trees types c.requires.types_held, types_kept d d2 x12 types c.requires.types_held c.requires.kinds)))
 
 pub returns-in_err-z-in-Three-clause-grows : goal.returns-in_err-z-in-Three-clause-grows
-returns-in_err-z-in-Three-clause-grows t c = Extends_trans _ _ _ (Extends_trans _ _ _ c.in_ok-x-in-Three.ensures.grows c.in_ok-y-in-Three.ensures.grows) c.instance-in-Three-3.ensures.grows
+returns-in_err-z-in-Three-clause-grows t c = AddsTrees_trans _ _ _ (AddsTrees_trans _ _ _ c.in_ok-x-in-Three.ensures.grows c.in_ok-y-in-Three.ensures.grows) c.instance-in-Three-3.ensures.grows
 
 pub remake-requires-in-Three-clause-fits : goal.remake-requires-in-Three-clause-fits
 remake-requires-in-Three-clause-fits t c =
@@ -133,10 +133,10 @@ remake-requires-in-Three-clause-fits t c =
     let x1 = c.in_ok-x-in-Three.ensures.grows in
     let d2 = c.instance-in-Three-2.new.draft in
     let x2 = c.in_ok-y-in-Three.ensures.grows in
-    let x12 = Extends_trans d d1 d2 x1 x2 in
+    let x12 = AddsTrees_trans d d1 d2 x1 x2 in
     let d3 = c.instance-in-Three-3.new.draft in
     let x3 = c.in_ok-z-in-Three.ensures.grows in
-    let xt : tree_at d3.trees c.in_ok-x-in-Three.x ≡ inst_types (tree_at s p) tys = (Extends_trans d1 d2 d3 x2 x3).trees.same _ c.in_ok-x-in-Three.ensures.held ∙ c.in_ok-x-in-Three.ensures.tree in
+    let xt : tree_at d3.trees c.in_ok-x-in-Three.x ≡ inst_types (tree_at s p) tys = (AddsTrees_trans d1 d2 d3 x2 x3).trees.same _ c.in_ok-x-in-Three.ensures.held ∙ c.in_ok-x-in-Three.ensures.tree in
     let yt : tree_at d3.trees c.in_ok-y-in-Three.y ≡ inst_types (tree_at s q) tys = x3.trees.same _ c.in_ok-y-in-Three.ensures.held ∙ c.in_ok-y-in-Three.ensures.tree ∙ part_kept d d1 x1 q types hq c.requires.types_held in
     let zt : tree_at d3.trees c.in_ok-z-in-Three.z ≡ inst_types (tree_at s r) tys = c.in_ok-z-in-Three.ensures.tree ∙ part_kept d d2 x12 r types hr c.requires.types_held in
     let f : Fits (Three h (tree_at s p) (tree_at s q) (tree_at s r)) = subst Fits e c.node_of-node.ensures.fits in
@@ -146,7 +146,7 @@ remake-requires-in-Three-clause-fits t c =
     subst (λ (z : Tree). Fits (Three h z (tree_at d3.trees c.in_ok-y-in-Three.y) (tree_at d3.trees c.in_ok-z-in-Three.z))) (sym xt) two
 
 pub returns-in_ok-x-in-One-clause-grows : goal.returns-in_ok-x-in-One-clause-grows
-returns-in_ok-x-in-One-clause-grows t c = Extends_trans _ _ _ c.in_ok-x-in-One.ensures.grows c.remake.ensures.grows
+returns-in_ok-x-in-One-clause-grows t c = AddsTrees_trans _ _ _ c.in_ok-x-in-One.ensures.grows c.remake.ensures.grows
 
 pub returns-in_ok-y-in-Two-clause-tree : goal.returns-in_ok-y-in-Two-clause-tree
 returns-in_ok-y-in-Two-clause-tree t c =
@@ -172,7 +172,7 @@ returns-in_ok-y-in-Two-clause-tree t c =
     ∙ sym (ap (λ (z : Tree). inst_types z tys) e)) c.remake-in-Two.ensures.tree
 
 pub returns-in_ok-y-in-Two-clause-grows : goal.returns-in_ok-y-in-Two-clause-grows
-returns-in_ok-y-in-Two-clause-grows t c = Extends_trans _ _ _ (Extends_trans _ _ _ c.in_ok-x-in-Two.ensures.grows c.in_ok-y-in-Two.ensures.grows) c.remake-in-Two.ensures.grows
+returns-in_ok-y-in-Two-clause-grows t c = AddsTrees_trans _ _ _ (AddsTrees_trans _ _ _ c.in_ok-x-in-Two.ensures.grows c.in_ok-y-in-Two.ensures.grows) c.remake-in-Two.ensures.grows
 
 pub returns-in_ok-z-in-Three-clause-tree : goal.returns-in_ok-z-in-Three-clause-tree
 returns-in_ok-z-in-Three-clause-tree t c =
@@ -195,10 +195,10 @@ returns-in_ok-z-in-Three-clause-tree t c =
     let x1 = c.in_ok-x-in-Three.ensures.grows in
     let d2 = c.instance-in-Three-2.new.draft in
     let x2 = c.in_ok-y-in-Three.ensures.grows in
-    let x12 = Extends_trans d d1 d2 x1 x2 in
+    let x12 = AddsTrees_trans d d1 d2 x1 x2 in
     let d3 = c.instance-in-Three-3.new.draft in
     let x3 = c.in_ok-z-in-Three.ensures.grows in
-    let xt : tree_at d3.trees c.in_ok-x-in-Three.x ≡ inst_types (tree_at s p) tys = (Extends_trans d1 d2 d3 x2 x3).trees.same _ c.in_ok-x-in-Three.ensures.held ∙ c.in_ok-x-in-Three.ensures.tree in
+    let xt : tree_at d3.trees c.in_ok-x-in-Three.x ≡ inst_types (tree_at s p) tys = (AddsTrees_trans d1 d2 d3 x2 x3).trees.same _ c.in_ok-x-in-Three.ensures.held ∙ c.in_ok-x-in-Three.ensures.tree in
     let yt : tree_at d3.trees c.in_ok-y-in-Three.y ≡ inst_types (tree_at s q) tys = x3.trees.same _ c.in_ok-y-in-Three.ensures.held ∙ c.in_ok-y-in-Three.ensures.tree ∙ part_kept d d1 x1 q types hq c.requires.types_held in
     let zt : tree_at d3.trees c.in_ok-z-in-Three.z ≡ inst_types (tree_at s r) tys = c.in_ok-z-in-Three.ensures.tree ∙ part_kept d d2 x12 r types hr c.requires.types_held in
     IfOk-weaker c.remake-in-Three.result _ _ (λ id m. m ∙ ap (λ (z : Tree). Three h z (tree_at d3.trees c.in_ok-y-in-Three.y) (tree_at d3.trees c.in_ok-z-in-Three.z)) xt
@@ -206,4 +206,4 @@ returns-in_ok-z-in-Three-clause-tree t c =
     ∙ sym (ap (λ (z : Tree). inst_types z tys) e)) c.remake-in-Three.ensures.tree
 
 pub returns-in_ok-z-in-Three-clause-grows : goal.returns-in_ok-z-in-Three-clause-grows
-returns-in_ok-z-in-Three-clause-grows t c = Extends_trans _ _ _ (Extends_trans _ _ _ (Extends_trans _ _ _ c.in_ok-x-in-Three.ensures.grows c.in_ok-y-in-Three.ensures.grows) c.in_ok-z-in-Three.ensures.grows) c.remake-in-Three.ensures.grows
+returns-in_ok-z-in-Three-clause-grows t c = AddsTrees_trans _ _ _ (AddsTrees_trans _ _ _ (AddsTrees_trans _ _ _ c.in_ok-x-in-Three.ensures.grows c.in_ok-y-in-Three.ensures.grows) c.in_ok-z-in-Three.ensures.grows) c.remake-in-Three.ensures.grows

@@ -5,6 +5,7 @@ use Rattle.tasks.specs.Task.{Proposition, props, neg}
 use Rattle.tasks.specs.Meaning.{trees_at, task_at, proposition_at}
 use Rattle.evidence.specs.Drafts.{Refutes}
 use Rattle.tr_split.proofs.Glued.{own_fact, fact_kept, formula_at, none_within}
+use Rattle.evidence.proofs.Staying.{stays_by}
 use Rattle.tr_split.proofs.split.SplitTransform.fact.Goals as goal
 
 pub base_lemma-requires-clause-fact : goal.base_lemma-requires-clause-fact
@@ -33,3 +34,10 @@ returns-clause-refutes c =
     let d = c.args.draft.now in
     let e = fact_kept d.task (task_at d.trees c.args.to.now) c.args.prop (trees_at d.trees c.args.types.now) c.requires.stage.among in
     IfOk-weaker c.base_lemma.result _ _ (λ k r. subst (λ (z : Tree). Refutes c.base_lemma.new.draft k (neg z ∷ [])) (sym e) r) c.base_lemma.ensures.refutes
+
+pub returns-clause-language : goal.returns-clause-language
+returns-clause-language c =
+    let d = c.args.draft.now in
+    let types = trees_at d.trees c.args.types.now in
+    let f = own_fact d (task_at d.trees c.args.to.now) c.args.prop types c.requires.stage.among c.requires.fact in
+    stays_by _ _ _ _ c.base_lemma.ensures.language (λ p k s. (k.0.negation, k.0.facts c.args.prop types f k.1, k.1))

@@ -9,6 +9,9 @@ use Rattle.evidence.specs.Drafts.{Refutes}
 use Rattle.tr_split.specs.Split.{split}
 use Rattle.tr_split.specs.Glue.{AreFormulas, Glues, Ends}
 use Rattle.tr_split.proofs.Glued.{own_locals, own_goal, own_ends}
+use Rattle.evidence.specs.Languages.{IsIn, AreIn}
+use Rattle.evidence.proofs.Staying.{stays_by}
+use Rattle.tr_split.proofs.Sides.{one_in}
 use Rattle.tr_split.proofs.split.SplitTransform.glue.Goals as goal
 
 pub glue_formula-requires-clause-front : goal.glue_formula-requires-clause-front
@@ -34,3 +37,14 @@ returns-clause-refutes c =
     IfOk-weaker c.glue_formula.result _ _ (λ k r.
     let s = subst (λ (z : List TermId). Refutes c.glue_formula.new.draft k (trees_at d.trees z ++ neg (tree_at d.trees from.goal) ∷ [])) c.as_slice.ensures r in
     subst (λ (z : List Tree). Refutes c.glue_formula.new.draft k z) (ap start c.requires.own.is) s) c.glue_formula.ensures.refutes
+
+pub returns-clause-language : goal.returns-clause-language
+returns-clause-language c =
+    let d = c.args.draft.now in
+    let from = c.args.from.now in
+    stays_by _ _ _ _ c.glue_formula.ensures.language (λ p k s. record {
+      negation = k.negation;
+      sides = k.closed;
+      front = rw c.as_slice.ensures (subst (AreIn p) (sym (ap (λ (t : TaskTree). t.locals) c.requires.own.is)) k.locals);
+      tail = one_in d.trees p from.goal (subst (IsIn p) (sym (ap (λ (t : TaskTree). t.goal) c.requires.own.is)) k.goal);
+    })

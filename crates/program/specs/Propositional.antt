@@ -1,5 +1,5 @@
--- Propositional formulas, tasks and steps. The files of steps have lines for propositional formulas alone, so a draft
--- of a propositional task promises that its steps have no others.
+-- Propositional formulas, tasks and steps: what the sources that are read so far say, and what the files of steps can
+-- write.
 use Rattle.std.specs.Prelude.{◌≡◌, List, All}
 use Rattle.trees.specs.declared.Op.TheVariants.{And, Imp}
 use Rattle.trees.specs.Tree.{Tree, Leaf, One, Two, HEnd, HPred, HNot, HJoin}
@@ -26,18 +26,3 @@ RuleIsPropositional _ = Unit {0}
 pub record StepIsPropositional (st : StepTree) : Type 0 where
   pub sequent : All IsPropositional st.sequent
   pub rule : RuleIsPropositional st.rule
-
--- in a propositional task, a propositional formula
-abbrev pub InForm : TaskTree → Tree → Type 0
-InForm t a = IsPropositionalTask t → IsPropositional a
-
--- in a propositional task, propositional formulas
-abbrev pub AllInForm : TaskTree → List Tree → Type 0
-AllInForm t es = IsPropositionalTask t → All IsPropositional es
-
--- in a propositional task, a propositional step
-abbrev pub StepInForm : TaskTree → StepTree → Type 0
-StepInForm t st = IsPropositionalTask t → StepIsPropositional st
-
-abbrev pub StepsInForm : TaskTree → List StepTree → Type 0
-StepsInForm t steps = All (StepInForm t) steps

@@ -1,0 +1,48 @@
+-- Languages, and the drafts that stay in them: of what formulas and types new steps are made.
+use Rattle.std.specs.Prelude.{◌≡◌, ℕ, Bool, List, All, IsTrue}
+use Rattle.trees.specs.Tree.{Tree}
+use Rattle.tasks.specs.Task.{TaskTree, neg}
+use Rattle.kernel.specs.Trees.{RuleTree, RCut, RFact, StepTree}
+use Rattle.evidence.specs.Drafts.{DraftTree}
+use Rattle.evidence.specs.Stages.{IsFact, fact_of}
+
+-- a set of formulas and types, by its test
+abbrev pub Language : Type 0
+Language = Tree → Bool
+
+abbrev pub IsIn : Language → Tree → Type 0
+IsIn p a = IsTrue (p a)
+
+abbrev pub AreIn : Language → List Tree → Type 0
+AreIn p es = All (IsIn p) es
+
+-- the formulas and types that a rule names
+abbrev pub RuleIsIn : Language → RuleTree → Type 0
+RuleIsIn p (RCut a) = IsIn p a
+RuleIsIn p (RFact k types) = AreIn p types
+RuleIsIn p _ = Unit {0}
+
+-- a step of formulas and types of the language
+pub record StepIsIn (p : Language) (st : StepTree) : Type 0 where
+  pub sequent : AreIn p st.sequent
+  pub rule : RuleIsIn p st.rule
+
+abbrev pub StepsAreIn : Language → List StepTree → Type 0
+StepsAreIn p steps = All (StepIsIn p) steps
+
+-- a formula is in it exactly where its negation is
+abbrev pub RespectsNegation : Language → Type 0
+RespectsNegation p = (a : Tree) → p (neg a) ≡ p a
+
+-- The language has the formulas of the task, and its facts at types that are in the language. It respects negation, and
+-- is closed as is asked.
+pub record IsLanguageOf (is_closed : TaskTree → Language → Type 0) (t : TaskTree) (p : Language) : Type 0 where
+  pub negation : RespectsNegation p
+  pub closed : is_closed t p
+  pub facts : (k : ℕ) (types : List Tree) → IsFact t t k types → AreIn p types → IsIn p (fact_of t k types)
+  pub locals : AreIn p t.locals
+  pub goal : IsIn p t.goal
+
+-- A draft that grew stays in each of these languages: where the old steps are in it, the new ones are.
+pub record StaysIn (is_one : Language → Type 0) (old new : DraftTree) : Type 0 where
+  pub steps : (p : Language) → is_one p → StepsAreIn p old.steps → StepsAreIn p new.steps
