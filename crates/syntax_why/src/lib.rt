@@ -8,6 +8,7 @@ mod expressions;
 mod making;
 mod marks;
 mod names;
+mod part_writing;
 mod patterns;
 mod types;
 mod unparsing;
@@ -24,6 +25,3 @@ pub use patterns::{Pat, PatNode};
 pub use types::{TypeNode, TypeTree};
 pub use unparsing::unparse;
 pub use writing::unparse_expr;
-
-#[cfg(test)]
-mod tests;

@@ -12,11 +12,11 @@ use crate::declarations::{
 };
 use crate::expressions::Expr;
 use crate::names::{Name, OpName, Path};
-use crate::types::TypeTree;
-use crate::writing::{
-    name_kind, push_bar, push_called, push_expr, push_head, push_names, push_type, push_type_part,
-    push_types,
+use crate::part_writing::{
+    name_kind, push_bar, push_called, push_head, push_names, push_type, push_type_part, push_types,
 };
+use crate::types::TypeTree;
+use crate::writing::push_expr;
 use outside::Text;
 use std::alloc::{AllocError, Global};
 use tokens_why::TokenKind;

@@ -15,30 +15,35 @@ pub enum Class {
     NoBracket,
 }
 
+/// Whether a byte is a blank: a space, a tab, a line feed or a carriage return.
 pub fn is_blank(byte: u8) -> bool
     ensures { result ≡ spec.is_blank byte }
 {
     byte == b' ' || byte == b'\t' || byte == b'\n' || byte == b'\r'
 }
 
+/// Whether a byte is a digit from 0 to 9.
 pub fn is_digit(byte: u8) -> bool
     ensures { result ≡ spec.is_digit byte }
 {
     b'0' <= byte && byte <= b'9'
 }
 
+/// Whether a byte is a letter in upper case.
 pub fn is_upper(byte: u8) -> bool
     ensures { result ≡ spec.is_upper byte }
 {
     b'A' <= byte && byte <= b'Z'
 }
 
+/// Whether a byte is a letter in lower case or `_`.
 pub fn is_lower(byte: u8) -> bool
     ensures { result ≡ spec.is_lower byte }
 {
     b'a' <= byte && byte <= b'z' || byte == b'_'
 }
 
+/// Whether a byte is a letter or `_`.
 pub fn is_letter(byte: u8) -> bool
     ensures { result ≡ spec.is_letter byte }
 {
@@ -51,6 +56,7 @@ fn is_word_byte(byte: u8) -> bool
     is_letter(byte) || is_digit(byte) || byte == b'\''
 }
 
+/// Whether a byte may stand in an operator.
 pub fn is_operator_byte(byte: u8) -> bool
     ensures { result ≡ spec.is_operator_byte byte }
 {

@@ -1,0 +1,8 @@
+// How far reading from a place goes.
+
+/// The place at which reading stops, and the last one before it or there at which an expression ends.
+#[derive(Clone, Copy)]
+pub struct Scan {
+    pub stop: usize,
+    pub last: Option<usize>,
+}

@@ -1,0 +1,10 @@
+//! Tests of the surface trees: trees made by hand have tokens of the kinds of those of a text.
+//! It stands on the surface trees and the tokens, and nothing stands on it.
+#![tactic(auto)]
+
+#[cfg(test)]
+mod declarations;
+#[cfg(test)]
+mod expressions;
+#[cfg(test)]
+mod parts;

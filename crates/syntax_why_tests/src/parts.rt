@@ -1,0 +1,76 @@
+// Parts of trees, made with ample memory, and the comparison of a tree with a text.
+use outside::{Seq, Text};
+use std::alloc::Global;
+use std::process::Abort;
+use syntax_why::{At, Expr, File, Name, OpName, QName, Style, unparse, unparse_expr};
+use tokens_why::{TokenKind, lex};
+
+pub const HERE: At = At { first: 0, main: 0 };
+
+pub fn text(rt: &impl Abort, alloc: Global, of: &str) -> Text {
+    Text::from_slice(alloc, of.as_bytes()).expect(rt, "memory")
+}
+
+pub fn name(rt: &impl Abort, alloc: Global, of: &str) -> Name {
+    Name {
+        at: 0,
+        text: text(rt, alloc, of),
+    }
+}
+
+pub fn called(rt: &impl Abort, alloc: Global, style: Style, of: &str) -> QName {
+    QName {
+        at: 0,
+        scopes: Seq::new(alloc),
+        style,
+        text: text(rt, alloc, of),
+    }
+}
+
+pub fn operator(rt: &impl Abort, alloc: Global, of: &str) -> OpName {
+    OpName {
+        at: 0,
+        style: Style::Plain,
+        text: text(rt, alloc, of),
+    }
+}
+
+pub fn one<T: Drop>(rt: &impl Abort, alloc: Global, item: T) -> Seq<T> {
+    let mut items = Seq::new(alloc);
+    items.push(item).expect(rt, "memory");
+    items
+}
+
+pub fn two<T: Drop>(rt: &impl Abort, alloc: Global, first: T, second: T) -> Seq<T> {
+    let mut items = one(rt, alloc, first);
+    items.push(second).expect(rt, "memory");
+    items
+}
+
+pub fn atom(rt: &impl Abort, alloc: Global, of: &str) -> Expr {
+    let function = called(rt, alloc, Style::Plain, of);
+    Expr::apply(HERE, function, Seq::new(alloc))
+}
+
+/// Whether kinds are those of the tokens of a text.
+fn compare(rt: &impl Abort, alloc: Global, kinds: &[TokenKind], of: &str) {
+    let tokens = lex(alloc, of.as_bytes()).expect(rt, "tokens");
+    assert_eq!(rt; kinds.len(), tokens.len());
+    for (kind, token) in kinds.iter().zip(tokens.iter()) {
+        assert_eq!(rt; *kind, token.kind);
+    }
+}
+
+/// Whether the tokens of an expression have the kinds of those of a text.
+pub fn writes(rt: &impl Abort, alloc: Global, tree: Expr, of: &str) {
+    let kinds = unparse_expr(alloc, &tree).expect(rt, "memory");
+    drop(tree);
+    compare(rt, alloc, &kinds, of);
+}
+
+/// Whether the tokens of a file have the kinds of those of a text.
+pub fn writes_file(rt: &impl Abort, alloc: Global, file: File, of: &str) {
+    let kinds = unparse(alloc, &file).expect(rt, "memory");
+    drop(file);
+    compare(rt, alloc, &kinds, of);
+}
