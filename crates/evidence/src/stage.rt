@@ -26,6 +26,8 @@ pub enum StageFault {
 }
 
 impl From<AllocError> for StageFault {
+    ghost from_gives = { λ _ e. e ≡ StageFault.Memory };
+
     fn from(_: AllocError) -> Self {
         StageFault::Memory
     }

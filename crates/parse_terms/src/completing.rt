@@ -100,8 +100,8 @@ fn push_type_state(state: &TypeState, out: &mut Vec<TokenKind>) -> Result<(), Al
     Ok(())
 }
 
-/// The kinds that complete a type.
-fn push_type(reader: &TypeReader, out: &mut Vec<TokenKind>) -> Result<(), AllocError>
+/// The kinds that complete a type, at the end of others. Memory may run out.
+pub fn push_type(reader: &TypeReader, out: &mut Vec<TokenKind>) -> Result<(), AllocError>
     ensures { OnOk result (out.new.items ≡ out.old.items ++ kinds (form_complete types (type_states.state_of reader.now))) }
 {
     push_type_state(&reader.state, out)?;

@@ -39,7 +39,8 @@ fn reserved_lead(word: usize) -> Lead
     }
 }
 
-fn classify(kind: TokenKind) -> Lead
+/// What a kind of token is to the readers.
+pub fn classify(kind: TokenKind) -> Lead
     ensures { (w : Word) → IsLead result kind w }
 {
     match kind {

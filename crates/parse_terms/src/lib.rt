@@ -32,5 +32,15 @@ mod uses;
 mod waiting;
 
 pub use complete::{complete_expr, has_one_tree};
+pub use completing::{completion, push_type};
 pub use fault::SyntaxFault;
+pub use item::{Item, LowerName, UpperName};
+pub use lead::Lead;
+pub use lexemes::{classify, item_of};
+pub use names::{infix, lower, prefix, star, upper};
+pub use operators::{is_equal, is_operator};
 pub use parse::parse_expr;
+pub use reader::Reader;
+pub use stack::Stack;
+pub use stepping::{ends, finish, start, step};
+pub use type_reader::{OpenTypes, TypeContext, TypeReader, TypeState, here};

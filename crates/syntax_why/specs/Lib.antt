@@ -9,3 +9,5 @@ pub mod Declarations
 pub mod WriteDeclarations
 pub mod CarriedDeclarations
 pub mod DeclarationPlaces
+pub mod DeclarationLevels
+pub mod Sources

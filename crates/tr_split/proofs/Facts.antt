@@ -1,10 +1,9 @@
 -- Steps that cite a proposition are right.
-use Rattle.std.proofs.Common.{◌≡◌, ℕ, ◌<◌, List, [], ◌∷◌, Some, IsSomeAnd, length, slice_get, All, refl, sym, ap, subst, ◌∙◌}
+use Rattle.std.proofs.Common.{◌≡◌, ℕ, ◌<◌, List, [], ◌∷◌, Some, IsSomeAnd, length, slice_get, All, sym, ap, subst, ◌∙◌}
 use Rattle.std.proofs.lemmas.List.Elements.{All-cons, All-nil}
 use Rattle.std.proofs.lemmas.Option.{slice_get-get_or}
 use Rattle.trees.specs.declared.TermId.{TermId}
-use Rattle.trees.specs.declared.Op.TheVariants.{And, Imp}
-use Rattle.trees.specs.Tree.{Tree, Leaf, One, Two, Three, HEnd, HNot, HPred, HJoin}
+use Rattle.trees.specs.Tree.{Tree}
 use Rattle.trees.specs.Node.{tree_at, Holds}
 use Rattle.trees.specs.Binding.{inst_types}
 use Rattle.tasks.specs.Task.{TaskTree, Proposition, props}

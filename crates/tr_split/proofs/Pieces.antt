@@ -10,7 +10,7 @@ use Rattle.tasks.specs.Task.{TaskTree, neg}
 use Rattle.tasks.specs.Valid.{IsGroundFormula}
 use Rattle.tasks.specs.Meaning.{trees_at}
 use Rattle.tasks.proofs.Growth.{trees_later, all_held_later}
-use Rattle.kernel.specs.Trees.{RuleTree, RClash, RImp, RNotAnd, RNotImp, RCut, RKeep, StepTree, no_step}
+use Rattle.kernel.specs.Trees.{RuleTree, RClash, RImp, RNotAnd, RNotImp, RCut, RKeep, StepTree}
 use Rattle.kernel.specs.declared.rule.Step.{Step}
 use Rattle.kernel.specs.Rows.{IsRight, AreRight, step_or}
 use Rattle.kernel.specs.Meaning.{step_at, steps_at, StepHeld, StepsHeld}
@@ -20,7 +20,6 @@ use Rattle.evidence.specs.Drafts.{DraftTree, Extends, Refutes}
 use Rattle.evidence.specs.Stages.{HaveSequents}
 use Rattle.evidence.proofs.Rules.{refutes_later}
 use Rattle.trees.specs.declared.Op.{Op}
-use Rattle.trees.specs.declared.Op.TheVariants.{And, AndThen, Or, OrElse, Imp, Iff}
 use Rattle.tr_split.specs.Parts.{Joins}
 use Rattle.tr_split.specs.Split.{imp, split}
 use Rattle.tr_split.proofs.Gained.{imp_later}

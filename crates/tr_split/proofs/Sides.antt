@@ -1,19 +1,19 @@
 -- Which formulas of a draft are in a language that has sides.
-use Rattle.std.proofs.Common.{◌≡◌, ℕ, ◌<◌, List, [], ◌∷◌, ◌++◌, length, All, sym, ap, subst, ◌∙◌, arith}
+use Rattle.std.proofs.Common.{◌≡◌, ℕ, ◌<◌, List, [], ◌∷◌, ◌++◌, length, sym, ap, subst, ◌∙◌, arith}
 use Rattle.std.proofs.lemmas.List.{map-append, length-append}
-use Rattle.std.proofs.lemmas.List.Elements.{All-cons, All-nil, All-push, All-append}
+use Rattle.std.proofs.lemmas.List.Elements.{All-cons, All-nil, All-append}
 use Rattle.std.proofs.Math.Seq.{get_or-append_seam}
 use Rattle.trees.specs.declared.TermId.{TermId}
 use Rattle.trees.specs.Tree.{Tree, Leaf, HEnd}
 use Rattle.trees.specs.Node.{tree_at}
 use Rattle.tasks.specs.Task.{neg}
 use Rattle.tasks.specs.Meaning.{trees_at}
-use Rattle.kernel.specs.Trees.{RuleTree, StepTree, no_step}
+use Rattle.kernel.specs.Trees.{RuleTree, no_step}
 use Rattle.evidence.specs.Drafts.{DraftTree, Extends, Refutes}
 use Rattle.evidence.specs.Languages.{Language, IsIn, AreIn, RuleIsIn, StepIsIn, StepsAreIn, RespectsNegation}
 use Rattle.tr_split.specs.declared.glue.Under.{Under}
 use Rattle.tr_split.specs.Split.{imp}
-use Rattle.tr_split.specs.Glue.{AreFormulas, IsFormulaAt, HasFormulas, HasSides, IsUnder, conj}
+use Rattle.tr_split.specs.Glue.{AreFormulas, HasFormulas, IsUnder, conj}
 use Rattle.tr_split.proofs.Pieces.{same}
 
 -- the step of a front and a tail

@@ -1,5 +1,4 @@
-use Rattle.std.proofs.Common.{◌∙◌, ◌++◌}
-use Rattle.tasks.specs.Meaning.{trees_at}
+use Rattle.std.proofs.Common.{◌∙◌}
 use Rattle.evidence.proofs.Staying.{stays_pushed}
 use Rattle.tr_split.proofs.Sides.{joined_in}
 use Rattle.tr_split.proofs.derive.derive.Goals as goal

@@ -1,8 +1,5 @@
-use Rattle.std.proofs.Common.{◌∷◌, []}
 use Rattle.trees.specs.Node.{tree_at}
 use Rattle.tasks.specs.Meaning.{trees_at}
-use Rattle.evidence.specs.Laws.{Extends_refl}
-use Rattle.tr_split.proofs.Pieces.{none_formulas, one_formula}
 use Rattle.tr_split.proofs.Facts.{fact_right}
 use Rattle.std.proofs.lemmas.List.Elements.{All-nil}
 use Rattle.evidence.specs.Languages.{IsIn}

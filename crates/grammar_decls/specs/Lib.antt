@@ -1,0 +1,5 @@
+pub mod Keywords
+pub mod DeclarationMachine
+pub mod SourceMachine
+pub mod Completing
+pub mod Scoping
