@@ -13,20 +13,23 @@ fn a_sequence_is_its_items(rt: HostRuntime) -> Result<(), Fail> {
     assert_eq!(rt; items.as_slice(), [2, 5, 8].as_slice());
     assert_eq!(rt; items.get(2).copied(), Some(8));
     assert_eq!(rt; items.get(3).copied(), None);
+    items.as_mut_slice()[1] = 6;
+    assert_eq!(rt; items.as_slice(), [2, 6, 8].as_slice());
     let copy = items.clone()?;
-    assert_eq!(rt; items.remove(1), 5);
+    assert_eq!(rt; items.remove(1), 6);
     assert_eq!(rt; items.pop(), Some(8));
     assert_eq!(rt; items.len(), 1);
-    assert_eq!(rt; copy.as_slice(), [2, 5, 8].as_slice());
+    assert_eq!(rt; copy.as_slice(), [2, 6, 8].as_slice());
     Ok(())
 }
 
 #[test]
 fn a_box_and_a_text_hold_what_they_are_given(rt: HostRuntime) -> Result<(), Fail> {
     let alloc = rt.alloc();
-    let boxed = Boxed::new(alloc, 7u64)?;
+    let mut boxed = Boxed::new(alloc, 7u64)?;
     assert_eq!(rt; *boxed.get(), 7);
-    assert_eq!(rt; boxed.into_inner(), 7);
+    *boxed.get_mut() = 9;
+    assert_eq!(rt; boxed.into_inner(), 9);
     let text = Text::from_slice(alloc, b"goal")?;
     let copy = text.clone()?;
     assert_eq!(rt; copy.as_slice(), b"goal".as_slice());
