@@ -57,6 +57,7 @@ fn run_kind(text: &[u8]) -> TokenKind
     }
 }
 
+/// The kind of an operator's token: that of its text, where it is written plainly.
 pub fn operator_kind(operator: &OpName) -> TokenKind
     ensures { result ≡ op_kind (op_of operator.now) }
 {
@@ -238,6 +239,7 @@ fn push_listed_parts(of: &[Pat], out: &mut Vec<TokenKind>) -> Result<(), AllocEr
     Ok(())
 }
 
+/// Puts the kinds of patterns with commas between behind others.
 pub fn push_patterns(of: &[Pat], out: &mut Vec<TokenKind>) -> Result<(), AllocError>
     ensures { OnOk result (out.new.items ≡ out.old.items ++ kinds (pattern_list (patterns of.now))) }
 {
@@ -251,6 +253,7 @@ pub fn push_patterns(of: &[Pat], out: &mut Vec<TokenKind>) -> Result<(), AllocEr
     Ok(())
 }
 
+/// Puts the kinds of alternatives with bars between behind others.
 pub fn push_alternatives(of: &[Seq<Pat>], out: &mut Vec<TokenKind>) -> Result<(), AllocError>
     ensures { OnOk result (out.new.items ≡ out.old.items ++ kinds (alternative_list (alternatives of.now))) }
 {
@@ -294,6 +297,7 @@ fn push_binder(b: &BinderTree, out: &mut Vec<TokenKind>) -> Result<(), AllocErro
     push_type_part(&b.ty, out)
 }
 
+/// Puts the kinds of groups of bound names with commas between behind others.
 pub fn push_binders(of: &[BinderTree], out: &mut Vec<TokenKind>) -> Result<(), AllocError>
     ensures { OnOk result (out.new.items ≡ out.old.items ++ kinds (binder_list (map binder_of of.now))) }
 {
@@ -307,6 +311,7 @@ pub fn push_binders(of: &[BinderTree], out: &mut Vec<TokenKind>) -> Result<(), A
     Ok(())
 }
 
+/// The kind of the token between the terms of a trigger: `|` or `,`.
 pub fn separator_kind(bar: bool) -> TokenKind
     ensures { result ≡ lexeme_kind (separator bar) }
 {
@@ -317,6 +322,7 @@ pub fn separator_kind(bar: bool) -> TokenKind
     }
 }
 
+/// The kind of `forall` or `exists`.
 pub fn quantifier_kind(forall: bool) -> TokenKind
     ensures { result ≡ lexeme_kind (quantifier forall) }
 {

@@ -5,12 +5,15 @@ use std::process::Abort;
 use syntax_why::{At, Expr, File, Name, OpName, QName, Style, unparse, unparse_expr};
 use tokens_why::{TokenKind, lex};
 
+/// The place that trees here carry; their writing asks for none.
 pub const HERE: At = At { first: 0, main: 0 };
 
+/// A text.
 pub fn text(rt: &impl Abort, alloc: Global, of: &str) -> Text {
     Text::from_slice(alloc, of.as_bytes()).expect(rt, "memory")
 }
 
+/// A name.
 pub fn name(rt: &impl Abort, alloc: Global, of: &str) -> Name {
     Name {
         at: 0,
@@ -18,6 +21,7 @@ pub fn name(rt: &impl Abort, alloc: Global, of: &str) -> Name {
     }
 }
 
+/// A name without scopes, in a style.
 pub fn called(rt: &impl Abort, alloc: Global, style: Style, of: &str) -> QName {
     QName {
         at: 0,
@@ -27,6 +31,7 @@ pub fn called(rt: &impl Abort, alloc: Global, style: Style, of: &str) -> QName {
     }
 }
 
+/// An operator that is written plainly.
 pub fn operator(rt: &impl Abort, alloc: Global, of: &str) -> OpName {
     OpName {
         at: 0,
@@ -35,18 +40,21 @@ pub fn operator(rt: &impl Abort, alloc: Global, of: &str) -> OpName {
     }
 }
 
+/// A sequence of one item.
 pub fn one<T: Drop>(rt: &impl Abort, alloc: Global, item: T) -> Seq<T> {
     let mut items = Seq::new(alloc);
     items.push(item).expect(rt, "memory");
     items
 }
 
+/// A sequence of two items.
 pub fn two<T: Drop>(rt: &impl Abort, alloc: Global, first: T, second: T) -> Seq<T> {
     let mut items = one(rt, alloc, first);
     items.push(second).expect(rt, "memory");
     items
 }
 
+/// A name without arguments, as an expression.
 pub fn atom(rt: &impl Abort, alloc: Global, of: &str) -> Expr {
     let function = called(rt, alloc, Style::Plain, of);
     Expr::apply(HERE, function, Seq::new(alloc))
