@@ -1,0 +1,13 @@
+//! The places of surface trees: a walk that gives each part of a tree the numbers of its first and its main token.
+//! It stands on the surface trees, and under the readers.
+#![tactic(auto)]
+
+mod binders;
+mod expressions;
+mod names;
+mod patterns;
+mod types;
+
+pub use expressions::place_expr;
+pub use patterns::place_pattern;
+pub use types::place_type;
