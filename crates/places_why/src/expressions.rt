@@ -88,7 +88,7 @@ fn place_boxed(e: &mut Boxed<Expr>, from: usize) -> usize
 }
 
 /// The token behind a `|`, where there is one.
-fn behind_bar(bar: bool, at: usize) -> usize
+pub fn behind_bar(bar: bool, at: usize) -> usize
     requires fits { behind at (bar_before bar) < 2 ^ 64 }
     ensures { result ≡ behind at (bar_before bar) }
 {

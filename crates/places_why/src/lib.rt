@@ -2,12 +2,19 @@
 //! It stands on the surface trees, and under the readers.
 #![tactic(auto)]
 
+mod algebraics;
 mod binders;
+mod clones;
+mod declarations;
 mod expressions;
+mod inductives;
 mod names;
+mod parameters;
 mod patterns;
+mod sources;
 mod types;
 
 pub use expressions::place_expr;
 pub use patterns::place_pattern;
+pub use sources::place_file;
 pub use types::place_type;

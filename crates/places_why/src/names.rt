@@ -2,10 +2,11 @@
 // It stands on the surface trees.
 ghost use Rattle.std.specs.Prelude.{◌≡◌, ◌+◌, ◌<◌, ◌^◌, [], length, map};
 ghost use Rattle.syntax_why.specs.Tree.{Word, called, called_of, words};
+ghost use Rattle.syntax_why.specs.Declarations.{declared_name};
 ghost use Rattle.syntax_why.specs.Write.{write_called};
 ghost use Rattle.syntax_why.specs.Places.{behind, name_places};
 
-use syntax_why::{Name, QName, Style};
+use syntax_why::{Name, OpName, QName, Style};
 
 /// How many tokens a name takes behind its scopes.
 fn head_len(style: Style) -> usize
@@ -28,6 +29,17 @@ pub fn place_called(name: &mut QName, from: usize) -> usize
 {
     name.at = from;
     from + 2 * name.scopes.len() + head_len(name.style)
+}
+
+/// Gives the name of what is declared its place; tells the token behind it.
+pub fn place_declared(name: &mut OpName, from: usize) -> usize
+    requires fits { behind from (write_called (declared_name name.old)) < 2 ^ 64 }
+    ensures name { declared_name name.new ≡ declared_name name.old }
+    ensures place { name.new.at ≡ from }
+    ensures end { result ≡ behind from (write_called (declared_name name.old)) }
+{
+    name.at = from;
+    from + head_len(name.style)
 }
 
 /// Gives names that stand side by side their places; tells the token behind them.
