@@ -1,9 +1,2 @@
 pub mod Runs
-pub mod FormOvers
-pub mod Tops
-pub mod ClimbLemmas
-pub mod ExprLemmas
-pub mod Hosts
-pub mod Endings
 pub mod ScanLemmas
-pub mod CompletionLemmas

@@ -1,12 +1,15 @@
 -- Facts of the loop over the tokens, and of tokens at their places.
-use Rattle.std.proofs.Common.{◌≡◌, ℕ, zero, suc, ◌+◌, ◌<◌, ◌≤◌, Bool, true, false, List, [], ◌∷◌, ◌++◌, length, Option, Some, None, option_map, is_some, slice_get, refl, sym, ap, ◌∙◌, subst, arith, append-nil}
+use Rattle.std.proofs.Common.{◌≡◌, ℕ, zero, suc, ◌+◌, ◌-◌, ◌<◌, ◌≤◌, Bool, true, false, List, [], ◌∷◌, ◌++◌, length, drop, Option, Some, None, option_map, is_some, slice_get, refl, sym, ap, ◌∙◌, subst, arith, append-nil, length-drop}
+use Rattle.std.proofs.lemmas.List.{length-map, length-take-le}
 use Rattle.tokens_why.specs.declared.token.Token.{Token}
 use Rattle.tokens_why.specs.Tokens.{AreTokens, Reads, IsToken, whole}
 use Rattle.syntax_why.specs.Tree.{Tree}
-use Rattle.syntax_why.specs.Lexeme.{lexeme}
+use Rattle.syntax_why.specs.Lexeme.{lexeme, rest}
+use Rattle.syntax_why.specs.Write.{write}
+use Rattle.syntax_why.specs.Places.{behind}
 use Rattle.syntax_why.specs.Expressions.{Begins, IsTreeOf}
 use Rattle.grammar.specs.Machine.{State, finish, step}
-use Rattle.parse_terms.specs.Leads.{HasText, HasTexts}
+use Rattle.parse_forms.specs.Leads.{HasText, HasTexts}
 use Rattle.parse_terms.specs.Reads.{between, Stands}
 use Rattle.parse_terms.specs.Scans.{Ran, Last}
 use Rattle.parse_terms.proofs.Runs.{last_here, last_more, stands_is, reaches}
@@ -33,6 +36,15 @@ module _ (text : List ℕ) (ts : List Token) (from : ℕ) where
 
   pub stands_begins : (to : ℕ) (t : Tree) → Stands text ts from to t → Begins (between text ts from to)
   stands_begins to t s = record { tree = t; more = []; is = subst (λ v. IsTreeOf v t) (sym (append-nil (between text ts from to))) s.is }
+
+  -- what an expression writes ends where it ends
+  pub behind_is : (to : ℕ) (t : Tree) → Stands text ts from to t → behind from (write t) ≡ to
+  behind_is to t s =
+      let low = s.low in let high = s.high in
+      let all : length (rest text ts from) ≡ length ts - from = length-map (drop from ts) (lexeme text) ∙ length-drop from ts in
+      let taken = length-take-le (to - from) (rest text ts from) (omega arith) in
+      let written = ap length s.is.writes in
+      omega arith
 
 -- each token of a whole text lies in it
 texts_from : (text : List ℕ) (at : ℕ) (ts : List Token) → Reads text whole at ts → HasTexts text ts

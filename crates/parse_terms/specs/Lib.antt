@@ -1,16 +1,3 @@
 pub mod Reads
-pub mod Leads
-pub mod Items
-pub mod Tops
-pub mod Bindings
-pub mod Tightness
-pub mod Climbs
-pub mod Begins
-pub mod FormOver
-pub mod TypeStates
-pub mod PatternStates
-pub mod ExprStates
-pub mod Climbed
-pub mod Ends
 pub mod Scans
 pub mod Refusals

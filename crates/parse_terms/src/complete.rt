@@ -6,8 +6,8 @@ ghost use Rattle.syntax_why.specs.Lexeme.{Lexeme};
 ghost use Rattle.syntax_why.specs.Expressions.{Begins, IsTreeOf};
 ghost use Rattle.parse_terms.specs.Reads.{between, Completes};
 
-use crate::completing::completion;
 use crate::parse::run_to;
+use read_terms::completion;
 use std::alloc::{AllocError, Global};
 use tokens_why::{Token, TokenKind};
 

@@ -1,24 +1,28 @@
 // The longest expression from a place, or where none stands any more.
-ghost use Rattle.std.specs.Prelude.{◌≡◌, ◌≤◌, ◌<◌, ◌+◌, List, ℕ, length, slice_get, option_map, Some, IfOk, IfErr};
+ghost use Rattle.std.specs.Prelude.{◌≡◌, ◌≤◌, ◌<◌, ◌+◌, ◌^◌, List, ℕ, length, slice_get, option_map, Some, IfOk, IfErr};
 ghost use Rattle.tokens_why.specs.declared.token.Token.{Token};
 ghost use Rattle.tokens_why.specs.Tokens.{AreTokens};
 ghost use Rattle.syntax_why.specs.Tree.{Tree, tree_of};
 ghost use Rattle.syntax_why.specs.Lexeme.{lexeme};
+ghost use Rattle.syntax_why.specs.Write.{write};
+ghost use Rattle.syntax_why.specs.Carried.{places_of};
+ghost use Rattle.syntax_why.specs.Places.{behind, places};
 ghost use Rattle.syntax_why.specs.Expressions.{Begins};
 ghost use Rattle.grammar.specs.Machine as machine;
-ghost use Rattle.parse_terms.specs.Leads.{HasTexts};
+ghost use Rattle.parse_forms.specs.Leads.{HasTexts};
 ghost use Rattle.parse_terms.specs.Reads.{between, Stands, IsLongest};
 ghost use Rattle.parse_terms.specs.Refusals.{IsRefusal};
 ghost use Rattle.parse_terms.specs.Scans.{Ran, Last, Scanned};
-ghost use Rattle.parse_terms.specs.ExprStates.{state_of};
+ghost use Rattle.term_states.specs.ExprStates.{state_of};
 
 use crate::fault::SyntaxFault;
-use crate::lexemes::item_of;
-use crate::reader::Reader;
 use crate::scan::Scan;
-use crate::stepping::{ends, finish, start, step};
+use parse_forms::item_of;
+use places_why::place_expr;
+use read_terms::{discard, ends, finish, start, step};
 use std::alloc::{AllocError, Global};
 use syntax_why::Expr;
+use term_states::Reader;
 use tokens_why::Token;
 
 fn token_at(tokens: &[Token], at: usize) -> Token
@@ -44,7 +48,7 @@ fn advance(
     match item_of(alloc, token, text) {
         Ok(item) => step(alloc, at, item, reader),
         Err(error) => {
-            drop(reader);
+            discard(reader);
             Err(error)
         }
     }
@@ -81,7 +85,7 @@ fn scan(alloc: Global, tokens: &[Token], text: &[u8], from: usize) -> Result<Sca
     }
     let stop = tokens.len();
     let last = noted(&reader, stop, last);
-    drop(reader);
+    discard(reader);
     Ok(Scan { stop, last })
 }
 
@@ -110,6 +114,16 @@ pub fn run_to(
     Ok(reader)
 }
 
+/// An expression with the places of its parts, from that of its first token.
+fn placed(mut tree: Expr, from: usize) -> Expr
+    requires fits { behind from (write (tree_of tree)) < 2 ^ 64 }
+    ensures tree { tree_of result ≡ tree_of tree }
+    ensures places { places_of result ≡ places from (tree_of tree) }
+{
+    place_expr(&mut tree, from);
+    tree
+}
+
 /// The expression from a place up to another.
 fn expression_to(
     alloc: Global,
@@ -120,21 +134,23 @@ fn expression_to(
 ) -> Result<Expr, AllocError>
     requires texts { HasTexts text.now tokens.now }
     requires stands { (t : Tree) × Stands text.now tokens.now from to t }
-    ensures { IfOk result (λ e. Stands text.now tokens.now from to (tree_of e)) }
+    ensures stands { IfOk result (λ e. Stands text.now tokens.now from to (tree_of e)) }
+    ensures places { IfOk result (λ e. places_of e ≡ places from (tree_of e)) }
 {
     let reader = run_to(alloc, tokens, text, from, to)?;
     let whole = finish(alloc, reader)?;
     match whole {
-        Some(tree) => Ok(tree),
+        Some(tree) => Ok(placed(tree, from)),
         None => unreachable!(),
     }
 }
 
-/// The longest expression from a place, and where it ends.
+/// The longest expression from a place, with the places of its parts, and where it ends.
 ///
 /// `tokens` are those of `text`. A refusal is `Memory`, or `Syntax` at the least token such that no expression begins with
 /// the tokens from the place up to that one (the number of tokens, where they end too early). `TooDeep` and `ProgramDecl`
-/// never come. The work is linear in the tokens, and nothing is called recursively (Why3 manual, "Syntax").
+/// never come. The work is linear in the tokens. It is read without recursion; the walk that then gives each part its places
+/// calls itself as deep as the tree, whose every level has a token of its own (Why3 manual, "Syntax").
 pub fn parse_expr(
     alloc: Global,
     tokens: &[Token],
@@ -144,6 +160,7 @@ pub fn parse_expr(
     requires tokens { AreTokens text.now tokens.now }
     requires place { from ≤ length tokens.now }
     ensures longest { IfOk result (λ p. IsLongest text.now tokens.now from (tree_of p.0) p.1) }
+    ensures places { IfOk result (λ p. places_of p.0 ≡ places from (tree_of p.0)) }
     ensures refused { IfErr result (IsRefusal text.now tokens.now from) }
 {
     let scan = scan(alloc, tokens, text, from)?;

@@ -1,6 +1,6 @@
 use Rattle.std.proofs.Common.{◌≡◌, sym, subst}
 use Rattle.parse_terms.specs.Reads.{Completes}
-use Rattle.parse_terms.specs.ExprStates.{state_of}
+use Rattle.term_states.specs.ExprStates.{state_of}
 use Rattle.parse_terms.proofs.Runs as runs
 use Rattle.parse_terms.proofs.ScanLemmas.{texts_of}
 use Rattle.parse_terms.proofs.complete.complete_expr.Goals as goal

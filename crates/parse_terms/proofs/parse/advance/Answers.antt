@@ -1,7 +1,7 @@
 use Rattle.std.proofs.Common.{◌≡◌, sym, ap, ◌∙◌, subst, option_map, IfOk}
 use Rattle.syntax_why.specs.Lexeme.{lexeme}
 use Rattle.grammar.specs.Machine as machine
-use Rattle.parse_terms.specs.ExprStates.{state_of}
+use Rattle.term_states.specs.ExprStates.{state_of}
 use Rattle.parse_terms.proofs.parse.advance.Goals as goal
 
 pub item_of-requires : goal.item_of-requires

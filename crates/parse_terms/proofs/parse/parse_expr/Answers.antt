@@ -15,4 +15,4 @@ pub returns-in_ok-tree-in-Some-clause-longest : goal.returns-in_ok-tree-in-Some-
 returns-in_ok-tree-in-Some-clause-longest c =
     let text = c.args.text.now in let ts = c.args.tokens.now in
     let s = c.in_ok-scan.scan in
-    longest text ts c.args.from s.stop c.in-Some.to (tree_of c.in_ok-tree-in-Some.tree) c.in_ok-scan.ensures.stopped (subst (Last text ts c.args.from (s.stop + 1)) c.in-Some.is c.in_ok-scan.ensures.last) c.in_ok-tree-in-Some.ensures
+    longest text ts c.args.from s.stop c.in-Some.to (tree_of c.in_ok-tree-in-Some.tree) c.in_ok-scan.ensures.stopped (subst (Last text ts c.args.from (s.stop + 1)) c.in-Some.is c.in_ok-scan.ensures.last) c.in_ok-tree-in-Some.ensures.stands

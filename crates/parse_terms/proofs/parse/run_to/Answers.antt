@@ -1,5 +1,5 @@
 use Rattle.std.proofs.Common.{◌≡◌, ◌<◌, length, sym, ap, ◌∙◌, option_map, arith}
-use Rattle.parse_terms.specs.ExprStates.{state_of}
+use Rattle.term_states.specs.ExprStates.{state_of}
 use Rattle.parse_terms.proofs.Runs.{reaches, ran_more}
 use Rattle.parse_terms.proofs.ScanLemmas.{token_some}
 use Rattle.parse_terms.proofs.parse.run_to.Goals as goal

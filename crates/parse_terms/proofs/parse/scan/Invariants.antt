@@ -1,6 +1,6 @@
 use Rattle.std.proofs.Common.{◌≡◌}
 use Rattle.parse_terms.specs.Scans.{Reading}
-use Rattle.parse_terms.specs.ExprStates.{state_of}
+use Rattle.term_states.specs.ExprStates.{state_of}
 use Rattle.parse_terms.proofs.parse.scan.Given as goal
 
 abbrev pub invariant-loop-at : goal.invariant-loop-at

@@ -1,0 +1,58 @@
+-- What is open takes each token or none: it isn't over.
+use Rattle.std.proofs.Common.{◌≡◌, Bool, true, false, List, [], ◌∷◌, Option, Some, None, refl}
+use Rattle.syntax_why.specs.Lexeme.{Lexeme}
+use Rattle.grammar.specs.FormMachine.{form_finish}
+use Rattle.syntax_why.specs.Levels.{types, patterns}
+use Rattle.parse_forms.specs.FormOver.{form_over}
+use Rattle.parse_forms.specs.declared.type_reader.OpenTypes.{OpenTypes}
+use Rattle.parse_forms.specs.declared.type_reader.TypeState.{TypeState}
+use Rattle.parse_forms.specs.declared.type_reader.TypeState.TheVariants as ts
+use Rattle.parse_forms.specs.declared.type_reader.TypeReader.{TypeReader}
+use Rattle.parse_forms.specs.TypeStates as t
+use Rattle.parse_forms.specs.declared.pattern_reader.OpenPatterns.{OpenPatterns}
+use Rattle.parse_forms.specs.declared.pattern_reader.PatternState.{PatternState}
+use Rattle.parse_forms.specs.declared.pattern_reader.PatternState.TheVariants as ps
+use Rattle.parse_forms.specs.declared.pattern_reader.PatternReader.{PatternReader}
+use Rattle.parse_forms.specs.declared.pattern_reader.PatternContext.TheVariants as pc
+use Rattle.parse_forms.specs.PatternStates as p
+
+types_by : (s : TypeState) (k : List OpenTypes) (x : Lexeme) → (k ≡ [] → ⊥) → form_over types (t.state_by s (t.stack_of k)) x ≡ false
+types_by s [] x h = absurd (h refl)
+types_by ts.Due (o ∷ k) x h = refl
+types_by (ts.Opened first c) (o ∷ k) x h = refl
+types_by (ts.Taking q as_) (o ∷ k) x h = refl
+types_by (ts.Done d) (o ∷ k) x h = refl
+types_by (ts.Upper first qs n c) (o ∷ k) x h = refl
+types_by (ts.Dotted first qs c) (o ∷ k) x h = refl
+
+pub types_open : (r : TypeReader) (x : Lexeme) → (r.frames ≡ [] → ⊥) → form_over types (t.state_of r) x ≡ false
+types_open r x h = types_by r.state r.frames x h
+
+patterns_by : (s : PatternState) (k : List OpenPatterns) (x : Lexeme) → (k ≡ [] → ⊥) → form_over patterns (p.state_by s (p.stack_of k)) x ≡ false
+patterns_by s [] x h = absurd (h refl)
+patterns_by ps.Due (o ∷ k) x h = refl
+patterns_by (ps.Opened first c) (o ∷ k) x h = refl
+patterns_by (ps.Taking q as_) (o ∷ k) x h = refl
+patterns_by (ps.Done d) (o ∷ k) x h = refl
+patterns_by (ps.Upper first qs n c) (o ∷ k) x h = refl
+patterns_by (ps.Dotted first qs c) (o ∷ k) x h = refl
+patterns_by (ps.As d) (o ∷ k) x h = refl
+patterns_by (ps.Named d) (o ∷ k) x h = refl
+
+pub patterns_open : (r : PatternReader) (x : Lexeme) → (r.frames ≡ [] → ⊥) → form_over patterns (p.state_of r) x ≡ false
+patterns_open r x h = patterns_by r.state r.frames x h
+
+patterns_none : (s : PatternState) (k : List OpenPatterns) → (k ≡ [] → ⊥) → form_finish patterns (p.state_by s (p.stack_of k)) ≡ None
+patterns_none s [] h = absurd (h refl)
+patterns_none ps.Due (o ∷ k) h = refl
+patterns_none (ps.Opened first c) (o ∷ k) h = refl
+patterns_none (ps.Taking q as_) (o ∷ k) h = refl
+patterns_none (ps.Done d) (o ∷ k) h = refl
+patterns_none (ps.Upper first qs n pc.Alone) (o ∷ k) h = refl
+patterns_none (ps.Upper first qs n (pc.Argument q as_)) (o ∷ k) h = refl
+patterns_none (ps.Dotted first qs c) (o ∷ k) h = refl
+patterns_none (ps.As d) (o ∷ k) h = refl
+patterns_none (ps.Named d) (o ∷ k) h = refl
+
+pub patterns_unfinished : (r : PatternReader) → (r.frames ≡ [] → ⊥) → form_finish patterns (p.state_of r) ≡ None
+patterns_unfinished r h = patterns_none r.state r.frames h

@@ -1,8 +1,0 @@
-use Rattle.std.proofs.Common.{◌≡◌, Option, Some, sym, ap, ◌∙◌}
-use Rattle.std.specs.Option.{option_copied}
-use Rattle.parse_terms.proofs.Tops.{needs_top}
-use Rattle.parse_terms.proofs.opening.needs_on.Goals as goal
-
-pub returns-in-Some : goal.returns-in-Some
-returns-in-Some c =
-    c.needs_behind.ensures ∙ sym (needs_top c.args.edges.now c.in-Some.edge.now (sym c.in-Some.ensures))

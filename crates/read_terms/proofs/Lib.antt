@@ -1,0 +1,4 @@
+pub mod ExprLemmas
+pub mod Hosts
+pub mod Endings
+pub mod CompletionLemmas
