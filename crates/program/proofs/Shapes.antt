@@ -1,11 +1,14 @@
 -- What the shape of the words says of its operands.
 use Rattle.std.proofs.Common.{◌≡◌, ◌≢◌, ℕ, Bool, true, false, List, [], ◌∷◌, Option, Some, None, ◌&&◌, codes, refl, if◌then◌else◌}
 use Rattle.std.specs.Str.{bytes_eq}
-use Rattle.sources.proofs.Soundness.{same_bytes}
+use Rattle.std.proofs.lemmas.Slice.Eq.{bytes_eq-Decides}
 use Rattle.program.specs.Order.{word}
 use Rattle.program.specs.Words.{command_of, named, print_of, check_of, lift_of, is_plain, all_plain}
 use Rattle.program.specs.declared.words.Command.{Command}
 use Rattle.program.specs.declared.words.Command.TheVariants.{Print, Check, Lift}
+
+same_bytes : (v w : List ℕ) → bytes_eq v w ≡ true → v ≡ w
+same_bytes v w e = (bytes_eq-Decides v w).0 e
 
 -- a choice that gives a command was taken
 taken : {A : Type 0} (b : Bool) (x : Option A) (y : A) → (if b then x else None) ≡ Some y → (b ≡ true) × (x ≡ Some y)

@@ -16,7 +16,7 @@ use Rattle.problems.specs.declared.names.NameEntry.{NameEntry}
 use Rattle.problems.specs.Clean.{name_at_place}
 use Rattle.problems.specs.Names.{int_entry, rigid_from, entries_from, task_names}
 use Rattle.program.specs.Propositional.{IsPropositional}
-use Rattle.sources.specs.Bytes.{is_name_byte}
+use Rattle.tokens_why.specs.Bytes.{is_word_byte}
 use Rattle.steps_text.specs.Writing.{IsWord, AreNames, is_named, is_writable, IsWritable, rule_formulas, HasNoTypes, IsWritableStep, AreWritable}
 use Rattle.steps_text.proofs.Lines.{word_past_space}
 use Rattle.steps_text.proofs.PlainTables.{places_same, entry_name, length_entries, int_name, NamedByWords, HasWord, entries_words, entry_named}
@@ -50,17 +50,17 @@ table_names t ks a small = record {
 }
 
 -- a byte of a name is no blank
-name_byte : (c : ℕ) → IsTrue (is_name_byte c) → 39 ≤ c
+name_byte : (c : ℕ) → IsTrue (is_word_byte c) → 39 ≤ c
 name_byte c h = grind (arith, nat_tests)
 
 pub both : (a b : Bool) → IsTrue (a && b) → IsTrue a × IsTrue b
 both true b h = (refl, h)
 both false b h = absurd (cc)
 
-name_word : (x : List ℕ) → IsTrue (list_all is_name_byte x) → IsWord x
+name_word : (x : List ℕ) → IsTrue (list_all is_word_byte x) → IsWord x
 name_word [] h = All-nil (λ c. (c ≢ 32) × (c ≢ 10))
 name_word (c ∷ cs) h =
-    let two = both (is_name_byte c) (list_all is_name_byte cs) h in
+    let two = both (is_word_byte c) (list_all is_word_byte cs) h in
     let low = name_byte c two.0 in
     All-cons (λ c. (c ≢ 32) × (c ≢ 10)) c cs (λ e. omega (arith, e, low), λ e. omega (arith, e, low)) (name_word cs two.1)
 

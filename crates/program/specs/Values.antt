@@ -1,5 +1,5 @@
 -- What the results of a run's parts stand for over a store.
-use Rattle.std.specs.Prelude.{ℕ, List, Result, Ok, Err, Vec}
+use Rattle.std.specs.Prelude.{◌≡◌, ℕ, List, Result, Ok, Err, Vec}
 use Rattle.std.specs.declared.alloc.Global.{Global}
 use Rattle.trees.specs.Tree.{Tree}
 use Rattle.tasks.specs.declared.task.Task.{Task}
@@ -9,12 +9,27 @@ use Rattle.kernel.specs.declared.rule.Step.{Step}
 use Rattle.kernel.specs.Trees.{StepTree}
 use Rattle.kernel.specs.Meaning.{steps_at}
 use Rattle.evidence.specs.Stages.{parts_at}
-use Rattle.sources.specs.declared.theory.Theory.{Theory}
-use Rattle.sources.specs.Meaning.{TheoryTree, theory_at, IsRead}
+use Rattle.tokens_why.specs.declared.token.Token.{Token}
+use Rattle.tokens_why.specs.Tokens.{AreTokens}
+use Rattle.syntax_why.specs.declared.declarations.File.{File}
+use Rattle.syntax_why.specs.Lexeme.{rest}
+use Rattle.syntax_why.specs.Declarations.{Theory as Surface, file_of}
+use Rattle.parse_decls.specs.Parsed.{IsOnlyFile}
+use Rattle.propositional.specs.declared.theory.Theory.{Theory}
+use Rattle.propositional.specs.Theories.{TheoryTree, theories_of}
+use Rattle.propositional.specs.Meaning.{theories_at}
 
-abbrev pub theory_in : {E : Type 0} → List Tree → Result Theory E → Result TheoryTree E
-theory_in s (Ok t) = Ok (theory_at s t)
-theory_in s (Err e) = Err e
+abbrev pub tokens_in : {E : Type 0} → Result (Vec Token Global) E → Result (List Token) E
+tokens_in (Ok tokens) = Ok tokens.items
+tokens_in (Err e) = Err e
+
+abbrev pub file_in : {E : Type 0} → Result File E → Result (List Surface) E
+file_in (Ok file) = Ok (file_of file)
+file_in (Err e) = Err e
+
+abbrev pub theories_in : {E : Type 0} → List Tree → Result (List Theory) E → Result (List TheoryTree) E
+theories_in s (Ok theories) = Ok (theories_at s theories)
+theories_in s (Err e) = Err e
 
 abbrev pub task_in : {E : Type 0} → List Tree → Result Task E → Result TaskTree E
 task_in s (Ok t) = Ok (task_at s t)
@@ -28,6 +43,11 @@ abbrev pub handed_in : {E : Type 0} → List Tree → Result (Vec (List Step) Gl
 handed_in s (Ok handed) = Ok (parts_at s handed.items)
 handed_in s (Err e) = Err e
 
--- some source has this theory
-abbrev pub IsOfSource : TheoryTree → Type 0
-IsOfSource t = (text : List ℕ) × IsRead text t
+-- some source has these theories
+pub record AreOfSource (theories : List TheoryTree) : Type 0 where
+  pub text : List ℕ
+  pub tokens : List Token
+  pub file : List Surface
+  pub lexes : AreTokens text tokens
+  pub parses : IsOnlyFile (rest text tokens 0) file
+  pub declares : theories_of file ≡ Ok theories

@@ -41,8 +41,9 @@ fn check_steps(
 
 /// `accepted` and a line feed, where a file is a derivation of a goal from the goal's own theory.
 ///
-/// The order of faults is that of the specification: the source's length (15), the source (16), its theory (60), its
-/// goal (61), the file's first wrong line (91), as part 1.
+/// The order of faults is that of the specification: the source's length (15), its tokens (10, 11), its syntax (13, then
+/// 12 or 14), its declarations in turn (16, then 21, then 20), its theory (60), its goal (61), the file's first wrong line
+/// (91), as part 1.
 pub fn check_goal<L: Library>(
     alloc: Global,
     lib: &mut L,

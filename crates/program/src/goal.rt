@@ -1,43 +1,39 @@
 // The task of a goal, from a source that is fetched.
-ghost use Rattle.std.specs.Prelude.{◌≡◌, ℕ, List, IfOk};
+ghost use Rattle.std.specs.Prelude.{◌≡◌, IfOk};
 ghost use Rattle.outside.specs.State.{LibraryState};
-ghost use Rattle.trees.specs.Node.{Grows};
 ghost use Rattle.tasks.specs.Meaning.{task_at, TaskHeld};
 ghost use Rattle.tasks.specs.Valid.{IsValid};
-ghost use Rattle.sources.specs.Meaning.{theory_at, TheoryHeld};
+ghost use Rattle.propositional.specs.Meaning.{theories_at, TheoriesHeld};
 ghost use Rattle.program.specs.Fragment.{IsInFragment};
 ghost use Rattle.program.specs.Meets.{Answers};
 ghost use Rattle.program.specs.Order.{Source, Goal};
-ghost use Rattle.program.specs.Values.{theory_in, task_in, IsOfSource};
+ghost use Rattle.program.specs.Values.{theories_in, task_in, AreOfSource};
 
 use crate::fetching::fetch_short;
+use crate::source::read_source;
 use crate::{Fault, RunFault};
-use outside::Library;
-use sources::{SourceFault, TaskFault, Theory, read_source, task_of};
+use outside::{Library, Seq};
+use propositional::{TaskFault, Theory, task_of};
 use std::alloc::Global;
 use tasks::Task;
 use term_store::Store;
 
-// The theory of the source, which is the first file.
-fn fetch_theory<L: Library>(
+// The theories of the source, which is the first file.
+fn fetch_theories<L: Library>(
     alloc: Global,
     lib: &mut L,
     store: &mut Store,
     src: &str,
-) -> Result<Theory, RunFault>
-    ensures answers { Answers (Source src.now) 0 (λ _. 1) (L.state lib.old) (L.state lib.new) (theory_in store.new result) }
-    ensures held { IfOk result (TheoryHeld store.new) }
-    ensures read { IfOk result (λ t. IsOfSource (theory_at store.new t)) }
+) -> Result<Seq<Theory>, RunFault>
+    ensures answers { Answers (Source src.now) 0 (λ _. 1) (L.state lib.old) (L.state lib.new) (theories_in store.new result) }
+    ensures held { IfOk result (TheoriesHeld store.new) }
+    ensures source { IfOk result (λ ts. AreOfSource (theories_at store.new ts)) }
 {
     let text = fetch_short(lib, 0, src)?;
-    match read_source(alloc, store, &text) {
-        Ok(theory) => Ok(theory),
-        Err(SourceFault::Memory) => Err(RunFault::Memory),
-        Err(SourceFault::NotYet) => Err(RunFault::Refused(Fault::NotYet { place: 0 })),
-    }
+    read_source(alloc, store, &text)
 }
 
-/// The task of a goal of the source's theory, by their names.
+/// The task of a goal of the source's theories, by their names.
 pub fn find_task<L: Library>(
     alloc: Global,
     lib: &mut L,
@@ -51,7 +47,7 @@ pub fn find_task<L: Library>(
     ensures valid { IfOk result (λ t. IsValid (task_at store.new t)) }
     ensures fragment { IfOk result (λ t. IsInFragment (task_at store.new t)) }
 {
-    let found = fetch_theory(alloc, lib, store, src)?;
+    let found = fetch_theories(alloc, lib, store, src)?;
     match task_of(alloc, store, found, theory, goal) {
         Ok(task) => Ok(task),
         Err(TaskFault::Memory) => Err(RunFault::Memory),

@@ -55,8 +55,9 @@ fn lift_task<L: Library>(
 /// refutation it has a step with the same sequent.
 ///
 /// The driver is `plain.drv`, whose one transformation splits the goal; it isn't read. The order of faults is that of
-/// the specification: the source's length (15), the source (16), its theory (60), its goal (61), the number of
-/// refutations (90), and then for each of them in turn its length (15) and its first wrong line (91).
+/// the specification: the source's length (15), its tokens (10, 11), its syntax (13, then 12 or 14), its declarations in
+/// turn (16, then 21, then 20), its theory (60), its goal (61), the number of refutations (90), and then for each of them
+/// in turn its length (15) and its first wrong line (91).
 pub fn lift_goal<L: Library>(
     alloc: Global,
     lib: &mut L,

@@ -66,7 +66,8 @@ fn print_task(alloc: Global, store: &mut Store, task: &Task) -> Result<Vec<u8>, 
 /// The problems of a goal: the texts of its task, carried through the driver's transformations, in order.
 ///
 /// The driver is `plain.drv`, whose one transformation splits the goal; it isn't read. The order of faults is that
-/// of the specification: the source's length (15), the source (16), its theory (60), its goal (61).
+/// of the specification: the source's length (15), its tokens (10, 11), its syntax (13, then 12 or 14), its declarations
+/// in turn (16, then 21, then 20), its theory (60), its goal (61).
 pub fn print_goal<L: Library>(
     alloc: Global,
     lib: &mut L,

@@ -90,7 +90,7 @@ const FILES: [(&str, &str, u8, &str, &str); 16] = [
         "",
     ),
     // faults of the source stand first
-    ("theory T goal g: p end", "", 1, "refused: 16 0\n", ""),
+    ("theory T goal g: p end", "", 1, "refused: 20 1 5\n", ""),
     (
         "theory U predicate p goal g: p end",
         "",

@@ -9,4 +9,6 @@ mod lift;
 #[cfg(test)]
 mod random;
 #[cfg(test)]
+mod refusals;
+#[cfg(test)]
 mod tables;

@@ -36,17 +36,24 @@ const SOURCES: [(&str, &str, &str, u8, &str, &str); 30] = [
         "T",
         "g",
         1,
-        "refused: 16 0\n",
+        "refused: 20 2 7\n",
         "",
     ),
-    ("theory T goal g: p end", "T", "g", 1, "refused: 16 0\n", ""),
+    (
+        "theory T goal g: p end",
+        "T",
+        "g",
+        1,
+        "refused: 20 1 5\n",
+        "",
+    ),
     // a predicate is known after its place
     (
         "theory T goal g: p predicate p end",
         "T",
         "g",
         1,
-        "refused: 16 0\n",
+        "refused: 20 1 5\n",
         "",
     ),
     (
@@ -54,7 +61,7 @@ const SOURCES: [(&str, &str, &str, u8, &str, &str); 30] = [
         "T",
         "g",
         1,
-        "refused: 16 0\n",
+        "refused: 21 2 5\n",
         "",
     ),
     (
@@ -62,7 +69,7 @@ const SOURCES: [(&str, &str, &str, u8, &str, &str); 30] = [
         "T",
         "g",
         1,
-        "refused: 16 0\n",
+        "refused: 21 3 9\n",
         "",
     ),
     // predicates and propositions have names of their own
@@ -74,14 +81,14 @@ const SOURCES: [(&str, &str, &str, u8, &str, &str); 30] = [
         "",
         "; 1 of 1\n(declare-fun p_1 () Bool)\n(assert p_1)\n(assert (not p_1))\n(check-sat)\n",
     ),
-    // the file has no text at all, or no theory that ends
-    ("", "T", "g", 1, "refused: 16 0\n", ""),
+    // the file has no theory at all, or none that ends
+    ("", "T", "g", 1, "refused: 60\n", ""),
     (
         "theory T predicate p goal g: p",
         "T",
         "g",
         1,
-        "refused: 16 0\n",
+        "refused: 12 8\n",
         "",
     ),
     (
@@ -89,23 +96,23 @@ const SOURCES: [(&str, &str, &str, u8, &str, &str); 30] = [
         "T",
         "g",
         1,
-        "refused: 16 0\n",
+        "refused: 12 9\n",
         "",
     ),
     (
         "module T predicate p goal g: p end",
         "T",
         "g",
-        1,
-        "refused: 16 0\n",
+        0,
         "",
+        "; 1 of 1\n(declare-fun p_1 () Bool)\n(assert (not p_1))\n(check-sat)\n",
     ),
     (
         "theory t predicate p goal g: p end",
         "t",
         "g",
         1,
-        "refused: 16 0\n",
+        "refused: 12 1\n",
         "",
     ),
     (
@@ -113,7 +120,7 @@ const SOURCES: [(&str, &str, &str, u8, &str, &str); 30] = [
         "T",
         "g",
         1,
-        "refused: 16 0\n",
+        "refused: 12 3\n",
         "",
     ),
     (
@@ -121,24 +128,24 @@ const SOURCES: [(&str, &str, &str, u8, &str, &str); 30] = [
         "T",
         "g",
         1,
-        "refused: 16 0\n",
+        "refused: 12 3\n",
         "",
     ),
-    // blanks alone stand between words, and a run of operator characters is one word
+    // comments stand where blanks do, and a run of operator characters is one operator
     (
         "theory T (* c *) predicate p goal g: p end",
         "T",
         "g",
-        1,
-        "refused: 16 0\n",
+        0,
         "",
+        "; 1 of 1\n(declare-fun p_1 () Bool)\n(assert (not p_1))\n(check-sat)\n",
     ),
     (
         "theory T predicate p goal g: p ->-> p end",
         "T",
         "g",
         1,
-        "refused: 16 0\n",
+        "refused: 16 21\n",
         "",
     ),
     (
@@ -146,7 +153,7 @@ const SOURCES: [(&str, &str, &str, u8, &str, &str); 30] = [
         "T",
         "g",
         1,
-        "refused: 16 0\n",
+        "refused: 16 21\n",
         "",
     ),
     (
@@ -154,7 +161,7 @@ const SOURCES: [(&str, &str, &str, u8, &str, &str); 30] = [
         "T",
         "g",
         1,
-        "refused: 16 0\n",
+        "refused: 10 29\n",
         "",
     ),
     (
@@ -179,7 +186,7 @@ const SOURCES: [(&str, &str, &str, u8, &str, &str); 30] = [
         "T",
         "g",
         1,
-        "refused: 16 0\n",
+        "refused: 12 11\n",
         "",
     ),
     (
@@ -187,7 +194,7 @@ const SOURCES: [(&str, &str, &str, u8, &str, &str); 30] = [
         "T",
         "g",
         1,
-        "refused: 16 0\n",
+        "refused: 16 21\n",
         "",
     ),
     // `->` is looser than `/\\`, and both associate to the right

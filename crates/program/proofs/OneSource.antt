@@ -1,0 +1,187 @@
+-- A text has its theories, or one fault that stands first.
+use Rattle.std.proofs.Common.{◌≡◌, ◌≢◌, ◌+◌, ◌-◌, ◌<◌, ◌++◌, ◌∷◌, [], ◌∙◌, ℕ, take, drop, slice_get, List, Option, Some, None, Ok, Err, refl, sym, ap, subst, arith, append_assoc, append-nil}
+use Rattle.std.proofs.Math.Seq.{take-add}
+use Rattle.tokens_why.specs.declared.token.Token.{Token}
+use Rattle.tokens_why.specs.Tokens.{Reads, AreTokens}
+use Rattle.tokens_why.specs.Tokens as text
+use Rattle.tokens_why.proofs.TurnLemmas.{Turn, first, turn, Reading, stopped}
+use Rattle.syntax_why.specs.Lexeme.{Lexeme, rest}
+use Rattle.syntax_why.specs.Declarations.{Theory}
+use Rattle.syntax_why.specs.Sources.{IsFileOf, BeginsSource}
+use Rattle.parse_decls.specs.Depth.{IsTooDeep, IsShallow}
+use Rattle.parse_decls.specs.Faults.{IsLeastFault, IsProgramDecl}
+use Rattle.propositional.specs.declared.fault.DeclFault.{DeclFault}
+use Rattle.propositional.specs.declared.fault.DeclFault.TheVariants as decl_fault
+use Rattle.propositional.specs.Theories.{TheoryTree, theories_of}
+use Rattle.program.specs.declared.status.Fault.TheVariants.{Lexical, BigLiteral, Syntax, TooDeep, ProgramDecl, NotYet, Unknown, Duplicate}
+use Rattle.program.specs.Order.{Stop, refused, misused, HasNoTokens, Lexes, IsNoFile, Parses, HasNoTheories, Declares, FileTheories, SourceTheories}
+use Rattle.program.proofs.OneStage.{One, one_after}
+
+-- the reading of a text is the one that it has
+reading_from : (bytes : List ℕ) (at : ℕ) (stop : text.Stop) (found ts : List Token) → Turn bytes at found → Reads bytes stop at ts → Reading bytes stop (found ++ ts)
+reading_from bytes at stop found [] h r = subst (Reading bytes stop) (sym (append-nil found)) (stopped bytes at stop found r h)
+reading_from bytes at stop found (t ∷ ts) h r =
+    let more : Turn bytes t.end (found ++ t ∷ []) = turn bytes at t found (found ++ t ∷ []) (r.0, r.1) r.2 refl h in
+    subst (Reading bytes stop) (append_assoc found (t ∷ []) ts) (reading_from bytes t.end stop (found ++ t ∷ []) ts more r.3)
+
+reading : (bytes : List ℕ) (stop : text.Stop) (ts : List Token) → Reads bytes stop 0 ts → Reading bytes stop ts
+reading bytes stop ts r = reading_from bytes 0 stop [] ts (first bytes) r
+
+-- what a run tells where a reading stops
+abbrev text_stop : text.Stop → Stop
+text_stop text.whole = misused
+text_stop (text.lexical byte) = refused (Lexical byte)
+text_stop (text.big byte) = refused (BigLiteral byte)
+
+record NoTokens (bytes : List ℕ) (stop : Stop) : Type 0 where
+  at : text.Stop
+  tokens : List Token
+  reads : Reads bytes at 0 tokens
+  short : at ≢ text.whole
+  is : stop ≡ text_stop at
+
+no_tokens : (bytes : List ℕ) (stop : Stop) → HasNoTokens bytes stop → NoTokens bytes stop
+no_tokens bytes (refused (Lexical byte)) h = record { at = text.lexical byte; tokens = h.0; reads = h.1; short = λ e. cc; is = refl }
+no_tokens bytes (refused (BigLiteral byte)) h = record { at = text.big byte; tokens = h.0; reads = h.1; short = λ e. cc; is = refl }
+no_tokens bytes _ h = absurd h
+
+tokens_or : (bytes : List ℕ) (ts : List Token) (stop : Stop) → AreTokens bytes ts → HasNoTokens bytes stop → ⊥
+tokens_or bytes ts stop a h =
+    let n = no_tokens bytes stop h in
+    n.short ((reading bytes text.whole ts a).only n.at n.tokens n.reads).0
+
+one_lexes : (bytes : List ℕ) → One (Lexes bytes)
+one_lexes bytes (Ok ts) (Ok us) a b = ap (λ (z : List Token). Ok z) (sym ((reading bytes text.whole ts a).only text.whole us b).1)
+one_lexes bytes (Ok ts) (Err stop) a b = absurd (tokens_or bytes ts stop a b)
+one_lexes bytes (Err stop) (Ok ts) a b = absurd (tokens_or bytes ts stop b a)
+one_lexes bytes (Err stop) (Err other) a b =
+    let n = no_tokens bytes stop a in
+    let m = no_tokens bytes other b in
+    let same : m.at ≡ n.at = ((reading bytes n.at n.tokens n.reads).only m.at m.tokens m.reads).0 in
+    ap (λ (z : Stop). Err z) (n.is ∙ ap text_stop (sym same) ∙ sym m.is)
+
+-- a source begins with fewer tokens too
+begins_front : (xs : List Lexeme) (m k : ℕ) → BeginsSource (take (m + k) xs) → BeginsSource (take m xs)
+begins_front xs m k b =
+    let is : take (m + k) xs ++ b.more ≡ take m xs ++ (take k (drop m xs) ++ b.more) = ap (λ v. v ++ b.more) (take-add m k xs) ∙ append_assoc (take m xs) (take k (drop m xs)) b.more in
+    record { file = b.file; more = take k (drop m xs) ++ b.more; is = subst (λ v. IsFileOf v b.file) is b.is }
+
+least_below : (xs : List Lexeme) (i j : ℕ) → IsLeastFault xs i → IsLeastFault xs j → i < j → ⊥
+least_below xs i j a b h =
+    let k : ℕ = j - (i + 1) in
+    let is : j ≡ i + 1 + k = omega arith in
+    let high = b.high in
+    a.stops (omega arith) (begins_front xs (i + 1) k (subst (λ v. BeginsSource (take v xs)) is b.begins))
+
+one_least : (xs : List Lexeme) (i j : ℕ) → IsLeastFault xs i → IsLeastFault xs j → i ≡ j
+one_least xs i j a b =
+    let above : (i < j → ⊥) = least_below xs i j a b in
+    let below : (j < i → ⊥) = least_below xs j i b a in
+    omega arith
+
+one_deep : (xs : List Lexeme) (i j : ℕ) → IsTooDeep xs i → IsTooDeep xs j → i ≡ j
+one_deep xs i j a b =
+    let above : (i < j → ⊥) = λ h. let l = b.first i h in let d = a.deep in let n : ⊥ = omega arith in n in
+    let below : (j < i → ⊥) = λ h. let l = a.first j h in let d = b.deep in let n : ⊥ = omega arith in n in
+    omega arith
+
+deep_or : (xs : List Lexeme) (i : ℕ) → IsShallow xs → IsTooDeep xs i → ⊥
+deep_or xs i s h = let l = s i h.within in let d = h.deep in omega arith
+
+-- why tokens are no source
+data Why : Type 0 where
+  deep : ℕ → Why
+  program : ℕ → Why
+  syntax_at : ℕ → Why
+
+abbrev why_stop : Why → Stop
+why_stop (deep token) = refused (TooDeep token)
+why_stop (program token) = refused (ProgramDecl token)
+why_stop (syntax_at token) = refused (Syntax token)
+
+abbrev IsWhy : List Lexeme → Why → Type 0
+IsWhy xs w = IsNoFile xs (why_stop w)
+
+record NoFile (xs : List Lexeme) (stop : Stop) : Type 0 where
+  why : Why
+  holds : IsWhy xs why
+  is : stop ≡ why_stop why
+
+no_file : (xs : List Lexeme) (stop : Stop) → IsNoFile xs stop → NoFile xs stop
+no_file xs (refused (TooDeep token)) h = record { why = deep token; holds = h; is = refl }
+no_file xs (refused (ProgramDecl token)) h = record { why = program token; holds = h; is = refl }
+no_file xs (refused (Syntax token)) h = record { why = syntax_at token; holds = h; is = refl }
+no_file xs _ h = absurd h
+
+one_why : (xs : List Lexeme) (v w : Why) → IsWhy xs v → IsWhy xs w → v ≡ w
+one_why xs (deep i) (deep j) a b = ap deep (one_deep xs i j a b)
+one_why xs (deep i) (program j) a b = absurd (deep_or xs i b.0 a)
+one_why xs (deep i) (syntax_at j) a b = absurd (deep_or xs i b.0 a)
+one_why xs (program i) (deep j) a b = absurd (deep_or xs j a.0 b)
+one_why xs (program i) (program j) a b = ap program (one_least xs i j a.1 b.1)
+one_why xs (program i) (syntax_at j) a b = absurd (b.2 (subst (IsProgramDecl xs) (one_least xs i j a.1 b.1) a.2))
+one_why xs (syntax_at i) (deep j) a b = absurd (deep_or xs j a.0 b)
+one_why xs (syntax_at i) (program j) a b = absurd (a.2 (subst (IsProgramDecl xs) (one_least xs j i b.1 a.1) b.2))
+one_why xs (syntax_at i) (syntax_at j) a b = ap syntax_at (one_least xs i j a.1 b.1)
+
+file_or : (xs : List Lexeme) (file : List Theory) (w : Why) → IsShallow xs → IsFileOf xs file → IsWhy xs w → ⊥
+file_or xs file (deep i) s f h = deep_or xs i s h
+file_or xs file (program i) s f h = h.1.none (file, f)
+file_or xs file (syntax_at i) s f h = h.1.none (file, f)
+
+one_parses : (xs : List Lexeme) → One (Parses xs)
+one_parses xs (Ok f) (Ok g) a b = ap (λ (z : List Theory). Ok z) (b.1.one f a.1.is)
+one_parses xs (Ok f) (Err stop) a b = let n = no_file xs stop b in absurd (file_or xs f n.why a.0 a.1.is n.holds)
+one_parses xs (Err stop) (Ok f) a b = let n = no_file xs stop a in absurd (file_or xs f n.why b.0 b.1.is n.holds)
+one_parses xs (Err stop) (Err other) a b =
+    let n = no_file xs stop a in
+    let m = no_file xs other b in
+    ap (λ (z : Stop). Err z) (n.is ∙ ap why_stop (one_why xs n.why m.why n.holds m.holds) ∙ sym m.is)
+
+abbrev start_or : Option Token → ℕ
+start_or None = 0
+start_or (Some t) = t.start
+
+-- what a run tells of a file's fault
+abbrev decl_stop : List Token → DeclFault → Stop
+decl_stop tokens decl_fault.Memory = misused
+decl_stop tokens (decl_fault.NotYet token) = refused (NotYet (start_or (slice_get tokens token)))
+decl_stop tokens (decl_fault.Unknown decl token) = refused (Unknown decl token)
+decl_stop tokens (decl_fault.Duplicate decl token) = refused (Duplicate decl token)
+
+record NoTheories (tokens : List Token) (file : List Theory) (stop : Stop) : Type 0 where
+  fault : DeclFault
+  told : theories_of file ≡ Err fault
+  is : stop ≡ decl_stop tokens fault
+
+no_theories : (tokens : List Token) (file : List Theory) (stop : Stop) → HasNoTheories tokens file stop → NoTheories tokens file stop
+no_theories tokens file (refused (NotYet byte)) h = record {
+  fault = decl_fault.NotYet h.0;
+  told = h.1;
+  is = ap (λ (z : ℕ). refused (NotYet z)) (sym h.2.2 ∙ ap start_or (sym h.2.1));
+}
+no_theories tokens file (refused (Unknown decl token)) h = record { fault = decl_fault.Unknown decl token; told = h; is = refl }
+no_theories tokens file (refused (Duplicate decl token)) h = record { fault = decl_fault.Duplicate decl token; told = h; is = refl }
+no_theories tokens file _ h = absurd h
+
+theories_or : (tokens : List Token) (file : List Theory) (ts : List TheoryTree) (stop : Stop) → theories_of file ≡ Ok ts → HasNoTheories tokens file stop → ⊥
+theories_or tokens file ts stop a h = let n = no_theories tokens file stop h in let t = n.told in cc
+
+one_declares : (tokens : List Token) (file : List Theory) → One (Declares tokens file)
+one_declares tokens file (Ok ts) (Ok us) a b = let same : ts ≡ us = cc in ap (λ (z : List TheoryTree). Ok z) same
+one_declares tokens file (Ok ts) (Err stop) a b = absurd (theories_or tokens file ts stop a b)
+one_declares tokens file (Err stop) (Ok ts) a b = absurd (theories_or tokens file ts stop b a)
+one_declares tokens file (Err stop) (Err other) a b =
+    let n = no_theories tokens file stop a in
+    let m = no_theories tokens file other b in
+    let t = n.told in
+    let u = m.told in
+    let same : n.fault ≡ m.fault = cc in
+    ap (λ (z : Stop). Err z) (n.is ∙ ap (decl_stop tokens) same ∙ sym m.is)
+
+one_file_theories : (bytes : List ℕ) (tokens : List Token) → One (FileTheories bytes tokens)
+one_file_theories bytes tokens = one_after (Parses (rest bytes tokens 0)) (Declares tokens) (one_parses (rest bytes tokens 0)) (one_declares tokens)
+
+-- the theories of a text, or its first fault, are one
+pub one_theories : (bytes : List ℕ) → One (SourceTheories bytes)
+one_theories bytes = one_after (Lexes bytes) (FileTheories bytes) (one_lexes bytes) (one_file_theories bytes)

@@ -1,0 +1,14 @@
+use Rattle.std.proofs.Common.{ℕ, List, subst}
+use Rattle.program.specs.Meets.{GivesOr}
+use Rattle.program.specs.Order.{SourceTheories}
+use Rattle.program.specs.Values.{theories_in}
+use Rattle.program.proofs.Meeting.{answers_then}
+use Rattle.program.proofs.Checking.{answers_stage}
+use Rattle.program.proofs.goal.fetch_theories.Goals as goal
+
+pub returns-clause-answers : goal.returns-clause-answers
+returns-clause-answers g c =
+    let bytes = c.in_ok-text.text.items in
+    let r = theories_in c.read_source.new.store c.read_source.result in
+    let read = subst (λ (b : List ℕ). GivesOr (SourceTheories b) r) c.deref.ensures.value c.read_source.ensures.theories in
+    answers_then (λ b files limit. SourceTheories b) c.in_ok-text.ensures (answers_stage (SourceTheories bytes) 1 _ r read)
