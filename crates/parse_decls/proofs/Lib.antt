@@ -1,0 +1,5 @@
+mod Examples
+mod ScanLemmas
+mod DepthLemmas
+mod SourceLemmas
+mod CloseLemmas

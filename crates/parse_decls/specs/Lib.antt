@@ -1,0 +1,6 @@
+pub mod SourceStates
+pub mod Scans
+pub mod Depth
+pub mod Nestings
+pub mod Faults
+pub mod Parsed
