@@ -1,10 +1,14 @@
 // The file of a source, or its first fault.
-ghost use Rattle.std.specs.Prelude.{◌≡◌, ◌<◌, [], length, slice_get, option_map, Some, IfOk, IfErr};
+ghost use Rattle.std.specs.Prelude.{◌≡◌, ◌<◌, ◌^◌, [], length, slice_get, option_map, Some, IfOk, IfErr};
 ghost use Rattle.tokens_why.specs.declared.token.Token.{Token};
 ghost use Rattle.tokens_why.specs.Tokens.{AreTokens};
 ghost use Rattle.syntax_why.specs.Tree.{Word};
 ghost use Rattle.syntax_why.specs.Lexeme.{lexeme, lexeme_by, rest};
 ghost use Rattle.syntax_why.specs.Declarations.{file_of};
+ghost use Rattle.syntax_why.specs.WriteDeclarations.{write_file};
+ghost use Rattle.syntax_why.specs.CarriedDeclarations.{file_places_of};
+ghost use Rattle.syntax_why.specs.Places.{behind};
+ghost use Rattle.syntax_why.specs.DeclarationPlaces.{file_places};
 ghost use Rattle.grammar.specs.Walk.{walk};
 ghost use Rattle.grammar_decls.specs.SourceMachine as machine;
 ghost use Rattle.parse_forms.specs.Leads.{HasTexts};
@@ -20,6 +24,7 @@ use crate::source_reader::{can_scope, finish, start, step};
 use crate::source_state::SourceState;
 use parse_forms::{Lead, classify, item_of};
 use parse_terms::SyntaxFault;
+use places_why::place_file;
 use std::alloc::{AllocError, Global};
 use syntax_why::{File, Mark};
 use tokens_why::{Token, TokenKind};
@@ -106,20 +111,30 @@ fn read_all(alloc: Global, tokens: &[Token], text: &[u8]) -> Result<SourceState,
     Ok(state)
 }
 
+/// A file with the places of its parts.
+fn placed(mut file: File) -> File
+    requires fits { behind 0 (write_file (file_of file)) < 2 ^ 64 }
+    ensures tree { file_of result ≡ file_of file }
+    ensures places { file_places_of result ≡ file_places 0 (file_of result) }
+{
+    place_file(&mut file, 0);
+    file
+}
+
 /// The file behind all tokens, if one ends there.
 fn whole_file(tokens: &[Token], text: &[u8], state: SourceState) -> Result<File, SyntaxFault>
     requires shallow { IsShallow (rest text.now tokens.now 0) }
     requires all { walk machine.source_step (machine.outside []) (rest text.now tokens.now 0) ≡ Some (state_of state) }
     ensures file { IfOk result (λ f. IsOnlyFile (rest text.now tokens.now 0) (file_of f)) }
+    ensures places { IfOk result (λ f. file_places_of f ≡ file_places 0 (file_of f)) }
     ensures shallow { IfOk result (λ f. IsShallow (rest text.now tokens.now 0)) }
     ensures refused { IfErr result (IsRefusal (rest text.now tokens.now 0)) }
 {
     let _text = text;
+    let count = tokens.len();
     match finish(state) {
-        Some(file) => Ok(file),
-        None => Err(SyntaxFault::Syntax {
-            token: tokens.len(),
-        }),
+        Some(file) => Ok(placed(file)),
+        None => Err(SyntaxFault::Syntax { token: count }),
     }
 }
 
@@ -128,6 +143,7 @@ fn parse_shallow(alloc: Global, tokens: &[Token], text: &[u8]) -> Result<File, S
     requires tokens { AreTokens text.now tokens.now }
     requires shallow { IsShallow (rest text.now tokens.now 0) }
     ensures file { IfOk result (λ f. IsOnlyFile (rest text.now tokens.now 0) (file_of f)) }
+    ensures places { IfOk result (λ f. file_places_of f ≡ file_places 0 (file_of f)) }
     ensures shallow { IfOk result (λ f. IsShallow (rest text.now tokens.now 0)) }
     ensures refused { IfErr result (IsRefusal (rest text.now tokens.now 0)) }
 {
@@ -146,6 +162,7 @@ fn parse_shallow(alloc: Global, tokens: &[Token], text: &[u8]) -> Result<File, S
 pub fn parse(alloc: Global, tokens: &[Token], text: &[u8]) -> Result<File, SyntaxFault>
     requires tokens { AreTokens text.now tokens.now }
     ensures file { IfOk result (λ f. IsOnlyFile (rest text.now tokens.now 0) (file_of f)) }
+    ensures places { IfOk result (λ f. file_places_of f ≡ file_places 0 (file_of f)) }
     ensures shallow { IfOk result (λ f. IsShallow (rest text.now tokens.now 0)) }
     ensures refused { IfErr result (IsRefusal (rest text.now tokens.now 0)) }
 {
