@@ -1,0 +1,4 @@
+mod TokenLemmas
+mod StateLemmas
+pub mod HostLemmas
+mod EndLemmas

@@ -1,0 +1,211 @@
+// A declaration that is no scope: its first word, its tokens, and where it ends.
+ghost use Rattle.std.specs.Prelude.{◌≡◌, option_map, is_some, IfOk};
+ghost use Rattle.grammar_decls.specs.DeclarationMachine.{at_decl_key, decl_step, decl_finish};
+ghost use Rattle.parse_forms.specs.Items.{lexeme_of};
+ghost use Rattle.read_decls.specs.declared.state.SymbolState.TheVariants.{Due};
+ghost use Rattle.read_decls.specs.declared.state.DeclState.TheVariants.{PropDue};
+ghost use Rattle.read_decls.specs.declared.state.NewProp.TheVariants.{Prop};
+ghost use Rattle.read_decls.specs.Words.{keyword_by};
+ghost use Rattle.read_decls.specs.DeclStates.{types_of, symbol_state_of, name_state_of, param_state_of, link_state_of, element_state_of, state_of};
+
+use crate::elements::{element_due, element_end, element_vars, left_read};
+use crate::expr_uses::at_expr;
+use crate::keywords::Keyword;
+use crate::links::{link_due, link_end, path_due, path_lower, path_read, rename_due};
+use crate::params::{param_dotted, param_scope, params};
+use crate::parens::{param_named, param_opened};
+use crate::props::{clause_named, clauses_due, constant_named, prop_named};
+use crate::replaced::{name_due, name_opened, name_run, name_scope, name_wild};
+use crate::state::{
+    DeclState, ElementState, LinkState, NameState, NewProp, NewSymbol, ParamState, SymbolState,
+    TypeDeclState,
+};
+use crate::symbols::{prop_due, symbol_due, symbol_opened, symbol_run, symbol_wild};
+use crate::type_uses::at_type;
+use crate::types::{constructor_due, named_type, type_equal, type_upper, type_vars};
+use outside::Seq;
+use parse_forms::Item;
+use std::alloc::{AllocError, Global};
+use syntax_why::PropKind;
+
+fn symbol(of: NewSymbol) -> DeclState
+    ensures { state_of result ≡ symbol_state_of (Due of) }
+{
+    DeclState::Symbol(SymbolState::Due(of))
+}
+
+fn prop(kind: PropKind) -> DeclState
+    ensures { state_of result ≡ state_of (PropDue (Prop kind)) }
+{
+    DeclState::PropDue(NewProp::Prop(kind))
+}
+
+/// Behind the word with which a declaration begins.
+pub fn declaration_due(alloc: Global, key: Keyword) -> Option<DeclState>
+    ensures { option_map state_of result ≡ at_decl_key (keyword_by key) }
+{
+    match key {
+        Keyword::Typing => Some(DeclState::Types(TypeDeclState::Due(Seq::new(alloc)))),
+        Keyword::Function => Some(symbol(NewSymbol::Function)),
+        Keyword::Predicate => Some(symbol(NewSymbol::Predicate)),
+        Keyword::Constant => Some(symbol(NewSymbol::Constant)),
+        Keyword::Inductive => Some(symbol(NewSymbol::Inductive(Seq::new(alloc)))),
+        Keyword::Axiom => Some(prop(PropKind::Axiom)),
+        Keyword::Lemma => Some(prop(PropKind::Lemma)),
+        Keyword::Goal => Some(prop(PropKind::Goal)),
+        Keyword::Using => Some(DeclState::Link(LinkState::Due(false))),
+        Keyword::Clone => Some(DeclState::Link(LinkState::Due(true))),
+        Keyword::Export => None,
+        Keyword::Import => None,
+        Keyword::Module => None,
+        Keyword::Scope => None,
+        Keyword::Theory => None,
+        Keyword::Other => None,
+    }
+}
+
+fn in_types(
+    alloc: Global,
+    at: usize,
+    item: Item,
+    state: TypeDeclState,
+) -> Result<Option<DeclState>, AllocError>
+    ensures { IfOk result (λ r. option_map state_of r ≡ decl_step (types_of state) (lexeme_of item)) }
+{
+    match state {
+        TypeDeclState::Due(before) => Ok(named_type(alloc, at, item, before)),
+        TypeDeclState::Named(before, name, vars) => type_vars(at, item, before, name, vars),
+        TypeDeclState::Equal(before, name, vars) => {
+            type_equal(alloc, at, item, before, name, vars)
+        }
+        TypeDeclState::Upper(name, vars, first, upper) => {
+            type_upper(alloc, at, item, name, vars, first, upper)
+        }
+        TypeDeclState::ConstructorDue(before, of) => {
+            Ok(constructor_due(alloc, at, item, before, of))
+        }
+    }
+}
+
+fn in_symbol(alloc: Global, at: usize, item: Item, state: SymbolState) -> Option<DeclState>
+    ensures { option_map state_of result ≡ decl_step (symbol_state_of state) (lexeme_of item) }
+{
+    match state {
+        SymbolState::Due(of) => symbol_due(alloc, at, item, of),
+        SymbolState::Opened(of, first) => symbol_opened(item, of, first),
+        SymbolState::Run(of, first, text) => symbol_run(alloc, item, of, first, text),
+        SymbolState::Wild(of, first, text) => symbol_wild(alloc, item, of, first, text),
+    }
+}
+
+fn in_name(
+    alloc: Global,
+    at: usize,
+    item: Item,
+    state: NameState,
+) -> Result<Option<DeclState>, AllocError>
+    ensures { IfOk result (λ r. option_map state_of r ≡ decl_step (name_state_of state) (lexeme_of item)) }
+{
+    match state {
+        NameState::Due(of, first, scopes) => name_due(alloc, at, item, of, first, scopes),
+        NameState::Scope(of, first, scopes, name) => name_scope(item, of, first, scopes, name),
+        NameState::Opened(of, first, scopes) => Ok(name_opened(item, of, first, scopes)),
+        NameState::Run(of, first, scopes, text) => {
+            name_run(alloc, item, of, first, scopes, text)
+        }
+        NameState::Wild(of, first, scopes, text) => {
+            name_wild(alloc, item, of, first, scopes, text)
+        }
+    }
+}
+
+fn in_params(
+    alloc: Global,
+    at: usize,
+    item: Item,
+    state: ParamState,
+) -> Result<Option<DeclState>, AllocError>
+    ensures { IfOk result (λ r. option_map state_of r ≡ decl_step (param_state_of state) (lexeme_of item)) }
+{
+    match state {
+        ParamState::Params(header) => params(alloc, at, item, header),
+        ParamState::Scope(header, first, scopes, text) => {
+            param_scope(item, header, first, scopes, text)
+        }
+        ParamState::Dotted(header, first, scopes) => {
+            param_dotted(alloc, item, header, first, scopes)
+        }
+        ParamState::Opened(header, first) => param_opened(alloc, at, item, header, first),
+        ParamState::Named(header, first, names) => {
+            param_named(alloc, at, item, header, first, names)
+        }
+    }
+}
+
+fn in_link(
+    alloc: Global,
+    at: usize,
+    item: Item,
+    state: LinkState,
+) -> Result<Option<DeclState>, AllocError>
+    ensures { IfOk result (λ r. option_map state_of r ≡ decl_step (link_state_of state) (lexeme_of item)) }
+{
+    match state {
+        LinkState::Due(cloned) => link_due(alloc, at, item, cloned),
+        LinkState::PathDue(cloned, link, path) => path_due(at, item, cloned, link, path),
+        LinkState::PathLower(cloned, link, path, text) => {
+            path_lower(item, cloned, link, path, text)
+        }
+        LinkState::PathRead(cloned, link, path) => {
+            Ok(path_read(alloc, at, item, cloned, link, path))
+        }
+        LinkState::RenameDue(cloned, link, path) => Ok(rename_due(at, item, cloned, link, path)),
+        LinkState::Renamed(cloned, link, path, name) => {
+            Ok(link_end(alloc, at, &item, cloned, link, path, Some(name)))
+        }
+    }
+}
+
+fn in_element(
+    alloc: Global,
+    at: usize,
+    item: Item,
+    state: ElementState,
+) -> Result<Option<DeclState>, AllocError>
+    ensures { IfOk result (λ r. option_map state_of r ≡ decl_step (element_state_of state) (lexeme_of item)) }
+{
+    match state {
+        ElementState::Due(of) => Ok(element_due(alloc, at, item, of)),
+        ElementState::Vars(of, name, vars) => element_vars(alloc, at, item, of, name, vars),
+        ElementState::LeftRead(word, left, of) => Ok(left_read(alloc, at, item, word, left, of)),
+        ElementState::Read(of) => Ok(element_end(&item, of)),
+    }
+}
+
+/// The declaration behind a token, where the token can go on with it.
+pub fn step(
+    alloc: Global,
+    at: usize,
+    item: Item,
+    state: DeclState,
+) -> Result<Option<DeclState>, AllocError>
+    ensures { IfOk result (λ r. option_map state_of r ≡ decl_step (state_of state) (lexeme_of item)) }
+{
+    match state {
+        DeclState::Types(state) => in_types(alloc, at, item, state),
+        DeclState::Symbol(state) => Ok(in_symbol(alloc, at, item, state)),
+        DeclState::PropDue(of) => Ok(prop_due(at, item, of)),
+        DeclState::Name(state) => in_name(alloc, at, item, state),
+        DeclState::Param(state) => in_params(alloc, at, item, state),
+        DeclState::ConstantNamed(name) => Ok(constant_named(alloc, item, name)),
+        DeclState::PropNamed(kind, name) => Ok(prop_named(alloc, item, kind, name)),
+        DeclState::ClausesDue(before, of) => Ok(clauses_due(alloc, at, item, before, of)),
+        DeclState::ClauseNamed(before, of, name) => {
+            Ok(clause_named(alloc, item, before, of, name))
+        }
+        DeclState::Link(state) => in_link(alloc, at, item, state),
+        DeclState::Element(state) => in_element(alloc, at, item, state),
+        DeclState::InType(reader, of) => at_type(alloc, at, item, reader, of),
+        DeclState::InExpr(reader, of) => at_expr(alloc, at, item, reader, of),
+    }
+}
