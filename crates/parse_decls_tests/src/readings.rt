@@ -3,8 +3,9 @@ use parse_decls::{SyntaxFault, parse};
 use std::alloc::{AllocError, Global};
 use std::process::Abort;
 use std::test::Fail;
-use syntax_why::{File, unparse};
+use syntax_why::File;
 use tokens_why::{Token, TokenKind, lex};
+use unparse_why::unparse;
 
 /// Whether some kinds are those of tokens.
 fn are_kinds(tokens: &[Token], kinds: &[TokenKind]) -> bool {

@@ -5,6 +5,5 @@ pub mod WordRows
 pub mod DeclRows
 pub mod NameLemmas
 pub mod DeclLemmas
-pub mod PathLemmas
 pub mod DeclPlaceLemmas
 pub mod DeclPlaceRows

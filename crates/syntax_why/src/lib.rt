@@ -1,4 +1,4 @@
-//! The surface trees of Why3 sources, their makers, and the tokens of a tree.
+//! The surface trees of Why3 sources, their makers, and which tokens a tree writes.
 //! It stands on the tokens, and under the grammar and the readers.
 #![tactic(auto)]
 
@@ -8,11 +8,8 @@ mod expressions;
 mod making;
 mod marks;
 mod names;
-mod part_writing;
 mod patterns;
 mod types;
-mod unparsing;
-mod writing;
 
 pub use declarations::{
     AlgTree, ClauseTree, ConTree, DeclNode, DeclTree, ElemNode, ElemTree, File, IndTree, Link,
@@ -23,5 +20,3 @@ pub use marks::Mark;
 pub use names::{At, Name, OpName, Path, QName, Style};
 pub use patterns::{Pat, PatNode};
 pub use types::{TypeNode, TypeTree};
-pub use unparsing::unparse;
-pub use writing::unparse_expr;

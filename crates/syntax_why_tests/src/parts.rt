@@ -2,8 +2,9 @@
 use outside::{Seq, Text};
 use std::alloc::Global;
 use std::process::Abort;
-use syntax_why::{At, Expr, File, Name, OpName, QName, Style, unparse, unparse_expr};
+use syntax_why::{At, Expr, File, Name, OpName, QName, Style};
 use tokens_why::{TokenKind, lex};
+use unparse_why::{unparse, unparse_expr};
 
 /// The place that trees here carry; their writing asks for none.
 pub const HERE: At = At { first: 0, main: 0 };
