@@ -182,6 +182,11 @@ fn in_element(
     }
 }
 
+/// Lets what was read go.
+pub fn discard(state: DeclState) {
+    drop(state);
+}
+
 /// The declaration behind a token, where the token can go on with it.
 pub fn step(
     alloc: Global,

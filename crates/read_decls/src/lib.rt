@@ -24,7 +24,7 @@ mod uses;
 
 pub use closing::push;
 pub use completion::push_decl;
-pub use declaration::{declaration_due, step};
+pub use declaration::{declaration_due, discard, step};
 pub use ending::ends;
 pub use finishing::finish;
 pub use keywords::{Keyword, keyword_of};
