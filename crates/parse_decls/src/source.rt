@@ -20,7 +20,7 @@ ghost use Rattle.parse_decls.specs.SourceStates.{state_of};
 ghost use Rattle.read_decls.specs.Tokens.{program_is};
 
 use crate::depth::too_deep;
-use crate::source_reader::{can_scope, finish, start, step};
+use crate::source_reader::{can_scope, discard, finish, start, step};
 use crate::source_state::SourceState;
 use parse_forms::{Lead, classify, item_of};
 use parse_terms::SyntaxFault;
@@ -52,7 +52,7 @@ pub fn advance(
     match item_of(alloc, token, text) {
         Ok(item) => step(alloc, at, item, state),
         Err(error) => {
-            drop(state);
+            discard(state);
             Err(error)
         }
     }

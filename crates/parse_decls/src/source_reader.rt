@@ -18,8 +18,8 @@ use crate::source_state::{Around, SourceState};
 use outside::Seq;
 use parse_forms::{Item, UpperName};
 use read_decls::{
-    DeclState, Keyword, declaration_due, ends as decl_ends, finish as decl_finish, keyword_of,
-    step as decl_step,
+    DeclState, Keyword, declaration_due, discard as decl_discard, ends as decl_ends,
+    finish as decl_finish, keyword_of, step as decl_step,
 };
 use std::alloc::{AllocError, Global};
 use syntax_why::{DeclTree, File, Mark, Name, TheoryTree};
@@ -248,9 +248,23 @@ pub fn finish(state: SourceState) -> Option<File>
         SourceState::Ready(_around) => None,
         SourceState::ScopeOpened(_around, _first) => None,
         SourceState::Declaring(_first, state, around) => {
-            drop(state);
+            decl_discard(state);
             drop(around);
             None
+        }
+    }
+}
+
+/// Lets what was read go.
+pub fn discard(state: SourceState) {
+    match state {
+        SourceState::Outside(before) => drop(before),
+        SourceState::TheoryOpened(before, _first, _is_module) => drop(before),
+        SourceState::Ready(around) => drop(around),
+        SourceState::ScopeOpened(around, _first) => drop(around),
+        SourceState::Declaring(_first, state, around) => {
+            decl_discard(state);
+            drop(around);
         }
     }
 }

@@ -11,7 +11,6 @@ placed-requires c =
     let whole = only_file (rest c.args.text.now c.args.tokens.now 0) (state_of c.args.state) (file_of c.in-Some.file) c.requires.all (sym c.in-Some.ensures) in
     let written = ap length whole.is.writes in
     let all = tokens_length c.args.text.now c.args.tokens.now in
-    let fits = c.ranges.count in
     omega arith
 
 pub returns-in-Some-clause-file : goal.returns-in-Some-clause-file
