@@ -1,5 +1,5 @@
 -- What closes a source, apart from what is open in a declaration.
-use Rattle.std.proofs.Common.{◌≡◌, ℕ, zero, suc, ◌+◌, List, [], ◌∷◌, ◌++◌, length, replicate, refl, ap, sym, ◌∙◌, append_assoc, arith}
+use Rattle.std.proofs.Common.{◌≡◌, ℕ, zero, suc, ◌+◌, List, [], ◌∷◌, ◌++◌, length, replicate, refl, ap, ◌∙◌, append_assoc, arith}
 use Rattle.tokens_why.specs.declared.token.TokenKind.{TokenKind}
 use Rattle.tokens_why.specs.declared.token.TokenKind.TheVariants.{Reserved}
 use Rattle.syntax_why.specs.Lexeme.{Lexeme, kinds, lexeme_kind}

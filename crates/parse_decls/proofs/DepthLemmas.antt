@@ -1,5 +1,5 @@
 -- The counters of open brackets behind one token more.
-use Rattle.std.proofs.Common.{◌≡◌, ℕ, zero, suc, ◌+◌, ◌<◌, ◌≤◌, List, [], ◌∷◌, ◌++◌, length, take, slice_get, Some, sum, ◌⊎◌, inl, inr, refl, sym, ap, ◌∙◌, subst, arith}
+use Rattle.std.proofs.Common.{◌≡◌, ℕ, suc, ◌+◌, ◌<◌, ◌≤◌, List, [], ◌∷◌, ◌++◌, length, take, slice_get, Some, sum, inl, inr, refl, sym, ap, ◌∙◌, subst, arith}
 use Rattle.syntax_why.specs.Lexeme.{Lexeme}
 use Rattle.parse_decls.specs.Depth.{nesting, nested, counters, depth, depth_at, most_nested, IsTooDeep, IsShallow}
 use Rattle.parse_decls.specs.Nestings.{Nested}

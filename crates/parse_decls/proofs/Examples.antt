@@ -3,7 +3,7 @@ use Rattle.std.proofs.Common.{◌≡◌, ℕ, zero, suc, List, [], ◌∷◌, �
 use Rattle.std.specs.Prelude.{codes}
 use Rattle.syntax_why.specs.declared.marks.Mark.TheVariants as m
 use Rattle.syntax_why.specs.Tree.{arrow, conj}
-use Rattle.syntax_why.specs.Lexeme.{Lexeme, lident, uident, run, mark, word}
+use Rattle.syntax_why.specs.Lexeme.{Lexeme, lident, uident, run, mark}
 use Rattle.syntax_why.specs.WriteDeclarations.{goal_word, theory_word}
 use Rattle.parse_decls.specs.Depth.{depth_at}
 

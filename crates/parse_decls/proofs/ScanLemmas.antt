@@ -1,14 +1,14 @@
 -- Where the machine of sources stops, and what that says of the tokens.
-use Rattle.std.proofs.Common.{◌≡◌, ℕ, zero, suc, ◌+◌, ◌<◌, ◌≤◌, Bool, true, false, ◌&&◌, List, [], ◌∷◌, ◌++◌, length, take, drop, map, Option, Some, None, option_map, is_some, slice_get, nat_lt, ◌⊎◌, inl, inr, refl, sym, ap, ◌∙◌, subst, arith, append-nil}
+use Rattle.std.proofs.Common.{◌≡◌, ℕ, zero, suc, ◌+◌, ◌<◌, ◌≤◌, Bool, true, false, ◌&&◌, List, [], ◌∷◌, ◌++◌, length, take, drop, Option, Some, None, option_map, is_some, slice_get, nat_lt, ◌⊎◌, inl, inr, refl, sym, ap, ◌∙◌, subst, arith}
 use Rattle.std.proofs.lemmas.Bool.Decides.{nat_tests}
 use Rattle.std.proofs.lemmas.List.{take-append-drop, length-map}
-use Rattle.std.proofs.lemmas.Option.{slice_get-map, slice_get_past, slice_get_within}
+use Rattle.std.proofs.lemmas.Option.{slice_get-map, slice_get_within}
 use Rattle.tokens_why.specs.declared.token.Token.{Token}
 use Rattle.syntax_why.specs.declared.marks.Mark.TheVariants as m
 use Rattle.syntax_why.specs.Lexeme.{Lexeme, lident, uident, tyvar, integer, run, mark, word, lexeme, rest, kinds, lexeme_kind}
 use Rattle.syntax_why.specs.Declarations.{Theory}
 use Rattle.syntax_why.specs.WriteDeclarations.{scope_word}
-use Rattle.syntax_why.specs.Sources.{IsFileOf, IsSource, BeginsSource}
+use Rattle.syntax_why.specs.Sources.{IsFileOf, BeginsSource}
 use Rattle.grammar.specs.Walk.{onward, walk}
 use Rattle.grammar_decls.specs.SourceMachine.{SourceState, outside, source_step, source_finish}
 use Rattle.grammar_decls.specs.Completing.{source_complete}

@@ -1,5 +1,5 @@
 -- What the machine of sources does at a word that is no `scope`.
-use Rattle.std.proofs.Common.{◌≡◌, Option, Some, None, option_map, refl}
+use Rattle.std.proofs.Common.{◌≡◌, option_map, refl}
 use Rattle.grammar_decls.specs.DeclarationMachine.{at_decl_key}
 use Rattle.grammar_decls.specs.SourceMachine.{Around, declaring, at_key}
 use Rattle.read_decls.specs.declared.keywords.Keyword.{Keyword}

@@ -1,5 +1,5 @@
 -- How far the machine of sources reads tokens, and where it stops.
-use Rattle.std.specs.Prelude.{ℕ, ◌+◌, ◌<◌, ◌≡◌, Bool, true, false, ◌&&◌, if◌then◌else◌, List, [], take, length, slice_get, Option, Some, None}
+use Rattle.std.specs.Prelude.{ℕ, ◌<◌, ◌≡◌, Bool, true, false, ◌&&◌, List, [], take, length, slice_get, Option, Some, None}
 use Rattle.std.specs.Bool.{⊤}
 use Rattle.tokens_why.specs.declared.token.Token.{Token}
 use Rattle.syntax_why.specs.Lexeme.{Lexeme, lexeme}

@@ -1,5 +1,4 @@
-use Rattle.std.proofs.Common.{◌≡◌, ◌∷◌, map, sym, ap, ◌∙◌, subst, IfOk}
-use Rattle.syntax_why.specs.Declarations.{decl_of}
+use Rattle.std.proofs.Common.{◌≡◌, sym, ap, ◌∙◌, subst, IfOk}
 use Rattle.grammar_decls.specs.SourceMachine.{ready, with_decl, ended}
 use Rattle.parse_decls.specs.SourceStates.{around_by, state_of}
 use Rattle.parse_decls.proofs.around.ended.Goals as goal

@@ -1,4 +1,4 @@
-use Rattle.std.proofs.Common.{◌≡◌, ◌∷◌, map, sym, ap, ◌∙◌}
+use Rattle.std.proofs.Common.{map, sym, ap, ◌∙◌}
 use Rattle.syntax_why.specs.Declarations.{decl_of}
 use Rattle.grammar_decls.specs.SourceMachine.{in_scope, with_decl}
 use Rattle.parse_decls.specs.SourceStates.{around_by}

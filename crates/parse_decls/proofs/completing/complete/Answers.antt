@@ -1,4 +1,4 @@
-use Rattle.std.proofs.Common.{◌≡◌, sym, subst, take, IfOk}
+use Rattle.std.proofs.Common.{sym, subst, take}
 use Rattle.syntax_why.specs.Lexeme.{rest}
 use Rattle.parse_terms.proofs.ScanLemmas.{texts_of}
 use Rattle.parse_decls.specs.Parsed.{CompletesSource}

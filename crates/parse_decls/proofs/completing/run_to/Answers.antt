@@ -1,4 +1,4 @@
-use Rattle.std.proofs.Common.{◌≡◌, ◌<◌, length, Some, sym, ap, ◌∙◌, option_map, arith}
+use Rattle.std.proofs.Common.{◌<◌, length, sym, ap, ◌∙◌, option_map, arith}
 use Rattle.syntax_why.specs.Lexeme.{lexeme, rest}
 use Rattle.parse_terms.proofs.ScanLemmas.{token_some}
 use Rattle.parse_decls.specs.SourceStates.{state_of}

@@ -1,4 +1,4 @@
-use Rattle.std.proofs.Common.{◌≡◌, [], ◌∷◌, ◌++◌, replicate, sym, ap, ◌∙◌, subst, append_assoc, OnOk}
+use Rattle.std.proofs.Common.{◌≡◌, [], ◌∷◌, ◌++◌, replicate, ap, ◌∙◌, subst, append_assoc, OnOk}
 use Rattle.tokens_why.specs.declared.token.TokenKind.TheVariants.{Reserved}
 use Rattle.parse_decls.proofs.CloseLemmas.{ends_around}
 use Rattle.parse_decls.proofs.completion.push_around.Goals as goal

@@ -1,9 +1,8 @@
-use Rattle.std.proofs.Common.{◌≡◌, ℕ, ◌<◌, ◌≤◌, List, [], length, Some, refl, sym, ap, ◌∙◌, subst, arith}
+use Rattle.std.proofs.Common.{◌<◌, ◌≤◌, length, ap, ◌∙◌, arith}
 use Rattle.tokens_why.specs.Tokens.{text_of}
 use Rattle.syntax_why.specs.Lexeme.{lexeme, lexeme_by, rest}
 use Rattle.parse_terms.proofs.ScanLemmas.{token_some}
 use Rattle.parse_decls.specs.Depth.{nesting, nested, depth, most_nested}
-use Rattle.parse_decls.specs.Nestings.{nesting_of}
 use Rattle.parse_decls.proofs.ScanLemmas.{token_lexeme, tokens_length}
 use Rattle.parse_decls.proofs.DepthLemmas.{nested_start, nested_more, nested_deep, nested_whole}
 use Rattle.parse_decls.proofs.depth.too_deep.Goals as goal

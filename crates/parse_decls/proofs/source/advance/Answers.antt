@@ -1,4 +1,4 @@
-use Rattle.std.proofs.Common.{◌≡◌, sym, ap, ◌∙◌, subst, option_map, IfOk}
+use Rattle.std.proofs.Common.{◌≡◌, ap, ◌∙◌, subst, option_map, IfOk}
 use Rattle.syntax_why.specs.Lexeme.{lexeme}
 use Rattle.grammar_decls.specs.SourceMachine.{source_step}
 use Rattle.parse_decls.specs.SourceStates.{state_of}

@@ -1,4 +1,4 @@
-use Rattle.std.proofs.Common.{◌≡◌, Bool, true, false, ◌&&◌, sym, ap, ◌∙◌}
+use Rattle.std.proofs.Common.{◌≡◌, true, false, ◌&&◌, sym, ap, ◌∙◌}
 use Rattle.tokens_why.specs.Tokens.{text_of}
 use Rattle.syntax_why.specs.Lexeme.{lexeme}
 use Rattle.grammar_decls.specs.Scoping.{can_scope}

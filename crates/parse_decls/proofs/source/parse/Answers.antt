@@ -1,4 +1,4 @@
-use Rattle.std.proofs.Common.{◌≡◌, subst}
+use Rattle.std.proofs.Common.{subst}
 use Rattle.std.specs.Prelude.{MatchOption}
 use Rattle.syntax_why.specs.Lexeme.{rest}
 use Rattle.parse_decls.specs.Depth.{IsTooDeep, IsShallow}

@@ -1,4 +1,4 @@
-use Rattle.std.proofs.Common.{◌≡◌, length, sym, ap, ◌∙◌, subst, arith}
+use Rattle.std.proofs.Common.{length, sym, ap, subst, arith}
 use Rattle.syntax_why.specs.Lexeme.{rest}
 use Rattle.syntax_why.specs.Declarations.{file_of}
 use Rattle.parse_decls.specs.SourceStates.{state_of}
@@ -17,7 +17,7 @@ pub returns-in-Some-clause-file : goal.returns-in-Some-clause-file
 returns-in-Some-clause-file c =
     let xs = rest c.args.text.now c.args.tokens.now 0 in
     subst (IsOnlyFile xs) (sym c.placed.ensures.tree)
-        (only_file xs (state_of c.args.state) (file_of c.in-Some.file) c.requires.all (sym c.in-Some.ensures))
+    (only_file xs (state_of c.args.state) (file_of c.in-Some.file) c.requires.all (sym c.in-Some.ensures))
 
 pub returns-in-None-clause-refused : goal.returns-in-None-clause-refused
 returns-in-None-clause-refused c =

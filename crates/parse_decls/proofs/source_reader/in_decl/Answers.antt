@@ -1,4 +1,4 @@
-use Rattle.std.proofs.Common.{◌≡◌, Some, None, [], ◌∷◌, ◌++◌, true, false, map, option_map, IfOk, refl, sym, ap, ◌∙◌, subst}
+use Rattle.std.proofs.Common.{◌≡◌, option_map, IfOk, sym, ◌∙◌, subst}
 use Rattle.parse_forms.specs.Items.{lexeme_of}
 use Rattle.read_decls.specs.DeclStates as decls
 use Rattle.parse_decls.specs.SourceStates.{around_of, state_of}

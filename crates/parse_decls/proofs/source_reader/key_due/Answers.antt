@@ -1,4 +1,4 @@
-use Rattle.std.proofs.Common.{◌≡◌, sym, ◌∙◌}
+use Rattle.std.proofs.Common.{sym, ◌∙◌}
 use Rattle.parse_decls.specs.SourceStates.{around_of}
 use Rattle.parse_decls.proofs.SourceLemmas.{key_other}
 use Rattle.parse_decls.proofs.source_reader.key_due.Goals as goal
