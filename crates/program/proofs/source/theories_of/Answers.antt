@@ -3,7 +3,7 @@ use Rattle.syntax_why.specs.Declarations.{file_of}
 use Rattle.syntax_why.specs.WriteDeclarations.{write_file}
 use Rattle.propositional.specs.declared.fault.DeclFault.TheVariants.{NotYet}
 use Rattle.propositional.specs.Theories.{theories_of}
-use Rattle.program.proofs.Faults.{told_fault}
+use Rattle.program.proofs.SourceFaults.{told_fault}
 use Rattle.program.proofs.FirstTokens.{not_yet_within}
 use Rattle.program.proofs.source.theories_of.Goals as goal
 

@@ -1,7 +1,7 @@
 use Rattle.std.proofs.Common.{Vec}
 use Rattle.std.specs.declared.alloc.Global.{Global}
 use Rattle.tokens_why.specs.declared.token.Token.{Token}
-use Rattle.program.proofs.Faults.{lexical_at, big_literal_at}
+use Rattle.program.proofs.SourceFaults.{lexical_at, big_literal_at}
 use Rattle.program.proofs.source.tokens_of.Goals as goal
 
 pub returns-in-Err-Lexical : goal.returns-in-Err-Lexical
