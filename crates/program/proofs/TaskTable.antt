@@ -1,27 +1,24 @@
 -- The table of a task of the fragment: its names are words and differ, and propositional formulas of the task can be
 -- written with it.
-use Rattle.std.proofs.Common.{◌≡◌, ◌≢◌, ℕ, ◌+◌, ◌<◌, ◌≤◌, ◌^◌, ◌&&◌, Bool, true, false, suc, zero, List, [], ◌∷◌, ◌++◌, length, get_or, slice_get, All, AllPairs, Contains, IsTrue, IsSomeAnd, Option, Some, refl, sym, ap, subst, ◌∙◌, arith, codes}
+use Rattle.std.proofs.Common.{◌≡◌, ◌≢◌, ℕ, ◌+◌, ◌<◌, ◌≤◌, ◌^◌, ◌&&◌, Bool, true, false, suc, zero, List, [], ◌∷◌, ◌++◌, length, get_or, AllPairs, Contains, IsTrue, IsSomeAnd, Option, Some, refl, sym, ap, subst, ◌∙◌, arith, codes}
 use Rattle.std.specs.List.{list_all}
 use Rattle.std.proofs.lemmas.Bool.Decides.{nat_tests}
-use Rattle.std.proofs.lemmas.List.Elements.{All-cons, All-nil, All-append, All-from_get_or}
+use Rattle.std.proofs.lemmas.List.Elements.{All-cons, All-nil}
 use Rattle.trees.specs.declared.Op.TheVariants.{And, Imp}
 use Rattle.trees.specs.Tree.{Tree, One, Two, HNot, HPred, HJoin}
 use Rattle.tasks.specs.declared.signature.SymbolKind.TheVariants.{Kind, Predicate}
-use Rattle.tasks.specs.Task.{TaskTree, SymbolTree, int_symbol, Proposition, made, props}
+use Rattle.tasks.specs.Task.{TaskTree, SymbolTree, int_symbol, made}
 use Rattle.tasks.specs.Typing.{TypedUnder, Declares, IsUse, entry}
-use Rattle.tasks.specs.Valid.{IsValid, IsGroundFormula}
-use Rattle.kernel.specs.Trees.{RuleTree, RCut, RFact, StepTree, no_step}
-use Rattle.kernel.specs.Rows.{Row, IsRight, AreRight, step_or}
+use Rattle.tasks.specs.Valid.{IsValid}
 use Rattle.problems.specs.declared.names.NameEntry.{NameEntry}
 use Rattle.problems.specs.Clean.{name_at_place}
 use Rattle.problems.specs.Names.{int_entry, rigid_from, entries_from, task_names}
 use Rattle.program.specs.Propositional.{IsPropositional}
 use Rattle.tokens_why.specs.Bytes.{is_word_byte}
-use Rattle.steps_text.specs.Writing.{IsWord, AreNames, is_named, is_writable, IsWritable, rule_formulas, HasNoTypes, IsWritableStep, AreWritable}
+use Rattle.steps_text.specs.Writing.{IsWord, AreNames, is_named, is_writable, IsWritable}
 use Rattle.steps_text.proofs.Lines.{word_past_space}
 use Rattle.steps_text.proofs.PlainTables.{places_same, entry_name, length_entries, int_name, NamedByWords, HasWord, entries_words, entry_named}
 use Rattle.program.specs.Fragment.{IsInFragment}
-use Rattle.program.proofs.PlainSteps.{got_all, some_with}
 
 -- `int`, and then so many symbols
 abbrev table : TaskTree → List ℕ → List NameEntry

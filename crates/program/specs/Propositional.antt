@@ -1,6 +1,6 @@
 -- Propositional formulas, tasks and steps: what the sources that are read so far say, and what the files of steps can
 -- write.
-use Rattle.std.specs.Prelude.{◌≡◌, List, All}
+use Rattle.std.specs.Prelude.{◌≡◌, All}
 use Rattle.trees.specs.declared.Op.TheVariants.{And, Imp}
 use Rattle.trees.specs.Tree.{Tree, Leaf, One, Two, HEnd, HPred, HNot, HJoin}
 use Rattle.tasks.specs.Task.{TaskTree, Proposition, props}
