@@ -19,7 +19,7 @@ around_of a = around_by a.scopes a.theory
 
 abbrev pub state_of : SourceState → g.SourceState
 state_of (s.Outside ts) = g.outside (map theory_of ts)
-state_of (s.TheoryOpened ts at is_module) = g.theory_opened (map theory_of ts) is_module
+state_of (s.TheoryOpened ts is_module) = g.theory_opened (map theory_of ts) is_module
 state_of (s.Ready a) = g.ready (around_of a)
-state_of (s.ScopeOpened a at) = g.scope_opened (around_of a)
-state_of (s.Declaring at d a) = g.declaring (decls.state_of d) (around_of a)
+state_of (s.ScopeOpened a) = g.scope_opened (around_of a)
+state_of (s.Declaring d a) = g.declaring (decls.state_of d) (around_of a)

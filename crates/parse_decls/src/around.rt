@@ -6,7 +6,7 @@ ghost use Rattle.parse_decls.specs.SourceStates.{around_by, around_of, state_of}
 
 use crate::source_state::{Around, OpenScope, SourceState, TheoryHead};
 use outside::Seq;
-use parse_forms::{Stack, here};
+use parse_forms::{NOWHERE, Stack};
 use std::alloc::{AllocError, Global};
 use syntax_why::{DeclTree, Name, TheoryTree};
 
@@ -16,7 +16,6 @@ fn with_theory_decl(theory: TheoryHead, decl: DeclTree) -> Result<TheoryHead, Al
 {
     let TheoryHead {
         before,
-        first,
         is_module,
         name,
         decls,
@@ -25,7 +24,6 @@ fn with_theory_decl(theory: TheoryHead, decl: DeclTree) -> Result<TheoryHead, Al
     decls.push(decl)?;
     Ok(TheoryHead {
         before,
-        first,
         is_module,
         name,
         decls,
@@ -36,10 +34,10 @@ fn with_scope_decl(scope: OpenScope, decl: DeclTree) -> Result<OpenScope, AllocE
     ensures name { IfOk result (λ s. s.name.text ≡ scope.name.text) }
     ensures decls { IfOk result (λ s. map decl_of s.decls ≡ map decl_of scope.decls ++ decl_of decl ∷ []) }
 {
-    let OpenScope { first, name, decls } = scope;
+    let OpenScope { name, decls } = scope;
     let mut decls = decls;
     decls.push(decl)?;
-    Ok(OpenScope { first, name, decls })
+    Ok(OpenScope { name, decls })
 }
 
 /// With one more declaration in what is innermost.
@@ -69,13 +67,12 @@ fn ended_theory(theory: TheoryHead) -> Result<SourceState, AllocError>
 {
     let TheoryHead {
         before,
-        first,
         is_module,
         name,
         decls,
     } = theory;
     let whole = TheoryTree {
-        at: here(first),
+        at: NOWHERE,
         module: is_module,
         name,
         decls,
@@ -93,8 +90,8 @@ pub fn ended(alloc: Global, around: Around) -> Result<SourceState, AllocError>
     match scopes.pop() {
         None => ended_theory(theory),
         Some((scope, scopes)) => {
-            let OpenScope { first, name, decls } = scope;
-            let decl = DeclTree::scope(here(first), name, decls);
+            let OpenScope { name, decls } = scope;
+            let decl = DeclTree::scope(NOWHERE, name, decls);
             let around = with_decl(alloc, Around { theory, scopes }, decl)?;
             Ok(SourceState::Ready(around))
         }
@@ -102,19 +99,12 @@ pub fn ended(alloc: Global, around: Around) -> Result<SourceState, AllocError>
 }
 
 /// A theory whose name was read.
-pub fn theory_begun(
-    alloc: Global,
-    before: Seq<TheoryTree>,
-    first: usize,
-    is_module: bool,
-    name: Name,
-) -> Around
+pub fn theory_begun(alloc: Global, before: Seq<TheoryTree>, is_module: bool, name: Name) -> Around
     ensures { around_of result ≡ machine.in_theory (map theory_of before) is_module name.text [] }
 {
     Around {
         theory: TheoryHead {
             before,
-            first,
             is_module,
             name,
             decls: Seq::new(alloc),
@@ -124,17 +114,11 @@ pub fn theory_begun(
 }
 
 /// A scope whose name was read.
-pub fn scope_begun(
-    alloc: Global,
-    around: Around,
-    first: usize,
-    name: Name,
-) -> Result<Around, AllocError>
+pub fn scope_begun(alloc: Global, around: Around, name: Name) -> Result<Around, AllocError>
     ensures { IfOk result (λ a. around_of a ≡ machine.in_scope name.text [] (around_of around)) }
 {
     let Around { theory, scopes } = around;
     let scope = OpenScope {
-        first,
         name,
         decls: Seq::new(alloc),
     };

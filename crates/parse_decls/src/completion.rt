@@ -50,19 +50,17 @@ fn push_source(
 {
     match state {
         SourceState::Outside(_before) => Ok(()),
-        SourceState::TheoryOpened(_before, _first, _is_module) => {
+        SourceState::TheoryOpened(_before, _is_module) => {
             push(TokenKind::Uident, out)?;
             push(TokenKind::Reserved(15), out)
         }
         SourceState::Ready(around) => push_around(&around, out),
-        SourceState::ScopeOpened(around, _first) => {
+        SourceState::ScopeOpened(around) => {
             push(TokenKind::Uident, out)?;
             push(TokenKind::Reserved(15), out)?;
             push_around(&around, out)
         }
-        SourceState::Declaring(_first, state, around) => {
-            push_declaring(alloc, state, &around, out)
-        }
+        SourceState::Declaring(state, around) => push_declaring(alloc, state, &around, out),
     }
 }
 

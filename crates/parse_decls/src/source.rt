@@ -50,7 +50,7 @@ pub fn advance(
 {
     let token = token_at(tokens, at);
     match item_of(alloc, token, text) {
-        Ok(item) => step(alloc, at, item, state),
+        Ok(item) => step(alloc, item, state),
         Err(error) => {
             discard(state);
             Err(error)

@@ -16,13 +16,13 @@ ghost use Rattle.grammar_decls.specs.Scoping.{can_scope as may_scope};
 use crate::around::{ended, scope_begun, theory_begun, with_decl};
 use crate::source_state::{Around, SourceState};
 use outside::Seq;
-use parse_forms::{Item, UpperName};
+use parse_forms::{Item, UpperName, unplaced_name};
 use read_decls::{
     DeclState, Keyword, declaration_due, discard as decl_discard, ends as decl_ends,
     finish as decl_finish, keyword_of, step as decl_step,
 };
 use std::alloc::{AllocError, Global};
-use syntax_why::{DeclTree, File, Mark, Name, TheoryTree};
+use syntax_why::{DeclTree, File, Mark, TheoryTree};
 
 /// Where nothing is read yet.
 pub fn start(alloc: Global) -> SourceState
@@ -31,31 +31,29 @@ pub fn start(alloc: Global) -> SourceState
     SourceState::Outside(Seq::new(alloc))
 }
 
-fn outside(at: usize, item: Item, before: Seq<TheoryTree>) -> Option<SourceState>
+fn outside(item: Item, before: Seq<TheoryTree>) -> Option<SourceState>
     ensures { option_map state_of result ≡ at_outside (map theory_of before) (lexeme_of item) }
 {
     match item {
-        Item::Word(word) => outside_key(at, keyword_of(word), before),
+        Item::Word(word) => outside_key(keyword_of(word), before),
         _ => None,
     }
 }
 
-fn outside_key(at: usize, key: Keyword, before: Seq<TheoryTree>) -> Option<SourceState>
+fn outside_key(key: Keyword, before: Seq<TheoryTree>) -> Option<SourceState>
     ensures { option_map state_of result ≡ at_outside_key (map theory_of before) (keyword_by key) }
 {
     match key {
-        Keyword::Theory => Some(SourceState::TheoryOpened(before, at, false)),
-        Keyword::Module => Some(SourceState::TheoryOpened(before, at, true)),
+        Keyword::Theory => Some(SourceState::TheoryOpened(before, false)),
+        Keyword::Module => Some(SourceState::TheoryOpened(before, true)),
         _ => None,
     }
 }
 
 fn theory_opened(
     alloc: Global,
-    at: usize,
     item: Item,
     before: Seq<TheoryTree>,
-    first: usize,
     is_module: bool,
 ) -> Option<SourceState>
     ensures { option_map state_of result ≡ at_theory_opened (map theory_of before) is_module (lexeme_of item) }
@@ -63,60 +61,53 @@ fn theory_opened(
     match item {
         Item::Upper(name) => {
             let UpperName { text } = name;
-            let name = Name { at, text };
-            Some(SourceState::Ready(theory_begun(alloc, before, first, is_module, name)))
+            let name = unplaced_name(text);
+            Some(SourceState::Ready(theory_begun(alloc, before, is_module, name)))
         }
         _ => None,
     }
 }
 
-fn declaration_begun(alloc: Global, at: usize, key: Keyword, around: Around) -> Option<SourceState>
+fn declaration_begun(alloc: Global, key: Keyword, around: Around) -> Option<SourceState>
     ensures { option_map state_of result ≡ option_map (λ s. declaring s (around_of around)) (at_decl_key (keyword_by key)) }
 {
     match declaration_due(alloc, key) {
         None => None,
-        Some(state) => Some(SourceState::Declaring(at, state, around)),
+        Some(state) => Some(SourceState::Declaring(state, around)),
     }
 }
 
-fn key_due(alloc: Global, at: usize, key: Keyword, around: Around) -> Option<SourceState>
+fn key_due(alloc: Global, key: Keyword, around: Around) -> Option<SourceState>
     ensures { option_map state_of result ≡ at_key (around_of around) (keyword_by key) }
 {
     match key {
-        Keyword::Scope => Some(SourceState::ScopeOpened(around, at)),
-        _ => declaration_begun(alloc, at, key, around),
+        Keyword::Scope => Some(SourceState::ScopeOpened(around)),
+        _ => declaration_begun(alloc, key, around),
     }
 }
 
 /// A token where a declaration is due.
-fn ready(
-    alloc: Global,
-    at: usize,
-    item: Item,
-    around: Around,
-) -> Result<Option<SourceState>, AllocError>
+fn ready(alloc: Global, item: Item, around: Around) -> Result<Option<SourceState>, AllocError>
     ensures { IfOk result (λ r. option_map state_of r ≡ at_ready (around_of around) (lexeme_of item)) }
 {
     match item {
         Item::Mark(Mark::End) => Ok(Some(ended(alloc, around)?)),
-        Item::Word(word) => Ok(key_due(alloc, at, keyword_of(word), around)),
+        Item::Word(word) => Ok(key_due(alloc, keyword_of(word), around)),
         _ => Ok(None),
     }
 }
 
 fn scope_opened(
     alloc: Global,
-    at: usize,
     item: Item,
     around: Around,
-    first: usize,
 ) -> Result<Option<SourceState>, AllocError>
     ensures { IfOk result (λ r. option_map state_of r ≡ at_scope_opened (around_of around) (lexeme_of item)) }
 {
     match item {
         Item::Upper(name) => {
             let UpperName { text } = name;
-            let around = scope_begun(alloc, around, first, Name { at, text })?;
+            let around = scope_begun(alloc, around, unplaced_name(text))?;
             Ok(Some(SourceState::Ready(around)))
         }
         _ => Ok(None),
@@ -126,7 +117,6 @@ fn scope_opened(
 /// A token behind a declaration.
 fn behind_decl(
     alloc: Global,
-    at: usize,
     item: Item,
     decl: DeclTree,
     around: Around,
@@ -134,42 +124,38 @@ fn behind_decl(
     ensures { IfOk result (λ r. option_map state_of r ≡ at_ready (machine.with_decl (around_of around) (decl_of decl)) (lexeme_of item)) }
 {
     let around = with_decl(alloc, around, decl)?;
-    ready(alloc, at, item, around)
+    ready(alloc, item, around)
 }
 
 fn whole_decl(
     alloc: Global,
-    at: usize,
     item: Item,
-    first: usize,
     state: DeclState,
     around: Around,
 ) -> Result<Option<SourceState>, AllocError>
     ensures { IfOk result (λ r. option_map state_of r ≡ onward (λ d. at_ready (machine.with_decl (around_of around) d) (lexeme_of item)) (machine_finish (decl_states.state_of state))) }
 {
-    match decl_finish(alloc, first, state)? {
+    match decl_finish(alloc, state)? {
         None => Ok(None),
-        Some(decl) => behind_decl(alloc, at, item, decl, around),
+        Some(decl) => behind_decl(alloc, item, decl, around),
     }
 }
 
 fn further_decl(
     alloc: Global,
-    at: usize,
     item: Item,
-    first: usize,
     state: DeclState,
     around: Around,
 ) -> Result<Option<SourceState>, AllocError>
     ensures { IfOk result (λ r. option_map state_of r ≡ option_map (λ s. declaring s (around_of around)) (machine_step (decl_states.state_of state) (lexeme_of item))) }
 {
-    match decl_step(alloc, at, item, state) {
+    match decl_step(alloc, item, state) {
         Err(error) => {
             drop(around);
             Err(error)
         }
         Ok(None) => Ok(None),
-        Ok(Some(next)) => Ok(Some(SourceState::Declaring(first, next, around))),
+        Ok(Some(next)) => Ok(Some(SourceState::Declaring(next, around))),
     }
 }
 
@@ -186,42 +172,37 @@ fn follows_decl(item: &Item) -> bool
 /// A token in a declaration or behind it.
 fn in_decl(
     alloc: Global,
-    at: usize,
     item: Item,
-    first: usize,
     state: DeclState,
     around: Around,
 ) -> Result<Option<SourceState>, AllocError>
     ensures { IfOk result (λ r. option_map state_of r ≡ at_declaring (decl_states.state_of state) (around_of around) (lexeme_of item)) }
 {
     if !follows_decl(&item) {
-        further_decl(alloc, at, item, first, state, around)
+        further_decl(alloc, item, state, around)
     } else if decl_ends(&state) {
-        whole_decl(alloc, at, item, first, state, around)
+        whole_decl(alloc, item, state, around)
     } else {
-        further_decl(alloc, at, item, first, state, around)
+        further_decl(alloc, item, state, around)
     }
 }
 
 /// The source behind a token, where the token can stand there.
 pub fn step(
     alloc: Global,
-    at: usize,
     item: Item,
     state: SourceState,
 ) -> Result<Option<SourceState>, AllocError>
     ensures { IfOk result (λ r. option_map state_of r ≡ source_step (state_of state) (lexeme_of item)) }
 {
     match state {
-        SourceState::Outside(before) => Ok(outside(at, item, before)),
-        SourceState::TheoryOpened(before, first, is_module) => {
-            Ok(theory_opened(alloc, at, item, before, first, is_module))
+        SourceState::Outside(before) => Ok(outside(item, before)),
+        SourceState::TheoryOpened(before, is_module) => {
+            Ok(theory_opened(alloc, item, before, is_module))
         }
-        SourceState::Ready(around) => ready(alloc, at, item, around),
-        SourceState::ScopeOpened(around, first) => { scope_opened(alloc, at, item, around, first) }
-        SourceState::Declaring(first, state, around) => {
-            in_decl(alloc, at, item, first, state, around)
-        }
+        SourceState::Ready(around) => ready(alloc, item, around),
+        SourceState::ScopeOpened(around) => scope_opened(alloc, item, around),
+        SourceState::Declaring(state, around) => in_decl(alloc, item, state, around),
     }
 }
 
@@ -231,10 +212,10 @@ pub fn can_scope(state: &SourceState) -> bool
 {
     match state {
         SourceState::Ready(_) => true,
-        SourceState::Declaring(_, state, _) => decl_ends(state),
+        SourceState::Declaring(state, _) => decl_ends(state),
         SourceState::Outside(_) => false,
-        SourceState::TheoryOpened(_, _, _) => false,
-        SourceState::ScopeOpened(_, _) => false,
+        SourceState::TheoryOpened(_, _) => false,
+        SourceState::ScopeOpened(_) => false,
     }
 }
 
@@ -244,10 +225,10 @@ pub fn finish(state: SourceState) -> Option<File>
 {
     match state {
         SourceState::Outside(theories) => Some(File { theories }),
-        SourceState::TheoryOpened(_before, _first, _is_module) => None,
+        SourceState::TheoryOpened(_before, _is_module) => None,
         SourceState::Ready(_around) => None,
-        SourceState::ScopeOpened(_around, _first) => None,
-        SourceState::Declaring(_first, state, around) => {
+        SourceState::ScopeOpened(_around) => None,
+        SourceState::Declaring(state, around) => {
             decl_discard(state);
             drop(around);
             None
@@ -259,10 +240,10 @@ pub fn finish(state: SourceState) -> Option<File>
 pub fn discard(state: SourceState) {
     match state {
         SourceState::Outside(before) => drop(before),
-        SourceState::TheoryOpened(before, _first, _is_module) => drop(before),
+        SourceState::TheoryOpened(before, _is_module) => drop(before),
         SourceState::Ready(around) => drop(around),
-        SourceState::ScopeOpened(around, _first) => drop(around),
-        SourceState::Declaring(_first, state, around) => {
+        SourceState::ScopeOpened(around) => drop(around),
+        SourceState::Declaring(state, around) => {
             decl_discard(state);
             drop(around);
         }

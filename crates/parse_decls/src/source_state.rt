@@ -4,20 +4,18 @@ use parse_forms::Stack;
 use read_decls::DeclState;
 use syntax_why::{DeclTree, Name, TheoryTree};
 
-/// An open theory, or module, behind others, with its first token and the declarations so far.
+/// An open theory, or module, behind others, with the declarations so far.
 #[derive(Drop)]
 pub struct TheoryHead {
     pub before: Seq<TheoryTree>,
-    pub first: usize,
     pub is_module: bool,
     pub name: Name,
     pub decls: Seq<DeclTree>,
 }
 
-/// An open scope, with its first token and the declarations so far.
+/// An open scope, with the declarations so far.
 #[derive(Drop)]
 pub struct OpenScope {
-    pub first: usize,
     pub name: Name,
     pub decls: Seq<DeclTree>,
 }
@@ -29,13 +27,13 @@ pub struct Around {
     pub scopes: Stack<OpenScope>,
 }
 
-/// What was read last: whole theories, `theory` or `module` at a token, what stands before a declaration, `scope` at a token,
-/// or a part of a declaration that begins at a token.
+/// What was read last: whole theories, `theory` or `module`, what stands before a declaration, `scope`, or a part of a
+/// declaration.
 #[derive(Drop)]
 pub enum SourceState {
     Outside(Seq<TheoryTree>),
-    TheoryOpened(Seq<TheoryTree>, usize, bool),
+    TheoryOpened(Seq<TheoryTree>, bool),
     Ready(Around),
-    ScopeOpened(Around, usize),
-    Declaring(usize, DeclState, Around),
+    ScopeOpened(Around),
+    Declaring(DeclState, Around),
 }

@@ -19,11 +19,11 @@ use Rattle.parse_forms.specs.PatternStates as p
 types_by : (s : TypeState) (k : List OpenTypes) (x : Lexeme) → (k ≡ [] → ⊥) → form_over types (t.state_by s (t.stack_of k)) x ≡ false
 types_by s [] x h = absurd (h refl)
 types_by ts.Due (o ∷ k) x h = refl
-types_by (ts.Opened first c) (o ∷ k) x h = refl
+types_by (ts.Opened c) (o ∷ k) x h = refl
 types_by (ts.Taking q as_) (o ∷ k) x h = refl
 types_by (ts.Done d) (o ∷ k) x h = refl
-types_by (ts.Upper first qs n c) (o ∷ k) x h = refl
-types_by (ts.Dotted first qs c) (o ∷ k) x h = refl
+types_by (ts.Upper qs n c) (o ∷ k) x h = refl
+types_by (ts.Dotted qs c) (o ∷ k) x h = refl
 
 pub types_open : (r : TypeReader) (x : Lexeme) → (r.frames ≡ [] → ⊥) → form_over types (t.state_of r) x ≡ false
 types_open r x h = types_by r.state r.frames x h
@@ -31,11 +31,11 @@ types_open r x h = types_by r.state r.frames x h
 patterns_by : (s : PatternState) (k : List OpenPatterns) (x : Lexeme) → (k ≡ [] → ⊥) → form_over patterns (p.state_by s (p.stack_of k)) x ≡ false
 patterns_by s [] x h = absurd (h refl)
 patterns_by ps.Due (o ∷ k) x h = refl
-patterns_by (ps.Opened first c) (o ∷ k) x h = refl
+patterns_by (ps.Opened c) (o ∷ k) x h = refl
 patterns_by (ps.Taking q as_) (o ∷ k) x h = refl
 patterns_by (ps.Done d) (o ∷ k) x h = refl
-patterns_by (ps.Upper first qs n c) (o ∷ k) x h = refl
-patterns_by (ps.Dotted first qs c) (o ∷ k) x h = refl
+patterns_by (ps.Upper qs n c) (o ∷ k) x h = refl
+patterns_by (ps.Dotted qs c) (o ∷ k) x h = refl
 patterns_by (ps.As d) (o ∷ k) x h = refl
 patterns_by (ps.Named d) (o ∷ k) x h = refl
 
@@ -45,12 +45,12 @@ patterns_open r x h = patterns_by r.state r.frames x h
 patterns_none : (s : PatternState) (k : List OpenPatterns) → (k ≡ [] → ⊥) → form_finish patterns (p.state_by s (p.stack_of k)) ≡ None
 patterns_none s [] h = absurd (h refl)
 patterns_none ps.Due (o ∷ k) h = refl
-patterns_none (ps.Opened first c) (o ∷ k) h = refl
+patterns_none (ps.Opened c) (o ∷ k) h = refl
 patterns_none (ps.Taking q as_) (o ∷ k) h = refl
 patterns_none (ps.Done d) (o ∷ k) h = refl
-patterns_none (ps.Upper first qs n pc.Alone) (o ∷ k) h = refl
-patterns_none (ps.Upper first qs n (pc.Argument q as_)) (o ∷ k) h = refl
-patterns_none (ps.Dotted first qs c) (o ∷ k) h = refl
+patterns_none (ps.Upper qs n pc.Alone) (o ∷ k) h = refl
+patterns_none (ps.Upper qs n (pc.Argument q as_)) (o ∷ k) h = refl
+patterns_none (ps.Dotted qs c) (o ∷ k) h = refl
 patterns_none (ps.As d) (o ∷ k) h = refl
 patterns_none (ps.Named d) (o ∷ k) h = refl
 

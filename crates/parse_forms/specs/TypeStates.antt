@@ -22,11 +22,11 @@ stack_of = map frame_of
 
 abbrev pub state_by : TypeState → FormFrames → FormState
 state_by s.Due k = f.form_due k
-state_by (s.Opened first o) k = f.form_opened (context_of o) k
+state_by (s.Opened o) k = f.form_opened (context_of o) k
 state_by (s.Taking q ts) k = f.form_taking (called_of q) (map type_of ts) k
 state_by (s.Done t) k = f.form_done (type_of t) k
-state_by (s.Upper first qs n o) k = f.form_upper qs n.text (context_of o) k
-state_by (s.Dotted first qs o) k = f.form_dotted qs (context_of o) k
+state_by (s.Upper qs n o) k = f.form_upper qs n.text (context_of o) k
+state_by (s.Dotted qs o) k = f.form_dotted qs (context_of o) k
 
 abbrev pub state_of : TypeReader → FormState
 state_of it = state_by it.state (stack_of it.frames)

@@ -9,12 +9,12 @@ ghost use Rattle.parse_forms.specs.FormOver.{begins_part, is_as, is_dot, form_ov
 ghost use Rattle.parse_forms.specs.PatternStates.{context_of, stack_of, state_of};
 
 use crate::item::{Item, LowerName, UpperName};
-use crate::names::upper;
+use crate::names::{unplaced_name, upper};
+use crate::place::NOWHERE;
 use crate::stack::Stack;
-use crate::type_reader::here;
 use outside::{Seq, Text};
 use std::alloc::{AllocError, Global};
-use syntax_why::{At, Mark, Name, Pat, QName};
+use syntax_why::{Mark, Pat, QName};
 
 /// What a leaf, a name or a parenthesis is read for: by itself, or as the next part of a constructor.
 #[derive(Drop)]
@@ -23,10 +23,9 @@ pub enum PatternContext {
     Argument(QName, Seq<Pat>),
 }
 
-/// Parentheses that are open, with their token and the parts so far.
+/// Parentheses that are open, with the parts so far.
 #[derive(Drop)]
 pub struct OpenPatterns {
-    pub first: usize,
     pub parts: Seq<Pat>,
     pub context: PatternContext,
 }
@@ -35,11 +34,11 @@ pub struct OpenPatterns {
 #[derive(Drop)]
 pub enum PatternState {
     Due,
-    Opened(usize, PatternContext),
+    Opened(PatternContext),
     Taking(QName, Seq<Pat>),
     Done(Pat),
-    Upper(usize, Seq<Text>, UpperName, PatternContext),
-    Dotted(usize, Seq<Text>, PatternContext),
+    Upper(Seq<Text>, UpperName, PatternContext),
+    Dotted(Seq<Text>, PatternContext),
     As(Pat),
     Named(Pat),
 }
@@ -77,7 +76,6 @@ fn closed(
 /// A token with which a leaf, a name or a parenthesis begins.
 fn atom(
     alloc: Global,
-    at: usize,
     item: Item,
     context: PatternContext,
     frames: Stack<OpenPatterns>,
@@ -87,18 +85,18 @@ fn atom(
     match item {
         Item::Lower(name) => {
             let LowerName { text } = name;
-            let leaf = Pat::variable(here(at), Name { at, text });
+            let leaf = Pat::variable(NOWHERE, unplaced_name(text));
             Ok(Some(closed(leaf, context, frames)?))
         }
         Item::Upper(name) => Ok(Some(PatternReader {
-            state: PatternState::Upper(at, Seq::new(alloc), name, context),
+            state: PatternState::Upper(Seq::new(alloc), name, context),
             frames,
         })),
         Item::Mark(Mark::LParen) => Ok(Some(PatternReader {
-            state: PatternState::Opened(at, context),
+            state: PatternState::Opened(context),
             frames,
         })),
-        Item::Mark(Mark::Wild) => Ok(Some(closed(Pat::wildcard(here(at)), context, frames)?)),
+        Item::Mark(Mark::Wild) => Ok(Some(closed(Pat::wildcard(NOWHERE), context, frames)?)),
         _ => Ok(None),
     }
 }
@@ -122,20 +120,12 @@ fn within(
 ) -> Result<Option<PatternReader>, AllocError>
     ensures { IfOk result (λ r. option_map state_of r ≡ at_within (map pattern_of inner.parts) (context_of inner.context) (pattern_of t) (stack_of frames) (lexeme_of item.now)) }
 {
-    let OpenPatterns {
-        first,
-        parts,
-        context,
-    } = inner;
+    let OpenPatterns { parts, context } = inner;
     let mut parts = parts;
     match item {
         Item::Mark(Mark::Comma) => {
             parts.push(t)?;
-            let open = OpenPatterns {
-                first,
-                parts,
-                context,
-            };
+            let open = OpenPatterns { parts, context };
             Ok(Some(PatternReader {
                 state: PatternState::Due,
                 frames: frames.push(open)?,
@@ -143,7 +133,7 @@ fn within(
         }
         Item::Mark(Mark::RParen) => {
             parts.push(t)?;
-            Ok(Some(closed(Pat::group(here(first), parts), context, frames)?))
+            Ok(Some(closed(Pat::group(NOWHERE, parts), context, frames)?))
         }
         _ => Ok(None),
     }
@@ -181,7 +171,6 @@ fn begins_argument(item: &Item) -> bool
 /// The token behind a constructor and its parts so far.
 fn take(
     alloc: Global,
-    at: usize,
     item: Item,
     name: QName,
     arguments: Seq<Pat>,
@@ -191,43 +180,36 @@ fn take(
 {
     if begins_argument(&item) {
         let context = PatternContext::Argument(name, arguments);
-        return atom(alloc, at, item, context, frames);
+        return atom(alloc, item, context, frames);
     }
-    ends(
-        Pat::constructor(here(name.at), name, arguments),
-        &item,
-        frames,
-    )
+    ends(Pat::constructor(NOWHERE, name, arguments), &item, frames)
 }
 
 /// The token behind an opening parenthesis.
 fn opened(
     alloc: Global,
-    at: usize,
     item: Item,
-    first: usize,
     context: PatternContext,
     frames: Stack<OpenPatterns>,
 ) -> Result<Option<PatternReader>, AllocError>
     ensures { IfOk result (λ r. option_map state_of r ≡ form_at_opened patterns (context_of context) (stack_of frames) (lexeme_of item)) }
 {
     if let Item::Mark(Mark::RParen) = &item {
-        let group = Pat::group(here(first), Seq::new(alloc));
+        let group = Pat::group(NOWHERE, Seq::new(alloc));
         return Ok(Some(closed(group, context, frames)?));
     }
     let open = OpenPatterns {
-        first,
         parts: Seq::new(alloc),
         context,
     };
-    atom(alloc, at, item, PatternContext::Alone, frames.push(open)?)
+    atom(alloc, item, PatternContext::Alone, frames.push(open)?)
 }
 
 /// The parts of a constructor with one more, a constructor without parts.
 fn with_part(alloc: Global, arguments: Seq<Pat>, name: QName) -> Result<Seq<Pat>, AllocError>
     ensures { IfOk result (λ all. map pattern_of all ≡ map pattern_of arguments ++ composed (called_of name) no_forms ∷ []) }
 {
-    let part = Pat::constructor(here(name.at), name, Seq::new(alloc));
+    let part = Pat::constructor(NOWHERE, name, Seq::new(alloc));
     let mut arguments = arguments;
     arguments.push(part)?;
     Ok(arguments)
@@ -236,7 +218,6 @@ fn with_part(alloc: Global, arguments: Seq<Pat>, name: QName) -> Result<Seq<Pat>
 /// The token behind a constructor that is whole.
 fn beyond(
     alloc: Global,
-    at: usize,
     item: Item,
     name: QName,
     context: PatternContext,
@@ -245,10 +226,10 @@ fn beyond(
     ensures { IfOk result (λ r. option_map state_of r ≡ form_beyond patterns (called_of name) (context_of context) (stack_of frames) (lexeme_of item)) }
 {
     match context {
-        PatternContext::Alone => take(alloc, at, item, name, Seq::new(alloc), frames),
+        PatternContext::Alone => take(alloc, item, name, Seq::new(alloc), frames),
         PatternContext::Argument(head, arguments) => {
             let arguments = with_part(alloc, arguments, name)?;
-            take(alloc, at, item, head, arguments, frames)
+            take(alloc, item, head, arguments, frames)
         }
     }
 }
@@ -256,9 +237,7 @@ fn beyond(
 /// The token behind a name in upper case: a dot, or one behind the constructor.
 fn behind_upper(
     alloc: Global,
-    at: usize,
     item: Item,
-    first: usize,
     scopes: Seq<Text>,
     name: UpperName,
     context: PatternContext,
@@ -271,17 +250,16 @@ fn behind_upper(
         let mut scopes = scopes;
         scopes.push(text)?;
         return Ok(Some(PatternReader {
-            state: PatternState::Dotted(first, scopes, context),
+            state: PatternState::Dotted(scopes, context),
             frames,
         }));
     }
-    beyond(alloc, at, item, upper(first, scopes, name), context, frames)
+    beyond(alloc, item, upper(scopes, name), context, frames)
 }
 
 /// The token behind a dot.
 fn dotted(
     item: Item,
-    first: usize,
     scopes: Seq<Text>,
     context: PatternContext,
     frames: Stack<OpenPatterns>,
@@ -290,7 +268,7 @@ fn dotted(
 {
     match item {
         Item::Upper(name) => Some(PatternReader {
-            state: PatternState::Upper(first, scopes, name, context),
+            state: PatternState::Upper(scopes, name, context),
             frames,
         }),
         _ => None,
@@ -300,7 +278,6 @@ fn dotted(
 /// The token behind `as`.
 fn behind_as(
     alloc: Global,
-    at: usize,
     item: Item,
     t: Pat,
     frames: Stack<OpenPatterns>,
@@ -310,7 +287,7 @@ fn behind_as(
     match item {
         Item::Lower(name) => {
             let LowerName { text } = name;
-            let alias = Pat::alias(alloc, here(t.at.first), t, Name { at, text })?;
+            let alias = Pat::alias(alloc, NOWHERE, t, unplaced_name(text))?;
             Ok(Some(PatternReader {
                 state: PatternState::Named(alias),
                 frames,
@@ -325,10 +302,10 @@ fn finish_upper(alloc: Global, name: QName, context: PatternContext) -> Result<P
     ensures { IfOk result (λ p. Some (pattern_of p) ≡ form_finish_upper patterns (called_of name) (context_of context) []) }
 {
     match context {
-        PatternContext::Alone => Ok(Pat::constructor(here(name.at), name, Seq::new(alloc))),
+        PatternContext::Alone => Ok(Pat::constructor(NOWHERE, name, Seq::new(alloc))),
         PatternContext::Argument(head, arguments) => {
             let arguments = with_part(alloc, arguments, name)?;
-            Ok(Pat::constructor(here(head.at), head, arguments))
+            Ok(Pat::constructor(NOWHERE, head, arguments))
         }
     }
 }
@@ -345,27 +322,20 @@ impl PatternReader {
     }
 
     /// The pattern behind a token, where the token can stand there.
-    pub fn step(
-        self,
-        alloc: Global,
-        at: usize,
-        item: Item,
-    ) -> Result<Option<PatternReader>, AllocError>
+    pub fn step(self, alloc: Global, item: Item) -> Result<Option<PatternReader>, AllocError>
         ensures { IfOk result (λ r. option_map state_of r ≡ form_step patterns (state_of self) (lexeme_of item)) }
     {
         let PatternReader { state, frames } = self;
         match state {
-            PatternState::Due => atom(alloc, at, item, PatternContext::Alone, frames),
-            PatternState::Opened(first, context) => opened(alloc, at, item, first, context, frames),
-            PatternState::Taking(name, arguments) => take(alloc, at, item, name, arguments, frames),
+            PatternState::Due => atom(alloc, item, PatternContext::Alone, frames),
+            PatternState::Opened(context) => opened(alloc, item, context, frames),
+            PatternState::Taking(name, arguments) => take(alloc, item, name, arguments, frames),
             PatternState::Done(t) => ends(t, &item, frames),
-            PatternState::Upper(first, scopes, name, context) => {
-                behind_upper(alloc, at, item, first, scopes, name, context, frames)
+            PatternState::Upper(scopes, name, context) => {
+                behind_upper(alloc, item, scopes, name, context, frames)
             }
-            PatternState::Dotted(first, scopes, context) => {
-                Ok(dotted(item, first, scopes, context, frames))
-            }
-            PatternState::As(t) => behind_as(alloc, at, item, t, frames),
+            PatternState::Dotted(scopes, context) => Ok(dotted(item, scopes, context, frames)),
+            PatternState::As(t) => behind_as(alloc, item, t, frames),
             PatternState::Named(t) => up(t, &item, frames),
         }
     }
@@ -380,7 +350,7 @@ impl PatternReader {
         match &self.state {
             PatternState::Taking(_, _) => !begins_argument(item) && !is_alias(item),
             PatternState::Done(_) => !is_alias(item),
-            PatternState::Upper(_, _, _, _) => {
+            PatternState::Upper(_, _, _) => {
                 !is_dotted(item) && (!begins_argument(item) && !is_alias(item))
             }
             PatternState::Named(_) => true,
@@ -398,12 +368,12 @@ impl PatternReader {
         }
         match state {
             PatternState::Taking(name, arguments) => {
-                Ok(Some(Pat::constructor(here(name.at), name, arguments)))
+                Ok(Some(Pat::constructor(NOWHERE, name, arguments)))
             }
             PatternState::Done(t) => Ok(Some(t)),
             PatternState::Named(t) => Ok(Some(t)),
-            PatternState::Upper(first, scopes, name, context) => {
-                Ok(Some(finish_upper(alloc, upper(first, scopes, name), context)?))
+            PatternState::Upper(scopes, name, context) => {
+                Ok(Some(finish_upper(alloc, upper(scopes, name), context)?))
             }
             _ => Ok(None),
         }

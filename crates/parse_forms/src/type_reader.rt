@@ -10,10 +10,11 @@ ghost use Rattle.parse_forms.specs.TypeStates.{context_of, stack_of, state_of};
 
 use crate::item::{Item, UpperName};
 use crate::names::lower;
+use crate::place::NOWHERE;
 use crate::stack::Stack;
 use outside::{Seq, Text};
 use std::alloc::{AllocError, Global};
-use syntax_why::{At, Mark, QName, TypeTree};
+use syntax_why::{Mark, QName, TypeTree};
 
 /// What a leaf, a name or a parenthesis is read for: by itself, or as the next argument of a name.
 #[derive(Drop)]
@@ -22,10 +23,9 @@ pub enum TypeContext {
     Argument(QName, Seq<TypeTree>),
 }
 
-/// Parentheses that are open, with their token and the parts so far.
+/// Parentheses that are open, with the parts so far.
 #[derive(Drop)]
 pub struct OpenTypes {
-    pub first: usize,
     pub parts: Seq<TypeTree>,
     pub context: TypeContext,
 }
@@ -34,11 +34,11 @@ pub struct OpenTypes {
 #[derive(Drop)]
 pub enum TypeState {
     Due,
-    Opened(usize, TypeContext),
+    Opened(TypeContext),
     Taking(QName, Seq<TypeTree>),
     Done(TypeTree),
-    Upper(usize, Seq<Text>, UpperName, TypeContext),
-    Dotted(usize, Seq<Text>, TypeContext),
+    Upper(Seq<Text>, UpperName, TypeContext),
+    Dotted(Seq<Text>, TypeContext),
 }
 
 /// A type that is being read.
@@ -46,14 +46,6 @@ pub enum TypeState {
 pub struct TypeReader {
     pub state: TypeState,
     pub frames: Stack<OpenTypes>,
-}
-
-/// The place of a thing that begins at a token.
-pub fn here(first: usize) -> At
-    ensures first { result.first ≡ first }
-    ensures main { result.main ≡ first }
-{
-    At { first, main: first }
 }
 
 fn closed(
@@ -93,7 +85,7 @@ fn headed(
             frames,
         }),
         TypeContext::Argument(head, arguments) => {
-            let argument = TypeTree::named(here(name.at), name, Seq::new(alloc));
+            let argument = TypeTree::named(NOWHERE, name, Seq::new(alloc));
             let mut arguments = arguments;
             arguments.push(argument)?;
             Ok(TypeReader {
@@ -107,7 +99,6 @@ fn headed(
 /// A token with which a leaf, a name or a parenthesis begins.
 fn atom(
     alloc: Global,
-    at: usize,
     item: Item,
     context: TypeContext,
     frames: Stack<OpenTypes>,
@@ -116,19 +107,19 @@ fn atom(
 {
     match item {
         Item::Lower(name) => {
-            let name = lower(at, Seq::new(alloc), name);
+            let name = lower(Seq::new(alloc), name);
             Ok(Some(headed(alloc, name, context, frames)?))
         }
         Item::Upper(name) => Ok(Some(TypeReader {
-            state: TypeState::Upper(at, Seq::new(alloc), name, context),
+            state: TypeState::Upper(Seq::new(alloc), name, context),
             frames,
         })),
         Item::TyVar(text) => {
-            let leaf = TypeTree::variable(here(at), text);
+            let leaf = TypeTree::variable(NOWHERE, text);
             Ok(Some(closed(leaf, context, frames)?))
         }
         Item::Mark(Mark::LParen) => Ok(Some(TypeReader {
-            state: TypeState::Opened(at, context),
+            state: TypeState::Opened(context),
             frames,
         })),
         _ => Ok(None),
@@ -154,20 +145,12 @@ fn within(
 ) -> Result<Option<TypeReader>, AllocError>
     ensures { IfOk result (λ r. option_map state_of r ≡ at_within (map type_of inner.parts) (context_of inner.context) (type_of t) (stack_of frames) (lexeme_of item.now)) }
 {
-    let OpenTypes {
-        first,
-        parts,
-        context,
-    } = inner;
+    let OpenTypes { parts, context } = inner;
     let mut parts = parts;
     match item {
         Item::Mark(Mark::Comma) => {
             parts.push(t)?;
-            let open = OpenTypes {
-                first,
-                parts,
-                context,
-            };
+            let open = OpenTypes { parts, context };
             Ok(Some(TypeReader {
                 state: TypeState::Due,
                 frames: frames.push(open)?,
@@ -175,7 +158,7 @@ fn within(
         }
         Item::Mark(Mark::RParen) => {
             parts.push(t)?;
-            let group = TypeTree::group(here(first), parts);
+            let group = TypeTree::group(NOWHERE, parts);
             Ok(Some(closed(group, context, frames)?))
         }
         _ => Ok(None),
@@ -196,7 +179,6 @@ fn begins_argument(item: &Item) -> bool
 /// The token behind a name and its arguments so far.
 fn take(
     alloc: Global,
-    at: usize,
     item: Item,
     name: QName,
     arguments: Seq<TypeTree>,
@@ -206,42 +188,34 @@ fn take(
 {
     if begins_argument(&item) {
         let context = TypeContext::Argument(name, arguments);
-        return atom(alloc, at, item, context, frames);
+        return atom(alloc, item, context, frames);
     }
-    up(
-        TypeTree::named(here(name.at), name, arguments),
-        &item,
-        frames,
-    )
+    up(TypeTree::named(NOWHERE, name, arguments), &item, frames)
 }
 
 /// The token behind an opening parenthesis.
 fn opened(
     alloc: Global,
-    at: usize,
     item: Item,
-    first: usize,
     context: TypeContext,
     frames: Stack<OpenTypes>,
 ) -> Result<Option<TypeReader>, AllocError>
     ensures { IfOk result (λ r. option_map state_of r ≡ form_at_opened types (context_of context) (stack_of frames) (lexeme_of item)) }
 {
     if let Item::Mark(Mark::RParen) = &item {
-        let group = TypeTree::group(here(first), Seq::new(alloc));
+        let group = TypeTree::group(NOWHERE, Seq::new(alloc));
         return Ok(Some(closed(group, context, frames)?));
     }
     let open = OpenTypes {
-        first,
         parts: Seq::new(alloc),
         context,
     };
-    atom(alloc, at, item, TypeContext::Alone, frames.push(open)?)
+    atom(alloc, item, TypeContext::Alone, frames.push(open)?)
 }
 
 /// The token behind a name in upper case, which only a dot may follow.
 fn upper(
     item: Item,
-    first: usize,
     scopes: Seq<Text>,
     name: UpperName,
     context: TypeContext,
@@ -255,7 +229,7 @@ fn upper(
             let mut scopes = scopes;
             scopes.push(text)?;
             Ok(Some(TypeReader {
-                state: TypeState::Dotted(first, scopes, context),
+                state: TypeState::Dotted(scopes, context),
                 frames,
             }))
         }
@@ -267,7 +241,6 @@ fn upper(
 fn dotted(
     alloc: Global,
     item: Item,
-    first: usize,
     scopes: Seq<Text>,
     context: TypeContext,
     frames: Stack<OpenTypes>,
@@ -276,11 +249,11 @@ fn dotted(
 {
     match item {
         Item::Upper(name) => Ok(Some(TypeReader {
-            state: TypeState::Upper(first, scopes, name, context),
+            state: TypeState::Upper(scopes, name, context),
             frames,
         })),
         Item::Lower(name) => {
-            let name = lower(first, scopes, name);
+            let name = lower(scopes, name);
             Ok(Some(headed(alloc, name, context, frames)?))
         }
         _ => Ok(None),
@@ -299,26 +272,17 @@ impl TypeReader {
     }
 
     /// The type behind a token, where the token can stand there.
-    pub fn step(
-        self,
-        alloc: Global,
-        at: usize,
-        item: Item,
-    ) -> Result<Option<TypeReader>, AllocError>
+    pub fn step(self, alloc: Global, item: Item) -> Result<Option<TypeReader>, AllocError>
         ensures { IfOk result (λ r. option_map state_of r ≡ form_step types (state_of self) (lexeme_of item)) }
     {
         let TypeReader { state, frames } = self;
         match state {
-            TypeState::Due => atom(alloc, at, item, TypeContext::Alone, frames),
-            TypeState::Opened(first, context) => opened(alloc, at, item, first, context, frames),
-            TypeState::Taking(name, arguments) => take(alloc, at, item, name, arguments, frames),
+            TypeState::Due => atom(alloc, item, TypeContext::Alone, frames),
+            TypeState::Opened(context) => opened(alloc, item, context, frames),
+            TypeState::Taking(name, arguments) => take(alloc, item, name, arguments, frames),
             TypeState::Done(t) => up(t, &item, frames),
-            TypeState::Upper(first, scopes, name, context) => {
-                upper(item, first, scopes, name, context, frames)
-            }
-            TypeState::Dotted(first, scopes, context) => {
-                dotted(alloc, item, first, scopes, context, frames)
-            }
+            TypeState::Upper(scopes, name, context) => upper(item, scopes, name, context, frames),
+            TypeState::Dotted(scopes, context) => dotted(alloc, item, scopes, context, frames),
         }
     }
 
@@ -345,9 +309,7 @@ impl TypeReader {
             return None;
         }
         match state {
-            TypeState::Taking(name, arguments) => {
-                Some(TypeTree::named(here(name.at), name, arguments))
-            }
+            TypeState::Taking(name, arguments) => Some(TypeTree::named(NOWHERE, name, arguments)),
             TypeState::Done(t) => Some(t),
             _ => None,
         }

@@ -46,7 +46,7 @@ fn advance(
 {
     let token = token_at(tokens, at);
     match item_of(alloc, token, text) {
-        Ok(item) => step(alloc, at, item, reader),
+        Ok(item) => step(alloc, item, reader),
         Err(error) => {
             discard(reader);
             Err(error)

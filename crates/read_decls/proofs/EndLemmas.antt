@@ -63,11 +63,11 @@ type_name_more (a ∷ as_) h = refl
 -- a type of which parentheses are open is not whole
 finish_open : (q : TypeState) (o : OpenTypes) (os : List OpenTypes) → is_some (form_finish types (t.state_by q (t.stack_of (o ∷ os)))) ≡ false
 finish_open ts.Due o os = refl
-finish_open (ts.Opened first c) o os = refl
+finish_open (ts.Opened c) o os = refl
 finish_open (ts.Taking q as_) o os = refl
 finish_open (ts.Done d) o os = refl
-finish_open (ts.Upper first qs n c) o os = refl
-finish_open (ts.Dotted first qs c) o os = refl
+finish_open (ts.Upper qs n c) o os = refl
+finish_open (ts.Dotted qs c) o os = refl
 
 pub type_unfinished : (q : TypeState) (os : List OpenTypes) → (os ≡ [] → ⊥) → is_some (form_finish types (t.state_by q (t.stack_of os))) ≡ false
 type_unfinished q [] h = absurd (h refl)

@@ -21,7 +21,7 @@ use Rattle.read_decls.specs.declared.state.NewSymbol.{NewSymbol}
 use Rattle.read_decls.specs.declared.state.NewSymbol.TheVariants as ns
 use Rattle.read_decls.specs.declared.state.NewProp.{NewProp}
 use Rattle.read_decls.specs.declared.state.NewProp.TheVariants as np
-use Rattle.read_decls.specs.declared.state.ParamName.{ParamName}
+use Rattle.parse_forms.specs.declared.item.LowerName.{LowerName}
 use Rattle.read_decls.specs.declared.state.Replaced.{Replaced}
 use Rattle.read_decls.specs.declared.state.Replaced.TheVariants as r
 use Rattle.read_decls.specs.Tokens.{mark_is}
@@ -48,7 +48,7 @@ pub opened_other : (h : Header) (a : Mark) → (a ≡ m.RParen → ⊥) → at_p
 opened_other h m.RParen p = absurd (p refl)
 opened_other h a p = refl
 
-pub names_colon : (h : Header) (ns : List ParamName) → (ns ≡ [] → ⊥) → at_param_names h (param_words ns) (mark m.Colon) ≡ named_params h (param_words ns)
+pub names_colon : (h : Header) (ns : List LowerName) → (ns ≡ [] → ⊥) → at_param_names h (param_words ns) (mark m.Colon) ≡ named_params h (param_words ns)
 names_colon h [] k = absurd (k refl)
 names_colon h (n ∷ ns) k = refl
 
@@ -62,9 +62,9 @@ names_type h n ns (integer z) e = refl
 names_type h n ns (run o) e = refl
 names_type h n ns (word z) e = refl
 
-pub names_other : (h : Header) (ns : List ParamName) (x : Lexeme) → (ns ≡ [] → ⊥) → colon_is x ≡ false → at_param_names h (param_words ns) x ≡ at_type (named_type (param_words ns)) (param_part h []) x
+pub names_other : (h : Header) (ns : List LowerName) (x : Lexeme) → (ns ≡ [] → ⊥) → colon_is x ≡ false → at_param_names h (param_words ns) x ≡ at_type (named_type (param_words ns)) (param_part h []) x
 names_other h [] x k e = absurd (k refl)
-names_other h (n ∷ ns) x k e = names_type h n.name.text (param_words ns) x e
+names_other h (n ∷ ns) x k e = names_type h n.text (param_words ns) x e
 
 pub equal_other : (w : Word) (vs : List Word) (a : Mark) → (a ≡ m.Bar → ⊥) → at_type_equal [] w vs (mark a) ≡ at_type (form_due []) (equation w vs) (mark a)
 equal_other w vs m.Bar p = absurd (p refl)

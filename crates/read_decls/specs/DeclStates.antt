@@ -71,7 +71,7 @@ replaced_of (r.Prop k c) = g.prop_element_name k (cloning_of c)
 abbrev pub type_use_of : TypeUse → g.TypeUse
 type_use_of (t.Equation n vs) = g.equation n.text (words vs)
 type_use_of (t.NamedParam h ns) = g.named_param (header_of h) (words ns)
-type_use_of (t.ParamPart h at ts) = g.param_part (header_of h) (map type_of ts)
+type_use_of (t.ParamPart h ts) = g.param_part (header_of h) (map type_of ts)
 type_use_of (t.FunctionResult n) = g.function_result (declared_name n.name) (map param_of n.params)
 type_use_of (t.MemberResult m n) = g.member_result (group_of m) (declared_name n.name) (map param_of n.params)
 type_use_of (t.ConstantType n) = g.constant_type (declared_name n)
@@ -89,28 +89,28 @@ abbrev pub types_of : TypeDeclState → g.DeclState
 types_of (td.Due as_) = g.type_due (map algebraic_of as_)
 types_of (td.Named as_ n vs) = g.type_named (map algebraic_of as_) n.text (words vs)
 types_of (td.Equal as_ n vs) = g.type_equal (map algebraic_of as_) n.text (words vs)
-types_of (td.Upper n vs at v) = g.type_upper n.text (words vs) v.text
+types_of (td.Upper n vs v) = g.type_upper n.text (words vs) v.text
 types_of (td.ConstructorDue as_ a) = g.constructor_due (map algebraic_of as_) (algebraic_of a)
 
 abbrev pub symbol_state_of : SymbolState → g.DeclState
 symbol_state_of (sy.Due u) = g.name_due (symbol_of u) []
-symbol_state_of (sy.Opened u at) = g.name_opened (symbol_of u) []
-symbol_state_of (sy.Run u at w) = g.name_run (symbol_of u) [] (op_text w)
-symbol_state_of (sy.Wild u at w) = g.name_wild (symbol_of u) [] (op_text w)
+symbol_state_of (sy.Opened u) = g.name_opened (symbol_of u) []
+symbol_state_of (sy.Run u w) = g.name_run (symbol_of u) [] (op_text w)
+symbol_state_of (sy.Wild u w) = g.name_wild (symbol_of u) [] (op_text w)
 
 abbrev pub name_state_of : NameState → g.DeclState
-name_state_of (nm.Due u at qs) = g.name_due (replaced_of u) qs
-name_state_of (nm.Scope u at qs n) = g.name_scope (replaced_of u) qs n.text
-name_state_of (nm.Opened u at qs) = g.name_opened (replaced_of u) qs
-name_state_of (nm.Run u at qs w) = g.name_run (replaced_of u) qs (op_text w)
-name_state_of (nm.Wild u at qs w) = g.name_wild (replaced_of u) qs (op_text w)
+name_state_of (nm.Due u qs) = g.name_due (replaced_of u) qs
+name_state_of (nm.Scope u qs n) = g.name_scope (replaced_of u) qs n.text
+name_state_of (nm.Opened u qs) = g.name_opened (replaced_of u) qs
+name_state_of (nm.Run u qs w) = g.name_run (replaced_of u) qs (op_text w)
+name_state_of (nm.Wild u qs w) = g.name_wild (replaced_of u) qs (op_text w)
 
 abbrev pub param_state_of : ParamState → g.DeclState
 param_state_of (p.Params h) = g.params (header_of h)
-param_state_of (p.Scope h at qs w) = g.param_scope (header_of h) qs w
-param_state_of (p.Dotted h at qs) = g.param_dotted (header_of h) qs
-param_state_of (p.Opened h at) = g.param_opened (header_of h) []
-param_state_of (p.Named h at ns) = g.param_opened (header_of h) (param_words ns)
+param_state_of (p.Scope h qs w) = g.param_scope (header_of h) qs w
+param_state_of (p.Dotted h qs) = g.param_dotted (header_of h) qs
+param_state_of (p.Opened h) = g.param_opened (header_of h) []
+param_state_of (p.Named h ns) = g.param_opened (header_of h) (param_words ns)
 
 abbrev pub link_state_of : LinkState → g.DeclState
 link_state_of (l.Due cl) = g.link_due cl

@@ -3,10 +3,10 @@ use Rattle.std.specs.Prelude.{if◌then◌else◌, List, [], ◌∷◌, map, Opt
 use Rattle.syntax_why.specs.Tree.{Word, lower_name}
 use Rattle.grammar.specs.FormMachine.{FormState, form_due, form_taking}
 use Rattle.grammar_decls.specs.DeclarationMachine.{Header, named_param, has_names, plain_types, type_for, DeclState}
-use Rattle.read_decls.specs.declared.state.ParamName.{ParamName}
+use Rattle.parse_forms.specs.declared.item.LowerName.{LowerName}
 
-abbrev pub param_words : List ParamName → List Word
-param_words = map (λ n. n.name.text)
+abbrev pub param_words : List LowerName → List Word
+param_words = map (λ n. n.text)
 
 abbrev pub named_params : Header → List Word → Option DeclState
 named_params h ns = if has_names h then Some (type_for (named_param h ns)) else None

@@ -120,7 +120,7 @@ pub fn push_type_use(of: &TypeUse, out: &mut Vec<TokenKind>) -> Result<(), Alloc
     match of {
         TypeUse::Equation(_, _) => Ok(()),
         TypeUse::NamedParam(header, _) => push_paren(header, out),
-        TypeUse::ParamPart(header, _, _) => push_paren(header, out),
+        TypeUse::ParamPart(header, _) => push_paren(header, out),
         TypeUse::FunctionResult(_) => Ok(()),
         TypeUse::MemberResult(_, _) => push_body(out),
         TypeUse::ConstantType(_) => Ok(()),

@@ -30,7 +30,7 @@ fn push_types(state: &TypeDeclState, out: &mut Vec<TokenKind>) -> Result<(), All
         }
         TypeDeclState::Named(before, _, _) => push_type_name(before, out),
         TypeDeclState::Equal(_, _, _) => push(TokenKind::Uident, out),
-        TypeDeclState::Upper(_, _, _, _) => Ok(()),
+        TypeDeclState::Upper(_, _, _) => Ok(()),
         TypeDeclState::ConstructorDue(_, _) => push(TokenKind::Uident, out),
     }
 }
@@ -43,16 +43,16 @@ fn push_symbol_state(state: &SymbolState, out: &mut Vec<TokenKind>) -> Result<()
             push(TokenKind::Lident, out)?;
             push_symbol(of, out)
         }
-        SymbolState::Opened(of, _) => {
+        SymbolState::Opened(of) => {
             push(TokenKind::Equal, out)?;
             push(TokenKind::RParen, out)?;
             push_symbol(of, out)
         }
-        SymbolState::Run(of, _, _) => {
+        SymbolState::Run(of, _) => {
             push(TokenKind::RParen, out)?;
             push_symbol(of, out)
         }
-        SymbolState::Wild(of, _, _) => {
+        SymbolState::Wild(of, _) => {
             push(TokenKind::RParen, out)?;
             push_symbol(of, out)
         }
@@ -63,25 +63,25 @@ fn push_name_state(state: &NameState, out: &mut Vec<TokenKind>) -> Result<(), Al
     ensures { OnOk result (out.new.items ≡ out.old.items ++ kinds (decl_complete (name_state_of state.now))) }
 {
     match state {
-        NameState::Due(of, _, _) => {
+        NameState::Due(of, _) => {
             push(TokenKind::Lident, out)?;
             push_replaced(of, out)
         }
-        NameState::Scope(of, _, _, _) => {
+        NameState::Scope(of, _, _) => {
             push(TokenKind::Dot, out)?;
             push(TokenKind::Lident, out)?;
             push_replaced(of, out)
         }
-        NameState::Opened(of, _, _) => {
+        NameState::Opened(of, _) => {
             push(TokenKind::Equal, out)?;
             push(TokenKind::RParen, out)?;
             push_replaced(of, out)
         }
-        NameState::Run(of, _, _, _) => {
+        NameState::Run(of, _, _) => {
             push(TokenKind::RParen, out)?;
             push_replaced(of, out)
         }
-        NameState::Wild(of, _, _, _) => {
+        NameState::Wild(of, _, _) => {
             push(TokenKind::RParen, out)?;
             push_replaced(of, out)
         }
@@ -93,20 +93,20 @@ fn push_param_state(state: &ParamState, out: &mut Vec<TokenKind>) -> Result<(), 
 {
     match state {
         ParamState::Params(header) => push_header(header, out),
-        ParamState::Scope(header, _, _, _) => {
+        ParamState::Scope(header, _, _) => {
             push(TokenKind::Dot, out)?;
             push(TokenKind::Lident, out)?;
             push_header(header, out)
         }
-        ParamState::Dotted(header, _, _) => {
+        ParamState::Dotted(header, _) => {
             push(TokenKind::Lident, out)?;
             push_header(header, out)
         }
-        ParamState::Opened(header, _) => {
+        ParamState::Opened(header) => {
             push(TokenKind::RParen, out)?;
             push_header(header, out)
         }
-        ParamState::Named(header, _, _) => {
+        ParamState::Named(header, _) => {
             push(TokenKind::RParen, out)?;
             push_header(header, out)
         }

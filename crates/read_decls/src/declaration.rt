@@ -66,118 +66,83 @@ pub fn declaration_due(alloc: Global, key: Keyword) -> Option<DeclState>
 
 fn in_types(
     alloc: Global,
-    at: usize,
     item: Item,
     state: TypeDeclState,
 ) -> Result<Option<DeclState>, AllocError>
     ensures { IfOk result (λ r. option_map state_of r ≡ decl_step (types_of state) (lexeme_of item)) }
 {
     match state {
-        TypeDeclState::Due(before) => Ok(named_type(alloc, at, item, before)),
-        TypeDeclState::Named(before, name, vars) => type_vars(at, item, before, name, vars),
-        TypeDeclState::Equal(before, name, vars) => {
-            type_equal(alloc, at, item, before, name, vars)
-        }
-        TypeDeclState::Upper(name, vars, first, upper) => {
-            type_upper(alloc, at, item, name, vars, first, upper)
-        }
-        TypeDeclState::ConstructorDue(before, of) => {
-            Ok(constructor_due(alloc, at, item, before, of))
-        }
+        TypeDeclState::Due(before) => Ok(named_type(alloc, item, before)),
+        TypeDeclState::Named(before, name, vars) => type_vars(item, before, name, vars),
+        TypeDeclState::Equal(before, name, vars) => type_equal(alloc, item, before, name, vars),
+        TypeDeclState::Upper(name, vars, upper) => type_upper(alloc, item, name, vars, upper),
+        TypeDeclState::ConstructorDue(before, of) => Ok(constructor_due(alloc, item, before, of)),
     }
 }
 
-fn in_symbol(alloc: Global, at: usize, item: Item, state: SymbolState) -> Option<DeclState>
+fn in_symbol(alloc: Global, item: Item, state: SymbolState) -> Option<DeclState>
     ensures { option_map state_of result ≡ decl_step (symbol_state_of state) (lexeme_of item) }
 {
     match state {
-        SymbolState::Due(of) => symbol_due(alloc, at, item, of),
-        SymbolState::Opened(of, first) => symbol_opened(item, of, first),
-        SymbolState::Run(of, first, text) => symbol_run(alloc, item, of, first, text),
-        SymbolState::Wild(of, first, text) => symbol_wild(alloc, item, of, first, text),
+        SymbolState::Due(of) => symbol_due(alloc, item, of),
+        SymbolState::Opened(of) => symbol_opened(item, of),
+        SymbolState::Run(of, text) => symbol_run(alloc, item, of, text),
+        SymbolState::Wild(of, text) => symbol_wild(alloc, item, of, text),
     }
 }
 
-fn in_name(
-    alloc: Global,
-    at: usize,
-    item: Item,
-    state: NameState,
-) -> Result<Option<DeclState>, AllocError>
+fn in_name(alloc: Global, item: Item, state: NameState) -> Result<Option<DeclState>, AllocError>
     ensures { IfOk result (λ r. option_map state_of r ≡ decl_step (name_state_of state) (lexeme_of item)) }
 {
     match state {
-        NameState::Due(of, first, scopes) => name_due(alloc, at, item, of, first, scopes),
-        NameState::Scope(of, first, scopes, name) => name_scope(item, of, first, scopes, name),
-        NameState::Opened(of, first, scopes) => Ok(name_opened(item, of, first, scopes)),
-        NameState::Run(of, first, scopes, text) => {
-            name_run(alloc, item, of, first, scopes, text)
-        }
-        NameState::Wild(of, first, scopes, text) => {
-            name_wild(alloc, item, of, first, scopes, text)
-        }
+        NameState::Due(of, scopes) => name_due(alloc, item, of, scopes),
+        NameState::Scope(of, scopes, name) => name_scope(item, of, scopes, name),
+        NameState::Opened(of, scopes) => Ok(name_opened(item, of, scopes)),
+        NameState::Run(of, scopes, text) => name_run(alloc, item, of, scopes, text),
+        NameState::Wild(of, scopes, text) => name_wild(alloc, item, of, scopes, text),
     }
 }
 
-fn in_params(
-    alloc: Global,
-    at: usize,
-    item: Item,
-    state: ParamState,
-) -> Result<Option<DeclState>, AllocError>
+fn in_params(alloc: Global, item: Item, state: ParamState) -> Result<Option<DeclState>, AllocError>
     ensures { IfOk result (λ r. option_map state_of r ≡ decl_step (param_state_of state) (lexeme_of item)) }
 {
     match state {
-        ParamState::Params(header) => params(alloc, at, item, header),
-        ParamState::Scope(header, first, scopes, text) => {
-            param_scope(item, header, first, scopes, text)
-        }
-        ParamState::Dotted(header, first, scopes) => {
-            param_dotted(alloc, item, header, first, scopes)
-        }
-        ParamState::Opened(header, first) => param_opened(alloc, at, item, header, first),
-        ParamState::Named(header, first, names) => {
-            param_named(alloc, at, item, header, first, names)
-        }
+        ParamState::Params(header) => params(alloc, item, header),
+        ParamState::Scope(header, scopes, text) => param_scope(item, header, scopes, text),
+        ParamState::Dotted(header, scopes) => param_dotted(alloc, item, header, scopes),
+        ParamState::Opened(header) => param_opened(alloc, item, header),
+        ParamState::Named(header, names) => param_named(alloc, item, header, names),
     }
 }
 
-fn in_link(
-    alloc: Global,
-    at: usize,
-    item: Item,
-    state: LinkState,
-) -> Result<Option<DeclState>, AllocError>
+fn in_link(alloc: Global, item: Item, state: LinkState) -> Result<Option<DeclState>, AllocError>
     ensures { IfOk result (λ r. option_map state_of r ≡ decl_step (link_state_of state) (lexeme_of item)) }
 {
     match state {
-        LinkState::Due(cloned) => link_due(alloc, at, item, cloned),
-        LinkState::PathDue(cloned, link, path) => path_due(at, item, cloned, link, path),
+        LinkState::Due(cloned) => link_due(alloc, item, cloned),
+        LinkState::PathDue(cloned, link, path) => path_due(item, cloned, link, path),
         LinkState::PathLower(cloned, link, path, text) => {
             path_lower(item, cloned, link, path, text)
         }
-        LinkState::PathRead(cloned, link, path) => {
-            Ok(path_read(alloc, at, item, cloned, link, path))
-        }
-        LinkState::RenameDue(cloned, link, path) => Ok(rename_due(at, item, cloned, link, path)),
+        LinkState::PathRead(cloned, link, path) => Ok(path_read(alloc, item, cloned, link, path)),
+        LinkState::RenameDue(cloned, link, path) => Ok(rename_due(item, cloned, link, path)),
         LinkState::Renamed(cloned, link, path, name) => {
-            Ok(link_end(alloc, at, &item, cloned, link, path, Some(name)))
+            Ok(link_end(alloc, &item, cloned, link, path, Some(name)))
         }
     }
 }
 
 fn in_element(
     alloc: Global,
-    at: usize,
     item: Item,
     state: ElementState,
 ) -> Result<Option<DeclState>, AllocError>
     ensures { IfOk result (λ r. option_map state_of r ≡ decl_step (element_state_of state) (lexeme_of item)) }
 {
     match state {
-        ElementState::Due(of) => Ok(element_due(alloc, at, item, of)),
-        ElementState::Vars(of, name, vars) => element_vars(alloc, at, item, of, name, vars),
-        ElementState::LeftRead(word, left, of) => Ok(left_read(alloc, at, item, word, left, of)),
+        ElementState::Due(of) => Ok(element_due(alloc, item, of)),
+        ElementState::Vars(of, name, vars) => element_vars(alloc, item, of, name, vars),
+        ElementState::LeftRead(word, left, of) => Ok(left_read(alloc, item, word, left, of)),
         ElementState::Read(of) => Ok(element_end(&item, of)),
     }
 }
@@ -188,29 +153,24 @@ pub fn discard(state: DeclState) {
 }
 
 /// The declaration behind a token, where the token can go on with it.
-pub fn step(
-    alloc: Global,
-    at: usize,
-    item: Item,
-    state: DeclState,
-) -> Result<Option<DeclState>, AllocError>
+pub fn step(alloc: Global, item: Item, state: DeclState) -> Result<Option<DeclState>, AllocError>
     ensures { IfOk result (λ r. option_map state_of r ≡ decl_step (state_of state) (lexeme_of item)) }
 {
     match state {
-        DeclState::Types(state) => in_types(alloc, at, item, state),
-        DeclState::Symbol(state) => Ok(in_symbol(alloc, at, item, state)),
-        DeclState::PropDue(of) => Ok(prop_due(at, item, of)),
-        DeclState::Name(state) => in_name(alloc, at, item, state),
-        DeclState::Param(state) => in_params(alloc, at, item, state),
+        DeclState::Types(state) => in_types(alloc, item, state),
+        DeclState::Symbol(state) => Ok(in_symbol(alloc, item, state)),
+        DeclState::PropDue(of) => Ok(prop_due(item, of)),
+        DeclState::Name(state) => in_name(alloc, item, state),
+        DeclState::Param(state) => in_params(alloc, item, state),
         DeclState::ConstantNamed(name) => Ok(constant_named(alloc, item, name)),
         DeclState::PropNamed(kind, name) => Ok(prop_named(alloc, item, kind, name)),
-        DeclState::ClausesDue(before, of) => Ok(clauses_due(alloc, at, item, before, of)),
+        DeclState::ClausesDue(before, of) => Ok(clauses_due(alloc, item, before, of)),
         DeclState::ClauseNamed(before, of, name) => {
             Ok(clause_named(alloc, item, before, of, name))
         }
-        DeclState::Link(state) => in_link(alloc, at, item, state),
-        DeclState::Element(state) => in_element(alloc, at, item, state),
-        DeclState::InType(reader, of) => at_type(alloc, at, item, reader, of),
-        DeclState::InExpr(reader, of) => at_expr(alloc, at, item, reader, of),
+        DeclState::Link(state) => in_link(alloc, item, state),
+        DeclState::Element(state) => in_element(alloc, item, state),
+        DeclState::InType(reader, of) => at_type(alloc, item, reader, of),
+        DeclState::InExpr(reader, of) => at_expr(alloc, item, reader, of),
     }
 }

@@ -13,7 +13,7 @@ use crate::names::{is_equal_sign, with_name};
 use crate::state::{Cloning, DeclState, ElementState, NameState, Replaced, TypeUse};
 use crate::uses::type_due;
 use outside::Seq;
-use parse_forms::Item;
+use parse_forms::{Item, NOWHERE};
 use std::alloc::{AllocError, Global};
 use syntax_why::{ElemNode, ElemTree, Mark, Name, PropKind, QName, SymbolWord};
 
@@ -26,69 +26,47 @@ pub fn with_element(of: Cloning, node: ElemNode) -> Result<Cloning, AllocError>
         path,
         renamed,
         elements,
-        element,
     } = of;
     let mut elements = elements;
-    elements.push(ElemTree { at: element, node })?;
+    elements.push(ElemTree {
+        at: NOWHERE.first,
+        node,
+    })?;
     Ok(Cloning {
         link,
         path,
         renamed,
         elements,
-        element,
     })
 }
 
-/// A clone of which another element begins at a token.
-fn at_element(of: Cloning, at: usize) -> Cloning
-    ensures { cloning_of result ≡ cloning_of of }
-{
-    let Cloning {
-        link,
-        path,
-        renamed,
-        elements,
-        element: _,
-    } = of;
-    Cloning {
-        link,
-        path,
-        renamed,
-        elements,
-        element: at,
-    }
-}
-
-fn name_due(alloc: Global, at: usize, of: Replaced) -> DeclState
+fn name_due(alloc: Global, of: Replaced) -> DeclState
     ensures { state_of result ≡ machine.name_due (replaced_of of) [] }
 {
-    DeclState::Name(NameState::Due(of, at, Seq::new(alloc)))
+    DeclState::Name(NameState::Due(of, Seq::new(alloc)))
 }
 
-fn element_key(alloc: Global, at: usize, key: Keyword, of: Cloning) -> Option<DeclState>
+fn element_key(alloc: Global, key: Keyword, of: Cloning) -> Option<DeclState>
     ensures { option_map state_of result ≡ at_element_key (cloning_of of) (keyword_by key) }
 {
-    let of = at_element(of, at);
     match key {
-        Keyword::Typing => Some(name_due(alloc, at, Replaced::TypeSymbol(of))),
-        Keyword::Function => Some(name_due(alloc, at, Replaced::Left(SymbolWord::Function, of))),
-        Keyword::Constant => Some(name_due(alloc, at, Replaced::Left(SymbolWord::Constant, of))),
-        Keyword::Predicate => {
-            Some(name_due(alloc, at, Replaced::Left(SymbolWord::Predicate, of)))
-        }
-        Keyword::Axiom => Some(name_due(alloc, at, Replaced::Prop(PropKind::Axiom, of))),
-        Keyword::Lemma => Some(name_due(alloc, at, Replaced::Prop(PropKind::Lemma, of))),
-        Keyword::Goal => Some(name_due(alloc, at, Replaced::Prop(PropKind::Goal, of))),
+        Keyword::Typing => Some(name_due(alloc, Replaced::TypeSymbol(of))),
+        Keyword::Function => Some(name_due(alloc, Replaced::Left(SymbolWord::Function, of))),
+        Keyword::Constant => Some(name_due(alloc, Replaced::Left(SymbolWord::Constant, of))),
+        Keyword::Predicate => Some(name_due(alloc, Replaced::Left(SymbolWord::Predicate, of))),
+        Keyword::Axiom => Some(name_due(alloc, Replaced::Prop(PropKind::Axiom, of))),
+        Keyword::Lemma => Some(name_due(alloc, Replaced::Prop(PropKind::Lemma, of))),
+        Keyword::Goal => Some(name_due(alloc, Replaced::Prop(PropKind::Goal, of))),
         _ => None,
     }
 }
 
 /// The word with which an element begins.
-pub fn element_due(alloc: Global, at: usize, item: Item, of: Cloning) -> Option<DeclState>
+pub fn element_due(alloc: Global, item: Item, of: Cloning) -> Option<DeclState>
     ensures { option_map state_of result ≡ at_element_due (cloning_of of) (lexeme_of item) }
 {
     match item {
-        Item::Word(word) => element_key(alloc, at, keyword_of(word), of),
+        Item::Word(word) => element_key(alloc, keyword_of(word), of),
         _ => None,
     }
 }
@@ -96,7 +74,6 @@ pub fn element_due(alloc: Global, at: usize, item: Item, of: Cloning) -> Option<
 /// Behind the name of a type that is replaced, and its variables.
 pub fn element_vars(
     alloc: Global,
-    at: usize,
     item: Item,
     of: Cloning,
     name: QName,
@@ -109,7 +86,7 @@ pub fn element_vars(
     }
     match item {
         Item::TyVar(text) => {
-            let vars = with_name(vars, at, text)?;
+            let vars = with_name(vars, text)?;
             Ok(Some(DeclState::Element(ElementState::Vars(of, name, vars))))
         }
         Item::Lower(_name) => Ok(None),
@@ -127,7 +104,6 @@ pub fn element_vars(
 /// Behind a symbol that is replaced.
 pub fn left_read(
     alloc: Global,
-    at: usize,
     item: Item,
     word: SymbolWord,
     left: QName,
@@ -136,7 +112,7 @@ pub fn left_read(
     ensures { option_map state_of result ≡ at_left_read word (called_of left) (cloning_of of) (lexeme_of item) }
 {
     if is_equal_sign(&item) {
-        Some(name_due(alloc, at, Replaced::Right(word, left, of)))
+        Some(name_due(alloc, Replaced::Right(word, left, of)))
     } else {
         None
     }

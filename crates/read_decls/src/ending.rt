@@ -34,7 +34,7 @@ fn types_end(state: &TypeDeclState) -> bool
 {
     match state {
         TypeDeclState::Named(before, _, _) => before.is_empty(),
-        TypeDeclState::Upper(_, _, _, _) => true,
+        TypeDeclState::Upper(_, _, _) => true,
         TypeDeclState::Due(_) => false,
         TypeDeclState::Equal(_, _, _) => false,
         TypeDeclState::ConstructorDue(_, _) => false,
@@ -45,14 +45,14 @@ fn name_ends(state: &NameState) -> bool
     ensures { result ≡ is_some (decl_finish (name_state_of state.now)) }
 {
     match state {
-        NameState::Scope(Replaced::Prop(_, _), _, _, _) => true,
-        NameState::Scope(Replaced::TypeSymbol(_), _, _, _) => false,
-        NameState::Scope(Replaced::Left(_, _), _, _, _) => false,
-        NameState::Scope(Replaced::Right(_, _, _), _, _, _) => false,
-        NameState::Due(_, _, _) => false,
-        NameState::Opened(_, _, _) => false,
-        NameState::Run(_, _, _, _) => false,
-        NameState::Wild(_, _, _, _) => false,
+        NameState::Scope(Replaced::Prop(_, _), _, _) => true,
+        NameState::Scope(Replaced::TypeSymbol(_), _, _) => false,
+        NameState::Scope(Replaced::Left(_, _), _, _) => false,
+        NameState::Scope(Replaced::Right(_, _, _), _, _) => false,
+        NameState::Due(_, _) => false,
+        NameState::Opened(_, _) => false,
+        NameState::Run(_, _, _) => false,
+        NameState::Wild(_, _, _) => false,
     }
 }
 
@@ -61,10 +61,10 @@ fn params_end(state: &ParamState) -> bool
 {
     match state {
         ParamState::Params(header) => header_ends(header),
-        ParamState::Scope(_, _, _, _) => false,
-        ParamState::Dotted(_, _, _) => false,
-        ParamState::Opened(_, _) => false,
-        ParamState::Named(_, _, _) => false,
+        ParamState::Scope(_, _, _) => false,
+        ParamState::Dotted(_, _) => false,
+        ParamState::Opened(_) => false,
+        ParamState::Named(_, _) => false,
     }
 }
 
@@ -102,7 +102,7 @@ fn ends_with_type(of: &TypeUse) -> bool
         TypeUse::ConstantType(_) => true,
         TypeUse::ElementType(_, _, _) => true,
         TypeUse::NamedParam(_, _) => false,
-        TypeUse::ParamPart(_, _, _) => false,
+        TypeUse::ParamPart(_, _) => false,
         TypeUse::MemberResult(_, _) => false,
     }
 }
@@ -114,9 +114,9 @@ fn is_whole(state: &TypeState) -> bool
         TypeState::Taking(_, _) => true,
         TypeState::Done(_) => true,
         TypeState::Due => false,
-        TypeState::Opened(_, _) => false,
-        TypeState::Upper(_, _, _, _) => false,
-        TypeState::Dotted(_, _, _) => false,
+        TypeState::Opened(_) => false,
+        TypeState::Upper(_, _, _) => false,
+        TypeState::Dotted(_, _) => false,
     }
 }
 

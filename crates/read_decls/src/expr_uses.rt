@@ -287,14 +287,13 @@ fn whole_bar(alloc: Global, reader: Reader, of: ExprUse) -> Result<Option<DeclSt
 
 fn further_expr(
     alloc: Global,
-    at: usize,
     item: Item,
     reader: Reader,
     of: ExprUse,
 ) -> Result<Option<DeclState>, AllocError>
     ensures { IfOk result (λ r. option_map state_of r ≡ option_map (λ s. decl_expr s (expr_use_of of)) (expr_machine.step (expr_states.state_of reader) (lexeme_of item))) }
 {
-    match step(alloc, at, item, reader) {
+    match step(alloc, item, reader) {
         Err(error) => {
             drop(of);
             Err(error)
@@ -322,7 +321,6 @@ fn is_bar(item: &Item) -> bool
 /// A token in an expression or behind it.
 pub fn at_expr(
     alloc: Global,
-    at: usize,
     item: Item,
     reader: Reader,
     of: ExprUse,
@@ -330,12 +328,12 @@ pub fn at_expr(
     ensures { IfOk result (λ r. option_map state_of r ≡ machine.at_expr (expr_states.state_of reader) (expr_use_of of) (lexeme_of item)) }
 {
     if !ends(&reader) {
-        further_expr(alloc, at, item, reader, of)
+        further_expr(alloc, item, reader, of)
     } else if is_with(&item) {
         whole_with(alloc, reader, of)
     } else if is_bar(&item) {
         whole_bar(alloc, reader, of)
     } else {
-        further_expr(alloc, at, item, reader, of)
+        further_expr(alloc, item, reader, of)
     }
 }

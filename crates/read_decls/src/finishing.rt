@@ -21,29 +21,25 @@ use crate::state::{
 };
 use crate::types::first_header;
 use outside::Seq;
-use parse_forms::{TypeReader, UpperName, here, upper};
+use parse_forms::{NOWHERE, TypeReader, upper};
 use read_terms::finish as finish_reader;
 use std::alloc::{AllocError, Global};
 use syntax_why::{AlgTree, DeclTree, ElemNode, Expr, IndTree, Link, Name, Path, QName, TypeTree};
 use term_states::Reader;
 
 /// Where parameters or fields may end a declaration.
-fn finish_params(
-    alloc: Global,
-    first: usize,
-    header: Header,
-) -> Result<Option<DeclTree>, AllocError>
+fn finish_params(alloc: Global, header: Header) -> Result<Option<DeclTree>, AllocError>
     ensures { IfOk result (λ d. option_map decl_of d ≡ finish_header (header_of header)) }
 {
     match header {
         Header::Predicate(of) => {
             let Signature { name, params } = of;
             let members = Seq::new(alloc);
-            Ok(Some(DeclTree::predicate(here(first), name, params, None, members)))
+            Ok(Some(DeclTree::predicate(NOWHERE, name, params, None, members)))
         }
         Header::Constructor(before, of, name, fields) => {
             let types = with_algebraic(before, of, name, fields)?;
-            Ok(Some(DeclTree::algebraic(here(first), types)))
+            Ok(Some(DeclTree::algebraic(NOWHERE, types)))
         }
         Header::Function(_of) => Ok(None),
         Header::Inductive(_before, _of) => Ok(None),
@@ -52,34 +48,23 @@ fn finish_params(
 }
 
 /// A type that has no definition, which only the first of a group may be.
-fn finish_named_type(
-    first: usize,
-    before: Seq<AlgTree>,
-    name: Name,
-    vars: Seq<Name>,
-) -> Option<DeclTree>
+fn finish_named_type(before: Seq<AlgTree>, name: Name, vars: Seq<Name>) -> Option<DeclTree>
     ensures { option_map decl_of result ≡ finish_named (map algebraic_of before) name.text (words vars) }
 {
     if !before.is_empty() {
         return None;
     }
-    Some(DeclTree::type_named(here(first), name, vars, None))
+    Some(DeclTree::type_named(NOWHERE, name, vars, None))
 }
 
-fn finish_types(
-    alloc: Global,
-    first: usize,
-    state: TypeDeclState,
-) -> Result<Option<DeclTree>, AllocError>
+fn finish_types(alloc: Global, state: TypeDeclState) -> Result<Option<DeclTree>, AllocError>
     ensures { IfOk result (λ d. option_map decl_of d ≡ decl_finish (types_of state)) }
 {
     match state {
-        TypeDeclState::Named(before, name, vars) => {
-            Ok(finish_named_type(first, before, name, vars))
-        }
-        TypeDeclState::Upper(name, vars, at, upper) => {
-            let header = first_header(alloc, name, vars, at, upper);
-            finish_params(alloc, first, header)
+        TypeDeclState::Named(before, name, vars) => Ok(finish_named_type(before, name, vars)),
+        TypeDeclState::Upper(name, vars, upper) => {
+            let header = first_header(alloc, name, vars, upper);
+            finish_params(alloc, header)
         }
         TypeDeclState::Due(_before) => Ok(None),
         TypeDeclState::Equal(_before, _name, _vars) => Ok(None),
@@ -87,7 +72,7 @@ fn finish_types(
     }
 }
 
-fn finish_clone(of: Cloning, first: usize) -> DeclTree
+fn finish_clone(of: Cloning) -> DeclTree
     ensures { decl_of result ≡ machine.clone_of (cloning_of of) }
 {
     let Cloning {
@@ -95,18 +80,17 @@ fn finish_clone(of: Cloning, first: usize) -> DeclTree
         path,
         renamed,
         elements,
-        element: _,
     } = of;
-    DeclTree::clone_theory(here(first), link, path, renamed, elements)
+    DeclTree::clone_theory(NOWHERE, link, path, renamed, elements)
 }
 
-fn finish_name(first: usize, of: Replaced, name: QName) -> Result<Option<DeclTree>, AllocError>
+fn finish_name(of: Replaced, name: QName) -> Result<Option<DeclTree>, AllocError>
     ensures { IfOk result (λ d. option_map decl_of d ≡ finish_beyond (replaced_of of) (called_of name)) }
 {
     match of {
         Replaced::Prop(kind, of) => {
             let of = with_element(of, ElemNode::PropElem(kind, name))?;
-            Ok(Some(finish_clone(of, first)))
+            Ok(Some(finish_clone(of)))
         }
         Replaced::TypeSymbol(_of) => Ok(None),
         Replaced::Left(_word, _of) => Ok(None),
@@ -116,7 +100,6 @@ fn finish_name(first: usize, of: Replaced, name: QName) -> Result<Option<DeclTre
 
 fn finish_path(
     alloc: Global,
-    first: usize,
     cloned: bool,
     link: Link,
     path: Path,
@@ -125,21 +108,21 @@ fn finish_path(
     ensures { decl_of result ≡ finish_link cloned link path.parts (option_map name_text renamed) }
 {
     if cloned {
-        DeclTree::clone_theory(here(first), link, path, renamed, Seq::new(alloc))
+        DeclTree::clone_theory(NOWHERE, link, path, renamed, Seq::new(alloc))
     } else {
-        DeclTree::use_theory(here(first), link, path, renamed)
+        DeclTree::use_theory(NOWHERE, link, path, renamed)
     }
 }
 
-fn finish_state_of_link(alloc: Global, first: usize, state: LinkState) -> Option<DeclTree>
+fn finish_state_of_link(alloc: Global, state: LinkState) -> Option<DeclTree>
     ensures { option_map decl_of result ≡ decl_finish (link_state_of state) }
 {
     match state {
         LinkState::PathRead(cloned, link, path) => {
-            Some(finish_path(alloc, first, cloned, link, path, None))
+            Some(finish_path(alloc, cloned, link, path, None))
         }
         LinkState::Renamed(cloned, link, path, name) => {
-            Some(finish_path(alloc, first, cloned, link, path, Some(name)))
+            Some(finish_path(alloc, cloned, link, path, Some(name)))
         }
         LinkState::Due(_cloned) => None,
         LinkState::PathDue(_cloned, _link, _path) => None,
@@ -149,33 +132,28 @@ fn finish_state_of_link(alloc: Global, first: usize, state: LinkState) -> Option
 }
 
 /// Where a type may end a declaration.
-fn finish_in_type(
-    alloc: Global,
-    first: usize,
-    of: TypeUse,
-    ty: TypeTree,
-) -> Result<Option<DeclTree>, AllocError>
+fn finish_in_type(alloc: Global, of: TypeUse, ty: TypeTree) -> Result<Option<DeclTree>, AllocError>
     ensures { IfOk result (λ d. option_map decl_of d ≡ finish_type (type_use_of of) (type_of ty)) }
 {
     match of {
         TypeUse::Equation(name, vars) => {
-            Ok(Some(DeclTree::type_named(here(first), name, vars, Some(ty))))
+            Ok(Some(DeclTree::type_named(NOWHERE, name, vars, Some(ty))))
         }
         TypeUse::FunctionResult(of) => {
             let Signature { name, params } = of;
             let members = Seq::new(alloc);
-            Ok(Some(DeclTree::function(here(first), name, params, ty, None, members)))
+            Ok(Some(DeclTree::function(NOWHERE, name, params, ty, None, members)))
         }
-        TypeUse::ConstantType(name) => { Ok(Some(DeclTree::constant(here(first), name, ty, None))) }
+        TypeUse::ConstantType(name) => Ok(Some(DeclTree::constant(NOWHERE, name, ty, None))),
         TypeUse::ElementType(of, name, vars) => {
             let of = with_element(of, ElemNode::TypeElem(name, vars, ty))?;
-            Ok(Some(finish_clone(of, first)))
+            Ok(Some(finish_clone(of)))
         }
         TypeUse::NamedParam(header, _names) => {
             drop(header);
             Ok(None)
         }
-        TypeUse::ParamPart(header, _first, _parts) => {
+        TypeUse::ParamPart(header, _parts) => {
             drop(header);
             Ok(None)
         }
@@ -185,7 +163,6 @@ fn finish_in_type(
 
 fn finish_whole_type(
     alloc: Global,
-    first: usize,
     reader: TypeReader,
     of: TypeUse,
 ) -> Result<Option<DeclTree>, AllocError>
@@ -196,28 +173,27 @@ fn finish_whole_type(
             drop(of);
             Ok(None)
         }
-        Some(ty) => finish_in_type(alloc, first, of, ty),
+        Some(ty) => finish_in_type(alloc, of, ty),
     }
 }
 
-fn group_decl(first: usize, group: Group) -> DeclTree
+fn group_decl(group: Group) -> DeclTree
     ensures { decl_of result ≡ machine.group_decl (group_of group) }
 {
     match group {
         Group::Function(of, ty, body, members) => {
             let Signature { name, params } = of;
-            DeclTree::function(here(first), name, params, ty, Some(body), members)
+            DeclTree::function(NOWHERE, name, params, ty, Some(body), members)
         }
         Group::Predicate(of, body, members) => {
             let Signature { name, params } = of;
-            DeclTree::predicate(here(first), name, params, Some(body), members)
+            DeclTree::predicate(NOWHERE, name, params, Some(body), members)
         }
     }
 }
 
 /// A group behind the definition of its last member.
 fn finish_member(
-    first: usize,
     group: Group,
     of: Signature,
     ty: Option<TypeTree>,
@@ -226,14 +202,13 @@ fn finish_member(
     ensures { IfOk result (λ d. option_map decl_of d ≡ Some (machine.group_decl (machine.with_member (group_of group) (record { name = declared_name of.name; params = map param_of of.params; result = option_map type_of ty; body = tree_of tree })))) }
 {
     match with_member(group, of, ty, tree) {
-        Ok(group) => Ok(Some(group_decl(first, group))),
+        Ok(group) => Ok(Some(group_decl(group))),
         Err(error) => Err(error),
     }
 }
 
 /// Inductive predicates behind the last clause.
 fn finish_clause(
-    first: usize,
     before: Seq<IndTree>,
     of: IndTree,
     name: Name,
@@ -242,44 +217,34 @@ fn finish_clause(
     ensures { IfOk result (λ d. option_map decl_of d ≡ finish_expr (machine.clause_body (map inductive_of before) (inductive_of of) (plain_name name)) (tree_of tree)) }
 {
     let predicates = with_inductive(before, of, name, tree)?;
-    Ok(Some(DeclTree::inductive(here(first), predicates)))
+    Ok(Some(DeclTree::inductive(NOWHERE, predicates)))
 }
 
 /// Where an expression may end a declaration.
-fn finish_in_expr(
-    alloc: Global,
-    first: usize,
-    of: ExprUse,
-    tree: Expr,
-) -> Result<Option<DeclTree>, AllocError>
+fn finish_in_expr(alloc: Global, of: ExprUse, tree: Expr) -> Result<Option<DeclTree>, AllocError>
     ensures { IfOk result (λ d. option_map decl_of d ≡ finish_expr (expr_use_of of) (tree_of tree)) }
 {
     match of {
         ExprUse::ConstantBody(name, ty) => {
-            Ok(Some(DeclTree::constant(here(first), name, ty, Some(tree))))
+            Ok(Some(DeclTree::constant(NOWHERE, name, ty, Some(tree))))
         }
-        ExprUse::PropBody(kind, name) => { Ok(Some(DeclTree::prop(here(first), kind, name, tree))) }
-        ExprUse::ClauseBody(before, of, name) => finish_clause(first, before, of, name, tree),
-        ExprUse::FunctionBody(of, ty) => {
-            Ok(Some(group_decl(first, function_group(alloc, of, ty, tree))))
-        }
-        ExprUse::PredicateBody(of) => {
-            Ok(Some(group_decl(first, predicate_group(alloc, of, tree))))
-        }
-        ExprUse::MemberBody(group, of, ty) => finish_member(first, group, of, ty, tree),
+        ExprUse::PropBody(kind, name) => Ok(Some(DeclTree::prop(NOWHERE, kind, name, tree))),
+        ExprUse::ClauseBody(before, of, name) => finish_clause(before, of, name, tree),
+        ExprUse::FunctionBody(of, ty) => Ok(Some(group_decl(function_group(alloc, of, ty, tree)))),
+        ExprUse::PredicateBody(of) => Ok(Some(group_decl(predicate_group(alloc, of, tree)))),
+        ExprUse::MemberBody(group, of, ty) => finish_member(group, of, ty, tree),
     }
 }
 
 fn finish_whole_expr(
     alloc: Global,
-    first: usize,
     reader: Reader,
     of: ExprUse,
 ) -> Result<Option<DeclTree>, AllocError>
     ensures { IfOk result (λ d. option_map decl_of d ≡ onward (finish_expr (expr_use_of of)) (expr_machine.finish (expr_states.state_of reader))) }
 {
     match finish_reader(alloc, reader) {
-        Ok(Some(tree)) => finish_in_expr(alloc, first, of, tree),
+        Ok(Some(tree)) => finish_in_expr(alloc, of, tree),
         Ok(None) => {
             drop(of);
             Ok(None)
@@ -291,83 +256,77 @@ fn finish_whole_expr(
     }
 }
 
-fn finish_name_state(first: usize, state: NameState) -> Result<Option<DeclTree>, AllocError>
+fn finish_name_state(state: NameState) -> Result<Option<DeclTree>, AllocError>
     ensures { IfOk result (λ d. option_map decl_of d ≡ decl_finish (name_state_of state)) }
 {
     match state {
-        NameState::Scope(of, start, scopes, name) => {
-            finish_name(first, of, upper(start, scopes, name))
-        }
-        NameState::Due(of, _first, _scopes) => {
+        NameState::Scope(of, scopes, name) => finish_name(of, upper(scopes, name)),
+        NameState::Due(of, _scopes) => {
             drop(of);
             Ok(None)
         }
-        NameState::Opened(of, _first, _scopes) => {
+        NameState::Opened(of, _scopes) => {
             drop(of);
             Ok(None)
         }
-        NameState::Run(of, _first, _scopes, _text) => {
+        NameState::Run(of, _scopes, _text) => {
             drop(of);
             Ok(None)
         }
-        NameState::Wild(of, _first, _scopes, _text) => {
+        NameState::Wild(of, _scopes, _text) => {
             drop(of);
             Ok(None)
         }
     }
 }
 
-fn finish_param_state(
-    alloc: Global,
-    first: usize,
-    state: ParamState,
-) -> Result<Option<DeclTree>, AllocError>
+fn finish_param_state(alloc: Global, state: ParamState) -> Result<Option<DeclTree>, AllocError>
     ensures { IfOk result (λ d. option_map decl_of d ≡ decl_finish (param_state_of state)) }
 {
     match state {
-        ParamState::Params(header) => finish_params(alloc, first, header),
-        ParamState::Scope(header, _first, _scopes, _text) => {
+        ParamState::Params(header) => finish_params(alloc, header),
+        ParamState::Scope(header, _scopes, _text) => {
             drop(header);
             Ok(None)
         }
-        ParamState::Dotted(header, _first, _scopes) => {
+        ParamState::Dotted(header, _scopes) => {
             drop(header);
             Ok(None)
         }
-        ParamState::Opened(header, _first) => {
+        ParamState::Opened(header) => {
             drop(header);
             Ok(None)
         }
-        ParamState::Named(header, _first, _names) => {
+        ParamState::Named(header, _names) => {
             drop(header);
             Ok(None)
         }
     }
 }
 
-fn finish_element_state(first: usize, state: ElementState) -> Option<DeclTree>
+fn finish_element_state(state: ElementState) -> Option<DeclTree>
     ensures { option_map decl_of result ≡ decl_finish (element_state_of state) }
 {
     match state {
-        ElementState::Read(of) => Some(finish_clone(of, first)),
+        ElementState::Read(of) => Some(finish_clone(of)),
         ElementState::Due(_of) => None,
         ElementState::Vars(_of, _name, _vars) => None,
         ElementState::LeftRead(_word, _left, _of) => None,
     }
 }
 
-/// The declaration, which begins at the token `first`, where it may end here.
-pub fn finish(alloc: Global, first: usize, state: DeclState) -> Result<Option<DeclTree>, AllocError>
+/// The declaration, where it may end here.
+pub fn finish(alloc: Global, state: DeclState) -> Result<Option<DeclTree>, AllocError>
     ensures { IfOk result (λ d. option_map decl_of d ≡ decl_finish (state_of state)) }
 {
     match state {
-        DeclState::Types(state) => finish_types(alloc, first, state),
-        DeclState::Name(state) => finish_name_state(first, state),
-        DeclState::Param(state) => finish_param_state(alloc, first, state),
-        DeclState::Link(state) => Ok(finish_state_of_link(alloc, first, state)),
-        DeclState::Element(state) => Ok(finish_element_state(first, state)),
-        DeclState::InType(reader, of) => finish_whole_type(alloc, first, reader, of),
-        DeclState::InExpr(reader, of) => finish_whole_expr(alloc, first, reader, of),
+        DeclState::Types(state) => finish_types(alloc, state),
+        DeclState::Name(state) => finish_name_state(state),
+        DeclState::Param(state) => finish_param_state(alloc, state),
+        DeclState::Link(state) => Ok(finish_state_of_link(alloc, state)),
+        DeclState::Element(state) => Ok(finish_element_state(state)),
+        DeclState::InType(reader, of) => finish_whole_type(alloc, reader, of),
+        DeclState::InExpr(reader, of) => finish_whole_expr(alloc, reader, of),
         DeclState::Symbol(state) => {
             drop(state);
             Ok(None)

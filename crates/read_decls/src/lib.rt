@@ -30,5 +30,5 @@ pub use finishing::finish;
 pub use keywords::{Keyword, keyword_of};
 pub use state::{
     Cloning, DeclState, ElementState, ExprUse, Group, Header, LinkState, NameState, NewProp,
-    NewSymbol, ParamName, ParamState, Replaced, Signature, SymbolState, TypeDeclState, TypeUse,
+    NewSymbol, ParamState, Replaced, Signature, SymbolState, TypeDeclState, TypeUse,
 };

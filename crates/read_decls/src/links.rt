@@ -13,75 +13,56 @@ use crate::keywords::{Keyword, keyword_of};
 use crate::names::{mark_of, with_text};
 use crate::state::{Cloning, DeclState, ElementState, LinkState};
 use outside::{Seq, Text};
-use parse_forms::{Item, LowerName, UpperName};
+use parse_forms::{Item, LowerName, NOWHERE, UpperName, unplaced_name};
 use std::alloc::{AllocError, Global};
 use syntax_why::{Link, Mark, Name, Path};
 
-fn no_path(alloc: Global, at: usize) -> Path
+fn no_path(alloc: Global) -> Path
     ensures { result.parts ≡ [] }
 {
     Path {
-        at,
+        at: NOWHERE.first,
         parts: Seq::new(alloc),
     }
 }
 
-fn link_key(alloc: Global, at: usize, cloned: bool, key: Keyword) -> Option<DeclState>
+fn link_key(alloc: Global, cloned: bool, key: Keyword) -> Option<DeclState>
     ensures { option_map state_of result ≡ at_link_key cloned (keyword_by key) }
 {
     match key {
         Keyword::Import => Some(DeclState::Link(LinkState::PathDue(
             cloned,
             Link::Import,
-            no_path(alloc, at),
+            no_path(alloc),
         ))),
         Keyword::Export => Some(DeclState::Link(LinkState::PathDue(
             cloned,
             Link::Export,
-            no_path(alloc, at),
+            no_path(alloc),
         ))),
         _ => None,
     }
 }
 
-fn bare_link(
-    alloc: Global,
-    at: usize,
-    item: Item,
-    cloned: bool,
-) -> Result<Option<DeclState>, AllocError>
+fn bare_link(alloc: Global, item: Item, cloned: bool) -> Result<Option<DeclState>, AllocError>
     ensures { IfOk result (λ r. option_map state_of r ≡ at_path_due cloned Bare [] (lexeme_of item)) }
 {
-    path_due(at, item, cloned, Link::Bare, no_path(alloc, at))
+    path_due(item, cloned, Link::Bare, no_path(alloc))
 }
 
 /// Behind `use` or `clone`.
-pub fn link_due(
-    alloc: Global,
-    at: usize,
-    item: Item,
-    cloned: bool,
-) -> Result<Option<DeclState>, AllocError>
+pub fn link_due(alloc: Global, item: Item, cloned: bool) -> Result<Option<DeclState>, AllocError>
     ensures { IfOk result (λ r. option_map state_of r ≡ at_link_due cloned (lexeme_of item)) }
 {
     match item {
-        Item::Word(word) => Ok(link_key(alloc, at, cloned, keyword_of(word))),
-        Item::Lower(name) => bare_link(alloc, at, Item::Lower(name), cloned),
-        Item::Upper(name) => bare_link(alloc, at, Item::Upper(name), cloned),
-        Item::TyVar(text) => bare_link(alloc, at, Item::TyVar(text), cloned),
-        Item::Int(value) => bare_link(alloc, at, Item::Int(value), cloned),
-        Item::Run(text) => bare_link(alloc, at, Item::Run(text), cloned),
-        Item::Mark(mark) => bare_link(alloc, at, Item::Mark(mark), cloned),
+        Item::Word(word) => Ok(link_key(alloc, cloned, keyword_of(word))),
+        Item::Lower(name) => bare_link(alloc, Item::Lower(name), cloned),
+        Item::Upper(name) => bare_link(alloc, Item::Upper(name), cloned),
+        Item::TyVar(text) => bare_link(alloc, Item::TyVar(text), cloned),
+        Item::Int(value) => bare_link(alloc, Item::Int(value), cloned),
+        Item::Run(text) => bare_link(alloc, Item::Run(text), cloned),
+        Item::Mark(mark) => bare_link(alloc, Item::Mark(mark), cloned),
     }
-}
-
-/// A path that begins at a token, if it has not begun before.
-fn begun(at: usize, path: Path) -> Path
-    ensures { result.parts ≡ path.parts }
-{
-    let Path { at: first, parts } = path;
-    let at = if parts.is_empty() { at } else { first };
-    Path { at, parts }
 }
 
 fn with_part(path: Path, text: Text) -> Result<Path, AllocError>
@@ -94,7 +75,6 @@ fn with_part(path: Path, text: Text) -> Result<Path, AllocError>
 
 /// A part of a path.
 pub fn path_due(
-    at: usize,
     item: Item,
     cloned: bool,
     link: Link,
@@ -105,11 +85,11 @@ pub fn path_due(
     match item {
         Item::Lower(name) => {
             let LowerName { text } = name;
-            Ok(Some(DeclState::Link(LinkState::PathLower(cloned, link, begun(at, path), text))))
+            Ok(Some(DeclState::Link(LinkState::PathLower(cloned, link, path, text))))
         }
         Item::Upper(name) => {
             let UpperName { text } = name;
-            let path = with_part(begun(at, path), text)?;
+            let path = with_part(path, text)?;
             Ok(Some(DeclState::Link(LinkState::PathRead(cloned, link, path))))
         }
         _ => Ok(None),
@@ -138,7 +118,6 @@ pub fn path_lower(
 /// Behind a path and its new name: the elements of a clone may follow.
 pub fn link_end(
     alloc: Global,
-    at: usize,
     item: &Item,
     cloned: bool,
     link: Link,
@@ -156,7 +135,6 @@ pub fn link_end(
             path,
             renamed,
             elements: Seq::new(alloc),
-            element: at,
         }))),
         _ => None,
     }
@@ -174,7 +152,6 @@ fn has_new_name(link: Link) -> bool
 
 fn mark_behind_path(
     alloc: Global,
-    at: usize,
     mark: Mark,
     cloned: bool,
     link: Link,
@@ -190,14 +167,13 @@ fn mark_behind_path(
                 None
             }
         }
-        _ => link_end(alloc, at, &Item::Mark(mark), cloned, link, path, None),
+        _ => link_end(alloc, &Item::Mark(mark), cloned, link, path, None),
     }
 }
 
 /// Behind a path.
 pub fn path_read(
     alloc: Global,
-    at: usize,
     item: Item,
     cloned: bool,
     link: Link,
@@ -206,19 +182,19 @@ pub fn path_read(
     ensures { option_map state_of result ≡ at_path_read cloned link path.parts (lexeme_of item) }
 {
     match mark_of(&item) {
-        Some(mark) => mark_behind_path(alloc, at, mark, cloned, link, path),
+        Some(mark) => mark_behind_path(alloc, mark, cloned, link, path),
         None => None,
     }
 }
 
 /// Behind `as`.
-pub fn rename_due(at: usize, item: Item, cloned: bool, link: Link, path: Path) -> Option<DeclState>
+pub fn rename_due(item: Item, cloned: bool, link: Link, path: Path) -> Option<DeclState>
     ensures { option_map state_of result ≡ at_rename_due cloned link path.parts (lexeme_of item) }
 {
     match item {
         Item::Upper(name) => {
             let UpperName { text } = name;
-            Some(DeclState::Link(LinkState::Renamed(cloned, link, path, Name { at, text })))
+            Some(DeclState::Link(LinkState::Renamed(cloned, link, path, unplaced_name(text))))
         }
         _ => None,
     }

@@ -8,78 +8,84 @@ ghost use Rattle.read_decls.specs.Tokens.{mark_is};
 ghost use Rattle.parse_forms.specs.Items.{lexeme_of};
 
 use outside::{Seq, Text};
-use parse_forms::{Item, LowerName, UpperName};
+use parse_forms::{Item, LowerName, NOWHERE, UpperName, unplaced_name};
 use std::alloc::{AllocError, Global};
 use syntax_why::{Mark, Name, OpName, Style};
 use term_states::is_equal;
 
 /// A symbol with a name in lower case.
-pub fn lower_symbol(at: usize, name: LowerName) -> OpName
+pub fn lower_symbol(name: LowerName) -> OpName
     ensures { declared_name result ≡ lower_name [] name.text }
 {
     let LowerName { text } = name;
     OpName {
-        at,
+        at: NOWHERE.first,
         style: Style::Plain,
         text,
     }
 }
 
 /// A symbol that is an infix operator, `(op)`.
-pub fn infix_symbol(at: usize, text: Text) -> OpName
+pub fn infix_symbol(text: Text) -> OpName
     ensures { declared_name result ≡ infix_name [] (op_text text) }
 {
     OpName {
-        at,
+        at: NOWHERE.first,
         style: Style::Infix,
         text,
     }
 }
 
 /// A symbol that is a prefix operator, `(op_)`.
-pub fn prefix_symbol(at: usize, text: Text) -> OpName
+pub fn prefix_symbol(text: Text) -> OpName
     ensures { declared_name result ≡ prefix_name [] (op_text text) }
 {
     OpName {
-        at,
+        at: NOWHERE.first,
         style: Style::Prefix,
         text,
     }
 }
 
 /// The symbol `(*)`.
-pub fn star_symbol(alloc: Global, at: usize) -> OpName
+pub fn star_symbol(alloc: Global) -> OpName
     ensures { declared_name result ≡ star_name [] }
 {
     OpName {
-        at,
+        at: NOWHERE.first,
         style: Style::Star,
         text: Text::from_vec(Vec::new(alloc)),
     }
 }
 
 /// A proposition with a name in lower case.
-pub fn lower_prop(at: usize, name: LowerName) -> Name
+pub fn lower_prop(name: LowerName) -> Name
     ensures { plain_name result ≡ lower_name [] name.text }
 {
     let LowerName { text } = name;
-    Name { at, text }
+    Name {
+        at: NOWHERE.first,
+        text,
+    }
 }
 
 /// A proposition with a name in upper case.
-pub fn upper_prop(at: usize, name: UpperName) -> Name
+pub fn upper_prop(name: UpperName) -> Name
     ensures { plain_name result ≡ upper_name [] name.text }
 {
     let UpperName { text } = name;
-    Name { at, text }
+    Name {
+        at: NOWHERE.first,
+        text,
+    }
 }
 
 /// Names with one more at their end.
-pub fn with_name(names: Seq<Name>, at: usize, text: Text) -> Result<Seq<Name>, AllocError>
+pub fn with_name(names: Seq<Name>, text: Text) -> Result<Seq<Name>, AllocError>
     ensures { IfOk result (λ all. words all ≡ words names ++ text ∷ []) }
 {
     let mut names = names;
-    names.push(Name { at, text })?;
+    names.push(unplaced_name(text))?;
     Ok(names)
 }
 

@@ -15,7 +15,7 @@ use crate::state::{
 };
 use crate::uses::{expr_due, type_due};
 use outside::{Seq, Text};
-use parse_forms::{Item, LowerName, UpperName, here, lower};
+use parse_forms::{Item, LowerName, NOWHERE, UpperName, lower};
 use std::alloc::{AllocError, Global};
 use syntax_why::{AlgTree, ConTree, Mark, Name, ParamTree, TypeTree};
 
@@ -64,10 +64,10 @@ pub fn typed(alloc: Global, header: Header, ty: TypeTree) -> Result<DeclState, A
     Ok(DeclState::Param(ParamState::Params(header)))
 }
 
-fn plain(alloc: Global, first: usize, scopes: Seq<Text>, name: LowerName) -> TypeTree
+fn plain(alloc: Global, scopes: Seq<Text>, name: LowerName) -> TypeTree
     ensures { type_of result ≡ plain_type scopes name.text }
 {
-    TypeTree::named(here(first), lower(first, scopes, name), Seq::new(alloc))
+    TypeTree::named(NOWHERE, lower(scopes, name), Seq::new(alloc))
 }
 
 /// An algebraic type with one more constructor.
@@ -199,41 +199,35 @@ fn header_end(alloc: Global, item: &Item, header: Header) -> Result<Option<DeclS
 
 fn mark_in_params(
     alloc: Global,
-    at: usize,
     mark: Mark,
     header: Header,
 ) -> Result<Option<DeclState>, AllocError>
     ensures { IfOk result (λ r. option_map state_of r ≡ at_params (header_of header) (mark_token mark)) }
 {
     match mark {
-        Mark::LParen => Ok(Some(DeclState::Param(ParamState::Opened(header, at)))),
+        Mark::LParen => Ok(Some(DeclState::Param(ParamState::Opened(header)))),
         _ => header_end(alloc, &Item::Mark(mark), header),
     }
 }
 
 /// Among parameters or fields.
-pub fn params(
-    alloc: Global,
-    at: usize,
-    item: Item,
-    header: Header,
-) -> Result<Option<DeclState>, AllocError>
+pub fn params(alloc: Global, item: Item, header: Header) -> Result<Option<DeclState>, AllocError>
     ensures { IfOk result (λ r. option_map state_of r ≡ at_params (header_of header) (lexeme_of item)) }
 {
     match item {
         Item::Lower(name) => {
-            let ty = plain(alloc, at, Seq::new(alloc), name);
+            let ty = plain(alloc, Seq::new(alloc), name);
             Ok(Some(typed(alloc, header, ty)?))
         }
         Item::Upper(name) => {
             let UpperName { text } = name;
-            Ok(Some(DeclState::Param(ParamState::Scope(header, at, Seq::new(alloc), text))))
+            Ok(Some(DeclState::Param(ParamState::Scope(header, Seq::new(alloc), text))))
         }
         Item::TyVar(text) => {
-            let ty = TypeTree::variable(here(at), text);
+            let ty = TypeTree::variable(NOWHERE, text);
             Ok(Some(typed(alloc, header, ty)?))
         }
-        Item::Mark(mark) => mark_in_params(alloc, at, mark, header),
+        Item::Mark(mark) => mark_in_params(alloc, mark, header),
         Item::Int(value) => header_end(alloc, &Item::Int(value), header),
         Item::Run(text) => header_end(alloc, &Item::Run(text), header),
         Item::Word(word) => header_end(alloc, &Item::Word(word), header),
@@ -244,7 +238,6 @@ pub fn params(
 pub fn param_scope(
     item: Item,
     header: Header,
-    first: usize,
     scopes: Seq<Text>,
     text: Text,
 ) -> Result<Option<DeclState>, AllocError>
@@ -253,7 +246,7 @@ pub fn param_scope(
     match item {
         Item::Mark(Mark::Dot) => {
             match with_text(scopes, text) {
-                Ok(scopes) => Ok(Some(DeclState::Param(ParamState::Dotted(header, first, scopes)))),
+                Ok(scopes) => Ok(Some(DeclState::Param(ParamState::Dotted(header, scopes)))),
                 Err(error) => {
                     drop(header);
                     Err(error)
@@ -272,7 +265,6 @@ pub fn param_dotted(
     alloc: Global,
     item: Item,
     header: Header,
-    first: usize,
     scopes: Seq<Text>,
 ) -> Result<Option<DeclState>, AllocError>
     ensures { IfOk result (λ r. option_map state_of r ≡ at_param_dotted (header_of header) scopes (lexeme_of item)) }
@@ -280,10 +272,10 @@ pub fn param_dotted(
     match item {
         Item::Upper(name) => {
             let UpperName { text } = name;
-            Ok(Some(DeclState::Param(ParamState::Scope(header, first, scopes, text))))
+            Ok(Some(DeclState::Param(ParamState::Scope(header, scopes, text))))
         }
         Item::Lower(name) => {
-            let ty = plain(alloc, first, scopes, name);
+            let ty = plain(alloc, scopes, name);
             Ok(Some(typed(alloc, header, ty)?))
         }
         _ => {

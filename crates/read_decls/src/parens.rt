@@ -12,11 +12,11 @@ ghost use Rattle.read_decls.specs.Names.{named_params, named_type, param_words};
 ghost use Rattle.read_decls.specs.DeclStates.{type_use_of, header_of, state_of};
 
 use crate::params::typed;
-use crate::state::{DeclState, Header, ParamName, ParamState, TypeUse};
+use crate::state::{DeclState, Header, ParamState, TypeUse};
 use crate::type_uses::at_type;
 use crate::uses::type_due;
 use outside::Seq;
-use parse_forms::{Item, LowerName, Stack, TypeReader, TypeState, here, lower};
+use parse_forms::{Item, LowerName, NOWHERE, Stack, TypeReader, TypeState, lower, unplaced_name};
 use std::alloc::{AllocError, Global};
 use syntax_why::{Mark, Name, QName, TypeTree};
 
@@ -47,23 +47,23 @@ fn lower_copy(name: &LowerName) -> Result<LowerName, AllocError>
 }
 
 /// A name without scopes.
-fn plain_head(alloc: Global, name: &ParamName) -> Result<QName, AllocError>
-    ensures { IfOk result (λ q. called_of q ≡ lower_name [] name.now.name.text) }
+fn plain_head(alloc: Global, name: &LowerName) -> Result<QName, AllocError>
+    ensures { IfOk result (λ q. called_of q ≡ lower_name [] name.now.text) }
 {
-    let copy = lower_copy(&name.name)?;
-    Ok(lower(name.at, Seq::new(alloc), copy))
+    let copy = lower_copy(name)?;
+    Ok(lower(Seq::new(alloc), copy))
 }
 
 /// A name by itself as a type.
-fn plain_argument(alloc: Global, name: &ParamName) -> Result<TypeTree, AllocError>
-    ensures { IfOk result (λ t. type_of t ≡ plain_type [] name.now.name.text) }
+fn plain_argument(alloc: Global, name: &LowerName) -> Result<TypeTree, AllocError>
+    ensures { IfOk result (λ t. type_of t ≡ plain_type [] name.now.text) }
 {
     let called = plain_head(alloc, name)?;
-    Ok(TypeTree::named(here(name.at), called, Seq::new(alloc)))
+    Ok(TypeTree::named(NOWHERE, called, Seq::new(alloc)))
 }
 
 /// Names as the arguments of a type.
-fn plain_arguments(alloc: Global, names: &[ParamName]) -> Result<Seq<TypeTree>, AllocError>
+fn plain_arguments(alloc: Global, names: &[LowerName]) -> Result<Seq<TypeTree>, AllocError>
     ensures { IfOk result (λ ts. map type_of ts ≡ plain_types (param_words names.now)) }
 {
     let mut arguments = Seq::new(alloc);
@@ -75,7 +75,7 @@ fn plain_arguments(alloc: Global, names: &[ParamName]) -> Result<Seq<TypeTree>, 
 }
 
 /// Names as a type that is being read.
-fn type_of_names(alloc: Global, names: &[ParamName]) -> Result<TypeReader, AllocError>
+fn type_of_names(alloc: Global, names: &[LowerName]) -> Result<TypeReader, AllocError>
     ensures { IfOk result (λ r. type_states.state_of r ≡ named_type (param_words names.now)) }
 {
     if let [first, rest @ ..] = names {
@@ -92,91 +92,79 @@ fn type_of_names(alloc: Global, names: &[ParamName]) -> Result<TypeReader, Alloc
 
 fn mark_in_parens(
     alloc: Global,
-    at: usize,
     mark: Mark,
     header: Header,
-    first: usize,
 ) -> Result<Option<DeclState>, AllocError>
     ensures { IfOk result (λ r. option_map state_of r ≡ at_param_opened (header_of header) [] (lexeme.mark mark)) }
 {
     match mark {
         Mark::RParen => {
-            let group = TypeTree::group(here(first), Seq::new(alloc));
+            let group = TypeTree::group(NOWHERE, Seq::new(alloc));
             Ok(Some(typed(alloc, header, group)?))
         }
-        _ => part_opened(alloc, at, Item::Mark(mark), header, first),
+        _ => part_opened(alloc, Item::Mark(mark), header),
     }
 }
 
 /// A type in parentheses, of which no part was read.
-fn first_part(alloc: Global, header: Header, first: usize) -> TypeUse
+fn first_part(alloc: Global, header: Header) -> TypeUse
     ensures { type_use_of result ≡ machine.param_part (header_of header) [] }
 {
-    TypeUse::ParamPart(header, first, Seq::new(alloc))
+    TypeUse::ParamPart(header, Seq::new(alloc))
 }
 
 /// A token in the first part of a type in parentheses, or behind it.
 fn at_first_part(
     alloc: Global,
-    at: usize,
     item: Item,
     reader: TypeReader,
     header: Header,
-    first: usize,
 ) -> Result<Option<DeclState>, AllocError>
     ensures { IfOk result (λ r. option_map state_of r ≡ machine.at_type (type_states.state_of reader) (machine.param_part (header_of header) []) (lexeme_of item)) }
 {
-    let of = first_part(alloc, header, first);
-    at_type(alloc, at, item, reader, of)
+    let of = first_part(alloc, header);
+    at_type(alloc, item, reader, of)
 }
 
 /// The first token of a type in parentheses.
-fn part_opened(
-    alloc: Global,
-    at: usize,
-    item: Item,
-    header: Header,
-    first: usize,
-) -> Result<Option<DeclState>, AllocError>
+fn part_opened(alloc: Global, item: Item, header: Header) -> Result<Option<DeclState>, AllocError>
     ensures { IfOk result (λ r. option_map state_of r ≡ machine.at_type (form_due []) (machine.param_part (header_of header) []) (lexeme_of item)) }
 {
     let reader = TypeReader::new(alloc);
-    at_first_part(alloc, at, item, reader, header, first)
+    at_first_part(alloc, item, reader, header)
 }
 
 /// Behind a parenthesis among parameters.
 pub fn param_opened(
     alloc: Global,
-    at: usize,
     item: Item,
     header: Header,
-    first: usize,
 ) -> Result<Option<DeclState>, AllocError>
     ensures { IfOk result (λ r. option_map state_of r ≡ at_param_opened (header_of header) [] (lexeme_of item)) }
 {
     match item {
         Item::Lower(name) => {
-            let state = further_name(header, first, Seq::new(alloc), at, name)?;
+            let state = further_name(header, Seq::new(alloc), name)?;
             Ok(Some(state))
         }
-        Item::Mark(mark) => mark_in_parens(alloc, at, mark, header, first),
-        Item::Upper(name) => part_opened(alloc, at, Item::Upper(name), header, first),
-        Item::TyVar(text) => part_opened(alloc, at, Item::TyVar(text), header, first),
-        Item::Int(value) => part_opened(alloc, at, Item::Int(value), header, first),
-        Item::Run(text) => part_opened(alloc, at, Item::Run(text), header, first),
-        Item::Word(word) => part_opened(alloc, at, Item::Word(word), header, first),
+        Item::Mark(mark) => mark_in_parens(alloc, mark, header),
+        Item::Upper(name) => part_opened(alloc, Item::Upper(name), header),
+        Item::TyVar(text) => part_opened(alloc, Item::TyVar(text), header),
+        Item::Int(value) => part_opened(alloc, Item::Int(value), header),
+        Item::Run(text) => part_opened(alloc, Item::Run(text), header),
+        Item::Word(word) => part_opened(alloc, Item::Word(word), header),
     }
 }
 
 /// Names in parentheses as the names of parameters.
-fn param_names(alloc: Global, names: &[ParamName]) -> Result<Seq<Name>, AllocError>
+fn param_names(alloc: Global, names: &[LowerName]) -> Result<Seq<Name>, AllocError>
     ensures { IfOk result (λ all. words all ≡ param_words names.now) }
 {
     let mut all = Seq::new(alloc);
     for name in names {
-        let copy = lower_copy(&name.name)?;
+        let copy = lower_copy(name)?;
         let LowerName { text } = copy;
-        all.push(Name { at: name.at, text })?;
+        all.push(unplaced_name(text))?;
     }
     Ok(all)
 }
@@ -185,7 +173,7 @@ fn param_names(alloc: Global, names: &[ParamName]) -> Result<Seq<Name>, AllocErr
 fn param_type_due(
     alloc: Global,
     header: Header,
-    names: Seq<ParamName>,
+    names: Seq<LowerName>,
 ) -> Result<DeclState, AllocError>
     ensures { IfOk result (λ s. state_of s ≡ machine.type_for (machine.named_param (header_of header) (param_words names))) }
 {
@@ -202,7 +190,7 @@ fn param_type_due(
 fn names_typed(
     alloc: Global,
     header: Header,
-    names: Seq<ParamName>,
+    names: Seq<LowerName>,
 ) -> Result<Option<DeclState>, AllocError>
     ensures { IfOk result (λ r. option_map state_of r ≡ named_params (header_of header) (param_words names)) }
 {
@@ -218,16 +206,14 @@ fn names_typed(
 /// Another token behind names in parentheses, which are the beginning of a type.
 fn names_as_type(
     alloc: Global,
-    at: usize,
     item: Item,
     header: Header,
-    first: usize,
-    names: Seq<ParamName>,
+    names: Seq<LowerName>,
 ) -> Result<Option<DeclState>, AllocError>
     ensures { IfOk result (λ r. option_map state_of r ≡ machine.at_type (named_type (param_words names)) (machine.param_part (header_of header) []) (lexeme_of item)) }
 {
     match type_of_names(alloc, names.as_slice()) {
-        Ok(reader) => at_first_part(alloc, at, item, reader, header, first),
+        Ok(reader) => at_first_part(alloc, item, reader, header),
         Err(error) => {
             drop(header);
             drop(item);
@@ -239,11 +225,9 @@ fn names_as_type(
 /// Another token than a name in lower case behind names in parentheses.
 fn behind_names(
     alloc: Global,
-    at: usize,
     item: Item,
     header: Header,
-    first: usize,
-    names: Seq<ParamName>,
+    names: Seq<LowerName>,
 ) -> Result<Option<DeclState>, AllocError>
     requires { names ≡ [] → ⊥ }
     ensures { IfOk result (λ r. option_map state_of r ≡ machine.at_param_names (header_of header) (param_words names) (lexeme_of item)) }
@@ -252,35 +236,29 @@ fn behind_names(
         drop(item);
         names_typed(alloc, header, names)
     } else {
-        names_as_type(alloc, at, item, header, first, names)
+        names_as_type(alloc, item, header, names)
     }
 }
 
 /// Names in parentheses with one more at their end.
-fn with_param_name(
-    names: Seq<ParamName>,
-    at: usize,
-    name: LowerName,
-) -> Result<Seq<ParamName>, AllocError>
+fn with_param_name(names: Seq<LowerName>, name: LowerName) -> Result<Seq<LowerName>, AllocError>
     ensures { IfOk result (λ all. param_words all ≡ param_words names ++ name.text ∷ []) }
 {
     let mut names = names;
-    names.push(ParamName { at, name })?;
+    names.push(name)?;
     Ok(names)
 }
 
 /// A further name in parentheses.
 fn further_name(
     header: Header,
-    first: usize,
-    names: Seq<ParamName>,
-    at: usize,
+    names: Seq<LowerName>,
     name: LowerName,
 ) -> Result<DeclState, AllocError>
     ensures { IfOk result (λ s. state_of s ≡ machine.param_opened (header_of header) (param_words names ++ name.text ∷ [])) }
 {
-    match with_param_name(names, at, name) {
-        Ok(names) => Ok(DeclState::Param(ParamState::Named(header, first, names))),
+    match with_param_name(names, name) {
+        Ok(names) => Ok(DeclState::Param(ParamState::Named(header, names))),
         Err(error) => {
             drop(header);
             Err(error)
@@ -291,43 +269,39 @@ fn further_name(
 /// Behind names in parentheses.
 fn behind_some(
     alloc: Global,
-    at: usize,
     item: Item,
     header: Header,
-    first: usize,
-    names: Seq<ParamName>,
+    names: Seq<LowerName>,
 ) -> Result<Option<DeclState>, AllocError>
     requires { names ≡ [] → ⊥ }
     ensures { IfOk result (λ r. option_map state_of r ≡ at_param_opened (header_of header) (param_words names) (lexeme_of item)) }
 {
     match item {
         Item::Lower(next) => {
-            let state = further_name(header, first, names, at, next)?;
+            let state = further_name(header, names, next)?;
             Ok(Some(state))
         }
-        Item::Upper(next) => behind_names(alloc, at, Item::Upper(next), header, first, names),
-        Item::TyVar(text) => behind_names(alloc, at, Item::TyVar(text), header, first, names),
-        Item::Int(value) => behind_names(alloc, at, Item::Int(value), header, first, names),
-        Item::Run(text) => behind_names(alloc, at, Item::Run(text), header, first, names),
-        Item::Mark(mark) => behind_names(alloc, at, Item::Mark(mark), header, first, names),
-        Item::Word(word) => behind_names(alloc, at, Item::Word(word), header, first, names),
+        Item::Upper(next) => behind_names(alloc, Item::Upper(next), header, names),
+        Item::TyVar(text) => behind_names(alloc, Item::TyVar(text), header, names),
+        Item::Int(value) => behind_names(alloc, Item::Int(value), header, names),
+        Item::Run(text) => behind_names(alloc, Item::Run(text), header, names),
+        Item::Mark(mark) => behind_names(alloc, Item::Mark(mark), header, names),
+        Item::Word(word) => behind_names(alloc, Item::Word(word), header, names),
     }
 }
 
 /// Behind a parenthesis among parameters, and names in lower case if there are any.
 pub fn param_named(
     alloc: Global,
-    at: usize,
     item: Item,
     header: Header,
-    first: usize,
-    names: Seq<ParamName>,
+    names: Seq<LowerName>,
 ) -> Result<Option<DeclState>, AllocError>
     ensures { IfOk result (λ r. option_map state_of r ≡ at_param_opened (header_of header) (param_words names) (lexeme_of item)) }
 {
     if names.is_empty() {
-        param_opened(alloc, at, item, header, first)
+        param_opened(alloc, item, header)
     } else {
-        behind_some(alloc, at, item, header, first, names)
+        behind_some(alloc, item, header, names)
     }
 }

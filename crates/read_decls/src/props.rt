@@ -48,41 +48,24 @@ fn inductive(alloc: Global, of: Signature, bar: bool) -> IndTree
 }
 
 /// The name of the first clause, without a bar.
-fn first_clause(
-    alloc: Global,
-    at: usize,
-    item: Item,
-    before: Seq<IndTree>,
-    of: Signature,
-) -> Option<DeclState>
+fn first_clause(alloc: Global, item: Item, before: Seq<IndTree>, of: Signature) -> Option<DeclState>
     ensures { option_map state_of result ≡ machine.at_name_due (machine.clause_name (map inductive_of before) (machine.inductive (declared_name of.name) (map param_of of.params) false)) [] (lexeme_of item) }
 {
-    prop_due(
-        at,
-        item,
-        NewProp::Clause(before, inductive(alloc, of, false)),
-    )
+    prop_due(item, NewProp::Clause(before, inductive(alloc, of, false)))
 }
 
-fn mark_clauses(
-    alloc: Global,
-    at: usize,
-    mark: Mark,
-    before: Seq<IndTree>,
-    of: Signature,
-) -> Option<DeclState>
+fn mark_clauses(alloc: Global, mark: Mark, before: Seq<IndTree>, of: Signature) -> Option<DeclState>
     ensures { option_map state_of result ≡ at_clauses_due (map inductive_of before) (declared_name of.name) (map param_of of.params) (lexeme.mark mark) }
 {
     match mark {
         Mark::Bar => Some(DeclState::PropDue(NewProp::Clause(before, inductive(alloc, of, true)))),
-        _ => first_clause(alloc, at, Item::Mark(mark), before, of),
+        _ => first_clause(alloc, Item::Mark(mark), before, of),
     }
 }
 
 /// Behind the equality sign of an inductive predicate.
 pub fn clauses_due(
     alloc: Global,
-    at: usize,
     item: Item,
     before: Seq<IndTree>,
     of: Signature,
@@ -90,13 +73,13 @@ pub fn clauses_due(
     ensures { option_map state_of result ≡ at_clauses_due (map inductive_of before) (declared_name of.name) (map param_of of.params) (lexeme_of item) }
 {
     match item {
-        Item::Mark(mark) => mark_clauses(alloc, at, mark, before, of),
-        Item::Lower(name) => first_clause(alloc, at, Item::Lower(name), before, of),
-        Item::Upper(name) => first_clause(alloc, at, Item::Upper(name), before, of),
-        Item::TyVar(text) => first_clause(alloc, at, Item::TyVar(text), before, of),
-        Item::Int(value) => first_clause(alloc, at, Item::Int(value), before, of),
-        Item::Run(text) => first_clause(alloc, at, Item::Run(text), before, of),
-        Item::Word(word) => first_clause(alloc, at, Item::Word(word), before, of),
+        Item::Mark(mark) => mark_clauses(alloc, mark, before, of),
+        Item::Lower(name) => first_clause(alloc, Item::Lower(name), before, of),
+        Item::Upper(name) => first_clause(alloc, Item::Upper(name), before, of),
+        Item::TyVar(text) => first_clause(alloc, Item::TyVar(text), before, of),
+        Item::Int(value) => first_clause(alloc, Item::Int(value), before, of),
+        Item::Run(text) => first_clause(alloc, Item::Run(text), before, of),
+        Item::Word(word) => first_clause(alloc, Item::Word(word), before, of),
     }
 }
 

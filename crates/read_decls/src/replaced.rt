@@ -47,11 +47,6 @@ fn named_element(alloc: Global, of: Replaced, name: QName) -> Result<DeclState, 
     }
 }
 
-/// The token with which a name begins: this one, where no scope was read before.
-fn name_start(at: usize, first: usize, scopes: &Seq<Text>) -> usize {
-    if scopes.is_empty() { at } else { first }
-}
-
 fn takes_operators(of: &Replaced) -> bool
     ensures { result ≡ levels.has_operators (sort_of (replaced_of of.now)) }
 {
@@ -100,44 +95,38 @@ fn all_axioms(of: Replaced, scopes: Seq<Text>) -> Result<Option<DeclState>, Allo
     Ok(None)
 }
 
-fn star_due(
-    alloc: Global,
-    of: Replaced,
-    first: usize,
-    scopes: Seq<Text>,
-) -> Result<Option<DeclState>, AllocError>
+fn star_due(alloc: Global, of: Replaced, scopes: Seq<Text>) -> Result<Option<DeclState>, AllocError>
     ensures { IfOk result (λ r. option_map state_of r ≡ at_name_due (replaced_of of) scopes (lexeme.mark Star)) }
 {
     if !takes_operators(&of) {
         drop(of);
         return Ok(None);
     }
-    let state = named_element(alloc, of, star(alloc, first, scopes))?;
+    let state = named_element(alloc, of, star(alloc, scopes))?;
     Ok(Some(state))
 }
 
-fn operator_due(of: Replaced, first: usize, scopes: Seq<Text>) -> Option<DeclState>
+fn operator_due(of: Replaced, scopes: Seq<Text>) -> Option<DeclState>
     ensures { option_map state_of result ≡ at_name_due (replaced_of of) scopes (lexeme.mark LParen) }
 {
     if !takes_operators(&of) {
         drop(of);
         return None;
     }
-    Some(DeclState::Name(NameState::Opened(of, first, scopes)))
+    Some(DeclState::Name(NameState::Opened(of, scopes)))
 }
 
 fn mark_name(
     alloc: Global,
     mark: Mark,
     of: Replaced,
-    first: usize,
     scopes: Seq<Text>,
 ) -> Result<Option<DeclState>, AllocError>
     ensures { IfOk result (λ r. option_map state_of r ≡ at_name_due (replaced_of of) scopes (lexeme.mark mark)) }
 {
     match mark {
-        Mark::Star => star_due(alloc, of, first, scopes),
-        Mark::LParen => Ok(operator_due(of, first, scopes)),
+        Mark::Star => star_due(alloc, of, scopes),
+        Mark::LParen => Ok(operator_due(of, scopes)),
         Mark::Dot => all_axioms(of, scopes),
         _ => {
             drop(of);
@@ -146,21 +135,21 @@ fn mark_name(
     }
 }
 
-fn upper_due(of: Replaced, first: usize, scopes: Seq<Text>, name: UpperName) -> DeclState
+fn upper_due(of: Replaced, scopes: Seq<Text>, name: UpperName) -> DeclState
     ensures { Some (state_of result) ≡ machine.upper_named (sort_of (replaced_of of)) (replaced_of of) scopes name.text }
 {
     match of {
         Replaced::TypeSymbol(of) => {
-            DeclState::Name(NameState::Scope(Replaced::TypeSymbol(of), first, scopes, name))
+            DeclState::Name(NameState::Scope(Replaced::TypeSymbol(of), scopes, name))
         }
         Replaced::Left(word, of) => {
-            DeclState::Name(NameState::Scope(Replaced::Left(word, of), first, scopes, name))
+            DeclState::Name(NameState::Scope(Replaced::Left(word, of), scopes, name))
         }
         Replaced::Right(word, left, of) => {
-            DeclState::Name(NameState::Scope(Replaced::Right(word, left, of), first, scopes, name))
+            DeclState::Name(NameState::Scope(Replaced::Right(word, left, of), scopes, name))
         }
         Replaced::Prop(kind, of) => {
-            DeclState::Name(NameState::Scope(Replaced::Prop(kind, of), first, scopes, name))
+            DeclState::Name(NameState::Scope(Replaced::Prop(kind, of), scopes, name))
         }
     }
 }
@@ -168,22 +157,19 @@ fn upper_due(of: Replaced, first: usize, scopes: Seq<Text>, name: UpperName) -> 
 /// The token with which a name begins, or goes on behind a dot.
 pub fn name_due(
     alloc: Global,
-    at: usize,
     item: Item,
     of: Replaced,
-    first: usize,
     scopes: Seq<Text>,
 ) -> Result<Option<DeclState>, AllocError>
     ensures { IfOk result (λ r. option_map state_of r ≡ at_name_due (replaced_of of) scopes (lexeme_of item)) }
 {
-    let first = name_start(at, first, &scopes);
     match item {
         Item::Lower(name) => {
-            let state = named_element(alloc, of, lower(first, scopes, name))?;
+            let state = named_element(alloc, of, lower(scopes, name))?;
             Ok(Some(state))
         }
-        Item::Upper(name) => Ok(Some(upper_due(of, first, scopes, name))),
-        Item::Mark(mark) => mark_name(alloc, mark, of, first, scopes),
+        Item::Upper(name) => Ok(Some(upper_due(of, scopes, name))),
+        Item::Mark(mark) => mark_name(alloc, mark, of, scopes),
         Item::TyVar(_text) => {
             drop(of);
             Ok(None)
@@ -221,7 +207,6 @@ fn beyond(item: &Item, of: Replaced, name: QName) -> Result<Option<DeclState>, A
 fn mark_behind_scope(
     mark: Mark,
     of: Replaced,
-    first: usize,
     scopes: Seq<Text>,
     name: UpperName,
 ) -> Result<Option<DeclState>, AllocError>
@@ -231,14 +216,14 @@ fn mark_behind_scope(
         Mark::Dot => {
             let UpperName { text } = name;
             match with_text(scopes, text) {
-                Ok(scopes) => Ok(Some(DeclState::Name(NameState::Due(of, first, scopes)))),
+                Ok(scopes) => Ok(Some(DeclState::Name(NameState::Due(of, scopes)))),
                 Err(error) => {
                     drop(of);
                     Err(error)
                 }
             }
         }
-        _ => beyond(&Item::Mark(mark), of, upper(first, scopes, name)),
+        _ => beyond(&Item::Mark(mark), of, upper(scopes, name)),
     }
 }
 
@@ -246,31 +231,30 @@ fn mark_behind_scope(
 pub fn name_scope(
     item: Item,
     of: Replaced,
-    first: usize,
     scopes: Seq<Text>,
     name: UpperName,
 ) -> Result<Option<DeclState>, AllocError>
     ensures { IfOk result (λ r. option_map state_of r ≡ at_name_scope (replaced_of of) scopes name.text (lexeme_of item)) }
 {
     match item {
-        Item::Mark(mark) => mark_behind_scope(mark, of, first, scopes, name),
-        Item::Lower(next) => beyond(&Item::Lower(next), of, upper(first, scopes, name)),
-        Item::Upper(next) => beyond(&Item::Upper(next), of, upper(first, scopes, name)),
-        Item::TyVar(text) => beyond(&Item::TyVar(text), of, upper(first, scopes, name)),
-        Item::Int(value) => beyond(&Item::Int(value), of, upper(first, scopes, name)),
-        Item::Run(text) => beyond(&Item::Run(text), of, upper(first, scopes, name)),
-        Item::Word(word) => beyond(&Item::Word(word), of, upper(first, scopes, name)),
+        Item::Mark(mark) => mark_behind_scope(mark, of, scopes, name),
+        Item::Lower(next) => beyond(&Item::Lower(next), of, upper(scopes, name)),
+        Item::Upper(next) => beyond(&Item::Upper(next), of, upper(scopes, name)),
+        Item::TyVar(text) => beyond(&Item::TyVar(text), of, upper(scopes, name)),
+        Item::Int(value) => beyond(&Item::Int(value), of, upper(scopes, name)),
+        Item::Run(text) => beyond(&Item::Run(text), of, upper(scopes, name)),
+        Item::Word(word) => beyond(&Item::Word(word), of, upper(scopes, name)),
     }
 }
 
 /// Behind a parenthesis in which an operator is named.
-pub fn name_opened(item: Item, of: Replaced, first: usize, scopes: Seq<Text>) -> Option<DeclState>
+pub fn name_opened(item: Item, of: Replaced, scopes: Seq<Text>) -> Option<DeclState>
     ensures { option_map state_of result ≡ at_name_opened (replaced_of of) scopes (lexeme_of item) }
 {
     match item {
         Item::Run(text) => {
             if is_operator(text.as_slice()) {
-                Some(DeclState::Name(NameState::Run(of, first, scopes, text)))
+                Some(DeclState::Name(NameState::Run(of, scopes, text)))
             } else {
                 drop(of);
                 None
@@ -288,7 +272,6 @@ pub fn name_run(
     alloc: Global,
     item: Item,
     of: Replaced,
-    first: usize,
     scopes: Seq<Text>,
     text: Text,
 ) -> Result<Option<DeclState>, AllocError>
@@ -296,12 +279,10 @@ pub fn name_run(
 {
     match item {
         Item::Mark(Mark::RParen) => {
-            let state = named_element(alloc, of, infix(first, scopes, text))?;
+            let state = named_element(alloc, of, infix(scopes, text))?;
             Ok(Some(state))
         }
-        Item::Mark(Mark::Wild) => Ok(Some(DeclState::Name(NameState::Wild(
-            of, first, scopes, text,
-        )))),
+        Item::Mark(Mark::Wild) => Ok(Some(DeclState::Name(NameState::Wild(of, scopes, text)))),
         _ => {
             drop(of);
             Ok(None)
@@ -314,7 +295,6 @@ pub fn name_wild(
     alloc: Global,
     item: Item,
     of: Replaced,
-    first: usize,
     scopes: Seq<Text>,
     text: Text,
 ) -> Result<Option<DeclState>, AllocError>
@@ -322,7 +302,7 @@ pub fn name_wild(
 {
     match item {
         Item::Mark(Mark::RParen) => {
-            let state = named_element(alloc, of, prefix(first, scopes, text))?;
+            let state = named_element(alloc, of, prefix(scopes, text))?;
             Ok(Some(state))
         }
         _ => {

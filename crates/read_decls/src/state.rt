@@ -33,14 +33,13 @@ pub enum Header {
     Constructor(Seq<AlgTree>, AlgTree, Name, Seq<TypeTree>),
 }
 
-/// A clone with its elements so far, and the token with which the last of them begins.
+/// A clone with its elements so far.
 #[derive(Drop)]
 pub struct Cloning {
     pub link: Link,
     pub path: Path,
     pub renamed: Option<Name>,
     pub elements: Seq<ElemTree>,
-    pub element: usize,
 }
 
 /// What a symbol that is declared is.
@@ -74,7 +73,7 @@ pub enum Replaced {
 pub enum TypeUse {
     Equation(Name, Seq<Name>),
     NamedParam(Header, Seq<Name>),
-    ParamPart(Header, usize, Seq<TypeTree>),
+    ParamPart(Header, Seq<TypeTree>),
     FunctionResult(Signature),
     MemberResult(Group, Signature),
     ConstantType(OpName),
@@ -98,45 +97,38 @@ pub enum TypeDeclState {
     Due(Seq<AlgTree>),
     Named(Seq<AlgTree>, Name, Seq<Name>),
     Equal(Seq<AlgTree>, Name, Seq<Name>),
-    Upper(Name, Seq<Name>, usize, UpperName),
+    Upper(Name, Seq<Name>, UpperName),
     ConstructorDue(Seq<AlgTree>, AlgTree),
 }
 
-/// What was read last of the name of a symbol that is declared, with its first token.
+/// What was read last of the name of a symbol that is declared.
 #[derive(Drop)]
 pub enum SymbolState {
     Due(NewSymbol),
-    Opened(NewSymbol, usize),
-    Run(NewSymbol, usize, Text),
-    Wild(NewSymbol, usize, Text),
+    Opened(NewSymbol),
+    Run(NewSymbol, Text),
+    Wild(NewSymbol, Text),
 }
 
-/// What was read last of a name in an element of a clone, with its first token where it has scopes.
+/// What was read last of a name in an element of a clone.
 #[derive(Drop)]
 pub enum NameState {
-    Due(Replaced, usize, Seq<Text>),
-    Scope(Replaced, usize, Seq<Text>, UpperName),
-    Opened(Replaced, usize, Seq<Text>),
-    Run(Replaced, usize, Seq<Text>, Text),
-    Wild(Replaced, usize, Seq<Text>, Text),
+    Due(Replaced, Seq<Text>),
+    Scope(Replaced, Seq<Text>, UpperName),
+    Opened(Replaced, Seq<Text>),
+    Run(Replaced, Seq<Text>, Text),
+    Wild(Replaced, Seq<Text>, Text),
 }
 
-/// A name in lower case in parentheses, which may become the name of a parameter or a part of a type.
-#[derive(Drop)]
-pub struct ParamName {
-    pub at: usize,
-    pub name: LowerName,
-}
-
-/// What was read last of parameters or fields, with the first token of a type or of parentheses.
+/// What was read last of parameters or fields.
 /// Names in lower case in parentheses are kept as names: a colon makes them names of parameters, another token a type.
 #[derive(Drop)]
 pub enum ParamState {
     Params(Header),
-    Scope(Header, usize, Seq<Text>, Text),
-    Dotted(Header, usize, Seq<Text>),
-    Opened(Header, usize),
-    Named(Header, usize, Seq<ParamName>),
+    Scope(Header, Seq<Text>, Text),
+    Dotted(Header, Seq<Text>),
+    Opened(Header),
+    Named(Header, Seq<LowerName>),
 }
 
 /// What was read last of a `use`, or of a `clone`, where the first is true, before its elements.

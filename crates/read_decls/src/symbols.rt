@@ -50,20 +50,20 @@ fn named_symbol(alloc: Global, of: NewSymbol, name: OpName) -> DeclState
 }
 
 /// Behind `*`, which is the whole name of a symbol.
-fn named_star(alloc: Global, at: usize, of: NewSymbol) -> DeclState
+fn named_star(alloc: Global, of: NewSymbol) -> DeclState
     ensures { Some (state_of result) ≡ at_name_due (symbol_of of) [] (lexeme.mark Star) }
 {
-    named_symbol(alloc, of, star_symbol(alloc, at))
+    named_symbol(alloc, of, star_symbol(alloc))
 }
 
 /// The token with which the name of a symbol begins.
-pub fn symbol_due(alloc: Global, at: usize, item: Item, of: NewSymbol) -> Option<DeclState>
+pub fn symbol_due(alloc: Global, item: Item, of: NewSymbol) -> Option<DeclState>
     ensures { option_map state_of result ≡ at_name_due (symbol_of of) [] (lexeme_of item) }
 {
     match item {
-        Item::Lower(name) => Some(named_symbol(alloc, of, lower_symbol(at, name))),
-        Item::Mark(Mark::Star) => Some(named_star(alloc, at, of)),
-        Item::Mark(Mark::LParen) => Some(DeclState::Symbol(SymbolState::Opened(of, at))),
+        Item::Lower(name) => Some(named_symbol(alloc, of, lower_symbol(name))),
+        Item::Mark(Mark::Star) => Some(named_star(alloc, of)),
+        Item::Mark(Mark::LParen) => Some(DeclState::Symbol(SymbolState::Opened(of))),
         _ => {
             drop(of);
             None
@@ -72,13 +72,13 @@ pub fn symbol_due(alloc: Global, at: usize, item: Item, of: NewSymbol) -> Option
 }
 
 /// Behind a parenthesis in which an operator is declared.
-pub fn symbol_opened(item: Item, of: NewSymbol, first: usize) -> Option<DeclState>
+pub fn symbol_opened(item: Item, of: NewSymbol) -> Option<DeclState>
     ensures { option_map state_of result ≡ at_name_opened (symbol_of of) [] (lexeme_of item) }
 {
     match item {
         Item::Run(text) => {
             if is_operator(text.as_slice()) {
-                Some(DeclState::Symbol(SymbolState::Run(of, first, text)))
+                Some(DeclState::Symbol(SymbolState::Run(of, text)))
             } else {
                 drop(of);
                 None
@@ -92,18 +92,12 @@ pub fn symbol_opened(item: Item, of: NewSymbol, first: usize) -> Option<DeclStat
 }
 
 /// Behind an operator that is declared.
-pub fn symbol_run(
-    alloc: Global,
-    item: Item,
-    of: NewSymbol,
-    first: usize,
-    text: Text,
-) -> Option<DeclState>
+pub fn symbol_run(alloc: Global, item: Item, of: NewSymbol, text: Text) -> Option<DeclState>
     ensures { option_map state_of result ≡ at_name_run (symbol_of of) [] (op_text text) (lexeme_of item) }
 {
     match item {
-        Item::Mark(Mark::RParen) => Some(named_symbol(alloc, of, infix_symbol(first, text))),
-        Item::Mark(Mark::Wild) => Some(DeclState::Symbol(SymbolState::Wild(of, first, text))),
+        Item::Mark(Mark::RParen) => Some(named_symbol(alloc, of, infix_symbol(text))),
+        Item::Mark(Mark::Wild) => Some(DeclState::Symbol(SymbolState::Wild(of, text))),
         _ => {
             drop(of);
             None
@@ -112,17 +106,11 @@ pub fn symbol_run(
 }
 
 /// Behind a prefix operator that is declared, and its `_`.
-pub fn symbol_wild(
-    alloc: Global,
-    item: Item,
-    of: NewSymbol,
-    first: usize,
-    text: Text,
-) -> Option<DeclState>
+pub fn symbol_wild(alloc: Global, item: Item, of: NewSymbol, text: Text) -> Option<DeclState>
     ensures { option_map state_of result ≡ at_name_wild (symbol_of of) [] (op_text text) (lexeme_of item) }
 {
     match item {
-        Item::Mark(Mark::RParen) => Some(named_symbol(alloc, of, prefix_symbol(first, text))),
+        Item::Mark(Mark::RParen) => Some(named_symbol(alloc, of, prefix_symbol(text))),
         _ => {
             drop(of);
             None
@@ -141,12 +129,12 @@ fn named_prop(of: NewProp, name: Name) -> DeclState
 }
 
 /// The token that is the name of a proposition.
-pub fn prop_due(at: usize, item: Item, of: NewProp) -> Option<DeclState>
+pub fn prop_due(item: Item, of: NewProp) -> Option<DeclState>
     ensures { option_map state_of result ≡ at_name_due (prop_of of) [] (lexeme_of item) }
 {
     match item {
-        Item::Lower(name) => Some(named_prop(of, lower_prop(at, name))),
-        Item::Upper(name) => Some(named_prop(of, upper_prop(at, name))),
+        Item::Lower(name) => Some(named_prop(of, lower_prop(name))),
+        Item::Upper(name) => Some(named_prop(of, upper_prop(name))),
         _ => {
             drop(of);
             None

@@ -17,7 +17,7 @@ use crate::params::{header_with, typed};
 use crate::state::{Cloning, DeclState, ElementState, ExprUse, Header, ParamState, TypeUse};
 use crate::uses::{expr_due, type_due};
 use outside::Seq;
-use parse_forms::{Item, TypeReader, here};
+use parse_forms::{Item, NOWHERE, TypeReader};
 use std::alloc::{AllocError, Global};
 use syntax_why::{ElemNode, Mark, Name, QName, TypeTree};
 
@@ -56,7 +56,6 @@ fn behind_part(
     alloc: Global,
     mark: Mark,
     header: Header,
-    first: usize,
     parts: Seq<TypeTree>,
     ty: TypeTree,
 ) -> Result<Option<DeclState>, AllocError>
@@ -64,7 +63,7 @@ fn behind_part(
 {
     match mark {
         Mark::Comma => match with_type(parts, ty) {
-            Ok(parts) => Ok(Some(type_due(alloc, TypeUse::ParamPart(header, first, parts)))),
+            Ok(parts) => Ok(Some(type_due(alloc, TypeUse::ParamPart(header, parts)))),
             Err(error) => {
                 drop(header);
                 Err(error)
@@ -72,7 +71,7 @@ fn behind_part(
         },
         Mark::RParen => match with_type(parts, ty) {
             Ok(parts) => {
-                let group = TypeTree::group(here(first), parts);
+                let group = TypeTree::group(NOWHERE, parts);
                 Ok(Some(typed(alloc, header, group)?))
             }
             Err(error) => {
@@ -118,9 +117,7 @@ fn mark_behind_type(
     match of {
         TypeUse::Equation(_name, _vars) => Ok(None),
         TypeUse::NamedParam(header, names) => behind_named(mark, header, names, ty),
-        TypeUse::ParamPart(header, first, parts) => {
-            behind_part(alloc, mark, header, first, parts, ty)
-        }
+        TypeUse::ParamPart(header, parts) => behind_part(alloc, mark, header, parts, ty),
         TypeUse::FunctionResult(_of) => Ok(None),
         TypeUse::MemberResult(_group, _of) => Ok(None),
         TypeUse::ConstantType(_name) => Ok(None),
@@ -140,7 +137,7 @@ fn equal_behind_type(alloc: Global, of: TypeUse, ty: TypeTree) -> Option<DeclSta
             drop(header);
             None
         }
-        TypeUse::ParamPart(header, _first, _parts) => {
+        TypeUse::ParamPart(header, _parts) => {
             drop(header);
             None
         }
@@ -193,14 +190,13 @@ fn whole_type(
 
 fn further_type(
     alloc: Global,
-    at: usize,
     item: Item,
     reader: TypeReader,
     of: TypeUse,
 ) -> Result<Option<DeclState>, AllocError>
     ensures { IfOk result (λ r. option_map state_of r ≡ option_map (λ s. decl_type s (type_use_of of)) (form_step types (type_states.state_of reader) (lexeme_of item))) }
 {
-    match reader.step(alloc, at, item) {
+    match reader.step(alloc, item) {
         Ok(Some(next)) => Ok(Some(DeclState::InType(next, of))),
         Ok(None) => {
             drop(of);
@@ -216,7 +212,6 @@ fn further_type(
 /// A token in a type or behind it.
 pub fn at_type(
     alloc: Global,
-    at: usize,
     item: Item,
     reader: TypeReader,
     of: TypeUse,
@@ -226,6 +221,6 @@ pub fn at_type(
     if reader.is_over(&item) {
         whole_type(alloc, &item, reader, of)
     } else {
-        further_type(alloc, at, item, reader, of)
+        further_type(alloc, item, reader, of)
     }
 }

@@ -17,18 +17,24 @@ use crate::params::params;
 use crate::state::{DeclState, Header, ParamState, TypeDeclState, TypeUse};
 use crate::type_uses::at_type;
 use outside::Seq;
-use parse_forms::{Item, LowerName, Stack, TypeContext, TypeReader, TypeState, UpperName};
+use parse_forms::{
+    Item, LowerName, Stack, TypeContext, TypeReader, TypeState, UpperName, unplaced_name,
+};
 use std::alloc::{AllocError, Global};
 use syntax_why::{AlgTree, Mark, Name};
 
 /// The name of a type.
-pub fn named_type(alloc: Global, at: usize, item: Item, before: Seq<AlgTree>) -> Option<DeclState>
+pub fn named_type(alloc: Global, item: Item, before: Seq<AlgTree>) -> Option<DeclState>
     ensures { option_map state_of result ≡ at_type_due (map algebraic_of before) (lexeme_of item) }
 {
     match item {
         Item::Lower(name) => {
             let LowerName { text } = name;
-            Some(DeclState::Types(TypeDeclState::Named(before, Name { at, text }, Seq::new(alloc))))
+            Some(DeclState::Types(TypeDeclState::Named(
+                before,
+                unplaced_name(text),
+                Seq::new(alloc),
+            )))
         }
         _ => None,
     }
@@ -36,7 +42,6 @@ pub fn named_type(alloc: Global, at: usize, item: Item, before: Seq<AlgTree>) ->
 
 /// Behind the name of a type and its variables.
 pub fn type_vars(
-    at: usize,
     item: Item,
     before: Seq<AlgTree>,
     name: Name,
@@ -49,7 +54,7 @@ pub fn type_vars(
     }
     match item {
         Item::TyVar(text) => {
-            let vars = with_name(vars, at, text)?;
+            let vars = with_name(vars, text)?;
             Ok(Some(DeclState::Types(TypeDeclState::Named(before, name, vars))))
         }
         Item::Lower(_name) => Ok(None),
@@ -78,7 +83,6 @@ fn algebraic(alloc: Global, name: Name, vars: Seq<Name>, bar: bool) -> AlgTree
 /// A constructor, behind the equality sign of an algebraic type in a group.
 fn first_constructor(
     alloc: Global,
-    at: usize,
     constructor: UpperName,
     before: Seq<AlgTree>,
     name: Name,
@@ -88,14 +92,13 @@ fn first_constructor(
 {
     let UpperName { text } = constructor;
     let of = algebraic(alloc, name, vars, false);
-    let header = Header::Constructor(before, of, Name { at, text }, Seq::new(alloc));
+    let header = Header::Constructor(before, of, unplaced_name(text), Seq::new(alloc));
     DeclState::Param(ParamState::Params(header))
 }
 
 /// What the first type of a group stands for.
 fn equation(
     alloc: Global,
-    at: usize,
     item: Item,
     name: Name,
     vars: Seq<Name>,
@@ -103,13 +106,12 @@ fn equation(
     ensures { IfOk result (λ r. option_map state_of r ≡ machine.at_type (form_due []) (machine.equation name.text (words vars)) (lexeme_of item)) }
 {
     let of = TypeUse::Equation(name, vars);
-    at_type(alloc, at, item, TypeReader::new(alloc), of)
+    at_type(alloc, item, TypeReader::new(alloc), of)
 }
 
 /// Behind the equality sign of a type that is the first of a group.
 fn first_equal(
     alloc: Global,
-    at: usize,
     item: Item,
     name: Name,
     vars: Seq<Name>,
@@ -120,21 +122,19 @@ fn first_equal(
         Item::Upper(constructor) => Ok(Some(DeclState::Types(TypeDeclState::Upper(
             name,
             vars,
-            at,
             constructor,
         )))),
-        Item::Mark(mark) => mark_equal(alloc, at, mark, name, vars),
-        Item::Lower(word) => equation(alloc, at, Item::Lower(word), name, vars),
-        Item::TyVar(text) => equation(alloc, at, Item::TyVar(text), name, vars),
-        Item::Int(value) => equation(alloc, at, Item::Int(value), name, vars),
-        Item::Run(text) => equation(alloc, at, Item::Run(text), name, vars),
-        Item::Word(word) => equation(alloc, at, Item::Word(word), name, vars),
+        Item::Mark(mark) => mark_equal(alloc, mark, name, vars),
+        Item::Lower(word) => equation(alloc, Item::Lower(word), name, vars),
+        Item::TyVar(text) => equation(alloc, Item::TyVar(text), name, vars),
+        Item::Int(value) => equation(alloc, Item::Int(value), name, vars),
+        Item::Run(text) => equation(alloc, Item::Run(text), name, vars),
+        Item::Word(word) => equation(alloc, Item::Word(word), name, vars),
     }
 }
 
 fn mark_equal(
     alloc: Global,
-    at: usize,
     mark: Mark,
     name: Name,
     vars: Seq<Name>,
@@ -146,14 +146,13 @@ fn mark_equal(
             let of = algebraic(alloc, name, vars, true);
             Ok(Some(DeclState::Types(TypeDeclState::ConstructorDue(Seq::new(alloc), of))))
         }
-        _ => equation(alloc, at, Item::Mark(mark), name, vars),
+        _ => equation(alloc, Item::Mark(mark), name, vars),
     }
 }
 
 /// Behind the equality sign of a further type of a group.
 fn further_equal(
     alloc: Global,
-    at: usize,
     item: Item,
     before: Seq<AlgTree>,
     name: Name,
@@ -166,9 +165,7 @@ fn further_equal(
             let of = algebraic(alloc, name, vars, true);
             Some(DeclState::Types(TypeDeclState::ConstructorDue(before, of)))
         }
-        Item::Upper(constructor) => {
-            Some(first_constructor(alloc, at, constructor, before, name, vars))
-        }
+        Item::Upper(constructor) => Some(first_constructor(alloc, constructor, before, name, vars)),
         _ => None,
     }
 }
@@ -176,7 +173,6 @@ fn further_equal(
 /// Behind the equality sign of a type.
 pub fn type_equal(
     alloc: Global,
-    at: usize,
     item: Item,
     before: Seq<AlgTree>,
     name: Name,
@@ -185,9 +181,9 @@ pub fn type_equal(
     ensures { IfOk result (λ r. option_map state_of r ≡ at_type_equal (map algebraic_of before) name.text (words vars) (lexeme_of item)) }
 {
     if before.is_empty() {
-        return first_equal(alloc, at, item, name, vars);
+        return first_equal(alloc, item, name, vars);
     }
-    Ok(further_equal(alloc, at, item, before, name, vars))
+    Ok(further_equal(alloc, item, before, name, vars))
 }
 
 /// A dot behind a name in upper case, which is then a scope before the name of a type.
@@ -195,7 +191,6 @@ fn scope_of_type(
     alloc: Global,
     name: Name,
     vars: Seq<Name>,
-    first: usize,
     scope: UpperName,
 ) -> Result<DeclState, AllocError>
     ensures { IfOk result (λ s. Some (state_of s) ≡ at_type_upper name.text (words vars) scope.text (lexeme.mark Dot)) }
@@ -204,42 +199,34 @@ fn scope_of_type(
     let mut scopes = Seq::new(alloc);
     scopes.push(text)?;
     let reader = TypeReader {
-        state: TypeState::Dotted(first, scopes, TypeContext::Alone),
+        state: TypeState::Dotted(scopes, TypeContext::Alone),
         frames: Stack::new(alloc),
     };
     Ok(DeclState::InType(reader, TypeUse::Equation(name, vars)))
 }
 
 /// An algebraic type that is the first of a group, with its first constructor.
-pub fn first_header(
-    alloc: Global,
-    name: Name,
-    vars: Seq<Name>,
-    first: usize,
-    constructor: UpperName,
-) -> Header
+pub fn first_header(alloc: Global, name: Name, vars: Seq<Name>, constructor: UpperName) -> Header
     ensures { header_of result ≡ machine.constructor_header [] (machine.algebraic name.text (words vars) false) constructor.text [] }
 {
     let UpperName { text } = constructor;
     let of = algebraic(alloc, name, vars, false);
-    let constructor = Name { at: first, text };
+    let constructor = unplaced_name(text);
     Header::Constructor(Seq::new(alloc), of, constructor, Seq::new(alloc))
 }
 
 /// Another token behind a name in upper case, which is then a constructor.
 fn behind_constructor(
     alloc: Global,
-    at: usize,
     item: Item,
     name: Name,
     vars: Seq<Name>,
-    first: usize,
     constructor: UpperName,
 ) -> Result<Option<DeclState>, AllocError>
     ensures { IfOk result (λ r. option_map state_of r ≡ machine.at_params (machine.constructor_header [] (machine.algebraic name.text (words vars) false) constructor.text []) (lexeme_of item)) }
 {
-    let header = first_header(alloc, name, vars, first, constructor);
-    params(alloc, at, item, header)
+    let header = first_header(alloc, name, vars, constructor);
+    params(alloc, item, header)
 }
 
 fn is_dot(item: &Item) -> bool
@@ -251,26 +238,23 @@ fn is_dot(item: &Item) -> bool
 /// Behind a name in upper case behind the equality sign of a type.
 pub fn type_upper(
     alloc: Global,
-    at: usize,
     item: Item,
     name: Name,
     vars: Seq<Name>,
-    first: usize,
     upper: UpperName,
 ) -> Result<Option<DeclState>, AllocError>
     ensures { IfOk result (λ r. option_map state_of r ≡ at_type_upper name.text (words vars) upper.text (lexeme_of item)) }
 {
     if is_dot(&item) {
-        Ok(Some(scope_of_type(alloc, name, vars, first, upper)?))
+        Ok(Some(scope_of_type(alloc, name, vars, upper)?))
     } else {
-        behind_constructor(alloc, at, item, name, vars, first, upper)
+        behind_constructor(alloc, item, name, vars, upper)
     }
 }
 
 /// A constructor, behind a bar.
 pub fn constructor_due(
     alloc: Global,
-    at: usize,
     item: Item,
     before: Seq<AlgTree>,
     of: AlgTree,
@@ -280,7 +264,7 @@ pub fn constructor_due(
     match item {
         Item::Upper(name) => {
             let UpperName { text } = name;
-            let header = Header::Constructor(before, of, Name { at, text }, Seq::new(alloc));
+            let header = Header::Constructor(before, of, unplaced_name(text), Seq::new(alloc));
             Some(DeclState::Param(ParamState::Params(header)))
         }
         _ => None,

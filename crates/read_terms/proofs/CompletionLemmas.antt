@@ -41,12 +41,12 @@ close_edges [] k = refl
 close_edges (e ∷ es) k = close_edges es k
 
 close_waiting : (q : Waiting) (k : Frames) → close (waiting_of q ∷ k) ≡ close (waiting_of q ∷ []) ++ close k
-close_waiting (w.Inside at es c) k = refl
-close_waiting (w.Scrutinee at es c) k = refl
+close_waiting (w.Inside es c) k = refl
+close_waiting (w.Scrutinee es c) k = refl
 close_waiting (w.Arm b) k = refl
-close_waiting (w.Condition at) k = refl
-close_waiting (w.Consequent at c) k = refl
-close_waiting (w.Value at qs) k = refl
+close_waiting w.Condition k = refl
+close_waiting (w.Consequent c) k = refl
+close_waiting (w.Value qs) k = refl
 close_waiting (w.Term q es bars) k = refl
 
 close_layer : (a : Layer) (ls : List Layer) → close (below (a ∷ ls)) ≡ close (waiting_of a.waiting ∷ []) ++ close (below ls)
@@ -65,19 +65,19 @@ patterns_close (o ∷ os) = ap (λ v. tk.RParen ∷ v) (patterns_close os)
 
 types_split : (q : TypeState) (k : FormFrames) → form_complete types (t.state_by q k) ≡ form_complete types (t.state_by q []) ++ form_close k
 types_split ts.Due k = refl
-types_split (ts.Opened first c) k = refl
+types_split (ts.Opened c) k = refl
 types_split (ts.Taking q as_) k = refl
 types_split (ts.Done d) k = refl
-types_split (ts.Upper first qs n c) k = refl
-types_split (ts.Dotted first qs c) k = refl
+types_split (ts.Upper qs n c) k = refl
+types_split (ts.Dotted qs c) k = refl
 
 patterns_split : (q : PatternState) (k : FormFrames) → form_complete patterns (p.state_by q k) ≡ form_complete patterns (p.state_by q []) ++ form_close k
 patterns_split ps.Due k = refl
-patterns_split (ps.Opened first c) k = refl
+patterns_split (ps.Opened c) k = refl
 patterns_split (ps.Taking q as_) k = refl
 patterns_split (ps.Done d) k = refl
-patterns_split (ps.Upper first qs n c) k = refl
-patterns_split (ps.Dotted first qs c) k = refl
+patterns_split (ps.Upper qs n c) k = refl
+patterns_split (ps.Dotted qs c) k = refl
 patterns_split (ps.As d) k = refl
 patterns_split (ps.Named d) k = refl
 
@@ -97,24 +97,24 @@ parens_more xs n =
     append_assoc xs (replicate n tk.RParen) (tk.RParen ∷ []) ∙ ap (λ v. xs ++ v) (replicate_snoc n) ∙ ap (λ v. xs ++ replicate v tk.RParen) same
 
 listing_split : (q : Listing) (qs : List Form) (k : Frames) → close_use (listed (listing_of q) qs) k ≡ close_use (listed (listing_of q) qs) [] ++ close k
-listing_split (l.Let at) qs k = refl
+listing_split l.Let qs k = refl
 listing_split (l.Branch b) qs k = refl
 
 complete_split : (q : State) (k : Frames) → complete (state_by q k) ≡ complete (state_by q []) ++ close k
 complete_split s.Due k = refl
 complete_split (s.Taking q es) k = refl
 complete_split (s.Done d) k = refl
-complete_split (s.Upper at qs n c) k = refl
-complete_split (s.Dotted at qs c) k = refl
-complete_split (s.NameOpened at qs c) k = refl
-complete_split (s.NameRun at qs o c) k = refl
-complete_split (s.NameWild at qs o c) k = refl
-complete_split (s.PrefixOpened at i o c) k = refl
-complete_split (s.Opened at c) k = refl
-complete_split (s.ArmsOpened at es c) k = refl
+complete_split (s.Upper qs n c) k = refl
+complete_split (s.Dotted qs c) k = refl
+complete_split (s.NameOpened qs c) k = refl
+complete_split (s.NameRun qs o c) k = refl
+complete_split (s.NameWild qs o c) k = refl
+complete_split (s.PrefixOpened o c) k = refl
+complete_split (s.Opened c) k = refl
+complete_split (s.ArmsOpened es c) k = refl
 complete_split (s.Binders q ns) k = refl
 complete_split (s.TriggerClosed q es bars) k = refl
-complete_split (s.Type r (u.Cast at e c)) k = sym (append_assoc (form_complete types (t.state_of r)) (close_use (type_use_of (u.Cast at e c)) []) (close k))
+complete_split (s.Type r (u.Cast e c)) k = sym (append_assoc (form_complete types (t.state_of r)) (close_use (type_use_of (u.Cast e c)) []) (close k))
 complete_split (s.Type r (u.Binder q ns)) k = sym (append_assoc (form_complete types (t.state_of r)) (close_use (type_use_of (u.Binder q ns)) []) (close k))
 complete_split (s.Pattern r q qs) k = ap (λ v. form_complete patterns (p.state_of r) ++ v) (listing_split q _ k) ∙ sym (append_assoc (form_complete patterns (p.state_of r)) (close_use (listed (listing_of q) _) []) (close k))
 

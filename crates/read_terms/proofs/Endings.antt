@@ -23,12 +23,12 @@ finish_none [] k h t = h t
 finish_none (e ∷ es) k h t = finish_none es k h (fill e t)
 
 waiting_none : (l : Waiting) (k : Frames) (t : Tree) → finish_up t (waiting_of l ∷ k) ≡ None
-waiting_none (w.Inside at ts c) k t = refl
-waiting_none (w.Scrutinee at ts c) k t = refl
+waiting_none (w.Inside ts c) k t = refl
+waiting_none (w.Scrutinee ts c) k t = refl
 waiting_none (w.Arm b) k t = refl
-waiting_none (w.Condition at) k t = refl
-waiting_none (w.Consequent at c) k t = refl
-waiting_none (w.Value at ps) k t = refl
+waiting_none w.Condition k t = refl
+waiting_none (w.Consequent c) k t = refl
+waiting_none (w.Value ps) k t = refl
 waiting_none (w.Term q ts bars) k t = refl
 
 pub finish_whole : (k : Open) (t : Tree) → k.layers ≡ [] → finish_up t (frames_of k) ≡ Some (fill_all (map edge_of k.edges) t)
@@ -51,15 +51,15 @@ ends_by : (q : State) (k : Open) → k.layers ≡ [] → is_some (finish (state_
 ends_by s.Due k h = refl
 ends_by (s.Taking q ts) k h = some_whole k (apply (called_of q) (trees (map tree_of ts))) h
 ends_by (s.Done t) k h = some_whole k (tree_of t.tree) h
-ends_by (s.Upper at qs n c.Operand) k h = some_whole k (apply (upper_name qs n.text) none) h
-ends_by (s.Upper at qs n (c.Argument q ts)) k h = some_whole k _ h
-ends_by (s.Dotted at qs c) k h = refl
-ends_by (s.NameOpened at qs c) k h = refl
-ends_by (s.NameRun at qs o c) k h = refl
-ends_by (s.NameWild at qs o c) k h = refl
-ends_by (s.PrefixOpened at i o c) k h = refl
-ends_by (s.Opened at c) k h = refl
-ends_by (s.ArmsOpened at es c) k h = refl
+ends_by (s.Upper qs n c.Operand) k h = some_whole k (apply (upper_name qs n.text) none) h
+ends_by (s.Upper qs n (c.Argument q ts)) k h = some_whole k _ h
+ends_by (s.Dotted qs c) k h = refl
+ends_by (s.NameOpened qs c) k h = refl
+ends_by (s.NameRun qs o c) k h = refl
+ends_by (s.NameWild qs o c) k h = refl
+ends_by (s.PrefixOpened o c) k h = refl
+ends_by (s.Opened c) k h = refl
+ends_by (s.ArmsOpened es c) k h = refl
 ends_by (s.Binders q ns) k h = refl
 ends_by (s.TriggerClosed q ts bars) k h = refl
 ends_by (s.Type r u) k h = refl
@@ -69,15 +69,15 @@ open_by : (q : State) (k : Open) → (k.layers ≡ [] → ⊥) → is_some (fini
 open_by s.Due k h = refl
 open_by (s.Taking q ts) k h = none_open k (apply (called_of q) (trees (map tree_of ts))) h
 open_by (s.Done t) k h = none_open k (tree_of t.tree) h
-open_by (s.Upper at qs n c.Operand) k h = none_open k (apply (upper_name qs n.text) none) h
-open_by (s.Upper at qs n (c.Argument q ts)) k h = none_open k _ h
-open_by (s.Dotted at qs c) k h = refl
-open_by (s.NameOpened at qs c) k h = refl
-open_by (s.NameRun at qs o c) k h = refl
-open_by (s.NameWild at qs o c) k h = refl
-open_by (s.PrefixOpened at i o c) k h = refl
-open_by (s.Opened at c) k h = refl
-open_by (s.ArmsOpened at es c) k h = refl
+open_by (s.Upper qs n c.Operand) k h = none_open k (apply (upper_name qs n.text) none) h
+open_by (s.Upper qs n (c.Argument q ts)) k h = none_open k _ h
+open_by (s.Dotted qs c) k h = refl
+open_by (s.NameOpened qs c) k h = refl
+open_by (s.NameRun qs o c) k h = refl
+open_by (s.NameWild qs o c) k h = refl
+open_by (s.PrefixOpened o c) k h = refl
+open_by (s.Opened c) k h = refl
+open_by (s.ArmsOpened es c) k h = refl
 open_by (s.Binders q ns) k h = refl
 open_by (s.TriggerClosed q ts bars) k h = refl
 open_by (s.Type r u) k h = refl

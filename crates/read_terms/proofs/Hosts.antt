@@ -376,7 +376,7 @@ typed_false all bs n ns k (run (sign i q w)) e = refl
 typed_false all bs n ns k (run (no_operator w)) e = refl
 
 pub type_use_sort : (u : TypeUse) → sort_of (type_use_of u) ≡ types
-type_use_sort (u.Cast at e c) = refl
+type_use_sort (u.Cast e c) = refl
 type_use_sort (u.Binder q ns) = refl
 
 pub named_typed : (all : Bool) (bs : List Binder) (ns : List Name) (k : Frames) (x : Lexeme) → (ns ≡ [] → ⊥) → colon_is x ≡ true → at_named all bs (words ns) k x ≡ Some (form (form_due []) (binder_type all bs (words ns)) k)

@@ -8,7 +8,7 @@ ghost use Rattle.term_states.specs.ExprStates.{context_of, frames_of, state_of};
 ghost use Rattle.term_states.specs.Begins.{begins_atom};
 
 use outside::Seq;
-use parse_forms::{Item, here, lower, star};
+use parse_forms::{Item, NOWHERE, lower, star};
 use std::alloc::{AllocError, Global};
 use syntax_why::{Expr, Mark, QName};
 use term_states::{Context, Open, Operand, Reader, State, Waiting, closed_operand};
@@ -47,7 +47,7 @@ pub fn closed_atom(atom: Operand, context: Context, open: Open) -> Result<Reader
 pub fn with_name(alloc: Global, arguments: Seq<Expr>, name: QName) -> Result<Seq<Expr>, AllocError>
     ensures { IfOk result (λ all. map tree_of all ≡ map tree_of arguments ++ apply (called_of name) none ∷ []) }
 {
-    let argument = Expr::apply(here(name.at), name, Seq::new(alloc));
+    let argument = Expr::apply(NOWHERE, name, Seq::new(alloc));
     let mut arguments = arguments;
     arguments.push(argument)?;
     Ok(arguments)
@@ -80,7 +80,6 @@ pub fn headed_by(
 /// A token with which an atom begins.
 pub fn atom(
     alloc: Global,
-    at: usize,
     item: Item,
     context: Context,
     open: Open,
@@ -89,18 +88,18 @@ pub fn atom(
 {
     match item {
         Item::Lower(name) => {
-            let name = lower(at, Seq::new(alloc), name);
+            let name = lower(Seq::new(alloc), name);
             Ok(Some(headed_by(alloc, name, context, open)?))
         }
         Item::Upper(name) => Ok(Some(Reader {
-            state: State::Upper(at, Seq::new(alloc), name, context),
+            state: State::Upper(Seq::new(alloc), name, context),
             open,
         })),
         Item::Int(value) => {
-            let atom = closed_operand(Expr::integer(here(at), value));
+            let atom = closed_operand(Expr::integer(NOWHERE, value));
             Ok(Some(closed_atom(atom, context, open)?))
         }
-        Item::Mark(mark) => atom_mark(alloc, at, mark, context, open),
+        Item::Mark(mark) => atom_mark(alloc, mark, context, open),
         Item::TyVar(_) => Ok(None),
         Item::Run(_) => Ok(None),
         Item::Word(_) => Ok(None),
@@ -109,7 +108,6 @@ pub fn atom(
 
 fn atom_mark(
     alloc: Global,
-    at: usize,
     mark: Mark,
     context: Context,
     open: Open,
@@ -118,23 +116,23 @@ fn atom_mark(
 {
     match mark {
         Mark::True => {
-            let atom = closed_operand(Expr::truth(here(at)));
+            let atom = closed_operand(Expr::truth(NOWHERE));
             Ok(Some(closed_atom(atom, context, open)?))
         }
         Mark::False => {
-            let atom = closed_operand(Expr::falsity(here(at)));
+            let atom = closed_operand(Expr::falsity(NOWHERE));
             Ok(Some(closed_atom(atom, context, open)?))
         }
         Mark::Star => {
-            let name = star(alloc, at, Seq::new(alloc));
+            let name = star(alloc, Seq::new(alloc));
             Ok(Some(headed_by(alloc, name, context, open)?))
         }
         Mark::LParen => Ok(Some(Reader {
-            state: State::Opened(at, context),
+            state: State::Opened(context),
             open,
         })),
         Mark::Match => {
-            let open = open.wait(alloc, Waiting::Scrutinee(at, Seq::new(alloc), context))?;
+            let open = open.wait(alloc, Waiting::Scrutinee(Seq::new(alloc), context))?;
             Ok(Some(due(open)))
         }
         _ => Ok(None),

@@ -11,7 +11,7 @@ ghost use Rattle.term_states.specs.ExprStates.{context_of, edge_of, below, frame
 use crate::atoms::{atom, due, is_atom_start, with_name};
 use crate::waiting::waited;
 use outside::{Seq, Text};
-use parse_forms::{Item, Stack, here};
+use parse_forms::{Item, NOWHERE, Stack};
 use std::alloc::{AllocError, Global};
 use syntax_why::{Expr, QName};
 use term_states::{
@@ -22,7 +22,6 @@ use term_states::{
 /// An operator with its left operand, where that was found.
 fn with_operator(
     found: Option<(Operand, Stack<Edge>)>,
-    at: usize,
     sign: Infix,
     layers: Stack<Layer>,
 ) -> Result<Option<Reader>, AllocError>
@@ -32,7 +31,7 @@ fn with_operator(
         None => Ok(None),
         Some((left, edges)) => {
             let outer = Open { edges, layers };
-            let open = outer.edge(Edge::Right(left.tree, at, sign))?;
+            let open = outer.edge(Edge::Right(left.tree, sign))?;
             Ok(Some(due(open)))
         }
     }
@@ -41,7 +40,6 @@ fn with_operator(
 /// An infix operator behind an expression.
 fn infix_behind(
     alloc: Global,
-    at: usize,
     sign: Infix,
     operand: Operand,
     open: Open,
@@ -50,13 +48,12 @@ fn infix_behind(
 {
     let Open { edges, layers } = open;
     let found = climb(alloc, operand, edges, &sign)?;
-    with_operator(found, at, sign, layers)
+    with_operator(found, sign, layers)
 }
 
 /// An operator behind an expression.
 fn operator_behind(
     alloc: Global,
-    at: usize,
     text: Text,
     operand: Operand,
     open: Open,
@@ -65,7 +62,7 @@ fn operator_behind(
 {
     match infix_operator(text) {
         None => Ok(None),
-        Some(sign) => infix_behind(alloc, at, sign, operand, open),
+        Some(sign) => infix_behind(alloc, sign, operand, open),
     }
 }
 
@@ -108,7 +105,6 @@ fn other_behind(
 /// The token behind an expression.
 pub fn behind(
     alloc: Global,
-    at: usize,
     item: Item,
     operand: Operand,
     open: Open,
@@ -116,7 +112,7 @@ pub fn behind(
     ensures { IfOk result (λ r. option_map state_of r ≡ at_done (tree_of operand.tree) (frames_of «open») (lexeme_of item)) }
 {
     match item {
-        Item::Run(text) => operator_behind(alloc, at, text, operand, open),
+        Item::Run(text) => operator_behind(alloc, text, operand, open),
         Item::Lower(name) => other_behind(alloc, &Item::Lower(name), operand, open),
         Item::Upper(name) => other_behind(alloc, &Item::Upper(name), operand, open),
         Item::TyVar(text) => other_behind(alloc, &Item::TyVar(text), operand, open),
@@ -129,7 +125,6 @@ pub fn behind(
 /// The token behind a name and its arguments so far.
 pub fn take(
     alloc: Global,
-    at: usize,
     item: Item,
     name: QName,
     arguments: Seq<Expr>,
@@ -138,16 +133,15 @@ pub fn take(
     ensures { IfOk result (λ r. option_map state_of r ≡ at_take (called_of name) (map tree_of arguments) (frames_of «open») (lexeme_of item)) }
 {
     if is_atom_start(&item) {
-        return atom(alloc, at, item, Context::Argument(name, arguments), open);
+        return atom(alloc, item, Context::Argument(name, arguments), open);
     }
-    let operand = closed_operand(Expr::apply(here(name.at), name, arguments));
-    behind(alloc, at, item, operand, open)
+    let operand = closed_operand(Expr::apply(NOWHERE, name, arguments));
+    behind(alloc, item, operand, open)
 }
 
 /// The token behind a name in upper case that is whole.
 pub fn beyond(
     alloc: Global,
-    at: usize,
     item: Item,
     name: QName,
     context: Context,
@@ -156,10 +150,10 @@ pub fn beyond(
     ensures { IfOk result (λ r. option_map state_of r ≡ at_beyond (called_of name) (context_of context) (frames_of «open») (lexeme_of item)) }
 {
     match context {
-        Context::Operand => take(alloc, at, item, name, Seq::new(alloc), open),
+        Context::Operand => take(alloc, item, name, Seq::new(alloc), open),
         Context::Argument(head, arguments) => {
             let arguments = with_name(alloc, arguments, name)?;
-            take(alloc, at, item, head, arguments, open)
+            take(alloc, item, head, arguments, open)
         }
     }
 }

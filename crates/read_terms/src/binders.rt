@@ -9,7 +9,7 @@ ghost use Rattle.term_states.specs.ExprStates.{frames_of, state_of};
 use crate::atoms::due;
 use crate::waiting::type_due;
 use outside::{Seq, Text};
-use parse_forms::{Item, LowerName};
+use parse_forms::{Item, LowerName, unplaced_name};
 use std::alloc::{AllocError, Global};
 use syntax_why::{BinderTree, Expr, Mark, Name, TriggerTree, TypeTree};
 use term_states::{Edge, Open, Quantifier, Reader, State, TypeUse, Waiting};
@@ -23,18 +23,10 @@ pub fn with_binder(
     ensures binders { IfOk result (λ q. map binder_of q.binders ≡ map binder_of of.binders ++ binder_of (record { names = names; ty = ty }) ∷ []) }
     ensures all { IfOk result (λ q. q.all ≡ of.all) }
 {
-    let Quantifier {
-        first,
-        all,
-        binders,
-    } = of;
+    let Quantifier { all, binders } = of;
     let mut binders = binders;
     binders.push(BinderTree { names, ty })?;
-    Ok(Quantifier {
-        first,
-        all,
-        binders,
-    })
+    Ok(Quantifier { all, binders })
 }
 
 /// Behind the binders of a quantifier.
@@ -103,17 +95,11 @@ fn named(
     behind_names(alloc, item, of, names, open)
 }
 
-fn with_name(
-    at: usize,
-    text: Text,
-    of: Quantifier,
-    names: Seq<Name>,
-    open: Open,
-) -> Result<Reader, AllocError>
+fn with_name(text: Text, of: Quantifier, names: Seq<Name>, open: Open) -> Result<Reader, AllocError>
     ensures { IfOk result (λ r. state_of r ≡ machine_binders of.all (map binder_of of.binders) (words names ++ text ∷ []) (frames_of «open»)) }
 {
     let mut names = names;
-    names.push(Name { at, text })?;
+    names.push(unplaced_name(text))?;
     Ok(Reader {
         state: State::Binders(of, names),
         open,
@@ -123,7 +109,6 @@ fn with_name(
 /// Among the names of a binder.
 pub fn binders(
     alloc: Global,
-    at: usize,
     item: Item,
     of: Quantifier,
     names: Seq<Name>,
@@ -134,7 +119,7 @@ pub fn binders(
     match item {
         Item::Lower(name) => {
             let LowerName { text } = name;
-            Ok(Some(with_name(at, text, of, names, open)?))
+            Ok(Some(with_name(text, of, names, open)?))
         }
         Item::Upper(name) => named(alloc, &Item::Upper(name), of, names, open),
         Item::TyVar(text) => named(alloc, &Item::TyVar(text), of, names, open),

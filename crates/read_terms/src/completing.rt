@@ -20,8 +20,8 @@ fn push_waiting(waiting: &Waiting, out: &mut Vec<TokenKind>) -> Result<(), Alloc
     ensures { OnOk result (out.new.items ≡ out.old.items ++ kinds (close (waiting_of waiting.now ∷ []))) }
 {
     match waiting {
-        Waiting::Inside(_, _, _) => out.push(TokenKind::RParen)?,
-        Waiting::Scrutinee(_, _, _) => {
+        Waiting::Inside(_, _) => out.push(TokenKind::RParen)?,
+        Waiting::Scrutinee(_, _) => {
             out.push(TokenKind::Reserved(61))?;
             out.push(TokenKind::Wild)?;
             out.push(TokenKind::Arrow)?;
@@ -29,17 +29,17 @@ fn push_waiting(waiting: &Waiting, out: &mut Vec<TokenKind>) -> Result<(), Alloc
             out.push(TokenKind::Reserved(15))?;
         }
         Waiting::Arm(_) => out.push(TokenKind::Reserved(15))?,
-        Waiting::Condition(_) => {
+        Waiting::Condition => {
             out.push(TokenKind::Reserved(51))?;
             out.push(TokenKind::Reserved(54))?;
             out.push(TokenKind::Reserved(14))?;
             out.push(TokenKind::Reserved(54))?;
         }
-        Waiting::Consequent(_, _) => {
+        Waiting::Consequent(_) => {
             out.push(TokenKind::Reserved(14))?;
             out.push(TokenKind::Reserved(54))?;
         }
-        Waiting::Value(_, _) => {
+        Waiting::Value(_) => {
             out.push(TokenKind::Reserved(30))?;
             out.push(TokenKind::Reserved(54))?;
         }
@@ -85,14 +85,14 @@ fn push_type_state(state: &TypeState, out: &mut Vec<TokenKind>) -> Result<(), Al
 {
     match state {
         TypeState::Due => out.push(TokenKind::TyVar)?,
-        TypeState::Opened(_, _) => out.push(TokenKind::RParen)?,
+        TypeState::Opened(_) => out.push(TokenKind::RParen)?,
         TypeState::Taking(_, _) => {}
         TypeState::Done(_) => {}
-        TypeState::Upper(_, _, _, _) => {
+        TypeState::Upper(_, _, _) => {
             out.push(TokenKind::Dot)?;
             out.push(TokenKind::Lident)?;
         }
-        TypeState::Dotted(_, _, _) => out.push(TokenKind::Lident)?,
+        TypeState::Dotted(_, _) => out.push(TokenKind::Lident)?,
     }
     Ok(())
 }
@@ -110,11 +110,11 @@ fn push_pattern_state(state: &PatternState, out: &mut Vec<TokenKind>) -> Result<
 {
     match state {
         PatternState::Due => out.push(TokenKind::Wild)?,
-        PatternState::Opened(_, _) => out.push(TokenKind::RParen)?,
+        PatternState::Opened(_) => out.push(TokenKind::RParen)?,
         PatternState::Taking(_, _) => {}
         PatternState::Done(_) => {}
-        PatternState::Upper(_, _, _, _) => {}
-        PatternState::Dotted(_, _, _) => out.push(TokenKind::Uident)?,
+        PatternState::Upper(_, _, _) => {}
+        PatternState::Dotted(_, _) => out.push(TokenKind::Uident)?,
         PatternState::As(_) => out.push(TokenKind::Lident)?,
         PatternState::Named(_) => {}
     }
@@ -134,7 +134,7 @@ fn push_type_use(of: &TypeUse, out: &mut Vec<TokenKind>) -> Result<(), AllocErro
     ensures { OnOk result (out.new.items ≡ out.old.items ++ kinds (close_use (type_use_of of.now) [])) }
 {
     match of {
-        TypeUse::Cast(_, _, _) => out.push(TokenKind::RParen)?,
+        TypeUse::Cast(_, _) => out.push(TokenKind::RParen)?,
         TypeUse::Binder(_, _) => {
             out.push(TokenKind::Dot)?;
             out.push(TokenKind::Reserved(54))?;
@@ -148,7 +148,7 @@ fn push_listing(listing: &Listing, out: &mut Vec<TokenKind>) -> Result<(), Alloc
     ensures { (ps : List Form) → OnOk result (out.new.items ≡ out.old.items ++ kinds (close_use (listed (listing_of listing.now) ps) [])) }
 {
     match listing {
-        Listing::Let(_) => {
+        Listing::Let => {
             out.push(TokenKind::Equal)?;
             out.push(TokenKind::Reserved(54))?;
             out.push(TokenKind::Reserved(30))?;
@@ -172,17 +172,17 @@ fn push_state(state: &State, out: &mut Vec<TokenKind>) -> Result<(), AllocError>
         State::Due => out.push(TokenKind::Reserved(54))?,
         State::Taking(_, _) => {}
         State::Done(_) => {}
-        State::Upper(_, _, _, _) => {}
-        State::Dotted(_, _, _) => out.push(TokenKind::Lident)?,
-        State::NameOpened(_, _, _) => {
+        State::Upper(_, _, _) => {}
+        State::Dotted(_, _) => out.push(TokenKind::Lident)?,
+        State::NameOpened(_, _) => {
             out.push(TokenKind::Equal)?;
             out.push(TokenKind::RParen)?;
         }
-        State::NameRun(_, _, _, _) => out.push(TokenKind::RParen)?,
-        State::NameWild(_, _, _, _) => out.push(TokenKind::RParen)?,
-        State::PrefixOpened(_, _, _, _) => out.push(TokenKind::RParen)?,
-        State::Opened(_, _) => out.push(TokenKind::RParen)?,
-        State::ArmsOpened(_, _, _) => {
+        State::NameRun(_, _, _) => out.push(TokenKind::RParen)?,
+        State::NameWild(_, _, _) => out.push(TokenKind::RParen)?,
+        State::PrefixOpened(_, _) => out.push(TokenKind::RParen)?,
+        State::Opened(_) => out.push(TokenKind::RParen)?,
+        State::ArmsOpened(_, _) => {
             out.push(TokenKind::Wild)?;
             out.push(TokenKind::Arrow)?;
             out.push(TokenKind::Reserved(54))?;

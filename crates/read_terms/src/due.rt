@@ -13,7 +13,7 @@ ghost use Rattle.term_states.specs.ExprStates.{context_of, frames_of, state_of};
 use crate::atoms::{atom, closed_atom, due, headed_by};
 use crate::waiting::in_pattern;
 use outside::{Seq, Text};
-use parse_forms::{Item, PatternReader, here, infix};
+use parse_forms::{Item, NOWHERE, PatternReader, infix};
 use std::alloc::{AllocError, Global};
 use syntax_why::{Expr, Mark};
 use term_states::{
@@ -22,18 +22,13 @@ use term_states::{
 };
 
 /// A token where an operand is due.
-pub fn operand_due(
-    alloc: Global,
-    at: usize,
-    item: Item,
-    open: Open,
-) -> Result<Option<Reader>, AllocError>
+pub fn operand_due(alloc: Global, item: Item, open: Open) -> Result<Option<Reader>, AllocError>
     ensures { IfOk result (λ r. option_map state_of r ≡ at_due (frames_of «open») (lexeme_of item)) }
 {
     match item {
-        Item::Run(text) => prefix_due(at, text, open),
-        Item::Mark(mark) => mark_due(alloc, at, mark, open),
-        other => atom(alloc, at, other, Context::Operand, open),
+        Item::Run(text) => prefix_due(text, open),
+        Item::Mark(mark) => mark_due(alloc, mark, open),
+        other => atom(alloc, other, Context::Operand, open),
     }
 }
 
@@ -44,51 +39,50 @@ fn can_prefix(text: &Text, open: &Open) -> bool
     is_prefix(text.as_slice()) && open.needs() <= 8
 }
 
-fn prefix_due(at: usize, text: Text, open: Open) -> Result<Option<Reader>, AllocError>
+fn prefix_due(text: Text, open: Open) -> Result<Option<Reader>, AllocError>
     ensures { IfOk result (λ r. option_map state_of r ≡ at_due (frames_of «open») (lexeme.run (op_text text))) }
 {
     if !can_prefix(&text, &open) {
         return Ok(None);
     }
-    let open = open.edge(Edge::Before(at, text))?;
+    let open = open.edge(Edge::Before(text))?;
     Ok(Some(due(open)))
 }
 
-fn negation_due(at: usize, open: Open) -> Result<Option<Reader>, AllocError>
+fn negation_due(open: Open) -> Result<Option<Reader>, AllocError>
     ensures { IfOk result (λ r. option_map state_of r ≡ at_due (frames_of «open») (lexeme.mark Not)) }
 {
     if open.needs() <= 3 {
-        let open = open.edge(Edge::Negated(at))?;
+        let open = open.edge(Edge::Negated)?;
         Ok(Some(due(open)))
     } else {
         Ok(None)
     }
 }
 
-fn mark_due(alloc: Global, at: usize, mark: Mark, open: Open) -> Result<Option<Reader>, AllocError>
+fn mark_due(alloc: Global, mark: Mark, open: Open) -> Result<Option<Reader>, AllocError>
     ensures { IfOk result (λ r. option_map state_of r ≡ at_due (frames_of «open») (lexeme.mark mark)) }
 {
     match mark {
-        Mark::Not => negation_due(at, open),
+        Mark::Not => negation_due(open),
         Mark::If => {
-            let open = open.wait(alloc, Waiting::Condition(at))?;
+            let open = open.wait(alloc, Waiting::Condition)?;
             Ok(Some(due(open)))
         }
         Mark::Let => {
             let reader = PatternReader::new(alloc);
-            Ok(Some(in_pattern(reader, Listing::Let(at), Seq::new(alloc), open)))
+            Ok(Some(in_pattern(reader, Listing::Let, Seq::new(alloc), open)))
         }
-        Mark::Forall => Ok(Some(quantifier_due(alloc, at, true, open))),
-        Mark::Exists => Ok(Some(quantifier_due(alloc, at, false, open))),
-        _ => atom(alloc, at, Item::Mark(mark), Context::Operand, open),
+        Mark::Forall => Ok(Some(quantifier_due(alloc, true, open))),
+        Mark::Exists => Ok(Some(quantifier_due(alloc, false, open))),
+        _ => atom(alloc, Item::Mark(mark), Context::Operand, open),
     }
 }
 
-fn quantifier_due(alloc: Global, first: usize, all: bool, open: Open) -> Reader
+fn quantifier_due(alloc: Global, all: bool, open: Open) -> Reader
     ensures { state_of result ≡ machine.binders all [] [] (frames_of «open») }
 {
     let quantifier = Quantifier {
-        first,
         all,
         binders: Seq::new(alloc),
     };
@@ -101,23 +95,19 @@ fn quantifier_due(alloc: Global, first: usize, all: bool, open: Open) -> Reader
 /// Behind a parenthesis in which an expression begins.
 fn inside_due(
     alloc: Global,
-    at: usize,
     item: Item,
-    first: usize,
     context: Context,
     open: Open,
 ) -> Result<Option<Reader>, AllocError>
     ensures { IfOk result (λ r. option_map state_of r ≡ at_due (machine.inside [] (context_of context) ∷ frames_of «open») (lexeme_of item)) }
 {
-    let open = open.wait(alloc, Waiting::Inside(first, Seq::new(alloc), context))?;
-    operand_due(alloc, at, item, open)
+    let open = open.wait(alloc, Waiting::Inside(Seq::new(alloc), context))?;
+    operand_due(alloc, item, open)
 }
 
 fn mark_opened(
     alloc: Global,
-    at: usize,
     mark: Mark,
-    first: usize,
     context: Context,
     open: Open,
 ) -> Result<Option<Reader>, AllocError>
@@ -125,33 +115,26 @@ fn mark_opened(
 {
     match mark {
         Mark::RParen => {
-            let atom = closed_operand(Expr::group(here(first), Seq::new(alloc)));
+            let atom = closed_operand(Expr::group(NOWHERE, Seq::new(alloc)));
             Ok(Some(closed_atom(atom, context, open)?))
         }
-        _ => inside_due(alloc, at, Item::Mark(mark), first, context, open),
+        _ => inside_due(alloc, Item::Mark(mark), context, open),
     }
 }
 
 /// Behind a parenthesis and an operator.
-fn operator_opened(
-    alloc: Global,
-    at: usize,
-    text: Text,
-    first: usize,
-    context: Context,
-    open: Open,
-) -> Option<Reader>
+fn operator_opened(alloc: Global, text: Text, context: Context, open: Open) -> Option<Reader>
     ensures { option_map state_of result ≡ at_opened_run (op_text text) (context_of context) (frames_of «open») }
 {
     if is_prefix(text.as_slice()) {
         return Some(Reader {
-            state: State::PrefixOpened(first, at, text, context),
+            state: State::PrefixOpened(text, context),
             open,
         });
     }
     if is_operator(text.as_slice()) {
         return Some(Reader {
-            state: State::NameRun(first, Seq::new(alloc), text, context),
+            state: State::NameRun(Seq::new(alloc), text, context),
             open,
         });
     }
@@ -161,45 +144,37 @@ fn operator_opened(
 /// Behind a parenthesis.
 pub fn opened(
     alloc: Global,
-    at: usize,
     item: Item,
-    first: usize,
     context: Context,
     open: Open,
 ) -> Result<Option<Reader>, AllocError>
     ensures { IfOk result (λ r. option_map state_of r ≡ at_opened (context_of context) (frames_of «open») (lexeme_of item)) }
 {
     match item {
-        Item::Run(text) => Ok(operator_opened(alloc, at, text, first, context, open)),
-        Item::Mark(mark) => mark_opened(alloc, at, mark, first, context, open),
-        other => inside_due(alloc, at, other, first, context, open),
+        Item::Run(text) => Ok(operator_opened(alloc, text, context, open)),
+        Item::Mark(mark) => mark_opened(alloc, mark, context, open),
+        other => inside_due(alloc, other, context, open),
     }
 }
 
 /// An operand behind a parenthesis and a prefix operator.
 fn prefixed_inside(
     alloc: Global,
-    at: usize,
     item: Item,
-    first: usize,
-    place: usize,
     text: Text,
     context: Context,
     open: Open,
 ) -> Result<Option<Reader>, AllocError>
     ensures { IfOk result (λ r. option_map state_of r ≡ at_due (machine.edge (machine.before (op_text text)) ∷ machine.inside [] (context_of context) ∷ frames_of «open») (lexeme_of item)) }
 {
-    let outer = open.wait(alloc, Waiting::Inside(first, Seq::new(alloc), context))?;
-    let open = outer.edge(Edge::Before(place, text))?;
-    operand_due(alloc, at, item, open)
+    let outer = open.wait(alloc, Waiting::Inside(Seq::new(alloc), context))?;
+    let open = outer.edge(Edge::Before(text))?;
+    operand_due(alloc, item, open)
 }
 
 fn mark_prefix_opened(
     alloc: Global,
-    at: usize,
     mark: Mark,
-    first: usize,
-    place: usize,
     text: Text,
     context: Context,
     open: Open,
@@ -208,33 +183,21 @@ fn mark_prefix_opened(
 {
     match mark {
         Mark::RParen => {
-            let name = infix(first, Seq::new(alloc), text);
+            let name = infix(Seq::new(alloc), text);
             Ok(Some(headed_by(alloc, name, context, open)?))
         }
         Mark::Wild => Ok(Some(Reader {
-            state: State::NameWild(first, Seq::new(alloc), text, context),
+            state: State::NameWild(Seq::new(alloc), text, context),
             open,
         })),
-        _ => prefixed_inside(
-            alloc,
-            at,
-            Item::Mark(mark),
-            first,
-            place,
-            text,
-            context,
-            open,
-        ),
+        _ => prefixed_inside(alloc, Item::Mark(mark), text, context, open),
     }
 }
 
 /// Behind a parenthesis and a prefix operator, which may be named there or applied.
 pub fn prefix_opened(
     alloc: Global,
-    at: usize,
     item: Item,
-    first: usize,
-    place: usize,
     text: Text,
     context: Context,
     open: Open,
@@ -242,9 +205,7 @@ pub fn prefix_opened(
     ensures { IfOk result (λ r. option_map state_of r ≡ at_prefix_opened (op_text text) (context_of context) (frames_of «open») (lexeme_of item)) }
 {
     match item {
-        Item::Mark(mark) => {
-            mark_prefix_opened(alloc, at, mark, first, place, text, context, open)
-        }
-        other => prefixed_inside(alloc, at, other, first, place, text, context, open),
+        Item::Mark(mark) => mark_prefix_opened(alloc, mark, text, context, open),
+        other => prefixed_inside(alloc, other, text, context, open),
     }
 }

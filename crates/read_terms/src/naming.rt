@@ -17,9 +17,7 @@ use term_states::{Context, Open, Reader, State, is_operator};
 /// Behind a name in upper case: a dot, or a token behind the name.
 pub fn behind_upper(
     alloc: Global,
-    at: usize,
     item: Item,
-    first: usize,
     scopes: Seq<Text>,
     name: UpperName,
     context: Context,
@@ -32,18 +30,17 @@ pub fn behind_upper(
         let mut scopes = scopes;
         scopes.push(text)?;
         return Ok(Some(Reader {
-            state: State::Dotted(first, scopes, context),
+            state: State::Dotted(scopes, context),
             open,
         }));
     }
-    beyond(alloc, at, item, upper(first, scopes, name), context, open)
+    beyond(alloc, item, upper(scopes, name), context, open)
 }
 
 /// Behind a dot.
 pub fn dotted(
     alloc: Global,
     item: Item,
-    first: usize,
     scopes: Seq<Text>,
     context: Context,
     open: Open,
@@ -52,14 +49,14 @@ pub fn dotted(
 {
     match item {
         Item::Lower(name) => {
-            let name = lower(first, scopes, name);
+            let name = lower(scopes, name);
             Ok(Some(headed_by(alloc, name, context, open)?))
         }
         Item::Upper(name) => Ok(Some(Reader {
-            state: State::Upper(first, scopes, name, context),
+            state: State::Upper(scopes, name, context),
             open,
         })),
-        Item::Mark(mark) => mark_dotted(alloc, mark, first, scopes, context, open),
+        Item::Mark(mark) => mark_dotted(alloc, mark, scopes, context, open),
         _ => Ok(None),
     }
 }
@@ -67,7 +64,6 @@ pub fn dotted(
 fn mark_dotted(
     alloc: Global,
     mark: Mark,
-    first: usize,
     scopes: Seq<Text>,
     context: Context,
     open: Open,
@@ -76,11 +72,11 @@ fn mark_dotted(
 {
     match mark {
         Mark::Star => {
-            let name = star(alloc, first, scopes);
+            let name = star(alloc, scopes);
             Ok(Some(headed_by(alloc, name, context, open)?))
         }
         Mark::LParen => Ok(Some(Reader {
-            state: State::NameOpened(first, scopes, context),
+            state: State::NameOpened(scopes, context),
             open,
         })),
         _ => Ok(None),
@@ -88,20 +84,14 @@ fn mark_dotted(
 }
 
 /// Behind a parenthesis in which an operator is named.
-pub fn name_opened(
-    item: Item,
-    first: usize,
-    scopes: Seq<Text>,
-    context: Context,
-    open: Open,
-) -> Option<Reader>
+pub fn name_opened(item: Item, scopes: Seq<Text>, context: Context, open: Open) -> Option<Reader>
     ensures { option_map state_of result ≡ at_name_opened scopes (context_of context) (frames_of «open») (lexeme_of item) }
 {
     match item {
         Item::Run(text) => {
             if is_operator(text.as_slice()) {
                 Some(Reader {
-                    state: State::NameRun(first, scopes, text, context),
+                    state: State::NameRun(scopes, text, context),
                     open,
                 })
             } else {
@@ -116,7 +106,6 @@ pub fn name_opened(
 pub fn name_run(
     alloc: Global,
     item: Item,
-    first: usize,
     scopes: Seq<Text>,
     text: Text,
     context: Context,
@@ -126,11 +115,11 @@ pub fn name_run(
 {
     match item {
         Item::Mark(Mark::RParen) => {
-            let name = infix(first, scopes, text);
+            let name = infix(scopes, text);
             Ok(Some(headed_by(alloc, name, context, open)?))
         }
         Item::Mark(Mark::Wild) => Ok(Some(Reader {
-            state: State::NameWild(first, scopes, text, context),
+            state: State::NameWild(scopes, text, context),
             open,
         })),
         _ => Ok(None),
@@ -141,7 +130,6 @@ pub fn name_run(
 pub fn name_wild(
     alloc: Global,
     item: Item,
-    first: usize,
     scopes: Seq<Text>,
     text: Text,
     context: Context,
@@ -151,7 +139,7 @@ pub fn name_wild(
 {
     match item {
         Item::Mark(Mark::RParen) => {
-            let name = prefix(first, scopes, text);
+            let name = prefix(scopes, text);
             Ok(Some(headed_by(alloc, name, context, open)?))
         }
         _ => Ok(None),

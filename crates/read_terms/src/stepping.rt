@@ -14,7 +14,7 @@ use crate::due::{opened, operand_due, prefix_opened};
 use crate::naming::{behind_upper, dotted, name_opened, name_run, name_wild};
 use crate::uses::{arms_opened, at_type, in_or_behind_pattern};
 use outside::Seq;
-use parse_forms::{Item, here, upper};
+use parse_forms::{Item, NOWHERE, upper};
 use std::alloc::{AllocError, Global};
 use syntax_why::{Expr, QName};
 use term_states::{Context, Open, Operand, Reader, State, closed_operand, collapse};
@@ -35,44 +35,33 @@ pub fn discard(reader: Reader) {
 }
 
 /// The expression behind a token, where the token can stand there.
-pub fn step(
-    alloc: Global,
-    at: usize,
-    item: Item,
-    reader: Reader,
-) -> Result<Option<Reader>, AllocError>
+pub fn step(alloc: Global, item: Item, reader: Reader) -> Result<Option<Reader>, AllocError>
     ensures { IfOk result (λ r. option_map state_of r ≡ machine.step (state_of reader) (lexeme_of item)) }
 {
     let Reader { state, open } = reader;
     match state {
-        State::Due => operand_due(alloc, at, item, open),
-        State::Taking(name, arguments) => take(alloc, at, item, name, arguments, open),
-        State::Done(operand) => behind(alloc, at, item, operand, open),
-        State::Upper(first, scopes, name, context) => {
-            behind_upper(alloc, at, item, first, scopes, name, context, open)
+        State::Due => operand_due(alloc, item, open),
+        State::Taking(name, arguments) => take(alloc, item, name, arguments, open),
+        State::Done(operand) => behind(alloc, item, operand, open),
+        State::Upper(scopes, name, context) => {
+            behind_upper(alloc, item, scopes, name, context, open)
         }
-        State::Dotted(first, scopes, context) => dotted(alloc, item, first, scopes, context, open),
-        State::NameOpened(first, scopes, context) => {
-            Ok(name_opened(item, first, scopes, context, open))
+        State::Dotted(scopes, context) => dotted(alloc, item, scopes, context, open),
+        State::NameOpened(scopes, context) => Ok(name_opened(item, scopes, context, open)),
+        State::NameRun(scopes, text, context) => name_run(alloc, item, scopes, text, context, open),
+        State::NameWild(scopes, text, context) => {
+            name_wild(alloc, item, scopes, text, context, open)
         }
-        State::NameRun(first, scopes, text, context) => {
-            name_run(alloc, item, first, scopes, text, context, open)
+        State::PrefixOpened(text, context) => prefix_opened(alloc, item, text, context, open),
+        State::Opened(context) => opened(alloc, item, context, open),
+        State::ArmsOpened(scrutinees, context) => {
+            arms_opened(alloc, item, scrutinees, context, open)
         }
-        State::NameWild(first, scopes, text, context) => {
-            name_wild(alloc, item, first, scopes, text, context, open)
-        }
-        State::PrefixOpened(first, place, text, context) => {
-            prefix_opened(alloc, at, item, first, place, text, context, open)
-        }
-        State::Opened(first, context) => opened(alloc, at, item, first, context, open),
-        State::ArmsOpened(first, scrutinees, context) => {
-            arms_opened(alloc, at, item, first, scrutinees, context, open)
-        }
-        State::Binders(of, names) => binders(alloc, at, item, of, names, open),
+        State::Binders(of, names) => binders(alloc, item, of, names, open),
         State::TriggerClosed(of, terms, bars) => trigger_closed(&item, of, terms, bars, open),
-        State::Type(reader, of) => at_type(alloc, at, item, reader, of, open),
+        State::Type(reader, of) => at_type(alloc, item, reader, of, open),
         State::Pattern(reader, listing, bound) => {
-            in_or_behind_pattern(alloc, at, item, reader, listing, bound, open)
+            in_or_behind_pattern(alloc, item, reader, listing, bound, open)
         }
     }
 }
@@ -82,7 +71,7 @@ fn is_whole_state(state: &State) -> bool
 {
     matches!(
         state,
-        State::Taking(_, _) | State::Done(_) | State::Upper(_, _, _, _)
+        State::Taking(_, _) | State::Done(_) | State::Upper(_, _, _)
     )
 }
 
@@ -116,7 +105,7 @@ fn finish_name(
 ) -> Result<Option<Expr>, AllocError>
     ensures { IfOk result (λ e. option_map tree_of e ≡ finish_up (apply (called_of name) (trees (map tree_of arguments))) (frames_of «open»)) }
 {
-    let operand = closed_operand(Expr::apply(here(name.at), name, arguments));
+    let operand = closed_operand(Expr::apply(NOWHERE, name, arguments));
     finish_operand(alloc, operand, open)
 }
 
@@ -145,17 +134,17 @@ pub fn finish(alloc: Global, reader: Reader) -> Result<Option<Expr>, AllocError>
     match state {
         State::Taking(name, arguments) => finish_name(alloc, name, arguments, open),
         State::Done(operand) => finish_operand(alloc, operand, open),
-        State::Upper(first, scopes, name, context) => {
-            finish_in_upper(alloc, upper(first, scopes, name), context, open)
+        State::Upper(scopes, name, context) => {
+            finish_in_upper(alloc, upper(scopes, name), context, open)
         }
         State::Due => Ok(None),
-        State::Dotted(_first, _scopes, _context) => Ok(None),
-        State::NameOpened(_first, _scopes, _context) => Ok(None),
-        State::NameRun(_first, _scopes, _text, _context) => Ok(None),
-        State::NameWild(_first, _scopes, _text, _context) => Ok(None),
-        State::PrefixOpened(_first, _place, _text, _context) => Ok(None),
-        State::Opened(_first, _context) => Ok(None),
-        State::ArmsOpened(_first, _scrutinees, _context) => Ok(None),
+        State::Dotted(_scopes, _context) => Ok(None),
+        State::NameOpened(_scopes, _context) => Ok(None),
+        State::NameRun(_scopes, _text, _context) => Ok(None),
+        State::NameWild(_scopes, _text, _context) => Ok(None),
+        State::PrefixOpened(_text, _context) => Ok(None),
+        State::Opened(_context) => Ok(None),
+        State::ArmsOpened(_scrutinees, _context) => Ok(None),
         State::Binders(_of, _names) => Ok(None),
         State::TriggerClosed(_of, _terms, _bars) => Ok(None),
         State::Type(types, of) => {

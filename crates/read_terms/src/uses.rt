@@ -18,7 +18,7 @@ use crate::atoms::{closed_atom, due};
 use crate::binders::{binder_end, with_binder};
 use crate::waiting::{first_pattern_due, in_pattern, in_type, pattern_due};
 use outside::Seq;
-use parse_forms::{Item, PatternReader, TypeReader, here};
+use parse_forms::{Item, NOWHERE, PatternReader, TypeReader};
 use std::alloc::{AllocError, Global};
 use syntax_why::{Expr, Mark, Name, Pat, TypeTree};
 use term_states::{
@@ -30,7 +30,6 @@ use term_states::{
 fn cast(
     alloc: Global,
     item: &Item,
-    first: usize,
     inner: Expr,
     context: Context,
     ty: TypeTree,
@@ -40,7 +39,7 @@ fn cast(
 {
     match item {
         Item::Mark(Mark::RParen) => {
-            let tree = Expr::cast(alloc, here(first), inner, ty)?;
+            let tree = Expr::cast(alloc, NOWHERE, inner, ty)?;
             Ok(Some(closed_atom(closed_operand(tree), context, open)?))
         }
         _ => Ok(None),
@@ -73,16 +72,13 @@ fn behind_type(
     ensures { IfOk result (λ r. option_map state_of r ≡ at_use (type_use_of of) (frames_of «open») (lexeme_of item.now) (type_of ty)) }
 {
     match of {
-        TypeUse::Cast(first, inner, context) => {
-            cast(alloc, item, first, inner, context, ty, open)
-        }
+        TypeUse::Cast(inner, context) => cast(alloc, item, inner, context, ty, open),
         TypeUse::Binder(of, names) => binder_type(alloc, item, of, names, ty, open),
     }
 }
 
 fn further_type(
     alloc: Global,
-    at: usize,
     item: Item,
     reader: TypeReader,
     of: TypeUse,
@@ -90,7 +86,7 @@ fn further_type(
 ) -> Result<Option<Reader>, AllocError>
     ensures { IfOk result (λ r. option_map state_of r ≡ option_map (λ s. form s (type_use_of of) (frames_of «open»)) (form_step levels.types (types.state_of reader) (lexeme_of item))) }
 {
-    match reader.step(alloc, at, item)? {
+    match reader.step(alloc, item)? {
         None => Ok(None),
         Some(next) => Ok(Some(in_type(next, of, open))),
     }
@@ -114,7 +110,6 @@ fn whole_type(
 /// A token in a type or behind it.
 pub fn at_type(
     alloc: Global,
-    at: usize,
     item: Item,
     reader: TypeReader,
     of: TypeUse,
@@ -125,7 +120,7 @@ pub fn at_type(
     if reader.is_over(&item) {
         whole_type(alloc, &item, reader, of, open)
     } else {
-        further_type(alloc, at, item, reader, of, open)
+        further_type(alloc, item, reader, of, open)
     }
 }
 
@@ -151,7 +146,6 @@ fn is_arrow_sign(item: &Item) -> bool
 fn let_listed(
     alloc: Global,
     item: &Item,
-    first: usize,
     bound: Seq<Pat>,
     open: Open,
 ) -> Result<Option<Reader>, AllocError>
@@ -160,7 +154,7 @@ fn let_listed(
     if !is_equal_sign(item) {
         return Ok(None);
     }
-    let open = open.wait(alloc, Waiting::Value(first, bound))?;
+    let open = open.wait(alloc, Waiting::Value(bound))?;
     Ok(Some(due(open)))
 }
 
@@ -170,7 +164,6 @@ fn with_alternative(of: Cases, bound: Seq<Pat>) -> Result<Cases, AllocError>
     ensures waiting { IfOk result (λ all. waiting_of (Arm all) ≡ machine_arm (map tree_of of.scrutinees) of.bar (map arm_of of.branches) (alternatives of.alternatives ++ map pattern_of bound ∷ []) (context_of of.context)) }
 {
     let Cases {
-        first,
         scrutinees,
         bar,
         branches,
@@ -180,7 +173,6 @@ fn with_alternative(of: Cases, bound: Seq<Pat>) -> Result<Cases, AllocError>
     let mut alternatives = alternatives;
     alternatives.push(bound)?;
     Ok(Cases {
-        first,
         scrutinees,
         bar,
         branches,
@@ -227,7 +219,7 @@ fn behind_listed(
     ensures { IfOk result (λ r. option_map state_of r ≡ at_listed (listing_of listing) (map pattern_of bound) (frames_of «open») (lexeme_of item.now)) }
 {
     match listing {
-        Listing::Let(first) => let_listed(alloc, item, first, bound, open),
+        Listing::Let => let_listed(alloc, item, bound, open),
         Listing::Branch(of) => branch_listed(alloc, item, of, bound, open),
     }
 }
@@ -266,7 +258,6 @@ fn behind_pattern(
 
 fn further_pattern(
     alloc: Global,
-    at: usize,
     item: Item,
     reader: PatternReader,
     listing: Listing,
@@ -275,7 +266,7 @@ fn further_pattern(
 ) -> Result<Option<Reader>, AllocError>
     ensures { IfOk result (λ r. option_map state_of r ≡ option_map (λ s. form s (listed (listing_of listing) (map pattern_of bound)) (frames_of «open»)) (form_step levels.patterns (patterns.state_of reader) (lexeme_of item))) }
 {
-    match reader.step(alloc, at, item)? {
+    match reader.step(alloc, item)? {
         None => Ok(None),
         Some(next) => Ok(Some(in_pattern(next, listing, bound, open))),
     }
@@ -300,7 +291,6 @@ fn whole_pattern(
 /// A token in a pattern or behind it.
 pub fn in_or_behind_pattern(
     alloc: Global,
-    at: usize,
     item: Item,
     reader: PatternReader,
     listing: Listing,
@@ -312,21 +302,14 @@ pub fn in_or_behind_pattern(
     if reader.is_over(&item) {
         whole_pattern(alloc, &item, reader, listing, bound, open)
     } else {
-        further_pattern(alloc, at, item, reader, listing, bound, open)
+        further_pattern(alloc, item, reader, listing, bound, open)
     }
 }
 
-fn cases_due(
-    alloc: Global,
-    first: usize,
-    scrutinees: Seq<Expr>,
-    bar: bool,
-    context: Context,
-) -> Cases
+fn cases_due(alloc: Global, scrutinees: Seq<Expr>, bar: bool, context: Context) -> Cases
     ensures { listing_of (Branch result) ≡ in_branch (map tree_of scrutinees) bar [] [] (context_of context) }
 {
     Cases {
-        first,
         scrutinees,
         bar,
         branches: Seq::new(alloc),
@@ -338,9 +321,7 @@ fn cases_due(
 /// Behind `with`.
 pub fn arms_opened(
     alloc: Global,
-    at: usize,
     item: Item,
-    first: usize,
     scrutinees: Seq<Expr>,
     context: Context,
     open: Open,
@@ -348,11 +329,11 @@ pub fn arms_opened(
     ensures { IfOk result (λ r. option_map state_of r ≡ at_arms_opened (map tree_of scrutinees) (context_of context) (frames_of «open») (lexeme_of item)) }
 {
     let bar = is_bar(&item);
-    let of = cases_due(alloc, first, scrutinees, bar, context);
+    let of = cases_due(alloc, scrutinees, bar, context);
     if bar {
         return Ok(Some(first_pattern_due(alloc, Listing::Branch(of), open)));
     }
     let reader = PatternReader::new(alloc);
     let bound = Seq::new(alloc);
-    further_pattern(alloc, at, item, reader, Listing::Branch(of), bound, open)
+    further_pattern(alloc, item, reader, Listing::Branch(of), bound, open)
 }

@@ -11,7 +11,7 @@ ghost use Rattle.term_states.specs.Begins.{colon_is};
 
 use crate::atoms::{closed_atom, due};
 use outside::Seq;
-use parse_forms::{Item, PatternReader, TypeReader, here};
+use parse_forms::{Item, NOWHERE, PatternReader, TypeReader};
 use std::alloc::{AllocError, Global};
 use syntax_why::{BranchTree, Expr, Mark, Pat};
 use term_states::{
@@ -65,7 +65,6 @@ fn inside_more(
     alloc: Global,
     item: &Item,
     t: Expr,
-    first: usize,
     parts: Seq<Expr>,
     context: Context,
     open: Open,
@@ -76,13 +75,13 @@ fn inside_more(
         Item::Mark(Mark::Comma) => {
             let mut parts = parts;
             parts.push(t)?;
-            let open = open.wait(alloc, Waiting::Inside(first, parts, context))?;
+            let open = open.wait(alloc, Waiting::Inside(parts, context))?;
             Ok(Some(due(open)))
         }
         Item::Mark(Mark::RParen) => {
             let mut parts = parts;
             parts.push(t)?;
-            let atom = closed_operand(Expr::group(here(first), parts));
+            let atom = closed_operand(Expr::group(NOWHERE, parts));
             Ok(Some(closed_atom(atom, context, open)?))
         }
         _ => Ok(None),
@@ -94,7 +93,6 @@ fn inside(
     alloc: Global,
     item: &Item,
     t: Expr,
-    first: usize,
     parts: Seq<Expr>,
     context: Context,
     open: Open,
@@ -103,9 +101,9 @@ fn inside(
 {
     if parts.is_empty() && is_colon(item) {
         let reader = TypeReader::new(alloc);
-        return Ok(Some(in_type(reader, TypeUse::Cast(first, t, context), open)));
+        return Ok(Some(in_type(reader, TypeUse::Cast(t, context), open)));
     }
-    inside_more(alloc, item, t, first, parts, context, open)
+    inside_more(alloc, item, t, parts, context, open)
 }
 
 /// Behind an expression between `match` and `with`.
@@ -113,7 +111,6 @@ fn scrutinee(
     alloc: Global,
     item: &Item,
     t: Expr,
-    first: usize,
     parts: Seq<Expr>,
     context: Context,
     open: Open,
@@ -124,14 +121,14 @@ fn scrutinee(
         Item::Mark(Mark::Comma) => {
             let mut parts = parts;
             parts.push(t)?;
-            let open = open.wait(alloc, Waiting::Scrutinee(first, parts, context))?;
+            let open = open.wait(alloc, Waiting::Scrutinee(parts, context))?;
             Ok(Some(due(open)))
         }
         Item::Mark(Mark::With) => {
             let mut parts = parts;
             parts.push(t)?;
             Ok(Some(Reader {
-                state: State::ArmsOpened(first, parts, context),
+                state: State::ArmsOpened(parts, context),
                 open,
             }))
         }
@@ -167,14 +164,13 @@ fn whole_cases(of: Cases, open: Open) -> Result<Option<Reader>, AllocError>
     ensures { IfOk result (λ r. option_map state_of r ≡ Some (closed (cases (trees (map tree_of of.scrutinees)) of.bar (branches (map arm_of of.branches))) (context_of of.context) (frames_of «open»))) }
 {
     let Cases {
-        first,
         scrutinees,
         bar,
         branches,
         context,
         ..
     } = of;
-    let atom = closed_operand(Expr::cases(here(first), scrutinees, bar, branches));
+    let atom = closed_operand(Expr::cases(NOWHERE, scrutinees, bar, branches));
     Ok(Some(closed_atom(atom, context, open)?))
 }
 
@@ -187,7 +183,6 @@ fn with_branch(alloc: Global, of: Cases, body: Expr) -> Result<Cases, AllocError
     ensures context { IfOk result (λ all. all.context ≡ of.context) }
 {
     let Cases {
-        first,
         scrutinees,
         bar,
         branches,
@@ -197,7 +192,6 @@ fn with_branch(alloc: Global, of: Cases, body: Expr) -> Result<Cases, AllocError
     let mut branches = branches;
     branches.push(BranchTree::new(alternatives, body))?;
     Ok(Cases {
-        first,
         scrutinees,
         bar,
         branches,
@@ -207,18 +201,12 @@ fn with_branch(alloc: Global, of: Cases, body: Expr) -> Result<Cases, AllocError
 }
 
 /// Behind a condition.
-fn condition(
-    alloc: Global,
-    item: &Item,
-    t: Expr,
-    first: usize,
-    open: Open,
-) -> Result<Option<Reader>, AllocError>
+fn condition(alloc: Global, item: &Item, t: Expr, open: Open) -> Result<Option<Reader>, AllocError>
     ensures { IfOk result (λ r. option_map state_of r ≡ at_condition (tree_of t) (frames_of «open») (lexeme_of item.now)) }
 {
     match item {
         Item::Mark(Mark::Then) => {
-            let open = open.wait(alloc, Waiting::Consequent(first, t))?;
+            let open = open.wait(alloc, Waiting::Consequent(t))?;
             Ok(Some(due(open)))
         }
         _ => Ok(None),
@@ -229,7 +217,6 @@ fn condition(
 fn consequent(
     item: &Item,
     t: Expr,
-    first: usize,
     condition: Expr,
     open: Open,
 ) -> Result<Option<Reader>, AllocError>
@@ -237,7 +224,7 @@ fn consequent(
 {
     match item {
         Item::Mark(Mark::Else) => {
-            let open = open.edge(Edge::Alternative(first, condition, t))?;
+            let open = open.edge(Edge::Alternative(condition, t))?;
             Ok(Some(due(open)))
         }
         _ => Ok(None),
@@ -245,18 +232,12 @@ fn consequent(
 }
 
 /// Behind the value of a `let`.
-fn value(
-    item: &Item,
-    t: Expr,
-    first: usize,
-    bound: Seq<Pat>,
-    open: Open,
-) -> Result<Option<Reader>, AllocError>
+fn value(item: &Item, t: Expr, bound: Seq<Pat>, open: Open) -> Result<Option<Reader>, AllocError>
     ensures { IfOk result (λ r. option_map state_of r ≡ at_value (map pattern_of bound) (tree_of t) (frames_of «open») (lexeme_of item.now)) }
 {
     match item {
         Item::Mark(Mark::In) => {
-            let open = open.edge(Edge::Body(first, bound, t))?;
+            let open = open.edge(Edge::Body(bound, t))?;
             Ok(Some(due(open)))
         }
         _ => Ok(None),
@@ -325,16 +306,12 @@ pub fn waited(
     ensures { IfOk result (λ r. option_map state_of r ≡ up (tree_of t) (waiting_of waiting ∷ frames_of «open») (lexeme_of item.now)) }
 {
     match waiting {
-        Waiting::Inside(first, parts, context) => {
-            inside(alloc, item, t, first, parts, context, open)
-        }
-        Waiting::Scrutinee(first, parts, context) => {
-            scrutinee(alloc, item, t, first, parts, context, open)
-        }
+        Waiting::Inside(parts, context) => inside(alloc, item, t, parts, context, open),
+        Waiting::Scrutinee(parts, context) => scrutinee(alloc, item, t, parts, context, open),
         Waiting::Arm(of) => arm(alloc, item, t, of, open),
-        Waiting::Condition(first) => condition(alloc, item, t, first, open),
-        Waiting::Consequent(first, condition) => consequent(item, t, first, condition, open),
-        Waiting::Value(first, bound) => value(item, t, first, bound, open),
+        Waiting::Condition => condition(alloc, item, t, open),
+        Waiting::Consequent(condition) => consequent(item, t, condition, open),
+        Waiting::Value(bound) => value(item, t, bound, open),
         Waiting::Term(of, terms, bars) => term(alloc, item, t, of, terms, bars, open),
     }
 }

@@ -21,12 +21,12 @@ needs_bottom [] h = refl
 needs_bottom (d ∷ es) h = cc
 
 waiting_needs : (l : Waiting) (k : Frames) → needs (waiting_of l ∷ k) ≡ 0
-waiting_needs (w.Inside at ts c) k = refl
-waiting_needs (w.Scrutinee at ts c) k = refl
+waiting_needs (w.Inside ts c) k = refl
+waiting_needs (w.Scrutinee ts c) k = refl
 waiting_needs (w.Arm b) k = refl
-waiting_needs (w.Condition at) k = refl
-waiting_needs (w.Consequent at c) k = refl
-waiting_needs (w.Value at ps) k = refl
+waiting_needs w.Condition k = refl
+waiting_needs (w.Consequent c) k = refl
+waiting_needs (w.Value ps) k = refl
 waiting_needs (w.Term q ts bars) k = refl
 
 pub below_needs : (ls : List Layer) → needs (below ls) ≡ 0
@@ -41,13 +41,13 @@ pub open_needs : (o : Open) → needs (frames_of o) ≡ needs_of (map edge_of o.
 open_needs o = needs_on o.edges o.layers
 
 waiting_run : (l : Waiting) (k : Frames) (t : Tree) (o : Op) → up t (waiting_of l ∷ k) (run o) ≡ None
-waiting_run (w.Inside at [] c) k t o = refl
-waiting_run (w.Inside at (e ∷ ts) c) k t o = refl
-waiting_run (w.Scrutinee at ts c) k t o = refl
+waiting_run (w.Inside [] c) k t o = refl
+waiting_run (w.Inside (e ∷ ts) c) k t o = refl
+waiting_run (w.Scrutinee ts c) k t o = refl
 waiting_run (w.Arm b) k t o = refl
-waiting_run (w.Condition at) k t o = refl
-waiting_run (w.Consequent at c) k t o = refl
-waiting_run (w.Value at ps) k t o = refl
+waiting_run w.Condition k t o = refl
+waiting_run (w.Consequent c) k t o = refl
+waiting_run (w.Value ps) k t o = refl
 waiting_run (w.Term q ts bars) k t o = refl
 
 -- no operator is taken behind a whole expression

@@ -11,9 +11,9 @@ use crate::open::{Edge, Quantifier};
 use crate::operand::Operand;
 use crate::operators::Infix;
 use outside::{Seq, Text};
-use parse_forms::{Stack, here, operator};
+use parse_forms::{NOWHERE, Stack, operator};
 use std::alloc::{AllocError, Global};
-use syntax_why::{At, Expr, Pat, TriggerTree};
+use syntax_why::{Expr, Pat, TriggerTree};
 
 /// Behind `not` or a prefix operator an open form may reach on.
 fn under(tree: Expr, tight: usize, reaches: bool) -> Operand
@@ -31,66 +31,54 @@ fn under(tree: Expr, tight: usize, reaches: bool) -> Operand
 fn binary_operand(
     alloc: Global,
     left: Expr,
-    at: usize,
     sign: Infix,
     right: Operand,
 ) -> Result<Operand, AllocError>
     ensures { IfOk result (λ o. tree_of o.tree ≡ binary (tree_of left) (op_text sign.text) (tree_of right.tree)) }
 {
     let Infix { text, binding } = sign;
-    let place = At {
-        first: left.at.first,
-        main: at,
-    };
     let Operand { tree, reaches, .. } = right;
-    let tree = Expr::binary(alloc, place, left, operator(at, text), tree)?;
+    let tree = Expr::binary(alloc, NOWHERE, left, operator(text), tree)?;
     Ok(under(tree, binding.tight, reaches))
 }
 
-fn negated(alloc: Global, at: usize, operand: Operand) -> Result<Operand, AllocError>
+fn negated(alloc: Global, operand: Operand) -> Result<Operand, AllocError>
     ensures { IfOk result (λ o. tree_of o.tree ≡ negation (tree_of operand.tree)) }
 {
     let Operand { tree, reaches, .. } = operand;
-    let tree = Expr::negation(alloc, here(at), tree)?;
+    let tree = Expr::negation(alloc, NOWHERE, tree)?;
     Ok(under(tree, 3, reaches))
 }
 
-fn prefixed_by(
-    alloc: Global,
-    at: usize,
-    text: Text,
-    operand: Operand,
-) -> Result<Operand, AllocError>
+fn prefixed_by(alloc: Global, text: Text, operand: Operand) -> Result<Operand, AllocError>
     ensures { IfOk result (λ o. tree_of o.tree ≡ prefixed (op_text text) (tree_of operand.tree)) }
 {
     let Operand { tree, reaches, .. } = operand;
-    let tree = Expr::prefix(alloc, here(at), operator(at, text), tree)?;
+    let tree = Expr::prefix(alloc, NOWHERE, operator(text), tree)?;
     Ok(under(tree, 8, reaches))
 }
 
 fn choice_of(
     alloc: Global,
-    at: usize,
     condition: Expr,
     consequent: Expr,
     alternative: Operand,
 ) -> Result<Operand, AllocError>
     ensures { IfOk result (λ o. tree_of o.tree ≡ choice (tree_of condition) (tree_of consequent) (tree_of alternative.tree)) }
 {
-    let tree = Expr::choice(alloc, here(at), condition, consequent, alternative.tree)?;
+    let tree = Expr::choice(alloc, NOWHERE, condition, consequent, alternative.tree)?;
     Ok(under(tree, 8, true))
 }
 
 fn binding_of(
     alloc: Global,
-    at: usize,
     bound: Seq<Pat>,
     value: Expr,
     body: Operand,
 ) -> Result<Operand, AllocError>
     ensures { IfOk result (λ o. tree_of o.tree ≡ binding (map pattern_of bound) (tree_of value) (tree_of body.tree)) }
 {
-    let tree = Expr::binding(alloc, here(at), bound, value, body.tree)?;
+    let tree = Expr::binding(alloc, NOWHERE, bound, value, body.tree)?;
     Ok(under(tree, 8, true))
 }
 
@@ -102,12 +90,8 @@ fn quantified_by(
 ) -> Result<Operand, AllocError>
     ensures { IfOk result (λ o. tree_of o.tree ≡ quantified quantifier.all (map binder_of quantifier.binders) (trigger (option_map terms_of triggers)) (tree_of body.tree)) }
 {
-    let Quantifier {
-        first,
-        all,
-        binders,
-    } = quantifier;
-    let tree = Expr::quantified(alloc, here(first), all, binders, triggers, body.tree)?;
+    let Quantifier { all, binders } = quantifier;
+    let tree = Expr::quantified(alloc, NOWHERE, all, binders, triggers, body.tree)?;
     Ok(under(tree, 8, true))
 }
 
@@ -116,13 +100,13 @@ pub fn filled(alloc: Global, edge: Edge, operand: Operand) -> Result<Operand, Al
     ensures { IfOk result (λ o. tree_of o.tree ≡ fill (edge_of edge) (tree_of operand.tree)) }
 {
     match edge {
-        Edge::Right(left, at, sign) => binary_operand(alloc, left, at, sign, operand),
-        Edge::Negated(at) => negated(alloc, at, operand),
-        Edge::Before(at, text) => prefixed_by(alloc, at, text, operand),
-        Edge::Alternative(at, condition, consequent) => {
-            choice_of(alloc, at, condition, consequent, operand)
+        Edge::Right(left, sign) => binary_operand(alloc, left, sign, operand),
+        Edge::Negated => negated(alloc, operand),
+        Edge::Before(text) => prefixed_by(alloc, text, operand),
+        Edge::Alternative(condition, consequent) => {
+            choice_of(alloc, condition, consequent, operand)
         }
-        Edge::Body(at, bound, value) => binding_of(alloc, at, bound, value, operand),
+        Edge::Body(bound, value) => binding_of(alloc, bound, value, operand),
         Edge::Bound(quantifier, triggers) => quantified_by(alloc, quantifier, triggers, operand),
     }
 }

@@ -11,18 +11,16 @@ pub enum Context {
     Argument(QName, Seq<Expr>),
 }
 
-/// A quantifier with its token, and the binders so far.
+/// A quantifier, and the binders so far.
 #[derive(Drop)]
 pub struct Quantifier {
-    pub first: usize,
     pub all: bool,
     pub binders: Seq<BinderTree>,
 }
 
-/// A `match` with its token, its branches so far, and the alternatives of the next one.
+/// A `match` with its branches so far, and the alternatives of the next one.
 #[derive(Drop)]
 pub struct Cases {
-    pub first: usize,
     pub scrutinees: Seq<Expr>,
     pub bar: bool,
     pub branches: Seq<BranchTree>,
@@ -30,26 +28,26 @@ pub struct Cases {
     pub context: Context,
 }
 
-/// What stands before an expression that reaches to the right end, each with its token.
+/// What stands before an expression that reaches to the right end.
 #[derive(Drop)]
 pub enum Edge {
-    Right(Expr, usize, Infix),
-    Negated(usize),
-    Before(usize, Text),
-    Alternative(usize, Expr, Expr),
-    Body(usize, Seq<Pat>, Expr),
+    Right(Expr, Infix),
+    Negated,
+    Before(Text),
+    Alternative(Expr, Expr),
+    Body(Seq<Pat>, Expr),
     Bound(Quantifier, Option<TriggerTree>),
 }
 
-/// What waits for an expression that doesn't reach to the right end, each with its token.
+/// What waits for an expression that doesn't reach to the right end.
 #[derive(Drop)]
 pub enum Waiting {
-    Inside(usize, Seq<Expr>, Context),
-    Scrutinee(usize, Seq<Expr>, Context),
+    Inside(Seq<Expr>, Context),
+    Scrutinee(Seq<Expr>, Context),
     Arm(Cases),
-    Condition(usize),
-    Consequent(usize, Expr),
-    Value(usize, Seq<Pat>),
+    Condition,
+    Consequent(Expr),
+    Value(Seq<Pat>),
     Term(Quantifier, Seq<Expr>, Seq<bool>),
 }
 

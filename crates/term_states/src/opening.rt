@@ -12,11 +12,11 @@ fn needs_behind(edge: &Edge) -> usize
     ensures { result ≡ edge_needs (edge_of edge.now) }
 {
     match edge {
-        Edge::Right(_, _, infix) => infix.binding.right,
-        Edge::Negated(_) => 3,
-        Edge::Before(_, _) => 8,
-        Edge::Alternative(_, _, _) => 0,
-        Edge::Body(_, _, _) => 0,
+        Edge::Right(_, infix) => infix.binding.right,
+        Edge::Negated => 3,
+        Edge::Before(_) => 8,
+        Edge::Alternative(_, _) => 0,
+        Edge::Body(_, _) => 0,
         Edge::Bound(_, _) => 0,
     }
 }

@@ -8,14 +8,14 @@ use syntax_why::{Expr, Name, Pat, QName};
 /// Where a list of patterns stands.
 #[derive(Drop)]
 pub enum Listing {
-    Let(usize),
+    Let,
     Branch(Cases),
 }
 
 /// What waits for a type.
 #[derive(Drop)]
 pub enum TypeUse {
-    Cast(usize, Expr, Context),
+    Cast(Expr, Context),
     Binder(Quantifier, Seq<Name>),
 }
 
@@ -24,14 +24,14 @@ pub enum State {
     Due,
     Taking(QName, Seq<Expr>),
     Done(Operand),
-    Upper(usize, Seq<Text>, UpperName, Context),
-    Dotted(usize, Seq<Text>, Context),
-    NameOpened(usize, Seq<Text>, Context),
-    NameRun(usize, Seq<Text>, Text, Context),
-    NameWild(usize, Seq<Text>, Text, Context),
-    PrefixOpened(usize, usize, Text, Context),
-    Opened(usize, Context),
-    ArmsOpened(usize, Seq<Expr>, Context),
+    Upper(Seq<Text>, UpperName, Context),
+    Dotted(Seq<Text>, Context),
+    NameOpened(Seq<Text>, Context),
+    NameRun(Seq<Text>, Text, Context),
+    NameWild(Seq<Text>, Text, Context),
+    PrefixOpened(Text, Context),
+    Opened(Context),
+    ArmsOpened(Seq<Expr>, Context),
     Binders(Quantifier, Seq<Name>),
     TriggerClosed(Quantifier, Seq<Expr>, Seq<bool>),
     Type(TypeReader, TypeUse),

@@ -1,0 +1,5 @@
+// The place of a part while its tree isn't whole.
+use syntax_why::At;
+
+/// The place of a part before its tree is whole; then `places_why` gives each part its own.
+pub const NOWHERE: At = At { first: 0, main: 0 };
