@@ -2,7 +2,8 @@
 ghost use Rattle.std.specs.Prelude.{◌≡◌, ◌++◌, ◌∷◌, [], map, OnOk};
 ghost use Rattle.syntax_why.specs.declared.marks.Mark.TheVariants.{RParen};
 ghost use Rattle.syntax_why.specs.Declarations.{algebraic_of};
-ghost use Rattle.syntax_why.specs.Lexeme.{kinds, mark};
+ghost use Rattle.syntax_why.specs.Lexeme.{kinds, lident, mark};
+ghost use Rattle.grammar.specs.Completion.{some_lower};
 ghost use Rattle.grammar_decls.specs.Completing.{some_result, some_body, some_clause, some_prop, close_header, close_name, close_type, close_type_name};
 ghost use Rattle.read_decls.specs.DeclStates.{header_of, symbol_of, replaced_of, type_use_of};
 
@@ -20,7 +21,8 @@ pub fn push(kind: TokenKind, out: &mut Vec<TokenKind>) -> Result<(), AllocError>
     Ok(())
 }
 
-fn push_result(out: &mut Vec<TokenKind>) -> Result<(), AllocError>
+/// The kinds of a result behind its symbol.
+pub fn push_result(out: &mut Vec<TokenKind>) -> Result<(), AllocError>
     ensures { OnOk result (out.new.items ≡ out.old.items ++ kinds some_result) }
 {
     push(TokenKind::Colon, out)?;
@@ -75,6 +77,14 @@ pub fn push_prop(out: &mut Vec<TokenKind>) -> Result<(), AllocError>
 {
     push(TokenKind::Colon, out)?;
     push(TokenKind::Reserved(54), out)
+}
+
+/// The kinds of a proposition with its name.
+pub fn push_named_prop(out: &mut Vec<TokenKind>) -> Result<(), AllocError>
+    ensures { OnOk result (out.new.items ≡ out.old.items ++ kinds (lident some_lower ∷ some_prop)) }
+{
+    push(TokenKind::Lident, out)?;
+    push_prop(out)
 }
 
 /// The kinds behind a name in an element of a clone.

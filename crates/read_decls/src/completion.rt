@@ -9,7 +9,8 @@ ghost use Rattle.term_states.specs.ExprStates as expr_states;
 ghost use Rattle.read_decls.specs.DeclStates.{types_of, symbol_state_of, name_state_of, param_state_of, link_state_of, element_state_of, type_use_of, state_of};
 
 use crate::closing::{
-    push, push_header, push_prop, push_replaced, push_symbol, push_type_name, push_type_use,
+    push, push_header, push_named_prop, push_prop, push_replaced, push_result, push_symbol,
+    push_type_name, push_type_use,
 };
 use crate::state::{
     DeclState, ElementState, LinkState, NameState, ParamState, SymbolState, TypeDeclState, TypeUse,
@@ -167,6 +168,14 @@ fn push_in_type(
     push_type_use(of, out)
 }
 
+/// What pushing answered, where what was read is let go behind it.
+fn letting_go<T: Drop>(pushed: Result<(), AllocError>, read: T) -> Result<(), AllocError>
+    ensures { result ≡ pushed }
+{
+    drop(read);
+    pushed
+}
+
 /// The kinds that complete a declaration, at the end of others. Memory may run out.
 pub fn push_decl(
     alloc: Global,
@@ -176,56 +185,21 @@ pub fn push_decl(
     ensures { OnOk result (out.new.items ≡ out.old.items ++ kinds (decl_complete (state_of state))) }
 {
     match state {
-        DeclState::Types(state) => {
-            let pushed = push_types(&state, out);
-            drop(state);
-            pushed
-        }
-        DeclState::Symbol(state) => {
-            let pushed = push_symbol_state(&state, out);
-            drop(state);
-            pushed
-        }
-        DeclState::PropDue(of) => {
-            drop(of);
-            push(TokenKind::Lident, out)?;
-            push_prop(out)
-        }
-        DeclState::Name(state) => {
-            let pushed = push_name_state(&state, out);
-            drop(state);
-            pushed
-        }
-        DeclState::Param(state) => {
-            let pushed = push_param_state(&state, out);
-            drop(state);
-            pushed
-        }
-        DeclState::ConstantNamed(_name) => {
-            push(TokenKind::Colon, out)?;
-            push(TokenKind::TyVar, out)
-        }
+        DeclState::Types(state) => letting_go(push_types(&state, out), state),
+        DeclState::Symbol(state) => letting_go(push_symbol_state(&state, out), state),
+        DeclState::PropDue(of) => letting_go(push_named_prop(out), of),
+        DeclState::Name(state) => letting_go(push_name_state(&state, out), state),
+        DeclState::Param(state) => letting_go(push_param_state(&state, out), state),
+        DeclState::ConstantNamed(_name) => push_result(out),
         DeclState::PropNamed(_kind, _name) => push_prop(out),
-        DeclState::ClausesDue(_before, _of) => {
-            push(TokenKind::Lident, out)?;
-            push_prop(out)
-        }
+        DeclState::ClausesDue(_before, _of) => push_named_prop(out),
         DeclState::ClauseNamed(_before, _of, _name) => push_prop(out),
-        DeclState::Link(state) => {
-            let pushed = push_link_state(&state, out);
-            drop(state);
-            pushed
-        }
-        DeclState::Element(state) => {
-            let pushed = push_element_state(&state, out);
-            drop(state);
-            pushed
-        }
+        DeclState::Link(state) => letting_go(push_link_state(&state, out), state),
+        DeclState::Element(state) => letting_go(push_element_state(&state, out), state),
         DeclState::InType(reader, of) => {
             let pushed = push_in_type(&reader, &of, out);
             drop(reader);
-            drop(of);
-            pushed
+            letting_go(pushed, of)
         }
         DeclState::InExpr(reader, of) => {
             drop(of);
