@@ -37,6 +37,7 @@ impl Model for Bindings {
 impl Bindings {
     ghost use Rattle.unify_types.specs.declared.bindings.Bound.{Bound};
 
+    /// No bindings. `alloc` is what later bindings take their memory from.
     pub fn new(alloc: Global) -> Bindings
         ensures { result ≡ [] }
     {
@@ -53,6 +54,7 @@ impl Bindings {
         self.types.get(&unknown).copied()
     }
 
+    /// How many bindings there are.
     pub fn len(&self) -> usize
         ensures { result ≡ length self.now }
     {
