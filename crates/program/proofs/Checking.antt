@@ -6,7 +6,7 @@ use Rattle.kernel.specs.Trees.{StepTree}
 use Rattle.problems.specs.declared.names.NameEntry.{NameEntry}
 use Rattle.steps_text.specs.Words.{lines_of}
 use Rattle.steps_text.specs.Lines.{Reading, nothing_read, thing_of, IsGood, after, AreRead, IsWrongLine, StepsOf, FirstWrong}
-use Rattle.program.specs.Meets.{Answers, GivesOr}
+use Rattle.program.specs.Answers.{Answers, IsStageAnswer}
 use Rattle.program.specs.Order.{Stage}
 use Rattle.program.specs.declared.status.RunFault.{RunFault}
 use Rattle.program.specs.declared.status.RunFault.TheVariants as run_fault
@@ -55,7 +55,7 @@ pub one_list : (t : TaskTree) (names : List NameEntry) (tallest : Option ℕ) (b
 one_list t names tallest bytes steps others a b = read_once t names tallest nothing_read (lines_of bytes) steps others a b
 
 -- a stage that fetches nothing, as a part of a run
-pub answers_stage : {A : Type 0} (stage : Stage A) (start : ℕ) (s : LibraryState) (r : Result A RunFault) → GivesOr stage r → Answers (λ files limit. stage) start (λ _. start) s s r
+pub answers_stage : {A : Type 0} (stage : Stage A) (start : ℕ) (s : LibraryState) (r : Result A RunFault) → IsStageAnswer stage r → Answers (λ files limit. stage) start (λ _. start) s s r
 answers_stage stage start s (Ok value) h = answers_value {next = λ _. start} (omega arith) (λ files limit. h)
 answers_stage stage start s (Err run_fault.Memory) h = answers_memory
 answers_stage stage start s (Err (run_fault.Refused fault)) h = answers_refused (λ files. h)

@@ -18,7 +18,7 @@ use Rattle.kernel.proofs.Growth.{steps_later, steps_held_later}
 use Rattle.evidence.specs.Stages.{task_or, no_task, parts_at, part_or, PartsHeld}
 use Rattle.problems.specs.Used.{DeclaresEntries}
 use Rattle.program.specs.Lifted.{IsRefutation, AreRefuted}
-use Rattle.program.specs.Meets.{Answers}
+use Rattle.program.specs.Answers.{Answers}
 use Rattle.program.specs.Order.{Meaning, Answer, After, PartFile, FirstFiles, name_or}
 use Rattle.program.specs.declared.status.RunFault.{RunFault}
 use Rattle.program.specs.declared.status.RunFault.TheVariants as run_fault

@@ -6,7 +6,7 @@ use Rattle.tasks.specs.Task.{TaskTree}
 use Rattle.kernel.specs.Trees.{StepTree}
 use Rattle.tr_split.specs.Split.{split_task}
 use Rattle.program.specs.Lifted.{IsLifted}
-use Rattle.program.specs.Meets.{Answers}
+use Rattle.program.specs.Answers.{Answers}
 use Rattle.program.specs.Order.{Stop, refused, Meaning, Answer, if_counted, FirstFiles, Lifts, Handed, Lifting}
 use Rattle.program.specs.declared.status.Fault.TheVariants.{PartCount}
 use Rattle.program.specs.declared.status.RunFault.{RunFault}

@@ -2,7 +2,7 @@
 ghost use Rattle.std.specs.Prelude.{◌≡◌};
 ghost use Rattle.outside.specs.State.{LibraryState};
 ghost use Rattle.tasks.specs.Meaning.{task_at, TaskHeld};
-ghost use Rattle.program.specs.Meets.{Ends, GivesOr, bytes_of};
+ghost use Rattle.program.specs.Answers.{Ends, IsStageAnswer, bytes_of};
 ghost use Rattle.program.specs.Order.{CheckText, Checks};
 
 use crate::fetching::fetch_whole;
@@ -23,7 +23,7 @@ fn check_steps(
     bytes: &[u8],
 ) -> Result<Vec<u8>, RunFault>
     requires held { TaskHeld store.old task.now }
-    ensures { GivesOr (Checks (task_at store.old task.now) bytes.now) (bytes_of result) }
+    ensures { IsStageAnswer (Checks (task_at store.old task.now) bytes.now) (bytes_of result) }
 {
     let names = task_names(alloc, store, task)?;
     let mut reader = StepReader::new(alloc, None);

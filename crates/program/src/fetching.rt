@@ -1,7 +1,7 @@
 // The files that a run fetches, by their numbers.
 ghost use Rattle.std.specs.Prelude.{◌≡◌, ◌+◌, ℕ};
 ghost use Rattle.outside.specs.State.{LibraryState};
-ghost use Rattle.program.specs.Meets.{Answers, bytes_of};
+ghost use Rattle.program.specs.Answers.{Answers, bytes_of};
 ghost use Rattle.program.specs.Order.{ShortFile, WholeFile};
 
 use crate::{Fault, RunFault};

@@ -5,7 +5,7 @@ ghost use Rattle.tasks.specs.Meaning.{task_at, TaskHeld};
 ghost use Rattle.tasks.specs.Valid.{IsValid};
 ghost use Rattle.propositional.specs.Meaning.{theories_at, TheoriesHeld};
 ghost use Rattle.program.specs.Fragment.{IsInFragment};
-ghost use Rattle.program.specs.Meets.{Answers};
+ghost use Rattle.program.specs.Answers.{Answers};
 ghost use Rattle.program.specs.Order.{Source, Goal};
 ghost use Rattle.program.specs.Values.{theories_in, task_in, AreOfSource};
 

@@ -4,7 +4,7 @@ ghost use Rattle.outside.specs.State.{LibraryState};
 ghost use Rattle.tasks.specs.Meaning.{task_at, TaskHeld};
 ghost use Rattle.tasks.specs.Valid.{IsValid};
 ghost use Rattle.program.specs.Fragment.{IsInFragment};
-ghost use Rattle.program.specs.Meets.{Answers, Ends, bytes_of};
+ghost use Rattle.program.specs.Answers.{Answers, Ends, bytes_of};
 ghost use Rattle.program.specs.Order.{Lifting, LiftText};
 
 use crate::derivation::lifted_text;

@@ -5,7 +5,7 @@ ghost use Rattle.trees.specs.Node.{Grows};
 ghost use Rattle.tasks.specs.Meaning.{task_at, tasks_at, TaskHeld, TasksHeld};
 ghost use Rattle.tasks.specs.Valid.{IsValid};
 ghost use Rattle.problems.specs.Used.{DeclaresEntries};
-ghost use Rattle.program.specs.Meets.{Answers, Ends, bytes_of};
+ghost use Rattle.program.specs.Answers.{Answers, Ends, bytes_of};
 ghost use Rattle.program.specs.Order.{Goal, PrintText};
 ghost use Rattle.program.specs.Texts.{problem_text, problem_texts, printed};
 ghost use Rattle.program.specs.Values.{task_in};

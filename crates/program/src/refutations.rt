@@ -6,7 +6,7 @@ ghost use Rattle.tasks.specs.Meaning.{task_at, tasks_at, TaskHeld, TasksHeld};
 ghost use Rattle.kernel.specs.Meaning.{steps_at, StepsHeld};
 ghost use Rattle.evidence.specs.Stages.{parts_at, PartsHeld};
 ghost use Rattle.problems.specs.Used.{DeclaresEntries};
-ghost use Rattle.program.specs.Meets.{Answers, GivesOr};
+ghost use Rattle.program.specs.Answers.{Answers, IsStageAnswer};
 ghost use Rattle.program.specs.Order.{Refutes, PartFile, FirstFiles};
 ghost use Rattle.program.specs.Lifted.{IsRefutation, AreRefuted};
 ghost use Rattle.program.specs.Values.{steps_in, handed_in};
@@ -34,7 +34,7 @@ fn read_refutation(
 ) -> Result<Vec<Step>, RunFault>
     requires held { TaskHeld store.old part.now }
     requires entries { DeclaresEntries (task_at store.old part.now) }
-    ensures steps { GivesOr (Refutes number (task_at store.old part.now) bytes.now) (steps_in store.new result) }
+    ensures steps { IsStageAnswer (Refutes number (task_at store.old part.now) bytes.now) (steps_in store.new result) }
     ensures held { IfOk result (λ v. StepsHeld store.new v.items) }
     ensures refutes { IfOk result (λ v. IsRefutation (task_at store.old part.now) (steps_at store.new v.items)) }
     ensures grows { Grows store.old store.new }

@@ -8,7 +8,7 @@ ghost use Rattle.syntax_why.specs.WriteDeclarations.{write_file};
 ghost use Rattle.syntax_why.specs.CarriedDeclarations.{file_places_of};
 ghost use Rattle.syntax_why.specs.DeclarationPlaces.{file_places};
 ghost use Rattle.propositional.specs.Meaning.{theories_at, TheoriesHeld};
-ghost use Rattle.program.specs.Meets.{GivesOr};
+ghost use Rattle.program.specs.Answers.{IsStageAnswer};
 ghost use Rattle.program.specs.Order.{Lexes, Parses, BeginsAt, Declares, SourceTheories};
 ghost use Rattle.program.specs.Values.{tokens_in, file_in, theories_in, AreOfSource};
 
@@ -23,7 +23,7 @@ use tokens_why::{LexFault, Token, lex};
 
 // The tokens of a text.
 fn tokens_of(alloc: Global, text: &[u8]) -> Result<Vec<Token>, RunFault>
-    ensures { GivesOr (Lexes text.now) (tokens_in result) }
+    ensures { IsStageAnswer (Lexes text.now) (tokens_in result) }
 {
     match lex(alloc, text) {
         Ok(tokens) => Ok(tokens),
@@ -36,7 +36,7 @@ fn tokens_of(alloc: Global, text: &[u8]) -> Result<Vec<Token>, RunFault>
 // The file of the tokens of a text, which carries its places.
 fn file_of(alloc: Global, tokens: &[Token], text: &[u8]) -> Result<File, RunFault>
     requires { AreTokens text.now tokens.now }
-    ensures parses { GivesOr (Parses (rest text.now tokens.now 0)) (file_in result) }
+    ensures parses { IsStageAnswer (Parses (rest text.now tokens.now 0)) (file_in result) }
     ensures places { IfOk result (λ file. file_places_of file ≡ file_places 0 (file_of file)) }
 {
     match parse(alloc, tokens, text) {
@@ -75,7 +75,7 @@ fn theories_of(
 ) -> Result<Seq<Theory>, RunFault>
     requires tokens { length (write_file (file_of file.now)) ≡ length tokens.now }
     requires places { file_places_of file.now ≡ file_places 0 (file_of file.now) }
-    ensures declares { GivesOr (Declares tokens.now (file_of file.now)) (theories_in store.new result) }
+    ensures declares { IsStageAnswer (Declares tokens.now (file_of file.now)) (theories_in store.new result) }
     ensures held { IfOk result (TheoriesHeld store.new) }
 {
     match theories(alloc, store, file) {
@@ -100,7 +100,7 @@ fn theories_of(
 /// begins there); then, in each declaration in turn, that it isn't of the fragment (16), that its name is taken (21), the
 /// first name that isn't there (20).
 pub fn read_source(alloc: Global, store: &mut Store, text: &[u8]) -> Result<Seq<Theory>, RunFault>
-    ensures theories { GivesOr (SourceTheories text.now) (theories_in store.new result) }
+    ensures theories { IsStageAnswer (SourceTheories text.now) (theories_in store.new result) }
     ensures held { IfOk result (TheoriesHeld store.new) }
     ensures source { IfOk result (λ ts. AreOfSource (theories_at store.new ts)) }
 {

@@ -1,7 +1,7 @@
 use Rattle.std.proofs.Common.{rules, arith, ◌+◌, ◌≡◌, true, false, length, ◌==◌, Ok, Err, ℕ, Option, None}
 use Rattle.std.proofs.lemmas.Bool.Decides.{nat_tests}
 use Rattle.outside.specs.State.{IsFront}
-use Rattle.program.specs.Meets.{Reaches}
+use Rattle.program.specs.Answers.{Reaches}
 use Rattle.program.specs.Order.{ShortFile, refused}
 use Rattle.program.specs.declared.status.Fault.TheVariants.{TooLong}
 use Rattle.program.proofs.Meeting.{told, short_file-ok, short_file-long, if_short-long}

@@ -1,5 +1,5 @@
 use Rattle.std.proofs.Common.{ℕ, List, subst}
-use Rattle.program.specs.Meets.{GivesOr}
+use Rattle.program.specs.Answers.{IsStageAnswer}
 use Rattle.program.specs.Order.{SourceTheories}
 use Rattle.program.specs.Values.{theories_in}
 use Rattle.program.proofs.Meeting.{answers_then}
@@ -10,5 +10,5 @@ pub returns-clause-answers : goal.returns-clause-answers
 returns-clause-answers g c =
     let bytes = c.in_ok-text.text.items in
     let r = theories_in c.read_source.new.store c.read_source.result in
-    let read = subst (λ (b : List ℕ). GivesOr (SourceTheories b) r) c.deref.ensures.value c.read_source.ensures.theories in
+    let read = subst (λ (b : List ℕ). IsStageAnswer (SourceTheories b) r) c.deref.ensures.value c.read_source.ensures.theories in
     answers_then (λ b files limit. SourceTheories b) c.in_ok-text.ensures (answers_stage (SourceTheories bytes) 1 _ r read)

@@ -12,7 +12,7 @@ use Rattle.problems.specs.Used.{DeclaresEntries}
 use Rattle.tr_split.specs.Split.{split_task}
 use Rattle.program.specs.Fragment.{IsInFragment}
 use Rattle.program.specs.Lifted.{IsLifted, AreRefuted}
-use Rattle.program.specs.Meets.{Answers}
+use Rattle.program.specs.Answers.{Answers}
 use Rattle.program.specs.Order.{Lifting}
 use Rattle.program.specs.declared.status.RunFault.{RunFault}
 use Rattle.program.proofs.Printing.{parts_entries}

@@ -1,6 +1,6 @@
 use Rattle.std.proofs.Common.{◌+◌, List, ℕ, subst}
 use Rattle.tasks.specs.Meaning.{task_at}
-use Rattle.program.specs.Meets.{GivesOr}
+use Rattle.program.specs.Answers.{IsStageAnswer}
 use Rattle.program.specs.Order.{Refutes}
 use Rattle.program.specs.Values.{steps_in}
 use Rattle.program.proofs.Meeting.{answers_then}
@@ -12,5 +12,5 @@ returns-clause-answers g c =
     let t = task_at c.args.store.now c.args.part.now in
     let k = c.args.place + 1 in
     let r = steps_in c.read_refutation.new.store c.read_refutation.result in
-    let read = subst (λ (bytes : List ℕ). GivesOr (Refutes k t bytes) r) c.deref.ensures.value c.read_refutation.ensures.steps in
+    let read = subst (λ (bytes : List ℕ). IsStageAnswer (Refutes k t bytes) r) c.deref.ensures.value c.read_refutation.ensures.steps in
     answers_then (λ bytes files limit. Refutes k t bytes) c.in_ok-bytes.ensures (answers_stage (Refutes k t c.in_ok-bytes.bytes.items) (c.args.place + 2 + 1) _ r read)

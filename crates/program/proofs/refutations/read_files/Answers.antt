@@ -7,7 +7,7 @@ use Rattle.kernel.specs.Trees.{StepTree}
 use Rattle.kernel.specs.Meaning.{steps_at}
 use Rattle.evidence.specs.Stages.{parts_at, task_or, PartsHeld}
 use Rattle.program.specs.Lifted.{IsRefutation, AreRefuted}
-use Rattle.program.specs.Meets.{Answers}
+use Rattle.program.specs.Answers.{Answers}
 use Rattle.program.specs.Order.{PartFile, FirstFiles}
 use Rattle.program.specs.declared.status.RunFault.{RunFault}
 use Rattle.program.proofs.Files.{part_later, part_entries, handed_later, handed_held, handed_more, held_more, refuted_more, name_at, files_more, files_stop}

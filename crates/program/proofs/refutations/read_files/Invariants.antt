@@ -3,7 +3,7 @@ use Rattle.trees.specs.Node.{Grows}
 use Rattle.tasks.specs.Meaning.{tasks_at}
 use Rattle.evidence.specs.Stages.{parts_at, PartsHeld}
 use Rattle.program.specs.Lifted.{AreRefuted}
-use Rattle.program.specs.Meets.{Answers}
+use Rattle.program.specs.Answers.{Answers}
 use Rattle.program.specs.Order.{FirstFiles}
 use Rattle.program.proofs.refutations.read_files.Given as goal
 
