@@ -7,3 +7,4 @@ pub mod Reading
 pub mod Moves
 pub mod Closing
 pub mod Places
+pub mod FormOvers

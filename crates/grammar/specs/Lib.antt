@@ -1,4 +1,5 @@
 pub mod Walk
 pub mod FormMachine
+pub mod FormOver
 pub mod Machine
 pub mod Completion

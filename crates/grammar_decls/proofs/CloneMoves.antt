@@ -13,7 +13,7 @@ use Rattle.syntax_why.specs.Write.{write_called}
 use Rattle.syntax_why.specs.Levels.{HasSome}
 use Rattle.syntax_why.specs.WriteDeclarations.{type_word, variable_row, link_words, write_path, as_part, symbol_word}
 use Rattle.syntax_why.specs.DeclarationLevels.{some_type, some_symbol, IsNameOf, IsLink}
-use Rattle.grammar_decls.specs.Keywords.{Keyword, axiom_key, constant_key, export_key, function_key, goal_key, import_key, lemma_key, predicate_key, type_key, keyword}
+use Rattle.syntax_why.specs.Keywords.{Keyword, axiom_key, constant_key, export_key, function_key, goal_key, import_key, lemma_key, predicate_key, type_key, keyword}
 use Rattle.grammar_decls.specs.DeclarationMachine.{Cloning, Naming, type_element_name, left_symbol, right_symbol, prop_element_name, element_type, type_for, name_due, rename_due, at_path_due, at_path_lower, at_link_key, at_link_due, at_link_end, may_rename, at_path_read, at_rename_due, at_element_key, at_element_due, at_element_vars, at_left_read}
 use Rattle.grammar_decls.proofs.Growth.{has_push}
 use Rattle.grammar_decls.proofs.Pushes.{variables_push, path_push, path_scopes_push}

@@ -13,7 +13,7 @@ use Rattle.grammar.proofs.Walks.{walk-step, walk-then}
 use Rattle.grammar.proofs.FormReading.{FormStops, is_as, form_walk, FormWhole, whole, reads_form}
 use Rattle.grammar.proofs.Ending.{Stops}
 use Rattle.grammar.proofs.Reading.{at_zero, reads, expr_walk}
-use Rattle.grammar_decls.specs.Keywords.{keyword}
+use Rattle.syntax_why.specs.Keywords.{keyword}
 use Rattle.grammar_decls.specs.DeclarationMachine.{TypeUse, equation, named_param, param_part, function_result, member_result, constant_type, element_type, ExprUse, function_body, predicate_body, member_body, constant_body, prop_body, clause_body, DeclState, decl_type, decl_expr, type_for, expr_for, at_type_use, at_expr_use, at_decl_key, decl_step, finish_type, finish_expr, decl_finish}
 use Rattle.grammar_decls.proofs.Hosting.{host_walk, host_ends}
 

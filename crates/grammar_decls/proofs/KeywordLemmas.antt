@@ -2,7 +2,7 @@
 use Rattle.std.proofs.Common.{◌≡◌, ℕ, Bool, true, false, nat_eq, cond, List, [], ◌∷◌, refl, arith}
 use Rattle.std.specs.Bool.{⊤}
 use Rattle.std.proofs.lemmas.Bool.Decides.{nat_tests}
-use Rattle.grammar_decls.specs.Keywords.{Keyword, axiom_key, clone_key, constant_key, export_key, function_key, goal_key, import_key, inductive_key, lemma_key, module_key, predicate_key, scope_key, theory_key, type_key, use_key, no_key, keywords, key_in, keyword}
+use Rattle.syntax_why.specs.Keywords.{Keyword, axiom_key, clone_key, constant_key, export_key, function_key, goal_key, import_key, inductive_key, lemma_key, module_key, predicate_key, scope_key, theory_key, type_key, use_key, no_key, keywords, key_in, keyword}
 
 -- the place of a keyword is this
 abbrev pub Spelled : ℕ → Keyword → Type 0

@@ -8,7 +8,7 @@ use Rattle.syntax_why.specs.Declarations.{Decl, Theory, decls, scope_decl}
 use Rattle.syntax_why.specs.WriteDeclarations.{scope_word, write_decl, write_decls, heading, write_theory, write_file}
 use Rattle.syntax_why.specs.DeclarationLevels.{IsLevelDecl, AreLevelDecls, IsLevelFile}
 use Rattle.grammar.specs.Walk.{onward, walk}
-use Rattle.grammar_decls.specs.Keywords.{Keyword, axiom_key, clone_key, constant_key, function_key, goal_key, inductive_key, lemma_key, module_key, predicate_key, scope_key, theory_key, type_key, use_key, keyword}
+use Rattle.syntax_why.specs.Keywords.{Keyword, axiom_key, clone_key, constant_key, function_key, goal_key, inductive_key, lemma_key, module_key, predicate_key, scope_key, theory_key, type_key, use_key, keyword}
 use Rattle.grammar_decls.specs.DeclarationMachine.{DeclState, at_decl_key, decl_step, decl_finish}
 use Rattle.grammar_decls.specs.SourceMachine.{Around, in_theory, in_scope, SourceState, outside, theory_opened, ready, scope_opened, declaring, with_decl, ended, at_key, at_ready, at_outside_key, at_outside, at_theory_opened, at_scope_opened, at_declaring, source_step, source_finish}
 use Rattle.grammar_decls.proofs.KeywordLemmas.{Spelled, keyword_spelled}

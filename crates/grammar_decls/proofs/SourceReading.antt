@@ -8,7 +8,7 @@ use Rattle.syntax_why.specs.Declarations.{Decl, Decls, Theory, decls, scope_decl
 use Rattle.syntax_why.specs.WriteDeclarations.{write_decl, write_decls, heading, write_theory, write_file}
 use Rattle.syntax_why.specs.DeclarationLevels.{IsLevelDecl, AreLevelDecls, IsLevelFile}
 use Rattle.grammar.specs.Walk.{onward, first}
-use Rattle.grammar_decls.specs.Keywords.{Keyword, scope_key, keyword}
+use Rattle.syntax_why.specs.Keywords.{Keyword, scope_key, keyword}
 use Rattle.grammar_decls.specs.DeclarationMachine.{DeclState, at_decl_key, decl_step, decl_finish}
 use Rattle.grammar_decls.specs.SourceMachine.{Around, in_theory, in_scope, SourceState, outside, ready, declaring, with_decl, ended, at_key, at_ready, source_step}
 use Rattle.grammar_decls.proofs.Hosting.{host_walk}

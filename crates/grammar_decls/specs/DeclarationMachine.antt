@@ -1,5 +1,5 @@
 -- Reading a declaration that is no scope token by token; its types and expressions are read by machines of their own.
-use Rattle.std.specs.Prelude.{ℕ, Bool, true, false, if◌then◌else◌, List, [], ◌∷◌, ◌++◌, map, Option, Some, None, option_map}
+use Rattle.std.specs.Prelude.{Bool, true, false, if◌then◌else◌, List, [], ◌∷◌, ◌++◌, map, Option, Some, None, option_map}
 use Rattle.syntax_why.specs.declared.marks.Mark.TheVariants as m
 use Rattle.syntax_why.specs.declared.declarations.PropKind.{PropKind}
 use Rattle.syntax_why.specs.declared.declarations.PropKind.TheVariants as pk
@@ -10,12 +10,12 @@ use Rattle.syntax_why.specs.declared.declarations.SymbolWord.TheVariants as sw
 use Rattle.syntax_why.specs.Tree.{Word, Op, equal, Called, lower_name, upper_name, infix_name, prefix_name, star_name, Form, type_variable, composed, enclosed, no_forms, forms, Tree}
 use Rattle.syntax_why.specs.Lexeme.{Lexeme, lident, uident, tyvar, run, mark, word}
 use Rattle.syntax_why.specs.Levels.{types, is_operator}
-use Rattle.syntax_why.specs.Declarations.{Param, Member, Constructor, Algebraic, Clause, Inductive, Element, Decl, type_element, symbol_element, prop_element, all_axioms, type_decl, algebraic_decl, function_decl, predicate_decl, constant_decl, inductive_decl, prop_decl, use_decl, clone_decl}
+use Rattle.syntax_why.specs.Declarations.{Param, Member, Algebraic, Inductive, Element, Decl, type_element, symbol_element, prop_element, all_axioms, type_decl, algebraic_decl, function_decl, predicate_decl, constant_decl, inductive_decl, prop_decl, use_decl, clone_decl}
 use Rattle.syntax_why.specs.DeclarationLevels.{NameSort, new_symbol, new_prop, some_type, some_symbol, some_prop, has_operators}
 use Rattle.grammar.specs.Walk.{onward, first}
 use Rattle.grammar.specs.FormMachine.{FormState, alone, form_due, form_taking, form_dotted, form_step, form_finish}
 use Rattle.grammar.specs.Machine.{State, due, step, finish}
-use Rattle.grammar_decls.specs.Keywords.{Keyword, axiom_key, clone_key, constant_key, export_key, function_key, goal_key, import_key, inductive_key, lemma_key, predicate_key, type_key, use_key, keyword}
+use Rattle.syntax_why.specs.Keywords.{Keyword, axiom_key, clone_key, constant_key, export_key, function_key, goal_key, import_key, inductive_key, lemma_key, predicate_key, type_key, use_key, keyword}
 
 -- a function or predicate with its definition and the members behind it so far
 pub data Group : Type 0 where

@@ -1,4 +1,3 @@
-pub mod Keywords
 pub mod DeclarationMachine
 pub mod SourceMachine
 pub mod Completing

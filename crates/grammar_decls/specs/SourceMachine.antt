@@ -6,7 +6,7 @@ use Rattle.syntax_why.specs.Tree.{Word}
 use Rattle.syntax_why.specs.Lexeme.{Lexeme, uident, mark, word}
 use Rattle.syntax_why.specs.Declarations.{Decl, Theory, decls, scope_decl}
 use Rattle.grammar.specs.Walk.{onward, first}
-use Rattle.grammar_decls.specs.Keywords.{Keyword, module_key, scope_key, theory_key, keyword}
+use Rattle.syntax_why.specs.Keywords.{Keyword, module_key, scope_key, theory_key, keyword}
 use Rattle.grammar_decls.specs.DeclarationMachine.{DeclState, at_decl_key, decl_step, decl_finish}
 
 -- what is open around a declaration, with the declarations so far: a theory behind others, or a scope in what is around it

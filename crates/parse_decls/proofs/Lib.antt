@@ -1,4 +1,5 @@
 mod Examples
+mod ProgramRows
 mod ScanLemmas
 mod DepthLemmas
 mod SourceLemmas

@@ -4,8 +4,7 @@ use Rattle.std.proofs.lemmas.Bool.Decides.{nat_tests}
 use Rattle.std.proofs.lemmas.List.{take-append-drop, length-map}
 use Rattle.std.proofs.lemmas.Option.{slice_get-map, slice_get_within}
 use Rattle.tokens_why.specs.declared.token.Token.{Token}
-use Rattle.syntax_why.specs.declared.marks.Mark.TheVariants as m
-use Rattle.syntax_why.specs.Lexeme.{Lexeme, lident, uident, tyvar, integer, run, mark, word, lexeme, rest, kinds, lexeme_kind}
+use Rattle.syntax_why.specs.Lexeme.{Lexeme, lexeme, rest, kinds, lexeme_kind}
 use Rattle.syntax_why.specs.Declarations.{Theory}
 use Rattle.syntax_why.specs.WriteDeclarations.{scope_word}
 use Rattle.syntax_why.specs.Sources.{IsFileOf, BeginsSource}
@@ -18,10 +17,11 @@ use Rattle.grammar_decls.proofs.SourcePlaces.{source_stops, source_walk-then, fi
 use Rattle.parse_terms.specs.declared.fault.SyntaxFault.{SyntaxFault}
 use Rattle.parse_terms.specs.declared.fault.SyntaxFault.TheVariants as f
 use Rattle.parse_decls.specs.Depth.{IsShallow}
-use Rattle.parse_decls.specs.Faults.{IsLeastFault, IsProgramWord, IsProgramDecl, IsRefusal}
+use Rattle.parse_decls.specs.Faults.{IsLeastFault, IsProgramDecl, IsRefusal}
 use Rattle.parse_decls.specs.Parsed.{IsOnlyFile, CompletesSource}
 use Rattle.parse_decls.specs.Scans.{fault_of, read_to, StopsAt, IsStop}
-use Rattle.read_decls.specs.Tokens.{program_is}
+use Rattle.parse_decls.specs.Programs.{begins_program}
+use Rattle.syntax_why.proofs.Options.{some_is}
 
 -- tokens as the grammar sees them
 pub token_lexeme : (text : List ℕ) (ts : List Token) (i : ℕ) (t : Token) → slice_get ts i ≡ Some t → slice_get (rest text ts 0) i ≡ Some (lexeme text t)
@@ -92,37 +92,13 @@ both_true : (a b : Bool) → a ≡ true → b ≡ true → (a && b) ≡ true
 both_true true b e h = h
 both_true false b e h = cc
 
-program_word : (x : Lexeme) → program_is x ≡ true → IsProgramWord x
-program_word (mark m.Let) e = tt
-program_word (mark k) e = cc
-program_word (word n) e = e
-program_word (lident w) e = cc
-program_word (uident w) e = cc
-program_word (tyvar w) e = cc
-program_word (integer z) e = cc
-program_word (run o) e = cc
-
-word_program : (x : Lexeme) → IsProgramWord x → program_is x ≡ true
-word_program (mark m.Let) p = refl
-word_program (mark k) p = absurd p
-word_program (word n) p = p
-word_program (lident w) p = absurd p
-word_program (uident w) p = absurd p
-word_program (tyvar w) p = absurd p
-word_program (integer z) p = absurd p
-word_program (run o) p = absurd p
-
-some_step : (o : Option SourceState) → is_some o ≡ true → (r : SourceState) × (o ≡ Some r)
-some_step (Some r) e = (r, refl)
-some_step None e = cc
-
 scope_walk : (xs : List Lexeme) (i : ℕ) (s : SourceState) → read_to xs i ≡ Some s → walk source_step (outside []) (take i xs ++ scope_word ∷ []) ≡ source_step s scope_word
 scope_walk xs i s r = source_walk-then (outside []) s (take i xs) (scope_word ∷ []) r ∙ onward_some (source_step s scope_word)
 
 -- where a scope may stand, some source has one there
 scope_begins : (xs : List Lexeme) (i : ℕ) (s : SourceState) → read_to xs i ≡ Some s → can_scope s ≡ true → BeginsSource (take i xs ++ scope_word ∷ [])
 scope_begins xs i s r e =
-    let t = some_step (source_step s scope_word) (scope_stands s ∙ e) in
+    let t = some_is (source_step s scope_word) (scope_stands s ∙ e) in
     source_begins (take i xs ++ scope_word ∷ []) t.0 (scope_walk xs i s r ∙ t.1)
 
 none_scope : (o : Option SourceState) (b : Bool) → is_some o ≡ b → (o ≡ None → ⊥) → b ≡ true
@@ -139,16 +115,16 @@ is_program xs i s =
     record {
       token = s.token;
       is = s.is;
-      program = program_word s.token (and_left (program_is s.token) (can_scope s.state) both);
-      scope = scope_begins xs i s.state s.reads (and_right (program_is s.token) (can_scope s.state) both);
+      program = and_left (begins_program s.token) (can_scope s.state) both;
+      scope = scope_begins xs i s.state s.reads (and_right (begins_program s.token) (can_scope s.state) both);
     }
 
 pub no_program : (xs : List Lexeme) (i : ℕ) → StopsAt xs i false → IsProgramDecl xs i → ⊥
 no_program xs i s p =
     let tokens : Some p.token ≡ Some s.token = sym p.is ∙ s.is in
     let same : p.token ≡ s.token = cc in
-    let program : program_is s.token ≡ true = ap program_is (sym same) ∙ word_program p.token p.program in
-    let both : (program_is s.token && can_scope s.state) ≡ true = both_true (program_is s.token) (can_scope s.state) program (begins_scope xs i s.state s.reads p.scope) in
+    let program : begins_program s.token ≡ true = ap begins_program (sym same) ∙ p.program in
+    let both : (begins_program s.token && can_scope s.state) ≡ true = both_true (begins_program s.token) (can_scope s.state) program (begins_scope xs i s.state s.reads p.scope) in
     let wrong : false ≡ true = s.program ∙ both in
     cc
 

@@ -3,7 +3,7 @@ use Rattle.std.specs.Prelude.{ℕ, ◌+◌, ◌<◌, ◌≤◌, List, [], ◌∷
 use Rattle.syntax_why.specs.declared.marks.Mark.{Mark}
 use Rattle.syntax_why.specs.declared.marks.Mark.TheVariants as m
 use Rattle.syntax_why.specs.Lexeme.{Lexeme, run, mark, word}
-use Rattle.grammar_decls.specs.Keywords.{Keyword, module_key, scope_key, theory_key, export_key, import_key, no_key, keyword}
+use Rattle.syntax_why.specs.Keywords.{Keyword, module_key, scope_key, theory_key, export_key, import_key, no_key, keyword}
 
 -- A token opens a bracket, closes the innermost one, counts in it, or lets it count from 0 again.
 pub data Nesting : Type 0 where

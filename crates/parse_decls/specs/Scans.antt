@@ -8,7 +8,7 @@ use Rattle.grammar_decls.specs.SourceMachine.{SourceState, outside, source_step}
 use Rattle.parse_terms.specs.declared.fault.SyntaxFault.{SyntaxFault}
 use Rattle.parse_terms.specs.declared.fault.SyntaxFault.TheVariants as f
 use Rattle.grammar_decls.specs.Scoping.{can_scope}
-use Rattle.read_decls.specs.Tokens.{program_is}
+use Rattle.parse_decls.specs.Programs.{begins_program}
 
 abbrev pub fault_of : ℕ → Bool → SyntaxFault
 fault_of i true = f.ProgramDecl i
@@ -16,7 +16,7 @@ fault_of i false = f.Syntax i
 
 -- whether the token at a place begins a declaration of a program where a scope could stand
 abbrev pub IsProgramAt : List Token → ℕ → SourceState → Bool → Type 0
-IsProgramAt ts i s b = (text : List ℕ) (t : Token) → slice_get ts i ≡ Some t → b ≡ (program_is (lexeme text t) && can_scope s)
+IsProgramAt ts i s b = (text : List ℕ) (t : Token) → slice_get ts i ≡ Some t → b ≡ (begins_program (lexeme text t) && can_scope s)
 
 -- the state behind the tokens before a place
 abbrev pub read_to : List Lexeme → ℕ → Option SourceState
@@ -30,7 +30,7 @@ pub record StopsAt (xs : List Lexeme) (i : ℕ) (is_program : Bool) : Type 0 whe
   pub reads : read_to xs i ≡ Some state
   pub is : slice_get xs i ≡ Some token
   pub stuck : source_step state token ≡ None
-  pub program : is_program ≡ (program_is token && can_scope state)
+  pub program : is_program ≡ (begins_program token && can_scope state)
 
 abbrev pub IsStop : List Lexeme → SyntaxFault → Type 0
 IsStop xs f.Memory = ⊤

@@ -7,7 +7,7 @@ use Rattle.parse_decls.specs.declared.source_state.OpenScope.{OpenScope}
 use Rattle.parse_decls.specs.declared.source_state.Around.{Around}
 use Rattle.parse_decls.specs.declared.source_state.SourceState.{SourceState}
 use Rattle.parse_decls.specs.declared.source_state.SourceState.TheVariants as s
-use Rattle.read_decls.specs.DeclStates as decls
+use Rattle.decl_states.specs.DeclStates as decls
 
 -- scopes in a theory, the innermost first
 abbrev pub around_by : List OpenScope → TheoryHead → g.Around

@@ -3,11 +3,12 @@ ghost use Rattle.std.specs.Prelude.{◌≡◌, ◌++◌, OnOk, IfOk, replicate};
 ghost use Rattle.tokens_why.specs.declared.token.TokenKind.TheVariants.{Reserved};
 ghost use Rattle.syntax_why.specs.Lexeme.{kinds};
 ghost use Rattle.grammar_decls.specs.Completing.{close_around, decl_complete, source_complete};
-ghost use Rattle.read_decls.specs.DeclStates as decl_states;
+ghost use Rattle.decl_states.specs.DeclStates as decl_states;
 ghost use Rattle.parse_decls.specs.SourceStates as source_states;
 
 use crate::source_state::{Around, SourceState};
-use read_decls::{DeclState, push, push_decl};
+use complete_decls::{push, push_decl};
+use decl_states::DeclState;
 use std::alloc::{AllocError, Global};
 use tokens_why::TokenKind;
 

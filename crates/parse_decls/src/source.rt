@@ -11,18 +11,18 @@ ghost use Rattle.syntax_why.specs.Places.{behind};
 ghost use Rattle.syntax_why.specs.DeclarationPlaces.{file_places};
 ghost use Rattle.grammar.specs.Walk.{walk};
 ghost use Rattle.grammar_decls.specs.SourceMachine as machine;
-ghost use Rattle.parse_forms.specs.Leads.{HasTexts};
+ghost use Rattle.parse_items.specs.Leads.{HasTexts};
 ghost use Rattle.parse_decls.specs.Depth.{IsShallow};
 ghost use Rattle.parse_decls.specs.Faults.{IsRefusal};
 ghost use Rattle.parse_decls.specs.Parsed.{IsOnlyFile};
 ghost use Rattle.parse_decls.specs.Scans.{fault_of, IsProgramAt, IsStop};
 ghost use Rattle.parse_decls.specs.SourceStates.{state_of};
-ghost use Rattle.read_decls.specs.Tokens.{program_is};
+ghost use Rattle.parse_decls.specs.Programs.{begins_program as program_begins};
 
 use crate::depth::too_deep;
 use crate::source_reader::{can_scope, discard, finish, start, step};
 use crate::source_state::SourceState;
-use parse_forms::{Lead, classify, item_of};
+use parse_items::{Lead, classify, item_of};
 use parse_terms::SyntaxFault;
 use places_why::place_file;
 use std::alloc::{AllocError, Global};
@@ -60,7 +60,7 @@ pub fn advance(
 
 /// Whether a token of a kind begins a declaration of a program.
 fn is_program(kind: TokenKind) -> bool
-    ensures { (w : Word) → result ≡ program_is (lexeme_by kind w) }
+    ensures { (w : Word) → result ≡ program_begins (lexeme_by kind w) }
 {
     match classify(kind) {
         Lead::Mark(Mark::Let) => true,

@@ -6,21 +6,20 @@ ghost use Rattle.grammar.specs.Walk.{onward};
 ghost use Rattle.grammar_decls.specs.DeclarationMachine.{at_decl_key, decl_step as machine_step, decl_finish as machine_finish};
 ghost use Rattle.grammar_decls.specs.SourceMachine as machine;
 ghost use Rattle.grammar_decls.specs.SourceMachine.{at_key, at_ready, at_outside, at_outside_key, at_theory_opened, at_scope_opened, at_declaring, declaring, source_step, source_finish};
-ghost use Rattle.parse_forms.specs.Items.{lexeme_of};
-ghost use Rattle.read_decls.specs.Tokens.{follows};
-ghost use Rattle.read_decls.specs.Words.{keyword_by};
-ghost use Rattle.read_decls.specs.DeclStates as decl_states;
+ghost use Rattle.parse_items.specs.Items.{lexeme_of};
+ghost use Rattle.decl_states.specs.Tokens.{follows};
+ghost use Rattle.parse_items.specs.Words.{keyword_by};
+ghost use Rattle.decl_states.specs.DeclStates as decl_states;
 ghost use Rattle.parse_decls.specs.SourceStates.{around_of, state_of};
 ghost use Rattle.grammar_decls.specs.Scoping.{can_scope as may_scope};
 
 use crate::around::{ended, scope_begun, theory_begun, with_decl};
 use crate::source_state::{Around, SourceState};
+use complete_decls::{ends as decl_ends, finish as decl_finish};
+use decl_states::DeclState;
 use outside::Seq;
-use parse_forms::{Item, UpperName, unplaced_name};
-use read_decls::{
-    DeclState, Keyword, declaration_due, discard as decl_discard, ends as decl_ends,
-    finish as decl_finish, keyword_of, step as decl_step,
-};
+use parse_items::{Item, Keyword, UpperName, keyword_of, unplaced_name};
+use read_decls::{declaration_due, discard as decl_discard, step as decl_step};
 use std::alloc::{AllocError, Global};
 use syntax_why::{DeclTree, File, Mark, TheoryTree};
 

@@ -1,11 +1,9 @@
 -- The machine over the tokens from a place, and what it says of expressions there.
-use Rattle.std.proofs.Common.{◌≡◌, ℕ, zero, suc, ◌+◌, ◌-◌, ◌<◌, ◌≤◌, List, [], ◌∷◌, ◌++◌, length, map, take, drop, Option, Some, None, slice_get, Bool, true, false, nat_lt, ◌⊎◌, inl, inr, refl, sym, ap, ◌∙◌, subst, arith, append-nil, append_assoc}
+use Rattle.std.proofs.Common.{◌≡◌, ℕ, zero, suc, ◌+◌, ◌-◌, ◌<◌, ◌≤◌, List, [], ◌∷◌, ◌++◌, length, map, take, drop, Option, Some, None, slice_get, Bool, true, false, nat_lt, ◌⊎◌, inl, inr, refl, sym, ap, ◌∙◌, subst, arith, append-nil}
 use Rattle.std.proofs.lemmas.Bool.Decides.{nat_tests}
 use Rattle.tokens_why.specs.declared.token.Token.{Token}
-use Rattle.tokens_why.specs.declared.token.TokenKind.{TokenKind}
 use Rattle.syntax_why.specs.Tree.{Tree}
 use Rattle.syntax_why.specs.Lexeme.{Lexeme, lexeme, rest, kinds, lexeme_kind}
-use Rattle.syntax_why.specs.Write.{write}
 use Rattle.syntax_why.specs.Expressions.{IsTreeOf, Begins}
 use Rattle.grammar.specs.Walk.{onward, walk}
 use Rattle.grammar.specs.Completion.{complete}

@@ -1,22 +1,19 @@
 -- Facts of the loop over the tokens, and of tokens at their places.
-use Rattle.std.proofs.Common.{◌≡◌, ℕ, zero, suc, ◌+◌, ◌-◌, ◌<◌, ◌≤◌, Bool, true, false, List, [], ◌∷◌, ◌++◌, length, drop, Option, Some, None, option_map, is_some, slice_get, refl, sym, ap, ◌∙◌, subst, arith, append-nil, length-drop}
+use Rattle.std.proofs.Common.{◌≡◌, ℕ, zero, suc, ◌+◌, ◌-◌, ◌<◌, true, false, List, [], ◌∷◌, length, drop, Option, Some, None, is_some, slice_get, refl, sym, ap, ◌∙◌, subst, arith, append-nil, length-drop}
 use Rattle.std.proofs.lemmas.List.{length-map, length-take-le}
 use Rattle.tokens_why.specs.declared.token.Token.{Token}
-use Rattle.tokens_why.specs.Tokens.{AreTokens, Reads, IsToken, whole}
+use Rattle.tokens_why.specs.Tokens.{AreTokens, Reads, whole}
 use Rattle.syntax_why.specs.Tree.{Tree}
+use Rattle.syntax_why.proofs.Options.{some_is}
 use Rattle.syntax_why.specs.Lexeme.{lexeme, rest}
 use Rattle.syntax_why.specs.Write.{write}
 use Rattle.syntax_why.specs.Places.{behind}
 use Rattle.syntax_why.specs.Expressions.{Begins, IsTreeOf}
-use Rattle.grammar.specs.Machine.{State, finish, step}
-use Rattle.parse_forms.specs.Leads.{HasText, HasTexts}
+use Rattle.grammar.specs.Machine.{State, finish}
+use Rattle.parse_items.specs.Leads.{HasText, HasTexts}
 use Rattle.parse_terms.specs.Reads.{between, Stands}
 use Rattle.parse_terms.specs.Scans.{Ran, Last}
-use Rattle.parse_terms.proofs.Runs.{last_here, last_more, stands_is, reaches}
-
-pub some_is : {A : Type 0} (o : Option A) → is_some o ≡ true → (a : A) × (o ≡ Some a)
-some_is (Some a) e = (a, refl)
-some_is None e = cc
+use Rattle.parse_terms.proofs.Runs.{last_here, last_more}
 
 pub none_is : {A : Type 0} (o : Option A) → is_some o ≡ false → o ≡ None
 none_is (Some a) e = cc

@@ -1,9 +1,9 @@
 -- What reading an expression from a place answers.
-use Rattle.std.specs.Prelude.{ℕ, ◌+◌, ◌-◌, ◌≤◌, ◌<◌, ◌≡◌, List, [], ◌∷◌, ◌++◌, length, take, map}
+use Rattle.std.specs.Prelude.{ℕ, ◌+◌, ◌-◌, ◌≤◌, ◌<◌, ◌≡◌, List, ◌++◌, length, take}
 use Rattle.tokens_why.specs.declared.token.Token.{Token}
 use Rattle.tokens_why.specs.declared.token.TokenKind.{TokenKind}
 use Rattle.syntax_why.specs.Tree.{Tree}
-use Rattle.syntax_why.specs.Lexeme.{Lexeme, rest, kinds, lexeme_kind}
+use Rattle.syntax_why.specs.Lexeme.{Lexeme, rest, kinds}
 use Rattle.syntax_why.specs.Write.{write}
 use Rattle.syntax_why.specs.Levels.{IsLevel}
 use Rattle.syntax_why.specs.Expressions.{IsTreeOf, Begins}

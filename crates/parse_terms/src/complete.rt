@@ -7,7 +7,7 @@ ghost use Rattle.syntax_why.specs.Expressions.{Begins, IsTreeOf};
 ghost use Rattle.parse_terms.specs.Reads.{between, Completes};
 
 use crate::parse::run_to;
-use read_terms::completion;
+use complete_terms::completion;
 use std::alloc::{AllocError, Global};
 use tokens_why::{Token, TokenKind};
 

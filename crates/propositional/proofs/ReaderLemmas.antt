@@ -107,7 +107,3 @@ module _ (s : List Tree) (r : Reading) (c : Context) (h : IsContext s r c) (x : 
 pub free : {A : Type 0} (was names : List Word) (x : Word) (b : Bool) (fault : A) (o : Option A) → b ≡ is_one_of was x → b ≡ false → was ≡ names → o ≡ None → (if is_one_of names x then Some fault else o) ≡ None
 free was names x b fault o is absent same rest =
     ap (λ v. if is_one_of v x then Some fault else o) (sym same) ∙ ap (λ v. if v then Some fault else o) (sym is ∙ absent) ∙ rest
-
-pub some_is : {A : Type 0} (o : Option A) → is_some o ≡ true → (a : A) × (o ≡ Some a)
-some_is None e = absurd (cc)
-some_is (Some a) e = (a, refl)

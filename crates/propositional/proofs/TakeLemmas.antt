@@ -18,7 +18,7 @@ use Rattle.propositional.specs.declared.reading.Reading.{Reading}
 use Rattle.propositional.specs.Fragment.{Formula, Item, declares, claims, formula_at, declares_at, claims_at, item_at}
 use Rattle.propositional.specs.Theories.{Context, with_item, unless, after}
 use Rattle.propositional.specs.Readers.{greatest, IsPredicate, IsClaim, TakesItem, TakesClaim, TakesDecl}
-use Rattle.propositional.proofs.ReaderLemmas.{some_is}
+use Rattle.syntax_why.proofs.Options.{some_is}
 use Rattle.propositional.proofs.SurfaceLemmas.{decl_places-node}
 
 -- a count that doesn't stand still yet

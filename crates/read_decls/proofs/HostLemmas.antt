@@ -1,80 +1,22 @@
--- Where an expression or a declaration takes a token, and where the token stands behind it.
-use Rattle.std.proofs.Common.{◌≡◌, ℕ, Bool, true, false, List, [], ◌∷◌, Option, Some, None, option_map, is_some, refl, sym, ap, ◌∙◌}
+-- Where a declaration takes a token, and where the token stands behind it.
+use Rattle.std.proofs.Common.{◌≡◌, Bool, true, false, List, [], ◌∷◌, Option, Some, None, option_map, is_some, refl, ap, ◌∙◌}
 use Rattle.syntax_why.specs.declared.marks.Mark.TheVariants as m
 use Rattle.syntax_why.specs.declared.declarations.Link.{Link}
 use Rattle.syntax_why.specs.Tree.{Word, Called, upper_name, Form, Tree}
 use Rattle.syntax_why.specs.Lexeme.{Lexeme, lident, uident, tyvar, integer, run, mark, word}
 use Rattle.syntax_why.specs.Levels.{types}
-use Rattle.syntax_why.specs.Declarations.{Decl}
 use Rattle.grammar.specs.Walk.{onward, first}
-use Rattle.grammar.specs.FormMachine.{FormState, form_due, form_opened, form_taking, form_done, form_upper, form_dotted, form_as, form_named, form_step, form_finish}
-use Rattle.grammar.specs.Machine.{State, op_at, step, finish}
-use Rattle.grammar.proofs.Ending.{Stops}
-use Rattle.grammar_decls.specs.DeclarationMachine.{Header, Naming, prop_element_name, TypeUse, ExprUse, function_body, predicate_body, member_body, constant_body, prop_body, clause_body, DeclState, type_due, type_named, type_equal, type_upper, constructor_due, name_due, name_scope, name_opened, name_run, name_wild, params, param_scope, param_dotted, param_opened, constant_named, prop_named, clauses_due, clause_named, link_due, path_due, path_lower, path_read, rename_due, renamed_path, element_due, element_vars, left_read, element_read, decl_type, decl_expr, constructor_header, algebraic, at_beyond, at_link_end, at_type_use, at_expr, at_expr_use, decl_step, finish_type, finish_expr, decl_finish}
-use Rattle.grammar_decls.specs.SourceMachine.{Around, SourceState, declaring, with_decl, at_ready, at_declaring}
+use Rattle.grammar.specs.FormMachine.{FormState, form_taking, form_done, form_named, form_step, form_finish}
+use Rattle.grammar.specs.Machine.{State, step, finish}
+use Rattle.grammar_decls.specs.DeclarationMachine.{Naming, prop_element_name, TypeUse, ExprUse, DeclState, type_named, type_upper, name_scope, params, path_read, renamed_path, element_read, decl_type, decl_expr, at_beyond, at_link_end, at_type_use, at_expr_use, decl_step, finish_type, finish_expr, decl_finish}
+use Rattle.grammar_decls.specs.SourceMachine.{Around, declaring, with_decl, at_ready, at_declaring}
 use Rattle.grammar_decls.proofs.DeclarationEnding.{Following, ending, a_word, following, no_type_use, no_expr_use}
 use Rattle.grammar_decls.proofs.DeclarationClosing.{header_stops}
 use Rattle.grammar_decls.proofs.WholeExpressions.{expr_whole}
 use Rattle.grammar_decls.proofs.Words.{form_word, expr_word}
-use Rattle.term_states.specs.Begins.{bar_is}
-use Rattle.read_decls.specs.Tokens.{with_is, follows}
-
-some_of : {A : Type 0} (o : Option A) → is_some o ≡ true → (a : A) × (o ≡ Some a)
-some_of (Some a) e = (a, refl)
-some_of None e = cc
-
-none_of : {A : Type 0} (o : Option A) → is_some o ≡ false → o ≡ None
-none_of (Some a) e = cc
-none_of None e = refl
-
--- the other of two answers is none
-first_of : {A B : Type 0} (f : A → B) (a : Option A) (b : Option B) → b ≡ None → first (option_map f a) b ≡ option_map f a
-first_of f (Some a) b h = refl
-first_of f None b h = h
-
-onward_none : {A B : Type 0} (f : A → Option B) (o : Option A) → ((a : A) → f a ≡ None) → onward f o ≡ None
-onward_none f (Some a) h = h a
-onward_none f None h = refl
-
-module _ (s : State) (u : ExprUse) where
-  -- an expression that may end takes no token of these
-  whole_expr : (x : Lexeme) → Stops x → op_at x ≡ None → is_some (finish s) ≡ true → at_expr s u x ≡ onward (at_expr_use u x) (finish s)
-  whole_expr x st off e =
-      let t = some_of (finish s) e in
-      ap (λ v. first (option_map (λ r. decl_expr r u) v) (onward (at_expr_use u x) (finish s))) ((expr_whole s t.0 t.1).stops x st off)
-
-  pub expr_with : is_some (finish s) ≡ true → at_expr s u (mark m.With) ≡ onward (at_expr_use u (mark m.With)) (finish s)
-  expr_with = whole_expr (mark m.With) (record { none = λ c k. refl; not_dot = refl }) refl
-
-  pub expr_bar : is_some (finish s) ≡ true → at_expr s u (mark m.Bar) ≡ onward (at_expr_use u (mark m.Bar)) (finish s)
-  expr_bar = whole_expr (mark m.Bar) (record { none = λ c k. refl; not_dot = refl }) refl
-
-  pub expr_open : (x : Lexeme) → is_some (finish s) ≡ false → at_expr s u x ≡ option_map (λ r. decl_expr r u) (step s x)
-  expr_open x e = first_of (λ r. decl_expr r u) (step s x) (onward (at_expr_use u x) (finish s)) (ap (onward (at_expr_use u x)) (none_of (finish s) e))
-
-expr_use_none : (u : ExprUse) (x : Lexeme) → with_is x ≡ false → bar_is x ≡ false → (e : Tree) → at_expr_use u x e ≡ None
-expr_use_none (function_body c ps t) (mark m.With) a b e = cc
-expr_use_none (predicate_body c ps) (mark m.With) a b e = cc
-expr_use_none (member_body g c ps t) (mark m.With) a b e = cc
-expr_use_none (constant_body c t) (mark m.With) a b e = cc
-expr_use_none (prop_body k c) (mark m.With) a b e = cc
-expr_use_none (clause_body is i c) (mark m.With) a b e = cc
-expr_use_none (clause_body is i c) (mark m.Bar) a b e = cc
-expr_use_none (function_body c ps t) (mark k) a b e = refl
-expr_use_none (predicate_body c ps) (mark k) a b e = refl
-expr_use_none (member_body g c ps t) (mark k) a b e = refl
-expr_use_none (constant_body c t) (mark k) a b e = refl
-expr_use_none (prop_body p c) (mark k) a b e = refl
-expr_use_none (clause_body is i c) (mark k) a b e = refl
-expr_use_none (function_body c ps t) x a b e = refl
-expr_use_none (predicate_body c ps) x a b e = refl
-expr_use_none (member_body g c ps t) x a b e = refl
-expr_use_none (constant_body c t) x a b e = refl
-expr_use_none (prop_body p c) x a b e = refl
-expr_use_none (clause_body is i c) x a b e = refl
-
-pub expr_other : (s : State) (u : ExprUse) (x : Lexeme) → with_is x ≡ false → bar_is x ≡ false → at_expr s u x ≡ option_map (λ r. decl_expr r u) (step s x)
-expr_other s u x a b = first_of (λ r. decl_expr r u) (step s x) (onward (at_expr_use u x) (finish s)) (onward_none (at_expr_use u x) (finish s) (expr_use_none u x a b))
+use Rattle.decl_states.specs.Tokens.{follows}
+use Rattle.syntax_why.proofs.Options.{none_is}
+use Rattle.grammar.proofs.Walks.{first_of, onward_none}
 
 beyond_stops : (n : Naming) (c : Called) (x : Following) → at_beyond n c (following x) ≡ None
 beyond_stops (prop_element_name k d) c ending = refl
@@ -164,4 +106,4 @@ module _ (s : DeclState) (a : Around) (x : Lexeme) where
   decl_other f = first_of (λ q. declaring q a) (decl_step s x) (onward (λ d. at_ready (with_decl a d) x) (decl_finish s)) (onward_none (λ d. at_ready (with_decl a d) x) (decl_finish s) (λ d. ready_none (with_decl a d) x f))
 
   pub decl_open : is_some (decl_finish s) ≡ false → at_declaring s a x ≡ option_map (λ q. declaring q a) (decl_step s x)
-  decl_open e = first_of (λ q. declaring q a) (decl_step s x) (onward (λ d. at_ready (with_decl a d) x) (decl_finish s)) (ap (onward (λ d. at_ready (with_decl a d) x)) (none_of (decl_finish s) e))
+  decl_open e = first_of (λ q. declaring q a) (decl_step s x) (onward (λ d. at_ready (with_decl a d) x) (decl_finish s)) (ap (onward (λ d. at_ready (with_decl a d) x)) (none_is (decl_finish s) e))

@@ -1,4 +1,1 @@
-mod TokenLemmas
-mod StateLemmas
 pub mod HostLemmas
-mod EndLemmas

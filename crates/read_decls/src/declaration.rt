@@ -1,30 +1,29 @@
 // A declaration that is no scope: its first word, its tokens, and where it ends.
 ghost use Rattle.std.specs.Prelude.{◌≡◌, option_map, is_some, IfOk};
 ghost use Rattle.grammar_decls.specs.DeclarationMachine.{at_decl_key, decl_step, decl_finish};
-ghost use Rattle.parse_forms.specs.Items.{lexeme_of};
-ghost use Rattle.read_decls.specs.declared.state.SymbolState.TheVariants.{Due};
-ghost use Rattle.read_decls.specs.declared.state.DeclState.TheVariants.{PropDue};
-ghost use Rattle.read_decls.specs.declared.state.NewProp.TheVariants.{Prop};
-ghost use Rattle.read_decls.specs.Words.{keyword_by};
-ghost use Rattle.read_decls.specs.DeclStates.{types_of, symbol_state_of, name_state_of, param_state_of, link_state_of, element_state_of, state_of};
+ghost use Rattle.parse_items.specs.Items.{lexeme_of};
+ghost use Rattle.decl_states.specs.declared.state.SymbolState.TheVariants.{Due};
+ghost use Rattle.decl_states.specs.declared.state.DeclState.TheVariants.{PropDue};
+ghost use Rattle.decl_states.specs.declared.state.NewProp.TheVariants.{Prop};
+ghost use Rattle.parse_items.specs.Words.{keyword_by};
+ghost use Rattle.decl_states.specs.DeclStates.{types_of, symbol_state_of, name_state_of, param_state_of, link_state_of, element_state_of, state_of};
 
-use crate::elements::{element_due, element_end, element_vars, left_read};
-use crate::expr_uses::at_expr;
-use crate::keywords::Keyword;
-use crate::links::{link_due, link_end, path_due, path_lower, path_read, rename_due};
-use crate::params::{param_dotted, param_scope, params};
-use crate::parens::{param_named, param_opened};
-use crate::props::{clause_named, clauses_due, constant_named, prop_named};
-use crate::replaced::{name_due, name_opened, name_run, name_scope, name_wild};
-use crate::state::{
+use decl_states::{
     DeclState, ElementState, LinkState, NameState, NewProp, NewSymbol, ParamState, SymbolState,
     TypeDeclState,
 };
-use crate::symbols::{prop_due, symbol_due, symbol_opened, symbol_run, symbol_wild};
-use crate::type_uses::at_type;
-use crate::types::{constructor_due, named_type, type_equal, type_upper, type_vars};
 use outside::Seq;
-use parse_forms::Item;
+use parse_items::{Item, Keyword};
+use read_bodies::{
+    at_expr, clause_named, clauses_due, constant_named, element_due, element_end, element_vars,
+    left_read, link_due, link_end, name_due, name_opened, name_run, name_scope, name_wild,
+    path_due, path_lower, path_read, prop_due, prop_named, rename_due, symbol_due, symbol_opened,
+    symbol_run, symbol_wild,
+};
+use read_headers::{
+    at_type, constructor_due, named_type, param_dotted, param_named, param_opened, param_scope,
+    params, type_equal, type_upper, type_vars,
+};
 use std::alloc::{AllocError, Global};
 use syntax_why::PropKind;
 

@@ -1,5 +1,5 @@
 -- An expression ends where nothing waits for it.
-use Rattle.std.proofs.Common.{◌≡◌, Bool, true, false, List, [], ◌∷◌, map, Option, Some, None, is_some, refl, ap, sym, ◌∙◌}
+use Rattle.std.proofs.Common.{◌≡◌, true, false, List, [], ◌∷◌, map, Some, None, is_some, refl, ap, ◌∙◌}
 use Rattle.syntax_why.specs.Tree.{Tree, called_of, tree_of, apply, trees, none, upper_name}
 use Rattle.grammar.specs.Machine.{Edge, Frames, fill, finish, finish_up}
 use Rattle.term_states.specs.Climbs.{edges_on, fill_all}

@@ -1,4 +1,1 @@
-pub mod ExprLemmas
-pub mod Hosts
 pub mod Endings
-pub mod CompletionLemmas

@@ -4,20 +4,19 @@ ghost use Rattle.syntax_why.specs.Tree.{tree_of, called_of, apply, trees};
 ghost use Rattle.grammar.specs.Machine as machine;
 ghost use Rattle.grammar.specs.Machine.{finish_up, finish_upper};
 ghost use Rattle.read_terms.specs.Ends.{whole_state};
-ghost use Rattle.parse_forms.specs.Items.{lexeme_of};
+ghost use Rattle.parse_items.specs.Items.{lexeme_of};
 ghost use Rattle.term_states.specs.ExprStates.{context_of, frames_of, state_of};
 
-use crate::atoms::with_name;
-use crate::behind::{behind, take};
-use crate::binders::{binders, trigger_closed};
-use crate::due::{opened, operand_due, prefix_opened};
-use crate::naming::{behind_upper, dotted, name_opened, name_run, name_wild};
-use crate::uses::{arms_opened, at_type, in_or_behind_pattern};
 use outside::Seq;
-use parse_forms::{Item, NOWHERE, upper};
+use parse_items::{Item, NOWHERE, upper};
+use read_behind::{behind, behind_upper, dotted, name_opened, name_run, name_wild, take};
+use read_parts::{
+    arms_opened, at_type, binders, in_or_behind_pattern, opened, operand_due, prefix_opened,
+    trigger_closed,
+};
 use std::alloc::{AllocError, Global};
 use syntax_why::{Expr, QName};
-use term_states::{Context, Open, Operand, Reader, State, closed_operand, collapse};
+use term_states::{Context, Open, Operand, Reader, State, closed_operand, collapse, with_name};
 
 /// Where nothing is read yet.
 pub fn start(alloc: Global) -> Reader
@@ -91,10 +90,11 @@ fn finish_operand(alloc: Global, operand: Operand, open: Open) -> Result<Option<
 {
     let Open { edges, layers } = open;
     if !layers.is_empty() {
+        drop(operand);
         return Ok(None);
     }
-    let whole = collapse(alloc, operand, edges)?;
-    Ok(Some(whole.tree))
+    let Operand { tree, .. } = collapse(alloc, operand, edges)?;
+    Ok(Some(tree))
 }
 
 fn finish_name(

@@ -1,3 +1,4 @@
+pub mod Options
 pub mod TreeLemmas
 pub mod PlaceLemmas
 pub mod PlaceRows

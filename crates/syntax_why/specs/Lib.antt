@@ -11,3 +11,4 @@ pub mod CarriedDeclarations
 pub mod DeclarationPlaces
 pub mod DeclarationLevels
 pub mod Sources
+pub mod Keywords

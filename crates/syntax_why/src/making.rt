@@ -107,6 +107,24 @@ impl Pat {
     }
 }
 
+/// Two expressions in boxes.
+fn boxed_pair(
+    alloc: Global,
+    first: Expr,
+    second: Expr,
+) -> Result<(Boxed<Expr>, Boxed<Expr>), AllocError>
+    ensures first { IfOk result (λ p. p.0 ≡ first) }
+    ensures second { IfOk result (λ p. p.1 ≡ second) }
+{
+    match Boxed::new(alloc, first) {
+        Ok(first) => Ok((first, Boxed::new(alloc, second)?)),
+        Err(error) => {
+            drop(second);
+            Err(error)
+        }
+    }
+}
+
 #[tactic(auto, using(crate::proofs::TreeLemmas::made, crate::proofs::PlaceLemmas::placed))]
 impl Expr {
     /// A name with its arguments, or the name alone.
@@ -227,8 +245,7 @@ impl Expr {
         ensures tree { IfOk result (λ e. tree_of e ≡ binary (tree_of left) (op_of operator) (tree_of right)) }
         ensures places { IfOk result (λ e. places_of e ≡ at.first ∷ at.main ∷ places_of left ++ (operator.at ∷ places_of right)) }
     {
-        let left = Boxed::new(alloc, left)?;
-        let right = Boxed::new(alloc, right)?;
+        let (left, right) = boxed_pair(alloc, left, right)?;
         Ok(Expr {
             at,
             node: ExprNode::Binary(left, operator, right),
@@ -246,8 +263,13 @@ impl Expr {
         ensures tree { IfOk result (λ e. tree_of e ≡ choice (tree_of condition) (tree_of consequent) (tree_of alternative)) }
         ensures places { IfOk result (λ e. places_of e ≡ at.first ∷ at.main ∷ places_of condition ++ (places_of consequent ++ places_of alternative)) }
     {
-        let condition = Boxed::new(alloc, condition)?;
-        let consequent = Boxed::new(alloc, consequent)?;
+        let (condition, consequent) = match boxed_pair(alloc, condition, consequent) {
+            Ok(pair) => pair,
+            Err(error) => {
+                drop(alternative);
+                return Err(error);
+            }
+        };
         let alternative = Boxed::new(alloc, alternative)?;
         Ok(Expr {
             at,
@@ -266,8 +288,7 @@ impl Expr {
         ensures tree { IfOk result (λ e. tree_of e ≡ binding (patterns bound) (tree_of value) (tree_of body)) }
         ensures places { IfOk result (λ e. places_of e ≡ at.first ∷ at.main ∷ patterns_places_of bound ++ (places_of value ++ places_of body)) }
     {
-        let value = Boxed::new(alloc, value)?;
-        let body = Boxed::new(alloc, body)?;
+        let (value, body) = boxed_pair(alloc, value, body)?;
         Ok(Expr {
             at,
             node: ExprNode::Let(bound, value, body),

@@ -1,7 +1,7 @@
 -- The token behind an expression, over the edges before it.
-use Rattle.std.proofs.Common.{◌≡◌, ℕ, zero, suc, ◌≤◌, ◌<◌, Bool, true, false, not, ◌&&◌, nat_le, nat_eq, cond, List, [], ◌∷◌, map, Option, Some, None, option_map, refl, ap, sym, ◌∙◌, arith}
+use Rattle.std.proofs.Common.{◌≡◌, ℕ, ◌≤◌, ◌<◌, Bool, true, false, not, ◌&&◌, nat_le, nat_eq, cond, List, [], ◌∷◌, Option, Some, None, refl, ap, sym, ◌∙◌, arith}
 use Rattle.std.proofs.lemmas.Bool.Decides.{nat_tests}
-use Rattle.syntax_why.specs.Tree.{Word, Op, Tree, apply, literal, truth, falsity, group, cast, cases, prefixed, negation, binary, choice, binding, quantified, arrow, equiv, conj, and_also, disj, or_else, equal, minus, sign, no_operator}
+use Rattle.syntax_why.specs.Tree.{Op, Tree, apply, literal, truth, falsity, group, cast, cases, prefixed, negation, binary, choice, binding, quantified, arrow, equiv, conj, and_also, disj, or_else, equal, minus, sign, no_operator}
 use Rattle.syntax_why.specs.Lexeme.{Lexeme, run}
 use Rattle.syntax_why.specs.Levels.{prec, at_least, ends_open, least_left, least_right, left_ok, is_infix}
 use Rattle.grammar.specs.Machine.{Edge, Frames, State, edge, right, due, edge_needs, needs, fill, op_at, goes_on, after, up, at_done}

@@ -1,9 +1,9 @@
 -- How tightly an expression has to bind, from what stands on top.
-use Rattle.std.proofs.Common.{◌≡◌, List, [], ◌∷◌, map, Option, Some, None, refl, ap, sym, ◌∙◌}
+use Rattle.std.proofs.Common.{◌≡◌, List, [], ◌∷◌, map, Some, None, refl, ap}
 use Rattle.syntax_why.specs.Tree.{Op, Tree}
 use Rattle.syntax_why.specs.Lexeme.{run}
 use Rattle.grammar.specs.Machine.{Frames, edge_needs, needs, up}
-use Rattle.parse_forms.specs.Tops.{top_of}
+use Rattle.parse_items.specs.Tops.{top_of}
 use Rattle.term_states.specs.Climbs.{needs_of, edges_on}
 use Rattle.term_states.specs.declared.open.Edge.{Edge}
 use Rattle.term_states.specs.declared.open.Open.{Open}

@@ -1,7 +1,7 @@
 -- What an operator or another token finds behind an expression that stands at the right end of others.
-use Rattle.std.specs.Prelude.{ℕ, Bool, List, [], ◌∷◌, Option, Some, None, if◌then◌else◌}
+use Rattle.std.specs.Prelude.{ℕ, List, [], ◌∷◌, Option, Some, None, if◌then◌else◌}
 use Rattle.syntax_why.specs.Tree.{Op, Tree}
-use Rattle.grammar.specs.Machine.{Edge, Frame, Frames, State, due, right, edge, edge_needs, fill, goes_on}
+use Rattle.grammar.specs.Machine.{Edge, Frames, State, due, right, edge, edge_needs, fill, goes_on}
 
 abbrev pub edges_on : List Edge → Frames → Frames
 edges_on [] k = k

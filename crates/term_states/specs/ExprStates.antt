@@ -1,16 +1,15 @@
 -- The state of the machine that a reader of an expression stands for.
-use Rattle.std.specs.Prelude.{List, [], ◌∷◌, map, Option, option_map}
-use Rattle.syntax_why.specs.Tree.{Word, Op, Tree, called_of, pattern_of, tree_of, arm_of, terms_of, binder_of, op_text, words, alternatives, trigger}
+use Rattle.std.specs.Prelude.{List, [], ◌∷◌, map, option_map}
+use Rattle.syntax_why.specs.Tree.{called_of, pattern_of, tree_of, arm_of, terms_of, binder_of, op_text, words, alternatives, trigger}
 use Rattle.grammar.specs.Machine as g
 use Rattle.grammar.specs.Machine.{Frame, Frames}
 use Rattle.term_states.specs.Climbs.{edges_on}
-use Rattle.parse_forms.specs.TypeStates as t
-use Rattle.parse_forms.specs.PatternStates as p
+use Rattle.parse_types.specs.TypeStates as t
+use Rattle.parse_patterns.specs.PatternStates as p
 use Rattle.term_states.specs.declared.open.Context.{Context}
 use Rattle.term_states.specs.declared.open.Context.TheVariants as c
 use Rattle.term_states.specs.declared.open.Edge.{Edge}
 use Rattle.term_states.specs.declared.open.Edge.TheVariants as e
-use Rattle.term_states.specs.declared.open.Cases.{Cases}
 use Rattle.term_states.specs.declared.open.Waiting.{Waiting}
 use Rattle.term_states.specs.declared.open.Waiting.TheVariants as w
 use Rattle.term_states.specs.declared.open.Layer.{Layer}

@@ -1,9 +1,11 @@
-//! What has been read of an expression and what is open before it, and how operators close what is open.
+//! What has been read of an expression and what is open before it; atoms, and how operators close what is open.
 //! It stands on the readers of types and patterns, and under the reader of expressions.
 #![tactic(auto)]
 
+mod atoms;
 mod binding;
 mod climbing;
+mod expected;
 mod filling;
 mod open;
 mod opening;
@@ -11,7 +13,9 @@ mod operand;
 mod operators;
 mod reader;
 
+pub use atoms::{atom, closed_atom, headed_by, is_atom_start, with_name};
 pub use climbing::climb;
+pub use expected::{due, first_pattern_due, in_pattern, in_type, pattern_due, type_due};
 pub use filling::{collapse, filled};
 pub use open::{Cases, Context, Edge, Layer, Open, Quantifier, Waiting};
 pub use operand::{Operand, closed_operand};

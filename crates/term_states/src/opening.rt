@@ -5,7 +5,7 @@ ghost use Rattle.term_states.specs.Climbs.{needs_of};
 ghost use Rattle.term_states.specs.ExprStates.{edge_of, waiting_of, frames_of};
 
 use crate::open::{Edge, Layer, Open, Waiting};
-use parse_forms::Stack;
+use parse_items::Stack;
 use std::alloc::{AllocError, Global};
 
 fn needs_behind(edge: &Edge) -> usize

@@ -1,7 +1,7 @@
 use Rattle.std.proofs.Common.{◌≡◌, ◌++◌, sym, ap, ◌∙◌, subst, append_assoc, OnOk}
 use Rattle.syntax_why.specs.Lexeme.{kinds}
 use Rattle.grammar_decls.specs.Completing.{decl_complete, close_around}
-use Rattle.read_decls.specs.DeclStates as decls
+use Rattle.decl_states.specs.DeclStates as decls
 use Rattle.parse_decls.specs.SourceStates.{around_of}
 use Rattle.parse_decls.proofs.CloseLemmas.{kinds-append}
 use Rattle.parse_decls.proofs.completion.push_declaring.Goals as goal

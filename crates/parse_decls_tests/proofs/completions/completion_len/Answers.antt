@@ -1,4 +1,4 @@
-use Rattle.std.proofs.Common.{◌≡◌, length, subst, arith}
+use Rattle.std.proofs.Common.{length, subst, arith}
 use Rattle.std.proofs.lemmas.List.{length-map}
 use Rattle.syntax_why.specs.Lexeme.{lexeme, rest}
 use Rattle.parse_decls.specs.Faults.{IsRefusal}

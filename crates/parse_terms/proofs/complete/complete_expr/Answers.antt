@@ -1,4 +1,4 @@
-use Rattle.std.proofs.Common.{◌≡◌, sym, subst}
+use Rattle.std.proofs.Common.{sym, subst}
 use Rattle.parse_terms.specs.Reads.{Completes}
 use Rattle.term_states.specs.ExprStates.{state_of}
 use Rattle.parse_terms.proofs.Runs as runs

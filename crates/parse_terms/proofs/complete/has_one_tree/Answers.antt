@@ -1,4 +1,4 @@
-use Rattle.std.proofs.Common.{◌≡◌, sym, ◌∙◌}
+use Rattle.std.proofs.Common.{sym, ◌∙◌}
 use Rattle.grammar.proofs.Reading.{one_tree}
 use Rattle.parse_terms.proofs.complete.has_one_tree.Goals as goal
 

@@ -1,4 +1,4 @@
-use Rattle.std.proofs.Common.{◌≡◌, sym, ap, ◌∙◌, subst, option_map, IfOk}
+use Rattle.std.proofs.Common.{◌≡◌, ap, ◌∙◌, subst, option_map, IfOk}
 use Rattle.syntax_why.specs.Lexeme.{lexeme}
 use Rattle.grammar.specs.Machine as machine
 use Rattle.term_states.specs.ExprStates.{state_of}

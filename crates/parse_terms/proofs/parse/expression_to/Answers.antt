@@ -1,6 +1,5 @@
 use Rattle.std.proofs.Common.{◌≡◌, Some, None, sym, ap, ◌∙◌, subst, option_map, arith}
 use Rattle.syntax_why.specs.Tree.{tree_of}
-use Rattle.grammar.specs.Machine.{finish}
 use Rattle.parse_terms.specs.Reads.{Stands}
 use Rattle.term_states.specs.ExprStates.{state_of}
 use Rattle.parse_terms.proofs.Runs.{stands_is, stands_here}

@@ -1,4 +1,4 @@
-use Rattle.std.proofs.Common.{◌≡◌, sym, ◌∙◌}
+use Rattle.std.proofs.Common.{sym, ◌∙◌}
 use Rattle.term_states.specs.ExprStates.{state_of}
 use Rattle.parse_terms.proofs.ScanLemmas.{noted_some, noted_none}
 use Rattle.parse_terms.proofs.parse.noted.Goals as goal

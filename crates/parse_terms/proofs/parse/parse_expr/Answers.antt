@@ -1,4 +1,4 @@
-use Rattle.std.proofs.Common.{◌≡◌, ◌+◌, Some, None, sym, ap, ◌∙◌, subst}
+use Rattle.std.proofs.Common.{◌+◌, Some, subst}
 use Rattle.syntax_why.specs.Tree.{tree_of}
 use Rattle.parse_terms.specs.Scans.{Last}
 use Rattle.parse_terms.proofs.Runs.{longest}

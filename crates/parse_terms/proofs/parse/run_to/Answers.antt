@@ -1,4 +1,4 @@
-use Rattle.std.proofs.Common.{◌≡◌, ◌<◌, length, sym, ap, ◌∙◌, option_map, arith}
+use Rattle.std.proofs.Common.{◌<◌, length, sym, ap, ◌∙◌, option_map, arith}
 use Rattle.term_states.specs.ExprStates.{state_of}
 use Rattle.parse_terms.proofs.Runs.{reaches, ran_more}
 use Rattle.parse_terms.proofs.ScanLemmas.{token_some}

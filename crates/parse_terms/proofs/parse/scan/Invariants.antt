@@ -1,4 +1,3 @@
-use Rattle.std.proofs.Common.{◌≡◌}
 use Rattle.parse_terms.specs.Scans.{Reading}
 use Rattle.term_states.specs.ExprStates.{state_of}
 use Rattle.parse_terms.proofs.parse.scan.Given as goal

@@ -1,4 +1,4 @@
-use Rattle.std.proofs.Common.{◌≡◌, sym, ◌∙◌}
+use Rattle.std.proofs.Common.{sym, ◌∙◌}
 use Rattle.read_terms.proofs.Endings.{ends_whole, ends_open}
 use Rattle.read_terms.proofs.stepping.ends.Goals as goal
 

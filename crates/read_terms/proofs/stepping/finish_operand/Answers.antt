@@ -1,4 +1,4 @@
-use Rattle.std.proofs.Common.{◌≡◌, Some, sym, ap, ◌∙◌}
+use Rattle.std.proofs.Common.{Some, sym, ap, ◌∙◌}
 use Rattle.syntax_why.specs.Tree.{tree_of}
 use Rattle.read_terms.proofs.Endings.{finish_whole, finish_open}
 use Rattle.read_terms.proofs.stepping.finish_operand.Goals as goal
@@ -9,4 +9,4 @@ returns-then-not-is_empty c =
 
 pub returns : goal.returns
 returns c =
-    ap Some c.in_ok-whole.ensures ∙ sym (finish_whole c.args.open (tree_of c.args.operand.tree) (c.is_empty.ensures.0 c.if-not-is_empty.false))
+    ap Some c.in_ok-tree.ensures ∙ sym (finish_whole c.args.open (tree_of c.args.operand.tree) (c.is_empty.ensures.0 c.if-not-is_empty.false))

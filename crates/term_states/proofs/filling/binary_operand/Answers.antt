@@ -1,4 +1,4 @@
-use Rattle.std.proofs.Common.{◌≡◌, sym, ap, ◌∙◌}
+use Rattle.std.proofs.Common.{sym, ap, ◌∙◌}
 use Rattle.syntax_why.specs.Tree.{op_text}
 use Rattle.syntax_why.specs.Levels.{prec}
 use Rattle.term_states.specs.Tightness.{tightness}

@@ -1,5 +1,4 @@
-use Rattle.std.proofs.Common.{◌≡◌, Option, Some, sym, ap, ◌∙◌}
-use Rattle.std.specs.Option.{option_copied}
+use Rattle.std.proofs.Common.{Some, sym, ◌∙◌}
 use Rattle.term_states.proofs.Tops.{needs_top}
 use Rattle.term_states.proofs.opening.needs_on.Goals as goal
 

@@ -1,5 +1,5 @@
-use Rattle.std.proofs.Common.{◌≡◌, sym, ap, ◌∙◌}
-use Rattle.syntax_why.specs.Tree.{Word, op_by}
+use Rattle.std.proofs.Common.{sym, ap, ◌∙◌}
+use Rattle.syntax_why.specs.Tree.{op_by}
 use Rattle.term_states.specs.Bindings.{binding_of}
 use Rattle.term_states.proofs.operators.binding.Goals as goal
 

@@ -2,7 +2,7 @@ use Rattle.std.proofs.Common.{◌≡◌, ◌≤◌, ℕ, inr, Err, sym, ap, ◌�
 use Rattle.propositional.specs.Theories.{after}
 use Rattle.propositional.specs.declared.fault.DeclFault.TheVariants.{NotYet}
 use Rattle.propositional.specs.Readers.{greatest}
-use Rattle.propositional.proofs.ReaderLemmas.{some_is}
+use Rattle.syntax_why.proofs.Options.{some_is}
 use Rattle.propositional.proofs.TakeLemmas.{exact, begins, takes_predicate, formula_from, formula_is, formula_places, takes_claim}
 use Rattle.propositional.proofs.reading.Reading.take.Goals as goal
 

@@ -1,4 +1,4 @@
-use Rattle.std.proofs.Common.{◌≡◌, sym, ◌∙◌}
+use Rattle.std.proofs.Common.{sym, ◌∙◌}
 use Rattle.term_states.proofs.Tops.{open_needs}
 use Rattle.term_states.proofs.open.Open.needs.Goals as goal
 

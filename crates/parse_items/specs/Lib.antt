@@ -1,0 +1,4 @@
+pub mod Items
+pub mod Leads
+pub mod Tops
+pub mod Words

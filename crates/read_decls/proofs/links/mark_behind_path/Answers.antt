@@ -1,7 +1,0 @@
-use Rattle.std.proofs.Common.{◌≡◌, Some, None, [], ◌∷◌, ◌++◌, true, false, map, option_map, IfOk, refl, sym, ap, ◌∙◌, subst}
-use Rattle.read_decls.specs.DeclStates.{state_of}
-use Rattle.read_decls.proofs.StateLemmas.{path_other}
-use Rattle.read_decls.proofs.links.mark_behind_path.Goals as goal
-
-pub returns-in_default : goal.returns-in_default
-returns-in_default c = c.link_end.ensures ∙ sym (path_other c.args.cloned c.args.link c.args.path.parts c.args.mark c.in_default.not-As)
