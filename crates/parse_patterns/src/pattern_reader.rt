@@ -2,6 +2,7 @@
 ghost use Rattle.std.specs.Prelude.{◌≡◌, ◌∷◌, ◌++◌, [], map, option_map, Some, None, IfOk};
 ghost use Rattle.syntax_why.specs.Tree.{pattern_of, called_of, composed, forms, no_forms};
 ghost use Rattle.syntax_why.specs.Levels.{patterns};
+ghost use Rattle.grammar.specs.FormMachine as machine;
 ghost use Rattle.grammar.specs.FormMachine.{form_due, form_closed, form_atom, form_up, form_ends, at_within, form_take, form_at_opened, form_beyond, form_at_upper, form_at_dotted, form_at_as, form_step, form_finish, form_finish_upper};
 ghost use Rattle.syntax_why.specs.Lexeme as lexeme;
 ghost use Rattle.parse_items.specs.Items.{lexeme_of};
@@ -111,6 +112,30 @@ fn up(t: Pat, item: &Item, frames: Stack<OpenPatterns>) -> Result<Option<Pattern
     }
 }
 
+/// Patterns with one more at their end.
+fn with_pattern(parts: Seq<Pat>, t: Pat) -> Result<Seq<Pat>, AllocError>
+    ensures { IfOk result (λ all. map pattern_of all ≡ map pattern_of parts ++ pattern_of t ∷ []) }
+{
+    let mut parts = parts;
+    parts.push(t)?;
+    Ok(parts)
+}
+
+/// A further part of open parentheses is due.
+fn part_due(
+    parts: Seq<Pat>,
+    context: PatternContext,
+    frames: Stack<OpenPatterns>,
+) -> Result<PatternReader, AllocError>
+    ensures { IfOk result (λ r. state_of r ≡ form_due (machine.within (map pattern_of parts) (context_of context) ∷ stack_of frames)) }
+{
+    let open = OpenPatterns { parts, context };
+    Ok(PatternReader {
+        state: PatternState::Due,
+        frames: frames.push(open)?,
+    })
+}
+
 /// The token behind a pattern in open parentheses.
 fn within(
     t: Pat,
@@ -121,19 +146,11 @@ fn within(
     ensures { IfOk result (λ r. option_map state_of r ≡ at_within (map pattern_of inner.parts) (context_of inner.context) (pattern_of t) (stack_of frames) (lexeme_of item.now)) }
 {
     let OpenPatterns { parts, context } = inner;
-    let mut parts = parts;
     match item {
-        Item::Mark(Mark::Comma) => {
-            parts.push(t)?;
-            let open = OpenPatterns { parts, context };
-            Ok(Some(PatternReader {
-                state: PatternState::Due,
-                frames: frames.push(open)?,
-            }))
-        }
+        Item::Mark(Mark::Comma) => Ok(Some(part_due(with_pattern(parts, t)?, context, frames)?)),
         Item::Mark(Mark::RParen) => {
-            parts.push(t)?;
-            Ok(Some(closed(Pat::group(NOWHERE, parts), context, frames)?))
+            let group = Pat::group(NOWHERE, with_pattern(parts, t)?);
+            Ok(Some(closed(group, context, frames)?))
         }
         _ => {
             drop(t);

@@ -1,7 +1,8 @@
 // Reading a type token by token, with what is still open on a stack.
-ghost use Rattle.std.specs.Prelude.{◌≡◌, ◌∷◌, [], map, option_map, Some, None, IfOk};
+ghost use Rattle.std.specs.Prelude.{◌≡◌, ◌∷◌, ◌++◌, [], map, option_map, Some, None, IfOk};
 ghost use Rattle.syntax_why.specs.Tree.{type_of, called_of, composed, forms};
 ghost use Rattle.syntax_why.specs.Levels.{types};
+ghost use Rattle.grammar.specs.FormMachine as machine;
 ghost use Rattle.grammar.specs.FormMachine.{form_due, form_closed, form_headed, form_atom, form_up, at_within, form_take, form_at_opened, form_at_upper, form_at_dotted, form_step, form_finish};
 ghost use Rattle.syntax_why.specs.Lexeme as lexeme;
 ghost use Rattle.parse_items.specs.Items.{lexeme_of};
@@ -128,9 +129,36 @@ fn up(t: TypeTree, item: &Item, frames: Stack<OpenTypes>) -> Result<Option<TypeR
     ensures { IfOk result (λ r. option_map state_of r ≡ form_up (type_of t) (stack_of frames) (lexeme_of item.now)) }
 {
     match frames.pop() {
-        None => Ok(None),
+        None => {
+            drop(t);
+            Ok(None)
+        }
         Some((inner, outer)) => within(t, item, inner, outer),
     }
+}
+
+/// Types with one more at their end.
+fn with_part(parts: Seq<TypeTree>, t: TypeTree) -> Result<Seq<TypeTree>, AllocError>
+    ensures { IfOk result (λ all. map type_of all ≡ map type_of parts ++ type_of t ∷ []) }
+{
+    let mut parts = parts;
+    parts.push(t)?;
+    Ok(parts)
+}
+
+/// A further part of open parentheses is due.
+fn part_due(
+    parts: Seq<TypeTree>,
+    context: TypeContext,
+    frames: Stack<OpenTypes>,
+) -> Result<TypeReader, AllocError>
+    ensures { IfOk result (λ r. state_of r ≡ form_due (machine.within (map type_of parts) (context_of context) ∷ stack_of frames)) }
+{
+    let open = OpenTypes { parts, context };
+    Ok(TypeReader {
+        state: TypeState::Due,
+        frames: frames.push(open)?,
+    })
 }
 
 /// The token behind a type in open parentheses.
@@ -143,22 +171,16 @@ fn within(
     ensures { IfOk result (λ r. option_map state_of r ≡ at_within (map type_of inner.parts) (context_of inner.context) (type_of t) (stack_of frames) (lexeme_of item.now)) }
 {
     let OpenTypes { parts, context } = inner;
-    let mut parts = parts;
     match item {
-        Item::Mark(Mark::Comma) => {
-            parts.push(t)?;
-            let open = OpenTypes { parts, context };
-            Ok(Some(TypeReader {
-                state: TypeState::Due,
-                frames: frames.push(open)?,
-            }))
-        }
+        Item::Mark(Mark::Comma) => Ok(Some(part_due(with_part(parts, t)?, context, frames)?)),
         Item::Mark(Mark::RParen) => {
-            parts.push(t)?;
-            let group = TypeTree::group(NOWHERE, parts);
+            let group = TypeTree::group(NOWHERE, with_part(parts, t)?);
             Ok(Some(closed(group, context, frames)?))
         }
-        _ => Ok(None),
+        _ => {
+            drop(t);
+            Ok(None)
+        }
     }
 }
 
@@ -303,12 +325,16 @@ impl TypeReader {
     {
         let TypeReader { state, frames } = self;
         if !frames.is_empty() {
+            drop(state);
             return None;
         }
         match state {
             TypeState::Taking(name, arguments) => Some(TypeTree::named(NOWHERE, name, arguments)),
             TypeState::Done(t) => Some(t),
-            _ => None,
+            other => {
+                drop(other);
+                None
+            }
         }
     }
 }

@@ -38,6 +38,7 @@ fn behind_named(
         }
         _ => {
             drop(header);
+            drop(ty);
             Ok(None)
         }
     }
