@@ -8,10 +8,10 @@ use Rattle.syntax_why.specs.Declarations.{algebraic_of}
 use Rattle.syntax_why.specs.Levels.{types}
 use Rattle.grammar.specs.Walk.{onward}
 use Rattle.grammar.specs.FormMachine.{form_finish}
-use Rattle.parse_types.specs.declared.type_reader.OpenTypes.{OpenTypes}
-use Rattle.parse_types.specs.declared.type_reader.TypeState.{TypeState}
-use Rattle.parse_types.specs.declared.type_reader.TypeState.TheVariants as ts
-use Rattle.parse_types.specs.TypeStates as t
+use Rattle.parse_forms.specs.declared.type_reader.OpenTypes.{OpenTypes}
+use Rattle.parse_forms.specs.declared.type_reader.TypeState.{TypeState}
+use Rattle.parse_forms.specs.declared.type_reader.TypeState.TheVariants as ts
+use Rattle.parse_forms.specs.TypeStates as t
 use Rattle.grammar_decls.specs.DeclarationMachine.{TypeUse, equation, named_param, param_part, function_result, member_result, constant_type, element_type, ExprUse, function_body, predicate_body, member_body, constant_body, prop_body, clause_body, finish_named, finish_type, finish_expr}
 use Rattle.grammar_decls.specs.Completing.{close_type_name}
 use Rattle.complete_decls.specs.Ends.{may_end_type}

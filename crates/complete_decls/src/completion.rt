@@ -4,7 +4,7 @@ ghost use Rattle.syntax_why.specs.Lexeme.{kinds};
 ghost use Rattle.syntax_why.specs.Levels.{types};
 ghost use Rattle.grammar.specs.Completion.{complete as expr_complete, form_complete};
 ghost use Rattle.grammar_decls.specs.Completing.{decl_complete, close_type};
-ghost use Rattle.parse_types.specs.TypeStates as type_states;
+ghost use Rattle.parse_forms.specs.TypeStates as type_states;
 ghost use Rattle.term_states.specs.ExprStates as expr_states;
 ghost use Rattle.decl_states.specs.DeclStates.{types_of, symbol_state_of, name_state_of, param_state_of, link_state_of, element_state_of, type_use_of, state_of};
 
@@ -16,7 +16,7 @@ use complete_terms::{completion as expr_completion, push_type};
 use decl_states::{
     DeclState, ElementState, LinkState, NameState, ParamState, SymbolState, TypeDeclState, TypeUse,
 };
-use parse_types::TypeReader;
+use parse_forms::TypeReader;
 use std::alloc::{AllocError, Global};
 use term_states::Reader;
 use tokens_why::TokenKind;

@@ -4,7 +4,7 @@ ghost use Rattle.grammar.specs.FormMachine.{form_finish};
 ghost use Rattle.grammar_decls.specs.DeclarationMachine as machine;
 ghost use Rattle.grammar_decls.specs.DeclarationMachine.{decl_finish, finish_header};
 ghost use Rattle.syntax_why.specs.Levels.{types};
-ghost use Rattle.parse_types.specs.TypeStates as type_states;
+ghost use Rattle.parse_forms.specs.TypeStates as type_states;
 ghost use Rattle.term_states.specs.ExprStates as expr_states;
 ghost use Rattle.complete_decls.specs.Ends.{may_end_type};
 ghost use Rattle.decl_states.specs.DeclStates.{header_of, type_use_of, expr_use_of, types_of, name_state_of, param_state_of, link_state_of, element_state_of, state_of};
@@ -13,7 +13,7 @@ use decl_states::{
     DeclState, ElementState, ExprUse, Header, LinkState, NameState, ParamState, Replaced,
     TypeDeclState, TypeUse,
 };
-use parse_types::{TypeReader, TypeState};
+use parse_forms::{TypeReader, TypeState};
 use read_terms::ends as expr_ends;
 use term_states::Reader;
 

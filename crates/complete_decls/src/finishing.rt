@@ -8,7 +8,7 @@ ghost use Rattle.grammar.specs.Machine as expr_machine;
 ghost use Rattle.grammar_decls.specs.DeclarationMachine as machine;
 ghost use Rattle.grammar_decls.specs.DeclarationMachine.{decl_finish, finish_header, finish_named, finish_link, finish_beyond, finish_type, finish_expr};
 ghost use Rattle.syntax_why.specs.Levels.{types};
-ghost use Rattle.parse_types.specs.TypeStates as type_states;
+ghost use Rattle.parse_forms.specs.TypeStates as type_states;
 ghost use Rattle.term_states.specs.ExprStates as expr_states;
 ghost use Rattle.decl_states.specs.DeclStates.{cloning_of, group_of, header_of, replaced_of, type_use_of, expr_use_of, types_of, name_state_of, param_state_of, link_state_of, element_state_of, state_of};
 
@@ -18,8 +18,7 @@ use decl_states::{
     with_algebraic, with_element, with_inductive, with_member,
 };
 use outside::Seq;
-use parse_items::{NOWHERE, upper};
-use parse_types::TypeReader;
+use parse_forms::{NOWHERE, TypeReader, upper};
 use read_terms::finish as finish_reader;
 use std::alloc::{AllocError, Global};
 use syntax_why::{AlgTree, DeclTree, ElemNode, Expr, IndTree, Link, Name, Path, QName, TypeTree};

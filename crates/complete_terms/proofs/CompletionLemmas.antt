@@ -9,14 +9,14 @@ use Rattle.grammar.specs.FormMachine.{FormFrames}
 use Rattle.grammar.specs.Machine.{Frames, listed}
 use Rattle.grammar.specs.Completion.{form_close, form_complete, close, close_use, complete}
 use Rattle.term_states.specs.Climbs.{edges_on}
-use Rattle.parse_types.specs.declared.type_reader.OpenTypes.{OpenTypes}
-use Rattle.parse_types.specs.declared.type_reader.TypeState.{TypeState}
-use Rattle.parse_types.specs.declared.type_reader.TypeState.TheVariants as ts
-use Rattle.parse_patterns.specs.declared.pattern_reader.OpenPatterns.{OpenPatterns}
-use Rattle.parse_patterns.specs.declared.pattern_reader.PatternState.{PatternState}
-use Rattle.parse_patterns.specs.declared.pattern_reader.PatternState.TheVariants as ps
-use Rattle.parse_types.specs.TypeStates as t
-use Rattle.parse_patterns.specs.PatternStates as p
+use Rattle.parse_forms.specs.declared.type_reader.OpenTypes.{OpenTypes}
+use Rattle.parse_forms.specs.declared.type_reader.TypeState.{TypeState}
+use Rattle.parse_forms.specs.declared.type_reader.TypeState.TheVariants as ts
+use Rattle.parse_forms.specs.declared.pattern_reader.OpenPatterns.{OpenPatterns}
+use Rattle.parse_forms.specs.declared.pattern_reader.PatternState.{PatternState}
+use Rattle.parse_forms.specs.declared.pattern_reader.PatternState.TheVariants as ps
+use Rattle.parse_forms.specs.TypeStates as t
+use Rattle.parse_forms.specs.PatternStates as p
 use Rattle.term_states.specs.declared.open.Edge.{Edge}
 use Rattle.term_states.specs.declared.open.Waiting.{Waiting}
 use Rattle.term_states.specs.declared.open.Waiting.TheVariants as w

@@ -6,13 +6,11 @@ ghost use Rattle.syntax_why.specs.Lexeme.{kinds};
 ghost use Rattle.syntax_why.specs.Levels.{types, patterns};
 ghost use Rattle.grammar.specs.Completion.{form_complete, close, close_use, complete};
 ghost use Rattle.grammar.specs.Machine.{listed};
-ghost use Rattle.parse_types.specs.TypeStates as type_states;
-ghost use Rattle.parse_patterns.specs.PatternStates as pattern_states;
+ghost use Rattle.parse_forms.specs.TypeStates as type_states;
+ghost use Rattle.parse_forms.specs.PatternStates as pattern_states;
 ghost use Rattle.term_states.specs.ExprStates.{waiting_of, below, listing_of, type_use_of, state_by, state_of};
 
-use parse_items::Stack;
-use parse_patterns::{PatternReader, PatternState};
-use parse_types::{TypeReader, TypeState};
+use parse_forms::{PatternReader, PatternState, Stack, TypeReader, TypeState};
 use std::alloc::{AllocError, Global};
 use term_states::{Layer, Listing, Open, Reader, State, TypeUse, Waiting};
 use tokens_why::TokenKind;

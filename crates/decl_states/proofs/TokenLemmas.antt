@@ -5,9 +5,8 @@ use Rattle.syntax_why.specs.declared.declarations.SymbolWord.{SymbolWord}
 use Rattle.syntax_why.specs.Declarations.{Algebraic}
 use Rattle.syntax_why.specs.Tree.{Word, Op, Called, Form, arrow, equiv, conj, and_also, disj, or_else, equal, minus, sign, no_operator}
 use Rattle.syntax_why.specs.Lexeme.{Lexeme, lident, uident, tyvar, integer, run, mark, word}
-use Rattle.term_states.specs.Begins.{equal_is, colon_is, bar_is}
-use Rattle.grammar.specs.FormOver.{is_dot}
-use Rattle.decl_states.specs.Tokens.{with_is, mark_is}
+use Rattle.term_states.specs.Begins.{equal_is}
+use Rattle.grammar.specs.Marks.{bar_is, colon_is, dot_is, mark_is, with_is}
 use Rattle.grammar_decls.specs.DeclarationMachine.{Header, function_header, predicate_header, inductive_header, member_header, constructor_header, TypeUse, equation, named_param, param_part, function_result, member_result, constant_type, element_type, Cloning, at_header_end, at_type_use, at_left_read, at_type_named, at_element_vars}
 
 pub equal_token : (x : Lexeme) → equal_is x ≡ true → x ≡ run equal
@@ -58,7 +57,7 @@ with_token (integer z) e = cc
 with_token (word z) e = cc
 with_token (run o) e = cc
 
-pub dot_token : (x : Lexeme) → is_dot x ≡ true → x ≡ mark m.Dot
+pub dot_token : (x : Lexeme) → dot_is x ≡ true → x ≡ mark m.Dot
 dot_token (mark m.Dot) e = refl
 dot_token (mark k) e = cc
 dot_token (lident w) e = cc

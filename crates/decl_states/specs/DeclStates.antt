@@ -3,7 +3,7 @@ use Rattle.std.specs.Prelude.{[], map, option_map}
 use Rattle.syntax_why.specs.Tree.{called_of, type_of, tree_of, op_text, words}
 use Rattle.syntax_why.specs.Declarations.{declared_name, plain_name, name_text, param_of, member_of, algebraic_of, inductive_of, element_of}
 use Rattle.grammar_decls.specs.DeclarationMachine as g
-use Rattle.parse_types.specs.TypeStates as types
+use Rattle.parse_forms.specs.TypeStates as types
 use Rattle.term_states.specs.ExprStates as exprs
 use Rattle.decl_states.specs.declared.state.Group.{Group}
 use Rattle.decl_states.specs.declared.state.Group.TheVariants as gr

@@ -3,7 +3,7 @@ use Rattle.std.specs.Prelude.{if◌then◌else◌, List, [], ◌∷◌, map, Opt
 use Rattle.syntax_why.specs.Tree.{Word, lower_name}
 use Rattle.grammar.specs.FormMachine.{FormState, form_due, form_taking}
 use Rattle.grammar_decls.specs.DeclarationMachine.{Header, named_param, has_names, plain_types, type_for, DeclState}
-use Rattle.parse_items.specs.declared.item.LowerName.{LowerName}
+use Rattle.parse_forms.specs.declared.item.LowerName.{LowerName}
 
 abbrev pub param_words : List LowerName → List Word
 param_words = map (λ n. n.text)

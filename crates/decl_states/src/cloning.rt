@@ -5,7 +5,7 @@ ghost use Rattle.grammar_decls.specs.DeclarationMachine as machine;
 ghost use Rattle.decl_states.specs.DeclStates.{cloning_of};
 
 use crate::state::Cloning;
-use parse_items::NOWHERE;
+use parse_forms::NOWHERE;
 use std::alloc::AllocError;
 use syntax_why::{ElemNode, ElemTree};
 

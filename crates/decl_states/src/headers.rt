@@ -8,7 +8,7 @@ ghost use Rattle.decl_states.specs.DeclStates.{header_of};
 
 use crate::state::{Header, Signature};
 use outside::Seq;
-use parse_items::{UpperName, unplaced_name};
+use parse_forms::{UpperName, unplaced_name};
 use std::alloc::{AllocError, Global};
 use syntax_why::{AlgTree, ConTree, Name, ParamTree, TypeTree};
 

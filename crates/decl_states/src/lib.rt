@@ -15,8 +15,8 @@ pub use headers::{
     algebraic, first_header, header_with, with_algebraic, with_constructor, with_type,
 };
 pub use names::{
-    infix_symbol, is_equal_sign, lower_prop, lower_symbol, mark_of, prefix_symbol, star_symbol,
-    upper_prop, with_name, with_text,
+    infix_symbol, lower_prop, lower_symbol, prefix_symbol, star_symbol, upper_prop, with_name,
+    with_text,
 };
 pub use state::{
     Cloning, DeclState, ElementState, ExprUse, Group, Header, LinkState, NameState, NewProp,

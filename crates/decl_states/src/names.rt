@@ -1,17 +1,12 @@
-// Names of what is declared, from the texts of their tokens, and tests of single tokens.
-ghost use Rattle.std.specs.Prelude.{◌≡◌, [], ◌∷◌, ◌++◌, false, IfOk, MatchOption};
+// Names of what is declared, from the texts of their tokens.
+ghost use Rattle.std.specs.Prelude.{◌≡◌, [], ◌∷◌, ◌++◌, IfOk};
 ghost use Rattle.syntax_why.specs.Tree.{lower_name, upper_name, infix_name, prefix_name, star_name, op_text, words};
 ghost use Rattle.syntax_why.specs.Declarations.{declared_name, plain_name};
-ghost use Rattle.syntax_why.specs.Lexeme.{mark as mark_token};
-ghost use Rattle.term_states.specs.Begins.{equal_is};
-ghost use Rattle.decl_states.specs.Tokens.{mark_is};
-ghost use Rattle.parse_items.specs.Items.{lexeme_of};
 
 use outside::{Seq, Text};
-use parse_items::{Item, LowerName, NOWHERE, UpperName, unplaced_name};
+use parse_forms::{LowerName, NOWHERE, UpperName, unplaced_name};
 use std::alloc::{AllocError, Global};
-use syntax_why::{Mark, Name, OpName, Style};
-use term_states::is_equal;
+use syntax_why::{Name, OpName, Style};
 
 /// A symbol with a name in lower case.
 pub fn lower_symbol(name: LowerName) -> OpName
@@ -96,24 +91,4 @@ pub fn with_text(texts: Seq<Text>, text: Text) -> Result<Seq<Text>, AllocError>
     let mut texts = texts;
     texts.push(text)?;
     Ok(texts)
-}
-
-/// Whether a token is `=`.
-pub fn is_equal_sign(item: &Item) -> bool
-    ensures { result ≡ equal_is (lexeme_of item.now) }
-{
-    match item {
-        Item::Run(text) => is_equal(text.as_slice()),
-        _ => false,
-    }
-}
-
-/// The mark that a token is, if it is one.
-pub fn mark_of(item: &Item) -> Option<Mark>
-    ensures { MatchOption result (mark_is (lexeme_of item.now) ≡ false) (λ m. lexeme_of item.now ≡ mark_token m) }
-{
-    match item {
-        Item::Mark(mark) => Some(*mark),
-        _ => None,
-    }
 }

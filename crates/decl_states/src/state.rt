@@ -2,8 +2,7 @@
 // It stands under all handlers of tokens, over the readers of types and expressions.
 
 use outside::{Seq, Text};
-use parse_items::{LowerName, UpperName};
-use parse_types::TypeReader;
+use parse_forms::{LowerName, TypeReader, UpperName};
 use syntax_why::{
     AlgTree, ElemTree, Expr, IndTree, Link, MemberTree, Name, OpName, ParamTree, Path, PropKind,
     QName, SymbolWord, TypeTree,

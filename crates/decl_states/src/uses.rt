@@ -4,7 +4,7 @@ ghost use Rattle.grammar_decls.specs.DeclarationMachine.{type_for, expr_for};
 ghost use Rattle.decl_states.specs.DeclStates.{type_use_of, expr_use_of, state_of};
 
 use crate::state::{DeclState, ExprUse, TypeUse};
-use parse_types::TypeReader;
+use parse_forms::TypeReader;
 use read_terms::start;
 use std::alloc::Global;
 

@@ -7,7 +7,8 @@ use Rattle.syntax_why.specs.Levels.{types, patterns}
 use Rattle.grammar.specs.FormMachine.{FormState}
 use Rattle.grammar.specs.Completion.{some_lower, form_complete, close, close_use, complete}
 use Rattle.grammar.specs.Machine.{Context, Edge, Frames, Use, State, operand, argument, alternative, body, bound, edge, inside, scrutinee, arm, condition, consequent, value, term, in_let, in_branch, cast_to, binder_type, listed, due, taking, done, upper, dotted, name_opened, name_run, name_wild, prefix_opened, opened, arms_opened, binders, trigger_closed, form, sort_of, fill, op_at, closed, headed, with_arm, up, at_use, step, finish_up, finish}
-use Rattle.grammar.proofs.FormReading.{FormStops, is_as}
+use Rattle.grammar.specs.Marks.{as_is}
+use Rattle.grammar.proofs.FormReading.{FormStops}
 use Rattle.grammar.proofs.FormReading.{close_stops as form_close_stops}
 use Rattle.grammar.proofs.FormClosing.{Completed, form_completes}
 use Rattle.grammar.proofs.Ending.{Stops, Like, same_like, Ended, done_ended, taking_ended, upper_like, after-off}
@@ -83,7 +84,7 @@ closes (term all bs ts bars ∷ k) s t l =
     (along (trigger_closed all bs (ts ++ t ∷ []) bars k) (due (edge (bound all bs (triggered (trees (ts ++ t ∷ [])) bars)) ∷ k)) (mark m.Dot ∷ mark m.True ∷ close k) (mark m.True ∷ close k) refl (at_edge (bound all bs (triggered (trees (ts ++ t ∷ [])) bars)) k (closes k)))
 
 -- behind a whole type or pattern
-beyond_form : (u : Use) (k : Frames) (s : FormState) (x : Lexeme) (xs : List Lexeme) (h : Completed (sort_of u) s (form_complete (sort_of u) s)) → FormStops (sort_of u) x → is_as x ≡ false → (r : State) → at_use u k x h.tree ≡ Some r → Completes r xs →
+beyond_form : (u : Use) (k : Frames) (s : FormState) (x : Lexeme) (xs : List Lexeme) (h : Completed (sort_of u) s (form_complete (sort_of u) s)) → FormStops (sort_of u) x → as_is x ≡ false → (r : State) → at_use u k x h.tree ≡ Some r → Completes r xs →
     Completes (form s u k) (form_complete (sort_of u) s ++ (x ∷ xs))
 beyond_form u k s x xs h st n r e c =
     along (form s u k) r (form_complete (sort_of u) s ++ (x ∷ xs)) xs

@@ -5,21 +5,21 @@ use Rattle.syntax_why.specs.declared.marks.Mark.TheVariants as m
 use Rattle.syntax_why.specs.Tree.{Word, Op, arrow, equiv, conj, and_also, disj, or_else, equal, minus, sign, no_operator, Called, upper_name, Tree, apply, prefixed, negation, binary, choice, binding, quantified, trees}
 use Rattle.syntax_why.specs.Lexeme.{Lexeme, lident, uident, tyvar, integer, run, mark, word}
 use Rattle.syntax_why.specs.Levels.{prec, of_not, of_prefix, least_right, least_left, is_infix, at_least, ends_open, left_ok}
+use Rattle.grammar.specs.Marks.{dot_is}
 use Rattle.grammar.specs.Walk.{first}
 use Rattle.grammar.specs.Machine.{Context, Edge, Frames, State, operand, argument, right, negated, before, alternative, body, bound, edge, due, taking, done, upper, edge_needs, needs, fill, op_at, headed, at_atom, after, up, at_done, at_take, at_beyond, at_upper, step, finish_up, finish}
-use Rattle.grammar.proofs.FormReading.{is_dot}
 
 -- no expression goes on with the token as an argument
 pub record Stops (x : Lexeme) : Type 0 where
   pub none : (c : Context) (k : Frames) → at_atom c k x ≡ None
-  pub not_dot : is_dot x ≡ false
+  pub not_dot : dot_is x ≡ false
 
 pub run_stops : (o : Op) → Stops (run o)
 run_stops o = record { none = λ c k. refl; not_dot = refl }
 
 -- two states that differ at a dot alone
 pub record Like (s r : State) : Type 0 where
-  pub steps : (x : Lexeme) → is_dot x ≡ false → step s x ≡ step r x
+  pub steps : (x : Lexeme) → dot_is x ≡ false → step s x ≡ step r x
   pub ends : finish s ≡ finish r
 
 pub same_like : (s : State) → Like s s
@@ -218,7 +218,7 @@ edge_ended e s t k al r =
       ends = r.ends;
     }
 
-upper-beyond : (qs : List Word) (w : Word) (c : Context) (k : Frames) (x : Lexeme) → is_dot x ≡ false → at_upper qs w c k x ≡ at_beyond (upper_name qs w) c k x
+upper-beyond : (qs : List Word) (w : Word) (c : Context) (k : Frames) (x : Lexeme) → dot_is x ≡ false → at_upper qs w c k x ≡ at_beyond (upper_name qs w) c k x
 upper-beyond qs w c k (mark m.Dot) n = cc
 upper-beyond qs w c k (mark kind) n = refl
 upper-beyond qs w c k (lident v) n = refl

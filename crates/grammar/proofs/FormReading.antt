@@ -5,24 +5,17 @@ use Rattle.syntax_why.specs.Tree.{Word, Called, lower_name, upper_name, infix_na
 use Rattle.syntax_why.specs.Lexeme.{Lexeme, lident, uident, tyvar, integer, run, mark, word}
 use Rattle.syntax_why.specs.Write.{scopes, write_called, write_form, form_row, form_list, form_tail}
 use Rattle.syntax_why.specs.Levels.{Sort, types, patterns, IsPatterns, IsHead, IsPart, IsUnnamed, IsForm, AreParts, AreForms}
+use Rattle.grammar.specs.Marks.{as_is, dot_is}
 use Rattle.grammar.specs.Walk.{first, walk}
 use Rattle.grammar.specs.FormMachine.{FormContext, FormFrames, FormState, alone, part_of, within, form_due, form_opened, form_taking, form_done, form_upper, form_dotted, form_as, form_named, form_closed, form_headed, form_up, form_atom, form_ends, form_take, form_beyond, form_at_upper, form_step, form_end, form_finish}
 use Rattle.grammar.proofs.Walks.{walk-step, walk-then}
 
-abbrev pub is_dot : Lexeme → Bool
-is_dot (mark m.Dot) = true
-is_dot _ = false
-
-abbrev pub is_as : Lexeme → Bool
-is_as (mark m.As) = true
-is_as _ = false
-
 -- a name in upper case may go on at a dot, in a pattern
 abbrev pub differs : Sort → Lexeme → Bool
 differs types x = false
-differs patterns x = is_dot x
+differs patterns x = dot_is x
 
-pub apart_of : (g : Sort) (x : Lexeme) → is_dot x ≡ false → differs g x ≡ false
+pub apart_of : (g : Sort) (x : Lexeme) → dot_is x ≡ false → differs g x ≡ false
 apart_of types x n = refl
 apart_of patterns x n = n
 
@@ -42,13 +35,13 @@ form_walk g = walk (form_step g)
 
 -- a state behind a whole form
 pub record FormRead (g : Sort) (s : FormState) (t : Form) (k : FormFrames) : Type 0 where
-  pub up : (x : Lexeme) → FormStops g x → is_as x ≡ false → form_step g s x ≡ form_up t k x
+  pub up : (x : Lexeme) → FormStops g x → as_is x ≡ false → form_step g s x ≡ form_up t k x
   pub renames : IsUnnamed t → IsPatterns g → form_step g s (mark m.As) ≡ Some (form_as t k)
   pub ends : form_finish g s ≡ form_end t k
 
 -- the same, whether or not a name may follow
 pub record FormWhole (g : Sort) (s : FormState) (t : Form) (k : FormFrames) : Type 0 where
-  pub up : (x : Lexeme) → FormStops g x → is_as x ≡ false → form_step g s x ≡ form_up t k x
+  pub up : (x : Lexeme) → FormStops g x → as_is x ≡ false → form_step g s x ≡ form_up t k x
   pub ends : form_finish g s ≡ form_end t k
 
 pub whole : (g : Sort) (s : FormState) (t : Form) (k : FormFrames) → FormRead g s t k → FormWhole g s t k
@@ -62,7 +55,7 @@ pub record FormLike (g : Sort) (s r : FormState) : Type 0 where
 pub same_like : (g : Sort) (s : FormState) → FormLike g s s
 same_like g s = record { steps = λ x n. refl; ends = refl }
 
-pub form_ends-up : (g : Sort) (t : Form) (k : FormFrames) (x : Lexeme) → is_as x ≡ false → form_ends g t k x ≡ form_up t k x
+pub form_ends-up : (g : Sort) (t : Form) (k : FormFrames) (x : Lexeme) → as_is x ≡ false → form_ends g t k x ≡ form_up t k x
 form_ends-up types t k x n = refl
 form_ends-up patterns t k (mark m.As) n = cc
 form_ends-up patterns t k (mark kind) n = refl
@@ -73,7 +66,7 @@ form_ends-up patterns t k (integer i) n = refl
 form_ends-up patterns t k (run o) n = refl
 form_ends-up patterns t k (word i) n = refl
 
-take-up : (g : Sort) (c : Called) (ts : List Form) (k : FormFrames) (x : Lexeme) → FormStops g x → is_as x ≡ false → form_take g c ts k x ≡ form_up (composed c (forms ts)) k x
+take-up : (g : Sort) (c : Called) (ts : List Form) (k : FormFrames) (x : Lexeme) → FormStops g x → as_is x ≡ false → form_take g c ts k x ≡ form_up (composed c (forms ts)) k x
 take-up g c ts k x st n = ap (λ v. first v (form_ends g (composed c (forms ts)) k x)) (st.none (part_of c ts) k) ∙ form_ends-up g (composed c (forms ts)) k x n
 
 take-renames : (g : Sort) (c : Called) (ts : List Form) (k : FormFrames) → IsPatterns g → form_take g c ts k (mark m.As) ≡ Some (form_as (composed c (forms ts)) k)
@@ -98,7 +91,7 @@ done_read g t k = record {
   ends = refl;
 }
 
-upper-beyond : (g : Sort) (qs : List Word) (w : Word) (c : FormContext) (k : FormFrames) (x : Lexeme) → is_dot x ≡ false → form_at_upper g qs w c k x ≡ form_beyond g (upper_name qs w) c k x
+upper-beyond : (g : Sort) (qs : List Word) (w : Word) (c : FormContext) (k : FormFrames) (x : Lexeme) → dot_is x ≡ false → form_at_upper g qs w c k x ≡ form_beyond g (upper_name qs w) c k x
 upper-beyond g qs w c k (mark m.Dot) n = cc
 upper-beyond g qs w c k (mark kind) n = refl
 upper-beyond g qs w c k (lident v) n = refl
@@ -120,7 +113,7 @@ pub record Lands (g : Sort) (c : FormContext) (k : FormFrames) (xs : List Lexeme
   pub state : FormState
   pub is : xs ≡ head ∷ tail
   pub takes : form_atom g c k head ≡ Some entered
-  pub not_dot : is_dot head ≡ false
+  pub not_dot : dot_is head ≡ false
   pub walks : form_walk g entered tail ≡ Some state
   pub like : FormLike g state r
 

@@ -8,8 +8,9 @@ use Rattle.syntax_why.specs.Levels.{types, patterns, prec, of_not, of_prefix, le
 use Rattle.grammar.specs.Walk.{onward, first, walk}
 use Rattle.grammar.specs.FormMachine.{FormState, form_due, form_step, form_finish}
 use Rattle.grammar.specs.Machine.{Context, Edge, Frames, Listing, Use, State, operand, argument, right, negated, before, alternative, body, bound, edge, inside, scrutinee, arm, condition, consequent, value, term, in_let, in_branch, cast_to, binder_type, listed, due, taking, done, upper, dotted, name_opened, name_run, prefix_opened, opened, arms_opened, binders, trigger_closed, form, sort_of, needs, fill, op_at, closed, headed, at_atom, at_due, at_binder_end, at_done, with_arm, up, at_listed, at_use, at_binders, step, finish}
+use Rattle.grammar.specs.Marks.{as_is, dot_is}
 use Rattle.grammar.proofs.Walks.{walk-step, walk-then}
-use Rattle.grammar.proofs.FormReading.{is_dot, is_as, FormStops, comma_stops, FormRead, reads_form, form_walk}
+use Rattle.grammar.proofs.FormReading.{FormStops, comma_stops, FormRead, reads_form, form_walk}
 use Rattle.grammar.proofs.FormReading.{close_stops as form_close_stops}
 use Rattle.grammar.proofs.Ending.{Stops, Like, same_like, Ended, done_ended, taking_ended, edge_ended, upper_like, left_least, left_more, le-true, le-of}
 
@@ -31,7 +32,7 @@ record Lands (c : Context) (k : Frames) (xs : List Lexeme) (r : State) : Type 0 
   state : State
   is : xs ≡ head ∷ tail
   takes : at_atom c k head ≡ Some entered
-  not_dot : is_dot head ≡ false
+  not_dot : dot_is head ≡ false
   walks : expr_walk entered tail ≡ Some state
   like : Like state r
 
@@ -302,11 +303,11 @@ pub host_use : (u : Use) (k : Frames) (s : FormState) (t : Form) (x : Lexeme) �
 host_use u k s t x p q =
     ap (λ v. first (option_map (λ r. form r u k) v) (onward (at_use u k x) (form_finish (sort_of u) s))) p ∙ ap (onward (at_use u k x)) q
 
-use_step : (u : Use) (k : Frames) (s : FormState) (t : Form) (x : Lexeme) → FormRead (sort_of u) s t [] → FormStops (sort_of u) x → is_as x ≡ false → step (form s u k) x ≡ at_use u k x t
+use_step : (u : Use) (k : Frames) (s : FormState) (t : Form) (x : Lexeme) → FormRead (sort_of u) s t [] → FormStops (sort_of u) x → as_is x ≡ false → step (form s u k) x ≡ at_use u k x t
 use_step u k s t x r st n = host_use u k s t x (r.up x st n) r.ends
 
 -- patterns with commas between, and the token behind them
-reads_pattern_tail : (rest : List Form) (l : Listing) (us : List Form) (p : Form) (k : Frames) (s : FormState) (x : Lexeme) (ys : List Lexeme) → FormRead patterns s p [] → ArePatterns rest → FormStops patterns x → is_as x ≡ false →
+reads_pattern_tail : (rest : List Form) (l : Listing) (us : List Form) (p : Form) (k : Frames) (s : FormState) (x : Lexeme) (ys : List Lexeme) → FormRead patterns s p [] → ArePatterns rest → FormStops patterns x → as_is x ≡ false →
     ((vs : List Form) (q : Form) → at_use (listed l vs) k x q ≡ at_listed l (vs ++ q ∷ []) k x) →
     expr_walk (form s (listed l us) k) (pattern_tail rest ++ (x ∷ ys)) ≡ onward (λ r. expr_walk r ys) (at_listed l (us ++ (p ∷ rest)) k x)
 reads_pattern_tail [] l us p k s x ys r ok st n by = ap (onward (λ v. expr_walk v ys)) (use_step (listed l us) k s p x r st n ∙ by us p)
@@ -318,7 +319,7 @@ reads_pattern_tail (q ∷ rest) l us p k s x ys r ok st n by =
     ∙ reads_pattern_tail rest l (us ++ p ∷ []) q k a.state x ys a.read ok.1 st n by
     ∙ ap (λ v. onward (λ r'. expr_walk r' ys) (at_listed l v k x)) (append_assoc us (p ∷ []) (q ∷ rest))
 
-reads_patterns : (ps : List Form) (l : Listing) (k : Frames) (x : Lexeme) (ys : List Lexeme) → HasSome ps → ArePatterns ps → FormStops patterns x → is_as x ≡ false →
+reads_patterns : (ps : List Form) (l : Listing) (k : Frames) (x : Lexeme) (ys : List Lexeme) → HasSome ps → ArePatterns ps → FormStops patterns x → as_is x ≡ false →
     ((vs : List Form) (q : Form) → at_use (listed l vs) k x q ≡ at_listed l (vs ++ q ∷ []) k x) →
     expr_walk (form (form_due []) (listed l []) k) (pattern_list ps ++ (x ∷ ys)) ≡ onward (λ r. expr_walk r ys) (at_listed l ps k x)
 reads_patterns [] l k x ys h ok st n by = absurd h
@@ -387,7 +388,7 @@ reads_names (w ∷ ms) all bs ns k ys = reads_names ms all bs (ns ++ w ∷ []) k
 record Behind (x : Lexeme) : Type 0 where
   names : (all : Bool) (bs : List Binder) (n : Word) (ns : List Word) (k : Frames) → at_binders all bs (n ∷ ns) k x ≡ at_binder_end all (bs ++ record { names = n ∷ ns; of_type = None } ∷ []) k x
   stops : FormStops types x
-  not_as : is_as x ≡ false
+  not_as : as_is x ≡ false
 
 behind_comma : Behind (mark m.Comma)
 behind_comma = record { names = λ all bs n ns k. refl; stops = comma_stops types; not_as = refl }

@@ -3,6 +3,7 @@ use Rattle.std.specs.Prelude.{Bool, true, false, not, ◌&&◌, []}
 use Rattle.syntax_why.specs.declared.marks.Mark.TheVariants as m
 use Rattle.syntax_why.specs.Lexeme.{Lexeme, lident, uident, tyvar, mark}
 use Rattle.syntax_why.specs.Levels.{Sort, types, patterns}
+use Rattle.grammar.specs.Marks.{as_is, dot_is}
 use Rattle.grammar.specs.FormMachine.{FormState, form_taking, form_done, form_upper, form_named}
 
 abbrev pub begins_part : Sort → Lexeme → Bool
@@ -13,25 +14,17 @@ begins_part s (mark m.LParen) = true
 begins_part patterns (mark m.Wild) = true
 begins_part s _ = false
 
-abbrev pub is_as : Lexeme → Bool
-is_as (mark m.As) = true
-is_as _ = false
-
-abbrev pub is_dot : Lexeme → Bool
-is_dot (mark m.Dot) = true
-is_dot _ = false
-
 abbrev pub over_taking : Sort → Lexeme → Bool
 over_taking types x = not (begins_part types x)
-over_taking patterns x = not (begins_part patterns x) && not (is_as x)
+over_taking patterns x = not (begins_part patterns x) && not (as_is x)
 
 abbrev pub over_done : Sort → Lexeme → Bool
 over_done types x = true
-over_done patterns x = not (is_as x)
+over_done patterns x = not (as_is x)
 
 abbrev pub over_upper : Sort → Lexeme → Bool
 over_upper types x = false
-over_upper patterns x = not (is_dot x) && (not (begins_part patterns x) && not (is_as x))
+over_upper patterns x = not (dot_is x) && (not (begins_part patterns x) && not (as_is x))
 
 abbrev pub form_over : Sort → FormState → Lexeme → Bool
 form_over s (form_taking c ts []) x = over_taking s x

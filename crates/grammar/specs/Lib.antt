@@ -1,3 +1,4 @@
+pub mod Marks
 pub mod Walk
 pub mod FormMachine
 pub mod FormOver

@@ -11,7 +11,8 @@ use Rattle.syntax_why.specs.Declarations.{Algebraic, Decl, symbol_element, prop_
 use Rattle.grammar.specs.FormMachine.{FormState, form_done}
 use Rattle.grammar.specs.Machine.{State, done}
 use Rattle.grammar.specs.Completion.{some_lower, some_upper, some_variable, form_complete, complete}
-use Rattle.grammar.proofs.FormReading.{FormStops, is_as, FormWhole, whole, done_read, close_stops}
+use Rattle.grammar.specs.Marks.{as_is}
+use Rattle.grammar.proofs.FormReading.{FormStops, FormWhole, whole, done_read, close_stops}
 use Rattle.grammar.proofs.FormClosing.{form_completes}
 use Rattle.grammar.proofs.Closing.{completes}
 use Rattle.grammar_decls.specs.DeclarationMachine.{Header, function_header, predicate_header, inductive_header, member_header, constructor_header, Cloning, Naming, function_name, predicate_name, constant_name, inductive_name, member_name, prop_name, clause_name, type_element_name, left_symbol, right_symbol, prop_element_name, TypeUse, equation, named_param, param_part, function_result, member_result, constant_type, element_type, ExprUse, function_body, predicate_body, member_body, constant_body, prop_body, clause_body, DeclState, type_due, type_named, type_equal, type_upper, constructor_due, name_due, name_scope, name_opened, name_run, name_wild, params, param_scope, param_dotted, param_opened, constant_named, prop_named, clauses_due, clause_named, link_due, path_due, path_lower, path_read, rename_due, renamed_path, element_due, element_vars, left_read, element_read, decl_type, decl_expr, algebraic, with_element, clone_of, with_param, plain_type, plain_types, named, type_for, expr_for, inductive, at_type_use, decl_step, finish_link, finish_type, finish_expr}
@@ -75,7 +76,7 @@ param_closes : (h : Header) (ns : List Word) (t : Form) → DeclCompletes (param
 param_closes h ns t = subst (DeclCompletes (params (with_param h ns t))) (param_close h ns t) (header_closes (with_param h ns t))
 
 -- behind a type, a token that its use takes
-used : (u : TypeUse) (s : FormState) (t : Form) (x : Lexeme) (r : DeclState) (xs : List Lexeme) → FormWhole types s t [] → FormStops types x → is_as x ≡ false → at_type_use u x t ≡ Some r → DeclCompletes r xs → DeclCompletes (decl_type s u) (x ∷ xs)
+used : (u : TypeUse) (s : FormState) (t : Form) (x : Lexeme) (r : DeclState) (xs : List Lexeme) → FormWhole types s t [] → FormStops types x → as_is x ≡ false → at_type_use u x t ≡ Some r → DeclCompletes r xs → DeclCompletes (decl_type s u) (x ∷ xs)
 used u s t x r xs h st n e c = along (decl_type s u) r (x ∷ xs) xs (decl_then (decl_type s u) r x xs (type_used u s t x h st n ∙ e)) c
 
 type_here : (u : TypeUse) (s : FormState) (t : Form) (d : Decl) → FormWhole types s t [] → finish_type u t ≡ Some d → DeclCompletes (decl_type s u) []

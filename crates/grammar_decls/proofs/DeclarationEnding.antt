@@ -9,8 +9,9 @@ use Rattle.syntax_why.specs.Declarations.{Decl}
 use Rattle.grammar.specs.Walk.{onward, walk}
 use Rattle.grammar.specs.FormMachine.{FormState, form_due, form_step, form_finish}
 use Rattle.grammar.specs.Machine.{State, due, op_at, step, finish}
+use Rattle.grammar.specs.Marks.{as_is}
 use Rattle.grammar.proofs.Walks.{walk-step, walk-then}
-use Rattle.grammar.proofs.FormReading.{FormStops, is_as, form_walk, FormWhole, whole, reads_form}
+use Rattle.grammar.proofs.FormReading.{FormStops, form_walk, FormWhole, whole, reads_form}
 use Rattle.grammar.proofs.Ending.{Stops}
 use Rattle.grammar.proofs.Reading.{at_zero, reads, expr_walk}
 use Rattle.syntax_why.specs.Keywords.{keyword}
@@ -50,7 +51,7 @@ type_stops : (x : Following) → FormStops types (following x)
 type_stops ending = record { none = λ c k. refl; apart = refl }
 type_stops (a_word n) = record { none = λ c k. refl; apart = refl }
 
-not_as : (x : Following) → is_as (following x) ≡ false
+not_as : (x : Following) → as_is (following x) ≡ false
 not_as ending = refl
 not_as (a_word n) = refl
 
@@ -99,7 +100,7 @@ pub type_walk : (u : TypeUse) (s r : FormState) (xs ys : List Lexeme) → form_w
 type_walk u = host_walk (form_step types) decl_step (λ s. decl_type s u) (type_other u) (λ s x. refl)
 
 -- behind a whole type
-pub type_used : (u : TypeUse) (s : FormState) (t : Form) (x : Lexeme) → FormWhole types s t [] → FormStops types x → is_as x ≡ false → decl_step (decl_type s u) x ≡ at_type_use u x t
+pub type_used : (u : TypeUse) (s : FormState) (t : Form) (x : Lexeme) → FormWhole types s t [] → FormStops types x → as_is x ≡ false → decl_step (decl_type s u) x ≡ at_type_use u x t
 type_used u s t x r st n = host_ends (form_step types) decl_step (λ s. decl_type s u) (type_other u) (λ s x. refl) s x (r.up x st n) ∙ ap (onward (at_type_use u x)) r.ends
 
 pub type_ended : (u : TypeUse) (s : FormState) (t : Form) (d : Decl) → FormWhole types s t [] → finish_type u t ≡ Some d → DeclEnded (decl_type s u) d
@@ -108,7 +109,7 @@ type_ended u s t d r e = record {
   ends = ap (onward (finish_type u)) r.ends ∙ e;
 }
 
-pub reads_type : (t : Form) (u : TypeUse) (x : Lexeme) (ys : List Lexeme) → IsForm types t → FormStops types x → is_as x ≡ false → decl_walk (type_for u) (write_form t ++ (x ∷ ys)) ≡ onward (λ r. decl_walk r ys) (at_type_use u x t)
+pub reads_type : (t : Form) (u : TypeUse) (x : Lexeme) (ys : List Lexeme) → IsForm types t → FormStops types x → as_is x ≡ false → decl_walk (type_for u) (write_form t ++ (x ∷ ys)) ≡ onward (λ r. decl_walk r ys) (at_type_use u x t)
 reads_type t u x ys ok st n =
     let a = reads_form t types [] ok in
     type_walk u (form_due []) a.state (write_form t) (x ∷ ys) a.walks ∙ ap (onward (λ r. decl_walk r ys)) (type_used u a.state t x (whole types a.state t [] a.read) st n)

@@ -11,7 +11,8 @@ use Rattle.syntax_why.specs.WriteDeclarations.{typed_names, write_param, param_r
 use Rattle.syntax_why.specs.DeclarationLevels.{IsTyped, AreParams}
 use Rattle.grammar.specs.Walk.{onward}
 use Rattle.grammar.specs.FormMachine.{form_taking}
-use Rattle.grammar.proofs.FormReading.{is_dot, comma_stops, close_stops, list_forms, forms-list_forms}
+use Rattle.grammar.specs.Marks.{dot_is}
+use Rattle.grammar.proofs.FormReading.{comma_stops, close_stops, list_forms, forms-list_forms}
 use Rattle.grammar_decls.specs.DeclarationMachine.{Header, function_header, predicate_header, inductive_header, member_header, constructor_header, Group, named_param, param_part, DeclState, params, param_dotted, param_opened, decl_type, plain_type, plain_types, with_param, has_names, type_for, decl_step}
 use Rattle.grammar_decls.proofs.DeclarationEnding.{decl_walk, decl_behind, reads_type}
 
@@ -112,9 +113,9 @@ pub record Opens (xs : List Lexeme) : Type 0 where
   pub tail : List Lexeme
   pub is : xs ≡ head ∷ tail
   pub begins : is_close head ≡ false
-  pub not_dot : is_dot head ≡ false
+  pub not_dot : dot_is head ≡ false
 
-opens_scopes : (qs : List Word) (x : Lexeme) (xs : List Lexeme) → is_close x ≡ false → is_dot x ≡ false → Opens (scopes qs ++ (x ∷ xs))
+opens_scopes : (qs : List Word) (x : Lexeme) (xs : List Lexeme) → is_close x ≡ false → dot_is x ≡ false → Opens (scopes qs ++ (x ∷ xs))
 opens_scopes [] x xs e n = record { head = x; tail = xs; is = refl; begins = e; not_dot = n }
 opens_scopes (q ∷ qs) x xs e n = record { head = uident q; tail = mark m.Dot ∷ scopes qs ++ (x ∷ xs); is = refl; begins = refl; not_dot = refl }
 

@@ -8,8 +8,8 @@ use Rattle.syntax_why.specs.Levels.{types, HasSome, IsForm, AreParts, IsTypePart
 use Rattle.syntax_why.specs.Declarations.{Constructor, Algebraic, type_decl, algebraic_decl}
 use Rattle.syntax_why.specs.WriteDeclarations.{variable_row, write_constructor, constructor_tail, constructor_list, write_algebraic, algebraic_tail, algebraic_list, type_equation}
 use Rattle.syntax_why.specs.DeclarationLevels.{AreConstructors, AreAlgebraic}
+use Rattle.grammar.specs.Marks.{dot_is}
 use Rattle.grammar.specs.Walk.{onward}
-use Rattle.grammar.proofs.FormReading.{is_dot}
 use Rattle.grammar_decls.specs.DeclarationMachine.{constructor_header, equation, DeclState, type_due, type_named, type_equal, type_upper, constructor_due, params, algebraic, with_constructor, type_for, decl_step}
 use Rattle.grammar_decls.proofs.DeclarationEnding.{decl_walk, decl_then, decl_behind, Following, ending, a_word, following, DeclEnded}
 use Rattle.grammar_decls.proofs.HeaderReading.{opens_more, opens_form, reads_fields}
@@ -47,7 +47,7 @@ upper_read w vs v = record { bar = refl; other = refl; ended = record { stops = 
 reads_constructor : (ts : List Form) (as_ : List Algebraic) (a : Algebraic) (w : Word) → AreParts types (forms ts) → ReadsConstructors (params (constructor_header as_ a w [])) (form_row (forms ts)) as_ (with_constructor a w ts)
 reads_constructor ts as_ a w ok = record { state = params (constructor_header as_ a w ts); walks = reads_fields ts [] as_ a w ok; read = fields_read as_ a w ts }
 
-upper_step : (w : Word) (vs : List Word) (v : Word) (x : Lexeme) → is_dot x ≡ false → decl_step (type_upper w vs v) x ≡ decl_step (params (constructor_header [] (algebraic w vs false) v [])) x
+upper_step : (w : Word) (vs : List Word) (v : Word) (x : Lexeme) → dot_is x ≡ false → decl_step (type_upper w vs v) x ≡ decl_step (params (constructor_header [] (algebraic w vs false) v [])) x
 upper_step w vs v (mark m.Dot) n = cc
 upper_step w vs v (mark k) n = refl
 upper_step w vs v (lident u) n = refl

@@ -2,9 +2,9 @@
 use Rattle.std.proofs.Common.{◌≡◌, option_map, refl}
 use Rattle.grammar_decls.specs.DeclarationMachine.{at_decl_key}
 use Rattle.grammar_decls.specs.SourceMachine.{Around, declaring, at_key}
-use Rattle.parse_items.specs.declared.keywords.Keyword.{Keyword}
-use Rattle.parse_items.specs.declared.keywords.Keyword.TheVariants as k
-use Rattle.parse_items.specs.Words.{keyword_by}
+use Rattle.parse_forms.specs.declared.keywords.Keyword.{Keyword}
+use Rattle.parse_forms.specs.declared.keywords.Keyword.TheVariants as k
+use Rattle.parse_forms.specs.Words.{keyword_by}
 
 pub key_other : (a : Around) (w : Keyword) → (w ≡ k.Scope → ⊥) → at_key a (keyword_by w) ≡ option_map (λ s. declaring s a) (at_decl_key (keyword_by w))
 key_other a k.Scope p = absurd (p refl)

@@ -6,7 +6,7 @@ ghost use Rattle.parse_decls.specs.SourceStates.{around_by, around_of, state_of}
 
 use crate::source_state::{Around, OpenScope, SourceState, TheoryHead};
 use outside::Seq;
-use parse_items::{NOWHERE, Stack};
+use parse_forms::{NOWHERE, Stack};
 use std::alloc::{AllocError, Global};
 use syntax_why::{DeclTree, Name, TheoryTree};
 

@@ -4,7 +4,7 @@ ghost use Rattle.tokens_why.specs.Tokens.{AreTokens};
 ghost use Rattle.syntax_why.specs.Lexeme.{Lexeme, rest};
 ghost use Rattle.syntax_why.specs.Declarations.{Theory};
 ghost use Rattle.syntax_why.specs.Sources.{IsFileOf, BeginsSource};
-ghost use Rattle.parse_items.specs.Leads.{HasTexts};
+ghost use Rattle.parse_forms.specs.Leads.{HasTexts};
 ghost use Rattle.parse_decls.specs.Parsed.{CompletesSource};
 ghost use Rattle.parse_decls.specs.Scans.{read_to};
 ghost use Rattle.parse_decls.specs.SourceStates.{state_of};

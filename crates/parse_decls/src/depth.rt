@@ -3,12 +3,12 @@ ghost use Rattle.std.specs.Prelude.{◌≡◌, ◌<◌, ◌≤◌, List, ℕ, []
 ghost use Rattle.syntax_why.specs.Tree.{Word};
 ghost use Rattle.tokens_why.specs.declared.token.Token.{Token};
 ghost use Rattle.syntax_why.specs.Lexeme.{lexeme_by, rest};
-ghost use Rattle.parse_items.specs.Words.{keyword_by};
+ghost use Rattle.parse_forms.specs.Words.{keyword_by};
 ghost use Rattle.parse_decls.specs.Depth as nestings;
 ghost use Rattle.parse_decls.specs.Depth.{depth as depth_of, key_nesting, mark_nesting, most_nested, nested, IsTooDeep, IsShallow};
 ghost use Rattle.parse_decls.specs.Nestings.{nesting_of};
 
-use parse_items::{Keyword, Lead, Stack, classify, keyword_of};
+use parse_forms::{Keyword, Lead, Stack, classify, keyword_of};
 use std::alloc::{AllocError, Global};
 use syntax_why::Mark;
 use tokens_why::{Token, TokenKind};

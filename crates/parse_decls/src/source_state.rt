@@ -1,7 +1,7 @@
 // What was read last of a source.
 use decl_states::DeclState;
 use outside::Seq;
-use parse_items::Stack;
+use parse_forms::Stack;
 use syntax_why::{DeclTree, Name, TheoryTree};
 
 /// An open theory, or module, behind others, with the declarations so far.

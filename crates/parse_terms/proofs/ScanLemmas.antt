@@ -10,7 +10,7 @@ use Rattle.syntax_why.specs.Write.{write}
 use Rattle.syntax_why.specs.Places.{behind}
 use Rattle.syntax_why.specs.Expressions.{Begins, IsTreeOf}
 use Rattle.grammar.specs.Machine.{State, finish}
-use Rattle.parse_items.specs.Leads.{HasText, HasTexts}
+use Rattle.parse_forms.specs.Leads.{HasText, HasTexts}
 use Rattle.parse_terms.specs.Reads.{between, Stands}
 use Rattle.parse_terms.specs.Scans.{Ran, Last}
 use Rattle.parse_terms.proofs.Runs.{last_here, last_more}

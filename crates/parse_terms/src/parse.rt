@@ -9,7 +9,7 @@ ghost use Rattle.syntax_why.specs.Carried.{places_of};
 ghost use Rattle.syntax_why.specs.Places.{behind, places};
 ghost use Rattle.syntax_why.specs.Expressions.{Begins};
 ghost use Rattle.grammar.specs.Machine as machine;
-ghost use Rattle.parse_items.specs.Leads.{HasTexts};
+ghost use Rattle.parse_forms.specs.Leads.{HasTexts};
 ghost use Rattle.parse_terms.specs.Reads.{between, Stands, IsLongest};
 ghost use Rattle.parse_terms.specs.Refusals.{IsRefusal};
 ghost use Rattle.parse_terms.specs.Scans.{Ran, Last, Scanned};
@@ -17,7 +17,7 @@ ghost use Rattle.term_states.specs.ExprStates.{state_of};
 
 use crate::fault::SyntaxFault;
 use crate::scan::Scan;
-use parse_items::item_of;
+use parse_forms::item_of;
 use places_why::place_expr;
 use read_terms::{discard, ends, finish, start, step};
 use std::alloc::{AllocError, Global};

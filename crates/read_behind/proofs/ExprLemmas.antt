@@ -6,7 +6,8 @@ use Rattle.syntax_why.specs.Tree.{Op, Called, Tree, apply, trees, tree_of}
 use Rattle.syntax_why.specs.Lexeme.{Lexeme, lident, uident, tyvar, integer, run, mark, word}
 use Rattle.syntax_why.specs.Levels.{is_infix}
 use Rattle.grammar.specs.Machine.{Context, Frames, argument, at_atom, at_inside, at_inside_more, at_done, at_take, op_at, up}
-use Rattle.term_states.specs.Begins.{begins_atom, colon_is}
+use Rattle.grammar.specs.Marks.{colon_is}
+use Rattle.term_states.specs.Begins.{begins_atom}
 use Rattle.term_states.specs.Climbs.{fill_all, climbed, taken}
 use Rattle.term_states.specs.declared.open.Open.{Open}
 use Rattle.term_states.specs.ExprStates.{edge_of, below, frames_of}

@@ -5,12 +5,12 @@ ghost use Rattle.syntax_why.specs.Lexeme.{run};
 ghost use Rattle.grammar.specs.Machine.{at_done, at_take, at_beyond, op_at, up};
 ghost use Rattle.term_states.specs.Climbs.{fill_all, taken};
 ghost use Rattle.term_states.specs.Climbed.{climb_of};
-ghost use Rattle.parse_items.specs.Items.{lexeme_of};
+ghost use Rattle.parse_forms.specs.Items.{lexeme_of};
 ghost use Rattle.term_states.specs.ExprStates.{context_of, edge_of, below, frames_of, state_of};
 
 use crate::waiting::waited;
 use outside::{Seq, Text};
-use parse_items::{Item, NOWHERE, Stack};
+use parse_forms::{Item, NOWHERE, Stack};
 use std::alloc::{AllocError, Global};
 use syntax_why::{Expr, QName};
 use term_states::{

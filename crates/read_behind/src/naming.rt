@@ -3,12 +3,12 @@ ghost use Rattle.std.specs.Prelude.{◌≡◌, map, option_map, Some, None, IfOk
 ghost use Rattle.syntax_why.specs.Tree.{op_text};
 ghost use Rattle.syntax_why.specs.Lexeme as lexeme;
 ghost use Rattle.grammar.specs.Machine.{at_upper, at_dotted, at_name_opened, at_name_run, at_name_wild};
-ghost use Rattle.parse_items.specs.Items.{lexeme_of};
+ghost use Rattle.parse_forms.specs.Items.{lexeme_of};
 ghost use Rattle.term_states.specs.ExprStates.{context_of, frames_of, state_of};
 
 use crate::continuing::beyond;
 use outside::{Seq, Text};
-use parse_items::{Item, UpperName, infix, lower, prefix, star, upper};
+use parse_forms::{Item, UpperName, infix, lower, prefix, star, upper};
 use std::alloc::{AllocError, Global};
 use syntax_why::Mark;
 use term_states::{Context, Open, Reader, State, headed_by, is_operator};
@@ -56,7 +56,10 @@ pub fn dotted(
             open,
         })),
         Item::Mark(mark) => mark_dotted(alloc, mark, scopes, context, open),
-        _ => Ok(None),
+        _ => {
+            drop(context);
+            Ok(None)
+        }
     }
 }
 
@@ -78,7 +81,10 @@ fn mark_dotted(
             state: State::NameOpened(scopes, context),
             open,
         })),
-        _ => Ok(None),
+        _ => {
+            drop(context);
+            Ok(None)
+        }
     }
 }
 
@@ -88,16 +94,19 @@ pub fn name_opened(item: Item, scopes: Seq<Text>, context: Context, open: Open) 
 {
     match item {
         Item::Run(text) => {
-            if is_operator(text.as_slice()) {
-                Some(Reader {
-                    state: State::NameRun(scopes, text, context),
-                    open,
-                })
-            } else {
-                None
+            if !is_operator(text.as_slice()) {
+                drop(context);
+                return None;
             }
+            Some(Reader {
+                state: State::NameRun(scopes, text, context),
+                open,
+            })
         }
-        _ => None,
+        _ => {
+            drop(context);
+            None
+        }
     }
 }
 
@@ -121,7 +130,10 @@ pub fn name_run(
             state: State::NameWild(scopes, text, context),
             open,
         })),
-        _ => Ok(None),
+        _ => {
+            drop(context);
+            Ok(None)
+        }
     }
 }
 
@@ -141,6 +153,9 @@ pub fn name_wild(
             let name = prefix(scopes, text);
             Ok(Some(headed_by(alloc, name, context, open)?))
         }
-        _ => Ok(None),
+        _ => {
+            drop(context);
+            Ok(None)
+        }
     }
 }

@@ -2,19 +2,17 @@
 ghost use Rattle.std.specs.Prelude.{◌≡◌, ◌∷◌, ◌++◌, [], map, option_map, Some, None, IfOk};
 ghost use Rattle.syntax_why.specs.Tree.{tree_of, arm_of, pattern_of, binder_of, alternatives, trees, branches, cases};
 ghost use Rattle.grammar.specs.Machine.{at_inside, at_inside_more, at_scrutinee, at_arm, at_condition, at_consequent, at_value, at_term, up, closed, with_arm, term as expression_term};
-ghost use Rattle.parse_items.specs.Items.{lexeme_of};
+ghost use Rattle.parse_forms.specs.Items.{lexeme_of};
 ghost use Rattle.term_states.specs.ExprStates.{context_of, waiting_of, frames_of, state_of};
-ghost use Rattle.term_states.specs.Begins.{colon_is};
+ghost use Rattle.grammar.specs.Marks.{colon_is};
 
 use outside::Seq;
-use parse_items::{Item, NOWHERE};
-use parse_patterns::PatternReader;
-use parse_types::TypeReader;
+use parse_forms::{Item, NOWHERE, PatternReader, TypeReader, is_colon};
 use std::alloc::{AllocError, Global};
 use syntax_why::{BranchTree, Expr, Mark, Pat};
 use term_states::{
     Cases, Context, Edge, Listing, Open, Quantifier, Reader, State, TypeUse, Waiting, closed_atom,
-    closed_operand, due, in_pattern, in_type,
+    closed_operand, due, in_pattern, in_type, with_term,
 };
 
 /// Behind an expression in parentheses, of which it isn't the first, or whose type isn't given.
@@ -30,19 +28,18 @@ fn inside_more(
 {
     match item {
         Item::Mark(Mark::Comma) => {
-            let mut parts = parts;
-            parts.push(t)?;
+            let parts = with_term(parts, t)?;
             let open = open.wait(alloc, Waiting::Inside(parts, context))?;
             Ok(Some(due(open)))
         }
         Item::Mark(Mark::RParen) => {
-            let mut parts = parts;
-            parts.push(t)?;
+            let parts = with_term(parts, t)?;
             let atom = closed_operand(Expr::group(NOWHERE, parts));
             Ok(Some(closed_atom(atom, context, open)?))
         }
         _ => {
             drop(t);
+            drop(context);
             Ok(None)
         }
     }
@@ -79,14 +76,12 @@ fn scrutinee(
 {
     match item {
         Item::Mark(Mark::Comma) => {
-            let mut parts = parts;
-            parts.push(t)?;
+            let parts = with_term(parts, t)?;
             let open = open.wait(alloc, Waiting::Scrutinee(parts, context))?;
             Ok(Some(due(open)))
         }
         Item::Mark(Mark::With) => {
-            let mut parts = parts;
-            parts.push(t)?;
+            let parts = with_term(parts, t)?;
             Ok(Some(Reader {
                 state: State::ArmsOpened(parts, context),
                 open,
@@ -94,6 +89,7 @@ fn scrutinee(
         }
         _ => {
             drop(t);
+            drop(context);
             Ok(None)
         }
     }
@@ -140,6 +136,15 @@ fn whole_cases(of: Cases, open: Open) -> Result<Option<Reader>, AllocError>
     Ok(Some(closed_atom(atom, context, open)?))
 }
 
+/// Branches with one more at their end.
+fn with_last(branches: Seq<BranchTree>, branch: BranchTree) -> Result<Seq<BranchTree>, AllocError>
+    ensures { IfOk result (λ all. map arm_of all ≡ map arm_of branches ++ arm_of branch ∷ []) }
+{
+    let mut branches = branches;
+    branches.push(branch)?;
+    Ok(branches)
+}
+
 /// A `match` with its next branch, and no alternatives of another.
 fn with_branch(alloc: Global, of: Cases, body: Expr) -> Result<Cases, AllocError>
     ensures branches { IfOk result (λ all. map arm_of all.branches ≡ with_arm (map arm_of of.branches) (alternatives of.alternatives) (tree_of body)) }
@@ -155,8 +160,7 @@ fn with_branch(alloc: Global, of: Cases, body: Expr) -> Result<Cases, AllocError
         alternatives,
         context,
     } = of;
-    let mut branches = branches;
-    branches.push(BranchTree::new(alternatives, body))?;
+    let branches = with_last(branches, BranchTree::new(alternatives, body))?;
     Ok(Cases {
         scrutinees,
         bar,
@@ -242,8 +246,7 @@ fn term(
             Ok(Some(due(open)))
         }
         Item::Mark(Mark::RBrack) => {
-            let mut terms = terms;
-            terms.push(t)?;
+            let terms = with_term(terms, t)?;
             Ok(Some(Reader {
                 state: State::TriggerClosed(of, terms, bars),
                 open,
@@ -267,8 +270,7 @@ fn next_term(
 ) -> Result<Open, AllocError>
     ensures { IfOk result (λ o. frames_of o ≡ expression_term of.all (map binder_of of.binders) (map tree_of terms ++ tree_of t ∷ []) (bars ++ bar ∷ []) ∷ frames_of «open») }
 {
-    let mut terms = terms;
-    terms.push(t)?;
+    let terms = with_term(terms, t)?;
     let mut bars = bars;
     bars.push(bar)?;
     open.wait(alloc, Waiting::Term(of, terms, bars))
@@ -293,10 +295,4 @@ pub fn waited(
         Waiting::Value(bound) => value(item, t, bound, open),
         Waiting::Term(of, terms, bars) => term(alloc, item, t, of, terms, bars, open),
     }
-}
-
-fn is_colon(item: &Item) -> bool
-    ensures { result ≡ colon_is (lexeme_of item.now) }
-{
-    matches!(item, Item::Mark(Mark::Colon))
 }

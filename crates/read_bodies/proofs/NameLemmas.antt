@@ -14,7 +14,7 @@ use Rattle.decl_states.specs.declared.state.NewSymbol.{NewSymbol}
 use Rattle.decl_states.specs.declared.state.NewSymbol.TheVariants as ns
 use Rattle.decl_states.specs.declared.state.NewProp.{NewProp}
 use Rattle.decl_states.specs.declared.state.NewProp.TheVariants as np
-use Rattle.decl_states.specs.Tokens.{mark_is}
+use Rattle.grammar.specs.Marks.{mark_is}
 use Rattle.decl_states.specs.DeclStates.{symbol_of, prop_of}
 
 -- the names of symbols that are declared

@@ -3,18 +3,18 @@ ghost use Rattle.std.specs.Prelude.{◌≡◌, [], option_map, IfOk};
 ghost use Rattle.syntax_why.specs.Tree.{called_of, words};
 ghost use Rattle.grammar_decls.specs.DeclarationMachine as machine;
 ghost use Rattle.grammar_decls.specs.DeclarationMachine.{at_element_key, at_element_due, at_element_vars, at_left_read, at_element_end};
-ghost use Rattle.parse_items.specs.Items.{lexeme_of};
-ghost use Rattle.parse_items.specs.Words.{keyword_by};
+ghost use Rattle.parse_forms.specs.Items.{lexeme_of};
+ghost use Rattle.parse_forms.specs.Words.{keyword_by};
 ghost use Rattle.decl_states.specs.DeclStates.{cloning_of, replaced_of, state_of};
 
 use decl_states::{
-    Cloning, DeclState, ElementState, NameState, Replaced, TypeUse, is_equal_sign, type_due,
-    with_name,
+    Cloning, DeclState, ElementState, NameState, Replaced, TypeUse, type_due, with_name,
 };
 use outside::Seq;
-use parse_items::{Item, Keyword, keyword_of};
+use parse_forms::{Item, Keyword, keyword_of};
 use std::alloc::{AllocError, Global};
 use syntax_why::{Mark, Name, PropKind, QName, SymbolWord};
+use term_states::is_equal_sign;
 
 fn name_due(alloc: Global, of: Replaced) -> DeclState
     ensures { state_of result ≡ machine.name_due (replaced_of of) [] }

@@ -8,10 +8,9 @@ ghost use Rattle.grammar.specs.Walk.{onward};
 ghost use Rattle.grammar.specs.Machine as expr_machine;
 ghost use Rattle.grammar_decls.specs.DeclarationMachine as machine;
 ghost use Rattle.grammar_decls.specs.DeclarationMachine.{at_expr_use, decl_expr};
-ghost use Rattle.term_states.specs.Begins.{bar_is};
-ghost use Rattle.parse_items.specs.Items.{lexeme_of};
+ghost use Rattle.grammar.specs.Marks.{bar_is, with_is};
+ghost use Rattle.parse_forms.specs.Items.{lexeme_of};
 ghost use Rattle.term_states.specs.ExprStates as expr_states;
-ghost use Rattle.decl_states.specs.Tokens.{with_is};
 ghost use Rattle.decl_states.specs.DeclStates.{expr_use_of, group_of, state_of};
 
 use decl_states::{
@@ -19,7 +18,7 @@ use decl_states::{
     predicate_group, with_clause, with_inductive, with_member,
 };
 use outside::Seq;
-use parse_items::Item;
+use parse_forms::{Item, is_bar, is_with};
 use read_terms::{ends, finish, step};
 use std::alloc::{AllocError, Global};
 use syntax_why::{Expr, IndTree, Mark, Name, TypeTree};
@@ -181,18 +180,6 @@ fn further_expr(
         }
         Ok(Some(next)) => Ok(Some(DeclState::InExpr(next, of))),
     }
-}
-
-fn is_with(item: &Item) -> bool
-    ensures { result ≡ with_is (lexeme_of item.now) }
-{
-    matches!(item, Item::Mark(Mark::With))
-}
-
-fn is_bar(item: &Item) -> bool
-    ensures { result ≡ bar_is (lexeme_of item.now) }
-{
-    matches!(item, Item::Mark(Mark::Bar))
 }
 
 /// A token in an expression or behind it.

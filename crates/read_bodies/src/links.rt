@@ -5,13 +5,15 @@ ghost use Rattle.syntax_why.specs.Lexeme as lexeme;
 ghost use Rattle.syntax_why.specs.Declarations.{name_text};
 ghost use Rattle.grammar_decls.specs.DeclarationMachine as machine;
 ghost use Rattle.grammar_decls.specs.DeclarationMachine.{at_link_key, at_link_due, at_path_due, at_path_lower, at_path_read, at_link_end, at_rename_due, may_rename};
-ghost use Rattle.parse_items.specs.Items.{lexeme_of};
-ghost use Rattle.parse_items.specs.Words.{keyword_by};
+ghost use Rattle.parse_forms.specs.Items.{lexeme_of};
+ghost use Rattle.parse_forms.specs.Words.{keyword_by};
 ghost use Rattle.decl_states.specs.DeclStates.{state_of};
 
-use decl_states::{Cloning, DeclState, ElementState, LinkState, mark_of, with_text};
+use decl_states::{Cloning, DeclState, ElementState, LinkState, with_text};
 use outside::{Seq, Text};
-use parse_items::{Item, Keyword, LowerName, NOWHERE, UpperName, keyword_of, unplaced_name};
+use parse_forms::{
+    Item, Keyword, LowerName, NOWHERE, UpperName, keyword_of, mark_of, unplaced_name,
+};
 use std::alloc::{AllocError, Global};
 use syntax_why::{Link, Mark, Name, Path};
 

@@ -4,13 +4,13 @@ ghost use Rattle.syntax_why.specs.Lexeme as lexeme;
 ghost use Rattle.syntax_why.specs.Declarations.{declared_name, plain_name, param_of, inductive_of};
 ghost use Rattle.grammar_decls.specs.DeclarationMachine as machine;
 ghost use Rattle.grammar_decls.specs.DeclarationMachine.{at_constant_named, at_prop_named, at_clauses_due, at_clause_named};
-ghost use Rattle.parse_items.specs.Items.{lexeme_of};
+ghost use Rattle.parse_forms.specs.Items.{lexeme_of};
 ghost use Rattle.decl_states.specs.DeclStates.{state_of};
 
 use crate::symbols::prop_due;
 use decl_states::{DeclState, ExprUse, NewProp, Signature, TypeUse, expr_due, type_due};
 use outside::Seq;
-use parse_items::Item;
+use parse_forms::Item;
 use std::alloc::Global;
 use syntax_why::{IndTree, Mark, Name, OpName, PropKind};
 

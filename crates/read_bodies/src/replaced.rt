@@ -7,13 +7,13 @@ ghost use Rattle.syntax_why.specs.Lexeme as lexeme;
 ghost use Rattle.syntax_why.specs.DeclarationLevels as levels;
 ghost use Rattle.grammar_decls.specs.DeclarationMachine as machine;
 ghost use Rattle.grammar_decls.specs.DeclarationMachine.{named, sort_of, at_name_due, at_name_dot, at_name_scope, at_name_opened, at_name_run, at_name_wild, at_beyond};
-ghost use Rattle.parse_items.specs.Items.{lexeme_of};
+ghost use Rattle.parse_forms.specs.Items.{lexeme_of};
 ghost use Rattle.decl_states.specs.DeclStates.{cloning_of, replaced_of, state_of};
 
 use crate::elements::element_end;
 use decl_states::{Cloning, DeclState, ElementState, NameState, Replaced, with_element, with_text};
 use outside::{Seq, Text};
-use parse_items::{Item, UpperName, infix, lower, prefix, star, upper};
+use parse_forms::{Item, UpperName, infix, lower, prefix, star, upper};
 use std::alloc::{AllocError, Global};
 use syntax_why::{ElemNode, Mark, PropKind, QName};
 use term_states::is_operator;

@@ -5,7 +5,7 @@ ghost use Rattle.syntax_why.specs.Tree.{op_text};
 ghost use Rattle.syntax_why.specs.Lexeme as lexeme;
 ghost use Rattle.syntax_why.specs.Declarations.{declared_name, plain_name};
 ghost use Rattle.grammar_decls.specs.DeclarationMachine.{named, at_name_due, at_name_opened, at_name_run, at_name_wild};
-ghost use Rattle.parse_items.specs.Items.{lexeme_of};
+ghost use Rattle.parse_forms.specs.Items.{lexeme_of};
 ghost use Rattle.decl_states.specs.DeclStates.{symbol_of, prop_of, state_of};
 
 use decl_states::{
@@ -13,7 +13,7 @@ use decl_states::{
     lower_prop, lower_symbol, prefix_symbol, star_symbol, upper_prop,
 };
 use outside::{Seq, Text};
-use parse_items::Item;
+use parse_forms::Item;
 use std::alloc::Global;
 use syntax_why::{Mark, Name, OpName};
 use term_states::is_operator;

@@ -1,11 +1,11 @@
 // A declaration that is no scope: its first word, its tokens, and where it ends.
 ghost use Rattle.std.specs.Prelude.{◌≡◌, option_map, is_some, IfOk};
 ghost use Rattle.grammar_decls.specs.DeclarationMachine.{at_decl_key, decl_step, decl_finish};
-ghost use Rattle.parse_items.specs.Items.{lexeme_of};
+ghost use Rattle.parse_forms.specs.Items.{lexeme_of};
 ghost use Rattle.decl_states.specs.declared.state.SymbolState.TheVariants.{Due};
 ghost use Rattle.decl_states.specs.declared.state.DeclState.TheVariants.{PropDue};
 ghost use Rattle.decl_states.specs.declared.state.NewProp.TheVariants.{Prop};
-ghost use Rattle.parse_items.specs.Words.{keyword_by};
+ghost use Rattle.parse_forms.specs.Words.{keyword_by};
 ghost use Rattle.decl_states.specs.DeclStates.{types_of, symbol_state_of, name_state_of, param_state_of, link_state_of, element_state_of, state_of};
 
 use decl_states::{
@@ -13,7 +13,7 @@ use decl_states::{
     TypeDeclState,
 };
 use outside::Seq;
-use parse_items::{Item, Keyword};
+use parse_forms::{Item, Keyword};
 use read_bodies::{
     at_expr, clause_named, clauses_due, constant_named, element_due, element_end, element_vars,
     left_read, link_due, link_end, name_due, name_opened, name_run, name_scope, name_wild,

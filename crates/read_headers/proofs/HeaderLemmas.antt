@@ -10,10 +10,10 @@ use Rattle.syntax_why.specs.Declarations.{algebraic_of}
 use Rattle.grammar.specs.Walk.{onward, first}
 use Rattle.grammar.specs.FormMachine.{FormState, form_due, form_step, form_finish}
 use Rattle.grammar_decls.specs.DeclarationMachine.{Header, TypeUse, decl_type, at_params, at_header_end, at_type, at_type_use, at_param_opened, at_param_names, param_part, at_type_equal, at_type_upper, equation, constructor_header, algebraic}
-use Rattle.term_states.specs.Begins.{colon_is}
-use Rattle.grammar.specs.FormOver.{form_over, is_dot}
+use Rattle.grammar.specs.FormOver.{form_over}
+use Rattle.grammar.specs.Marks.{colon_is, dot_is}
 use Rattle.grammar.proofs.FormOvers.{over_none, over_not}
-use Rattle.parse_items.specs.declared.item.LowerName.{LowerName}
+use Rattle.parse_forms.specs.declared.item.LowerName.{LowerName}
 use Rattle.decl_states.specs.declared.state.Replaced.TheVariants as r
 use Rattle.decl_states.specs.Names.{named_params, named_type, param_words}
 use Rattle.read_headers.specs.Groups.{at_further_equal}
@@ -66,7 +66,7 @@ further_is (a ∷ as_) w vs (integer z) h = refl
 further_is (a ∷ as_) w vs (run o) h = refl
 further_is (a ∷ as_) w vs (word z) h = refl
 
-pub upper_other : (w : Word) (vs : List Word) (v : Word) (x : Lexeme) → is_dot x ≡ false → at_type_upper w vs v x ≡ at_params (constructor_header [] (algebraic w vs false) v []) x
+pub upper_other : (w : Word) (vs : List Word) (v : Word) (x : Lexeme) → dot_is x ≡ false → at_type_upper w vs v x ≡ at_params (constructor_header [] (algebraic w vs false) v []) x
 upper_other w vs v (mark m.Dot) e = cc
 upper_other w vs v (mark k) e = refl
 upper_other w vs v (lident q) e = refl

@@ -6,17 +6,18 @@ ghost use Rattle.syntax_why.specs.Tree.{equal};
 ghost use Rattle.syntax_why.specs.Declarations.{algebraic_of, declared_name, param_of};
 ghost use Rattle.grammar_decls.specs.DeclarationMachine as machine;
 ghost use Rattle.grammar_decls.specs.DeclarationMachine.{with_param, plain_type, at_header_end, at_params, at_param_scope, at_param_dotted};
-ghost use Rattle.parse_items.specs.Items.{lexeme_of};
+ghost use Rattle.parse_forms.specs.Items.{lexeme_of};
 ghost use Rattle.decl_states.specs.DeclStates.{header_of, group_of, state_of};
 
 use decl_states::{
     DeclState, ExprUse, Group, Header, ParamState, Signature, TypeDeclState, TypeUse, expr_due,
-    header_with, is_equal_sign, mark_of, type_due, with_algebraic, with_constructor, with_text,
+    header_with, type_due, with_algebraic, with_constructor, with_text,
 };
 use outside::{Seq, Text};
-use parse_items::{Item, LowerName, NOWHERE, UpperName, lower};
+use parse_forms::{Item, LowerName, NOWHERE, UpperName, lower, mark_of};
 use std::alloc::{AllocError, Global};
 use syntax_why::{AlgTree, Mark, Name, TypeTree};
+use term_states::is_equal_sign;
 
 /// Behind a type without a name.
 pub fn typed(alloc: Global, header: Header, ty: TypeTree) -> Result<DeclState, AllocError>

@@ -5,9 +5,9 @@ ghost use Rattle.syntax_why.specs.Lexeme as lexeme;
 ghost use Rattle.grammar.specs.FormMachine.{form_due};
 ghost use Rattle.grammar_decls.specs.DeclarationMachine as machine;
 ghost use Rattle.grammar_decls.specs.DeclarationMachine.{at_param_opened, has_names, plain_type, plain_types};
-ghost use Rattle.term_states.specs.Begins.{colon_is};
-ghost use Rattle.parse_items.specs.Items.{lexeme_of};
-ghost use Rattle.parse_types.specs.TypeStates as type_states;
+ghost use Rattle.grammar.specs.Marks.{colon_is};
+ghost use Rattle.parse_forms.specs.Items.{lexeme_of};
+ghost use Rattle.parse_forms.specs.TypeStates as type_states;
 ghost use Rattle.decl_states.specs.Names.{named_params, named_type, param_words};
 ghost use Rattle.decl_states.specs.DeclStates.{type_use_of, header_of, state_of};
 
@@ -15,8 +15,9 @@ use crate::parameters::typed;
 use crate::type_uses::at_type;
 use decl_states::{DeclState, Header, ParamState, TypeUse, type_due};
 use outside::Seq;
-use parse_items::{Item, LowerName, NOWHERE, Stack, lower, unplaced_name};
-use parse_types::{TypeReader, TypeState};
+use parse_forms::{
+    Item, LowerName, NOWHERE, Stack, TypeReader, TypeState, is_colon, lower, unplaced_name,
+};
 use std::alloc::{AllocError, Global};
 use syntax_why::{Mark, Name, QName, TypeTree};
 
@@ -30,12 +31,6 @@ fn has_named_params(header: &Header) -> bool
         Header::Member(_, _) => true,
         Header::Constructor(_, _, _, _) => false,
     }
-}
-
-fn is_colon(item: &Item) -> bool
-    ensures { result ≡ colon_is (lexeme_of item.now) }
-{
-    matches!(item, Item::Mark(Mark::Colon))
 }
 
 /// A copy of a name in lower case.

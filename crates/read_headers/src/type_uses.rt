@@ -7,20 +7,20 @@ ghost use Rattle.grammar.specs.Walk.{onward};
 ghost use Rattle.grammar.specs.FormMachine.{form_step, form_finish};
 ghost use Rattle.grammar_decls.specs.DeclarationMachine as machine;
 ghost use Rattle.grammar_decls.specs.DeclarationMachine.{at_type_use, decl_type};
-ghost use Rattle.parse_items.specs.Items.{lexeme_of};
-ghost use Rattle.parse_types.specs.TypeStates as type_states;
+ghost use Rattle.parse_forms.specs.Items.{lexeme_of};
+ghost use Rattle.parse_forms.specs.TypeStates as type_states;
 ghost use Rattle.decl_states.specs.DeclStates.{type_use_of, header_of, cloning_of, state_of};
 
 use crate::parameters::typed;
 use decl_states::{
     Cloning, DeclState, ElementState, ExprUse, Header, ParamState, TypeUse, expr_due, header_with,
-    is_equal_sign, mark_of, type_due, with_element, with_type,
+    type_due, with_element, with_type,
 };
 use outside::Seq;
-use parse_items::{Item, NOWHERE};
-use parse_types::TypeReader;
+use parse_forms::{Item, NOWHERE, TypeReader, mark_of};
 use std::alloc::{AllocError, Global};
 use syntax_why::{ElemNode, Mark, Name, QName, TypeTree};
+use term_states::is_equal_sign;
 
 /// Behind the type of parameters with names.
 fn behind_named(

@@ -1,6 +1,6 @@
 // Type symbols, aliases and algebraic types.
 ghost use Rattle.std.specs.Prelude.{◌≡◌, [], map, option_map, Some, false, IfOk};
-ghost use Rattle.grammar.specs.FormOver.{is_dot as dot_is};
+ghost use Rattle.grammar.specs.Marks.{dot_is};
 ghost use Rattle.grammar.specs.FormMachine.{form_due};
 ghost use Rattle.syntax_why.specs.declared.marks.Mark.TheVariants.{Dot};
 ghost use Rattle.syntax_why.specs.Tree.{words};
@@ -8,21 +8,22 @@ ghost use Rattle.syntax_why.specs.Lexeme as lexeme;
 ghost use Rattle.syntax_why.specs.Declarations.{algebraic_of};
 ghost use Rattle.grammar_decls.specs.DeclarationMachine as machine;
 ghost use Rattle.grammar_decls.specs.DeclarationMachine.{at_type_due, at_type_named, at_type_equal, at_type_upper, at_constructor_due};
-ghost use Rattle.parse_items.specs.Items.{lexeme_of};
+ghost use Rattle.parse_forms.specs.Items.{lexeme_of};
 ghost use Rattle.read_headers.specs.Groups.{at_further_equal};
 ghost use Rattle.decl_states.specs.DeclStates.{state_of};
 
 use crate::parameters::params;
 use crate::type_uses::at_type;
 use decl_states::{
-    DeclState, Header, ParamState, TypeDeclState, TypeUse, algebraic, first_header, is_equal_sign,
-    with_name,
+    DeclState, Header, ParamState, TypeDeclState, TypeUse, algebraic, first_header, with_name,
 };
 use outside::Seq;
-use parse_items::{Item, LowerName, Stack, UpperName, unplaced_name};
-use parse_types::{TypeContext, TypeReader, TypeState};
+use parse_forms::{
+    Item, LowerName, Stack, TypeContext, TypeReader, TypeState, UpperName, is_dot, unplaced_name,
+};
 use std::alloc::{AllocError, Global};
 use syntax_why::{AlgTree, Mark, Name};
+use term_states::is_equal_sign;
 
 /// The name of a type.
 pub fn named_type(alloc: Global, item: Item, before: Seq<AlgTree>) -> Option<DeclState>
@@ -207,12 +208,6 @@ fn behind_constructor(
 {
     let header = first_header(alloc, name, vars, constructor);
     params(alloc, item, header)
-}
-
-fn is_dot(item: &Item) -> bool
-    ensures { result ≡ dot_is (lexeme_of item.now) }
-{
-    matches!(item, Item::Mark(Mark::Dot))
 }
 
 /// Behind a name in upper case behind the equality sign of a type.

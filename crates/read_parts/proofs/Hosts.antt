@@ -8,10 +8,11 @@ use Rattle.syntax_why.specs.Lexeme.{Lexeme, lident, uident, tyvar, integer, run,
 use Rattle.syntax_why.specs.Levels.{types, patterns}
 use Rattle.grammar.specs.FormMachine.{form_due, form_step}
 use Rattle.grammar.specs.Machine.{inside, edge, before, at_opened, at_prefix_opened, Frames, Listing, Context, form, due, value, arm, listed, in_let, in_branch, sort_of, at_listed, at_pattern, at_named, at_binder_end, at_arms_opened, binder_type, at_due, at_atom, operand}
+use Rattle.grammar.specs.Marks.{bar_is, colon_is, comma_is}
 use Rattle.term_states.specs.declared.reader.TypeUse.{TypeUse}
 use Rattle.term_states.specs.declared.reader.TypeUse.TheVariants as u
 use Rattle.term_states.specs.ExprStates.{type_use_of}
-use Rattle.term_states.specs.Begins.{colon_is, bar_is, comma_is, equal_is, arrow_is}
+use Rattle.term_states.specs.Begins.{equal_is, arrow_is}
 
 pub equal_true : (ps : List Form) (k : Frames) (x : Lexeme) → equal_is x ≡ true → at_listed in_let ps k x ≡ Some (due (value ps ∷ k))
 equal_true ps k (mark kind) e = cc

@@ -7,12 +7,11 @@ ghost use Rattle.syntax_why.specs.Levels.{of_prefix, of_not};
 ghost use Rattle.syntax_why.specs.Levels as levels;
 ghost use Rattle.grammar.specs.Machine.{at_due, at_opened, at_opened_run, at_prefix_opened, needs};
 ghost use Rattle.grammar.specs.Machine as machine;
-ghost use Rattle.parse_items.specs.Items.{lexeme_of};
+ghost use Rattle.parse_forms.specs.Items.{lexeme_of};
 ghost use Rattle.term_states.specs.ExprStates.{context_of, frames_of, state_of};
 
 use outside::{Seq, Text};
-use parse_items::{Item, NOWHERE, infix};
-use parse_patterns::PatternReader;
+use parse_forms::{Item, NOWHERE, PatternReader, infix};
 use std::alloc::{AllocError, Global};
 use syntax_why::{Expr, Mark};
 use term_states::{

@@ -2,12 +2,12 @@
 ghost use Rattle.std.specs.Prelude.{◌≡◌, ◌++◌, ◌∷◌, [], map, option_map, Some, None, IfOk};
 ghost use Rattle.syntax_why.specs.Tree.{tree_of, binder_of, words};
 ghost use Rattle.grammar.specs.Machine.{at_binder_end, at_named, at_binders, at_trigger_closed, binders as machine_binders};
-ghost use Rattle.term_states.specs.Begins.{colon_is};
-ghost use Rattle.parse_items.specs.Items.{lexeme_of};
+ghost use Rattle.grammar.specs.Marks.{colon_is};
+ghost use Rattle.parse_forms.specs.Items.{lexeme_of};
 ghost use Rattle.term_states.specs.ExprStates.{frames_of, state_of};
 
 use outside::{Seq, Text};
-use parse_items::{Item, LowerName, unplaced_name};
+use parse_forms::{Item, LowerName, is_colon, unplaced_name};
 use std::alloc::{AllocError, Global};
 use syntax_why::{BinderTree, Expr, Mark, Name, TriggerTree, TypeTree};
 use term_states::{Edge, Open, Quantifier, Reader, State, TypeUse, Waiting, due, type_due};
@@ -54,12 +54,6 @@ pub fn binder_end(
     }
 }
 
-fn is_typed(item: &Item) -> bool
-    ensures { result ≡ colon_is (lexeme_of item.now) }
-{
-    matches!(item, Item::Mark(Mark::Colon))
-}
-
 /// Behind the names of a binder, of which there is one at least.
 fn behind_names(
     alloc: Global,
@@ -71,7 +65,7 @@ fn behind_names(
     requires { names ≡ [] → ⊥ }
     ensures { IfOk result (λ r. option_map state_of r ≡ at_named of.all (map binder_of of.binders) (words names) (frames_of «open») (lexeme_of item.now)) }
 {
-    if is_typed(item) {
+    if is_colon(item) {
         return Ok(Some(type_due(alloc, TypeUse::Binder(of, names), open)));
     }
     let of = with_binder(of, names, None)?;

@@ -5,25 +5,25 @@ ghost use Rattle.syntax_why.specs.Levels as levels;
 ghost use Rattle.grammar.specs.Walk.{onward};
 ghost use Rattle.grammar.specs.FormMachine.{form_step, form_finish};
 ghost use Rattle.grammar.specs.Machine.{at_cast, at_listed, at_pattern, at_use, at_form, at_arms_opened, form, listed, in_let, in_branch, arm as machine_arm};
-ghost use Rattle.term_states.specs.Begins.{equal_is, arrow_is, bar_is, comma_is};
+ghost use Rattle.grammar.specs.Marks.{bar_is, comma_is};
+ghost use Rattle.term_states.specs.Begins.{equal_is, arrow_is};
 ghost use Rattle.term_states.specs.declared.reader.TypeUse.TheVariants.{Binder};
 ghost use Rattle.term_states.specs.declared.reader.Listing.TheVariants.{Branch};
-ghost use Rattle.parse_items.specs.Items.{lexeme_of};
-ghost use Rattle.parse_types.specs.TypeStates as types;
-ghost use Rattle.parse_patterns.specs.PatternStates as patterns;
+ghost use Rattle.parse_forms.specs.Items.{lexeme_of};
+ghost use Rattle.parse_forms.specs.TypeStates as types;
+ghost use Rattle.parse_forms.specs.PatternStates as patterns;
 ghost use Rattle.term_states.specs.ExprStates.{context_of, listing_of, waiting_of, type_use_of, frames_of, state_of};
 ghost use Rattle.term_states.specs.declared.open.Waiting.TheVariants.{Arm};
 
 use crate::quantifiers::{binder_end, with_binder};
 use outside::Seq;
-use parse_items::{Item, NOWHERE};
-use parse_patterns::PatternReader;
-use parse_types::TypeReader;
+use parse_forms::{Item, NOWHERE, PatternReader, TypeReader, is_bar, is_comma, with_pattern};
 use std::alloc::{AllocError, Global};
 use syntax_why::{Expr, Mark, Name, Pat, TypeTree};
 use term_states::{
     Cases, Context, Listing, Open, Quantifier, Reader, TypeUse, Waiting, closed_atom,
-    closed_operand, due, first_pattern_due, in_pattern, in_type, is_arrow, is_equal, pattern_due,
+    closed_operand, due, first_pattern_due, in_pattern, in_type, is_arrow_sign, is_equal_sign,
+    pattern_due,
 };
 
 /// Behind the type of a cast.
@@ -44,6 +44,7 @@ fn cast(
         }
         _ => {
             drop(inner);
+            drop(context);
             drop(ty);
             Ok(None)
         }
@@ -138,24 +139,6 @@ pub fn at_type(
     }
 }
 
-fn is_equal_sign(item: &Item) -> bool
-    ensures { result ≡ equal_is (lexeme_of item.now) }
-{
-    match item {
-        Item::Run(text) => is_equal(text.as_slice()),
-        _ => false,
-    }
-}
-
-fn is_arrow_sign(item: &Item) -> bool
-    ensures { result ≡ arrow_is (lexeme_of item.now) }
-{
-    match item {
-        Item::Run(text) => is_arrow(text.as_slice()),
-        _ => false,
-    }
-}
-
 /// Behind the patterns of a `let`.
 fn let_listed(
     alloc: Global,
@@ -172,6 +155,15 @@ fn let_listed(
     Ok(Some(due(open)))
 }
 
+/// Alternatives with one more at their end.
+fn with_bound(of: Seq<Seq<Pat>>, bound: Seq<Pat>) -> Result<Seq<Seq<Pat>>, AllocError>
+    ensures { IfOk result (λ all. alternatives all ≡ alternatives of ++ map pattern_of bound ∷ []) }
+{
+    let mut all = of;
+    all.push(bound)?;
+    Ok(all)
+}
+
 /// A `match` with one more alternative of the next branch.
 fn with_alternative(of: Cases, bound: Seq<Pat>) -> Result<Cases, AllocError>
     ensures listing { IfOk result (λ all. listing_of (Branch all) ≡ in_branch (map tree_of of.scrutinees) of.bar (map arm_of of.branches) (alternatives of.alternatives ++ map pattern_of bound ∷ []) (context_of of.context)) }
@@ -184,8 +176,7 @@ fn with_alternative(of: Cases, bound: Seq<Pat>) -> Result<Cases, AllocError>
         alternatives,
         context,
     } = of;
-    let mut alternatives = alternatives;
-    alternatives.push(bound)?;
+    let alternatives = with_bound(alternatives, bound)?;
     Ok(Cases {
         scrutinees,
         bar,
@@ -193,12 +184,6 @@ fn with_alternative(of: Cases, bound: Seq<Pat>) -> Result<Cases, AllocError>
         alternatives,
         context,
     })
-}
-
-fn is_bar(item: &Item) -> bool
-    ensures { result ≡ bar_is (lexeme_of item.now) }
-{
-    matches!(item, Item::Mark(Mark::Bar))
 }
 
 /// Behind the patterns of an alternative.
@@ -236,20 +221,6 @@ fn behind_listed(
         Listing::Let => let_listed(alloc, item, bound, open),
         Listing::Branch(of) => branch_listed(alloc, item, of, bound, open),
     }
-}
-
-fn is_comma(item: &Item) -> bool
-    ensures { result ≡ comma_is (lexeme_of item.now) }
-{
-    matches!(item, Item::Mark(Mark::Comma))
-}
-
-fn with_pattern(bound: Seq<Pat>, pattern: Pat) -> Result<Seq<Pat>, AllocError>
-    ensures { IfOk result (λ all. map pattern_of all ≡ map pattern_of bound ++ pattern_of pattern ∷ []) }
-{
-    let mut bound = bound;
-    bound.push(pattern)?;
-    Ok(bound)
 }
 
 /// Behind a whole pattern.

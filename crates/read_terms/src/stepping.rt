@@ -4,11 +4,11 @@ ghost use Rattle.syntax_why.specs.Tree.{tree_of, called_of, apply, trees};
 ghost use Rattle.grammar.specs.Machine as machine;
 ghost use Rattle.grammar.specs.Machine.{finish_up, finish_upper};
 ghost use Rattle.read_terms.specs.Ends.{whole_state};
-ghost use Rattle.parse_items.specs.Items.{lexeme_of};
+ghost use Rattle.parse_forms.specs.Items.{lexeme_of};
 ghost use Rattle.term_states.specs.ExprStates.{context_of, frames_of, state_of};
 
 use outside::Seq;
-use parse_items::{Item, NOWHERE, upper};
+use parse_forms::{Item, NOWHERE, upper};
 use read_behind::{behind, behind_upper, dotted, name_opened, name_run, name_wild, take};
 use read_parts::{
     arms_opened, at_type, binders, in_or_behind_pattern, opened, operand_due, prefix_opened,

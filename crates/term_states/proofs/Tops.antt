@@ -3,7 +3,7 @@ use Rattle.std.proofs.Common.{◌≡◌, List, [], ◌∷◌, map, Some, None, r
 use Rattle.syntax_why.specs.Tree.{Op, Tree}
 use Rattle.syntax_why.specs.Lexeme.{run}
 use Rattle.grammar.specs.Machine.{Frames, edge_needs, needs, up}
-use Rattle.parse_items.specs.Tops.{top_of}
+use Rattle.parse_forms.specs.Tops.{top_of}
 use Rattle.term_states.specs.Climbs.{needs_of, edges_on}
 use Rattle.term_states.specs.declared.open.Edge.{Edge}
 use Rattle.term_states.specs.declared.open.Open.{Open}

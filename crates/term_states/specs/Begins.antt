@@ -15,18 +15,6 @@ begins_atom (mark m.LParen) = true
 begins_atom (mark m.Match) = true
 begins_atom _ = false
 
-abbrev pub colon_is : Lexeme → Bool
-colon_is (mark m.Colon) = true
-colon_is _ = false
-
-abbrev pub bar_is : Lexeme → Bool
-bar_is (mark m.Bar) = true
-bar_is _ = false
-
-abbrev pub comma_is : Lexeme → Bool
-comma_is (mark m.Comma) = true
-comma_is _ = false
-
 abbrev pub equal_is : Lexeme → Bool
 equal_is (run equal) = true
 equal_is _ = false

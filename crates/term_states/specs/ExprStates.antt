@@ -4,8 +4,8 @@ use Rattle.syntax_why.specs.Tree.{called_of, pattern_of, tree_of, arm_of, terms_
 use Rattle.grammar.specs.Machine as g
 use Rattle.grammar.specs.Machine.{Frame, Frames}
 use Rattle.term_states.specs.Climbs.{edges_on}
-use Rattle.parse_types.specs.TypeStates as t
-use Rattle.parse_patterns.specs.PatternStates as p
+use Rattle.parse_forms.specs.TypeStates as t
+use Rattle.parse_forms.specs.PatternStates as p
 use Rattle.term_states.specs.declared.open.Context.{Context}
 use Rattle.term_states.specs.declared.open.Context.TheVariants as c
 use Rattle.term_states.specs.declared.open.Edge.{Edge}

@@ -3,7 +3,7 @@ ghost use Rattle.std.specs.Prelude.{◌≡◌, ◌∷◌, ◌++◌, [], map, opt
 ghost use Rattle.syntax_why.specs.Tree.{tree_of, called_of, apply, none};
 ghost use Rattle.syntax_why.specs.Lexeme as lexeme;
 ghost use Rattle.grammar.specs.Machine.{closed, headed, at_atom};
-ghost use Rattle.parse_items.specs.Items.{lexeme_of};
+ghost use Rattle.parse_forms.specs.Items.{lexeme_of};
 ghost use Rattle.term_states.specs.ExprStates.{context_of, frames_of, state_of};
 ghost use Rattle.term_states.specs.Begins.{begins_atom};
 
@@ -12,9 +12,18 @@ use crate::open::{Context, Open, Waiting};
 use crate::operand::{Operand, closed_operand};
 use crate::reader::{Reader, State};
 use outside::Seq;
-use parse_items::{Item, NOWHERE, lower, star};
+use parse_forms::{Item, NOWHERE, lower, star};
 use std::alloc::{AllocError, Global};
 use syntax_why::{Expr, Mark, QName};
+
+/// Terms with one more at their end. Only want of memory refuses.
+pub fn with_term(terms: Seq<Expr>, t: Expr) -> Result<Seq<Expr>, AllocError>
+    ensures { IfOk result (λ all. map tree_of all ≡ map tree_of terms ++ tree_of t ∷ []) }
+{
+    let mut terms = terms;
+    terms.push(t)?;
+    Ok(terms)
+}
 
 /// Behind an atom that is no name.
 pub fn closed_atom(atom: Operand, context: Context, open: Open) -> Result<Reader, AllocError>
@@ -26,8 +35,7 @@ pub fn closed_atom(atom: Operand, context: Context, open: Open) -> Result<Reader
             open,
         }),
         Context::Argument(name, arguments) => {
-            let mut arguments = arguments;
-            arguments.push(atom.tree)?;
+            let arguments = with_term(arguments, atom.tree)?;
             Ok(Reader {
                 state: State::Taking(name, arguments),
                 open,
@@ -40,10 +48,7 @@ pub fn closed_atom(atom: Operand, context: Context, open: Open) -> Result<Reader
 pub fn with_name(alloc: Global, arguments: Seq<Expr>, name: QName) -> Result<Seq<Expr>, AllocError>
     ensures { IfOk result (λ all. map tree_of all ≡ map tree_of arguments ++ apply (called_of name) none ∷ []) }
 {
-    let argument = Expr::apply(NOWHERE, name, Seq::new(alloc));
-    let mut arguments = arguments;
-    arguments.push(argument)?;
-    Ok(arguments)
+    with_term(arguments, Expr::apply(NOWHERE, name, Seq::new(alloc)))
 }
 
 /// Behind a name.

@@ -11,7 +11,7 @@ use crate::open::Edge;
 use crate::opening::needs_on;
 use crate::operand::Operand;
 use crate::operators::Infix;
-use parse_items::Stack;
+use parse_forms::Stack;
 use std::alloc::{AllocError, Global};
 
 /// Whether an operator goes on with an expression, where that has to bind as tightly as `needs`.

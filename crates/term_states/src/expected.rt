@@ -3,15 +3,14 @@ ghost use Rattle.std.specs.Prelude.{◌≡◌, [], map};
 ghost use Rattle.syntax_why.specs.Tree.{pattern_of};
 ghost use Rattle.grammar.specs.FormMachine.{form_due};
 ghost use Rattle.grammar.specs.Machine.{form, listed, due as expression_due};
-ghost use Rattle.parse_types.specs.TypeStates as types;
-ghost use Rattle.parse_patterns.specs.PatternStates as patterns;
+ghost use Rattle.parse_forms.specs.TypeStates as types;
+ghost use Rattle.parse_forms.specs.PatternStates as patterns;
 ghost use Rattle.term_states.specs.ExprStates.{frames_of, state_of, type_use_of, listing_of};
 
 use crate::open::Open;
 use crate::reader::{Listing, Reader, State, TypeUse};
 use outside::Seq;
-use parse_patterns::PatternReader;
-use parse_types::TypeReader;
+use parse_forms::{PatternReader, TypeReader};
 use std::alloc::Global;
 use syntax_why::Pat;
 

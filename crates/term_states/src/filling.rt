@@ -11,7 +11,7 @@ use crate::open::{Edge, Quantifier};
 use crate::operand::Operand;
 use crate::operators::Infix;
 use outside::{Seq, Text};
-use parse_items::{NOWHERE, Stack, operator};
+use parse_forms::{NOWHERE, Stack, operator};
 use std::alloc::{AllocError, Global};
 use syntax_why::{Expr, Pat, TriggerTree};
 

@@ -1,7 +1,7 @@
 // What is open before an expression.
 use crate::operators::Infix;
 use outside::{Seq, Text};
-use parse_items::Stack;
+use parse_forms::Stack;
 use syntax_why::{BinderTree, BranchTree, Expr, Pat, QName, TriggerTree};
 
 /// What an atom is read for: as an operand, or as the next argument of a name.

@@ -5,7 +5,7 @@ ghost use Rattle.term_states.specs.Climbs.{needs_of};
 ghost use Rattle.term_states.specs.ExprStates.{edge_of, waiting_of, frames_of};
 
 use crate::open::{Edge, Layer, Open, Waiting};
-use parse_items::Stack;
+use parse_forms::Stack;
 use std::alloc::{AllocError, Global};
 
 fn needs_behind(edge: &Edge) -> usize
@@ -47,10 +47,8 @@ impl Open {
         ensures { IfOk result (λ o. frames_of o ≡ edge (edge_of next) ∷ frames_of self) }
     {
         let Open { edges, layers } = self;
-        Ok(Open {
-            edges: edges.push(next)?,
-            layers,
-        })
+        let edges = edges.push(next)?;
+        Ok(Open { edges, layers })
     }
 
     /// With one more part that waits for an expression.
@@ -58,9 +56,10 @@ impl Open {
         ensures { IfOk result (λ o. frames_of o ≡ waiting_of waiting ∷ frames_of self) }
     {
         let Open { edges, layers } = self;
+        let layers = layers.push(Layer { waiting, edges })?;
         Ok(Open {
             edges: Stack::new(alloc),
-            layers: layers.push(Layer { waiting, edges })?,
+            layers,
         })
     }
 

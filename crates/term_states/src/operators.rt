@@ -3,12 +3,13 @@ ghost use Rattle.std.specs.Prelude.{◌≡◌, Some, None, false, MatchOption};
 ghost use Rattle.tokens_why.specs.declared.token.TokenKind.TheVariants.{Operator};
 ghost use Rattle.syntax_why.specs.Tree.{Word, op_by, op_text, equal, arrow};
 ghost use Rattle.syntax_why.specs.Levels as levels;
-ghost use Rattle.syntax_why.specs.Lexeme.{run};
+ghost use Rattle.parse_forms.specs.Items.{lexeme_of};
 ghost use Rattle.term_states.specs.Begins.{equal_is, arrow_is};
 ghost use Rattle.term_states.specs.Bindings.{binding_of};
 
 use crate::binding::Binding;
 use outside::Text;
+use parse_forms::Item;
 use tokens_why::{TokenKind, kind_of_text};
 
 /// An infix operator and how it binds.
@@ -92,16 +93,22 @@ pub fn is_operator(text: &[u8]) -> bool
     }
 }
 
-/// Whether a text is `=`.
-pub fn is_equal(text: &[u8]) -> bool
-    ensures { result ≡ equal_is (run (op_text text.now)) }
+/// Whether an item is `=`.
+pub fn is_equal_sign(item: &Item) -> bool
+    ensures { result ≡ equal_is (lexeme_of item.now) }
 {
-    matches!(kind_of_text(text), Some(TokenKind::Equal))
+    match item {
+        Item::Run(text) => matches!(kind_of_text(text.as_slice()), Some(TokenKind::Equal)),
+        _ => false,
+    }
 }
 
-/// Whether a text is `->`.
-pub fn is_arrow(text: &[u8]) -> bool
-    ensures { result ≡ arrow_is (run (op_text text.now)) }
+/// Whether an item is `->`.
+pub fn is_arrow_sign(item: &Item) -> bool
+    ensures { result ≡ arrow_is (lexeme_of item.now) }
 {
-    matches!(kind_of_text(text), Some(TokenKind::Arrow))
+    match item {
+        Item::Run(text) => matches!(kind_of_text(text.as_slice()), Some(TokenKind::Arrow)),
+        _ => false,
+    }
 }

@@ -2,9 +2,7 @@
 use crate::open::{Cases, Context, Open, Quantifier};
 use crate::operand::Operand;
 use outside::{Seq, Text};
-use parse_items::UpperName;
-use parse_patterns::PatternReader;
-use parse_types::TypeReader;
+use parse_forms::{PatternReader, TypeReader, UpperName};
 use syntax_why::{Expr, Name, Pat, QName};
 
 /// Where a list of patterns stands.

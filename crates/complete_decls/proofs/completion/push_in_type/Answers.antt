@@ -3,7 +3,7 @@ use Rattle.syntax_why.specs.Lexeme.{kinds}
 use Rattle.syntax_why.specs.Levels.{types}
 use Rattle.grammar.specs.Completion.{form_complete}
 use Rattle.grammar_decls.specs.Completing.{close_type}
-use Rattle.parse_types.specs.TypeStates as states
+use Rattle.parse_forms.specs.TypeStates as states
 use Rattle.decl_states.specs.DeclStates.{type_use_of}
 use Rattle.complete_decls.proofs.EndLemmas.{kinds-append}
 use Rattle.complete_decls.proofs.completion.push_in_type.Goals as goal

@@ -1,7 +1,7 @@
 use Rattle.std.proofs.Common.{sym, ◌∙◌}
 use Rattle.syntax_why.specs.Levels.{types}
 use Rattle.grammar.specs.FormMachine.{form_finish}
-use Rattle.parse_types.specs.TypeStates as states
+use Rattle.parse_forms.specs.TypeStates as states
 use Rattle.decl_states.specs.DeclStates.{type_use_of}
 use Rattle.complete_decls.proofs.EndLemmas.{type_end, type_open}
 use Rattle.complete_decls.proofs.ending.type_ends.Goals as goal

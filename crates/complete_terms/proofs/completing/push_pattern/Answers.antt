@@ -3,7 +3,7 @@ use Rattle.tokens_why.specs.declared.token.TokenKind.TheVariants.{RParen}
 use Rattle.syntax_why.specs.Lexeme.{kinds}
 use Rattle.syntax_why.specs.Levels.{patterns}
 use Rattle.grammar.specs.Completion.{form_complete}
-use Rattle.parse_patterns.specs.PatternStates as states
+use Rattle.parse_forms.specs.PatternStates as states
 use Rattle.complete_terms.proofs.CompletionLemmas.{patterns_complete}
 use Rattle.complete_terms.proofs.completing.push_pattern.Goals as goal
 

@@ -1,7 +1,7 @@
 use Rattle.std.proofs.Common.{◌≡◌, sym, ap, subst}
 use Rattle.tokens_why.specs.declared.token.TokenKind.TheVariants as tk
 use Rattle.syntax_why.specs.Lexeme.{lexeme_by}
-use Rattle.parse_items.specs.Leads.{IsLead}
+use Rattle.parse_forms.specs.Leads.{IsLead}
 use Rattle.parse_decls.specs.Depth.{nesting}
 use Rattle.parse_decls.proofs.depth.nests.Goals as goal
 

@@ -1,5 +1,5 @@
 use Rattle.std.proofs.Common.{◌≡◌, option_map, IfOk, sym, ◌∙◌, subst}
-use Rattle.parse_items.specs.Items.{lexeme_of}
+use Rattle.parse_forms.specs.Items.{lexeme_of}
 use Rattle.decl_states.specs.DeclStates as decls
 use Rattle.parse_decls.specs.SourceStates.{around_of, state_of}
 use Rattle.read_decls.proofs.HostLemmas.{decl_whole, decl_other, decl_open}

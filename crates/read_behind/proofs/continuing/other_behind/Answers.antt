@@ -1,7 +1,7 @@
 use Rattle.std.proofs.Common.{◌≡◌, sym, ap, ◌∙◌, subst, option_map, IfOk}
 use Rattle.syntax_why.specs.Tree.{tree_of}
 use Rattle.grammar.specs.Machine.{up}
-use Rattle.parse_items.specs.Items.{lexeme_of}
+use Rattle.parse_forms.specs.Items.{lexeme_of}
 use Rattle.term_states.specs.ExprStates.{below, state_of}
 use Rattle.read_behind.proofs.ExprLemmas.{other_taken}
 use Rattle.read_behind.proofs.continuing.other_behind.Goals as goal

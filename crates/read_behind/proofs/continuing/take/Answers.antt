@@ -1,7 +1,7 @@
 use Rattle.std.proofs.Common.{◌≡◌, sym, ap, ◌∙◌, subst, map, option_map, IfOk}
 use Rattle.syntax_why.specs.Tree.{tree_of, called_of}
 use Rattle.grammar.specs.Machine.{at_done}
-use Rattle.parse_items.specs.Items.{lexeme_of}
+use Rattle.parse_forms.specs.Items.{lexeme_of}
 use Rattle.term_states.specs.ExprStates.{frames_of, state_of}
 use Rattle.read_behind.proofs.ExprLemmas.{take_atom, take_done}
 use Rattle.read_behind.proofs.continuing.take.Goals as goal

@@ -1,6 +1,6 @@
 use Rattle.std.proofs.Common.{◌≡◌, sym, ◌∙◌, subst, map, option_map, IfOk}
 use Rattle.syntax_why.specs.Tree.{tree_of}
-use Rattle.parse_items.specs.Items.{lexeme_of}
+use Rattle.parse_forms.specs.Items.{lexeme_of}
 use Rattle.term_states.specs.ExprStates.{context_of, frames_of, state_of}
 use Rattle.read_behind.proofs.ExprLemmas.{inside_no_colon, inside_parts}
 use Rattle.read_behind.proofs.waiting.inside.Goals as goal

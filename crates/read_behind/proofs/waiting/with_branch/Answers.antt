@@ -1,11 +1,10 @@
 use Rattle.std.proofs.Common.{◌++◌, ◌∷◌, [], map, refl, ap, ◌∙◌}
-use Rattle.std.proofs.lemmas.List.{map-append}
 use Rattle.syntax_why.specs.Tree.{arm_of}
 use Rattle.read_behind.proofs.waiting.with_branch.Goals as goal
 
 pub returns : goal.returns
 returns c = record {
-  branches = ap (map arm_of) c.in_ok-push.ensures.ok ∙ map-append arm_of c.args.of.branches (c.new.result ∷ []) ∙ ap (λ v. map arm_of c.args.of.branches ++ v ∷ []) c.new.ensures.tree;
+  branches = c.in_ok-branches.ensures ∙ ap (λ v. map arm_of c.args.of.branches ++ v ∷ []) c.new.ensures.tree;
   alternatives = c.new-2.ensures;
   scrutinees = refl;
   bar = refl;

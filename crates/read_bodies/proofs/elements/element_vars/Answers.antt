@@ -1,5 +1,5 @@
 use Rattle.std.proofs.Common.{Some, true, false, sym, ap, ◌∙◌}
-use Rattle.parse_items.specs.Items.{lexeme_of}
+use Rattle.parse_forms.specs.Items.{lexeme_of}
 use Rattle.syntax_why.specs.Tree.{words, called_of, op_text}
 use Rattle.term_states.specs.Begins.{equal_is}
 use Rattle.grammar_decls.specs.DeclarationMachine.{at_element_vars}

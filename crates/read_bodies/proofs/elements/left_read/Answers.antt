@@ -1,5 +1,5 @@
 use Rattle.std.proofs.Common.{Some, true, false, sym, ap, ◌∙◌}
-use Rattle.parse_items.specs.Items.{lexeme_of}
+use Rattle.parse_forms.specs.Items.{lexeme_of}
 use Rattle.syntax_why.specs.Tree.{called_of}
 use Rattle.grammar_decls.specs.DeclarationMachine.{at_left_read}
 use Rattle.decl_states.specs.DeclStates.{cloning_of}

@@ -1,5 +1,5 @@
 use Rattle.std.proofs.Common.{◌≡◌, true, false, option_map, IfOk, sym, ap, ◌∙◌, subst}
-use Rattle.parse_items.specs.Items.{lexeme_of}
+use Rattle.parse_forms.specs.Items.{lexeme_of}
 use Rattle.grammar_decls.specs.DeclarationMachine.{at_expr}
 use Rattle.term_states.specs.ExprStates as exprs
 use Rattle.decl_states.specs.DeclStates.{expr_use_of, state_of}

@@ -1,5 +1,5 @@
 use Rattle.std.proofs.Common.{Some, None, sym, ap, ◌∙◌}
-use Rattle.parse_items.specs.Items.{lexeme_of}
+use Rattle.parse_forms.specs.Items.{lexeme_of}
 use Rattle.grammar_decls.specs.DeclarationMachine.{at_path_read}
 use Rattle.read_bodies.proofs.NameLemmas.{path_none}
 use Rattle.read_bodies.proofs.links.path_read.Goals as goal

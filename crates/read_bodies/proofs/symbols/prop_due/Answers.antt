@@ -1,6 +1,6 @@
 use Rattle.std.proofs.Common.{Some, [], sym, ap, ◌∙◌}
 use Rattle.grammar_decls.specs.DeclarationMachine.{named, at_name_due}
-use Rattle.parse_items.specs.Items.{lexeme_of}
+use Rattle.parse_forms.specs.Items.{lexeme_of}
 use Rattle.decl_states.specs.DeclStates.{prop_of}
 use Rattle.read_bodies.proofs.NameLemmas.{prop_upper}
 use Rattle.read_bodies.proofs.symbols.prop_due.Goals as goal

@@ -1,5 +1,5 @@
 use Rattle.std.proofs.Common.{◌≡◌, Some, None, true, false, option_map, IfOk, sym, ap, ◌∙◌, subst}
-use Rattle.parse_items.specs.Items.{lexeme_of}
+use Rattle.parse_forms.specs.Items.{lexeme_of}
 use Rattle.grammar_decls.specs.DeclarationMachine.{at_header_end}
 use Rattle.decl_states.specs.DeclStates.{header_of, state_of}
 use Rattle.decl_states.proofs.TokenLemmas.{equal_token, header_none}

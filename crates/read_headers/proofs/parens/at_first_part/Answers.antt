@@ -1,6 +1,6 @@
 use Rattle.std.proofs.Common.{◌≡◌, option_map, IfOk, subst}
-use Rattle.parse_items.specs.Items.{lexeme_of}
-use Rattle.parse_types.specs.TypeStates as types
+use Rattle.parse_forms.specs.Items.{lexeme_of}
+use Rattle.parse_forms.specs.TypeStates as types
 use Rattle.grammar_decls.specs.DeclarationMachine.{at_type}
 use Rattle.decl_states.specs.DeclStates.{state_of}
 use Rattle.read_headers.proofs.parens.at_first_part.Goals as goal

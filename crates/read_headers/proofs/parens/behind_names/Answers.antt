@@ -1,5 +1,5 @@
 use Rattle.std.proofs.Common.{◌≡◌, true, false, option_map, IfOk, sym, ap, ◌∙◌, subst}
-use Rattle.parse_items.specs.Items.{lexeme_of}
+use Rattle.parse_forms.specs.Items.{lexeme_of}
 use Rattle.grammar_decls.specs.DeclarationMachine.{at_param_names}
 use Rattle.decl_states.specs.Names.{param_words}
 use Rattle.decl_states.specs.DeclStates.{header_of, state_of}

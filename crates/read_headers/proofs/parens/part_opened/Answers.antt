@@ -1,5 +1,5 @@
 use Rattle.std.proofs.Common.{◌≡◌, [], option_map, IfOk, subst}
-use Rattle.parse_items.specs.Items.{lexeme_of}
+use Rattle.parse_forms.specs.Items.{lexeme_of}
 use Rattle.grammar_decls.specs.DeclarationMachine.{at_type, param_part}
 use Rattle.decl_states.specs.DeclStates.{header_of, state_of}
 use Rattle.read_headers.proofs.parens.part_opened.Goals as goal

@@ -1,6 +1,6 @@
 use Rattle.std.proofs.Common.{◌≡◌, true, false, option_map, IfOk, sym, ◌∙◌, subst}
-use Rattle.parse_items.specs.Items.{lexeme_of}
-use Rattle.parse_types.specs.TypeStates as types
+use Rattle.parse_forms.specs.Items.{lexeme_of}
+use Rattle.parse_forms.specs.TypeStates as types
 use Rattle.decl_states.specs.DeclStates.{type_use_of, state_of}
 use Rattle.read_headers.proofs.HeaderLemmas.{type_over, type_stays}
 use Rattle.read_headers.proofs.type_uses.at_type.Goals as goal

@@ -1,5 +1,5 @@
 use Rattle.std.proofs.Common.{◌≡◌, Some, None, true, false, option_map, IfOk, sym, ap, ◌∙◌, subst}
-use Rattle.parse_items.specs.Items.{lexeme_of}
+use Rattle.parse_forms.specs.Items.{lexeme_of}
 use Rattle.syntax_why.specs.Tree.{type_of}
 use Rattle.grammar_decls.specs.DeclarationMachine.{at_type_use}
 use Rattle.decl_states.specs.DeclStates.{type_use_of, state_of}

@@ -1,5 +1,5 @@
 use Rattle.std.proofs.Common.{◌≡◌, true, false, map, option_map, IfOk, sym, ◌∙◌, subst}
-use Rattle.parse_items.specs.Items.{lexeme_of}
+use Rattle.parse_forms.specs.Items.{lexeme_of}
 use Rattle.syntax_why.specs.Tree.{words}
 use Rattle.syntax_why.specs.Declarations.{algebraic_of}
 use Rattle.grammar_decls.specs.DeclarationMachine.{at_type_equal}

@@ -1,5 +1,5 @@
 use Rattle.std.proofs.Common.{true, false, map, sym, ap, ◌∙◌}
-use Rattle.parse_items.specs.Items.{lexeme_of}
+use Rattle.parse_forms.specs.Items.{lexeme_of}
 use Rattle.syntax_why.specs.Tree.{words, op_text}
 use Rattle.syntax_why.specs.Declarations.{algebraic_of}
 use Rattle.term_states.specs.Begins.{equal_is}

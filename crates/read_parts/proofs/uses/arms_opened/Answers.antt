@@ -3,8 +3,8 @@ use Rattle.syntax_why.specs.Tree.{tree_of, pattern_of}
 use Rattle.syntax_why.specs.Levels.{patterns}
 use Rattle.grammar.specs.FormMachine.{form_step, form_due}
 use Rattle.grammar.specs.Machine.{form, listed, in_branch}
-use Rattle.parse_items.specs.Items.{lexeme_of}
-use Rattle.parse_patterns.specs.PatternStates as states
+use Rattle.parse_forms.specs.Items.{lexeme_of}
+use Rattle.parse_forms.specs.PatternStates as states
 use Rattle.term_states.specs.ExprStates.{context_of, frames_of, state_of}
 use Rattle.read_parts.proofs.Hosts.{arms_bar, arms_none}
 use Rattle.read_parts.proofs.uses.arms_opened.Goals as goal

@@ -1,7 +1,7 @@
 use Rattle.std.proofs.Common.{◌≡◌, sym, ◌∙◌, subst, option_map, IfOk}
 use Rattle.syntax_why.specs.Levels.{types}
-use Rattle.parse_items.specs.Items.{lexeme_of}
-use Rattle.parse_types.specs.TypeStates as states
+use Rattle.parse_forms.specs.Items.{lexeme_of}
+use Rattle.parse_forms.specs.TypeStates as states
 use Rattle.term_states.specs.ExprStates.{type_use_of, frames_of, state_of}
 use Rattle.grammar.proofs.FormOvers.{over_uses, over_stays}
 use Rattle.read_parts.proofs.Hosts.{type_use_sort}

@@ -2,7 +2,7 @@ use Rattle.std.proofs.Common.{◌≡◌, Some, [], sym, ap, ◌∙◌, subst, ma
 use Rattle.syntax_why.specs.Tree.{pattern_of}
 use Rattle.grammar.specs.FormMachine.{form_due}
 use Rattle.grammar.specs.Machine.{at_listed, form, listed}
-use Rattle.parse_items.specs.Items.{lexeme_of}
+use Rattle.parse_forms.specs.Items.{lexeme_of}
 use Rattle.term_states.specs.ExprStates.{listing_of, frames_of, state_of}
 use Rattle.read_parts.proofs.Hosts.{comma_true, comma_false}
 use Rattle.read_parts.proofs.uses.behind_pattern.Goals as goal

@@ -2,7 +2,7 @@ use Rattle.std.proofs.Common.{Some, [], ◌∷◌, sym, ap, ◌∙◌, map}
 use Rattle.syntax_why.specs.Tree.{tree_of, arm_of, pattern_of, alternatives}
 use Rattle.grammar.specs.FormMachine.{form_due}
 use Rattle.grammar.specs.Machine.{due, form, listed}
-use Rattle.parse_items.specs.Items.{lexeme_of}
+use Rattle.parse_forms.specs.Items.{lexeme_of}
 use Rattle.term_states.specs.ExprStates.{context_of, frames_of}
 use Rattle.read_parts.proofs.Hosts.{bar_true, arrow_true, branch_none}
 use Rattle.read_parts.proofs.uses.branch_listed.Goals as goal

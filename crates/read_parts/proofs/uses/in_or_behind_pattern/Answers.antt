@@ -2,8 +2,8 @@ use Rattle.std.proofs.Common.{◌≡◌, refl, sym, ◌∙◌, subst, map, optio
 use Rattle.syntax_why.specs.Tree.{pattern_of}
 use Rattle.syntax_why.specs.Levels.{patterns}
 use Rattle.grammar.specs.Machine.{listed}
-use Rattle.parse_items.specs.Items.{lexeme_of}
-use Rattle.parse_patterns.specs.PatternStates as states
+use Rattle.parse_forms.specs.Items.{lexeme_of}
+use Rattle.parse_forms.specs.PatternStates as states
 use Rattle.term_states.specs.ExprStates.{listing_of, frames_of, state_of}
 use Rattle.grammar.proofs.FormOvers.{over_uses, over_stays}
 use Rattle.read_parts.proofs.uses.in_or_behind_pattern.Goals as goal

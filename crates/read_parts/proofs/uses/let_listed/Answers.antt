@@ -1,7 +1,7 @@
 use Rattle.std.proofs.Common.{Some, sym, ap, ◌∙◌, map}
 use Rattle.syntax_why.specs.Tree.{pattern_of}
 use Rattle.grammar.specs.Machine.{due}
-use Rattle.parse_items.specs.Items.{lexeme_of}
+use Rattle.parse_forms.specs.Items.{lexeme_of}
 use Rattle.term_states.specs.ExprStates.{frames_of}
 use Rattle.read_parts.proofs.Hosts.{equal_true, equal_false}
 use Rattle.read_parts.proofs.uses.let_listed.Goals as goal

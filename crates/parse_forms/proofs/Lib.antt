@@ -1,0 +1,2 @@
+pub mod PatternsOpen
+pub mod TypesOpen

@@ -1,4 +1,0 @@
-pub mod Items
-pub mod Leads
-pub mod Tops
-pub mod Words
