@@ -1,6 +1,6 @@
 // The declaration behind a state, where it may end there.
-ghost use Rattle.std.specs.Prelude.{◌≡◌, map, option_map, is_some, Some, None, IfOk};
-ghost use Rattle.syntax_why.specs.Tree.{called_of, tree_of, type_of, words, upper_name};
+ghost use Rattle.std.specs.Prelude.{◌≡◌, map, option_map, Some, None, IfOk};
+ghost use Rattle.syntax_why.specs.Tree.{called_of, tree_of, type_of, words};
 ghost use Rattle.syntax_why.specs.Declarations.{algebraic_of, decl_of, declared_name, inductive_of, name_text, param_of, plain_name};
 ghost use Rattle.grammar.specs.Walk.{onward};
 ghost use Rattle.grammar.specs.FormMachine.{form_finish};

@@ -1,5 +1,5 @@
 -- The tokens of a type or a pattern are read as that type or pattern.
-use Rattle.std.proofs.Common.{◌≡◌, Bool, true, false, List, [], ◌∷◌, ◌++◌, Option, Some, None, refl, sym, ap, ◌∙◌, subst, append_assoc, append-nil}
+use Rattle.std.proofs.Common.{◌≡◌, Bool, false, List, [], ◌∷◌, ◌++◌, Option, Some, None, refl, sym, ap, ◌∙◌, subst, append_assoc, append-nil}
 use Rattle.syntax_why.specs.declared.marks.Mark.TheVariants as m
 use Rattle.syntax_why.specs.Tree.{Word, Called, lower_name, upper_name, infix_name, prefix_name, star_name, no_name, Form, Forms, wild, variable, type_variable, composed, enclosed, aliased, no_forms, more_forms, forms}
 use Rattle.syntax_why.specs.Lexeme.{Lexeme, lident, uident, tyvar, integer, run, mark, word}

@@ -1,5 +1,5 @@
 // What is open around a declaration: a theory behind others, and the scopes in it.
-ghost use Rattle.std.specs.Prelude.{◌≡◌, [], ◌∷◌, ◌++◌, map, option_map, Some, IfOk};
+ghost use Rattle.std.specs.Prelude.{◌≡◌, [], ◌∷◌, ◌++◌, map, Some, IfOk};
 ghost use Rattle.syntax_why.specs.Declarations.{decl_of, theory_of};
 ghost use Rattle.grammar_decls.specs.SourceMachine as machine;
 ghost use Rattle.parse_decls.specs.SourceStates.{around_by, around_of, state_of};

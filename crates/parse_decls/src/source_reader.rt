@@ -1,7 +1,6 @@
 // One token of a source, and the file.
 ghost use Rattle.std.specs.Prelude.{◌≡◌, [], map, option_map, Some, IfOk};
 ghost use Rattle.syntax_why.specs.Declarations.{decl_of, file_of, theory_of};
-ghost use Rattle.syntax_why.specs.Lexeme.{mark as mark_token};
 ghost use Rattle.grammar.specs.Walk.{onward};
 ghost use Rattle.grammar_decls.specs.DeclarationMachine.{at_decl_key, decl_step as machine_step, decl_finish as machine_finish};
 ghost use Rattle.grammar_decls.specs.SourceMachine as machine;

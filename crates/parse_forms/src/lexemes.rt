@@ -1,11 +1,10 @@
 // The item of a token.
-ghost use Rattle.std.specs.Prelude.{◌≡◌, ◌≤◌, Some, IfOk, length};
+ghost use Rattle.std.specs.Prelude.{◌≡◌, ◌≤◌, Some, IfOk};
 ghost use Rattle.syntax_why.specs.Tree.{Word, op_by};
 ghost use Rattle.tokens_why.specs.declared.token.TokenKind.TheVariants.{Lident, Uident, Int};
 ghost use Rattle.tokens_why.specs.Literal as literal;
 ghost use Rattle.tokens_why.specs.Literal.{greatest};
 ghost use Rattle.syntax_why.specs.Lexeme.{lexeme, lexeme_by, reserved, run};
-ghost use Rattle.tokens_why.specs.Tokens.{text_of};
 ghost use Rattle.tokens_why.specs.Strings.{kind_of};
 ghost use Rattle.parse_forms.specs.Items.{lexeme_of};
 ghost use Rattle.parse_forms.specs.Leads.{IsLead, IsReserved, HasText};

@@ -1,10 +1,9 @@
 // Reading a pattern token by token, with what is still open on a stack.
 ghost use Rattle.std.specs.Prelude.{◌≡◌, ◌∷◌, ◌++◌, [], map, option_map, Some, None, IfOk};
-ghost use Rattle.syntax_why.specs.Tree.{pattern_of, called_of, composed, forms, no_forms};
+ghost use Rattle.syntax_why.specs.Tree.{pattern_of, called_of, composed, no_forms};
 ghost use Rattle.syntax_why.specs.Levels.{patterns};
 ghost use Rattle.grammar.specs.FormMachine as machine;
 ghost use Rattle.grammar.specs.FormMachine.{form_due, form_closed, form_atom, form_up, form_ends, at_within, form_take, form_at_opened, form_beyond, form_at_upper, form_at_dotted, form_at_as, form_step, form_finish, form_finish_upper};
-ghost use Rattle.syntax_why.specs.Lexeme as lexeme;
 ghost use Rattle.parse_forms.specs.Items.{lexeme_of};
 ghost use Rattle.grammar.specs.FormOver.{begins_part, form_over};
 ghost use Rattle.parse_forms.specs.PatternStates.{context_of, stack_of, state_of};

@@ -1,10 +1,10 @@
 // The places of binders.
 // It stands on the places of names and types.
-ghost use Rattle.std.specs.Prelude.{◌≡◌, ◌+◌, ◌<◌, ◌^◌, length, map, option_map};
-ghost use Rattle.syntax_why.specs.Tree.{binder_of, words};
+ghost use Rattle.std.specs.Prelude.{◌≡◌, ◌+◌, ◌<◌, ◌^◌, map};
+ghost use Rattle.syntax_why.specs.Tree.{binder_of};
 ghost use Rattle.syntax_why.specs.Write.{write_binder, binder_list};
 ghost use Rattle.syntax_why.specs.Carried.{binder_places_of, binders_places_of};
-ghost use Rattle.syntax_why.specs.Places.{behind, past, name_places, binder_places, binder_list_places};
+ghost use Rattle.syntax_why.specs.Places.{behind, past, binder_places, binder_list_places};
 
 use crate::names::place_names;
 use crate::types::place_type;

@@ -1,12 +1,12 @@
 // The token behind an expression: an operator, or a token of what waits for the expression.
-ghost use Rattle.std.specs.Prelude.{◌≡◌, ◌∷◌, [], map, option_map, Some, None, IfOk};
-ghost use Rattle.syntax_why.specs.Tree.{tree_of, called_of, apply, trees, op_text};
+ghost use Rattle.std.specs.Prelude.{◌≡◌, map, option_map, Some, None, IfOk};
+ghost use Rattle.syntax_why.specs.Tree.{tree_of, called_of, apply, op_text};
 ghost use Rattle.syntax_why.specs.Lexeme.{run};
 ghost use Rattle.grammar.specs.Machine.{at_done, at_take, at_beyond, op_at, up};
-ghost use Rattle.term_states.specs.Climbs.{fill_all, taken};
+ghost use Rattle.term_states.specs.Climbs.{taken};
 ghost use Rattle.term_states.specs.Climbed.{climb_of};
 ghost use Rattle.parse_forms.specs.Items.{lexeme_of};
-ghost use Rattle.term_states.specs.ExprStates.{context_of, edge_of, below, frames_of, state_of};
+ghost use Rattle.term_states.specs.ExprStates.{context_of, below, frames_of, state_of};
 
 use crate::waiting::waited;
 use outside::{Seq, Text};

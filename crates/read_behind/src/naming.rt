@@ -1,5 +1,5 @@
 // The tokens of names: behind a name in upper case, a dot, and in parentheses.
-ghost use Rattle.std.specs.Prelude.{◌≡◌, map, option_map, Some, None, IfOk};
+ghost use Rattle.std.specs.Prelude.{◌≡◌, option_map, Some, None, IfOk};
 ghost use Rattle.syntax_why.specs.Tree.{op_text};
 ghost use Rattle.syntax_why.specs.Lexeme as lexeme;
 ghost use Rattle.grammar.specs.Machine.{at_upper, at_dotted, at_name_opened, at_name_run, at_name_wild};

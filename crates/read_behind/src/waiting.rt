@@ -4,7 +4,6 @@ ghost use Rattle.syntax_why.specs.Tree.{tree_of, arm_of, pattern_of, binder_of, 
 ghost use Rattle.grammar.specs.Machine.{at_inside, at_inside_more, at_scrutinee, at_arm, at_condition, at_consequent, at_value, at_term, up, closed, with_arm, term as expression_term};
 ghost use Rattle.parse_forms.specs.Items.{lexeme_of};
 ghost use Rattle.term_states.specs.ExprStates.{context_of, waiting_of, frames_of, state_of};
-ghost use Rattle.grammar.specs.Marks.{colon_is};
 
 use outside::Seq;
 use parse_forms::{Item, NOWHERE, PatternReader, TypeReader, is_colon};

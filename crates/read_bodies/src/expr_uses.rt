@@ -8,7 +8,6 @@ ghost use Rattle.grammar.specs.Walk.{onward};
 ghost use Rattle.grammar.specs.Machine as expr_machine;
 ghost use Rattle.grammar_decls.specs.DeclarationMachine as machine;
 ghost use Rattle.grammar_decls.specs.DeclarationMachine.{at_expr_use, decl_expr};
-ghost use Rattle.grammar.specs.Marks.{bar_is, with_is};
 ghost use Rattle.parse_forms.specs.Items.{lexeme_of};
 ghost use Rattle.term_states.specs.ExprStates as expr_states;
 ghost use Rattle.decl_states.specs.DeclStates.{expr_use_of, group_of, state_of};

@@ -3,7 +3,6 @@ ghost use Rattle.std.specs.Prelude.{◌≡◌, ◌∷◌, ◌++◌, [], option_m
 ghost use Rattle.syntax_why.specs.declared.declarations.Link.TheVariants.{Bare};
 ghost use Rattle.syntax_why.specs.Lexeme as lexeme;
 ghost use Rattle.syntax_why.specs.Declarations.{name_text};
-ghost use Rattle.grammar_decls.specs.DeclarationMachine as machine;
 ghost use Rattle.grammar_decls.specs.DeclarationMachine.{at_link_key, at_link_due, at_path_due, at_path_lower, at_path_read, at_link_end, at_rename_due, may_rename};
 ghost use Rattle.parse_forms.specs.Items.{lexeme_of};
 ghost use Rattle.parse_forms.specs.Words.{keyword_by};

@@ -2,7 +2,7 @@
 ghost use Rattle.std.specs.Prelude.{◌≡◌, [], option_map, Some, IfOk};
 ghost use Rattle.syntax_why.specs.Declarations.{prop_element};
 ghost use Rattle.syntax_why.specs.declared.marks.Mark.TheVariants.{Star, LParen};
-ghost use Rattle.syntax_why.specs.Tree.{called_of, op_text, upper_name};
+ghost use Rattle.syntax_why.specs.Tree.{called_of, op_text};
 ghost use Rattle.syntax_why.specs.Lexeme as lexeme;
 ghost use Rattle.syntax_why.specs.DeclarationLevels as levels;
 ghost use Rattle.grammar_decls.specs.DeclarationMachine as machine;

@@ -1,6 +1,6 @@
 // A declaration that is no scope: its first word, its tokens, and where it ends.
-ghost use Rattle.std.specs.Prelude.{◌≡◌, option_map, is_some, IfOk};
-ghost use Rattle.grammar_decls.specs.DeclarationMachine.{at_decl_key, decl_step, decl_finish};
+ghost use Rattle.std.specs.Prelude.{◌≡◌, option_map, IfOk};
+ghost use Rattle.grammar_decls.specs.DeclarationMachine.{at_decl_key, decl_step};
 ghost use Rattle.parse_forms.specs.Items.{lexeme_of};
 ghost use Rattle.decl_states.specs.declared.state.SymbolState.TheVariants.{Due};
 ghost use Rattle.decl_states.specs.declared.state.DeclState.TheVariants.{PropDue};

@@ -5,7 +5,6 @@ ghost use Rattle.syntax_why.specs.Lexeme as lexeme;
 ghost use Rattle.grammar.specs.FormMachine.{form_due};
 ghost use Rattle.grammar_decls.specs.DeclarationMachine as machine;
 ghost use Rattle.grammar_decls.specs.DeclarationMachine.{at_param_opened, has_names, plain_type, plain_types};
-ghost use Rattle.grammar.specs.Marks.{colon_is};
 ghost use Rattle.parse_forms.specs.Items.{lexeme_of};
 ghost use Rattle.parse_forms.specs.TypeStates as type_states;
 ghost use Rattle.decl_states.specs.Names.{named_params, named_type, param_words};

@@ -1,6 +1,5 @@
 // Type symbols, aliases and algebraic types.
 ghost use Rattle.std.specs.Prelude.{◌≡◌, [], map, option_map, Some, false, IfOk};
-ghost use Rattle.grammar.specs.Marks.{dot_is};
 ghost use Rattle.grammar.specs.FormMachine.{form_due};
 ghost use Rattle.syntax_why.specs.declared.marks.Mark.TheVariants.{Dot};
 ghost use Rattle.syntax_why.specs.Tree.{words};

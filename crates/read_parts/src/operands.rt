@@ -1,9 +1,9 @@
 // The token where an operand is due, and behind an opening parenthesis.
-ghost use Rattle.std.specs.Prelude.{◌≡◌, ◌∷◌, ◌&&◌, nat_le, [], map, option_map, Some, None, IfOk};
+ghost use Rattle.std.specs.Prelude.{◌≡◌, ◌∷◌, ◌&&◌, nat_le, [], option_map, Some, None, IfOk};
 ghost use Rattle.syntax_why.specs.Tree.{op_text};
 ghost use Rattle.syntax_why.specs.declared.marks.Mark.TheVariants.{Not};
 ghost use Rattle.syntax_why.specs.Lexeme as lexeme;
-ghost use Rattle.syntax_why.specs.Levels.{of_prefix, of_not};
+ghost use Rattle.syntax_why.specs.Levels.{of_prefix};
 ghost use Rattle.syntax_why.specs.Levels as levels;
 ghost use Rattle.grammar.specs.Machine.{at_due, at_opened, at_opened_run, at_prefix_opened, needs};
 ghost use Rattle.grammar.specs.Machine as machine;

@@ -2,7 +2,6 @@
 ghost use Rattle.std.specs.Prelude.{◌≡◌, ◌++◌, ◌∷◌, [], map, option_map, Some, None, IfOk};
 ghost use Rattle.syntax_why.specs.Tree.{tree_of, binder_of, words};
 ghost use Rattle.grammar.specs.Machine.{at_binder_end, at_named, at_binders, at_trigger_closed, binders as machine_binders};
-ghost use Rattle.grammar.specs.Marks.{colon_is};
 ghost use Rattle.parse_forms.specs.Items.{lexeme_of};
 ghost use Rattle.term_states.specs.ExprStates.{frames_of, state_of};
 

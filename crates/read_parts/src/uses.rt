@@ -5,8 +5,6 @@ ghost use Rattle.syntax_why.specs.Levels as levels;
 ghost use Rattle.grammar.specs.Walk.{onward};
 ghost use Rattle.grammar.specs.FormMachine.{form_step, form_finish};
 ghost use Rattle.grammar.specs.Machine.{at_cast, at_listed, at_pattern, at_use, at_form, at_arms_opened, form, listed, in_let, in_branch, arm as machine_arm};
-ghost use Rattle.grammar.specs.Marks.{bar_is, comma_is};
-ghost use Rattle.term_states.specs.Begins.{equal_is, arrow_is};
 ghost use Rattle.term_states.specs.declared.reader.TypeUse.TheVariants.{Binder};
 ghost use Rattle.term_states.specs.declared.reader.Listing.TheVariants.{Branch};
 ghost use Rattle.parse_forms.specs.Items.{lexeme_of};

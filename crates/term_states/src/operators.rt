@@ -1,7 +1,7 @@
 // What the text of an operator says of it.
 ghost use Rattle.std.specs.Prelude.{◌≡◌, Some, None, false, MatchOption};
 ghost use Rattle.tokens_why.specs.declared.token.TokenKind.TheVariants.{Operator};
-ghost use Rattle.syntax_why.specs.Tree.{Word, op_by, op_text, equal, arrow};
+ghost use Rattle.syntax_why.specs.Tree.{Word, op_by, op_text};
 ghost use Rattle.syntax_why.specs.Levels as levels;
 ghost use Rattle.parse_forms.specs.Items.{lexeme_of};
 ghost use Rattle.term_states.specs.Begins.{equal_is, arrow_is};

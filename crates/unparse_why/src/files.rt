@@ -3,7 +3,7 @@ ghost use Rattle.std.specs.Prelude.{◌≡◌, ◌++◌, map, option_map, IfOk, 
 ghost use Rattle.syntax_why.specs.Tree.{Word, type_of, tree_of, words};
 ghost use Rattle.syntax_why.specs.Lexeme.{kinds, lexeme_kind};
 ghost use Rattle.syntax_why.specs.Write.{write_called};
-ghost use Rattle.syntax_why.specs.Declarations.{declared_name, plain_name, name_text, param_of, member_of, constructor_of, algebraic_of, clause_of, inductive_of, element_of, decls, decl_of, theory_of, file_of, type_decl, algebraic_decl, function_decl, predicate_decl, constant_decl, inductive_decl, prop_decl, use_decl, clone_decl};
+ghost use Rattle.syntax_why.specs.Declarations.{declared_name, plain_name, name_text, param_of, member_of, constructor_of, algebraic_of, clause_of, inductive_of, element_of, decls, decl_of, theory_of, file_of, type_decl, function_decl, predicate_decl, constant_decl, prop_decl, use_decl, clone_decl};
 ghost use Rattle.syntax_why.specs.WriteDeclarations.{variable_row, write_param, param_row, definition, write_member, other_members, write_constructor, constructor_list, write_algebraic, algebraic_list, write_clause, clause_list, write_inductive, inductive_list, prop_word, link_words, write_path, as_part, symbol_word, write_element, substitution, type_equation, write_decl, write_decls, heading, write_theory, write_file};
 
 use crate::expressions::push_expr;
