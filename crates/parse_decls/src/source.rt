@@ -24,7 +24,7 @@ use crate::source_reader::{can_scope, discard, finish, start, step};
 use crate::source_state::SourceState;
 use parse_forms::{Lead, classify, item_of};
 use parse_terms::SyntaxFault;
-use places_why::place_file;
+use places_decls::place_file;
 use std::alloc::{AllocError, Global};
 use syntax_why::{File, Mark};
 use tokens_why::{Token, TokenKind};

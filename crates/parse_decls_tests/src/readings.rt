@@ -5,7 +5,7 @@ use std::process::Abort;
 use std::test::Fail;
 use syntax_why::File;
 use tokens_why::{Token, TokenKind, lex};
-use unparse_why::unparse;
+use unparse_decls::unparse;
 
 /// Whether some kinds are those of tokens.
 fn are_kinds(tokens: &[Token], kinds: &[TokenKind]) -> bool {

@@ -1,20 +1,14 @@
-//! The places of surface trees: a walk that gives each part of a tree the numbers of its first and its main token.
-//! It stands on the surface trees, and under the readers.
+//! The places of expressions: a walk that gives each part of a tree the numbers of its first and its main token.
+//! It stands on the surface trees, and under the reader of expressions and the places of declarations.
 #![tactic(auto)]
 
-mod algebraics;
 mod binders;
-mod clones;
-mod declarations;
 mod expressions;
-mod inductives;
 mod names;
-mod parameters;
 mod patterns;
-mod sources;
 mod types;
 
-pub use expressions::place_expr;
+pub use expressions::{behind_bar, place_expr};
+pub use names::{place_called, place_declared, place_names};
 pub use patterns::place_pattern;
-pub use sources::place_file;
-pub use types::place_type;
+pub use types::{place_type, place_types};

@@ -27,7 +27,7 @@ pub fn place_type(t: &mut TypeTree, from: usize) -> usize
         TypeNode::Var(_) => from + 1,
         TypeNode::Named(name, arguments) => {
             let at = place_called(name, from);
-            place_row(arguments, at)
+            place_types(arguments, at)
         }
         TypeNode::Group(parts) => place_list(parts, from + 1),
     }
@@ -35,7 +35,7 @@ pub fn place_type(t: &mut TypeTree, from: usize) -> usize
 
 /// Types side by side; tells the token behind them.
 #[cycle(types)]
-pub fn place_row(of: &mut Seq<TypeTree>, from: usize) -> usize
+pub fn place_types(of: &mut Seq<TypeTree>, from: usize) -> usize
     requires fits { behind from (form_row (forms (map type_of of.old))) < 2 ^ 64 }
     ensures tree { map type_of of.new ≡ map type_of of.old }
     ensures places { concat (map type_places_of of.new) ≡ form_row_places from (forms (map type_of of.old)) }

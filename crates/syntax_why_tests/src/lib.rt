@@ -3,8 +3,6 @@
 #![tactic(auto)]
 
 #[cfg(test)]
-mod declarations;
-#[cfg(test)]
 mod expressions;
 #[cfg(test)]
 mod parts;

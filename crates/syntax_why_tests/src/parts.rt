@@ -2,9 +2,9 @@
 use outside::{Seq, Text};
 use std::alloc::Global;
 use std::process::Abort;
-use syntax_why::{At, Expr, File, Name, OpName, QName, Style};
+use syntax_why::{At, Expr, Name, OpName, QName, Style};
 use tokens_why::{TokenKind, lex};
-use unparse_why::{unparse, unparse_expr};
+use unparse_why::unparse_expr;
 
 /// The place that trees here carry; their writing asks for none.
 pub const HERE: At = At { first: 0, main: 0 };
@@ -74,12 +74,5 @@ fn compare(rt: &impl Abort, alloc: Global, kinds: &[TokenKind], of: &str) {
 pub fn writes(rt: &impl Abort, alloc: Global, tree: Expr, of: &str) {
     let kinds = unparse_expr(alloc, &tree).expect(rt, "memory");
     drop(tree);
-    compare(rt, alloc, &kinds, of);
-}
-
-/// Whether the tokens of a file have the kinds of those of a text.
-pub fn writes_file(rt: &impl Abort, alloc: Global, file: File, of: &str) {
-    let kinds = unparse(alloc, &file).expect(rt, "memory");
-    drop(file);
     compare(rt, alloc, &kinds, of);
 }

@@ -18,8 +18,8 @@ place_type-overflow_add-result t c = let is = type_of-Var c.args.t.now _ c.in-Va
 pub place_type-place_called-at-requires : goal.place_type-place_called-at-requires
 place_type-place_called-at-requires t c = let is = type_of-Named c.args.t.now _ _ c.in-Named.is in grind here
 
-pub place_type-place_row-requires : goal.place_type-place_row-requires
-place_type-place_row-requires t c =
+pub place_type-place_types-requires : goal.place_type-place_types-requires
+place_type-place_types-requires t c =
     let is = type_of-Named c.args.t.now _ _ c.in-Named.is in
     let w = name_written c.in-Named.name in
     (grind here, grind here)
@@ -47,13 +47,13 @@ place_type-returns-in-Group t c =
     let is = type_of-Group c.args.t.now _ c.in-Group.is in
     rw c.in-Group.is (record { tree = grind here; places = grind here; end = grind here })
 
-pub place_row-place_type-at-requires : goal.place_row-place_type-at-requires
-place_row-place_type-at-requires t c =
+pub place_types-place_type-at-requires : goal.place_types-place_type-at-requires
+place_types-place_type-at-requires t c =
     let n = left type_of c.loop-i.items c.args.of.now c.loop-i.i c.index-items-i.result (omega arith) c.loop-i.invariant.tree in
     (grind lengths, grind lengths)
 
-pub place_row-loop-i-preserved : goal.place_row-loop-i-preserved
-place_row-loop-i-preserved t c =
+pub place_types-loop-i-preserved : goal.place_types-loop-i-preserved
+place_types-loop-i-preserved t c =
     let n = left type_of c.loop-i.items c.args.of.now c.loop-i.i c.index-items-i.result (omega arith) c.loop-i.invariant.tree in
     let k = kept type_of c.loop-i.items c.args.of.now c.loop-i.i c.place_type-at.new.t c.index-items-i.result c.loop-i.invariant.tree (grind here) in
     let g = grown type_places_of c.loop-i.items c.loop-i.i c.place_type-at.new.t (omega arith) in

@@ -9,14 +9,14 @@ use Rattle.places_why.proofs.types.+types.Given as goal
 abbrev pub decreases-place_type : goal.decreases-place_type
 decreases-place_type l = 2 * length (write_form (type_of l.t.now))
 
-abbrev pub decreases-place_row : goal.decreases-place_row
-decreases-place_row l = 2 * length (form_row (forms (map type_of l.of.now))) + 1
+abbrev pub decreases-place_types : goal.decreases-place_types
+decreases-place_types l = 2 * length (form_row (forms (map type_of l.of.now))) + 1
 
 abbrev pub decreases-place_list : goal.decreases-place_list
 decreases-place_list l = 2 * length (form_list (forms (map type_of l.of.now))) + 1
 
-abbrev pub invariant-place_row-loop-i : goal.invariant-place_row-loop-i
-invariant-place_row-loop-i l = record {
+abbrev pub invariant-place_types-loop-i : goal.invariant-place_types-loop-i
+invariant-place_types-loop-i l = record {
   tree : map type_of l.items ≡ map type_of l.fn.of;
   places : concat (map type_places_of (take l.i l.items)) ++ form_row_places l.at (forms (map type_of (drop l.i l.fn.of))) ≡ form_row_places l.fn.from (forms (map type_of l.fn.of));
   begun : l.fn.from ≤ l.at;

@@ -1,0 +1,26 @@
+use Rattle.std.proofs.Common.{arith}
+use Rattle.std.proofs.lemmas.Grind.{common_steps}
+use Rattle.syntax_why.specs.Declarations.{inductive_of}
+use Rattle.syntax_why.specs.CarriedDeclarations.{inductive_places_of}
+use Rattle.places_why.proofs.Steps.{kept, left, grown}
+use Rattle.places_decls.proofs.DeclarationLengths.{inductive_tail_length}
+use Rattle.places_decls.proofs.inductives.place_inductives.Goals as goal
+
+ruleset steps = (arith, common_steps)
+
+pub place_inductive-at-requires : goal.place_inductive-at-requires
+place_inductive-at-requires c =
+    let n = left inductive_of c.loop-i.items c.args.of.now c.loop-i.i c.index-items-i.result (omega arith) c.loop-i.invariant.tree in
+    grind (steps, inductive_tail_length)
+
+pub overflow_add-at : goal.overflow_add-at
+overflow_add-at c =
+    let n = left inductive_of c.loop-i.items c.args.of.now c.loop-i.i c.index-items-i.result (omega arith) c.loop-i.invariant.tree in
+    grind (steps, inductive_tail_length)
+
+pub loop-i-preserved : goal.loop-i-preserved
+loop-i-preserved c =
+    let n = left inductive_of c.loop-i.items c.args.of.now c.loop-i.i c.index-items-i.result (omega arith) c.loop-i.invariant.tree in
+    let k = kept inductive_of c.loop-i.items c.args.of.now c.loop-i.i c.place_inductive-at.new.p c.index-items-i.result c.loop-i.invariant.tree (grind steps) in
+    let g = grown inductive_places_of c.loop-i.items c.loop-i.i c.place_inductive-at.new.p (omega arith) in
+    record { tree = k; places = grind steps; begun = grind (steps, inductive_tail_length); end = grind (steps, inductive_tail_length) }

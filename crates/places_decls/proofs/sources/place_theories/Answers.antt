@@ -1,0 +1,20 @@
+use Rattle.std.proofs.Common.{arith}
+use Rattle.std.proofs.lemmas.Grind.{common_steps}
+use Rattle.syntax_why.specs.Declarations.{theory_of}
+use Rattle.syntax_why.specs.CarriedDeclarations.{theory_places_of}
+use Rattle.places_why.proofs.Steps.{kept, left, grown}
+use Rattle.places_decls.proofs.sources.place_theories.Goals as goal
+
+ruleset steps = (arith, common_steps)
+
+pub place_theory-at-requires : goal.place_theory-at-requires
+place_theory-at-requires c =
+    let n = left theory_of c.loop-i.items c.args.of.now c.loop-i.i c.index-items-i.result (omega arith) c.loop-i.invariant.tree in
+    grind steps
+
+pub loop-i-preserved : goal.loop-i-preserved
+loop-i-preserved c =
+    let n = left theory_of c.loop-i.items c.args.of.now c.loop-i.i c.index-items-i.result (omega arith) c.loop-i.invariant.tree in
+    let k = kept theory_of c.loop-i.items c.args.of.now c.loop-i.i c.place_theory-at.new.t c.index-items-i.result c.loop-i.invariant.tree (grind steps) in
+    let g = grown theory_places_of c.loop-i.items c.loop-i.i c.place_theory-at.new.t (omega arith) in
+    record { tree = k; places = grind steps; begun = grind steps; end = grind steps }
