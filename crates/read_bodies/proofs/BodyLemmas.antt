@@ -8,8 +8,7 @@ use Rattle.grammar.specs.Machine.{State, op_at, step, finish}
 use Rattle.grammar.proofs.Ending.{Stops}
 use Rattle.grammar_decls.specs.DeclarationMachine.{ExprUse, function_body, predicate_body, member_body, constant_body, prop_body, clause_body, decl_expr, at_expr, at_expr_use}
 use Rattle.grammar_decls.proofs.WholeExpressions.{expr_whole}
-use Rattle.grammar.specs.Marks.{bar_is}
-use Rattle.decl_states.specs.Tokens.{with_is}
+use Rattle.grammar.specs.Marks.{bar_is, with_is}
 use Rattle.syntax_why.proofs.Options.{some_is, none_is}
 use Rattle.grammar.proofs.Walks.{first_of, onward_none}
 
