@@ -1,3 +1,5 @@
+// Trees with binders, and what each call makes of them, reasoned from the textbook's equations.
+// They go through the calls of `binders` over a store; nothing stands on them.
 use binders::{
     close_param, has_param, inst, inst_many, inst_types, is_inst, is_inst_types, occurs, shift,
 };

@@ -1,4 +1,5 @@
 // Kinds of tokens that complete what is read for a declaration.
+// They stand on the states of the reader of declarations, and under the completion of whole states.
 ghost use Rattle.std.specs.Prelude.{◌≡◌, ◌++◌, ◌∷◌, [], map, OnOk};
 ghost use Rattle.syntax_why.specs.declared.marks.Mark.TheVariants.{RParen};
 ghost use Rattle.syntax_why.specs.Declarations.{algebraic_of};

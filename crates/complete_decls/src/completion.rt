@@ -1,4 +1,5 @@
 // Kinds of tokens that complete what was read of a declaration.
+// It stands on the tokens that close a state and on those that complete an expression.
 ghost use Rattle.std.specs.Prelude.{◌≡◌, ◌++◌, OnOk};
 ghost use Rattle.syntax_why.specs.Lexeme.{kinds};
 ghost use Rattle.syntax_why.specs.Levels.{types};

@@ -1,4 +1,5 @@
 // Whether a declaration may end at a state.
+// It stands on the states, and asks `read_terms` whether an expression ends.
 ghost use Rattle.std.specs.Prelude.{◌≡◌, [], is_some};
 ghost use Rattle.grammar.specs.FormMachine.{form_finish};
 ghost use Rattle.grammar_decls.specs.DeclarationMachine as machine;

@@ -1,4 +1,5 @@
 // The declaration behind a state, where it may end there.
+// It stands on the states and on the expressions that `read_terms` gives; the reader of sources stands on it.
 ghost use Rattle.std.specs.Prelude.{◌≡◌, map, option_map, Some, None, IfOk};
 ghost use Rattle.syntax_why.specs.Tree.{called_of, tree_of, type_of, words};
 ghost use Rattle.syntax_why.specs.Declarations.{algebraic_of, decl_of, declared_name, inductive_of, name_text, param_of, plain_name};

@@ -1,4 +1,5 @@
 // Kinds of tokens that complete an expression.
+// They stand on the states of the reader of expressions; `parse_terms` and the completion of declarations stand on them.
 ghost use Rattle.std.specs.Prelude.{◌≡◌, ◌++◌, ◌∷◌, [], List, replicate, IfOk, OnOk};
 ghost use Rattle.tokens_why.specs.declared.token.TokenKind.TheVariants.{RParen};
 ghost use Rattle.syntax_why.specs.Tree.{Form};

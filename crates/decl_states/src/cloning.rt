@@ -1,4 +1,5 @@
 // Clones with one more element.
+// They stand on the states; `read_bodies` stands on them.
 ghost use Rattle.std.specs.Prelude.{◌≡◌, IfOk};
 ghost use Rattle.syntax_why.specs.Declarations.{element_by};
 ghost use Rattle.grammar_decls.specs.DeclarationMachine as machine;

@@ -1,4 +1,5 @@
 // Groups of functions and predicates, and inductive predicates, with one more member or clause.
+// They stand on the states; `read_bodies` stands on them.
 ghost use Rattle.std.specs.Prelude.{◌≡◌, [], ◌∷◌, ◌++◌, map, option_map, IfOk};
 ghost use Rattle.syntax_why.specs.Tree.{tree_of, type_of};
 ghost use Rattle.syntax_why.specs.Declarations.{declared_name, param_of, member_of, inductive_of, plain_name};

@@ -1,4 +1,5 @@
 // Headers with one more parameter or field, and algebraic types with one more constructor.
+// They stand on the states; `read_headers` and `read_bodies` stand on them.
 ghost use Rattle.std.specs.Prelude.{◌≡◌, [], ◌∷◌, ◌++◌, map, false, IfOk};
 ghost use Rattle.syntax_why.specs.Tree.{type_of, words};
 ghost use Rattle.syntax_why.specs.Declarations.{algebraic_of, param_of};

@@ -1,4 +1,5 @@
 // Names of what is declared, from the texts of their tokens.
+// They stand on the names of `parse_forms`; all readers of declarations stand on them.
 ghost use Rattle.std.specs.Prelude.{◌≡◌, [], ◌∷◌, ◌++◌, IfOk};
 ghost use Rattle.syntax_why.specs.Tree.{lower_name, upper_name, infix_name, prefix_name, star_name, op_text, words};
 ghost use Rattle.syntax_why.specs.Declarations.{declared_name, plain_name};

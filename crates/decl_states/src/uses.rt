@@ -1,4 +1,5 @@
 // A type or an expression in a declaration, and the token behind it.
+// They stand on the states and the readers of types and expressions; `read_headers` and `read_bodies` stand on them.
 ghost use Rattle.std.specs.Prelude.{◌≡◌};
 ghost use Rattle.grammar_decls.specs.DeclarationMachine.{type_for, expr_for};
 ghost use Rattle.decl_states.specs.DeclStates.{type_use_of, expr_use_of, state_of};

@@ -1,4 +1,5 @@
 // A stage brought back: from derivations of the tasks that a task became, a derivation of the task.
+// It stands on drafts and on the laws of a transformation; `lift` of the program stands on it.
 ghost use Rattle.std.specs.Prelude.{◌≡◌, ◌<◌, [], ◌∷◌, length, map, get_or, All, IfOk};
 ghost use Rattle.trees.specs.Node.{tree_at, Holds};
 ghost use Rattle.tasks.specs.Task.{neg, start};

@@ -1,4 +1,5 @@
 // Transformations, and the laws by which refutations of what they make are brought back.
+// They stand on drafts; each transformation's crate gives them once, and `lift_stage` is proved from them alone.
 ghost use Rattle.std.specs.Prelude.{◌≡◌, List, [], ◌∷◌, All, IfOk, IfErr, ⊤};
 ghost use Rattle.trees.specs.Node.{Holds, Grows};
 ghost use Rattle.tasks.specs.Task.{TaskTree, neg, start};

@@ -1,4 +1,5 @@
 // The formulas that a premise adds to a sequent.
+// They stand on the shapes; the rows of the table and the checker of a step stand on them.
 ghost use Rattle.std.specs.Prelude.{◌≡◌, ◌↔◌, ◌<◌, [], ◌∷◌, length, map, All, IsTrue};
 ghost use Rattle.trees.specs.Node.{tree_at, Holds};
 ghost use Rattle.tasks.specs.Meaning.{trees_at};

@@ -1,7 +1,8 @@
 // The table of rules: whether a step's row holds.
+// It stands on the shapes and on what premises add; the checker of a step stands on it.
 ghost use Rattle.std.specs.Prelude.{◌≡◌, ◌↔◌, ◌<◌, length, map, slice_get, Some, All, IsTrue};
 ghost use Rattle.trees.specs.Node.{tree_at, Holds};
-ghost use Rattle.tasks.specs.Valid.{IsGroundFormula, IsTypeOver};
+ghost use Rattle.tasks.specs.Valid.{IsTypeOver};
 ghost use Rattle.tasks.specs.Meaning.{trees_at, task_at, TaskHeld};
 ghost use Rattle.kernel.specs.Rows.{Row, sequents};
 ghost use Rattle.kernel.specs.Meaning.{rule_at, steps_at, StepHeld, StepsHeld};

@@ -1,4 +1,5 @@
 // The shapes of formulas that rules ask for.
+// They stand on the store; the table of rules stands on them.
 ghost use Rattle.std.specs.Prelude.{◌≡◌, slice_get, All, IfSome};
 ghost use Rattle.std.specs.Option.{option_map};
 ghost use Rattle.trees.specs.Node.{tree_at, Holds};

@@ -1,4 +1,5 @@
 // Which steps are right, and which steps derive a task.
+// It stands on the table of rules; drafts, step files and the program stand on it.
 ghost use Rattle.std.specs.Prelude.{◌≡◌, ◌↔◌, ◌<◌, length, take, All, IsTrue, IfSome, IfNone};
 ghost use Rattle.trees.specs.Node.{Holds};
 ghost use Rattle.tasks.specs.Task.{start};

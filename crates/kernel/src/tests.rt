@@ -1,4 +1,5 @@
 // Steps over a small task, right and wrong. A formula is a digit, by its place in `formulas`.
+// They stand on the checker; nothing stands on them.
 ghost use Rattle.std.specs.Prelude.{◌≡◌, [], None, All, IfOk, IfSome};
 ghost use Rattle.trees.specs.Node.{Holds};
 ghost use Rattle.tasks.specs.Meaning.{TaskHeld};

@@ -1,4 +1,5 @@
 // The entries of one scope: a list of them, and a map that finds what a name means without walking it.
+// It stands on a map of the standard library; scopes inside one another stand on it.
 ghost use Rattle.std.specs.Prelude.{◌≡◌, ◌≤◌, ◌<◌, ◌++◌, ◌∷◌, [], List, length, map, drop, if◌then◌else◌, ◌||◌, string_bytes, IfOk, OnOk, OnErr};
 ghost use Rattle.names_space.specs.declared.Table.{Table};
 ghost use Rattle.names_space.specs.Kept.{was_declared, thing_of};

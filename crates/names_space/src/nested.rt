@@ -1,4 +1,5 @@
 // Scopes inside one another, and the search for a name with its qualifiers.
+// They stand on the entries of one scope; who gives names their meaning stands on them.
 ghost use Rattle.std.specs.Prelude.{◌≡◌, ◌↔◌, ◌<◌, ◌≢◌, Some, List, [], ◌++◌, true, false, length, map, reverse, get_or, string_bytes, IsOk, IsTrue, IsNone, IfSome, IfOk, IfErr, OnOk, OnErr};
 ghost use Rattle.names_space.specs.Names.{start, find, find_within, first_found, latest, table_before, is_declared, imported, Entry, entries_of, innermost, with_entry, with_scope, with_import, closed};
 ghost use Rattle.names_space.specs.Kept.{brought_before};

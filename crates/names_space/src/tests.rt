@@ -1,4 +1,5 @@
 // What names mean after scopes are opened, closed, used and imported, with the answers of the rules of names.
+// They stand on the calls of scopes; nothing stands on them.
 use crate::{NameFault, Scope, Table};
 use std::alloc::{AllocError, Global};
 use std::test::Fail;

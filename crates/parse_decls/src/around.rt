@@ -1,4 +1,5 @@
 // What is open around a declaration: a theory behind others, and the scopes in it.
+// It stands on the states of a source; the reader of sources stands on it.
 ghost use Rattle.std.specs.Prelude.{◌≡◌, [], ◌∷◌, ◌++◌, map, Some, IfOk};
 ghost use Rattle.syntax_why.specs.Declarations.{decl_of, theory_of};
 ghost use Rattle.grammar_decls.specs.SourceMachine as machine;

@@ -1,4 +1,5 @@
 // Tokens that complete a source, and the law that tokens have one file at most.
+// They stand on the reader of sources and on the kinds that complete a state.
 ghost use Rattle.std.specs.Prelude.{◌≡◌, ◌≤◌, List, length, take, Some, IfOk};
 ghost use Rattle.tokens_why.specs.Tokens.{AreTokens};
 ghost use Rattle.syntax_why.specs.Lexeme.{Lexeme, rest};

@@ -1,4 +1,5 @@
 // Kinds of tokens that complete what was read of a source.
+// They stand on `complete_decls`; the tokens that complete a source stand on them.
 ghost use Rattle.std.specs.Prelude.{◌≡◌, ◌++◌, OnOk, IfOk, replicate};
 ghost use Rattle.tokens_why.specs.declared.token.TokenKind.TheVariants.{Reserved};
 ghost use Rattle.syntax_why.specs.Lexeme.{kinds};

@@ -1,4 +1,5 @@
 // How deep tokens are nested: the first that is nested too deep.
+// It stands on the tokens and the keywords; `parse` asks it before it reads a tree.
 ghost use Rattle.std.specs.Prelude.{◌≡◌, ◌<◌, ◌≤◌, List, ℕ, [], length, slice_get, Some, IfOk, MatchOption};
 ghost use Rattle.syntax_why.specs.Tree.{Word};
 ghost use Rattle.tokens_why.specs.declared.token.Token.{Token};

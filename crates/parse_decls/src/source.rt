@@ -1,4 +1,5 @@
 // The file of a source, or its first fault.
+// It stands on the reader of sources, the depth of tokens and the places of a file.
 ghost use Rattle.std.specs.Prelude.{◌≡◌, ◌<◌, ◌^◌, [], length, slice_get, option_map, Some, IfOk, IfErr};
 ghost use Rattle.tokens_why.specs.declared.token.Token.{Token};
 ghost use Rattle.tokens_why.specs.Tokens.{AreTokens};

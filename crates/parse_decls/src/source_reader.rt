@@ -1,4 +1,5 @@
 // One token of a source, and the file.
+// It stands on the readers of declarations; `parse` feeds it each token in turn.
 ghost use Rattle.std.specs.Prelude.{◌≡◌, [], map, option_map, Some, IfOk};
 ghost use Rattle.syntax_why.specs.Declarations.{decl_of, file_of, theory_of};
 ghost use Rattle.grammar.specs.Walk.{onward};

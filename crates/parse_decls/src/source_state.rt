@@ -1,4 +1,5 @@
 // What was read last of a source.
+// It stands on the states of a declaration; the reader of sources and its completion stand on it.
 use decl_states::DeclState;
 use outside::Seq;
 use parse_forms::Stack;

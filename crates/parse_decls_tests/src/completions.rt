@@ -1,4 +1,5 @@
 // Tokens that complete those before a fault.
+// They stand on `complete`; the seeded tests stand on them.
 ghost use Rattle.tokens_why.specs.Tokens.{AreTokens};
 ghost use Rattle.syntax_why.specs.Lexeme.{rest};
 ghost use Rattle.parse_decls.specs.Faults.{IsRefusal};

@@ -1,4 +1,5 @@
 // Parentheses that are nested as deep as they may be, and deeper.
+// They stand on the readings; nothing stands on them.
 use crate::readings::shown;
 use std::alloc::{AllocError, Global};
 use std::test::Fail;

@@ -1,4 +1,5 @@
 // Texts that are sources, and texts with the number of their fault and its token.
+// They stand on `parse` and `unparse`; the other tables stand on them.
 use parse_decls::{SyntaxFault, parse};
 use std::alloc::{AllocError, Global};
 use std::process::Abort;

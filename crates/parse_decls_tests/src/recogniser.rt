@@ -1,4 +1,5 @@
 // Whether words begin a token string of the small grammar, found from its rules alone.
+// It stands on the small grammar and not on the reader, so that the two can be compared.
 use crate::small_grammar::{Row, is_rule, push_parts};
 use std::alloc::{AllocError, Global};
 

@@ -1,4 +1,5 @@
 // A thousand token strings of the small grammar, and a thousand with one token changed.
+// They stand on the reader, the recogniser and the sentences; nothing stands on them.
 ghost use Rattle.tokens_why.specs.Tokens.{AreTokens};
 
 use crate::completions::completion_len;

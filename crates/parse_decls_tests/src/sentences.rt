@@ -1,4 +1,5 @@
 // Token strings of the small grammar, drawn by a seeded generator, and those with one token changed.
+// They stand on the small grammar; the seeded tests stand on them.
 use crate::small_grammar::{Row, is_rule, push_parts};
 use std::alloc::{AllocError, Global};
 

@@ -1,4 +1,5 @@
 // A small grammar of sources, for tests alone: what it describes are sources, and not all of them.
+// It stands on nothing; the recogniser and the sentences stand on it.
 use std::alloc::{AllocError, Global};
 
 /// The name of a rule, and its parts. A part in angle brackets is a rule.

@@ -1,4 +1,5 @@
 // Declarations that differ from others in a token.
+// They stand on the readings; nothing stands on them.
 use crate::readings::compare;
 use std::test::Fail;
 

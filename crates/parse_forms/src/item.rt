@@ -1,4 +1,5 @@
 // A token with its text, as the readers take it.
+// It stands on the tokens; every reader takes its tokens so.
 ghost use Rattle.std.specs.Prelude.{◌≡◌, Some};
 ghost use Rattle.tokens_why.specs.declared.token.TokenKind.TheVariants.{Lident, Uident};
 ghost use Rattle.tokens_why.specs.Strings.{kind_of};

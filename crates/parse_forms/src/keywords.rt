@@ -1,4 +1,5 @@
 // The reserved words that stand in declarations alone.
+// They stand on nothing; the readers of declarations ask for them.
 ghost use Rattle.std.specs.Prelude.{◌≡◌};
 ghost use Rattle.syntax_why.specs.Keywords.{keyword};
 ghost use Rattle.parse_forms.specs.Words.{keyword_by};

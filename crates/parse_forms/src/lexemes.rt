@@ -1,4 +1,5 @@
 // The item of a token.
+// It stands on what a kind of token is; who feeds a reader makes its items so.
 ghost use Rattle.std.specs.Prelude.{◌≡◌, ◌≤◌, Some, IfOk};
 ghost use Rattle.syntax_why.specs.Tree.{Word, op_by};
 ghost use Rattle.tokens_why.specs.declared.token.TokenKind.TheVariants.{Lident, Uident, Int};

@@ -1,4 +1,5 @@
 // Which mark an item is.
+// It stands on the item of a token; every reader asks so which sign or word it has.
 ghost use Rattle.std.specs.Prelude.{◌≡◌, false, MatchOption};
 ghost use Rattle.syntax_why.specs.Lexeme.{mark};
 ghost use Rattle.grammar.specs.Marks.{as_is, bar_is, colon_is, comma_is, dot_is, mark_is, with_is};

@@ -1,4 +1,5 @@
 // Names from the texts of their tokens, with no places yet.
+// They stand on the trees' names; the readers of types, patterns and expressions make their names so.
 ghost use Rattle.std.specs.Prelude.{◌≡◌};
 ghost use Rattle.syntax_why.specs.Tree.{called_of, lower_name, upper_name, infix_name, prefix_name, star_name, op_of, op_text};
 

@@ -1,4 +1,5 @@
 // Reading a pattern token by token, with what is still open on a stack.
+// It stands on items and stacks; the readers of expressions stand on it.
 ghost use Rattle.std.specs.Prelude.{◌≡◌, ◌∷◌, ◌++◌, [], map, option_map, Some, None, IfOk};
 ghost use Rattle.syntax_why.specs.Tree.{pattern_of, called_of, composed, no_forms};
 ghost use Rattle.syntax_why.specs.Levels.{patterns};

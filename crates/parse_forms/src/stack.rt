@@ -1,4 +1,5 @@
 // What is open, the innermost on top.
+// It stands on nothing; the readers of types, patterns and expressions stand on it.
 ghost use Rattle.std.specs.Prelude.{◌≡◌, length, [], ◌∷◌, ◌↔◌, IsTrue, IfOk, MatchOption};
 ghost use Rattle.std.specs.Option.{option_copied};
 ghost use Rattle.parse_forms.specs.Tops.{top_of};

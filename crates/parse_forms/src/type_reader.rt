@@ -1,4 +1,5 @@
 // Reading a type token by token, with what is still open on a stack.
+// It stands on items and stacks; the readers of expressions and of declarations stand on it.
 ghost use Rattle.std.specs.Prelude.{◌≡◌, ◌∷◌, ◌++◌, [], map, option_map, Some, None, IfOk};
 ghost use Rattle.syntax_why.specs.Tree.{type_of, called_of};
 ghost use Rattle.syntax_why.specs.Levels.{types};

@@ -1,4 +1,5 @@
 // Tokens that complete an expression, and the law that tokens have one tree at most.
+// They stand on `parse_expr` and on the kinds that complete a state.
 ghost use Rattle.std.specs.Prelude.{◌≡◌, ◌≤◌, List, length, IfOk};
 ghost use Rattle.tokens_why.specs.Tokens.{AreTokens};
 ghost use Rattle.syntax_why.specs.Tree.{Tree};

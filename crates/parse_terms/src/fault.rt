@@ -1,4 +1,5 @@
 // Why tokens are no source.
+// It stands on nothing; `parse_expr` and `parse` answer it.
 ghost use Rattle.std.specs.Prelude.{◌≡◌};
 ghost use Rattle.parse_terms.specs.declared.fault.SyntaxFault.TheVariants.{Memory as NoMemory};
 

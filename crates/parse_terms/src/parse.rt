@@ -1,4 +1,5 @@
 // The longest expression from a place, or where none stands any more.
+// It stands on the reader of expressions, how far it goes, and the places of a tree.
 ghost use Rattle.std.specs.Prelude.{◌≡◌, ◌≤◌, ◌<◌, ◌+◌, ◌^◌, List, ℕ, length, slice_get, option_map, Some, IfOk, IfErr};
 ghost use Rattle.tokens_why.specs.declared.token.Token.{Token};
 ghost use Rattle.tokens_why.specs.Tokens.{AreTokens};

@@ -1,4 +1,5 @@
 // Tokens that complete those before a fault.
+// They stand on `complete_expr`; nothing stands on them.
 use parse_terms::{SyntaxFault, complete_expr, has_one_tree, parse_expr};
 use std::alloc::{AllocError, Global};
 use std::test::Fail;

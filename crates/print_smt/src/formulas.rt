@@ -1,4 +1,5 @@
 // Formulas as text.
+// They stand on the names by their symbols; the text of a problem stands on them.
 ghost use Rattle.std.specs.Prelude.{◌≡◌, ◌++◌, OnOk};
 ghost use Rattle.trees.specs.Node.{tree_at, Holds};
 ghost use Rattle.print_smt.specs.Index.{IsIndex};

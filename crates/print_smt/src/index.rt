@@ -1,4 +1,5 @@
 // The names of a table by their symbols.
+// They stand on a problem's table; the texts of formulas stand on them.
 ghost use Rattle.std.specs.Prelude.{◌≡◌, ◌++◌, slice_index, IfOk, OnOk};
 ghost use Rattle.problems.specs.Names.{name_in};
 ghost use Rattle.print_smt.specs.Index.{IsIndex, SymbolsBelow, noted};

@@ -1,4 +1,5 @@
 // The text of a problem.
+// It stands on the texts of formulas; `print` of the program stands on it.
 ghost use Rattle.std.specs.Prelude.{◌≡◌, ◌++◌, length, All, IfOk, OnOk};
 ghost use Rattle.std.specs.List.{flat_map};
 ghost use Rattle.trees.specs.Node.{Holds};

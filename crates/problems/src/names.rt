@@ -1,4 +1,5 @@
 // The entries of a name table.
+// They stand on the symbols that a task uses; the printer and the step files stand on them.
 ghost use Rattle.std.specs.Prelude.{◌≡◌, ◌++◌, false, map, slice_index_or, IfOk, OnOk};
 ghost use Rattle.tasks.specs.Meaning.{task_at, TaskHeld};
 ghost use Rattle.problems.specs.Used.{DeclaresEntries};

@@ -1,5 +1,6 @@
 // Which symbols occur in a task's formulas, marked by number.
-ghost use Rattle.std.specs.Prelude.{◌≡◌, ℕ, ◌<◌, ◌==◌, map, All, IfOk};
+// They stand on the task's trees; the entries of a name table stand on them.
+ghost use Rattle.std.specs.Prelude.{◌<◌, ◌==◌, map, All, IfOk};
 ghost use Rattle.std.specs.List.{list_any};
 ghost use Rattle.trees.specs.Node.{tree_at, head_of_node, Holds};
 ghost use Rattle.tasks.specs.Task.{props_of};

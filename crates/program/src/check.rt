@@ -1,6 +1,5 @@
 // The command `check`: whether a file derives a goal from the goal's own theory.
-ghost use Rattle.std.specs.Prelude.{◌≡◌};
-ghost use Rattle.outside.specs.State.{LibraryState};
+// It stands on the goal's task and on the checker; the top call stands on it.
 ghost use Rattle.tasks.specs.Meaning.{task_at, TaskHeld};
 ghost use Rattle.program.specs.Answers.{Ends, IsStageAnswer, bytes_of};
 ghost use Rattle.program.specs.Order.{CheckText, Checks};

@@ -1,11 +1,10 @@
 // The derivation of a task that refutations of its parts are lifted to, and its text.
-ghost use Rattle.std.specs.Prelude.{◌≡◌, ◌<◌, ◌-◌, ◌+◌, [], ◌++◌, length, All, IfOk, ⊤};
-ghost use Rattle.trees.specs.Node.{Grows};
+// It stands on the stage that is lifted and on the writer of steps; `lift` stands on it.
+ghost use Rattle.std.specs.Prelude.{◌≡◌, ◌<◌, ◌-◌, ◌+◌, [], length, IfOk, ⊤};
 ghost use Rattle.tasks.specs.Task.{start};
 ghost use Rattle.tasks.specs.Meaning.{task_at, tasks_at, TaskHeld, TasksHeld};
 ghost use Rattle.tasks.specs.Valid.{IsValid};
-ghost use Rattle.kernel.specs.Rows.{Closes, last_starts, step_or};
-ghost use Rattle.kernel.specs.Meaning.{steps_at, StepsHeld};
+ghost use Rattle.kernel.specs.Rows.{last_starts};
 ghost use Rattle.evidence.specs.Drafts.{Extends, Refutes};
 ghost use Rattle.evidence.specs.Stages.{parts_at, PartsHeld};
 ghost use Rattle.evidence.specs.Languages.{StepsAreIn, StaysIn};

@@ -1,4 +1,5 @@
 // The numbers of a fault: its code, then its fields.
+// They stand on the faults; the lines of a refusal stand on them.
 ghost use Rattle.std.specs.Prelude.{◌≡◌, ◌++◌, OnOk};
 ghost use Rattle.program.specs.Faults.{numbers};
 ghost use Rattle.program.specs.Lines.{spaced};

@@ -1,6 +1,6 @@
 // The files that a run fetches, by their numbers.
-ghost use Rattle.std.specs.Prelude.{◌≡◌, ◌+◌, ℕ};
-ghost use Rattle.outside.specs.State.{LibraryState};
+// They stand on the library; each command's files go through them.
+ghost use Rattle.std.specs.Prelude.{◌+◌};
 ghost use Rattle.program.specs.Answers.{Answers, bytes_of};
 ghost use Rattle.program.specs.Order.{ShortFile, WholeFile};
 

@@ -1,6 +1,6 @@
 // The task of a goal, from a source that is fetched.
-ghost use Rattle.std.specs.Prelude.{◌≡◌, IfOk};
-ghost use Rattle.outside.specs.State.{LibraryState};
+// It stands on the readers, on `propositional` and on the fetched files; all commands stand on it.
+ghost use Rattle.std.specs.Prelude.{IfOk};
 ghost use Rattle.tasks.specs.Meaning.{task_at, TaskHeld};
 ghost use Rattle.tasks.specs.Valid.{IsValid};
 ghost use Rattle.propositional.specs.Meaning.{theories_at, TheoriesHeld};

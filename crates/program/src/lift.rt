@@ -1,6 +1,6 @@
 // The command `lift`: from refutations of a goal's problems, a derivation of the goal from its theory.
-ghost use Rattle.std.specs.Prelude.{◌≡◌, ◌≢◌, ◌+◌, ℕ, codes, length, map, string_bytes, MatchResult};
-ghost use Rattle.outside.specs.State.{LibraryState};
+// It stands on the goal's task, the refutations and the derivation; the top call stands on it.
+ghost use Rattle.std.specs.Prelude.{◌≡◌, ◌≢◌, ◌+◌, codes, length, map, string_bytes, MatchResult};
 ghost use Rattle.tasks.specs.Meaning.{task_at, TaskHeld};
 ghost use Rattle.tasks.specs.Valid.{IsValid};
 ghost use Rattle.program.specs.Fragment.{IsInFragment};

@@ -1,14 +1,12 @@
 // The command `print`: the problems of a goal, in order.
-ghost use Rattle.std.specs.Prelude.{◌≡◌, ◌++◌, ℕ, codes, All, IfOk, OnOk};
-ghost use Rattle.outside.specs.State.{LibraryState};
-ghost use Rattle.trees.specs.Node.{Grows};
+// It stands on the goal's task, its transformation and the printer; the top call stands on it.
+ghost use Rattle.std.specs.Prelude.{◌≡◌, ◌++◌, codes, All, IfOk, OnOk};
 ghost use Rattle.tasks.specs.Meaning.{task_at, tasks_at, TaskHeld, TasksHeld};
 ghost use Rattle.tasks.specs.Valid.{IsValid};
 ghost use Rattle.problems.specs.Used.{DeclaresEntries};
-ghost use Rattle.program.specs.Answers.{Answers, Ends, bytes_of};
-ghost use Rattle.program.specs.Order.{Goal, PrintText};
+ghost use Rattle.program.specs.Answers.{Ends, bytes_of};
+ghost use Rattle.program.specs.Order.{PrintText};
 ghost use Rattle.program.specs.Texts.{problem_text, problem_texts, printed};
-ghost use Rattle.program.specs.Values.{task_in};
 
 use crate::RunFault;
 use crate::goal::find_task;

@@ -1,6 +1,6 @@
 // The refutations that are handed in, one file for each part of a goal, read in turn.
-ghost use Rattle.std.specs.Prelude.{◌≡◌, ◌+◌, ◌^◌, ◌<◌, ℕ, List, length, map, All, IfOk, string_bytes};
-ghost use Rattle.outside.specs.State.{LibraryState};
+// They stand on the fetched files and the reader of steps; `lift` stands on them.
+ghost use Rattle.std.specs.Prelude.{◌≡◌, ◌+◌, ◌^◌, ◌<◌, length, map, All, IfOk, string_bytes};
 ghost use Rattle.trees.specs.Node.{Grows};
 ghost use Rattle.tasks.specs.Meaning.{task_at, tasks_at, TaskHeld, TasksHeld};
 ghost use Rattle.kernel.specs.Meaning.{steps_at, StepsHeld};

@@ -1,4 +1,5 @@
 // The command `check` over files in memory: expected answers are reasoned from the rules of the calculus.
+// They stand on the tables' runs; nothing stands on them.
 use crate::tables::{sink, strings};
 use outside::MemoryLibrary;
 use program::run;

@@ -1,4 +1,5 @@
 // The command `lift` over files in memory: expected answers are reasoned from the rules of the calculus.
+// They stand on the tables' runs; nothing stands on them.
 use crate::tables::{sink, strings};
 use outside::{MemoryLibrary, MemorySink};
 use program::run;

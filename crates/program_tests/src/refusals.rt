@@ -1,4 +1,5 @@
 // Sources that are refused, each at its place: expected lines are reasoned from the order of faults.
+// They stand on the tables' runs; nothing stands on them.
 use crate::tables::{sink, strings};
 use outside::MemoryLibrary;
 use program::run;

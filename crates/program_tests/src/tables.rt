@@ -1,4 +1,5 @@
 // The whole program over a library and sinks in memory: expected texts and lines are reasoned from the rules.
+// They stand on `run`; the tests of each command stand on them.
 use outside::{MemoryLibrary, MemorySink};
 use program::{Status, run};
 use std::alloc::{AllocError, Global};

@@ -1,8 +1,7 @@
 -- How a reader's theory grows by a declaration.
-use Rattle.std.proofs.Common.{◌≡◌, ◌+◌, Bool, true, false, if◌then◌else◌, List, [], ◌∷◌, ◌++◌, map, length, get_or, All, Option, Some, None, refl, sym, ap, ◌∙◌, subst, arith}
+use Rattle.std.proofs.Common.{◌≡◌, ◌+◌, Bool, false, if◌then◌else◌, List, [], ◌∷◌, ◌++◌, map, length, get_or, All, Option, Some, None, refl, sym, ap, ◌∙◌, subst, arith}
 use Rattle.std.proofs.lemmas.List.{map-append, length-map}
 use Rattle.std.proofs.lemmas.List.Elements.{All-nil, All-push}
-use Rattle.std.specs.Option.{is_some}
 use Rattle.trees.specs.Tree.{Tree}
 use Rattle.trees.specs.Node.{Holds, Grows}
 use Rattle.tasks.specs.declared.signature.SymbolInfo.{SymbolInfo}

@@ -1,7 +1,6 @@
 // The task of a goal of a file's theories.
 // The program makes by it what it carries through the transformations.
 ghost use Rattle.std.specs.Prelude.{◌≡◌, List, Ok, IfOk, take};
-ghost use Rattle.trees.specs.Tree.{Tree};
 ghost use Rattle.tasks.specs.Meaning.{TaskHeld, task_at};
 ghost use Rattle.tasks.specs.Valid.{IsValid};
 ghost use Rattle.syntax_why.specs.Declarations.{Theory as Surface};

@@ -1,4 +1,5 @@
 // Files with a fault, and the first fault of each.
+// They stand on the files that are built by hand; nothing stands on them.
 ghost use Rattle.std.specs.Prelude.{◌≡◌, ◌+◌, ◌≤◌};
 ghost use Rattle.syntax_why.specs.Declarations.{file_of};
 ghost use Rattle.syntax_why.specs.CarriedDeclarations.{file_places_of};

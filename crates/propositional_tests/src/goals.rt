@@ -1,4 +1,5 @@
 // The tasks of goals and lemmas.
+// They stand on the files that are built by hand; nothing stands on them.
 ghost use Rattle.std.specs.Prelude.{◌≡◌};
 ghost use Rattle.syntax_why.specs.Declarations.{file_of};
 ghost use Rattle.syntax_why.specs.CarriedDeclarations.{file_places_of};

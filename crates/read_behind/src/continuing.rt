@@ -1,4 +1,5 @@
 // The token behind an expression: an operator, or a token of what waits for the expression.
+// It stands on what waits for an expression; the tokens of names stand on it.
 ghost use Rattle.std.specs.Prelude.{◌≡◌, map, option_map, Some, None, IfOk};
 ghost use Rattle.syntax_why.specs.Tree.{tree_of, called_of, apply, op_text};
 ghost use Rattle.syntax_why.specs.Lexeme.{run};

@@ -1,4 +1,5 @@
 // The tokens of names: behind a name in upper case, a dot, and in parentheses.
+// They stand on the tokens behind an expression; the reader of expressions stands on them.
 ghost use Rattle.std.specs.Prelude.{◌≡◌, option_map, Some, None, IfOk};
 ghost use Rattle.syntax_why.specs.Tree.{op_text};
 ghost use Rattle.syntax_why.specs.Lexeme as lexeme;

@@ -1,4 +1,5 @@
 // The token behind a whole expression, in the part that waits for it.
+// It stands on the states of the reader of expressions; the tokens behind an expression stand on it.
 ghost use Rattle.std.specs.Prelude.{◌≡◌, ◌∷◌, ◌++◌, [], map, option_map, Some, None, IfOk};
 ghost use Rattle.syntax_why.specs.Tree.{tree_of, arm_of, pattern_of, binder_of, alternatives, trees, branches, cases};
 ghost use Rattle.grammar.specs.Machine.{at_inside, at_inside_more, at_scrutinee, at_arm, at_condition, at_consequent, at_value, at_term, up, closed, with_arm, term as expression_term};

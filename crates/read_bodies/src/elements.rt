@@ -1,4 +1,5 @@
 // The elements of a clone.
+// They stand on the states of the reader of declarations; the names in them stand on these.
 ghost use Rattle.std.specs.Prelude.{◌≡◌, [], option_map, IfOk};
 ghost use Rattle.syntax_why.specs.Tree.{called_of, words};
 ghost use Rattle.grammar_decls.specs.DeclarationMachine as machine;

@@ -1,4 +1,5 @@
 // An expression in a declaration, and the token behind it.
+// They stand on the states and on the reader of expressions; `read_decls` stands on them.
 ghost use Rattle.std.specs.Prelude.{◌≡◌, [], map, option_map, Some, None, IfOk};
 ghost use Rattle.syntax_why.specs.declared.marks.Mark.TheVariants.{Bar, With};
 ghost use Rattle.syntax_why.specs.Tree.{tree_of, type_of};

@@ -1,4 +1,5 @@
 // `use` and `clone` up to the elements of a clone.
+// They stand on the states of the reader of declarations; `read_decls` stands on them.
 ghost use Rattle.std.specs.Prelude.{◌≡◌, ◌∷◌, ◌++◌, [], option_map, Some, None, IfOk};
 ghost use Rattle.syntax_why.specs.declared.declarations.Link.TheVariants.{Bare};
 ghost use Rattle.syntax_why.specs.Lexeme as lexeme;

@@ -1,4 +1,5 @@
 // Constants, propositions and the clauses of inductive predicates.
+// They stand on the names of what is declared; `read_decls` stands on them.
 ghost use Rattle.std.specs.Prelude.{◌≡◌, [], map, option_map, false};
 ghost use Rattle.syntax_why.specs.Lexeme as lexeme;
 ghost use Rattle.syntax_why.specs.Declarations.{declared_name, plain_name, param_of, inductive_of};

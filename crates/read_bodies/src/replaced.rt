@@ -1,4 +1,5 @@
 // The names in the elements of a clone.
+// They stand on the elements; `read_decls` stands on them.
 ghost use Rattle.std.specs.Prelude.{◌≡◌, [], option_map, Some, IfOk};
 ghost use Rattle.syntax_why.specs.Declarations.{prop_element};
 ghost use Rattle.syntax_why.specs.declared.marks.Mark.TheVariants.{Star, LParen};

@@ -1,4 +1,5 @@
 // The names of symbols and propositions that are declared.
+// They stand on the states of the reader of declarations; constants and propositions stand on them.
 ghost use Rattle.std.specs.Prelude.{◌≡◌, [], option_map, Some};
 ghost use Rattle.syntax_why.specs.declared.marks.Mark.TheVariants.{Star};
 ghost use Rattle.syntax_why.specs.Tree.{op_text};

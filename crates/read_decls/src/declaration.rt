@@ -1,4 +1,5 @@
 // A declaration that is no scope: its first word, its tokens, and where it ends.
+// It stands on `read_headers` and `read_bodies`; the reader of sources feeds it each token in turn.
 ghost use Rattle.std.specs.Prelude.{◌≡◌, option_map, IfOk};
 ghost use Rattle.grammar_decls.specs.DeclarationMachine.{at_decl_key, decl_step};
 ghost use Rattle.parse_forms.specs.Items.{lexeme_of};

@@ -1,4 +1,5 @@
 // Parameters of what is declared, fields of constructors, and the token behind them.
+// They stand on the states of the reader of declarations; types and parentheses stand on them.
 ghost use Rattle.std.specs.Prelude.{◌≡◌, [], map, option_map, Some, IfOk};
 ghost use Rattle.syntax_why.specs.Tree.{Word, type_of};
 ghost use Rattle.syntax_why.specs.Lexeme.{run, mark as mark_token};

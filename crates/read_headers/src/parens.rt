@@ -1,4 +1,5 @@
 // Parentheses among parameters: names of parameters before a colon, and else a type.
+// They stand on the parameters and the types behind them; `read_decls` stands on them.
 ghost use Rattle.std.specs.Prelude.{◌≡◌, [], ◌∷◌, ◌++◌, map, option_map, IfOk};
 ghost use Rattle.syntax_why.specs.Tree.{lower_name, called_of, type_of, words};
 ghost use Rattle.syntax_why.specs.Lexeme as lexeme;

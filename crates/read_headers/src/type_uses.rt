@@ -1,4 +1,5 @@
 // A type in a declaration, and the token behind it.
+// They stand on the parameters; parentheses, aliases and algebraic types stand on them.
 ghost use Rattle.std.specs.Prelude.{◌≡◌, map, option_map, Some, IfOk};
 ghost use Rattle.syntax_why.specs.Tree.{type_of, called_of, words, equal};
 ghost use Rattle.syntax_why.specs.Lexeme.{run, mark as mark_token};

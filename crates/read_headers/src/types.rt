@@ -1,4 +1,5 @@
 // Type symbols, aliases and algebraic types.
+// They stand on the parameters and the uses of types; `read_decls` stands on them.
 ghost use Rattle.std.specs.Prelude.{◌≡◌, [], map, option_map, Some, false, IfOk};
 ghost use Rattle.grammar.specs.FormMachine.{form_due};
 ghost use Rattle.syntax_why.specs.declared.marks.Mark.TheVariants.{Dot};

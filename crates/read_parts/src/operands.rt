@@ -1,4 +1,5 @@
 // The token where an operand is due, and behind an opening parenthesis.
+// They stand on the states of the reader of expressions; `read_terms` stands on them.
 ghost use Rattle.std.specs.Prelude.{◌≡◌, ◌∷◌, ◌&&◌, nat_le, [], option_map, Some, None, IfOk};
 ghost use Rattle.syntax_why.specs.Tree.{op_text};
 ghost use Rattle.syntax_why.specs.declared.marks.Mark.TheVariants.{Not};

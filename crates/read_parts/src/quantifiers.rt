@@ -1,4 +1,5 @@
 // The tokens of a quantifier's binders and triggers.
+// They stand on the states of the reader of expressions; the tokens behind a type stand on them.
 ghost use Rattle.std.specs.Prelude.{◌≡◌, ◌++◌, ◌∷◌, [], map, option_map, Some, None, IfOk};
 ghost use Rattle.syntax_why.specs.Tree.{tree_of, binder_of, words};
 ghost use Rattle.grammar.specs.Machine.{at_binder_end, at_named, at_binders, at_trigger_closed, binders as machine_binders};

@@ -1,4 +1,5 @@
 // The tokens behind a type or a pattern, in what waits for it.
+// They stand on the quantifiers; `read_terms` stands on them.
 ghost use Rattle.std.specs.Prelude.{◌≡◌, ◌++◌, ◌∷◌, [], map, option_map, Some, None, IfOk};
 ghost use Rattle.syntax_why.specs.Tree.{tree_of, type_of, pattern_of, arm_of, alternatives};
 ghost use Rattle.syntax_why.specs.Levels as levels;

@@ -1,4 +1,5 @@
 // One token of an expression, whether an expression ends here, and the expression.
+// It stands on `read_parts` and `read_behind`; `parse_terms` and the readers of declarations feed it each token in turn.
 ghost use Rattle.std.specs.Prelude.{◌≡◌, [], map, option_map, is_some, Some, None, IfOk};
 ghost use Rattle.syntax_why.specs.Tree.{tree_of, called_of, apply, trees};
 ghost use Rattle.grammar.specs.Machine as machine;

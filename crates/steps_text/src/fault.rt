@@ -1,4 +1,5 @@
 // Why a step file is not read.
+// It stands on nothing; the readers of step files answer it.
 use std::alloc::{AllocError, AllocFailed};
 
 /// Why a step file is not read.

@@ -1,5 +1,6 @@
 // Which lines are right.
-ghost use Rattle.std.specs.Prelude.{◌≡◌, ◌≤◌, ◌↔◌, min, Some, IsTrue, IfOk, IfSome, IfNone};
+// They stand on what a line makes and on the checker's conditions; the reader of lines stands on them.
+ghost use Rattle.std.specs.Prelude.{◌≤◌, ◌↔◌, min, Some, IsTrue, IfOk, IfSome, IfNone};
 ghost use Rattle.std.specs.Option.{ForSome};
 ghost use Rattle.trees.specs.Tree.{height};
 ghost use Rattle.trees.specs.Node.{tree_at, Holds, Grows};

@@ -1,5 +1,6 @@
 // A step file read line by line.
-ghost use Rattle.std.specs.Prelude.{◌≡◌, ◌+◌, ◌<◌, ◌++◌, [], length, get_or, min, false, IfOk, IfErr, OnOk};
+// It stands on right lines and what they make; the reader in pieces stands on it.
+ghost use Rattle.std.specs.Prelude.{◌≡◌, ◌+◌, ◌<◌, [], length, get_or, min, IfOk, IfErr, OnOk};
 ghost use Rattle.trees.specs.Node.{Grows};
 ghost use Rattle.tasks.specs.Meaning.{task_at, TaskHeld};
 ghost use Rattle.kernel.specs.Rows.{Closes};

@@ -1,4 +1,5 @@
 // A reader that is fed a step file in pieces.
+// It stands on the reader of lines; `check` and `lift` of the program stand on it.
 ghost use Rattle.std.specs.Prelude.{◌≡◌, List, ◌++◌, [], true, false, Err, IfOk, IfErr, OnOk, OnErr};
 ghost use Rattle.trees.specs.Node.{Grows};
 ghost use Rattle.tasks.specs.Meaning.{task_at, TaskHeld};

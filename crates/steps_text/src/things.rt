@@ -1,5 +1,6 @@
 // What a line makes: a formula, or a step.
-ghost use Rattle.std.specs.Prelude.{◌≡◌, [], Some, All, IfOk, IfSome, ◌∷◌, ℕ, slice_get};
+// They stand on the words of a line; the reader of lines stands on them.
+ghost use Rattle.std.specs.Prelude.{◌≡◌, [], Some, IfOk, IfSome, ℕ, slice_get};
 ghost use Rattle.std.specs.Option.{option_map, option_and_then};
 ghost use Rattle.trees.specs.Tree.{Two, Leaf, HPred, HEnd};
 ghost use Rattle.trees.specs.Node.{tree_at, Holds, Grows};

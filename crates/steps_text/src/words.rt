@@ -1,9 +1,10 @@
 // Words of a line, and the numbers that they write.
-ghost use Rattle.std.specs.Prelude.{◌≡◌, ◌<◌, ◌+◌, ◌↔◌, Some, None, length, take, drop, map, IsTrue, IfOk, MatchOption, ◌==◌};
+// They stand on nothing; what a line makes stands on them.
+ghost use Rattle.std.specs.Prelude.{◌≡◌, ◌<◌, ◌+◌, Some, None, length, take, drop, IfOk, MatchOption, ◌==◌};
 ghost use Rattle.std.specs.List.{slice_split};
 ghost use Rattle.std.specs.Str.{bytes_eq};
 ghost use Rattle.std.specs.Option.{option_map};
-ghost use Rattle.steps_text.specs.Words.{lines_of, words_of, number, number_from, numbers, texts, is_colon, before_colon, after_colon};
+ghost use Rattle.steps_text.specs.Words.{lines_of, words_of, number, number_from, numbers, texts, before_colon, after_colon};
 
 use std::alloc::{AllocError, Global};
 

@@ -1,7 +1,8 @@
 // Step files written: each formula once, by a line of its own before the first step that refers to it.
-ghost use Rattle.std.specs.Prelude.{◌≡◌, ◌^◌, ◌<◌, ◌++◌, ◌∷◌, [], ℕ, Option, Some, None, map, length, get_or, codes, All, IsTrue, IfOk, OnOk};
+// They stand on the steps' meaning; `lift` of the program writes its derivation so.
+ghost use Rattle.std.specs.Prelude.{◌≡◌, ◌^◌, ◌<◌, ◌++◌, ◌∷◌, [], ℕ, Option, Some, None, length, get_or, codes, All, IsTrue, IfOk, OnOk};
 ghost use Rattle.std.specs.Fmt.{decimal};
-ghost use Rattle.trees.specs.Node.{tree_at, node_tree, Holds};
+ghost use Rattle.trees.specs.Node.{tree_at, Holds};
 ghost use Rattle.tasks.specs.Meaning.{task_at, trees_at};
 ghost use Rattle.kernel.specs.Rows.{Closes};
 ghost use Rattle.kernel.specs.Meaning.{rule_at, step_at, steps_at, RuleHeld, StepHeld, StepsHeld};

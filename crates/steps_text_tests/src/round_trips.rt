@@ -1,4 +1,5 @@
 // The refutations of the two problems of a small theory: cut at every place, and written and read back.
+// They stand on the reader and the writer; the mutated files stand on them.
 ghost use Rattle.std.specs.Prelude.{◌≡◌, [], None, IfOk};
 ghost use Rattle.trees.specs.Node.{Holds};
 ghost use Rattle.tasks.specs.Meaning.{TaskHeld};

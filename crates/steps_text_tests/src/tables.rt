@@ -1,4 +1,5 @@
 // Step files over a small task, whose goal is `p -> p`.
+// They stand on the reader; nothing stands on them.
 ghost use Rattle.std.specs.Prelude.{◌≡◌, [], None, IfOk};
 ghost use Rattle.tasks.specs.Meaning.{TaskHeld};
 

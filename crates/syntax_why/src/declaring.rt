@@ -1,4 +1,5 @@
 // Makers of declarations, each of which says what plain tree it makes and which places that carries.
+// They stand on the trees; no one else builds a declaration's node with its places.
 ghost use Rattle.std.specs.Prelude.{◌≡◌, ◌∷◌, ◌++◌, map, option_map};
 ghost use Rattle.syntax_why.specs.Tree.{type_of, tree_of, words};
 ghost use Rattle.syntax_why.specs.Declarations.{declared_name, plain_name, name_text, param_of, member_of, algebraic_of, inductive_of, element_of, decls, decl_of, type_decl, algebraic_decl, function_decl, predicate_decl, constant_decl, inductive_decl, prop_decl, use_decl, clone_decl, scope_decl};

@@ -1,4 +1,5 @@
 // Makers of trees, each of which says what plain tree it makes and which places that carries.
+// They stand on the trees; no one else builds a node of an expression, a pattern or a type with its places.
 ghost use Rattle.std.specs.Prelude.{◌≡◌, [], ◌∷◌, ◌++◌, map, option_map, IfOk};
 ghost use Rattle.std.specs.List.{concat};
 ghost use Rattle.std.specs.Option.{unwrap_or};

@@ -1,3 +1,5 @@
+// The surface trees of patterns.
+// They hold names; the branches and bindings of expressions stand on them.
 use crate::names::{At, Name, QName};
 use outside::{Boxed, Seq};
 

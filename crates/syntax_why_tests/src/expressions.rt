@@ -1,4 +1,5 @@
 // Expressions made by hand.
+// They stand on the parts; nothing stands on them.
 use crate::parts::{HERE, atom, called, name, one, operator, text, two, writes};
 use outside::Seq;
 use std::alloc::Global;

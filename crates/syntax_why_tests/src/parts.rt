@@ -1,4 +1,5 @@
 // Parts of trees, made with ample memory, and the comparison of a tree with a text.
+// They stand on `unparse_expr` and the tokens; the tables of expressions stand on them.
 use outside::{Seq, Text};
 use std::alloc::Global;
 use std::process::Abort;

@@ -1,4 +1,5 @@
 // Declarations of a task.
+// They stand on the terms' numbers; tasks, transformations and printers stand on them.
 use outside::Text;
 use trees::TermId;
 

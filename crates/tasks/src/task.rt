@@ -1,4 +1,5 @@
 // A task, its start and its size.
+// It stands on declarations and signatures; the kernel, the transformations and the printers stand on it.
 ghost use Rattle.std.specs.Prelude.{◌≡◌, min, IfOk, All};
 ghost use Rattle.trees.specs.Node.{Holds};
 ghost use Rattle.tasks.specs.Meaning.{trees_at, body_at, declarations_at, task_at, BodyHeld, DeclHeld, TaskHeld};

@@ -1,18 +1,18 @@
 // What is well typed over a task, without memory.
-ghost use Rattle.std.specs.Prelude.{◌≡◌, ◌↔◌, ◌∷◌, [], IsTrue, IfSome, Some, All, Contains, IsSomeAnd, length, map, slice_get};
+// It stands on types and binders; the kernel asks it of each formula of a sequent.
+ghost use Rattle.std.specs.Prelude.{◌≡◌, ◌↔◌, ◌∷◌, IsTrue, IfSome, Some, All, Contains, length, map};
 ghost use Rattle.std.specs.List.{list_any};
 ghost use Rattle.std.specs.Option.{option_map};
-ghost use Rattle.trees.specs.Tree.{Tree, HPred, HFun};
+ghost use Rattle.trees.specs.Tree.{HPred, HFun};
 ghost use Rattle.trees.specs.Node.{tree_at, node_tree, parts_of, Holds, AreBelow};
 ghost use Rattle.trees.specs.Sorts.{type_of};
 ghost use Rattle.trees.specs.Binding.{inst_types};
-ghost use Rattle.tasks.specs.Task.{made, declared};
-ghost use Rattle.tasks.specs.Meaning.{trees_at, symbol_at, declarations_at, task_at, SymbolHeld, TaskHeld, makes};
-ghost use Rattle.tasks.specs.Types.{type_at, TypeHeld, types_at};
+ghost use Rattle.tasks.specs.Task.{made};
+ghost use Rattle.tasks.specs.Meaning.{trees_at, symbol_at, task_at, SymbolHeld, TaskHeld, makes};
+ghost use Rattle.tasks.specs.Types.{type_at, TypeHeld};
 ghost use Rattle.tasks.specs.Binders.{binders_at, BindersHeld};
 ghost use Rattle.tasks.specs.Typing.{members, Declares, IsRigid, IsTypeSymbol, IsUse, MakesTerms, first_body, BranchFits, BranchesFit, TwoTyped, ThreeTyped, TopTyped, TypedUnder, IsTyped, entry};
-ghost use Rattle.tasks.specs.Valid.{VariablesBelow, IsGround, IsGroundFormula, IsTypeOver};
-ghost use Rattle.trees.specs.declared.Sort.TheVariants.{Kind as TypeSort, Formula as FormulaSort};
+ghost use Rattle.tasks.specs.Valid.{IsGround, IsGroundFormula, IsTypeOver};
 
 use crate::binders::{Binder, Binders, bound_type};
 use crate::types::{

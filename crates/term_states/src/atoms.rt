@@ -1,4 +1,5 @@
 // The token with which an atom begins, and what is read behind a whole atom.
+// They stand on what is due behind a token; `read_parts` and `read_behind` stand on them.
 ghost use Rattle.std.specs.Prelude.{◌≡◌, ◌∷◌, ◌++◌, [], map, option_map, Some, None, IfOk};
 ghost use Rattle.syntax_why.specs.Tree.{tree_of, called_of, apply, none};
 ghost use Rattle.syntax_why.specs.Lexeme as lexeme;

@@ -1,4 +1,5 @@
 // How tightly infix operators bind.
+// It stands on nothing; the operators stand on it.
 
 /// How tightly an operator binds, and how tightly its left and its right operand have to.
 #[derive(Clone, Copy)]

@@ -1,4 +1,5 @@
 // The left operand of an operator.
+// It stands on the filling of what is open; the tokens behind an expression stand on it.
 ghost use Rattle.std.specs.Prelude.{◌≡◌, IfOk, map, option_map};
 ghost use Rattle.syntax_why.specs.Tree.{tree_of, op_text};
 ghost use Rattle.grammar.specs.Machine as machine;

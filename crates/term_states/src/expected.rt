@@ -1,4 +1,5 @@
 // What is due behind a token: an operand, a type or a pattern.
+// It stands on what is open; atoms and the readers of parts stand on it.
 ghost use Rattle.std.specs.Prelude.{◌≡◌, [], map};
 ghost use Rattle.syntax_why.specs.Tree.{pattern_of};
 ghost use Rattle.grammar.specs.FormMachine.{form_due};

@@ -1,4 +1,5 @@
 // An expression that reaches to the right end, made from what stood before its last part.
+// It stands on what is open; the left operand of an operator stands on it.
 ghost use Rattle.std.specs.Prelude.{◌≡◌, IfOk, map, option_map};
 ghost use Rattle.syntax_why.specs.Tree.{tree_of, binary, negation, prefixed, choice, binding, quantified, pattern_of, binder_of, terms_of, trigger, op_text};
 ghost use Rattle.syntax_why.specs.Levels.{ends_open};

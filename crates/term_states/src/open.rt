@@ -1,4 +1,5 @@
 // What is open before an expression.
+// It stands on the operators; every state of the reader of expressions holds it.
 use crate::operators::Infix;
 use outside::{Seq, Text};
 use parse_forms::Stack;

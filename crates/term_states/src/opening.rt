@@ -1,4 +1,5 @@
 // Opening a part of an expression, and how tightly the next part has to bind.
+// It stands on what is open; the left operand of an operator stands on it.
 ghost use Rattle.std.specs.Prelude.{◌≡◌, ◌∷◌, [], map, IfOk};
 ghost use Rattle.grammar.specs.Machine.{edge, edge_needs, needs};
 ghost use Rattle.term_states.specs.Climbs.{needs_of};

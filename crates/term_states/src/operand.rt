@@ -1,4 +1,5 @@
 // An expression that may stand before an operator.
+// It stands on the trees; atoms and operators stand on it.
 ghost use Rattle.std.specs.Prelude.{◌≡◌, false};
 ghost use Rattle.syntax_why.specs.Tree.{tree_of};
 ghost use Rattle.syntax_why.specs.Levels.{ends_open, of_prefix};

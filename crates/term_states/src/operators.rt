@@ -1,4 +1,5 @@
 // What the text of an operator says of it.
+// It stands on how tightly operators bind; what is open stands on it.
 ghost use Rattle.std.specs.Prelude.{◌≡◌, Some, None, false, MatchOption};
 ghost use Rattle.tokens_why.specs.declared.token.TokenKind.TheVariants.{Operator};
 ghost use Rattle.syntax_why.specs.Tree.{Word, op_by, op_text};

@@ -1,4 +1,5 @@
 // What was read last of an expression, and all that is open before it.
+// It stands on what is open and on operands; every reader of expressions goes from one to the next.
 use crate::open::{Cases, Context, Open, Quantifier};
 use crate::operand::Operand;
 use outside::{Seq, Text};

@@ -1,3 +1,5 @@
+// Nodes added to a store, and what each query answers of them.
+// They go through the calls of `term_store`; nothing stands on them.
 use std::process::Abort;
 use std::test::Fail;
 use term_store::plain::PlainStore;

@@ -1,5 +1,6 @@
 // The tokens of a whole text.
-ghost use Rattle.std.specs.Prelude.{◌≡◌, ◌+◌, ◌<◌, ◌≤◌, ◌↔◌, ℕ, List, Err, length, drop, MatchOption, MatchBool, IsOkAnd, IsTrue};
+// They stand on gaps, literals and the longest token; the readers stand on them.
+ghost use Rattle.std.specs.Prelude.{◌≡◌, ◌<◌, ◌≤◌, ◌↔◌, ℕ, List, Err, length, MatchOption, MatchBool, IsOkAnd};
 ghost use Rattle.tokens_why.specs.Reserved.{reserved_words};
 ghost use Rattle.tokens_why.specs.Tokens.{AreTokens, BigLiteralAt, Begins, Exceeds, Fits, LexicalAt, NoneBegins, UnlessMemory};
 ghost use Rattle.tokens_why.specs.declared.token.Token.{Token};

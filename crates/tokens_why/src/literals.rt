@@ -1,5 +1,6 @@
 // Integer literals: their values.
-ghost use Rattle.std.specs.Prelude.{◌≡◌, ◌+◌, ◌*◌, ◌≤◌, ◌<◌, pos};
+// They stand on the classes of bytes; the lexer stands on them.
+ghost use Rattle.std.specs.Prelude.{◌+◌, ◌*◌, ◌≤◌, ◌<◌, pos};
 ghost use Rattle.std.specs.Option.{SomeIff};
 ghost use Rattle.tokens_why.specs.Literal as spec;
 ghost use Rattle.tokens_why.specs.Literal.{greatest};

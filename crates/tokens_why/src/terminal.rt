@@ -1,4 +1,5 @@
 // What a token is to the grammar: a terminal symbol.
+// It stands on a token's kind; the trees' writing is told in terminals.
 ghost use Rattle.std.specs.Prelude.{◌≡◌};
 ghost use Rattle.tokens_why.specs.Terminals.{terminal_of};
 ghost use Rattle.tokens_why.specs.declared.token.TokenKind.TheVariants.{Operator, Reserved};

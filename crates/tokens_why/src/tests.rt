@@ -1,4 +1,5 @@
 // Tables of texts with their tokens, as the language's rules on tokens give them.
+// They stand on the lexer; nothing stands on them.
 use crate::{LexFault, Terminal, TokenKind, classify, lex, literal_value};
 use std::alloc::{AllocError, Global};
 use std::process::Abort;

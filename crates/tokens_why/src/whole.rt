@@ -1,4 +1,5 @@
 // The kind of a whole text.
+// It stands on the longest token; who asks what a name alone is stands on it.
 ghost use Rattle.std.specs.Prelude.{◌≡◌};
 ghost use Rattle.tokens_why.specs.Strings.{kind_of};
 

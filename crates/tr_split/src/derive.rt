@@ -1,5 +1,6 @@
 // Steps whose sequents are some formulas and a tail behind them.
-ghost use Rattle.std.specs.Prelude.{◌≡◌, ◌+◌, ◌++◌, ◌≤◌, length, All, IfOk, OnOk};
+// They stand on drafts; the gluing of parts and the facts stand on them.
+ghost use Rattle.std.specs.Prelude.{◌≡◌, ◌+◌, ◌++◌, ◌≤◌, All, IfOk, OnOk};
 ghost use Rattle.trees.specs.Node.{Holds};
 ghost use Rattle.tasks.specs.Meaning.{trees_at};
 ghost use Rattle.kernel.specs.Rows.{IsRight};

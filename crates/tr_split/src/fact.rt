@@ -1,4 +1,5 @@
 // A step that refutes the negation of a proposition of the draft's task, at types.
+// It stands on drafts and on instances; the transformation stands on it.
 ghost use Rattle.std.specs.Prelude.{◌≡◌, [], ◌∷◌, All, IfOk};
 ghost use Rattle.trees.specs.Node.{tree_at, Holds};
 ghost use Rattle.tasks.specs.Task.{neg, props};
@@ -8,7 +9,6 @@ ghost use Rattle.evidence.specs.Drafts.{Extends, Refutes};
 ghost use Rattle.evidence.specs.Stages.{IsFact, fact_of, prop_or};
 ghost use Rattle.evidence.specs.Languages.{IsIn, AreIn, RespectsNegation, StaysIn};
 ghost use Rattle.tr_split.specs.Glue.{IsFormulaAt};
-ghost use Rattle.tr_split.specs.Instance.{AreKinds};
 
 use crate::derive::derive;
 use crate::glue::negation;

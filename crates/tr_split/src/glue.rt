@@ -1,5 +1,6 @@
 // From steps that refute the parts of a formula, a step that refutes the formula.
-ghost use Rattle.std.specs.Prelude.{◌≡◌, ◌+◌, List, [], ◌∷◌, ◌++◌, length, min, map, All, IfOk};
+// They stand on the derived steps; the transformation stands on them.
+ghost use Rattle.std.specs.Prelude.{◌≡◌, ◌+◌, List, [], ◌∷◌, ◌++◌, length, min, map, IfOk};
 ghost use Rattle.trees.specs.Tree.{Tree, Two, HJoin};
 ghost use Rattle.trees.specs.Node.{tree_at, Holds};
 ghost use Rattle.tasks.specs.Task.{neg};

@@ -1,7 +1,8 @@
 // A tree at types, made in the store of a draft.
+// It stands on drafts; the facts of the transformation stand on it.
 ghost use Rattle.std.specs.Prelude.{◌≡◌, length, All, IfOk};
 ghost use Rattle.trees.specs.Node.{tree_at, node_tree, assemble, parts_of, head_of_node, Holds, AreBelow, IsLike};
-ghost use Rattle.trees.specs.Sorts.{sort_of, Fits};
+ghost use Rattle.trees.specs.Sorts.{Fits};
 ghost use Rattle.trees.specs.Binding.{inst_types};
 ghost use Rattle.tasks.specs.Meaning.{trees_at};
 ghost use Rattle.evidence.specs.Drafts.{AddsTrees};

@@ -1,8 +1,8 @@
 // The parts of a formula, gathered in one list.
+// They stand on the store; the transformation makes its tasks from them.
 ghost use Rattle.std.specs.Prelude.{◌≡◌, [], ◌∷◌, ◌++◌, map, All, IfOk};
 ghost use Rattle.trees.specs.Tree.{Two};
 ghost use Rattle.trees.specs.Node.{tree_at, head_of_node, Holds, Grows};
-ghost use Rattle.trees.specs.Sorts.{sort_of};
 ghost use Rattle.tasks.specs.Meaning.{trees_at};
 ghost use Rattle.tasks.specs.Task.{neg};
 ghost use Rattle.tr_split.specs.Parts.{IsSentence, Gains, HasTwo, Joins, Wraps};

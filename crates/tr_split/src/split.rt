@@ -1,12 +1,10 @@
 // The transformation: a task for each part of the goal.
+// It stands on the parts, the facts and the gluing; the program stands on it.
 ghost use Rattle.std.specs.Prelude.{◌≡◌, map, All, IfOk};
 ghost use Rattle.trees.specs.Node.{Holds, Grows};
 ghost use Rattle.tasks.specs.Copying.{with_goal};
 ghost use Rattle.tasks.specs.Meaning.{trees_at, task_at, tasks_at, TaskHeld, TasksHeld};
 ghost use Rattle.tasks.specs.Valid.{IsValid};
-ghost use Rattle.tasks.specs.Task.{start};
-ghost use Rattle.evidence.specs.Drafts.{Extends, Refutes};
-ghost use Rattle.evidence.specs.Stages.{IsOwn, EndIn};
 ghost use Rattle.tr_split.specs.Glue.{Glues, HasSides};
 ghost use Rattle.tr_split.specs.Kept.{keeps_declared};
 ghost use Rattle.tr_split.specs.Split.{split_task};

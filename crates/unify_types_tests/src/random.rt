@@ -1,4 +1,5 @@
 // Random systems of equations, against a plain unifier that walks trees and takes the equations from the last on.
+// They stand on the tables; nothing stands on them.
 use crate::tables::{answer, applied, variable};
 use std::alloc::Global;
 use std::process::Abort;

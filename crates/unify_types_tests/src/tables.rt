@@ -1,6 +1,7 @@
 // Worked systems of equations, with the answers that the definition of a solution gives.
+// They stand on `solve` and `value`; the random systems stand on them.
 ghost use Rattle.std.specs.Prelude.{◌≡◌, true, false};
-ghost use Rattle.trees.specs.Node.{tree_at, Holds, Grows};
+ghost use Rattle.trees.specs.Node.{tree_at, Holds};
 ghost use Rattle.unify_types.specs.Assigned.{IsTyped};
 
 use std::alloc::Global;

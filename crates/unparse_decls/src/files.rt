@@ -1,4 +1,5 @@
 // The kinds of the tokens of declarations, theories and files.
+// They stand on the tokens of expressions; who compares a file with its source stands on them.
 ghost use Rattle.std.specs.Prelude.{◌≡◌, ◌++◌, map, option_map, IfOk, OnOk};
 ghost use Rattle.syntax_why.specs.Tree.{Word, type_of, tree_of, words};
 ghost use Rattle.syntax_why.specs.Lexeme.{kinds, lexeme_kind};

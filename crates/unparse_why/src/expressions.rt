@@ -1,4 +1,5 @@
 // The kinds of the tokens of an expression.
+// They stand on the tokens of their parts; declarations stand on them.
 ghost use Rattle.std.specs.Prelude.{◌≡◌, ◌++◌, ◌∷◌, [], map, option_map, IfOk, OnOk};
 ghost use Rattle.syntax_why.specs.declared.marks.Mark.TheVariants.{End, Let, Match, With};
 ghost use Rattle.syntax_why.specs.Tree.{called_of, type_of, patterns, tree_of, arm_of, terms_of, trees, branches, trigger, apply, group, cast, equal};

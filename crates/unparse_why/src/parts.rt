@@ -1,4 +1,5 @@
 // The kinds of the tokens of names, types, patterns and binders.
+// They stand on the trees; the tokens of expressions stand on them.
 ghost use Rattle.std.specs.Prelude.{◌≡◌, ◌++◌, ◌∷◌, [], List, map, option_map, OnOk};
 ghost use Rattle.syntax_why.specs.declared.names.Style.TheVariants.{Plain};
 ghost use Rattle.syntax_why.specs.Tree.{Word, called, called_of, op_by, op_text, op_of, type_of, pattern_of, patterns, alternatives, binder_of, words, forms};

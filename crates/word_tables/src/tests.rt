@@ -1,4 +1,5 @@
 // A table of words, and what it finds.
+// They stand on the table; nothing stands on them.
 use crate::WordTable;
 
 #[test]
