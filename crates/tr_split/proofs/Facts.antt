@@ -1,5 +1,5 @@
 -- Steps that cite a proposition are right.
-use Rattle.std.proofs.Common.{◌≡◌, ℕ, ◌<◌, List, [], ◌∷◌, Some, IsSomeAnd, length, slice_get, All, sym, ap, subst, ◌∙◌}
+use Rattle.std.proofs.Common.{◌≡◌, ℕ, ◌<◌, List, [], ◌∷◌, Some, IsSomeAnd, length, slice_get, All, suc, sym, ap, subst, ◌∙◌, arith}
 use Rattle.std.proofs.lemmas.List.Elements.{All-cons, All-nil}
 use Rattle.std.proofs.lemmas.Option.{slice_get-get_or}
 use Rattle.trees.specs.declared.TermId.{TermId}
@@ -9,14 +9,16 @@ use Rattle.trees.specs.Binding.{inst_types}
 use Rattle.tasks.specs.Task.{TaskTree, Proposition, props}
 use Rattle.tasks.specs.Valid.{IsValid, IsTypeOver, IsGroundFormula}
 use Rattle.tasks.specs.Meaning.{trees_at}
-use Rattle.tasks.proofs.TypeInstances.{proposition_at_types}
+use Rattle.trees.specs.Facts.{IndicesFit}
+use Rattle.trees.proofs.Sizes.{sorted_fits}
+use Rattle.binders.specs.Visits.{HoldTypes}
+use Rattle.tasks.proofs.TypeInstances.{typed_sorted, proposition_at_types}
 use Rattle.tasks.proofs.Growth.{trees_later}
 use Rattle.kernel.specs.Trees.{RFact}
 use Rattle.kernel.specs.Rows.{IsRight, sequents}
 use Rattle.evidence.specs.Drafts.{DraftTree, Extends, Refutes}
 use Rattle.evidence.specs.Stages.{IsFact, fact_of, prop_or, no_proposition}
 use Rattle.tr_split.specs.Glue.{IsFormulaAt}
-use Rattle.tr_split.specs.Instance.{AreKinds}
 use Rattle.tr_split.proofs.Pieces.{step_of}
 
 pub fact_right : (d : DraftTree) (n : Tree) (k : ℕ) (types : List Tree) (clash : ℕ) → IsGroundFormula d.task n → IsFact d.task d.task k types → Refutes d clash (n ∷ fact_of d.task k types ∷ [])
@@ -41,14 +43,26 @@ pub fact_same : (d d1 : DraftTree) (x : Extends d d1) (k : ℕ) (types : List Te
 fact_same d d1 x k types h =
     ap (λ (z : List Tree). fact_of d1.task k z) (trees_later d.trees d1.trees x.trees types h) ∙ ap (λ (z : TaskTree). fact_of z k (trees_at d.trees types)) x.task
 
-pub fact_kinds : (d : DraftTree) (k : ℕ) (types : List Tree) → IsFact d.task d.task k types → AreKinds types
-fact_kinds d k types f i z h = (f.ground i z h).sort
+held_types : (t : TaskTree) (s : List Tree) (ids : List TermId) → All (Holds s) ids → All (IsTypeOver t 0) (trees_at s ids) → HoldTypes s ids
+held_types t s [] h g = tt
+held_types t s (id ∷ ids) h g =
+    ((h 0 id (omega arith), (g 0 (tree_at s id) (omega arith)).sort), held_types t s ids (λ j e l. h (suc j) e (omega arith)) (λ j e l. g (suc j) e (omega arith)))
+
+pub fact_types : (d : DraftTree) (k : ℕ) (ids : List TermId) → All (Holds d.trees) ids → IsFact d.task d.task k (trees_at d.trees ids) → HoldTypes d.trees ids
+fact_types d k ids h f = held_types d.task d.trees ids h f.ground
+
+fact_ground : (d : DraftTree) (k : ℕ) (types : List Tree) → IsValid d.task → IsFact d.task d.task k types → IsGroundFormula d.task (fact_of d.task k types)
+fact_ground d k types v f = proposition_at_types d.task v k no_proposition f.place types f.ground f.as_many
+
+-- an instance of a proposition of a valid task is well sorted
+pub fact_fits : (d : DraftTree) (k : ℕ) (types : List Tree) (formula : Tree) → IsValid d.task → IsFact d.task d.task k types → (prop_or (props d.task) k).formula ≡ formula → IndicesFit (inst_types formula types)
+fact_fits d k types formula v f is =
+    subst (λ (z : Tree). IndicesFit (inst_types z types)) is (sorted_fits (fact_of d.task k types) (typed_sorted d.task [] (fact_of d.task k types) (fact_ground d k types v f).typed))
 
 -- the number of an instance of a proposition of a valid task
 pub fact_formula : (d d1 : DraftTree) (x : Extends d d1) (k : ℕ) (types : List Tree) (id : TermId) → IsValid d.task → IsFact d.task d.task k types → Holds d1.trees id → tree_at d1.trees id ≡ fact_of d.task k types → IsFormulaAt d1 id
 fact_formula d d1 x k types id v f h e =
-    let ground : IsGroundFormula d.task (fact_of d.task k types) = proposition_at_types d.task v k no_proposition f.place types f.ground f.as_many in
     record {
       held = h;
-      ground = subst (IsGroundFormula d1.task) (sym e) (subst (λ (z : TaskTree). IsGroundFormula z (fact_of d.task k types)) (sym x.task) ground);
+      ground = subst (IsGroundFormula d1.task) (sym e) (subst (λ (z : TaskTree). IsGroundFormula z (fact_of d.task k types)) (sym x.task) (fact_ground d k types v f));
     }

@@ -3,6 +3,5 @@ pub mod Gained
 pub mod Tasks
 pub mod Pieces
 pub mod Glued
-pub mod Instances
 pub mod Facts
 pub mod Sides

@@ -5,7 +5,6 @@
 mod derive;
 mod fact;
 mod glue;
-mod instance;
 mod parts;
 mod split;
 
