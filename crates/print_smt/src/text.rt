@@ -64,15 +64,15 @@ fn push_fact(
     store: &Store,
     names: &[NameEntry],
     index: &[usize],
-    body: Body,
+    body: &Body,
 ) -> Result<(), AllocError>
     requires index { IsIndex names.now index.now }
-    requires held { BodyHeld store.now body }
-    ensures { OnOk result (out.new.items ≡ out.old.items ++ fact_text names.now (body_at store.now body)) }
+    requires held { BodyHeld store.now body.now }
+    ensures { OnOk result (out.new.items ≡ out.old.items ++ fact_text names.now (body_at store.now body.now)) }
 {
     match body {
-        Body::Symbol(_) => Ok(()),
-        Body::Prop(formula) => push_assertion(out, store, names, index, formula),
+        Body::Prop(formula) => push_assertion(out, store, names, index, *formula),
+        _ => Ok(()),
     }
 }
 
@@ -88,7 +88,7 @@ fn push_facts(
     ensures { OnOk result (out.new.items ≡ out.old.items ++ facts_text names.now (declarations_at store.now decls.now)) }
 {
     for decl in decls {
-        push_fact(out, store, names, index, decl.body)?;
+        push_fact(out, store, names, index, &decl.body)?;
     }
     Ok(())
 }

@@ -2,7 +2,7 @@
 use Rattle.std.proofs.Common.{◌≡◌, ℕ, ◌<◌, ◌≤◌, ◌+◌, List, [], ◌∷◌, ◌++◌, length, get_or, drop, refl, sym, ap, ◌∙◌, arith, append_assoc, length-append}
 use Rattle.std.proofs.lemmas.List.{append-nil, drop_all}
 use Rattle.problems.proofs.Marking.{cut_at}
-use Rattle.problems.proofs.Tables.{length-entries, entries-append}
+use Rattle.problems.proofs.Tables.{Added, added_twice}
 use Rattle.trees.specs.Tree.{Tree}
 use Rattle.tasks.specs.declared.declaration.Body.{Body}
 use Rattle.tasks.specs.declared.declaration.Decl.{Decl}
@@ -11,10 +11,10 @@ use Rattle.tasks.specs.Task.{TaskTree, made, made_by, symbol_or}
 use Rattle.tasks.specs.Meaning.{symbols_at, body_at, declarations_at, task_at}
 use Rattle.problems.specs.declared.names.NameEntry.{NameEntry}
 use Rattle.problems.specs.Names.{entry_of, entries_from, rigid_entry, rigid_from, int_entry, task_names}
-use Rattle.problems.specs.Named.{PushesSymbol, PushesAny}
+use Rattle.problems.specs.Named.{PushesSymbols, PushesAny}
 
 pub symbol_pushed : (t : Task) (k : ℕ) (names : List NameEntry) (name : List ℕ) (n : ℕ)
-    → ((s : List Tree) → name ≡ (symbol_or (symbols_at s t.sig.value.symbols) k).name) → n ≡ length names → PushesSymbol t k names (names ++ entry_of name n k ∷ [])
+    → ((s : List Tree) → name ≡ (symbol_or (symbols_at s t.sig.value.symbols) k).name) → n ≡ length names → PushesSymbols t (k ∷ []) names (names ++ entry_of name n k ∷ [])
 symbol_pushed t k names name n is h s = rw (is s, h) refl
 
 pub nothing_pushed : (t : Task) (names : List NameEntry) (body : Body) → ((s : List Tree) → made_by (body_at s body) ≡ []) → PushesAny t body names names
@@ -22,18 +22,10 @@ nothing_pushed t names body none s = rw (none s) (sym (append-nil names))
 
 -- the table when these declarations have been added too
 abbrev pub Whole : Task → List Tree → List NameEntry → List Decl → List NameEntry
-Whole t s names ds = names ++ entries_from (task_at s t) (length names) (made (declarations_at s ds))
+Whole t s names ds = Added t s names (made (declarations_at s ds))
 
 whole_step : (t : Task) (s : List Tree) (old new : List NameEntry) (d : Decl) (ds : List Decl) → PushesAny t d.body old new → Whole t s new ds ≡ Whole t s old (d ∷ ds)
-whole_step t s old new d ds p =
-    let T = task_at s t in
-    let mine = made_by (body_at s d.body) in
-    let rest = made (declarations_at s ds) in
-    let first = entries_from T (length old) mine in
-    let e : new ≡ old ++ first = p s in
-    let n : length new ≡ length old + length mine = ap length e ∙ length-append old first ∙ ap (λ m. length old + m) (length-entries T (length old) mine) in
-    ap (λ z. z ++ entries_from T (length new) rest) e ∙ append_assoc old first (entries_from T (length new) rest)
-    ∙ ap (λ m. old ++ (first ++ entries_from T m rest)) n ∙ ap (λ z. old ++ z) (sym (entries-append T (length old) mine rest))
+whole_step t s old new d ds p = added_twice t s old new (made_by (body_at s d.body)) (made (declarations_at s ds)) (p s)
 
 pub whole_at : (t : Task) (s : List Tree) (old new : List NameEntry) (ds : List Decl) (i : ℕ) (d : Decl) (all : List NameEntry) → i < length ds → d ≡ get_or ds i d
     → PushesAny t d.body old new → Whole t s old (drop i ds) ≡ all → Whole t s new (drop (i + 1) ds) ≡ all

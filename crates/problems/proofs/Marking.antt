@@ -8,7 +8,7 @@ use Rattle.trees.specs.declared.Node.{Node}
 use Rattle.trees.specs.declared.Parts.TheVariants as parts
 use Rattle.trees.specs.Node.{tree_at, node_tree, head_of_node, parts_of, assemble}
 use Rattle.tasks.specs.declared.declaration.Body.{Body}
-use Rattle.tasks.specs.declared.declaration.Body.TheVariants.{Symbol, Prop}
+use Rattle.tasks.specs.declared.declaration.Body.TheVariants.{TypeSymbol, Symbol, Defs, Prop}
 use Rattle.tasks.specs.declared.declaration.Decl.{Decl}
 use Rattle.tasks.specs.Task.{props_of}
 use Rattle.tasks.specs.Meaning.{trees_at, body_at, declarations_at}
@@ -56,8 +56,11 @@ in_formulas s ids k = list_any (occurs k) (trees_at s ids)
 abbrev pub in_props : List Tree → List Decl → ℕ → Bool
 in_props s ds k = list_any (occurs k) (map formula_of (props_of (declarations_at s ds)))
 
+pub cut : {X : Type 0} (xs : List X) (i : ℕ) (x : X) → i < length xs → drop i xs ≡ get_or xs i x ∷ drop (i + 1) xs
+cut xs i x h = rw (add-one) (drop-cons xs i x h)
+
 pub cut_at : {X : Type 0} (xs : List X) (i : ℕ) (x : X) → i < length xs → x ≡ get_or xs i x → drop i xs ≡ x ∷ drop (i + 1) xs
-cut_at xs i x h e = rw (add-one) (drop-cons xs i x h ∙ ap (λ z. z ∷ drop (suc i) xs) (sym e))
+cut_at xs i x h e = cut xs i x h ∙ ap (λ z. z ∷ drop (i + 1) xs) (sym e)
 
 pub formula_step : (s : List Tree) (ids : List TermId) (i : ℕ) (d : TermId) (a b m : List Bool) → i < length ids
     → Marks a b (λ k. occurs k (tree_at s (get_or ids i d))) → Marks b m (in_formulas s (drop (i + 1) ids)) → Marks a m (in_formulas s (drop i ids))
@@ -67,7 +70,9 @@ formula_step s ids i d a b m h one two =
 
 body_step : (s : List Tree) (d : Decl) (ds : List Decl) (body : Body) (a b m : List Bool) → d.body ≡ body
     → Marks a b (λ k. said k (body_at s body)) → Marks b m (in_props s ds) → Marks a m (in_props s (d ∷ ds))
+body_step s d ds (TypeSymbol j) a b m e one two = rw e (marks_then one two)
 body_step s d ds (Symbol j) a b m e one two = rw e (marks_then one two)
+body_step s d ds (Defs ms) a b m e one two = rw e (marks_then one two)
 body_step s d ds (Prop f) a b m e one two = rw e (marks_then one two)
 
 pub prop_step : (s : List Tree) (ds : List Decl) (i : ℕ) (d : Decl) (a b m : List Bool) → i < length ds → d ≡ get_or ds i d

@@ -1,33 +1,37 @@
 -- Name tables as they grow, an entry for each marked symbol.
-use Rattle.std.proofs.Common.{◌≡◌, ℕ, ◌<◌, ◌≤◌, ◌+◌, Bool, true, false, List, [], ◌∷◌, ◌++◌, filter, length, get_or, drop, suc, All, refl, sym, ap, ◌∙◌, arith, append_assoc, length-append}
+use Rattle.std.proofs.Common.{◌≡◌, ℕ, ◌<◌, ◌≤◌, ◌+◌, Bool, true, false, List, [], ◌∷◌, ◌++◌, filter, map, length, get_or, drop, suc, All, refl, sym, ap, ◌∙◌, arith, append_assoc, length-append}
 use Rattle.std.proofs.lemmas.List.{append-nil, drop_all, get_or-map, get_or_past, length-map}
 use Rattle.std.proofs.lemmas.List.Elements.{filter-append, All-append, All-cons, All-nil}
-use Rattle.problems.proofs.Marking.{cut_at}
+use Rattle.problems.proofs.Marking.{cut, cut_at}
 use Rattle.trees.specs.Tree.{Tree}
 use Rattle.tasks.specs.declared.declaration.Body.{Body}
-use Rattle.tasks.specs.declared.declaration.Body.TheVariants.{Symbol}
+use Rattle.tasks.specs.declared.declaration.Body.TheVariants.{Defs}
+use Rattle.tasks.specs.declared.declaration.Def.{Def}
 use Rattle.tasks.specs.declared.declaration.Decl.{Decl}
 use Rattle.tasks.specs.declared.task.Task.{Task}
 use Rattle.tasks.specs.declared.signature.SymbolInfo.{SymbolInfo}
-use Rattle.tasks.specs.Task.{SymbolTree, int_symbol, TaskTree, made, made_by, symbol_or, DeclarationTree, BodyTree, Makes, Says}
+use Rattle.tasks.specs.Task.{SymbolTree, int_symbol, TaskTree, made, made_by, symbol_or, DefinitionTree, DeclarationTree, BodyTree, MakesType, Makes, Defines, Says}
 use Rattle.tasks.specs.Meaning.{symbol_at, symbols_at, body_at, declarations_at, task_at}
-use Rattle.tasks.specs.Valid.{IsValid, IsValidBody}
+use Rattle.tasks.specs.Valid.{IsDefinition, IsValid, IsValidBody}
 use Rattle.problems.specs.declared.names.NameEntry.{NameEntry}
 use Rattle.problems.specs.Names.{entry_of, entries_from}
-use Rattle.problems.specs.Named.{PushesMade, marked}
+use Rattle.problems.specs.Named.{PushesMarked, PushesMade, members_of, marked}
 use Rattle.problems.specs.Marks.{MarksUsed}
 use Rattle.problems.specs.Used.{is_used, used_symbols, DeclaresEntries}
 
 -- a symbol that isn't marked adds nothing
-pub push_none : (t : Task) (marks : List Bool) (k : ℕ) (names : List NameEntry) → get_or marks k false ≡ false → PushesMade t marks (Symbol k) names names
+pub push_none : (t : Task) (marks : List Bool) (k : ℕ) (names : List NameEntry) → get_or marks k false ≡ false → PushesMarked t marks (k ∷ []) names names
 push_none t marks k names e s = rw e (sym (append-nil names))
 
 pub push_one : (t : Task) (marks : List Bool) (k : ℕ) (names : List NameEntry) (name : List ℕ) (n : ℕ) → get_or marks k false ≡ true
-    → ((s : List Tree) → name ≡ (symbol_or (symbols_at s t.sig.value.symbols) k).name) → n ≡ length names → PushesMade t marks (Symbol k) names (names ++ entry_of name n k ∷ [])
+    → ((s : List Tree) → name ≡ (symbol_or (symbols_at s t.sig.value.symbols) k).name) → n ≡ length names → PushesMarked t marks (k ∷ []) names (names ++ entry_of name n k ∷ [])
 push_one t marks k names name n e is h s = rw (e, is s, h) refl
 
 pub push_prop : (t : Task) (marks : List Bool) (names : List NameEntry) (body : Body) → ((s : List Tree) → made_by (body_at s body) ≡ []) → PushesMade t marks body names names
 push_prop t marks names body none s = rw (none s) (sym (append-nil names))
+
+pub marked-append : (marks : List Bool) (x y : List ℕ) → marked marks (x ++ y) ≡ marked marks x ++ marked marks y
+marked-append marks x y = filter-append (λ k. get_or marks k false) x y
 
 pub length-entries : (t : TaskTree) (n : ℕ) (ks : List ℕ) → length (entries_from t n ks) ≡ length ks
 length-entries t n [] = refl
@@ -39,24 +43,46 @@ entries-append t n (x ∷ xs) ys =
     let e : n + 1 + length xs ≡ n + length (x ∷ xs) = omega arith in
     ap (λ z. entry_of (symbol_or t.symbols x).name n x ∷ z) (entries-append t (n + 1) xs ys ∙ ap (λ m. entries_from t (n + 1) xs ++ entries_from t m ys) e)
 
+-- a table with the entries of symbols at its end
+abbrev pub Added : Task → List Tree → List NameEntry → List ℕ → List NameEntry
+Added t s names ks = names ++ entries_from (task_at s t) (length names) ks
+
+-- first some symbols, then others
+pub added_twice : (t : Task) (s : List Tree) (old new : List NameEntry) (mine rest : List ℕ) → new ≡ Added t s old mine → Added t s new rest ≡ Added t s old (mine ++ rest)
+added_twice t s old new mine rest e =
+    let T = task_at s t in
+    let first = entries_from T (length old) mine in
+    let n : length new ≡ length old + length mine = ap length e ∙ length-append old first ∙ ap (λ m. length old + m) (length-entries T (length old) mine) in
+    ap (λ z. z ++ entries_from T (length new) rest) e ∙ append_assoc old first (entries_from T (length new) rest)
+    ∙ ap (λ m. old ++ (first ++ entries_from T m rest)) n ∙ ap (λ z. old ++ z) (sym (entries-append T (length old) mine rest))
+
+-- the members of a group, one after another: all of them, or those that are marked
+module _ (pick : List ℕ → List ℕ) (splits : (x y : List ℕ) → pick (x ++ y) ≡ pick x ++ pick y) (none : pick [] ≡ []) where
+  pub member_step : (t : Task) (s : List Tree) (old new all : List NameEntry) (ds : List Def) (i : ℕ) (d : Def) → i < length ds
+      → new ≡ Added t s old (pick ((get_or ds i d).symbol ∷ [])) → Added t s old (pick (members_of (drop i ds))) ≡ all → Added t s new (pick (members_of (drop (i + 1) ds))) ≡ all
+  member_step t s old new all ds i d h p so =
+      let first = (get_or ds i d).symbol ∷ [] in
+      let rest = members_of (drop (i + 1) ds) in
+      added_twice t s old new (pick first) (pick rest) p ∙ ap (Added t s old) (sym (splits first rest)) ∙ ap (λ z. Added t s old (pick (members_of z))) (sym (cut ds i d h)) ∙ so
+
+  pub members_end : (t : Task) (s : List Tree) (names : List NameEntry) (ds : List Def) (i : ℕ) → length ds ≤ i → Added t s names (pick (members_of (drop i ds))) ≡ names
+  members_end t s names ds i h = ap (λ z. Added t s names (pick (members_of z))) (drop_all i ds h) ∙ ap (Added t s names) none ∙ append-nil names
+
+-- a group makes its members
+pub makes_members : (s : List Tree) (ds : List Def) → made_by (body_at s (Defs ds)) ≡ members_of ds
+makes_members s [] = refl
+makes_members s (d ∷ ds) = ap (λ z. d.symbol ∷ z) (makes_members s ds)
+
 -- the table when these declarations have been added too
 abbrev pub Grown : Task → List Tree → List Bool → List NameEntry → List Decl → List NameEntry
-Grown t s marks names ds = names ++ entries_from (task_at s t) (length names) (marked marks (made (declarations_at s ds)))
+Grown t s marks names ds = Added t s names (marked marks (made (declarations_at s ds)))
 
 pub grown_step : (t : Task) (s : List Tree) (marks : List Bool) (old new : List NameEntry) (d : Decl) (ds : List Decl)
     → PushesMade t marks d.body old new → Grown t s marks new ds ≡ Grown t s marks old (d ∷ ds)
 grown_step t s marks old new d ds p =
-    let T = task_at s t in
-    let mine = marked marks (made_by (body_at s d.body)) in
-    let rest = marked marks (made (declarations_at s ds)) in
-    let first = entries_from T (length old) mine in
-    let e : new ≡ old ++ first = p s in
-    let n : length new ≡ length old + length mine = ap length e ∙ length-append old first ∙ ap (λ m. length old + m) (length-entries T (length old) mine) in
-    let split : marked marks (made_by (body_at s d.body) ++ made (declarations_at s ds)) ≡ mine ++ rest =
-    filter-append (λ k. get_or marks k false) (made_by (body_at s d.body)) (made (declarations_at s ds)) in
-    ap (λ z. z ++ entries_from T (length new) rest) e ∙ append_assoc old first (entries_from T (length new) rest)
-    ∙ ap (λ m. old ++ (first ++ entries_from T m rest)) n ∙ ap (λ z. old ++ z) (sym (entries-append T (length old) mine rest))
-    ∙ ap (λ z. old ++ entries_from T (length old) z) (sym split)
+    let mine = made_by (body_at s d.body) in
+    let rest = made (declarations_at s ds) in
+    added_twice t s old new (marked marks mine) (marked marks rest) (p s) ∙ ap (Added t s old) (sym (marked-append marks mine rest))
 
 pub grown_at : (t : Task) (s : List Tree) (marks : List Bool) (old new : List NameEntry) (ds : List Decl) (i : ℕ) (d : Decl) (all : List NameEntry) → i < length ds → d ≡ get_or ds i d
     → PushesMade t marks d.body old new → Grown t s marks old (drop i ds) ≡ all → Grown t s marks new (drop (i + 1) ds) ≡ all
@@ -72,8 +98,15 @@ same_filter f g n (k ∷ ks) e a =
     let rest = same_filter f g n ks e (λ j d l. a (suc j) d (omega arith)) in
     rw (h, rest) refl
 
+defined_within : (t : TaskTree) (ds : List DefinitionTree) → All (IsDefinition t) ds → All (λ k. k < length t.symbols) (map (λ (d : DefinitionTree). d.symbol) ds)
+defined_within t [] v = All-nil (λ k. k < length t.symbols)
+defined_within t (d ∷ ds) v =
+    All-cons (λ k. k < length t.symbols) d.symbol (map (λ (e : DefinitionTree). e.symbol) ds) (v 0 d (omega arith)).signature.entry (defined_within t ds (λ j e l. v (suc j) e (omega arith)))
+
 body_within : (t : TaskTree) (vars : ℕ) (b : BodyTree) → IsValidBody t vars b → All (λ k. k < length t.symbols) (made_by b)
+body_within t vars (MakesType k) v = All-cons (λ k. k < length t.symbols) k [] v.entry (All-nil (λ k. k < length t.symbols))
 body_within t vars (Makes k) v = All-cons (λ k. k < length t.symbols) k [] v.entry (All-nil (λ k. k < length t.symbols))
+body_within t vars (Defines ds) v = defined_within t ds v
 body_within t vars (Says a) v = All-nil (λ k. k < length t.symbols)
 
 made_within : (t : TaskTree) (ds : List DeclarationTree) → All (λ (d : DeclarationTree). IsValidBody t d.vars d.body) ds → All (λ k. k < length t.symbols) (made ds)

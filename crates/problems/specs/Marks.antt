@@ -1,7 +1,7 @@
 -- Symbols that are marked by number.
 use Rattle.std.specs.Prelude.{◌≡◌, ℕ, ◌<◌, Bool, false, ◌||◌, List, length, get_or}
 use Rattle.trees.specs.Tree.{Tree}
-use Rattle.tasks.specs.Task.{TaskTree, Proposition, BodyTree, Makes, Says}
+use Rattle.tasks.specs.Task.{TaskTree, Proposition, BodyTree, Says}
 use Rattle.problems.specs.Used.{occurs, is_used}
 
 -- the marks were those, and these symbols are marked besides
@@ -19,5 +19,5 @@ formula_of p = p.formula
 
 -- whether a symbol occurs in what a declaration says
 abbrev pub said : ℕ → BodyTree → Bool
-said k (Makes j) = false
 said k (Says a) = occurs k a
+said k _ = false

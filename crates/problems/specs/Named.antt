@@ -1,8 +1,9 @@
 -- The own name of a symbol of a task.
-use Rattle.std.specs.Prelude.{◌≡◌, ℕ, Bool, false, List, [], ◌∷◌, ◌++◌, filter, length, get_or}
+use Rattle.std.specs.Prelude.{◌≡◌, ℕ, Bool, false, List, ◌++◌, map, filter, length, get_or}
 use Rattle.trees.specs.Tree.{Tree}
 use Rattle.tasks.specs.declared.task.Task.{Task}
 use Rattle.tasks.specs.declared.declaration.Body.{Body}
+use Rattle.tasks.specs.declared.declaration.Def.{Def}
 use Rattle.tasks.specs.Task.{symbol_or, made_by}
 use Rattle.tasks.specs.Meaning.{symbols_at, body_at, task_at}
 use Rattle.problems.specs.declared.names.NameEntry.{NameEntry}
@@ -16,7 +17,15 @@ IsNameOf t k name = (s : List Tree) → name ≡ (symbol_or (symbols_at s t.sig.
 abbrev pub marked : List Bool → List ℕ → List ℕ
 marked marks ks = filter (λ k. get_or marks k false) ks
 
--- the table gains the entry of the symbol that a body makes, if it is marked
+-- the members of a group
+abbrev pub members_of : List Def → List ℕ
+members_of ds = map (λ (d : Def). d.symbol) ds
+
+-- the table gains the entries of those of these symbols that are marked
+abbrev pub PushesMarked : Task → List Bool → List ℕ → List NameEntry → List NameEntry → Type 0
+PushesMarked t marks ks old new = (s : List Tree) → new ≡ old ++ entries_from (task_at s t) (length old) (marked marks ks)
+
+-- the table gains the entries of the symbols that a body makes, if they are marked
 abbrev pub PushesMade : Task → List Bool → Body → List NameEntry → List NameEntry → Type 0
 PushesMade t marks body old new =
     (s : List Tree) → new ≡ old ++ entries_from (task_at s t) (length old) (marked marks (made_by (body_at s body)))
@@ -25,10 +34,10 @@ PushesMade t marks body old new =
 abbrev pub PushesRigid : Task → List ℕ → List NameEntry → List NameEntry → Type 0
 PushesRigid t ks old new = (s : List Tree) → new ≡ old ++ rigid_from (task_at s t) (length old) ks
 
--- the table gains the entry of a symbol
-abbrev pub PushesSymbol : Task → ℕ → List NameEntry → List NameEntry → Type 0
-PushesSymbol t k old new = (s : List Tree) → new ≡ old ++ entries_from (task_at s t) (length old) (k ∷ [])
+-- the table gains the entries of these symbols
+abbrev pub PushesSymbols : Task → List ℕ → List NameEntry → List NameEntry → Type 0
+PushesSymbols t ks old new = (s : List Tree) → new ≡ old ++ entries_from (task_at s t) (length old) ks
 
--- the table gains the entry of the symbol that a body makes
+-- the table gains the entries of the symbols that a body makes
 abbrev pub PushesAny : Task → Body → List NameEntry → List NameEntry → Type 0
 PushesAny t body old new = (s : List Tree) → new ≡ old ++ entries_from (task_at s t) (length old) (made_by (body_at s body))

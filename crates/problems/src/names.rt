@@ -1,16 +1,16 @@
 // The entries of a name table.
 // They stand on the symbols that a task uses; the printer and the step files stand on them.
-ghost use Rattle.std.specs.Prelude.{◌≡◌, ◌++◌, false, map, slice_index_or, IfOk, OnOk};
+ghost use Rattle.std.specs.Prelude.{◌≡◌, ◌++◌, ◌∷◌, [], false, map, slice_index_or, IfOk, OnOk};
 ghost use Rattle.tasks.specs.Meaning.{task_at, TaskHeld};
 ghost use Rattle.problems.specs.Used.{DeclaresEntries};
-ghost use Rattle.problems.specs.Named.{IsNameOf, PushesMade, PushesRigid, PushesSymbol, PushesAny};
+ghost use Rattle.problems.specs.Named.{IsNameOf, PushesMarked, PushesMade, PushesRigid, PushesSymbols, PushesAny, members_of};
 ghost use Rattle.problems.specs.Clean.{clean_byte, lower, clean, name_at_place};
 ghost use Rattle.problems.specs.Names.{plain_names, task_names, int_entry, entry_of, rigid_entry};
 
 use crate::used::used_marks;
 use outside::{Seq, Text};
 use std::alloc::{AllocError, Global};
-use tasks::{Body, Task};
+use tasks::{Body, Def, Task};
 use term_store::Store;
 
 /// What a name stands for.
@@ -157,25 +157,43 @@ pub fn plain_names(alloc: Global, store: &Store, task: &Task) -> Result<Vec<Name
     let mut names = Vec::new(alloc);
     names.push(int_entry(alloc)?)?;
     for decl in task.decls.as_slice() {
-        push_made(alloc, task, &used, decl.body, &mut names)?;
+        push_made(alloc, task, &used, &decl.body, &mut names)?;
     }
     Ok(names)
 }
 
-// The entry of the symbol that a declaration makes, if it is marked.
+// The entries of the symbols that a declaration makes, if they are marked.
 fn push_made(
     alloc: Global,
     task: &Task,
     marks: &[bool],
-    body: Body,
+    body: &Body,
     names: &mut Vec<NameEntry>,
 ) -> Result<(), AllocError>
-    ensures { OnOk result (PushesMade task.now marks.now body names.old.items names.new.items) }
+    ensures { OnOk result (PushesMade task.now marks.now body.now names.old.items names.new.items) }
 {
     match body {
-        Body::Symbol(symbol) => push_marked(alloc, task, marks, symbol, names),
+        Body::TypeSymbol(symbol) => push_marked(alloc, task, marks, *symbol, names),
+        Body::Symbol(symbol) => push_marked(alloc, task, marks, *symbol, names),
+        Body::Defs(defs) => push_marked_members(alloc, task, marks, defs.as_slice(), names),
         Body::Prop(_) => Ok(()),
     }
+}
+
+// The entries of a group's members, if they are marked.
+fn push_marked_members(
+    alloc: Global,
+    task: &Task,
+    marks: &[bool],
+    defs: &[Def],
+    names: &mut Vec<NameEntry>,
+) -> Result<(), AllocError>
+    ensures { OnOk result (PushesMarked task.now marks.now (members_of defs.now) names.old.items names.new.items) }
+{
+    for def in defs {
+        push_marked(alloc, task, marks, def.symbol, names)?;
+    }
+    Ok(())
 }
 
 // The entry of a symbol, if it is marked.
@@ -186,7 +204,7 @@ fn push_marked(
     symbol: usize,
     names: &mut Vec<NameEntry>,
 ) -> Result<(), AllocError>
-    ensures { OnOk result (PushesMade task.now marks.now (Body.Symbol symbol) names.old.items names.new.items) }
+    ensures { OnOk result (PushesMarked task.now marks.now (symbol ∷ []) names.old.items names.new.items) }
 {
     if !is_marked(marks, symbol) {
         return Ok(());
@@ -201,7 +219,7 @@ fn push_symbol(
     symbol: usize,
     names: &mut Vec<NameEntry>,
 ) -> Result<(), AllocError>
-    ensures { OnOk result (PushesSymbol task.now symbol names.old.items names.new.items) }
+    ensures { OnOk result (PushesSymbols task.now (symbol ∷ []) names.old.items names.new.items) }
 {
     let name = symbol_name(task, symbol);
     let place = names.len();
@@ -228,7 +246,7 @@ pub fn task_names(alloc: Global, store: &Store, task: &Task) -> Result<Vec<NameE
     names.push(int_entry(alloc)?)?;
     push_rigid(alloc, task, task.rigid.as_slice(), &mut names)?;
     for decl in task.decls.as_slice() {
-        push_any(alloc, task, decl.body, &mut names)?;
+        push_any(alloc, task, &decl.body, &mut names)?;
     }
     Ok(names)
 }
@@ -250,17 +268,34 @@ fn push_rigid(
     Ok(())
 }
 
-// The entry of the symbol that a declaration makes.
+// The entries of the symbols that a declaration makes.
 fn push_any(
     alloc: Global,
     task: &Task,
-    body: Body,
+    body: &Body,
     names: &mut Vec<NameEntry>,
 ) -> Result<(), AllocError>
-    ensures { OnOk result (PushesAny task.now body names.old.items names.new.items) }
+    ensures { OnOk result (PushesAny task.now body.now names.old.items names.new.items) }
 {
     match body {
-        Body::Symbol(symbol) => push_symbol(alloc, task, symbol, names),
+        Body::TypeSymbol(symbol) => push_symbol(alloc, task, *symbol, names),
+        Body::Symbol(symbol) => push_symbol(alloc, task, *symbol, names),
+        Body::Defs(defs) => push_members(alloc, task, defs.as_slice(), names),
         Body::Prop(_) => Ok(()),
     }
+}
+
+// The entries of a group's members.
+fn push_members(
+    alloc: Global,
+    task: &Task,
+    defs: &[Def],
+    names: &mut Vec<NameEntry>,
+) -> Result<(), AllocError>
+    ensures { OnOk result (PushesSymbols task.now (members_of defs.now) names.old.items names.new.items) }
+{
+    for def in defs {
+        push_symbol(alloc, task, def.symbol, names)?;
+    }
+    Ok(())
 }

@@ -66,13 +66,13 @@ fn mark_formulas(store: &Store, formulas: &[TermId], marks: &mut Vec<bool>)
 }
 
 // Marks the symbols of what a declaration says.
-fn mark_body(store: &Store, body: Body, marks: &mut Vec<bool>)
-    requires { BodyHeld store.now body }
-    ensures { Marks marks.old.items marks.new.items (λ k. said k (body_at store.now body)) }
+fn mark_body(store: &Store, body: &Body, marks: &mut Vec<bool>)
+    requires { BodyHeld store.now body.now }
+    ensures { Marks marks.old.items marks.new.items (λ k. said k (body_at store.now body.now)) }
 {
     match body {
-        Body::Symbol(_) => (),
-        Body::Prop(formula) => mark(store, formula, marks),
+        Body::Prop(formula) => mark(store, *formula, marks),
+        _ => (),
     }
 }
 
@@ -82,7 +82,7 @@ fn mark_props(store: &Store, decls: &[Decl], marks: &mut Vec<bool>)
     ensures { Marks marks.old.items marks.new.items (λ k. list_any (occurs k) (map formula_of (props_of (declarations_at store.now decls.now)))) }
 {
     for decl in decls {
-        mark_body(store, decl.body, marks);
+        mark_body(store, &decl.body, marks);
     }
 }
 

@@ -7,7 +7,7 @@ use Rattle.tokens_why.specs.declared.token.TokenKind.TheVariants.{Lident}
 use Rattle.tokens_why.specs.Strings.{kind_of}
 use Rattle.tokens_why.specs.Bytes.{is_word_byte}
 use Rattle.trees.specs.Tree.{Tree}
-use Rattle.tasks.specs.Task.{SymbolTree, int_symbol, BodyTree, Makes, Says, DeclarationTree, TaskTree, Proposition, said_by, made_by, props_of, props}
+use Rattle.tasks.specs.Task.{SymbolTree, int_symbol, BodyTree, MakesType, Makes, Defines, Says, DeclarationTree, TaskTree, Proposition, said_by, made_by, props_of, props}
 use Rattle.syntax_why.specs.declared.declarations.PropKind.{PropKind}
 use Rattle.syntax_why.specs.declared.declarations.PropKind.TheVariants.{Axiom, Lemma, Goal}
 use Rattle.syntax_why.specs.Tree.{Word, Called, lower_name, Tree as Surface}
@@ -36,6 +36,8 @@ PropIsPlain p = (p.vars ≡ 0) × IsPlain p.formula
 
 said_plain : (n : ℕ) (d : DeclarationTree) (b : BodyTree) → d.vars ≡ 0 → BodyFits n b → All PropIsPlain (said_by d b)
 said_plain n d (Makes k) v f = All-nil PropIsPlain
+said_plain n d (MakesType k) v f = absurd f
+said_plain n d (Defines ds) v f = absurd f
 said_plain n d (Says a) v f = All-cons PropIsPlain (record { vars = d.vars; formula = a }) [] (v, (n, f)) (All-nil PropIsPlain)
 
 props_plain : (n : ℕ) (ds : List DeclarationTree) → InOrder n ds → All PropIsPlain (props_of ds)

@@ -9,7 +9,7 @@ use Rattle.trees.specs.Sorts.{sort_of}
 use Rattle.trees.specs.declared.Sort.TheVariants as sort
 use Rattle.trees.specs.declared.Op.TheVariants.{And, Imp}
 use Rattle.tasks.specs.declared.signature.SymbolKind.TheVariants.{Kind, Predicate}
-use Rattle.tasks.specs.Task.{SymbolTree, int_symbol, BodyTree, Makes, Says, DeclarationTree, TaskTree, made, made_by, declared, symbol_or}
+use Rattle.tasks.specs.Task.{SymbolTree, int_symbol, BodyTree, MakesType, Makes, Defines, Says, DeclarationTree, TaskTree, made, made_by, declared, symbol_or}
 use Rattle.tasks.specs.Typing.{TypedUnder, IsUse, Declares, entry}
 use Rattle.tasks.specs.Valid.{IsValid, IsValidBody, IsFormula, IsSignatureOf, IsTypeOver, IsRigidEntry, ParametersOf, VariablesBelow}
 use Rattle.syntax_why.specs.Tree.{Word}
@@ -93,6 +93,8 @@ module _ (path : Word) (all : List Word) (m : ℕ) (k : TaskTree) (symbols : k.s
 
   body_valid : (n vars : ℕ) (b : BodyTree) → n + length (made_by b) ≤ m → BodyFits n b → IsValidBody k vars b
   body_valid n vars (Makes j) l f = subst (IsSignatureOf k) (sym f) (is_signature n (omega arith))
+  body_valid n vars (MakesType j) l f = absurd f
+  body_valid n vars (Defines ds) l f = absurd f
   body_valid n vars (Says a) l f = is_formula [] vars a (over_more n m a (omega arith) f)
 
   abbrev ValidDecl : DeclarationTree → Type 0

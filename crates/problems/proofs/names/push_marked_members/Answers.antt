@@ -1,0 +1,16 @@
+use Rattle.std.proofs.Common.{◌∙◌, sym, refl}
+use Rattle.problems.specs.Named.{marked, members_of}
+use Rattle.problems.proofs.Tables.{Added, marked-append, member_step, members_end}
+use Rattle.problems.proofs.names.push_marked_members.Goals as goal
+
+pub loop-def-preserved : goal.loop-def-preserved
+loop-def-preserved c s =
+    let t = c.args.task.now in
+    let all = Added t s c.args.names.now.items (marked c.args.marks.now (members_of c.args.defs.now)) in
+    member_step (marked c.args.marks.now) (marked-append c.args.marks.now) refl t s c.loop-def.names.items c.push_marked.new.names.items all c.args.defs.now c.loop-def.def-index _ c.loop-def-test.true
+    (c.in_ok-push_marked.ensures s) (c.loop-def.invariant s)
+
+pub returns : goal.returns
+returns c s =
+    sym (members_end (marked c.args.marks.now) (marked-append c.args.marks.now) refl c.args.task.now s c.loop-def.names.items c.args.defs.now c.loop-def.def-index c.loop-def-test.false)
+    ∙ c.loop-def.invariant s
