@@ -1,43 +1,43 @@
 // Tables of texts with their tokens, as the language's rules on tokens give them.
 // They stand on the lexer; nothing stands on them.
-use crate::{LexFault, Terminal, TokenKind, classify, lex, literal_value};
-use std::alloc::{AllocError, Global};
+use std::alloc::Global;
 use std::process::Abort;
-use std::test::Fail;
+use tokens_why::{LexFault, Terminal, TokenKind, classify, lex, literal_value};
+
+const MEMORY: &str = "out of memory";
 
 /// The tokens of a text with the bytes that they take, or the fault.
-fn shown(alloc: Global, text: &[u8]) -> Result<String, AllocError> {
-    let mut line = String::new(alloc);
-    match lex(alloc, text) {
-        Ok(tokens) => {
-            for token in &tokens {
-                if line.len() > 0 {
-                    line.push_str(" ")?;
-                }
-                let one = format!(in alloc; "{:?}:{}-{}", token.kind, token.start, token.end)?;
-                line.push_str(one.as_str())?;
-            }
+fn shown(rt: &impl Abort, alloc: Global, text: &[u8]) -> String {
+    let tokens = match lex(alloc, text) {
+        Ok(tokens) => tokens,
+        Err(LexFault::Memory) => panic!(rt; "out of memory"),
+        Err(LexFault::Lexical { byte }) => {
+            return format!(in alloc; "lexical {byte}").expect(rt, MEMORY);
         }
-        Err(LexFault::Memory) => line.push_str("no memory")?,
-        Err(LexFault::Lexical { byte }) => line.push_str(format!(in alloc;
-            "lexical {byte}"
-        )?.as_str())?,
-        Err(LexFault::BigLiteral { byte }) => line.push_str(format!(in alloc;
-            "big {byte}"
-        )?.as_str())?,
+        Err(LexFault::BigLiteral { byte }) => {
+            return format!(in alloc; "big {byte}").expect(rt, MEMORY);
+        }
+    };
+    let mut line = String::new(alloc);
+    for token in &tokens {
+        if line.len() > 0 {
+            line.push_str(" ").expect(rt, MEMORY);
+        }
+        let one = format!(in alloc; "{:?}:{}-{}", token.kind, token.start, token.end);
+        line.push_str(one.expect(rt, MEMORY).as_str())
+            .expect(rt, MEMORY);
     }
-    Ok(line)
+    line
 }
 
 /// Whether each text has the tokens beside it.
-fn compare(rt: &impl Abort, alloc: Global, rows: &[(&[u8], &str)]) -> Result<(), AllocError> {
+fn compare(rt: &impl Abort, alloc: Global, rows: &[(&[u8], &str)]) {
     for (text, wanted) in rows {
-        assert_eq!(rt; shown(alloc, *text)?.as_str(), *wanted);
+        assert_eq!(rt; shown(rt, alloc, *text).as_str(), *wanted);
     }
-    Ok(())
 }
 
-const GAPS: [(&[u8], &str); 24] = [
+static GAPS: [(&[u8], &str); 24] = [
     (b"", ""),
     (b"\t\r\n ", ""),
     (b"\x0c", "lexical 0"),
@@ -65,12 +65,11 @@ const GAPS: [(&[u8], &str); 24] = [
 ];
 
 #[test]
-fn gaps(rt: HostRuntime) -> Result<(), Fail> {
-    compare(&rt, rt.alloc(), &GAPS)?;
-    Ok(())
+fn gaps(rt: HostRuntime) {
+    compare(&rt, rt.alloc(), &GAPS);
 }
 
-const WORDS_AND_LITERALS: [(&[u8], &str); 41] = [
+static WORDS_AND_LITERALS: [(&[u8], &str); 41] = [
     (b"_", "Wild:0-1"),
     (b"__", "Lident:0-2"),
     (b"_x", "Lident:0-2"),
@@ -118,12 +117,11 @@ const WORDS_AND_LITERALS: [(&[u8], &str); 41] = [
 ];
 
 #[test]
-fn words_and_literals(rt: HostRuntime) -> Result<(), Fail> {
-    compare(&rt, rt.alloc(), &WORDS_AND_LITERALS)?;
-    Ok(())
+fn words_and_literals(rt: HostRuntime) {
+    compare(&rt, rt.alloc(), &WORDS_AND_LITERALS);
 }
 
-const MARKS_AND_OPERATORS: [(&[u8], &str); 33] = [
+static MARKS_AND_OPERATORS: [(&[u8], &str); 33] = [
     (
         b"()[]{}",
         "LParen:0-1 RParen:1-2 LBrack:2-3 RBrack:3-4 LBrace:4-5 RBrace:5-6",
@@ -166,9 +164,8 @@ const MARKS_AND_OPERATORS: [(&[u8], &str); 33] = [
 ];
 
 #[test]
-fn marks_and_operators(rt: HostRuntime) -> Result<(), Fail> {
-    compare(&rt, rt.alloc(), &MARKS_AND_OPERATORS)?;
-    Ok(())
+fn marks_and_operators(rt: HostRuntime) {
+    compare(&rt, rt.alloc(), &MARKS_AND_OPERATORS);
 }
 
 #[test]
@@ -209,18 +206,17 @@ fn terminals(rt: HostRuntime) {
 }
 
 #[test]
-fn long_texts(rt: HostRuntime) -> Result<(), Fail> {
+fn long_texts(rt: HostRuntime) {
     let mut nested = Vec::new(rt.alloc());
     let mut closes = Vec::new(rt.alloc());
     let mut digits = Vec::new(rt.alloc());
     for _ in 0..1_000_000 {
-        nested.extend_from_slice(b"(*")?;
-        closes.extend_from_slice(b"*)")?;
-        digits.push(b'9')?;
+        nested.extend_from_slice(b"(*").expect(&rt, MEMORY);
+        closes.extend_from_slice(b"*)").expect(&rt, MEMORY);
+        digits.push(b'9').expect(&rt, MEMORY);
     }
-    assert_eq!(rt; shown(rt.alloc(), &nested)?.as_str(), "lexical 0");
-    nested.extend_from_slice(&closes)?;
-    assert_eq!(rt; shown(rt.alloc(), &nested)?.as_str(), "");
-    assert_eq!(rt; shown(rt.alloc(), &digits)?.as_str(), "big 0");
-    Ok(())
+    assert_eq!(rt; shown(&rt, rt.alloc(), &nested).as_str(), "lexical 0");
+    nested.extend_from_slice(&closes).expect(&rt, MEMORY);
+    assert_eq!(rt; shown(&rt, rt.alloc(), &nested).as_str(), "");
+    assert_eq!(rt; shown(&rt, rt.alloc(), &digits).as_str(), "big 0");
 }
