@@ -10,6 +10,3 @@ mod steps;
 
 pub use rule::{Rule, Step};
 pub use steps::{closes, ends_in_start, first_wrong, right_step};
-
-#[cfg(test)]
-mod tests;

@@ -11,9 +11,6 @@ mod nested;
 
 pub use nested::Scope;
 
-#[cfg(test)]
-mod tests;
-
 /// The tables of a scope: type symbols; functions, predicates, constants and constructors; axioms, lemmas, goals and
 /// clauses; scopes.
 #[derive(Clone, Copy, Debug, PartialEq, Eq)]

@@ -190,6 +190,13 @@ impl Scope {
         self.add_scope(name, false)
     }
 
+    /// Whether a scope is open that can be closed. No memory is taken.
+    pub fn is_nested(&self) -> bool
+        ensures { IsTrue result ↔ (1 < length self.now.nested) }
+    {
+        !self.outer.is_empty()
+    }
+
     /// Leaves the innermost scope. No memory is taken, and the answer is always `Ok`.
     pub fn close(&mut self) -> Result<(), NameFault>
         requires { 1 < length self.old.nested }

@@ -20,6 +20,3 @@ pub use literals::literal_value;
 pub use terminal::{Terminal, classify};
 pub use token::{Token, TokenKind};
 pub use whole::kind_of_text;
-
-#[cfg(test)]
-mod tests;

@@ -1,0 +1,162 @@
+// What names mean after scopes are opened, closed, used and imported, with the answers of the rules of names.
+// They stand on the calls of scopes; nothing stands on them.
+use names_space::{NameFault, Scope, Table};
+use std::alloc::Global;
+use std::process::Abort;
+
+const MEMORY: &str = "out of memory";
+
+#[derive(Clone, Copy)]
+enum Call {
+    Open,
+    OpenUsed,
+    Close,
+    Enter(Table, usize),
+    Bring(Table, usize),
+    Import,
+    Look(Table),
+}
+
+#[derive(Clone, Copy, Debug, PartialEq, Eq)]
+enum Answer {
+    Done,
+    Refused(NameFault),
+    Found(usize),
+    Nothing,
+}
+
+// A call, the name or path that it is made with, and its answer.
+type Row = (Call, &'static [&'static str], Answer);
+
+static HIDING: [Row; 14] = [
+    (Call::Look(Table::Types), &["t"], Answer::Nothing),
+    (Call::Enter(Table::Types, 1), &["t"], Answer::Done),
+    (Call::Open, &["S"], Answer::Done),
+    (Call::Look(Table::Types), &["t"], Answer::Found(1)),
+    (Call::Enter(Table::Types, 2), &["t"], Answer::Done),
+    (Call::Look(Table::Types), &["t"], Answer::Found(2)),
+    (Call::Look(Table::Types), &["S", "t"], Answer::Found(2)),
+    (Call::Look(Table::Symbols), &["t"], Answer::Nothing),
+    (Call::Close, &[], Answer::Done),
+    (Call::Close, &[], Answer::Nothing),
+    (Call::Look(Table::Types), &["t"], Answer::Found(1)),
+    (Call::Look(Table::Types), &["S", "t"], Answer::Found(2)),
+    (Call::Look(Table::Types), &["S", "t", "t"], Answer::Nothing),
+    (Call::Look(Table::Types), &[], Answer::Nothing),
+];
+
+static DECLARING: [Row; 9] = [
+    (Call::Bring(Table::Symbols, 5), &["f"], Answer::Done),
+    (Call::Enter(Table::Symbols, 6), &["f"], Answer::Done),
+    (Call::Look(Table::Symbols), &["f"], Answer::Found(6)),
+    (
+        Call::Enter(Table::Symbols, 7),
+        &["f"],
+        Answer::Refused(NameFault::Duplicate),
+    ),
+    (Call::Look(Table::Symbols), &["f"], Answer::Found(6)),
+    (Call::Enter(Table::Propositions, 8), &["f"], Answer::Done),
+    (Call::Bring(Table::Symbols, 9), &["f"], Answer::Done),
+    (Call::Look(Table::Symbols), &["f"], Answer::Found(9)),
+    (
+        Call::Enter(Table::Symbols, 10),
+        &["f"],
+        Answer::Refused(NameFault::Duplicate),
+    ),
+];
+
+static USING: [Row; 15] = [
+    (Call::Open, &["T"], Answer::Done),
+    (Call::Enter(Table::Symbols, 1), &["f"], Answer::Done),
+    (Call::Close, &[], Answer::Done),
+    (Call::Open, &["T"], Answer::Refused(NameFault::Duplicate)),
+    (Call::OpenUsed, &["T"], Answer::Done),
+    (Call::Bring(Table::Symbols, 2), &["f"], Answer::Done),
+    (Call::Look(Table::Symbols), &["f"], Answer::Found(2)),
+    (Call::Bring(Table::Symbols, 12), &["f"], Answer::Done),
+    (Call::Look(Table::Symbols), &["T", "f"], Answer::Found(12)),
+    (Call::OpenUsed, &["T"], Answer::Done),
+    (Call::Bring(Table::Symbols, 3), &["f"], Answer::Done),
+    (Call::Look(Table::Symbols), &["f"], Answer::Found(3)),
+    (Call::Bring(Table::Symbols, 13), &["f"], Answer::Done),
+    (Call::Look(Table::Symbols), &["T", "f"], Answer::Found(13)),
+    (Call::Look(Table::Scopes), &["T"], Answer::Found(3)),
+];
+
+static IMPORTING: [Row; 19] = [
+    (Call::OpenUsed, &["A"], Answer::Done),
+    (Call::Bring(Table::Symbols, 1), &["x"], Answer::Done),
+    (Call::OpenUsed, &["B"], Answer::Done),
+    (Call::Bring(Table::Types, 2), &["y"], Answer::Done),
+    (Call::Close, &[], Answer::Done),
+    (Call::Close, &[], Answer::Done),
+    (Call::Look(Table::Symbols), &["x"], Answer::Nothing),
+    (Call::Look(Table::Types), &["B", "y"], Answer::Nothing),
+    (Call::Look(Table::Types), &["A", "B", "y"], Answer::Found(2)),
+    (
+        Call::Import,
+        &["A", "C"],
+        Answer::Refused(NameFault::Unknown),
+    ),
+    (Call::Import, &["x"], Answer::Refused(NameFault::Unknown)),
+    (Call::Import, &["A"], Answer::Done),
+    (Call::Import, &["A"], Answer::Done),
+    (Call::Look(Table::Symbols), &["x"], Answer::Found(1)),
+    (Call::Look(Table::Types), &["B", "y"], Answer::Found(2)),
+    (Call::Enter(Table::Symbols, 3), &["x"], Answer::Done),
+    (Call::Look(Table::Symbols), &["x"], Answer::Found(3)),
+    (Call::Import, &["A"], Answer::Done),
+    (Call::Look(Table::Symbols), &["x"], Answer::Found(1)),
+];
+
+fn answer_of(made: Result<(), NameFault>) -> Answer {
+    match made {
+        Ok(()) => Answer::Done,
+        Err(fault) => Answer::Refused(fault),
+    }
+}
+
+fn path(rt: &impl Abort, alloc: Global, words: &[&str]) -> Vec<String> {
+    let mut names = Vec::new(alloc);
+    for word in words {
+        let name = String::from_str(alloc, word).expect(rt, MEMORY);
+        names.push(name).expect(rt, MEMORY);
+    }
+    names
+}
+
+// What a call answers, which is nothing where no scope is there to be closed.
+fn ask(scope: &mut Scope, call: Call, name: &str, path: &[String]) -> Answer {
+    match call {
+        Call::Open => answer_of(scope.open(name)),
+        Call::OpenUsed => answer_of(scope.open_used(name).map_err(NameFault::from)),
+        Call::Close if scope.is_nested() => answer_of(scope.close()),
+        Call::Close => Answer::Nothing,
+        Call::Enter(table, thing) => answer_of(scope.enter(table, name, thing)),
+        Call::Bring(table, thing) => {
+            answer_of(scope.bring(table, name, thing).map_err(NameFault::from))
+        }
+        Call::Import => answer_of(scope.import_from(path)),
+        Call::Look(table) => scope
+            .look(table, path)
+            .map_or(Answer::Nothing, Answer::Found),
+    }
+}
+
+fn compare(rt: &impl Abort, alloc: Global, rows: &[Row]) {
+    let mut scope = Scope::new(alloc).expect(rt, MEMORY);
+    for (i, row) in rows.iter().enumerate() {
+        let (call, words, answer) = *row;
+        let path = path(rt, alloc, words);
+        let name = words.last().copied().unwrap_or("");
+        assert_eq!(rt; ask(&mut scope, call, name, &path), answer, "{i}");
+    }
+}
+
+#[test]
+fn names_mean_what_the_rules_say(rt: HostRuntime) {
+    compare(&rt, rt.alloc(), &HIDING);
+    compare(&rt, rt.alloc(), &DECLARING);
+    compare(&rt, rt.alloc(), &USING);
+    compare(&rt, rt.alloc(), &IMPORTING);
+}
