@@ -1,4 +1,4 @@
--- The message of a fault: where it stands, its words, its line, and what stands there.
+-- The message of a fault: where it stands, its words, its numbers, and the line with a caret.
 use Rattle.std.specs.Prelude.{ℕ, ◌-◌, ◌==◌, ◌≡◌, nat_lt, ◌||◌, if◌then◌else◌, List, [], ◌∷◌, ◌++◌, length, map, filter, get_or, Option, Some, None, codes, decimal}
 use Rattle.explain.specs.declared.places.Spot.{Spot}
 use Rattle.explain.specs.declared.places.Spot.TheVariants.{Nowhere, Byte, Line}

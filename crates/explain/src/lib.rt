@@ -1,4 +1,5 @@
-//! What a line of `why3lift` says of a file, in words and with its place.
+//! What a refusal of `why3lift` says of a file, in words and with its place.
+//! It stands on the tokens; the program `why3lift_explain` stands on it.
 #![tactic(auto)]
 
 mod message;

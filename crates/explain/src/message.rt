@@ -1,4 +1,5 @@
-// The message of a fault: where it stands, its words, its line, and what stands there.
+// The message of a fault: where it stands, its words, its numbers, and the line with a caret.
+// It stands on the table and the places; the program's words stand on it.
 ghost use Rattle.std.specs.Prelude.{◌≡◌, ◌≤◌, ◌++◌, IfOk, OnOk, length, map, filter};
 ghost use Rattle.std.specs.Option.{option_map};
 ghost use Rattle.explain.specs.Message as spec;

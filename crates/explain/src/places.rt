@@ -1,4 +1,5 @@
 // Lines and columns of a file, and where a fault stands in it.
+// They stand on the tokens; the messages stand on them.
 ghost use Rattle.std.specs.Prelude.{◌≡◌, ◌≤◌, ◌-◌, [], IfOk, length, get_or, map};
 ghost use Rattle.tokens_why.specs.declared.token.Token.{Token};
 ghost use Rattle.explain.specs.Places as spec;

@@ -1,4 +1,5 @@
 // The words of the program: its name, a file, and a fault as its line has it.
+// They stand on the messages and on the library of files; the program `why3lift_explain` stands on them.
 ghost use Rattle.std.specs.Prelude.{◌≡◌, ℕ, List, [], IfOk, map, string_bytes};
 ghost use Rattle.std.specs.Option.{option_map};
 ghost use Rattle.explain.specs.Words as spec;
@@ -7,7 +8,7 @@ ghost use Rattle.explain.specs.declared.words.ExplainFault.TheVariants.{Memory a
 
 use crate::message::{explain, row_for};
 use outside::{FetchFault, Library};
-use std::alloc::{AllocError, AllocFailed, Global};
+use std::alloc::{AllocError, Global};
 
 /// Why there is no message.
 ///

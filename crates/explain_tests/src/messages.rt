@@ -1,9 +1,9 @@
 // The message of each code: expected texts are reasoned from the table of faults.
+// They stand on the messages; nothing stands on them.
 use explain::explain;
-use std::alloc::AllocError;
 
 // The text of the file `f`, a fault in it, and the message; nothing where the numbers are no fault.
-const MESSAGES: [(&str, &[usize], &str); 38] = [
+static MESSAGES: [(&str, &[usize], &str); 38] = [
     (
         "goal \"p\"",
         &[10, 5],
@@ -154,12 +154,11 @@ const MESSAGES: [(&str, &[usize], &str); 38] = [
 ];
 
 #[test]
-fn messages(rt: HostRuntime) -> Result<(), AllocError> {
-    for (text, fault, wanted) in MESSAGES {
-        match explain(rt.alloc(), "f", text.as_bytes(), fault)? {
+fn messages(rt: HostRuntime) {
+    for (text, fault, wanted) in &MESSAGES {
+        match explain(rt.alloc(), "f", text.as_bytes(), *fault).expect(&rt, "out of memory") {
             Some(message) => assert_eq!(rt; message.as_slice(), wanted.as_bytes()),
-            None => assert_eq!(rt; "", wanted),
+            None => assert_eq!(rt; "", *wanted),
         }
     }
-    Ok(())
 }
