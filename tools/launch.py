@@ -1,4 +1,4 @@
-"""What the launchers do: prove and build a program before they run it, or run its sources by the toolchain's trial run."""
+"""What the launchers do: prove and build a program before they run it, or run its sources by a trial run."""
 import os
 import re
 import shutil
@@ -6,8 +6,10 @@ import subprocess
 import sys
 
 ROOT = os.path.dirname(os.path.dirname(os.path.realpath(__file__)))
-# Lines of code that are proved in a minute, from nothing, on four processors of a common machine.
-LINES_A_MINUTE = 400
+# Lines of code that are proved in a minute, from nothing, on four processors of a common machine; and crates that are
+# loaded and built in a minute beside that.
+LINES_A_MINUTE = 500
+CRATES_A_MINUTE = 2
 # The word DRV that is read so far.
 PLAIN = "plain.drv"
 
@@ -60,18 +62,19 @@ def is_current(name):
 
 def minutes_of(name):
     """Returns about how many minutes it takes to prove the crates of a program that aren't built."""
-    lines = 0
+    lines, crates = 0, 0
     for crate in crates_of(name):
         if not is_newer(f"{ROOT}/crates/{crate}/out/rlib/stamp", crate):
+            crates += 1
             for file in sources_of(crate):
                 if file.endswith(".rt"):
                     with open(file, "rb") as it:
                         lines += len(it.readlines())
-    return lines // LINES_A_MINUTE + 1
+    return lines // LINES_A_MINUTE + crates // CRATES_A_MINUTE + 1
 
 
 def run_rt(name):
-    """Proves, builds and runs a program, without words; returns whether it came to run. Shows the crate that is at work."""
+    """Proves, builds and runs a program, without words; returns whether it came to run. Shows the crate at work."""
     order, shows, runs = crates_of(name), sys.stderr.isatty(), False
     how = {"cwd": f"{ROOT}/crates/{name}", "stdin": subprocess.DEVNULL, "errors": "replace"}
     with open(f"{ROOT}/crates/{name}/build.log", "w", encoding="utf-8") as log:
@@ -139,7 +142,8 @@ def explain(words, line):
         if file is not None:
             subprocess.run([binary_of("why3lift_explain"), file, *map(str, numbers)], stdout=sys.stderr, check=False)
     elif found[1]:
-        tell(f"{file_of(words, numbers[0])}: {'no such file' if found[1] == 'absent' else 'a file that cannot be read'}")
+        why = "no such file" if found[1] == "absent" else "can't be read"
+        tell(f"{file_of(words, numbers[0])}: {why}")
     elif words[:1] in (["names"], ["stress"]):
         tell(f"{words[0]} isn't built yet")
     elif words[:1] in (["print"], ["lift"]) and words[2:] and words[2] != PLAIN:
@@ -166,7 +170,7 @@ def run_explain(words):
 
 
 def copied(at, word, data):
-    """Returns the name of the copy of a file, which `data` gains; a name that nothing has where there is no file."""
+    """Returns the name of a file's copy, which `data` gains; a name that nothing has where there is no file."""
     if not word or word.startswith("-"):
         return word
     if not os.path.isfile(word) or not os.access(word, os.R_OK):
@@ -188,10 +192,13 @@ def run_unproved(words):
         # the driver isn't read so far
         crate, places = "why3lift", [it for it in places_of(words) if it != 2]
     data = []
-    words = [copied(at, word, data) if at in places else word for at, word in enumerate(words)]
+    shown = [copied(at, word, data) if at in places else word for at, word in enumerate(words)]
     how = {"cwd": f"{ROOT}/crates/{crate}", "stdin": subprocess.DEVNULL, "stderr": subprocess.PIPE}
-    ran = subprocess.run(["rt", "try", *data, "--", *words], check=False, **how)
+    ran = subprocess.run(["rt", "try", *data, "--", *shown], check=False, **how)
     for line in ran.stderr.decode(errors="replace").splitlines():
         if not re.match(r"checked: |run=|rt: ", line):
             tell(line)
+        if line.startswith("refused: ") and crate == "why3lift" and sys.stderr.isatty():
+            numbers = [int(it) for it in line.split()[1:]]
+            tell(f"./why3lift-explain {file_of_refusal(words, numbers)} {line[9:]} says where")
     return ran.returncode
