@@ -1,0 +1,4 @@
+pub mod Message
+pub mod Places
+pub mod Table
+pub mod Words

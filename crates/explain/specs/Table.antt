@@ -1,0 +1,45 @@
+-- The table of faults: what stands behind a code, and its words (docs/FORMATS.md, "Faults").
+use Rattle.std.specs.Prelude.{ℕ, List, Option, Some, None, if◌then◌else◌, ◌==◌, codes}
+use Rattle.explain.specs.declared.table.Counts.{Counts}
+use Rattle.explain.specs.declared.table.Counts.TheVariants.{Nothing, Bytes, Tokens, Lines}
+use Rattle.explain.specs.declared.table.Row.{Row}
+
+-- a row: how many numbers follow the code, what the last of them counts, and the words
+pub record RowText : Type 0 where
+  pub fields : ℕ
+  pub counts : Counts
+  pub words : List ℕ
+
+abbrev pub row : ℕ → Counts → List ℕ → Option RowText
+row n c ws = Some (record { fields = n; counts = c; words = ws })
+
+abbrev pub row_text : Row → RowText
+row_text r = record { fields = r.fields; counts = r.counts; words = r.words.now }
+
+-- the row of a code, if there is one
+abbrev pub row_of : ℕ → Option RowText
+row_of code = if code == 10 then row 1 Bytes (codes "no token begins here, or a comment or attribute that isn't closed")
+    else (if code == 11 then row 1 Bytes (codes "integer literal above 2^127 - 1")
+    else (if code == 12 then row 1 Tokens (codes "syntax error")
+    else (if code == 13 then row 1 Tokens (codes "nested deeper than 200")
+    else (if code == 14 then row 1 Tokens (codes "declaration of a program")
+    else (if code == 15 then row 1 Nothing (codes "file longer than 67,108,864 bytes")
+    else (if code == 16 then row 1 Bytes (codes "declaration that isn't read so far")
+    else (if code == 20 then row 2 Tokens (codes "unknown name")
+    else (if code == 21 then row 2 Tokens (codes "name that is taken")
+    else (if code == 22 then row 2 Tokens (codes "formula where a term is due, term where a formula is due, or alternative with other names")
+    else (if code == 23 then row 2 Tokens (codes "wrong number of arguments")
+    else (if code == 31 then row 2 Tokens (codes "type that is left open")
+    else (if code == 32 then row 2 Tokens (codes "match that isn't exhaustive")
+    else (if code == 40 then row 2 Tokens (codes "clone element that doesn't fit")
+    else (if code == 50 then row 2 Bytes (codes "syntax error")
+    else (if code == 51 then row 2 Bytes (codes "unknown transformation")
+    else (if code == 52 then row 2 Bytes (codes "template that lacks an argument, or has one twice")
+    else (if code == 53 then row 2 Bytes (codes "unknown symbol")
+    else (if code == 54 then row 2 Bytes (codes "import of a file that is being read, or too many imports")
+    else (if code == 55 then row 2 Bytes (codes "unknown printer, or none")
+    else (if code == 60 then row 0 Nothing (codes "no such theory")
+    else (if code == 61 then row 0 Nothing (codes "no such goal")
+    else (if code == 90 then row 2 Nothing (codes "another number of refutations than of problems")
+    else (if code == 91 then row 2 Lines (codes "wrong line; behind the last line: the steps don't end in the start")
+    else None)))))))))))))))))))))))

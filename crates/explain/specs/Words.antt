@@ -1,0 +1,59 @@
+-- The words of the program: its name, a file, and a fault as its line has it.
+use Rattle.std.specs.Prelude.{ℕ, ◌+◌, ◌*◌, ◌-◌, ◌≡◌, nat_le, nat_lt, ◌&&◌, if◌then◌else◌, List, [], ◌∷◌, ◌++◌, get_or, Option, Some, None, IsSome, IfSome, Result, Ok, Err, Vec}
+use Rattle.std.specs.Option.{option_and_then}
+use Rattle.std.specs.declared.alloc.Global.{Global}
+use Rattle.outside.specs.State.{LibraryState, IsFront, Rose}
+use Rattle.explain.specs.declared.words.ExplainFault.{ExplainFault}
+use Rattle.explain.specs.declared.words.ExplainFault.TheVariants.{Memory, Usage, Absent, ReadFault}
+use Rattle.explain.specs.Message.{row_for, Explains}
+
+-- the number of decimal digits that follow those of n, below 2^64
+abbrev pub number_from : ℕ → List ℕ → Option ℕ
+number_from n [] = Some n
+number_from n (c ∷ cs) =
+    if (nat_le 48 c && nat_le c 57) && nat_lt (n * 10 + (c - 48)) 18446744073709551616 then number_from (n * 10 + (c - 48)) cs else None
+
+-- the number that a word writes in decimal
+abbrev pub number : List ℕ → Option ℕ
+number [] = None
+number (c ∷ cs) = number_from 0 (c ∷ cs)
+
+-- the numbers of words, behind earlier ones
+abbrev pub numbers_from : List ℕ → List (List ℕ) → Option (List ℕ)
+numbers_from ns [] = Some ns
+numbers_from ns (w ∷ ws) = option_and_then (λ n. numbers_from (ns ++ n ∷ []) ws) (number w)
+
+-- the fault of the words
+abbrev pub fault_of : List (List ℕ) → Option (List ℕ)
+fault_of (program ∷ file ∷ numbers) = numbers_from [] numbers
+fault_of _ = None
+
+-- the file of the words
+abbrev pub file_of : List (List ℕ) → List ℕ
+file_of words = get_or words 1 []
+
+abbrev pub bytes_of : {E : Type 0} → Result (Vec ℕ Global) E → Result (List ℕ) E
+bytes_of (Ok bytes) = Ok bytes.items
+bytes_of (Err e) = Err e
+
+-- what a fault in a file comes to: the message over the file's bytes, or why there is none
+abbrev pub FileGives : List ℕ → List ℕ → LibraryState → LibraryState → Result (List ℕ) ExplainFault → Type 0
+FileGives name fault old new (Ok text) =
+    (bytes : List ℕ) × IfSome old.files (λ files. IsFront (files name) 18446744073709551615 bytes) × Explains name bytes fault (Some text)
+FileGives name fault old new (Err Memory) = Unit {0}
+FileGives name fault old new (Err Usage) = row_for fault ≡ None
+FileGives name fault old new (Err Absent) = IsSome (row_for fault) × Rose old.absents new.absents
+FileGives name fault old new (Err ReadFault) = IsSome (row_for fault) × Rose old.faults new.faults
+
+abbrev pub IsMisused : Result (List ℕ) ExplainFault → Type 0
+IsMisused (Err Usage) = Unit {0}
+IsMisused (Err Memory) = Unit {0}
+IsMisused _ = ⊥
+
+abbrev pub GivesBy : Option (List ℕ) → List ℕ → LibraryState → LibraryState → Result (List ℕ) ExplainFault → Type 0
+GivesBy None name old new r = IsMisused r
+GivesBy (Some fault) name old new r = FileGives name fault old new r
+
+-- what the words come to
+abbrev pub Gives : List (List ℕ) → LibraryState → LibraryState → Result (List ℕ) ExplainFault → Type 0
+Gives words old new r = GivesBy (fault_of words) (file_of words) old new r

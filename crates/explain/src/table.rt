@@ -1,0 +1,91 @@
+// The table of faults: what stands behind a code, and its words.
+// It stands on nothing; the messages stand on it.
+ghost use Rattle.std.specs.Prelude.{◌≡◌};
+ghost use Rattle.std.specs.Option.{option_map};
+ghost use Rattle.explain.specs.Table.{row_of, row_text};
+
+/// What the last number of a fault counts: nothing in the file, its bytes or tokens from 0, or its
+/// lines from 1.
+#[derive(Clone, Copy)]
+pub enum Counts {
+    Nothing,
+    Bytes,
+    Tokens,
+    Lines,
+}
+
+/// How many numbers follow a code, what the last of them counts, and the words.
+#[derive(Clone, Copy)]
+pub(crate) struct Row {
+    pub fields: usize,
+    pub counts: Counts,
+    pub words: &'static str,
+}
+
+fn found(fields: usize, counts: Counts, words: &'static str) -> Option<Row>
+    ensures { option_map row_text result
+        ≡ Some (record { fields = fields; counts = counts; words = words.now }) }
+{
+    Some(Row {
+        fields,
+        counts,
+        words,
+    })
+}
+
+/// The row of a code, if there is one.
+pub(crate) fn row_of(code: usize) -> Option<Row>
+    ensures { option_map row_text result ≡ row_of code }
+{
+    match code {
+        10 => found(
+            1,
+            Counts::Bytes,
+            "no token begins here, or a comment or attribute that isn't closed",
+        ),
+        11 => found(1, Counts::Bytes, "integer literal above 2^127 - 1"),
+        12 => found(1, Counts::Tokens, "syntax error"),
+        13 => found(1, Counts::Tokens, "nested deeper than 200"),
+        14 => found(1, Counts::Tokens, "declaration of a program"),
+        15 => found(1, Counts::Nothing, "file longer than 67,108,864 bytes"),
+        16 => found(1, Counts::Bytes, "declaration that isn't read so far"),
+        20 => found(2, Counts::Tokens, "unknown name"),
+        21 => found(2, Counts::Tokens, "name that is taken"),
+        22 => found(
+            2,
+            Counts::Tokens,
+            "formula where a term is due, term where a formula is due, or alternative with other names",
+        ),
+        23 => found(2, Counts::Tokens, "wrong number of arguments"),
+        31 => found(2, Counts::Tokens, "type that is left open"),
+        32 => found(2, Counts::Tokens, "match that isn't exhaustive"),
+        40 => found(2, Counts::Tokens, "clone element that doesn't fit"),
+        50 => found(2, Counts::Bytes, "syntax error"),
+        51 => found(2, Counts::Bytes, "unknown transformation"),
+        52 => found(
+            2,
+            Counts::Bytes,
+            "template that lacks an argument, or has one twice",
+        ),
+        53 => found(2, Counts::Bytes, "unknown symbol"),
+        54 => found(
+            2,
+            Counts::Bytes,
+            "import of a file that is being read, or too many imports",
+        ),
+        55 => found(2, Counts::Bytes, "unknown printer, or none"),
+        60 => found(0, Counts::Nothing, "no such theory"),
+        61 => found(0, Counts::Nothing, "no such goal"),
+        90 => found(
+            2,
+            Counts::Nothing,
+            "another number of refutations than of problems",
+        ),
+        91 => found(
+            2,
+            Counts::Lines,
+            "wrong line; behind the last line: the steps don't end in the start",
+        ),
+        _ => None,
+    }
+}

@@ -1,0 +1,204 @@
+"""What the launchers do: prove and build a program before they run it, or run its sources by a trial run."""
+import os
+import re
+import shutil
+import subprocess
+import sys
+
+ROOT = os.path.dirname(os.path.dirname(os.path.realpath(__file__)))
+# Lines of code that are proved in a minute, from nothing, on four processors of a common machine; and crates that are
+# loaded and built in a minute beside that.
+LINES_A_MINUTE = 500
+CRATES_A_MINUTE = 2
+# The word DRV that is read so far.
+PLAIN = "plain.drv"
+
+
+def tell(text):
+    print(text, file=sys.stderr, flush=True)
+
+
+def crates_of(name):
+    """Returns the crates below a crate, each behind those that it stands on, and the crate itself."""
+    below = {}
+    with open(f"{ROOT}/crates.txt", encoding="utf-8") as lines:
+        for line in lines:
+            crate, colon, names = line.split("#")[0].partition(":")
+            if colon:
+                below[crate.split()[0]] = names.split()
+    found = []
+
+    def walk(crate):
+        if crate in below and crate not in found:
+            for it in below[crate]:
+                walk(it)
+            found.append(crate)
+
+    walk(name)
+    return found
+
+
+def sources_of(crate):
+    for part in ("src", "specs", "proofs"):
+        for folder, _, files in os.walk(f"{ROOT}/crates/{crate}/{part}"):
+            yield from (f"{folder}/{it}" for it in files)
+
+
+def is_newer(file, crate):
+    """Returns whether a file is there, and no source of a crate is newer."""
+    if not os.path.isfile(file):
+        return False
+    made = os.path.getmtime(file)
+    return all(os.path.getmtime(it) <= made for it in sources_of(crate))
+
+
+def binary_of(name):
+    return f"{ROOT}/crates/{name}/out/{name}"
+
+
+def is_current(name):
+    return all(is_newer(binary_of(name), it) for it in crates_of(name))
+
+
+def minutes_of(name):
+    """Returns about how many minutes it takes to prove the crates of a program that aren't built."""
+    lines, crates = 0, 0
+    for crate in crates_of(name):
+        if not is_newer(f"{ROOT}/crates/{crate}/out/rlib/stamp", crate):
+            crates += 1
+            for file in sources_of(crate):
+                if file.endswith(".rt"):
+                    with open(file, "rb") as it:
+                        lines += len(it.readlines())
+    return lines // LINES_A_MINUTE + crates // CRATES_A_MINUTE + 1
+
+
+def run_rt(name):
+    """Proves, builds and runs a program, without words; returns whether it came to run. Shows the crate at work."""
+    order, shows, runs = crates_of(name), sys.stderr.isatty(), False
+    how = {"cwd": f"{ROOT}/crates/{name}", "stdin": subprocess.DEVNULL, "errors": "replace"}
+    with open(f"{ROOT}/crates/{name}/build.log", "w", encoding="utf-8") as log:
+        with subprocess.Popen(["rt", "run"], stdout=subprocess.PIPE, stderr=subprocess.STDOUT, **how) as run:
+            for line in run.stdout:
+                log.write(line)
+                log.flush()
+                at_work = re.match(r"rt: chose --jobs \d+ for (\w+)$", line)
+                if shows and at_work and at_work[1] in order:
+                    at = order.index(at_work[1]) + 1
+                    print(f"\r\033[K{at} of {len(order)} crates: {at_work[1]}", end="", file=sys.stderr, flush=True)
+                runs = runs or line.startswith(f"rt: running out/{name}")
+    if shows:
+        print("\r\033[K", end="", file=sys.stderr, flush=True)
+    return runs
+
+
+def build(name):
+    """Proves and builds a program where its binary is missing or older than a source of its crates."""
+    if is_current(name):
+        return
+    if not shutil.which("rt"):
+        tell("why3lift: the toolchain's command rt isn't there")
+        sys.exit(70)
+    tell(f"why3lift: proves and builds {name} first: up to {minutes_of(name)} minutes where nothing is built yet")
+    tell("why3lift: ./why3lift-unproved runs the same sources in a minute or two, without proofs")
+    try:
+        runs = run_rt(name)
+    except KeyboardInterrupt:
+        sys.exit(130)
+    if not runs or not os.path.isfile(binary_of(name)):
+        tell(f"why3lift: the build failed, see crates/{name}/build.log")
+        sys.exit(70)
+    os.utime(binary_of(name))
+
+
+def places_of(words):
+    """Returns the places of the words that name the files which a command fetches, in the order of their numbers."""
+    command = words[0] if words else ""
+    return {"print": [1, 2], "check": [1, 4], "lift": [1, 2, *range(5, len(words))]}.get(command, [])
+
+
+def file_of(words, number):
+    """Returns the word of the file that a command fetches with this number, if it has one."""
+    places = places_of(words)
+    return words[places[number]] if number < len(places) else None
+
+
+def file_of_refusal(words, numbers):
+    """Returns the word of the file that a refusal with these numbers speaks of."""
+    if numbers[0] == 91:
+        return file_of(words, numbers[1] if words[0] == "check" else numbers[1] + 1)
+    return file_of(words, numbers[1] if numbers[0] == 15 or 50 <= numbers[0] < 60 else 0)
+
+
+def explain(words, line):
+    """Says what the line on standard error means, for a reader at a terminal."""
+    found = re.fullmatch(r"(refused|absent|read fault): ([0-9 ]+)\n|usage: .*\n", line)
+    if not found:
+        return
+    numbers = [int(it) for it in (found[2] or "").split()]
+    if found[1] == "refused":
+        build("why3lift_explain")
+        file = file_of_refusal(words, numbers)
+        if file is not None:
+            subprocess.run([binary_of("why3lift_explain"), file, *map(str, numbers)], stdout=sys.stderr, check=False)
+    elif found[1]:
+        why = "no such file" if found[1] == "absent" else "can't be read"
+        tell(f"{file_of(words, numbers[0])}: {why}")
+    elif words[:1] in (["names"], ["stress"]):
+        tell(f"{words[0]} isn't built yet")
+    elif words[:1] in (["print"], ["lift"]) and words[2:] and words[2] != PLAIN:
+        tell(f"the word DRV is {PLAIN}, until drivers are read")
+
+
+def run_proved(words):
+    """Runs why3lift with these words, as it was proved and built."""
+    build("why3lift")
+    program = [binary_of("why3lift"), *words]
+    if not sys.stderr.isatty():
+        os.execv(program[0], program)
+    ran = subprocess.run(program, stderr=subprocess.PIPE, check=False)
+    sys.stderr.buffer.write(ran.stderr)
+    sys.stderr.flush()
+    explain(words, ran.stderr.decode(errors="replace"))
+    return ran.returncode
+
+
+def run_explain(words):
+    """Runs why3lift-explain with these words, as it was proved and built."""
+    build("why3lift_explain")
+    os.execv(binary_of("why3lift_explain"), [binary_of("why3lift_explain"), *words])
+
+
+def copied(at, word, data):
+    """Returns the name of a file's copy, which `data` gains; a name that nothing has where there is no file."""
+    if not word or word.startswith("-"):
+        return word
+    if not os.path.isfile(word) or not os.access(word, os.R_OK):
+        return "no-such-file"
+    name = word if not os.path.isabs(word) and ".." not in word.split("/") else f"{at}-{os.path.basename(word)}"
+    data += ["--data", f"{name}={os.path.abspath(word)}"]
+    return name
+
+
+def run_unproved(words):
+    """Runs the sources of why3lift, or behind the word `explain` those of why3lift-explain, by a trial run."""
+    if not shutil.which("rt"):
+        tell("why3lift-unproved: the toolchain's command rt isn't there")
+        return 70
+    tell("why3lift-unproved: nothing was proved; this trial run takes a minute or two, over copies of the files")
+    if words[:1] == ["explain"]:
+        crate, words, places = "why3lift_explain", words[1:], [0]
+    else:
+        # the driver isn't read so far
+        crate, places = "why3lift", [it for it in places_of(words) if it != 2]
+    data = []
+    shown = [copied(at, word, data) if at in places else word for at, word in enumerate(words)]
+    how = {"cwd": f"{ROOT}/crates/{crate}", "stdin": subprocess.DEVNULL, "stderr": subprocess.PIPE}
+    ran = subprocess.run(["rt", "try", *data, "--", *shown], check=False, **how)
+    for line in ran.stderr.decode(errors="replace").splitlines():
+        if not re.match(r"checked: |run=|rt: ", line):
+            tell(line)
+        if line.startswith("refused: ") and crate == "why3lift" and sys.stderr.isatty():
+            numbers = [int(it) for it in line.split()[1:]]
+            tell(f"./why3lift-explain {file_of_refusal(words, numbers)} {line[9:]} says where")
+    return ran.returncode
