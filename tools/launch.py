@@ -99,8 +99,10 @@ def build(name):
     if not shutil.which("rt"):
         tell("why3lift: the toolchain's command rt isn't there")
         sys.exit(70)
-    tell(f"why3lift: proves and builds {name} first: up to {minutes_of(name)} minutes where nothing is built yet")
-    tell("why3lift: ./why3lift-unproved runs the same sources in a minute or two, without proofs")
+    minutes = minutes_of(name)
+    tell(f"why3lift: proves and builds {name} first, in up to {minutes} min where nothing of its crates is proved yet")
+    if minutes > 5:
+        tell("why3lift: ./why3lift-unproved runs the same sources in a minute or two, without proofs")
     try:
         runs = run_rt(name)
     except KeyboardInterrupt:
