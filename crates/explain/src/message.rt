@@ -11,11 +11,13 @@ use crate::places::{Spot, begins_character, column_behind, line_of, lines, place
 use crate::table::{Row, row_of};
 use std::alloc::{AllocError, Global};
 
+const DELETE: u8 = 127;
+
 fn push_numbers(alloc: Global, text: &mut Vec<u8>, numbers: &[usize]) -> Result<(), AllocError>
     ensures { OnOk result (text.new.items ≡ text.old.items ++ spaced numbers.now) }
 {
     for number in numbers {
-        text.push(32)?;
+        text.push(b' ')?;
         let digits = number.to_string(alloc)?;
         text.extend_from_slice(digits.as_bytes())?;
     }
@@ -25,10 +27,10 @@ fn push_numbers(alloc: Global, text: &mut Vec<u8>, numbers: &[usize]) -> Result<
 fn shown(byte: u8) -> u8
     ensures { result ≡ spec.shown byte }
 {
-    if byte == 9 {
-        9
-    } else if byte < 32 || byte == 127 {
-        32
+    if byte == b'\t' {
+        b'\t'
+    } else if byte < b' ' || byte == DELETE {
+        b' '
     } else {
         byte
     }
@@ -37,7 +39,7 @@ fn shown(byte: u8) -> u8
 fn under(byte: u8) -> u8
     ensures { result ≡ spec.under byte }
 {
-    if byte == 9 { 9 } else { 32 }
+    if byte == b'\t' { b'\t' } else { b' ' }
 }
 
 fn shown_line(alloc: Global, line: &[u8]) -> Result<Vec<u8>, AllocError>
@@ -47,7 +49,7 @@ fn shown_line(alloc: Global, line: &[u8]) -> Result<Vec<u8>, AllocError>
     for byte in line {
         text.push(shown(*byte))?;
     }
-    text.push(10)?;
+    text.push(b'\n')?;
     Ok(text)
 }
 
@@ -83,14 +85,14 @@ fn place_text(alloc: Global, text: &[u8], spot: Spot) -> Result<Vec<u8>, AllocEr
         Spot::Byte(byte) => {
             let (number, before) = place(alloc, text, byte)?;
             out.extend_from_slice(number.to_string(alloc)?.as_bytes())?;
-            out.push(58)?;
+            out.push(b':')?;
             out.extend_from_slice(column_behind(before).to_string(alloc)?.as_bytes())?;
-            out.push(58)?;
+            out.push(b':')?;
             Ok(out)
         }
         Spot::Line(number) => {
             out.extend_from_slice(number.to_string(alloc)?.as_bytes())?;
-            out.push(58)?;
+            out.push(b':')?;
             Ok(out)
         }
     }
@@ -127,9 +129,9 @@ fn head_line(
     ensures { IfOk result (λ v. v.items ≡ spec.head_line name.now place.now words.now fault.now) }
 {
     let mut out = Vec::from_slice(alloc, name.as_bytes())?;
-    out.push(58)?;
+    out.push(b':')?;
     out.extend_from_slice(place)?;
-    out.push(32)?;
+    out.push(b' ')?;
     out.extend_from_slice(words.as_bytes())?;
     out.extend_from_slice(b" (refused:")?;
     push_numbers(alloc, &mut out, fault)?;

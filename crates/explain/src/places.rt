@@ -22,7 +22,7 @@ pub enum Spot {
 pub fn lines<'a>(alloc: Global, text: &'a [u8]) -> Result<Vec<&'a [u8]>, AllocError>
     ensures { IfOk result (λ v. texts v.items ≡ spec.lines text.now) }
 {
-    text.split(|b| *b == 10).collect(alloc)
+    text.split(|b| *b == b'\n').collect(alloc)
 }
 
 /// A line by its number, or nothing where there is none.

@@ -37,10 +37,10 @@ fn digits(word: &[u8]) -> Option<usize>
 {
     let mut number = 0u64;
     for c in word {
-        if *c < 48 || *c > 57 {
+        if !c.is_ascii_digit() {
             return None;
         }
-        let next = u128::from(number) * 10 + u128::from(*c - 48);
+        let next = u128::from(number) * 10 + u128::from(*c - b'0');
         if next >= 18446744073709551616 {
             return None;
         }
