@@ -3,12 +3,12 @@
 #![tactic(auto)]
 
 #[cfg(test)]
-mod checking;
+mod check;
 #[cfg(test)]
-mod lifting;
-#[cfg(test)]
-mod printing;
+mod lift;
 #[cfg(test)]
 mod random;
 #[cfg(test)]
-mod running;
+mod refusals;
+#[cfg(test)]
+mod tables;

@@ -1,8 +1,9 @@
 // Random systems of equations, against a plain unifier that walks trees and takes the equations from the last on.
 // They stand on the tables; nothing stands on them.
-use crate::tables::{MEMORY, answer, applied, variable};
+use crate::tables::{answer, applied, variable};
 use std::alloc::Global;
 use std::process::Abort;
+use std::test::Fail;
 use term_store::Store;
 use trees::{Node, TermId};
 use unify_types::UnifyFault;
@@ -19,29 +20,34 @@ fn random(seed: &mut u64, bound: u64) -> u64 {
 }
 
 // One of some types.
-fn any(rt: &impl Abort, seed: &mut u64, types: &[TermId]) -> TermId {
+fn any(seed: &mut u64, types: &[TermId]) -> Result<TermId, Fail> {
     let at = random(seed, 1000) as usize % types.len().max(1);
-    let found = types.get(at).expect(rt, "no type");
-    *found
+    let found = types.get(at).ok_or("no type")?;
+    Ok(*found)
 }
 
 // Variables, a type symbol, and types made of them.
-fn types(rt: &impl Abort, alloc: Global, store: &mut Store, seed: &mut u64) -> Vec<TermId> {
+fn types(
+    rt: &impl Abort,
+    alloc: Global,
+    store: &mut Store,
+    seed: &mut u64,
+) -> Result<Vec<TermId>, Fail> {
     let mut made = Vec::new(alloc);
     for j in 0..VARIABLES {
-        made.push(variable(rt, store, j)).expect(rt, MEMORY);
+        made.push(variable(store, j)?)?;
     }
-    made.push(applied(rt, store, 0, &[])).expect(rt, MEMORY);
+    made.push(applied(rt, store, 0, &[])?)?;
     for _ in 0..6 {
-        let a = any(rt, seed, &made);
-        let b = any(rt, seed, &made);
+        let a = any(seed, &made)?;
+        let b = any(seed, &made)?;
         if random(seed, 3) == 0 {
-            made.push(applied(rt, store, 2, &[a])).expect(rt, MEMORY);
+            made.push(applied(rt, store, 2, &[a])?)?;
         } else {
-            made.push(applied(rt, store, 3, &[a, b])).expect(rt, MEMORY);
+            made.push(applied(rt, store, 3, &[a, b])?)?;
         }
     }
-    made
+    Ok(made)
 }
 
 // What a number stands for, as far as types go.
@@ -66,18 +72,23 @@ fn shape_of(rt: &impl Abort, store: &Store, e: TermId) -> Shape {
 }
 
 // What a type is bound to in the end.
-fn resolve(rt: &impl Abort, store: &Store, bound: &[Option<TermId>], e: TermId) -> TermId {
+fn resolve(
+    rt: &impl Abort,
+    store: &Store,
+    bound: &[Option<TermId>],
+    e: TermId,
+) -> Result<TermId, Fail> {
     let mut at = e;
     for _ in 0..VARIABLES {
         let Shape::Variable(j) = shape_of(rt, store, at) else {
-            return at;
+            return Ok(at);
         };
         let Some(Some(next)) = bound.get(j) else {
-            return at;
+            return Ok(at);
         };
         at = *next;
     }
-    at
+    Ok(at)
 }
 
 // Whether a type variable occurs in a type.
@@ -88,29 +99,29 @@ fn occurs(
     bound: &[Option<TermId>],
     variable: usize,
     e: TermId,
-) -> bool {
+) -> Result<bool, Fail> {
     let mut waiting = Vec::new(alloc);
-    waiting.push(e).expect(rt, MEMORY);
+    waiting.push(e)?;
     for _ in 0..1_000_000 {
         let Some(e) = waiting.pop() else {
-            return false;
+            return Ok(false);
         };
-        let at = resolve(rt, store, bound, e);
+        let at = resolve(rt, store, bound, e)?;
         match shape_of(rt, store, at) {
             Shape::Variable(j) => {
                 if j == variable {
-                    return true;
+                    return Ok(true);
                 }
             }
-            Shape::Applied(_, list) => waiting.push(list).expect(rt, MEMORY),
+            Shape::Applied(_, list) => waiting.push(list)?,
             Shape::Cell(first, rest) => {
-                waiting.push(first).expect(rt, MEMORY);
-                waiting.push(rest).expect(rt, MEMORY);
+                waiting.push(first)?;
+                waiting.push(rest)?;
             }
             Shape::End | Shape::Other => {}
         }
     }
-    panic!(rt; "an endless type")
+    Err("an endless type")?
 }
 
 // Binds an unknown, unless it occurs in the type.
@@ -121,14 +132,14 @@ fn bind(
     bound: &mut [Option<TermId>],
     unknown: usize,
     e: TermId,
-) -> bool {
-    if occurs(rt, alloc, store, bound, unknown, e) {
-        return false;
+) -> Result<bool, Fail> {
+    if occurs(rt, alloc, store, bound, unknown, e)? {
+        return Ok(false);
     }
     if let Some(place) = bound.get_mut(unknown) {
         *place = Some(e);
     }
-    true
+    Ok(true)
 }
 
 // Makes two types the same, where that can be.
@@ -138,36 +149,36 @@ fn unify_plainly(
     store: &Store,
     bound: &mut [Option<TermId>],
     pair: (TermId, TermId),
-) -> bool {
+) -> Result<bool, Fail> {
     let mut waiting = Vec::new(alloc);
-    waiting.push(pair).expect(rt, MEMORY);
+    waiting.push(pair)?;
     for _ in 0..1_000_000 {
         let Some((left, right)) = waiting.pop() else {
-            return true;
+            return Ok(true);
         };
-        let a = resolve(rt, store, bound, left);
-        let b = resolve(rt, store, bound, right);
+        let a = resolve(rt, store, bound, left)?;
+        let b = resolve(rt, store, bound, right)?;
         let same = match (shape_of(rt, store, a), shape_of(rt, store, b)) {
             (Shape::Variable(j), Shape::Variable(k)) if j == k => true,
-            (Shape::Variable(j), _) if j >= RIGID => bind(rt, alloc, store, bound, j, b),
-            (_, Shape::Variable(k)) if k >= RIGID => bind(rt, alloc, store, bound, k, a),
+            (Shape::Variable(j), _) if j >= RIGID => bind(rt, alloc, store, bound, j, b)?,
+            (_, Shape::Variable(k)) if k >= RIGID => bind(rt, alloc, store, bound, k, a)?,
             (Shape::Applied(f, xs), Shape::Applied(g, ys)) => {
-                waiting.push((xs, ys)).expect(rt, MEMORY);
+                waiting.push((xs, ys))?;
                 f == g
             }
             (Shape::Cell(x, xs), Shape::Cell(y, ys)) => {
-                waiting.push((x, y)).expect(rt, MEMORY);
-                waiting.push((xs, ys)).expect(rt, MEMORY);
+                waiting.push((x, y))?;
+                waiting.push((xs, ys))?;
                 true
             }
             (Shape::End, Shape::End) => true,
             _ => false,
         };
         if !same {
-            return false;
+            return Ok(false);
         }
     }
-    panic!(rt; "an endless equation")
+    Err("an endless equation")?
 }
 
 // What the first equations bind, from the last of them on; none where they have no solution.
@@ -177,17 +188,17 @@ fn bindings(
     store: &Store,
     pairs: &[(TermId, TermId)],
     count: usize,
-) -> Option<Vec<Option<TermId>>> {
+) -> Result<Option<Vec<Option<TermId>>>, Fail> {
     let mut bound = Vec::new(alloc);
     for _ in 0..VARIABLES {
-        bound.push(None).expect(rt, MEMORY);
+        bound.push(None)?;
     }
     for pair in pairs.iter().take(count).rev() {
-        if !unify_plainly(rt, alloc, store, &mut bound, *pair) {
-            return None;
+        if !unify_plainly(rt, alloc, store, &mut bound, *pair)? {
+            return Ok(None);
         }
     }
-    Some(bound)
+    Ok(Some(bound))
 }
 
 // A type written out; none where an unknown is left in it.
@@ -197,36 +208,36 @@ fn written(
     store: &Store,
     bound: &[Option<TermId>],
     e: TermId,
-) -> Option<Vec<usize>> {
+) -> Result<Option<Vec<usize>>, Fail> {
     let mut text = Vec::new(alloc);
     let mut waiting = Vec::new(alloc);
-    waiting.push(e).expect(rt, MEMORY);
+    waiting.push(e)?;
     for _ in 0..1_000_000 {
         let Some(e) = waiting.pop() else {
-            return Some(text);
+            return Ok(Some(text));
         };
-        let at = resolve(rt, store, bound, e);
+        let at = resolve(rt, store, bound, e)?;
         match shape_of(rt, store, at) {
             Shape::Variable(j) => {
                 if j >= RIGID {
-                    return None;
+                    return Ok(None);
                 }
-                text.push(0).expect(rt, MEMORY);
+                text.push(0)?;
             }
             Shape::Applied(symbol, list) => {
-                text.push(1).expect(rt, MEMORY);
-                text.push(symbol).expect(rt, MEMORY);
-                waiting.push(list).expect(rt, MEMORY);
+                text.push(1)?;
+                text.push(symbol)?;
+                waiting.push(list)?;
             }
             Shape::Cell(first, rest) => {
-                text.push(2).expect(rt, MEMORY);
-                waiting.push(rest).expect(rt, MEMORY);
-                waiting.push(first).expect(rt, MEMORY);
+                text.push(2)?;
+                waiting.push(rest)?;
+                waiting.push(first)?;
             }
-            Shape::End | Shape::Other => text.push(3).expect(rt, MEMORY),
+            Shape::End | Shape::Other => text.push(3)?,
         }
     }
-    panic!(rt; "an endless type")
+    Err("an endless type")?
 }
 
 // How many systems clash, and how many unknowns have a value.
@@ -237,56 +248,61 @@ struct Counts {
 }
 
 // Compares the answers to one system.
-fn compare(rt: &impl Abort, alloc: Global, seed: &mut u64, counts: &mut Counts) {
-    let mut store = Store::new(alloc).expect(rt, MEMORY);
-    let all = types(rt, alloc, &mut store, seed);
+fn compare(
+    rt: &impl Abort,
+    alloc: Global,
+    seed: &mut u64,
+    counts: &mut Counts,
+) -> Result<(), Fail> {
+    let mut store = Store::new(alloc)?;
+    let all = types(rt, alloc, &mut store, seed)?;
     let mut pairs = Vec::new(alloc);
     for _ in 0..random(seed, 4).saturating_add(1) {
-        pairs
-            .push((any(rt, seed, &all), any(rt, seed, &all)))
-            .expect(rt, MEMORY);
+        pairs.push((any(seed, &all)?, any(seed, &all)?))?;
     }
     let mut clash = None;
     for k in 0..pairs.len() {
-        if clash.is_none() && bindings(rt, alloc, &store, &pairs, k + 1).is_none() {
+        if clash.is_none() && bindings(rt, alloc, &store, &pairs, k + 1)?.is_none() {
             clash = Some(k);
         }
     }
-    let solution = match answer(rt, alloc, &mut store, RIGID, &pairs) {
+    let solution = match answer(rt, alloc, &mut store, RIGID, &pairs)? {
         Ok(solution) => solution,
         Err(UnifyFault::Clash { k }) => {
             assert_eq!(rt; clash, Some(k));
             counts.clashes = counts.clashes.saturating_add(1);
-            return;
+            return Ok(());
         }
-        Err(UnifyFault::Memory) => panic!(rt; "no memory"),
+        Err(UnifyFault::Memory) => Err("no memory")?,
     };
     assert_eq!(rt; clash, None);
-    let bound = bindings(rt, alloc, &store, &pairs, pairs.len()).expect(rt, "a clash");
+    let bound = bindings(rt, alloc, &store, &pairs, pairs.len())?.ok_or("a clash")?;
     for u in RIGID..VARIABLES {
-        let unknown = variable(rt, &mut store, u);
-        let expected = written(rt, alloc, &store, &bound, unknown);
+        let unknown = variable(&mut store, u)?;
+        let expected = written(rt, alloc, &store, &bound, unknown)?;
         let found = match solution.value(u) {
             Some(value) => {
                 counts.values = counts.values.saturating_add(1);
-                written(rt, alloc, &store, &[], value)
+                written(rt, alloc, &store, &[], value)?
             }
             None => None,
         };
         assert!(rt; expected == found);
     }
+    Ok(())
 }
 
 #[test]
-fn random_systems_are_solved_as_a_plain_unifier_does(rt: HostRuntime) {
+fn random_systems_are_solved_as_a_plain_unifier_does(rt: HostRuntime) -> Result<(), Fail> {
     let mut seed = 2026;
     let mut counts = Counts {
         clashes: 0,
         values: 0,
     };
     for _ in 0..3000 {
-        compare(&rt, rt.alloc(), &mut seed, &mut counts);
+        compare(&rt, rt.alloc(), &mut seed, &mut counts)?;
     }
     assert!(rt; counts.clashes > 300);
     assert!(rt; counts.values > 300);
+    Ok(())
 }

@@ -1,13 +1,20 @@
 // The command `check` over files in memory: expected answers are reasoned from the rules of the calculus.
-// They stand on the runs; nothing stands on them.
-use crate::running::answer_over;
+// They stand on the tables' runs; nothing stands on them.
+use crate::tables::{sink, strings};
+use outside::MemoryLibrary;
+use program::run;
+use std::alloc::{AllocError, Global};
+use std::test::Fail;
+
+// The formulas and the two steps that derive the axiom `p`.
+const FACT: &str = "e sym p_1\ne not 0\ns 1 0 : clash 1 0 :\ns 1 : fact 0 : 0\n";
 
 const SHORT: &str = "theory T predicate p axiom a: p goal g: p end";
 
 const LONG: &str = "theory T predicate p predicate q axiom a: p goal g: p /\\ (q -> p) end";
 
 // A source, a file of steps, then the code of the status, the line on the second sink and the text on the first.
-static FILES: [(&str, &str, u8, &str, &str); 16] = [
+const FILES: [(&str, &str, u8, &str, &str); 16] = [
     (
         SHORT,
         "e sym p_1\ne not 0\ns 1 0 : clash 1 0 :\ns 1 : fact 0 : 0\n",
@@ -94,23 +101,46 @@ static FILES: [(&str, &str, u8, &str, &str); 16] = [
     ),
 ];
 
-#[test]
-fn files_are_accepted_or_refused(rt: HostRuntime) {
-    for row in FILES.iter() {
-        let (source, steps, code, line, text) = *row;
-        let files = [("s", source.as_bytes()), ("d", steps.as_bytes())];
-        let words = ["why3lift", "check", "s", "T", "g", "d"];
-        let found = answer_over(&rt, rt.alloc(), &words, &files, &[]);
-        assert_eq!(rt; found.code, code, "{steps}");
-        assert_eq!(rt; found.line.as_slice(), line.as_bytes(), "{steps}");
-        assert_eq!(rt; found.text.as_slice(), text.as_bytes(), "{steps}");
-    }
+// A library with a source, `s`, and a file of steps, `d`.
+fn library(alloc: Global, source: &[u8], steps: &[u8]) -> Result<MemoryLibrary, AllocError> {
+    let mut files = Vec::new(alloc);
+    files.push((
+        String::from_str(alloc, "s")?,
+        Vec::from_slice(alloc, source)?,
+    ))?;
+    files.push((
+        String::from_str(alloc, "d")?,
+        Vec::from_slice(alloc, steps)?,
+    ))?;
+    Ok(MemoryLibrary::new(alloc, files, Vec::new(alloc)))
 }
 
 #[test]
-fn a_file_of_steps_is_absent(rt: HostRuntime) {
-    let words = ["why3lift", "check", "s", "T", "g", "d"];
-    let found = answer_over(&rt, rt.alloc(), &words, &[("s", SHORT.as_bytes())], &[]);
-    assert_eq!(rt; found.code, 4);
-    assert_eq!(rt; found.line.as_slice(), b"absent: 1\n".as_slice());
+fn files_are_accepted_or_refused(rt: HostRuntime) -> Result<(), Fail> {
+    let alloc = rt.alloc();
+    for (source, steps, code, line, text) in FILES {
+        let (line, text) = (line.as_bytes(), text.as_bytes());
+        let mut lib = library(alloc, source.as_bytes(), steps.as_bytes())?;
+        let mut out = sink(alloc, &[])?;
+        let mut err = sink(alloc, &[])?;
+        let words = strings(alloc, &["why3lift", "check", "s", "T", "g", "d"])?;
+        let status = run(alloc, &words, &mut lib, &mut out, &mut err);
+        assert_eq!(rt; status.code(), code, "{steps}");
+        assert_eq!(rt; err.written(), line, "{steps}");
+        assert_eq!(rt; out.written(), text, "{steps}");
+    }
+    Ok(())
+}
+
+#[test]
+fn a_file_of_steps_is_absent(rt: HostRuntime) -> Result<(), Fail> {
+    let alloc = rt.alloc();
+    let mut lib = library(alloc, SHORT.as_bytes(), FACT.as_bytes())?;
+    let mut out = sink(alloc, &[])?;
+    let mut err = sink(alloc, &[])?;
+    let words = strings(alloc, &["why3lift", "check", "s", "T", "g", "e"])?;
+    let status = run(alloc, &words, &mut lib, &mut out, &mut err);
+    assert_eq!(rt; status.code(), 4);
+    assert_eq!(rt; err.written(), b"absent: 1\n".as_slice());
+    Ok(())
 }
