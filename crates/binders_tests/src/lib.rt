@@ -1,6 +1,10 @@
-//! Tests of the binding functions: trees and their images, written by hand from the definitions.
+//! Tests of the binding functions: tables, random trees against a plain walk, and trees with more nodes than a number counts.
 //! It stands on binders; nothing stands on it.
 #![tactic(auto)]
 
+#[cfg(test)]
+mod calls;
+#[cfg(test)]
+mod random;
 #[cfg(test)]
 mod tables;

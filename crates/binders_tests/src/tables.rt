@@ -1,12 +1,11 @@
 // Trees with binders, and what each call makes of them, reasoned from the textbook's equations.
 // They go through the calls of `binders` over a store; nothing stands on them.
-use binders::{
-    close_param, has_param, inst, inst_many, inst_types, is_inst, is_inst_types, occurs, shift,
-};
-use std::process::Abort;
-use std::test::Fail;
-use term_store::{Grow, Store};
-use trees::{Node, Sort, TermId};
+use crate::calls::{Change, is_made, made, put};
+use crate::random::{agree_on_random_trees, fill, put_into_chain};
+use binders::{has_param, occurs};
+use std::alloc::Global;
+use term_store::Store;
+use trees::{Node, TermId};
 
 // The rows' numbers: the place in the table is the number in the store.
 static NODES: [Node; 30] = [
@@ -42,252 +41,92 @@ static NODES: [Node; 30] = [
     Node::Arm(TermId(27), TermId(2)), // 29 x -> 7
 ];
 
-fn filled(rt: &impl Abort, store: &mut Store) -> Result<(), Fail> {
+// A change, a tree, and what it becomes.
+static MADE: [(Change, usize, usize); 37] = [
+    (Change::Shift(1, 0), 3, 4),
+    (Change::Shift(2, 0), 3, 5),
+    (Change::Shift(1, 1), 3, 3),
+    (Change::Shift(1, 1), 4, 5),
+    (Change::Shift(1, 0), 10, 14),
+    (Change::Shift(1, 1), 10, 10),
+    (Change::Shift(0, 0), 7, 7),
+    (Change::Shift(9, 0), 8, 8),
+    (Change::Shift(1, 0), 24, 24),
+    (Change::Put(2), 3, 2),
+    (Change::Put(2), 4, 3),
+    (Change::Put(2), 5, 4),
+    (Change::Put(2), 7, 8),
+    (Change::Put(6), 7, 18),
+    (Change::Put(2), 10, 12),
+    (Change::Put(3), 10, 10),
+    (Change::Put(4), 10, 14),
+    (Change::Put(6), 10, 16),
+    (Change::Put(2), 14, 10),
+    (Change::Put(2), 28, 29),
+    (Change::Put(6), 8, 8),
+    (Change::PutTwo(6, 2), 9, 18),
+    (Change::PutTwo(6, 2), 17, 19),
+    (Change::PutTwo(2, 6), 10, 16),
+    (Change::Types(1), 20, 1),
+    (Change::Types(1), 21, 27),
+    (Change::Types(1), 23, 25),
+    (Change::Types(1), 24, 26),
+    (Change::Types(20), 24, 24),
+    (Change::Types(1), 26, 26),
+    (Change::Close(5), 6, 3),
+    (Change::Close(4), 6, 6),
+    (Change::Close(5), 18, 7),
+    (Change::Close(5), 19, 11),
+    (Change::Close(5), 16, 10),
+    (Change::Close(5), 10, 14),
+    (Change::Close(5), 3, 4),
+];
+
+// Whether each node has its place as its number.
+fn filled(store: &mut Store) -> bool {
     for (i, node) in NODES.iter().enumerate() {
-        assert!(rt; store.accepts(*node), "{node:?}");
-        assert_eq!(rt; store.add(*node)?.0, i);
+        if put(store, *node) != Some(TermId(i)) {
+            return false;
+        }
     }
-    Ok(())
+    true
 }
 
-fn shifted(
-    rt: &impl Abort,
-    store: &mut Store,
-    e: TermId,
-    up: usize,
-    from: usize,
-) -> Result<TermId, Fail> {
-    assert!(rt; store.holds(e));
-    assert!(rt; up < 1000);
-    assert!(rt; store.loose(e) < 1000);
-    assert!(rt; store.size(e) < 1000);
-    Ok(shift(store, e, up, from)?)
+// Whether the calls make what a row says, and it is told without memory of that tree, and not of the empty list.
+fn is_row(alloc: Global, store: &mut Store, change: Change, e: TermId, wanted: TermId) -> bool {
+    made(alloc, store, e, change) == Some(wanted)
+        && is_made(store, e, change, wanted) != Some(false)
+        && is_made(store, e, change, TermId(0)) != Some(true)
 }
 
-fn closed_over(
-    rt: &impl Abort,
-    store: &mut Store,
-    e: TermId,
-    param: usize,
-) -> Result<TermId, Fail> {
-    assert!(rt; store.holds(e));
-    assert!(rt; store.loose(e) < 1000);
-    assert!(rt; store.size(e) < 1000);
-    Ok(close_param(store, e, param)?)
-}
-
-fn instance(rt: &impl Abort, store: &mut Store, body: TermId, by: TermId) -> Result<TermId, Fail> {
-    assert!(rt; store.holds(body));
-    assert!(rt; store.holds(by));
-    assert!(rt; store.loose(body) < 1000);
-    assert!(rt; store.size(body) < 1000);
-    assert!(rt; store.loose(by) < 1000);
-    assert!(rt; store.size(by) < 1000);
-    let Sort::Term = store.sort(by) else {
-        return Ok(by);
-    };
-    Ok(inst(store, body, by)?)
-}
-
-// The first term for the variable 1, and the second for the variable 0.
-fn instance_by_two(
-    rt: &impl Abort,
-    store: &mut Store,
-    body: TermId,
-    first: TermId,
-    second: TermId,
-) -> Result<TermId, Fail> {
-    assert!(rt; store.holds(body));
-    assert!(rt; store.holds(first));
-    assert!(rt; store.holds(second));
-    assert!(rt; store.loose(body) <= 2);
-    assert!(rt; store.size(body) < 1000);
-    assert!(rt; store.loose(first) == 0);
-    assert!(rt; store.size(first) < 1000);
-    assert!(rt; store.loose(second) == 0);
-    assert!(rt; store.size(second) < 1000);
-    let Sort::Term = store.sort(first) else {
-        return Ok(body);
-    };
-    let Sort::Term = store.sort(second) else {
-        return Ok(body);
-    };
-    Ok(inst_many(store, body, &[first, second])?)
-}
-
-fn at_type(rt: &impl Abort, store: &mut Store, e: TermId, ty: TermId) -> Result<TermId, Fail> {
-    assert!(rt; store.holds(e));
-    assert!(rt; store.holds(ty));
-    assert!(rt; store.loose(e) < 1000);
-    assert!(rt; store.size(e) < 1000);
-    assert!(rt; store.loose(ty) == 0);
-    assert!(rt; store.size(ty) < 1000);
-    let Sort::Kind = store.sort(ty) else {
-        return Ok(e);
-    };
-    Ok(inst_types(store, e, &[ty])?)
+// Whether a tree is a part of another, and whether a parameter is in it.
+fn part_in(store: &Store, part: TermId, param: usize, e: TermId) -> Option<(bool, bool)> {
+    if store.holds(e) && store.holds(part) {
+        Some((occurs(store, part, e), has_param(store, e, param)))
+    } else {
+        None
+    }
 }
 
 #[test]
-fn puts_terms_and_types_in(rt: HostRuntime) -> Result<(), Fail> {
-    let mut store = Store::new(rt.alloc())?;
-    filled(&rt, &mut store)?;
-    // A body, the terms for its variables 1 and 0, and what it becomes.
-    for (body, first, second, wanted) in [(9, 6, 2, 18), (17, 6, 2, 19), (10, 2, 6, 16)] {
-        let made = instance_by_two(&rt, &mut store, TermId(body), TermId(first), TermId(second))?;
-        assert_eq!(rt; made.0, wanted, "{body}");
+fn changes_trees(rt: HostRuntime) {
+    let mut store = Store::new(rt.alloc()).expect(&rt, "memory");
+    assert!(rt; filled(&mut store));
+    for (change, e, wanted) in MADE.iter() {
+        let is = is_row(rt.alloc(), &mut store, *change, TermId(*e), TermId(*wanted));
+        assert!(rt; is, "{e} {wanted}");
     }
-    // A tree, and what it becomes where its type variable is int.
-    for (e, wanted) in [(20, 1), (21, 27), (23, 25), (24, 26), (26, 26)] {
-        let made = at_type(&rt, &mut store, TermId(e), TermId(1))?;
-        assert_eq!(rt; made.0, wanted, "{e}");
+    // A tree, another one, whether that is a part of it, a parameter, and whether that is in it.
+    for (e, part, is_part, param, has) in [
+        (16, 6, true, 5, true),
+        (16, 16, true, 4, false),
+        (16, 2, false, 6, false),
+        (10, 1, true, 5, false),
+    ] {
+        assert!(rt; part_in(&store, TermId(part), param, TermId(e)) == Some((is_part, has)));
     }
-    Ok(())
-}
-
-#[test]
-fn shifts(rt: HostRuntime) -> Result<(), Fail> {
-    let mut store = Store::new(rt.alloc())?;
-    filled(&rt, &mut store)?;
-    // A tree, how far, from where, and what it becomes.
-    let rows = [
-        (3, 1, 0, 4),
-        (3, 2, 0, 5),
-        (3, 1, 1, 3),
-        (4, 1, 1, 5),
-        (10, 1, 0, 14),
-        (10, 1, 1, 10),
-        (7, 0, 0, 7),
-        (8, 9, 0, 8),
-        (24, 1, 0, 24),
-    ];
-    for (e, up, from, wanted) in rows {
-        let made = shifted(&rt, &mut store, TermId(e), up, from)?;
-        assert_eq!(rt; made.0, wanted, "{e} {up} {from}");
-    }
-    Ok(())
-}
-
-#[test]
-fn puts_a_term_in(rt: HostRuntime) -> Result<(), Fail> {
-    let mut store = Store::new(rt.alloc())?;
-    filled(&rt, &mut store)?;
-    // A body, the term for its variable 0, and what it becomes.
-    let rows = [
-        (3, 2, 2),
-        (4, 2, 3),
-        (5, 2, 4),
-        (7, 2, 8),
-        (7, 6, 18),
-        (10, 2, 12),
-        (10, 3, 10),
-        (10, 4, 14),
-        (10, 6, 16),
-        (14, 2, 10),
-        (28, 2, 29),
-        (8, 6, 8),
-    ];
-    for (body, by, wanted) in rows {
-        let made = instance(&rt, &mut store, TermId(body), TermId(by))?;
-        assert_eq!(rt; made.0, wanted, "{body} {by}");
-    }
-    Ok(())
-}
-
-#[test]
-fn closes_over_a_parameter(rt: HostRuntime) -> Result<(), Fail> {
-    let mut store = Store::new(rt.alloc())?;
-    filled(&rt, &mut store)?;
-    // A tree, a parameter, and what it becomes.
-    let rows = [
-        (6, 5, 3),
-        (6, 4, 6),
-        (18, 5, 7),
-        (19, 5, 11),
-        (16, 5, 10),
-        (10, 5, 14),
-        (3, 5, 4),
-    ];
-    for (e, param, wanted) in rows {
-        let made = closed_over(&rt, &mut store, TermId(e), param)?;
-        assert_eq!(rt; made.0, wanted, "{e} {param}");
-    }
-    Ok(())
-}
-
-#[test]
-fn finds_parts(rt: HostRuntime) -> Result<(), Fail> {
-    let mut store = Store::new(rt.alloc())?;
-    filled(&rt, &mut store)?;
-    // A tree, another one, and whether that is a part of it.
-    for (e, part, wanted) in [(16, 6, true), (16, 16, true), (16, 2, false), (10, 1, true)] {
-        let (e, part) = (TermId(e), TermId(part));
-        assert!(rt; store.holds(e) && store.holds(part));
-        assert_eq!(rt; occurs(&store, part, e), wanted);
-    }
-    for (e, param, wanted) in [(16, 5, true), (16, 4, false), (10, 5, false)] {
-        let e = TermId(e);
-        assert!(rt; store.holds(e));
-        assert_eq!(rt; has_param(&store, e, param), wanted);
-    }
-    Ok(())
-}
-
-#[test]
-fn tells_instances(rt: HostRuntime) -> Result<(), Fail> {
-    let mut store = Store::new(rt.alloc())?;
-    filled(&rt, &mut store)?;
-    // A body, the term for its variable 0, a tree, and whether the body becomes that.
-    let rows = [
-        (3, 2, 2, true),
-        (3, 4, 4, true),
-        (4, 2, 3, true),
-        (4, 2, 4, false),
-        (7, 2, 8, true),
-        (10, 2, 12, true),
-        (10, 2, 16, false),
-        (10, 3, 10, true),
-        (10, 4, 14, true),
-        (10, 4, 10, false),
-        (14, 2, 10, true),
-        (28, 2, 29, true),
-        (8, 6, 8, true),
-    ];
-    for (body, by, tree, wanted) in rows {
-        let (body, by, tree) = (TermId(body), TermId(by), TermId(tree));
-        assert!(rt; store.holds(body) && store.holds(by) && store.holds(tree));
-        assert_eq!(rt; is_inst(&store, body, by, tree), wanted, "{body:?} {by:?}");
-    }
-    Ok(())
-}
-
-// Whether a tree is another one at a type.
-fn is_at_type(rt: &impl Abort, store: &Store, e: TermId, ty: TermId, tree: TermId) -> bool {
-    assert!(rt; store.holds(e) && store.holds(ty) && store.holds(tree));
-    let Sort::Kind = store.sort(ty) else {
-        return false;
-    };
-    is_inst_types(store, e, &[ty], tree)
-}
-
-#[test]
-fn tells_trees_at_types(rt: HostRuntime) -> Result<(), Fail> {
-    let mut store = Store::new(rt.alloc())?;
-    filled(&rt, &mut store)?;
-    // A tree, the type for its type variable, a tree, and whether the first becomes that.
-    let rows = [
-        (20, 1, 1, true),
-        (21, 1, 27, true),
-        (23, 1, 25, true),
-        (24, 1, 26, true),
-        (24, 20, 24, true),
-        (24, 1, 24, false),
-        (24, 20, 26, false),
-        (26, 20, 26, true),
-    ];
-    for (e, ty, tree, wanted) in rows {
-        let found = is_at_type(&rt, &store, TermId(e), TermId(ty), TermId(tree));
-        assert_eq!(rt; found, wanted, "{e} {ty}");
-    }
-    Ok(())
+    let mut seed = 1_961;
+    assert!(rt; fill(&mut store, &mut seed));
+    assert!(rt; agree_on_random_trees(rt.alloc(), &mut store, &mut seed));
+    assert!(rt; put_into_chain(rt.alloc(), &mut store) == Some(true));
 }

@@ -1,9 +1,10 @@
 -- What a transformation and a lifted stage promise, in trees.
-use Rattle.std.specs.Prelude.{◌≡◌, ◌↔◌, ℕ, ◌<◌, List, [], ◌∷◌, ◌++◌, length, map, get_or, All, Contains}
+use Rattle.std.specs.Prelude.{◌≡◌, ◌↔◌, ℕ, ◌<◌, List, [], ◌∷◌, ◌++◌, length, map, get_or, None, All, Contains, IsTrue}
 use Rattle.trees.specs.Tree.{Tree, Leaf, One, HEnd, HNot}
 use Rattle.trees.specs.Binding.{inst_types}
 use Rattle.tasks.specs.declared.task.Task.{Task}
 use Rattle.tasks.specs.Task.{TaskTree, Proposition, made, props, neg, start}
+use Rattle.tasks.specs.Roles.{role, is_constructor}
 use Rattle.tasks.specs.Valid.{IsValid, IsTypeOver}
 use Rattle.tasks.specs.Meaning.{task_at, TaskHeld}
 use Rattle.kernel.specs.declared.rule.Step.{Step}
@@ -20,7 +21,7 @@ IsStageFault refuses Memory = Unit {0}
 IsStageFault refuses fault = refuses fault
 
 abbrev pub no_task : TaskTree
-no_task = record { symbols = []; rigid = []; decls = []; params = []; locals = []; goal = Leaf HEnd }
+no_task = record { symbols = []; ints = None; rigid = []; decls = []; params = []; locals = []; goal = Leaf HEnd }
 
 abbrev pub task_or : List TaskTree → ℕ → TaskTree
 task_or ts i = get_or ts i no_task
@@ -41,11 +42,12 @@ pub record IsFact (from t : TaskTree) (k : ℕ) (types : List Tree) : Type 0 whe
   pub as_many : length types ≡ (prop_or (props t) k).vars
   pub ground : All (IsTypeOver from 0) types
 
--- the task has the symbols of the other, and declares the same ones
+-- the task has the symbols of the other, declares the same ones, and has no constructor that the other lacks
 pub record KeepsDeclared (from t : TaskTree) : Type 0 where
   pub symbols : t.symbols ≡ from.symbols
   pub rigid : t.rigid ≡ from.rigid
   pub made : (k : ℕ) → Contains (made t.decls) k ↔ Contains (made from.decls) k
+  pub constructors : (k : ℕ) → IsTrue (is_constructor (role t k)) → IsTrue (is_constructor (role from k))
 
 -- a task is one of those of an equation
 pub record IsAmong (is_stage : List TaskTree → Type 0) (t : TaskTree) : Type 0 where

@@ -1,6 +1,5 @@
-pub mod Marks
-pub mod Walk
-pub mod FormMachine
-pub mod FormOver
+pub mod Alphabet
+pub mod Table
 pub mod Machine
-pub mod Completion
+pub mod Rows
+pub mod Ends

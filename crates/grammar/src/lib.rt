@@ -1,3 +1,16 @@
-//! The grammar of expressions as a machine that reads token by token, and its laws: no code.
-//! It stands on the surface trees, as the means of proof for the readers.
+//! The grammar of sources as one table, and a machine over it that decides without trees which tokens are a source or an
+//! expression, where they go wrong, and what completes them.
+//! It depends on the terminals of the tokens.
 #![tactic(auto)]
+
+mod accept;
+mod ends;
+mod operators;
+mod shortest;
+mod symbols;
+mod table;
+
+pub use accept::is_same;
+pub use ends::{Fault, complete, first_fault, longest};
+pub use operators::{infix, need_of, prec_of, right_of};
+pub use symbols::Symbol;

@@ -8,9 +8,9 @@ ghost use Rattle.kernel.specs.Meaning.{steps_at, StepsHeld, added_at, AddedHeld,
 
 use crate::Step;
 use crate::shapes::negated;
-use tasks::{Types, is_instance};
 use term_store::Store;
 use trees::TermId;
+use typing::{Types, is_instance};
 
 // A formula that a premise adds, by a tree that the store has. The checker makes no trees.
 #[derive(Clone, Copy)]

@@ -10,9 +10,10 @@ ghost use Rattle.kernel.specs.Meaning.{rule_at, steps_at, StepHeld, StepsHeld};
 use crate::added::{Added, one, two};
 use crate::shapes::{conjuncts, formula, implication, negated};
 use crate::{Rule, Step};
-use tasks::{Task, is_ground_formula, is_ground_type, nth_proposition};
+use tasks::{Task, nth_proposition};
 use term_store::Store;
 use trees::TermId;
+use typing::{is_ground_formula, is_ground_type};
 
 // Whether a formula stands at a place.
 fn is_at(store: &Store, sequent: &[TermId], place: usize, id: TermId) -> bool

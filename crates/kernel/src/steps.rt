@@ -11,9 +11,10 @@ ghost use Rattle.kernel.specs.Meaning.{step_at, steps_at, StepHeld, StepsHeld};
 use crate::Step;
 use crate::added::{Added, is_extended};
 use crate::rows::row_holds;
-use tasks::{Task, is_ground_formula};
+use tasks::Task;
 use term_store::Store;
 use trees::TermId;
+use typing::is_ground_formula;
 
 // Whether each formula of a sequent is closed, typed in the task and free of schematic types.
 fn all_ground_formulas(store: &Store, task: &Task, sequent: &[TermId]) -> bool

@@ -251,7 +251,14 @@ fn small_task(rt: &impl Abort, alloc: Global, store: &Store, said: TermId, goal:
     decls.push(declaration(rt, alloc, 2)).expect(rt, MEMORY);
     decls.push(proposition(rt, alloc, said)).expect(rt, MEMORY);
     Task {
-        sig: Rc::new(alloc, Signature { symbols }).expect(rt, MEMORY),
+        sig: Rc::new(
+            alloc,
+            Signature {
+                symbols,
+                ints: None,
+            },
+        )
+        .expect(rt, MEMORY),
         rigid: Seq::new(alloc),
         decls,
         params: Seq::new(alloc),

@@ -1,6 +1,5 @@
-mod Examples
-mod ProgramRows
-mod ScanLemmas
-mod DepthLemmas
-mod SourceLemmas
-mod CloseLemmas
+pub mod NamesThere
+pub mod TypesRead
+pub mod ClonesRead
+pub mod FilesRead
+pub mod SourcesRead

@@ -1,7 +1,3 @@
-pub mod SourceStates
-pub mod Scans
-pub mod Depth
-pub mod Nestings
-pub mod Programs
-pub mod Faults
-pub mod Parsed
+pub mod Types
+pub mod Clones
+pub mod Files

@@ -1,15 +1,12 @@
-//! Reading of sources: the one file whose tokens they are, or the first fault, and tokens that complete a source.
-//! It stands on the surface trees, the readers of expressions and of declarations, and the grammar of declarations.
+//! Reading of declarations, theories and files from tokens that are known to be good.
+//! It depends on the readers of types, of terms and of the declarations that have bodies.
 #![tactic(auto)]
 
-mod around;
-mod completing;
-mod completion;
-mod depth;
-mod source;
-mod source_reader;
-mod source_state;
+mod clones;
+mod files;
+mod sources;
+mod types;
 
-pub use completing::{complete, has_one_file};
-pub use parse_terms::SyntaxFault;
-pub use source::parse;
+pub use files::whole_file;
+pub use recognise_why::{SyntaxFault, complete, has_one_file};
+pub use sources::parse;

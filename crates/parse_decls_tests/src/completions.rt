@@ -1,5 +1,5 @@
-// Tokens that complete those before a fault.
-// They stand on `complete`; the seeded tests stand on them.
+// Tokens that complete those before a fault, kind by kind.
+// They depend on `complete`; the seeded tests depend on them.
 ghost use Rattle.tokens_why.specs.Tokens.{AreTokens};
 ghost use Rattle.syntax_why.specs.Lexeme.{rest};
 ghost use Rattle.parse_decls.specs.Faults.{IsRefusal};
@@ -8,57 +8,106 @@ use parse_decls::{SyntaxFault, complete, has_one_file, parse};
 use std::alloc::{AllocError, Global};
 use std::process::Abort;
 use std::test::Fail;
-use tokens_why::{Token, lex};
+use tokens_why::{Terminal, Token, TokenKind, classify, lex};
 
-/// How many kinds complete the tokens before a fault, or 101 where they are nested too deep.
-pub fn completion_len(
+/// A word that is a token of a terminal, for those with which something may be completed.
+fn word(terminal: Terminal) -> &'static str {
+    match terminal {
+        Terminal::Lident => "x",
+        Terminal::Uident => "T",
+        Terminal::Wild => "_",
+        Terminal::TyVar => "'a",
+        Terminal::StarName => "(*)",
+        Terminal::LParen => "(",
+        Terminal::RParen => ")",
+        Terminal::RBrack => "]",
+        Terminal::Comma => ",",
+        Terminal::Dot => ".",
+        Terminal::Colon => ":",
+        Terminal::Arrow => "->",
+        Terminal::Equal => "=",
+        Terminal::Minus => "-",
+        Terminal::ElseWord => "else",
+        Terminal::EndWord => "end",
+        Terminal::InWord => "in",
+        Terminal::ThenWord => "then",
+        Terminal::TrueWord => "true",
+        Terminal::WithWord => "with",
+        _ => "?",
+    }
+}
+
+/// A word of each kind.
+pub fn words_of(alloc: Global, kinds: &[TokenKind]) -> Result<Vec<&'static str>, AllocError> {
+    let mut words: Vec<&'static str> = Vec::new(alloc);
+    for kind in kinds {
+        words.push(word(classify(*kind)))?;
+    }
+    Ok(words)
+}
+
+/// Words that complete the tokens before a fault.
+pub fn completed_words(
     alloc: Global,
     tokens: &[Token],
     text: &[u8],
     fault: SyntaxFault,
-) -> Result<usize, AllocError>
+) -> Result<Vec<&'static str>, AllocError>
     requires tokens { AreTokens text.now tokens.now }
     requires refused { IsRefusal (rest text.now tokens.now 0) fault }
 {
-    match fault {
-        SyntaxFault::Syntax { token } => Ok(complete(alloc, tokens, text, token)?.len()),
-        SyntaxFault::ProgramDecl { token } => Ok(complete(alloc, tokens, text, token)?.len()),
-        SyntaxFault::TooDeep { token: _ } => Ok(101),
-        SyntaxFault::Memory => Err(AllocError),
-    }
+    let kinds = match fault {
+        SyntaxFault::Syntax { token } => complete(alloc, tokens, text, token)?,
+        SyntaxFault::ProgramDecl { token } => complete(alloc, tokens, text, token)?,
+        SyntaxFault::TooDeep { token: _ } => Vec::new(alloc),
+        SyntaxFault::Memory => return Err(AllocError),
+    };
+    words_of(alloc, &kinds)
 }
 
-/// How many kinds complete the tokens of a text before its fault.
-fn completed(alloc: Global, text: &[u8]) -> Result<usize, AllocError> {
+/// The words that complete the tokens of a text before its fault, with a blank before each.
+fn completed(alloc: Global, text: &[u8]) -> Result<String, AllocError> {
     let Ok(tokens) = lex(alloc, text) else {
-        return Ok(100);
+        return format!(in alloc; "no tokens");
     };
     match parse(alloc, &tokens, text) {
-        Err(fault) => completion_len(alloc, &tokens, text, fault),
+        Err(fault) => {
+            let words = completed_words(alloc, &tokens, text, fault)?;
+            let mut shown = String::new(alloc);
+            for word in &words {
+                shown.push_str(" ")?;
+                shown.push_str(*word)?;
+            }
+            Ok(shown)
+        }
         Ok(file) => {
             drop(file);
-            Ok(102)
+            format!(in alloc; "read")
         }
     }
 }
 
-fn compare(rt: &impl Abort, alloc: Global, rows: &[(&str, usize)]) -> Result<(), AllocError> {
+fn compare(rt: &impl Abort, alloc: Global, rows: &[(&str, &str)]) -> Result<(), AllocError> {
     for (text, wanted) in rows {
         let bytes = text.as_bytes();
-        assert_eq!(rt; completed(alloc, bytes)?, *wanted);
+        assert_eq!(rt; completed(alloc, bytes)?.as_str(), *wanted);
     }
     Ok(())
 }
 
-const REFUSED: [(&str, usize); 8] = [
-    ("theory T goal g: end", 2),
-    ("theory T let x = 1 end", 1),
-    ("theory T", 1),
-    ("theory T goal g: p /\\ end", 2),
-    ("theory T goal g: a < b < c end", 1),
-    ("theory T predicate p goal g: p end end", 0),
-    ("theory T goal g: let end", 6),
-    ("theory T goal g: p let x = p end", 1),
+const REFUSED: [(&str, &str); 12] = [
+    ("theory T goal g: end", " (*) end"),
+    ("theory T let x = 1 end", " end"),
+    ("theory T", " end"),
+    ("theory", " T end"),
+    ("theory T goal g: p /\\ end", " (*) end"),
+    ("theory T goal g: a < b < c end", " end"),
+    ("theory T predicate p goal g: p end end", ""),
+    ("theory T goal g: let end", " x = (*) in (*) end"),
+    ("theory T goal g: p let x = p end", " end"),
+    ("theory T goal g: match x end", " with x -> (*) end end"),
+    ("theory T goal g: forall x [a end", " ] . (*) end"),
+    ("theory T clone T with type end", " x = x end"),
 ];
 
 #[test]

@@ -1,5 +1,5 @@
 // Parentheses that are nested as deep as they may be, and deeper.
-// They stand on the readings; nothing stands on them.
+// They depend on the readings; nothing depends on them.
 use crate::readings::shown;
 use std::alloc::{AllocError, Global};
 use std::test::Fail;

@@ -1,5 +1,5 @@
 //! Tests of the reader of sources: tables of texts that are sources, or have their first fault at a place.
-//! It stands on the reader, the surface trees and the tokens, and nothing stands on it.
+//! It depends on the reader, the surface trees and the tokens, and nothing depends on it.
 #![tactic(auto)]
 
 #[cfg(test)]
@@ -7,14 +7,16 @@ mod completions;
 #[cfg(test)]
 mod depths;
 #[cfg(test)]
+mod expressions;
+#[cfg(test)]
 mod readings;
 #[cfg(test)]
 mod recogniser;
 #[cfg(test)]
+mod rules;
+#[cfg(test)]
 mod seeded;
 #[cfg(test)]
 mod sentences;
-#[cfg(test)]
-mod small_grammar;
 #[cfg(test)]
 mod traps;

@@ -1,12 +1,12 @@
 // Texts that are sources, and texts with the number of their fault and its token.
-// They stand on `parse` and `unparse`; the other tables stand on them.
+// They depend on `parse` and `unparse`; the other tables depend on them.
 use parse_decls::{SyntaxFault, parse};
 use std::alloc::{AllocError, Global};
 use std::process::Abort;
 use std::test::Fail;
 use syntax_why::File;
 use tokens_why::{Token, TokenKind, lex};
-use unparse_decls::unparse;
+use unparse_why::unparse;
 
 /// Whether some kinds are those of tokens.
 fn are_kinds(tokens: &[Token], kinds: &[TokenKind]) -> bool {

@@ -1,100 +1,340 @@
-// Whether words begin a token string of the small grammar, found from its rules alone.
-// It stands on the small grammar and not on the reader, so that the two can be compared.
-use crate::small_grammar::{Row, is_rule, push_parts};
+// How far words are those of a rule, found by Earley's method from the rules alone.
+// It depends on the rules and not on the reader, so that the two can be compared.
+use crate::rules::{Row, is_rule};
 use std::alloc::{AllocError, Global};
 
-/// Whether the first part of a rule is a word.
-fn begins_with(parts: &str, word: &str) -> bool {
-    match parts.strip_prefix(word) {
-        None => false,
-        Some(rest) => rest.is_empty() || rest.as_bytes()[0] == b' ',
-    }
+/// A part of a rule: the number of its symbol, or 0 behind the last part, and the number of the rule's name.
+#[derive(Clone, Copy)]
+struct Part {
+    symbol: usize,
+    head: usize,
 }
 
-/// Whether a rule is empty, or begins with another rule.
-fn begins_with_none(parts: &str) -> bool {
-    parts.is_empty() || parts.as_bytes()[0] == b'<'
+/// The rules in numbers. A symbol's number is one more than its place among the symbols.
+///
+/// `rules` has the place of the first part of each rule, those of a name side by side, and `firsts` for each number the place
+/// of its first rule among them.
+#[derive(Drop)]
+pub struct Grammar {
+    symbols: Vec<&'static str>,
+    parts: Vec<Part>,
+    rules: Vec<usize>,
+    firsts: Vec<usize>,
 }
 
-fn word_rule(rules: &[Row], name: &str, word: &str) -> Option<&'static str> {
-    for (of, parts) in rules {
-        if *of == name && begins_with(parts, word) {
-            return Some(*parts);
+/// A rule that was begun at a place and has been read up to a part; one more than the place of the last item before it with
+/// the same part, or 0.
+#[derive(Clone, Copy)]
+struct Item {
+    part: usize,
+    origin: usize,
+    before: usize,
+}
+
+/// What the words are: the first of them that can't stand where it does, or their number; whether `scope` could stand there;
+/// where the longest prefix of them ends that is a string of the rule.
+#[derive(Clone, Copy)]
+pub struct Verdict {
+    pub place: usize,
+    pub scope: bool,
+    pub longest: Option<usize>,
+}
+
+/// The number of a symbol, or one more than all have.
+fn number(symbols: &[&'static str], symbol: &str) -> usize {
+    for (place, other) in symbols.iter().enumerate() {
+        if *other == symbol {
+            return place.wrapping_add(1);
         }
     }
-    None
+    symbols.len().wrapping_add(1)
 }
 
-fn other_rule(rules: &[Row], name: &str) -> Option<&'static str> {
-    for (of, parts) in rules {
-        if *of == name && begins_with_none(parts) {
-            return Some(*parts);
-        }
+/// The number of a symbol, which is put among the others where it isn't yet.
+fn numbered(symbols: &mut Vec<&'static str>, symbol: &'static str) -> Result<usize, AllocError> {
+    let found = number(symbols, symbol);
+    if found > symbols.len() {
+        symbols.push(symbol)?;
     }
-    None
+    Ok(found)
 }
 
-/// The parts of the rule of a name that begins with a word, or else of the one that begins with no word.
-fn rule_at(rules: &[Row], name: &str, word: &str) -> Option<&'static str> {
-    match word_rule(rules, name, word) {
-        Some(parts) => Some(parts),
-        None => other_rule(rules, name),
-    }
-}
-
-/// Whether a word can stand next, where some parts are still to come; it takes those before it away.
-fn takes(
+/// The parts of all rules, and the symbols that they have.
+fn parts_of(
     alloc: Global,
-    rules: &[Row],
-    left: &mut Vec<&'static str>,
-    word: &str,
-) -> Result<bool, AllocError> {
-    for _rule in 0..1000 {
-        let Some(part) = left.pop() else {
-            return Ok(false);
-        };
-        if !is_rule(part) {
-            return Ok(part == word);
+    rows: &[Row],
+    symbols: &mut Vec<&'static str>,
+) -> Result<(Vec<Part>, Vec<Part>), AllocError> {
+    let mut parts: Vec<Part> = Vec::new(alloc);
+    let mut rules: Vec<Part> = Vec::new(alloc);
+    for row in rows {
+        let head = numbered(symbols, row.0)?;
+        let symbol = parts.len();
+        rules.push(Part { symbol, head })?;
+        for part in row.1.split_whitespace() {
+            let symbol = numbered(symbols, part)?;
+            parts.push(Part { symbol, head })?;
         }
-        match rule_at(rules, part, word) {
-            None => return Ok(false),
-            Some(parts) => push_parts(alloc, parts, left)?,
-        }
+        parts.push(Part { symbol: 0, head })?;
     }
-    Ok(false)
+    Ok((parts, rules))
 }
 
-/// Whether each word can stand behind those before it.
-fn take_all(
+impl Grammar {
+    /// The rules in numbers.
+    pub fn new(alloc: Global, rows: &[Row]) -> Result<Grammar, AllocError> {
+        let mut symbols: Vec<&'static str> = Vec::new(alloc);
+        let (parts, all) = parts_of(alloc, rows, &mut symbols)?;
+        let mut rules: Vec<usize> = Vec::new(alloc);
+        let mut firsts: Vec<usize> = Vec::new(alloc);
+        for head in 0..symbols.len().wrapping_add(1) {
+            firsts.push(rules.len())?;
+            for rule in &all {
+                if rule.head == head {
+                    rules.push(rule.symbol)?;
+                }
+            }
+        }
+        Ok(Grammar {
+            symbols,
+            parts,
+            rules,
+            firsts,
+        })
+    }
+
+    /// The place of a symbol's first rule.
+    fn first_rule(&self, symbol: usize) -> usize {
+        match self.firsts.get(symbol) {
+            Some(first) => *first,
+            None => self.rules.len(),
+        }
+    }
+
+    /// The part at a place.
+    fn part_at(&self, place: usize) -> Part {
+        match self.parts.get(place) {
+            Some(part) => *part,
+            None => Part { symbol: 0, head: 0 },
+        }
+    }
+}
+
+/// The items of the words so far; the place of the first one of each set; for each part one more than the place of the last
+/// item with it, or 0.
+#[derive(Drop)]
+struct Chart {
+    items: Vec<Item>,
+    sets: Vec<usize>,
+    last: Vec<usize>,
+}
+
+impl Chart {
+    /// The place of the first item of a set, or of what follows the last one.
+    fn start(&self, set: usize) -> usize {
+        match self.sets.get(set) {
+            Some(start) => *start,
+            None => self.items.len(),
+        }
+    }
+
+    /// The place of the first item of the newest set.
+    fn newest(&self) -> usize {
+        self.start(self.sets.len().wrapping_sub(1))
+    }
+
+    /// The item at a place, if there is one.
+    fn item(&self, place: usize) -> Option<Item> {
+        self.items.get(place).copied()
+    }
+
+    /// One more than the place of the last item with a part, or 0.
+    fn last_with(&self, part: usize) -> usize {
+        self.last.get(part).copied().unwrap_or(0)
+    }
+
+    /// Whether a rule that was begun at a place is in the newest set, read up to a part.
+    fn is_known(&self, part: usize, origin: usize) -> bool {
+        let newest = self.newest();
+        let mut before = self.last_with(part);
+        for _item in 0..100000 {
+            if before <= newest {
+                return false;
+            }
+            let Some(item) = self.item(before.wrapping_sub(1)) else {
+                return false;
+            };
+            if item.origin == origin {
+                return true;
+            }
+            before = item.before;
+        }
+        false
+    }
+
+    /// A rule that was begun at a place is put in the newest set, read up to a part.
+    fn add(&mut self, part: usize, origin: usize) -> Result<(), AllocError> {
+        if self.is_known(part, origin) {
+            return Ok(());
+        }
+        let before = self.last_with(part);
+        self.items.push(Item {
+            part,
+            origin,
+            before,
+        })?;
+        let count = self.items.len();
+        if let Some(last) = self.last.get_mut(part) {
+            *last = count;
+        }
+        Ok(())
+    }
+
+    fn add_behind(&mut self, item: Item) -> Result<(), AllocError> {
+        self.add(item.part.wrapping_add(1), item.origin)
+    }
+
+    /// The rules of a name begin in the newest set; whether one of them is empty.
+    fn predict(&mut self, grammar: &Grammar, head: usize) -> Result<bool, AllocError> {
+        let origin = self.sets.len().wrapping_sub(1);
+        let from = grammar.first_rule(head);
+        let to = grammar.first_rule(head.wrapping_add(1));
+        let mut may_be_empty = false;
+        for rule in from..to {
+            let part = grammar.rules.get(rule).copied().unwrap_or(0);
+            if grammar.part_at(part).symbol == 0 {
+                may_be_empty = true;
+            }
+            self.add(part, origin)?;
+        }
+        Ok(may_be_empty)
+    }
+
+    /// The items that waited for a rule's name at its beginning go on behind it.
+    fn finish(&mut self, grammar: &Grammar, head: usize, origin: usize) -> Result<(), AllocError> {
+        let from = self.start(origin);
+        let to = self.start(origin.wrapping_add(1));
+        for place in from..to {
+            let waiting = self.item(place);
+            if let Some(item) = waiting {
+                if grammar.part_at(item.part).symbol == head {
+                    self.add_behind(item)?;
+                }
+            }
+        }
+        Ok(())
+    }
+
+    /// All that follows from an item of the newest set without a further word.
+    fn follow(&mut self, grammar: &Grammar, item: Item) -> Result<(), AllocError> {
+        let part = grammar.part_at(item.part);
+        if part.symbol == 0 {
+            return self.finish(grammar, part.head, item.origin);
+        }
+        if self.predict(grammar, part.symbol)? {
+            self.add_behind(item)?;
+        }
+        Ok(())
+    }
+
+    /// All that follows from the newest set without a further word.
+    fn close(&mut self, grammar: &Grammar) -> Result<(), AllocError> {
+        let mut place = self.newest();
+        for _item in 0..100000 {
+            let Some(item) = self.item(place) else {
+                return Ok(());
+            };
+            self.follow(grammar, item)?;
+            place = place.wrapping_add(1);
+        }
+        Ok(())
+    }
+
+    /// Whether a symbol is awaited in the newest set.
+    fn awaits(&self, grammar: &Grammar, symbol: usize) -> bool {
+        let newest = self.newest();
+        self.items
+            .iter()
+            .skip(newest)
+            .any(|item| grammar.part_at(item.part).symbol == symbol)
+    }
+
+    /// Whether all words so far are a string of the rule with which the first set began.
+    fn is_whole(&self, grammar: &Grammar, head: usize) -> bool {
+        let newest = self.newest();
+        self.items.iter().skip(newest).any(|item| {
+            let part = grammar.part_at(item.part);
+            item.origin == 0 && part.symbol == 0 && part.head == head
+        })
+    }
+
+    /// A next set, behind a symbol that was awaited.
+    fn advance(&mut self, grammar: &Grammar, symbol: usize) -> Result<(), AllocError> {
+        let from = self.newest();
+        let to = self.items.len();
+        self.sets.push(to)?;
+        for place in from..to {
+            let waiting = self.item(place);
+            if let Some(item) = waiting {
+                if grammar.part_at(item.part).symbol == symbol {
+                    self.add_behind(item)?;
+                }
+            }
+        }
+        Ok(())
+    }
+}
+
+/// A chart of no words, in which a rule is awaited.
+fn begun(alloc: Global, grammar: &Grammar, head: usize) -> Result<Chart, AllocError> {
+    let mut sets: Vec<usize> = Vec::new(alloc);
+    sets.push(0)?;
+    let mut last: Vec<usize> = Vec::new(alloc);
+    for _part in &grammar.parts {
+        last.push(0)?;
+    }
+    let mut chart = Chart {
+        items: Vec::new(alloc),
+        sets,
+        last,
+    };
+    let _may_be_empty = chart.predict(grammar, head)?;
+    Ok(chart)
+}
+
+/// How far words are those of a rule.
+pub fn recognise(
     alloc: Global,
-    rules: &[Row],
-    left: &mut Vec<&'static str>,
+    grammar: &Grammar,
+    rule: &str,
     words: &[&'static str],
-) -> Result<bool, AllocError> {
-    for word in words {
-        if !takes(alloc, rules, left, word)? {
-            return Ok(false);
+) -> Result<Verdict, AllocError> {
+    let head = number(&grammar.symbols, rule);
+    let scope = number(&grammar.symbols, "scope");
+    let mut chart = begun(alloc, grammar, head)?;
+    let mut longest = None;
+    for place in 0..words.len() {
+        chart.close(grammar)?;
+        if chart.is_whole(grammar, head) {
+            longest = Some(place);
         }
+        let symbol = number(&grammar.symbols, words[place]);
+        if is_rule(words[place]) || !chart.awaits(grammar, symbol) {
+            return Ok(Verdict {
+                place,
+                scope: chart.awaits(grammar, scope),
+                longest,
+            });
+        }
+        chart.advance(grammar, symbol)?;
     }
-    Ok(true)
-}
-
-/// Whether some token string of the grammar begins with these words.
-pub fn begins(alloc: Global, rules: &[Row], words: &[&'static str]) -> Result<bool, AllocError> {
-    let mut left: Vec<&'static str> = Vec::new(alloc);
-    left.push("<file>")?;
-    take_all(alloc, rules, &mut left, words)
-}
-
-/// Whether these words are a token string of the grammar: they begin one, and another theory may stand behind them.
-pub fn is_sentence(
-    alloc: Global,
-    rules: &[Row],
-    words: &[&'static str],
-) -> Result<bool, AllocError> {
-    let mut left: Vec<&'static str> = Vec::new(alloc);
-    left.push("<file>")?;
-    let begun = take_all(alloc, rules, &mut left, words)?;
-    let ended = takes(alloc, rules, &mut left, "theory")?;
-    Ok(begun && ended)
+    chart.close(grammar)?;
+    if chart.is_whole(grammar, head) {
+        longest = Some(words.len());
+    }
+    Ok(Verdict {
+        place: words.len(),
+        scope: chart.awaits(grammar, scope),
+        longest,
+    })
 }

@@ -1,12 +1,12 @@
-// A thousand token strings of the small grammar, and a thousand with one token changed.
-// They stand on the reader, the recogniser and the sentences; nothing stands on them.
+// Token strings drawn from the whole grammar, and those with one token changed, against the second recogniser.
+// They depend on the readers, the recogniser and the sentences; nothing depends on them.
 ghost use Rattle.tokens_why.specs.Tokens.{AreTokens};
 
-use crate::completions::completion_len;
+use crate::completions::completed_words;
 use crate::readings::gives_back;
-use crate::recogniser::{begins, is_sentence};
+use crate::recogniser::{Grammar, recognise};
+use crate::rules::{Row, rules};
 use crate::sentences::{Random, changed, sentence};
-use crate::small_grammar::{Row, rules};
 use parse_decls::{SyntaxFault, parse};
 use std::alloc::{AllocError, Global};
 use std::test::Fail;
@@ -16,12 +16,12 @@ use tokens_why::{Token, lex};
 #[derive(Clone, Copy)]
 enum Answer {
     Read,
-    Refused(usize),
+    Refused { place: usize, is_program: bool },
     Other,
 }
 
 /// The words with a blank behind each.
-fn text_of(alloc: Global, words: &[&'static str]) -> Result<Vec<u8>, AllocError> {
+pub fn text_of(alloc: Global, words: &[&'static str]) -> Result<Vec<u8>, AllocError> {
     let mut text = Vec::new(alloc);
     for word in words {
         text.extend_from_slice(word.as_bytes())?;
@@ -30,111 +30,146 @@ fn text_of(alloc: Global, words: &[&'static str]) -> Result<Vec<u8>, AllocError>
     Ok(text)
 }
 
-/// Where a fault stands.
-fn refused_at(fault: SyntaxFault) -> Answer {
+/// The code of a fault and its place.
+fn answer_of(fault: SyntaxFault) -> Answer {
     match fault {
-        SyntaxFault::Syntax { token } => Answer::Refused(token),
-        SyntaxFault::ProgramDecl { token } => Answer::Refused(token),
+        SyntaxFault::Syntax { token } => Answer::Refused {
+            place: token,
+            is_program: false,
+        },
+        SyntaxFault::ProgramDecl { token } => Answer::Refused {
+            place: token,
+            is_program: true,
+        },
         SyntaxFault::TooDeep { token: _ } => Answer::Other,
         SyntaxFault::Memory => Answer::Other,
     }
 }
 
-/// What reading these tokens answers; of a refusal, where something completes the tokens before it.
-fn read_tokens(alloc: Global, tokens: &[Token], text: &[u8]) -> Result<Answer, AllocError>
+/// What reading these tokens answers, and the words that complete those before a fault.
+fn read_tokens(
+    alloc: Global,
+    tokens: &[Token],
+    text: &[u8],
+) -> Result<(Answer, Vec<&'static str>), AllocError>
     requires { AreTokens text.now tokens.now }
 {
     match parse(alloc, tokens, text) {
         Ok(file) => {
             if gives_back(alloc, tokens, file)? {
-                Ok(Answer::Read)
+                Ok((Answer::Read, Vec::new(alloc)))
             } else {
-                Ok(Answer::Other)
+                Ok((Answer::Other, Vec::new(alloc)))
             }
         }
         Err(fault) => {
-            let _more = completion_len(alloc, tokens, text, fault)?;
-            Ok(refused_at(fault))
+            let more = completed_words(alloc, tokens, text, fault)?;
+            Ok((answer_of(fault), more))
         }
     }
 }
 
-fn read_words(alloc: Global, words: &[&'static str]) -> Result<Answer, AllocError> {
+fn read_words(
+    alloc: Global,
+    words: &[&'static str],
+) -> Result<(Answer, Vec<&'static str>), AllocError> {
     let text = text_of(alloc, words)?;
     let Ok(tokens) = lex(alloc, &text) else {
-        return Ok(Answer::Other);
+        return Ok((Answer::Other, Vec::new(alloc)));
     };
     if tokens.len() != words.len() {
-        return Ok(Answer::Other);
+        return Ok((Answer::Other, Vec::new(alloc)));
     }
     read_tokens(alloc, &tokens, &text)
 }
 
-/// Whether no string of the small grammar begins with the words up to a place, or, behind all of them, is these words.
-fn is_fault(
+fn is_program_word(word: &str) -> bool {
+    matches!(word, "let" | "coinductive" | "exception" | "meta" | "val")
+}
+
+/// Whether words up to a place, and further ones behind them, are a string of a rule.
+pub fn is_completed(
     alloc: Global,
-    rules: &[Row],
+    grammar: &Grammar,
+    rule: &str,
     words: &[&'static str],
     place: usize,
+    more: &[&'static str],
 ) -> Result<bool, AllocError> {
-    if place < words.len() {
-        let begun = begins(alloc, rules, &words[..place + 1])?;
-        Ok(!begun)
-    } else {
-        let whole = is_sentence(alloc, rules, words)?;
-        Ok(!whole)
+    let mut all: Vec<&'static str> = Vec::new(alloc);
+    for word in words.iter().take(place) {
+        all.push(*word)?;
+    }
+    for word in more {
+        all.push(*word)?;
+    }
+    let verdict = recognise(alloc, grammar, rule, &all)?;
+    Ok(verdict.longest == Some(all.len()))
+}
+
+/// Whether the reader says what the recogniser does.
+fn agrees(alloc: Global, grammar: &Grammar, words: &[&'static str]) -> Result<bool, AllocError> {
+    let verdict = recognise(alloc, grammar, "<file>", words)?;
+    let (answer, more) = read_words(alloc, words)?;
+    let is_whole = verdict.longest == Some(words.len());
+    match answer {
+        Answer::Read => Ok(is_whole),
+        Answer::Other => Ok(false),
+        Answer::Refused { place, is_program } => {
+            let word = words.get(place).copied().unwrap_or("");
+            let program = verdict.scope && is_program_word(word);
+            let same = !is_whole && place == verdict.place && is_program == program;
+            let completed = is_completed(alloc, grammar, "<file>", words, place, &more)?;
+            Ok(same && completed)
+        }
     }
 }
 
-/// Whether a string of the small grammar is read.
-fn is_read(alloc: Global, rules: &[Row], words: &[&'static str]) -> Result<bool, AllocError> {
-    let known = is_sentence(alloc, rules, words)?;
-    let answer = read_words(alloc, words)?;
-    Ok(known && matches!(answer, Answer::Read))
+/// The first of some strings that the reader and the recogniser don't agree on, or nothing.
+fn first_other(
+    alloc: Global,
+    rows: &[Row],
+    grammar: &Grammar,
+    random: &mut Random,
+    is_changed: bool,
+) -> Result<Vec<u8>, AllocError> {
+    for number in 0..200 {
+        let drawn = sentence(
+            alloc,
+            rows,
+            "theory <upper> <decls> <file>",
+            random,
+            20 + number % 150,
+        )?;
+        let words = if is_changed {
+            changed(alloc, random, &drawn)?
+        } else {
+            drawn
+        };
+        if !agrees(alloc, grammar, &words)? {
+            return text_of(alloc, &words);
+        }
+    }
+    Ok(Vec::new(alloc))
+}
+
+fn run(alloc: Global, seed: u64, is_changed: bool) -> Result<Vec<u8>, AllocError> {
+    let rows = rules(alloc)?;
+    let grammar = Grammar::new(alloc, &rows)?;
+    let mut random = Random::new(seed);
+    first_other(alloc, &rows, &grammar, &mut random, is_changed)
 }
 
 #[test]
 fn strings_of_the_grammar(rt: HostRuntime) -> Result<(), Fail> {
-    let alloc = rt.alloc();
-    let rules = rules(alloc)?;
-    let mut random = Random::new(1);
-    for number in 0..1000 {
-        let words = sentence(alloc, &rules, &mut random, 5 + number % 40)?;
-        assert!(rt; is_read(alloc, &rules, &words)?, "at {number}");
-    }
+    let first = run(rt.alloc(), 1, false)?;
+    assert_eq!(rt; first.as_slice(), b"".as_slice());
     Ok(())
-}
-
-/// 1 where these words are refused at their place, 0 where they are read, and else 2000.
-fn refused(alloc: Global, rules: &[Row], words: &[&'static str]) -> Result<usize, AllocError> {
-    match read_words(alloc, words)? {
-        Answer::Read => Ok(0),
-        Answer::Refused(place) => {
-            if is_fault(alloc, rules, words, place)? {
-                Ok(1)
-            } else {
-                Ok(2000)
-            }
-        }
-        Answer::Other => Ok(2000),
-    }
 }
 
 #[test]
 fn strings_with_a_change(rt: HostRuntime) -> Result<(), Fail> {
-    let alloc = rt.alloc();
-    let rules = rules(alloc)?;
-    let mut random = Random::new(2);
-    let mut count: usize = 0;
-    for number in 0..1000 {
-        let words = sentence(alloc, &rules, &mut random, 5 + number % 40)?;
-        let other = changed(alloc, &mut random, &words)?;
-        let more = refused(alloc, &rules, &other)?;
-        assert!(rt; more < 2, "at {number}");
-        if more == 1 && count < 1000 {
-            count += 1;
-        }
-    }
-    assert!(rt; count > 500);
+    let first = run(rt.alloc(), 2, true)?;
+    assert_eq!(rt; first.as_slice(), b"".as_slice());
     Ok(())
 }

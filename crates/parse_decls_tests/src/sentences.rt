@@ -1,6 +1,6 @@
-// Token strings of the small grammar, drawn by a seeded generator, and those with one token changed.
-// They stand on the small grammar; the seeded tests stand on them.
-use crate::small_grammar::{Row, is_rule, push_parts};
+// Token strings of a rule, drawn by a seeded generator, and those with one token changed.
+// They depend on the rules; the seeded tests depend on them.
+use crate::rules::{Row, is_rule};
 use std::alloc::{AllocError, Global};
 
 /// Words that stand in place of others.
@@ -9,7 +9,7 @@ const WORDS: &str =
 
 /// Further such words.
 const OTHERS: &str =
-    "as with let in val meta not forall if then else match true x T 'a 1 _ ( ) [ ] { } = -> <-> /\\ < : . |";
+    "as with let in val meta not forall exists if then else match true x T 'a 1 _ (*) ( ) [ ] { } = -> /\\ < + * @ - ! : . , |";
 
 /// A seeded source of numbers.
 #[derive(Drop)]
@@ -52,28 +52,52 @@ fn rule_count(rules: &[Row], name: &str) -> usize {
     rules.iter().filter(|row| row.0 == name).count()
 }
 
-/// A token string of the grammar, in which no rule but a first one of its name is taken after so many steps.
+/// The parts of a rule on top of those that are left, the first of them topmost.
+fn push_parts(
+    alloc: Global,
+    parts: &'static str,
+    left: &mut Vec<&'static str>,
+) -> Result<(), AllocError> {
+    let mut forward: Vec<&'static str> = Vec::new(alloc);
+    for part in parts.split_whitespace() {
+        forward.push(part)?;
+    }
+    for part in forward.iter().rev() {
+        left.push(*part)?;
+    }
+    Ok(())
+}
+
+/// Which of the rules of a name stands next: the first one half the time, and each time after so many steps.
+fn chosen(rules: &[Row], name: &str, random: &mut Random, is_late: bool) -> &'static str {
+    let is_first = random.below(2) == 0;
+    let count = if is_late || is_first {
+        0
+    } else {
+        rule_count(rules, name)
+    };
+    let choice = random.below(count);
+    rule(rules, name, choice)
+}
+
+/// A token string of a rule's parts, in which no rule but the first one of its name is taken after so many steps.
 pub fn sentence(
     alloc: Global,
     rules: &[Row],
+    parts: &'static str,
     random: &mut Random,
     steps: usize,
 ) -> Result<Vec<&'static str>, AllocError> {
     let mut words: Vec<&'static str> = Vec::new(alloc);
     let mut left: Vec<&'static str> = Vec::new(alloc);
-    push_parts(alloc, rule(rules, "<file>", 1), &mut left)?;
-    for step in 0..10000 {
+    push_parts(alloc, parts, &mut left)?;
+    for step in 0..20000 {
         let Some(part) = left.pop() else {
             return Ok(words);
         };
         if is_rule(part) {
-            let count = if step < steps {
-                rule_count(rules, part)
-            } else {
-                0
-            };
-            let choice = random.below(count);
-            push_parts(alloc, rule(rules, part, choice), &mut left)?;
+            let next = chosen(rules, part, random, step > steps);
+            push_parts(alloc, next, &mut left)?;
         } else {
             words.push(part)?;
         }
@@ -96,7 +120,7 @@ fn other_word(random: &mut Random) -> &'static str {
     if random.below(3) == 0 {
         word_of(WORDS, random.below(16))
     } else {
-        word_of(OTHERS, random.below(32))
+        word_of(OTHERS, random.below(39))
     }
 }
 

@@ -1,5 +1,5 @@
 // Declarations that differ from others in a token.
-// They stand on the readings; nothing stands on them.
+// They depend on the readings; nothing depends on them.
 use crate::readings::compare;
 use std::test::Fail;
 

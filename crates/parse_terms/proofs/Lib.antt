@@ -1,2 +1,13 @@
-pub mod Runs
-pub mod ScanLemmas
+pub mod Steps
+pub mod NamesRead
+pub mod FormsRead
+pub mod TextsRead
+pub mod HeadsRead
+pub mod TermSteps
+pub mod ClimbRead
+pub mod AtomsRead
+pub mod OpenRead
+pub mod MatchRead
+pub mod ChoicesRead
+pub mod PartsRead
+pub mod CutRead

@@ -1,3 +1,8 @@
-pub mod Reads
-pub mod Scans
-pub mod Refusals
+pub mod Reading
+pub mod Texts
+pub mod Sources
+pub mod Names
+pub mod Terms
+pub mod Binders
+pub mod Whole
+pub mod Patterns

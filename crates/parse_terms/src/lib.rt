@@ -1,12 +1,25 @@
-//! Reading of terms and formulas: the longest expression from a place, and tokens that complete one.
-//! It stands on the reader of expressions.
+//! Reading of types, patterns, terms and formulas from tokens that are known to be good, and of the longest expression from
+//! any tokens. It depends on the table of the grammar, on what its rules are read as, and on what is said of tokens alone.
 #![tactic(auto)]
 
-mod complete;
-mod fault;
+mod expressions;
+mod names;
+mod operators;
 mod parse;
-mod scan;
+mod parts;
+mod patterns;
+mod source;
+mod tokens;
+mod types;
+mod whole;
 
-pub use complete::{complete_expr, has_one_tree};
-pub use fault::SyntaxFault;
+pub use expressions::{ReadExpression, expression};
+pub use names::{OwnName, head_name, lower_name, operator_name, upper_name};
+pub use operators::past_bar;
 pub use parse::parse_expr;
+pub use patterns::pattern;
+pub use recognise_why::{SyntaxFault, complete_expr, has_one_tree};
+pub use source::Source;
+pub use tokens::{at, at_atom, at_type, integer, name_at, place, terminal, text};
+pub use types::{argument, type_arguments, type_list, type_tree};
+pub use whole::whole_expression;

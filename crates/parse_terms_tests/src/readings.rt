@@ -1,5 +1,5 @@
 // Texts with the longest expression from their beginning, or the place of the fault.
-// They stand on `parse_expr`; nothing stands on them.
+// They depend on `parse_expr`; nothing depends on them.
 use parse_terms::{SyntaxFault, parse_expr};
 use std::alloc::{AllocError, Global};
 use std::process::Abort;

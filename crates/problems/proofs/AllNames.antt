@@ -17,9 +17,6 @@ pub symbol_pushed : (t : Task) (k : ℕ) (names : List NameEntry) (name : List �
     → ((s : List Tree) → name ≡ (symbol_or (symbols_at s t.sig.value.symbols) k).name) → n ≡ length names → PushesSymbols t (k ∷ []) names (names ++ entry_of name n k ∷ [])
 symbol_pushed t k names name n is h s = rw (is s, h) refl
 
-pub nothing_pushed : (t : Task) (names : List NameEntry) (body : Body) → ((s : List Tree) → made_by (body_at s body) ≡ []) → PushesAny t body names names
-nothing_pushed t names body none s = rw (none s) (sym (append-nil names))
-
 -- the table when these declarations have been added too
 abbrev pub Whole : Task → List Tree → List NameEntry → List Decl → List NameEntry
 Whole t s names ds = Added t s names (made (declarations_at s ds))

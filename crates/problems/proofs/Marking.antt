@@ -8,7 +8,7 @@ use Rattle.trees.specs.declared.Node.{Node}
 use Rattle.trees.specs.declared.Parts.TheVariants as parts
 use Rattle.trees.specs.Node.{tree_at, node_tree, head_of_node, parts_of, assemble}
 use Rattle.tasks.specs.declared.declaration.Body.{Body}
-use Rattle.tasks.specs.declared.declaration.Body.TheVariants.{TypeSymbol, Symbol, Defs, Prop}
+use Rattle.tasks.specs.declared.declaration.Body.TheVariants.{TypeSymbol, Symbol, Defs, Inductives, Algebraics, Prop}
 use Rattle.tasks.specs.declared.declaration.Decl.{Decl}
 use Rattle.tasks.specs.Task.{props_of}
 use Rattle.tasks.specs.Meaning.{trees_at, body_at, declarations_at}
@@ -73,6 +73,8 @@ body_step : (s : List Tree) (d : Decl) (ds : List Decl) (body : Body) (a b m : L
 body_step s d ds (TypeSymbol j) a b m e one two = rw e (marks_then one two)
 body_step s d ds (Symbol j) a b m e one two = rw e (marks_then one two)
 body_step s d ds (Defs ms) a b m e one two = rw e (marks_then one two)
+body_step s d ds (Inductives is) a b m e one two = rw e (marks_then one two)
+body_step s d ds (Algebraics ts) a b m e one two = rw e (marks_then one two)
 body_step s d ds (Prop f) a b m e one two = rw e (marks_then one two)
 
 pub prop_step : (s : List Tree) (ds : List Decl) (i : ℕ) (d : Decl) (a b m : List Bool) → i < length ds → d ≡ get_or ds i d

@@ -5,17 +5,17 @@ use Rattle.std.proofs.lemmas.List.Elements.{filter-append, All-append, All-cons,
 use Rattle.problems.proofs.Marking.{cut, cut_at}
 use Rattle.trees.specs.Tree.{Tree}
 use Rattle.tasks.specs.declared.declaration.Body.{Body}
-use Rattle.tasks.specs.declared.declaration.Body.TheVariants.{Defs}
-use Rattle.tasks.specs.declared.declaration.Def.{Def}
 use Rattle.tasks.specs.declared.declaration.Decl.{Decl}
 use Rattle.tasks.specs.declared.task.Task.{Task}
 use Rattle.tasks.specs.declared.signature.SymbolInfo.{SymbolInfo}
-use Rattle.tasks.specs.Task.{SymbolTree, int_symbol, TaskTree, made, made_by, symbol_or, DefinitionTree, DeclarationTree, BodyTree, MakesType, Makes, Defines, Says}
+use Rattle.tasks.specs.Task.{SymbolTree, int_symbol, TaskTree, made, made_by, symbol_or}
+use Rattle.tasks.specs.Vocabulary.{of_task}
 use Rattle.tasks.specs.Meaning.{symbol_at, symbols_at, body_at, declarations_at, task_at}
-use Rattle.tasks.specs.Valid.{IsDefinition, IsValid, IsValidBody}
+use Rattle.tasks.specs.Valid.{IsValid}
+use Rattle.tasks.proofs.MadeEntries.{made_entries}
 use Rattle.problems.specs.declared.names.NameEntry.{NameEntry}
 use Rattle.problems.specs.Names.{entry_of, entries_from}
-use Rattle.problems.specs.Named.{PushesMarked, PushesMade, members_of, marked}
+use Rattle.problems.specs.Named.{PushesMarked, PushesMade, PushesSymbols, marked}
 use Rattle.problems.specs.Marks.{MarksUsed}
 use Rattle.problems.specs.Used.{is_used, used_symbols, DeclaresEntries}
 
@@ -26,9 +26,6 @@ push_none t marks k names e s = rw e (sym (append-nil names))
 pub push_one : (t : Task) (marks : List Bool) (k : ℕ) (names : List NameEntry) (name : List ℕ) (n : ℕ) → get_or marks k false ≡ true
     → ((s : List Tree) → name ≡ (symbol_or (symbols_at s t.sig.value.symbols) k).name) → n ≡ length names → PushesMarked t marks (k ∷ []) names (names ++ entry_of name n k ∷ [])
 push_one t marks k names name n e is h s = rw (e, is s, h) refl
-
-pub push_prop : (t : Task) (marks : List Bool) (names : List NameEntry) (body : Body) → ((s : List Tree) → made_by (body_at s body) ≡ []) → PushesMade t marks body names names
-push_prop t marks names body none s = rw (none s) (sym (append-nil names))
 
 pub marked-append : (marks : List Bool) (x y : List ℕ) → marked marks (x ++ y) ≡ marked marks x ++ marked marks y
 marked-append marks x y = filter-append (λ k. get_or marks k false) x y
@@ -56,22 +53,19 @@ added_twice t s old new mine rest e =
     ap (λ z. z ++ entries_from T (length new) rest) e ∙ append_assoc old first (entries_from T (length new) rest)
     ∙ ap (λ m. old ++ (first ++ entries_from T m rest)) n ∙ ap (λ z. old ++ z) (sym (entries-append T (length old) mine rest))
 
--- the members of a group, one after another: all of them, or those that are marked
-module _ (pick : List ℕ → List ℕ) (splits : (x y : List ℕ) → pick (x ++ y) ≡ pick x ++ pick y) (none : pick [] ≡ []) where
-  pub member_step : (t : Task) (s : List Tree) (old new all : List NameEntry) (ds : List Def) (i : ℕ) (d : Def) → i < length ds
-      → new ≡ Added t s old (pick ((get_or ds i d).symbol ∷ [])) → Added t s old (pick (members_of (drop i ds))) ≡ all → Added t s new (pick (members_of (drop (i + 1) ds))) ≡ all
-  member_step t s old new all ds i d h p so =
-      let first = (get_or ds i d).symbol ∷ [] in
-      let rest = members_of (drop (i + 1) ds) in
-      added_twice t s old new (pick first) (pick rest) p ∙ ap (Added t s old) (sym (splits first rest)) ∙ ap (λ z. Added t s old (pick (members_of z))) (sym (cut ds i d h)) ∙ so
+-- no symbols, and a symbol before others
+pub pushed_none : (t : Task) (names : List NameEntry) → PushesSymbols t [] names names
+pushed_none t names s = sym (append-nil names)
 
-  pub members_end : (t : Task) (s : List Tree) (names : List NameEntry) (ds : List Def) (i : ℕ) → length ds ≤ i → Added t s names (pick (members_of (drop i ds))) ≡ names
-  members_end t s names ds i h = ap (λ z. Added t s names (pick (members_of z))) (drop_all i ds h) ∙ ap (Added t s names) none ∙ append-nil names
+pub pushed_then : (t : Task) (k : ℕ) (ks : List ℕ) (a b c : List NameEntry) → PushesSymbols t (k ∷ []) a b → PushesSymbols t ks b c → PushesSymbols t (k ∷ ks) a c
+pushed_then t k ks a b c one rest s = rest s ∙ added_twice t s a b (k ∷ []) ks (one s)
 
--- a group makes its members
-pub makes_members : (s : List Tree) (ds : List Def) → made_by (body_at s (Defs ds)) ≡ members_of ds
-makes_members s [] = refl
-makes_members s (d ∷ ds) = ap (λ z. d.symbol ∷ z) (makes_members s ds)
+pub marked_none : (t : Task) (marks : List Bool) (names : List NameEntry) → PushesMarked t marks [] names names
+marked_none t marks names s = sym (append-nil names)
+
+pub marked_then : (t : Task) (marks : List Bool) (k : ℕ) (ks : List ℕ) (a b c : List NameEntry) → PushesMarked t marks (k ∷ []) a b → PushesMarked t marks ks b c → PushesMarked t marks (k ∷ ks) a c
+marked_then t marks k ks a b c one rest s =
+    rest s ∙ added_twice t s a b (marked marks (k ∷ [])) (marked marks ks) (one s) ∙ ap (Added t s a) (sym (marked-append marks (k ∷ []) ks))
 
 -- the table when these declarations have been added too
 abbrev pub Grown : Task → List Tree → List Bool → List NameEntry → List Decl → List NameEntry
@@ -98,27 +92,11 @@ same_filter f g n (k ∷ ks) e a =
     let rest = same_filter f g n ks e (λ j d l. a (suc j) d (omega arith)) in
     rw (h, rest) refl
 
-defined_within : (t : TaskTree) (ds : List DefinitionTree) → All (IsDefinition t) ds → All (λ k. k < length t.symbols) (map (λ (d : DefinitionTree). d.symbol) ds)
-defined_within t [] v = All-nil (λ k. k < length t.symbols)
-defined_within t (d ∷ ds) v =
-    All-cons (λ k. k < length t.symbols) d.symbol (map (λ (e : DefinitionTree). e.symbol) ds) (v 0 d (omega arith)).signature.entry (defined_within t ds (λ j e l. v (suc j) e (omega arith)))
-
-body_within : (t : TaskTree) (vars : ℕ) (b : BodyTree) → IsValidBody t vars b → All (λ k. k < length t.symbols) (made_by b)
-body_within t vars (MakesType k) v = All-cons (λ k. k < length t.symbols) k [] v.entry (All-nil (λ k. k < length t.symbols))
-body_within t vars (Makes k) v = All-cons (λ k. k < length t.symbols) k [] v.entry (All-nil (λ k. k < length t.symbols))
-body_within t vars (Defines ds) v = defined_within t ds v
-body_within t vars (Says a) v = All-nil (λ k. k < length t.symbols)
-
-made_within : (t : TaskTree) (ds : List DeclarationTree) → All (λ (d : DeclarationTree). IsValidBody t d.vars d.body) ds → All (λ k. k < length t.symbols) (made ds)
-made_within t [] a = All-nil (λ k. k < length t.symbols)
-made_within t (d ∷ ds) a =
-    All-append (λ k. k < length t.symbols) (made_by d.body) (made ds) (body_within t d.vars d.body (a 0 d (omega arith))) (made_within t ds (λ j e l. a (suc j) e (omega arith)))
+pub valid-entries : (t : TaskTree) → IsValid t → DeclaresEntries t
+valid-entries t v = made_entries (of_task t) t.decls v.decls
 
 pub marked-used : (t : TaskTree) (marks : List Bool) → DeclaresEntries t → MarksUsed t marks → marked marks (made t.decls) ≡ used_symbols t
 marked-used t marks v m = same_filter (λ k. get_or marks k false) (is_used t) (length t.symbols) (made t.decls) m.each v
-
-pub valid-entries : (t : TaskTree) → IsValid t → DeclaresEntries t
-valid-entries t v = made_within t t.decls v.decls
 
 pub name_within : (s : List Tree) (infos seen : List SymbolInfo) (k : ℕ) (i : SymbolInfo) → seen ≡ infos → k < length seen → (get_or seen k i).name ≡ (symbol_or (symbols_at s infos) k).name
 name_within s infos seen k i same h =

@@ -9,9 +9,9 @@ clean_byte c = if c == 39 then 113 else c
 abbrev pub lower : ℕ → ℕ
 lower c = if nat_le 65 c && nat_le c 90 then c + 32 else c
 
--- a first `_` becomes `u_`
+-- a first `_` becomes `u_`, and a first letter is in lower case
 abbrev pub clean_first : ℕ → List ℕ
-clean_first c = if c == 95 then codes "u_" else lower c ∷ []
+clean_first c = if c == 95 then codes "u_" else lower (clean_byte c) ∷ []
 
 abbrev pub clean : List ℕ → List ℕ
 clean [] = []

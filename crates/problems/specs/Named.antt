@@ -1,9 +1,8 @@
 -- The own name of a symbol of a task.
-use Rattle.std.specs.Prelude.{◌≡◌, ℕ, Bool, false, List, ◌++◌, map, filter, length, get_or}
+use Rattle.std.specs.Prelude.{◌≡◌, ℕ, Bool, false, List, ◌++◌, filter, length, get_or}
 use Rattle.trees.specs.Tree.{Tree}
 use Rattle.tasks.specs.declared.task.Task.{Task}
 use Rattle.tasks.specs.declared.declaration.Body.{Body}
-use Rattle.tasks.specs.declared.declaration.Def.{Def}
 use Rattle.tasks.specs.Task.{symbol_or, made_by}
 use Rattle.tasks.specs.Meaning.{symbols_at, body_at, task_at}
 use Rattle.problems.specs.declared.names.NameEntry.{NameEntry}
@@ -16,10 +15,6 @@ IsNameOf t k name = (s : List Tree) → name ≡ (symbol_or (symbols_at s t.sig.
 -- those that are marked
 abbrev pub marked : List Bool → List ℕ → List ℕ
 marked marks ks = filter (λ k. get_or marks k false) ks
-
--- the members of a group
-abbrev pub members_of : List Def → List ℕ
-members_of ds = map (λ (d : Def). d.symbol) ds
 
 -- the table gains the entries of those of these symbols that are marked
 abbrev pub PushesMarked : Task → List Bool → List ℕ → List NameEntry → List NameEntry → Type 0

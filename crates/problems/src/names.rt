@@ -3,14 +3,14 @@
 ghost use Rattle.std.specs.Prelude.{◌≡◌, ◌++◌, ◌∷◌, [], false, map, slice_index_or, IfOk, OnOk};
 ghost use Rattle.tasks.specs.Meaning.{task_at, TaskHeld};
 ghost use Rattle.problems.specs.Used.{DeclaresEntries};
-ghost use Rattle.problems.specs.Named.{IsNameOf, PushesMarked, PushesMade, PushesRigid, PushesSymbols, PushesAny, members_of};
+ghost use Rattle.problems.specs.Named.{IsNameOf, PushesMarked, PushesMade, PushesRigid, PushesSymbols, PushesAny};
 ghost use Rattle.problems.specs.Clean.{clean_byte, lower, clean, name_at_place};
 ghost use Rattle.problems.specs.Names.{plain_names, task_names, int_entry, entry_of, rigid_entry};
 
 use crate::used::used_marks;
 use outside::{Seq, Text};
 use std::alloc::{AllocError, Global};
-use tasks::{Body, Def, Task};
+use tasks::{Body, Task, made_by};
 use term_store::Store;
 
 /// What a name stands for.
@@ -62,7 +62,7 @@ fn clean(alloc: Global, name: &[u8]) -> Result<Vec<u8>, AllocError>
             if *first == 95 {
                 made.extend_from_slice(b"u_")?;
             } else {
-                made.push(lower(*first))?;
+                made.push(lower(clean_byte(*first)))?;
             }
             push_rest(&mut made, rest)?;
             Ok(made)
@@ -172,28 +172,28 @@ fn push_made(
 ) -> Result<(), AllocError>
     ensures { OnOk result (PushesMade task.now marks.now body.now names.old.items names.new.items) }
 {
-    match body {
-        Body::TypeSymbol(symbol) => push_marked(alloc, task, marks, *symbol, names),
-        Body::Symbol(symbol) => push_marked(alloc, task, marks, *symbol, names),
-        Body::Defs(defs) => push_marked_members(alloc, task, marks, defs.as_slice(), names),
-        Body::Prop(_) => Ok(()),
-    }
+    let symbols = made_by(alloc, body)?;
+    push_all_marked(alloc, task, marks, symbols.as_slice(), names)
 }
 
-// The entries of a group's members, if they are marked.
-fn push_marked_members(
+// The entries of these symbols, if they are marked.
+#[tactic(auto, using(crate::proofs::Tables::marked_none, crate::proofs::Tables::marked_then))]
+fn push_all_marked(
     alloc: Global,
     task: &Task,
     marks: &[bool],
-    defs: &[Def],
+    symbols: &[usize],
     names: &mut Vec<NameEntry>,
 ) -> Result<(), AllocError>
-    ensures { OnOk result (PushesMarked task.now marks.now (members_of defs.now) names.old.items names.new.items) }
+    ensures { OnOk result (PushesMarked task.now marks.now symbols.now names.old.items names.new.items) }
 {
-    for def in defs {
-        push_marked(alloc, task, marks, def.symbol, names)?;
+    match symbols.split_first() {
+        Some((first, rest)) => {
+            push_marked(alloc, task, marks, *first, names)?;
+            push_all_marked(alloc, task, marks, rest, names)
+        }
+        None => Ok(()),
     }
-    Ok(())
 }
 
 // The entry of a symbol, if it is marked.
@@ -277,25 +277,25 @@ fn push_any(
 ) -> Result<(), AllocError>
     ensures { OnOk result (PushesAny task.now body.now names.old.items names.new.items) }
 {
-    match body {
-        Body::TypeSymbol(symbol) => push_symbol(alloc, task, *symbol, names),
-        Body::Symbol(symbol) => push_symbol(alloc, task, *symbol, names),
-        Body::Defs(defs) => push_members(alloc, task, defs.as_slice(), names),
-        Body::Prop(_) => Ok(()),
-    }
+    let symbols = made_by(alloc, body)?;
+    push_symbols(alloc, task, symbols.as_slice(), names)
 }
 
-// The entries of a group's members.
-fn push_members(
+// The entries of these symbols.
+#[tactic(auto, using(crate::proofs::Tables::pushed_none, crate::proofs::Tables::pushed_then))]
+fn push_symbols(
     alloc: Global,
     task: &Task,
-    defs: &[Def],
+    symbols: &[usize],
     names: &mut Vec<NameEntry>,
 ) -> Result<(), AllocError>
-    ensures { OnOk result (PushesSymbols task.now (members_of defs.now) names.old.items names.new.items) }
+    ensures { OnOk result (PushesSymbols task.now symbols.now names.old.items names.new.items) }
 {
-    for def in defs {
-        push_symbol(alloc, task, def.symbol, names)?;
+    match symbols.split_first() {
+        Some((first, rest)) => {
+            push_symbol(alloc, task, *first, names)?;
+            push_symbols(alloc, task, rest, names)
+        }
+        None => Ok(()),
     }
-    Ok(())
 }

@@ -29,7 +29,7 @@ prop_plain p h = (h.0, over_plain h.1.0 p.formula h.1.1)
 pub fragment_task : (theories : List TheoryTree) (path goal : List ℕ) (k : TaskTree) → AreOfSource theories → task_named theories path goal ≡ Ok k → IsInFragment k
 fragment_task theories path goal k source e =
     let plain = propositional_task source.file theories path goal k source.declares e in
-    let names = file_names source.text source.tokens source.file source.lexes source.parses.is.writes in
+    let names = file_names source.text source.tokens source.file source.lexes source.parses.of.tokens in
     record {
       formulas = record {
         props = λ i d l. prop_plain _ (plain.props i d l);

@@ -1,15 +1,17 @@
 -- A text has its theories, or one fault that stands first.
 use Rattle.std.proofs.Common.{◌≡◌, ◌≢◌, ◌+◌, ◌-◌, ◌<◌, ◌++◌, ◌∷◌, [], ◌∙◌, ℕ, take, drop, slice_get, List, Option, Some, None, Ok, Err, refl, sym, ap, subst, arith, append_assoc, append-nil}
-use Rattle.std.proofs.Math.Seq.{take-add}
+use Rattle.tokens_why.specs.declared.terminal.Terminal.{Terminal}
 use Rattle.tokens_why.specs.declared.token.Token.{Token}
 use Rattle.tokens_why.specs.Tokens.{Reads, AreTokens}
 use Rattle.tokens_why.specs.Tokens as text
 use Rattle.tokens_why.proofs.TurnLemmas.{Turn, first, turn, Reading, stopped}
-use Rattle.syntax_why.specs.Lexeme.{Lexeme, rest}
-use Rattle.syntax_why.specs.Declarations.{Theory}
-use Rattle.syntax_why.specs.Sources.{IsFileOf, BeginsSource}
-use Rattle.parse_decls.specs.Depth.{IsTooDeep, IsShallow}
-use Rattle.parse_decls.specs.Faults.{IsLeastFault, IsProgramDecl}
+use Rattle.syntax_why.specs.Lexeme.{rest, terminals}
+use Rattle.syntax_why.specs.Declarations.{Theory, write_file}
+use Rattle.syntax_why.specs.DeclarationRules.{IsLevelFile}
+use Rattle.reading.specs.Sentences.{IsOf}
+use Rattle.recognise_why.specs.Depth.{IsTooDeep, IsShallow}
+use Rattle.recognise_why.specs.Sources.{IsProgramDecl}
+use Rattle.recognise_why.proofs.OneFault.{one_least}
 use Rattle.propositional.specs.declared.fault.DeclFault.{DeclFault}
 use Rattle.propositional.specs.declared.fault.DeclFault.TheVariants as decl_fault
 use Rattle.propositional.specs.Theories.{TheoryTree, theories_of}
@@ -60,32 +62,13 @@ one_lexes bytes (Err stop) (Err other) a b =
     let same : m.at ≡ n.at = ((reading bytes n.at n.tokens n.reads).only m.at m.tokens m.reads).0 in
     ap (λ (z : Stop). Err z) (n.is ∙ ap text_stop (sym same) ∙ sym m.is)
 
--- a source begins with fewer tokens too
-begins_front : (xs : List Lexeme) (m k : ℕ) → BeginsSource (take (m + k) xs) → BeginsSource (take m xs)
-begins_front xs m k b =
-    let is : take (m + k) xs ++ b.more ≡ take m xs ++ (take k (drop m xs) ++ b.more) = ap (λ v. v ++ b.more) (take-add m k xs) ∙ append_assoc (take m xs) (take k (drop m xs)) b.more in
-    record { file = b.file; more = take k (drop m xs) ++ b.more; is = subst (λ v. IsFileOf v b.file) is b.is }
-
-least_below : (xs : List Lexeme) (i j : ℕ) → IsLeastFault xs i → IsLeastFault xs j → i < j → ⊥
-least_below xs i j a b h =
-    let k : ℕ = j - (i + 1) in
-    let is : j ≡ i + 1 + k = omega arith in
-    let high = b.high in
-    a.stops (omega arith) (begins_front xs (i + 1) k (subst (λ v. BeginsSource (take v xs)) is b.begins))
-
-one_least : (xs : List Lexeme) (i j : ℕ) → IsLeastFault xs i → IsLeastFault xs j → i ≡ j
-one_least xs i j a b =
-    let above : (i < j → ⊥) = least_below xs i j a b in
-    let below : (j < i → ⊥) = least_below xs j i b a in
-    omega arith
-
-one_deep : (xs : List Lexeme) (i j : ℕ) → IsTooDeep xs i → IsTooDeep xs j → i ≡ j
+one_deep : (xs : List Terminal) (i j : ℕ) → IsTooDeep xs i → IsTooDeep xs j → i ≡ j
 one_deep xs i j a b =
     let above : (i < j → ⊥) = λ h. let l = b.first i h in let d = a.deep in let n : ⊥ = omega arith in n in
     let below : (j < i → ⊥) = λ h. let l = a.first j h in let d = b.deep in let n : ⊥ = omega arith in n in
     omega arith
 
-deep_or : (xs : List Lexeme) (i : ℕ) → IsShallow xs → IsTooDeep xs i → ⊥
+deep_or : (xs : List Terminal) (i : ℕ) → IsShallow xs → IsTooDeep xs i → ⊥
 deep_or xs i s h = let l = s i h.within in let d = h.deep in omega arith
 
 -- why tokens are no source
@@ -99,44 +82,46 @@ why_stop (deep token) = refused (TooDeep token)
 why_stop (program token) = refused (ProgramDecl token)
 why_stop (syntax_at token) = refused (Syntax token)
 
-abbrev IsWhy : List Lexeme → Why → Type 0
-IsWhy xs w = IsNoFile xs (why_stop w)
+-- the tokens of a text
+module _ (bytes : List ℕ) (tokens : List Token) where
+  abbrev IsWhy : Why → Type 0
+  IsWhy w = IsNoFile (rest bytes tokens 0) (why_stop w)
 
-record NoFile (xs : List Lexeme) (stop : Stop) : Type 0 where
-  why : Why
-  holds : IsWhy xs why
-  is : stop ≡ why_stop why
+  record NoFile (stop : Stop) : Type 0 where
+    why : Why
+    holds : IsWhy why
+    is : stop ≡ why_stop why
 
-no_file : (xs : List Lexeme) (stop : Stop) → IsNoFile xs stop → NoFile xs stop
-no_file xs (refused (TooDeep token)) h = record { why = deep token; holds = h; is = refl }
-no_file xs (refused (ProgramDecl token)) h = record { why = program token; holds = h; is = refl }
-no_file xs (refused (Syntax token)) h = record { why = syntax_at token; holds = h; is = refl }
-no_file xs _ h = absurd h
+  no_file : (stop : Stop) → IsNoFile (rest bytes tokens 0) stop → NoFile stop
+  no_file (refused (TooDeep token)) h = record { why = deep token; holds = h; is = refl }
+  no_file (refused (ProgramDecl token)) h = record { why = program token; holds = h; is = refl }
+  no_file (refused (Syntax token)) h = record { why = syntax_at token; holds = h; is = refl }
+  no_file _ h = absurd h
 
-one_why : (xs : List Lexeme) (v w : Why) → IsWhy xs v → IsWhy xs w → v ≡ w
-one_why xs (deep i) (deep j) a b = ap deep (one_deep xs i j a b)
-one_why xs (deep i) (program j) a b = absurd (deep_or xs i b.0 a)
-one_why xs (deep i) (syntax_at j) a b = absurd (deep_or xs i b.0 a)
-one_why xs (program i) (deep j) a b = absurd (deep_or xs j a.0 b)
-one_why xs (program i) (program j) a b = ap program (one_least xs i j a.1 b.1)
-one_why xs (program i) (syntax_at j) a b = absurd (b.2 (subst (IsProgramDecl xs) (one_least xs i j a.1 b.1) a.2))
-one_why xs (syntax_at i) (deep j) a b = absurd (deep_or xs j a.0 b)
-one_why xs (syntax_at i) (program j) a b = absurd (a.2 (subst (IsProgramDecl xs) (one_least xs j i b.1 a.1) b.2))
-one_why xs (syntax_at i) (syntax_at j) a b = ap syntax_at (one_least xs i j a.1 b.1)
+  one_why : (v w : Why) → IsWhy v → IsWhy w → v ≡ w
+  one_why (deep i) (deep j) a b = ap deep (one_deep (terminals (rest bytes tokens 0)) i j a b)
+  one_why (deep i) (program j) a b = absurd (deep_or (terminals (rest bytes tokens 0)) i b.0 a)
+  one_why (deep i) (syntax_at j) a b = absurd (deep_or (terminals (rest bytes tokens 0)) i b.0 a)
+  one_why (program i) (deep j) a b = absurd (deep_or (terminals (rest bytes tokens 0)) j a.0 b)
+  one_why (program i) (program j) a b = ap program (one_least bytes tokens i j a.1 b.1)
+  one_why (program i) (syntax_at j) a b = absurd (b.2 (subst (IsProgramDecl (rest bytes tokens 0)) (one_least bytes tokens i j a.1 b.1) a.2))
+  one_why (syntax_at i) (deep j) a b = absurd (deep_or (terminals (rest bytes tokens 0)) j a.0 b)
+  one_why (syntax_at i) (program j) a b = absurd (a.2 (subst (IsProgramDecl (rest bytes tokens 0)) (one_least bytes tokens j i b.1 a.1) b.2))
+  one_why (syntax_at i) (syntax_at j) a b = ap syntax_at (one_least bytes tokens i j a.1 b.1)
 
-file_or : (xs : List Lexeme) (file : List Theory) (w : Why) → IsShallow xs → IsFileOf xs file → IsWhy xs w → ⊥
-file_or xs file (deep i) s f h = deep_or xs i s h
-file_or xs file (program i) s f h = h.1.none (file, f)
-file_or xs file (syntax_at i) s f h = h.1.none (file, f)
+  file_or : (file : List Theory) (w : Why) → IsShallow (terminals (rest bytes tokens 0)) → IsOf IsLevelFile write_file (rest bytes tokens 0) file → IsWhy w → ⊥
+  file_or file (deep i) s f h = deep_or (terminals (rest bytes tokens 0)) i s h
+  file_or file (program i) s f h = h.1.none file f
+  file_or file (syntax_at i) s f h = h.1.none file f
 
-one_parses : (xs : List Lexeme) → One (Parses xs)
-one_parses xs (Ok f) (Ok g) a b = ap (λ (z : List Theory). Ok z) (b.1.one f a.1.is)
-one_parses xs (Ok f) (Err stop) a b = let n = no_file xs stop b in absurd (file_or xs f n.why a.0 a.1.is n.holds)
-one_parses xs (Err stop) (Ok f) a b = let n = no_file xs stop a in absurd (file_or xs f n.why b.0 b.1.is n.holds)
-one_parses xs (Err stop) (Err other) a b =
-    let n = no_file xs stop a in
-    let m = no_file xs other b in
-    ap (λ (z : Stop). Err z) (n.is ∙ ap why_stop (one_why xs n.why m.why n.holds m.holds) ∙ sym m.is)
+  one_parses : One (Parses (rest bytes tokens 0))
+  one_parses (Ok f) (Ok g) a b = ap (λ (z : List Theory). Ok z) (b.1.only f a.1.of a.1.placed)
+  one_parses (Ok f) (Err stop) a b = let n = no_file stop b in absurd (file_or f n.why a.0 a.1.of n.holds)
+  one_parses (Err stop) (Ok f) a b = let n = no_file stop a in absurd (file_or f n.why b.0 b.1.of n.holds)
+  one_parses (Err stop) (Err other) a b =
+      let n = no_file stop a in
+      let m = no_file other b in
+      ap (λ (z : Stop). Err z) (n.is ∙ ap why_stop (one_why n.why m.why n.holds m.holds) ∙ sym m.is)
 
 abbrev start_or : Option Token → ℕ
 start_or None = 0
@@ -180,7 +165,7 @@ one_declares tokens file (Err stop) (Err other) a b =
     ap (λ (z : Stop). Err z) (n.is ∙ ap (decl_stop tokens) same ∙ sym m.is)
 
 one_file_theories : (bytes : List ℕ) (tokens : List Token) → One (FileTheories bytes tokens)
-one_file_theories bytes tokens = one_after (Parses (rest bytes tokens 0)) (Declares tokens) (one_parses (rest bytes tokens 0)) (one_declares tokens)
+one_file_theories bytes tokens = one_after (Parses (rest bytes tokens 0)) (Declares tokens) (one_parses bytes tokens) (one_declares tokens)
 
 -- the theories of a text, or its first fault, are one
 pub one_theories : (bytes : List ℕ) → One (SourceTheories bytes)

@@ -9,7 +9,6 @@ use Rattle.trees.specs.Tree.{Tree}
 use Rattle.tasks.specs.declared.signature.SymbolKind.{SymbolKind}
 use Rattle.tasks.specs.declared.signature.SymbolKind.TheVariants.{Predicate}
 use Rattle.tasks.specs.Task.{SymbolTree, TaskTree}
-use Rattle.tasks.specs.Typing.{entry}
 use Rattle.kernel.specs.Trees.{RuleTree, RClash, RNotNot, RAnd, RNotAnd, RImp, RNotImp, RCut, RKeep, RFact, StepTree}
 use Rattle.problems.specs.declared.names.NameEntry.{NameEntry}
 use Rattle.program.specs.Propositional.{IsPropositional, RuleIsPropositional, StepIsPropositional}
@@ -46,8 +45,8 @@ plain_symbol k _ vars args = tt
 
 symbol_plain : (t : TaskTree) (names : List NameEntry) (name : List ℕ) → IfSome (symbol_formula t names name) IsPropositional
 symbol_plain t names name =
-    onward (λ (k : ℕ). Anything k) IsPropositional (symbol_named names name) (λ k. option_and_then (λ e. plain_formula k e.kind e.vars e.args) (entry t k)) (anyway (symbol_named names name))
-    (λ k _. onward (λ (e : SymbolTree). Anything e) IsPropositional (entry t k) (λ e. plain_formula k e.kind e.vars e.args) (anyway (entry t k)) (λ e _. plain_symbol k e.kind e.vars e.args))
+    onward (λ (k : ℕ). Anything k) IsPropositional (symbol_named names name) (λ k. option_and_then (λ e. plain_formula k e.kind e.vars e.args) (slice_get t.symbols k)) (anyway (symbol_named names name))
+    (λ k _. onward (λ (e : SymbolTree). Anything e) IsPropositional (slice_get t.symbols k) (λ e. plain_formula k e.kind e.vars e.args) (anyway (slice_get t.symbols k)) (λ e _. plain_symbol k e.kind e.vars e.args))
 
 pub got_all : {X : Type 0} (P : X → Type 0) (xs : List X) (k : ℕ) → All P xs → IfSome (slice_get xs k) P
 got_all {X = X} P xs k a = elim (slice_get_cases xs k).1 [

@@ -58,7 +58,7 @@ rule_types t s (RFact k types) ps f w = fact_types t t s k types ps f refl w
 rule_types t s _ ps f w = tt
 
 part_keeps : (t : TaskTree) (g : Tree) → KeepsDeclared t (with_goal t g)
-part_keeps t g = record { symbols = refl; rigid = refl; made = λ k. (λ x. x, λ x. x) }
+part_keeps t g = record { symbols = refl; rigid = refl; made = λ k. (λ x. x, λ x. x); constructors = λ k x. x }
 
 module _ (t : TaskTree) (v : IsValid t) (f : IsInFragment t) where
   formula_in : (e : Tree) → IsPropositional e → IsGroundFormula t e → IsWritable (task_names t) e

@@ -8,8 +8,10 @@ use Rattle.trees.specs.declared.Op.TheVariants.{And, Imp}
 use Rattle.trees.specs.Tree.{Tree, One, Two, HNot, HPred, HJoin}
 use Rattle.tasks.specs.declared.signature.SymbolKind.TheVariants.{Kind, Predicate}
 use Rattle.tasks.specs.Task.{TaskTree, SymbolTree, int_symbol, made}
-use Rattle.tasks.specs.Typing.{TypedUnder, Declares, IsUse, entry}
+use Rattle.tasks.specs.Vocabulary.{of_task}
+use Rattle.tasks.specs.Typing.{TypedUnder, IsUse, entry}
 use Rattle.tasks.specs.Valid.{IsValid}
+use Rattle.tasks.proofs.Declared.{usable_made}
 use Rattle.problems.specs.declared.names.NameEntry.{NameEntry}
 use Rattle.problems.specs.Clean.{name_at_place}
 use Rattle.problems.specs.Names.{int_entry, rigid_from, entries_from, task_names}
@@ -83,11 +85,10 @@ int_is_type o types args is h =
     let kind : Kind ≡ Predicate = at.0 in
     cc
 
-predicate_named : (t : TaskTree) → IsValid t → IsInFragment t → (k : ℕ) (types args : Tree) → Declares t k → IsSomeAnd (entry t k) (λ e. (e.kind ≡ Predicate) × IsUse e types args) → is_named (task_names t) k ≡ true
+predicate_named : (t : TaskTree) → IsValid t → IsInFragment t → (k : ℕ) (types args : Tree) → IsTrue ((of_task t).usable k) → IsSomeAnd (entry (of_task t) k) (λ e. (e.kind ≡ Predicate) × IsUse e types args) → is_named (task_names t) k ≡ true
 predicate_named t v f k types args d h =
-    let no_type : k ≢ 0 = λ z. int_is_type (entry t k) types args (ap (entry t) z ∙ v.int) h in
-    let all : Contains (0 ∷ made t.decls) k = subst (λ (r : List ℕ). Contains (0 ∷ r ++ made t.decls) k) f.rigid d in
-    let c = made_here (made t.decls) k no_type all in
+    let no_type : k ≢ 0 = λ z. int_is_type (entry (of_task t) k) types args (ap (entry (of_task t)) z ∙ v.int) h in
+    let c = made_here (made t.decls) k no_type (usable_made t k d) in
     let named : is_named (entries_from t 1 (made t.decls)) k ≡ true = entry_named t 1 (made t.decls) k c.0 c.1 c.2 in
     ap (λ (ns : List NameEntry). is_named ns k) (table_is t f.rigid) ∙ named
 
@@ -95,7 +96,7 @@ both_true : (a b : Bool) → a ≡ true → b ≡ true → (a && b) ≡ true
 both_true a b h k = ap (λ x. x && b) h ∙ k
 
 module _ (t : TaskTree) (v : IsValid t) (f : IsInFragment t) where
-  pub writable : (types : List Tree) (a : Tree) → IsPropositional a → TypedUnder t types a → IsWritable (task_names t) a
+  pub writable : (types : List Tree) (a : Tree) → IsPropositional a → TypedUnder (of_task t) types a → IsWritable (task_names t) a
   writable types (One HNot a) p y = writable types a p y.2
   writable types (Two (HPred k) a b) p y =
       let named = predicate_named t v f k a b y.1.0 y.1.1 in

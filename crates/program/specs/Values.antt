@@ -13,8 +13,9 @@ use Rattle.tokens_why.specs.declared.token.Token.{Token}
 use Rattle.tokens_why.specs.Tokens.{AreTokens}
 use Rattle.syntax_why.specs.declared.declarations.File.{File}
 use Rattle.syntax_why.specs.Lexeme.{rest}
-use Rattle.syntax_why.specs.Declarations.{Theory as Surface, file_of}
-use Rattle.parse_decls.specs.Parsed.{IsOnlyFile}
+use Rattle.syntax_why.specs.Declarations.{Theory as Surface}
+use Rattle.syntax_why.specs.SurfaceDeclarations.{file_of}
+use Rattle.recognise_why.specs.Sources.{IsOnlyFile}
 use Rattle.propositional.specs.declared.theory.Theory.{Theory}
 use Rattle.propositional.specs.Theories.{TheoryTree, theories_of}
 use Rattle.propositional.specs.Meaning.{theories_at}

@@ -3,10 +3,9 @@
 ghost use Rattle.std.specs.Prelude.{◌≡◌, ◌<◌, Some, IfOk, length, slice_get};
 ghost use Rattle.tokens_why.specs.Tokens.{AreTokens};
 ghost use Rattle.syntax_why.specs.Lexeme.{rest};
-ghost use Rattle.syntax_why.specs.Declarations.{file_of};
-ghost use Rattle.syntax_why.specs.WriteDeclarations.{write_file};
-ghost use Rattle.syntax_why.specs.CarriedDeclarations.{file_places_of};
-ghost use Rattle.syntax_why.specs.DeclarationPlaces.{file_places};
+ghost use Rattle.syntax_why.specs.Declarations.{write_file};
+ghost use Rattle.syntax_why.specs.DeclarationRules.{PlacedFile};
+ghost use Rattle.syntax_why.specs.SurfaceDeclarations.{file_of};
 ghost use Rattle.propositional.specs.Meaning.{theories_at, TheoriesHeld};
 ghost use Rattle.program.specs.Answers.{IsStageAnswer};
 ghost use Rattle.program.specs.Order.{Lexes, Parses, BeginsAt, Declares, SourceTheories};
@@ -37,7 +36,7 @@ fn tokens_of(alloc: Global, text: &[u8]) -> Result<Vec<Token>, RunFault>
 fn file_of(alloc: Global, tokens: &[Token], text: &[u8]) -> Result<File, RunFault>
     requires { AreTokens text.now tokens.now }
     ensures parses { IsStageAnswer (Parses (rest text.now tokens.now 0)) (file_in result) }
-    ensures places { IfOk result (λ file. file_places_of file ≡ file_places 0 (file_of file)) }
+    ensures places { IfOk result (λ file. PlacedFile 0 (file_of file)) }
 {
     match parse(alloc, tokens, text) {
         Ok(file) => Ok(file),
@@ -74,7 +73,7 @@ fn theories_of(
     file: &File,
 ) -> Result<Seq<Theory>, RunFault>
     requires tokens { length (write_file (file_of file.now)) ≡ length tokens.now }
-    requires places { file_places_of file.now ≡ file_places 0 (file_of file.now) }
+    requires places { PlacedFile 0 (file_of file.now) }
     ensures declares { IsStageAnswer (Declares tokens.now (file_of file.now)) (theories_in store.new result) }
     ensures held { IfOk result (TheoriesHeld store.new) }
 {

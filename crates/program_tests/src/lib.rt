@@ -3,12 +3,12 @@
 #![tactic(auto)]
 
 #[cfg(test)]
-mod check;
+mod checking;
 #[cfg(test)]
-mod lift;
+mod lifting;
+#[cfg(test)]
+mod printing;
 #[cfg(test)]
 mod random;
 #[cfg(test)]
-mod refusals;
-#[cfg(test)]
-mod tables;
+mod running;

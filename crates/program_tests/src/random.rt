@@ -1,10 +1,9 @@
 // Random theories: where a small tableau refutes each problem of a goal, the refutations are lifted and what is
 // written is accepted.
-use crate::tables::{sink, strings};
+use crate::running::{MEMORY, bytes, run_over, run_with, string, strings};
 use outside::MemoryLibrary;
-use program::run;
-use std::alloc::{AllocError, Global};
-use std::test::Fail;
+use std::alloc::Global;
+use std::process::Abort;
 
 // A formula, by the numbers of its parts, or the number of a predicate.
 #[derive(Clone, Copy, Debug, PartialEq, Eq)]
@@ -30,15 +29,15 @@ enum Growth {
 }
 
 // The number of a formula, each once.
-fn add(pool: &mut Vec<Made>, made: Made) -> Result<usize, AllocError> {
+fn add(rt: &impl Abort, pool: &mut Vec<Made>, made: Made) -> usize {
     let number = pool.len();
     for (k, other) in pool.iter().enumerate() {
         if *other == made {
-            return Ok(k);
+            return k;
         }
     }
-    pool.push(made)?;
-    Ok(number)
+    pool.push(made).expect(rt, MEMORY);
+    number
 }
 
 // The next of a sequence of numbers, below `below` or 0.
@@ -60,23 +59,26 @@ fn letter(k: usize) -> u8 {
 
 // A formula over three predicates, with its text.
 fn random_formula(
+    rt: &impl Abort,
     state: &mut u64,
     pool: &mut Vec<Made>,
     text: &mut Vec<u8>,
     depth: u32,
-) -> Result<usize, AllocError> {
+) -> usize {
     if depth == 0 || next(state, 4) == 0 {
         let k = next(state, 3) as usize;
-        text.push(letter(k))?;
-        return add(pool, Made::Name(k));
+        text.push(letter(k)).expect(rt, MEMORY);
+        return add(rt, pool, Made::Name(k));
     }
-    text.push(b'(')?;
-    let left = random_formula(state, pool, text, depth - 1)?;
+    text.push(b'(').expect(rt, MEMORY);
+    let left = random_formula(rt, state, pool, text, depth - 1);
     let is_and = next(state, 2) == 0;
-    text.extend_from_slice(if is_and { b" /\\ " } else { b" -> " })?;
-    let right = random_formula(state, pool, text, depth - 1)?;
-    text.push(b')')?;
+    text.extend_from_slice(if is_and { b" /\\ " } else { b" -> " })
+        .expect(rt, MEMORY);
+    let right = random_formula(rt, state, pool, text, depth - 1);
+    text.push(b')').expect(rt, MEMORY);
     add(
+        rt,
         pool,
         if is_and {
             Made::And(left, right)
@@ -88,60 +90,66 @@ fn random_formula(
 
 // The parts of a goal, by cases on the formula.
 fn parts(
+    rt: &impl Abort,
     alloc: Global,
     pool: &mut Vec<Made>,
     goal: usize,
     depth: u32,
-) -> Result<Vec<usize>, AllocError> {
+) -> Vec<usize> {
     let made = pool.get(goal).copied();
     if depth > 0 {
         if let Some(Made::And(left, right)) = made {
-            let mut all = parts(alloc, pool, left, depth - 1)?;
-            let more = parts(alloc, pool, right, depth - 1)?;
-            all.extend_from_slice(&more)?;
-            return Ok(all);
+            let mut all = parts(rt, alloc, pool, left, depth - 1);
+            let more = parts(rt, alloc, pool, right, depth - 1);
+            all.extend_from_slice(&more).expect(rt, MEMORY);
+            return all;
         }
         if let Some(Made::Imp(left, right)) = made {
             let mut all = Vec::new(alloc);
-            let more = parts(alloc, pool, right, depth - 1)?;
+            let more = parts(rt, alloc, pool, right, depth - 1);
             for part in &more {
-                all.push(add(pool, Made::Imp(left, *part))?)?;
+                all.push(add(rt, pool, Made::Imp(left, *part)))
+                    .expect(rt, MEMORY);
             }
-            return Ok(all);
+            return all;
         }
     }
-    Ok(vec![in alloc; goal]?)
+    vec![in alloc; goal].expect(rt, MEMORY)
 }
 
 // Numbers, a blank before each.
-fn push_all(alloc: Global, text: &mut Vec<u8>, numbers: &[usize]) -> Result<(), AllocError> {
+fn push_all(rt: &impl Abort, alloc: Global, text: &mut Vec<u8>, numbers: &[usize]) {
     for number in numbers {
-        text.push(b' ')?;
-        text.extend_from_slice(number.to_string(alloc)?.as_bytes())?;
+        text.push(b' ').expect(rt, MEMORY);
+        text.extend_from_slice(number.to_string(alloc).expect(rt, MEMORY).as_bytes())
+            .expect(rt, MEMORY);
     }
-    Ok(())
 }
 
 // A step at the end, and its number.
 fn step(
+    rt: &impl Abort,
     alloc: Global,
     steps: &mut Steps,
     sequent: &[usize],
     rule: &str,
     places: &[usize],
     premises: &[usize],
-) -> Result<usize, AllocError> {
+) -> usize {
     let number = steps.count;
-    steps.text.push(b's')?;
-    push_all(alloc, &mut steps.text, sequent)?;
-    steps.text.extend_from_slice(b" : ")?;
-    steps.text.extend_from_slice(rule.as_bytes())?;
-    push_all(alloc, &mut steps.text, places)?;
-    steps.text.extend_from_slice(b" :")?;
-    push_all(alloc, &mut steps.text, premises)?;
-    steps.text.push(10)?;
+    steps.text.push(b's').expect(rt, MEMORY);
+    push_all(rt, alloc, &mut steps.text, sequent);
+    steps.text.extend_from_slice(b" : ").expect(rt, MEMORY);
+    steps
+        .text
+        .extend_from_slice(rule.as_bytes())
+        .expect(rt, MEMORY);
+    push_all(rt, alloc, &mut steps.text, places);
+    steps.text.extend_from_slice(b" :").expect(rt, MEMORY);
+    push_all(rt, alloc, &mut steps.text, premises);
+    steps.text.push(10).expect(rt, MEMORY);
     steps.count = number.wrapping_add(1);
-    Ok(number)
+    number
 }
 
 // The places of a formula and its negation.
@@ -156,128 +164,135 @@ fn clash(pool: &[Made], sequent: &[usize]) -> Option<(usize, usize)> {
     None
 }
 
-fn growth_of_negation(pool: &mut Vec<Made>, negated: usize) -> Result<Growth, AllocError> {
-    Ok(match pool.get(negated).copied() {
+fn growth_of_negation(rt: &impl Abort, pool: &mut Vec<Made>, negated: usize) -> Growth {
+    match pool.get(negated).copied() {
         Some(Made::And(a, b)) => {
-            let left = add(pool, Made::Not(a))?;
-            Growth::Two("notand", left, add(pool, Made::Not(b))?)
+            let left = add(rt, pool, Made::Not(a));
+            Growth::Two("notand", left, add(rt, pool, Made::Not(b)))
         },
-        Some(Made::Imp(a, b)) => Growth::One("notimp", a, add(pool, Made::Not(b))?),
+        Some(Made::Imp(a, b)) => Growth::One("notimp", a, add(rt, pool, Made::Not(b))),
         _ => Growth::Nothing,
-    })
-}
-
-fn growth_of(pool: &mut Vec<Made>, formula: usize) -> Result<Growth, AllocError> {
-    match pool.get(formula).copied() {
-        Some(Made::And(a, b)) => Ok(Growth::One("and", a, b)),
-        Some(Made::Imp(a, b)) => Ok(Growth::Two("imp", add(pool, Made::Not(a))?, b)),
-        Some(Made::Not(a)) => growth_of_negation(pool, a),
-        _ => Ok(Growth::Nothing),
     }
 }
 
-fn longer(alloc: Global, sequent: &[usize], more: &[usize]) -> Result<Vec<usize>, AllocError> {
-    let mut all = Vec::from_slice(alloc, sequent)?;
-    all.extend_from_slice(more)?;
-    Ok(all)
+fn growth_of(rt: &impl Abort, pool: &mut Vec<Made>, formula: usize) -> Growth {
+    match pool.get(formula).copied() {
+        Some(Made::And(a, b)) => Growth::One("and", a, b),
+        Some(Made::Imp(a, b)) => Growth::Two("imp", add(rt, pool, Made::Not(a)), b),
+        Some(Made::Not(a)) => growth_of_negation(rt, pool, a),
+        _ => Growth::Nothing,
+    }
+}
+
+fn longer(rt: &impl Abort, alloc: Global, sequent: &[usize], more: &[usize]) -> Vec<usize> {
+    let mut all = Vec::from_slice(alloc, sequent).expect(rt, MEMORY);
+    all.extend_from_slice(more).expect(rt, MEMORY);
+    all
 }
 
 // A step that refutes a sequent whose formulas before a place were used, if there is one.
 fn refute(
+    rt: &impl Abort,
     alloc: Global,
     pool: &mut Vec<Made>,
     steps: &mut Steps,
     sequent: &[usize],
     at: usize,
     depth: u32,
-) -> Result<Option<usize>, AllocError> {
+) -> Option<usize> {
     if depth == 0 {
-        return Ok(None);
+        return None;
     }
     if let Some((i, j)) = clash(pool, sequent) {
-        return Ok(Some(step(alloc, steps, sequent, "clash", &[i, j], &[])?));
+        return Some(step(rt, alloc, steps, sequent, "clash", &[i, j], &[]));
     }
     let Some(formula) = sequent.get(at) else {
-        return Ok(None);
+        return None;
     };
     let after = at.wrapping_add(1);
-    match growth_of(pool, *formula)? {
-        Growth::Nothing => refute(alloc, pool, steps, sequent, after, depth - 1),
+    match growth_of(rt, pool, *formula) {
+        Growth::Nothing => refute(rt, alloc, pool, steps, sequent, after, depth - 1),
         Growth::One(rule, first, second) => {
-            let wide = longer(alloc, sequent, &[first, second])?;
-            let Some(k) = refute(alloc, pool, steps, &wide, after, depth - 1)? else {
-                return Ok(None);
+            let wide = longer(rt, alloc, sequent, &[first, second]);
+            let Some(k) = refute(rt, alloc, pool, steps, &wide, after, depth - 1) else {
+                return None;
             };
-            Ok(Some(step(alloc, steps, sequent, rule, &[at], &[k])?))
+            Some(step(rt, alloc, steps, sequent, rule, &[at], &[k]))
         },
         Growth::Two(rule, left, right) => {
-            let one = longer(alloc, sequent, &[left])?;
-            let Some(k) = refute(alloc, pool, steps, &one, after, depth - 1)? else {
-                return Ok(None);
+            let one = longer(rt, alloc, sequent, &[left]);
+            let Some(k) = refute(rt, alloc, pool, steps, &one, after, depth - 1) else {
+                return None;
             };
-            let two = longer(alloc, sequent, &[right])?;
-            let Some(l) = refute(alloc, pool, steps, &two, after, depth - 1)? else {
-                return Ok(None);
+            let two = longer(rt, alloc, sequent, &[right]);
+            let Some(l) = refute(rt, alloc, pool, steps, &two, after, depth - 1) else {
+                return None;
             };
-            Ok(Some(step(alloc, steps, sequent, rule, &[at], &[k, l])?))
+            Some(step(rt, alloc, steps, sequent, rule, &[at], &[k, l]))
         },
     }
 }
 
 // The line of a formula.
-fn push_formula(alloc: Global, text: &mut Vec<u8>, made: Made) -> Result<(), AllocError> {
+fn push_formula(rt: &impl Abort, alloc: Global, text: &mut Vec<u8>, made: Made) {
     match made {
         Made::Name(k) => {
-            text.extend_from_slice(b"e sym ")?;
-            text.push(letter(k))?;
-            text.push(b'_')?;
-            text.extend_from_slice(k.wrapping_add(1).to_string(alloc)?.as_bytes())?;
+            text.extend_from_slice(b"e sym ").expect(rt, MEMORY);
+            text.push(letter(k)).expect(rt, MEMORY);
+            text.push(b'_').expect(rt, MEMORY);
+            text.extend_from_slice(
+                k.wrapping_add(1)
+                    .to_string(alloc)
+                    .expect(rt, MEMORY)
+                    .as_bytes(),
+            )
+            .expect(rt, MEMORY);
         },
         Made::Not(a) => {
-            text.extend_from_slice(b"e not")?;
-            push_all(alloc, text, &[a])?;
+            text.extend_from_slice(b"e not").expect(rt, MEMORY);
+            push_all(rt, alloc, text, &[a]);
         },
         Made::And(a, b) => {
-            text.extend_from_slice(b"e and")?;
-            push_all(alloc, text, &[a, b])?;
+            text.extend_from_slice(b"e and").expect(rt, MEMORY);
+            push_all(rt, alloc, text, &[a, b]);
         },
         Made::Imp(a, b) => {
-            text.extend_from_slice(b"e imp")?;
-            push_all(alloc, text, &[a, b])?;
+            text.extend_from_slice(b"e imp").expect(rt, MEMORY);
+            push_all(rt, alloc, text, &[a, b]);
         },
     }
-    text.push(10)?;
-    Ok(())
+    text.push(10).expect(rt, MEMORY);
 }
 
 // A file that refutes a part from the facts, if the tableau closes.
 fn refutation(
+    rt: &impl Abort,
     alloc: Global,
     base: &[Made],
     facts: &[usize],
     part: usize,
-) -> Result<Option<Vec<u8>>, AllocError> {
-    let mut pool = Vec::from_slice(alloc, base)?;
+) -> Option<Vec<u8>> {
+    let mut pool = Vec::from_slice(alloc, base).expect(rt, MEMORY);
     let mut steps = Steps {
         text: Vec::new(alloc),
         count: 0,
     };
-    let negated = add(&mut pool, Made::Not(part))?;
-    let whole = longer(alloc, &[negated], facts)?;
-    let Some(mut last) = refute(alloc, &mut pool, &mut steps, &whole, 0, 60)? else {
-        return Ok(None);
+    let negated = add(rt, &mut pool, Made::Not(part));
+    let whole = longer(rt, alloc, &[negated], facts);
+    let Some(mut last) = refute(rt, alloc, &mut pool, &mut steps, &whole, 0, 60) else {
+        return None;
     };
     for k in (0..facts.len()).rev() {
-        let sequent = longer(alloc, &[negated], &facts[..k])?;
-        last = step(alloc, &mut steps, &sequent, "fact", &[k], &[last])?;
+        let sequent = longer(rt, alloc, &[negated], &facts[..k]);
+        last = step(rt, alloc, &mut steps, &sequent, "fact", &[k], &[last]);
     }
     let _ = last;
     let mut text = Vec::new(alloc);
     for made in &pool {
-        push_formula(alloc, &mut text, *made)?;
+        push_formula(rt, alloc, &mut text, *made);
     }
-    text.extend_from_slice(&steps.text)?;
-    Ok(Some(text))
+    text.extend_from_slice(&steps.text).expect(rt, MEMORY);
+    Some(text)
 }
 
 // A source, its formulas, and the numbers of its facts and of the goal's parts.
@@ -290,97 +305,80 @@ struct Theory {
 }
 
 // Each predicate stands in the first axiom, so each has its place in the table of each problem.
-fn random_theory(alloc: Global, seed: u64) -> Result<Theory, AllocError> {
+fn random_theory(rt: &impl Abort, alloc: Global, seed: u64) -> Theory {
     let mut state = seed;
     let mut pool = Vec::new(alloc);
     let mut source = Vec::from_slice(
         alloc,
         b"theory T predicate p predicate q predicate r axiom a: p -> q -> r -> p axiom b: ",
-    )?;
-    let p = add(&mut pool, Made::Name(0))?;
-    let q = add(&mut pool, Made::Name(1))?;
-    let r = add(&mut pool, Made::Name(2))?;
-    let inner = add(&mut pool, Made::Imp(r, p))?;
-    let middle = add(&mut pool, Made::Imp(q, inner))?;
-    let first = add(&mut pool, Made::Imp(p, middle))?;
-    let second = random_formula(&mut state, &mut pool, &mut source, 2)?;
-    source.extend_from_slice(b" axiom c: ")?;
-    let third = random_formula(&mut state, &mut pool, &mut source, 2)?;
-    source.extend_from_slice(b" goal g: ")?;
-    let goal = random_formula(&mut state, &mut pool, &mut source, 3)?;
-    source.extend_from_slice(b" end")?;
-    let parts = parts(alloc, &mut pool, goal, 10)?;
-    let facts = Vec::from_slice(alloc, &[first, second, third])?;
-    Ok(Theory {
+    )
+    .expect(rt, MEMORY);
+    let p = add(rt, &mut pool, Made::Name(0));
+    let q = add(rt, &mut pool, Made::Name(1));
+    let r = add(rt, &mut pool, Made::Name(2));
+    let inner = add(rt, &mut pool, Made::Imp(r, p));
+    let middle = add(rt, &mut pool, Made::Imp(q, inner));
+    let first = add(rt, &mut pool, Made::Imp(p, middle));
+    let second = random_formula(rt, &mut state, &mut pool, &mut source, 2);
+    source.extend_from_slice(b" axiom c: ").expect(rt, MEMORY);
+    let third = random_formula(rt, &mut state, &mut pool, &mut source, 2);
+    source.extend_from_slice(b" goal g: ").expect(rt, MEMORY);
+    let goal = random_formula(rt, &mut state, &mut pool, &mut source, 3);
+    source.extend_from_slice(b" end").expect(rt, MEMORY);
+    let parts = parts(rt, alloc, &mut pool, goal, 10);
+    let facts = Vec::from_slice(alloc, &[first, second, third]).expect(rt, MEMORY);
+    Theory {
         source,
         pool,
         facts,
         parts,
-    })
+    }
 }
 
 // The refutations of all parts, under their names, if each tableau closes.
-fn refutations(
-    alloc: Global,
-    theory: &Theory,
-) -> Result<Option<Vec<(String, Vec<u8>)>>, AllocError> {
+fn refutations(rt: &impl Abort, alloc: Global, theory: &Theory) -> Option<Vec<(String, Vec<u8>)>> {
     let mut files = Vec::new(alloc);
     for (k, part) in theory.parts.iter().enumerate() {
-        let Some(text) = refutation(alloc, &theory.pool, &theory.facts, *part)? else {
-            return Ok(None);
-        };
-        files.push((k.to_string(alloc)?, text))?;
+        let text = refutation(rt, alloc, &theory.pool, &theory.facts, *part)?;
+        files
+            .push((k.to_string(alloc).expect(rt, MEMORY), text))
+            .expect(rt, MEMORY);
     }
-    Ok(Some(files))
-}
-
-// What `check` answers to a text.
-fn check_code(alloc: Global, source: &[u8], text: &[u8]) -> Result<u8, AllocError> {
-    let mut files = Vec::new(alloc);
-    files.push((
-        String::from_str(alloc, "s")?,
-        Vec::from_slice(alloc, source)?,
-    ))?;
-    files.push((String::from_str(alloc, "d")?, Vec::from_slice(alloc, text)?))?;
-    let mut lib = MemoryLibrary::new(alloc, files, Vec::new(alloc));
-    let mut out = sink(alloc, &[])?;
-    let mut err = sink(alloc, &[])?;
-    let words = strings(alloc, &["why3lift", "check", "s", "T", "g", "d"])?;
-    Ok(run(alloc, &words, &mut lib, &mut out, &mut err).code())
+    Some(files)
 }
 
 // What `lift` and then `check` answer, where the tableaux close.
-fn lift_and_check(alloc: Global, seed: u64) -> Result<Option<(u8, u8)>, AllocError> {
-    let theory = random_theory(alloc, seed)?;
-    let Some(mut files) = refutations(alloc, &theory)? else {
-        return Ok(None);
-    };
-    let mut words = strings(alloc, &["why3lift", "lift", "s", "plain.drv", "T", "g"])?;
+fn lift_and_check(rt: &impl Abort, alloc: Global, seed: u64) -> Option<(u8, u8)> {
+    let theory = random_theory(rt, alloc, seed);
+    let mut files = refutations(rt, alloc, &theory)?;
+    let mut words = strings(rt, alloc, &["why3lift", "lift", "s", "plain.drv", "T", "g"]);
     for k in 0..theory.parts.len() {
-        words.push(k.to_string(alloc)?)?;
+        words
+            .push(k.to_string(alloc).expect(rt, MEMORY))
+            .expect(rt, MEMORY);
     }
-    files.push((
-        String::from_str(alloc, "s")?,
-        Vec::from_slice(alloc, &theory.source)?,
-    ))?;
-    let mut lib = MemoryLibrary::new(alloc, files, Vec::new(alloc));
-    let mut out = sink(alloc, &[])?;
-    let mut err = sink(alloc, &[])?;
-    let lifted = run(alloc, &words, &mut lib, &mut out, &mut err).code();
-    let checked = check_code(alloc, &theory.source, out.written())?;
-    Ok(Some((lifted, checked)))
+    let source = (string(rt, alloc, "s"), bytes(rt, alloc, &theory.source));
+    files.push(source).expect(rt, MEMORY);
+    let lib = MemoryLibrary::new(alloc, files, Vec::new(alloc));
+    let lifted = run_with(rt, alloc, &words, lib);
+    let check = ["why3lift", "check", "s", "T", "g", "d"];
+    let files = [
+        ("s", theory.source.as_slice()),
+        ("d", lifted.text.as_slice()),
+    ];
+    let checked = run_over(rt, alloc, &check, &files, &[]);
+    Some((lifted.code, checked.code))
 }
 
 #[test]
-fn random_goals_are_lifted(rt: HostRuntime) -> Result<(), Fail> {
+fn random_goals_are_lifted(rt: HostRuntime) {
     let mut lifted = 0u32;
     for seed in 0u64..60 {
-        if let Some(codes) = lift_and_check(rt.alloc(), seed)? {
+        if let Some(codes) = lift_and_check(&rt, rt.alloc(), seed) {
             assert_eq!(rt; codes, (0, 0), "seed {seed}");
             lifted = lifted.wrapping_add(1);
         }
     }
     // enough of the goals hold
     assert!(rt; lifted >= 10, "{lifted}");
-    Ok(())
 }

@@ -6,13 +6,11 @@ use Rattle.trees.specs.Tree.{Tree}
 use Rattle.tasks.specs.Task.{Makes, Says, DeclarationTree}
 use Rattle.syntax_why.specs.declared.declarations.PropKind.{PropKind}
 use Rattle.syntax_why.specs.declared.declarations.PropKind.TheVariants.{Axiom, Lemma, Goal}
-use Rattle.syntax_why.specs.Tree.{Word}
-use Rattle.syntax_why.specs.Places.{behind}
+use Rattle.syntax_why.specs.Lexeme.{Word}
 use Rattle.syntax_why.specs.Declarations.{Decl, Decls, no_decls, more_decls, Theory}
-use Rattle.syntax_why.specs.WriteDeclarations.{write_decl, write_theory}
 use Rattle.propositional.specs.declared.fault.DeclFault.{DeclFault}
 use Rattle.propositional.specs.declared.fault.DeclFault.TheVariants.{Unknown, Duplicate}
-use Rattle.propositional.specs.Fragment.{Item, declares, claims, item_at}
+use Rattle.propositional.specs.Fragment.{Item, declares, claims, item_of, begins_at}
 use Rattle.propositional.specs.Theories.{is_one_of, first_unknown, formula_tree, declaration, GoalTree, Context, empty_context, with_predicate, with_fact, with_goal, with_name, with_claim, with_item, item_fault, unless, after, and_then, decls_from, decl_count, TheoryTree, theory_tree, taken, theories_from}
 use Rattle.propositional.proofs.Formulas.{IsOver, formula_over}
 use Rattle.propositional.proofs.Orders.{InOrder, made_count, made_count-append, push_in_order}
@@ -109,15 +107,15 @@ went_on f (Ok a) b e = (a, refl, e)
 went_on f (Err fault) b e = absurd (cc)
 
 -- A fact of contexts that each item keeps holds of a whole theory.
-module _ (P : Context → Type 0) (keeps : (n i : ℕ) (g h : Context) (d : Decl) → after n i g (item_at i d) ≡ Ok h → P g → P h) where
-  decls_keep : (n i : ℕ) (g h : Context) (ds : Decls) → decls_from n i g ds ≡ Ok h → P g → P h
-  decls_keep n i g h no_decls e p = let q : g ≡ h = cc in subst P q p
-  decls_keep n i g h (more_decls d ds) e p =
-      let w = went_on (λ k. decls_from (n + 1) (behind i (write_decl d)) k ds) (after n i g (item_at i d)) h e in
-      decls_keep (n + 1) (behind i (write_decl d)) w.0 h ds w.2 (keeps n i g w.0 d w.1 p)
+module _ (P : Context → Type 0) (keeps : (n : ℕ) (g h : Context) (d : Decl) → after n (begins_at d) g (item_of d) ≡ Ok h → P g → P h) where
+  decls_keep : (n : ℕ) (g h : Context) (ds : Decls) → decls_from n g ds ≡ Ok h → P g → P h
+  decls_keep n g h no_decls e p = let q : g ≡ h = cc in subst P q p
+  decls_keep n g h (more_decls d ds) e p =
+      let w = went_on (λ k. decls_from (n + 1) k ds) (after n (begins_at d) g (item_of d)) h e in
+      decls_keep (n + 1) w.0 h ds w.2 (keeps n g w.0 d w.1 p)
 
-pub decls_sound : (n i : ℕ) (g h : Context) (ds : Decls) → decls_from n i g ds ≡ Ok h → IsSound g → IsSound h
-decls_sound = decls_keep IsSound (λ n i g h d e s. let t = taken_item n i g h (item_at i d) e in subst IsSound t.3 (item_sound n g t.0 t.2 s))
+pub decls_sound : (n : ℕ) (g h : Context) (ds : Decls) → decls_from n g ds ≡ Ok h → IsSound g → IsSound h
+decls_sound = decls_keep IsSound (λ n g h d e s. let t = taken_item n (begins_at d) g h (item_of d) e in subst IsSound t.3 (item_sound n g t.0 t.2 s))
 
 -- a theory keeps its name
 item_path : (g : Context) (x : Item) → (with_item g x).path ≡ g.path
@@ -126,9 +124,9 @@ item_path g (claims Axiom i x a) = refl
 item_path g (claims Lemma i x a) = refl
 item_path g (claims Goal i x a) = refl
 
-pub decls_path : (n i : ℕ) (g h : Context) (ds : Decls) → decls_from n i g ds ≡ Ok h → h.path ≡ g.path
-decls_path n i g h ds e =
-    decls_keep (λ (c : Context). c.path ≡ g.path) (λ m j c k d q p. let t = taken_item m j c k (item_at j d) q in subst (λ (v : Context). v.path ≡ g.path) t.3 (item_path c t.0 ∙ p)) n i g h ds e refl
+pub decls_path : (n : ℕ) (g h : Context) (ds : Decls) → decls_from n g ds ≡ Ok h → h.path ≡ g.path
+decls_path n g h ds e =
+    decls_keep (λ (c : Context). c.path ≡ g.path) (λ m c k d q p. let t = taken_item m (begins_at d) c k (item_of d) q in subst (λ (v : Context). v.path ≡ g.path) t.3 (item_path c t.0 ∙ p)) n g h ds e refl
 
 -- a theory that was read
 pub record IsReadTheory (t : TheoryTree) : Type 0 where
@@ -140,10 +138,11 @@ pub not_taken : {A : Type 0} (b : Bool) (fault : DeclFault) (r : Result A DeclFa
 not_taken true fault r a e = absurd (cc)
 not_taken false fault r a e = e
 
-pub theories_read : (n i : ℕ) (before : List TheoryTree) (ts : List Theory) (us : List TheoryTree) → theories_from n i before ts ≡ Ok us → All IsReadTheory before → All IsReadTheory us
-theories_read n i before [] us e a = let q : before ≡ us = cc in subst (All IsReadTheory) q a
-theories_read n i before (t ∷ ts) us e a =
-    let rest : Result (List TheoryTree) DeclFault = and_then (λ g. theories_from (n + 1 + decl_count t.decls) (behind i (write_theory t)) (before ++ theory_tree g ∷ []) ts) (decls_from (n + 1) (i + 2) (empty_context t.name) t.decls) in
-    let w = went_on (λ g. theories_from (n + 1 + decl_count t.decls) (behind i (write_theory t)) (before ++ theory_tree g ∷ []) ts) (decls_from (n + 1) (i + 2) (empty_context t.name) t.decls) us (not_taken (is_one_of (taken before) t.name) (Duplicate n (i + 1)) rest us e) in
-    let here : IsReadTheory (theory_tree w.0) = record { context = w.0; is = refl; sound = decls_sound (n + 1) (i + 2) (empty_context t.name) w.0 t.decls w.1 (empty_sound t.name) } in
-    theories_read (n + 1 + decl_count t.decls) (behind i (write_theory t)) (before ++ theory_tree w.0 ∷ []) ts us w.2 (All-push IsReadTheory before (theory_tree w.0) a here)
+pub theories_read : (n : ℕ) (before : List TheoryTree) (ts : List Theory) (us : List TheoryTree) → theories_from n before ts ≡ Ok us → All IsReadTheory before → All IsReadTheory us
+theories_read n before [] us e a = let q : before ≡ us = cc in subst (All IsReadTheory) q a
+theories_read n before (t ∷ ts) us e a =
+    let on : Context → Result (List TheoryTree) DeclFault = λ g. theories_from (n + 1 + decl_count t.decls) (before ++ theory_tree g ∷ []) ts in
+    let its : Result Context DeclFault = decls_from (n + 1) (empty_context t.name.text) t.decls in
+    let w = went_on on its us (not_taken (is_one_of (taken before) t.name.text) (Duplicate n t.name.at) (and_then on its) us e) in
+    let here : IsReadTheory (theory_tree w.0) = record { context = w.0; is = refl; sound = decls_sound (n + 1) (empty_context t.name.text) w.0 t.decls w.1 (empty_sound t.name.text) } in
+    theories_read (n + 1 + decl_count t.decls) (before ++ theory_tree w.0 ∷ []) ts us w.2 (All-push IsReadTheory before (theory_tree w.0) a here)

@@ -1,5 +1,5 @@
 -- Reading a formula from its parts.
-use Rattle.std.proofs.Common.{◌≡◌, ℕ, ◌⊎◌, inl, inr, List, ◌∷◌, ◌++◌, length, Option, Some, None, option_map, refl, sym, ap, ◌∙◌, arith, append_assoc}
+use Rattle.std.proofs.Common.{◌≡◌, ℕ, ◌⊎◌, inl, inr, List, length, Option, Some, None, option_map, refl, sym, ap, ◌∙◌, arith}
 use Rattle.std.specs.Option.{option_or}
 use Rattle.trees.specs.declared.TermId.{TermId}
 use Rattle.trees.specs.declared.Node.TheVariants.{Join}
@@ -7,14 +7,12 @@ use Rattle.trees.specs.Tree.{Tree, Two, HJoin}
 use Rattle.trees.specs.Node.{tree_at, node_tree, parts_of, AreBelow, Holds, Grows}
 use Rattle.trees.specs.Sorts.{sort_of, Fits}
 use Rattle.syntax_why.specs.declared.expressions.Expr.{Expr}
-use Rattle.syntax_why.specs.Tree.{Word, tree_of}
-use Rattle.syntax_why.specs.Write.{write}
-use Rattle.syntax_why.specs.Places.{behind, past, places}
-use Rattle.syntax_why.specs.Carried.{places_of}
+use Rattle.syntax_why.specs.Lexeme.{Word}
+use Rattle.syntax_why.specs.Surface.{tree_of}
 use Rattle.propositional.specs.declared.connective.Connective.{Connective}
 use Rattle.propositional.specs.declared.fault.DeclFault.{DeclFault}
 use Rattle.propositional.specs.declared.fault.DeclFault.TheVariants.{Memory, Unknown}
-use Rattle.propositional.specs.Fragment.{Formula, joins, connective_of, joined, formula_at}
+use Rattle.propositional.specs.Fragment.{Formula, joins, connective_of, joined, formula_of}
 use Rattle.propositional.specs.Theories.{op_of, first_unknown, formula_tree}
 use Rattle.propositional.specs.Readers.{IsJoin, IsNumberOf}
 use Rattle.propositional.proofs.Formulas.{formula_sort, first_unknown-joins}
@@ -33,25 +31,8 @@ joined_parts (Some p) o None v a q e = absurd (cc)
 joined_parts (Some p) o (Some x) None a q e = absurd (cc)
 joined_parts (Some p) o (Some x) (Some y) a q e = record { left = x; right = y; left_is = refl; right_is = refl; whole = cc }
 
-module _ (e l r : Expr) (o : Connective) (h : IsJoin e o l r) (i : ℕ) (a : Formula) (is : formula_at i (tree_of e) ≡ Some a) where
-  -- where the right side begins
-  abbrev pub right_from : ℕ
-  right_from = past i (write (tree_of l))
-
-  pub parts : AreParts o (formula_at i (tree_of l)) (formula_at right_from (tree_of r)) a
-  parts = joined_parts (connective_of h.operator) o (formula_at i (tree_of l)) (formula_at right_from (tree_of r)) a h.connective (sym (ap (formula_at i) h.tree) ∙ is)
-
-  pub left_places : (left right : List ℕ) → places_of e ++ left ≡ places i (tree_of e) ++ right
-      → places_of l ++ (h.at ∷ places_of r ++ left) ≡ places i (tree_of l) ++ (behind i (write (tree_of l)) ∷ places right_from (tree_of r) ++ right)
-  left_places left right at =
-      let k : ℕ = behind i (write (tree_of l)) in
-      let whole : h.first ∷ h.main ∷ (places_of l ++ (h.at ∷ places_of r)) ++ left ≡ i ∷ k ∷ (places i (tree_of l) ++ (k ∷ places right_from (tree_of r))) ++ right =
-      ap (λ v. v ++ left) (sym h.places) ∙ at ∙ ap (λ t. places i t ++ right) h.tree in
-      let tails : (places_of l ++ (h.at ∷ places_of r)) ++ left ≡ (places i (tree_of l) ++ (k ∷ places right_from (tree_of r))) ++ right = cc in
-      sym (append_assoc (places_of l) (h.at ∷ places_of r) left) ∙ tails ∙ append_assoc (places i (tree_of l)) (k ∷ places right_from (tree_of r)) right
-
-  pub right_places : (left right : List ℕ) → h.at ∷ places_of r ++ left ≡ behind i (write (tree_of l)) ∷ places right_from (tree_of r) ++ right → places_of r ++ left ≡ places right_from (tree_of r) ++ right
-  right_places left right at = cc
+pub parts : (e l r : Expr) (o : Connective) (h : IsJoin e o l r) (a : Formula) → formula_of (tree_of e) ≡ Some a → AreParts o (formula_of (tree_of l)) (formula_of (tree_of r)) a
+parts e l r o h a is = joined_parts (connective_of h.operator.terminal) o (formula_of (tree_of l)) (formula_of (tree_of r)) a h.connective (sym (ap formula_of h.tree) ∙ is)
 
 or_left : (n : ℕ) (u v : Option ℕ) (f : DeclFault) → option_map (Unknown n) u ≡ Some f → option_map (Unknown n) (option_or u v) ≡ Some f
 or_left n None v f e = absurd (cc)

@@ -8,7 +8,7 @@ use Rattle.trees.specs.Tree.{Tree, Leaf, Two, HPred, HJoin, HEnd}
 use Rattle.trees.specs.Sorts.{sort_of}
 use Rattle.trees.specs.declared.Sort.TheVariants as sort
 use Rattle.trees.specs.declared.Op.TheVariants.{And, Imp}
-use Rattle.syntax_why.specs.Tree.{Word}
+use Rattle.syntax_why.specs.Lexeme.{Word}
 use Rattle.propositional.specs.declared.connective.Connective.{Connective}
 use Rattle.propositional.specs.declared.connective.Connective.TheVariants as c
 use Rattle.propositional.specs.Fragment.{Formula, name, joins}

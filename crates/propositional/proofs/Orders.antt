@@ -1,7 +1,7 @@
 -- Declarations in which each predicate has the next entry, and propositions use the predicates before them.
 use Rattle.std.proofs.Common.{◌≡◌, ℕ, ◌+◌, ◌<◌, ◌≤◌, suc, zero, List, [], ◌∷◌, ◌++◌, take, length, get_or, refl, sym, ap, ◌∙◌, subst, arith, append_assoc}
 use Rattle.std.proofs.lemmas.List.{length-append}
-use Rattle.tasks.specs.Task.{BodyTree, MakesType, Makes, Defines, Says, DeclarationTree, made, made_by}
+use Rattle.tasks.specs.Task.{BodyTree, MakesType, Makes, Defines, Induces, Constructs, Says, DeclarationTree, made, made_by}
 use Rattle.propositional.proofs.Formulas.{IsOver}
 
 abbrev pub BodyFits : ℕ → BodyTree → Type 0
@@ -67,6 +67,8 @@ body_numbers n (Makes k) xs m f e =
     ap (λ v. v ∷ xs) f ∙ ap (λ v. (n + 1) ∷ v) e ∙ ap (numbers n) q
 body_numbers n (MakesType k) xs m f e = absurd f
 body_numbers n (Defines ds) xs m f e = absurd f
+body_numbers n (Induces is) xs m f e = absurd f
+body_numbers n (Constructs ts) xs m f e = absurd f
 body_numbers n (Says a) xs m f e =
     let p : n + 0 ≡ n = omega arith in
     let q : m ≡ 0 + m = omega arith in

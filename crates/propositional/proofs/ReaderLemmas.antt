@@ -11,7 +11,7 @@ use Rattle.tasks.specs.declared.declaration.Body.TheVariants.{Symbol}
 use Rattle.tasks.specs.Task.{SymbolTree, int_symbol, Makes, DeclarationTree}
 use Rattle.tasks.specs.Meaning.{symbol_at, symbols_at, declaration_at, declarations_at, SymbolHeld, DeclHeld}
 use Rattle.tasks.proofs.Growth.{symbol_held_later, symbols_later, decl_held_later, declarations_later, held_later, map_agree}
-use Rattle.syntax_why.specs.Tree.{Word}
+use Rattle.syntax_why.specs.Lexeme.{Word}
 use Rattle.propositional.specs.declared.theory.Theory.{Theory}
 use Rattle.propositional.specs.declared.theory.GoalAt.{GoalAt}
 use Rattle.propositional.specs.declared.reading.Reading.{Reading}

@@ -1,11 +1,11 @@
 -- How large a formula is, which falls as its reader goes down.
 use Rattle.std.proofs.Common.{ℕ, ◌+◌}
-use Rattle.syntax_why.specs.Tree.{Tree, Trees, group, binary, none, more}
+use Rattle.syntax_why.specs.Trees.{Tree, Trees, group, binary, none, more}
 
 abbrev mutual
   pub size_of : Tree → ℕ
-  size_of (group ts) = sizes_of ts + 1
-  size_of (binary a o b) = size_of a + size_of b + 1
+  size_of (group a ts) = sizes_of ts + 1
+  size_of (binary a e o f) = size_of e + size_of f + 1
   size_of _ = 0
 
   pub sizes_of : Trees → ℕ

@@ -4,7 +4,7 @@ use Rattle.std.specs.List.{list_any, position, position_or_len}
 use Rattle.std.specs.Str.{bytes_eq}
 use Rattle.std.proofs.lemmas.List.{length-map, map-append}
 use Rattle.std.proofs.lemmas.Bool.Decides.{nat_tests}
-use Rattle.syntax_why.specs.Tree.{Word}
+use Rattle.syntax_why.specs.Lexeme.{Word}
 use Rattle.propositional.specs.Theories.{is_one_of, place_of}
 
 abbrev pub Key : Type 0

@@ -1,18 +1,19 @@
 -- The task of a goal that was found.
-use Rattle.std.proofs.Common.{◌≡◌, ℕ, ◌+◌, ◌<◌, true, if◌then◌else◌, List, [], ◌∷◌, map, take, drop, length, get_or, slice_get, All, Some, Ok, sym, ap, ◌∙◌, subst}
+use Rattle.std.proofs.Common.{◌≡◌, ℕ, ◌+◌, ◌<◌, true, if◌then◌else◌, List, [], ◌∷◌, map, take, drop, length, get_or, slice_get, All, Option, Some, None, Ok, sym, ap, ◌∙◌, subst}
 use Rattle.std.specs.Str.{bytes_eq}
 use Rattle.std.proofs.lemmas.List.{at_drop_more, take-map}
 use Rattle.std.proofs.lemmas.List.Elements.{All-nil, All-take}
 use Rattle.std.proofs.lemmas.Option.{slice_get-get_or}
 use Rattle.std.proofs.lemmas.Slice.Eq.{bytes_eq-Decides}
 use Rattle.trees.specs.declared.TermId.{TermId}
+use Rattle.trees.specs.declared.ints.Ints.{Ints}
 use Rattle.trees.specs.Tree.{Tree}
 use Rattle.trees.specs.Node.{tree_at, Holds}
 use Rattle.tasks.specs.declared.task.Task.{Task}
 use Rattle.tasks.specs.declared.signature.Signature.{Signature}
 use Rattle.tasks.specs.Task.{SymbolTree, DeclarationTree, TaskTree}
 use Rattle.tasks.specs.Meaning.{trees_at, symbols_at, declaration_at, declarations_at, task_at, SymbolHeld, DeclHeld, TaskHeld}
-use Rattle.syntax_why.specs.Tree.{Word}
+use Rattle.syntax_why.specs.Lexeme.{Word}
 use Rattle.propositional.specs.declared.theory.Theory.{Theory}
 use Rattle.propositional.specs.declared.theory.GoalAt.{GoalAt}
 use Rattle.propositional.specs.declared.task.Found.{Found}
@@ -36,7 +37,7 @@ finds s goals x i g l is e =
 
 -- what a task is made of
 pub record IsMadeOf (k : Task) (t : Theory) (f : Found) : Type 0 where
-  pub sig : k.sig.value ≡ t.sig
+  pub sig : k.sig.value ≡ record { symbols = t.sig.symbols; ints = None }
   pub rigid : k.rigid ≡ []
   pub decls : k.decls ≡ take f.before t.decls
   pub params : k.params ≡ []
@@ -56,13 +57,16 @@ module _ (s : List Tree) (k : Task) (t : Theory) (f : Found) (made : IsMadeOf k 
   made_tree : (x : Word) → task_at s k ≡ task_before (theory_at s t) (goal_of s x f.before f.prop)
   made_tree x =
       let mk : List SymbolTree → List ℕ → List DeclarationTree → List Tree → List Tree → Tree → TaskTree =
-      λ a b c d e g. record { symbols = a; rigid = b; decls = c; params = d; locals = e; goal = g } in
+      λ a b c d e g. record { symbols = a; ints = None; rigid = b; decls = c; params = d; locals = e; goal = g } in
+      let z : k.sig.value.ints ≡ None = ap (λ (v : Signature). v.ints) made.sig in
+      let with_ints : Option Ints → TaskTree =
+      λ o. record { symbols = symbols_at s k.sig.value.symbols; ints = o; rigid = k.rigid; decls = declarations_at s k.decls; params = trees_at s k.params; locals = trees_at s k.locals; goal = tree_at s k.goal } in
       let a : symbols_at s k.sig.value.symbols ≡ symbols_at s t.sig.symbols = ap (λ (v : Signature). symbols_at s v.symbols) made.sig in
       let c : declarations_at s k.decls ≡ take f.before (declarations_at s t.decls) = ap (declarations_at s) made.decls ∙ sym (take-map (declaration_at s) f.before t.decls) in
       let d : trees_at s k.params ≡ [] = ap (trees_at s) made.params in
       let e : trees_at s k.locals ≡ [] = ap (trees_at s) made.locals in
       let g : tree_at s k.goal ≡ tree_at s f.prop = ap (tree_at s) made.goal in
-      ap (λ v. mk v k.rigid (declarations_at s k.decls) (trees_at s k.params) (trees_at s k.locals) (tree_at s k.goal)) a
+      ap with_ints z ∙ ap (λ v. mk v k.rigid (declarations_at s k.decls) (trees_at s k.params) (trees_at s k.locals) (tree_at s k.goal)) a
       ∙ ap (λ v. mk (symbols_at s t.sig.symbols) v (declarations_at s k.decls) (trees_at s k.params) (trees_at s k.locals) (tree_at s k.goal)) made.rigid
       ∙ ap (λ v. mk (symbols_at s t.sig.symbols) [] v (trees_at s k.params) (trees_at s k.locals) (tree_at s k.goal)) c
       ∙ ap (λ v. mk (symbols_at s t.sig.symbols) [] (take f.before (declarations_at s t.decls)) v (trees_at s k.locals) (tree_at s k.goal)) d

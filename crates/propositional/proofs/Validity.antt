@@ -1,5 +1,5 @@
 -- The tasks of theories that were read are valid.
-use Rattle.std.proofs.Common.{◌≡◌, ◌≢◌, ℕ, ◌+◌, ◌-◌, ◌<◌, ◌≤◌, suc, inl, inr, Bool, true, false, if◌then◌else◌, ◌⊎◌, List, [], ◌∷◌, map, take, drop, length, get_or, slice_get, All, AllPairs, Contains, IfSome, IsSomeAnd, Option, Some, None, Ok, refl, sym, ap, ◌∙◌, subst, arith, add-one}
+use Rattle.std.proofs.Common.{◌≡◌, ◌≢◌, ℕ, ◌+◌, ◌-◌, ◌<◌, ◌≤◌, suc, inl, inr, Bool, true, false, if◌then◌else◌, ◌⊎◌, List, [], ◌∷◌, map, take, drop, length, get_or, slice_get, All, AllPairs, Contains, IfSome, IsSomeAnd, IsTrue, Option, Some, None, Ok, refl, sym, ap, ◌∙◌, subst, arith, add-one}
 use Rattle.std.specs.Str.{bytes_eq}
 use Rattle.std.proofs.lemmas.List.{length-map, length-append, get_or-map, take-append-drop}
 use Rattle.std.proofs.lemmas.List.Elements.{All-nil, All-cons}
@@ -9,10 +9,12 @@ use Rattle.trees.specs.Sorts.{sort_of}
 use Rattle.trees.specs.declared.Sort.TheVariants as sort
 use Rattle.trees.specs.declared.Op.TheVariants.{And, Imp}
 use Rattle.tasks.specs.declared.signature.SymbolKind.TheVariants.{Kind, Predicate}
-use Rattle.tasks.specs.Task.{SymbolTree, int_symbol, BodyTree, MakesType, Makes, Defines, Says, DeclarationTree, TaskTree, made, made_by, declared, symbol_or}
-use Rattle.tasks.specs.Typing.{TypedUnder, IsUse, Declares, entry}
-use Rattle.tasks.specs.Valid.{IsValid, IsValidBody, IsFormula, IsSignatureOf, IsTypeOver, IsRigidEntry, ParametersOf, VariablesBelow}
-use Rattle.syntax_why.specs.Tree.{Word}
+use Rattle.tasks.specs.Task.{SymbolTree, int_symbol, BodyTree, MakesType, Makes, Defines, Induces, Constructs, Says, DeclarationTree, TaskTree, made, made_by, declared, symbol_or}
+use Rattle.tasks.specs.Vocabulary.{of_task}
+use Rattle.tasks.specs.Typing.{TypedUnder, IsUse, entry}
+use Rattle.tasks.proofs.Declared.{made_usable}
+use Rattle.tasks.specs.Valid.{IsValid, IsValidBody, IsFormula, IsSignatureOf, IsTypeIn, IsTypeOver, IsRigidEntry, ParametersOf, VariablesBelow}
+use Rattle.syntax_why.specs.Lexeme.{Word}
 use Rattle.syntax_why.specs.Declarations.{Theory as Surface}
 use Rattle.propositional.specs.Theories.{predicate_symbol, GoalTree, Context, TheoryTree, theory_tree, theories_of}
 use Rattle.propositional.specs.Meaning.{theory_named, goal_named, task_before, if_goal, if_theory, task_named}
@@ -33,8 +35,8 @@ over_more m n (Two (HJoin Imp) a b) l h = (over_more m n a l h.0, over_more m n 
 over_more m n _ l h = absurd h
 
 -- a task over these predicates, of which m are declared
-module _ (path : Word) (all : List Word) (m : ℕ) (k : TaskTree) (symbols : k.symbols ≡ int_symbol ∷ map (predicate_symbol path) all) (made_here : declared k ≡ 0 ∷ numbers 0 m) (fewer : m ≤ length all) where
-  entry_at : (j : ℕ) → j < length all → entry k (j + 1) ≡ Some (predicate_symbol path (get_or all j []))
+module _ (path : Word) (all : List Word) (m : ℕ) (k : TaskTree) (symbols : k.symbols ≡ int_symbol ∷ map (predicate_symbol path) all) (made_here : made k.decls ≡ numbers 0 m) (fewer : m ≤ length all) where
+  entry_at : (j : ℕ) → j < length all → entry (of_task k) (j + 1) ≡ Some (predicate_symbol path (get_or all j []))
   entry_at j l =
       ap (λ v. slice_get v (j + 1)) symbols ∙ ap (slice_get (int_symbol ∷ map (predicate_symbol path) all)) (add-one j)
       ∙ slice_get-get_or (map (predicate_symbol path) all) j (predicate_symbol path []) (omega (arith, length-map all (predicate_symbol path)))
@@ -44,23 +46,23 @@ module _ (path : Word) (all : List Word) (m : ℕ) (k : TaskTree) (symbols : k.s
   symbol_at j l =
       ap (λ v. symbol_or v (j + 1)) symbols ∙ ap (symbol_or (int_symbol ∷ map (predicate_symbol path) all)) (add-one j) ∙ get_or-map (predicate_symbol path) all j [] int_symbol l
 
-  declares_at : (j : ℕ) → j < m → Declares k (j + 1)
-  declares_at j l = subst (λ v. Contains v (j + 1)) (sym made_here) (j + 1, omega (arith, numbers_length 0 m), all_numbers_at m (j + 1) (j + 1) (omega arith))
+  usable_at : (j : ℕ) → j < m → IsTrue ((of_task k).usable (j + 1))
+  usable_at j l = made_usable k (j + 1) (subst (λ v. Contains (0 ∷ v) (j + 1)) (sym made_here) (j + 1, omega (arith, numbers_length 0 m), all_numbers_at m (j + 1) (j + 1) (omega arith)))
 
-  atom_typed : (types : List Tree) (j : ℕ) → j < m → TypedUnder k types (Two (HPred (j + 1)) (Leaf HEnd) (Leaf HEnd))
+  atom_typed : (types : List Tree) (j : ℕ) → j < m → TypedUnder (of_task k) types (Two (HPred (j + 1)) (Leaf HEnd) (Leaf HEnd))
   atom_typed types j l =
       let e = entry_at j (omega arith) in
       let used : IsUse (predicate_symbol path (get_or all j [])) (Leaf HEnd) (Leaf HEnd) = record { as_many = refl; fit = refl } in
-      ((((refl, inl refl), (refl, inl refl)), tt), (declares_at j l, subst (λ v. IsSomeAnd v (λ s. (s.kind ≡ Predicate) × IsUse s (Leaf HEnd) (Leaf HEnd))) (sym e) (refl, used)), (tt, tt), (tt, tt))
+      ((((refl, inl refl), (refl, inl refl)), tt), (usable_at j l, subst (λ v. IsSomeAnd v (λ s. (s.kind ≡ Predicate) × IsUse s (Leaf HEnd) (Leaf HEnd))) (sym e) (refl, used)), (tt, tt), (tt, tt))
 
-  predicate_typed : (types : List Tree) (p : ℕ) (a b : Tree) → IsOver m (Two (HPred p) a b) → TypedUnder k types (Two (HPred p) a b)
+  predicate_typed : (types : List Tree) (p : ℕ) (a b : Tree) → IsOver m (Two (HPred p) a b) → TypedUnder (of_task k) types (Two (HPred p) a b)
   predicate_typed types p a b h =
       let e : (p - 1) + 1 ≡ p = omega (arith, h.0) in
-      let at : TypedUnder k types (Two (HPred p) (Leaf HEnd) (Leaf HEnd)) = subst (λ v. TypedUnder k types (Two (HPred v) (Leaf HEnd) (Leaf HEnd))) e (atom_typed types (p - 1) (omega (arith, h.0, h.1))) in
-      let first : TypedUnder k types (Two (HPred p) a (Leaf HEnd)) = subst (λ v. TypedUnder k types (Two (HPred p) v (Leaf HEnd))) (sym h.2) at in
-      subst (λ v. TypedUnder k types (Two (HPred p) a v)) (sym h.3) first
+      let at : TypedUnder (of_task k) types (Two (HPred p) (Leaf HEnd) (Leaf HEnd)) = subst (λ v. TypedUnder (of_task k) types (Two (HPred v) (Leaf HEnd) (Leaf HEnd))) e (atom_typed types (p - 1) (omega (arith, h.0, h.1))) in
+      let first : TypedUnder (of_task k) types (Two (HPred p) a (Leaf HEnd)) = subst (λ v. TypedUnder (of_task k) types (Two (HPred p) v (Leaf HEnd))) (sym h.2) at in
+      subst (λ v. TypedUnder (of_task k) types (Two (HPred p) a v)) (sym h.3) first
 
-  typed : (types : List Tree) (e : Tree) → IsOver m e → TypedUnder k types e
+  typed : (types : List Tree) (e : Tree) → IsOver m e → TypedUnder (of_task k) types e
   typed types (Two (HPred p) a b) h = predicate_typed types p a b h
   typed types (Two (HJoin And) a b) h = (((over_sort m a h.0, over_sort m b h.1), tt), tt, typed types a h.0, typed types b h.1)
   typed types (Two (HJoin Imp) a b) h = (((over_sort m a h.0, over_sort m b h.1), tt), tt, typed types a h.0, typed types b h.1)
@@ -81,24 +83,28 @@ module _ (path : Word) (all : List Word) (m : ℕ) (k : TaskTree) (symbols : k.s
   is_formula : (params : List Tree) (n : ℕ) (e : Tree) → IsOver m e → IsFormula k params n e
   is_formula params n e h = record { sort = over_sort m e h; typed = typed [] e h; parameters = parameters params e h; variables = variables n e h }
 
-  is_signature : (j : ℕ) → j < length all → IsSignatureOf k (j + 1)
+  is_signature : (j : ℕ) → j < length all → IsSignatureOf (of_task k) (j + 1)
   is_signature j l =
       let e = symbol_at j l in
       record {
         entry = subst (λ v. j + 1 < length v) (sym symbols) (omega (arith, length-map all (predicate_symbol path)));
         kind = subst (λ (v : SymbolTree). v.kind ≢ Kind) (sym e) (λ q. cc);
-        args = subst (λ (v : SymbolTree). All (IsTypeOver k v.vars) v.args) (sym e) (All-nil (IsTypeOver k 0));
-        result = subst (λ (v : SymbolTree). IfSome v.result (IsTypeOver k v.vars)) (sym e) tt;
+        types = record {
+          args = subst (λ (v : SymbolTree). All (IsTypeIn (of_task k) v.vars) v.args) (sym e) (All-nil (IsTypeIn (of_task k) 0));
+          result = subst (λ (v : SymbolTree). IfSome v.result (IsTypeIn (of_task k) v.vars)) (sym e) tt;
+        };
       }
 
-  body_valid : (n vars : ℕ) (b : BodyTree) → n + length (made_by b) ≤ m → BodyFits n b → IsValidBody k vars b
-  body_valid n vars (Makes j) l f = subst (IsSignatureOf k) (sym f) (is_signature n (omega arith))
+  body_valid : (n vars : ℕ) (b : BodyTree) → n + length (made_by b) ≤ m → BodyFits n b → IsValidBody (of_task k) vars b
+  body_valid n vars (Makes j) l f = subst (IsSignatureOf (of_task k)) (sym f) (is_signature n (omega arith))
   body_valid n vars (MakesType j) l f = absurd f
   body_valid n vars (Defines ds) l f = absurd f
+  body_valid n vars (Induces is) l f = absurd f
+  body_valid n vars (Constructs ts) l f = absurd f
   body_valid n vars (Says a) l f = is_formula [] vars a (over_more n m a (omega arith) f)
 
   abbrev ValidDecl : DeclarationTree → Type 0
-  ValidDecl d = IsValidBody k d.vars d.body
+  ValidDecl d = IsValidBody (of_task k) d.vars d.body
 
   decls_valid : (n : ℕ) (ds : List DeclarationTree) → n + made_count ds ≤ m → InOrder n ds → All ValidDecl ds
   decls_valid n [] l f = All-nil ValidDecl
@@ -106,8 +112,8 @@ module _ (path : Word) (all : List Word) (m : ℕ) (k : TaskTree) (symbols : k.s
       let c = length-append (made_by d.body) (made ds) in
       All-cons ValidDecl d ds (body_valid n d.vars d.body (omega (arith, c)) f.0.body) (decls_valid (n + length (made_by d.body)) ds (omega (arith, c)) f.1)
 
-  once_each : AllPairs (λ i j. i ≢ j) (declared k)
-  once_each = subst (AllPairs (λ i j. i ≢ j)) (sym made_here) (λ i j d l n q.
+  once_each : declared k ≡ 0 ∷ numbers 0 m → AllPairs (λ i j. i ≢ j) (declared k)
+  once_each whole = subst (AllPairs (λ i j. i ≢ j)) (sym whole) (λ i j d l n q.
       let c : length (0 ∷ numbers 0 m) ≡ suc m = ap suc (numbers_length 0 m) in
       absurd (omega (arith, all_numbers_at m i d (omega arith), all_numbers_at m j d (omega arith))))
 
@@ -120,11 +126,12 @@ context_valid c g s f =
     let k : TaskTree = task_before (theory_tree c) g in
     let m : ℕ = made_count k.decls in
     let order : InOrder 0 k.decls = front_in_order 0 g.before c.decls s.order in
-    let made_here : declared k ≡ 0 ∷ numbers 0 m = ap (λ v. 0 ∷ v) (made_numbers 0 k.decls order) in
+    let made_here : made k.decls ≡ numbers 0 m = made_numbers 0 k.decls order in
     let fewer : m ≤ length c.predicates = omega (arith, front_count g.before c.decls, s.count) in
     record {
       int = refl;
-      once = once_each c.path c.predicates m k refl made_here fewer;
+      ints = tt;
+      once = once_each c.path c.predicates m k refl made_here fewer (ap (λ v. 0 ∷ v) made_here);
       rigid = All-nil (IsRigidEntry k);
       decls = decls_valid c.path c.predicates m k refl made_here fewer 0 k.decls (omega arith) order;
       params = All-nil (IsTypeOver k 0);
@@ -170,7 +177,7 @@ pub record IsTaskIn (k : TaskTree) : Type 0 where
 pub task_in : (file : List Surface) (ts : List TheoryTree) (path goal : Word) (k : TaskTree) → theories_of file ≡ Ok ts → task_named ts path goal ≡ Ok k → IsTaskIn k
 task_in file ts path goal k e q =
     let a = if_theory_ok goal (theory_named path ts) k q in
-    let r : IsReadTheory a.0 = theory_found IsReadTheory path ts a.0 (theories_read 0 0 [] file ts e (All-nil IsReadTheory)) a.1 in
+    let r : IsReadTheory a.0 = theory_found IsReadTheory path ts a.0 (theories_read 0 [] file ts e (All-nil IsReadTheory)) a.1 in
     let b = if_goal_ok a.0 (goal_named goal a.0.goals) k a.2 in
     let goals : All (GoalFits r.context.decls) a.0.goals = subst (λ (t : TheoryTree). All (GoalFits r.context.decls) t.goals) (sym r.is) r.sound.goals in
     record {

@@ -1,5 +1,5 @@
 -- The texts of tokens: a name in lower case is made of the bytes of words, and the tokens of a text have names as their texts.
-use Rattle.std.proofs.Common.{◌≡◌, ℕ, ◌||◌, ◌&&◌, nat_eq, Bool, true, false, if◌then◌else◌, List, [], ◌∷◌, map, All, Option, Some, None, refl, sym, ap, ◌∙◌, subst}
+use Rattle.std.proofs.Common.{◌≡◌, ℕ, ◌||◌, ◌&&◌, nat_eq, not, zero, suc, get_or, Bool, true, false, if◌then◌else◌, List, [], ◌∷◌, map, All, Option, Some, None, refl, sym, ap, ◌∙◌, subst}
 use Rattle.std.specs.List.{list_all}
 use Rattle.std.proofs.lemmas.List.Elements.{All-nil, All-cons}
 use Rattle.tokens_why.specs.declared.token.TokenKind.{TokenKind}
@@ -10,12 +10,13 @@ use Rattle.tokens_why.specs.declared.longest.Lead.TheVariants.{Letter, Quote, Di
 use Rattle.tokens_why.specs.Bytes.{is_letter, is_digit, is_operator_byte, is_word_byte}
 use Rattle.tokens_why.specs.Strings.{kind_of, kind_by, lead_of, only, level, is_prefix, run_kind, mark_kind, marks_kind}
 use Rattle.tokens_why.specs.Tokens.{text_of, Reads, AreTokens, whole}
-use Rattle.syntax_why.specs.declared.marks.Mark.TheVariants as m
-use Rattle.syntax_why.specs.Tree.{Word}
-use Rattle.syntax_why.specs.Lexeme.{mark, word, lexeme, lexeme_by, reserved, rest}
-use Rattle.syntax_why.specs.Declarations.{Theory}
-use Rattle.syntax_why.specs.WriteDeclarations.{write_file}
-use Rattle.propositional.specs.Names.{IsWord, HasNames}
+use Rattle.tokens_why.specs.declared.terminal.Terminal.{Terminal}
+use Rattle.tokens_why.specs.declared.terminal.Terminal.TheVariants as t
+use Rattle.tokens_why.specs.Reserved.{reserved_terminals}
+use Rattle.tokens_why.specs.Terminals.{level_terminal, terminal_of}
+use Rattle.syntax_why.specs.Lexeme.{Word, lexeme, rest, said}
+use Rattle.syntax_why.specs.Declarations.{Theory, write_file}
+use Rattle.propositional.specs.Names.{IsNamed, IsWord, HasNames}
 
 abbrev is_lident_kind : TokenKind → Bool
 is_lident_kind tk.Lident = true
@@ -97,30 +98,49 @@ pub lident_word : (x : Word) → kind_of x ≡ Some tk.Lident → list_all is_wo
 lident_word [] e = absurd (cc)
 lident_word (a ∷ bs) e = by_lead (lead_of a) a bs refl e
 
-reserved_tests : (n : ℕ) (b0 b1 b2 b3 b4 b5 b6 b7 b8 b9 b10 b11 b12 b13 : Bool) → IsWord (if b0 then mark m.As else (if b1 then mark m.Else else (if b2 then mark m.End else (if b3 then mark m.Exists else (if b4 then mark m.False else (if b5 then mark m.Forall else (if b6 then mark m.If else (if b7 then mark m.In else (if b8 then mark m.Let else (if b9 then mark m.Match else (if b10 then mark m.Not else (if b11 then mark m.Then else (if b12 then mark m.True else (if b13 then mark m.With else (word n)))))))))))))))
-reserved_tests n true b1 b2 b3 b4 b5 b6 b7 b8 b9 b10 b11 b12 b13 = tt
-reserved_tests n false true b2 b3 b4 b5 b6 b7 b8 b9 b10 b11 b12 b13 = tt
-reserved_tests n false false true b3 b4 b5 b6 b7 b8 b9 b10 b11 b12 b13 = tt
-reserved_tests n false false false true b4 b5 b6 b7 b8 b9 b10 b11 b12 b13 = tt
-reserved_tests n false false false false true b5 b6 b7 b8 b9 b10 b11 b12 b13 = tt
-reserved_tests n false false false false false true b6 b7 b8 b9 b10 b11 b12 b13 = tt
-reserved_tests n false false false false false false true b7 b8 b9 b10 b11 b12 b13 = tt
-reserved_tests n false false false false false false false true b8 b9 b10 b11 b12 b13 = tt
-reserved_tests n false false false false false false false false true b9 b10 b11 b12 b13 = tt
-reserved_tests n false false false false false false false false false true b10 b11 b12 b13 = tt
-reserved_tests n false false false false false false false false false false true b11 b12 b13 = tt
-reserved_tests n false false false false false false false false false false false true b12 b13 = tt
-reserved_tests n false false false false false false false false false false false false true b13 = tt
-reserved_tests n false false false false false false false false false false false false false true = tt
-reserved_tests n false false false false false false false false false false false false false false = tt
+-- the terminals of no name
+is_named : Terminal → Bool
+is_named t.Lident = true
+is_named t.Uident = true
+is_named _ = false
 
-reserved_word : (n : ℕ) → IsWord (reserved n)
-reserved_word n = reserved_tests n (nat_eq n 4) (nat_eq n 14) (nat_eq n 15) (nat_eq n 19) (nat_eq n 21) (nat_eq n 23) (nat_eq n 28) (nat_eq n 30) (nat_eq n 34) (nat_eq n 35) (nat_eq n 39) (nat_eq n 51) (nat_eq n 54) (nat_eq n 61)
+unnamed : (x : Terminal) (w : Word) → is_named x ≡ false → IsNamed x (said x w)
+unfolding is_named
+unnamed t.Lident w e = absurd (cc)
+unnamed t.Uident w e = absurd (cc)
+unnamed _ w e = tt
 
-kind_word : (k : TokenKind) (w : Word) → kind_of w ≡ Some k → IsWord (lexeme_by k w)
+level_unnamed : (a b c : Bool) → is_named (if a then t.Operator1 else (if b then t.Operator2 else (if c then t.Operator3 else t.Operator4))) ≡ false
+unfolding is_named
+level_unnamed true b c = refl
+level_unnamed false true c = refl
+level_unnamed false false true = refl
+level_unnamed false false false = refl
+
+all_unnamed : list_all (λ x. not (is_named x)) reserved_terminals ≡ true
+unfolding is_named
+all_unnamed = refl
+
+word_unnamed : (xs : List Terminal) (n : ℕ) → list_all (λ x. not (is_named x)) xs ≡ true → is_named (get_or xs n t.OtherWord) ≡ false
+unfolding is_named
+word_unnamed [] n h = refl
+word_unnamed (x ∷ xs) zero h = first (is_named x) (list_all (λ y. not (is_named y)) xs) h
+  where
+    first : (b c : Bool) → (not b && c) ≡ true → b ≡ false
+    first true c e = absurd (cc)
+    first false c e = refl
+word_unnamed (x ∷ xs) (suc n) h = word_unnamed xs n (second (is_named x) (list_all (λ y. not (is_named y)) xs) h)
+  where
+    second : (b c : Bool) → (not b && c) ≡ true → c ≡ true
+    second true c e = absurd (cc)
+    second false c e = e
+
+kind_word : (k : TokenKind) (w : Word) → kind_of w ≡ Some k → IsNamed (terminal_of k) (said (terminal_of k) w)
 kind_word tk.Lident w e = e
 kind_word tk.Uident w e = e
-kind_word (tk.Reserved n) w e = reserved_word n
+kind_word (tk.Operator l true) w e = tt
+kind_word (tk.Operator l false) w e = unnamed (level_terminal l) w (level_unnamed (nat_eq l 1) (nat_eq l 2) (nat_eq l 3))
+kind_word (tk.Reserved n) w e = unnamed (get_or reserved_terminals n t.OtherWord) w (word_unnamed reserved_terminals n all_unnamed)
 kind_word _ w e = tt
 
 reads_words : (text : List ℕ) (at : ℕ) (ts : List Token) → Reads text whole at ts → All IsWord (map (lexeme text) ts)

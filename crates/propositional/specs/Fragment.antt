@@ -1,11 +1,13 @@
 -- The propositional fragment of the source language: which declarations are of it, and what they say (Why3 manual, syntax
--- of formulas and declarations). Each thing stands with the number of its token.
-use Rattle.std.specs.Prelude.{ℕ, ◌+◌, List, [], Option, Some, None}
+-- of formulas and declarations). Each thing has the number of its token, which its node carries.
+use Rattle.std.specs.Prelude.{ℕ, List, [], Option, Some, None}
+use Rattle.tokens_why.specs.declared.terminal.Terminal.{Terminal}
+use Rattle.tokens_why.specs.declared.terminal.Terminal.TheVariants as t
 use Rattle.syntax_why.specs.declared.declarations.PropKind.{PropKind}
-use Rattle.syntax_why.specs.Tree.{Word, Op, arrow, conj, Called, lower_name, upper_name, Tree, Trees, apply, group, binary, none, more}
-use Rattle.syntax_why.specs.Write.{write_called, write}
-use Rattle.syntax_why.specs.Places.{past}
-use Rattle.syntax_why.specs.Declarations.{Param, Member, Decl, predicate_decl, prop_decl}
+use Rattle.syntax_why.specs.Lexeme.{Word}
+use Rattle.syntax_why.specs.Forms.{Own, lower, upper, Called}
+use Rattle.syntax_why.specs.Trees.{Tree, Trees, apply, group, binary, none, more}
+use Rattle.syntax_why.specs.Declarations.{Param, Member, Decl, type_decl, algebraic_decl, function_decl, predicate_decl, constant_decl, inductive_decl, prop_decl, use_decl, clone_decl, scope_decl}
 use Rattle.propositional.specs.declared.connective.Connective.{Connective}
 use Rattle.propositional.specs.declared.connective.Connective.TheVariants.{And, Implies}
 
@@ -20,55 +22,74 @@ pub data Item : Type 0 where
   declares : ℕ → Word → Item
   claims : PropKind → ℕ → Word → Formula → Item
 
-abbrev pub connective_of : Op → Option Connective
-connective_of conj = Some And
-connective_of arrow = Some Implies
+abbrev pub connective_of : Terminal → Option Connective
+connective_of t.Conj = Some And
+connective_of t.Arrow = Some Implies
 connective_of _ = None
+
+abbrev pub lower_own : List Word → Own → Option Word
+lower_own [] (lower x) = Some x
+lower_own _ _ = None
+
+abbrev pub id_own : List Word → Own → Option Word
+id_own [] (lower x) = Some x
+id_own [] (upper x) = Some x
+id_own _ _ = None
 
 -- a name in lower case without scopes
 abbrev pub lower_of : Called → Option Word
-lower_of (lower_name [] x) = Some x
-lower_of _ = None
+lower_of c = lower_own c.scopes c.own
 
 -- a name in either case without scopes
 abbrev pub id_of : Called → Option Word
-id_of (lower_name [] x) = Some x
-id_of (upper_name [] x) = Some x
-id_of _ = None
+id_of c = id_own c.scopes c.own
 
 -- a name without arguments
-abbrev pub name_at : ℕ → Option Word → Trees → Option Formula
-name_at i (Some x) none = Some (name i x)
-name_at i _ _ = None
+abbrev pub name_if : ℕ → Option Word → Trees → Option Formula
+name_if i (Some x) none = Some (name i x)
+name_if i _ _ = None
 
 abbrev pub joined : Option Connective → Option Formula → Option Formula → Option Formula
 joined (Some o) (Some a) (Some b) = Some (joins o a b)
 joined _ _ _ = None
 
 abbrev mutual
-  -- the formula of a tree that begins at token i, if it is one of the fragment
-  pub formula_at : ℕ → Tree → Option Formula
-  formula_at i (apply c ts) = name_at i (lower_of c) ts
-  formula_at i (group ts) = only_at (i + 1) ts
-  formula_at i (binary a o b) = joined (connective_of o) (formula_at i a) (formula_at (past i (write a)) b)
-  formula_at i _ = None
+  -- the formula of a tree, if it is one of the fragment
+  pub formula_of : Tree → Option Formula
+  formula_of (apply a c ts) = name_if c.at (lower_of c) ts
+  formula_of (group a ts) = only_of ts
+  formula_of (binary a e o f) = joined (connective_of o.terminal) (formula_of e) (formula_of f)
+  formula_of _ = None
 
   -- of a list with one tree
-  pub only_at : ℕ → Trees → Option Formula
-  only_at i (more a none) = formula_at i a
-  only_at i _ = None
+  pub only_of : Trees → Option Formula
+  only_of (more e none) = formula_of e
+  only_of _ = None
 
 -- a predicate without parameters, definition and members
-abbrev pub declares_at : ℕ → Option Word → List Param → Option Tree → List Member → Option Item
-declares_at i (Some x) [] None [] = Some (declares i x)
-declares_at i _ _ _ _ = None
+abbrev pub declares_if : ℕ → Option Word → List Param → Option Tree → List Member → Option Item
+declares_if i (Some x) [] None [] = Some (declares i x)
+declares_if i _ _ _ _ = None
 
-abbrev pub claims_at : PropKind → ℕ → Option Word → Option Formula → Option Item
-claims_at kind i (Some x) (Some a) = Some (claims kind i x a)
-claims_at kind i _ _ = None
+abbrev pub claims_if : PropKind → ℕ → Option Word → Option Formula → Option Item
+claims_if kind i (Some x) (Some a) = Some (claims kind i x a)
+claims_if kind i _ _ = None
 
--- what a declaration that begins at token i says, if it is one of the fragment
-abbrev pub item_at : ℕ → Decl → Option Item
-item_at i (predicate_decl c ps e ds) = declares_at (i + 1) (lower_of c) ps e ds
-item_at i (prop_decl kind c e) = claims_at kind (i + 1) (id_of c) (formula_at (past (i + 1) (write_called c)) e)
-item_at i _ = None
+-- what a declaration says, if it is one of the fragment
+abbrev pub item_of : Decl → Option Item
+item_of (predicate_decl a c ps e ds) = declares_if c.at (lower_of c) ps e ds
+item_of (prop_decl a kind c e) = claims_if kind c.at (id_of c) (formula_of e)
+item_of _ = None
+
+-- the token with which a declaration begins
+abbrev pub begins_at : Decl → ℕ
+begins_at (type_decl a n vs f) = a.first
+begins_at (algebraic_decl a ts) = a.first
+begins_at (function_decl a c ps f e ds) = a.first
+begins_at (predicate_decl a c ps e ds) = a.first
+begins_at (constant_decl a c f e) = a.first
+begins_at (inductive_decl a ds) = a.first
+begins_at (prop_decl a kind c e) = a.first
+begins_at (use_decl a l p n) = a.first
+begins_at (clone_decl a l p n es) = a.first
+begins_at (scope_decl a n ds) = a.first

@@ -6,7 +6,7 @@ use Rattle.trees.specs.Node.{tree_at, Holds}
 use Rattle.tasks.specs.Task.{TaskTree}
 use Rattle.tasks.specs.Meaning.{symbols_at, declarations_at, task_at, SymbolHeld, DeclHeld}
 use Rattle.tasks.specs.declared.task.Task.{Task}
-use Rattle.syntax_why.specs.Tree.{Word}
+use Rattle.syntax_why.specs.Lexeme.{Word}
 use Rattle.syntax_why.specs.Declarations.{Theory as Surface}
 use Rattle.propositional.specs.declared.fault.DeclFault.{DeclFault}
 use Rattle.propositional.specs.declared.fault.DeclFault.TheVariants.{Memory as NoMemory}
@@ -51,9 +51,9 @@ abbrev pub goal_named : Word → List GoalTree → Option GoalTree
 goal_named x [] = None
 goal_named x (g ∷ gs) = if bytes_eq g.name x then Some g else goal_named x gs
 
--- the task of a goal: the declarations before it, without parameters and locals
+-- the task of a goal: the declarations before it, without parameters, locals and integers
 abbrev pub task_before : TheoryTree → GoalTree → TaskTree
-task_before t g = record { symbols = t.symbols; rigid = []; decls = take g.before t.decls; params = []; locals = []; goal = g.prop }
+task_before t g = record { symbols = t.symbols; ints = None; rigid = []; decls = take g.before t.decls; params = []; locals = []; goal = g.prop }
 
 abbrev pub if_goal : TheoryTree → Option GoalTree → Result TaskTree TaskFault
 if_goal t None = Err NoGoal

@@ -10,15 +10,13 @@ use Rattle.tasks.specs.declared.signature.SymbolKind.TheVariants.{Predicate}
 use Rattle.tasks.specs.Task.{SymbolTree, int_symbol, BodyTree, Makes, Says, DeclarationTree}
 use Rattle.syntax_why.specs.declared.declarations.PropKind.{PropKind}
 use Rattle.syntax_why.specs.declared.declarations.PropKind.TheVariants.{Axiom, Lemma, Goal}
-use Rattle.syntax_why.specs.Tree.{Word}
-use Rattle.syntax_why.specs.Places.{behind}
+use Rattle.syntax_why.specs.Lexeme.{Word}
 use Rattle.syntax_why.specs.Declarations.{Decls, no_decls, more_decls, Theory}
-use Rattle.syntax_why.specs.WriteDeclarations.{write_decl, write_theory}
 use Rattle.propositional.specs.declared.connective.Connective.{Connective}
 use Rattle.propositional.specs.declared.connective.Connective.TheVariants.{And, Implies}
 use Rattle.propositional.specs.declared.fault.DeclFault.{DeclFault}
 use Rattle.propositional.specs.declared.fault.DeclFault.TheVariants.{NotYet, Unknown, Duplicate}
-use Rattle.propositional.specs.Fragment.{Formula, name, joins, Item, declares, claims, item_at}
+use Rattle.propositional.specs.Fragment.{Formula, name, joins, Item, declares, claims, item_of, begins_at}
 
 abbrev pub is_one_of : List Word → Word → Bool
 is_one_of names x = list_any (λ y. bytes_eq y x) names
@@ -121,10 +119,10 @@ abbrev pub and_then : {A B : Type 0} → (A → Result B DeclFault) → Result A
 and_then f (Ok a) = f a
 and_then f (Err fault) = Err fault
 
--- the theory with more declarations, the first of which has number n and begins at token i
-abbrev pub decls_from : ℕ → ℕ → Context → Decls → Result Context DeclFault
-decls_from n i g no_decls = Ok g
-decls_from n i g (more_decls d ds) = and_then (λ h. decls_from (n + 1) (behind i (write_decl d)) h ds) (after n i g (item_at i d))
+-- the theory with more declarations, the first of which has number n
+abbrev pub decls_from : ℕ → Context → Decls → Result Context DeclFault
+decls_from n g no_decls = Ok g
+decls_from n g (more_decls d ds) = and_then (λ h. decls_from (n + 1) h ds) (after n (begins_at d) g (item_of d))
 
 abbrev pub decl_count : Decls → ℕ
 decl_count no_decls = 0
@@ -144,13 +142,13 @@ theory_tree g = record { path = g.path; symbols = int_symbol ∷ map (predicate_
 abbrev pub taken : List TheoryTree → List Word
 taken ts = codes "BuiltIn" ∷ map (λ (t : TheoryTree). t.path) ts
 
--- These theories and more, whose first header has number n and begins at token i. A header's name is its second token.
-abbrev pub theories_from : ℕ → ℕ → List TheoryTree → List Theory → Result (List TheoryTree) DeclFault
-theories_from n i before [] = Ok before
-theories_from n i before (t ∷ ts) =
-    if is_one_of (taken before) t.name then Err (Duplicate n (i + 1))
-    else and_then (λ g. theories_from (n + 1 + decl_count t.decls) (behind i (write_theory t)) (before ++ theory_tree g ∷ []) ts) (decls_from (n + 1) (i + 2) (empty_context t.name) t.decls)
+-- These theories and more, whose first header has number n.
+abbrev pub theories_from : ℕ → List TheoryTree → List Theory → Result (List TheoryTree) DeclFault
+theories_from n before [] = Ok before
+theories_from n before (t ∷ ts) =
+    if is_one_of (taken before) t.name.text then Err (Duplicate n t.name.at)
+    else and_then (λ g. theories_from (n + 1 + decl_count t.decls) (before ++ theory_tree g ∷ []) ts) (decls_from (n + 1) (empty_context t.name.text) t.decls)
 
 -- the theories of a file, or its first fault
 abbrev pub theories_of : List Theory → Result (List TheoryTree) DeclFault
-theories_of ts = theories_from 0 0 [] ts
+theories_of ts = theories_from 0 [] ts

@@ -1,11 +1,9 @@
 // The theories of a file.
 // The program takes its source's theories by it.
-ghost use Rattle.std.specs.Prelude.{◌≡◌, ◌≤◌, [], ◌∷◌, ◌++◌, ℕ, List, map, min, IfOk, codes};
-ghost use Rattle.std.specs.List.{concat};
+ghost use Rattle.std.specs.Prelude.{◌≡◌, ◌≤◌, ◌+◌, [], ◌∷◌, ℕ, map, min, IfOk, codes};
 ghost use Rattle.trees.specs.Node.{Grows};
-ghost use Rattle.syntax_why.specs.Declarations.{theory_of, file_of};
-ghost use Rattle.syntax_why.specs.CarriedDeclarations.{theory_places_of, file_places_of};
-ghost use Rattle.syntax_why.specs.DeclarationPlaces.{theory_places, file_places};
+ghost use Rattle.syntax_why.specs.DeclarationRules.{PlacedDecls, PlacedFile};
+ghost use Rattle.syntax_why.specs.SurfaceDeclarations.{theory_of, file_of};
 ghost use Rattle.propositional.specs.Meaning.{TheoriesHeld, AreTheoriesOf};
 ghost use Rattle.propositional.specs.Readers.{greatest, ReadsTheory};
 
@@ -41,7 +39,8 @@ fn read_theory(
     number: usize,
     theory: &TheoryTree,
 ) -> Result<Read, DeclFault>
-    ensures reads { (n i : ℕ) (left right : List ℕ) → number ≡ min n greatest → n ≤ i → theory_places_of theory.now ++ left ≡ theory_places i (theory_of theory.now) ++ right → ReadsTheory store.new n i (theory_of theory.now) left right result }
+    ensures reads { (n i : ℕ) → number ≡ min n greatest → n ≤ i → PlacedDecls (i + 1 + 1)
+        (theory_of theory.now).decls → ReadsTheory store.new n (theory_of theory.now) result }
     ensures grows { Grows store.old store.new }
 {
     let mut reading = Reading::new(alloc, theory.name.text.as_slice())?;
@@ -57,7 +56,7 @@ fn read_theories(
     store: &mut Store,
     theories: &[TheoryTree],
 ) -> Result<Seq<Theory>, DeclFault>
-    requires { concat (map theory_places_of theories.now) ≡ file_places 0 (map theory_of theories.now) }
+    requires { PlacedFile 0 (map theory_of theories.now) }
     ensures theories { AreTheoriesOf store.new (map theory_of theories.now) result }
     ensures held { IfOk result (TheoriesHeld store.new) }
     ensures grows { Grows store.old store.new }
@@ -86,9 +85,9 @@ fn read_theories(
 ///
 /// The first fault in reading order refuses: `Duplicate` at the name of a header that another theory or the built-in one
 /// has; in each declaration `NotYet` at its first token where it isn't of the fragment, then `Duplicate` at its name, then
-/// `Unknown` at the first name that no predicate before it in this theory has. Memory may be wanting.
+/// `Unknown` at the first name that no predicate before it in this theory has. Memory may run out.
 pub fn theories(alloc: Global, store: &mut Store, file: &File) -> Result<Seq<Theory>, DeclFault>
-    requires { file_places_of file.now ≡ file_places 0 (file_of file.now) }
+    requires { PlacedFile 0 (file_of file.now) }
     ensures theories { AreTheoriesOf store.new (file_of file.now) result }
     ensures held { IfOk result (TheoriesHeld store.new) }
     ensures grows { Grows store.old store.new }

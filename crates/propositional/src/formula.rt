@@ -1,11 +1,9 @@
 // Formulas of the fragment, made in a store.
 // It stands on the surface trees of the fragment; the reader of items makes its propositions by it.
-ghost use Rattle.std.specs.Prelude.{◌≡◌, ◌<◌, ◌++◌, ℕ, List, Some, IfOk};
+ghost use Rattle.std.specs.Prelude.{◌≡◌, ◌<◌, Some, IfOk};
 ghost use Rattle.trees.specs.Node.{tree_at, Holds, Grows};
-ghost use Rattle.syntax_why.specs.Tree.{tree_of};
-ghost use Rattle.syntax_why.specs.Carried.{places_of};
-ghost use Rattle.syntax_why.specs.Places.{places};
-ghost use Rattle.propositional.specs.Fragment.{Formula, formula_at};
+ghost use Rattle.syntax_why.specs.Surface.{tree_of};
+ghost use Rattle.propositional.specs.Fragment.{Formula, formula_of};
 ghost use Rattle.propositional.specs.Theories.{atom};
 ghost use Rattle.propositional.specs.Readers.{IsFormula, IsNumberOf, ReadsNames};
 
@@ -38,8 +36,10 @@ pub fn formula(
     e: &Expr,
 ) -> Result<TermId, DeclFault>
     requires { IsFormula e.now }
-    ensures tree { (i : ℕ) (a : Formula) → formula_at i (tree_of e.now) ≡ Some a → IfOk result (IsNumberOf store.new names.now a) }
-    ensures names { (i : ℕ) (a : Formula) (left right : List ℕ) → formula_at i (tree_of e.now) ≡ Some a → places_of e.now ++ left ≡ places i (tree_of e.now) ++ right → ReadsNames names.now number a left right result }
+    ensures tree { (a : Formula) → formula_of (tree_of e.now) ≡ Some a → IfOk result
+        (IsNumberOf store.new names.now a) }
+    ensures names { (a : Formula) → formula_of (tree_of e.now) ≡ Some a
+        → ReadsNames names.now number a result }
     ensures grows { Grows store.old store.new }
 {
     match formula_node(e) {

@@ -1,19 +1,16 @@
 // A theory as far as it was read, and how it grows by a declaration.
 // The reader of a file makes each theory by it.
-ghost use Rattle.std.specs.Prelude.{◌≡◌, ◌≤◌, ◌++◌, ℕ, false, List, [], None, Some, min, IfOk, OnOk};
+ghost use Rattle.std.specs.Prelude.{◌≡◌, ◌≤◌, ℕ, false, List, [], None, Some, min, IfOk, OnOk};
 ghost use Rattle.trees.specs.Tree.{Tree};
 ghost use Rattle.trees.specs.Node.{tree_at, Holds, Grows};
 ghost use Rattle.tasks.specs.Task.{int_symbol};
 ghost use Rattle.tasks.specs.Meaning.{symbol_at, SymbolHeld};
-ghost use Rattle.syntax_why.specs.Tree.{tree_of};
-ghost use Rattle.syntax_why.specs.Declarations.{decl_of};
-ghost use Rattle.syntax_why.specs.Carried.{places_of};
-ghost use Rattle.syntax_why.specs.CarriedDeclarations.{decl_places_of, decls_places_of};
-ghost use Rattle.syntax_why.specs.Places.{places};
-ghost use Rattle.syntax_why.specs.DeclarationPlaces.{decl_places, decls_places};
-ghost use Rattle.propositional.specs.Fragment.{Formula, declares, claims, formula_at};
+ghost use Rattle.syntax_why.specs.DeclarationRules.{PlacedDecl, PlacedDecls};
+ghost use Rattle.syntax_why.specs.Surface.{tree_of};
+ghost use Rattle.syntax_why.specs.SurfaceDeclarations.{decl_of};
+ghost use Rattle.propositional.specs.Fragment.{Formula, declares, claims, formula_of};
 ghost use Rattle.propositional.specs.Theories.{is_one_of, Context, empty_context, with_predicate, with_fact, with_goal, with_name, with_claim};
-ghost use Rattle.propositional.specs.Readers.{greatest, IsFormula, IsContext, TakesItem, TakesClaim, TakesDecl, plain_decls, TakesDecls};
+ghost use Rattle.propositional.specs.Readers.{greatest, IsFormula, IsContext, TakesItem, TakesDecl, plain_decls, TakesDecls};
 
 use crate::fault::DeclFault;
 use crate::formula::formula;
@@ -68,7 +65,10 @@ impl Reading {
         Ok(Reading {
             theory: Theory {
                 path: Text::from_slice(alloc, path)?,
-                sig: Signature { symbols },
+                sig: Signature {
+                    symbols,
+                    ints: None,
+                },
                 decls: Seq::new(alloc),
                 goals: Seq::new(alloc),
             },
@@ -79,7 +79,8 @@ impl Reading {
 
     // A declaration of this theory.
     fn declaration(&self, alloc: Global, name: &[u8], body: Body) -> Result<Decl, AllocError>
-        ensures { IfOk result (λ d. d ≡ record { theory = self.now.theory.path; name = name.now; vars = 0; body = body }) }
+        ensures { IfOk result (λ d. d ≡ record
+            { theory = self.now.theory.path; name = name.now; vars = 0; body = body }) }
     {
         Ok(Decl {
             theory: Text::from_slice(alloc, self.theory.path.as_slice())?,
@@ -91,7 +92,14 @@ impl Reading {
 
     // The entry of a predicate without arguments.
     fn predicate(&self, alloc: Global, name: &[u8]) -> Result<SymbolInfo, AllocError>
-        ensures { IfOk result (λ i. i ≡ record { theory = self.now.theory.path; name = name.now; kind = SymbolKind.Predicate; vars = 0; args = []; result = None }) }
+        ensures { IfOk result (λ i. i ≡ record {
+          theory = self.now.theory.path;
+          name = name.now;
+          kind = SymbolKind.Predicate;
+          vars = 0;
+          args = [];
+          result = None;
+        }) }
     {
         Ok(SymbolInfo {
             theory: Text::from_slice(alloc, self.theory.path.as_slice())?,
@@ -106,7 +114,8 @@ impl Reading {
     // Adds a predicate and its declaration.
     fn declare(&mut self, alloc: Global, name: &[u8]) -> Result<(), AllocError>
         requires { is_one_of self.old.predicates name.now ≡ false }
-        ensures { OnOk result ((s : List Tree) (g : Context) → IsContext s self.old g → IsContext s self.new (with_predicate name.now g)) }
+        ensures { OnOk result ((s : List Tree) (g : Context) → IsContext s self.old g
+            → IsContext s self.new (with_predicate name.now g)) }
     {
         let entry = self.theory.sig.symbols.len();
         let symbol = self.predicate(alloc, name)?;
@@ -119,7 +128,8 @@ impl Reading {
 
     // Adds a proposition for what stands behind.
     fn add_fact(&mut self, alloc: Global, name: &[u8], prop: TermId) -> Result<(), AllocError>
-        ensures fact { OnOk result ((s : List Tree) (g : Context) → IsContext s self.old g → Holds s prop → IsContext s self.new (with_fact name.now (tree_at s prop) g)) }
+        ensures fact { OnOk result ((s : List Tree) (g : Context) → IsContext s self.old g
+            → Holds s prop → IsContext s self.new (with_fact name.now (tree_at s prop) g)) }
         ensures names { self.new.propositions ≡ self.old.propositions }
     {
         let decl = self.declaration(alloc, name, Body::Prop(prop))?;
@@ -129,7 +139,8 @@ impl Reading {
 
     // Adds what may be named as a goal.
     fn add_goal(&mut self, alloc: Global, name: &[u8], prop: TermId) -> Result<(), AllocError>
-        ensures goal { OnOk result ((s : List Tree) (g : Context) → IsContext s self.old g → Holds s prop → IsContext s self.new (with_goal name.now (tree_at s prop) g)) }
+        ensures goal { OnOk result ((s : List Tree) (g : Context) → IsContext s self.old g
+            → Holds s prop → IsContext s self.new (with_goal name.now (tree_at s prop) g)) }
         ensures names { self.new.propositions ≡ self.old.propositions }
     {
         let name = Text::from_slice(alloc, name)?;
@@ -145,7 +156,8 @@ impl Reading {
         name: &[u8],
         prop: TermId,
     ) -> Result<(), AllocError>
-        ensures claim { OnOk result ((s : List Tree) (g : Context) → IsContext s self.old g → Holds s prop → IsContext s self.new (with_claim kind name.now (tree_at s prop) g)) }
+        ensures claim { OnOk result ((s : List Tree) (g : Context) → IsContext s self.old g
+            → Holds s prop → IsContext s self.new (with_claim kind name.now (tree_at s prop) g)) }
         ensures names { self.new.propositions ≡ self.old.propositions }
     {
         match kind {
@@ -162,7 +174,8 @@ impl Reading {
     // Adds the name of a proposition.
     fn add_name(&mut self, alloc: Global, name: &[u8]) -> Result<(), AllocError>
         requires { is_one_of self.old.propositions name.now ≡ false }
-        ensures { OnOk result ((s : List Tree) (g : Context) → IsContext s self.old g → IsContext s self.new (with_name name.now g)) }
+        ensures { OnOk result ((s : List Tree) (g : Context) → IsContext s self.old g
+            → IsContext s self.new (with_name name.now g)) }
     {
         self.propositions.push(alloc, name)?;
         Ok(())
@@ -175,7 +188,8 @@ impl Reading {
         number: usize,
         name: &OpName,
     ) -> Result<(), DeclFault>
-        ensures { (s : List Tree) (g : Context) → IsContext s self.old g → TakesItem s self.new number g (declares name.now.at name.now.text) result }
+        ensures { (s : List Tree) (g : Context) → IsContext s self.old g
+            → TakesItem s self.new number g (declares name.now.at name.now.text) result }
     {
         let text = name.text.as_slice();
         if self.predicates.contains(text) {
@@ -199,7 +213,9 @@ impl Reading {
         e: &Expr,
     ) -> Result<(), DeclFault>
         requires { IsFormula e.now }
-        ensures takes { (i : ℕ) (a : Formula) (g : Context) (left right : List ℕ) → IsContext store.old self.old g → formula_at i (tree_of e.now) ≡ Some a → places_of e.now ++ left ≡ places i (tree_of e.now) ++ right → TakesClaim store.new self.new number g (claims kind name.now.at name.now.text a) left right result }
+        ensures takes { (a : Formula) (g : Context) → IsContext store.old self.old g → formula_of
+            (tree_of e.now) ≡ Some a → TakesItem store.new self.new number g
+            (claims kind name.now.at name.now.text a) result }
         ensures grows { Grows store.old store.new }
     {
         let text = name.text.as_slice();
@@ -225,7 +241,9 @@ impl Reading {
         number: usize,
         decl: &DeclTree,
     ) -> Result<(), DeclFault>
-        ensures takes { (n i : ℕ) (g : Context) (left right : List ℕ) → IsContext store.old self.old g → number ≡ min n greatest → n ≤ i → decl_places_of decl.now ++ left ≡ decl_places i (decl_of decl.now) ++ right → TakesDecl store.new self.new n i g decl.now left right result }
+        ensures takes { (n i : ℕ) (g : Context) → IsContext store.old self.old g → number
+            ≡ min n greatest → n ≤ i → PlacedDecl i (decl_of decl.now)
+            → TakesDecl store.new self.new n g decl.now result }
         ensures grows { Grows store.old store.new }
     {
         let first = token(decl.at.first);
@@ -244,7 +262,9 @@ impl Reading {
         number: usize,
         decls: &[DeclTree],
     ) -> Result<usize, DeclFault>
-        ensures takes { (n i : ℕ) (g : Context) (left right : List ℕ) → IsContext store.old self.old g → number ≡ min n greatest → n ≤ i → decls_places_of decls.now ++ left ≡ decls_places i (plain_decls decls.now) ++ right → TakesDecls store.new self.new n i g (plain_decls decls.now) left right result }
+        ensures takes { (n i : ℕ) (g : Context) → IsContext store.old self.old g → number
+            ≡ min n greatest → n ≤ i → PlacedDecls i (plain_decls decls.now)
+            → TakesDecls store.new self.new n g (plain_decls decls.now) result }
         ensures grows { Grows store.old store.new }
     {
         let mut next = number;

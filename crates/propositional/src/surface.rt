@@ -2,9 +2,9 @@
 // The readers of formulas and declarations match on what these functions answer.
 ghost use Rattle.std.specs.Prelude.{ℕ, ◌≡◌, map, option_map};
 ghost use Rattle.std.specs.Option.{is_some};
-ghost use Rattle.syntax_why.specs.Tree.{tree_of};
-ghost use Rattle.syntax_why.specs.Declarations.{declared_name, param_of, member_of};
-ghost use Rattle.propositional.specs.Fragment.{declares, lower_of, formula_at, declares_at};
+ghost use Rattle.syntax_why.specs.Surface.{tree_of};
+ghost use Rattle.syntax_why.specs.SurfaceDeclarations.{declared_name, param_of, member_of};
+ghost use Rattle.propositional.specs.Fragment.{declares, lower_of, formula_of, declares_if};
 ghost use Rattle.propositional.specs.Readers.{only_if, IsFormulaNode, IsItemNode};
 
 use crate::connective::Connective;
@@ -58,7 +58,7 @@ pub fn formula_node(e: &Expr) -> FormulaNode<'_>
 
 /// Whether an expression is a formula of the fragment.
 pub fn is_formula(e: &Expr) -> bool
-    ensures { (i : ℕ) → result ≡ is_some (formula_at i (tree_of e.now)) }
+    ensures { result ≡ is_some (formula_of (tree_of e.now)) }
 {
     match formula_node(e) {
         FormulaNode::Name(_) => true,
@@ -89,7 +89,9 @@ fn is_predicate(
     body: &Option<Expr>,
     members: &[MemberTree],
 ) -> bool
-    ensures { (i : ℕ) → declares_at i (lower_of (declared_name name.now)) (map param_of params.now) (option_map tree_of body.now) (map member_of members.now) ≡ only_if result (declares i name.now.text) }
+    ensures { (i : ℕ) → declares_if i (lower_of (declared_name name.now)) (map param_of params.now)
+        (option_map tree_of body.now) (map member_of members.now) ≡ only_if result
+        (declares i name.now.text) }
 {
     if !params.is_empty() || !members.is_empty() {
         return false;

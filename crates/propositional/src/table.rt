@@ -33,7 +33,9 @@ impl NameTable {
 
     /// The place of a name.
     pub fn place_of(&self, word: &[u8]) -> Option<usize>
-        ensures place { MatchOption result (is_one_of self.now word.now ≡ false) (λ k. (k ≡ place_of self.now word.now) × (k < length self.now) × (is_one_of self.now word.now ≡ true)) }
+        ensures place { MatchOption result (is_one_of self.now word.now ≡ false)
+            (λ k. (k ≡ place_of self.now word.now) × (k < length self.now) ×
+            (is_one_of self.now word.now ≡ true)) }
         ensures fits { IfSome result (λ k. k < usize.MAX) }
     {
         // There are no more names than the greatest number.

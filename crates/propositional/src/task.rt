@@ -13,7 +13,7 @@ use crate::theory::{GoalAt, Theory};
 use outside::Seq;
 use std::alloc::Global;
 use std::rc::Rc;
-use tasks::{Decl, Task};
+use tasks::{Decl, Signature, Task};
 use term_store::Store;
 use trees::TermId;
 
@@ -85,7 +85,8 @@ pub fn task_of(
     requires { TheoriesHeld store.now theories }
     ensures held { IfOk result (TaskHeld store.now) }
     ensures task { IsTaskOf store.now theories path.now goal.now result }
-    ensures valid { IfOk result (λ k. (file : List Surface) → theories_of file ≡ Ok (theories_at store.now theories) → IsValid (task_at store.now k)) }
+    ensures valid { IfOk result (λ k. (file : List Surface) → theories_of file ≡ Ok
+        (theories_at store.now theories) → IsValid (task_at store.now k)) }
 {
     let _ = store;
     let Some(theory) = find_theory(theories, path.as_bytes()) else {
@@ -95,7 +96,14 @@ pub fn task_of(
         return Err(TaskFault::NoGoal);
     };
     let Theory { sig, decls, .. } = theory;
-    let sig = Rc::new(alloc, sig)?;
+    let Signature { symbols, .. } = sig;
+    let sig = Rc::new(
+        alloc,
+        Signature {
+            symbols,
+            ints: None,
+        },
+    )?;
     Ok(Task {
         sig,
         rigid: Seq::new(alloc),

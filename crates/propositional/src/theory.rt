@@ -14,7 +14,7 @@ pub struct GoalAt {
 }
 
 /// A theory or module of a file.
-#[derive(Debug, Drop)]
+#[derive(Drop)]
 pub struct Theory {
     pub path: Text,
     /// The symbols of the whole theory.

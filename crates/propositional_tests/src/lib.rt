@@ -1,10 +1,10 @@
 //! Tests of the theories of a file and of the tasks of goals.
-//! It stands on propositional; nothing stands on it.
+//! It depends on propositional and on the reader of sources; nothing depends on it.
 #![tactic(auto)]
 
-#[cfg(test)]
-mod building;
 #[cfg(test)]
 mod faults;
 #[cfg(test)]
 mod goals;
+#[cfg(test)]
+mod sources;

@@ -1,5 +1,5 @@
 -- A table's names are read back as the symbols that they stand for.
-use Rattle.std.proofs.Common.{◌≡◌, ◌≢◌, ℕ, ◌<◌, Bool, true, false, cond, suc, List, [], ◌∷◌, length, get_or, map, All, Option, Some, None, refl, sym, ap, subst, ◌∙◌, arith}
+use Rattle.std.proofs.Common.{slice_get, ◌≡◌, ◌≢◌, ℕ, ◌<◌, Bool, true, false, cond, suc, List, [], ◌∷◌, length, get_or, map, All, Option, Some, None, refl, sym, ap, subst, ◌∙◌, arith}
 use Rattle.std.specs.Prelude.{AllPairs, IsSomeAnd, ◌||◌}
 use Rattle.std.specs.Option.{option_and_then}
 use Rattle.std.specs.Str.{bytes_eq}
@@ -9,7 +9,7 @@ use Rattle.trees.specs.Tree.{Tree, Leaf, Two, HEnd, HPred}
 use Rattle.tasks.specs.declared.signature.SymbolKind.{SymbolKind}
 use Rattle.tasks.specs.declared.signature.SymbolKind.TheVariants.{Predicate}
 use Rattle.tasks.specs.Task.{TaskTree, SymbolTree}
-use Rattle.tasks.specs.Typing.{IsTyped, IsUse, entry}
+use Rattle.tasks.specs.Typing.{IsTyped, IsUse}
 use Rattle.problems.specs.declared.names.NameOf.{NameOf}
 use Rattle.problems.specs.declared.names.NameOf.TheVariants.{Int, Rigid, Symbol}
 use Rattle.problems.specs.declared.names.NameEntry.{NameEntry}
@@ -93,4 +93,4 @@ entry_formula k (Some e) h = plain_entry k e.kind e.vars e.args h.0 h.1.as_many 
 pub atom_back : (t : TaskTree) (names : List NameEntry) (k : ℕ) → AreNames names → is_named names k ≡ true → IsTyped t (Two (HPred k) (Leaf HEnd) (Leaf HEnd))
     → symbol_formula t names (name_of names k) ≡ Some (Two (HPred k) (Leaf HEnd) (Leaf HEnd))
 atom_back t names k a h typed =
-    ap (option_and_then (λ j. option_and_then (λ e. plain_formula j e.kind e.vars e.args) (entry t j))) (symbol_back names k a.differ h) ∙ entry_formula k (entry t k) typed.1.1
+    ap (option_and_then (λ j. option_and_then (λ e. plain_formula j e.kind e.vars e.args) (slice_get t.symbols j))) (symbol_back names k a.differ h) ∙ entry_formula k (slice_get t.symbols k) typed.1.1

@@ -90,9 +90,9 @@ clean_rest [] a = All-nil IsPlain
 clean_rest (c ∷ cs) a = All-cons IsPlain (clean_byte c) (map clean_byte cs) (cleaned c (a 0 c (omega arith))) (clean_rest cs (λ k d h. a (suc k) d (omega arith)))
 
 first_word : (c : ℕ) → IsPlain c → IsWord (clean_first c)
-first_word c h = elim (c == 95) as (λ b. IsWord (cond b (codes "u_") (lower c ∷ []))) [
+first_word c h = elim (c == 95) as (λ b. IsWord (cond b (codes "u_") (lower (clean_byte c) ∷ []))) [
   | true ↦ word_past_space (codes "u_") refl
-  | false ↦ All-cons IsPlain (lower c) [] (lowered c h) (All-nil IsPlain)
+  | false ↦ All-cons IsPlain (lower (clean_byte c)) [] (lowered (clean_byte c) (cleaned c h)) (All-nil IsPlain)
 ]
 
 clean_word : (x : List ℕ) → IsWord x → IsWord (clean x)

@@ -12,7 +12,6 @@ use Rattle.trees.specs.Tree.{Tree, Leaf, One, Two, Three, Head, HEnd, HNot, HJoi
 use Rattle.tasks.specs.declared.signature.SymbolKind.{SymbolKind}
 use Rattle.tasks.specs.declared.signature.SymbolKind.TheVariants.{Predicate}
 use Rattle.tasks.specs.Task.{TaskTree, SymbolTree}
-use Rattle.tasks.specs.Typing.{entry}
 use Rattle.kernel.specs.Trees.{RuleTree, RClash, RNotNot, RAnd, RNotAnd, RImp, RNotImp, RCut, RKeep, RFact, StepTree}
 use Rattle.problems.specs.declared.names.NameOf.{NameOf}
 use Rattle.problems.specs.declared.names.NameOf.TheVariants.{Int, Rigid, Symbol}
@@ -82,8 +81,8 @@ module _ (names : List NameEntry) where
 
   symbol_writable : (t : TaskTree) (name : List ℕ) (e : Tree) → symbol_formula t names name ≡ Some e → Can e
   symbol_writable t name e h =
-      let a = then_some (λ k. option_and_then (λ x. plain_formula k x.kind x.vars x.args) (entry t k)) (symbol_named names name) e h in
-      let b = then_some (λ (x : SymbolTree). plain_formula a.0 x.kind x.vars x.args) (entry t a.0) e a.2 in
+      let a = then_some (λ k. option_and_then (λ x. plain_formula k x.kind x.vars x.args) (slice_get t.symbols k)) (symbol_named names name) e h in
+      let b = then_some (λ (x : SymbolTree). plain_formula a.0 x.kind x.vars x.args) (slice_get t.symbols a.0) e a.2 in
       subst Can (sym (plain_atom a.0 b.0.kind b.0.vars b.0.args e b.2)) (named_by names name a.0 a.1)
 
   abbrev ThingWritable : Thing → Type 0

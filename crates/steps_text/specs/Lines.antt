@@ -8,7 +8,6 @@ use Rattle.trees.specs.Tree.{Tree, Leaf, One, Two, HEnd, HNot, HJoin, HPred, hei
 use Rattle.tasks.specs.declared.signature.SymbolKind.{SymbolKind}
 use Rattle.tasks.specs.declared.signature.SymbolKind.TheVariants.{Predicate}
 use Rattle.tasks.specs.Task.{TaskTree}
-use Rattle.tasks.specs.Typing.{entry}
 use Rattle.kernel.specs.Trees.{RuleTree, RClash, RNotNot, RAnd, RNotAnd, RImp, RNotImp, RCut, RKeep, RFact, StepTree}
 use Rattle.kernel.specs.Rows.{IsRight, last_starts}
 use Rattle.problems.specs.declared.names.NameOf.{NameOf}
@@ -44,7 +43,7 @@ plain_formula k Predicate zero [] = Some (Two (HPred k) (Leaf HEnd) (Leaf HEnd))
 plain_formula k _ _ _ = None
 
 abbrev pub symbol_formula : TaskTree → List NameEntry → List ℕ → Option Tree
-symbol_formula t names name = option_and_then (λ k. option_and_then (λ e. plain_formula k e.kind e.vars e.args) (entry t k)) (symbol_named names name)
+symbol_formula t names name = option_and_then (λ k. option_and_then (λ e. plain_formula k e.kind e.vars e.args) (slice_get t.symbols k)) (symbol_named names name)
 
 -- the formulas at places, behind earlier ones
 abbrev pub picked_from : List Tree → List Tree → List ℕ → Option (List Tree)

@@ -7,6 +7,8 @@ mod mutations;
 #[cfg(test)]
 mod plain_check;
 #[cfg(test)]
+mod reading;
+#[cfg(test)]
 mod round_trips;
 #[cfg(test)]
 mod tables;

@@ -1,5 +1,5 @@
 // A second check of step files for the tests, written from the rules of the calculus alone: it shares nothing with the
-// reader and the kernel. It knows the two problems of round_trips.rt.
+// reader and the kernel. It knows the two first goals of reading.rt.
 use std::alloc::{AllocError, AllocFailed, Global};
 
 // A formula, by the numbers of its parts. Equal formulas have equal numbers.
@@ -48,7 +48,11 @@ fn is(word: &[u8], text: &str) -> bool {
 }
 
 // The parts of a text between single bytes.
-fn split<'a>(alloc: Global, text: &'a [u8], at: u8) -> Result<Vec<&'a [u8]>, AllocError> {
+pub(crate) fn split<'a>(
+    alloc: Global,
+    text: &'a [u8],
+    at: u8,
+) -> Result<Vec<&'a [u8]>, AllocError> {
     text.split(|c| *c == at).collect(alloc)
 }
 
@@ -335,7 +339,7 @@ impl Checked {
 }
 
 /// The first wrong line of a text, counted from 1: the line after the last where the steps derive another sequent, 0
-/// where there is none. The second problem's goal is q -> p, the first's p; the axiom is p.
+/// where there is none. The goal is q -> p for the second problem, and p for the first; the axiom is p.
 pub(crate) fn first_wrong(alloc: Global, second: bool, text: &[u8]) -> Result<u64, AllocError> {
     let mut checked = Checked::new(alloc)?;
     let mut count = 1u64;

@@ -1,37 +1,37 @@
 -- Closed examples of what declarations write, by computation.
 use Rattle.std.specs.Prelude.{◌≡◌, [], ◌∷◌, Some, None, true, false}
 use Rattle.std.proofs.Common.{refl}
-use Rattle.syntax_why.specs.declared.marks.Mark.TheVariants as m
+use Rattle.tokens_why.specs.declared.terminal.Terminal.TheVariants as t
 use Rattle.syntax_why.specs.declared.declarations.PropKind.TheVariants as pk
 use Rattle.syntax_why.specs.declared.declarations.Link.TheVariants as lk
-use Rattle.syntax_why.specs.Tree.{Word, lower_name, infix_name, prefix_name, star_name, Form, type_variable, composed, no_forms, Tree, apply, none, minus, equal}
-use Rattle.syntax_why.specs.Lexeme.{lident, uident, tyvar, run, mark, word}
-use Rattle.syntax_why.specs.Declarations.{algebraic_decl, function_decl, inductive_decl, clone_decl, use_decl, scope_decl, no_decls, more_decls, type_element, prop_element, all_axioms}
-use Rattle.syntax_why.specs.WriteDeclarations.{write_decl, write_theory}
+use Rattle.syntax_why.specs.Lexeme.{Word, lx, mark, at, name}
+use Rattle.syntax_why.specs.Forms.{lower, infix_op, prefix_op, star, called, Form, Forms, type_variable, composed, no_forms, more_forms}
+use Rattle.syntax_why.specs.Trees.{Tree, apply, none}
+use Rattle.syntax_why.specs.Declarations.{algebraic_decl, function_decl, inductive_decl, clone_decl, use_decl, scope_decl, no_decls, more_decls, type_element, prop_element, all_axioms, write_decl, write_theory}
 
-module _ (t u c w : Word) where
-  abbrev type_t : Form
-  type_t = composed (lower_name [] t) no_forms
+module _ (v u c w : Word) where
+  abbrev type_v : Form
+  type_v = composed (at 0) (called 0 [] (lower v)) no_forms
 
   abbrev atom : Tree
-  atom = apply (lower_name [] w) none
+  atom = apply (at 0) (called 0 [] (lower w)) none
 
-  -- type t 'w = | C 'w t with u = C
-  algebraic-row : write_decl (algebraic_decl (record { name = t; vars = w ∷ []; bar = true; constructors = record { name = c; fields = type_variable w ∷ type_t ∷ [] } ∷ [] } ∷ record { name = u; vars = []; bar = false; constructors = record { name = c; fields = [] } ∷ [] } ∷ [])) ≡ word 56 ∷ lident t ∷ tyvar w ∷ run equal ∷ mark m.Bar ∷ uident c ∷ tyvar w ∷ lident t ∷ mark m.With ∷ lident u ∷ run equal ∷ uident c ∷ []
+  -- type v 'w = | C 'w v with u = C
+  algebraic-row : write_decl (algebraic_decl (at 0) (record { name = name 0 v; vars = name 0 w ∷ []; bar = true; constructors = record { name = name 0 c; fields = more_forms (type_variable (at 0) w) (more_forms type_v no_forms) } ∷ [] } ∷ record { name = name 0 u; vars = []; bar = false; constructors = record { name = name 0 c; fields = no_forms } ∷ [] } ∷ [])) ≡ mark t.TypeWord ∷ lx t.Lident v ∷ lx t.TyVar w ∷ mark t.Equal ∷ mark t.Bar ∷ lx t.Uident c ∷ lx t.TyVar w ∷ lx t.Lident v ∷ mark t.WithWord ∷ lx t.Lident u ∷ mark t.Equal ∷ lx t.Uident c ∷ []
   algebraic-row = refl
 
-  -- function (-_) (u c: t) t : t = w with (*) : t = w
-  function-row : write_decl (function_decl (prefix_name [] minus) (record { names = u ∷ c ∷ []; of_type = type_t } ∷ record { names = []; of_type = type_t } ∷ []) type_t (Some atom) (record { name = star_name []; params = []; result = Some type_t; body = atom } ∷ [])) ≡ word 25 ∷ mark m.LParen ∷ run minus ∷ mark m.Wild ∷ mark m.RParen ∷ mark m.LParen ∷ lident u ∷ lident c ∷ mark m.Colon ∷ lident t ∷ mark m.RParen ∷ lident t ∷ mark m.Colon ∷ lident t ∷ run equal ∷ lident w ∷ mark m.With ∷ mark m.Star ∷ mark m.Colon ∷ lident t ∷ run equal ∷ lident w ∷ []
+  -- function (-_) (u c: v) v : v = w with (*) : v = w
+  function-row : write_decl (function_decl (at 0) (called 0 [] (prefix_op t.Minus [])) (record { names = name 0 u ∷ name 0 c ∷ []; of_type = type_v } ∷ record { names = []; of_type = type_v } ∷ []) type_v (Some atom) (record { name = called 0 [] star; params = []; result = Some type_v; body = atom } ∷ [])) ≡ mark t.FunctionWord ∷ mark t.LParen ∷ mark t.Minus ∷ mark t.Wild ∷ mark t.RParen ∷ mark t.LParen ∷ lx t.Lident u ∷ lx t.Lident c ∷ mark t.Colon ∷ lx t.Lident v ∷ mark t.RParen ∷ lx t.Lident v ∷ mark t.Colon ∷ lx t.Lident v ∷ mark t.Equal ∷ lx t.Lident w ∷ mark t.WithWord ∷ mark t.StarName ∷ mark t.Colon ∷ lx t.Lident v ∷ mark t.Equal ∷ lx t.Lident w ∷ []
   function-row = refl
 
-  -- inductive (-) t = u: w | c: w
-  inductive-row : write_decl (inductive_decl (record { name = infix_name [] minus; params = record { names = []; of_type = type_t } ∷ []; bar = false; clauses = record { name = lower_name [] u; prop = atom } ∷ record { name = lower_name [] c; prop = atom } ∷ [] } ∷ [])) ≡ word 31 ∷ mark m.LParen ∷ run minus ∷ mark m.RParen ∷ lident t ∷ run equal ∷ lident u ∷ mark m.Colon ∷ lident w ∷ mark m.Bar ∷ lident c ∷ mark m.Colon ∷ lident w ∷ []
+  -- inductive (-) v = u: w | c: w
+  inductive-row : write_decl (inductive_decl (at 0) (record { name = called 0 [] (infix_op t.Minus []); params = record { names = []; of_type = type_v } ∷ []; bar = false; clauses = record { name = called 0 [] (lower u); prop = atom } ∷ record { name = called 0 [] (lower c); prop = atom } ∷ [] } ∷ [])) ≡ mark t.InductiveWord ∷ mark t.LParen ∷ mark t.Minus ∷ mark t.RParen ∷ lx t.Lident v ∷ mark t.Equal ∷ lx t.Lident u ∷ mark t.Colon ∷ lx t.Lident w ∷ mark t.Bar ∷ lx t.Lident c ∷ mark t.Colon ∷ lx t.Lident w ∷ []
   inductive-row = refl
 
-  -- clone import w.C as U with type t 'w = t, goal w, axiom .
-  clone-row : write_decl (clone_decl lk.Import (w ∷ c ∷ []) (Some u) (type_element (lower_name [] t) (w ∷ []) type_t ∷ prop_element pk.Goal (lower_name [] w) ∷ all_axioms ∷ [])) ≡ word 8 ∷ word 29 ∷ lident w ∷ mark m.Dot ∷ uident c ∷ mark m.As ∷ uident u ∷ mark m.With ∷ word 56 ∷ lident t ∷ tyvar w ∷ run equal ∷ lident t ∷ mark m.Comma ∷ word 27 ∷ lident w ∷ mark m.Comma ∷ word 5 ∷ mark m.Dot ∷ []
+  -- clone import w.C as U with type v 'w = v, goal w, axiom .
+  clone-row : write_decl (clone_decl (at 0) lk.Import (record { at = 0; parts = w ∷ c ∷ [] }) (Some (name 0 u)) (type_element 0 (called 0 [] (lower v)) (name 0 w ∷ []) type_v ∷ prop_element 0 pk.Goal (called 0 [] (lower w)) ∷ all_axioms 0 ∷ [])) ≡ mark t.CloneWord ∷ mark t.ImportWord ∷ lx t.Lident w ∷ mark t.Dot ∷ lx t.Uident c ∷ mark t.AsWord ∷ lx t.Uident u ∷ mark t.WithWord ∷ mark t.TypeWord ∷ lx t.Lident v ∷ lx t.TyVar w ∷ mark t.Equal ∷ lx t.Lident v ∷ mark t.Comma ∷ mark t.GoalWord ∷ lx t.Lident w ∷ mark t.Comma ∷ mark t.AxiomWord ∷ mark t.Dot ∷ []
   clone-row = refl
 
   -- module C scope U use export C end end
-  module-row : write_theory (record { is_module = true; name = c; decls = more_decls (scope_decl u (more_decls (use_decl lk.Export (c ∷ []) None) no_decls)) no_decls }) ≡ word 37 ∷ uident c ∷ word 49 ∷ uident u ∷ word 57 ∷ word 20 ∷ uident c ∷ mark m.End ∷ mark m.End ∷ []
+  module-row : write_theory (record { at = at 0; is_module = true; name = name 0 c; decls = more_decls (scope_decl (at 0) (name 0 u) (more_decls (use_decl (at 0) lk.Export (record { at = 0; parts = c ∷ [] }) None) no_decls)) no_decls }) ≡ mark t.ModuleWord ∷ lx t.Uident c ∷ mark t.ScopeWord ∷ lx t.Uident u ∷ mark t.UseWord ∷ mark t.ExportWord ∷ lx t.Uident c ∷ mark t.EndWord ∷ mark t.EndWord ∷ []
   module-row = refl

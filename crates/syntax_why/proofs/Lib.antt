@@ -1,10 +1,5 @@
 pub mod Options
 pub mod TreeLemmas
-pub mod PlaceLemmas
-pub mod PlaceRows
-pub mod WordRows
-pub mod DeclRows
-pub mod NameLemmas
 pub mod DeclLemmas
-pub mod DeclPlaceLemmas
-pub mod DeclPlaceRows
+pub mod DeclRows
+pub mod PlaceRows

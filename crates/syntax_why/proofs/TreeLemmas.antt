@@ -1,5 +1,5 @@
 -- The plain tree at each kind of node.
-use Rattle.std.proofs.Common.{◌≡◌, ℤ, List, map, Bool, Option, Some, None, option_map, refl, sym, ap, ◌∙◌}
+use Rattle.std.proofs.Common.{◌≡◌, ℤ, List, map, Bool, Option, Some, None, option_map, sym, ap, ◌∙◌}
 use Rattle.syntax_why.specs.declared.names.At.{At}
 use Rattle.syntax_why.specs.declared.names.Name.{Name}
 use Rattle.syntax_why.specs.declared.names.OpName.{OpName}
@@ -20,189 +20,183 @@ use Rattle.syntax_why.specs.declared.expressions.ExprNode.TheVariants as ev
 use Rattle.syntax_why.specs.declared.expressions.ExprNode.TheOpen as ex
 use Rattle.syntax_why.specs.declared.expressions.ExprNode.TheFolds.{fold-roll-ExprNode, fold-roll-TriggerTree}
 use Rattle.syntax_why.specs.declared.expressions.ExprNode.TheViews.{roll-TriggerTree}
-use Rattle.syntax_why.specs.Tree.{Word, Form, Tree, Arm, Terms, wild, variable, type_variable, composed, enclosed, aliased, apply, literal, truth, falsity, group, cast, cases, prefixed, negation, binary, choice, binding, quantified, op_of, called_of, forms, trees, branches, trigger, type_step, type_whole, type_of, type_of_node, pattern_step, pattern_whole, pattern_of, pattern_of_node, binder_of, patterns, alternatives, node_step, arm_step, terms_step, whole_step, tree_of, arm_of, terms_of, tree_of_node}
+use Rattle.syntax_why.specs.Lexeme.{Word}
+use Rattle.syntax_why.specs.Forms.{Form, wild, variable, type_variable, composed, enclosed, aliased}
+use Rattle.syntax_why.specs.Trees.{Tree, apply, literal, truth, falsity, group, cast, cases, prefixed, negation, binary, choice, binding, quantified}
+use Rattle.syntax_why.specs.Surface.{Arm, Terms, op_of, called_of, trees, branches, trigger, types, patterns, alternatives, binder_of, value_of, type_step, type_whole, form_of, form_of_node, pattern_step, pattern_whole, pattern_of, pattern_of_node, node_step, arm_step, terms_step, whole_step, tree_of, arm_of, terms_of, tree_of_node}
 
-pub type_of-node : (t : TypeTree) → type_of t ≡ type_of_node t.node
-unfolding type_of type_of_node
-type_of-node t = fold_out-TypeTree Form Form type_step type_whole t
+pub form_of-node : (e : TypeTree) → form_of e ≡ form_of_node e.node e.at
+unfolding form_of form_of_node
+form_of-node e = fold_out-TypeTree (At → Form) Form type_step type_whole e
 
-pub pattern_of-node : (t : Pat) → pattern_of t ≡ pattern_of_node t.node
+pub pattern_of-node : (e : Pat) → pattern_of e ≡ pattern_of_node e.node e.at
 unfolding pattern_of pattern_of_node
-pattern_of-node t = fold_out-Pat Form Form pattern_step pattern_whole t
+pattern_of-node e = fold_out-Pat (At → Form) Form pattern_step pattern_whole e
 
-pub tree_of-node : (e : Expr) → tree_of e ≡ tree_of_node e.node
+pub tree_of-node : (e : Expr) → tree_of e ≡ tree_of_node e.node e.at
 unfolding tree_of tree_of_node
-tree_of-node e = fold_out-Expr Tree Arm Tree Terms node_step arm_step whole_step terms_step e
+tree_of-node e = fold_out-Expr (At → Tree) Arm Tree Terms node_step arm_step whole_step terms_step e
 
 pub arm_of-fields : (b : BranchTree) → arm_of b ≡ record { alternatives = alternatives b.alternatives; body = tree_of b.body }
 unfolding tree_of arm_of
-arm_of-fields b = fold_out-BranchTree Tree Arm Tree Terms node_step arm_step whole_step terms_step b
+arm_of-fields b = fold_out-BranchTree (At → Tree) Arm Tree Terms node_step arm_step whole_step terms_step b
 
 pub terms_of-fields : (b : TriggerTree) → terms_of b ≡ record { terms = trees (map tree_of (out-TriggerTree b).terms); bars = (out-TriggerTree b).bars }
 unfolding tree_of terms_of
-terms_of-fields b = fold_out-TriggerTree Tree Arm Tree Terms node_step arm_step whole_step terms_step b
+terms_of-fields b = fold_out-TriggerTree (At → Tree) Arm Tree Terms node_step arm_step whole_step terms_step b
 
-pub type_of-Var : (e : TypeTree) (w : Word) → e.node ≡ tv.Var w → type_of e ≡ type_variable w
-unfolding type_of type_of_node
-type_of-Var e w is = type_of-node e ∙ ap type_of_node (is ∙ sym (tv.rolls-Var w)) ∙ fold-roll-TypeNode Form Form type_step type_whole (ty.Var w)
+pub form_of_node-Var : (w : Word) (a : At) → form_of_node (tv.Var w) a ≡ type_variable a w
+unfolding form_of form_of_node
+form_of_node-Var w a = ap (λ n. form_of_node n a) (sym (tv.rolls-Var w)) ∙ ap (λ f. f a) (fold-roll-TypeNode (At → Form) Form type_step type_whole (ty.Var w))
 
-pub type_of-Named : (e : TypeTree) (q : QName) (xs : List TypeTree) → e.node ≡ tv.Named q xs → type_of e ≡ composed (called_of q) (forms (map type_of xs))
-unfolding type_of type_of_node
-type_of-Named e q xs is = type_of-node e ∙ ap type_of_node (is ∙ sym (tv.rolls-Named q xs)) ∙ fold-roll-TypeNode Form Form type_step type_whole (ty.Named q xs)
+pub form_of-Var : (e : TypeTree) (w : Word) → e.node ≡ tv.Var w → form_of e ≡ type_variable e.at w
+form_of-Var e w is = form_of-node e ∙ ap (λ n. form_of_node n e.at) is ∙ form_of_node-Var w e.at
 
-pub type_of-Group : (e : TypeTree) (xs : List TypeTree) → e.node ≡ tv.Group xs → type_of e ≡ enclosed (forms (map type_of xs))
-unfolding type_of type_of_node
-type_of-Group e xs is = type_of-node e ∙ ap type_of_node (is ∙ sym (tv.rolls-Group xs)) ∙ fold-roll-TypeNode Form Form type_step type_whole (ty.Group xs)
+pub form_of_node-Named : (q : QName) (xs : List TypeTree) (a : At) → form_of_node (tv.Named q xs) a ≡ composed a (called_of q) (types xs)
+unfolding form_of form_of_node
+form_of_node-Named q xs a = ap (λ n. form_of_node n a) (sym (tv.rolls-Named q xs)) ∙ ap (λ f. f a) (fold-roll-TypeNode (At → Form) Form type_step type_whole (ty.Named q xs))
 
--- the same as it is made
-module _ (at : At) where
-  pub type-Var : (w : Word) → type_of (record { at = at; node = tv.Var w }) ≡ type_variable w
-  type-Var w = type_of-Var (record { at = at; node = tv.Var w }) w refl
+pub form_of-Named : (e : TypeTree) (q : QName) (xs : List TypeTree) → e.node ≡ tv.Named q xs → form_of e ≡ composed e.at (called_of q) (types xs)
+form_of-Named e q xs is = form_of-node e ∙ ap (λ n. form_of_node n e.at) is ∙ form_of_node-Named q xs e.at
 
-  pub type-Named : (q : QName) (xs : List TypeTree) → type_of (record { at = at; node = tv.Named q xs }) ≡ composed (called_of q) (forms (map type_of xs))
-  type-Named q xs = type_of-Named (record { at = at; node = tv.Named q xs }) q xs refl
+pub form_of_node-Group : (xs : List TypeTree) (a : At) → form_of_node (tv.Group xs) a ≡ enclosed a (types xs)
+unfolding form_of form_of_node
+form_of_node-Group xs a = ap (λ n. form_of_node n a) (sym (tv.rolls-Group xs)) ∙ ap (λ f. f a) (fold-roll-TypeNode (At → Form) Form type_step type_whole (ty.Group xs))
 
-  pub type-Group : (xs : List TypeTree) → type_of (record { at = at; node = tv.Group xs }) ≡ enclosed (forms (map type_of xs))
-  type-Group xs = type_of-Group (record { at = at; node = tv.Group xs }) xs refl
+pub form_of-Group : (e : TypeTree) (xs : List TypeTree) → e.node ≡ tv.Group xs → form_of e ≡ enclosed e.at (types xs)
+form_of-Group e xs is = form_of-node e ∙ ap (λ n. form_of_node n e.at) is ∙ form_of_node-Group xs e.at
 
-pub pattern_of-Wild : (e : Pat) → e.node ≡ pv.Wild → pattern_of e ≡ wild
+pub pattern_of_node-Wild : (a : At) → pattern_of_node pv.Wild a ≡ wild a
 unfolding pattern_of pattern_of_node
-pattern_of-Wild e is = pattern_of-node e ∙ ap pattern_of_node (is ∙ sym pv.rolls-Wild) ∙ fold-roll-PatNode Form Form pattern_step pattern_whole pt.Wild
+pattern_of_node-Wild a = ap (λ n. pattern_of_node n a) (sym pv.rolls-Wild) ∙ ap (λ f. f a) (fold-roll-PatNode (At → Form) Form pattern_step pattern_whole pt.Wild)
 
-pub pattern_of-Var : (e : Pat) (n : Name) → e.node ≡ pv.Var n → pattern_of e ≡ variable n.text
+pub pattern_of-Wild : (e : Pat) → e.node ≡ pv.Wild → pattern_of e ≡ wild e.at
+pattern_of-Wild e is = pattern_of-node e ∙ ap (λ n. pattern_of_node n e.at) is ∙ pattern_of_node-Wild e.at
+
+pub pattern_of_node-Var : (n : Name) (a : At) → pattern_of_node (pv.Var n) a ≡ variable a n
 unfolding pattern_of pattern_of_node
-pattern_of-Var e n is = pattern_of-node e ∙ ap pattern_of_node (is ∙ sym (pv.rolls-Var n)) ∙ fold-roll-PatNode Form Form pattern_step pattern_whole (pt.Var n)
+pattern_of_node-Var n a = ap (λ n. pattern_of_node n a) (sym (pv.rolls-Var n)) ∙ ap (λ f. f a) (fold-roll-PatNode (At → Form) Form pattern_step pattern_whole (pt.Var n))
 
-pub pattern_of-Con : (e : Pat) (q : QName) (xs : List Pat) → e.node ≡ pv.Con q xs → pattern_of e ≡ composed (called_of q) (forms (map pattern_of xs))
+pub pattern_of-Var : (e : Pat) (n : Name) → e.node ≡ pv.Var n → pattern_of e ≡ variable e.at n
+pattern_of-Var e n is = pattern_of-node e ∙ ap (λ n. pattern_of_node n e.at) is ∙ pattern_of_node-Var n e.at
+
+pub pattern_of_node-Con : (q : QName) (xs : List Pat) (a : At) → pattern_of_node (pv.Con q xs) a ≡ composed a (called_of q) (patterns xs)
 unfolding pattern_of pattern_of_node
-pattern_of-Con e q xs is = pattern_of-node e ∙ ap pattern_of_node (is ∙ sym (pv.rolls-Con q xs)) ∙ fold-roll-PatNode Form Form pattern_step pattern_whole (pt.Con q xs)
+pattern_of_node-Con q xs a = ap (λ n. pattern_of_node n a) (sym (pv.rolls-Con q xs)) ∙ ap (λ f. f a) (fold-roll-PatNode (At → Form) Form pattern_step pattern_whole (pt.Con q xs))
 
-pub pattern_of-Group : (e : Pat) (xs : List Pat) → e.node ≡ pv.Group xs → pattern_of e ≡ enclosed (forms (map pattern_of xs))
+pub pattern_of-Con : (e : Pat) (q : QName) (xs : List Pat) → e.node ≡ pv.Con q xs → pattern_of e ≡ composed e.at (called_of q) (patterns xs)
+pattern_of-Con e q xs is = pattern_of-node e ∙ ap (λ n. pattern_of_node n e.at) is ∙ pattern_of_node-Con q xs e.at
+
+pub pattern_of_node-Group : (xs : List Pat) (a : At) → pattern_of_node (pv.Group xs) a ≡ enclosed a (patterns xs)
 unfolding pattern_of pattern_of_node
-pattern_of-Group e xs is = pattern_of-node e ∙ ap pattern_of_node (is ∙ sym (pv.rolls-Group xs)) ∙ fold-roll-PatNode Form Form pattern_step pattern_whole (pt.Group xs)
+pattern_of_node-Group xs a = ap (λ n. pattern_of_node n a) (sym (pv.rolls-Group xs)) ∙ ap (λ f. f a) (fold-roll-PatNode (At → Form) Form pattern_step pattern_whole (pt.Group xs))
 
-pub pattern_of-Alias : (e : Pat) (p : Pat) (n : Name) → e.node ≡ pv.Alias p n → pattern_of e ≡ aliased (pattern_of p) n.text
+pub pattern_of-Group : (e : Pat) (xs : List Pat) → e.node ≡ pv.Group xs → pattern_of e ≡ enclosed e.at (patterns xs)
+pattern_of-Group e xs is = pattern_of-node e ∙ ap (λ n. pattern_of_node n e.at) is ∙ pattern_of_node-Group xs e.at
+
+pub pattern_of_node-Alias : (p : Pat) (n : Name) (a : At) → pattern_of_node (pv.Alias p n) a ≡ aliased a (pattern_of p) n
 unfolding pattern_of pattern_of_node
-pattern_of-Alias e p n is = pattern_of-node e ∙ ap pattern_of_node (is ∙ sym (pv.rolls-Alias p n)) ∙ fold-roll-PatNode Form Form pattern_step pattern_whole (pt.Alias p n)
+pattern_of_node-Alias p n a = ap (λ n. pattern_of_node n a) (sym (pv.rolls-Alias p n)) ∙ ap (λ f. f a) (fold-roll-PatNode (At → Form) Form pattern_step pattern_whole (pt.Alias p n))
 
--- the same as it is made
-module _ (at : At) where
-  pub pattern-Wild : pattern_of (record { at = at; node = pv.Wild }) ≡ wild
-  pattern-Wild = pattern_of-Wild (record { at = at; node = pv.Wild }) refl
+pub pattern_of-Alias : (e : Pat) (p : Pat) (n : Name) → e.node ≡ pv.Alias p n → pattern_of e ≡ aliased e.at (pattern_of p) n
+pattern_of-Alias e p n is = pattern_of-node e ∙ ap (λ n. pattern_of_node n e.at) is ∙ pattern_of_node-Alias p n e.at
 
-  pub pattern-Var : (n : Name) → pattern_of (record { at = at; node = pv.Var n }) ≡ variable n.text
-  pattern-Var n = pattern_of-Var (record { at = at; node = pv.Var n }) n refl
-
-  pub pattern-Con : (q : QName) (xs : List Pat) → pattern_of (record { at = at; node = pv.Con q xs }) ≡ composed (called_of q) (forms (map pattern_of xs))
-  pattern-Con q xs = pattern_of-Con (record { at = at; node = pv.Con q xs }) q xs refl
-
-  pub pattern-Group : (xs : List Pat) → pattern_of (record { at = at; node = pv.Group xs }) ≡ enclosed (forms (map pattern_of xs))
-  pattern-Group xs = pattern_of-Group (record { at = at; node = pv.Group xs }) xs refl
-
-  pub pattern-Alias : (p : Pat) (n : Name) → pattern_of (record { at = at; node = pv.Alias p n }) ≡ aliased (pattern_of p) n.text
-  pattern-Alias p n = pattern_of-Alias (record { at = at; node = pv.Alias p n }) p n refl
-
-pub tree_of-Apply : (e : Expr) (q : QName) (xs : List Expr) → e.node ≡ ev.Apply q xs → tree_of e ≡ apply (called_of q) (trees (map tree_of xs))
+pub tree_of_node-Apply : (q : QName) (xs : List Expr) (a : At) → tree_of_node (ev.Apply q xs) a ≡ apply a (called_of q) (trees (map tree_of xs))
 unfolding tree_of tree_of_node arm_of terms_of
-tree_of-Apply e q xs is = tree_of-node e ∙ ap tree_of_node (is ∙ sym (ev.rolls-Apply q xs)) ∙ fold-roll-ExprNode Tree Arm Tree Terms node_step arm_step whole_step terms_step (ex.Apply q xs)
+tree_of_node-Apply q xs a = ap (λ n. tree_of_node n a) (sym (ev.rolls-Apply q xs)) ∙ ap (λ f. f a) (fold-roll-ExprNode (At → Tree) Arm Tree Terms node_step arm_step whole_step terms_step (ex.Apply q xs))
 
-pub tree_of-Int : (e : Expr) (n : ℤ) → e.node ≡ ev.Int n → tree_of e ≡ literal n
+pub tree_of-Apply : (e : Expr) (q : QName) (xs : List Expr) → e.node ≡ ev.Apply q xs → tree_of e ≡ apply e.at (called_of q) (trees (map tree_of xs))
+tree_of-Apply e q xs is = tree_of-node e ∙ ap (λ n. tree_of_node n e.at) is ∙ tree_of_node-Apply q xs e.at
+
+pub tree_of_node-Int : (n : ℤ) (a : At) → tree_of_node (ev.Int n) a ≡ literal a (value_of n)
 unfolding tree_of tree_of_node arm_of terms_of
-tree_of-Int e n is = tree_of-node e ∙ ap tree_of_node (is ∙ sym (ev.rolls-Int n)) ∙ fold-roll-ExprNode Tree Arm Tree Terms node_step arm_step whole_step terms_step (ex.Int n)
+tree_of_node-Int n a = ap (λ n. tree_of_node n a) (sym (ev.rolls-Int n)) ∙ ap (λ f. f a) (fold-roll-ExprNode (At → Tree) Arm Tree Terms node_step arm_step whole_step terms_step (ex.Int n))
 
-pub tree_of-True : (e : Expr) → e.node ≡ ev.True → tree_of e ≡ truth
+pub tree_of-Int : (e : Expr) (n : ℤ) → e.node ≡ ev.Int n → tree_of e ≡ literal e.at (value_of n)
+tree_of-Int e n is = tree_of-node e ∙ ap (λ n. tree_of_node n e.at) is ∙ tree_of_node-Int n e.at
+
+pub tree_of_node-True : (a : At) → tree_of_node ev.True a ≡ truth a
 unfolding tree_of tree_of_node arm_of terms_of
-tree_of-True e is = tree_of-node e ∙ ap tree_of_node (is ∙ sym ev.rolls-True) ∙ fold-roll-ExprNode Tree Arm Tree Terms node_step arm_step whole_step terms_step ex.True
+tree_of_node-True a = ap (λ n. tree_of_node n a) (sym ev.rolls-True) ∙ ap (λ f. f a) (fold-roll-ExprNode (At → Tree) Arm Tree Terms node_step arm_step whole_step terms_step ex.True)
 
-pub tree_of-False : (e : Expr) → e.node ≡ ev.False → tree_of e ≡ falsity
+pub tree_of-True : (e : Expr) → e.node ≡ ev.True → tree_of e ≡ truth e.at
+tree_of-True e is = tree_of-node e ∙ ap (λ n. tree_of_node n e.at) is ∙ tree_of_node-True e.at
+
+pub tree_of_node-False : (a : At) → tree_of_node ev.False a ≡ falsity a
 unfolding tree_of tree_of_node arm_of terms_of
-tree_of-False e is = tree_of-node e ∙ ap tree_of_node (is ∙ sym ev.rolls-False) ∙ fold-roll-ExprNode Tree Arm Tree Terms node_step arm_step whole_step terms_step ex.False
+tree_of_node-False a = ap (λ n. tree_of_node n a) (sym ev.rolls-False) ∙ ap (λ f. f a) (fold-roll-ExprNode (At → Tree) Arm Tree Terms node_step arm_step whole_step terms_step ex.False)
 
-pub tree_of-Group : (e : Expr) (xs : List Expr) → e.node ≡ ev.Group xs → tree_of e ≡ group (trees (map tree_of xs))
+pub tree_of-False : (e : Expr) → e.node ≡ ev.False → tree_of e ≡ falsity e.at
+tree_of-False e is = tree_of-node e ∙ ap (λ n. tree_of_node n e.at) is ∙ tree_of_node-False e.at
+
+pub tree_of_node-Group : (xs : List Expr) (a : At) → tree_of_node (ev.Group xs) a ≡ group a (trees (map tree_of xs))
 unfolding tree_of tree_of_node arm_of terms_of
-tree_of-Group e xs is = tree_of-node e ∙ ap tree_of_node (is ∙ sym (ev.rolls-Group xs)) ∙ fold-roll-ExprNode Tree Arm Tree Terms node_step arm_step whole_step terms_step (ex.Group xs)
+tree_of_node-Group xs a = ap (λ n. tree_of_node n a) (sym (ev.rolls-Group xs)) ∙ ap (λ f. f a) (fold-roll-ExprNode (At → Tree) Arm Tree Terms node_step arm_step whole_step terms_step (ex.Group xs))
 
-pub tree_of-Cast : (e : Expr) (a : Expr) (t : TypeTree) → e.node ≡ ev.Cast a t → tree_of e ≡ cast (tree_of a) (type_of t)
+pub tree_of-Group : (e : Expr) (xs : List Expr) → e.node ≡ ev.Group xs → tree_of e ≡ group e.at (trees (map tree_of xs))
+tree_of-Group e xs is = tree_of-node e ∙ ap (λ n. tree_of_node n e.at) is ∙ tree_of_node-Group xs e.at
+
+pub tree_of_node-Cast : (f : Expr) (t : TypeTree) (a : At) → tree_of_node (ev.Cast f t) a ≡ cast a (tree_of f) (form_of t)
 unfolding tree_of tree_of_node arm_of terms_of
-tree_of-Cast e a t is = tree_of-node e ∙ ap tree_of_node (is ∙ sym (ev.rolls-Cast a t)) ∙ fold-roll-ExprNode Tree Arm Tree Terms node_step arm_step whole_step terms_step (ex.Cast a t)
+tree_of_node-Cast f t a = ap (λ n. tree_of_node n a) (sym (ev.rolls-Cast f t)) ∙ ap (λ f. f a) (fold-roll-ExprNode (At → Tree) Arm Tree Terms node_step arm_step whole_step terms_step (ex.Cast f t))
 
-pub tree_of-Match : (e : Expr) (es : List Expr) (bar : Bool) (bs : List BranchTree) → e.node ≡ ev.Match es bar bs → tree_of e ≡ cases (trees (map tree_of es)) bar (branches (map arm_of bs))
+pub tree_of-Cast : (e : Expr) (f : Expr) (t : TypeTree) → e.node ≡ ev.Cast f t → tree_of e ≡ cast e.at (tree_of f) (form_of t)
+tree_of-Cast e f t is = tree_of-node e ∙ ap (λ n. tree_of_node n e.at) is ∙ tree_of_node-Cast f t e.at
+
+pub tree_of_node-Match : (es : List Expr) (bar : Bool) (bs : List BranchTree) (a : At) → tree_of_node (ev.Match es bar bs) a ≡ cases a (trees (map tree_of es)) bar (branches (map arm_of bs))
 unfolding tree_of tree_of_node arm_of terms_of
-tree_of-Match e es bar bs is = tree_of-node e ∙ ap tree_of_node (is ∙ sym (ev.rolls-Match es bar bs)) ∙ fold-roll-ExprNode Tree Arm Tree Terms node_step arm_step whole_step terms_step (ex.Match es bar bs)
+tree_of_node-Match es bar bs a = ap (λ n. tree_of_node n a) (sym (ev.rolls-Match es bar bs)) ∙ ap (λ f. f a) (fold-roll-ExprNode (At → Tree) Arm Tree Terms node_step arm_step whole_step terms_step (ex.Match es bar bs))
 
-pub tree_of-Prefix : (e : Expr) (o : OpName) (a : Expr) → e.node ≡ ev.Prefix o a → tree_of e ≡ prefixed (op_of o) (tree_of a)
+pub tree_of-Match : (e : Expr) (es : List Expr) (bar : Bool) (bs : List BranchTree) → e.node ≡ ev.Match es bar bs → tree_of e ≡ cases e.at (trees (map tree_of es)) bar (branches (map arm_of bs))
+tree_of-Match e es bar bs is = tree_of-node e ∙ ap (λ n. tree_of_node n e.at) is ∙ tree_of_node-Match es bar bs e.at
+
+pub tree_of_node-Prefix : (o : OpName) (f : Expr) (a : At) → tree_of_node (ev.Prefix o f) a ≡ prefixed a (op_of o) (tree_of f)
 unfolding tree_of tree_of_node arm_of terms_of
-tree_of-Prefix e o a is = tree_of-node e ∙ ap tree_of_node (is ∙ sym (ev.rolls-Prefix o a)) ∙ fold-roll-ExprNode Tree Arm Tree Terms node_step arm_step whole_step terms_step (ex.Prefix o a)
+tree_of_node-Prefix o f a = ap (λ n. tree_of_node n a) (sym (ev.rolls-Prefix o f)) ∙ ap (λ f. f a) (fold-roll-ExprNode (At → Tree) Arm Tree Terms node_step arm_step whole_step terms_step (ex.Prefix o f))
 
-pub tree_of-Not : (e : Expr) (a : Expr) → e.node ≡ ev.Not a → tree_of e ≡ negation (tree_of a)
+pub tree_of-Prefix : (e : Expr) (o : OpName) (f : Expr) → e.node ≡ ev.Prefix o f → tree_of e ≡ prefixed e.at (op_of o) (tree_of f)
+tree_of-Prefix e o f is = tree_of-node e ∙ ap (λ n. tree_of_node n e.at) is ∙ tree_of_node-Prefix o f e.at
+
+pub tree_of_node-Not : (f : Expr) (a : At) → tree_of_node (ev.Not f) a ≡ negation a (tree_of f)
 unfolding tree_of tree_of_node arm_of terms_of
-tree_of-Not e a is = tree_of-node e ∙ ap tree_of_node (is ∙ sym (ev.rolls-Not a)) ∙ fold-roll-ExprNode Tree Arm Tree Terms node_step arm_step whole_step terms_step (ex.Not a)
+tree_of_node-Not f a = ap (λ n. tree_of_node n a) (sym (ev.rolls-Not f)) ∙ ap (λ f. f a) (fold-roll-ExprNode (At → Tree) Arm Tree Terms node_step arm_step whole_step terms_step (ex.Not f))
 
-pub tree_of-Binary : (e : Expr) (a : Expr) (o : OpName) (b : Expr) → e.node ≡ ev.Binary a o b → tree_of e ≡ binary (tree_of a) (op_of o) (tree_of b)
+pub tree_of-Not : (e : Expr) (f : Expr) → e.node ≡ ev.Not f → tree_of e ≡ negation e.at (tree_of f)
+tree_of-Not e f is = tree_of-node e ∙ ap (λ n. tree_of_node n e.at) is ∙ tree_of_node-Not f e.at
+
+pub tree_of_node-Binary : (f : Expr) (o : OpName) (g : Expr) (a : At) → tree_of_node (ev.Binary f o g) a ≡ binary a (tree_of f) (op_of o) (tree_of g)
 unfolding tree_of tree_of_node arm_of terms_of
-tree_of-Binary e a o b is = tree_of-node e ∙ ap tree_of_node (is ∙ sym (ev.rolls-Binary a o b)) ∙ fold-roll-ExprNode Tree Arm Tree Terms node_step arm_step whole_step terms_step (ex.Binary a o b)
+tree_of_node-Binary f o g a = ap (λ n. tree_of_node n a) (sym (ev.rolls-Binary f o g)) ∙ ap (λ f. f a) (fold-roll-ExprNode (At → Tree) Arm Tree Terms node_step arm_step whole_step terms_step (ex.Binary f o g))
 
-pub tree_of-If : (e : Expr) (c : Expr) (a : Expr) (b : Expr) → e.node ≡ ev.If c a b → tree_of e ≡ choice (tree_of c) (tree_of a) (tree_of b)
+pub tree_of-Binary : (e : Expr) (f : Expr) (o : OpName) (g : Expr) → e.node ≡ ev.Binary f o g → tree_of e ≡ binary e.at (tree_of f) (op_of o) (tree_of g)
+tree_of-Binary e f o g is = tree_of-node e ∙ ap (λ n. tree_of_node n e.at) is ∙ tree_of_node-Binary f o g e.at
+
+pub tree_of_node-If : (c : Expr) (f : Expr) (g : Expr) (a : At) → tree_of_node (ev.If c f g) a ≡ choice a (tree_of c) (tree_of f) (tree_of g)
 unfolding tree_of tree_of_node arm_of terms_of
-tree_of-If e c a b is = tree_of-node e ∙ ap tree_of_node (is ∙ sym (ev.rolls-If c a b)) ∙ fold-roll-ExprNode Tree Arm Tree Terms node_step arm_step whole_step terms_step (ex.If c a b)
+tree_of_node-If c f g a = ap (λ n. tree_of_node n a) (sym (ev.rolls-If c f g)) ∙ ap (λ f. f a) (fold-roll-ExprNode (At → Tree) Arm Tree Terms node_step arm_step whole_step terms_step (ex.If c f g))
 
-pub tree_of-Let : (e : Expr) (ps : List Pat) (a : Expr) (b : Expr) → e.node ≡ ev.Let ps a b → tree_of e ≡ binding (patterns ps) (tree_of a) (tree_of b)
+pub tree_of-If : (e : Expr) (c : Expr) (f : Expr) (g : Expr) → e.node ≡ ev.If c f g → tree_of e ≡ choice e.at (tree_of c) (tree_of f) (tree_of g)
+tree_of-If e c f g is = tree_of-node e ∙ ap (λ n. tree_of_node n e.at) is ∙ tree_of_node-If c f g e.at
+
+pub tree_of_node-Let : (ps : List Pat) (f : Expr) (g : Expr) (a : At) → tree_of_node (ev.Let ps f g) a ≡ binding a (patterns ps) (tree_of f) (tree_of g)
 unfolding tree_of tree_of_node arm_of terms_of
-tree_of-Let e ps a b is = tree_of-node e ∙ ap tree_of_node (is ∙ sym (ev.rolls-Let ps a b)) ∙ fold-roll-ExprNode Tree Arm Tree Terms node_step arm_step whole_step terms_step (ex.Let ps a b)
+tree_of_node-Let ps f g a = ap (λ n. tree_of_node n a) (sym (ev.rolls-Let ps f g)) ∙ ap (λ f. f a) (fold-roll-ExprNode (At → Tree) Arm Tree Terms node_step arm_step whole_step terms_step (ex.Let ps f g))
 
-quant_node : (all : Bool) (bs : List BinderTree) (t : Option TriggerTree) (b : Expr) → tree_of_node (ev.Quant all bs t b) ≡ quantified all (map binder_of bs) (trigger (option_map terms_of t)) (tree_of b)
+pub tree_of-Let : (e : Expr) (ps : List Pat) (f : Expr) (g : Expr) → e.node ≡ ev.Let ps f g → tree_of e ≡ binding e.at (patterns ps) (tree_of f) (tree_of g)
+tree_of-Let e ps f g is = tree_of-node e ∙ ap (λ n. tree_of_node n e.at) is ∙ tree_of_node-Let ps f g e.at
+
+pub tree_of_node-Quant : (all : Bool) (bs : List BinderTree) (t : Option TriggerTree) (f : Expr) (a : At) → tree_of_node (ev.Quant all bs t f) a ≡ quantified a all (map binder_of bs) (trigger (option_map terms_of t)) (tree_of f)
 unfolding tree_of tree_of_node arm_of terms_of
-quant_node all bs None b = ap tree_of_node (sym (ev.rolls-Quant all bs None b)) ∙ fold-roll-ExprNode Tree Arm Tree Terms node_step arm_step whole_step terms_step (ex.Quant all bs None b)
-quant_node all bs (Some t) b = ap tree_of_node (sym (ev.rolls-Quant all bs (Some t) b)) ∙ fold-roll-ExprNode Tree Arm Tree Terms node_step arm_step whole_step terms_step (ex.Quant all bs (Some t) b)
+tree_of_node-Quant all bs None f a = ap (λ n. tree_of_node n a) (sym (ev.rolls-Quant all bs None f)) ∙ ap (λ g. g a) (fold-roll-ExprNode (At → Tree) Arm Tree Terms node_step arm_step whole_step terms_step (ex.Quant all bs None f))
+tree_of_node-Quant all bs (Some t) f a = ap (λ n. tree_of_node n a) (sym (ev.rolls-Quant all bs (Some t) f)) ∙ ap (λ g. g a) (fold-roll-ExprNode (At → Tree) Arm Tree Terms node_step arm_step whole_step terms_step (ex.Quant all bs (Some t) f))
 
-pub tree_of-Quant : (e : Expr) (all : Bool) (bs : List BinderTree) (t : Option TriggerTree) (b : Expr) → e.node ≡ ev.Quant all bs t b → tree_of e ≡ quantified all (map binder_of bs) (trigger (option_map terms_of t)) (tree_of b)
-tree_of-Quant e all bs t b is = tree_of-node e ∙ ap tree_of_node is ∙ quant_node all bs t b
+pub tree_of-Quant : (e : Expr) (all : Bool) (bs : List BinderTree) (t : Option TriggerTree) (f : Expr) → e.node ≡ ev.Quant all bs t f → tree_of e ≡ quantified e.at all (map binder_of bs) (trigger (option_map terms_of t)) (tree_of f)
+tree_of-Quant e all bs t f is = tree_of-node e ∙ ap (λ n. tree_of_node n e.at) is ∙ tree_of_node-Quant all bs t f e.at
 
--- the same as it is made
-module _ (at : At) where
-  pub made-Apply : (q : QName) (xs : List Expr) → tree_of (record { at = at; node = ev.Apply q xs }) ≡ apply (called_of q) (trees (map tree_of xs))
-  made-Apply q xs = tree_of-Apply (record { at = at; node = ev.Apply q xs }) q xs refl
-
-  pub made-Int : (n : ℤ) → tree_of (record { at = at; node = ev.Int n }) ≡ literal n
-  made-Int n = tree_of-Int (record { at = at; node = ev.Int n }) n refl
-
-  pub made-True : tree_of (record { at = at; node = ev.True }) ≡ truth
-  made-True = tree_of-True (record { at = at; node = ev.True }) refl
-
-  pub made-False : tree_of (record { at = at; node = ev.False }) ≡ falsity
-  made-False = tree_of-False (record { at = at; node = ev.False }) refl
-
-  pub made-Group : (xs : List Expr) → tree_of (record { at = at; node = ev.Group xs }) ≡ group (trees (map tree_of xs))
-  made-Group xs = tree_of-Group (record { at = at; node = ev.Group xs }) xs refl
-
-  pub made-Cast : (a : Expr) (t : TypeTree) → tree_of (record { at = at; node = ev.Cast a t }) ≡ cast (tree_of a) (type_of t)
-  made-Cast a t = tree_of-Cast (record { at = at; node = ev.Cast a t }) a t refl
-
-  pub made-Match : (es : List Expr) (bar : Bool) (bs : List BranchTree) → tree_of (record { at = at; node = ev.Match es bar bs }) ≡ cases (trees (map tree_of es)) bar (branches (map arm_of bs))
-  made-Match es bar bs = tree_of-Match (record { at = at; node = ev.Match es bar bs }) es bar bs refl
-
-  pub made-Prefix : (o : OpName) (a : Expr) → tree_of (record { at = at; node = ev.Prefix o a }) ≡ prefixed (op_of o) (tree_of a)
-  made-Prefix o a = tree_of-Prefix (record { at = at; node = ev.Prefix o a }) o a refl
-
-  pub made-Not : (a : Expr) → tree_of (record { at = at; node = ev.Not a }) ≡ negation (tree_of a)
-  made-Not a = tree_of-Not (record { at = at; node = ev.Not a }) a refl
-
-  pub made-Binary : (a : Expr) (o : OpName) (b : Expr) → tree_of (record { at = at; node = ev.Binary a o b }) ≡ binary (tree_of a) (op_of o) (tree_of b)
-  made-Binary a o b = tree_of-Binary (record { at = at; node = ev.Binary a o b }) a o b refl
-
-  pub made-If : (c : Expr) (a : Expr) (b : Expr) → tree_of (record { at = at; node = ev.If c a b }) ≡ choice (tree_of c) (tree_of a) (tree_of b)
-  made-If c a b = tree_of-If (record { at = at; node = ev.If c a b }) c a b refl
-
-  pub made-Let : (ps : List Pat) (a : Expr) (b : Expr) → tree_of (record { at = at; node = ev.Let ps a b }) ≡ binding (patterns ps) (tree_of a) (tree_of b)
-  made-Let ps a b = tree_of-Let (record { at = at; node = ev.Let ps a b }) ps a b refl
-
-  pub made-Quant : (all : Bool) (bs : List BinderTree) (t : Option TriggerTree) (b : Expr) → tree_of (record { at = at; node = ev.Quant all bs t b }) ≡ quantified all (map binder_of bs) (trigger (option_map terms_of t)) (tree_of b)
-  made-Quant all bs t b = tree_of-Quant (record { at = at; node = ev.Quant all bs t b }) all bs t b refl
-
-pub ruleset made = (type-Var, type-Named, type-Group, pattern-Wild, pattern-Var, pattern-Con, pattern-Group, pattern-Alias, made-Apply, made-Int, made-True, made-False, made-Group, made-Cast, made-Match, made-Prefix, made-Not, made-Binary, made-If, made-Let, made-Quant)
+pub ruleset made = (form_of-node, form_of_node-Var, form_of_node-Named, form_of_node-Group, pattern_of-node, pattern_of_node-Wild, pattern_of_node-Var, pattern_of_node-Con, pattern_of_node-Group, pattern_of_node-Alias, tree_of-node, tree_of_node-Apply, tree_of_node-Int, tree_of_node-True, tree_of_node-False, tree_of_node-Group, tree_of_node-Cast, tree_of_node-Match, tree_of_node-Prefix, tree_of_node-Not, tree_of_node-Binary, tree_of_node-If, tree_of_node-Let, tree_of_node-Quant)
 
 pub made-Terms : (ts : List Expr) (bars : List Bool) → terms_of (roll-TriggerTree (record { terms = ts; bars = bars })) ≡ record { terms = trees (map tree_of ts); bars = bars }
 unfolding tree_of terms_of
-made-Terms ts bars = fold-roll-TriggerTree Tree Arm Tree Terms node_step arm_step whole_step terms_step (record { terms = ts; bars = bars })
+made-Terms ts bars = fold-roll-TriggerTree (At → Tree) Arm Tree Terms node_step arm_step whole_step terms_step (record { terms = ts; bars = bars })
 
 pub ruleset fields = (arm_of-fields, made-Terms)

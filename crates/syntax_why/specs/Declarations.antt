@@ -1,32 +1,23 @@
--- Declarations, theories and files as plain trees, without places (Why3 manual, "Syntax": theories and declarations).
-use Rattle.std.specs.Prelude.{Bool, List, [], ◌∷◌, map, Option, option_map}
-use Rattle.syntax_why.specs.declared.names.Style.TheVariants.{Plain}
+-- Declarations, theories and files, and their tokens.
+use Rattle.std.specs.Prelude.{ℕ, Bool, true, false, List, [], ◌∷◌, ◌++◌, Option, Some, None}
+use Rattle.tokens_why.specs.declared.terminal.Terminal.{Terminal}
+use Rattle.tokens_why.specs.declared.terminal.Terminal.TheVariants as t
+use Rattle.syntax_why.specs.declared.names.At.{At}
 use Rattle.syntax_why.specs.declared.names.Name.{Name}
-use Rattle.syntax_why.specs.declared.names.OpName.{OpName}
+use Rattle.syntax_why.specs.declared.names.Path.{Path}
 use Rattle.syntax_why.specs.declared.declarations.PropKind.{PropKind}
+use Rattle.syntax_why.specs.declared.declarations.PropKind.TheVariants as pk
 use Rattle.syntax_why.specs.declared.declarations.Link.{Link}
+use Rattle.syntax_why.specs.declared.declarations.Link.TheVariants as lk
 use Rattle.syntax_why.specs.declared.declarations.SymbolWord.{SymbolWord}
-use Rattle.syntax_why.specs.declared.declarations.ParamTree.{ParamTree}
-use Rattle.syntax_why.specs.declared.declarations.MemberTree.{MemberTree}
-use Rattle.syntax_why.specs.declared.declarations.ConTree.{ConTree}
-use Rattle.syntax_why.specs.declared.declarations.AlgTree.{AlgTree}
-use Rattle.syntax_why.specs.declared.declarations.ClauseTree.{ClauseTree}
-use Rattle.syntax_why.specs.declared.declarations.IndTree.{IndTree}
-use Rattle.syntax_why.specs.declared.declarations.ElemNode.{ElemNode}
-use Rattle.syntax_why.specs.declared.declarations.ElemNode.TheVariants as el
-use Rattle.syntax_why.specs.declared.declarations.ElemTree.{ElemTree}
-use Rattle.syntax_why.specs.declared.declarations.DeclTree.{DeclTree, DeclTree-F}
-use Rattle.syntax_why.specs.declared.declarations.DeclNode.{DeclNode}
-use Rattle.syntax_why.specs.declared.declarations.DeclNode.TheOpen as dn
-use Rattle.syntax_why.specs.declared.declarations.DeclNode.TheOpen.{DeclNode-F}
-use Rattle.syntax_why.specs.declared.declarations.DeclNode.TheFolds.{fold-DeclTree, fold-DeclNode}
-use Rattle.syntax_why.specs.declared.declarations.TheoryTree.{TheoryTree}
-use Rattle.syntax_why.specs.declared.declarations.File.{File}
-use Rattle.syntax_why.specs.Tree.{Word, Called, called, called_of, Form, type_of, Tree, tree_of, words}
+use Rattle.syntax_why.specs.declared.declarations.SymbolWord.TheVariants as sw
+use Rattle.syntax_why.specs.Lexeme.{Word, Lexeme, lx, mark}
+use Rattle.syntax_why.specs.Forms.{Called, write_called, Form, Forms, write_form, form_row}
+use Rattle.syntax_why.specs.Trees.{Tree, write, name_row, type_part, bar_before}
 
 -- A parameter, with names or, as a type alone, without.
 pub record Param : Type 0 where
-  pub names : List Word
+  pub names : List Name
   pub of_type : Form
 
 -- a member after `with`: a function where it has a result type, else a predicate
@@ -37,12 +28,12 @@ pub record Member : Type 0 where
   pub body : Tree
 
 pub record Constructor : Type 0 where
-  pub name : Word
-  pub fields : List Form
+  pub name : Name
+  pub fields : Forms
 
 pub record Algebraic : Type 0 where
-  pub name : Word
-  pub vars : List Word
+  pub name : Name
+  pub vars : List Name
   pub bar : Bool
   pub constructors : List Constructor
 
@@ -58,98 +49,181 @@ pub record Inductive : Type 0 where
 
 -- an element of a clone's substitution
 pub data Element : Type 0 where
-  type_element : Called → List Word → Form → Element
-  symbol_element : SymbolWord → Called → Called → Element
-  prop_element : PropKind → Called → Element
-  all_axioms : Element
+  type_element : ℕ → Called → List Name → Form → Element
+  symbol_element : ℕ → SymbolWord → Called → Called → Element
+  prop_element : ℕ → PropKind → Called → Element
+  all_axioms : ℕ → Element
 
 mutual
   pub data Decl : Type 0 where
-    type_decl : Word → List Word → Option Form → Decl
-    algebraic_decl : List Algebraic → Decl
-    function_decl : Called → List Param → Form → Option Tree → List Member → Decl
-    predicate_decl : Called → List Param → Option Tree → List Member → Decl
-    constant_decl : Called → Form → Option Tree → Decl
-    inductive_decl : List Inductive → Decl
-    prop_decl : PropKind → Called → Tree → Decl
-    use_decl : Link → List Word → Option Word → Decl
-    clone_decl : Link → List Word → Option Word → List Element → Decl
-    scope_decl : Word → Decls → Decl
+    type_decl : At → Name → List Name → Option Form → Decl
+    algebraic_decl : At → List Algebraic → Decl
+    function_decl : At → Called → List Param → Form → Option Tree → List Member → Decl
+    predicate_decl : At → Called → List Param → Option Tree → List Member → Decl
+    constant_decl : At → Called → Form → Option Tree → Decl
+    inductive_decl : At → List Inductive → Decl
+    prop_decl : At → PropKind → Called → Tree → Decl
+    use_decl : At → Link → Path → Option Name → Decl
+    clone_decl : At → Link → Path → Option Name → List Element → Decl
+    scope_decl : At → Name → Decls → Decl
 
   pub data Decls : Type 0 where
     no_decls : Decls
     more_decls : Decl → Decls → Decls
 
 pub record Theory : Type 0 where
+  pub at : At
   pub is_module : Bool
-  pub name : Word
+  pub name : Name
   pub decls : Decls
 
-abbrev pub decls : List Decl → Decls
-decls [] = no_decls
-decls (d ∷ ds) = more_decls d (decls ds)
+-- type variables side by side
+abbrev pub variable_row : List Name → List Lexeme
+variable_row [] = []
+variable_row (n ∷ ns) = lx t.TyVar n.text ∷ variable_row ns
 
--- what is declared
-abbrev pub declared_name : OpName → Called
-declared_name n = called [] n.style n.text
+abbrev pub typed_names : List Name → Form → List Lexeme
+typed_names [] f = write_form f
+typed_names (n ∷ ns) f = mark t.LParen ∷ (name_row (n ∷ ns) ++ (mark t.Colon ∷ (write_form f ++ (mark t.RParen ∷ []))))
 
-abbrev pub plain_name : Name → Called
-plain_name n = called [] Plain n.text
+abbrev pub write_param : Param → List Lexeme
+write_param p = typed_names p.names p.of_type
 
-abbrev pub param_of : ParamTree → Param
-param_of p = record { names = words p.names; of_type = type_of p.ty }
+-- parameters side by side
+abbrev pub param_row : List Param → List Lexeme
+param_row [] = []
+param_row (p ∷ ps) = write_param p ++ param_row ps
 
-abbrev pub member_of : MemberTree → Member
-member_of m = record { name = declared_name m.name; params = map param_of m.params; result = option_map type_of m.result; body = tree_of m.body }
+abbrev pub definition : Option Tree → List Lexeme
+definition None = []
+definition (Some e) = mark t.Equal ∷ write e
 
-abbrev pub constructor_of : ConTree → Constructor
-constructor_of c = record { name = c.name.text; fields = map type_of c.fields }
+abbrev pub write_member : Member → List Lexeme
+write_member d = write_called d.name ++ (param_row d.params ++ (type_part d.result ++ (mark t.Equal ∷ write d.body)))
 
-abbrev pub algebraic_of : AlgTree → Algebraic
-algebraic_of a = record { name = a.name.text; vars = words a.vars; bar = a.bar; constructors = map constructor_of a.cons }
+-- each behind `with`
+abbrev pub other_members : List Member → List Lexeme
+other_members [] = []
+other_members (d ∷ ds) = mark t.WithWord ∷ (write_member d ++ other_members ds)
 
-abbrev pub clause_of : ClauseTree → Clause
-clause_of c = record { name = plain_name c.name; prop = tree_of c.prop }
+abbrev pub write_constructor : Constructor → List Lexeme
+write_constructor c = lx t.Uident c.name.text ∷ form_row c.fields
 
-abbrev pub inductive_of : IndTree → Inductive
-inductive_of i = record { name = declared_name i.name; params = map param_of i.params; bar = i.bar; clauses = map clause_of i.clauses }
+abbrev pub constructor_tail : List Constructor → List Lexeme
+constructor_tail [] = []
+constructor_tail (c ∷ cs) = mark t.Bar ∷ (write_constructor c ++ constructor_tail cs)
 
-abbrev pub element_by : ElemNode → Element
-element_by (el.TypeElem q vs t) = type_element (called_of q) (words vs) (type_of t)
-element_by (el.SymbolElem s q r) = symbol_element s (called_of q) (called_of r)
-element_by (el.PropElem k q) = prop_element k (called_of q)
-element_by el.AllAxioms = all_axioms
+abbrev pub constructor_list : List Constructor → List Lexeme
+constructor_list [] = []
+constructor_list (c ∷ cs) = write_constructor c ++ constructor_tail cs
 
-abbrev pub element_of : ElemTree → Element
-element_of e = element_by e.node
+abbrev pub write_algebraic : Algebraic → List Lexeme
+write_algebraic a = lx t.Lident a.name.text ∷ (variable_row a.vars ++ (mark t.Equal ∷ (bar_before a.bar ++ constructor_list a.constructors)))
 
-abbrev pub name_text : Name → Word
-name_text n = n.text
+abbrev pub algebraic_tail : List Algebraic → List Lexeme
+algebraic_tail [] = []
+algebraic_tail (a ∷ as_) = mark t.WithWord ∷ (write_algebraic a ++ algebraic_tail as_)
 
--- One level of a declaration, with the trees of its parts in their place.
-abbrev pub decl_step : DeclNode-F Decl Decl → Decl
-decl_step (dn.TypeDecl n vs t) = type_decl n.text (words vs) (option_map type_of t)
-decl_step (dn.Algebraic as_) = algebraic_decl (map algebraic_of as_)
-decl_step (dn.Function n ps t e ms) = function_decl (declared_name n) (map param_of ps) (type_of t) (option_map tree_of e) (map member_of ms)
-decl_step (dn.Predicate n ps e ms) = predicate_decl (declared_name n) (map param_of ps) (option_map tree_of e) (map member_of ms)
-decl_step (dn.Constant n t e) = constant_decl (declared_name n) (type_of t) (option_map tree_of e)
-decl_step (dn.Inductive is) = inductive_decl (map inductive_of is)
-decl_step (dn.Prop k n e) = prop_decl k (plain_name n) (tree_of e)
-decl_step (dn.UseTheory l p n) = use_decl l p.parts (option_map name_text n)
-decl_step (dn.CloneTheory l p n es) = clone_decl l p.parts (option_map name_text n) (map element_of es)
-decl_step (dn.ScopeDecl n ds) = scope_decl n.text (decls ds)
+abbrev pub algebraic_list : List Algebraic → List Lexeme
+algebraic_list [] = []
+algebraic_list (a ∷ as_) = write_algebraic a ++ algebraic_tail as_
 
-abbrev pub decl_whole : DeclTree-F Decl Decl → Decl
-decl_whole d = d.node
+abbrev pub write_clause : Clause → List Lexeme
+write_clause c = write_called c.name ++ (mark t.Colon ∷ write c.prop)
 
-unfoldable pub decl_of : DeclTree → Decl
-decl_of = fold-DeclTree Decl Decl decl_step decl_whole
+abbrev pub clause_tail : List Clause → List Lexeme
+clause_tail [] = []
+clause_tail (c ∷ cs) = mark t.Bar ∷ (write_clause c ++ clause_tail cs)
 
-unfoldable pub decl_of_node : DeclNode → Decl
-decl_of_node = fold-DeclNode Decl Decl decl_step decl_whole
+abbrev pub clause_list : List Clause → List Lexeme
+clause_list [] = []
+clause_list (c ∷ cs) = write_clause c ++ clause_tail cs
 
-abbrev pub theory_of : TheoryTree → Theory
-theory_of t = record { is_module = t.«module»; name = t.name.text; decls = decls (map decl_of t.decls) }
+abbrev pub write_inductive : Inductive → List Lexeme
+write_inductive d = write_called d.name ++ (param_row d.params ++ (mark t.Equal ∷ (bar_before d.bar ++ clause_list d.clauses)))
 
-abbrev pub file_of : File → List Theory
-file_of f = map theory_of f.theories
+abbrev pub inductive_tail : List Inductive → List Lexeme
+inductive_tail [] = []
+inductive_tail (d ∷ ds) = mark t.WithWord ∷ (write_inductive d ++ inductive_tail ds)
+
+abbrev pub inductive_list : List Inductive → List Lexeme
+inductive_list [] = []
+inductive_list (d ∷ ds) = write_inductive d ++ inductive_tail ds
+
+abbrev pub prop_word : PropKind → Terminal
+prop_word pk.Axiom = t.AxiomWord
+prop_word pk.Lemma = t.LemmaWord
+prop_word pk.Goal = t.GoalWord
+
+abbrev pub link_words : Link → List Lexeme
+link_words lk.Bare = []
+link_words lk.Import = mark t.ImportWord ∷ []
+link_words lk.Export = mark t.ExportWord ∷ []
+
+-- a path from its first part on: those before the last are in lower case
+abbrev pub path_from : Word → List Word → List Lexeme
+path_from w [] = lx t.Uident w ∷ []
+path_from w (v ∷ ws) = lx t.Lident w ∷ mark t.Dot ∷ path_from v ws
+
+abbrev pub write_path : List Word → List Lexeme
+write_path [] = []
+write_path (w ∷ ws) = path_from w ws
+
+-- a theory's name behind `as`
+abbrev pub renamed : Option Name → List Lexeme
+renamed None = []
+renamed (Some n) = mark t.AsWord ∷ lx t.Uident n.text ∷ []
+
+abbrev pub symbol_word : SymbolWord → Terminal
+symbol_word sw.Function = t.FunctionWord
+symbol_word sw.Constant = t.ConstantWord
+symbol_word sw.Predicate = t.PredicateWord
+
+abbrev pub write_element : Element → List Lexeme
+write_element (type_element i c vs f) = mark t.TypeWord ∷ (write_called c ++ (variable_row vs ++ (mark t.Equal ∷ write_form f)))
+write_element (symbol_element i s c d) = mark (symbol_word s) ∷ (write_called c ++ (mark t.Equal ∷ write_called d))
+write_element (prop_element i k c) = mark (prop_word k) ∷ write_called c
+write_element (all_axioms i) = mark t.AxiomWord ∷ mark t.Dot ∷ []
+
+abbrev pub element_tail : List Element → List Lexeme
+element_tail [] = []
+element_tail (e ∷ es) = mark t.Comma ∷ (write_element e ++ element_tail es)
+
+-- the elements behind `with`, if there are any
+abbrev pub substitution : List Element → List Lexeme
+substitution [] = []
+substitution (e ∷ es) = mark t.WithWord ∷ (write_element e ++ element_tail es)
+
+abbrev pub type_equation : Option Form → List Lexeme
+type_equation None = []
+type_equation (Some f) = mark t.Equal ∷ write_form f
+
+abbrev mutual
+  pub write_decl : Decl → List Lexeme
+  write_decl (type_decl a n vs f) = mark t.TypeWord ∷ lx t.Lident n.text ∷ (variable_row vs ++ type_equation f)
+  write_decl (algebraic_decl a as_) = mark t.TypeWord ∷ algebraic_list as_
+  write_decl (function_decl a c ps f e ds) = mark t.FunctionWord ∷ (write_called c ++ (param_row ps ++ (mark t.Colon ∷ (write_form f ++ (definition e ++ other_members ds)))))
+  write_decl (predicate_decl a c ps e ds) = mark t.PredicateWord ∷ (write_called c ++ (param_row ps ++ (definition e ++ other_members ds)))
+  write_decl (constant_decl a c f e) = mark t.ConstantWord ∷ (write_called c ++ (mark t.Colon ∷ (write_form f ++ definition e)))
+  write_decl (inductive_decl a ds) = mark t.InductiveWord ∷ inductive_list ds
+  write_decl (prop_decl a k c e) = mark (prop_word k) ∷ (write_called c ++ (mark t.Colon ∷ write e))
+  write_decl (use_decl a l p n) = mark t.UseWord ∷ (link_words l ++ (write_path p.parts ++ renamed n))
+  write_decl (clone_decl a l p n es) = mark t.CloneWord ∷ (link_words l ++ (write_path p.parts ++ (renamed n ++ substitution es)))
+  write_decl (scope_decl a n ds) = mark t.ScopeWord ∷ lx t.Uident n.text ∷ (write_decls ds ++ (mark t.EndWord ∷ []))
+
+  -- one after another
+  pub write_decls : Decls → List Lexeme
+  write_decls no_decls = []
+  write_decls (more_decls d ds) = write_decl d ++ write_decls ds
+
+abbrev pub heading : Bool → Terminal
+heading true = t.ModuleWord
+heading false = t.TheoryWord
+
+abbrev pub write_theory : Theory → List Lexeme
+write_theory h = mark (heading h.is_module) ∷ lx t.Uident h.name.text ∷ (write_decls h.decls ++ (mark t.EndWord ∷ []))
+
+-- theories one after another
+abbrev pub write_file : List Theory → List Lexeme
+write_file [] = []
+write_file (h ∷ hs) = write_theory h ++ write_file hs

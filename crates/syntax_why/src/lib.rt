@@ -1,12 +1,11 @@
 //! The surface trees of Why3 sources, their makers, and which tokens a tree writes.
-//! It stands on the tokens, and under the grammar and the readers.
+//! It depends on the tokens; the readers depend on it.
 #![tactic(auto)]
 
 mod declarations;
 mod declaring;
 mod expressions;
 mod making;
-mod marks;
 mod names;
 mod patterns;
 mod types;
@@ -16,7 +15,6 @@ pub use declarations::{
     MemberTree, ParamTree, PropKind, SymbolWord, TheoryTree,
 };
 pub use expressions::{BinderTree, BranchTree, Expr, ExprNode, TriggerTree};
-pub use marks::Mark;
 pub use names::{At, Name, OpName, Path, QName, Style};
 pub use patterns::{Pat, PatNode};
 pub use types::{TypeNode, TypeTree};

@@ -1,10 +1,10 @@
-// Makers of trees, each of which says what plain tree it makes and which places that carries.
-// They stand on the trees; no one else builds a node of an expression, a pattern or a type with its places.
-ghost use Rattle.std.specs.Prelude.{◌≡◌, [], ◌∷◌, ◌++◌, map, option_map, IfOk};
-ghost use Rattle.std.specs.List.{concat};
-ghost use Rattle.std.specs.Option.{unwrap_or};
-ghost use Rattle.syntax_why.specs.Tree.{type_of, pattern_of, tree_of, arm_of, terms_of, binder_of, op_of, called_of, forms, trees, branches, trigger, patterns, alternatives, wild, variable, type_variable, composed, enclosed, aliased, apply, literal, truth, falsity, group, cast, cases, prefixed, negation, binary, choice, binding, quantified};
-ghost use Rattle.syntax_why.specs.Carried.{type_places_of, pattern_places_of, patterns_places_of, alternatives_places_of, binders_places_of, places_of, branch_places_of, trigger_places_of};
+// Makers of trees, each of which says what plain tree it makes, its places among it.
+// They depend on the trees; no one else builds a node of an expression, a pattern or a type.
+
+ghost use Rattle.std.specs.Prelude.{◌≡◌, map, option_map, IfOk};
+ghost use Rattle.syntax_why.specs.Forms.{wild, variable, type_variable, composed, enclosed, aliased};
+ghost use Rattle.syntax_why.specs.Trees.{apply, literal, truth, falsity, group, cast, cases, prefixed, negation, binary, choice, binding, quantified};
+ghost use Rattle.syntax_why.specs.Surface.{form_of, pattern_of, tree_of, arm_of, terms_of, binder_of, op_of, called_of, forms, trees, branches, trigger, patterns, alternatives, value_of};
 
 use crate::expressions::{BinderTree, BranchTree, Expr, ExprNode, TriggerTree};
 use crate::names::{At, Name, OpName, QName};
@@ -13,12 +13,11 @@ use crate::types::{TypeNode, TypeTree};
 use outside::{Boxed, Seq, Text};
 use std::alloc::{AllocError, Global};
 
-#[tactic(auto, using(crate::proofs::TreeLemmas::made, crate::proofs::PlaceLemmas::placed))]
+#[tactic(auto, using(crate::proofs::TreeLemmas::made))]
 impl TypeTree {
     /// A type variable; its text has the quote.
     pub fn variable(at: At, text: Text) -> TypeTree
-        ensures tree { type_of result ≡ type_variable text }
-        ensures places { type_places_of result ≡ at.first ∷ at.main ∷ [] }
+        ensures { form_of result ≡ type_variable at text }
     {
         TypeTree {
             at,
@@ -28,8 +27,7 @@ impl TypeTree {
 
     /// A type symbol with its arguments.
     pub fn named(at: At, name: QName, arguments: Seq<TypeTree>) -> TypeTree
-        ensures tree { type_of result ≡ composed (called_of name) (forms (map type_of arguments)) }
-        ensures places { type_places_of result ≡ at.first ∷ at.main ∷ name.at ∷ concat (map type_places_of arguments) }
+        ensures { form_of result ≡ composed at (called_of name) (forms (map form_of arguments)) }
     {
         TypeTree {
             at,
@@ -39,8 +37,7 @@ impl TypeTree {
 
     /// Types in parentheses.
     pub fn group(at: At, parts: Seq<TypeTree>) -> TypeTree
-        ensures tree { type_of result ≡ enclosed (forms (map type_of parts)) }
-        ensures places { type_places_of result ≡ at.first ∷ at.main ∷ concat (map type_places_of parts) }
+        ensures { form_of result ≡ enclosed at (forms (map form_of parts)) }
     {
         TypeTree {
             at,
@@ -49,12 +46,11 @@ impl TypeTree {
     }
 }
 
-#[tactic(auto, using(crate::proofs::TreeLemmas::made, crate::proofs::PlaceLemmas::placed))]
+#[tactic(auto, using(crate::proofs::TreeLemmas::made))]
 impl Pat {
     /// The pattern `_`.
     pub fn wildcard(at: At) -> Pat
-        ensures tree { pattern_of result ≡ wild }
-        ensures places { pattern_places_of result ≡ at.first ∷ at.main ∷ [] }
+        ensures { pattern_of result ≡ wild at }
     {
         Pat {
             at,
@@ -64,8 +60,7 @@ impl Pat {
 
     /// A variable.
     pub fn variable(at: At, name: Name) -> Pat
-        ensures tree { pattern_of result ≡ variable name.text }
-        ensures places { pattern_places_of result ≡ at.first ∷ at.main ∷ name.at ∷ [] }
+        ensures { pattern_of result ≡ variable at name }
     {
         Pat {
             at,
@@ -75,8 +70,7 @@ impl Pat {
 
     /// A constructor with its parts.
     pub fn constructor(at: At, name: QName, parts: Seq<Pat>) -> Pat
-        ensures tree { pattern_of result ≡ composed (called_of name) (forms (map pattern_of parts)) }
-        ensures places { pattern_places_of result ≡ at.first ∷ at.main ∷ name.at ∷ patterns_places_of parts }
+        ensures { pattern_of result ≡ composed at (called_of name) (forms (map pattern_of parts)) }
     {
         Pat {
             at,
@@ -86,8 +80,7 @@ impl Pat {
 
     /// Patterns in parentheses.
     pub fn group(at: At, parts: Seq<Pat>) -> Pat
-        ensures tree { pattern_of result ≡ enclosed (forms (map pattern_of parts)) }
-        ensures places { pattern_places_of result ≡ at.first ∷ at.main ∷ patterns_places_of parts }
+        ensures { pattern_of result ≡ enclosed at (forms (map pattern_of parts)) }
     {
         Pat {
             at,
@@ -97,8 +90,7 @@ impl Pat {
 
     /// A pattern `p as x`; only want of memory refuses it.
     pub fn alias(alloc: Global, at: At, pattern: Pat, name: Name) -> Result<Pat, AllocError>
-        ensures tree { IfOk result (λ p. pattern_of p ≡ aliased (pattern_of pattern) name.text) }
-        ensures places { IfOk result (λ p. pattern_places_of p ≡ at.first ∷ at.main ∷ pattern_places_of pattern ++ (name.at ∷ [])) }
+        ensures { IfOk result (λ p. pattern_of p ≡ aliased at (pattern_of pattern) name) }
     {
         let pattern = Boxed::new(alloc, pattern)?;
         Ok(Pat {
@@ -126,12 +118,11 @@ fn boxed_pair(
     }
 }
 
-#[tactic(auto, using(crate::proofs::TreeLemmas::made, crate::proofs::PlaceLemmas::placed))]
+#[tactic(auto, using(crate::proofs::TreeLemmas::made))]
 impl Expr {
     /// A name with its arguments, or the name alone.
     pub fn apply(at: At, function: QName, arguments: Seq<Expr>) -> Expr
-        ensures tree { tree_of result ≡ apply (called_of function) (trees (map tree_of arguments)) }
-        ensures places { places_of result ≡ at.first ∷ at.main ∷ function.at ∷ concat (map places_of arguments) }
+        ensures { tree_of result ≡ apply at (called_of function) (trees (map tree_of arguments)) }
     {
         Expr {
             at,
@@ -141,8 +132,7 @@ impl Expr {
 
     /// An integer.
     pub fn integer(at: At, value: i128) -> Expr
-        ensures tree { tree_of result ≡ literal value }
-        ensures places { places_of result ≡ at.first ∷ at.main ∷ [] }
+        ensures { tree_of result ≡ literal at (value_of value) }
     {
         Expr {
             at,
@@ -152,8 +142,7 @@ impl Expr {
 
     /// The formula `true`.
     pub fn truth(at: At) -> Expr
-        ensures tree { tree_of result ≡ truth }
-        ensures places { places_of result ≡ at.first ∷ at.main ∷ [] }
+        ensures { tree_of result ≡ truth at }
     {
         Expr {
             at,
@@ -163,8 +152,7 @@ impl Expr {
 
     /// The formula `false`.
     pub fn falsity(at: At) -> Expr
-        ensures tree { tree_of result ≡ falsity }
-        ensures places { places_of result ≡ at.first ∷ at.main ∷ [] }
+        ensures { tree_of result ≡ falsity at }
     {
         Expr {
             at,
@@ -174,8 +162,7 @@ impl Expr {
 
     /// Expressions in parentheses.
     pub fn group(at: At, parts: Seq<Expr>) -> Expr
-        ensures tree { tree_of result ≡ group (trees (map tree_of parts)) }
-        ensures places { places_of result ≡ at.first ∷ at.main ∷ concat (map places_of parts) }
+        ensures { tree_of result ≡ group at (trees (map tree_of parts)) }
     {
         Expr {
             at,
@@ -185,8 +172,7 @@ impl Expr {
 
     /// An expression with its type, `(e : t)`; only want of memory refuses it.
     pub fn cast(alloc: Global, at: At, inner: Expr, ty: TypeTree) -> Result<Expr, AllocError>
-        ensures tree { IfOk result (λ e. tree_of e ≡ cast (tree_of inner) (type_of ty)) }
-        ensures places { IfOk result (λ e. places_of e ≡ at.first ∷ at.main ∷ places_of inner ++ type_places_of ty) }
+        ensures { IfOk result (λ e. tree_of e ≡ cast at (tree_of inner) (form_of ty)) }
     {
         let inner = Boxed::new(alloc, inner)?;
         Ok(Expr {
@@ -197,8 +183,7 @@ impl Expr {
 
     /// A `match`; `bar` says that a `|` stands before the first branch.
     pub fn cases(at: At, scrutinees: Seq<Expr>, bar: bool, arms: Seq<BranchTree>) -> Expr
-        ensures tree { tree_of result ≡ cases (trees (map tree_of scrutinees)) bar (branches (map arm_of arms)) }
-        ensures places { places_of result ≡ at.first ∷ at.main ∷ concat (map places_of scrutinees) ++ concat (map branch_places_of arms) }
+        ensures { tree_of result ≡ cases at (trees (map tree_of scrutinees)) bar (branches (map arm_of arms)) }
     {
         Expr {
             at,
@@ -213,8 +198,7 @@ impl Expr {
         operator: OpName,
         operand: Expr,
     ) -> Result<Expr, AllocError>
-        ensures tree { IfOk result (λ e. tree_of e ≡ prefixed (op_of operator) (tree_of operand)) }
-        ensures places { IfOk result (λ e. places_of e ≡ at.first ∷ at.main ∷ operator.at ∷ places_of operand) }
+        ensures { IfOk result (λ e. tree_of e ≡ prefixed at (op_of operator) (tree_of operand)) }
     {
         let operand = Boxed::new(alloc, operand)?;
         Ok(Expr {
@@ -225,8 +209,7 @@ impl Expr {
 
     /// A formula `not e`; only want of memory refuses it.
     pub fn negation(alloc: Global, at: At, operand: Expr) -> Result<Expr, AllocError>
-        ensures tree { IfOk result (λ e. tree_of e ≡ negation (tree_of operand)) }
-        ensures places { IfOk result (λ e. places_of e ≡ at.first ∷ at.main ∷ places_of operand) }
+        ensures { IfOk result (λ e. tree_of e ≡ negation at (tree_of operand)) }
     {
         let operand = Boxed::new(alloc, operand)?;
         Ok(Expr {
@@ -243,8 +226,7 @@ impl Expr {
         operator: OpName,
         right: Expr,
     ) -> Result<Expr, AllocError>
-        ensures tree { IfOk result (λ e. tree_of e ≡ binary (tree_of left) (op_of operator) (tree_of right)) }
-        ensures places { IfOk result (λ e. places_of e ≡ at.first ∷ at.main ∷ places_of left ++ (operator.at ∷ places_of right)) }
+        ensures { IfOk result (λ e. tree_of e ≡ binary at (tree_of left) (op_of operator) (tree_of right)) }
     {
         let (left, right) = boxed_pair(alloc, left, right)?;
         Ok(Expr {
@@ -261,8 +243,7 @@ impl Expr {
         consequent: Expr,
         alternative: Expr,
     ) -> Result<Expr, AllocError>
-        ensures tree { IfOk result (λ e. tree_of e ≡ choice (tree_of condition) (tree_of consequent) (tree_of alternative)) }
-        ensures places { IfOk result (λ e. places_of e ≡ at.first ∷ at.main ∷ places_of condition ++ (places_of consequent ++ places_of alternative)) }
+        ensures { IfOk result (λ e. tree_of e ≡ choice at (tree_of condition) (tree_of consequent) (tree_of alternative)) }
     {
         let (condition, consequent) = match boxed_pair(alloc, condition, consequent) {
             Ok(pair) => pair,
@@ -286,8 +267,7 @@ impl Expr {
         value: Expr,
         body: Expr,
     ) -> Result<Expr, AllocError>
-        ensures tree { IfOk result (λ e. tree_of e ≡ binding (patterns bound) (tree_of value) (tree_of body)) }
-        ensures places { IfOk result (λ e. places_of e ≡ at.first ∷ at.main ∷ patterns_places_of bound ++ (places_of value ++ places_of body)) }
+        ensures { IfOk result (λ e. tree_of e ≡ binding at (patterns bound) (tree_of value) (tree_of body)) }
     {
         let (value, body) = boxed_pair(alloc, value, body)?;
         Ok(Expr {
@@ -305,8 +285,7 @@ impl Expr {
         triggers: Option<TriggerTree>,
         body: Expr,
     ) -> Result<Expr, AllocError>
-        ensures tree { IfOk result (λ e. tree_of e ≡ quantified forall (map binder_of binders) (trigger (option_map terms_of triggers)) (tree_of body)) }
-        ensures places { IfOk result (λ e. places_of e ≡ at.first ∷ at.main ∷ binders_places_of binders ++ (unwrap_or (option_map trigger_places_of triggers) [] ++ places_of body)) }
+        ensures { IfOk result (λ e. tree_of e ≡ quantified at forall (map binder_of binders) (trigger (option_map terms_of triggers)) (tree_of body)) }
     {
         let body = Boxed::new(alloc, body)?;
         Ok(Expr {
@@ -318,10 +297,9 @@ impl Expr {
 
 impl BranchTree {
     /// A branch of a `match`.
-    #[tactic(auto, using(crate::proofs::TreeLemmas::fields, crate::proofs::PlaceLemmas::placed_parts))]
+    #[tactic(auto, using(crate::proofs::TreeLemmas::fields))]
     pub fn new(of: Seq<Seq<Pat>>, body: Expr) -> BranchTree
-        ensures tree { arm_of result ≡ record { alternatives = alternatives of; body = tree_of body } }
-        ensures places { branch_places_of result ≡ alternatives_places_of of ++ places_of body }
+        ensures { arm_of result ≡ record { alternatives = alternatives of; body = tree_of body } }
     {
         BranchTree {
             alternatives: of,
@@ -332,10 +310,9 @@ impl BranchTree {
 
 impl TriggerTree {
     /// Triggers; `bars` says of each separator whether it is `|`.
-    #[tactic(auto, using(crate::proofs::TreeLemmas::fields, crate::proofs::PlaceLemmas::placed_parts))]
+    #[tactic(auto, using(crate::proofs::TreeLemmas::fields))]
     pub fn new(terms: Seq<Expr>, bars: Seq<bool>) -> TriggerTree
-        ensures tree { terms_of result ≡ record { terms = trees (map tree_of terms); bars = bars } }
-        ensures places { trigger_places_of result ≡ concat (map places_of terms) }
+        ensures { terms_of result ≡ record { terms = trees (map tree_of terms); bars = bars } }
     {
         TriggerTree { terms, bars }
     }

@@ -1,5 +1,5 @@
 // Expressions made by hand.
-// They stand on the parts; nothing stands on them.
+// They depend on the parts; nothing depends on them.
 use crate::parts::{HERE, atom, called, name, one, operator, text, two, writes};
 use outside::Seq;
 use std::alloc::Global;

@@ -1,5 +1,5 @@
 //! Tests of the surface trees: trees made by hand have tokens of the kinds of those of a text.
-//! It stands on the surface trees and the tokens, and nothing stands on it.
+//! It depends on the surface trees and the tokens, and nothing depends on it.
 #![tactic(auto)]
 
 #[cfg(test)]

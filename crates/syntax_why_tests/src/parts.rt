@@ -1,11 +1,11 @@
 // Parts of trees, made with ample memory, and the comparison of a tree with a text.
-// They stand on `unparse_expr` and the tokens; the tables of expressions stand on them.
+// They depend on `unparse` and the tokens; the tables of expressions depend on them.
 use outside::{Seq, Text};
 use std::alloc::Global;
 use std::process::Abort;
-use syntax_why::{At, Expr, Name, OpName, QName, Style};
+use syntax_why::{At, DeclTree, Expr, File, Name, OpName, PropKind, QName, Style, TheoryTree};
 use tokens_why::{TokenKind, lex};
-use unparse_why::unparse_expr;
+use unparse_why::unparse;
 
 /// The place that trees here carry; their writing asks for none.
 pub const HERE: At = At { first: 0, main: 0 };
@@ -71,9 +71,25 @@ fn compare(rt: &impl Abort, alloc: Global, kinds: &[TokenKind], of: &str) {
     }
 }
 
-/// Whether the tokens of an expression have the kinds of those of a text.
-pub fn writes(rt: &impl Abort, alloc: Global, tree: Expr, of: &str) {
-    let kinds = unparse_expr(alloc, &tree).expect(rt, "memory");
-    drop(tree);
-    compare(rt, alloc, &kinds, of);
+/// The source of one goal.
+fn source(rt: &impl Abort, alloc: Global, goal: Expr) -> File {
+    let goal = DeclTree::prop(HERE, PropKind::Goal, name(rt, alloc, "g"), goal);
+    let theory = TheoryTree {
+        at: HERE,
+        module: false,
+        name: name(rt, alloc, "T"),
+        decls: one(rt, alloc, goal),
+    };
+    File {
+        theories: one(rt, alloc, theory),
+    }
+}
+
+/// Whether the tokens of the source of one goal have the kinds of those of a text.
+pub fn writes(rt: &impl Abort, alloc: Global, goal: Expr, of: &str) {
+    let file = source(rt, alloc, goal);
+    let kinds = unparse(alloc, &file).expect(rt, "memory");
+    drop(file);
+    let text = format!(in alloc; "theory T goal g: {of} end").expect(rt, "memory");
+    compare(rt, alloc, &kinds, text.as_str());
 }

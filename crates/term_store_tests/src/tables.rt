@@ -1,47 +1,18 @@
 // Nodes added to a store, and what each query answers of them.
 // They go through the calls of `term_store`; nothing stands on them.
 use std::process::Abort;
-use std::test::Fail;
-use term_store::plain::PlainStore;
 use term_store::{Grow, Store};
 use trees::{Node, Op, Sort, TermId};
 
 // Adds a node that fits.
-fn put(rt: &impl Abort, store: &mut Store, node: Node) -> Result<TermId, Fail> {
+fn put(rt: &impl Abort, store: &mut Store, node: Node) -> TermId {
     assert!(rt; store.accepts(node), "{node:?}");
-    Ok(store.add(node)?)
-}
-
-// What the queries answer of one tree.
-#[derive(Clone, Copy, Debug, PartialEq, Eq)]
-struct Answers {
-    sort: Sort,
-    size: u64,
-    height: u64,
-    loose: usize,
-    variables: usize,
-    ty: Option<TermId>,
-}
-
-fn ask(rt: &impl Abort, store: &Store, id: TermId) -> Answers {
-    assert!(rt; store.holds(id));
-    Answers {
-        sort: store.sort(id),
-        size: store.size(id),
-        height: store.height(id),
-        loose: store.loose(id),
-        variables: store.pattern_variables(id),
-        ty: store.ty(id),
-    }
+    store.add(node).expect(rt, "memory")
 }
 
 // A node, and sort, size, height, loose depth, variables and type of its tree. The numbers of its children are those of the
 // rows before it.
 type Row = (Node, Sort, u64, u64, usize, usize, Option<TermId>);
-
-static END: TermId = TermId(0);
-
-static INT: TermId = TermId(1);
 
 static ROWS: [Row; 17] = [
     (Node::End, Sort::List, 1, 1, 0, 0, None),
@@ -175,24 +146,50 @@ static ROWS: [Row; 17] = [
     ),
 ];
 
-#[test]
-fn answers_of_each_tree(rt: HostRuntime) -> Result<(), Fail> {
-    let mut store = Store::new(rt.alloc())?;
+// Whether the queries answer of a tree what the row says.
+fn answers(store: &Store, id: TermId, row: Row) -> bool {
+    let (node, sort, size, height, loose, variables, ty) = row;
+    store.holds(id)
+        && store.node(id) == node
+        && store.sort(id) == sort
+        && store.size(id) == size
+        && store.height(id) == height
+        && store.loose(id) == loose
+        && store.pattern_variables(id) == variables
+        && store.ty(id) == ty
+}
+
+fn answers_of_each_tree(rt: &impl Abort, store: &mut Store) {
     for (i, row) in ROWS.iter().enumerate() {
-        let (node, sort, size, height, loose, variables, ty) = *row;
-        let id = put(&rt, &mut store, node)?;
-        assert_eq!(rt; id.0, i);
-        let wanted = Answers {
-            sort,
-            size,
-            height,
-            loose,
-            variables,
-            ty,
-        };
-        assert_eq!(rt; ask(&rt, &store, id), wanted, "{i}");
+        let id = put(rt, store, row.0);
+        assert!(rt; id.0 == i && answers(store, id, *row), "{i}");
     }
-    Ok(())
+}
+
+// Nodes over the rows above, and the numbers above their type variables and parameters.
+static ABOVE: [(Node, usize, usize); 8] = [
+    (Node::TyApp(0, TermId(0)), 0, 0), // 1  int
+    (Node::TyVar(2), 3, 0), // 17 the type variable 2
+    (Node::TyVar(usize::MAX), usize::MAX, 0), // 18 the greatest type variable
+    (Node::Param(4, TermId(1)), 0, 5), // 19 c4 : int
+    (Node::Param(3, TermId(17)), 3, 4), // 20 c3 : the type variable 2
+    (Node::Eq(TermId(19), TermId(20)), 3, 5), // 21 c4 = c3
+    (Node::Forall(TermId(17), TermId(21)), 3, 5), // 22 forall. c4 = c3
+    (Node::Param(usize::MAX, TermId(1)), 0, usize::MAX), // 23 the greatest parameter
+];
+
+// Whether these numbers are kept above the type variables and the parameters of a tree.
+fn are_above(store: &Store, id: TermId, types: usize, params: usize) -> bool {
+    store.holds(id)
+        && store.above_type_variables(id) == types
+        && store.above_parameters(id) == params
+}
+
+fn numbers_above_variables(rt: &impl Abort, store: &mut Store) {
+    for (node, types, params) in ABOVE.iter() {
+        let id = put(rt, store, *node);
+        assert!(rt; are_above(store, id, *types, *params), "{node:?}");
+    }
 }
 
 // Nodes over the rows above that do not fit.
@@ -213,97 +210,43 @@ static REFUSED: [Node; 14] = [
     Node::Not(TermId(1000)),
 ];
 
-#[test]
-fn refuses_nodes_that_do_not_fit(rt: HostRuntime) -> Result<(), Fail> {
-    let mut store = Store::new(rt.alloc())?;
-    for row in ROWS.iter() {
-        put(&rt, &mut store, row.0)?;
+// Conjunctions of a tree with itself, whose nodes count as often as they occur.
+fn counts_shared_parts(rt: &impl Abort, store: &mut Store) {
+    let mut last = put(rt, store, Node::True);
+    let mut size = 1_u64;
+    for levels in 1..74_u64 {
+        last = put(rt, store, Node::Join(Op::And, last, last));
+        size = size.saturating_mul(2).saturating_add(1);
+        assert!(rt; store.holds(last));
+        assert!(rt; store.height(last) == levels + 1 && store.size(last) == size);
     }
+    assert!(rt; size == u64::MAX);
+}
+
+// Adds literals that are new at first, from a number on.
+fn add_literals(rt: &impl Abort, store: &mut Store, first: TermId) {
+    for literal in 0..1048576 {
+        let id = store
+            .add(Node::Num((literal + 8) as i128))
+            .expect(rt, "memory");
+        assert!(rt; first.0.checked_add(literal) == Some(id.0));
+    }
+}
+
+#[test]
+fn answers_of_trees(rt: HostRuntime) {
+    let mut store = Store::new(rt.alloc()).expect(&rt, "memory");
+    let (end, int) = (TermId(0), store.int_type());
+    assert!(rt; int == TermId(1) && store.holds(end) && !store.holds(TermId(2)));
+    assert!(rt; store.same(int, int) && !store.same(int, end));
+    assert!(rt; store.binders(Node::Forall(int, end), int) == 1);
+    answers_of_each_tree(&rt, &mut store);
     for node in REFUSED.iter() {
         assert!(rt; !store.accepts(*node), "{node:?}");
     }
-    Ok(())
-}
-
-#[test]
-fn asks_a_store(rt: HostRuntime) -> Result<(), Fail> {
-    let store = Store::new(rt.alloc())?;
-    let (end, int) = (END, INT);
-    assert!(rt; store.holds(end) && store.holds(int) && !store.holds(TermId(2)));
-    assert_eq!(rt; store.int_type(), int);
-    assert_eq!(rt; store.node(int), Node::TyApp(0, end));
-    assert!(rt; store.same(int, int) && !store.same(int, end));
-    assert_eq!(rt; store.binders(Node::Forall(int, end), int), 1);
-    Ok(())
-}
-
-#[test]
-fn counts_shared_parts_as_often_as_they_occur(rt: HostRuntime) -> Result<(), Fail> {
-    let mut store = Store::new(rt.alloc())?;
-    let mut last = put(&rt, &mut store, Node::True)?;
-    for _ in 0..3 {
-        last = put(&rt, &mut store, Node::Join(Op::And, last, last))?;
-    }
-    let row = ask(&rt, &store, last);
-    assert_eq!(rt; (row.size, row.height), (15, 4));
-    for _ in 0..70 {
-        last = put(&rt, &mut store, Node::Join(Op::And, last, last))?;
-    }
-    let row = ask(&rt, &store, last);
-    assert_eq!(rt; (row.size, row.height), (u64::MAX, 74));
-    Ok(())
-}
-
-#[test]
-fn numbers_as_the_plain_list_does(rt: HostRuntime) -> Result<(), Fail> {
-    let mut store = Store::new(rt.alloc())?;
-    let mut plain = PlainStore::new(rt.alloc());
-    for _ in 0..2 {
-        let end = plain.add(Node::End)?;
-        assert_eq!(rt; put(&rt, &mut store, Node::End)?, end);
-        let int = plain.add(Node::TyApp(0, end))?;
-        assert_eq!(rt; put(&rt, &mut store, Node::TyApp(0, end))?, int);
-        let variable = plain.add(Node::PatVar(int))?;
-        assert_eq!(rt; put(&rt, &mut store, Node::PatVar(int))?, variable);
-    }
-    for number in 0..3 {
-        let id = TermId(number);
-        assert!(rt; plain.holds(id) && store.holds(id));
-        assert_eq!(rt; plain.node(id), store.node(id));
-        assert_eq!(rt; plain.size(id), store.size(id));
-        assert_eq!(rt; plain.height(id), store.height(id));
-        assert_eq!(rt; plain.pattern_variables(id), store.pattern_variables(id));
-        assert!(rt; plain.same(id, id));
-    }
-    Ok(())
-}
-
-#[test]
-fn numbers_literals_as_the_plain_list_does(rt: HostRuntime) -> Result<(), Fail> {
-    let mut store = Store::new(rt.alloc())?;
-    let mut plain = PlainStore::new(rt.alloc());
-    let end = plain.add(Node::End)?;
-    plain.add(Node::TyApp(0, end))?;
-    for step in 0..300_usize {
-        let node = Node::Num((step % 97) as i128);
-        let kept = store.add(node)?;
-        assert_eq!(rt; plain.add(node)?, kept, "{step}");
-    }
-    Ok(())
-}
-
-// Adds the literals from 0 on, whose numbers come after those of the empty list and of `int`.
-fn add_literals(rt: &impl Abort, store: &mut Store) -> Result<(), Fail> {
-    for literal in 0..1048576 {
-        let id = store.add(Node::Num(literal as i128))?;
-        assert_eq!(rt; id.0, literal + 2);
-    }
-    Ok(())
-}
-
-#[test]
-fn keeps_a_million_literals_once(rt: HostRuntime) -> Result<(), Fail> {
-    let mut store = Store::new(rt.alloc())?;
-    add_literals(&rt, &mut store)?;
-    add_literals(&rt, &mut store)
+    numbers_above_variables(&rt, &mut store);
+    counts_shared_parts(&rt, &mut store);
+    let first = put(&rt, &mut store, Node::Num(8));
+    add_literals(&rt, &mut store, first);
+    add_literals(&rt, &mut store, first);
 }

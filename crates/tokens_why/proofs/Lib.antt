@@ -1,4 +1,5 @@
 pub mod Lists
+pub mod KindLemmas
 pub mod GapLemmas
 pub mod NumberLemmas
 pub mod LongestLemmas

@@ -3,6 +3,7 @@ pub mod Classes
 pub mod Gap
 pub mod Literal
 pub mod Longest
+pub mod Operators
 pub mod Reserved
 pub mod Strings
 pub mod Terminals

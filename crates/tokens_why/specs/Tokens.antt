@@ -5,6 +5,7 @@ use Rattle.tokens_why.specs.Gap.{opens_comment, opens_attribute, next}
 use Rattle.tokens_why.specs.Strings.{kind_of}
 use Rattle.tokens_why.specs.Literal.{literal_value, greatest}
 use Rattle.tokens_why.specs.declared.token.Token.{Token}
+use Rattle.tokens_why.specs.declared.token.TokenKind.{TokenKind}
 use Rattle.tokens_why.specs.declared.token.TokenKind.TheVariants as tk
 use Rattle.tokens_why.specs.declared.fault.LexFault.{LexFault}
 use Rattle.tokens_why.specs.declared.fault.LexFault.TheVariants as fault
@@ -20,6 +21,11 @@ pub record IsToken (text : List ℕ) (t : Token) : Type 0 where
   pub within : t.end ≤ length text
   pub kind : kind_of (text_of text t) ≡ Some t.kind
   pub longest : (e : ℕ) → t.end < e → e ≤ length text → kind_of (slice_range text t.start e) ≡ None
+
+-- A string that is a token of some text.
+pub record IsString (kind : TokenKind) (w : List ℕ) : Type 0 where
+  pub is : kind_of w ≡ Some kind
+  pub fits : kind ≡ tk.Int → literal_value w ≤ greatest
 
 -- no literal exceeds the greatest value
 abbrev pub Fits : List ℕ → Token → Type 0

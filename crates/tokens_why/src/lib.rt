@@ -1,5 +1,5 @@
 //! The tokens of a Why3 source: `lex` cuts a text into them or names the least byte that fits none.
-//! It stands on the word tables, and under the surface trees and the parser.
+//! It depends on the word tables; the surface trees and the readers depend on it.
 #![tactic(auto)]
 
 mod bytes;
@@ -17,6 +17,6 @@ mod whole;
 pub use fault::LexFault;
 pub use lexer::lex;
 pub use literals::literal_value;
-pub use terminal::{Terminal, classify};
+pub use terminal::{Terminal, classify, token_kind, token_kinds};
 pub use token::{Token, TokenKind};
-pub use whole::kind_of_text;
+pub use whole::{is_star, kind_of_text, terminal_of_text};

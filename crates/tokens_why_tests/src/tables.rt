@@ -2,7 +2,7 @@
 // They stand on the lexer; nothing stands on them.
 use std::alloc::Global;
 use std::process::Abort;
-use tokens_why::{LexFault, Terminal, TokenKind, classify, lex, literal_value};
+use tokens_why::{LexFault, Terminal, TokenKind, classify, lex, literal_value, token_kind};
 
 const MEMORY: &str = "out of memory";
 
@@ -202,6 +202,7 @@ fn terminals(rt: HostRuntime) {
     ];
     for (kind, wanted) in rows {
         assert_eq!(rt; classify(kind), wanted);
+        assert_eq!(rt; classify(token_kind(wanted)), wanted);
     }
 }
 

@@ -9,10 +9,8 @@ use Rattle.trees.specs.Binding.{inst_types}
 use Rattle.tasks.specs.Task.{TaskTree, Proposition, props}
 use Rattle.tasks.specs.Valid.{IsValid, IsTypeOver, IsGroundFormula}
 use Rattle.tasks.specs.Meaning.{trees_at}
-use Rattle.trees.specs.Facts.{IndicesFit}
-use Rattle.trees.proofs.Sizes.{sorted_fits}
 use Rattle.binders.specs.Visits.{HoldTypes}
-use Rattle.tasks.proofs.TypeInstances.{typed_sorted, proposition_at_types}
+use Rattle.tasks.proofs.TypeInstances.{proposition_at_types}
 use Rattle.tasks.proofs.Growth.{trees_later}
 use Rattle.kernel.specs.Trees.{RFact}
 use Rattle.kernel.specs.Rows.{IsRight, sequents}
@@ -53,11 +51,6 @@ fact_types d k ids h f = held_types d.task d.trees ids h f.ground
 
 fact_ground : (d : DraftTree) (k : ℕ) (types : List Tree) → IsValid d.task → IsFact d.task d.task k types → IsGroundFormula d.task (fact_of d.task k types)
 fact_ground d k types v f = proposition_at_types d.task v k no_proposition f.place types f.ground f.as_many
-
--- an instance of a proposition of a valid task is well sorted
-pub fact_fits : (d : DraftTree) (k : ℕ) (types : List Tree) (formula : Tree) → IsValid d.task → IsFact d.task d.task k types → (prop_or (props d.task) k).formula ≡ formula → IndicesFit (inst_types formula types)
-fact_fits d k types formula v f is =
-    subst (λ (z : Tree). IndicesFit (inst_types z types)) is (sorted_fits (fact_of d.task k types) (typed_sorted d.task [] (fact_of d.task k types) (fact_ground d k types v f).typed))
 
 -- the number of an instance of a proposition of a valid task
 pub fact_formula : (d d1 : DraftTree) (x : Extends d d1) (k : ℕ) (types : List Tree) (id : TermId) → IsValid d.task → IsFact d.task d.task k types → Holds d1.trees id → tree_at d1.trees id ≡ fact_of d.task k types → IsFormulaAt d1 id

@@ -88,6 +88,6 @@ pub(crate) fn base_lemma(
     ensures language { StaysIn (λ p. RespectsNegation p × IsIn p (fact_of draft.old.task prop (trees_at draft.old.trees types.now)) × AreIn p (trees_at draft.old.trees types.now)) draft.old draft.new }
     ensures grows { Extends draft.old draft.new }
 {
-    let fact = inst_types(draft, formula, types)?;
+    let fact = inst_types(draft.allocator(), draft, formula, types)?;
     lemma_of(draft, fact, prop, types)
 }

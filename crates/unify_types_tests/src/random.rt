@@ -1,9 +1,8 @@
 // Random systems of equations, against a plain unifier that walks trees and takes the equations from the last on.
 // They stand on the tables; nothing stands on them.
-use crate::tables::{answer, applied, variable};
+use crate::tables::{MEMORY, answer, applied, variable};
 use std::alloc::Global;
 use std::process::Abort;
-use std::test::Fail;
 use term_store::Store;
 use trees::{Node, TermId};
 use unify_types::UnifyFault;
@@ -20,34 +19,29 @@ fn random(seed: &mut u64, bound: u64) -> u64 {
 }
 
 // One of some types.
-fn any(seed: &mut u64, types: &[TermId]) -> Result<TermId, Fail> {
+fn any(rt: &impl Abort, seed: &mut u64, types: &[TermId]) -> TermId {
     let at = random(seed, 1000) as usize % types.len().max(1);
-    let found = types.get(at).ok_or("no type")?;
-    Ok(*found)
+    let found = types.get(at).expect(rt, "no type");
+    *found
 }
 
 // Variables, a type symbol, and types made of them.
-fn types(
-    rt: &impl Abort,
-    alloc: Global,
-    store: &mut Store,
-    seed: &mut u64,
-) -> Result<Vec<TermId>, Fail> {
+fn types(rt: &impl Abort, alloc: Global, store: &mut Store, seed: &mut u64) -> Vec<TermId> {
     let mut made = Vec::new(alloc);
     for j in 0..VARIABLES {
-        made.push(variable(store, j)?)?;
+        made.push(variable(rt, store, j)).expect(rt, MEMORY);
     }
-    made.push(applied(rt, store, 0, &[])?)?;
+    made.push(applied(rt, store, 0, &[])).expect(rt, MEMORY);
     for _ in 0..6 {
-        let a = any(seed, &made)?;
-        let b = any(seed, &made)?;
+        let a = any(rt, seed, &made);
+        let b = any(rt, seed, &made);
         if random(seed, 3) == 0 {
-            made.push(applied(rt, store, 2, &[a])?)?;
+            made.push(applied(rt, store, 2, &[a])).expect(rt, MEMORY);
         } else {
-            made.push(applied(rt, store, 3, &[a, b])?)?;
+            made.push(applied(rt, store, 3, &[a, b])).expect(rt, MEMORY);
         }
     }
-    Ok(made)
+    made
 }
 
 // What a number stands for, as far as types go.
@@ -72,23 +66,18 @@ fn shape_of(rt: &impl Abort, store: &Store, e: TermId) -> Shape {
 }
 
 // What a type is bound to in the end.
-fn resolve(
-    rt: &impl Abort,
-    store: &Store,
-    bound: &[Option<TermId>],
-    e: TermId,
-) -> Result<TermId, Fail> {
+fn resolve(rt: &impl Abort, store: &Store, bound: &[Option<TermId>], e: TermId) -> TermId {
     let mut at = e;
     for _ in 0..VARIABLES {
         let Shape::Variable(j) = shape_of(rt, store, at) else {
-            return Ok(at);
+            return at;
         };
         let Some(Some(next)) = bound.get(j) else {
-            return Ok(at);
+            return at;
         };
         at = *next;
     }
-    Ok(at)
+    at
 }
 
 // Whether a type variable occurs in a type.
@@ -99,29 +88,29 @@ fn occurs(
     bound: &[Option<TermId>],
     variable: usize,
     e: TermId,
-) -> Result<bool, Fail> {
+) -> bool {
     let mut waiting = Vec::new(alloc);
-    waiting.push(e)?;
+    waiting.push(e).expect(rt, MEMORY);
     for _ in 0..1_000_000 {
         let Some(e) = waiting.pop() else {
-            return Ok(false);
+            return false;
         };
-        let at = resolve(rt, store, bound, e)?;
+        let at = resolve(rt, store, bound, e);
         match shape_of(rt, store, at) {
             Shape::Variable(j) => {
                 if j == variable {
-                    return Ok(true);
+                    return true;
                 }
             }
-            Shape::Applied(_, list) => waiting.push(list)?,
+            Shape::Applied(_, list) => waiting.push(list).expect(rt, MEMORY),
             Shape::Cell(first, rest) => {
-                waiting.push(first)?;
-                waiting.push(rest)?;
+                waiting.push(first).expect(rt, MEMORY);
+                waiting.push(rest).expect(rt, MEMORY);
             }
             Shape::End | Shape::Other => {}
         }
     }
-    Err("an endless type")?
+    panic!(rt; "an endless type")
 }
 
 // Binds an unknown, unless it occurs in the type.
@@ -132,14 +121,14 @@ fn bind(
     bound: &mut [Option<TermId>],
     unknown: usize,
     e: TermId,
-) -> Result<bool, Fail> {
-    if occurs(rt, alloc, store, bound, unknown, e)? {
-        return Ok(false);
+) -> bool {
+    if occurs(rt, alloc, store, bound, unknown, e) {
+        return false;
     }
     if let Some(place) = bound.get_mut(unknown) {
         *place = Some(e);
     }
-    Ok(true)
+    true
 }
 
 // Makes two types the same, where that can be.
@@ -149,36 +138,36 @@ fn unify_plainly(
     store: &Store,
     bound: &mut [Option<TermId>],
     pair: (TermId, TermId),
-) -> Result<bool, Fail> {
+) -> bool {
     let mut waiting = Vec::new(alloc);
-    waiting.push(pair)?;
+    waiting.push(pair).expect(rt, MEMORY);
     for _ in 0..1_000_000 {
         let Some((left, right)) = waiting.pop() else {
-            return Ok(true);
+            return true;
         };
-        let a = resolve(rt, store, bound, left)?;
-        let b = resolve(rt, store, bound, right)?;
+        let a = resolve(rt, store, bound, left);
+        let b = resolve(rt, store, bound, right);
         let same = match (shape_of(rt, store, a), shape_of(rt, store, b)) {
             (Shape::Variable(j), Shape::Variable(k)) if j == k => true,
-            (Shape::Variable(j), _) if j >= RIGID => bind(rt, alloc, store, bound, j, b)?,
-            (_, Shape::Variable(k)) if k >= RIGID => bind(rt, alloc, store, bound, k, a)?,
+            (Shape::Variable(j), _) if j >= RIGID => bind(rt, alloc, store, bound, j, b),
+            (_, Shape::Variable(k)) if k >= RIGID => bind(rt, alloc, store, bound, k, a),
             (Shape::Applied(f, xs), Shape::Applied(g, ys)) => {
-                waiting.push((xs, ys))?;
+                waiting.push((xs, ys)).expect(rt, MEMORY);
                 f == g
             }
             (Shape::Cell(x, xs), Shape::Cell(y, ys)) => {
-                waiting.push((x, y))?;
-                waiting.push((xs, ys))?;
+                waiting.push((x, y)).expect(rt, MEMORY);
+                waiting.push((xs, ys)).expect(rt, MEMORY);
                 true
             }
             (Shape::End, Shape::End) => true,
             _ => false,
         };
         if !same {
-            return Ok(false);
+            return false;
         }
     }
-    Err("an endless equation")?
+    panic!(rt; "an endless equation")
 }
 
 // What the first equations bind, from the last of them on; none where they have no solution.
@@ -188,17 +177,17 @@ fn bindings(
     store: &Store,
     pairs: &[(TermId, TermId)],
     count: usize,
-) -> Result<Option<Vec<Option<TermId>>>, Fail> {
+) -> Option<Vec<Option<TermId>>> {
     let mut bound = Vec::new(alloc);
     for _ in 0..VARIABLES {
-        bound.push(None)?;
+        bound.push(None).expect(rt, MEMORY);
     }
     for pair in pairs.iter().take(count).rev() {
-        if !unify_plainly(rt, alloc, store, &mut bound, *pair)? {
-            return Ok(None);
+        if !unify_plainly(rt, alloc, store, &mut bound, *pair) {
+            return None;
         }
     }
-    Ok(Some(bound))
+    Some(bound)
 }
 
 // A type written out; none where an unknown is left in it.
@@ -208,36 +197,36 @@ fn written(
     store: &Store,
     bound: &[Option<TermId>],
     e: TermId,
-) -> Result<Option<Vec<usize>>, Fail> {
+) -> Option<Vec<usize>> {
     let mut text = Vec::new(alloc);
     let mut waiting = Vec::new(alloc);
-    waiting.push(e)?;
+    waiting.push(e).expect(rt, MEMORY);
     for _ in 0..1_000_000 {
         let Some(e) = waiting.pop() else {
-            return Ok(Some(text));
+            return Some(text);
         };
-        let at = resolve(rt, store, bound, e)?;
+        let at = resolve(rt, store, bound, e);
         match shape_of(rt, store, at) {
             Shape::Variable(j) => {
                 if j >= RIGID {
-                    return Ok(None);
+                    return None;
                 }
-                text.push(0)?;
+                text.push(0).expect(rt, MEMORY);
             }
             Shape::Applied(symbol, list) => {
-                text.push(1)?;
-                text.push(symbol)?;
-                waiting.push(list)?;
+                text.push(1).expect(rt, MEMORY);
+                text.push(symbol).expect(rt, MEMORY);
+                waiting.push(list).expect(rt, MEMORY);
             }
             Shape::Cell(first, rest) => {
-                text.push(2)?;
-                waiting.push(rest)?;
-                waiting.push(first)?;
+                text.push(2).expect(rt, MEMORY);
+                waiting.push(rest).expect(rt, MEMORY);
+                waiting.push(first).expect(rt, MEMORY);
             }
-            Shape::End | Shape::Other => text.push(3)?,
+            Shape::End | Shape::Other => text.push(3).expect(rt, MEMORY),
         }
     }
-    Err("an endless type")?
+    panic!(rt; "an endless type")
 }
 
 // How many systems clash, and how many unknowns have a value.
@@ -248,61 +237,56 @@ struct Counts {
 }
 
 // Compares the answers to one system.
-fn compare(
-    rt: &impl Abort,
-    alloc: Global,
-    seed: &mut u64,
-    counts: &mut Counts,
-) -> Result<(), Fail> {
-    let mut store = Store::new(alloc)?;
-    let all = types(rt, alloc, &mut store, seed)?;
+fn compare(rt: &impl Abort, alloc: Global, seed: &mut u64, counts: &mut Counts) {
+    let mut store = Store::new(alloc).expect(rt, MEMORY);
+    let all = types(rt, alloc, &mut store, seed);
     let mut pairs = Vec::new(alloc);
     for _ in 0..random(seed, 4).saturating_add(1) {
-        pairs.push((any(seed, &all)?, any(seed, &all)?))?;
+        pairs
+            .push((any(rt, seed, &all), any(rt, seed, &all)))
+            .expect(rt, MEMORY);
     }
     let mut clash = None;
     for k in 0..pairs.len() {
-        if clash.is_none() && bindings(rt, alloc, &store, &pairs, k + 1)?.is_none() {
+        if clash.is_none() && bindings(rt, alloc, &store, &pairs, k + 1).is_none() {
             clash = Some(k);
         }
     }
-    let solution = match answer(rt, alloc, &mut store, RIGID, &pairs)? {
+    let solution = match answer(rt, alloc, &mut store, RIGID, &pairs) {
         Ok(solution) => solution,
         Err(UnifyFault::Clash { k }) => {
             assert_eq!(rt; clash, Some(k));
             counts.clashes = counts.clashes.saturating_add(1);
-            return Ok(());
+            return;
         }
-        Err(UnifyFault::Memory) => Err("no memory")?,
+        Err(UnifyFault::Memory) => panic!(rt; "no memory"),
     };
     assert_eq!(rt; clash, None);
-    let bound = bindings(rt, alloc, &store, &pairs, pairs.len())?.ok_or("a clash")?;
+    let bound = bindings(rt, alloc, &store, &pairs, pairs.len()).expect(rt, "a clash");
     for u in RIGID..VARIABLES {
-        let unknown = variable(&mut store, u)?;
-        let expected = written(rt, alloc, &store, &bound, unknown)?;
+        let unknown = variable(rt, &mut store, u);
+        let expected = written(rt, alloc, &store, &bound, unknown);
         let found = match solution.value(u) {
             Some(value) => {
                 counts.values = counts.values.saturating_add(1);
-                written(rt, alloc, &store, &[], value)?
+                written(rt, alloc, &store, &[], value)
             }
             None => None,
         };
         assert!(rt; expected == found);
     }
-    Ok(())
 }
 
 #[test]
-fn random_systems_are_solved_as_a_plain_unifier_does(rt: HostRuntime) -> Result<(), Fail> {
+fn random_systems_are_solved_as_a_plain_unifier_does(rt: HostRuntime) {
     let mut seed = 2026;
     let mut counts = Counts {
         clashes: 0,
         values: 0,
     };
     for _ in 0..3000 {
-        compare(&rt, rt.alloc(), &mut seed, &mut counts)?;
+        compare(&rt, rt.alloc(), &mut seed, &mut counts);
     }
     assert!(rt; counts.clashes > 300);
     assert!(rt; counts.values > 300);
-    Ok(())
 }

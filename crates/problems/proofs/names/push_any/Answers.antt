@@ -1,16 +1,12 @@
-use Rattle.std.proofs.Common.{◌∙◌, sym, ap, List}
+use Rattle.std.proofs.Common.{◌∙◌, ap, List, ℕ}
 use Rattle.std.proofs.lemmas.Result.{IfOk-weaker}
-use Rattle.tasks.specs.declared.declaration.Def.{Def}
-use Rattle.problems.specs.Named.{PushesSymbols, members_of}
-use Rattle.problems.proofs.Tables.{Added, makes_members}
+use Rattle.problems.specs.Named.{PushesSymbols}
+use Rattle.problems.proofs.Tables.{Added}
 use Rattle.problems.proofs.names.push_any.Goals as goal
 
-pub returns-in-Defs : goal.returns-in-Defs
-returns-in-Defs c =
+pub returns : goal.returns
+returns c =
     let t = c.args.task.now in
     let old = c.args.names.now.items in
-    let new = c.push_members.new.names.items in
-    rw c.in-Defs.is
-    (IfOk-weaker c.push_members.result (λ _. PushesSymbols t (members_of c.as_slice.result.now) old new) _
-    (λ _ p s. p s ∙ ap (λ (ds : List Def). Added t s old (members_of ds)) c.as_slice.ensures ∙ ap (Added t s old) (sym (makes_members s c.in-Defs.defs)))
-    c.push_members.ensures)
+    IfOk-weaker c.push_symbols.result (λ _. PushesSymbols t c.as_slice.result.now old c.push_symbols.new.names.items) _
+    (λ _ p s. p s ∙ ap (λ (ks : List ℕ). Added t s old ks) (c.as_slice.ensures.value ∙ c.in_ok-symbols.ensures s)) c.push_symbols.ensures

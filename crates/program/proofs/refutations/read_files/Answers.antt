@@ -10,8 +10,12 @@ use Rattle.program.specs.Lifted.{IsRefutation, AreRefuted}
 use Rattle.program.specs.Answers.{Answers}
 use Rattle.program.specs.Order.{PartFile, FirstFiles}
 use Rattle.program.specs.declared.status.RunFault.{RunFault}
-use Rattle.program.proofs.Files.{part_later, part_entries, handed_later, handed_held, handed_more, held_more, refuted_more, name_at, files_more, files_stop}
+use Rattle.program.proofs.Files.{part_later, part_held, part_entries, handed_later, handed_held, handed_more, held_more, refuted_more, name_at, files_more, files_stop}
 use Rattle.program.proofs.refutations.read_files.Goals as goal
+
+pub read_file-requires-clause-held : goal.read_file-requires-clause-held
+read_file-requires-clause-held g c =
+    part_held c.args.store.now c.loop-place.store c.loop-place.invariant.grows c.args.parts.now c.loop-place.place c.index-parts-place.result c.index-parts-place.is c.loop-place-test.true c.requires.held
 
 pub read_file-requires-clause-entries : goal.read_file-requires-clause-entries
 read_file-requires-clause-entries g c =

@@ -1,4 +1,4 @@
-use Rattle.syntax_why.specs.Tree.{tree_of}
+use Rattle.syntax_why.specs.Surface.{tree_of}
 use Rattle.propositional.proofs.Sizes.{size_of}
 use Rattle.propositional.proofs.surface.+is_formula.Given as goal
 

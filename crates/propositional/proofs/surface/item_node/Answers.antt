@@ -4,41 +4,41 @@ use Rattle.syntax_why.specs.declared.names.Style.TheVariants.{Plain}
 use Rattle.syntax_why.specs.declared.expressions.Expr.{Expr}
 use Rattle.syntax_why.specs.declared.declarations.ParamTree.{ParamTree}
 use Rattle.syntax_why.specs.declared.declarations.MemberTree.{MemberTree}
-use Rattle.syntax_why.specs.Tree.{called, tree_of}
-use Rattle.syntax_why.specs.Declarations.{declared_name, plain_name, param_of, member_of}
+use Rattle.syntax_why.specs.Surface.{own_of, tree_of}
+use Rattle.syntax_why.specs.SurfaceDeclarations.{declared_name, plain_name, param_of, member_of}
 use Rattle.syntax_why.proofs.DeclLemmas.{decl_of-TypeDecl, decl_of-Algebraic, decl_of-Function, decl_of-Constant, decl_of-Inductive, decl_of-UseTheory, decl_of-CloneTheory, decl_of-ScopeDecl}
-use Rattle.propositional.specs.Fragment.{Item, declares, lower_of, id_of, declares_at, item_at}
+use Rattle.propositional.specs.Fragment.{Item, declares, lower_of, id_of, id_own, declares_if, item_of}
 use Rattle.propositional.specs.Readers.{only_if}
 use Rattle.propositional.proofs.SurfaceLemmas.{predicate_node, not_predicate, claim_node, not_named, not_formula}
 use Rattle.propositional.proofs.surface.item_node.Goals as goal
 use Rattle.propositional.proofs.surface.item_node.Goals.{else-is_id-via-then-is_id+else-is_formula, else-is_id-via-else-is_id}
 
 pub returns-in-TypeDecl : goal.returns-in-TypeDecl
-returns-in-TypeDecl c = λ i. ap (item_at i) (decl_of-TypeDecl c.args.decl.now _ _ _ c.in-TypeDecl.is)
+returns-in-TypeDecl c = ap item_of (decl_of-TypeDecl c.args.decl.now _ _ _ c.in-TypeDecl.is)
 
 pub returns-in-Algebraic : goal.returns-in-Algebraic
-returns-in-Algebraic c = λ i. ap (item_at i) (decl_of-Algebraic c.args.decl.now _ c.in-Algebraic.is)
+returns-in-Algebraic c = ap item_of (decl_of-Algebraic c.args.decl.now _ c.in-Algebraic.is)
 
 pub returns-in-Function : goal.returns-in-Function
-returns-in-Function c = λ i. ap (item_at i) (decl_of-Function c.args.decl.now _ _ _ _ _ c.in-Function.is)
+returns-in-Function c = ap item_of (decl_of-Function c.args.decl.now _ _ _ _ _ c.in-Function.is)
 
 pub returns-in-Constant : goal.returns-in-Constant
-returns-in-Constant c = λ i. ap (item_at i) (decl_of-Constant c.args.decl.now _ _ _ c.in-Constant.is)
+returns-in-Constant c = ap item_of (decl_of-Constant c.args.decl.now _ _ _ c.in-Constant.is)
 
 pub returns-in-Inductive : goal.returns-in-Inductive
-returns-in-Inductive c = λ i. ap (item_at i) (decl_of-Inductive c.args.decl.now _ c.in-Inductive.is)
+returns-in-Inductive c = ap item_of (decl_of-Inductive c.args.decl.now _ c.in-Inductive.is)
 
 pub returns-in-UseTheory : goal.returns-in-UseTheory
-returns-in-UseTheory c = λ i. ap (item_at i) (decl_of-UseTheory c.args.decl.now _ _ _ c.in-UseTheory.is)
+returns-in-UseTheory c = ap item_of (decl_of-UseTheory c.args.decl.now _ _ _ c.in-UseTheory.is)
 
 pub returns-in-CloneTheory : goal.returns-in-CloneTheory
-returns-in-CloneTheory c = λ i. ap (item_at i) (decl_of-CloneTheory c.args.decl.now _ _ _ _ c.in-CloneTheory.is)
+returns-in-CloneTheory c = ap item_of (decl_of-CloneTheory c.args.decl.now _ _ _ _ c.in-CloneTheory.is)
 
 pub returns-in-ScopeDecl : goal.returns-in-ScopeDecl
-returns-in-ScopeDecl c = λ i. ap (item_at i) (decl_of-ScopeDecl c.args.decl.now _ _ c.in-ScopeDecl.is)
+returns-in-ScopeDecl c = ap item_of (decl_of-ScopeDecl c.args.decl.now _ _ c.in-ScopeDecl.is)
 
 abbrev says : OpName → List ParamTree → Option Expr → List MemberTree → ℕ → Option Item
-says n ps e ms i = declares_at i (lower_of (declared_name n)) (map param_of ps) (option_map tree_of e) (map member_of ms)
+says n ps e ms i = declares_if i (lower_of (declared_name n)) (map param_of ps) (option_map tree_of e) (map member_of ms)
 
 abbrev Tells : Bool → OpName → List ParamTree → Option Expr → List MemberTree → Type 0
 Tells b n ps e ms = (i : ℕ) → says n ps e ms i ≡ only_if b (declares i n.text)
@@ -62,14 +62,14 @@ returns-else-is_predicate c =
 pub returns-then-is_formula : goal.returns-then-is_formula
 returns-then-is_formula c =
     let n = c.in-Prop.name in
-    let id : id_of (plain_name n) ≡ only_if c.is_id.result n.text = subst (λ (v : List ℕ). id_of (called [] Plain v) ≡ only_if c.is_id.result v) c.as_slice-in-Prop.ensures c.is_id.ensures in
-    claim_node c.args.decl.now c.in-Prop.kind n c.in-Prop.e c.in-Prop.is (id ∙ ap (λ b. only_if b n.text) c.if-is_id.true) (λ i. sym (c.is_formula.ensures i) ∙ c.if-is_formula.true)
+    let id : id_of (plain_name n) ≡ only_if c.is_id.result n.text = subst (λ (v : List ℕ). id_own [] (own_of Plain v) ≡ only_if c.is_id.result v) c.as_slice-in-Prop.ensures c.is_id.ensures in
+    claim_node c.args.decl.now c.in-Prop.kind n c.in-Prop.e c.in-Prop.is (id ∙ ap (λ b. only_if b n.text) c.if-is_id.true) (sym c.is_formula.ensures ∙ c.if-is_formula.true)
 
 pub returns-else-is_id : goal.returns-else-is_id
 returns-else-is_id c =
     let n = c.in-Prop.name in
-    let id : id_of (plain_name n) ≡ only_if c.is_id.result n.text = subst (λ (v : List ℕ). id_of (called [] Plain v) ≡ only_if c.is_id.result v) c.as_slice-in-Prop.ensures c.is_id.ensures in
+    let id : id_of (plain_name n) ≡ only_if c.is_id.result n.text = subst (λ (v : List ℕ). id_own [] (own_of Plain v) ≡ only_if c.is_id.result v) c.as_slice-in-Prop.ensures c.is_id.ensures in
     elim c.else-is_id.branch [
-      | else-is_id-via-then-is_id+else-is_formula w ↦ not_formula c.args.decl.now c.in-Prop.kind n c.in-Prop.e c.in-Prop.is (λ i. sym (w.is_formula.ensures i) ∙ w.if-is_formula.false)
+      | else-is_id-via-then-is_id+else-is_formula w ↦ not_formula c.args.decl.now c.in-Prop.kind n c.in-Prop.e c.in-Prop.is (sym w.is_formula.ensures ∙ w.if-is_formula.false)
       | else-is_id-via-else-is_id w ↦ not_named c.args.decl.now c.in-Prop.kind n c.in-Prop.e c.in-Prop.is (id ∙ ap (λ b. only_if b n.text) w.if-is_id.false)
     ]

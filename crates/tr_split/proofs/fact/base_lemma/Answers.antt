@@ -9,18 +9,13 @@ use Rattle.tasks.specs.Valid.{IsValid}
 use Rattle.tasks.proofs.Growth.{trees_later, all_held_later}
 use Rattle.evidence.specs.Drafts.{Refutes}
 use Rattle.evidence.specs.Laws.{Extends_trans, AddsTrees_extends}
-use Rattle.tr_split.proofs.Facts.{fact_later, fact_same, fact_types, fact_fits, fact_formula}
+use Rattle.tr_split.proofs.Facts.{fact_later, fact_same, fact_types, fact_formula}
 use Rattle.evidence.specs.Languages.{IsIn, AreIn}
 use Rattle.evidence.proofs.Staying.{stays_same, stays_then}
 use Rattle.tr_split.proofs.fact.base_lemma.Goals as goal
 
 pub inst_types-requires-clause-types : goal.inst_types-requires-clause-types
 inst_types-requires-clause-types c = fact_types c.args.draft.now c.args.prop c.args.types.now c.requires.types_held c.requires.fact
-
-pub inst_types-requires-clause-fits : goal.inst_types-requires-clause-fits
-inst_types-requires-clause-fits c =
-    let d = c.args.draft.now in
-    fact_fits d c.args.prop (trees_at d.trees c.args.types.now) (tree_at d.trees c.args.formula) c.requires.valid c.requires.fact c.requires.is
 
 pub lemma_of-requires-clause-formula : goal.lemma_of-requires-clause-formula
 lemma_of-requires-clause-formula c =

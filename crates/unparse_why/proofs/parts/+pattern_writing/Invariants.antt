@@ -1,11 +1,11 @@
 use Rattle.std.proofs.Common.{◌≡◌, ◌++◌, drop, map}
-use Rattle.syntax_why.specs.Tree.{forms, pattern_of}
-use Rattle.syntax_why.specs.Lexeme.{kinds}
-use Rattle.syntax_why.specs.Write.{form_row, form_list, form_tail}
+use Rattle.syntax_why.specs.Lexeme.{terminals}
+use Rattle.syntax_why.specs.Forms.{form_row, form_list, form_tail}
+use Rattle.syntax_why.specs.Surface.{pattern_of, forms}
 use Rattle.unparse_why.proofs.parts.+pattern_writing.Given as goal
 
 abbrev pub invariant-push_parts-loop-p : goal.invariant-push_parts-loop-p
-invariant-push_parts-loop-p l = l.out.items ++ kinds (form_row (forms (map pattern_of (drop l.p-index l.of)))) ≡ l.fn.out.items ++ kinds (form_row (forms (map pattern_of l.of)))
+invariant-push_parts-loop-p l = l.out.items ++ terminals (form_row (forms (map pattern_of (drop l.p-index l.of)))) ≡ l.fn.out.items ++ terminals (form_row (forms (map pattern_of l.of)))
 
 abbrev pub invariant-push_listed_parts-loop-p : goal.invariant-push_listed_parts-loop-p
-invariant-push_listed_parts-loop-p l = l.out.items ++ kinds (form_tail (forms (map pattern_of (drop l.p-index l.rest)))) ≡ l.fn.out.items ++ kinds (form_list (forms (map pattern_of l.fn.of)))
+invariant-push_listed_parts-loop-p l = l.out.items ++ terminals (form_tail (forms (map pattern_of (drop l.p-index l.rest)))) ≡ l.fn.out.items ++ terminals (form_list (forms (map pattern_of l.fn.of)))

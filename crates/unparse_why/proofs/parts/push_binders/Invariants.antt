@@ -1,8 +1,8 @@
 use Rattle.std.proofs.Common.{◌≡◌, ◌++◌, drop, map}
-use Rattle.syntax_why.specs.Tree.{binder_of}
-use Rattle.syntax_why.specs.Lexeme.{kinds}
-use Rattle.syntax_why.specs.Write.{binder_list, binder_tail}
+use Rattle.syntax_why.specs.Lexeme.{terminals}
+use Rattle.syntax_why.specs.Trees.{binder_tail, binder_list}
+use Rattle.syntax_why.specs.Surface.{binder_of}
 use Rattle.unparse_why.proofs.parts.push_binders.Given as goal
 
 abbrev pub invariant-loop-b : goal.invariant-loop-b
-invariant-loop-b l = l.out.items ++ kinds (binder_tail (map binder_of (drop l.b-index l.rest))) ≡ l.fn.out.items ++ kinds (binder_list (map binder_of l.fn.of))
+invariant-loop-b l = l.out.items ++ terminals (binder_tail (map binder_of (drop l.b-index l.rest))) ≡ l.fn.out.items ++ terminals (binder_list (map binder_of l.fn.of))

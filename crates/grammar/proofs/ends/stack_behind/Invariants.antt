@@ -1,0 +1,6 @@
+use Rattle.std.proofs.Common.{◌≡◌, [], ◌∷◌, Some, take, reverse}
+use Rattle.grammar.specs.Machine.{run}
+use Rattle.grammar.proofs.ends.stack_behind.Given as goal
+
+abbrev pub invariant-loop-x : goal.invariant-loop-x
+invariant-loop-x l = run (l.fn.start ∷ []) (take l.x-index l.tokens) ≡ Some (reverse l.stack.items)

@@ -1,4 +1,0 @@
-pub mod DeclarationMachine
-pub mod SourceMachine
-pub mod Completing
-pub mod Scoping

@@ -1,0 +1,4 @@
+pub mod DeclaredRead
+pub mod ParamsRead
+pub mod BodiesRead
+pub mod DeclaringRead

@@ -1,0 +1,21 @@
+-- The tokens of a source are read as its file.
+use Rattle.std.proofs.Common.{◌≡◌, ◌∙◌, ℕ, false, List, [], ◌∷◌, map, Option, Some, None, ap, sym, subst}
+use Rattle.tokens_why.specs.declared.token.Token.{Token}
+use Rattle.grammar.specs.declared.symbols.Symbol.TheVariants as s
+use Rattle.syntax_why.specs.Lexeme.{lexeme, rest}
+use Rattle.syntax_why.specs.Declarations.{Theory}
+use Rattle.reading.specs.Values.{read}
+use Rattle.recognise_why.specs.Sources.{IsOnlyFile, IsSource}
+use Rattle.parse_decls.specs.Files.{IsFile}
+
+-- the file, if there is one
+abbrev value_or : List Theory → Option (List Theory × Unit {0}) → List Theory
+value_or g None = g
+value_or g (Some v) = v.0
+
+module _ (text : List ℕ) (ts : List Token) (h : IsSource (rest text ts 0)) where
+  pub is_file : IsFile (map (lexeme text) ts)
+  is_file = record { value = (h.file, tt); reads = h.reads }
+
+  pub only_file : (f : List Theory) → read (map (lexeme text) ts) 0 false (s.File ∷ []) ≡ Some (f, tt) → IsOnlyFile (rest text ts 0) f
+  only_file f e = subst (IsOnlyFile (rest text ts 0)) (ap (value_or f) (sym h.reads ∙ e)) h.only

@@ -1,0 +1,25 @@
+use Rattle.std.proofs.Common.{[], ◌∷◌, ◌++◌, map, sym, ap, ◌∙◌, subst}
+use Rattle.std.proofs.lemmas.List.{map-append}
+use Rattle.syntax_why.specs.Lexeme.{name}
+use Rattle.syntax_why.specs.SurfaceDeclarations.{constructor_of}
+use Rattle.parse_terms.specs.Sources.{lexemes}
+use Rattle.parse_decls.specs.Types.{IsConstructors}
+use Rattle.parse_decls.proofs.TypesRead as R
+use Rattle.parse_decls.proofs.types.constructors.Goals as goal
+
+pub more-init : goal.more-init
+more-init c = subst (λ ts. R.Constructors (lexemes c.args.source) c.args.i (map constructor_of ts) c.in_ok-first.j) (sym (c.in_ok-push.ensures.items ∙ ap (λ v. v ++ c.in_ok-first.first ∷ []) c.new-cons.ensures.items))
+    (R.constructors_start (lexemes c.args.source) c.args.i (constructor_of c.in_ok-first.first) c.in_ok-first.j c.in_ok-first.ensures)
+
+pub constructor-requires-in-more : goal.constructor-requires-in-more
+constructor-requires-in-more c = let e = sym c.at.ensures ∙ c.more-test.true in record {
+  name = R.next_name (lexemes c.args.source) c.args.i (map constructor_of c.more.cons.items) c.more.j c.more.invariant e;
+  can = R.next_fields (lexemes c.args.source) c.args.i (map constructor_of c.more.cons.items) c.more.j c.more.invariant e;
+}
+
+pub more-preserved : goal.more-preserved
+more-preserved c = subst (λ ts. R.Constructors (lexemes c.args.source) c.args.i ts c.in_ok-next.end) (sym (ap (map constructor_of) c.in_ok-push-2.ensures.items ∙ map-append constructor_of c.more.cons.items (c.in_ok-next.next ∷ [])))
+    (R.constructors_more (lexemes c.args.source) c.args.i (map constructor_of c.more.cons.items) c.more.j c.more.invariant (sym c.at.ensures ∙ c.more-test.true) (constructor_of c.in_ok-next.next) c.in_ok-next.end c.in_ok-next.ensures)
+
+pub returns : goal.returns
+returns c = subst (λ ts. IsConstructors (lexemes c.args.source) c.args.i (map constructor_of ts) c.more.j) (sym c.from_vec.ensures) (R.constructors_done (lexemes c.args.source) c.args.i (map constructor_of c.more.cons.items) c.more.j c.more.invariant (sym c.at.ensures ∙ c.more-test.false))

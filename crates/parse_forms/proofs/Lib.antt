@@ -1,2 +1,0 @@
-pub mod PatternsOpen
-pub mod TypesOpen

@@ -1,0 +1,11 @@
+-- Patterns of an alternative that were read.
+use Rattle.std.proofs.Common.{◌≡◌, ℕ, List, ◌∷◌}
+use Rattle.syntax_why.specs.Lexeme.{Lexeme}
+use Rattle.syntax_why.specs.Forms.{Form}
+use Rattle.parse_terms.proofs.MatchRead.{Patterned}
+
+pub record Patterning (xs : List Lexeme) (i : ℕ) (fs : List Form) (j : ℕ) : Type 0 where
+  pub first : Form
+  pub others : List Form
+  pub spelled : first ∷ others ≡ fs
+  pub is : Patterned xs i first others j

@@ -1,0 +1,10 @@
+use Rattle.std.proofs.Common.{◌-◌, length}
+use Rattle.parse_terms.specs.Sources.{lexemes}
+use Rattle.parse_terms.proofs.NamesRead.{TypeScopes}
+use Rattle.parse_terms.proofs.names.lower_name.Given as goal
+
+abbrev pub invariant-scopes : goal.invariant-scopes
+invariant-scopes l = TypeScopes (lexemes l.source) l.fn.i l.scopes.items l.j
+
+abbrev pub decreases-scopes : goal.decreases-scopes
+decreases-scopes l = length l.source.tokens.now - l.j

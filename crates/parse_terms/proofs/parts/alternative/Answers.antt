@@ -1,0 +1,34 @@
+use Rattle.std.proofs.Common.{[], ◌∷◌, ◌++◌, map, sym, ap, ◌∙◌, subst}
+use Rattle.std.proofs.lemmas.List.{map-append}
+use Rattle.grammar.specs.declared.symbols.Symbol.TheVariants as s
+use Rattle.syntax_why.specs.Surface.{forms, pattern_of, patterns}
+use Rattle.parse_terms.specs.Sources.{lexemes}
+use Rattle.parse_terms.specs.Terms.{IsAlternative}
+use Rattle.parse_terms.proofs.MatchRead as M
+use Rattle.parse_terms.proofs.parts.alternative.Goals as goal
+
+pub pattern-requires : goal.pattern-requires
+pattern-requires c = record { within = c.requires.within; behind = s.Arm ∷ c.requires.behind; values = c.requires.values; reads = c.requires.reads }
+
+pub more-init : goal.more-init
+more-init c = record {
+  first = pattern_of c.in_ok-first.first;
+  others = [];
+  spelled = sym (ap (map pattern_of) (c.in_ok-push.ensures.items ∙ ap (λ v. v ++ c.in_ok-first.first ∷ []) c.new-parts.ensures.items));
+  is = M.patterned_start c.requires (pattern_of c.in_ok-first.first) c.in_ok-first.j c.in_ok-first.ensures;
+}
+
+pub pattern-requires-in-more : goal.pattern-requires-in-more
+pattern-requires-in-more c = let g = c.more.invariant in M.pattern_can (lexemes c.args.source) c.args.i g.first g.others c.more.j g.is (sym c.at.ensures ∙ c.more-test.true)
+
+pub more-preserved : goal.more-preserved
+more-preserved c = let g = c.more.invariant in record {
+  first = g.first;
+  others = g.others ++ pattern_of c.in_ok-next.next ∷ [];
+  spelled = ap (λ v. v ++ pattern_of c.in_ok-next.next ∷ []) g.spelled ∙ sym (ap (map pattern_of) c.in_ok-push-2.ensures.items ∙ map-append pattern_of c.more.parts.items (c.in_ok-next.next ∷ []));
+  is = M.patterned_more (lexemes c.args.source) c.args.i g.first g.others c.more.j g.is (pattern_of c.in_ok-next.next) c.in_ok-next.end (sym c.at.ensures ∙ c.more-test.true) c.in_ok-next.ensures;
+}
+
+pub returns : goal.returns
+returns c = let g = c.more.invariant in subst (λ ts. IsAlternative (lexemes c.args.source) c.args.i (patterns ts) c.more.j) (sym c.from_vec.ensures)
+    (subst (λ fs. IsAlternative (lexemes c.args.source) c.args.i (forms fs) c.more.j) g.spelled (M.alternative_done (lexemes c.args.source) c.args.i g.first g.others c.more.j g.is (sym c.at.ensures ∙ c.more-test.false)))

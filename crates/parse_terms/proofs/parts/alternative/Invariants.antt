@@ -1,0 +1,11 @@
+use Rattle.std.proofs.Common.{◌-◌, length, map}
+use Rattle.syntax_why.specs.Surface.{pattern_of}
+use Rattle.parse_terms.specs.Sources.{lexemes}
+use Rattle.parse_terms.proofs.PartsRead.{Patterning}
+use Rattle.parse_terms.proofs.parts.alternative.Given as goal
+
+abbrev pub invariant-more : goal.invariant-more
+invariant-more l = Patterning (lexemes l.source) l.fn.i (map pattern_of l.parts.items) l.j
+
+abbrev pub decreases-more : goal.decreases-more
+decreases-more l = length l.source.tokens.now - l.j

@@ -1,0 +1,32 @@
+use Rattle.std.proofs.Common.{◌-◌, ◌*◌, ◌+◌, length, map}
+use Rattle.syntax_why.specs.Surface.{pattern_of}
+use Rattle.parse_terms.specs.Sources.{lexemes}
+use Rattle.parse_terms.proofs.FormsRead.{Patterns, PatternList}
+use Rattle.parse_terms.proofs.patterns.+pattern_descent.Given as goal
+
+abbrev pub decreases-pattern : goal.decreases-pattern
+decreases-pattern l = 4 * (length l.source.tokens.now - l.i) + 2
+
+abbrev pub decreases-bare : goal.decreases-bare
+decreases-bare l = 4 * (length l.source.tokens.now - l.i) + 1
+
+abbrev pub decreases-pattern_atom : goal.decreases-pattern_atom
+decreases-pattern_atom l = 4 * (length l.source.tokens.now - l.i)
+
+abbrev pub decreases-pattern_parts : goal.decreases-pattern_parts
+decreases-pattern_parts l = 4 * (length l.source.tokens.now - l.i) + 1
+
+abbrev pub decreases-pattern_list : goal.decreases-pattern_list
+decreases-pattern_list l = 4 * (length l.source.tokens.now - l.i) + 3
+
+abbrev pub invariant-pattern_parts-parts : goal.invariant-pattern_parts-parts
+invariant-pattern_parts-parts l = Patterns (lexemes l.source) l.fn.i (map pattern_of l.parts.items) l.j
+
+abbrev pub decreases-pattern_parts-parts : goal.decreases-pattern_parts-parts
+decreases-pattern_parts-parts l = length l.source.tokens.now - l.j
+
+abbrev pub invariant-pattern_list-more : goal.invariant-pattern_list-more
+invariant-pattern_list-more l = PatternList (lexemes l.source) l.fn.i (map pattern_of l.parts.items) l.j
+
+abbrev pub decreases-pattern_list-more : goal.decreases-pattern_list-more
+decreases-pattern_list-more l = length l.source.tokens.now - l.j

@@ -1,0 +1,20 @@
+use Rattle.std.proofs.Common.{ℕ, ◌≡◌, ◌≤◌, ◌∷◌, [], pos, to_z, of_z, sym, subst, ap, ◌∙◌, arith}
+use Rattle.std.specs.Int.{w128}
+use Rattle.std.proofs.lemmas.Int.{to_z-of_z, fits_signed_from_abs}
+use Rattle.syntax_why.specs.Surface.{value_of}
+use Rattle.tokens_why.specs.Literal.{greatest, literal_value}
+use Rattle.parse_terms.proofs.TextsRead.{value_there}
+use Rattle.parse_terms.proofs.tokens.integer.Goals as goal
+
+pub bytes-requires : goal.bytes-requires
+bytes-requires c = c.args.source.texts c.args.i c.token-found.result c.token-found.ensures
+
+pub unreachable-requires : goal.unreachable-requires
+unreachable-requires c = c.in-None.ensures (subst (λ b. literal_value b ≤ greatest) (sym c.bytes.ensures) (value_there c.args.source c.args.i c.token-found.result c.requires.within c.token-found.ensures c.requires.integer).0)
+
+kept : (n : ℕ) → n ≤ greatest → to_z w128 (of_z w128 (pos n)) ≡ pos n
+kept n h = to_z-of_z w128 (pos n) (fits_signed_from_abs w128 (pos n) (omega arith))
+
+pub returns : goal.returns
+returns c = let h = c.in-Some.ensures in let e = (value_there c.args.source c.args.i c.token-found.result c.requires.within c.token-found.ensures c.requires.integer).1 in
+    ap (λ z. value_of (to_z w128 (of_z w128 z))) h.1 ∙ ap value_of (kept (literal_value c.bytes.result.now) h.0) ∙ ap (λ b. literal_value b ∷ []) c.bytes.ensures ∙ e

@@ -1,0 +1,24 @@
+-- What is read as a name.
+use Rattle.std.specs.Prelude.{ℕ, ◌+◌, ◌≡◌, List, Option}
+use Rattle.grammar.specs.declared.symbols.Symbol.TheVariants as s
+use Rattle.syntax_why.specs.declared.names.QName.{QName}
+use Rattle.syntax_why.specs.Lexeme.{Lexeme}
+use Rattle.syntax_why.specs.Forms.{Called, Own}
+use Rattle.syntax_why.specs.Surface.{own_of}
+use Rattle.reading.specs.Parts.{Dotted, OpName, Scoped, own_op, upper_called}
+use Rattle.parse_terms.specs.Reading.{IsRead, token_at}
+
+abbrev pub scoped_of : QName → Scoped
+scoped_of q = record { scopes = q.scopes; own = own_of q.style q.text }
+
+-- What is read behind a parenthesis as an operator's name is this own name.
+pub record IsOperatorName (xs : List Lexeme) (i : ℕ) (o : Own) (j : ℕ) : Type 0 where
+  pub name : OpName
+  pub named : own_op name.prefix name.op ≡ o
+  pub is : IsRead xs s.Opname i name j
+
+-- What is read behind a name's first word makes it this name.
+pub record IsUpperName (xs : List Lexeme) (i : ℕ) (c : Called) (j : ℕ) : Type 0 where
+  pub behind : Option Dotted
+  pub named : upper_called i (token_at xs i).text behind ≡ c
+  pub is : IsRead xs s.Quids (i + 1) behind j

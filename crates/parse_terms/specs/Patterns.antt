@@ -1,0 +1,10 @@
+-- What is read as a pattern, up to the name that may follow it.
+use Rattle.std.specs.Prelude.{ℕ, List, ◌∷◌}
+use Rattle.grammar.specs.declared.symbols.Symbol.TheVariants as s
+use Rattle.syntax_why.specs.Lexeme.{Lexeme}
+use Rattle.syntax_why.specs.Forms.{Form}
+use Rattle.reading.specs.Parts.{named_at}
+use Rattle.parse_terms.specs.Reading.{Begun}
+
+abbrev pub IsBare : List Lexeme → ℕ → Form → ℕ → Type 0
+IsBare xs i p j = Begun xs 1 (λ k. s.Pat ∷ k) i (λ k. s.AsPart ∷ k) (λ k us. (named_at i p us.0, us.1)) j

@@ -1,0 +1,394 @@
+// Terms and formulas, where they are known to stand: each call reads one, and says where it ends.
+// They depend on names, types and patterns; declarations depend on them.
+ghost use Rattle.std.specs.Prelude.{false, true, ◌&&◌, ◌||◌, ◌≡◌, ◌<◌, ◌≤◌, ◌∷◌, IfOk, length, map, not, option_map};
+ghost use Rattle.grammar.specs.declared.symbols.Symbol.TheVariants as rule;
+ghost use Rattle.grammar.specs.Alphabet.{same};
+ghost use Rattle.tokens_why.specs.declared.terminal.Terminal.TheVariants as t;
+ghost use Rattle.tokens_why.specs.Operators.{is_prefix};
+ghost use Rattle.syntax_why.specs.Surface.{arm_of, op_of, terms_of, tree_of, trees, trigger as trigger_of};
+ghost use Rattle.syntax_why.specs.Trees.{ends_open, op};
+ghost use Rattle.parse_terms.specs.Reading.{CanRead, CanRun, Climb, IsClosed, IsExpr, IsRead, names, takes_infix, terminal_at, token_at};
+ghost use Rattle.parse_terms.specs.Sources.{lexemes};
+ghost use Rattle.parse_terms.specs.Terms.{IsBranch, IsTrigger};
+
+use crate::names::head_name;
+use crate::operators::{
+    at_name, at_operator, at_prefix, at_quantifier, at_separator, integer_tree, operator, past_bar,
+};
+use crate::parts::{alternative, binder};
+use crate::patterns::pattern;
+use crate::source::Source;
+use crate::tokens::{at, at_atom, place, terminal};
+use crate::types::type_tree;
+use grammar::{prec_of, right_of};
+use outside::Seq;
+use std::alloc::{AllocError, Global};
+use syntax_why::{At, BinderTree, BranchTree, Expr, Pat, TriggerTree};
+use tokens_why::Terminal;
+
+/// A term or formula, whether it ends in an open form, and the token behind it.
+#[derive(Drop)]
+pub struct ReadExpression {
+    pub tree: Expr,
+    pub is_open: bool,
+    pub end: usize,
+}
+
+/// A tree behind which operators may follow, and how tightly it binds.
+#[derive(Drop)]
+struct ReadOperand {
+    tree: Expr,
+    tight: u8,
+    is_open: bool,
+    end: usize,
+}
+
+fn goes_on(source: Source, is_open: bool, m: u8, tight: u8, i: usize) -> bool
+    ensures { result ≡ (not is_open
+        && takes_infix m tight (terminal_at (lexemes source.entry) i)) }
+{
+    !is_open && at_operator(source, m, tight, i)
+}
+
+/// A term or formula of a level. Only want of memory refuses.
+#[cycle(descent)]
+pub fn expression(
+    alloc: Global,
+    source: Source,
+    m: u8,
+    i: usize,
+) -> Result<ReadExpression, AllocError>
+    requires { CanRead (lexemes source) (rule.Expr m) i }
+    ensures read { IfOk result (λ r. IsExpr (lexemes source.entry) m i (tree_of r.tree) r.end) }
+    ensures is_open { IfOk result (λ r. r.is_open ≡ ends_open (tree_of r.tree)) }
+{
+    let ReadOperand {
+        tree: mut left,
+        mut tight,
+        mut is_open,
+        mut end,
+    } = operand(alloc, source, m, i)?;
+    'operators: while goes_on(source, is_open, m, tight, end) {
+        let sign = terminal(source, end);
+        let right = expression(alloc, source, right_of(sign), end + 1)?;
+        let name = operator(alloc, source, end)?;
+        let here = At {
+            first: i,
+            main: end,
+        };
+        left = Expr::binary(alloc, here, left, name, right.tree)?;
+        tight = prec_of(sign);
+        is_open = right.is_open;
+        end = right.end;
+    }
+    Ok(ReadExpression {
+        tree: left,
+        is_open,
+        end,
+    })
+}
+
+/// What stands before the first operator of a level.
+#[cycle(descent)]
+fn operand(alloc: Global, source: Source, m: u8, i: usize) -> Result<ReadOperand, AllocError>
+    requires { CanRead (lexemes source) (rule.Expr m) i }
+    ensures climb { IfOk result
+        (λ r. Climb (lexemes source.entry) m i (tree_of r.tree) r.tight r.end) }
+    ensures is_open { IfOk result (λ r. r.is_open ≡ ends_open (tree_of r.tree)) }
+{
+    let here = place(i);
+    let is_negation = at(source, i, Terminal::NotWord);
+    if is_negation {
+        let inner = expression(alloc, source, 3, i + 1)?;
+        let negation = Expr::negation(alloc, here, inner.tree)?;
+        return Ok(ReadOperand {
+            tree: negation,
+            tight: 3,
+            is_open: inner.is_open,
+            end: inner.end,
+        });
+    }
+    if at_prefix(source, i) {
+        let name = operator(alloc, source, i)?;
+        let operand = expression(alloc, source, 8, i + 1)?;
+        let prefixed = Expr::prefix(alloc, here, name, operand.tree)?;
+        return Ok(ReadOperand {
+            tree: prefixed,
+            tight: 8,
+            is_open: operand.is_open,
+            end: operand.end,
+        });
+    }
+    let is_choice = at(source, i, Terminal::IfWord);
+    if is_choice {
+        let condition = expression(alloc, source, 0, i + 1)?;
+        let yes = expression(alloc, source, 0, condition.end + 1)?;
+        let no = expression(alloc, source, 0, yes.end + 1)?;
+        let choice = Expr::choice(alloc, here, condition.tree, yes.tree, no.tree)?;
+        return Ok(ReadOperand {
+            tree: choice,
+            tight: 0,
+            is_open: true,
+            end: no.end,
+        });
+    }
+    let is_binding = at(source, i, Terminal::LetWord);
+    if is_binding {
+        let (tree, end) = let_in(alloc, source, m, i)?;
+        return Ok(ReadOperand {
+            tree,
+            tight: 0,
+            is_open: true,
+            end,
+        });
+    }
+    if at_quantifier(source, i) {
+        let (bound, after) = quantification(alloc, source, m, i)?;
+        return Ok(ReadOperand {
+            tree: bound,
+            tight: 0,
+            is_open: true,
+            end: after,
+        });
+    }
+    let (atom, behind) = primary(alloc, source, i)?;
+    Ok(ReadOperand {
+        tree: atom,
+        tight: 9,
+        is_open: false,
+        end: behind,
+    })
+}
+
+/// A `let`.
+#[cycle(descent)]
+fn let_in(alloc: Global, source: Source, m: u8, i: usize) -> Result<(Expr, usize), AllocError>
+    requires can { CanRead (lexemes source) (rule.Expr m) i }
+    requires word { same t.LetWord (terminal_at (lexemes source) i) ≡ true }
+    ensures read { IfOk result (λ r. Climb (lexemes source.entry) m i (tree_of r.0) 0 r.1) }
+    ensures is_open { IfOk result (λ r. ends_open (tree_of r.0) ≡ true) }
+{
+    let mut bound: Vec<Pat> = Vec::new(alloc);
+    let (first, mut j) = pattern(alloc, source, i + 1)?;
+    bound.push(first)?;
+    'more: while at(source, j, Terminal::Comma) {
+        let (next, end) = pattern(alloc, source, j + 1)?;
+        bound.push(next)?;
+        j = end;
+    }
+    let value = expression(alloc, source, 0, j + 1)?;
+    let body = expression(alloc, source, 0, value.end + 1)?;
+    let here = place(i);
+    let tree = Expr::binding(alloc, here, Seq::from_vec(bound), value.tree, body.tree)?;
+    Ok((tree, body.end))
+}
+
+/// A quantifier with what it binds and its body.
+#[cycle(descent)]
+fn quantification(
+    alloc: Global,
+    source: Source,
+    m: u8,
+    i: usize,
+) -> Result<(Expr, usize), AllocError>
+    requires can { CanRead (lexemes source) (rule.Expr m) i }
+    requires word { (same t.ForallWord (terminal_at (lexemes source) i)
+        || same t.ExistsWord (terminal_at (lexemes source) i)) ≡ true }
+    ensures read { IfOk result (λ r. Climb (lexemes source.entry) m i (tree_of r.0) 0 r.1) }
+    ensures is_open { IfOk result (λ r. ends_open (tree_of r.0) ≡ true) }
+{
+    let forall = at(source, i, Terminal::ForallWord);
+    let mut binders: Vec<BinderTree> = Vec::new(alloc);
+    let (first, mut j) = binder(alloc, source, i + 1)?;
+    binders.push(first)?;
+    'more: while at(source, j, Terminal::Comma) {
+        let (next, end) = binder(alloc, source, j + 1)?;
+        binders.push(next)?;
+        j = end;
+    }
+    let (triggers, behind) = trigger(alloc, source, j)?;
+    let body = expression(alloc, source, 0, behind)?;
+    let here = place(i);
+    let bound = Seq::from_vec(binders);
+    let tree = Expr::quantified(alloc, here, forall, bound, triggers, body.tree)?;
+    Ok((tree, body.end))
+}
+
+/// The trigger of a quantifier, if there is one, and where its body begins.
+#[cycle(descent)]
+fn trigger(
+    alloc: Global,
+    source: Source,
+    i: usize,
+) -> Result<(Option<TriggerTree>, usize), AllocError>
+    requires can { CanRead (lexemes source) rule.Binders i }
+    requires last { same t.Comma (terminal_at (lexemes source) i) ≡ false }
+    ensures { IfOk result (λ r. IsTrigger (lexemes source.entry) i
+        (trigger_of (option_map terms_of r.0)) r.1) }
+{
+    let is_given = at(source, i, Terminal::LBrack);
+    if is_given {
+        let mut terms: Vec<Expr> = Vec::new(alloc);
+        let mut bars: Vec<bool> = Vec::new(alloc);
+        let first = expression(alloc, source, 0, i + 1)?;
+        terms.push(first.tree)?;
+        let mut j = first.end;
+        'terms: while at_separator(source, j) {
+            let bar = at(source, j, Terminal::Bar);
+            let next = expression(alloc, source, 0, j + 1)?;
+            terms.push(next.tree)?;
+            bars.push(bar)?;
+            j = next.end;
+        }
+        let tree = TriggerTree::new(Seq::from_vec(terms), Seq::from_vec(bars));
+        return Ok((Some(tree), j + 1 + 1));
+    }
+    Ok((None, i + 1))
+}
+
+/// An application or an atom.
+#[cycle(descent)]
+fn primary(alloc: Global, source: Source, i: usize) -> Result<(Expr, usize), AllocError>
+    requires { CanRead (lexemes source) rule.Prim i }
+    ensures { IfOk result
+        (λ r. IsClosed (lexemes source.entry) rule.Prim i (tree_of r.0) (tree_of r.0) r.1) }
+{
+    if at_name(source, i) {
+        let (name, j) = head_name(alloc, source, i)?;
+        let (parts, end) = arguments(alloc, source, j)?;
+        return Ok((Expr::apply(place(i), name, parts), end));
+    }
+    let (tree, end) = plain_atom(alloc, source, i)?;
+    Ok((tree, end))
+}
+
+/// An expression that stands as an argument.
+#[cycle(descent)]
+fn atom(alloc: Global, source: Source, i: usize) -> Result<(Expr, usize), AllocError>
+    requires { CanRead (lexemes source) rule.Atom i }
+    ensures { IfOk result
+        (λ r. IsClosed (lexemes source.entry) rule.Atom i (tree_of r.0) (tree_of r.0) r.1) }
+{
+    if at_name(source, i) {
+        let (name, end) = head_name(alloc, source, i)?;
+        return Ok((Expr::apply(place(i), name, Seq::new(alloc)), end));
+    }
+    let (tree, end) = plain_atom(alloc, source, i)?;
+    Ok((tree, end))
+}
+
+/// Arguments side by side.
+#[cycle(descent)]
+fn arguments(alloc: Global, source: Source, i: usize) -> Result<(Seq<Expr>, usize), AllocError>
+    requires { CanRead (lexemes source) rule.Args i }
+    ensures { IfOk result
+        (λ r. IsRead (lexemes source.entry) rule.Args i (trees (map tree_of r.0)) r.1) }
+{
+    let mut parts: Vec<Expr> = Vec::new(alloc);
+    let mut j = i;
+    'arguments: while at_atom(source, j) {
+        let (next, end) = atom(alloc, source, j)?;
+        parts.push(next)?;
+        j = end;
+    }
+    Ok((Seq::from_vec(parts), j))
+}
+
+/// An atom that is no name.
+#[cycle(descent)]
+fn plain_atom(alloc: Global, source: Source, i: usize) -> Result<(Expr, usize), AllocError>
+    requires can { CanRead (lexemes source) rule.Atom i }
+    requires unnamed { names (lexemes source) i ≡ false }
+    ensures { IfOk result
+        (λ r. IsClosed (lexemes source.entry) rule.Atom i (tree_of r.0) (tree_of r.0) r.1) }
+{
+    let here = place(i);
+    let is_integer = at(source, i, Terminal::Int);
+    if is_integer {
+        return Ok((integer_tree(source, i), i + 1));
+    }
+    let is_true = at(source, i, Terminal::TrueWord);
+    if is_true {
+        return Ok((Expr::truth(here), i + 1));
+    }
+    let is_false = at(source, i, Terminal::FalseWord);
+    if is_false {
+        return Ok((Expr::falsity(here), i + 1));
+    }
+    let is_match = at(source, i, Terminal::MatchWord);
+    if is_match {
+        let (tree, end) = cases(alloc, source, i)?;
+        return Ok((tree, end));
+    }
+    let behind = i + 1;
+    let is_empty = at(source, behind, Terminal::RParen);
+    if is_empty {
+        return Ok((Expr::group(here, Seq::new(alloc)), behind + 1));
+    }
+    let first = expression(alloc, source, 0, behind)?;
+    let mut j = first.end;
+    let is_cast = at(source, j, Terminal::Colon);
+    if is_cast {
+        let (ty, end) = type_tree(alloc, source, j + 1)?;
+        let tree = Expr::cast(alloc, here, first.tree, ty)?;
+        return Ok((tree, end + 1));
+    }
+    let mut parts: Vec<Expr> = Vec::new(alloc);
+    parts.push(first.tree)?;
+    'members: while at(source, j, Terminal::Comma) {
+        let next = expression(alloc, source, 0, j + 1)?;
+        parts.push(next.tree)?;
+        j = next.end;
+    }
+    Ok((Expr::group(here, Seq::from_vec(parts)), j + 1))
+}
+
+/// A `match`.
+#[cycle(descent)]
+fn cases(alloc: Global, source: Source, i: usize) -> Result<(Expr, usize), AllocError>
+    requires can { CanRead (lexemes source) rule.Atom i }
+    requires word { same t.MatchWord (terminal_at (lexemes source) i) ≡ true }
+    ensures { IfOk result
+        (λ r. IsClosed (lexemes source.entry) rule.Atom i (tree_of r.0) (tree_of r.0) r.1) }
+{
+    let mut scrutinees: Vec<Expr> = Vec::new(alloc);
+    let first = expression(alloc, source, 0, i + 1)?;
+    scrutinees.push(first.tree)?;
+    let mut j = first.end;
+    'scrutinees: while at(source, j, Terminal::Comma) {
+        let next = expression(alloc, source, 0, j + 1)?;
+        scrutinees.push(next.tree)?;
+        j = next.end;
+    }
+    let (bar, begin) = past_bar(source, j + 1);
+    let mut arms: Vec<BranchTree> = Vec::new(alloc);
+    let (arm, mut n) = branch(alloc, source, begin)?;
+    arms.push(arm)?;
+    'arms: while at(source, n, Terminal::Bar) {
+        let (more, end) = branch(alloc, source, n + 1)?;
+        arms.push(more)?;
+        n = end;
+    }
+    let here = place(i);
+    let tree = Expr::cases(here, Seq::from_vec(scrutinees), bar, Seq::from_vec(arms));
+    Ok((tree, n + 1))
+}
+
+/// A branch of a `match`.
+#[cycle(descent)]
+fn branch(alloc: Global, source: Source, i: usize) -> Result<(BranchTree, usize), AllocError>
+    requires { CanRun (lexemes source) (λ k. rule.Pat ∷ rule.Arm ∷ k) i }
+    ensures { IfOk result (λ r. IsBranch (lexemes source.entry) i (arm_of r.0) r.1) }
+{
+    let mut alternatives: Vec<Seq<Pat>> = Vec::new(alloc);
+    let (first, mut j) = alternative(alloc, source, i)?;
+    alternatives.push(first)?;
+    'alternatives: while at(source, j, Terminal::Bar) {
+        let (next, end) = alternative(alloc, source, j + 1)?;
+        alternatives.push(next)?;
+        j = end;
+    }
+    let body = expression(alloc, source, 0, j + 1)?;
+    let tree = BranchTree::new(Seq::from_vec(alternatives), body.tree);
+    Ok((tree, body.end))
+}

@@ -1,0 +1,113 @@
+// Patterns, where they are known to stand: each call reads one, and says where it ends.
+// They depend on the names; terms depend on them.
+ghost use Rattle.std.specs.Prelude.{◌≡◌, ◌<◌, IfOk, map};
+ghost use Rattle.grammar.specs.declared.symbols.Symbol.TheVariants as rule;
+ghost use Rattle.syntax_why.specs.Surface.{pattern_of, patterns};
+ghost use Rattle.parse_terms.specs.Patterns.{IsBare};
+ghost use Rattle.parse_terms.specs.Reading.{CanRead, IsRead};
+ghost use Rattle.parse_terms.specs.Sources.{lexemes};
+
+use crate::names::upper_name;
+use crate::source::Source;
+use crate::tokens::{at, at_pattern, name_at, place};
+use outside::Seq;
+use std::alloc::{AllocError, Global};
+use syntax_why::Pat;
+use tokens_why::Terminal;
+
+/// A pattern, and the token behind it. Only want of memory refuses.
+#[cycle(pattern_descent)]
+pub fn pattern(alloc: Global, source: Source, i: usize) -> Result<(Pat, usize), AllocError>
+    requires { CanRead (lexemes source) rule.Pat i }
+    ensures { IfOk result (λ r. IsRead (lexemes source.entry) rule.Pat i (pattern_of r.0) r.1) }
+{
+    let (inner, end) = bare(alloc, source, i)?;
+    let is_named = at(source, end, Terminal::AsWord);
+    if is_named {
+        let behind = end + 1;
+        let name = name_at(alloc, source, behind)?;
+        let here = place(i);
+        let tree = Pat::alias(alloc, here, inner, name)?;
+        return Ok((tree, behind + 1));
+    }
+    Ok((inner, end))
+}
+
+/// A pattern without the name that may follow.
+#[cycle(pattern_descent)]
+fn bare(alloc: Global, source: Source, i: usize) -> Result<(Pat, usize), AllocError>
+    requires { CanRead (lexemes source) rule.Pat i }
+    ensures { IfOk result (λ r. IsBare (lexemes source.entry) i (pattern_of r.0) r.1) }
+{
+    let is_constructor = at(source, i, Terminal::Uident);
+    if is_constructor {
+        let here = place(i);
+        let (name, j) = upper_name(alloc, source, i)?;
+        let (parts, end) = pattern_parts(alloc, source, j)?;
+        return Ok((Pat::constructor(here, name, parts), end));
+    }
+    let (tree, end) = pattern_atom(alloc, source, i)?;
+    Ok((tree, end))
+}
+
+/// A pattern that stands as a part.
+#[cycle(pattern_descent)]
+fn pattern_atom(alloc: Global, source: Source, i: usize) -> Result<(Pat, usize), AllocError>
+    requires { CanRead (lexemes source) rule.Patom i }
+    ensures { IfOk result (λ r. IsRead (lexemes source.entry) rule.Patom i (pattern_of r.0) r.1) }
+{
+    let here = place(i);
+    let is_wild = at(source, i, Terminal::Wild);
+    if is_wild {
+        return Ok((Pat::wildcard(here), i + 1));
+    }
+    let is_name = at(source, i, Terminal::Lident);
+    if is_name {
+        let name = name_at(alloc, source, i)?;
+        return Ok((Pat::variable(here, name), i + 1));
+    }
+    let is_constant = at(source, i, Terminal::Uident);
+    if is_constant {
+        let (name, end) = upper_name(alloc, source, i)?;
+        return Ok((Pat::constructor(here, name, Seq::new(alloc)), end));
+    }
+    let (parts, end) = pattern_list(alloc, source, i + 1)?;
+    Ok((Pat::group(here, parts), end))
+}
+
+/// Patterns side by side.
+#[cycle(pattern_descent)]
+fn pattern_parts(alloc: Global, source: Source, i: usize) -> Result<(Seq<Pat>, usize), AllocError>
+    requires { CanRead (lexemes source) rule.Patoms i }
+    ensures { IfOk result (λ r. IsRead (lexemes source.entry) rule.Patoms i (patterns r.0) r.1) }
+{
+    let mut parts: Vec<Pat> = Vec::new(alloc);
+    let mut j = i;
+    'parts: while at_pattern(source, j) {
+        let (next, end) = pattern_atom(alloc, source, j)?;
+        parts.push(next)?;
+        j = end;
+    }
+    Ok((Seq::from_vec(parts), j))
+}
+
+/// Patterns in parentheses behind the first one.
+#[cycle(pattern_descent)]
+fn pattern_list(alloc: Global, source: Source, i: usize) -> Result<(Seq<Pat>, usize), AllocError>
+    requires { CanRead (lexemes source) rule.Ptuple i }
+    ensures { IfOk result (λ r. IsRead (lexemes source.entry) rule.Ptuple i (patterns r.0) r.1) }
+{
+    let mut parts: Vec<Pat> = Vec::new(alloc);
+    let is_empty = at(source, i, Terminal::RParen);
+    if is_empty {
+        return Ok((Seq::from_vec(parts), i + 1));
+    }
+    let (first, mut j) = pattern(alloc, source, i)?;
+    parts.push(first)?;
+    'more: while at(source, j, Terminal::Comma) {
+        let (next, end) = pattern(alloc, source, j + 1)?;
+        parts.push(next)?;
+        j = end;
+    }
+    Ok((Seq::from_vec(parts), j + 1))
+}

@@ -1,0 +1,103 @@
+// Types, where they are known to stand: each call reads one, and says where it ends.
+// They depend on the names; patterns, terms and declarations depend on them.
+ghost use Rattle.std.specs.Prelude.{◌≡◌, ◌<◌, IfOk, map};
+ghost use Rattle.grammar.specs.declared.symbols.Symbol.TheVariants.{Atype, Targs, Ttuple, TypeOf};
+ghost use Rattle.syntax_why.specs.Surface.{form_of, types};
+ghost use Rattle.parse_terms.specs.Reading.{CanRead, IsRead};
+ghost use Rattle.parse_terms.specs.Sources.{lexemes};
+
+use crate::names::lower_name;
+use crate::source::Source;
+use crate::tokens::{at, at_type, place, text};
+use outside::Seq;
+use std::alloc::{AllocError, Global};
+use syntax_why::TypeTree;
+use tokens_why::Terminal;
+
+/// A type, and the token behind it. Only want of memory refuses.
+#[cycle(type_descent)]
+pub fn type_tree(alloc: Global, source: Source, i: usize) -> Result<(TypeTree, usize), AllocError>
+    requires { CanRead (lexemes source) TypeOf i }
+    ensures { IfOk result (λ r. IsRead (lexemes source.entry) TypeOf i (form_of r.0) r.1) }
+{
+    let here = place(i);
+    let is_variable = at(source, i, Terminal::TyVar);
+    if is_variable {
+        let word = text(alloc, source, i)?;
+        return Ok((TypeTree::variable(here, word), i + 1));
+    }
+    let is_group = at(source, i, Terminal::LParen);
+    if is_group {
+        let (parts, end) = type_list(alloc, source, i + 1)?;
+        return Ok((TypeTree::group(here, parts), end));
+    }
+    let (name, j) = lower_name(alloc, source, i)?;
+    let (arguments, end) = type_arguments(alloc, source, j)?;
+    Ok((TypeTree::named(here, name, arguments), end))
+}
+
+/// A type that stands as an argument, and the token behind it. Only want of memory refuses.
+#[cycle(type_descent)]
+pub fn argument(alloc: Global, source: Source, i: usize) -> Result<(TypeTree, usize), AllocError>
+    requires { CanRead (lexemes source) Atype i }
+    ensures { IfOk result (λ r. IsRead (lexemes source.entry) Atype i (form_of r.0) r.1) }
+{
+    let here = place(i);
+    let is_variable = at(source, i, Terminal::TyVar);
+    if is_variable {
+        let word = text(alloc, source, i)?;
+        return Ok((TypeTree::variable(here, word), i + 1));
+    }
+    let is_group = at(source, i, Terminal::LParen);
+    if is_group {
+        let (parts, end) = type_list(alloc, source, i + 1)?;
+        return Ok((TypeTree::group(here, parts), end));
+    }
+    let (name, end) = lower_name(alloc, source, i)?;
+    Ok((TypeTree::named(here, name, Seq::new(alloc)), end))
+}
+
+/// Types side by side, and the token behind them. Only want of memory refuses.
+#[cycle(type_descent)]
+pub fn type_arguments(
+    alloc: Global,
+    source: Source,
+    i: usize,
+) -> Result<(Seq<TypeTree>, usize), AllocError>
+    requires { CanRead (lexemes source) Targs i }
+    ensures { IfOk result (λ r. IsRead (lexemes source.entry) Targs i (types r.0) r.1) }
+{
+    let mut arguments: Vec<TypeTree> = Vec::new(alloc);
+    let mut j = i;
+    'arguments: while at_type(source, j) {
+        let (next, end) = argument(alloc, source, j)?;
+        arguments.push(next)?;
+        j = end;
+    }
+    Ok((Seq::from_vec(arguments), j))
+}
+
+/// Types in parentheses behind the first one, and the token behind them. Only want of memory refuses.
+#[cycle(type_descent)]
+pub fn type_list(
+    alloc: Global,
+    source: Source,
+    i: usize,
+) -> Result<(Seq<TypeTree>, usize), AllocError>
+    requires { CanRead (lexemes source) Ttuple i }
+    ensures { IfOk result (λ r. IsRead (lexemes source.entry) Ttuple i (types r.0) r.1) }
+{
+    let mut parts: Vec<TypeTree> = Vec::new(alloc);
+    let is_empty = at(source, i, Terminal::RParen);
+    if is_empty {
+        return Ok((Seq::from_vec(parts), i + 1));
+    }
+    let (first, mut j) = type_tree(alloc, source, i)?;
+    parts.push(first)?;
+    'more: while at(source, j, Terminal::Comma) {
+        let (next, end) = type_tree(alloc, source, j + 1)?;
+        parts.push(next)?;
+        j = end;
+    }
+    Ok((Seq::from_vec(parts), j + 1))
+}

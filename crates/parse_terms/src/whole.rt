@@ -1,0 +1,26 @@
+// Tokens that are one term or formula.
+// They depend on terms; what reads the longest one depends on them.
+ghost use Rattle.std.specs.Prelude.{false, ◌≡◌, [], ◌∷◌, IfOk, Some};
+ghost use Rattle.grammar.specs.declared.symbols.Symbol.TheVariants.{Expr as ExprRule};
+ghost use Rattle.reading.specs.Reads.{from};
+ghost use Rattle.reading.specs.Values.{read};
+ghost use Rattle.syntax_why.specs.Surface.{tree_of};
+ghost use Rattle.parse_terms.specs.Sources.{lexemes};
+ghost use Rattle.parse_terms.specs.Whole.{IsExpression};
+
+use crate::expressions::expression;
+use crate::source::Source;
+use std::alloc::{AllocError, Global};
+use syntax_why::Expr;
+
+/// The tree of the tokens from a place on, which are one term or formula. Only want of memory refuses.
+///
+/// Its places are the numbers of its tokens.
+pub fn whole_expression(alloc: Global, source: Source, i: usize) -> Result<Expr, AllocError>
+    requires { IsExpression (lexemes source) i }
+    ensures { IfOk result (λ e.
+        read (from (lexemes source.entry) i) i false (ExprRule 0 ∷ []) ≡ Some (tree_of e, tt)) }
+{
+    let read = expression(alloc, source, 0, i)?;
+    Ok(read.tree)
+}

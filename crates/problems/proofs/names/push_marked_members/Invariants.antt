@@ -1,9 +1,0 @@
-use Rattle.std.proofs.Common.{◌≡◌, drop, List}
-use Rattle.trees.specs.Tree.{Tree}
-use Rattle.problems.specs.Named.{marked, members_of}
-use Rattle.problems.proofs.Tables.{Added}
-use Rattle.problems.proofs.names.push_marked_members.Given as goal
-
-abbrev pub invariant-loop-def : goal.invariant-loop-def
-invariant-loop-def l =
-    (s : List Tree) → Added l.task s l.names.items (marked l.marks (members_of (drop l.def-index l.defs))) ≡ Added l.task s l.initial.names.items (marked l.marks (members_of l.defs))

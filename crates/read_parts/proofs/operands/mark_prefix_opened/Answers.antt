@@ -1,9 +1,0 @@
-use Rattle.std.proofs.Common.{◌≡◌, sym, subst, option_map, IfOk}
-use Rattle.syntax_why.specs.Tree.{op_text}
-use Rattle.term_states.specs.ExprStates.{context_of, frames_of, state_of}
-use Rattle.read_parts.proofs.Hosts.{prefix_other}
-use Rattle.read_parts.proofs.operands.mark_prefix_opened.Goals as goal
-
-pub returns-in_default : goal.returns-in_default
-returns-in_default c =
-    subst (λ v. IfOk c.prefixed_inside.result (λ r. option_map state_of r ≡ v)) (sym (prefix_other (op_text c.args.text) (context_of c.args.context) (frames_of c.args.open) c.args.mark c.in_default.not-RParen c.in_default.not-Wild)) c.prefixed_inside.ensures

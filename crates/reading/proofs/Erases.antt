@@ -1,0 +1,105 @@
+-- The rows of the machine with values are those of the grammar.
+use Rattle.std.proofs.Common.{◌≡◌, ℕ, Bool, true, false, cond, List, [], ◌∷◌, ◌++◌, map, refl, ap, nat_le}
+use Rattle.tokens_why.specs.declared.terminal.Terminal.{Terminal}
+use Rattle.tokens_why.specs.declared.terminal.Terminal.TheVariants as t
+use Rattle.grammar.specs.declared.symbols.Symbol.{Symbol}
+use Rattle.grammar.specs.declared.symbols.Symbol.TheVariants as s
+use Rattle.grammar.specs.Alphabet.{operators}
+use Rattle.tokens_why.specs.Operators.{prec, right}
+use Rattle.grammar.specs.Table as table
+use Rattle.grammar.specs.Table.{line}
+use Rattle.grammar.specs.Machine.{run, ends}
+use Rattle.syntax_why.specs.Lexeme.{Lexeme}
+use Rattle.reading.specs.Parts.{attach}
+use Rattle.reading.specs.Row.{extend}
+use Rattle.reading.specs.TermRows.{expr_own, link_row, prim_rows, tail_rows, takes_op}
+use Rattle.reading.specs.Values.{read}
+use Rattle.reading.proofs.Erasure.{Erases, erased, has, lines_of}
+
+expr_lines : (m : ℕ) (b : Bool) → lines_of (expr_own m b ++ extend (s.Expr m) s.Prim (s.Tail m 9 ∷ []) (λ v vs. attach v vs.0) prim_rows) ≡ cond b (line t.NotWord (s.Expr 3 ∷ s.Tail m 3 ∷ []) ∷ []) [] ++ ((line t.Minus (s.Expr 8 ∷ s.Tail m 8 ∷ []) ∷ line t.PrefixOperator (s.Expr 8 ∷ s.Tail m 8 ∷ []) ∷ []) ++ (table.open_rows ++ table.extend table.prim_rows (s.Tail m 9 ∷ [])))
+expr_lines m true = refl
+expr_lines m false = refl
+
+tail_lines : (m u : ℕ) (os : List Terminal) → lines_of (tail_rows m u os) ≡ table.tail_of m u os
+tail_lines m u [] = refl
+tail_lines m u (o ∷ os) = by_test (takes_op m u o) (tail_lines m u os)
+  where
+    by_test : (b : Bool) → lines_of (tail_rows m u os) ≡ table.tail_of m u os → lines_of (cond b (link_row m u o ∷ tail_rows m u os) (tail_rows m u os)) ≡ cond b (line o (s.Expr (right o) ∷ s.Tail m (prec o) ∷ []) ∷ table.tail_of m u os) (table.tail_of m u os)
+    by_test true h = ap (λ l. line o (s.Expr (right o) ∷ s.Tail m (prec o) ∷ []) ∷ l) h
+    by_test false h = h
+
+pub erases : (top : Symbol) → Erases top
+erases (s.Take x) = record { lines = refl; empty = refl }
+erases (s.Expr m) = record { lines = expr_lines m (nat_le m 3); empty = refl }
+erases (s.Tail m u) = record { lines = tail_lines m u operators; empty = refl }
+erases s.Seal = record { lines = refl; empty = refl }
+erases s.File = record { lines = refl; empty = refl }
+erases s.Decls = record { lines = refl; empty = refl }
+erases s.Tvars = record { lines = refl; empty = refl }
+erases s.Typedef = record { lines = refl; empty = refl }
+erases s.Upper = record { lines = refl; empty = refl }
+erases s.Algvars = record { lines = refl; empty = refl }
+erases s.Con = record { lines = refl; empty = refl }
+erases s.Op = record { lines = refl; empty = refl }
+erases s.Opname = record { lines = refl; empty = refl }
+erases s.Opend = record { lines = refl; empty = refl }
+erases s.Ident = record { lines = refl; empty = refl }
+erases s.Params = record { lines = refl; empty = refl }
+erases s.Pparen = record { lines = refl; empty = refl }
+erases s.Pname = record { lines = refl; empty = refl }
+erases s.Body = record { lines = refl; empty = refl }
+erases s.Members = record { lines = refl; empty = refl }
+erases s.Member = record { lines = refl; empty = refl }
+erases s.Value = record { lines = refl; empty = refl }
+erases s.Clause = record { lines = refl; empty = refl }
+erases s.Clauses = record { lines = refl; empty = refl }
+erases s.Used = record { lines = refl; empty = refl }
+erases s.Cloned = record { lines = refl; empty = refl }
+erases s.Path = record { lines = refl; empty = refl }
+erases s.Renamed = record { lines = refl; empty = refl }
+erases s.Subst = record { lines = refl; empty = refl }
+erases s.Elems = record { lines = refl; empty = refl }
+erases s.Elem = record { lines = refl; empty = refl }
+erases s.Axioms = record { lines = refl; empty = refl }
+erases s.Elvars = record { lines = refl; empty = refl }
+erases s.Qlid = record { lines = refl; empty = refl }
+erases s.Qop = record { lines = refl; empty = refl }
+erases s.Qid = record { lines = refl; empty = refl }
+erases s.Qids = record { lines = refl; empty = refl }
+erases s.TypeOf = record { lines = refl; empty = refl }
+erases s.Atype = record { lines = refl; empty = refl }
+erases s.Targs = record { lines = refl; empty = refl }
+erases s.Ttuple = record { lines = refl; empty = refl }
+erases s.Tmore = record { lines = refl; empty = refl }
+erases s.Pat = record { lines = refl; empty = refl }
+erases s.AsPart = record { lines = refl; empty = refl }
+erases s.Quids = record { lines = refl; empty = refl }
+erases s.Ptuple = record { lines = refl; empty = refl }
+erases s.Pmore = record { lines = refl; empty = refl }
+erases s.Patoms = record { lines = refl; empty = refl }
+erases s.GroupRest = record { lines = refl; empty = refl }
+erases s.More = record { lines = refl; empty = refl }
+erases s.Scrutinees = record { lines = refl; empty = refl }
+erases s.Branch = record { lines = refl; empty = refl }
+erases s.Arm = record { lines = refl; empty = refl }
+erases s.Branches = record { lines = refl; empty = refl }
+erases s.Letpats = record { lines = refl; empty = refl }
+erases s.Binder = record { lines = refl; empty = refl }
+erases s.Binders = record { lines = refl; empty = refl }
+erases s.Trigger = record { lines = refl; empty = refl }
+erases s.OpenForm = record { lines = refl; empty = refl }
+erases s.Fields = record { lines = refl; empty = refl }
+erases s.Patom = record { lines = refl; empty = refl }
+erases s.Prim = record { lines = refl; empty = refl }
+erases s.Scoped = record { lines = refl; empty = refl }
+erases s.Qhead = record { lines = refl; empty = refl }
+erases s.Args = record { lines = refl; empty = refl }
+erases s.Atom = record { lines = refl; empty = refl }
+erases s.Hparen = record { lines = refl; empty = refl }
+erases s.Hminus = record { lines = refl; empty = refl }
+erases s.Aparen = record { lines = refl; empty = refl }
+erases s.Aminus = record { lines = refl; empty = refl }
+
+-- What the grammar accepts is read, and nothing else.
+pub accepted : (xs : List Lexeme) (i : ℕ) (k : List Symbol) → has (read xs i false k) ≡ ends (run k (map (λ x. x.terminal) xs))
+accepted xs i k = erased erases xs i k

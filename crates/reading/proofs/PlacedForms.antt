@@ -1,0 +1,78 @@
+-- Each right type and pattern can be placed: one with the same tokens has its places.
+use Rattle.std.proofs.Common.{◌≡◌, ℕ, ◌+◌, List, [], ◌∷◌, ◌++◌, refl, ap, ◌∙◌}
+use Rattle.tokens_why.specs.declared.terminal.Terminal.TheVariants as t
+use Rattle.syntax_why.specs.Lexeme.{Lexeme, at, mark, name}
+use Rattle.syntax_why.specs.Forms.{AreForms, AreParts, Called, Form, Forms, IsForm, IsPart, IsPlaced, IsUnnamed, PlacedList, PlacedRow, Sort, aliased, called, composed, enclosed, form_list, form_row, form_tail, more_forms, no_forms, past, type_variable, variable, wild, write_called, write_form}
+use Rattle.syntax_why.specs.Trees.{HasForm}
+
+pub join : {xs ys us vs : List Lexeme} → xs ≡ ys → us ≡ vs → xs ++ us ≡ ys ++ vs
+join {ys = ys} {us = us} e f = ap (λ v. v ++ us) e ∙ ap (λ v. ys ++ v) f
+
+pub behind : {xs ys : List Lexeme} → (x : Lexeme) → xs ≡ ys → x ∷ xs ≡ x ∷ ys
+behind x e = ap (λ v. x ∷ v) e
+
+abbrev pub moved : ℕ → Called → Called
+moved i c = called i c.scopes c.own
+
+pub record FormAt (s : Sort) (i : ℕ) (f : Form) : Type 0 where
+  pub form : Form
+  pub right : IsForm s form
+  pub placed : IsPlaced i form
+  pub tokens : write_form form ≡ write_form f
+  pub part : IsPart f → IsPart form
+  pub unnamed : IsUnnamed f → IsUnnamed form
+
+-- side by side
+pub record RowAt (s : Sort) (i : ℕ) (fs : Forms) : Type 0 where
+  pub forms : Forms
+  pub right : AreParts s forms
+  pub placed : PlacedRow i forms
+  pub tokens : form_row forms ≡ form_row fs
+
+-- with commas between
+pub record ListAt (s : Sort) (i : ℕ) (fs : Forms) : Type 0 where
+  pub forms : Forms
+  pub right : AreForms s forms
+  pub placed : PlacedList i forms
+  pub tokens : form_list forms ≡ form_list fs
+  pub tail : form_tail forms ≡ form_tail fs
+  pub some : HasForm fs → HasForm forms
+
+mutual
+  pub form_at : (s : Sort) (i : ℕ) (f : Form) → IsForm s f → FormAt s i f
+  form_at s i (wild a) h = record { form = wild (at i); right = h; placed = refl; tokens = refl; part = λ p. p; unnamed = λ p. p }
+  form_at s i (variable a n) h = record { form = variable (at i) (name i n.text); right = h; placed = (refl, refl); tokens = refl; part = λ p. p; unnamed = λ p. p }
+  form_at s i (type_variable a w) h = record { form = type_variable (at i) w; right = h; placed = refl; tokens = refl; part = λ p. p; unnamed = λ p. p }
+  form_at s i (composed a c no_forms) h = record { form = composed (at i) (moved i c) no_forms; right = h; placed = (refl, refl, tt); tokens = refl; part = λ p. p; unnamed = λ p. p }
+  form_at s i (composed a c (more_forms p ps)) h =
+      let u = form_at s (past i (write_called c)) p h.1.1 in
+      let r = row_at s (past (past i (write_called c)) (write_form u.form)) ps h.1.2 in
+      record {
+        form = composed (at i) (moved i c) (more_forms u.form r.forms);
+        right = (h.0, (u.part h.1.0, u.right, r.right));
+        placed = (refl, refl, (u.placed, r.placed));
+        tokens = ap (λ v. write_called c ++ v) (join u.tokens r.tokens);
+        part = λ p. absurd p;
+        unnamed = λ p. p;
+      }
+  form_at s i (enclosed a ts) h = let r = list_at s (i + 1) ts h in
+      record { form = enclosed (at i) r.forms; right = r.right; placed = (refl, r.placed); tokens = behind (mark t.LParen) (ap (λ v. v ++ (mark t.RParen ∷ [])) r.tokens); part = λ p. p; unnamed = λ p. p }
+  form_at s i (aliased a p n) h = let u = form_at s i p h.2 in
+      record {
+        form = aliased (at i) u.form (name (past i (write_form u.form) + 1) n.text);
+        right = (h.0, u.unnamed h.1, u.right);
+        placed = (refl, u.placed, refl);
+        tokens = join u.tokens refl;
+        part = λ p. absurd p;
+        unnamed = λ p. absurd p;
+      }
+
+  pub row_at : (s : Sort) (i : ℕ) (fs : Forms) → AreParts s fs → RowAt s i fs
+  row_at s i no_forms h = record { forms = no_forms; right = tt; placed = tt; tokens = refl }
+  row_at s i (more_forms p ps) h = let u = form_at s i p h.1 in let r = row_at s (past i (write_form u.form)) ps h.2 in
+      record { forms = more_forms u.form r.forms; right = (u.part h.0, u.right, r.right); placed = (u.placed, r.placed); tokens = join u.tokens r.tokens }
+
+  pub list_at : (s : Sort) (i : ℕ) (fs : Forms) → AreForms s fs → ListAt s i fs
+  list_at s i no_forms h = record { forms = no_forms; right = tt; placed = tt; tokens = refl; tail = refl; some = λ p. p }
+  list_at s i (more_forms p ps) h = let u = form_at s i p h.0 in let r = list_at s (past i (write_form u.form) + 1) ps h.1 in
+      record { forms = more_forms u.form r.forms; right = (u.right, r.right); placed = (u.placed, r.placed); tokens = join u.tokens r.tail; tail = behind (mark t.Comma) (join u.tokens r.tail); some = λ p. tt }

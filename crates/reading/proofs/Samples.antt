@@ -1,0 +1,148 @@
+-- For each terminal a string that is a token of it.
+use Rattle.std.proofs.Common.{◌≡◌, ℕ, ◌≤◌, List, Some, refl, lit≤}
+use Rattle.std.specs.Prelude.{codes}
+use Rattle.tokens_why.specs.declared.terminal.Terminal.{Terminal}
+use Rattle.tokens_why.specs.declared.terminal.Terminal.TheVariants as t
+use Rattle.tokens_why.specs.declared.token.TokenKind.TheVariants as tk
+use Rattle.tokens_why.specs.Literal.{literal_value, greatest}
+use Rattle.tokens_why.specs.Strings.{kind_of}
+use Rattle.tokens_why.specs.Terminals.{kind_by, terminal_of}
+use Rattle.syntax_why.specs.Lexeme.{Lexeme, lexeme_by}
+use Rattle.reading.specs.Sentences.{CanStand}
+
+abbrev pub string : Terminal → List ℕ
+string t.Lident = codes "x"
+string t.Uident = codes "X"
+string t.Wild = codes "_"
+string t.TyVar = codes "'a"
+string t.Int = codes "0"
+string t.StarName = codes "(*)"
+string t.LParen = codes "("
+string t.RParen = codes ")"
+string t.LBrack = codes "["
+string t.RBrack = codes "]"
+string t.LBrace = codes "{"
+string t.RBrace = codes "}"
+string t.Comma = codes ","
+string t.Dot = codes "."
+string t.Colon = codes ":"
+string t.Semi = codes ";"
+string t.Bar = codes "|"
+string t.Arrow = codes "->"
+string t.Equiv = codes "<->"
+string t.Conj = codes "/\\"
+string t.AndAnd = codes "&&"
+string t.Disj = codes "\\/"
+string t.OrOr = codes "||"
+string t.Equal = codes "="
+string t.Minus = codes "-"
+string t.Operator1 = codes "<"
+string t.Operator2 = codes "+"
+string t.Operator3 = codes "*"
+string t.Operator4 = codes "@"
+string t.PrefixOperator = codes "!"
+string t.AsWord = codes "as"
+string t.AxiomWord = codes "axiom"
+string t.CloneWord = codes "clone"
+string t.ConstantWord = codes "constant"
+string t.ElseWord = codes "else"
+string t.EndWord = codes "end"
+string t.ExistsWord = codes "exists"
+string t.ExportWord = codes "export"
+string t.FalseWord = codes "false"
+string t.ForallWord = codes "forall"
+string t.FunctionWord = codes "function"
+string t.GoalWord = codes "goal"
+string t.IfWord = codes "if"
+string t.ImportWord = codes "import"
+string t.InWord = codes "in"
+string t.InductiveWord = codes "inductive"
+string t.LemmaWord = codes "lemma"
+string t.LetWord = codes "let"
+string t.MatchWord = codes "match"
+string t.ModuleWord = codes "module"
+string t.NotWord = codes "not"
+string t.PredicateWord = codes "predicate"
+string t.ScopeWord = codes "scope"
+string t.ThenWord = codes "then"
+string t.TheoryWord = codes "theory"
+string t.TrueWord = codes "true"
+string t.TypeWord = codes "type"
+string t.UseWord = codes "use"
+string t.WithWord = codes "with"
+string t.ProgramWord = codes "coinductive"
+string t.OtherWord = codes "abstract"
+
+abbrev pub sample : Terminal → Lexeme
+sample x = lexeme_by (terminal_of (kind_by x)) (string x)
+
+-- each is a token, of its terminal
+pub is_token : (x : Terminal) → kind_of (string x) ≡ Some (kind_by x)
+is_token t.Lident = refl
+is_token t.Uident = refl
+is_token t.Wild = refl
+is_token t.TyVar = refl
+is_token t.Int = refl
+is_token t.StarName = refl
+is_token t.LParen = refl
+is_token t.RParen = refl
+is_token t.LBrack = refl
+is_token t.RBrack = refl
+is_token t.LBrace = refl
+is_token t.RBrace = refl
+is_token t.Comma = refl
+is_token t.Dot = refl
+is_token t.Colon = refl
+is_token t.Semi = refl
+is_token t.Bar = refl
+is_token t.Arrow = refl
+is_token t.Equiv = refl
+is_token t.Conj = refl
+is_token t.AndAnd = refl
+is_token t.Disj = refl
+is_token t.OrOr = refl
+is_token t.Equal = refl
+is_token t.Minus = refl
+is_token t.Operator1 = refl
+is_token t.Operator2 = refl
+is_token t.Operator3 = refl
+is_token t.Operator4 = refl
+is_token t.PrefixOperator = refl
+is_token t.AsWord = refl
+is_token t.AxiomWord = refl
+is_token t.CloneWord = refl
+is_token t.ConstantWord = refl
+is_token t.ElseWord = refl
+is_token t.EndWord = refl
+is_token t.ExistsWord = refl
+is_token t.ExportWord = refl
+is_token t.FalseWord = refl
+is_token t.ForallWord = refl
+is_token t.FunctionWord = refl
+is_token t.GoalWord = refl
+is_token t.IfWord = refl
+is_token t.ImportWord = refl
+is_token t.InWord = refl
+is_token t.InductiveWord = refl
+is_token t.LemmaWord = refl
+is_token t.LetWord = refl
+is_token t.MatchWord = refl
+is_token t.ModuleWord = refl
+is_token t.NotWord = refl
+is_token t.PredicateWord = refl
+is_token t.ScopeWord = refl
+is_token t.ThenWord = refl
+is_token t.TheoryWord = refl
+is_token t.TrueWord = refl
+is_token t.TypeWord = refl
+is_token t.UseWord = refl
+is_token t.WithWord = refl
+is_token t.ProgramWord = refl
+is_token t.OtherWord = refl
+
+pub fits : (x : Terminal) → kind_by x ≡ tk.Int → literal_value (string x) ≤ greatest
+fits t.Int h = lit≤ tt
+fits _ h = cc
+
+pub can_stand : (x : Terminal) → CanStand (sample x)
+can_stand x = record { string = string x; kind = kind_by x; is = record { is = is_token x; fits = fits x }; lexeme = refl }

@@ -1,0 +1,6 @@
+use Rattle.std.proofs.Common.{◌≡◌, ◌++◌, drop}
+use Rattle.recognise_why.specs.Spans.{terminals_of}
+use Rattle.recognise_why.proofs.spans.terminals.Given as goal
+
+abbrev pub invariant-loop-token : goal.invariant-loop-token
+invariant-loop-token l = l.found.items ++ terminals_of (drop l.token-index l.tokens) ≡ terminals_of l.tokens

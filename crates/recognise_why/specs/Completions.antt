@@ -1,0 +1,25 @@
+-- Kinds of tokens that complete others.
+use Rattle.std.specs.Prelude.{List, [], ◌∷◌, ◌++◌}
+use Rattle.std.specs.Bool.{⊤}
+use Rattle.tokens_why.specs.declared.token.TokenKind.{TokenKind}
+use Rattle.tokens_why.specs.Terminals.{terminal_of}
+use Rattle.tokens_why.specs.Tokens.{IsString}
+use Rattle.syntax_why.specs.Lexeme.{Lexeme, Word, lexeme_by}
+use Rattle.reading.specs.Sentences.{IsOf}
+
+-- strings that are tokens of these kinds
+abbrev pub AreStrings : List TokenKind → List Word → Type 0
+AreStrings [] [] = ⊤
+AreStrings (k ∷ ks) (w ∷ ws) = IsString k w × AreStrings ks ws
+AreStrings _ _ = ⊥
+
+abbrev pub spelled : List TokenKind → List Word → List Lexeme
+spelled (k ∷ ks) (w ∷ ws) = lexeme_by (terminal_of k) w ∷ spelled ks ws
+spelled _ _ = []
+
+-- Behind the tokens some of these kinds, as a text can have them, make a right tree.
+pub record CompletesWith {V : Type 0} (is : V → Type 0) (write : V → List Lexeme) (xs : List Lexeme) (ks : List TokenKind) : Type 0 where
+  pub strings : List Word
+  pub are : AreStrings ks strings
+  pub tree : V
+  pub of : IsOf is write (xs ++ spelled ks strings) tree

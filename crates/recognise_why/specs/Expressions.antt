@@ -1,0 +1,41 @@
+-- The longest expression that stands at a token, or where none does any more.
+use Rattle.std.specs.Prelude.{ℕ, ◌+◌, ◌≡◌, ◌≤◌, ◌<◌, false, List, [], ◌∷◌, length, take, Some}
+use Rattle.std.specs.Bool.{⊤}
+use Rattle.tokens_why.specs.declared.token.Token.{Token}
+use Rattle.grammar.specs.declared.symbols.Symbol.TheVariants as s
+use Rattle.syntax_why.specs.Lexeme.{rest}
+use Rattle.syntax_why.specs.Trees.{Tree, IsLevel, IsPlacedTree, write}
+use Rattle.reading.specs.Values.{read}
+use Rattle.reading.specs.Sentences.{Begins, IsLongest, IsNone}
+use Rattle.recognise_why.specs.declared.fault.SyntaxFault.{SyntaxFault}
+use Rattle.recognise_why.specs.declared.fault.SyntaxFault.TheVariants as f
+
+-- The longest expression from a token on, and the token behind it: the one right tree of its tokens that has their places. No
+-- right tree has more of them.
+pub record IsLongestAt (text : List ℕ) (ts : List Token) (from : ℕ) (t : Tree) (to : ℕ) : Type 0 where
+  pub count : ℕ
+  pub end : to ≡ from + count
+  pub is : IsLongest IsLevel (IsPlacedTree from) write (rest text ts from) t count
+
+-- there is one, and it is read
+pub record EndsAt (text : List ℕ) (ts : List Token) (from to : ℕ) : Type 0 where
+  pub tree : Tree
+  pub within : to ≤ length ts
+  pub longest : IsLongestAt text ts from tree to
+  pub reads : read (take longest.count (rest text ts from)) from false (s.Expr 0 ∷ []) ≡ Some (tree, tt)
+
+-- No expression stands there. The tokens up to a place begin one, and with the next token, if there is one, they begin none.
+pub record IsFaultAt (text : List ℕ) (ts : List Token) (from i : ℕ) : Type 0 where
+  pub count : ℕ
+  pub place : i ≡ from + count
+  pub high : count ≤ length (rest text ts from)
+  pub none : (m : ℕ) → m ≤ length (rest text ts from) → IsNone IsLevel write (take m (rest text ts from))
+  pub begins : Begins IsLevel write (take count (rest text ts from))
+  pub stops : count < length (rest text ts from) → Begins IsLevel write (take (count + 1) (rest text ts from)) → ⊥
+
+-- want of memory, or the least place with which no expression begins
+abbrev pub IsExpressionRefusal : List ℕ → List Token → ℕ → SyntaxFault → Type 0
+IsExpressionRefusal text ts from f.Memory = ⊤
+IsExpressionRefusal text ts from (f.Syntax i) = IsFaultAt text ts from i
+IsExpressionRefusal text ts from (f.TooDeep i) = ⊥
+IsExpressionRefusal text ts from (f.ProgramDecl i) = ⊥

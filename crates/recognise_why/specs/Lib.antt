@@ -1,0 +1,5 @@
+pub mod Depth
+pub mod Spans
+pub mod Expressions
+pub mod Sources
+pub mod Completions

@@ -1,0 +1,88 @@
+// Kinds of tokens that complete an expression or a source, and the laws that tokens have one tree at most.
+// It depends on the table's machine.
+ghost use Rattle.std.specs.Prelude.{◌≡◌, ◌≤◌, ◌∷◌, ◌++◌, [], true, List, ℕ, None, length, take, map, IfOk};
+ghost use Rattle.grammar.specs.Machine.{accepts, is_safe};
+ghost use Rattle.grammar.specs.declared.symbols.Symbol.TheVariants.{Expr, File};
+ghost use Rattle.tokens_why.specs.Terminals.{kind_by};
+ghost use Rattle.tokens_why.specs.Tokens.{AreTokens};
+ghost use Rattle.syntax_why.specs.Lexeme.{Lexeme, rest};
+ghost use Rattle.syntax_why.specs.Trees.{Tree, IsLevel, IsPlacedTree, write};
+ghost use Rattle.syntax_why.specs.Declarations.{Theory, write_file};
+ghost use Rattle.syntax_why.specs.DeclarationRules.{IsLevelFile, PlacedFile};
+ghost use Rattle.reading.specs.Sentences.{Begins, IsOf};
+ghost use Rattle.recognise_why.specs.Completions.{CompletesWith};
+ghost use Rattle.recognise_why.specs.Spans.{between, terminals_of};
+
+use crate::spans::terminals;
+use grammar::{Symbol, complete as complete_symbol};
+use std::alloc::{AllocError, Global};
+use tokens_why::{Terminal, Token, TokenKind, token_kinds};
+
+/// Kinds of tokens that complete the tokens of a symbol, which some tokens complete.
+fn completion(alloc: Global, start: Symbol, tokens: &[Token]) -> Result<Vec<TokenKind>, AllocError>
+    requires safe { is_safe (start ∷ []) None ≡ true }
+    requires some { (ys : List Terminal) × (accepts (start ∷ []) (terminals_of tokens.now ++ ys)
+        ≡ true) }
+    ensures { IfOk result (λ v. (ys : List Terminal) ×
+        (accepts (start ∷ []) (terminals_of tokens.now ++ ys) ≡ true) × (v.items ≡ map kind_by ys)) }
+{
+    let found = terminals(alloc, tokens)?;
+    match complete_symbol(alloc, start, &found)? {
+        Some(more) => token_kinds(alloc, more.as_slice()),
+        None => unreachable!(),
+    }
+}
+
+/// Kinds of tokens which, behind the tokens from a place up to another, make an expression.
+///
+/// `tokens` are those of `text`, and some expression begins with the tokens from `from` up to `upto`. Memory may run out.
+pub fn complete_expr(
+    alloc: Global,
+    tokens: &[Token],
+    text: &[u8],
+    from: usize,
+    upto: usize,
+) -> Result<Vec<TokenKind>, AllocError>
+    requires tokens { AreTokens text.now tokens.now }
+    requires low { from ≤ upto }
+    requires high { upto ≤ length tokens.now }
+    requires begins { Begins IsLevel write (between text.now tokens.now from upto) }
+    ensures { IfOk result (λ v. CompletesWith IsLevel write
+        (between text.now tokens.now from upto) v.items) }
+{
+    let _ = text;
+    let kinds = completion(alloc, Symbol::Expr(0), &tokens[from..upto])?;
+    Ok(kinds)
+}
+
+/// Kinds of tokens which, behind the tokens before a place, make a source.
+///
+/// `tokens` are those of `text`, and some source begins with those before `upto`. Memory may run out.
+pub fn complete(
+    alloc: Global,
+    tokens: &[Token],
+    text: &[u8],
+    upto: usize,
+) -> Result<Vec<TokenKind>, AllocError>
+    requires tokens { AreTokens text.now tokens.now }
+    requires place { upto ≤ length tokens.now }
+    requires begins { Begins IsLevelFile write_file (take upto (rest text.now tokens.now 0)) }
+    ensures { IfOk result (λ v. CompletesWith IsLevelFile write_file
+        (take upto (rest text.now tokens.now 0)) v.items) }
+{
+    let _ = text;
+    let kinds = completion(alloc, Symbol::File, &tokens[..upto])?;
+    Ok(kinds)
+}
+
+/// A law: two right trees of the same tokens that have their places are equal.
+pub fn has_one_tree()
+    ensures { (i : ℕ) (xs : List Lexeme) (t u : Tree) → IsOf IsLevel write xs t → IsPlacedTree i t
+        → IsOf IsLevel write xs u → IsPlacedTree i u → t ≡ u }
+{}
+
+/// A law: two right files of the same tokens that have their places are equal.
+pub fn has_one_file()
+    ensures { (i : ℕ) (xs : List Lexeme) (f g : List Theory) → IsOf IsLevelFile write_file xs f
+        → PlacedFile i f → IsOf IsLevelFile write_file xs g → PlacedFile i g → f ≡ g }
+{}

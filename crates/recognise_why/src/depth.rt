@@ -1,0 +1,178 @@
+// How deep tokens are nested: the first that is nested too deep.
+// It depends on the terminals; the reader of files asks it before it asks the grammar.
+ghost use Rattle.std.specs.Prelude.{◌≡◌, ◌≤◌, [], IfOk, MatchOption};
+ghost use Rattle.recognise_why.specs.Depth as spec;
+ghost use Rattle.recognise_why.specs.Depth.{depth as depth_of, most_nested, nested, IsTooDeep, IsShallow};
+ghost use Rattle.recognise_why.specs.declared.depth.Nesting.TheVariants.{Opens as OpensOne, Closes as ClosesOne, Counts as CountsOne, Restarts as RestartsOne};
+
+use crate::stack::Stack;
+use std::alloc::{AllocError, Global};
+use tokens_why::Terminal;
+
+/// What a token does to the counters of open brackets: it opens a bracket, closes the innermost one, counts in it, or lets it
+/// count from 0 again.
+#[derive(Clone, Copy)]
+pub enum Nesting {
+    Opens,
+    Closes,
+    Counts,
+    Restarts,
+    Keeps,
+}
+
+/// The counters of the open brackets, the innermost on top, and how deep a token behind them is nested.
+#[derive(Drop)]
+struct Counters {
+    counts: Stack,
+    depth: usize,
+    ghost is_depth: { depth ≡ depth_of counts },
+}
+
+/// What a terminal does.
+fn nests(terminal: Terminal) -> Nesting
+    ensures { result ≡ spec.nesting terminal }
+{
+    match terminal {
+        Terminal::LParen
+        | Terminal::LBrack
+        | Terminal::LBrace
+        | Terminal::TheoryWord
+        | Terminal::ModuleWord
+        | Terminal::ScopeWord
+        | Terminal::MatchWord => Nesting::Opens,
+        Terminal::RParen | Terminal::RBrack | Terminal::RBrace | Terminal::EndWord => {
+            Nesting::Closes
+        }
+        Terminal::IfWord
+        | Terminal::LetWord
+        | Terminal::ForallWord
+        | Terminal::ExistsWord
+        | Terminal::NotWord
+        | Terminal::Arrow
+        | Terminal::Equiv
+        | Terminal::Conj
+        | Terminal::AndAnd
+        | Terminal::Disj
+        | Terminal::OrOr
+        | Terminal::Equal
+        | Terminal::Minus
+        | Terminal::Operator1
+        | Terminal::Operator2
+        | Terminal::Operator3
+        | Terminal::Operator4
+        | Terminal::PrefixOperator => Nesting::Counts,
+        Terminal::TypeWord
+        | Terminal::FunctionWord
+        | Terminal::PredicateWord
+        | Terminal::ConstantWord
+        | Terminal::InductiveWord
+        | Terminal::AxiomWord
+        | Terminal::LemmaWord
+        | Terminal::GoalWord
+        | Terminal::UseWord
+        | Terminal::CloneWord
+        | Terminal::WithWord
+        | Terminal::Bar => Nesting::Restarts,
+        _ => Nesting::Keeps,
+    }
+}
+
+/// One bracket more.
+fn opened(counters: Counters) -> Result<Counters, AllocError>
+    requires { counters.depth ≤ most_nested }
+    ensures { IfOk result (λ c. c.counts ≡ nested OpensOne counters.counts) }
+{
+    let Counters { counts, depth } = counters;
+    let counts = counts.push(0)?;
+    Ok(Counters {
+        counts,
+        depth: depth + 1,
+    })
+}
+
+/// Without the innermost bracket, if there is one.
+fn closed(alloc: Global, counters: Counters) -> Counters
+    ensures { result.counts ≡ nested ClosesOne counters.counts }
+{
+    let Counters { counts, depth } = counters;
+    match counts.pop() {
+        None => no_counters(alloc),
+        Some((count, outer)) => Counters {
+            counts: outer,
+            depth: depth - 1 - count,
+        },
+    }
+}
+
+/// One count more in the innermost bracket, if there is one.
+fn counted(alloc: Global, counters: Counters) -> Result<Counters, AllocError>
+    requires { counters.depth ≤ most_nested }
+    ensures { IfOk result (λ c. c.counts ≡ nested CountsOne counters.counts) }
+{
+    let Counters { counts, depth } = counters;
+    match counts.pop() {
+        None => Ok(no_counters(alloc)),
+        Some((count, outer)) => {
+            let counts = outer.push(count + 1)?;
+            Ok(Counters {
+                counts,
+                depth: depth + 1,
+            })
+        }
+    }
+}
+
+/// No count in the innermost bracket, if there is one.
+fn restarted(alloc: Global, counters: Counters) -> Result<Counters, AllocError>
+    ensures { IfOk result (λ c. c.counts ≡ nested RestartsOne counters.counts) }
+{
+    let Counters { counts, depth } = counters;
+    match counts.pop() {
+        None => Ok(no_counters(alloc)),
+        Some((count, outer)) => {
+            let counts = outer.push(0)?;
+            Ok(Counters {
+                counts,
+                depth: depth - count,
+            })
+        }
+    }
+}
+
+fn no_counters(alloc: Global) -> Counters
+    ensures { result.counts ≡ [] }
+{
+    Counters {
+        counts: Stack::new(alloc),
+        depth: 0,
+    }
+}
+
+/// The counters behind a token.
+fn behind(alloc: Global, counters: Counters, by: Nesting) -> Result<Counters, AllocError>
+    requires { counters.depth ≤ most_nested }
+    ensures { IfOk result (λ c. c.counts ≡ nested by counters.counts) }
+{
+    match by {
+        Nesting::Opens => opened(counters),
+        Nesting::Closes => Ok(closed(alloc, counters)),
+        Nesting::Counts => counted(alloc, counters),
+        Nesting::Restarts => restarted(alloc, counters),
+        Nesting::Keeps => Ok(counters),
+    }
+}
+
+/// The first token that is nested deeper than 200, or none.
+pub fn too_deep(alloc: Global, tokens: &[Terminal]) -> Result<Option<usize>, AllocError>
+    ensures { IfOk result (λ r. MatchOption r (IsShallow tokens.now) (IsTooDeep tokens.now)) }
+{
+    let mut counters = no_counters(alloc);
+    for at in 0..tokens.len() {
+        let next = behind(alloc, counters, nests(tokens[at]))?;
+        if next.depth > 200 {
+            return Ok(Some(at));
+        }
+        counters = next;
+    }
+    Ok(None)
+}

@@ -1,0 +1,46 @@
+// How far the longest expression from a token on goes, or where none stands any more.
+// It depends on the table's machine; the reader of expressions asks it before it makes a tree.
+ghost use Rattle.std.specs.Prelude.{◌≡◌, ◌∷◌, [], false, true, List, ℕ, IfOk, IfErr};
+ghost use Rattle.grammar.specs.Ends.{IsFault};
+ghost use Rattle.grammar.specs.Machine.{accepts};
+ghost use Rattle.grammar.specs.declared.symbols.Symbol.TheVariants as symbol;
+ghost use Rattle.tokens_why.specs.declared.terminal.Terminal.TheVariants.{OtherWord};
+ghost use Rattle.recognise_why.specs.Expressions.{EndsAt, IsExpressionRefusal};
+
+use crate::fault::SyntaxFault;
+use crate::spans::terminals_from;
+use grammar::{Fault, Symbol, first_fault, longest};
+use std::alloc::{AllocError, Global};
+use tokens_why::{Terminal, Token};
+
+/// Where terminals that are no expression go wrong.
+fn expression_fault(alloc: Global, terminals: &[Terminal]) -> Result<Fault, AllocError>
+    requires { accepts (symbol.Expr 0 ∷ []) terminals.now ≡ false }
+    ensures { IfOk result (λ f. IsFault (symbol.Expr 0 ∷ []) terminals.now OtherWord f.place
+        f.other_stands) }
+{
+    match first_fault(alloc, Symbol::Expr(0), terminals, Terminal::OtherWord)? {
+        Some(fault) => Ok(fault),
+        None => unreachable!(),
+    }
+}
+
+/// The token behind the longest expression from a token on.
+///
+/// A refusal is `Memory`, or `Syntax` at the least token such that no expression begins with the tokens from `from` up to that
+/// one (the token behind the last one, where they end too early). The work is linear in the tokens.
+pub fn expression_end(alloc: Global, tokens: &[Token], from: usize) -> Result<usize, SyntaxFault>
+    ensures ends { (text : List ℕ) → IfOk result (EndsAt text tokens.now from) }
+    ensures refused { (text : List ℕ) → IfErr result (IsExpressionRefusal text tokens.now from) }
+{
+    let terminals = terminals_from(alloc, tokens, from)?;
+    match longest(alloc, Symbol::Expr(0), &terminals)? {
+        Some(count) => Ok(from + count),
+        None => {
+            let fault = expression_fault(alloc, &terminals)?;
+            Err(SyntaxFault::Syntax {
+                token: from + fault.place,
+            })
+        }
+    }
+}

@@ -1,0 +1,17 @@
+//! What the grammar says of tokens before any tree is made: whether they are a source, or where they go wrong; how far an
+//! expression goes; how deep they are nested; and what completes them.
+//! It depends on the table of the grammar and its laws; the readers, which make the trees, depend on it.
+#![tactic(auto)]
+
+mod completing;
+mod depth;
+mod expressions;
+mod fault;
+mod sources;
+mod spans;
+mod stack;
+
+pub use completing::{complete, complete_expr, has_one_file, has_one_tree};
+pub use expressions::expression_end;
+pub use fault::SyntaxFault;
+pub use sources::check_source;

@@ -1,0 +1,140 @@
+-- Types and patterns, their tokens, which of them are right, and where their parts stand.
+use Rattle.std.specs.Prelude.{ℕ, ◌+◌, ◌≡◌, List, [], ◌∷◌, ◌++◌}
+use Rattle.std.specs.Bool.{⊤}
+use Rattle.tokens_why.specs.declared.terminal.Terminal.{Terminal}
+use Rattle.tokens_why.specs.declared.terminal.Terminal.TheVariants as t
+use Rattle.syntax_why.specs.declared.names.At.{At}
+use Rattle.syntax_why.specs.declared.names.Name.{Name}
+use Rattle.syntax_why.specs.Lexeme.{Word, Lexeme, lx, mark, at}
+
+-- a name behind its scopes
+pub data Own : Type 0 where
+  lower : Word → Own
+  upper : Word → Own
+  infix_op : Terminal → Word → Own
+  prefix_op : Terminal → Word → Own
+  star : Own
+
+pub record Called : Type 0 where
+  pub at : ℕ
+  pub scopes : List Word
+  pub own : Own
+
+abbrev pub called : ℕ → List Word → Own → Called
+called i qs o = record { at = i; scopes = qs; own = o }
+
+mutual
+  pub data Form : Type 0 where
+    wild : At → Form
+    variable : At → Name → Form
+    type_variable : At → Word → Form
+    composed : At → Called → Forms → Form
+    enclosed : At → Forms → Form
+    aliased : At → Form → Name → Form
+
+  pub data Forms : Type 0 where
+    no_forms : Forms
+    more_forms : Form → Forms → Forms
+
+abbrev pub scoped : List Word → List Lexeme
+scoped [] = []
+scoped (q ∷ qs) = lx t.Uident q ∷ mark t.Dot ∷ scoped qs
+
+abbrev pub write_own : Own → List Lexeme
+write_own (lower w) = lx t.Lident w ∷ []
+write_own (upper w) = lx t.Uident w ∷ []
+write_own (infix_op o w) = mark t.LParen ∷ lx o w ∷ mark t.RParen ∷ []
+write_own (prefix_op o w) = mark t.LParen ∷ lx o w ∷ mark t.Wild ∷ mark t.RParen ∷ []
+write_own star = mark t.StarName ∷ []
+
+abbrev pub write_called : Called → List Lexeme
+write_called c = scoped c.scopes ++ write_own c.own
+
+abbrev mutual
+  pub write_form : Form → List Lexeme
+  write_form (wild a) = mark t.Wild ∷ []
+  write_form (variable a n) = lx t.Lident n.text ∷ []
+  write_form (type_variable a w) = lx t.TyVar w ∷ []
+  write_form (composed a c ts) = write_called c ++ form_row ts
+  write_form (enclosed a ts) = mark t.LParen ∷ (form_list ts ++ (mark t.RParen ∷ []))
+  write_form (aliased a p n) = write_form p ++ (mark t.AsWord ∷ lx t.Lident n.text ∷ [])
+
+  pub form_row : Forms → List Lexeme
+  form_row no_forms = []
+  form_row (more_forms p ps) = write_form p ++ form_row ps
+
+  pub form_list : Forms → List Lexeme
+  form_list no_forms = []
+  form_list (more_forms p ps) = write_form p ++ form_tail ps
+
+  pub form_tail : Forms → List Lexeme
+  form_tail no_forms = []
+  form_tail (more_forms p ps) = mark t.Comma ∷ (write_form p ++ form_tail ps)
+
+pub data Sort : Type 0 where
+  types : Sort
+  patterns : Sort
+
+abbrev pub OfTypes : Sort → Type 0
+OfTypes types = ⊤
+OfTypes patterns = ⊥
+
+abbrev pub OfPatterns : Sort → Type 0
+OfPatterns types = ⊥
+OfPatterns patterns = ⊤
+
+abbrev pub IsHead : Sort → Own → Type 0
+IsHead types (lower w) = ⊤
+IsHead patterns (upper w) = ⊤
+IsHead _ _ = ⊥
+
+abbrev pub IsPart : Form → Type 0
+IsPart (composed a c (more_forms p ps)) = ⊥
+IsPart (aliased a p n) = ⊥
+IsPart _ = ⊤
+
+abbrev pub IsUnnamed : Form → Type 0
+IsUnnamed (aliased a p n) = ⊥
+IsUnnamed _ = ⊤
+
+abbrev mutual
+  pub IsForm : Sort → Form → Type 0
+  IsForm s (wild a) = OfPatterns s
+  IsForm s (variable a n) = OfPatterns s
+  IsForm s (type_variable a w) = OfTypes s
+  IsForm s (composed a c ts) = IsHead s c.own × AreParts s ts
+  IsForm s (enclosed a ts) = AreForms s ts
+  IsForm s (aliased a p n) = OfPatterns s × IsUnnamed p × IsForm s p
+
+  pub AreParts : Sort → Forms → Type 0
+  AreParts s no_forms = ⊤
+  AreParts s (more_forms p ps) = IsPart p × IsForm s p × AreParts s ps
+
+  pub AreForms : Sort → Forms → Type 0
+  AreForms s no_forms = ⊤
+  AreForms s (more_forms p ps) = IsForm s p × AreForms s ps
+
+-- the number of the token behind those that begin at i
+abbrev pub past : ℕ → List Lexeme → ℕ
+past i [] = i
+past i (x ∷ xs) = past (i + 1) xs
+
+-- Token i is the first one.
+abbrev mutual
+  pub IsPlaced : ℕ → Form → Type 0
+  IsPlaced i (wild a) = a ≡ at i
+  IsPlaced i (variable a n) = (a ≡ at i) × (n.at ≡ i)
+  IsPlaced i (type_variable a w) = a ≡ at i
+  IsPlaced i (composed a c ts) = (a ≡ at i) × (c.at ≡ i) × PlacedRow (past i (write_called c)) ts
+  IsPlaced i (enclosed a ts) = (a ≡ at i) × PlacedList (i + 1) ts
+  IsPlaced i (aliased a p n) = (a ≡ at i) × IsPlaced i p × (n.at ≡ past i (write_form p) + 1)
+
+  -- side by side
+  pub PlacedRow : ℕ → Forms → Type 0
+  PlacedRow i no_forms = ⊤
+  PlacedRow i (more_forms p ps) = IsPlaced i p × PlacedRow (past i (write_form p)) ps
+
+  -- with a token between
+  pub PlacedList : ℕ → Forms → Type 0
+  PlacedList i no_forms = ⊤
+  PlacedList i (more_forms p ps) = IsPlaced i p × PlacedList (past i (write_form p) + 1) ps

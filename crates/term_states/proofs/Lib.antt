@@ -1,2 +1,0 @@
-pub mod ClimbLemmas
-pub mod Tops

@@ -1,0 +1,4 @@
+pub mod Types
+pub mod Binders
+pub mod Named
+pub mod Variables

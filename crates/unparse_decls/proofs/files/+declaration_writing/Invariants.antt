@@ -1,8 +1,0 @@
-use Rattle.std.proofs.Common.{◌≡◌, ◌++◌, drop, map}
-use Rattle.syntax_why.specs.Declarations.{decls, decl_of}
-use Rattle.syntax_why.specs.WriteDeclarations.{write_decls}
-use Rattle.syntax_why.specs.Lexeme.{kinds}
-use Rattle.unparse_decls.proofs.files.+declaration_writing.Given as goal
-
-abbrev pub invariant-push_decls-loop-decl : goal.invariant-push_decls-loop-decl
-invariant-push_decls-loop-decl l = l.out.items ++ kinds (write_decls (decls (map decl_of (drop l.decl-index l.of)))) ≡ l.fn.out.items ++ kinds (write_decls (decls (map decl_of l.of)))

@@ -1,0 +1,8 @@
+-- The kinds of a path's tokens are the same whatever its first part is.
+use Rattle.std.proofs.Common.{◌≡◌, List, [], ◌∷◌, refl}
+use Rattle.syntax_why.specs.Lexeme.{Word, terminals}
+use Rattle.syntax_why.specs.Declarations.{path_from}
+
+pub any_first : (w : Word) (ws : List Word) → terminals (path_from w ws) ≡ terminals (path_from [] ws)
+any_first w [] = refl
+any_first w (v ∷ ws) = refl

@@ -1,0 +1,8 @@
+use Rattle.std.proofs.Common.{◌≡◌, ◌++◌, drop, map}
+use Rattle.syntax_why.specs.Lexeme.{terminals}
+use Rattle.syntax_why.specs.Declarations.{clause_list, clause_tail}
+use Rattle.syntax_why.specs.SurfaceDeclarations.{clause_of}
+use Rattle.unparse_why.proofs.files.push_clauses.Given as goal
+
+abbrev pub invariant-loop-clause : goal.invariant-loop-clause
+invariant-loop-clause l = l.out.items ++ terminals (clause_tail (map clause_of (drop l.clause-index l.rest))) ≡ l.fn.out.items ++ terminals (clause_list (map clause_of l.fn.of))

@@ -1,0 +1,8 @@
+use Rattle.std.proofs.Common.{◌≡◌, ◌++◌, drop, map}
+use Rattle.syntax_why.specs.Lexeme.{terminals}
+use Rattle.syntax_why.specs.Declarations.{constructor_list, constructor_tail}
+use Rattle.syntax_why.specs.SurfaceDeclarations.{constructor_of}
+use Rattle.unparse_why.proofs.files.push_constructors.Given as goal
+
+abbrev pub invariant-loop-constructor : goal.invariant-loop-constructor
+invariant-loop-constructor l = l.out.items ++ terminals (constructor_tail (map constructor_of (drop l.constructor-index l.rest))) ≡ l.fn.out.items ++ terminals (constructor_list (map constructor_of l.fn.of))

@@ -1,0 +1,8 @@
+use Rattle.std.proofs.Common.{◌≡◌, ◌++◌, drop, map}
+use Rattle.syntax_why.specs.Lexeme.{terminals}
+use Rattle.syntax_why.specs.Declarations.{param_row}
+use Rattle.syntax_why.specs.SurfaceDeclarations.{param_of}
+use Rattle.unparse_why.proofs.files.push_params.Given as goal
+
+abbrev pub invariant-loop-param : goal.invariant-loop-param
+invariant-loop-param l = l.out.items ++ terminals (param_row (map param_of (drop l.param-index l.of))) ≡ l.fn.out.items ++ terminals (param_row (map param_of l.of))
