@@ -4,6 +4,8 @@ use Rattle.std.proofs.lemmas.Grind.{common_steps}
 use Rattle.std.proofs.lemmas.List.{get_or_default, length-append, take_more, reverse-append, set-append_left}
 use Rattle.names_space.specs.declared.Table.{Table}
 use Rattle.names_space.specs.declared.Table.TheVariants.{Scopes}
+use Rattle.names_space.specs.declared.TypeName.{TypeName}
+use Rattle.names_space.specs.declared.TypeName.TheVariants as stands
 use Rattle.names_space.specs.Names.{Entry, Names, latest, first_found, or_else, with_scope}
 
 pub reverse-snoc : (xs : List ℕ) (x : ℕ) → reverse (xs ++ x ∷ []) ≡ x ∷ reverse xs
@@ -27,13 +29,13 @@ read_at entries pushed i v within is_pushed is_read =
 pub scoped : (entries pushed : List (List Entry)) (outer outer' : List ℕ) (i number : ℕ) (name name' : List ℕ) (declared : Bool) (added : List Entry) (now : Names)
     → (let view : Names = record { entries = entries; nested = i ∷ reverse outer } in view ≡ now)
     → i < length entries → pushed ≡ entries ++ [] ∷ []
-    → added ≡ record { table = Scopes; name = name'; thing = number; declared = declared } ∷ get_or pushed i []
+    → added ≡ record { table = Scopes; name = name'; thing = stands.Entry number; declared = declared } ∷ get_or pushed i []
     → outer' ≡ outer ++ i ∷ [] → number ≡ length entries → name' ≡ name
     → (let made : Names = record { entries = set pushed i added; nested = number ∷ reverse outer' } in made ≡ with_scope name declared now)
 scoped entries pushed outer outer' i number name name' declared added now is_now within is_pushed is_added is_outer is_number is_name =
     let inner = reverse-snoc outer i in
     let before = get_before entries i within in
-    let entry : Entry = record { table = Scopes; name = name; thing = length entries; declared = declared } in
+    let entry : Entry = record { table = Scopes; name = name; thing = stands.Entry (length entries); declared = declared } in
     let written = set_before entries i (entry ∷ get_or entries i []) within in
     rw (is_added, is_pushed, is_outer, is_number, is_name, ← is_now) (cc (inner, before, written))
 

@@ -1,17 +1,20 @@
 -- Lists of entries as they grow by one, and the map beside them.
-use Rattle.std.proofs.Common.{◌≡◌, ℕ, ◌+◌, ◌-◌, Bool, true, false, cond, ◌&&◌, ◌||◌, List, [], ◌∷◌, ◌++◌, length, drop, map, Option, Some, None, String, string_bytes, sym, refl, ap, ◌∙◌, arith, append_assoc}
+use Rattle.std.proofs.Common.{◌≡◌, ℕ, ◌+◌, ◌-◌, Bool, true, false, cond, ◌&&◌, ◌||◌, List, [], ◌∷◌, ◌++◌, length, drop, map, Option, Some, None, Vec, nat_eq, sym, refl, ap, ◌∙◌, arith, append_assoc}
 use Rattle.std.proofs.lemmas.Grind.{common_steps}
-use Rattle.std.specs.HashMap.{HashMap, get_by_text}
+use Rattle.std.specs.HashMap.{HashMap, get_by, UpdatesBy}
+use Rattle.std.specs.Map.{lookup, IsKeyTest, AreApart, KeepsOthers}
+use Rattle.std.specs.Cmp.Lexicographic.{nat_list_eq_equiv}
 use Rattle.std.specs.Str.{bytes_eq}
 use Rattle.std.proofs.lemmas.Slice.Eq.{bytes_eq-Decides}
 use Rattle.names_space.specs.declared.Table.{Table}
 use Rattle.names_space.specs.declared.Table.TheVariants.{Types, Symbols, Propositions, Scopes}
+use Rattle.names_space.specs.declared.TypeName.{TypeName}
 use Rattle.names_space.specs.declared.entries.Meaning.{Meaning}
 use Rattle.names_space.specs.declared.entries.Meanings.{Meanings}
 use Rattle.names_space.specs.declared.entries.Stored.{Stored}
 use Rattle.names_space.specs.declared.entries.Item.{Item}
 use Rattle.names_space.specs.Names.{Entry, is_named, same_table, latest, is_declared, imported}
-use Rattle.names_space.specs.Kept.{entry_of, entries_before, latest_first, brought, brought_before, was_declared, thing_of, with_meaning, meaning, meaning_in, meaning_at, KeepBefore, IsKept}
+use Rattle.names_space.specs.Kept.{entry_of, entries_before, latest_first, brought, brought_before, was_declared, thing_of, with_meaning, meaning, meaning_in, meaning_at, KeepBefore, meanings_of, IsKept}
 
 pub same_table_is : (t u : Table) → same_table t u ≡ true → t ≡ u
 same_table_is Types Types h = refl
@@ -43,7 +46,7 @@ bytes_eq_is xs ys h = (bytes_eq-Decides xs ys).0 h
 pub bytes_eq_refl : (xs : List ℕ) → bytes_eq xs xs ≡ true
 bytes_eq_refl xs = (bytes_eq-Decides xs xs).1 refl
 
-thing_at : (b : Bool) (e : Entry) (m : Option Meaning) (rest : Option ℕ) → thing_of m ≡ rest → thing_of (cond b (with_meaning e m) m) ≡ cond b (Some e.thing) rest
+thing_at : (b : Bool) (e : Entry) (m : Option Meaning) (rest : Option TypeName) → thing_of m ≡ rest → thing_of (cond b (with_meaning e m) m) ≡ cond b (Some e.thing) rest
 thing_at true e m rest h = refl
 thing_at false e m rest h = h
 
@@ -91,7 +94,7 @@ popped stored xs x now is_stored is_now =
     let first : drop 1 (entry_of x ∷ latest_first xs) ≡ latest_first xs = refl in
     sym first ∙ ap (drop 1) whole
 
-pub keep_before-snoc : (es : List Entry) (xs : List Stored) (x : Stored) → KeepBefore es xs → x.before ≡ meaning x.table (string_bytes x.name) (entries_before es xs) → KeepBefore es (xs ++ x ∷ [])
+pub keep_before-snoc : (es : List Entry) (xs : List Stored) (x : Stored) → KeepBefore es xs → x.before ≡ meaning x.table x.name.items (entries_before es xs) → KeepBefore es (xs ++ x ∷ [])
 keep_before-snoc es [] x h b = (b, tt)
 keep_before-snoc es (y ∷ ys) x h b = (h.0, keep_before-snoc (entry_of y ∷ es) ys x h.1 b)
 
@@ -99,7 +102,7 @@ pub keep_before-front : (es : List Entry) (xs : List Stored) (x : Stored) → Ke
 keep_before-front es [] x h = tt
 keep_before-front es (y ∷ ys) x h = (h.0, keep_before-front (entry_of y ∷ es) ys x h.1)
 
-pub keep_before-last : (es : List Entry) (xs : List Stored) (x : Stored) → KeepBefore es (xs ++ x ∷ []) → x.before ≡ meaning x.table (string_bytes x.name) (entries_before es xs)
+pub keep_before-last : (es : List Entry) (xs : List Stored) (x : Stored) → KeepBefore es (xs ++ x ∷ []) → x.before ≡ meaning x.table x.name.items (entries_before es xs)
 keep_before-last es [] x h = h.0
 keep_before-last es (y ∷ ys) x h = keep_before-last (entry_of y ∷ es) ys x h.1
 
@@ -119,76 +122,92 @@ drop-append-rest p es = grind (arith, common_steps)
 pub drop-brought_before : (es : List Entry) (xs : List Item) → drop (length (brought_before es xs) - length es) (brought_before es xs) ≡ es
 drop-brought_before es xs = rw (brought_before-append es xs) (drop-append-rest (brought_before [] xs) es)
 
+-- what a query for another key finds
+other_entries : {K X : Type 0} (eq : K → K → Bool) (test : K → Bool) (old new : List (K × X)) → KeepsOthers eq test old new → (other : K → Bool) → IsKeyTest eq other → AreApart test other → lookup other new ≡ lookup other old
+unfolding KeepsOthers
+other_entries eq test old new h = h
+
+apart : (name q key : List ℕ) → bytes_eq name q ≡ false → bytes_eq name key ≡ true → bytes_eq q key ≡ false
+apart name q key differs same = nat_list_eq_equiv.symm q key ∙ sym (nat_list_eq_equiv.congr name key q same) ∙ differs
+
+-- what a map has at a name, after a change at one
+pub updates_name : {Y X S : Type 0} (name : List ℕ) (old new : HashMap (Vec ℕ Y) X S) (w : Option X) → UpdatesBy (λ x y. bytes_eq x.items y.items) (λ k. bytes_eq name k.items) old new w
+    → (q : List ℕ) → get_by (λ k. bytes_eq q k.items) new ≡ cond (bytes_eq name q) w (get_by (λ k. bytes_eq q k.items) old)
+updates_name name old new w h q = at (bytes_eq name q) refl where
+  at : (b : Bool) → bytes_eq name q ≡ b → get_by (λ k. bytes_eq q k.items) new ≡ cond b w (get_by (λ k. bytes_eq q k.items) old)
+  at true same = ap (λ (n : List ℕ). get_by (λ k. bytes_eq n k.items) new) (sym (bytes_eq_is name q same)) ∙ h.1
+  at false differs = other_entries (λ x y. bytes_eq x.items y.items) (λ k. bytes_eq name k.items) old.entries new.entries h.3 (λ k. bytes_eq q k.items) (λ x y. nat_list_eq_equiv.congr q x.items y.items) (λ k. apart name q k.items differs)
+
 module _ {Y S : Type 0} where
   -- the meaning at a name, where the map changed at one
-  changed : (x : Stored) (q : List ℕ) (old new : HashMap (String Y) Meanings S) (next : Meanings) → get_by_text new q ≡ cond (bytes_eq (string_bytes x.name) q) (Some next) (get_by_text old q) → (t : Table) → meaning_at t (get_by_text new q) ≡ cond (bytes_eq (string_bytes x.name) q) (meaning_in t next) (meaning_at t (get_by_text old q))
-  changed x q old new next e t = rw e (at (bytes_eq (string_bytes x.name) q)) where
-    at : (b : Bool) → meaning_at t (cond b (Some next) (get_by_text old q)) ≡ cond b (meaning_in t next) (meaning_at t (get_by_text old q))
+  changed : (x : Stored) (q : List ℕ) (old new : HashMap (Vec ℕ Y) Meanings S) (next : Meanings) → meanings_of new q ≡ cond (bytes_eq x.name.items q) (Some next) (meanings_of old q) → (t : Table) → meaning_at t (meanings_of new q) ≡ cond (bytes_eq x.name.items q) (meaning_in t next) (meaning_at t (meanings_of old q))
+  changed x q old new next e t = rw e (at (bytes_eq x.name.items q)) where
+    at : (b : Bool) → meaning_at t (cond b (Some next) (meanings_of old q)) ≡ cond b (meaning_in t next) (meaning_at t (meanings_of old q))
     at true = refl
     at false = refl
 
   -- a further entry
-  pub kept_push : (xs : List Stored) (x : Stored) (old new : HashMap (String Y) Meanings S) (known next : Meanings)
+  pub kept_push : (xs : List Stored) (x : Stored) (old new : HashMap (Vec ℕ Y) Meanings S) (known next : Meanings)
       → IsKept xs old
-      → ((t : Table) → meaning_in t known ≡ meaning t (string_bytes x.name) (latest_first xs))
+      → ((t : Table) → meaning_in t known ≡ meaning t x.name.items (latest_first xs))
       → ((t : Table) → meaning_in t next ≡ cond (same_table t x.table) (with_meaning (entry_of x) x.before) (meaning_in t known))
       → x.before ≡ meaning_in x.table known
-      → ((q : List ℕ) → get_by_text new q ≡ cond (bytes_eq (string_bytes x.name) q) (Some next) (get_by_text old q))
+      → ((q : List ℕ) → meanings_of new q ≡ cond (bytes_eq x.name.items q) (Some next) (meanings_of old q))
       → IsKept (xs ++ x ∷ []) new
   kept_push xs x old new known next kept is_known is_next is_before updates = record {
-    meanings = λ t q. changed x q old new next (updates q) t ∙ step t q (bytes_eq (string_bytes x.name) q) (same_table t x.table) refl refl ∙ ap (meaning t q) (sym (entries_before-snoc [] xs x));
+    meanings = λ t q. changed x q old new next (updates q) t ∙ step t q (bytes_eq x.name.items q) (same_table t x.table) refl refl ∙ ap (meaning t q) (sym (entries_before-snoc [] xs x));
     before = keep_before-snoc [] xs x kept.before (is_before ∙ is_known x.table);
   } where
-    step : (t : Table) (q : List ℕ) (b s : Bool) → bytes_eq (string_bytes x.name) q ≡ b → same_table t x.table ≡ s
-        → cond b (meaning_in t next) (meaning_at t (get_by_text old q)) ≡ cond (s && b) (with_meaning (entry_of x) (meaning t q (latest_first xs))) (meaning t q (latest_first xs))
+    step : (t : Table) (q : List ℕ) (b s : Bool) → bytes_eq x.name.items q ≡ b → same_table t x.table ≡ s
+        → cond b (meaning_in t next) (meaning_at t (meanings_of old q)) ≡ cond (s && b) (with_meaning (entry_of x) (meaning t q (latest_first xs))) (meaning t q (latest_first xs))
     step t q true true hb hs =
-        let same_name : string_bytes x.name ≡ q = bytes_eq_is _ _ hb in
+        let same_name : x.name.items ≡ q = bytes_eq_is _ _ hb in
         let same : t ≡ x.table = same_table_is _ _ hs in
         is_next t ∙ ap (λ (s : Bool). cond s (with_meaning (entry_of x) x.before) (meaning_in t known)) hs
-        ∙ ap (with_meaning (entry_of x)) (is_before ∙ is_known x.table ∙ ap (λ (u : Table). meaning u (string_bytes x.name) (latest_first xs)) (sym same) ∙ ap (λ (n : List ℕ). meaning t n (latest_first xs)) same_name)
+        ∙ ap (with_meaning (entry_of x)) (is_before ∙ is_known x.table ∙ ap (λ (u : Table). meaning u x.name.items (latest_first xs)) (sym same) ∙ ap (λ (n : List ℕ). meaning t n (latest_first xs)) same_name)
     step t q true false hb hs =
-        let same_name : string_bytes x.name ≡ q = bytes_eq_is _ _ hb in
+        let same_name : x.name.items ≡ q = bytes_eq_is _ _ hb in
         is_next t ∙ ap (λ (s : Bool). cond s (with_meaning (entry_of x) x.before) (meaning_in t known)) hs ∙ is_known t ∙ ap (λ (n : List ℕ). meaning t n (latest_first xs)) same_name
     step t q false true hb hs = kept.meanings t q
     step t q false false hb hs = kept.meanings t q
 
   -- the last entry goes
-  pub kept_pop : (xs : List Stored) (x : Stored) (old new : HashMap (String Y) Meanings S) (known next : Meanings)
+  pub kept_pop : (xs : List Stored) (x : Stored) (old new : HashMap (Vec ℕ Y) Meanings S) (known next : Meanings)
       → IsKept (xs ++ x ∷ []) old
-      → get_by_text old (string_bytes x.name) ≡ Some known
+      → meanings_of old x.name.items ≡ Some known
       → ((t : Table) → meaning_in t next ≡ cond (same_table t x.table) x.before (meaning_in t known))
-      → ((q : List ℕ) → get_by_text new q ≡ cond (bytes_eq (string_bytes x.name) q) (Some next) (get_by_text old q))
+      → ((q : List ℕ) → meanings_of new q ≡ cond (bytes_eq x.name.items q) (Some next) (meanings_of old q))
       → IsKept xs new
   kept_pop xs x old new known next kept is_known is_next updates = record {
-    meanings = λ t q. changed x q old new next (updates q) t ∙ step t q (bytes_eq (string_bytes x.name) q) (same_table t x.table) refl refl;
+    meanings = λ t q. changed x q old new next (updates q) t ∙ step t q (bytes_eq x.name.items q) (same_table t x.table) refl refl;
     before = keep_before-front [] xs x kept.before;
   } where
-    old_at : (t : Table) (q : List ℕ) → meaning_at t (get_by_text old q) ≡ meaning t q (entry_of x ∷ latest_first xs)
+    old_at : (t : Table) (q : List ℕ) → meaning_at t (meanings_of old q) ≡ meaning t q (entry_of x ∷ latest_first xs)
     old_at t q = kept.meanings t q ∙ ap (meaning t q) (entries_before-snoc [] xs x)
 
-    step : (t : Table) (q : List ℕ) (b s : Bool) → bytes_eq (string_bytes x.name) q ≡ b → same_table t x.table ≡ s
-        → cond b (meaning_in t next) (meaning_at t (get_by_text old q)) ≡ meaning t q (latest_first xs)
+    step : (t : Table) (q : List ℕ) (b s : Bool) → bytes_eq x.name.items q ≡ b → same_table t x.table ≡ s
+        → cond b (meaning_in t next) (meaning_at t (meanings_of old q)) ≡ meaning t q (latest_first xs)
     step t q true true hb hs =
-        let same_name : string_bytes x.name ≡ q = bytes_eq_is _ _ hb in
+        let same_name : x.name.items ≡ q = bytes_eq_is _ _ hb in
         let same : t ≡ x.table = same_table_is _ _ hs in
         is_next t ∙ ap (λ (s : Bool). cond s x.before (meaning_in t known)) hs
-        ∙ keep_before-last [] xs x kept.before ∙ ap (λ (u : Table). meaning u (string_bytes x.name) (latest_first xs)) (sym same) ∙ ap (λ (n : List ℕ). meaning t n (latest_first xs)) same_name
+        ∙ keep_before-last [] xs x kept.before ∙ ap (λ (u : Table). meaning u x.name.items (latest_first xs)) (sym same) ∙ ap (λ (n : List ℕ). meaning t n (latest_first xs)) same_name
     step t q true false hb hs =
-        let same_name : string_bytes x.name ≡ q = bytes_eq_is _ _ hb in
+        let same_name : x.name.items ≡ q = bytes_eq_is _ _ hb in
         is_next t ∙ ap (λ (s : Bool). cond s x.before (meaning_in t known)) hs
-        ∙ sym (ap (meaning_at t) is_known) ∙ old_at t (string_bytes x.name)
-        ∙ ap (λ (s : Bool). cond (s && bytes_eq (string_bytes x.name) (string_bytes x.name)) (with_meaning (entry_of x) (meaning t (string_bytes x.name) (latest_first xs))) (meaning t (string_bytes x.name) (latest_first xs))) hs
+        ∙ sym (ap (meaning_at t) is_known) ∙ old_at t x.name.items
+        ∙ ap (λ (s : Bool). cond (s && bytes_eq x.name.items x.name.items) (with_meaning (entry_of x) (meaning t x.name.items (latest_first xs))) (meaning t x.name.items (latest_first xs))) hs
         ∙ ap (λ (n : List ℕ). meaning t n (latest_first xs)) same_name
-    step t q false true hb hs = old_at t q ∙ ap (λ (s : Bool). cond (s && bytes_eq (string_bytes x.name) q) (with_meaning (entry_of x) (meaning t q (latest_first xs))) (meaning t q (latest_first xs))) hs
+    step t q false true hb hs = old_at t q ∙ ap (λ (s : Bool). cond (s && bytes_eq x.name.items q) (with_meaning (entry_of x) (meaning t q (latest_first xs))) (meaning t q (latest_first xs))) hs
         ∙ ap (λ (b : Bool). cond b (with_meaning (entry_of x) (meaning t q (latest_first xs))) (meaning t q (latest_first xs))) hb
-    step t q false false hb hs = old_at t q ∙ ap (λ (s : Bool). cond (s && bytes_eq (string_bytes x.name) q) (with_meaning (entry_of x) (meaning t q (latest_first xs))) (meaning t q (latest_first xs))) hs
+    step t q false false hb hs = old_at t q ∙ ap (λ (s : Bool). cond (s && bytes_eq x.name.items q) (with_meaning (entry_of x) (meaning t q (latest_first xs))) (meaning t q (latest_first xs))) hs
 
   -- the name of an entry has a meaning
-  pub kept_present : (xs : List Stored) (x : Stored) (old : HashMap (String Y) Meanings S) → IsKept (xs ++ x ∷ []) old → get_by_text old (string_bytes x.name) ≡ None → ⊥
+  pub kept_present : (xs : List Stored) (x : Stored) (old : HashMap (Vec ℕ Y) Meanings S) → IsKept (xs ++ x ∷ []) old → meanings_of old x.name.items ≡ None → ⊥
   kept_present xs x old kept absent =
-      let names = string_bytes x.name in
-      let named : is_named x.table (string_bytes x.name) (entry_of x) ≡ true = ap (λ (s : Bool). s && bytes_eq (string_bytes x.name) (string_bytes x.name)) (same_table_refl x.table) ∙ bytes_eq_refl (string_bytes x.name) in
-      let there : meaning_at x.table (get_by_text old (string_bytes x.name)) ≡ meaning x.table (string_bytes x.name) (entry_of x ∷ latest_first xs) = kept.meanings x.table (string_bytes x.name) ∙ ap (meaning x.table (string_bytes x.name)) (entries_before-snoc [] xs x) in
-      let some : meaning x.table (string_bytes x.name) (entry_of x ∷ latest_first xs) ≡ with_meaning (entry_of x) (meaning x.table (string_bytes x.name) (latest_first xs)) = ap (λ (b : Bool). cond b (with_meaning (entry_of x) (meaning x.table (string_bytes x.name) (latest_first xs))) (meaning x.table (string_bytes x.name) (latest_first xs))) named in
-      let none : meaning_at x.table (get_by_text old (string_bytes x.name)) ≡ None = ap (meaning_at x.table) absent in
+      let names = x.name.items in
+      let named : is_named x.table x.name.items (entry_of x) ≡ true = ap (λ (s : Bool). s && bytes_eq x.name.items x.name.items) (same_table_refl x.table) ∙ bytes_eq_refl x.name.items in
+      let there : meaning_at x.table (meanings_of old x.name.items) ≡ meaning x.table x.name.items (entry_of x ∷ latest_first xs) = kept.meanings x.table x.name.items ∙ ap (meaning x.table x.name.items) (entries_before-snoc [] xs x) in
+      let some : meaning x.table x.name.items (entry_of x ∷ latest_first xs) ≡ with_meaning (entry_of x) (meaning x.table x.name.items (latest_first xs)) = ap (λ (b : Bool). cond b (with_meaning (entry_of x) (meaning x.table x.name.items (latest_first xs))) (meaning x.table x.name.items (latest_first xs))) named in
+      let none : meaning_at x.table (meanings_of old x.name.items) ≡ None = ap (meaning_at x.table) absent in
       cc

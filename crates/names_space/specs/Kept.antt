@@ -1,8 +1,10 @@
 -- How a scope keeps its entries: in the order in which they came, and by name in a map.
-use Rattle.std.specs.Prelude.{◌≡◌, ℕ, Bool, false, cond, ◌||◌, List, [], ◌∷◌, Option, Some, None, String, string_bytes}
-use Rattle.std.specs.HashMap.{HashMap, get_by_text}
+use Rattle.std.specs.Prelude.{◌≡◌, ℕ, Bool, false, cond, ◌||◌, List, [], ◌∷◌, Option, Some, None, Vec}
+use Rattle.std.specs.HashMap.{HashMap, get_by}
+use Rattle.std.specs.Str.{bytes_eq}
 use Rattle.names_space.specs.declared.Table.{Table}
 use Rattle.names_space.specs.declared.Table.TheVariants.{Types, Symbols, Propositions, Scopes}
+use Rattle.names_space.specs.declared.TypeName.{TypeName}
 use Rattle.names_space.specs.declared.entries.Meaning.{Meaning}
 use Rattle.names_space.specs.declared.entries.Meanings.{Meanings}
 use Rattle.names_space.specs.declared.entries.Stored.{Stored}
@@ -10,7 +12,7 @@ use Rattle.names_space.specs.declared.entries.Item.{Item}
 use Rattle.names_space.specs.Names.{Entry, is_named}
 
 abbrev pub entry_of : Stored → Entry
-entry_of x = record { table = x.table; name = string_bytes x.name; thing = x.thing; declared = x.declared }
+entry_of x = record { table = x.table; name = x.name.items; thing = x.thing; declared = x.declared }
 
 -- before these
 abbrev pub entries_before : List Entry → List Stored → List Entry
@@ -23,7 +25,7 @@ latest_first xs = entries_before [] xs
 
 -- an entry that is brought in
 abbrev pub brought : Item → Entry
-brought x = record { table = x.table; name = string_bytes x.name; thing = x.thing; declared = false }
+brought x = record { table = x.table; name = x.name.items; thing = x.thing; declared = false }
 
 -- the entries that come in this order, before these
 abbrev pub brought_before : List Entry → List Item → List Entry
@@ -34,7 +36,7 @@ abbrev pub was_declared : Option Meaning → Bool
 was_declared None = false
 was_declared (Some m) = m.declared
 
-abbrev pub thing_of : Option Meaning → Option ℕ
+abbrev pub thing_of : Option Meaning → Option TypeName
 thing_of None = None
 thing_of (Some m) = Some m.thing
 
@@ -59,9 +61,13 @@ meaning_at table (Some m) = meaning_in table m
 -- each entry keeps what its name meant before it
 abbrev pub KeepBefore : List Entry → List Stored → Type 0
 KeepBefore es [] = Unit {0}
-KeepBefore es (x ∷ xs) = (x.before ≡ meaning x.table (string_bytes x.name) es) × KeepBefore (entry_of x ∷ es) xs
+KeepBefore es (x ∷ xs) = (x.before ≡ meaning x.table x.name.items es) × KeepBefore (entry_of x ∷ es) xs
+
+-- what the map has at a name
+abbrev pub meanings_of : {Y S : Type 0} → HashMap (Vec ℕ Y) Meanings S → List ℕ → Option Meanings
+meanings_of m name = get_by (λ k. bytes_eq name k.items) m
 
 -- the map has what each name means
-pub record IsKept {Y S : Type 0} (xs : List Stored) (m : HashMap (String Y) Meanings S) : Type 0 where
-  pub meanings : (table : Table) (name : List ℕ) → meaning_at table (get_by_text m name) ≡ meaning table name (latest_first xs)
+pub record IsKept {Y S : Type 0} (xs : List Stored) (m : HashMap (Vec ℕ Y) Meanings S) : Type 0 where
+  pub meanings : (table : Table) (name : List ℕ) → meaning_at table (meanings_of m name) ≡ meaning table name (latest_first xs)
   pub before : KeepBefore [] xs

@@ -1,17 +1,24 @@
 -- What a name means: scopes, each a list of entries, and the search for a name with its qualifiers.
 -- The rules of names of the Why3 language reference, as this project reads them.
-use Rattle.std.specs.Prelude.{ℕ, Bool, true, false, cond, ◌&&◌, ◌||◌, List, [], ◌∷◌, ◌++◌, length, get_or, map, set, Option, Some, None}
+use Rattle.std.specs.Prelude.{ℕ, Bool, true, false, cond, ◌&&◌, ◌||◌, List, [], ◌∷◌, ◌++◌, length, get_or, map, set, Option, Some, None, option_map}
 use Rattle.std.specs.Str.{bytes_eq}
 use Rattle.names_space.specs.declared.Table.{Table}
 use Rattle.names_space.specs.declared.Table.TheVariants.{Types, Symbols, Propositions, Scopes}
+use Rattle.names_space.specs.declared.TypeName.{TypeName}
+use Rattle.names_space.specs.declared.TypeName.TheVariants as stands
 
 -- a name in a table: the thing that it stands for, and whether the scope declared it or has it by an import. What a name of
--- the table of scopes stands for is a scope's number
+-- the table of scopes stands for is a scope, by its number; in the table of types alone a name may be an alias
 pub record Entry : Type 0 where
   pub table : Table
   pub name : List ℕ
-  pub thing : ℕ
+  pub thing : TypeName
   pub declared : Bool
+
+-- the number of a thing, which for an alias is its type's
+abbrev pub number_of : TypeName → ℕ
+number_of (stands.Entry number) = number
+number_of (stands.Alias vars ty) = ty
 
 -- the entries of every scope by its number, latest first, and the numbers of the open scopes, innermost first
 pub record Names : Type 0 where
@@ -30,7 +37,7 @@ abbrev pub is_named : Table → List ℕ → Entry → Bool
 is_named table name e = same_table table e.table && bytes_eq e.name name
 
 -- what the latest entry with this name in this table stands for
-abbrev pub latest : Table → List ℕ → List Entry → Option ℕ
+abbrev pub latest : Table → List ℕ → List Entry → Option TypeName
 latest table name [] = None
 latest table name (e ∷ es) = cond (is_named table name e) (Some e.thing) (latest table name es)
 
@@ -43,12 +50,12 @@ is_declared table name (e ∷ es) = (is_named table name e && e.declared) || is_
 abbrev pub entries_of : Names → ℕ → List Entry
 entries_of s number = get_or s.entries number []
 
-abbrev pub or_else : Option ℕ → Option ℕ → Option ℕ
+abbrev pub or_else : Option TypeName → Option TypeName → Option TypeName
 or_else None more = more
 or_else (Some thing) more = Some thing
 
 -- what a name without qualifiers stands for: the first of these scopes that has it decides
-abbrev pub first_found : Table → List ℕ → List (List Entry) → List ℕ → Option ℕ
+abbrev pub first_found : Table → List ℕ → List (List Entry) → List ℕ → Option TypeName
 first_found table name entries [] = None
 first_found table name entries (number ∷ numbers) = or_else (latest table name (get_or entries number [])) (first_found table name entries numbers)
 
@@ -58,15 +65,19 @@ table_before table [] = table
 table_before table (name ∷ names) = Scopes
 
 -- the search goes on in the found scope's own entries
-abbrev pub find_within : List (List Entry) → Table → Option ℕ → List (List ℕ) → Option ℕ
+abbrev pub find_within : List (List Entry) → Table → Option TypeName → List (List ℕ) → Option TypeName
 find_within entries table found [] = found
 find_within entries table None (name ∷ names) = None
-find_within entries table (Some number) (name ∷ names) = find_within entries table (latest (table_before table names) name (get_or entries number [])) names
+find_within entries table (Some thing) (name ∷ names) = find_within entries table (latest (table_before table names) name (get_or entries (number_of thing) [])) names
 
 -- what a name stands for, its qualifiers before it
+abbrev pub find_name : Names → Table → List (List ℕ) → Option TypeName
+find_name s table [] = None
+find_name s table (name ∷ names) = find_within s.entries table (first_found (table_before table names) name s.entries s.nested) names
+
+-- the number of what it stands for
 abbrev pub find : Names → Table → List (List ℕ) → Option ℕ
-find s table [] = None
-find s table (name ∷ names) = find_within s.entries table (first_found (table_before table names) name s.entries s.nested) names
+find s table path = option_map number_of (find_name s table path)
 
 abbrev pub first_or_zero : List ℕ → ℕ
 first_or_zero [] = 0
@@ -87,9 +98,13 @@ start = record { entries = [] ∷ []; nested = 0 ∷ [] }
 abbrev pub with_entries : List Entry → Names → Names
 with_entries es s = record { entries = set s.entries (innermost s) (es ++ entries_of s (innermost s)); nested = s.nested }
 
--- a further entry of the innermost scope
+-- a further name of the innermost scope
+abbrev pub with_name : Table → List ℕ → TypeName → Bool → Names → Names
+with_name table name thing declared s = record { entries = set s.entries (innermost s) (record { table = table; name = name; thing = thing; declared = declared } ∷ entries_of s (innermost s)); nested = s.nested }
+
+-- a further name of the innermost scope, which stands for the thing with this number
 abbrev pub with_entry : Table → List ℕ → ℕ → Bool → Names → Names
-with_entry table name thing declared s = record { entries = set s.entries (innermost s) (record { table = table; name = name; thing = thing; declared = declared } ∷ entries_of s (innermost s)); nested = s.nested }
+with_entry table name number declared s = with_name table name (stands.Entry number) declared s
 
 -- a new scope, whose name the innermost one gets, is the innermost one
 abbrev pub with_scope : List ℕ → Bool → Names → Names

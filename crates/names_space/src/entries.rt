@@ -1,11 +1,11 @@
 // The entries of one scope: a list of them, and a map that finds what a name means without walking it.
 // It stands on a map of the standard library; scopes inside one another stand on it.
-ghost use Rattle.std.specs.Prelude.{◌≡◌, ◌≤◌, ◌<◌, ◌++◌, ◌∷◌, [], List, length, map, drop, if◌then◌else◌, ◌||◌, string_bytes, IfOk, OnOk, OnErr};
+ghost use Rattle.std.specs.Prelude.{◌≡◌, ◌≤◌, ◌<◌, ◌++◌, ◌∷◌, [], List, length, map, drop, if◌then◌else◌, ◌||◌, IfOk, OnOk, OnErr};
 ghost use Rattle.names_space.specs.declared.Table.{Table};
 ghost use Rattle.names_space.specs.Kept.{was_declared, thing_of};
 ghost use Rattle.names_space.specs.Names.{Entry, latest, is_declared, imported, same_table};
 
-use crate::Table;
+use crate::{Table, TypeName};
 use std::alloc::{AllocError, Global};
 use std::collections::HashMap;
 use std::marker::Model;
@@ -13,7 +13,7 @@ use std::marker::Model;
 /// The latest thing of a name in a table, and whether the name was declared there.
 #[derive(Clone, Copy, Debug)]
 pub struct Meaning {
-    pub thing: usize,
+    pub thing: TypeName,
     pub declared: bool,
 }
 
@@ -30,8 +30,8 @@ pub struct Meanings {
 #[derive(Drop)]
 pub struct Stored {
     pub table: Table,
-    pub name: String,
-    pub thing: usize,
+    pub name: Vec<u8>,
+    pub thing: TypeName,
     pub declared: bool,
     pub before: Option<Meaning>,
 }
@@ -40,15 +40,15 @@ pub struct Stored {
 #[derive(Drop)]
 pub struct Item {
     pub table: Table,
-    pub name: String,
-    pub thing: usize,
+    pub name: Vec<u8>,
+    pub thing: TypeName,
 }
 
 /// The entries of a scope, which contracts see as their list, latest first.
 #[derive(Drop)]
 pub struct Entries {
     stored: Vec<Stored>,
-    meanings: HashMap<String, Meanings>,
+    meanings: HashMap<Vec<u8>, Meanings>,
 }
 
 impl Model for Entries {
@@ -125,7 +125,7 @@ fn was_declared(meaning: Option<Meaning>) -> bool
 }
 
 // What the name stands for.
-fn thing_of(meaning: Option<Meaning>) -> Option<usize>
+fn thing_of(meaning: Option<Meaning>) -> Option<TypeName>
     ensures { result ≡ thing_of meaning }
 {
     match meaning {
@@ -135,7 +135,7 @@ fn thing_of(meaning: Option<Meaning>) -> Option<usize>
 }
 
 // What a name means after a further entry.
-fn meaning_after(before: Option<Meaning>, thing: usize, declared: bool) -> Meaning
+fn meaning_after(before: Option<Meaning>, thing: TypeName, declared: bool) -> Meaning
     ensures { result ≡ record { thing = thing; declared = declared || was_declared before } }
 {
     Meaning {
@@ -165,7 +165,7 @@ impl Entries {
     }
 
     /// What a name means in each table.
-    fn known(&self, name: &str) -> Meanings
+    fn known(&self, name: &[u8]) -> Meanings
         ensures { (table : Table) → meaning_in table result ≡ meaning table name.now self.now }
     {
         match self.meanings.get(name) {
@@ -175,14 +175,14 @@ impl Entries {
     }
 
     /// What the latest entry with this name in this table stands for.
-    pub fn latest(&self, table: Table, name: &str) -> Option<usize>
+    pub fn latest(&self, table: Table, name: &[u8]) -> Option<TypeName>
         ensures { result ≡ latest table name.now self.now }
     {
         thing_of(self.known(name).in_table(table))
     }
 
     /// Whether this name was declared in this table.
-    pub fn is_declared(&self, table: Table, name: &str) -> bool
+    pub fn is_declared(&self, table: Table, name: &[u8]) -> bool
         ensures { result ≡ is_declared table name.now self.now }
     {
         was_declared(self.known(name).in_table(table))
@@ -192,15 +192,15 @@ impl Entries {
     pub fn add(
         &mut self,
         table: Table,
-        name: String,
-        thing: usize,
+        name: Vec<u8>,
+        thing: TypeName,
         declared: bool,
     ) -> Result<(), AllocError>
-        ensures ok { OnOk result (self.new ≡ record { table = table; name = string_bytes name; thing = thing; declared = declared } ∷ self.old) }
+        ensures ok { OnOk result (self.new ≡ record { table = table; name = name.items; thing = thing; declared = declared } ∷ self.old) }
         ensures err { OnErr result (self.new ≡ self.old) }
     {
-        let key = name.clone()?;
-        let known = self.known(name.as_str());
+        let key = Vec::from_slice(*name.allocator(), name.as_slice())?;
+        let known = self.known(name.as_slice());
         let before = known.in_table(table);
         let meaning = meaning_after(before, thing, declared);
         let count = self.stored.len();
@@ -227,7 +227,7 @@ impl Entries {
         ensures { self.new ≡ drop 1 self.old }
     {
         if let Some(last) = self.stored.pop() {
-            if let Some(known) = self.meanings.get_mut(last.name.as_str()) {
+            if let Some(known) = self.meanings.get_mut(last.name.as_slice()) {
                 *known = known.with(last.table, last.before);
             }
         }
@@ -266,7 +266,7 @@ impl Entries {
         for stored in &self.stored {
             items.push(Item {
                 table: stored.table,
-                name: stored.name.clone()?,
+                name: Vec::from_slice(alloc, stored.name.as_slice())?,
                 thing: stored.thing,
             })?;
         }

@@ -3,6 +3,7 @@
 #![tactic(auto)]
 
 ghost use Rattle.std.specs.Prelude.{◌≡◌};
+ghost use Rattle.names_space.specs.Names.{number_of};
 
 use std::alloc::{AllocError, AllocFailed};
 
@@ -19,6 +20,26 @@ pub enum Table {
     Symbols,
     Propositions,
     Scopes,
+}
+
+/// What a name of the table of types stands for: an entry, by its number, or a type, by its number in a store, with the
+/// number of its type variables. In any other table a name stands for an entry, and in that of scopes for a scope.
+#[derive(Clone, Copy, Debug, PartialEq, Eq)]
+pub enum TypeName {
+    Entry(usize),
+    Alias { vars: usize, ty: usize },
+}
+
+impl TypeName {
+    /// The number of the entry or of the type.
+    pub fn number(self) -> usize
+        ensures { result ≡ number_of self }
+    {
+        match self {
+            TypeName::Entry(number) => number,
+            TypeName::Alias { vars: _, ty } => ty,
+        }
+    }
 }
 
 /// Why a name isn't entered or brought in.

@@ -1,11 +1,12 @@
 // Scopes inside one another, and the search for a name with its qualifiers.
 // They stand on the entries of one scope; who gives names their meaning stands on them.
-ghost use Rattle.std.specs.Prelude.{◌≡◌, ◌↔◌, ◌<◌, ◌≢◌, Some, List, [], ◌++◌, true, false, length, map, reverse, get_or, string_bytes, IsOk, IsTrue, IsNone, IfSome, IfOk, IfErr, OnOk, OnErr};
-ghost use Rattle.names_space.specs.Names.{start, find, find_within, first_found, latest, table_before, is_declared, imported, Entry, entries_of, innermost, with_entry, with_scope, with_import, closed};
+ghost use Rattle.std.specs.Prelude.{◌≡◌, ◌↔◌, ◌<◌, ◌≢◌, Some, List, [], ◌∷◌, ◌++◌, true, false, length, map, reverse, get_or, string_bytes, IsOk, IsTrue, IsNone, IfSome, IfOk, IfErr, OnOk, OnErr};
+ghost use Rattle.names_space.specs.Names.{start, find, find_name, find_within, first_found, latest, is_declared, imported, Entry, entries_of, innermost, with_entry, with_name, with_scope, with_import, closed};
 ghost use Rattle.names_space.specs.Kept.{brought_before};
 
 use crate::entries::{Entries, Item};
-use crate::{NameFault, Table};
+use crate::{NameFault, Table, TypeName};
+use outside::Text;
 use std::alloc::{AllocError, Global};
 use std::marker::Model;
 
@@ -32,19 +33,36 @@ impl Model for Scope {
     ghost invariant = { λ s. (s.current < length s.scopes.items) × All (λ i. i < length s.scopes.items) s.outer.items };
 }
 
-// The table in which the first of these names is looked for.
-fn table_before(table: Table, names: &[String]) -> Table
-    ensures { result ≡ table_before table (map string_bytes names.now) }
-{
-    if names.is_empty() {
-        table
-    } else {
-        Table::Scopes
+// A word of a path, which is read as its bytes.
+trait Word {
+    ghost use Rattle.std.specs.Prelude.{List, ℕ, ◌≡◌};
+
+    ghost word: { Self → List ℕ };
+
+    fn word_bytes(&self) -> &[u8]
+        ensures { result.now ≡ word self.now };
+}
+
+impl Word for String {
+    ghost use Rattle.std.specs.Prelude.{string_bytes};
+
+    ghost word = { string_bytes };
+
+    fn word_bytes(&self) -> &[u8] {
+        self.as_bytes()
+    }
+}
+
+impl Word for Text {
+    ghost word = { λ text. text };
+
+    fn word_bytes(&self) -> &[u8] {
+        self.as_slice()
     }
 }
 
 // What a name stands for in one scope.
-fn latest_at(scopes: &[Entries], number: usize, table: Table, name: &str) -> Option<usize>
+fn latest_at(scopes: &[Entries], number: usize, table: Table, name: &[u8]) -> Option<TypeName>
     ensures { result ≡ latest table name.now (get_or scopes.now number []) }
 {
     match scopes.get(number) {
@@ -54,7 +72,7 @@ fn latest_at(scopes: &[Entries], number: usize, table: Table, name: &str) -> Opt
 }
 
 // What a name stands for in these scopes, of which the last one is the innermost.
-fn first_found(scopes: &[Entries], numbers: &[usize], table: Table, name: &str) -> Option<usize>
+fn first_found(scopes: &[Entries], numbers: &[usize], table: Table, name: &[u8]) -> Option<TypeName>
     ensures { result ≡ first_found table name.now scopes.now (reverse numbers.now) }
 {
     let mut left = numbers.len();
@@ -68,20 +86,21 @@ fn first_found(scopes: &[Entries], numbers: &[usize], table: Table, name: &str) 
     None
 }
 
-// The search goes on in the found scope's own entries.
-fn find_within(
+// The search goes on in the found scope's own entries, along these names of scopes to the last name.
+fn find_within<W: Word>(
     scopes: &[Entries],
     table: Table,
-    mut found: Option<usize>,
-    mut names: &[String],
-) -> Option<usize>
-    ensures { result ≡ find_within scopes.now table found (map string_bytes names.now) }
+    mut found: Option<TypeName>,
+    mut names: &[W],
+    last: &[u8],
+) -> Option<TypeName>
+    ensures { result ≡ find_within scopes.now table found (map W.word names.now ++ last.now ∷ []) }
 {
     while let Some((name, rest)) = names.split_first() {
-        found = latest_at(scopes, found?, table_before(table, rest), name.as_str());
+        found = latest_at(scopes, found?.number(), Table::Scopes, name.word_bytes());
         names = rest;
     }
-    found
+    latest_at(scopes, found?.number(), table, last)
 }
 
 impl Scope {
@@ -99,52 +118,98 @@ impl Scope {
         })
     }
 
+    // What a name without qualifiers stands for.
+    fn find_first(&self, table: Table, name: &[u8]) -> Option<TypeName>
+        ensures { result ≡ first_found table name.now self.now.entries self.now.nested }
+    {
+        match latest_at(&self.scopes, self.current, table, name) {
+            Some(thing) => Some(thing),
+            None => first_found(&self.scopes, &self.outer, table, name),
+        }
+    }
+
+    // What the last name stands for, its qualifiers being these names of scopes.
+    fn find<W: Word>(&self, table: Table, names: &[W], last: &[u8]) -> Option<TypeName>
+        ensures { result ≡ find_name self.now table (map W.word names.now ++ last.now ∷ []) }
+    {
+        match names.split_first() {
+            None => self.find_first(table, last),
+            Some((name, rest)) => {
+                let found = self.find_first(Table::Scopes, name.word_bytes());
+                find_within(&self.scopes, table, found, rest, last)
+            }
+        }
+    }
+
+    // What the name at the path's end stands for.
+    fn find_path(&self, table: Table, path: &[String]) -> Option<TypeName>
+        ensures { result ≡ find_name self.now table (map string_bytes path.now) }
+    {
+        let (last, names) = path.split_last()?;
+        self.find(table, names, last.as_bytes())
+    }
+
     /// What the name at the path's end stands for in this table, its qualifiers being the names before it. Of a scope it is
-    /// the scope's number. It is `None` exactly where no open scope has the first name, or a name that follows isn't in
-    /// the scope found so far. No memory is taken.
+    /// the scope's number, of an alias the type's. It is `None` exactly where no open scope has the first name, or a name
+    /// that follows isn't in the scope found so far. No memory is taken.
     pub fn look(&self, table: Table, path: &[String]) -> Option<usize>
         ensures { result ≡ find self.now table (map string_bytes path.now) }
     {
-        let (name, names) = path.split_first()?;
-        let first = table_before(table, names);
-        let found = match latest_at(&self.scopes, self.current, first, name.as_str()) {
-            Some(thing) => Some(thing),
-            None => first_found(&self.scopes, &self.outer, first, name.as_str()),
-        };
-        find_within(&self.scopes, table, found, names)
+        Some(self.find_path(table, path)?.number())
+    }
+
+    /// As `look` in the table of types, and whether it is an entry or an alias. No memory is taken.
+    pub fn look_type(&self, path: &[String]) -> Option<TypeName>
+        ensures { result ≡ find_name self.now Table.Types (map string_bytes path.now) }
+    {
+        self.find_path(Table::Types, path)
+    }
+
+    /// As `look`, at the name with these bytes behind these names of scopes. No memory is taken.
+    pub fn look_at(&self, table: Table, scopes: &[Text], name: &[u8]) -> Option<usize>
+        ensures { result ≡ find self.now table (scopes.now ++ name.now ∷ []) }
+    {
+        Some(self.find(table, scopes, name)?.number())
+    }
+
+    /// As `look_type`, at the name with these bytes behind these names of scopes. No memory is taken.
+    pub fn look_type_at(&self, scopes: &[Text], name: &[u8]) -> Option<TypeName>
+        ensures { result ≡ find_name self.now Table.Types (scopes.now ++ name.now ∷ []) }
+    {
+        self.find(Table::Types, scopes, name)
     }
 
     // Whether the innermost scope declared the name in this table.
-    fn declares(&self, table: Table, name: &str) -> bool
+    fn declares(&self, table: Table, name: &[u8]) -> bool
         ensures { result ≡ is_declared table name.now (entries_of self.now (innermost self.now)) }
     {
         self.scopes[self.current].is_declared(table, name)
     }
 
-    // A further entry of the innermost scope.
+    // A further name of the innermost scope.
     fn add(
         &mut self,
         table: Table,
-        name: &str,
-        thing: usize,
+        name: &[u8],
+        thing: TypeName,
         declared: bool,
     ) -> Result<(), AllocError>
-        ensures ok { OnOk result (self.new ≡ with_entry table name.now thing declared self.old) }
+        ensures ok { OnOk result (self.new ≡ with_name table name.now thing declared self.old) }
         ensures err { OnErr result (self.new ≡ self.old) }
     {
-        let name = String::from_str(self.alloc, name)?;
+        let name = Vec::from_slice(self.alloc, name)?;
         let entries = &mut self.scopes[self.current];
         entries.add(table, name, thing, declared)
     }
 
     // A further scope, inside the innermost one.
-    fn add_scope(&mut self, name: &str, declared: bool) -> Result<(), AllocError>
+    fn add_scope(&mut self, name: &[u8], declared: bool) -> Result<(), AllocError>
         ensures ok { OnOk result (self.new ≡ with_scope name.now declared self.old) }
         ensures err { OnErr result (self.new ≡ self.old) }
     {
         let number = self.scopes.as_slice().len();
         let depth = self.outer.len();
-        let name = String::from_str(self.alloc, name)?;
+        let name = Vec::from_slice(self.alloc, name)?;
         self.outer.push(self.current)?;
         match self.scopes.push(Entries::new(self.alloc)) {
             Ok(()) => {}
@@ -154,7 +219,7 @@ impl Scope {
             }
         }
         let entries = &mut self.scopes[self.current];
-        match entries.add(Table::Scopes, name, number, declared) {
+        match entries.add(Table::Scopes, name, TypeName::Entry(number), declared) {
             Ok(()) => {}
             Err(fault) => {
                 self.outer.truncate(depth);
@@ -174,6 +239,16 @@ impl Scope {
         ensures never_unknown { IfErr result (λ fault. fault ≢ NameFault.Unknown) }
         ensures err { OnErr result (self.new ≡ self.old) }
     {
+        self.open_name(name.as_bytes())
+    }
+
+    /// As `open`, of a name by its bytes.
+    pub fn open_name(&mut self, name: &[u8]) -> Result<(), NameFault>
+        ensures ok { OnOk result (self.new ≡ with_scope name.now true self.old) }
+        ensures duplicate { (result ≡ Err NameFault.Duplicate) ↔ IsTrue (is_declared Table.Scopes name.now (entries_of self.old (innermost self.old))) }
+        ensures never_unknown { IfErr result (λ fault. fault ≢ NameFault.Unknown) }
+        ensures err { OnErr result (self.new ≡ self.old) }
+    {
         if self.declares(Table::Scopes, name) {
             return Err(NameFault::Duplicate);
         }
@@ -184,6 +259,14 @@ impl Scope {
     /// Opens a scope for the names of a `use` or `clone` inside the innermost one, which has its name as an imported one:
     /// it hides an earlier one, and is no duplicate. After a refusal all stays.
     pub fn open_used(&mut self, name: &str) -> Result<(), AllocError>
+        ensures ok { OnOk result (self.new ≡ with_scope name.now false self.old) }
+        ensures err { OnErr result (self.new ≡ self.old) }
+    {
+        self.add_scope(name.as_bytes(), false)
+    }
+
+    /// As `open_used`, of a name by its bytes.
+    pub fn open_used_name(&mut self, name: &[u8]) -> Result<(), AllocError>
         ensures ok { OnOk result (self.new ≡ with_scope name.now false self.old) }
         ensures err { OnErr result (self.new ≡ self.old) }
     {
@@ -217,6 +300,31 @@ impl Scope {
         ensures never_unknown { IfErr result (λ fault. fault ≢ NameFault.Unknown) }
         ensures err { OnErr result (self.new ≡ self.old) }
     {
+        self.enter_name(table, name.as_bytes(), TypeName::Entry(thing))
+    }
+
+    /// As `enter` in the table of types, of a name that may be an alias.
+    pub fn enter_type(&mut self, name: &str, thing: TypeName) -> Result<(), NameFault>
+        ensures ok { OnOk result (self.new ≡ with_name Table.Types name.now thing true self.old) }
+        ensures duplicate { (result ≡ Err NameFault.Duplicate) ↔ IsTrue (is_declared Table.Types name.now (entries_of self.old (innermost self.old))) }
+        ensures never_unknown { IfErr result (λ fault. fault ≢ NameFault.Unknown) }
+        ensures err { OnErr result (self.new ≡ self.old) }
+    {
+        self.enter_name(Table::Types, name.as_bytes(), thing)
+    }
+
+    /// As `enter` and `enter_type`, of a name by its bytes.
+    pub fn enter_name(
+        &mut self,
+        table: Table,
+        name: &[u8],
+        thing: TypeName,
+    ) -> Result<(), NameFault>
+        ensures ok { OnOk result (self.new ≡ with_name table name.now thing true self.old) }
+        ensures duplicate { (result ≡ Err NameFault.Duplicate) ↔ IsTrue (is_declared table name.now (entries_of self.old (innermost self.old))) }
+        ensures never_unknown { IfErr result (λ fault. fault ≢ NameFault.Unknown) }
+        ensures err { OnErr result (self.new ≡ self.old) }
+    {
         if self.declares(table, name) {
             return Err(NameFault::Duplicate);
         }
@@ -227,6 +335,27 @@ impl Scope {
     /// The innermost scope gets an imported name, whatever it has. After a refusal all stays.
     pub fn bring(&mut self, table: Table, name: &str, thing: usize) -> Result<(), AllocError>
         ensures ok { OnOk result (self.new ≡ with_entry table name.now thing false self.old) }
+        ensures err { OnErr result (self.new ≡ self.old) }
+    {
+        self.bring_name(table, name.as_bytes(), TypeName::Entry(thing))
+    }
+
+    /// As `bring` in the table of types, of a name that may be an alias.
+    pub fn bring_type(&mut self, name: &str, thing: TypeName) -> Result<(), AllocError>
+        ensures ok { OnOk result (self.new ≡ with_name Table.Types name.now thing false self.old) }
+        ensures err { OnErr result (self.new ≡ self.old) }
+    {
+        self.bring_name(Table::Types, name.as_bytes(), thing)
+    }
+
+    /// As `bring` and `bring_type`, of a name by its bytes.
+    pub fn bring_name(
+        &mut self,
+        table: Table,
+        name: &[u8],
+        thing: TypeName,
+    ) -> Result<(), AllocError>
+        ensures ok { OnOk result (self.new ≡ with_name table name.now thing false self.old) }
         ensures err { OnErr result (self.new ≡ self.old) }
     {
         self.add(table, name, thing, false)

@@ -1,6 +1,8 @@
-// What names mean after scopes are opened, closed, used and imported, with the answers of the rules of names.
+// What names mean after scopes are opened, closed, used and imported, with the answers of the rules of names: entries of
+// every table, aliases of types, and look-ups by strings and by bytes.
 // They stand on the calls of scopes; nothing stands on them.
-use names_space::{NameFault, Scope, Table};
+use names_space::{NameFault, Scope, Table, TypeName};
+use outside::Text;
 use std::alloc::Global;
 use std::process::Abort;
 
@@ -13,8 +15,11 @@ enum Call {
     Close,
     Enter(Table, usize),
     Bring(Table, usize),
+    EnterType(TypeName),
+    BringType(TypeName),
     Import,
     Look(Table),
+    LookType,
 }
 
 #[derive(Clone, Copy, Debug, PartialEq, Eq)]
@@ -22,6 +27,7 @@ enum Answer {
     Done,
     Refused(NameFault),
     Found(usize),
+    Means(TypeName),
     Nothing,
 }
 
@@ -109,6 +115,81 @@ static IMPORTING: [Row; 19] = [
     (Call::Look(Table::Symbols), &["x"], Answer::Found(1)),
 ];
 
+static ALIASES: [Row; 24] = [
+    (
+        Call::EnterType(TypeName::Alias { vars: 1, ty: 7 }),
+        &["a"],
+        Answer::Done,
+    ),
+    (Call::Look(Table::Types), &["a"], Answer::Found(7)),
+    (
+        Call::LookType,
+        &["a"],
+        Answer::Means(TypeName::Alias { vars: 1, ty: 7 }),
+    ),
+    (
+        Call::EnterType(TypeName::Entry(3)),
+        &["a"],
+        Answer::Refused(NameFault::Duplicate),
+    ),
+    (
+        Call::Enter(Table::Types, 3),
+        &["a"],
+        Answer::Refused(NameFault::Duplicate),
+    ),
+    (Call::Enter(Table::Types, 3), &["t"], Answer::Done),
+    (Call::LookType, &["t"], Answer::Means(TypeName::Entry(3))),
+    (Call::OpenUsed, &["S"], Answer::Done),
+    (
+        Call::BringType(TypeName::Alias { vars: 2, ty: 9 }),
+        &["a"],
+        Answer::Done,
+    ),
+    (
+        Call::LookType,
+        &["a"],
+        Answer::Means(TypeName::Alias { vars: 2, ty: 9 }),
+    ),
+    (Call::BringType(TypeName::Entry(4)), &["a"], Answer::Done),
+    (
+        Call::LookType,
+        &["S", "a"],
+        Answer::Means(TypeName::Entry(4)),
+    ),
+    (
+        Call::BringType(TypeName::Alias { vars: 0, ty: 5 }),
+        &["b"],
+        Answer::Done,
+    ),
+    (
+        Call::EnterType(TypeName::Alias { vars: 3, ty: 8 }),
+        &["a"],
+        Answer::Done,
+    ),
+    (Call::Close, &[], Answer::Done),
+    (Call::Look(Table::Types), &["a"], Answer::Found(7)),
+    (
+        Call::LookType,
+        &["S", "a"],
+        Answer::Means(TypeName::Alias { vars: 3, ty: 8 }),
+    ),
+    (Call::LookType, &["b"], Answer::Nothing),
+    (Call::LookType, &["a", "b"], Answer::Nothing),
+    (Call::Import, &["S"], Answer::Done),
+    (
+        Call::LookType,
+        &["b"],
+        Answer::Means(TypeName::Alias { vars: 0, ty: 5 }),
+    ),
+    (Call::Look(Table::Types), &["b"], Answer::Found(5)),
+    (Call::Look(Table::Symbols), &["b"], Answer::Nothing),
+    (
+        Call::LookType,
+        &["a"],
+        Answer::Means(TypeName::Alias { vars: 3, ty: 8 }),
+    ),
+];
+
 fn answer_of(made: Result<(), NameFault>) -> Answer {
     match made {
         Ok(()) => Answer::Done,
@@ -125,6 +206,15 @@ fn path(rt: &impl Abort, alloc: Global, words: &[&str]) -> Vec<String> {
     names
 }
 
+fn texts(rt: &impl Abort, alloc: Global, words: &[&str]) -> Vec<Text> {
+    let mut names = Vec::new(alloc);
+    for word in words {
+        let name = Text::from_slice(alloc, word.as_bytes()).expect(rt, MEMORY);
+        names.push(name).expect(rt, MEMORY);
+    }
+    names
+}
+
 // What a call answers, which is nothing where no scope is there to be closed.
 fn ask(scope: &mut Scope, call: Call, name: &str, path: &[String]) -> Answer {
     match call {
@@ -136,10 +226,34 @@ fn ask(scope: &mut Scope, call: Call, name: &str, path: &[String]) -> Answer {
         Call::Bring(table, thing) => {
             answer_of(scope.bring(table, name, thing).map_err(NameFault::from))
         }
+        Call::EnterType(thing) => answer_of(scope.enter_type(name, thing)),
+        Call::BringType(thing) => {
+            answer_of(scope.bring_type(name, thing).map_err(NameFault::from))
+        }
         Call::Import => answer_of(scope.import_from(path)),
         Call::Look(table) => scope
             .look(table, path)
             .map_or(Answer::Nothing, Answer::Found),
+        Call::LookType => scope.look_type(path).map_or(Answer::Nothing, Answer::Means),
+    }
+}
+
+const TABLES: [Table; 4] = [
+    Table::Types,
+    Table::Symbols,
+    Table::Propositions,
+    Table::Scopes,
+];
+
+// Look-ups by bytes agree with those by strings.
+fn compare_bytes(rt: &impl Abort, scope: &Scope, path: &[String], texts: &[Text]) {
+    if let Some((last, scopes)) = texts.split_last() {
+        for table in &TABLES {
+            let by_bytes = scope.look_at(*table, scopes, last.as_slice());
+            assert_eq!(rt; by_bytes, scope.look(*table, path), "by bytes");
+        }
+        let by_bytes = scope.look_type_at(scopes, last.as_slice());
+        assert_eq!(rt; by_bytes, scope.look_type(path), "by bytes");
     }
 }
 
@@ -150,6 +264,7 @@ fn compare(rt: &impl Abort, alloc: Global, rows: &[Row]) {
         let path = path(rt, alloc, words);
         let name = words.last().copied().unwrap_or("");
         assert_eq!(rt; ask(&mut scope, call, name, &path), answer, "{i}");
+        compare_bytes(rt, &scope, &path, &texts(rt, alloc, words));
     }
 }
 
@@ -159,4 +274,5 @@ fn names_mean_what_the_rules_say(rt: HostRuntime) {
     compare(&rt, rt.alloc(), &DECLARING);
     compare(&rt, rt.alloc(), &USING);
     compare(&rt, rt.alloc(), &IMPORTING);
+    compare(&rt, rt.alloc(), &ALIASES);
 }

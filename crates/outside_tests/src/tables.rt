@@ -24,6 +24,8 @@ fn a_sequence_is_its_items(rt: HostRuntime) {
     assert_eq!(rt; items.pop(), Some(8));
     assert_eq!(rt; items.len(), 1);
     assert_eq!(rt; copy.as_slice(), [2, 6, 8].as_slice());
+    let given_back = copy.into_vec();
+    assert_eq!(rt; given_back.as_slice(), [2, 6, 8].as_slice());
 }
 
 #[test]
@@ -38,6 +40,8 @@ fn a_box_and_a_text_hold_what_they_are_given(rt: HostRuntime) {
     assert_eq!(rt; copy.as_slice(), b"goal".as_slice());
     let vector = Text::from_vec(text.as_slice().to_vec(alloc).expect(&rt, MEMORY));
     assert_eq!(rt; vector.as_slice(), b"goal".as_slice());
+    let given_back = vector.into_vec();
+    assert_eq!(rt; given_back.as_slice(), b"goal".as_slice());
 }
 
 #[test]

@@ -5,6 +5,8 @@
 #[cfg(test)]
 mod mutations;
 #[cfg(test)]
+mod naming;
+#[cfg(test)]
 mod plain_check;
 #[cfg(test)]
 mod reading;

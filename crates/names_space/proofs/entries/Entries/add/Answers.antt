@@ -1,26 +1,24 @@
-use Rattle.std.proofs.Common.{◌≡◌, ◌∷◌, [], List, ℕ, cond, Some, ap, ◌∙◌, sym, string_bytes}
+use Rattle.std.proofs.Common.{◌≡◌, ◌∷◌, [], List, ℕ, cond, Some, ap, ◌∙◌, sym}
 use Rattle.std.specs.Str.{bytes_eq}
-use Rattle.std.specs.HashMap.{get_by_text}
-use Rattle.std.proofs.lemmas.Map.Text.{hash_map_updates_text}
 use Rattle.names_space.specs.declared.entries.Stored.{Stored}
 use Rattle.names_space.specs.declared.entries.Meaning.{Meaning}
 use Rattle.names_space.specs.Names.{same_table, Entry}
-use Rattle.names_space.specs.Kept.{meaning, meaning_in, entry_of, latest_first}
-use Rattle.names_space.proofs.Listed.{kept_push, entries_before-snoc}
+use Rattle.names_space.specs.Kept.{meaning, meaning_in, meanings_of, entry_of, latest_first}
+use Rattle.names_space.proofs.Listed.{updates_name, kept_push, entries_before-snoc}
 use Rattle.names_space.proofs.entries.Entries.add.Goals as goal
 
 pub invariant_of-self-in-Ok : goal.invariant_of-self-in-Ok
 invariant_of-self-in-Ok c =
     let x : Stored = record { table = c.args.table; name = c.args.name; thing = c.args.thing; declared = c.args.declared; before = c.in_table-before.result } in
-    let key_is : string_bytes c.in_ok-key.key ≡ string_bytes c.args.name = c.in_ok-key.ensures.cases in
-    let updates = hash_map_updates_text (string_bytes c.in_ok-key.key) c.self.inside.meanings c.insert.new.self _ c.in-Ok.ensures.updates in
+    let key_is : c.in_ok-key.key.items ≡ c.args.name.items = c.in_ok-key.ensures.items ∙ c.as_slice.ensures.value in
+    let updates = updates_name c.in_ok-key.key.items c.self.inside.meanings c.insert.new.self _ c.in-Ok.ensures.updates in
     rw c.in_ok-push.ensures.items
     (kept_push c.self.inside.stored.items x c.self.inside.meanings c.insert.new.self c.known-known.result c.with.result
     c.self.invariant
-    (λ t. c.known-known.ensures t ∙ ap (λ (n : List ℕ). meaning t n c.args.self.now) c.as_str.ensures.value ∙ ap (meaning t (string_bytes c.args.name)) (sym c.self.view_is))
+    (λ t. c.known-known.ensures t ∙ ap (λ (n : List ℕ). meaning t n c.args.self.now) c.as_slice-2.ensures.value ∙ ap (meaning t c.args.name.items) (sym c.self.view_is))
     (λ t. c.with.ensures t ∙ ap (λ (m : Meaning). cond (same_table t c.args.table) (Some m) (meaning_in t c.known-known.result)) c.meaning_after-meaning.ensures)
     c.in_table-before.ensures
-    (λ q. updates q ∙ ap (λ (n : List ℕ). cond (bytes_eq n q) (Some c.with.result) (get_by_text c.self.inside.meanings q)) key_is))
+    (λ q. updates q ∙ ap (λ (n : List ℕ). cond (bytes_eq n q) (Some c.with.result) (meanings_of c.self.inside.meanings q)) key_is))
 
 pub returns-clause-ok : goal.returns-clause-ok
 returns-clause-ok c =

@@ -1,4 +1,4 @@
-use Rattle.std.proofs.Common.{◌≡◌, List, ℕ, ap, ◌∙◌, sym, take, ◌+◌, ◌++◌, ◌∷◌, [], false, string_bytes}
+use Rattle.std.proofs.Common.{◌≡◌, List, ℕ, ap, ◌∙◌, sym, take, ◌+◌, ◌++◌, ◌∷◌, [], false}
 use Rattle.std.proofs.lemmas.List.{take_more}
 use Rattle.names_space.specs.Names.{Entry}
 use Rattle.names_space.specs.declared.entries.Stored.{Stored}
@@ -10,8 +10,8 @@ pub loop-stored-preserved : goal.loop-stored-preserved
 loop-stored-preserved c =
     let xs = c.deref-stored-items.result.now in
     let x = c.stored-item.result in
-    let it : Item = record { table = x.table; name = c.in_ok-clone.field-0; thing = x.thing } in
-    let named : string_bytes c.in_ok-clone.field-0 ≡ string_bytes x.name = c.in_ok-clone.ensures.cases in
+    let it : Item = record { table = x.table; name = c.in_ok-from_slice.field-0; thing = x.thing } in
+    let named : c.in_ok-from_slice.field-0.items ≡ x.name.items = c.in_ok-from_slice.ensures.items ∙ c.as_slice.ensures.value in
     items_more (take (c.loop-stored.stored-index + 1) xs) (take c.loop-stored.stored-index xs) c.loop-stored.items.items c.push.new.self.items x it
     (take_more xs c.loop-stored.stored-index x c.loop-stored-test.true ∙ ap (λ (y : Stored). take c.loop-stored.stored-index xs ++ y ∷ []) (sym c.stored-item.is))
     c.in_ok-push.ensures.items

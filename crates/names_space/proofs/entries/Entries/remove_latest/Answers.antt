@@ -1,17 +1,16 @@
 use Rattle.std.proofs.Common.{List, ℕ, Some, ap, ◌∙◌, sym, rules}
-use Rattle.std.specs.HashMap.{get_by_text}
-use Rattle.std.proofs.lemmas.Map.Text.{hash_map_updates_text}
-use Rattle.names_space.proofs.Listed.{kept_pop, kept_present, popped}
+use Rattle.names_space.specs.Kept.{meanings_of}
+use Rattle.names_space.proofs.Listed.{updates_name, kept_pop, kept_present, popped}
 use Rattle.names_space.proofs.entries.Entries.remove_latest.Goals as goal
 
 pub invariant_of-self : goal.invariant_of-self
 invariant_of-self c =
     let kept = rw c.in-Some.ensures.items at c.self.invariant in
-    let known = ap (λ (n : List ℕ). get_by_text c.self.inside.meanings n) (sym c.as_str.ensures.value) ∙ sym c.in-Some-get_mut.ensures.value in
-    let updates = hash_map_updates_text c.as_str.result.now c.self.inside.meanings (c.get_mut.follows.lender c.with.result) (Some c.with.result) ((c.get_mut.follows.holds c.with.result).3 (search rules)) in
+    let known = ap (λ (n : List ℕ). meanings_of c.self.inside.meanings n) (sym c.as_slice.ensures.value) ∙ sym c.in-Some-get_mut.ensures.value in
+    let updates = updates_name c.as_slice.result.now c.self.inside.meanings (c.get_mut.follows.lender c.with.result) (Some c.with.result) ((c.get_mut.follows.holds c.with.result).3 (search rules)) in
     kept_pop c.pop.new.self.items c.in-Some.last c.self.inside.meanings (c.get_mut.follows.lender c.with.result) c.in-Some-get_mut.known.now c.with.result
     kept known c.with.ensures
-    (λ q. rw (← c.as_str.ensures.value) (updates q))
+    (λ q. rw (← c.as_slice.ensures.value) (updates q))
 
 pub returns-in-Some-get_mut : goal.returns-in-Some-get_mut
 returns-in-Some-get_mut c = popped c.self.inside.stored.items c.pop.new.self.items c.in-Some.last c.args.self.now c.in-Some.ensures.items c.self.view_is
@@ -19,7 +18,7 @@ returns-in-Some-get_mut c = popped c.self.inside.stored.items c.pop.new.self.ite
 pub invariant_of-self-in-Some : goal.invariant_of-self-in-Some
 invariant_of-self-in-Some c =
     let kept = rw c.in-Some.ensures.items at c.self.invariant in
-    let absent = ap (λ (n : List ℕ). get_by_text c.self.inside.meanings n) (sym c.as_str.ensures.value) ∙ sym c.in_default-get_mut.ensures.value in
+    let absent = ap (λ (n : List ℕ). meanings_of c.self.inside.meanings n) (sym c.as_slice.ensures.value) ∙ sym c.in_default-get_mut.ensures.value in
     absurd (kept_present c.pop.new.self.items c.in-Some.last c.self.inside.meanings kept absent)
 
 pub returns-in-Some : goal.returns-in-Some
