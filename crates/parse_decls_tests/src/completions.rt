@@ -2,7 +2,7 @@
 // They depend on `complete`; the seeded tests depend on them.
 ghost use Rattle.tokens_why.specs.Tokens.{AreTokens};
 ghost use Rattle.syntax_why.specs.Lexeme.{rest};
-ghost use Rattle.parse_decls.specs.Faults.{IsRefusal};
+ghost use Rattle.recognise_why.specs.Sources.{IsRefusal};
 
 use parse_decls::{SyntaxFault, complete, has_one_file, parse};
 use std::alloc::{AllocError, Global};

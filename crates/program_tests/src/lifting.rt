@@ -15,11 +15,11 @@ const SECOND: &str =
 const LIFT: [&str; 8] = ["why3lift", "lift", "s", "plain.drv", "T", "g", "1", "2"];
 
 // What words are answered over the source, `s`, and two files, `1` and `2`.
-fn over(
+fn over<'x>(
     rt: &impl Abort,
     alloc: Global,
     words: &[&str],
-    refutations: (&[u8], &[u8]),
+    refutations: (&'x [u8], &'x [u8]),
     failing: &[u64],
 ) -> Answer {
     let files = [

@@ -7,7 +7,7 @@ use crate::reading::{Goal, MEMORY, names, problem, wrong_line};
 use problems::NameEntry;
 use std::alloc::Global;
 use std::process::Abort;
-use steps_text::{StepReader, write_steps};
+use steps_text::{ReadFault, StepReader, write_steps};
 use tasks::Task;
 use term_store::Store;
 
@@ -52,20 +52,19 @@ fn all_cuts(rt: &impl Abort, alloc: Global, goal: Goal, file: &[u8]) -> bool {
 
 // A file read, and written again.
 fn written(
-    rt: &impl Abort,
     alloc: Global,
     store: &mut Store,
     task: &Task,
     names: &[NameEntry],
     bytes: &[u8],
-) -> Vec<u8>
+) -> Result<Vec<u8>, ReadFault>
     requires task { TaskHeld store.old task.now }
     requires names { AreNames names.now }
 {
     let mut reader = StepReader::new(alloc, None);
-    reader.feed(store, task, names, bytes).expect(rt, MEMORY);
-    let steps = reader.finish(store, task, names).expect(rt, MEMORY);
-    write_steps(alloc, store, task, names, &steps).expect(rt, MEMORY)
+    reader.feed(store, task, names, bytes)?;
+    let steps = reader.finish(store, task, names)?;
+    Ok(write_steps(alloc, store, task, names, &steps)?)
 }
 
 // Whether a file is written as this text, and that text as itself.
@@ -73,7 +72,7 @@ fn is_written_as(rt: &impl Abort, alloc: Global, goal: Goal, file: &[u8], text: 
     let mut store = Store::new(alloc).expect(rt, MEMORY);
     let task = problem(rt, alloc, &mut store, goal);
     let names = names(rt, alloc);
-    let once = written(rt, alloc, &mut store, &task, &names, file);
+    let once = written(alloc, &mut store, &task, &names, file).expect(rt, "no right file");
     &once[..] == text
 }
 

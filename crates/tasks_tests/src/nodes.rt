@@ -7,7 +7,7 @@ const INT: TermId = TermId(1);
 const END: TermId = TermId(0);
 
 /// Each node's number is its place and 2 more.
-pub(crate) const NODES: [Node; 67] = [
+pub(crate) static NODES: [Node; 67] = [
     // 2: 'a; 4: list 'a; 6: list int; 7: 'b of the goal
     Node::TyVar(0),
     Node::Cell(TermId(2), END),

@@ -1,15 +1,18 @@
 // A small task: lists with their constructors and projections, a predicate on integers, a polymorphic function, a type
 // variable of the goal; a proposition, a definition, an inductive predicate; a local and a goal.
-ghost use Rattle.std.specs.Prelude.{◌≡◌, All, IfSome, IfOk, OnOk};
+ghost use Rattle.std.specs.Prelude.{◌≡◌, All, IfSome};
 ghost use Rattle.trees.specs.Node.{Holds};
 ghost use Rattle.tasks.specs.Meaning.{SymbolHeld, ConHeld, BodyHeld, DeclHeld, TaskHeld};
 
 use outside::{Seq, Text};
-use std::alloc::{AllocError, Global};
+use std::alloc::Global;
+use std::process::Abort;
 use std::rc::Rc;
 use tasks::{Alg, Body, Con, Decl, Def, Ind, Signature, SymbolInfo, SymbolKind, Task};
 use term_store::Store;
 use trees::TermId;
+
+const MEMORY: &str = "out of memory";
 
 /// What an entry is, with its number of type variables, the types of at most two arguments, and of its result.
 #[derive(Clone, Copy)]
@@ -28,7 +31,7 @@ const VARIABLE: Option<TermId> = Some(TermId(2));
 const LIST: Option<TermId> = Some(TermId(4));
 
 // int, list, Nil, Cons, p, f, the type variable, the two projections of Cons, a defined and an inductive predicate
-const ROWS: [Row; 11] = [
+static ROWS: [Row; 11] = [
     Row {
         kind: SymbolKind::Kind,
         vars: 0,
@@ -108,191 +111,182 @@ const ROWS: [Row; 11] = [
     },
 ];
 
-// A number more, if it is there and held.
-fn push_held(store: &Store, all: &mut Seq<TermId>, id: Option<TermId>) -> Result<(), AllocError>
-    requires { All (Holds store.now) all.old }
-    ensures { OnOk result (All (Holds store.now) all.new) }
-{
-    match id {
-        Some(id) => {
-            if store.holds(id) {
-                all.push(id)
-            } else {
-                Ok(())
-            }
-        }
-        None => Ok(()),
-    }
-}
-
-// At most two numbers, those that are held.
-fn held_pair(
-    alloc: Global,
-    store: &Store,
-    first: Option<TermId>,
-    second: Option<TermId>,
-) -> Result<Seq<TermId>, AllocError>
-    ensures { IfOk result (All (Holds store.now)) }
+// Those of these numbers that are there and held.
+fn held_of(rt: &impl Abort, alloc: Global, store: &Store, ids: [Option<TermId>; 2]) -> Seq<TermId>
+    ensures { All (Holds store.now) result }
 {
     let mut all = Seq::new(alloc);
-    push_held(store, &mut all, first)?;
-    push_held(store, &mut all, second)?;
-    Ok(all)
+    for id in ids {
+        if let Some(id) = if_held(store, id) {
+            all.push(id).expect(rt, MEMORY);
+        }
+    }
+    all
 }
 
-// A number, if it is held.
+// A number, if it is there and held.
 fn if_held(store: &Store, id: Option<TermId>) -> Option<TermId>
     ensures { IfSome result (Holds store.now) }
 {
-    match id {
-        Some(id) => { if store.holds(id) { Some(id) } else { None } }
-        None => None,
-    }
+    let id = id?;
+    if store.holds(id) { Some(id) } else { None }
+}
+
+fn text(rt: &impl Abort, alloc: Global, bytes: &[u8]) -> Text {
+    Text::from_slice(alloc, bytes).expect(rt, MEMORY)
 }
 
 // An entry of the theory T.
-fn symbol(alloc: Global, store: &Store, row: Row) -> Result<SymbolInfo, AllocError>
-    ensures { IfOk result (SymbolHeld store.now) }
+fn symbol(rt: &impl Abort, alloc: Global, store: &Store, row: Row) -> SymbolInfo
+    ensures { SymbolHeld store.now result }
 {
-    Ok(SymbolInfo {
-        theory: Text::from_slice(alloc, b"T")?,
-        name: Text::from_slice(alloc, b"s")?,
+    SymbolInfo {
+        theory: text(rt, alloc, b"T"),
+        name: text(rt, alloc, b"s"),
         kind: row.kind,
         vars: row.vars,
-        args: held_pair(alloc, store, row.first, row.second)?,
+        args: held_of(rt, alloc, store, [row.first, row.second]),
         result: if_held(store, row.given),
-    })
+    }
 }
 
 // The entries.
-fn symbols(alloc: Global, store: &Store) -> Result<Seq<SymbolInfo>, AllocError>
-    ensures { IfOk result (All (SymbolHeld store.now)) }
+fn symbols(rt: &impl Abort, alloc: Global, store: &Store) -> Seq<SymbolInfo>
+    ensures { All (SymbolHeld store.now) result }
 {
     let mut all = Seq::new(alloc);
-    for row in ROWS {
-        all.push(symbol(alloc, store, row)?)?;
+    for row in ROWS.iter() {
+        all.push(symbol(rt, alloc, store, *row)).expect(rt, MEMORY);
     }
-    Ok(all)
+    all
 }
 
-// A declaration of the theory T.
-fn declaration(alloc: Global, store: &Store, body: Body) -> Result<Decl, AllocError>
-    requires { BodyHeld store.now body }
-    ensures { IfOk result (DeclHeld store.now) }
+// A further declaration of the theory T.
+fn declare(rt: &impl Abort, alloc: Global, store: &Store, all: &mut Seq<Decl>, body: Body)
+    requires body { BodyHeld store.now body }
+    requires all { All (DeclHeld store.now) all.old }
+    ensures { All (DeclHeld store.now) all.new }
 {
     let _ = store;
-    Ok(Decl {
-        theory: Text::from_slice(alloc, b"T")?,
-        name: Text::from_slice(alloc, b"d")?,
+    all.push(Decl {
+        theory: text(rt, alloc, b"T"),
+        name: text(rt, alloc, b"d"),
         vars: 0,
         body,
     })
+    .expect(rt, MEMORY);
 }
 
 // A constructor.
 fn con(
+    rt: &impl Abort,
     alloc: Global,
     store: &Store,
     symbol: usize,
-    fields: Seq<TermId>,
+    fields: [Option<TermId>; 2],
     projections: &[usize],
-) -> Result<Con, AllocError>
-    requires { All (Holds store.now) fields }
-    ensures { IfOk result (ConHeld store.now) }
+) -> Con
+    ensures { ConHeld store.now result }
 {
-    let _ = store;
-    Ok(Con {
+    Con {
         symbol,
-        fields,
-        projections: Seq::from_slice(alloc, projections)?,
-    })
+        fields: held_of(rt, alloc, store, fields),
+        projections: Seq::from_slice(alloc, projections).expect(rt, MEMORY),
+    }
 }
 
 // Lists with their constructors and projections.
-fn lists(alloc: Global, store: &Store) -> Result<Body, AllocError>
-    ensures { IfOk result (BodyHeld store.now) }
+fn lists(rt: &impl Abort, alloc: Global, store: &Store) -> Body
+    ensures { BodyHeld store.now result }
 {
     let mut cons = Seq::new(alloc);
-    cons.push(con(alloc, store, 2, Seq::new(alloc), &[])?)?;
-    let fields = held_pair(alloc, store, VARIABLE, LIST)?;
-    cons.push(con(alloc, store, 3, fields, &[7, 8])?)?;
+    cons.push(con(rt, alloc, store, 2, [None, None], &[]))
+        .expect(rt, MEMORY);
+    cons.push(con(rt, alloc, store, 3, [VARIABLE, LIST], &[7, 8]))
+        .expect(rt, MEMORY);
     let mut types = Seq::new(alloc);
-    types.push(Alg { symbol: 1, cons })?;
-    Ok(Body::Algebraics(types))
+    types.push(Alg { symbol: 1, cons }).expect(rt, MEMORY);
+    Body::Algebraics(types)
 }
 
 // A predicate with its equation.
-fn defined(alloc: Global, store: &Store, equation: TermId) -> Result<Body, AllocError>
+fn defined(rt: &impl Abort, alloc: Global, store: &Store, equation: TermId) -> Body
     requires { Holds store.now equation }
-    ensures { IfOk result (BodyHeld store.now) }
+    ensures { BodyHeld store.now result }
 {
     let _ = store;
     let mut defs = Seq::new(alloc);
     defs.push(Def {
         symbol: 9,
         equation,
-    })?;
-    Ok(Body::Defs(defs))
+    })
+    .expect(rt, MEMORY);
+    Body::Defs(defs)
 }
 
 // A predicate with two clauses.
-fn inductive(
-    alloc: Global,
-    store: &Store,
-    first: TermId,
-    second: TermId,
-) -> Result<Body, AllocError>
-    ensures { IfOk result (BodyHeld store.now) }
+fn inductive(rt: &impl Abort, alloc: Global, store: &Store, first: TermId, second: TermId) -> Body
+    ensures { BodyHeld store.now result }
 {
     let mut inductives = Seq::new(alloc);
-    inductives.push(Ind {
-        symbol: 10,
-        clauses: held_pair(alloc, store, Some(first), Some(second))?,
-    })?;
-    Ok(Body::Inductives(inductives))
+    inductives
+        .push(Ind {
+            symbol: 10,
+            clauses: held_of(rt, alloc, store, [Some(first), Some(second)]),
+        })
+        .expect(rt, MEMORY);
+    Body::Inductives(inductives)
 }
 
 // The declarations, which say and define by one formula.
-fn decls(
-    alloc: Global,
-    store: &Store,
-    formula: TermId,
-    other: TermId,
-) -> Result<Seq<Decl>, AllocError>
+fn decls(rt: &impl Abort, alloc: Global, store: &Store, formula: TermId, other: TermId) -> Seq<Decl>
     requires { Holds store.now formula }
-    ensures { IfOk result (All (DeclHeld store.now)) }
+    ensures { All (DeclHeld store.now) result }
 {
     let mut all = Seq::new(alloc);
-    all.push(declaration(alloc, store, lists(alloc, store)?)?)?;
-    all.push(declaration(alloc, store, Body::Symbol(4))?)?;
-    all.push(declaration(alloc, store, Body::Symbol(5))?)?;
-    all.push(declaration(alloc, store, Body::Prop(formula))?)?;
-    all.push(declaration(alloc, store, defined(alloc, store, formula)?)?)?;
-    all.push(declaration(alloc, store, inductive(alloc, store, formula, other)?)?)?;
-    Ok(all)
+    declare(rt, alloc, store, &mut all, lists(rt, alloc, store));
+    declare(rt, alloc, store, &mut all, Body::Symbol(4));
+    declare(rt, alloc, store, &mut all, Body::Symbol(5));
+    declare(rt, alloc, store, &mut all, Body::Prop(formula));
+    declare(
+        rt,
+        alloc,
+        store,
+        &mut all,
+        defined(rt, alloc, store, formula),
+    );
+    declare(
+        rt,
+        alloc,
+        store,
+        &mut all,
+        inductive(rt, alloc, store, formula, other),
+    );
+    all
 }
 
 /// The task that says, defines and asks one formula, with another one as its local.
 pub(crate) fn small_task(
+    rt: &impl Abort,
     alloc: Global,
     store: &Store,
     formula: TermId,
     other: TermId,
-) -> Result<Task, AllocError>
+) -> Task
     requires { Holds store.now formula }
-    ensures held { IfOk result (TaskHeld store.now) }
-    ensures goal { IfOk result (λ t. t.goal ≡ formula) }
+    ensures held { TaskHeld store.now result }
+    ensures goal { result.goal ≡ formula }
 {
     let signature = Signature {
-        symbols: symbols(alloc, store)?,
+        symbols: symbols(rt, alloc, store),
         ints: None,
     };
-    Ok(Task {
-        sig: Rc::new(alloc, signature)?,
-        rigid: Seq::from_slice(alloc, &[6])?,
-        decls: decls(alloc, store, formula, other)?,
-        params: held_pair(alloc, store, INT, None)?,
-        locals: held_pair(alloc, store, Some(other), None)?,
+    Task {
+        sig: Rc::new(alloc, signature).expect(rt, MEMORY),
+        rigid: Seq::from_slice(alloc, &[6]).expect(rt, MEMORY),
+        decls: decls(rt, alloc, store, formula, other),
+        params: held_of(rt, alloc, store, [INT, None]),
+        locals: held_of(rt, alloc, store, [Some(other), None]),
         goal: formula,
-    })
+    }
 }

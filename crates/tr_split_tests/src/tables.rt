@@ -29,8 +29,9 @@ fn task(rt: &impl Abort, alloc: Global, store: &mut Store, goal: &str) -> Task
     ensures held { TaskHeld store.new result }
     ensures valid { IsValid (task_at store.new result) }
 {
-    let text = format!(in alloc; "theory T predicate p predicate q goal g: {goal} end")
-        .expect(rt, MEMORY);
+    let text = format!(in alloc; "theory T predicate p predicate q goal g: {goal} end").expect(
+        rt, MEMORY,
+    );
     let tokens = lex(alloc, text.as_bytes()).expect(rt, "tokens");
     let file = parse(alloc, &tokens, text.as_bytes()).expect(rt, "a source");
     let found = theories(alloc, store, &file).expect(rt, "theories");

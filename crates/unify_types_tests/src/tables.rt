@@ -1,5 +1,11 @@
 // Worked systems of equations, with the answers that the definition of a solution gives.
 // They stand on `solve` and `value`; the random systems stand on them.
+ghost use Rattle.std.specs.Prelude.{◌≡◌, IsTrue};
+ghost use Rattle.trees.specs.declared.Sort.TheVariants.{Kind};
+ghost use Rattle.trees.specs.Sorts.{sort_of};
+ghost use Rattle.trees.specs.Node.{tree_at, Holds};
+ghost use Rattle.unify_types.specs.Pairs.{HoldsEquation, HoldEquations};
+
 use std::alloc::Global;
 use std::process::Abort;
 use term_store::{Grow, Store};
@@ -33,6 +39,34 @@ pub(crate) fn applied(
     put(rt, store, Node::TyApp(symbol, list))
 }
 
+// Whether each equation is one of types that the store holds.
+fn are_of_types(store: &Store, equations: &[Equation]) -> bool
+    ensures { IsTrue result → HoldEquations store.now equations.now }
+{
+    match equations.split_first() {
+        Some((e, more)) => is_of_types(store, *e) && are_of_types(store, more),
+        None => true,
+    }
+}
+
+fn is_of_types(store: &Store, e: Equation) -> bool
+    ensures { IsTrue result → HoldsEquation store.now e }
+{
+    is_type(store, e.left) && is_type(store, e.right)
+}
+
+fn is_type(store: &Store, id: TermId) -> bool
+    ensures { IsTrue result → Holds store.now id × (sort_of (tree_at store.now id) ≡ Kind) }
+{
+    if !store.holds(id) {
+        return false;
+    }
+    match store.sort(id) {
+        Sort::Kind => true,
+        _ => false,
+    }
+}
+
 // The answer to equations, given as pairs of types.
 pub(crate) fn answer(
     rt: &impl Abort,
@@ -50,18 +84,8 @@ pub(crate) fn answer(
             })
             .expect(rt, MEMORY);
     }
-    let equations = equations.as_slice();
-    for e in equations {
-        assert!(rt; store.holds(e.left));
-        assert!(rt; store.holds(e.right));
-        let Sort::Kind = store.sort(e.left) else {
-            panic!(rt; "no type");
-        };
-        let Sort::Kind = store.sort(e.right) else {
-            panic!(rt; "no type");
-        };
-    }
-    solve(alloc, store, rigid_vars, equations)
+    assert!(rt; are_of_types(store, &equations));
+    solve(alloc, store, rigid_vars, &equations)
 }
 
 // The equation that is the last of the least prefix without a solution.

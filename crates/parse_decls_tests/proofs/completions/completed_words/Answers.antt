@@ -1,7 +1,7 @@
 use Rattle.std.proofs.Common.{length, subst, arith}
 use Rattle.std.proofs.lemmas.List.{length-map}
 use Rattle.syntax_why.specs.Lexeme.{lexeme, rest}
-use Rattle.parse_decls.specs.Faults.{IsRefusal}
+use Rattle.recognise_why.specs.Sources.{IsRefusal}
 use Rattle.parse_decls_tests.proofs.completions.completed_words.Goals as goal
 
 pub complete-requires-clause-place : goal.complete-requires-clause-place

@@ -3,4 +3,4 @@ use Rattle.tasks.specs.Meaning.{SymbolHeld}
 use Rattle.tasks_tests.proofs.small.symbols.Given as goal
 
 abbrev pub invariant-loop-row : goal.invariant-loop-row
-invariant-loop-row l = All (SymbolHeld l.store) l.all
+invariant-loop-row g l = All (SymbolHeld l.store) l.all
