@@ -1,16 +1,15 @@
-// Goals with the parts that they are split into.
-// They stand on the transformation and on the tasks of propositional sources; nothing stands on them.
+// The parts of goals, which the transformation of tr_split makes of the valid tasks of sources.
+// They depend on the sources; nothing depends on them.
 ghost use Rattle.tasks.specs.Meaning.{task_at, TaskHeld};
 ghost use Rattle.tasks.specs.Valid.{IsValid};
 
+use crate::sources::source;
 use evidence::Transform;
-use parse_decls::parse;
 use propositional::{task_of, theories};
 use std::alloc::Global;
 use std::process::Abort;
 use tasks::Task;
 use term_store::Store;
-use tokens_why::lex;
 use tr_split::Split;
 
 const MEMORY: &str = "out of memory";
@@ -32,8 +31,7 @@ fn task(rt: &impl Abort, alloc: Global, store: &mut Store, goal: &str) -> Task
     let text = format!(in alloc; "theory T predicate p predicate q goal g: {goal} end").expect(
         rt, MEMORY,
     );
-    let tokens = lex(alloc, text.as_bytes()).expect(rt, "tokens");
-    let file = parse(alloc, &tokens, text.as_bytes()).expect(rt, "a source");
+    let file = source(rt, alloc, text.as_str());
     let found = theories(alloc, store, &file).expect(rt, "theories");
     task_of(alloc, store, found, "T", "g").expect(rt, "a goal")
 }
