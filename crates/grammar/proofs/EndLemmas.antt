@@ -46,13 +46,6 @@ run_none (suc n) (suc m) (x ∷ xs) k h e = by_step (step false k x) (λ j. run_
     by_step None f e = refl
     by_step (Some j) f e = f j e
 
-pub longest_start : (k : List Symbol) (xs : List Terminal) → IsLongest k xs 0 (cond (may_end k) (Some 0) None)
-longest_start k xs = by_end (may_end k) refl
-  where
-    by_end : (b : Bool) → may_end k ≡ b → IsLongest k xs 0 (cond b (Some 0) None)
-    by_end true e = (omega arith, e, λ m a l. absurd (omega arith))
-    by_end false e = λ m l. (let z : m ≡ 0 = omega arith in subst (λ v. accepts k (take v xs) ≡ false) (sym z) e)
-
 pub longest_more : (k : List Symbol) (xs : List Terminal) (i : ℕ) (r : Option ℕ) (j : List Symbol) → run k (take (i + 1) xs) ≡ Some j → IsLongest k xs i r → IsLongest k xs (i + 1) (cond (may_end j) (Some (i + 1)) r)
 longest_more k xs i r j e g = by_end (may_end j) refl r g
   where
@@ -110,6 +103,3 @@ step_behind k j xs y h = run_append xs (y ∷ []) k ∙ ap (next (λ l. run l (y
 pub whether : (t : Option (List Symbol)) (b : Bool) (l : List Symbol) → IsStep t b l → b ≡ is_taken t
 whether (Some k) b l p = p.0
 whether None b l p = p
-
-pub whole : (k j : List Symbol) (xs : List Terminal) (n : ℕ) → run k (take n xs) ≡ Some j → n ≡ length xs → may_end j ≡ true → accepts k xs ≡ true
-whole k j xs n h e f = ap ends (ap (run k) (sym (take_all n xs (omega (arith, e)))) ∙ h) ∙ f

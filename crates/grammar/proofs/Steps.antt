@@ -16,9 +16,6 @@ opened : (b : Bool) (s : Symbol) (k : List Symbol) (x : Terminal) (v : Bool) →
 opened b s k x v h = ap (λ w. cond w (step true k x) (on_top (takes s x) (optional s) k (step (is_seal s) k x))) h
 
 module _ (b : Bool) (s : Symbol) (k l : List Symbol) (x : Terminal) where
-  pub silent_step : sealed b s ≡ true → step b (s ∷ k) x ≡ step true k x
-  silent_step h = opened b s k x true h
-
   pub put_step : sealed b s ≡ false → IsPut (takes s x) true k l → IsStep (step b (s ∷ k) x) true l
   put_step h p = subst (λ t. IsStep t true l) (sym (opened b s k x false h)) (by_option (takes s x) p)
     where

@@ -15,28 +15,17 @@ abbrev takes_op : ℕ → ℕ → Terminal → Bool
 takes_op m u o = nat_le m (prec o) && nat_le (need o) u
 
 -- which operators a tail takes
-abbrev all_infix : List Terminal → Bool
+abbrev pub all_infix : List Terminal → Bool
 all_infix [] = true
 all_infix (o ∷ os) = is_infix o && all_infix os
 
-abbrev among : Terminal → List Terminal → Bool
+abbrev pub among : Terminal → List Terminal → Bool
 among y [] = false
 among y (o ∷ os) = cond (same o y) true (among y os)
 
-infix_among : (o : Terminal) → is_infix o ≡ true → among o operators ≡ true
+pub infix_among : (o : Terminal) → is_infix o ≡ true → among o operators ≡ true
 infix_among t.Arrow h = refl
-infix_among t.Equiv h = refl
-infix_among t.Disj h = refl
-infix_among t.OrOr h = refl
-infix_among t.Conj h = refl
-infix_among t.AndAnd h = refl
-infix_among t.Equal h = refl
-infix_among t.Operator1 h = refl
-infix_among t.Minus h = refl
-infix_among t.Operator2 h = refl
-infix_among t.Operator3 h = refl
-infix_among t.Operator4 h = refl
-infix_among _ h = absurd (no_false h)
+infix_among _ h = cc
 
 tail_none : (m u : ℕ) (os : List Terminal) (y : Terminal) → all_infix os ≡ true → (is_infix y ≡ true → takes_op m u y ≡ false) → find (tail_of m u os) y ≡ None
 tail_none m u [] y a h = refl

@@ -1,729 +1,601 @@
 // The grammar in code: the rows of each rule but those of an expression and of operators.
 // It depends on the symbols; the machine depends on it.
-ghost use Rattle.std.specs.Prelude.{◌≡◌, map};
+ghost use Rattle.std.specs.Prelude.{map};
 ghost use Rattle.grammar.specs.Rows.{HasRows, line_of};
 
-use crate::symbols::Symbol as S;
+use crate::symbols::Symbol::{self, *};
 use tokens_why::Terminal as T;
 
 /// A token with which a rule begins, and what stands behind it.
-pub type Row = (T, &'static [S]);
+pub type Row = (T, &'static [Symbol]);
 
 const FILE: [Row; 2] = [
-    (T::TheoryWord, &[S::Take(T::Uident), S::Decls, S::File]),
-    (T::ModuleWord, &[S::Take(T::Uident), S::Decls, S::File]),
+    (T::TheoryWord, &[Take(T::Uident), Decls, File]),
+    (T::ModuleWord, &[Take(T::Uident), Decls, File]),
 ];
 
 const DECLS: [Row; 12] = [
     (T::EndWord, &[]),
-    (T::ScopeWord, &[S::Take(T::Uident), S::Decls, S::Decls]),
-    (T::TypeWord, &[S::Take(T::Lident), S::Tvars, S::Decls]),
+    (T::ScopeWord, &[Take(T::Uident), Decls, Decls]),
+    (T::TypeWord, &[Take(T::Lident), Tvars, Decls]),
     (
         T::FunctionWord,
-        &[
-            S::Op,
-            S::Params,
-            S::Take(T::Colon),
-            S::TypeOf,
-            S::Body,
-            S::Decls,
-        ],
+        &[Op, Params, Take(T::Colon), TypeOf, Body, Decls],
     ),
-    (T::PredicateWord, &[S::Op, S::Params, S::Body, S::Decls]),
-    (
-        T::ConstantWord,
-        &[S::Op, S::Take(T::Colon), S::TypeOf, S::Value, S::Decls],
-    ),
+    (T::PredicateWord, &[Op, Params, Body, Decls]),
+    (T::ConstantWord, &[Op, Take(T::Colon), TypeOf, Value, Decls]),
     (
         T::InductiveWord,
-        &[S::Op, S::Params, S::Take(T::Equal), S::Clause, S::Decls],
+        &[Op, Params, Take(T::Equal), Clause, Decls],
     ),
-    (
-        T::AxiomWord,
-        &[S::Ident, S::Take(T::Colon), S::Expr(0), S::Decls],
-    ),
-    (
-        T::LemmaWord,
-        &[S::Ident, S::Take(T::Colon), S::Expr(0), S::Decls],
-    ),
-    (
-        T::GoalWord,
-        &[S::Ident, S::Take(T::Colon), S::Expr(0), S::Decls],
-    ),
-    (T::UseWord, &[S::Used, S::Decls]),
-    (T::CloneWord, &[S::Cloned, S::Decls]),
+    (T::AxiomWord, &[Ident, Take(T::Colon), Expr(0), Decls]),
+    (T::LemmaWord, &[Ident, Take(T::Colon), Expr(0), Decls]),
+    (T::GoalWord, &[Ident, Take(T::Colon), Expr(0), Decls]),
+    (T::UseWord, &[Used, Decls]),
+    (T::CloneWord, &[Cloned, Decls]),
 ];
 
-const TVARS: [Row; 2] = [(T::TyVar, &[S::Tvars]), (T::Equal, &[S::Typedef])];
+const TVARS: [Row; 2] = [(T::TyVar, &[Tvars]), (T::Equal, &[Typedef])];
 
 const TYPEDEF: [Row; 5] = [
     (T::TyVar, &[]),
-    (T::Lident, &[S::Targs]),
-    (T::LParen, &[S::Ttuple]),
-    (T::Uident, &[S::Upper]),
-    (T::Bar, &[S::Take(T::Uident), S::Fields]),
+    (T::Lident, &[Targs]),
+    (T::LParen, &[Ttuple]),
+    (T::Uident, &[Upper]),
+    (T::Bar, &[Take(T::Uident), Fields]),
 ];
 
 const UPPER: [Row; 7] = [
-    (T::Dot, &[S::Qlid, S::Targs]),
-    (T::Bar, &[S::Take(T::Uident), S::Fields]),
-    (T::WithWord, &[S::Take(T::Lident), S::Algvars]),
-    (T::TyVar, &[S::Fields]),
-    (T::Lident, &[S::Fields]),
-    (T::Uident, &[S::Take(T::Dot), S::Qlid, S::Fields]),
-    (T::LParen, &[S::Ttuple, S::Fields]),
+    (T::Dot, &[Qlid, Targs]),
+    (T::Bar, &[Take(T::Uident), Fields]),
+    (T::WithWord, &[Take(T::Lident), Algvars]),
+    (T::TyVar, &[Fields]),
+    (T::Lident, &[Fields]),
+    (T::Uident, &[Take(T::Dot), Qlid, Fields]),
+    (T::LParen, &[Ttuple, Fields]),
 ];
 
-const ALGVARS: [Row; 2] = [(T::TyVar, &[S::Algvars]), (T::Equal, &[S::Con])];
+const ALGVARS: [Row; 2] = [(T::TyVar, &[Algvars]), (T::Equal, &[Con])];
 
-const CON: [Row; 2] = [
-    (T::Uident, &[S::Fields]),
-    (T::Bar, &[S::Take(T::Uident), S::Fields]),
-];
+const CON: [Row; 2] = [(T::Uident, &[Fields]), (T::Bar, &[Take(T::Uident), Fields])];
 
-const OP: [Row; 3] = [
-    (T::Lident, &[]),
-    (T::StarName, &[]),
-    (T::LParen, &[S::Opname]),
-];
+const OP: [Row; 3] = [(T::Lident, &[]), (T::StarName, &[]), (T::LParen, &[Opname])];
 
 const OPNAME: [Row; 7] = [
-    (T::Equal, &[S::Opend]),
-    (T::Minus, &[S::Opend]),
-    (T::Operator1, &[S::Opend]),
-    (T::Operator2, &[S::Opend]),
-    (T::Operator3, &[S::Opend]),
-    (T::Operator4, &[S::Opend]),
-    (T::PrefixOperator, &[S::Opend]),
+    (T::Equal, &[Opend]),
+    (T::Minus, &[Opend]),
+    (T::Operator1, &[Opend]),
+    (T::Operator2, &[Opend]),
+    (T::Operator3, &[Opend]),
+    (T::Operator4, &[Opend]),
+    (T::PrefixOperator, &[Opend]),
 ];
 
-const OPEND: [Row; 2] = [(T::RParen, &[]), (T::Wild, &[S::Take(T::RParen)])];
+const OPEND: [Row; 2] = [(T::RParen, &[]), (T::Wild, &[Take(T::RParen)])];
 
 const ID: [Row; 2] = [(T::Lident, &[]), (T::Uident, &[])];
 
 const PARAMS: [Row; 5] = [
-    (T::LParen, &[S::Pparen, S::Params]),
-    (T::TyVar, &[S::Params]),
-    (T::Lident, &[S::Params]),
-    (T::Uident, &[S::Take(T::Dot), S::Qlid, S::Params]),
-    (T::LParen, &[S::Ttuple, S::Params]),
+    (T::LParen, &[Pparen, Params]),
+    (T::TyVar, &[Params]),
+    (T::Lident, &[Params]),
+    (T::Uident, &[Take(T::Dot), Qlid, Params]),
+    (T::LParen, &[Ttuple, Params]),
 ];
 
 const PPAREN: [Row; 6] = [
-    (T::Lident, &[S::Pname]),
+    (T::Lident, &[Pname]),
     (T::RParen, &[]),
-    (T::TyVar, &[S::Tmore]),
-    (T::Lident, &[S::Targs, S::Tmore]),
-    (T::Uident, &[S::Take(T::Dot), S::Qlid, S::Targs, S::Tmore]),
-    (T::LParen, &[S::Ttuple, S::Tmore]),
+    (T::TyVar, &[Tmore]),
+    (T::Lident, &[Targs, Tmore]),
+    (T::Uident, &[Take(T::Dot), Qlid, Targs, Tmore]),
+    (T::LParen, &[Ttuple, Tmore]),
 ];
 
 const PNAME: [Row; 8] = [
-    (T::Colon, &[S::TypeOf, S::Take(T::RParen)]),
-    (T::Lident, &[S::Pname]),
-    (T::TyVar, &[S::Targs, S::Tmore]),
-    (T::Lident, &[S::Targs, S::Tmore]),
-    (T::Uident, &[S::Take(T::Dot), S::Qlid, S::Targs, S::Tmore]),
-    (T::LParen, &[S::Ttuple, S::Targs, S::Tmore]),
+    (T::Colon, &[TypeOf, Take(T::RParen)]),
+    (T::Lident, &[Pname]),
+    (T::TyVar, &[Targs, Tmore]),
+    (T::Lident, &[Targs, Tmore]),
+    (T::Uident, &[Take(T::Dot), Qlid, Targs, Tmore]),
+    (T::LParen, &[Ttuple, Targs, Tmore]),
     (T::RParen, &[]),
-    (T::Comma, &[S::TypeOf, S::Tmore]),
+    (T::Comma, &[TypeOf, Tmore]),
 ];
 
-const BODY: [Row; 1] = [(T::Equal, &[S::Expr(0), S::Members])];
+const BODY: [Row; 1] = [(T::Equal, &[Expr(0), Members])];
 
-const MEMBERS: [Row; 1] = [(T::WithWord, &[S::Op, S::Params, S::Member])];
+const MEMBERS: [Row; 1] = [(T::WithWord, &[Op, Params, Member])];
 
 const MEMBER: [Row; 2] = [
-    (T::Equal, &[S::Expr(0), S::Members]),
-    (
-        T::Colon,
-        &[S::TypeOf, S::Take(T::Equal), S::Expr(0), S::Members],
-    ),
+    (T::Equal, &[Expr(0), Members]),
+    (T::Colon, &[TypeOf, Take(T::Equal), Expr(0), Members]),
 ];
 
-const VALUE: [Row; 1] = [(T::Equal, &[S::Expr(0)])];
+const VALUE: [Row; 1] = [(T::Equal, &[Expr(0)])];
 
 const CLAUSE: [Row; 3] = [
-    (T::Lident, &[S::Take(T::Colon), S::Expr(0), S::Clauses]),
-    (T::Uident, &[S::Take(T::Colon), S::Expr(0), S::Clauses]),
-    (
-        T::Bar,
-        &[S::Ident, S::Take(T::Colon), S::Expr(0), S::Clauses],
-    ),
+    (T::Lident, &[Take(T::Colon), Expr(0), Clauses]),
+    (T::Uident, &[Take(T::Colon), Expr(0), Clauses]),
+    (T::Bar, &[Ident, Take(T::Colon), Expr(0), Clauses]),
 ];
 
 const CLAUSES: [Row; 2] = [
-    (
-        T::Bar,
-        &[S::Ident, S::Take(T::Colon), S::Expr(0), S::Clauses],
-    ),
-    (
-        T::WithWord,
-        &[S::Op, S::Params, S::Take(T::Equal), S::Clause],
-    ),
+    (T::Bar, &[Ident, Take(T::Colon), Expr(0), Clauses]),
+    (T::WithWord, &[Op, Params, Take(T::Equal), Clause]),
 ];
 
 const USED: [Row; 4] = [
-    (T::ExportWord, &[S::Path]),
-    (T::ImportWord, &[S::Path, S::Renamed]),
-    (T::Lident, &[S::Take(T::Dot), S::Path, S::Renamed]),
-    (T::Uident, &[S::Renamed]),
+    (T::ExportWord, &[Path]),
+    (T::ImportWord, &[Path, Renamed]),
+    (T::Lident, &[Take(T::Dot), Path, Renamed]),
+    (T::Uident, &[Renamed]),
 ];
 
 const CLONED: [Row; 4] = [
-    (T::ExportWord, &[S::Path, S::Subst]),
-    (T::ImportWord, &[S::Path, S::Renamed, S::Subst]),
-    (T::Lident, &[S::Take(T::Dot), S::Path, S::Renamed, S::Subst]),
-    (T::Uident, &[S::Renamed, S::Subst]),
+    (T::ExportWord, &[Path, Subst]),
+    (T::ImportWord, &[Path, Renamed, Subst]),
+    (T::Lident, &[Take(T::Dot), Path, Renamed, Subst]),
+    (T::Uident, &[Renamed, Subst]),
 ];
 
-const PATH: [Row; 2] = [(T::Lident, &[S::Take(T::Dot), S::Path]), (T::Uident, &[])];
+const PATH: [Row; 2] = [(T::Lident, &[Take(T::Dot), Path]), (T::Uident, &[])];
 
-const RENAMED: [Row; 1] = [(T::AsWord, &[S::Take(T::Uident)])];
+const RENAMED: [Row; 1] = [(T::AsWord, &[Take(T::Uident)])];
 
-const SUBST: [Row; 1] = [(T::WithWord, &[S::Elem, S::Elems])];
+const SUBST: [Row; 1] = [(T::WithWord, &[Elem, Elems])];
 
-const ELEMS: [Row; 1] = [(T::Comma, &[S::Elem, S::Elems])];
+const ELEMS: [Row; 1] = [(T::Comma, &[Elem, Elems])];
 
 const ELEM: [Row; 7] = [
-    (T::TypeWord, &[S::Qlid, S::Elvars]),
-    (T::FunctionWord, &[S::Qop, S::Take(T::Equal), S::Qop]),
-    (T::ConstantWord, &[S::Qop, S::Take(T::Equal), S::Qop]),
-    (T::PredicateWord, &[S::Qop, S::Take(T::Equal), S::Qop]),
-    (T::LemmaWord, &[S::Qid]),
-    (T::GoalWord, &[S::Qid]),
-    (T::AxiomWord, &[S::Axioms]),
+    (T::TypeWord, &[Qlid, Elvars]),
+    (T::FunctionWord, &[Qop, Take(T::Equal), Qop]),
+    (T::ConstantWord, &[Qop, Take(T::Equal), Qop]),
+    (T::PredicateWord, &[Qop, Take(T::Equal), Qop]),
+    (T::LemmaWord, &[Qid]),
+    (T::GoalWord, &[Qid]),
+    (T::AxiomWord, &[Axioms]),
 ];
 
-const AXIOMS: [Row; 3] = [(T::Dot, &[]), (T::Lident, &[]), (T::Uident, &[S::Qids])];
+const AXIOMS: [Row; 3] = [(T::Dot, &[]), (T::Lident, &[]), (T::Uident, &[Qids])];
 
-const ELVARS: [Row; 2] = [(T::TyVar, &[S::Elvars]), (T::Equal, &[S::TypeOf])];
+const ELVARS: [Row; 2] = [(T::TyVar, &[Elvars]), (T::Equal, &[TypeOf])];
 
-const QLID: [Row; 2] = [(T::Lident, &[]), (T::Uident, &[S::Take(T::Dot), S::Qlid])];
+const QLID: [Row; 2] = [(T::Lident, &[]), (T::Uident, &[Take(T::Dot), Qlid])];
 
 const QOP: [Row; 4] = [
-    (T::Uident, &[S::Take(T::Dot), S::Qop]),
+    (T::Uident, &[Take(T::Dot), Qop]),
     (T::Lident, &[]),
     (T::StarName, &[]),
-    (T::LParen, &[S::Opname]),
+    (T::LParen, &[Opname]),
 ];
 
-const QID: [Row; 2] = [(T::Lident, &[]), (T::Uident, &[S::Qids])];
+const QID: [Row; 2] = [(T::Lident, &[]), (T::Uident, &[Qids])];
 
-const QIDS: [Row; 1] = [(T::Dot, &[S::Qid])];
+const QIDS: [Row; 1] = [(T::Dot, &[Qid])];
 
 const TYPE: [Row; 4] = [
     (T::TyVar, &[]),
-    (T::Lident, &[S::Targs]),
-    (T::Uident, &[S::Take(T::Dot), S::Qlid, S::Targs]),
-    (T::LParen, &[S::Ttuple]),
+    (T::Lident, &[Targs]),
+    (T::Uident, &[Take(T::Dot), Qlid, Targs]),
+    (T::LParen, &[Ttuple]),
 ];
 
 const ATYPE: [Row; 4] = [
     (T::TyVar, &[]),
     (T::Lident, &[]),
-    (T::Uident, &[S::Take(T::Dot), S::Qlid]),
-    (T::LParen, &[S::Ttuple]),
+    (T::Uident, &[Take(T::Dot), Qlid]),
+    (T::LParen, &[Ttuple]),
 ];
 
 const TARGS: [Row; 4] = [
-    (T::TyVar, &[S::Targs]),
-    (T::Lident, &[S::Targs]),
-    (T::Uident, &[S::Take(T::Dot), S::Qlid, S::Targs]),
-    (T::LParen, &[S::Ttuple, S::Targs]),
+    (T::TyVar, &[Targs]),
+    (T::Lident, &[Targs]),
+    (T::Uident, &[Take(T::Dot), Qlid, Targs]),
+    (T::LParen, &[Ttuple, Targs]),
 ];
 
 const TTUPLE: [Row; 5] = [
     (T::RParen, &[]),
-    (T::TyVar, &[S::Tmore]),
-    (T::Lident, &[S::Targs, S::Tmore]),
-    (T::Uident, &[S::Take(T::Dot), S::Qlid, S::Targs, S::Tmore]),
-    (T::LParen, &[S::Ttuple, S::Tmore]),
+    (T::TyVar, &[Tmore]),
+    (T::Lident, &[Targs, Tmore]),
+    (T::Uident, &[Take(T::Dot), Qlid, Targs, Tmore]),
+    (T::LParen, &[Ttuple, Tmore]),
 ];
 
-const TMORE: [Row; 2] = [(T::RParen, &[]), (T::Comma, &[S::TypeOf, S::Tmore])];
+const TMORE: [Row; 2] = [(T::RParen, &[]), (T::Comma, &[TypeOf, Tmore])];
 
 const PAT: [Row; 4] = [
-    (T::Wild, &[S::AsPart]),
-    (T::Lident, &[S::AsPart]),
-    (T::Uident, &[S::Quids, S::Patoms, S::AsPart]),
-    (T::LParen, &[S::Ptuple, S::AsPart]),
+    (T::Wild, &[AsPart]),
+    (T::Lident, &[AsPart]),
+    (T::Uident, &[Quids, Patoms, AsPart]),
+    (T::LParen, &[Ptuple, AsPart]),
 ];
 
-const AS: [Row; 1] = [(T::AsWord, &[S::Take(T::Lident)])];
+const AS: [Row; 1] = [(T::AsWord, &[Take(T::Lident)])];
 
-const QUIDS: [Row; 1] = [(T::Dot, &[S::Take(T::Uident), S::Quids])];
+const QUIDS: [Row; 1] = [(T::Dot, &[Take(T::Uident), Quids])];
 
 const PTUPLE: [Row; 5] = [
     (T::RParen, &[]),
-    (T::Wild, &[S::AsPart, S::Pmore]),
-    (T::Lident, &[S::AsPart, S::Pmore]),
-    (T::Uident, &[S::Quids, S::Patoms, S::AsPart, S::Pmore]),
-    (T::LParen, &[S::Ptuple, S::AsPart, S::Pmore]),
+    (T::Wild, &[AsPart, Pmore]),
+    (T::Lident, &[AsPart, Pmore]),
+    (T::Uident, &[Quids, Patoms, AsPart, Pmore]),
+    (T::LParen, &[Ptuple, AsPart, Pmore]),
 ];
 
-const PMORE: [Row; 2] = [(T::RParen, &[]), (T::Comma, &[S::Pat, S::Pmore])];
+const PMORE: [Row; 2] = [(T::RParen, &[]), (T::Comma, &[Pat, Pmore])];
 
 const PATOMS: [Row; 4] = [
-    (T::Wild, &[S::Patoms]),
-    (T::Lident, &[S::Patoms]),
-    (T::Uident, &[S::Quids, S::Patoms]),
-    (T::LParen, &[S::Ptuple, S::Patoms]),
+    (T::Wild, &[Patoms]),
+    (T::Lident, &[Patoms]),
+    (T::Uident, &[Quids, Patoms]),
+    (T::LParen, &[Ptuple, Patoms]),
 ];
 
 const GROUP: [Row; 3] = [
     (T::RParen, &[]),
-    (T::Comma, &[S::Expr(0), S::More]),
-    (T::Colon, &[S::TypeOf, S::Take(T::RParen)]),
+    (T::Comma, &[Expr(0), More]),
+    (T::Colon, &[TypeOf, Take(T::RParen)]),
 ];
 
-const MORE: [Row; 2] = [(T::RParen, &[]), (T::Comma, &[S::Expr(0), S::More])];
+const MORE: [Row; 2] = [(T::RParen, &[]), (T::Comma, &[Expr(0), More])];
 
-const SCRUTINEES: [Row; 2] = [
-    (T::Comma, &[S::Expr(0), S::Scrutinees]),
-    (T::WithWord, &[S::Branch]),
-];
+const SCRUTINEES: [Row; 2] = [(T::Comma, &[Expr(0), Scrutinees]), (T::WithWord, &[Branch])];
 
 const BRANCH: [Row; 5] = [
-    (T::Bar, &[S::Pat, S::Arm]),
-    (T::Wild, &[S::AsPart, S::Arm]),
-    (T::Lident, &[S::AsPart, S::Arm]),
-    (T::Uident, &[S::Quids, S::Patoms, S::AsPart, S::Arm]),
-    (T::LParen, &[S::Ptuple, S::AsPart, S::Arm]),
+    (T::Bar, &[Pat, Arm]),
+    (T::Wild, &[AsPart, Arm]),
+    (T::Lident, &[AsPart, Arm]),
+    (T::Uident, &[Quids, Patoms, AsPart, Arm]),
+    (T::LParen, &[Ptuple, AsPart, Arm]),
 ];
 
 const ARM: [Row; 3] = [
-    (T::Comma, &[S::Pat, S::Arm]),
-    (T::Bar, &[S::Pat, S::Arm]),
-    (T::Arrow, &[S::Expr(0), S::Branches]),
+    (T::Comma, &[Pat, Arm]),
+    (T::Bar, &[Pat, Arm]),
+    (T::Arrow, &[Expr(0), Branches]),
 ];
 
-const BRANCHES: [Row; 2] = [(T::Bar, &[S::Pat, S::Arm]), (T::EndWord, &[])];
+const BRANCHES: [Row; 2] = [(T::Bar, &[Pat, Arm]), (T::EndWord, &[])];
 
 const LETPATS: [Row; 2] = [
-    (T::Comma, &[S::Pat, S::Letpats]),
-    (
-        T::Equal,
-        &[S::Expr(0), S::Take(T::InWord), S::Expr(0), S::Seal],
-    ),
+    (T::Comma, &[Pat, Letpats]),
+    (T::Equal, &[Expr(0), Take(T::InWord), Expr(0), Seal]),
 ];
 
 const BINDER: [Row; 5] = [
-    (T::Lident, &[S::Binder]),
-    (T::Colon, &[S::TypeOf, S::Binders]),
-    (T::Comma, &[S::Take(T::Lident), S::Binder]),
-    (T::LBrack, &[S::Expr(0), S::Trigger]),
-    (T::Dot, &[S::Expr(0), S::Seal]),
+    (T::Lident, &[Binder]),
+    (T::Colon, &[TypeOf, Binders]),
+    (T::Comma, &[Take(T::Lident), Binder]),
+    (T::LBrack, &[Expr(0), Trigger]),
+    (T::Dot, &[Expr(0), Seal]),
 ];
 
 const BINDERS: [Row; 3] = [
-    (T::Comma, &[S::Take(T::Lident), S::Binder]),
-    (T::LBrack, &[S::Expr(0), S::Trigger]),
-    (T::Dot, &[S::Expr(0), S::Seal]),
+    (T::Comma, &[Take(T::Lident), Binder]),
+    (T::LBrack, &[Expr(0), Trigger]),
+    (T::Dot, &[Expr(0), Seal]),
 ];
 
 const TRIGGER: [Row; 3] = [
-    (T::Comma, &[S::Expr(0), S::Trigger]),
-    (T::Bar, &[S::Expr(0), S::Trigger]),
-    (T::RBrack, &[S::Take(T::Dot), S::Expr(0), S::Seal]),
+    (T::Comma, &[Expr(0), Trigger]),
+    (T::Bar, &[Expr(0), Trigger]),
+    (T::RBrack, &[Take(T::Dot), Expr(0), Seal]),
 ];
 
 pub const OPEN: [Row; 4] = [
     (
         T::IfWord,
         &[
-            S::Expr(0),
-            S::Take(T::ThenWord),
-            S::Expr(0),
-            S::Take(T::ElseWord),
-            S::Expr(0),
-            S::Seal,
+            Expr(0),
+            Take(T::ThenWord),
+            Expr(0),
+            Take(T::ElseWord),
+            Expr(0),
+            Seal,
         ],
     ),
-    (T::LetWord, &[S::Pat, S::Letpats]),
-    (T::ForallWord, &[S::Take(T::Lident), S::Binder]),
-    (T::ExistsWord, &[S::Take(T::Lident), S::Binder]),
+    (T::LetWord, &[Pat, Letpats]),
+    (T::ForallWord, &[Take(T::Lident), Binder]),
+    (T::ExistsWord, &[Take(T::Lident), Binder]),
 ];
 
 const FIELDS: [Row; 6] = [
-    (T::Bar, &[S::Take(T::Uident), S::Fields]),
-    (T::WithWord, &[S::Take(T::Lident), S::Algvars]),
-    (T::TyVar, &[S::Fields]),
-    (T::Lident, &[S::Fields]),
-    (T::Uident, &[S::Take(T::Dot), S::Qlid, S::Fields]),
-    (T::LParen, &[S::Ttuple, S::Fields]),
+    (T::Bar, &[Take(T::Uident), Fields]),
+    (T::WithWord, &[Take(T::Lident), Algvars]),
+    (T::TyVar, &[Fields]),
+    (T::Lident, &[Fields]),
+    (T::Uident, &[Take(T::Dot), Qlid, Fields]),
+    (T::LParen, &[Ttuple, Fields]),
 ];
 
 const PATOM: [Row; 4] = [
     (T::Wild, &[]),
     (T::Lident, &[]),
-    (T::Uident, &[S::Quids]),
-    (T::LParen, &[S::Ptuple]),
+    (T::Uident, &[Quids]),
+    (T::LParen, &[Ptuple]),
 ];
 
 pub const PRIM: [Row; 8] = [
-    (T::Lident, &[S::Args]),
-    (T::Uident, &[S::Scoped, S::Args]),
-    (T::StarName, &[S::Args]),
-    (T::LParen, &[S::Hparen]),
+    (T::Lident, &[Args]),
+    (T::Uident, &[Scoped, Args]),
+    (T::StarName, &[Args]),
+    (T::LParen, &[Hparen]),
     (T::Int, &[]),
     (T::TrueWord, &[]),
     (T::FalseWord, &[]),
-    (T::MatchWord, &[S::Expr(0), S::Scrutinees]),
+    (T::MatchWord, &[Expr(0), Scrutinees]),
 ];
 
-const SCOPED: [Row; 1] = [(T::Dot, &[S::Qhead])];
+const SCOPED: [Row; 1] = [(T::Dot, &[Qhead])];
 
 const QHEAD: [Row; 4] = [
     (T::Lident, &[]),
-    (T::Uident, &[S::Scoped]),
+    (T::Uident, &[Scoped]),
     (T::StarName, &[]),
-    (T::LParen, &[S::Opname]),
+    (T::LParen, &[Opname]),
 ];
 
 const ARGS: [Row; 8] = [
-    (T::Lident, &[S::Args]),
-    (T::Uident, &[S::Scoped, S::Args]),
-    (T::StarName, &[S::Args]),
-    (T::LParen, &[S::Aparen, S::Args]),
-    (T::Int, &[S::Args]),
-    (T::TrueWord, &[S::Args]),
-    (T::FalseWord, &[S::Args]),
-    (T::MatchWord, &[S::Expr(0), S::Scrutinees, S::Args]),
+    (T::Lident, &[Args]),
+    (T::Uident, &[Scoped, Args]),
+    (T::StarName, &[Args]),
+    (T::LParen, &[Aparen, Args]),
+    (T::Int, &[Args]),
+    (T::TrueWord, &[Args]),
+    (T::FalseWord, &[Args]),
+    (T::MatchWord, &[Expr(0), Scrutinees, Args]),
 ];
 
 const ATOM: [Row; 8] = [
     (T::Lident, &[]),
-    (T::Uident, &[S::Scoped]),
+    (T::Uident, &[Scoped]),
     (T::StarName, &[]),
-    (T::LParen, &[S::Aparen]),
+    (T::LParen, &[Aparen]),
     (T::Int, &[]),
     (T::TrueWord, &[]),
     (T::FalseWord, &[]),
-    (T::MatchWord, &[S::Expr(0), S::Scrutinees]),
+    (T::MatchWord, &[Expr(0), Scrutinees]),
 ];
 
 const HPAREN: [Row; 23] = [
     (T::RParen, &[]),
-    (T::Equal, &[S::Opend, S::Args]),
-    (T::Operator1, &[S::Opend, S::Args]),
-    (T::Operator2, &[S::Opend, S::Args]),
-    (T::Operator3, &[S::Opend, S::Args]),
-    (T::Operator4, &[S::Opend, S::Args]),
-    (T::Minus, &[S::Hminus]),
-    (T::PrefixOperator, &[S::Hminus]),
-    (T::NotWord, &[S::Expr(3), S::Tail(0, 3), S::GroupRest]),
-    (T::Minus, &[S::Expr(8), S::Tail(0, 8), S::GroupRest]),
-    (
-        T::PrefixOperator,
-        &[S::Expr(8), S::Tail(0, 8), S::GroupRest],
-    ),
+    (T::Equal, &[Opend, Args]),
+    (T::Operator1, &[Opend, Args]),
+    (T::Operator2, &[Opend, Args]),
+    (T::Operator3, &[Opend, Args]),
+    (T::Operator4, &[Opend, Args]),
+    (T::Minus, &[Hminus]),
+    (T::PrefixOperator, &[Hminus]),
+    (T::NotWord, &[Expr(3), Tail(0, 3), GroupRest]),
+    (T::Minus, &[Expr(8), Tail(0, 8), GroupRest]),
+    (T::PrefixOperator, &[Expr(8), Tail(0, 8), GroupRest]),
     (
         T::IfWord,
         &[
-            S::Expr(0),
-            S::Take(T::ThenWord),
-            S::Expr(0),
-            S::Take(T::ElseWord),
-            S::Expr(0),
-            S::Seal,
-            S::GroupRest,
+            Expr(0),
+            Take(T::ThenWord),
+            Expr(0),
+            Take(T::ElseWord),
+            Expr(0),
+            Seal,
+            GroupRest,
         ],
     ),
-    (T::LetWord, &[S::Pat, S::Letpats, S::GroupRest]),
-    (
-        T::ForallWord,
-        &[S::Take(T::Lident), S::Binder, S::GroupRest],
-    ),
-    (
-        T::ExistsWord,
-        &[S::Take(T::Lident), S::Binder, S::GroupRest],
-    ),
-    (T::Lident, &[S::Args, S::Tail(0, 9), S::GroupRest]),
-    (
-        T::Uident,
-        &[S::Scoped, S::Args, S::Tail(0, 9), S::GroupRest],
-    ),
-    (T::StarName, &[S::Args, S::Tail(0, 9), S::GroupRest]),
-    (T::LParen, &[S::Hparen, S::Tail(0, 9), S::GroupRest]),
-    (T::Int, &[S::Tail(0, 9), S::GroupRest]),
-    (T::TrueWord, &[S::Tail(0, 9), S::GroupRest]),
-    (T::FalseWord, &[S::Tail(0, 9), S::GroupRest]),
-    (
-        T::MatchWord,
-        &[S::Expr(0), S::Scrutinees, S::Tail(0, 9), S::GroupRest],
-    ),
+    (T::LetWord, &[Pat, Letpats, GroupRest]),
+    (T::ForallWord, &[Take(T::Lident), Binder, GroupRest]),
+    (T::ExistsWord, &[Take(T::Lident), Binder, GroupRest]),
+    (T::Lident, &[Args, Tail(0, 9), GroupRest]),
+    (T::Uident, &[Scoped, Args, Tail(0, 9), GroupRest]),
+    (T::StarName, &[Args, Tail(0, 9), GroupRest]),
+    (T::LParen, &[Hparen, Tail(0, 9), GroupRest]),
+    (T::Int, &[Tail(0, 9), GroupRest]),
+    (T::TrueWord, &[Tail(0, 9), GroupRest]),
+    (T::FalseWord, &[Tail(0, 9), GroupRest]),
+    (T::MatchWord, &[Expr(0), Scrutinees, Tail(0, 9), GroupRest]),
 ];
 
 const HMINUS: [Row; 16] = [
-    (T::RParen, &[S::Args]),
-    (T::Wild, &[S::Take(T::RParen), S::Args]),
-    (
-        T::Minus,
-        &[S::Expr(8), S::Tail(8, 8), S::Tail(0, 8), S::GroupRest],
-    ),
+    (T::RParen, &[Args]),
+    (T::Wild, &[Take(T::RParen), Args]),
+    (T::Minus, &[Expr(8), Tail(8, 8), Tail(0, 8), GroupRest]),
     (
         T::PrefixOperator,
-        &[S::Expr(8), S::Tail(8, 8), S::Tail(0, 8), S::GroupRest],
+        &[Expr(8), Tail(8, 8), Tail(0, 8), GroupRest],
     ),
     (
         T::IfWord,
         &[
-            S::Expr(0),
-            S::Take(T::ThenWord),
-            S::Expr(0),
-            S::Take(T::ElseWord),
-            S::Expr(0),
-            S::Seal,
-            S::Tail(0, 8),
-            S::GroupRest,
+            Expr(0),
+            Take(T::ThenWord),
+            Expr(0),
+            Take(T::ElseWord),
+            Expr(0),
+            Seal,
+            Tail(0, 8),
+            GroupRest,
         ],
     ),
-    (
-        T::LetWord,
-        &[S::Pat, S::Letpats, S::Tail(0, 8), S::GroupRest],
-    ),
+    (T::LetWord, &[Pat, Letpats, Tail(0, 8), GroupRest]),
     (
         T::ForallWord,
-        &[S::Take(T::Lident), S::Binder, S::Tail(0, 8), S::GroupRest],
+        &[Take(T::Lident), Binder, Tail(0, 8), GroupRest],
     ),
     (
         T::ExistsWord,
-        &[S::Take(T::Lident), S::Binder, S::Tail(0, 8), S::GroupRest],
+        &[Take(T::Lident), Binder, Tail(0, 8), GroupRest],
     ),
-    (
-        T::Lident,
-        &[S::Args, S::Tail(8, 9), S::Tail(0, 8), S::GroupRest],
-    ),
+    (T::Lident, &[Args, Tail(8, 9), Tail(0, 8), GroupRest]),
     (
         T::Uident,
-        &[
-            S::Scoped,
-            S::Args,
-            S::Tail(8, 9),
-            S::Tail(0, 8),
-            S::GroupRest,
-        ],
+        &[Scoped, Args, Tail(8, 9), Tail(0, 8), GroupRest],
     ),
-    (
-        T::StarName,
-        &[S::Args, S::Tail(8, 9), S::Tail(0, 8), S::GroupRest],
-    ),
-    (
-        T::LParen,
-        &[S::Hparen, S::Tail(8, 9), S::Tail(0, 8), S::GroupRest],
-    ),
-    (T::Int, &[S::Tail(8, 9), S::Tail(0, 8), S::GroupRest]),
-    (T::TrueWord, &[S::Tail(8, 9), S::Tail(0, 8), S::GroupRest]),
-    (T::FalseWord, &[S::Tail(8, 9), S::Tail(0, 8), S::GroupRest]),
+    (T::StarName, &[Args, Tail(8, 9), Tail(0, 8), GroupRest]),
+    (T::LParen, &[Hparen, Tail(8, 9), Tail(0, 8), GroupRest]),
+    (T::Int, &[Tail(8, 9), Tail(0, 8), GroupRest]),
+    (T::TrueWord, &[Tail(8, 9), Tail(0, 8), GroupRest]),
+    (T::FalseWord, &[Tail(8, 9), Tail(0, 8), GroupRest]),
     (
         T::MatchWord,
-        &[
-            S::Expr(0),
-            S::Scrutinees,
-            S::Tail(8, 9),
-            S::Tail(0, 8),
-            S::GroupRest,
-        ],
+        &[Expr(0), Scrutinees, Tail(8, 9), Tail(0, 8), GroupRest],
     ),
 ];
 
 const APAREN: [Row; 23] = [
     (T::RParen, &[]),
-    (T::Equal, &[S::Opend]),
-    (T::Operator1, &[S::Opend]),
-    (T::Operator2, &[S::Opend]),
-    (T::Operator3, &[S::Opend]),
-    (T::Operator4, &[S::Opend]),
-    (T::Minus, &[S::Aminus]),
-    (T::PrefixOperator, &[S::Aminus]),
-    (T::NotWord, &[S::Expr(3), S::Tail(0, 3), S::GroupRest]),
-    (T::Minus, &[S::Expr(8), S::Tail(0, 8), S::GroupRest]),
-    (
-        T::PrefixOperator,
-        &[S::Expr(8), S::Tail(0, 8), S::GroupRest],
-    ),
+    (T::Equal, &[Opend]),
+    (T::Operator1, &[Opend]),
+    (T::Operator2, &[Opend]),
+    (T::Operator3, &[Opend]),
+    (T::Operator4, &[Opend]),
+    (T::Minus, &[Aminus]),
+    (T::PrefixOperator, &[Aminus]),
+    (T::NotWord, &[Expr(3), Tail(0, 3), GroupRest]),
+    (T::Minus, &[Expr(8), Tail(0, 8), GroupRest]),
+    (T::PrefixOperator, &[Expr(8), Tail(0, 8), GroupRest]),
     (
         T::IfWord,
         &[
-            S::Expr(0),
-            S::Take(T::ThenWord),
-            S::Expr(0),
-            S::Take(T::ElseWord),
-            S::Expr(0),
-            S::Seal,
-            S::GroupRest,
+            Expr(0),
+            Take(T::ThenWord),
+            Expr(0),
+            Take(T::ElseWord),
+            Expr(0),
+            Seal,
+            GroupRest,
         ],
     ),
-    (T::LetWord, &[S::Pat, S::Letpats, S::GroupRest]),
-    (
-        T::ForallWord,
-        &[S::Take(T::Lident), S::Binder, S::GroupRest],
-    ),
-    (
-        T::ExistsWord,
-        &[S::Take(T::Lident), S::Binder, S::GroupRest],
-    ),
-    (T::Lident, &[S::Args, S::Tail(0, 9), S::GroupRest]),
-    (
-        T::Uident,
-        &[S::Scoped, S::Args, S::Tail(0, 9), S::GroupRest],
-    ),
-    (T::StarName, &[S::Args, S::Tail(0, 9), S::GroupRest]),
-    (T::LParen, &[S::Hparen, S::Tail(0, 9), S::GroupRest]),
-    (T::Int, &[S::Tail(0, 9), S::GroupRest]),
-    (T::TrueWord, &[S::Tail(0, 9), S::GroupRest]),
-    (T::FalseWord, &[S::Tail(0, 9), S::GroupRest]),
-    (
-        T::MatchWord,
-        &[S::Expr(0), S::Scrutinees, S::Tail(0, 9), S::GroupRest],
-    ),
+    (T::LetWord, &[Pat, Letpats, GroupRest]),
+    (T::ForallWord, &[Take(T::Lident), Binder, GroupRest]),
+    (T::ExistsWord, &[Take(T::Lident), Binder, GroupRest]),
+    (T::Lident, &[Args, Tail(0, 9), GroupRest]),
+    (T::Uident, &[Scoped, Args, Tail(0, 9), GroupRest]),
+    (T::StarName, &[Args, Tail(0, 9), GroupRest]),
+    (T::LParen, &[Hparen, Tail(0, 9), GroupRest]),
+    (T::Int, &[Tail(0, 9), GroupRest]),
+    (T::TrueWord, &[Tail(0, 9), GroupRest]),
+    (T::FalseWord, &[Tail(0, 9), GroupRest]),
+    (T::MatchWord, &[Expr(0), Scrutinees, Tail(0, 9), GroupRest]),
 ];
 
 const AMINUS: [Row; 16] = [
     (T::RParen, &[]),
-    (T::Wild, &[S::Take(T::RParen)]),
-    (
-        T::Minus,
-        &[S::Expr(8), S::Tail(8, 8), S::Tail(0, 8), S::GroupRest],
-    ),
+    (T::Wild, &[Take(T::RParen)]),
+    (T::Minus, &[Expr(8), Tail(8, 8), Tail(0, 8), GroupRest]),
     (
         T::PrefixOperator,
-        &[S::Expr(8), S::Tail(8, 8), S::Tail(0, 8), S::GroupRest],
+        &[Expr(8), Tail(8, 8), Tail(0, 8), GroupRest],
     ),
     (
         T::IfWord,
         &[
-            S::Expr(0),
-            S::Take(T::ThenWord),
-            S::Expr(0),
-            S::Take(T::ElseWord),
-            S::Expr(0),
-            S::Seal,
-            S::Tail(0, 8),
-            S::GroupRest,
+            Expr(0),
+            Take(T::ThenWord),
+            Expr(0),
+            Take(T::ElseWord),
+            Expr(0),
+            Seal,
+            Tail(0, 8),
+            GroupRest,
         ],
     ),
-    (
-        T::LetWord,
-        &[S::Pat, S::Letpats, S::Tail(0, 8), S::GroupRest],
-    ),
+    (T::LetWord, &[Pat, Letpats, Tail(0, 8), GroupRest]),
     (
         T::ForallWord,
-        &[S::Take(T::Lident), S::Binder, S::Tail(0, 8), S::GroupRest],
+        &[Take(T::Lident), Binder, Tail(0, 8), GroupRest],
     ),
     (
         T::ExistsWord,
-        &[S::Take(T::Lident), S::Binder, S::Tail(0, 8), S::GroupRest],
+        &[Take(T::Lident), Binder, Tail(0, 8), GroupRest],
     ),
-    (
-        T::Lident,
-        &[S::Args, S::Tail(8, 9), S::Tail(0, 8), S::GroupRest],
-    ),
+    (T::Lident, &[Args, Tail(8, 9), Tail(0, 8), GroupRest]),
     (
         T::Uident,
-        &[
-            S::Scoped,
-            S::Args,
-            S::Tail(8, 9),
-            S::Tail(0, 8),
-            S::GroupRest,
-        ],
+        &[Scoped, Args, Tail(8, 9), Tail(0, 8), GroupRest],
     ),
-    (
-        T::StarName,
-        &[S::Args, S::Tail(8, 9), S::Tail(0, 8), S::GroupRest],
-    ),
-    (
-        T::LParen,
-        &[S::Hparen, S::Tail(8, 9), S::Tail(0, 8), S::GroupRest],
-    ),
-    (T::Int, &[S::Tail(8, 9), S::Tail(0, 8), S::GroupRest]),
-    (T::TrueWord, &[S::Tail(8, 9), S::Tail(0, 8), S::GroupRest]),
-    (T::FalseWord, &[S::Tail(8, 9), S::Tail(0, 8), S::GroupRest]),
+    (T::StarName, &[Args, Tail(8, 9), Tail(0, 8), GroupRest]),
+    (T::LParen, &[Hparen, Tail(8, 9), Tail(0, 8), GroupRest]),
+    (T::Int, &[Tail(8, 9), Tail(0, 8), GroupRest]),
+    (T::TrueWord, &[Tail(8, 9), Tail(0, 8), GroupRest]),
+    (T::FalseWord, &[Tail(8, 9), Tail(0, 8), GroupRest]),
     (
         T::MatchWord,
-        &[
-            S::Expr(0),
-            S::Scrutinees,
-            S::Tail(8, 9),
-            S::Tail(0, 8),
-            S::GroupRest,
-        ],
+        &[Expr(0), Scrutinees, Tail(8, 9), Tail(0, 8), GroupRest],
     ),
 ];
 
 /// The rows of a rule other than an expression and its tail.
-pub fn rows_of(rule: S) -> &'static [Row]
+pub fn rows_of(rule: Symbol) -> &'static [Row]
     ensures { HasRows rule (map line_of result.now) }
 {
     match rule {
-        S::Take(_) | S::Expr(_) | S::Tail(_, _) | S::Seal => &[],
-        S::File => &FILE,
-        S::Decls => &DECLS,
-        S::Tvars => &TVARS,
-        S::Typedef => &TYPEDEF,
-        S::Upper => &UPPER,
-        S::Algvars => &ALGVARS,
-        S::Con => &CON,
-        S::Op => &OP,
-        S::Opname => &OPNAME,
-        S::Opend => &OPEND,
-        S::Ident => &ID,
-        S::Params => &PARAMS,
-        S::Pparen => &PPAREN,
-        S::Pname => &PNAME,
-        S::Body => &BODY,
-        S::Members => &MEMBERS,
-        S::Member => &MEMBER,
-        S::Value => &VALUE,
-        S::Clause => &CLAUSE,
-        S::Clauses => &CLAUSES,
-        S::Used => &USED,
-        S::Cloned => &CLONED,
-        S::Path => &PATH,
-        S::Renamed => &RENAMED,
-        S::Subst => &SUBST,
-        S::Elems => &ELEMS,
-        S::Elem => &ELEM,
-        S::Axioms => &AXIOMS,
-        S::Elvars => &ELVARS,
-        S::Qlid => &QLID,
-        S::Qop => &QOP,
-        S::Qid => &QID,
-        S::Qids => &QIDS,
-        S::TypeOf => &TYPE,
-        S::Atype => &ATYPE,
-        S::Targs => &TARGS,
-        S::Ttuple => &TTUPLE,
-        S::Tmore => &TMORE,
-        S::Pat => &PAT,
-        S::AsPart => &AS,
-        S::Quids => &QUIDS,
-        S::Ptuple => &PTUPLE,
-        S::Pmore => &PMORE,
-        S::Patoms => &PATOMS,
-        S::GroupRest => &GROUP,
-        S::More => &MORE,
-        S::Scrutinees => &SCRUTINEES,
-        S::Branch => &BRANCH,
-        S::Arm => &ARM,
-        S::Branches => &BRANCHES,
-        S::Letpats => &LETPATS,
-        S::Binder => &BINDER,
-        S::Binders => &BINDERS,
-        S::Trigger => &TRIGGER,
-        S::OpenForm => &OPEN,
-        S::Fields => &FIELDS,
-        S::Patom => &PATOM,
-        S::Prim => &PRIM,
-        S::Scoped => &SCOPED,
-        S::Qhead => &QHEAD,
-        S::Args => &ARGS,
-        S::Atom => &ATOM,
-        S::Hparen => &HPAREN,
-        S::Hminus => &HMINUS,
-        S::Aparen => &APAREN,
-        S::Aminus => &AMINUS,
+        Take(_) | Expr(_) | Tail(_, _) | Seal => &[],
+        File => &FILE,
+        Decls => &DECLS,
+        Tvars => &TVARS,
+        Typedef => &TYPEDEF,
+        Upper => &UPPER,
+        Algvars => &ALGVARS,
+        Con => &CON,
+        Op => &OP,
+        Opname => &OPNAME,
+        Opend => &OPEND,
+        Ident => &ID,
+        Params => &PARAMS,
+        Pparen => &PPAREN,
+        Pname => &PNAME,
+        Body => &BODY,
+        Members => &MEMBERS,
+        Member => &MEMBER,
+        Value => &VALUE,
+        Clause => &CLAUSE,
+        Clauses => &CLAUSES,
+        Used => &USED,
+        Cloned => &CLONED,
+        Path => &PATH,
+        Renamed => &RENAMED,
+        Subst => &SUBST,
+        Elems => &ELEMS,
+        Elem => &ELEM,
+        Axioms => &AXIOMS,
+        Elvars => &ELVARS,
+        Qlid => &QLID,
+        Qop => &QOP,
+        Qid => &QID,
+        Qids => &QIDS,
+        TypeOf => &TYPE,
+        Atype => &ATYPE,
+        Targs => &TARGS,
+        Ttuple => &TTUPLE,
+        Tmore => &TMORE,
+        Pat => &PAT,
+        AsPart => &AS,
+        Quids => &QUIDS,
+        Ptuple => &PTUPLE,
+        Pmore => &PMORE,
+        Patoms => &PATOMS,
+        GroupRest => &GROUP,
+        More => &MORE,
+        Scrutinees => &SCRUTINEES,
+        Branch => &BRANCH,
+        Arm => &ARM,
+        Branches => &BRANCHES,
+        Letpats => &LETPATS,
+        Binder => &BINDER,
+        Binders => &BINDERS,
+        Trigger => &TRIGGER,
+        OpenForm => &OPEN,
+        Fields => &FIELDS,
+        Patom => &PATOM,
+        Prim => &PRIM,
+        Scoped => &SCOPED,
+        Qhead => &QHEAD,
+        Args => &ARGS,
+        Atom => &ATOM,
+        Hparen => &HPAREN,
+        Hminus => &HMINUS,
+        Aparen => &APAREN,
+        Aminus => &AMINUS,
     }
 }

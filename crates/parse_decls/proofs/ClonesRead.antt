@@ -1,5 +1,5 @@
 -- What follows where the theory of a use or a clone and the elements of a clone are read.
-use Rattle.std.proofs.Common.{◌≡◌, ℕ, ◌+◌, ◌<◌, ◌≤◌, Bool, true, false, zero, suc, List, [], ◌∷◌, ◌++◌, length, Option, Some, None, refl, sym, ap, ◌∙◌, subst, arith, append_assoc, append-nil}
+use Rattle.std.proofs.Common.{◌≡◌, ℕ, ◌+◌, ◌<◌, ◌≤◌, Bool, true, false, zero, suc, List, [], ◌∷◌, ◌++◌, length, Some, None, refl, ap, ◌∙◌, subst, arith, append-nil}
 use Rattle.tokens_why.specs.declared.terminal.Terminal.{Terminal}
 use Rattle.tokens_why.specs.declared.terminal.Terminal.TheVariants as t
 use Rattle.grammar.specs.declared.symbols.Symbol.{Symbol}
@@ -10,17 +10,16 @@ use Rattle.syntax_why.specs.declared.names.Name.{Name}
 use Rattle.syntax_why.specs.declared.names.Path.{Path}
 use Rattle.syntax_why.specs.declared.declarations.Link.TheVariants as lk
 use Rattle.syntax_why.specs.declared.declarations.PropKind.TheVariants as pk
-use Rattle.syntax_why.specs.Lexeme.{Lexeme, Word, at, name}
-use Rattle.syntax_why.specs.Forms.{Form, called, lower, upper}
+use Rattle.syntax_why.specs.Lexeme.{Lexeme, Word, at}
+use Rattle.syntax_why.specs.Forms.{Form, called, lower}
 use Rattle.syntax_why.specs.Declarations.{Element, all_axioms, clone_decl, more_decls, prop_element, symbol_element, type_element, use_decl}
 use Rattle.reading.specs.Parts.{Dotted, Scoped, scope_own}
-use Rattle.reading.specs.DeclParts.{UsedPart, VarsPart, prop_called, scope_called}
+use Rattle.reading.specs.DeclParts.{VarsPart, prop_called, scope_called}
 use Rattle.reading.specs.DeclRows.{axioms_of, axioms_own, cloned, used}
 use Rattle.reading.specs.Row.{Vals, row}
 use Rattle.reading.specs.Values.{find, rows}
 use Rattle.parse_terms.specs.Reading.{Begun, CanRead, IsRead, terminal_at, token_at}
-use Rattle.parse_terms.proofs.Steps.{again, begins, can_next, done, expand, extended_due, many, missed, next, next_within, none_of, only, pass, stands, start, take, unexpand}
-use Rattle.parse_bodies.specs.Bodies.{IsDecl}
+use Rattle.parse_terms.proofs.Steps.{again, begins, done, expand, extended_due, many, missed, next, next_within, none_of, only, pass, start, take, unexpand}
 use Rattle.parse_decls.specs.Clones.{begins_symbol, prop_kind, symbol_word}
 use Rattle.parse_decls.specs.Types.{IsNamed}
 use Rattle.parse_decls.proofs.TypesRead.{elvars_many, elvars_on, unpass, variables_read}
@@ -43,80 +42,35 @@ module _ (xs : List Lexeme) (i : ℕ) (ws : List Word) (j : ℕ) (g : Paths xs i
   pub path_within : j < length xs
   path_within = next_within g refl
 
-  path_dot : same t.Lident (terminal_at xs j) ≡ true → Begun xs 1 (λ k. s.Path ∷ k) i (λ k. s.Take t.Dot ∷ s.Path ∷ k) (λ k us. (path_at i (ws ++ ((token_at xs j).text ∷ us.1.0.parts)), us.1.1)) (j + 1)
+  pub path_dot : same t.Lident (terminal_at xs j) ≡ true → Begun xs 1 (λ k. s.Path ∷ k) i (λ k. s.Take t.Dot ∷ s.Path ∷ k) (λ k us. (path_at i (ws ++ ((token_at xs j).text ∷ us.1.0.parts)), us.1.1)) (j + 1)
   path_dot e = expand g t.Lident e refl refl
-
-  pub path_behind : same t.Lident (terminal_at xs j) ≡ true → j + 1 < length xs
-  path_behind e = next_within (path_dot e) refl
-
-  pub path_more : same t.Lident (terminal_at xs j) ≡ true → Paths xs i (ws ++ (token_at xs j).text ∷ []) (j + 1 + 1)
-  path_more e = again (take (path_dot e)) 0 refl (λ k us. ap (λ v. (path_at i v, us.1)) (sym (append_assoc ws ((token_at xs j).text ∷ []) us.0.parts)))
 
   pub path_last : same t.Lident (terminal_at xs j) ≡ false → same t.Uident (terminal_at xs j) ≡ true
   path_last n = only g t.Uident (t.Lident ∷ []) refl refl (n, tt)
 
-  pub path_done : same t.Lident (terminal_at xs j) ≡ false → IsRead xs s.Path i (path_at i (ws ++ (token_at xs j).text ∷ [])) (j + 1)
-  path_done n = done (expand g t.Uident (path_last n) refl refl) (path_at i (ws ++ (token_at xs j).text ∷ [])) refl (λ k us. refl)
-
 -- the name after `as`
 module _ {xs : List Lexeme} {i : ℕ} (c : CanRead xs s.Renamed i) where
   module _ (e : same t.AsWord (terminal_at xs i) ≡ true) where
-    as_read : Begun xs 1 (λ k. s.Renamed ∷ k) i (λ k. s.Take t.Uident ∷ k) (λ k us. (Some us.0, us.1)) (i + 1)
+    pub as_read : Begun xs 1 (λ k. s.Renamed ∷ k) i (λ k. s.Take t.Uident ∷ k) (λ k us. (Some us.0, us.1)) (i + 1)
     as_read = expand (start c) t.AsWord e refl refl
-
-    pub as_within : i + 1 < length xs
-    as_within = next_within as_read refl
-
-    pub as_upper : same t.Uident (terminal_at xs (i + 1)) ≡ true
-    as_upper = only as_read t.Uident [] refl refl tt
-
-    pub renamed_read : (n : Name) → n ≡ name (i + 1) (token_at xs (i + 1)).text → IsRead xs s.Renamed i (Some n) (i + 1 + 1)
-    renamed_read n h = done (take as_read) (Some n) refl (λ k us. ap (λ v. (Some v, us)) (sym h))
-
-  pub unnamed_read : same t.AsWord (terminal_at xs i) ≡ false → IsRead xs s.Renamed i None i
-  unnamed_read n = done (pass (start c) refl refl (none_of s.Renamed (t.AsWord ∷ []) (terminal_at xs i) refl (n, tt))) None refl (λ k us. refl)
 
 -- the theory of a use
 module _ {xs : List Lexeme} {i : ℕ} (c : CanRead xs s.Used i) where
   module _ (e : same t.ExportWord (terminal_at xs i) ≡ true) where
-    exported : Begun xs 1 (λ k. s.Used ∷ k) i (λ k. s.Path ∷ k) (λ k us. (used lk.Export us.0 None, us.1)) (i + 1)
+    pub exported : Begun xs 1 (λ k. s.Used ∷ k) i (λ k. s.Path ∷ k) (λ k us. (used lk.Export us.0 None, us.1)) (i + 1)
     exported = expand (start c) t.ExportWord e refl refl
 
-    pub exported_can : CanRead xs s.Path (i + 1)
-    exported_can = can_next exported
-
-    pub exported_read : (p : Path) (j : ℕ) → IsRead xs s.Path (i + 1) p j → IsRead xs s.Used i (used lk.Export p None) j
-    exported_read p j r = done (next exported r) (used lk.Export p None) refl (λ k us. refl)
-
   module _ (e : same t.ImportWord (terminal_at xs i) ≡ true) where
-    imported : Begun xs 1 (λ k. s.Used ∷ k) i (λ k. s.Path ∷ s.Renamed ∷ k) (λ k us. (used lk.Import us.0 us.1.0, us.1.1)) (i + 1)
+    pub imported : Begun xs 1 (λ k. s.Used ∷ k) i (λ k. s.Path ∷ s.Renamed ∷ k) (λ k us. (used lk.Import us.0 us.1.0, us.1.1)) (i + 1)
     imported = expand (start c) t.ImportWord e refl refl
 
-    pub imported_can : CanRead xs s.Path (i + 1)
-    imported_can = can_next imported
-
-    pub imported_name : (p : Path) (j : ℕ) → IsRead xs s.Path (i + 1) p j → CanRead xs s.Renamed j
-    imported_name p j r = can_next (next imported r)
-
-    pub imported_read : (p : Path) (j : ℕ) (n : Option Name) (m : ℕ) → IsRead xs s.Path (i + 1) p j → IsRead xs s.Renamed j n m → IsRead xs s.Used i (used lk.Import p n) m
-    imported_read p j n m r q = done (next (next imported r) q) (used lk.Import p n) refl (λ k us. refl)
-
   module _ (x : same t.ExportWord (terminal_at xs i) ≡ false) (y : same t.ImportWord (terminal_at xs i) ≡ false) where
-    bare : Begun xs 0 (λ k. s.Used ∷ k) i (λ k. s.Path ∷ s.Renamed ∷ k) (λ k us. (used lk.Bare us.0 us.1.0, us.1.1)) i
+    pub bare : Begun xs 0 (λ k. s.Used ∷ k) i (λ k. s.Path ∷ s.Renamed ∷ k) (λ k us. (used lk.Bare us.0 us.1.0, us.1.1)) i
     bare = by_lower (same t.Lident (terminal_at xs i)) refl
       where
         by_lower : (b : Bool) → same t.Lident (terminal_at xs i) ≡ b → Begun xs 0 (λ k. s.Used ∷ k) i (λ k. s.Path ∷ s.Renamed ∷ k) (λ k us. (used lk.Bare us.0 us.1.0, us.1.1)) i
         by_lower true e = unexpand s.Path (λ k. s.Renamed ∷ k) (λ k us. (used lk.Bare us.0 us.1.0, us.1.1)) i t.Lident e refl refl (omega arith) (expand (start c) t.Lident e refl refl)
         by_lower false e = let u = only (start c) t.Uident (t.ExportWord ∷ t.ImportWord ∷ t.Lident ∷ []) refl refl (x, (y, (e, tt))) in unexpand s.Path (λ k. s.Renamed ∷ k) (λ k us. (used lk.Bare us.0 us.1.0, us.1.1)) i t.Uident u refl refl (omega arith) (expand (start c) t.Uident u refl refl)
-
-    pub bare_can : CanRead xs s.Path i
-    bare_can = can_next bare
-
-    pub bare_name : (p : Path) (j : ℕ) → IsRead xs s.Path i p j → CanRead xs s.Renamed j
-    bare_name p j r = can_next (next bare r)
-
-    pub bare_read : (p : Path) (j : ℕ) (n : Option Name) (m : ℕ) → IsRead xs s.Path i p j → IsRead xs s.Renamed j n m → IsRead xs s.Used i (used lk.Bare p n) m
-    bare_read p j n m r q = done (next (next bare r) q) (used lk.Bare p n) refl (λ k us. refl)
 
 -- what stands behind `clone` is what stands behind `use`, and then elements
 cloned_used : {xs : List Lexeme} {n : ℕ} {from : List Symbol → List Symbol} {i : ℕ} {K : List Symbol → List Symbol} {act : (k : List Symbol) → Vals (s.Cloned ∷ K k) → Vals (from k)} {j : ℕ} → Begun xs n from i (λ k. s.Cloned ∷ K k) act j → Begun xs 0 from i (λ k. s.Used ∷ s.Subst ∷ K k) (λ k us. act k (cloned us.0 us.1.0, us.1.1)) j
@@ -188,33 +142,21 @@ enough n j = omega arith
 -- an element that is a type
 module _ {xs : List Lexeme} {i : ℕ} (c : CanRead xs s.Elem i) where
   module _ (e : same t.TypeWord (terminal_at xs i) ≡ true) where
-    type_start : Begun xs 1 (λ k. s.Elem ∷ k) i (λ k. s.Qlid ∷ s.Elvars ∷ k) (λ k us. (type_element i (called (i + 1) us.0.scopes (lower us.0.last)) us.1.0.vars us.1.0.type, us.1.1)) (i + 1)
+    pub type_start : Begun xs 1 (λ k. s.Elem ∷ k) i (λ k. s.Qlid ∷ s.Elvars ∷ k) (λ k us. (type_element i (called (i + 1) us.0.scopes (lower us.0.last)) us.1.0.vars us.1.0.type, us.1.1)) (i + 1)
     type_start = expand (start c) t.TypeWord e refl refl
-
-    pub type_name_can : CanRead xs s.Qlid (i + 1)
-    type_name_can = can_next type_start
 
     module _ (d : Dotted) (j : ℕ) (r : IsRead xs s.Qlid (i + 1) d j) (ns : List Name) (m : ℕ) (h : IsNamed xs j ns m) where
       type_vars : Begun xs 1 (λ k. s.Elem ∷ k) i (λ k. s.Elvars ∷ k) (λ k us. (type_element i (called (i + 1) d.scopes (lower d.last)) (many elvars_on ns us.0).vars (many elvars_on ns us.0).type, us.1)) m
       type_vars = variables_read s.Elvars elvars_on refl 1 refl ns h.names refl (next type_start r)
 
-      type_sign : same t.Equal (terminal_at xs m) ≡ true
+      pub type_sign : same t.Equal (terminal_at xs m) ≡ true
       type_sign = only type_vars t.Equal (t.TyVar ∷ []) refl refl (h.ends, tt)
 
-      pub type_behind : m < length xs
-      type_behind = stands xs m t.Equal type_sign refl
-
-      type_equal : Begun xs 1 (λ k. s.Elem ∷ k) i (λ k. s.TypeOf ∷ k) (λ k us. (type_element i (called (i + 1) d.scopes (lower d.last)) ns us.0, us.1)) (m + 1)
+      pub type_equal : Begun xs 1 (λ k. s.Elem ∷ k) i (λ k. s.TypeOf ∷ k) (λ k us. (type_element i (called (i + 1) d.scopes (lower d.last)) ns us.0, us.1)) (m + 1)
       type_equal = again (expand type_vars t.Equal type_sign refl refl) 1 refl (λ k us. ap (λ v. (type_element i (called (i + 1) d.scopes (lower d.last)) v.vars v.type, us.1)) (elvars_many ns (no_vars us.0)) ∙ ap (λ v. (type_element i (called (i + 1) d.scopes (lower d.last)) v us.0, us.1)) (append-nil ns))
         where
           no_vars : Form → VarsPart
           no_vars f = record { vars = []; type = f }
-
-      pub type_can : CanRead xs s.TypeOf (m + 1)
-      type_can = can_next type_equal
-
-      pub type_read : (f : Form) (z : ℕ) → IsRead xs s.TypeOf (m + 1) f z → IsRead xs s.Elem i (type_element i (called (i + 1) d.scopes (lower d.last)) ns f) z
-      type_read f z q = done (next type_equal q) (type_element i (called (i + 1) d.scopes (lower d.last)) ns f) refl (λ k us. refl)
 
   -- an element that is a symbol
   module _ (b : begins_symbol (terminal_at xs i) ≡ true) where
@@ -238,24 +180,12 @@ module _ {xs : List Lexeme} {i : ℕ} (c : CanRead xs s.Elem i) where
         by_function true e = again (expand (start c) t.FunctionWord e refl refl) 1 refl (λ k us. ap (λ v. (symbol_element i (symbol_word v) us.0 us.1.1.0, us.1.1.1)) (stands_so t.FunctionWord e))
         by_function false e = by_constant (same t.ConstantWord (terminal_at xs i)) e refl
 
-    replaced_start : Begun xs 0 (λ k. s.Elem ∷ k) i (λ k. s.Qhead ∷ s.Take t.Equal ∷ s.Qop ∷ k) (λ k us. (symbol_element i (symbol_word (terminal_at xs i)) (called (i + 1) us.0.scopes us.0.own) us.1.1.0, us.1.1.1)) (i + 1)
+    pub replaced_start : Begun xs 0 (λ k. s.Elem ∷ k) i (λ k. s.Qhead ∷ s.Take t.Equal ∷ s.Qop ∷ k) (λ k us. (symbol_element i (symbol_word (terminal_at xs i)) (called (i + 1) us.0.scopes us.0.own) us.1.1.0, us.1.1.1)) (i + 1)
     replaced_start = qop_head (length xs) (enough (length xs) (i + 1)) symbol_start
 
-    pub replaced_can : CanRead xs s.Qhead (i + 1)
-    replaced_can = can_next replaced_start
-
     module _ (d : Scoped) (j : ℕ) (r : IsRead xs s.Qhead (i + 1) d j) where
-      pub replaced_within : j < length xs
-      replaced_within = next_within (next replaced_start r) refl
-
-      by_start : Begun xs 0 (λ k. s.Elem ∷ k) i (λ k. s.Qhead ∷ k) (λ k us. (symbol_element i (symbol_word (terminal_at xs i)) (called (i + 1) d.scopes d.own) (called (j + 1) us.0.scopes us.0.own), us.1)) (j + 1)
+      pub by_start : Begun xs 0 (λ k. s.Elem ∷ k) i (λ k. s.Qhead ∷ k) (λ k us. (symbol_element i (symbol_word (terminal_at xs i)) (called (i + 1) d.scopes d.own) (called (j + 1) us.0.scopes us.0.own), us.1)) (j + 1)
       by_start = qop_head (length xs) (enough (length xs) (j + 1)) (take (next replaced_start r))
-
-      pub by_can : CanRead xs s.Qhead (j + 1)
-      by_can = can_next by_start
-
-      pub symbol_read : (f : Scoped) (m : ℕ) → IsRead xs s.Qhead (j + 1) f m → IsRead xs s.Elem i (symbol_element i (symbol_word (terminal_at xs i)) (called (i + 1) d.scopes d.own) (called (j + 1) f.scopes f.own)) m
-      symbol_read f m q = done (next by_start q) (symbol_element i (symbol_word (terminal_at xs i)) (called (i + 1) d.scopes d.own) (called (j + 1) f.scopes f.own)) refl (λ k us. refl)
 
   -- an element that is a proposition, or all axioms
   module _ (ty : same t.TypeWord (terminal_at xs i) ≡ false) (sy : begins_symbol (terminal_at xs i) ≡ false) where
@@ -309,66 +239,26 @@ module _ {xs : List Lexeme} {i : ℕ} (c : CanRead xs s.Elem i) where
           by_lemma true e = again (lemma_start e) 0 refl (λ k us. ap (λ v. (prop_element i (prop_kind v) us.0, us.1)) (same_true t.LemmaWord (terminal_at xs i) e))
           by_lemma false e = by_goal (same t.GoalWord (terminal_at xs i)) e refl
 
-      prop_start : Begun xs 0 (λ k. s.Elem ∷ k) i (λ k. s.Qhead ∷ k) (λ k us. (prop_element i (prop_kind (terminal_at xs i)) (called (i + 1) us.0.scopes us.0.own), us.1)) (i + 1)
+      pub prop_start : Begun xs 0 (λ k. s.Elem ∷ k) i (λ k. s.Qhead ∷ k) (λ k us. (prop_element i (prop_kind (terminal_at xs i)) (called (i + 1) us.0.scopes us.0.own), us.1)) (i + 1)
       prop_start = qid_head (length xs) (enough (length xs) (i + 1)) prop_id
-
-      pub prop_can : CanRead xs s.Qhead (i + 1)
-      prop_can = can_next prop_start
-
-      pub prop_read : (f : Scoped) (m : ℕ) → IsRead xs s.Qhead (i + 1) f m → IsRead xs s.Elem i (prop_element i (prop_kind (terminal_at xs i)) (called (i + 1) f.scopes f.own)) m
-      prop_read f m q = let p = next prop_start q in done p (prop_element i (prop_kind (terminal_at xs i)) (called (i + 1) f.scopes f.own)) refl (λ k us. refl)
 
 -- elements with commas between them
 abbrev pub Elements : List Lexeme → ℕ → List Element → ℕ → Type 0
 Elements xs i es j = Begun xs 1 (λ k. s.Subst ∷ k) i (λ k. s.Elems ∷ k) (λ k us. (es ++ us.0, us.1)) j
 
 module _ {xs : List Lexeme} {i : ℕ} (c : CanRead xs s.Subst i) where
-  pub no_elements : same t.WithWord (terminal_at xs i) ≡ false → IsRead xs s.Subst i [] i
-  no_elements n = done (pass (start c) refl refl (none_of s.Subst (t.WithWord ∷ []) (terminal_at xs i) refl (n, tt))) [] refl (λ k us. refl)
-
-  elements_with : same t.WithWord (terminal_at xs i) ≡ true → Begun xs 1 (λ k. s.Subst ∷ k) i (λ k. s.Elem ∷ s.Elems ∷ k) (λ k us. (us.0 ∷ us.1.0, us.1.1)) (i + 1)
+  pub elements_with : same t.WithWord (terminal_at xs i) ≡ true → Begun xs 1 (λ k. s.Subst ∷ k) i (λ k. s.Elem ∷ s.Elems ∷ k) (λ k us. (us.0 ∷ us.1.0, us.1.1)) (i + 1)
   elements_with e = expand (start c) t.WithWord e refl refl
-
-  pub first_element : same t.WithWord (terminal_at xs i) ≡ true → CanRead xs s.Elem (i + 1)
-  first_element e = can_next (elements_with e)
-
-  pub elements_start : (v : Element) (m : ℕ) → same t.WithWord (terminal_at xs i) ≡ true → IsRead xs s.Elem (i + 1) v m → Elements xs i (v ∷ []) m
-  elements_start v m e r = again (next (elements_with e) r) 1 refl (λ k us. refl)
-
-module _ (xs : List Lexeme) (i : ℕ) (es : List Element) (j : ℕ) (g : Elements xs i es j) where
-  pub next_element : same t.Comma (terminal_at xs j) ≡ true → CanRead xs s.Elem (j + 1)
-  next_element e = can_next (expand g t.Comma e refl refl)
-
-  pub elements_more : (v : Element) (m : ℕ) → same t.Comma (terminal_at xs j) ≡ true → IsRead xs s.Elem (j + 1) v m → Elements xs i (es ++ v ∷ []) m
-  elements_more v m e r = again (next (expand g t.Comma e refl refl) r) 1 refl (λ k us. ap (λ w. (w, us.1)) (sym (append_assoc es (v ∷ []) us.0)))
-
-  pub elements_done : same t.Comma (terminal_at xs j) ≡ false → IsRead xs s.Subst i es j
-  elements_done n = done (pass g refl refl (none_of s.Elems (t.Comma ∷ []) (terminal_at xs j) refl (n, tt))) es refl (λ k us. ap (λ w. (w, us)) (append-nil es))
 
 -- the declarations
 module _ {xs : List Lexeme} {i : ℕ} (c : CanRead xs s.Decls i) where
   module _ (e : same t.UseWord (terminal_at xs i) ≡ true) where
-    use_start : Begun xs 1 (λ k. s.Decls ∷ k) i (λ k. s.Used ∷ s.Decls ∷ k) (λ k us. (more_decls (use_decl (at i) us.0.link us.0.path us.0.name) us.1.0, us.1.1)) (i + 1)
+    pub use_start : Begun xs 1 (λ k. s.Decls ∷ k) i (λ k. s.Used ∷ s.Decls ∷ k) (λ k us. (more_decls (use_decl (at i) us.0.link us.0.path us.0.name) us.1.0, us.1.1)) (i + 1)
     use_start = expand (start c) t.UseWord e refl refl
-
-    pub use_can : CanRead xs s.Used (i + 1)
-    use_can = can_next use_start
-
-    pub use_read : (u : UsedPart) (j : ℕ) → IsRead xs s.Used (i + 1) u j → IsDecl xs i (use_decl (at i) u.link u.path u.name) j
-    use_read u j r = again (next use_start r) 1 refl (λ k us. refl)
 
   module _ (e : same t.CloneWord (terminal_at xs i) ≡ true) where
     clone_start : Begun xs 1 (λ k. s.Decls ∷ k) i (λ k. s.Cloned ∷ s.Decls ∷ k) (λ k us. (more_decls (clone_decl (at i) us.0.used.link us.0.used.path us.0.used.name us.0.elements) us.1.0, us.1.1)) (i + 1)
     clone_start = expand (start c) t.CloneWord e refl refl
 
-    clone_used : Begun xs 0 (λ k. s.Decls ∷ k) i (λ k. s.Used ∷ s.Subst ∷ s.Decls ∷ k) (λ k us. (more_decls (clone_decl (at i) us.0.link us.0.path us.0.name us.1.0) us.1.1.0, us.1.1.1)) (i + 1)
+    pub clone_used : Begun xs 0 (λ k. s.Decls ∷ k) i (λ k. s.Used ∷ s.Subst ∷ s.Decls ∷ k) (λ k us. (more_decls (clone_decl (at i) us.0.link us.0.path us.0.name us.1.0) us.1.1.0, us.1.1.1)) (i + 1)
     clone_used = cloned_used clone_start
-
-    pub clone_can : CanRead xs s.Used (i + 1)
-    clone_can = can_next clone_used
-
-    pub clone_subst : (u : UsedPart) (j : ℕ) → IsRead xs s.Used (i + 1) u j → CanRead xs s.Subst j
-    clone_subst u j r = can_next (next clone_used r)
-
-    pub clone_read : (u : UsedPart) (j : ℕ) (es : List Element) (m : ℕ) → IsRead xs s.Used (i + 1) u j → IsRead xs s.Subst j es m → IsDecl xs i (clone_decl (at i) u.link u.path u.name es) m
-    clone_read u j es m r q = again (next (next clone_used r) q) 1 refl (λ k us. refl)

@@ -1,3 +1,7 @@
+pub mod DeclaredRead
+pub mod ParamsRead
+pub mod BodiesRead
+pub mod DeclaringRead
 pub mod NamesThere
 pub mod TypesRead
 pub mod ClonesRead

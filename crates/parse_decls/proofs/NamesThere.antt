@@ -6,13 +6,10 @@ use Rattle.syntax_why.specs.declared.names.Name.{Name}
 use Rattle.syntax_why.specs.Lexeme.{Lexeme, name}
 use Rattle.parse_terms.specs.Reading.{terminal_at, token_at}
 use Rattle.parse_terms.specs.Sources.{IsTextAt}
-use Rattle.parse_terms.proofs.TextsRead.{upper_text, variable_text}
+use Rattle.parse_terms.proofs.TextsRead.{upper_text}
 
-made : (xs : List Lexeme) (i : ℕ) (n : Name) → n.at ≡ i → n.text ≡ (token_at xs i).text → n ≡ name i (token_at xs i).text
+pub made : (xs : List Lexeme) (i : ℕ) (n : Name) → n.at ≡ i → n.text ≡ (token_at xs i).text → n ≡ name i (token_at xs i).text
 made xs i n p h = ap (λ j. name j n.text) p ∙ ap (name i) h
-
-pub variable_there : (xs : List Lexeme) (i : ℕ) (n : Name) → n.at ≡ i → IsTextAt xs i n.text → same t.TyVar (terminal_at xs i) ≡ true → n ≡ name i (token_at xs i).text
-variable_there xs i n p h e = made xs i n p (variable_text h e)
 
 pub upper_there : (xs : List Lexeme) (i : ℕ) (n : Name) → n.at ≡ i → IsTextAt xs i n.text → same t.Uident (terminal_at xs i) ≡ true → n ≡ name i (token_at xs i).text
 upper_there xs i n p h e = made xs i n p (upper_text h e)

@@ -17,11 +17,11 @@ use Rattle.reading.specs.DeclRows.{fields_own, fields_rows, upper_own}
 use Rattle.reading.specs.Row.{Row, Val, Vals, extend, row, then_row}
 use Rattle.reading.specs.Values.{blank, find, read, rows}
 use Rattle.reading.proofs.Reading.{Stops, find_apart, find_extend, passed}
-use Rattle.reading.proofs.Inverse.{below_or}
-use Rattle.parse_terms.specs.Reading.{Begun, CanRead, CanRun, IsRead, begins_atype, nowhere, rest, terminal_at, token_at}
-use Rattle.parse_terms.proofs.Steps.{again, can_next, expand, extended, follow, many, many_more, missed, next, next_within, none_of, only, pass, rest_cons, rest_end, stands_by, start, take, stands, unexpand}
+use Rattle.reading.proofs.Inverse.{below_or, from_cons, from_end}
+use Rattle.parse_terms.specs.Reading.{Begun, CanRead, CanRun, begins_atype, nowhere, rest, terminal_at, token_at}
+use Rattle.parse_terms.proofs.Steps.{again, expand, extended, follow, many, missed, only, pass, stands_by, start, take, unexpand}
 use Rattle.parse_terms.proofs.FormsRead.{forms_many}
-use Rattle.parse_bodies.specs.Bodies.{IsDecl}
+use Rattle.parse_decls.specs.Bodies.{IsDecl}
 use Rattle.parse_decls.specs.Types.{IsAlgebraic, IsCon, IsConstructor, IsConstructors, IsNamed, Named, alg_part, begins_constructor, con_part, constructor_at, fields_part}
 
 le_self : (n : ℕ) → nat_le n n ≡ true
@@ -38,8 +38,8 @@ passed_at : (xs : List Lexeme) (j : ℕ) (a : Symbol) (v : Val a) (k : List Symb
 passed_at xs j a v k us b l f h = passed a v k (rest xs j) j us b l (by_length (below_or j (length xs))) h
   where
     by_length : (j < length xs) ⊎ (length xs ≤ j) → Stops a (rest xs j)
-    by_length (inl q) = subst (Stops a) (sym (rest_cons xs j q)) f
-    by_length (inr q) = subst (Stops a) (sym (rest_end xs j q)) tt
+    by_length (inl q) = subst (Stops a) (sym (from_cons xs j q)) f
+    by_length (inr q) = subst (Stops a) (sym (from_end xs j q)) tt
 
 -- What is read otherwise may be read as a rule that is empty, and then so.
 pub unpass : {xs : List Lexeme} {n : ℕ} {from : List Symbol → List Symbol} {i : ℕ} (a : Symbol) (v : Val a) (K : List Symbol → List Symbol) (by : (k : List Symbol) → Vals (a ∷ K k) → Vals (from k)) {j : ℕ} → blank a ≡ Some v → is_seal a ≡ false → find (rows a) (terminal_at xs j) ≡ None → Begun xs n from i K (λ k us. by k (v, us)) j → Begun xs n from i (λ k. a ∷ K k) by j
@@ -54,10 +54,6 @@ unpass {xs} {n} {from} {i} a v K by {j} b l f g = record {
 pub named_more : (xs : List Lexeme) (i : ℕ) (ns : List Name) (j : ℕ) (n : Name) → same t.TyVar (terminal_at xs j) ≡ true → n ≡ name j (token_at xs j).text → Named xs i ns j → Named xs i (ns ++ n ∷ []) (j + 1)
 named_more xs i [] j n e h p = (subst (λ q. same t.TyVar (terminal_at xs q) ≡ true) (sym p) e, subst (λ q. n ≡ name q (token_at xs q).text) (sym p) h, ap (λ q. q + 1) p)
 named_more xs i (v ∷ ns) j n e h p = (p.0, p.1, named_more xs (i + 1) ns j n e h p.2)
-
-pub named_ahead : (xs : List Lexeme) (i : ℕ) (ns : List Name) (j : ℕ) → Named xs i ns j → i ≤ j
-named_ahead xs i [] j p = omega (arith, p)
-named_ahead xs i (v ∷ ns) j p = let h = named_ahead xs (i + 1) ns j p.2 in omega arith
 
 -- A rule that reads a type variable and then itself reads them all.
 module _ (a : Symbol) (f : Name → Val a → Val a) (is : find (rows a) t.TyVar ≡ Some (row a t.TyVar (a ∷ []) (λ i w vs. f (name i w) vs.0))) (e : ℕ) (one : nat_le e 1 ≡ true) where
@@ -97,33 +93,19 @@ field_many (f ∷ fs) v = ap (field_on f) (field_many fs v)
 
 fields_apart : (x : Terminal) → begins_atype x ≡ true → find fields_own x ≡ None
 fields_apart t.TyVar h = refl
-fields_apart t.Lident h = refl
-fields_apart t.Uident h = refl
-fields_apart t.LParen h = refl
 fields_apart _ h = cc
 
 fields_some : (x : Terminal) → begins_atype x ≡ true → find (rows s.Fields) x ≡ None → ⊥
 fields_some t.TyVar h e = cc
-fields_some t.Lident h e = cc
-fields_some t.Uident h e = cc
-fields_some t.LParen h e = cc
 fields_some _ h e = cc
 
 -- where no type, no bar and no `with` stands, nothing stands behind fields
 fields_none : (x : Terminal) → begins_atype x ≡ false → same t.Bar x ≡ false → same t.WithWord x ≡ false → find (rows s.Fields) x ≡ None
 fields_none t.TyVar h b w = cc
-fields_none t.Lident h b w = cc
-fields_none t.Uident h b w = cc
-fields_none t.LParen h b w = cc
-fields_none t.Bar h b w = cc
-fields_none t.WithWord h b w = cc
-fields_none _ h b w = refl
+fields_none _ h b w = cc
 
 abbrev pub Fields : List Lexeme → ℕ → List Form → ℕ → Type 0
 Fields xs i fs j = Begun xs 0 (λ k. s.Fields ∷ k) i (λ k. s.Fields ∷ k) (λ k us. (many field_on fs us.0, us.1)) j
-
-pub fields_start : {xs : List Lexeme} {i : ℕ} → CanRead xs s.Fields i → Fields xs i [] i
-fields_start c = again (start c) 0 refl (λ k us. refl)
 
 -- Where no field stands there are no more of them.
 module _ {xs : List Lexeme} {n : ℕ} {from : List Symbol → List Symbol} {i : ℕ} {K : List Symbol → List Symbol} {act : (k : List Symbol) → Vals (s.Fields ∷ K k) → Vals (from k)} {j : ℕ} (g : Begun xs n from i (λ k. s.Fields ∷ K k) act j) (o : begins_atype (terminal_at xs j) ≡ false) where
@@ -159,14 +141,8 @@ module _ {xs : List Lexeme} {n : ℕ} {from : List Symbol → List Symbol} {i : 
   no_others h w = pass g refl refl (fields_none (terminal_at xs j) o h w)
 
 module _ (xs : List Lexeme) (i : ℕ) (fs : List Form) (j : ℕ) (g : Fields xs i fs j) where
-  field_item : begins_atype (terminal_at xs j) ≡ true → Begun xs 0 (λ k. s.Fields ∷ k) i (λ k. s.Atype ∷ s.Fields ∷ k) (λ k us. (many field_on fs (field_on us.0 us.1.0), us.1.1)) j
+  pub field_item : begins_atype (terminal_at xs j) ≡ true → Begun xs 0 (λ k. s.Fields ∷ k) i (λ k. s.Atype ∷ s.Fields ∷ k) (λ k us. (many field_on fs (field_on us.0 us.1.0), us.1.1)) j
   field_item e = extended g s.Atype (s.Fields ∷ []) (λ v vs. field_on v vs.0) fields_own refl (stands_by begins_atype xs j refl e) (fields_apart (terminal_at xs j) e) (fields_some (terminal_at xs j) e)
-
-  pub field_can : begins_atype (terminal_at xs j) ≡ true → CanRead xs s.Atype j
-  field_can e = can_next (field_item e)
-
-  pub fields_more : (f : Form) (m : ℕ) → begins_atype (terminal_at xs j) ≡ true → IsRead xs s.Atype j f m → Fields xs i (fs ++ f ∷ []) m
-  fields_more f m e r = again (next (field_item e) r) 0 refl (λ k us. ap (λ v. (v, us.1)) (many_more field_on fs f us.0))
 
 pub constructor_done : (xs : List Lexeme) (i : ℕ) (n : Name) (fs : List Form) (j : ℕ) → n ≡ name i (token_at xs i).text → begins_atype (terminal_at xs j) ≡ false → Fields xs (i + 1) fs j → IsConstructor xs i (record { name = n; fields = forms fs }) j
 constructor_done xs i n fs j e o g = record {
@@ -192,14 +168,8 @@ constructors_start xs i c j r = record { fields = r.fields; others = []; spelled
 
 module _ (xs : List Lexeme) (i : ℕ) (cs : List Constructor) (j : ℕ) (g : Constructors xs i cs j) where
   module _ (e : same t.Bar (terminal_at xs j) ≡ true) where
-    bar_read : Begun xs 1 (λ k. s.Fields ∷ k) (i + 1) (λ k. s.Take t.Uident ∷ s.Fields ∷ k) (λ k us. (fields_part g.fields (g.others ++ (record { name = us.0; fields = us.1.0.fields } ∷ us.1.0.constructors)) us.1.0.others, us.1.1)) (j + 1)
+    pub bar_read : Begun xs 1 (λ k. s.Fields ∷ k) (i + 1) (λ k. s.Take t.Uident ∷ s.Fields ∷ k) (λ k us. (fields_part g.fields (g.others ++ (record { name = us.0; fields = us.1.0.fields } ∷ us.1.0.constructors)) us.1.0.others, us.1.1)) (j + 1)
     bar_read = expand g.is t.Bar e refl refl
-
-    pub next_name : same t.Uident (terminal_at xs (j + 1)) ≡ true
-    next_name = only bar_read t.Uident [] refl refl tt
-
-    pub next_fields : CanRead xs s.Fields (j + 1 + 1)
-    next_fields = can_next (take bar_read)
 
     pub constructors_more : (c : Constructor) (m : ℕ) → IsConstructor xs (j + 1) c m → Constructors xs i (cs ++ c ∷ []) m
     constructors_more c m r = record {
@@ -223,14 +193,8 @@ module _ (xs : List Lexeme) (i : ℕ) (cs : List Constructor) (j : ℕ) (g : Con
 -- constructors behind an equality sign
 module _ {xs : List Lexeme} {i : ℕ} (c : CanRead xs s.Con i) where
   module _ (e : same t.Bar (terminal_at xs i) ≡ true) where
-    barred : Begun xs 1 (λ k. s.Con ∷ k) i (λ k. s.Take t.Uident ∷ s.Fields ∷ k) (λ k us. (with_constructor true us.0 us.1.0, us.1.1)) (i + 1)
+    pub barred : Begun xs 1 (λ k. s.Con ∷ k) i (λ k. s.Take t.Uident ∷ s.Fields ∷ k) (λ k us. (with_constructor true us.0 us.1.0, us.1.1)) (i + 1)
     barred = let p = expand (start c) t.Bar e refl refl in again p 1 refl (λ k us. refl)
-
-    pub barred_name : same t.Uident (terminal_at xs (i + 1)) ≡ true
-    barred_name = only barred t.Uident [] refl refl tt
-
-    pub barred_fields : CanRead xs s.Fields (i + 1 + 1)
-    barred_fields = can_next (take barred)
 
     pub barred_read : (cs : List Constructor) (j : ℕ) → IsConstructors xs (i + 1) cs j → IsCon xs i true cs j
     barred_read cs j r = record { ends = r.ends; last = r.last; is = again (follow {K = λ k. k} r.is (take barred)) 1 refl (λ k us. ap (λ v. (con_part true v us.0.others, us.1)) r.spelled) }
@@ -239,39 +203,24 @@ module _ {xs : List Lexeme} {i : ℕ} (c : CanRead xs s.Con i) where
     pub unbarred_name : same t.Uident (terminal_at xs i) ≡ true
     unbarred_name = only (start c) t.Uident (t.Bar ∷ []) refl refl (e, tt)
 
-    unbarred : Begun xs 1 (λ k. s.Con ∷ k) i (λ k. s.Fields ∷ k) (λ k us. (with_constructor false (name i (token_at xs i).text) us.0, us.1)) (i + 1)
+    pub unbarred : Begun xs 1 (λ k. s.Con ∷ k) i (λ k. s.Fields ∷ k) (λ k us. (with_constructor false (name i (token_at xs i).text) us.0, us.1)) (i + 1)
     unbarred = let p = expand (start c) t.Uident unbarred_name refl refl in again p 1 refl (λ k us. refl)
-
-    pub unbarred_fields : CanRead xs s.Fields (i + 1)
-    unbarred_fields = can_next unbarred
 
     pub unbarred_read : (cs : List Constructor) (j : ℕ) → IsConstructors xs i cs j → IsCon xs i false cs j
     unbarred_read cs j r = record { ends = r.ends; last = r.last; is = again (follow {K = λ k. k} r.is unbarred) 1 refl (λ k us. ap (λ v. (con_part false v us.0.others, us.1)) r.spelled) }
 
 -- an algebraic type
 module _ {xs : List Lexeme} {i : ℕ} (c : CanRun xs (λ k. s.Take t.Lident ∷ s.Algvars ∷ k) i) where
-  pub algebraic_name : same t.Lident (terminal_at xs i) ≡ true
-  algebraic_name = only (start c) t.Lident [] refl refl tt
-
-  pub algebraic_within : i < length xs
-  algebraic_within = next_within (start c) refl
-
   module _ (ns : List Name) (j : ℕ) (h : IsNamed xs (i + 1) ns j) where
     algebraic_vars : Begun xs 1 (λ k. s.Take t.Lident ∷ s.Algvars ∷ k) i (λ k. s.Algvars ∷ k) (λ k us. (name i (token_at xs i).text, (many algvars_on ns us.0, us.1))) j
     algebraic_vars = variables_read s.Algvars algvars_on refl 1 refl ns h.names refl (take (start c))
 
-    algebraic_sign : same t.Equal (terminal_at xs j) ≡ true
+    pub algebraic_sign : same t.Equal (terminal_at xs j) ≡ true
     algebraic_sign = only algebraic_vars t.Equal (t.TyVar ∷ []) refl refl (h.ends, tt)
 
-    algebraic_equal : Begun xs 1 (λ k. s.Take t.Lident ∷ s.Algvars ∷ k) i (λ k. s.Con ∷ k) (λ k us. (name i (token_at xs i).text, (alg_part ns us.0, us.1))) (j + 1)
+    pub algebraic_equal : Begun xs 1 (λ k. s.Take t.Lident ∷ s.Algvars ∷ k) i (λ k. s.Con ∷ k) (λ k us. (name i (token_at xs i).text, (alg_part ns us.0, us.1))) (j + 1)
     algebraic_equal = let p = expand algebraic_vars t.Equal algebraic_sign refl refl in
         again p 1 refl (λ k us. ap (λ v. (name i (token_at xs i).text, (v, us.1))) (algvars_many ns (alg_part [] us.0) ∙ ap (λ v. alg_part v us.0) (append-nil ns)))
-
-    pub algebraic_behind : j < length xs
-    algebraic_behind = stands xs j t.Equal algebraic_sign refl
-
-    pub algebraic_can : CanRead xs s.Con (j + 1)
-    algebraic_can = can_next algebraic_equal
 
     pub algebraic_done : (n : Name) (b : Bool) (cs : List Constructor) (m : ℕ) → n ≡ name i (token_at xs i).text → IsCon xs (j + 1) b cs m → IsAlgebraic xs i (record { name = n; vars = ns; bar = b; constructors = cs }) m
     algebraic_done n b cs m e r = record { ends = r.ends; last = r.last; is = again (follow {K = λ k. k} r.is algebraic_equal) 1 refl (λ k us. ap (λ v. (v, (alg_part ns (con_part b cs us.0.others), us.1))) (sym e)) }
@@ -354,40 +303,25 @@ abbrev pub Typed : List Lexeme → ℕ → List Name → ℕ → Type 0
 Typed xs i ns j = Begun xs 1 (λ k. s.Decls ∷ k) i (λ k. s.Tvars ∷ s.Decls ∷ k) (λ k us. (more_decls (typed_as (at i) (name (i + 1) (token_at xs (i + 1)).text) (ns ++ us.0.vars) us.0.equation) us.1.0, us.1.1)) j
 
 module _ {xs : List Lexeme} {i : ℕ} (c : CanRead xs s.Decls i) (e : same t.TypeWord (terminal_at xs i) ≡ true) where
-  type_start : Begun xs 1 (λ k. s.Decls ∷ k) i (λ k. s.Take t.Lident ∷ s.Tvars ∷ s.Decls ∷ k) (λ k us. (more_decls (typed_as (at i) us.0 us.1.0.vars us.1.0.equation) us.1.1.0, us.1.1.1)) (i + 1)
+  pub type_start : Begun xs 1 (λ k. s.Decls ∷ k) i (λ k. s.Take t.Lident ∷ s.Tvars ∷ s.Decls ∷ k) (λ k us. (more_decls (typed_as (at i) us.0 us.1.0.vars us.1.0.equation) us.1.1.0, us.1.1.1)) (i + 1)
   type_start = expand (start c) t.TypeWord e refl refl
 
   pub type_name : same t.Lident (terminal_at xs (i + 1)) ≡ true
   type_name = only type_start t.Lident [] refl refl tt
 
-  pub type_within : i + 1 < length xs
-  type_within = next_within type_start refl
-
   pub typed : (ns : List Name) (j : ℕ) → IsNamed xs (i + 1 + 1) ns j → Typed xs i ns j
   typed ns j h = again (variables_read s.Tvars tvars_on refl 1 refl ns h.names refl (take type_start)) 1 refl (λ k us. ap (λ v. (more_decls (typed_as (at i) (name (i + 1) (token_at xs (i + 1)).text) v.vars v.equation) us.1.0, us.1.1)) (tvars_many ns us.0))
 
 module _ (xs : List Lexeme) (i : ℕ) (n : Name) (ns : List Name) (j : ℕ) (g : Typed xs i ns j) (named : n ≡ name (i + 1) (token_at xs (i + 1)).text) where
-  pub type_symbol : same t.TyVar (terminal_at xs j) ≡ false → same t.Equal (terminal_at xs j) ≡ false → IsDecl xs i (type_decl (at i) n ns None) j
-  type_symbol v e = again (pass g refl refl (none_of s.Tvars (t.TyVar ∷ t.Equal ∷ []) (terminal_at xs j) refl (v, (e, tt)))) 1 refl (λ k us. ap (λ u. (more_decls (type_decl (at i) (name (i + 1) (token_at xs (i + 1)).text) u None) us.0, us.1)) (append-nil ns) ∙ ap (λ u. (more_decls (type_decl (at i) u ns None) us.0, us.1)) (sym named))
-
   module _ (e : same t.Equal (terminal_at xs j) ≡ true) where
     equation : Begun xs 1 (λ k. s.Decls ∷ k) i (λ k. s.Typedef ∷ s.Decls ∷ k) (λ k us. (more_decls (typed_as (at i) n ns (Some us.0)) us.1.0, us.1.1)) (j + 1)
     equation = again (expand g t.Equal e refl refl) 1 refl (λ k us. ap (λ u. (more_decls (typed_as (at i) (name (i + 1) (token_at xs (i + 1)).text) u (Some us.0)) us.1.0, us.1.1)) (append-nil ns) ∙ ap (λ u. (more_decls (typed_as (at i) u ns (Some us.0)) us.1.0, us.1.1)) (sym named))
 
-    alias_start : begins_constructor (terminal_at xs (j + 1)) (terminal_at xs (j + 1 + 1)) ≡ false → Begun xs 0 (λ k. s.Decls ∷ k) i (λ k. s.TypeOf ∷ s.Decls ∷ k) (λ k us. (more_decls (type_decl (at i) n ns (Some us.0)) us.1.0, us.1.1)) (j + 1)
+    pub alias_start : begins_constructor (terminal_at xs (j + 1)) (terminal_at xs (j + 1 + 1)) ≡ false → Begun xs 0 (λ k. s.Decls ∷ k) i (λ k. s.TypeOf ∷ s.Decls ∷ k) (λ k us. (more_decls (type_decl (at i) n ns (Some us.0)) us.1.0, us.1.1)) (j + 1)
     alias_start b = typedef_alias equation b
 
-    pub alias_can : begins_constructor (terminal_at xs (j + 1)) (terminal_at xs (j + 1 + 1)) ≡ false → CanRead xs s.TypeOf (j + 1)
-    alias_can b = can_next (alias_start b)
-
-    pub alias_read : (f : Form) (m : ℕ) → begins_constructor (terminal_at xs (j + 1)) (terminal_at xs (j + 1 + 1)) ≡ false → IsRead xs s.TypeOf (j + 1) f m → IsDecl xs i (type_decl (at i) n ns (Some f)) m
-    alias_read f m b r = again (next (alias_start b) r) 1 refl (λ k us. refl)
-
-    con_start : begins_constructor (terminal_at xs (j + 1)) (terminal_at xs (j + 1 + 1)) ≡ true → Begun xs 0 (λ k. s.Decls ∷ k) i (λ k. s.Con ∷ s.Decls ∷ k) (λ k us. (more_decls (algebraic_decl (at i) (new_algebraic n ns us.0 ∷ us.0.others)) us.1.0, us.1.1)) (j + 1)
+    pub con_start : begins_constructor (terminal_at xs (j + 1)) (terminal_at xs (j + 1 + 1)) ≡ true → Begun xs 0 (λ k. s.Decls ∷ k) i (λ k. s.Con ∷ s.Decls ∷ k) (λ k us. (more_decls (algebraic_decl (at i) (new_algebraic n ns us.0 ∷ us.0.others)) us.1.0, us.1.1)) (j + 1)
     con_start b = typedef_con equation b
-
-    pub con_can : begins_constructor (terminal_at xs (j + 1)) (terminal_at xs (j + 1 + 1)) ≡ true → CanRead xs s.Con (j + 1)
-    con_can b = can_next (con_start b)
 
 -- algebraic types with `with` between them
 pub record Algebraics (xs : List Lexeme) (i : ℕ) (as_ : List Algebraic) (j : ℕ) : Type 0 where
@@ -399,11 +333,8 @@ pub algebraics_start : (xs : List Lexeme) (i : ℕ) (n : Name) (ns : List Name) 
 algebraics_start xs i n ns j g named e o b cs m r = record { ends = r.ends; last = r.last; is = again (follow {K = λ k. s.Decls ∷ k} r.is (con_start xs i n ns j g named e o)) 1 refl (λ k us. refl) }
 
 module _ (xs : List Lexeme) (i : ℕ) (as_ : List Algebraic) (j : ℕ) (g : Algebraics xs i as_ j) where
-  with_read : same t.WithWord (terminal_at xs j) ≡ true → Begun xs 1 (λ k. s.Decls ∷ k) i (λ k. s.Take t.Lident ∷ s.Algvars ∷ s.Decls ∷ k) (λ k us. (more_decls (algebraic_decl (at i) (as_ ++ (new_algebraic us.0 us.1.0.vars us.1.0.con ∷ us.1.0.con.others))) us.1.1.0, us.1.1.1)) (j + 1)
+  pub with_read : same t.WithWord (terminal_at xs j) ≡ true → Begun xs 1 (λ k. s.Decls ∷ k) i (λ k. s.Take t.Lident ∷ s.Algvars ∷ s.Decls ∷ k) (λ k us. (more_decls (algebraic_decl (at i) (as_ ++ (new_algebraic us.0 us.1.0.vars us.1.0.con ∷ us.1.0.con.others))) us.1.1.0, us.1.1.1)) (j + 1)
   with_read e = expand g.is t.WithWord e refl refl
-
-  pub next_algebraic : same t.WithWord (terminal_at xs j) ≡ true → CanRun xs (λ k. s.Take t.Lident ∷ s.Algvars ∷ k) (j + 1)
-  next_algebraic e = run_of (λ k. s.Take t.Lident ∷ s.Algvars ∷ k) (λ k. s.Decls ∷ k) (with_read e)
 
   pub algebraics_more : (a : Algebraic) (m : ℕ) → same t.WithWord (terminal_at xs j) ≡ true → IsAlgebraic xs (j + 1) a m → Algebraics xs i (as_ ++ a ∷ []) m
   algebraics_more a m e r = record { ends = r.ends; last = r.last; is = again (follow {K = λ k. s.Decls ∷ k} r.is (with_read e)) 1 refl (λ k us. ap (λ v. (more_decls (algebraic_decl (at i) v) us.1.0, us.1.1)) (sym (append_assoc as_ (a ∷ []) us.0.others))) }

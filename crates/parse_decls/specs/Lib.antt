@@ -1,3 +1,6 @@
+pub mod Bodies
+pub mod Clauses
+pub mod Params
 pub mod Types
 pub mod Clones
 pub mod Files

@@ -8,7 +8,7 @@ ghost use Rattle.reading.specs.DeclRows.{used as used_part};
 ghost use Rattle.syntax_why.specs.SurfaceDeclarations.{decl_of, element_of};
 ghost use Rattle.parse_terms.specs.Reading.{CanRead, IsRead, terminal_at};
 ghost use Rattle.parse_terms.specs.Sources.{lexemes};
-ghost use Rattle.parse_bodies.specs.Bodies.{IsDecl};
+ghost use Rattle.parse_decls.specs.Bodies.{IsDecl};
 ghost use Rattle.parse_decls.specs.Clones.{begins_symbol, prop_kind as prop_kind_of, symbol_word as symbol_word_of};
 
 use crate::types::variables;

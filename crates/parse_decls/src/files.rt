@@ -8,16 +8,16 @@ ghost use Rattle.reading.specs.Values.{read};
 ghost use Rattle.syntax_why.specs.SurfaceDeclarations.{decl_of, decls as decls_of, file_of, theory_of};
 ghost use Rattle.parse_terms.specs.Reading.{CanRead, IsRead, terminal_at};
 ghost use Rattle.parse_terms.specs.Sources.{lexemes};
-ghost use Rattle.parse_bodies.specs.Bodies.{IsDecl};
+ghost use Rattle.parse_decls.specs.Bodies.{IsDecl};
 ghost use Rattle.parse_decls.specs.Files.{IsFile, IsTheory, begins_theory};
 
 use crate::clones::{clone_declaration, prop_kind, use_declaration};
-use crate::types::type_declaration;
-use outside::Seq;
-use parse_bodies::{
+use crate::declaring::{
     constant_declaration, function_declaration, inductive_declaration, predicate_declaration,
     prop_declaration,
 };
+use crate::types::type_declaration;
+use outside::Seq;
 use parse_terms::{Source, at, name_at, place, terminal};
 use std::alloc::{AllocError, Global};
 use syntax_why::{DeclTree, File, TheoryTree};

@@ -1,9 +1,14 @@
-//! Reading of declarations, theories and files from tokens that are known to be good.
-//! It depends on the readers of types, of terms and of the declarations that have bodies.
+//! Reading of declarations, theories and files from tokens that are known to be good; the reader of sources.
+//! It depends on the readers of types and terms.
 #![tactic(auto)]
 
+mod bodies;
+mod clauses;
 mod clones;
+mod declared;
+mod declaring;
 mod files;
+mod parameters;
 mod sources;
 mod types;
 

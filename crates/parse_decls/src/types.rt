@@ -7,7 +7,7 @@ ghost use Rattle.tokens_why.specs.declared.terminal.Terminal.TheVariants as t;
 ghost use Rattle.syntax_why.specs.SurfaceDeclarations.{algebraic_of, constructor_of, decl_of};
 ghost use Rattle.parse_terms.specs.Reading.{CanRead, CanRun, terminal_at};
 ghost use Rattle.parse_terms.specs.Sources.{lexemes};
-ghost use Rattle.parse_bodies.specs.Bodies.{IsDecl};
+ghost use Rattle.parse_decls.specs.Bodies.{IsDecl};
 ghost use Rattle.parse_decls.specs.Types.{IsAlgebraic, IsCon, IsConstructor, IsConstructors, IsNamed, begins_constructor};
 
 use outside::Seq;

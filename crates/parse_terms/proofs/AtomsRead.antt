@@ -1,19 +1,19 @@
 -- What follows where atoms, arguments and trees in parentheses are read.
-use Rattle.std.proofs.Common.{◌≡◌, ℕ, ◌+◌, ◌<◌, ◌≤◌, Bool, true, false, List, [], ◌∷◌, ◌++◌, length, None, refl, ap, subst, arith}
+use Rattle.std.proofs.Common.{◌≡◌, ℕ, ◌+◌, ◌≤◌, Bool, true, false, List, [], ◌∷◌, None, refl, ap, arith}
 use Rattle.tokens_why.specs.declared.terminal.Terminal.{Terminal}
 use Rattle.tokens_why.specs.declared.terminal.Terminal.TheVariants as t
 use Rattle.grammar.specs.declared.symbols.Symbol.TheVariants as s
 use Rattle.grammar.specs.Alphabet.{same}
 use Rattle.syntax_why.specs.Lexeme.{Lexeme, at}
-use Rattle.syntax_why.specs.Forms.{Form, called}
-use Rattle.syntax_why.specs.Trees.{Tree, Trees, apply, cast, falsity, group, literal, more, none, truth}
+use Rattle.syntax_why.specs.Forms.{called}
+use Rattle.syntax_why.specs.Trees.{Tree, Trees, apply, group, more, none}
 use Rattle.syntax_why.specs.Surface.{trees}
 use Rattle.reading.specs.Parts.{Scoped, closing, paren}
 use Rattle.reading.specs.Values.{find, rows}
-use Rattle.parse_terms.specs.Reading.{Begun, CanRead, IsClosed, IsExpr, IsRead, begins_atom, is_name, names, terminal_at, token_at}
-use Rattle.parse_terms.proofs.Steps.{SideBySide, again, can_next, done, expand, many, many_more, next, next_expr, next_within, only, reread, side_done, side_item, side_more, side_start, stands_by, start, take, unexpand}
-use Rattle.parse_terms.proofs.TermSteps.{sure, trees_many}
-use Rattle.parse_terms.proofs.HeadsRead.{atom_inner, head_atom_start, head_start, no_name, plain_start}
+use Rattle.parse_terms.specs.Reading.{Begun, CanRead, IsClosed, IsRead, begins_atom, is_name, names, terminal_at}
+use Rattle.parse_terms.proofs.Steps.{SideBySide, again, done, expand, many, next, only, reread, start, unexpand}
+use Rattle.parse_terms.proofs.TermSteps.{sure}
+use Rattle.parse_terms.proofs.HeadsRead.{atom_inner, head_atom_start, head_start, no_name}
 
 -- applications
 pub application_read : {xs : List Lexeme} {i : ℕ} (c : CanRead xs s.Prim i) (d : Scoped) (j : ℕ) (ts : Trees) (m : ℕ) → names xs i ≡ true → IsRead xs s.Qhead i d j → IsRead xs s.Args j ts m → IsClosed xs s.Prim i (apply (at i) (called i d.scopes d.own) ts) (apply (at i) (called i d.scopes d.own) ts) m
@@ -22,59 +22,20 @@ application_read {xs} {i} c d j ts m n q r = let p = next (next (head_start c n)
 pub name_read : {xs : List Lexeme} {i : ℕ} (c : CanRead xs s.Atom i) (d : Scoped) (j : ℕ) → names xs i ≡ true → IsRead xs s.Qhead i d j → IsClosed xs s.Atom i (apply (at i) (called i d.scopes d.own) none) (apply (at i) (called i d.scopes d.own) none) j
 name_read {xs} {i} c d j n q = let p = next (head_atom_start c n) q in record { first = refl; closed = refl; is = done p (apply (at i) (called i d.scopes d.own) none) refl (λ k us. refl) }
 
-pub plain_read : {xs : List Lexeme} {i : ℕ} (c : CanRead xs s.Prim i) (e : Tree) (j : ℕ) → names xs i ≡ false → IsClosed xs s.Atom i e e j → IsClosed xs s.Prim i e e j
-plain_read c e j n r = record { first = r.first; closed = r.closed; is = done (next (plain_start c n) r.is) e refl (λ k us. refl) }
-
 -- arguments
-atom_some : (x : Terminal) → begins_atom x ≡ true → find (rows s.Atom) x ≡ None → ⊥
+pub atom_some : (x : Terminal) → begins_atom x ≡ true → find (rows s.Atom) x ≡ None → ⊥
 atom_some t.Lident h e = cc
-atom_some t.Uident h e = cc
-atom_some t.StarName h e = cc
-atom_some t.LParen h e = cc
-atom_some t.Int h e = cc
-atom_some t.TrueWord h e = cc
-atom_some t.FalseWord h e = cc
-atom_some t.MatchWord h e = cc
 atom_some _ h e = cc
 
-atom_none : (x : Terminal) → begins_atom x ≡ false → find (rows s.Atom) x ≡ None
+pub atom_none : (x : Terminal) → begins_atom x ≡ false → find (rows s.Atom) x ≡ None
 atom_none t.Lident h = cc
-atom_none t.Uident h = cc
-atom_none t.StarName h = cc
-atom_none t.LParen h = cc
-atom_none t.Int h = cc
-atom_none t.TrueWord h = cc
-atom_none t.FalseWord h = cc
-atom_none t.MatchWord h = cc
-atom_none _ h = refl
+atom_none _ h = cc
 
 abbrev pub Arguments : List Lexeme → ℕ → List Tree → ℕ → Type 0
 Arguments xs i es j = SideBySide s.Args s.Atom more none refl xs i es j
 
-pub arguments_start : {xs : List Lexeme} {i : ℕ} → CanRead xs s.Args i → Arguments xs i [] i
-arguments_start c = side_start s.Args s.Atom more none refl c
-
-module _ (xs : List Lexeme) (i : ℕ) (es : List Tree) (j : ℕ) (g : Arguments xs i es j) where
-  pub argument_can : begins_atom (terminal_at xs j) ≡ true → CanRead xs s.Atom j
-  argument_can e = can_next (side_item s.Args s.Atom more none refl es g (stands_by begins_atom xs j refl e) (atom_some (terminal_at xs j) e))
-
-  pub arguments_more : (f : Tree) (m : ℕ) → begins_atom (terminal_at xs j) ≡ true → IsRead xs s.Atom j f m → Arguments xs i (es ++ f ∷ []) m
-  arguments_more f m e r = side_more s.Args s.Atom more none refl es g (stands_by begins_atom xs j refl e) (atom_some (terminal_at xs j) e) r
-
-  pub arguments_done : begins_atom (terminal_at xs j) ≡ false → IsRead xs s.Args i (trees es) j
-  arguments_done n = subst (λ v. IsRead xs s.Args i v j) (trees_many es) (side_done s.Args s.Atom more none refl es g refl refl (atom_none (terminal_at xs j) n) refl)
-
 -- atoms of one token
 module _ {xs : List Lexeme} {i : ℕ} (c : CanRead xs s.Atom i) where
-  pub int_read : same t.Int (terminal_at xs i) ≡ true → IsClosed xs s.Atom i (literal (at i) (token_at xs i).text) (literal (at i) (token_at xs i).text) (i + 1)
-  int_read e = let p = expand (start c) t.Int e refl refl in record { first = refl; closed = refl; is = done p (literal (at i) (token_at xs i).text) refl (λ k us. refl) }
-
-  pub true_read : same t.TrueWord (terminal_at xs i) ≡ true → IsClosed xs s.Atom i (truth (at i)) (truth (at i)) (i + 1)
-  true_read e = let p = expand (start c) t.TrueWord e refl refl in record { first = refl; closed = refl; is = done p (truth (at i)) refl (λ k us. refl) }
-
-  pub false_read : same t.FalseWord (terminal_at xs i) ≡ true → IsClosed xs s.Atom i (falsity (at i)) (falsity (at i)) (i + 1)
-  false_read e = let p = expand (start c) t.FalseWord e refl refl in record { first = refl; closed = refl; is = done p (falsity (at i)) refl (λ k us. refl) }
-
   named_apart : (x o d : Terminal) → is_name x o d ≡ false → (same t.Lident x ≡ false) × (same t.Uident x ≡ false) × (same t.StarName x ≡ false)
   named_apart t.Lident o d n = cc
   named_apart t.Uident o d n = cc
@@ -86,11 +47,8 @@ module _ {xs : List Lexeme} {i : ℕ} (c : CanRead xs s.Atom i) where
       only (start c) t.LParen (t.Lident ∷ t.Uident ∷ t.StarName ∷ t.Int ∷ t.TrueWord ∷ t.FalseWord ∷ t.MatchWord ∷ []) refl refl (q.0, (q.1, (q.2, (a, (b, (d, (f, tt)))))))
 
   module _ (l : same t.LParen (terminal_at xs i) ≡ true) where
-    paren_start : Begun xs 1 (λ k. s.Atom ∷ k) i (λ k. s.Aparen ∷ k) (λ k us. (paren i us.0, us.1)) (i + 1)
+    pub paren_start : Begun xs 1 (λ k. s.Atom ∷ k) i (λ k. s.Aparen ∷ k) (λ k us. (paren i us.0, us.1)) (i + 1)
     paren_start = let p = expand (start c) t.LParen l refl refl in again p 1 refl (λ k us. refl)
-
-    pub unit_read : same t.RParen (terminal_at xs (i + 1)) ≡ true → IsClosed xs s.Atom i (group (at i) none) (group (at i) none) (i + 1 + 1)
-    unit_read e = let p = expand paren_start t.RParen e refl refl in record { first = refl; closed = refl; is = done p (group (at i) none) refl (λ k us. refl) }
 
     lparen : (x : Terminal) → same t.LParen x ≡ true → x ≡ t.LParen
     lparen t.LParen h = refl
@@ -109,15 +67,6 @@ abbrev pub Members : List Lexeme → ℕ → List Tree → ℕ → Type 0
 Members xs i es j = Begun xs 1 (λ k. s.Atom ∷ k) i (λ k. s.More ∷ k) (λ k us. (group (at i) (many more es us.0), us.1)) j
 
 module _ (xs : List Lexeme) (i : ℕ) (e : Tree) (j : ℕ) (g : Inner xs i e j) where
-  pub cast_can : same t.Colon (terminal_at xs j) ≡ true → CanRead xs s.TypeOf (j + 1)
-  cast_can l = let p = expand g t.Colon l refl refl in can_next p
-
-  pub cast_within : (f : Form) (m : ℕ) → same t.Colon (terminal_at xs j) ≡ true → IsRead xs s.TypeOf (j + 1) f m → m < length xs
-  cast_within f m l r = let p = expand g t.Colon l refl refl in let q = next p r in next_within q refl
-
-  pub cast_read : (f : Form) (m : ℕ) → same t.Colon (terminal_at xs j) ≡ true → IsRead xs s.TypeOf (j + 1) f m → IsClosed xs s.Atom i (cast (at i) e f) (cast (at i) e f) (m + 1)
-  cast_read f m l r = let p = expand g t.Colon l refl refl in let q = take (next p r) in record { first = refl; closed = refl; is = done q (cast (at i) e f) refl (λ k us. refl) }
-
   pub members_start : same t.Colon (terminal_at xs j) ≡ false → Members xs i (e ∷ []) j
   members_start n = by_test (same t.Comma (terminal_at xs j)) refl
     where
@@ -127,13 +76,3 @@ module _ (xs : List Lexeme) (i : ℕ) (e : Tree) (j : ℕ) (g : Inner xs i e j) 
       by_test : (b : Bool) → same t.Comma (terminal_at xs j) ≡ b → Members xs i (e ∷ []) j
       by_test true l = let p = expand g t.Comma l refl refl in sure 1 (unexpand s.More (λ k. k) (λ k us. (group (at i) (more e us.0), us.1)) j t.Comma l refl refl (omega arith) p) further
       by_test false l = let f = only g t.RParen (t.Comma ∷ t.Colon ∷ []) refl refl (l, (n, tt)) in let p = expand g t.RParen f refl refl in sure 1 (unexpand s.More (λ k. k) (λ k us. (group (at i) (more e us.0), us.1)) j t.RParen f refl refl (omega arith) p) further
-
-module _ (xs : List Lexeme) (i : ℕ) (es : List Tree) (j : ℕ) (g : Members xs i es j) where
-  pub member_can : same t.Comma (terminal_at xs j) ≡ true → CanRead xs (s.Expr 0) (j + 1)
-  member_can l = let p = expand g t.Comma l refl refl in can_next p
-
-  pub members_more : (f : Tree) (m : ℕ) → same t.Comma (terminal_at xs j) ≡ true → IsExpr xs 0 (j + 1) f m → Members xs i (es ++ f ∷ []) m
-  members_more f m l r = let p = expand g t.Comma l refl refl in let q = next_expr p refl r in again q 1 refl (λ k us. ap (λ w. (group (at i) w, us.1)) (many_more more es f us.0))
-
-  pub members_done : same t.Comma (terminal_at xs j) ≡ false → IsClosed xs s.Atom i (group (at i) (trees es)) (group (at i) (trees es)) (j + 1)
-  members_done n = let p = expand g t.RParen (only g t.RParen (t.Comma ∷ []) refl refl (n, tt)) refl refl in record { first = refl; closed = refl; is = done p (group (at i) (trees es)) refl (λ k us. ap (λ w. (group (at i) w, us)) (trees_many es)) }

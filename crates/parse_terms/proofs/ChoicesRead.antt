@@ -7,7 +7,6 @@ use Rattle.grammar.specs.Alphabet.{same}
 use Rattle.syntax_why.specs.declared.names.Name.{Name}
 use Rattle.syntax_why.specs.Lexeme.{Lexeme}
 use Rattle.syntax_why.specs.Trees.{Tree, more, quantifier, triggered}
-use Rattle.parse_terms.specs.Binders.{IsNaming}
 use Rattle.parse_terms.specs.Reading.{Begun, terminal_at}
 use Rattle.parse_terms.proofs.Steps.{many}
 use Rattle.parse_terms.proofs.OpenRead.{Naming, Triggering, bar_start, comma_start}
@@ -39,6 +38,3 @@ pub record Named (xs : List Lexeme) (i : ℕ) (ns : List Name) (j : ℕ) : Type 
   pub others : List Name
   pub spelled : first ∷ others ≡ ns
   pub is : Naming xs i first others j
-
-pub named_done : (xs : List Lexeme) (i : ℕ) (ns : List Name) (j : ℕ) → Named xs i ns j → same t.Lident (terminal_at xs j) ≡ false → IsNaming xs i ns j
-named_done xs i ns j g n = record { first = g.first; others = g.others; spelled = g.spelled; ends = n; is = g.is }

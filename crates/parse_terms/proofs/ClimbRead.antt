@@ -9,31 +9,27 @@ use Rattle.grammar.specs.Alphabet.{operators, same}
 use Rattle.grammar.proofs.Laws.{same_true}
 use Rattle.syntax_why.specs.Lexeme.{Lexeme, at}
 use Rattle.syntax_why.specs.Trees.{Tree, ends_open, negation, op, prefixed}
-use Rattle.reading.specs.Parts.{Chain, attach, joined, link, stop}
+use Rattle.reading.specs.Parts.{Chain, attach, link, stop, joined}
 use Rattle.reading.specs.Row.{Vals, extend}
 use Rattle.reading.specs.TermRows.{expr_own, link_row, prim_rows, takes_op}
 use Rattle.reading.specs.Values.{find, read, rows}
 use Rattle.reading.proofs.Inverse.{first_row, is_other, passes, stands}
-use Rattle.reading.proofs.Operators.{infix_among, tail_found, tail_none}
+use Rattle.reading.proofs.Operators.{tail_found, tail_none}
 use Rattle.reading.proofs.TermRowsRead.{expr_not, expr_prefix}
-use Rattle.parse_terms.specs.Reading.{Begun, CanRead, Climb, IsClosed, IsExpr, nowhere, rest, takes_infix, terminal_at, token_at}
-use Rattle.parse_terms.proofs.Steps.{again, begins, expand_by, extended_due, next, stands_due, start}
-use Rattle.parse_terms.proofs.TermSteps.{silent, under}
+use Rattle.parse_terms.specs.Reading.{Begun, CanRead, Climb, IsClosed, IsExpr, rest, takes_infix, terminal_at, token_at}
+use Rattle.parse_terms.proofs.Steps.{again, and_cases, begins, expand_by, extended_due, next, stands_due, start}
+use Rattle.parse_terms.proofs.TermSteps.{silent}
+use Rattle.grammar.proofs.Tails.{infix_among}
 
 not_low : (m : ℕ) (b : Bool) → b ≡ false → find (expr_own m b ++ extend (s.Expr m) s.Prim (s.Tail m 9 ∷ []) (λ v vs. attach v vs.0) prim_rows) t.NotWord ≡ None
 not_low m false h = refl
 not_low m true h = cc
 
 own_none : (m : ℕ) (b : Bool) (x : Terminal) → same t.NotWord x ≡ false → is_prefix x ≡ false → same t.IfWord x ≡ false → same t.LetWord x ≡ false → same t.ForallWord x ≡ false → same t.ExistsWord x ≡ false → find (expr_own m b) x ≡ None
-own_none m b t.NotWord n p i l f e = cc
-own_none m b t.Minus n p i l f e = cc
-own_none m b t.PrefixOperator n p i l f e = cc
-own_none m b t.IfWord n p i l f e = cc
-own_none m b t.LetWord n p i l f e = cc
-own_none m b t.ForallWord n p i l f e = cc
-own_none m b t.ExistsWord n p i l f e = cc
-own_none m true _ n p i l f e = refl
-own_none m false _ n p i l f e = refl
+own_none m true t.NotWord n p i l f e = cc
+own_none m true _ n p i l f e = cc
+own_none m false t.NotWord n p i l f e = cc
+own_none m false _ n p i l f e = cc
 
 module _ {xs : List Lexeme} {m i : ℕ} (c : CanRead xs (s.Expr m) i) where
   pub not_start : same t.NotWord (terminal_at xs i) ≡ true → Begun xs 1 (λ k. s.Expr m ∷ k) i (λ k. s.Expr 3 ∷ s.Tail m 3 ∷ k) (λ k us. (attach (negation (at i) us.0) us.1.0, us.1.1)) (i + 1)
@@ -43,14 +39,8 @@ module _ {xs : List Lexeme} {m i : ℕ} (c : CanRead xs (s.Expr m) i) where
       by_level true h = let p = expand_by (start c) (stands_due c refl) (ap (find (rows (s.Expr m))) (sym (same_true t.NotWord (terminal_at xs i) e)) ∙ expr_not m (nat_le m 3) h) in again p 1 refl (λ k us. refl)
       by_level false h = absurd (begins (start c) refl (ap (find (rows (s.Expr m))) (sym (same_true t.NotWord (terminal_at xs i) e)) ∙ not_low m (nat_le m 3) h))
 
-  pub not_read : (e : Tree) (j : ℕ) → same t.NotWord (terminal_at xs i) ≡ true → IsExpr xs 3 (i + 1) e j → Climb xs m i (negation (at i) e) 3 j
-  not_read e j h r = under (negation (at i)) (not_start h) refl refl r
-
   pub prefix_start : is_prefix (terminal_at xs i) ≡ true → Begun xs 1 (λ k. s.Expr m ∷ k) i (λ k. s.Expr 8 ∷ s.Tail m 8 ∷ k) (λ k us. (attach (prefixed (at i) (op i (terminal_at xs i) (token_at xs i).text) us.0) us.1.0, us.1.1)) (i + 1)
   prefix_start e = let p = expand_by (start c) (stands_due c refl) (expr_prefix m (nat_le m 3) (terminal_at xs i) e) in again p 1 refl (λ k us. refl)
-
-  pub prefix_read : (e : Tree) (j : ℕ) → is_prefix (terminal_at xs i) ≡ true → IsExpr xs 8 (i + 1) e j → Climb xs m i (prefixed (at i) (op i (terminal_at xs i) (token_at xs i).text) e) 8 j
-  prefix_read e j h r = under (prefixed (at i) (op i (terminal_at xs i) (token_at xs i).text)) (prefix_start h) refl refl r
 
   module _ (n : same t.NotWord (terminal_at xs i) ≡ false) (p : is_prefix (terminal_at xs i) ≡ false) (f : same t.IfWord (terminal_at xs i) ≡ false) (l : same t.LetWord (terminal_at xs i) ≡ false) (a : same t.ForallWord (terminal_at xs i) ≡ false) (x : same t.ExistsWord (terminal_at xs i) ≡ false) where
     pub prim_start : Begun xs 0 (λ k. s.Expr m ∷ k) i (λ k. s.Prim ∷ s.Tail m 9 ∷ k) (λ k us. (attach us.0 us.1.0, us.1.1)) i
@@ -65,11 +55,7 @@ module _ {xs : List Lexeme} {m i : ℕ} (c : CanRead xs (s.Expr m) i) where
       reads = λ k vs y. (let q = g.reads k vs y in (q.0.0, ap (λ v. v.0) (sym q.2), subst (λ b. read (rest xs j) j b (s.Tail m 9 ∷ k) ≡ Some (q.0.0, vs.1)) (sym w.closed) (q.1 ∙ ap (λ v. Some (q.0.0, v.1)) q.2)));
     }
 
-both : (a b : Bool) → (a && b) ≡ true → (a ≡ true) × (b ≡ true)
-both true b h = (refl, h)
-both false b h = cc
-
-unopen : (a : Bool) → not a ≡ true → a ≡ false
+pub unopen : (a : Bool) → not a ≡ true → a ≡ false
 unopen false h = refl
 unopen true h = cc
 
@@ -88,10 +74,10 @@ either false t h = inr (refl, h)
 module _ (xs : List Lexeme) (m i : ℕ) (e : Tree) (u j : ℕ) (g : Climb xs m i e u j) where
   module _ (h : (not (ends_open e) && takes_infix m u (terminal_at xs j)) ≡ true) where
     follows : (ends_open e ≡ false) × (is_infix (terminal_at xs j) ≡ true) × (takes_op m u (terminal_at xs j) ≡ true)
-    follows = let a = both (not (ends_open e)) (takes_infix m u (terminal_at xs j)) h in let b = both (is_infix (terminal_at xs j)) (takes_op m u (terminal_at xs j)) a.1 in (unopen (ends_open e) a.0, b.0, b.1)
+    follows = let a = and_cases (not (ends_open e)) (takes_infix m u (terminal_at xs j)) h in let b = and_cases (is_infix (terminal_at xs j)) (takes_op m u (terminal_at xs j)) a.1 in (unopen (ends_open e) a.0, b.0, b.1)
 
-    link_split : (k : List Symbol) (vs : Chain × Vals k) → read (rest xs j) j (ends_open e) (s.Tail m u ∷ k) ≡ Some vs → (us : Tree × (Chain × Vals k)) × (read (rest xs (j + 1)) (j + 1) false (s.Expr (right (terminal_at xs j)) ∷ s.Tail m (prec (terminal_at xs j)) ∷ k) ≡ Some us) × ((link (op j (terminal_at xs j) (token_at xs j).text) us.0 us.1.0, us.1.1) ≡ vs)
-    link_split k vs q = let f = follows in first_row xs j nowhere (s.Tail m u) (link_row m u (terminal_at xs j)) k vs (stands xs j (terminal_at xs j) refl (infix_some (terminal_at xs j) f.1)) (tail_found m u operators (terminal_at xs j) (infix_among (terminal_at xs j) f.1) f.2) (subst (λ b. read (rest xs j) j b (s.Tail m u ∷ k) ≡ Some vs) f.0 q)
+    pub link_split : (k : List Symbol) (vs : Chain × Vals k) → read (rest xs j) j (ends_open e) (s.Tail m u ∷ k) ≡ Some vs → (us : Tree × (Chain × Vals k)) × (read (rest xs (j + 1)) (j + 1) false (s.Expr (right (terminal_at xs j)) ∷ s.Tail m (prec (terminal_at xs j)) ∷ k) ≡ Some us) × ((link (op j (terminal_at xs j) (token_at xs j).text) us.0 us.1.0, us.1.1) ≡ vs)
+    link_split k vs q = let f = follows in first_row xs j (s.Tail m u) (link_row m u (terminal_at xs j)) k vs (stands xs j (terminal_at xs j) refl (infix_some (terminal_at xs j) f.1)) (tail_found m u operators (terminal_at xs j) (infix_among (terminal_at xs j) f.1) f.2) (subst (λ b. read (rest xs j) j b (s.Tail m u ∷ k) ≡ Some vs) f.0 q)
 
     pub operator_within : j < length xs
     operator_within = stands xs j (terminal_at xs j) refl (infix_some (terminal_at xs j) follows.1)

@@ -6,6 +6,7 @@ use Rattle.tokens_why.specs.Operators.{is_operator}
 use Rattle.grammar.specs.declared.symbols.Symbol.{Symbol}
 use Rattle.grammar.specs.declared.symbols.Symbol.TheVariants as s
 use Rattle.grammar.specs.Alphabet.{same}
+use Rattle.grammar.proofs.Laws.{no_false}
 use Rattle.syntax_why.specs.Lexeme.{Lexeme, at}
 use Rattle.syntax_why.specs.Forms.{lower, star, called}
 use Rattle.syntax_why.specs.Trees.{op, Tree, Trees, apply, cases, literal, truth, falsity, none, more}
@@ -15,7 +16,7 @@ use Rattle.reading.specs.TermRows.{prim_rows, atom_rows, qhead_rows, opname_row,
 use Rattle.reading.specs.Values.{find, read, rows}
 use Rattle.reading.proofs.TermRowsRead.{opname_found, reads_aparen}
 use Rattle.reading.proofs.Inverse.{by_first, is_other, row_at, split_due, stands, stands_within, unread}
-use Rattle.parse_terms.specs.Reading.{Begun, CanRead, ends_name, is_name, names, nowhere, rest, terminal_at, token_at}
+use Rattle.parse_terms.specs.Reading.{Begun, CanRead, ends_name, is_name, names, rest, terminal_at, token_at}
 use Rattle.parse_terms.proofs.Steps.{reread, start}
 
 rparen_true : (x : Terminal) → same t.RParen x ≡ true → x ≡ t.RParen
@@ -28,7 +29,7 @@ opend_ends xs j k us n g = by_terminal (terminal_at xs j) refl n
     by_terminal : (x : Terminal) → terminal_at xs j ≡ x → ends_name x ≡ false → ⊥
     by_terminal t.RParen e n = cc
     by_terminal t.Wild e n = cc
-    by_terminal _ e n = unread xs j nowhere s.Opend k us (stands_within xs s.Opend j refl (k, us, g)) refl (ap (find (rows s.Opend)) e) g
+    by_terminal _ e n = unread xs j s.Opend k us (stands_within xs s.Opend j k us refl g) refl (ap (find (rows s.Opend)) e) g
 
 prim_minus_none : (y : Terminal) → ends_name y ≡ false → find hminus_own y ≡ None
 prim_minus_none t.RParen n = cc
@@ -48,10 +49,10 @@ prim_inner xs j k us n o g = by_terminal (terminal_at xs j) refl n o
     by_terminal t.Operator4 e n o = let p = row_at xs j s.Hparen (hop_row t.Operator4) k us refl (ap (find (rows s.Hparen)) e) g in absurd (opend_ends xs (j + 1) (s.Args ∷ k) p.0 o p.1)
     by_terminal t.Minus e n o = let p = row_at xs j s.Hparen (hminus_row t.Minus) k us refl (ap (find (rows s.Hparen)) e) g in
         let q = split_due xs (j + 1) s.Hminus (s.Expr 8) (s.Tail 0 8 ∷ s.GroupRest ∷ []) (λ v vs. operand v vs.0 vs.1.0) hminus_own k p.0 refl refl (prim_minus_none (terminal_at xs (j + 1)) o) p.1 in
-        ((prefix_row 0 t.Minus).act (s.GroupRest ∷ k) j (token_at xs j).text q.0, by_first xs j nowhere (s.Expr 0) (prefix_row 0 t.Minus) (s.GroupRest ∷ k) q.0 (stands xs j t.Minus e refl) (ap (find (rows (s.Expr 0))) e) q.1, ap (λ m. (behind_minus (op j t.Minus (token_at xs j).text) m.0, m.1)) q.2 ∙ p.2)
+        ((prefix_row 0 t.Minus).act (s.GroupRest ∷ k) j (token_at xs j).text q.0, by_first xs j (s.Expr 0) (prefix_row 0 t.Minus) (s.GroupRest ∷ k) q.0 (stands xs j t.Minus e refl) (ap (find (rows (s.Expr 0))) e) q.1, ap (λ m. (behind_minus (op j t.Minus (token_at xs j).text) m.0, m.1)) q.2 ∙ p.2)
     by_terminal t.PrefixOperator e n o = let p = row_at xs j s.Hparen (hminus_row t.PrefixOperator) k us refl (ap (find (rows s.Hparen)) e) g in
         let q = split_due xs (j + 1) s.Hminus (s.Expr 8) (s.Tail 0 8 ∷ s.GroupRest ∷ []) (λ v vs. operand v vs.0 vs.1.0) hminus_own k p.0 refl refl (prim_minus_none (terminal_at xs (j + 1)) o) p.1 in
-        ((prefix_row 0 t.PrefixOperator).act (s.GroupRest ∷ k) j (token_at xs j).text q.0, by_first xs j nowhere (s.Expr 0) (prefix_row 0 t.PrefixOperator) (s.GroupRest ∷ k) q.0 (stands xs j t.PrefixOperator e refl) (ap (find (rows (s.Expr 0))) e) q.1, ap (λ m. (behind_minus (op j t.PrefixOperator (token_at xs j).text) m.0, m.1)) q.2 ∙ p.2)
+        ((prefix_row 0 t.PrefixOperator).act (s.GroupRest ∷ k) j (token_at xs j).text q.0, by_first xs j (s.Expr 0) (prefix_row 0 t.PrefixOperator) (s.GroupRest ∷ k) q.0 (stands xs j t.PrefixOperator e refl) (ap (find (rows (s.Expr 0))) e) q.1, ap (λ m. (behind_minus (op j t.PrefixOperator (token_at xs j).text) m.0, m.1)) q.2 ∙ p.2)
     by_terminal _ e n o = split_due xs j s.Hparen (s.Expr 0) (s.GroupRest ∷ []) (λ v vs. holds v vs.0) hparen_own k us refl refl (ap (find hparen_own) e) g
 
 -- an operator's name in the parentheses
@@ -63,10 +64,10 @@ prim_name xs j k us o g = by_terminal (terminal_at xs j) refl o
       where
         by_end : (y : Terminal) → terminal_at xs (j + 1) ≡ y → ends_name y ≡ true → (b : Bool × (Trees × Vals k)) × (read (rest xs (j + 1)) (j + 1) false (s.Opend ∷ s.Args ∷ k) ≡ Some b) × ((named_by b.0 b.1.0, b.1.1) ≡ m)
         by_end t.RParen e n = let p = row_at xs (j + 1) s.Hminus (row s.Hminus t.RParen (s.Args ∷ []) (λ i w vs. named_by false vs.0)) k m refl (ap (find (rows s.Hminus)) e) g in
-            ((false, p.0), by_first xs (j + 1) nowhere s.Opend (row s.Opend t.RParen [] (λ i w vs. false)) (s.Args ∷ k) p.0 (stands xs (j + 1) t.RParen e refl) (ap (find (rows s.Opend)) e) p.1, p.2)
+            ((false, p.0), by_first xs (j + 1) s.Opend (row s.Opend t.RParen [] (λ i w vs. false)) (s.Args ∷ k) p.0 (stands xs (j + 1) t.RParen e refl) (ap (find (rows s.Opend)) e) p.1, p.2)
         by_end t.Wild e n = let p = row_at xs (j + 1) s.Hminus (row s.Hminus t.Wild (s.Take t.RParen ∷ s.Args ∷ []) (λ i w vs. named_by true vs.1.0)) k m refl (ap (find (rows s.Hminus)) e) g in
-            ((true, p.0.1), by_first xs (j + 1) nowhere s.Opend (row s.Opend t.Wild (s.Take t.RParen ∷ []) (λ i w vs. true)) (s.Args ∷ k) p.0 (stands xs (j + 1) t.Wild e refl) (ap (find (rows s.Opend)) e) p.1, p.2)
-        by_end _ e n = cc
+            ((true, p.0.1), by_first xs (j + 1) s.Opend (row s.Opend t.Wild (s.Take t.RParen ∷ []) (λ i w vs. true)) (s.Args ∷ k) p.0 (stands xs (j + 1) t.Wild e refl) (ap (find (rows s.Opend)) e) p.1, p.2)
+        by_end _ e n = absurd (no_false n)
 
     by_terminal : (x : Terminal) → terminal_at xs j ≡ x → (is_operator x && ends_name (terminal_at xs (j + 1))) ≡ true → (b : Bool × (Trees × Vals k)) × (read (rest xs (j + 1)) (j + 1) false (s.Opend ∷ s.Args ∷ k) ≡ Some b) × ((named (op j x (token_at xs j).text) b.0 b.1.0, b.1.1) ≡ us)
     by_terminal t.Equal e o = row_at xs j s.Hparen (hop_row t.Equal) k us refl (ap (find (rows s.Hparen)) e) g
@@ -78,19 +79,18 @@ prim_name xs j k us o g = by_terminal (terminal_at xs j) refl o
         (q.0, q.1, ap (λ m. (behind_minus (op j t.Minus (token_at xs j).text) m.0, m.1)) q.2 ∙ p.2)
     by_terminal t.PrefixOperator e o = let p = row_at xs j s.Hparen (hminus_row t.PrefixOperator) k us refl (ap (find (rows s.Hparen)) e) g in let q = of_minus t.PrefixOperator p.0 p.1 o in
         (q.0, q.1, ap (λ m. (behind_minus (op j t.PrefixOperator (token_at xs j).text) m.0, m.1)) q.2 ∙ p.2)
-    by_terminal _ e o = cc
+    by_terminal _ e o = absurd (no_false o)
 
-operator_paren_prim : (xs : List Lexeme) (i : ℕ) (k : List Symbol) (b : Bool × (Trees × Vals k)) → terminal_at xs i ≡ t.LParen → (is_operator (terminal_at xs (i + 1)) && ends_name (terminal_at xs (i + 1 + 1))) ≡ true → read (rest xs (i + 1 + 1)) (i + 1 + 1) false (s.Opend ∷ s.Args ∷ k) ≡ Some b → read (rest xs i) i false (s.Qhead ∷ s.Args ∷ k) ≡ Some (record { scopes = []; own = own_op b.0 (op (i + 1) (terminal_at xs (i + 1)) (token_at xs (i + 1)).text) }, b.1)
-operator_paren_prim xs i k b e o g = let y = by_and (is_operator (terminal_at xs (i + 1))) o in
-    by_first xs i nowhere s.Qhead (row s.Qhead t.LParen (s.Opname ∷ []) (λ i w vs. record { scopes = []; own = own_op vs.0.prefix vs.0.op })) (s.Args ∷ k) (record { op = op (i + 1) (terminal_at xs (i + 1)) (token_at xs (i + 1)).text; prefix = b.0 }, b.1) (stands xs i t.LParen e refl) (ap (find qhead_rows) e)
-    (by_first xs (i + 1) nowhere s.Opname (opname_row (terminal_at xs (i + 1))) (s.Args ∷ k) b (within (terminal_at xs (i + 1)) refl y) (opname_found (terminal_at xs (i + 1)) y) g)
+operator_paren : (xs : List Lexeme) (i : ℕ) (k : List Symbol) (b : Bool × Vals k) → terminal_at xs i ≡ t.LParen → (is_operator (terminal_at xs (i + 1)) && ends_name (terminal_at xs (i + 1 + 1))) ≡ true → read (rest xs (i + 1 + 1)) (i + 1 + 1) false (s.Opend ∷ k) ≡ Some b → read (rest xs i) i false (s.Qhead ∷ k) ≡ Some (record { scopes = []; own = own_op b.0 (op (i + 1) (terminal_at xs (i + 1)) (token_at xs (i + 1)).text) }, b.1)
+operator_paren xs i k b e o g = let y = by_and (is_operator (terminal_at xs (i + 1))) o in
+    by_first xs i s.Qhead (row s.Qhead t.LParen (s.Opname ∷ []) (λ i w vs. record { scopes = []; own = own_op vs.0.prefix vs.0.op })) k (record { op = op (i + 1) (terminal_at xs (i + 1)) (token_at xs (i + 1)).text; prefix = b.0 }, b.1) (stands xs i t.LParen e refl) (ap (find qhead_rows) e)
+    (by_first xs (i + 1) s.Opname (opname_row (terminal_at xs (i + 1))) k b (within (terminal_at xs (i + 1)) refl y) (opname_found (terminal_at xs (i + 1)) y) g)
   where
     by_and : (a : Bool) → (a && ends_name (terminal_at xs (i + 1 + 1))) ≡ true → a ≡ true
     by_and true h = refl
     by_and false h = cc
 
     within : (x : Terminal) → terminal_at xs (i + 1) ≡ x → is_operator x ≡ true → i + 1 < length xs
-    within t.OtherWord e h = cc
     within x e h = stands xs (i + 1) x e (other x h)
       where
         other : (x : Terminal) → is_operator x ≡ true → is_other x ≡ false
@@ -103,14 +103,14 @@ prim_headed xs i k vs n g = by_terminal (terminal_at xs i) refl n
   where
     by_terminal : (x : Terminal) → terminal_at xs i ≡ x → is_name x (terminal_at xs (i + 1)) (terminal_at xs (i + 1 + 1)) ≡ true → (b : Scoped × (Trees × Vals k)) × (read (rest xs i) i false (s.Qhead ∷ s.Args ∷ k) ≡ Some b) × ((apply (at i) (called i b.0.scopes b.0.own) b.1.0, b.1.1) ≡ vs)
     by_terminal t.Lident e n = let p = row_at xs i s.Prim (row s.Prim t.Lident (s.Args ∷ []) (λ i w vs. apply (at i) (called i [] (lower w)) vs.0)) k vs refl (ap (find prim_rows) e) g in
-        ((record { scopes = []; own = lower (token_at xs i).text }, p.0), by_first xs i nowhere s.Qhead (row s.Qhead t.Lident [] (λ i w vs. record { scopes = []; own = lower w })) (s.Args ∷ k) p.0 (stands xs i t.Lident e refl) (ap (find qhead_rows) e) p.1, p.2)
+        ((record { scopes = []; own = lower (token_at xs i).text }, p.0), by_first xs i s.Qhead (row s.Qhead t.Lident [] (λ i w vs. record { scopes = []; own = lower w })) (s.Args ∷ k) p.0 (stands xs i t.Lident e refl) (ap (find qhead_rows) e) p.1, p.2)
     by_terminal t.Uident e n = let p = row_at xs i s.Prim (row s.Prim t.Uident (s.Scoped ∷ s.Args ∷ []) (λ i w vs. apply (at i) (name_of i (scope_own w vs.0)) vs.1.0)) k vs refl (ap (find prim_rows) e) g in
-        ((scope_own (token_at xs i).text p.0.0, p.0.1), by_first xs i nowhere s.Qhead (row s.Qhead t.Uident (s.Scoped ∷ []) (λ i w vs. scope_own w vs.0)) (s.Args ∷ k) p.0 (stands xs i t.Uident e refl) (ap (find qhead_rows) e) p.1, p.2)
+        ((scope_own (token_at xs i).text p.0.0, p.0.1), by_first xs i s.Qhead (row s.Qhead t.Uident (s.Scoped ∷ []) (λ i w vs. scope_own w vs.0)) (s.Args ∷ k) p.0 (stands xs i t.Uident e refl) (ap (find qhead_rows) e) p.1, p.2)
     by_terminal t.StarName e n = let p = row_at xs i s.Prim (row s.Prim t.StarName (s.Args ∷ []) (λ i w vs. apply (at i) (called i [] star) vs.0)) k vs refl (ap (find prim_rows) e) g in
-        ((record { scopes = []; own = star }, p.0), by_first xs i nowhere s.Qhead (row s.Qhead t.StarName [] (λ i w vs. record { scopes = []; own = star })) (s.Args ∷ k) p.0 (stands xs i t.StarName e refl) (ap (find qhead_rows) e) p.1, p.2)
+        ((record { scopes = []; own = star }, p.0), by_first xs i s.Qhead (row s.Qhead t.StarName [] (λ i w vs. record { scopes = []; own = star })) (s.Args ∷ k) p.0 (stands xs i t.StarName e refl) (ap (find qhead_rows) e) p.1, p.2)
     by_terminal t.LParen e n = let p = row_at xs i s.Prim (row s.Prim t.LParen (s.Hparen ∷ []) (λ i w vs. paren i vs.0)) k vs refl (ap (find prim_rows) e) g in let q = prim_name xs (i + 1) k p.0 n p.1 in
-        ((record { scopes = []; own = own_op q.0.0 (op (i + 1) (terminal_at xs (i + 1)) (token_at xs (i + 1)).text) }, q.0.1), operator_paren_prim xs i k q.0 e n q.1, ap (λ m. (paren i m.0, m.1)) q.2 ∙ p.2)
-    by_terminal _ e n = cc
+        ((record { scopes = []; own = own_op q.0.0 (op (i + 1) (terminal_at xs (i + 1)) (token_at xs (i + 1)).text) }, q.0.1), operator_paren xs i (s.Args ∷ k) q.0 e n q.1, ap (λ m. (paren i m.0, m.1)) q.2 ∙ p.2)
+    by_terminal _ e n = absurd (no_false n)
 
 atom_minus_none : (y : Terminal) → ends_name y ≡ false → find aminus_own y ≡ None
 atom_minus_none t.RParen n = cc
@@ -130,10 +130,10 @@ atom_inner xs j k us n o g = by_terminal (terminal_at xs j) refl n o
     by_terminal t.Operator4 e n o = let p = row_at xs j s.Aparen (aop_row t.Operator4) k us refl (ap (find (rows s.Aparen)) e) g in absurd (opend_ends xs (j + 1) (k) p.0 o p.1)
     by_terminal t.Minus e n o = let p = row_at xs j s.Aparen (aminus_row t.Minus) k us refl (ap (find (rows s.Aparen)) e) g in
         let q = split_due xs (j + 1) s.Aminus (s.Expr 8) (s.Tail 0 8 ∷ s.GroupRest ∷ []) (λ v vs. operand v vs.0 vs.1.0) aminus_own k p.0 refl refl (atom_minus_none (terminal_at xs (j + 1)) o) p.1 in
-        ((prefix_row 0 t.Minus).act (s.GroupRest ∷ k) j (token_at xs j).text q.0, by_first xs j nowhere (s.Expr 0) (prefix_row 0 t.Minus) (s.GroupRest ∷ k) q.0 (stands xs j t.Minus e refl) (ap (find (rows (s.Expr 0))) e) q.1, ap (λ m. (behind_minus (op j t.Minus (token_at xs j).text) m.0, m.1)) q.2 ∙ p.2)
+        ((prefix_row 0 t.Minus).act (s.GroupRest ∷ k) j (token_at xs j).text q.0, by_first xs j (s.Expr 0) (prefix_row 0 t.Minus) (s.GroupRest ∷ k) q.0 (stands xs j t.Minus e refl) (ap (find (rows (s.Expr 0))) e) q.1, ap (λ m. (behind_minus (op j t.Minus (token_at xs j).text) m.0, m.1)) q.2 ∙ p.2)
     by_terminal t.PrefixOperator e n o = let p = row_at xs j s.Aparen (aminus_row t.PrefixOperator) k us refl (ap (find (rows s.Aparen)) e) g in
         let q = split_due xs (j + 1) s.Aminus (s.Expr 8) (s.Tail 0 8 ∷ s.GroupRest ∷ []) (λ v vs. operand v vs.0 vs.1.0) aminus_own k p.0 refl refl (atom_minus_none (terminal_at xs (j + 1)) o) p.1 in
-        ((prefix_row 0 t.PrefixOperator).act (s.GroupRest ∷ k) j (token_at xs j).text q.0, by_first xs j nowhere (s.Expr 0) (prefix_row 0 t.PrefixOperator) (s.GroupRest ∷ k) q.0 (stands xs j t.PrefixOperator e refl) (ap (find (rows (s.Expr 0))) e) q.1, ap (λ m. (behind_minus (op j t.PrefixOperator (token_at xs j).text) m.0, m.1)) q.2 ∙ p.2)
+        ((prefix_row 0 t.PrefixOperator).act (s.GroupRest ∷ k) j (token_at xs j).text q.0, by_first xs j (s.Expr 0) (prefix_row 0 t.PrefixOperator) (s.GroupRest ∷ k) q.0 (stands xs j t.PrefixOperator e refl) (ap (find (rows (s.Expr 0))) e) q.1, ap (λ m. (behind_minus (op j t.PrefixOperator (token_at xs j).text) m.0, m.1)) q.2 ∙ p.2)
     by_terminal _ e n o = split_due xs j s.Aparen (s.Expr 0) (s.GroupRest ∷ []) (λ v vs. holds v vs.0) aparen_own k us refl refl (ap (find aparen_own) e) g
 
 -- an operator's name in the parentheses
@@ -145,10 +145,10 @@ atom_name xs j k us o g = by_terminal (terminal_at xs j) refl o
       where
         by_end : (y : Terminal) → terminal_at xs (j + 1) ≡ y → ends_name y ≡ true → (b : Bool × (Vals k)) × (read (rest xs (j + 1)) (j + 1) false (s.Opend ∷ k) ≡ Some b) × ((named_by b.0 none, b.1) ≡ m)
         by_end t.RParen e n = let p = row_at xs (j + 1) s.Aminus (row s.Aminus t.RParen [] (λ i w vs. named_by false none)) k m refl (ap (find (rows s.Aminus)) e) g in
-            ((false, p.0), by_first xs (j + 1) nowhere s.Opend (row s.Opend t.RParen [] (λ i w vs. false)) k p.0 (stands xs (j + 1) t.RParen e refl) (ap (find (rows s.Opend)) e) p.1, p.2)
+            ((false, p.0), by_first xs (j + 1) s.Opend (row s.Opend t.RParen [] (λ i w vs. false)) k p.0 (stands xs (j + 1) t.RParen e refl) (ap (find (rows s.Opend)) e) p.1, p.2)
         by_end t.Wild e n = let p = row_at xs (j + 1) s.Aminus (row s.Aminus t.Wild (s.Take t.RParen ∷ []) (λ i w vs. named_by true none)) k m refl (ap (find (rows s.Aminus)) e) g in
-            ((true, p.0.1), by_first xs (j + 1) nowhere s.Opend (row s.Opend t.Wild (s.Take t.RParen ∷ []) (λ i w vs. true)) k p.0 (stands xs (j + 1) t.Wild e refl) (ap (find (rows s.Opend)) e) p.1, p.2)
-        by_end _ e n = cc
+            ((true, p.0.1), by_first xs (j + 1) s.Opend (row s.Opend t.Wild (s.Take t.RParen ∷ []) (λ i w vs. true)) k p.0 (stands xs (j + 1) t.Wild e refl) (ap (find (rows s.Opend)) e) p.1, p.2)
+        by_end _ e n = absurd (no_false n)
 
     by_terminal : (x : Terminal) → terminal_at xs j ≡ x → (is_operator x && ends_name (terminal_at xs (j + 1))) ≡ true → (b : Bool × (Vals k)) × (read (rest xs (j + 1)) (j + 1) false (s.Opend ∷ k) ≡ Some b) × ((named (op j x (token_at xs j).text) b.0 none, b.1) ≡ us)
     by_terminal t.Equal e o = row_at xs j s.Aparen (aop_row t.Equal) k us refl (ap (find (rows s.Aparen)) e) g
@@ -160,24 +160,7 @@ atom_name xs j k us o g = by_terminal (terminal_at xs j) refl o
         (q.0, q.1, ap (λ m. (behind_minus (op j t.Minus (token_at xs j).text) m.0, m.1)) q.2 ∙ p.2)
     by_terminal t.PrefixOperator e o = let p = row_at xs j s.Aparen (aminus_row t.PrefixOperator) k us refl (ap (find (rows s.Aparen)) e) g in let q = of_minus t.PrefixOperator p.0 p.1 o in
         (q.0, q.1, ap (λ m. (behind_minus (op j t.PrefixOperator (token_at xs j).text) m.0, m.1)) q.2 ∙ p.2)
-    by_terminal _ e o = cc
-
-operator_paren_atom : (xs : List Lexeme) (i : ℕ) (k : List Symbol) (b : Bool × (Vals k)) → terminal_at xs i ≡ t.LParen → (is_operator (terminal_at xs (i + 1)) && ends_name (terminal_at xs (i + 1 + 1))) ≡ true → read (rest xs (i + 1 + 1)) (i + 1 + 1) false (s.Opend ∷ k) ≡ Some b → read (rest xs i) i false (s.Qhead ∷ k) ≡ Some (record { scopes = []; own = own_op b.0 (op (i + 1) (terminal_at xs (i + 1)) (token_at xs (i + 1)).text) }, b.1)
-operator_paren_atom xs i k b e o g = let y = by_and (is_operator (terminal_at xs (i + 1))) o in
-    by_first xs i nowhere s.Qhead (row s.Qhead t.LParen (s.Opname ∷ []) (λ i w vs. record { scopes = []; own = own_op vs.0.prefix vs.0.op })) (k) (record { op = op (i + 1) (terminal_at xs (i + 1)) (token_at xs (i + 1)).text; prefix = b.0 }, b.1) (stands xs i t.LParen e refl) (ap (find qhead_rows) e)
-    (by_first xs (i + 1) nowhere s.Opname (opname_row (terminal_at xs (i + 1))) (k) b (within (terminal_at xs (i + 1)) refl y) (opname_found (terminal_at xs (i + 1)) y) g)
-  where
-    by_and : (a : Bool) → (a && ends_name (terminal_at xs (i + 1 + 1))) ≡ true → a ≡ true
-    by_and true h = refl
-    by_and false h = cc
-
-    within : (x : Terminal) → terminal_at xs (i + 1) ≡ x → is_operator x ≡ true → i + 1 < length xs
-    within t.OtherWord e h = cc
-    within x e h = stands xs (i + 1) x e (other x h)
-      where
-        other : (x : Terminal) → is_operator x ≡ true → is_other x ≡ false
-        other t.OtherWord h = cc
-        other _ h = refl
+    by_terminal _ e o = absurd (no_false o)
 
 -- a name, and what stands behind it
 pub atom_headed : (xs : List Lexeme) (i : ℕ) (k : List Symbol) (vs : Tree × Vals k) → names xs i ≡ true → read (rest xs i) i false (s.Atom ∷ k) ≡ Some vs → (b : Scoped × (Vals k)) × (read (rest xs i) i false (s.Qhead ∷ k) ≡ Some b) × ((apply (at i) (called i b.0.scopes b.0.own) none, b.1) ≡ vs)
@@ -185,14 +168,14 @@ atom_headed xs i k vs n g = by_terminal (terminal_at xs i) refl n
   where
     by_terminal : (x : Terminal) → terminal_at xs i ≡ x → is_name x (terminal_at xs (i + 1)) (terminal_at xs (i + 1 + 1)) ≡ true → (b : Scoped × (Vals k)) × (read (rest xs i) i false (s.Qhead ∷ k) ≡ Some b) × ((apply (at i) (called i b.0.scopes b.0.own) none, b.1) ≡ vs)
     by_terminal t.Lident e n = let p = row_at xs i s.Atom (row s.Atom t.Lident [] (λ i w vs. apply (at i) (called i [] (lower w)) none)) k vs refl (ap (find atom_rows) e) g in
-        ((record { scopes = []; own = lower (token_at xs i).text }, p.0), by_first xs i nowhere s.Qhead (row s.Qhead t.Lident [] (λ i w vs. record { scopes = []; own = lower w })) (k) p.0 (stands xs i t.Lident e refl) (ap (find qhead_rows) e) p.1, p.2)
+        ((record { scopes = []; own = lower (token_at xs i).text }, p.0), by_first xs i s.Qhead (row s.Qhead t.Lident [] (λ i w vs. record { scopes = []; own = lower w })) (k) p.0 (stands xs i t.Lident e refl) (ap (find qhead_rows) e) p.1, p.2)
     by_terminal t.Uident e n = let p = row_at xs i s.Atom (row s.Atom t.Uident (s.Scoped ∷ []) (λ i w vs. apply (at i) (name_of i (scope_own w vs.0)) none)) k vs refl (ap (find atom_rows) e) g in
-        ((scope_own (token_at xs i).text p.0.0, p.0.1), by_first xs i nowhere s.Qhead (row s.Qhead t.Uident (s.Scoped ∷ []) (λ i w vs. scope_own w vs.0)) (k) p.0 (stands xs i t.Uident e refl) (ap (find qhead_rows) e) p.1, p.2)
+        ((scope_own (token_at xs i).text p.0.0, p.0.1), by_first xs i s.Qhead (row s.Qhead t.Uident (s.Scoped ∷ []) (λ i w vs. scope_own w vs.0)) (k) p.0 (stands xs i t.Uident e refl) (ap (find qhead_rows) e) p.1, p.2)
     by_terminal t.StarName e n = let p = row_at xs i s.Atom (row s.Atom t.StarName [] (λ i w vs. apply (at i) (called i [] star) none)) k vs refl (ap (find atom_rows) e) g in
-        ((record { scopes = []; own = star }, p.0), by_first xs i nowhere s.Qhead (row s.Qhead t.StarName [] (λ i w vs. record { scopes = []; own = star })) (k) p.0 (stands xs i t.StarName e refl) (ap (find qhead_rows) e) p.1, p.2)
+        ((record { scopes = []; own = star }, p.0), by_first xs i s.Qhead (row s.Qhead t.StarName [] (λ i w vs. record { scopes = []; own = star })) (k) p.0 (stands xs i t.StarName e refl) (ap (find qhead_rows) e) p.1, p.2)
     by_terminal t.LParen e n = let p = row_at xs i s.Atom (row s.Atom t.LParen (s.Aparen ∷ []) (λ i w vs. paren i vs.0)) k vs refl (ap (find atom_rows) e) g in let q = atom_name xs (i + 1) k p.0 n p.1 in
-        ((record { scopes = []; own = own_op q.0.0 (op (i + 1) (terminal_at xs (i + 1)) (token_at xs (i + 1)).text) }, q.0.1), operator_paren_atom xs i k q.0 e n q.1, ap (λ m. (paren i m.0, m.1)) q.2 ∙ p.2)
-    by_terminal _ e n = cc
+        ((record { scopes = []; own = own_op q.0.0 (op (i + 1) (terminal_at xs (i + 1)) (token_at xs (i + 1)).text) }, q.0.1), operator_paren xs i k q.0 e n q.1, ap (λ m. (paren i m.0, m.1)) q.2 ∙ p.2)
+    by_terminal _ e n = absurd (no_false n)
 
 pub no_name : (x o c : Terminal) → x ≡ t.LParen → is_name x o c ≡ false → (is_operator o && ends_name c) ≡ false
 no_name t.LParen o c e n = n
@@ -205,24 +188,24 @@ prim_atom xs i k vs n g = by_terminal (terminal_at xs i) refl n
     by_paren : (b : Bool) → same t.RParen (terminal_at xs (i + 1)) ≡ b → (e : terminal_at xs i ≡ t.LParen) → (is_operator (terminal_at xs (i + 1)) && ends_name (terminal_at xs (i + 1 + 1))) ≡ false → read (rest xs i) i false (s.Atom ∷ k) ≡ Some vs
     by_paren true c e n = let p = row_at xs i s.Prim (row s.Prim t.LParen (s.Hparen ∷ []) (λ i w vs. paren i vs.0)) k vs refl (ap (find prim_rows) e) g in
         let q = row_at xs (i + 1) s.Hparen (row s.Hparen t.RParen [] (λ i w vs. nothing)) k p.0 refl (ap (find (rows s.Hparen)) (rparen_true (terminal_at xs (i + 1)) c)) p.1 in
-        by_first xs i nowhere s.Atom (row s.Atom t.LParen (s.Aparen ∷ []) (λ i w vs. paren i vs.0)) k (nothing, q.0) (stands xs i t.LParen e refl) (ap (find atom_rows) e)
-        (by_first xs (i + 1) nowhere s.Aparen (row s.Aparen t.RParen [] (λ i w vs. nothing)) k q.0 (stands xs (i + 1) t.RParen (rparen_true (terminal_at xs (i + 1)) c) refl) (ap (find (rows s.Aparen)) (rparen_true (terminal_at xs (i + 1)) c)) q.1)
+        by_first xs i s.Atom (row s.Atom t.LParen (s.Aparen ∷ []) (λ i w vs. paren i vs.0)) k (nothing, q.0) (stands xs i t.LParen e refl) (ap (find atom_rows) e)
+        (by_first xs (i + 1) s.Aparen (row s.Aparen t.RParen [] (λ i w vs. nothing)) k q.0 (stands xs (i + 1) t.RParen (rparen_true (terminal_at xs (i + 1)) c) refl) (ap (find (rows s.Aparen)) (rparen_true (terminal_at xs (i + 1)) c)) q.1)
         ∙ ap (λ m. Some (paren i m.0, m.1)) q.2 ∙ ap (λ m. Some m) p.2
     by_paren false c e n = let p = row_at xs i s.Prim (row s.Prim t.LParen (s.Hparen ∷ []) (λ i w vs. paren i vs.0)) k vs refl (ap (find prim_rows) e) g in
         let q = prim_inner xs (i + 1) k p.0 c n p.1 in
-        by_first xs i nowhere s.Atom (row s.Atom t.LParen (s.Aparen ∷ []) (λ i w vs. paren i vs.0)) k (holds q.0.0 q.0.1.0, q.0.1.1) (stands xs i t.LParen e refl) (ap (find atom_rows) e) (reads_aparen (rest xs (i + 1)) (i + 1) k q.0.0 q.0.1.0 q.0.1.1 q.1)
+        by_first xs i s.Atom (row s.Atom t.LParen (s.Aparen ∷ []) (λ i w vs. paren i vs.0)) k (holds q.0.0 q.0.1.0, q.0.1.1) (stands xs i t.LParen e refl) (ap (find atom_rows) e) (reads_aparen (rest xs (i + 1)) (i + 1) k q.0.0 q.0.1.0 q.0.1.1 q.1)
         ∙ ap (λ m. Some (paren i m.0, m.1)) q.2 ∙ ap (λ m. Some m) p.2
 
     by_terminal : (x : Terminal) → terminal_at xs i ≡ x → is_name x (terminal_at xs (i + 1)) (terminal_at xs (i + 1 + 1)) ≡ false → read (rest xs i) i false (s.Atom ∷ k) ≡ Some vs
     by_terminal t.Lident e n = cc
     by_terminal t.Uident e n = cc
     by_terminal t.StarName e n = cc
-    by_terminal t.Int e n = let p = row_at xs i s.Prim (row s.Prim t.Int [] (λ i w vs. literal (at i) w)) k vs refl (ap (find prim_rows) e) g in by_first xs i nowhere s.Atom (row s.Atom t.Int [] (λ i w vs. literal (at i) w)) k p.0 (stands xs i t.Int e refl) (ap (find atom_rows) e) p.1 ∙ ap (λ m. Some m) p.2
-    by_terminal t.TrueWord e n = let p = row_at xs i s.Prim (row s.Prim t.TrueWord [] (λ i w vs. truth (at i))) k vs refl (ap (find prim_rows) e) g in by_first xs i nowhere s.Atom (row s.Atom t.TrueWord [] (λ i w vs. truth (at i))) k p.0 (stands xs i t.TrueWord e refl) (ap (find atom_rows) e) p.1 ∙ ap (λ m. Some m) p.2
-    by_terminal t.FalseWord e n = let p = row_at xs i s.Prim (row s.Prim t.FalseWord [] (λ i w vs. falsity (at i))) k vs refl (ap (find prim_rows) e) g in by_first xs i nowhere s.Atom (row s.Atom t.FalseWord [] (λ i w vs. falsity (at i))) k p.0 (stands xs i t.FalseWord e refl) (ap (find atom_rows) e) p.1 ∙ ap (λ m. Some m) p.2
-    by_terminal t.MatchWord e n = let p = row_at xs i s.Prim (row s.Prim t.MatchWord (s.Expr 0 ∷ s.Scrutinees ∷ []) (λ i w vs. cases (at i) (more vs.0 vs.1.0.others) vs.1.0.bar vs.1.0.branches)) k vs refl (ap (find prim_rows) e) g in by_first xs i nowhere s.Atom (row s.Atom t.MatchWord (s.Expr 0 ∷ s.Scrutinees ∷ []) (λ i w vs. cases (at i) (more vs.0 vs.1.0.others) vs.1.0.bar vs.1.0.branches)) k p.0 (stands xs i t.MatchWord e refl) (ap (find atom_rows) e) p.1 ∙ ap (λ m. Some m) p.2
+    by_terminal t.Int e n = let p = row_at xs i s.Prim (row s.Prim t.Int [] (λ i w vs. literal (at i) w)) k vs refl (ap (find prim_rows) e) g in by_first xs i s.Atom (row s.Atom t.Int [] (λ i w vs. literal (at i) w)) k p.0 (stands xs i t.Int e refl) (ap (find atom_rows) e) p.1 ∙ ap (λ m. Some m) p.2
+    by_terminal t.TrueWord e n = let p = row_at xs i s.Prim (row s.Prim t.TrueWord [] (λ i w vs. truth (at i))) k vs refl (ap (find prim_rows) e) g in by_first xs i s.Atom (row s.Atom t.TrueWord [] (λ i w vs. truth (at i))) k p.0 (stands xs i t.TrueWord e refl) (ap (find atom_rows) e) p.1 ∙ ap (λ m. Some m) p.2
+    by_terminal t.FalseWord e n = let p = row_at xs i s.Prim (row s.Prim t.FalseWord [] (λ i w vs. falsity (at i))) k vs refl (ap (find prim_rows) e) g in by_first xs i s.Atom (row s.Atom t.FalseWord [] (λ i w vs. falsity (at i))) k p.0 (stands xs i t.FalseWord e refl) (ap (find atom_rows) e) p.1 ∙ ap (λ m. Some m) p.2
+    by_terminal t.MatchWord e n = let p = row_at xs i s.Prim (row s.Prim t.MatchWord (s.Expr 0 ∷ s.Scrutinees ∷ []) (λ i w vs. cases (at i) (more vs.0 vs.1.0.others) vs.1.0.bar vs.1.0.branches)) k vs refl (ap (find prim_rows) e) g in by_first xs i s.Atom (row s.Atom t.MatchWord (s.Expr 0 ∷ s.Scrutinees ∷ []) (λ i w vs. cases (at i) (more vs.0 vs.1.0.others) vs.1.0.bar vs.1.0.branches)) k p.0 (stands xs i t.MatchWord e refl) (ap (find atom_rows) e) p.1 ∙ ap (λ m. Some m) p.2
     by_terminal t.LParen e n = by_paren (same t.RParen (terminal_at xs (i + 1))) refl e n
-    by_terminal _ e n = absurd (unread xs i nowhere s.Prim k vs (stands_within xs s.Prim i refl (k, vs, g)) refl (ap (find prim_rows) e) g)
+    by_terminal _ e n = absurd (unread xs i s.Prim k vs (stands_within xs s.Prim i k vs refl g) refl (ap (find prim_rows) e) g)
 
 -- A term where a name stands is the name, and arguments.
 pub head_start : {xs : List Lexeme} {i : ℕ} → CanRead xs s.Prim i → names xs i ≡ true → Begun xs 0 (λ k. s.Prim ∷ k) i (λ k. s.Qhead ∷ s.Args ∷ k) (λ k us. (apply (at i) (called i us.0.scopes us.0.own) us.1.0, us.1.1)) i

@@ -1,5 +1,5 @@
 -- What follows where a match is read.
-use Rattle.std.proofs.Common.{◌≡◌, ℕ, ◌+◌, ◌<◌, ◌≤◌, Bool, true, false, List, [], ◌∷◌, ◌++◌, length, refl, sym, ap, ◌∙◌, arith, append_assoc, append-nil}
+use Rattle.std.proofs.Common.{◌≡◌, ℕ, ◌+◌, ◌≤◌, Bool, true, false, List, [], ◌∷◌, ◌++◌, refl, ap, ◌∙◌, arith, append-nil, sym, append_assoc}
 use Rattle.tokens_why.specs.declared.terminal.Terminal.TheVariants as t
 use Rattle.grammar.specs.declared.symbols.Symbol.TheVariants as s
 use Rattle.grammar.specs.Alphabet.{same}
@@ -10,9 +10,9 @@ use Rattle.syntax_why.specs.Surface.{Arm, branches, forms, trees}
 use Rattle.reading.specs.Parts.{ArmPart, branch_of}
 use Rattle.reading.specs.Row.{row}
 use Rattle.reading.specs.TermRows.{branch_own}
-use Rattle.parse_terms.specs.Reading.{Begun, CanRead, CanRun, IsClosed, IsExpr, IsRead, terminal_at}
+use Rattle.parse_terms.specs.Reading.{Begun, CanRead, IsRead, terminal_at}
 use Rattle.parse_terms.specs.Terms.{IsAlternative, IsBranch}
-use Rattle.parse_terms.proofs.Steps.{again, can_next, can_run, done, expand, extended_due, follow, many, many_more, missed, next, next_expr, next_within, only, start, unexpand}
+use Rattle.parse_terms.proofs.Steps.{again, expand, extended_due, follow, many, many_more, missed, next, only, start, unexpand}
 use Rattle.parse_terms.proofs.TermSteps.{sure, trees_many}
 use Rattle.parse_terms.proofs.FormsRead.{forms_many}
 
@@ -20,13 +20,7 @@ use Rattle.parse_terms.proofs.FormsRead.{forms_many}
 abbrev pub Patterned : List Lexeme → ℕ → Form → List Form → ℕ → Type 0
 Patterned xs i p fs j = Begun xs 1 (λ k. s.Pat ∷ s.Arm ∷ k) i (λ k. s.Arm ∷ k) (λ k us. (p, (record { patterns = many more_forms fs us.0.patterns; alternatives = us.0.alternatives; body = us.0.body; others = us.0.others }, us.1))) j
 
-pub patterned_start : {xs : List Lexeme} {i : ℕ} (c : CanRun xs (λ k. s.Pat ∷ s.Arm ∷ k) i) (p : Form) (j : ℕ) → IsRead xs s.Pat i p j → Patterned xs i p [] j
-patterned_start c p j r = let g = next (start c) r in again g 1 refl (λ k us. refl)
-
 module _ (xs : List Lexeme) (i : ℕ) (p : Form) (fs : List Form) (j : ℕ) (g : Patterned xs i p fs j) where
-  pub pattern_can : same t.Comma (terminal_at xs j) ≡ true → CanRead xs s.Pat (j + 1)
-  pattern_can l = let q = expand g t.Comma l refl refl in can_next q
-
   pub patterned_more : (f : Form) (m : ℕ) → same t.Comma (terminal_at xs j) ≡ true → IsRead xs s.Pat (j + 1) f m → Patterned xs i p (fs ++ f ∷ []) m
   patterned_more f m l r = let q = expand g t.Comma l refl refl in let w = next q r in
       again w 1 refl (λ k us. ap (λ v. (p, (part us.0 v, us.1))) (many_more more_forms fs f us.0.patterns))
@@ -56,13 +50,7 @@ pub record Alternatives (xs : List Lexeme) (i : ℕ) (pss : List Forms) (j : ℕ
   pub ends : same t.Comma (terminal_at xs j) ≡ false
   pub is : Begun xs 1 (λ k. s.Pat ∷ s.Arm ∷ k) i (λ k. s.Arm ∷ k) (λ k us. (first, (record { patterns = patterns; alternatives = others ++ us.0.alternatives; body = us.0.body; others = us.0.others }, us.1))) j
 
-pub alternatives_start : (xs : List Lexeme) (i : ℕ) (fs : Forms) (j : ℕ) → IsAlternative xs i fs j → Alternatives xs i (fs ∷ []) j
-alternatives_start xs i fs j r = record { first = r.first; patterns = forms r.others; others = []; spelled = ap (λ v. v ∷ []) r.spelled; ends = r.ends; is = again r.is 1 refl (λ k us. refl) }
-
 module _ (xs : List Lexeme) (i : ℕ) (pss : List Forms) (j : ℕ) (g : Alternatives xs i pss j) where
-  pub alternative_can : same t.Bar (terminal_at xs j) ≡ true → CanRun xs (λ k. s.Pat ∷ s.Arm ∷ k) (j + 1)
-  alternative_can l = let p = expand g.is t.Bar l refl refl in let q = can_run p in record { within = q.within; behind = q.behind; values = q.values; reads = q.reads }
-
   pub alternatives_more : (fs : Forms) (m : ℕ) → same t.Bar (terminal_at xs j) ≡ true → IsAlternative xs (j + 1) fs m → Alternatives xs i (pss ++ fs ∷ []) m
   alternatives_more fs m l r = let p = expand g.is t.Bar l refl refl in let w = follow r.is p in record {
     first = g.first;
@@ -84,9 +72,6 @@ module _ (xs : List Lexeme) (i : ℕ) (pss : List Forms) (j : ℕ) (g : Alternat
         part : Tree → Branches → List Forms → ArmPart
         part e bs vs = record { patterns = g.patterns; alternatives = vs; body = e; others = bs }
 
-    pub branch_done : (e : Tree) (m : ℕ) → IsExpr xs 0 (j + 1) e m → IsBranch xs i (record { alternatives = pss; body = e }) m
-    branch_done e m r = let p = next_expr body_start refl r in record { first = g.first; patterns = g.patterns; others = g.others; spelled = g.spelled; is = again p 1 refl (λ k us. refl) }
-
 -- scrutinees
 abbrev pub Matched : List Lexeme → ℕ → List Tree → ℕ → Type 0
 Matched xs i es j = Begun xs 1 (λ k. s.Atom ∷ k) i (λ k. s.Scrutinees ∷ k) (λ k us. (cases (at i) (many more es us.0.others) us.0.bar us.0.branches, us.1)) j
@@ -94,9 +79,6 @@ Matched xs i es j = Begun xs 1 (λ k. s.Atom ∷ k) i (λ k. s.Scrutinees ∷ k)
 module _ {xs : List Lexeme} {i : ℕ} (c : CanRead xs s.Atom i) (e : same t.MatchWord (terminal_at xs i) ≡ true) where
   pub match_start : Begun xs 1 (λ k. s.Atom ∷ k) i (λ k. s.Expr 0 ∷ s.Scrutinees ∷ k) (λ k us. (cases (at i) (more us.0 us.1.0.others) us.1.0.bar us.1.0.branches, us.1.1)) (i + 1)
   match_start = let p = expand (start c) t.MatchWord e refl refl in again p 1 refl (λ k us. refl)
-
-  pub matched_start : (f : Tree) (j : ℕ) → IsExpr xs 0 (i + 1) f j → Matched xs i (f ∷ []) j
-  matched_start f j r = let p = next_expr match_start refl r in again p 1 refl (λ k us. refl)
 
 abbrev pub with_arm : Arm → Branches → Branches
 with_arm b bs = branch b.alternatives b.body bs
@@ -113,18 +95,9 @@ abbrev pub Branched : List Lexeme → ℕ → List Tree → Bool → List Arm �
 Branched xs i es bar bs j = Begun xs 1 (λ k. s.Atom ∷ k) i (λ k. s.Branches ∷ k) (λ k us. (cases (at i) (trees es) bar (many with_arm bs us.0), us.1)) j
 
 module _ (xs : List Lexeme) (i : ℕ) (es : List Tree) (j : ℕ) (g : Matched xs i es j) where
-  pub scrutinee_can : same t.Comma (terminal_at xs j) ≡ true → CanRead xs (s.Expr 0) (j + 1)
-  scrutinee_can l = let p = expand g t.Comma l refl refl in can_next p
-
-  pub matched_more : (f : Tree) (m : ℕ) → same t.Comma (terminal_at xs j) ≡ true → IsExpr xs 0 (j + 1) f m → Matched xs i (es ++ f ∷ []) m
-  matched_more f m l r = let p = expand g t.Comma l refl refl in let w = next_expr p refl r in again w 1 refl (λ k us. ap (λ v. (cases (at i) v us.0.bar us.0.branches, us.1)) (many_more more es f us.0.others))
-
   module _ (n : same t.Comma (terminal_at xs j) ≡ false) where
-    with_start : Begun xs 1 (λ k. s.Atom ∷ k) i (λ k. s.Branch ∷ k) (λ k us. (cases (at i) (trees es) us.0.bar us.0.branches, us.1)) (j + 1)
+    pub with_start : Begun xs 1 (λ k. s.Atom ∷ k) i (λ k. s.Branch ∷ k) (λ k us. (cases (at i) (trees es) us.0.bar us.0.branches, us.1)) (j + 1)
     with_start = let p = expand g t.WithWord (only g t.WithWord (t.Comma ∷ []) refl refl (n, tt)) refl refl in again p 1 refl (λ k us. ap (λ v. (cases (at i) v us.0.bar us.0.branches, us.1)) (trees_many es))
-
-    pub with_within : j + 1 < length xs
-    with_within = next_within with_start refl
 
     pub barred_start : same t.Bar (terminal_at xs (j + 1)) ≡ true → Branching xs i es true [] (j + 1 + 1)
     barred_start l = let p = expand with_start t.Bar l refl refl in again p 1 refl (λ k us. refl)
@@ -133,15 +106,9 @@ module _ (xs : List Lexeme) (i : ℕ) (es : List Tree) (j : ℕ) (g : Matched xs
     bare_start l = let p = extended_due with_start s.Pat (s.Arm ∷ []) (λ v vs. record { bar = false; branches = branch_of v vs.0 }) branch_own refl refl (missed (row s.Branch t.Bar (s.Pat ∷ s.Arm ∷ []) (λ i w vs. record { bar = true; branches = branch_of vs.0 vs.1.0 })) [] (terminal_at xs (j + 1)) l refl) in again p 1 refl (λ k us. refl)
 
 module _ (xs : List Lexeme) (i : ℕ) (es : List Tree) (bar : Bool) (bs : List Arm) (j : ℕ) where
-  pub branch_can : Branching xs i es bar bs j → CanRun xs (λ k. s.Pat ∷ s.Arm ∷ k) j
-  branch_can g = let q = can_run g in record { within = q.within; behind = q.behind; values = q.values; reads = q.reads }
-
   pub branched_more : (b : Arm) (m : ℕ) → Branching xs i es bar bs j → IsBranch xs j b m → Branched xs i es bar (bs ++ b ∷ []) m
   branched_more b m g r = let p = follow r.is g in again p 1 refl (λ k us. ap (λ v. (cases (at i) (trees es) bar (many with_arm bs (branch v b.body us.0)), us.1)) r.spelled ∙ ap (λ v. (cases (at i) (trees es) bar v, us.1)) (many_more with_arm bs b us.0))
 
   module _ (g : Branched xs i es bar bs j) where
     pub branch_start : same t.Bar (terminal_at xs j) ≡ true → Branching xs i es bar bs (j + 1)
     branch_start l = let p = expand g t.Bar l refl refl in again p 1 refl (λ k us. refl)
-
-    pub match_done : same t.Bar (terminal_at xs j) ≡ false → IsClosed xs s.Atom i (cases (at i) (trees es) bar (branches bs)) (cases (at i) (trees es) bar (branches bs)) (j + 1)
-    match_done n = let p = expand g t.EndWord (only g t.EndWord (t.Bar ∷ []) refl refl (n, tt)) refl refl in record { first = refl; closed = refl; is = done p (cases (at i) (trees es) bar (branches bs)) refl (λ k us. ap (λ v. (cases (at i) (trees es) bar v, us)) (branches_many bs)) }

@@ -1,23 +1,19 @@
 -- What follows where names are read.
-use Rattle.std.proofs.Common.{◌≡◌, ℕ, ◌+◌, ◌<◌, Bool, true, false, ◌&&◌, List, [], ◌∷◌, ◌++◌, length, Option, Some, None, refl, sym, ap, ◌∙◌, subst, append_assoc, append-nil}
+use Rattle.std.proofs.Common.{◌≡◌, ℕ, ◌+◌, ◌<◌, Bool, true, false, ◌&&◌, List, [], ◌∷◌, ◌++◌, length, Option, Some, None, refl, sym, ap, ◌∙◌, append_assoc, append-nil}
 use Rattle.tokens_why.specs.declared.terminal.Terminal.{Terminal}
 use Rattle.tokens_why.specs.declared.terminal.Terminal.TheVariants as t
 use Rattle.tokens_why.specs.Operators.{is_operator}
 use Rattle.grammar.specs.declared.symbols.Symbol.TheVariants as s
 use Rattle.grammar.specs.Alphabet.{same}
 use Rattle.syntax_why.specs.Lexeme.{Lexeme, Word}
-use Rattle.syntax_why.specs.Forms.{Own, lower, star, upper}
+use Rattle.syntax_why.specs.Forms.{Own, lower}
 use Rattle.syntax_why.specs.Trees.{op}
-use Rattle.reading.specs.Parts.{Dotted, OpName, Scoped, own_op, scope_on}
+use Rattle.reading.specs.Parts.{Dotted, Scoped, own_op, scope_on}
 use Rattle.reading.specs.TermRows.{opname_rows}
 use Rattle.reading.specs.Values.{find}
 use Rattle.reading.proofs.TermRowsRead.{opname_found}
 use Rattle.parse_terms.specs.Reading.{Begun, CanRead, IsRead, beyond, terminal_at, token_at}
-use Rattle.parse_terms.proofs.Steps.{again, begins, done, expand, expand_by, next, next_within, none_of, only, pass, stands_due, start, take}
-
-pub both : (a b : Bool) → (a && b) ≡ true → (a ≡ true) × (b ≡ true)
-both true b h = (refl, h)
-both false b h = cc
+use Rattle.parse_terms.proofs.Steps.{again, and_cases, begins, done, expand, expand_by, next, next_within, none_of, only, pass, stands_due, start, take}
 
 -- names of terms: scopes, then a name or an operator
 abbrev pub scoped_on : List Word → Scoped → Scoped
@@ -26,11 +22,8 @@ scoped_on qs d = record { scopes = qs ++ d.scopes; own = d.own }
 abbrev pub Scopes : List Lexeme → ℕ → List Word → ℕ → Type 0
 Scopes xs i qs j = Begun xs 0 (λ k. s.Qhead ∷ k) i (λ k. s.Qhead ∷ k) (λ k us. (scoped_on qs us.0, us.1)) j
 
-pub scopes_start : {xs : List Lexeme} {i : ℕ} → CanRead xs s.Qhead i → Scopes xs i [] i
-scopes_start c = again (start c) 0 refl (λ k us. refl)
-
 pub scopes_more : (xs : List Lexeme) (i : ℕ) (qs : List Word) (j : ℕ) → (same t.Uident (terminal_at xs j) && same t.Dot (terminal_at xs (j + 1))) ≡ true → Scopes xs i qs j → Scopes xs i (qs ++ (token_at xs j).text ∷ []) (j + 1 + 1)
-scopes_more xs i qs j b g = let q = both (same t.Uident (terminal_at xs j)) (same t.Dot (terminal_at xs (j + 1))) b in
+scopes_more xs i qs j b g = let q = and_cases (same t.Uident (terminal_at xs j)) (same t.Dot (terminal_at xs (j + 1))) b in
     let p = expand g t.Uident q.0 refl refl in
     let r = expand p t.Dot q.1 refl refl in
     again r 0 refl (λ k us. ap (λ v. (scoped v us.0.own, us.1)) (sym (append_assoc qs ((token_at xs j).text ∷ []) us.0.scopes)))
@@ -45,34 +38,14 @@ scopes_done xs i qs j o m g r = let p = next g r in done p (record { scopes = qs
     scoped vs o = record { scopes = vs; own = o }
 
 module _ {xs : List Lexeme} {i : ℕ} (c : CanRead xs s.Qhead i) where
-  pub lower_read : same t.Lident (terminal_at xs i) ≡ true → IsRead xs s.Qhead i (record { scopes = []; own = lower (token_at xs i).text }) (i + 1)
-  lower_read e = let p = expand (start c) t.Lident e refl refl in done p (record { scopes = []; own = lower (token_at xs i).text }) refl (λ k us. refl)
-
-  pub upper_read : same t.Uident (terminal_at xs i) ≡ true → (same t.Uident (terminal_at xs i) && same t.Dot (terminal_at xs (i + 1))) ≡ false → IsRead xs s.Qhead i (record { scopes = []; own = upper (token_at xs i).text }) (i + 1)
-  upper_read e n = let p = expand (start c) t.Uident e refl refl in
-      let q = pass p refl refl (none_of s.Scoped (t.Dot ∷ []) (terminal_at xs (i + 1)) refl (subst (λ b. (b && same t.Dot (terminal_at xs (i + 1))) ≡ false) e n, tt)) in
-      done q (record { scopes = []; own = upper (token_at xs i).text }) refl (λ k us. refl)
-
-  pub star_read : same t.StarName (terminal_at xs i) ≡ true → IsRead xs s.Qhead i (record { scopes = []; own = star }) (i + 1)
-  star_read e = let p = expand (start c) t.StarName e refl refl in done p (record { scopes = []; own = star }) refl (λ k us. refl)
-
   pub operator_start : same t.Lident (terminal_at xs i) ≡ false → same t.Uident (terminal_at xs i) ≡ false → same t.StarName (terminal_at xs i) ≡ false → Begun xs 1 (λ k. s.Qhead ∷ k) i (λ k. s.Opname ∷ k) (λ k us. (record { scopes = []; own = own_op us.0.prefix us.0.op }, us.1)) (i + 1)
   operator_start l u n = let g = start c in let e = only g t.LParen (t.Lident ∷ t.Uident ∷ t.StarName ∷ []) refl refl (l, (u, (n, tt))) in
       let p = expand g t.LParen e refl refl in again p 1 refl (λ k us. refl)
 
-pub operator_done : (xs : List Lexeme) (i : ℕ) (v : OpName) (m : ℕ) → Begun xs 1 (λ k. s.Qhead ∷ k) i (λ k. s.Opname ∷ k) (λ k us. (record { scopes = []; own = own_op us.0.prefix us.0.op }, us.1)) (i + 1) → IsRead xs s.Opname (i + 1) v m → IsRead xs s.Qhead i (record { scopes = []; own = own_op v.prefix v.op }) m
-operator_done xs i v m g r = let p = next g r in done p (record { scopes = []; own = own_op v.prefix v.op }) refl (λ k us. refl)
-
 -- operators' names
 opname_none : (o : Terminal) → is_operator o ≡ false → find opname_rows o ≡ None
 opname_none t.Equal h = cc
-opname_none t.Minus h = cc
-opname_none t.Operator1 h = cc
-opname_none t.Operator2 h = cc
-opname_none t.Operator3 h = cc
-opname_none t.Operator4 h = cc
-opname_none t.PrefixOperator h = cc
-opname_none _ h = refl
+opname_none _ h = cc
 
 module _ {xs : List Lexeme} {j : ℕ} (c : CanRead xs s.Opname j) where
   pub opname_start : Begun xs 1 (λ k. s.Opname ∷ k) j (λ k. s.Opend ∷ k) (λ k us. (record { op = op j (terminal_at xs j) (token_at xs j).text; prefix = us.0 }, us.1)) (j + 1)
@@ -82,17 +55,8 @@ module _ {xs : List Lexeme} {j : ℕ} (c : CanRead xs s.Opname j) where
       by_test true e = let p = expand_by (start c) (stands_due c refl) (opname_found (terminal_at xs j) e) in again p 1 refl (λ k us. refl)
       by_test false e = absurd (begins (start c) refl (opname_none (terminal_at xs j) e))
 
-  pub infix_read : same t.RParen (terminal_at xs (j + 1)) ≡ true → IsRead xs s.Opname j (record { op = op j (terminal_at xs j) (token_at xs j).text; prefix = false }) (j + 1 + 1)
-  infix_read e = let p = expand opname_start t.RParen e refl refl in done p (record { op = op j (terminal_at xs j) (token_at xs j).text; prefix = false }) refl (λ k us. refl)
-
-  prefix_wild : same t.RParen (terminal_at xs (j + 1)) ≡ false → same t.Wild (terminal_at xs (j + 1)) ≡ true
+  pub prefix_wild : same t.RParen (terminal_at xs (j + 1)) ≡ false → same t.Wild (terminal_at xs (j + 1)) ≡ true
   prefix_wild n = only opname_start t.Wild (t.RParen ∷ []) refl refl (n, tt)
-
-  pub prefix_within : same t.RParen (terminal_at xs (j + 1)) ≡ false → j + 1 + 1 < length xs
-  prefix_within n = let p = expand opname_start t.Wild (prefix_wild n) refl refl in next_within p refl
-
-  pub prefix_read : same t.RParen (terminal_at xs (j + 1)) ≡ false → IsRead xs s.Opname j (record { op = op j (terminal_at xs j) (token_at xs j).text; prefix = true }) (j + 1 + 1 + 1)
-  prefix_read n = let p = expand opname_start t.Wild (prefix_wild n) refl refl in let q = take p in done q (record { op = op j (terminal_at xs j) (token_at xs j).text; prefix = true }) refl (λ k us. refl)
 
 -- names of types: scopes, then a name in lower case
 abbrev pub dotted_on : List Word → Dotted → Dotted
@@ -101,13 +65,7 @@ dotted_on qs d = record { scopes = qs ++ d.scopes; last = d.last }
 abbrev pub TypeScopes : List Lexeme → ℕ → List Word → ℕ → Type 0
 TypeScopes xs i qs j = Begun xs 0 (λ k. s.Qlid ∷ k) i (λ k. s.Qlid ∷ k) (λ k us. (dotted_on qs us.0, us.1)) j
 
-pub type_scopes_start : {xs : List Lexeme} {i : ℕ} → CanRead xs s.Qlid i → TypeScopes xs i [] i
-type_scopes_start c = again (start c) 0 refl (λ k us. refl)
-
 module _ (xs : List Lexeme) (i : ℕ) (qs : List Word) (j : ℕ) (g : TypeScopes xs i qs j) where
-  pub type_scopes_within : same t.Uident (terminal_at xs j) ≡ true → j + 1 < length xs
-  type_scopes_within e = let p = expand g t.Uident e refl refl in next_within p refl
-
   pub type_scopes_more : same t.Uident (terminal_at xs j) ≡ true → TypeScopes xs i (qs ++ (token_at xs j).text ∷ []) (j + 1 + 1)
   type_scopes_more e = let p = expand g t.Uident e refl refl in let r = take p in
       again r 0 refl (λ k us. ap (λ v. (scoped v us.0.last, us.1)) (sym (append_assoc qs ((token_at xs j).text ∷ []) us.0.scopes)))

@@ -1,21 +1,21 @@
 -- What follows where open forms are read: conditionals, bindings and quantifiers.
-use Rattle.std.proofs.Common.{◌≡◌, ℕ, ◌+◌, ◌<◌, Bool, true, false, nat_le, List, [], ◌∷◌, ◌++◌, length, Some, None, refl, sym, ap, ◌∙◌, append_assoc, append-nil}
+use Rattle.std.proofs.Common.{◌≡◌, ℕ, ◌+◌, Bool, true, false, nat_le, List, [], ◌∷◌, ◌++◌, Some, None, refl, sym, ap, ◌∙◌, append_assoc, append-nil}
 use Rattle.tokens_why.specs.declared.terminal.Terminal.TheVariants as t
 use Rattle.grammar.specs.declared.symbols.Symbol.TheVariants as s
 use Rattle.grammar.specs.Alphabet.{same}
 use Rattle.syntax_why.specs.declared.names.Name.{Name}
 use Rattle.syntax_why.specs.Lexeme.{Lexeme, at, name}
 use Rattle.syntax_why.specs.Forms.{Form, more_forms}
-use Rattle.syntax_why.specs.Trees.{Binder, Tree, Trees, Trigger, binding, binds, choice, more, quantified, quantifier, triggered, untriggered}
+use Rattle.syntax_why.specs.Trees.{Binder, Tree, Trees, Trigger, binding, binds, choice, more, quantified, quantifier, triggered}
 use Rattle.syntax_why.specs.Surface.{forms, trees}
 use Rattle.reading.specs.Parts.{BinderPart, BoundPart, binder_of}
 use Rattle.reading.specs.Row.{row}
 use Rattle.reading.specs.TermRows.{binder_own}
 use Rattle.reading.specs.Values.{find}
 use Rattle.reading.proofs.TermRowsRead.{expr_if, expr_let, expr_quantifier}
-use Rattle.parse_terms.specs.Reading.{Begun, CanRead, CanRun, Climb, IsExpr, IsRead, terminal_at, token_at}
+use Rattle.parse_terms.specs.Reading.{Begun, CanRead, Climb, IsExpr, IsRead, terminal_at, token_at}
 use Rattle.parse_terms.specs.Terms.{IsBinder, IsTrigger}
-use Rattle.parse_terms.proofs.Steps.{again, can_next, can_run, expand, extended_due, follow, many, many_more, missed, next, next_expr, next_within, only, start, take}
+use Rattle.parse_terms.proofs.Steps.{again, expand, extended_due, follow, many, many_more, missed, next, next_expr, only, start, take}
 use Rattle.parse_terms.proofs.TermSteps.{sealed_expr, trees_many}
 use Rattle.parse_terms.proofs.FormsRead.{forms_many}
 
@@ -25,16 +25,10 @@ module _ {xs : List Lexeme} {m i : ℕ} (c : CanRead xs (s.Expr m) i) (e : same 
   if_start = let p = expand (start c) t.IfWord e refl (expr_if m (nat_le m 3)) in again p 1 refl (λ k us. refl)
 
   module _ {a : Tree} {j : ℕ} (ra : IsExpr xs 0 (i + 1) a j) where
-    pub then_within : j < length xs
-    then_within = let p = next_expr if_start refl ra in next_within p refl
-
     pub then_start : Begun xs 1 (λ k. s.Expr m ∷ k) i (λ k. s.Expr 0 ∷ s.Take t.ElseWord ∷ s.Expr 0 ∷ s.Seal ∷ k) (λ k us. (choice (at i) a us.0 us.1.1.0, us.1.1.1.1)) (j + 1)
     then_start = take (next_expr if_start refl ra)
 
     module _ {b : Tree} {n : ℕ} (rb : IsExpr xs 0 (j + 1) b n) where
-      pub else_within : n < length xs
-      else_within = let p = next_expr then_start refl rb in next_within p refl
-
       pub else_start : Begun xs 1 (λ k. s.Expr m ∷ k) i (λ k. s.Expr 0 ∷ s.Seal ∷ k) (λ k us. (choice (at i) a b us.0, us.1.1)) (n + 1)
       else_start = take (next_expr then_start refl rb)
 
@@ -49,24 +43,12 @@ module _ {xs : List Lexeme} {m i : ℕ} (c : CanRead xs (s.Expr m) i) (e : same 
   pub let_start : Begun xs 1 (λ k. s.Expr m ∷ k) i (λ k. s.Pat ∷ s.Letpats ∷ k) (λ k us. (binding (at i) (more_forms us.0 us.1.0.patterns) us.1.0.value us.1.0.body, us.1.1)) (i + 1)
   let_start = let p = expand (start c) t.LetWord e refl (expr_let m (nat_le m 3)) in again p 1 refl (λ k us. refl)
 
-  pub bound_start : (p : Form) (j : ℕ) → IsRead xs s.Pat (i + 1) p j → Bound xs m i (p ∷ []) j
-  bound_start p j r = let g = next let_start r in again g 1 refl (λ k us. refl)
-
 module _ (xs : List Lexeme) (m i : ℕ) (fs : List Form) (j : ℕ) (g : Bound xs m i fs j) where
-  pub pattern_can : same t.Comma (terminal_at xs j) ≡ true → CanRead xs s.Pat (j + 1)
-  pattern_can l = let p = expand g t.Comma l refl refl in can_next p
-
-  pub bound_more : (f : Form) (q : ℕ) → same t.Comma (terminal_at xs j) ≡ true → IsRead xs s.Pat (j + 1) f q → Bound xs m i (fs ++ f ∷ []) q
-  bound_more f q l r = let p = expand g t.Comma l refl refl in let w = next p r in again w 1 refl (λ k us. ap (λ v. (binding (at i) v us.0.value us.0.body, us.1)) (many_more more_forms fs f us.0.patterns))
-
   module _ (n : same t.Comma (terminal_at xs j) ≡ false) where
     pub value_start : Begun xs 1 (λ k. s.Expr m ∷ k) i (λ k. s.Expr 0 ∷ s.Take t.InWord ∷ s.Expr 0 ∷ s.Seal ∷ k) (λ k us. (binding (at i) (forms fs) us.0 us.1.1.0, us.1.1.1.1)) (j + 1)
     value_start = let p = expand g t.Equal (only g t.Equal (t.Comma ∷ []) refl refl (n, tt)) refl refl in again p 1 refl (λ k us. ap (λ v. (binding (at i) v us.0 us.1.1.0, us.1.1.1.1)) (forms_many fs))
 
     module _ {a : Tree} {q : ℕ} (ra : IsExpr xs 0 (j + 1) a q) where
-      pub in_within : q < length xs
-      in_within = let p = next_expr value_start refl ra in next_within p refl
-
       pub body_start : Begun xs 1 (λ k. s.Expr m ∷ k) i (λ k. s.Expr 0 ∷ s.Seal ∷ k) (λ k us. (binding (at i) (forms fs) a us.0, us.1.1)) (q + 1)
       body_start = take (next_expr value_start refl ra)
 
@@ -77,21 +59,12 @@ module _ (xs : List Lexeme) (m i : ℕ) (fs : List Form) (j : ℕ) (g : Bound xs
 abbrev pub Naming : List Lexeme → ℕ → Name → List Name → ℕ → Type 0
 Naming xs i n ns j = Begun xs 1 (λ k. s.Take t.Lident ∷ s.Binder ∷ k) i (λ k. s.Binder ∷ k) (λ k us. (n, (record { names = ns ++ us.0.names; of_type = us.0.of_type; bound = us.0.bound }, us.1))) j
 
-pub naming_start : {xs : List Lexeme} {i : ℕ} → CanRun xs (λ k. s.Take t.Lident ∷ s.Binder ∷ k) i → Naming xs i (name i (token_at xs i).text) [] (i + 1)
-naming_start c = let p = take (start c) in again p 1 refl (λ k us. refl)
-
-pub name_there : {xs : List Lexeme} {i : ℕ} → CanRun xs (λ k. s.Take t.Lident ∷ s.Binder ∷ k) i → same t.Lident (terminal_at xs i) ≡ true
-name_there c = only (start c) t.Lident [] refl refl tt
-
 module _ (xs : List Lexeme) (i : ℕ) (n : Name) (ns : List Name) (j : ℕ) (g : Naming xs i n ns j) where
   pub naming_more : same t.Lident (terminal_at xs j) ≡ true → Naming xs i n (ns ++ name j (token_at xs j).text ∷ []) (j + 1)
   naming_more l = let p = expand g t.Lident l refl refl in again p 1 refl (λ k us. ap (λ v. (n, (part us.0 v, us.1))) (sym (append_assoc ns (name j (token_at xs j).text ∷ []) us.0.names)))
     where
       part : BinderPart → List Name → BinderPart
       part b vs = record { names = vs; of_type = b.of_type; bound = b.bound }
-
-  pub type_can : same t.Colon (terminal_at xs j) ≡ true → CanRead xs s.TypeOf (j + 1)
-  type_can l = let p = expand g t.Colon l refl refl in can_next p
 
   pub typed_binder : (f : Form) (q : ℕ) → same t.Colon (terminal_at xs j) ≡ true → IsRead xs s.TypeOf (j + 1) f q → IsBinder xs i (binds (n ∷ ns) (Some f)) q
   typed_binder f q l r = let p = expand g t.Colon l refl refl in let w = next p r in record {
@@ -132,17 +105,7 @@ module _ {xs : List Lexeme} {m i : ℕ} (c : CanRead xs (s.Expr m) i) (all : Boo
   pub quantified_start : Begun xs 1 (λ k. s.Expr m ∷ k) i (λ k. s.Take t.Lident ∷ s.Binder ∷ k) (λ k us. (quantified (at i) all (binder_of us.0 us.1.0 ∷ us.1.0.bound.others) us.1.0.bound.trigger us.1.0.bound.body, us.1.1)) (i + 1)
   quantified_start = let p = expand (start c) (quantifier all) e (quantifier_some all) (expr_quantifier m (nat_le m 3) all) in again p 1 refl (λ k us. refl)
 
-  pub binder_first : (b : Binder) (j : ℕ) → IsBinder xs (i + 1) b j → Quantified xs m i all (b ∷ []) j
-  binder_first b j r = let p = follow r.is quantified_start in again p 1 refl (λ k us. ap (λ v. (quantified (at i) all (v ∷ us.0.others) us.0.trigger us.0.body, us.1)) r.spelled)
-
 module _ (xs : List Lexeme) (m i : ℕ) (all : Bool) (bs : List Binder) (j : ℕ) (g : Quantified xs m i all bs j) where
-  pub binder_can : same t.Comma (terminal_at xs j) ≡ true → CanRun xs (λ k. s.Take t.Lident ∷ s.Binder ∷ k) (j + 1)
-  binder_can l = let p = expand g t.Comma l refl refl in let q = can_run p in record { within = q.within; behind = q.behind; values = q.values; reads = q.reads }
-
-  pub binder_more : (b : Binder) (q : ℕ) → same t.Comma (terminal_at xs j) ≡ true → IsBinder xs (j + 1) b q → Quantified xs m i all (bs ++ b ∷ []) q
-  binder_more b q l r = let p = expand g t.Comma l refl refl in let w = follow r.is p in
-      again w 1 refl (λ k us. ap (λ v. (quantified (at i) all (bs ++ v ∷ us.0.others) us.0.trigger us.0.body, us.1)) r.spelled ∙ ap (λ v. (quantified (at i) all v us.0.trigger us.0.body, us.1)) (sym (append_assoc bs (b ∷ []) us.0.others)))
-
   pub quantified_body : (h : Trigger) (q : ℕ) → IsTrigger xs j h q → Begun xs 1 (λ k. s.Expr m ∷ k) i (λ k. s.Expr 0 ∷ s.Seal ∷ k) (λ k us. (quantified (at i) all bs h us.0, us.1.1)) q
   quantified_body h q r = let p = follow r g in again p 1 refl (λ k us. ap (λ v. (quantified (at i) all v h us.0, us.1.1)) (append-nil bs))
 
@@ -154,14 +117,8 @@ abbrev pub Triggering : List Lexeme → ℕ → List Tree → List Bool → ℕ 
 Triggering xs i ts bars j = Begun xs 1 (λ k. s.Binders ∷ k) i (λ k. s.Trigger ∷ k) (λ k us. (record { others = []; trigger = triggered (many more ts us.0.terms) (bars ++ us.0.bars); body = us.0.body }, us.1)) j
 
 module _ {xs : List Lexeme} {i : ℕ} (c : CanRead xs s.Binders i) where
-  pub no_trigger : same t.Comma (terminal_at xs i) ≡ false → same t.LBrack (terminal_at xs i) ≡ false → IsTrigger xs i untriggered (i + 1)
-  no_trigger o l = let p = expand (start c) t.Dot (only (start c) t.Dot (t.Comma ∷ t.LBrack ∷ []) refl refl (o, (l, tt))) refl refl in again p 1 refl (λ k us. refl)
-
   pub trigger_start : same t.LBrack (terminal_at xs i) ≡ true → Begun xs 1 (λ k. s.Binders ∷ k) i (λ k. s.Expr 0 ∷ s.Trigger ∷ k) (λ k us. (record { others = []; trigger = triggered (more us.0 us.1.0.terms) us.1.0.bars; body = us.1.0.body }, us.1.1)) (i + 1)
   trigger_start l = let p = expand (start c) t.LBrack l refl refl in again p 1 refl (λ k us. refl)
-
-  pub triggering_start : (e : Tree) (j : ℕ) → same t.LBrack (terminal_at xs i) ≡ true → IsExpr xs 0 (i + 1) e j → Triggering xs i (e ∷ []) [] j
-  triggering_start e j l r = let p = next_expr (trigger_start l) refl r in again p 1 refl (λ k us. refl)
 
 module _ (xs : List Lexeme) (i : ℕ) (ts : List Tree) (bars : List Bool) (j : ℕ) (g : Triggering xs i ts bars j) where
   pub comma_start : same t.Comma (terminal_at xs j) ≡ true → Begun xs 1 (λ k. s.Binders ∷ k) i (λ k. s.Expr 0 ∷ s.Trigger ∷ k) (λ k us. (record { others = []; trigger = triggered (many more ts (more us.0 us.1.0.terms)) (bars ++ false ∷ us.1.0.bars); body = us.1.0.body }, us.1.1)) (j + 1)
@@ -178,9 +135,6 @@ module _ (xs : List Lexeme) (i : ℕ) (ts : List Tree) (bars : List Bool) (j : �
       body_by f es vs = record { others = []; trigger = triggered es vs; body = f }
 
   module _ (o : same t.Comma (terminal_at xs j) ≡ false) (n : same t.Bar (terminal_at xs j) ≡ false) where
-    pub trigger_within : j + 1 < length xs
-    trigger_within = let p = expand g t.RBrack (only g t.RBrack (t.Comma ∷ t.Bar ∷ []) refl refl (o, (n, tt))) refl refl in next_within p refl
-
     pub trigger_done : IsTrigger xs i (triggered (trees ts) bars) (j + 1 + 1)
     trigger_done = let p = expand g t.RBrack (only g t.RBrack (t.Comma ∷ t.Bar ∷ []) refl refl (o, (n, tt))) refl refl in let q = take p in
         again q 1 refl (λ k us. ap (λ v. (body_by us.0 v (bars ++ []), us.1.1)) (trees_many ts) ∙ ap (λ v. (body_by us.0 (trees ts) v, us.1.1)) (append-nil bars))

@@ -1,6 +1,5 @@
 -- How reading goes on from token to token, for any rule.
-use Rattle.std.proofs.Common.{◌≡◌, ℕ, ◌+◌, ◌<◌, ◌≤◌, ◌⊎◌, inl, inr, Bool, true, false, ◌&&◌, ◌||◌, cond, nat_le, List, [], ◌∷◌, ◌++◌, length, Option, Some, None, option_map, refl, sym, ap, ◌∙◌, subst, arith, add-one, drop-cons}
-use Rattle.std.proofs.Math.ListN.{drop_of_length-le}
+use Rattle.std.proofs.Common.{◌≡◌, ℕ, ◌+◌, ◌<◌, ◌≤◌, ◌⊎◌, inl, inr, Bool, true, false, ◌&&◌, ◌||◌, cond, nat_le, List, [], ◌∷◌, ◌++◌, length, Option, Some, None, option_map, refl, sym, ap, ◌∙◌, subst, arith}
 use Rattle.std.proofs.lemmas.List.{get_or_past}
 use Rattle.tokens_why.specs.declared.terminal.Terminal.{Terminal}
 use Rattle.tokens_why.specs.declared.terminal.Terminal.TheVariants as t
@@ -13,26 +12,11 @@ use Rattle.syntax_why.specs.declared.names.Name.{Name}
 use Rattle.syntax_why.specs.Lexeme.{Lexeme, name}
 use Rattle.syntax_why.specs.Trees.{Tree, ends_open}
 use Rattle.reading.specs.Row.{Row, Val, Vals, back, extend, front, row, then_row}
-use Rattle.reading.specs.Values.{at_end, blank, by_row, find, over, read, rows, with_blank}
-use Rattle.reading.proofs.Reading.{find_apart, find_extend}
+use Rattle.reading.specs.Values.{blank, by_row, find, read, rows}
+use Rattle.reading.proofs.Reading.{find_extend, unmapped}
+use Rattle.reading.proofs.Inverse.{below_or, by_first, first_row, from_cons, passes, plain, split, stands_within, unread}
 use Rattle.parse_terms.specs.Reading.{Begun, CanRead, CanRun, IsExpr, IsRead, least, nowhere, rest, terminal_at, token_at}
-
-pub rest_cons : (xs : List Lexeme) (i : ℕ) → i < length xs → rest xs i ≡ token_at xs i ∷ rest xs (i + 1)
-rest_cons xs i h = rw (add-one, drop-cons xs i nowhere) refl
-
-pub rest_end : (xs : List Lexeme) (i : ℕ) → length xs ≤ i → rest xs i ≡ []
-rest_end xs i h = rw (drop_of_length-le xs h) refl
-
-below_or : (i n : ℕ) → (i < n) ⊎ (n ≤ i)
-below_or i n = grind (arith)
-
--- where a terminal of the grammar stands there is a token
-pub stands : (xs : List Lexeme) (j : ℕ) (y : Terminal) → same y (terminal_at xs j) ≡ true → same y t.OtherWord ≡ false → j < length xs
-stands xs j y e n = by_cases (below_or j (length xs))
-  where
-    by_cases : (j < length xs) ⊎ (length xs ≤ j) → j < length xs
-    by_cases (inl h) = h
-    by_cases (inr h) = let o : same y t.OtherWord ≡ true = sym (ap (λ v. same y v.terminal) (get_or_past xs j nowhere h)) ∙ e in cc
+use Rattle.reading.proofs.OperatorsBuilt.{le_of}
 
 -- where a test holds that no text outside the grammar passes there is a token
 pub stands_by : (f : Terminal → Bool) (xs : List Lexeme) (j : ℕ) → f t.OtherWord ≡ false → f (terminal_at xs j) ≡ true → j < length xs
@@ -42,81 +26,17 @@ stands_by f xs j n e = by_cases (below_or j (length xs))
     by_cases (inl h) = h
     by_cases (inr h) = let o : f t.OtherWord ≡ true = sym (ap (λ v. f v.terminal) (get_or_past xs j nowhere h)) ∙ e in cc
 
-unmapped : {A B : Type 0} → (f : A → B) (o : Option A) (v : B) → option_map f o ≡ Some v → (u : A) × (o ≡ Some u) × (f u ≡ v)
-unmapped f None v h = cc
-unmapped f (Some u) v h = (u, refl, cc)
-
--- the value of a rule that may be empty
-pub blanked : (s : Symbol) (k : List Symbol) (v : Val s) (o : Option (Vals k)) (vs : Val s × Vals k) → with_blank s k (Some v) o ≡ Some vs → (vs.0 ≡ v) × (o ≡ Some vs.1)
-blanked s k v None vs h = cc
-blanked s k v (Some us) vs h = (cc, cc)
+-- where a terminal of the grammar stands there is a token
+pub stands : (xs : List Lexeme) (j : ℕ) (y : Terminal) → same y (terminal_at xs j) ≡ true → same y t.OtherWord ≡ false → j < length xs
+stands xs j y e n = stands_by (same y) xs j n e
 
 -- a symbol that is not empty stands on a token
 pub stands_due : {xs : List Lexeme} {a : Symbol} {K : List Symbol → List Symbol} {i : ℕ} → CanRun xs (λ k. a ∷ K k) i → blank a ≡ None → i < length xs
-stands_due {xs} {a} {K} {i} c b = by_cases (below_or i (length xs))
-  where
-    by_cases : (i < length xs) ⊎ (length xs ≤ i) → i < length xs
-    by_cases (inl h) = h
-    by_cases (inr h) = let e : with_blank a (K c.behind) None (at_end (K c.behind)) ≡ Some c.values = sym (ap (λ o. with_blank a (K c.behind) o (at_end (K c.behind))) b) ∙ sym (ap (λ v. read v i false (a ∷ K c.behind)) (rest_end xs i h)) ∙ c.reads in cc
-
--- What the row of the token that stands first reads.
-pub row_at : (xs : List Lexeme) (i : ℕ) (s : Symbol) (r : Row s) (k : List Symbol) (vs : Val s × Vals k) → i < length xs → find (rows s) (terminal_at xs i) ≡ Some r → read (rest xs i) i false (s ∷ k) ≡ Some vs → (us : Vals (r.behind k)) × (read (rest xs (i + 1)) (i + 1) false (r.behind k) ≡ Some us) × (r.act k i (token_at xs i).text us ≡ vs)
-row_at xs i s r k vs h e g = unmapped (λ us. r.act k i (token_at xs i).text us) (read (rest xs (i + 1)) (i + 1) false (r.behind k)) vs
-    (subst (λ o. by_row s k (λ k'. read (rest xs (i + 1)) (i + 1) false k') i (token_at xs i).text o (with_blank s k (blank s) (over (λ k'. read (rest xs (i + 1)) (i + 1) false k') i (token_at xs i) (is_seal s) k)) ≡ Some vs) e
-    (sym (ap (λ v. read v i false (s ∷ k)) (rest_cons xs i h)) ∙ g))
-
--- and the other way round
-pub by_first : (xs : List Lexeme) (i : ℕ) (s : Symbol) (r : Row s) (k : List Symbol) (us : Vals (r.behind k)) → i < length xs → find (rows s) (terminal_at xs i) ≡ Some r → read (rest xs (i + 1)) (i + 1) false (r.behind k) ≡ Some us → read (rest xs i) i false (s ∷ k) ≡ Some (r.act k i (token_at xs i).text us)
-by_first xs i s r k us h e g = rw (rest_cons xs i h, e, g) refl
-
--- a symbol that is not empty takes its first token
-pub unread : (xs : List Lexeme) (i : ℕ) (s : Symbol) (k : List Symbol) (vs : Val s × Vals k) → i < length xs → blank s ≡ None → find (rows s) (terminal_at xs i) ≡ None → read (rest xs i) i false (s ∷ k) ≡ Some vs → ⊥
-unread xs i s k vs h b n g = let e : with_blank s k None (over (λ k'. read (rest xs (i + 1)) (i + 1) false k') i (token_at xs i) (is_seal s) k) ≡ Some vs = sym (skipped b n) ∙ sym (ap (λ v. read v i false (s ∷ k)) (rest_cons xs i h)) ∙ g in cc
-  where
-    skipped : blank s ≡ None → find (rows s) (terminal_at xs i) ≡ None → read (token_at xs i ∷ rest xs (i + 1)) i false (s ∷ k) ≡ with_blank s k None (over (λ k'. read (rest xs (i + 1)) (i + 1) false k') i (token_at xs i) (is_seal s) k)
-    skipped b n = rw (n, b) refl
-
--- A rule that may be empty is passed over where none of its rows begins.
-pub passes : (xs : List Lexeme) (j : ℕ) (s : Symbol) (v : Val s) (k : List Symbol) (vs : Val s × Vals k) → blank s ≡ Some v → is_seal s ≡ false → find (rows s) (terminal_at xs j) ≡ None → read (rest xs j) j false (s ∷ k) ≡ Some vs → (vs.0 ≡ v) × (read (rest xs j) j false k ≡ Some vs.1)
-passes xs j s v k vs b l n g = by_length (below_or j (length xs))
-  where
-    at_none : with_blank s k (blank s) (at_end k) ≡ Some vs → with_blank s k (Some v) (at_end k) ≡ Some vs
-    at_none q = subst (λ o. with_blank s k o (at_end k) ≡ Some vs) b q
-
-    passing : read (token_at xs j ∷ rest xs (j + 1)) j false (s ∷ k) ≡ Some vs → with_blank s k (Some v) (over (λ k'. read (rest xs (j + 1)) (j + 1) false k') j (token_at xs j) false k) ≡ Some vs
-    passing q = rw (n, b, l) at q
-
-    by_length : (j < length xs) ⊎ (length xs ≤ j) → (vs.0 ≡ v) × (read (rest xs j) j false k ≡ Some vs.1)
-    by_length (inl h) = rw (rest_cons xs j h) (blanked s k v (over (λ k'. read (rest xs (j + 1)) (j + 1) false k') j (token_at xs j) false k) vs (passing (sym (ap (λ q. read q j false (s ∷ k)) (rest_cons xs j h)) ∙ g)))
-    by_length (inr h) = rw (rest_end xs j h) (blanked s k v (at_end k) vs (at_none (sym (ap (λ q. read q j false (s ∷ k)) (rest_end xs j h)) ∙ g)))
-
--- What is read by the row of another rule is read by that rule.
-pub other_rule : (xs : List Lexeme) (i : ℕ) (s a : Symbol) (ss : List Symbol) (f : Val a → Vals ss → Val s) (r : Row a) (k : List Symbol) (vs : Val s × Vals k) → i < length xs → find (rows a) (terminal_at xs i) ≡ Some r → find (rows s) (terminal_at xs i) ≡ Some (then_row s a ss f r) → read (rest xs i) i false (s ∷ k) ≡ Some vs → (us : Val a × Vals (ss ++ k)) × (read (rest xs i) i false (a ∷ (ss ++ k)) ≡ Some us) × ((f us.0 (front ss k us.1), back ss k us.1) ≡ vs)
-other_rule xs i s a ss f r k vs h e g q = let p = row_at xs i s (then_row s a ss f r) k vs h g q in (r.act (ss ++ k) i (token_at xs i).text p.0, by_first xs i a r (ss ++ k) p.0 h e p.1, p.2)
-
--- Where a rule reads what another reads and symbols behind it.
-pub split : (xs : List Lexeme) (i : ℕ) (s a : Symbol) (ss : List Symbol) (f : Val a → Vals ss → Val s) (own : List (Row s)) (k : List Symbol) (vs : Val s × Vals k) → i < length xs → rows s ≡ own ++ extend s a ss f (rows a) → find own (terminal_at xs i) ≡ None → (find (rows s) (terminal_at xs i) ≡ None → ⊥) → read (rest xs i) i false (s ∷ k) ≡ Some vs → (us : Val a × Vals (ss ++ k)) × (read (rest xs i) i false (a ∷ (ss ++ k)) ≡ Some us) × ((f us.0 (front ss k us.1), back ss k us.1) ≡ vs)
-split xs i s a ss f own k vs h is n some g = by_found (find (rows a) (terminal_at xs i)) refl
-  where
-    found : (o : Option (Row a)) → find (rows a) (terminal_at xs i) ≡ o → find (rows s) (terminal_at xs i) ≡ option_map (then_row s a ss f) o
-    found o e = ap (λ rs. find rs (terminal_at xs i)) is ∙ find_apart own (extend s a ss f (rows a)) (terminal_at xs i) n ∙ find_extend s a ss f (rows a) (terminal_at xs i) ∙ ap (option_map (then_row s a ss f)) e
-
-    by_found : (o : Option (Row a)) → find (rows a) (terminal_at xs i) ≡ o → (us : Val a × Vals (ss ++ k)) × (read (rest xs i) i false (a ∷ (ss ++ k)) ≡ Some us) × ((f us.0 (front ss k us.1), back ss k us.1) ≡ vs)
-    by_found None e = absurd (some (found None e))
-    by_found (Some r) e = other_rule xs i s a ss f r k vs h e (found (Some r) e) g
-
-pub split_due : (xs : List Lexeme) (i : ℕ) (s a : Symbol) (ss : List Symbol) (f : Val a → Vals ss → Val s) (own : List (Row s)) (k : List Symbol) (vs : Val s × Vals k) → i < length xs → blank s ≡ None → rows s ≡ own ++ extend s a ss f (rows a) → find own (terminal_at xs i) ≡ None → read (rest xs i) i false (s ∷ k) ≡ Some vs → (us : Val a × Vals (ss ++ k)) × (read (rest xs i) i false (a ∷ (ss ++ k)) ≡ Some us) × ((f us.0 (front ss k us.1), back ss k us.1) ≡ vs)
-split_due xs i s a ss f own k vs h b is n g = split xs i s a ss f own k vs h is n (λ e. unread xs i s k vs h b e g) g
-
--- Behind what ends open only tails are silent.
-pub plain : (zs : List Lexeme) (j : ℕ) (b : Bool) (s : Symbol) (k : List Symbol) (vs : Val s × Vals k) → is_tail s ≡ false → read zs j b (s ∷ k) ≡ Some vs → read zs j false (s ∷ k) ≡ Some vs
-plain zs j false s k vs n g = g
-plain [] j true s k vs n g = g
-plain (x ∷ xs) j true s k vs n g = rw n at g
+stands_due {xs} {a} {K} {i} c b = stands_within xs a i (K c.behind) c.values b c.reads
 
 -- one terminal
 take_on : (xs : List Lexeme) (i : ℕ) (y : Terminal) (k : List Symbol) (vs : Name × Vals k) → i < length xs → read (rest xs i) i false (s.Take y ∷ k) ≡ Some vs → (us : Vals k) × (read (rest xs (i + 1)) (i + 1) false k ≡ Some us) × ((name i (token_at xs i).text, us) ≡ vs)
-take_on xs i y k vs h r = by_test (same y (terminal_at xs i)) (sym (ap (λ v. read v i false (s.Take y ∷ k)) (rest_cons xs i h)) ∙ r)
+take_on xs i y k vs h r = by_test (same y (terminal_at xs i)) (sym (ap (λ v. read v i false (s.Take y ∷ k)) (from_cons xs i h)) ∙ r)
   where
     by_test : (b : Bool) → by_row (s.Take y) k (λ k'. read (rest xs (i + 1)) (i + 1) false k') i (token_at xs i).text (cond b (Some (row (s.Take y) y [] (λ i w vs. name i w))) None) None ≡ Some vs → (us : Vals k) × (read (rest xs (i + 1)) (i + 1) false k ≡ Some us) × ((name i (token_at xs i).text, us) ≡ vs)
     by_test true r = unmapped (λ us. (row (s.Take y) y [] (λ i w vs. name i w)).act k i (token_at xs i).text us) (read (rest xs (i + 1)) (i + 1) false k) vs r
@@ -140,7 +60,7 @@ or_cases : (a b : Bool) → (a || b) ≡ true → (a ≡ true) ⊎ (b ≡ true)
 or_cases true b h = inl refl
 or_cases false b h = inr h
 
-and_cases : (a b : Bool) → (a && b) ≡ true → (a ≡ true) × (b ≡ true)
+pub and_cases : (a b : Bool) → (a && b) ≡ true → (a ≡ true) × (b ≡ true)
 and_cases true b h = (refl, h)
 and_cases false b h = cc
 
@@ -172,24 +92,41 @@ left rs y ys x r c d e = by_test (same y x) refl
     by_test true h = h
     by_test false h = let n = none_by rs (y ∷ ys) x c (h, d) in cc
 
-le_of : (a b : ℕ) → nat_le a b ≡ true → a ≤ b
-le_of a b h = search (arith)
-
 -- Nothing is read yet.
 pub start : {xs : List Lexeme} {from : List Symbol → List Symbol} {i : ℕ} → CanRun xs from i → Begun xs 0 from i from (λ k us. us) i
 start {xs} {from} {i} c = record { ahead = omega arith; within = c.within; can = c; reads = λ k vs e. (vs, e, refl) }
 
+module _ {xs : List Lexeme} {n : ℕ} {from : List Symbol → List Symbol} {i : ℕ} {to : List Symbol → List Symbol} {act : (k : List Symbol) → Vals (to k) → Vals (from k)} {j : ℕ} (g : Begun xs n from i to act j) where
+  -- what can be read of it all
+  pub can_run : CanRun xs to j
+  can_run = let q = g.reads g.can.behind g.can.values g.can.reads in record { within = g.within; behind = g.can.behind; values = q.0; reads = q.1 }
+
+  -- said by another action
+  pub again : {by : (k : List Symbol) → Vals (to k) → Vals (from k)} → (p : ℕ) → nat_le p n ≡ true → ((k : List Symbol) (us : Vals (to k)) → act k us ≡ by k us) → Begun xs p from i to by j
+  again {by} p l f = let h = g.ahead in let m = le_of p n l in record {
+    ahead = omega arith;
+    within = g.within;
+    can = g.can;
+    reads = λ k vs e. (let q = g.reads k vs e in (q.0, q.1, sym (f k q.0) ∙ q.2));
+  }
+
+  -- read otherwise
+  pub reread : (L : List Symbol → List Symbol) (by : (k : List Symbol) → Vals (L k) → Vals (from k)) → ((k : List Symbol) (us : Vals (to k)) → read (rest xs j) j false (to k) ≡ Some us → (ws : Vals (L k)) × (read (rest xs j) j false (L k) ≡ Some ws) × (by k ws ≡ act k us)) → Begun xs n from i L by j
+  reread L by f = record {
+    ahead = g.ahead;
+    within = g.within;
+    can = g.can;
+    reads = λ k vs e. (let q = g.reads k vs e in let z = f k q.0 q.1 in (z.0, z.1, z.2 ∙ q.2));
+  }
+
 module _ {xs : List Lexeme} {n : ℕ} {from : List Symbol → List Symbol} {i : ℕ} {a : Symbol} {K : List Symbol → List Symbol} {act : (k : List Symbol) → Vals (a ∷ K k) → Vals (from k)} {j : ℕ} (g : Begun xs n from i (λ k. a ∷ K k) act j) where
   -- what can be read next
-  next_run : CanRun xs (λ k. a ∷ K k) j
-  next_run = let q = g.reads g.can.behind g.can.values g.can.reads in record { within = g.within; behind = g.can.behind; values = q.0; reads = q.1 }
-
   pub can_next : CanRead xs a j
   can_next = let q = g.reads g.can.behind g.can.values g.can.reads in record { within = g.within; behind = K g.can.behind; values = q.0; reads = q.1 }
 
   -- where the next symbol is not empty
   pub next_within : blank a ≡ None → j < length xs
-  next_within b = stands_due next_run b
+  next_within b = stands_due (can_run g) b
 
   -- The next symbol is read as a value.
   pub next : {v : Val a} {m : ℕ} → IsRead xs a j v m → Begun xs (n + least a) from i K (λ k us. act k (v, us)) m
@@ -206,7 +143,7 @@ module _ {xs : List Lexeme} {n : ℕ} {from : List Symbol → List Symbol} {i : 
     ahead = omega arith;
     within = omega arith;
     can = g.can;
-    reads = λ k vs e. (let q = g.reads k vs e in let w = row_at xs j a r (K k) q.0 h f q.1 in (w.0, w.1, ap (act k) w.2 ∙ q.2));
+    reads = λ k vs e. (let q = g.reads k vs e in let w = first_row xs j a r (K k) q.0 h f q.1 in (w.0, w.1, ap (act k) w.2 ∙ q.2));
   }
 
   pub expand : {r : Row a} → (y : Terminal) → same y (terminal_at xs j) ≡ true → same y t.OtherWord ≡ false → find (rows a) y ≡ Some r → Begun xs 1 from i (λ k. r.behind (K k)) (λ k us. act k (r.act (K k) j (token_at xs j).text us)) (j + 1)
@@ -214,21 +151,11 @@ module _ {xs : List Lexeme} {n : ℕ} {from : List Symbol → List Symbol} {i : 
 
   -- The next symbol may be empty, and is.
   pub pass : {v : Val a} → blank a ≡ Some v → is_seal a ≡ false → find (rows a) (terminal_at xs j) ≡ None → Begun xs n from i K (λ k us. act k (v, us)) j
-  pass {v} b l f = record {
-    ahead = g.ahead;
-    within = g.within;
-    can = g.can;
-    reads = λ k vs e. (let q = g.reads k vs e in let z = passes xs j a v (K k) q.0 b l f q.1 in (q.0.1, z.1, ap (λ u. act k (u, q.0.1)) (sym z.0) ∙ q.2));
-  }
+  pass {v} b l f = reread g K (λ k us. act k (v, us)) (λ k us e. (let z = passes xs j a v (K k) us b l f e in (us.1, z.1, ap (λ u. act k (u, us.1)) (sym z.0))))
 
   -- The next symbol reads what another one reads and symbols behind it.
   pub extended : (b : Symbol) (ss : List Symbol) (f : Val b → Vals ss → Val a) (own : List (Row a)) → rows a ≡ own ++ extend a b ss f (rows b) → j < length xs → find own (terminal_at xs j) ≡ None → (find (rows a) (terminal_at xs j) ≡ None → ⊥) → Begun xs n from i (λ k. b ∷ (ss ++ K k)) (λ k us. act k (f us.0 (front ss (K k) us.1), back ss (K k) us.1)) j
-  extended b ss f own is h o some = record {
-    ahead = g.ahead;
-    within = g.within;
-    can = g.can;
-    reads = λ k vs e. (let q = g.reads k vs e in let w = split xs j a b ss f own (K k) q.0 h is o some q.1 in (w.0, w.1, ap (act k) w.2 ∙ q.2));
-  }
+  extended b ss f own is h o some = reread g (λ k. b ∷ (ss ++ K k)) (λ k us. act k (f us.0 (front ss (K k) us.1), back ss (K k) us.1)) (λ k us e. (let w = split xs j a b ss f own (K k) us h is o some e in (w.0, w.1, ap (act k) w.2)))
 
   -- The same of a symbol that is not empty.
   pub extended_due : (b : Symbol) (ss : List Symbol) (f : Val b → Vals ss → Val a) (own : List (Row a)) → rows a ≡ own ++ extend a b ss f (rows b) → blank a ≡ None → find own (terminal_at xs j) ≡ None → Begun xs n from i (λ k. b ∷ (ss ++ K k)) (λ k us. act k (f us.0 (front ss (K k) us.1), back ss (K k) us.1)) j
@@ -273,29 +200,6 @@ follow {xs} {n} {m} {from} {to} {L} {i} {j} {p} {more} {K} {act} r g = let h = g
   can = g.can;
   reads = λ k vs e. (let q = g.reads k vs e in let z = r.reads (K k) q.0 q.1 in (z.0, z.1, ap (act k) z.2 ∙ q.2));
 }
-
-module _ {xs : List Lexeme} {n : ℕ} {from : List Symbol → List Symbol} {i : ℕ} {to : List Symbol → List Symbol} {act : (k : List Symbol) → Vals (to k) → Vals (from k)} {j : ℕ} (g : Begun xs n from i to act j) where
-  -- what can be read of it all
-  pub can_run : CanRun xs to j
-  can_run = let q = g.reads g.can.behind g.can.values g.can.reads in record { within = g.within; behind = g.can.behind; values = q.0; reads = q.1 }
-
-  -- said by another action
-  pub again : {by : (k : List Symbol) → Vals (to k) → Vals (from k)} → (p : ℕ) → nat_le p n ≡ true → ((k : List Symbol) (us : Vals (to k)) → act k us ≡ by k us) → Begun xs p from i to by j
-  again {by} p l f = let h = g.ahead in let m = le_of p n l in record {
-    ahead = omega arith;
-    within = g.within;
-    can = g.can;
-    reads = λ k vs e. (let q = g.reads k vs e in (q.0, q.1, sym (f k q.0) ∙ q.2));
-  }
-
-  -- read otherwise
-  pub reread : (L : List Symbol → List Symbol) (by : (k : List Symbol) → Vals (L k) → Vals (from k)) → ((k : List Symbol) (us : Vals (to k)) → read (rest xs j) j false (to k) ≡ Some us → (ws : Vals (L k)) × (read (rest xs j) j false (L k) ≡ Some ws) × (by k ws ≡ act k us)) → Begun xs n from i L by j
-  reread L by f = record {
-    ahead = g.ahead;
-    within = g.within;
-    can = g.can;
-    reads = λ k vs e. (let q = g.reads k vs e in let z = f k q.0 q.1 in (z.0, z.1, z.2 ∙ q.2));
-  }
 
 -- All is read.
 pub done : {xs : List Lexeme} {n : ℕ} {a : Symbol} {i : ℕ} {act : (k : List Symbol) → Vals k → Vals (a ∷ k)} {j : ℕ} → Begun xs n (λ k. a ∷ k) i (λ k. k) act j → (v : Val a) → nat_le (least a) n ≡ true → ((k : List Symbol) (us : Vals k) → act k us ≡ (v, us)) → IsRead xs a i v j

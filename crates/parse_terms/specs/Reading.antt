@@ -4,10 +4,9 @@ use Rattle.tokens_why.specs.declared.terminal.Terminal.{Terminal}
 use Rattle.tokens_why.specs.declared.terminal.Terminal.TheVariants as t
 use Rattle.grammar.specs.declared.symbols.Symbol.{Symbol}
 use Rattle.grammar.specs.declared.symbols.Symbol.TheVariants as s
-use Rattle.syntax_why.specs.Lexeme.{Lexeme}
+use Rattle.syntax_why.specs.Lexeme.{Lexeme, Word}
 use Rattle.tokens_why.specs.Operators.{is_infix, is_operator}
 use Rattle.syntax_why.specs.Trees.{Tree, ends_open}
-use Rattle.syntax_why.specs.Lexeme.{Word}
 use Rattle.reading.specs.Parts.{Chain, Dotted, attach, first_of, scope_on}
 use Rattle.reading.specs.Row.{Val, Vals}
 use Rattle.reading.specs.TermRows.{takes_op}

@@ -1,13 +1,13 @@
 // Terms and formulas, where they are known to stand: each call reads one, and says where it ends.
 // They depend on names, types and patterns; declarations depend on them.
-ghost use Rattle.std.specs.Prelude.{false, true, ◌&&◌, ◌||◌, ◌≡◌, ◌<◌, ◌≤◌, ◌∷◌, IfOk, length, map, not, option_map};
+ghost use Rattle.std.specs.Prelude.{false, true, ◌&&◌, ◌||◌, ◌≡◌, ◌<◌, ◌∷◌, IfOk, map, not, option_map};
 ghost use Rattle.grammar.specs.declared.symbols.Symbol.TheVariants as rule;
 ghost use Rattle.grammar.specs.Alphabet.{same};
 ghost use Rattle.tokens_why.specs.declared.terminal.Terminal.TheVariants as t;
 ghost use Rattle.tokens_why.specs.Operators.{is_prefix};
-ghost use Rattle.syntax_why.specs.Surface.{arm_of, op_of, terms_of, tree_of, trees, trigger as trigger_of};
-ghost use Rattle.syntax_why.specs.Trees.{ends_open, op};
-ghost use Rattle.parse_terms.specs.Reading.{CanRead, CanRun, Climb, IsClosed, IsExpr, IsRead, names, takes_infix, terminal_at, token_at};
+ghost use Rattle.syntax_why.specs.Surface.{arm_of, terms_of, tree_of, trees, trigger as trigger_of};
+ghost use Rattle.syntax_why.specs.Trees.{ends_open};
+ghost use Rattle.parse_terms.specs.Reading.{CanRead, CanRun, Climb, IsClosed, IsExpr, IsRead, names, takes_infix, terminal_at};
 ghost use Rattle.parse_terms.specs.Sources.{lexemes};
 ghost use Rattle.parse_terms.specs.Terms.{IsBranch, IsTrigger};
 
@@ -62,29 +62,63 @@ pub fn expression(
     ensures read { IfOk result (λ r. IsExpr (lexemes source.entry) m i (tree_of r.tree) r.end) }
     ensures is_open { IfOk result (λ r. r.is_open ≡ ends_open (tree_of r.tree)) }
 {
-    let ReadOperand {
-        tree: mut left,
-        mut tight,
-        mut is_open,
-        mut end,
-    } = operand(alloc, source, m, i)?;
-    'operators: while goes_on(source, is_open, m, tight, end) {
-        let sign = terminal(source, end);
-        let right = expression(alloc, source, right_of(sign), end + 1)?;
-        let name = operator(alloc, source, end)?;
-        let here = At {
-            first: i,
-            main: end,
-        };
-        left = Expr::binary(alloc, here, left, name, right.tree)?;
-        tight = prec_of(sign);
-        is_open = right.is_open;
-        end = right.end;
+    let mut left = operand(alloc, source, m, i)?;
+    'operators: while goes_on(source, left.is_open, m, left.tight, left.end) {
+        left = operation(alloc, source, m, i, left)?;
     }
     Ok(ReadExpression {
-        tree: left,
-        is_open,
+        tree: left.tree,
+        is_open: left.is_open,
+        end: left.end,
+    })
+}
+
+/// A term or formula of any level, and the token behind it.
+#[cycle(descent)]
+fn any_expression(alloc: Global, source: Source, i: usize) -> Result<(Expr, usize), AllocError>
+    requires { CanRead (lexemes source) (rule.Expr 0) i }
+    ensures { IfOk result (λ r. IsExpr (lexemes source.entry) 0 i (tree_of r.0) r.1) }
+{
+    let read = expression(alloc, source, 0, i)?;
+    Ok((read.tree, read.end))
+}
+
+/// What stands to the left of an operator, with the operator and its right operand.
+#[cycle(descent)]
+fn operation(
+    alloc: Global,
+    source: Source,
+    m: u8,
+    i: usize,
+    left: ReadOperand,
+) -> Result<ReadOperand, AllocError>
+    requires climb { Climb (lexemes source) m i (tree_of left.tree) left.tight left.end }
+    requires goes_on { (not (ends_open (tree_of left.tree))
+        && takes_infix m left.tight (terminal_at (lexemes source) left.end)) ≡ true }
+    ensures climb { IfOk result
+        (λ r. Climb (lexemes source.entry) m i (tree_of r.tree) r.tight r.end) }
+    ensures is_open { IfOk result (λ r. r.is_open ≡ ends_open (tree_of r.tree)) }
+    ensures ahead { IfOk result (λ r. left.end < r.end) }
+{
+    let ReadOperand {
+        tree: left_tree,
+        tight: _,
+        is_open: _,
         end,
+    } = left;
+    let sign = terminal(source, end);
+    let right = expression(alloc, source, right_of(sign), end + 1)?;
+    let name = operator(alloc, source, end)?;
+    let here = At {
+        first: i,
+        main: end,
+    };
+    let tree = Expr::binary(alloc, here, left_tree, name, right.tree)?;
+    Ok(ReadOperand {
+        tree,
+        tight: prec_of(sign),
+        is_open: right.is_open,
+        end: right.end,
     })
 }
 
@@ -96,77 +130,101 @@ fn operand(alloc: Global, source: Source, m: u8, i: usize) -> Result<ReadOperand
         (λ r. Climb (lexemes source.entry) m i (tree_of r.tree) r.tight r.end) }
     ensures is_open { IfOk result (λ r. r.is_open ≡ ends_open (tree_of r.tree)) }
 {
-    let here = place(i);
     let is_negation = at(source, i, Terminal::NotWord);
     if is_negation {
-        let inner = expression(alloc, source, 3, i + 1)?;
-        let negation = Expr::negation(alloc, here, inner.tree)?;
-        return Ok(ReadOperand {
-            tree: negation,
-            tight: 3,
-            is_open: inner.is_open,
-            end: inner.end,
-        });
+        return negation(alloc, source, m, i);
     }
     if at_prefix(source, i) {
-        let name = operator(alloc, source, i)?;
-        let operand = expression(alloc, source, 8, i + 1)?;
-        let prefixed = Expr::prefix(alloc, here, name, operand.tree)?;
-        return Ok(ReadOperand {
-            tree: prefixed,
-            tight: 8,
-            is_open: operand.is_open,
-            end: operand.end,
-        });
+        return prefix(alloc, source, m, i);
     }
     let is_choice = at(source, i, Terminal::IfWord);
     if is_choice {
-        let condition = expression(alloc, source, 0, i + 1)?;
-        let yes = expression(alloc, source, 0, condition.end + 1)?;
-        let no = expression(alloc, source, 0, yes.end + 1)?;
-        let choice = Expr::choice(alloc, here, condition.tree, yes.tree, no.tree)?;
-        return Ok(ReadOperand {
-            tree: choice,
-            tight: 0,
-            is_open: true,
-            end: no.end,
-        });
+        return choice(alloc, source, m, i);
     }
     let is_binding = at(source, i, Terminal::LetWord);
     if is_binding {
-        let (tree, end) = let_in(alloc, source, m, i)?;
-        return Ok(ReadOperand {
-            tree,
-            tight: 0,
-            is_open: true,
-            end,
-        });
+        return let_in(alloc, source, m, i);
     }
     if at_quantifier(source, i) {
-        let (bound, after) = quantification(alloc, source, m, i)?;
-        return Ok(ReadOperand {
-            tree: bound,
-            tight: 0,
-            is_open: true,
-            end: after,
-        });
+        return quantification(alloc, source, m, i);
     }
-    let (atom, behind) = primary(alloc, source, i)?;
+    let (tree, end) = primary(alloc, source, i)?;
     Ok(ReadOperand {
-        tree: atom,
+        tree,
         tight: 9,
         is_open: false,
-        end: behind,
+        end,
+    })
+}
+
+/// A `not` and its operand.
+#[cycle(descent)]
+fn negation(alloc: Global, source: Source, m: u8, i: usize) -> Result<ReadOperand, AllocError>
+    requires can { CanRead (lexemes source) (rule.Expr m) i }
+    requires word { same t.NotWord (terminal_at (lexemes source) i) ≡ true }
+    ensures climb { IfOk result
+        (λ r. Climb (lexemes source.entry) m i (tree_of r.tree) r.tight r.end) }
+    ensures is_open { IfOk result (λ r. r.is_open ≡ ends_open (tree_of r.tree)) }
+{
+    let inner = expression(alloc, source, 3, i + 1)?;
+    let tree = Expr::negation(alloc, place(i), inner.tree)?;
+    Ok(ReadOperand {
+        tree,
+        tight: 3,
+        is_open: inner.is_open,
+        end: inner.end,
+    })
+}
+
+/// A prefix operator and its operand.
+#[cycle(descent)]
+fn prefix(alloc: Global, source: Source, m: u8, i: usize) -> Result<ReadOperand, AllocError>
+    requires can { CanRead (lexemes source) (rule.Expr m) i }
+    requires sign { is_prefix (terminal_at (lexemes source) i) ≡ true }
+    ensures climb { IfOk result
+        (λ r. Climb (lexemes source.entry) m i (tree_of r.tree) r.tight r.end) }
+    ensures is_open { IfOk result (λ r. r.is_open ≡ ends_open (tree_of r.tree)) }
+{
+    let name = operator(alloc, source, i)?;
+    let inner = expression(alloc, source, 8, i + 1)?;
+    let tree = Expr::prefix(alloc, place(i), name, inner.tree)?;
+    Ok(ReadOperand {
+        tree,
+        tight: 8,
+        is_open: inner.is_open,
+        end: inner.end,
+    })
+}
+
+/// An `if` with its condition and its two sides.
+#[cycle(descent)]
+fn choice(alloc: Global, source: Source, m: u8, i: usize) -> Result<ReadOperand, AllocError>
+    requires can { CanRead (lexemes source) (rule.Expr m) i }
+    requires word { same t.IfWord (terminal_at (lexemes source) i) ≡ true }
+    ensures climb { IfOk result
+        (λ r. Climb (lexemes source.entry) m i (tree_of r.tree) r.tight r.end) }
+    ensures is_open { IfOk result (λ r. r.is_open ≡ ends_open (tree_of r.tree)) }
+{
+    let (condition, j) = any_expression(alloc, source, i + 1)?;
+    let (yes, n) = any_expression(alloc, source, j + 1)?;
+    let (no, end) = any_expression(alloc, source, n + 1)?;
+    let tree = Expr::choice(alloc, place(i), condition, yes, no)?;
+    Ok(ReadOperand {
+        tree,
+        tight: 0,
+        is_open: true,
+        end,
     })
 }
 
 /// A `let`.
 #[cycle(descent)]
-fn let_in(alloc: Global, source: Source, m: u8, i: usize) -> Result<(Expr, usize), AllocError>
+fn let_in(alloc: Global, source: Source, m: u8, i: usize) -> Result<ReadOperand, AllocError>
     requires can { CanRead (lexemes source) (rule.Expr m) i }
     requires word { same t.LetWord (terminal_at (lexemes source) i) ≡ true }
-    ensures read { IfOk result (λ r. Climb (lexemes source.entry) m i (tree_of r.0) 0 r.1) }
-    ensures is_open { IfOk result (λ r. ends_open (tree_of r.0) ≡ true) }
+    ensures climb { IfOk result
+        (λ r. Climb (lexemes source.entry) m i (tree_of r.tree) r.tight r.end) }
+    ensures is_open { IfOk result (λ r. r.is_open ≡ ends_open (tree_of r.tree)) }
 {
     let mut bound: Vec<Pat> = Vec::new(alloc);
     let (first, mut j) = pattern(alloc, source, i + 1)?;
@@ -176,26 +234,26 @@ fn let_in(alloc: Global, source: Source, m: u8, i: usize) -> Result<(Expr, usize
         bound.push(next)?;
         j = end;
     }
-    let value = expression(alloc, source, 0, j + 1)?;
-    let body = expression(alloc, source, 0, value.end + 1)?;
-    let here = place(i);
-    let tree = Expr::binding(alloc, here, Seq::from_vec(bound), value.tree, body.tree)?;
-    Ok((tree, body.end))
+    let (value, n) = any_expression(alloc, source, j + 1)?;
+    let (body, last) = any_expression(alloc, source, n + 1)?;
+    let tree = Expr::binding(alloc, place(i), Seq::from_vec(bound), value, body)?;
+    Ok(ReadOperand {
+        tree,
+        tight: 0,
+        is_open: true,
+        end: last,
+    })
 }
 
 /// A quantifier with what it binds and its body.
 #[cycle(descent)]
-fn quantification(
-    alloc: Global,
-    source: Source,
-    m: u8,
-    i: usize,
-) -> Result<(Expr, usize), AllocError>
+fn quantification(alloc: Global, source: Source, m: u8, i: usize) -> Result<ReadOperand, AllocError>
     requires can { CanRead (lexemes source) (rule.Expr m) i }
     requires word { (same t.ForallWord (terminal_at (lexemes source) i)
         || same t.ExistsWord (terminal_at (lexemes source) i)) ≡ true }
-    ensures read { IfOk result (λ r. Climb (lexemes source.entry) m i (tree_of r.0) 0 r.1) }
-    ensures is_open { IfOk result (λ r. ends_open (tree_of r.0) ≡ true) }
+    ensures climb { IfOk result
+        (λ r. Climb (lexemes source.entry) m i (tree_of r.tree) r.tight r.end) }
+    ensures is_open { IfOk result (λ r. r.is_open ≡ ends_open (tree_of r.tree)) }
 {
     let forall = at(source, i, Terminal::ForallWord);
     let mut binders: Vec<BinderTree> = Vec::new(alloc);
@@ -207,11 +265,15 @@ fn quantification(
         j = end;
     }
     let (triggers, behind) = trigger(alloc, source, j)?;
-    let body = expression(alloc, source, 0, behind)?;
-    let here = place(i);
+    let (body, last) = any_expression(alloc, source, behind)?;
     let bound = Seq::from_vec(binders);
-    let tree = Expr::quantified(alloc, here, forall, bound, triggers, body.tree)?;
-    Ok((tree, body.end))
+    let tree = Expr::quantified(alloc, place(i), forall, bound, triggers, body)?;
+    Ok(ReadOperand {
+        tree,
+        tight: 0,
+        is_open: true,
+        end: last,
+    })
 }
 
 /// The trigger of a quantifier, if there is one, and where its body begins.
@@ -230,15 +292,14 @@ fn trigger(
     if is_given {
         let mut terms: Vec<Expr> = Vec::new(alloc);
         let mut bars: Vec<bool> = Vec::new(alloc);
-        let first = expression(alloc, source, 0, i + 1)?;
-        terms.push(first.tree)?;
-        let mut j = first.end;
+        let (first, mut j) = any_expression(alloc, source, i + 1)?;
+        terms.push(first)?;
         'terms: while at_separator(source, j) {
             let bar = at(source, j, Terminal::Bar);
-            let next = expression(alloc, source, 0, j + 1)?;
-            terms.push(next.tree)?;
+            let (next, end) = any_expression(alloc, source, j + 1)?;
+            terms.push(next)?;
             bars.push(bar)?;
-            j = next.end;
+            j = end;
         }
         let tree = TriggerTree::new(Seq::from_vec(terms), Seq::from_vec(bars));
         return Ok((Some(tree), j + 1 + 1));
@@ -325,20 +386,19 @@ fn plain_atom(alloc: Global, source: Source, i: usize) -> Result<(Expr, usize), 
     if is_empty {
         return Ok((Expr::group(here, Seq::new(alloc)), behind + 1));
     }
-    let first = expression(alloc, source, 0, behind)?;
-    let mut j = first.end;
+    let (first, mut j) = any_expression(alloc, source, behind)?;
     let is_cast = at(source, j, Terminal::Colon);
     if is_cast {
         let (ty, end) = type_tree(alloc, source, j + 1)?;
-        let tree = Expr::cast(alloc, here, first.tree, ty)?;
+        let tree = Expr::cast(alloc, here, first, ty)?;
         return Ok((tree, end + 1));
     }
     let mut parts: Vec<Expr> = Vec::new(alloc);
-    parts.push(first.tree)?;
+    parts.push(first)?;
     'members: while at(source, j, Terminal::Comma) {
-        let next = expression(alloc, source, 0, j + 1)?;
-        parts.push(next.tree)?;
-        j = next.end;
+        let (next, end) = any_expression(alloc, source, j + 1)?;
+        parts.push(next)?;
+        j = end;
     }
     Ok((Expr::group(here, Seq::from_vec(parts)), j + 1))
 }
@@ -352,13 +412,12 @@ fn cases(alloc: Global, source: Source, i: usize) -> Result<(Expr, usize), Alloc
         (λ r. IsClosed (lexemes source.entry) rule.Atom i (tree_of r.0) (tree_of r.0) r.1) }
 {
     let mut scrutinees: Vec<Expr> = Vec::new(alloc);
-    let first = expression(alloc, source, 0, i + 1)?;
-    scrutinees.push(first.tree)?;
-    let mut j = first.end;
+    let (first, mut j) = any_expression(alloc, source, i + 1)?;
+    scrutinees.push(first)?;
     'scrutinees: while at(source, j, Terminal::Comma) {
-        let next = expression(alloc, source, 0, j + 1)?;
-        scrutinees.push(next.tree)?;
-        j = next.end;
+        let (next, end) = any_expression(alloc, source, j + 1)?;
+        scrutinees.push(next)?;
+        j = end;
     }
     let (bar, begin) = past_bar(source, j + 1);
     let mut arms: Vec<BranchTree> = Vec::new(alloc);
@@ -388,7 +447,7 @@ fn branch(alloc: Global, source: Source, i: usize) -> Result<(BranchTree, usize)
         alternatives.push(next)?;
         j = end;
     }
-    let body = expression(alloc, source, 0, j + 1)?;
-    let tree = BranchTree::new(Seq::from_vec(alternatives), body.tree);
-    Ok((tree, body.end))
+    let (body, last) = any_expression(alloc, source, j + 1)?;
+    let tree = BranchTree::new(Seq::from_vec(alternatives), body);
+    Ok((tree, last))
 }

@@ -1,6 +1,6 @@
 // Patterns, where they are known to stand: each call reads one, and says where it ends.
 // They depend on the names; terms depend on them.
-ghost use Rattle.std.specs.Prelude.{◌≡◌, ◌<◌, IfOk, map};
+ghost use Rattle.std.specs.Prelude.{◌<◌, IfOk};
 ghost use Rattle.grammar.specs.declared.symbols.Symbol.TheVariants as rule;
 ghost use Rattle.syntax_why.specs.Surface.{pattern_of, patterns};
 ghost use Rattle.parse_terms.specs.Patterns.{IsBare};

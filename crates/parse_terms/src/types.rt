@@ -1,6 +1,6 @@
 // Types, where they are known to stand: each call reads one, and says where it ends.
 // They depend on the names; patterns, terms and declarations depend on them.
-ghost use Rattle.std.specs.Prelude.{◌≡◌, ◌<◌, IfOk, map};
+ghost use Rattle.std.specs.Prelude.{◌<◌, IfOk};
 ghost use Rattle.grammar.specs.declared.symbols.Symbol.TheVariants.{Atype, Targs, Ttuple, TypeOf};
 ghost use Rattle.syntax_why.specs.Surface.{form_of, types};
 ghost use Rattle.parse_terms.specs.Reading.{CanRead, IsRead};

@@ -22,7 +22,7 @@ use Rattle.reading.proofs.Reading.{Extends, Reads, Stops, extended, passed, past
 use Rattle.reading.proofs.FormsRead.{reads_qlid, reads_type, regroup}
 use Rattle.reading.proofs.Operands.{both_right, past_op, reads_mark}
 use Rattle.reading.proofs.OpenBuilt.{list_past}
-use Rattle.reading.proofs.DeclTokens.{alg_whole, constant_past, function_past, three_row}
+use Rattle.reading.proofs.DeclTokens.{alg_whole, constant_past, function_past, three_row, clone_row}
 use Rattle.reading.proofs.Ends.{Ends, next_ends}
 use Rattle.reading.proofs.PartsRead.{alg_tail, elem_vars, reads_id, reads_op, reads_params, reads_path, reads_qid, reads_qop, reads_renamed}
 use Rattle.reading.proofs.BodiesRead.{expr_then, ind_follow, ind_tail, ind_tokens_of, reads_body, reads_inductive, reads_tvars, reads_value, typedef_alias, typedef_con}
@@ -114,9 +114,6 @@ predicate_tokens a b c d ys = simp append_assoc
 constant_tokens : (a b c ys : List Lexeme) → (a ++ (mark t.Colon ∷ (b ++ c))) ++ ys ≡ a ++ (mark t.Colon ∷ (b ++ (c ++ ys)))
 constant_tokens a b c ys = simp append_assoc
 
-use_tokens : (a b c ys : List Lexeme) → (a ++ (b ++ c)) ++ ys ≡ a ++ (b ++ (c ++ ys))
-use_tokens a b c ys = simp append_assoc
-
 pub decl_equation : (n : Name) (ns : List Name) (f : Option Form) (zs : List Lexeme) (i : ℕ) (k : List Symbol) (vs : Vals (s.Decls ∷ k)) → IsTypePart f → n.at ≡ i + 1 → PlacedNames (i + 1 + 1) ns → PlacedPart (past (i + 1 + 1) (variable_row ns)) f → Ends zs → Reads (s.Decls ∷ k) zs (past (past (i + 1 + 1) (variable_row ns)) (type_equation f)) vs → Reads (s.Decls ∷ k) (mark t.TypeWord ∷ lx t.Lident n.text ∷ (variable_row ns ++ (type_equation f ++ zs))) i (more_decls (type_decl (at i) n ns f) vs.0, vs.1)
 decl_equation n ns None zs i k vs l a p q m h = rw (reads_tvars ns None zs (i + 1 + 1) (s.Decls ∷ k) vs p (passed s.Tvars (record { vars = []; equation = None }) (s.Decls ∷ k) zs (past (i + 1 + 1) (variable_row ns)) vs refl refl m.no_tvars h)) (ap (λ v. Some (more_decls (type_decl (at i) (name v n.text) ns None) vs.0, vs.1)) (sym a))
 decl_equation n ns (Some f) zs i k vs l a p q m h = rw (reads_tvars ns (Some (is_alias f)) (mark t.Equal ∷ (write_form f ++ zs)) (i + 1 + 1) (s.Decls ∷ k) vs p (rw (typedef_alias f zs (past (i + 1 + 1) (variable_row ns) + 1) (s.Decls ∷ k) vs l q m.no_targs h) refl)) (ap (λ v. Some (more_decls (type_decl (at i) (name v n.text) ns (Some f)) vs.0, vs.1)) (sym a))
@@ -180,7 +177,7 @@ mutual
   reads_decl (prop_decl a pk.Axiom c e) ds zs i k vs l p m h = rw (both_right (write_called c) (mark t.Colon) (write e) zs, p.0, prop_rest c e ds zs i k vs l.0 l.1 p.1 p.2 m (rw past_op at h)) refl
   reads_decl (prop_decl a pk.Lemma c e) ds zs i k vs l p m h = rw (both_right (write_called c) (mark t.Colon) (write e) zs, p.0, prop_rest c e ds zs i k vs l.0 l.1 p.1 p.2 m (rw past_op at h)) refl
   reads_decl (prop_decl a pk.Goal c e) ds zs i k vs l p m h = rw (both_right (write_called c) (mark t.Colon) (write e) zs, p.0, prop_rest c e ds zs i k vs l.0 l.1 p.1 p.2 m (rw past_op at h)) refl
-  reads_decl (use_decl a l p n) ds zs i k vs q u m h = rw (use_tokens (link_words l) (write_path p.parts) (renamed n) zs, u.0, used_path l p.parts n zs (i + 1) (s.Decls ∷ k) (ds, vs) q.0 q.1 u.2 m.no_renamed (subst (λ j. Reads (s.Decls ∷ k) zs j (ds, vs)) (three_row (link_words l) (write_path p.parts) (renamed n) (i + 1)) h)) (ap (λ v. Some (more_decls (use_decl (at i) l (record { at = v; parts = p.parts }) n) ds, vs)) (sym u.1))
+  reads_decl (use_decl a l p n) ds zs i k vs q u m h = rw (clone_row (link_words l) (write_path p.parts) (renamed n) zs, u.0, used_path l p.parts n zs (i + 1) (s.Decls ∷ k) (ds, vs) q.0 q.1 u.2 m.no_renamed (subst (λ j. Reads (s.Decls ∷ k) zs j (ds, vs)) (three_row (link_words l) (write_path p.parts) (renamed n) (i + 1)) h)) (ap (λ v. Some (more_decls (use_decl (at i) l (record { at = v; parts = p.parts }) n) ds, vs)) (sym u.1))
   reads_decl (clone_decl a l p n es) ds zs i k vs q u m h = rw (predicate_tokens (link_words l) (write_path p.parts) (renamed n) (substitution es) zs, u.0, cloned_path l p.parts n es (substitution es ++ zs) (i + 1) (s.Decls ∷ k) (ds, vs) q.0 q.1 u.2 (subst_stop es zs m) (reads_subst es zs (past (past (past (i + 1) (link_words l)) (write_path p.parts)) (renamed n)) (s.Decls ∷ k) (ds, vs) q.2 u.3 m (subst (λ j. Reads (s.Decls ∷ k) zs j (ds, vs)) (three_row (link_words l) (write_path p.parts) (renamed n ++ substitution es) (i + 1) ∙ past-append (renamed n) (substitution es) (past (past (i + 1) (link_words l)) (write_path p.parts))) h))) (ap (λ v. Some (more_decls (clone_decl (at i) l (record { at = v; parts = p.parts }) n es) ds, vs)) (sym u.1))
   reads_decl (scope_decl a n es) ds zs i k vs l p m h = rw (p.0, reads_decls es zs (i + 1 + 1) (s.Decls ∷ k) (ds, vs) l p.2 h) (ap (λ v. Some (more_decls (scope_decl (at i) (name v n.text) es) ds, vs)) (sym p.1))
 
@@ -201,11 +198,3 @@ reads_file (h ∷ hs) i l p = by_heading h.is_module refl (reads_file hs (past (
     by_heading : (b : Bool) → h.is_module ≡ b → Reads (s.File ∷ []) (write_file hs) (past (i + 1 + 1) (write_decls h.decls ++ (mark t.EndWord ∷ []))) (hs, tt) → Reads (s.File ∷ []) (write_file (h ∷ hs)) i (h ∷ hs, tt)
     by_heading true e g = subst (λ b. read (mark (heading b) ∷ lx t.Uident h.name.text ∷ ((write_decls h.decls ++ (mark t.EndWord ∷ [])) ++ write_file hs)) i false (s.File ∷ []) ≡ Some (h ∷ hs, tt)) (sym e) (rw (rest_read g) (theory_is true e))
     by_heading false e g = subst (λ b. read (mark (heading b) ∷ lx t.Uident h.name.text ∷ ((write_decls h.decls ++ (mark t.EndWord ∷ [])) ++ write_file hs)) i false (s.File ∷ []) ≡ Some (h ∷ hs, tt)) (sym e) (rw (rest_read g) (theory_is false e))
-
-abbrev file_or : List Theory → Option (List Theory × Unit {0}) → List Theory
-file_or hs None = hs
-file_or hs (Some v) = v.0
-
--- Tokens are those of one file at most.
-pub one_file : (hs gs : List Theory) (i : ℕ) → IsLevelFile hs → IsLevelFile gs → PlacedFile i hs → PlacedFile i gs → write_file hs ≡ write_file gs → hs ≡ gs
-one_file hs gs i l m p q e = ap (file_or hs) (sym (reads_file hs i l p) ∙ ap (λ v. read v i false (s.File ∷ [])) e ∙ reads_file gs i m q)

@@ -1,9 +1,8 @@
 -- Tokens that are read as the trees that the language's table of precedences gives them, and tokens that are refused.
-use Rattle.std.proofs.Common.{◌≡◌, ℕ, true, false, List, [], ◌∷◌, Some, None, refl}
-use Rattle.tokens_why.specs.declared.terminal.Terminal.{Terminal}
+use Rattle.std.proofs.Common.{◌≡◌, ℕ, true, false, [], ◌∷◌, Some, None, refl}
 use Rattle.tokens_why.specs.declared.terminal.Terminal.TheVariants as t
 use Rattle.grammar.specs.declared.symbols.Symbol.TheVariants as s
-use Rattle.grammar.specs.Machine.{accepts, complete, run}
+use Rattle.grammar.specs.Machine.{accepts, run}
 use Rattle.syntax_why.specs.declared.names.At.{At}
 use Rattle.syntax_why.specs.Lexeme.{Lexeme, Word, at, lx, mark}
 use Rattle.syntax_why.specs.Forms.{called, lower}

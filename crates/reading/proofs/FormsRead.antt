@@ -1,5 +1,5 @@
 -- The tokens of a type or a pattern are read as it.
-use Rattle.std.proofs.Common.{◌≡◌, ℕ, ◌+◌, false, List, [], ◌∷◌, ◌++◌, Option, Some, None, refl, sym, ap, ◌∙◌, append_assoc, append-nil}
+use Rattle.std.proofs.Common.{◌≡◌, ℕ, ◌+◌, List, [], ◌∷◌, ◌++◌, Option, Some, None, refl, sym, append_assoc, append-nil}
 use Rattle.tokens_why.specs.declared.terminal.Terminal.TheVariants as t
 use Rattle.grammar.specs.declared.symbols.Symbol.{Symbol}
 use Rattle.grammar.specs.declared.symbols.Symbol.TheVariants as s
@@ -180,20 +180,3 @@ mutual
 
 pub reads_pat : (f : Form) (ys : List Lexeme) (i : ℕ) (k : List Symbol) (vs : Vals k) → IsForm patterns f → IsPlaced i f → PatStops ys → Reads k ys (past i (write_form f)) vs → Reads (s.Pat ∷ k) (write_form f ++ ys) i (f, vs)
 reads_pat f ys i k vs l p n h = reads_named f None ys i k vs l p n.quids n.patoms (behind_plain f k ys (past i (write_form f)) vs n.as_part h)
-
-abbrev pub form_or : Form → Option (Form × Unit {0}) → Form
-form_or f None = f
-form_or f (Some v) = v.0
-
-pub type_alone : (f : Form) (i : ℕ) → IsForm types f → IsPlaced i f → read (write_form f) i false (s.TypeOf ∷ []) ≡ Some (f, tt)
-type_alone f i l p = ap (λ v. read v i false (s.TypeOf ∷ [])) (sym (append-nil (write_form f))) ∙ reads_type f [] i [] tt l p tt refl
-
-pub pattern_alone : (f : Form) (i : ℕ) → IsForm patterns f → IsPlaced i f → read (write_form f) i false (s.Pat ∷ []) ≡ Some (f, tt)
-pattern_alone f i l p = ap (λ v. read v i false (s.Pat ∷ [])) (sym (append-nil (write_form f))) ∙ reads_pat f [] i [] tt l p (record { quids = tt; patoms = tt; as_part = tt }) refl
-
--- Tokens are those of one type and of one pattern at most.
-pub one_type : (f g : Form) (i : ℕ) → IsForm types f → IsForm types g → IsPlaced i f → IsPlaced i g → write_form f ≡ write_form g → f ≡ g
-one_type f g i l m p q h = ap (form_or f) (sym (type_alone f i l p) ∙ ap (λ v. read v i false (s.TypeOf ∷ [])) h ∙ type_alone g i m q)
-
-pub one_pattern : (f g : Form) (i : ℕ) → IsForm patterns f → IsForm patterns g → IsPlaced i f → IsPlaced i g → write_form f ≡ write_form g → f ≡ g
-one_pattern f g i l m p q h = ap (form_or f) (sym (pattern_alone f i l p) ∙ ap (λ v. read v i false (s.Pat ∷ [])) h ∙ pattern_alone g i m q)

@@ -1,5 +1,5 @@
 -- Values that are right, with their places and tokens.
-use Rattle.std.proofs.Common.{◌≡◌, ℕ, ◌+◌, Bool, true, false, ◌&&◌, List, [], ◌∷◌, ◌++◌, Option, Some, None}
+use Rattle.std.proofs.Common.{◌≡◌, ℕ, ◌+◌, Bool, true, false, ◌&&◌, List, [], ◌∷◌, ◌++◌, Option, Some, None, ◌≤◌}
 use Rattle.std.specs.Bool.{⊤}
 use Rattle.tokens_why.specs.declared.terminal.Terminal.{Terminal}
 use Rattle.tokens_why.specs.declared.terminal.Terminal.TheVariants as t
@@ -9,8 +9,7 @@ use Rattle.grammar.specs.Machine.{is_tail}
 use Rattle.syntax_why.specs.declared.names.Name.{Name}
 use Rattle.syntax_why.specs.Lexeme.{Lexeme, Word, lx, mark}
 use Rattle.syntax_why.specs.Forms.{AreForms, AreParts, IsForm, IsPart, IsPlaced, PlacedList, PlacedRow, form_list, form_row, form_tail, past, patterns, scoped, types, write_called, write_form, write_own}
-use Rattle.tokens_why.specs.Operators.{is_infix}
-use Rattle.tokens_why.specs.Operators.{is_operator}
+use Rattle.tokens_why.specs.Operators.{is_infix, is_operator, prec, need, right}
 use Rattle.syntax_why.specs.Trees.{AreAtoms, AreBranches, AreLevel, HasSome, IsAtom, IsLevel, IsOwn, IsPlacedTree, MayBeMarked, Op, PlacedBranches, PlacedCommas, PlacedTrees, ends_open, none, tight, write, write_op, write_others, write_row, write_tail}
 use Rattle.syntax_why.specs.Declarations.{definition, element_tail, other_members, param_row, renamed, substitution, write_decls, write_element, write_file, write_path}
 use Rattle.syntax_why.specs.DeclarationRules.{AreLevelDecls, AreMembers, AreParams, IsDefinition, IsElement, IsLevelFile, IsNewProp, IsNewSymbol, IsSymbol, PlacedDecls, PlacedDefinition, PlacedElement, PlacedFile, PlacedMembers, PlacedParams, PlacedRenamed}
@@ -19,9 +18,8 @@ use Rattle.reading.specs.Row.{Row, Val, Vals, back, extend, front}
 use Rattle.reading.specs.Values.{blank}
 use Rattle.reading.proofs.TermsRight.{IsArm, IsBound, IsBranch, IsCases, IsLet, IsNames, IsTerms, write_arm, write_bound, write_branch, write_cases, write_let, write_names, write_terms_part}
 use Rattle.reading.proofs.DeclsRight.{IsAlg, IsAxioms, IsBody, IsClausePart, IsClauses, IsCloned, IsCon, IsFields, IsMemberPart, IsPname, IsPparen, IsPropAt, IsQids, IsSubst, IsTvars, IsType, IsUpper, IsUsed, IsVars, value_open, write_alg, write_axioms, write_body, write_clause_part, write_clauses, write_cloned, write_con, write_fields, write_member_part, write_pname, write_pparen, write_qids, write_tvars, write_type, write_upper, write_used, write_vars}
-use Rattle.std.proofs.Common.{◌≤◌}
-use Rattle.tokens_why.specs.Operators.{prec, need, right}
 
+infixr 5 ◌▸◌
 -- A token has a text where its terminal has several.
 abbrev pub Proper : Terminal → Word → Type 0
 Proper t.Lident w = ⊤
@@ -300,6 +298,10 @@ RowOk s r = (k : List Symbol) (i : ℕ) (w : Word) (xs : List Lexeme) (vs : Vals
 abbrev pub AllRows : (s : Symbol) → List (Row s) → Type 0
 AllRows s [] = ⊤
 AllRows s (r ∷ rs) = RowOk s r × AllRows s rs
+
+-- one row, and others
+abbrev pub ◌▸◌ : {A B : Type 0} → A → B → A × B
+◌▸◌ a b = (a, b)
 
 pub extend_ok : (s a : Symbol) (ss : List Symbol) (f : Val a → Vals ss → Val s) (rs : List (Row a)) → ((k : List Symbol) (i : ℕ) (xs : List Lexeme) (v : Val a) (vs : Vals (ss ++ k)) → Good false (a ∷ (ss ++ k)) i xs (v, vs) → Good false (s ∷ k) i xs (f v (front ss k vs), back ss k vs)) → AllRows a rs → AllRows s (extend s a ss f rs)
 extend_ok s a ss f [] j h = tt

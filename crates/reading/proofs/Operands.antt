@@ -1,17 +1,16 @@
 -- Operands: where they end, and what stands behind them.
-use Rattle.std.proofs.Common.{◌≡◌, ℕ, ◌+◌, ◌≤◌, Bool, true, false, ◌&&◌, nat_le, cond, List, [], ◌∷◌, ◌++◌, Some, None, refl, sym, ap, ◌∙◌, append_assoc, arith}
+use Rattle.std.proofs.Common.{◌≡◌, ℕ, ◌+◌, ◌≤◌, Bool, true, false, nat_le, cond, List, [], ◌∷◌, ◌++◌, Some, None, refl, sym, ap, ◌∙◌, append_assoc, arith}
 use Rattle.tokens_why.specs.declared.terminal.Terminal.{Terminal}
 use Rattle.tokens_why.specs.declared.terminal.Terminal.TheVariants as t
 use Rattle.grammar.specs.declared.symbols.Symbol.{Symbol}
 use Rattle.grammar.specs.declared.symbols.Symbol.TheVariants as s
 use Rattle.grammar.specs.Alphabet.{number}
-use Rattle.tokens_why.specs.Operators.{prec, need, right}
+use Rattle.tokens_why.specs.Operators.{prec, need, right, is_infix}
 use Rattle.grammar.specs.Machine.{is_tail}
 use Rattle.grammar.proofs.Laws.{same_refl, no_false}
 use Rattle.syntax_why.specs.declared.names.At.{At}
 use Rattle.syntax_why.specs.Lexeme.{Lexeme, Word, mark, name}
 use Rattle.syntax_why.specs.Forms.{Form, IsForm, IsPlaced, Own, infix_op, lower, past, prefix_op, scoped, star, types, upper, write_form, write_own}
-use Rattle.tokens_why.specs.Operators.{is_infix}
 use Rattle.syntax_why.specs.Trees.{AreAtoms, Branches, IsLevel, IsPlacedTree, Op, Tree, Trees, apply, binary, binding, branch, cases, cast, choice, ends_open, falsity, group, literal, more, negation, no_branch, none, op, prefixed, quantified, terms_tail, tight, truth, write, write_op, write_others, write_row, write_tail}
 use Rattle.reading.specs.Parts.{Chain, attach, cast_to, first_of, joined, stop}
 use Rattle.reading.specs.Row.{Vals, row}
@@ -39,37 +38,11 @@ first_placed (quantified a all bs g e) i p = ap (λ v. v.first) p.0
 
 pub op_args : (o : Terminal) → is_infix o ≡ true → find (rows s.Args) o ≡ None
 op_args t.Arrow h = refl
-op_args t.Equiv h = refl
-op_args t.Disj h = refl
-op_args t.OrOr h = refl
-op_args t.Conj h = refl
-op_args t.AndAnd h = refl
-op_args t.Equal h = refl
-op_args t.Operator1 h = refl
-op_args t.Minus h = refl
-op_args t.Operator2 h = refl
-op_args t.Operator3 h = refl
-op_args t.Operator4 h = refl
-op_args _ h = absurd (no_false h)
+op_args _ h = cc
 
 pub op_scope : (o : Terminal) → is_infix o ≡ true → find (rows s.Scoped) o ≡ None
 op_scope t.Arrow h = refl
-op_scope t.Equiv h = refl
-op_scope t.Disj h = refl
-op_scope t.OrOr h = refl
-op_scope t.Conj h = refl
-op_scope t.AndAnd h = refl
-op_scope t.Equal h = refl
-op_scope t.Operator1 h = refl
-op_scope t.Minus h = refl
-op_scope t.Operator2 h = refl
-op_scope t.Operator3 h = refl
-op_scope t.Operator4 h = refl
-op_scope _ h = absurd (no_false h)
-
-pub and_true : (a b : Bool) → a ≡ true → b ≡ true → (a && b) ≡ true
-and_true true b h i = i
-and_true false b h i = absurd (no_false h)
+op_scope _ h = cc
 
 pub within_left : (m : ℕ) (o : Op) (e : Tree) → m ≤ prec o.terminal → is_infix o.terminal ≡ true → need o.terminal ≤ tight e → m ≤ tight e
 within_left m o e u i n = let q : prec o.terminal ≤ need o.terminal = need_more o.terminal i in omega arith

@@ -7,16 +7,16 @@ use Rattle.tokens_why.specs.declared.terminal.Terminal.TheVariants as t
 use Rattle.grammar.specs.declared.symbols.Symbol.{Symbol}
 use Rattle.grammar.specs.declared.symbols.Symbol.TheVariants as s
 use Rattle.grammar.specs.Alphabet.{number, same, operators}
-use Rattle.tokens_why.specs.Operators.{prec, need, right}
+use Rattle.tokens_why.specs.Operators.{prec, need, right, is_infix}
 use Rattle.grammar.proofs.Laws.{same_true, same_refl, no_false}
 use Rattle.syntax_why.specs.Lexeme.{Lexeme}
-use Rattle.tokens_why.specs.Operators.{is_infix}
 use Rattle.syntax_why.specs.Trees.{Tree, ends_open, tight}
 use Rattle.reading.specs.Parts.{Chain, stop}
 use Rattle.reading.specs.Row.{Row, Vals}
 use Rattle.reading.specs.TermRows.{link_row, tail_rows, takes_op}
 use Rattle.reading.specs.Values.{find, read, rows}
 use Rattle.reading.proofs.Reading.{Reads, Stops, passed}
+use Rattle.grammar.proofs.Tails.{all_infix, among}
 
 pub le_true : (a b : ℕ) → a ≤ b → nat_le a b ≡ true
 le_true a b h = grind (arith, nat_tests)
@@ -98,43 +98,9 @@ need_low o h n = by_cases (need_of o h)
 
 pub prec_low : (o : Terminal) → is_infix o ≡ true → prec o < 8
 prec_low t.Arrow h = omega arith
-prec_low t.Equiv h = omega arith
-prec_low t.Disj h = omega arith
-prec_low t.OrOr h = omega arith
-prec_low t.Conj h = omega arith
-prec_low t.AndAnd h = omega arith
-prec_low t.Equal h = omega arith
-prec_low t.Operator1 h = omega arith
-prec_low t.Minus h = omega arith
-prec_low t.Operator2 h = omega arith
-prec_low t.Operator3 h = omega arith
-prec_low t.Operator4 h = omega arith
-prec_low _ h = absurd (no_false h)
+prec_low _ h = first_of (omega arith, cc)
 
 -- which operators a tail takes
-abbrev pub all_infix : List Terminal → Bool
-all_infix [] = true
-all_infix (o ∷ os) = is_infix o && all_infix os
-
-abbrev pub among : Terminal → List Terminal → Bool
-among y [] = false
-among y (o ∷ os) = cond (same o y) true (among y os)
-
-pub infix_among : (o : Terminal) → is_infix o ≡ true → among o operators ≡ true
-infix_among t.Arrow h = refl
-infix_among t.Equiv h = refl
-infix_among t.Disj h = refl
-infix_among t.OrOr h = refl
-infix_among t.Conj h = refl
-infix_among t.AndAnd h = refl
-infix_among t.Equal h = refl
-infix_among t.Operator1 h = refl
-infix_among t.Minus h = refl
-infix_among t.Operator2 h = refl
-infix_among t.Operator3 h = refl
-infix_among t.Operator4 h = refl
-infix_among _ h = absurd (no_false h)
-
 pub tail_none : (m u : ℕ) (os : List Terminal) (y : Terminal) → all_infix os ≡ true → (is_infix y ≡ true → takes_op m u y ≡ false) → find (tail_rows m u os) y ≡ None
 tail_none m u [] y a h = refl
 tail_none m u (o ∷ os) y a h = by_infix (is_infix o) refl a (λ e. tail_none m u os y e h)

@@ -1,14 +1,13 @@
 -- What is read as operators and their operands is right.
-use Rattle.std.proofs.Common.{◌≡◌, ℕ, ◌+◌, Bool, true, false, List, ◌∷◌, ◌++◌, Option, Some, refl, sym, ap, ◌∙◌, subst, append_assoc, append-nil}
+use Rattle.std.proofs.Common.{◌≡◌, ℕ, ◌+◌, Bool, true, false, List, ◌∷◌, ◌++◌, Option, Some, refl, sym, ap, ◌∙◌, subst, append_assoc, append-nil, ◌≤◌, nat_le, ◌||◌, arith}
 use Rattle.tokens_why.specs.declared.terminal.Terminal.{Terminal}
 use Rattle.tokens_why.specs.declared.terminal.Terminal.TheVariants as t
 use Rattle.grammar.specs.declared.symbols.Symbol.{Symbol}
 use Rattle.grammar.specs.declared.symbols.Symbol.TheVariants as s
-use Rattle.grammar.proofs.Laws.{no_false, and_left}
+use Rattle.grammar.proofs.Laws.{and_left, and_right}
 use Rattle.syntax_why.specs.Lexeme.{Lexeme, Word, at, lx}
 use Rattle.syntax_why.specs.Forms.{past}
-use Rattle.tokens_why.specs.Operators.{is_infix}
-use Rattle.tokens_why.specs.Operators.{is_prefix}
+use Rattle.tokens_why.specs.Operators.{is_infix, is_prefix, prec, need, right}
 use Rattle.syntax_why.specs.Trees.{IsLevel, IsPlacedTree, MayBeMarked, Op, Tree, ends_open, negation, op, prefixed, tight, write, write_op}
 use Rattle.reading.specs.Parts.{Chain, attach, joined, link, stop}
 use Rattle.reading.specs.Row.{Vals}
@@ -16,10 +15,7 @@ use Rattle.reading.specs.TermRows.{link_row, not_rows, prefix_row, takes_op}
 use Rattle.reading.proofs.Reading.{past-append}
 use Rattle.reading.proofs.Operands.{first_placed}
 use Rattle.reading.proofs.Good.{AllRows, ChainBehind, Good, IsChain, IsLast, Piece, Proper, RowOk, chain_open, hushed, write_chain}
-use Rattle.std.proofs.Common.{◌≤◌, nat_le, ◌||◌, arith}
 use Rattle.std.proofs.lemmas.Bool.Decides.{nat_tests}
-use Rattle.tokens_why.specs.Operators.{prec, need, right}
-use Rattle.grammar.proofs.Laws.{and_right}
 
 -- what stands behind a tree: its operators, or nothing where it ends in an open form
 pub record TailPart (e : Bool) (m u i : ℕ) (c : Chain) (xs : List Lexeme) (next : Bool → ℕ → List Lexeme → Type 0) : Type 0 where
@@ -108,18 +104,7 @@ marked _ w p = tt
 
 pub right_small : (o : Terminal) → is_infix o ≡ true → right o ≤ 8
 right_small t.Arrow h = omega arith
-right_small t.Equiv h = omega arith
-right_small t.Disj h = omega arith
-right_small t.OrOr h = omega arith
-right_small t.Conj h = omega arith
-right_small t.AndAnd h = omega arith
-right_small t.Equal h = omega arith
-right_small t.Operator1 h = omega arith
-right_small t.Minus h = omega arith
-right_small t.Operator2 h = omega arith
-right_small t.Operator3 h = omega arith
-right_small t.Operator4 h = omega arith
-right_small _ h = absurd (no_false h)
+right_small _ h = first_of (omega arith, cc)
 
 pub le_of : (a b : ℕ) → nat_le a b ≡ true → a ≤ b
 le_of a b h = grind (arith, nat_tests)

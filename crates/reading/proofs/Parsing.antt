@@ -18,7 +18,7 @@ use Rattle.syntax_why.specs.Declarations.{write_file}
 use Rattle.syntax_why.specs.DeclarationRules.{IsLevelFile, PlacedFile}
 use Rattle.reading.specs.Row.{Val}
 use Rattle.reading.specs.Values.{read}
-use Rattle.reading.specs.Sentences.{AllStand, Begins, Completes, IsLeastFault, IsLongest, IsNone, IsOnly}
+use Rattle.reading.specs.Sentences.{AllStand, Begins, IsLeastFault, IsLongest, IsNone, IsOnly}
 use Rattle.reading.proofs.TreesRead.{reads_alone}
 use Rattle.reading.proofs.Good.{AllProper, Good, Is, Piece, Proper, writes}
 use Rattle.reading.proofs.ValuesBuilt.{built}
@@ -39,7 +39,7 @@ pub record Whole (a : Symbol) (i : ℕ) (is placed : Val a → Type 0) (write : 
   pub safe : is_safe (a ∷ []) None ≡ true
   pub rule : is_tail a ≡ false
 
-terminals_append : (xs ys : List Lexeme) → terminals (xs ++ ys) ≡ terminals xs ++ terminals ys
+pub terminals_append : (xs ys : List Lexeme) → terminals (xs ++ ys) ≡ terminals xs ++ terminals ys
 terminals_append [] ys = refl
 terminals_append (x ∷ xs) ys = ap (λ v. x.terminal ∷ v) (terminals_append xs ys)
 
@@ -111,7 +111,7 @@ stack_of (Some j) h = (j, refl)
 no_stack : (l : List Symbol) → ◌≡◌ {A = Option (List Symbol)} None (Some l) → ⊥
 no_stack l e = cc
 
-abbrev value_or : (a : Symbol) → Val a → Option (Val a × Unit {0}) → Val a
+abbrev pub value_or : (a : Symbol) → Val a → Option (Val a × Unit {0}) → Val a
 value_or a v None = v
 value_or a v (Some u) = u.0
 
@@ -186,17 +186,9 @@ module _ (a : Symbol) (i : ℕ) (is placed : Val a → Type 0) (write : Val a �
   pub none_read : (xs : List Lexeme) → ends.IsLongest (a ∷ []) (terminals xs) (length (terminals xs)) None → (m : ℕ) → m ≤ length xs → IsNone is write (take m xs)
   none_read xs h m l = not_taken xs (length (terminals xs)) m (length_terminals xs) h l
 
-  -- What completes the stack completes the tokens.
-  pub completes : (xs : List Lexeme) (ys : List Terminal) → AllProper xs → ends.Completes (a ∷ []) (terminals xs) (Some ys) → Completes is write xs ys
-  completes xs ys p h = let r = read_accepted (xs ++ samples ys) (ap (accepts (a ∷ [])) (terminals_append xs (samples ys) ∙ ap (λ v. terminals xs ++ v) (samples_terminals ys)) ∙ h) in
-      record { tree = r.0; behind = samples ys; stand = samples_stand ys; of = (only_read (xs ++ samples ys) r.0 (proper_samples xs ys p) r.1).of; terminals = samples_terminals ys }
-
-  pub nothing_completes : (xs : List Lexeme) → ends.Completes (a ∷ []) (terminals xs) None → Begins is write xs → ⊥
-  nothing_completes xs h b = let q : true ≡ false = sym (tree_accepted b.tree b.of.right) ∙ ap (λ v. accepts (a ∷ []) (terminals v)) b.of.tokens ∙ ap (accepts (a ∷ [])) (terminals_append xs b.behind) ∙ h (terminals b.behind) in no_false (sym q)
-
 -- It holds of files and of expressions.
 pub whole_file : (i : ℕ) → Whole s.File i IsLevelFile (PlacedFile i) write_file
-whole_file i = record { reads = λ v m p. reads_file v i m p; right = λ v m. m; same = λ v. refl; at = λ v m. (let u = file_at i v m in (u.file, u.right, u.placed, u.tokens)); safe = refl; rule = refl }
+whole_file i = record { reads = λ v m p. reads_file v i m p; right = λ v m. m; same = λ v. refl; at = λ v m. (let u = file_at i v m in (u.value, u.right, u.placed, u.tokens)); safe = refl; rule = refl }
 
 pub whole_expr : (i : ℕ) → Whole (s.Expr 0) i IsLevel (IsPlacedTree i) write
 whole_expr i = record { reads = λ v m p. reads_alone v i m p; right = λ v m. (m.0, m.1); same = λ v. refl; at = λ v m. (let u = tree_at i v m in (u.tree, u.right, u.placed, u.tokens)); safe = refl; rule = refl }

@@ -16,7 +16,7 @@ use Rattle.reading.specs.DeclRows.{pname_args}
 use Rattle.reading.specs.Values.{rows}
 use Rattle.reading.proofs.Reading.{past-append}
 use Rattle.reading.proofs.DeclsRight.{IsAlg, IsConRest, IsFields, IsPname, IsPparen, IsPropAt, IsQids, IsType, IsUpper, write_alg, write_con, write_fields, write_member_part, write_pname, write_pparen, write_qids, write_type, write_upper}
-use Rattle.reading.proofs.Good.{AllRows, Good, extend_ok}
+use Rattle.reading.proofs.Good.{◌▸◌, AllRows, Good, extend_ok}
 use Rattle.reading.proofs.FormsBuilt.{atype_ok, tmore_ok, ttuple_ok}
 use Rattle.reading.proofs.OpenBuilt.{list_past, list_tokens}
 use Rattle.reading.proofs.TermsBuilt.{append_ok, op_own, op_writes}
@@ -39,13 +39,9 @@ alg_tokens n a = ap (λ v. lx t.Lident n.text ∷ v) (grouped (variable_row a.va
     grouped a b c d = simp append_assoc
 
 pub tvars_ok : AllRows s.Tvars (rows s.Tvars)
-tvars_ok = (
-  λ k i w xs vs p (ys, n, e, g). (ys, ((refl, n.0), n.1), ap (λ v. lx t.TyVar w ∷ v) e, g),
-  (
-    λ k i w xs vs p (ys, n, e, g). (ys, (tt, n), begins t.Equal w xs (write_type vs.0 ++ ys) p e, g),
-    tt,
-  ),
-)
+tvars_ok = (λ k i w xs vs p (ys, n, e, g). (ys, ((refl, n.0), n.1), ap (λ v. lx t.TyVar w ∷ v) e, g))
+    ▸ (λ k i w xs vs p (ys, n, e, g). (ys, (tt, n), begins t.Equal w xs (write_type vs.0 ++ ys) p e, g))
+    ▸ tt
 
 -- a type or a constructor with its fields
 pub upper_is : (i : ℕ) (w : Word) (u : UpperPart) → IsUpper (i + 1) u → IsType i (upper_type i w u) × (write_type (upper_type i w u) ≡ lx t.Uident w ∷ write_upper u)
@@ -53,56 +49,32 @@ upper_is i w (scope_of d ts) h = (((tt, h.0), (refl, refl, h.1)), refl)
 upper_is i w (fields_of p) h = (con_levels i (name i w) p refl h, con_tokens (name i w) p)
 
 pub typedef_ok : AllRows s.Typedef (rows s.Typedef)
-typedef_ok = (
-  λ k i w xs vs p g. (xs, (tt, refl), refl, g),
-  (
-    λ k i w xs vs p (ys, m, e, g). (ys, ((tt, m.0), (refl, refl, m.1)), ap (λ v. lx t.Lident w ∷ v) e, g),
-    (
-      λ k i w xs vs p (ys, m, e, g). (ys, (m.0, (refl, m.1)), begins t.LParen w xs ((form_list vs.0 ++ (mark t.RParen ∷ [])) ++ ys) p e, g),
-      (
-        λ k i w xs vs p (ys, m, e, g). (let r = upper_is i w vs.0 m in (ys, r.0, ap (λ v. lx t.Uident w ∷ v) e ∙ ap (λ v. v ++ ys) (sym r.1), subst (λ v. Good false k (past i v) ys vs.1) (sym r.1) g)),
-        (
-          λ k i w xs vs p (ys, m, e, (zs, n, d, g)). (zs, con_levels (i + 1) vs.0 vs.1.0 m.0 n, begins t.Bar w xs ((constructor_list (new_constructor vs.0 vs.1.0 ∷ vs.1.0.constructors) ++ algebraic_tail vs.1.0.others) ++ zs) p (e ∙ ap (λ v. lx t.Uident vs.0.text ∷ v) d ∙ ap (λ v. v ++ zs) (sym (con_tokens vs.0 vs.1.0))), subst (λ v. Good false k (past (i + 1) v) zs vs.1.1) (sym (con_tokens vs.0 vs.1.0)) g),
-          tt,
-        ),
-      ),
-    ),
-  ),
-)
+typedef_ok = (λ k i w xs vs p g. (xs, (tt, refl), refl, g))
+    ▸ (λ k i w xs vs p (ys, m, e, g). (ys, ((tt, m.0), (refl, refl, m.1)), ap (λ v. lx t.Lident w ∷ v) e, g))
+    ▸ (λ k i w xs vs p (ys, m, e, g). (ys, (m.0, (refl, m.1)), begins t.LParen w xs ((form_list vs.0 ++ (mark t.RParen ∷ [])) ++ ys) p e, g))
+    ▸ (λ k i w xs vs p (ys, m, e, g). (let r = upper_is i w vs.0 m in (ys, r.0, ap (λ v. lx t.Uident w ∷ v) e ∙ ap (λ v. v ++ ys) (sym r.1), subst (λ v. Good false k (past i v) ys vs.1) (sym r.1) g)))
+    ▸ (λ k i w xs vs p (ys, m, e, (zs, n, d, g)). (zs, con_levels (i + 1) vs.0 vs.1.0 m.0 n, begins t.Bar w xs ((constructor_list (new_constructor vs.0 vs.1.0 ∷ vs.1.0.constructors) ++ algebraic_tail vs.1.0.others) ++ zs) p (e ∙ ap (λ v. lx t.Uident vs.0.text ∷ v) d ∙ ap (λ v. v ++ zs) (sym (con_tokens vs.0 vs.1.0))), subst (λ v. Good false k (past (i + 1) v) zs vs.1.1) (sym (con_tokens vs.0 vs.1.0)) g))
+    ▸ tt
 
 pub fields_ok : AllRows s.Fields (rows s.Fields)
-fields_ok = (
-  λ k i w xs vs p (ys, m, e, (zs, n, d, g)). (let l = con_levels (i + 1) vs.0 vs.1.0 m.0 n in (zs, (tt, tt, (l.1, l.2, l.3)), begins t.Bar w xs ((constructor_list (new_constructor vs.0 vs.1.0 ∷ vs.1.0.constructors) ++ algebraic_tail vs.1.0.others) ++ zs) p (e ∙ ap (λ v. lx t.Uident vs.0.text ∷ v) d ∙ ap (λ v. v ++ zs) (sym (con_tokens vs.0 vs.1.0))), subst (λ v. Good false k (past (i + 1) v) zs vs.1.1) (sym (con_tokens vs.0 vs.1.0)) g)),
-  (
-    λ k i w xs vs p (ys, m, e, (zs, n, d, g)). (zs, (tt, tt, (tt, tt, alg_levels (i + 1) vs.0 vs.1.0 m.0 n)), begins t.WithWord w xs ((write_algebraic (new_algebraic vs.0 vs.1.0.vars vs.1.0.con) ++ algebraic_tail vs.1.0.con.others) ++ zs) p (e ∙ ap (λ v. lx t.Lident vs.0.text ∷ v) d ∙ ap (λ v. v ++ zs) (sym (alg_tokens vs.0 vs.1.0))), subst (λ v. Good false k (past (i + 1) v) zs vs.1.1) (sym (alg_tokens vs.0 vs.1.0)) g),
-    extend_ok s.Fields s.Atype (s.Fields ∷ []) (λ v vs. record { fields = more_forms v vs.0.fields; constructors = vs.0.constructors; others = vs.0.others }) (rows s.Atype)
-        (λ k i xs v vs (ys, m, e, (zs, n, d, g)). (zs, ((m.0, m.1, n.0), (m.2, n.1), rw past-append n.2), e ∙ ap (λ u. write_form v ++ u) d ∙ list_tokens (write_form v) (form_row vs.0.fields) (constructor_tail vs.0.constructors ++ algebraic_tail vs.0.others) zs, subst (λ j. Good false k j zs vs.1) (sym (list_past (write_form v) (form_row vs.0.fields) (constructor_tail vs.0.constructors ++ algebraic_tail vs.0.others) i)) g)) atype_ok,
-  ),
-)
+fields_ok = (λ k i w xs vs p (ys, m, e, (zs, n, d, g)). (let l = con_levels (i + 1) vs.0 vs.1.0 m.0 n in (zs, (tt, tt, (l.1, l.2, l.3)), begins t.Bar w xs ((constructor_list (new_constructor vs.0 vs.1.0 ∷ vs.1.0.constructors) ++ algebraic_tail vs.1.0.others) ++ zs) p (e ∙ ap (λ v. lx t.Uident vs.0.text ∷ v) d ∙ ap (λ v. v ++ zs) (sym (con_tokens vs.0 vs.1.0))), subst (λ v. Good false k (past (i + 1) v) zs vs.1.1) (sym (con_tokens vs.0 vs.1.0)) g)))
+    ▸ (λ k i w xs vs p (ys, m, e, (zs, n, d, g)). (zs, (tt, tt, (tt, tt, alg_levels (i + 1) vs.0 vs.1.0 m.0 n)), begins t.WithWord w xs ((write_algebraic (new_algebraic vs.0 vs.1.0.vars vs.1.0.con) ++ algebraic_tail vs.1.0.con.others) ++ zs) p (e ∙ ap (λ v. lx t.Lident vs.0.text ∷ v) d ∙ ap (λ v. v ++ zs) (sym (alg_tokens vs.0 vs.1.0))), subst (λ v. Good false k (past (i + 1) v) zs vs.1.1) (sym (alg_tokens vs.0 vs.1.0)) g))
+    ▸ extend_ok s.Fields s.Atype (s.Fields ∷ []) (λ v vs. record { fields = more_forms v vs.0.fields; constructors = vs.0.constructors; others = vs.0.others }) (rows s.Atype)
+    (λ k i xs v vs (ys, m, e, (zs, n, d, g)). (zs, ((m.0, m.1, n.0), (m.2, n.1), rw past-append n.2), e ∙ ap (λ u. write_form v ++ u) d ∙ list_tokens (write_form v) (form_row vs.0.fields) (constructor_tail vs.0.constructors ++ algebraic_tail vs.0.others) zs, subst (λ j. Good false k j zs vs.1) (sym (list_past (write_form v) (form_row vs.0.fields) (constructor_tail vs.0.constructors ++ algebraic_tail vs.0.others) i)) g)) atype_ok
 
 pub upper_ok : AllRows s.Upper (rows s.Upper)
-upper_ok = (
-  λ k i w xs vs p (ys, m, e, (zs, n, d, g)). (zs, (n.0, n.1), begins t.Dot w xs (((scoped vs.0.scopes ++ (lx t.Lident vs.0.last ∷ [])) ++ form_row vs.1.0) ++ zs) p (two_tokens (scoped vs.0.scopes ++ (lx t.Lident vs.0.last ∷ [])) (form_row vs.1.0) xs ys zs e d), subst (λ j. Good false k j zs vs.1.1) (sym (past-append (scoped vs.0.scopes ++ (lx t.Lident vs.0.last ∷ [])) (form_row vs.1.0) (i + 1))) g),
-  extend_ok s.Upper s.Fields [] (λ v vs. fields_of v) (rows s.Fields) (λ k i xs v vs (ys, n, e, g). (ys, n, e, g)) fields_ok,
-)
+upper_ok = (λ k i w xs vs p (ys, m, e, (zs, n, d, g)). (zs, (n.0, n.1), begins t.Dot w xs (((scoped vs.0.scopes ++ (lx t.Lident vs.0.last ∷ [])) ++ form_row vs.1.0) ++ zs) p (two_tokens (scoped vs.0.scopes ++ (lx t.Lident vs.0.last ∷ [])) (form_row vs.1.0) xs ys zs e d), subst (λ j. Good false k j zs vs.1.1) (sym (past-append (scoped vs.0.scopes ++ (lx t.Lident vs.0.last ∷ [])) (form_row vs.1.0) (i + 1))) g))
+    ▸ extend_ok s.Upper s.Fields [] (λ v vs. fields_of v) (rows s.Fields) (λ k i xs v vs (ys, n, e, g). (ys, n, e, g)) fields_ok
 
 pub algvars_ok : AllRows s.Algvars (rows s.Algvars)
-algvars_ok = (
-  λ k i w xs vs p (ys, n, e, g). (ys, ((refl, n.0), n.1), ap (λ v. lx t.TyVar w ∷ v) e, g),
-  (
-    λ k i w xs vs p (ys, n, e, g). (ys, (tt, n), begins t.Equal w xs (write_con vs.0 ++ ys) p e, g),
-    tt,
-  ),
-)
+algvars_ok = (λ k i w xs vs p (ys, n, e, g). (ys, ((refl, n.0), n.1), ap (λ v. lx t.TyVar w ∷ v) e, g))
+    ▸ (λ k i w xs vs p (ys, n, e, g). (ys, (tt, n), begins t.Equal w xs (write_con vs.0 ++ ys) p e, g))
+    ▸ tt
 
 pub con_ok : AllRows s.Con (rows s.Con)
-con_ok = (
-  λ k i w xs vs p (ys, n, e, g). (ys, con_levels i (name i w) vs.0 refl n, ap (λ v. lx t.Uident w ∷ v) e ∙ ap (λ v. v ++ ys) (sym (con_tokens (name i w) vs.0)), subst (λ v. Good false k (past i v) ys vs.1) (sym (con_tokens (name i w) vs.0)) g),
-  (
-    λ k i w xs vs p (ys, m, e, (zs, n, d, g)). (zs, con_levels (i + 1) vs.0 vs.1.0 m.0 n, begins t.Bar w xs ((constructor_list (new_constructor vs.0 vs.1.0 ∷ vs.1.0.constructors) ++ algebraic_tail vs.1.0.others) ++ zs) p (e ∙ ap (λ v. lx t.Uident vs.0.text ∷ v) d ∙ ap (λ v. v ++ zs) (sym (con_tokens vs.0 vs.1.0))), subst (λ v. Good false k (past (i + 1) v) zs vs.1.1) (sym (con_tokens vs.0 vs.1.0)) g),
-    tt,
-  ),
-)
+con_ok = (λ k i w xs vs p (ys, n, e, g). (ys, con_levels i (name i w) vs.0 refl n, ap (λ v. lx t.Uident w ∷ v) e ∙ ap (λ v. v ++ ys) (sym (con_tokens (name i w) vs.0)), subst (λ v. Good false k (past i v) ys vs.1) (sym (con_tokens (name i w) vs.0)) g))
+    ▸ (λ k i w xs vs p (ys, m, e, (zs, n, d, g)). (zs, con_levels (i + 1) vs.0 vs.1.0 m.0 n, begins t.Bar w xs ((constructor_list (new_constructor vs.0 vs.1.0 ∷ vs.1.0.constructors) ++ algebraic_tail vs.1.0.others) ++ zs) p (e ∙ ap (λ v. lx t.Uident vs.0.text ∷ v) d ∙ ap (λ v. v ++ zs) (sym (con_tokens vs.0 vs.1.0))), subst (λ v. Good false k (past (i + 1) v) zs vs.1.1) (sym (con_tokens vs.0 vs.1.0)) g))
+    ▸ tt
 
 -- names
 pub symbol_is : (b : Bool) (o : Op) → IsOwn (own_op b o) → IsSymbol (own_op b o)
@@ -110,38 +82,26 @@ symbol_is false o h = h
 symbol_is true o h = h
 
 pub op_ok : AllRows s.Op (rows s.Op)
-op_ok = (
-  λ k i w xs vs p g. (xs, (refl, (refl, tt)), refl, g),
-  (
-    λ k i w xs vs p g. (xs, (refl, (refl, tt)), ap (λ v. lx t.StarName v ∷ xs) p, g),
-    (
-      λ k i w xs vs p (ys, q, e, g). (ys, (refl, (refl, symbol_is vs.0.prefix vs.0.op (op_own vs.0.prefix vs.0.op (q.1, q.2)))), ap (λ v. lx t.LParen v ∷ xs) p ∙ ap (λ v. mark t.LParen ∷ v) e ∙ ap (λ v. v ++ ys) (sym (op_writes vs.0.prefix vs.0.op)), subst (λ v. Good false k (past i v) ys vs.1) (sym (op_writes vs.0.prefix vs.0.op)) g),
-      tt,
-    ),
-  ),
-)
+op_ok = (λ k i w xs vs p g. (xs, (refl, (refl, tt)), refl, g))
+    ▸ (λ k i w xs vs p g. (xs, (refl, (refl, tt)), ap (λ v. lx t.StarName v ∷ xs) p, g))
+    ▸ (λ k i w xs vs p (ys, q, e, g). (ys, (refl, (refl, symbol_is vs.0.prefix vs.0.op (op_own vs.0.prefix vs.0.op (q.1, q.2)))), ap (λ v. lx t.LParen v ∷ xs) p ∙ ap (λ v. mark t.LParen ∷ v) e ∙ ap (λ v. v ++ ys) (sym (op_writes vs.0.prefix vs.0.op)), subst (λ v. Good false k (past i v) ys vs.1) (sym (op_writes vs.0.prefix vs.0.op)) g))
+    ▸ tt
 
 pub id_ok : AllRows s.Ident (rows s.Ident)
 id_ok = (λ k i w xs vs p g. (xs, (refl, (refl, tt)), refl, g), (λ k i w xs vs p g. (xs, (refl, (refl, tt)), refl, g), tt))
 
 pub qop_ok : AllRows s.Qop (rows s.Qop)
-qop_ok = (
-  λ k i w xs vs p (ys, m, e, (zs, n, d, g)). (zs, (refl, n.1), ap (λ v. lx t.Uident w ∷ v) (marked_tokens t.Dot vs.0.text xs ys (write_called vs.1.0 ++ zs) e m.1 d), g),
-  extend_ok s.Qop s.Op [] (λ v vs. v) (rows s.Op) (λ k i xs v vs (ys, m, e, g). (ys, (m.0, m.1.1), e, g)) op_ok,
-)
+qop_ok = (λ k i w xs vs p (ys, m, e, (zs, n, d, g)). (zs, (refl, n.1), ap (λ v. lx t.Uident w ∷ v) (marked_tokens t.Dot vs.0.text xs ys (write_called vs.1.0 ++ zs) e m.1 d), g))
+    ▸ extend_ok s.Qop s.Op [] (λ v vs. v) (rows s.Op) (λ k i xs v vs (ys, m, e, g). (ys, (m.0, m.1.1), e, g)) op_ok
 
 pub prop_is : (i : ℕ) (w : Word) (c : Option Called) → IsQids (i + 1) c → IsPropAt i (prop_called i w c) × (write_called (prop_called i w c) ≡ lx t.Uident w ∷ write_qids c)
 prop_is i w None h = ((refl, tt), refl)
 prop_is i w (Some c) h = ((refl, h.1), refl)
 
 pub qid_ok : AllRows s.Qid (rows s.Qid)
-qid_ok = (
-  λ k i w xs vs p g. (xs, (refl, tt), refl, g),
-  (
-    λ k i w xs vs p (ys, m, e, g). (let r = prop_is i w vs.0 m in (ys, r.0, ap (λ v. lx t.Uident w ∷ v) e ∙ ap (λ v. v ++ ys) (sym r.1), subst (λ v. Good false k (past i v) ys vs.1) (sym r.1) g)),
-    tt,
-  ),
-)
+qid_ok = (λ k i w xs vs p g. (xs, (refl, tt), refl, g))
+    ▸ (λ k i w xs vs p (ys, m, e, g). (let r = prop_is i w vs.0 m in (ys, r.0, ap (λ v. lx t.Uident w ∷ v) e ∙ ap (λ v. v ++ ys) (sym r.1), subst (λ v. Good false k (past i v) ys vs.1) (sym r.1) g)))
+    ▸ tt
 
 pub qids_ok : AllRows s.Qids (rows s.Qids)
 qids_ok = (λ k i w xs vs p (ys, m, e, g). (ys, m, begins t.Dot w xs (write_called vs.0 ++ ys) p e, g), tt)
@@ -156,16 +116,14 @@ param_is i (param_names (n ∷ ns) f) h = (h.2.0, (h.1, h.2.1), refl)
 param_is i (param_types fs) h = ((tt, h.0), (refl, h.1), refl)
 
 pub params_ok : AllRows s.Params (rows s.Params)
-params_ok = (
-  λ k i w xs vs p (ys, m, e, (zs, n, d, g)). (let r = param_is i vs.0 m in (
-    zs,
-    ((r.0, n.0), (r.1, subst (λ v. PlacedParams (past i v) vs.1.0) (sym r.2) n.1)),
-    begins t.LParen w xs ((write_pparen vs.0 ++ param_row vs.1.0) ++ zs) p (two_tokens (write_pparen vs.0) (param_row vs.1.0) xs ys zs e d) ∙ ap (λ v. (v ++ param_row vs.1.0) ++ zs) (sym r.2),
-    subst (λ v. Good false k (past i (v ++ param_row vs.1.0)) zs vs.1.1) (sym r.2) (subst (λ j. Good false k j zs vs.1.1) (sym (past-append (write_pparen vs.0) (param_row vs.1.0) (i + 1))) g),
-  )),
-  extend_ok s.Params s.Atype (s.Params ∷ []) (λ v vs. record { names = []; of_type = v } ∷ vs.0) (rows s.Atype)
-      (λ k i xs v vs (ys, m, e, (zs, n, d, g)). (zs, (((m.0, m.1), n.0), (m.2, n.1)), two_tokens (write_form v) (param_row vs.0) xs ys zs e d, subst (λ j. Good false k j zs vs.1) (sym (past-append (write_form v) (param_row vs.0) i)) g)) atype_ok,
-)
+params_ok = (λ k i w xs vs p (ys, m, e, (zs, n, d, g)). (let r = param_is i vs.0 m in (
+  zs,
+  ((r.0, n.0), (r.1, subst (λ v. PlacedParams (past i v) vs.1.0) (sym r.2) n.1)),
+  begins t.LParen w xs ((write_pparen vs.0 ++ param_row vs.1.0) ++ zs) p (two_tokens (write_pparen vs.0) (param_row vs.1.0) xs ys zs e d) ∙ ap (λ v. (v ++ param_row vs.1.0) ++ zs) (sym r.2),
+  subst (λ v. Good false k (past i (v ++ param_row vs.1.0)) zs vs.1.1) (sym r.2) (subst (λ j. Good false k j zs vs.1.1) (sym (past-append (write_pparen vs.0) (param_row vs.1.0) (i + 1))) g),
+)))
+    ▸ extend_ok s.Params s.Atype (s.Params ∷ []) (λ v vs. record { names = []; of_type = v } ∷ vs.0) (rows s.Atype)
+    (λ k i xs v vs (ys, m, e, (zs, n, d, g)). (zs, (((m.0, m.1), n.0), (m.2, n.1)), two_tokens (write_form v) (param_row vs.0) xs ys zs e d, subst (λ j. Good false k j zs vs.1) (sym (past-append (write_form v) (param_row vs.0) i)) g)) atype_ok
 
 pub paren_is : (i : ℕ) (w : Word) (q : NamePart) → IsPname (i + 1) q → IsPparen i (behind_paren i w q) × (write_pparen (behind_paren i w q) ≡ lx t.Lident w ∷ write_pname q)
 paren_is i w (name_names ns f) h = ((tt, (refl, h.0), h.1), refl)
@@ -176,10 +134,8 @@ name_is i w (name_names ns f) h = (((refl, h.0), h.1), refl)
 name_is i w (name_types ts fs) h = (((tt, (tt, tt), h.0), ((refl, refl, tt), h.1), h.2), refl)
 
 pub pparen_ok : AllRows s.Pparen (rows s.Pparen)
-pparen_ok = (
-  λ k i w xs vs p (ys, m, e, g). (let r = paren_is i w vs.0 m in (ys, r.0, ap (λ v. lx t.Lident w ∷ v) e ∙ ap (λ v. v ++ ys) (sym r.1), subst (λ v. Good false k (past i v) ys vs.1) (sym r.1) g)),
-  extend_ok s.Pparen s.Ttuple [] (λ v vs. param_types v) (rows s.Ttuple) (λ k i xs v vs (ys, m, e, g). (ys, m, e, g)) ttuple_ok,
-)
+pparen_ok = (λ k i w xs vs p (ys, m, e, g). (let r = paren_is i w vs.0 m in (ys, r.0, ap (λ v. lx t.Lident w ∷ v) e ∙ ap (λ v. v ++ ys) (sym r.1), subst (λ v. Good false k (past i v) ys vs.1) (sym r.1) g)))
+    ▸ extend_ok s.Pparen s.Ttuple [] (λ v vs. param_types v) (rows s.Ttuple) (λ k i xs v vs (ys, m, e, g). (ys, m, e, g)) ttuple_ok
 
 pub pname_ok : AllRows s.Pname (rows s.Pname)
 pname_ok = append_ok s.Pname pname_args (extend s.Pname s.Tmore [] (λ v vs. name_types no_forms v) tmore_rows) (
@@ -200,26 +156,20 @@ pub value_ok : AllRows s.Value (rows s.Value)
 value_ok = (λ k i w xs vs p (ys, q, e, g). (ys, (q.0, q.1), begins t.Equal w xs (write vs.0 ++ ys) p e, g), tt)
 
 pub member_ok : AllRows s.Member (rows s.Member)
-member_ok = (
-  λ k i w xs vs p (ys, q, e, (zs, n, d, g)). (zs, (tt, tt, (q.0, q.1, n.0, n.1)), begins t.Equal w xs ((write vs.0 ++ other_members vs.1.0) ++ zs) p (two_tokens (write vs.0) (other_members vs.1.0) xs ys zs e d), subst (λ j. Good false k j zs vs.1.1) (sym (past-append (write vs.0) (other_members vs.1.0) (i + 1))) g),
-  (
-    λ k i w xs vs p (y1, m, e1, (y2, n, e2, (y3, q, e3, (zs, o, e4, g)))). (
+member_ok = (λ k i w xs vs p (ys, q, e, (zs, n, d, g)). (zs, (tt, tt, (q.0, q.1, n.0, n.1)), begins t.Equal w xs ((write vs.0 ++ other_members vs.1.0) ++ zs) p (two_tokens (write vs.0) (other_members vs.1.0) xs ys zs e d), subst (λ j. Good false k j zs vs.1.1) (sym (past-append (write vs.0) (other_members vs.1.0) (i + 1))) g))
+    ▸ (λ k i w xs vs p (y1, m, e1, (y2, n, e2, (y3, q, e3, (zs, o, e4, g)))). (
       zs,
       (m.0, m.1, (q.0, q.1, o.0, o.1)),
       begins t.Colon w xs ((write_form vs.0 ++ (mark t.Equal ∷ (write vs.1.1.0 ++ other_members vs.1.1.1.0))) ++ zs) p (two_tokens (write_form vs.0) (mark t.Equal ∷ (write vs.1.1.0 ++ other_members vs.1.1.1.0)) xs y1 zs e1 (marked_tokens t.Equal vs.1.0.text y1 y2 ((write vs.1.1.0 ++ other_members vs.1.1.1.0) ++ zs) e2 n.1 (two_tokens (write vs.1.1.0) (other_members vs.1.1.1.0) y2 y3 zs e3 e4))),
       subst (λ j. Good false k j zs vs.1.1.1.1) (sym (past-append (write_form vs.0) (mark t.Equal ∷ (write vs.1.1.0 ++ other_members vs.1.1.1.0)) (i + 1) ∙ past-append (write vs.1.1.0) (other_members vs.1.1.1.0) (past (i + 1) (write_form vs.0) + 1))) g,
-    ),
-    tt,
-  ),
-)
+    ))
+    ▸ tt
 
 pub members_ok : AllRows s.Members (rows s.Members)
-members_ok = (
-  λ k i w xs vs p (y1, m, e1, (y2, n, e2, (zs, o, e3, g))). (
-    zs,
-    (((m.1, n.0, o.0, o.2.0), o.2.2), ((m.0, n.1, o.1, o.2.1), subst (λ j. PlacedMembers j vs.1.1.0.others) (sym (member_past (write_called vs.0) (param_row vs.1.0) (type_part vs.1.1.0.result) (write vs.1.1.0.body) (mark t.Equal) (i + 1))) o.2.3)),
-    begins t.WithWord w xs ((write_member (new_member vs.0 vs.1.0 vs.1.1.0) ++ other_members vs.1.1.0.others) ++ zs) p (e1 ∙ ap (λ v. write_called vs.0 ++ v) (two_tokens (param_row vs.1.0) (write_member_part vs.1.1.0) y1 y2 zs e2 e3) ∙ sym (append_assoc (write_called vs.0) (param_row vs.1.0 ++ write_member_part vs.1.1.0) zs) ∙ ap (λ v. v ++ zs) (member_row (write_called vs.0) (param_row vs.1.0) (type_part vs.1.1.0.result) (write vs.1.1.0.body) (other_members vs.1.1.0.others) (mark t.Equal))),
-    subst (λ v. Good false k (past (i + 1) v) zs vs.1.1.1) (member_row (write_called vs.0) (param_row vs.1.0) (type_part vs.1.1.0.result) (write vs.1.1.0.body) (other_members vs.1.1.0.others) (mark t.Equal)) (subst (λ j. Good false k j zs vs.1.1.1) (sym (three_row (write_called vs.0) (param_row vs.1.0) (write_member_part vs.1.1.0) (i + 1))) g),
-  ),
-  tt,
-)
+members_ok = (λ k i w xs vs p (y1, m, e1, (y2, n, e2, (zs, o, e3, g))). (
+  zs,
+  (((m.1, n.0, o.0, o.2.0), o.2.2), ((m.0, n.1, o.1, o.2.1), subst (λ j. PlacedMembers j vs.1.1.0.others) (sym (member_past (write_called vs.0) (param_row vs.1.0) (type_part vs.1.1.0.result) (write vs.1.1.0.body) (mark t.Equal) (i + 1))) o.2.3)),
+  begins t.WithWord w xs ((write_member (new_member vs.0 vs.1.0 vs.1.1.0) ++ other_members vs.1.1.0.others) ++ zs) p (e1 ∙ ap (λ v. write_called vs.0 ++ v) (two_tokens (param_row vs.1.0) (write_member_part vs.1.1.0) y1 y2 zs e2 e3) ∙ sym (append_assoc (write_called vs.0) (param_row vs.1.0 ++ write_member_part vs.1.1.0) zs) ∙ ap (λ v. v ++ zs) (member_row (write_called vs.0) (param_row vs.1.0) (type_part vs.1.1.0.result) (write vs.1.1.0.body) (other_members vs.1.1.0.others) (mark t.Equal))),
+  subst (λ v. Good false k (past (i + 1) v) zs vs.1.1.1) (member_row (write_called vs.0) (param_row vs.1.0) (type_part vs.1.1.0.result) (write vs.1.1.0.body) (other_members vs.1.1.0.others) (mark t.Equal)) (subst (λ j. Good false k j zs vs.1.1.1) (sym (three_row (write_called vs.0) (param_row vs.1.0) (write_member_part vs.1.1.0) (i + 1))) g),
+))
+    ▸ tt

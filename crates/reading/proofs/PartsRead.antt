@@ -17,7 +17,7 @@ use Rattle.reading.specs.Row.{Row, Vals, row}
 use Rattle.reading.specs.TermRows.{opname_row}
 use Rattle.reading.specs.DeclRows.{fields_own, pparen_own, qop_own}
 use Rattle.reading.specs.Values.{find, read, rows, with_blank}
-use Rattle.reading.proofs.Reading.{Extends, Reads, Stops, extended, extended_at, passed, past-append}
+use Rattle.reading.proofs.Reading.{Extends, Reads, Stops, extended, extended_at, passed, past-append, unmapped}
 use Rattle.reading.proofs.FormsRead.{reads_atype, reads_qlid, reads_tuple, reads_type}
 use Rattle.reading.proofs.Operators.{reads_by}
 use Rattle.reading.proofs.TermRowsRead.{opname_found}
@@ -69,10 +69,6 @@ pub reads_qid : (c : Called) (zs : List Lexeme) (i : ℕ) (k : List Symbol) (vs 
 reads_qid c zs i k vs l a n h = rw a (qid_named c.scopes c.own zs i k vs l n h)
 
 -- Types in a parameter's parentheses, the first of which may begin as a name does.
-unmapped : {A B : Type 0} → (f : A → B) (o : Option A) (v : B) → option_map f o ≡ Some v → (u : A) × (o ≡ Some u) × (f u ≡ v)
-unmapped f None v h = cc
-unmapped f (Some u) v h = (u, refl, cc)
-
 pub pname_types : (xs : List Lexeme) (i : ℕ) (k : List Symbol) (vs : Forms × (Forms × Vals k)) → Reads (s.Targs ∷ s.Tmore ∷ k) xs i vs → Reads (s.Pname ∷ k) xs i (name_types vs.0 vs.1.0, vs.1.1)
 pname_types [] i k vs h = cc
 pname_types (x ∷ xs) i k vs h = by_terminal x.terminal x.text h (λ us g. pname_types xs (i + 1) k us g)

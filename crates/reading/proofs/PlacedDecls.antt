@@ -10,19 +10,13 @@ use Rattle.syntax_why.specs.Forms.{Form, Forms, past, types, write_called, write
 use Rattle.syntax_why.specs.Trees.{HasSome, PlacedNames, IsTypePart, PlacedPart, Tree, bar_before, name_row, type_part, write}
 use Rattle.syntax_why.specs.Declarations.{Algebraic, Clause, Constructor, Decl, Decls, Element, Inductive, Member, Param, Theory, algebraic_decl, algebraic_list, algebraic_tail, all_axioms, clause_list, clause_tail, clone_decl, constant_decl, constructor_list, constructor_tail, definition, element_tail, function_decl, heading, inductive_decl, inductive_list, inductive_tail, link_words, more_decls, no_decls, other_members, param_row, predicate_decl, prop_decl, prop_element, prop_word, renamed, scope_decl, substitution, symbol_element, typed_names, type_decl, type_element, type_equation, use_decl, variable_row, write_algebraic, write_clause, write_constructor, write_decl, write_decls, write_element, write_file, write_inductive, write_member, write_param, write_path, write_theory}
 use Rattle.syntax_why.specs.DeclarationRules.{AreAlgebraic, AreClauses, AreConstructors, AreElements, AreInductive, AreLevelDecls, AreMembers, AreParams, IsDefined, IsDefinition, IsElement, IsLevelDecl, IsLevelFile, IsLink, IsMember, IsTyped, PlacedAlgebraics, PlacedClauses, PlacedConstructors, PlacedDecl, PlacedDecls, PlacedDefinition, PlacedElement, PlacedElements, PlacedFile, PlacedInductives, PlacedMember, PlacedMembers, PlacedParams, PlacedRenamed, PlacedTyped}
-use Rattle.reading.proofs.PlacedForms.{behind, form_at, join, moved, row_at}
+use Rattle.reading.proofs.PlacedForms.{Put, PutList, behind, form_at, join, moved, row_at}
 use Rattle.reading.proofs.PlacedTerms.{names_at, part_at, tree_at}
 
--- type variables side by side
-pub record VariablesAt (i : ℕ) (ns : List Name) : Type 0 where
-  pub names : List Name
-  pub placed : PlacedNames i names
-  pub tokens : variable_row names ≡ variable_row ns
-
-variables_at : (i : ℕ) (ns : List Name) → VariablesAt i ns
-variables_at i [] = record { names = []; placed = tt; tokens = refl }
+variables_at : (i : ℕ) (ns : List Name) → Put (λ v. Unit {0}) (PlacedNames i) variable_row ns
+variables_at i [] = record { value = []; right = tt; placed = tt; tokens = refl }
 variables_at i (n ∷ ns) = let r = variables_at (i + 1) ns in
-    record { names = name i n.text ∷ r.names; placed = (refl, r.placed); tokens = behind (lx t.TyVar n.text) r.tokens }
+    record { value = name i n.text ∷ r.value; right = tt; placed = (refl, r.placed); tokens = behind (lx t.TyVar n.text) r.tokens }
 
 -- names with their type, or a type alone
 pub record TypedAt (i : ℕ) (ns : List Name) (f : Form) : Type 0 where
@@ -35,69 +29,44 @@ pub record TypedAt (i : ℕ) (ns : List Name) (f : Form) : Type 0 where
 typed_at : (i : ℕ) (ns : List Name) (f : Form) → IsTyped ns f → TypedAt i ns f
 typed_at i [] f h = let u = form_at types i f h.1 in
     record { names = []; form = u.form; right = (u.part h.0, u.right); placed = u.placed; tokens = u.tokens }
-typed_at i (n ∷ ns) f h = let r = names_at (i + 1 + 1) ns in let u = form_at types (past (i + 1) (name_row (name (i + 1) n.text ∷ r.names)) + 1) f h in
+typed_at i (n ∷ ns) f h = let r = names_at (i + 1 + 1) ns in let u = form_at types (past (i + 1) (name_row (name (i + 1) n.text ∷ r.value)) + 1) f h in
     record {
-      names = name (i + 1) n.text ∷ r.names;
+      names = name (i + 1) n.text ∷ r.value;
       form = u.form;
       right = u.right;
       placed = ((refl, r.placed), u.placed);
       tokens = behind (mark t.LParen) (behind (lx t.Lident n.text) (join r.tokens (behind (mark t.Colon) (join u.tokens refl))));
     }
 
-pub record ParamsAt (i : ℕ) (ps : List Param) : Type 0 where
-  pub params : List Param
-  pub right : AreParams params
-  pub placed : PlacedParams i params
-  pub tokens : param_row params ≡ param_row ps
-
 abbrev param : List Name → Form → Param
 param ns f = record { names = ns; of_type = f }
 
-params_at : (i : ℕ) (ps : List Param) → AreParams ps → ParamsAt i ps
-params_at i [] h = record { params = []; right = tt; placed = tt; tokens = refl }
+params_at : (i : ℕ) (ps : List Param) → AreParams ps → Put AreParams (PlacedParams i) param_row ps
+params_at i [] h = record { value = []; right = tt; placed = tt; tokens = refl }
 params_at i (p ∷ ps) h = let u = typed_at i p.names p.of_type h.0 in let r = params_at (past i (write_param (param u.names u.form))) ps h.1 in
-    record { params = param u.names u.form ∷ r.params; right = (u.right, r.right); placed = (u.placed, r.placed); tokens = join u.tokens r.tokens }
+    record { value = param u.names u.form ∷ r.value; right = (u.right, r.right); placed = (u.placed, r.placed); tokens = join u.tokens r.tokens }
 
--- behind an equality sign
-pub record DefinitionAt (i : ℕ) (v : Option Tree) : Type 0 where
-  pub value : Option Tree
-  pub right : IsDefinition value
-  pub placed : PlacedDefinition i value
-  pub tokens : definition value ≡ definition v
-
-definition_at : (i : ℕ) (v : Option Tree) → IsDefinition v → DefinitionAt i v
+definition_at : (i : ℕ) (v : Option Tree) → IsDefinition v → Put IsDefinition (PlacedDefinition i) definition v
 definition_at i None h = record { value = None; right = tt; placed = tt; tokens = refl }
 definition_at i (Some e) h = let u = tree_at (i + 1) e h in
     record { value = Some u.tree; right = u.right; placed = u.placed; tokens = behind (mark t.Equal) u.tokens }
 
-pub record MembersAt (i : ℕ) (ds : List Member) : Type 0 where
-  pub members : List Member
-  pub right : AreMembers members
-  pub placed : PlacedMembers i members
-  pub tokens : other_members members ≡ other_members ds
-
-pub record MemberAt (i : ℕ) (d : Member) : Type 0 where
-  pub member : Member
-  pub right : IsMember member
-  pub placed : PlacedMember i member
-  pub tokens : write_member member ≡ write_member d
-
-member_at : (i : ℕ) (d : Member) → IsMember d → MemberAt i d
+member_at : (i : ℕ) (d : Member) → IsMember d → Put IsMember (PlacedMember i) write_member d
 member_at i d h = let j = past i (write_called d.name) in
     let u = params_at j d.params h.1 in
-    let v = part_at (past j (param_row u.params)) d.result h.2 in
-    let w = tree_at (past (past j (param_row u.params)) (type_part v.part) + 1) d.body h.3 in
+    let v = part_at (past j (param_row u.value)) d.result h.2 in
+    let w = tree_at (past (past j (param_row u.value)) (type_part v.value) + 1) d.body h.3 in
     record {
-      member = record { name = moved i d.name; params = u.params; result = v.part; body = w.tree };
+      value = record { name = moved i d.name; params = u.value; result = v.value; body = w.tree };
       right = (h.0, u.right, v.right, w.right);
       placed = (refl, u.placed, v.placed, w.placed);
       tokens = ap (λ q. write_called d.name ++ q) (join u.tokens (join v.tokens (behind (mark t.Equal) w.tokens)));
     }
 
-members_at : (i : ℕ) (ds : List Member) → AreMembers ds → MembersAt i ds
-members_at i [] h = record { members = []; right = tt; placed = tt; tokens = refl }
-members_at i (d ∷ ds) h = let u = member_at (i + 1) d h.0 in let r = members_at (past (i + 1) (write_member u.member)) ds h.1 in
-    record { members = u.member ∷ r.members; right = (u.right, r.right); placed = (u.placed, r.placed); tokens = behind (mark t.WithWord) (join u.tokens r.tokens) }
+members_at : (i : ℕ) (ds : List Member) → AreMembers ds → Put AreMembers (PlacedMembers i) other_members ds
+members_at i [] h = record { value = []; right = tt; placed = tt; tokens = refl }
+members_at i (d ∷ ds) h = let u = member_at (i + 1) d h.0 in let r = members_at (past (i + 1) (write_member u.value)) ds h.1 in
+    record { value = u.value ∷ r.value; right = (u.right, r.right); placed = (u.placed, r.placed); tokens = behind (mark t.WithWord) (join u.tokens r.tokens) }
 
 -- a definition and the members behind it
 pub record DefinedAt (i : ℕ) (v : Option Tree) (ds : List Member) : Type 0 where
@@ -111,186 +80,109 @@ defined_at : (i : ℕ) (v : Option Tree) (ds : List Member) → IsDefined v ds �
 defined_at i None [] h = record { value = None; members = []; right = tt; placed = (tt, tt); tokens = refl }
 defined_at i None (d ∷ ds) h = absurd h
 defined_at i (Some e) ds h = let u = tree_at (i + 1) e h.0 in let r = members_at (past (i + 1) (write u.tree)) ds h.1 in
-    record { value = Some u.tree; members = r.members; right = (u.right, r.right); placed = (u.placed, r.placed); tokens = behind (mark t.Equal) (join u.tokens r.tokens) }
-
-pub record ConstructorsAt (i : ℕ) (cs : List Constructor) : Type 0 where
-  pub constructors : List Constructor
-  pub right : AreConstructors constructors
-  pub placed : PlacedConstructors i constructors
-  pub tokens : constructor_list constructors ≡ constructor_list cs
-  pub tail : constructor_tail constructors ≡ constructor_tail cs
-  pub some : HasSome cs → HasSome constructors
+    record { value = Some u.tree; members = r.value; right = (u.right, r.right); placed = (u.placed, r.placed); tokens = behind (mark t.Equal) (join u.tokens r.tokens) }
 
 abbrev constructor : Name → Forms → Constructor
 constructor n fs = record { name = n; fields = fs }
 
-constructors_at : (i : ℕ) (cs : List Constructor) → AreConstructors cs → ConstructorsAt i cs
-constructors_at i [] h = record { constructors = []; right = tt; placed = tt; tokens = refl; tail = refl; some = λ p. p }
+constructors_at : (i : ℕ) (cs : List Constructor) → AreConstructors cs → PutList AreConstructors (PlacedConstructors i) HasSome constructor_list constructor_tail cs
+constructors_at i [] h = record { value = []; right = tt; placed = tt; tokens = refl; tail = refl; some = λ p. p }
 constructors_at i (c ∷ cs) h = let u = row_at types (i + 1) c.fields h.0 in
-    let e : write_constructor (constructor (name i c.name.text) u.forms) ≡ write_constructor c = behind (lx t.Uident c.name.text) u.tokens in
-    let r = constructors_at (past i (write_constructor (constructor (name i c.name.text) u.forms)) + 1) cs h.1 in
-    record { constructors = constructor (name i c.name.text) u.forms ∷ r.constructors; right = (u.right, r.right); placed = (refl, u.placed, r.placed); tokens = join e r.tail; tail = behind (mark t.Bar) (join e r.tail); some = λ p. tt }
+    let e : write_constructor (constructor (name i c.name.text) u.value) ≡ write_constructor c = behind (lx t.Uident c.name.text) u.tokens in
+    let r = constructors_at (past i (write_constructor (constructor (name i c.name.text) u.value)) + 1) cs h.1 in
+    record { value = constructor (name i c.name.text) u.value ∷ r.value; right = (u.right, r.right); placed = (refl, u.placed, r.placed); tokens = join e r.tail; tail = behind (mark t.Bar) (join e r.tail); some = λ p. tt }
 
-pub record AlgebraicsAt (i : ℕ) (ts : List Algebraic) : Type 0 where
-  pub algebraics : List Algebraic
-  pub right : AreAlgebraic algebraics
-  pub placed : PlacedAlgebraics i algebraics
-  pub tokens : algebraic_list algebraics ≡ algebraic_list ts
-  pub tail : algebraic_tail algebraics ≡ algebraic_tail ts
-  pub some : HasSome ts → HasSome algebraics
-
-algebraics_at : (i : ℕ) (ts : List Algebraic) → AreAlgebraic ts → AlgebraicsAt i ts
-algebraics_at i [] h = record { algebraics = []; right = tt; placed = tt; tokens = refl; tail = refl; some = λ p. p }
+algebraics_at : (i : ℕ) (ts : List Algebraic) → AreAlgebraic ts → PutList AreAlgebraic (PlacedAlgebraics i) HasSome algebraic_list algebraic_tail ts
+algebraics_at i [] h = record { value = []; right = tt; placed = tt; tokens = refl; tail = refl; some = λ p. p }
 algebraics_at i (a ∷ ts) h = let u = variables_at (i + 1) a.vars in
-    let v = constructors_at (past (past (i + 1) (variable_row u.names) + 1) (bar_before a.bar)) a.constructors h.1 in
-    let b : Algebraic = record { name = name i a.name.text; vars = u.names; bar = a.bar; constructors = v.constructors } in
+    let v = constructors_at (past (past (i + 1) (variable_row u.value) + 1) (bar_before a.bar)) a.constructors h.1 in
+    let b : Algebraic = record { name = name i a.name.text; vars = u.value; bar = a.bar; constructors = v.value } in
     let e : write_algebraic b ≡ write_algebraic a = behind (lx t.Lident a.name.text) (join u.tokens (behind (mark t.Equal) (ap (λ q. bar_before a.bar ++ q) v.tokens))) in
     let r = algebraics_at (past i (write_algebraic b) + 1) ts h.2 in
-    record { algebraics = b ∷ r.algebraics; right = (v.some h.0, v.right, r.right); placed = ((refl, u.placed, v.placed), r.placed); tokens = join e r.tail; tail = behind (mark t.WithWord) (join e r.tail); some = λ p. tt }
+    record { value = b ∷ r.value; right = (v.some h.0, v.right, r.right); placed = ((refl, u.placed, v.placed), r.placed); tokens = join e r.tail; tail = behind (mark t.WithWord) (join e r.tail); some = λ p. tt }
 
-pub record ClausesAt (i : ℕ) (cs : List Clause) : Type 0 where
-  pub clauses : List Clause
-  pub right : AreClauses clauses
-  pub placed : PlacedClauses i clauses
-  pub tokens : clause_list clauses ≡ clause_list cs
-  pub tail : clause_tail clauses ≡ clause_tail cs
-  pub some : HasSome cs → HasSome clauses
-
-clauses_at : (i : ℕ) (cs : List Clause) → AreClauses cs → ClausesAt i cs
-clauses_at i [] h = record { clauses = []; right = tt; placed = tt; tokens = refl; tail = refl; some = λ p. p }
+clauses_at : (i : ℕ) (cs : List Clause) → AreClauses cs → PutList AreClauses (PlacedClauses i) HasSome clause_list clause_tail cs
+clauses_at i [] h = record { value = []; right = tt; placed = tt; tokens = refl; tail = refl; some = λ p. p }
 clauses_at i (c ∷ cs) h = let u = tree_at (past i (write_called c.name) + 1) c.prop h.1 in
     let b : Clause = record { name = moved i c.name; prop = u.tree } in
     let e : write_clause b ≡ write_clause c = ap (λ q. write_called c.name ++ q) (behind (mark t.Colon) u.tokens) in
     let r = clauses_at (past i (write_clause b) + 1) cs h.2 in
-    record { clauses = b ∷ r.clauses; right = (h.0, u.right, r.right); placed = (refl, u.placed, r.placed); tokens = join e r.tail; tail = behind (mark t.Bar) (join e r.tail); some = λ p. tt }
+    record { value = b ∷ r.value; right = (h.0, u.right, r.right); placed = (refl, u.placed, r.placed); tokens = join e r.tail; tail = behind (mark t.Bar) (join e r.tail); some = λ p. tt }
 
-pub record InductivesAt (i : ℕ) (ds : List Inductive) : Type 0 where
-  pub inductives : List Inductive
-  pub right : AreInductive inductives
-  pub placed : PlacedInductives i inductives
-  pub tokens : inductive_list inductives ≡ inductive_list ds
-  pub tail : inductive_tail inductives ≡ inductive_tail ds
-  pub some : HasSome ds → HasSome inductives
-
-inductives_at : (i : ℕ) (ds : List Inductive) → AreInductive ds → InductivesAt i ds
-inductives_at i [] h = record { inductives = []; right = tt; placed = tt; tokens = refl; tail = refl; some = λ p. p }
+inductives_at : (i : ℕ) (ds : List Inductive) → AreInductive ds → PutList AreInductive (PlacedInductives i) HasSome inductive_list inductive_tail ds
+inductives_at i [] h = record { value = []; right = tt; placed = tt; tokens = refl; tail = refl; some = λ p. p }
 inductives_at i (d ∷ ds) h = let u = params_at (past i (write_called d.name)) d.params h.1 in
-    let v = clauses_at (past (past (past i (write_called d.name)) (param_row u.params) + 1) (bar_before d.bar)) d.clauses h.3 in
-    let b : Inductive = record { name = moved i d.name; params = u.params; bar = d.bar; clauses = v.clauses } in
+    let v = clauses_at (past (past (past i (write_called d.name)) (param_row u.value) + 1) (bar_before d.bar)) d.clauses h.3 in
+    let b : Inductive = record { name = moved i d.name; params = u.value; bar = d.bar; clauses = v.value } in
     let e : write_inductive b ≡ write_inductive d = ap (λ q. write_called d.name ++ q) (join u.tokens (behind (mark t.Equal) (ap (λ q. bar_before d.bar ++ q) v.tokens))) in
     let r = inductives_at (past i (write_inductive b) + 1) ds h.4 in
-    record { inductives = b ∷ r.inductives; right = (h.0, u.right, v.some h.2, v.right, r.right); placed = ((refl, u.placed, v.placed), r.placed); tokens = join e r.tail; tail = behind (mark t.WithWord) (join e r.tail); some = λ p. tt }
+    record { value = b ∷ r.value; right = (h.0, u.right, v.some h.2, v.right, r.right); placed = ((refl, u.placed, v.placed), r.placed); tokens = join e r.tail; tail = behind (mark t.WithWord) (join e r.tail); some = λ p. tt }
 
-pub record ElementAt (i : ℕ) (e : Element) : Type 0 where
-  pub element : Element
-  pub right : IsElement element
-  pub placed : PlacedElement i element
-  pub tokens : write_element element ≡ write_element e
+element_at : (i : ℕ) (e : Element) → IsElement e → Put IsElement (PlacedElement i) write_element e
+element_at i (type_element j c vs f) h = let u = variables_at (past (i + 1) (write_called c)) vs in let w = form_at types (past (past (i + 1) (write_called c)) (variable_row u.value) + 1) f h.1 in
+    record { value = type_element i (moved (i + 1) c) u.value w.form; right = (h.0, w.right); placed = (refl, refl, u.placed, w.placed); tokens = behind (mark t.TypeWord) (ap (λ q. write_called c ++ q) (join u.tokens (behind (mark t.Equal) w.tokens))) }
+element_at i (symbol_element j s c d) h = record { value = symbol_element i s (moved (i + 1) c) (moved (past (i + 1) (write_called c) + 1) d); right = h; placed = (refl, refl, refl); tokens = refl }
+element_at i (prop_element j k c) h = record { value = prop_element i k (moved (i + 1) c); right = h; placed = (refl, refl); tokens = refl }
+element_at i (all_axioms j) h = record { value = all_axioms i; right = h; placed = refl; tokens = refl }
 
-element_at : (i : ℕ) (e : Element) → IsElement e → ElementAt i e
-element_at i (type_element j c vs f) h = let u = variables_at (past (i + 1) (write_called c)) vs in let w = form_at types (past (past (i + 1) (write_called c)) (variable_row u.names) + 1) f h.1 in
-    record { element = type_element i (moved (i + 1) c) u.names w.form; right = (h.0, w.right); placed = (refl, refl, u.placed, w.placed); tokens = behind (mark t.TypeWord) (ap (λ q. write_called c ++ q) (join u.tokens (behind (mark t.Equal) w.tokens))) }
-element_at i (symbol_element j s c d) h = record { element = symbol_element i s (moved (i + 1) c) (moved (past (i + 1) (write_called c) + 1) d); right = h; placed = (refl, refl, refl); tokens = refl }
-element_at i (prop_element j k c) h = record { element = prop_element i k (moved (i + 1) c); right = h; placed = (refl, refl); tokens = refl }
-element_at i (all_axioms j) h = record { element = all_axioms i; right = h; placed = refl; tokens = refl }
+elements_at : (i : ℕ) (es : List Element) → AreElements es → PutList AreElements (PlacedElements i) (λ v. Unit {0}) substitution element_tail es
+elements_at i [] h = record { value = []; right = tt; placed = tt; tokens = refl; tail = refl; some = λ p. tt }
+elements_at i (e ∷ es) h = let u = element_at i e h.0 in let r = elements_at (past i (write_element u.value) + 1) es h.1 in
+    record { value = u.value ∷ r.value; right = (u.right, r.right); placed = (u.placed, r.placed); tokens = behind (mark t.WithWord) (join u.tokens r.tail); tail = behind (mark t.Comma) (join u.tokens r.tail); some = λ p. tt }
 
-pub record ElementsAt (i : ℕ) (es : List Element) : Type 0 where
-  pub elements : List Element
-  pub right : AreElements elements
-  pub placed : PlacedElements i elements
-  pub tokens : substitution elements ≡ substitution es
-  pub tail : element_tail elements ≡ element_tail es
-
-elements_at : (i : ℕ) (es : List Element) → AreElements es → ElementsAt i es
-elements_at i [] h = record { elements = []; right = tt; placed = tt; tokens = refl; tail = refl }
-elements_at i (e ∷ es) h = let u = element_at i e h.0 in let r = elements_at (past i (write_element u.element) + 1) es h.1 in
-    record { elements = u.element ∷ r.elements; right = (u.right, r.right); placed = (u.placed, r.placed); tokens = behind (mark t.WithWord) (join u.tokens r.tail); tail = behind (mark t.Comma) (join u.tokens r.tail) }
-
--- a name behind `as`
-pub record RenamedAt (l : Link) (i : ℕ) (n : Option Name) : Type 0 where
-  pub as_name : Option Name
-  pub right : IsLink l as_name
-  pub placed : PlacedRenamed i as_name
-  pub tokens : renamed as_name ≡ renamed n
-
-renamed_at : (l : Link) (i : ℕ) (n : Option Name) → IsLink l n → RenamedAt l i n
-renamed_at l i None h = record { as_name = None; right = h; placed = tt; tokens = refl }
-renamed_at lk.Bare i (Some n) h = record { as_name = Some (name (i + 1) n.text); right = h; placed = refl; tokens = refl }
-renamed_at lk.Import i (Some n) h = record { as_name = Some (name (i + 1) n.text); right = h; placed = refl; tokens = refl }
+renamed_at : (l : Link) (i : ℕ) (n : Option Name) → IsLink l n → Put (IsLink l) (PlacedRenamed i) renamed n
+renamed_at l i None h = record { value = None; right = h; placed = tt; tokens = refl }
+renamed_at lk.Bare i (Some n) h = record { value = Some (name (i + 1) n.text); right = h; placed = refl; tokens = refl }
+renamed_at lk.Import i (Some n) h = record { value = Some (name (i + 1) n.text); right = h; placed = refl; tokens = refl }
 renamed_at lk.Export i (Some n) h = absurd h
 
--- the equation of a type
-pub record EquationAt (i : ℕ) (f : Option Form) : Type 0 where
-  pub equation : Option Form
-  pub right : IsTypePart equation
-  pub placed : PlacedPart i equation
-  pub tokens : type_equation equation ≡ type_equation f
-
-equation_at : (i : ℕ) (f : Option Form) → IsTypePart f → EquationAt i f
-equation_at i None h = record { equation = None; right = tt; placed = tt; tokens = refl }
+equation_at : (i : ℕ) (f : Option Form) → IsTypePart f → Put IsTypePart (PlacedPart i) type_equation f
+equation_at i None h = record { value = None; right = tt; placed = tt; tokens = refl }
 equation_at i (Some f) h = let u = form_at types (i + 1) f h in
-    record { equation = Some u.form; right = u.right; placed = u.placed; tokens = behind (mark t.Equal) u.tokens }
+    record { value = Some u.form; right = u.right; placed = u.placed; tokens = behind (mark t.Equal) u.tokens }
 
 abbrev path_at : ℕ → List Word → Path
 path_at i ws = record { at = i; parts = ws }
 
-pub record DeclAt (i : ℕ) (d : Decl) : Type 0 where
-  pub decl : Decl
-  pub right : IsLevelDecl decl
-  pub placed : PlacedDecl i decl
-  pub tokens : write_decl decl ≡ write_decl d
-
-pub record DeclsAt (i : ℕ) (ds : Decls) : Type 0 where
-  pub decls : Decls
-  pub right : AreLevelDecls decls
-  pub placed : PlacedDecls i decls
-  pub tokens : write_decls decls ≡ write_decls ds
-
 mutual
-  pub decl_at : (i : ℕ) (d : Decl) → IsLevelDecl d → DeclAt i d
-  decl_at i (type_decl a n vs f) h = let u = variables_at (i + 1 + 1) vs in let w = equation_at (past (i + 1 + 1) (variable_row u.names)) f h in
-      record { decl = type_decl (at i) (name (i + 1) n.text) u.names w.equation; right = w.right; placed = (refl, refl, u.placed, w.placed); tokens = behind (mark t.TypeWord) (behind (lx t.Lident n.text) (join u.tokens w.tokens)) }
+  pub decl_at : (i : ℕ) (d : Decl) → IsLevelDecl d → Put IsLevelDecl (PlacedDecl i) write_decl d
+  decl_at i (type_decl a n vs f) h = let u = variables_at (i + 1 + 1) vs in let w = equation_at (past (i + 1 + 1) (variable_row u.value)) f h in
+      record { value = type_decl (at i) (name (i + 1) n.text) u.value w.value; right = w.right; placed = (refl, refl, u.placed, w.placed); tokens = behind (mark t.TypeWord) (behind (lx t.Lident n.text) (join u.tokens w.tokens)) }
   decl_at i (algebraic_decl a ts) h = let u = algebraics_at (i + 1) ts h.1 in
-      record { decl = algebraic_decl (at i) u.algebraics; right = (u.some h.0, u.right); placed = (refl, u.placed); tokens = behind (mark t.TypeWord) u.tokens }
+      record { value = algebraic_decl (at i) u.value; right = (u.some h.0, u.right); placed = (refl, u.placed); tokens = behind (mark t.TypeWord) u.tokens }
   decl_at i (function_decl a c ps f e ds) h = let j = past (i + 1) (write_called c) in
       let u = params_at j ps h.1 in
-      let w = form_at types (past j (param_row u.params) + 1) f h.2 in
-      let v = defined_at (past (past j (param_row u.params) + 1) (write_form w.form)) e ds h.3 in
-      record { decl = function_decl (at i) (moved (i + 1) c) u.params w.form v.value v.members; right = (h.0, u.right, w.right, v.right); placed = (refl, refl, u.placed, w.placed, v.placed.0, v.placed.1); tokens = behind (mark t.FunctionWord) (ap (λ q. write_called c ++ q) (join u.tokens (behind (mark t.Colon) (join w.tokens v.tokens)))) }
+      let w = form_at types (past j (param_row u.value) + 1) f h.2 in
+      let v = defined_at (past (past j (param_row u.value) + 1) (write_form w.form)) e ds h.3 in
+      record { value = function_decl (at i) (moved (i + 1) c) u.value w.form v.value v.members; right = (h.0, u.right, w.right, v.right); placed = (refl, refl, u.placed, w.placed, v.placed.0, v.placed.1); tokens = behind (mark t.FunctionWord) (ap (λ q. write_called c ++ q) (join u.tokens (behind (mark t.Colon) (join w.tokens v.tokens)))) }
   decl_at i (predicate_decl a c ps e ds) h = let j = past (i + 1) (write_called c) in
       let u = params_at j ps h.1 in
-      let v = defined_at (past j (param_row u.params)) e ds h.2 in
-      record { decl = predicate_decl (at i) (moved (i + 1) c) u.params v.value v.members; right = (h.0, u.right, v.right); placed = (refl, refl, u.placed, v.placed.0, v.placed.1); tokens = behind (mark t.PredicateWord) (ap (λ q. write_called c ++ q) (join u.tokens v.tokens)) }
+      let v = defined_at (past j (param_row u.value)) e ds h.2 in
+      record { value = predicate_decl (at i) (moved (i + 1) c) u.value v.value v.members; right = (h.0, u.right, v.right); placed = (refl, refl, u.placed, v.placed.0, v.placed.1); tokens = behind (mark t.PredicateWord) (ap (λ q. write_called c ++ q) (join u.tokens v.tokens)) }
   decl_at i (constant_decl a c f e) h = let j = past (i + 1) (write_called c) + 1 in
       let w = form_at types j f h.1 in let v = definition_at (past j (write_form w.form)) e h.2 in
-      record { decl = constant_decl (at i) (moved (i + 1) c) w.form v.value; right = (h.0, w.right, v.right); placed = (refl, refl, w.placed, v.placed); tokens = behind (mark t.ConstantWord) (ap (λ q. write_called c ++ q) (behind (mark t.Colon) (join w.tokens v.tokens))) }
+      record { value = constant_decl (at i) (moved (i + 1) c) w.form v.value; right = (h.0, w.right, v.right); placed = (refl, refl, w.placed, v.placed); tokens = behind (mark t.ConstantWord) (ap (λ q. write_called c ++ q) (behind (mark t.Colon) (join w.tokens v.tokens))) }
   decl_at i (inductive_decl a ds) h = let u = inductives_at (i + 1) ds h.1 in
-      record { decl = inductive_decl (at i) u.inductives; right = (u.some h.0, u.right); placed = (refl, u.placed); tokens = behind (mark t.InductiveWord) u.tokens }
+      record { value = inductive_decl (at i) u.value; right = (u.some h.0, u.right); placed = (refl, u.placed); tokens = behind (mark t.InductiveWord) u.tokens }
   decl_at i (prop_decl a k c e) h = let u = tree_at (past (i + 1) (write_called c) + 1) e h.1 in
-      record { decl = prop_decl (at i) k (moved (i + 1) c) u.tree; right = (h.0, u.right); placed = (refl, refl, u.placed); tokens = behind (mark (prop_word k)) (ap (λ q. write_called c ++ q) (behind (mark t.Colon) u.tokens)) }
+      record { value = prop_decl (at i) k (moved (i + 1) c) u.tree; right = (h.0, u.right); placed = (refl, refl, u.placed); tokens = behind (mark (prop_word k)) (ap (λ q. write_called c ++ q) (behind (mark t.Colon) u.tokens)) }
   decl_at i (use_decl a l p n) h = let j = past (i + 1) (link_words l) in let u = renamed_at l (past j (write_path p.parts)) n h.1 in
-      record { decl = use_decl (at i) l (path_at j p.parts) u.as_name; right = (h.0, u.right); placed = (refl, refl, u.placed); tokens = behind (mark t.UseWord) (ap (λ q. link_words l ++ (write_path p.parts ++ q)) u.tokens) }
+      record { value = use_decl (at i) l (path_at j p.parts) u.value; right = (h.0, u.right); placed = (refl, refl, u.placed); tokens = behind (mark t.UseWord) (ap (λ q. link_words l ++ (write_path p.parts ++ q)) u.tokens) }
   decl_at i (clone_decl a l p n es) h = let j = past (i + 1) (link_words l) in let u = renamed_at l (past j (write_path p.parts)) n h.1 in
-      let v = elements_at (past (past j (write_path p.parts)) (renamed u.as_name) + 1) es h.2 in
-      record { decl = clone_decl (at i) l (path_at j p.parts) u.as_name v.elements; right = (h.0, u.right, v.right); placed = (refl, refl, u.placed, v.placed); tokens = behind (mark t.CloneWord) (ap (λ q. link_words l ++ (write_path p.parts ++ q)) (join u.tokens v.tokens)) }
+      let v = elements_at (past (past j (write_path p.parts)) (renamed u.value) + 1) es h.2 in
+      record { value = clone_decl (at i) l (path_at j p.parts) u.value v.value; right = (h.0, u.right, v.right); placed = (refl, refl, u.placed, v.placed); tokens = behind (mark t.CloneWord) (ap (λ q. link_words l ++ (write_path p.parts ++ q)) (join u.tokens v.tokens)) }
   decl_at i (scope_decl a n ds) h = let u = decls_at (i + 1 + 1) ds h in
-      record { decl = scope_decl (at i) (name (i + 1) n.text) u.decls; right = u.right; placed = (refl, refl, u.placed); tokens = behind (mark t.ScopeWord) (behind (lx t.Uident n.text) (join u.tokens refl)) }
+      record { value = scope_decl (at i) (name (i + 1) n.text) u.value; right = u.right; placed = (refl, refl, u.placed); tokens = behind (mark t.ScopeWord) (behind (lx t.Uident n.text) (join u.tokens refl)) }
 
-  pub decls_at : (i : ℕ) (ds : Decls) → AreLevelDecls ds → DeclsAt i ds
-  decls_at i no_decls h = record { decls = no_decls; right = tt; placed = tt; tokens = refl }
-  decls_at i (more_decls d ds) h = let u = decl_at i d h.0 in let r = decls_at (past i (write_decl u.decl)) ds h.1 in
-      record { decls = more_decls u.decl r.decls; right = (u.right, r.right); placed = (u.placed, r.placed); tokens = join u.tokens r.tokens }
+  pub decls_at : (i : ℕ) (ds : Decls) → AreLevelDecls ds → Put AreLevelDecls (PlacedDecls i) write_decls ds
+  decls_at i no_decls h = record { value = no_decls; right = tt; placed = tt; tokens = refl }
+  decls_at i (more_decls d ds) h = let u = decl_at i d h.0 in let r = decls_at (past i (write_decl u.value)) ds h.1 in
+      record { value = more_decls u.value r.value; right = (u.right, r.right); placed = (u.placed, r.placed); tokens = join u.tokens r.tokens }
 
-pub record FileAt (i : ℕ) (hs : List Theory) : Type 0 where
-  pub file : List Theory
-  pub right : IsLevelFile file
-  pub placed : PlacedFile i file
-  pub tokens : write_file file ≡ write_file hs
-
-pub file_at : (i : ℕ) (hs : List Theory) → IsLevelFile hs → FileAt i hs
-file_at i [] h = record { file = []; right = tt; placed = tt; tokens = refl }
+pub file_at : (i : ℕ) (hs : List Theory) → IsLevelFile hs → Put IsLevelFile (PlacedFile i) write_file hs
+file_at i [] h = record { value = []; right = tt; placed = tt; tokens = refl }
 file_at i (theory ∷ hs) h = let u = decls_at (i + 1 + 1) theory.decls h.0 in
-    let b : Theory = record { at = at i; is_module = theory.is_module; name = name (i + 1) theory.name.text; decls = u.decls } in
+    let b : Theory = record { at = at i; is_module = theory.is_module; name = name (i + 1) theory.name.text; decls = u.value } in
     let e : write_theory b ≡ write_theory theory = behind (mark (heading theory.is_module)) (behind (lx t.Uident theory.name.text) (join u.tokens refl)) in
     let r = file_at (past i (write_theory b)) hs h.1 in
-    record { file = b ∷ r.file; right = (u.right, r.right); placed = (refl, refl, u.placed, r.placed); tokens = join e r.tokens }
+    record { value = b ∷ r.value; right = (u.right, r.right); placed = (refl, refl, u.placed, r.placed); tokens = join e r.tokens }

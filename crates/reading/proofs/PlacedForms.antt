@@ -11,6 +11,22 @@ join {ys = ys} {us = us} e f = ap (λ v. v ++ us) e ∙ ap (λ v. ys ++ v) f
 pub behind : {xs ys : List Lexeme} → (x : Lexeme) → xs ≡ ys → x ∷ xs ≡ x ∷ ys
 behind x e = ap (λ v. x ∷ v) e
 
+-- A right value with the same tokens and with its places.
+pub record Put {V : Type 0} (is stands : V → Type 0) (write : V → List Lexeme) (v : V) : Type 0 where
+  pub value : V
+  pub right : is value
+  pub placed : stands value
+  pub tokens : write value ≡ write v
+
+-- The same of what stands in a row, the first of it or behind others, and where there is some.
+pub record PutList {V : Type 0} (is stands has : V → Type 0) (write others : V → List Lexeme) (v : V) : Type 0 where
+  pub value : V
+  pub right : is value
+  pub placed : stands value
+  pub tokens : write value ≡ write v
+  pub tail : others value ≡ others v
+  pub some : has v → has value
+
 abbrev pub moved : ℕ → Called → Called
 moved i c = called i c.scopes c.own
 
@@ -22,22 +38,6 @@ pub record FormAt (s : Sort) (i : ℕ) (f : Form) : Type 0 where
   pub part : IsPart f → IsPart form
   pub unnamed : IsUnnamed f → IsUnnamed form
 
--- side by side
-pub record RowAt (s : Sort) (i : ℕ) (fs : Forms) : Type 0 where
-  pub forms : Forms
-  pub right : AreParts s forms
-  pub placed : PlacedRow i forms
-  pub tokens : form_row forms ≡ form_row fs
-
--- with commas between
-pub record ListAt (s : Sort) (i : ℕ) (fs : Forms) : Type 0 where
-  pub forms : Forms
-  pub right : AreForms s forms
-  pub placed : PlacedList i forms
-  pub tokens : form_list forms ≡ form_list fs
-  pub tail : form_tail forms ≡ form_tail fs
-  pub some : HasForm fs → HasForm forms
-
 mutual
   pub form_at : (s : Sort) (i : ℕ) (f : Form) → IsForm s f → FormAt s i f
   form_at s i (wild a) h = record { form = wild (at i); right = h; placed = refl; tokens = refl; part = λ p. p; unnamed = λ p. p }
@@ -48,7 +48,7 @@ mutual
       let u = form_at s (past i (write_called c)) p h.1.1 in
       let r = row_at s (past (past i (write_called c)) (write_form u.form)) ps h.1.2 in
       record {
-        form = composed (at i) (moved i c) (more_forms u.form r.forms);
+        form = composed (at i) (moved i c) (more_forms u.form r.value);
         right = (h.0, (u.part h.1.0, u.right, r.right));
         placed = (refl, refl, (u.placed, r.placed));
         tokens = ap (λ v. write_called c ++ v) (join u.tokens r.tokens);
@@ -56,7 +56,7 @@ mutual
         unnamed = λ p. p;
       }
   form_at s i (enclosed a ts) h = let r = list_at s (i + 1) ts h in
-      record { form = enclosed (at i) r.forms; right = r.right; placed = (refl, r.placed); tokens = behind (mark t.LParen) (ap (λ v. v ++ (mark t.RParen ∷ [])) r.tokens); part = λ p. p; unnamed = λ p. p }
+      record { form = enclosed (at i) r.value; right = r.right; placed = (refl, r.placed); tokens = behind (mark t.LParen) (ap (λ v. v ++ (mark t.RParen ∷ [])) r.tokens); part = λ p. p; unnamed = λ p. p }
   form_at s i (aliased a p n) h = let u = form_at s i p h.2 in
       record {
         form = aliased (at i) u.form (name (past i (write_form u.form) + 1) n.text);
@@ -67,12 +67,12 @@ mutual
         unnamed = λ p. absurd p;
       }
 
-  pub row_at : (s : Sort) (i : ℕ) (fs : Forms) → AreParts s fs → RowAt s i fs
-  row_at s i no_forms h = record { forms = no_forms; right = tt; placed = tt; tokens = refl }
+  pub row_at : (s : Sort) (i : ℕ) (fs : Forms) → AreParts s fs → Put (AreParts s) (PlacedRow i) form_row fs
+  row_at s i no_forms h = record { value = no_forms; right = tt; placed = tt; tokens = refl }
   row_at s i (more_forms p ps) h = let u = form_at s i p h.1 in let r = row_at s (past i (write_form u.form)) ps h.2 in
-      record { forms = more_forms u.form r.forms; right = (u.part h.0, u.right, r.right); placed = (u.placed, r.placed); tokens = join u.tokens r.tokens }
+      record { value = more_forms u.form r.value; right = (u.part h.0, u.right, r.right); placed = (u.placed, r.placed); tokens = join u.tokens r.tokens }
 
-  pub list_at : (s : Sort) (i : ℕ) (fs : Forms) → AreForms s fs → ListAt s i fs
-  list_at s i no_forms h = record { forms = no_forms; right = tt; placed = tt; tokens = refl; tail = refl; some = λ p. p }
+  pub list_at : (s : Sort) (i : ℕ) (fs : Forms) → AreForms s fs → PutList (AreForms s) (PlacedList i) HasForm form_list form_tail fs
+  list_at s i no_forms h = record { value = no_forms; right = tt; placed = tt; tokens = refl; tail = refl; some = λ p. p }
   list_at s i (more_forms p ps) h = let u = form_at s i p h.0 in let r = list_at s (past i (write_form u.form) + 1) ps h.1 in
-      record { forms = more_forms u.form r.forms; right = (u.right, r.right); placed = (u.placed, r.placed); tokens = join u.tokens r.tail; tail = behind (mark t.Comma) (join u.tokens r.tail); some = λ p. tt }
+      record { value = more_forms u.form r.value; right = (u.right, r.right); placed = (u.placed, r.placed); tokens = join u.tokens r.tail; tail = behind (mark t.Comma) (join u.tokens r.tail); some = λ p. tt }

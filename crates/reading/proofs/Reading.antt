@@ -30,6 +30,10 @@ pub passed : (s : Symbol) (v : Val s) (k : List Symbol) (ys : List Lexeme) (i : 
 passed s v k [] i vs b l n h = rw (b, h) refl
 passed s v k (y ∷ ys) i vs b l n h = rw (n, b, l, h) refl
 
+pub unmapped : {A B : Type 0} → (f : A → B) (o : Option A) (v : B) → option_map f o ≡ Some v → (u : A) × (o ≡ Some u) × (f u ≡ v)
+unmapped f None v h = cc
+unmapped f (Some u) v h = (u, refl, cc)
+
 pub fused : {A B C : Type 0} → (g : B → C) (f : A → B) (o : Option A) → option_map (λ v. g (f v)) o ≡ option_map g (option_map f o)
 fused g f None = refl
 fused g f (Some v) = refl
@@ -65,12 +69,6 @@ pub extended_at : (s a : Symbol) (ss : List Symbol) (f : Val a → Vals ss → V
 extended_at s a ss f own is due [] apart i k v vs h = let e : with_blank a (ss ++ k) None (at_end (ss ++ k)) ≡ Some (v, vs) = subst (λ o. with_blank a (ss ++ k) o (at_end (ss ++ k)) ≡ Some (v, vs)) due h in cc
 extended_at s a ss f own is due (x ∷ xs) apart i k v vs h = by_found (find (rows a) x.terminal) refl h
   where
-    rest : (k : List Symbol) → Option (Vals k)
-    rest k' = read xs (i + 1) false k'
-
-    other : Option (Val a × Vals (ss ++ k))
-    other = with_blank a (ss ++ k) (blank a) (over (λ k'. read xs (i + 1) false k') i x (is_seal a) (ss ++ k))
-
     by_found : (o : Option (Row a)) → find (rows a) x.terminal ≡ o → by_row a (ss ++ k) (λ k'. read xs (i + 1) false k') i x.text o (with_blank a (ss ++ k) (blank a) (over (λ k'. read xs (i + 1) false k') i x (is_seal a) (ss ++ k))) ≡ Some (v, vs) → Reads (s ∷ k) (x ∷ xs) i (f v (front ss k vs), back ss k vs)
     by_found (Some r) e g = ap (λ o. by_row s k (λ k'. read xs (i + 1) false k') i x.text o (with_blank s k (blank s) (over (λ k'. read xs (i + 1) false k') i x (is_seal s) k))) (ap (λ rs. find rs x.terminal) is ∙ find_apart own (extend s a ss f (rows a)) x.terminal (apart r e) ∙ find_extend s a ss f (rows a) x.terminal ∙ ap (option_map (then_row s a ss f)) e)
         ∙ fused (λ u. (f u.0 (front ss k u.1), back ss k u.1)) (λ u. r.act (ss ++ k) i x.text u) (read xs (i + 1) false (r.behind (ss ++ k)))

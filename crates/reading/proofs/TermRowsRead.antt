@@ -1,5 +1,5 @@
 -- Rows of terms: names, what stands in parentheses, and prefix operators.
-use Rattle.std.proofs.Common.{◌≡◌, ℕ, ◌+◌, Bool, true, false, nat_le, List, [], ◌∷◌, ◌++◌, Option, Some, None, option_map, refl, ap}
+use Rattle.std.proofs.Common.{◌≡◌, ℕ, ◌+◌, Bool, true, false, nat_le, List, [], ◌∷◌, ◌++◌, Some, None, refl, ap}
 use Rattle.tokens_why.specs.declared.terminal.Terminal.{Terminal}
 use Rattle.tokens_why.specs.declared.terminal.Terminal.TheVariants as t
 use Rattle.grammar.specs.declared.symbols.Symbol.{Symbol}
@@ -7,14 +7,13 @@ use Rattle.grammar.specs.declared.symbols.Symbol.TheVariants as s
 use Rattle.grammar.proofs.Laws.{no_false}
 use Rattle.syntax_why.specs.Lexeme.{Lexeme, Word, at, lx, mark}
 use Rattle.syntax_why.specs.Forms.{Own, called, infix_op, lower, more_forms, past, prefix_op, scoped, star, upper, write_own}
-use Rattle.tokens_why.specs.Operators.{is_operator}
-use Rattle.tokens_why.specs.Operators.{is_prefix}
+use Rattle.tokens_why.specs.Operators.{is_operator, is_prefix}
 use Rattle.syntax_why.specs.Trees.{IsOwn, Tree, Trees, apply, binding, choice, more, negation, none, op, quantified, quantifier}
 use Rattle.reading.specs.Parts.{Closing, attach, binder_of, holds, named, operand}
 use Rattle.reading.specs.Row.{Row, Vals, extend, row}
-use Rattle.reading.specs.TermRows.{aminus_own, aparen_own, expr_own, expr_rows, hminus_own, hparen_own, opname_row, opname_rows, prefix_row, prim_rows}
-use Rattle.reading.specs.Values.{find, read}
-use Rattle.reading.proofs.Reading.{Extends, Reads, Stops, extended, extended_at, passed}
+use Rattle.reading.specs.TermRows.{aminus_own, aop_row, aparen_own, expr_own, expr_rows, hminus_own, hop_row, hparen_own, opname_row, opname_rows, prefix_row, prim_rows}
+use Rattle.reading.specs.Values.{find, read, rows}
+use Rattle.reading.proofs.Reading.{Extends, Reads, Stops, extended, extended_at, passed, unmapped}
 use Rattle.reading.proofs.Operators.{reads_by}
 
 -- rows of an expression
@@ -46,21 +45,8 @@ expr_quantifier m false false = refl
 pub expr_apart : (m : ℕ) (b : Bool) (x : Terminal) (r : Row s.Prim) → find prim_rows x ≡ Some r → find (expr_own m b) x ≡ None
 expr_apart m true t.Lident r h = refl
 expr_apart m false t.Lident r h = refl
-expr_apart m true t.Uident r h = refl
-expr_apart m false t.Uident r h = refl
-expr_apart m true t.StarName r h = refl
-expr_apart m false t.StarName r h = refl
-expr_apart m true t.LParen r h = refl
-expr_apart m false t.LParen r h = refl
-expr_apart m true t.Int r h = refl
-expr_apart m false t.Int r h = refl
-expr_apart m true t.TrueWord r h = refl
-expr_apart m false t.TrueWord r h = refl
-expr_apart m true t.FalseWord r h = refl
-expr_apart m false t.FalseWord r h = refl
-expr_apart m true t.MatchWord r h = refl
-expr_apart m false t.MatchWord r h = refl
-expr_apart m b _ r h = cc
+expr_apart m true _ r h = cc
+expr_apart m false _ r h = cc
 
 pub expr_extend : (m : ℕ) → Extends (s.Expr m) s.Prim (s.Tail m 9 ∷ []) (λ v vs. attach v vs.0) (expr_own m (nat_le m 3))
 expr_extend m = record { is = refl; due = refl; apart = expr_apart m (nat_le m 3) }
@@ -68,13 +54,7 @@ expr_extend m = record { is = refl; due = refl; apart = expr_apart m (nat_le m 3
 -- names
 pub opname_found : (o : Terminal) → is_operator o ≡ true → find opname_rows o ≡ Some (opname_row o)
 opname_found t.Equal h = refl
-opname_found t.Minus h = refl
-opname_found t.Operator1 h = refl
-opname_found t.Operator2 h = refl
-opname_found t.Operator3 h = refl
-opname_found t.Operator4 h = refl
-opname_found t.PrefixOperator h = refl
-opname_found _ h = absurd (no_false h)
+opname_found _ h = cc
 
 pub reads_qhead : (qs : List Word) (o : Own) (ys : List Lexeme) (i : ℕ) (k : List Symbol) (vs : Vals k) → IsOwn o → Stops s.Scoped ys → Reads k ys (past i (scoped qs ++ write_own o)) vs → Reads (s.Qhead ∷ k) ((scoped qs ++ write_own o) ++ ys) i (record { scopes = qs; own = o }, vs)
 reads_qhead [] (lower w) ys i k vs l n h = rw h refl
@@ -84,45 +64,33 @@ reads_qhead [] (infix_op o w) ys i k vs l n h = rw (reads_by s.Opname (lx o w) (
 reads_qhead [] (prefix_op o w) ys i k vs l n h = rw (reads_by s.Opname (lx o w) (opname_row o) (mark t.Wild ∷ mark t.RParen ∷ ys) (i + 1) k (true, vs) (opname_found o l.0) (rw h refl)) refl
 reads_qhead (q ∷ qs) o ys i k vs l n h = rw (reads_qhead qs o ys (i + 1 + 1) k vs l n h) refl
 
+hop_found : (o : Terminal) → is_operator o ≡ true → is_prefix o ≡ false → find (rows s.Hparen) o ≡ Some (hop_row o)
+hop_found t.Equal h p = refl
+hop_found _ h p = cc
+
+aop_found : (o : Terminal) → is_operator o ≡ true → is_prefix o ≡ false → find (rows s.Aparen) o ≡ Some (aop_row o)
+aop_found t.Equal h p = refl
+aop_found _ h p = cc
+
 pub hparen_infix : (o : Terminal) (w : Word) (ts : Trees) (ys : List Lexeme) (i : ℕ) (k : List Symbol) (vs : Vals k) → is_operator o ≡ true → Reads (s.Args ∷ k) ys (i + 1 + 1) (ts, vs) → Reads (s.Hparen ∷ k) (lx o w ∷ mark t.RParen ∷ ys) i (named (op i o w) false ts, vs)
-hparen_infix t.Equal w ts ys i k vs l h = rw h refl
 hparen_infix t.Minus w ts ys i k vs l h = rw h refl
-hparen_infix t.Operator1 w ts ys i k vs l h = rw h refl
-hparen_infix t.Operator2 w ts ys i k vs l h = rw h refl
-hparen_infix t.Operator3 w ts ys i k vs l h = rw h refl
-hparen_infix t.Operator4 w ts ys i k vs l h = rw h refl
 hparen_infix t.PrefixOperator w ts ys i k vs l h = rw h refl
-hparen_infix _ w ts ys i k vs l h = absurd (no_false l)
+hparen_infix o w ts ys i k vs l h = reads_by s.Hparen (lx o w) (hop_row o) (mark t.RParen ∷ ys) i k (false, (ts, vs)) (hop_found o l refl) (rw h refl)
 
 pub hparen_prefix : (o : Terminal) (w : Word) (ts : Trees) (ys : List Lexeme) (i : ℕ) (k : List Symbol) (vs : Vals k) → is_operator o ≡ true → Reads (s.Args ∷ k) ys (i + 1 + 1 + 1) (ts, vs) → Reads (s.Hparen ∷ k) (lx o w ∷ mark t.Wild ∷ mark t.RParen ∷ ys) i (named (op i o w) true ts, vs)
-hparen_prefix t.Equal w ts ys i k vs l h = rw h refl
 hparen_prefix t.Minus w ts ys i k vs l h = rw h refl
-hparen_prefix t.Operator1 w ts ys i k vs l h = rw h refl
-hparen_prefix t.Operator2 w ts ys i k vs l h = rw h refl
-hparen_prefix t.Operator3 w ts ys i k vs l h = rw h refl
-hparen_prefix t.Operator4 w ts ys i k vs l h = rw h refl
 hparen_prefix t.PrefixOperator w ts ys i k vs l h = rw h refl
-hparen_prefix _ w ts ys i k vs l h = absurd (no_false l)
+hparen_prefix o w ts ys i k vs l h = reads_by s.Hparen (lx o w) (hop_row o) (mark t.Wild ∷ mark t.RParen ∷ ys) i k (true, (ts, vs)) (hop_found o l refl) (rw h refl)
 
 pub aparen_infix : (o : Terminal) (w : Word) (ys : List Lexeme) (i : ℕ) (k : List Symbol) (vs : Vals k) → is_operator o ≡ true → Reads k ys (i + 1 + 1) vs → Reads (s.Aparen ∷ k) (lx o w ∷ mark t.RParen ∷ ys) i (named (op i o w) false none, vs)
-aparen_infix t.Equal w ys i k vs l h = rw h refl
 aparen_infix t.Minus w ys i k vs l h = rw h refl
-aparen_infix t.Operator1 w ys i k vs l h = rw h refl
-aparen_infix t.Operator2 w ys i k vs l h = rw h refl
-aparen_infix t.Operator3 w ys i k vs l h = rw h refl
-aparen_infix t.Operator4 w ys i k vs l h = rw h refl
 aparen_infix t.PrefixOperator w ys i k vs l h = rw h refl
-aparen_infix _ w ys i k vs l h = absurd (no_false l)
+aparen_infix o w ys i k vs l h = reads_by s.Aparen (lx o w) (aop_row o) (mark t.RParen ∷ ys) i k (false, vs) (aop_found o l refl) (rw h refl)
 
 pub aparen_prefix : (o : Terminal) (w : Word) (ys : List Lexeme) (i : ℕ) (k : List Symbol) (vs : Vals k) → is_operator o ≡ true → Reads k ys (i + 1 + 1 + 1) vs → Reads (s.Aparen ∷ k) (lx o w ∷ mark t.Wild ∷ mark t.RParen ∷ ys) i (named (op i o w) true none, vs)
-aparen_prefix t.Equal w ys i k vs l h = rw h refl
 aparen_prefix t.Minus w ys i k vs l h = rw h refl
-aparen_prefix t.Operator1 w ys i k vs l h = rw h refl
-aparen_prefix t.Operator2 w ys i k vs l h = rw h refl
-aparen_prefix t.Operator3 w ys i k vs l h = rw h refl
-aparen_prefix t.Operator4 w ys i k vs l h = rw h refl
 aparen_prefix t.PrefixOperator w ys i k vs l h = rw h refl
-aparen_prefix _ w ys i k vs l h = absurd (no_false l)
+aparen_prefix o w ys i k vs l h = reads_by s.Aparen (lx o w) (aop_row o) (mark t.Wild ∷ mark t.RParen ∷ ys) i k (true, vs) (aop_found o l refl) (rw h refl)
 
 pub prim_headed : (qs : List Word) (o : Own) (ts : Trees) (ys : List Lexeme) (i : ℕ) (k : List Symbol) (vs : Vals k) → IsOwn o → Stops s.Scoped ys → Reads (s.Args ∷ k) ys (past i (scoped qs ++ write_own o)) (ts, vs) → Reads (s.Prim ∷ k) ((scoped qs ++ write_own o) ++ ys) i (apply (at i) (called i qs o) ts, vs)
 prim_headed [] (lower w) ts ys i k vs l n h = rw h refl
@@ -146,25 +114,11 @@ args_extend = record { is = refl; due = refl; apart = λ x r e. refl }
 -- A tree behind a parenthesis, read as an expression and what closes it.
 pub hparen_apart : (x : Terminal) (r : Row (s.Expr 0)) → is_prefix x ≡ false → find (expr_rows 0) x ≡ Some r → find hparen_own x ≡ None
 hparen_apart t.RParen r p h = cc
-hparen_apart t.Equal r p h = cc
-hparen_apart t.Operator1 r p h = cc
-hparen_apart t.Operator2 r p h = cc
-hparen_apart t.Operator3 r p h = cc
-hparen_apart t.Operator4 r p h = cc
-hparen_apart t.Minus r p h = cc
-hparen_apart t.PrefixOperator r p h = cc
-hparen_apart _ r p h = refl
+hparen_apart _ r p h = cc
 
 pub aparen_apart : (x : Terminal) (r : Row (s.Expr 0)) → is_prefix x ≡ false → find (expr_rows 0) x ≡ Some r → find aparen_own x ≡ None
 aparen_apart t.RParen r p h = cc
-aparen_apart t.Equal r p h = cc
-aparen_apart t.Operator1 r p h = cc
-aparen_apart t.Operator2 r p h = cc
-aparen_apart t.Operator3 r p h = cc
-aparen_apart t.Operator4 r p h = cc
-aparen_apart t.Minus r p h = cc
-aparen_apart t.PrefixOperator r p h = cc
-aparen_apart _ r p h = refl
+aparen_apart _ r p h = cc
 
 pub hminus_apart : (x : Terminal) (r : Row (s.Expr 8)) → find (expr_rows 8) x ≡ Some r → find hminus_own x ≡ None
 hminus_apart t.RParen r h = cc
@@ -181,10 +135,6 @@ aminus_apart _ r h = refl
 
 pub aminus_extend : Extends s.Aminus (s.Expr 8) (s.Tail 0 8 ∷ s.GroupRest ∷ []) (λ v vs. operand v vs.0 vs.1.0) aminus_own
 aminus_extend = record { is = refl; due = refl; apart = aminus_apart }
-
-pub unmapped : {A B : Type 0} → (f : A → B) (o : Option A) (v : B) → option_map f o ≡ Some v → (u : A) × (o ≡ Some u) × (f u ≡ v)
-unmapped f None v h = cc
-unmapped f (Some u) v h = (u, refl, cc)
 
 pub hparen_minus : (o : Terminal) (w : Word) (xs : List Lexeme) (i : ℕ) (k : List Symbol) (e : Tree) (z : Closing) (vs : Vals k) → is_prefix o ≡ true → Reads (s.Expr 0 ∷ s.GroupRest ∷ k) (lx o w ∷ xs) i (e, (z, vs)) → Reads (s.Hparen ∷ k) (lx o w ∷ xs) i (holds e z, vs)
 hparen_minus t.Minus w xs i k e z vs p h = let u = unmapped (λ us. (prefix_row 0 t.Minus).act (s.GroupRest ∷ k) i w us) (read xs (i + 1) false (s.Expr 8 ∷ s.Tail 0 8 ∷ s.GroupRest ∷ k)) (e, (z, vs)) h in

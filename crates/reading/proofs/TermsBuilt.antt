@@ -1,15 +1,13 @@
 -- What is read as a term is right.
-use Rattle.std.proofs.Common.{◌≡◌, ℕ, ◌+◌, Bool, true, false, cond, List, [], ◌∷◌, ◌++◌, Option, Some, None, refl, sym, ap, ◌∙◌, subst, append_assoc, append-nil}
+use Rattle.std.proofs.Common.{◌≡◌, ℕ, ◌+◌, Bool, true, false, cond, List, [], ◌∷◌, ◌++◌, Option, Some, None, refl, sym, ap, ◌∙◌, subst, append_assoc, append-nil, nat_le, arith}
 use Rattle.tokens_why.specs.declared.terminal.Terminal.{Terminal}
 use Rattle.tokens_why.specs.declared.terminal.Terminal.TheVariants as t
 use Rattle.grammar.specs.declared.symbols.Symbol.{Symbol}
 use Rattle.grammar.specs.declared.symbols.Symbol.TheVariants as s
-use Rattle.grammar.proofs.Laws.{and_left}
+use Rattle.grammar.proofs.Laws.{and_left, and_right}
 use Rattle.syntax_why.specs.Lexeme.{Lexeme, Word, at, lx, mark}
 use Rattle.syntax_why.specs.Forms.{past, write_called, write_form, write_own}
-use Rattle.tokens_why.specs.Operators.{is_infix}
-use Rattle.tokens_why.specs.Operators.{is_operator}
-use Rattle.tokens_why.specs.Operators.{is_prefix}
+use Rattle.tokens_why.specs.Operators.{is_infix, is_operator, is_prefix}
 use Rattle.syntax_why.specs.Trees.{AreLevel, IsAtom, IsLevel, IsOwn, IsPlacedTree, MayBeMarked, Op, PlacedCommas, PlacedTrees, Tree, Trees, ends_open, more, none, op, prefixed, tight, write, write_op, write_row, write_tail}
 use Rattle.reading.specs.Parts.{Chain, Closing, Minus, Paren, Scoped, attach, behind_minus, cast_to, closed, holds, name_of, named, named_by, nothing, operand, own_op, paren, scope_own}
 use Rattle.reading.specs.Row.{Row, Vals, extend}
@@ -17,12 +15,10 @@ use Rattle.reading.specs.TermRows.{aminus_own, aminus_row, aop_row, aparen_own, 
 use Rattle.reading.specs.Values.{rows}
 use Rattle.reading.proofs.Reading.{past-append}
 use Rattle.reading.proofs.FormsRead.{regroup}
-use Rattle.reading.proofs.Operators.{all_infix}
-use Rattle.reading.proofs.Good.{AllRows, ChainBehind, Good, HasNoArgs, HasNoneBy, IsClosing, IsMinus, IsParen, IsScoped, RowOk, extend_ok, opend, own_dots, write_chain, write_closing, write_minus, write_paren}
+use Rattle.reading.proofs.Good.{◌▸◌, AllRows, ChainBehind, Good, HasNoArgs, HasNoneBy, IsClosing, IsMinus, IsParen, IsScoped, RowOk, extend_ok, opend, own_dots, write_chain, write_closing, write_minus, write_paren}
 use Rattle.reading.proofs.OperatorsBuilt.{TailPart, attach_good, attach_ok, le_of, link_ok, marked, not_ok, prefix_ok, tail_part}
 use Rattle.reading.proofs.OpenBuilt.{cases_past, cases_tokens, open_ok, opens_expr}
-use Rattle.std.proofs.Common.{nat_le, arith}
-use Rattle.grammar.proofs.Laws.{and_right}
+use Rattle.grammar.proofs.Tails.{all_infix}
 
 -- rows of applications and atoms
 pub own_is : (w : Word) (d : Option Scoped) → IsScoped d → IsOwn (scope_own w d).own
@@ -69,58 +65,26 @@ paren_atom i (holds e (closed es)) h = tt
 paren_atom i (holds e (cast_to f)) h = tt
 
 pub prim_ok : AllRows s.Prim prim_rows
-prim_ok = (
-  λ k i w xs vs p (ys, q, e, g). (ys, ((tt, q.0), (refl, refl, q.1), refl, refl), ap (λ v. lx t.Lident w ∷ v) e, g),
-  (
-    λ k i w xs vs p (ys, q, e, (zs, n, d, g)). (zs, ((own_is w vs.0 q, n.0), (refl, refl, subst (λ v. PlacedTrees (past i v) vs.1.0) (sym (own_writes i w vs.0)) n.1), refl, refl), ap (λ v. lx t.Uident w ∷ v) (e ∙ ap (λ v. own_dots vs.0 ++ v) d) ∙ sym (append_assoc (lx t.Uident w ∷ own_dots vs.0) (write_row vs.1.0) zs) ∙ ap (λ v. (v ++ write_row vs.1.0) ++ zs) (sym (own_writes i w vs.0)), subst (λ n. Good false k n zs vs.1.1) (sym (ap (past i) (ap (λ v. v ++ write_row vs.1.0) (own_writes i w vs.0)) ∙ past-append (own_dots vs.0) (write_row vs.1.0) (i + 1))) g),
-    (
-      λ k i w xs vs p (ys, q, e, g). (ys, ((tt, q.0), (refl, refl, q.1), refl, refl), ap (λ v. lx t.StarName v ∷ xs) p ∙ ap (λ v. mark t.StarName ∷ v) e, g),
-      (
-        λ k i w xs vs p (ys, q, e, g). (let r = paren_tree i vs.0 q in (ys, (r.level, r.placed, r.primary, r.shut), ap (λ v. lx t.LParen v ∷ xs) p ∙ ap (λ v. mark t.LParen ∷ v) e ∙ ap (λ v. v ++ ys) (sym r.writes), subst (λ v. Good false k (past i v) ys vs.1) (sym r.writes) g)),
-        (
-          λ k i w xs vs p g. (xs, (tt, refl, refl, refl), refl, g),
-          (
-            λ k i w xs vs p g. (xs, (tt, refl, refl, refl), ap (λ v. lx t.TrueWord v ∷ xs) p, g),
-            (
-              λ k i w xs vs p g. (xs, (tt, refl, refl, refl), ap (λ v. lx t.FalseWord v ∷ xs) p, g),
-              (
-                λ k i w xs vs p (ys, q, e, (zs, n, d, g)). (zs, ((tt, (q.0, n.0), n.2.0, n.2.1), (refl, (q.1, n.1), rw past-append n.2.2), refl, refl), ap (λ v. lx t.MatchWord v ∷ xs) p ∙ ap (λ v. mark t.MatchWord ∷ v) (cases_tokens vs.0 vs.1.0 xs ys zs e d), subst (λ j. Good false k j zs vs.1.1) (cases_past vs.0 vs.1.0 (i + 1)) g),
-                tt,
-              ),
-            ),
-          ),
-        ),
-      ),
-    ),
-  ),
-)
+prim_ok = (λ k i w xs vs p (ys, q, e, g). (ys, ((tt, q.0), (refl, refl, q.1), refl, refl), ap (λ v. lx t.Lident w ∷ v) e, g))
+    ▸ (λ k i w xs vs p (ys, q, e, (zs, n, d, g)). (zs, ((own_is w vs.0 q, n.0), (refl, refl, subst (λ v. PlacedTrees (past i v) vs.1.0) (sym (own_writes i w vs.0)) n.1), refl, refl), ap (λ v. lx t.Uident w ∷ v) (e ∙ ap (λ v. own_dots vs.0 ++ v) d) ∙ sym (append_assoc (lx t.Uident w ∷ own_dots vs.0) (write_row vs.1.0) zs) ∙ ap (λ v. (v ++ write_row vs.1.0) ++ zs) (sym (own_writes i w vs.0)), subst (λ n. Good false k n zs vs.1.1) (sym (ap (past i) (ap (λ v. v ++ write_row vs.1.0) (own_writes i w vs.0)) ∙ past-append (own_dots vs.0) (write_row vs.1.0) (i + 1))) g))
+    ▸ (λ k i w xs vs p (ys, q, e, g). (ys, ((tt, q.0), (refl, refl, q.1), refl, refl), ap (λ v. lx t.StarName v ∷ xs) p ∙ ap (λ v. mark t.StarName ∷ v) e, g))
+    ▸ (λ k i w xs vs p (ys, q, e, g). (let r = paren_tree i vs.0 q in (ys, (r.level, r.placed, r.primary, r.shut), ap (λ v. lx t.LParen v ∷ xs) p ∙ ap (λ v. mark t.LParen ∷ v) e ∙ ap (λ v. v ++ ys) (sym r.writes), subst (λ v. Good false k (past i v) ys vs.1) (sym r.writes) g)))
+    ▸ (λ k i w xs vs p g. (xs, (tt, refl, refl, refl), refl, g))
+    ▸ (λ k i w xs vs p g. (xs, (tt, refl, refl, refl), ap (λ v. lx t.TrueWord v ∷ xs) p, g))
+    ▸ (λ k i w xs vs p g. (xs, (tt, refl, refl, refl), ap (λ v. lx t.FalseWord v ∷ xs) p, g))
+    ▸ (λ k i w xs vs p (ys, q, e, (zs, n, d, g)). (zs, ((tt, (q.0, n.0), n.2.0, n.2.1), (refl, (q.1, n.1), rw past-append n.2.2), refl, refl), ap (λ v. lx t.MatchWord v ∷ xs) p ∙ ap (λ v. mark t.MatchWord ∷ v) (cases_tokens vs.0 vs.1.0 xs ys zs e d), subst (λ j. Good false k j zs vs.1.1) (cases_past vs.0 vs.1.0 (i + 1)) g))
+    ▸ tt
 
 pub atom_ok : AllRows s.Atom atom_rows
-atom_ok = (
-  λ k i w xs vs p g. (xs, (tt, (tt, tt), (refl, refl, tt)), refl, g),
-  (
-    λ k i w xs vs p (ys, q, e, g). (ys, (tt, (own_is w vs.0 q, tt), (refl, refl, tt)), ap (λ v. lx t.Uident w ∷ v) e ∙ ap (λ v. v ++ ys) (sym (append-nil (write_called (name_of i (scope_own w vs.0))) ∙ own_writes i w vs.0)), subst (λ v. Good false k (past i v) ys vs.1) (sym (append-nil (write_called (name_of i (scope_own w vs.0))) ∙ own_writes i w vs.0)) g),
-    (
-      λ k i w xs vs p g. (xs, (tt, (tt, tt), (refl, refl, tt)), ap (λ v. lx t.StarName v ∷ xs) p, g),
-      (
-        λ k i w xs vs p (ys, q, e, g). (let r = paren_tree i vs.0 q.0 in (ys, (paren_atom i vs.0 q.1, r.level, r.placed), ap (λ v. lx t.LParen v ∷ xs) p ∙ ap (λ v. mark t.LParen ∷ v) e ∙ ap (λ v. v ++ ys) (sym r.writes), subst (λ v. Good false k (past i v) ys vs.1) (sym r.writes) g)),
-        (
-          λ k i w xs vs p g. (xs, (tt, tt, refl), refl, g),
-          (
-            λ k i w xs vs p g. (xs, (tt, tt, refl), ap (λ v. lx t.TrueWord v ∷ xs) p, g),
-            (
-              λ k i w xs vs p g. (xs, (tt, tt, refl), ap (λ v. lx t.FalseWord v ∷ xs) p, g),
-              (
-                λ k i w xs vs p (ys, q, e, (zs, n, d, g)). (zs, (tt, (tt, (q.0, n.0), n.2.0, n.2.1), (refl, (q.1, n.1), rw past-append n.2.2)), ap (λ v. lx t.MatchWord v ∷ xs) p ∙ ap (λ v. mark t.MatchWord ∷ v) (cases_tokens vs.0 vs.1.0 xs ys zs e d), subst (λ j. Good false k j zs vs.1.1) (cases_past vs.0 vs.1.0 (i + 1)) g),
-                tt,
-              ),
-            ),
-          ),
-        ),
-      ),
-    ),
-  ),
-)
+atom_ok = (λ k i w xs vs p g. (xs, (tt, (tt, tt), (refl, refl, tt)), refl, g))
+    ▸ (λ k i w xs vs p (ys, q, e, g). (ys, (tt, (own_is w vs.0 q, tt), (refl, refl, tt)), ap (λ v. lx t.Uident w ∷ v) e ∙ ap (λ v. v ++ ys) (sym (append-nil (write_called (name_of i (scope_own w vs.0))) ∙ own_writes i w vs.0)), subst (λ v. Good false k (past i v) ys vs.1) (sym (append-nil (write_called (name_of i (scope_own w vs.0))) ∙ own_writes i w vs.0)) g))
+    ▸ (λ k i w xs vs p g. (xs, (tt, (tt, tt), (refl, refl, tt)), ap (λ v. lx t.StarName v ∷ xs) p, g))
+    ▸ (λ k i w xs vs p (ys, q, e, g). (let r = paren_tree i vs.0 q.0 in (ys, (paren_atom i vs.0 q.1, r.level, r.placed), ap (λ v. lx t.LParen v ∷ xs) p ∙ ap (λ v. mark t.LParen ∷ v) e ∙ ap (λ v. v ++ ys) (sym r.writes), subst (λ v. Good false k (past i v) ys vs.1) (sym r.writes) g)))
+    ▸ (λ k i w xs vs p g. (xs, (tt, tt, refl), refl, g))
+    ▸ (λ k i w xs vs p g. (xs, (tt, tt, refl), ap (λ v. lx t.TrueWord v ∷ xs) p, g))
+    ▸ (λ k i w xs vs p g. (xs, (tt, tt, refl), ap (λ v. lx t.FalseWord v ∷ xs) p, g))
+    ▸ (λ k i w xs vs p (ys, q, e, (zs, n, d, g)). (zs, (tt, (tt, (q.0, n.0), n.2.0, n.2.1), (refl, (q.1, n.1), rw past-append n.2.2)), ap (λ v. lx t.MatchWord v ∷ xs) p ∙ ap (λ v. mark t.MatchWord ∷ v) (cases_tokens vs.0 vs.1.0 xs ys zs e d), subst (λ j. Good false k j zs vs.1.1) (cases_past vs.0 vs.1.0 (i + 1)) g))
+    ▸ tt
 
 pub args_ok : AllRows s.Args (rows s.Args)
 args_ok = extend_ok s.Args s.Atom (s.Args ∷ []) (λ v vs. more v vs.0) atom_rows
@@ -133,43 +97,21 @@ pub opname_row_ok : (o : Terminal) → is_operator o ≡ true → RowOk s.Opname
 opname_row_ok o h k i w xs vs p (ys, m, e, g) = (ys, (refl, h, marked o w p), ap (λ v. lx o w ∷ v) e, g)
 
 pub qhead_ok : AllRows s.Qhead (rows s.Qhead)
-qhead_ok = (
-  λ k i w xs vs p g. (xs, tt, refl, g),
-  (
-    λ k i w xs vs p (ys, q, e, g). (ys, own_is w vs.0 q, ap (λ v. lx t.Uident w ∷ v) e ∙ ap (λ v. v ++ ys) (sym (own_writes i w vs.0)), subst (λ v. Good false k (past i v) ys vs.1) (sym (own_writes i w vs.0)) g),
-    (
-      λ k i w xs vs p g. (xs, tt, ap (λ v. lx t.StarName v ∷ xs) p, g),
-      (
-        λ k i w xs vs p (ys, q, e, g). (ys, op_own vs.0.prefix vs.0.op (q.1, q.2), ap (λ v. lx t.LParen v ∷ xs) p ∙ ap (λ v. mark t.LParen ∷ v) e ∙ ap (λ v. v ++ ys) (sym (op_writes vs.0.prefix vs.0.op)), subst (λ v. Good false k (past i v) ys vs.1) (sym (op_writes vs.0.prefix vs.0.op)) g),
-        tt,
-      ),
-    ),
-  ),
-)
+qhead_ok = (λ k i w xs vs p g. (xs, tt, refl, g))
+    ▸ (λ k i w xs vs p (ys, q, e, g). (ys, own_is w vs.0 q, ap (λ v. lx t.Uident w ∷ v) e ∙ ap (λ v. v ++ ys) (sym (own_writes i w vs.0)), subst (λ v. Good false k (past i v) ys vs.1) (sym (own_writes i w vs.0)) g))
+    ▸ (λ k i w xs vs p g. (xs, tt, ap (λ v. lx t.StarName v ∷ xs) p, g))
+    ▸ (λ k i w xs vs p (ys, q, e, g). (ys, op_own vs.0.prefix vs.0.op (q.1, q.2), ap (λ v. lx t.LParen v ∷ xs) p ∙ ap (λ v. mark t.LParen ∷ v) e ∙ ap (λ v. v ++ ys) (sym (op_writes vs.0.prefix vs.0.op)), subst (λ v. Good false k (past i v) ys vs.1) (sym (op_writes vs.0.prefix vs.0.op)) g))
+    ▸ tt
 
 pub opname_ok : AllRows s.Opname (rows s.Opname)
-opname_ok = (
-  opname_row_ok t.Equal refl,
-  (
-    opname_row_ok t.Minus refl,
-    (
-      opname_row_ok t.Operator1 refl,
-      (
-        opname_row_ok t.Operator2 refl,
-        (
-          opname_row_ok t.Operator3 refl,
-          (
-            opname_row_ok t.Operator4 refl,
-            (
-              opname_row_ok t.PrefixOperator refl,
-              tt,
-            ),
-          ),
-        ),
-      ),
-    ),
-  ),
-)
+opname_ok = opname_row_ok t.Equal refl
+    ▸ opname_row_ok t.Minus refl
+    ▸ opname_row_ok t.Operator1 refl
+    ▸ opname_row_ok t.Operator2 refl
+    ▸ opname_row_ok t.Operator3 refl
+    ▸ opname_row_ok t.Operator4 refl
+    ▸ opname_row_ok t.PrefixOperator refl
+    ▸ tt
 
 pub opend_ok : AllRows s.Opend (rows s.Opend)
 opend_ok = (λ k i w xs vs p g. (xs, tt, ap (λ v. lx t.RParen v ∷ xs) p, g), (λ k i w xs vs p (ys, m, e, g). (ys, tt, ap (λ v. lx t.Wild v ∷ xs) p ∙ ap (λ v. mark t.Wild ∷ v) (e ∙ ap (λ v. lx t.RParen v ∷ ys) m.1), g), tt))
@@ -262,13 +204,10 @@ pub more_ok : AllRows s.More (rows s.More)
 more_ok = (λ k i w xs vs p g. (xs, (tt, tt), ap (λ v. lx t.RParen v ∷ xs) p, g), (λ k i w xs vs p g. (let r = listed_ok k i xs vs.0 vs.1 g in (r.0, r.1, ap (λ v. lx t.Comma v ∷ xs) p ∙ r.2, r.3)), tt))
 
 pub rest_ok : AllRows s.GroupRest (rows s.GroupRest)
-rest_ok = (
-  λ k i w xs vs p g. (xs, (tt, tt), ap (λ v. lx t.RParen v ∷ xs) p, g),
-  (
-    λ k i w xs vs p g. (let r = listed_ok k i xs vs.0 vs.1 g in (r.0, r.1, ap (λ v. lx t.Comma v ∷ xs) p ∙ r.2, r.3)),
-    (λ k i w xs vs p (ys, q, e, (zs, n, d, g)). (zs, q, ap (λ v. lx t.Colon v ∷ xs) p ∙ ap (λ v. mark t.Colon ∷ v) (e ∙ ap (λ v. write_form vs.0 ++ v) (d ∙ ap (λ v. lx t.RParen v ∷ zs) n.1) ∙ sym (append_assoc (write_form vs.0) (mark t.RParen ∷ []) zs)), rw past-append g), tt),
-  ),
-)
+rest_ok = (λ k i w xs vs p g. (xs, (tt, tt), ap (λ v. lx t.RParen v ∷ xs) p, g))
+    ▸ (λ k i w xs vs p g. (let r = listed_ok k i xs vs.0 vs.1 g in (r.0, r.1, ap (λ v. lx t.Comma v ∷ xs) p ∙ r.2, r.3)))
+    ▸ (λ k i w xs vs p (ys, q, e, (zs, n, d, g)). (zs, q, ap (λ v. lx t.Colon v ∷ xs) p ∙ ap (λ v. mark t.Colon ∷ v) (e ∙ ap (λ v. write_form vs.0 ++ v) (d ∙ ap (λ v. lx t.RParen v ∷ zs) n.1) ∙ sym (append_assoc (write_form vs.0) (mark t.RParen ∷ []) zs)), rw past-append g))
+    ▸ tt
 
 pub tail_ok : (m u : ℕ) (os : List Terminal) → all_infix os ≡ true → AllRows (s.Tail m u) (tail_rows m u os)
 tail_ok m u [] h = tt

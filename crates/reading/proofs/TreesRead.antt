@@ -1,5 +1,5 @@
 -- The tokens of a term are read as it.
-use Rattle.std.proofs.Common.{◌≡◌, ℕ, ◌+◌, ◌≤◌, Bool, true, false, nat_le, cond, List, [], ◌∷◌, ◌++◌, Option, Some, None, refl, sym, ap, ◌∙◌, subst, append_assoc, append-nil, arith}
+use Rattle.std.proofs.Common.{◌≡◌, ℕ, ◌+◌, ◌≤◌, Bool, true, false, nat_le, cond, List, [], ◌∷◌, ◌++◌, Some, refl, sym, ap, ◌∙◌, subst, append_assoc, append-nil, arith}
 use Rattle.tokens_why.specs.declared.terminal.Terminal.TheVariants as t
 use Rattle.grammar.specs.declared.symbols.Symbol.{Symbol}
 use Rattle.grammar.specs.declared.symbols.Symbol.TheVariants as s
@@ -14,11 +14,13 @@ use Rattle.reading.specs.TermRows.{link_row, prefix_row}
 use Rattle.reading.specs.Values.{read}
 use Rattle.reading.proofs.Reading.{Reads, Stops, extended, passed, past-append}
 use Rattle.reading.proofs.FormsRead.{reads_pat, regroup}
-use Rattle.reading.proofs.Operators.{Follow, OpsBelow, Rest, RestBy, infix_among, le_true, low_not, low_prefix, low_right, reach, reads_by, rest_within, tail_found}
+use Rattle.reading.proofs.Operators.{Follow, OpsBelow, Rest, RestBy, le_true, low_not, low_prefix, low_right, reach, reads_by, rest_within, tail_found}
 use Rattle.reading.proofs.TermRowsRead.{args_extend, atom_headed, expr_if, expr_let, expr_not, expr_prefix, expr_quantifier, prim_headed, reads_aparen, reads_hparen}
-use Rattle.reading.proofs.Operands.{and_true, as_prim, before_seal, both_right, cast_rest, comma_follow, follow_any, follow_within, joined_is, list_follow, mark_follow, op_follow, op_is, others_follow, past_op, reads_mark, row_scope, terms_follow, whole_by, within_left, within_right}
+use Rattle.reading.proofs.Operands.{as_prim, before_seal, both_right, cast_rest, comma_follow, follow_any, follow_within, joined_is, list_follow, mark_follow, op_follow, op_is, others_follow, past_op, reads_mark, row_scope, terms_follow, whole_by, within_left, within_right}
 use Rattle.reading.proofs.Grouping.{branch_past, branch_tokens, let_past, let_tokens, match_past, match_tokens, quantifier_past, quantifier_tokens, trigger_stop}
 use Rattle.reading.proofs.ArmsRead.{binder_behind, binders_stop, reads_arms, reads_binders, reads_branch, reads_letpats, tail_stops_pat}
+use Rattle.grammar.proofs.Laws.{and_both}
+use Rattle.grammar.proofs.Tails.{infix_among}
 
 mutual
   pub reads_expr : (e : Tree) (m : ℕ) (ys : List Lexeme) (i : ℕ) (k : List Symbol) (c : Chain) (vs : Vals k) → IsLevel e → IsPlacedTree i e → m ≤ tight e → Follow (reach e) ys → Rest e m ys (past i (write e)) k c vs → Reads (s.Expr m ∷ k) (write e ++ ys) i (attach e c, vs)
@@ -41,7 +43,7 @@ mutual
   reads_expr (binary a e o f) m ys i k c vs l p u n h = rw (both_right (write e) (write_op o) (write f) ys, sym (joined_is a e o f i p))
       (reads_expr e m (write_op o ∷ (write f ++ ys)) i k (link o f c) vs l.5 p.3 (within_left m o e u l.0 l.3) (subst (λ b. Follow (cond b 0 (tight e)) (write_op o ∷ (write f ++ ys))) (sym l.2) (op_follow (tight e) o (write f ++ ys) l.0 l.3))
       (subst (λ b. RestBy b m (tight e) (write_op o ∷ (write f ++ ys)) (past i (write e)) k (link o f c) vs) (sym l.2)
-      (reads_by (s.Tail m (tight e)) (write_op o) (link_row m (tight e) o.terminal) (write f ++ ys) (past i (write e)) k (f, (c, vs)) (tail_found m (tight e) operators o.terminal (infix_among o.terminal l.0) (and_true (nat_le m (prec o.terminal)) (nat_le (need o.terminal) (tight e)) (le_true m (prec o.terminal) u) (le_true (need o.terminal) (tight e) l.3)))
+      (reads_by (s.Tail m (tight e)) (write_op o) (link_row m (tight e) o.terminal) (write f ++ ys) (past i (write e)) k (f, (c, vs)) (tail_found m (tight e) operators o.terminal (infix_among o.terminal l.0) (and_both (nat_le m (prec o.terminal)) (nat_le (need o.terminal) (tight e)) (le_true m (prec o.terminal) u) (le_true (need o.terminal) (tight e) l.3)))
       (reads_expr f (right o.terminal) ys (past i (write e) + 1) (s.Tail m (prec o.terminal) ∷ k) stop (c, vs) l.6 p.4 l.4 (follow_within (ends_open f) (prec o.terminal) (tight f) ys (within_right o f l.0 l.4) n)
       (rest_within (ends_open f) m (right o.terminal) (prec o.terminal) (tight f) ys (past (past i (write e) + 1) (write f)) k c vs (λ q. low_right o.terminal ys l.0 (subst (λ b. OpsBelow (cond b 0 (prec o.terminal)) ys) q n.ops)) (rw past_op at h)))
       ∙ ap (λ v. Some (link v f c, vs)) (op_is o (past i (write e)) p.2))))
@@ -164,11 +166,3 @@ end_rest false u j = refl
 
 pub reads_alone : (e : Tree) (i : ℕ) → IsLevel e → IsPlacedTree i e → read (write e) i false (s.Expr 0 ∷ []) ≡ Some (e, tt)
 reads_alone e i l p = ap (λ v. read v i false (s.Expr 0 ∷ [])) (sym (append-nil (write e))) ∙ reads_expr e 0 [] i [] stop tt l p (omega arith) (record { args = tt; scope = tt; ops = tt }) (end_rest (ends_open e) (tight e) (past i (write e)))
-
-abbrev tree_or : Tree → Option (Tree × Unit {0}) → Tree
-tree_or e None = e
-tree_or e (Some v) = v.0
-
--- Tokens are those of one tree at most.
-pub one_tree : (e f : Tree) (i : ℕ) → IsLevel e → IsLevel f → IsPlacedTree i e → IsPlacedTree i f → write e ≡ write f → e ≡ f
-one_tree e f i l m p q h = ap (tree_or e) (sym (reads_alone e i l p) ∙ ap (λ v. read v i false (s.Expr 0 ∷ [])) h ∙ reads_alone f i m q)

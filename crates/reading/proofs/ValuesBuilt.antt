@@ -1,9 +1,9 @@
 -- What is read has the tokens that it is read from.
-use Rattle.std.proofs.Common.{◌≡◌, ℕ, ◌+◌, Bool, true, false, ◌&&◌, cond, List, [], ◌∷◌, ◌++◌, Option, Some, None, option_map, refl, sym, ap, ◌∙◌, subst}
+use Rattle.std.proofs.Common.{◌≡◌, ℕ, ◌+◌, Bool, true, false, ◌&&◌, cond, List, [], ◌∷◌, ◌++◌, Option, Some, None, refl, sym, ap, ◌∙◌, subst}
 use Rattle.tokens_why.specs.declared.terminal.Terminal.{Terminal}
 use Rattle.grammar.specs.declared.symbols.Symbol.{Symbol}
 use Rattle.grammar.specs.declared.symbols.Symbol.TheVariants as s
-use Rattle.grammar.specs.Alphabet.{same}
+use Rattle.grammar.specs.Alphabet.{same, operators}
 use Rattle.grammar.specs.Machine.{is_seal, is_tail, sealed}
 use Rattle.grammar.proofs.Laws.{same_true}
 use Rattle.syntax_why.specs.Lexeme.{Lexeme, lx}
@@ -19,7 +19,7 @@ use Rattle.reading.proofs.OpenBuilt.{arm_ok, binder_ok, binders_ok, branch_ok, b
 use Rattle.reading.proofs.TermsBuilt.{aminus_ok, aparen_ok, args_ok, atom_ok, expr_ok, hminus_ok, hparen_ok, more_ok, opend_ok, opname_ok, prim_ok, qhead_ok, rest_ok, scoped_ok, tail_ok}
 use Rattle.reading.proofs.PartsBuilt.{algvars_ok, axioms_ok, body_ok, con_ok, fields_ok, id_ok, member_ok, members_ok, op_ok, params_ok, pname_ok, pparen_ok, qid_ok, qids_ok, qop_ok, tvars_ok, typedef_ok, upper_ok, value_ok}
 use Rattle.reading.proofs.DeclsBuilt.{clause_ok, clauses_ok, cloned_ok, decls_ok, elem_ok, elems_ok, elvars_ok, file_ok, path_ok, renamed_ok, subst_ok, used_ok}
-use Rattle.grammar.specs.Alphabet.{operators}
+use Rattle.reading.proofs.Reading.{unmapped}
 
 pub all_ok : (s : Symbol) → AllRows s (rows s)
 all_ok (s.Take x) = (λ k i w xs vs p g. (xs, (refl, p), refl, g), tt)
@@ -164,16 +164,12 @@ found s (q ∷ rs) x r a h = by_test (same q.first x) refl h (λ e. found s rs x
     by_test true e g f = let i : q ≡ r = cc in subst (λ v. Found s v x) i (record { first = same_true q.first x e; ok = a.0 })
     by_test false e g f = f g
 
-pub mapped : {A B : Type 0} → (f : A → B) (o : Option A) (v : B) → option_map f o ≡ Some v → (u : A) × (o ≡ Some u) × (f u ≡ v)
-mapped f None v h = cc
-mapped f (Some u) v h = (u, refl, cc)
-
 pub over_good : (xs : List Lexeme) (x : Lexeme) (i : ℕ) → Proper x.terminal x.text → ((k : List Symbol) (us : Vals k) → read xs (i + 1) false k ≡ Some us → Good false k (i + 1) xs us) → (b : Bool) (k : List Symbol) (vs : Vals k) → over (λ k'. read xs (i + 1) false k') i x b k ≡ Some vs → Good b k i (x ∷ xs) vs
 over_good xs x i p f b [] vs h = cc
 over_good xs x i p f b (s ∷ k) vs h = by_seal (sealed b s) (hush b s) h (λ c us e. over_good xs x i p f c k us e)
   where
     by_row_found : (o : Option (Row s)) → find (rows s) x.terminal ≡ o → hushed b s ≡ false → by_row s k (λ k'. read xs (i + 1) false k') i x.text o (with_blank s k (blank s) (over (λ k'. read xs (i + 1) false k') i x (is_seal s) k)) ≡ Some vs → ((c : Bool) (us : Vals k) → over (λ k'. read xs (i + 1) false k') i x c k ≡ Some us → Good c k i (x ∷ xs) us) → Good b (s ∷ k) i (x ∷ xs) vs
-    by_row_found (Some r) e n g q = let m = mapped (λ us. r.act k i x.text us) (read xs (i + 1) false (r.behind k)) vs g in
+    by_row_found (Some r) e n g q = let m = unmapped (λ us. r.act k i x.text us) (read xs (i + 1) false (r.behind k)) vs g in
         let d = found s (rows s) x.terminal r (all_ok s) e in
         subst (λ v. Piece (hushed b s) s (λ c j ys. Good c k j ys v.1) i (x ∷ xs) v.0) m.2
         (subst (λ v. Piece v s (λ c j ys. Good c k j ys (r.act k i x.text m.0).1) i (x ∷ xs) (r.act k i x.text m.0).0) (hush false s ∙ sym n)

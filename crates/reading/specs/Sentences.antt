@@ -54,11 +54,3 @@ pub record IsLongest {V : Type 0} (is stands : V → Type 0) (write : V → List
   pub high : n ≤ length xs
   pub only : IsOnly is stands write (take n xs) v
   pub longest : (m : ℕ) → n < m → m ≤ length xs → IsNone is write (take m xs)
-
--- terminals that complete the tokens to those of a right tree
-pub record Completes {V : Type 0} (is : V → Type 0) (write : V → List Lexeme) (xs : List Lexeme) (more : List Terminal) : Type 0 where
-  pub tree : V
-  pub behind : List Lexeme
-  pub stand : AllStand behind
-  pub of : IsOf is write (xs ++ behind) tree
-  pub terminals : terminals behind ≡ more

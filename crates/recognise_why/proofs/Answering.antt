@@ -1,5 +1,5 @@
 -- What the table's machine decides, said of trees.
-use Rattle.std.proofs.Common.{zero, suc, ◌≡◌, ℕ, ◌+◌, ◌≤◌, ◌<◌, Bool, true, false, List, [], ◌∷◌, ◌++◌, Option, Some, None, length, map, take, drop, get_or, slice_get, refl, sym, ap, ◌∙◌, subst, arith}
+use Rattle.std.proofs.Common.{zero, suc, ◌≡◌, ℕ, ◌+◌, ◌≤◌, ◌<◌, Bool, true, false, List, [], ◌∷◌, ◌++◌, Some, None, length, map, take, drop, get_or, slice_get, refl, sym, ap, ◌∙◌, subst, arith}
 use Rattle.std.proofs.lemmas.List.{length-map}
 use Rattle.tokens_why.specs.declared.terminal.Terminal.{Terminal}
 use Rattle.tokens_why.specs.declared.terminal.Terminal.TheVariants as t
@@ -20,7 +20,7 @@ use Rattle.reading.specs.Values.{read}
 use Rattle.reading.specs.Sentences.{Begins, IsOf}
 use Rattle.reading.proofs.Good.{AllProper}
 use Rattle.reading.proofs.Samples.{fits, is_token, string}
-use Rattle.reading.proofs.Parsing.{Whole, whole_expr, whole_file, tree_accepted, read_accepted, only_read, least_fault, may_stand, may_not_stand, longest_read, none_read, proper_by, proper_rest}
+use Rattle.reading.proofs.Parsing.{Whole, whole_expr, whole_file, tree_accepted, read_accepted, only_read, least_fault, may_stand, may_not_stand, longest_read, none_read, proper_by, proper_rest, terminals_append, value_or}
 use Rattle.recognise_why.specs.declared.fault.SyntaxFault.TheVariants as f
 use Rattle.recognise_why.specs.Depth.{IsShallow, IsTooDeep}
 use Rattle.recognise_why.specs.Spans.{terminals_of}
@@ -28,10 +28,6 @@ use Rattle.recognise_why.specs.Expressions.{EndsAt, IsFaultAt}
 use Rattle.recognise_why.specs.Sources.{begins_program, IsProgramDecl, IsRefusal, IsSource}
 use Rattle.recognise_why.specs.Completions.{AreStrings, CompletesWith, spelled}
 use Rattle.recognise_why.proofs.SpanLemmas.{rest_terminals}
-
-abbrev value_or : (a : Symbol) → Val a → Option (Val a × Unit {0}) → Val a
-value_or a v None = v
-value_or a v (Some u) = u.0
 
 -- Two right trees of the same tokens, with their places, are one.
 pub one : (a : Symbol) (i : ℕ) (is placed : Val a → Type 0) (write : Val a → List Lexeme) (w : Whole a i is placed write) (xs : List Lexeme) (t u : Val a) → IsOf is write xs t → placed t → IsOf is write xs u → placed u → t ≡ u
@@ -67,15 +63,6 @@ module _ (text : List ℕ) (ts : List Token) (from : ℕ) where
         begins = z.begins;
         stops = z.stops;
       }
-
--- the whole of the terminals is a prefix of them
-take_length : {A : Type 0} (xs : List A) → take (length xs) xs ≡ xs
-take_length [] = refl
-take_length (x ∷ xs) = ap (λ v. x ∷ v) (take_length xs)
-
--- where no prefix is accepted, the whole isn't
-pub none_whole : (k : List Symbol) (xs : List Terminal) → ends.IsLongest k xs (length xs) None → accepts k xs ≡ false
-none_whole k xs h = ap (accepts k) (sym (take_length xs)) ∙ h (length xs) (omega arith)
 
 -- the token at a place, by its terminal
 token_of : (xs : List Lexeme) (i : ℕ) (d : Terminal) → i < length (terminals xs) → (x : Lexeme) × (slice_get xs i ≡ Some x) × (x.terminal ≡ get_or (terminals xs) i d)
@@ -148,10 +135,6 @@ are_strings (y ∷ ys) = (record { is = is_token y; fits = fits y }, are_strings
 spelled_terminals : (ys : List Terminal) → terminals (spelled (map kind_by ys) (map string ys)) ≡ ys
 spelled_terminals [] = refl
 spelled_terminals (y ∷ ys) = ap (λ v. v ∷ terminals (spelled (map kind_by ys) (map string ys))) (terminal_of-kind_by y) ∙ ap (λ v. y ∷ v) (spelled_terminals ys)
-
-pub terminals_append : (xs ys : List Lexeme) → terminals (xs ++ ys) ≡ terminals xs ++ terminals ys
-terminals_append [] ys = refl
-terminals_append (x ∷ xs) ys = ap (λ v. x.terminal ∷ v) (terminals_append xs ys)
 
 proper_spelled : (xs : List Lexeme) (ys : List Terminal) → AllProper xs → AllProper (xs ++ spelled (map kind_by ys) (map string ys))
 proper_spelled [] [] h = tt

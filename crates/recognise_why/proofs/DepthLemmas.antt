@@ -1,8 +1,8 @@
 -- The counters of open brackets behind one token more.
-use Rattle.std.proofs.Common.{◌≡◌, ℕ, zero, suc, ◌+◌, ◌<◌, ◌≤◌, ◌⊎◌, nat_lt, Bool, true, false, List, [], ◌∷◌, ◌++◌, length, take, get_or, sum, inl, inr, refl, sym, ap, ◌∙◌, subst, arith}
+use Rattle.std.proofs.Common.{◌≡◌, ℕ, zero, suc, ◌+◌, ◌<◌, ◌≤◌, ◌⊎◌, nat_lt, Bool, true, false, List, [], ◌∷◌, ◌++◌, length, take, get_or, inl, inr, refl, sym, ap, ◌∙◌, subst, arith}
 use Rattle.std.proofs.lemmas.Bool.Decides.{nat_tests}
 use Rattle.tokens_why.specs.declared.terminal.Terminal.{Terminal}
-use Rattle.recognise_why.specs.Depth.{nesting, nested, counters, depth, depth_at, most_nested, IsTooDeep, IsShallow}
+use Rattle.recognise_why.specs.Depth.{nesting, nested, counters, depth, depth_at, most_nested, IsTooDeep}
 
 -- the counters behind the tokens before a place, none of which is nested too deep
 pub record Nested (xs : List Terminal) (i : ℕ) (ns : List ℕ) : Type 0 where
@@ -31,13 +31,6 @@ counters_at xs i d ns l h =
     let one : suc i ≡ i + 1 = omega arith in
     ap (nested (nesting x)) h ∙ sym (counters-more [] (take i xs) x) ∙ ap (counters []) (sym (take_more xs i d l) ∙ ap (λ v. take v xs) one)
 
--- the depth, by the innermost counter
-pub popped : (d : ℕ) (ns : List ℕ) (n : ℕ) (ms : List ℕ) → d ≡ depth ns → ns ≡ n ∷ ms → d ≡ length (n ∷ ms) + sum (n ∷ ms)
-popped d ns n ms e h = e ∙ ap depth h
-
-pub nested_start : (xs : List Terminal) (ns : List ℕ) → ns ≡ [] → Nested xs 0 ns
-nested_start xs ns e = record { counts = e; shallow = λ j lt. absurd (omega (arith, lt)) }
-
 module _ (xs : List Terminal) (i : ℕ) (d : Terminal) (ns ms : List ℕ) (l : i < length xs) (h : Nested xs i ns) (n : ms ≡ nested (nesting (get_or xs i d)) ns) where
   depth_here : depth_at xs i ≡ depth ms
   depth_here = ap depth (sym (counters_at xs i d ns l h.counts) ∙ sym n)
@@ -50,6 +43,3 @@ module _ (xs : List Terminal) (i : ℕ) (d : Terminal) (ns ms : List ℕ) (l : i
 
   pub nested_deep : most_nested < depth ms → IsTooDeep xs i
   nested_deep high = record { within = l; deep = let z = depth_here in omega (arith, z, high); first = h.shallow }
-
-pub nested_whole : (xs : List Terminal) (n : ℕ) (ns : List ℕ) → n ≡ length xs → Nested xs n ns → IsShallow xs
-nested_whole xs n ns e h = λ j lt. h.shallow j (omega (arith, lt, e))

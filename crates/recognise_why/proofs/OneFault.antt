@@ -9,8 +9,7 @@ use Rattle.syntax_why.specs.Lexeme.{Lexeme, rest, terminals}
 use Rattle.syntax_why.specs.Declarations.{write_file}
 use Rattle.syntax_why.specs.DeclarationRules.{IsLevelFile, PlacedFile}
 use Rattle.reading.specs.Sentences.{Begins, IsLeastFault}
-use Rattle.reading.proofs.Parsing.{whole_file, tree_accepted, taken_begins, proper_rest, proper_take}
-use Rattle.recognise_why.proofs.Answering.{terminals_append}
+use Rattle.reading.proofs.Parsing.{whole_file, tree_accepted, taken_begins, proper_rest, proper_take, terminals_append}
 
 module _ (text : List ℕ) (ts : List Token) where
   abbrev tokens : List Lexeme

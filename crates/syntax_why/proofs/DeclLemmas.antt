@@ -14,6 +14,7 @@ use Rattle.syntax_why.specs.declared.declarations.AlgTree.{AlgTree}
 use Rattle.syntax_why.specs.declared.declarations.IndTree.{IndTree}
 use Rattle.syntax_why.specs.declared.declarations.ElemTree.{ElemTree}
 use Rattle.syntax_why.specs.declared.declarations.DeclTree.{DeclTree, fold_out-DeclTree}
+use Rattle.syntax_why.specs.declared.declarations.DeclNode.{DeclNode}
 use Rattle.syntax_why.specs.declared.declarations.DeclNode.TheVariants as dv
 use Rattle.syntax_why.specs.declared.declarations.DeclNode.TheOpen as dn
 use Rattle.syntax_why.specs.declared.declarations.DeclNode.TheFolds.{fold-roll-DeclNode}
@@ -25,74 +26,47 @@ pub decl_of-node : (e : DeclTree) → decl_of e ≡ decl_of_node e.node e.at
 unfolding decl_of decl_of_node
 decl_of-node e = fold_out-DeclTree (At → Decl) Decl decl_step decl_whole e
 
+pub decl_is : (e : DeclTree) (n : DeclNode) → e.node ≡ n → decl_of e ≡ decl_of_node n e.at
+decl_is e n is = decl_of-node e ∙ ap (λ m. decl_of_node m e.at) is
+
 pub decl_of_node-TypeDecl : (n : Name) (vs : List Name) (t : Option TypeTree) (a : At) → decl_of_node (dv.TypeDecl n vs t) a ≡ type_decl a n vs (option_map form_of t)
 unfolding decl_of decl_of_node
 decl_of_node-TypeDecl n vs t a = ap (λ n. decl_of_node n a) (sym (dv.rolls-TypeDecl n vs t)) ∙ ap (λ f. f a) (fold-roll-DeclNode (At → Decl) Decl decl_step decl_whole (dn.TypeDecl n vs t))
-
-pub decl_of-TypeDecl : (e : DeclTree) (n : Name) (vs : List Name) (t : Option TypeTree) → e.node ≡ dv.TypeDecl n vs t → decl_of e ≡ type_decl e.at n vs (option_map form_of t)
-decl_of-TypeDecl e n vs t is = decl_of-node e ∙ ap (λ n. decl_of_node n e.at) is ∙ decl_of_node-TypeDecl n vs t e.at
 
 pub decl_of_node-Algebraic : (as_ : List AlgTree) (a : At) → decl_of_node (dv.Algebraic as_) a ≡ algebraic_decl a (map algebraic_of as_)
 unfolding decl_of decl_of_node
 decl_of_node-Algebraic as_ a = ap (λ n. decl_of_node n a) (sym (dv.rolls-Algebraic as_)) ∙ ap (λ f. f a) (fold-roll-DeclNode (At → Decl) Decl decl_step decl_whole (dn.Algebraic as_))
 
-pub decl_of-Algebraic : (e : DeclTree) (as_ : List AlgTree) → e.node ≡ dv.Algebraic as_ → decl_of e ≡ algebraic_decl e.at (map algebraic_of as_)
-decl_of-Algebraic e as_ is = decl_of-node e ∙ ap (λ n. decl_of_node n e.at) is ∙ decl_of_node-Algebraic as_ e.at
-
 pub decl_of_node-Function : (n : OpName) (ps : List ParamTree) (t : TypeTree) (b : Option Expr) (ms : List MemberTree) (a : At) → decl_of_node (dv.Function n ps t b ms) a ≡ function_decl a (declared_name n) (map param_of ps) (form_of t) (option_map tree_of b) (map member_of ms)
 unfolding decl_of decl_of_node
 decl_of_node-Function n ps t b ms a = ap (λ n. decl_of_node n a) (sym (dv.rolls-Function n ps t b ms)) ∙ ap (λ f. f a) (fold-roll-DeclNode (At → Decl) Decl decl_step decl_whole (dn.Function n ps t b ms))
-
-pub decl_of-Function : (e : DeclTree) (n : OpName) (ps : List ParamTree) (t : TypeTree) (b : Option Expr) (ms : List MemberTree) → e.node ≡ dv.Function n ps t b ms → decl_of e ≡ function_decl e.at (declared_name n) (map param_of ps) (form_of t) (option_map tree_of b) (map member_of ms)
-decl_of-Function e n ps t b ms is = decl_of-node e ∙ ap (λ n. decl_of_node n e.at) is ∙ decl_of_node-Function n ps t b ms e.at
 
 pub decl_of_node-Predicate : (n : OpName) (ps : List ParamTree) (b : Option Expr) (ms : List MemberTree) (a : At) → decl_of_node (dv.Predicate n ps b ms) a ≡ predicate_decl a (declared_name n) (map param_of ps) (option_map tree_of b) (map member_of ms)
 unfolding decl_of decl_of_node
 decl_of_node-Predicate n ps b ms a = ap (λ n. decl_of_node n a) (sym (dv.rolls-Predicate n ps b ms)) ∙ ap (λ f. f a) (fold-roll-DeclNode (At → Decl) Decl decl_step decl_whole (dn.Predicate n ps b ms))
 
-pub decl_of-Predicate : (e : DeclTree) (n : OpName) (ps : List ParamTree) (b : Option Expr) (ms : List MemberTree) → e.node ≡ dv.Predicate n ps b ms → decl_of e ≡ predicate_decl e.at (declared_name n) (map param_of ps) (option_map tree_of b) (map member_of ms)
-decl_of-Predicate e n ps b ms is = decl_of-node e ∙ ap (λ n. decl_of_node n e.at) is ∙ decl_of_node-Predicate n ps b ms e.at
-
 pub decl_of_node-Constant : (n : OpName) (t : TypeTree) (b : Option Expr) (a : At) → decl_of_node (dv.Constant n t b) a ≡ constant_decl a (declared_name n) (form_of t) (option_map tree_of b)
 unfolding decl_of decl_of_node
 decl_of_node-Constant n t b a = ap (λ n. decl_of_node n a) (sym (dv.rolls-Constant n t b)) ∙ ap (λ f. f a) (fold-roll-DeclNode (At → Decl) Decl decl_step decl_whole (dn.Constant n t b))
-
-pub decl_of-Constant : (e : DeclTree) (n : OpName) (t : TypeTree) (b : Option Expr) → e.node ≡ dv.Constant n t b → decl_of e ≡ constant_decl e.at (declared_name n) (form_of t) (option_map tree_of b)
-decl_of-Constant e n t b is = decl_of-node e ∙ ap (λ n. decl_of_node n e.at) is ∙ decl_of_node-Constant n t b e.at
 
 pub decl_of_node-Inductive : (ds : List IndTree) (a : At) → decl_of_node (dv.Inductive ds) a ≡ inductive_decl a (map inductive_of ds)
 unfolding decl_of decl_of_node
 decl_of_node-Inductive ds a = ap (λ n. decl_of_node n a) (sym (dv.rolls-Inductive ds)) ∙ ap (λ f. f a) (fold-roll-DeclNode (At → Decl) Decl decl_step decl_whole (dn.Inductive ds))
 
-pub decl_of-Inductive : (e : DeclTree) (ds : List IndTree) → e.node ≡ dv.Inductive ds → decl_of e ≡ inductive_decl e.at (map inductive_of ds)
-decl_of-Inductive e ds is = decl_of-node e ∙ ap (λ n. decl_of_node n e.at) is ∙ decl_of_node-Inductive ds e.at
-
 pub decl_of_node-Prop : (k : PropKind) (n : Name) (b : Expr) (a : At) → decl_of_node (dv.Prop k n b) a ≡ prop_decl a k (plain_name n) (tree_of b)
 unfolding decl_of decl_of_node
 decl_of_node-Prop k n b a = ap (λ n. decl_of_node n a) (sym (dv.rolls-Prop k n b)) ∙ ap (λ f. f a) (fold-roll-DeclNode (At → Decl) Decl decl_step decl_whole (dn.Prop k n b))
-
-pub decl_of-Prop : (e : DeclTree) (k : PropKind) (n : Name) (b : Expr) → e.node ≡ dv.Prop k n b → decl_of e ≡ prop_decl e.at k (plain_name n) (tree_of b)
-decl_of-Prop e k n b is = decl_of-node e ∙ ap (λ n. decl_of_node n e.at) is ∙ decl_of_node-Prop k n b e.at
 
 pub decl_of_node-UseTheory : (l : Link) (p : Path) (n : Option Name) (a : At) → decl_of_node (dv.UseTheory l p n) a ≡ use_decl a l p n
 unfolding decl_of decl_of_node
 decl_of_node-UseTheory l p n a = ap (λ n. decl_of_node n a) (sym (dv.rolls-UseTheory l p n)) ∙ ap (λ f. f a) (fold-roll-DeclNode (At → Decl) Decl decl_step decl_whole (dn.UseTheory l p n))
 
-pub decl_of-UseTheory : (e : DeclTree) (l : Link) (p : Path) (n : Option Name) → e.node ≡ dv.UseTheory l p n → decl_of e ≡ use_decl e.at l p n
-decl_of-UseTheory e l p n is = decl_of-node e ∙ ap (λ n. decl_of_node n e.at) is ∙ decl_of_node-UseTheory l p n e.at
-
 pub decl_of_node-CloneTheory : (l : Link) (p : Path) (n : Option Name) (es : List ElemTree) (a : At) → decl_of_node (dv.CloneTheory l p n es) a ≡ clone_decl a l p n (map element_of es)
 unfolding decl_of decl_of_node
 decl_of_node-CloneTheory l p n es a = ap (λ n. decl_of_node n a) (sym (dv.rolls-CloneTheory l p n es)) ∙ ap (λ f. f a) (fold-roll-DeclNode (At → Decl) Decl decl_step decl_whole (dn.CloneTheory l p n es))
 
-pub decl_of-CloneTheory : (e : DeclTree) (l : Link) (p : Path) (n : Option Name) (es : List ElemTree) → e.node ≡ dv.CloneTheory l p n es → decl_of e ≡ clone_decl e.at l p n (map element_of es)
-decl_of-CloneTheory e l p n es is = decl_of-node e ∙ ap (λ n. decl_of_node n e.at) is ∙ decl_of_node-CloneTheory l p n es e.at
-
 pub decl_of_node-ScopeDecl : (n : Name) (ds : List DeclTree) (a : At) → decl_of_node (dv.ScopeDecl n ds) a ≡ scope_decl a n (decls (map decl_of ds))
 unfolding decl_of decl_of_node
 decl_of_node-ScopeDecl n ds a = ap (λ n. decl_of_node n a) (sym (dv.rolls-ScopeDecl n ds)) ∙ ap (λ f. f a) (fold-roll-DeclNode (At → Decl) Decl decl_step decl_whole (dn.ScopeDecl n ds))
-
-pub decl_of-ScopeDecl : (e : DeclTree) (n : Name) (ds : List DeclTree) → e.node ≡ dv.ScopeDecl n ds → decl_of e ≡ scope_decl e.at n (decls (map decl_of ds))
-decl_of-ScopeDecl e n ds is = decl_of-node e ∙ ap (λ n. decl_of_node n e.at) is ∙ decl_of_node-ScopeDecl n ds e.at
 
 pub ruleset declared = (decl_of-node, decl_of_node-TypeDecl, decl_of_node-Algebraic, decl_of_node-Function, decl_of_node-Predicate, decl_of_node-Constant, decl_of_node-Inductive, decl_of_node-Prop, decl_of_node-UseTheory, decl_of_node-CloneTheory, decl_of_node-ScopeDecl)

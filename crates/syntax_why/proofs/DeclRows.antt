@@ -5,7 +5,7 @@ use Rattle.tokens_why.specs.declared.terminal.Terminal.TheVariants as t
 use Rattle.syntax_why.specs.declared.declarations.PropKind.TheVariants as pk
 use Rattle.syntax_why.specs.declared.declarations.Link.TheVariants as lk
 use Rattle.syntax_why.specs.Lexeme.{Word, lx, mark, at, name}
-use Rattle.syntax_why.specs.Forms.{lower, infix_op, prefix_op, star, called, Form, Forms, type_variable, composed, no_forms, more_forms}
+use Rattle.syntax_why.specs.Forms.{lower, infix_op, prefix_op, star, called, Form, type_variable, composed, no_forms, more_forms}
 use Rattle.syntax_why.specs.Trees.{Tree, apply, none}
 use Rattle.syntax_why.specs.Declarations.{algebraic_decl, function_decl, inductive_decl, clone_decl, use_decl, scope_decl, no_decls, more_decls, type_element, prop_element, all_axioms, write_decl, write_theory}
 

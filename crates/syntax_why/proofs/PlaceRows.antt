@@ -3,8 +3,8 @@ use Rattle.std.specs.Prelude.{[], ◌∷◌, Some, true}
 use Rattle.std.proofs.Common.{refl}
 use Rattle.tokens_why.specs.declared.terminal.Terminal.TheVariants as t
 use Rattle.syntax_why.specs.Lexeme.{Word, at, name}
-use Rattle.syntax_why.specs.Forms.{lower, called, type_variable, no_forms}
-use Rattle.syntax_why.specs.Trees.{Tree, apply, none, more, binary, op, group, quantified, binds, untriggered, IsPlacedTree}
+use Rattle.syntax_why.specs.Forms.{lower, called, type_variable}
+use Rattle.syntax_why.specs.Trees.{apply, none, more, binary, op, group, quantified, binds, untriggered, IsPlacedTree}
 
 module _ (v w : Word) where
   -- (v = w) -> v, from token 5: the operators stand at 7 and 10, and the whole begins at 5

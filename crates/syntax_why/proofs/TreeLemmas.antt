@@ -5,10 +5,12 @@ use Rattle.syntax_why.specs.declared.names.Name.{Name}
 use Rattle.syntax_why.specs.declared.names.OpName.{OpName}
 use Rattle.syntax_why.specs.declared.names.QName.{QName}
 use Rattle.syntax_why.specs.declared.types.TypeTree.{TypeTree, fold_out-TypeTree}
+use Rattle.syntax_why.specs.declared.types.TypeNode.{TypeNode}
 use Rattle.syntax_why.specs.declared.types.TypeNode.TheVariants as tv
 use Rattle.syntax_why.specs.declared.types.TypeNode.TheOpen as ty
 use Rattle.syntax_why.specs.declared.types.TypeNode.TheFolds.{fold-roll-TypeNode}
 use Rattle.syntax_why.specs.declared.patterns.Pat.{Pat, fold_out-Pat}
+use Rattle.syntax_why.specs.declared.patterns.PatNode.{PatNode}
 use Rattle.syntax_why.specs.declared.patterns.PatNode.TheVariants as pv
 use Rattle.syntax_why.specs.declared.patterns.PatNode.TheOpen as pt
 use Rattle.syntax_why.specs.declared.patterns.PatNode.TheFolds.{fold-roll-PatNode}
@@ -16,6 +18,7 @@ use Rattle.syntax_why.specs.declared.expressions.BinderTree.{BinderTree}
 use Rattle.syntax_why.specs.declared.expressions.Expr.{Expr, fold_out-Expr}
 use Rattle.syntax_why.specs.declared.expressions.BranchTree.{BranchTree, fold_out-BranchTree}
 use Rattle.syntax_why.specs.declared.expressions.TriggerTree.{TriggerTree, fold_out-TriggerTree, out-TriggerTree}
+use Rattle.syntax_why.specs.declared.expressions.ExprNode.{ExprNode}
 use Rattle.syntax_why.specs.declared.expressions.ExprNode.TheVariants as ev
 use Rattle.syntax_why.specs.declared.expressions.ExprNode.TheOpen as ex
 use Rattle.syntax_why.specs.declared.expressions.ExprNode.TheFolds.{fold-roll-ExprNode, fold-roll-TriggerTree}
@@ -29,13 +32,22 @@ pub form_of-node : (e : TypeTree) → form_of e ≡ form_of_node e.node e.at
 unfolding form_of form_of_node
 form_of-node e = fold_out-TypeTree (At → Form) Form type_step type_whole e
 
+pub form_is : (e : TypeTree) (n : TypeNode) → e.node ≡ n → form_of e ≡ form_of_node n e.at
+form_is e n is = form_of-node e ∙ ap (λ m. form_of_node m e.at) is
+
 pub pattern_of-node : (e : Pat) → pattern_of e ≡ pattern_of_node e.node e.at
 unfolding pattern_of pattern_of_node
 pattern_of-node e = fold_out-Pat (At → Form) Form pattern_step pattern_whole e
 
+pub pattern_is : (e : Pat) (n : PatNode) → e.node ≡ n → pattern_of e ≡ pattern_of_node n e.at
+pattern_is e n is = pattern_of-node e ∙ ap (λ m. pattern_of_node m e.at) is
+
 pub tree_of-node : (e : Expr) → tree_of e ≡ tree_of_node e.node e.at
 unfolding tree_of tree_of_node
 tree_of-node e = fold_out-Expr (At → Tree) Arm Tree Terms node_step arm_step whole_step terms_step e
+
+pub tree_is : (e : Expr) (n : ExprNode) → e.node ≡ n → tree_of e ≡ tree_of_node n e.at
+tree_is e n is = tree_of-node e ∙ ap (λ m. tree_of_node m e.at) is
 
 pub arm_of-fields : (b : BranchTree) → arm_of b ≡ record { alternatives = alternatives b.alternatives; body = tree_of b.body }
 unfolding tree_of arm_of
@@ -49,149 +61,86 @@ pub form_of_node-Var : (w : Word) (a : At) → form_of_node (tv.Var w) a ≡ typ
 unfolding form_of form_of_node
 form_of_node-Var w a = ap (λ n. form_of_node n a) (sym (tv.rolls-Var w)) ∙ ap (λ f. f a) (fold-roll-TypeNode (At → Form) Form type_step type_whole (ty.Var w))
 
-pub form_of-Var : (e : TypeTree) (w : Word) → e.node ≡ tv.Var w → form_of e ≡ type_variable e.at w
-form_of-Var e w is = form_of-node e ∙ ap (λ n. form_of_node n e.at) is ∙ form_of_node-Var w e.at
-
 pub form_of_node-Named : (q : QName) (xs : List TypeTree) (a : At) → form_of_node (tv.Named q xs) a ≡ composed a (called_of q) (types xs)
 unfolding form_of form_of_node
 form_of_node-Named q xs a = ap (λ n. form_of_node n a) (sym (tv.rolls-Named q xs)) ∙ ap (λ f. f a) (fold-roll-TypeNode (At → Form) Form type_step type_whole (ty.Named q xs))
-
-pub form_of-Named : (e : TypeTree) (q : QName) (xs : List TypeTree) → e.node ≡ tv.Named q xs → form_of e ≡ composed e.at (called_of q) (types xs)
-form_of-Named e q xs is = form_of-node e ∙ ap (λ n. form_of_node n e.at) is ∙ form_of_node-Named q xs e.at
 
 pub form_of_node-Group : (xs : List TypeTree) (a : At) → form_of_node (tv.Group xs) a ≡ enclosed a (types xs)
 unfolding form_of form_of_node
 form_of_node-Group xs a = ap (λ n. form_of_node n a) (sym (tv.rolls-Group xs)) ∙ ap (λ f. f a) (fold-roll-TypeNode (At → Form) Form type_step type_whole (ty.Group xs))
 
-pub form_of-Group : (e : TypeTree) (xs : List TypeTree) → e.node ≡ tv.Group xs → form_of e ≡ enclosed e.at (types xs)
-form_of-Group e xs is = form_of-node e ∙ ap (λ n. form_of_node n e.at) is ∙ form_of_node-Group xs e.at
-
 pub pattern_of_node-Wild : (a : At) → pattern_of_node pv.Wild a ≡ wild a
 unfolding pattern_of pattern_of_node
 pattern_of_node-Wild a = ap (λ n. pattern_of_node n a) (sym pv.rolls-Wild) ∙ ap (λ f. f a) (fold-roll-PatNode (At → Form) Form pattern_step pattern_whole pt.Wild)
-
-pub pattern_of-Wild : (e : Pat) → e.node ≡ pv.Wild → pattern_of e ≡ wild e.at
-pattern_of-Wild e is = pattern_of-node e ∙ ap (λ n. pattern_of_node n e.at) is ∙ pattern_of_node-Wild e.at
 
 pub pattern_of_node-Var : (n : Name) (a : At) → pattern_of_node (pv.Var n) a ≡ variable a n
 unfolding pattern_of pattern_of_node
 pattern_of_node-Var n a = ap (λ n. pattern_of_node n a) (sym (pv.rolls-Var n)) ∙ ap (λ f. f a) (fold-roll-PatNode (At → Form) Form pattern_step pattern_whole (pt.Var n))
 
-pub pattern_of-Var : (e : Pat) (n : Name) → e.node ≡ pv.Var n → pattern_of e ≡ variable e.at n
-pattern_of-Var e n is = pattern_of-node e ∙ ap (λ n. pattern_of_node n e.at) is ∙ pattern_of_node-Var n e.at
-
 pub pattern_of_node-Con : (q : QName) (xs : List Pat) (a : At) → pattern_of_node (pv.Con q xs) a ≡ composed a (called_of q) (patterns xs)
 unfolding pattern_of pattern_of_node
 pattern_of_node-Con q xs a = ap (λ n. pattern_of_node n a) (sym (pv.rolls-Con q xs)) ∙ ap (λ f. f a) (fold-roll-PatNode (At → Form) Form pattern_step pattern_whole (pt.Con q xs))
-
-pub pattern_of-Con : (e : Pat) (q : QName) (xs : List Pat) → e.node ≡ pv.Con q xs → pattern_of e ≡ composed e.at (called_of q) (patterns xs)
-pattern_of-Con e q xs is = pattern_of-node e ∙ ap (λ n. pattern_of_node n e.at) is ∙ pattern_of_node-Con q xs e.at
 
 pub pattern_of_node-Group : (xs : List Pat) (a : At) → pattern_of_node (pv.Group xs) a ≡ enclosed a (patterns xs)
 unfolding pattern_of pattern_of_node
 pattern_of_node-Group xs a = ap (λ n. pattern_of_node n a) (sym (pv.rolls-Group xs)) ∙ ap (λ f. f a) (fold-roll-PatNode (At → Form) Form pattern_step pattern_whole (pt.Group xs))
 
-pub pattern_of-Group : (e : Pat) (xs : List Pat) → e.node ≡ pv.Group xs → pattern_of e ≡ enclosed e.at (patterns xs)
-pattern_of-Group e xs is = pattern_of-node e ∙ ap (λ n. pattern_of_node n e.at) is ∙ pattern_of_node-Group xs e.at
-
 pub pattern_of_node-Alias : (p : Pat) (n : Name) (a : At) → pattern_of_node (pv.Alias p n) a ≡ aliased a (pattern_of p) n
 unfolding pattern_of pattern_of_node
 pattern_of_node-Alias p n a = ap (λ n. pattern_of_node n a) (sym (pv.rolls-Alias p n)) ∙ ap (λ f. f a) (fold-roll-PatNode (At → Form) Form pattern_step pattern_whole (pt.Alias p n))
-
-pub pattern_of-Alias : (e : Pat) (p : Pat) (n : Name) → e.node ≡ pv.Alias p n → pattern_of e ≡ aliased e.at (pattern_of p) n
-pattern_of-Alias e p n is = pattern_of-node e ∙ ap (λ n. pattern_of_node n e.at) is ∙ pattern_of_node-Alias p n e.at
 
 pub tree_of_node-Apply : (q : QName) (xs : List Expr) (a : At) → tree_of_node (ev.Apply q xs) a ≡ apply a (called_of q) (trees (map tree_of xs))
 unfolding tree_of tree_of_node arm_of terms_of
 tree_of_node-Apply q xs a = ap (λ n. tree_of_node n a) (sym (ev.rolls-Apply q xs)) ∙ ap (λ f. f a) (fold-roll-ExprNode (At → Tree) Arm Tree Terms node_step arm_step whole_step terms_step (ex.Apply q xs))
 
-pub tree_of-Apply : (e : Expr) (q : QName) (xs : List Expr) → e.node ≡ ev.Apply q xs → tree_of e ≡ apply e.at (called_of q) (trees (map tree_of xs))
-tree_of-Apply e q xs is = tree_of-node e ∙ ap (λ n. tree_of_node n e.at) is ∙ tree_of_node-Apply q xs e.at
-
 pub tree_of_node-Int : (n : ℤ) (a : At) → tree_of_node (ev.Int n) a ≡ literal a (value_of n)
 unfolding tree_of tree_of_node arm_of terms_of
 tree_of_node-Int n a = ap (λ n. tree_of_node n a) (sym (ev.rolls-Int n)) ∙ ap (λ f. f a) (fold-roll-ExprNode (At → Tree) Arm Tree Terms node_step arm_step whole_step terms_step (ex.Int n))
-
-pub tree_of-Int : (e : Expr) (n : ℤ) → e.node ≡ ev.Int n → tree_of e ≡ literal e.at (value_of n)
-tree_of-Int e n is = tree_of-node e ∙ ap (λ n. tree_of_node n e.at) is ∙ tree_of_node-Int n e.at
 
 pub tree_of_node-True : (a : At) → tree_of_node ev.True a ≡ truth a
 unfolding tree_of tree_of_node arm_of terms_of
 tree_of_node-True a = ap (λ n. tree_of_node n a) (sym ev.rolls-True) ∙ ap (λ f. f a) (fold-roll-ExprNode (At → Tree) Arm Tree Terms node_step arm_step whole_step terms_step ex.True)
 
-pub tree_of-True : (e : Expr) → e.node ≡ ev.True → tree_of e ≡ truth e.at
-tree_of-True e is = tree_of-node e ∙ ap (λ n. tree_of_node n e.at) is ∙ tree_of_node-True e.at
-
 pub tree_of_node-False : (a : At) → tree_of_node ev.False a ≡ falsity a
 unfolding tree_of tree_of_node arm_of terms_of
 tree_of_node-False a = ap (λ n. tree_of_node n a) (sym ev.rolls-False) ∙ ap (λ f. f a) (fold-roll-ExprNode (At → Tree) Arm Tree Terms node_step arm_step whole_step terms_step ex.False)
-
-pub tree_of-False : (e : Expr) → e.node ≡ ev.False → tree_of e ≡ falsity e.at
-tree_of-False e is = tree_of-node e ∙ ap (λ n. tree_of_node n e.at) is ∙ tree_of_node-False e.at
 
 pub tree_of_node-Group : (xs : List Expr) (a : At) → tree_of_node (ev.Group xs) a ≡ group a (trees (map tree_of xs))
 unfolding tree_of tree_of_node arm_of terms_of
 tree_of_node-Group xs a = ap (λ n. tree_of_node n a) (sym (ev.rolls-Group xs)) ∙ ap (λ f. f a) (fold-roll-ExprNode (At → Tree) Arm Tree Terms node_step arm_step whole_step terms_step (ex.Group xs))
 
-pub tree_of-Group : (e : Expr) (xs : List Expr) → e.node ≡ ev.Group xs → tree_of e ≡ group e.at (trees (map tree_of xs))
-tree_of-Group e xs is = tree_of-node e ∙ ap (λ n. tree_of_node n e.at) is ∙ tree_of_node-Group xs e.at
-
 pub tree_of_node-Cast : (f : Expr) (t : TypeTree) (a : At) → tree_of_node (ev.Cast f t) a ≡ cast a (tree_of f) (form_of t)
 unfolding tree_of tree_of_node arm_of terms_of
 tree_of_node-Cast f t a = ap (λ n. tree_of_node n a) (sym (ev.rolls-Cast f t)) ∙ ap (λ f. f a) (fold-roll-ExprNode (At → Tree) Arm Tree Terms node_step arm_step whole_step terms_step (ex.Cast f t))
-
-pub tree_of-Cast : (e : Expr) (f : Expr) (t : TypeTree) → e.node ≡ ev.Cast f t → tree_of e ≡ cast e.at (tree_of f) (form_of t)
-tree_of-Cast e f t is = tree_of-node e ∙ ap (λ n. tree_of_node n e.at) is ∙ tree_of_node-Cast f t e.at
 
 pub tree_of_node-Match : (es : List Expr) (bar : Bool) (bs : List BranchTree) (a : At) → tree_of_node (ev.Match es bar bs) a ≡ cases a (trees (map tree_of es)) bar (branches (map arm_of bs))
 unfolding tree_of tree_of_node arm_of terms_of
 tree_of_node-Match es bar bs a = ap (λ n. tree_of_node n a) (sym (ev.rolls-Match es bar bs)) ∙ ap (λ f. f a) (fold-roll-ExprNode (At → Tree) Arm Tree Terms node_step arm_step whole_step terms_step (ex.Match es bar bs))
 
-pub tree_of-Match : (e : Expr) (es : List Expr) (bar : Bool) (bs : List BranchTree) → e.node ≡ ev.Match es bar bs → tree_of e ≡ cases e.at (trees (map tree_of es)) bar (branches (map arm_of bs))
-tree_of-Match e es bar bs is = tree_of-node e ∙ ap (λ n. tree_of_node n e.at) is ∙ tree_of_node-Match es bar bs e.at
-
 pub tree_of_node-Prefix : (o : OpName) (f : Expr) (a : At) → tree_of_node (ev.Prefix o f) a ≡ prefixed a (op_of o) (tree_of f)
 unfolding tree_of tree_of_node arm_of terms_of
 tree_of_node-Prefix o f a = ap (λ n. tree_of_node n a) (sym (ev.rolls-Prefix o f)) ∙ ap (λ f. f a) (fold-roll-ExprNode (At → Tree) Arm Tree Terms node_step arm_step whole_step terms_step (ex.Prefix o f))
-
-pub tree_of-Prefix : (e : Expr) (o : OpName) (f : Expr) → e.node ≡ ev.Prefix o f → tree_of e ≡ prefixed e.at (op_of o) (tree_of f)
-tree_of-Prefix e o f is = tree_of-node e ∙ ap (λ n. tree_of_node n e.at) is ∙ tree_of_node-Prefix o f e.at
 
 pub tree_of_node-Not : (f : Expr) (a : At) → tree_of_node (ev.Not f) a ≡ negation a (tree_of f)
 unfolding tree_of tree_of_node arm_of terms_of
 tree_of_node-Not f a = ap (λ n. tree_of_node n a) (sym (ev.rolls-Not f)) ∙ ap (λ f. f a) (fold-roll-ExprNode (At → Tree) Arm Tree Terms node_step arm_step whole_step terms_step (ex.Not f))
 
-pub tree_of-Not : (e : Expr) (f : Expr) → e.node ≡ ev.Not f → tree_of e ≡ negation e.at (tree_of f)
-tree_of-Not e f is = tree_of-node e ∙ ap (λ n. tree_of_node n e.at) is ∙ tree_of_node-Not f e.at
-
 pub tree_of_node-Binary : (f : Expr) (o : OpName) (g : Expr) (a : At) → tree_of_node (ev.Binary f o g) a ≡ binary a (tree_of f) (op_of o) (tree_of g)
 unfolding tree_of tree_of_node arm_of terms_of
 tree_of_node-Binary f o g a = ap (λ n. tree_of_node n a) (sym (ev.rolls-Binary f o g)) ∙ ap (λ f. f a) (fold-roll-ExprNode (At → Tree) Arm Tree Terms node_step arm_step whole_step terms_step (ex.Binary f o g))
-
-pub tree_of-Binary : (e : Expr) (f : Expr) (o : OpName) (g : Expr) → e.node ≡ ev.Binary f o g → tree_of e ≡ binary e.at (tree_of f) (op_of o) (tree_of g)
-tree_of-Binary e f o g is = tree_of-node e ∙ ap (λ n. tree_of_node n e.at) is ∙ tree_of_node-Binary f o g e.at
 
 pub tree_of_node-If : (c : Expr) (f : Expr) (g : Expr) (a : At) → tree_of_node (ev.If c f g) a ≡ choice a (tree_of c) (tree_of f) (tree_of g)
 unfolding tree_of tree_of_node arm_of terms_of
 tree_of_node-If c f g a = ap (λ n. tree_of_node n a) (sym (ev.rolls-If c f g)) ∙ ap (λ f. f a) (fold-roll-ExprNode (At → Tree) Arm Tree Terms node_step arm_step whole_step terms_step (ex.If c f g))
 
-pub tree_of-If : (e : Expr) (c : Expr) (f : Expr) (g : Expr) → e.node ≡ ev.If c f g → tree_of e ≡ choice e.at (tree_of c) (tree_of f) (tree_of g)
-tree_of-If e c f g is = tree_of-node e ∙ ap (λ n. tree_of_node n e.at) is ∙ tree_of_node-If c f g e.at
-
 pub tree_of_node-Let : (ps : List Pat) (f : Expr) (g : Expr) (a : At) → tree_of_node (ev.Let ps f g) a ≡ binding a (patterns ps) (tree_of f) (tree_of g)
 unfolding tree_of tree_of_node arm_of terms_of
 tree_of_node-Let ps f g a = ap (λ n. tree_of_node n a) (sym (ev.rolls-Let ps f g)) ∙ ap (λ f. f a) (fold-roll-ExprNode (At → Tree) Arm Tree Terms node_step arm_step whole_step terms_step (ex.Let ps f g))
-
-pub tree_of-Let : (e : Expr) (ps : List Pat) (f : Expr) (g : Expr) → e.node ≡ ev.Let ps f g → tree_of e ≡ binding e.at (patterns ps) (tree_of f) (tree_of g)
-tree_of-Let e ps f g is = tree_of-node e ∙ ap (λ n. tree_of_node n e.at) is ∙ tree_of_node-Let ps f g e.at
 
 pub tree_of_node-Quant : (all : Bool) (bs : List BinderTree) (t : Option TriggerTree) (f : Expr) (a : At) → tree_of_node (ev.Quant all bs t f) a ≡ quantified a all (map binder_of bs) (trigger (option_map terms_of t)) (tree_of f)
 unfolding tree_of tree_of_node arm_of terms_of
 tree_of_node-Quant all bs None f a = ap (λ n. tree_of_node n a) (sym (ev.rolls-Quant all bs None f)) ∙ ap (λ g. g a) (fold-roll-ExprNode (At → Tree) Arm Tree Terms node_step arm_step whole_step terms_step (ex.Quant all bs None f))
 tree_of_node-Quant all bs (Some t) f a = ap (λ n. tree_of_node n a) (sym (ev.rolls-Quant all bs (Some t) f)) ∙ ap (λ g. g a) (fold-roll-ExprNode (At → Tree) Arm Tree Terms node_step arm_step whole_step terms_step (ex.Quant all bs (Some t) f))
-
-pub tree_of-Quant : (e : Expr) (all : Bool) (bs : List BinderTree) (t : Option TriggerTree) (f : Expr) → e.node ≡ ev.Quant all bs t f → tree_of e ≡ quantified e.at all (map binder_of bs) (trigger (option_map terms_of t)) (tree_of f)
-tree_of-Quant e all bs t f is = tree_of-node e ∙ ap (λ n. tree_of_node n e.at) is ∙ tree_of_node-Quant all bs t f e.at
 
 pub ruleset made = (form_of-node, form_of_node-Var, form_of_node-Named, form_of_node-Group, pattern_of-node, pattern_of_node-Wild, pattern_of_node-Var, pattern_of_node-Con, pattern_of_node-Group, pattern_of_node-Alias, tree_of-node, tree_of_node-Apply, tree_of_node-Int, tree_of_node-True, tree_of_node-False, tree_of_node-Group, tree_of_node-Cast, tree_of_node-Match, tree_of_node-Prefix, tree_of_node-Not, tree_of_node-Binary, tree_of_node-If, tree_of_node-Let, tree_of_node-Quant)
 

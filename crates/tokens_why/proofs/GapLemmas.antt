@@ -1,7 +1,7 @@
 -- Steps over what stands between tokens, at a place of a text.
 use Rattle.std.proofs.Common.{◌≡◌, ℕ, zero, suc, ◌+◌, ◌-◌, ◌<◌, ◌≤◌, Bool, true, false, ◌&&◌, nat_eq, List, [], ◌∷◌, length, drop, Option, Some, None, refl, sym, ap, ◌∙◌, arith, length-drop}
 use Rattle.std.proofs.lemmas.Bool.Decides.{nat_tests}
-use Rattle.std.proofs.lemmas.List.{get_or-drop, drop-drop, drop_all}
+use Rattle.std.proofs.lemmas.List.{get_or-drop, drop-drop}
 use Rattle.tokens_why.specs.Gap.{byte_in, has_pair, has_star_name, comment, one_more, at_from, piece, gap, next}
 
 -- behind the end there is no byte
@@ -130,10 +130,6 @@ closed [] zero e = refl
 closed (a ∷ bs) zero e = refl
 closed bs (suc d) e = absurd (omega arith)
 
-pub open-end : (text : List ℕ) (i d : ℕ) → length text ≤ i → 0 < d → comment (drop i text) d 0 ≡ None
-open-end text i zero le lt = absurd (omega arith)
-open-end text i (suc d) le lt = ap (λ v. comment v (suc d) 0) (drop_all i text le)
-
 gap-pass : (bs : List ℕ) (p : ℕ) → p ≤ length bs → gap bs p ≡ p + gap (drop p bs) 0
 gap-pass bs zero le = omega arith
 gap-pass [] (suc p) le = absurd (omega arith)
@@ -149,10 +145,3 @@ next-step text at (suc n) e lt le =
     let g = gap-step (drop at text) n e (omega (arith, length-drop at text)) in
     let h : gap (drop (suc n) (drop at text)) 0 ≡ gap (drop (at + suc n) text) 0 = ap (λ v. gap v 0) (drop-drop (suc n) at text) in
     omega (arith, g, h)
-
-gap-stop : (bs : List ℕ) → piece bs ≡ 0 → gap bs 0 ≡ 0
-gap-stop [] e = refl
-gap-stop (a ∷ bs) e = rw (gap, e) refl
-
-pub next-stop : (text : List ℕ) (at : ℕ) → piece (drop at text) ≡ 0 → next text at ≡ at
-next-stop text at e = let g = gap-stop (drop at text) e in omega (arith, g)

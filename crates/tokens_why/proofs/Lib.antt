@@ -6,6 +6,5 @@ pub mod LongestLemmas
 pub mod TokenLemmas
 pub mod TurnLemmas
 pub mod ClauseLemmas
-pub mod TokensLemmas
 pub mod Rows
 pub mod WholeTexts

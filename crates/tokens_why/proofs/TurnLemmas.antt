@@ -1,49 +1,10 @@
 -- How the reading of a text goes on: what has been found is the beginning of every reading.
-use Rattle.std.proofs.Common.{◌≡◌, ℕ, ◌-◌, ◌<◌, ◌≤◌, Bool, true, false, ◌||◌, List, [], ◌∷◌, ◌++◌, length, take, drop, slice_range, Some, None, refl, sym, ap, ◌∙◌, subst, arith, append_assoc, append-nil, length-drop}
-use Rattle.tokens_why.specs.Gap.{next, opens_comment, opens_attribute}
+use Rattle.std.proofs.Common.{◌≡◌, ℕ, ◌-◌, ◌<◌, List, [], ◌∷◌, ◌++◌, slice_range, Some, None, refl, sym, ap, ◌∙◌, subst, arith, append_assoc, append-nil}
+use Rattle.tokens_why.specs.Gap.{next}
 use Rattle.tokens_why.specs.Strings.{kind_of}
-use Rattle.tokens_why.specs.Longest.{IsLongest, IsLongestAt, HasNone}
-use Rattle.tokens_why.specs.Tokens.{IsToken, Begins, NoneBegins, Fits, Exceeds, Stop, whole, lexical, big, Stops, Reads, text_of}
+use Rattle.tokens_why.specs.Tokens.{IsToken, Begins, Fits, Exceeds, Stop, whole, lexical, big, Stops, Reads}
 use Rattle.tokens_why.specs.declared.token.Token.{Token}
 use Rattle.tokens_why.specs.declared.token.TokenKind.{TokenKind}
-
--- the longest string at a place is a token, where no comment and no attribute opens
-pub begins-from : (text : List ℕ) (start : ℕ) (t : Token) → start < length text → opens_comment (drop start text) ≡ false → opens_attribute (drop start text) ≡ false → IsLongestAt text start t → Begins text start t
-begins-from text start t lt comment attribute h =
-    let e = h.start_is in
-    let l : IsLongest (drop t.start text) (t.end - t.start) t.kind = subst (λ v. IsLongest (drop v text) (t.end - v) t.kind) (sym e) h.longest in
-    let ordered = h.ordered in
-    let some = l.some in
-    let within = l.within in
-    let size = length-drop t.start text in (
-      e,
-      record {
-        begins = subst (λ v. (opens_comment (drop v text) || opens_attribute (drop v text)) ≡ false) (sym e) (rw (comment, attribute) refl);
-        some = omega arith;
-        within = omega arith;
-        kind = l.kind;
-        longest = λ m lt le. l.longest (m - t.start) (omega arith) (omega arith);
-      },
-    )
-
-pub none-from : (text : List ℕ) (start : ℕ) → HasNone (drop start text) → NoneBegins text start
-none-from text start h t b =
-    let is = b.1 in
-    let some = is.some in
-    let within = is.within in
-    let e : t.start ≡ start = b.0 in
-    let size = length-drop t.start text in
-    let n : kind_of (text_of text t) ≡ None = subst (λ v. (m : ℕ) → m ≤ length (drop v text) → kind_of (take m (drop v text)) ≡ None) (sym e) h (t.end - t.start) (omega arith) in
-    let k = is.kind in
-    cc
-
-opened-left : (a b : Bool) → a ≡ true → (a || b) ≡ false → ⊥
-opened-left a b e f = cc
-
-pub none-opened : (text : List ℕ) (start : ℕ) → ((opens_comment (drop start text) || opens_attribute (drop start text)) ≡ true) → NoneBegins text start
-none-opened text start o t b =
-    let f : (opens_comment (drop start text) || opens_attribute (drop start text)) ≡ false = subst (λ v. (opens_comment (drop v text) || opens_attribute (drop v text)) ≡ false) b.0 b.1.begins in
-    cc
 
 -- one token begins at a byte
 same-end : (text : List ℕ) (t u : Token) → t.start ≡ u.start → IsToken text t → IsToken text u → t.end < u.end → ⊥

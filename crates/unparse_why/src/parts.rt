@@ -168,7 +168,7 @@ fn push_pattern(p: &Pat, out: &mut Vec<Terminal>) -> Result<(), AllocError>
         }
         PatNode::Group(parts) => {
             out.push(Terminal::LParen)?;
-            push_listed_parts(parts.as_slice(), out)?;
+            push_patterns(parts.as_slice(), out)?;
             out.push(Terminal::RParen)?;
             Ok(())
         }
@@ -192,24 +192,11 @@ fn push_parts(of: &[Pat], out: &mut Vec<Terminal>) -> Result<(), AllocError>
     Ok(())
 }
 
-#[cycle(pattern_writing)]
-fn push_listed_parts(of: &[Pat], out: &mut Vec<Terminal>) -> Result<(), AllocError>
-    ensures { OnOk result (out.new.items ≡ out.old.items ++ terminals
-        (form_list (forms (map pattern_of of.now)))) }
-{
-    if let [first, rest @ ..] = of {
-        push_pattern(first, out)?;
-        for p in rest {
-            out.push(Terminal::Comma)?;
-            push_pattern(p, out)?;
-        }
-    }
-    Ok(())
-}
-
 /// Puts the tokens of patterns with commas between behind others.
+#[cycle(pattern_writing)]
 pub fn push_patterns(of: &[Pat], out: &mut Vec<Terminal>) -> Result<(), AllocError>
-    ensures { OnOk result (out.new.items ≡ out.old.items ++ terminals (form_list (patterns of.now))) }
+    ensures { OnOk result (out.new.items ≡ out.old.items ++ terminals
+        (form_list (patterns of.now))) }
 {
     if let [first, rest @ ..] = of {
         push_pattern(first, out)?;

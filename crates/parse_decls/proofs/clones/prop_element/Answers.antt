@@ -1,4 +1,4 @@
-use Rattle.std.proofs.Common.{sym, ap, ◌∙◌, subst}
+use Rattle.std.proofs.Common.{sym, ap, ◌∙◌, subst, refl}
 use Rattle.grammar.specs.declared.symbols.Symbol.TheVariants as s
 use Rattle.syntax_why.specs.Surface.{called_of}
 use Rattle.syntax_why.specs.Forms.{called}
@@ -7,11 +7,12 @@ use Rattle.parse_terms.specs.Names.{scoped_of}
 use Rattle.parse_decls.specs.Clones.{prop_kind}
 use Rattle.parse_terms.specs.Reading.{IsRead, terminal_at}
 use Rattle.parse_terms.specs.Sources.{lexemes}
+use Rattle.parse_terms.proofs.Steps.{can_next, done, next}
 use Rattle.parse_decls.proofs.ClonesRead as R
 use Rattle.parse_decls.proofs.clones.prop_element.Goals as goal
 
 pub head_name-requires : goal.head_name-requires
-head_name-requires c = R.prop_can c.requires.can c.requires.no_type c.requires.no_symbol (sym c.at-is_all.ensures ∙ c.if-is_all.false)
+head_name-requires c = can_next (R.prop_start c.requires.can c.requires.no_type c.requires.no_symbol (sym c.at-is_all.ensures ∙ c.if-is_all.false))
 
 pub returns-then-is_all : goal.returns-then-is_all
 returns-then-is_all c = R.all_read c.requires.can c.requires.no_type c.requires.no_symbol (sym c.at-is_all.ensures ∙ c.if-is_all.true)
@@ -19,4 +20,4 @@ returns-then-is_all c = R.all_read c.requires.can c.requires.no_type c.requires.
 pub returns : goal.returns
 returns c = subst (λ w. IsRead (lexemes c.args.source) s.Elem c.args.i (prop_element c.args.i w (called_of c.in_ok-name.name)) c.in_ok-name.end) (sym (c.prop_kind-kind.ensures ∙ ap prop_kind c.terminal.ensures))
     (subst (λ p. IsRead (lexemes c.args.source) s.Elem c.args.i (prop_element c.args.i (prop_kind (terminal_at (lexemes c.args.source) c.args.i)) (called p c.in_ok-name.name.scopes (scoped_of c.in_ok-name.name).own)) c.in_ok-name.end) (sym c.in_ok-name.ensures.place)
-    (R.prop_read c.requires.can c.requires.no_type c.requires.no_symbol (sym c.at-is_all.ensures ∙ c.if-is_all.false) (scoped_of c.in_ok-name.name) c.in_ok-name.end c.in_ok-name.ensures.read))
+    (done (next (R.prop_start c.requires.can c.requires.no_type c.requires.no_symbol (sym c.at-is_all.ensures ∙ c.if-is_all.false)) c.in_ok-name.ensures.read) _ refl (λ k us. refl)))

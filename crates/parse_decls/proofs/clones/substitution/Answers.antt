@@ -1,28 +1,30 @@
-use Rattle.std.proofs.Common.{[], ◌∷◌, ◌++◌, map, sym, ap, ◌∙◌, subst}
+use Rattle.std.proofs.Common.{[], ◌∷◌, ◌++◌, map, sym, ap, ◌∙◌, subst, ◌+◌, refl, append_assoc, append-nil}
+use Rattle.tokens_why.specs.declared.terminal.Terminal.TheVariants as t
 use Rattle.std.proofs.lemmas.List.{map-append}
 use Rattle.grammar.specs.declared.symbols.Symbol.TheVariants as s
 use Rattle.syntax_why.specs.SurfaceDeclarations.{element_of}
-use Rattle.parse_terms.specs.Reading.{IsRead}
+use Rattle.parse_terms.specs.Reading.{IsRead, terminal_at}
 use Rattle.parse_terms.specs.Sources.{lexemes}
+use Rattle.parse_terms.proofs.Steps.{done, none_of, pass, start, can_next, again, next, expand}
 use Rattle.parse_decls.proofs.ClonesRead as R
 use Rattle.parse_decls.proofs.clones.substitution.Goals as goal
 
 pub element-requires : goal.element-requires
-element-requires c = R.first_element c.requires (sym c.at-is_given.ensures ∙ c.if-is_given.true)
+element-requires c = can_next (R.elements_with c.requires (sym c.at-is_given.ensures ∙ c.if-is_given.true))
 
 pub more-init : goal.more-init
 more-init c = subst (λ ts. R.Elements (lexemes c.args.source) c.args.i (map element_of ts) c.in_ok-first.j) (sym (c.in_ok-push.ensures.items ∙ ap (λ v. v ++ c.in_ok-first.first ∷ []) c.new-elements.ensures.items))
-    (R.elements_start c.requires (element_of c.in_ok-first.first) c.in_ok-first.j (sym c.at-is_given.ensures ∙ c.if-is_given.true) c.in_ok-first.ensures)
+    (again (next (R.elements_with c.requires (sym c.at-is_given.ensures ∙ c.if-is_given.true)) c.in_ok-first.ensures) 1 refl (λ k us. refl))
 
 pub element-requires-in-more : goal.element-requires-in-more
-element-requires-in-more c = R.next_element (lexemes c.args.source) c.args.i (map element_of c.more.elements.items) c.more.j c.more.invariant (sym c.at.ensures ∙ c.more-test.true)
+element-requires-in-more c = can_next (expand c.more.invariant t.Comma (sym c.at.ensures ∙ c.more-test.true) refl refl)
 
 pub more-preserved : goal.more-preserved
 more-preserved c = subst (λ ts. R.Elements (lexemes c.args.source) c.args.i ts c.in_ok-next.end) (sym (ap (map element_of) c.in_ok-push-2.ensures.items ∙ map-append element_of c.more.elements.items (c.in_ok-next.next ∷ [])))
-    (R.elements_more (lexemes c.args.source) c.args.i (map element_of c.more.elements.items) c.more.j c.more.invariant (element_of c.in_ok-next.next) c.in_ok-next.end (sym c.at.ensures ∙ c.more-test.true) c.in_ok-next.ensures)
+    (again (next (expand c.more.invariant t.Comma (sym c.at.ensures ∙ c.more-test.true) refl refl) c.in_ok-next.ensures) 1 refl (λ k us. ap (λ w. (w, us.1)) (sym (append_assoc (map element_of c.more.elements.items) ((element_of c.in_ok-next.next) ∷ []) us.0))))
 
 pub returns-then-is_given : goal.returns-then-is_given
-returns-then-is_given c = subst (λ ts. IsRead (lexemes c.args.source) s.Subst c.args.i (map element_of ts) c.more.j) (sym c.from_vec.ensures) (R.elements_done (lexemes c.args.source) c.args.i (map element_of c.more.elements.items) c.more.j c.more.invariant (sym c.at.ensures ∙ c.more-test.false))
+returns-then-is_given c = subst (λ ts. IsRead (lexemes c.args.source) s.Subst c.args.i (map element_of ts) c.more.j) (sym c.from_vec.ensures) (done (pass c.more.invariant refl refl (none_of s.Elems (t.Comma ∷ []) (terminal_at (lexemes c.args.source) c.more.j) refl ((sym c.at.ensures ∙ c.more-test.false), tt))) _ refl (λ k us. ap (λ w. (w, us)) (append-nil (map element_of c.more.elements.items))))
 
 pub returns : goal.returns
-returns c = subst (λ ts. IsRead (lexemes c.args.source) s.Subst c.args.i (map element_of ts) c.args.i) (sym (c.from_vec-2.ensures ∙ c.new-elements.ensures.items)) (R.no_elements c.requires (sym c.at-is_given.ensures ∙ c.if-is_given.false))
+returns c = subst (λ ts. IsRead (lexemes c.args.source) s.Subst c.args.i (map element_of ts) c.args.i) (sym (c.from_vec-2.ensures ∙ c.new-elements.ensures.items)) (done (pass (start c.requires) refl refl (none_of s.Subst (t.WithWord ∷ []) (terminal_at (lexemes c.args.source) c.args.i) refl ((sym c.at-is_given.ensures ∙ c.if-is_given.false), tt))) _ refl (λ k us. refl))

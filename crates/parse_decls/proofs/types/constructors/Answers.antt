@@ -1,9 +1,11 @@
-use Rattle.std.proofs.Common.{[], ◌∷◌, ◌++◌, map, sym, ap, ◌∙◌, subst}
+use Rattle.std.proofs.Common.{[], ◌∷◌, ◌++◌, map, sym, ap, ◌∙◌, subst, ◌+◌, refl}
+use Rattle.tokens_why.specs.declared.terminal.Terminal.TheVariants as t
 use Rattle.std.proofs.lemmas.List.{map-append}
 use Rattle.syntax_why.specs.Lexeme.{name}
 use Rattle.syntax_why.specs.SurfaceDeclarations.{constructor_of}
 use Rattle.parse_terms.specs.Sources.{lexemes}
 use Rattle.parse_decls.specs.Types.{IsConstructors}
+use Rattle.parse_terms.proofs.Steps.{only, can_next, take}
 use Rattle.parse_decls.proofs.TypesRead as R
 use Rattle.parse_decls.proofs.types.constructors.Goals as goal
 
@@ -13,8 +15,8 @@ more-init c = subst (λ ts. R.Constructors (lexemes c.args.source) c.args.i (map
 
 pub constructor-requires-in-more : goal.constructor-requires-in-more
 constructor-requires-in-more c = let e = sym c.at.ensures ∙ c.more-test.true in record {
-  name = R.next_name (lexemes c.args.source) c.args.i (map constructor_of c.more.cons.items) c.more.j c.more.invariant e;
-  can = R.next_fields (lexemes c.args.source) c.args.i (map constructor_of c.more.cons.items) c.more.j c.more.invariant e;
+  name = (only (R.bar_read (lexemes c.args.source) c.args.i (map constructor_of c.more.cons.items) c.more.j c.more.invariant e) t.Uident [] refl refl tt);
+  can = (can_next (take (R.bar_read (lexemes c.args.source) c.args.i (map constructor_of c.more.cons.items) c.more.j c.more.invariant e)));
 }
 
 pub more-preserved : goal.more-preserved

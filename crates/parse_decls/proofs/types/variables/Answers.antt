@@ -1,6 +1,7 @@
 use Rattle.std.proofs.Common.{◌+◌, sym, ◌∙◌, subst, refl}
 use Rattle.tokens_why.specs.declared.terminal.Terminal.TheVariants as t
 use Rattle.parse_terms.specs.Sources.{lexemes}
+use Rattle.parse_terms.proofs.TextsRead.{variable_text}
 use Rattle.parse_terms.proofs.Steps.{stands}
 use Rattle.parse_terms.proofs.TextsRead as T
 use Rattle.parse_decls.specs.Types.{IsNamed, Named}
@@ -16,7 +17,7 @@ name_at-requires c = T.inside c.args.source c.names.j (stands (lexemes c.args.so
 
 pub names-preserved : goal.names-preserved
 names-preserved c = let e = sym c.at.ensures ∙ c.names-test.true in subst (λ ws. Named (lexemes c.args.source) c.args.i ws (c.names.j + 1)) (sym c.in_ok-push.ensures.items)
-    (R.named_more (lexemes c.args.source) c.args.i c.names.names.items c.names.j c.in_ok-next.next e (N.variable_there (lexemes c.args.source) c.names.j c.in_ok-next.next c.in_ok-next.ensures.place c.in_ok-next.ensures.text e) c.names.invariant)
+    (R.named_more (lexemes c.args.source) c.args.i c.names.names.items c.names.j c.in_ok-next.next e (N.made (lexemes c.args.source) c.names.j c.in_ok-next.next c.in_ok-next.ensures.place (variable_text c.in_ok-next.ensures.text e)) c.names.invariant)
 
 pub returns : goal.returns
 returns c = subst (λ ns. IsNamed (lexemes c.args.source) c.args.i ns c.names.j) (sym c.from_vec.ensures) (record { names = c.names.invariant; ends = sym c.at.ensures ∙ c.names-test.false })

@@ -11,8 +11,23 @@ use Rattle.parse_terms.proofs.expressions.+descent.Given as goal
 abbrev pub decreases-expression : goal.decreases-expression
 decreases-expression l = 8 * (length l.source.tokens.now - l.i) + 5
 
+abbrev pub decreases-any_expression : goal.decreases-any_expression
+decreases-any_expression l = 8 * (length l.source.tokens.now - l.i) + 6
+
 abbrev pub decreases-operand : goal.decreases-operand
 decreases-operand l = 8 * (length l.source.tokens.now - l.i) + 4
+
+abbrev pub decreases-operation : goal.decreases-operation
+decreases-operation l = 8 * (length l.source.tokens.now - l.left.end) + 7
+
+abbrev pub decreases-negation : goal.decreases-negation
+decreases-negation l = 8 * (length l.source.tokens.now - l.i) + 3
+
+abbrev pub decreases-prefix : goal.decreases-prefix
+decreases-prefix l = 8 * (length l.source.tokens.now - l.i) + 3
+
+abbrev pub decreases-choice : goal.decreases-choice
+decreases-choice l = 8 * (length l.source.tokens.now - l.i) + 3
 
 abbrev pub decreases-let_in : goal.decreases-let_in
 decreases-let_in l = 8 * (length l.source.tokens.now - l.i) + 3
@@ -42,10 +57,10 @@ abbrev pub decreases-branch : goal.decreases-branch
 decreases-branch l = 8 * (length l.source.tokens.now - l.i) + 6
 
 abbrev pub invariant-expression-operators : goal.invariant-expression-operators
-invariant-expression-operators l = Climb (lexemes l.source) l.fn.m l.fn.i (tree_of l.left) l.tight l.end × (l.is_open ≡ ends_open (tree_of l.left))
+invariant-expression-operators l = Climb (lexemes l.source) l.fn.m l.fn.i (tree_of l.left.tree) l.left.tight l.left.end × (l.left.is_open ≡ ends_open (tree_of l.left.tree))
 
 abbrev pub decreases-expression-operators : goal.decreases-expression-operators
-decreases-expression-operators l = length l.source.tokens.now - l.end
+decreases-expression-operators l = length l.source.tokens.now - l.left.end
 
 abbrev pub invariant-let_in-more : goal.invariant-let_in-more
 invariant-let_in-more l = Bound (lexemes l.source) l.fn.m l.fn.i (map pattern_of l.bound.items) l.j

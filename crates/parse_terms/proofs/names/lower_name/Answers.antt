@@ -3,13 +3,13 @@ use Rattle.grammar.specs.declared.symbols.Symbol.TheVariants as s
 use Rattle.syntax_why.specs.Forms.{called}
 use Rattle.parse_terms.specs.Reading.{IsRead}
 use Rattle.parse_terms.specs.Sources.{lexemes}
-use Rattle.parse_terms.proofs.Steps.{next_within}
+use Rattle.parse_terms.proofs.Steps.{next_within, again, start}
 use Rattle.parse_terms.proofs.NamesRead as N
 use Rattle.parse_terms.proofs.TextsRead as T
 use Rattle.parse_terms.proofs.names.lower_name.Goals as goal
 
 pub scopes-init : goal.scopes-init
-scopes-init c = subst (λ ws. N.TypeScopes (lexemes c.args.source) c.args.i ws c.args.i) (sym c.new-scopes.ensures.items) (N.type_scopes_start c.requires)
+scopes-init c = subst (λ ws. N.TypeScopes (lexemes c.args.source) c.args.i ws c.args.i) (sym c.new-scopes.ensures.items) (again (start c.requires) 0 refl (λ k us. refl))
 
 pub text-requires : goal.text-requires
 text-requires c = T.inside c.args.source c.scopes.j (next_within c.scopes.invariant refl)

@@ -1,9 +1,11 @@
-use Rattle.std.proofs.Common.{[], ◌∷◌, ◌++◌, map, sym, ap, ◌∙◌, subst}
+use Rattle.std.proofs.Common.{[], ◌∷◌, ◌++◌, map, sym, ap, ◌∙◌, subst, ◌+◌, refl}
+use Rattle.tokens_why.specs.declared.terminal.Terminal.TheVariants as t
 use Rattle.std.proofs.lemmas.List.{map-append}
 use Rattle.grammar.specs.declared.symbols.Symbol.TheVariants as s
 use Rattle.syntax_why.specs.Surface.{forms, pattern_of, patterns}
 use Rattle.parse_terms.specs.Sources.{lexemes}
 use Rattle.parse_terms.specs.Terms.{IsAlternative}
+use Rattle.parse_terms.proofs.Steps.{again, next, start, can_next, expand}
 use Rattle.parse_terms.proofs.MatchRead as M
 use Rattle.parse_terms.proofs.parts.alternative.Goals as goal
 
@@ -15,11 +17,11 @@ more-init c = record {
   first = pattern_of c.in_ok-first.first;
   others = [];
   spelled = sym (ap (map pattern_of) (c.in_ok-push.ensures.items ∙ ap (λ v. v ++ c.in_ok-first.first ∷ []) c.new-parts.ensures.items));
-  is = M.patterned_start c.requires (pattern_of c.in_ok-first.first) c.in_ok-first.j c.in_ok-first.ensures;
+  is = (again (next (start c.requires) c.in_ok-first.ensures) 1 refl (λ k us. refl));
 }
 
 pub pattern-requires-in-more : goal.pattern-requires-in-more
-pattern-requires-in-more c = let g = c.more.invariant in M.pattern_can (lexemes c.args.source) c.args.i g.first g.others c.more.j g.is (sym c.at.ensures ∙ c.more-test.true)
+pattern-requires-in-more c = let g = c.more.invariant in (can_next (expand g.is t.Comma (sym c.at.ensures ∙ c.more-test.true) refl refl))
 
 pub more-preserved : goal.more-preserved
 more-preserved c = let g = c.more.invariant in record {

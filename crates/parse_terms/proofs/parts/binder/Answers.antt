@@ -1,14 +1,15 @@
-use Rattle.std.proofs.Common.{sym, ◌∙◌, subst}
+use Rattle.std.proofs.Common.{sym, ◌∙◌, subst, refl, Some, None}
+use Rattle.tokens_why.specs.declared.terminal.Terminal.TheVariants as t
 use Rattle.syntax_why.specs.Surface.{form_of}
 use Rattle.parse_terms.specs.Sources.{lexemes}
-use Rattle.std.proofs.Common.{Some, None}
 use Rattle.syntax_why.specs.Trees.{binds}
 use Rattle.parse_terms.specs.Terms.{IsBinder}
+use Rattle.parse_terms.proofs.Steps.{can_next, expand}
 use Rattle.parse_terms.proofs.OpenRead as O
 use Rattle.parse_terms.proofs.parts.binder.Goals as goal
 
 pub type_tree-requires : goal.type_tree-requires
-type_tree-requires c = let g = c.in_ok-names.ensures in O.type_can (lexemes c.args.source) c.args.i g.first g.others c.in_ok-names.j g.is (sym c.at-typed.ensures ∙ c.if-typed.true)
+type_tree-requires c = let g = c.in_ok-names.ensures in (can_next (expand g.is t.Colon (sym c.at-typed.ensures ∙ c.if-typed.true) refl refl))
 
 pub returns-then-typed : goal.returns-then-typed
 returns-then-typed c = let g = c.in_ok-names.ensures in subst (λ ns. IsBinder (lexemes c.args.source) c.args.i (binds ns (Some (form_of c.in_ok-ty.ty))) c.in_ok-ty.end) g.spelled

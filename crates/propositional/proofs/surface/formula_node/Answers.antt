@@ -1,6 +1,6 @@
 use Rattle.std.proofs.Common.{◌≡◌, length, sym, ap, ◌∙◌, subst, arith}
 use Rattle.syntax_why.specs.declared.expressions.Expr.{Expr}
-use Rattle.syntax_why.proofs.TreeLemmas.{tree_of-Int, tree_of-True, tree_of-False, tree_of-Cast, tree_of-Match, tree_of-Prefix, tree_of-Not, tree_of-If, tree_of-Let, tree_of-Quant}
+use Rattle.syntax_why.proofs.TreeLemmas.{tree_is, tree_of_node-Int, tree_of_node-True, tree_of_node-False, tree_of_node-Cast, tree_of_node-Match, tree_of_node-Prefix, tree_of_node-Not, tree_of_node-If, tree_of_node-Let, tree_of_node-Quant}
 use Rattle.propositional.specs.Fragment.{formula_of}
 use Rattle.propositional.specs.Readers.{only_if, IsJoin}
 use Rattle.propositional.proofs.SurfaceLemmas.{only_item, name_node, inside_node, join_node, not_lower, not_alone, not_one, not_joined}
@@ -8,34 +8,34 @@ use Rattle.propositional.proofs.surface.formula_node.Goals as goal
 use Rattle.propositional.proofs.surface.formula_node.Goals.{else-is_lower_name-via-then-is_lower_name+else-is_empty, else-is_lower_name-via-else-is_lower_name}
 
 pub returns-in-Int : goal.returns-in-Int
-returns-in-Int c = ap formula_of (tree_of-Int c.args.e.now _ c.in-Int.is)
+returns-in-Int c = ap formula_of (tree_is c.args.e.now _ c.in-Int.is ∙ tree_of_node-Int _ _)
 
 pub returns-in-True : goal.returns-in-True
-returns-in-True c = ap formula_of (tree_of-True c.args.e.now c.in-True.is)
+returns-in-True c = ap formula_of (tree_is c.args.e.now _ c.in-True.is ∙ tree_of_node-True _)
 
 pub returns-in-False : goal.returns-in-False
-returns-in-False c = ap formula_of (tree_of-False c.args.e.now c.in-False.is)
+returns-in-False c = ap formula_of (tree_is c.args.e.now _ c.in-False.is ∙ tree_of_node-False _)
 
 pub returns-in-Cast : goal.returns-in-Cast
-returns-in-Cast c = ap formula_of (tree_of-Cast c.args.e.now _ _ c.in-Cast.is)
+returns-in-Cast c = ap formula_of (tree_is c.args.e.now _ c.in-Cast.is ∙ tree_of_node-Cast _ _ _)
 
 pub returns-in-Match : goal.returns-in-Match
-returns-in-Match c = ap formula_of (tree_of-Match c.args.e.now _ _ _ c.in-Match.is)
+returns-in-Match c = ap formula_of (tree_is c.args.e.now _ c.in-Match.is ∙ tree_of_node-Match _ _ _ _)
 
 pub returns-in-Prefix : goal.returns-in-Prefix
-returns-in-Prefix c = ap formula_of (tree_of-Prefix c.args.e.now _ _ c.in-Prefix.is)
+returns-in-Prefix c = ap formula_of (tree_is c.args.e.now _ c.in-Prefix.is ∙ tree_of_node-Prefix _ _ _)
 
 pub returns-in-Not : goal.returns-in-Not
-returns-in-Not c = ap formula_of (tree_of-Not c.args.e.now _ c.in-Not.is)
+returns-in-Not c = ap formula_of (tree_is c.args.e.now _ c.in-Not.is ∙ tree_of_node-Not _ _)
 
 pub returns-in-If : goal.returns-in-If
-returns-in-If c = ap formula_of (tree_of-If c.args.e.now _ _ _ c.in-If.is)
+returns-in-If c = ap formula_of (tree_is c.args.e.now _ c.in-If.is ∙ tree_of_node-If _ _ _ _)
 
 pub returns-in-Let : goal.returns-in-Let
-returns-in-Let c = ap formula_of (tree_of-Let c.args.e.now _ _ _ c.in-Let.is)
+returns-in-Let c = ap formula_of (tree_is c.args.e.now _ c.in-Let.is ∙ tree_of_node-Let _ _ _ _)
 
 pub returns-in-Quant : goal.returns-in-Quant
-returns-in-Quant c = ap formula_of (tree_of-Quant c.args.e.now _ _ _ _ c.in-Quant.is)
+returns-in-Quant c = ap formula_of (tree_is c.args.e.now _ c.in-Quant.is ∙ tree_of_node-Quant _ _ _ _ _)
 
 pub returns-then-is_empty : goal.returns-then-is_empty
 returns-then-is_empty c = name_node c.args.e.now c.in-Apply.name c.in-Apply.arguments c.in-Apply.is (c.is_empty.ensures.0 c.if-is_empty.true)

@@ -6,7 +6,7 @@ use Rattle.syntax_why.specs.declared.declarations.ParamTree.{ParamTree}
 use Rattle.syntax_why.specs.declared.declarations.MemberTree.{MemberTree}
 use Rattle.syntax_why.specs.Surface.{own_of, tree_of}
 use Rattle.syntax_why.specs.SurfaceDeclarations.{declared_name, plain_name, param_of, member_of}
-use Rattle.syntax_why.proofs.DeclLemmas.{decl_of-TypeDecl, decl_of-Algebraic, decl_of-Function, decl_of-Constant, decl_of-Inductive, decl_of-UseTheory, decl_of-CloneTheory, decl_of-ScopeDecl}
+use Rattle.syntax_why.proofs.DeclLemmas.{decl_is, decl_of_node-TypeDecl, decl_of_node-Algebraic, decl_of_node-Function, decl_of_node-Constant, decl_of_node-Inductive, decl_of_node-UseTheory, decl_of_node-CloneTheory, decl_of_node-ScopeDecl}
 use Rattle.propositional.specs.Fragment.{Item, declares, lower_of, id_of, id_own, declares_if, item_of}
 use Rattle.propositional.specs.Readers.{only_if}
 use Rattle.propositional.proofs.SurfaceLemmas.{predicate_node, not_predicate, claim_node, not_named, not_formula}
@@ -14,28 +14,28 @@ use Rattle.propositional.proofs.surface.item_node.Goals as goal
 use Rattle.propositional.proofs.surface.item_node.Goals.{else-is_id-via-then-is_id+else-is_formula, else-is_id-via-else-is_id}
 
 pub returns-in-TypeDecl : goal.returns-in-TypeDecl
-returns-in-TypeDecl c = ap item_of (decl_of-TypeDecl c.args.decl.now _ _ _ c.in-TypeDecl.is)
+returns-in-TypeDecl c = ap item_of (decl_is c.args.decl.now _ c.in-TypeDecl.is ∙ decl_of_node-TypeDecl _ _ _ _)
 
 pub returns-in-Algebraic : goal.returns-in-Algebraic
-returns-in-Algebraic c = ap item_of (decl_of-Algebraic c.args.decl.now _ c.in-Algebraic.is)
+returns-in-Algebraic c = ap item_of (decl_is c.args.decl.now _ c.in-Algebraic.is ∙ decl_of_node-Algebraic _ _)
 
 pub returns-in-Function : goal.returns-in-Function
-returns-in-Function c = ap item_of (decl_of-Function c.args.decl.now _ _ _ _ _ c.in-Function.is)
+returns-in-Function c = ap item_of (decl_is c.args.decl.now _ c.in-Function.is ∙ decl_of_node-Function _ _ _ _ _ _)
 
 pub returns-in-Constant : goal.returns-in-Constant
-returns-in-Constant c = ap item_of (decl_of-Constant c.args.decl.now _ _ _ c.in-Constant.is)
+returns-in-Constant c = ap item_of (decl_is c.args.decl.now _ c.in-Constant.is ∙ decl_of_node-Constant _ _ _ _)
 
 pub returns-in-Inductive : goal.returns-in-Inductive
-returns-in-Inductive c = ap item_of (decl_of-Inductive c.args.decl.now _ c.in-Inductive.is)
+returns-in-Inductive c = ap item_of (decl_is c.args.decl.now _ c.in-Inductive.is ∙ decl_of_node-Inductive _ _)
 
 pub returns-in-UseTheory : goal.returns-in-UseTheory
-returns-in-UseTheory c = ap item_of (decl_of-UseTheory c.args.decl.now _ _ _ c.in-UseTheory.is)
+returns-in-UseTheory c = ap item_of (decl_is c.args.decl.now _ c.in-UseTheory.is ∙ decl_of_node-UseTheory _ _ _ _)
 
 pub returns-in-CloneTheory : goal.returns-in-CloneTheory
-returns-in-CloneTheory c = ap item_of (decl_of-CloneTheory c.args.decl.now _ _ _ _ c.in-CloneTheory.is)
+returns-in-CloneTheory c = ap item_of (decl_is c.args.decl.now _ c.in-CloneTheory.is ∙ decl_of_node-CloneTheory _ _ _ _ _)
 
 pub returns-in-ScopeDecl : goal.returns-in-ScopeDecl
-returns-in-ScopeDecl c = ap item_of (decl_of-ScopeDecl c.args.decl.now _ _ c.in-ScopeDecl.is)
+returns-in-ScopeDecl c = ap item_of (decl_is c.args.decl.now _ c.in-ScopeDecl.is ∙ decl_of_node-ScopeDecl _ _ _)
 
 abbrev says : OpName → List ParamTree → Option Expr → List MemberTree → ℕ → Option Item
 says n ps e ms i = declares_if i (lower_of (declared_name n)) (map param_of ps) (option_map tree_of e) (map member_of ms)

@@ -1,4 +1,0 @@
-pub mod DeclaredRead
-pub mod ParamsRead
-pub mod BodiesRead
-pub mod DeclaringRead

@@ -1,0 +1,26 @@
+-- What follows where names of symbols and propositions are read.
+use Rattle.std.proofs.Common.{◌≡◌, ℕ, ◌+◌, Bool, true, false, List, [], ◌∷◌, refl, sym, ap, subst}
+use Rattle.tokens_why.specs.declared.terminal.Terminal.TheVariants as t
+use Rattle.grammar.specs.declared.symbols.Symbol.TheVariants as s
+use Rattle.grammar.specs.Alphabet.{same}
+use Rattle.syntax_why.specs.declared.names.Name.{Name}
+use Rattle.syntax_why.specs.declared.names.Style.TheVariants as style
+use Rattle.syntax_why.specs.Lexeme.{Lexeme}
+use Rattle.syntax_why.specs.Forms.{called}
+use Rattle.syntax_why.specs.Surface.{own_of}
+use Rattle.reading.specs.Parts.{own_op}
+use Rattle.parse_terms.specs.Reading.{Begun, CanRead, IsRead, terminal_at}
+use Rattle.parse_terms.specs.Sources.{IsTextAt}
+use Rattle.parse_terms.proofs.Steps.{again, done, expand, only, start}
+use Rattle.parse_terms.proofs.TextsRead.{lower_own, upper_own}
+
+module _ {xs : List Lexeme} {i : ℕ} (c : CanRead xs s.Op i) where
+  pub operator_start : same t.Lident (terminal_at xs i) ≡ false → same t.StarName (terminal_at xs i) ≡ false → Begun xs 1 (λ k. s.Op ∷ k) i (λ k. s.Opname ∷ k) (λ k us. (called i [] (own_op us.0.prefix us.0.op), us.1)) (i + 1)
+  operator_start l n = let g = start c in let p = expand g t.LParen (only g t.LParen (t.Lident ∷ t.StarName ∷ []) refl refl (l, (n, tt))) refl refl in again p 1 refl (λ k us. refl)
+
+pub prop_read : {xs : List Lexeme} {i : ℕ} → CanRead xs s.Ident i → (n : Name) → n.at ≡ i → IsTextAt xs i n.text → IsRead xs s.Ident i (called n.at [] (own_of style.Plain n.text)) (i + 1)
+prop_read {xs} {i} c n h w = subst (λ j. IsRead xs s.Ident i (called j [] (own_of style.Plain n.text)) (i + 1)) (sym h) (by_test (same t.Lident (terminal_at xs i)) refl)
+  where
+    by_test : (b : Bool) → same t.Lident (terminal_at xs i) ≡ b → IsRead xs s.Ident i (called i [] (own_of style.Plain n.text)) (i + 1)
+    by_test true e = let p = expand (start c) t.Lident e refl refl in done p (called i [] (own_of style.Plain n.text)) refl (λ k us. ap (λ o. (called i [] o, us)) (sym (lower_own w e)))
+    by_test false e = let f = only (start c) t.Uident (t.Lident ∷ []) refl refl (e, tt) in let p = expand (start c) t.Uident f refl refl in done p (called i [] (own_of style.Plain n.text)) refl (λ k us. ap (λ o. (called i [] o, us)) (sym (upper_own w f)))

@@ -1,0 +1,11 @@
+use Rattle.std.proofs.Common.{◌≡◌, ◌+◌, ◌-◌, length}
+use Rattle.parse_terms.specs.Reading.{from}
+use Rattle.parse_terms.specs.Sources.{lexemes}
+use Rattle.parse_decls.specs.Params.{names_before_colon}
+use Rattle.parse_decls.proofs.parameters.at_names.Given as goal
+
+abbrev pub invariant-names : goal.invariant-names
+invariant-names l = names_before_colon (from (lexemes l.source) (l.fn.i + 1)) ≡ names_before_colon (from (lexemes l.source) l.j)
+
+abbrev pub decreases-names : goal.decreases-names
+decreases-names l = length l.source.tokens.now - l.j

@@ -1,0 +1,58 @@
+// Names of what is declared: symbols and propositions.
+// They depend on the tokens and on operators' names; parameters and bodies stand behind them.
+ghost use Rattle.std.specs.Prelude.{◌+◌, IfOk};
+ghost use Rattle.grammar.specs.declared.symbols.Symbol.TheVariants as rule;
+ghost use Rattle.syntax_why.specs.SurfaceDeclarations.{declared_name as name_of_symbol, plain_name};
+ghost use Rattle.parse_terms.specs.Reading.{CanRead, IsRead};
+ghost use Rattle.parse_terms.specs.Sources.{lexemes};
+
+use outside::Text;
+use parse_terms::{Source, at, name_at, operator_name, text};
+use std::alloc::{AllocError, Global};
+use syntax_why::{Name, OpName, Style};
+use tokens_why::Terminal;
+
+/// The name of a symbol, and the token behind it. Only want of memory refuses.
+pub fn declared_name(alloc: Global, source: Source, i: usize) -> Result<(OpName, usize), AllocError>
+    requires { CanRead (lexemes source) rule.Op i }
+    ensures { IfOk result
+        (λ r. IsRead (lexemes source.entry) rule.Op i (name_of_symbol r.0) r.1) }
+{
+    let is_lower = at(source, i, Terminal::Lident);
+    if is_lower {
+        let lower = text(alloc, source, i)?;
+        let name = OpName {
+            at: i,
+            style: Style::Plain,
+            text: lower,
+        };
+        return Ok((name, i + 1));
+    }
+    let is_star = at(source, i, Terminal::StarName);
+    if is_star {
+        let star = Text::from_slice(alloc, b"*")?;
+        let name = OpName {
+            at: i,
+            style: Style::Star,
+            text: star,
+        };
+        return Ok((name, i + 1));
+    }
+    let own = operator_name(alloc, source, i + 1)?;
+    let name = OpName {
+        at: i,
+        style: own.style,
+        text: own.text,
+    };
+    Ok((name, own.end))
+}
+
+/// The name of a proposition. Only want of memory refuses.
+pub fn prop_name(alloc: Global, source: Source, i: usize) -> Result<Name, AllocError>
+    requires { CanRead (lexemes source) rule.Ident i }
+    ensures { IfOk result
+        (λ n. IsRead (lexemes source.entry) rule.Ident i (plain_name n) (i + 1)) }
+{
+    let name = name_at(alloc, source, i)?;
+    Ok(name)
+}

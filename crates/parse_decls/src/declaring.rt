@@ -1,0 +1,117 @@
+// Declarations of functions, predicates, constants, inductive predicates and propositions.
+// They depend on names, parameters, bodies and clauses; the reader of declarations depends on them.
+ghost use Rattle.std.specs.Prelude.{true, ◌≡◌, ◌+◌, IfOk};
+ghost use Rattle.grammar.specs.declared.symbols.Symbol.TheVariants as rule;
+ghost use Rattle.grammar.specs.Alphabet.{same};
+ghost use Rattle.tokens_why.specs.declared.terminal.Terminal.TheVariants as t;
+ghost use Rattle.syntax_why.specs.Declarations.{prop_word};
+ghost use Rattle.syntax_why.specs.SurfaceDeclarations.{decl_of};
+ghost use Rattle.parse_terms.specs.Reading.{CanRead, terminal_at};
+ghost use Rattle.parse_terms.specs.Sources.{lexemes};
+ghost use Rattle.parse_decls.specs.Bodies.{IsDecl};
+
+use crate::bodies::{body, value};
+use crate::clauses::inductive;
+use crate::declared::{declared_name, prop_name};
+use crate::parameters::params;
+use outside::Seq;
+use parse_terms::{Source, at, expression, place, type_tree};
+use std::alloc::{AllocError, Global};
+use syntax_why::{DeclTree, IndTree, PropKind};
+use tokens_why::Terminal;
+
+/// A constant, and the token behind it. Only want of memory refuses.
+pub fn constant_declaration(
+    alloc: Global,
+    source: Source,
+    i: usize,
+) -> Result<(DeclTree, usize), AllocError>
+    requires can { CanRead (lexemes source) rule.Decls i }
+    requires word { same t.ConstantWord (terminal_at (lexemes source) i) ≡ true }
+    ensures { IfOk result (λ r. IsDecl (lexemes source.entry) i (decl_of r.0) r.1) }
+{
+    let (name, colon) = declared_name(alloc, source, i + 1)?;
+    let (ty, j) = type_tree(alloc, source, colon + 1)?;
+    let (given, end) = value(alloc, source, j)?;
+    let here = place(i);
+    let tree = DeclTree::constant(here, name, ty, given);
+    Ok((tree, end))
+}
+
+/// A function with its members, and the token behind it. Only want of memory refuses.
+pub fn function_declaration(
+    alloc: Global,
+    source: Source,
+    i: usize,
+) -> Result<(DeclTree, usize), AllocError>
+    requires can { CanRead (lexemes source) rule.Decls i }
+    requires word { same t.FunctionWord (terminal_at (lexemes source) i) ≡ true }
+    ensures { IfOk result (λ r. IsDecl (lexemes source.entry) i (decl_of r.0) r.1) }
+{
+    let (name, j) = declared_name(alloc, source, i + 1)?;
+    let (bound, colon) = params(alloc, source, j)?;
+    let (ty, n) = type_tree(alloc, source, colon + 1)?;
+    let read = body(alloc, source, n)?;
+    let here = place(i);
+    let tree = DeclTree::function(here, name, bound, ty, read.definition, read.members);
+    Ok((tree, read.end))
+}
+
+/// A predicate with its members, and the token behind it. Only want of memory refuses.
+pub fn predicate_declaration(
+    alloc: Global,
+    source: Source,
+    i: usize,
+) -> Result<(DeclTree, usize), AllocError>
+    requires can { CanRead (lexemes source) rule.Decls i }
+    requires word { same t.PredicateWord (terminal_at (lexemes source) i) ≡ true }
+    ensures { IfOk result (λ r. IsDecl (lexemes source.entry) i (decl_of r.0) r.1) }
+{
+    let (name, j) = declared_name(alloc, source, i + 1)?;
+    let (bound, n) = params(alloc, source, j)?;
+    let read = body(alloc, source, n)?;
+    let here = place(i);
+    let tree = DeclTree::predicate(here, name, bound, read.definition, read.members);
+    Ok((tree, read.end))
+}
+
+/// Inductive predicates, and the token behind them. Only want of memory refuses.
+pub fn inductive_declaration(
+    alloc: Global,
+    source: Source,
+    i: usize,
+) -> Result<(DeclTree, usize), AllocError>
+    requires can { CanRead (lexemes source) rule.Decls i }
+    requires word { same t.InductiveWord (terminal_at (lexemes source) i) ≡ true }
+    ensures { IfOk result (λ r. IsDecl (lexemes source.entry) i (decl_of r.0) r.1) }
+{
+    let mut of: Vec<IndTree> = Vec::new(alloc);
+    let (first, mut j) = inductive(alloc, source, i + 1)?;
+    of.push(first)?;
+    'more: while at(source, j, Terminal::WithWord) {
+        let (next, end) = inductive(alloc, source, j + 1)?;
+        of.push(next)?;
+        j = end;
+    }
+    let here = place(i);
+    let tree = DeclTree::inductive(here, Seq::from_vec(of));
+    Ok((tree, j))
+}
+
+/// An axiom, a lemma or a goal, and the token behind it. Only want of memory refuses.
+pub fn prop_declaration(
+    alloc: Global,
+    source: Source,
+    kind: PropKind,
+    i: usize,
+) -> Result<(DeclTree, usize), AllocError>
+    requires can { CanRead (lexemes source) rule.Decls i }
+    requires word { same (prop_word kind) (terminal_at (lexemes source) i) ≡ true }
+    ensures { IfOk result (λ r. IsDecl (lexemes source.entry) i (decl_of r.0) r.1) }
+{
+    let name = prop_name(alloc, source, i + 1)?;
+    let prop = expression(alloc, source, 0, i + 1 + 1 + 1)?;
+    let here = place(i);
+    let tree = DeclTree::prop(here, kind, name, prop.tree);
+    Ok((tree, prop.end))
+}
