@@ -23,6 +23,12 @@ closed_has d ty (Three h a b c) l = (closed_has d ty a (omega arith), closed_has
 pub closed_at : (depth : ℕ) (ty e : Tree) → loose e ≤ depth → HasAt depth ty e
 closed_at depth ty e l = record { is = λ d i. closed_has d ty e (omega arith) }
 
+pub at_zero : (ty e : Tree) → HasAt 0 ty e → VariableHas 0 ty e
+at_zero ty e h = h.is 0 (omega arith)
+
+pub can_zero : (ty e : Tree) → VariableHas 0 ty e → CanHave 0 ty e
+can_zero ty e h = record { d = 0; is_depth = omega arith; is = h }
+
 module _ (depth i : ℕ) (ty a e : Tree) (w : WellSorted e) (q : e ≡ One (HBound i) a) where
   sorted : WellSorted (One (HBound i) a)
   sorted = rw q at w

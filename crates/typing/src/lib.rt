@@ -8,7 +8,7 @@ mod types;
 mod typing;
 mod vocabulary;
 
-pub use open::is_open_typed;
+pub use open::{is_open_typed, variable_has_type};
 pub use types::{Types, is_instance};
 pub use typing::{is_ground, is_ground_formula, is_ground_type, is_typed_over, well_typed};
 pub use vocabulary::Vocabulary;

@@ -3,7 +3,7 @@
 ghost use Rattle.std.specs.Prelude.{◌≡◌, ◌↔◌, IsTrue, length};
 ghost use Rattle.trees.specs.Node.{tree_at, node_tree, parts_of, head_of_node, Holds, AreBelow};
 ghost use Rattle.binders.specs.Depth.{IsUnder};
-ghost use Rattle.tasks.specs.Open.{OpenTyped, PartsAreOpen};
+ghost use Rattle.tasks.specs.Open.{VariableHas, OpenTyped, PartsAreOpen};
 ghost use Rattle.tasks.specs.Typing.{pattern_types};
 ghost use Rattle.typing.specs.Named.{vocabulary_at, VocabularyHeld};
 ghost use Rattle.typing.specs.Variables.{HasAt, CanHave, HaveAt, CanHaveAll, BinderFits};
@@ -48,6 +48,16 @@ fn variable_has(store: &Store, e: TermId, depth: usize, ty: TermId) -> bool
             && variable_has(store, b, depth, ty)
             && variable_has(store, c, depth, ty),
     }
+}
+
+/// Whether the innermost open variable of a tree has a type wherever it stands.
+#[tactic(auto, using(crate::proofs::Variables::at_zero, crate::proofs::Variables::can_zero))]
+pub fn variable_has_type(store: &Store, e: TermId, ty: TermId) -> bool
+    requires e_held { Holds store.now e }
+    requires ty_held { Holds store.now ty }
+    ensures { IsTrue result ↔ VariableHas 0 (tree_at store.now ty) (tree_at store.now e) }
+{
+    variable_has(store, e, 0, ty)
 }
 
 // Whether the variables from so many binders up on have the types of a pattern's variables.

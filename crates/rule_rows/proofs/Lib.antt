@@ -1,0 +1,4 @@
+pub mod Closed
+pub mod Sequents
+pub mod Behind
+pub mod Templates

@@ -1,0 +1,7 @@
+pub mod Trees
+pub mod Forms
+pub mod Patterns
+pub mod Rows
+pub mod Terms
+pub mod Meaning
+pub mod Codes

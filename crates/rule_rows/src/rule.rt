@@ -1,0 +1,95 @@
+// Rules and steps.
+// They stand on the terms' numbers; the checker, drafts and step files stand on them.
+use outside::Seq;
+use trees::TermId;
+
+/// A rule of the tableau calculus, with its places in the sequent and its trees, in the order of the table.
+#[derive(Debug, Drop)]
+pub enum Rule {
+    /// `false` at this place.
+    False(usize),
+    /// `not true`.
+    NotTrue(usize),
+    /// A formula, and its negation at the second place.
+    Clash(usize, usize),
+    /// A negated equation of a term with itself.
+    Irrefl(usize),
+    /// An equation of two different constructors.
+    Distinct(usize),
+    /// Formulas over the integers by their places, each with a multiplier.
+    Linear(Seq<(usize, i128)>),
+    /// A negation of a negation.
+    NotNot(usize),
+    /// A conjunction.
+    And(usize),
+    /// A negated conjunction.
+    NotAnd(usize),
+    /// A conjunction by `&&`.
+    AndThen(usize),
+    /// Its negation.
+    NotAndThen(usize),
+    /// A disjunction.
+    Or(usize),
+    /// A negated disjunction.
+    NotOr(usize),
+    /// A disjunction by `||`.
+    OrElse(usize),
+    /// Its negation.
+    NotOrElse(usize),
+    /// An implication.
+    Imp(usize),
+    /// A negated implication.
+    NotImp(usize),
+    /// An equivalence.
+    Iff(usize),
+    /// A negated equivalence.
+    NotIff(usize),
+    /// A universal formula, at a term.
+    Forall(usize, TermId),
+    /// A negated universal formula, at a new parameter.
+    NotForall(usize, usize),
+    /// An existential formula, at a new parameter.
+    Exists(usize, usize),
+    /// A negated existential formula, at a term.
+    NotExists(usize, TermId),
+    /// A formula, and its negation.
+    Cut(TermId),
+    /// The formulas at these places.
+    Keep(Seq<usize>),
+    /// A term equals itself.
+    Refl(TermId),
+    /// By an equation, one side of it for the other in a formula, at the variable 0 of a template.
+    Replace(usize, usize, TermId),
+    /// A `let`.
+    LetDef(TermId),
+    /// An `if`.
+    IfDef(TermId),
+    /// A `match`.
+    MatchDef(TermId),
+    /// A proposition of the task by its number, at these types.
+    Fact(usize, Seq<TermId>),
+    /// The equation of a defined symbol, at these types.
+    Def(usize, Seq<TermId>),
+    /// A clause of an inductive predicate by its number, at these types.
+    Clause(usize, usize, Seq<TermId>),
+    /// The inversion formula of an inductive predicate, at these types.
+    Inv(usize, Seq<TermId>),
+    /// A term by the constructors of its type.
+    Case(TermId),
+    /// An equation of one constructor on two lists of arguments.
+    Inject(usize),
+    /// A projection of its constructor.
+    Project(TermId),
+    /// Two integers compared.
+    Trichotomy(TermId, TermId),
+    /// An integer at most a literal, or at least the next one.
+    Bound(TermId, i128),
+}
+
+/// A sequent, the rule that refutes it, and the earlier steps that the rule takes.
+#[derive(Debug, Drop)]
+pub struct Step {
+    pub sequent: Seq<TermId>,
+    pub rule: Rule,
+    pub premises: Seq<usize>,
+}

@@ -1,0 +1,52 @@
+use Rattle.std.proofs.Common.{◌≡◌, Some, None, refl, sym, ap, ◌∙◌}
+use Rattle.std.specs.Option.{option_map}
+use Rattle.trees.specs.Node.{tree_at}
+use Rattle.rule_rows.specs.Meaning.{task_of}
+use Rattle.rule_rows.specs.Patterns.{projections}
+use Rattle.term_rows.specs.Asked.{list_at}
+use Rattle.term_rows.specs.Asked as asked
+use Rattle.term_rows.proofs.TestLemmas.{if_some, un_some, inner, is_here, from_here}
+use Rattle.term_rows.proofs.pattern_tests.+after_tests.Goals as goal
+
+pub returns-in-Some-after_equation-clause-is : goal.returns-in-Some-after_equation-clause-is
+returns-in-Some-after_equation-clause-is t c =
+    let x = c.args.x.now in
+    let s = x.store.now in
+    let g = task_of x in
+    let q = c.in-PatCon in
+    let a = asked.asked_at g s c.first_asked-asked-in-Some-made.result in
+    let made = ap (option_map (tree_at s)) c.in-Some-made.is in
+    if_some _ _ _
+    (λ r h. is_here g q.constructor (tree_at s q.types) (tree_at s q.parts) (tree_at s q.field-3) (tree_at s c.args.pattern) a (list_at g s c.args.list) c.projections.result.now
+    q.ensures.tree c.first_asked-asked-in-Some-made.ensures.tree c.projections.ensures _ _ (option_map (tree_at s) r) (made ∙ c.in-Some-after_equation.ensures.is) h)
+    c.after_tests-in-Some-after_equation.ensures.is
+
+pub returns-in-Some-after_equation-clause-can : goal.returns-in-Some-after_equation-clause-can
+returns-in-Some-after_equation-clause-can t c behind h =
+    let x = c.args.x.now in
+    let s = x.store.now in
+    let g = task_of x in
+    let q = c.in-PatCon in
+    let a = asked.asked_at g s c.first_asked-asked-in-Some-made.result in
+    let made = ap (option_map (tree_at s)) c.in-Some-made.is in
+    let rest = inner g q.constructor (tree_at s q.types) (tree_at s q.parts) (tree_at s q.field-3) (tree_at s c.args.pattern) a (list_at g s c.args.list) c.projections.result.now
+    q.ensures.tree c.first_asked-asked-in-Some-made.ensures.tree c.projections.ensures behind in
+    let there = from_here g q.constructor (tree_at s q.types) (tree_at s q.parts) (tree_at s q.field-3) (tree_at s c.args.pattern) a (list_at g s c.args.list) c.projections.result.now
+    q.ensures.tree c.first_asked-asked-in-Some-made.ensures.tree c.projections.ensures _ behind h in
+    let found : Some (option_map (tree_at s) c.in-Some-after_equation.inner) ≡ Some rest = c.in-Some-after_equation.ensures.can rest (sym made ∙ there) in
+    c.after_tests-in-Some-after_equation.ensures.can behind (un_some _ _ found)
+
+pub returns-in-None-after_equation-clause-can : goal.returns-in-None-after_equation-clause-can
+returns-in-None-after_equation-clause-can t c behind h =
+    let x = c.args.x.now in
+    let s = x.store.now in
+    let g = task_of x in
+    let q = c.in-PatCon in
+    let a = asked.asked_at g s c.first_asked-asked-in-Some-made.result in
+    let made = ap (option_map (tree_at s)) c.in-Some-made.is in
+    let rest = inner g q.constructor (tree_at s q.types) (tree_at s q.parts) (tree_at s q.field-3) (tree_at s c.args.pattern) a (list_at g s c.args.list) (projections g q.constructor)
+    q.ensures.tree c.first_asked-asked-in-Some-made.ensures.tree refl behind in
+    let there = from_here g q.constructor (tree_at s q.types) (tree_at s q.parts) (tree_at s q.field-3) (tree_at s c.args.pattern) a (list_at g s c.args.list) (projections g q.constructor)
+    q.ensures.tree c.first_asked-asked-in-Some-made.ensures.tree refl _ behind h in
+    let found : None ≡ Some rest = c.in-None-after_equation.ensures.can rest (sym made ∙ there) in
+    absurd (cc found)
