@@ -1,0 +1,5 @@
+pub mod Placed
+pub mod Nodes
+pub mod Told
+pub mod Operated
+pub mod Rows

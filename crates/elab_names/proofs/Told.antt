@@ -1,0 +1,149 @@
+-- Faults of parts, told of the whole.
+use Rattle.std.proofs.Common.{◌≡◌, ℕ, suc, Bool, false, List, [], ◌∷◌, ◌++◌, reverse, length, get_or, sym, ap, ◌∙◌, Option, Some, None, Result, Ok, Err, refl}
+use Rattle.std.specs.Prelude.{OnOk}
+use Rattle.std.specs.Result.{IsErrAnd}
+use mathlib.Core.List.{append-nil}
+use Rattle.elab_names.specs.declared.NamingFault.{NamingFault}
+use Rattle.elab_names.specs.declared.NamingFault.TheVariants.{Memory, Unknown, Duplicate, WrongKind, Arity}
+use Rattle.syntax_why.specs.declared.expressions.Expr.{Expr}
+use Rattle.syntax_why.specs.declared.types.TypeTree.{TypeTree}
+use Rattle.syntax_why.specs.declared.patterns.Pat.{Pat}
+use Rattle.syntax_why.specs.Forms as surface
+use Rattle.syntax_why.specs.Lexeme.{Word}
+use Rattle.syntax_why.specs.Surface as code
+use Rattle.elab_names.specs.Abstract.{Expression, Expressions, none, more, Patterns, no_patterns, more_patterns, Alternatives, Branches, no_branches, more_branches, Operation, connective, equality, symbol, operated, let_by, Forms, no_forms, more_forms, tuple, count, count_forms, count_patterns, grouped_forms, grouped_patterns, grouped, first_form, side_by_side, forms_of, expression_of, expressions_of, patterns_of}
+use Rattle.elab_names.specs.Where.{Where}
+use Rattle.elab_names.specs.Faults.{first_of, name_fault, form_fault, forms_fault, fault, faults, pattern_fault, patterns_fault, pattern_names, patterns_names, alternatives_fault, alternatives_names, branch_fault, branches_fault, head, head_of, head_other, token}
+use Rattle.elab_names.specs.Naming.{Tells}
+use Rattle.elab_names.proofs.Nodes.{patterns_are}
+
+-- the fault of a first part is the whole's
+pub of_first : (e : NamingFault) (x y : Option NamingFault) → Tells (Err e) x → Tells (Err e) (first_of x y)
+of_first Memory x y h = tt
+of_first (Unknown t) x y h = rw h refl
+of_first (Duplicate t) x y h = rw h refl
+of_first (WrongKind t) x y h = rw h refl
+of_first (Arity t) x y h = rw h refl
+
+-- behind a part without one, that of the rest
+pub of_rest : (r : Result Unit NamingFault) (x y : Option NamingFault) → x ≡ None → Tells r y → Tells r (first_of x y)
+of_rest r x y n h = rw n h
+
+-- an answer that hands on an error
+pub passed : (r : Result Unit NamingFault) (g : NamingFault) (x : Option NamingFault) → IsErrAnd r (λ (e : NamingFault). e ≡ g) → Tells (Err g) x → Tells r x
+passed (Ok v) g x h k = absurd h
+passed (Err e) g x h k = rw h k
+
+-- want of memory tells nothing
+pub no_memory : (r : Result Unit NamingFault) (x : Option NamingFault) → IsErrAnd r (λ (e : NamingFault). e ≡ Memory) → Tells r x
+no_memory (Ok v) x h = absurd h
+no_memory (Err e) x h = rw h tt
+
+-- what is known is known after Ok
+pub on_ok : {P : Type 0} (r : Result Unit NamingFault) → P → OnOk r P
+on_ok (Ok v) p = p
+on_ok (Err e) p = tt
+
+-- the number of arguments
+pub counted : (es : List Expr) → count (expressions_of es) ≡ length es
+counted [] = refl
+counted (e ∷ es) = ap suc (counted es)
+
+pub counted_forms : (ts : List TypeTree) → count_forms (forms_of ts) ≡ length ts
+counted_forms [] = refl
+counted_forms (t ∷ ts) = ap suc (counted_forms ts)
+
+pub counted_patterns : (ps : List Pat) → count_patterns (patterns_of ps) ≡ length ps
+counted_patterns [] = refl
+counted_patterns (p ∷ ps) = ap suc (counted_patterns ps)
+
+-- a name in other words
+pub name_same : (w : Where) (ls : List Word) (due : Bool) (i : ℕ) {qs qs' : List Word} {x x' : Word} {n n' : ℕ} → qs ≡ qs' → x ≡ x' → n ≡ n' → name_fault w ls due i qs x n ≡ name_fault w ls due i qs' x' n'
+name_same w ls due i {qs' = qs'} {x = x} {x' = x'} {n = n} a b d = ap (λ (q : List Word). name_fault w ls due i q x n) a ∙ (ap (λ (y : Word). name_fault w ls due i qs' y n) b ∙ ap (name_fault w ls due i qs' x') d)
+
+-- an answer for one alone
+pub first_alone : (r : Result Unit NamingFault) (x : Option NamingFault) → Tells r x → Tells r (first_of x None)
+first_alone r None h = h
+first_alone r (Some f) h = h
+
+-- ---- what stands in parentheses
+first_none : (x : Option NamingFault) → first_of x None ≡ x
+first_none None = refl
+first_none (Some f) = refl
+
+pub group_forms : (w : Where) (o : Bool) (i : ℕ) (fs : Forms) → forms_fault w o fs ≡ form_fault w o (grouped_forms i fs)
+group_forms w o i no_forms = refl
+group_forms w o i (more_forms f no_forms) = first_none (form_fault w o f)
+group_forms w o i (more_forms f (more_forms g gs)) = refl
+
+pub group_one : (i : ℕ) (xs : List Expr) (d : Expr) → length xs ≡ 1 → grouped i (expressions_of xs) ≡ expression_of (get_or xs 0 d)
+group_one i [] d h = absurd (cc)
+group_one i (x ∷ []) d h = refl
+group_one i (x ∷ y ∷ zs) d h = absurd (cc)
+
+pub group_many : (i : ℕ) (xs : List Expr) → (length xs ≡ 1 → ⊥) → grouped i (expressions_of xs) ≡ tuple i (expressions_of xs)
+group_many i [] h = refl
+group_many i (x ∷ []) h = absurd (h refl)
+group_many i (x ∷ y ∷ zs) h = refl
+
+-- ---- an operator between two
+pub operated_head : (i : ℕ) (a : Expression) (o : Operation) (b : Expression) → head (operated i a o b) ≡ head_of o
+operated_head i a (connective o) b = refl
+operated_head i a (equality same) b = refl
+operated_head i a (symbol w) b = refl
+
+pub operated_token : (i : ℕ) (a : Expression) (o : Operation) (b : Expression) → token (operated i a o b) ≡ i
+operated_token i a (connective o) b = refl
+operated_token i a (equality same) b = refl
+operated_token i a (symbol w) b = refl
+
+-- ---- a `let`
+pub let_head : (o : Option Word) (i : ℕ) (ps : surface.Forms) (a b : Expression) → head (let_by o i ps a b) ≡ head_other
+let_head None i ps a b = refl
+let_head (Some x) i ps a b = refl
+
+pub let_token : (o : Option Word) (i : ℕ) (ps : surface.Forms) (a b : Expression) → token (let_by o i ps a b) ≡ i
+let_token None i ps a b = refl
+let_token (Some x) i ps a b = refl
+
+-- ---- values of a `match`
+pub due_group : (w : Where) (o : Bool) (ls : List Word) (i : ℕ) (es : Expressions) → faults w o ls es ≡ fault w o ls false (grouped i es)
+due_group w o ls i none = refl
+due_group w o ls i (more e none) = first_none (fault w o ls false e)
+due_group w o ls i (more e (more f es)) = refl
+
+-- ---- patterns
+group_patterns : (w : Where) (us : List Word) (i : ℕ) (ps : Patterns) → patterns_fault w us ps ≡ pattern_fault w us (grouped_patterns i ps)
+group_patterns w us i no_patterns = refl
+group_patterns w us i (more_patterns p no_patterns) = first_none (pattern_fault w us p)
+group_patterns w us i (more_patterns p (more_patterns q ps)) = refl
+
+group_names : (i : ℕ) (ps : Patterns) → patterns_names ps ≡ pattern_names (grouped_patterns i ps)
+group_names i no_patterns = refl
+group_names i (more_patterns p no_patterns) = append-nil (pattern_names p)
+group_names i (more_patterns p (more_patterns q ps)) = refl
+
+pub enclosed_fault : (w : Where) (us : List Word) (i : ℕ) (ps : List Pat) → patterns_fault w us (patterns_of ps) ≡ pattern_fault w us (grouped_patterns i (patterns_of ps))
+enclosed_fault w us i ps = group_patterns w us i (patterns_of ps)
+
+pub enclosed_names : (i : ℕ) (ps : List Pat) → patterns_names (patterns_of ps) ≡ pattern_names (grouped_patterns i (patterns_of ps))
+enclosed_names i ps = group_names i (patterns_of ps)
+
+pub whole_fault : (w : Where) (us : List Word) (ps : List Pat) → patterns_fault w us (patterns_of ps) ≡ pattern_fault w us (side_by_side (code.patterns ps))
+whole_fault w us ps =
+    group_patterns w us (first_form (code.patterns ps)) (patterns_of ps) ∙ ap (λ (q : Patterns). pattern_fault w us (grouped_patterns (first_form (code.patterns ps)) q)) (sym (patterns_are ps))
+
+pub whole_names : (ps : List Pat) → patterns_names (patterns_of ps) ≡ pattern_names (side_by_side (code.patterns ps))
+whole_names ps = group_names (first_form (code.patterns ps)) (patterns_of ps) ∙ ap (λ (q : Patterns). pattern_names (grouped_patterns (first_form (code.patterns ps)) q)) (sym (patterns_are ps))
+
+-- ---- branches
+three : (x y z : Option NamingFault) → first_of (first_of x y) z ≡ first_of x (first_of y z)
+three None y z = refl
+three (Some f) y z = refl
+
+pub branch_first : (w : Where) (o : Bool) (ls : List Word) (due : Bool) (ps : Alternatives) (b : Expression) (bs : Branches)
+    → first_of (branch_fault w o ls due ps b) (branches_fault w o ls due bs) ≡ branches_fault w o ls due (more_branches ps b bs)
+branch_first w o ls due ps b bs = three (alternatives_fault w ps) (fault w o (reverse (alternatives_names ps) ++ ls) due b) (branches_fault w o ls due bs)
+
+pub one_branch : (w : Where) (o : Bool) (ls : List Word) (due : Bool) (ps : Alternatives) (b : Expression) → branch_fault w o ls due ps b ≡ branches_fault w o ls due (more_branches ps b no_branches)
+one_branch w o ls due ps b = sym (first_none (branch_fault w o ls due ps b)) ∙ branch_first w o ls due ps b no_branches

@@ -1,0 +1,4 @@
+pub mod Abstract
+pub mod Where
+pub mod Faults
+pub mod Naming

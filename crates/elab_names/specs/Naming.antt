@@ -1,0 +1,82 @@
+-- What names, operators and type variables in code stand for, and what the walk of names answers.
+use Rattle.std.specs.Prelude.{◌≡◌, ℕ, codes, ◌==◌, cond, List, [], ◌∷◌, ◌++◌, reverse, Option, Some, None, Result, Ok, Err}
+use Rattle.std.specs.Option.{option_map}
+use Rattle.std.specs.Str.{bytes_eq}
+use Rattle.trees.specs.Tree.{Tree}
+use Rattle.trees.specs.Node.{tree_at}
+use Rattle.tasks.specs.Meaning.{symbols_at}
+use Rattle.syntax_why.specs.Lexeme.{Word}
+use Rattle.syntax_why.specs.Surface.{own_of, op_of}
+use Rattle.names_space.specs.Names.{Names, find, find_name}
+use Rattle.names_space.specs.declared.Table.TheVariants.{Types, Symbols}
+use Rattle.names_space.specs.declared.TypeName.{TypeName}
+use Rattle.names_space.specs.declared.TypeName.TheVariants as stands
+use Rattle.elab_names.specs.Abstract.{binders_of, connective, equality, symbol, own_name, prefix_name, spelled}
+use Rattle.elab_names.specs.Abstract as abstract
+use Rattle.elab_names.specs.Faults.{bound_names, Head, head_named, head_equality, head_other}
+use Rattle.elab_names.specs.Where.{Where, MeaningTree, Stands, Abbreviates}
+use Rattle.elab_names.specs.declared.NamingFault.{NamingFault}
+use Rattle.elab_names.specs.declared.NamingFault.TheVariants.{Memory}
+use Rattle.elab_names.specs.declared.bound.Names.{Names as Bound, Outside, Inside', Under', Among'}
+use Rattle.elab_names.specs.declared.operators.Operation.{Operation}
+use Rattle.elab_names.specs.declared.operators.Operation.TheVariants.{Connective, Equality, Symbol}
+use Rattle.elab_names.specs.declared.triggers.TriggerHead.{TriggerHead}
+use Rattle.elab_names.specs.declared.triggers.TriggerHead.TheVariants as head
+use Rattle.elab_names.specs.declared.world.TupleName.{TupleName}
+use Rattle.elab_names.specs.declared.world.World.{World}
+
+-- ---- names
+-- the entry for which a symbol's name behind its scopes stands
+abbrev pub symbol_named : Names → List Word → Word → Option ℕ
+symbol_named names qs x = find names Symbols (qs ++ x ∷ [])
+
+-- `int` is the outermost name of a type
+abbrev pub or_int : List Word → Word → Option TypeName → Option TypeName
+or_int [] x None = cond (bytes_eq x (codes "int")) (Some (stands.Entry 0)) None
+or_int qs x found = found
+
+abbrev pub type_named : Names → List Word → Word → Option TypeName
+type_named names qs x = or_int qs x (find_name names Types (qs ++ x ∷ []))
+
+abbrev pub meaning_at : List Tree → TypeName → MeaningTree
+meaning_at s (stands.Entry k) = Stands k
+meaning_at s (stands.Alias vars ty) = Abbreviates vars (tree_at s (record { 0 = ty }))
+
+abbrev pub tuple_among : List TupleName → ℕ → Option ℕ
+tuple_among [] n = None
+tuple_among (t ∷ ts) n = cond (t.width == n) (Some t.symbol) (tuple_among ts n)
+
+abbrev pub where_at : List Tree → World → Where
+where_at s w = record {
+  symbols = symbols_at s w.symbols.now;
+  types = λ qs x. option_map (meaning_at s) (type_named w.scope.now qs x);
+  names = symbol_named w.scope.now;
+  tuples = tuple_among w.tuples.now;
+  vars = w.vars.now;
+}
+
+-- the names of the variables, innermost first
+abbrev pub names_at : Bound → List Word
+names_at Outside = []
+names_at (Inside' name p outer) = name.now ∷ names_at outer
+names_at (Under' bs p outer) = reverse (bound_names (binders_of bs.now)) ++ names_at outer
+names_at (Among' names p outer) = reverse names.now ++ names_at outer
+
+abbrev pub operation_at : Operation → abstract.Operation
+operation_at (Connective o) = connective o
+operation_at (Equality same) = equality same
+operation_at (Symbol w) = symbol w.now
+
+abbrev pub head_at : TriggerHead → Head
+head_at (head.Name q) = head_named q.now.scopes (own_name (own_of q.now.style q.now.text))
+head_at (head.Prefix o) = head_named [] (prefix_name (spelled (op_of o.now).terminal (op_of o.now).text))
+head_at (head.Infix w) = head_named [] w.now
+head_at (head.Equality same) = head_equality same
+head_at head.Other = head_other
+
+-- ---- answers
+-- it tells the first fault, or that there is none; want of memory tells nothing
+abbrev pub Tells : Result Unit NamingFault → Option NamingFault → Type 0
+Tells (Ok v) f = f ≡ None
+Tells (Err Memory) f = Unit {0}
+Tells (Err g) f = f ≡ Some g

@@ -1,0 +1,59 @@
+//! The names of expressions, patterns and types: their first fault in reading order.
+//! It depends on the surface trees and on signatures; the walk that makes trees depends on it.
+#![tactic(auto)]
+
+mod bound;
+mod names;
+mod operators;
+mod patterns;
+mod triggers;
+mod type_names;
+mod world;
+
+ghost use Rattle.std.specs.Prelude.{◌≡◌};
+
+pub use bound::Names;
+pub use names::{check, let_name};
+pub use operators::{Operation, infix_operation, own_name, prefix_operator};
+pub use patterns::{check_pattern, check_patterns};
+use std::alloc::{AllocError, AllocFailed};
+pub use triggers::{Trigger, TriggerHead, names_predicate, trigger_of};
+pub use type_names::check_form;
+pub use world::{TupleName, World, variable_named};
+
+/// What is wrong with the names of a declaration.
+#[derive(Clone, Copy, Debug, PartialEq, Eq)]
+pub enum NamingFault {
+    /// Memory is wanting.
+    Memory,
+    /// A name or type variable isn't there.
+    Unknown { token: usize },
+    /// A name is made twice, in one table of one scope, in one list of parameters or in one pattern.
+    Duplicate { token: usize },
+    /// A term stands for a formula or the other way round, or alternatives bind different names.
+    WrongKind { token: usize },
+    /// A symbol, constructor or type has another number of arguments.
+    Arity { token: usize },
+}
+
+impl From<AllocError> for NamingFault {
+    ghost use Rattle.std.specs.Prelude.{◌≡◌};
+    ghost use Rattle.elab_names.specs.declared.NamingFault.TheVariants.{Memory as NoMemory};
+
+    ghost from_gives = { λ _ e. e ≡ NoMemory };
+
+    fn from(_: AllocError) -> Self {
+        NamingFault::Memory
+    }
+}
+
+impl<T: Drop> From<AllocFailed<T>> for NamingFault {
+    ghost use Rattle.std.specs.Prelude.{◌≡◌};
+    ghost use Rattle.elab_names.specs.declared.NamingFault.TheVariants.{Memory as NoMemory};
+
+    ghost from_gives = { λ _ e. e ≡ NoMemory };
+
+    fn from(_: AllocFailed<T>) -> Self {
+        NamingFault::Memory
+    }
+}

@@ -1,0 +1,88 @@
+// What names mean where a declaration stands.
+// It depends on signatures and scopes; the walks of names and of trees look names up here.
+ghost use Rattle.std.specs.Prelude.{◌≡◌, ◌<◌, length, IfSome};
+ghost use Rattle.elab_names.specs.Where.{place_of};
+ghost use Rattle.elab_names.specs.Naming.{tuple_among};
+
+use names_space::{Scope, Table, TypeName};
+use outside::Text;
+use tasks::SymbolInfo;
+
+/// The entry of the constructor of the tuples of a width.
+#[derive(Clone, Copy)]
+pub struct TupleName {
+    pub width: usize,
+    pub symbol: usize,
+}
+
+/// The signature, the scopes, the constructors of tuples, and the declaration's type variables by number. Where `new_vars` is
+/// true any other type variable is new, and else it isn't there.
+#[derive(Clone, Copy)]
+pub struct World<'a> {
+    pub symbols: &'a [SymbolInfo],
+    pub scope: &'a Scope,
+    pub tuples: &'a [TupleName],
+    pub vars: &'a [Text],
+    pub new_vars: bool,
+}
+
+fn tuple_among(tuples: &[TupleName], width: usize) -> Option<usize>
+    ensures { result ≡ tuple_among tuples.now width }
+{
+    let (first, rest) = tuples.split_first()?;
+    if first.width == width {
+        Some(first.symbol)
+    } else {
+        tuple_among(rest, width)
+    }
+}
+
+impl World<'_> {
+    ghost use Rattle.std.specs.Prelude.{◌≡◌};
+    ghost use Rattle.elab_names.specs.Naming.{symbol_named, type_named, tuple_among};
+
+    /// The entry for which a symbol's name behind its scopes stands.
+    pub fn symbol_named(&self, scopes: &[Text], name: &[u8]) -> Option<usize>
+        ensures { result ≡ symbol_named self.now.scope.now scopes.now name.now }
+    {
+        self.scope.look_at(Table::Symbols, scopes, name)
+    }
+
+    /// What a type's name behind its scopes stands for. The name `int` without scopes is the type `int` where nothing else
+    /// has it.
+    pub fn type_named(&self, scopes: &[Text], name: &[u8]) -> Option<TypeName>
+        ensures { result ≡ type_named self.now.scope.now scopes.now name.now }
+    {
+        match self.scope.look_type_at(scopes, name) {
+            Some(found) => Some(found),
+            None => {
+                if scopes.is_empty() && name == b"int".as_slice() {
+                    Some(TypeName::Entry(0))
+                } else {
+                    None
+                }
+            }
+        }
+    }
+
+    /// The entry of the constructor of the tuples of a width.
+    pub fn tuple_named(&self, width: usize) -> Option<usize>
+        ensures { result ≡ tuple_among self.now.tuples.now width }
+    {
+        tuple_among(self.tuples, width)
+    }
+}
+
+/// The number of a type variable.
+pub fn variable_named(vars: &[Text], name: &[u8]) -> Option<usize>
+    ensures place { result ≡ place_of name.now vars.now }
+    ensures below { IfSome result (λ k. k < length vars.now) }
+{
+    let (first, rest) = vars.split_first()?;
+    if first.as_slice() == name {
+        Some(0)
+    } else {
+        let place = variable_named(rest, name)?;
+        Some(place + 1)
+    }
+}

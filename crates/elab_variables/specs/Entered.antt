@@ -1,0 +1,6 @@
+-- The type variables and widths in code.
+use Rattle.elab_variables.specs.Seen.{Seen}
+use Rattle.elab_variables.specs.declared.variables.Seen.{Seen as SeenCode}
+
+abbrev pub seen_at : SeenCode → Seen
+seen_at s = record { vars = s.vars; widths = s.widths }
