@@ -8,9 +8,9 @@ use Rattle.tasks.specs.declared.task.Task.{Task}
 use Rattle.tasks.specs.Meaning.{task_at}
 use Rattle.tasks.specs.Valid.{IsValid}
 use Rattle.tasks.proofs.Growth.{task_later, task_held_later}
-use Rattle.kernel.specs.declared.rule.Step.{Step}
-use Rattle.kernel.specs.Rows.{IsRight, AreRight}
-use Rattle.kernel.specs.Meaning.{step_at, steps_at, StepHeld}
+use Rattle.rule_rows.specs.declared.rule.Step.{Step}
+use Rattle.kernel.specs.Right.{IsRight, AreRight}
+use Rattle.rule_rows.specs.Meaning.{step_at, steps_at, StepHeld}
 use Rattle.kernel.proofs.Growth.{right_more, steps_later, steps_held_later}
 use Rattle.evidence.specs.Drafts.{DraftTree, AddsTrees}
 use Rattle.evidence.specs.Inside.{IsDraft}

@@ -1,5 +1,6 @@
 pub mod Kept
 pub mod Typed
 pub mod Rules
+pub mod Moved
 pub mod Lifted
 pub mod Staying

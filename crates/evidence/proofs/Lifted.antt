@@ -14,31 +14,22 @@ use Rattle.tasks.specs.Task.{TaskTree, Proposition, props, neg, start}
 use Rattle.tasks.specs.Valid.{IsValid, IsTypeOver, IsGroundFormula}
 use Rattle.tasks.specs.Meaning.{trees_at, task_at, tasks_at, TaskHeld, TasksHeld}
 use Rattle.tasks.proofs.Growth.{map_agree, trees_later, task_later, task_held_later}
-use Rattle.kernel.specs.declared.rule.Step.{Step}
-use Rattle.kernel.specs.declared.rule.Rule.{Rule}
-use Rattle.kernel.specs.declared.rule.Rule.TheVariants.{Fact}
-use Rattle.kernel.specs.Trees.{RuleTree, RCut, RFact, StepTree, no_step}
-use Rattle.kernel.specs.Rows.{Row, IsRight, AreRight, Closes, step_or, sequents}
-use Rattle.kernel.specs.Meaning.{rule_at, step_at, steps_at, StepsHeld}
+use Rattle.rule_rows.specs.declared.rule.Step.{Step}
+use Rattle.rule_rows.specs.declared.rule.Rule.{Rule}
+use Rattle.rule_rows.specs.declared.rule.Rule.TheVariants.{Fact}
+use Rattle.rule_rows.specs.Trees.{RuleTree, RCut, RFact, StepTree, no_step, step_or, sequents, trees_of, types_of}
+use Rattle.rule_rows.specs.Rows.{Row}
+use Rattle.kernel.specs.Right.{IsRight, AreRight, Closes}
+use Rattle.rule_rows.specs.Meaning.{rule_at, step_at, steps_at, StepsHeld}
 use Rattle.kernel.proofs.Growth.{steps_later, steps_held_later}
 use Rattle.kernel.proofs.Places.{step_or-at}
-use Rattle.kernel.proofs.Sequents.{map_twice}
+use Rattle.rule_rows.proofs.Sequents.{map_twice, All-unmap}
 use Rattle.evidence.specs.Drafts.{DraftTree, Extends, Refutes, cut_step, keep_step}
 use Rattle.evidence.specs.Stages.{HaveSequents, StandFor, EndIn, HasSequents, KeepsDeclared, IsAmong, IsOwn, InStage, IsFact, IsCutBy, PartsClose, PartsHeld, parts_at, part_or, task_or, prop_or, no_proposition, fact_of, no_task, sequent_of, start_of}
 use Rattle.evidence.specs.Languages.{Language, StepIsIn, StepsAreIn}
-use Rattle.evidence.proofs.Typed.{formula_moved, formulas_moved, types_moved, formula_negated}
+use Rattle.evidence.proofs.Typed.{formulas_moved, trees_moved, types_moved, formula_negated}
+use Rattle.evidence.proofs.Moved.{CitesNone, row_other}
 use Rattle.evidence.proofs.Rules.{refutes_later, keep_right, cut_right}
-
--- a rule that cites no fact
-abbrev pub CitesNone : RuleTree → Type 0
-CitesNone (RFact k types) = ⊥
-CitesNone _ = Unit {0}
-
--- such a rule's row is that of a task with the same symbols
-row_other : (t u : TaskTree) (s : List Tree) (r : RuleTree) (ps : List (List Tree)) → KeepsDeclared u t → CitesNone r → Row t s r ps → Row u s r ps
-row_other t u s (RFact k types) ps kept n h = absurd n
-row_other t u s (RCut a) ps kept n h = (formula_moved t u kept a h.0, h.1)
-row_other t u s _ ps kept n h = h
 
 sequents_lifted : (d : DraftTree) (before : List StepTree) (numbers ps : List ℕ) → StandFor d numbers before → All (λ k. k < length before) ps
     → sequents d.steps (map (λ k. get_or numbers k 0) ps) ≡ sequents before ps
@@ -53,8 +44,26 @@ right_lifted d t before st numbers premises kept r n f p =
     let q : sequents d.steps premises ≡ sequents before st.premises = ap (sequents d.steps) p ∙ sequents_lifted d before numbers st.premises f r.earlier in
     let earlier : All (λ k. k < length d.steps) premises =
     rw p (All-map (λ k. k < length d.steps) (λ k. get_or numbers k 0) st.premises (λ i z h. (f.each _ (r.earlier i z h)).within)) in
-    let row : Row d.task st.sequent st.rule (sequents d.steps premises) = rw q (row_other t d.task st.sequent st.rule (sequents before st.premises) kept n r.row) in
-    record { formulas = formulas_moved t d.task kept st.sequent r.formulas; earlier = earlier; row = row }
+    let row : Row d.task st.sequent st.rule (sequents d.steps premises) = rw q (row_other t d.task kept st.sequent st.rule (sequents before st.premises) n r.row) in
+    record {
+      formulas = formulas_moved t d.task kept st.sequent r.formulas;
+      trees = trees_moved t d.task kept (trees_of st.rule) r.trees;
+      types = types_moved t d.task kept (types_of st.rule) r.types;
+      earlier = earlier;
+      row = row;
+    }
+
+-- the formula of a right step that has one, in the store
+pub only_ground : (t : TaskTree) (s : List Tree) (steps : List Step) (all : List StepTree) (n : ℕ) (x : Step) (ids : List TermId) (z : TermId) → steps_at s steps ≡ all → AreRight t all
+    → n < length all → length (step_or all n).sequent ≡ 1 → x ≡ get_or steps n x → ids ≡ x.sequent → IsGroundFormula t (tree_at s (get_or ids 0 z))
+only_ground t s steps all n x ids z e a l one is q =
+    let m : n < length steps = omega (arith, l, ap length e, length-map steps (step_at s)) in
+    let k : step_or all n ≡ step_at s x = ap (λ (w : List StepTree). step_or w n) (sym e) ∙ step_or-at s steps n x is m in
+    let f : All (IsGroundFormula t) (trees_at s x.sequent) = subst (λ (w : StepTree). All (IsGroundFormula t) w.sequent) k (a n l).formulas in
+    let g : All (IsGroundFormula t) (trees_at s ids) = subst (λ (w : List TermId). All (IsGroundFormula t) (trees_at s w)) (sym q) f in
+    let o : length (trees_at s x.sequent) ≡ 1 = ap (λ (w : StepTree). length w.sequent) (sym k) ∙ one in
+    let h : 0 < length ids = omega (arith, o, length-map x.sequent (tree_at s), ap length q) in
+    All-unmap (IsGroundFormula t) (tree_at s) ids g 0 z h
 
 one_premise : (before : List StepTree) (ps : List ℕ) (q : List Tree) → sequents before ps ≡ q ∷ [] → (p : ℕ) × ((ps ≡ p ∷ []) × ((step_or before p).sequent ≡ q))
 one_premise before [] q e = absurd (cc)
@@ -75,13 +84,13 @@ pub cites : (d : DraftTree) (t : TaskTree) (before : List StepTree) (st : StepTr
     → IsRight t before st → st.rule ≡ RFact k types → StandFor d numbers before → premises ≡ map (λ k. get_or numbers k 0) st.premises
     → Cites d t st.sequent k types premises
 cites d t before st k types numbers premises kept r e f p =
-    let P : Proposition → Type 0 = λ a. (length types ≡ a.vars) × All (IsTypeOver t 0) types × (sequents before st.premises ≡ (st.sequent ++ inst_types a.formula types ∷ []) ∷ []) in
+    let P : Proposition → Type 0 = λ a. (length types ≡ a.vars) × (sequents before st.premises ≡ (st.sequent ++ inst_types a.formula types ∷ []) ∷ []) in
     let row : IsSomeAnd (slice_get (props t) k) P = subst (λ (z : RuleTree). Row t st.sequent z (sequents before st.premises)) e r.row in
     let g = some_of (slice_get (props t) k) P row in
     let a : prop_or (props t) k ≡ g.0 = get_or_from_slice_get (props t) k g.0 no_proposition g.1.0 in
     let F : Tree = fact_of t k types in
     let same : F ≡ inst_types g.0.formula types = ap (λ (z : Proposition). inst_types z.formula types) a in
-    let o = one_premise before st.premises (st.sequent ++ inst_types g.0.formula types ∷ []) g.1.1.2 in
+    let o = one_premise before st.premises (st.sequent ++ inst_types g.0.formula types ∷ []) g.1.1.1 in
     let n : get_or premises 0 0 ≡ get_or numbers o.0 0 = ap (λ (z : List ℕ). get_or z 0 0) (p ∙ ap (map (λ (z : ℕ). get_or numbers z 0)) o.1.0) in
     let one : length premises ≡ 1 = ap length (p ∙ ap (map (λ (z : ℕ). get_or numbers z 0)) o.1.0) in
     let early : o.0 < length before = All-head (λ z. z < length before) o.0 [] (subst (All (λ z. z < length before)) o.1.0 r.earlier) in
@@ -91,7 +100,7 @@ cites d t before st k types numbers premises kept r e f p =
       fact = record {
         place = slice_get_within (props t) k g.0 g.1.0;
         as_many = g.1.1.0 ∙ ap (λ (z : Proposition). z.vars) (sym a);
-        ground = types_moved t d.task kept types g.1.1.1;
+        ground = types_moved t d.task kept types (subst (λ (z : RuleTree). All (IsTypeOver t 0) (types_of z)) e r.types);
       };
       some = omega arith;
       taken = rw n (record { within = stands.within; is = stands.is ∙ q });

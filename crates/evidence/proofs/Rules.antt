@@ -6,10 +6,11 @@ use Rattle.std.proofs.lemmas.Option.{slice_get-get_or}
 use Rattle.std.proofs.Math.Seq.{get_or-append_seam}
 use Rattle.trees.specs.Tree.{Tree, Leaf, HEnd}
 use Rattle.tasks.specs.Task.{neg}
-use Rattle.tasks.specs.Valid.{IsGroundFormula}
-use Rattle.kernel.specs.Trees.{StepTree, no_step}
-use Rattle.kernel.specs.Rows.{IsRight, step_or}
+use Rattle.tasks.specs.Valid.{IsGroundFormula, IsTypeOver}
+use Rattle.rule_rows.specs.Trees.{StepTree, no_step, step_or}
+use Rattle.kernel.specs.Right.{IsRight}
 use Rattle.evidence.specs.Drafts.{DraftTree, Extends, Refutes, cut_step, keep_step}
+use Rattle.evidence.proofs.Typed.{as_expression}
 
 -- a step stays
 pub refutes_later : (a b : DraftTree) → Extends a b → (k : ℕ) (q : List Tree) → Refutes a k q → Refutes b k q
@@ -33,6 +34,8 @@ module _ (d : DraftTree) where
       → IsRight d.task d.steps (keep_step (s ++ n ∷ []) (length s ∷ []) k)
   keep_right s n k a m r = record {
     formulas = All-push (IsGroundFormula d.task) s n a m;
+    trees = tt;
+    types = All-nil (IsTypeOver d.task 0);
     earlier = one_earlier k r.within;
     row = rw (r.is, seam s n) refl;
   }
@@ -41,6 +44,8 @@ module _ (d : DraftTree) where
       → IsRight d.task d.steps (cut_step s a j k)
   cut_right s a j k m f r q = record {
     formulas = m;
+    trees = (as_expression d.task a f, tt);
+    types = All-nil (IsTypeOver d.task 0);
     earlier = All-cons (λ z. z < length d.steps) j (k ∷ []) r.within (one_earlier k q.within);
-    row = (f, rw (r.is, q.is) refl);
+    row = (f.sort, rw (r.is, q.is) refl);
   }

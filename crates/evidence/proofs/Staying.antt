@@ -6,11 +6,10 @@ use Rattle.trees.specs.Tree.{Tree}
 use Rattle.tasks.specs.Task.{TaskTree, neg}
 use Rattle.tasks.specs.Meaning.{trees_at}
 use Rattle.trees.specs.declared.TermId.{TermId}
-use Rattle.kernel.specs.declared.rule.Rule.{Rule}
-use Rattle.kernel.specs.declared.rule.Rule.TheVariants.{Fact}
-use Rattle.kernel.specs.Trees.{StepTree, no_step}
-use Rattle.kernel.specs.Meaning.{rule_at}
-use Rattle.kernel.specs.Rows.{step_or}
+use Rattle.rule_rows.specs.declared.rule.Rule.{Rule}
+use Rattle.rule_rows.specs.declared.rule.Rule.TheVariants.{Fact}
+use Rattle.rule_rows.specs.Trees.{StepTree, no_step, step_or}
+use Rattle.rule_rows.specs.Meaning.{rule_at}
 use Rattle.evidence.specs.Drafts.{DraftTree, Extends, cut_step, keep_step}
 use Rattle.evidence.specs.Languages.{Language, IsIn, AreIn, RuleIsIn, StepIsIn, StepsAreIn, RespectsNegation, IsLanguageOf, StaysIn}
 

@@ -4,10 +4,13 @@ use Rattle.std.specs.List.{list_any}
 use Rattle.std.proofs.lemmas.List.Elements.{All-weaker}
 use Rattle.trees.specs.Tree.{Tree}
 use Rattle.tasks.specs.Task.{TaskTree, made, neg}
+use Rattle.tasks.specs.Roles.{RoleTree, is_constructor}
 use Rattle.tasks.specs.Vocabulary.{of_task}
 use Rattle.tasks.specs.Valid.{IsGroundFormula, IsTypeOver}
 use Rattle.tasks.proofs.Declared.{contains_step, contains_cases, usable_made, made_usable}
 use Rattle.tasks.proofs.Moved.{IsWithin, typed_within}
+use Rattle.rule_rows.specs.Rows.{IsTemplate}
+use Rattle.kernel.specs.Right.{IsGroundExpression, Each}
 use Rattle.evidence.specs.Stages.{KeepsDeclared}
 
 module _ (t u : TaskTree) (h : KeepsDeclared u t) where
@@ -19,7 +22,7 @@ module _ (t u : TaskTree) (h : KeepsDeclared u t) where
       | inl e ↦ contains_step 0 k (made u.decls) (inl e)
       | inr i ↦ contains_step 0 k (made u.decls) (inr ((h.made k).0 i))
     ]);
-    matched = λ k x. h.constructors k x;
+    matched = λ k x. subst (λ (r : RoleTree). IsTrue (is_constructor r)) (h.roles k) x;
   }
 
   pub formula_moved : (e : Tree) → IsGroundFormula t e → IsGroundFormula u e
@@ -31,9 +34,23 @@ module _ (t u : TaskTree) (h : KeepsDeclared u t) where
   type_moved : (e : Tree) → IsTypeOver t 0 e → IsTypeOver u 0 e
   type_moved e f = record { sort = f.sort; typed = typed_within (of_task t) (of_task u) within [] e f.typed; variables = f.variables }
 
+  expression_moved : (e : Tree) → IsGroundExpression t e → IsGroundExpression u e
+  expression_moved e f = record { sort = f.sort; typed = typed_within (of_task t) (of_task u) within [] e f.typed; ground = f.ground }
+
+  pub trees_moved : (es : List Tree) → Each (IsGroundExpression t) es → Each (IsGroundExpression u) es
+  trees_moved [] a = tt
+  trees_moved (e ∷ es) a = (expression_moved e a.0, trees_moved es a.1)
+
+  pub template_moved : (ty e : Tree) → IsTemplate t ty e → IsTemplate u ty e
+  template_moved ty e f = record { sort = f.sort; typed = typed_within (of_task t) (of_task u) within (ty ∷ []) e f.typed; ground = f.ground }
+
   pub types_moved : (es : List Tree) → All (IsTypeOver t 0) es → All (IsTypeOver u 0) es
   types_moved es a = All-weaker (IsTypeOver t 0) (IsTypeOver u 0) type_moved es a
 
 -- what is negated is a formula
 pub formula_negated : (t : TaskTree) (a : Tree) → IsGroundFormula t (neg a) → IsGroundFormula t a
 formula_negated t a f = record { sort = f.typed.0; typed = f.typed.2; ground = f.ground }
+
+-- a formula is a term or a formula
+pub as_expression : (t : TaskTree) (a : Tree) → IsGroundFormula t a → IsGroundExpression t a
+as_expression t a f = record { sort = inr f.sort; typed = f.typed; ground = f.ground }

@@ -5,9 +5,8 @@ use Rattle.trees.specs.Tree.{Tree}
 use Rattle.trees.specs.Node.{Grows}
 use Rattle.trees.specs.Coding.{trees_code}
 use Rattle.tasks.specs.Task.{TaskTree}
-use Rattle.kernel.specs.Trees.{StepTree, RCut, RKeep}
-use Rattle.kernel.specs.Rows.{step_or}
-use Rattle.kernel.specs.Codes.{steps_code}
+use Rattle.rule_rows.specs.Trees.{StepTree, RCut, RKeep, step_or}
+use Rattle.rule_rows.specs.Codes.{steps_code}
 use Rattle.tasks.specs.Codes.{task_code}
 
 -- the trees of the store, the task and the steps

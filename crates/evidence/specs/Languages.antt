@@ -2,7 +2,7 @@
 use Rattle.std.specs.Prelude.{◌≡◌, ℕ, Bool, List, All, IsTrue}
 use Rattle.trees.specs.Tree.{Tree}
 use Rattle.tasks.specs.Task.{TaskTree, neg}
-use Rattle.kernel.specs.Trees.{RuleTree, RCut, RFact, StepTree}
+use Rattle.rule_rows.specs.Trees.{RuleTree, RClash, RNotNot, RAnd, RNotAnd, RImp, RNotImp, RCut, RKeep, RFact, StepTree}
 use Rattle.evidence.specs.Drafts.{DraftTree}
 use Rattle.evidence.specs.Stages.{IsFact, fact_of}
 
@@ -16,11 +16,18 @@ IsIn p a = IsTrue (p a)
 abbrev pub AreIn : Language → List Tree → Type 0
 AreIn p es = All (IsIn p) es
 
--- the formulas and types that a rule names
+-- the formulas and types that a rule names; so far a language has no step of a rule that no line of a step file writes
 abbrev pub RuleIsIn : Language → RuleTree → Type 0
 RuleIsIn p (RCut a) = IsIn p a
 RuleIsIn p (RFact k types) = AreIn p types
-RuleIsIn p _ = Unit {0}
+RuleIsIn p (RClash i j) = Unit {0}
+RuleIsIn p (RNotNot i) = Unit {0}
+RuleIsIn p (RAnd i) = Unit {0}
+RuleIsIn p (RNotAnd i) = Unit {0}
+RuleIsIn p (RImp i) = Unit {0}
+RuleIsIn p (RNotImp i) = Unit {0}
+RuleIsIn p (RKeep places) = Unit {0}
+RuleIsIn p _ = ⊥
 
 -- a step of formulas and types of the language
 pub record StepIsIn (p : Language) (st : StepTree) : Type 0 where

@@ -1,16 +1,16 @@
 -- What a transformation and a lifted stage promise, in trees.
-use Rattle.std.specs.Prelude.{◌≡◌, ◌↔◌, ℕ, ◌<◌, List, [], ◌∷◌, ◌++◌, length, map, get_or, None, All, Contains, IsTrue}
+use Rattle.std.specs.Prelude.{◌≡◌, ◌↔◌, ℕ, ◌<◌, List, [], ◌∷◌, ◌++◌, length, map, get_or, None, All, Contains}
 use Rattle.trees.specs.Tree.{Tree, Leaf, One, HEnd, HNot}
 use Rattle.trees.specs.Binding.{inst_types}
 use Rattle.tasks.specs.declared.task.Task.{Task}
 use Rattle.tasks.specs.Task.{TaskTree, Proposition, made, props, neg, start}
-use Rattle.tasks.specs.Roles.{role, is_constructor}
+use Rattle.tasks.specs.Roles.{role}
 use Rattle.tasks.specs.Valid.{IsValid, IsTypeOver}
 use Rattle.tasks.specs.Meaning.{task_at, TaskHeld}
-use Rattle.kernel.specs.declared.rule.Step.{Step}
-use Rattle.kernel.specs.Trees.{StepTree}
-use Rattle.kernel.specs.Rows.{Closes, step_or}
-use Rattle.kernel.specs.Meaning.{steps_at, StepsHeld}
+use Rattle.rule_rows.specs.declared.rule.Step.{Step}
+use Rattle.rule_rows.specs.Trees.{StepTree, step_or}
+use Rattle.kernel.specs.Right.{Closes}
+use Rattle.rule_rows.specs.Meaning.{steps_at, StepsHeld}
 use Rattle.evidence.specs.Drafts.{DraftTree, Refutes}
 use Rattle.evidence.specs.declared.stage.StageFault.{StageFault}
 use Rattle.evidence.specs.declared.stage.StageFault.TheVariants.{Memory}
@@ -42,12 +42,13 @@ pub record IsFact (from t : TaskTree) (k : ℕ) (types : List Tree) : Type 0 whe
   pub as_many : length types ≡ (prop_or (props t) k).vars
   pub ground : All (IsTypeOver from 0) types
 
--- the task has the symbols of the other, declares the same ones, and has no constructor that the other lacks
+-- the task has the symbols of the other, declares the same ones, each as the same
 pub record KeepsDeclared (from t : TaskTree) : Type 0 where
   pub symbols : t.symbols ≡ from.symbols
+  pub ints : t.ints ≡ from.ints
   pub rigid : t.rigid ≡ from.rigid
   pub made : (k : ℕ) → Contains (made t.decls) k ↔ Contains (made from.decls) k
-  pub constructors : (k : ℕ) → IsTrue (is_constructor (role t k)) → IsTrue (is_constructor (role from k))
+  pub roles : (k : ℕ) → role t k ≡ role from k
 
 -- a task is one of those of an equation
 pub record IsAmong (is_stage : List TaskTree → Type 0) (t : TaskTree) : Type 0 where

@@ -4,13 +4,13 @@ ghost use Rattle.std.specs.Prelude.{◌≡◌, [], ◌∷◌, ◌++◌, length, 
 ghost use Rattle.trees.specs.Node.{tree_at, Holds};
 ghost use Rattle.tasks.specs.Meaning.{trees_at, task_at, TaskHeld};
 ghost use Rattle.tasks.specs.Valid.{IsValid};
-ghost use Rattle.kernel.specs.Rows.{IsRight, AreRight};
-ghost use Rattle.kernel.specs.Meaning.{step_at, steps_at, StepHeld, StepsHeld};
+ghost use Rattle.kernel.specs.Right.{IsRight, AreRight};
+ghost use Rattle.rule_rows.specs.Meaning.{step_at, steps_at, StepHeld, StepsHeld};
 ghost use Rattle.evidence.specs.Drafts.{Extends, AddsTrees, Refutes, cut_step, keep_step};
 ghost use Rattle.evidence.specs.Laws.{AddsTrees_refl, AddsTrees_trans, AddsTrees_trees};
 
-use kernel::{Rule, Step};
 use outside::Seq;
+use rule_rows::{Rule, Step};
 use std::alloc::{AllocError, Global};
 use std::marker::Model;
 use std::rc::Rc;
@@ -35,7 +35,7 @@ impl Model for Draft {
     ghost coded = { draft_code };
 
     ghost use Rattle.tasks.specs.Meaning.{task_at};
-    ghost use Rattle.kernel.specs.Meaning.{steps_at};
+    ghost use Rattle.rule_rows.specs.Meaning.{steps_at};
     ghost use Rattle.evidence.specs.Inside.{IsDraft};
 
     ghost view = { λ a. record { trees = a.store; task = task_at a.store a.task.value; steps = steps_at a.store a.steps.items } };

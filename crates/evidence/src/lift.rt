@@ -5,15 +5,16 @@ ghost use Rattle.trees.specs.Node.{tree_at, Holds};
 ghost use Rattle.tasks.specs.Task.{neg, start};
 ghost use Rattle.tasks.specs.Valid.{IsGroundFormula};
 ghost use Rattle.tasks.specs.Meaning.{trees_at, task_at, tasks_at, TasksHeld};
-ghost use Rattle.kernel.specs.Rows.{IsRight, AreRight, Closes, step_or};
-ghost use Rattle.kernel.specs.Meaning.{step_at, steps_at, StepHeld, StepsHeld};
+ghost use Rattle.rule_rows.specs.Trees.{step_or};
+ghost use Rattle.kernel.specs.Right.{IsRight, AreRight, Closes};
+ghost use Rattle.rule_rows.specs.Meaning.{step_at, steps_at, StepHeld, StepsHeld};
 ghost use Rattle.evidence.specs.Drafts.{Extends, Refutes};
 ghost use Rattle.evidence.specs.Stages.{IsNegation, IsOwn, InStage, StandFor, HasSequents, IsCutBy, parts_at, PartsHeld, PartsClose};
 ghost use Rattle.evidence.specs.Languages.{AreIn, StepIsIn, StepsAreIn, RespectsNegation, IsLanguageOf, StaysIn};
 
 use crate::{Draft, Transform};
-use kernel::{Rule, Step};
 use outside::Seq;
+use rule_rows::{Rule, Step};
 use std::alloc::{AllocError, Global};
 use tasks::Task;
 use term_store::Grow;
@@ -24,15 +25,45 @@ fn copy_of(rule: &Rule) -> Result<Rule, AllocError>
     ensures { IfOk result (λ r. r ≡ rule.now) }
 {
     Ok(match rule {
+        Rule::Linear(uses) => Rule::Linear(uses.clone()?),
+        Rule::Keep(places) => Rule::Keep(places.clone()?),
+        Rule::Fact(k, types) => Rule::Fact(*k, types.clone()?),
+        Rule::Def(k, types) => Rule::Def(*k, types.clone()?),
+        Rule::Clause(k, c, types) => Rule::Clause(*k, *c, types.clone()?),
+        Rule::Inv(k, types) => Rule::Inv(*k, types.clone()?),
+        Rule::False(i) => Rule::False(*i),
+        Rule::NotTrue(i) => Rule::NotTrue(*i),
         Rule::Clash(i, j) => Rule::Clash(*i, *j),
+        Rule::Irrefl(i) => Rule::Irrefl(*i),
+        Rule::Distinct(i) => Rule::Distinct(*i),
         Rule::NotNot(i) => Rule::NotNot(*i),
         Rule::And(i) => Rule::And(*i),
         Rule::NotAnd(i) => Rule::NotAnd(*i),
+        Rule::AndThen(i) => Rule::AndThen(*i),
+        Rule::NotAndThen(i) => Rule::NotAndThen(*i),
+        Rule::Or(i) => Rule::Or(*i),
+        Rule::NotOr(i) => Rule::NotOr(*i),
+        Rule::OrElse(i) => Rule::OrElse(*i),
+        Rule::NotOrElse(i) => Rule::NotOrElse(*i),
         Rule::Imp(i) => Rule::Imp(*i),
         Rule::NotImp(i) => Rule::NotImp(*i),
-        Rule::Cut(a) => Rule::Cut(*a),
-        Rule::Keep(places) => Rule::Keep(places.clone()?),
-        Rule::Fact(k, types) => Rule::Fact(*k, types.clone()?),
+        Rule::Iff(i) => Rule::Iff(*i),
+        Rule::NotIff(i) => Rule::NotIff(*i),
+        Rule::Forall(i, j) => Rule::Forall(*i, *j),
+        Rule::NotForall(i, j) => Rule::NotForall(*i, *j),
+        Rule::Exists(i, j) => Rule::Exists(*i, *j),
+        Rule::NotExists(i, j) => Rule::NotExists(*i, *j),
+        Rule::Cut(i) => Rule::Cut(*i),
+        Rule::Refl(i) => Rule::Refl(*i),
+        Rule::Replace(i, j, e) => Rule::Replace(*i, *j, *e),
+        Rule::LetDef(i) => Rule::LetDef(*i),
+        Rule::IfDef(i) => Rule::IfDef(*i),
+        Rule::MatchDef(i) => Rule::MatchDef(*i),
+        Rule::Case(i) => Rule::Case(*i),
+        Rule::Inject(i) => Rule::Inject(*i),
+        Rule::Project(i) => Rule::Project(*i),
+        Rule::Trichotomy(i, j) => Rule::Trichotomy(*i, *j),
+        Rule::Bound(i, j) => Rule::Bound(*i, *j),
     })
 }
 

@@ -8,22 +8,50 @@ use Rattle.trees.specs.Node.{Grows}
 use Rattle.tasks.specs.Task.{TaskTree}
 use Rattle.tasks.specs.Meaning.{trees_at}
 use Rattle.tasks.proofs.Growth.{map_agree, held_later, all_held_later, trees_later}
-use Rattle.kernel.specs.declared.rule.Step.{Step}
-use Rattle.kernel.specs.declared.rule.Rule.{Rule}
-use Rattle.kernel.specs.declared.rule.Rule.TheVariants.{Cut, Fact}
-use Rattle.kernel.specs.Trees.{RuleTree, RCut, RFact, StepTree, no_step}
-use Rattle.kernel.specs.Rows.{IsRight, AreRight, step_or}
-use Rattle.kernel.specs.Meaning.{rule_at, step_at, steps_at, RuleHeld, StepHeld, StepsHeld}
+use Rattle.rule_rows.specs.declared.rule.Step.{Step}
+use Rattle.rule_rows.specs.declared.rule.Rule.{Rule}
+use Rattle.rule_rows.specs.declared.rule.Rule.TheVariants.{Forall, NotExists, Cut, Refl, Replace, LetDef, IfDef, MatchDef, Fact, Def, Clause, Inv, Case, Project, Trichotomy, Bound}
+use Rattle.rule_rows.specs.Trees.{RuleTree, RForall, RNotExists, RCut, RRefl, RReplace, RLetDef, RIfDef, RMatchDef, RFact, RDef, RClause, RInv, RCase, RProject, RBound, StepTree, no_step, step_or}
+use Rattle.kernel.specs.Right.{IsRight, AreRight}
+use Rattle.rule_rows.specs.Meaning.{rule_at, step_at, steps_at, RuleHeld, StepHeld, StepsHeld}
 
 module _ (s s' : List Tree) (g : Grows s s') where
   pub rule_held_later : (r : Rule) → RuleHeld s r → RuleHeld s' r
-  rule_held_later (Cut a) h = held_later s s' g a h
+  rule_held_later (Forall i e) h = held_later s s' g e h
+  rule_held_later (NotExists i e) h = held_later s s' g e h
+  rule_held_later (Cut e) h = held_later s s' g e h
+  rule_held_later (Refl e) h = held_later s s' g e h
+  rule_held_later (Replace i j e) h = held_later s s' g e h
+  rule_held_later (LetDef e) h = held_later s s' g e h
+  rule_held_later (IfDef e) h = held_later s s' g e h
+  rule_held_later (MatchDef e) h = held_later s s' g e h
   rule_held_later (Fact k types) h = all_held_later s s' g types h
+  rule_held_later (Def k types) h = all_held_later s s' g types h
+  rule_held_later (Clause k c types) h = all_held_later s s' g types h
+  rule_held_later (Inv k types) h = all_held_later s s' g types h
+  rule_held_later (Case e) h = held_later s s' g e h
+  rule_held_later (Project e) h = held_later s s' g e h
+  rule_held_later (Trichotomy a b) h = (held_later s s' g a h.0, held_later s s' g b h.1)
+  rule_held_later (Bound e n) h = held_later s s' g e h
   rule_held_later _ h = tt
 
   pub rule_later : (r : Rule) → RuleHeld s r → rule_at s' r ≡ rule_at s r
-  rule_later (Cut a) h = ap RCut (g.same a.0 h)
-  rule_later (Fact k types) h = ap (RFact k) (trees_later s s' g types h)
+  rule_later (Forall i e) h = ap (λ (x : Tree). RForall i x) (g.same e.0 h)
+  rule_later (NotExists i e) h = ap (λ (x : Tree). RNotExists i x) (g.same e.0 h)
+  rule_later (Cut e) h = ap RCut (g.same e.0 h)
+  rule_later (Refl e) h = ap RRefl (g.same e.0 h)
+  rule_later (Replace i j e) h = ap (λ (x : Tree). RReplace i j x) (g.same e.0 h)
+  rule_later (LetDef e) h = ap RLetDef (g.same e.0 h)
+  rule_later (IfDef e) h = ap RIfDef (g.same e.0 h)
+  rule_later (MatchDef e) h = ap RMatchDef (g.same e.0 h)
+  rule_later (Fact k types) h = ap (λ (x : List Tree). RFact k x) (trees_later s s' g types h)
+  rule_later (Def k types) h = ap (λ (x : List Tree). RDef k x) (trees_later s s' g types h)
+  rule_later (Clause k c types) h = ap (λ (x : List Tree). RClause k c x) (trees_later s s' g types h)
+  rule_later (Inv k types) h = ap (λ (x : List Tree). RInv k x) (trees_later s s' g types h)
+  rule_later (Case e) h = ap RCase (g.same e.0 h)
+  rule_later (Project e) h = ap RProject (g.same e.0 h)
+  rule_later (Trichotomy a b) h = cc (g.same a.0 h.0, g.same b.0 h.1)
+  rule_later (Bound e n) h = ap (λ (x : Tree). RBound x n) (g.same e.0 h)
   rule_later _ h = refl
 
   pub step_held_later : (st : Step) → StepHeld s st → StepHeld s' st

@@ -1,5 +1,2 @@
-pub mod Trees
-pub mod Shapes
-pub mod Rows
-pub mod Meaning
-pub mod Codes
+pub mod Right
+pub mod Open

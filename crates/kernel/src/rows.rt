@@ -1,156 +1,75 @@
-// The table of rules: whether a step's row holds.
-// It stands on the shapes and on what premises add; the checker of a step stands on it.
-ghost use Rattle.std.specs.Prelude.{◌≡◌, ◌↔◌, ◌<◌, length, map, slice_get, Some, All, IsTrue};
-ghost use Rattle.trees.specs.Node.{tree_at, Holds};
-ghost use Rattle.tasks.specs.Valid.{IsTypeOver};
-ghost use Rattle.tasks.specs.Meaning.{trees_at, task_at, TaskHeld};
-ghost use Rattle.kernel.specs.Rows.{Row, sequents};
-ghost use Rattle.kernel.specs.Meaning.{rule_at, steps_at, StepHeld, StepsHeld};
+// The table of rules: whether a rule's row holds.
+// It stands on the rows; the checker of a step stands on it.
+ghost use Rattle.std.specs.Prelude.{◌↔◌, IsTrue};
+ghost use Rattle.rule_rows.specs.Trees.{trees_of};
+ghost use Rattle.rule_rows.specs.Meaning.{task_of, rule_at, RuleHeld, TriedHeld, RowOf};
+ghost use Rattle.kernel.specs.Open.{EachClosed, TemplateIsOpen};
 
-use crate::added::{Added, one, two};
-use crate::shapes::{conjuncts, formula, implication, negated};
-use crate::{Rule, Step};
-use tasks::{Task, nth_proposition};
-use term_store::Store;
-use trees::TermId;
-use typing::{is_ground_formula, is_ground_type};
+use fact_rows::{bound, clause, def, fact, inv, linear, trichotomy};
+use rule_rows::{
+    Rule, Tried, at_new, at_term, clash, cut, existential, failing, formula_at, holding, if_def,
+    irrefl, is_false, keep, let_def, negated, not_not, not_true, refl, replace, universal,
+};
+use term_rows::{case, distinct, inject, match_def, project};
+use trees::Op;
 
-// Whether a formula stands at a place.
-fn is_at(store: &Store, sequent: &[TermId], place: usize, id: TermId) -> bool
-    requires held { Holds store.now id }
-    requires sequent_held { All (Holds store.now) sequent.now }
-    ensures { IsTrue result ↔ (Some (tree_at store.now id) ≡ slice_get (trees_at store.now sequent.now) place) }
+// Whether the row of a rule holds.
+pub(crate) fn row_holds<'a>(x: &'a Tried<'a>, rule: &'a Rule) -> bool
+    requires tried { TriedHeld x.now }
+    requires held { RuleHeld x.now.store.now rule.now }
+    requires closed { EachClosed (trees_of (rule_at x.now.store.now rule.now)) }
+    requires template { TemplateIsOpen (task_of x.now) (rule_at x.now.store.now rule.now) }
+    ensures { IsTrue result ↔ RowOf x.now (rule_at x.now.store.now rule.now) }
 {
-    match formula(store, sequent, place) {
-        Some(other) => store.same(id, other),
-        None => false,
-    }
-}
-
-// Whether a sequent is the formulas at these places.
-fn are_kept(store: &Store, sequent: &[TermId], places: &[usize], premise: &[TermId]) -> bool
-    requires premise_held { All (Holds store.now) premise.now }
-    requires sequent_held { All (Holds store.now) sequent.now }
-    ensures { IsTrue result ↔ (map Some (trees_at store.now premise.now) ≡ map (slice_get (trees_at store.now sequent.now)) places.now) }
-{
-    if premise.len() != places.len() {
-        return false;
-    }
-    for i in 0..premise.len() {
-        if !is_at(store, sequent, places[i], premise[i]) {
-            return false;
-        }
-    }
-    true
-}
-
-// Whether each tree is a type of the task without schematic type variables.
-fn are_ground_types(store: &Store, task: &Task, types: &[TermId]) -> bool
-    requires task_held { TaskHeld store.now task.now }
-    requires held { All (Holds store.now) types.now }
-    ensures { IsTrue result ↔ All (IsTypeOver (task_at store.now task.now) 0) (trees_at store.now types.now) }
-{
-    for ty in types {
-        if !is_ground_type(store, task, *ty) {
-            return false;
-        }
-    }
-    true
-}
-
-// Whether a step's row of the table holds.
-pub(crate) fn row_holds(store: &Store, task: &Task, before: &[Step], step: &Step) -> bool
-    requires task_held { TaskHeld store.now task.now }
-    requires before_held { StepsHeld store.now before.now }
-    requires step_held { StepHeld store.now step.now }
-    requires earlier { All (λ k. k < length before.now) step.now.premises }
-    ensures { IsTrue result ↔ Row (task_at store.now task.now) (trees_at store.now step.now.sequent) (rule_at store.now step.now.rule) (sequents (steps_at store.now before.now) step.now.premises) }
-{
-    let sequent = step.sequent.as_slice();
-    let premises = step.premises.as_slice();
-    match &step.rule {
-        Rule::Clash(i, j) => {
-            match (
-                formula(store, sequent, *i),
-                negated(store, formula(store, sequent, *j)),
-            ) {
-                (Some(a), Some(b)) => store.same(a, b) && premises.is_empty(),
-                _ => false,
-            }
-        },
-        Rule::NotNot(i) => match negated(store, negated(store, formula(store, sequent, *i))) {
-            Some(a) => one(store, before, sequent, premises, &[Added::Same(a)]),
-            None => false,
-        },
-        Rule::And(i) => match conjuncts(store, formula(store, sequent, *i)) {
-            Some((a, b)) => one(
-                store,
-                before,
-                sequent,
-                premises,
-                &[Added::Same(a), Added::Same(b)],
-            ),
-            None => false,
-        },
-        Rule::NotAnd(i) => match conjuncts(store, negated(store, formula(store, sequent, *i))) {
-            Some((a, b)) => two(
-                store,
-                before,
-                sequent,
-                premises,
-                &[Added::Not(a)],
-                &[Added::Not(b)],
-            ),
-            None => false,
-        },
-        Rule::Imp(i) => match implication(store, formula(store, sequent, *i)) {
-            Some((a, b)) => two(
-                store,
-                before,
-                sequent,
-                premises,
-                &[Added::Not(a)],
-                &[Added::Same(b)],
-            ),
-            None => false,
-        },
-        Rule::NotImp(i) => match implication(store, negated(store, formula(store, sequent, *i))) {
-            Some((a, b)) => one(
-                store,
-                before,
-                sequent,
-                premises,
-                &[Added::Same(a), Added::Not(b)],
-            ),
-            None => false,
-        },
-        Rule::Cut(a) => is_ground_formula(store, task, *a)
-            && two(
-                store,
-                before,
-                sequent,
-                premises,
-                &[Added::Same(*a)],
-                &[Added::Not(*a)],
-            ),
-        Rule::Keep(places) => premises.len() == 1
-            && are_kept(
-                store,
-                sequent,
-                places.as_slice(),
-                before[premises[0]].sequent.as_slice(),
-            ),
-        Rule::Fact(k, types) => match nth_proposition(store, task, *k) {
-            Some(said) => types.len() == said.vars
-                && are_ground_types(store, task, types.as_slice())
-                && one(
-                    store,
-                    before,
-                    sequent,
-                    premises,
-                    &[Added::Instance(said.formula, types.as_slice())],
-                ),
-            None => false,
-        },
+    match rule {
+        Rule::False(i) => is_false(x, *i),
+        Rule::NotTrue(i) => not_true(x, *i),
+        Rule::Clash(i, j) => clash(x, *i, *j),
+        Rule::Irrefl(i) => irrefl(x, *i),
+        Rule::Distinct(i) => distinct(x, *i),
+        Rule::Linear(uses) => linear(x, uses.as_slice()),
+        Rule::NotNot(i) => not_not(x, *i),
+        Rule::And(i) => holding(x, Op::And, formula_at(x, *i)),
+        Rule::NotAnd(i) => failing(x, Op::And, negated(x.store, formula_at(x, *i))),
+        Rule::AndThen(i) => holding(x, Op::AndThen, formula_at(x, *i)),
+        Rule::NotAndThen(i) => failing(x, Op::AndThen, negated(x.store, formula_at(x, *i))),
+        Rule::Or(i) => holding(x, Op::Or, formula_at(x, *i)),
+        Rule::NotOr(i) => failing(x, Op::Or, negated(x.store, formula_at(x, *i))),
+        Rule::OrElse(i) => holding(x, Op::OrElse, formula_at(x, *i)),
+        Rule::NotOrElse(i) => failing(x, Op::OrElse, negated(x.store, formula_at(x, *i))),
+        Rule::Imp(i) => holding(x, Op::Imp, formula_at(x, *i)),
+        Rule::NotImp(i) => failing(x, Op::Imp, negated(x.store, formula_at(x, *i))),
+        Rule::Iff(i) => holding(x, Op::Iff, formula_at(x, *i)),
+        Rule::NotIff(i) => failing(x, Op::Iff, negated(x.store, formula_at(x, *i))),
+        Rule::Forall(i, t) => at_term(x, universal(x.store, formula_at(x, *i)), *t, true),
+        Rule::NotForall(i, n) => at_new(
+            x,
+            universal(x.store, negated(x.store, formula_at(x, *i))),
+            *n,
+            false,
+        ),
+        Rule::Exists(i, n) => at_new(x, existential(x.store, formula_at(x, *i)), *n, true),
+        Rule::NotExists(i, t) => at_term(
+            x,
+            existential(x.store, negated(x.store, formula_at(x, *i))),
+            *t,
+            false,
+        ),
+        Rule::Cut(a) => cut(x, *a),
+        Rule::Keep(places) => keep(x, places.as_slice()),
+        Rule::Refl(t) => refl(x, *t),
+        Rule::Replace(i, j, e) => replace(x, *i, *j, *e),
+        Rule::LetDef(e) => let_def(x, *e),
+        Rule::IfDef(e) => if_def(x, *e),
+        Rule::MatchDef(e) => match_def(x, *e),
+        Rule::Fact(k, types) => fact(x, *k, types.as_slice()),
+        Rule::Def(k, types) => def(x, *k, types.as_slice()),
+        Rule::Clause(k, c, types) => clause(x, *k, *c, types.as_slice()),
+        Rule::Inv(k, types) => inv(x, *k, types.as_slice()),
+        Rule::Case(t) => case(x, *t),
+        Rule::Inject(i) => inject(x, *i),
+        Rule::Project(e) => project(x, *e),
+        Rule::Trichotomy(a, b) => trichotomy(x, *a, *b),
+        Rule::Bound(t, n) => bound(x, *t, *n),
     }
 }

@@ -3,32 +3,19 @@
 ghost use Rattle.std.specs.Prelude.{◌≡◌, ◌↔◌, ◌<◌, length, take, All, IsTrue, IfSome, IfNone};
 ghost use Rattle.trees.specs.Node.{Holds};
 ghost use Rattle.tasks.specs.Task.{start};
-ghost use Rattle.tasks.specs.Valid.{IsGroundFormula};
 ghost use Rattle.tasks.specs.Meaning.{trees_at, task_at, TaskHeld};
-ghost use Rattle.kernel.specs.Rows.{IsRight, Closes, IsWrongAt, step_or, last_starts};
-ghost use Rattle.kernel.specs.Meaning.{step_at, steps_at, StepHeld, StepsHeld};
+ghost use Rattle.tasks.specs.Looking.{LookupHeld};
+ghost use Rattle.rule_rows.specs.Trees.{step_or};
+ghost use Rattle.rule_rows.specs.Meaning.{step_at, steps_at, StepHeld, StepsHeld};
+ghost use Rattle.kernel.specs.Right.{IsRight, Closes, IsWrongAt, last_starts};
+ghost use Rattle.kernel.specs.Open.{StepIsOpen};
 
-use crate::Step;
-use crate::added::{Added, is_extended};
 use crate::rows::row_holds;
-use tasks::Task;
+use crate::typed::{are_sentences, are_types, names_right, step_is_open, types_in};
+use rule_rows::{Not, Step, Tried, is_wider};
+use tasks::{Lookup, Task};
 use term_store::Store;
 use trees::TermId;
-use typing::is_ground_formula;
-
-// Whether each formula of a sequent is closed, typed in the task and free of schematic types.
-fn all_ground_formulas(store: &Store, task: &Task, sequent: &[TermId]) -> bool
-    requires task_held { TaskHeld store.now task.now }
-    requires held { All (Holds store.now) sequent.now }
-    ensures { IsTrue result ↔ All (IsGroundFormula (task_at store.now task.now)) (trees_at store.now sequent.now) }
-{
-    for formula in sequent {
-        if !is_ground_formula(store, task, *formula) {
-            return false;
-        }
-    }
-    true
-}
 
 // Whether the premises are earlier steps.
 fn all_earlier(premises: &[usize], count: usize) -> bool
@@ -42,16 +29,53 @@ fn all_earlier(premises: &[usize], count: usize) -> bool
     true
 }
 
+/// Whether a step is right for a task, over the steps before it, where its trees are known to be typed as far as they stand.
+#[tactic(auto, using(crate::proofs::Complete::each_closed, crate::proofs::Complete::types_named))]
+pub fn right_typed_step(store: &Store, look: &Lookup<'_>, before: &[Step], step: &Step) -> bool
+    requires look_held { LookupHeld store.now look.now }
+    requires before_held { StepsHeld store.now before.now }
+    requires step_held { StepHeld store.now step.now }
+    requires typed { StepIsOpen (task_at store.now look.now.task.now) store.now step.now }
+    ensures { IsTrue result ↔ IsRight (task_at store.now look.now.task.now) (steps_at store.now before.now) (step_at store.now step.now) }
+{
+    let task = look.task;
+    let sequent = step.sequent.as_slice();
+    let premises = step.premises.as_slice();
+    if !are_sentences(store, task, sequent) {
+        return false;
+    }
+    if !names_right(store, task, &step.rule) {
+        return false;
+    }
+    if !are_types(store, task, types_in(&step.rule)) {
+        return false;
+    }
+    if !all_earlier(premises, before.len()) {
+        return false;
+    }
+    let tried = Tried {
+        store,
+        look,
+        sequent,
+        before,
+        premises,
+    };
+    row_holds(&tried, &step.rule)
+}
+
 /// Whether a step is right for a task, over the steps before it.
+#[tactic(auto, using(crate::proofs::Complete::right_open))]
 pub fn right_step(store: &Store, task: &Task, before: &[Step], step: &Step) -> bool
     requires task_held { TaskHeld store.now task.now }
     requires before_held { StepsHeld store.now before.now }
     requires step_held { StepHeld store.now step.now }
     ensures { IsTrue result ↔ IsRight (task_at store.now task.now) (steps_at store.now before.now) (step_at store.now step.now) }
 {
-    all_ground_formulas(store, task, step.sequent.as_slice())
-        && all_earlier(step.premises.as_slice(), before.len())
-        && row_holds(store, task, before, step)
+    if !step_is_open(store, task, step) {
+        return false;
+    }
+    let look = Lookup::without_index(task);
+    right_typed_step(store, &look, before, step)
 }
 
 // Whether a step of a list is right.
@@ -70,12 +94,7 @@ fn is_start(store: &Store, task: &Task, sequent: &[TermId]) -> bool
     requires sequent_held { All (Holds store.now) sequent.now }
     ensures { IsTrue result ↔ (trees_at store.now sequent.now ≡ start (task_at store.now task.now)) }
 {
-    is_extended(
-        store,
-        sequent,
-        task.locals.as_slice(),
-        &[Added::Not(task.goal)],
-    )
+    is_wider(store, sequent, task.locals.as_slice(), &Not(task.goal))
 }
 
 /// Whether there is a last step and its sequent is the task's start. Right steps derive the task where this holds.

@@ -1,6 +1,10 @@
-//! Tests of the checker: steps over a small task, and derivations.
+//! Tests of the checker: each rule once right and, for each of its conditions, once wrong, and derivations.
 //! It stands on the kernel; nothing stands on it.
 #![tactic(auto)]
 
 #[cfg(test)]
-mod tables;
+mod nodes;
+#[cfg(test)]
+mod rows;
+#[cfg(test)]
+mod small;

@@ -2,7 +2,7 @@
 use Rattle.std.proofs.Common.{◌≡◌, ◌+◌, ◌∙◌, ℕ, zero, suc, min, List, [], ◌∷◌, Option, Some, None, Result, Ok, Err, IsSomeAnd, arith, sym, ap, refl}
 use Rattle.outside.specs.State.{LibraryState}
 use Rattle.tasks.specs.Task.{TaskTree}
-use Rattle.kernel.specs.Trees.{StepTree}
+use Rattle.rule_rows.specs.Trees.{StepTree}
 use Rattle.problems.specs.declared.names.NameEntry.{NameEntry}
 use Rattle.steps_text.specs.Words.{lines_of}
 use Rattle.steps_text.specs.Lines.{Reading, nothing_read, thing_of, IsGood, after, AreRead, IsWrongLine, StepsOf, FirstWrong}

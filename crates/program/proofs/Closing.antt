@@ -12,10 +12,10 @@ use Rattle.tasks.specs.Task.{TaskTree, start}
 use Rattle.tasks.specs.Meaning.{trees_at, task_at, TaskHeld}
 use Rattle.tasks.proofs.Growth.{task_later}
 use Rattle.tasks.specs.Valid.{IsGroundFormula}
-use Rattle.kernel.specs.Trees.{StepTree, RKeep, no_step}
-use Rattle.kernel.specs.declared.rule.Step.{Step}
-use Rattle.kernel.specs.Meaning.{step_at, steps_at}
-use Rattle.kernel.specs.Rows.{IsRight, AreRight, Closes, last_starts, step_or}
+use Rattle.rule_rows.specs.Trees.{StepTree, RKeep, no_step, step_or}
+use Rattle.rule_rows.specs.declared.rule.Step.{Step}
+use Rattle.rule_rows.specs.Meaning.{step_at, steps_at}
+use Rattle.kernel.specs.Right.{IsRight, AreRight, Closes, last_starts}
 use Rattle.problems.specs.declared.names.NameEntry.{NameEntry}
 use Rattle.problems.specs.Names.{task_names}
 use Rattle.steps_text.specs.Lines.{StepsOf}

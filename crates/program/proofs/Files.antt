@@ -11,9 +11,9 @@ use Rattle.tasks.specs.declared.task.Task.{Task}
 use Rattle.tasks.specs.Task.{TaskTree}
 use Rattle.tasks.specs.Meaning.{task_at, tasks_at, TaskHeld, TasksHeld}
 use Rattle.tasks.proofs.Growth.{map_agree, task_later, task_held_later}
-use Rattle.kernel.specs.declared.rule.Step.{Step}
-use Rattle.kernel.specs.Trees.{StepTree}
-use Rattle.kernel.specs.Meaning.{steps_at, StepsHeld}
+use Rattle.rule_rows.specs.declared.rule.Step.{Step}
+use Rattle.rule_rows.specs.Trees.{StepTree}
+use Rattle.rule_rows.specs.Meaning.{steps_at, StepsHeld}
 use Rattle.kernel.proofs.Growth.{steps_later, steps_held_later}
 use Rattle.evidence.specs.Stages.{task_or, no_task, parts_at, part_or, PartsHeld}
 use Rattle.problems.specs.Used.{DeclaresEntries}

@@ -3,7 +3,7 @@ use Rattle.std.proofs.Common.{◌≡◌, ◌≢◌, ◌+◌, ◌∙◌, ◌==◌
 use Rattle.std.proofs.lemmas.Bool.Decides.{nat_tests}
 use Rattle.outside.specs.State.{LibraryState}
 use Rattle.tasks.specs.Task.{TaskTree}
-use Rattle.kernel.specs.Trees.{StepTree}
+use Rattle.rule_rows.specs.Trees.{StepTree}
 use Rattle.tr_split.specs.Split.{split_task}
 use Rattle.program.specs.Lifted.{IsLifted}
 use Rattle.program.specs.Answers.{Answers}

@@ -2,7 +2,7 @@
 use Rattle.std.proofs.Common.{◌≡◌, ◌⊎◌, ◌+◌, ◌++◌, ◌∷◌, [], ◌∙◌, ℕ, zero, suc, length, drop, List, Option, Some, None, Result, Ok, Err, inl, inr, refl, sym, ap, subst}
 use Rattle.outside.specs.State.{Files}
 use Rattle.tasks.specs.Task.{TaskTree}
-use Rattle.kernel.specs.Trees.{StepTree}
+use Rattle.rule_rows.specs.Trees.{StepTree}
 use Rattle.evidence.specs.Stages.{task_or}
 use Rattle.tr_split.specs.Split.{split_task}
 use Rattle.problems.specs.Names.{plain_names, task_names}

@@ -9,7 +9,7 @@ use Rattle.trees.specs.Tree.{Tree}
 use Rattle.tasks.specs.declared.signature.SymbolKind.{SymbolKind}
 use Rattle.tasks.specs.declared.signature.SymbolKind.TheVariants.{Predicate}
 use Rattle.tasks.specs.Task.{SymbolTree, TaskTree}
-use Rattle.kernel.specs.Trees.{RuleTree, RClash, RNotNot, RAnd, RNotAnd, RImp, RNotImp, RCut, RKeep, RFact, StepTree}
+use Rattle.rule_rows.specs.Trees.{RuleTree, RClash, RNotNot, RAnd, RNotAnd, RImp, RNotImp, RCut, RKeep, RFact, StepTree}
 use Rattle.problems.specs.declared.names.NameEntry.{NameEntry}
 use Rattle.program.specs.Propositional.{IsPropositional, RuleIsPropositional, StepIsPropositional}
 use Rattle.steps_text.specs.Words.{lines_of, words_of, numbers, before_colon, after_colon}

@@ -10,8 +10,9 @@ use Rattle.tasks.specs.Task.{TaskTree, Proposition, props}
 use Rattle.tasks.specs.Copying.{with_goal}
 use Rattle.tasks.specs.Valid.{IsValid, IsGroundFormula}
 use Rattle.tasks.proofs.TypeInstances.{proposition_at_types}
-use Rattle.kernel.specs.Trees.{RuleTree, RCut, RFact, StepTree, no_step}
-use Rattle.kernel.specs.Rows.{Row, IsRight, AreRight, step_or}
+use Rattle.rule_rows.specs.Trees.{RuleTree, RClash, RNotNot, RAnd, RNotAnd, RImp, RNotImp, RCut, RKeep, RFact, StepTree, no_step, step_or, trees_of}
+use Rattle.rule_rows.specs.Rows.{Row}
+use Rattle.kernel.specs.Right.{IsGroundExpression, Each, IsRight, AreRight}
 use Rattle.problems.specs.Names.{task_names}
 use Rattle.evidence.specs.Drafts.{DraftTree}
 use Rattle.evidence.specs.Stages.{IsFact, fact_of, prop_or, no_proposition, KeepsDeclared, task_or, no_task, part_or}
@@ -19,7 +20,7 @@ use Rattle.evidence.specs.Languages.{Language, AreIn, RuleIsIn, StepIsIn, StepsA
 use Rattle.evidence.proofs.Typed.{formula_moved}
 use Rattle.tr_split.specs.Split.{split, split_task}
 use Rattle.tr_split.specs.Glue.{HasSides}
-use Rattle.steps_text.specs.Writing.{is_writable, IsWritable, rule_formulas, HasNoTypes, IsWritableStep, AreWritable}
+use Rattle.steps_text.specs.Writing.{is_writable, IsWritable, rule_formulas, HasWord, IsWritableStep, AreWritable}
 use Rattle.program.specs.Propositional.{IsPropositional, RuleIsPropositional, StepIsPropositional}
 use Rattle.program.specs.Fragment.{IsInFragment}
 use Rattle.program.specs.Lifted.{IsRefutation, AreRefuted}
@@ -53,12 +54,20 @@ fact_types t u s k types ps f e w =
     let all : All P (props u) = subst (All P) (sym e) f.formulas.props in
     some_with (slice_get (props u) k) P _ (types ≡ []) (got_all P (props u) k all) w (λ p h q. no_length types (q.0 ∙ h.0))
 
-rule_types : (t : TaskTree) (s : List Tree) (r : RuleTree) (ps : List (List Tree)) → IsInFragment t → Row t s r ps → HasNoTypes r
-rule_types t s (RFact k types) ps f w = fact_types t t s k types ps f refl w
-rule_types t s _ ps f w = tt
+rule_word : (t : TaskTree) (s : List Tree) (r : RuleTree) (ps : List (List Tree)) → IsInFragment t → RuleIsIn (writable_by t) r → Row t s r ps → HasWord r
+rule_word t s (RFact k types) ps f p w = fact_types t t s k types ps f refl w
+rule_word t s (RCut a) ps f p w = tt
+rule_word t s (RClash i j) ps f p w = tt
+rule_word t s (RNotNot i) ps f p w = tt
+rule_word t s (RAnd i) ps f p w = tt
+rule_word t s (RNotAnd i) ps f p w = tt
+rule_word t s (RImp i) ps f p w = tt
+rule_word t s (RNotImp i) ps f p w = tt
+rule_word t s (RKeep places) ps f p w = tt
+rule_word t s _ ps f p w = absurd p
 
 part_keeps : (t : TaskTree) (g : Tree) → KeepsDeclared t (with_goal t g)
-part_keeps t g = record { symbols = refl; rigid = refl; made = λ k. (λ x. x, λ x. x); constructors = λ k x. x }
+part_keeps t g = record { symbols = refl; ints = refl; rigid = refl; made = λ k. (λ x. x, λ x. x); roles = λ k. refl }
 
 module _ (t : TaskTree) (v : IsValid t) (f : IsInFragment t) where
   formula_in : (e : Tree) → IsPropositional e → IsGroundFormula t e → IsWritable (task_names t) e
@@ -87,15 +96,22 @@ module _ (t : TaskTree) (v : IsValid t) (f : IsInFragment t) where
   part_formula_in : (g e : Tree) → IsPropositional e → IsGroundFormula (with_goal t g) e → IsWritable (task_names t) e
   part_formula_in g e p h = formula_in e p (formula_moved (with_goal t g) t (part_keeps t g) e h)
 
-  part_rule_in : (g : Tree) (s : List Tree) (r : RuleTree) (ps : List (List Tree)) → RuleIsPropositional r → Row (with_goal t g) s r ps → RuleIsIn (writable_by t) r
-  part_rule_in g s (RCut a) ps p w = part_formula_in g a p w.0
-  part_rule_in g s (RFact k types) ps p w = subst (AreIn (writable_by t)) (sym (fact_types t (with_goal t g) s k types ps f refl w)) (All-nil (IsWritable (task_names t)))
-  part_rule_in g s _ ps p w = tt
+  part_rule_in : (g : Tree) (s : List Tree) (r : RuleTree) (ps : List (List Tree)) → RuleIsPropositional r → Each (IsGroundExpression (with_goal t g)) (trees_of r) → Row (with_goal t g) s r ps → RuleIsIn (writable_by t) r
+  part_rule_in g s (RCut a) ps p e w = part_formula_in g a p (record { sort = w.0; typed = e.0.typed; ground = e.0.ground })
+  part_rule_in g s (RFact k types) ps p e w = subst (AreIn (writable_by t)) (sym (fact_types t (with_goal t g) s k types ps f refl w)) (All-nil (IsWritable (task_names t)))
+  part_rule_in g s (RClash i j) ps p e w = tt
+  part_rule_in g s (RNotNot i) ps p e w = tt
+  part_rule_in g s (RAnd i) ps p e w = tt
+  part_rule_in g s (RNotAnd i) ps p e w = tt
+  part_rule_in g s (RImp i) ps p e w = tt
+  part_rule_in g s (RNotImp i) ps p e w = tt
+  part_rule_in g s (RKeep places) ps p e w = tt
+  part_rule_in g s _ ps p e w = absurd p
 
   part_step_in : (g : Tree) (before : List StepTree) (st : StepTree) → StepIsPropositional st → IsRight (with_goal t g) before st → StepIsIn (writable_by t) st
   part_step_in g before st p r = record {
     sequent = λ i d l. part_formula_in g (get_or st.sequent i d) (p.sequent i d l) (r.formulas i d l);
-    rule = part_rule_in g st.sequent st.rule _ p.rule r.row;
+    rule = part_rule_in g st.sequent st.rule _ p.rule r.trees r.row;
   }
 
   part_is_in : (g : Tree) (part : TaskTree) (steps : List StepTree) → part ≡ with_goal t g → IsRefutation part steps → StepsAreIn (writable_by t) steps
@@ -130,5 +146,5 @@ steps_writable t f steps p r = All-from_get_or (IsWritableStep (task_names t)) s
     let h : StepIsIn (writable_by t) st = p i no_step l in
     record {
       formulas = All-append (IsWritable (task_names t)) st.sequent (rule_formulas st.rule) h.sequent (rule_writable t st.rule h.rule);
-      types = rule_types t st.sequent st.rule _ f (r i l).row;
+      word = rule_word t st.sequent st.rule _ f h.rule (r i l).row;
     })

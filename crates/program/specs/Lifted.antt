@@ -1,8 +1,8 @@
 -- What is lifted: refutations of a task's parts, and the derivation that is written for them.
 use Rattle.std.specs.Prelude.{◌≡◌, ℕ, ◌<◌, List, length, All, None}
 use Rattle.tasks.specs.Task.{TaskTree}
-use Rattle.kernel.specs.Trees.{StepTree}
-use Rattle.kernel.specs.Rows.{Closes, step_or}
+use Rattle.rule_rows.specs.Trees.{StepTree, step_or}
+use Rattle.kernel.specs.Right.{Closes}
 use Rattle.problems.specs.Names.{task_names}
 use Rattle.steps_text.specs.Lines.{StepsOf}
 use Rattle.program.specs.Propositional.{StepIsPropositional}

@@ -4,7 +4,7 @@ use Rattle.std.specs.Prelude.{◌≡◌, All}
 use Rattle.trees.specs.declared.Op.TheVariants.{And, Imp}
 use Rattle.trees.specs.Tree.{Tree, Leaf, One, Two, HEnd, HPred, HNot, HJoin}
 use Rattle.tasks.specs.Task.{TaskTree, Proposition, props}
-use Rattle.kernel.specs.Trees.{RuleTree, RCut, StepTree}
+use Rattle.rule_rows.specs.Trees.{RuleTree, RClash, RNotNot, RAnd, RNotAnd, RImp, RNotImp, RCut, RKeep, RFact, StepTree}
 
 -- predicates without types and arguments, under negation, conjunction and implication
 abbrev pub IsPropositional : Tree → Type 0
@@ -19,9 +19,18 @@ pub record IsPropositionalTask (t : TaskTree) : Type 0 where
   pub locals : All IsPropositional t.locals
   pub goal : IsPropositional t.goal
 
+-- a rule of the propositional calculus
 abbrev pub RuleIsPropositional : RuleTree → Type 0
 RuleIsPropositional (RCut a) = IsPropositional a
-RuleIsPropositional _ = Unit {0}
+RuleIsPropositional (RFact k types) = Unit {0}
+RuleIsPropositional (RClash i j) = Unit {0}
+RuleIsPropositional (RNotNot i) = Unit {0}
+RuleIsPropositional (RAnd i) = Unit {0}
+RuleIsPropositional (RNotAnd i) = Unit {0}
+RuleIsPropositional (RImp i) = Unit {0}
+RuleIsPropositional (RNotImp i) = Unit {0}
+RuleIsPropositional (RKeep places) = Unit {0}
+RuleIsPropositional _ = ⊥
 
 pub record StepIsPropositional (st : StepTree) : Type 0 where
   pub sequent : All IsPropositional st.sequent

@@ -5,9 +5,9 @@ use Rattle.trees.specs.Tree.{Tree}
 use Rattle.tasks.specs.declared.task.Task.{Task}
 use Rattle.tasks.specs.Task.{TaskTree}
 use Rattle.tasks.specs.Meaning.{task_at}
-use Rattle.kernel.specs.declared.rule.Step.{Step}
-use Rattle.kernel.specs.Trees.{StepTree}
-use Rattle.kernel.specs.Meaning.{steps_at}
+use Rattle.rule_rows.specs.declared.rule.Step.{Step}
+use Rattle.rule_rows.specs.Trees.{StepTree}
+use Rattle.rule_rows.specs.Meaning.{steps_at}
 use Rattle.evidence.specs.Stages.{parts_at}
 use Rattle.tokens_why.specs.declared.token.Token.{Token}
 use Rattle.tokens_why.specs.Tokens.{AreTokens}

@@ -4,7 +4,7 @@ ghost use Rattle.std.specs.Prelude.{◌≡◌, ◌<◌, ◌-◌, ◌+◌, [], le
 ghost use Rattle.tasks.specs.Task.{start};
 ghost use Rattle.tasks.specs.Meaning.{task_at, tasks_at, TaskHeld, TasksHeld};
 ghost use Rattle.tasks.specs.Valid.{IsValid};
-ghost use Rattle.kernel.specs.Rows.{last_starts};
+ghost use Rattle.kernel.specs.Right.{last_starts};
 ghost use Rattle.evidence.specs.Drafts.{Extends, Refutes};
 ghost use Rattle.evidence.specs.Stages.{parts_at, PartsHeld};
 ghost use Rattle.evidence.specs.Languages.{StepsAreIn, StaysIn};
@@ -16,9 +16,9 @@ ghost use Rattle.program.specs.Lifted.{IsLifted, HasSequents, AreRefuted};
 ghost use Rattle.program.specs.Fragment.{IsInFragment};
 
 use evidence::{Draft, lift_stage};
-use kernel::{Rule, Step};
 use outside::Seq;
 use problems::task_names;
+use rule_rows::{Rule, Step};
 use std::alloc::{AllocError, Global};
 use std::rc::Rc;
 use steps_text::write_steps;

@@ -3,7 +3,7 @@
 ghost use Rattle.std.specs.Prelude.{◌≡◌, ◌+◌, ◌^◌, ◌<◌, length, map, All, IfOk, string_bytes};
 ghost use Rattle.trees.specs.Node.{Grows};
 ghost use Rattle.tasks.specs.Meaning.{task_at, tasks_at, TaskHeld, TasksHeld};
-ghost use Rattle.kernel.specs.Meaning.{steps_at, StepsHeld};
+ghost use Rattle.rule_rows.specs.Meaning.{steps_at, StepsHeld};
 ghost use Rattle.evidence.specs.Stages.{parts_at, PartsHeld};
 ghost use Rattle.problems.specs.Used.{DeclaresEntries};
 ghost use Rattle.program.specs.Answers.{Answers, IsStageAnswer};
@@ -13,9 +13,9 @@ ghost use Rattle.program.specs.Values.{steps_in, handed_in};
 
 use crate::fetching::fetch_short;
 use crate::{Fault, RunFault};
-use kernel::Step;
 use outside::{Library, Seq};
 use problems::plain_names;
+use rule_rows::Step;
 use std::alloc::Global;
 use steps_text::{ReadFault, StepReader};
 use tasks::Task;

@@ -11,10 +11,10 @@ use Rattle.tasks.specs.declared.task.Task.{Task}
 use Rattle.tasks.specs.Task.{TaskTree}
 use Rattle.tasks.specs.Meaning.{trees_at, task_at, TaskHeld}
 use Rattle.tasks.proofs.Growth.{held_later, tree_later, trees_later, task_later}
-use Rattle.kernel.specs.declared.rule.Step.{Step}
-use Rattle.kernel.specs.Trees.{StepTree}
-use Rattle.kernel.specs.Rows.{IsRight}
-use Rattle.kernel.specs.Meaning.{step_at, steps_at, StepHeld, StepsHeld}
+use Rattle.rule_rows.specs.declared.rule.Step.{Step}
+use Rattle.rule_rows.specs.Trees.{StepTree}
+use Rattle.kernel.specs.Right.{IsRight}
+use Rattle.rule_rows.specs.Meaning.{step_at, steps_at, StepHeld, StepsHeld}
 use Rattle.kernel.proofs.Growth.{steps_held_later, steps_later}
 use Rattle.problems.specs.declared.names.NameEntry.{NameEntry}
 use Rattle.steps_text.specs.Lines.{Reading, Formula, Derived, thing_of, IsGood, LineIsRight, after}

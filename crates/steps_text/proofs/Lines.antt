@@ -16,15 +16,15 @@ use Rattle.trees.specs.Tree.{Tree, One, Two, HNot, HJoin}
 use Rattle.trees.specs.Node.{tree_at}
 use Rattle.tasks.specs.Task.{TaskTree}
 use Rattle.tasks.specs.Meaning.{trees_at}
-use Rattle.kernel.specs.declared.rule.Step.{Step}
-use Rattle.kernel.specs.declared.rule.Rule.{Rule}
-use Rattle.kernel.specs.declared.rule.Rule.TheVariants.{Clash, NotNot, And, NotAnd, Imp, NotImp, Cut, Keep, Fact}
-use Rattle.kernel.specs.Trees.{RuleTree, RCut, RFact}
-use Rattle.kernel.specs.Meaning.{rule_at, step_at}
+use Rattle.rule_rows.specs.declared.rule.Step.{Step}
+use Rattle.rule_rows.specs.declared.rule.Rule.{Rule}
+use Rattle.rule_rows.specs.declared.rule.Rule.TheVariants.{Clash, NotNot, And, NotAnd, Imp, NotImp, Cut, Keep, Fact}
+use Rattle.rule_rows.specs.Trees.{RuleTree, RCut, RFact}
+use Rattle.rule_rows.specs.Meaning.{rule_at, step_at}
 use Rattle.problems.specs.declared.names.NameEntry.{NameEntry}
 use Rattle.steps_text.specs.Words.{numbers_from, numbers, is_colon, before_colon, after_colon}
 use Rattle.steps_text.specs.Lines.{Formula, Derived, symbol_formula, picked_from, referred, joined, negation, rule_of, rule_words, derived, step_of, words_made}
-use Rattle.steps_text.specs.Writing.{IsWord, HasNoTypes}
+use Rattle.steps_text.specs.Writing.{IsWord, HasWord}
 use Rattle.steps_text.specs.Text.{decimals, lines_in, line_in, rule_word, rule_numbers, step_words, AreNumbers, StepFits}
 use Rattle.steps_text.specs.Written.{cut_formulas}
 use Rattle.steps_text.proofs.Numerals.{number_decimal, word_decimal}
@@ -104,6 +104,7 @@ rule_word_plain (NotImp i) = (refl, refl)
 rule_word_plain (Cut a) = (refl, refl)
 rule_word_plain (Keep places) = (refl, refl)
 rule_word_plain (Fact k types) = (refl, refl)
+rule_word_plain _ = (refl, refl)
 
 module _ (s fs : List Tree) (table : List (Option ℕ)) where
   -- the line of a formula has its tree
@@ -119,7 +120,7 @@ module _ (s fs : List Tree) (table : List (Option ℕ)) where
   pub referred_back : (ids : List TermId) → All Finds ids → AreNumbers (lines_in table ids) → referred fs (decimals (lines_in table ids)) ≡ Some (trees_at s ids)
   referred_back ids a n = ap (option_and_then (picked_from fs [])) (numbers_back (lines_in table ids) n) ∙ picked_back ids [] a
 
-  rule_made : (r : Rule) → All Finds (cut_formulas r) → HasNoTypes (rule_at s r) → rule_of fs (rule_word r) (rule_numbers table r) ≡ Some (rule_at s r)
+  rule_made : (r : Rule) → All Finds (cut_formulas r) → HasWord (rule_at s r) → rule_of fs (rule_word r) (rule_numbers table r) ≡ Some (rule_at s r)
   rule_made (Clash i j) c h = refl
   rule_made (NotNot i) c h = refl
   rule_made (And i) c h = refl
@@ -129,8 +130,9 @@ module _ (s fs : List Tree) (table : List (Option ℕ)) where
   rule_made (Cut a) c h = ap (option_map RCut) (first_of Finds a [] c)
   rule_made (Keep places) c h = refl
   rule_made (Fact k types) c h = ap (λ x. Some (RFact k x)) (sym h)
+  rule_made _ c h = absurd h
 
-  rule_back : (r : Rule) → All Finds (cut_formulas r) → HasNoTypes (rule_at s r) → AreNumbers (rule_numbers table r)
+  rule_back : (r : Rule) → All Finds (cut_formulas r) → HasWord (rule_at s r) → AreNumbers (rule_numbers table r)
       → rule_words fs (rule_word r ∷ decimals (rule_numbers table r)) ≡ Some (rule_at s r)
   rule_back r c h n = ap (option_and_then (rule_of fs (rule_word r))) (numbers_back (rule_numbers table r) n) ∙ rule_made r c h
 
@@ -144,7 +146,7 @@ module _ (s fs : List Tree) (table : List (Option ℕ)) where
       ∙ ap (option_and_then (λ l. option_map (step_of sequent rule) (numbers l))) d
       ∙ ap (option_map (step_of sequent rule)) e
 
-  module _ (st : Step) (sequent : All Finds st.sequent) (cut : All Finds (cut_formulas st.rule)) (types : HasNoTypes (rule_at s st.rule)) (fits : StepFits table st) where
+  module _ (st : Step) (sequent : All Finds st.sequent) (cut : All Finds (cut_formulas st.rule)) (types : HasWord (rule_at s st.rule)) (fits : StepFits table st) where
     abbrev middle : List (List ℕ)
     middle = rule_word st.rule ∷ decimals (rule_numbers table st.rule)
 

@@ -5,8 +5,8 @@ use Rattle.std.proofs.lemmas.List.{drop_more, drop_all}
 use Rattle.std.specs.Borrow.{Bor}
 use Rattle.steps_text.specs.Words.{texts}
 use Rattle.tasks.specs.Task.{TaskTree}
-use Rattle.kernel.specs.Trees.{StepTree}
-use Rattle.kernel.specs.Rows.{AreRight, last_starts}
+use Rattle.rule_rows.specs.Trees.{StepTree}
+use Rattle.kernel.specs.Right.{AreRight, last_starts}
 use Rattle.kernel.proofs.Growth.{right_more}
 use Rattle.problems.specs.declared.names.NameEntry.{NameEntry}
 use Rattle.steps_text.specs.Lines.{Reading, nothing_read, Thing, Formula, Derived, IsGood, LineIsRight, after, AreRead, IsWrongLine}

@@ -12,14 +12,15 @@ use Rattle.trees.specs.Node.{tree_at}
 use Rattle.tasks.specs.Task.{TaskTree}
 use Rattle.tasks.specs.Valid.{IsGroundFormula}
 use Rattle.tasks.specs.Meaning.{trees_at}
-use Rattle.kernel.specs.declared.rule.Step.{Step}
-use Rattle.kernel.specs.Trees.{RuleTree, RClash, RNotNot, RAnd, RNotAnd, RImp, RNotImp, RCut, RKeep, RFact, StepTree, no_step}
-use Rattle.kernel.specs.Rows.{Row, IsRight, Closes, last_starts, step_or, sequents}
-use Rattle.kernel.specs.Meaning.{rule_at, step_at, steps_at}
+use Rattle.rule_rows.specs.declared.rule.Step.{Step}
+use Rattle.rule_rows.specs.Trees.{RuleTree, RCut, StepTree, no_step, step_or, sequents, trees_of}
+use Rattle.rule_rows.specs.Rows.{Row}
+use Rattle.kernel.specs.Right.{IsGroundExpression, Each, IsRight, Closes, last_starts}
+use Rattle.rule_rows.specs.Meaning.{rule_at, step_at, steps_at}
 use Rattle.problems.specs.declared.names.NameEntry.{NameEntry}
 use Rattle.steps_text.specs.Words.{lines_of}
 use Rattle.steps_text.specs.Lines.{Reading, nothing_read, Derived, IsGood, after, AreRead, StepsOf}
-use Rattle.steps_text.specs.Writing.{AreNames, IsLow, IsWritableStep, AreWritable, AreLow, HasNoTypes, rule_formulas, formulas_of}
+use Rattle.steps_text.specs.Writing.{AreNames, IsLow, IsWritableStep, AreWritable, AreLow, HasWord, rule_formulas, formulas_of}
 use Rattle.steps_text.specs.Text.{line_text, step_words, StepFits}
 use Rattle.steps_text.specs.Written.{Reads, IsText, IsNumbered, AreNumbered, term_id, parts, cut_formulas, reading, IsWriting, CanWrite, Continues, ContinuesWith, Keeps}
 use Rattle.steps_text.specs.declared.writer.Writer.{Writer}
@@ -75,7 +76,7 @@ module _ (names : List NameEntry) (s : List Tree) (start : Writer) (ids : List T
 
 -- a step's line has been put
 pub step_added : (names : List NameEntry) (s : List Tree) (w new : Writer) (st : Step) → new.bytes.items ≡ w.bytes.items ++ line_text (codes "s") (step_words w.table.items st) → new.formulas.items ≡ w.formulas.items → new.table.items ≡ w.table.items
-    → StepFits w.table.items st → AreNumbered w.table.items st.sequent → AreNumbered w.table.items (cut_formulas st.rule) → HasNoTypes (rule_at s st.rule)
+    → StepFits w.table.items st → AreNumbered w.table.items st.sequent → AreNumbered w.table.items (cut_formulas st.rule) → HasWord (rule_at s st.rule)
     → (t : TaskTree) (tallest : Option ℕ) (steps : List StepTree) → IsRight t steps (step_at s st) → IsWriting t names tallest s w steps → IsWriting t names tallest s new (steps ++ step_at s st ∷ [])
 step_added names s w new st text same_formulas same_table fits sequent cut types t tallest steps right h =
     let fs = trees_at s w.formulas.items in
@@ -98,19 +99,12 @@ step_continues names s old one two new st first second last t tallest steps can 
     (first t tallest steps (front_all (CanWrite t names tallest) (trees_at s st.sequent) (rule_formulas (rule_at s st.rule)) can) w))
 
 -- the formulas of a right step are those of its task
-ground_rule : (t : TaskTree) (q : List Tree) (r : RuleTree) (ps : List (List Tree)) → Row t q r ps → All (IsGroundFormula t) (rule_formulas r)
-ground_rule t q (RCut a) ps h = All-cons (IsGroundFormula t) a [] h.0 (All-nil (IsGroundFormula t))
-ground_rule t q (RClash i j) ps h = All-nil (IsGroundFormula t)
-ground_rule t q (RNotNot i) ps h = All-nil (IsGroundFormula t)
-ground_rule t q (RAnd i) ps h = All-nil (IsGroundFormula t)
-ground_rule t q (RNotAnd i) ps h = All-nil (IsGroundFormula t)
-ground_rule t q (RImp i) ps h = All-nil (IsGroundFormula t)
-ground_rule t q (RNotImp i) ps h = All-nil (IsGroundFormula t)
-ground_rule t q (RKeep places) ps h = All-nil (IsGroundFormula t)
-ground_rule t q (RFact k types) ps h = All-nil (IsGroundFormula t)
+ground_rule : (t : TaskTree) (q : List Tree) (r : RuleTree) (ps : List (List Tree)) → Each (IsGroundExpression t) (trees_of r) → Row t q r ps → All (IsGroundFormula t) (rule_formulas r)
+ground_rule t q (RCut a) ps e h = All-cons (IsGroundFormula t) a [] (record { sort = h.0; typed = e.0.typed; ground = e.0.ground }) (All-nil (IsGroundFormula t))
+ground_rule t q _ ps e h = All-nil (IsGroundFormula t)
 
 pub ground_step : (t : TaskTree) (before : List StepTree) (st : StepTree) → IsRight t before st → All (IsGroundFormula t) (formulas_of st)
-ground_step t before st h = All-append (IsGroundFormula t) st.sequent (rule_formulas st.rule) h.formulas (ground_rule t st.sequent st.rule (sequents before st.premises) h.row)
+ground_step t before st h = All-append (IsGroundFormula t) st.sequent (rule_formulas st.rule) h.formulas (ground_rule t st.sequent st.rule (sequents before st.premises) h.trees h.row)
 
 can_step : (t : TaskTree) (names : List NameEntry) (tallest : Option ℕ) (before : List StepTree) (st : StepTree) → AreNames names → IsWritableStep names st → IsRight t before st → All (IsLow tallest) (formulas_of st) → All (CanWrite t names tallest) (formulas_of st)
 can_step t names tallest before st a w r l k d h = record { table = a; writable = w.formulas k d h; typed = (ground_step t before st r k d h).typed; low = l k d h }

@@ -12,14 +12,14 @@ use Rattle.trees.specs.Tree.{Tree, Leaf, One, Two, Three, Head, HEnd, HNot, HJoi
 use Rattle.tasks.specs.declared.signature.SymbolKind.{SymbolKind}
 use Rattle.tasks.specs.declared.signature.SymbolKind.TheVariants.{Predicate}
 use Rattle.tasks.specs.Task.{TaskTree, SymbolTree}
-use Rattle.kernel.specs.Trees.{RuleTree, RClash, RNotNot, RAnd, RNotAnd, RImp, RNotImp, RCut, RKeep, RFact, StepTree}
+use Rattle.rule_rows.specs.Trees.{RuleTree, RClash, RNotNot, RAnd, RNotAnd, RImp, RNotImp, RCut, RKeep, RFact, StepTree}
 use Rattle.problems.specs.declared.names.NameOf.{NameOf}
 use Rattle.problems.specs.declared.names.NameOf.TheVariants.{Int, Rigid, Symbol}
 use Rattle.problems.specs.declared.names.NameEntry.{NameEntry}
 use Rattle.problems.specs.Names.{stands_for}
 use Rattle.steps_text.specs.Words.{lines_of, words_of, numbers, before_colon, after_colon}
 use Rattle.steps_text.specs.Lines.{Reading, nothing_read, Thing, Formula, Derived, whole_symbol, symbol_named, plain_formula, symbol_formula, picked_from, referred, joined, negation, only_word, formula_of, one_place, two_places, one_formula, rule_of, rule_words, step_of, derived, words_made, thing_of, IsGood, after, AreRead, StepsOf}
-use Rattle.steps_text.specs.Writing.{is_nil, is_whole, is_named, is_not, is_end, is_writable_two, is_writable, IsWritable, HasNoTypes, rule_formulas, formulas_of, IsWritableStep, AreWritable}
+use Rattle.steps_text.specs.Writing.{is_nil, is_whole, is_named, is_not, is_end, is_writable_two, is_writable, IsWritable, HasWord, rule_formulas, formulas_of, IsWritableStep, AreWritable}
 use Rattle.steps_text.proofs.Lines.{both_true}
 
 -- where an answer of several steps comes from
@@ -92,7 +92,7 @@ module _ (names : List NameEntry) where
   -- a rule that a line writes
   record RuleWritable (r : RuleTree) : Type 0 where
     formulas : All Can (rule_formulas r)
-    types : HasNoTypes r
+    word : HasWord r
 
   module _ (fs : List Tree) (all : All Can fs) where
     at_place : (k : ℕ) (e : Tree) → slice_get fs k ≡ Some e → Can e
@@ -152,7 +152,7 @@ module _ (names : List NameEntry) where
     two_writable : (ns : List ℕ) (r : RuleTree) → two_places RClash ns ≡ Some r → RuleWritable r
     two_writable [] r e = cc
     two_writable (i ∷ []) r e = cc
-    two_writable (i ∷ j ∷ []) r e = let is : RClash i j ≡ r = cc in subst RuleWritable is (record { formulas = All-nil Can; types = tt })
+    two_writable (i ∷ j ∷ []) r e = let is : RClash i j ≡ r = cc in subst RuleWritable is (record { formulas = All-nil Can; word = tt })
     two_writable (i ∷ j ∷ k ∷ rest) r e = cc
 
     cut_writable : (ns : List ℕ) (r : RuleTree) → one_formula fs ns ≡ Some r → RuleWritable r
@@ -160,7 +160,7 @@ module _ (names : List NameEntry) where
     cut_writable (k ∷ []) r e =
         let p = map_some RCut (slice_get fs k) r e in
         let is : RCut p.0 ≡ r = let q = p.2 in cc in
-        subst RuleWritable is (record { formulas = All-cons Can p.0 [] (at_place k p.0 p.1) (All-nil Can); types = tt })
+        subst RuleWritable is (record { formulas = All-cons Can p.0 [] (at_place k p.0 p.1) (All-nil Can); word = tt })
     cut_writable (k ∷ j ∷ rest) r e = cc
 
     rule_writable : (w : List ℕ) (ns : List ℕ) (r : RuleTree) → rule_of fs w ns ≡ Some r → RuleWritable r
@@ -169,28 +169,28 @@ module _ (names : List NameEntry) where
           | inl a ↦ two_writable ns r a
           | inr a ↦
               elim (cond_some (bytes_eq w (codes "notnot")) (one_place RNotNot ns) _ r a) [
-                | inl b ↦ one_writable RNotNot (λ i. record { formulas = All-nil Can; types = tt }) ns r b
+                | inl b ↦ one_writable RNotNot (λ i. record { formulas = All-nil Can; word = tt }) ns r b
                 | inr b ↦
                     elim (cond_some (bytes_eq w (codes "and")) (one_place RAnd ns) _ r b) [
-                      | inl c ↦ one_writable RAnd (λ i. record { formulas = All-nil Can; types = tt }) ns r c
+                      | inl c ↦ one_writable RAnd (λ i. record { formulas = All-nil Can; word = tt }) ns r c
                       | inr c ↦
                           elim (cond_some (bytes_eq w (codes "notand")) (one_place RNotAnd ns) _ r c) [
-                            | inl d ↦ one_writable RNotAnd (λ i. record { formulas = All-nil Can; types = tt }) ns r d
+                            | inl d ↦ one_writable RNotAnd (λ i. record { formulas = All-nil Can; word = tt }) ns r d
                             | inr d ↦
                                 elim (cond_some (bytes_eq w (codes "imp")) (one_place RImp ns) _ r d) [
-                                  | inl f ↦ one_writable RImp (λ i. record { formulas = All-nil Can; types = tt }) ns r f
+                                  | inl f ↦ one_writable RImp (λ i. record { formulas = All-nil Can; word = tt }) ns r f
                                   | inr f ↦
                                       elim (cond_some (bytes_eq w (codes "notimp")) (one_place RNotImp ns) _ r f) [
-                                        | inl g ↦ one_writable RNotImp (λ i. record { formulas = All-nil Can; types = tt }) ns r g
+                                        | inl g ↦ one_writable RNotImp (λ i. record { formulas = All-nil Can; word = tt }) ns r g
                                         | inr g ↦
                                             elim (cond_some (bytes_eq w (codes "cut")) (one_formula fs ns) _ r g) [
                                               | inl h ↦ cut_writable ns r h
                                               | inr h ↦
                                                   elim (cond_some (bytes_eq w (codes "keep")) (Some (RKeep ns)) _ r h) [
-                                                    | inl i ↦ let is : RKeep ns ≡ r = cc in subst RuleWritable is (record { formulas = All-nil Can; types = tt })
+                                                    | inl i ↦ let is : RKeep ns ≡ r = cc in subst RuleWritable is (record { formulas = All-nil Can; word = tt })
                                                     | inr i ↦
                                                         elim (cond_some (bytes_eq w (codes "fact")) (one_place (λ k. RFact k []) ns) None r i) [
-                                                          | inl j ↦ one_writable (λ k. RFact k []) (λ k. record { formulas = All-nil Can; types = refl }) ns r j
+                                                          | inl j ↦ one_writable (λ k. RFact k []) (λ k. record { formulas = All-nil Can; word = refl }) ns r j
                                                           | inr j ↦ cc
                                                         ]
                                                   ]
@@ -215,7 +215,7 @@ module _ (names : List NameEntry) where
         let m = map_some (step_of a.0 c.0) (numbers d.0) st d.2 in
         let is : step_of a.0 c.0 m.0 ≡ st = let q = m.2 in cc in
         let rule = words_writable (before_colon b.0) c.0 c.1 in
-        subst (IsWritableStep names) is (record { formulas = All-append Can a.0 (rule_formulas c.0) (referred_writable (before_colon ws) a.0 a.1) rule.formulas; types = rule.types })
+        subst (IsWritableStep names) is (record { formulas = All-append Can a.0 (rule_formulas c.0) (referred_writable (before_colon ws) a.0 a.1) rule.formulas; word = rule.word })
 
     made_formula : (t : TaskTree) (kind : List ℕ) (ws : List (List ℕ)) (x : Thing) → option_map Formula (formula_of t names fs kind ws) ≡ Some x → ThingWritable x
     made_formula t kind ws x e =
@@ -276,4 +276,4 @@ module _ (small large : List NameEntry) (more : (k : ℕ) → is_named small k �
   writable_more (Three h a b c) e = cc
 
   pub steps_writable_more : (steps : List StepTree) → AreWritable small steps → AreWritable large steps
-  steps_writable_more steps a k d h = record { formulas = λ j x l. writable_more (get_or (formulas_of (get_or steps k d)) j x) ((a k d h).formulas j x l); types = (a k d h).types }
+  steps_writable_more steps a k d h = record { formulas = λ j x l. writable_more (get_or (formulas_of (get_or steps k d)) j x) ((a k d h).formulas j x l); word = (a k d h).word }

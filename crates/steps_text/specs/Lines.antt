@@ -8,8 +8,8 @@ use Rattle.trees.specs.Tree.{Tree, Leaf, One, Two, HEnd, HNot, HJoin, HPred, hei
 use Rattle.tasks.specs.declared.signature.SymbolKind.{SymbolKind}
 use Rattle.tasks.specs.declared.signature.SymbolKind.TheVariants.{Predicate}
 use Rattle.tasks.specs.Task.{TaskTree}
-use Rattle.kernel.specs.Trees.{RuleTree, RClash, RNotNot, RAnd, RNotAnd, RImp, RNotImp, RCut, RKeep, RFact, StepTree}
-use Rattle.kernel.specs.Rows.{IsRight, last_starts}
+use Rattle.rule_rows.specs.Trees.{RuleTree, RClash, RNotNot, RAnd, RNotAnd, RImp, RNotImp, RCut, RKeep, RFact, StepTree}
+use Rattle.kernel.specs.Right.{IsRight, last_starts}
 use Rattle.problems.specs.declared.names.NameOf.{NameOf}
 use Rattle.problems.specs.declared.names.NameOf.TheVariants.{Symbol}
 use Rattle.problems.specs.declared.names.NameEntry.{NameEntry}

@@ -8,10 +8,10 @@ use Rattle.trees.specs.Node.{tree_at, Holds}
 use Rattle.trees.specs.Sorts.{sort_of}
 use Rattle.tasks.specs.Task.{TaskTree}
 use Rattle.tasks.specs.Meaning.{trees_at}
-use Rattle.kernel.specs.declared.rule.Step.{Step}
-use Rattle.kernel.specs.Meaning.{step_at, steps_at, StepHeld}
+use Rattle.rule_rows.specs.declared.rule.Step.{Step}
+use Rattle.rule_rows.specs.Meaning.{step_at, steps_at, StepHeld}
 use Rattle.problems.specs.declared.names.NameEntry.{NameEntry}
-use Rattle.kernel.specs.Trees.{StepTree}
+use Rattle.rule_rows.specs.Trees.{StepTree}
 use Rattle.steps_text.specs.Words.{numbers, before_colon, after_colon}
 use Rattle.steps_text.specs.Lines.{rule_words, step_of}
 use Rattle.steps_text.specs.declared.fault.ReadFault.{ReadFault}

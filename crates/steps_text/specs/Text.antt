@@ -6,9 +6,9 @@ use Rattle.trees.specs.declared.Node.{Node}
 use Rattle.trees.specs.declared.Node.TheVariants.{Pred, Not, Join}
 use Rattle.trees.specs.declared.Op.{Op}
 use Rattle.trees.specs.declared.Op.TheVariants as op
-use Rattle.kernel.specs.declared.rule.Step.{Step}
-use Rattle.kernel.specs.declared.rule.Rule.{Rule}
-use Rattle.kernel.specs.declared.rule.Rule.TheVariants.{Clash, NotNot, And, NotAnd, Imp, NotImp, Cut, Keep, Fact}
+use Rattle.rule_rows.specs.declared.rule.Step.{Step}
+use Rattle.rule_rows.specs.declared.rule.Rule.{Rule}
+use Rattle.rule_rows.specs.declared.rule.Rule.TheVariants.{Clash, NotNot, And, NotAnd, Imp, NotImp, Cut, Keep, Fact}
 use Rattle.problems.specs.declared.names.NameEntry.{NameEntry}
 use Rattle.steps_text.specs.Writing.{is_whole}
 
@@ -72,6 +72,7 @@ rule_word (NotImp i) = codes "notimp"
 rule_word (Cut a) = codes "cut"
 rule_word (Keep places) = codes "keep"
 rule_word (Fact k types) = codes "fact"
+rule_word _ = []
 
 abbrev pub rule_numbers : List (Option ℕ) → Rule → List ℕ
 rule_numbers table (Clash i j) = i ∷ j ∷ []
@@ -83,6 +84,7 @@ rule_numbers table (NotImp i) = i ∷ []
 rule_numbers table (Cut a) = line_in table a ∷ []
 rule_numbers table (Keep places) = places
 rule_numbers table (Fact k types) = k ∷ []
+rule_numbers table _ = []
 
 -- the words of a step after `s`
 abbrev pub step_words : List (Option ℕ) → Step → List (List ℕ)

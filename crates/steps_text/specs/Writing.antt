@@ -4,7 +4,7 @@ use Rattle.std.specs.List.{list_any}
 use Rattle.std.specs.Option.{ForSome}
 use Rattle.trees.specs.declared.Op.TheVariants.{And, Imp}
 use Rattle.trees.specs.Tree.{Tree, Leaf, One, Two, Three, Head, HEnd, HNot, HJoin, HPred, height}
-use Rattle.kernel.specs.Trees.{RuleTree, RCut, RFact, StepTree}
+use Rattle.rule_rows.specs.Trees.{RuleTree, RClash, RNotNot, RAnd, RNotAnd, RImp, RNotImp, RCut, RKeep, RFact, StepTree}
 use Rattle.problems.specs.declared.names.NameEntry.{NameEntry}
 use Rattle.problems.specs.Names.{stands_for}
 
@@ -63,15 +63,23 @@ rule_formulas _ = []
 abbrev pub formulas_of : StepTree → List Tree
 formulas_of st = st.sequent ++ rule_formulas st.rule
 
--- no line makes a type, so a fact has none
-abbrev pub HasNoTypes : RuleTree → Type 0
-HasNoTypes (RFact k types) = types ≡ []
-HasNoTypes _ = Unit {0}
+-- a rule that a line has a word for; no line makes a type, so a fact has none
+abbrev pub HasWord : RuleTree → Type 0
+HasWord (RCut a) = Unit {0}
+HasWord (RFact k types) = types ≡ []
+HasWord (RClash i j) = Unit {0}
+HasWord (RNotNot i) = Unit {0}
+HasWord (RAnd i) = Unit {0}
+HasWord (RNotAnd i) = Unit {0}
+HasWord (RImp i) = Unit {0}
+HasWord (RNotImp i) = Unit {0}
+HasWord (RKeep places) = Unit {0}
+HasWord _ = ⊥
 
 -- a step that the lines can write
 pub record IsWritableStep (names : List NameEntry) (st : StepTree) : Type 0 where
   pub formulas : All (IsWritable names) (formulas_of st)
-  pub types : HasNoTypes st.rule
+  pub word : HasWord st.rule
 
 abbrev pub AreWritable : List NameEntry → List StepTree → Type 0
 AreWritable names steps = All (IsWritableStep names) steps

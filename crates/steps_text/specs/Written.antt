@@ -8,10 +8,10 @@ use Rattle.trees.specs.Node.{tree_at, node_tree}
 use Rattle.tasks.specs.Task.{TaskTree}
 use Rattle.tasks.specs.Typing.{IsTyped}
 use Rattle.tasks.specs.Meaning.{trees_at}
-use Rattle.kernel.specs.declared.rule.Rule.{Rule}
-use Rattle.kernel.specs.declared.rule.Rule.TheVariants.{Cut}
-use Rattle.kernel.specs.Trees.{StepTree}
-use Rattle.kernel.specs.Rows.{IsRight}
+use Rattle.rule_rows.specs.declared.rule.Rule.{Rule}
+use Rattle.rule_rows.specs.declared.rule.Rule.TheVariants.{Cut}
+use Rattle.rule_rows.specs.Trees.{StepTree}
+use Rattle.kernel.specs.Right.{IsRight}
 use Rattle.problems.specs.declared.names.NameEntry.{NameEntry}
 use Rattle.steps_text.specs.Lines.{Reading, nothing_read, Thing, after}
 use Rattle.steps_text.specs.Reading.{MakesGood}

@@ -5,13 +5,14 @@ ghost use Rattle.std.specs.Option.{ForSome};
 ghost use Rattle.trees.specs.Tree.{height};
 ghost use Rattle.trees.specs.Node.{tree_at, Holds, Grows};
 ghost use Rattle.tasks.specs.Meaning.{task_at, TaskHeld};
-ghost use Rattle.kernel.specs.Meaning.{StepsHeld};
+ghost use Rattle.rule_rows.specs.Meaning.{StepsHeld};
 ghost use Rattle.steps_text.specs.Lines.{LineIsRight};
 ghost use Rattle.steps_text.specs.Reading.{AreFormulas, ThingHeld, thing_at, reading_at, MakesGood};
 
 use crate::things::{Thing, thing_of};
-use kernel::{Step, right_step};
+use kernel::right_step;
 use problems::NameEntry;
+use rule_rows::Step;
 use std::alloc::{AllocError, Global};
 use tasks::Task;
 use term_store::Store;

@@ -3,17 +3,17 @@
 ghost use Rattle.std.specs.Prelude.{◌≡◌, List, ◌++◌, [], true, false, Err, IfOk, IfErr, OnOk, OnErr};
 ghost use Rattle.trees.specs.Node.{Grows};
 ghost use Rattle.tasks.specs.Meaning.{task_at, TaskHeld};
-ghost use Rattle.kernel.specs.Trees.{StepTree};
-ghost use Rattle.kernel.specs.Rows.{Closes};
-ghost use Rattle.kernel.specs.Meaning.{steps_at, StepsHeld};
+ghost use Rattle.rule_rows.specs.Trees.{StepTree};
+ghost use Rattle.kernel.specs.Right.{Closes};
+ghost use Rattle.rule_rows.specs.Meaning.{steps_at, StepsHeld};
 ghost use Rattle.steps_text.specs.Lines.{StepsOf};
 ghost use Rattle.steps_text.specs.Reading.{IsFault};
 ghost use Rattle.steps_text.specs.declared.fault.ReadFault.TheVariants.{Memory};
 
 use crate::fault::ReadFault;
 use crate::reader::read_whole;
-use kernel::Step;
 use problems::NameEntry;
+use rule_rows::Step;
 use std::alloc::Global;
 use std::marker::Model;
 use tasks::Task;

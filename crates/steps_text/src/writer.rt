@@ -4,15 +4,15 @@ ghost use Rattle.std.specs.Prelude.{◌≡◌, ◌^◌, ◌<◌, ◌++◌, ◌�
 ghost use Rattle.std.specs.Fmt.{decimal};
 ghost use Rattle.trees.specs.Node.{tree_at, Holds};
 ghost use Rattle.tasks.specs.Meaning.{task_at, trees_at};
-ghost use Rattle.kernel.specs.Rows.{Closes};
-ghost use Rattle.kernel.specs.Meaning.{rule_at, step_at, steps_at, RuleHeld, StepHeld, StepsHeld};
+ghost use Rattle.kernel.specs.Right.{Closes};
+ghost use Rattle.rule_rows.specs.Meaning.{rule_at, step_at, steps_at, RuleHeld, StepHeld, StepsHeld};
 ghost use Rattle.steps_text.specs.Lines.{StepsOf};
 ghost use Rattle.steps_text.specs.Writing.{AreNames, IsWritable, IsWritableStep, AreWritable, AreLow, is_whole, rule_formulas};
 ghost use Rattle.steps_text.specs.Text.{spaced, line_text, line_in, lines_in, decimals, name_of, op_word, formula_words, rule_word, rule_numbers, step_words, AreNumbers, FormulaFits, StepFits};
 ghost use Rattle.steps_text.specs.Written.{HasLine, Sets, Keeps, Continues, ContinuesWith, Adds, IsNumbered, AreNumbered, cut_formulas};
 
-use kernel::{Rule, Step};
 use problems::{NameEntry, NameOf};
+use rule_rows::{Rule, Step};
 use std::alloc::{AllocError, Global};
 use tasks::Task;
 use term_store::Store;
@@ -116,6 +116,7 @@ fn put_rule(
         Rule::Cut(a) => put_ruled(alloc, bytes, b"cut", &[line_in(table, *a)]),
         Rule::Keep(places) => put_ruled(alloc, bytes, b"keep", places.as_slice()),
         Rule::Fact(k, _) => put_ruled(alloc, bytes, b"fact", &[*k]),
+        _ => put_ruled(alloc, bytes, b"", &[]),
     }
 }
 

@@ -12,8 +12,8 @@ use Rattle.tasks.specs.Meaning.{trees_at}
 use Rattle.binders.specs.Visits.{HoldTypes}
 use Rattle.tasks.proofs.TypeInstances.{proposition_at_types}
 use Rattle.tasks.proofs.Growth.{trees_later}
-use Rattle.kernel.specs.Trees.{RFact}
-use Rattle.kernel.specs.Rows.{IsRight, sequents}
+use Rattle.rule_rows.specs.Trees.{RFact, sequents}
+use Rattle.kernel.specs.Right.{IsRight}
 use Rattle.evidence.specs.Drafts.{DraftTree, Extends, Refutes}
 use Rattle.evidence.specs.Stages.{IsFact, fact_of, prop_or, no_proposition}
 use Rattle.tr_split.specs.Glue.{IsFormulaAt}
@@ -22,12 +22,14 @@ use Rattle.tr_split.proofs.Pieces.{step_of}
 pub fact_right : (d : DraftTree) (n : Tree) (k : ℕ) (types : List Tree) (clash : ℕ) → IsGroundFormula d.task n → IsFact d.task d.task k types → Refutes d clash (n ∷ fact_of d.task k types ∷ [])
     → IsRight d.task d.steps (step_of (n ∷ []) (RFact k types) (clash ∷ []))
 fact_right d n k types clash g f r =
-    let P : Proposition → Type 0 = λ p. (length types ≡ p.vars) × All (IsTypeOver d.task 0) types × (sequents d.steps (clash ∷ []) ≡ (n ∷ inst_types p.formula types ∷ []) ∷ []) in
+    let P : Proposition → Type 0 = λ p. (length types ≡ p.vars) × (sequents d.steps (clash ∷ []) ≡ (n ∷ inst_types p.formula types ∷ []) ∷ []) in
     let e : slice_get (props d.task) k ≡ Some (prop_or (props d.task) k) = slice_get-get_or (props d.task) k no_proposition f.place in
     let q : sequents d.steps (clash ∷ []) ≡ (n ∷ fact_of d.task k types ∷ []) ∷ [] = ap (λ (z : List Tree). z ∷ []) r.is in
-    let row : IsSomeAnd (Some (prop_or (props d.task) k)) P = (f.as_many, f.ground, q) in
+    let row : IsSomeAnd (Some (prop_or (props d.task) k)) P = (f.as_many, q) in
     record {
       formulas = All-cons (IsGroundFormula d.task) n [] g (All-nil (IsGroundFormula d.task));
+      trees = tt;
+      types = f.ground;
       earlier = All-cons (λ z. z < length d.steps) clash [] r.within (All-nil (λ z. z < length d.steps));
       row = rw e row;
     }

@@ -7,18 +7,19 @@ use Rattle.trees.specs.declared.TermId.{TermId}
 use Rattle.trees.specs.Tree.{Tree, Leaf, Two, HEnd, HJoin}
 use Rattle.trees.specs.Node.{tree_at, Holds}
 use Rattle.tasks.specs.Task.{TaskTree, neg}
-use Rattle.tasks.specs.Valid.{IsGroundFormula}
+use Rattle.tasks.specs.Valid.{IsGroundFormula, IsTypeOver}
 use Rattle.tasks.specs.Meaning.{trees_at}
 use Rattle.tasks.proofs.Growth.{trees_later, all_held_later}
-use Rattle.kernel.specs.Trees.{RuleTree, RClash, RImp, RNotAnd, RNotImp, RCut, RKeep, StepTree}
-use Rattle.kernel.specs.declared.rule.Step.{Step}
-use Rattle.kernel.specs.Rows.{IsRight, AreRight, step_or}
-use Rattle.kernel.specs.Meaning.{step_at, steps_at, StepHeld, StepsHeld}
+use Rattle.rule_rows.specs.Trees.{RuleTree, RClash, RImp, RNotAnd, RNotImp, RCut, RKeep, StepTree, step_or}
+use Rattle.rule_rows.specs.declared.rule.Step.{Step}
+use Rattle.kernel.specs.Right.{IsRight, AreRight}
+use Rattle.rule_rows.specs.Meaning.{step_at, steps_at, StepHeld, StepsHeld}
 use Rattle.kernel.proofs.Places.{step_or-at}
-use Rattle.kernel.proofs.Sequents.{All-unmap}
+use Rattle.rule_rows.proofs.Sequents.{All-unmap}
 use Rattle.evidence.specs.Drafts.{DraftTree, Extends, Refutes}
 use Rattle.evidence.specs.Stages.{HaveSequents}
 use Rattle.evidence.proofs.Rules.{refutes_later}
+use Rattle.evidence.proofs.Typed.{as_expression}
 use Rattle.trees.specs.declared.Op.{Op}
 use Rattle.tr_split.specs.Parts.{Joins}
 use Rattle.tr_split.specs.Split.{imp, split}
@@ -58,6 +59,8 @@ module _ (d : DraftTree) (front tail : List Tree) (f : All (IsGroundFormula d.ta
       → IsRight d.task d.steps (step_of (front ++ tail) (RClash (length front + i) (length front + j)) [])
   clash_right i j a e l g m = record {
     formulas = all_ground;
+    trees = tt;
+    types = All-nil (IsTypeOver d.task 0);
     earlier = All-nil (λ z. z < length d.steps);
     row = rw (behind front tail j (neg a) g m) (behind front tail i a e l, refl);
   }
@@ -66,32 +69,40 @@ module _ (d : DraftTree) (front tail : List Tree) (f : All (IsGroundFormula d.ta
       → IsRight d.task d.steps (step_of (front ++ tail) (RImp (length front + i)) (j ∷ k ∷ []))
   imp_right i a b j k e l r q = record {
     formulas = all_ground;
+    trees = tt;
+    types = All-nil (IsTypeOver d.task 0);
     earlier = two_earlier j k r.within q.within;
-    row = rw (behind front tail i (imp a b) e l, r.is, q.is, append_assoc front tail (neg a ∷ []), append_assoc front tail (b ∷ [])) refl;
+    row = rw (behind front tail i (imp a b) e l, r.is, q.is, append_assoc front tail (neg a ∷ []), append_assoc front tail (b ∷ [])) (refl, refl);
   }
 
   pub notand_right : (i : ℕ) (a b : Tree) (j k : ℕ) → slice_get tail i ≡ Some (neg (conj a b)) → i < length tail → Refutes d j (front ++ (tail ++ neg a ∷ [])) → Refutes d k (front ++ (tail ++ neg b ∷ []))
       → IsRight d.task d.steps (step_of (front ++ tail) (RNotAnd (length front + i)) (j ∷ k ∷ []))
   notand_right i a b j k e l r q = record {
     formulas = all_ground;
+    trees = tt;
+    types = All-nil (IsTypeOver d.task 0);
     earlier = two_earlier j k r.within q.within;
-    row = rw (behind front tail i (neg (conj a b)) e l, r.is, q.is, append_assoc front tail (neg a ∷ []), append_assoc front tail (neg b ∷ [])) refl;
+    row = rw (behind front tail i (neg (conj a b)) e l, r.is, q.is, append_assoc front tail (neg a ∷ []), append_assoc front tail (neg b ∷ [])) (refl, refl);
   }
 
   pub notimp_right : (i : ℕ) (a b : Tree) (j : ℕ) → slice_get tail i ≡ Some (neg (imp a b)) → i < length tail → Refutes d j (front ++ (tail ++ a ∷ neg b ∷ []))
       → IsRight d.task d.steps (step_of (front ++ tail) (RNotImp (length front + i)) (j ∷ []))
   notimp_right i a b j e l r = record {
     formulas = all_ground;
+    trees = tt;
+    types = All-nil (IsTypeOver d.task 0);
     earlier = one_earlier j r.within;
-    row = rw (behind front tail i (neg (imp a b)) e l, r.is, append_assoc front tail (a ∷ neg b ∷ [])) refl;
+    row = rw (behind front tail i (neg (imp a b)) e l, r.is, append_assoc front tail (a ∷ neg b ∷ [])) (refl, refl);
   }
 
   pub cut_right : (a : Tree) (j k : ℕ) → IsGroundFormula d.task a → Refutes d j (front ++ (tail ++ a ∷ [])) → Refutes d k (front ++ (tail ++ neg a ∷ []))
       → IsRight d.task d.steps (step_of (front ++ tail) (RCut a) (j ∷ k ∷ []))
   cut_right a j k h r q = record {
     formulas = all_ground;
+    trees = (as_expression d.task a h, tt);
+    types = All-nil (IsTypeOver d.task 0);
     earlier = two_earlier j k r.within q.within;
-    row = (h, rw (r.is, q.is, append_assoc front tail (a ∷ []), append_assoc front tail (neg a ∷ [])) refl);
+    row = (h.sort, rw (r.is, q.is, append_assoc front tail (a ∷ []), append_assoc front tail (neg a ∷ [])) refl);
   }
 
 -- the formulas behind a front, by their places
@@ -125,6 +136,8 @@ but_right d front middle last k f m l r =
     map-append (λ (z : Tree). Some z) front last ∙ cc (one, two) ∙ sym (map-append (slice_get s) (counted 0 (length front)) (counted (length front + length middle) (length last))) in
     record {
       formulas = All-append G front (middle ++ last) f (All-append G middle last m l);
+      trees = tt;
+      types = All-nil (IsTypeOver d.task 0);
       earlier = All-cons (λ z. z < length d.steps) k [] r.within (All-nil (λ z. z < length d.steps));
       row = rw r.is all;
     }

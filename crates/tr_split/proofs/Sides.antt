@@ -8,7 +8,7 @@ use Rattle.trees.specs.Tree.{Tree, Leaf, HEnd}
 use Rattle.trees.specs.Node.{tree_at}
 use Rattle.tasks.specs.Task.{neg}
 use Rattle.tasks.specs.Meaning.{trees_at}
-use Rattle.kernel.specs.Trees.{RuleTree, no_step}
+use Rattle.rule_rows.specs.Trees.{RuleTree, no_step}
 use Rattle.evidence.specs.Drafts.{DraftTree, Extends, Refutes}
 use Rattle.evidence.specs.Languages.{Language, IsIn, AreIn, RuleIsIn, StepIsIn, StepsAreIn, RespectsNegation}
 use Rattle.tr_split.specs.declared.glue.Under.{Under}

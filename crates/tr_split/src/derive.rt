@@ -3,15 +3,15 @@
 ghost use Rattle.std.specs.Prelude.{◌≡◌, ◌+◌, ◌++◌, ◌≤◌, All, IfOk, OnOk};
 ghost use Rattle.trees.specs.Node.{Holds};
 ghost use Rattle.tasks.specs.Meaning.{trees_at};
-ghost use Rattle.kernel.specs.Rows.{IsRight};
-ghost use Rattle.kernel.specs.Meaning.{rule_at, RuleHeld};
+ghost use Rattle.kernel.specs.Right.{IsRight};
+ghost use Rattle.rule_rows.specs.Meaning.{rule_at, RuleHeld};
 ghost use Rattle.evidence.specs.Drafts.{Extends, Refutes};
 ghost use Rattle.evidence.specs.Languages.{AreIn, RuleIsIn, StaysIn};
 ghost use Rattle.tr_split.specs.Glue.{AreFormulas, counted};
 
 use evidence::Draft;
-use kernel::{Rule, Step};
 use outside::Seq;
+use rule_rows::{Rule, Step};
 use std::alloc::{AllocError, Global};
 use trees::TermId;
 

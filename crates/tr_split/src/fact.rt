@@ -14,8 +14,8 @@ use crate::derive::derive;
 use crate::glue::negation;
 use binders::inst_types;
 use evidence::Draft;
-use kernel::Rule;
 use outside::Seq;
+use rule_rows::Rule;
 use std::alloc::AllocError;
 use trees::TermId;
 

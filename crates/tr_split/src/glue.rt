@@ -14,7 +14,7 @@ ghost use Rattle.tr_split.specs.Glue.{AreFormulas, IsFormulaAt, HasFormulas, Glu
 
 use crate::derive::{derive, joined, keep_but};
 use evidence::Draft;
-use kernel::Rule;
+use rule_rows::Rule;
 use std::alloc::AllocError;
 use term_store::{Grow, Store};
 use trees::{Node, Op, TermId};

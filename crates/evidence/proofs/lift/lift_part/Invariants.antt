@@ -1,4 +1,4 @@
-use Rattle.kernel.specs.Meaning.{steps_at}
+use Rattle.rule_rows.specs.Meaning.{steps_at}
 use Rattle.evidence.specs.Drafts.{Extends}
 use Rattle.evidence.specs.Stages.{HaveSequents, sequent_of}
 use Rattle.evidence.specs.Languages.{StepsAreIn, IsLanguageOf, StaysIn}

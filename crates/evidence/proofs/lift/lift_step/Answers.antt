@@ -5,7 +5,7 @@ use Rattle.trees.specs.Tree.{Tree}
 use Rattle.tasks.specs.Task.{neg}
 use Rattle.tasks.specs.Meaning.{trees_at, task_at}
 use Rattle.tasks.proofs.Growth.{trees_later}
-use Rattle.kernel.specs.Meaning.{rule_at, step_at, steps_at}
+use Rattle.rule_rows.specs.Meaning.{rule_at, step_at, steps_at}
 use Rattle.evidence.specs.Drafts.{Refutes}
 use Rattle.evidence.specs.Laws.{Extends_trans}
 use Rattle.evidence.specs.Stages.{fact_of}

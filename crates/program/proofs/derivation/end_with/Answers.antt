@@ -2,9 +2,9 @@ use Rattle.std.proofs.Common.{rules, arith, ap, ◌≡◌, ◌∙◌, ◌<◌, �
 use Rattle.std.proofs.lemmas.List.{length-map}
 use Rattle.tasks.specs.Meaning.{trees_at}
 use Rattle.tasks.specs.Task.{start}
-use Rattle.kernel.specs.Trees.{StepTree, RKeep, no_step}
-use Rattle.kernel.specs.Meaning.{step_at}
-use Rattle.kernel.specs.Rows.{last_starts, step_or}
+use Rattle.rule_rows.specs.Trees.{StepTree, RKeep, no_step, step_or}
+use Rattle.rule_rows.specs.Meaning.{step_at}
+use Rattle.kernel.specs.Right.{last_starts}
 use Rattle.evidence.specs.Drafts.{DraftTree}
 use Rattle.evidence.specs.Languages.{AreIn}
 use Rattle.evidence.proofs.Staying.{stays_same, stays_pushed}

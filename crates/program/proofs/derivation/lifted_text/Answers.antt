@@ -2,9 +2,9 @@ use Rattle.std.proofs.Common.{rules, arith, ap, ◌≡◌, ◌∙◌, ◌≤◌,
 use Rattle.trees.specs.Tree.{Tree}
 use Rattle.tasks.specs.Task.{TaskTree}
 use Rattle.tasks.specs.Meaning.{task_at}
-use Rattle.kernel.specs.Trees.{StepTree}
-use Rattle.kernel.specs.Rows.{Closes, AreRight}
-use Rattle.kernel.specs.Meaning.{steps_at}
+use Rattle.rule_rows.specs.Trees.{StepTree}
+use Rattle.kernel.specs.Right.{Closes, AreRight}
+use Rattle.rule_rows.specs.Meaning.{steps_at}
 use Rattle.evidence.specs.Drafts.{DraftTree}
 use Rattle.evidence.specs.Languages.{StepsAreIn}
 use Rattle.evidence.specs.Stages.{parts_at}

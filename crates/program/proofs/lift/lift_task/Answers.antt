@@ -6,7 +6,7 @@ use Rattle.tasks.specs.declared.task.Task.{Task}
 use Rattle.tasks.specs.Meaning.{task_at, tasks_at}
 use Rattle.tasks.specs.Valid.{IsValid}
 use Rattle.tasks.proofs.Growth.{task_later, task_held_later, tasks_later, tasks_held_later}
-use Rattle.kernel.specs.declared.rule.Step.{Step}
+use Rattle.rule_rows.specs.declared.rule.Step.{Step}
 use Rattle.evidence.specs.Stages.{parts_at}
 use Rattle.problems.specs.Used.{DeclaresEntries}
 use Rattle.tr_split.specs.Split.{split_task}

@@ -2,9 +2,9 @@ use Rattle.std.proofs.Common.{rules, arith, ◌≡◌, ◌+◌, ◌<◌, ◌∙�
 use Rattle.tasks.specs.Task.{TaskTree}
 use Rattle.trees.proofs.Nodes.{Grows_trans}
 use Rattle.tasks.specs.Meaning.{tasks_at}
-use Rattle.kernel.specs.declared.rule.Step.{Step}
-use Rattle.kernel.specs.Trees.{StepTree}
-use Rattle.kernel.specs.Meaning.{steps_at}
+use Rattle.rule_rows.specs.declared.rule.Step.{Step}
+use Rattle.rule_rows.specs.Trees.{StepTree}
+use Rattle.rule_rows.specs.Meaning.{steps_at}
 use Rattle.evidence.specs.Stages.{parts_at, task_or, PartsHeld}
 use Rattle.program.specs.Lifted.{IsRefutation, AreRefuted}
 use Rattle.program.specs.Answers.{Answers}

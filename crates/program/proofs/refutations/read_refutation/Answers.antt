@@ -1,8 +1,8 @@
 use Rattle.std.proofs.Common.{List, subst}
 use Rattle.trees.specs.Tree.{Tree}
 use Rattle.tasks.specs.Meaning.{task_at}
-use Rattle.kernel.specs.Rows.{Closes}
-use Rattle.kernel.specs.Meaning.{steps_at}
+use Rattle.kernel.specs.Right.{Closes}
+use Rattle.rule_rows.specs.Meaning.{steps_at}
 use Rattle.program.proofs.PlainSteps.{steps_plain}
 use Rattle.program.proofs.refutations.read_refutation.Goals as goal
 

@@ -3,7 +3,7 @@ use Rattle.steps_text.proofs.Progress.{no_true}
 use Rattle.std.specs.Option.{option_map}
 use Rattle.steps_text.specs.Reading.{thing_at}
 use Rattle.tasks.proofs.Growth.{task_held_later}
-use Rattle.kernel.specs.Meaning.{step_at}
+use Rattle.rule_rows.specs.Meaning.{step_at}
 use Rattle.kernel.proofs.Growth.{steps_held_later}
 use Rattle.steps_text.proofs.Growth.{right_step_made, wrong_step_made}
 use Rattle.steps_text.proofs.good.right_thing.Goals as goal

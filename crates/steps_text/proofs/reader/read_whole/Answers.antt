@@ -5,9 +5,9 @@ use Rattle.trees.specs.declared.TermId.{TermId}
 use Rattle.tasks.specs.Task.{TaskTree}
 use Rattle.tasks.specs.Meaning.{task_at}
 use Rattle.tasks.proofs.Growth.{task_held_later, task_later}
-use Rattle.kernel.specs.declared.rule.Step.{Step}
-use Rattle.kernel.specs.Rows.{last_starts}
-use Rattle.kernel.specs.Meaning.{steps_at}
+use Rattle.rule_rows.specs.declared.rule.Step.{Step}
+use Rattle.kernel.specs.Right.{last_starts}
+use Rattle.rule_rows.specs.Meaning.{steps_at}
 use Rattle.steps_text.specs.Words.{texts}
 use Rattle.steps_text.specs.Lines.{nothing_read, AreRead, IsWrongLine, LineIsRight}
 use Rattle.steps_text.specs.Reading.{IsFault, reading_at, MakesGood, thing_at, ThingHeld}

@@ -1,6 +1,6 @@
 use Rattle.trees.specs.Node.{Grows}
 use Rattle.tasks.specs.Meaning.{task_at}
-use Rattle.kernel.specs.Meaning.{StepsHeld}
+use Rattle.rule_rows.specs.Meaning.{StepsHeld}
 use Rattle.steps_text.specs.Words.{texts}
 use Rattle.steps_text.specs.Reading.{AreFormulas, reading_at}
 use Rattle.steps_text.proofs.Progress.{Stands}

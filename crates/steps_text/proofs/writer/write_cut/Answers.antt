@@ -1,6 +1,6 @@
 use Rattle.std.proofs.Common.{sym, subst}
 use Rattle.std.specs.Prelude.{OnOk}
-use Rattle.kernel.specs.Meaning.{rule_at}
+use Rattle.rule_rows.specs.Meaning.{rule_at}
 use Rattle.steps_text.specs.Writing.{rule_formulas}
 use Rattle.steps_text.specs.Written.{Continues, IsNumbered, AreNumbered, cut_formulas}
 use Rattle.steps_text.proofs.Writing.{one_of}

@@ -26,5 +26,5 @@ returns c =
     let fits : OnOk c.put_step.result (StepFits two.table.items st) = subst (λ (t : List (Option ℕ)). OnOk c.put_step.result (StepFits t st)) c.deref.ensures.value c.put_step.ensures.fits in
     on_ok_two c.put_step.result
     (λ t f. step_continues names s c.args.w.now one two new st first c.in_ok-write_cut.ensures.continues
-    (step_added names s two new st t refl refl f (λ k d h. c.in_ok-write_cut.ensures.keeps _ (numbered k d h)) c.in_ok-write_cut.ensures.numbered c.requires.writable.types))
+    (step_added names s two new st t refl refl f (λ k d h. c.in_ok-write_cut.ensures.keeps _ (numbered k d h)) c.in_ok-write_cut.ensures.numbered c.requires.writable.word))
     text fits

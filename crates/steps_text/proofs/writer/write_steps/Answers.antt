@@ -1,8 +1,8 @@
 use Rattle.std.proofs.Common.{◌<◌, ◌≤◌, length, arith, sym, subst}
 use Rattle.std.proofs.lemmas.List.{length-map}
 use Rattle.tasks.specs.Meaning.{task_at}
-use Rattle.kernel.specs.Trees.{no_step}
-use Rattle.kernel.specs.Meaning.{step_at, steps_at}
+use Rattle.rule_rows.specs.Trees.{no_step}
+use Rattle.rule_rows.specs.Meaning.{step_at, steps_at}
 use Rattle.steps_text.specs.Writing.{IsWritableStep}
 use Rattle.steps_text.proofs.Stepping.{step_there, steps_more, all_written, some_written}
 use Rattle.steps_text.proofs.writer.write_steps.Goals as goal

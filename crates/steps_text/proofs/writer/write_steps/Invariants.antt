@@ -1,5 +1,5 @@
 use Rattle.tasks.specs.Meaning.{task_at}
-use Rattle.kernel.specs.Meaning.{steps_at}
+use Rattle.rule_rows.specs.Meaning.{steps_at}
 use Rattle.steps_text.proofs.Stepping.{StepsWritten}
 use Rattle.steps_text.proofs.writer.write_steps.Given as goal
 

@@ -1,9 +1,9 @@
 use Rattle.std.proofs.Common.{◌≡◌, List, sym, subst}
 use Rattle.tasks.specs.Meaning.{task_at, TaskHeld}
 use Rattle.tasks.proofs.Growth.{task_later}
-use Rattle.kernel.specs.declared.rule.Step.{Step}
-use Rattle.kernel.specs.Rows.{Closes}
-use Rattle.kernel.specs.Meaning.{steps_at}
+use Rattle.rule_rows.specs.declared.rule.Step.{Step}
+use Rattle.kernel.specs.Right.{Closes}
+use Rattle.rule_rows.specs.Meaning.{steps_at}
 use Rattle.steps_text.specs.Writing.{AreWritable}
 use Rattle.steps_text.proofs.Writable.{steps_writable}
 use Rattle.steps_text_tests.proofs.round_trips.written.Goals as goal

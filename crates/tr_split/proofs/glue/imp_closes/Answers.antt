@@ -5,8 +5,8 @@ use Rattle.trees.specs.Tree.{Tree}
 use Rattle.trees.specs.Node.{tree_at}
 use Rattle.tasks.specs.Task.{neg}
 use Rattle.tasks.specs.Meaning.{trees_at}
-use Rattle.kernel.specs.Trees.{RClash}
-use Rattle.kernel.specs.Rows.{IsRight}
+use Rattle.rule_rows.specs.Trees.{RClash}
+use Rattle.kernel.specs.Right.{IsRight}
 use Rattle.evidence.specs.Drafts.{DraftTree, Refutes}
 use Rattle.evidence.specs.Laws.{Extends_refl, Extends_trans}
 use Rattle.evidence.proofs.Rules.{refutes_later}

@@ -4,7 +4,7 @@ use Rattle.trees.specs.Tree.{Tree}
 use Rattle.trees.specs.Node.{tree_at}
 use Rattle.tasks.specs.Task.{neg}
 use Rattle.tasks.specs.Meaning.{trees_at}
-use Rattle.kernel.specs.Trees.{RNotImp}
+use Rattle.rule_rows.specs.Trees.{RNotImp}
 use Rattle.evidence.specs.Drafts.{Refutes}
 use Rattle.evidence.specs.Laws.{Extends_trans}
 use Rattle.tr_split.proofs.Pieces.{one_formula, back, notimp_at, first_place}

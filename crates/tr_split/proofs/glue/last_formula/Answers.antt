@@ -1,5 +1,5 @@
 use Rattle.std.proofs.Common.{ap, get_or}
-use Rattle.kernel.specs.declared.rule.Step.{Step}
+use Rattle.rule_rows.specs.declared.rule.Step.{Step}
 use Rattle.trees.specs.declared.TermId.{TermId}
 use Rattle.tr_split.proofs.Pieces.{last_at}
 use Rattle.tr_split.proofs.glue.last_formula.Goals as goal

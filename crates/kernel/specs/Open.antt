@@ -1,0 +1,53 @@
+-- A step whose trees are typed as far as they stand. A line of a step file makes such a tree from earlier ones, and where no
+-- variable is open it is well typed.
+use Rattle.std.specs.Prelude.{◌≡◌, List, [], ◌∷◌, All}
+use Rattle.trees.specs.declared.TermId.{TermId}
+use Rattle.trees.specs.Tree.{Tree, loose}
+use Rattle.trees.specs.Node.{tree_at}
+use Rattle.tasks.specs.Task.{TaskTree}
+use Rattle.tasks.specs.Vocabulary.{of_task}
+use Rattle.tasks.specs.Valid.{IsGround}
+use Rattle.tasks.specs.Typing.{IsTyped}
+use Rattle.tasks.specs.Open.{OpenTyped}
+use Rattle.rule_rows.specs.declared.rule.Step.{Step}
+use Rattle.rule_rows.specs.declared.rule.Rule.{Rule}
+use Rattle.rule_rows.specs.declared.rule.Rule.TheVariants.{Fact, Def, Clause, Inv}
+use Rattle.rule_rows.specs.Trees.{RuleTree, RReplace, trees_of}
+use Rattle.rule_rows.specs.Meaning.{rule_at}
+use Rattle.kernel.specs.Right.{Each}
+
+-- a tree is typed as far as it stands; the tree of a number is
+abbrev pub OpenIn : TaskTree → Tree → Type 0
+OpenIn t e = OpenTyped (of_task t) e
+
+abbrev pub IsOpen : TaskTree → List Tree → TermId → Type 0
+IsOpen t s a = OpenIn t (tree_at s a)
+
+-- so is the template of a replacement
+abbrev pub TemplateIsOpen : TaskTree → RuleTree → Type 0
+TemplateIsOpen t (RReplace i j e) = OpenIn t e
+TemplateIsOpen t _ = Unit {0}
+
+-- the types that a rule names
+abbrev pub types_in : Rule → List TermId
+types_in (Fact k types) = types
+types_in (Def k types) = types
+types_in (Clause k c types) = types
+types_in (Inv k types) = types
+types_in _ = []
+
+-- so are all trees of a step
+pub record StepIsOpen (t : TaskTree) (s : List Tree) (step : Step) : Type 0 where
+  pub sequent : All (IsOpen t s) step.sequent
+  pub trees : Each (OpenIn t) (trees_of (rule_at s step.rule))
+  pub template : TemplateIsOpen t (rule_at s step.rule)
+  pub types : All (IsOpen t s) (types_in step.rule)
+
+-- well typed, and free of schematic types
+abbrev pub IsComplete : TaskTree → Tree → Type 0
+IsComplete t e = IsTyped t e × IsGround e
+
+-- each is closed
+abbrev pub EachClosed : List Tree → Type 0
+EachClosed [] = Unit {0}
+EachClosed (e ∷ es) = (loose e ≡ 0) × EachClosed es
