@@ -1,0 +1,9 @@
+pub mod Fields
+pub mod Splitting
+pub mod Told
+pub mod Effort
+pub mod Shapes
+pub mod Answering
+pub mod Tables
+pub mod Missing
+pub mod Rows

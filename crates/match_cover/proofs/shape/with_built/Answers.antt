@@ -1,0 +1,10 @@
+use Rattle.std.proofs.Common.{ap, ◌∙◌}
+use Rattle.match_cover.specs.Meaning.{shapes_of}
+use Rattle.match_cover.specs.Shapes.{built}
+use Rattle.match_cover.proofs.Shapes.{built_first}
+use Rattle.match_cover.proofs.shape.with_built.Goals as goal
+
+pub returns : goal.returns
+returns c =
+    built_first c.args.shapes.items c.in_ok-rest.rest.items c.in_ok-all.all.items c.built.result c.args.arity c.args.con c.in_ok-all.ensures c.in_ok-rest.ensures.tail
+    (c.built.ensures ∙ ap (λ y. built c.args.con (shapes_of y)) c.in_ok-rest.ensures.items)

@@ -1,0 +1,95 @@
+// How far a value is known.
+// It stands on std alone; the cover of patterns stands on it.
+ghost use Rattle.std.specs.Prelude.{◌≡◌, ◌≤◌, ◌∷◌, IfOk, vec_len};
+ghost use Rattle.std.specs.Option.{option_map};
+ghost use Rattle.match_cover.specs.Shapes.{unspecified, built, more};
+ghost use Rattle.match_cover.specs.Tables.{unknowns};
+ghost use Rattle.match_cover.specs.Meaning.{shape_of, shapes_of, front, behind};
+
+use outside::Seq;
+use std::alloc::{AllocError, Global};
+
+/// How far a value is known: not at all where it has no constructor, else its constructor with a shape for each field.
+#[derive(Drop)]
+pub struct Shape {
+    /// The constructor's entry in the signature.
+    pub con: Option<usize>,
+    /// The shapes of the fields, in order; none of an unspecified shape.
+    pub parts: Seq<Shape>,
+}
+
+// The unspecified shape.
+pub(crate) fn unknown(alloc: Global) -> Shape
+    ensures { shape_of result ≡ unspecified }
+{
+    Shape {
+        con: None,
+        parts: Seq::new(alloc),
+    }
+}
+
+// So many unspecified shapes.
+#[tactic(auto, using(crate::proofs::Shapes::unknowns_push))]
+pub(crate) fn unknowns(alloc: Global, count: usize) -> Result<Vec<Shape>, AllocError>
+    ensures { IfOk result (λ v. shapes_of v.items ≡ unknowns count) }
+{
+    let mut shapes = Vec::new(alloc);
+    for _made in 0..count {
+        shapes.push(unknown(alloc))?;
+    }
+    Ok(shapes)
+}
+
+// Shapes behind another one.
+fn with_first(alloc: Global, first: Shape, mut rest: Vec<Shape>) -> Result<Vec<Shape>, AllocError>
+    ensures { IfOk result (λ v. v.items ≡ first ∷ rest.items) }
+{
+    let mut all = Vec::new(alloc);
+    all.push(first)?;
+    all.append(&mut rest)?;
+    Ok(all)
+}
+
+// Shapes behind an unspecified one, if they are there.
+pub(crate) fn behind_unknown(
+    alloc: Global,
+    shapes: Option<Vec<Shape>>,
+) -> Result<Option<Vec<Shape>>, AllocError>
+    ensures { IfOk result (λ o. option_map (λ v. shapes_of v.items) o
+        ≡ option_map (more unspecified) (option_map (λ v. shapes_of v.items) shapes)) }
+{
+    match shapes {
+        Some(rest) => {
+            let all = with_first(alloc, unknown(alloc), rest)?;
+            Ok(Some(all))
+        }
+        None => Ok(None),
+    }
+}
+
+// A constructor on shapes.
+fn built(con: usize, parts: Vec<Shape>) -> Shape
+    ensures { shape_of result ≡ built con (shapes_of parts.items) }
+{
+    Shape {
+        con: Some(con),
+        parts: Seq::from_vec(parts),
+    }
+}
+
+// Shapes behind a constructor on the first so many of them.
+#[tactic(auto, using(crate::proofs::Shapes::built_first))]
+pub(crate) fn with_built(
+    alloc: Global,
+    con: usize,
+    arity: usize,
+    mut shapes: Vec<Shape>,
+) -> Result<Vec<Shape>, AllocError>
+    requires { arity ≤ vec_len shapes }
+    ensures { IfOk result (λ v. shapes_of v.items
+        ≡ more (built con (front arity (shapes_of shapes.items))) (behind arity (shapes_of shapes.items))) }
+{
+    let rest = shapes.split_off(arity)?;
+    let all = with_first(alloc, built(con, shapes), rest)?;
+    Ok(all)
+}
