@@ -39,7 +39,8 @@ fn check_use(
     name: &[u8],
     count: usize,
 ) -> Result<(), NamingFault>
-    ensures { (s : List Tree) → Tells result (symbol_fault (where_at s world.now) due token count (symbol_named world.now.scope.now scopes.now name.now)) }
+    ensures { (s : List Tree) → Tells result (symbol_fault (where_at s world.now) due token count
+        (symbol_named world.now.scope.now scopes.now name.now)) }
 {
     let Some(symbol) = world.symbol_named(scopes, name) else {
         return Err(NamingFault::Unknown { token });
@@ -60,7 +61,8 @@ fn check_name(
     name: &[u8],
     count: usize,
 ) -> Result<(), NamingFault>
-    ensures { (s : List Tree) → Tells result (name_fault (where_at s world.now) (names_at names.now) due token scopes.now name.now count) }
+    ensures { (s : List Tree) → Tells result (name_fault (where_at s world.now)
+        (names_at names.now) due token scopes.now name.now count) }
 {
     if !is_variable(names, scopes, name) {
         return check_use(world, due, token, scopes, name, count);
@@ -94,7 +96,8 @@ pub fn check(
     names: &Names<'_>,
     due: bool,
 ) -> Result<(), NamingFault>
-    ensures { (s : List Tree) → Tells result (fault (where_at s world.now) world.now.new_vars (names_at names.now) due (expression_of e.now)) }
+    ensures { (s : List Tree) → Tells result (fault (where_at s world.now) world.now.new_vars
+        (names_at names.now) due (expression_of e.now)) }
 {
     let token = e.at.main;
     match &e.node {
@@ -185,7 +188,8 @@ fn check_all(
     world: &World<'_>,
     names: &Names<'_>,
 ) -> Result<(), NamingFault>
-    ensures { (s : List Tree) → Tells result (faults (where_at s world.now) world.now.new_vars (names_at names.now) (expressions_of list.now)) }
+    ensures { (s : List Tree) → Tells result (faults (where_at s world.now) world.now.new_vars
+        (names_at names.now) (expressions_of list.now)) }
 {
     for e in list {
         check(alloc, e, world, names, false)?;
@@ -203,7 +207,8 @@ fn check_group(
     due: bool,
     token: usize,
 ) -> Result<(), NamingFault>
-    ensures { (s : List Tree) → Tells result (fault (where_at s world.now) world.now.new_vars (names_at names.now) due (grouped token (expressions_of list.now))) }
+    ensures { (s : List Tree) → Tells result (fault (where_at s world.now) world.now.new_vars
+        (names_at names.now) due (grouped token (expressions_of list.now))) }
 {
     if list.len() == 1 {
         return check(alloc, &list[0], world, names, due);
@@ -219,7 +224,8 @@ fn check_triggers(
     world: &World<'_>,
     names: &Names<'_>,
 ) -> Result<(), NamingFault>
-    ensures { (s : List Tree) → Tells result (triggers_fault (where_at s world.now) world.now.new_vars (names_at names.now) (triggers_of triggers.now)) }
+    ensures { (s : List Tree) → Tells result (triggers_fault
+        (where_at s world.now) world.now.new_vars (names_at names.now) (triggers_of triggers.now)) }
 {
     match triggers {
         Some(terms) => check_terms(alloc, terms.terms.as_slice(), world, names),
@@ -234,7 +240,8 @@ fn check_terms(
     world: &World<'_>,
     names: &Names<'_>,
 ) -> Result<(), NamingFault>
-    ensures { (s : List Tree) → Tells result (triggers_fault (where_at s world.now) world.now.new_vars (names_at names.now) (expressions_of list.now)) }
+    ensures { (s : List Tree) → Tells result (triggers_fault
+        (where_at s world.now) world.now.new_vars (names_at names.now) (expressions_of list.now)) }
 {
     for e in list {
         let due = is_formula_head(alloc, trigger_of(e).head, world, names)?;
@@ -254,7 +261,10 @@ fn check_under(
     names: &Names<'_>,
     due: bool,
 ) -> Result<(), NamingFault>
-    ensures { (s : List Tree) → Tells result (branch_fault (where_at s world.now) world.now.new_vars (names_at names.now) due (more_alternatives (first_form (code.patterns first.now)) (side_by_side (code.patterns first.now)) (alternatives_of rest.now)) (expression_of body.now)) }
+    ensures { (s : List Tree) → Tells result (branch_fault (where_at s world.now) world.now.new_vars
+        (names_at names.now) due (more_alternatives (first_form (code.patterns first.now))
+        (side_by_side (code.patterns first.now)) (alternatives_of rest.now))
+        (expression_of body.now)) }
 {
     let mut bound = Seq::new(alloc);
     check_alternatives(alloc, first, rest, world, &mut bound)?;
@@ -270,7 +280,9 @@ fn check_branch(
     names: &Names<'_>,
     due: bool,
 ) -> Result<(), NamingFault>
-    ensures { (s : List Tree) → Tells result (branch_fault (where_at s world.now) world.now.new_vars (names_at names.now) due (alternatives_of branch.now.alternatives) (expression_of branch.now.body)) }
+    ensures { (s : List Tree) → Tells result (branch_fault (where_at s world.now) world.now.new_vars
+        (names_at names.now) due (alternatives_of branch.now.alternatives)
+        (expression_of branch.now.body)) }
 {
     let body = &branch.body;
     match branch.alternatives.as_slice().split_first() {
@@ -287,7 +299,8 @@ fn check_branches(
     names: &Names<'_>,
     due: bool,
 ) -> Result<(), NamingFault>
-    ensures { (s : List Tree) → Tells result (branches_fault (where_at s world.now) world.now.new_vars (names_at names.now) due (branches_of list.now)) }
+    ensures { (s : List Tree) → Tells result (branches_fault
+        (where_at s world.now) world.now.new_vars (names_at names.now) due (branches_of list.now)) }
 {
     for branch in list {
         check_branch(alloc, branch, world, names, due)?;

@@ -24,7 +24,8 @@ pub enum Operation<'a> {
 
 // The characters of an operator; of what is none, nothing.
 fn spelled(text: &[u8]) -> &[u8]
-    ensures { result.now ≡ spelled (string_terminal text.now) (said (string_terminal text.now) text.now) }
+    ensures { result.now ≡ spelled (string_terminal text.now) (said
+        (string_terminal text.now) text.now) }
 {
     match terminal_of_text(text) {
         Terminal::Equal => b"=".as_slice(),
@@ -77,7 +78,8 @@ pub fn own_name(alloc: Global, style: Style, text: &[u8]) -> Result<Text, AllocE
 
 /// The own name of a prefix operator of an expression.
 pub fn prefix_operator(alloc: Global, op: &OpName) -> Result<Text, AllocError>
-    ensures { IfOk result (λ name. name ≡ prefix_name (spelled (op_of op.now).terminal (op_of op.now).text)) }
+    ensures { IfOk result (λ name. name ≡ prefix_name (spelled (op_of op.now).terminal
+        (op_of op.now).text)) }
 {
     match op.style {
         Style::Plain => prefix_name(alloc, spelled(op.text.as_slice())),
@@ -87,7 +89,8 @@ pub fn prefix_operator(alloc: Global, op: &OpName) -> Result<Text, AllocError>
 
 // What the characters of an operator are.
 fn operation_of(text: &[u8]) -> Operation<'_>
-    ensures { operation_at result ≡ operation (string_terminal text.now) (said (string_terminal text.now) text.now) }
+    ensures { operation_at result ≡ operation (string_terminal text.now) (said
+        (string_terminal text.now) text.now) }
 {
     match terminal_of_text(text) {
         Terminal::Conj => Operation::Connective(Op::And),

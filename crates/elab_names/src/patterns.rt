@@ -34,7 +34,8 @@ fn is_constructor(kind: SymbolKind) -> bool
 
 // An entry in the place of a constructor of so many parts.
 fn check_constructor_entry(token: usize, count: usize, info: &SymbolInfo) -> Result<(), NamingFault>
-    ensures { (s : List Tree) → Tells result (constructor_entry_fault token count (symbol_at s info.now)) }
+    ensures { (s : List Tree) → Tells result (constructor_entry_fault token count
+        (symbol_at s info.now)) }
 {
     refuse_if(!is_constructor(info.kind), NamingFault::WrongKind { token })?;
     refuse_if(info.args.len() != count, NamingFault::Arity { token })
@@ -48,7 +49,8 @@ fn check_constructor(
     name: &[u8],
     count: usize,
 ) -> Result<(), NamingFault>
-    ensures { (s : List Tree) → Tells result (constructor_fault (where_at s world.now) token count (symbol_named world.now.scope.now scopes.now name.now)) }
+    ensures { (s : List Tree) → Tells result (constructor_fault (where_at s world.now) token count
+        (symbol_named world.now.scope.now scopes.now name.now)) }
 {
     let Some(symbol) = world.symbol_named(scopes, name) else {
         return Err(NamingFault::Unknown { token });
@@ -74,7 +76,8 @@ fn check_variable(
     name: &[u8],
     names: &mut Seq<Text>,
 ) -> Result<(), NamingFault>
-    ensures fault { Tells result (fault_if (is_some (place_of name.now names.old)) (Duplicate token)) }
+    ensures fault { Tells result (fault_if (is_some (place_of name.now names.old))
+        (Duplicate token)) }
     ensures names { OnOk result (names.new ≡ names.old ++ name.now ∷ []) }
 {
     let found = variable_named(names.as_slice(), name).is_some();
@@ -91,7 +94,8 @@ pub fn check_pattern(
     world: &World<'_>,
     names: &mut Seq<Text>,
 ) -> Result<(), NamingFault>
-    ensures fault { (s : List Tree) → Tells result (pattern_fault (where_at s world.now) names.old (pattern_of p.now)) }
+    ensures fault { (s : List Tree) → Tells result (pattern_fault (where_at s world.now) names.old
+        (pattern_of p.now)) }
     ensures names { OnOk result (names.new ≡ names.old ++ pattern_names (pattern_of p.now)) }
 {
     let token = p.at.main;
@@ -112,6 +116,7 @@ pub fn check_pattern(
     }
 }
 
+/// The same of several patterns of one pattern, in order.
 #[cycle(pattern_naming)]
 pub fn check_patterns(
     alloc: Global,
@@ -119,7 +124,8 @@ pub fn check_patterns(
     world: &World<'_>,
     names: &mut Seq<Text>,
 ) -> Result<(), NamingFault>
-    ensures fault { (s : List Tree) → Tells result (patterns_fault (where_at s world.now) names.old (patterns_of list.now)) }
+    ensures fault { (s : List Tree) → Tells result (patterns_fault (where_at s world.now) names.old
+        (patterns_of list.now)) }
     ensures names { OnOk result (names.new ≡ names.old ++ patterns_names (patterns_of list.now)) }
 {
     for p in list {
@@ -186,7 +192,8 @@ fn first_token(patterns: &[Pat]) -> usize
 
 // The first fault of patterns side by side.
 fn check_whole(alloc: Global, patterns: &[Pat], world: &World<'_>) -> Result<(), NamingFault>
-    ensures { (s : List Tree) → Tells result (pattern_fault (where_at s world.now) [] (side_by_side (code.patterns patterns.now))) }
+    ensures { (s : List Tree) → Tells result (pattern_fault (where_at s world.now) [] (side_by_side
+        (code.patterns patterns.now))) }
 {
     let mut names = Seq::new(alloc);
     check_patterns(alloc, patterns, world, &mut names)
@@ -194,7 +201,8 @@ fn check_whole(alloc: Global, patterns: &[Pat], world: &World<'_>) -> Result<(),
 
 // A later alternative binds the names of the first one.
 fn check_same(alloc: Global, patterns: &[Pat], bound: &[Text]) -> Result<(), NamingFault>
-    ensures { Tells result (fault_if (not (same_names bound.now (pattern_names (side_by_side (code.patterns patterns.now))))) (WrongKind (first_form (code.patterns patterns.now)))) }
+    ensures { Tells result (fault_if (not (same_names bound.now (pattern_names (side_by_side
+        (code.patterns patterns.now))))) (WrongKind (first_form (code.patterns patterns.now)))) }
 {
     let mut names = Seq::new(alloc);
     enter_all_names(alloc, patterns, &mut names)?;
@@ -212,7 +220,8 @@ fn check_later(
     world: &World<'_>,
     bound: &[Text],
 ) -> Result<(), NamingFault>
-    ensures { (s : List Tree) → Tells result (later_fault (where_at s world.now) bound.now (alternatives_of list.now)) }
+    ensures { (s : List Tree) → Tells result (later_fault (where_at s world.now) bound.now
+        (alternatives_of list.now)) }
 {
     let Some((first, rest)) = list.split_first() else {
         return Ok(());
@@ -231,8 +240,11 @@ pub fn check_alternatives(
     names: &mut Seq<Text>,
 ) -> Result<(), NamingFault>
     requires { names.old ≡ [] }
-    ensures fault { (s : List Tree) → Tells result (alternatives_fault (where_at s world.now) (more_alternatives (first_form (code.patterns first.now)) (side_by_side (code.patterns first.now)) (alternatives_of rest.now))) }
-    ensures names { OnOk result (names.new ≡ pattern_names (side_by_side (code.patterns first.now))) }
+    ensures fault { (s : List Tree) → Tells result (alternatives_fault (where_at s world.now)
+        (more_alternatives (first_form (code.patterns first.now)) (side_by_side
+        (code.patterns first.now)) (alternatives_of rest.now))) }
+    ensures names { OnOk result (names.new ≡ pattern_names (side_by_side
+        (code.patterns first.now))) }
 {
     check_patterns(alloc, first, world, names)?;
     check_later(alloc, rest, world, names.as_slice())

@@ -115,7 +115,8 @@ fn group_trigger(list: &[Expr], token: usize) -> Trigger<'_>
 
 /// Whether the entry for which a name stands makes formulas; an entry that isn't there is want of memory.
 pub fn names_predicate(world: &World<'_>, scopes: &[Text], name: &[u8]) -> Result<bool, AllocError>
-    ensures { IfOk result (λ yes. (s : List Tree) → yes ≡ makes_formulas (where_at s world.now) (symbol_named world.now.scope.now scopes.now name.now)) }
+    ensures { IfOk result (λ yes. (s : List Tree) → yes ≡ makes_formulas (where_at s world.now)
+        (symbol_named world.now.scope.now scopes.now name.now)) }
 {
     let Some(symbol) = world.symbol_named(scopes, name) else {
         return Ok(false);
@@ -133,7 +134,8 @@ fn is_formula_name(
     scopes: &[Text],
     name: &[u8],
 ) -> Result<bool, AllocError>
-    ensures { IfOk result (λ yes. (s : List Tree) → yes ≡ is_formula_head (where_at s world.now) (names_at names.now) (head_named scopes.now name.now)) }
+    ensures { IfOk result (λ yes. (s : List Tree) → yes ≡ is_formula_head (where_at s world.now)
+        (names_at names.now) (head_named scopes.now name.now)) }
 {
     if is_variable(names, scopes, name) {
         Ok(false)
@@ -149,7 +151,8 @@ pub fn is_formula_head(
     world: &World<'_>,
     names: &Names<'_>,
 ) -> Result<bool, AllocError>
-    ensures { IfOk result (λ yes. (s : List Tree) → yes ≡ is_formula_head (where_at s world.now) (names_at names.now) (head_at head.entry)) }
+    ensures { IfOk result (λ yes. (s : List Tree) → yes ≡ is_formula_head (where_at s world.now)
+        (names_at names.now) (head_at head.entry)) }
 {
     match head {
         TriggerHead::Name(name) => {

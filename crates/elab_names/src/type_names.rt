@@ -29,7 +29,8 @@ fn check_type(
     symbol: usize,
     count: usize,
 ) -> Result<(), NamingFault>
-    ensures { (s : List Tree) → Tells result (meaning_fault (where_at s world.now) token count (Some (Stands symbol))) }
+    ensures { (s : List Tree) → Tells result (meaning_fault (where_at s world.now) token count (Some
+        (Stands symbol))) }
 {
     match world.symbols.get(symbol) {
         Some(info) => refuse_if(info.vars != count, NamingFault::Arity { token }),
@@ -45,7 +46,8 @@ fn check_meaning(
     name: &[u8],
     count: usize,
 ) -> Result<(), NamingFault>
-    ensures { (s : List Tree) → Tells result (meaning_fault (where_at s world.now) token count (option_map (meaning_at s) (type_named world.now.scope.now scopes.now name.now))) }
+    ensures { (s : List Tree) → Tells result (meaning_fault (where_at s world.now) token count
+        (option_map (meaning_at s) (type_named world.now.scope.now scopes.now name.now))) }
 {
     match world.type_named(scopes, name) {
         None => Err(NamingFault::Unknown { token }),
@@ -58,7 +60,8 @@ fn check_meaning(
 
 // A type variable: one of the declaration, or a new one where such are allowed.
 fn check_variable(world: &World<'_>, token: usize, name: &[u8]) -> Result<(), NamingFault>
-    ensures { (s : List Tree) → Tells result (form_fault (where_at s world.now) world.now.new_vars (variable token name.now)) }
+    ensures { (s : List Tree) → Tells result (form_fault (where_at s world.now) world.now.new_vars
+        (variable token name.now)) }
 {
     if world.new_vars {
         return Ok(());
@@ -70,7 +73,8 @@ fn check_variable(world: &World<'_>, token: usize, name: &[u8]) -> Result<(), Na
 /// The first fault of a type's names.
 #[cycle(form_naming)]
 pub fn check_form(alloc: Global, ty: &TypeTree, world: &World<'_>) -> Result<(), NamingFault>
-    ensures { (s : List Tree) → Tells result (form_fault (where_at s world.now) world.now.new_vars (form_of ty.now)) }
+    ensures { (s : List Tree) → Tells result (form_fault (where_at s world.now) world.now.new_vars
+        (form_of ty.now)) }
 {
     match &ty.node {
         TypeNode::Var(name) => check_variable(world, ty.at.main, name.as_slice()),
@@ -86,7 +90,8 @@ pub fn check_form(alloc: Global, ty: &TypeTree, world: &World<'_>) -> Result<(),
 
 #[cycle(form_naming)]
 fn check_forms(alloc: Global, list: &[TypeTree], world: &World<'_>) -> Result<(), NamingFault>
-    ensures { (s : List Tree) → Tells result (forms_fault (where_at s world.now) world.now.new_vars (forms_of list.now)) }
+    ensures { (s : List Tree) → Tells result (forms_fault (where_at s world.now) world.now.new_vars
+        (forms_of list.now)) }
 {
     for ty in list {
         check_form(alloc, ty, world)?;
@@ -96,7 +101,8 @@ fn check_forms(alloc: Global, list: &[TypeTree], world: &World<'_>) -> Result<()
 
 // The first fault of a binder's type, where it has one.
 fn check_binder(alloc: Global, binder: &BinderTree, world: &World<'_>) -> Result<(), NamingFault>
-    ensures { (s : List Tree) → Tells result (type_fault (where_at s world.now) world.now.new_vars (binder_of binder.now).of_type) }
+    ensures { (s : List Tree) → Tells result (type_fault (where_at s world.now) world.now.new_vars
+        (binder_of binder.now).of_type) }
 {
     match &binder.ty {
         Some(ty) => check_form(alloc, ty, world),
@@ -110,7 +116,8 @@ pub fn check_binders(
     binders: &[BinderTree],
     world: &World<'_>,
 ) -> Result<(), NamingFault>
-    ensures { (s : List Tree) → Tells result (binders_fault (where_at s world.now) world.now.new_vars (binders_of binders.now)) }
+    ensures { (s : List Tree) → Tells result (binders_fault
+        (where_at s world.now) world.now.new_vars (binders_of binders.now)) }
 {
     for binder in binders {
         check_binder(alloc, binder, world)?;

@@ -54,7 +54,8 @@ fn enter_width(seen: &mut Seen, width: usize) -> Result<(), AllocError>
 
 // The width of what stands in parentheses: one alone is no tuple.
 fn enter_tuple(seen: &mut Seen, width: usize) -> Result<(), AllocError>
-    ensures { OnOk result (seen_at seen.new ≡ cond (width == 1) (seen_at seen.old) (with_width width (seen_at seen.old))) }
+    ensures { OnOk result (seen_at seen.new ≡ cond (width == 1) (seen_at seen.old) (with_width width
+        (seen_at seen.old))) }
 {
     if width == 1 {
         Ok(())
@@ -90,7 +91,8 @@ fn enter_forms(alloc: Global, seen: &mut Seen, types: &[TypeTree]) -> Result<(),
 
 // Those of a binder's type, where it has one.
 fn enter_binder(alloc: Global, seen: &mut Seen, binder: &BinderTree) -> Result<(), AllocError>
-    ensures { OnOk result (seen_at seen.new ≡ type_seen (seen_at seen.old) (binder_of binder.now).of_type) }
+    ensures { OnOk result (seen_at seen.new ≡ type_seen (seen_at seen.old)
+        (binder_of binder.now).of_type) }
 {
     match &binder.ty {
         Some(ty) => enter_form(alloc, seen, ty),
@@ -99,7 +101,8 @@ fn enter_binder(alloc: Global, seen: &mut Seen, binder: &BinderTree) -> Result<(
 }
 
 fn enter_binders(alloc: Global, seen: &mut Seen, binders: &[BinderTree]) -> Result<(), AllocError>
-    ensures { OnOk result (seen_at seen.new ≡ binders_seen (seen_at seen.old) (binders_of binders.now)) }
+    ensures { OnOk result (seen_at seen.new ≡ binders_seen (seen_at seen.old)
+        (binders_of binders.now)) }
 {
     for binder in binders {
         enter_binder(alloc, seen, binder)?;
@@ -126,7 +129,8 @@ fn enter_pattern(seen: &mut Seen, p: &Pat) -> Result<(), AllocError>
 
 #[cycle(pattern_entering)]
 fn enter_all_patterns(seen: &mut Seen, list: &[Pat]) -> Result<(), AllocError>
-    ensures { OnOk result (seen_at seen.new ≡ patterns_seen (seen_at seen.old) (patterns_of list.now)) }
+    ensures { OnOk result (seen_at seen.new ≡ patterns_seen (seen_at seen.old)
+        (patterns_of list.now)) }
 {
     for p in list {
         enter_pattern(seen, p)?;
@@ -136,14 +140,16 @@ fn enter_all_patterns(seen: &mut Seen, list: &[Pat]) -> Result<(), AllocError>
 
 // The widths of patterns side by side, which are a tuple where they are more than one.
 fn enter_patterns(seen: &mut Seen, list: &[Pat]) -> Result<(), AllocError>
-    ensures { OnOk result (seen_at seen.new ≡ pattern_seen (seen_at seen.old) (side_by_side (code.patterns list.now))) }
+    ensures { OnOk result (seen_at seen.new ≡ pattern_seen (seen_at seen.old) (side_by_side
+        (code.patterns list.now))) }
 {
     enter_tuple(seen, list.len())?;
     enter_all_patterns(seen, list)
 }
 
 fn enter_alternatives(seen: &mut Seen, list: &[Seq<Pat>]) -> Result<(), AllocError>
-    ensures { OnOk result (seen_at seen.new ≡ alternatives_seen (seen_at seen.old) (alternatives_of list.now)) }
+    ensures { OnOk result (seen_at seen.new ≡ alternatives_seen (seen_at seen.old)
+        (alternatives_of list.now)) }
 {
     for patterns in list {
         enter_patterns(seen, patterns.as_slice())?;
@@ -210,7 +216,8 @@ fn enter_triggers(
     seen: &mut Seen,
     triggers: &Option<TriggerTree>,
 ) -> Result<(), AllocError>
-    ensures { OnOk result (seen_at seen.new ≡ all_seen (seen_at seen.old) (triggers_of triggers.now)) }
+    ensures { OnOk result (seen_at seen.new ≡ all_seen (seen_at seen.old)
+        (triggers_of triggers.now)) }
 {
     match triggers {
         Some(terms) => enter_all(alloc, seen, terms.terms.as_slice()),
@@ -220,7 +227,8 @@ fn enter_triggers(
 
 #[cycle(entering)]
 fn enter_all(alloc: Global, seen: &mut Seen, list: &[Expr]) -> Result<(), AllocError>
-    ensures { OnOk result (seen_at seen.new ≡ all_seen (seen_at seen.old) (expressions_of list.now)) }
+    ensures { OnOk result (seen_at seen.new ≡ all_seen (seen_at seen.old)
+        (expressions_of list.now)) }
 {
     for e in list {
         enter_variables(alloc, seen, e)?;
@@ -231,7 +239,8 @@ fn enter_all(alloc: Global, seen: &mut Seen, list: &[Expr]) -> Result<(), AllocE
 // Those of a branch.
 #[cycle(entering)]
 fn enter_branch(alloc: Global, seen: &mut Seen, branch: &BranchTree) -> Result<(), AllocError>
-    ensures { OnOk result (seen_at seen.new ≡ fold.seen (alternatives_seen (seen_at seen.old) (alternatives_of branch.now.alternatives)) (expression_of branch.now.body)) }
+    ensures { OnOk result (seen_at seen.new ≡ fold.seen (alternatives_seen (seen_at seen.old)
+        (alternatives_of branch.now.alternatives)) (expression_of branch.now.body)) }
 {
     enter_alternatives(seen, branch.alternatives.as_slice())?;
     enter_variables(alloc, seen, &branch.body)
@@ -239,7 +248,8 @@ fn enter_branch(alloc: Global, seen: &mut Seen, branch: &BranchTree) -> Result<(
 
 #[cycle(entering)]
 fn enter_branches(alloc: Global, seen: &mut Seen, list: &[BranchTree]) -> Result<(), AllocError>
-    ensures { OnOk result (seen_at seen.new ≡ branches_seen (seen_at seen.old) (branches_of list.now)) }
+    ensures { OnOk result (seen_at seen.new ≡ branches_seen (seen_at seen.old)
+        (branches_of list.now)) }
 {
     for branch in list {
         enter_branch(alloc, seen, branch)?;
