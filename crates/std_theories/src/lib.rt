@@ -1,0 +1,8 @@
+//! The embedded library: the surface trees of nine theories, which every source may use.
+//! It depends on the reader of sources.
+#![tactic(auto)]
+
+mod library;
+mod texts;
+
+pub use library::library_files;

@@ -1,0 +1,58 @@
+// The trees of the embedded library.
+// They depend on the library's texts and the reader of sources; the tables of theories depend on them.
+ghost use Rattle.std.specs.Prelude.{◌≡◌, ◌++◌, ℕ, List, map, IfOk, OnOk};
+ghost use Rattle.syntax_why.specs.declared.declarations.File.{File as SurfaceFile};
+ghost use Rattle.std_theories.specs.Library.{AreFilesOf, IsFileOfText, entry_of, library};
+
+use crate::texts::{Entry, LIBRARY};
+use outside::Text;
+use parse_decls::parse;
+use std::alloc::{AllocError, Global};
+use syntax_why::File;
+use tokens_why::lex;
+
+/// The file of a text of the library.
+fn file_of_text(alloc: Global, text: &[u8]) -> Result<File, AllocError>
+    ensures { IfOk result (IsFileOfText text.now) }
+{
+    let Ok(tokens) = lex(alloc, text) else {
+        return Err(AllocError);
+    };
+    match parse(alloc, tokens.as_slice(), text) {
+        Ok(file) => Ok(file),
+        Err(_) => Err(AllocError),
+    }
+}
+
+/// Puts the files of entries behind others.
+fn push_files(
+    alloc: Global,
+    entries: &[Entry],
+    out: &mut Vec<(Text, File)>,
+) -> Result<(), AllocError>
+    ensures { OnOk result ((fs : List (List ℕ × SurfaceFile))
+        × (out.new.items ≡ out.old.items ++ fs) × AreFilesOf (map entry_of entries.now) fs) }
+{
+    match entries.split_first() {
+        Some((first, rest)) => {
+            let path = Text::from_slice(alloc, first.0.as_bytes())?;
+            let file = file_of_text(alloc, first.1.as_bytes())?;
+            out.push((path, file))?;
+            push_files(alloc, rest, out)
+        }
+        None => Ok(()),
+    }
+}
+
+/// The files of the embedded library, each with the path of its theory, in the order in which its theories are known: `int.Int`,
+/// `int.Abs`, `int.MinMax`, `bool.Bool`, `option.Option`, `list.List`, `list.Length`, `list.Mem`, `list.Append` (Why3's standard
+/// library, in part).
+///
+/// Only want of memory refuses.
+pub fn library_files(alloc: Global) -> Result<Vec<(Text, File)>, AllocError>
+    ensures { IfOk result (λ fs. AreFilesOf library fs.items) }
+{
+    let mut files = Vec::new(alloc);
+    push_files(alloc, &LIBRARY, &mut files)?;
+    Ok(files)
+}

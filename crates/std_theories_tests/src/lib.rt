@@ -1,0 +1,3 @@
+//! Tests of the embedded library: its trees write its texts.
+
+mod files;
