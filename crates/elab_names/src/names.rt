@@ -4,6 +4,7 @@
 ghost use Rattle.std.specs.Prelude.{◌≡◌, List, [], Some, option_map};
 ghost use Rattle.trees.specs.Tree.{Tree};
 ghost use Rattle.tasks.specs.Meaning.{symbol_at};
+ghost use Rattle.tasks.specs.Task.{int_symbol};
 ghost use Rattle.elab_names.specs.Abstract.{expression_of, expressions_of, grouped, triggers_of, let_name, more_alternatives, first_form, side_by_side, alternatives_of, branches_of};
 ghost use Rattle.elab_names.specs.Faults.{fault, faults, symbol_fault, name_fault, entry_fault, triggers_fault, branch_fault, branches_fault};
 ghost use Rattle.elab_names.specs.Naming.{Tells, names_at, where_at, symbol_named};
@@ -30,6 +31,14 @@ fn check_entry(due: bool, token: usize, count: usize, info: &SymbolInfo) -> Resu
     refuse_if(info.args.len() != count, NamingFault::Arity { token })
 }
 
+// A use of a number without an entry, which counts as the entry of `int`, with so many arguments.
+fn check_absent(due: bool, token: usize, count: usize) -> Result<(), NamingFault>
+    ensures { Tells result (entry_fault due token count int_symbol) }
+{
+    refuse_if(due, NamingFault::WrongKind { token })?;
+    refuse_if(count != 0, NamingFault::Arity { token })
+}
+
 // A use of a symbol with so many arguments.
 fn check_use(
     world: &World<'_>,
@@ -47,7 +56,7 @@ fn check_use(
     };
     match world.symbols.get(symbol) {
         Some(info) => check_entry(due, token, count, info),
-        None => Err(NamingFault::Memory),
+        None => check_absent(due, token, count),
     }
 }
 

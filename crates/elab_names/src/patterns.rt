@@ -57,7 +57,7 @@ fn check_constructor(
     };
     match world.symbols.get(symbol) {
         Some(info) => check_constructor_entry(token, count, info),
-        None => Err(NamingFault::Memory),
+        None => Err(NamingFault::WrongKind { token }),
     }
 }
 

@@ -113,32 +113,27 @@ fn group_trigger(list: &[Expr], token: usize) -> Trigger<'_>
     }
 }
 
-/// Whether the entry for which a name stands makes formulas; an entry that isn't there is want of memory.
-pub fn names_predicate(world: &World<'_>, scopes: &[Text], name: &[u8]) -> Result<bool, AllocError>
-    ensures { IfOk result (λ yes. (s : List Tree) → yes ≡ makes_formulas (where_at s world.now)
-        (symbol_named world.now.scope.now scopes.now name.now)) }
+/// Whether the entry for which a name stands makes formulas. A number without an entry counts as that of `int`.
+pub fn names_predicate(world: &World<'_>, scopes: &[Text], name: &[u8]) -> bool
+    ensures { (s : List Tree) → result ≡ makes_formulas (where_at s world.now)
+        (symbol_named world.now.scope.now scopes.now name.now) }
 {
     let Some(symbol) = world.symbol_named(scopes, name) else {
-        return Ok(false);
+        return false;
     };
     match world.symbols.get(symbol) {
-        Some(info) => Ok(is_predicate(info.kind)),
-        None => Err(AllocError),
+        Some(info) => is_predicate(info.kind),
+        None => false,
     }
 }
 
 // Whether a name is that of a predicate, which no variable hides.
-fn is_formula_name(
-    world: &World<'_>,
-    names: &Names<'_>,
-    scopes: &[Text],
-    name: &[u8],
-) -> Result<bool, AllocError>
-    ensures { IfOk result (λ yes. (s : List Tree) → yes ≡ is_formula_head (where_at s world.now)
-        (names_at names.now) (head_named scopes.now name.now)) }
+fn is_formula_name(world: &World<'_>, names: &Names<'_>, scopes: &[Text], name: &[u8]) -> bool
+    ensures { (s : List Tree) → result ≡ is_formula_head (where_at s world.now) (names_at names.now)
+        (head_named scopes.now name.now) }
 {
     if is_variable(names, scopes, name) {
-        Ok(false)
+        false
     } else {
         names_predicate(world, scopes, name)
     }
@@ -157,13 +152,14 @@ pub fn is_formula_head(
     match head {
         TriggerHead::Name(name) => {
             let own = own_name(alloc, name.style, name.text.as_slice())?;
-            is_formula_name(world, names, name.scopes.as_slice(), own.as_slice())
+            let scopes = name.scopes.as_slice();
+            Ok(is_formula_name(world, names, scopes, own.as_slice()))
         }
         TriggerHead::Prefix(op) => {
             let own = prefix_operator(alloc, op)?;
-            is_formula_name(world, names, &[], own.as_slice())
+            Ok(is_formula_name(world, names, &[], own.as_slice()))
         }
-        TriggerHead::Infix(name) => is_formula_name(world, names, &[], name),
+        TriggerHead::Infix(name) => Ok(is_formula_name(world, names, &[], name)),
         TriggerHead::Equality(same) => Ok(same),
         TriggerHead::Other => Ok(false),
     }

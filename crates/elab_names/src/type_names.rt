@@ -22,7 +22,7 @@ pub fn refuse_if(test: bool, fault: NamingFault) -> Result<(), NamingFault>
     if test { Err(fault) } else { Ok(()) }
 }
 
-// An entry of so many type variables.
+// An entry of so many type variables; a number without an entry counts as that of `int`.
 fn check_type(
     world: &World<'_>,
     token: usize,
@@ -34,7 +34,7 @@ fn check_type(
 {
     match world.symbols.get(symbol) {
         Some(info) => refuse_if(info.vars != count, NamingFault::Arity { token }),
-        None => Err(NamingFault::Memory),
+        None => refuse_if(count != 0, NamingFault::Arity { token }),
     }
 }
 
