@@ -136,6 +136,12 @@ abbrev pub alternatives_names : Alternatives → List Word
 alternatives_names no_alternatives = []
 alternatives_names (more_alternatives i p ps) = pattern_names p
 
+-- whether a branch has an alternative
+abbrev pub has_alternative : Branches → Bool
+has_alternative no_branches = false
+has_alternative (more_branches no_alternatives b bs) = has_alternative bs
+has_alternative (more_branches (more_alternatives i p ps) b bs) = true
+
 -- ---- triggers
 -- the head of a trigger: a name behind its scopes, equality or with `false` its negation, or no name
 pub data Head : Type 0 where
@@ -201,7 +207,7 @@ abbrev mutual
   fault w open_ ls due (equated i same a b) = first_of (fault w open_ ls false a) (first_of (fault_if (not due) (WrongKind i)) (fault w open_ ls false b))
   fault w open_ ls due (choice i c a b) = first_of (fault w open_ ls true c) (first_of (fault w open_ ls due a) (fault w open_ ls due b))
   fault w open_ ls due (binding i x a b) = first_of (fault w open_ ls false a) (fault w open_ (x ∷ ls) due b)
-  fault w open_ ls due (cases i e bs) = first_of (fault w open_ ls false e) (branches_fault w open_ ls due bs)
+  fault w open_ ls due (cases i e bs) = first_of (fault w open_ ls false e) (first_of (fault_if (not (has_alternative bs)) (WrongKind i)) (branches_fault w open_ ls due bs))
   fault w open_ ls due (quantified i all bs gs b) = first_of (fault_if (not due) (WrongKind i)) (first_of (binders_fault w open_ bs) (first_of (triggers_fault w open_ (reverse (bound_names bs) ++ ls) gs) (fault w open_ (reverse (bound_names bs) ++ ls) true b)))
 
   pub faults : Where → Bool → List Word → Expressions → Option NamingFault

@@ -30,7 +30,7 @@ pub enum NamingFault {
     Unknown { token: usize },
     /// A name is made twice, in one table of one scope, in one list of parameters or in one pattern.
     Duplicate { token: usize },
-    /// A term stands for a formula or the other way round, or alternatives bind different names.
+    /// A term stands for a formula or the other way round, alternatives bind different names, or a `match` has none.
     WrongKind { token: usize },
     /// A symbol, constructor or type has another number of arguments.
     Arity { token: usize },

@@ -1,12 +1,13 @@
 // The names of an expression in reading order: the first that isn't there, is of another kind, or has another number of
 // arguments.
 // They depend on what names mean, on operators and on the names of types.
-ghost use Rattle.std.specs.Prelude.{◌≡◌, List, [], Some, option_map};
+ghost use Rattle.std.specs.Prelude.{◌≡◌, not, List, [], Some, option_map};
 ghost use Rattle.trees.specs.Tree.{Tree};
 ghost use Rattle.tasks.specs.Meaning.{symbol_at};
 ghost use Rattle.tasks.specs.Task.{int_symbol};
 ghost use Rattle.elab_names.specs.Abstract.{expression_of, expressions_of, grouped, triggers_of, let_name, more_alternatives, first_form, side_by_side, alternatives_of, branches_of};
-ghost use Rattle.elab_names.specs.Faults.{fault, faults, symbol_fault, name_fault, entry_fault, triggers_fault, branch_fault, branches_fault};
+ghost use Rattle.elab_names.specs.Faults.{first_of, fault_if, fault, faults, symbol_fault, name_fault, entry_fault, triggers_fault, branch_fault, branches_fault, has_alternative};
+ghost use Rattle.elab_names.specs.declared.NamingFault.TheVariants.{WrongKind};
 ghost use Rattle.elab_names.specs.Naming.{Tells, names_at, where_at, symbol_named};
 ghost use Rattle.syntax_why.specs.Surface as code;
 
@@ -93,6 +94,19 @@ pub fn let_name(patterns: &[Pat]) -> Option<&Name>
         PatNode::Con(_, _) => None,
         PatNode::Group(_) => None,
         PatNode::Alias(_, _) => None,
+    }
+}
+
+// Whether a branch has an alternative.
+fn has_alternative(branches: &[BranchTree]) -> bool
+    ensures { result ≡ has_alternative (branches_of branches.now) }
+{
+    let Some((first, rest)) = branches.split_first() else {
+        return false;
+    };
+    match first.alternatives.as_slice().split_first() {
+        Some(_) => true,
+        None => has_alternative(rest),
     }
 }
 
@@ -185,9 +199,27 @@ pub fn check(
         }
         ExprNode::Match(values, _, branches) => {
             check_all(alloc, values.as_slice(), world, names)?;
-            check_branches(alloc, branches.as_slice(), world, names, due)
+            check_cases(alloc, branches.as_slice(), world, names, due, token)
         }
     }
+}
+
+// The branches of a `match` at a token.
+#[cycle(naming)]
+fn check_cases(
+    alloc: Global,
+    branches: &[BranchTree],
+    world: &World<'_>,
+    names: &Names<'_>,
+    due: bool,
+    token: usize,
+) -> Result<(), NamingFault>
+    ensures { (s : List Tree) → Tells result (first_of (fault_if (not (has_alternative
+        (branches_of branches.now))) (WrongKind token)) (branches_fault (where_at s world.now)
+        world.now.new_vars (names_at names.now) due (branches_of branches.now))) }
+{
+    refuse_if(!has_alternative(branches), NamingFault::WrongKind { token })?;
+    check_branches(alloc, branches, world, names, due)
 }
 
 #[cycle(naming)]

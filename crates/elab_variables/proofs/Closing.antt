@@ -8,7 +8,7 @@ use Rattle.elab_names.specs.Abstract.{Form, Forms, variable, composed, product, 
 use Rattle.elab_names.specs.declared.NamingFault.{NamingFault}
 use Rattle.elab_names.specs.declared.NamingFault.TheVariants.{Unknown, WrongKind}
 use Rattle.elab_names.specs.Where.{Where, MeaningTree, Stands, Abbreviates, place_of}
-use Rattle.elab_names.specs.Faults.{first_of, fault_if, meaning_fault, form_fault, forms_fault, symbol_fault, local_fault, is_variable, name_fault, type_fault, binders_fault, bound_names, constructor_fault, pattern_fault, patterns_fault, pattern_names, later_fault, alternatives_fault, alternatives_names, Head, head_named, head_equality, head_other, head, makes_formulas, is_formula_head, is_formula_trigger, fault, faults, triggers_fault, branches_fault}
+use Rattle.elab_names.specs.Faults.{first_of, fault_if, meaning_fault, form_fault, forms_fault, symbol_fault, local_fault, is_variable, name_fault, type_fault, binders_fault, bound_names, constructor_fault, pattern_fault, patterns_fault, pattern_names, later_fault, alternatives_fault, alternatives_names, Head, head_named, head_equality, head_other, head, makes_formulas, is_formula_head, is_formula_trigger, fault, faults, triggers_fault, branches_fault, has_alternative}
 use Rattle.elab_variables.specs.Seen.{Seen, with_variable, with_width, form_seen, forms_seen, type_seen, binders_seen, pattern_seen, patterns_seen, alternatives_seen, seen, all_seen, branches_seen}
 use Rattle.elab_names.proofs.Placed.{one_more}
 
@@ -248,8 +248,9 @@ module _ (w : Where) (vs : List Word) where
         let p = none_both (fault w true ls false a) (fault w true (x ∷ ls) due b) h in
         both_none _ _ (closed a s ls false p.0 (λ v m. k v (some_more b (seen s a) v m))) (closed b (seen s a) (x ∷ ls) due p.1 k)
     closed (cases i e bs) s ls due h k =
-        let p = none_both (fault w true ls false e) (branches_fault w true ls due bs) h in
-        both_none _ _ (closed e s ls false p.0 (λ v m. k v (branches_more bs (seen s e) v m))) (branches_closed bs (seen s e) ls due p.1 k)
+        let p = none_both (fault w true ls false e) (first_of (fault_if (not (has_alternative bs)) (WrongKind i)) (branches_fault w true ls due bs)) h in
+        let q = none_both (fault_if (not (has_alternative bs)) (WrongKind i)) (branches_fault w true ls due bs) p.1 in
+        both_none _ _ (closed e s ls false p.0 (λ v m. k v (branches_more bs (seen s e) v m))) (both_none _ _ q.0 (branches_closed bs (seen s e) ls due q.1 k))
     closed (quantified i all bs gs b) s ls due h k =
         let inside = reverse (bound_names bs) ++ ls in
         let s1 = binders_seen s bs in

@@ -189,7 +189,15 @@ check-returns-in_err-check_all-in-Match t c s =
 pub check-returns-in_ok-check_all-in-Match : goal.check-returns-in_ok-check_all-in-Match
 check-returns-in_ok-check_all-in-Match t c s =
     let is = expression_at-Match c.args.e.now c.in-Match.values c.in-Match.field-1 c.in-Match.branches c.in-Match.is in
-    rw is (of_rest c.check_branches.result _ _ (sym (due_group (where_at s c.args.world.now) c.args.world.now.new_vars (names_at c.args.names.now) _ (expressions_of c.in-Match.values)) ∙ (rw c.as_slice-in-Match.ensures at c.in_ok-check_all-in-Match.ensures s)) (rw c.as_slice-in-Match-2.ensures at c.check_branches.ensures s))
+    rw is (of_rest c.check_cases.result _ _ (sym (due_group (where_at s c.args.world.now) c.args.world.now.new_vars (names_at c.args.names.now) _ (expressions_of c.in-Match.values)) ∙ (rw c.as_slice-in-Match.ensures at c.in_ok-check_all-in-Match.ensures s)) (rw c.as_slice-in-Match-2.ensures at c.check_cases.ensures s))
+
+pub check_cases-returns-in_err-refuse_if : goal.check_cases-returns-in_err-refuse_if
+check_cases-returns-in_err-refuse_if t c s =
+    let e = c.in_err-refuse_if.field-0.0 in
+    passed c.from_residual.result e _ c.from_residual.ensures.1 (of_first e _ _ (rw c.has_alternative.ensures at c.in_err-refuse_if.ensures))
+
+pub check_cases-returns : goal.check_cases-returns
+check_cases-returns t c s = of_rest c.check_branches.result _ _ (rw c.has_alternative.ensures at c.in_ok-refuse_if.ensures) (c.check_branches.ensures s)
 
 pub check-returns-in_err-check-in-None : goal.check-returns-in_err-check-in-None
 check-returns-in_err-check-in-None t c s =
