@@ -5,6 +5,7 @@ use elab_names::{Names, NamingFault as Fault, World, check};
 use outside::Text;
 use std::alloc::Global;
 use std::process::Abort;
+use tasks::SymbolInfo;
 
 // A source, and its fault if it has one.
 type Row = (&'static str, Option<Fault>);
@@ -199,14 +200,33 @@ static CLOSED: [Row; 4] = [
     ("forall x: list 'b. q", Some(Fault::Unknown { token: 4 })),
 ];
 
-fn compare(rt: &impl Abort, alloc: Global, rows: &[Row], due: bool, new_vars: bool) {
-    let symbols = symbols(rt, alloc);
+// Over a signature without entries.
+static ABSENT: [Row; 6] = [
+    ("c = d", None),
+    ("q", Some(Fault::WrongKind { token: 0 })),
+    ("c d = d", Some(Fault::Arity { token: 0 })),
+    (
+        "match c with Nil -> true end",
+        Some(Fault::WrongKind { token: 3 }),
+    ),
+    ("forall x: t. x = x", None),
+    ("forall x: list t. true", Some(Fault::Arity { token: 3 })),
+];
+
+fn compare(
+    rt: &impl Abort,
+    alloc: Global,
+    symbols: &[SymbolInfo],
+    rows: &[Row],
+    due: bool,
+    new_vars: bool,
+) {
     let scope = scope(rt, alloc);
     let mut vars = Vec::new(alloc);
     let own = Text::from_slice(alloc, b"'a".as_slice()).expect(rt, MEMORY);
     vars.push(own).expect(rt, MEMORY);
     let world = World {
-        symbols: symbols.as_slice(),
+        symbols,
         scope: &scope,
         tuples: &[],
         vars: vars.as_slice(),
@@ -221,9 +241,12 @@ fn compare(rt: &impl Abort, alloc: Global, rows: &[Row], due: bool, new_vars: bo
 
 #[test]
 fn formulas(rt: HostRuntime) {
-    compare(&rt, rt.alloc(), &FORMULAS, true, true);
-    compare(&rt, rt.alloc(), &QUANTIFIERS, true, true);
-    compare(&rt, rt.alloc(), &MATCHES, true, true);
-    compare(&rt, rt.alloc(), &TERMS, false, true);
-    compare(&rt, rt.alloc(), &CLOSED, true, false);
+    let all = symbols(&rt, rt.alloc());
+    let all = all.as_slice();
+    compare(&rt, rt.alloc(), all, &FORMULAS, true, true);
+    compare(&rt, rt.alloc(), all, &QUANTIFIERS, true, true);
+    compare(&rt, rt.alloc(), all, &MATCHES, true, true);
+    compare(&rt, rt.alloc(), all, &TERMS, false, true);
+    compare(&rt, rt.alloc(), all, &CLOSED, true, false);
+    compare(&rt, rt.alloc(), &[], &ABSENT, true, true);
 }
