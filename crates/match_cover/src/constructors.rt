@@ -26,8 +26,10 @@ fn is_end(store: &Store, list: TermId) -> bool
 // The first member of a list and the others.
 fn cell(store: &Store, list: TermId) -> Option<(TermId, TermId)>
     requires { Holds store.now list }
-    ensures tree { option_map (λ q. (tree_at store.now q.0, tree_at store.now q.1)) result ≡ cell (tree_at store.now list) }
-    ensures held { IfSome result (λ q. Holds store.now q.0 × (Holds store.now q.1 × (q.1.0 < list.0))) }
+    ensures tree { option_map (λ q. (tree_at store.now q.0, tree_at store.now q.1)) result
+        ≡ cell (tree_at store.now list) }
+    ensures held { IfSome result
+        (λ q. Holds store.now q.0 × (Holds store.now q.1 × (q.1.0 < list.0))) }
 {
     match store.node(list) {
         Node::Cell(first, rest) => Some((first, rest)),
@@ -118,7 +120,8 @@ pub(crate) fn constructors_of(
     symbol: usize,
 ) -> Result<Vec<usize>, AllocError>
     requires { All (SymbolHeld store.now) sig.now.symbols }
-    ensures { IfOk result (λ v. (k : ℕ) → Contains v.items k ↔ IsConstructorOf (symbols_at store.now sig.now.symbols) symbol k) }
+    ensures { IfOk result (λ v. (k : ℕ)
+        → Contains v.items k ↔ IsConstructorOf (symbols_at store.now sig.now.symbols) symbol k) }
 {
     let mut found = Vec::new(alloc);
     for entry in 0..sig.symbols.len() {

@@ -29,7 +29,8 @@ fn splits(
 ) -> Result<Vec<usize>, AllocError>
     requires held { TableHeld store.now rows.now }
     requires symbols_held { All (SymbolHeld store.now) sig.now.symbols }
-    ensures { IfOk result (λ v. Splits (symbols_at store.now sig.now.symbols) (table_at store.now at rows.now) v.items) }
+    ensures { IfOk result (λ v. Splits (symbols_at store.now sig.now.symbols)
+        (table_at store.now at rows.now) v.items) }
 {
     match column_told(store, rows, at) {
         Some(symbol) => constructors_of(alloc, store, sig, symbol),
@@ -60,9 +61,10 @@ fn missed(
     requires held { TableHeld store.now rows.now }
     requires symbols_held { All (SymbolHeld store.now) sig.now.symbols }
     requires fits { at + columns ≤ usize.MAX }
-    requires table { IsTable (symbols_at store.now sig.now.symbols) columns (table_at store.now at rows.now) }
-    ensures { IfOk result (λ o. Answered (symbols_at store.now sig.now.symbols) columns (table_at store.now at rows.now)
-        (option_map (λ v. shapes_of v.items) o)) }
+    requires table { IsTable (symbols_at store.now sig.now.symbols) columns
+        (table_at store.now at rows.now) }
+    ensures { IfOk result (λ o. Answered (symbols_at store.now sig.now.symbols) columns
+        (table_at store.now at rows.now) (option_map (λ v. shapes_of v.items) o)) }
 {
     if rows.is_empty() {
         let all = unknowns(alloc, columns)?;
@@ -124,11 +126,16 @@ pub fn cover(
 ) -> Result<Option<Shape>, AllocError>
     requires held { All (Holds store.now) patterns.now }
     requires symbols_held { All (SymbolHeld store.now) sig.now.symbols }
-    requires patterns { All (IsPattern (symbols_at store.now sig.now.symbols)) (trees_at store.now patterns.now) }
+    requires patterns { All (IsPattern (symbols_at store.now sig.now.symbols))
+        (trees_at store.now patterns.now) }
     requires one_type { HaveOneType (trees_at store.now patterns.now) }
-    ensures exhaustive { IfOk result (λ o. (o ≡ None) ↔ AreExhaustive (symbols_at store.now sig.now.symbols) (trees_at store.now patterns.now)) }
-    ensures escapes { IfOk result (λ o. IfSome o (λ s. Escapes (symbols_at store.now sig.now.symbols) (trees_at store.now patterns.now) (shape_of s))) }
-    ensures empty { patterns.now ≡ [] → IfOk result (λ o. IfSome o (λ s. shape_of s ≡ unspecified)) }
+    ensures exhaustive { IfOk result (λ o. (o ≡ None)
+        ↔ AreExhaustive (symbols_at store.now sig.now.symbols) (trees_at store.now patterns.now)) }
+    ensures escapes { IfOk result (λ o. IfSome o (λ s.
+        Escapes (symbols_at store.now sig.now.symbols)
+        (trees_at store.now patterns.now) (shape_of s))) }
+    ensures empty { patterns.now ≡ []
+        → IfOk result (λ o. IfSome o (λ s. shape_of s ≡ unspecified)) }
 {
     if patterns.is_empty() {
         return Ok(Some(unknown(alloc)));

@@ -30,8 +30,10 @@ fn bare(store: &Store, pattern: TermId) -> TermId
 // The members of a list, behind others.
 fn push_members(store: &Store, list: TermId, out: &mut Vec<TermId>) -> Result<(), AllocError>
     requires { Holds store.now list }
-    ensures tree { OnOk result (trees_at store.now out.new.items ≡ trees_at store.now out.old.items ++ members (tree_at store.now list)) }
-    ensures held { All (Holds store.now) out.old.items → OnOk result (All (Holds store.now) out.new.items) }
+    ensures tree { OnOk result (trees_at store.now out.new.items
+        ≡ trees_at store.now out.old.items ++ members (tree_at store.now list)) }
+    ensures held { All (Holds store.now) out.old.items
+        → OnOk result (All (Holds store.now) out.new.items) }
 {
     match store.node(list) {
         Node::Cell(first, rest) => {
@@ -45,7 +47,8 @@ fn push_members(store: &Store, list: TermId, out: &mut Vec<TermId>) -> Result<()
 // The constructor of a pattern without names, and the list of its parts.
 fn apart(store: &Store, pattern: TermId) -> Option<(usize, TermId)>
     requires { Holds store.now pattern }
-    ensures tree { option_map (λ q. (q.0, tree_at store.now q.1)) result ≡ apart (tree_at store.now pattern) }
+    ensures tree { option_map (λ q. (q.0, tree_at store.now q.1)) result
+        ≡ apart (tree_at store.now pattern) }
     ensures held { IfSome result (λ q. Holds store.now q.1) }
 {
     match store.node(pattern) {
@@ -64,7 +67,8 @@ fn parts(
     arity: usize,
 ) -> Result<Option<Vec<TermId>>, AllocError>
     requires { Holds store.now pattern }
-    ensures tree { IfOk result (λ o. (row : List Tree) → behind_parts (option_map (λ v. trees_at store.now v.items) o) row
+    ensures tree { IfOk result (λ o. (row : List Tree)
+        → behind_parts (option_map (λ v. trees_at store.now v.items) o) row
         ≡ opened con arity (bare (tree_at store.now pattern)) row) }
     ensures held { IfOk result (λ o. IfSome o (λ v. All (Holds store.now) v.items)) }
 {
@@ -102,7 +106,8 @@ fn from_column<'a>(store: &Store, row: &'a Seq<TermId>, at: usize) -> &'a [TermI
 fn joined(store: &Store, parts: Vec<TermId>, rest: &[TermId]) -> Result<Seq<TermId>, AllocError>
     requires parts_held { All (Holds store.now) parts.items }
     requires rest_held { All (Holds store.now) rest.now }
-    ensures tree { IfOk result (λ r. trees_at store.now r ≡ trees_at store.now parts.items ++ trees_at store.now rest.now) }
+    ensures tree { IfOk result (λ r. trees_at store.now r
+        ≡ trees_at store.now parts.items ++ trees_at store.now rest.now) }
     ensures held { IfOk result (RowHeld store.now) }
 {
     let _ = store;
@@ -152,7 +157,8 @@ fn push_specialized(
     requires rows_held { TableHeld store.now rows.now }
     requires out_held { TableHeld store.now out.old.items }
     ensures tree { OnOk result (table_at store.now 0 out.new.items
-        ≡ table_at store.now 0 out.old.items ++ specialized con arity (table_at store.now at rows.now)) }
+        ≡ table_at store.now 0 out.old.items
+        ++ specialized con arity (table_at store.now at rows.now)) }
     ensures held { OnOk result (TableHeld store.now out.new.items) }
 {
     match rows.split_first() {
@@ -175,7 +181,8 @@ pub(crate) fn specialized(
     arity: usize,
 ) -> Result<Vec<Seq<TermId>>, AllocError>
     requires { TableHeld store.now rows.now }
-    ensures tree { IfOk result (λ v. table_at store.now 0 v.items ≡ specialized con arity (table_at store.now at rows.now)) }
+    ensures tree { IfOk result (λ v. table_at store.now 0 v.items
+        ≡ specialized con arity (table_at store.now at rows.now)) }
     ensures held { IfOk result (λ v. TableHeld store.now v.items) }
 {
     let mut all = Vec::new(alloc);

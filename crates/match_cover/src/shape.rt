@@ -87,7 +87,8 @@ pub(crate) fn with_built(
 ) -> Result<Vec<Shape>, AllocError>
     requires { arity ≤ vec_len shapes }
     ensures { IfOk result (λ v. shapes_of v.items
-        ≡ more (built con (front arity (shapes_of shapes.items))) (behind arity (shapes_of shapes.items))) }
+        ≡ more (built con (front arity (shapes_of shapes.items)))
+        (behind arity (shapes_of shapes.items))) }
 {
     let rest = shapes.split_off(arity)?;
     let all = with_first(alloc, built(con, shapes), rest)?;
