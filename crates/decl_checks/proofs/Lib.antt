@@ -1,0 +1,9 @@
+pub mod Firsts
+pub mod Saturated
+pub mod Exact
+pub mod Choosing
+pub mod Parameters
+pub mod Learning
+pub mod Members
+pub mod Forms
+pub mod Rows

@@ -1,0 +1,5 @@
+pub mod Clauses
+pub mod Structure
+pub mod Values
+pub mod Checks
+pub mod Meaning
