@@ -1,0 +1,103 @@
+-- The definitions on small sources: by computation alone.
+use Rattle.std.proofs.Common.{◌≡◌, ℕ, zero, suc, pos, true, cond, List, [], ◌∷◌, Option, Some, None, refl, codes}
+use Rattle.std.specs.Str.{bytes_eq}
+use Rattle.trees.specs.Tree.{Tree, Leaf, One, Two, HTyVar, HTyApp, HEnd, HBound, HEq, HForall, HLet, HPatVar}
+use Rattle.trees.specs.Sorts.{int_type}
+use Rattle.tasks.specs.declared.signature.SymbolKind.{SymbolKind}
+use Rattle.tasks.specs.declared.signature.SymbolKind.TheVariants.{Kind, Function, Predicate, Constructor}
+use Rattle.tasks.specs.Task.{SymbolTree, int_symbol}
+use Rattle.tasks.specs.Equations.{cells}
+use Rattle.syntax_why.specs.Lexeme.{Word}
+use Rattle.elab_names.specs.Abstract.{composed, no_forms, more_forms, Pattern, bound, tupled, no_patterns, more_patterns, no_alternatives, more_alternatives, Expression, apply, infixed, literal, truth, tuple, equated, binding, cases, quantified, none, more, no_branches, more_branches}
+use Rattle.elab_names.specs.Where.{Where, Stands, Abbreviates}
+use Rattle.elab_walk.specs.Patterns.{local, alternatives_pieces, all_notes, reordered}
+use Rattle.elab_walk.specs.Pieces.{piece, type_at}
+
+abbrev entry : Word → SymbolKind → ℕ → List Tree → Option Tree → SymbolTree
+entry name kind vars args result = record { theory = codes "T"; name = name; kind = kind; vars = vars; args = args; result = result }
+
+abbrev unknown : ℕ → Tree
+unknown n = Leaf (HTyVar n)
+
+abbrev t_type : Tree
+t_type = One (HTyApp 1) (Leaf HEnd)
+
+abbrev list_of : Tree → Tree
+list_of a = One (HTyApp 5) (cells (a ∷ []))
+
+abbrev pair_of : Tree → Tree → Tree
+pair_of a b = One (HTyApp 8) (cells (a ∷ b ∷ []))
+
+abbrev called : {A : Type 0} → List (Word × A) → List Word → Word → Option A
+called [] qs x = None
+called (p ∷ ps) [] x = cond (bytes_eq p.0 x) (Some p.1) (called ps [] x)
+called (p ∷ ps) (q ∷ qs) x = None
+
+abbrev pair_at : ℕ → Option ℕ
+pair_at (suc (suc zero)) = Some 9
+pair_at n = None
+
+-- `int`, a type `t`, constants `c` and `d` of it, `+`, a type `list` with `Nil`, a predicate `p` of one argument, and pairs
+abbrev here : Where
+here = record {
+  symbols = int_symbol ∷ entry (codes "t") Kind 0 [] None ∷ entry (codes "c") Function 0 [] (Some t_type) ∷ entry (codes "d") Function 0 [] (Some t_type)
+      ∷ entry (codes "+") Function 0 (int_type ∷ int_type ∷ []) (Some int_type) ∷ entry (codes "list") Kind 1 [] None
+      ∷ entry (codes "Nil") Constructor 1 [] (Some (list_of (unknown 0))) ∷ entry (codes "p") Predicate 0 (t_type ∷ []) None
+      ∷ entry (codes "tuple2") Kind 2 [] None ∷ entry (codes "Tuple2") Constructor 2 (unknown 0 ∷ unknown 1 ∷ []) (Some (pair_of (unknown 0) (unknown 1))) ∷ [];
+  types = called ((codes "pair", Abbreviates 1 (list_of (list_of (unknown 0)))) ∷ (codes "t", Stands 1) ∷ []);
+  names = called ((codes "c", 2) ∷ (codes "d", 3) ∷ (codes "+", 4) ∷ (codes "Nil", 6) ∷ (codes "p", 7) ∷ []);
+  tuples = pair_at;
+  vars = [];
+}
+
+abbrev name : ℕ → Word → Expression
+name i x = apply i [] x none
+
+-- `c + d = 0`: the result of `+`, its two arguments, the literal
+sum_equations : (piece here [] 0 None (equated 3 true (infixed 1 (codes "+") (name 0 (codes "c")) (name 2 (codes "d"))) (literal 4 (pos 0)))).notes.equations
+    ≡ (int_type, unknown 0) ∷ (t_type, int_type) ∷ (t_type, int_type) ∷ (int_type, unknown 0) ∷ []
+sum_equations = refl
+
+-- `Nil = Nil`: `=` takes the first unknown, so it is named where all are open
+nil_takers : (piece here [] 0 None (equated 10 true (name 9 (codes "Nil")) (name 11 (codes "Nil")))).notes.takers ≡ 10 ∷ 9 ∷ 11 ∷ []
+nil_takers = refl
+
+nil_equations : (piece here [] 0 None (equated 10 true (name 9 (codes "Nil")) (name 11 (codes "Nil")))).notes.equations ≡ (list_of (unknown 1), unknown 0) ∷ (list_of (unknown 2), unknown 0) ∷ []
+nil_equations = refl
+
+-- `forall x: t. let y = x in y = c`: the innermost variable has the index 0
+bound_tree : (piece here [] 0 None (quantified 0 true (record { names = codes "x" ∷ []; of_type = Some (composed 3 [] (codes "t") no_forms) } ∷ []) none (binding 5 (codes "y") (name 8 (codes "x"))
+    (equated 11 true (name 10 (codes "y")) (name 8 (codes "x")))))).tree
+    ≡ Two HForall t_type (Two HLet (One (HBound 0) t_type) (Two HEq (One (HBound 0) (unknown 0)) (One (HBound 1) t_type)))
+bound_tree = refl
+
+-- `forall x y. [p x] true`: each name takes an unknown at the quantifier, and the trigger is dropped
+trigger_notes : (piece here [] 0 None (quantified 0 true (record { names = codes "x" ∷ codes "y" ∷ []; of_type = None } ∷ []) (more (apply 5 [] (codes "p") (more (name 6 (codes "x")) none)) none) (truth 9))).notes.equations
+    ≡ (unknown 0, t_type) ∷ []
+trigger_notes = refl
+
+-- `(c, 1)`, of which a type is wanted
+pair_equations : (piece here [] 1 (Some (unknown 0)) (tuple 3 (more (name 4 (codes "c")) (more (literal 6 (pos 1)) none)))).notes.equations
+    ≡ (pair_of (unknown 1) (unknown 2), unknown 0) ∷ (t_type, unknown 1) ∷ (int_type, unknown 2) ∷ []
+pair_equations = refl
+
+-- an alias's type at its argument
+alias_type : type_at here (composed 0 [] (codes "pair") (more_forms (composed 1 [] (codes "t") no_forms) no_forms)) ≡ list_of (list_of t_type)
+alias_type = refl
+
+-- `match c with x -> p x end`: the match with its pattern stands before those of its parts
+match_notes : (piece here [] 0 None (cases 2 (name 3 (codes "c")) (more_branches (more_alternatives 5 (bound 5 (codes "x")) no_alternatives) (apply 7 [] (codes "p") (more (name 8 (codes "x")) none)) no_branches))).notes.matches
+    ≡ (2, One HPatVar (unknown 0) ∷ []) ∷ []
+match_notes = refl
+
+-- `(x, y) | (y, x)`: each alternative takes its own unknowns, and the later one's variables bring their equations
+abbrev swapped : ℕ → Word → Word → Pattern
+swapped i x y = tupled i (more_patterns (bound i x) (more_patterns (bound i y) no_patterns))
+
+later_equations : (all_notes (alternatives_pieces here 1 (unknown 0) (more_alternatives 2 (swapped 2 (codes "x") (codes "y")) (more_alternatives 7 (swapped 7 (codes "y") (codes "x")) no_alternatives)))).equations
+    ≡ (pair_of (unknown 1) (unknown 2), unknown 0) ∷ (pair_of (unknown 3) (unknown 4), unknown 0) ∷ (unknown 2, unknown 3) ∷ (unknown 1, unknown 4) ∷ []
+later_equations = refl
+
+-- under `x, y` the variable `x` has the index 1, under `y, x` it has 0; a variable further out stays
+swapped_body : reordered (local (codes "x") t_type ∷ local (codes "y") t_type ∷ []) (local (codes "y") t_type ∷ local (codes "x") t_type ∷ []) (Two HEq (One (HBound 1) t_type) (One (HBound 2) t_type)) ≡ Two HEq (One (HBound 0) t_type) (One (HBound 2) t_type)
+swapped_body = refl

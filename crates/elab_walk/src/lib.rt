@@ -1,0 +1,20 @@
+//! The walk of terms and formulas whose names are there: trees over unknowns, their type equations, and who takes each unknown.
+//! It stands on what names mean; what solves the equations stands on it.
+#![tactic(auto)]
+
+mod arms;
+mod bound;
+mod draft;
+mod expression;
+mod locals;
+mod operands;
+mod patterns;
+mod reorder;
+mod triggers;
+mod types;
+mod uses;
+
+pub use draft::{Draft, MatchAt, start};
+pub use expression::walk;
+pub use locals::{Local, Locals};
+pub use types::{list_of, put_types, type_of_form};
