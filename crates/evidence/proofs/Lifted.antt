@@ -17,7 +17,7 @@ use Rattle.tasks.proofs.Growth.{map_agree, trees_later, task_later, task_held_la
 use Rattle.rule_rows.specs.declared.rule.Step.{Step}
 use Rattle.rule_rows.specs.declared.rule.Rule.{Rule}
 use Rattle.rule_rows.specs.declared.rule.Rule.TheVariants.{Fact}
-use Rattle.rule_rows.specs.Trees.{RuleTree, RCut, RFact, StepTree, no_step, step_or, sequents, trees_of, types_of}
+use Rattle.rule_rows.specs.Trees.{RuleTree, RFact, StepTree, no_step, step_or, sequents, trees_of, types_of}
 use Rattle.rule_rows.specs.Rows.{Row}
 use Rattle.kernel.specs.Right.{IsRight, AreRight, Closes}
 use Rattle.rule_rows.specs.Meaning.{rule_at, step_at, steps_at, StepsHeld}

@@ -1,5 +1,5 @@
 -- What is typed over a task is typed over another with the same symbols, which declares the same.
-use Rattle.std.proofs.Common.{ℕ, ◌==◌, List, [], ◌∷◌, All, Contains, IsTrue, inl, inr, subst}
+use Rattle.std.proofs.Common.{ℕ, ◌==◌, List, [], ◌∷◌, All, IsTrue, inl, inr, subst}
 use Rattle.std.specs.List.{list_any}
 use Rattle.std.proofs.lemmas.List.Elements.{All-weaker}
 use Rattle.trees.specs.Tree.{Tree}
@@ -10,7 +10,8 @@ use Rattle.tasks.specs.Valid.{IsGroundFormula, IsTypeOver}
 use Rattle.tasks.proofs.Declared.{contains_step, contains_cases, usable_made, made_usable}
 use Rattle.tasks.proofs.Moved.{IsWithin, typed_within}
 use Rattle.rule_rows.specs.Rows.{IsTemplate}
-use Rattle.kernel.specs.Right.{IsGroundExpression, Each}
+use Rattle.linear_leaf.specs.Valuations.{Each}
+use Rattle.kernel.specs.Right.{IsGroundExpression}
 use Rattle.evidence.specs.Stages.{KeepsDeclared}
 
 module _ (t u : TaskTree) (h : KeepsDeclared u t) where

@@ -102,9 +102,11 @@ impl Draft {
         requires held { StepHeld self.old.trees step }
         requires right { IsRight self.old.task self.old.steps (step_at self.old.trees step) }
         ensures number { IfOk result (λ k. k ≡ length self.old.steps) }
-        ensures pushed { IfOk result (λ _. self.new ≡ record self.old { steps = self.old.steps ++ step_at self.old.trees step ∷ [] }) }
+        ensures pushed { IfOk result (λ _. self.new
+            ≡ record self.old { steps = self.old.steps ++ step_at self.old.trees step ∷ [] }) }
         ensures unchanged { OnErr result (self.new ≡ self.old) }
-        ensures refutes { IfOk result (λ k. Refutes self.new k (trees_at self.old.trees step.sequent)) }
+        ensures refutes { IfOk result (λ k. Refutes self.new k
+            (trees_at self.old.trees step.sequent)) }
         ensures grows { Extends self.old self.new }
     {
         let number = self.steps.len();
@@ -122,11 +124,18 @@ impl Draft {
     ) -> Result<usize, AllocError>
         requires sequent_held { All (Holds self.old.trees) sequent.now }
         requires formula_held { Holds self.old.trees formula }
-        requires right { IsRight self.old.task self.old.steps (cut_step (trees_at self.old.trees sequent.now) (tree_at self.old.trees formula) yes no) }
+        requires right { IsRight self.old.task self.old.steps
+            (cut_step (trees_at self.old.trees sequent.now)
+            (tree_at self.old.trees formula) yes no) }
         ensures number { IfOk result (λ k. k ≡ length self.old.steps) }
-        ensures pushed { IfOk result (λ _. self.new ≡ record self.old { steps = self.old.steps ++ cut_step (trees_at self.old.trees sequent.now) (tree_at self.old.trees formula) yes no ∷ [] }) }
+        ensures pushed { IfOk result (λ _. self.new
+            ≡ record self.old {
+              steps = self.old.steps ++ cut_step
+                  (trees_at self.old.trees sequent.now) (tree_at self.old.trees formula) yes no ∷ [];
+            }) }
         ensures unchanged { OnErr result (self.new ≡ self.old) }
-        ensures refutes { IfOk result (λ k. Refutes self.new k (trees_at self.old.trees sequent.now)) }
+        ensures refutes { IfOk result (λ k. Refutes self.new k
+            (trees_at self.old.trees sequent.now)) }
         ensures grows { Extends self.old self.new }
     {
         let sequent = Seq::from_slice(self.alloc, sequent)?;
@@ -146,11 +155,17 @@ impl Draft {
         step: usize,
     ) -> Result<usize, AllocError>
         requires sequent_held { All (Holds self.old.trees) sequent.now }
-        requires right { IsRight self.old.task self.old.steps (keep_step (trees_at self.old.trees sequent.now) places.now step) }
+        requires right { IsRight self.old.task self.old.steps
+            (keep_step (trees_at self.old.trees sequent.now) places.now step) }
         ensures number { IfOk result (λ k. k ≡ length self.old.steps) }
-        ensures pushed { IfOk result (λ _. self.new ≡ record self.old { steps = self.old.steps ++ keep_step (trees_at self.old.trees sequent.now) places.now step ∷ [] }) }
+        ensures pushed { IfOk result (λ _. self.new
+            ≡ record self.old {
+              steps = self.old.steps ++ keep_step
+                  (trees_at self.old.trees sequent.now) places.now step ∷ [];
+            }) }
         ensures unchanged { OnErr result (self.new ≡ self.old) }
-        ensures refutes { IfOk result (λ k. Refutes self.new k (trees_at self.old.trees sequent.now)) }
+        ensures refutes { IfOk result (λ k. Refutes self.new k
+            (trees_at self.old.trees sequent.now)) }
         ensures grows { Extends self.old self.new }
     {
         let sequent = Seq::from_slice(self.alloc, sequent)?;

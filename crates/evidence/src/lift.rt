@@ -86,9 +86,12 @@ fn renumbered(
 // A step that cites no fact, as it is but for the numbers of its premises.
 fn lift_other(step: &Step, premises: Seq<usize>, draft: &mut Draft) -> Result<usize, AllocError>
     requires held { StepHeld draft.old.trees step.now }
-    requires right { IsRight draft.old.task draft.old.steps (record (step_at draft.old.trees step.now) { premises = premises }) }
-    ensures refutes { IfOk result (λ k. Refutes draft.new k (trees_at draft.old.trees step.now.sequent)) }
-    ensures language { StaysIn (λ p. StepIsIn p (step_at draft.old.trees step.now)) draft.old draft.new }
+    requires right { IsRight draft.old.task draft.old.steps
+        (record (step_at draft.old.trees step.now) { premises = premises }) }
+    ensures refutes { IfOk result (λ k. Refutes draft.new k
+        (trees_at draft.old.trees step.now.sequent)) }
+    ensures language { StaysIn (λ p. StepIsIn p (step_at draft.old.trees step.now)) draft.old
+        draft.new }
     ensures grows { Extends draft.old draft.new }
 {
     let sequent = step.sequent.clone()?;
@@ -108,10 +111,13 @@ fn lift_fact(
     draft: &mut Draft,
 ) -> Result<usize, AllocError>
     requires held { All (Holds draft.old.trees) sequent.now }
-    requires formulas { All (IsGroundFormula draft.old.task) (trees_at draft.old.trees sequent.now) }
+    requires formulas { All (IsGroundFormula draft.old.task)
+        (trees_at draft.old.trees sequent.now) }
     requires cut { IsCutBy draft.old (trees_at draft.old.trees sequent.now) with_fact lemma }
-    ensures refutes { IfOk result (λ k. Refutes draft.new k (trees_at draft.old.trees sequent.now)) }
-    ensures language { StaysIn (λ p. RespectsNegation p × AreIn p (trees_at draft.old.trees sequent.now)) draft.old draft.new }
+    ensures refutes { IfOk result (λ k. Refutes draft.new k
+        (trees_at draft.old.trees sequent.now)) }
+    ensures language { StaysIn (λ p. RespectsNegation p
+        × AreIn p (trees_at draft.old.trees sequent.now)) draft.old draft.new }
     ensures grows { Extends draft.old draft.new }
 {
     let negation = only_formula(draft, lemma);
@@ -159,10 +165,13 @@ fn lift_step<T: Transform>(
     requires stage { InStage (T.becomes stage.now) draft.old from.now to.now }
     requires lifts { T.lifts stage.now draft.old.task }
     requires held { StepHeld draft.old.trees step.now }
-    requires right { IsRight (task_at draft.old.trees to.now) (steps_at draft.old.trees before.now) (step_at draft.old.trees step.now) }
+    requires right { IsRight (task_at draft.old.trees to.now) (steps_at draft.old.trees before.now)
+        (step_at draft.old.trees step.now) }
     requires numbers { StandFor draft.old numbers.now (steps_at draft.old.trees before.now) }
-    ensures refutes { IfOk result (λ k. Refutes draft.new k (trees_at draft.old.trees step.now.sequent)) }
-    ensures language { StaysIn (λ p. IsLanguageOf (T.closed stage.now) draft.old.task p × StepIsIn p (step_at draft.old.trees step.now)) draft.old draft.new }
+    ensures refutes { IfOk result (λ k. Refutes draft.new k
+        (trees_at draft.old.trees step.now.sequent)) }
+    ensures language { StaysIn (λ p. IsLanguageOf (T.closed stage.now) draft.old.task p
+        × StepIsIn p (step_at draft.old.trees step.now)) draft.old draft.new }
     ensures grows { Extends draft.old draft.new }
 {
     let premises = renumbered(draft.allocator(), numbers, step.premises.as_slice())?;
@@ -192,8 +201,10 @@ fn lift_part<T: Transform>(
     requires lifts { T.lifts stage.now draft.old.task }
     requires held { StepsHeld draft.old.trees part.now }
     requires right { AreRight (task_at draft.old.trees to.now) (steps_at draft.old.trees part.now) }
-    ensures numbers { IfOk result (λ v. StandFor draft.new v.items (steps_at draft.old.trees part.now)) }
-    ensures language { StaysIn (λ p. IsLanguageOf (T.closed stage.now) draft.old.task p × StepsAreIn p (steps_at draft.old.trees part.now)) draft.old draft.new }
+    ensures numbers { IfOk result (λ v. StandFor draft.new v.items
+        (steps_at draft.old.trees part.now)) }
+    ensures language { StaysIn (λ p. IsLanguageOf (T.closed stage.now) draft.old.task p
+        × StepsAreIn p (steps_at draft.old.trees part.now)) draft.old draft.new }
     ensures grows { Extends draft.old draft.new }
 {
     let mut numbers: Vec<usize> = Vec::new(draft.allocator());
@@ -216,9 +227,12 @@ fn lift_end<T: Transform>(
     requires lifts { T.lifts stage.now draft.old.task }
     requires held { StepsHeld draft.old.trees part.now }
     requires closes { Closes (task_at draft.old.trees to.now) (steps_at draft.old.trees part.now) }
-    ensures refutes { IfOk result (λ k. Refutes draft.new k (start (task_at draft.old.trees to.now))) }
-    ensures sequents { IfOk result (λ _. HasSequents draft.new (steps_at draft.old.trees part.now)) }
-    ensures language { StaysIn (λ p. IsLanguageOf (T.closed stage.now) draft.old.task p × StepsAreIn p (steps_at draft.old.trees part.now)) draft.old draft.new }
+    ensures refutes { IfOk result (λ k. Refutes draft.new k
+        (start (task_at draft.old.trees to.now))) }
+    ensures sequents { IfOk result (λ _. HasSequents draft.new
+        (steps_at draft.old.trees part.now)) }
+    ensures language { StaysIn (λ p. IsLanguageOf (T.closed stage.now) draft.old.task p
+        × StepsAreIn p (steps_at draft.old.trees part.now)) draft.old draft.new }
     ensures grows { Extends draft.old draft.new }
 {
     let numbers = lift_part(stage, from, to, part, draft)?;
@@ -241,10 +255,13 @@ pub fn lift_stage<T: Transform>(
     requires to_held { TasksHeld draft.old.trees to.now.items }
     requires becomes { T.becomes stage.now draft.old.task (tasks_at draft.old.trees to.now.items) }
     requires parts_held { PartsHeld draft.old.trees parts.now }
-    requires close { PartsClose (tasks_at draft.old.trees to.now.items) (parts_at draft.old.trees parts.now) }
+    requires close { PartsClose (tasks_at draft.old.trees to.now.items)
+        (parts_at draft.old.trees parts.now) }
     ensures refutes { IfOk result (λ k. Refutes draft.new k (start draft.old.task)) }
-    ensures sequents { IfOk result (λ _. All (HasSequents draft.new) (parts_at draft.old.trees parts.now)) }
-    ensures language { StaysIn (λ p. IsLanguageOf (T.closed stage.now) draft.old.task p × All (StepsAreIn p) (parts_at draft.old.trees parts.now)) draft.old draft.new }
+    ensures sequents { IfOk result (λ _. All (HasSequents draft.new)
+        (parts_at draft.old.trees parts.now)) }
+    ensures language { StaysIn (λ p. IsLanguageOf (T.closed stage.now) draft.old.task p
+        × All (StepsAreIn p) (parts_at draft.old.trees parts.now)) draft.old draft.new }
     ensures grows { Extends draft.old draft.new }
 {
     let mut ends: Vec<usize> = Vec::new(draft.allocator());

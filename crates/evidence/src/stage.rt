@@ -54,8 +54,10 @@ pub trait Transform {
         requires held { TaskHeld store.old task.now }
         requires valid { IsValid (task_at store.old task.now) }
         ensures held { IfOk result (λ ts. TasksHeld store.new ts.items) }
-        ensures tasks { IfOk result (λ ts. becomes self.now (task_at store.old task.now) (tasks_at store.new ts.items)) }
-        ensures fault { IfErr result (IsStageFault (refuses self.now (task_at store.old task.now))) }
+        ensures tasks { IfOk result (λ ts. becomes self.now (task_at store.old task.now)
+            (tasks_at store.new ts.items)) }
+        ensures fault { IfErr result (IsStageFault
+            (refuses self.now (task_at store.old task.now))) }
         ensures grows { Grows store.old store.new };
 
     /// A step whose sequent is the negation of a fact of `to` at these types, alone: the proposition `prop` of a task
@@ -71,9 +73,13 @@ pub trait Transform {
         requires stage { InStage (becomes self.now) draft.old from.now to.now }
         requires lifts { lifts self.now draft.old.task }
         requires types_held { All (Holds draft.old.trees) types.now }
-        requires fact { IsFact draft.old.task (task_at draft.old.trees to.now) prop (trees_at draft.old.trees types.now) }
-        ensures refutes { IfOk result (λ k. Refutes draft.new k (neg (fact_of (task_at draft.old.trees to.now) prop (trees_at draft.old.trees types.now)) ∷ [])) }
-        ensures language { StaysIn (λ p. IsLanguageOf (closed self.now) draft.old.task p × AreIn p (trees_at draft.old.trees types.now)) draft.old draft.new }
+        requires fact { IsFact draft.old.task (task_at draft.old.trees to.now) prop
+            (trees_at draft.old.trees types.now) }
+        ensures refutes { IfOk result (λ k. Refutes draft.new k
+            (neg (fact_of (task_at draft.old.trees to.now) prop
+            (trees_at draft.old.trees types.now)) ∷ [])) }
+        ensures language { StaysIn (λ p. IsLanguageOf (closed self.now) draft.old.task p
+            × AreIn p (trees_at draft.old.trees types.now)) draft.old draft.new }
         ensures grows { Extends draft.old draft.new };
 
     /// From steps whose sequents are the starts of `to`, the tasks that the draft's task becomes, a step whose sequent is
@@ -91,7 +97,8 @@ pub trait Transform {
         requires becomes { becomes self.now draft.old.task (tasks_at draft.old.trees to.now.items) }
         requires ends { EndIn draft.old ends.now (tasks_at draft.old.trees to.now.items) }
         ensures refutes { IfOk result (λ k. Refutes draft.new k (start draft.old.task)) }
-        ensures language { StaysIn (IsLanguageOf (closed self.now) draft.old.task) draft.old draft.new }
+        ensures language { StaysIn (IsLanguageOf (closed self.now) draft.old.task) draft.old
+            draft.new }
         ensures grows { Extends draft.old draft.new };
 
     /// The tasks have the symbols of the old one, and declare the same.

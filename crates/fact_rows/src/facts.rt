@@ -19,7 +19,8 @@ use trees::TermId;
 // The proposition of a number. That an index gives held formulas is no clause of a look-up, so it is asked.
 fn proposition(x: &Tried<'_>, number: usize) -> Option<Proposition>
     requires { TriedHeld x.now }
-    ensures tree { option_map (proposition_at x.now.store.now) result ≡ slice_get (props (task_of x.now)) number }
+    ensures tree { option_map (proposition_at x.now.store.now) result
+        ≡ slice_get (props (task_of x.now)) number }
     ensures held { IfSome result (λ p. Holds x.now.store.now p.formula) }
 {
     match x.look.proposition(x.store, number) {
@@ -56,7 +57,8 @@ pub fn fact(x: &Tried<'_>, number: usize, types: &[TermId]) -> bool
 // The equation of a symbol.
 fn equation(x: &Tried<'_>, symbol: usize) -> Option<TermId>
     requires tried { TriedHeld x.now }
-    ensures tree { option_map (tree_at x.now.store.now) result ≡ equation (role (task_of x.now) symbol) }
+    ensures tree { option_map (tree_at x.now.store.now) result
+        ≡ equation (role (task_of x.now) symbol) }
     ensures held { IfSome result (Holds x.now.store.now) }
 {
     match x.look.role(x.store, symbol) {
@@ -68,7 +70,8 @@ fn equation(x: &Tried<'_>, symbol: usize) -> Option<TermId>
 // The clauses of a predicate.
 fn clauses<'a>(x: &Tried<'a>, symbol: usize) -> Option<&'a [TermId]>
     requires tried { TriedHeld x.now }
-    ensures trees { option_map (λ cs. trees_at x.now.store.now cs.now) result ≡ clauses (role (task_of x.now) symbol) }
+    ensures trees { option_map (λ cs. trees_at x.now.store.now cs.now) result
+        ≡ clauses (role (task_of x.now) symbol) }
     ensures held { IfSome result (λ cs. All (Holds x.now.store.now) cs.now) }
 {
     match x.look.role(x.store, symbol) {
@@ -90,7 +93,8 @@ fn vars_of(x: &Tried<'_>, symbol: usize) -> usize
 
 // Whether there are as many types as a symbol has type variables.
 fn at_types(x: &Tried<'_>, symbol: usize, types: &[TermId]) -> bool
-    ensures { IsTrue result ↔ table.AtTypes (task_of x.now) symbol (trees_at x.now.store.now types.now) }
+    ensures { IsTrue result ↔ table.AtTypes (task_of x.now) symbol
+        (trees_at x.now.store.now types.now) }
 {
     types.len() == vars_of(x, symbol)
 }
@@ -110,7 +114,8 @@ pub fn def(x: &Tried<'_>, symbol: usize, types: &[TermId]) -> bool
 // The clause of a number.
 fn nth_clause(x: &Tried<'_>, symbol: usize, number: usize) -> Option<TermId>
     requires tried { TriedHeld x.now }
-    ensures tree { option_map (tree_at x.now.store.now) result ≡ option_and_then (λ cs. slice_get cs number) (clauses (role (task_of x.now) symbol)) }
+    ensures tree { option_map (tree_at x.now.store.now) result
+        ≡ option_and_then (λ cs. slice_get cs number) (clauses (role (task_of x.now) symbol)) }
     ensures held { IfSome result (Holds x.now.store.now) }
 {
     clauses(x, symbol)?.get(number).copied()
@@ -120,7 +125,8 @@ fn nth_clause(x: &Tried<'_>, symbol: usize, number: usize) -> Option<TermId>
 pub fn clause(x: &Tried<'_>, symbol: usize, number: usize, types: &[TermId]) -> bool
     requires tried { TriedHeld x.now }
     requires held { All (Holds x.now.store.now) types.now }
-    ensures { IsTrue result ↔ RowOf x.now (RClause symbol number (trees_at x.now.store.now types.now)) }
+    ensures { IsTrue result ↔ RowOf x.now
+        (RClause symbol number (trees_at x.now.store.now types.now)) }
 {
     match nth_clause(x, symbol, number) {
         Some(a) => at_types(x, symbol, types) && adds_one(x, &AtTypes { e: a, types }),
@@ -132,7 +138,8 @@ pub fn clause(x: &Tried<'_>, symbol: usize, number: usize, types: &[TermId]) -> 
 #[tactic(auto, using(crate::proofs::Lists::none_mapped))]
 fn args_of<'a>(x: &Tried<'a>, symbol: usize) -> &'a [TermId]
     requires { TriedHeld x.now }
-    ensures trees { trees_at x.now.store.now result.now ≡ (symbol_or (task_of x.now).symbols symbol).args }
+    ensures trees { trees_at x.now.store.now result.now
+        ≡ (symbol_or (task_of x.now).symbols symbol).args }
     ensures held { All (Holds x.now.store.now) result.now }
 {
     match x.look.task.sig.symbols.get(symbol) {

@@ -103,7 +103,9 @@ fn adds_three<A: Shape, B: Shape, C: Shape>(x: &Tried<'_>, a: &A, b: &B, c: &C) 
     requires a_held { A.IsHeld a.now x.now.store.now }
     requires b_held { B.IsHeld b.now x.now.store.now }
     requires c_held { C.IsHeld c.now x.now.store.now }
-    ensures { IsTrue result ↔ Adds (sequent_of x.now) (premises_of x.now) ((A.tree a.now x.now.store.now ∷ []) ∷ (B.tree b.now x.now.store.now ∷ []) ∷ (C.tree c.now x.now.store.now ∷ []) ∷ []) }
+    ensures { IsTrue result ↔ Adds (sequent_of x.now) (premises_of x.now)
+        ((A.tree a.now x.now.store.now ∷ []) ∷ (B.tree b.now x.now.store.now ∷ []) ∷
+        (C.tree c.now x.now.store.now ∷ []) ∷ []) }
 {
     x.premises.len() == 3
         && is_wider(x.store, premise(x, 0), x.sequent, a)
@@ -116,7 +118,8 @@ pub fn trichotomy(x: &Tried<'_>, a: TermId, b: TermId) -> bool
     requires tried { TriedHeld x.now }
     requires a_held { Holds x.now.store.now a }
     requires b_held { Holds x.now.store.now b }
-    ensures { IsTrue result ↔ RowOf x.now (RTrichotomy (tree_at x.now.store.now a) (tree_at x.now.store.now b)) }
+    ensures { IsTrue result ↔ RowOf x.now (RTrichotomy (tree_at x.now.store.now a)
+        (tree_at x.now.store.now b)) }
 {
     let int = x.store.int_type();
     if !has_type(x.store, a, int) || !has_type(x.store, b, int) {

@@ -27,7 +27,9 @@ pub(crate) struct Inversion<'a> {
 fn is_use(store: &Store, v: &Inversion<'_>, made: TermId) -> bool
     requires v_held { InversionHeld v.now store.now }
     requires held { Holds store.now made }
-    ensures { IsTrue result ↔ (tree_at store.now made ≡ inst_types (use_of v.now.symbol (length v.now.types.now) (trees_at store.now v.now.args.now)) (trees_at store.now v.now.types.now)) }
+    ensures { IsTrue result ↔ (tree_at store.now made
+        ≡ inst_types (use_of v.now.symbol (length v.now.types.now)
+        (trees_at store.now v.now.args.now)) (trees_at store.now v.now.types.now)) }
 {
     match store.node(made) {
         Node::Pred(symbol, types, args) => symbol == v.symbol
@@ -42,7 +44,10 @@ fn is_use(store: &Store, v: &Inversion<'_>, made: TermId) -> bool
 fn is_body(store: &Store, v: &Inversion<'_>, made: TermId) -> bool
     requires v_held { InversionHeld v.now store.now }
     requires held { Holds store.now made }
-    ensures { IsTrue result ↔ (tree_at store.now made ≡ inst_types (body_of v.now.symbol (length v.now.types.now) (trees_at store.now v.now.args.now) (trees_at store.now v.now.clauses.now)) (trees_at store.now v.now.types.now)) }
+    ensures { IsTrue result ↔ (tree_at store.now made
+        ≡ inst_types (body_of v.now.symbol (length v.now.types.now)
+        (trees_at store.now v.now.args.now) (trees_at store.now v.now.clauses.now))
+        (trees_at store.now v.now.types.now)) }
 {
     match store.node(made) {
         Node::Join(op, a, b) => op == Op::Imp
@@ -58,7 +63,10 @@ fn is_quantified(store: &Store, v: &Inversion<'_>, args: &[TermId], made: TermId
     requires v_held { InversionHeld v.now store.now }
     requires args_held { All (Holds store.now) args.now }
     requires held { Holds store.now made }
-    ensures { IsTrue result ↔ (tree_at store.now made ≡ inst_types (for_all (trees_at store.now args.now) (body_of v.now.symbol (length v.now.types.now) (trees_at store.now v.now.args.now) (trees_at store.now v.now.clauses.now))) (trees_at store.now v.now.types.now)) }
+    ensures { IsTrue result ↔ (tree_at store.now made
+        ≡ inst_types (for_all (trees_at store.now args.now)
+        (body_of v.now.symbol (length v.now.types.now) (trees_at store.now v.now.args.now)
+        (trees_at store.now v.now.clauses.now))) (trees_at store.now v.now.types.now)) }
 {
     match args.split_first() {
         Some((ty, rest)) => match store.node(made) {

@@ -19,7 +19,8 @@ use typing::{Types, is_instance};
 // The sides of a formula of a connective.
 fn sides(store: &Store, op: Op, e: TermId) -> Option<(TermId, TermId)>
     requires { Holds store.now e }
-    ensures some { IfSome result (λ p. tree_at store.now e ≡ Two (HJoin op) (tree_at store.now p.0) (tree_at store.now p.1)) }
+    ensures some { IfSome result (λ p. tree_at store.now e ≡ Two (HJoin op) (tree_at store.now p.0)
+        (tree_at store.now p.1)) }
     ensures none { IfNone result ((a b : Tree) → tree_at store.now e ≡ Two (HJoin op) a b → ⊥) }
     ensures held { IfSome result (PairHeld store.now) }
 {
@@ -34,7 +35,8 @@ fn is_put(store: &Store, types: &[TermId], e: TermId, made: TermId) -> bool
     requires types_held { All (Holds store.now) types.now }
     requires e_held { Holds store.now e }
     requires held { Holds store.now made }
-    ensures { IsTrue result ↔ (tree_at store.now made ≡ inst_types (tree_at store.now e) (trees_at store.now types.now)) }
+    ensures { IsTrue result ↔ (tree_at store.now made ≡ inst_types (tree_at store.now e)
+        (trees_at store.now types.now)) }
 {
     is_instance(store, e, Types::Given(types), made)
 }
@@ -51,7 +53,9 @@ fn is_variable(
     requires types_held { All (Holds store.now) types.now }
     requires ty_held { Holds store.now ty }
     requires held { Holds store.now made }
-    ensures { IsTrue result ↔ (tree_at store.now made ≡ inst_types (Bound (under + index) (tree_at store.now ty)) (trees_at store.now types.now)) }
+    ensures { IsTrue result ↔ (tree_at store.now made
+        ≡ inst_types (Bound (under + index) (tree_at store.now ty))
+        (trees_at store.now types.now)) }
 {
     match store.node(made) {
         Node::Bound(found, known) => found >= index
@@ -76,7 +80,9 @@ fn is_equation(
     requires ty_held { Holds store.now ty }
     requires argument_held { Holds store.now argument }
     requires held { Holds store.now made }
-    ensures { IsTrue result ↔ (tree_at store.now made ≡ inst_types (Two HEq (Bound (under + index) (tree_at store.now ty)) (tree_at store.now argument)) (trees_at store.now types.now)) }
+    ensures { IsTrue result ↔ (tree_at store.now made
+        ≡ inst_types (Two HEq (Bound (under + index) (tree_at store.now ty))
+        (tree_at store.now argument)) (trees_at store.now types.now)) }
 {
     match store.node(made) {
         Node::Eq(a, b) => is_variable(store, types, under, index, ty, a)
@@ -88,7 +94,8 @@ fn is_equation(
 // Whether there are no equations on a list of arguments.
 fn no_equations(store: &Store, under: usize, args: &[TermId], list: TermId) -> bool
     requires list_held { Holds store.now list }
-    ensures { IsTrue result ↔ (argument_equations under (bound_variables (trees_at store.now args.now)) (tree_at store.now list) ≡ None) }
+    ensures { IsTrue result ↔ (argument_equations under
+        (bound_variables (trees_at store.now args.now)) (tree_at store.now list) ≡ None) }
 {
     let _ = under;
     match args.split_first() {
@@ -113,7 +120,10 @@ fn are_equations(
     requires args_held { All (Holds store.now) args.now }
     requires list_held { Holds store.now list }
     requires held { Holds store.now made }
-    ensures { IsTrue result ↔ (Some (tree_at store.now made) ≡ option_map (λ e. inst_types e (trees_at store.now types.now)) (argument_equations under (bound_variables (trees_at store.now args.now)) (tree_at store.now list))) }
+    ensures { IsTrue result ↔ (Some (tree_at store.now made)
+        ≡ option_map (λ e. inst_types e (trees_at store.now types.now))
+        (argument_equations under (bound_variables (trees_at store.now args.now))
+        (tree_at store.now list))) }
 {
     match args.split_first() {
         Some((ty, rest)) => match store.node(list) {
@@ -141,7 +151,8 @@ fn are_equations(
 // Whether a clause has no premises and there are no equations on its conclusion's arguments.
 fn no_parts(store: &Store, under: usize, args: &[TermId], clause: TermId) -> bool
     requires clause_held { Holds store.now clause }
-    ensures { IsTrue result ↔ (clause_parts under (bound_variables (trees_at store.now args.now)) (tree_at store.now clause) ≡ None) }
+    ensures { IsTrue result ↔ (clause_parts under (bound_variables (trees_at store.now args.now))
+        (tree_at store.now clause) ≡ None) }
 {
     match store.node(clause) {
         Node::Pred(_, _, list) => no_equations(store, under, args, list),
@@ -163,7 +174,10 @@ fn are_parts(
     requires args_held { All (Holds store.now) args.now }
     requires clause_held { Holds store.now clause }
     requires held { Holds store.now made }
-    ensures { IsTrue result ↔ (Some (tree_at store.now made) ≡ option_map (λ e. inst_types e (trees_at store.now types.now)) (clause_parts under (bound_variables (trees_at store.now args.now)) (tree_at store.now clause))) }
+    ensures { IsTrue result ↔ (Some (tree_at store.now made)
+        ≡ option_map (λ e. inst_types e (trees_at store.now types.now))
+        (clause_parts under (bound_variables (trees_at store.now args.now))
+        (tree_at store.now clause))) }
 {
     match store.node(clause) {
         Node::Pred(_, _, list) => are_equations(store, types, under, args, list, made),
@@ -201,7 +215,9 @@ fn is_conjunction(
     requires args_held { All (Holds store.now) args.now }
     requires clause_held { Holds store.now clause }
     requires held { Holds store.now made }
-    ensures { IsTrue result ↔ (tree_at store.now made ≡ inst_types (or_true (clause_parts under (bound_variables (trees_at store.now args.now)) (tree_at store.now clause))) (trees_at store.now types.now)) }
+    ensures { IsTrue result ↔ (tree_at store.now made
+        ≡ inst_types (or_true (clause_parts under (bound_variables (trees_at store.now args.now))
+        (tree_at store.now clause))) (trees_at store.now types.now)) }
 {
     if no_parts(store, under, args, clause) {
         return is_true(store, made);
@@ -234,7 +250,9 @@ fn is_given(
     requires clause_held { Holds store.now clause }
     requires held { Holds store.now made }
     requires small { under + clause.0 < 18446744073709551616 }
-    ensures { IsTrue result ↔ (tree_at store.now made ≡ inst_types (given_by under (bound_variables (trees_at store.now args.now)) (tree_at store.now clause)) (trees_at store.now types.now)) }
+    ensures { IsTrue result ↔ (tree_at store.now made
+        ≡ inst_types (given_by under (bound_variables (trees_at store.now args.now))
+        (tree_at store.now clause)) (trees_at store.now types.now)) }
 {
     match store.node(clause) {
         Node::Forall(ty, body) => match store.node(made) {
@@ -262,7 +280,9 @@ fn is_given_first(
     requires args_held { All (Holds store.now) args.now }
     requires clause_held { Holds store.now clause }
     requires held { Holds store.now made }
-    ensures { IsTrue result ↔ (tree_at store.now made ≡ inst_types (given_by 0 (bound_variables (trees_at store.now args.now)) (tree_at store.now clause)) (trees_at store.now types.now)) }
+    ensures { IsTrue result ↔ (tree_at store.now made
+        ≡ inst_types (given_by 0 (bound_variables (trees_at store.now args.now))
+        (tree_at store.now clause)) (trees_at store.now types.now)) }
 {
     let _number = clause.0;
     is_given(store, types, 0, args, clause, made)
@@ -280,7 +300,9 @@ pub(crate) fn is_given_by_any(
     requires args_held { All (Holds store.now) args.now }
     requires clauses_held { All (Holds store.now) clauses.now }
     requires held { Holds store.now made }
-    ensures { IsTrue result ↔ (tree_at store.now made ≡ inst_types (given_by_any (bound_variables (trees_at store.now args.now)) (trees_at store.now clauses.now)) (trees_at store.now types.now)) }
+    ensures { IsTrue result ↔ (tree_at store.now made
+        ≡ inst_types (given_by_any (bound_variables (trees_at store.now args.now))
+        (trees_at store.now clauses.now)) (trees_at store.now types.now)) }
 {
     match clauses.split_first() {
         Some((first, rest)) => {
@@ -325,7 +347,8 @@ fn is_list(store: &Store, trees: &[TermId], list: TermId) -> bool
 pub(crate) fn are_own_types(store: &Store, types: &[TermId], list: TermId) -> bool
     requires types_held { All (Holds store.now) types.now }
     requires held { Holds store.now list }
-    ensures { IsTrue result ↔ (tree_at store.now list ≡ inst_types (cells (type_variables 0 (length types.now))) (trees_at store.now types.now)) }
+    ensures { IsTrue result ↔ (tree_at store.now list
+        ≡ inst_types (cells (type_variables 0 (length types.now))) (trees_at store.now types.now)) }
 {
     is_list(store, types, list)
 }
@@ -336,7 +359,9 @@ pub(crate) fn are_variables(store: &Store, types: &[TermId], args: &[TermId], li
     requires types_held { All (Holds store.now) types.now }
     requires args_held { All (Holds store.now) args.now }
     requires held { Holds store.now list }
-    ensures { IsTrue result ↔ (tree_at store.now list ≡ inst_types (cells (bound_variables (trees_at store.now args.now))) (trees_at store.now types.now)) }
+    ensures { IsTrue result ↔ (tree_at store.now list
+        ≡ inst_types (cells (bound_variables (trees_at store.now args.now)))
+        (trees_at store.now types.now)) }
 {
     match args.split_first() {
         Some((ty, rest)) => match store.node(list) {

@@ -27,7 +27,8 @@ use Rattle.tasks.specs.Task.{TaskTree}
 use Rattle.tasks.specs.Vocabulary.{of_task}
 use Rattle.tasks.specs.Typing.{IsTyped}
 use Rattle.tasks.specs.Valid.{IsGround, IsGroundFormula, IsTypeOver}
-use Rattle.kernel.specs.Right.{IsGroundExpression, Each}
+use Rattle.linear_leaf.specs.Valuations.{Each}
+use Rattle.kernel.specs.Right.{IsGroundExpression}
 use Rattle.kernel.specs.Open.{OpenIn, TemplateIsOpen, StepIsOpen, IsComplete, EachClosed, types_in}
 
 is_zero : (l : ℕ) → (l == 0) ≡ true → l ≡ 0

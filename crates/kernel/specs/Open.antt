@@ -14,7 +14,7 @@ use Rattle.rule_rows.specs.declared.rule.Rule.{Rule}
 use Rattle.rule_rows.specs.declared.rule.Rule.TheVariants.{Fact, Def, Clause, Inv}
 use Rattle.rule_rows.specs.Trees.{RuleTree, RReplace, trees_of}
 use Rattle.rule_rows.specs.Meaning.{rule_at}
-use Rattle.kernel.specs.Right.{Each}
+use Rattle.linear_leaf.specs.Valuations.{Each}
 
 -- a tree is typed as far as it stands; the tree of a number is
 abbrev pub OpenIn : TaskTree → Tree → Type 0

@@ -1,11 +1,12 @@
 -- What a right step and a derivation are (tableau calculus on left-sided sequents).
-use Rattle.std.specs.Prelude.{◌≡◌, ◌⊎◌, ℕ, ◌<◌, ◌≤◌, ◌-◌, List, [], ◌∷◌, map, length, take, slice_get, All, IsSomeAnd}
+use Rattle.std.specs.Prelude.{◌≡◌, ◌⊎◌, ℕ, ◌<◌, ◌≤◌, ◌-◌, List, map, length, take, slice_get, All, IsSomeAnd}
 use Rattle.trees.specs.declared.Sort.TheVariants.{Term, Formula}
 use Rattle.trees.specs.Tree.{Tree}
 use Rattle.trees.specs.Sorts.{sort_of}
 use Rattle.tasks.specs.Task.{TaskTree, start}
 use Rattle.tasks.specs.Typing.{IsTyped}
 use Rattle.tasks.specs.Valid.{IsGround, IsGroundFormula, IsTypeOver}
+use Rattle.linear_leaf.specs.Valuations.{Each}
 use Rattle.rule_rows.specs.Trees.{StepTree, trees_of, types_of, step_or, sequents}
 use Rattle.rule_rows.specs.Rows.{Row}
 
@@ -14,11 +15,6 @@ pub record IsGroundExpression (t : TaskTree) (e : Tree) : Type 0 where
   pub sort : (sort_of e ≡ Term) ⊎ (sort_of e ≡ Formula)
   pub typed : IsTyped t e
   pub ground : IsGround e
-
--- so of each
-abbrev pub Each : (Tree → Type 0) → List Tree → Type 0
-Each P [] = Unit {0}
-Each P (e ∷ es) = P e × Each P es
 
 -- a right step over the steps before it
 pub record IsRight (t : TaskTree) (before : List StepTree) (step : StepTree) : Type 0 where

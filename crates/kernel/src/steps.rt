@@ -36,7 +36,8 @@ pub fn right_typed_step(store: &Store, look: &Lookup<'_>, before: &[Step], step:
     requires before_held { StepsHeld store.now before.now }
     requires step_held { StepHeld store.now step.now }
     requires typed { StepIsOpen (task_at store.now look.now.task.now) store.now step.now }
-    ensures { IsTrue result ↔ IsRight (task_at store.now look.now.task.now) (steps_at store.now before.now) (step_at store.now step.now) }
+    ensures { IsTrue result ↔ IsRight (task_at store.now look.now.task.now)
+        (steps_at store.now before.now) (step_at store.now step.now) }
 {
     let task = look.task;
     let sequent = step.sequent.as_slice();
@@ -69,7 +70,8 @@ pub fn right_step(store: &Store, task: &Task, before: &[Step], step: &Step) -> b
     requires task_held { TaskHeld store.now task.now }
     requires before_held { StepsHeld store.now before.now }
     requires step_held { StepHeld store.now step.now }
-    ensures { IsTrue result ↔ IsRight (task_at store.now task.now) (steps_at store.now before.now) (step_at store.now step.now) }
+    ensures { IsTrue result ↔ IsRight (task_at store.now task.now) (steps_at store.now before.now)
+        (step_at store.now step.now) }
 {
     if !step_is_open(store, task, step) {
         return false;
@@ -83,7 +85,8 @@ fn right_at(store: &Store, task: &Task, steps: &[Step], i: usize) -> bool
     requires task_held { TaskHeld store.now task.now }
     requires steps_held { StepsHeld store.now steps.now }
     requires within { i < length steps.now }
-    ensures { IsTrue result ↔ IsRight (task_at store.now task.now) (take i (steps_at store.now steps.now)) (step_or (steps_at store.now steps.now) i) }
+    ensures { IsTrue result ↔ IsRight (task_at store.now task.now)
+        (take i (steps_at store.now steps.now)) (step_or (steps_at store.now steps.now) i) }
 {
     right_step(store, task, &steps[..i], &steps[i])
 }
@@ -92,7 +95,8 @@ fn right_at(store: &Store, task: &Task, steps: &[Step], i: usize) -> bool
 fn is_start(store: &Store, task: &Task, sequent: &[TermId]) -> bool
     requires task_held { TaskHeld store.now task.now }
     requires sequent_held { All (Holds store.now) sequent.now }
-    ensures { IsTrue result ↔ (trees_at store.now sequent.now ≡ start (task_at store.now task.now)) }
+    ensures { IsTrue result ↔ (trees_at store.now sequent.now
+        ≡ start (task_at store.now task.now)) }
 {
     is_wider(store, sequent, task.locals.as_slice(), &Not(task.goal))
 }
@@ -101,7 +105,8 @@ fn is_start(store: &Store, task: &Task, sequent: &[TermId]) -> bool
 pub fn ends_in_start(store: &Store, task: &Task, steps: &[Step]) -> bool
     requires task_held { TaskHeld store.now task.now }
     requires steps_held { StepsHeld store.now steps.now }
-    ensures { IsTrue result ↔ last_starts (task_at store.now task.now) (steps_at store.now steps.now) }
+    ensures { IsTrue result ↔ last_starts (task_at store.now task.now)
+        (steps_at store.now steps.now) }
 {
     if steps.is_empty() {
         return false;
@@ -114,8 +119,10 @@ pub fn ends_in_start(store: &Store, task: &Task, steps: &[Step]) -> bool
 pub fn first_wrong(store: &Store, task: &Task, steps: &[Step]) -> Option<usize>
     requires task_held { TaskHeld store.now task.now }
     requires steps_held { StepsHeld store.now steps.now }
-    ensures none { IfNone result (Closes (task_at store.now task.now) (steps_at store.now steps.now)) }
-    ensures some { IfSome result (IsWrongAt (task_at store.now task.now) (steps_at store.now steps.now)) }
+    ensures none { IfNone result (Closes (task_at store.now task.now)
+        (steps_at store.now steps.now)) }
+    ensures some { IfSome result (IsWrongAt (task_at store.now task.now)
+        (steps_at store.now steps.now)) }
 {
     for i in 0..steps.len() {
         if !right_at(store, task, steps, i) {

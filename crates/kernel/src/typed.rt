@@ -8,7 +8,8 @@ ghost use Rattle.tasks.specs.Valid.{IsGroundFormula, IsTypeOver};
 ghost use Rattle.typing.specs.Named.{vocabulary_at, VocabularyHeld};
 ghost use Rattle.rule_rows.specs.Trees.{trees_of};
 ghost use Rattle.rule_rows.specs.Meaning.{rule_at, RuleHeld, StepHeld};
-ghost use Rattle.kernel.specs.Right.{IsGroundExpression, Each};
+ghost use Rattle.linear_leaf.specs.Valuations.{Each};
+ghost use Rattle.kernel.specs.Right.{IsGroundExpression};
 ghost use Rattle.kernel.specs.Open.{OpenIn, IsOpen, IsComplete, StepIsOpen, TemplateIsOpen, types_in};
 
 use rule_rows::{Rule, Step};
@@ -64,7 +65,8 @@ fn are_open(store: &Store, task: &Task, ids: &[TermId]) -> bool
 fn names_open(store: &Store, task: &Task, rule: &Rule) -> bool
     requires task_held { TaskHeld store.now task.now }
     requires held { RuleHeld store.now rule.now }
-    ensures { IsTrue result ↔ Each (OpenIn (task_at store.now task.now)) (trees_of (rule_at store.now rule.now)) }
+    ensures { IsTrue result ↔ Each (OpenIn (task_at store.now task.now))
+        (trees_of (rule_at store.now rule.now)) }
 {
     match rule {
         Rule::Forall(_, e) | Rule::NotExists(_, e) => is_open_in(store, task, *e),
@@ -82,7 +84,8 @@ fn names_open(store: &Store, task: &Task, rule: &Rule) -> bool
 fn template_is_open(store: &Store, task: &Task, rule: &Rule) -> bool
     requires task_held { TaskHeld store.now task.now }
     requires held { RuleHeld store.now rule.now }
-    ensures { IsTrue result ↔ TemplateIsOpen (task_at store.now task.now) (rule_at store.now rule.now) }
+    ensures { IsTrue result ↔ TemplateIsOpen (task_at store.now task.now)
+        (rule_at store.now rule.now) }
 {
     match rule {
         Rule::Replace(_, _, e) => is_open_in(store, task, *e),
@@ -168,7 +171,8 @@ fn is_value(sort: Sort) -> bool
 fn is_expression(store: &Store, task: &Task, e: TermId) -> bool
     requires held { Holds store.now e }
     requires open { OpenIn (task_at store.now task.now) (tree_at store.now e) }
-    ensures { IsTrue result ↔ IsGroundExpression (task_at store.now task.now) (tree_at store.now e) }
+    ensures { IsTrue result ↔ IsGroundExpression (task_at store.now task.now)
+        (tree_at store.now e) }
 {
     is_value(store.sort(e)) && is_complete(store, task, e)
 }
@@ -177,7 +181,8 @@ fn is_expression(store: &Store, task: &Task, e: TermId) -> bool
 pub(crate) fn are_sentences(store: &Store, task: &Task, sequent: &[TermId]) -> bool
     requires held { All (Holds store.now) sequent.now }
     requires open { All (IsOpen (task_at store.now task.now) store.now) sequent.now }
-    ensures { IsTrue result ↔ All (IsGroundFormula (task_at store.now task.now)) (trees_at store.now sequent.now) }
+    ensures { IsTrue result ↔ All (IsGroundFormula (task_at store.now task.now))
+        (trees_at store.now sequent.now) }
 {
     for formula in sequent {
         if !is_sentence(store, task, *formula) {
@@ -191,7 +196,8 @@ pub(crate) fn are_sentences(store: &Store, task: &Task, sequent: &[TermId]) -> b
 pub(crate) fn are_types(store: &Store, task: &Task, types: &[TermId]) -> bool
     requires held { All (Holds store.now) types.now }
     requires open { All (IsOpen (task_at store.now task.now) store.now) types.now }
-    ensures { IsTrue result ↔ All (IsTypeOver (task_at store.now task.now) 0) (trees_at store.now types.now) }
+    ensures { IsTrue result ↔ All (IsTypeOver (task_at store.now task.now) 0)
+        (trees_at store.now types.now) }
 {
     for ty in types {
         if !is_type(store, task, *ty) {
@@ -204,8 +210,10 @@ pub(crate) fn are_types(store: &Store, task: &Task, types: &[TermId]) -> bool
 // Whether the terms and formulas that a rule names are those of the task.
 pub(crate) fn names_right(store: &Store, task: &Task, rule: &Rule) -> bool
     requires held { RuleHeld store.now rule.now }
-    requires trees { Each (OpenIn (task_at store.now task.now)) (trees_of (rule_at store.now rule.now)) }
-    ensures { IsTrue result ↔ Each (IsGroundExpression (task_at store.now task.now)) (trees_of (rule_at store.now rule.now)) }
+    requires trees { Each (OpenIn (task_at store.now task.now))
+        (trees_of (rule_at store.now rule.now)) }
+    ensures { IsTrue result ↔ Each (IsGroundExpression (task_at store.now task.now))
+        (trees_of (rule_at store.now rule.now)) }
 {
     match rule {
         Rule::Forall(_, e) | Rule::NotExists(_, e) => is_expression(store, task, *e),

@@ -12,7 +12,8 @@ use Rattle.tasks.specs.Valid.{IsValid, IsGroundFormula}
 use Rattle.tasks.proofs.TypeInstances.{proposition_at_types}
 use Rattle.rule_rows.specs.Trees.{RuleTree, RClash, RNotNot, RAnd, RNotAnd, RImp, RNotImp, RCut, RKeep, RFact, StepTree, no_step, step_or, trees_of}
 use Rattle.rule_rows.specs.Rows.{Row}
-use Rattle.kernel.specs.Right.{IsGroundExpression, Each, IsRight, AreRight}
+use Rattle.linear_leaf.specs.Valuations.{Each}
+use Rattle.kernel.specs.Right.{IsGroundExpression, IsRight, AreRight}
 use Rattle.problems.specs.Names.{task_names}
 use Rattle.evidence.specs.Drafts.{DraftTree}
 use Rattle.evidence.specs.Stages.{IsFact, fact_of, prop_or, no_proposition, KeepsDeclared, task_or, no_task, part_or}

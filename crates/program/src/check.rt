@@ -51,7 +51,8 @@ pub fn check_goal<L: Library>(
     goal: &str,
     der: &str,
 ) -> Result<Vec<u8>, RunFault>
-    ensures { Ends (CheckText src.now theory.now goal.now der.now) (L.state lib.old) (L.state lib.new) (bytes_of result) }
+    ensures { Ends (CheckText src.now theory.now goal.now der.now) (L.state lib.old)
+        (L.state lib.new) (bytes_of result) }
 {
     let mut store = Store::new(alloc)?;
     let task = find_task(alloc, lib, &mut store, src, theory, goal)?;

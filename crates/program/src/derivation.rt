@@ -75,9 +75,11 @@ fn lifted_draft(
     requires parts_held { TasksHeld draft.old.trees parts.now.items }
     requires split { tasks_at draft.old.trees parts.now.items ≡ split_task draft.old.task }
     requires handed_held { PartsHeld draft.old.trees handed.now }
-    requires refuted { AreRefuted (tasks_at draft.old.trees parts.now.items) (parts_at draft.old.trees handed.now) (length parts.now.items) }
+    requires refuted { AreRefuted (tasks_at draft.old.trees parts.now.items)
+        (parts_at draft.old.trees handed.now) (length parts.now.items) }
     ensures starts { IfOk result (λ _. last_starts draft.new.task draft.new.steps) }
-    ensures sequents { IfOk result (λ _. HasSequents draft.new.steps (parts_at draft.old.trees handed.now)) }
+    ensures sequents { IfOk result (λ _. HasSequents draft.new.steps
+        (parts_at draft.old.trees handed.now)) }
     ensures language { StepsAreIn (is_writable (task_names draft.old.task)) draft.new.steps }
     ensures grows { Extends draft.old draft.new }
 {
@@ -99,7 +101,8 @@ pub(crate) fn lifted_text(
     requires parts_held { TasksHeld store parts.now.items }
     requires split { tasks_at store parts.now.items ≡ split_task (task_at store task) }
     requires handed_held { PartsHeld store handed.now }
-    requires refuted { AreRefuted (tasks_at store parts.now.items) (parts_at store handed.now) (length parts.now.items) }
+    requires refuted { AreRefuted (tasks_at store parts.now.items) (parts_at store handed.now)
+        (length parts.now.items) }
     ensures { IfOk result (λ v. IsLifted (task_at store task) (parts_at store handed.now) v.items) }
 {
     let task = Rc::new(alloc, task)?;

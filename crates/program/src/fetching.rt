@@ -12,7 +12,8 @@ const MOST: usize = 67_108_865;
 
 /// A file of at most 67,108,864 bytes, which is fetched with this number.
 pub fn fetch_short<L: Library>(lib: &mut L, file: usize, name: &str) -> Result<Vec<u8>, RunFault>
-    ensures { Answers (ShortFile file name.now) file (λ _. file + 1) (L.state lib.old) (L.state lib.new) (bytes_of result) }
+    ensures { Answers (ShortFile file name.now) file (λ _. file + 1) (L.state lib.old)
+        (L.state lib.new) (bytes_of result) }
 {
     match lib.fetch(name, MOST) {
         Ok(bytes) => {
@@ -30,7 +31,8 @@ pub fn fetch_short<L: Library>(lib: &mut L, file: usize, name: &str) -> Result<V
 
 /// A whole file, which is fetched with this number.
 pub fn fetch_whole<L: Library>(lib: &mut L, file: usize, name: &str) -> Result<Vec<u8>, RunFault>
-    ensures { Answers (WholeFile file name.now) file (λ _. file + 1) (L.state lib.old) (L.state lib.new) (bytes_of result) }
+    ensures { Answers (WholeFile file name.now) file (λ _. file + 1) (L.state lib.old)
+        (L.state lib.new) (bytes_of result) }
 {
     match lib.fetch(name, usize::MAX) {
         Ok(bytes) => Ok(bytes),

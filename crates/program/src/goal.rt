@@ -25,7 +25,8 @@ fn fetch_theories<L: Library>(
     store: &mut Store,
     src: &str,
 ) -> Result<Seq<Theory>, RunFault>
-    ensures answers { Answers (Source src.now) 0 (λ _. 1) (L.state lib.old) (L.state lib.new) (theories_in store.new result) }
+    ensures answers { Answers (Source src.now) 0 (λ _. 1) (L.state lib.old) (L.state lib.new)
+        (theories_in store.new result) }
     ensures held { IfOk result (TheoriesHeld store.new) }
     ensures source { IfOk result (λ ts. AreOfSource (theories_at store.new ts)) }
 {
@@ -42,7 +43,8 @@ pub fn find_task<L: Library>(
     theory: &str,
     goal: &str,
 ) -> Result<Task, RunFault>
-    ensures answers { Answers (Goal src.now theory.now goal.now) 0 (λ _. 1) (L.state lib.old) (L.state lib.new) (task_in store.new result) }
+    ensures answers { Answers (Goal src.now theory.now goal.now) 0 (λ _. 1) (L.state lib.old)
+        (L.state lib.new) (task_in store.new result) }
     ensures held { IfOk result (TaskHeld store.new) }
     ensures valid { IfOk result (λ t. IsValid (task_at store.new t)) }
     ensures fragment { IfOk result (λ t. IsInFragment (task_at store.new t)) }

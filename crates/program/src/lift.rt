@@ -19,7 +19,8 @@ use tr_split::split_goal;
 
 // Whether there are as many files as parts.
 fn count_files(parts: usize, files: usize) -> Result<(), RunFault>
-    ensures { MatchResult result (λ _. parts ≡ files) (λ e. (parts ≢ files) × (e ≡ RunFault.Refused (Fault.PartCount parts files))) }
+    ensures { MatchResult result (λ _. parts ≡ files) (λ e. (parts ≢ files)
+        × (e ≡ RunFault.Refused (Fault.PartCount parts files))) }
 {
     if parts == files {
         Ok(())
@@ -42,7 +43,8 @@ fn lift_task<L: Library>(
     requires held { TaskHeld store task }
     requires valid { IsValid (task_at store task) }
     requires fragment { IsInFragment (task_at store task) }
-    ensures { Answers (Lifting (map string_bytes refs.now) (task_at store task)) 1 (λ _. length refs.now + 2) (L.state lib.old) (L.state lib.new) (bytes_of result) }
+    ensures { Answers (Lifting (map string_bytes refs.now) (task_at store task)) 1
+        (λ _. length refs.now + 2) (L.state lib.old) (L.state lib.new) (bytes_of result) }
 {
     let parts = split_goal(alloc, &mut store, &task)?;
     count_files(parts.len(), refs.len())?;
@@ -68,7 +70,8 @@ pub fn lift_goal<L: Library>(
     refs: &[String],
 ) -> Result<Vec<u8>, RunFault>
     requires { drv.now ≡ codes "plain.drv" }
-    ensures { Ends (LiftText src.now theory.now goal.now (map string_bytes refs.now)) (L.state lib.old) (L.state lib.new) (bytes_of result) }
+    ensures { Ends (LiftText src.now theory.now goal.now (map string_bytes refs.now))
+        (L.state lib.old) (L.state lib.new) (bytes_of result) }
 {
     let _ = drv;
     let mut store = Store::new(alloc)?;

@@ -29,7 +29,8 @@ fn push_problem(
 ) -> Result<(), AllocError>
     requires held { TaskHeld store.now task.now }
     requires entries { DeclaresEntries (task_at store.now task.now) }
-    ensures { OnOk result (out.new.items ≡ out.old.items ++ problem_text part parts (task_at store.now task.now)) }
+    ensures { OnOk result (out.new.items ≡ out.old.items ++ problem_text part parts
+        (task_at store.now task.now)) }
 {
     let names = plain_names(alloc, store, task)?;
     let text = smt_text(alloc, store, task, &names, part, parts)?;
@@ -75,7 +76,8 @@ pub fn print_goal<L: Library>(
     goal: &str,
 ) -> Result<Vec<u8>, RunFault>
     requires { drv.now ≡ codes "plain.drv" }
-    ensures { Ends (PrintText src.now theory.now goal.now) (L.state lib.old) (L.state lib.new) (bytes_of result) }
+    ensures { Ends (PrintText src.now theory.now goal.now) (L.state lib.old) (L.state lib.new)
+        (bytes_of result) }
 {
     let _ = drv;
     let mut store = Store::new(alloc)?;

@@ -34,9 +34,11 @@ fn read_refutation(
 ) -> Result<Vec<Step>, RunFault>
     requires held { TaskHeld store.old part.now }
     requires entries { DeclaresEntries (task_at store.old part.now) }
-    ensures steps { IsStageAnswer (Refutes number (task_at store.old part.now) bytes.now) (steps_in store.new result) }
+    ensures steps { IsStageAnswer (Refutes number (task_at store.old part.now) bytes.now)
+        (steps_in store.new result) }
     ensures held { IfOk result (λ v. StepsHeld store.new v.items) }
-    ensures refutes { IfOk result (λ v. IsRefutation (task_at store.old part.now) (steps_at store.new v.items)) }
+    ensures refutes { IfOk result (λ v. IsRefutation (task_at store.old part.now)
+        (steps_at store.new v.items)) }
     ensures grows { Grows store.old store.new }
 {
     let names = plain_names(alloc, store, part)?;
@@ -66,9 +68,11 @@ fn read_file<L: Library>(
     requires room { place + 2 < 2 ^ 64 }
     requires held { TaskHeld store.old part.now }
     requires entries { DeclaresEntries (task_at store.old part.now) }
-    ensures answers { Answers (PartFile place (task_at store.old part.now) name.now) (place + 2) (λ _. place + 2 + 1) (L.state lib.old) (L.state lib.new) (steps_in store.new result) }
+    ensures answers { Answers (PartFile place (task_at store.old part.now) name.now) (place + 2)
+        (λ _. place + 2 + 1) (L.state lib.old) (L.state lib.new) (steps_in store.new result) }
     ensures held { IfOk result (λ v. StepsHeld store.new v.items) }
-    ensures refutes { IfOk result (λ v. IsRefutation (task_at store.old part.now) (steps_at store.new v.items)) }
+    ensures refutes { IfOk result (λ v. IsRefutation (task_at store.old part.now)
+        (steps_at store.new v.items)) }
     ensures grows { Grows store.old store.new }
 {
     let bytes = fetch_short(lib, place + 2, name)?;
@@ -87,9 +91,12 @@ pub(crate) fn read_files<L: Library>(
     requires as_many { length parts.now ≡ length names.now }
     requires held { TasksHeld store.old parts.now }
     requires entries { All DeclaresEntries (tasks_at store.old parts.now) }
-    ensures answers { Answers (FirstFiles (tasks_at store.old parts.now) (map string_bytes names.now) (length names.now)) 2 (λ _. length names.now + 2) (L.state lib.old) (L.state lib.new) (handed_in store.new result) }
+    ensures answers { Answers (FirstFiles (tasks_at store.old parts.now)
+        (map string_bytes names.now) (length names.now)) 2 (λ _. length names.now + 2)
+        (L.state lib.old) (L.state lib.new) (handed_in store.new result) }
     ensures held { IfOk result (λ v. PartsHeld store.new v.items) }
-    ensures refuted { IfOk result (λ v. AreRefuted (tasks_at store.old parts.now) (parts_at store.new v.items) (length parts.now)) }
+    ensures refuted { IfOk result (λ v. AreRefuted (tasks_at store.old parts.now)
+        (parts_at store.new v.items) (length parts.now)) }
     ensures grows { Grows store.old store.new }
 {
     let mut handed = Vec::new(alloc);

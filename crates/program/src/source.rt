@@ -74,7 +74,8 @@ fn theories_of(
 ) -> Result<Seq<Theory>, RunFault>
     requires tokens { length (write_file (file_of file.now)) ≡ length tokens.now }
     requires places { PlacedFile 0 (file_of file.now) }
-    ensures declares { IsStageAnswer (Declares tokens.now (file_of file.now)) (theories_in store.new result) }
+    ensures declares { IsStageAnswer (Declares tokens.now (file_of file.now))
+        (theories_in store.new result) }
     ensures held { IfOk result (TheoriesHeld store.new) }
 {
     match theories(alloc, store, file) {

@@ -14,7 +14,8 @@ use trees::{Node, TermId};
 /// Of a negation what it negates.
 pub fn negated(store: &Store, f: Option<TermId>) -> Option<TermId>
     requires { IfSome f (Holds store.now) }
-    ensures tree { option_map (tree_at store.now) result ≡ negated (option_map (tree_at store.now) f) }
+    ensures tree { option_map (tree_at store.now) result
+        ≡ negated (option_map (tree_at store.now) f) }
     ensures held { IfSome result (Holds store.now) }
 {
     match store.node(f?) {
@@ -26,7 +27,8 @@ pub fn negated(store: &Store, f: Option<TermId>) -> Option<TermId>
 /// The type and the body of a universal formula.
 pub fn universal(store: &Store, f: Option<TermId>) -> Option<(TermId, TermId)>
     requires { IfSome f (Holds store.now) }
-    ensures tree { option_map (pair_at store.now) result ≡ universal (option_map (tree_at store.now) f) }
+    ensures tree { option_map (pair_at store.now) result
+        ≡ universal (option_map (tree_at store.now) f) }
     ensures held { IfSome result (PairHeld store.now) }
 {
     match store.node(f?) {
@@ -38,7 +40,8 @@ pub fn universal(store: &Store, f: Option<TermId>) -> Option<(TermId, TermId)>
 /// The type and the body of an existential formula.
 pub fn existential(store: &Store, f: Option<TermId>) -> Option<(TermId, TermId)>
     requires { IfSome f (Holds store.now) }
-    ensures tree { option_map (pair_at store.now) result ≡ existential (option_map (tree_at store.now) f) }
+    ensures tree { option_map (pair_at store.now) result
+        ≡ existential (option_map (tree_at store.now) f) }
     ensures held { IfSome result (PairHeld store.now) }
 {
     match store.node(f?) {
@@ -50,7 +53,8 @@ pub fn existential(store: &Store, f: Option<TermId>) -> Option<(TermId, TermId)>
 /// The sides of an equation.
 pub fn equated(store: &Store, f: Option<TermId>) -> Option<(TermId, TermId)>
     requires { IfSome f (Holds store.now) }
-    ensures tree { option_map (pair_at store.now) result ≡ equated (option_map (tree_at store.now) f) }
+    ensures tree { option_map (pair_at store.now) result
+        ≡ equated (option_map (tree_at store.now) f) }
     ensures held { IfSome result (PairHeld store.now) }
 {
     match store.node(f?) {

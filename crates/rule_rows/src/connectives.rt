@@ -15,7 +15,8 @@ fn where_true(x: &Tried<'_>, op: Op, a: TermId, b: TermId) -> bool
     requires tried { TriedHeld x.now }
     requires a_held { Holds x.now.store.now a }
     requires b_held { Holds x.now.store.now b }
-    ensures { IsTrue result ↔ Adds (sequent_of x.now) (premises_of x.now) (where_true op (tree_at x.now.store.now a) (tree_at x.now.store.now b)) }
+    ensures { IsTrue result ↔ Adds (sequent_of x.now) (premises_of x.now)
+        (where_true op (tree_at x.now.store.now a) (tree_at x.now.store.now b)) }
 {
     match op {
         Op::And | Op::AndThen => adds_both(x, &a, &b),
@@ -30,7 +31,8 @@ fn where_false(x: &Tried<'_>, op: Op, a: TermId, b: TermId) -> bool
     requires tried { TriedHeld x.now }
     requires a_held { Holds x.now.store.now a }
     requires b_held { Holds x.now.store.now b }
-    ensures { IsTrue result ↔ Adds (sequent_of x.now) (premises_of x.now) (where_false op (tree_at x.now.store.now a) (tree_at x.now.store.now b)) }
+    ensures { IsTrue result ↔ Adds (sequent_of x.now) (premises_of x.now)
+        (where_false op (tree_at x.now.store.now a) (tree_at x.now.store.now b)) }
 {
     match op {
         Op::And | Op::AndThen => adds_each(x, &Not(a), &Not(b)),
@@ -44,7 +46,8 @@ fn where_false(x: &Tried<'_>, op: Op, a: TermId, b: TermId) -> bool
 pub fn holding(x: &Tried<'_>, op: Op, f: Option<TermId>) -> bool
     requires tried { TriedHeld x.now }
     requires held { IfSome f (Holds x.now.store.now) }
-    ensures { IsTrue result ↔ Holding op (sequent_of x.now) (option_map (tree_at x.now.store.now) f) (premises_of x.now) }
+    ensures { IsTrue result ↔ Holding op (sequent_of x.now) (option_map (tree_at x.now.store.now) f)
+        (premises_of x.now) }
 {
     match f {
         Some(id) => match x.store.node(id) {
@@ -59,7 +62,8 @@ pub fn holding(x: &Tried<'_>, op: Op, f: Option<TermId>) -> bool
 pub fn failing(x: &Tried<'_>, op: Op, f: Option<TermId>) -> bool
     requires tried { TriedHeld x.now }
     requires held { IfSome f (Holds x.now.store.now) }
-    ensures { IsTrue result ↔ Failing op (sequent_of x.now) (option_map (tree_at x.now.store.now) f) (premises_of x.now) }
+    ensures { IsTrue result ↔ Failing op (sequent_of x.now) (option_map (tree_at x.now.store.now) f)
+        (premises_of x.now) }
 {
     match f {
         Some(id) => match x.store.node(id) {

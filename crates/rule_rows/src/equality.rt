@@ -82,7 +82,8 @@ fn fits_template(x: &Tried<'_>, term: TermId, template: TermId) -> bool
     requires term_held { Holds x.now.store.now term }
     requires held { Holds x.now.store.now template }
     requires open { OpenTyped (of_task (task_of x.now)) (tree_at x.now.store.now template) }
-    ensures { IsTrue result ↔ IsSomeAnd (type_of (tree_at x.now.store.now term)) (λ ty. IsTemplate (task_of x.now) ty (tree_at x.now.store.now template)) }
+    ensures { IsTrue result ↔ IsSomeAnd (type_of (tree_at x.now.store.now term))
+        (λ ty. IsTemplate (task_of x.now) ty (tree_at x.now.store.now template)) }
 {
     match x.store.ty(term) {
         Some(ty) => is_template(x, template, ty),
@@ -95,7 +96,8 @@ fn is_template(x: &Tried<'_>, e: TermId, ty: TermId) -> bool
     requires e_held { Holds x.now.store.now e }
     requires ty_held { Holds x.now.store.now ty }
     requires open { OpenTyped (of_task (task_of x.now)) (tree_at x.now.store.now e) }
-    ensures { IsTrue result ↔ IsTemplate (task_of x.now) (tree_at x.now.store.now ty) (tree_at x.now.store.now e) }
+    ensures { IsTrue result ↔ IsTemplate (task_of x.now) (tree_at x.now.store.now ty)
+        (tree_at x.now.store.now e) }
 {
     if x.store.sort(e) != Sort::Formula {
         return false;

@@ -85,7 +85,8 @@ pub fn cut(x: &Tried<'_>, formula: TermId) -> bool
 fn is_at(x: &Tried<'_>, place: usize, id: TermId) -> bool
     requires tried { TriedHeld x.now }
     requires held { Holds x.now.store.now id }
-    ensures { IsTrue result ↔ (Some (tree_at x.now.store.now id) ≡ slice_get (sequent_of x.now) place) }
+    ensures { IsTrue result ↔ (Some (tree_at x.now.store.now id)
+        ≡ slice_get (sequent_of x.now) place) }
 {
     match formula_at(x, place) {
         Some(other) => x.store.same(id, other),
@@ -97,7 +98,8 @@ fn is_at(x: &Tried<'_>, place: usize, id: TermId) -> bool
 fn are_kept(x: &Tried<'_>, places: &[usize], kept: &[TermId]) -> bool
     requires tried { TriedHeld x.now }
     requires held { All (Holds x.now.store.now) kept.now }
-    ensures { IsTrue result ↔ (map Some (trees_at x.now.store.now kept.now) ≡ map (slice_get (sequent_of x.now)) places.now) }
+    ensures { IsTrue result ↔ (map Some (trees_at x.now.store.now kept.now)
+        ≡ map (slice_get (sequent_of x.now)) places.now) }
 {
     match (kept.split_first(), places.split_first()) {
         (Some((a, more)), Some((i, others))) => is_at(x, *i, *a) && are_kept(x, others, more),

@@ -23,7 +23,9 @@ fn adds_put(x: &Tried<'_>, body: TermId, term: Term, sign: bool) -> bool
     requires tried { TriedHeld x.now }
     requires body_held { Holds x.now.store.now body }
     requires term { TermHeld x.now.store.now term }
-    ensures { IsTrue result ↔ Adds (sequent_of x.now) (premises_of x.now) ((signed sign (inst (tree_at x.now.store.now body) (term_at x.now.store.now term)) ∷ []) ∷ []) }
+    ensures { IsTrue result ↔ Adds (sequent_of x.now) (premises_of x.now)
+        ((signed sign (inst (tree_at x.now.store.now body) (term_at x.now.store.now term)) ∷ [])
+        ∷ []) }
 {
     if sign {
         adds_one(x, &Instance { body, term })
@@ -42,7 +44,8 @@ pub fn at_term(
     requires tried { TriedHeld x.now }
     requires quantifier { IfSome quantifier (PairHeld x.now.store.now) }
     requires term { TermHeld x.now.store.now (Term.Held term) }
-    ensures { IsTrue result ↔ AtTerm (option_map (pair_at x.now.store.now) quantifier) (sequent_of x.now) (tree_at x.now.store.now term) sign (premises_of x.now) }
+    ensures { IsTrue result ↔ AtTerm (option_map (pair_at x.now.store.now) quantifier)
+        (sequent_of x.now) (tree_at x.now.store.now term) sign (premises_of x.now) }
 {
     match quantifier {
         Some((ty, body)) => has_type(x.store, term, ty)
@@ -74,7 +77,8 @@ pub fn at_new(
     requires tried { TriedHeld x.now }
     requires quantifier { IfSome quantifier (PairHeld x.now.store.now) }
     requires closed { IfSome quantifier (λ p. loose (tree_at x.now.store.now p.0) ≡ 0) }
-    ensures { IsTrue result ↔ AtNew (option_map (pair_at x.now.store.now) quantifier) (sequent_of x.now) number sign (premises_of x.now) }
+    ensures { IsTrue result ↔ AtNew (option_map (pair_at x.now.store.now) quantifier)
+        (sequent_of x.now) number sign (premises_of x.now) }
 {
     match quantifier {
         Some((ty, body)) => is_new(x.store, x.sequent, number)

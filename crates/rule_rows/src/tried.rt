@@ -27,7 +27,8 @@ pub struct Tried<'a> {
 /// The formula at a place.
 pub fn formula_at(x: &Tried<'_>, place: usize) -> Option<TermId>
     requires { TriedHeld x.now }
-    ensures tree { option_map (tree_at x.now.store.now) result ≡ slice_get (sequent_of x.now) place }
+    ensures tree { option_map (tree_at x.now.store.now) result
+        ≡ slice_get (sequent_of x.now) place }
     ensures held { IfSome result (Holds x.now.store.now) }
     ensures closed { IfSome result (λ a. loose (tree_at x.now.store.now a) ≡ 0) }
 {
@@ -56,7 +57,8 @@ pub fn is_wider<A: Shape>(store: &Store, premise: &[TermId], sequent: &[TermId],
     requires premise_held { All (Holds store.now) premise.now }
     requires sequent_held { All (Holds store.now) sequent.now }
     requires held { A.IsHeld a.now store.now }
-    ensures { IsTrue result ↔ (trees_at store.now premise.now ≡ trees_at store.now sequent.now ++ A.tree a.now store.now ∷ []) }
+    ensures { IsTrue result ↔ (trees_at store.now premise.now
+        ≡ trees_at store.now sequent.now ++ A.tree a.now store.now ∷ []) }
 {
     match premise.split_last() {
         Some((last, front)) => same_list(store, front, sequent) && a.is(store, *last),
@@ -76,7 +78,9 @@ fn is_wider_by_two<A: Shape, B: Shape>(
     requires sequent_held { All (Holds store.now) sequent.now }
     requires a_held { A.IsHeld a.now store.now }
     requires b_held { B.IsHeld b.now store.now }
-    ensures { IsTrue result ↔ (trees_at store.now premise.now ≡ (trees_at store.now sequent.now ++ A.tree a.now store.now ∷ []) ++ B.tree b.now store.now ∷ []) }
+    ensures { IsTrue result ↔ (trees_at store.now premise.now
+        ≡ (trees_at store.now sequent.now ++ A.tree a.now store.now ∷ []) ++ B.tree b.now store.now
+        ∷ []) }
 {
     match premise.split_last() {
         Some((last, front)) => is_wider(store, front, sequent, a) && b.is(store, *last),
@@ -105,7 +109,8 @@ pub fn premise<'a>(x: &Tried<'a>, i: usize) -> &'a [TermId]
 pub fn adds_one<A: Shape>(x: &Tried<'_>, a: &A) -> bool
     requires tried { TriedHeld x.now }
     requires held { A.IsHeld a.now x.now.store.now }
-    ensures { IsTrue result ↔ Adds (sequent_of x.now) (premises_of x.now) ((A.tree a.now x.now.store.now ∷ []) ∷ []) }
+    ensures { IsTrue result ↔ Adds (sequent_of x.now) (premises_of x.now)
+        ((A.tree a.now x.now.store.now ∷ []) ∷ []) }
 {
     x.premises.len() == 1 && is_wider(x.store, premise(x, 0), x.sequent, a)
 }
@@ -116,7 +121,8 @@ pub fn adds_both<A: Shape, B: Shape>(x: &Tried<'_>, a: &A, b: &B) -> bool
     requires tried { TriedHeld x.now }
     requires a_held { A.IsHeld a.now x.now.store.now }
     requires b_held { B.IsHeld b.now x.now.store.now }
-    ensures { IsTrue result ↔ Adds (sequent_of x.now) (premises_of x.now) ((A.tree a.now x.now.store.now ∷ B.tree b.now x.now.store.now ∷ []) ∷ []) }
+    ensures { IsTrue result ↔ Adds (sequent_of x.now) (premises_of x.now)
+        ((A.tree a.now x.now.store.now ∷ B.tree b.now x.now.store.now ∷ []) ∷ []) }
 {
     x.premises.len() == 1 && is_wider_by_two(x.store, premise(x, 0), x.sequent, a, b)
 }
@@ -126,7 +132,8 @@ pub fn adds_each<A: Shape, B: Shape>(x: &Tried<'_>, a: &A, b: &B) -> bool
     requires tried { TriedHeld x.now }
     requires a_held { A.IsHeld a.now x.now.store.now }
     requires b_held { B.IsHeld b.now x.now.store.now }
-    ensures { IsTrue result ↔ Adds (sequent_of x.now) (premises_of x.now) ((A.tree a.now x.now.store.now ∷ []) ∷ (B.tree b.now x.now.store.now ∷ []) ∷ []) }
+    ensures { IsTrue result ↔ Adds (sequent_of x.now) (premises_of x.now)
+        ((A.tree a.now x.now.store.now ∷ []) ∷ (B.tree b.now x.now.store.now ∷ []) ∷ []) }
 {
     x.premises.len() == 2
         && is_wider(x.store, premise(x, 0), x.sequent, a)
@@ -147,7 +154,9 @@ pub fn adds_pairs<A: Shape, B: Shape, C: Shape, D: Shape>(
     requires b_held { B.IsHeld b.now x.now.store.now }
     requires c_held { C.IsHeld c.now x.now.store.now }
     requires d_held { D.IsHeld d.now x.now.store.now }
-    ensures { IsTrue result ↔ Adds (sequent_of x.now) (premises_of x.now) ((A.tree a.now x.now.store.now ∷ B.tree b.now x.now.store.now ∷ []) ∷ (C.tree c.now x.now.store.now ∷ D.tree d.now x.now.store.now ∷ []) ∷ []) }
+    ensures { IsTrue result ↔ Adds (sequent_of x.now) (premises_of x.now)
+        ((A.tree a.now x.now.store.now ∷ B.tree b.now x.now.store.now ∷ []) ∷
+        (C.tree c.now x.now.store.now ∷ D.tree d.now x.now.store.now ∷ []) ∷ []) }
 {
     x.premises.len() == 2
         && is_wider_by_two(x.store, premise(x, 0), x.sequent, a, b)

@@ -15,7 +15,8 @@ use Rattle.tasks.specs.Meaning.{trees_at}
 use Rattle.rule_rows.specs.declared.rule.Step.{Step}
 use Rattle.rule_rows.specs.Trees.{RuleTree, RCut, StepTree, no_step, step_or, sequents, trees_of}
 use Rattle.rule_rows.specs.Rows.{Row}
-use Rattle.kernel.specs.Right.{IsGroundExpression, Each, IsRight, Closes, last_starts}
+use Rattle.linear_leaf.specs.Valuations.{Each}
+use Rattle.kernel.specs.Right.{IsGroundExpression, IsRight, Closes, last_starts}
 use Rattle.rule_rows.specs.Meaning.{rule_at, step_at, steps_at}
 use Rattle.problems.specs.declared.names.NameEntry.{NameEntry}
 use Rattle.steps_text.specs.Words.{lines_of}

@@ -21,7 +21,8 @@ use trees::TermId;
 // Whether a formula is no taller than the tallest.
 fn is_low(store: &Store, tallest: Option<u64>, formula: TermId) -> bool
     requires { Holds store.now formula }
-    ensures { IsTrue result ↔ ForSome tallest (λ n. min (height (tree_at store.now formula)) 18446744073709551615 ≤ n) }
+    ensures { IsTrue result ↔ ForSome tallest
+        (λ n. min (height (tree_at store.now formula)) 18446744073709551615 ≤ n) }
 {
     match tallest {
         Some(most) => store.height(formula) <= most,
@@ -43,8 +44,12 @@ pub(crate) fn right_thing(
     requires task { TaskHeld store.old task.now }
     requires formulas { AreFormulas store.old formulas.now }
     requires steps { StepsHeld store.old steps.now }
-    ensures none { IfOk result (λ o. IfNone o (LineIsRight (task_at store.old task.now) names.now tallest (reading_at store.old formulas.now steps.now) line.now → ⊥)) }
-    ensures some { IfOk result (λ o. IfSome o (λ x. MakesGood (task_at store.old task.now) names.now tallest (reading_at store.old formulas.now steps.now) line.now (thing_at store.new x))) }
+    ensures none { IfOk result (λ o. IfNone o
+        (LineIsRight (task_at store.old task.now) names.now tallest
+        (reading_at store.old formulas.now steps.now) line.now → ⊥)) }
+    ensures some { IfOk result (λ o. IfSome o
+        (λ x. MakesGood (task_at store.old task.now) names.now tallest
+        (reading_at store.old formulas.now steps.now) line.now (thing_at store.new x))) }
     ensures held { IfOk result (λ o. IfSome o (ThingHeld store.new)) }
     ensures grows { Grows store.old store.new }
 {

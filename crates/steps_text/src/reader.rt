@@ -41,7 +41,8 @@ fn line_at<'a>(lines: &[&'a [u8]], i: usize) -> &'a [u8]
 
 // Puts a thing behind those of its kind.
 fn keep(formulas: &mut Vec<TermId>, steps: &mut Vec<Step>, thing: Thing) -> Result<(), AllocError>
-    ensures { OnOk result (IsKept thing formulas.old.items steps.old.items formulas.new.items steps.new.items) }
+    ensures { OnOk result (IsKept thing formulas.old.items steps.old.items formulas.new.items
+        steps.new.items) }
 {
     match thing {
         Thing::Formula(formula) => formulas.push(formula)?,
@@ -60,10 +61,13 @@ pub(crate) fn read_whole(
     bytes: &[u8],
 ) -> Result<Vec<Step>, ReadFault>
     requires { TaskHeld store.old task.now }
-    ensures steps { IfOk result (λ v. StepsOf (task_at store.old task.now) names.now tallest bytes.now (steps_at store.new v.items)) }
-    ensures closes { IfOk result (λ v. Closes (task_at store.old task.now) (steps_at store.new v.items)) }
+    ensures steps { IfOk result (λ v. StepsOf (task_at store.old task.now) names.now tallest
+        bytes.now (steps_at store.new v.items)) }
+    ensures closes { IfOk result (λ v. Closes (task_at store.old task.now)
+        (steps_at store.new v.items)) }
     ensures held { IfOk result (λ v. StepsHeld store.new v.items) }
-    ensures fault { IfErr result (IsFault (task_at store.old task.now) names.now tallest bytes.now) }
+    ensures fault { IfErr result (IsFault (task_at store.old task.now) names.now tallest
+        bytes.now) }
     ensures grows { Grows store.old store.new }
 {
     let all = lines(alloc, bytes)?;

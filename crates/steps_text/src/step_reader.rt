@@ -59,7 +59,8 @@ impl StepReader {
         names: &[NameEntry],
         piece: &[u8],
     ) -> Result<(), ReadFault>
-        ensures fed { OnOk result (self.new ≡ record self.old { bytes = self.old.bytes ++ piece.now }) }
+        ensures fed { OnOk result (self.new
+            ≡ record self.old { bytes = self.old.bytes ++ piece.now }) }
         ensures whole { OnOk result (self.old.lost ≡ false) }
         ensures memory { IfErr result (λ e. e ≡ Memory) }
         ensures lost { OnErr result (self.new.lost ≡ true) }
@@ -88,12 +89,18 @@ impl StepReader {
         names: &[NameEntry],
     ) -> Result<Vec<Step>, ReadFault>
         requires { TaskHeld store.old task.now }
-        ensures steps { IfOk result (λ v. StepsOf (task_at store.old task.now) names.now self.tallest self.bytes (steps_at store.new v.items)) }
-        ensures closes { IfOk result (λ v. Closes (task_at store.old task.now) (steps_at store.new v.items)) }
+        ensures steps { IfOk result (λ v. StepsOf
+            (task_at store.old task.now) names.now self.tallest self.bytes
+            (steps_at store.new v.items)) }
+        ensures closes { IfOk result (λ v. Closes (task_at store.old task.now)
+            (steps_at store.new v.items)) }
         ensures held { IfOk result (λ v. StepsHeld store.new v.items) }
         ensures whole { OnOk result (self.lost ≡ false) }
-        ensures fault { IfErr result (IsFault (task_at store.old task.now) names.now self.tallest self.bytes) }
-        ensures complete { IfErr result (λ e. (steps : List StepTree) → StepsOf (task_at store.old task.now) names.now self.tallest self.bytes steps → e ≡ Memory) }
+        ensures fault { IfErr result (IsFault (task_at store.old task.now) names.now self.tallest
+            self.bytes) }
+        ensures complete { IfErr result (λ e. (steps : List StepTree)
+            → StepsOf (task_at store.old task.now) names.now self.tallest self.bytes steps → e
+            ≡ Memory) }
         ensures lost { self.lost ≡ true → result ≡ Err Memory }
         ensures grows { Grows store.old store.new }
     {

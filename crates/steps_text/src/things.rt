@@ -50,7 +50,8 @@ fn symbol_named(names: &[NameEntry], name: &[u8]) -> Option<usize>
 
 // A predicate without type variables and arguments.
 fn plain_symbol(store: &Store, symbol: usize, info: &SymbolInfo) -> Option<usize>
-    ensures { option_map (λ k. Two (HPred k) (Leaf HEnd) (Leaf HEnd)) result ≡ plain_formula symbol info.now.kind info.now.vars (trees_at store.now info.now.args) }
+    ensures { option_map (λ k. Two (HPred k) (Leaf HEnd) (Leaf HEnd)) result
+        ≡ plain_formula symbol info.now.kind info.now.vars (trees_at store.now info.now.args) }
 {
     let _ = store;
     if info.vars != 0 {
@@ -70,7 +71,8 @@ fn plain_symbol(store: &Store, symbol: usize, info: &SymbolInfo) -> Option<usize
 
 // The predicate without type variables and arguments that a name stands for.
 fn plain_predicate(store: &Store, task: &Task, names: &[NameEntry], name: &[u8]) -> Option<usize>
-    ensures { option_map (λ k. Two (HPred k) (Leaf HEnd) (Leaf HEnd)) result ≡ symbol_formula (task_at store.now task.now) names.now name.now }
+    ensures { option_map (λ k. Two (HPred k) (Leaf HEnd) (Leaf HEnd)) result
+        ≡ symbol_formula (task_at store.now task.now) names.now name.now }
 {
     let symbol = symbol_named(names, name)?;
     let info = task.sig.symbols.get(symbol)?;
@@ -80,7 +82,8 @@ fn plain_predicate(store: &Store, task: &Task, names: &[NameEntry], name: &[u8])
 // The formula at a place.
 fn formula_at(store: &Store, formulas: &[TermId], place: usize) -> Option<TermId>
     requires { AreFormulas store.now formulas.now }
-    ensures tree { option_map (tree_at store.now) result ≡ slice_get (trees_at store.now formulas.now) place }
+    ensures tree { option_map (tree_at store.now) result
+        ≡ slice_get (trees_at store.now formulas.now) place }
     ensures formula { IfSome result (IsFormula store.now) }
 {
     let _ = store;
@@ -95,7 +98,8 @@ fn picked(
     places: &[usize],
 ) -> Result<Option<Vec<TermId>>, AllocError>
     requires { AreFormulas store.now formulas.now }
-    ensures trees { IfOk result (λ o. option_map (λ v. trees_at store.now v.items) o ≡ picked_from (trees_at store.now formulas.now) [] places.now) }
+    ensures trees { IfOk result (λ o. option_map (λ v. trees_at store.now v.items) o
+        ≡ picked_from (trees_at store.now formulas.now) [] places.now) }
     ensures held { IfOk result (λ o. IfSome o (λ v. AreFormulas store.now v.items)) }
 {
     let mut all = Vec::new(alloc);
@@ -116,7 +120,8 @@ fn referred(
     words: &[&[u8]],
 ) -> Result<Option<Vec<TermId>>, AllocError>
     requires { AreFormulas store.now formulas.now }
-    ensures trees { IfOk result (λ o. option_map (λ v. trees_at store.now v.items) o ≡ referred (trees_at store.now formulas.now) (texts words.now)) }
+    ensures trees { IfOk result (λ o. option_map (λ v. trees_at store.now v.items) o
+        ≡ referred (trees_at store.now formulas.now) (texts words.now)) }
     ensures held { IfOk result (λ o. IfSome o (λ v. AreFormulas store.now v.items)) }
 {
     match numbers(alloc, words)? {
@@ -128,7 +133,8 @@ fn referred(
 // The formula of a predicate without arguments.
 fn atom(store: &mut Store, symbol: usize) -> Result<TermId, AllocError>
     ensures formula { IfOk result (IsFormula store.new) }
-    ensures tree { IfOk result (λ id. tree_at store.new id ≡ Two (HPred symbol) (Leaf HEnd) (Leaf HEnd)) }
+    ensures tree { IfOk result (λ id. tree_at store.new id ≡ Two (HPred symbol) (Leaf HEnd)
+        (Leaf HEnd)) }
     ensures grows { Grows store.old store.new }
 {
     let end = store.add(Node::End)?;
@@ -142,7 +148,9 @@ fn symbol_formula(
     names: &[NameEntry],
     words: &[&[u8]],
 ) -> Result<Option<TermId>, AllocError>
-    ensures tree { IfOk result (λ o. option_map (tree_at store.new) o ≡ option_and_then (symbol_formula (task_at store.old task.now) names.now) (only_word (texts words.now))) }
+    ensures tree { IfOk result (λ o. option_map (tree_at store.new) o
+        ≡ option_and_then (symbol_formula (task_at store.old task.now) names.now)
+        (only_word (texts words.now))) }
     ensures formula { IfOk result (λ o. IfSome o (IsFormula store.new)) }
     ensures grows { Grows store.old store.new }
 {
@@ -158,7 +166,8 @@ fn symbol_formula(
 // The formula of a connective.
 fn joined(store: &mut Store, op: Op, parts: &[TermId]) -> Result<Option<TermId>, AllocError>
     requires { AreFormulas store.old parts.now }
-    ensures tree { IfOk result (λ o. option_map (tree_at store.new) o ≡ joined op (trees_at store.old parts.now)) }
+    ensures tree { IfOk result (λ o. option_map (tree_at store.new) o
+        ≡ joined op (trees_at store.old parts.now)) }
     ensures formula { IfOk result (λ o. IfSome o (IsFormula store.new)) }
     ensures grows { Grows store.old store.new }
 {
@@ -171,7 +180,8 @@ fn joined(store: &mut Store, op: Op, parts: &[TermId]) -> Result<Option<TermId>,
 // The formula of a negation.
 fn negation(store: &mut Store, parts: &[TermId]) -> Result<Option<TermId>, AllocError>
     requires { AreFormulas store.old parts.now }
-    ensures tree { IfOk result (λ o. option_map (tree_at store.new) o ≡ negation (trees_at store.old parts.now)) }
+    ensures tree { IfOk result (λ o. option_map (tree_at store.new) o
+        ≡ negation (trees_at store.old parts.now)) }
     ensures formula { IfOk result (λ o. IfSome o (IsFormula store.new)) }
     ensures grows { Grows store.old store.new }
 {
@@ -190,7 +200,8 @@ fn connected(
     words: &[&[u8]],
 ) -> Result<Option<TermId>, AllocError>
     requires { AreFormulas store.old formulas.now }
-    ensures tree { IfOk result (λ o. option_map (tree_at store.new) o ≡ option_and_then (joined op) (referred (trees_at store.old formulas.now) (texts words.now))) }
+    ensures tree { IfOk result (λ o. option_map (tree_at store.new) o ≡ option_and_then (joined op)
+        (referred (trees_at store.old formulas.now) (texts words.now))) }
     ensures formula { IfOk result (λ o. IfSome o (IsFormula store.new)) }
     ensures grows { Grows store.old store.new }
 {
@@ -208,7 +219,8 @@ fn negated(
     words: &[&[u8]],
 ) -> Result<Option<TermId>, AllocError>
     requires { AreFormulas store.old formulas.now }
-    ensures tree { IfOk result (λ o. option_map (tree_at store.new) o ≡ option_and_then negation (referred (trees_at store.old formulas.now) (texts words.now))) }
+    ensures tree { IfOk result (λ o. option_map (tree_at store.new) o ≡ option_and_then negation
+        (referred (trees_at store.old formulas.now) (texts words.now))) }
     ensures formula { IfOk result (λ o. IfSome o (IsFormula store.new)) }
     ensures grows { Grows store.old store.new }
 {
@@ -229,7 +241,9 @@ fn formula_of(
     words: &[&[u8]],
 ) -> Result<Option<TermId>, AllocError>
     requires { AreFormulas store.old formulas.now }
-    ensures tree { IfOk result (λ o. option_map (tree_at store.new) o ≡ formula_of (task_at store.old task.now) names.now (trees_at store.old formulas.now) kind.now (texts words.now)) }
+    ensures tree { IfOk result (λ o. option_map (tree_at store.new) o
+        ≡ formula_of (task_at store.old task.now) names.now
+        (trees_at store.old formulas.now) kind.now (texts words.now)) }
     ensures formula { IfOk result (λ o. IfSome o (IsFormula store.new)) }
     ensures grows { Grows store.old store.new }
 {
@@ -260,7 +274,8 @@ fn only(places: &[usize]) -> Option<usize>
 
 // The only two places.
 fn both(places: &[usize]) -> Option<(usize, usize)>
-    ensures { (f : ℕ → ℕ → RuleTree) → option_map (λ p. f p.0 p.1) result ≡ two_places f places.now }
+    ensures { (f : ℕ → ℕ → RuleTree) → option_map (λ p. f p.0 p.1) result
+        ≡ two_places f places.now }
 {
     match places {
         [i, j] => Some((*i, *j)),
@@ -271,7 +286,8 @@ fn both(places: &[usize]) -> Option<(usize, usize)>
 // The formula of a cut.
 fn cut_formula(store: &Store, formulas: &[TermId], places: &[usize]) -> Option<TermId>
     requires { AreFormulas store.now formulas.now }
-    ensures tree { option_map (λ a. RCut (tree_at store.now a)) result ≡ one_formula (trees_at store.now formulas.now) places.now }
+    ensures tree { option_map (λ a. RCut (tree_at store.now a)) result
+        ≡ one_formula (trees_at store.now formulas.now) places.now }
     ensures held { IfSome result (Holds store.now) }
 {
     match places {
@@ -289,7 +305,8 @@ fn rule_of(
     places: Vec<usize>,
 ) -> Option<Rule>
     requires { AreFormulas store.now formulas.now }
-    ensures tree { option_map (rule_at store.now) result ≡ rule_of (trees_at store.now formulas.now) word.now places.items }
+    ensures tree { option_map (rule_at store.now) result
+        ≡ rule_of (trees_at store.now formulas.now) word.now places.items }
     ensures held { IfSome result (RuleHeld store.now) }
 {
     if is(word, "clash") {
@@ -331,7 +348,8 @@ fn rule_words(
     words: &[&[u8]],
 ) -> Result<Option<Rule>, AllocError>
     requires { AreFormulas store.now formulas.now }
-    ensures tree { IfOk result (λ o. option_map (rule_at store.now) o ≡ rule_words (trees_at store.now formulas.now) (texts words.now)) }
+    ensures tree { IfOk result (λ o. option_map (rule_at store.now) o
+        ≡ rule_words (trees_at store.now formulas.now) (texts words.now)) }
     ensures held { IfOk result (λ o. IfSome o (RuleHeld store.now)) }
 {
     match words {
@@ -353,7 +371,9 @@ fn ended(
 ) -> Result<Option<Step>, AllocError>
     requires formulas { AreFormulas store.now formulas.now }
     requires sequent { AreFormulas store.now sequent.items }
-    ensures tree { IfOk result (λ o. option_map (step_at store.now) o ≡ ended (trees_at store.now formulas.now) (trees_at store.now sequent.items) (texts words.now)) }
+    ensures tree { IfOk result (λ o. option_map (step_at store.now) o
+        ≡ ended (trees_at store.now formulas.now) (trees_at store.now sequent.items)
+        (texts words.now)) }
     ensures held { IfOk result (λ o. IfSome o (StepHeld store.now)) }
 {
     let Some(at) = colon(words) else {
@@ -380,7 +400,8 @@ fn derived(
     words: &[&[u8]],
 ) -> Result<Option<Step>, AllocError>
     requires { AreFormulas store.now formulas.now }
-    ensures tree { IfOk result (λ o. option_map (step_at store.now) o ≡ derived (trees_at store.now formulas.now) (texts words.now)) }
+    ensures tree { IfOk result (λ o. option_map (step_at store.now) o
+        ≡ derived (trees_at store.now formulas.now) (texts words.now)) }
     ensures held { IfOk result (λ o. IfSome o (StepHeld store.now)) }
 {
     let Some(at) = colon(words) else {
@@ -402,7 +423,9 @@ fn words_made(
     words: &[&[u8]],
 ) -> Result<Option<Thing>, AllocError>
     requires { AreFormulas store.old formulas.now }
-    ensures thing { IfOk result (λ o. option_map (thing_at store.new) o ≡ words_made (task_at store.old task.now) names.now (trees_at store.old formulas.now) (texts words.now)) }
+    ensures thing { IfOk result (λ o. option_map (thing_at store.new) o
+        ≡ words_made (task_at store.old task.now) names.now (trees_at store.old formulas.now)
+        (texts words.now)) }
     ensures held { IfOk result (λ o. IfSome o (ThingHeld store.new)) }
     ensures grows { Grows store.old store.new }
 {
@@ -434,7 +457,9 @@ pub(crate) fn thing_of(
     line: &[u8],
 ) -> Result<Option<Thing>, AllocError>
     requires { AreFormulas store.old formulas.now }
-    ensures thing { IfOk result (λ o. option_map (thing_at store.new) o ≡ thing_of (task_at store.old task.now) names.now (trees_at store.old formulas.now) line.now) }
+    ensures thing { IfOk result (λ o. option_map (thing_at store.new) o
+        ≡ thing_of (task_at store.old task.now) names.now
+        (trees_at store.old formulas.now) line.now) }
     ensures held { IfOk result (λ o. IfSome o (ThingHeld store.new)) }
     ensures grows { Grows store.old store.new }
 {

@@ -53,7 +53,9 @@ pub(crate) fn number(word: &[u8]) -> Option<usize>
 
 // The place of the first colon.
 pub(crate) fn colon(words: &[&[u8]]) -> Option<usize>
-    ensures { MatchOption result (after_colon (texts words.now) ≡ None) (λ i. (i < length words.now) × (before_colon (texts words.now) ≡ texts (take i words.now)) × (after_colon (texts words.now) ≡ Some (texts (drop (i + 1) words.now)))) }
+    ensures { MatchOption result (after_colon (texts words.now) ≡ None) (λ i. (i < length words.now)
+        × (before_colon (texts words.now) ≡ texts (take i words.now))
+        × (after_colon (texts words.now) ≡ Some (texts (drop (i + 1) words.now)))) }
 {
     for i in 0..words.len() {
         if is(words[i], ":") {

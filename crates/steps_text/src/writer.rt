@@ -47,7 +47,8 @@ fn put_number(alloc: Global, bytes: &mut Vec<u8>, number: usize) -> Result<(), A
 
 // Puts numbers, each behind a space.
 fn put_numbers(alloc: Global, bytes: &mut Vec<u8>, numbers: &[usize]) -> Result<(), AllocError>
-    ensures text { OnOk result (bytes.new.items ≡ bytes.old.items ++ spaced (decimals numbers.now)) }
+    ensures text { OnOk result (bytes.new.items ≡ bytes.old.items ++ spaced
+        (decimals numbers.now)) }
     ensures fits { OnOk result (AreNumbers numbers.now) }
 {
     for number in numbers {
@@ -73,7 +74,8 @@ fn put_lines(
     table: &[Option<usize>],
     ids: &[TermId],
 ) -> Result<(), AllocError>
-    ensures text { OnOk result (bytes.new.items ≡ bytes.old.items ++ spaced (decimals (lines_in table.now ids.now))) }
+    ensures text { OnOk result (bytes.new.items ≡ bytes.old.items ++ spaced
+        (decimals (lines_in table.now ids.now))) }
     ensures fits { OnOk result (AreNumbers (lines_in table.now ids.now)) }
 {
     for id in ids {
@@ -89,7 +91,8 @@ fn put_ruled(
     word: &[u8],
     numbers: &[usize],
 ) -> Result<(), AllocError>
-    ensures text { OnOk result (bytes.new.items ≡ bytes.old.items ++ spaced (word.now ∷ decimals numbers.now)) }
+    ensures text { OnOk result (bytes.new.items ≡ bytes.old.items ++ spaced
+        (word.now ∷ decimals numbers.now)) }
     ensures fits { OnOk result (AreNumbers numbers.now) }
 {
     put_word(bytes, word)?;
@@ -103,7 +106,8 @@ fn put_rule(
     table: &[Option<usize>],
     rule: &Rule,
 ) -> Result<(), AllocError>
-    ensures text { OnOk result (bytes.new.items ≡ bytes.old.items ++ spaced (rule_word rule.now ∷ decimals (rule_numbers table.now rule.now))) }
+    ensures text { OnOk result (bytes.new.items ≡ bytes.old.items ++ spaced
+        (rule_word rule.now ∷ decimals (rule_numbers table.now rule.now))) }
     ensures fits { OnOk result (AreNumbers (rule_numbers table.now rule.now)) }
 {
     match rule {
@@ -127,7 +131,8 @@ fn put_step(
     table: &[Option<usize>],
     step: &Step,
 ) -> Result<(), AllocError>
-    ensures text { OnOk result (bytes.new.items ≡ bytes.old.items ++ line_text (codes "s") (step_words table.now step.now)) }
+    ensures text { OnOk result (bytes.new.items ≡ bytes.old.items ++ line_text (codes "s")
+        (step_words table.now step.now)) }
     ensures fits { OnOk result (StepFits table.now step.now) }
 {
     bytes.push(115)?;
@@ -184,7 +189,8 @@ fn put_joined(
     word: &[u8],
     parts: &[TermId],
 ) -> Result<(), AllocError>
-    ensures text { OnOk result (bytes.new.items ≡ bytes.old.items ++ line_text (codes "e") (word.now ∷ decimals (lines_in table.now parts.now))) }
+    ensures text { OnOk result (bytes.new.items ≡ bytes.old.items ++ line_text (codes "e")
+        (word.now ∷ decimals (lines_in table.now parts.now))) }
     ensures fits { OnOk result (AreNumbers (lines_in table.now parts.now)) }
 {
     bytes.push(101)?;
@@ -196,7 +202,8 @@ fn put_joined(
 
 // Puts the line of a predicate.
 fn put_symbol(bytes: &mut Vec<u8>, name: &[u8]) -> Result<(), AllocError>
-    ensures { OnOk result (bytes.new.items ≡ bytes.old.items ++ line_text (codes "e") (codes "sym" ∷ name.now ∷ [])) }
+    ensures { OnOk result (bytes.new.items ≡ bytes.old.items ++ line_text (codes "e")
+        (codes "sym" ∷ name.now ∷ [])) }
 {
     bytes.push(101)?;
     put_word(bytes, b"sym")?;
@@ -214,7 +221,8 @@ fn put_formula(
     node: Node,
 ) -> Result<(), AllocError>
     requires { HasLine node }
-    ensures text { OnOk result (bytes.new.items ≡ bytes.old.items ++ line_text (codes "e") (formula_words names.now table.now node)) }
+    ensures text { OnOk result (bytes.new.items ≡ bytes.old.items ++ line_text (codes "e")
+        (formula_words names.now table.now node)) }
     ensures fits { OnOk result (FormulaFits table.now node) }
 {
     match node {
@@ -228,7 +236,8 @@ fn put_formula(
 // Makes room for a place.
 fn lengthen(table: &mut Vec<Option<usize>>, place: usize) -> Result<(), AllocError>
     ensures room { OnOk result (place < length table.new.items) }
-    ensures same { OnOk result ((i : ℕ) → get_or table.new.items i None ≡ get_or table.old.items i None) }
+    ensures same { OnOk result ((i : ℕ) → get_or table.new.items i None
+        ≡ get_or table.old.items i None) }
 {
     while table.len() <= place {
         table.push(None)?;
@@ -249,7 +258,8 @@ fn set_line(table: &mut Vec<Option<usize>>, place: usize, line: usize) -> Result
 fn keep(w: &mut Writer, id: TermId) -> Result<(), AllocError>
     ensures bytes { OnOk result (w.new.bytes.items ≡ w.old.bytes.items) }
     ensures formulas { OnOk result (w.new.formulas.items ≡ w.old.formulas.items ++ id ∷ []) }
-    ensures table { OnOk result (Sets w.old.table.items w.new.table.items id.0 (length w.old.formulas.items)) }
+    ensures table { OnOk result (Sets w.old.table.items w.new.table.items id.0
+        (length w.old.formulas.items)) }
 {
     set_line(&mut w.table, id.0, w.formulas.len())?;
     w.formulas.push(id)?;
@@ -293,7 +303,8 @@ fn write_formula(
 ) -> Result<(), AllocError>
     requires held { Holds store.now id }
     requires writable { IsWritable names.now (tree_at store.now id) }
-    ensures continues { OnOk result (Continues names.now store.now w.old w.new (tree_at store.now id ∷ [])) }
+    ensures continues { OnOk result (Continues names.now store.now w.old w.new
+        (tree_at store.now id ∷ [])) }
     ensures numbered { OnOk result (IsNumbered w.new.table.items id) }
     ensures keeps { OnOk result (Keeps w.old.table.items w.new.table.items) }
 {
@@ -325,7 +336,8 @@ fn write_formulas(
 ) -> Result<(), AllocError>
     requires held { All (Holds store.now) ids.now }
     requires writable { All (IsWritable names.now) (trees_at store.now ids.now) }
-    ensures continues { OnOk result (Continues names.now store.now w.old w.new (trees_at store.now ids.now)) }
+    ensures continues { OnOk result (Continues names.now store.now w.old w.new
+        (trees_at store.now ids.now)) }
     ensures numbered { OnOk result (AreNumbered w.new.table.items ids.now) }
     ensures keeps { OnOk result (Keeps w.old.table.items w.new.table.items) }
 {
@@ -345,7 +357,8 @@ fn write_cut(
 ) -> Result<(), AllocError>
     requires held { RuleHeld store.now rule.now }
     requires writable { All (IsWritable names.now) (rule_formulas (rule_at store.now rule.now)) }
-    ensures continues { OnOk result (Continues names.now store.now w.old w.new (rule_formulas (rule_at store.now rule.now))) }
+    ensures continues { OnOk result (Continues names.now store.now w.old w.new
+        (rule_formulas (rule_at store.now rule.now))) }
     ensures numbered { OnOk result (AreNumbered w.new.table.items (cut_formulas rule.now)) }
     ensures keeps { OnOk result (Keeps w.old.table.items w.new.table.items) }
 {
@@ -365,7 +378,8 @@ fn write_step(
 ) -> Result<(), AllocError>
     requires held { StepHeld store.now step.now }
     requires writable { IsWritableStep names.now (step_at store.now step.now) }
-    ensures { OnOk result (ContinuesWith names.now store.now w.old w.new (step_at store.now step.now)) }
+    ensures { OnOk result (ContinuesWith names.now store.now w.old w.new
+        (step_at store.now step.now)) }
 {
     write_formulas(alloc, w, store, names, step.sequent.as_slice())?;
     write_cut(alloc, w, store, names, &step.rule)?;
@@ -386,8 +400,12 @@ pub fn write_steps(
     requires closes { Closes (task_at store.now task.now) (steps_at store.now steps.now) }
     requires names { AreNames names.now }
     requires writable { AreWritable names.now (steps_at store.now steps.now) }
-    ensures reads_back { IfOk result (λ v. StepsOf (task_at store.now task.now) names.now None v.items (steps_at store.now steps.now)) }
-    ensures low { IfOk result (λ v. (tallest : Option ℕ) → AreLow tallest (steps_at store.now steps.now) → StepsOf (task_at store.now task.now) names.now tallest v.items (steps_at store.now steps.now)) }
+    ensures reads_back { IfOk result (λ v. StepsOf (task_at store.now task.now) names.now None
+        v.items (steps_at store.now steps.now)) }
+    ensures low { IfOk result (λ v. (tallest : Option ℕ)
+        → AreLow tallest (steps_at store.now steps.now)
+        → StepsOf (task_at store.now task.now) names.now tallest v.items
+        (steps_at store.now steps.now)) }
 {
     let _ = task;
     let mut w = Writer {

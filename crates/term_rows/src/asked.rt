@@ -34,7 +34,8 @@ fn is_type_at(x: &Tried<'_>, ty: TermId, types: TermId, id: TermId) -> bool
     requires ty_held { Holds x.now.store.now ty }
     requires types_held { Holds x.now.store.now types }
     requires held { Holds x.now.store.now id }
-    ensures { IsTrue result ↔ (tree_at x.now.store.now id ≡ result_at (Some (tree_at x.now.store.now ty)) (tree_at x.now.store.now types)) }
+    ensures { IsTrue result ↔ (tree_at x.now.store.now id
+        ≡ result_at (Some (tree_at x.now.store.now ty)) (tree_at x.now.store.now types)) }
 {
     if x.store.loose(ty) == 0 {
         is_instance(x.store, ty, Types::Listed(types), id)
@@ -49,7 +50,9 @@ fn is_result(x: &Tried<'_>, function: usize, types: TermId, id: TermId) -> bool
     requires tried { TriedHeld x.now }
     requires types_held { Holds x.now.store.now types }
     requires held { Holds x.now.store.now id }
-    ensures { IsTrue result ↔ (tree_at x.now.store.now id ≡ result_at (symbol_or (task_of x.now).symbols function).result (tree_at x.now.store.now types)) }
+    ensures { IsTrue result ↔ (tree_at x.now.store.now id
+        ≡ result_at (symbol_or (task_of x.now).symbols function).result
+        (tree_at x.now.store.now types)) }
 {
     match x.look.task.sig.symbols.get(function) {
         Some(info) => match info.result {
@@ -65,7 +68,8 @@ pub(crate) fn is_asked<'a>(x: &Tried<'_>, asked: &'a Asked<'a>, id: TermId) -> b
     requires tried { TriedHeld x.now }
     requires asked { AskedHeld x.now.store.now asked.now }
     requires held { Holds x.now.store.now id }
-    ensures { IsTrue result ↔ (tree_at x.now.store.now id ≡ asked_at (task_of x.now) x.now.store.now asked.now) }
+    ensures { IsTrue result ↔ (tree_at x.now.store.now id
+        ≡ asked_at (task_of x.now) x.now.store.now asked.now) }
 {
     match asked {
         Asked::Nothing => is_end(x.store, id),
@@ -89,7 +93,8 @@ pub(crate) fn first_asked<'a>(x: &Tried<'_>, list: AskedList<'a>) -> Asked<'a>
     requires tried { TriedHeld x.now }
     requires list { ListHeld x.now.store.now list }
     ensures held { AskedHeld x.now.store.now result }
-    ensures tree { asked_at (task_of x.now) x.now.store.now result ≡ top (list_at (task_of x.now) x.now.store.now list.entry) }
+    ensures tree { asked_at (task_of x.now) x.now.store.now result
+        ≡ top (list_at (task_of x.now) x.now.store.now list.entry) }
 {
     match list {
         AskedList::One(a) => *a,
@@ -105,7 +110,8 @@ pub(crate) fn other_asked<'a>(x: &Tried<'_>, list: AskedList<'a>) -> AskedList<'
     requires tried { TriedHeld x.now }
     requires list { ListHeld x.now.store.now list }
     ensures held { ListHeld x.now.store.now result }
-    ensures trees { list_at (task_of x.now) x.now.store.now result ≡ others (list_at (task_of x.now) x.now.store.now list.entry) }
+    ensures trees { list_at (task_of x.now) x.now.store.now result
+        ≡ others (list_at (task_of x.now) x.now.store.now list.entry) }
 {
     match list {
         AskedList::One(a) => AskedList::Fields(&[], TermId(0), a),
@@ -139,7 +145,9 @@ fn are_fields<'a>(
     requires types_held { Holds x.now.store.now types }
     requires term { AskedHeld x.now.store.now term.now }
     requires held { Holds x.now.store.now list }
-    ensures { IsTrue result ↔ (tree_at x.now.store.now list ≡ cells (fields (task_of x.now) projections.now (tree_at x.now.store.now types) (asked_at (task_of x.now) x.now.store.now term.now))) }
+    ensures { IsTrue result ↔ (tree_at x.now.store.now list
+        ≡ cells (fields (task_of x.now) projections.now (tree_at x.now.store.now types)
+        (asked_at (task_of x.now) x.now.store.now term.now))) }
 {
     match projections.split_first() {
         Some((first, more)) => match x.store.node(list) {
@@ -164,7 +172,9 @@ pub(crate) fn is_rebuilt<'a>(
     requires types_held { Holds x.now.store.now types }
     requires term { AskedHeld x.now.store.now term.now }
     requires held { Holds x.now.store.now id }
-    ensures { IsTrue result ↔ (tree_at x.now.store.now id ≡ rebuilt (task_of x.now) constructor projections.now (tree_at x.now.store.now types) (asked_at (task_of x.now) x.now.store.now term.now)) }
+    ensures { IsTrue result ↔ (tree_at x.now.store.now id
+        ≡ rebuilt (task_of x.now) constructor projections.now (tree_at x.now.store.now types)
+        (asked_at (task_of x.now) x.now.store.now term.now)) }
 {
     match x.store.node(id) {
         Node::Fun(f, tys, args, ty) => f == constructor

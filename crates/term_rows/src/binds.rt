@@ -29,7 +29,9 @@ fn is_bound<'a>(
     requires made { Holds x.now.store.now made }
     requires within { back < pat_vars (tree_at x.now.store.now pattern) }
     requires small { back < 18446744073709551615 }
-    ensures { IsTrue result ↔ (tree_at x.now.store.now made ≡ from_last (binds (task_of x.now) (tree_at x.now.store.now pattern) (list_at (task_of x.now) x.now.store.now list.entry)) back) }
+    ensures { IsTrue result ↔ (tree_at x.now.store.now made
+        ≡ from_last (binds (task_of x.now) (tree_at x.now.store.now pattern)
+        (list_at (task_of x.now) x.now.store.now list.entry)) back) }
 {
     match x.store.node(pattern) {
         Node::PatVar(_) => is_asked(x, &first_asked(x, list), made),
@@ -88,7 +90,9 @@ fn is_put_bound(
     requires made_held { Holds x.now.store.now made }
     requires above { depth ≤ index }
     requires small { index < 18446744073709551615 }
-    ensures { IsTrue result ↔ (tree_at x.now.store.now made ≡ (instantiating_many (bind (task_of x.now) (tree_at x.now.store.now pattern) (tree_at x.now.store.now term))).bound depth index (tree_at x.now.store.now ty)) }
+    ensures { IsTrue result ↔ (tree_at x.now.store.now made
+        ≡ (instantiating_many (bind (task_of x.now) (tree_at x.now.store.now pattern)
+        (tree_at x.now.store.now term))).bound depth index (tree_at x.now.store.now ty)) }
 {
     x.store.laws();
     let count = x.store.pattern_variables(pattern);

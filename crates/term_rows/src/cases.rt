@@ -44,7 +44,8 @@ fn are_cases<'a>(x: &'a Tried<'a>, cons: &'a [Con], types: TermId, term: TermId)
     requires tried { TriedHeld x.now }
     requires types_held { Holds x.now.store.now types }
     requires term_held { Holds x.now.store.now term }
-    ensures { IsTrue result ↔ Adds (sequent_of x.now) (premises_of x.now) (map (case_by x.now types term) (cons_at x.now.store.now cons.now)) }
+    ensures { IsTrue result ↔ Adds (sequent_of x.now) (premises_of x.now)
+        (map (case_by x.now types term) (cons_at x.now.store.now cons.now)) }
 {
     if x.premises.len() != cons.len() {
         return false;
@@ -70,7 +71,8 @@ fn are_cases<'a>(x: &'a Tried<'a>, cons: &'a [Con], types: TermId, term: TermId)
 // The constructors of a type.
 fn constructors<'a>(x: &Tried<'a>, symbol: usize) -> Option<&'a [Con]>
     requires { TriedHeld x.now }
-    ensures { option_map (λ cs. cons_at x.now.store.now cs.now) result ≡ constructors (role (task_of x.now) symbol) }
+    ensures { option_map (λ cs. cons_at x.now.store.now cs.now) result
+        ≡ constructors (role (task_of x.now) symbol) }
 {
     match x.look.role(x.store, symbol) {
         Role::Algebraic(cons) => Some(cons),

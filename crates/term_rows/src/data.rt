@@ -55,7 +55,8 @@ pub fn distinct(x: &Tried<'_>, i: usize) -> bool
 fn uncons(store: &Store, list: TermId) -> Option<(TermId, TermId)>
     requires { Holds store.now list }
     ensures none { result ≡ None → members (tree_at store.now list) ≡ [] }
-    ensures some { IfSome result (λ p. members (tree_at store.now list) ≡ tree_at store.now p.0 ∷ members (tree_at store.now p.1)) }
+    ensures some { IfSome result (λ p. members (tree_at store.now list)
+        ≡ tree_at store.now p.0 ∷ members (tree_at store.now p.1)) }
     ensures held { IfSome result (λ p. Holds store.now p.0 × Holds store.now p.1) }
     ensures below { IfSome result (λ p. p.1.0 < list.0) }
 {
@@ -70,7 +71,8 @@ fn are_equations(store: &Store, formulas: &[TermId], ts: TermId, us: TermId) -> 
     requires formulas_held { All (Holds store.now) formulas.now }
     requires ts_held { Holds store.now ts }
     requires us_held { Holds store.now us }
-    ensures { IsTrue result ↔ (trees_at store.now formulas.now ≡ equal_each (members (tree_at store.now ts)) (members (tree_at store.now us))) }
+    ensures { IsTrue result ↔ (trees_at store.now formulas.now
+        ≡ equal_each (members (tree_at store.now ts)) (members (tree_at store.now us))) }
 {
     match uncons(store, ts) {
         Some((t, more)) => match uncons(store, us) {
@@ -97,7 +99,9 @@ fn adds_equations(
     requires sequent_held { All (Holds store.now) sequent.now }
     requires ts_held { Holds store.now ts }
     requires us_held { Holds store.now us }
-    ensures { IsTrue result ↔ (trees_at store.now premise.now ≡ trees_at store.now sequent.now ++ equal_each (members (tree_at store.now ts)) (members (tree_at store.now us))) }
+    ensures { IsTrue result ↔ (trees_at store.now premise.now
+        ≡ trees_at store.now sequent.now ++ equal_each (members (tree_at store.now ts))
+        (members (tree_at store.now us))) }
 {
     match sequent.split_first() {
         Some((a, more)) => match premise.split_first() {
@@ -128,7 +132,8 @@ pub fn inject(x: &Tried<'_>, i: usize) -> bool
 // The member of a list at a place.
 fn member(store: &Store, list: TermId, place: usize) -> Option<TermId>
     requires { Holds store.now list }
-    ensures tree { option_map (tree_at store.now) result ≡ slice_get (members (tree_at store.now list)) place }
+    ensures tree { option_map (tree_at store.now) result
+        ≡ slice_get (members (tree_at store.now list)) place }
     ensures held { IfSome result (Holds store.now) }
 {
     match store.node(list) {

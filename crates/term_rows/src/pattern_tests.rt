@@ -25,7 +25,8 @@ fn is_equation<'a>(
     requires types_held { Holds x.now.store.now types }
     requires term { AskedHeld x.now.store.now term.now }
     requires held { Holds x.now.store.now id }
-    ensures { IsTrue result ↔ (tree_at x.now.store.now id ≡ con_equation (task_of x.now) constructor (tree_at x.now.store.now types) (asked_at (task_of x.now) x.now.store.now term.now)) }
+    ensures { IsTrue result ↔ (tree_at x.now.store.now id ≡ con_equation (task_of x.now) constructor
+        (tree_at x.now.store.now types) (asked_at (task_of x.now) x.now.store.now term.now)) }
 {
     match x.store.node(id) {
         Node::Eq(a, b) => is_asked(x, term, a)
@@ -46,8 +47,14 @@ fn after_equation<'a>(
     requires types_held { Holds x.now.store.now types }
     requires term { AskedHeld x.now.store.now term.now }
     requires held { Holds x.now.store.now id }
-    ensures is { IfSome result (λ r. Some (tree_at x.now.store.now id) ≡ and_then (con_equation (task_of x.now) constructor (tree_at x.now.store.now types) (asked_at (task_of x.now) x.now.store.now term.now)) (option_map (tree_at x.now.store.now) r)) }
-    ensures can { (inner : Option Tree) → Some (tree_at x.now.store.now id) ≡ and_then (con_equation (task_of x.now) constructor (tree_at x.now.store.now types) (asked_at (task_of x.now) x.now.store.now term.now)) inner → option_map (λ r. option_map (tree_at x.now.store.now) r) result ≡ Some inner }
+    ensures is { IfSome result (λ r. Some (tree_at x.now.store.now id)
+        ≡ and_then (con_equation (task_of x.now) constructor (tree_at x.now.store.now types)
+        (asked_at (task_of x.now) x.now.store.now term.now))
+        (option_map (tree_at x.now.store.now) r)) }
+    ensures can { (inner : Option Tree) → Some (tree_at x.now.store.now id)
+        ≡ and_then (con_equation (task_of x.now) constructor (tree_at x.now.store.now types)
+        (asked_at (task_of x.now) x.now.store.now term.now)) inner
+        → option_map (λ r. option_map (tree_at x.now.store.now) r) result ≡ Some inner }
     ensures held { IfSome result (λ r. IfSome r (Holds x.now.store.now)) }
 {
     match x.store.node(id) {
@@ -79,8 +86,14 @@ fn after_tests(
     requires pattern { Holds x.now.store.now pattern }
     requires list { ListHeld x.now.store.now list }
     requires made { IfSome made (Holds x.now.store.now) }
-    ensures is { IfSome result (λ r. option_map (tree_at x.now.store.now) made ≡ tests (task_of x.now) (tree_at x.now.store.now pattern) (list_at (task_of x.now) x.now.store.now list.entry) (option_map (tree_at x.now.store.now) r)) }
-    ensures can { (behind : Option Tree) → option_map (tree_at x.now.store.now) made ≡ tests (task_of x.now) (tree_at x.now.store.now pattern) (list_at (task_of x.now) x.now.store.now list.entry) behind → option_map (λ r. option_map (tree_at x.now.store.now) r) result ≡ Some behind }
+    ensures is { IfSome result (λ r. option_map (tree_at x.now.store.now) made
+        ≡ tests (task_of x.now) (tree_at x.now.store.now pattern)
+        (list_at (task_of x.now) x.now.store.now list.entry)
+        (option_map (tree_at x.now.store.now) r)) }
+    ensures can { (behind : Option Tree) → option_map (tree_at x.now.store.now) made
+        ≡ tests (task_of x.now) (tree_at x.now.store.now pattern)
+        (list_at (task_of x.now) x.now.store.now list.entry) behind
+        → option_map (λ r. option_map (tree_at x.now.store.now) r) result ≡ Some behind }
     ensures held { IfSome result (λ r. IfSome r (Holds x.now.store.now)) }
 {
     match x.store.node(pattern) {
@@ -127,7 +140,8 @@ fn is_tests(x: &Tried<'_>, pattern: TermId, term: TermId, made: Option<TermId>) 
     requires pattern_held { Holds x.now.store.now pattern }
     requires term_held { Holds x.now.store.now term }
     requires made { IfSome made (Holds x.now.store.now) }
-    ensures { IsTrue result ↔ (option_map (tree_at x.now.store.now) made ≡ tests (task_of x.now) (tree_at x.now.store.now pattern) (tree_at x.now.store.now term ∷ []) None) }
+    ensures { IsTrue result ↔ (option_map (tree_at x.now.store.now) made ≡ tests (task_of x.now)
+        (tree_at x.now.store.now pattern) (tree_at x.now.store.now term ∷ []) None) }
 {
     let asked = Asked::Whole(term);
     is_spent(after_tests(x, pattern, AskedList::One(&asked), made))
@@ -140,7 +154,8 @@ pub(crate) fn is_test(x: &Tried<'_>, pattern: TermId, term: TermId, id: TermId) 
     requires pattern_held { Holds x.now.store.now pattern }
     requires term_held { Holds x.now.store.now term }
     requires held { Holds x.now.store.now id }
-    ensures { IsTrue result ↔ (tree_at x.now.store.now id ≡ test (task_of x.now) (tree_at x.now.store.now pattern) (tree_at x.now.store.now term)) }
+    ensures { IsTrue result ↔ (tree_at x.now.store.now id ≡ test (task_of x.now)
+        (tree_at x.now.store.now pattern) (tree_at x.now.store.now term)) }
 {
     if is_tests(x, pattern, term, Some(id)) {
         return true;

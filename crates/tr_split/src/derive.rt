@@ -39,9 +39,17 @@ pub(crate) fn derive(
     requires front_held { All (Holds draft.old.trees) front.now }
     requires tail_held { All (Holds draft.old.trees) tail.now }
     requires rule_held { RuleHeld draft.old.trees rule }
-    requires right { IsRight draft.old.task draft.old.steps (record { sequent = trees_at draft.old.trees front.now ++ trees_at draft.old.trees tail.now; rule = rule_at draft.old.trees rule; premises = premises.now }) }
-    ensures refutes { IfOk result (λ k. Refutes draft.new k (trees_at draft.old.trees front.now ++ trees_at draft.old.trees tail.now)) }
-    ensures language { StaysIn (λ p. AreIn p (trees_at draft.old.trees front.now) × AreIn p (trees_at draft.old.trees tail.now) × RuleIsIn p (rule_at draft.old.trees rule)) draft.old draft.new }
+    requires right { IsRight draft.old.task draft.old.steps
+        (record {
+          sequent = trees_at draft.old.trees front.now ++ trees_at draft.old.trees tail.now;
+          rule = rule_at draft.old.trees rule;
+          premises = premises.now;
+        }) }
+    ensures refutes { IfOk result (λ k. Refutes draft.new k
+        (trees_at draft.old.trees front.now ++ trees_at draft.old.trees tail.now)) }
+    ensures language { StaysIn (λ p. AreIn p (trees_at draft.old.trees front.now)
+        × AreIn p (trees_at draft.old.trees tail.now) × RuleIsIn p (rule_at draft.old.trees rule))
+        draft.old draft.new }
     ensures grows { Extends draft.old draft.new }
 {
     let alloc = draft.allocator();
@@ -76,9 +84,13 @@ pub(crate) fn keep_but(
     requires front { AreFormulas draft.old front.now }
     requires middle { AreFormulas draft.old middle.now }
     requires last { AreFormulas draft.old last.now }
-    requires step { Refutes draft.old step (trees_at draft.old.trees front.now ++ trees_at draft.old.trees last.now) }
-    ensures refutes { IfOk result (λ k. Refutes draft.new k (trees_at draft.old.trees front.now ++ (trees_at draft.old.trees middle.now ++ trees_at draft.old.trees last.now))) }
-    ensures language { StaysIn (λ p. AreIn p (trees_at draft.old.trees front.now) × AreIn p (trees_at draft.old.trees middle.now) × AreIn p (trees_at draft.old.trees last.now)) draft.old draft.new }
+    requires step { Refutes draft.old step
+        (trees_at draft.old.trees front.now ++ trees_at draft.old.trees last.now) }
+    ensures refutes { IfOk result (λ k. Refutes draft.new k (trees_at draft.old.trees front.now ++
+        (trees_at draft.old.trees middle.now ++ trees_at draft.old.trees last.now))) }
+    ensures language { StaysIn (λ p. AreIn p (trees_at draft.old.trees front.now)
+        × AreIn p (trees_at draft.old.trees middle.now)
+        × AreIn p (trees_at draft.old.trees last.now)) draft.old draft.new }
     ensures grows { Extends draft.old draft.new }
 {
     let alloc = draft.allocator();

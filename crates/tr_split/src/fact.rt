@@ -24,8 +24,10 @@ fn clash_of(draft: &mut Draft, no_fact: TermId, fact: TermId) -> Result<usize, A
     requires no_fact { IsFormulaAt draft.old no_fact }
     requires fact { IsFormulaAt draft.old fact }
     requires negated { tree_at draft.old.trees no_fact ≡ neg (tree_at draft.old.trees fact) }
-    ensures refutes { IfOk result (λ k. Refutes draft.new k (trees_at draft.old.trees (no_fact ∷ fact ∷ []))) }
-    ensures language { StaysIn (λ p. AreIn p (trees_at draft.old.trees (no_fact ∷ fact ∷ []))) draft.old draft.new }
+    ensures refutes { IfOk result (λ k. Refutes draft.new k
+        (trees_at draft.old.trees (no_fact ∷ fact ∷ []))) }
+    ensures language { StaysIn (λ p. AreIn p (trees_at draft.old.trees (no_fact ∷ fact ∷ [])))
+        draft.old draft.new }
     ensures grows { Extends draft.old draft.new }
 {
     derive(draft, &[], &[no_fact, fact], Rule::Clash(1, 0), &[])
@@ -42,9 +44,13 @@ fn cite(
     requires no_fact { IsFormulaAt draft.old no_fact }
     requires types_held { All (Holds draft.old.trees) types.now }
     requires fact { IsFact draft.old.task draft.old.task prop (trees_at draft.old.trees types.now) }
-    requires clash { Refutes draft.old clash (tree_at draft.old.trees no_fact ∷ fact_of draft.old.task prop (trees_at draft.old.trees types.now) ∷ []) }
-    ensures refutes { IfOk result (λ k. Refutes draft.new k (tree_at draft.old.trees no_fact ∷ [])) }
-    ensures language { StaysIn (λ p. IsIn p (tree_at draft.old.trees no_fact) × AreIn p (trees_at draft.old.trees types.now)) draft.old draft.new }
+    requires clash { Refutes draft.old clash
+        (tree_at draft.old.trees no_fact ∷ fact_of draft.old.task prop
+        (trees_at draft.old.trees types.now) ∷ []) }
+    ensures refutes { IfOk result (λ k. Refutes draft.new k
+        (tree_at draft.old.trees no_fact ∷ [])) }
+    ensures language { StaysIn (λ p. IsIn p (tree_at draft.old.trees no_fact)
+        × AreIn p (trees_at draft.old.trees types.now)) draft.old draft.new }
     ensures grows { Extends draft.old draft.new }
 {
     let types = Seq::from_slice(draft.allocator(), types)?;
@@ -62,9 +68,13 @@ fn lemma_of(
     requires types_held { All (Holds draft.old.trees) types.now }
     requires fact { IsFact draft.old.task draft.old.task prop (trees_at draft.old.trees types.now) }
     requires valid { IsValid draft.old.task }
-    requires is { tree_at draft.old.trees fact ≡ fact_of draft.old.task prop (trees_at draft.old.trees types.now) }
-    ensures refutes { IfOk result (λ k. Refutes draft.new k (neg (fact_of draft.old.task prop (trees_at draft.old.trees types.now)) ∷ [])) }
-    ensures language { StaysIn (λ p. RespectsNegation p × IsIn p (fact_of draft.old.task prop (trees_at draft.old.trees types.now)) × AreIn p (trees_at draft.old.trees types.now)) draft.old draft.new }
+    requires is { tree_at draft.old.trees fact ≡ fact_of draft.old.task prop
+        (trees_at draft.old.trees types.now) }
+    ensures refutes { IfOk result (λ k. Refutes draft.new k
+        (neg (fact_of draft.old.task prop (trees_at draft.old.trees types.now)) ∷ [])) }
+    ensures language { StaysIn (λ p. RespectsNegation p
+        × IsIn p (fact_of draft.old.task prop (trees_at draft.old.trees types.now))
+        × AreIn p (trees_at draft.old.trees types.now)) draft.old draft.new }
     ensures grows { Extends draft.old draft.new }
 {
     let no_fact = negation(draft, fact)?;
@@ -84,8 +94,11 @@ pub(crate) fn base_lemma(
     requires fact { IsFact draft.old.task draft.old.task prop (trees_at draft.old.trees types.now) }
     requires valid { IsValid draft.old.task }
     requires is { (prop_or (props draft.old.task) prop).formula ≡ tree_at draft.old.trees formula }
-    ensures refutes { IfOk result (λ k. Refutes draft.new k (neg (fact_of draft.old.task prop (trees_at draft.old.trees types.now)) ∷ [])) }
-    ensures language { StaysIn (λ p. RespectsNegation p × IsIn p (fact_of draft.old.task prop (trees_at draft.old.trees types.now)) × AreIn p (trees_at draft.old.trees types.now)) draft.old draft.new }
+    ensures refutes { IfOk result (λ k. Refutes draft.new k
+        (neg (fact_of draft.old.task prop (trees_at draft.old.trees types.now)) ∷ [])) }
+    ensures language { StaysIn (λ p. RespectsNegation p
+        × IsIn p (fact_of draft.old.task prop (trees_at draft.old.trees types.now))
+        × AreIn p (trees_at draft.old.trees types.now)) draft.old draft.new }
     ensures grows { Extends draft.old draft.new }
 {
     let fact = inst_types(draft.allocator(), draft, formula, types)?;

@@ -34,8 +34,11 @@ struct Under {
 fn imp_closes(draft: &mut Draft, front: &[TermId], u: &Under) -> Result<usize, AllocError>
     requires front { AreFormulas draft.old front.now }
     requires under { IsUnder draft.old u.now }
-    ensures refutes { IfOk result (λ k. Refutes draft.new k (trees_at draft.old.trees front.now ++ trees_at draft.old.trees (u.now.hypothesis ∷ u.now.no_part ∷ u.now.whole ∷ []))) }
-    ensures language { StaysIn (HasFormulas draft.old front.now (u.now.whole ∷ [])) draft.old draft.new }
+    ensures refutes { IfOk result (λ k. Refutes draft.new k
+        (trees_at draft.old.trees front.now ++ trees_at draft.old.trees
+        (u.now.hypothesis ∷ u.now.no_part ∷ u.now.whole ∷ []))) }
+    ensures language { StaysIn (HasFormulas draft.old front.now (u.now.whole ∷ [])) draft.old
+        draft.new }
     ensures grows { Extends draft.old draft.new }
 {
     let n = front.len();
@@ -66,7 +69,8 @@ fn imp_closes(draft: &mut Draft, front: &[TermId], u: &Under) -> Result<usize, A
 pub(crate) fn negation(draft: &mut Draft, formula: TermId) -> Result<TermId, AllocError>
     requires { IsFormulaAt draft.old formula }
     ensures formula { IfOk result (IsFormulaAt draft.new) }
-    ensures tree { IfOk result (λ id. tree_at draft.new.trees id ≡ neg (tree_at draft.old.trees formula)) }
+    ensures tree { IfOk result (λ id. tree_at draft.new.trees id
+        ≡ neg (tree_at draft.old.trees formula)) }
     ensures grows { AddsTrees draft.old draft.new }
 {
     draft.add(Node::Not(formula))
@@ -76,9 +80,13 @@ pub(crate) fn negation(draft: &mut Draft, formula: TermId) -> Result<TermId, All
 fn end_cut(draft: &mut Draft, front: &[TermId], u: &Under, end: usize) -> Result<usize, AllocError>
     requires front { AreFormulas draft.old front.now }
     requires under { IsUnder draft.old u.now }
-    requires end { Refutes draft.old end (trees_at draft.old.trees front.now ++ trees_at draft.old.trees (u.now.no_whole ∷ [])) }
-    ensures refutes { IfOk result (λ k. Refutes draft.new k (trees_at draft.old.trees front.now ++ trees_at draft.old.trees (u.now.hypothesis ∷ u.now.no_part ∷ []))) }
-    ensures language { StaysIn (HasFormulas draft.old front.now (u.now.whole ∷ [])) draft.old draft.new }
+    requires end { Refutes draft.old end
+        (trees_at draft.old.trees front.now ++ trees_at draft.old.trees (u.now.no_whole ∷ [])) }
+    ensures refutes { IfOk result (λ k. Refutes draft.new k
+        (trees_at draft.old.trees front.now ++ trees_at draft.old.trees
+        (u.now.hypothesis ∷ u.now.no_part ∷ []))) }
+    ensures language { StaysIn (HasFormulas draft.old front.now (u.now.whole ∷ [])) draft.old
+        draft.new }
     ensures grows { Extends draft.old draft.new }
 {
     let closed = imp_closes(draft, front, u)?;
@@ -106,11 +114,16 @@ fn and_step(
     requires no_whole { IsFormulaAt draft.old no_whole }
     requires no_left { IsFormulaAt draft.old no_left }
     requires no_right { IsFormulaAt draft.old no_right }
-    requires sides { AreSides (tree_at draft.old.trees no_whole) (tree_at draft.old.trees no_left) (tree_at draft.old.trees no_right) }
-    requires left { Refutes draft.old left (trees_at draft.old.trees front.now ++ trees_at draft.old.trees (no_left ∷ [])) }
-    requires right { Refutes draft.old right (trees_at draft.old.trees front.now ++ trees_at draft.old.trees (no_right ∷ [])) }
-    ensures refutes { IfOk result (λ k. Refutes draft.new k (trees_at draft.old.trees front.now ++ trees_at draft.old.trees (no_whole ∷ []))) }
-    ensures language { StaysIn (HasFormulas draft.old front.now (no_whole ∷ no_left ∷ no_right ∷ [])) draft.old draft.new }
+    requires sides { AreSides (tree_at draft.old.trees no_whole) (tree_at draft.old.trees no_left)
+        (tree_at draft.old.trees no_right) }
+    requires left { Refutes draft.old left
+        (trees_at draft.old.trees front.now ++ trees_at draft.old.trees (no_left ∷ [])) }
+    requires right { Refutes draft.old right
+        (trees_at draft.old.trees front.now ++ trees_at draft.old.trees (no_right ∷ [])) }
+    ensures refutes { IfOk result (λ k. Refutes draft.new k
+        (trees_at draft.old.trees front.now ++ trees_at draft.old.trees (no_whole ∷ []))) }
+    ensures language { StaysIn (HasFormulas draft.old front.now
+        (no_whole ∷ no_left ∷ no_right ∷ [])) draft.old draft.new }
     ensures grows { Extends draft.old draft.new }
 {
     let first = keep_but(draft, front, &[no_whole], &[no_left], left)?;
@@ -137,10 +150,15 @@ fn imp_step(
     requires no_whole { IsFormulaAt draft.old no_whole }
     requires hypothesis { IsFormulaAt draft.old hypothesis }
     requires no_part { IsFormulaAt draft.old no_part }
-    requires implied { IsImplied (tree_at draft.old.trees no_whole) (tree_at draft.old.trees hypothesis) (tree_at draft.old.trees no_part) }
-    requires step { Refutes draft.old step (trees_at draft.old.trees front.now ++ trees_at draft.old.trees (hypothesis ∷ no_part ∷ [])) }
-    ensures refutes { IfOk result (λ k. Refutes draft.new k (trees_at draft.old.trees front.now ++ trees_at draft.old.trees (no_whole ∷ []))) }
-    ensures language { StaysIn (HasFormulas draft.old front.now (no_whole ∷ hypothesis ∷ no_part ∷ [])) draft.old draft.new }
+    requires implied { IsImplied (tree_at draft.old.trees no_whole)
+        (tree_at draft.old.trees hypothesis) (tree_at draft.old.trees no_part) }
+    requires step { Refutes draft.old step
+        (trees_at draft.old.trees front.now ++ trees_at draft.old.trees
+        (hypothesis ∷ no_part ∷ [])) }
+    ensures refutes { IfOk result (λ k. Refutes draft.new k
+        (trees_at draft.old.trees front.now ++ trees_at draft.old.trees (no_whole ∷ []))) }
+    ensures language { StaysIn (HasFormulas draft.old front.now
+        (no_whole ∷ hypothesis ∷ no_part ∷ [])) draft.old draft.new }
     ensures grows { Extends draft.old draft.new }
 {
     let kept = keep_but(draft, front, &[no_whole], &[hypothesis, no_part], step)?;
@@ -169,7 +187,9 @@ fn part_count(store: &Store, formula: TermId) -> usize
 
 // The number of the parts of two formulas that are joined, by the numbers of theirs.
 fn joined_count(op: Op, left: usize, right: usize) -> usize
-    ensures { (a b : Tree) → left ≡ min (length (split a)) usize.MAX → right ≡ min (length (split b)) usize.MAX → result ≡ min (length (split (Two (HJoin op) a b))) usize.MAX }
+    ensures { (a b : Tree) → left ≡ min (length (split a)) usize.MAX → right
+        ≡ min (length (split b)) usize.MAX → result
+        ≡ min (length (split (Two (HJoin op) a b))) usize.MAX }
 {
     match op {
         Op::And | Op::AndThen => left.saturating_add(right),
@@ -183,7 +203,8 @@ fn joined_count(op: Op, left: usize, right: usize) -> usize
 fn last_formula(draft: &Draft, step: usize) -> TermId
     requires { HasLast draft.now step }
     ensures formula { IsFormulaAt draft.now result }
-    ensures is { (front : List Tree) (last : Tree) → Refutes draft.now step (front ++ last ∷ []) → tree_at draft.now.trees result ≡ last }
+    ensures is { (front : List Tree) (last : Tree) → Refutes draft.now step (front ++ last ∷ [])
+        → tree_at draft.now.trees result ≡ last }
 {
     let sequent = draft.steps()[step].sequent.as_slice();
     sequent[sequent.len() - 1]
@@ -207,7 +228,8 @@ fn right_side(draft: &Draft, id: TermId) -> TermId
     requires formula { IsFormulaAt draft.now id }
     requires implication { IsImplication (tree_at draft.now.trees id) }
     ensures formula { IsFormulaAt draft.now result }
-    ensures tree { (a b : Tree) → tree_at draft.now.trees id ≡ imp a b → tree_at draft.now.trees result ≡ b }
+    ensures tree { (a b : Tree) → tree_at draft.now.trees id ≡ imp a b
+        → tree_at draft.now.trees result ≡ b }
 {
     match draft.store().node(id) {
         Node::Join(_, _, b) => b,
@@ -224,11 +246,14 @@ fn read_under(
 ) -> Result<Under, AllocError>
     requires hypothesis { IsFormulaAt draft.old hypothesis }
     requires no_hypothesis { IsFormulaAt draft.old no_hypothesis }
-    requires negated { tree_at draft.old.trees no_hypothesis ≡ neg (tree_at draft.old.trees hypothesis) }
+    requires negated { tree_at draft.old.trees no_hypothesis
+        ≡ neg (tree_at draft.old.trees hypothesis) }
     requires end { EndsUnder draft.old end (tree_at draft.old.trees hypothesis) }
     ensures under { IfOk result (IsUnder draft.new) }
     ensures hypothesis { IfOk result (λ u. u.hypothesis ≡ hypothesis) }
-    ensures part { IfOk result (λ u. (front : List Tree) (part : Tree) → Refutes draft.old end (front ++ neg (imp (tree_at draft.old.trees hypothesis) part) ∷ []) → tree_at draft.new.trees u.part ≡ part) }
+    ensures part { IfOk result (λ u. (front : List Tree) (part : Tree) → Refutes draft.old end
+        (front ++ neg (imp (tree_at draft.old.trees hypothesis) part) ∷ [])
+        → tree_at draft.new.trees u.part ≡ part) }
     ensures grows { AddsTrees draft.old draft.new }
 {
     let no_whole = last_formula(draft, end);
@@ -259,10 +284,14 @@ fn and_from(
     requires whole { IsFormulaAt draft.old whole }
     requires a { IsFormulaAt draft.old a }
     requires b { IsFormulaAt draft.old b }
-    requires sides { tree_at draft.old.trees whole ≡ conj (tree_at draft.old.trees a) (tree_at draft.old.trees b) }
-    requires left { Refutes draft.old left (trees_at draft.old.trees front.now ++ neg (tree_at draft.old.trees a) ∷ []) }
-    requires right { Refutes draft.old right (trees_at draft.old.trees front.now ++ neg (tree_at draft.old.trees b) ∷ []) }
-    ensures refutes { IfOk result (λ k. Refutes draft.new k (trees_at draft.old.trees front.now ++ neg (tree_at draft.old.trees whole) ∷ [])) }
+    requires sides { tree_at draft.old.trees whole ≡ conj (tree_at draft.old.trees a)
+        (tree_at draft.old.trees b) }
+    requires left { Refutes draft.old left (trees_at draft.old.trees front.now ++ neg
+        (tree_at draft.old.trees a) ∷ []) }
+    requires right { Refutes draft.old right (trees_at draft.old.trees front.now ++ neg
+        (tree_at draft.old.trees b) ∷ []) }
+    ensures refutes { IfOk result (λ k. Refutes draft.new k
+        (trees_at draft.old.trees front.now ++ neg (tree_at draft.old.trees whole) ∷ [])) }
     ensures language { StaysIn (HasFormulas draft.old front.now (whole ∷ [])) draft.old draft.new }
     ensures grows { Extends draft.old draft.new }
 {
@@ -285,9 +314,13 @@ fn imp_from(
     requires whole { IsFormulaAt draft.old whole }
     requires a { IsFormulaAt draft.old a }
     requires b { IsFormulaAt draft.old b }
-    requires sides { tree_at draft.old.trees whole ≡ imp (tree_at draft.old.trees a) (tree_at draft.old.trees b) }
-    requires step { Refutes draft.old step ((trees_at draft.old.trees front.now ++ tree_at draft.old.trees a ∷ []) ++ neg (tree_at draft.old.trees b) ∷ []) }
-    ensures refutes { IfOk result (λ k. Refutes draft.new k (trees_at draft.old.trees front.now ++ neg (tree_at draft.old.trees whole) ∷ [])) }
+    requires sides { tree_at draft.old.trees whole ≡ imp (tree_at draft.old.trees a)
+        (tree_at draft.old.trees b) }
+    requires step { Refutes draft.old step
+        ((trees_at draft.old.trees front.now ++ tree_at draft.old.trees a ∷ []) ++ neg
+        (tree_at draft.old.trees b) ∷ []) }
+    ensures refutes { IfOk result (λ k. Refutes draft.new k
+        (trees_at draft.old.trees front.now ++ neg (tree_at draft.old.trees whole) ∷ [])) }
     ensures language { StaysIn (HasFormulas draft.old front.now (whole ∷ [])) draft.old draft.new }
     ensures grows { Extends draft.old draft.new }
 {
@@ -307,10 +340,17 @@ fn end_under(
     requires front { AreFormulas draft.old front.now }
     requires hypothesis { IsFormulaAt draft.old hypothesis }
     requires no_hypothesis { IsFormulaAt draft.old no_hypothesis }
-    requires negated { tree_at draft.old.trees no_hypothesis ≡ neg (tree_at draft.old.trees hypothesis) }
-    requires end { PartUnder draft.old end (trees_at draft.old.trees front.now) (tree_at draft.old.trees hypothesis) }
-    ensures refutes { IfOk result (λ k. (part : Tree) → Refutes draft.old end (trees_at draft.old.trees front.now ++ neg (imp (tree_at draft.old.trees hypothesis) part) ∷ []) → Refutes draft.new k ((trees_at draft.old.trees front.now ++ tree_at draft.old.trees hypothesis ∷ []) ++ neg part ∷ [])) }
-    ensures language { StaysIn (HasFormulas draft.old front.now (hypothesis ∷ [])) draft.old draft.new }
+    requires negated { tree_at draft.old.trees no_hypothesis
+        ≡ neg (tree_at draft.old.trees hypothesis) }
+    requires end { PartUnder draft.old end (trees_at draft.old.trees front.now)
+        (tree_at draft.old.trees hypothesis) }
+    ensures refutes { IfOk result (λ k. (part : Tree) → Refutes draft.old end
+        (trees_at draft.old.trees front.now ++ neg (imp (tree_at draft.old.trees hypothesis) part)
+        ∷ []) → Refutes draft.new k
+        ((trees_at draft.old.trees front.now ++ tree_at draft.old.trees hypothesis ∷ []) ++ neg part
+        ∷ [])) }
+    ensures language { StaysIn (HasFormulas draft.old front.now (hypothesis ∷ [])) draft.old
+        draft.new }
     ensures grows { Extends draft.old draft.new }
 {
     let u = read_under(draft, hypothesis, no_hypothesis, end)?;
@@ -329,10 +369,15 @@ fn ends_under(
     requires front { AreFormulas draft.old front.now }
     requires hypothesis { IsFormulaAt draft.old hypothesis }
     requires no_hypothesis { IsFormulaAt draft.old no_hypothesis }
-    requires negated { tree_at draft.old.trees no_hypothesis ≡ neg (tree_at draft.old.trees hypothesis) }
-    requires ends { Ends draft.old ends.now (trees_at draft.old.trees front.now) (map (imp (tree_at draft.old.trees hypothesis)) (split (tree_at draft.old.trees formula))) }
-    ensures ends { IfOk result (λ v. Ends draft.new v.items (trees_at draft.old.trees front.now ++ tree_at draft.old.trees hypothesis ∷ []) (split (tree_at draft.old.trees formula))) }
-    ensures language { StaysIn (HasFormulas draft.old front.now (hypothesis ∷ [])) draft.old draft.new }
+    requires negated { tree_at draft.old.trees no_hypothesis
+        ≡ neg (tree_at draft.old.trees hypothesis) }
+    requires ends { Ends draft.old ends.now (trees_at draft.old.trees front.now)
+        (map (imp (tree_at draft.old.trees hypothesis)) (split (tree_at draft.old.trees formula))) }
+    ensures ends { IfOk result (λ v. Ends draft.new v.items
+        (trees_at draft.old.trees front.now ++ tree_at draft.old.trees hypothesis ∷ [])
+        (split (tree_at draft.old.trees formula))) }
+    ensures language { StaysIn (HasFormulas draft.old front.now (hypothesis ∷ [])) draft.old
+        draft.new }
     ensures grows { Extends draft.old draft.new }
 {
     let _ = formula;
@@ -355,9 +400,12 @@ pub(crate) fn glue_formula(
     requires front { AreFormulas draft.old front.now }
     requires formula { IsFormulaAt draft.old formula }
     requires glues { Glues (tree_at draft.old.trees formula) }
-    requires ends { Ends draft.old ends.now (trees_at draft.old.trees front.now) (split (tree_at draft.old.trees formula)) }
-    ensures refutes { IfOk result (λ k. Refutes draft.new k (trees_at draft.old.trees front.now ++ neg (tree_at draft.old.trees formula) ∷ [])) }
-    ensures language { StaysIn (HasFormulas draft.old front.now (formula ∷ [])) draft.old draft.new }
+    requires ends { Ends draft.old ends.now (trees_at draft.old.trees front.now)
+        (split (tree_at draft.old.trees formula)) }
+    ensures refutes { IfOk result (λ k. Refutes draft.new k
+        (trees_at draft.old.trees front.now ++ neg (tree_at draft.old.trees formula) ∷ [])) }
+    ensures language { StaysIn (HasFormulas draft.old front.now (formula ∷ [])) draft.old
+        draft.new }
     ensures grows { Extends draft.old draft.new }
 {
     match draft.store().node(formula) {
@@ -381,9 +429,12 @@ fn glue_joined(
     requires formula { IsFormulaAt draft.old formula }
     requires joins { Joins draft.old.trees formula op a b }
     requires glues { Glues (tree_at draft.old.trees formula) }
-    requires ends { Ends draft.old ends.now (trees_at draft.old.trees front.now) (split (tree_at draft.old.trees formula)) }
-    ensures refutes { IfOk result (λ k. Refutes draft.new k (trees_at draft.old.trees front.now ++ neg (tree_at draft.old.trees formula) ∷ [])) }
-    ensures language { StaysIn (HasFormulas draft.old front.now (formula ∷ [])) draft.old draft.new }
+    requires ends { Ends draft.old ends.now (trees_at draft.old.trees front.now)
+        (split (tree_at draft.old.trees formula)) }
+    ensures refutes { IfOk result (λ k. Refutes draft.new k
+        (trees_at draft.old.trees front.now ++ neg (tree_at draft.old.trees formula) ∷ [])) }
+    ensures language { StaysIn (HasFormulas draft.old front.now (formula ∷ [])) draft.old
+        draft.new }
     ensures grows { Extends draft.old draft.new }
 {
     match op {
@@ -408,9 +459,12 @@ fn glue_and(
     requires formula { IsFormulaAt draft.old formula }
     requires joins { Joins draft.old.trees formula Op.And a b }
     requires glues { Glues (tree_at draft.old.trees formula) }
-    requires ends { Ends draft.old ends.now (trees_at draft.old.trees front.now) (split (tree_at draft.old.trees formula)) }
-    ensures refutes { IfOk result (λ k. Refutes draft.new k (trees_at draft.old.trees front.now ++ neg (tree_at draft.old.trees formula) ∷ [])) }
-    ensures language { StaysIn (HasFormulas draft.old front.now (formula ∷ [])) draft.old draft.new }
+    requires ends { Ends draft.old ends.now (trees_at draft.old.trees front.now)
+        (split (tree_at draft.old.trees formula)) }
+    ensures refutes { IfOk result (λ k. Refutes draft.new k
+        (trees_at draft.old.trees front.now ++ neg (tree_at draft.old.trees formula) ∷ [])) }
+    ensures language { StaysIn (HasFormulas draft.old front.now (formula ∷ [])) draft.old
+        draft.new }
     ensures grows { Extends draft.old draft.new }
 {
     let count = part_count(draft.store(), a);
@@ -434,9 +488,12 @@ fn glue_imp(
     requires formula { IsFormulaAt draft.old formula }
     requires joins { Joins draft.old.trees formula Op.Imp a b }
     requires glues { Glues (tree_at draft.old.trees formula) }
-    requires ends { Ends draft.old ends.now (trees_at draft.old.trees front.now) (split (tree_at draft.old.trees formula)) }
-    ensures refutes { IfOk result (λ k. Refutes draft.new k (trees_at draft.old.trees front.now ++ neg (tree_at draft.old.trees formula) ∷ [])) }
-    ensures language { StaysIn (HasFormulas draft.old front.now (formula ∷ [])) draft.old draft.new }
+    requires ends { Ends draft.old ends.now (trees_at draft.old.trees front.now)
+        (split (tree_at draft.old.trees formula)) }
+    ensures refutes { IfOk result (λ k. Refutes draft.new k
+        (trees_at draft.old.trees front.now ++ neg (tree_at draft.old.trees formula) ∷ [])) }
+    ensures language { StaysIn (HasFormulas draft.old front.now (formula ∷ [])) draft.old
+        draft.new }
     ensures grows { Extends draft.old draft.new }
 {
     let no_a = negation(draft, a)?;

@@ -23,7 +23,8 @@ pub(crate) fn add_parts(
     requires formula_held { Holds store.old formula }
     requires sentence { IsSentence (tree_at store.old formula) }
     requires held { All (Holds store.old) parts.old.items }
-    ensures gains { IfOk result (λ _. Gains store.old store.new parts.old.items parts.new.items (split (tree_at store.old formula))) }
+    ensures gains { IfOk result (λ _. Gains store.old store.new parts.old.items parts.new.items
+        (split (tree_at store.old formula))) }
     ensures grows { Grows store.old store.new }
 {
     let node = store.node(formula);
@@ -54,7 +55,8 @@ fn add_joined(
     requires formula_held { Holds store.old formula }
     requires joins { Joins store.old formula op a b }
     requires held { All (Holds store.old) parts.old.items }
-    ensures gains { IfOk result (λ _. Gains store.old store.new parts.old.items parts.new.items (split (tree_at store.old formula))) }
+    ensures gains { IfOk result (λ _. Gains store.old store.new parts.old.items parts.new.items
+        (split (tree_at store.old formula))) }
     ensures grows { Grows store.old store.new }
 {
     match op {
@@ -91,7 +93,9 @@ fn add_parts_under(
     requires first_held { Holds store.old first }
     requires node { HasTwo node }
     requires wraps { Wraps (head_of_node node) (tree_at store.old first) }
-    ensures gains { IfOk result (λ _. Gains store.old store.new parts.old.items parts.new.items (map (Two (head_of_node node) (tree_at store.old first)) (split (tree_at store.old formula)))) }
+    ensures gains { IfOk result (λ _. Gains store.old store.new parts.old.items parts.new.items
+        (map (Two (head_of_node node) (tree_at store.old first))
+        (split (tree_at store.old formula)))) }
     ensures grows { Grows store.old store.new }
 {
     let mut inner = Vec::new(alloc);
@@ -117,7 +121,8 @@ fn add_branches(
     requires other { IsSentence (tree_at store.old other) }
     requires held { All (Holds store.old) parts.old.items }
     ensures gains { IfOk result (λ _. Gains store.old store.new parts.old.items parts.new.items
-        (map (imp (tree_at store.old test)) (split (tree_at store.old then)) ++ map (imp (neg (tree_at store.old test))) (split (tree_at store.old other)))) }
+        (map (imp (tree_at store.old test)) (split (tree_at store.old then)) ++ map
+        (imp (neg (tree_at store.old test))) (split (tree_at store.old other)))) }
     ensures grows { Grows store.old store.new }
 {
     add_parts_under(
@@ -151,7 +156,9 @@ fn add_both_ways(
     requires b_held { Holds store.old b }
     requires b { IsSentence (tree_at store.old b) }
     requires held { All (Holds store.old) parts.old.items }
-    ensures gains { IfOk result (λ _. Gains store.old store.new parts.old.items parts.new.items (imp (tree_at store.old a) (tree_at store.old b) ∷ imp (tree_at store.old b) (tree_at store.old a) ∷ [])) }
+    ensures gains { IfOk result (λ _. Gains store.old store.new parts.old.items parts.new.items
+        (imp (tree_at store.old a) (tree_at store.old b) ∷ imp (tree_at store.old b)
+        (tree_at store.old a) ∷ [])) }
     ensures grows { Grows store.old store.new }
 {
     let right = store.add(Node::Join(Op::Imp, a, b))?;
@@ -175,7 +182,9 @@ fn add_wrapped(
     requires first_held { Holds store.old first }
     requires node { HasTwo node }
     requires wraps { Wraps (head_of_node node) (tree_at store.old first) }
-    ensures gains { IfOk result (λ _. Gains store.old store.new parts.old.items parts.new.items (map (Two (head_of_node node) (tree_at store.old first)) (trees_at store.old formulas.now))) }
+    ensures gains { IfOk result (λ _. Gains store.old store.new parts.old.items parts.new.items
+        (map (Two (head_of_node node) (tree_at store.old first))
+        (trees_at store.old formulas.now))) }
     ensures grows { Grows store.old store.new }
 {
     for formula in formulas {
@@ -198,7 +207,8 @@ fn wrapped(
     requires node { HasTwo node }
     requires wraps { Wraps (head_of_node node) (tree_at store.old first) }
     ensures held { IfOk result (Holds store.new) }
-    ensures tree { IfOk result (λ id. tree_at store.new id ≡ Two (head_of_node node) (tree_at store.old first) (tree_at store.old formula)) }
+    ensures tree { IfOk result (λ id. tree_at store.new id ≡ Two (head_of_node node)
+        (tree_at store.old first) (tree_at store.old formula)) }
     ensures grows { Grows store.old store.new }
 {
     store.add(node.with_parts(Parts::Two(first, formula)))

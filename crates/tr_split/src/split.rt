@@ -79,7 +79,8 @@ pub fn split_goal(alloc: Global, store: &mut Store, task: &Task) -> Result<Vec<T
     requires held { TaskHeld store.old task.now }
     requires valid { IsValid (task_at store.old task.now) }
     ensures held { IfOk result (λ ts. TasksHeld store.new ts.items) }
-    ensures tasks { IfOk result (λ ts. tasks_at store.new ts.items ≡ split_task (task_at store.old task.now)) }
+    ensures tasks { IfOk result (λ ts. tasks_at store.new ts.items
+        ≡ split_task (task_at store.old task.now)) }
     ensures grows { Grows store.old store.new }
 {
     let mut goals = Vec::new(alloc);
@@ -97,7 +98,8 @@ fn tasks_for(
     requires held { TaskHeld store.now task.now }
     requires goals_held { All (Holds store.now) goals.now }
     ensures held { IfOk result (λ ts. TasksHeld store.now ts.items) }
-    ensures tasks { IfOk result (λ ts. tasks_at store.now ts.items ≡ map (with_goal (task_at store.now task.now)) (trees_at store.now goals.now)) }
+    ensures tasks { IfOk result (λ ts. tasks_at store.now ts.items
+        ≡ map (with_goal (task_at store.now task.now)) (trees_at store.now goals.now)) }
 {
     let mut tasks = Vec::with_capacity(alloc, goals.len())?;
     for goal in goals {
