@@ -1,6 +1,6 @@
 -- Steps that are lifted are right.
 use Rattle.std.proofs.Common.{◌≡◌, ℕ, ◌<◌, ◌≤◌, List, [], ◌∷◌, ◌++◌, ◌+◌, ◌-◌, Option, None, Some, IsSomeAnd, length, map, get_or, slice_get, take, All, inl, inr, refl, sym, ap, subst, ◌∙◌, arith}
-use Rattle.std.proofs.lemmas.List.{map-append, length-map, length-append, get_or_append_left, get_or-map, take-map, length-take-le, get_or-take}
+use Rattle.std.proofs.lemmas.List.{append-nil, length-map, length-append, get_or_append_left, get_or-map, take-map, length-take-le, get_or-take}
 use Rattle.std.proofs.lemmas.List.Elements.{All-map, All-head}
 use Rattle.std.proofs.lemmas.Option.{get_or_from_slice_get, slice_get_within}
 use Rattle.std.proofs.lemmas.Bool.{cases_lt}
@@ -8,28 +8,29 @@ use Rattle.std.proofs.Math.Seq.{get_or-append_seam}
 use Rattle.trees.specs.declared.TermId.{TermId}
 use Rattle.trees.specs.Tree.{Tree}
 use Rattle.trees.specs.Node.{tree_at, Holds}
-use Rattle.trees.specs.Binding.{inst_types}
 use Rattle.tasks.specs.declared.task.Task.{Task}
-use Rattle.tasks.specs.Task.{TaskTree, Proposition, props, neg, start}
+use Rattle.tasks.specs.declared.facts.Fact.{Fact}
+use Rattle.tasks.specs.declared.facts.Fact.TheVariants as fact
+use Rattle.tasks.specs.Task.{TaskTree, neg, start}
 use Rattle.tasks.specs.Valid.{IsValid, IsTypeOver, IsGroundFormula}
 use Rattle.tasks.specs.Meaning.{trees_at, task_at, tasks_at, TaskHeld, TasksHeld}
-use Rattle.tasks.proofs.Growth.{map_agree, trees_later, task_later, task_held_later}
+use Rattle.tasks.proofs.Growth.{map_agree, task_later, task_held_later}
 use Rattle.rule_rows.specs.declared.rule.Step.{Step}
-use Rattle.rule_rows.specs.declared.rule.Rule.{Rule}
-use Rattle.rule_rows.specs.declared.rule.Rule.TheVariants.{Fact}
-use Rattle.rule_rows.specs.Trees.{RuleTree, RFact, StepTree, no_step, step_or, sequents, trees_of, types_of}
+use Rattle.rule_rows.specs.Trees.{RuleTree, StepTree, no_step, step_or, sequents, trees_of, types_of}
 use Rattle.rule_rows.specs.Rows.{Row}
 use Rattle.kernel.specs.Right.{IsRight, AreRight, Closes}
-use Rattle.rule_rows.specs.Meaning.{rule_at, step_at, steps_at, StepsHeld}
+use Rattle.rule_rows.specs.Meaning.{step_at, steps_at, StepsHeld}
 use Rattle.kernel.proofs.Growth.{steps_later, steps_held_later}
 use Rattle.kernel.proofs.Places.{step_or-at}
-use Rattle.rule_rows.proofs.Sequents.{map_twice, All-unmap}
-use Rattle.evidence.specs.Drafts.{DraftTree, Extends, Refutes, cut_step, keep_step}
-use Rattle.evidence.specs.Stages.{HaveSequents, StandFor, EndIn, HasSequents, KeepsDeclared, IsAmong, IsOwn, InStage, IsFact, IsCutBy, PartsClose, PartsHeld, parts_at, part_or, task_or, prop_or, no_proposition, fact_of, no_task, sequent_of, start_of}
+use Rattle.rule_rows.proofs.Sequents.{map_twice}
+use Rattle.evidence.specs.Drafts.{DraftTree, Extends, Refutes, IsFormulaAt, AreFormulas}
+use Rattle.evidence.specs.Facts.{citing, CitesNone}
+use Rattle.evidence.specs.Stages.{Equation, Gives, HaveSequents, StandFor, EndIn, HasSequents, KeepsDeclared, Keeps, IsAmong, IsOwn, InStage, Cites, PartsClose, PartsHeld, parts_at, part_or, task_or, no_task, sequent_of, start_of}
 use Rattle.evidence.specs.Languages.{Language, StepIsIn, StepsAreIn}
-use Rattle.evidence.proofs.Typed.{formulas_moved, trees_moved, types_moved, formula_negated}
-use Rattle.evidence.proofs.Moved.{CitesNone, row_other}
-use Rattle.evidence.proofs.Rules.{refutes_later, keep_right, cut_right}
+use Rattle.evidence.proofs.Typed.{formulas_moved, trees_moved, types_moved}
+use Rattle.evidence.proofs.Moved.{row_other}
+use Rattle.evidence.proofs.Rules.{refutes_later, row_cited}
+use Rattle.evidence.proofs.Formulas.{same}
 
 sequents_lifted : (d : DraftTree) (before : List StepTree) (numbers ps : List ℕ) → StandFor d numbers before → All (λ k. k < length before) ps
     → sequents d.steps (map (λ k. get_or numbers k 0) ps) ≡ sequents before ps
@@ -44,7 +45,7 @@ right_lifted d t before st numbers premises kept r n f p =
     let q : sequents d.steps premises ≡ sequents before st.premises = ap (sequents d.steps) p ∙ sequents_lifted d before numbers st.premises f r.earlier in
     let earlier : All (λ k. k < length d.steps) premises =
     rw p (All-map (λ k. k < length d.steps) (λ k. get_or numbers k 0) st.premises (λ i z h. (f.each _ (r.earlier i z h)).within)) in
-    let row : Row d.task st.sequent st.rule (sequents d.steps premises) = rw q (row_other t d.task kept st.sequent st.rule (sequents before st.premises) n r.row) in
+    let row : Row d.task st.sequent st.rule (sequents d.steps premises) = rw q (row_other t d.task kept st.sequent st.rule (sequents before st.premises) n r.trees r.row) in
     record {
       formulas = formulas_moved t d.task kept st.sequent r.formulas;
       trees = trees_moved t d.task kept (trees_of st.rule) r.trees;
@@ -53,109 +54,69 @@ right_lifted d t before st numbers premises kept r n f p =
       row = row;
     }
 
--- the formula of a right step that has one, in the store
-pub only_ground : (t : TaskTree) (s : List Tree) (steps : List Step) (all : List StepTree) (n : ℕ) (x : Step) (ids : List TermId) (z : TermId) → steps_at s steps ≡ all → AreRight t all
-    → n < length all → length (step_or all n).sequent ≡ 1 → x ≡ get_or steps n x → ids ≡ x.sequent → IsGroundFormula t (tree_at s (get_or ids 0 z))
-only_ground t s steps all n x ids z e a l one is q =
-    let m : n < length steps = omega (arith, l, ap length e, length-map steps (step_at s)) in
-    let k : step_or all n ≡ step_at s x = ap (λ (w : List StepTree). step_or w n) (sym e) ∙ step_or-at s steps n x is m in
-    let f : All (IsGroundFormula t) (trees_at s x.sequent) = subst (λ (w : StepTree). All (IsGroundFormula t) w.sequent) k (a n l).formulas in
-    let g : All (IsGroundFormula t) (trees_at s ids) = subst (λ (w : List TermId). All (IsGroundFormula t) (trees_at s w)) (sym q) f in
-    let o : length (trees_at s x.sequent) ≡ 1 = ap (λ (w : StepTree). length w.sequent) (sym k) ∙ one in
-    let h : 0 < length ids = omega (arith, o, length-map x.sequent (tree_at s), ap length q) in
-    All-unmap (IsGroundFormula t) (tree_at s) ids g 0 z h
-
 one_premise : (before : List StepTree) (ps : List ℕ) (q : List Tree) → sequents before ps ≡ q ∷ [] → (p : ℕ) × ((ps ≡ p ∷ []) × ((step_or before p).sequent ≡ q))
 one_premise before [] q e = absurd (cc)
 one_premise before (p ∷ []) q e = (p, (refl, cc))
 one_premise before (p ∷ r ∷ ps) q e = absurd (cc)
 
-some_of : {X : Type 0} (o : Option X) (P : X → Type 0) → IsSomeAnd o P → (a : X) × ((o ≡ Some a) × P a)
+pub some_of : {X : Type 0} (o : Option X) (P : X → Type 0) → IsSomeAnd o P → (a : X) × ((o ≡ Some a) × P a)
 some_of None P h = absurd h
 some_of (Some a) P h = (a, (refl, h))
 
--- what a step that cites a fact is lifted from
-pub record Cites (d : DraftTree) (t : TaskTree) (s : List Tree) (k : ℕ) (types : List Tree) (premises : List ℕ) : Type 0 where
-  pub fact : IsFact d.task t k types
-  pub some : 0 < length premises
-  pub taken : Refutes d (get_or premises 0 0) (s ++ fact_of t k types ∷ [])
+types_citing : (name : Fact) (types : List Tree) → types_of (citing name types) ≡ types
+types_citing (fact.Proposition k) types = refl
+types_citing (fact.Equation k) types = refl
+types_citing (fact.Clause k c) types = refl
+types_citing (fact.Inversion k) types = refl
 
-pub cites : (d : DraftTree) (t : TaskTree) (before : List StepTree) (st : StepTree) (k : ℕ) (types : List Tree) (numbers premises : List ℕ) → KeepsDeclared d.task t
-    → IsRight t before st → st.rule ≡ RFact k types → StandFor d numbers before → premises ≡ map (λ k. get_or numbers k 0) st.premises
-    → Cites d t st.sequent k types premises
-cites d t before st k types numbers premises kept r e f p =
-    let P : Proposition → Type 0 = λ a. (length types ≡ a.vars) × (sequents before st.premises ≡ (st.sequent ++ inst_types a.formula types ∷ []) ∷ []) in
-    let row : IsSomeAnd (slice_get (props t) k) P = subst (λ (z : RuleTree). Row t st.sequent z (sequents before st.premises)) e r.row in
-    let g = some_of (slice_get (props t) k) P row in
-    let a : prop_or (props t) k ≡ g.0 = get_or_from_slice_get (props t) k g.0 no_proposition g.1.0 in
-    let F : Tree = fact_of t k types in
-    let same : F ≡ inst_types g.0.formula types = ap (λ (z : Proposition). inst_types z.formula types) a in
-    let o = one_premise before st.premises (st.sequent ++ inst_types g.0.formula types ∷ []) g.1.1.1 in
+-- what a step that cites a fact is lifted from
+pub cites : (d : DraftTree) (t : TaskTree) (before : List StepTree) (st : StepTree) (name : Fact) (types : List Tree) (numbers premises : List ℕ) → KeepsDeclared d.task t
+    → IsRight t before st → st.rule ≡ citing name types → StandFor d numbers before → premises ≡ map (λ k. get_or numbers k 0) st.premises
+    → (0 < length premises) × Cites d t st.sequent name types (get_or premises 0 0)
+cites d t before st name types numbers premises kept r e f p =
+    let row : Row t st.sequent (citing name types) (sequents before st.premises) = subst (λ (z : RuleTree). Row t st.sequent z (sequents before st.premises)) e r.row in
+    let g = row_cited t st.sequent name types (sequents before st.premises) row in
+    let o = one_premise before st.premises (st.sequent ++ g.formula ∷ []) g.premise in
     let n : get_or premises 0 0 ≡ get_or numbers o.0 0 = ap (λ (z : List ℕ). get_or z 0 0) (p ∙ ap (map (λ (z : ℕ). get_or numbers z 0)) o.1.0) in
     let one : length premises ≡ 1 = ap length (p ∙ ap (map (λ (z : ℕ). get_or numbers z 0)) o.1.0) in
     let early : o.0 < length before = All-head (λ z. z < length before) o.0 [] (subst (All (λ z. z < length before)) o.1.0 r.earlier) in
-    let q : (step_or before o.0).sequent ≡ st.sequent ++ F ∷ [] = o.1.1 ∙ ap (λ (z : Tree). st.sequent ++ z ∷ []) (sym same) in
     let stands = f.each o.0 early in
-    record {
-      fact = record {
-        place = slice_get_within (props t) k g.0 g.1.0;
-        as_many = g.1.1.0 ∙ ap (λ (z : Proposition). z.vars) (sym a);
-        ground = types_moved t d.task kept types (subst (λ (z : RuleTree). All (IsTypeOver t 0) (types_of z)) e r.types);
-      };
-      some = omega arith;
-      taken = rw n (record { within = stands.within; is = stands.is ∙ q });
-    }
+    let own : All (IsTypeOver t 0) types = subst (All (IsTypeOver t 0)) (ap types_of e ∙ types_citing name types) r.types in (
+      omega arith,
+      record {
+        formula = g.formula;
+        fact = record { said = g.said; ground = types_moved t d.task kept types own };
+        taken = rw n (record { within = stands.within; is = stands.is ∙ o.1.1 });
+      },
+    )
 
-pub among_keeps : (P : List TaskTree → Type 0) (from t : TaskTree) → ((ts : List TaskTree) → P ts → All (KeepsDeclared from) ts) → IsAmong P t → KeepsDeclared from t
-among_keeps P from t all a = subst (KeepsDeclared from) a.there (all a.tasks a.is a.place no_task a.within)
+pub among_keeps : (q : Equation) (from t : TaskTree) → IsValid from → ((ts : List TaskTree) → IsValid from → Gives q from ts → All (Keeps from) ts) → IsAmong (Gives q from) t → KeepsDeclared from t
+among_keeps q from t valid all a = (subst (Keeps from) a.there (all a.tasks valid a.is a.place no_task a.within)).declared
 
-pub cites_none : (s : List Tree) (r : Rule) → ((k : ℕ) (types : List TermId) → r ≡ Fact k types → ⊥) → CitesNone (rule_at s r)
-cites_none s (Fact k types) n = absurd (n k types refl)
-cites_none s _ n = tt
+-- the formulas of a step of a task, in a draft of the task that it was made from
+pub formulas_lifted : (d : DraftTree) (t : TaskTree) (ids : List TermId) → KeepsDeclared d.task t → All (Holds d.trees) ids → All (IsGroundFormula t) (trees_at d.trees ids) → AreFormulas d ids
+formulas_lifted d t ids kept h m = record { held = h; ground = formulas_moved t d.task kept (trees_at d.trees ids) m }
 
--- the formula that a lemma negates
-pub negation_of : (d : DraftTree) (lemma : ℕ) (n g : Tree) → (step_or d.steps lemma).sequent ≡ n ∷ [] → Refutes d lemma (neg g ∷ []) → n ≡ neg g
-negation_of d lemma n g t r = let e : n ∷ [] ≡ neg g ∷ [] = sym t ∙ r.is in cc
+-- ---- a cut on a fact, over a draft that has grown
+module _ (d d2 : DraftTree) (x : Extends d d2) (ids : List TermId) (f : AreFormulas d ids) where
+  pub cut_yes : (a : TermId) (j : ℕ) → IsFormulaAt d a → Refutes d j (trees_at d.trees ids ++ tree_at d.trees a ∷ []) → Refutes d2 j ((trees_at d2.trees ids ++ []) ++ tree_at d2.trees a ∷ [])
+  cut_yes a j g r =
+      let e : trees_at d2.trees ids ++ [] ≡ trees_at d.trees ids = append-nil (trees_at d2.trees ids) ∙ same d d2 x ids f in
+      let b : tree_at d2.trees a ≡ tree_at d.trees a = x.trees.same a.0 g.held in
+      rw (e, b) (refutes_later d d2 x j _ r)
 
-pub wide_trees : (s : List Tree) (ids wide : List TermId) (n : TermId) → wide ≡ ids ++ n ∷ [] → trees_at s wide ≡ trees_at s ids ++ tree_at s n ∷ []
-wide_trees s ids wide n w = ap (trees_at s) w ∙ map-append (tree_at s) ids (n ∷ [])
+  pub cut_no : (d1 : DraftTree) (y : Extends d d1) (a n : TermId) (k : ℕ) → IsFormulaAt d a → tree_at d1.trees n ≡ neg (tree_at d.trees a) → Refutes d2 k (trees_at d1.trees ids ++ tree_at d1.trees n ∷ [])
+      → Refutes d2 k ((trees_at d2.trees ids ++ []) ++ neg (tree_at d2.trees a) ∷ [])
+  cut_no d1 y a n k g e r =
+      let q : trees_at d2.trees ids ++ [] ≡ trees_at d1.trees ids = append-nil (trees_at d2.trees ids) ∙ same d d2 x ids f ∙ sym (same d d1 y ids f) in
+      let b : neg (tree_at d2.trees a) ≡ tree_at d1.trees n = ap neg (x.trees.same a.0 g.held) ∙ sym e in
+      rw (q, b) r
 
-pub fact_kept : (d : DraftTree) (ids wide : List TermId) (n : TermId) (k : ℕ) → wide ≡ ids ++ n ∷ [] → All (IsGroundFormula d.task) (trees_at d.trees ids) → IsGroundFormula d.task (tree_at d.trees n)
-    → (step_or d.steps k).sequent ≡ tree_at d.trees n ∷ [] → k < length d.steps → IsRight d.task d.steps (keep_step (trees_at d.trees wide) (length ids ∷ []) k)
-fact_kept d ids wide n k w m f t l =
-    let q : Refutes d k (tree_at d.trees n ∷ []) = record { within = l; is = t } in
-    let e : trees_at d.trees wide ≡ trees_at d.trees ids ++ tree_at d.trees n ∷ [] = wide_trees d.trees ids wide n w in
-    let z : length ids ≡ length (trees_at d.trees ids) = sym (length-map ids (tree_at d.trees)) in
-    rw (e, z) (keep_right d (trees_at d.trees ids) (tree_at d.trees n) k m f q)
+  pub cut_done : (d3 : DraftTree) (k : ℕ) → Refutes d3 k (trees_at d2.trees ids ++ []) → Refutes d3 k (trees_at d.trees ids)
+  cut_done d3 k r = record { within = r.within; is = r.is ∙ append-nil (trees_at d2.trees ids) ∙ same d d2 x ids f }
 
-pub fact_cut : (d d1 : DraftTree) (ids wide : List TermId) (n fact : TermId) (g : Tree) (j k : ℕ) → Extends d d1 → wide ≡ ids ++ n ∷ [] → All (Holds d.trees) ids → Holds d.trees fact
-    → All (IsGroundFormula d.task) (trees_at d.trees ids) → IsGroundFormula d.task (tree_at d.trees n) → tree_at d.trees n ≡ neg (tree_at d.trees fact) → tree_at d.trees n ≡ neg g
-    → Refutes d j (trees_at d.trees ids ++ g ∷ []) → Refutes d1 k (trees_at d.trees wide) → IsRight d1.task d1.steps (cut_step (trees_at d1.trees ids) (tree_at d1.trees fact) j k)
-fact_cut d d1 ids wide n fact g j k x w h hf m f is is_g taken z =
-    let s : List Tree = trees_at d.trees ids in
-    let a : Tree = tree_at d.trees fact in
-    let e1 : trees_at d1.trees ids ≡ s = trees_later d.trees d1.trees x.trees ids h in
-    let e2 : tree_at d1.trees fact ≡ a = x.trees.same fact.0 hf in
-    let both : neg g ≡ neg a = sym is_g ∙ is in
-    let one : g ≡ a = cc in
-    let formulas : All (IsGroundFormula d1.task) s = subst (λ (t : TaskTree). All (IsGroundFormula t) s) (sym x.task) m in
-    let fa : IsGroundFormula d.task a = formula_negated d.task a (subst (IsGroundFormula d.task) is f) in
-    let formula : IsGroundFormula d1.task a = subst (λ (t : TaskTree). IsGroundFormula t a) (sym x.task) fa in
-    let yes' : Refutes d1 j (s ++ a ∷ []) = refutes_later d d1 x j (s ++ a ∷ []) (subst (λ (v : Tree). Refutes d j (s ++ v ∷ [])) one taken) in
-    let no' : Refutes d1 k (s ++ neg a ∷ []) = record { within = z.within; is = z.is ∙ wide_trees d.trees ids wide n w ∙ ap (λ (v : Tree). s ++ v ∷ []) is } in
-    rw (e1, e2) (cut_right d1 s a j k formulas formula yes' no')
-
-pub formulas_lifted : (d d1 : DraftTree) (t : TaskTree) (ids : List TermId) → KeepsDeclared d.task t → Extends d d1 → All (Holds d.trees) ids → All (IsGroundFormula t) (trees_at d.trees ids)
-    → All (IsGroundFormula d1.task) (trees_at d1.trees ids)
-formulas_lifted d d1 t ids kept x h m =
-    let a : trees_at d1.trees ids ≡ trees_at d.trees ids = trees_later d.trees d1.trees x.trees ids h in
-    rw (a, x.task) (formulas_moved t d.task kept (trees_at d.trees ids) m)
-
-pub cut_lifted : (d d1 : DraftTree) (ids : List TermId) (g : Tree) (j k : ℕ) → Extends d d1 → All (Holds d.trees) ids → Refutes d j (trees_at d.trees ids ++ g ∷ []) → Refutes d1 k (neg g ∷ [])
-    → IsCutBy d1 (trees_at d1.trees ids) j k
-cut_lifted d d1 ids g j k x h taken proved =
-    let a : trees_at d1.trees ids ≡ trees_at d.trees ids = trees_later d.trees d1.trees x.trees ids h in
-    rw a (record { fact = g; taken = refutes_later d d1 x j _ taken; proved = proved })
+pub lemma_later : (d d1 : DraftTree) (x : Extends d d1) (n a : TermId) (k : ℕ) → tree_at d1.trees n ≡ neg (tree_at d.trees a) → Refutes d k (neg (tree_at d.trees a) ∷ []) → Refutes d1 k (tree_at d1.trees n ∷ [])
+lemma_later d d1 x n a k e r = rw e (refutes_later d d1 x k _ r)
 
 -- the draft's own task stays
 pub own_later : (d d1 : DraftTree) (from : Task) → Extends d d1 → IsOwn d from → IsOwn d1 from
@@ -168,10 +129,10 @@ own_later d d1 from x o =
     }
 
 -- what a task becomes stays
-pub in_stage_later : (P : TaskTree → List TaskTree → Type 0) (d d1 : DraftTree) (from to : Task) → Extends d d1 → InStage P d from to → InStage P d1 from to
-in_stage_later P d d1 from to x i =
+pub in_stage_later : (q : Equation) (d d1 : DraftTree) (from to : Task) → Extends d d1 → InStage q d from to → InStage q d1 from to
+in_stage_later q d d1 from to x i =
     let f = task_later d.trees d1.trees x.trees to i.held in
-    let among : IsAmong (P d1.task) (task_at d1.trees to) = rw (x.task, f) i.among in
+    let among : IsAmong (Gives q d1.task) (task_at d1.trees to) = rw (x.task, f) i.among in
     record { own = own_later d d1 from x i.own; held = task_held_later d.trees d1.trees x.trees to i.held; among = among }
 
 pub lifts_later : (L : TaskTree → Type 0) (d d1 : DraftTree) → Extends d d1 → L d.task → L d1.task
@@ -299,9 +260,9 @@ module _ (d d1 : DraftTree) (g : Extends d d1) where
       let r : EndIn d1 ns (tasks_at d.trees to) = record { as_many = u.as_many ∙ sym l; each = λ i h. u.each i (rw l at h) } in
       subst (λ (z : List TaskTree). EndIn d1 these z) (sym (tasks_later to th)) (subst (λ (z : List ℕ). EndIn d1 z (tasks_at d.trees to)) (sym f) r)
 
-pub in_stage_of : (P : TaskTree → List TaskTree → Type 0) (d : DraftTree) (from : Task) (to : List Task) (i : ℕ) (x : Task) → IsOwn d from
-    → TasksHeld d.trees to → P d.task (tasks_at d.trees to) → i < length to → x ≡ get_or to i x → InStage P d from x
-in_stage_of P d from to i x own th p l is = record {
+pub in_stage_of : (q : Equation) (d : DraftTree) (from : Task) (to : List Task) (i : ℕ) (x : Task) → IsOwn d from
+    → TasksHeld d.trees to → Gives q d.task (tasks_at d.trees to) → i < length to → x ≡ get_or to i x → InStage q d from x
+in_stage_of q d from to i x own th p l is = record {
   own = own;
   held = subst (λ (z : Task). TaskHeld d.trees z) (sym is) (th i x l);
   among = record {

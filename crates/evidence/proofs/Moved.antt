@@ -1,34 +1,28 @@
--- The row of a rule that cites no proposition is that of a task that has the same symbols and makes each as the same.
-use Rattle.std.proofs.Common.{◌≡◌, ◌≢◌, ℕ, List, [], ◌∷◌, ◌++◌, length, map, Option, None, Some, IsTrue, inl, inr, refl, ap, subst, ◌∙◌}
+-- The row of a rule that cites no fact is that of a task that has the same symbols, and makes what a group of the one makes as the same.
+use Rattle.std.proofs.Common.{◌≡◌, ◌≢◌, ℕ, List, [], ◌∷◌, ◌++◌, map, Option, None, IsTrue, inl, inr, refl, sym, ap, subst, ◌∙◌}
 use Rattle.std.specs.Prelude.{pos, ◌+ℤ◌, IsSomeAnd, slice_get, Contains}
-use Rattle.std.specs.Option.{option_and_then}
 use Rattle.std.proofs.lemmas.List.Elements.{Contains-append_left, Contains-append_right, Contains-append_cases}
 use Rattle.trees.specs.declared.ints.Ints.{Ints}
-use Rattle.trees.specs.Tree.{Tree, Leaf, One, Two, Three, Head, HEq, HFun, HNum, HPatCon}
-use Rattle.trees.specs.Binding.{inst_types}
+use Rattle.trees.specs.Tree.{Tree, Leaf, One, Two, Three, Head, HEq, HFun, HNum, HCase, HCell, HArm, HPatCon}
 use Rattle.trees.specs.Sorts.{type_of}
 use Rattle.tasks.specs.Task.{TaskTree, ConTree, SymbolTree, made, declared, symbol_or}
-use Rattle.tasks.specs.Roles.{RoleTree, role, is_constructor}
-use Rattle.tasks.specs.Typing.{members}
+use Rattle.tasks.specs.Roles.{RoleTree, Algebraic, Projection, role, is_constructor}
+use Rattle.tasks.specs.Vocabulary.{of_task}
+use Rattle.tasks.specs.Typing.{ThreeTyped, TypedUnder, bound_types}
 use Rattle.tasks.specs.Equations.{cells}
-use Rattle.tasks.specs.Inversion.{and_then, or_true, inversion}
+use Rattle.tasks.specs.Inversion.{and_then, or_true}
 use Rattle.tasks.proofs.Declared.{contains_step, contains_cases}
 use Rattle.linear_leaf.specs.Linear.{ClosesLinear}
-use Rattle.rule_rows.specs.Trees.{RuleTree, RDistinct, RLinear, RReplace, RMatchDef, RFact, RDef, RClause, RInv, RCase, RInject, RProject, RTrichotomy, RBound}
+use Rattle.linear_leaf.specs.Valuations.{Each}
+use Rattle.rule_rows.specs.Trees.{RuleTree, trees_of, RDistinct, RLinear, RReplace, RMatchDef, RFact, RDef, RClause, RInv, RCase, RInject, RProject, RTrichotomy, RBound}
 use Rattle.rule_rows.specs.Forms.{equated, match_of, applied, type_applied, equal, compared}
 use Rattle.rule_rows.specs.Patterns.{result_at, field, fields, rebuilt, projections_by, projections, parts, top, others, con_equation, one_tests, two_tests, three_tests, tests, test, one_binds, three_binds, binds, bind}
-use Rattle.rule_rows.specs.Rows.{Row, Adds, Constructors, DeclaresFour, AreDeclared, AtTypes, equal_each, unfolded, equation, clauses, constructors, projected}
-use Rattle.evidence.specs.Stages.{KeepsDeclared}
-use Rattle.evidence.proofs.Typed.{template_moved}
-
--- a rule that cites no proposition
-abbrev pub CitesNone : RuleTree → Type 0
-CitesNone (RFact k types) = ⊥
-CitesNone _ = Unit {0}
-
-some_map : {X : Type 0} (o : Option X) (P Q : X → Type 0) → ((x : X) → P x → Q x) → IsSomeAnd o P → IsSomeAnd o Q
-some_map None P Q f h = h
-some_map (Some x) P Q f h = f x h
+use Rattle.rule_rows.specs.Rows.{Row, Adds, Constructors, DeclaresFour, AreDeclared, equal_each, unfolded, constructors, projected}
+use Rattle.kernel.specs.Right.{IsGroundExpression}
+use Rattle.evidence.specs.Facts.{CitesNone}
+use Rattle.evidence.specs.Stages.{IsGrouped, KeepsDeclared}
+use Rattle.evidence.proofs.Rules.{some_map}
+use Rattle.evidence.proofs.Typed.{constructor_grouped, constructor_moved, template_moved}
 
 module _ (t u : TaskTree) (kept : KeepsDeclared u t) where
   field_same : (j : ℕ) (types s : Tree) → field t j types s ≡ field u j types s
@@ -43,40 +37,42 @@ module _ (t u : TaskTree) (kept : KeepsDeclared u t) where
       ap (λ (fs : List Tree). Three (HFun c) types (cells fs) (result_at (symbol_or t.symbols c).result types)) (fields_same js types s)
       ∙ ap (λ (z : List SymbolTree). Three (HFun c) types (cells (fields u js types s)) (result_at (symbol_or z c).result types)) kept.symbols
 
-  projections_same : (k : ℕ) → projections t k ≡ projections u k
-  projections_same k = ap projections_by (kept.roles k)
+  projections_same : (k : ℕ) → IsTrue (is_constructor (role t k)) → projections t k ≡ projections u k
+  projections_same k c = ap projections_by (sym (kept.groups k (constructor_grouped (role t k) c)))
 
-  parts_same : (h : Head) (types : Tree) (ss : List Tree) → parts t h types ss ≡ parts u h types ss
-  parts_same (HPatCon k) types ss = ap (λ (js : List ℕ). fields t js types (top ss)) (projections_same k) ∙ fields_same (projections u k) types (top ss)
-  parts_same _ types ss = refl
+  -- of a pattern that is typed in the one task
+  parts_same : (h : Head) (a b c : Tree) (ss : List Tree) → ThreeTyped (of_task t) h a b c → parts t h a ss ≡ parts u h a ss
+  parts_same (HPatCon k) a b c ss y = ap (λ (js : List ℕ). fields t js a (top ss)) (projections_same k y.0) ∙ fields_same (projections u k) a (top ss)
+  parts_same _ a b c ss y = refl
 
-  equation_same : (k : ℕ) (types s : Tree) → con_equation t k types s ≡ con_equation u k types s
-  equation_same k types s = ap (λ (x : Tree). Two HEq s x) (ap (λ (js : List ℕ). rebuilt t k js types s) (projections_same k) ∙ rebuilt_same k (projections u k) types s)
+  equation_same : (k : ℕ) (types s : Tree) → IsTrue (is_constructor (role t k)) → con_equation t k types s ≡ con_equation u k types s
+  equation_same k types s c = ap (λ (x : Tree). Two HEq s x) (ap (λ (js : List ℕ). rebuilt t k js types s) (projections_same k c) ∙ rebuilt_same k (projections u k) types s)
 
-  three_same : (h : Head) (types : Tree) (ss : List Tree) (inner behind : Option Tree) → three_tests t h types ss inner behind ≡ three_tests u h types ss inner behind
-  three_same (HPatCon k) types ss inner behind = ap (λ (x : Tree). and_then x inner) (equation_same k types (top ss))
-  three_same _ types ss inner behind = refl
+  three_same : (h : Head) (a b c : Tree) (ss : List Tree) (inner behind : Option Tree) → ThreeTyped (of_task t) h a b c → three_tests t h a ss inner behind ≡ three_tests u h a ss inner behind
+  three_same (HPatCon k) a b c ss inner behind y = ap (λ (x : Tree). and_then x inner) (equation_same k a (top ss) y.0)
+  three_same _ a b c ss inner behind y = refl
 
-  tests_same : (p : Tree) (ss : List Tree) (behind : Option Tree) → tests t p ss behind ≡ tests u p ss behind
-  tests_same (Leaf h) ss behind = refl
-  tests_same (One h p) ss behind = ap (λ (x : Option Tree). one_tests h x behind) (tests_same p ss behind)
-  tests_same (Two h p q) ss behind =
-      ap (λ (x : Option Tree). two_tests h x behind) (tests_same p (top ss ∷ []) (tests t q (others ss) behind) ∙ ap (tests u p (top ss ∷ [])) (tests_same q (others ss) behind))
-  tests_same (Three h a p c) ss behind =
-      ap (λ (x : Option Tree). three_tests t h a ss x behind) (ap (λ (x : List Tree). tests t p x behind) (parts_same h a ss) ∙ tests_same p (parts u h a ss) behind)
-      ∙ three_same h a ss (tests u p (parts u h a ss) behind) behind
+  tests_same : (types : List Tree) (p : Tree) (ss : List Tree) (behind : Option Tree) → TypedUnder (of_task t) types p → tests t p ss behind ≡ tests u p ss behind
+  tests_same types (Leaf h) ss behind y = refl
+  tests_same types (One h p) ss behind y = ap (λ (x : Option Tree). one_tests h x behind) (tests_same types p ss behind y.2)
+  tests_same types (Two h p q) ss behind y =
+      ap (λ (x : Option Tree). two_tests h x behind)
+      (tests_same types p (top ss ∷ []) (tests t q (others ss) behind) y.2 ∙ ap (tests u p (top ss ∷ [])) (tests_same (bound_types h p ++ types) q (others ss) behind y.3))
+  tests_same types (Three h a p c) ss behind y =
+      ap (λ (x : Option Tree). three_tests t h a ss x behind) (ap (λ (x : List Tree). tests t p x behind) (parts_same h a p c ss y.1) ∙ tests_same types p (parts u h a ss) behind y.3)
+      ∙ three_same h a p c ss (tests u p (parts u h a ss) behind) behind y.1
 
-  binds_same : (p : Tree) (ss : List Tree) → binds t p ss ≡ binds u p ss
-  binds_same (Leaf h) ss = refl
-  binds_same (One h p) ss = ap (λ (x : List Tree). one_binds h x ss) (binds_same p ss)
-  binds_same (Two h p q) ss = cc (binds_same p (top ss ∷ []), binds_same q (others ss))
-  binds_same (Three h a p c) ss = ap (three_binds h) (ap (binds t p) (parts_same h a ss) ∙ binds_same p (parts u h a ss))
+  binds_same : (types : List Tree) (p : Tree) (ss : List Tree) → TypedUnder (of_task t) types p → binds t p ss ≡ binds u p ss
+  binds_same types (Leaf h) ss y = refl
+  binds_same types (One h p) ss y = ap (λ (x : List Tree). one_binds h x ss) (binds_same types p ss y.2)
+  binds_same types (Two h p q) ss y = cc (binds_same types p (top ss ∷ []) y.2, binds_same (bound_types h p ++ types) q (others ss) y.3)
+  binds_same types (Three h a p c) ss y = ap (three_binds h) (ap (binds t p) (parts_same h a p c ss y.1) ∙ binds_same types p (parts u h a ss) y.3)
 
-  test_same : (p s : Tree) → test t p s ≡ test u p s
-  test_same p s = ap or_true (tests_same p (s ∷ []) None)
+  test_same : (types : List Tree) (p s : Tree) → TypedUnder (of_task t) types p → test t p s ≡ test u p s
+  test_same types p s y = ap or_true (tests_same types p (s ∷ []) None y)
 
-  role_moved : (P : RoleTree → Type 0) (k : ℕ) → P (role t k) → P (role u k)
-  role_moved P k h = subst P (kept.roles k) h
+  role_same : (k : ℕ) → IsGrouped (role t k) → role u k ≡ role t k
+  role_same k g = kept.groups k g
 
   -- a symbol that the one declares the other declares
   contains_moved : (k : ℕ) → Contains (declared t) k → Contains (declared u) k
@@ -96,46 +92,54 @@ module _ (t u : TaskTree) (kept : KeepsDeclared u t) where
 
   constructors_moved : (R : ℕ → ℕ → Type 0) (a b : Tree) (P : List Tree → List Tree → Type 0) → Constructors t R a b P → Constructors u R a b P
   constructors_moved R a b P h =
-      some_map (applied a) _ _ (λ p. some_map (applied b) _ _ (λ q x. (role_moved (λ r. IsTrue (is_constructor r)) p.0 x.0, role_moved (λ r. IsTrue (is_constructor r)) q.0 x.1, x.2, x.3))) h
+      some_map (applied a) _ _ (λ p. some_map (applied b) _ _ (λ q x. (constructor_moved t u kept p.0 x.0, constructor_moved t u kept q.0 x.1, x.2, x.3))) h
 
-  unfolded_moved : (q : List Tree) (e s p a rest : Tree) (ps : List (List Tree)) → Adds q ps ((unfolded (test t p s) (bind t p s) e s a rest ∷ []) ∷ []) → Adds q ps ((unfolded (test u p s) (bind u p s) e s a rest ∷ []) ∷ [])
-  unfolded_moved q e s p a rest ps h =
+  unfolded_moved : (q types : List Tree) (e s p a rest : Tree) (ps : List (List Tree)) → TypedUnder (of_task t) types p
+      → Adds q ps ((unfolded (test t p s) (bind t p s) e s a rest ∷ []) ∷ []) → Adds q ps ((unfolded (test u p s) (bind u p s) e s a rest ∷ []) ∷ [])
+  unfolded_moved q types e s p a rest ps y h =
       let one : unfolded (test t p s) (bind t p s) e s a rest ≡ unfolded (test u p s) (bind u p s) e s a rest =
-      ap (λ (c : Tree). unfolded c (bind t p s) e s a rest) (test_same p s) ∙ ap (λ (ts : List Tree). unfolded (test u p s) ts e s a rest) (binds_same p (s ∷ [])) in
+      ap (λ (c : Tree). unfolded c (bind t p s) e s a rest) (test_same types p s y) ∙ ap (λ (ts : List Tree). unfolded (test u p s) ts e s a rest) (binds_same types p (s ∷ []) y) in
       h ∙ ap (λ (x : Tree). (q ++ x ∷ []) ∷ []) one
+
+  -- a `match` that is typed in the one task, as it is told there and in the other
+  match_moved : (q types : List Tree) (e : Tree) (ps : List (List Tree)) → TypedUnder (of_task t) types e
+      → IsSomeAnd (match_of e) (λ p. Adds q ps ((unfolded (test t p.1 p.0) (bind t p.1 p.0) e p.0 p.2 p.3 ∷ []) ∷ []))
+      → IsSomeAnd (match_of e) (λ p. Adds q ps ((unfolded (test u p.1 p.0) (bind u p.1 p.0) e p.0 p.2 p.3 ∷ []) ∷ []))
+  match_moved q types (Two HCase s (Two HCell (Two HArm p a) rest)) ps y h = unfolded_moved q types (Two HCase s (Two HCell (Two HArm p a) rest)) s p a rest ps y.3.2.2 h
+  match_moved q types _ ps y h = absurd h
 
   cases_same : (e types : Tree) (cs : List ConTree) → map (λ (c : ConTree). equal e (rebuilt t c.symbol c.projections types e) ∷ []) cs ≡ map (λ (c : ConTree). equal e (rebuilt u c.symbol c.projections types e) ∷ []) cs
   cases_same e types [] = refl
   cases_same e types (c ∷ cs) = cc (rebuilt_same c.symbol c.projections types e, cases_same e types cs)
 
-  at_types_moved : (k : ℕ) (types : List Tree) → AtTypes t k types → AtTypes u k types
-  at_types_moved k types h = subst (λ (z : List SymbolTree). length types ≡ (symbol_or z k).vars) kept.symbols h
-
-  inversion_moved : (q : List Tree) (k : ℕ) (cs types : List Tree) (ps : List (List Tree)) → Adds q ps ((inst_types (inversion k (symbol_or t.symbols k) cs) types ∷ []) ∷ []) → Adds q ps ((inst_types (inversion k (symbol_or u.symbols k) cs) types ∷ []) ∷ [])
-  inversion_moved q k cs types ps h = subst (λ (z : List SymbolTree). Adds q ps ((inst_types (inversion k (symbol_or z k) cs) types ∷ []) ∷ [])) kept.symbols h
-
   integers_moved : (P : Ints → Type 0) → IsSomeAnd t.ints (λ z. AreDeclared t z × P z) → IsSomeAnd u.ints (λ z. AreDeclared u z × P z)
   integers_moved P h = subst (λ (o : Option Ints). IsSomeAnd o (λ z. AreDeclared u z × P z)) kept.ints (some_map t.ints _ _ (λ z x. (ints_moved z x.0, x.1)) h)
 
-  pub row_other : (s : List Tree) (r : RuleTree) (ps : List (List Tree)) → CitesNone r → Row t s r ps → Row u s r ps
-  row_other s (RFact k types) ps n h = absurd n
-  row_other s (RDistinct i) ps n h = some_map (equated (slice_get s i)) _ _ (λ e x. constructors_moved (λ c d. c ≢ d) e.0 e.1 (λ as' bs. Adds s ps []) x) h
-  row_other s (RLinear uses) ps n h = subst (λ (o : Option Ints). IsSomeAnd o (λ z. AreDeclared u z × ClosesLinear z s uses × Adds s ps [])) kept.ints (some_map t.ints _ _ (λ z x. (ints_moved z x.0, x.1, x.2)) h)
-  row_other s (RReplace i j e) ps n h = some_map (equated (slice_get s i)) _ _ (λ p x. (some_map (type_of p.0) _ _ (λ ty y. template_moved t u kept ty e y) x.0, x.1, x.2)) h
-  row_other s (RMatchDef e) ps n h = some_map (match_of e) _ _ (λ p x. unfolded_moved s e p.0 p.1 p.2 p.3 ps x) h
-  row_other s (RDef k types) ps n h = role_moved (λ r. IsSomeAnd (equation r) (λ e. AtTypes u k types × Adds s ps ((inst_types e types ∷ []) ∷ []))) k (some_map (equation (role t k)) _ _ (λ e x. (at_types_moved k types x.0, x.1)) h)
-  row_other s (RClause k c types) ps n h =
-      role_moved (λ r. IsSomeAnd (option_and_then (λ cs. slice_get cs c) (clauses r)) (λ a. AtTypes u k types × Adds s ps ((inst_types a types ∷ []) ∷ []))) k
-      (some_map (option_and_then (λ cs. slice_get cs c) (clauses (role t k))) _ _ (λ e x. (at_types_moved k types x.0, x.1)) h)
-  row_other s (RInv k types) ps n h =
-      role_moved (λ r. IsSomeAnd (clauses r) (λ cs. AtTypes u k types × Adds s ps ((inst_types (inversion k (symbol_or u.symbols k) cs) types ∷ []) ∷ []))) k
-      (some_map (clauses (role t k)) _ _ (λ cs x. (at_types_moved k types x.0, inversion_moved s k cs types ps x.1)) h)
-  row_other s (RCase e) ps n h =
-      some_map (type_applied (type_of e)) _ _
-      (λ y x. role_moved (λ r. IsSomeAnd (constructors r) (λ cs. Adds s ps (map (λ (c : ConTree). equal e (rebuilt u c.symbol c.projections y.1 e) ∷ []) cs))) y.0
-      (some_map (constructors (role t y.0)) _ _ (λ cs z. z ∙ ap (map (λ (x : List Tree). s ++ x)) (cases_same e y.1 cs)) x)) h
-  row_other s (RInject i) ps n h = some_map (equated (slice_get s i)) _ _ (λ e x. constructors_moved (λ c d. c ≡ d) e.0 e.1 (λ as' bs. Adds s ps (equal_each as' bs ∷ [])) x) h
-  row_other s (RProject e) ps n h = some_map (applied e) _ _ (λ p x. role_moved (λ r. IsSomeAnd (projected r) (λ y. IsSomeAnd (slice_get (members p.2) 0) (λ x. IsSomeAnd (applied x) (λ q. (q.0 ≡ y.0) × IsSomeAnd (slice_get (members q.2) y.1) (λ a. Adds s ps ((equal e a ∷ []) ∷ [])))))) p.0 x) h
-  row_other s (RTrichotomy a b) ps n h = (h.0, h.1, integers_moved (λ z. Adds s ps ((compared z.lt a b ∷ []) ∷ (equal a b ∷ []) ∷ (compared z.lt b a ∷ []) ∷ [])) h.2)
-  row_other s (RBound e m) ps n h = (h.0, h.1, integers_moved (λ z. Adds s ps ((compared z.le e (Leaf (HNum m)) ∷ []) ∷ (compared z.le (Leaf (HNum (m +ℤ pos 1))) e ∷ []) ∷ [])) h.2)
-  row_other s _ ps n h = h
+  cases_moved : (q : List Tree) (e : Tree) (k : ℕ) (types : Tree) (ps : List (List Tree)) (r : RoleTree) → r ≡ role t k
+      → IsSomeAnd (constructors r) (λ cs. Adds q ps (map (λ (c : ConTree). equal e (rebuilt t c.symbol c.projections types e) ∷ []) cs))
+      → IsSomeAnd (constructors (role u k)) (λ cs. Adds q ps (map (λ (c : ConTree). equal e (rebuilt u c.symbol c.projections types e) ∷ []) cs))
+  cases_moved q e k types ps (Algebraic cs) is h =
+      let same : role u k ≡ Algebraic cs = role_same k (subst IsGrouped is tt) ∙ sym is in
+      rw same (h ∙ ap (map (λ (x : List Tree). q ++ x)) (cases_same e types cs))
+  cases_moved q e k types ps _ is h = absurd h
+
+  projected_moved : (k : ℕ) (P : ℕ × ℕ → Type 0) (r : RoleTree) → r ≡ role t k → IsSomeAnd (projected r) P → IsSomeAnd (projected (role u k)) P
+  projected_moved k P (Projection c j) is h = let same : role u k ≡ Projection c j = role_same k (subst IsGrouped is tt) ∙ sym is in rw same h
+  projected_moved k P _ is h = absurd h
+
+  -- of a step that cites no fact
+  pub row_other : (s : List Tree) (r : RuleTree) (ps : List (List Tree)) → CitesNone r → Each (IsGroundExpression t) (trees_of r) → Row t s r ps → Row u s r ps
+  row_other s (RFact k types) ps n y h = absurd n
+  row_other s (RDef k types) ps n y h = absurd n
+  row_other s (RClause k c types) ps n y h = absurd n
+  row_other s (RInv k types) ps n y h = absurd n
+  row_other s (RDistinct i) ps n y h = some_map (equated (slice_get s i)) _ _ (λ e x. constructors_moved (λ c d. c ≢ d) e.0 e.1 (λ as' bs. Adds s ps []) x) h
+  row_other s (RLinear uses) ps n y h = subst (λ (o : Option Ints). IsSomeAnd o (λ z. AreDeclared u z × ClosesLinear z s uses × Adds s ps [])) kept.ints (some_map t.ints _ _ (λ z x. (ints_moved z x.0, x.1, x.2)) h)
+  row_other s (RReplace i j e) ps n y h = some_map (equated (slice_get s i)) _ _ (λ p x. (some_map (type_of p.0) _ _ (λ ty z. template_moved t u kept ty e z) x.0, x.1, x.2)) h
+  row_other s (RMatchDef e) ps n y h = match_moved s [] e ps y.0.typed h
+  row_other s (RCase e) ps n y h = some_map (type_applied (type_of e)) _ _ (λ z x. cases_moved s e z.0 z.1 ps (role t z.0) refl x) h
+  row_other s (RInject i) ps n y h = some_map (equated (slice_get s i)) _ _ (λ e x. constructors_moved (λ c d. c ≡ d) e.0 e.1 (λ as' bs. Adds s ps (equal_each as' bs ∷ [])) x) h
+  row_other s (RProject e) ps n y h = some_map (applied e) _ _ (λ p x. projected_moved p.0 _ (role t p.0) refl x) h
+  row_other s (RTrichotomy a b) ps n y h = (h.0, h.1, integers_moved (λ z. Adds s ps ((compared z.lt a b ∷ []) ∷ (equal a b ∷ []) ∷ (compared z.lt b a ∷ []) ∷ [])) h.2)
+  row_other s (RBound e m) ps n y h = (h.0, h.1, integers_moved (λ z. Adds s ps ((compared z.le e (Leaf (HNum m)) ∷ []) ∷ (compared z.le (Leaf (HNum (m +ℤ pos 1))) e ∷ []) ∷ [])) h.2)
+  row_other s _ ps n y h = h

@@ -1,10 +1,10 @@
 -- What is typed over a task is typed over another with the same symbols, which declares the same.
-use Rattle.std.proofs.Common.{ℕ, ◌==◌, List, [], ◌∷◌, All, IsTrue, inl, inr, subst}
+use Rattle.std.proofs.Common.{ℕ, ◌==◌, List, [], ◌∷◌, All, IsTrue, inl, inr, sym, subst}
 use Rattle.std.specs.List.{list_any}
 use Rattle.std.proofs.lemmas.List.Elements.{All-weaker}
 use Rattle.trees.specs.Tree.{Tree}
 use Rattle.tasks.specs.Task.{TaskTree, made, neg}
-use Rattle.tasks.specs.Roles.{RoleTree, is_constructor}
+use Rattle.tasks.specs.Roles.{RoleTree, Plain, Defined, Inductive, Algebraic, Constructor, Projection, role, is_constructor}
 use Rattle.tasks.specs.Vocabulary.{of_task}
 use Rattle.tasks.specs.Valid.{IsGroundFormula, IsTypeOver}
 use Rattle.tasks.proofs.Declared.{contains_step, contains_cases, usable_made, made_usable}
@@ -12,9 +12,21 @@ use Rattle.tasks.proofs.Moved.{IsWithin, typed_within}
 use Rattle.rule_rows.specs.Rows.{IsTemplate}
 use Rattle.linear_leaf.specs.Valuations.{Each}
 use Rattle.kernel.specs.Right.{IsGroundExpression}
-use Rattle.evidence.specs.Stages.{KeepsDeclared}
+use Rattle.evidence.specs.Stages.{IsGrouped, KeepsDeclared}
+
+pub constructor_grouped : (r : RoleTree) → IsTrue (is_constructor r) → IsGrouped r
+constructor_grouped (Constructor c) x = tt
+constructor_grouped (Inductive cs) x = tt
+constructor_grouped (Algebraic cs) x = tt
+constructor_grouped (Projection c j) x = tt
+constructor_grouped Plain x = absurd (cc)
+constructor_grouped (Defined e) x = absurd (cc)
 
 module _ (t u : TaskTree) (h : KeepsDeclared u t) where
+  -- a constructor of the one is one of the other
+  pub constructor_moved : (k : ℕ) → IsTrue (is_constructor (role t k)) → IsTrue (is_constructor (role u k))
+  constructor_moved k x = subst (λ (r : RoleTree). IsTrue (is_constructor r)) (sym (h.groups k (constructor_grouped (role t k) x))) x
+
   within : IsWithin (of_task t) (of_task u)
   within = record {
     symbols = h.symbols;
@@ -23,7 +35,7 @@ module _ (t u : TaskTree) (h : KeepsDeclared u t) where
       | inl e ↦ contains_step 0 k (made u.decls) (inl e)
       | inr i ↦ contains_step 0 k (made u.decls) (inr ((h.made k).0 i))
     ]);
-    matched = λ k x. subst (λ (r : RoleTree). IsTrue (is_constructor r)) (h.roles k) x;
+    matched = λ k x. constructor_moved k x;
   }
 
   pub formula_moved : (e : Tree) → IsGroundFormula t e → IsGroundFormula u e

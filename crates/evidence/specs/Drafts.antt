@@ -1,10 +1,13 @@
--- What a draft is, in trees, and how drafts grow.
-use Rattle.std.specs.Prelude.{◌≡◌, ℕ, ◌<◌, List, [], ◌∷◌, ◌++◌, length, refl}
+-- What a draft is, in trees, how drafts grow, and which of their steps and formulas are spoken of.
+use Rattle.std.specs.Prelude.{◌≡◌, ℕ, ◌<◌, List, [], ◌∷◌, ◌++◌, length, All, refl}
 use Rattle.std.specs.Coded.{Coded, code_by, coded×}
+use Rattle.trees.specs.declared.TermId.{TermId}
 use Rattle.trees.specs.Tree.{Tree}
-use Rattle.trees.specs.Node.{Grows}
+use Rattle.trees.specs.Node.{tree_at, Holds, Grows}
 use Rattle.trees.specs.Coding.{trees_code}
 use Rattle.tasks.specs.Task.{TaskTree}
+use Rattle.tasks.specs.Valid.{IsGroundFormula}
+use Rattle.tasks.specs.Meaning.{trees_at}
 use Rattle.rule_rows.specs.Trees.{StepTree, RCut, RKeep, step_or}
 use Rattle.rule_rows.specs.Codes.{steps_code}
 use Rattle.tasks.specs.Codes.{task_code}
@@ -36,6 +39,28 @@ pub record AddsTrees (old new : DraftTree) : Type 0 where
 pub record Refutes (d : DraftTree) (k : ℕ) (sequent : List Tree) : Type 0 where
   pub within : k < length d.steps
   pub is : (step_or d.steps k).sequent ≡ sequent
+
+-- steps of the draft, by number, refute these sequents
+abbrev pub RefuteAll : DraftTree → List ℕ → List (List Tree) → Type 0
+RefuteAll d [] [] = Unit {0}
+RefuteAll d (k ∷ ks) (q ∷ qs) = Refutes d k q × RefuteAll d ks qs
+RefuteAll d _ _ = ⊥
+
+-- the number of a formula of sequents
+pub record IsFormulaAt (d : DraftTree) (id : TermId) : Type 0 where
+  pub held : Holds d.trees id
+  pub ground : IsGroundFormula d.task (tree_at d.trees id)
+
+-- numbers of formulas of sequents
+pub record AreFormulas (d : DraftTree) (ids : List TermId) : Type 0 where
+  pub held : All (Holds d.trees) ids
+  pub ground : All (IsGroundFormula d.task) (trees_at d.trees ids)
+
+-- a step whose sequent has a last formula
+pub record HasLast (d : DraftTree) (k : ℕ) : Type 0 where
+  pub front : List Tree
+  pub last : Tree
+  pub refutes : Refutes d k (front ++ last ∷ [])
 
 abbrev pub cut_step : List Tree → Tree → ℕ → ℕ → StepTree
 cut_step s a first second = record { sequent = s; rule = RCut a; premises = first ∷ second ∷ [] }

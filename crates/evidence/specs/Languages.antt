@@ -1,10 +1,11 @@
 -- Languages, and the drafts that stay in them: of what formulas and types new steps are made.
 use Rattle.std.specs.Prelude.{◌≡◌, ℕ, Bool, List, All, IsTrue}
 use Rattle.trees.specs.Tree.{Tree}
+use Rattle.tasks.specs.declared.facts.Fact.TheVariants.{Proposition}
 use Rattle.tasks.specs.Task.{TaskTree, neg}
 use Rattle.rule_rows.specs.Trees.{RuleTree, RClash, RNotNot, RAnd, RNotAnd, RImp, RNotImp, RCut, RKeep, RFact, StepTree}
 use Rattle.evidence.specs.Drafts.{DraftTree}
-use Rattle.evidence.specs.Stages.{IsFact, fact_of}
+use Rattle.evidence.specs.Facts.{IsFact}
 
 -- a set of formulas and types, by its test
 abbrev pub Language : Type 0
@@ -41,12 +42,12 @@ StepsAreIn p steps = All (StepIsIn p) steps
 abbrev pub RespectsNegation : Language → Type 0
 RespectsNegation p = (a : Tree) → p (neg a) ≡ p a
 
--- The language has the formulas of the task, and its facts at types that are in the language. It respects negation, and
+-- The language has the formulas of the task, and its propositions at types that are in the language. It respects negation, and
 -- is closed as is asked.
 pub record IsLanguageOf (is_closed : TaskTree → Language → Type 0) (t : TaskTree) (p : Language) : Type 0 where
   pub negation : RespectsNegation p
   pub closed : is_closed t p
-  pub facts : (k : ℕ) (types : List Tree) → IsFact t t k types → AreIn p types → IsIn p (fact_of t k types)
+  pub propositions : (k : ℕ) (types : List Tree) (formula : Tree) → IsFact t t (Proposition k) types formula → AreIn p types → IsIn p formula
   pub locals : AreIn p t.locals
   pub goal : IsIn p t.goal
 

@@ -1,24 +1,39 @@
 -- What a transformation and a lifted stage promise, in trees.
-use Rattle.std.specs.Prelude.{◌≡◌, ◌↔◌, ℕ, ◌<◌, List, [], ◌∷◌, ◌++◌, length, map, get_or, None, All, Contains}
-use Rattle.trees.specs.Tree.{Tree, Leaf, One, HEnd, HNot}
-use Rattle.trees.specs.Binding.{inst_types}
+use Rattle.std.specs.Prelude.{◌≡◌, ◌↔◌, ℕ, ◌<◌, List, [], ◌∷◌, ◌++◌, length, map, get_or, None, All, Contains, Result, Ok, Err}
+use Rattle.trees.specs.Tree.{Tree, Leaf, HEnd}
 use Rattle.tasks.specs.declared.task.Task.{Task}
-use Rattle.tasks.specs.Task.{TaskTree, Proposition, made, props, neg, start}
-use Rattle.tasks.specs.Roles.{role}
-use Rattle.tasks.specs.Valid.{IsValid, IsTypeOver}
+use Rattle.tasks.specs.declared.facts.Fact.{Fact}
+use Rattle.tasks.specs.Task.{TaskTree, made, start}
+use Rattle.tasks.specs.Roles.{RoleTree, Inductive, Algebraic, Constructor, Projection, role}
+use Rattle.tasks.specs.Valid.{IsValid}
 use Rattle.tasks.specs.Meaning.{task_at, TaskHeld}
 use Rattle.rule_rows.specs.declared.rule.Step.{Step}
 use Rattle.rule_rows.specs.Trees.{StepTree, step_or}
 use Rattle.kernel.specs.Right.{Closes}
 use Rattle.rule_rows.specs.Meaning.{steps_at, StepsHeld}
 use Rattle.evidence.specs.Drafts.{DraftTree, Refutes}
+use Rattle.evidence.specs.Facts.{IsFact}
 use Rattle.evidence.specs.declared.stage.StageFault.{StageFault}
-use Rattle.evidence.specs.declared.stage.StageFault.TheVariants.{Memory}
+use Rattle.evidence.specs.declared.stage.StageFault.TheVariants as fault
 
--- want of memory, or a fault for which the equation refuses the task
-abbrev pub IsStageFault : (StageFault → Type 0) → StageFault → Type 0
-IsStageFault refuses Memory = Unit {0}
-IsStageFault refuses fault = refuses fault
+-- why an equation gives no tasks
+pub data Refusal : Type 0 where
+  Misplaced : (decl : ℕ) → Refusal
+  TooLarge : Refusal
+
+-- what a task becomes, or why it becomes nothing
+abbrev pub Equation : Type 0
+Equation = TaskTree → Result (List TaskTree) Refusal
+
+-- the equation gives these tasks
+abbrev pub Gives : Equation → TaskTree → List TaskTree → Type 0
+Gives equation t ts = equation t ≡ Ok ts
+
+-- want of memory, or what the equation says
+abbrev pub IsStageFault : Result (List TaskTree) Refusal → StageFault → Type 0
+IsStageFault said fault.Memory = Unit {0}
+IsStageFault said (fault.Misplaced decl) = said ≡ Err (Misplaced decl)
+IsStageFault said fault.TooLarge = said ≡ Err TooLarge
 
 abbrev pub no_task : TaskTree
 no_task = record { symbols = []; ints = None; rigid = []; decls = []; params = []; locals = []; goal = Leaf HEnd }
@@ -26,29 +41,27 @@ no_task = record { symbols = []; ints = None; rigid = []; decls = []; params = [
 abbrev pub task_or : List TaskTree → ℕ → TaskTree
 task_or ts i = get_or ts i no_task
 
-abbrev pub no_proposition : Proposition
-no_proposition = record { vars = 0; formula = Leaf HEnd }
+-- an algebraic or inductive group makes it
+abbrev pub IsGrouped : RoleTree → Type 0
+IsGrouped (Inductive clauses) = Unit {0}
+IsGrouped (Algebraic cons) = Unit {0}
+IsGrouped (Constructor con) = Unit {0}
+IsGrouped (Projection con field) = Unit {0}
+IsGrouped _ = ⊥
 
-abbrev pub prop_or : List Proposition → ℕ → Proposition
-prop_or ps k = get_or ps k no_proposition
-
--- a proposition of a task, at types
-abbrev pub fact_of : TaskTree → ℕ → List Tree → Tree
-fact_of t k types = inst_types (prop_or (props t) k).formula types
-
--- a proposition of one task, at ground types of the other, as many as it has type variables
-pub record IsFact (from t : TaskTree) (k : ℕ) (types : List Tree) : Type 0 where
-  pub place : k < length (props t)
-  pub as_many : length types ≡ (prop_or (props t) k).vars
-  pub ground : All (IsTypeOver from 0) types
-
--- the task has the symbols of the other, declares the same ones, each as the same
+-- The task has the symbols of the other and declares the same ones; what an algebraic or inductive group of it makes, the other's
+-- makes as the same.
 pub record KeepsDeclared (from t : TaskTree) : Type 0 where
   pub symbols : t.symbols ≡ from.symbols
   pub ints : t.ints ≡ from.ints
   pub rigid : t.rigid ≡ from.rigid
   pub made : (k : ℕ) → Contains (made t.decls) k ↔ Contains (made from.decls) k
-  pub roles : (k : ℕ) → role t k ≡ role from k
+  pub groups : (k : ℕ) → IsGrouped (role t k) → role from k ≡ role t k
+
+-- what is declared stays, and so does validity
+pub record Keeps (from t : TaskTree) : Type 0 where
+  pub declared : KeepsDeclared from t
+  pub valid : IsValid t
 
 -- a task is one of those of an equation
 pub record IsAmong (is_stage : List TaskTree → Type 0) (t : TaskTree) : Type 0 where
@@ -88,16 +101,16 @@ pub record IsOwn (d : DraftTree) (from : Task) : Type 0 where
   pub valid : IsValid d.task
 
 -- a task, and one that it becomes, in a draft of the first
-pub record InStage (becomes : TaskTree → List TaskTree → Type 0) (d : DraftTree) (from to : Task) : Type 0 where
+pub record InStage (equation : Equation) (d : DraftTree) (from to : Task) : Type 0 where
   pub own : IsOwn d from
   pub held : TaskHeld d.trees to
-  pub among : IsAmong (becomes d.task) (task_at d.trees to)
+  pub among : IsAmong (Gives equation d.task) (task_at d.trees to)
 
--- a formula on which there is evidence that it holds, and a step that takes it
-pub record IsCutBy (d : DraftTree) (s : List Tree) (with_fact lemma : ℕ) : Type 0 where
-  pub fact : Tree
-  pub taken : Refutes d with_fact (s ++ fact ∷ [])
-  pub proved : Refutes d lemma (neg fact ∷ [])
+-- a step of a task cites a fact at types, and a step of the draft refutes its sequent with the fact behind
+pub record Cites (d : DraftTree) (t : TaskTree) (sequent : List Tree) (name : Fact) (types : List Tree) (premise : ℕ) : Type 0 where
+  pub formula : Tree
+  pub fact : IsFact d.task t name types formula
+  pub taken : Refutes d premise (sequent ++ formula ∷ [])
 
 abbrev pub parts_at : List Tree → List (List Step) → List (List StepTree)
 parts_at s parts = map (steps_at s) parts
@@ -112,7 +125,3 @@ part_or parts i = get_or parts i []
 pub record PartsClose (tasks : List TaskTree) (parts : List (List StepTree)) : Type 0 where
   pub as_many : length parts ≡ length tasks
   pub each : (i : ℕ) → i < length tasks → Closes (task_or tasks i) (part_or parts i)
-
-abbrev pub IsNegation : Tree → Type 0
-IsNegation (One HNot a) = Unit {0}
-IsNegation _ = ⊥

@@ -131,7 +131,8 @@ impl Draft {
         ensures pushed { IfOk result (λ _. self.new
             ≡ record self.old {
               steps = self.old.steps ++ cut_step
-                  (trees_at self.old.trees sequent.now) (tree_at self.old.trees formula) yes no ∷ [];
+                  (trees_at self.old.trees sequent.now) (tree_at self.old.trees formula) yes no
+                  ∷ [];
             }) }
         ensures unchanged { OnErr result (self.new ≡ self.old) }
         ensures refutes { IfOk result (λ k. Refutes self.new k

@@ -2,10 +2,15 @@
 //! and a whole stage brought back. It stands on the kernel; each transformation stands on it.
 #![tactic(auto)]
 
+mod by;
 mod draft;
 mod lift;
 mod stage;
 
+pub use by::{
+    by_clash, by_cut, by_fact, by_failing, by_holding, by_rule, fact_lemma, finish, joined,
+    keep_but, last_formula, negation,
+};
 pub use draft::Draft;
 pub use lift::lift_stage;
 pub use stage::{StageFault, Transform};

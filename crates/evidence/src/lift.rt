@@ -1,24 +1,24 @@
 // A stage brought back: from derivations of the tasks that a task became, a derivation of the task.
 // It stands on drafts and on the laws of a transformation; `lift` of the program stands on it.
-ghost use Rattle.std.specs.Prelude.{◌≡◌, ◌<◌, [], ◌∷◌, length, map, get_or, All, IfOk};
+ghost use Rattle.std.specs.Prelude.{◌≡◌, ◌<◌, ◌++◌, List, [], ◌∷◌, length, map, get_or, All, IfOk, IfSome, IfNone};
+ghost use Rattle.trees.specs.Tree.{Tree};
 ghost use Rattle.trees.specs.Node.{tree_at, Holds};
 ghost use Rattle.tasks.specs.Task.{neg, start};
-ghost use Rattle.tasks.specs.Valid.{IsGroundFormula};
 ghost use Rattle.tasks.specs.Meaning.{trees_at, task_at, tasks_at, TasksHeld};
-ghost use Rattle.rule_rows.specs.Trees.{step_or};
 ghost use Rattle.kernel.specs.Right.{IsRight, AreRight, Closes};
-ghost use Rattle.rule_rows.specs.Meaning.{step_at, steps_at, StepHeld, StepsHeld};
-ghost use Rattle.evidence.specs.Drafts.{Extends, Refutes};
-ghost use Rattle.evidence.specs.Stages.{IsNegation, IsOwn, InStage, StandFor, HasSequents, IsCutBy, parts_at, PartsHeld, PartsClose};
-ghost use Rattle.evidence.specs.Languages.{AreIn, StepIsIn, StepsAreIn, RespectsNegation, IsLanguageOf, StaysIn};
+ghost use Rattle.rule_rows.specs.Meaning.{rule_at, RuleHeld, step_at, steps_at, StepHeld, StepsHeld};
+ghost use Rattle.evidence.specs.Drafts.{Extends, Refutes, IsFormulaAt, AreFormulas};
+ghost use Rattle.evidence.specs.Facts.{citing, CitesNone};
+ghost use Rattle.evidence.specs.Stages.{Gives, IsOwn, InStage, StandFor, HasSequents, Cites, parts_at, PartsHeld, PartsClose};
+ghost use Rattle.evidence.specs.Languages.{IsIn, AreIn, RuleIsIn, StepIsIn, StepsAreIn, RespectsNegation, IsLanguageOf, StaysIn};
 
+use crate::by::{by_cut, keep_but, last_formula, negation};
 use crate::{Draft, Transform};
 use outside::Seq;
 use rule_rows::{Rule, Step};
 use std::alloc::{AllocError, Global};
-use tasks::Task;
-use term_store::Grow;
-use trees::{Node, TermId};
+use tasks::{Fact, Task};
+use trees::TermId;
 
 // A copy of a rule.
 fn copy_of(rule: &Rule) -> Result<Rule, AllocError>
@@ -103,53 +103,75 @@ fn lift_other(step: &Step, premises: Seq<usize>, draft: &mut Draft) -> Result<us
     })
 }
 
-// A step that cites a fact: a cut on the fact, whose second premise keeps its negation alone.
-fn lift_fact(
+// What a rule cites: a fact by its name, and the types.
+fn cited(rule: &Rule) -> Option<(Fact, &[TermId])>
+    ensures some { (s : List Tree) → IfSome result (λ p. rule_at s rule.now
+        ≡ citing p.0 (trees_at s p.1.now)) }
+    ensures none { (s : List Tree) → IfNone result (CitesNone (rule_at s rule.now)) }
+    ensures held { (s : List Tree) → RuleHeld s rule.now
+        → IfSome result (λ p. All (Holds s) p.1.now) }
+{
+    match rule {
+        Rule::Fact(k, types) => Some((Fact::Proposition(*k), types.as_slice())),
+        Rule::Def(k, types) => Some((Fact::Equation(*k), types.as_slice())),
+        Rule::Clause(k, c, types) => Some((Fact::Clause(*k, *c), types.as_slice())),
+        Rule::Inv(k, types) => Some((Fact::Inversion(*k), types.as_slice())),
+        _ => None,
+    }
+}
+
+// A step by a fact that is proved: a cut on the fact, whose second premise keeps its negation alone.
+fn cut_on(
+    draft: &mut Draft,
     sequent: &[TermId],
+    formula: TermId,
     with_fact: usize,
     lemma: usize,
-    draft: &mut Draft,
 ) -> Result<usize, AllocError>
-    requires held { All (Holds draft.old.trees) sequent.now }
-    requires formulas { All (IsGroundFormula draft.old.task)
-        (trees_at draft.old.trees sequent.now) }
-    requires cut { IsCutBy draft.old (trees_at draft.old.trees sequent.now) with_fact lemma }
+    requires sequent { AreFormulas draft.old sequent.now }
+    requires formula { IsFormulaAt draft.old formula }
+    requires taken { Refutes draft.old with_fact
+        (trees_at draft.old.trees sequent.now ++ tree_at draft.old.trees formula ∷ []) }
+    requires proved { Refutes draft.old lemma (neg (tree_at draft.old.trees formula) ∷ []) }
     ensures refutes { IfOk result (λ k. Refutes draft.new k
         (trees_at draft.old.trees sequent.now)) }
     ensures language { StaysIn (λ p. RespectsNegation p
-        × AreIn p (trees_at draft.old.trees sequent.now)) draft.old draft.new }
+        × AreIn p (trees_at draft.old.trees sequent.now)
+        × IsIn p (tree_at draft.old.trees formula)) draft.old draft.new }
     ensures grows { Extends draft.old draft.new }
 {
-    let negation = only_formula(draft, lemma);
-    let fact = negated(draft, negation);
-    let mut wide = Vec::from_slice(draft.allocator(), sequent)?;
-    wide.push(negation)?;
-    let without = draft.keep(&wide, &[sequent.len()], lemma)?;
-    draft.cut(sequent, fact, with_fact, without)
+    let no_fact = negation(draft, formula)?;
+    let without = keep_but(draft, &[], sequent, &[no_fact], lemma)?;
+    by_cut(draft, sequent, &[], formula, with_fact, without)
 }
 
-// The formula of a step that has one.
-fn only_formula(draft: &Draft, number: usize) -> TermId
-    requires within { number < length draft.now.steps }
-    requires one { length (step_or draft.now.steps number).sequent ≡ 1 }
-    ensures held { Holds draft.now.trees result }
-    ensures tree { (step_or draft.now.steps number).sequent ≡ tree_at draft.now.trees result ∷ [] }
-    ensures formula { IsGroundFormula draft.now.task (tree_at draft.now.trees result) }
+// A step that cites a fact of a task, in a draft of the task that it was made from.
+fn lift_cited<T: Transform>(
+    stage: &T,
+    from: &Task,
+    to: &Task,
+    sequent: &[TermId],
+    name: Fact,
+    types: &[TermId],
+    with_fact: usize,
+    draft: &mut Draft,
+) -> Result<usize, AllocError>
+    requires stage { InStage (T.equation stage.now) draft.old from.now to.now }
+    requires lifts { T.lifts stage.now draft.old.task }
+    requires sequent { AreFormulas draft.old sequent.now }
+    requires types_held { All (Holds draft.old.trees) types.now }
+    requires cites { Cites draft.old (task_at draft.old.trees to.now)
+        (trees_at draft.old.trees sequent.now) name (trees_at draft.old.trees types.now) with_fact }
+    ensures refutes { IfOk result (λ k. Refutes draft.new k
+        (trees_at draft.old.trees sequent.now)) }
+    ensures language { StaysIn (λ p. IsLanguageOf (T.closed stage.now) draft.old.task p
+        × AreIn p (trees_at draft.old.trees sequent.now)
+        × RuleIsIn p (citing name (trees_at draft.old.trees types.now))) draft.old draft.new }
+    ensures grows { Extends draft.old draft.new }
 {
-    draft.steps()[number].sequent.as_slice()[0]
-}
-
-// What a negation negates.
-fn negated(draft: &Draft, id: TermId) -> TermId
-    requires held { Holds draft.now.trees id }
-    requires negation { IsNegation (tree_at draft.now.trees id) }
-    ensures held { Holds draft.now.trees result }
-    ensures tree { tree_at draft.now.trees id ≡ neg (tree_at draft.now.trees result) }
-{
-    match draft.store().node(id) {
-        Node::Not(a) => a,
-        _ => unreachable!(),
-    }
+    let formula = last_formula(draft, with_fact);
+    let lemma = stage.fact(from, to, name, types, formula, draft)?;
+    cut_on(draft, sequent, formula, with_fact, lemma)
 }
 
 // A step of a task, in a draft of the task that it was made from.
@@ -162,11 +184,11 @@ fn lift_step<T: Transform>(
     step: &Step,
     draft: &mut Draft,
 ) -> Result<usize, AllocError>
-    requires stage { InStage (T.becomes stage.now) draft.old from.now to.now }
+    requires stage { InStage (T.equation stage.now) draft.old from.now to.now }
     requires lifts { T.lifts stage.now draft.old.task }
     requires held { StepHeld draft.old.trees step.now }
-    requires right { IsRight (task_at draft.old.trees to.now) (steps_at draft.old.trees before.now)
-        (step_at draft.old.trees step.now) }
+    requires right { IsRight (task_at draft.old.trees to.now)
+        (steps_at draft.old.trees before.now) (step_at draft.old.trees step.now) }
     requires numbers { StandFor draft.old numbers.now (steps_at draft.old.trees before.now) }
     ensures refutes { IfOk result (λ k. Refutes draft.new k
         (trees_at draft.old.trees step.now.sequent)) }
@@ -175,17 +197,13 @@ fn lift_step<T: Transform>(
     ensures grows { Extends draft.old draft.new }
 {
     let premises = renumbered(draft.allocator(), numbers, step.premises.as_slice())?;
-    match &step.rule {
-        Rule::Fact(k, types) => {
-            let lemma = stage.fact(from, to, *k, types.as_slice(), draft)?;
-            lift_fact(
-                step.sequent.as_slice(),
-                premises.as_slice()[0],
-                lemma,
-                draft,
-            )
+    match cited(&step.rule) {
+        Some((name, types)) => {
+            let sequent = step.sequent.as_slice();
+            let with_fact = premises.as_slice()[0];
+            lift_cited(stage, from, to, sequent, name, types, with_fact, draft)
         }
-        _ => lift_other(step, premises, draft),
+        None => lift_other(step, premises, draft),
     }
 }
 
@@ -197,7 +215,7 @@ fn lift_part<T: Transform>(
     part: &[Step],
     draft: &mut Draft,
 ) -> Result<Vec<usize>, AllocError>
-    requires stage { InStage (T.becomes stage.now) draft.old from.now to.now }
+    requires stage { InStage (T.equation stage.now) draft.old from.now to.now }
     requires lifts { T.lifts stage.now draft.old.task }
     requires held { StepsHeld draft.old.trees part.now }
     requires right { AreRight (task_at draft.old.trees to.now) (steps_at draft.old.trees part.now) }
@@ -223,7 +241,7 @@ fn lift_end<T: Transform>(
     part: &[Step],
     draft: &mut Draft,
 ) -> Result<usize, AllocError>
-    requires stage { InStage (T.becomes stage.now) draft.old from.now to.now }
+    requires stage { InStage (T.equation stage.now) draft.old from.now to.now }
     requires lifts { T.lifts stage.now draft.old.task }
     requires held { StepsHeld draft.old.trees part.now }
     requires closes { Closes (task_at draft.old.trees to.now) (steps_at draft.old.trees part.now) }
@@ -253,7 +271,8 @@ pub fn lift_stage<T: Transform>(
     requires own { IsOwn draft.old from.now }
     requires lifts { T.lifts stage.now draft.old.task }
     requires to_held { TasksHeld draft.old.trees to.now.items }
-    requires becomes { T.becomes stage.now draft.old.task (tasks_at draft.old.trees to.now.items) }
+    requires gives { Gives (T.equation stage.now) draft.old.task
+        (tasks_at draft.old.trees to.now.items) }
     requires parts_held { PartsHeld draft.old.trees parts.now }
     requires close { PartsClose (tasks_at draft.old.trees to.now.items)
         (parts_at draft.old.trees parts.now) }

@@ -1,18 +1,19 @@
 // Transformations, and the laws by which refutations of what they make are brought back.
 // They stand on drafts; each transformation's crate gives them once, and `lift_stage` is proved from them alone.
 ghost use Rattle.std.specs.Prelude.{◌≡◌, List, [], ◌∷◌, All, IfOk, IfErr, ⊤};
-ghost use Rattle.trees.specs.Node.{Holds, Grows};
+ghost use Rattle.trees.specs.Node.{tree_at, Holds, Grows};
 ghost use Rattle.tasks.specs.Task.{TaskTree, neg, start};
 ghost use Rattle.tasks.specs.Valid.{IsValid};
 ghost use Rattle.tasks.specs.Meaning.{trees_at, task_at, tasks_at, TaskHeld, TasksHeld};
-ghost use Rattle.evidence.specs.Drafts.{Extends, Refutes};
+ghost use Rattle.evidence.specs.Drafts.{Extends, Refutes, IsFormulaAt};
+ghost use Rattle.evidence.specs.Facts.{citing, IsFact};
 ghost use Rattle.evidence.specs.declared.stage.StageFault.{StageFault};
-ghost use Rattle.evidence.specs.Stages.{IsStageFault, fact_of, IsFact, KeepsDeclared, IsOwn, InStage, EndIn};
-ghost use Rattle.evidence.specs.Languages.{Language, AreIn, IsLanguageOf, StaysIn};
+ghost use Rattle.evidence.specs.Stages.{Equation, Gives, IsStageFault, Keeps, IsOwn, InStage, EndIn};
+ghost use Rattle.evidence.specs.Languages.{Language, IsIn, RuleIsIn, IsLanguageOf, StaysIn};
 
 use crate::Draft;
 use std::alloc::{AllocError, Global};
-use tasks::Task;
+use tasks::{Fact, Task};
 use term_store::Store;
 use trees::TermId;
 
@@ -36,11 +37,8 @@ impl From<AllocError> for StageFault {
 
 /// A transformation of tasks, with what brings refutations of its tasks back.
 pub trait Transform {
-    /// The equation: which tasks a task becomes.
-    ghost becomes: { Self → TaskTree → List TaskTree → Type 0 };
-
-    /// Why a task becomes no tasks: by default it always does.
-    ghost refuses: { Self → TaskTree → StageFault → Type 0 } = { λ _ _ _. ⊥ };
+    /// Which tasks a task becomes, or why it becomes none.
+    ghost equation: { Self → Equation };
 
     /// The tasks for which it brings refutations back.
     ghost lifts: { Self → TaskTree → Type 0 } = { λ _ _. ⊤ };
@@ -49,37 +47,40 @@ pub trait Transform {
     /// the task has the formulas of the steps that `fact` and `glue` put in, where it has those of the earlier steps.
     ghost closed: { Self → TaskTree → Language → Type 0 };
 
-    /// The tasks of the equation.
+    /// What the equation says: its tasks, or a fault for which it gives none. Want of memory apart, it says nothing else.
     fn apply(&self, alloc: Global, store: &mut Store, task: &Task) -> Result<Vec<Task>, StageFault>
         requires held { TaskHeld store.old task.now }
         requires valid { IsValid (task_at store.old task.now) }
         ensures held { IfOk result (λ ts. TasksHeld store.new ts.items) }
-        ensures tasks { IfOk result (λ ts. becomes self.now (task_at store.old task.now)
+        ensures tasks { IfOk result (λ ts. Gives (equation self.now) (task_at store.old task.now)
             (tasks_at store.new ts.items)) }
-        ensures fault { IfErr result (IsStageFault
-            (refuses self.now (task_at store.old task.now))) }
+        ensures fault { IfErr result
+            (IsStageFault (equation self.now (task_at store.old task.now))) }
         ensures grows { Grows store.old store.new };
 
-    /// A step whose sequent is the negation of a fact of `to` at these types, alone: the proposition `prop` of a task
-    /// that the draft's task becomes.
+    /// A step whose sequent is the negation of a fact of `to` at these types, alone: a proposition, the equation of a
+    /// definition, a clause or an inversion formula, by its name, of a task that the draft's task becomes. `formula` is
+    /// the fact at the types, as the step that cites it has it.
     fn fact(
         &self,
         from: &Task,
         to: &Task,
-        prop: usize,
+        name: Fact,
         types: &[TermId],
+        formula: TermId,
         draft: &mut Draft,
     ) -> Result<usize, AllocError>
-        requires stage { InStage (becomes self.now) draft.old from.now to.now }
+        requires stage { InStage (equation self.now) draft.old from.now to.now }
         requires lifts { lifts self.now draft.old.task }
         requires types_held { All (Holds draft.old.trees) types.now }
-        requires fact { IsFact draft.old.task (task_at draft.old.trees to.now) prop
-            (trees_at draft.old.trees types.now) }
+        requires formula { IsFormulaAt draft.old formula }
+        requires fact { IsFact draft.old.task (task_at draft.old.trees to.now) name
+            (trees_at draft.old.trees types.now) (tree_at draft.old.trees formula) }
         ensures refutes { IfOk result (λ k. Refutes draft.new k
-            (neg (fact_of (task_at draft.old.trees to.now) prop
-            (trees_at draft.old.trees types.now)) ∷ [])) }
+            (neg (tree_at draft.old.trees formula) ∷ [])) }
         ensures language { StaysIn (λ p. IsLanguageOf (closed self.now) draft.old.task p
-            × AreIn p (trees_at draft.old.trees types.now)) draft.old draft.new }
+            × RuleIsIn p (citing name (trees_at draft.old.trees types.now))
+            × IsIn p (tree_at draft.old.trees formula)) draft.old draft.new }
         ensures grows { Extends draft.old draft.new };
 
     /// From steps whose sequents are the starts of `to`, the tasks that the draft's task becomes, a step whose sequent is
@@ -94,13 +95,15 @@ pub trait Transform {
         requires own { IsOwn draft.old from.now }
         requires lifts { lifts self.now draft.old.task }
         requires to_held { TasksHeld draft.old.trees to.now.items }
-        requires becomes { becomes self.now draft.old.task (tasks_at draft.old.trees to.now.items) }
+        requires gives { Gives (equation self.now) draft.old.task
+            (tasks_at draft.old.trees to.now.items) }
         requires ends { EndIn draft.old ends.now (tasks_at draft.old.trees to.now.items) }
         ensures refutes { IfOk result (λ k. Refutes draft.new k (start draft.old.task)) }
         ensures language { StaysIn (IsLanguageOf (closed self.now) draft.old.task) draft.old
             draft.new }
         ensures grows { Extends draft.old draft.new };
 
-    /// The tasks have the symbols of the old one, and declare the same.
-    ghost keeps_declared: { (x : Self) (from : TaskTree) (ts : List TaskTree) → becomes x from ts → All (KeepsDeclared from) ts };
+    /// The tasks of a valid task have its symbols, declare the same, and are valid; their algebraic and inductive groups
+    /// are its own.
+    ghost keeps: { (x : Self) (t : TaskTree) (ts : List TaskTree) → IsValid t → Gives (equation x) t ts → All (Keeps t) ts };
 }

@@ -2,10 +2,12 @@
 -- refutations of its parts are.
 use Rattle.std.proofs.Common.{◌≡◌, ℕ, ◌<◌, List, [], ◌∷◌, length, get_or, slice_get, All, refl, sym, ap, subst, ◌∙◌, arith}
 use Rattle.std.proofs.lemmas.List.{length-map, get_or-map}
+use Rattle.std.proofs.lemmas.Option.{slice_get_within, get_or_from_slice_get}
 use Rattle.std.proofs.lemmas.List.Elements.{All-cons, All-nil, All-append, All-from_get_or}
 use Rattle.trees.specs.declared.Op.TheVariants.{And, Imp}
 use Rattle.trees.specs.Tree.{Tree, Leaf, One, Two, Three, HEnd, HNot, HPred, HJoin}
 use Rattle.trees.specs.Binding.{inst_types}
+use Rattle.tasks.specs.declared.facts.Fact.TheVariants as fact
 use Rattle.tasks.specs.Task.{TaskTree, Proposition, props}
 use Rattle.tasks.specs.Copying.{with_goal}
 use Rattle.tasks.specs.Valid.{IsValid, IsGroundFormula}
@@ -16,8 +18,10 @@ use Rattle.linear_leaf.specs.Valuations.{Each}
 use Rattle.kernel.specs.Right.{IsGroundExpression, IsRight, AreRight}
 use Rattle.problems.specs.Names.{task_names}
 use Rattle.evidence.specs.Drafts.{DraftTree}
-use Rattle.evidence.specs.Stages.{IsFact, fact_of, prop_or, no_proposition, KeepsDeclared, task_or, no_task, part_or}
+use Rattle.evidence.specs.Facts.{IsFact}
+use Rattle.evidence.specs.Stages.{KeepsDeclared, task_or, no_task, part_or}
 use Rattle.evidence.specs.Languages.{Language, AreIn, RuleIsIn, StepIsIn, StepsAreIn, IsLanguageOf, StaysIn}
+use Rattle.evidence.proofs.Lifted.{some_of}
 use Rattle.evidence.proofs.Typed.{formula_moved}
 use Rattle.tr_split.specs.Split.{split, split_task}
 use Rattle.tr_split.specs.Glue.{HasSides}
@@ -68,7 +72,7 @@ rule_word t s (RKeep places) ps f p w = tt
 rule_word t s _ ps f p w = absurd p
 
 part_keeps : (t : TaskTree) (g : Tree) → KeepsDeclared t (with_goal t g)
-part_keeps t g = record { symbols = refl; ints = refl; rigid = refl; made = λ k. (λ x. x, λ x. x); roles = λ k. refl }
+part_keeps t g = record { symbols = refl; ints = refl; rigid = refl; made = λ k. (λ x. x, λ x. x); groups = λ k g. refl }
 
 module _ (t : TaskTree) (v : IsValid t) (f : IsInFragment t) where
   formula_in : (e : Tree) → IsPropositional e → IsGroundFormula t e → IsWritable (task_names t) e
@@ -80,16 +84,21 @@ module _ (t : TaskTree) (v : IsValid t) (f : IsInFragment t) where
     implication = λ a b h. both (writable_by t a) (writable_by t b) h;
   }
 
-  fact_in : (k : ℕ) (types : List Tree) → IsFact t t k types → IsWritable (task_names t) (fact_of t k types)
-  fact_in k types g =
-      formula_in (fact_of t k types) (propositional_at_types types (prop_or (props t) k).formula (f.formulas.props k no_proposition g.place).1)
-      (proposition_at_types t v k no_proposition g.place types g.ground g.as_many)
+  fact_in : (k : ℕ) (types : List Tree) (formula : Tree) → IsFact t t (fact.Proposition k) types formula → IsWritable (task_names t) formula
+  fact_in k types formula g =
+      let q = some_of (slice_get (props t) k) _ g.said in
+      let within : k < length (props t) = slice_get_within (props t) k q.0 q.1.0 in
+      let e : get_or (props t) k q.0 ≡ q.0 = get_or_from_slice_get (props t) k q.0 q.0 q.1.0 in
+      let vars : length types ≡ (get_or (props t) k q.0).vars = q.1.1.0 ∙ ap (λ (z : Proposition). z.vars) (sym e) in
+      let is : formula ≡ inst_types (get_or (props t) k q.0).formula types = q.1.1.1 ∙ ap (λ (z : Proposition). inst_types z.formula types) (sym e) in
+      subst (IsWritable (task_names t)) (sym is)
+      (formula_in _ (propositional_at_types types (get_or (props t) k q.0).formula (f.formulas.props k q.0 within).1) (proposition_at_types t v k q.0 within types g.ground vars))
 
   language : IsLanguageOf (λ _ p. HasSides p) t (writable_by t)
   language = record {
     negation = λ a. refl;
     closed = sides;
-    facts = λ k types g a. fact_in k types g;
+    propositions = λ k types formula g a. fact_in k types formula g;
     locals = λ i d l. writable t v f [] (get_or t.locals i d) (f.formulas.locals i d l) (v.locals i d l).typed;
     goal = writable t v f [] t.goal f.formulas.goal v.goal.typed;
   }

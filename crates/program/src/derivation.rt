@@ -1,64 +1,28 @@
 // The derivation of a task that refutations of its parts are lifted to, and its text.
 // It stands on the stage that is lifted and on the writer of steps; `lift` stands on it.
-ghost use Rattle.std.specs.Prelude.{◌≡◌, ◌<◌, ◌-◌, ◌+◌, [], length, IfOk, ⊤};
-ghost use Rattle.tasks.specs.Task.{start};
+ghost use Rattle.std.specs.Prelude.{◌≡◌, [], length, IfOk};
 ghost use Rattle.tasks.specs.Meaning.{task_at, tasks_at, TaskHeld, TasksHeld};
 ghost use Rattle.tasks.specs.Valid.{IsValid};
 ghost use Rattle.kernel.specs.Right.{last_starts};
-ghost use Rattle.evidence.specs.Drafts.{Extends, Refutes};
+ghost use Rattle.evidence.specs.Drafts.{Extends};
 ghost use Rattle.evidence.specs.Stages.{parts_at, PartsHeld};
-ghost use Rattle.evidence.specs.Languages.{StepsAreIn, StaysIn};
+ghost use Rattle.evidence.specs.Languages.{StepsAreIn};
 ghost use Rattle.problems.specs.Names.{task_names};
 ghost use Rattle.steps_text.specs.Writing.{is_writable};
 ghost use Rattle.tr_split.specs.Split.{split_task};
-ghost use Rattle.tr_split.specs.Glue.{counted};
 ghost use Rattle.program.specs.Lifted.{IsLifted, HasSequents, AreRefuted};
 ghost use Rattle.program.specs.Fragment.{IsInFragment};
 
-use evidence::{Draft, lift_stage};
+use evidence::{Draft, finish, lift_stage};
 use outside::Seq;
 use problems::task_names;
-use rule_rows::{Rule, Step};
+use rule_rows::Step;
 use std::alloc::{AllocError, Global};
 use std::rc::Rc;
 use steps_text::write_steps;
 use tasks::Task;
 use term_store::Store;
 use tr_split::Split;
-
-// The numbers from 0 on, so many.
-fn first_numbers(alloc: Global, count: usize) -> Result<Vec<usize>, AllocError>
-    ensures { IfOk result (λ v. v.items ≡ counted 0 count) }
-{
-    let mut numbers = Vec::new(alloc);
-    for k in 0..count {
-        numbers.push(k)?;
-    }
-    Ok(numbers)
-}
-
-// Puts a step with the sequent of this one at the end, if it isn't the last.
-fn end_with(draft: &mut Draft, number: usize) -> Result<(), AllocError>
-    requires start { Refutes draft.old number (start draft.old.task) }
-    ensures starts { IfOk result (λ _. last_starts draft.new.task draft.new.steps) }
-    ensures language { StaysIn (λ _. ⊤) draft.old draft.new }
-    ensures grows { Extends draft.old draft.new }
-{
-    let alloc = draft.allocator();
-    let steps = draft.steps();
-    if number + 1 == steps.len() {
-        return Ok(());
-    }
-    let sequent = steps[number].sequent.clone()?;
-    let places = Seq::from_vec(first_numbers(alloc, sequent.len())?);
-    let premises = Seq::from_vec(vec![in alloc; number]?);
-    draft.push(Step {
-        sequent,
-        rule: Rule::Keep(places),
-        premises,
-    })?;
-    Ok(())
-}
 
 // Makes an empty draft of the task one that ends in its start and has the sequents of the handed steps.
 fn lifted_draft(
@@ -84,7 +48,7 @@ fn lifted_draft(
     ensures grows { Extends draft.old draft.new }
 {
     let number = lift_stage(&Split, task, parts, handed, draft)?;
-    end_with(draft, number)
+    finish(draft, number)
 }
 
 /// The text of a derivation of a task, from refutations of the parts of its goal.

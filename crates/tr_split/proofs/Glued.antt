@@ -1,22 +1,24 @@
 -- What a valid task and the ends of its parts give.
-use Rattle.std.proofs.Common.{◌≡◌, ℕ, ◌<◌, List, [], ◌∷◌, ◌++◌, length, map, get_or, slice_get, Some, None, All, refl, sym, ap, subst, ◌∙◌, arith}
+use Rattle.std.specs.Prelude.{IsSomeAnd, Ok, refl}
+use Rattle.std.proofs.Common.{Option, ◌≡◌, ℕ, ◌<◌, List, [], ◌∷◌, ◌++◌, length, map, get_or, All, sym, ap, subst, ◌∙◌, arith}
 use Rattle.std.proofs.lemmas.List.{get_or-map, length-map}
-use Rattle.std.proofs.lemmas.Option.{get_or_from_slice_get, slice_get-get_or}
 use Rattle.std.proofs.lemmas.List.Elements.{All-weaker, All-map}
 use Rattle.trees.specs.Tree.{Tree, Leaf, HEnd}
 use Rattle.trees.specs.Node.{tree_at}
-use Rattle.trees.specs.Binding.{inst_types}
-use Rattle.tasks.specs.Meaning.{proposition_at}
-use Rattle.tasks.specs.declared.proposition.Proposition.{Proposition as StoredProposition}
 use Rattle.tasks.specs.declared.task.Task.{Task}
-use Rattle.tasks.specs.Task.{TaskTree, Proposition, props, neg, start}
+use Rattle.tasks.specs.declared.facts.Fact.{Fact}
+use Rattle.tasks.specs.declared.facts.Fact.TheVariants as fact
+use Rattle.trees.specs.Binding.{inst_types}
+use Rattle.tasks.specs.Task.{TaskTree, Proposition, neg, start}
 use Rattle.tasks.specs.Valid.{IsFormula, IsGroundFormula}
 use Rattle.tasks.specs.Meaning.{trees_at}
 use Rattle.tasks.specs.Copying.{with_goal}
-use Rattle.evidence.specs.Drafts.{DraftTree, Refutes}
-use Rattle.evidence.specs.Stages.{IsOwn, EndIn, IsAmong, IsFact, fact_of, prop_or, no_task, start_of, no_proposition}
+use Rattle.evidence.specs.Drafts.{DraftTree, Refutes, AreFormulas, IsFormulaAt}
+use Rattle.evidence.specs.Facts.{fact_named, IsFact}
+use Rattle.tr_split.specs.Kept.{parts_of}
+use Rattle.evidence.specs.Stages.{Gives, IsAmong, IsOwn, EndIn, no_task, start_of}
 use Rattle.tr_split.specs.Split.{split, split_task}
-use Rattle.tr_split.specs.Glue.{AreFormulas, IsFormulaAt, Ends}
+use Rattle.tr_split.specs.Glue.{Ends}
 
 ground_of : (t : TaskTree) (e : Tree) → IsFormula t t.params 0 e → IsGroundFormula t e
 ground_of t e f = record { sort = f.sort; typed = f.typed; ground = f.variables }
@@ -48,29 +50,19 @@ own_ends d from ends tasks o e u =
     let g : d.task.goal ≡ tree_at d.trees from.goal = sym (ap (λ (t : TaskTree). t.goal) o.is) in
     subst (λ (z : Tree). Ends d ends (trees_at d.trees from.locals) (split z)) g (subst (λ (z : List Tree). Ends d ends z (split d.task.goal)) l (task_ends d ends tasks e u))
 
-pub props_kept : (from t : TaskTree) → IsAmong (λ ts. ts ≡ split_task from) t → props t ≡ props from
-props_kept from t a =
-    let P : TaskTree → Type 0 = λ z. props z ≡ props from in
-    let all : All P a.tasks = subst (All P) (sym a.is) (All-map P (with_goal from) (split from.goal) (λ k z h. refl)) in
-    subst P a.there (all a.place no_task a.within)
+named_kept : (t : TaskTree) (e : Tree) (name : Fact) → fact_named (with_goal t e) name ≡ fact_named t name
+named_kept t e (fact.Proposition k) = refl
+named_kept t e (fact.Equation k) = refl
+named_kept t e (fact.Clause k c) = refl
+named_kept t e (fact.Inversion k) = refl
 
-pub fact_kept : (from t : TaskTree) (k : ℕ) (types : List Tree) → IsAmong (λ ts. ts ≡ split_task from) t → fact_of t k types ≡ fact_of from k types
-fact_kept from t k types a = ap (λ (z : List Proposition). inst_types (prop_or z k).formula types) (props_kept from t a)
-
-pub own_fact : (d : DraftTree) (t : TaskTree) (k : ℕ) (types : List Tree) → IsAmong (λ ts. ts ≡ split_task d.task) t → IsFact d.task t k types → IsFact d.task d.task k types
-own_fact d t k types a f =
-    let e : props t ≡ props d.task = props_kept d.task t a in
-    record {
-      place = subst (λ (z : List Proposition). k < length z) e f.place;
-      as_many = f.as_many ∙ ap (λ (z : List Proposition). (prop_or z k).vars) e;
+-- a fact of a task of the split is one of the old task
+pub fact_kept : (from t : TaskTree) (name : Fact) (types : List Tree) (formula : Tree) → IsAmong (Gives (λ z. Ok (split_task z)) from) t → IsFact from t name types formula → IsFact from from name types formula
+fact_kept from t name types formula a =
+    let P : TaskTree → Type 0 = λ z. IsFact from z name types formula → IsFact from from name types formula in
+    let said : (e : Tree) → P (with_goal from e) = λ e f. record {
+      said = subst (λ (o : Option Proposition). IsSomeAnd o (λ p. (length types ≡ p.vars) × (formula ≡ inst_types p.formula types))) (named_kept from e name) f.said;
       ground = f.ground;
-    }
-
--- the number of a proposition's formula
-pub formula_at : (d : DraftTree) (t : TaskTree) (k : ℕ) (p : StoredProposition) → IsAmong (λ ts. ts ≡ split_task d.task) t → Some (proposition_at d.trees p) ≡ slice_get (props t) k → (prop_or (props d.task) k).formula ≡ tree_at d.trees p.formula
-formula_at d t k p a e =
-    let g : prop_or (props t) k ≡ proposition_at d.trees p = get_or_from_slice_get (props t) k (proposition_at d.trees p) no_proposition (sym e) in
-    ap (λ (z : List Proposition). (prop_or z k).formula) (sym (props_kept d.task t a)) ∙ ap (λ (z : Proposition). z.formula) g
-
-pub none_within : (ps : List Proposition) (k : ℕ) → k < length ps → slice_get ps k ≡ None → ⊥
-none_within ps k l e = let s : slice_get ps k ≡ Some (get_or ps k no_proposition) = slice_get-get_or ps k no_proposition l in absurd (cc (s, e))
+    } in
+    let all : All P a.tasks = subst (All P) (sym (parts_of from a.tasks a.is)) (All-map P (with_goal from) (split from.goal) (λ k z h. said _)) in
+    subst P a.there (all a.place no_task a.within)

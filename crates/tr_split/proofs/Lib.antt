@@ -3,5 +3,4 @@ pub mod Gained
 pub mod Tasks
 pub mod Pieces
 pub mod Glued
-pub mod Facts
 pub mod Sides

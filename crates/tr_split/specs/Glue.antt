@@ -1,13 +1,12 @@
 -- How refutations of the parts of a goal give one of the goal.
-use Rattle.std.specs.Prelude.{◌≡◌, ℕ, ◌+◌, zero, suc, List, [], ◌∷◌, ◌++◌, length, get_or, All}
+use Rattle.std.specs.Prelude.{◌≡◌, ℕ, ◌+◌, List, [], ◌∷◌, ◌++◌, length, get_or}
 use Rattle.trees.specs.declared.Op.TheVariants.{And, AndThen, Imp, Iff}
 use Rattle.trees.specs.declared.TermId.{TermId}
-use Rattle.trees.specs.Tree.{Tree, Leaf, Two, Three, HEnd, HTrue, HJoin, HForall, HLet, HIf}
-use Rattle.trees.specs.Node.{tree_at, Holds}
+use Rattle.trees.specs.Tree.{Tree, Leaf, One, Two, Three, HEnd, HNot, HTrue, HJoin, HForall, HLet, HIf}
+use Rattle.trees.specs.Node.{tree_at}
 use Rattle.tasks.specs.Task.{neg}
-use Rattle.tasks.specs.Valid.{IsGroundFormula}
 use Rattle.tasks.specs.Meaning.{trees_at}
-use Rattle.evidence.specs.Drafts.{DraftTree, Refutes}
+use Rattle.evidence.specs.Drafts.{DraftTree, Refutes, IsFormulaAt}
 use Rattle.evidence.specs.Stages.{HaveSequents}
 use Rattle.evidence.specs.Languages.{Language, IsIn, AreIn, RespectsNegation}
 use Rattle.tr_split.specs.declared.glue.Under.{Under}
@@ -33,16 +32,6 @@ end_of front parts i = front ++ neg (get_or parts i (Leaf HEnd)) ∷ []
 abbrev pub Ends : DraftTree → List ℕ → List Tree → List Tree → Type 0
 Ends d ends front parts = HaveSequents d ends (end_of front parts) (length parts)
 
--- numbers of formulas of sequents
-pub record AreFormulas (d : DraftTree) (ids : List TermId) : Type 0 where
-  pub held : All (Holds d.trees) ids
-  pub ground : All (IsGroundFormula d.task) (trees_at d.trees ids)
-
--- so many numbers from this one on
-abbrev pub counted : ℕ → ℕ → List ℕ
-counted from zero = []
-counted from (suc n) = from ∷ counted (from + 1) n
-
 abbrev pub conj : Tree → Tree → Tree
 conj a b = Two (HJoin And) a b
 
@@ -57,11 +46,6 @@ pub record HasFormulas (d : DraftTree) (fs ts : List TermId) (p : Language) : Ty
   pub sides : HasSides p
   pub front : AreIn p (trees_at d.trees fs)
   pub tail : AreIn p (trees_at d.trees ts)
-
--- the number of a formula of sequents
-pub record IsFormulaAt (d : DraftTree) (id : TermId) : Type 0 where
-  pub held : Holds d.trees id
-  pub ground : IsGroundFormula d.task (tree_at d.trees id)
 
 -- the numbers of a hypothesis, a part, the implication of the two, and their negations
 pub record IsUnder (d : DraftTree) (u : Under) : Type 0 where
@@ -90,17 +74,15 @@ pub record IsImplied (no_whole hypothesis no_part : Tree) : Type 0 where
   pub whole : no_whole ≡ neg (imp hypothesis part)
   pub negated : no_part ≡ neg part
 
--- a step whose sequent has a last formula
-pub record HasLast (d : DraftTree) (k : ℕ) : Type 0 where
-  pub front : List Tree
-  pub last : Tree
-  pub refutes : Refutes d k (front ++ last ∷ [])
-
 -- a step whose last formula is the negation of an implication from the hypothesis
 pub record EndsUnder (d : DraftTree) (k : ℕ) (hypothesis : Tree) : Type 0 where
   pub front : List Tree
   pub part : Tree
   pub refutes : Refutes d k (front ++ neg (imp hypothesis part) ∷ [])
+
+abbrev pub IsNegation : Tree → Type 0
+IsNegation (One HNot a) = Unit {0}
+IsNegation _ = ⊥
 
 abbrev pub IsImplication : Tree → Type 0
 IsImplication (Two (HJoin Imp) a b) = Unit {0}

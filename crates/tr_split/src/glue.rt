@@ -1,20 +1,20 @@
 // From steps that refute the parts of a formula, a step that refutes the formula.
-// They stand on the derived steps; the transformation stands on them.
+// They stand on the steps by rules of evidence; the transformation stands on them.
 ghost use Rattle.std.specs.Prelude.{◌≡◌, ◌+◌, List, [], ◌∷◌, ◌++◌, length, min, map, IfOk};
 ghost use Rattle.trees.specs.Tree.{Tree, Two, HJoin};
 ghost use Rattle.trees.specs.Node.{tree_at, Holds};
 ghost use Rattle.tasks.specs.Task.{neg};
 ghost use Rattle.tasks.specs.Meaning.{trees_at};
-ghost use Rattle.evidence.specs.Drafts.{Extends, AddsTrees, Refutes};
-ghost use Rattle.evidence.specs.Stages.{IsNegation};
+ghost use Rattle.evidence.specs.Drafts.{Extends, AddsTrees, Refutes, IsFormulaAt, AreFormulas};
 ghost use Rattle.evidence.specs.Languages.{StaysIn};
 ghost use Rattle.tr_split.specs.Parts.{Joins};
 ghost use Rattle.tr_split.specs.Split.{imp, split};
-ghost use Rattle.tr_split.specs.Glue.{AreFormulas, IsFormulaAt, HasFormulas, Glues, Ends, IsUnder, AreSides, IsImplied, HasLast, EndsUnder, IsImplication, PartUnder, conj};
+ghost use Rattle.tr_split.specs.Glue.{HasFormulas, Glues, Ends, IsUnder, AreSides, IsImplied};
+ghost use Rattle.tr_split.specs.Glue.{EndsUnder, IsNegation, IsImplication, PartUnder, conj};
 
-use crate::derive::{derive, joined, keep_but};
-use evidence::Draft;
-use rule_rows::Rule;
+use evidence::{
+    Draft, by_clash, by_cut, by_failing, by_holding, joined, keep_but, last_formula, negation,
+};
 use std::alloc::AllocError;
 use term_store::{Grow, Store};
 use trees::{Node, Op, TermId};
@@ -41,39 +41,28 @@ fn imp_closes(draft: &mut Draft, front: &[TermId], u: &Under) -> Result<usize, A
         draft.new }
     ensures grows { Extends draft.old draft.new }
 {
-    let n = front.len();
-    let first = derive(
+    let first = by_clash(
         draft,
         front,
         &[u.hypothesis, u.no_part, u.whole, u.no_hypothesis],
-        Rule::Clash(n, n + 3),
-        &[],
+        0,
+        3,
     )?;
-    let second = derive(
+    let second = by_clash(
         draft,
         front,
         &[u.hypothesis, u.no_part, u.whole, u.part],
-        Rule::Clash(n + 3, n + 1),
-        &[],
+        3,
+        1,
     )?;
-    derive(
+    by_holding(
         draft,
         front,
         &[u.hypothesis, u.no_part, u.whole],
-        Rule::Imp(n + 2),
+        Op::Imp,
+        2,
         &[first, second],
     )
-}
-
-// The negation of a formula.
-pub(crate) fn negation(draft: &mut Draft, formula: TermId) -> Result<TermId, AllocError>
-    requires { IsFormulaAt draft.old formula }
-    ensures formula { IfOk result (IsFormulaAt draft.new) }
-    ensures tree { IfOk result (λ id. tree_at draft.new.trees id
-        ≡ neg (tree_at draft.old.trees formula)) }
-    ensures grows { AddsTrees draft.old draft.new }
-{
-    draft.add(Node::Not(formula))
 }
 
 // From a step that refutes the implication, one that refutes the part under the hypothesis.
@@ -91,13 +80,7 @@ fn end_cut(draft: &mut Draft, front: &[TermId], u: &Under, end: usize) -> Result
 {
     let closed = imp_closes(draft, front, u)?;
     let kept = keep_but(draft, front, &[u.hypothesis, u.no_part], &[u.no_whole], end)?;
-    derive(
-        draft,
-        front,
-        &[u.hypothesis, u.no_part],
-        Rule::Cut(u.whole),
-        &[closed, kept],
-    )
+    by_cut(draft, front, &[u.hypothesis, u.no_part], u.whole, closed, kept)
 }
 
 // From steps that refute the two sides of a conjunction, one that refutes the conjunction.
@@ -128,13 +111,7 @@ fn and_step(
 {
     let first = keep_but(draft, front, &[no_whole], &[no_left], left)?;
     let second = keep_but(draft, front, &[no_whole], &[no_right], right)?;
-    derive(
-        draft,
-        front,
-        &[no_whole],
-        Rule::NotAnd(front.len()),
-        &[first, second],
-    )
+    by_failing(draft, front, &[no_whole], Op::And, 0, &[first, second])
 }
 
 // From a step that refutes the part under the hypothesis, one that refutes the implication.
@@ -162,13 +139,7 @@ fn imp_step(
     ensures grows { Extends draft.old draft.new }
 {
     let kept = keep_but(draft, front, &[no_whole], &[hypothesis, no_part], step)?;
-    derive(
-        draft,
-        front,
-        &[no_whole],
-        Rule::NotImp(front.len()),
-        &[kept],
-    )
+    by_failing(draft, front, &[no_whole], Op::Imp, 0, &[kept])
 }
 
 // The number of the parts of a formula, or the greatest number.
@@ -197,17 +168,6 @@ fn joined_count(op: Op, left: usize, right: usize) -> usize
         Op::Iff => 2,
         Op::Or | Op::OrElse => 1,
     }
-}
-
-// The last formula of a step.
-fn last_formula(draft: &Draft, step: usize) -> TermId
-    requires { HasLast draft.now step }
-    ensures formula { IsFormulaAt draft.now result }
-    ensures is { (front : List Tree) (last : Tree) → Refutes draft.now step (front ++ last ∷ [])
-        → tree_at draft.now.trees result ≡ last }
-{
-    let sequent = draft.steps()[step].sequent.as_slice();
-    sequent[sequent.len() - 1]
 }
 
 // What a negation negates.

@@ -2,8 +2,6 @@
 //! It stands on the transformations of evidence; the program splits with it.
 #![tactic(auto)]
 
-mod derive;
-mod fact;
 mod glue;
 mod parts;
 mod split;

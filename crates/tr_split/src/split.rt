@@ -1,21 +1,20 @@
 // The transformation: a task for each part of the goal.
-// It stands on the parts, the facts and the gluing; the program stands on it.
-ghost use Rattle.std.specs.Prelude.{◌≡◌, map, All, IfOk};
+// It stands on the parts and the gluing; the program stands on it.
+ghost use Rattle.std.specs.Prelude.{◌≡◌, map, All, Ok, IfOk};
 ghost use Rattle.trees.specs.Node.{Holds, Grows};
 ghost use Rattle.tasks.specs.Copying.{with_goal};
 ghost use Rattle.tasks.specs.Meaning.{trees_at, task_at, tasks_at, TaskHeld, TasksHeld};
 ghost use Rattle.tasks.specs.Valid.{IsValid};
 ghost use Rattle.tr_split.specs.Glue.{Glues, HasSides};
-ghost use Rattle.tr_split.specs.Kept.{keeps_declared};
+ghost use Rattle.tr_split.specs.Kept.{keeps};
 ghost use Rattle.tr_split.specs.Split.{split_task};
 
-use crate::fact::base_lemma;
 use crate::glue::glue_formula;
 use crate::parts::add_parts;
-use evidence::{Draft, StageFault, Transform};
+use evidence::{Draft, StageFault, Transform, fact_lemma};
 use std::alloc::{AllocError, Global};
-use tasks::{Task, nth_proposition};
-use term_store::{Grow, Store};
+use tasks::{Fact, Task};
+use term_store::Store;
 use trees::TermId;
 
 /// The transformation that takes a goal apart. Its steps are made of sides of conjunctions and implications, and of
@@ -24,7 +23,7 @@ use trees::TermId;
 pub struct Split;
 
 impl Transform for Split {
-    ghost becomes = { λ _ from ts. ts ≡ split_task from };
+    ghost equation = { λ _ from. Ok (split_task from) };
 
     ghost lifts = { λ _ from. Glues from.goal };
 
@@ -47,15 +46,14 @@ impl Transform for Split {
         &self,
         from: &Task,
         to: &Task,
-        prop: usize,
+        name: Fact,
         types: &[TermId],
+        formula: TermId,
         draft: &mut Draft,
     ) -> Result<usize, AllocError> {
         let _ = from;
-        match nth_proposition(draft.store(), to, prop) {
-            Some(said) => base_lemma(draft, said.formula, prop, types),
-            None => unreachable!(),
-        }
+        let _ = to;
+        fact_lemma(draft, name, types, formula)
     }
 
     fn glue(
@@ -69,7 +67,7 @@ impl Transform for Split {
         glue_formula(draft, from.locals.as_slice(), from.goal, ends)
     }
 
-    ghost keeps_declared = { λ _ from ts h. keeps_declared from ts h };
+    ghost keeps = { λ _ t ts valid gives. keeps t ts valid gives };
 }
 
 /// A task for each part of the goal, in order: `split_goal_right` of the Why3 manual, by cases on the formula.

@@ -9,7 +9,7 @@ use Rattle.evidence.proofs.Staying.{stays_then, language_later}
 use Rattle.evidence.proofs.lift.lift_part.Goals as goal
 
 pub lift_step-requires-clause-stage : goal.lift_step-requires-clause-stage
-lift_step-requires-clause-stage g c = in_stage_later (g.T.Transform.becomes c.args.stage.now) c.args.draft.now c.loop-j.draft c.args.from.now c.args.to.now c.loop-j.invariant.grows c.requires.stage
+lift_step-requires-clause-stage g c = in_stage_later (g.T.Transform.equation c.args.stage.now) c.args.draft.now c.loop-j.draft c.args.from.now c.args.to.now c.loop-j.invariant.grows c.requires.stage
 
 pub lift_step-requires-clause-lifts : goal.lift_step-requires-clause-lifts
 lift_step-requires-clause-lifts g c = lifts_later (g.T.Transform.lifts c.args.stage.now) c.args.draft.now c.loop-j.draft c.loop-j.invariant.grows c.requires.lifts

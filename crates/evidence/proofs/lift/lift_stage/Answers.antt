@@ -8,7 +8,7 @@ use Rattle.tasks.specs.Meaning.{task_at, tasks_at}
 use Rattle.rule_rows.specs.Trees.{StepTree}
 use Rattle.rule_rows.specs.Meaning.{steps_at}
 use Rattle.evidence.specs.Drafts.{Refutes}
-use Rattle.evidence.specs.Stages.{HasSequents, start_of, parts_at, part_or}
+use Rattle.evidence.specs.Stages.{Gives, HasSequents, start_of, parts_at, part_or}
 use Rattle.evidence.specs.Laws.{Extends_trans}
 use Rattle.evidence.proofs.Lifted.{in_stage_later, in_stage_of, own_later, lifts_later, closes_later, start_later, part_later, part_held_later, part_in, have_more, sequents_more, tasks_later, tasks_held_later, end_all, has_later}
 use Rattle.evidence.proofs.Staying.{stays_then, language_later}
@@ -16,13 +16,13 @@ use Rattle.evidence.proofs.lift.lift_stage.Goals as goal
 
 pub lift_end-requires-clause-stage : goal.lift_end-requires-clause-stage
 lift_end-requires-clause-stage g c =
-    let P = g.T.Transform.becomes c.args.stage.now in
+    let P = g.T.Transform.equation c.args.stage.now in
     let d = c.args.draft.now in
     let to = c.args.to.now.items in
     let i = c.loop-i.i in
     let l : i < length to = omega (arith, c.args.to.now.ok.0) in
     in_stage_later P d c.loop-i.draft c.args.from.now c.index.result.now c.loop-i.invariant.grows
-    (in_stage_of P d c.args.from.now to i c.index.result.now c.requires.own c.requires.to_held c.requires.becomes l c.index.ensures)
+    (in_stage_of P d c.args.from.now to i c.index.result.now c.requires.own c.requires.to_held c.requires.gives l c.index.ensures)
 
 pub lift_end-requires-clause-lifts : goal.lift_end-requires-clause-lifts
 lift_end-requires-clause-lifts g c = lifts_later (g.T.Transform.lifts c.args.stage.now) c.args.draft.now c.loop-i.draft c.loop-i.invariant.grows c.requires.lifts
@@ -88,14 +88,14 @@ glue-requires-clause-lifts g c = lifts_later (g.T.Transform.lifts c.args.stage.n
 pub glue-requires-clause-to_held : goal.glue-requires-clause-to_held
 glue-requires-clause-to_held g c = tasks_held_later c.args.draft.now c.loop-i.draft c.loop-i.invariant.grows c.args.to.now.items c.requires.to_held
 
-pub glue-requires-clause-becomes : goal.glue-requires-clause-becomes
-glue-requires-clause-becomes g c =
+pub glue-requires-clause-gives : goal.glue-requires-clause-gives
+glue-requires-clause-gives g c =
     let x = c.loop-i.invariant.grows in
     let d = c.args.draft.now in
     let d1 = c.loop-i.draft in
-    let P = g.T.Transform.becomes c.args.stage.now in
-    subst (λ (z : TaskTree). P z (tasks_at d1.trees c.args.to.now.items)) (sym x.task)
-    (subst (λ (z : List TaskTree). P d.task z) (sym (tasks_later d d1 x c.args.to.now.items c.requires.to_held)) c.requires.becomes)
+    let q = g.T.Transform.equation c.args.stage.now in
+    subst (λ (z : TaskTree). Gives q z (tasks_at d1.trees c.args.to.now.items)) (sym x.task)
+    (subst (λ (z : List TaskTree). Gives q d.task z) (sym (tasks_later d d1 x c.args.to.now.items c.requires.to_held)) c.requires.gives)
 
 pub glue-requires-clause-ends : goal.glue-requires-clause-ends
 glue-requires-clause-ends g c =

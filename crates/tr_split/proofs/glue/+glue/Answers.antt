@@ -15,14 +15,15 @@ use Rattle.tr_split.specs.Split.{imp, split}
 use Rattle.tr_split.specs.Glue.{Glues, Ends}
 use Rattle.tr_split.proofs.Sentences.{joins}
 use Rattle.tr_split.proofs.Gained.{split_later}
-use Rattle.tr_split.proofs.Pieces.{same, sides_of, formulas_later, formula_later, ends_later, ends_left, ends_right, count_is, neg_moved, neg_back, ends_of_imp, wider_formulas, wider_is}
+use Rattle.tr_split.proofs.Pieces.{sides_of, ends_later, ends_left, ends_right, count_is, neg_moved, neg_back, ends_of_imp, wider_formulas, wider_is}
 use Rattle.trees.specs.declared.TermId.{TermId}
-use Rattle.evidence.specs.Drafts.{DraftTree, Extends, AddsTrees}
+use Rattle.evidence.specs.Drafts.{DraftTree, Extends, AddsTrees, AreFormulas, IsFormulaAt}
 use Rattle.evidence.specs.Languages.{Language, StaysIn}
-use Rattle.evidence.proofs.Staying.{stays_same, stays_by, stays_then}
-use Rattle.tr_split.specs.Glue.{AreFormulas, IsFormulaAt, HasFormulas}
-use Rattle.tr_split.proofs.Pieces.{Sides, one_formula}
-use Rattle.tr_split.proofs.Sides.{in_later, has_later, has_one, conj_in, imp_in, joined_in, one_in}
+use Rattle.evidence.proofs.Staying.{stays_same, stays_by, stays_then, in_later, joined_in, one_in}
+use Rattle.tr_split.specs.Glue.{HasFormulas}
+use Rattle.tr_split.proofs.Pieces.{Sides}
+use Rattle.tr_split.proofs.Sides.{has_later, has_one, conj_in, imp_in}
+use Rattle.evidence.proofs.Formulas.{same, formulas_later, formula_later, one_formula}
 use Rattle.tr_split.proofs.glue.+glue.Goals as goal
 
 pub glue_and-glue_formula-requires : goal.glue_and-glue_formula-requires

@@ -3,9 +3,10 @@ use Rattle.std.proofs.lemmas.Result.{IfOk-weaker}
 use Rattle.trees.specs.Node.{tree_at}
 use Rattle.tasks.specs.Task.{neg}
 use Rattle.evidence.specs.Laws.{Extends_trans, AddsTrees_trans, AddsTrees_extends}
-use Rattle.tr_split.proofs.Pieces.{formulas_later, end_later, end_back}
-use Rattle.evidence.proofs.Staying.{stays_same, stays_then}
-use Rattle.tr_split.proofs.Sides.{in_later, three_in, negation_in, first_in, conj_in}
+use Rattle.tr_split.proofs.Pieces.{end_later, end_back}
+use Rattle.evidence.proofs.Staying.{stays_same, stays_then, in_later, three_in, negation_in, first_in}
+use Rattle.tr_split.proofs.Sides.{conj_in}
+use Rattle.evidence.proofs.Formulas.{formulas_later}
 use Rattle.tr_split.proofs.glue.and_from.Goals as goal
 
 pub returns-in_err-no_a-clause-grows : goal.returns-in_err-no_a-clause-grows

@@ -8,10 +8,10 @@ use Rattle.tasks.specs.Meaning.{trees_at}
 use Rattle.evidence.specs.Drafts.{Refutes}
 use Rattle.evidence.specs.Laws.{Extends_trans, AddsTrees_extends}
 use Rattle.tr_split.specs.Split.{imp}
-use Rattle.tr_split.proofs.Pieces.{formulas_later, end_later, under_back}
+use Rattle.tr_split.proofs.Pieces.{end_later, under_back}
 use Rattle.evidence.specs.Languages.{IsIn}
-use Rattle.evidence.proofs.Staying.{stays_same, stays_then}
-use Rattle.tr_split.proofs.Sides.{in_later, one_in, last_in, negated_in}
+use Rattle.evidence.proofs.Staying.{stays_same, stays_then, in_later, one_in, last_in, negated_in}
+use Rattle.evidence.proofs.Formulas.{formulas_later}
 use Rattle.tr_split.proofs.glue.end_under.Goals as goal
 
 pub end_cut-requires-clause-front : goal.end_cut-requires-clause-front

@@ -7,9 +7,10 @@ use Rattle.evidence.specs.Laws.{Extends_trans}
 use Rattle.evidence.proofs.Lifted.{have_more}
 use Rattle.tr_split.specs.Split.{split}
 use Rattle.tr_split.specs.Glue.{end_of}
-use Rattle.tr_split.proofs.Pieces.{one_formula, formulas_later, formula_later, part_under, part_done, ends_all}
+use Rattle.tr_split.proofs.Pieces.{part_under, part_done, ends_all}
 use Rattle.evidence.proofs.Staying.{stays_then}
 use Rattle.tr_split.proofs.Sides.{has_later}
+use Rattle.evidence.proofs.Formulas.{one_formula, formulas_later, formula_later}
 use Rattle.tr_split.proofs.glue.ends_under.Goals as goal
 
 pub end_under-requires-clause-front : goal.end_under-requires-clause-front

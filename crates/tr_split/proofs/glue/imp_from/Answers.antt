@@ -3,10 +3,11 @@ use Rattle.std.proofs.lemmas.Result.{IfOk-weaker}
 use Rattle.trees.specs.Node.{tree_at}
 use Rattle.tasks.specs.Task.{neg}
 use Rattle.evidence.specs.Laws.{Extends_trans, AddsTrees_trans, AddsTrees_extends}
-use Rattle.tr_split.proofs.Pieces.{formulas_later, under_later, end_back}
+use Rattle.tr_split.proofs.Pieces.{under_later, end_back}
 use Rattle.evidence.specs.Languages.{IsIn}
-use Rattle.evidence.proofs.Staying.{stays_same, stays_then}
-use Rattle.tr_split.proofs.Sides.{in_later, three_in, negation_in, first_in, imp_in}
+use Rattle.evidence.proofs.Staying.{stays_same, stays_then, in_later, three_in, negation_in, first_in}
+use Rattle.tr_split.proofs.Sides.{imp_in}
+use Rattle.evidence.proofs.Formulas.{formulas_later}
 use Rattle.tr_split.proofs.glue.imp_from.Goals as goal
 
 pub returns-in_err-no_b-clause-grows : goal.returns-in_err-no_b-clause-grows

@@ -10,7 +10,8 @@ use Rattle.tasks.specs.Task.{neg}
 use Rattle.tasks.proofs.Growth.{all_held_later}
 use Rattle.tr_split.specs.Parts.{IsSentence}
 use Rattle.tr_split.specs.Split.{split}
-use Rattle.tr_split.proofs.Sentences.{sentence_later, let_sentence, then_sentence, else_sentence, wraps_imp, wraps_forall, wraps_let}
+use Rattle.tr_split.proofs.Sentences.{sentence_later}
+use Rattle.tr_split.specs.Kept.{let_sentence, then_sentence, else_sentence, wraps_imp, wraps_forall, wraps_let}
 use Rattle.tr_split.proofs.Gained.{gains_then, gains_grown, gains_under, split_later, imp_later}
 use Rattle.tr_split.proofs.parts.+parts.Goals as goal
 

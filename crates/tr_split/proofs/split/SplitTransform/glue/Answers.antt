@@ -1,17 +1,17 @@
-use Rattle.std.proofs.Common.{◌++◌, ◌∷◌, [], List, sym, ap, subst}
+use Rattle.std.proofs.Common.{◌≡◌, ◌++◌, ◌∷◌, [], List, sym, ap, subst}
 use Rattle.std.proofs.lemmas.Result.{IfOk-weaker}
 use Rattle.trees.specs.declared.TermId.{TermId}
 use Rattle.trees.specs.Tree.{Tree}
 use Rattle.trees.specs.Node.{tree_at}
 use Rattle.tasks.specs.Task.{TaskTree, neg, start}
 use Rattle.tasks.specs.Meaning.{trees_at, tasks_at}
-use Rattle.evidence.specs.Drafts.{Refutes}
-use Rattle.tr_split.specs.Split.{split}
-use Rattle.tr_split.specs.Glue.{AreFormulas, Glues, Ends}
+use Rattle.evidence.specs.Drafts.{Refutes, AreFormulas}
+use Rattle.tr_split.specs.Split.{split, split_task}
+use Rattle.tr_split.specs.Glue.{Glues, Ends}
+use Rattle.tr_split.specs.Kept.{parts_of}
 use Rattle.tr_split.proofs.Glued.{own_locals, own_goal, own_ends}
 use Rattle.evidence.specs.Languages.{IsIn, AreIn}
-use Rattle.evidence.proofs.Staying.{stays_by}
-use Rattle.tr_split.proofs.Sides.{one_in}
+use Rattle.evidence.proofs.Staying.{stays_by, one_in}
 use Rattle.tr_split.proofs.split.SplitTransform.glue.Goals as goal
 
 pub glue_formula-requires-clause-front : goal.glue_formula-requires-clause-front
@@ -27,7 +27,8 @@ pub glue_formula-requires-clause-ends : goal.glue_formula-requires-clause-ends
 glue_formula-requires-clause-ends c =
     let d = c.args.draft.now in
     let from = c.args.from.now in
-    let e = own_ends d from c.args.ends.now (tasks_at d.trees c.args.to.now.items) c.requires.own c.requires.becomes c.requires.ends in
+    let is : tasks_at d.trees c.args.to.now.items ≡ split_task d.task = parts_of d.task (tasks_at d.trees c.args.to.now.items) c.requires.gives in
+    let e = own_ends d from c.args.ends.now (tasks_at d.trees c.args.to.now.items) c.requires.own is c.requires.ends in
     subst (λ (z : List TermId). Ends d c.args.ends.now (trees_at d.trees z) (split (tree_at d.trees from.goal))) (sym c.as_slice.ensures) e
 
 pub returns-clause-refutes : goal.returns-clause-refutes

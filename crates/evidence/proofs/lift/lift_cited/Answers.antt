@@ -1,0 +1,79 @@
+use Rattle.std.proofs.Common.{◌≡◌, ◌∙◌, ◌∷◌, [], List, sym, subst}
+use Rattle.std.proofs.lemmas.Result.{IfOk-weaker}
+use Rattle.trees.specs.Tree.{Tree}
+use Rattle.trees.specs.Node.{tree_at}
+use Rattle.tasks.specs.Task.{neg}
+use Rattle.tasks.specs.Meaning.{trees_at, task_at}
+use Rattle.evidence.specs.Drafts.{Refutes}
+use Rattle.evidence.specs.Facts.{citing, IsFact}
+use Rattle.evidence.specs.Laws.{Extends_trans}
+use Rattle.evidence.specs.Languages.{Language, IsIn, AreIn, RuleIsIn, IsLanguageOf, StaysIn}
+use Rattle.evidence.proofs.Rules.{refutes_later}
+use Rattle.evidence.proofs.Formulas.{same, formula_later, formulas_later}
+use Rattle.evidence.proofs.Staying.{stays_by, stays_then, in_later, last_in}
+use Rattle.evidence.proofs.lift.lift_cited.Goals as goal
+
+pub last_formula-formula-requires : goal.last_formula-formula-requires
+last_formula-formula-requires g c = record { front = trees_at c.args.draft.now.trees c.args.sequent.now; last = c.requires.cites.formula; refutes = c.requires.cites.taken }
+
+pub fact-requires-clause-fact : goal.fact-requires-clause-fact
+fact-requires-clause-fact g c =
+    let d = c.args.draft.now in
+    let e = c.last_formula-formula.ensures.is (trees_at d.trees c.args.sequent.now) c.requires.cites.formula c.requires.cites.taken in
+    subst (λ (z : Tree). IsFact d.task (task_at d.trees c.args.to.now) c.args.name (trees_at d.trees c.args.types.now) z) (sym e) c.requires.cites.fact
+
+pub cut_on-requires-clause-sequent : goal.cut_on-requires-clause-sequent
+cut_on-requires-clause-sequent g c = formulas_later c.args.draft.now c.fact.new.draft c.in_ok-lemma.ensures.grows c.args.sequent.now c.requires.sequent
+
+pub cut_on-requires-clause-formula : goal.cut_on-requires-clause-formula
+cut_on-requires-clause-formula g c = formula_later c.args.draft.now c.fact.new.draft c.in_ok-lemma.ensures.grows c.last_formula-formula.result c.last_formula-formula.ensures.formula
+
+pub cut_on-requires-clause-taken : goal.cut_on-requires-clause-taken
+cut_on-requires-clause-taken g c =
+    let d = c.args.draft.now in
+    let d1 = c.fact.new.draft in
+    let x = c.in_ok-lemma.ensures.grows in
+    let a = c.last_formula-formula.result in
+    let e = c.last_formula-formula.ensures.is (trees_at d.trees c.args.sequent.now) c.requires.cites.formula c.requires.cites.taken in
+    let b : tree_at d1.trees a ≡ c.requires.cites.formula = x.trees.same _ c.last_formula-formula.ensures.formula.held ∙ e in
+    rw (same d d1 x c.args.sequent.now c.requires.sequent, b) (refutes_later d d1 x c.args.with_fact _ c.requires.cites.taken)
+
+pub cut_on-requires-clause-proved : goal.cut_on-requires-clause-proved
+cut_on-requires-clause-proved g c =
+    let d1 = c.fact.new.draft in
+    let b = c.in_ok-lemma.ensures.grows.trees.same _ c.last_formula-formula.ensures.formula.held in
+    subst (λ (z : Tree). Refutes d1 c.in_ok-lemma.lemma (neg z ∷ [])) (sym b) c.in_ok-lemma.ensures.refutes
+
+pub returns-clause-refutes : goal.returns-clause-refutes
+returns-clause-refutes g c =
+    let d = c.args.draft.now in
+    let d1 = c.fact.new.draft in
+    let e = same d d1 c.in_ok-lemma.ensures.grows c.args.sequent.now c.requires.sequent in
+    IfOk-weaker c.cut_on.result _ _ (λ k r. subst (λ (z : List Tree). Refutes c.cut_on.new.draft k z) e r) c.cut_on.ensures.refutes
+
+pub returns-clause-grows : goal.returns-clause-grows
+returns-clause-grows g c = Extends_trans _ _ _ c.in_ok-lemma.ensures.grows c.cut_on.ensures.grows
+
+pub returns-in_err-lemma-clause-language : goal.returns-in_err-lemma-clause-language
+returns-in_err-lemma-clause-language g c =
+    let d = c.args.draft.now in
+    let e = c.last_formula-formula.ensures.is (trees_at d.trees c.args.sequent.now) c.requires.cites.formula c.requires.cites.taken in
+    stays_by _ _ _ _ c.fact.ensures.language (λ p k s.
+    (k.0, k.2, subst (IsIn p) (sym e) (last_in p d c.args.with_fact (trees_at d.trees c.args.sequent.now) c.requires.cites.formula s c.requires.cites.taken)))
+
+pub returns-clause-language : goal.returns-clause-language
+returns-clause-language g c =
+    let d = c.args.draft.now in
+    let d1 = c.fact.new.draft in
+    let x = c.in_ok-lemma.ensures.grows in
+    let a = c.last_formula-formula.result in
+    let e = c.last_formula-formula.ensures.is (trees_at d.trees c.args.sequent.now) c.requires.cites.formula c.requires.cites.taken in
+    let b = x.trees.same _ c.last_formula-formula.ensures.formula.held in
+    let K : Language → Type 0 = λ p. IsLanguageOf (g.T.Transform.closed c.args.stage.now) d.task p × AreIn p (trees_at d.trees c.args.sequent.now) × RuleIsIn p (citing c.args.name (trees_at d.trees c.args.types.now)) in
+    let one : StaysIn K d d1 = stays_by K _ d d1 c.fact.ensures.language (λ p k s.
+    (k.0, k.2, subst (IsIn p) (sym e) (last_in p d c.args.with_fact (trees_at d.trees c.args.sequent.now) c.requires.cites.formula s c.requires.cites.taken))) in
+    stays_then K _ d d1 _ one c.cut_on.ensures.language (λ p k s. (
+      k.0.negation,
+      in_later d d1 x p c.args.sequent.now c.requires.sequent k.1,
+      subst (IsIn p) (sym (b ∙ e)) (last_in p d c.args.with_fact (trees_at d.trees c.args.sequent.now) c.requires.cites.formula s c.requires.cites.taken),
+    ))
