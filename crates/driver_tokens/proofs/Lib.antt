@@ -1,0 +1,9 @@
+pub mod Rests
+pub mod Sound
+pub mod Complete
+pub mod Cutting
+pub mod Files
+pub mod Lexing
+pub mod Onto
+pub mod TextLines
+pub mod Rows

@@ -1,0 +1,194 @@
+-- A finite automaton for driver files, any textbook on parsing: a state takes a terminal, and goes on in a line or begins one.
+use Rattle.std.specs.Prelude.{Bool, true, false, not, List, [], ◌∷◌, Result, Ok, Err}
+use Rattle.driver_tokens.specs.declared.terminal.DriverWord.{DriverWord}
+use Rattle.driver_tokens.specs.declared.terminal.DriverWord.TheVariants as w
+use Rattle.driver_tokens.specs.declared.terminal.DriverTerminal.{DriverTerminal}
+use Rattle.driver_tokens.specs.declared.terminal.DriverTerminal.TheVariants as t
+use Rattle.driver_tokens.specs.declared.machine.Owner.{Owner}
+use Rattle.driver_tokens.specs.declared.machine.Owner.TheVariants as o
+use Rattle.driver_tokens.specs.declared.machine.DriverState.{DriverState}
+use Rattle.driver_tokens.specs.declared.machine.DriverState.TheVariants as q
+use Rattle.driver_tokens.specs.declared.machine.Move.{Move}
+use Rattle.driver_tokens.specs.declared.machine.Move.TheVariants as m
+
+abbrev pub line_word : Bool → DriverWord → Move
+line_word b w.Prelude = m.Begins (q.LineText b)
+line_word b w.Meta = m.Begins (q.MetaName b)
+line_word false (w.Heading h) = m.Begins (q.LineText false)
+line_word false w.Answer = m.Begins q.Value
+line_word false w.Theory = m.Begins q.PathWord
+line_word true w.End = m.Begins (q.Lines false)
+line_word true w.Syntax = m.Begins q.NameKind
+line_word true w.Remove = m.Begins q.Removal
+line_word b _ = m.Stuck
+
+abbrev pub line : Bool → DriverTerminal → Move
+line b (t.Word s) = line_word b s
+line b _ = m.Stuck
+
+abbrev pub path_word : DriverTerminal → Move
+path_word (t.Word s) = m.Within q.Path
+path_word _ = m.Stuck
+
+abbrev pub path : DriverTerminal → Move
+path t.Dot = m.Within q.PathWord
+path x = line true x
+
+abbrev pub line_text : Bool → DriverTerminal → Move
+line_text b t.Text = m.Within (q.Lines b)
+line_text b _ = m.Stuck
+
+abbrev pub meta_name : Bool → DriverTerminal → Move
+meta_name b t.Text = m.Within (q.Arguments b)
+meta_name b (t.Word s) = m.Within (q.Arguments b)
+meta_name b _ = m.Stuck
+
+abbrev pub argument_word : Bool → DriverWord → Move
+argument_word b (w.Kind k) = m.Within (q.Name (o.Meta b))
+argument_word b w.Prop = m.Within (q.Name (o.Meta b))
+argument_word b _ = m.Stuck
+
+abbrev pub argument : Bool → DriverTerminal → Move
+argument b t.Text = m.Within (q.MoreArguments b)
+argument b t.Number = m.Within (q.MoreArguments b)
+argument b (t.Word s) = argument_word b s
+argument b _ = m.Stuck
+
+abbrev pub or_move : Move → Move → Move
+or_move m.Stuck y = y
+or_move x y = x
+
+abbrev pub arguments : Bool → DriverTerminal → Move
+arguments b x = or_move (argument b x) (line b x)
+
+abbrev pub more_arguments : Bool → DriverTerminal → Move
+more_arguments b t.Comma = m.Within (q.Argument b)
+more_arguments b x = line b x
+
+abbrev pub value : DriverTerminal → Move
+value t.Text = m.Within q.Values
+value t.Number = m.Within q.Values
+value _ = m.Stuck
+
+abbrev pub values : DriverTerminal → Move
+values t.Text = m.Within q.Values
+values t.Number = m.Within q.Values
+values x = line false x
+
+abbrev pub name_kind_word : DriverWord → Move
+name_kind_word (w.Kind k) = m.Within (q.Name o.Syntax)
+name_kind_word _ = m.Stuck
+
+abbrev pub name_kind : DriverTerminal → Move
+name_kind (t.Word s) = name_kind_word s
+name_kind _ = m.Stuck
+
+abbrev pub removal_word : DriverWord → Move
+removal_word w.Prop = m.Within (q.Name o.Remove)
+removal_word w.Allprops = m.Within (q.Lines true)
+removal_word _ = m.Stuck
+
+abbrev pub removal : DriverTerminal → Move
+removal (t.Word s) = removal_word s
+removal _ = m.Stuck
+
+abbrev pub behind : Owner → DriverState
+behind o.Syntax = q.LineText true
+behind o.Remove = q.Lines true
+behind (o.Meta b) = q.MoreArguments b
+
+abbrev pub step_behind : Owner → DriverTerminal → Move
+step_behind o.Syntax x = line_text true x
+step_behind o.Remove x = line true x
+step_behind (o.Meta b) x = more_arguments b x
+
+abbrev pub name : Owner → DriverTerminal → Move
+name o (t.Word s) = m.Within (q.NameDot o)
+name o t.Open = m.Within (q.Operator o)
+name o t.Star = m.Within (behind o)
+name o _ = m.Stuck
+
+abbrev pub name_dot : Owner → DriverTerminal → Move
+name_dot o t.Dot = m.Within (q.Name o)
+name_dot o x = step_behind o x
+
+abbrev pub operator : Owner → DriverTerminal → Move
+operator o t.Operator = m.Within (q.OperatorEnd o)
+operator o _ = m.Stuck
+
+abbrev pub operator_end_word : Owner → DriverWord → Move
+operator_end_word o w.Line = m.Within (q.OperatorClose o)
+operator_end_word o _ = m.Stuck
+
+abbrev pub operator_end : Owner → DriverTerminal → Move
+operator_end o t.Close = m.Within (behind o)
+operator_end o (t.Word s) = operator_end_word o s
+operator_end o _ = m.Stuck
+
+abbrev pub operator_close : Owner → DriverTerminal → Move
+operator_close o t.Close = m.Within (behind o)
+operator_close o _ = m.Stuck
+
+abbrev pub step : DriverState → DriverTerminal → Move
+step (q.Lines b) = line b
+step q.PathWord = path_word
+step q.Path = path
+step (q.LineText b) = line_text b
+step (q.MetaName b) = meta_name b
+step (q.Arguments b) = arguments b
+step (q.Argument b) = argument b
+step (q.MoreArguments b) = more_arguments b
+step q.Value = value
+step q.Values = values
+step q.NameKind = name_kind
+step q.Removal = removal
+step (q.Name o) = name o
+step (q.NameDot o) = name_dot o
+step (q.Operator o) = operator o
+step (q.OperatorEnd o) = operator_end o
+step (q.OperatorClose o) = operator_close o
+
+abbrev pub may_end : DriverState → Bool
+may_end (q.Lines b) = not b
+may_end (q.Arguments b) = not b
+may_end (q.MoreArguments b) = not b
+may_end (q.NameDot (o.Meta b)) = not b
+may_end q.Values = true
+may_end _ = false
+
+-- the end of a file, where it may be
+abbrev pub ending : {A : Type 0} → Bool → Result (List A × List (List A)) (List A)
+ending true = Ok ([], [])
+ending false = Err []
+
+-- one token more of the line, or of a new one
+abbrev pub within : {A : Type 0} → A → Result (List A × List (List A)) (List A) → Result (List A × List (List A)) (List A)
+within x (Ok w) = Ok (x ∷ w.0, w.1)
+within x (Err e) = Err e
+
+abbrev pub begins : {A : Type 0} → A → Result (List A × List (List A)) (List A) → Result (List A × List (List A)) (List A)
+begins x (Ok w) = Ok ([], (x ∷ w.0) ∷ w.1)
+begins x (Err e) = Err e
+
+abbrev pub moved : {A : Type 0} → A → List A → Move → (DriverState → Result (List A × List (List A)) (List A)) → Result (List A × List (List A)) (List A)
+moved x xs m.Stuck next = Err (x ∷ xs)
+moved x xs (m.Within s) next = within x (next s)
+moved x xs (m.Begins s) next = begins x (next s)
+
+-- The rest of a line and the lines behind it, or the tokens from the first on that can't stand.
+abbrev pub runs : {A : Type 0} → (A → DriverTerminal) → DriverState → List A → Result (List A × List (List A)) (List A)
+runs f s [] = ending (may_end s)
+runs f s (x ∷ xs) = moved x xs (step s (f x)) (λ next. runs f next xs)
+
+-- a line in front, if it has tokens
+abbrev pub put : {A : Type 0} → List A → List (List A) → List (List A)
+put [] ls = ls
+put (x ∷ xs) ls = (x ∷ xs) ∷ ls
+
+abbrev pub put_all : {A : Type 0} → Result (List A × List (List A)) (List A) → Result (List (List A)) (List A)
+put_all (Ok w) = Ok (put w.0 w.1)
+put_all (Err e) = Err e
+
+-- the lines of tokens
+abbrev pub cut : {A : Type 0} → (A → DriverTerminal) → List A → Result (List (List A)) (List A)
+cut f xs = put_all (runs f (q.Lines false) xs)
