@@ -1,0 +1,37 @@
+-- Worked rows by computation: templates, words, and what names stand for.
+use Rattle.std.specs.Prelude.{◌≡◌, [], ◌∷◌, codes, Some, None, refl}
+use Rattle.driver_tokens.specs.declared.terminal.NameKind.TheVariants as n
+use Rattle.driver_items.specs.declared.kinds.Piece.TheVariants.{Literal, Argument}
+use Rattle.driver_items.specs.declared.kinds.Trans.TheVariants as t
+use Rattle.driver_items.specs.declared.symbols.Target.TheVariants.{Int}
+use Rattle.driver_items.specs.Names.{printer_of, trans_of}
+use Rattle.driver_items.specs.Symbols.{target_of}
+use Rattle.driver_items.specs.Templates.{template_of}
+
+minus : template_of (codes "(- %1)") 1 ≡ Some (Literal (codes "(- ") ∷ Argument 0 ∷ Literal (codes ")") ∷ [])
+minus = refl
+
+twice : template_of (codes "%1%1") 1 ≡ None
+twice = refl
+
+-- `int` has no argument
+an_argument_of_int : template_of (codes "%1") 0 ≡ None
+an_argument_of_int = refl
+
+no_percent : template_of (codes "50%") 0 ≡ None
+no_percent = refl
+
+split : trans_of (codes "split_goal_right") ≡ Some t.SplitGoalRight
+split = refl
+
+no_transformation : trans_of (codes "x") ≡ None
+no_transformation = refl
+
+no_printer : printer_of (codes "smtv3") ≡ None
+no_printer = refl
+
+int : target_of [] (codes "BuiltIn") n.Type (codes "int") ≡ Some (Int, 0)
+int = refl
+
+no_real : target_of [] (codes "BuiltIn") n.Type (codes "real") ≡ None
+no_real = refl
