@@ -1,0 +1,3 @@
+pub mod Saying
+pub mod Placing
+pub mod Rows

@@ -1,0 +1,66 @@
+-- What has been read of a driver so far. The last printer counts, and the last template of a symbol.
+use Rattle.std.specs.Prelude.{ℕ, ◌≡◌, nat_eq, nat_lt, List, [], ◌∷◌, ◌++◌, length, slice_set, Option, Some, None, if◌then◌else◌}
+use Rattle.driver_parts.specs.declared.driver.Driver.{Driver}
+use Rattle.driver_items.specs.declared.kinds.Piece.{Piece}
+use Rattle.driver_items.specs.declared.kinds.Piece.TheVariants.{Literal, Argument}
+use Rattle.driver_items.specs.declared.kinds.Printer.{Printer}
+use Rattle.driver_items.specs.declared.kinds.Trans.{Trans}
+use Rattle.driver_parts.specs.declared.parts.Parts.{Parts}
+use Rattle.driver_items.specs.declared.symbols.Target.{Target}
+use Rattle.driver_items.specs.declared.symbols.Target.TheVariants.{Int, Equality, Entry}
+
+-- nothing
+abbrev pub no_parts : Parts
+no_parts = record { printer = None; stages = []; removed = []; all_removed = []; templates = []; int_template = None; eq_template = None; preludes = [] }
+
+-- the bytes of a template without arguments
+abbrev pub literal_of : List Piece → List ℕ
+literal_of [] = []
+literal_of (Literal text ∷ pieces) = text
+literal_of (Argument number ∷ pieces) = []
+
+-- the template of an entry in the place of its earlier one, or at the end
+abbrev pub with_entry : List (ℕ × List Piece) → ℕ → List Piece → List (ℕ × List Piece)
+with_entry [] entry pieces = (entry, pieces) ∷ []
+with_entry (t ∷ ts) entry pieces = if nat_eq t.0 entry then (entry, pieces) ∷ ts else t ∷ with_entry ts entry pieces
+
+abbrev pub with_template : Parts → Target → List Piece → Parts
+with_template parts Int pieces = record parts { int_template = Some (literal_of pieces) }
+with_template parts Equality pieces = record parts { eq_template = Some pieces }
+with_template parts (Entry entry) pieces = record parts { templates = with_entry parts.templates entry pieces }
+
+abbrev pub with_stage : Parts → Trans → Parts
+with_stage parts stage = record parts { stages = parts.stages ++ stage ∷ [] }
+
+abbrev pub with_printer : Parts → Printer → Parts
+with_printer parts printer = record parts { printer = Some printer }
+
+abbrev pub with_removed : Parts → List ℕ → List ℕ → Parts
+with_removed parts path name = record parts { removed = parts.removed ++ (path, name) ∷ [] }
+
+abbrev pub with_all_removed : Parts → List ℕ → Parts
+with_all_removed parts path = record parts { all_removed = parts.all_removed ++ path ∷ [] }
+
+abbrev pub with_prelude : Parts → Option (List ℕ) → List ℕ → Parts
+with_prelude parts path text = record parts { preludes = parts.preludes ++ (path, text) ∷ [] }
+
+-- the driver of parts, with a printer and the number of the next file
+abbrev pub driver_of : Parts → Printer → ℕ → Driver
+driver_of parts printer next_file = record {
+  printer = printer;
+  stages = parts.stages;
+  removed = parts.removed;
+  all_removed = parts.all_removed;
+  templates = parts.templates;
+  int_template = parts.int_template;
+  eq_template = parts.eq_template;
+  preludes = parts.preludes;
+  next_file = next_file;
+}
+
+-- where the template of an entry goes
+abbrev pub placed : List (ℕ × List Piece) → ℕ → ℕ × List Piece → List (ℕ × List Piece)
+placed ts place t = if nat_lt place (length ts) then slice_set ts place t else ts ++ t ∷ []
+
+abbrev pub IsPlaceOf : List (ℕ × List Piece) → ℕ → ℕ → Type 0
+IsPlaceOf ts entry place = (pieces : List Piece) → with_entry ts entry pieces ≡ placed ts place (entry, pieces)

@@ -1,0 +1,13 @@
+//! What has been read of a driver so far, and what each line but an import does to it, or what is wrong with it.
+//! It depends on what the lines of a driver say; the reader of driver files depends on it.
+#![tactic(auto)]
+
+mod driver;
+mod fault;
+mod parts;
+mod steps;
+
+pub use driver::Driver;
+pub use fault::DriverFault;
+pub use parts::{Parts, driver_of, no_parts};
+pub use steps::take_line;
