@@ -48,7 +48,8 @@ fn is_prefix_operator(operator: &[u8]) -> bool
 
 /// What stands behind an operator that is named without `_`.
 fn line_by(text: &[u8], token: DriverToken) -> bool
-    ensures { (if result then codes "_" else []) ≡ spec.line_by token.terminal (lexeme_in text.now token).text }
+    ensures { (if result then codes "_" else []) ≡ spec.line_by token.terminal (lexeme_in text.now
+        token).text }
 {
     match token.terminal {
         DriverTerminal::Operator => is_prefix_operator(bytes_of(text, token)),
@@ -58,7 +59,8 @@ fn line_by(text: &[u8], token: DriverToken) -> bool
 
 /// Whether a name lacks the `_` of its prefix operator.
 fn lacks_line(text: &[u8], tokens: &[DriverToken]) -> bool
-    ensures { (if result then codes "_" else []) ≡ spec.line_of (option_map (lexeme_in text.now) (slice_get tokens.now (length tokens.now - 2))) }
+    ensures { (if result then codes "_" else []) ≡ spec.line_of (option_map (lexeme_in text.now)
+        (slice_get tokens.now (length tokens.now - 2))) }
 {
     let place = tokens.len().saturating_sub(2);
     match tokens.get(place) {
@@ -81,7 +83,8 @@ fn name_bytes(text: &[u8], token: DriverToken) -> &[u8]
 
 /// The `_` of a prefix operator that is named without, behind a name.
 fn push_line(name: &mut Vec<u8>, text: &[u8], tokens: &[DriverToken]) -> Result<(), AllocError>
-    ensures { IfOk result (λ u. name.new.items ≡ name.old.items ++ spec.line_of (option_map (lexeme_in text.now) (slice_get tokens.now (length tokens.now - 2)))) }
+    ensures { IfOk result (λ u. name.new.items ≡ name.old.items ++ spec.line_of (option_map
+        (lexeme_in text.now) (slice_get tokens.now (length tokens.now - 2)))) }
 {
     let lacks = lacks_line(text, tokens);
     let line = if lacks {

@@ -20,7 +20,8 @@ fn put_literal(alloc: Global, pieces: &mut Seq<Piece>, literal: &[u8]) -> Result
 
 /// A byte where no `%` stands before; whether it is one.
 fn take_plain(literal: &mut Vec<u8>, byte: u8) -> Result<bool, AllocError>
-    ensures { IfOk result (λ percent. GoesOnPlain byte literal.old.items literal.new.items percent) }
+    ensures { IfOk result (λ percent. GoesOnPlain byte literal.old.items literal.new.items
+        percent) }
 {
     if byte == b'%' {
         return Ok(true);
@@ -36,7 +37,8 @@ fn take_escaped(
     literal: &mut Vec<u8>,
     byte: u8,
 ) -> Result<bool, AllocError>
-    ensures { IfOk result (λ stands. GoesOnEscaped byte pieces.old literal.old.items pieces.new literal.new.items stands) }
+    ensures { IfOk result (λ stands. GoesOnEscaped byte pieces.old literal.old.items pieces.new
+        literal.new.items stands) }
 {
     if byte == b'%' {
         literal.push(byte)?;

@@ -29,7 +29,8 @@ fn set_printer(
     parts: &mut Parts,
     string: DriverToken,
 ) -> Result<(), DriverFault>
-    ensures { Meets result parts.new (spec.printed file string.start parts.old (names.printer_of (value_of (lexeme_in text.now string)))) }
+    ensures { Meets result parts.new (spec.printed file string.start parts.old (names.printer_of
+        (value_of (lexeme_in text.now string)))) }
 {
     let word = string_of(alloc, text, string)?;
     match printer_of(word.as_slice()) {
@@ -51,7 +52,8 @@ fn push_stage(
     parts: &mut Parts,
     string: DriverToken,
 ) -> Result<(), DriverFault>
-    ensures { Meets result parts.new (spec.staged file string.start parts.old (names.trans_of (value_of (lexeme_in text.now string)))) }
+    ensures { Meets result parts.new (spec.staged file string.start parts.old (names.trans_of
+        (value_of (lexeme_in text.now string)))) }
 {
     let word = string_of(alloc, text, string)?;
     match trans_of(word.as_slice()) {
@@ -76,7 +78,8 @@ fn put_template(
     arity: usize,
     template: &[u8],
 ) -> Result<(), DriverFault>
-    ensures { Meets result parts.new (spec.templated file byte parts.old target (templates.template_of template.now arity)) }
+    ensures { Meets result parts.new (spec.templated file byte parts.old target
+        (templates.template_of template.now arity)) }
 {
     match template_of(alloc, template, arity)? {
         Some(pieces) => {
@@ -97,7 +100,8 @@ fn put_named(
     target: Option<(Target, usize)>,
     template: &[u8],
 ) -> Result<(), DriverFault>
-    ensures { Meets result parts.new (spec.targeted file name_byte byte template.now parts.old target) }
+    ensures { Meets result parts.new (spec.targeted file name_byte byte template.now parts.old
+        target) }
 {
     match target {
         Some((target, arity)) => put_template(alloc, file, byte, parts, target, arity, template),
@@ -120,7 +124,8 @@ fn take_template(
     kind: NameKind,
     line: &[DriverToken],
 ) -> Result<(), DriverFault>
-    ensures { Meets result parts.new (spec.block_step symbols.now theories.now file path.now (template_in text.now kind line.now) parts.old) }
+    ensures { Meets result parts.new (spec.block_step symbols.now theories.now file path.now
+        (template_in text.now kind line.now) parts.old) }
 {
     let last = line.len().saturating_sub(1);
     match (line.get(2), line.get(last)) {
@@ -153,7 +158,8 @@ fn take_removal(
     parts: &mut Parts,
     line: &[DriverToken],
 ) -> Result<(), DriverFault>
-    ensures { Meets result parts.new (spec.block_step symbols.now theories.now file path.now (removal_in text.now line.now) parts.old) }
+    ensures { Meets result parts.new (spec.block_step symbols.now theories.now file path.now
+        (removal_in text.now line.now) parts.old) }
 {
     match line.get(2) {
         Some(first) => {
@@ -187,7 +193,8 @@ fn push_prelude(
     parts: &mut Parts,
     string: DriverToken,
 ) -> Result<(), DriverFault>
-    ensures { Meets result parts.new (Ok (with_prelude parts.old (option_map (λ p. p.now) path.entry) (value_of (lexeme_in text.now string)))) }
+    ensures { Meets result parts.new (Ok (with_prelude parts.old (option_map (λ p. p.now)
+        path.entry) (value_of (lexeme_in text.now string)))) }
 {
     let value = string_of(alloc, text, string)?;
     let path = match path {
@@ -211,7 +218,8 @@ fn block_line(
     second: DriverToken,
     line: &[DriverToken],
 ) -> Result<(), DriverFault>
-    ensures { Meets result parts.new (spec.block_step symbols.now theories.now file path.now (item_in text.now first second line.now) parts.old) }
+    ensures { Meets result parts.new (spec.block_step symbols.now theories.now file path.now
+        (item_in text.now first second line.now) parts.old) }
 {
     match (first, second.terminal) {
         (DriverTerminal::Word(DriverWord::Syntax), DriverTerminal::Word(DriverWord::Kind(kind))) =>
@@ -243,7 +251,8 @@ fn top_line(
     second: DriverToken,
     line: &[DriverToken],
 ) -> Result<(), DriverFault>
-    ensures { Meets result parts.new (spec.in_block symbols.now theories.now file None (item_in text.now first second line.now) parts.old) }
+    ensures { Meets result parts.new (spec.in_block symbols.now theories.now file None (item_in
+        text.now first second line.now) parts.old) }
 {
     match first {
         DriverTerminal::Word(DriverWord::Prelude) => {
@@ -266,7 +275,8 @@ fn take_two(
     second: DriverToken,
     line: &[DriverToken],
 ) -> Result<(), DriverFault>
-    ensures { Meets result parts.new (spec.step symbols.now theories.now file block.now (item_in text.now first second line.now) parts.old) }
+    ensures { Meets result parts.new (spec.step symbols.now theories.now file block.now (item_in
+        text.now first second line.now) parts.old) }
 {
     match first {
         DriverTerminal::Word(DriverWord::Heading(Heading::Printer)) => {
@@ -304,7 +314,8 @@ pub fn take_line(
     parts: &mut Parts,
     line: &[DriverToken],
 ) -> Result<(), DriverFault>
-    ensures { Meets result parts.new (spec.step symbols.now theories.now file block.now (item_of (map (lexeme_in text.now) line.now)) parts.old) }
+    ensures { Meets result parts.new (spec.step symbols.now theories.now file block.now (item_of
+        (map (lexeme_in text.now) line.now)) parts.old) }
 {
     if line.len() < 2 {
         return Ok(());

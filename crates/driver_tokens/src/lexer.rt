@@ -16,7 +16,8 @@ use std::alloc::{AllocError, Global};
 
 fn number_end(text: &[u8], start: usize) -> usize
     requires { start < length text.now }
-    ensures place { result ≡ start + number_length (byte_in text.now start) (drop (start + 1) text.now) }
+    ensures place { result ≡ start + number_length (byte_in text.now start) (drop (start + 1)
+        text.now) }
     ensures within { (start ≤ result) × (result ≤ length text.now) }
 {
     if text[start] == b'0' {
@@ -28,7 +29,8 @@ fn number_end(text: &[u8], start: usize) -> usize
 
 fn string_end(text: &[u8], start: usize) -> usize
     requires { start < length text.now }
-    ensures place { result ≡ start + string_length (drop (start + 1) text.now) (quoted false (drop (start + 1) text.now)) }
+    ensures place { result ≡ start + string_length (drop (start + 1) text.now) (quoted false (drop
+        (start + 1) text.now)) }
     ensures within { (start ≤ result) × (result ≤ length text.now) }
 {
     match quote_end(text, start + 1) {
