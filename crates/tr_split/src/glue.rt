@@ -80,7 +80,14 @@ fn end_cut(draft: &mut Draft, front: &[TermId], u: &Under, end: usize) -> Result
 {
     let closed = imp_closes(draft, front, u)?;
     let kept = keep_but(draft, front, &[u.hypothesis, u.no_part], &[u.no_whole], end)?;
-    by_cut(draft, front, &[u.hypothesis, u.no_part], u.whole, closed, kept)
+    by_cut(
+        draft,
+        front,
+        &[u.hypothesis, u.no_part],
+        u.whole,
+        closed,
+        kept,
+    )
 }
 
 // From steps that refute the two sides of a conjunction, one that refutes the conjunction.
