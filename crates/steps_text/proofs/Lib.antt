@@ -2,6 +2,7 @@ pub mod Splitting
 pub mod Plain
 pub mod Picking
 pub mod Growth
+pub mod Marks
 pub mod Progress
 pub mod Exact
 pub mod Numerals

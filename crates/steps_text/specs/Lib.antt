@@ -1,4 +1,5 @@
 pub mod Words
+pub mod Known
 pub mod Lines
 pub mod Reading
 pub mod Fed

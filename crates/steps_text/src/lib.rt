@@ -4,6 +4,7 @@
 
 mod fault;
 mod good;
+mod known;
 mod reader;
 mod step_reader;
 mod things;

@@ -18,7 +18,7 @@ use kernel::ends_in_start;
 use problems::NameEntry;
 use rule_rows::Step;
 use std::alloc::{AllocError, Global};
-use tasks::Task;
+use tasks::{Index, Task};
 use term_store::Store;
 use trees::TermId;
 
@@ -70,12 +70,16 @@ pub(crate) fn read_whole(
         bytes.now) }
     ensures grows { Grows store.old store.new }
 {
+    let index = Index::new(alloc, task)?;
     let all = lines(alloc, bytes)?;
     let mut formulas = Vec::new(alloc);
     let mut steps = Vec::new(alloc);
+    let mut marks = Vec::new(alloc);
     for i in 0..all.len() {
         let line = line_at(&all, i);
-        let made = right_thing(alloc, store, task, names, tallest, &formulas, &steps, line)?;
+        let made = right_thing(
+            alloc, store, task, &index, names, tallest, &formulas, &steps, &mut marks, line,
+        )?;
         let Some(thing) = made else {
             return Err(wrong_after(i));
         };

@@ -9,6 +9,7 @@ use Rattle.rule_rows.specs.declared.rule.Step.{Step}
 use Rattle.kernel.specs.Right.{last_starts}
 use Rattle.rule_rows.specs.Meaning.{steps_at}
 use Rattle.steps_text.specs.Words.{texts}
+use Rattle.steps_text.specs.Known.{AreTyped}
 use Rattle.steps_text.specs.Lines.{nothing_read, AreRead, IsWrongLine, LineIsRight}
 use Rattle.steps_text.specs.Reading.{IsFault, reading_at, MakesGood, thing_at, ThingHeld}
 use Rattle.steps_text.proofs.Progress.{stands_wrong, stands_read, stands_unfinished, texts_length, no_true}
@@ -17,6 +18,11 @@ use Rattle.steps_text.proofs.reader.read_whole.Goals as goal
 
 pub right_thing-requires-clause-task : goal.right_thing-requires-clause-task
 right_thing-requires-clause-task c = task_held_later c.args.store.now c.loop-i.store c.loop-i.invariant.grows c.args.task.now c.requires
+
+pub right_thing-requires-clause-marks : goal.right_thing-requires-clause-marks
+right_thing-requires-clause-marks c =
+    let s = c.loop-i.store in
+    subst (λ (u : TaskTree). AreTyped u s c.loop-i.marks.items) (sym (task_later c.args.store.now s c.loop-i.invariant.grows c.args.task.now c.requires)) c.loop-i.invariant.marks
 
 pub ends_in_start-requires-clause-task_held : goal.ends_in_start-requires-clause-task_held
 ends_in_start-requires-clause-task_held c = task_held_later c.args.store.now c.loop-i.store c.loop-i.invariant.grows c.args.task.now c.requires
@@ -64,6 +70,7 @@ loop-i-preserved c =
       grows = Grows_trans c.args.store.now s s' c.loop-i.invariant.grows c.in_ok-made.ensures.grows;
       formulas = n.0;
       steps = n.1;
+      marks = subst (λ (u : TaskTree). AreTyped u s' c.right_thing.new.marks.items) e c.in_ok-made.ensures.marks;
       stands = n.2;
     }
 
