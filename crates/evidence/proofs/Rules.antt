@@ -1,6 +1,6 @@
 -- Steps by each rule are right: their premises refute what its row adds. Here is a row of each rule, from the formulas at its
 -- places.
-use Rattle.std.proofs.Common.{◌≡◌, ℕ, ◌<◌, ◌+◌, List, [], ◌∷◌, ◌++◌, Option, None, Some, IsSomeAnd, length, slice_get, map, All, refl, sym, ap, subst, ◌∙◌, arith}
+use Rattle.std.proofs.Common.{◌≡◌, ◌≢◌, ℕ, ◌<◌, ◌+◌, ◌-◌, ◌^◌, ℤ, pos, ◌+ℤ◌, ◌<ℤ◌, IsTrue, List, [], ◌∷◌, ◌++◌, Option, None, Some, IsSomeAnd, length, slice_get, map, All, refl, sym, ap, subst, ◌∙◌, arith}
 use Rattle.std.specs.Option.{option_map, option_and_then}
 use Rattle.std.proofs.lemmas.List.{length-append, map-append, get_or_append_left}
 use Rattle.std.proofs.lemmas.List.Elements.{All-append, All-cons, All-nil}
@@ -8,22 +8,25 @@ use Rattle.trees.specs.declared.Op.{Op}
 use Rattle.trees.specs.declared.Op.TheVariants.{And, AndThen, Or, OrElse, Imp, Iff}
 use Rattle.trees.specs.declared.Sort.TheVariants.{Term, Formula}
 use Rattle.trees.specs.declared.TermId.{TermId}
-use Rattle.trees.specs.Tree.{Tree, Leaf, Two, Three, HTrue, HFalse, HForall, HExists, HLet, HIf, HCase, HCell, HArm}
+use Rattle.trees.specs.declared.ints.Ints.{Ints}
+use Rattle.trees.specs.Tree.{Tree, Leaf, One, Two, Three, HTrue, HFalse, HNum, HForall, HExists, HLet, HIf, HCase, HCell, HArm, HFun, HTyApp}
 use Rattle.trees.specs.Node.{tree_at}
 use Rattle.trees.specs.Binding.{inst, inst_types, Param}
-use Rattle.trees.specs.Sorts.{sort_of, type_of}
+use Rattle.trees.specs.Sorts.{sort_of, type_of, int_type}
 use Rattle.tasks.specs.declared.facts.Fact.{Fact}
 use Rattle.tasks.specs.declared.facts.Fact.TheVariants as fact
-use Rattle.tasks.specs.Task.{TaskTree, Proposition, props, symbol_or, neg}
-use Rattle.tasks.specs.Roles.{role}
+use Rattle.tasks.specs.Task.{TaskTree, ConTree, Proposition, props, symbol_or, neg}
+use Rattle.tasks.specs.Roles.{Algebraic, Projection, role, is_constructor}
+use Rattle.tasks.specs.Typing.{members}
 use Rattle.tasks.specs.Inversion.{inversion}
 use Rattle.tasks.specs.Meaning.{trees_at}
 use Rattle.tasks.specs.Valid.{IsGroundFormula}
+use Rattle.linear_leaf.specs.Linear.{ClosesLinear}
 use Rattle.rule_rows.specs.declared.rule.Rule.{Rule}
-use Rattle.rule_rows.specs.Trees.{RuleTree, RFalse, RNotTrue, RClash, RIrrefl, RNotNot, RForall, RNotForall, RExists, RNotExists, RCut, RKeep, RRefl, RReplace, RLetDef, RIfDef, RMatchDef, StepTree, no_step, step_or, sequents}
-use Rattle.rule_rows.specs.Forms.{negated, equal, alike, by_cases}
-use Rattle.rule_rows.specs.Patterns.{test, bind}
-use Rattle.rule_rows.specs.Rows.{Row, Adds, Holding, Failing, IsNew, IsTemplate, unfolded, equation, clauses}
+use Rattle.rule_rows.specs.Trees.{RuleTree, RFalse, RNotTrue, RClash, RIrrefl, RNotNot, RForall, RNotForall, RExists, RNotExists, RCut, RKeep, RRefl, RReplace, RLetDef, RIfDef, RMatchDef, RDistinct, RLinear, RCase, RInject, RProject, RTrichotomy, RBound, StepTree, no_step, step_or, sequents}
+use Rattle.rule_rows.specs.Forms.{negated, equal, alike, by_cases, compared}
+use Rattle.rule_rows.specs.Patterns.{test, bind, rebuilt}
+use Rattle.rule_rows.specs.Rows.{Row, Adds, Holding, Failing, IsNew, IsTemplate, unfolded, equation, clauses, equal_each, AreDeclared}
 use Rattle.rule_rows.specs.Meaning.{rule_at}
 use Rattle.kernel.specs.Right.{IsRight}
 use Rattle.evidence.specs.Drafts.{DraftTree, Extends, Refutes, RefuteAll, AreFormulas}
@@ -150,6 +153,36 @@ module _ (t : TaskTree) (s : List Tree) where
   pub matchdef_row : (v p a rest : Tree)
       → let e : Tree = Two HCase v (Two HCell (Two HArm p a) rest) in Row t s (RMatchDef e) ((s ++ unfolded (test t p v) (bind t p v) e v a rest ∷ []) ∷ [])
   matchdef_row v p a rest = refl
+
+  -- constructors on arguments, told by the symbols in an equation
+  pub distinct_row : (i c d : ℕ) (xs as' x ys bs y : Tree) → slice_get s i ≡ Some (equal (Three (HFun c) xs as' x) (Three (HFun d) ys bs y))
+      → IsTrue (is_constructor (role t c)) → IsTrue (is_constructor (role t d)) → c ≢ d → Row t s (RDistinct i) []
+  distinct_row i c d xs as' x ys bs y e f g n = rw e (f, g, n, refl)
+
+  pub inject_row : (i c : ℕ) (xs as' x ys bs y : Tree) → slice_get s i ≡ Some (equal (Three (HFun c) xs as' x) (Three (HFun c) ys bs y))
+      → IsTrue (is_constructor (role t c)) → Row t s (RInject i) ((s ++ equal_each (members as') (members bs)) ∷ [])
+  inject_row i c xs as' x ys bs y e f = rw e (f, f, refl, refl)
+
+  pub project_row : (p j : ℕ) (con : ConTree) (xs rest x ys bs y a : Tree) → role t p ≡ Projection con j → slice_get (members bs) j ≡ Some a
+      → let e : Tree = Three (HFun p) xs (Two HCell (Three (HFun con.symbol) ys bs y) rest) x in Row t s (RProject e) ((s ++ equal e a ∷ []) ∷ [])
+  project_row p j con xs rest x ys bs y a e f = rw e (refl, rw f refl)
+
+  pub case_row : (u types : Tree) (k : ℕ) (cs : List ConTree) → type_of u ≡ Some (One (HTyApp k) types) → role t k ≡ Algebraic cs
+      → Row t s (RCase u) (map (λ x. s ++ x) (map (λ (c : ConTree). equal u (rebuilt t c.symbol c.projections types u) ∷ []) cs))
+  case_row u types k cs e f = rw e (rw f refl)
+
+  -- integers, where the task declares their eight symbols
+  module _ (z : Ints) (has : t.ints ≡ Some z) (all : AreDeclared t z) where
+    pub linear_row : (uses : List (ℕ × ℤ)) → ClosesLinear z s uses → Row t s (RLinear uses) []
+    linear_row uses h = rw has (all, h, refl)
+
+    pub trichotomy_row : (a b : Tree) → type_of a ≡ Some int_type → type_of b ≡ Some int_type
+        → Row t s (RTrichotomy a b) ((s ++ compared z.lt a b ∷ []) ∷ (s ++ equal a b ∷ []) ∷ (s ++ compared z.lt b a ∷ []) ∷ [])
+    trichotomy_row a b e f = (e, f, rw has (all, refl))
+
+    pub bound_row : (e : Tree) (n : ℤ) → type_of e ≡ Some int_type → n <ℤ pos (2 ^ 127 - 1)
+        → Row t s (RBound e n) ((s ++ compared z.le e (Leaf (HNum n)) ∷ []) ∷ (s ++ compared z.le (Leaf (HNum (n +ℤ pos 1))) e ∷ []) ∷ [])
+    bound_row e n f l = (f, l, rw has (all, refl))
 
   -- a fact at types: four rules
   abbrev AddsAt : List Tree → List (List Tree) → Proposition → Type 0
