@@ -5,6 +5,8 @@
 #[cfg(test)]
 mod nodes;
 #[cfg(test)]
+mod random;
+#[cfg(test)]
 mod rows;
 #[cfg(test)]
 mod small;

@@ -1540,6 +1540,9 @@ static INTEGERS: [Row; 7] = [
     ),
 ];
 
+// Of integers, where the task doesn't declare their symbols.
+static UNDECLARED: [Row; 1] = [(Word::Linear, &[0, 1], &[], 0, &[EQUATION], &[], &[], false)];
+
 // p, its negation, the negated goal p -> p, and 1 = 0.
 const P: TermId = TermId(5);
 
@@ -1618,8 +1621,8 @@ fn rule(
     }
 }
 
-// A step with a sequent and a rule.
-fn step(
+/// A step with a sequent and a rule.
+pub(crate) fn step(
     rt: &impl Abort,
     alloc: Global,
     store: &Store,
@@ -1638,7 +1641,12 @@ fn step(
 }
 
 // Steps with these sequents, which are premises.
-fn before(rt: &impl Abort, alloc: Global, store: &Store, sequents: &[&[TermId]]) -> Seq<Step>
+pub(crate) fn before(
+    rt: &impl Abort,
+    alloc: Global,
+    store: &Store,
+    sequents: &[&[TermId]],
+) -> Seq<Step>
     ensures { StepsHeld store.now result }
 {
     let mut steps = Seq::new(alloc);
@@ -1692,79 +1700,68 @@ fn agree(store: &Store, task: &Task, steps: &[Step], wrong: Option<usize>) -> bo
         && ends_in_start(store, task, steps) == wrong.is_none()
 }
 
-// Whether the checker answers a row as it says, over a task of its own.
-fn agrees(rt: &impl Abort, alloc: Global, row: &Row) -> bool {
+// Whether the checker answers a row as it says, over a task of its own, with the symbols of int.Int or without them.
+fn agrees(rt: &impl Abort, alloc: Global, row: &Row, ints: bool) -> bool {
     let store = filled(rt, alloc, &NODES);
-    let task = small_task(rt, alloc, &store, true);
+    let task = small_task(rt, alloc, &store, ints);
     row_is_right(rt, alloc, &store, &task, row) == row.7
 }
 
-fn rows_agree(rt: &impl Abort, alloc: Global, rows: &[Row]) {
+fn rows_agree(rt: &impl Abort, alloc: Global, rows: &[Row], ints: bool) {
     for (place, row) in rows.iter().enumerate() {
-        let is_so = agrees(rt, alloc, row);
+        let is_so = agrees(rt, alloc, row, ints);
         assert!(rt; is_so, "row {place}");
     }
 }
 
 #[test]
 fn closing_are_right_or_wrong(rt: HostRuntime) {
-    rows_agree(&rt, rt.alloc(), &CLOSING);
+    rows_agree(&rt, rt.alloc(), &CLOSING, true);
 }
 
 #[test]
 fn connectives_are_right_or_wrong(rt: HostRuntime) {
-    rows_agree(&rt, rt.alloc(), &CONNECTIVES);
+    rows_agree(&rt, rt.alloc(), &CONNECTIVES, true);
 }
 
 #[test]
 fn more_connectives_are_right_or_wrong(rt: HostRuntime) {
-    rows_agree(&rt, rt.alloc(), &MORE_CONNECTIVES);
+    rows_agree(&rt, rt.alloc(), &MORE_CONNECTIVES, true);
 }
 
 #[test]
 fn quantifiers_are_right_or_wrong(rt: HostRuntime) {
-    rows_agree(&rt, rt.alloc(), &QUANTIFIERS);
+    rows_agree(&rt, rt.alloc(), &QUANTIFIERS, true);
 }
 
 #[test]
 fn structure_are_right_or_wrong(rt: HostRuntime) {
-    rows_agree(&rt, rt.alloc(), &STRUCTURE);
+    rows_agree(&rt, rt.alloc(), &STRUCTURE, true);
 }
 
 #[test]
 fn terms_are_right_or_wrong(rt: HostRuntime) {
-    rows_agree(&rt, rt.alloc(), &TERMS);
+    rows_agree(&rt, rt.alloc(), &TERMS, true);
 }
 
 #[test]
 fn facts_are_right_or_wrong(rt: HostRuntime) {
-    rows_agree(&rt, rt.alloc(), &FACTS);
+    rows_agree(&rt, rt.alloc(), &FACTS, true);
 }
 
 #[test]
 fn data_are_right_or_wrong(rt: HostRuntime) {
-    rows_agree(&rt, rt.alloc(), &DATA);
+    rows_agree(&rt, rt.alloc(), &DATA, true);
 }
 
 #[test]
 fn integers_are_right_or_wrong(rt: HostRuntime) {
-    rows_agree(&rt, rt.alloc(), &INTEGERS);
+    rows_agree(&rt, rt.alloc(), &INTEGERS, true);
 }
 
 #[test]
 fn integers_are_declared(rt: HostRuntime) {
-    let store = filled(&rt, rt.alloc(), &NODES);
-    let task = small_task(&rt, rt.alloc(), &store, false);
-    let uses = uses(&rt, rt.alloc(), 0, 1);
-    let tried = step(
-        &rt,
-        rt.alloc(),
-        &store,
-        &[EQUATION],
-        Rule::Linear(uses),
-        &[],
-    );
-    assert!(rt; !right_step(&store, &task, &[], &tried));
+    rows_agree(&rt, rt.alloc(), &UNDECLARED, false);
 }
 
 #[test]
