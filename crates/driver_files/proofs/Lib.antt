@@ -1,0 +1,10 @@
+pub mod Answering
+pub mod Blocks
+pub mod Fetched
+pub mod Filing
+pub mod Importing
+pub mod Naming
+pub mod Plain
+pub mod Rows
+pub mod Strings
+pub mod Texts
