@@ -1,0 +1,6 @@
+use Rattle.std.proofs.lemmas.Result.{on_ok_weaker}
+use Rattle.name_tables.proofs.Steps.{sees_then}
+use Rattle.name_tables.proofs.walk.note_predicate.Goals as goal
+
+pub returns : goal.returns
+returns c = on_ok_weaker c.note_at_types.result (sees_then c.args.store.now _ _ _ _ _ c.in_ok-note_types_of.ensures) c.note_at_types.ensures

@@ -1,0 +1,42 @@
+-- The instances of each symbol, as they are gathered for a table.
+use Rattle.std.specs.Prelude.{◌≡◌, ℕ, ◌<◌, if◌then◌else◌, List, [], ◌∷◌, ◌++◌, filter, length, get_or, All, Option}
+use Rattle.trees.specs.Tree.{Tree}
+use Rattle.trees.specs.declared.ints.Ints.{Ints}
+use Rattle.tasks.specs.Task.{TaskTree, declared}
+use Rattle.tasks.specs.Meaning.{task_at}
+use Rattle.tasks.specs.declared.task.Task.{Task}
+use Rattle.name_tables.specs.Occurrences.{Occurrence, whole, task_occurrences}
+use Rattle.name_tables.specs.Tables.{is_interpreted, is_instance_of}
+use Rattle.name_tables.specs.Seen.{occurrence_at, seen_at, with_all, AreHeld}
+
+abbrev pub in_group : List Tree → ℕ → List (ℕ × ℕ) → List (ℕ × ℕ)
+in_group s k keys = filter (λ (key : ℕ × ℕ). is_instance_of k (occurrence_at s key)) keys
+
+-- there are groups up to that of a symbol
+pub record IsFilled (old new : List (List (ℕ × ℕ))) (symbol : ℕ) : Type 0 where
+  pub within : symbol < length new
+  pub held : (s : List Tree) → All (AreHeld s) old → All (AreHeld s) new
+  pub same : (k : ℕ) → get_or new k [] ≡ get_or old k []
+
+-- one key more, in the group of its symbol
+pub record IsPushed (s : List Tree) (old new : List (List (ℕ × ℕ))) (key : ℕ × ℕ) : Type 0 where
+  pub held : All (AreHeld s) old → All (AreHeld s) new
+  pub each : (k : ℕ) → get_or new k [] ≡ get_or old k [] ++ in_group s k (key ∷ [])
+
+-- for each symbol its instances among these
+pub record AreGroups (s : List Tree) (keys : List (ℕ × ℕ)) (groups : List (List (ℕ × ℕ))) : Type 0 where
+  pub held : All (AreHeld s) groups
+  pub each : (k : ℕ) → get_or groups k [] ≡ in_group s k keys
+
+-- for each symbol its instances in a task, each once
+pub record AreGroupsOf (s : List Tree) (t : TaskTree) (groups : List (List (ℕ × ℕ))) : Type 0 where
+  pub held : All (AreHeld s) groups
+  pub each : (k : ℕ) → seen_at s (get_or groups k []) ≡ filter (is_instance_of k) (with_all [] (task_occurrences t))
+
+-- what is added of a symbol
+abbrev pub instances_in : List Tree → Option Ints → List (List (ℕ × ℕ)) → ℕ → List Occurrence
+instances_in s ints groups k = if is_interpreted ints k then whole k ∷ [] else seen_at s (get_or groups k [])
+
+-- they are the symbols of its tree, over any store
+abbrev pub AreDeclared : Task → List ℕ → Type 0
+AreDeclared t ks = (s : List Tree) → ks ≡ declared (task_at s t)
