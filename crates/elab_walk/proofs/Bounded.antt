@@ -18,7 +18,7 @@ use Rattle.elab_walk.proofs.Noting.{count_replicate}
 use Rattle.elab_walk.proofs.Walking.{none_both}
 use Rattle.elab_walk.proofs.Branching.{in_cases}
 
-abbrev IsBelow : ℕ → Piece → Type 0
+abbrev pub IsBelow : ℕ → Piece → Type 0
 IsBelow n p = TyVarsBelow (past n p) p.tree
 
 -- two parts, the second behind the first
@@ -76,7 +76,7 @@ module _ (w : Where) (sc : IsScoped w) where
         }
 
   -- the trees of alternatives
-  abbrev TreesBelow : ℕ → List Matched → Type 0
+  abbrev pub TreesBelow : ℕ → List Matched → Type 0
   TreesBelow n ms = AllByRecursion (λ (m : Matched). TyVarsBelow n m.tree) ms
 
   later_below : (ps : Alternatives) (first : List LocalTree) (n : ℕ) (t : Tree) → TyVarsBelow n t → TreesBelow (n + taken (all_notes (later_pieces w first n t ps))) (later_pieces w first n t ps)
@@ -93,15 +93,15 @@ module _ (w : Where) (sc : IsScoped w) where
       trees_more [] j k l h = tt
       trees_more (x ∷ xs) j k l h = (below_more x.tree j k l h.0, trees_more xs j k l h.1)
 
-  trees_grow : (ms : List Matched) (j k : ℕ) → j ≤ k → TreesBelow j ms → TreesBelow k ms
+  pub trees_grow : (ms : List Matched) (j k : ℕ) → j ≤ k → TreesBelow j ms → TreesBelow k ms
   trees_grow [] j k l h = tt
   trees_grow (x ∷ xs) j k l h = (below_more x.tree j k l h.0, trees_grow xs j k l h.1)
 
-  record AlternativesBelow (n : ℕ) (ms : List Matched) : Type 0 where
-    trees : TreesBelow (n + taken (all_notes ms)) ms
-    variables : LocalsBelow (n + taken (all_notes ms)) (first_variables ms)
+  pub record AlternativesBelow (n : ℕ) (ms : List Matched) : Type 0 where
+    pub trees : TreesBelow (n + taken (all_notes ms)) ms
+    pub variables : LocalsBelow (n + taken (all_notes ms)) (first_variables ms)
 
-  alternatives_below : (ps : Alternatives) (n : ℕ) (t : Tree) → TyVarsBelow n t → AlternativesBelow n (alternatives_pieces w n t ps)
+  pub alternatives_below : (ps : Alternatives) (n : ℕ) (t : Tree) → TyVarsBelow n t → AlternativesBelow n (alternatives_pieces w n t ps)
   alternatives_below no_alternatives n t h = record { trees = tt; variables = tt }
   alternatives_below (more_alternatives i p ps) n t h =
       let one = pattern_piece w None n t p in
