@@ -1,0 +1,107 @@
+// Names that a declaration makes, and what names mean where it stands.
+// They stand on scopes and signatures; each kind of declaration stands on them.
+ghost use Rattle.std.specs.Prelude.{◌≡◌, ℕ, List, [], ◌++◌, length, map, IfOk, OnOk, option_map};
+ghost use Rattle.std.specs.Option.{is_some};
+ghost use Rattle.trees.specs.Tree.{Tree};
+ghost use Rattle.tasks.specs.Meaning.{symbols_at};
+ghost use Rattle.elab_names.specs.Abstract.{texts};
+ghost use Rattle.elab_names.specs.Where.{place_of};
+ghost use Rattle.elab_names.specs.Naming.{where_at, tuple_among};
+ghost use Rattle.elab_names.specs.declared.NamingFault.TheVariants.{Duplicate};
+ghost use Rattle.elab_walk.specs.Scoped.{IsScoped};
+ghost use Rattle.elab_walk.specs.Drafts.{WorldHeld};
+ghost use Rattle.elab_parts.specs.Declarations.{word, words, list_fault};
+ghost use Rattle.elab_parts.specs.Written.{written};
+ghost use Rattle.elab_parts.specs.Entries.{tuple_in, IsSignature, AreScopes};
+ghost use Rattle.elab_parts.specs.Outcomes.{over};
+
+use elab_names::{TupleName, World};
+use names_space::Scope;
+use outside::Text;
+use std::alloc::{AllocError, Global};
+use syntax_why::Name;
+use tasks::Signature;
+
+/// A name with its token.
+#[derive(Clone, Copy)]
+pub struct Written<'a> {
+    pub at: usize,
+    pub text: &'a [u8],
+}
+
+/// Names, behind those that are there.
+pub fn gather<'a>(list: &mut Vec<Written<'a>>, names: &'a [Name]) -> Result<(), AllocError>
+    ensures { OnOk result (map written list.new.items ≡ map written list.old.items ++ map word
+        names.now) }
+{
+    let Some((first, rest)) = names.split_first() else {
+        return Ok(());
+    };
+    list.push(Written {
+        at: first.at,
+        text: first.text.as_slice(),
+    })?;
+    gather(list, rest)
+}
+
+// Whether a name is among these.
+fn is_among(list: &[Written<'_>], name: &[u8]) -> bool
+    ensures { result ≡ is_some (place_of name.now (words (map written list.now))) }
+{
+    match list.split_first() {
+        Some((first, rest)) => first.text == name || is_among(rest, name),
+        None => false,
+    }
+}
+
+/// The token of the second of two equal names in a list.
+pub fn repeated(list: &[Written<'_>]) -> Option<usize>
+    ensures { option_map Duplicate result ≡ list_fault [] (map written list.now) }
+{
+    for (number, name) in list.iter().enumerate() {
+        if is_among(&list[..number], name.text) {
+            return Some(name.at);
+        }
+    }
+    None
+}
+
+/// The texts of names.
+pub fn texts_of(alloc: Global, names: &[Name]) -> Result<Vec<Text>, AllocError>
+    ensures { IfOk result (λ them. them.items ≡ texts names.now) }
+{
+    let mut them = Vec::new(alloc);
+    for name in names {
+        let text = Text::from_slice(alloc, name.text.as_slice())?;
+        them.push(text)?;
+    }
+    Ok(them)
+}
+
+/// What names mean over a signature and scopes, with the constructors of tuples and the type variables of a declaration.
+pub fn world_over<'a>(
+    sig: &'a Signature,
+    scope: &'a Scope,
+    tuples: &'a [TupleName],
+    vars: &'a [Text],
+    new_vars: bool,
+) -> World<'a>
+    requires { (s : List Tree) (n : ℕ) → tuple_among tuples.now n ≡ tuple_in
+        (symbols_at s sig.now.symbols) n }
+    ensures names { (s : List Tree) → where_at s result ≡ over s (symbols_at s sig.now.symbols)
+        scope.now vars.now }
+    ensures open { result.new_vars ≡ new_vars }
+    ensures vars { result.vars.now ≡ vars.now }
+    ensures held { (s : List Tree) → IsSignature s sig.now.symbols → AreScopes s
+        (length sig.now.symbols) scope.now → WorldHeld s result }
+    ensures scoped { (s : List Tree) → IsSignature s sig.now.symbols → AreScopes s
+        (length sig.now.symbols) scope.now → IsScoped (where_at s result) }
+{
+    World {
+        symbols: sig.symbols.as_slice(),
+        scope,
+        tuples,
+        vars,
+        new_vars,
+    }
+}

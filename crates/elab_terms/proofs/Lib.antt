@@ -1,0 +1,4 @@
+pub mod Over
+pub mod Proposed
+pub mod TypesMade
+pub mod Rows

@@ -1,0 +1,111 @@
+// Elaboration: the declarations, entries, names and matches of a declaration, or its first fault.
+// It stands on each kind of declaration; theories stand on it.
+ghost use Rattle.std.specs.Prelude.{◌≡◌, ℕ, List, length, IsTrue, IsSomeAnd, IfSome, IfOk, IfErr};
+ghost use Rattle.trees.specs.Tree.{Tree};
+ghost use Rattle.names_space.specs.Names.{start};
+ghost use Rattle.trees.specs.Node.{Grows};
+ghost use Rattle.syntax_why.specs.SurfaceDeclarations.{decl_of};
+ghost use Rattle.elab_parts.specs.Declarations.{declaration};
+ghost use Rattle.elab_parts.specs.Entries.{IsSignature, AreScopes};
+ghost use Rattle.elab_parts.specs.Outcomes.{standing, IsKept};
+ghost use Rattle.elab_terms.specs.Outcomes.{IsCovered, IsElaborated, IsRefusal};
+
+use crate::propositions::elaborate_proposition;
+use crate::types::elaborate_type_declaration;
+use elab_parts::{ElabFault, Elaborated, Place};
+use names_space::Scope;
+use outside::{Seq, Text};
+use std::alloc::{AllocError, Global};
+use syntax_why::{DeclNode, DeclTree};
+use tasks::{Signature, SymbolInfo, SymbolKind};
+use term_store::Store;
+
+/// The declarations, the entries, the names and the matches of a declaration, or its first fault. `theory` is the path of its
+/// theory, `within` has the names of the open scopes, each followed by a dot, and `at` is its number, which faults carry. It is
+/// a type without a definition, an alias or a proposition.
+///
+/// After `Ok` the signature has its earlier entries, then those of the tuples of new widths by first appearance, of what the
+/// declaration makes, and of the type variables of a lemma or a goal; the innermost scope has the name that it makes. After a
+/// refusal the signature and the scope are used no more.
+pub fn elaborate(
+    alloc: Global,
+    store: &mut Store,
+    sig: &mut Signature,
+    scope: &mut Scope,
+    theory: &str,
+    within: &str,
+    decl: &DeclTree,
+    at: usize,
+) -> Result<Elaborated, ElabFault>
+    requires signature { IsSignature store.old sig.old.symbols }
+    requires scopes { AreScopes store.old (length sig.old.symbols) scope.old }
+    requires covered { IsSomeAnd (declaration (decl_of decl.now)) IsCovered }
+    ensures ok { IfOk result (λ made. IfSome (declaration (decl_of decl.now))
+        (λ d. IsElaborated (standing theory.now within.now at store.old sig.old scope.old) d sig.old
+        store.new sig.new scope.new made)) }
+    ensures kept { IfOk result (IsKept store.new sig.new scope.new) }
+    ensures err { IfErr result (λ fault. IfSome (declaration (decl_of decl.now))
+        (λ d. IsRefusal (standing theory.now within.now at store.old sig.old scope.old) d fault)) }
+    ensures grows { Grows store.old store.new }
+{
+    let place = Place {
+        theory: theory.as_bytes(),
+        within: within.as_bytes(),
+        decl: at,
+    };
+    match &decl.node {
+        DeclNode::TypeDecl(name, vars, ty) => {
+            let vars = vars.as_slice();
+            elaborate_type_declaration(alloc, store, sig, scope, &place, name, vars, ty)
+        }
+        DeclNode::Prop(kind, name, e) => {
+            elaborate_proposition(alloc, store, sig, scope, &place, *kind, name, e)
+        }
+        DeclNode::Algebraic(_) => unreachable!(),
+        DeclNode::Function(_, _, _, _, _) => unreachable!(),
+        DeclNode::Predicate(_, _, _, _) => unreachable!(),
+        DeclNode::Constant(_, _, _) => unreachable!(),
+        DeclNode::Inductive(_) => unreachable!(),
+        DeclNode::UseTheory(_, _, _) => unreachable!(),
+        DeclNode::CloneTheory(_, _, _, _) => unreachable!(),
+        DeclNode::ScopeDecl(_, _) => unreachable!(),
+    }
+}
+
+/// The signature that has the type `int` alone.
+pub fn begin(alloc: Global) -> Result<Signature, AllocError>
+    ensures { IfOk result (λ sig. (s : List Tree) → IsSignature s sig.symbols) }
+{
+    let mut symbols = Seq::new(alloc);
+    symbols.push(SymbolInfo {
+        theory: Text::from_slice(alloc, b"BuiltIn")?,
+        name: Text::from_slice(alloc, b"int")?,
+        kind: SymbolKind::Kind,
+        vars: 0,
+        args: Seq::new(alloc),
+        result: None,
+    })?;
+    Ok(Signature {
+        symbols,
+        ints: None,
+    })
+}
+
+/// A scope without names, in which each name stands for what it may. It does nothing when it runs.
+pub fn no_names(scope: &Scope)
+    requires { scope.now ≡ start }
+    ensures { (s : List Tree) (count : ℕ) → AreScopes s count scope.now }
+{
+    let _ = scope;
+}
+
+/// Whether a declaration is of a form that `elaborate` takes.
+pub fn is_covered(decl: &DeclTree) -> bool
+    ensures { IsTrue result → IsSomeAnd (declaration (decl_of decl.now)) IsCovered }
+{
+    match &decl.node {
+        DeclNode::TypeDecl(_, _, _) => true,
+        DeclNode::Prop(_, _, _) => true,
+        _ => false,
+    }
+}
