@@ -26,7 +26,8 @@ use Rattle.elab_parts.specs.declared.made.Elaborated.{Elaborated}
 use Rattle.elab_parts.specs.declared.made.Place.{Place}
 use Rattle.elab_parts.specs.Elaborated.{IsSolved, unseen}
 use Rattle.elab_parts.specs.Entries.{type_entry, wanting_tuples, IsExtended}
-use Rattle.elab_parts.specs.Declarations.{Called, Declaration, abstract_type, alias, proposition, words, made_by, made_fault}
+use Rattle.elab_parts.specs.Declarations.{Called, Declaration, abstract_type, alias, members, proposition, words, made_by, made_fault}
+use Rattle.elab_members.specs.Symbols.{symbol_outcome, signature_fault}
 use Rattle.elab_parts.specs.Outcomes.{Setting, Outcome, over, around, tuples_wanting, tupled, full_name, declared_in, setting, IsRefusalFor, IsElaboratedAs}
 
 -- ---- a type symbol without a definition
@@ -107,18 +108,21 @@ abbrev pub IsCovered : Declaration → Type 0
 IsCovered (abstract_type x vs) = Unit {0}
 IsCovered (alias x vs f) = Unit {0}
 IsCovered (proposition k x e) = Unit {0}
+IsCovered (members (m ∷ [])) = m.body ≡ None
 IsCovered _ = ⊥
 
 abbrev pub IsOutcome : Setting → List Tree → Declaration → Outcome → Type 0
 IsOutcome c s' (abstract_type x vs) o = o ≡ type_outcome c x (length vs)
 IsOutcome c s' (alias x vs f) o = IsAlias c s' x vs f o
 IsOutcome c s' (proposition k x e) o = IsProposition c k x e o
+IsOutcome c s' (members (m ∷ [])) o = o ≡ symbol_outcome c m
 IsOutcome c s' _ o = ⊥
 
 -- the first fault of the names that it uses
 abbrev pub used_fault : Setting → Declaration → Option NamingFault
 used_fault c (alias x vs f) = form_fault (around c (words vs)) false f
 used_fault c (proposition k x e) = fault (around c []) true [] true e
+used_fault c (members (m ∷ [])) = signature_fault (around c []) m
 used_fault c _ = None
 
 -- of those that it makes, and then of those that it uses

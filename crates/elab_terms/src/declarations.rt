@@ -1,6 +1,6 @@
 // Elaboration: the declarations, entries, names and matches of a declaration, or its first fault.
 // It stands on each kind of declaration; theories stand on it.
-ghost use Rattle.std.specs.Prelude.{◌≡◌, ℕ, List, length, IsTrue, IsSomeAnd, IfSome, IfOk, IfErr};
+ghost use Rattle.std.specs.Prelude.{◌≡◌, ℕ, List, [], None, length, IsTrue, IsSomeAnd, IfSome, IfOk, IfErr};
 ghost use Rattle.trees.specs.Tree.{Tree};
 ghost use Rattle.names_space.specs.Names.{start};
 ghost use Rattle.trees.specs.Node.{Grows};
@@ -12,17 +12,18 @@ ghost use Rattle.elab_terms.specs.Outcomes.{IsCovered, IsElaborated, IsRefusal};
 
 use crate::propositions::elaborate_proposition;
 use crate::types::elaborate_type_declaration;
+use elab_members::elaborate_symbol;
 use elab_parts::{ElabFault, Elaborated, Place};
 use names_space::Scope;
 use outside::{Seq, Text};
 use std::alloc::{AllocError, Global};
-use syntax_why::{DeclNode, DeclTree};
+use syntax_why::{DeclNode, DeclTree, Expr, MemberTree};
 use tasks::{Signature, SymbolInfo, SymbolKind};
 use term_store::Store;
 
 /// The declarations, the entries, the names and the matches of a declaration, or its first fault. `theory` is the path of its
 /// theory, `within` has the names of the open scopes, each followed by a dot, and `at` is its number, which faults carry. It is
-/// a type without a definition, an alias or a proposition.
+/// a type, a function, a predicate or a constant without a definition, an alias or a proposition.
 ///
 /// After `Ok` the signature has its earlier entries, then those of the tuples of new widths by first appearance, of what the
 /// declaration makes, and of the type variables of a lemma or a goal; the innermost scope has the name that it makes. After a
@@ -62,9 +63,25 @@ pub fn elaborate(
             elaborate_proposition(alloc, store, sig, scope, &place, *kind, name, e)
         }
         DeclNode::Algebraic(_) => unreachable!(),
-        DeclNode::Function(_, _, _, _, _) => unreachable!(),
-        DeclNode::Predicate(_, _, _, _) => unreachable!(),
-        DeclNode::Constant(_, _, _) => unreachable!(),
+        DeclNode::Function(name, params, ty, _, _) => {
+            let params = params.as_slice();
+            elaborate_symbol(alloc, store, sig, scope, &place, name, params, Some(ty))
+        }
+        DeclNode::Predicate(name, params, _, _) => {
+            elaborate_symbol(
+                alloc,
+                store,
+                sig,
+                scope,
+                &place,
+                name,
+                params.as_slice(),
+                None,
+            )
+        }
+        DeclNode::Constant(name, ty, _) => {
+            elaborate_symbol(alloc, store, sig, scope, &place, name, &[], Some(ty))
+        }
         DeclNode::Inductive(_) => unreachable!(),
         DeclNode::UseTheory(_, _, _) => unreachable!(),
         DeclNode::CloneTheory(_, _, _, _) => unreachable!(),
@@ -99,6 +116,13 @@ pub fn no_names(scope: &Scope)
     let _ = scope;
 }
 
+// Whether a symbol has no definition and no other members in its group.
+fn is_alone(body: &Option<Expr>, members: &[MemberTree]) -> bool
+    ensures { IsTrue result → (body.now ≡ None) × (members.now ≡ []) }
+{
+    body.is_none() && members.is_empty()
+}
+
 /// Whether a declaration is of a form that `elaborate` takes.
 pub fn is_covered(decl: &DeclTree) -> bool
     ensures { IsTrue result → IsSomeAnd (declaration (decl_of decl.now)) IsCovered }
@@ -106,6 +130,9 @@ pub fn is_covered(decl: &DeclTree) -> bool
     match &decl.node {
         DeclNode::TypeDecl(_, _, _) => true,
         DeclNode::Prop(_, _, _) => true,
+        DeclNode::Function(_, _, _, body, members) => is_alone(body, members.as_slice()),
+        DeclNode::Predicate(_, _, body, members) => is_alone(body, members.as_slice()),
+        DeclNode::Constant(_, _, body) => is_alone(body, &[]),
         _ => false,
     }
 }

@@ -7,4 +7,6 @@ mod answers;
 #[cfg(test)]
 mod propositions;
 #[cfg(test)]
+mod symbols;
+#[cfg(test)]
 mod types;

@@ -1,0 +1,2 @@
+pub mod ParamsClosed
+pub mod SymbolsMade

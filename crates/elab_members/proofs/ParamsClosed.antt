@@ -1,0 +1,98 @@
+-- Signatures whose names are there: closed at their own type variables, their types have no others.
+use Rattle.std.proofs.Common.{◌≡◌, ℕ, true, false, List, [], ◌∷◌, ◌++◌, length, Option, Some, None, IfSome, option_map, refl, sym, ap, subst, ◌∙◌}
+use Rattle.std.specs.Option.{is_some}
+use Rattle.trees.specs.Tree.{Tree}
+use Rattle.trees.specs.Node.{Grows}
+use Rattle.trees.specs.Facts.{TyVarsBelow}
+use Rattle.tasks.specs.Task.{SymbolTree}
+use Rattle.tasks.specs.Meaning.{symbols_at}
+use Rattle.tasks.specs.declared.signature.Signature.{Signature}
+use Rattle.names_space.specs.Names.{Names}
+use Rattle.syntax_why.specs.Lexeme.{Word}
+use Rattle.elab_names.specs.Abstract.{Form, Binder, quantified, truth, none}
+use Rattle.elab_names.specs.declared.NamingFault.{NamingFault}
+use Rattle.elab_names.specs.Faults.{first_of, form_fault, type_fault, binders_fault, fault}
+use Rattle.elab_names.specs.Where.{Where, place_of}
+use Rattle.elab_variables.specs.Seen.{Seen, form_seen, type_seen, binders_seen, seen}
+use Rattle.elab_variables.proofs.Closing.{AreIn, closed}
+use Rattle.elab_walk.specs.Pieces.{type_at}
+use Rattle.elab_walk.specs.Scoped.{IsScoped}
+use Rattle.elab_walk.proofs.Below.{AreBelow, form_below, both_all}
+use Rattle.elab_walk.proofs.Walking.{none_both}
+use Rattle.elab_parts.specs.Elaborated.{unseen}
+use Rattle.elab_parts.specs.Declarations.{Called, Parameter, words, params_seen, params_fault, with_vars}
+use Rattle.elab_parts.specs.Entries.{IsSignature, IsExtended, AreScopes}
+use Rattle.elab_parts.specs.Outcomes.{over}
+use Rattle.elab_parts.proofs.Alike.{binders_alike}
+use Rattle.elab_parts.proofs.Tupled.{alike_extended, scoped_extended}
+use Rattle.elab_members.specs.Symbols.{copies, parameter_types, symbol_seen}
+
+-- parameters and a result as the binders of a formula
+abbrev pub as_binder : Parameter → Binder
+as_binder p = record { names = words p.names; of_type = Some p.of_type }
+
+abbrev pub as_binders : List Parameter → Option Form → List Binder
+as_binders [] r = record { names = []; of_type = r } ∷ []
+as_binders (p ∷ ps) r = as_binder p ∷ as_binders ps r
+
+first_alone : (a : Option NamingFault) → first_of a None ≡ a
+first_alone None = refl
+first_alone (Some f) = refl
+
+first_assoc : (a b c : Option NamingFault) → first_of (first_of a b) c ≡ first_of a (first_of b c)
+first_assoc None b c = refl
+first_assoc (Some f) b c = refl
+
+bound_fault : (w : Where) (ps : List Parameter) (r : Option Form) → first_of (params_fault w ps) (type_fault w true r) ≡ binders_fault w true (as_binders ps r)
+bound_fault w [] r = sym (first_alone (type_fault w true r))
+bound_fault w (p ∷ ps) r = first_assoc (form_fault w true p.of_type) (params_fault w ps) (type_fault w true r) ∙ ap (first_of (form_fault w true p.of_type)) (bound_fault w ps r)
+
+bound_seen : (ps : List Parameter) (r : Option Form) (s : Seen) → binders_seen s (as_binders ps r) ≡ type_seen (params_seen s ps) r
+bound_seen [] r s = refl
+bound_seen (p ∷ ps) r s = bound_seen ps r (form_seen s p.of_type)
+
+-- under a quantifier
+pub signature_closed : (w : Where) (ps : List Parameter) (r : Option Form) → first_of (params_fault w ps) (type_fault w true r) ≡ None
+    → binders_fault (with_vars w (symbol_seen ps r).vars) false (as_binders ps r) ≡ None
+signature_closed w ps r h =
+    let bs = as_binders ps r in
+    let vs = (symbol_seen ps r).vars in
+    let open_fault : fault w true [] true (quantified 0 true bs none (truth 0)) ≡ None = first_alone (binders_fault w true bs) ∙ sym (bound_fault w ps r) ∙ h in
+    let within : AreIn (seen unseen (quantified 0 true bs none (truth 0))).vars vs = λ v m. subst (λ (s : Seen). is_some (place_of v s.vars) ≡ true) (bound_seen ps r unseen) m in
+    sym (first_alone (binders_fault (with_vars w vs) false bs)) ∙ closed w vs (quantified 0 true bs none (truth 0)) unseen [] true open_fault within
+
+module _ (w : Where) (sc : IsScoped w) where
+  copies_below : (n : ℕ) (t : Tree) (xs : List Called) → TyVarsBelow n t → AreBelow n (copies t xs)
+  copies_below n t [] h = (h, tt)
+  copies_below n t (x ∷ []) h = (h, tt)
+  copies_below n t (x ∷ y ∷ ys) h = (h, copies_below n t (y ∷ ys) h)
+
+  pub params_below : (ps : List Parameter) (r : Option Form) → binders_fault w false (as_binders ps r) ≡ None → AreBelow (length w.vars) (parameter_types w ps)
+  params_below [] r h = tt
+  params_below (p ∷ ps) r h =
+      let q = none_both (form_fault w false p.of_type) (binders_fault w false (as_binders ps r)) h in
+      both_all (TyVarsBelow (length w.vars)) (copies (type_at w p.of_type) p.names) (parameter_types w ps) (copies_below (length w.vars) (type_at w p.of_type) p.names (form_below w sc p.of_type q.0)) (params_below ps r q.1)
+
+  pub result_below : (ps : List Parameter) (r : Option Form) → binders_fault w false (as_binders ps r) ≡ None → IfSome (option_map (type_at w) r) (TyVarsBelow (length w.vars))
+  result_below [] None h = tt
+  result_below [] (Some f) h = form_below w sc f (none_both (form_fault w false f) None h).0
+  result_below (p ∷ ps) r h = result_below ps r (none_both (form_fault w false p.of_type) (binders_fault w false (as_binders ps r)) h).1
+
+-- where the tuples of the declaration are entered
+module _ (s s1 : List Tree) (grows : Grows s s1) (a b : Signature) (more : List SymbolTree) (names : Names) (sig : IsSignature s a.symbols) (scopes : AreScopes s (length a.symbols) names) (ext : IsExtended s a s1 b more) (ps : List Parameter) (r : Option Form)
+    (right : first_of (params_fault (over s (symbols_at s a.symbols) names []) ps) (type_fault (over s (symbols_at s a.symbols) names []) true r) ≡ None) where
+  abbrev vars : List Word
+  vars = (symbol_seen ps r).vars
+
+  abbrev inside : Where
+  inside = over s (symbols_at s a.symbols ++ more) names vars
+
+  closed_inside : binders_fault inside false (as_binders ps r) ≡ None
+  closed_inside =
+      sym (binders_alike (over s (symbols_at s a.symbols) names vars) inside (alike_extended s s1 grows a b more names sig scopes ext vars).forms false (as_binders ps r)) ∙ signature_closed (over s (symbols_at s a.symbols) names []) ps r right
+
+  pub args_within : AreBelow (length vars) (parameter_types inside ps)
+  args_within = params_below inside (scoped_extended s s1 grows a b more names sig scopes ext vars) ps r closed_inside
+
+  pub result_within : IfSome (option_map (type_at inside) r) (TyVarsBelow (length vars))
+  result_within = result_below inside (scoped_extended s s1 grows a b more names sig scopes ext vars) ps r closed_inside
