@@ -60,7 +60,8 @@ fn push_places(
     requires things_held { AreHeld store.now things.now }
     requires held { Holds store.now types }
     ensures { OnOk result (places.new.items ≡ places.old.items
-        ++ map (λ type. place_of (seen_at store.now things.now) (thing_of type)) (members (tree_at store.now types))) }
+        ++ map (λ type. place_of (seen_at store.now things.now) (thing_of type)) (members (tree_at
+        store.now types))) }
 {
     match store.node(types) {
         Node::Cell(first, rest) => {
@@ -82,7 +83,8 @@ fn entry_of(
 ) -> Result<NameEntry, AllocError>
     requires things_held { AreHeld store.now things.now }
     requires held { KeyHeld store.now key }
-    ensures { IfOk result (λ e. e ≡ entry_of (task_at store.now task.now) (seen_at store.now things.now) place (occurrence_at store.now key)) }
+    ensures { IfOk result (λ e. e ≡ entry_of (task_at store.now task.now) (seen_at store.now
+        things.now) place (occurrence_at store.now key)) }
 {
     let mut places = Vec::new(alloc);
     push_places(store, things, TermId(key.1), &mut places)?;
@@ -102,7 +104,8 @@ pub fn names_of(
     things: &Things,
 ) -> Result<Vec<NameEntry>, AllocError>
     requires { AreHeld store.now things.now }
-    ensures names { IfOk result (λ v. v.items ≡ names_of (task_at store.now task.now) (seen_at store.now things.now)) }
+    ensures names { IfOk result (λ v. v.items ≡ names_of (task_at store.now task.now) (seen_at
+        store.now things.now)) }
     ensures differ { IfOk result (λ v. NamesDiffer v.items) }
 {
     let mut names = Vec::new(alloc);

@@ -108,7 +108,8 @@ fn declared_in(alloc: Global, task: &Task) -> Result<Vec<usize>, AllocError>
 fn add_keys(store: &Store, keys: &mut IndexSet<Key>, more: &[Key]) -> Result<(), AllocError>
     requires keys_held { AreHeld store.now keys.old.keys }
     requires held { AreHeld store.now more.now }
-    ensures { OnOk result (Gains store.now keys.old.keys (seen_at store.now more.now) keys.new.keys) }
+    ensures { OnOk result (Gains store.now keys.old.keys (seen_at store.now more.now)
+        keys.new.keys) }
 {
     for key in more {
         add_key(store, keys, *key)?;
@@ -134,7 +135,8 @@ fn add_instances(
 ) -> Result<(), AllocError>
     requires keys_held { AreHeld store.now keys.old.keys }
     requires groups_held { All (AreHeld store.now) groups.now }
-    ensures { OnOk result (Gains store.now keys.old.keys (instances_in store.now ints groups.now symbol) keys.new.keys) }
+    ensures { OnOk result (Gains store.now keys.old.keys (instances_in store.now ints groups.now
+        symbol) keys.new.keys) }
 {
     if is_interpreted(ints, symbol) {
         return add_whole(store, keys, symbol);
@@ -155,7 +157,8 @@ fn add_all_instances(
 ) -> Result<(), AllocError>
     requires keys_held { AreHeld store.now keys.old.keys }
     requires groups_held { All (AreHeld store.now) groups.now }
-    ensures { OnOk result (Gains store.now keys.old.keys (flat_map (instances_in store.now ints groups.now) symbols.now) keys.new.keys) }
+    ensures { OnOk result (Gains store.now keys.old.keys (flat_map (instances_in store.now ints
+        groups.now) symbols.now) keys.new.keys) }
 {
     for symbol in symbols {
         add_instances(store, keys, ints, groups, *symbol)?;
@@ -188,7 +191,8 @@ impl Things {
     pub fn of_problem(alloc: Global, store: &Store, task: &Task) -> Result<Things, AllocError>
         requires { TaskHeld store.now task.now }
         ensures held { IfOk result (AreHeld store.now) }
-        ensures things { IfOk result (λ v. seen_at store.now v ≡ problem_things (task_at store.now task.now)) }
+        ensures things { IfOk result (λ v. seen_at store.now v ≡ problem_things (task_at store.now
+            task.now)) }
     {
         let groups = groups_in(alloc, store, task)?;
         let symbols = declared_in(alloc, task)?;
@@ -206,7 +210,8 @@ impl Things {
     /// What stands in the table of a task: each of its symbols, whole. Only want of memory refuses.
     pub fn of_task(alloc: Global, store: &Store, task: &Task) -> Result<Things, AllocError>
         ensures held { IfOk result (AreHeld store.now) }
-        ensures things { IfOk result (λ v. seen_at store.now v ≡ task_things (task_at store.now task.now)) }
+        ensures things { IfOk result (λ v. seen_at store.now v ≡ task_things (task_at store.now
+            task.now)) }
     {
         let symbols = declared_in(alloc, task)?;
         let mut keys = IndexSet::new(alloc);
@@ -218,7 +223,8 @@ impl Things {
     pub fn of_term(alloc: Global, store: &Store, e: TermId) -> Result<Things, AllocError>
         requires { Holds store.now e }
         ensures held { IfOk result (AreHeld store.now) }
-        ensures things { IfOk result (λ v. seen_at store.now v ≡ distinct (occurrences (tree_at store.now e))) }
+        ensures things { IfOk result (λ v. seen_at store.now v ≡ distinct (occurrences (tree_at
+            store.now e))) }
     {
         let keys = seen_in_term(alloc, store, e)?;
         Ok(Things { keys })
@@ -228,7 +234,8 @@ impl Things {
     pub fn of_type(alloc: Global, store: &Store, ty: TermId) -> Result<Things, AllocError>
         requires { Holds store.now ty }
         ensures held { IfOk result (AreHeld store.now) }
-        ensures things { IfOk result (λ v. seen_at store.now v ≡ distinct (in_type (tree_at store.now ty))) }
+        ensures things { IfOk result (λ v. seen_at store.now v ≡ distinct (in_type (tree_at
+            store.now ty))) }
     {
         let keys = seen_in_type(alloc, store, ty)?;
         Ok(Things { keys })
@@ -254,7 +261,8 @@ impl Things {
     pub fn place_of(&self, store: &Store, symbol: usize, types: TermId) -> usize
         requires things_held { AreHeld store.now self.now }
         requires held { Holds store.now types }
-        ensures { result ≡ place_of (seen_at store.now self.now) (occurrence symbol (tree_at store.now types)) }
+        ensures { result ≡ place_of (seen_at store.now self.now) (occurrence symbol (tree_at
+            store.now types)) }
     {
         store.laws();
         match self.keys.get_index_of(&(symbol, types.0)) {

@@ -35,7 +35,8 @@ pub(crate) fn empty_list(store: &Store) -> TermId
 pub(crate) fn add_key(store: &Store, keys: &mut IndexSet<Key>, key: Key) -> Result<(), AllocError>
     requires keys_held { AreHeld store.now keys.old.keys }
     requires held { KeyHeld store.now key }
-    ensures { OnOk result (Gains store.now keys.old.keys (occurrence_at store.now key ∷ []) keys.new.keys) }
+    ensures { OnOk result (Gains store.now keys.old.keys (occurrence_at store.now key ∷ [])
+        keys.new.keys) }
 {
     store.laws();
     keys.insert(key)?;
@@ -56,8 +57,10 @@ pub(crate) fn has_key(store: &Store, keys: &IndexSet<Key>, key: Key) -> bool
 fn note(store: &Store, seen: &mut IndexSet<Key>, key: Key) -> Result<(), AllocError>
     requires seen { IsSeen store.now seen.old.keys }
     requires held { KeyHeld store.now key }
-    requires types { AreIn (seen_at store.now seen.old.keys) (in_type (occurrence_at store.now key).types) }
-    ensures { OnOk result (Sees store.now seen.old.keys (occurrence_at store.now key ∷ []) seen.new.keys) }
+    requires types { AreIn (seen_at store.now seen.old.keys) (in_type (occurrence_at store.now
+        key).types) }
+    ensures { OnOk result (Sees store.now seen.old.keys (occurrence_at store.now key ∷ [])
+        seen.new.keys) }
 {
     add_key(store, seen, key)
 }
@@ -66,7 +69,8 @@ fn note(store: &Store, seen: &mut IndexSet<Key>, key: Key) -> Result<(), AllocEr
 fn note_type(store: &Store, seen: &mut IndexSet<Key>, ty: TermId) -> Result<(), AllocError>
     requires seen { IsSeen store.now seen.old.keys }
     requires held { Holds store.now ty }
-    ensures { OnOk result (Sees store.now seen.old.keys (in_type (tree_at store.now ty)) seen.new.keys) }
+    ensures { OnOk result (Sees store.now seen.old.keys (in_type (tree_at store.now ty))
+        seen.new.keys) }
 {
     match store.node(ty) {
         Node::TyRigid(symbol) => note(store, seen, (symbol, empty_list(store).0)),
@@ -89,7 +93,8 @@ fn note_type(store: &Store, seen: &mut IndexSet<Key>, ty: TermId) -> Result<(), 
 fn note_type_of(store: &Store, seen: &mut IndexSet<Key>, e: TermId) -> Result<(), AllocError>
     requires seen { IsSeen store.now seen.old.keys }
     requires held { Holds store.now e }
-    ensures { OnOk result (Sees store.now seen.old.keys (in_option (type_of (tree_at store.now e))) seen.new.keys) }
+    ensures { OnOk result (Sees store.now seen.old.keys (in_option (type_of (tree_at store.now e)))
+        seen.new.keys) }
 {
     match store.ty(e) {
         Some(ty) => note_type(store, seen, ty),
@@ -101,7 +106,8 @@ fn note_type_of(store: &Store, seen: &mut IndexSet<Key>, e: TermId) -> Result<()
 fn note_types_of(store: &Store, seen: &mut IndexSet<Key>, args: TermId) -> Result<(), AllocError>
     requires seen { IsSeen store.now seen.old.keys }
     requires held { Holds store.now args }
-    ensures { OnOk result (Sees store.now seen.old.keys (in_types_of (tree_at store.now args)) seen.new.keys) }
+    ensures { OnOk result (Sees store.now seen.old.keys (in_types_of (tree_at store.now args))
+        seen.new.keys) }
 {
     match store.node(args) {
         Node::Cell(first, rest) => {
@@ -121,7 +127,8 @@ fn note_at_types(
 ) -> Result<(), AllocError>
     requires seen { IsSeen store.now seen.old.keys }
     requires held { Holds store.now types }
-    ensures { OnOk result (Sees store.now seen.old.keys (at_types symbol (tree_at store.now types)) seen.new.keys) }
+    ensures { OnOk result (Sees store.now seen.old.keys (at_types symbol (tree_at store.now types))
+        seen.new.keys) }
 {
     note_type(store, seen, types)?;
     note(store, seen, (symbol, types.0))
@@ -141,7 +148,8 @@ fn note_function(
     requires args_held { Holds store.now args }
     requires result_held { Holds store.now result_type }
     ensures { OnOk result (Sees store.now seen.old.keys (in_types_of (tree_at store.now args)
-        ++ (in_type (tree_at store.now result_type) ++ at_types symbol (tree_at store.now types))) seen.new.keys) }
+        ++ (in_type (tree_at store.now result_type) ++ at_types symbol (tree_at store.now types)))
+        seen.new.keys) }
 {
     note_types_of(store, seen, args)?;
     note_type(store, seen, result_type)?;
@@ -170,7 +178,8 @@ fn note_predicate(
 fn note_node(store: &Store, seen: &mut IndexSet<Key>, node: Node) -> Result<(), AllocError>
     requires seen { IsSeen store.now seen.old.keys }
     requires held { AreBelow (length store.now) (parts_of node) }
-    ensures { OnOk result (Sees store.now seen.old.keys (own (node_tree store.now node)) seen.new.keys) }
+    ensures { OnOk result (Sees store.now seen.old.keys (own (node_tree store.now node))
+        seen.new.keys) }
 {
     match node {
         Node::Num(_) => note(store, seen, (0, empty_list(store).0)),
@@ -197,7 +206,8 @@ fn note_term(
 ) -> Result<(), AllocError>
     requires walk { IsWalk store.now seen.old.keys done.old.keys }
     requires held { Holds store.now e }
-    ensures { OnOk result (Walks store.now seen.old.keys (occurrences (tree_at store.now e)) seen.new.keys done.new.keys) }
+    ensures { OnOk result (Walks store.now seen.old.keys (occurrences (tree_at store.now e))
+        seen.new.keys done.new.keys) }
 {
     if done.contains(&e.0) {
         return Ok(());
@@ -218,7 +228,8 @@ fn note_parts(
 ) -> Result<(), AllocError>
     requires walk { IsWalk store.now seen.old.keys done.old.keys }
     requires held { Holds store.now e }
-    ensures { OnOk result (Walks store.now seen.old.keys (inner (tree_at store.now e)) seen.new.keys done.new.keys) }
+    ensures { OnOk result (Walks store.now seen.old.keys (inner (tree_at store.now e))
+        seen.new.keys done.new.keys) }
 {
     match store.node(e).parts() {
         Parts::None => Ok(()),
@@ -243,7 +254,8 @@ fn note_formulas(
 ) -> Result<(), AllocError>
     requires walk { IsWalk store.now seen.old.keys done.old.keys }
     requires held { All (Holds store.now) formulas.now }
-    ensures { OnOk result (Walks store.now seen.old.keys (flat_map occurrences (trees_at store.now formulas.now)) seen.new.keys done.new.keys) }
+    ensures { OnOk result (Walks store.now seen.old.keys (flat_map occurrences (trees_at store.now
+        formulas.now)) seen.new.keys done.new.keys) }
 {
     for formula in formulas {
         note_term(store, seen, done, *formula)?;
@@ -260,7 +272,8 @@ fn note_body(
 ) -> Result<(), AllocError>
     requires walk { IsWalk store.now seen.old.keys done.old.keys }
     requires held { BodyHeld store.now body.now }
-    ensures { OnOk result (Walks store.now seen.old.keys (said (body_at store.now body.now)) seen.new.keys done.new.keys) }
+    ensures { OnOk result (Walks store.now seen.old.keys (said (body_at store.now body.now))
+        seen.new.keys done.new.keys) }
 {
     match body {
         Body::Prop(formula) => note_term(store, seen, done, *formula),
@@ -276,7 +289,8 @@ fn note_propositions(
 ) -> Result<(), AllocError>
     requires walk { IsWalk store.now seen.old.keys done.old.keys }
     requires held { All (DeclHeld store.now) decls.now }
-    ensures { OnOk result (Walks store.now seen.old.keys (flat_map in_proposition (props_of (declarations_at store.now decls.now))) seen.new.keys done.new.keys) }
+    ensures { OnOk result (Walks store.now seen.old.keys (flat_map in_proposition (props_of
+        (declarations_at store.now decls.now))) seen.new.keys done.new.keys) }
 {
     for decl in decls {
         note_body(store, seen, done, &decl.body)?;
@@ -288,7 +302,8 @@ fn note_propositions(
 fn note_types(store: &Store, seen: &mut IndexSet<Key>, types: &[TermId]) -> Result<(), AllocError>
     requires seen { IsSeen store.now seen.old.keys }
     requires held { All (Holds store.now) types.now }
-    ensures { OnOk result (Sees store.now seen.old.keys (flat_map in_type (trees_at store.now types.now)) seen.new.keys) }
+    ensures { OnOk result (Sees store.now seen.old.keys (flat_map in_type (trees_at store.now
+        types.now)) seen.new.keys) }
 {
     for ty in types {
         note_type(store, seen, *ty)?;
@@ -303,7 +318,8 @@ pub(crate) fn seen_in(
     task: &Task,
 ) -> Result<IndexSet<Key>, AllocError>
     requires { TaskHeld store.now task.now }
-    ensures { IfOk result (λ v. Gains store.now [] (task_occurrences (task_at store.now task.now)) v.keys) }
+    ensures { IfOk result (λ v. Gains store.now [] (task_occurrences (task_at store.now task.now))
+        v.keys) }
 {
     let mut seen = IndexSet::new(alloc);
     let mut done = IndexSet::new(alloc);
