@@ -5,7 +5,7 @@ use std::alloc::Global;
 use std::process::Abort;
 use term_store::Store;
 use trees::{Node, TermId};
-use unify_types::UnifyFault;
+use unify_types::{Solution, UnifyFault};
 
 // The first type variable stands for itself, the next four are unknowns.
 const RIGID: usize = 1;
@@ -131,6 +131,35 @@ fn bind(
     true
 }
 
+// Makes two types the same as far as their first symbols go, where that can be; their arguments wait.
+fn unify_one(
+    rt: &impl Abort,
+    alloc: Global,
+    store: &Store,
+    bound: &mut [Option<TermId>],
+    waiting: &mut Vec<(TermId, TermId)>,
+    pair: (TermId, TermId),
+) -> bool {
+    let a = resolve(rt, store, bound, pair.0);
+    let b = resolve(rt, store, bound, pair.1);
+    match (shape_of(rt, store, a), shape_of(rt, store, b)) {
+        (Shape::Variable(j), Shape::Variable(k)) if j == k => true,
+        (Shape::Variable(j), _) if j >= RIGID => bind(rt, alloc, store, bound, j, b),
+        (_, Shape::Variable(k)) if k >= RIGID => bind(rt, alloc, store, bound, k, a),
+        (Shape::Applied(f, xs), Shape::Applied(g, ys)) => {
+            waiting.push((xs, ys)).expect(rt, MEMORY);
+            f == g
+        }
+        (Shape::Cell(x, xs), Shape::Cell(y, ys)) => {
+            waiting.push((x, y)).expect(rt, MEMORY);
+            waiting.push((xs, ys)).expect(rt, MEMORY);
+            true
+        }
+        (Shape::End, Shape::End) => true,
+        _ => false,
+    }
+}
+
 // Makes two types the same, where that can be.
 fn unify_plainly(
     rt: &impl Abort,
@@ -142,28 +171,10 @@ fn unify_plainly(
     let mut waiting = Vec::new(alloc);
     waiting.push(pair).expect(rt, MEMORY);
     for _ in 0..1_000_000 {
-        let Some((left, right)) = waiting.pop() else {
+        let Some(pair) = waiting.pop() else {
             return true;
         };
-        let a = resolve(rt, store, bound, left);
-        let b = resolve(rt, store, bound, right);
-        let same = match (shape_of(rt, store, a), shape_of(rt, store, b)) {
-            (Shape::Variable(j), Shape::Variable(k)) if j == k => true,
-            (Shape::Variable(j), _) if j >= RIGID => bind(rt, alloc, store, bound, j, b),
-            (_, Shape::Variable(k)) if k >= RIGID => bind(rt, alloc, store, bound, k, a),
-            (Shape::Applied(f, xs), Shape::Applied(g, ys)) => {
-                waiting.push((xs, ys)).expect(rt, MEMORY);
-                f == g
-            }
-            (Shape::Cell(x, xs), Shape::Cell(y, ys)) => {
-                waiting.push((x, y)).expect(rt, MEMORY);
-                waiting.push((xs, ys)).expect(rt, MEMORY);
-                true
-            }
-            (Shape::End, Shape::End) => true,
-            _ => false,
-        };
-        if !same {
+        if !unify_one(rt, alloc, store, bound, &mut waiting, pair) {
             return false;
         }
     }
@@ -190,6 +201,59 @@ fn bindings(
     Some(bound)
 }
 
+// Writes the first symbol of a type, whose arguments wait; whether it is no unknown.
+fn write_one(
+    rt: &impl Abort,
+    store: &Store,
+    text: &mut Vec<usize>,
+    waiting: &mut Vec<TermId>,
+    at: TermId,
+) -> bool {
+    match shape_of(rt, store, at) {
+        Shape::Variable(j) => {
+            text.push(0).expect(rt, MEMORY);
+            j < RIGID
+        }
+        Shape::Applied(symbol, list) => {
+            text.extend_from_slice(&[1, symbol]).expect(rt, MEMORY);
+            waiting.push(list).expect(rt, MEMORY);
+            true
+        }
+        Shape::Cell(first, rest) => {
+            text.push(2).expect(rt, MEMORY);
+            waiting.extend_from_slice(&[rest, first]).expect(rt, MEMORY);
+            true
+        }
+        Shape::End | Shape::Other => {
+            text.push(3).expect(rt, MEMORY);
+            true
+        }
+    }
+}
+
+// Writes a type out; whether no unknown is left in it.
+fn write(
+    rt: &impl Abort,
+    alloc: Global,
+    store: &Store,
+    bound: &[Option<TermId>],
+    text: &mut Vec<usize>,
+    e: TermId,
+) -> bool {
+    let mut waiting = Vec::new(alloc);
+    waiting.push(e).expect(rt, MEMORY);
+    for _ in 0..1_000_000 {
+        let Some(e) = waiting.pop() else {
+            return true;
+        };
+        let at = resolve(rt, store, bound, e);
+        if !write_one(rt, store, text, &mut waiting, at) {
+            return false;
+        }
+    }
+    panic!(rt; "an endless type")
+}
+
 // A type written out; none where an unknown is left in it.
 fn written(
     rt: &impl Abort,
@@ -199,34 +263,11 @@ fn written(
     e: TermId,
 ) -> Option<Vec<usize>> {
     let mut text = Vec::new(alloc);
-    let mut waiting = Vec::new(alloc);
-    waiting.push(e).expect(rt, MEMORY);
-    for _ in 0..1_000_000 {
-        let Some(e) = waiting.pop() else {
-            return Some(text);
-        };
-        let at = resolve(rt, store, bound, e);
-        match shape_of(rt, store, at) {
-            Shape::Variable(j) => {
-                if j >= RIGID {
-                    return None;
-                }
-                text.push(0).expect(rt, MEMORY);
-            }
-            Shape::Applied(symbol, list) => {
-                text.push(1).expect(rt, MEMORY);
-                text.push(symbol).expect(rt, MEMORY);
-                waiting.push(list).expect(rt, MEMORY);
-            }
-            Shape::Cell(first, rest) => {
-                text.push(2).expect(rt, MEMORY);
-                waiting.push(rest).expect(rt, MEMORY);
-                waiting.push(first).expect(rt, MEMORY);
-            }
-            Shape::End | Shape::Other => text.push(3).expect(rt, MEMORY),
-        }
+    if write(rt, alloc, store, bound, &mut text, e) {
+        Some(text)
+    } else {
+        None
     }
-    panic!(rt; "an endless type")
 }
 
 // How many systems clash, and how many unknowns have a value.
@@ -236,45 +277,102 @@ struct Counts {
     values: u32,
 }
 
+// Some random equations between types.
+fn equations(
+    rt: &impl Abort,
+    alloc: Global,
+    types: &[TermId],
+    seed: &mut u64,
+) -> Vec<(TermId, TermId)> {
+    let mut pairs = Vec::new(alloc);
+    for _ in 0..random(seed, 4).saturating_add(1) {
+        let pair = (any(rt, seed, types), any(rt, seed, types));
+        pairs.push(pair).expect(rt, MEMORY);
+    }
+    pairs
+}
+
+// The last equation of the least prefix that the plain unifier has no solution of.
+fn least_clash(
+    rt: &impl Abort,
+    alloc: Global,
+    store: &Store,
+    pairs: &[(TermId, TermId)],
+) -> Option<usize> {
+    for k in 0..pairs.len() {
+        if bindings(rt, alloc, store, pairs, k + 1).is_none() {
+            return Some(k);
+        }
+    }
+    None
+}
+
+// Whether a value is what the plain unifier binds an unknown to.
+fn is_bound(
+    rt: &impl Abort,
+    alloc: Global,
+    store: &mut Store,
+    bound: &[Option<TermId>],
+    u: usize,
+    value: Option<TermId>,
+) -> bool {
+    let unknown = variable(rt, store, u);
+    let expected = written(rt, alloc, store, bound, unknown);
+    match value {
+        Some(value) => expected == written(rt, alloc, store, &[], value),
+        None => expected.is_none(),
+    }
+}
+
+// Compares the values of a solution; how many there are.
+fn compare_values(
+    rt: &impl Abort,
+    alloc: Global,
+    store: &mut Store,
+    pairs: &[(TermId, TermId)],
+    solution: &Solution,
+) -> u32 {
+    let bound = bindings(rt, alloc, store, pairs, pairs.len()).expect(rt, "a clash");
+    let mut values = 0u32;
+    for u in RIGID..VARIABLES {
+        let value = solution.value(u);
+        assert!(rt; is_bound(rt, alloc, store, &bound, u, value));
+        if value.is_some() {
+            values = values.saturating_add(1);
+        }
+    }
+    values
+}
+
+// Compares the answers to some equations.
+fn compare_answers(
+    rt: &impl Abort,
+    alloc: Global,
+    store: &mut Store,
+    pairs: &[(TermId, TermId)],
+    counts: &mut Counts,
+) {
+    let clash = least_clash(rt, alloc, store, pairs);
+    match answer(rt, alloc, store, RIGID, pairs) {
+        Ok(solution) => {
+            assert!(rt; clash == None);
+            let values = compare_values(rt, alloc, store, pairs, &solution);
+            counts.values = counts.values.saturating_add(values);
+        }
+        Err(UnifyFault::Clash { k }) => {
+            assert!(rt; clash == Some(k));
+            counts.clashes = counts.clashes.saturating_add(1);
+        }
+        Err(UnifyFault::Memory) => panic!(rt; "no memory"),
+    }
+}
+
 // Compares the answers to one system.
 fn compare(rt: &impl Abort, alloc: Global, seed: &mut u64, counts: &mut Counts) {
     let mut store = Store::new(alloc).expect(rt, MEMORY);
     let all = types(rt, alloc, &mut store, seed);
-    let mut pairs = Vec::new(alloc);
-    for _ in 0..random(seed, 4).saturating_add(1) {
-        pairs
-            .push((any(rt, seed, &all), any(rt, seed, &all)))
-            .expect(rt, MEMORY);
-    }
-    let mut clash = None;
-    for k in 0..pairs.len() {
-        if clash.is_none() && bindings(rt, alloc, &store, &pairs, k + 1).is_none() {
-            clash = Some(k);
-        }
-    }
-    let solution = match answer(rt, alloc, &mut store, RIGID, &pairs) {
-        Ok(solution) => solution,
-        Err(UnifyFault::Clash { k }) => {
-            assert_eq!(rt; clash, Some(k));
-            counts.clashes = counts.clashes.saturating_add(1);
-            return;
-        }
-        Err(UnifyFault::Memory) => panic!(rt; "no memory"),
-    };
-    assert_eq!(rt; clash, None);
-    let bound = bindings(rt, alloc, &store, &pairs, pairs.len()).expect(rt, "a clash");
-    for u in RIGID..VARIABLES {
-        let unknown = variable(rt, &mut store, u);
-        let expected = written(rt, alloc, &store, &bound, unknown);
-        let found = match solution.value(u) {
-            Some(value) => {
-                counts.values = counts.values.saturating_add(1);
-                written(rt, alloc, &store, &[], value)
-            }
-            None => None,
-        };
-        assert!(rt; expected == found);
-    }
+    let pairs = equations(rt, alloc, &all, seed);
+    compare_answers(rt, alloc, &mut store, &pairs, counts);
 }
 
 #[test]

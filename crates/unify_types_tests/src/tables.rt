@@ -96,80 +96,145 @@ fn clash(answer: Result<Solution, UnifyFault>) -> Option<usize> {
     }
 }
 
+// The types of the systems, with their lists of arguments. Each node's number is its place and 2 more.
+static NODES: [Node; 14] = [
+    // 2: another symbol; 3 to 6: the variables
+    Node::TyApp(1, END),
+    Node::TyVar(0),
+    Node::TyVar(1),
+    Node::TyVar(2),
+    Node::TyVar(3),
+    // 8: the symbol 2 on the variable 0; 10: on the variable 2
+    Node::Cell(TermId(3), END),
+    Node::TyApp(2, TermId(7)),
+    Node::Cell(TermId(5), END),
+    Node::TyApp(2, TermId(9)),
+    // 12: the symbol 3 on the variables 1 and 0; 15: on 10 and the variable 3
+    Node::Cell(TermId(4), TermId(7)),
+    Node::TyApp(3, TermId(11)),
+    Node::Cell(TermId(6), END),
+    Node::Cell(TermId(10), TermId(13)),
+    Node::TyApp(3, TermId(14)),
+];
+
+const END: TermId = TermId(0);
+
+const INT: TermId = TermId(1);
+
+const OTHER: TermId = TermId(2);
+
+const FIXED: TermId = TermId(3);
+
+const SECOND: TermId = TermId(5);
+
+const LIST: TermId = TermId(8);
+
+const LEFT: TermId = TermId(12);
+
+const RIGHT: TermId = TermId(15);
+
+// A store with the types.
+fn filled(rt: &impl Abort, alloc: Global) -> Store {
+    let mut store = Store::new(alloc).expect(rt, MEMORY);
+    for (place, node) in NODES.iter().enumerate() {
+        assert!(rt; put(rt, &mut store, *node).0 == place.saturating_add(2));
+    }
+    store
+}
+
+// The number of rigid variables, equations, and the last of the least prefix without a solution.
+static CLASHES: [(usize, &[(TermId, TermId)], usize); 3] = [
+    (
+        0,
+        &[(INT, FIXED), (OTHER, INT), (OTHER, INT), (INT, FIXED)],
+        1,
+    ),
+    (0, &[(INT, INT), (FIXED, LIST)], 1),
+    (1, &[(FIXED, FIXED), (FIXED, INT)], 1),
+];
+
 #[test]
 fn the_least_prefix_is_named(rt: HostRuntime) {
-    let mut store = Store::new(rt.alloc()).expect(&rt, MEMORY);
-    let int = applied(&rt, &mut store, 0, &[]);
-    let t = applied(&rt, &mut store, 1, &[]);
-    let u = variable(&rt, &mut store, 0);
-    let wrong = answer(
-        &rt,
-        rt.alloc(),
-        &mut store,
-        0,
-        &[(int, u), (t, int), (t, int), (int, u)],
-    );
-    assert_eq!(rt; clash(wrong), Some(1));
-    let list = applied(&rt, &mut store, 2, &[u]);
-    let within = answer(&rt, rt.alloc(), &mut store, 0, &[(int, int), (u, list)]);
-    assert_eq!(rt; clash(within), Some(1));
-    let fixed = answer(&rt, rt.alloc(), &mut store, 1, &[(u, u), (u, int)]);
-    assert_eq!(rt; clash(fixed), Some(1));
+    let mut store = filled(&rt, rt.alloc());
+    for (rigid_vars, pairs, wanted) in CLASHES.iter() {
+        let wrong = answer(&rt, rt.alloc(), &mut store, *rigid_vars, pairs);
+        assert!(rt; clash(wrong) == Some(*wanted));
+    }
+}
+
+// The solution of equations that have one.
+fn solved(
+    rt: &impl Abort,
+    alloc: Global,
+    store: &mut Store,
+    rigid_vars: usize,
+    pairs: &[(TermId, TermId)],
+) -> Solution {
+    let found = answer(rt, alloc, store, rigid_vars, pairs);
+    found.ok().expect(rt, "a clash")
+}
+
+// Whether these unknowns have these values.
+fn has_values(solution: &Solution, values: &[(usize, Option<TermId>)]) -> bool {
+    for (unknown, value) in values {
+        if solution.value(*unknown) != *value {
+            return false;
+        }
+    }
+    true
 }
 
 #[test]
 fn determined_unknowns_have_values(rt: HostRuntime) {
-    let mut store = Store::new(rt.alloc()).expect(&rt, MEMORY);
-    let int = applied(&rt, &mut store, 0, &[]);
-    let rigid = variable(&rt, &mut store, 0);
-    let first = variable(&rt, &mut store, 1);
-    let second = variable(&rt, &mut store, 2);
-    let third = variable(&rt, &mut store, 3);
-    let list = applied(&rt, &mut store, 2, &[second]);
-    let left = applied(&rt, &mut store, 3, &[first, rigid]);
-    let right = applied(&rt, &mut store, 3, &[list, third]);
-    let open = answer(&rt, rt.alloc(), &mut store, 1, &[(left, right)]);
-    let open = open.ok().expect(&rt, "a clash");
-    assert_eq!(rt; open.value(1), None);
-    assert_eq!(rt; open.value(2), None);
-    assert_eq!(rt; open.value(3), Some(rigid));
-    assert_eq!(rt; open.value(4), None);
-    let closed = answer(
-        &rt,
-        rt.alloc(),
-        &mut store,
-        1,
-        &[(left, right), (second, int)],
-    );
-    let closed = closed.ok().expect(&rt, "a clash");
-    let ints = applied(&rt, &mut store, 2, &[int]);
-    assert_eq!(rt; closed.value(1), Some(ints));
-    assert_eq!(rt; closed.value(2), Some(int));
+    let mut store = filled(&rt, rt.alloc());
+    let open = solved(&rt, rt.alloc(), &mut store, 1, &[(LEFT, RIGHT)]);
+    let values = [(1, None), (2, None), (3, Some(FIXED)), (4, None)];
+    assert!(rt; has_values(&open, &values));
+}
+
+#[test]
+fn a_value_is_made_of_values(rt: HostRuntime) {
+    let mut store = filled(&rt, rt.alloc());
+    let pairs = [(LEFT, RIGHT), (SECOND, INT)];
+    let closed = solved(&rt, rt.alloc(), &mut store, 1, &pairs);
+    let ints = applied(&rt, &mut store, 2, &[INT]);
+    assert!(rt; has_values(&closed, &[(1, Some(ints)), (2, Some(INT))]));
+}
+
+// Equations that make each of 80 variables, from the variable 2 on, a pair of the variable two before it with itself.
+fn doubled(rt: &impl Abort, alloc: Global, store: &mut Store) -> Vec<(TermId, TermId)> {
+    let mut pairs = Vec::new(alloc);
+    for j in 0..80 {
+        let below = variable(rt, store, j);
+        let above = variable(rt, store, j + 2);
+        let pair = applied(rt, store, 3, &[below, below]);
+        pairs.push((above, pair)).expect(rt, MEMORY);
+    }
+    pairs
+}
+
+// The last two variables are the same, and the first is an integer.
+fn ends(rt: &impl Abort, store: &mut Store) -> [(TermId, TermId); 2] {
+    let left = variable(rt, store, 80);
+    let right = variable(rt, store, 81);
+    let first = variable(rt, store, 0);
+    [(left, right), (first, INT)]
+}
+
+// The solution of all of them.
+fn shared(rt: &impl Abort, alloc: Global, store: &mut Store) -> Solution {
+    let mut pairs = doubled(rt, alloc, store);
+    let ends = ends(rt, store);
+    pairs.extend_from_slice(&ends).expect(rt, MEMORY);
+    solved(rt, alloc, store, 0, &pairs)
 }
 
 #[test]
 fn shared_types_are_solved_at_once(rt: HostRuntime) {
     let mut store = Store::new(rt.alloc()).expect(&rt, MEMORY);
-    let mut pairs = Vec::new(rt.alloc());
-    for i in 0..40 {
-        for side in 0..2 {
-            let below = variable(&rt, &mut store, 2 * i + side);
-            let above = variable(&rt, &mut store, 2 * i + side + 2);
-            let pair = applied(&rt, &mut store, 3, &[below, below]);
-            pairs.push((above, pair)).expect(&rt, MEMORY);
-        }
-    }
-    let left = variable(&rt, &mut store, 80);
-    let right = variable(&rt, &mut store, 81);
-    let int = applied(&rt, &mut store, 0, &[]);
-    let first = variable(&rt, &mut store, 0);
-    pairs.push((left, right)).expect(&rt, MEMORY);
-    pairs.push((first, int)).expect(&rt, MEMORY);
-    let solution = answer(&rt, rt.alloc(), &mut store, 0, &pairs);
-    let solution = solution.ok().expect(&rt, "a clash");
-    assert_eq!(rt; solution.value(1), Some(int));
-    let ints = applied(&rt, &mut store, 3, &[int, int]);
-    assert_eq!(rt; solution.value(3), Some(ints));
-    assert!(rt; solution.value(80).is_some());
-    assert!(rt; solution.value(80) == solution.value(81));
+    let solution = shared(&rt, rt.alloc(), &mut store);
+    let ints = applied(&rt, &mut store, 3, &[INT, INT]);
+    assert!(rt; has_values(&solution, &[(1, Some(INT)), (3, Some(ints))]));
+    let top = solution.value(80);
+    assert!(rt; top.is_some() && top == solution.value(81));
 }
