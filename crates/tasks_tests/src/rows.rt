@@ -1,5 +1,9 @@
 // The rows: each is well typed, and its twin, which is wrong in one place, isn't.
 // They stand on the small task.
+ghost use Rattle.trees.specs.Node.{Holds};
+ghost use Rattle.tasks.specs.Meaning.{TaskHeld};
+ghost use Rattle.tasks.specs.Looking.{LookupHeld};
+
 use crate::nodes::NODES;
 use crate::small::small_task;
 use std::alloc::Global;
@@ -34,16 +38,28 @@ fn filled(rt: &impl Abort, alloc: Global) -> Store {
     store
 }
 
+// The small task, which says, defines and asks the tree 15.
+fn held_task(rt: &impl Abort, alloc: Global, store: &Store) -> Task
+    ensures { TaskHeld store.now result }
+{
+    assert!(rt; store.holds(TermId(15)));
+    small_task(rt, alloc, store, TermId(15), TermId(11))
+}
+
+fn is_typed(rt: &impl Abort, store: &Store, task: &Task, number: usize) -> bool
+    requires { TaskHeld store.now task.now }
+{
+    assert!(rt; store.holds(TermId(number)));
+    well_typed(store, task, TermId(number))
+}
+
 #[test]
 fn rows_are_typed_and_their_twins_are_not(rt: HostRuntime) {
     let store = filled(&rt, rt.alloc());
-    assert!(rt; store.holds(TermId(15)));
-    let task = small_task(&rt, rt.alloc(), &store, TermId(15), TermId(11));
+    let task = held_task(&rt, rt.alloc(), &store);
     for (typed, twin) in ROWS.iter() {
-        assert!(rt; store.holds(TermId(*typed)));
-        assert!(rt; store.holds(TermId(*twin)));
-        assert!(rt; well_typed(&store, &task, TermId(*typed)));
-        assert!(rt; !well_typed(&store, &task, TermId(*twin)));
+        assert!(rt; is_typed(&rt, &store, &task, *typed));
+        assert!(rt; !is_typed(&rt, &store, &task, *twin));
     }
 }
 
@@ -62,43 +78,101 @@ fn named(role: Role<'_>) -> usize {
 // The roles of the entries, in order.
 static ROLES: [usize; 11] = [0, 3, 4, 4, 0, 0, 0, 5, 6, 1, 2];
 
-#[test]
-fn a_look_up_is_the_same_with_an_index(rt: HostRuntime) {
-    let store = filled(&rt, rt.alloc());
-    assert!(rt; store.holds(TermId(15)));
-    let task = small_task(&rt, rt.alloc(), &store, TermId(15), TermId(11));
-    let index = Index::new(rt.alloc(), &task).expect(&rt, MEMORY);
-    let slow = Lookup::without_index(&task);
-    let fast = Lookup::with_index(&task, &index);
+// Whether the entries have these roles, and each is declared.
+fn has_roles(lookup: &Lookup<'_>, store: &Store) -> bool
+    requires { LookupHeld store.now lookup.now }
+{
     for (symbol, role) in ROLES.iter().enumerate() {
-        assert!(rt; named(slow.role(&store, symbol)) == *role);
-        assert!(rt; named(fast.role(&store, symbol)) == *role);
-        assert!(rt; slow.declares(&store, symbol));
-        assert!(rt; fast.declares(&store, symbol));
+        if named(lookup.role(store, symbol)) != *role || !lookup.declares(store, symbol) {
+            return false;
+        }
     }
-    assert!(rt; !fast.declares(&store, 11));
-    assert!(rt; fast.proposition(&store, 0).is_some());
-    assert!(rt; fast.proposition(&store, 1).is_none());
-    assert!(rt; index.fact(0) == Some(Fact::Proposition(0)));
-    assert!(rt; index.fact(1) == Some(Fact::Equation(9)));
-    assert!(rt; index.fact(2) == Some(Fact::Clause(10, 0)));
-    assert!(rt; index.fact(3) == Some(Fact::Clause(10, 1)));
-    assert!(rt; index.fact(4) == Some(Fact::Inversion(10)));
-    assert!(rt; index.fact(5) == None);
+    true
+}
+
+// Whether there are no more than the eleven entries and the one proposition.
+fn has_ends(lookup: &Lookup<'_>, store: &Store) -> bool
+    requires { LookupHeld store.now lookup.now }
+{
+    !lookup.declares(store, 11)
+        && lookup.proposition(store, 0).is_some()
+        && lookup.proposition(store, 1).is_none()
+}
+
+// The same with an index.
+fn is_indexed(rt: &impl Abort, alloc: Global, store: &Store, task: &Task) -> bool
+    requires { TaskHeld store.now task.now }
+{
+    let index = Index::new(alloc, task).expect(rt, MEMORY);
+    let fast = Lookup::with_index(task, &index);
+    has_roles(&fast, store) && has_ends(&fast, store)
 }
 
 #[test]
-fn a_task_has_a_start_and_nodes(rt: HostRuntime) {
-    let mut store = filled(&rt, rt.alloc());
+fn a_look_up_is_the_same_with_an_index(rt: HostRuntime) {
+    let store = filled(&rt, rt.alloc());
+    let task = held_task(&rt, rt.alloc(), &store);
+    assert!(rt; has_roles(&Lookup::without_index(&task), &store));
+    assert!(rt; is_indexed(&rt, rt.alloc(), &store, &task));
+}
+
+// The facts of the task, in order, and none behind them.
+static FACTS: [Option<Fact>; 6] = [
+    Some(Fact::Proposition(0)),
+    Some(Fact::Equation(9)),
+    Some(Fact::Clause(10, 0)),
+    Some(Fact::Clause(10, 1)),
+    Some(Fact::Inversion(10)),
+    None,
+];
+
+fn has_facts(index: &Index) -> bool {
+    for (place, fact) in FACTS.iter().enumerate() {
+        if index.fact(place) != *fact {
+            return false;
+        }
+    }
+    true
+}
+
+#[test]
+fn an_index_has_the_facts(rt: HostRuntime) {
+    let store = filled(&rt, rt.alloc());
+    let task = held_task(&rt, rt.alloc(), &store);
+    let index = Index::new(rt.alloc(), &task).expect(&rt, MEMORY);
+    assert!(rt; has_facts(&index));
+}
+
+// The nodes of the task with a goal.
+fn nodes_with(rt: &impl Abort, alloc: Global, store: &Store, task: &Task, goal: TermId) -> u64
+    requires task { TaskHeld store.now task.now }
+    requires goal { Holds store.now goal }
+{
+    let copy = task.with_goal(alloc, goal).expect(rt, MEMORY);
+    nodes(store, &copy)
+}
+
+// 10 nodes each of the proposition, the equation, the first clause and the goal; 5 of the second clause and of the local
+#[test]
+fn a_task_has_nodes(rt: HostRuntime) {
+    let store = filled(&rt, rt.alloc());
+    let task = held_task(&rt, rt.alloc(), &store);
+    assert!(rt; nodes(&store, &task) == 50);
+    assert!(rt; store.holds(TermId(15)));
+    assert!(rt; nodes_with(&rt, rt.alloc(), &store, &task, TermId(15)) == 50);
+}
+
+// Whether the task begins with its local and the negation of its goal.
+fn has_start(rt: &impl Abort, alloc: Global, store: &mut Store) -> bool {
     assert!(rt; store.holds(TermId(15)));
     assert!(rt; store.sort(TermId(15)) == Sort::Formula);
-    let task = small_task(&rt, rt.alloc(), &store, TermId(15), TermId(11));
-    // 10 nodes each of the proposition, the equation, the first clause and the goal; 5 of the second clause and of the local
-    assert!(rt; nodes(&store, &task) == 50);
-    let copy = task.with_goal(rt.alloc(), TermId(15)).expect(&rt, MEMORY);
-    assert!(rt; nodes(&store, &copy) == 50);
-    let start = task.start(rt.alloc(), &mut store).expect(&rt, MEMORY);
-    assert!(rt; start.len() == 2);
-    assert!(rt; start[0] == TermId(11));
-    assert!(rt; start[1] == TermId(69));
+    let task = small_task(rt, alloc, store, TermId(15), TermId(11));
+    let start = task.start(alloc, store).expect(rt, MEMORY);
+    start.as_slice() == [TermId(11), TermId(69)].as_slice()
+}
+
+#[test]
+fn a_task_has_a_start(rt: HostRuntime) {
+    let mut store = filled(&rt, rt.alloc());
+    assert!(rt; has_start(&rt, rt.alloc(), &mut store));
 }
