@@ -1,6 +1,6 @@
 // The command `lift` over files in memory: expected answers are reasoned from the rules of the calculus.
 // They stand on the runs; nothing stands on them.
-use crate::running::{Answer, run_over};
+use crate::running::{Answer, has, run_over};
 use std::alloc::Global;
 use std::process::Abort;
 
@@ -31,7 +31,9 @@ fn over<'x>(
 }
 
 // Two files, then the code of the status and the line on the second sink.
-static FILES: [(&str, &str, u8, &str); 10] = [
+type Row = (&'static str, &'static str, u8, &'static str);
+
+static FILES: [Row; 10] = [
     (FIRST, SECOND, 0, ""),
     // the first file after so many lines
     ("", SECOND, 1, "refused: 91 1 1\n"),
@@ -58,20 +60,17 @@ static FILES: [(&str, &str, u8, &str); 10] = [
     (FIRST, "e sym p\n", 1, "refused: 91 2 1\n"),
 ];
 
+fn compare(rt: &impl Abort, alloc: Global, rows: &[Row]) {
+    for (first, second, code, line) in rows {
+        let files = (first.as_bytes(), second.as_bytes());
+        let found = over(rt, alloc, &LIFT, files, &[]);
+        assert!(rt; has(&found, *code, line), "{first}");
+    }
+}
+
 #[test]
 fn files_are_lifted_or_refused(rt: HostRuntime) {
-    for row in FILES.iter() {
-        let (first, second, code, line) = *row;
-        let found = over(
-            &rt,
-            rt.alloc(),
-            &LIFT,
-            (first.as_bytes(), second.as_bytes()),
-            &[],
-        );
-        assert_eq!(rt; found.code, code, "{first}");
-        assert_eq!(rt; found.line.as_slice(), line.as_bytes(), "{first}");
-    }
+    compare(&rt, rt.alloc(), &FILES);
 }
 
 // The words, then the code of the status and the line on the second sink.
@@ -113,15 +112,23 @@ static WORDS: [(&[&str], u8, &str); 5] = [
     ),
 ];
 
+// Whether the words, where these fetches fail, are answered by a code and a line alone.
+fn is_refused(
+    rt: &impl Abort,
+    alloc: Global,
+    words: &[&str],
+    failing: &[u64],
+    answer: (u8, &str),
+) -> bool {
+    let files = (FIRST.as_bytes(), SECOND.as_bytes());
+    let found = over(rt, alloc, words, files, failing);
+    has(&found, answer.0, answer.1) && found.text.is_empty()
+}
+
 #[test]
 fn files_are_counted_and_numbered(rt: HostRuntime) {
-    for row in WORDS.iter() {
-        let (words, code, line) = *row;
-        let files = (FIRST.as_bytes(), SECOND.as_bytes());
-        let found = over(&rt, rt.alloc(), words, files, &[]);
-        assert_eq!(rt; found.code, code);
-        assert_eq!(rt; found.line.as_slice(), line.as_bytes());
-        assert_eq!(rt; found.text.len(), 0);
+    for (words, code, line) in WORDS.iter() {
+        assert!(rt; is_refused(&rt, rt.alloc(), words, &[], (*code, line)));
     }
 }
 
@@ -134,14 +141,16 @@ static FAILING: [(u64, &str); 3] = [
 
 #[test]
 fn fetches_fail(rt: HostRuntime) {
-    for row in FAILING.iter() {
-        let (fetch, line) = *row;
-        let files = (FIRST.as_bytes(), SECOND.as_bytes());
-        let found = over(&rt, rt.alloc(), &LIFT, files, &[fetch]);
-        assert_eq!(rt; found.code, 4);
-        assert_eq!(rt; found.line.as_slice(), line.as_bytes());
-        assert_eq!(rt; found.text.len(), 0);
+    for (fetch, line) in FAILING.iter() {
+        assert!(rt; is_refused(&rt, rt.alloc(), &LIFT, &[*fetch], (4, line)));
     }
+}
+
+// The code that steps are answered.
+fn checked(rt: &impl Abort, alloc: Global, steps: &[u8]) -> u8 {
+    let check = ["why3lift", "check", "s", "T", "g", "1"];
+    let found = over(rt, alloc, &check, (steps, b""), &[]);
+    found.code
 }
 
 // The handed steps cite a fact, and the goal isn't split in what they derive.
@@ -149,14 +158,8 @@ fn fetches_fail(rt: HostRuntime) {
 fn what_is_lifted_is_accepted(rt: HostRuntime) {
     let files = (FIRST.as_bytes(), SECOND.as_bytes());
     let lifted = over(&rt, rt.alloc(), &LIFT, files, &[]);
-    assert_eq!(rt; lifted.code, 0);
-    let check = ["why3lift", "check", "s", "T", "g", "1"];
-    for (text, code) in [
-        (lifted.text.as_slice(), 0),
-        (FIRST.as_bytes(), 1),
-        (SECOND.as_bytes(), 1),
-    ] {
-        let found = over(&rt, rt.alloc(), &check, (text, b""), &[]);
-        assert_eq!(rt; found.code, code);
-    }
+    assert!(rt; lifted.code == 0);
+    assert!(rt; checked(&rt, rt.alloc(), lifted.text.as_slice()) == 0);
+    assert!(rt; checked(&rt, rt.alloc(), FIRST.as_bytes()) == 1);
+    assert!(rt; checked(&rt, rt.alloc(), SECOND.as_bytes()) == 1);
 }

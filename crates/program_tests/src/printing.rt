@@ -1,6 +1,6 @@
 // The command `print`, the words, and the outside that fails: expected texts and lines are reasoned from the rules.
 // They stand on the runs; nothing stands on them.
-use crate::running::{Answer, MEMORY, library, run_over, run_with, string, strings};
+use crate::running::{Answer, MEMORY, has, library, run_over, run_with, string, strings};
 use outside::{MemoryLibrary, MemorySink};
 use program::{Status, run};
 use std::alloc::Global;
@@ -25,7 +25,16 @@ const USAGE: &str =
     "usage: why3lift print|names SRC DRV THEORY GOAL | lift SRC DRV THEORY GOAL REF... | check SRC THEORY GOAL DER | stress N\n";
 
 // A source, a theory and a goal, then the code of the status and the line on the second sink; the text on the first.
-static SOURCES: [(&str, &str, &str, u8, &str, &str); 54] = [
+type Row = (
+    &'static str,
+    &'static str,
+    &'static str,
+    u8,
+    &'static str,
+    &'static str,
+);
+
+static SOURCES: [Row; 54] = [
     (EXAMPLE, "T", "g", 0, "", EXAMPLE_TEXT),
     (EXAMPLE, "U", "g", 1, "refused: 60\n", ""),
     (EXAMPLE, "T", "h", 1, "refused: 61\n", ""),
@@ -398,15 +407,22 @@ fn printed(rt: &impl Abort, alloc: Global, source: &[u8], theory: &str, goal: &s
     run_over(rt, alloc, &words, &[("s", source)], &[])
 }
 
+// Whether the answer to a row is the one beside it.
+fn is_answered(rt: &impl Abort, alloc: Global, row: &Row) -> bool {
+    let (source, theory, goal, code, line, text) = *row;
+    let found = printed(rt, alloc, source.as_bytes(), theory, goal);
+    has(&found, code, line) && found.text.as_slice() == text.as_bytes()
+}
+
+fn compare(rt: &impl Abort, alloc: Global, rows: &[Row]) {
+    for row in rows {
+        assert!(rt; is_answered(rt, alloc, row), "{}", row.0);
+    }
+}
+
 #[test]
 fn sources_are_printed_or_refused(rt: HostRuntime) {
-    for row in SOURCES.iter() {
-        let (source, theory, goal, code, line, text) = *row;
-        let found = printed(&rt, rt.alloc(), source.as_bytes(), theory, goal);
-        assert_eq!(rt; found.code, code, "{source}");
-        assert_eq!(rt; found.line.as_slice(), line.as_bytes(), "{source}");
-        assert_eq!(rt; found.text.as_slice(), text.as_bytes(), "{source}");
-    }
+    compare(&rt, rt.alloc(), &SOURCES);
 }
 
 // The words, the code and the line.
@@ -450,81 +466,106 @@ static WORDS: [(&[&str], u8, &str); 13] = [
     ),
 ];
 
+fn is_refused(rt: &impl Abort, alloc: Global, words: &[&str], code: u8, line: &str) -> bool {
+    let found = run_over(rt, alloc, words, &[("s", b"")], &[]);
+    has(&found, code, line) && found.text.is_empty()
+}
+
+fn compare_words(rt: &impl Abort, alloc: Global, rows: &[(&[&str], u8, &str)]) {
+    for (words, code, line) in rows {
+        assert!(rt; is_refused(rt, alloc, words, *code, line));
+    }
+}
+
 #[test]
 fn words_are_read(rt: HostRuntime) {
-    for row in WORDS.iter() {
-        let (words, code, line) = *row;
-        let found = run_over(&rt, rt.alloc(), words, &[("s", b"")], &[]);
-        assert_eq!(rt; found.code, code);
-        assert_eq!(rt; found.line.as_slice(), line.as_bytes());
-        assert_eq!(rt; found.text.len(), 0);
+    compare_words(&rt, rt.alloc(), &WORDS);
+}
+
+// A byte at the end, so often.
+fn repeat(rt: &impl Abort, text: &mut Vec<u8>, byte: u8, count: usize) {
+    for _ in 0..count {
+        text.push(byte).expect(rt, MEMORY);
     }
 }
 
 // `theory T goal g: true end` with so many pairs of parentheses
 fn nested(rt: &impl Abort, alloc: Global, pairs: usize) -> Vec<u8> {
     let mut text = Vec::from_slice(alloc, b"theory T goal g: ").expect(rt, MEMORY);
-    for _ in 0..pairs {
-        text.push(b'(').expect(rt, MEMORY);
-    }
+    repeat(rt, &mut text, b'(', pairs);
     text.extend_from_slice(b"true").expect(rt, MEMORY);
-    for _ in 0..pairs {
-        text.push(b')').expect(rt, MEMORY);
-    }
+    repeat(rt, &mut text, b')', pairs);
     text.extend_from_slice(b" end").expect(rt, MEMORY);
     text
+}
+
+// Whether a formula in so many pairs is answered by a line.
+fn is_nested(rt: &impl Abort, alloc: Global, pairs: usize, line: &str) -> bool {
+    let source = nested(rt, alloc, pairs);
+    let found = printed(rt, alloc, &source, "T", "g");
+    found.line.as_slice() == line.as_bytes()
 }
 
 // Of 199 pairs, which are no formula of the fragment, and of one more.
 #[test]
 fn depth_ends_at_200(rt: HostRuntime) {
-    for (pairs, line) in [(199, "refused: 16 9\n"), (200, "refused: 13 204\n")] {
-        let source = nested(&rt, rt.alloc(), pairs);
-        let found = printed(&rt, rt.alloc(), &source, "T", "g");
-        assert_eq!(rt; found.line.as_slice(), line.as_bytes());
-    }
+    assert!(rt; is_nested(&rt, rt.alloc(), 199, "refused: 16 9\n"));
+    assert!(rt; is_nested(&rt, rt.alloc(), 200, "refused: 13 204\n"));
+}
+
+const PRINT: [&str; 6] = ["why3lift", "print", "s", "plain.drv", "T", "g"];
+
+// A source of blanks, one byte longer than a source may be.
+fn blanks(rt: &impl Abort, alloc: Global) -> MemoryLibrary {
+    let text = vec![in alloc; 32u8; 67_108_865].expect(rt, MEMORY);
+    let mut files = Vec::new(alloc);
+    files
+        .push((string(rt, alloc, "s"), text))
+        .expect(rt, MEMORY);
+    MemoryLibrary::new(alloc, files, Vec::new(alloc))
 }
 
 #[test]
 fn a_source_is_too_long(rt: HostRuntime) {
-    let alloc = rt.alloc();
-    let blanks = vec![in alloc; 32u8; 67_108_865].expect(&rt, MEMORY);
-    let mut files = Vec::new(alloc);
-    files
-        .push((string(&rt, alloc, "s"), blanks))
-        .expect(&rt, MEMORY);
-    let lib = MemoryLibrary::new(alloc, files, Vec::new(alloc));
-    let words = strings(
-        &rt,
-        alloc,
-        &["why3lift", "print", "s", "plain.drv", "T", "g"],
-    );
-    let found = run_with(&rt, alloc, &words, lib);
-    assert_eq!(rt; found.code, 1);
-    assert_eq!(rt; found.line.as_slice(), b"refused: 15 0\n".as_slice());
+    let words = strings(&rt, rt.alloc(), &PRINT);
+    let found = run_with(&rt, rt.alloc(), &words, blanks(&rt, rt.alloc()));
+    assert!(rt; has(&found, 1, "refused: 15 0\n"));
+}
+
+// A sink with a put that fails.
+fn sink(rt: &impl Abort, alloc: Global, failing: (u64, usize)) -> MemorySink {
+    let failing = Vec::from_slice(alloc, &[failing]).expect(rt, MEMORY);
+    MemorySink::new(alloc, failing)
+}
+
+fn run_words(
+    rt: &impl Abort,
+    alloc: Global,
+    words: &[&str],
+    lib: &mut MemoryLibrary,
+    out: &mut MemorySink,
+    err: &mut MemorySink,
+) -> Status {
+    let words = strings(rt, alloc, words);
+    run(alloc, &words, lib, out, err)
 }
 
 // The first put takes 3 bytes and fails; the next run's first fetch fails; then a put on the second sink.
+static RUNS: [(&[&str], Status); 3] = [
+    (&PRINT, Status::WriteFault),
+    (&PRINT, Status::ReadFault { file: 0 }),
+    (&["why3lift"], Status::WriteFault),
+];
+
 #[test]
 fn the_outside_fails(rt: HostRuntime) {
     let alloc = rt.alloc();
-    let print = strings(
-        &rt,
-        alloc,
-        &["why3lift", "print", "s", "plain.drv", "T", "g"],
-    );
-    let usage = strings(&rt, alloc, &["why3lift"]);
     let mut lib = library(&rt, alloc, &[("s", EXAMPLE.as_bytes())], &[1]);
-    let mut out = MemorySink::new(alloc, Vec::from_slice(alloc, &[(0, 3)]).expect(&rt, MEMORY));
-    let mut err = MemorySink::new(alloc, Vec::from_slice(alloc, &[(1, 0)]).expect(&rt, MEMORY));
-    for (words, wanted) in [
-        (&print, Status::WriteFault),
-        (&print, Status::ReadFault { file: 0 }),
-        (&usage, Status::WriteFault),
-    ] {
-        let status = run(alloc, words, &mut lib, &mut out, &mut err);
-        assert_eq!(rt; status, wanted);
-        assert_eq!(rt; out.written(), b"; 1".as_slice());
+    let mut out = sink(&rt, alloc, (0, 3));
+    let mut err = sink(&rt, alloc, (1, 0));
+    for (words, wanted) in RUNS.iter() {
+        let status = run_words(&rt, alloc, words, &mut lib, &mut out, &mut err);
+        assert!(rt; status == *wanted && out.written() == b"; 1".as_slice());
     }
-    assert_eq!(rt; err.written(), b"read fault: 0\n".as_slice());
+    assert!(rt; err.written() == b"read fault: 0\n".as_slice());
 }

@@ -57,6 +57,16 @@ fn letter(k: usize) -> u8 {
     }
 }
 
+// Bytes at the end of a text.
+fn put(rt: &impl Abort, text: &mut Vec<u8>, bytes: &[u8]) {
+    text.extend_from_slice(bytes).expect(rt, MEMORY);
+}
+
+fn put_number(rt: &impl Abort, alloc: Global, text: &mut Vec<u8>, number: usize) {
+    let digits = number.to_string(alloc).expect(rt, MEMORY);
+    put(rt, text, digits.as_bytes());
+}
+
 // A formula over three predicates, with its text.
 fn random_formula(
     rt: &impl Abort,
@@ -67,16 +77,15 @@ fn random_formula(
 ) -> usize {
     if depth == 0 || next(state, 4) == 0 {
         let k = next(state, 3) as usize;
-        text.push(letter(k)).expect(rt, MEMORY);
+        put(rt, text, &[letter(k)]);
         return add(rt, pool, Made::Name(k));
     }
-    text.push(b'(').expect(rt, MEMORY);
+    put(rt, text, b"(");
     let left = random_formula(rt, state, pool, text, depth - 1);
     let is_and = next(state, 2) == 0;
-    text.extend_from_slice(if is_and { b" /\\ " } else { b" -> " })
-        .expect(rt, MEMORY);
+    put(rt, text, if is_and { b" /\\ " } else { b" -> " });
     let right = random_formula(rt, state, pool, text, depth - 1);
-    text.push(b')').expect(rt, MEMORY);
+    put(rt, text, b")");
     add(
         rt,
         pool,
@@ -120,9 +129,8 @@ fn parts(
 // Numbers, a blank before each.
 fn push_all(rt: &impl Abort, alloc: Global, text: &mut Vec<u8>, numbers: &[usize]) {
     for number in numbers {
-        text.push(b' ').expect(rt, MEMORY);
-        text.extend_from_slice(number.to_string(alloc).expect(rt, MEMORY).as_bytes())
-            .expect(rt, MEMORY);
+        put(rt, text, b" ");
+        put_number(rt, alloc, text, *number);
     }
 }
 
@@ -137,17 +145,14 @@ fn step(
     premises: &[usize],
 ) -> usize {
     let number = steps.count;
-    steps.text.push(b's').expect(rt, MEMORY);
+    put(rt, &mut steps.text, b"s");
     push_all(rt, alloc, &mut steps.text, sequent);
-    steps.text.extend_from_slice(b" : ").expect(rt, MEMORY);
-    steps
-        .text
-        .extend_from_slice(rule.as_bytes())
-        .expect(rt, MEMORY);
+    put(rt, &mut steps.text, b" : ");
+    put(rt, &mut steps.text, rule.as_bytes());
     push_all(rt, alloc, &mut steps.text, places);
-    steps.text.extend_from_slice(b" :").expect(rt, MEMORY);
+    put(rt, &mut steps.text, b" :");
     push_all(rt, alloc, &mut steps.text, premises);
-    steps.text.push(10).expect(rt, MEMORY);
+    put(rt, &mut steps.text, b"\n");
     steps.count = number.wrapping_add(1);
     number
 }
@@ -214,22 +219,20 @@ fn refute(
         Growth::Nothing => refute(rt, alloc, pool, steps, sequent, after, depth - 1),
         Growth::One(rule, first, second) => {
             let wide = longer(rt, alloc, sequent, &[first, second]);
-            let Some(k) = refute(rt, alloc, pool, steps, &wide, after, depth - 1) else {
-                return None;
-            };
-            Some(step(rt, alloc, steps, sequent, rule, &[at], &[k]))
-        },
+            let k = refute(rt, alloc, pool, steps, &wide, after, depth - 1);
+            drop(wide);
+            Some(step(rt, alloc, steps, sequent, rule, &[at], &[k?]))
+        }
         Growth::Two(rule, left, right) => {
             let one = longer(rt, alloc, sequent, &[left]);
-            let Some(k) = refute(rt, alloc, pool, steps, &one, after, depth - 1) else {
-                return None;
-            };
+            let k = refute(rt, alloc, pool, steps, &one, after, depth - 1);
+            drop(one);
+            let k = k?;
             let two = longer(rt, alloc, sequent, &[right]);
-            let Some(l) = refute(rt, alloc, pool, steps, &two, after, depth - 1) else {
-                return None;
-            };
-            Some(step(rt, alloc, steps, sequent, rule, &[at], &[k, l]))
-        },
+            let l = refute(rt, alloc, pool, steps, &two, after, depth - 1);
+            drop(two);
+            Some(step(rt, alloc, steps, sequent, rule, &[at], &[k, l?]))
+        }
     }
 }
 
@@ -237,31 +240,73 @@ fn refute(
 fn push_formula(rt: &impl Abort, alloc: Global, text: &mut Vec<u8>, made: Made) {
     match made {
         Made::Name(k) => {
-            text.extend_from_slice(b"e sym ").expect(rt, MEMORY);
-            text.push(letter(k)).expect(rt, MEMORY);
-            text.push(b'_').expect(rt, MEMORY);
-            text.extend_from_slice(
-                k.wrapping_add(1)
-                    .to_string(alloc)
-                    .expect(rt, MEMORY)
-                    .as_bytes(),
-            )
-            .expect(rt, MEMORY);
-        },
+            put(
+                rt,
+                text,
+                &[b'e', b' ', b's', b'y', b'm', b' ', letter(k), b'_'],
+            );
+            put_number(rt, alloc, text, k.wrapping_add(1));
+        }
         Made::Not(a) => {
-            text.extend_from_slice(b"e not").expect(rt, MEMORY);
+            put(rt, text, b"e not");
             push_all(rt, alloc, text, &[a]);
-        },
+        }
         Made::And(a, b) => {
-            text.extend_from_slice(b"e and").expect(rt, MEMORY);
+            put(rt, text, b"e and");
             push_all(rt, alloc, text, &[a, b]);
-        },
+        }
         Made::Imp(a, b) => {
-            text.extend_from_slice(b"e imp").expect(rt, MEMORY);
+            put(rt, text, b"e imp");
             push_all(rt, alloc, text, &[a, b]);
-        },
+        }
     }
-    text.push(10).expect(rt, MEMORY);
+    put(rt, text, b"\n");
+}
+
+// Steps that cite the facts, the last one first.
+fn cite(
+    rt: &impl Abort,
+    alloc: Global,
+    steps: &mut Steps,
+    negated: usize,
+    facts: &[usize],
+    refuted: usize,
+) {
+    let mut last = refuted;
+    for k in (0..facts.len()).rev() {
+        let sequent = longer(rt, alloc, &[negated], &facts[..k]);
+        last = step(rt, alloc, steps, &sequent, "fact", &[k], &[last]);
+    }
+    let _ = last;
+}
+
+// The steps that refute a negated part from the facts; whether the tableau closes.
+fn close(
+    rt: &impl Abort,
+    alloc: Global,
+    pool: &mut Vec<Made>,
+    steps: &mut Steps,
+    facts: &[usize],
+    negated: usize,
+) -> bool {
+    let whole = longer(rt, alloc, &[negated], facts);
+    match refute(rt, alloc, pool, steps, &whole, 0, 60) {
+        Some(last) => {
+            cite(rt, alloc, steps, negated, facts, last);
+            true
+        }
+        None => false,
+    }
+}
+
+// The lines of the formulas, and the steps.
+fn written(rt: &impl Abort, alloc: Global, pool: &[Made], steps: &Steps) -> Vec<u8> {
+    let mut text = Vec::new(alloc);
+    for made in pool {
+        push_formula(rt, alloc, &mut text, *made);
+    }
+    put(rt, &mut text, &steps.text);
+    text
 }
 
 // A file that refutes a part from the facts, if the tableau closes.
@@ -278,21 +323,11 @@ fn refutation(
         count: 0,
     };
     let negated = add(rt, &mut pool, Made::Not(part));
-    let whole = longer(rt, alloc, &[negated], facts);
-    let Some(mut last) = refute(rt, alloc, &mut pool, &mut steps, &whole, 0, 60) else {
-        return None;
-    };
-    for k in (0..facts.len()).rev() {
-        let sequent = longer(rt, alloc, &[negated], &facts[..k]);
-        last = step(rt, alloc, &mut steps, &sequent, "fact", &[k], &[last]);
+    if close(rt, alloc, &mut pool, &mut steps, facts, negated) {
+        Some(written(rt, alloc, &pool, &steps))
+    } else {
+        None
     }
-    let _ = last;
-    let mut text = Vec::new(alloc);
-    for made in &pool {
-        push_formula(rt, alloc, &mut text, *made);
-    }
-    text.extend_from_slice(&steps.text).expect(rt, MEMORY);
-    Some(text)
 }
 
 // A source, its formulas, and the numbers of its facts and of the goal's parts.
@@ -300,33 +335,48 @@ fn refutation(
 struct Theory {
     source: Vec<u8>,
     pool: Vec<Made>,
-    facts: Vec<usize>,
+    facts: [usize; 3],
     parts: Vec<usize>,
 }
 
 // Each predicate stands in the first axiom, so each has its place in the table of each problem.
+const FIRST: &[u8] =
+    b"theory T predicate p predicate q predicate r axiom a: p -> q -> r -> p axiom b: ";
+
+// The formula of the first axiom.
+fn first_axiom(rt: &impl Abort, pool: &mut Vec<Made>) -> usize {
+    let p = add(rt, pool, Made::Name(0));
+    let q = add(rt, pool, Made::Name(1));
+    let r = add(rt, pool, Made::Name(2));
+    let inner = add(rt, pool, Made::Imp(r, p));
+    let middle = add(rt, pool, Made::Imp(q, inner));
+    add(rt, pool, Made::Imp(p, middle))
+}
+
+// The facts and the goal of a random source.
+fn formulas(
+    rt: &impl Abort,
+    state: &mut u64,
+    pool: &mut Vec<Made>,
+    source: &mut Vec<u8>,
+) -> ([usize; 3], usize) {
+    let first = first_axiom(rt, pool);
+    put(rt, source, FIRST);
+    let second = random_formula(rt, state, pool, source, 2);
+    put(rt, source, b" axiom c: ");
+    let third = random_formula(rt, state, pool, source, 2);
+    put(rt, source, b" goal g: ");
+    let goal = random_formula(rt, state, pool, source, 3);
+    put(rt, source, b" end");
+    ([first, second, third], goal)
+}
+
 fn random_theory(rt: &impl Abort, alloc: Global, seed: u64) -> Theory {
     let mut state = seed;
     let mut pool = Vec::new(alloc);
-    let mut source = Vec::from_slice(
-        alloc,
-        b"theory T predicate p predicate q predicate r axiom a: p -> q -> r -> p axiom b: ",
-    )
-    .expect(rt, MEMORY);
-    let p = add(rt, &mut pool, Made::Name(0));
-    let q = add(rt, &mut pool, Made::Name(1));
-    let r = add(rt, &mut pool, Made::Name(2));
-    let inner = add(rt, &mut pool, Made::Imp(r, p));
-    let middle = add(rt, &mut pool, Made::Imp(q, inner));
-    let first = add(rt, &mut pool, Made::Imp(p, middle));
-    let second = random_formula(rt, &mut state, &mut pool, &mut source, 2);
-    source.extend_from_slice(b" axiom c: ").expect(rt, MEMORY);
-    let third = random_formula(rt, &mut state, &mut pool, &mut source, 2);
-    source.extend_from_slice(b" goal g: ").expect(rt, MEMORY);
-    let goal = random_formula(rt, &mut state, &mut pool, &mut source, 3);
-    source.extend_from_slice(b" end").expect(rt, MEMORY);
+    let mut source = Vec::new(alloc);
+    let (facts, goal) = formulas(rt, &mut state, &mut pool, &mut source);
     let parts = parts(rt, alloc, &mut pool, goal, 10);
-    let facts = Vec::from_slice(alloc, &[first, second, third]).expect(rt, MEMORY);
     Theory {
         source,
         pool,
@@ -340,34 +390,55 @@ fn refutations(rt: &impl Abort, alloc: Global, theory: &Theory) -> Option<Vec<(S
     let mut files = Vec::new(alloc);
     for (k, part) in theory.parts.iter().enumerate() {
         let text = refutation(rt, alloc, &theory.pool, &theory.facts, *part)?;
-        files
-            .push((k.to_string(alloc).expect(rt, MEMORY), text))
-            .expect(rt, MEMORY);
+        let name = k.to_string(alloc).expect(rt, MEMORY);
+        files.push((name, text)).expect(rt, MEMORY);
     }
     Some(files)
 }
 
-// What `lift` and then `check` answer, where the tableaux close.
+// The words that lift so many refutations.
+fn lift_words(rt: &impl Abort, alloc: Global, count: usize) -> Vec<String> {
+    let mut words = strings(rt, alloc, &["why3lift", "lift", "s", "plain.drv", "T", "g"]);
+    for k in 0..count {
+        let name = k.to_string(alloc).expect(rt, MEMORY);
+        words.push(name).expect(rt, MEMORY);
+    }
+    words
+}
+
+// A library of the source and the refutations.
+fn library_of(
+    rt: &impl Abort,
+    alloc: Global,
+    source: &[u8],
+    mut files: Vec<(String, Vec<u8>)>,
+) -> MemoryLibrary {
+    let source = (string(rt, alloc, "s"), bytes(rt, alloc, source));
+    files.push(source).expect(rt, MEMORY);
+    MemoryLibrary::new(alloc, files, Vec::new(alloc))
+}
+
+// The code that steps are answered.
+fn checked(rt: &impl Abort, alloc: Global, source: &[u8], steps: &[u8]) -> u8 {
+    let check = ["why3lift", "check", "s", "T", "g", "d"];
+    let found = run_over(rt, alloc, &check, &[("s", source), ("d", steps)], &[]);
+    found.code
+}
+
+// What `lift` and then `check` answer.
+fn codes(rt: &impl Abort, alloc: Global, theory: &Theory, lib: MemoryLibrary) -> (u8, u8) {
+    let words = lift_words(rt, alloc, theory.parts.len());
+    let lifted = run_with(rt, alloc, &words, lib);
+    let code = checked(rt, alloc, &theory.source, &lifted.text);
+    (lifted.code, code)
+}
+
+// The same, where the tableaux close.
 fn lift_and_check(rt: &impl Abort, alloc: Global, seed: u64) -> Option<(u8, u8)> {
     let theory = random_theory(rt, alloc, seed);
-    let mut files = refutations(rt, alloc, &theory)?;
-    let mut words = strings(rt, alloc, &["why3lift", "lift", "s", "plain.drv", "T", "g"]);
-    for k in 0..theory.parts.len() {
-        words
-            .push(k.to_string(alloc).expect(rt, MEMORY))
-            .expect(rt, MEMORY);
-    }
-    let source = (string(rt, alloc, "s"), bytes(rt, alloc, &theory.source));
-    files.push(source).expect(rt, MEMORY);
-    let lib = MemoryLibrary::new(alloc, files, Vec::new(alloc));
-    let lifted = run_with(rt, alloc, &words, lib);
-    let check = ["why3lift", "check", "s", "T", "g", "d"];
-    let files = [
-        ("s", theory.source.as_slice()),
-        ("d", lifted.text.as_slice()),
-    ];
-    let checked = run_over(rt, alloc, &check, &files, &[]);
-    Some((lifted.code, checked.code))
+    let files = refutations(rt, alloc, &theory)?;
+    let lib = library_of(rt, alloc, &theory.source, files);
+    Some(codes(rt, alloc, &theory, lib))
 }
 
 #[test]
@@ -375,7 +446,7 @@ fn random_goals_are_lifted(rt: HostRuntime) {
     let mut lifted = 0u32;
     for seed in 0u64..60 {
         if let Some(codes) = lift_and_check(&rt, rt.alloc(), seed) {
-            assert_eq!(rt; codes, (0, 0), "seed {seed}");
+            assert!(rt; codes == (0, 0), "seed {seed}");
             lifted = lifted.wrapping_add(1);
         }
     }

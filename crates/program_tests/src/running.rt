@@ -15,6 +15,11 @@ pub(crate) struct Answer {
     pub(crate) text: Vec<u8>,
 }
 
+// Whether the code of the status and the line are these.
+pub(crate) fn has(found: &Answer, code: u8, line: &str) -> bool {
+    found.code == code && found.line.as_slice() == line.as_bytes()
+}
+
 pub(crate) fn bytes(rt: &impl Abort, alloc: Global, text: &[u8]) -> Vec<u8> {
     Vec::from_slice(alloc, text).expect(rt, MEMORY)
 }
@@ -40,14 +45,11 @@ pub(crate) fn library(
 ) -> MemoryLibrary {
     let mut all = Vec::new(alloc);
     for (name, text) in files {
-        all.push((string(rt, alloc, name), bytes(rt, alloc, text)))
-            .expect(rt, MEMORY);
+        let file = (string(rt, alloc, name), bytes(rt, alloc, text));
+        all.push(file).expect(rt, MEMORY);
     }
-    MemoryLibrary::new(
-        alloc,
-        all,
-        Vec::from_slice(alloc, failing).expect(rt, MEMORY),
-    )
+    let failing = Vec::from_slice(alloc, failing).expect(rt, MEMORY);
+    MemoryLibrary::new(alloc, all, failing)
 }
 
 // What the words are answered over a library, where no put fails.
