@@ -33,3 +33,18 @@ pub constant_covered : (a : At) (n : OpName) (t : TypeTree) (b : Option Expr) �
     → declaration (constant_decl a (declared_name n) (form_of t) (option_map tree_of b)) ≡ Some (members (abstract_member n [] (Some t) ∷ []))
 constant_covered a n t None h = refl
 constant_covered a n t (Some e) h = absurd (cc)
+
+-- the same the other way round: what is covered has no definition and no other members
+pub function_alone : (a : At) (n : OpName) (ps : List ParamTree) (t : TypeTree) (b : Option Expr) (ms : List MemberTree) → Covered (function_decl a (declared_name n) (map param_of ps) (form_of t) (option_map tree_of b) (map member_of ms)) → (b ≡ None) × (ms ≡ [])
+function_alone a n ps t None [] h = (refl, refl)
+function_alone a n ps t (Some e) [] h = absurd (cc)
+function_alone a n ps t b (m ∷ ms) h = absurd h
+
+pub predicate_alone : (a : At) (n : OpName) (ps : List ParamTree) (b : Option Expr) (ms : List MemberTree) → Covered (predicate_decl a (declared_name n) (map param_of ps) (option_map tree_of b) (map member_of ms)) → (b ≡ None) × (ms ≡ [])
+predicate_alone a n ps None [] h = (refl, refl)
+predicate_alone a n ps (Some e) [] h = absurd (cc)
+predicate_alone a n ps b (m ∷ ms) h = absurd h
+
+pub constant_alone : (a : At) (n : OpName) (t : TypeTree) (b : Option Expr) → Covered (constant_decl a (declared_name n) (form_of t) (option_map tree_of b)) → b ≡ None
+constant_alone a n t None h = refl
+constant_alone a n t (Some e) h = absurd (cc)

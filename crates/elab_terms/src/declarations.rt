@@ -1,10 +1,12 @@
 // Elaboration: the declarations, entries, names and matches of a declaration, or its first fault.
 // It stands on each kind of declaration; theories stand on it.
-ghost use Rattle.std.specs.Prelude.{◌≡◌, ℕ, List, [], None, length, IsTrue, IsSomeAnd, IfSome, IfOk, IfErr};
+ghost use Rattle.std.specs.Prelude.{◌≡◌, ◌∷◌, ℕ, List, [], None, length, IsTrue, IsSomeAnd, IfSome, IfOk, IfErr};
 ghost use Rattle.trees.specs.Tree.{Tree};
 ghost use Rattle.names_space.specs.Names.{start};
 ghost use Rattle.trees.specs.Node.{Grows};
 ghost use Rattle.syntax_why.specs.SurfaceDeclarations.{decl_of};
+ghost use Rattle.tasks.specs.Task.{int_symbol};
+ghost use Rattle.tasks.specs.Meaning.{symbols_at};
 ghost use Rattle.elab_parts.specs.Declarations.{declaration};
 ghost use Rattle.elab_parts.specs.Entries.{IsSignature, AreScopes};
 ghost use Rattle.elab_parts.specs.Outcomes.{standing, IsKept};
@@ -91,7 +93,10 @@ pub fn elaborate(
 
 /// The signature that has the type `int` alone.
 pub fn begin(alloc: Global) -> Result<Signature, AllocError>
-    ensures { IfOk result (λ sig. (s : List Tree) → IsSignature s sig.symbols) }
+    ensures kept { IfOk result (λ sig. (s : List Tree) → IsSignature s sig.symbols) }
+    ensures int { IfOk result (λ sig. (s : List Tree) → symbols_at s sig.symbols
+        ≡ int_symbol ∷ []) }
+    ensures ints { IfOk result (λ sig. sig.ints ≡ None) }
 {
     let mut symbols = Seq::new(alloc);
     symbols.push(SymbolInfo {
@@ -118,14 +123,16 @@ pub fn no_names(scope: &Scope)
 
 // Whether a symbol has no definition and no other members in its group.
 fn is_alone(body: &Option<Expr>, members: &[MemberTree]) -> bool
-    ensures { IsTrue result → (body.now ≡ None) × (members.now ≡ []) }
+    ensures only { IsTrue result → (body.now ≡ None) × (members.now ≡ []) }
+    ensures all { (body.now ≡ None) × (members.now ≡ []) → IsTrue result }
 {
     body.is_none() && members.is_empty()
 }
 
 /// Whether a declaration is of a form that `elaborate` takes.
 pub fn is_covered(decl: &DeclTree) -> bool
-    ensures { IsTrue result → IsSomeAnd (declaration (decl_of decl.now)) IsCovered }
+    ensures only { IsTrue result → IsSomeAnd (declaration (decl_of decl.now)) IsCovered }
+    ensures all { IsSomeAnd (declaration (decl_of decl.now)) IsCovered → IsTrue result }
 {
     match &decl.node {
         DeclNode::TypeDecl(_, _, _) => true,
@@ -133,6 +140,10 @@ pub fn is_covered(decl: &DeclTree) -> bool
         DeclNode::Function(_, _, _, body, members) => is_alone(body, members.as_slice()),
         DeclNode::Predicate(_, _, body, members) => is_alone(body, members.as_slice()),
         DeclNode::Constant(_, _, body) => is_alone(body, &[]),
-        _ => false,
+        DeclNode::Algebraic(_) => false,
+        DeclNode::Inductive(_) => false,
+        DeclNode::UseTheory(_, _, _) => false,
+        DeclNode::CloneTheory(_, _, _, _) => false,
+        DeclNode::ScopeDecl(_, _) => false,
     }
 }
