@@ -1,12 +1,5 @@
 -- The longest token string, and what nothing completes.
-use Rattle.std.proofs.Common.{◌≡◌, ℕ, zero, suc, ◌+◌, ◌<◌, ◌≤◌, ◌⊎◌, inl, inr, Bool, true, false, ◌&&◌, cond, List, [], ◌∷◌, ◌++◌, length, take, drop, reverse, get_or, Option, Some, None, refl, sym, ap, ◌∙◌, subst, arith, add-one, drop-cons}
-use Rattle.std.proofs.lemmas.List.{reverse-append, take_all}
-use Rattle.tokens_why.specs.declared.terminal.Terminal.{Terminal}
-use Rattle.grammar.specs.declared.symbols.Symbol.{Symbol}
-use Rattle.grammar.specs.Table.{optional}
-use Rattle.grammar.specs.Machine.{step, next, run, may_end, ends, accepts, is_safe, is_taken, complete}
-use Rattle.grammar.specs.Rows.{IsStep}
-use Rattle.grammar.specs.Ends.{IsLongest, Completes, TakesAll}
+use Rattle.grammar.proofs.Common.{◌≡◌, ℕ, zero, suc, ◌+◌, ◌<◌, ◌≤◌, ◌⊎◌, inl, inr, Bool, true, false, ◌&&◌, cond, List, [], ◌∷◌, ◌++◌, length, take, drop, reverse, get_or, Option, Some, None, refl, sym, ap, ◌∙◌, subst, arith, add-one, drop-cons, reverse-append, take_all, Terminal, Symbol, optional, step, next, run, may_end, ends, accepts, is_safe, is_taken, complete, IsStep, IsLongest, Completes, TakesAll}
 use Rattle.grammar.proofs.Laws.{accepted_begins, begun_completes, run_append}
 use Rattle.grammar.proofs.Steps.{next_some}
 

@@ -1,14 +1,8 @@
 -- The laws of the machine: a stack is completed by its shortest strings.
-use Rattle.std.proofs.Common.{◌≡◌, ℕ, zero, suc, Bool, true, false, not, ◌&&◌, ◌||◌, nat_le, nat_eq, cond, List, [], ◌∷◌, ◌++◌, Option, Some, None, refl, sym, ap, ◌∙◌, subst, arith, append_assoc}
+use Rattle.grammar.proofs.Common.{◌≡◌, ℕ, zero, suc, Bool, true, false, not, ◌&&◌, ◌||◌, nat_le, nat_eq, cond, List, [], ◌∷◌, ◌++◌, Option, Some, None, refl, sym, ap, ◌∙◌, subst, arith, append_assoc, Terminal, Symbol, number, same, operators, terminals, prec, need, right, Line, line, tail_of, open_rows, prim_rows, extend, rows, optional, shortest, leftovers, find, takes, is_seal, sealed, on_top, step, may_end, next, run, ends, accepts, complete, untaken, none_takes, may_follow, first_or, lead, is_safe}
 use Rattle.std.proofs.lemmas.Bool.Decides.{nat_tests}
-use Rattle.tokens_why.specs.declared.terminal.Terminal.{Terminal}
 use Rattle.tokens_why.specs.declared.terminal.Terminal.TheVariants as t
-use Rattle.grammar.specs.declared.symbols.Symbol.{Symbol}
 use Rattle.grammar.specs.declared.symbols.Symbol.TheVariants as s
-use Rattle.grammar.specs.Alphabet.{number, same, operators, terminals}
-use Rattle.tokens_why.specs.Operators.{prec, need, right}
-use Rattle.grammar.specs.Table.{Line, line, tail_of, open_rows, prim_rows, extend, rows, optional, shortest, leftovers}
-use Rattle.grammar.specs.Machine.{find, takes, is_seal, sealed, on_top, step, may_end, next, run, ends, accepts, complete, untaken, none_takes, may_follow, first_or, lead, is_safe}
 
 pub no_false : false ≡ true → ⊥
 no_false e = cc

@@ -1,13 +1,6 @@
 -- A step in code, symbol by symbol.
-use Rattle.std.proofs.Common.{◌≡◌, ℕ, Bool, true, false, cond, List, [], ◌∷◌, ◌++◌, reverse, Option, Some, None, refl, sym, ap, ◌∙◌, subst}
-use Rattle.std.proofs.Common.{◌+◌, ◌<◌, length, take, get_or, arith}
-use Rattle.std.proofs.lemmas.List.{reverse-append, length-reverse, length-append, take_more}
+use Rattle.grammar.proofs.Common.{◌≡◌, ℕ, Bool, true, false, cond, List, [], ◌∷◌, ◌++◌, reverse, Option, Some, None, refl, sym, ap, ◌∙◌, subst, ◌+◌, ◌<◌, length, take, get_or, arith, reverse-append, length-reverse, length-append, take_more, Terminal, Symbol, optional, takes, is_seal, sealed, on_top, step, next, run, IsPut, IsStep}
 use Rattle.grammar.proofs.Laws.{run_append}
-use Rattle.tokens_why.specs.declared.terminal.Terminal.{Terminal}
-use Rattle.grammar.specs.declared.symbols.Symbol.{Symbol}
-use Rattle.grammar.specs.Table.{optional}
-use Rattle.grammar.specs.Machine.{takes, is_seal, sealed, on_top, step, next, run}
-use Rattle.grammar.specs.Rows.{IsPut, IsStep}
 
 pub popped : (xs ys : List Symbol) (s : Symbol) → xs ≡ ys ++ s ∷ [] → reverse xs ≡ s ∷ reverse ys
 popped xs ys s h = ap reverse h ∙ reverse-append ys (s ∷ [])

@@ -1,14 +1,7 @@
 -- What a tail takes.
-use Rattle.std.proofs.Common.{◌≡◌, ℕ, Bool, true, false, ◌&&◌, nat_le, cond, List, [], ◌∷◌, Some, None, refl, sym, ap, ◌∙◌, subst}
-use Rattle.tokens_why.specs.declared.terminal.Terminal.{Terminal}
+use Rattle.grammar.proofs.Common.{◌≡◌, ℕ, Bool, true, false, ◌&&◌, nat_le, cond, List, [], ◌∷◌, Some, None, refl, sym, ap, ◌∙◌, subst, Terminal, number, same, operators, prec, need, right, is_infix, line, tail_of, find, takes, tail_takes}
 use Rattle.tokens_why.specs.declared.terminal.Terminal.TheVariants as t
 use Rattle.grammar.specs.declared.symbols.Symbol.TheVariants as s
-use Rattle.grammar.specs.Alphabet.{number, same, operators}
-use Rattle.tokens_why.specs.Operators.{prec, need, right}
-use Rattle.tokens_why.specs.Operators.{is_infix}
-use Rattle.grammar.specs.Table.{line, tail_of}
-use Rattle.grammar.specs.Machine.{find, takes}
-use Rattle.grammar.specs.Rows.{tail_takes}
 use Rattle.grammar.proofs.Laws.{same_true, same_refl, no_false}
 
 abbrev takes_op : ℕ → ℕ → Terminal → Bool

@@ -1,7 +1,5 @@
 -- Where a token string ends, where tokens are none, and what completes them.
-use Rattle.std.specs.Prelude.{ℕ, ◌≡◌, ◌+◌, ◌≤◌, ◌<◌, Bool, true, false, List, [], ◌∷◌, ◌++◌, Option, Some, None, length, take}
-use Rattle.tokens_why.specs.declared.terminal.Terminal.{Terminal}
-use Rattle.grammar.specs.declared.symbols.Symbol.{Symbol}
+use Rattle.grammar.specs.Common.{ℕ, ◌≡◌, ◌+◌, ◌≤◌, ◌<◌, Bool, true, false, List, [], ◌∷◌, ◌++◌, Option, Some, None, length, take, Terminal, Symbol}
 use Rattle.grammar.specs.declared.ends.Fault.{Fault}
 use Rattle.grammar.specs.Machine.{run, accepts, is_taken}
 

@@ -1,11 +1,6 @@
 -- The rows, the stack and the shortest strings in code: what private contracts of the machine say.
-use Rattle.std.specs.Prelude.{ℕ, Bool, true, false, List, ◌++◌, [], ◌∷◌, Option, Some, None, option_map, reverse, ◌≡◌}
-use Rattle.std.specs.Prelude.{◌&&◌, nat_le, if◌then◌else◌}
-use Rattle.tokens_why.specs.Operators.{prec, need, right}
-use Rattle.tokens_why.specs.Operators.{is_infix}
+use Rattle.grammar.specs.Common.{ℕ, Bool, true, false, List, ◌++◌, [], ◌∷◌, Option, Some, None, option_map, reverse, ◌≡◌, ◌&&◌, nat_le, if◌then◌else◌, prec, need, right, is_infix, Terminal, Symbol}
 use Rattle.std.specs.Borrow.{Bor}
-use Rattle.tokens_why.specs.declared.terminal.Terminal.{Terminal}
-use Rattle.grammar.specs.declared.symbols.Symbol.{Symbol}
 use Rattle.grammar.specs.declared.symbols.Symbol.TheVariants as s
 use Rattle.grammar.specs.Table.{Line, rows, open_rows, prim_rows, shortest}
 use Rattle.grammar.specs.Machine.{find, step}

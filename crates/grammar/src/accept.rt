@@ -1,5 +1,4 @@
 // The machine in code: a stack of symbols, the top one last, that takes one token after another.
-// It depends on the table and on the operators; how far tokens are taken, and what completes them, depend on it.
 ghost use Rattle.std.specs.Prelude.{◌≡◌, ◌++◌, [], ◌∷◌, IfOk, map, option_map, reverse};
 ghost use Rattle.grammar.specs.Alphabet.{number, same};
 ghost use Rattle.grammar.specs.Machine.{find, is_seal, sealed, takes};

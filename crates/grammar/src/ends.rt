@@ -1,5 +1,4 @@
 // Where a token string of a symbol ends, where tokens are none, and what completes them.
-// It depends on the machine; who reads sources depends on it.
 ghost use Rattle.std.specs.Prelude.{true, ◌≡◌, [], ◌∷◌, if◌then◌else◌, IfOk, None, Some, length, option_map, reverse};
 ghost use Rattle.grammar.specs.Ends.{Completes, IsFirstFault, IsLongest};
 ghost use Rattle.grammar.specs.Machine.{is_safe, may_end, run};

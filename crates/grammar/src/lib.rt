@@ -1,6 +1,5 @@
 //! The grammar of sources as one table, and a machine over it that decides without trees which tokens are a source or an
 //! expression, where they go wrong, and what completes them.
-//! It depends on the terminals of the tokens.
 #![tactic(auto)]
 
 mod accept;

@@ -1,8 +1,5 @@
 // The infix operators: how tightly each binds, and what it needs on its left and on its right.
-// It depends on the terminals; the machine, and who reads expressions, depend on it.
-ghost use Rattle.std.specs.Prelude.{◌≡◌};
-ghost use Rattle.tokens_why.specs.Operators.{need, prec, right};
-ghost use Rattle.tokens_why.specs.Operators.{is_infix};
+ghost use Rattle.grammar.specs.Common.{◌≡◌, need, prec, right, is_infix};
 
 use tokens_why::Terminal;
 

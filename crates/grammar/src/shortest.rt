@@ -1,5 +1,4 @@
 // A shortest string of each rule, and how a stack is completed by them.
-// It depends on the symbols; what completes tokens depends on it.
 ghost use Rattle.std.specs.Prelude.{◌≡◌, ◌++◌, IfOk, OnOk, reverse};
 ghost use Rattle.grammar.specs.Machine.{complete};
 ghost use Rattle.grammar.specs.Rows.{HasShortest};

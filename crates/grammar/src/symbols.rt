@@ -1,5 +1,4 @@
 // The symbols of the grammar: its terminals and its rules.
-// It depends on the terminals of tokens; the table and the machine depend on it.
 
 use tokens_why::Terminal;
 

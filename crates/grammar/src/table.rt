@@ -1,5 +1,4 @@
 // The grammar in code: the rows of each rule but those of an expression and of operators.
-// It depends on the symbols; the machine depends on it.
 ghost use Rattle.std.specs.Prelude.{map};
 ghost use Rattle.grammar.specs.Rows.{HasRows, line_of};
 
@@ -8,6 +7,17 @@ use tokens_why::Terminal as T;
 
 /// A token with which a rule begins, and what stands behind it.
 pub type Row = (T, &'static [Symbol]);
+
+// Tokens that stand in many rows, and an expression of any level.
+const COLON: Symbol = Take(T::Colon);
+
+const EQUAL: Symbol = Take(T::Equal);
+
+const THEN: Symbol = Take(T::ThenWord);
+
+const ELSE: Symbol = Take(T::ElseWord);
+
+const ANY: Symbol = Expr(0);
 
 const FILE: [Row; 2] = [
     (T::TheoryWord, &[Take(T::Uident), Decls, File]),
@@ -18,24 +28,16 @@ const DECLS: [Row; 12] = [
     (T::EndWord, &[]),
     (T::ScopeWord, &[Take(T::Uident), Decls, Decls]),
     (T::TypeWord, &[Take(T::Lident), Tvars, Decls]),
-    (
-        T::FunctionWord,
-        &[Op, Params, Take(T::Colon), TypeOf, Body, Decls],
-    ),
+    (T::FunctionWord, &[Op, Params, COLON, TypeOf, Body, Decls]),
     (T::PredicateWord, &[Op, Params, Body, Decls]),
-    (T::ConstantWord, &[Op, Take(T::Colon), TypeOf, Value, Decls]),
-    (
-        T::InductiveWord,
-        &[Op, Params, Take(T::Equal), Clause, Decls],
-    ),
-    (T::AxiomWord, &[Ident, Take(T::Colon), Expr(0), Decls]),
-    (T::LemmaWord, &[Ident, Take(T::Colon), Expr(0), Decls]),
-    (T::GoalWord, &[Ident, Take(T::Colon), Expr(0), Decls]),
+    (T::ConstantWord, &[Op, COLON, TypeOf, Value, Decls]),
+    (T::InductiveWord, &[Op, Params, EQUAL, Clause, Decls]),
+    (T::AxiomWord, &[Ident, COLON, ANY, Decls]),
+    (T::LemmaWord, &[Ident, COLON, ANY, Decls]),
+    (T::GoalWord, &[Ident, COLON, ANY, Decls]),
     (T::UseWord, &[Used, Decls]),
     (T::CloneWord, &[Cloned, Decls]),
 ];
-
-const TVARS: [Row; 2] = [(T::TyVar, &[Tvars]), (T::Equal, &[Typedef])];
 
 const TYPEDEF: [Row; 5] = [
     (T::TyVar, &[]),
@@ -55,12 +57,6 @@ const UPPER: [Row; 7] = [
     (T::LParen, &[Ttuple, Fields]),
 ];
 
-const ALGVARS: [Row; 2] = [(T::TyVar, &[Algvars]), (T::Equal, &[Con])];
-
-const CON: [Row; 2] = [(T::Uident, &[Fields]), (T::Bar, &[Take(T::Uident), Fields])];
-
-const OP: [Row; 3] = [(T::Lident, &[]), (T::StarName, &[]), (T::LParen, &[Opname])];
-
 const OPNAME: [Row; 7] = [
     (T::Equal, &[Opend]),
     (T::Minus, &[Opend]),
@@ -70,10 +66,6 @@ const OPNAME: [Row; 7] = [
     (T::Operator4, &[Opend]),
     (T::PrefixOperator, &[Opend]),
 ];
-
-const OPEND: [Row; 2] = [(T::RParen, &[]), (T::Wild, &[Take(T::RParen)])];
-
-const ID: [Row; 2] = [(T::Lident, &[]), (T::Uident, &[])];
 
 const PARAMS: [Row; 5] = [
     (T::LParen, &[Pparen, Params]),
@@ -103,26 +95,20 @@ const PNAME: [Row; 8] = [
     (T::Comma, &[TypeOf, Tmore]),
 ];
 
-const BODY: [Row; 1] = [(T::Equal, &[Expr(0), Members])];
-
-const MEMBERS: [Row; 1] = [(T::WithWord, &[Op, Params, Member])];
-
 const MEMBER: [Row; 2] = [
-    (T::Equal, &[Expr(0), Members]),
-    (T::Colon, &[TypeOf, Take(T::Equal), Expr(0), Members]),
+    (T::Equal, &[ANY, Members]),
+    (T::Colon, &[TypeOf, EQUAL, ANY, Members]),
 ];
 
-const VALUE: [Row; 1] = [(T::Equal, &[Expr(0)])];
-
 const CLAUSE: [Row; 3] = [
-    (T::Lident, &[Take(T::Colon), Expr(0), Clauses]),
-    (T::Uident, &[Take(T::Colon), Expr(0), Clauses]),
-    (T::Bar, &[Ident, Take(T::Colon), Expr(0), Clauses]),
+    (T::Lident, &[COLON, ANY, Clauses]),
+    (T::Uident, &[COLON, ANY, Clauses]),
+    (T::Bar, &[Ident, COLON, ANY, Clauses]),
 ];
 
 const CLAUSES: [Row; 2] = [
-    (T::Bar, &[Ident, Take(T::Colon), Expr(0), Clauses]),
-    (T::WithWord, &[Op, Params, Take(T::Equal), Clause]),
+    (T::Bar, &[Ident, COLON, ANY, Clauses]),
+    (T::WithWord, &[Op, Params, EQUAL, Clause]),
 ];
 
 const USED: [Row; 4] = [
@@ -139,29 +125,15 @@ const CLONED: [Row; 4] = [
     (T::Uident, &[Renamed, Subst]),
 ];
 
-const PATH: [Row; 2] = [(T::Lident, &[Take(T::Dot), Path]), (T::Uident, &[])];
-
-const RENAMED: [Row; 1] = [(T::AsWord, &[Take(T::Uident)])];
-
-const SUBST: [Row; 1] = [(T::WithWord, &[Elem, Elems])];
-
-const ELEMS: [Row; 1] = [(T::Comma, &[Elem, Elems])];
-
 const ELEM: [Row; 7] = [
     (T::TypeWord, &[Qlid, Elvars]),
-    (T::FunctionWord, &[Qop, Take(T::Equal), Qop]),
-    (T::ConstantWord, &[Qop, Take(T::Equal), Qop]),
-    (T::PredicateWord, &[Qop, Take(T::Equal), Qop]),
+    (T::FunctionWord, &[Qop, EQUAL, Qop]),
+    (T::ConstantWord, &[Qop, EQUAL, Qop]),
+    (T::PredicateWord, &[Qop, EQUAL, Qop]),
     (T::LemmaWord, &[Qid]),
     (T::GoalWord, &[Qid]),
     (T::AxiomWord, &[Axioms]),
 ];
-
-const AXIOMS: [Row; 3] = [(T::Dot, &[]), (T::Lident, &[]), (T::Uident, &[Qids])];
-
-const ELVARS: [Row; 2] = [(T::TyVar, &[Elvars]), (T::Equal, &[TypeOf])];
-
-const QLID: [Row; 2] = [(T::Lident, &[]), (T::Uident, &[Take(T::Dot), Qlid])];
 
 const QOP: [Row; 4] = [
     (T::Uident, &[Take(T::Dot), Qop]),
@@ -169,10 +141,6 @@ const QOP: [Row; 4] = [
     (T::StarName, &[]),
     (T::LParen, &[Opname]),
 ];
-
-const QID: [Row; 2] = [(T::Lident, &[]), (T::Uident, &[Qids])];
-
-const QIDS: [Row; 1] = [(T::Dot, &[Qid])];
 
 const TYPE: [Row; 4] = [
     (T::TyVar, &[]),
@@ -203,18 +171,12 @@ const TTUPLE: [Row; 5] = [
     (T::LParen, &[Ttuple, Tmore]),
 ];
 
-const TMORE: [Row; 2] = [(T::RParen, &[]), (T::Comma, &[TypeOf, Tmore])];
-
 const PAT: [Row; 4] = [
     (T::Wild, &[AsPart]),
     (T::Lident, &[AsPart]),
     (T::Uident, &[Quids, Patoms, AsPart]),
     (T::LParen, &[Ptuple, AsPart]),
 ];
-
-const AS: [Row; 1] = [(T::AsWord, &[Take(T::Lident)])];
-
-const QUIDS: [Row; 1] = [(T::Dot, &[Take(T::Uident), Quids])];
 
 const PTUPLE: [Row; 5] = [
     (T::RParen, &[]),
@@ -223,8 +185,6 @@ const PTUPLE: [Row; 5] = [
     (T::Uident, &[Quids, Patoms, AsPart, Pmore]),
     (T::LParen, &[Ptuple, AsPart, Pmore]),
 ];
-
-const PMORE: [Row; 2] = [(T::RParen, &[]), (T::Comma, &[Pat, Pmore])];
 
 const PATOMS: [Row; 4] = [
     (T::Wild, &[Patoms]),
@@ -235,13 +195,9 @@ const PATOMS: [Row; 4] = [
 
 const GROUP: [Row; 3] = [
     (T::RParen, &[]),
-    (T::Comma, &[Expr(0), More]),
+    (T::Comma, &[ANY, More]),
     (T::Colon, &[TypeOf, Take(T::RParen)]),
 ];
-
-const MORE: [Row; 2] = [(T::RParen, &[]), (T::Comma, &[Expr(0), More])];
-
-const SCRUTINEES: [Row; 2] = [(T::Comma, &[Expr(0), Scrutinees]), (T::WithWord, &[Branch])];
 
 const BRANCH: [Row; 5] = [
     (T::Bar, &[Pat, Arm]),
@@ -254,48 +210,36 @@ const BRANCH: [Row; 5] = [
 const ARM: [Row; 3] = [
     (T::Comma, &[Pat, Arm]),
     (T::Bar, &[Pat, Arm]),
-    (T::Arrow, &[Expr(0), Branches]),
+    (T::Arrow, &[ANY, Branches]),
 ];
-
-const BRANCHES: [Row; 2] = [(T::Bar, &[Pat, Arm]), (T::EndWord, &[])];
 
 const LETPATS: [Row; 2] = [
     (T::Comma, &[Pat, Letpats]),
-    (T::Equal, &[Expr(0), Take(T::InWord), Expr(0), Seal]),
+    (T::Equal, &[ANY, Take(T::InWord), ANY, Seal]),
 ];
 
 const BINDER: [Row; 5] = [
     (T::Lident, &[Binder]),
     (T::Colon, &[TypeOf, Binders]),
     (T::Comma, &[Take(T::Lident), Binder]),
-    (T::LBrack, &[Expr(0), Trigger]),
-    (T::Dot, &[Expr(0), Seal]),
+    (T::LBrack, &[ANY, Trigger]),
+    (T::Dot, &[ANY, Seal]),
 ];
 
 const BINDERS: [Row; 3] = [
     (T::Comma, &[Take(T::Lident), Binder]),
-    (T::LBrack, &[Expr(0), Trigger]),
-    (T::Dot, &[Expr(0), Seal]),
+    (T::LBrack, &[ANY, Trigger]),
+    (T::Dot, &[ANY, Seal]),
 ];
 
 const TRIGGER: [Row; 3] = [
-    (T::Comma, &[Expr(0), Trigger]),
-    (T::Bar, &[Expr(0), Trigger]),
-    (T::RBrack, &[Take(T::Dot), Expr(0), Seal]),
+    (T::Comma, &[ANY, Trigger]),
+    (T::Bar, &[ANY, Trigger]),
+    (T::RBrack, &[Take(T::Dot), ANY, Seal]),
 ];
 
 pub const OPEN: [Row; 4] = [
-    (
-        T::IfWord,
-        &[
-            Expr(0),
-            Take(T::ThenWord),
-            Expr(0),
-            Take(T::ElseWord),
-            Expr(0),
-            Seal,
-        ],
-    ),
+    (T::IfWord, &[ANY, THEN, ANY, ELSE, ANY, Seal]),
     (T::LetWord, &[Pat, Letpats]),
     (T::ForallWord, &[Take(T::Lident), Binder]),
     (T::ExistsWord, &[Take(T::Lident), Binder]),
@@ -325,10 +269,8 @@ pub const PRIM: [Row; 8] = [
     (T::Int, &[]),
     (T::TrueWord, &[]),
     (T::FalseWord, &[]),
-    (T::MatchWord, &[Expr(0), Scrutinees]),
+    (T::MatchWord, &[ANY, Scrutinees]),
 ];
-
-const SCOPED: [Row; 1] = [(T::Dot, &[Qhead])];
 
 const QHEAD: [Row; 4] = [
     (T::Lident, &[]),
@@ -345,7 +287,7 @@ const ARGS: [Row; 8] = [
     (T::Int, &[Args]),
     (T::TrueWord, &[Args]),
     (T::FalseWord, &[Args]),
-    (T::MatchWord, &[Expr(0), Scrutinees, Args]),
+    (T::MatchWord, &[ANY, Scrutinees, Args]),
 ];
 
 const ATOM: [Row; 8] = [
@@ -356,7 +298,7 @@ const ATOM: [Row; 8] = [
     (T::Int, &[]),
     (T::TrueWord, &[]),
     (T::FalseWord, &[]),
-    (T::MatchWord, &[Expr(0), Scrutinees]),
+    (T::MatchWord, &[ANY, Scrutinees]),
 ];
 
 const HPAREN: [Row; 23] = [
@@ -371,18 +313,7 @@ const HPAREN: [Row; 23] = [
     (T::NotWord, &[Expr(3), Tail(0, 3), GroupRest]),
     (T::Minus, &[Expr(8), Tail(0, 8), GroupRest]),
     (T::PrefixOperator, &[Expr(8), Tail(0, 8), GroupRest]),
-    (
-        T::IfWord,
-        &[
-            Expr(0),
-            Take(T::ThenWord),
-            Expr(0),
-            Take(T::ElseWord),
-            Expr(0),
-            Seal,
-            GroupRest,
-        ],
-    ),
+    (T::IfWord, &[ANY, THEN, ANY, ELSE, ANY, Seal, GroupRest]),
     (T::LetWord, &[Pat, Letpats, GroupRest]),
     (T::ForallWord, &[Take(T::Lident), Binder, GroupRest]),
     (T::ExistsWord, &[Take(T::Lident), Binder, GroupRest]),
@@ -393,7 +324,7 @@ const HPAREN: [Row; 23] = [
     (T::Int, &[Tail(0, 9), GroupRest]),
     (T::TrueWord, &[Tail(0, 9), GroupRest]),
     (T::FalseWord, &[Tail(0, 9), GroupRest]),
-    (T::MatchWord, &[Expr(0), Scrutinees, Tail(0, 9), GroupRest]),
+    (T::MatchWord, &[ANY, Scrutinees, Tail(0, 9), GroupRest]),
 ];
 
 const HMINUS: [Row; 16] = [
@@ -406,16 +337,7 @@ const HMINUS: [Row; 16] = [
     ),
     (
         T::IfWord,
-        &[
-            Expr(0),
-            Take(T::ThenWord),
-            Expr(0),
-            Take(T::ElseWord),
-            Expr(0),
-            Seal,
-            Tail(0, 8),
-            GroupRest,
-        ],
+        &[ANY, THEN, ANY, ELSE, ANY, Seal, Tail(0, 8), GroupRest],
     ),
     (T::LetWord, &[Pat, Letpats, Tail(0, 8), GroupRest]),
     (
@@ -438,7 +360,7 @@ const HMINUS: [Row; 16] = [
     (T::FalseWord, &[Tail(8, 9), Tail(0, 8), GroupRest]),
     (
         T::MatchWord,
-        &[Expr(0), Scrutinees, Tail(8, 9), Tail(0, 8), GroupRest],
+        &[ANY, Scrutinees, Tail(8, 9), Tail(0, 8), GroupRest],
     ),
 ];
 
@@ -454,18 +376,7 @@ const APAREN: [Row; 23] = [
     (T::NotWord, &[Expr(3), Tail(0, 3), GroupRest]),
     (T::Minus, &[Expr(8), Tail(0, 8), GroupRest]),
     (T::PrefixOperator, &[Expr(8), Tail(0, 8), GroupRest]),
-    (
-        T::IfWord,
-        &[
-            Expr(0),
-            Take(T::ThenWord),
-            Expr(0),
-            Take(T::ElseWord),
-            Expr(0),
-            Seal,
-            GroupRest,
-        ],
-    ),
+    (T::IfWord, &[ANY, THEN, ANY, ELSE, ANY, Seal, GroupRest]),
     (T::LetWord, &[Pat, Letpats, GroupRest]),
     (T::ForallWord, &[Take(T::Lident), Binder, GroupRest]),
     (T::ExistsWord, &[Take(T::Lident), Binder, GroupRest]),
@@ -476,7 +387,7 @@ const APAREN: [Row; 23] = [
     (T::Int, &[Tail(0, 9), GroupRest]),
     (T::TrueWord, &[Tail(0, 9), GroupRest]),
     (T::FalseWord, &[Tail(0, 9), GroupRest]),
-    (T::MatchWord, &[Expr(0), Scrutinees, Tail(0, 9), GroupRest]),
+    (T::MatchWord, &[ANY, Scrutinees, Tail(0, 9), GroupRest]),
 ];
 
 const AMINUS: [Row; 16] = [
@@ -489,16 +400,7 @@ const AMINUS: [Row; 16] = [
     ),
     (
         T::IfWord,
-        &[
-            Expr(0),
-            Take(T::ThenWord),
-            Expr(0),
-            Take(T::ElseWord),
-            Expr(0),
-            Seal,
-            Tail(0, 8),
-            GroupRest,
-        ],
+        &[ANY, THEN, ANY, ELSE, ANY, Seal, Tail(0, 8), GroupRest],
     ),
     (T::LetWord, &[Pat, Letpats, Tail(0, 8), GroupRest]),
     (
@@ -521,7 +423,7 @@ const AMINUS: [Row; 16] = [
     (T::FalseWord, &[Tail(8, 9), Tail(0, 8), GroupRest]),
     (
         T::MatchWord,
-        &[Expr(0), Scrutinees, Tail(8, 9), Tail(0, 8), GroupRest],
+        &[ANY, Scrutinees, Tail(8, 9), Tail(0, 8), GroupRest],
     ),
 ];
 
@@ -533,54 +435,54 @@ pub fn rows_of(rule: Symbol) -> &'static [Row]
         Take(_) | Expr(_) | Tail(_, _) | Seal => &[],
         File => &FILE,
         Decls => &DECLS,
-        Tvars => &TVARS,
+        Tvars => &[(T::TyVar, &[Tvars]), (T::Equal, &[Typedef])],
         Typedef => &TYPEDEF,
         Upper => &UPPER,
-        Algvars => &ALGVARS,
-        Con => &CON,
-        Op => &OP,
+        Algvars => &[(T::TyVar, &[Algvars]), (T::Equal, &[Con])],
+        Con => &[(T::Uident, &[Fields]), (T::Bar, &[Take(T::Uident), Fields])],
+        Op => &[(T::Lident, &[]), (T::StarName, &[]), (T::LParen, &[Opname])],
         Opname => &OPNAME,
-        Opend => &OPEND,
-        Ident => &ID,
+        Opend => &[(T::RParen, &[]), (T::Wild, &[Take(T::RParen)])],
+        Ident => &[(T::Lident, &[]), (T::Uident, &[])],
         Params => &PARAMS,
         Pparen => &PPAREN,
         Pname => &PNAME,
-        Body => &BODY,
-        Members => &MEMBERS,
+        Body => &[(T::Equal, &[ANY, Members])],
+        Members => &[(T::WithWord, &[Op, Params, Member])],
         Member => &MEMBER,
-        Value => &VALUE,
+        Value => &[(T::Equal, &[ANY])],
         Clause => &CLAUSE,
         Clauses => &CLAUSES,
         Used => &USED,
         Cloned => &CLONED,
-        Path => &PATH,
-        Renamed => &RENAMED,
-        Subst => &SUBST,
-        Elems => &ELEMS,
+        Path => &[(T::Lident, &[Take(T::Dot), Path]), (T::Uident, &[])],
+        Renamed => &[(T::AsWord, &[Take(T::Uident)])],
+        Subst => &[(T::WithWord, &[Elem, Elems])],
+        Elems => &[(T::Comma, &[Elem, Elems])],
         Elem => &ELEM,
-        Axioms => &AXIOMS,
-        Elvars => &ELVARS,
-        Qlid => &QLID,
+        Axioms => &[(T::Dot, &[]), (T::Lident, &[]), (T::Uident, &[Qids])],
+        Elvars => &[(T::TyVar, &[Elvars]), (T::Equal, &[TypeOf])],
+        Qlid => &[(T::Lident, &[]), (T::Uident, &[Take(T::Dot), Qlid])],
         Qop => &QOP,
-        Qid => &QID,
-        Qids => &QIDS,
+        Qid => &[(T::Lident, &[]), (T::Uident, &[Qids])],
+        Qids => &[(T::Dot, &[Qid])],
         TypeOf => &TYPE,
         Atype => &ATYPE,
         Targs => &TARGS,
         Ttuple => &TTUPLE,
-        Tmore => &TMORE,
+        Tmore => &[(T::RParen, &[]), (T::Comma, &[TypeOf, Tmore])],
         Pat => &PAT,
-        AsPart => &AS,
-        Quids => &QUIDS,
+        AsPart => &[(T::AsWord, &[Take(T::Lident)])],
+        Quids => &[(T::Dot, &[Take(T::Uident), Quids])],
         Ptuple => &PTUPLE,
-        Pmore => &PMORE,
+        Pmore => &[(T::RParen, &[]), (T::Comma, &[Pat, Pmore])],
         Patoms => &PATOMS,
         GroupRest => &GROUP,
-        More => &MORE,
-        Scrutinees => &SCRUTINEES,
+        More => &[(T::RParen, &[]), (T::Comma, &[ANY, More])],
+        Scrutinees => &[(T::Comma, &[ANY, Scrutinees]), (T::WithWord, &[Branch])],
         Branch => &BRANCH,
         Arm => &ARM,
-        Branches => &BRANCHES,
+        Branches => &[(T::Bar, &[Pat, Arm]), (T::EndWord, &[])],
         Letpats => &LETPATS,
         Binder => &BINDER,
         Binders => &BINDERS,
@@ -589,7 +491,7 @@ pub fn rows_of(rule: Symbol) -> &'static [Row]
         Fields => &FIELDS,
         Patom => &PATOM,
         Prim => &PRIM,
-        Scoped => &SCOPED,
+        Scoped => &[(T::Dot, &[Qhead])],
         Qhead => &QHEAD,
         Args => &ARGS,
         Atom => &ATOM,

@@ -1,22 +1,7 @@
 -- What follows where definitions, members, values and clauses are read.
-use Rattle.std.proofs.Common.{◌≡◌, ℕ, ◌+◌, Bool, true, false, if◌then◌else◌, List, [], ◌∷◌, ◌++◌, Option, Some, refl, sym, ap, subst, arith, append_assoc, ◌∙◌, append-nil}
+use Rattle.parse_decls.proofs.Common.{◌≡◌, ℕ, ◌+◌, Bool, true, false, if◌then◌else◌, List, [], ◌∷◌, ◌++◌, Option, Some, refl, sym, ap, subst, arith, append_assoc, ◌∙◌, append-nil, Symbol, same, same_true, Lexeme, name, Called, Form, Tree, Clause, Member, Param, ClausesPart, new_inductive, new_member, with_clause, Vals, row, rows, find, read, first_row, passes, Begun, CanRead, CanRun, IsExpr, IsRead, rest, terminal_at, token_at, again, expand, follow, next, next_expr, none_of, only, stands, start, take, unexpand, reread, IsMember, IsResult, body_part, IsClause, IsClauses, IsInductive, clause_part, clauses_part}
 use Rattle.tokens_why.specs.declared.terminal.Terminal.TheVariants as t
-use Rattle.grammar.specs.declared.symbols.Symbol.{Symbol}
 use Rattle.grammar.specs.declared.symbols.Symbol.TheVariants as s
-use Rattle.grammar.specs.Alphabet.{same}
-use Rattle.grammar.proofs.Laws.{same_true}
-use Rattle.syntax_why.specs.Lexeme.{Lexeme, name}
-use Rattle.syntax_why.specs.Forms.{Called, Form}
-use Rattle.syntax_why.specs.Trees.{Tree}
-use Rattle.syntax_why.specs.Declarations.{Clause, Member, Param}
-use Rattle.reading.specs.DeclParts.{ClausesPart, new_inductive, new_member, with_clause}
-use Rattle.reading.specs.Row.{Vals, row}
-use Rattle.reading.specs.Values.{find, read, rows}
-use Rattle.reading.proofs.Inverse.{first_row, passes}
-use Rattle.parse_terms.specs.Reading.{Begun, CanRead, CanRun, IsExpr, IsRead, rest, terminal_at, token_at}
-use Rattle.parse_terms.proofs.Steps.{again, expand, follow, next, next_expr, none_of, only, stands, start, take, unexpand, reread}
-use Rattle.parse_decls.specs.Bodies.{IsMember, IsResult, body_part}
-use Rattle.parse_decls.specs.Clauses.{IsClause, IsClauses, IsInductive, clause_part, clauses_part}
 
 -- values
 module _ {xs : List Lexeme} {i : ℕ} (c : CanRun xs (λ k. s.Value ∷ s.Decls ∷ k) i) where

@@ -1,27 +1,10 @@
 -- What follows where the theory of a use or a clone and the elements of a clone are read.
-use Rattle.std.proofs.Common.{◌≡◌, ℕ, ◌+◌, ◌<◌, ◌≤◌, Bool, true, false, zero, suc, List, [], ◌∷◌, ◌++◌, length, Some, None, refl, ap, ◌∙◌, subst, arith, append-nil}
-use Rattle.tokens_why.specs.declared.terminal.Terminal.{Terminal}
+use Rattle.parse_decls.proofs.Common.{◌≡◌, ℕ, ◌+◌, ◌<◌, ◌≤◌, Bool, true, false, zero, suc, List, [], ◌∷◌, ◌++◌, length, Some, None, refl, ap, ◌∙◌, subst, arith, append-nil, Terminal, Symbol, same, same_true, Name, Lexeme, Word, at, Form, called, lower, Element, all_axioms, clone_decl, more_decls, prop_element, symbol_element, type_element, use_decl, Dotted, Scoped, scope_own, VarsPart, prop_called, scope_called, axioms_of, axioms_own, cloned, used, rows, Vals, row, find, Begun, CanRead, IsRead, terminal_at, token_at, again, begins, done, expand, extended_due, many, missed, next, next_within, none_of, only, pass, start, take, unexpand, begins_symbol, prop_kind, symbol_word, IsNamed}
 use Rattle.tokens_why.specs.declared.terminal.Terminal.TheVariants as t
-use Rattle.grammar.specs.declared.symbols.Symbol.{Symbol}
 use Rattle.grammar.specs.declared.symbols.Symbol.TheVariants as s
-use Rattle.grammar.specs.Alphabet.{same}
-use Rattle.grammar.proofs.Laws.{same_true}
-use Rattle.syntax_why.specs.declared.names.Name.{Name}
 use Rattle.syntax_why.specs.declared.names.Path.{Path}
 use Rattle.syntax_why.specs.declared.declarations.Link.TheVariants as lk
 use Rattle.syntax_why.specs.declared.declarations.PropKind.TheVariants as pk
-use Rattle.syntax_why.specs.Lexeme.{Lexeme, Word, at}
-use Rattle.syntax_why.specs.Forms.{Form, called, lower}
-use Rattle.syntax_why.specs.Declarations.{Element, all_axioms, clone_decl, more_decls, prop_element, symbol_element, type_element, use_decl}
-use Rattle.reading.specs.Parts.{Dotted, Scoped, scope_own}
-use Rattle.reading.specs.DeclParts.{VarsPart, prop_called, scope_called}
-use Rattle.reading.specs.DeclRows.{axioms_of, axioms_own, cloned, used}
-use Rattle.reading.specs.Row.{Vals, row}
-use Rattle.reading.specs.Values.{find, rows}
-use Rattle.parse_terms.specs.Reading.{Begun, CanRead, IsRead, terminal_at, token_at}
-use Rattle.parse_terms.proofs.Steps.{again, begins, done, expand, extended_due, many, missed, next, next_within, none_of, only, pass, start, take, unexpand}
-use Rattle.parse_decls.specs.Clones.{begins_symbol, prop_kind, symbol_word}
-use Rattle.parse_decls.specs.Types.{IsNamed}
 use Rattle.parse_decls.proofs.TypesRead.{elvars_many, elvars_on, unpass, variables_read}
 
 -- paths

@@ -1,18 +1,9 @@
 -- What follows where names of symbols and propositions are read.
-use Rattle.std.proofs.Common.{◌≡◌, ℕ, ◌+◌, Bool, true, false, List, [], ◌∷◌, refl, sym, ap, subst}
+use Rattle.parse_decls.proofs.Common.{◌≡◌, ℕ, ◌+◌, Bool, true, false, List, [], ◌∷◌, refl, sym, ap, subst, same, Name, Lexeme, called, own_of, own_op, Begun, CanRead, IsRead, terminal_at, IsTextAt, again, done, expand, only, start, lower_own}
 use Rattle.tokens_why.specs.declared.terminal.Terminal.TheVariants as t
 use Rattle.grammar.specs.declared.symbols.Symbol.TheVariants as s
-use Rattle.grammar.specs.Alphabet.{same}
-use Rattle.syntax_why.specs.declared.names.Name.{Name}
 use Rattle.syntax_why.specs.declared.names.Style.TheVariants as style
-use Rattle.syntax_why.specs.Lexeme.{Lexeme}
-use Rattle.syntax_why.specs.Forms.{called}
-use Rattle.syntax_why.specs.Surface.{own_of}
-use Rattle.reading.specs.Parts.{own_op}
-use Rattle.parse_terms.specs.Reading.{Begun, CanRead, IsRead, terminal_at}
-use Rattle.parse_terms.specs.Sources.{IsTextAt}
-use Rattle.parse_terms.proofs.Steps.{again, done, expand, only, start}
-use Rattle.parse_terms.proofs.TextsRead.{lower_own, upper_own}
+use Rattle.parse_terms.proofs.TextsRead.{upper_own}
 
 module _ {xs : List Lexeme} {i : ℕ} (c : CanRead xs s.Op i) where
   pub operator_start : same t.Lident (terminal_at xs i) ≡ false → same t.StarName (terminal_at xs i) ≡ false → Begun xs 1 (λ k. s.Op ∷ k) i (λ k. s.Opname ∷ k) (λ k us. (called i [] (own_op us.0.prefix us.0.op), us.1)) (i + 1)

@@ -1,18 +1,9 @@
 -- What follows where declarations of symbols and propositions are read.
-use Rattle.std.proofs.Common.{◌≡◌, ℕ, ◌+◌, true, false, List, ◌∷◌, ◌++◌, Option, refl}
+use Rattle.parse_decls.proofs.Common.{◌≡◌, ℕ, ◌+◌, true, false, List, ◌∷◌, ◌++◌, Option, refl, same, Lexeme, at, Called, Form, Tree, Inductive, Param, constant_decl, function_decl, inductive_decl, more_decls, predicate_decl, prop_decl, prop_word, new_inductive, Begun, CanRead, IsExpr, IsRead, terminal_at, again, expand, follow, next, next_expr, start, take, IsDecl, IsValue}
 use Rattle.tokens_why.specs.declared.terminal.Terminal.TheVariants as t
 use Rattle.grammar.specs.declared.symbols.Symbol.TheVariants as s
-use Rattle.grammar.specs.Alphabet.{same}
 use Rattle.syntax_why.specs.declared.declarations.PropKind.{PropKind}
 use Rattle.syntax_why.specs.declared.declarations.PropKind.TheVariants as pk
-use Rattle.syntax_why.specs.Lexeme.{Lexeme, at}
-use Rattle.syntax_why.specs.Forms.{Called, Form}
-use Rattle.syntax_why.specs.Trees.{Tree}
-use Rattle.syntax_why.specs.Declarations.{Inductive, Param, constant_decl, function_decl, inductive_decl, more_decls, predicate_decl, prop_decl, prop_word}
-use Rattle.reading.specs.DeclParts.{new_inductive}
-use Rattle.parse_terms.specs.Reading.{Begun, CanRead, IsExpr, IsRead, terminal_at}
-use Rattle.parse_terms.proofs.Steps.{again, expand, follow, next, next_expr, start, take}
-use Rattle.parse_decls.specs.Bodies.{IsDecl, IsValue}
 
 -- constants
 module _ {xs : List Lexeme} {i : ℕ} (c : CanRead xs s.Decls i) (e : same t.ConstantWord (terminal_at xs i) ≡ true) where

@@ -1,20 +1,8 @@
 -- What follows where declarations, theories and files are read.
-use Rattle.std.proofs.Common.{◌≡◌, ℕ, ◌+◌, ◌<◌, Bool, true, false, not, ◌||◌, List, [], ◌∷◌, ◌++◌, length, Some, refl, sym, ap, ◌∙◌, subst, arith, append-nil}
-use Rattle.tokens_why.specs.declared.terminal.Terminal.{Terminal}
+use Rattle.parse_decls.proofs.Common.{◌≡◌, ℕ, ◌+◌, ◌<◌, Bool, true, false, not, ◌||◌, List, [], ◌∷◌, ◌++◌, length, Some, refl, sym, ap, ◌∙◌, subst, arith, append-nil, Terminal, same, same_true, Name, Lexeme, at, name, Decl, Decls, Theory, more_decls, no_decls, prop_word, scope_decl, decls, read, Begun, CanRead, IsRead, terminal_at, again, done, expand, many, next_within, none_of, only, pass, start, prop_kind, IsFile, begins_theory}
 use Rattle.tokens_why.specs.declared.terminal.Terminal.TheVariants as t
 use Rattle.grammar.specs.declared.symbols.Symbol.TheVariants as s
-use Rattle.grammar.specs.Alphabet.{same}
-use Rattle.grammar.proofs.Laws.{same_true}
-use Rattle.syntax_why.specs.declared.names.Name.{Name}
-use Rattle.syntax_why.specs.Lexeme.{Lexeme, at, name}
-use Rattle.syntax_why.specs.Declarations.{Decl, Decls, Theory, more_decls, no_decls, prop_word, scope_decl}
-use Rattle.syntax_why.specs.SurfaceDeclarations.{decls}
-use Rattle.reading.specs.Values.{read}
-use Rattle.parse_terms.specs.Reading.{Begun, CanRead, IsRead, terminal_at}
-use Rattle.parse_terms.proofs.Steps.{again, done, expand, many, next_within, none_of, only, pass, start}
 use Rattle.parse_terms.proofs.ChoicesRead.{neither}
-use Rattle.parse_decls.specs.Clones.{prop_kind}
-use Rattle.parse_decls.specs.Files.{IsFile, begins_theory}
 
 pub decls_many : (ds : List Decl) → many more_decls ds no_decls ≡ decls ds
 decls_many [] = refl

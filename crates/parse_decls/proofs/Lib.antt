@@ -1,3 +1,4 @@
+pub mod Common
 pub mod DeclaredRead
 pub mod ParamsRead
 pub mod BodiesRead
@@ -7,3 +8,4 @@ pub mod TypesRead
 pub mod ClonesRead
 pub mod FilesRead
 pub mod SourcesRead
+pub mod Cited

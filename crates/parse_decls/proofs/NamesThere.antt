@@ -1,12 +1,6 @@
 -- The names that are made of tokens.
-use Rattle.std.proofs.Common.{◌≡◌, ℕ, true, List, ap, ◌∙◌}
+use Rattle.parse_decls.proofs.Common.{◌≡◌, ℕ, true, List, ap, ◌∙◌, same, Name, Lexeme, name, terminal_at, token_at, IsTextAt, upper_text}
 use Rattle.tokens_why.specs.declared.terminal.Terminal.TheVariants as t
-use Rattle.grammar.specs.Alphabet.{same}
-use Rattle.syntax_why.specs.declared.names.Name.{Name}
-use Rattle.syntax_why.specs.Lexeme.{Lexeme, name}
-use Rattle.parse_terms.specs.Reading.{terminal_at, token_at}
-use Rattle.parse_terms.specs.Sources.{IsTextAt}
-use Rattle.parse_terms.proofs.TextsRead.{upper_text}
 
 pub made : (xs : List Lexeme) (i : ℕ) (n : Name) → n.at ≡ i → n.text ≡ (token_at xs i).text → n ≡ name i (token_at xs i).text
 made xs i n p h = ap (λ j. name j n.text) p ∙ ap (name i) h

@@ -1,24 +1,7 @@
 -- What follows where parameters are read.
-use Rattle.std.proofs.Common.{◌≡◌, ℕ, zero, suc, ◌+◌, ◌<◌, ◌≤◌, ◌⊎◌, inl, inr, Bool, true, false, ◌&&◌, if◌then◌else◌, List, [], ◌∷◌, ◌++◌, length, Some, None, refl, sym, ap, ◌∙◌, subst, arith}
-use Rattle.std.proofs.lemmas.List.{get_or_past}
-use Rattle.tokens_why.specs.declared.terminal.Terminal.{Terminal}
+use Rattle.parse_decls.proofs.Common.{◌≡◌, ℕ, zero, suc, ◌+◌, ◌<◌, ◌≤◌, ◌⊎◌, inl, inr, Bool, true, false, ◌&&◌, if◌then◌else◌, List, [], ◌∷◌, ◌++◌, length, Some, None, refl, sym, ap, ◌∙◌, subst, arith, get_or_past, Terminal, Symbol, same, same_true, Name, Lexeme, at, name, Form, Forms, called, composed, enclosed, lower, more_forms, no_forms, type_variable, Param, NamePart, ParamPart, behind_name, behind_paren, name_names, name_types, param, param_types, Row, Vals, row, then_row, params_own, pparen_own, rows, find, read, below_or, by_first, first_row, from_cons, from_end, stands_within, Begun, CanRead, CanRun, IsRead, begins_atype, from, nowhere, rest, terminal_at, token_at, again, and_cases, expand, extended, extended_due, many, many_more, missed, next, only, reread, stands, stands_by, start, unexpand, IsParam, begins_names, names_before_colon}
 use Rattle.tokens_why.specs.declared.terminal.Terminal.TheVariants as t
-use Rattle.grammar.specs.declared.symbols.Symbol.{Symbol}
 use Rattle.grammar.specs.declared.symbols.Symbol.TheVariants as s
-use Rattle.grammar.specs.Alphabet.{same}
-use Rattle.grammar.proofs.Laws.{same_true}
-use Rattle.syntax_why.specs.declared.names.Name.{Name}
-use Rattle.syntax_why.specs.Lexeme.{Lexeme, at, name}
-use Rattle.syntax_why.specs.Forms.{Form, Forms, called, composed, enclosed, lower, more_forms, no_forms, type_variable}
-use Rattle.syntax_why.specs.Declarations.{Param}
-use Rattle.reading.specs.DeclParts.{NamePart, ParamPart, behind_name, behind_paren, name_names, name_types, param, param_types}
-use Rattle.reading.specs.Row.{Row, Vals, row, then_row}
-use Rattle.reading.specs.DeclRows.{params_own, pparen_own}
-use Rattle.reading.specs.Values.{find, read, rows}
-use Rattle.reading.proofs.Inverse.{below_or, by_first, first_row, from_cons, from_end, stands_within}
-use Rattle.parse_terms.specs.Reading.{Begun, CanRead, CanRun, IsRead, begins_atype, from, nowhere, rest, terminal_at, token_at}
-use Rattle.parse_terms.proofs.Steps.{again, and_cases, expand, extended, extended_due, many, many_more, missed, next, only, reread, stands, stands_by, start, unexpand}
-use Rattle.parse_decls.specs.Params.{IsParam, begins_names, names_before_colon}
 
 -- names before a colon, one by one
 pub names_at : (xs : List Lexeme) (j : ℕ) → j < length xs → names_before_colon (from xs j) ≡ (if same t.Lident (terminal_at xs j) then names_before_colon (from xs (j + 1)) else same t.Colon (terminal_at xs j))

@@ -1,12 +1,9 @@
 -- The tokens of a source are read as its file.
-use Rattle.std.proofs.Common.{◌≡◌, ◌∙◌, ℕ, false, List, [], ◌∷◌, map, Option, Some, None, ap, sym, subst}
+use Rattle.parse_decls.proofs.Common.{◌≡◌, ◌∙◌, ℕ, false, List, [], ◌∷◌, map, Option, Some, None, ap, sym, subst, lexeme, Theory, read, IsFile}
 use Rattle.tokens_why.specs.declared.token.Token.{Token}
 use Rattle.grammar.specs.declared.symbols.Symbol.TheVariants as s
-use Rattle.syntax_why.specs.Lexeme.{lexeme, rest}
-use Rattle.syntax_why.specs.Declarations.{Theory}
-use Rattle.reading.specs.Values.{read}
+use Rattle.syntax_why.specs.Lexeme.{rest}
 use Rattle.recognise_why.specs.Sources.{IsOnlyFile, IsSource}
-use Rattle.parse_decls.specs.Files.{IsFile}
 
 -- the file, if there is one
 abbrev value_or : List Theory → Option (List Theory × Unit {0}) → List Theory

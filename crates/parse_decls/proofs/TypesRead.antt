@@ -1,28 +1,10 @@
 -- What follows where type variables, constructors and algebraic types are read.
-use Rattle.std.proofs.Common.{◌≡◌, ℕ, ◌+◌, ◌<◌, ◌≤◌, ◌⊎◌, inl, inr, Bool, true, false, not, ◌&&◌, ◌||◌, nat_le, List, [], ◌∷◌, ◌++◌, length, Option, Some, None, option_map, refl, sym, ap, ◌∙◌, subst, arith, append_assoc, append-nil}
-use Rattle.std.proofs.lemmas.List.{get_or_past}
-use Rattle.tokens_why.specs.declared.terminal.Terminal.{Terminal}
+use Rattle.parse_decls.proofs.Common.{◌≡◌, ℕ, ◌+◌, ◌<◌, ◌≤◌, ◌⊎◌, inl, inr, Bool, true, false, not, ◌&&◌, ◌||◌, nat_le, List, [], ◌∷◌, ◌++◌, length, Option, Some, None, option_map, refl, sym, ap, ◌∙◌, subst, arith, append_assoc, append-nil, get_or_past, Terminal, Symbol, same, Name, Lexeme, at, name, Form, Forms, called, composed, lower, more_forms, no_forms, forms, Algebraic, Constructor, algebraic_decl, more_decls, type_decl, AlgPart, FieldsPart, TvarsPart, VarsPart, fields_of, is_algebraic, is_alias, new_algebraic, scope_of, typed_as, upper_type, with_constructor, fields_own, fields_rows, upper_own, rows, Row, Val, Vals, extend, row, then_row, blank, find, read, below_or, from_cons, from_end, Begun, CanRead, CanRun, begins_atype, nowhere, rest, terminal_at, token_at, again, expand, extended, follow, many, missed, only, pass, stands_by, start, take, unexpand, IsDecl, IsAlgebraic, IsCon, IsConstructor, IsConstructors, IsNamed, Named, alg_part, begins_constructor, con_part, constructor_at, fields_part}
 use Rattle.tokens_why.specs.declared.terminal.Terminal.TheVariants as t
-use Rattle.grammar.specs.declared.symbols.Symbol.{Symbol}
 use Rattle.grammar.specs.declared.symbols.Symbol.TheVariants as s
-use Rattle.grammar.specs.Alphabet.{same}
 use Rattle.grammar.specs.Machine.{is_seal}
-use Rattle.syntax_why.specs.declared.names.Name.{Name}
-use Rattle.syntax_why.specs.Lexeme.{Lexeme, at, name}
-use Rattle.syntax_why.specs.Forms.{Form, Forms, called, composed, lower, more_forms, no_forms}
-use Rattle.syntax_why.specs.Surface.{forms}
-use Rattle.syntax_why.specs.Declarations.{Algebraic, Constructor, algebraic_decl, more_decls, type_decl}
-use Rattle.reading.specs.DeclParts.{AlgPart, FieldsPart, TvarsPart, VarsPart, fields_of, is_algebraic, is_alias, new_algebraic, scope_of, typed_as, upper_type, with_constructor}
-use Rattle.reading.specs.DeclRows.{fields_own, fields_rows, upper_own}
-use Rattle.reading.specs.Row.{Row, Val, Vals, extend, row, then_row}
-use Rattle.reading.specs.Values.{blank, find, read, rows}
 use Rattle.reading.proofs.Reading.{Stops, find_apart, find_extend, passed}
-use Rattle.reading.proofs.Inverse.{below_or, from_cons, from_end}
-use Rattle.parse_terms.specs.Reading.{Begun, CanRead, CanRun, begins_atype, nowhere, rest, terminal_at, token_at}
-use Rattle.parse_terms.proofs.Steps.{again, expand, extended, follow, many, missed, only, pass, stands_by, start, take, unexpand}
 use Rattle.parse_terms.proofs.FormsRead.{forms_many}
-use Rattle.parse_decls.specs.Bodies.{IsDecl}
-use Rattle.parse_decls.specs.Types.{IsAlgebraic, IsCon, IsConstructor, IsConstructors, IsNamed, Named, alg_part, begins_constructor, con_part, constructor_at, fields_part}
 
 le_self : (n : ℕ) → nat_le n n ≡ true
 le_self n = search (arith)

@@ -1,12 +1,7 @@
 -- What is read as a definition and its members.
-use Rattle.std.specs.Prelude.{ℕ, ◌+◌, List, ◌∷◌, Option}
+use Rattle.parse_decls.specs.Common.{ℕ, ◌+◌, List, ◌∷◌, Option, Lexeme, Form, Decl, Member, more_decls, BodyPart, Begun}
 use Rattle.grammar.specs.declared.symbols.Symbol.TheVariants as s
-use Rattle.syntax_why.specs.Lexeme.{Lexeme}
-use Rattle.syntax_why.specs.Forms.{Form}
 use Rattle.syntax_why.specs.Trees.{Tree}
-use Rattle.syntax_why.specs.Declarations.{Decl, Member, more_decls}
-use Rattle.reading.specs.DeclParts.{BodyPart}
-use Rattle.parse_terms.specs.Reading.{Begun}
 
 -- What is read as declarations has this one first, and goes on as declarations.
 abbrev pub IsDecl : List Lexeme → ℕ → Decl → ℕ → Type 0

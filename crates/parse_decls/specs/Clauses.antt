@@ -1,13 +1,7 @@
 -- What is read as clauses and inductive predicates.
-use Rattle.std.specs.Prelude.{ℕ, ◌≡◌, Bool, false, List, ◌∷◌}
+use Rattle.parse_decls.specs.Common.{ℕ, ◌≡◌, Bool, false, List, ◌∷◌, same, Name, Lexeme, Clause, Inductive, ClausePart, ClausesPart, Begun, terminal_at}
 use Rattle.tokens_why.specs.declared.terminal.Terminal.TheVariants as t
 use Rattle.grammar.specs.declared.symbols.Symbol.TheVariants as s
-use Rattle.grammar.specs.Alphabet.{same}
-use Rattle.syntax_why.specs.declared.names.Name.{Name}
-use Rattle.syntax_why.specs.Lexeme.{Lexeme}
-use Rattle.syntax_why.specs.Declarations.{Clause, Inductive}
-use Rattle.reading.specs.DeclParts.{ClausePart, ClausesPart}
-use Rattle.parse_terms.specs.Reading.{Begun, terminal_at}
 
 abbrev pub clauses_part : List Clause → List Inductive → ClausesPart
 clauses_part cs ds = record { clauses = cs; others = ds }

@@ -1,6 +1,5 @@
 -- What the words before propositions and symbols say.
-use Rattle.std.specs.Prelude.{Bool, true, false}
-use Rattle.tokens_why.specs.declared.terminal.Terminal.{Terminal}
+use Rattle.parse_decls.specs.Common.{Bool, true, false, Terminal}
 use Rattle.tokens_why.specs.declared.terminal.Terminal.TheVariants as t
 use Rattle.syntax_why.specs.declared.declarations.PropKind.{PropKind}
 use Rattle.syntax_why.specs.declared.declarations.PropKind.TheVariants as pk

@@ -1,13 +1,7 @@
 -- What is read as theories, and tokens that are one file.
-use Rattle.std.specs.Prelude.{ℕ, ◌≡◌, Bool, false, ◌||◌, List, [], ◌∷◌, Some}
-use Rattle.tokens_why.specs.declared.terminal.Terminal.{Terminal}
+use Rattle.parse_decls.specs.Common.{ℕ, ◌≡◌, Bool, false, ◌||◌, List, [], ◌∷◌, Some, Terminal, same, Lexeme, Theory, read, Begun}
 use Rattle.tokens_why.specs.declared.terminal.Terminal.TheVariants as t
 use Rattle.grammar.specs.declared.symbols.Symbol.TheVariants as s
-use Rattle.grammar.specs.Alphabet.{same}
-use Rattle.syntax_why.specs.Lexeme.{Lexeme}
-use Rattle.syntax_why.specs.Declarations.{Theory}
-use Rattle.reading.specs.Values.{read}
-use Rattle.parse_terms.specs.Reading.{Begun}
 
 abbrev pub begins_theory : Terminal → Bool
 begins_theory x = same t.TheoryWord x || same t.ModuleWord x

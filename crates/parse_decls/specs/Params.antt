@@ -1,12 +1,7 @@
 -- What is read as parameters.
-use Rattle.std.specs.Prelude.{ℕ, ◌+◌, Bool, false, ◌&&◌, if◌then◌else◌, List, [], ◌∷◌}
+use Rattle.parse_decls.specs.Common.{ℕ, ◌+◌, Bool, false, ◌&&◌, if◌then◌else◌, List, [], ◌∷◌, same, Lexeme, Param, param_names, Begun, IsRead, from, terminal_at}
 use Rattle.tokens_why.specs.declared.terminal.Terminal.TheVariants as t
 use Rattle.grammar.specs.declared.symbols.Symbol.TheVariants as s
-use Rattle.grammar.specs.Alphabet.{same}
-use Rattle.syntax_why.specs.Lexeme.{Lexeme}
-use Rattle.syntax_why.specs.Declarations.{Param}
-use Rattle.reading.specs.DeclParts.{param_names}
-use Rattle.parse_terms.specs.Reading.{Begun, IsRead, from, terminal_at}
 
 -- names, none or more, and then a colon
 abbrev pub names_before_colon : List Lexeme → Bool

@@ -1,15 +1,7 @@
 -- What is read as type variables, constructors and algebraic types.
-use Rattle.std.specs.Prelude.{ℕ, ◌+◌, ◌≡◌, Bool, false, true, not, ◌&&◌, ◌||◌, List, [], ◌∷◌}
-use Rattle.tokens_why.specs.declared.terminal.Terminal.{Terminal}
+use Rattle.parse_decls.specs.Common.{ℕ, ◌+◌, ◌≡◌, Bool, false, true, not, ◌&&◌, ◌||◌, List, [], ◌∷◌, Terminal, same, Name, Lexeme, name, Forms, Algebraic, Constructor, AlgPart, ConPart, FieldsPart, Begun, begins_atype, terminal_at, token_at}
 use Rattle.tokens_why.specs.declared.terminal.Terminal.TheVariants as t
 use Rattle.grammar.specs.declared.symbols.Symbol.TheVariants as s
-use Rattle.grammar.specs.Alphabet.{same}
-use Rattle.syntax_why.specs.declared.names.Name.{Name}
-use Rattle.syntax_why.specs.Lexeme.{Lexeme, name}
-use Rattle.syntax_why.specs.Forms.{Forms}
-use Rattle.syntax_why.specs.Declarations.{Algebraic, Constructor}
-use Rattle.reading.specs.DeclParts.{AlgPart, ConPart, FieldsPart}
-use Rattle.parse_terms.specs.Reading.{Begun, begins_atype, terminal_at, token_at}
 
 -- Type variables side by side, each at its token.
 abbrev pub Named : List Lexeme → ℕ → List Name → ℕ → Type 0

@@ -1,11 +1,7 @@
 // Definitions of what is declared, with the members after `with`.
-// They depend on names, parameters and terms; declarations depend on them.
-ghost use Rattle.std.specs.Prelude.{◌+◌, ◌∷◌, IfOk, map, option_map};
+ghost use Rattle.parse_decls.specs.Common.{◌+◌, ◌∷◌, IfOk, map, option_map, member_of, CanRead, CanRun, IsRead, lexemes};
 ghost use Rattle.grammar.specs.declared.symbols.Symbol.TheVariants as rule;
 ghost use Rattle.syntax_why.specs.Surface.{form_of, tree_of};
-ghost use Rattle.syntax_why.specs.SurfaceDeclarations.{member_of};
-ghost use Rattle.parse_terms.specs.Reading.{CanRead, CanRun, IsRead};
-ghost use Rattle.parse_terms.specs.Sources.{lexemes};
 ghost use Rattle.parse_decls.specs.Bodies.{IsMember, IsResult, IsValue, body_part};
 
 use crate::declared::declared_name;

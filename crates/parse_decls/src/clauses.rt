@@ -1,11 +1,7 @@
 // Inductive predicates with their clauses.
-// They depend on names, parameters and terms; declarations depend on them.
-ghost use Rattle.std.specs.Prelude.{◌+◌, ◌∷◌, IfOk, map};
+ghost use Rattle.parse_decls.specs.Common.{◌+◌, ◌∷◌, IfOk, map, clause_of, inductive_of, CanRead, CanRun, lexemes};
 ghost use Rattle.grammar.specs.declared.symbols.Symbol.TheVariants as rule;
 ghost use Rattle.tokens_why.specs.declared.terminal.Terminal.TheVariants.{Colon, Equal};
-ghost use Rattle.syntax_why.specs.SurfaceDeclarations.{clause_of, inductive_of};
-ghost use Rattle.parse_terms.specs.Reading.{CanRead, CanRun};
-ghost use Rattle.parse_terms.specs.Sources.{lexemes};
 ghost use Rattle.parse_decls.specs.Clauses.{IsClause, IsClauses, IsInductive};
 
 use crate::declared::{declared_name, prop_name};

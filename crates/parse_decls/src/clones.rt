@@ -1,13 +1,8 @@
 // The declarations `use` and `clone`, where they are known to stand: each call reads one, and says where it ends.
-// They depend on the readers of names and types; declarations depend on them.
-ghost use Rattle.std.specs.Prelude.{false, true, ◌≡◌, ◌+◌, IfOk, map};
-ghost use Rattle.grammar.specs.Alphabet.{same};
+ghost use Rattle.parse_decls.specs.Common.{false, true, ◌≡◌, ◌+◌, IfOk, map, same, decl_of, element_of, CanRead, IsRead, terminal_at, lexemes};
 ghost use Rattle.grammar.specs.declared.symbols.Symbol.TheVariants as rule;
 ghost use Rattle.tokens_why.specs.declared.terminal.Terminal.TheVariants as t;
-ghost use Rattle.reading.specs.DeclRows.{used as used_part};
-ghost use Rattle.syntax_why.specs.SurfaceDeclarations.{decl_of, element_of};
-ghost use Rattle.parse_terms.specs.Reading.{CanRead, IsRead, terminal_at};
-ghost use Rattle.parse_terms.specs.Sources.{lexemes};
+ghost use Rattle.reading.specs.Rows.{used as used_part};
 ghost use Rattle.parse_decls.specs.Bodies.{IsDecl};
 ghost use Rattle.parse_decls.specs.Clones.{begins_symbol, prop_kind as prop_kind_of, symbol_word as symbol_word_of};
 
@@ -15,7 +10,7 @@ use crate::types::variables;
 use outside::{Seq, Text};
 use parse_terms::{Source, at, head_name, lower_name, name_at, place, terminal, text, type_tree};
 use std::alloc::{AllocError, Global};
-use syntax_why::{DeclTree, ElemNode, ElemTree, Link, Name, Path, PropKind, SymbolWord};
+use syntax_why::{DeclNode, DeclTree, ElemNode, ElemTree, Link, Name, Path, PropKind, SymbolWord};
 use tokens_why::Terminal;
 
 /// The theory that is used or cloned, and the token behind it.
@@ -246,7 +241,10 @@ pub fn use_declaration(
 {
     let here = place(i);
     let theory = used(alloc, source, i + 1)?;
-    let tree = DeclTree::use_theory(here, theory.link, theory.path, theory.name);
+    let tree = DeclTree::new(
+        here,
+        DeclNode::UseTheory(theory.link, theory.path, theory.name),
+    );
     Ok((tree, theory.end))
 }
 
@@ -263,6 +261,9 @@ pub fn clone_declaration(
     let here = place(i);
     let theory = used(alloc, source, i + 1)?;
     let (elements, end) = substitution(alloc, source, theory.end)?;
-    let tree = DeclTree::clone_theory(here, theory.link, theory.path, theory.name, elements);
+    let tree = DeclTree::new(
+        here,
+        DeclNode::CloneTheory(theory.link, theory.path, theory.name, elements),
+    );
     Ok((tree, end))
 }

@@ -1,10 +1,7 @@
 // Names of what is declared: symbols and propositions.
-// They depend on the tokens and on operators' names; parameters and bodies stand behind them.
-ghost use Rattle.std.specs.Prelude.{◌+◌, IfOk};
+ghost use Rattle.parse_decls.specs.Common.{◌+◌, IfOk, plain_name, CanRead, IsRead, lexemes};
 ghost use Rattle.grammar.specs.declared.symbols.Symbol.TheVariants as rule;
-ghost use Rattle.syntax_why.specs.SurfaceDeclarations.{declared_name as name_of_symbol, plain_name};
-ghost use Rattle.parse_terms.specs.Reading.{CanRead, IsRead};
-ghost use Rattle.parse_terms.specs.Sources.{lexemes};
+ghost use Rattle.syntax_why.specs.SurfaceDeclarations.{declared_name as name_of_symbol};
 
 use outside::Text;
 use parse_terms::{Source, at, name_at, operator_name, text};

@@ -1,13 +1,7 @@
 // Declarations of functions, predicates, constants, inductive predicates and propositions.
-// They depend on names, parameters, bodies and clauses; the reader of declarations depends on them.
-ghost use Rattle.std.specs.Prelude.{true, ◌≡◌, ◌+◌, IfOk};
+ghost use Rattle.parse_decls.specs.Common.{true, ◌≡◌, ◌+◌, IfOk, same, prop_word, decl_of, CanRead, terminal_at, lexemes};
 ghost use Rattle.grammar.specs.declared.symbols.Symbol.TheVariants as rule;
-ghost use Rattle.grammar.specs.Alphabet.{same};
 ghost use Rattle.tokens_why.specs.declared.terminal.Terminal.TheVariants as t;
-ghost use Rattle.syntax_why.specs.Declarations.{prop_word};
-ghost use Rattle.syntax_why.specs.SurfaceDeclarations.{decl_of};
-ghost use Rattle.parse_terms.specs.Reading.{CanRead, terminal_at};
-ghost use Rattle.parse_terms.specs.Sources.{lexemes};
 ghost use Rattle.parse_decls.specs.Bodies.{IsDecl};
 
 use crate::bodies::{body, value};
@@ -17,7 +11,7 @@ use crate::parameters::params;
 use outside::Seq;
 use parse_terms::{Source, at, expression, place, type_tree};
 use std::alloc::{AllocError, Global};
-use syntax_why::{DeclTree, IndTree, PropKind};
+use syntax_why::{DeclNode, DeclTree, IndTree, PropKind};
 use tokens_why::Terminal;
 
 /// A constant, and the token behind it. Only want of memory refuses.
@@ -34,7 +28,7 @@ pub fn constant_declaration(
     let (ty, j) = type_tree(alloc, source, colon + 1)?;
     let (given, end) = value(alloc, source, j)?;
     let here = place(i);
-    let tree = DeclTree::constant(here, name, ty, given);
+    let tree = DeclTree::new(here, DeclNode::Constant(name, ty, given));
     Ok((tree, end))
 }
 
@@ -53,7 +47,10 @@ pub fn function_declaration(
     let (ty, n) = type_tree(alloc, source, colon + 1)?;
     let read = body(alloc, source, n)?;
     let here = place(i);
-    let tree = DeclTree::function(here, name, bound, ty, read.definition, read.members);
+    let tree = DeclTree::new(
+        here,
+        DeclNode::Function(name, bound, ty, read.definition, read.members),
+    );
     Ok((tree, read.end))
 }
 
@@ -71,7 +68,10 @@ pub fn predicate_declaration(
     let (bound, n) = params(alloc, source, j)?;
     let read = body(alloc, source, n)?;
     let here = place(i);
-    let tree = DeclTree::predicate(here, name, bound, read.definition, read.members);
+    let tree = DeclTree::new(
+        here,
+        DeclNode::Predicate(name, bound, read.definition, read.members),
+    );
     Ok((tree, read.end))
 }
 
@@ -94,7 +94,7 @@ pub fn inductive_declaration(
         j = end;
     }
     let here = place(i);
-    let tree = DeclTree::inductive(here, Seq::from_vec(of));
+    let tree = DeclTree::new(here, DeclNode::Inductive(Seq::from_vec(of)));
     Ok((tree, j))
 }
 
@@ -112,6 +112,6 @@ pub fn prop_declaration(
     let name = prop_name(alloc, source, i + 1)?;
     let prop = expression(alloc, source, 0, i + 1 + 1 + 1)?;
     let here = place(i);
-    let tree = DeclTree::prop(here, kind, name, prop.tree);
+    let tree = DeclTree::new(here, DeclNode::Prop(kind, name, prop.tree));
     Ok((tree, prop.end))
 }

@@ -1,13 +1,8 @@
 // Declarations, theories and files, where they are known to stand: each call reads one, and says where it ends.
-// They depend on the readers of each kind of declaration; what reads a source depends on them.
-ghost use Rattle.std.specs.Prelude.{false, true, not, ◌≡◌, ◌+◌, ◌∷◌, [], IfOk, Some, map};
-ghost use Rattle.grammar.specs.Alphabet.{same};
+ghost use Rattle.parse_decls.specs.Common.{false, true, not, ◌≡◌, ◌+◌, ◌∷◌, [], IfOk, Some, map, same, read, decl_of, file_of, theory_of, CanRead, IsRead, terminal_at, lexemes};
 ghost use Rattle.grammar.specs.declared.symbols.Symbol.TheVariants as rule;
 ghost use Rattle.tokens_why.specs.declared.terminal.Terminal.TheVariants as t;
-ghost use Rattle.reading.specs.Values.{read};
-ghost use Rattle.syntax_why.specs.SurfaceDeclarations.{decl_of, decls as decls_of, file_of, theory_of};
-ghost use Rattle.parse_terms.specs.Reading.{CanRead, IsRead, terminal_at};
-ghost use Rattle.parse_terms.specs.Sources.{lexemes};
+ghost use Rattle.syntax_why.specs.SurfaceDeclarations.{decls as decls_of};
 ghost use Rattle.parse_decls.specs.Bodies.{IsDecl};
 ghost use Rattle.parse_decls.specs.Files.{IsFile, IsTheory, begins_theory};
 
@@ -20,7 +15,7 @@ use crate::types::type_declaration;
 use outside::Seq;
 use parse_terms::{Source, at, name_at, place, terminal};
 use std::alloc::{AllocError, Global};
-use syntax_why::{DeclTree, File, TheoryTree};
+use syntax_why::{DeclNode, DeclTree, File, TheoryTree};
 use tokens_why::Terminal;
 
 /// A declaration with parameters, a definition, clauses or a proposition.
@@ -124,7 +119,7 @@ fn scope(alloc: Global, source: Source, i: usize) -> Result<(DeclTree, usize), A
     let here = place(i);
     let name = name_at(alloc, source, i + 1)?;
     let (of, end) = declarations(alloc, source, i + 1 + 1)?;
-    let tree = DeclTree::scope(here, name, of);
+    let tree = DeclTree::new(here, DeclNode::ScopeDecl(name, of));
     Ok((tree, end))
 }
 

@@ -1,5 +1,4 @@
 //! Reading of declarations, theories and files from tokens that are known to be good; the reader of sources.
-//! It depends on the readers of types and terms.
 #![tactic(auto)]
 
 mod bodies;

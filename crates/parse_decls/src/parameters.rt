@@ -1,16 +1,12 @@
 // Parameters of what is declared: types side by side, some of them with names.
-// They depend on the readers of types; the bodies of declarations stand behind them.
-ghost use Rattle.std.specs.Prelude.{true, ◌≡◌, IfOk, map};
+ghost use Rattle.parse_decls.specs.Common.{true, ◌≡◌, IfOk, map, param_of, CanRead, IsRead, begins_atype, terminal_at, lexemes};
 ghost use Rattle.grammar.specs.declared.symbols.Symbol.TheVariants as rule;
-ghost use Rattle.syntax_why.specs.SurfaceDeclarations.{param_of};
-ghost use Rattle.parse_terms.specs.Reading.{CanRead, IsRead, begins_atype, terminal_at};
-ghost use Rattle.parse_terms.specs.Sources.{lexemes};
 ghost use Rattle.parse_decls.specs.Params.{IsNamedParam, IsParam, begins_names};
 
 use outside::Seq;
 use parse_terms::{Source, argument, at, at_type, name_at, place, type_list, type_tree};
 use std::alloc::{AllocError, Global};
-use syntax_why::{Name, ParamTree, TypeTree};
+use syntax_why::{Name, ParamTree, TypeNode, TypeTree};
 use tokens_why::Terminal;
 
 /// Whether names, one or more, and a colon stand from a token on.
@@ -68,7 +64,7 @@ fn param(alloc: Global, source: Source, i: usize) -> Result<(ParamTree, usize), 
         }
         let (parts, close) = type_list(alloc, source, behind)?;
         let here = place(i);
-        let group = TypeTree::group(here, parts);
+        let group = TypeTree::new(here, TypeNode::Group(parts));
         let listed = ParamTree {
             names: Seq::new(alloc),
             ty: group,

@@ -1,9 +1,6 @@
 // The file of a source, or its first fault.
-// It depends on the descent of files, and on what the grammar says of the tokens before.
-ghost use Rattle.std.specs.Prelude.{IfOk, IfErr};
+ghost use Rattle.parse_decls.specs.Common.{IfOk, IfErr, rest, terminals, file_of};
 ghost use Rattle.tokens_why.specs.Tokens.{AreTokens};
-ghost use Rattle.syntax_why.specs.Lexeme.{rest, terminals};
-ghost use Rattle.syntax_why.specs.SurfaceDeclarations.{file_of};
 ghost use Rattle.recognise_why.specs.Depth.{IsShallow};
 ghost use Rattle.recognise_why.specs.Sources.{IsOnlyFile, IsRefusal, IsSource};
 

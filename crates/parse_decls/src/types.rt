@@ -1,19 +1,14 @@
 // Declarations of types, where they are known to stand: each call reads one, and says where it ends.
-// They depend on the readers of names and types; declarations depend on them.
-ghost use Rattle.std.specs.Prelude.{true, ◌≡◌, ◌+◌, ◌∷◌, IfOk, map};
-ghost use Rattle.grammar.specs.Alphabet.{same};
+ghost use Rattle.parse_decls.specs.Common.{true, ◌≡◌, ◌+◌, ◌∷◌, IfOk, map, same, algebraic_of, constructor_of, decl_of, CanRead, CanRun, terminal_at, lexemes};
 ghost use Rattle.grammar.specs.declared.symbols.Symbol.TheVariants as rule;
 ghost use Rattle.tokens_why.specs.declared.terminal.Terminal.TheVariants as t;
-ghost use Rattle.syntax_why.specs.SurfaceDeclarations.{algebraic_of, constructor_of, decl_of};
-ghost use Rattle.parse_terms.specs.Reading.{CanRead, CanRun, terminal_at};
-ghost use Rattle.parse_terms.specs.Sources.{lexemes};
 ghost use Rattle.parse_decls.specs.Bodies.{IsDecl};
 ghost use Rattle.parse_decls.specs.Types.{IsAlgebraic, IsCon, IsConstructor, IsConstructors, IsNamed, begins_constructor};
 
 use outside::Seq;
 use parse_terms::{Source, argument, at, at_type, name_at, place, type_tree};
 use std::alloc::{AllocError, Global};
-use syntax_why::{AlgTree, ConTree, DeclTree, Name, TypeTree};
+use syntax_why::{AlgTree, ConTree, DeclNode, DeclTree, Name, TypeTree};
 use tokens_why::Terminal;
 
 /// The type variables that stand side by side, and the token behind them. Only want of memory refuses.
@@ -150,11 +145,14 @@ pub fn type_declaration(
                 types.push(next)?;
                 n = end;
             }
-            let tree = DeclTree::algebraic(here, Seq::from_vec(types));
+            let tree = DeclTree::new(here, DeclNode::Algebraic(Seq::from_vec(types)));
             return Ok((tree, n));
         }
         let (ty, last) = type_tree(alloc, source, behind)?;
-        return Ok((DeclTree::type_named(here, name, vars, Some(ty)), last));
+        return Ok((
+            DeclTree::new(here, DeclNode::TypeDecl(name, vars, Some(ty))),
+            last,
+        ));
     }
-    Ok((DeclTree::type_named(here, name, vars, None), j))
+    Ok((DeclTree::new(here, DeclNode::TypeDecl(name, vars, None)), j))
 }

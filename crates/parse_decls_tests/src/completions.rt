@@ -65,20 +65,24 @@ pub fn completed_words(
     words_of(alloc, &kinds)
 }
 
-/// The words that complete the tokens of a text before its fault, with a blank before each.
-fn completed(alloc: Global, text: &[u8]) -> Result<String, AllocError> {
-    let Ok(tokens) = lex(alloc, text) else {
-        return format!(in alloc; "no tokens");
-    };
-    match parse(alloc, &tokens, text) {
+/// Words with a blank before each.
+fn spaced(alloc: Global, words: &[&'static str]) -> Result<String, AllocError> {
+    let mut shown = String::new(alloc);
+    for word in words {
+        shown.push_str(" ")?;
+        shown.push_str(*word)?;
+    }
+    Ok(shown)
+}
+
+/// The words that complete tokens before their fault, with a blank before each.
+fn completed_tokens(alloc: Global, tokens: &[Token], text: &[u8]) -> Result<String, AllocError>
+    requires { AreTokens text.now tokens.now }
+{
+    match parse(alloc, tokens, text) {
         Err(fault) => {
-            let words = completed_words(alloc, &tokens, text, fault)?;
-            let mut shown = String::new(alloc);
-            for word in &words {
-                shown.push_str(" ")?;
-                shown.push_str(*word)?;
-            }
-            Ok(shown)
+            let words = completed_words(alloc, tokens, text, fault)?;
+            spaced(alloc, &words)
         }
         Ok(file) => {
             drop(file);
@@ -87,10 +91,18 @@ fn completed(alloc: Global, text: &[u8]) -> Result<String, AllocError> {
     }
 }
 
+/// The words that complete the tokens of a text before its fault, with a blank before each.
+fn completed(alloc: Global, text: &[u8]) -> Result<String, AllocError> {
+    match lex(alloc, text) {
+        Ok(tokens) => completed_tokens(alloc, &tokens, text),
+        Err(_) => format!(in alloc; "no tokens"),
+    }
+}
+
 fn compare(rt: &impl Abort, alloc: Global, rows: &[(&str, &str)]) -> Result<(), AllocError> {
     for (text, wanted) in rows {
-        let bytes = text.as_bytes();
-        assert_eq!(rt; completed(alloc, bytes)?.as_str(), *wanted);
+        let found = completed(alloc, text.as_bytes())?;
+        assert!(rt; found.as_str() == *wanted, "{text}");
     }
     Ok(())
 }

@@ -1,5 +1,7 @@
 // Texts that are sources, and texts with the number of their fault and its token.
 // They depend on `parse` and `unparse`; the other tables depend on them.
+ghost use Rattle.tokens_why.specs.Tokens.{AreTokens};
+
 use parse_decls::{SyntaxFault, parse};
 use std::alloc::{AllocError, Global};
 use std::process::Abort;
@@ -36,14 +38,13 @@ fn fault(alloc: Global, of: SyntaxFault) -> Result<String, AllocError> {
     }
 }
 
-/// `read` for a source whose tree gives its tokens back, or the fault.
-pub fn shown(alloc: Global, text: &[u8]) -> Result<String, AllocError> {
-    let Ok(tokens) = lex(alloc, text) else {
-        return format!(in alloc; "no tokens");
-    };
-    match parse(alloc, &tokens, text) {
+/// `read` for tokens that the tree that is read of them gives back, or the fault.
+fn shown_tokens(alloc: Global, tokens: &[Token], text: &[u8]) -> Result<String, AllocError>
+    requires { AreTokens text.now tokens.now }
+{
+    match parse(alloc, tokens, text) {
         Ok(file) => {
-            if gives_back(alloc, &tokens, file)? {
+            if gives_back(alloc, tokens, file)? {
                 format!(in alloc; "read")
             } else {
                 format!(in alloc; "another tree")
@@ -53,11 +54,19 @@ pub fn shown(alloc: Global, text: &[u8]) -> Result<String, AllocError> {
     }
 }
 
+/// `read` for a source whose tree gives its tokens back, or the fault.
+pub fn shown(alloc: Global, text: &[u8]) -> Result<String, AllocError> {
+    match lex(alloc, text) {
+        Ok(tokens) => shown_tokens(alloc, &tokens, text),
+        Err(_) => format!(in alloc; "no tokens"),
+    }
+}
+
 /// Whether each text has the answer beside it.
 pub fn compare(rt: &impl Abort, alloc: Global, rows: &[(&str, &str)]) -> Result<(), AllocError> {
     for (text, wanted) in rows {
-        let bytes = text.as_bytes();
-        assert_eq!(rt; shown(alloc, bytes)?.as_str(), *wanted);
+        let found = shown(alloc, text.as_bytes())?;
+        assert!(rt; found.as_str() == *wanted, "{text}");
     }
     Ok(())
 }

@@ -59,48 +59,77 @@ fn numbered(symbols: &mut Vec<&'static str>, symbol: &'static str) -> Result<usi
     Ok(found)
 }
 
-/// The parts of all rules, and the symbols that they have.
-fn parts_of(
-    alloc: Global,
+/// The parts of a rule behind others, and the place of its first part with its name.
+fn push_row(
+    row: &Row,
+    symbols: &mut Vec<&'static str>,
+    parts: &mut Vec<Part>,
+    rules: &mut Vec<Part>,
+) -> Result<(), AllocError> {
+    let head = numbered(symbols, row.0)?;
+    let symbol = parts.len();
+    rules.push(Part { symbol, head })?;
+    for part in row.1.split_whitespace() {
+        let symbol = numbered(symbols, part)?;
+        parts.push(Part { symbol, head })?;
+    }
+    parts.push(Part { symbol: 0, head })?;
+    Ok(())
+}
+
+fn push_rows(
     rows: &[Row],
     symbols: &mut Vec<&'static str>,
-) -> Result<(Vec<Part>, Vec<Part>), AllocError> {
-    let mut parts: Vec<Part> = Vec::new(alloc);
-    let mut rules: Vec<Part> = Vec::new(alloc);
+    parts: &mut Vec<Part>,
+    rules: &mut Vec<Part>,
+) -> Result<(), AllocError> {
     for row in rows {
-        let head = numbered(symbols, row.0)?;
-        let symbol = parts.len();
-        rules.push(Part { symbol, head })?;
-        for part in row.1.split_whitespace() {
-            let symbol = numbered(symbols, part)?;
-            parts.push(Part { symbol, head })?;
-        }
-        parts.push(Part { symbol: 0, head })?;
+        push_row(row, symbols, parts, rules)?;
     }
-    Ok((parts, rules))
+    Ok(())
+}
+
+/// The places of the rules with a name, behind others.
+fn push_rules(all: &[Part], head: usize, rules: &mut Vec<usize>) -> Result<(), AllocError> {
+    for rule in all {
+        if rule.head == head {
+            rules.push(rule.symbol)?;
+        }
+    }
+    Ok(())
+}
+
+/// The places of all rules by their names, and of the first of each name among them.
+fn push_names(
+    all: &[Part],
+    count: usize,
+    rules: &mut Vec<usize>,
+    firsts: &mut Vec<usize>,
+) -> Result<(), AllocError> {
+    for head in 0..count.wrapping_add(1) {
+        firsts.push(rules.len())?;
+        push_rules(all, head, rules)?;
+    }
+    Ok(())
 }
 
 impl Grammar {
     /// The rules in numbers.
     pub fn new(alloc: Global, rows: &[Row]) -> Result<Grammar, AllocError> {
-        let mut symbols: Vec<&'static str> = Vec::new(alloc);
-        let (parts, all) = parts_of(alloc, rows, &mut symbols)?;
-        let mut rules: Vec<usize> = Vec::new(alloc);
-        let mut firsts: Vec<usize> = Vec::new(alloc);
-        for head in 0..symbols.len().wrapping_add(1) {
-            firsts.push(rules.len())?;
-            for rule in &all {
-                if rule.head == head {
-                    rules.push(rule.symbol)?;
-                }
-            }
-        }
-        Ok(Grammar {
-            symbols,
-            parts,
-            rules,
-            firsts,
-        })
+        let mut grammar = Grammar {
+            symbols: Vec::new(alloc),
+            parts: Vec::new(alloc),
+            rules: Vec::new(alloc),
+            firsts: Vec::new(alloc),
+        };
+        grammar.fill(alloc, rows)?;
+        Ok(grammar)
+    }
+
+    fn fill(&mut self, alloc: Global, rows: &[Row]) -> Result<(), AllocError> {
+        let mut all: Vec<Part> = Vec::new(alloc);
+        push_rows(rows, &mut self.symbols, &mut self.parts, &mut all)?;
+        push_names(&all, self.symbols.len(), &mut self.rules, &mut self.firsts)
     }
 
     /// The place of a symbol's first rule.
@@ -285,19 +314,66 @@ impl Chart {
     }
 }
 
+impl Chart {
+    /// All that a word leads to; whether it can stand behind the words so far.
+    fn read(&mut self, grammar: &Grammar, word: &str) -> Result<bool, AllocError> {
+        let symbol = number(&grammar.symbols, word);
+        if is_rule(word) || !self.awaits(grammar, symbol) {
+            return Ok(false);
+        }
+        self.advance(grammar, symbol)?;
+        Ok(true)
+    }
+
+    /// How far words are those of a rule, if the chart is of no words.
+    fn recognise(
+        &mut self,
+        grammar: &Grammar,
+        head: usize,
+        words: &[&'static str],
+    ) -> Result<Verdict, AllocError> {
+        let mut place = words.len();
+        let mut longest = None;
+        for (at, word) in words.iter().enumerate() {
+            self.close(grammar)?;
+            if self.is_whole(grammar, head) {
+                longest = Some(at);
+            }
+            if !self.read(grammar, *word)? {
+                place = at;
+                break;
+            }
+        }
+        self.end(grammar, head, place, longest, words.len())
+    }
+
+    /// The verdict on words that are read up to a place.
+    fn end(
+        &mut self,
+        grammar: &Grammar,
+        head: usize,
+        place: usize,
+        longest: Option<usize>,
+        count: usize,
+    ) -> Result<Verdict, AllocError> {
+        self.close(grammar)?;
+        let is_whole = place == count && self.is_whole(grammar, head);
+        Ok(Verdict {
+            place,
+            scope: self.awaits(grammar, number(&grammar.symbols, "scope")),
+            longest: if is_whole { Some(count) } else { longest },
+        })
+    }
+}
+
 /// A chart of no words, in which a rule is awaited.
 fn begun(alloc: Global, grammar: &Grammar, head: usize) -> Result<Chart, AllocError> {
-    let mut sets: Vec<usize> = Vec::new(alloc);
-    sets.push(0)?;
-    let mut last: Vec<usize> = Vec::new(alloc);
-    for _part in &grammar.parts {
-        last.push(0)?;
-    }
     let mut chart = Chart {
         items: Vec::new(alloc),
-        sets,
-        last,
+        sets: Vec::from_slice(alloc, &[0])?,
+        last: Vec::new(alloc),
     };
+    chart.last.resize(grammar.parts.len(), 0)?;
     let _may_be_empty = chart.predict(grammar, head)?;
     Ok(chart)
 }
@@ -310,31 +386,6 @@ pub fn recognise(
     words: &[&'static str],
 ) -> Result<Verdict, AllocError> {
     let head = number(&grammar.symbols, rule);
-    let scope = number(&grammar.symbols, "scope");
     let mut chart = begun(alloc, grammar, head)?;
-    let mut longest = None;
-    for place in 0..words.len() {
-        chart.close(grammar)?;
-        if chart.is_whole(grammar, head) {
-            longest = Some(place);
-        }
-        let symbol = number(&grammar.symbols, words[place]);
-        if is_rule(words[place]) || !chart.awaits(grammar, symbol) {
-            return Ok(Verdict {
-                place,
-                scope: chart.awaits(grammar, scope),
-                longest,
-            });
-        }
-        chart.advance(grammar, symbol)?;
-    }
-    chart.close(grammar)?;
-    if chart.is_whole(grammar, head) {
-        longest = Some(words.len());
-    }
-    Ok(Verdict {
-        place: words.len(),
-        scope: chart.awaits(grammar, scope),
-        longest,
-    })
+    chart.recognise(grammar, head, words)
 }

@@ -4,7 +4,7 @@ ghost use Rattle.tokens_why.specs.Tokens.{AreTokens};
 
 use crate::completions::completed_words;
 use crate::readings::gives_back;
-use crate::recogniser::{Grammar, recognise};
+use crate::recogniser::{Grammar, Verdict, recognise};
 use crate::rules::{Row, rules};
 use crate::sentences::{Random, changed, sentence};
 use parse_decls::{SyntaxFault, parse};
@@ -107,10 +107,15 @@ pub fn is_completed(
     Ok(verdict.longest == Some(all.len()))
 }
 
-/// Whether the reader says what the recogniser does.
-fn agrees(alloc: Global, grammar: &Grammar, words: &[&'static str]) -> Result<bool, AllocError> {
-    let verdict = recognise(alloc, grammar, "<file>", words)?;
-    let (answer, more) = read_words(alloc, words)?;
+/// Whether an answer, with words that complete those before a fault, is what the recogniser says.
+fn is_said(
+    alloc: Global,
+    grammar: &Grammar,
+    words: &[&'static str],
+    verdict: Verdict,
+    answer: Answer,
+    more: &[&'static str],
+) -> Result<bool, AllocError> {
     let is_whole = verdict.longest == Some(words.len());
     match answer {
         Answer::Read => Ok(is_whole),
@@ -119,9 +124,32 @@ fn agrees(alloc: Global, grammar: &Grammar, words: &[&'static str]) -> Result<bo
             let word = words.get(place).copied().unwrap_or("");
             let program = verdict.scope && is_program_word(word);
             let same = !is_whole && place == verdict.place && is_program == program;
-            let completed = is_completed(alloc, grammar, "<file>", words, place, &more)?;
+            let completed = is_completed(alloc, grammar, "<file>", words, place, more)?;
             Ok(same && completed)
         }
+    }
+}
+
+/// Whether the reader says what the recogniser does.
+fn agrees(alloc: Global, grammar: &Grammar, words: &[&'static str]) -> Result<bool, AllocError> {
+    let verdict = recognise(alloc, grammar, "<file>", words)?;
+    let (answer, more) = read_words(alloc, words)?;
+    is_said(alloc, grammar, words, verdict, answer, &more)
+}
+
+/// A string of the grammar, perhaps with one token changed.
+fn drawn(
+    alloc: Global,
+    rows: &[Row],
+    random: &mut Random,
+    is_changed: bool,
+    steps: usize,
+) -> Result<Vec<&'static str>, AllocError> {
+    let words = sentence(alloc, rows, "theory <upper> <decls> <file>", random, steps)?;
+    if is_changed {
+        changed(alloc, random, &words)
+    } else {
+        Ok(words)
     }
 }
 
@@ -134,18 +162,7 @@ fn first_other(
     is_changed: bool,
 ) -> Result<Vec<u8>, AllocError> {
     for number in 0..200 {
-        let drawn = sentence(
-            alloc,
-            rows,
-            "theory <upper> <decls> <file>",
-            random,
-            20 + number % 150,
-        )?;
-        let words = if is_changed {
-            changed(alloc, random, &drawn)?
-        } else {
-            drawn
-        };
+        let words = drawn(alloc, rows, random, is_changed, 20 + number % 150)?;
         if !agrees(alloc, grammar, &words)? {
             return text_of(alloc, &words);
         }

@@ -80,6 +80,44 @@ fn chosen(rules: &[Row], name: &str, random: &mut Random, is_late: bool) -> &'st
     rule(rules, name, choice)
 }
 
+/// A part in turn: a rule is replaced by the parts of one of its rules, a word stands behind the others.
+fn replace(
+    alloc: Global,
+    rules: &[Row],
+    part: &'static str,
+    random: &mut Random,
+    is_late: bool,
+    left: &mut Vec<&'static str>,
+    words: &mut Vec<&'static str>,
+) -> Result<(), AllocError> {
+    if is_rule(part) {
+        let next = chosen(rules, part, random, is_late);
+        push_parts(alloc, next, left)
+    } else {
+        words.push(part)?;
+        Ok(())
+    }
+}
+
+fn push_words(
+    alloc: Global,
+    rules: &[Row],
+    parts: &'static str,
+    random: &mut Random,
+    steps: usize,
+    words: &mut Vec<&'static str>,
+) -> Result<(), AllocError> {
+    let mut left: Vec<&'static str> = Vec::new(alloc);
+    push_parts(alloc, parts, &mut left)?;
+    for step in 0..20000 {
+        let Some(part) = left.pop() else {
+            return Ok(());
+        };
+        replace(alloc, rules, part, random, step > steps, &mut left, words)?;
+    }
+    Ok(())
+}
+
 /// A token string of a rule's parts, in which no rule but the first one of its name is taken after so many steps.
 pub fn sentence(
     alloc: Global,
@@ -89,19 +127,7 @@ pub fn sentence(
     steps: usize,
 ) -> Result<Vec<&'static str>, AllocError> {
     let mut words: Vec<&'static str> = Vec::new(alloc);
-    let mut left: Vec<&'static str> = Vec::new(alloc);
-    push_parts(alloc, parts, &mut left)?;
-    for step in 0..20000 {
-        let Some(part) = left.pop() else {
-            return Ok(words);
-        };
-        if is_rule(part) {
-            let next = chosen(rules, part, random, step > steps);
-            push_parts(alloc, next, &mut left)?;
-        } else {
-            words.push(part)?;
-        }
-    }
+    push_words(alloc, rules, parts, random, steps, &mut words)?;
     Ok(words)
 }
 

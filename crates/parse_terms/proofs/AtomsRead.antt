@@ -1,16 +1,7 @@
 -- What follows where atoms, arguments and trees in parentheses are read.
-use Rattle.std.proofs.Common.{◌≡◌, ℕ, ◌+◌, ◌≤◌, Bool, true, false, List, [], ◌∷◌, None, refl, ap, arith}
-use Rattle.tokens_why.specs.declared.terminal.Terminal.{Terminal}
+use Rattle.parse_terms.proofs.Common.{◌≡◌, ℕ, ◌+◌, ◌≤◌, Bool, true, false, List, [], ◌∷◌, None, refl, ap, arith, Terminal, same, Lexeme, at, called, Tree, Trees, apply, group, more, none, trees, Scoped, closing, paren, rows, find, Begun, CanRead, IsClosed, IsRead, begins_atom, is_name, names, terminal_at}
 use Rattle.tokens_why.specs.declared.terminal.Terminal.TheVariants as t
 use Rattle.grammar.specs.declared.symbols.Symbol.TheVariants as s
-use Rattle.grammar.specs.Alphabet.{same}
-use Rattle.syntax_why.specs.Lexeme.{Lexeme, at}
-use Rattle.syntax_why.specs.Forms.{called}
-use Rattle.syntax_why.specs.Trees.{Tree, Trees, apply, group, more, none}
-use Rattle.syntax_why.specs.Surface.{trees}
-use Rattle.reading.specs.Parts.{Scoped, closing, paren}
-use Rattle.reading.specs.Values.{find, rows}
-use Rattle.parse_terms.specs.Reading.{Begun, CanRead, IsClosed, IsRead, begins_atom, is_name, names, terminal_at}
 use Rattle.parse_terms.proofs.Steps.{SideBySide, again, done, expand, many, next, only, reread, start, unexpand}
 use Rattle.parse_terms.proofs.TermSteps.{sure}
 use Rattle.parse_terms.proofs.HeadsRead.{atom_inner, head_atom_start, head_start, no_name}

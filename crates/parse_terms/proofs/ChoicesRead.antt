@@ -1,13 +1,7 @@
 -- What follows where one of several tokens stands.
-use Rattle.std.proofs.Common.{◌≡◌, ℕ, ◌+◌, Bool, true, false, ◌||◌, if◌then◌else◌, List, [], ◌∷◌, ◌++◌, refl, sym, subst}
-use Rattle.tokens_why.specs.declared.terminal.Terminal.{Terminal}
+use Rattle.parse_terms.proofs.Common.{◌≡◌, ℕ, ◌+◌, Bool, true, false, ◌||◌, if◌then◌else◌, List, [], ◌∷◌, ◌++◌, refl, sym, subst, Terminal, same, Name, Lexeme, Tree, more, quantifier, triggered, Begun, terminal_at}
 use Rattle.tokens_why.specs.declared.terminal.Terminal.TheVariants as t
 use Rattle.grammar.specs.declared.symbols.Symbol.TheVariants as s
-use Rattle.grammar.specs.Alphabet.{same}
-use Rattle.syntax_why.specs.declared.names.Name.{Name}
-use Rattle.syntax_why.specs.Lexeme.{Lexeme}
-use Rattle.syntax_why.specs.Trees.{Tree, more, quantifier, triggered}
-use Rattle.parse_terms.specs.Reading.{Begun, terminal_at}
 use Rattle.parse_terms.proofs.Steps.{many}
 use Rattle.parse_terms.proofs.OpenRead.{Naming, Triggering, bar_start, comma_start}
 use Rattle.parse_terms.proofs.MatchRead.{Branching, Matched, bare_start, barred_start}

@@ -1,22 +1,8 @@
 -- What follows where operators are read.
-use Rattle.std.proofs.Common.{◌≡◌, ℕ, ◌+◌, ◌<◌, ◌⊎◌, inl, inr, Bool, true, false, not, ◌&&◌, nat_le, List, [], ◌∷◌, ◌++◌, length, Some, None, refl, sym, ap, ◌∙◌, subst, arith}
-use Rattle.tokens_why.specs.declared.terminal.Terminal.{Terminal}
+use Rattle.parse_terms.proofs.Common.{◌≡◌, ℕ, ◌+◌, ◌<◌, ◌⊎◌, inl, inr, Bool, true, false, not, ◌&&◌, nat_le, List, [], ◌∷◌, ◌++◌, length, Some, None, refl, sym, ap, ◌∙◌, subst, arith, Terminal, is_infix, is_prefix, prec, right, Symbol, operators, same, same_true, Lexeme, at, Tree, ends_open, negation, op, prefixed, Chain, attach, link, stop, joined, Vals, extend, expr_own, link_row, prim_rows, takes_op, rows, find, read, first_row, is_other, passes, stands, expr_not, expr_prefix, Begun, CanRead, Climb, IsClosed, IsExpr, rest, takes_infix, terminal_at, token_at}
 use Rattle.tokens_why.specs.declared.terminal.Terminal.TheVariants as t
-use Rattle.tokens_why.specs.Operators.{is_infix, is_prefix, prec, right}
-use Rattle.grammar.specs.declared.symbols.Symbol.{Symbol}
 use Rattle.grammar.specs.declared.symbols.Symbol.TheVariants as s
-use Rattle.grammar.specs.Alphabet.{operators, same}
-use Rattle.grammar.proofs.Laws.{same_true}
-use Rattle.syntax_why.specs.Lexeme.{Lexeme, at}
-use Rattle.syntax_why.specs.Trees.{Tree, ends_open, negation, op, prefixed}
-use Rattle.reading.specs.Parts.{Chain, attach, link, stop, joined}
-use Rattle.reading.specs.Row.{Vals, extend}
-use Rattle.reading.specs.TermRows.{expr_own, link_row, prim_rows, takes_op}
-use Rattle.reading.specs.Values.{find, read, rows}
-use Rattle.reading.proofs.Inverse.{first_row, is_other, passes, stands}
 use Rattle.reading.proofs.Operators.{tail_found, tail_none}
-use Rattle.reading.proofs.TermRowsRead.{expr_not, expr_prefix}
-use Rattle.parse_terms.specs.Reading.{Begun, CanRead, Climb, IsClosed, IsExpr, rest, takes_infix, terminal_at, token_at}
 use Rattle.parse_terms.proofs.Steps.{again, and_cases, begins, expand_by, extended_due, next, stands_due, start}
 use Rattle.parse_terms.proofs.TermSteps.{silent}
 use Rattle.grammar.proofs.Tails.{infix_among}

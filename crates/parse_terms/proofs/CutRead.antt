@@ -1,15 +1,8 @@
 -- The tokens of a text up to a place, as a source.
-use Rattle.std.proofs.Common.{◌≡◌, ℕ, ◌+◌, zero, suc, false, List, [], ◌∷◌, length, map, take, drop, slice_get, Option, Some, None, refl, sym, ap, ◌∙◌, subst, arith}
+use Rattle.parse_terms.proofs.Common.{◌≡◌, ℕ, ◌+◌, zero, suc, false, List, [], ◌∷◌, length, map, take, drop, slice_get, Option, Some, None, refl, sym, ap, ◌∙◌, subst, arith, length-map, length-take, Token, AreTokens, Reads, whole, Lexeme, lexeme, Tree, read, rest}
 use Rattle.std.specs.List.{take-map}
-use Rattle.std.proofs.lemmas.List.{length-map, length-take}
-use Rattle.tokens_why.specs.declared.token.Token.{Token}
-use Rattle.tokens_why.specs.Tokens.{AreTokens, Reads, whole}
 use Rattle.grammar.specs.declared.symbols.Symbol.TheVariants as s
-use Rattle.syntax_why.specs.Lexeme.{Lexeme, lexeme}
-use Rattle.syntax_why.specs.Trees.{Tree}
-use Rattle.reading.specs.Values.{read}
 use Rattle.recognise_why.specs.Expressions.{EndsAt, IsLongestAt}
-use Rattle.parse_terms.specs.Reading.{rest}
 use Rattle.parse_terms.specs.Whole.{IsExpression}
 use Rattle.parse_terms.specs.Texts.{HasText, HasTexts}
 

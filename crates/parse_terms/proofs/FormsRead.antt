@@ -1,16 +1,7 @@
 -- What follows where types and patterns are read.
-use Rattle.std.proofs.Common.{◌≡◌, ℕ, ◌+◌, Bool, true, false, List, [], ◌∷◌, None, refl, ap, arith}
-use Rattle.tokens_why.specs.declared.terminal.Terminal.{Terminal}
+use Rattle.parse_terms.proofs.Common.{◌≡◌, ℕ, ◌+◌, Bool, true, false, List, [], ◌∷◌, None, refl, ap, arith, Terminal, same, Lexeme, at, name, Form, called, composed, enclosed, lower, more_forms, no_forms, forms, named_at, upper_called, row, rows, find, Begun, CanRead, begins_atype, begins_patom, terminal_at, token_at}
 use Rattle.tokens_why.specs.declared.terminal.Terminal.TheVariants as t
 use Rattle.grammar.specs.declared.symbols.Symbol.TheVariants as s
-use Rattle.grammar.specs.Alphabet.{same}
-use Rattle.syntax_why.specs.Lexeme.{Lexeme, at, name}
-use Rattle.syntax_why.specs.Forms.{Form, called, composed, enclosed, lower, more_forms, no_forms}
-use Rattle.syntax_why.specs.Surface.{forms}
-use Rattle.reading.specs.Parts.{named_at, upper_called}
-use Rattle.reading.specs.Row.{row}
-use Rattle.reading.specs.Values.{find, rows}
-use Rattle.parse_terms.specs.Reading.{Begun, CanRead, begins_atype, begins_patom, terminal_at, token_at}
 use Rattle.parse_terms.proofs.Steps.{SideBySide, again, expand, extended_due, many, missed, only, start, unexpand}
 
 pub forms_many : (fs : List Form) → many more_forms fs no_forms ≡ forms fs

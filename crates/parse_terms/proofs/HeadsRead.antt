@@ -1,22 +1,7 @@
 -- What follows where applications and atoms are read.
-use Rattle.std.proofs.Common.{◌≡◌, ℕ, ◌+◌, ◌<◌, Bool, true, false, ◌&&◌, List, [], ◌∷◌, length, Some, None, refl, ap, ◌∙◌}
-use Rattle.tokens_why.specs.declared.terminal.Terminal.{Terminal}
+use Rattle.parse_terms.proofs.Common.{◌≡◌, ℕ, ◌+◌, ◌<◌, Bool, true, false, ◌&&◌, List, [], ◌∷◌, length, Some, None, refl, ap, ◌∙◌, Terminal, is_operator, Symbol, same, no_false, Lexeme, at, lower, star, called, op, Tree, Trees, apply, cases, literal, truth, falsity, none, more, Scoped, Closing, Paren, nothing, named, holds, Minus, named_by, operand, scope_own, own_op, name_of, paren, behind_minus, Vals, row, prim_rows, atom_rows, opname_row, prefix_row, hparen_own, hminus_own, aparen_own, aminus_own, hop_row, hminus_row, aop_row, aminus_row, rows, find, read, opname_found, reads_aparen, by_first, is_other, row_at, split_due, stands, stands_within, unread, Begun, CanRead, ends_name, is_name, names, rest, terminal_at, token_at}
 use Rattle.tokens_why.specs.declared.terminal.Terminal.TheVariants as t
-use Rattle.tokens_why.specs.Operators.{is_operator}
-use Rattle.grammar.specs.declared.symbols.Symbol.{Symbol}
 use Rattle.grammar.specs.declared.symbols.Symbol.TheVariants as s
-use Rattle.grammar.specs.Alphabet.{same}
-use Rattle.grammar.proofs.Laws.{no_false}
-use Rattle.syntax_why.specs.Lexeme.{Lexeme, at}
-use Rattle.syntax_why.specs.Forms.{lower, star, called}
-use Rattle.syntax_why.specs.Trees.{op, Tree, Trees, apply, cases, literal, truth, falsity, none, more}
-use Rattle.reading.specs.Parts.{Scoped, Closing, Paren, nothing, named, holds, Minus, named_by, operand, scope_own, own_op, name_of, paren, behind_minus}
-use Rattle.reading.specs.Row.{Vals, row}
-use Rattle.reading.specs.TermRows.{prim_rows, atom_rows, qhead_rows, opname_row, prefix_row, hparen_own, hminus_own, aparen_own, aminus_own, hop_row, hminus_row, aop_row, aminus_row}
-use Rattle.reading.specs.Values.{find, read, rows}
-use Rattle.reading.proofs.TermRowsRead.{opname_found, reads_aparen}
-use Rattle.reading.proofs.Inverse.{by_first, is_other, row_at, split_due, stands, stands_within, unread}
-use Rattle.parse_terms.specs.Reading.{Begun, CanRead, ends_name, is_name, names, rest, terminal_at, token_at}
 use Rattle.parse_terms.proofs.Steps.{reread, start}
 
 rparen_true : (x : Terminal) → same t.RParen x ≡ true → x ≡ t.RParen
@@ -83,7 +68,7 @@ prim_name xs j k us o g = by_terminal (terminal_at xs j) refl o
 
 operator_paren : (xs : List Lexeme) (i : ℕ) (k : List Symbol) (b : Bool × Vals k) → terminal_at xs i ≡ t.LParen → (is_operator (terminal_at xs (i + 1)) && ends_name (terminal_at xs (i + 1 + 1))) ≡ true → read (rest xs (i + 1 + 1)) (i + 1 + 1) false (s.Opend ∷ k) ≡ Some b → read (rest xs i) i false (s.Qhead ∷ k) ≡ Some (record { scopes = []; own = own_op b.0 (op (i + 1) (terminal_at xs (i + 1)) (token_at xs (i + 1)).text) }, b.1)
 operator_paren xs i k b e o g = let y = by_and (is_operator (terminal_at xs (i + 1))) o in
-    by_first xs i s.Qhead (row s.Qhead t.LParen (s.Opname ∷ []) (λ i w vs. record { scopes = []; own = own_op vs.0.prefix vs.0.op })) k (record { op = op (i + 1) (terminal_at xs (i + 1)) (token_at xs (i + 1)).text; prefix = b.0 }, b.1) (stands xs i t.LParen e refl) (ap (find qhead_rows) e)
+    by_first xs i s.Qhead (row s.Qhead t.LParen (s.Opname ∷ []) (λ i w vs. record { scopes = []; own = own_op vs.0.prefix vs.0.op })) k (record { op = op (i + 1) (terminal_at xs (i + 1)) (token_at xs (i + 1)).text; prefix = b.0 }, b.1) (stands xs i t.LParen e refl) (ap (find (rows s.Qhead)) e)
     (by_first xs (i + 1) s.Opname (opname_row (terminal_at xs (i + 1))) k b (within (terminal_at xs (i + 1)) refl y) (opname_found (terminal_at xs (i + 1)) y) g)
   where
     by_and : (a : Bool) → (a && ends_name (terminal_at xs (i + 1 + 1))) ≡ true → a ≡ true
@@ -103,11 +88,11 @@ prim_headed xs i k vs n g = by_terminal (terminal_at xs i) refl n
   where
     by_terminal : (x : Terminal) → terminal_at xs i ≡ x → is_name x (terminal_at xs (i + 1)) (terminal_at xs (i + 1 + 1)) ≡ true → (b : Scoped × (Trees × Vals k)) × (read (rest xs i) i false (s.Qhead ∷ s.Args ∷ k) ≡ Some b) × ((apply (at i) (called i b.0.scopes b.0.own) b.1.0, b.1.1) ≡ vs)
     by_terminal t.Lident e n = let p = row_at xs i s.Prim (row s.Prim t.Lident (s.Args ∷ []) (λ i w vs. apply (at i) (called i [] (lower w)) vs.0)) k vs refl (ap (find prim_rows) e) g in
-        ((record { scopes = []; own = lower (token_at xs i).text }, p.0), by_first xs i s.Qhead (row s.Qhead t.Lident [] (λ i w vs. record { scopes = []; own = lower w })) (s.Args ∷ k) p.0 (stands xs i t.Lident e refl) (ap (find qhead_rows) e) p.1, p.2)
+        ((record { scopes = []; own = lower (token_at xs i).text }, p.0), by_first xs i s.Qhead (row s.Qhead t.Lident [] (λ i w vs. record { scopes = []; own = lower w })) (s.Args ∷ k) p.0 (stands xs i t.Lident e refl) (ap (find (rows s.Qhead)) e) p.1, p.2)
     by_terminal t.Uident e n = let p = row_at xs i s.Prim (row s.Prim t.Uident (s.Scoped ∷ s.Args ∷ []) (λ i w vs. apply (at i) (name_of i (scope_own w vs.0)) vs.1.0)) k vs refl (ap (find prim_rows) e) g in
-        ((scope_own (token_at xs i).text p.0.0, p.0.1), by_first xs i s.Qhead (row s.Qhead t.Uident (s.Scoped ∷ []) (λ i w vs. scope_own w vs.0)) (s.Args ∷ k) p.0 (stands xs i t.Uident e refl) (ap (find qhead_rows) e) p.1, p.2)
+        ((scope_own (token_at xs i).text p.0.0, p.0.1), by_first xs i s.Qhead (row s.Qhead t.Uident (s.Scoped ∷ []) (λ i w vs. scope_own w vs.0)) (s.Args ∷ k) p.0 (stands xs i t.Uident e refl) (ap (find (rows s.Qhead)) e) p.1, p.2)
     by_terminal t.StarName e n = let p = row_at xs i s.Prim (row s.Prim t.StarName (s.Args ∷ []) (λ i w vs. apply (at i) (called i [] star) vs.0)) k vs refl (ap (find prim_rows) e) g in
-        ((record { scopes = []; own = star }, p.0), by_first xs i s.Qhead (row s.Qhead t.StarName [] (λ i w vs. record { scopes = []; own = star })) (s.Args ∷ k) p.0 (stands xs i t.StarName e refl) (ap (find qhead_rows) e) p.1, p.2)
+        ((record { scopes = []; own = star }, p.0), by_first xs i s.Qhead (row s.Qhead t.StarName [] (λ i w vs. record { scopes = []; own = star })) (s.Args ∷ k) p.0 (stands xs i t.StarName e refl) (ap (find (rows s.Qhead)) e) p.1, p.2)
     by_terminal t.LParen e n = let p = row_at xs i s.Prim (row s.Prim t.LParen (s.Hparen ∷ []) (λ i w vs. paren i vs.0)) k vs refl (ap (find prim_rows) e) g in let q = prim_name xs (i + 1) k p.0 n p.1 in
         ((record { scopes = []; own = own_op q.0.0 (op (i + 1) (terminal_at xs (i + 1)) (token_at xs (i + 1)).text) }, q.0.1), operator_paren xs i (s.Args ∷ k) q.0 e n q.1, ap (λ m. (paren i m.0, m.1)) q.2 ∙ p.2)
     by_terminal _ e n = absurd (no_false n)
@@ -168,11 +153,11 @@ atom_headed xs i k vs n g = by_terminal (terminal_at xs i) refl n
   where
     by_terminal : (x : Terminal) → terminal_at xs i ≡ x → is_name x (terminal_at xs (i + 1)) (terminal_at xs (i + 1 + 1)) ≡ true → (b : Scoped × (Vals k)) × (read (rest xs i) i false (s.Qhead ∷ k) ≡ Some b) × ((apply (at i) (called i b.0.scopes b.0.own) none, b.1) ≡ vs)
     by_terminal t.Lident e n = let p = row_at xs i s.Atom (row s.Atom t.Lident [] (λ i w vs. apply (at i) (called i [] (lower w)) none)) k vs refl (ap (find atom_rows) e) g in
-        ((record { scopes = []; own = lower (token_at xs i).text }, p.0), by_first xs i s.Qhead (row s.Qhead t.Lident [] (λ i w vs. record { scopes = []; own = lower w })) (k) p.0 (stands xs i t.Lident e refl) (ap (find qhead_rows) e) p.1, p.2)
+        ((record { scopes = []; own = lower (token_at xs i).text }, p.0), by_first xs i s.Qhead (row s.Qhead t.Lident [] (λ i w vs. record { scopes = []; own = lower w })) (k) p.0 (stands xs i t.Lident e refl) (ap (find (rows s.Qhead)) e) p.1, p.2)
     by_terminal t.Uident e n = let p = row_at xs i s.Atom (row s.Atom t.Uident (s.Scoped ∷ []) (λ i w vs. apply (at i) (name_of i (scope_own w vs.0)) none)) k vs refl (ap (find atom_rows) e) g in
-        ((scope_own (token_at xs i).text p.0.0, p.0.1), by_first xs i s.Qhead (row s.Qhead t.Uident (s.Scoped ∷ []) (λ i w vs. scope_own w vs.0)) (k) p.0 (stands xs i t.Uident e refl) (ap (find qhead_rows) e) p.1, p.2)
+        ((scope_own (token_at xs i).text p.0.0, p.0.1), by_first xs i s.Qhead (row s.Qhead t.Uident (s.Scoped ∷ []) (λ i w vs. scope_own w vs.0)) (k) p.0 (stands xs i t.Uident e refl) (ap (find (rows s.Qhead)) e) p.1, p.2)
     by_terminal t.StarName e n = let p = row_at xs i s.Atom (row s.Atom t.StarName [] (λ i w vs. apply (at i) (called i [] star) none)) k vs refl (ap (find atom_rows) e) g in
-        ((record { scopes = []; own = star }, p.0), by_first xs i s.Qhead (row s.Qhead t.StarName [] (λ i w vs. record { scopes = []; own = star })) (k) p.0 (stands xs i t.StarName e refl) (ap (find qhead_rows) e) p.1, p.2)
+        ((record { scopes = []; own = star }, p.0), by_first xs i s.Qhead (row s.Qhead t.StarName [] (λ i w vs. record { scopes = []; own = star })) (k) p.0 (stands xs i t.StarName e refl) (ap (find (rows s.Qhead)) e) p.1, p.2)
     by_terminal t.LParen e n = let p = row_at xs i s.Atom (row s.Atom t.LParen (s.Aparen ∷ []) (λ i w vs. paren i vs.0)) k vs refl (ap (find atom_rows) e) g in let q = atom_name xs (i + 1) k p.0 n p.1 in
         ((record { scopes = []; own = own_op q.0.0 (op (i + 1) (terminal_at xs (i + 1)) (token_at xs (i + 1)).text) }, q.0.1), operator_paren xs i k q.0 e n q.1, ap (λ m. (paren i m.0, m.1)) q.2 ∙ p.2)
     by_terminal _ e n = absurd (no_false n)

@@ -1,3 +1,4 @@
+pub mod Common
 pub mod Steps
 pub mod NamesRead
 pub mod FormsRead
@@ -11,3 +12,4 @@ pub mod MatchRead
 pub mod ChoicesRead
 pub mod PartsRead
 pub mod CutRead
+pub mod Cited

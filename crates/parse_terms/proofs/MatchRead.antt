@@ -1,17 +1,7 @@
 -- What follows where a match is read.
-use Rattle.std.proofs.Common.{◌≡◌, ℕ, ◌+◌, ◌≤◌, Bool, true, false, List, [], ◌∷◌, ◌++◌, refl, ap, ◌∙◌, arith, append-nil, sym, append_assoc}
+use Rattle.parse_terms.proofs.Common.{◌≡◌, ℕ, ◌+◌, ◌≤◌, Bool, true, false, List, [], ◌∷◌, ◌++◌, refl, ap, ◌∙◌, arith, append-nil, sym, append_assoc, same, Lexeme, at, Form, Forms, more_forms, no_forms, Branches, Tree, branch, cases, more, no_branch, Arm, branches, forms, trees, ArmPart, branch_of, row, branch_own, Begun, CanRead, IsRead, terminal_at, IsAlternative, IsBranch}
 use Rattle.tokens_why.specs.declared.terminal.Terminal.TheVariants as t
 use Rattle.grammar.specs.declared.symbols.Symbol.TheVariants as s
-use Rattle.grammar.specs.Alphabet.{same}
-use Rattle.syntax_why.specs.Lexeme.{Lexeme, at}
-use Rattle.syntax_why.specs.Forms.{Form, Forms, more_forms, no_forms}
-use Rattle.syntax_why.specs.Trees.{Branches, Tree, branch, cases, more, no_branch}
-use Rattle.syntax_why.specs.Surface.{Arm, branches, forms, trees}
-use Rattle.reading.specs.Parts.{ArmPart, branch_of}
-use Rattle.reading.specs.Row.{row}
-use Rattle.reading.specs.TermRows.{branch_own}
-use Rattle.parse_terms.specs.Reading.{Begun, CanRead, IsRead, terminal_at}
-use Rattle.parse_terms.specs.Terms.{IsAlternative, IsBranch}
 use Rattle.parse_terms.proofs.Steps.{again, expand, extended_due, follow, many, many_more, missed, next, only, start, unexpand}
 use Rattle.parse_terms.proofs.TermSteps.{sure, trees_many}
 use Rattle.parse_terms.proofs.FormsRead.{forms_many}

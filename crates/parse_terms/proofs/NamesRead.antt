@@ -1,18 +1,7 @@
 -- What follows where names are read.
-use Rattle.std.proofs.Common.{◌≡◌, ℕ, ◌+◌, ◌<◌, Bool, true, false, ◌&&◌, List, [], ◌∷◌, ◌++◌, length, Option, Some, None, refl, sym, ap, ◌∙◌, append_assoc, append-nil}
-use Rattle.tokens_why.specs.declared.terminal.Terminal.{Terminal}
+use Rattle.parse_terms.proofs.Common.{◌≡◌, ℕ, ◌+◌, ◌<◌, Bool, true, false, ◌&&◌, List, [], ◌∷◌, ◌++◌, length, Option, Some, None, refl, sym, ap, ◌∙◌, append_assoc, append-nil, Terminal, is_operator, same, Lexeme, Word, Own, lower, op, Dotted, Scoped, own_op, scope_on, opname_rows, find, opname_found, Begun, CanRead, IsRead, beyond, terminal_at, token_at}
 use Rattle.tokens_why.specs.declared.terminal.Terminal.TheVariants as t
-use Rattle.tokens_why.specs.Operators.{is_operator}
 use Rattle.grammar.specs.declared.symbols.Symbol.TheVariants as s
-use Rattle.grammar.specs.Alphabet.{same}
-use Rattle.syntax_why.specs.Lexeme.{Lexeme, Word}
-use Rattle.syntax_why.specs.Forms.{Own, lower}
-use Rattle.syntax_why.specs.Trees.{op}
-use Rattle.reading.specs.Parts.{Dotted, Scoped, own_op, scope_on}
-use Rattle.reading.specs.TermRows.{opname_rows}
-use Rattle.reading.specs.Values.{find}
-use Rattle.reading.proofs.TermRowsRead.{opname_found}
-use Rattle.parse_terms.specs.Reading.{Begun, CanRead, IsRead, beyond, terminal_at, token_at}
 use Rattle.parse_terms.proofs.Steps.{again, and_cases, begins, done, expand, expand_by, next, next_within, none_of, only, pass, stands_due, start, take}
 
 -- names of terms: scopes, then a name or an operator

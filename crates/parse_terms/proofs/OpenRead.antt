@@ -1,20 +1,8 @@
 -- What follows where open forms are read: conditionals, bindings and quantifiers.
-use Rattle.std.proofs.Common.{◌≡◌, ℕ, ◌+◌, Bool, true, false, nat_le, List, [], ◌∷◌, ◌++◌, Some, None, refl, sym, ap, ◌∙◌, append_assoc, append-nil}
+use Rattle.parse_terms.proofs.Common.{◌≡◌, ℕ, ◌+◌, Bool, true, false, nat_le, List, [], ◌∷◌, ◌++◌, Some, None, refl, sym, ap, ◌∙◌, append_assoc, append-nil, same, Name, Lexeme, at, name, Form, more_forms, Binder, Tree, Trees, Trigger, binding, binds, choice, more, quantified, quantifier, triggered, forms, trees, BinderPart, BoundPart, row, binder_own, find, expr_if, expr_let, expr_quantifier, Begun, CanRead, Climb, IsExpr, IsRead, terminal_at, token_at, IsBinder, IsTrigger}
 use Rattle.tokens_why.specs.declared.terminal.Terminal.TheVariants as t
 use Rattle.grammar.specs.declared.symbols.Symbol.TheVariants as s
-use Rattle.grammar.specs.Alphabet.{same}
-use Rattle.syntax_why.specs.declared.names.Name.{Name}
-use Rattle.syntax_why.specs.Lexeme.{Lexeme, at, name}
-use Rattle.syntax_why.specs.Forms.{Form, more_forms}
-use Rattle.syntax_why.specs.Trees.{Binder, Tree, Trees, Trigger, binding, binds, choice, more, quantified, quantifier, triggered}
-use Rattle.syntax_why.specs.Surface.{forms, trees}
-use Rattle.reading.specs.Parts.{BinderPart, BoundPart, binder_of}
-use Rattle.reading.specs.Row.{row}
-use Rattle.reading.specs.TermRows.{binder_own}
-use Rattle.reading.specs.Values.{find}
-use Rattle.reading.proofs.TermRowsRead.{expr_if, expr_let, expr_quantifier}
-use Rattle.parse_terms.specs.Reading.{Begun, CanRead, Climb, IsExpr, IsRead, terminal_at, token_at}
-use Rattle.parse_terms.specs.Terms.{IsBinder, IsTrigger}
+use Rattle.reading.specs.Parts.{binder_of}
 use Rattle.parse_terms.proofs.Steps.{again, expand, extended_due, follow, many, many_more, missed, next, next_expr, only, start, take}
 use Rattle.parse_terms.proofs.TermSteps.{sealed_expr, trees_many}
 use Rattle.parse_terms.proofs.FormsRead.{forms_many}

@@ -1,7 +1,5 @@
 -- Patterns of an alternative that were read.
-use Rattle.std.proofs.Common.{◌≡◌, ℕ, List, ◌∷◌}
-use Rattle.syntax_why.specs.Lexeme.{Lexeme}
-use Rattle.syntax_why.specs.Forms.{Form}
+use Rattle.parse_terms.proofs.Common.{◌≡◌, ℕ, List, ◌∷◌, Lexeme, Form}
 use Rattle.parse_terms.proofs.MatchRead.{Patterned}
 
 pub record Patterning (xs : List Lexeme) (i : ℕ) (fs : List Form) (j : ℕ) : Type 0 where

@@ -1,21 +1,9 @@
 -- How reading goes on from token to token, for any rule.
-use Rattle.std.proofs.Common.{◌≡◌, ℕ, ◌+◌, ◌<◌, ◌≤◌, ◌⊎◌, inl, inr, Bool, true, false, ◌&&◌, ◌||◌, cond, nat_le, List, [], ◌∷◌, ◌++◌, length, Option, Some, None, option_map, refl, sym, ap, ◌∙◌, subst, arith}
-use Rattle.std.proofs.lemmas.List.{get_or_past}
-use Rattle.tokens_why.specs.declared.terminal.Terminal.{Terminal}
+use Rattle.parse_terms.proofs.Common.{◌≡◌, ℕ, ◌+◌, ◌<◌, ◌≤◌, ◌⊎◌, inl, inr, Bool, true, false, ◌&&◌, ◌||◌, cond, nat_le, List, [], ◌∷◌, ◌++◌, length, Option, Some, None, option_map, refl, sym, ap, ◌∙◌, subst, arith, get_or_past, Terminal, Symbol, same, same_true, Name, Lexeme, name, Tree, ends_open, Row, Val, Vals, back, extend, front, row, then_row, rows, blank, by_row, find, read, below_or, by_first, first_row, from_cons, passes, plain, split, stands_within, unread, Begun, CanRead, CanRun, IsExpr, IsRead, least, nowhere, rest, terminal_at, token_at}
 use Rattle.tokens_why.specs.declared.terminal.Terminal.TheVariants as t
-use Rattle.grammar.specs.declared.symbols.Symbol.{Symbol}
 use Rattle.grammar.specs.declared.symbols.Symbol.TheVariants as s
-use Rattle.grammar.specs.Alphabet.{same}
 use Rattle.grammar.specs.Machine.{is_seal, is_tail}
-use Rattle.grammar.proofs.Laws.{same_true}
-use Rattle.syntax_why.specs.declared.names.Name.{Name}
-use Rattle.syntax_why.specs.Lexeme.{Lexeme, name}
-use Rattle.syntax_why.specs.Trees.{Tree, ends_open}
-use Rattle.reading.specs.Row.{Row, Val, Vals, back, extend, front, row, then_row}
-use Rattle.reading.specs.Values.{blank, by_row, find, read, rows}
 use Rattle.reading.proofs.Reading.{find_extend, unmapped}
-use Rattle.reading.proofs.Inverse.{below_or, by_first, first_row, from_cons, passes, plain, split, stands_within, unread}
-use Rattle.parse_terms.specs.Reading.{Begun, CanRead, CanRun, IsExpr, IsRead, least, nowhere, rest, terminal_at, token_at}
 use Rattle.reading.proofs.OperatorsBuilt.{le_of}
 
 -- where a test holds that no text outside the grammar passes there is a token

@@ -1,15 +1,6 @@
 -- How reading goes on behind expressions that end open or not.
-use Rattle.std.proofs.Common.{◌≡◌, ℕ, ◌+◌, ◌≤◌, true, false, List, [], ◌∷◌, Some, refl, sym, ap, ◌∙◌, subst, arith}
-use Rattle.grammar.specs.declared.symbols.Symbol.{Symbol}
+use Rattle.parse_terms.proofs.Common.{◌≡◌, ℕ, ◌+◌, ◌≤◌, true, false, List, [], ◌∷◌, Some, refl, sym, ap, ◌∙◌, subst, arith, Symbol, Lexeme, Tree, ends_open, more, none, trees, Chain, attach, first_of, stop, Val, Vals, at_end, over, read, blanked, plain, Begun, Climb, IsExpr, rest}
 use Rattle.grammar.specs.declared.symbols.Symbol.TheVariants as s
-use Rattle.syntax_why.specs.Lexeme.{Lexeme}
-use Rattle.syntax_why.specs.Trees.{Tree, ends_open, more, none}
-use Rattle.syntax_why.specs.Surface.{trees}
-use Rattle.reading.specs.Parts.{Chain, attach, first_of, stop}
-use Rattle.reading.specs.Row.{Val, Vals}
-use Rattle.reading.specs.Values.{at_end, over, read}
-use Rattle.reading.proofs.Inverse.{blanked, plain}
-use Rattle.parse_terms.specs.Reading.{Begun, Climb, IsExpr, rest}
 use Rattle.parse_terms.proofs.Steps.{many}
 
 pub trees_many : (es : List Tree) → many more es none ≡ trees es

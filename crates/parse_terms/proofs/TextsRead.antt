@@ -1,30 +1,14 @@
 -- The texts of tokens, and the names that they make.
-use Rattle.std.proofs.Common.{◌≡◌, ℕ, ◌<◌, ◌≤◌, Bool, true, false, not, ◌&&◌, cond, nat_eq, zero, suc, get_or, List, [], ◌∷◌, ◌++◌, ◌+◌, length, None, Some, slice_get, refl, sym, ap, ◌∙◌}
-use Rattle.std.proofs.lemmas.List.{get_or-map, length-map}
+use Rattle.parse_terms.proofs.Common.{◌≡◌, ℕ, ◌<◌, ◌≤◌, Bool, true, false, not, ◌&&◌, cond, nat_eq, zero, suc, get_or, List, [], ◌∷◌, ◌++◌, ◌+◌, length, None, Some, slice_get, refl, sym, ap, ◌∙◌, get_or-map, length-map, Terminal, Token, greatest, literal_value, text_of, same, same_true, Name, Lexeme, Word, lexeme, name, said, called, infix_op, lower, prefix_op, upper, op, op_by, own_of, plain_own, Source, CanRead, beyond, nowhere, terminal_at, token_at, IsUpperName, IsTextAt, lexemes}
 use Rattle.std.proofs.lemmas.Option.{get_or_from_slice_get}
-use Rattle.tokens_why.specs.declared.terminal.Terminal.{Terminal}
 use Rattle.tokens_why.specs.declared.terminal.Terminal.TheVariants as t
-use Rattle.tokens_why.specs.declared.token.Token.{Token}
 use Rattle.tokens_why.specs.declared.token.TokenKind.{TokenKind}
 use Rattle.tokens_why.specs.declared.token.TokenKind.TheVariants as tk
-use Rattle.tokens_why.specs.Literal.{greatest, literal_value}
 use Rattle.tokens_why.specs.Terminals.{string_terminal, terminal_if, terminal_of, level_terminal}
 use Rattle.tokens_why.specs.Reserved.{reserved_terminals}
-use Rattle.tokens_why.specs.Tokens.{text_of}
-use Rattle.grammar.specs.Alphabet.{same}
-use Rattle.grammar.proofs.Laws.{same_true}
 use Rattle.syntax_why.specs.declared.names.Style.TheVariants as style
-use Rattle.syntax_why.specs.declared.names.Name.{Name}
-use Rattle.syntax_why.specs.Lexeme.{Lexeme, Word, lexeme, name, said}
 use Rattle.grammar.specs.declared.symbols.Symbol.TheVariants as s
-use Rattle.syntax_why.specs.Forms.{called, infix_op, lower, prefix_op, upper}
-use Rattle.syntax_why.specs.Trees.{op}
-use Rattle.syntax_why.specs.Surface.{op_by, own_of, plain_own}
-use Rattle.parse_terms.specs.declared.source.Source.{Source}
-use Rattle.parse_terms.specs.Reading.{CanRead, beyond, nowhere, terminal_at, token_at}
-use Rattle.parse_terms.specs.Names.{IsUpperName}
 use Rattle.parse_terms.proofs.NamesRead.{UpperScopes, upper_scopes_done, upper_scopes_more, upper_scopes_start, upper_scopes_within, upper_there, upper_words}
-use Rattle.parse_terms.specs.Sources.{IsTextAt, lexemes}
 
 -- the lexeme of a token
 pub lexeme_at : (z : Source) (i : ℕ) (k : Token) → i < length z.tokens.now → slice_get z.tokens.now i ≡ Some k → token_at (lexemes z) i ≡ lexeme z.text.now k

@@ -1,10 +1,7 @@
 -- What is read as the names that are bound together.
-use Rattle.std.specs.Prelude.{ℕ, ◌≡◌, false, List, ◌∷◌, ◌++◌}
+use Rattle.parse_terms.specs.Common.{ℕ, ◌≡◌, false, List, ◌∷◌, ◌++◌, same, Name, Lexeme}
 use Rattle.tokens_why.specs.declared.terminal.Terminal.TheVariants as t
 use Rattle.grammar.specs.declared.symbols.Symbol.TheVariants as s
-use Rattle.grammar.specs.Alphabet.{same}
-use Rattle.syntax_why.specs.declared.names.Name.{Name}
-use Rattle.syntax_why.specs.Lexeme.{Lexeme}
 use Rattle.parse_terms.specs.Reading.{Begun, terminal_at}
 
 -- What is read as a name and the rest of a binder has these names first, and then no more.

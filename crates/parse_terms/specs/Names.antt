@@ -1,11 +1,7 @@
 -- What is read as a name.
-use Rattle.std.specs.Prelude.{ℕ, ◌+◌, ◌≡◌, List, Option}
+use Rattle.parse_terms.specs.Common.{ℕ, ◌+◌, ◌≡◌, List, Option, Lexeme, Called, Own, own_of, Dotted, OpName, Scoped, own_op, upper_called}
 use Rattle.grammar.specs.declared.symbols.Symbol.TheVariants as s
 use Rattle.syntax_why.specs.declared.names.QName.{QName}
-use Rattle.syntax_why.specs.Lexeme.{Lexeme}
-use Rattle.syntax_why.specs.Forms.{Called, Own}
-use Rattle.syntax_why.specs.Surface.{own_of}
-use Rattle.reading.specs.Parts.{Dotted, OpName, Scoped, own_op, upper_called}
 use Rattle.parse_terms.specs.Reading.{IsRead, token_at}
 
 abbrev pub scoped_of : QName → Scoped

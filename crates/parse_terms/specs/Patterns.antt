@@ -1,9 +1,6 @@
 -- What is read as a pattern, up to the name that may follow it.
-use Rattle.std.specs.Prelude.{ℕ, List, ◌∷◌}
+use Rattle.parse_terms.specs.Common.{ℕ, List, ◌∷◌, Lexeme, Form, named_at}
 use Rattle.grammar.specs.declared.symbols.Symbol.TheVariants as s
-use Rattle.syntax_why.specs.Lexeme.{Lexeme}
-use Rattle.syntax_why.specs.Forms.{Form}
-use Rattle.reading.specs.Parts.{named_at}
 use Rattle.parse_terms.specs.Reading.{Begun}
 
 abbrev pub IsBare : List Lexeme → ℕ → Form → ℕ → Type 0

@@ -1,16 +1,11 @@
 -- What is read where in a list of tokens.
-use Rattle.std.specs.Prelude.{ℕ, ◌+◌, ◌≡◌, ◌≤◌, ◌<◌, Bool, true, false, ◌&&◌, List, [], ◌∷◌, length, Option, Some, None}
+use Rattle.parse_terms.specs.Common.{ℕ, ◌+◌, ◌≡◌, ◌≤◌, ◌<◌, Bool, true, false, ◌&&◌, List, [], ◌∷◌, length, Option, Some, None, Lexeme, Word, is_infix, is_operator, Tree, ends_open, Chain, Dotted, attach, first_of, scope_on, blank, read}
 use Rattle.tokens_why.specs.declared.terminal.Terminal.{Terminal}
 use Rattle.tokens_why.specs.declared.terminal.Terminal.TheVariants as t
 use Rattle.grammar.specs.declared.symbols.Symbol.{Symbol}
 use Rattle.grammar.specs.declared.symbols.Symbol.TheVariants as s
-use Rattle.syntax_why.specs.Lexeme.{Lexeme, Word}
-use Rattle.tokens_why.specs.Operators.{is_infix, is_operator}
-use Rattle.syntax_why.specs.Trees.{Tree, ends_open}
-use Rattle.reading.specs.Parts.{Chain, Dotted, attach, first_of, scope_on}
 use Rattle.reading.specs.Row.{Val, Vals}
-use Rattle.reading.specs.TermRows.{takes_op}
-use Rattle.reading.specs.Values.{blank, read}
+use Rattle.reading.specs.Rows.{takes_op}
 pub use Rattle.reading.specs.Reads.{from, nowhere, terminal_at, token_at}
 
 abbrev pub rest : List Lexeme → ℕ → List Lexeme

@@ -1,13 +1,7 @@
 -- What is read as a branch of a match, as a binder and as a trigger.
-use Rattle.std.specs.Prelude.{ℕ, ◌≡◌, false, List, [], ◌∷◌, Option}
+use Rattle.parse_terms.specs.Common.{ℕ, ◌≡◌, false, List, [], ◌∷◌, Option, same, Name, Lexeme, Form, Forms, more_forms, Binder, Trigger, binds, Arm, forms}
 use Rattle.tokens_why.specs.declared.terminal.Terminal.TheVariants as t
 use Rattle.grammar.specs.declared.symbols.Symbol.TheVariants as s
-use Rattle.grammar.specs.Alphabet.{same}
-use Rattle.syntax_why.specs.declared.names.Name.{Name}
-use Rattle.syntax_why.specs.Lexeme.{Lexeme}
-use Rattle.syntax_why.specs.Forms.{Form, Forms, more_forms}
-use Rattle.syntax_why.specs.Trees.{Binder, Trigger, binds}
-use Rattle.syntax_why.specs.Surface.{Arm, forms}
 use Rattle.parse_terms.specs.Reading.{Begun, terminal_at}
 
 -- What is read as a pattern and the rest of an arm has these patterns before a bar or an arrow.

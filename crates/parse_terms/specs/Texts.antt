@@ -1,8 +1,7 @@
 -- Tokens that are those of their texts.
-use Rattle.std.specs.Prelude.{ℕ, ◌≡◌, ◌≤◌, List, Some, slice_get, length}
+use Rattle.parse_terms.specs.Common.{ℕ, ◌≡◌, ◌≤◌, List, Some, slice_get, length, Fits, text_of}
 use Rattle.tokens_why.specs.declared.token.Token.{Token}
 use Rattle.tokens_why.specs.Strings.{kind_of}
-use Rattle.tokens_why.specs.Tokens.{Fits, text_of}
 
 -- each token lies in the text, and its kind is that of its text
 pub record HasText (text : List ℕ) (k : Token) : Type 0 where

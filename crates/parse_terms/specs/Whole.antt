@@ -1,10 +1,6 @@
 -- Tokens that are one term or formula.
-use Rattle.std.specs.Prelude.{ℕ, ◌≡◌, ◌≤◌, false, List, [], ◌∷◌, Some, length}
+use Rattle.parse_terms.specs.Common.{ℕ, ◌≡◌, ◌≤◌, false, List, [], ◌∷◌, Some, length, Lexeme, Tree, from, read}
 use Rattle.grammar.specs.declared.symbols.Symbol.TheVariants as s
-use Rattle.syntax_why.specs.Lexeme.{Lexeme}
-use Rattle.syntax_why.specs.Trees.{Tree}
-use Rattle.reading.specs.Reads.{from}
-use Rattle.reading.specs.Values.{read}
 
 -- The tokens from a place on are read as one expression.
 pub record IsExpression (xs : List Lexeme) (i : ℕ) : Type 0 where

@@ -1,12 +1,8 @@
 // Terms and formulas, where they are known to stand: each call reads one, and says where it ends.
-// They depend on names, types and patterns; declarations depend on them.
-ghost use Rattle.std.specs.Prelude.{false, true, ◌&&◌, ◌||◌, ◌≡◌, ◌<◌, ◌∷◌, IfOk, map, not, option_map};
+ghost use Rattle.parse_terms.specs.Common.{false, true, ◌&&◌, ◌||◌, ◌≡◌, ◌<◌, ◌∷◌, IfOk, map, not, option_map, same, is_prefix, arm_of, terms_of, tree_of, trees, ends_open};
 ghost use Rattle.grammar.specs.declared.symbols.Symbol.TheVariants as rule;
-ghost use Rattle.grammar.specs.Alphabet.{same};
 ghost use Rattle.tokens_why.specs.declared.terminal.Terminal.TheVariants as t;
-ghost use Rattle.tokens_why.specs.Operators.{is_prefix};
-ghost use Rattle.syntax_why.specs.Surface.{arm_of, terms_of, tree_of, trees, trigger as trigger_of};
-ghost use Rattle.syntax_why.specs.Trees.{ends_open};
+ghost use Rattle.syntax_why.specs.Surface.{trigger as trigger_of};
 ghost use Rattle.parse_terms.specs.Reading.{CanRead, CanRun, Climb, IsClosed, IsExpr, IsRead, names, takes_infix, terminal_at};
 ghost use Rattle.parse_terms.specs.Sources.{lexemes};
 ghost use Rattle.parse_terms.specs.Terms.{IsBranch, IsTrigger};
@@ -21,9 +17,9 @@ use crate::source::Source;
 use crate::tokens::{at, at_atom, place, terminal};
 use crate::types::type_tree;
 use grammar::{prec_of, right_of};
-use outside::Seq;
+use outside::{Boxed, Seq};
 use std::alloc::{AllocError, Global};
-use syntax_why::{At, BinderTree, BranchTree, Expr, Pat, TriggerTree};
+use syntax_why::{At, BinderTree, BranchTree, Expr, ExprNode, Pat, TriggerTree};
 use tokens_why::Terminal;
 
 /// A term or formula, whether it ends in an open form, and the token behind it.
@@ -83,6 +79,22 @@ fn any_expression(alloc: Global, source: Source, i: usize) -> Result<(Expr, usiz
     Ok((read.tree, read.end))
 }
 
+/// The same in a box, which is dropped by one call where a later part finds no memory: the proof of a function grows with
+/// the trees that it drops itself.
+#[cycle(descent)]
+fn boxed_expression(
+    alloc: Global,
+    source: Source,
+    i: usize,
+) -> Result<(Boxed<Expr>, usize), AllocError>
+    requires { CanRead (lexemes source) (rule.Expr 0) i }
+    ensures { IfOk result (λ r. IsExpr (lexemes source.entry) 0 i (tree_of r.0) r.1) }
+{
+    let (tree, end) = any_expression(alloc, source, i)?;
+    let held = Boxed::new(alloc, tree)?;
+    Ok((held, end))
+}
+
 /// What stands to the left of an operator, with the operator and its right operand.
 #[cycle(descent)]
 fn operation(
@@ -107,13 +119,15 @@ fn operation(
         end,
     } = left;
     let sign = terminal(source, end);
-    let right = expression(alloc, source, right_of(sign), end + 1)?;
+    let first = Boxed::new(alloc, left_tree)?;
     let name = operator(alloc, source, end)?;
+    let right = expression(alloc, source, right_of(sign), end + 1)?;
+    let second = Boxed::new(alloc, right.tree)?;
     let here = At {
         first: i,
         main: end,
     };
-    let tree = Expr::binary(alloc, here, left_tree, name, right.tree)?;
+    let tree = Expr::new(here, ExprNode::Binary(first, name, second));
     Ok(ReadOperand {
         tree,
         tight: prec_of(sign),
@@ -205,10 +219,10 @@ fn choice(alloc: Global, source: Source, m: u8, i: usize) -> Result<ReadOperand,
         (λ r. Climb (lexemes source.entry) m i (tree_of r.tree) r.tight r.end) }
     ensures is_open { IfOk result (λ r. r.is_open ≡ ends_open (tree_of r.tree)) }
 {
-    let (condition, j) = any_expression(alloc, source, i + 1)?;
-    let (yes, n) = any_expression(alloc, source, j + 1)?;
-    let (no, end) = any_expression(alloc, source, n + 1)?;
-    let tree = Expr::choice(alloc, place(i), condition, yes, no)?;
+    let (condition, j) = boxed_expression(alloc, source, i + 1)?;
+    let (yes, n) = boxed_expression(alloc, source, j + 1)?;
+    let (no, end) = boxed_expression(alloc, source, n + 1)?;
+    let tree = Expr::new(place(i), ExprNode::If(condition, yes, no));
     Ok(ReadOperand {
         tree,
         tight: 0,
@@ -234,9 +248,9 @@ fn let_in(alloc: Global, source: Source, m: u8, i: usize) -> Result<ReadOperand,
         bound.push(next)?;
         j = end;
     }
-    let (value, n) = any_expression(alloc, source, j + 1)?;
-    let (body, last) = any_expression(alloc, source, n + 1)?;
-    let tree = Expr::binding(alloc, place(i), Seq::from_vec(bound), value, body)?;
+    let (value, n) = boxed_expression(alloc, source, j + 1)?;
+    let (body, last) = boxed_expression(alloc, source, n + 1)?;
+    let tree = Expr::new(place(i), ExprNode::Let(Seq::from_vec(bound), value, body));
     Ok(ReadOperand {
         tree,
         tight: 0,
@@ -317,7 +331,7 @@ fn primary(alloc: Global, source: Source, i: usize) -> Result<(Expr, usize), All
     if at_name(source, i) {
         let (name, j) = head_name(alloc, source, i)?;
         let (parts, end) = arguments(alloc, source, j)?;
-        return Ok((Expr::apply(place(i), name, parts), end));
+        return Ok((Expr::new(place(i), ExprNode::Apply(name, parts)), end));
     }
     let (tree, end) = plain_atom(alloc, source, i)?;
     Ok((tree, end))
@@ -332,7 +346,10 @@ fn atom(alloc: Global, source: Source, i: usize) -> Result<(Expr, usize), AllocE
 {
     if at_name(source, i) {
         let (name, end) = head_name(alloc, source, i)?;
-        return Ok((Expr::apply(place(i), name, Seq::new(alloc)), end));
+        return Ok((
+            Expr::new(place(i), ExprNode::Apply(name, Seq::new(alloc))),
+            end,
+        ));
     }
     let (tree, end) = plain_atom(alloc, source, i)?;
     Ok((tree, end))
@@ -370,11 +387,11 @@ fn plain_atom(alloc: Global, source: Source, i: usize) -> Result<(Expr, usize), 
     }
     let is_true = at(source, i, Terminal::TrueWord);
     if is_true {
-        return Ok((Expr::truth(here), i + 1));
+        return Ok((Expr::new(here, ExprNode::True), i + 1));
     }
     let is_false = at(source, i, Terminal::FalseWord);
     if is_false {
-        return Ok((Expr::falsity(here), i + 1));
+        return Ok((Expr::new(here, ExprNode::False), i + 1));
     }
     let is_match = at(source, i, Terminal::MatchWord);
     if is_match {
@@ -384,13 +401,17 @@ fn plain_atom(alloc: Global, source: Source, i: usize) -> Result<(Expr, usize), 
     let behind = i + 1;
     let is_empty = at(source, behind, Terminal::RParen);
     if is_empty {
-        return Ok((Expr::group(here, Seq::new(alloc)), behind + 1));
+        return Ok((
+            Expr::new(here, ExprNode::Group(Seq::new(alloc))),
+            behind + 1,
+        ));
     }
     let (first, mut j) = any_expression(alloc, source, behind)?;
     let is_cast = at(source, j, Terminal::Colon);
     if is_cast {
+        let held = Boxed::new(alloc, first)?;
         let (ty, end) = type_tree(alloc, source, j + 1)?;
-        let tree = Expr::cast(alloc, here, first, ty)?;
+        let tree = Expr::new(here, ExprNode::Cast(held, ty));
         return Ok((tree, end + 1));
     }
     let mut parts: Vec<Expr> = Vec::new(alloc);
@@ -400,7 +421,10 @@ fn plain_atom(alloc: Global, source: Source, i: usize) -> Result<(Expr, usize), 
         parts.push(next)?;
         j = end;
     }
-    Ok((Expr::group(here, Seq::from_vec(parts)), j + 1))
+    Ok((
+        Expr::new(here, ExprNode::Group(Seq::from_vec(parts))),
+        j + 1,
+    ))
 }
 
 /// A `match`.
@@ -429,7 +453,10 @@ fn cases(alloc: Global, source: Source, i: usize) -> Result<(Expr, usize), Alloc
         n = end;
     }
     let here = place(i);
-    let tree = Expr::cases(here, Seq::from_vec(scrutinees), bar, Seq::from_vec(arms));
+    let tree = Expr::new(
+        here,
+        ExprNode::Match(Seq::from_vec(scrutinees), bar, Seq::from_vec(arms)),
+    );
     Ok((tree, n + 1))
 }
 

@@ -1,5 +1,5 @@
 //! Reading of types, patterns, terms and formulas from tokens that are known to be good, and of the longest expression from
-//! any tokens. It depends on the table of the grammar, on what its rules are read as, and on what is said of tokens alone.
+//! any tokens.
 #![tactic(auto)]
 
 mod expressions;

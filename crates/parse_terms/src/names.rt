@@ -1,11 +1,5 @@
 // Names: behind scopes, of operators in parentheses, of types and of constructors.
-// They depend on the tokens; trees hold them.
-ghost use Rattle.std.specs.Prelude.{false, true, ◌≡◌, ◌+◌, ◌&&◌, [], IfOk};
-ghost use Rattle.grammar.specs.Alphabet.{same};
-ghost use Rattle.grammar.specs.declared.symbols.Symbol.TheVariants.{Opname, Qhead, Qlid, Quids};
-ghost use Rattle.tokens_why.specs.declared.terminal.Terminal.TheVariants.{Dot, Uident};
-ghost use Rattle.syntax_why.specs.Forms.{called, lower};
-ghost use Rattle.syntax_why.specs.Surface.{called_of, own_of};
+ghost use Rattle.parse_terms.specs.Common.{false, true, ◌≡◌, ◌+◌, ◌&&◌, [], IfOk, same, Opname, Qhead, Qlid, Quids, Dot, Uident, called, lower, called_of, own_of};
 ghost use Rattle.parse_terms.specs.Names.{IsOperatorName, IsUpperName, scoped_of};
 ghost use Rattle.parse_terms.specs.Reading.{CanRead, IsRead, terminal_at};
 ghost use Rattle.parse_terms.specs.Sources.{lexemes};

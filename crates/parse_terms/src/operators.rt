@@ -1,12 +1,7 @@
 // Tokens of terms: which begin a name or a quantifier, and which are operators.
-// They depend on the tokens; terms depend on them.
-ghost use Rattle.std.specs.Prelude.{◌&&◌, ◌||◌, ◌≡◌, ◌<◌, ◌+◌, IfOk, if◌then◌else◌, length, true};
-ghost use Rattle.grammar.specs.Alphabet.{same};
+ghost use Rattle.parse_terms.specs.Common.{◌&&◌, ◌||◌, ◌≡◌, ◌<◌, ◌+◌, IfOk, if◌then◌else◌, length, true, same, is_operator, is_prefix, op_of, tree_of, literal, op};
 ghost use Rattle.tokens_why.specs.declared.terminal.Terminal.TheVariants as t;
-ghost use Rattle.tokens_why.specs.Operators.{is_operator, is_prefix};
 ghost use Rattle.syntax_why.specs.Lexeme.{at as place_at};
-ghost use Rattle.syntax_why.specs.Surface.{op_of, tree_of};
-ghost use Rattle.syntax_why.specs.Trees.{literal, op};
 ghost use Rattle.parse_terms.specs.Reading.{ends_name, names, takes_infix, terminal_at, token_at};
 ghost use Rattle.parse_terms.specs.Sources.{lexemes};
 
@@ -14,7 +9,7 @@ use crate::source::Source;
 use crate::tokens::{at, integer, place, terminal, text};
 use grammar::{infix, need_of, prec_of};
 use std::alloc::{AllocError, Global};
-use syntax_why::{Expr, OpName, Style};
+use syntax_why::{Expr, ExprNode, OpName, Style};
 use tokens_why::Terminal;
 
 fn names_operator(source: Source, i: usize) -> bool
@@ -119,5 +114,5 @@ pub fn integer_tree(source: Source, i: usize) -> Expr
 {
     let here = place(i);
     let value = integer(source, i);
-    Expr::integer(here, value)
+    Expr::new(here, ExprNode::Int(value))
 }

@@ -1,8 +1,5 @@
 // The longest expression from a place, or where none stands any more.
-// It depends on the descent of expressions, and on what the grammar says of the tokens before.
-ghost use Rattle.std.specs.Prelude.{IfOk, IfErr};
-ghost use Rattle.tokens_why.specs.Tokens.{AreTokens};
-ghost use Rattle.syntax_why.specs.Surface.{tree_of};
+ghost use Rattle.parse_terms.specs.Common.{IfOk, IfErr, AreTokens, tree_of};
 ghost use Rattle.recognise_why.specs.Expressions.{EndsAt, IsExpressionRefusal, IsLongestAt};
 
 use crate::source::Source;

@@ -1,9 +1,6 @@
 // Lists of patterns and names, as they stand in branches and binders.
-// They depend on patterns and types; terms depend on them.
-ghost use Rattle.std.specs.Prelude.{◌∷◌, IfOk};
+ghost use Rattle.parse_terms.specs.Common.{◌∷◌, IfOk, Lident, binder_of, patterns};
 ghost use Rattle.grammar.specs.declared.symbols.Symbol.TheVariants as rule;
-ghost use Rattle.tokens_why.specs.declared.terminal.Terminal.TheVariants.{Lident};
-ghost use Rattle.syntax_why.specs.Surface.{binder_of, patterns};
 ghost use Rattle.parse_terms.specs.Reading.{CanRun};
 ghost use Rattle.parse_terms.specs.Sources.{lexemes};
 ghost use Rattle.parse_terms.specs.Terms.{IsAlternative, IsBinder};

@@ -1,8 +1,6 @@
 // Patterns, where they are known to stand: each call reads one, and says where it ends.
-// They depend on the names; terms depend on them.
-ghost use Rattle.std.specs.Prelude.{◌<◌, IfOk};
+ghost use Rattle.parse_terms.specs.Common.{◌<◌, IfOk, pattern_of, patterns};
 ghost use Rattle.grammar.specs.declared.symbols.Symbol.TheVariants as rule;
-ghost use Rattle.syntax_why.specs.Surface.{pattern_of, patterns};
 ghost use Rattle.parse_terms.specs.Patterns.{IsBare};
 ghost use Rattle.parse_terms.specs.Reading.{CanRead, IsRead};
 ghost use Rattle.parse_terms.specs.Sources.{lexemes};
@@ -12,7 +10,7 @@ use crate::source::Source;
 use crate::tokens::{at, at_pattern, name_at, place};
 use outside::Seq;
 use std::alloc::{AllocError, Global};
-use syntax_why::Pat;
+use syntax_why::{Pat, PatNode};
 use tokens_why::Terminal;
 
 /// A pattern, and the token behind it. Only want of memory refuses.
@@ -44,7 +42,7 @@ fn bare(alloc: Global, source: Source, i: usize) -> Result<(Pat, usize), AllocEr
         let here = place(i);
         let (name, j) = upper_name(alloc, source, i)?;
         let (parts, end) = pattern_parts(alloc, source, j)?;
-        return Ok((Pat::constructor(here, name, parts), end));
+        return Ok((Pat::new(here, PatNode::Con(name, parts)), end));
     }
     let (tree, end) = pattern_atom(alloc, source, i)?;
     Ok((tree, end))
@@ -59,20 +57,20 @@ fn pattern_atom(alloc: Global, source: Source, i: usize) -> Result<(Pat, usize),
     let here = place(i);
     let is_wild = at(source, i, Terminal::Wild);
     if is_wild {
-        return Ok((Pat::wildcard(here), i + 1));
+        return Ok((Pat::new(here, PatNode::Wild), i + 1));
     }
     let is_name = at(source, i, Terminal::Lident);
     if is_name {
         let name = name_at(alloc, source, i)?;
-        return Ok((Pat::variable(here, name), i + 1));
+        return Ok((Pat::new(here, PatNode::Var(name)), i + 1));
     }
     let is_constant = at(source, i, Terminal::Uident);
     if is_constant {
         let (name, end) = upper_name(alloc, source, i)?;
-        return Ok((Pat::constructor(here, name, Seq::new(alloc)), end));
+        return Ok((Pat::new(here, PatNode::Con(name, Seq::new(alloc))), end));
     }
     let (parts, end) = pattern_list(alloc, source, i + 1)?;
-    Ok((Pat::group(here, parts), end))
+    Ok((Pat::new(here, PatNode::Group(parts)), end))
 }
 
 /// Patterns side by side.

@@ -1,5 +1,4 @@
 // A text and its tokens, as the readers take them.
-// It depends on the tokens alone.
 ghost use Rattle.parse_terms.specs.Texts.{HasTexts};
 
 use tokens_why::Token;

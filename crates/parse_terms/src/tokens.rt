@@ -1,12 +1,7 @@
 // Tokens by their numbers: what each is to the grammar, and its text.
-// They depend on a source; every reader asks for its tokens so.
-ghost use Rattle.std.specs.Prelude.{true, ◌≡◌, ◌<◌, length, Some, slice_get, IfOk};
-ghost use Rattle.grammar.specs.Alphabet.{same};
-ghost use Rattle.syntax_why.specs.Lexeme.{at as place_at, name};
-ghost use Rattle.syntax_why.specs.Surface.{value_of};
-ghost use Rattle.tokens_why.specs.declared.terminal.Terminal.TheVariants.{Int};
+ghost use Rattle.parse_terms.specs.Common.{true, ◌≡◌, ◌<◌, length, Some, slice_get, IfOk, same, name, value_of, Int, text_of};
+ghost use Rattle.syntax_why.specs.Lexeme.{at as place_at};
 ghost use Rattle.parse_terms.specs.Reading.{begins_atom, begins_atype, begins_patom, terminal_at, token_at};
-ghost use Rattle.tokens_why.specs.Tokens.{text_of};
 ghost use Rattle.parse_terms.specs.Texts.{HasText};
 ghost use Rattle.parse_terms.specs.Sources.{IsTextAt, lexemes};
 

@@ -1,8 +1,5 @@
 // Types, where they are known to stand: each call reads one, and says where it ends.
-// They depend on the names; patterns, terms and declarations depend on them.
-ghost use Rattle.std.specs.Prelude.{◌<◌, IfOk};
-ghost use Rattle.grammar.specs.declared.symbols.Symbol.TheVariants.{Atype, Targs, Ttuple, TypeOf};
-ghost use Rattle.syntax_why.specs.Surface.{form_of, types};
+ghost use Rattle.parse_terms.specs.Common.{◌<◌, IfOk, Atype, Targs, Ttuple, TypeOf, form_of, types};
 ghost use Rattle.parse_terms.specs.Reading.{CanRead, IsRead};
 ghost use Rattle.parse_terms.specs.Sources.{lexemes};
 
@@ -11,7 +8,7 @@ use crate::source::Source;
 use crate::tokens::{at, at_type, place, text};
 use outside::Seq;
 use std::alloc::{AllocError, Global};
-use syntax_why::TypeTree;
+use syntax_why::{TypeNode, TypeTree};
 use tokens_why::Terminal;
 
 /// A type, and the token behind it. Only want of memory refuses.
@@ -24,16 +21,16 @@ pub fn type_tree(alloc: Global, source: Source, i: usize) -> Result<(TypeTree, u
     let is_variable = at(source, i, Terminal::TyVar);
     if is_variable {
         let word = text(alloc, source, i)?;
-        return Ok((TypeTree::variable(here, word), i + 1));
+        return Ok((TypeTree::new(here, TypeNode::Var(word)), i + 1));
     }
     let is_group = at(source, i, Terminal::LParen);
     if is_group {
         let (parts, end) = type_list(alloc, source, i + 1)?;
-        return Ok((TypeTree::group(here, parts), end));
+        return Ok((TypeTree::new(here, TypeNode::Group(parts)), end));
     }
     let (name, j) = lower_name(alloc, source, i)?;
     let (arguments, end) = type_arguments(alloc, source, j)?;
-    Ok((TypeTree::named(here, name, arguments), end))
+    Ok((TypeTree::new(here, TypeNode::Named(name, arguments)), end))
 }
 
 /// A type that stands as an argument, and the token behind it. Only want of memory refuses.
@@ -46,15 +43,18 @@ pub fn argument(alloc: Global, source: Source, i: usize) -> Result<(TypeTree, us
     let is_variable = at(source, i, Terminal::TyVar);
     if is_variable {
         let word = text(alloc, source, i)?;
-        return Ok((TypeTree::variable(here, word), i + 1));
+        return Ok((TypeTree::new(here, TypeNode::Var(word)), i + 1));
     }
     let is_group = at(source, i, Terminal::LParen);
     if is_group {
         let (parts, end) = type_list(alloc, source, i + 1)?;
-        return Ok((TypeTree::group(here, parts), end));
+        return Ok((TypeTree::new(here, TypeNode::Group(parts)), end));
     }
     let (name, end) = lower_name(alloc, source, i)?;
-    Ok((TypeTree::named(here, name, Seq::new(alloc)), end))
+    Ok((
+        TypeTree::new(here, TypeNode::Named(name, Seq::new(alloc))),
+        end,
+    ))
 }
 
 /// Types side by side, and the token behind them. Only want of memory refuses.

@@ -1,10 +1,6 @@
 // Tokens that are one term or formula.
-// They depend on terms; what reads the longest one depends on them.
-ghost use Rattle.std.specs.Prelude.{false, ◌≡◌, [], ◌∷◌, IfOk, Some};
+ghost use Rattle.parse_terms.specs.Common.{false, ◌≡◌, [], ◌∷◌, IfOk, Some, from, read, tree_of};
 ghost use Rattle.grammar.specs.declared.symbols.Symbol.TheVariants.{Expr as ExprRule};
-ghost use Rattle.reading.specs.Reads.{from};
-ghost use Rattle.reading.specs.Values.{read};
-ghost use Rattle.syntax_why.specs.Surface.{tree_of};
 ghost use Rattle.parse_terms.specs.Sources.{lexemes};
 ghost use Rattle.parse_terms.specs.Whole.{IsExpression};
 

@@ -1,17 +1,7 @@
 -- The patterns of branches and of `let`, and the names of quantifiers.
-use Rattle.std.proofs.Common.{◌≡◌, ℕ, ◌+◌, Bool, true, false, List, [], ◌∷◌, ◌++◌, Option, Some, None, refl, sym, ap, append_assoc}
-use Rattle.tokens_why.specs.declared.terminal.Terminal.{Terminal}
+use Rattle.reading.proofs.Common.{◌≡◌, ℕ, ◌+◌, Bool, true, false, List, [], ◌∷◌, ◌++◌, Option, Some, None, refl, sym, ap, append_assoc, Terminal, Symbol, Name, Lexeme, lx, mark, name, AreForms, Form, Forms, PlacedList, form_tail, more_forms, no_forms, past, patterns, write_form, AreAlternatives, AreBinders, Binder, Branches, IsTypePart, PlacedAlternatives, PlacedBinders, PlacedNames, PlacedPart, Tree, Trigger, alternative_list, alternative_tail, bar_before, binder_tail, binds, branch, name_row, type_part, BoundPart, branch_of, Row, Vals, binder_own, branch_own, rows, find}
 use Rattle.tokens_why.specs.declared.terminal.Terminal.TheVariants as t
-use Rattle.grammar.specs.declared.symbols.Symbol.{Symbol}
 use Rattle.grammar.specs.declared.symbols.Symbol.TheVariants as s
-use Rattle.syntax_why.specs.declared.names.Name.{Name}
-use Rattle.syntax_why.specs.Lexeme.{Lexeme, lx, mark, name}
-use Rattle.syntax_why.specs.Forms.{AreForms, Form, Forms, PlacedList, form_tail, more_forms, no_forms, past, patterns, write_form}
-use Rattle.syntax_why.specs.Trees.{AreAlternatives, AreBinders, Binder, Branches, IsTypePart, PlacedAlternatives, PlacedBinders, PlacedNames, PlacedPart, Tree, Trigger, alternative_list, alternative_tail, bar_before, binder_tail, binds, branch, name_row, type_part}
-use Rattle.reading.specs.Parts.{BoundPart, branch_of}
-use Rattle.reading.specs.Row.{Row, Vals}
-use Rattle.reading.specs.TermRows.{binder_own, branch_own}
-use Rattle.reading.specs.Values.{find, rows}
 use Rattle.reading.proofs.Reading.{Extends, Reads, Stops, extended, past-append}
 use Rattle.reading.proofs.FormsRead.{PatStops, reads_pat, reads_type}
 

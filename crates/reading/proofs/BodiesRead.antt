@@ -1,21 +1,7 @@
 -- The tokens of types' declarations, members, clauses, links and substitutions are read as them.
-use Rattle.std.proofs.Common.{◌≡◌, ℕ, ◌+◌, Bool, true, false, cond, List, [], ◌∷◌, ◌++◌, Option, Some, None, option_map, refl, sym, ap, ◌∙◌, subst, append_assoc}
-use Rattle.grammar.specs.Alphabet.{same}
-use Rattle.grammar.specs.Machine.{is_tail}
-use Rattle.grammar.proofs.Laws.{same_true, no_false}
+use Rattle.reading.proofs.Common.{◌≡◌, ℕ, ◌+◌, Bool, true, false, cond, List, [], ◌∷◌, ◌++◌, Option, Some, None, option_map, refl, sym, ap, ◌∙◌, subst, append_assoc, same, is_tail, same_true, no_false, Symbol, Name, Lexeme, Word, at, lx, mark, name, Form, Forms, IsForm, IsHead, IsPlaced, Own, aliased, called, composed, enclosed, form_row, lower, no_forms, past, scoped, type_variable, types, upper, variable, wild, write_called, write_form, write_own, HasSome, IsLevel, IsPlacedTree, IsTypePart, PlacedNames, PlacedPart, Tree, bar_before, type_part, write, Algebraic, Clause, Constructor, Inductive, Member, clause_list, clause_tail, constructor_list, constructor_tail, definition, inductive_tail, other_members, param_row, variable_row, write_inductive, write_member, AreClauses, AreConstructors, AreInductive, AreMembers, AreParams, IsDefined, IsDefinition, IsNewSymbol, IsProp, PlacedClauses, PlacedConstructors, PlacedDefinition, PlacedInductive, PlacedInductives, PlacedMembers, ClausesPart, FieldsPart, TypePart, UpperPart, fields_of, is_algebraic, is_alias, scope_of, with_clause, Row, Vals, extend, row, then_row, upper_own, rows, blank, by_row, find, over, read, with_blank}
 use Rattle.tokens_why.specs.declared.terminal.Terminal.TheVariants as t
-use Rattle.grammar.specs.declared.symbols.Symbol.{Symbol}
 use Rattle.grammar.specs.declared.symbols.Symbol.TheVariants as s
-use Rattle.syntax_why.specs.declared.names.Name.{Name}
-use Rattle.syntax_why.specs.Lexeme.{Lexeme, Word, at, lx, mark, name}
-use Rattle.syntax_why.specs.Forms.{Form, Forms, IsForm, IsHead, IsPlaced, Own, aliased, called, composed, enclosed, form_row, lower, no_forms, past, scoped, type_variable, types, upper, variable, wild, write_called, write_form, write_own}
-use Rattle.syntax_why.specs.Trees.{HasSome, IsLevel, IsPlacedTree, IsTypePart, PlacedNames, PlacedPart, Tree, bar_before, type_part, write}
-use Rattle.syntax_why.specs.Declarations.{Algebraic, Clause, Constructor, Inductive, Member, clause_list, clause_tail, constructor_list, constructor_tail, definition, inductive_tail, other_members, param_row, variable_row, write_inductive, write_member}
-use Rattle.syntax_why.specs.DeclarationRules.{AreClauses, AreConstructors, AreInductive, AreMembers, AreParams, IsDefined, IsDefinition, IsNewSymbol, IsProp, PlacedClauses, PlacedConstructors, PlacedDefinition, PlacedInductive, PlacedInductives, PlacedMembers}
-use Rattle.reading.specs.DeclParts.{ClausesPart, FieldsPart, TypePart, UpperPart, fields_of, is_algebraic, is_alias, scope_of, with_clause}
-use Rattle.reading.specs.Row.{Row, Vals, extend, row, then_row}
-use Rattle.reading.specs.DeclRows.{upper_own}
-use Rattle.reading.specs.Values.{blank, by_row, find, over, read, rows, with_blank}
 use Rattle.reading.proofs.Reading.{Reads, Stops, find_apart, find_extend, fused, passed, past-append}
 use Rattle.reading.proofs.FormsRead.{reads_qlid, reads_row, reads_tuple, reads_type}
 use Rattle.reading.proofs.Operators.{Follow}

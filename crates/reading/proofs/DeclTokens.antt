@@ -1,11 +1,6 @@
 -- How the tokens of declarations are grouped.
-use Rattle.std.proofs.Common.{◌≡◌, ℕ, ◌+◌, List, [], ◌∷◌, ◌++◌, refl, sym, ap, ◌∙◌, append_assoc}
-use Rattle.tokens_why.specs.declared.terminal.Terminal.{Terminal}
+use Rattle.reading.proofs.Common.{◌≡◌, ℕ, ◌+◌, List, [], ◌∷◌, ◌++◌, refl, sym, ap, ◌∙◌, append_assoc, Terminal, Lexeme, Word, lx, mark, past, HasSome, path_from, write_path}
 use Rattle.tokens_why.specs.declared.terminal.Terminal.TheVariants as t
-use Rattle.syntax_why.specs.Lexeme.{Lexeme, Word, lx, mark}
-use Rattle.syntax_why.specs.Forms.{past}
-use Rattle.syntax_why.specs.Trees.{HasSome}
-use Rattle.syntax_why.specs.Declarations.{path_from, write_path}
 use Rattle.reading.proofs.Reading.{past-append}
 
 pub begins : (x : Terminal) (w : Word) (xs ys : List Lexeme) → w ≡ [] → xs ≡ ys → lx x w ∷ xs ≡ mark x ∷ ys

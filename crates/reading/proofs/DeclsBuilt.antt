@@ -1,23 +1,11 @@
 -- What is read as clauses, links, substitutions, declarations and files is right.
-use Rattle.std.proofs.Common.{◌≡◌, ℕ, ◌+◌, Bool, true, false, List, [], ◌∷◌, ◌++◌, Option, Some, None, refl, sym, ap, ◌∙◌, subst, append_assoc, append-nil}
+use Rattle.reading.proofs.Common.{◌≡◌, ℕ, ◌+◌, Bool, true, false, List, [], ◌∷◌, ◌++◌, Option, Some, None, refl, sym, ap, ◌∙◌, subst, append_assoc, append-nil, Symbol, Name, Lexeme, Word, at, lx, mark, Called, called, lower, past, scoped, upper, write_called, write_form, IsLevel, IsPlacedTree, Tree, bar_before, write, PropKind, Decl, Decls, Element, Param, clause_list, clause_tail, clone_decl, constant_decl, definition, element_tail, function_decl, heading, inductive_decl, inductive_tail, link_words, more_decls, param_row, predicate_decl, prop_decl, prop_word, renamed, scope_decl, substitution, symbol_word, use_decl, write_decl, write_decls, write_element, write_file, write_inductive, write_path, AreInductive, AreLevelDecls, AreParams, IsElement, IsLevelDecl, IsNewProp, IsNewSymbol, PlacedClauses, PlacedDecl, PlacedDecls, PlacedElement, PlacedInductives, PlacedParams, PlacedRenamed, ClausePart, ClausesPart, TypePart, UsedPart, is_algebraic, is_alias, new_inductive, path_on, typed_as, with_clause, Vals, axioms_of, cloned, file_row, last_part, prop_row, symbol_row, used, rows}
 use Rattle.tokens_why.specs.declared.terminal.Terminal.TheVariants as t
-use Rattle.grammar.specs.declared.symbols.Symbol.{Symbol}
 use Rattle.grammar.specs.declared.symbols.Symbol.TheVariants as s
-use Rattle.syntax_why.specs.declared.names.Name.{Name}
-use Rattle.syntax_why.specs.Lexeme.{Lexeme, Word, at, lx, mark}
-use Rattle.syntax_why.specs.Forms.{Called, called, lower, past, scoped, upper, write_called, write_form}
-use Rattle.syntax_why.specs.Trees.{IsLevel, IsPlacedTree, Tree, bar_before, write}
-use Rattle.syntax_why.specs.declared.declarations.PropKind.{PropKind}
 use Rattle.syntax_why.specs.declared.declarations.SymbolWord.{SymbolWord}
 use Rattle.syntax_why.specs.declared.declarations.PropKind.TheVariants as pk
 use Rattle.syntax_why.specs.declared.declarations.Link.TheVariants as lk
 use Rattle.syntax_why.specs.declared.declarations.SymbolWord.TheVariants as sw
-use Rattle.syntax_why.specs.Declarations.{Decl, Decls, Element, Param, clause_list, clause_tail, clone_decl, constant_decl, definition, element_tail, function_decl, heading, inductive_decl, inductive_tail, link_words, more_decls, param_row, predicate_decl, prop_decl, prop_word, renamed, scope_decl, substitution, symbol_word, use_decl, write_decl, write_decls, write_element, write_file, write_inductive, write_path}
-use Rattle.syntax_why.specs.DeclarationRules.{AreInductive, AreLevelDecls, AreParams, IsElement, IsLevelDecl, IsNewProp, IsNewSymbol, PlacedClauses, PlacedDecl, PlacedDecls, PlacedElement, PlacedInductives, PlacedParams, PlacedRenamed}
-use Rattle.reading.specs.DeclParts.{ClausePart, ClausesPart, TypePart, UsedPart, is_algebraic, is_alias, new_inductive, path_on, typed_as, with_clause}
-use Rattle.reading.specs.Row.{Vals}
-use Rattle.reading.specs.DeclRows.{axioms_of, cloned, file_row, last_part, prop_row, symbol_row, used}
-use Rattle.reading.specs.Values.{rows}
 use Rattle.reading.proofs.Reading.{past-append}
 use Rattle.reading.proofs.Operands.{past_op}
 use Rattle.reading.proofs.DeclsRight.{ArePredicates, IsAxioms, IsClausePart, IsClauseRest, IsClauses, IsSubst, IsTvars, IsUsed, write_axioms, write_body, write_clause_part, write_clauses, write_cloned, write_tvars, write_used, write_vars}

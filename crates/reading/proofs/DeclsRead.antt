@@ -1,23 +1,10 @@
 -- The tokens of links, substitutions, declarations and files are read as them.
-use Rattle.std.proofs.Common.{◌≡◌, ℕ, ◌+◌, Bool, true, false, List, [], ◌∷◌, ◌++◌, Option, Some, None, refl, sym, ap, ◌∙◌, subst, append_assoc}
-use Rattle.tokens_why.specs.declared.terminal.Terminal.{Terminal}
+use Rattle.reading.proofs.Common.{◌≡◌, ℕ, ◌+◌, Bool, true, false, List, [], ◌∷◌, ◌++◌, Option, Some, None, refl, sym, ap, ◌∙◌, subst, append_assoc, Terminal, Symbol, Name, Lexeme, Word, at, lx, mark, name, Called, Form, IsForm, IsHead, IsPlaced, Own, called, lower, past, scoped, types, write_called, write_form, write_own, HasSome, IsLevel, IsPlacedTree, IsTypePart, PlacedNames, PlacedPart, Tree, bar_before, write, Link, Decl, Decls, Element, Member, Theory, algebraic_decl, algebraic_tail, all_axioms, clause_list, clone_decl, constant_decl, constructor_list, definition, element_tail, function_decl, heading, inductive_decl, inductive_tail, link_words, more_decls, no_decls, other_members, param_row, path_from, predicate_decl, prop_decl, prop_element, renamed, scope_decl, substitution, symbol_element, type_decl, type_element, type_equation, use_decl, variable_row, write_decl, write_decls, write_element, write_file, write_inductive, write_path, AreElements, AreLevelDecls, IsElement, IsLevelDecl, IsLevelFile, IsLink, IsNewProp, IsSymbol, PlacedDecl, PlacedDecls, PlacedElement, PlacedElements, PlacedFile, PlacedInductives, PlacedRenamed, is_algebraic, is_alias, Row, Vals, axioms_own, cloned, used, rows, find, read}
 use Rattle.tokens_why.specs.declared.terminal.Terminal.TheVariants as t
-use Rattle.grammar.specs.declared.symbols.Symbol.{Symbol}
 use Rattle.grammar.specs.declared.symbols.Symbol.TheVariants as s
-use Rattle.syntax_why.specs.declared.names.Name.{Name}
-use Rattle.syntax_why.specs.Lexeme.{Lexeme, Word, at, lx, mark, name}
-use Rattle.syntax_why.specs.Forms.{Called, Form, IsForm, IsHead, IsPlaced, Own, called, lower, past, scoped, types, write_called, write_form, write_own}
-use Rattle.syntax_why.specs.Trees.{HasSome, IsLevel, IsPlacedTree, IsTypePart, PlacedNames, PlacedPart, Tree, bar_before, write}
-use Rattle.syntax_why.specs.declared.declarations.Link.{Link}
 use Rattle.syntax_why.specs.declared.declarations.PropKind.TheVariants as pk
 use Rattle.syntax_why.specs.declared.declarations.Link.TheVariants as lk
 use Rattle.syntax_why.specs.declared.declarations.SymbolWord.TheVariants as sw
-use Rattle.syntax_why.specs.Declarations.{Decl, Decls, Element, Member, Theory, algebraic_decl, algebraic_tail, all_axioms, clause_list, clone_decl, constant_decl, constructor_list, definition, element_tail, function_decl, heading, inductive_decl, inductive_tail, link_words, more_decls, no_decls, other_members, param_row, path_from, predicate_decl, prop_decl, prop_element, renamed, scope_decl, substitution, symbol_element, type_decl, type_element, type_equation, use_decl, variable_row, write_decl, write_decls, write_element, write_file, write_inductive, write_path}
-use Rattle.syntax_why.specs.DeclarationRules.{AreElements, AreLevelDecls, IsElement, IsLevelDecl, IsLevelFile, IsLink, IsNewProp, IsSymbol, PlacedDecl, PlacedDecls, PlacedElement, PlacedElements, PlacedFile, PlacedInductives, PlacedRenamed}
-use Rattle.reading.specs.DeclParts.{is_algebraic, is_alias}
-use Rattle.reading.specs.Row.{Row, Vals}
-use Rattle.reading.specs.DeclRows.{axioms_own, cloned, used}
-use Rattle.reading.specs.Values.{find, read, rows}
 use Rattle.reading.proofs.Reading.{Extends, Reads, Stops, extended, passed, past-append}
 use Rattle.reading.proofs.FormsRead.{reads_qlid, reads_type, regroup}
 use Rattle.reading.proofs.Operands.{both_right, past_op, reads_mark}

@@ -1,14 +1,6 @@
 -- What the rules of declarations may be read as, and the tokens of that.
-use Rattle.std.proofs.Common.{◌≡◌, ℕ, ◌+◌, Bool, false, List, [], ◌∷◌, ◌++◌, Option, Some, None}
-use Rattle.std.specs.Bool.{⊤}
+use Rattle.reading.proofs.Common.{◌≡◌, ℕ, ◌+◌, Bool, false, List, [], ◌∷◌, ◌++◌, Option, Some, None, ⊤, Name, Lexeme, lx, mark, AreForms, AreParts, Called, Form, Forms, IsForm, IsPlaced, PlacedList, PlacedRow, form_list, form_row, form_tail, past, scoped, types, write_called, write_form, HasSome, IsLevel, IsPlacedTree, IsTypePart, PlacedNames, PlacedPart, Tree, bar_before, ends_open, name_row, type_part, write, Algebraic, Constructor, Element, Inductive, Member, algebraic_tail, clause_list, clause_tail, constructor_list, constructor_tail, definition, inductive_tail, link_words, other_members, renamed, substitution, variable_row, write_path, AreAlgebraic, AreClauses, AreConstructors, AreElements, AreInductive, AreMembers, IsDefined, IsLink, IsProp, PlacedAlgebraics, PlacedClauses, PlacedConstructors, PlacedDefinition, PlacedElements, PlacedInductives, PlacedMembers, PlacedRenamed, AlgPart, BodyPart, ClausePart, ClausesPart, ClonedPart, ConPart, FieldsPart, MemberPart, NamePart, ParamPart, TvarsPart, TypePart, UpperPart, UsedPart, VarsPart, fields_of, is_algebraic, is_alias, name_names, name_types, param_names, param_types, scope_of}
 use Rattle.tokens_why.specs.declared.terminal.Terminal.TheVariants as t
-use Rattle.syntax_why.specs.declared.names.Name.{Name}
-use Rattle.syntax_why.specs.Lexeme.{Lexeme, lx, mark}
-use Rattle.syntax_why.specs.Forms.{AreForms, AreParts, Called, Form, Forms, IsForm, IsPlaced, PlacedList, PlacedRow, form_list, form_row, form_tail, past, scoped, types, write_called, write_form}
-use Rattle.syntax_why.specs.Trees.{HasSome, IsLevel, IsPlacedTree, IsTypePart, PlacedNames, PlacedPart, Tree, bar_before, ends_open, name_row, type_part, write}
-use Rattle.syntax_why.specs.Declarations.{Algebraic, Constructor, Element, Inductive, Member, algebraic_tail, clause_list, clause_tail, constructor_list, constructor_tail, definition, inductive_tail, link_words, other_members, renamed, substitution, variable_row, write_path}
-use Rattle.syntax_why.specs.DeclarationRules.{AreAlgebraic, AreClauses, AreConstructors, AreElements, AreInductive, AreMembers, IsDefined, IsLink, IsProp, PlacedAlgebraics, PlacedClauses, PlacedConstructors, PlacedDefinition, PlacedElements, PlacedInductives, PlacedMembers, PlacedRenamed}
-use Rattle.reading.specs.DeclParts.{AlgPart, BodyPart, ClausePart, ClausesPart, ClonedPart, ConPart, FieldsPart, MemberPart, NamePart, ParamPart, TvarsPart, TypePart, UpperPart, UsedPart, VarsPart, fields_of, is_algebraic, is_alias, name_names, name_types, param_names, param_types, scope_of}
 
 abbrev pub write_fields : FieldsPart → List Lexeme
 write_fields p = form_row p.fields ++ (constructor_tail p.constructors ++ algebraic_tail p.others)

@@ -1,15 +1,8 @@
 -- What stands behind a declaration, and what no part of the declaration takes.
-use Rattle.std.proofs.Common.{◌≡◌, Bool, true, false, List, [], ◌∷◌, ◌++◌, refl}
-use Rattle.grammar.proofs.Laws.{no_false}
-use Rattle.tokens_why.specs.declared.terminal.Terminal.{Terminal}
+use Rattle.reading.proofs.Common.{◌≡◌, Bool, true, false, List, [], ◌∷◌, ◌++◌, refl, no_false, Terminal, Lexeme, lx, mark, write_called, write_form, write, PropKind, Decls, algebraic_decl, algebraic_list, clone_decl, constant_decl, definition, function_decl, inductive_decl, inductive_list, link_words, more_decls, no_decls, other_members, param_row, predicate_decl, prop_decl, prop_word, renamed, scope_decl, substitution, type_decl, type_equation, use_decl, variable_row, write_decls, write_path}
 use Rattle.tokens_why.specs.declared.terminal.Terminal.TheVariants as t
 use Rattle.grammar.specs.declared.symbols.Symbol.TheVariants as s
-use Rattle.syntax_why.specs.Lexeme.{Lexeme, lx, mark}
-use Rattle.syntax_why.specs.Forms.{write_called, write_form}
-use Rattle.syntax_why.specs.Trees.{write}
-use Rattle.syntax_why.specs.declared.declarations.PropKind.{PropKind}
 use Rattle.syntax_why.specs.declared.declarations.PropKind.TheVariants as pk
-use Rattle.syntax_why.specs.Declarations.{Decls, algebraic_decl, algebraic_list, clone_decl, constant_decl, definition, function_decl, inductive_decl, inductive_list, link_words, more_decls, no_decls, other_members, param_row, predicate_decl, prop_decl, prop_word, renamed, scope_decl, substitution, type_decl, type_equation, use_decl, variable_row, write_decls, write_path}
 use Rattle.reading.proofs.Reading.{Stops}
 use Rattle.reading.proofs.Operators.{Follow}
 

@@ -1,19 +1,9 @@
 -- The rows of the machine with values are those of the grammar.
-use Rattle.std.proofs.Common.{◌≡◌, ℕ, Bool, true, false, cond, List, [], ◌∷◌, ◌++◌, map, refl, ap, nat_le}
-use Rattle.tokens_why.specs.declared.terminal.Terminal.{Terminal}
+use Rattle.reading.proofs.Common.{◌≡◌, ℕ, Bool, true, false, cond, List, [], ◌∷◌, ◌++◌, map, refl, ap, nat_le, Terminal, Symbol, operators, prec, right, run, ends, Lexeme, attach, extend, expr_own, link_row, prim_rows, tail_rows, takes_op, read}
 use Rattle.tokens_why.specs.declared.terminal.Terminal.TheVariants as t
-use Rattle.grammar.specs.declared.symbols.Symbol.{Symbol}
 use Rattle.grammar.specs.declared.symbols.Symbol.TheVariants as s
-use Rattle.grammar.specs.Alphabet.{operators}
-use Rattle.tokens_why.specs.Operators.{prec, right}
 use Rattle.grammar.specs.Table as table
 use Rattle.grammar.specs.Table.{line}
-use Rattle.grammar.specs.Machine.{run, ends}
-use Rattle.syntax_why.specs.Lexeme.{Lexeme}
-use Rattle.reading.specs.Parts.{attach}
-use Rattle.reading.specs.Row.{extend}
-use Rattle.reading.specs.TermRows.{expr_own, link_row, prim_rows, tail_rows, takes_op}
-use Rattle.reading.specs.Values.{read}
 use Rattle.reading.proofs.Erasure.{Erases, erased, has, lines_of}
 
 expr_lines : (m : ℕ) (b : Bool) → lines_of (expr_own m b ++ extend (s.Expr m) s.Prim (s.Tail m 9 ∷ []) (λ v vs. attach v vs.0) prim_rows) ≡ cond b (line t.NotWord (s.Expr 3 ∷ s.Tail m 3 ∷ []) ∷ []) [] ++ ((line t.Minus (s.Expr 8 ∷ s.Tail m 8 ∷ []) ∷ line t.PrefixOperator (s.Expr 8 ∷ s.Tail m 8 ∷ []) ∷ []) ++ (table.open_rows ++ table.extend table.prim_rows (s.Tail m 9 ∷ [])))

@@ -1,16 +1,8 @@
 -- Without its values the machine is the machine of the grammar.
-use Rattle.std.proofs.Common.{◌≡◌, ℕ, ◌+◌, Bool, true, false, ◌&&◌, cond, List, [], ◌∷◌, map, Option, Some, None, option_map, refl, sym, ap, ◌∙◌}
-use Rattle.tokens_why.specs.declared.terminal.Terminal.{Terminal}
-use Rattle.grammar.specs.declared.symbols.Symbol.{Symbol}
+use Rattle.reading.proofs.Common.{◌≡◌, ℕ, ◌+◌, Bool, true, false, ◌&&◌, cond, List, [], ◌∷◌, map, Option, Some, None, option_map, refl, sym, ap, ◌∙◌, Terminal, Symbol, same, is_tail, is_seal, sealed, on_top, step, may_end, next, run, ends, no_false, Lexeme, Row, Val, Vals, rows, at_end, blank, by_row, find, over, read, with_blank}
 use Rattle.grammar.specs.declared.symbols.Symbol.TheVariants as s
-use Rattle.grammar.specs.Alphabet.{same}
 use Rattle.grammar.specs.Table as table
 use Rattle.grammar.specs.Machine as machine
-use Rattle.grammar.specs.Machine.{is_tail, is_seal, sealed, on_top, step, may_end, next, run, ends}
-use Rattle.grammar.proofs.Laws.{no_false}
-use Rattle.syntax_why.specs.Lexeme.{Lexeme}
-use Rattle.reading.specs.Row.{Row, Val, Vals}
-use Rattle.reading.specs.Values.{at_end, blank, by_row, find, over, read, rows, with_blank}
 
 abbrev pub has : {A : Type 0} → Option A → Bool
 has None = false

@@ -1,14 +1,7 @@
 -- What is read as a type or a pattern is right.
-use Rattle.std.proofs.Common.{◌≡◌, ℕ, false, List, [], ◌∷◌, ◌++◌, Option, Some, None, refl, sym, ap, ◌∙◌, append_assoc, append-nil}
+use Rattle.reading.proofs.Common.{◌≡◌, ℕ, false, List, [], ◌∷◌, ◌++◌, Option, Some, None, refl, sym, ap, ◌∙◌, append_assoc, append-nil, Symbol, Name, Lexeme, Word, at, lx, mark, name, Form, IsForm, IsPlaced, IsUnnamed, composed, enclosed, form_row, form_tail, more_forms, past, patterns, scoped, variable, wild, write_called, write_form, Dotted, named_at, scope_on, upper_called, Vals, rows}
 use Rattle.tokens_why.specs.declared.terminal.Terminal.TheVariants as t
-use Rattle.grammar.specs.declared.symbols.Symbol.{Symbol}
 use Rattle.grammar.specs.declared.symbols.Symbol.TheVariants as s
-use Rattle.syntax_why.specs.declared.names.Name.{Name}
-use Rattle.syntax_why.specs.Lexeme.{Lexeme, Word, at, lx, mark, name}
-use Rattle.syntax_why.specs.Forms.{Form, IsForm, IsPlaced, IsUnnamed, composed, enclosed, form_row, form_tail, more_forms, past, patterns, scoped, variable, wild, write_called, write_form}
-use Rattle.reading.specs.Parts.{Dotted, named_at, scope_on, upper_called}
-use Rattle.reading.specs.Row.{Vals}
-use Rattle.reading.specs.Values.{rows}
 use Rattle.reading.proofs.Reading.{past-append}
 use Rattle.reading.proofs.FormsRead.{regroup}
 use Rattle.reading.proofs.Good.{◌▸◌, AllRows, Good, NamedAt, as_part, dots, extend_ok}

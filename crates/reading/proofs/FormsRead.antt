@@ -1,14 +1,7 @@
 -- The tokens of a type or a pattern are read as it.
-use Rattle.std.proofs.Common.{◌≡◌, ℕ, ◌+◌, List, [], ◌∷◌, ◌++◌, Option, Some, None, refl, sym, append_assoc, append-nil}
+use Rattle.reading.proofs.Common.{◌≡◌, ℕ, ◌+◌, List, [], ◌∷◌, ◌++◌, Option, Some, None, refl, sym, append_assoc, append-nil, Symbol, Name, Lexeme, Word, at, lx, mark, AreForms, AreParts, Form, Forms, IsForm, IsHead, IsPart, IsPlaced, IsUnnamed, Own, PlacedList, PlacedRow, aliased, called, composed, enclosed, form_list, form_row, form_tail, infix_op, lower, more_forms, no_forms, past, patterns, prefix_op, scoped, star, type_variable, types, upper, variable, wild, write_called, write_form, write_own, named_at, Vals, row, read}
 use Rattle.tokens_why.specs.declared.terminal.Terminal.TheVariants as t
-use Rattle.grammar.specs.declared.symbols.Symbol.{Symbol}
 use Rattle.grammar.specs.declared.symbols.Symbol.TheVariants as s
-use Rattle.syntax_why.specs.declared.names.Name.{Name}
-use Rattle.syntax_why.specs.Lexeme.{Lexeme, Word, at, lx, mark}
-use Rattle.syntax_why.specs.Forms.{AreForms, AreParts, Form, Forms, IsForm, IsHead, IsPart, IsPlaced, IsUnnamed, Own, PlacedList, PlacedRow, aliased, called, composed, enclosed, form_list, form_row, form_tail, infix_op, lower, more_forms, no_forms, past, patterns, prefix_op, scoped, star, type_variable, types, upper, variable, wild, write_called, write_form, write_own}
-use Rattle.reading.specs.Parts.{named_at}
-use Rattle.reading.specs.Row.{Vals, row}
-use Rattle.reading.specs.Values.{read}
 use Rattle.reading.proofs.Reading.{Extends, Reads, Stops, apart_close, extended, passed, past-append}
 
 pub reads_qlid : (qs : List Word) (w : Word) (ys : List Lexeme) (i : ℕ) (k : List Symbol) (vs : Vals k) → Reads k ys (past i (scoped qs ++ (lx t.Lident w ∷ []))) vs → Reads (s.Qlid ∷ k) ((scoped qs ++ (lx t.Lident w ∷ [])) ++ ys) i (record { scopes = qs; last = w }, vs)

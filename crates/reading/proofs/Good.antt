@@ -1,21 +1,7 @@
 -- Values that are right, with their places and tokens.
-use Rattle.std.proofs.Common.{◌≡◌, ℕ, ◌+◌, Bool, true, false, ◌&&◌, List, [], ◌∷◌, ◌++◌, Option, Some, None, ◌≤◌}
-use Rattle.std.specs.Bool.{⊤}
-use Rattle.tokens_why.specs.declared.terminal.Terminal.{Terminal}
+use Rattle.reading.proofs.Common.{◌≡◌, ℕ, ◌+◌, Bool, true, false, ◌&&◌, List, [], ◌∷◌, ◌++◌, Option, Some, None, ◌≤◌, ⊤, Terminal, Symbol, is_tail, Name, Lexeme, Word, lx, mark, AreForms, AreParts, IsForm, IsPart, IsPlaced, PlacedList, PlacedRow, form_list, form_row, form_tail, past, patterns, scoped, types, write_called, write_form, write_own, is_infix, is_operator, prec, need, right, AreAtoms, AreBranches, AreLevel, HasSome, IsAtom, IsLevel, IsOwn, IsPlacedTree, MayBeMarked, Op, PlacedBranches, PlacedCommas, PlacedTrees, ends_open, none, tight, write, write_op, write_others, write_row, write_tail, definition, element_tail, other_members, param_row, renamed, substitution, write_decls, write_element, write_file, write_path, AreLevelDecls, AreMembers, AreParams, IsDefinition, IsElement, IsLevelFile, IsNewProp, IsNewSymbol, IsSymbol, PlacedDecls, PlacedDefinition, PlacedElement, PlacedFile, PlacedMembers, PlacedParams, PlacedRenamed, Chain, Closing, Dotted, Minus, Paren, Scoped, cast_to, closed, holds, link, named, named_by, nothing, operand, stop, Row, Val, Vals, back, extend, front, blank}
 use Rattle.tokens_why.specs.declared.terminal.Terminal.TheVariants as t
-use Rattle.grammar.specs.declared.symbols.Symbol.{Symbol}
 use Rattle.grammar.specs.declared.symbols.Symbol.TheVariants as s
-use Rattle.grammar.specs.Machine.{is_tail}
-use Rattle.syntax_why.specs.declared.names.Name.{Name}
-use Rattle.syntax_why.specs.Lexeme.{Lexeme, Word, lx, mark}
-use Rattle.syntax_why.specs.Forms.{AreForms, AreParts, IsForm, IsPart, IsPlaced, PlacedList, PlacedRow, form_list, form_row, form_tail, past, patterns, scoped, types, write_called, write_form, write_own}
-use Rattle.tokens_why.specs.Operators.{is_infix, is_operator, prec, need, right}
-use Rattle.syntax_why.specs.Trees.{AreAtoms, AreBranches, AreLevel, HasSome, IsAtom, IsLevel, IsOwn, IsPlacedTree, MayBeMarked, Op, PlacedBranches, PlacedCommas, PlacedTrees, ends_open, none, tight, write, write_op, write_others, write_row, write_tail}
-use Rattle.syntax_why.specs.Declarations.{definition, element_tail, other_members, param_row, renamed, substitution, write_decls, write_element, write_file, write_path}
-use Rattle.syntax_why.specs.DeclarationRules.{AreLevelDecls, AreMembers, AreParams, IsDefinition, IsElement, IsLevelFile, IsNewProp, IsNewSymbol, IsSymbol, PlacedDecls, PlacedDefinition, PlacedElement, PlacedFile, PlacedMembers, PlacedParams, PlacedRenamed}
-use Rattle.reading.specs.Parts.{Chain, Closing, Dotted, Minus, Paren, Scoped, cast_to, closed, holds, link, named, named_by, nothing, operand, stop}
-use Rattle.reading.specs.Row.{Row, Val, Vals, back, extend, front}
-use Rattle.reading.specs.Values.{blank}
 use Rattle.reading.proofs.TermsRight.{IsArm, IsBound, IsBranch, IsCases, IsLet, IsNames, IsTerms, write_arm, write_bound, write_branch, write_cases, write_let, write_names, write_terms_part}
 use Rattle.reading.proofs.DeclsRight.{IsAlg, IsAxioms, IsBody, IsClausePart, IsClauses, IsCloned, IsCon, IsFields, IsMemberPart, IsPname, IsPparen, IsPropAt, IsQids, IsSubst, IsTvars, IsType, IsUpper, IsUsed, IsVars, value_open, write_alg, write_axioms, write_body, write_clause_part, write_clauses, write_cloned, write_con, write_fields, write_member_part, write_pname, write_pparen, write_qids, write_tvars, write_type, write_upper, write_used, write_vars}
 

@@ -1,10 +1,7 @@
 -- How the tokens of branches, `let` and quantifiers are grouped.
-use Rattle.std.proofs.Common.{◌≡◌, ℕ, ◌+◌, List, [], ◌∷◌, ◌++◌, refl, ap, ◌∙◌, append_assoc}
+use Rattle.reading.proofs.Common.{◌≡◌, ℕ, ◌+◌, List, [], ◌∷◌, ◌++◌, refl, ap, ◌∙◌, append_assoc, Lexeme, mark, past, Trigger, triggered, untriggered, write_trigger}
 use Rattle.tokens_why.specs.declared.terminal.Terminal.TheVariants as t
 use Rattle.grammar.specs.declared.symbols.Symbol.TheVariants as s
-use Rattle.syntax_why.specs.Lexeme.{Lexeme, mark}
-use Rattle.syntax_why.specs.Forms.{past}
-use Rattle.syntax_why.specs.Trees.{Trigger, triggered, untriggered, write_trigger}
 use Rattle.reading.proofs.Reading.{Stops, past-append}
 
 pub match_tokens : (a b c d ys : List Lexeme) → ((a ++ b) ++ (mark t.WithWord ∷ (c ++ (d ++ (mark t.EndWord ∷ []))))) ++ ys ≡ a ++ (b ++ (mark t.WithWord ∷ (c ++ ((d ++ (mark t.EndWord ∷ [])) ++ ys))))

@@ -1,15 +1,9 @@
 -- What follows from tokens that are read, for any rule: the row of the first token, a rule that reads what another reads,
 -- and a rule that may be empty.
-use Rattle.std.proofs.Common.{◌≡◌, ℕ, ◌+◌, ◌<◌, ◌≤◌, ◌⊎◌, inl, inr, Bool, true, false, List, [], ◌∷◌, ◌++◌, length, Option, Some, None, option_map, refl, sym, ap, ◌∙◌, subst, arith, add-one, drop-cons}
+use Rattle.reading.proofs.Common.{◌≡◌, ℕ, ◌+◌, ◌<◌, ◌≤◌, ◌⊎◌, inl, inr, Bool, true, false, List, [], ◌∷◌, ◌++◌, length, Option, Some, None, option_map, refl, sym, ap, ◌∙◌, subst, arith, add-one, drop-cons, Terminal, Symbol, is_seal, is_tail, Lexeme, Row, Val, Vals, back, extend, front, row, then_row, rows, at_end, blank, by_row, find, over, read, with_blank}
 use Rattle.std.proofs.Math.ListN.{drop_of_length-le}
 use Rattle.std.proofs.lemmas.List.{get_or_past}
-use Rattle.tokens_why.specs.declared.terminal.Terminal.{Terminal}
 use Rattle.tokens_why.specs.declared.terminal.Terminal.TheVariants as t
-use Rattle.grammar.specs.declared.symbols.Symbol.{Symbol}
-use Rattle.grammar.specs.Machine.{is_seal, is_tail}
-use Rattle.syntax_why.specs.Lexeme.{Lexeme}
-use Rattle.reading.specs.Row.{Row, Val, Vals, back, extend, front, row, then_row}
-use Rattle.reading.specs.Values.{at_end, blank, by_row, find, over, read, rows, with_blank}
 use Rattle.reading.specs.Reads.{from, nowhere, terminal_at, token_at}
 use Rattle.reading.proofs.Reading.{find_apart, find_extend, unmapped}
 

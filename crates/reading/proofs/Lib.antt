@@ -1,3 +1,4 @@
+pub mod Common
 pub mod Reading
 pub mod FormsRead
 pub mod Operators
@@ -29,4 +30,3 @@ pub mod Samples
 pub mod PlacedForms
 pub mod PlacedTerms
 pub mod PlacedDecls
-pub mod Examples

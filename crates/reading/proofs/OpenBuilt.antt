@@ -1,15 +1,7 @@
 -- What is read as an open form, as branches or as a quantifier's names is right.
-use Rattle.std.proofs.Common.{◌≡◌, ℕ, ◌+◌, Bool, true, false, List, [], ◌∷◌, ◌++◌, None, refl, sym, ap, ◌∙◌, subst, append_assoc, arith}
+use Rattle.reading.proofs.Common.{◌≡◌, ℕ, ◌+◌, Bool, true, false, List, [], ◌∷◌, ◌++◌, None, refl, sym, ap, ◌∙◌, subst, append_assoc, arith, Symbol, Lexeme, Word, at, lx, mark, Form, IsForm, IsPlaced, form_tail, more_forms, past, patterns, write_form, AreBranches, IsLevel, IsPlacedTree, PlacedBranches, Tree, alternative_tail, binder_tail, binding, choice, ends_open, name_row, quantified, quantifier, separator, terms_tail, tight, type_part, write, write_branches, write_others, write_tail, write_trigger, ArmPart, CasesPart, binder_of, branch_of, next_term, Val, Vals, row, open_rows, rows}
 use Rattle.tokens_why.specs.declared.terminal.Terminal.TheVariants as t
-use Rattle.grammar.specs.declared.symbols.Symbol.{Symbol}
 use Rattle.grammar.specs.declared.symbols.Symbol.TheVariants as s
-use Rattle.syntax_why.specs.Lexeme.{Lexeme, Word, at, lx, mark}
-use Rattle.syntax_why.specs.Forms.{Form, IsForm, IsPlaced, form_tail, more_forms, past, patterns, write_form}
-use Rattle.syntax_why.specs.Trees.{AreBranches, IsLevel, IsPlacedTree, PlacedBranches, Tree, alternative_tail, binder_tail, binding, choice, ends_open, name_row, quantified, quantifier, separator, terms_tail, tight, type_part, write, write_branches, write_others, write_tail, write_trigger}
-use Rattle.reading.specs.Parts.{ArmPart, CasesPart, binder_of, branch_of, next_term}
-use Rattle.reading.specs.Row.{Val, Vals, row}
-use Rattle.reading.specs.TermRows.{open_rows}
-use Rattle.reading.specs.Values.{rows}
 use Rattle.reading.proofs.Reading.{past-append}
 use Rattle.reading.proofs.FormsRead.{regroup}
 use Rattle.reading.proofs.Operands.{both_right, past_op}

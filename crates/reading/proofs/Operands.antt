@@ -1,21 +1,7 @@
 -- Operands: where they end, and what stands behind them.
-use Rattle.std.proofs.Common.{◌≡◌, ℕ, ◌+◌, ◌≤◌, Bool, true, false, nat_le, cond, List, [], ◌∷◌, ◌++◌, Some, None, refl, sym, ap, ◌∙◌, append_assoc, arith}
-use Rattle.tokens_why.specs.declared.terminal.Terminal.{Terminal}
+use Rattle.reading.proofs.Common.{◌≡◌, ℕ, ◌+◌, ◌≤◌, Bool, true, false, nat_le, cond, List, [], ◌∷◌, ◌++◌, Some, None, refl, sym, ap, ◌∙◌, append_assoc, arith, Terminal, Symbol, number, prec, need, right, is_infix, is_tail, same_refl, no_false, At, Lexeme, Word, mark, name, Form, IsForm, IsPlaced, Own, infix_op, lower, past, prefix_op, scoped, star, types, upper, write_form, write_own, AreAtoms, Branches, IsLevel, IsPlacedTree, Op, Tree, Trees, apply, binary, binding, branch, cases, cast, choice, ends_open, falsity, group, literal, more, negation, no_branch, none, op, prefixed, quantified, terms_tail, tight, truth, write, write_op, write_others, write_row, write_tail, Chain, attach, cast_to, first_of, joined, stop, Vals, row, expr_own, rows, find, read}
 use Rattle.tokens_why.specs.declared.terminal.Terminal.TheVariants as t
-use Rattle.grammar.specs.declared.symbols.Symbol.{Symbol}
 use Rattle.grammar.specs.declared.symbols.Symbol.TheVariants as s
-use Rattle.grammar.specs.Alphabet.{number}
-use Rattle.tokens_why.specs.Operators.{prec, need, right, is_infix}
-use Rattle.grammar.specs.Machine.{is_tail}
-use Rattle.grammar.proofs.Laws.{same_refl, no_false}
-use Rattle.syntax_why.specs.declared.names.At.{At}
-use Rattle.syntax_why.specs.Lexeme.{Lexeme, Word, mark, name}
-use Rattle.syntax_why.specs.Forms.{Form, IsForm, IsPlaced, Own, infix_op, lower, past, prefix_op, scoped, star, types, upper, write_form, write_own}
-use Rattle.syntax_why.specs.Trees.{AreAtoms, Branches, IsLevel, IsPlacedTree, Op, Tree, Trees, apply, binary, binding, branch, cases, cast, choice, ends_open, falsity, group, literal, more, negation, no_branch, none, op, prefixed, quantified, terms_tail, tight, truth, write, write_op, write_others, write_row, write_tail}
-use Rattle.reading.specs.Parts.{Chain, attach, cast_to, first_of, joined, stop}
-use Rattle.reading.specs.Row.{Vals, row}
-use Rattle.reading.specs.TermRows.{expr_own}
-use Rattle.reading.specs.Values.{find, read, rows}
 use Rattle.reading.proofs.Reading.{Reads, Stops, extended, passed, past-append}
 use Rattle.reading.proofs.FormsRead.{reads_type}
 use Rattle.reading.proofs.Operators.{Follow, Rest, RestBy, low_zero, need_more, ops_weaker, reach, reads_by, right_more, tail_stops}

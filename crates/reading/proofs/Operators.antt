@@ -1,22 +1,8 @@
 -- How operators bind, and what may stand behind a tree.
-use Rattle.std.proofs.Common.{◌≡◌, ℕ, ◌+◌, ◌≤◌, ◌<◌, ◌⊎◌, inl, inr, Bool, true, false, ◌&&◌, nat_le, cond, List, [], ◌∷◌, Some, None, refl, sym, ap, ◌∙◌, subst, arith}
-use Rattle.std.proofs.lemmas.Bool.Decides.{nat_tests}
-use Rattle.std.specs.Bool.{⊤}
-use Rattle.tokens_why.specs.declared.terminal.Terminal.{Terminal}
+use Rattle.reading.proofs.Common.{◌≡◌, ℕ, ◌+◌, ◌≤◌, ◌<◌, ◌⊎◌, inl, inr, Bool, true, false, ◌&&◌, nat_le, cond, List, [], ◌∷◌, Some, None, refl, sym, ap, ◌∙◌, subst, arith, nat_tests, ⊤, Terminal, Symbol, number, same, operators, prec, need, right, is_infix, same_true, same_refl, no_false, Lexeme, Tree, ends_open, tight, Chain, stop, Row, Vals, link_row, tail_rows, takes_op, rows, find, read, all_infix, among}
 use Rattle.tokens_why.specs.declared.terminal.Terminal.TheVariants as t
-use Rattle.grammar.specs.declared.symbols.Symbol.{Symbol}
 use Rattle.grammar.specs.declared.symbols.Symbol.TheVariants as s
-use Rattle.grammar.specs.Alphabet.{number, same, operators}
-use Rattle.tokens_why.specs.Operators.{prec, need, right, is_infix}
-use Rattle.grammar.proofs.Laws.{same_true, same_refl, no_false}
-use Rattle.syntax_why.specs.Lexeme.{Lexeme}
-use Rattle.syntax_why.specs.Trees.{Tree, ends_open, tight}
-use Rattle.reading.specs.Parts.{Chain, stop}
-use Rattle.reading.specs.Row.{Row, Vals}
-use Rattle.reading.specs.TermRows.{link_row, tail_rows, takes_op}
-use Rattle.reading.specs.Values.{find, read, rows}
 use Rattle.reading.proofs.Reading.{Reads, Stops, passed}
-use Rattle.grammar.proofs.Tails.{all_infix, among}
 
 pub le_true : (a b : ℕ) → a ≤ b → nat_le a b ≡ true
 le_true a b h = grind (arith, nat_tests)

@@ -1,21 +1,10 @@
 -- What is read as operators and their operands is right.
-use Rattle.std.proofs.Common.{◌≡◌, ℕ, ◌+◌, Bool, true, false, List, ◌∷◌, ◌++◌, Option, Some, refl, sym, ap, ◌∙◌, subst, append_assoc, append-nil, ◌≤◌, nat_le, ◌||◌, arith}
-use Rattle.tokens_why.specs.declared.terminal.Terminal.{Terminal}
+use Rattle.reading.proofs.Common.{◌≡◌, ℕ, ◌+◌, Bool, true, false, List, ◌∷◌, ◌++◌, Option, Some, refl, sym, ap, ◌∙◌, subst, append_assoc, append-nil, ◌≤◌, nat_le, ◌||◌, arith, Terminal, Symbol, and_left, and_right, Lexeme, Word, at, lx, past, is_infix, is_prefix, prec, need, right, IsLevel, IsPlacedTree, MayBeMarked, Op, Tree, ends_open, negation, op, prefixed, tight, write, write_op, Chain, attach, joined, link, stop, Vals, link_row, not_rows, prefix_row, takes_op, nat_tests}
 use Rattle.tokens_why.specs.declared.terminal.Terminal.TheVariants as t
-use Rattle.grammar.specs.declared.symbols.Symbol.{Symbol}
 use Rattle.grammar.specs.declared.symbols.Symbol.TheVariants as s
-use Rattle.grammar.proofs.Laws.{and_left, and_right}
-use Rattle.syntax_why.specs.Lexeme.{Lexeme, Word, at, lx}
-use Rattle.syntax_why.specs.Forms.{past}
-use Rattle.tokens_why.specs.Operators.{is_infix, is_prefix, prec, need, right}
-use Rattle.syntax_why.specs.Trees.{IsLevel, IsPlacedTree, MayBeMarked, Op, Tree, ends_open, negation, op, prefixed, tight, write, write_op}
-use Rattle.reading.specs.Parts.{Chain, attach, joined, link, stop}
-use Rattle.reading.specs.Row.{Vals}
-use Rattle.reading.specs.TermRows.{link_row, not_rows, prefix_row, takes_op}
 use Rattle.reading.proofs.Reading.{past-append}
 use Rattle.reading.proofs.Operands.{first_placed}
 use Rattle.reading.proofs.Good.{AllRows, ChainBehind, Good, IsChain, IsLast, Piece, Proper, RowOk, chain_open, hushed, write_chain}
-use Rattle.std.proofs.lemmas.Bool.Decides.{nat_tests}
 
 -- what stands behind a tree: its operators, or nothing where it ends in an open form
 pub record TailPart (e : Bool) (m u i : ℕ) (c : Chain) (xs : List Lexeme) (next : Bool → ℕ → List Lexeme → Type 0) : Type 0 where

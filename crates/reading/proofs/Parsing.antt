@@ -1,24 +1,12 @@
 -- What the public calls of the readers need: which tokens begin a tree, where they go wrong, where the longest tree ends, that
 -- it is the only one, and what completes it; for files and for expressions at once.
-use Rattle.std.proofs.Common.{zero, suc, ◌≡◌, ℕ, ◌+◌, ◌≤◌, Bool, true, false, ◌&&◌, List, [], ◌∷◌, ◌++◌, Option, Some, None, map, take, length, refl, sym, ap, ◌∙◌, subst, append-nil}
-use Rattle.tokens_why.specs.declared.terminal.Terminal.{Terminal}
+use Rattle.reading.proofs.Common.{zero, suc, ◌≡◌, ℕ, ◌+◌, ◌≤◌, Bool, true, false, ◌&&◌, List, [], ◌∷◌, ◌++◌, Option, Some, None, map, take, length, refl, sym, ap, ◌∙◌, subst, append-nil, Terminal, kind_by, terminal_of, Symbol, run, accepts, complete, is_safe, is_tail, is_taken, no_false, begun_completes, accepted_begins, Lexeme, Word, rest, said, terminals, IsLevel, IsPlacedTree, write, write_file, IsLevelFile, PlacedFile, Val, read, AllStand, Begins, IsLeastFault, IsLongest, IsNone, IsOnly}
 use Rattle.tokens_why.specs.declared.terminal.Terminal.TheVariants as t
 use Rattle.tokens_why.specs.declared.token.Token.{Token}
-use Rattle.tokens_why.specs.Terminals.{kind_by, terminal_of}
 use Rattle.tokens_why.proofs.KindLemmas.{terminal_of-kind_by}
 use Rattle.tokens_why.specs.Tokens.{text_of}
-use Rattle.grammar.specs.declared.symbols.Symbol.{Symbol}
 use Rattle.grammar.specs.declared.symbols.Symbol.TheVariants as s
 use Rattle.grammar.specs.Ends as ends
-use Rattle.grammar.specs.Machine.{run, accepts, complete, is_safe, is_tail, is_taken}
-use Rattle.grammar.proofs.Laws.{no_false, begun_completes, accepted_begins}
-use Rattle.syntax_why.specs.Lexeme.{Lexeme, Word, rest, said, terminals}
-use Rattle.syntax_why.specs.Trees.{IsLevel, IsPlacedTree, write}
-use Rattle.syntax_why.specs.Declarations.{write_file}
-use Rattle.syntax_why.specs.DeclarationRules.{IsLevelFile, PlacedFile}
-use Rattle.reading.specs.Row.{Val}
-use Rattle.reading.specs.Values.{read}
-use Rattle.reading.specs.Sentences.{AllStand, Begins, IsLeastFault, IsLongest, IsNone, IsOnly}
 use Rattle.reading.proofs.TreesRead.{reads_alone}
 use Rattle.reading.proofs.Good.{AllProper, Good, Is, Piece, Proper, writes}
 use Rattle.reading.proofs.ValuesBuilt.{built}

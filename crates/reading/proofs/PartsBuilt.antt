@@ -1,19 +1,7 @@
 -- What is read as part of a declaration is right.
-use Rattle.std.proofs.Common.{◌≡◌, ℕ, ◌+◌, Bool, true, false, List, [], ◌∷◌, ◌++◌, Option, Some, None, refl, sym, ap, ◌∙◌, subst, append_assoc}
+use Rattle.reading.proofs.Common.{◌≡◌, ℕ, ◌+◌, Bool, true, false, List, [], ◌∷◌, ◌++◌, Option, Some, None, refl, sym, ap, ◌∙◌, subst, append_assoc, Name, Lexeme, Word, lx, mark, name, Called, form_list, form_row, form_tail, more_forms, no_forms, past, scoped, write_called, write_form, IsOwn, Op, bar_before, type_part, write, algebraic_tail, constructor_list, constructor_tail, other_members, param_row, variable_row, write_algebraic, write_member, write_param, AreAlgebraic, IsSymbol, IsTyped, PlacedAlgebraics, PlacedMembers, PlacedParams, PlacedTyped, own_op, AlgPart, FieldsPart, NamePart, ParamPart, UpperPart, behind_name, behind_paren, fields_of, name_names, name_types, new_algebraic, new_constructor, new_member, param, param_names, param_types, prop_called, scope_of, upper_type, extend, tmore_rows, pname_args, rows}
 use Rattle.tokens_why.specs.declared.terminal.Terminal.TheVariants as t
 use Rattle.grammar.specs.declared.symbols.Symbol.TheVariants as s
-use Rattle.syntax_why.specs.declared.names.Name.{Name}
-use Rattle.syntax_why.specs.Lexeme.{Lexeme, Word, lx, mark, name}
-use Rattle.syntax_why.specs.Forms.{Called, form_list, form_row, form_tail, more_forms, no_forms, past, scoped, write_called, write_form}
-use Rattle.syntax_why.specs.Trees.{IsOwn, Op, bar_before, type_part, write}
-use Rattle.syntax_why.specs.Declarations.{algebraic_tail, constructor_list, constructor_tail, other_members, param_row, variable_row, write_algebraic, write_member, write_param}
-use Rattle.syntax_why.specs.DeclarationRules.{AreAlgebraic, IsSymbol, IsTyped, PlacedAlgebraics, PlacedMembers, PlacedParams, PlacedTyped}
-use Rattle.reading.specs.Parts.{own_op}
-use Rattle.reading.specs.DeclParts.{AlgPart, FieldsPart, NamePart, ParamPart, UpperPart, behind_name, behind_paren, fields_of, name_names, name_types, new_algebraic, new_constructor, new_member, param, param_names, param_types, prop_called, scope_of, upper_type}
-use Rattle.reading.specs.Row.{extend}
-use Rattle.reading.specs.TermRows.{tmore_rows}
-use Rattle.reading.specs.DeclRows.{pname_args}
-use Rattle.reading.specs.Values.{rows}
 use Rattle.reading.proofs.Reading.{past-append}
 use Rattle.reading.proofs.DeclsRight.{IsAlg, IsConRest, IsFields, IsPname, IsPparen, IsPropAt, IsQids, IsType, IsUpper, write_alg, write_con, write_fields, write_member_part, write_pname, write_pparen, write_qids, write_type, write_upper}
 use Rattle.reading.proofs.Good.{◌▸◌, AllRows, Good, extend_ok}

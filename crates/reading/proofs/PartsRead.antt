@@ -1,22 +1,7 @@
 -- The tokens of names, parameters, constructors and links are read as them.
-use Rattle.std.proofs.Common.{◌≡◌, ℕ, ◌+◌, Bool, true, false, cond, List, [], ◌∷◌, ◌++◌, Option, Some, None, option_map, refl, sym, ap, subst, append_assoc, append-nil}
-use Rattle.grammar.specs.Alphabet.{same}
-use Rattle.grammar.proofs.Laws.{same_true}
-use Rattle.tokens_why.specs.declared.terminal.Terminal.{Terminal}
+use Rattle.reading.proofs.Common.{◌≡◌, ℕ, ◌+◌, Bool, true, false, cond, List, [], ◌∷◌, ◌++◌, Option, Some, None, option_map, refl, sym, ap, subst, append_assoc, append-nil, same, same_true, Terminal, Symbol, Name, Lexeme, Word, at, lx, mark, name, AreParts, Called, Form, Forms, IsForm, IsHead, IsPlaced, Own, PlacedRow, aliased, called, composed, enclosed, form_list, form_row, infix_op, lower, more_forms, no_forms, past, prefix_op, scoped, star, type_variable, types, upper, variable, wild, write_called, write_form, write_own, HasSome, PlacedNames, bar_before, name_row, Algebraic, Constructor, Param, algebraic_tail, constructor_list, constructor_tail, param_row, path_from, renamed, typed_names, variable_row, write_param, AreAlgebraic, AreConstructors, AreParams, IsNewProp, IsNewSymbol, IsProp, IsSymbol, IsTyped, PlacedAlgebraics, PlacedConstructors, PlacedParams, PlacedRenamed, PlacedTyped, ConPart, NamePart, behind_paren, lone, name_names, name_types, param_types, Row, Vals, row, opname_row, fields_own, pparen_own, qop_own, rows, find, read, with_blank}
 use Rattle.tokens_why.specs.declared.terminal.Terminal.TheVariants as t
-use Rattle.grammar.specs.declared.symbols.Symbol.{Symbol}
 use Rattle.grammar.specs.declared.symbols.Symbol.TheVariants as s
-use Rattle.syntax_why.specs.declared.names.Name.{Name}
-use Rattle.syntax_why.specs.Lexeme.{Lexeme, Word, at, lx, mark, name}
-use Rattle.syntax_why.specs.Forms.{AreParts, Called, Form, Forms, IsForm, IsHead, IsPlaced, Own, PlacedRow, aliased, called, composed, enclosed, form_list, form_row, infix_op, lower, more_forms, no_forms, past, prefix_op, scoped, star, type_variable, types, upper, variable, wild, write_called, write_form, write_own}
-use Rattle.syntax_why.specs.Trees.{HasSome, PlacedNames, bar_before, name_row}
-use Rattle.syntax_why.specs.Declarations.{Algebraic, Constructor, Param, algebraic_tail, constructor_list, constructor_tail, param_row, path_from, renamed, typed_names, variable_row, write_param}
-use Rattle.syntax_why.specs.DeclarationRules.{AreAlgebraic, AreConstructors, AreParams, IsNewProp, IsNewSymbol, IsProp, IsSymbol, IsTyped, PlacedAlgebraics, PlacedConstructors, PlacedParams, PlacedRenamed, PlacedTyped}
-use Rattle.reading.specs.DeclParts.{ConPart, NamePart, behind_paren, lone, name_names, name_types, param_types}
-use Rattle.reading.specs.Row.{Row, Vals, row}
-use Rattle.reading.specs.TermRows.{opname_row}
-use Rattle.reading.specs.DeclRows.{fields_own, pparen_own, qop_own}
-use Rattle.reading.specs.Values.{find, read, rows, with_blank}
 use Rattle.reading.proofs.Reading.{Extends, Reads, Stops, extended, extended_at, passed, past-append, unmapped}
 use Rattle.reading.proofs.FormsRead.{reads_atype, reads_qlid, reads_tuple, reads_type}
 use Rattle.reading.proofs.Operators.{reads_by}

@@ -1,15 +1,8 @@
 -- Each right file can be placed: one with the same tokens has its places.
-use Rattle.std.proofs.Common.{◌≡◌, ℕ, ◌+◌, List, [], ◌∷◌, ◌++◌, Option, Some, None, refl, ap}
+use Rattle.reading.proofs.Common.{◌≡◌, ℕ, ◌+◌, List, [], ◌∷◌, ◌++◌, Option, Some, None, refl, ap, Name, Link, Word, at, lx, mark, name, Form, Forms, past, types, write_called, write_form, HasSome, PlacedNames, IsTypePart, PlacedPart, Tree, bar_before, name_row, type_part, write, Algebraic, Clause, Constructor, Decl, Decls, Element, Inductive, Member, Param, Theory, algebraic_decl, algebraic_list, algebraic_tail, all_axioms, clause_list, clause_tail, clone_decl, constant_decl, constructor_list, constructor_tail, definition, element_tail, function_decl, heading, inductive_decl, inductive_list, inductive_tail, link_words, more_decls, no_decls, other_members, param_row, predicate_decl, prop_decl, prop_element, prop_word, renamed, scope_decl, substitution, symbol_element, typed_names, type_decl, type_element, type_equation, use_decl, variable_row, write_algebraic, write_clause, write_constructor, write_decl, write_decls, write_element, write_file, write_inductive, write_member, write_param, write_path, write_theory, AreAlgebraic, AreClauses, AreConstructors, AreElements, AreInductive, AreLevelDecls, AreMembers, AreParams, IsDefined, IsDefinition, IsElement, IsLevelDecl, IsLevelFile, IsLink, IsMember, IsTyped, PlacedAlgebraics, PlacedClauses, PlacedConstructors, PlacedDecl, PlacedDecls, PlacedDefinition, PlacedElement, PlacedElements, PlacedFile, PlacedInductives, PlacedMember, PlacedMembers, PlacedParams, PlacedRenamed, PlacedTyped}
 use Rattle.tokens_why.specs.declared.terminal.Terminal.TheVariants as t
-use Rattle.syntax_why.specs.declared.names.Name.{Name}
 use Rattle.syntax_why.specs.declared.names.Path.{Path}
-use Rattle.syntax_why.specs.declared.declarations.Link.{Link}
 use Rattle.syntax_why.specs.declared.declarations.Link.TheVariants as lk
-use Rattle.syntax_why.specs.Lexeme.{Word, at, lx, mark, name}
-use Rattle.syntax_why.specs.Forms.{Form, Forms, past, types, write_called, write_form}
-use Rattle.syntax_why.specs.Trees.{HasSome, PlacedNames, IsTypePart, PlacedPart, Tree, bar_before, name_row, type_part, write}
-use Rattle.syntax_why.specs.Declarations.{Algebraic, Clause, Constructor, Decl, Decls, Element, Inductive, Member, Param, Theory, algebraic_decl, algebraic_list, algebraic_tail, all_axioms, clause_list, clause_tail, clone_decl, constant_decl, constructor_list, constructor_tail, definition, element_tail, function_decl, heading, inductive_decl, inductive_list, inductive_tail, link_words, more_decls, no_decls, other_members, param_row, predicate_decl, prop_decl, prop_element, prop_word, renamed, scope_decl, substitution, symbol_element, typed_names, type_decl, type_element, type_equation, use_decl, variable_row, write_algebraic, write_clause, write_constructor, write_decl, write_decls, write_element, write_file, write_inductive, write_member, write_param, write_path, write_theory}
-use Rattle.syntax_why.specs.DeclarationRules.{AreAlgebraic, AreClauses, AreConstructors, AreElements, AreInductive, AreLevelDecls, AreMembers, AreParams, IsDefined, IsDefinition, IsElement, IsLevelDecl, IsLevelFile, IsLink, IsMember, IsTyped, PlacedAlgebraics, PlacedClauses, PlacedConstructors, PlacedDecl, PlacedDecls, PlacedDefinition, PlacedElement, PlacedElements, PlacedFile, PlacedInductives, PlacedMember, PlacedMembers, PlacedParams, PlacedRenamed, PlacedTyped}
 use Rattle.reading.proofs.PlacedForms.{Put, PutList, behind, form_at, join, moved, row_at}
 use Rattle.reading.proofs.PlacedTerms.{names_at, part_at, tree_at}
 

@@ -1,9 +1,6 @@
 -- Each right type and pattern can be placed: one with the same tokens has its places.
-use Rattle.std.proofs.Common.{◌≡◌, ℕ, ◌+◌, List, [], ◌∷◌, ◌++◌, refl, ap, ◌∙◌}
+use Rattle.reading.proofs.Common.{◌≡◌, ℕ, ◌+◌, List, [], ◌∷◌, ◌++◌, refl, ap, ◌∙◌, Lexeme, at, mark, name, AreForms, AreParts, Called, Form, Forms, IsForm, IsPart, IsPlaced, IsUnnamed, PlacedList, PlacedRow, Sort, aliased, called, composed, enclosed, form_list, form_row, form_tail, more_forms, no_forms, past, type_variable, variable, wild, write_called, write_form, HasForm}
 use Rattle.tokens_why.specs.declared.terminal.Terminal.TheVariants as t
-use Rattle.syntax_why.specs.Lexeme.{Lexeme, at, mark, name}
-use Rattle.syntax_why.specs.Forms.{AreForms, AreParts, Called, Form, Forms, IsForm, IsPart, IsPlaced, IsUnnamed, PlacedList, PlacedRow, Sort, aliased, called, composed, enclosed, form_list, form_row, form_tail, more_forms, no_forms, past, type_variable, variable, wild, write_called, write_form}
-use Rattle.syntax_why.specs.Trees.{HasForm}
 
 pub join : {xs ys us vs : List Lexeme} → xs ≡ ys → us ≡ vs → xs ++ us ≡ ys ++ vs
 join {ys = ys} {us = us} e f = ap (λ v. v ++ us) e ∙ ap (λ v. ys ++ v) f

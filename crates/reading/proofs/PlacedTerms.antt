@@ -1,12 +1,6 @@
 -- Each right expression can be placed: one with the same tokens has its places.
-use Rattle.std.proofs.Common.{◌≡◌, ℕ, ◌+◌, ◌≤◌, Bool, List, [], ◌∷◌, ◌++◌, Option, Some, None, refl, sym, ap, ◌∙◌, subst}
+use Rattle.reading.proofs.Common.{◌≡◌, ℕ, ◌+◌, ◌≤◌, Bool, List, [], ◌∷◌, ◌++◌, Option, Some, None, refl, sym, ap, ◌∙◌, subst, need, right, Name, At, at, lx, mark, name, Form, Forms, form_list, past, patterns, types, write_called, AreAlternatives, AreAtoms, AreBinders, AreBranches, AreLevel, AreTerms, Binder, Branches, HasBranch, HasSome, HasTree, IsAtom, IsLevel, IsPlacedTree, IsTrigger, IsTypePart, PlacedAlternatives, PlacedBinder, PlacedBinders, PlacedBranches, PlacedCommas, PlacedNames, PlacedPart, PlacedTrees, PlacedTrigger, Tree, Trees, Trigger, alternative_list, alternative_tail, apply, bar_before, binary, binder_list, binder_tail, binding, binds, branch, cases, cast, choice, ends_open, falsity, group, literal, more, name_row, negation, no_branch, none, op, prefixed, quantified, quantifier, separator, terms_tail, tight, triggered, truth, type_part, untriggered, write, write_binder, write_branches, write_list, write_op, write_others, write_row, write_tail, write_trigger}
 use Rattle.tokens_why.specs.declared.terminal.Terminal.TheVariants as t
-use Rattle.tokens_why.specs.Operators.{need, right}
-use Rattle.syntax_why.specs.declared.names.Name.{Name}
-use Rattle.syntax_why.specs.declared.names.At.{At}
-use Rattle.syntax_why.specs.Lexeme.{at, lx, mark, name}
-use Rattle.syntax_why.specs.Forms.{Form, Forms, form_list, past, patterns, types, write_called}
-use Rattle.syntax_why.specs.Trees.{AreAlternatives, AreAtoms, AreBinders, AreBranches, AreLevel, AreTerms, Binder, Branches, HasBranch, HasSome, HasTree, IsAtom, IsLevel, IsPlacedTree, IsTrigger, IsTypePart, PlacedAlternatives, PlacedBinder, PlacedBinders, PlacedBranches, PlacedCommas, PlacedNames, PlacedPart, PlacedTrees, PlacedTrigger, Tree, Trees, Trigger, alternative_list, alternative_tail, apply, bar_before, binary, binder_list, binder_tail, binding, binds, branch, cases, cast, choice, ends_open, falsity, group, literal, more, name_row, negation, no_branch, none, op, prefixed, quantified, quantifier, separator, terms_tail, tight, triggered, truth, type_part, untriggered, write, write_binder, write_branches, write_list, write_op, write_others, write_row, write_tail, write_trigger}
 use Rattle.reading.proofs.PlacedForms.{Put, PutList, behind, form_at, join, list_at, moved}
 
 pub names_at : (i : ℕ) (ns : List Name) → PutList (λ v. Unit {0}) (PlacedNames i) HasSome name_row name_row ns

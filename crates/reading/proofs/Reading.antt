@@ -1,16 +1,6 @@
 -- What the machine reads, and rules that read what another reads.
-use Rattle.std.proofs.Common.{◌≡◌, ℕ, ◌+◌, Bool, true, false, cond, List, [], ◌∷◌, ◌++◌, Option, Some, None, option_map, refl, sym, ap, ◌∙◌, subst}
-use Rattle.std.specs.Bool.{⊤}
-use Rattle.tokens_why.specs.declared.terminal.Terminal.{Terminal}
+use Rattle.reading.proofs.Common.{◌≡◌, ℕ, ◌+◌, Bool, true, false, cond, List, [], ◌∷◌, ◌++◌, Option, Some, None, option_map, refl, sym, ap, ◌∙◌, subst, ⊤, Terminal, Symbol, Lexeme, past, Row, Val, Vals, back, extend, front, then_row, rows, at_end, blank, by_row, find, over, read, with_blank, same, is_seal, same_true}
 use Rattle.tokens_why.specs.declared.terminal.Terminal.TheVariants as t
-use Rattle.grammar.specs.declared.symbols.Symbol.{Symbol}
-use Rattle.syntax_why.specs.Lexeme.{Lexeme}
-use Rattle.syntax_why.specs.Forms.{past}
-use Rattle.reading.specs.Row.{Row, Val, Vals, back, extend, front, then_row}
-use Rattle.reading.specs.Values.{at_end, blank, by_row, find, over, read, rows, with_blank}
-use Rattle.grammar.specs.Alphabet.{same}
-use Rattle.grammar.specs.Machine.{is_seal}
-use Rattle.grammar.proofs.Laws.{same_true}
 
 pub past-append : (xs ys : List Lexeme) (i : ℕ) → past i (xs ++ ys) ≡ past (past i xs) ys
 past-append [] ys i = refl

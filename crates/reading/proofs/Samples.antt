@@ -1,14 +1,10 @@
 -- For each terminal a string that is a token of it.
-use Rattle.std.proofs.Common.{◌≡◌, ℕ, ◌≤◌, List, Some, refl, lit≤}
+use Rattle.reading.proofs.Common.{◌≡◌, ℕ, ◌≤◌, List, Some, refl, lit≤, Terminal, kind_by, terminal_of, Lexeme, lexeme_by, CanStand}
 use Rattle.std.specs.Prelude.{codes}
-use Rattle.tokens_why.specs.declared.terminal.Terminal.{Terminal}
 use Rattle.tokens_why.specs.declared.terminal.Terminal.TheVariants as t
 use Rattle.tokens_why.specs.declared.token.TokenKind.TheVariants as tk
 use Rattle.tokens_why.specs.Literal.{literal_value, greatest}
 use Rattle.tokens_why.specs.Strings.{kind_of}
-use Rattle.tokens_why.specs.Terminals.{kind_by, terminal_of}
-use Rattle.syntax_why.specs.Lexeme.{Lexeme, lexeme_by}
-use Rattle.reading.specs.Sentences.{CanStand}
 
 abbrev pub string : Terminal → List ℕ
 string t.Lident = codes "x"

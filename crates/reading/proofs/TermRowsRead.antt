@@ -1,18 +1,7 @@
 -- Rows of terms: names, what stands in parentheses, and prefix operators.
-use Rattle.std.proofs.Common.{◌≡◌, ℕ, ◌+◌, Bool, true, false, nat_le, List, [], ◌∷◌, ◌++◌, Some, None, refl, ap}
-use Rattle.tokens_why.specs.declared.terminal.Terminal.{Terminal}
+use Rattle.reading.proofs.Common.{◌≡◌, ℕ, ◌+◌, Bool, true, false, nat_le, List, [], ◌∷◌, ◌++◌, Some, None, refl, ap, Terminal, Symbol, no_false, Lexeme, Word, at, lx, mark, Own, called, infix_op, lower, more_forms, past, prefix_op, scoped, star, upper, write_own, is_operator, is_prefix, IsOwn, Tree, Trees, apply, binding, choice, more, negation, none, op, quantified, quantifier, Closing, attach, binder_of, holds, named, operand, Row, Vals, extend, row, aminus_own, aop_row, aparen_own, expr_own, expr_rows, hminus_own, hop_row, hparen_own, opname_row, opname_rows, prefix_row, prim_rows, rows, find, read}
 use Rattle.tokens_why.specs.declared.terminal.Terminal.TheVariants as t
-use Rattle.grammar.specs.declared.symbols.Symbol.{Symbol}
 use Rattle.grammar.specs.declared.symbols.Symbol.TheVariants as s
-use Rattle.grammar.proofs.Laws.{no_false}
-use Rattle.syntax_why.specs.Lexeme.{Lexeme, Word, at, lx, mark}
-use Rattle.syntax_why.specs.Forms.{Own, called, infix_op, lower, more_forms, past, prefix_op, scoped, star, upper, write_own}
-use Rattle.tokens_why.specs.Operators.{is_operator, is_prefix}
-use Rattle.syntax_why.specs.Trees.{IsOwn, Tree, Trees, apply, binding, choice, more, negation, none, op, quantified, quantifier}
-use Rattle.reading.specs.Parts.{Closing, attach, binder_of, holds, named, operand}
-use Rattle.reading.specs.Row.{Row, Vals, extend, row}
-use Rattle.reading.specs.TermRows.{aminus_own, aop_row, aparen_own, expr_own, expr_rows, hminus_own, hop_row, hparen_own, opname_row, opname_rows, prefix_row, prim_rows}
-use Rattle.reading.specs.Values.{find, read, rows}
 use Rattle.reading.proofs.Reading.{Extends, Reads, Stops, extended, extended_at, passed, unmapped}
 use Rattle.reading.proofs.Operators.{reads_by}
 

@@ -1,24 +1,12 @@
 -- What is read as a term is right.
-use Rattle.std.proofs.Common.{◌≡◌, ℕ, ◌+◌, Bool, true, false, cond, List, [], ◌∷◌, ◌++◌, Option, Some, None, refl, sym, ap, ◌∙◌, subst, append_assoc, append-nil, nat_le, arith}
-use Rattle.tokens_why.specs.declared.terminal.Terminal.{Terminal}
+use Rattle.reading.proofs.Common.{◌≡◌, ℕ, ◌+◌, Bool, true, false, cond, List, [], ◌∷◌, ◌++◌, Option, Some, None, refl, sym, ap, ◌∙◌, subst, append_assoc, append-nil, nat_le, arith, Terminal, Symbol, and_left, and_right, Lexeme, Word, at, lx, mark, past, write_called, write_form, write_own, is_infix, is_operator, is_prefix, AreLevel, IsAtom, IsLevel, IsOwn, IsPlacedTree, MayBeMarked, Op, PlacedCommas, PlacedTrees, Tree, Trees, ends_open, more, none, op, prefixed, tight, write, write_op, write_row, write_tail, Chain, Closing, Minus, Paren, Scoped, attach, behind_minus, cast_to, closed, holds, name_of, named, named_by, nothing, operand, own_op, paren, scope_own, Row, Vals, extend, aminus_own, aminus_row, aop_row, aparen_own, atom_rows, expr_own, expr_rows, hminus_own, hminus_row, hop_row, hparen_own, link_row, not_rows, open_rows, opname_row, prefix_row, prim_rows, tail_rows, takes_op, rows, all_infix}
 use Rattle.tokens_why.specs.declared.terminal.Terminal.TheVariants as t
-use Rattle.grammar.specs.declared.symbols.Symbol.{Symbol}
 use Rattle.grammar.specs.declared.symbols.Symbol.TheVariants as s
-use Rattle.grammar.proofs.Laws.{and_left, and_right}
-use Rattle.syntax_why.specs.Lexeme.{Lexeme, Word, at, lx, mark}
-use Rattle.syntax_why.specs.Forms.{past, write_called, write_form, write_own}
-use Rattle.tokens_why.specs.Operators.{is_infix, is_operator, is_prefix}
-use Rattle.syntax_why.specs.Trees.{AreLevel, IsAtom, IsLevel, IsOwn, IsPlacedTree, MayBeMarked, Op, PlacedCommas, PlacedTrees, Tree, Trees, ends_open, more, none, op, prefixed, tight, write, write_op, write_row, write_tail}
-use Rattle.reading.specs.Parts.{Chain, Closing, Minus, Paren, Scoped, attach, behind_minus, cast_to, closed, holds, name_of, named, named_by, nothing, operand, own_op, paren, scope_own}
-use Rattle.reading.specs.Row.{Row, Vals, extend}
-use Rattle.reading.specs.TermRows.{aminus_own, aminus_row, aop_row, aparen_own, atom_rows, expr_own, expr_rows, hminus_own, hminus_row, hop_row, hparen_own, link_row, not_rows, open_rows, opname_row, prefix_row, prim_rows, tail_rows, takes_op}
-use Rattle.reading.specs.Values.{rows}
 use Rattle.reading.proofs.Reading.{past-append}
 use Rattle.reading.proofs.FormsRead.{regroup}
 use Rattle.reading.proofs.Good.{◌▸◌, AllRows, ChainBehind, Good, HasNoArgs, HasNoneBy, IsClosing, IsMinus, IsParen, IsScoped, RowOk, extend_ok, opend, own_dots, write_chain, write_closing, write_minus, write_paren}
 use Rattle.reading.proofs.OperatorsBuilt.{TailPart, attach_good, attach_ok, le_of, link_ok, marked, not_ok, prefix_ok, tail_part}
 use Rattle.reading.proofs.OpenBuilt.{cases_past, cases_tokens, open_ok, opens_expr}
-use Rattle.grammar.proofs.Tails.{all_infix}
 
 -- rows of applications and atoms
 pub own_is : (w : Word) (d : Option Scoped) → IsScoped d → IsOwn (scope_own w d).own

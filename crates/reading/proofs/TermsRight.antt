@@ -1,10 +1,6 @@
 -- What the rules of branches, `let` and quantifiers may be read as, and the tokens of that.
-use Rattle.std.proofs.Common.{ℕ, ◌+◌, List, [], ◌∷◌, ◌++◌, Option}
+use Rattle.reading.proofs.Common.{ℕ, ◌+◌, List, [], ◌∷◌, ◌++◌, Option, Lexeme, mark, AreForms, Form, Forms, PlacedList, form_tail, past, patterns, AreAlternatives, AreBinders, AreBranches, AreLevel, AreTerms, Branches, HasBranch, IsLevel, IsPlacedTree, IsTrigger, IsTypePart, PlacedAlternatives, PlacedBinders, PlacedBranches, PlacedCommas, PlacedNames, PlacedPart, PlacedTrigger, Tree, Trigger, alternative_tail, bar_before, binder_tail, name_row, terms_tail, type_part, write, write_branches, write_others, write_tail, write_trigger, ArmPart, BinderPart, BoundPart, BranchPart, CasesPart, LetPart, TermsPart}
 use Rattle.tokens_why.specs.declared.terminal.Terminal.TheVariants as t
-use Rattle.syntax_why.specs.Lexeme.{Lexeme, mark}
-use Rattle.syntax_why.specs.Forms.{AreForms, Form, Forms, PlacedList, form_tail, past, patterns}
-use Rattle.syntax_why.specs.Trees.{AreAlternatives, AreBinders, AreBranches, AreLevel, AreTerms, Branches, HasBranch, IsLevel, IsPlacedTree, IsTrigger, IsTypePart, PlacedAlternatives, PlacedBinders, PlacedBranches, PlacedCommas, PlacedNames, PlacedPart, PlacedTrigger, Tree, Trigger, alternative_tail, bar_before, binder_tail, name_row, terms_tail, type_part, write, write_branches, write_others, write_tail, write_trigger}
-use Rattle.reading.specs.Parts.{ArmPart, BinderPart, BoundPart, BranchPart, CasesPart, LetPart, TermsPart}
 
 abbrev pub write_arm : ArmPart → List Lexeme
 write_arm a = form_tail a.patterns ++ (alternative_tail a.alternatives ++ (mark t.Arrow ∷ (write a.body ++ (write_others a.others ++ (mark t.EndWord ∷ [])))))

@@ -1,17 +1,7 @@
 -- The tokens of a term are read as it.
-use Rattle.std.proofs.Common.{◌≡◌, ℕ, ◌+◌, ◌≤◌, Bool, true, false, nat_le, cond, List, [], ◌∷◌, ◌++◌, Some, refl, sym, ap, ◌∙◌, subst, append_assoc, append-nil, arith}
+use Rattle.reading.proofs.Common.{◌≡◌, ℕ, ◌+◌, ◌≤◌, Bool, true, false, nat_le, cond, List, [], ◌∷◌, ◌++◌, Some, refl, sym, ap, ◌∙◌, subst, append_assoc, append-nil, arith, Symbol, operators, prec, need, right, Lexeme, at, lx, mark, name, called, form_tail, more_forms, no_forms, past, write_called, write_form, AreAtoms, AreBranches, AreLevel, AreTerms, Branches, HasBranch, IsAtom, IsLevel, IsPlacedTree, IsTrigger, PlacedBranches, PlacedCommas, PlacedTrees, PlacedTrigger, Tree, Trees, Trigger, alternative_list, apply, bar_before, binary, binder_tail, binding, binds, branch, cases, cast, choice, ends_open, falsity, group, literal, more, name_row, negation, no_branch, none, op, prefixed, quantified, quantifier, terms_tail, tight, triggered, truth, type_part, untriggered, write, write_branches, write_op, write_others, write_row, write_tail, write_trigger, Chain, attach, binder_of, cast_to, closed, link, stop, Vals, row, link_row, prefix_row, read, and_both, infix_among}
 use Rattle.tokens_why.specs.declared.terminal.Terminal.TheVariants as t
-use Rattle.grammar.specs.declared.symbols.Symbol.{Symbol}
 use Rattle.grammar.specs.declared.symbols.Symbol.TheVariants as s
-use Rattle.grammar.specs.Alphabet.{operators}
-use Rattle.tokens_why.specs.Operators.{prec, need, right}
-use Rattle.syntax_why.specs.Lexeme.{Lexeme, at, lx, mark, name}
-use Rattle.syntax_why.specs.Forms.{called, form_tail, more_forms, no_forms, past, write_called, write_form}
-use Rattle.syntax_why.specs.Trees.{AreAtoms, AreBranches, AreLevel, AreTerms, Branches, HasBranch, IsAtom, IsLevel, IsPlacedTree, IsTrigger, PlacedBranches, PlacedCommas, PlacedTrees, PlacedTrigger, Tree, Trees, Trigger, alternative_list, apply, bar_before, binary, binder_tail, binding, binds, branch, cases, cast, choice, ends_open, falsity, group, literal, more, name_row, negation, no_branch, none, op, prefixed, quantified, quantifier, terms_tail, tight, triggered, truth, type_part, untriggered, write, write_branches, write_op, write_others, write_row, write_tail, write_trigger}
-use Rattle.reading.specs.Parts.{Chain, attach, binder_of, cast_to, closed, link, stop}
-use Rattle.reading.specs.Row.{Vals, row}
-use Rattle.reading.specs.TermRows.{link_row, prefix_row}
-use Rattle.reading.specs.Values.{read}
 use Rattle.reading.proofs.Reading.{Reads, Stops, extended, passed, past-append}
 use Rattle.reading.proofs.FormsRead.{reads_pat, regroup}
 use Rattle.reading.proofs.Operators.{Follow, OpsBelow, Rest, RestBy, le_true, low_not, low_prefix, low_right, reach, reads_by, rest_within, tail_found}
@@ -19,8 +9,6 @@ use Rattle.reading.proofs.TermRowsRead.{args_extend, atom_headed, expr_if, expr_
 use Rattle.reading.proofs.Operands.{as_prim, before_seal, both_right, cast_rest, comma_follow, follow_any, follow_within, joined_is, list_follow, mark_follow, op_follow, op_is, others_follow, past_op, reads_mark, row_scope, terms_follow, whole_by, within_left, within_right}
 use Rattle.reading.proofs.Grouping.{branch_past, branch_tokens, let_past, let_tokens, match_past, match_tokens, quantifier_past, quantifier_tokens, trigger_stop}
 use Rattle.reading.proofs.ArmsRead.{binder_behind, binders_stop, reads_arms, reads_binders, reads_branch, reads_letpats, tail_stops_pat}
-use Rattle.grammar.proofs.Laws.{and_both}
-use Rattle.grammar.proofs.Tails.{infix_among}
 
 mutual
   pub reads_expr : (e : Tree) (m : ℕ) (ys : List Lexeme) (i : ℕ) (k : List Symbol) (c : Chain) (vs : Vals k) → IsLevel e → IsPlacedTree i e → m ≤ tight e → Follow (reach e) ys → Rest e m ys (past i (write e)) k c vs → Reads (s.Expr m ∷ k) (write e ++ ys) i (attach e c, vs)

@@ -1,18 +1,6 @@
 -- What is read has the tokens that it is read from.
-use Rattle.std.proofs.Common.{◌≡◌, ℕ, ◌+◌, Bool, true, false, ◌&&◌, cond, List, [], ◌∷◌, ◌++◌, Option, Some, None, refl, sym, ap, ◌∙◌, subst}
-use Rattle.tokens_why.specs.declared.terminal.Terminal.{Terminal}
-use Rattle.grammar.specs.declared.symbols.Symbol.{Symbol}
+use Rattle.reading.proofs.Common.{◌≡◌, ℕ, ◌+◌, Bool, true, false, ◌&&◌, cond, List, [], ◌∷◌, ◌++◌, Option, Some, None, refl, sym, ap, ◌∙◌, subst, Terminal, Symbol, same, operators, is_seal, is_tail, sealed, same_true, Lexeme, lx, no_forms, none, stop, fields_of, Row, Val, Vals, rows, at_end, blank, by_row, find, over, read, with_blank}
 use Rattle.grammar.specs.declared.symbols.Symbol.TheVariants as s
-use Rattle.grammar.specs.Alphabet.{same, operators}
-use Rattle.grammar.specs.Machine.{is_seal, is_tail, sealed}
-use Rattle.grammar.proofs.Laws.{same_true}
-use Rattle.syntax_why.specs.Lexeme.{Lexeme, lx}
-use Rattle.syntax_why.specs.Forms.{no_forms}
-use Rattle.syntax_why.specs.Trees.{none}
-use Rattle.reading.specs.Parts.{stop}
-use Rattle.reading.specs.DeclParts.{fields_of}
-use Rattle.reading.specs.Row.{Row, Val, Vals}
-use Rattle.reading.specs.Values.{at_end, blank, by_row, find, over, read, rows, with_blank}
 use Rattle.reading.proofs.Good.{AllProper, AllRows, Good, Is, Piece, Proper, RowOk, flag, hushed, writes}
 use Rattle.reading.proofs.FormsBuilt.{as_ok, atype_ok, pat_ok, patom_ok, patoms_ok, pmore_ok, ptuple_ok, qlid_ok, quids_ok, targs_ok, tmore_ok, ttuple_ok, type_ok}
 use Rattle.reading.proofs.OpenBuilt.{arm_ok, binder_ok, binders_ok, branch_ok, branches_ok, letpats_ok, open_ok, opens_form, scrutinees_ok, terms_ok}

@@ -1,14 +1,8 @@
 -- What the rules of declarations are read as, before it is part of a declaration.
-use Rattle.std.specs.Prelude.{ℕ, Bool, false, List, [], ◌∷◌, Option, Some, None}
+use Rattle.reading.specs.Common.{ℕ, false, List, [], ◌∷◌, Some, None, Name, Word, at, name, lower, upper, Called, called, Form, Forms, composed, enclosed, no_forms, more_forms, Tree, Link, Path, Param, Member, Constructor, Algebraic, Clause, Inductive, Element, Decl, type_decl, algebraic_decl}
+use Rattle.std.specs.Prelude.{Bool, Option}
 use Rattle.syntax_why.specs.declared.names.At.{At}
-use Rattle.syntax_why.specs.declared.names.Name.{Name}
-use Rattle.syntax_why.specs.Lexeme.{Word, at, name}
-use Rattle.syntax_why.specs.Forms.{lower, upper, Called, called, Form, Forms, composed, enclosed, no_forms, more_forms}
-use Rattle.syntax_why.specs.Trees.{Tree}
 use Rattle.reading.specs.Parts.{Dotted}
-use Rattle.syntax_why.specs.declared.declarations.Link.{Link}
-use Rattle.syntax_why.specs.declared.names.Path.{Path}
-use Rattle.syntax_why.specs.Declarations.{Param, Member, Constructor, Algebraic, Clause, Inductive, Element, Decl, type_decl, algebraic_decl}
 
 -- behind a constructor's name: its fields, other constructors and other types
 pub record FieldsPart : Type 0 where

@@ -1,8 +1,8 @@
+pub mod Common
 pub mod Parts
 pub mod DeclParts
 pub mod Row
-pub mod TermRows
-pub mod DeclRows
+pub mod Rows
 pub mod Values
 pub mod Reads
 pub mod Sentences

@@ -1,9 +1,6 @@
 -- What the rules of terms are read as, before it is part of a tree.
-use Rattle.std.specs.Prelude.{ℕ, Bool, true, false, List, [], ◌∷◌, Option, Some, None}
-use Rattle.syntax_why.specs.declared.names.Name.{Name}
-use Rattle.syntax_why.specs.Lexeme.{Word, at}
-use Rattle.syntax_why.specs.Forms.{Called, Form, Forms, Own, aliased, called, infix_op, more_forms, no_forms, prefix_op, upper}
-use Rattle.syntax_why.specs.Trees.{Binder, Branches, Op, Tree, Trees, Trigger, apply, binary, binding, binds, branch, cases, cast, choice, falsity, group, literal, more, negation, none, prefixed, quantified, truth}
+use Rattle.reading.specs.Common.{ℕ, false, List, [], ◌∷◌, Some, None, Name, Word, at, Called, Form, Forms, Own, aliased, called, infix_op, more_forms, no_forms, prefix_op, upper, Binder, Branches, Op, Tree, Trees, Trigger, apply, binary, binding, binds, branch, cases, cast, choice, falsity, group, literal, more, negation, none, prefixed, quantified, truth}
+use Rattle.std.specs.Prelude.{Bool, true, Option}
 
 pub record Dotted : Type 0 where
   pub scopes : List Word

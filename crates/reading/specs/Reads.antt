@@ -1,8 +1,6 @@
 -- The tokens from a place on, for a reader that goes down the rules.
-use Rattle.std.specs.Prelude.{ℕ, List, drop, get_or}
-use Rattle.tokens_why.specs.declared.terminal.Terminal.{Terminal}
+use Rattle.reading.specs.Common.{ℕ, List, drop, get_or, Terminal, Lexeme, mark}
 use Rattle.tokens_why.specs.declared.terminal.Terminal.TheVariants as t
-use Rattle.syntax_why.specs.Lexeme.{Lexeme, mark}
 
 -- the tokens from a number on
 abbrev pub from : List Lexeme → ℕ → List Lexeme

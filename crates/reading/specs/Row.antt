@@ -1,14 +1,7 @@
 -- What each symbol is read as, and the rows that read it.
-use Rattle.std.proofs.Common.{◌≡◌, ℕ, Bool, List, [], ◌∷◌, ◌++◌, Option, refl, sym, ◌∙◌, append_assoc}
-use Rattle.tokens_why.specs.declared.terminal.Terminal.{Terminal}
-use Rattle.grammar.specs.declared.symbols.Symbol.{Symbol}
+use Rattle.reading.specs.Common.{Bool, ◌++◌, Option, refl, sym, ◌∙◌, append_assoc, Terminal, Symbol, Name, Word, Called, Form, Forms, Branches, Tree, Trees, Path, Decls, Element, Member, Param, Theory}
+use Rattle.std.proofs.Common.{◌≡◌, ℕ, List, [], ◌∷◌}
 use Rattle.grammar.specs.declared.symbols.Symbol.TheVariants as s
-use Rattle.syntax_why.specs.declared.names.Name.{Name}
-use Rattle.syntax_why.specs.Lexeme.{Word}
-use Rattle.syntax_why.specs.Forms.{Called, Form, Forms}
-use Rattle.syntax_why.specs.Trees.{Branches, Tree, Trees}
-use Rattle.syntax_why.specs.declared.names.Path.{Path}
-use Rattle.syntax_why.specs.Declarations.{Decls, Element, Member, Param, Theory}
 use Rattle.reading.specs.Parts.{ArmPart, BinderPart, BoundPart, BranchPart, CasesPart, Chain, Closing, Dotted, LetPart, Minus, OpName, Paren, Scoped, TermsPart}
 use Rattle.reading.specs.DeclParts.{AlgPart, BodyPart, ClausePart, ClausesPart, ClonedPart, ConPart, FieldsPart, MemberPart, NamePart, ParamPart, TvarsPart, TypePart, UpperPart, UsedPart, VarsPart}
 

@@ -1,29 +1,17 @@
 -- What the table's machine decides, said of trees.
-use Rattle.std.proofs.Common.{zero, suc, ◌≡◌, ℕ, ◌+◌, ◌≤◌, ◌<◌, Bool, true, false, List, [], ◌∷◌, ◌++◌, Some, None, length, map, take, drop, get_or, slice_get, refl, sym, ap, ◌∙◌, subst, arith}
+use Rattle.recognise_why.proofs.Common.{zero, suc, ◌≡◌, ℕ, ◌+◌, ◌≤◌, ◌<◌, Bool, true, false, List, [], ◌∷◌, ◌++◌, Some, None, length, map, take, drop, get_or, slice_get, refl, sym, ap, ◌∙◌, subst, arith, Terminal, Token, kind_by, terminal_of, accepts, Lexeme, mark, rest, terminals, IsLevel, IsPlacedTree, write, write_file, IsLevelFile, PlacedFile, Begins, IsOf, Whole, whole_expr, whole_file, tree_accepted, read_accepted, only_read, least_fault, may_stand, may_not_stand, longest_read, none_read, proper_by, proper_rest, terminals_append, value_or, IsShallow, IsTooDeep, terminals_of}
 use Rattle.std.proofs.lemmas.List.{length-map}
-use Rattle.tokens_why.specs.declared.terminal.Terminal.{Terminal}
 use Rattle.tokens_why.specs.declared.terminal.Terminal.TheVariants as t
-use Rattle.tokens_why.specs.declared.token.Token.{Token}
 use Rattle.tokens_why.specs.declared.token.TokenKind.{TokenKind}
-use Rattle.tokens_why.specs.Terminals.{kind_by, terminal_of}
 use Rattle.tokens_why.proofs.KindLemmas.{terminal_of-kind_by}
 use Rattle.grammar.specs.declared.symbols.Symbol.{Symbol}
 use Rattle.grammar.specs.declared.symbols.Symbol.TheVariants as s
 use Rattle.grammar.specs.Ends as ends
-use Rattle.grammar.specs.Machine.{accepts}
-use Rattle.syntax_why.specs.Lexeme.{Lexeme, mark, rest, terminals}
-use Rattle.syntax_why.specs.Trees.{IsLevel, IsPlacedTree, write}
-use Rattle.syntax_why.specs.Declarations.{write_file}
-use Rattle.syntax_why.specs.DeclarationRules.{IsLevelFile, PlacedFile}
 use Rattle.reading.specs.Row.{Val}
 use Rattle.reading.specs.Values.{read}
-use Rattle.reading.specs.Sentences.{Begins, IsOf}
 use Rattle.reading.proofs.Good.{AllProper}
 use Rattle.reading.proofs.Samples.{fits, is_token, string}
-use Rattle.reading.proofs.Parsing.{Whole, whole_expr, whole_file, tree_accepted, read_accepted, only_read, least_fault, may_stand, may_not_stand, longest_read, none_read, proper_by, proper_rest, terminals_append, value_or}
 use Rattle.recognise_why.specs.declared.fault.SyntaxFault.TheVariants as f
-use Rattle.recognise_why.specs.Depth.{IsShallow, IsTooDeep}
-use Rattle.recognise_why.specs.Spans.{terminals_of}
 use Rattle.recognise_why.specs.Expressions.{EndsAt, IsFaultAt}
 use Rattle.recognise_why.specs.Sources.{begins_program, IsProgramDecl, IsRefusal, IsSource}
 use Rattle.recognise_why.specs.Completions.{AreStrings, CompletesWith, spelled}

@@ -1,8 +1,6 @@
 -- The counters of open brackets behind one token more.
-use Rattle.std.proofs.Common.{◌≡◌, ℕ, zero, suc, ◌+◌, ◌<◌, ◌≤◌, ◌⊎◌, nat_lt, Bool, true, false, List, [], ◌∷◌, ◌++◌, length, take, get_or, inl, inr, refl, sym, ap, ◌∙◌, subst, arith}
+use Rattle.recognise_why.proofs.Common.{◌≡◌, ℕ, zero, suc, ◌+◌, ◌<◌, ◌≤◌, ◌⊎◌, nat_lt, Bool, true, false, List, [], ◌∷◌, ◌++◌, length, take, get_or, inl, inr, refl, sym, ap, ◌∙◌, subst, arith, Terminal, nesting, nested, counters, depth, depth_at, most_nested, IsTooDeep}
 use Rattle.std.proofs.lemmas.Bool.Decides.{nat_tests}
-use Rattle.tokens_why.specs.declared.terminal.Terminal.{Terminal}
-use Rattle.recognise_why.specs.Depth.{nesting, nested, counters, depth, depth_at, most_nested, IsTooDeep}
 
 -- the counters behind the tokens before a place, none of which is nested too deep
 pub record Nested (xs : List Terminal) (i : ℕ) (ns : List ℕ) : Type 0 where

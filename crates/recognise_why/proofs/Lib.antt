@@ -1,5 +1,5 @@
+pub mod Common
 pub mod DepthLemmas
 pub mod SpanLemmas
 pub mod Answering
 pub mod OneFault
-mod Examples

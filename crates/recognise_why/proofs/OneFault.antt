@@ -1,15 +1,8 @@
 -- The tokens of a text that are no source go wrong at one place.
-use Rattle.std.proofs.Common.{◌≡◌, ◌<◌, ◌+◌, ◌-◌, ◌++◌, ◌∷◌, [], ◌∙◌, ℕ, List, true, take, drop, sym, ap, subst, arith, append_assoc}
+use Rattle.recognise_why.proofs.Common.{◌≡◌, ◌<◌, ◌+◌, ◌-◌, ◌++◌, ◌∷◌, [], ◌∙◌, ℕ, List, true, take, drop, sym, ap, subst, arith, append_assoc, Token, accepts, Lexeme, rest, terminals, write_file, IsLevelFile, PlacedFile, Begins, IsLeastFault, whole_file, tree_accepted, taken_begins, proper_rest, proper_take, terminals_append}
 use Rattle.std.proofs.Math.Seq.{take-add}
-use Rattle.tokens_why.specs.declared.token.Token.{Token}
 use Rattle.grammar.specs.declared.symbols.Symbol.TheVariants as s
-use Rattle.grammar.specs.Machine.{accepts}
 use Rattle.grammar.proofs.Laws.{accepted_begins}
-use Rattle.syntax_why.specs.Lexeme.{Lexeme, rest, terminals}
-use Rattle.syntax_why.specs.Declarations.{write_file}
-use Rattle.syntax_why.specs.DeclarationRules.{IsLevelFile, PlacedFile}
-use Rattle.reading.specs.Sentences.{Begins, IsLeastFault}
-use Rattle.reading.proofs.Parsing.{whole_file, tree_accepted, taken_begins, proper_rest, proper_take, terminals_append}
 
 module _ (text : List ℕ) (ts : List Token) where
   abbrev tokens : List Lexeme

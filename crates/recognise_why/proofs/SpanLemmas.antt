@@ -1,10 +1,6 @@
 -- The terminals of the tokens of a text.
-use Rattle.std.proofs.Common.{◌≡◌, ℕ, List, [], ◌∷◌, map, take, drop, refl, ap, ◌∙◌}
+use Rattle.recognise_why.proofs.Common.{◌≡◌, ℕ, List, [], ◌∷◌, map, take, drop, refl, ap, ◌∙◌, Token, terminal_of, lexeme, rest, terminals, terminals_of}
 use Rattle.std.specs.List.{take-map}
-use Rattle.tokens_why.specs.declared.token.Token.{Token}
-use Rattle.tokens_why.specs.Terminals.{terminal_of}
-use Rattle.syntax_why.specs.Lexeme.{lexeme, rest, terminals}
-use Rattle.recognise_why.specs.Spans.{terminals_of}
 
 pub lexemes_terminals : (text : List ℕ) (ts : List Token) → terminals (map (lexeme text) ts) ≡ terminals_of ts
 lexemes_terminals text [] = refl

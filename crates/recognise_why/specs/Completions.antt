@@ -1,11 +1,6 @@
 -- Kinds of tokens that complete others.
-use Rattle.std.specs.Prelude.{List, [], ◌∷◌, ◌++◌}
-use Rattle.std.specs.Bool.{⊤}
+use Rattle.recognise_why.specs.Common.{List, [], ◌∷◌, ◌++◌, ⊤, terminal_of, IsString, Lexeme, Word, lexeme_by, IsOf}
 use Rattle.tokens_why.specs.declared.token.TokenKind.{TokenKind}
-use Rattle.tokens_why.specs.Terminals.{terminal_of}
-use Rattle.tokens_why.specs.Tokens.{IsString}
-use Rattle.syntax_why.specs.Lexeme.{Lexeme, Word, lexeme_by}
-use Rattle.reading.specs.Sentences.{IsOf}
 
 -- strings that are tokens of these kinds
 abbrev pub AreStrings : List TokenKind → List Word → Type 0

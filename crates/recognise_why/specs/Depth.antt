@@ -1,9 +1,7 @@
 -- How deep a token is nested, over terminals alone: the brackets that are open around it, and what is counted in each.
-use Rattle.std.specs.Prelude.{ℕ, ◌+◌, ◌<◌, ◌≤◌, List, [], ◌∷◌, length, sum, take}
-use Rattle.tokens_why.specs.declared.terminal.Terminal.{Terminal}
+use Rattle.recognise_why.specs.Common.{ℕ, ◌+◌, ◌<◌, ◌≤◌, List, [], ◌∷◌, length, sum, take, Terminal, Opens, Closes, Counts, Restarts, Keeps}
 use Rattle.tokens_why.specs.declared.terminal.Terminal.TheVariants as t
 use Rattle.recognise_why.specs.declared.depth.Nesting.{Nesting}
-use Rattle.recognise_why.specs.declared.depth.Nesting.TheVariants.{Opens, Closes, Counts, Restarts, Keeps}
 
 -- Each word with which a declaration begins lets the innermost bracket count from 0, but for those that open one.
 abbrev pub nesting : Terminal → Nesting

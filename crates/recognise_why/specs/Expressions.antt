@@ -1,13 +1,6 @@
 -- The longest expression that stands at a token, or where none does any more.
-use Rattle.std.specs.Prelude.{ℕ, ◌+◌, ◌≡◌, ◌≤◌, ◌<◌, false, List, [], ◌∷◌, length, take, Some}
-use Rattle.std.specs.Bool.{⊤}
-use Rattle.tokens_why.specs.declared.token.Token.{Token}
+use Rattle.recognise_why.specs.Common.{ℕ, ◌+◌, ◌≡◌, ◌≤◌, ◌<◌, false, List, [], ◌∷◌, length, take, Some, ⊤, Token, rest, Tree, IsLevel, IsPlacedTree, write, read, Begins, IsLongest, IsNone, SyntaxFault}
 use Rattle.grammar.specs.declared.symbols.Symbol.TheVariants as s
-use Rattle.syntax_why.specs.Lexeme.{rest}
-use Rattle.syntax_why.specs.Trees.{Tree, IsLevel, IsPlacedTree, write}
-use Rattle.reading.specs.Values.{read}
-use Rattle.reading.specs.Sentences.{Begins, IsLongest, IsNone}
-use Rattle.recognise_why.specs.declared.fault.SyntaxFault.{SyntaxFault}
 use Rattle.recognise_why.specs.declared.fault.SyntaxFault.TheVariants as f
 
 -- The longest expression from a token on, and the token behind it: the one right tree of its tokens that has their places. No

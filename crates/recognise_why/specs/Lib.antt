@@ -1,3 +1,4 @@
+pub mod Common
 pub mod Depth
 pub mod Spans
 pub mod Expressions

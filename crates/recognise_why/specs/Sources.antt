@@ -1,16 +1,8 @@
 -- Tokens that are a source, or where they go wrong.
-use Rattle.std.specs.Prelude.{ℕ, ◌≡◌, Bool, true, false, List, [], ◌∷◌, ◌++◌, take, slice_get, Some}
-use Rattle.std.specs.Bool.{⊤}
-use Rattle.tokens_why.specs.declared.terminal.Terminal.{Terminal}
+use Rattle.recognise_why.specs.Common.{ℕ, ◌≡◌, Bool, true, false, List, [], ◌∷◌, ◌++◌, take, slice_get, Some, ⊤, Terminal, Lexeme, mark, terminals, Theory, write_file, IsLevelFile, PlacedFile, read, Begins, IsLeastFault, IsOnly, SyntaxFault}
 use Rattle.tokens_why.specs.declared.terminal.Terminal.TheVariants as t
 use Rattle.grammar.specs.declared.symbols.Symbol.TheVariants as s
-use Rattle.syntax_why.specs.Lexeme.{Lexeme, mark, terminals}
-use Rattle.syntax_why.specs.Declarations.{Theory, write_file}
-use Rattle.syntax_why.specs.DeclarationRules.{IsLevelFile, PlacedFile}
-use Rattle.reading.specs.Values.{read}
-use Rattle.reading.specs.Sentences.{Begins, IsLeastFault, IsOnly}
 use Rattle.recognise_why.specs.Depth.{IsTooDeep, IsShallow}
-use Rattle.recognise_why.specs.declared.fault.SyntaxFault.{SyntaxFault}
 use Rattle.recognise_why.specs.declared.fault.SyntaxFault.TheVariants as f
 
 -- the one right file of these tokens that has their places

@@ -1,9 +1,5 @@
 -- The tokens of a text from one to another, and what they are to the grammar.
-use Rattle.std.specs.Prelude.{ℕ, ◌-◌, List, map, take}
-use Rattle.tokens_why.specs.declared.terminal.Terminal.{Terminal}
-use Rattle.tokens_why.specs.declared.token.Token.{Token}
-use Rattle.tokens_why.specs.Terminals.{terminal_of}
-use Rattle.syntax_why.specs.Lexeme.{Lexeme, rest}
+use Rattle.recognise_why.specs.Common.{ℕ, ◌-◌, List, map, take, Terminal, Token, terminal_of, Lexeme, rest}
 
 abbrev pub terminals_of : List Token → List Terminal
 terminals_of = map (λ k. terminal_of k.kind)

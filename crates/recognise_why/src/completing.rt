@@ -1,15 +1,6 @@
 // Kinds of tokens that complete an expression or a source, and the laws that tokens have one tree at most.
-// It depends on the table's machine.
-ghost use Rattle.std.specs.Prelude.{◌≡◌, ◌≤◌, ◌∷◌, ◌++◌, [], true, List, ℕ, None, length, take, map, IfOk};
-ghost use Rattle.grammar.specs.Machine.{accepts, is_safe};
+ghost use Rattle.recognise_why.specs.Common.{◌≡◌, ◌≤◌, ◌∷◌, ◌++◌, [], true, List, ℕ, None, length, take, map, IfOk, accepts, is_safe, kind_by, AreTokens, Lexeme, rest, Tree, IsLevel, IsPlacedTree, write, Theory, write_file, IsLevelFile, PlacedFile, Begins, IsOf};
 ghost use Rattle.grammar.specs.declared.symbols.Symbol.TheVariants.{Expr, File};
-ghost use Rattle.tokens_why.specs.Terminals.{kind_by};
-ghost use Rattle.tokens_why.specs.Tokens.{AreTokens};
-ghost use Rattle.syntax_why.specs.Lexeme.{Lexeme, rest};
-ghost use Rattle.syntax_why.specs.Trees.{Tree, IsLevel, IsPlacedTree, write};
-ghost use Rattle.syntax_why.specs.Declarations.{Theory, write_file};
-ghost use Rattle.syntax_why.specs.DeclarationRules.{IsLevelFile, PlacedFile};
-ghost use Rattle.reading.specs.Sentences.{Begins, IsOf};
 ghost use Rattle.recognise_why.specs.Completions.{CompletesWith};
 ghost use Rattle.recognise_why.specs.Spans.{between, terminals_of};
 

@@ -1,5 +1,4 @@
 // How deep tokens are nested: the first that is nested too deep.
-// It depends on the terminals; the reader of files asks it before it asks the grammar.
 ghost use Rattle.std.specs.Prelude.{◌≡◌, ◌≤◌, [], IfOk, MatchOption};
 ghost use Rattle.recognise_why.specs.Depth as spec;
 ghost use Rattle.recognise_why.specs.Depth.{depth as depth_of, most_nested, nested, IsTooDeep, IsShallow};

@@ -1,10 +1,6 @@
 // How far the longest expression from a token on goes, or where none stands any more.
-// It depends on the table's machine; the reader of expressions asks it before it makes a tree.
-ghost use Rattle.std.specs.Prelude.{◌≡◌, ◌∷◌, [], false, List, ℕ, IfOk, IfErr};
-ghost use Rattle.grammar.specs.Ends.{IsFault};
-ghost use Rattle.grammar.specs.Machine.{accepts};
+ghost use Rattle.recognise_why.specs.Common.{◌≡◌, ◌∷◌, [], false, List, ℕ, IfOk, IfErr, IsFault, accepts, OtherWord};
 ghost use Rattle.grammar.specs.declared.symbols.Symbol.TheVariants as symbol;
-ghost use Rattle.tokens_why.specs.declared.terminal.Terminal.TheVariants.{OtherWord};
 ghost use Rattle.recognise_why.specs.Expressions.{EndsAt, IsExpressionRefusal};
 
 use crate::fault::SyntaxFault;

@@ -1,5 +1,4 @@
 // Why tokens are no source.
-// It depends on nothing; the readers answer it.
 ghost use Rattle.std.specs.Prelude.{◌≡◌};
 ghost use Rattle.recognise_why.specs.declared.fault.SyntaxFault.TheVariants.{Memory as NoMemory};
 

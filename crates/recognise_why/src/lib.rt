@@ -1,6 +1,5 @@
 //! What the grammar says of tokens before any tree is made: whether they are a source, or where they go wrong; how far an
 //! expression goes; how deep they are nested; and what completes them.
-//! It depends on the table of the grammar and its laws; the readers, which make the trees, depend on it.
 #![tactic(auto)]
 
 mod completing;

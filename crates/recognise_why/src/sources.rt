@@ -1,10 +1,6 @@
 // Whether tokens are a source, or their first fault.
-// It depends on the table's machine and the depth of tokens; the reader of files asks it before it makes a tree.
-ghost use Rattle.std.specs.Prelude.{◌≡◌, ◌∷◌, [], List, ℕ, IfOk, IfErr};
-ghost use Rattle.grammar.specs.Ends.{IsFault};
+ghost use Rattle.recognise_why.specs.Common.{◌≡◌, ◌∷◌, [], List, ℕ, IfOk, IfErr, IsFault, ScopeWord, rest};
 ghost use Rattle.grammar.specs.declared.symbols.Symbol.TheVariants as symbol;
-ghost use Rattle.tokens_why.specs.declared.terminal.Terminal.TheVariants.{ScopeWord};
-ghost use Rattle.syntax_why.specs.Lexeme.{rest};
 ghost use Rattle.recognise_why.specs.Depth.{IsShallow};
 ghost use Rattle.recognise_why.specs.Sources as spec;
 ghost use Rattle.recognise_why.specs.Sources.{IsRefusal, IsSource};

@@ -1,5 +1,4 @@
 // What tokens are to the grammar, from one token on.
-// It depends on the tokens alone.
 ghost use Rattle.std.specs.Prelude.{◌≡◌, drop, IfOk};
 ghost use Rattle.recognise_why.specs.Spans.{terminals_of};
 

@@ -1,5 +1,4 @@
 // A stack that contracts see as a list, from the top down.
-// It depends on std alone; the depth of tokens is counted on it.
 ghost use Rattle.std.specs.Prelude.{◌≡◌, [], ◌∷◌, IfOk, MatchOption};
 
 use std::alloc::{AllocError, Global};

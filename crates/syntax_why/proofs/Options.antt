@@ -1,10 +1,6 @@
 -- An option of which a test says whether it is some.
-use Rattle.std.proofs.Common.{◌≡◌, true, false, Option, Some, None, is_some, refl}
+use Rattle.std.proofs.Common.{◌≡◌, true, Option, Some, None, is_some, refl}
 
 pub some_is : {A : Type 0} (o : Option A) → is_some o ≡ true → (a : A) × (o ≡ Some a)
 some_is (Some a) e = (a, refl)
 some_is None e = cc
-
-pub none_is : {A : Type 0} (o : Option A) → is_some o ≡ false → o ≡ None
-none_is (Some a) e = cc
-none_is None e = refl

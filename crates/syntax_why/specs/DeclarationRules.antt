@@ -1,8 +1,5 @@
 -- Which declarations, theories and files tokens can stand for, and where their parts stand.
-use Rattle.std.specs.Prelude.{ℕ, ◌+◌, ◌≡◌, List, [], ◌∷◌, Option, Some, None}
-use Rattle.std.specs.Bool.{⊤}
-use Rattle.syntax_why.specs.declared.names.Name.{Name}
-use Rattle.syntax_why.specs.declared.declarations.Link.{Link}
+use Rattle.syntax_why.specs.Common.{ℕ, ◌+◌, ◌≡◌, List, [], ◌∷◌, Option, Some, None, ⊤, Name, Link}
 use Rattle.syntax_why.specs.declared.declarations.Link.TheVariants as lk
 use Rattle.syntax_why.specs.Lexeme.{at}
 use Rattle.syntax_why.specs.Forms.{Own, lower, upper, Called, write_called, Form, write_form, types, IsForm, AreParts, IsPart, IsHead, past, IsPlaced, PlacedRow}

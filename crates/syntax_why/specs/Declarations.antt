@@ -1,13 +1,9 @@
 -- Declarations, theories and files, and their tokens.
-use Rattle.std.specs.Prelude.{ℕ, Bool, true, false, List, [], ◌∷◌, ◌++◌, Option, Some, None}
-use Rattle.tokens_why.specs.declared.terminal.Terminal.{Terminal}
+use Rattle.syntax_why.specs.Common.{ℕ, Bool, true, false, List, [], ◌∷◌, ◌++◌, Option, Some, None, Terminal, At, Name, Link}
 use Rattle.tokens_why.specs.declared.terminal.Terminal.TheVariants as t
-use Rattle.syntax_why.specs.declared.names.At.{At}
-use Rattle.syntax_why.specs.declared.names.Name.{Name}
 use Rattle.syntax_why.specs.declared.names.Path.{Path}
 use Rattle.syntax_why.specs.declared.declarations.PropKind.{PropKind}
 use Rattle.syntax_why.specs.declared.declarations.PropKind.TheVariants as pk
-use Rattle.syntax_why.specs.declared.declarations.Link.{Link}
 use Rattle.syntax_why.specs.declared.declarations.Link.TheVariants as lk
 use Rattle.syntax_why.specs.declared.declarations.SymbolWord.{SymbolWord}
 use Rattle.syntax_why.specs.declared.declarations.SymbolWord.TheVariants as sw

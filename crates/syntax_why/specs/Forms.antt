@@ -1,10 +1,6 @@
 -- Types and patterns, their tokens, which of them are right, and where their parts stand.
-use Rattle.std.specs.Prelude.{ℕ, ◌+◌, ◌≡◌, List, [], ◌∷◌, ◌++◌}
-use Rattle.std.specs.Bool.{⊤}
-use Rattle.tokens_why.specs.declared.terminal.Terminal.{Terminal}
+use Rattle.syntax_why.specs.Common.{ℕ, ◌+◌, ◌≡◌, List, [], ◌∷◌, ◌++◌, ⊤, Terminal, At, Name}
 use Rattle.tokens_why.specs.declared.terminal.Terminal.TheVariants as t
-use Rattle.syntax_why.specs.declared.names.At.{At}
-use Rattle.syntax_why.specs.declared.names.Name.{Name}
 use Rattle.syntax_why.specs.Lexeme.{Word, Lexeme, lx, mark, at}
 
 -- a name behind its scopes

@@ -1,14 +1,10 @@
 -- Tokens with their texts, as the grammar sees them, and the places of trees.
-use Rattle.std.specs.Prelude.{ℕ, List, [], ◌∷◌, map, drop}
-use Rattle.tokens_why.specs.declared.terminal.Terminal.{Terminal}
+use Rattle.syntax_why.specs.Common.{ℕ, List, [], ◌∷◌, map, drop, Terminal, kind_by, terminal_of, At, Name}
 use Rattle.tokens_why.specs.declared.terminal.Terminal.TheVariants as t
 use Rattle.tokens_why.specs.declared.token.Token.{Token}
 use Rattle.tokens_why.specs.declared.token.TokenKind.{TokenKind}
 use Rattle.tokens_why.specs.Literal.{literal_value}
-use Rattle.tokens_why.specs.Terminals.{kind_by, terminal_of}
 use Rattle.tokens_why.specs.Tokens.{text_of}
-use Rattle.syntax_why.specs.declared.names.At.{At}
-use Rattle.syntax_why.specs.declared.names.Name.{Name}
 
 abbrev pub Word : Type 0
 Word = List ℕ

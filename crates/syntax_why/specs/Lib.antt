@@ -1,3 +1,4 @@
+pub mod Common
 pub mod Lexeme
 pub mod Forms
 pub mod Trees

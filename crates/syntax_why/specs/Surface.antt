@@ -1,13 +1,8 @@
 -- The plain trees of surface trees: types, patterns, terms and formulas, with the places that they carry.
-use Rattle.std.specs.Prelude.{ℕ, ℤ, pos, negsuc, Bool, List, [], ◌∷◌, map, Option, Some, None, option_map, if◌then◌else◌}
-use Rattle.tokens_why.specs.declared.terminal.Terminal.{Terminal}
+use Rattle.syntax_why.specs.Common.{ℕ, ℤ, pos, negsuc, Bool, List, [], ◌∷◌, map, Option, Some, None, option_map, if◌then◌else◌, Terminal, is_star, string_terminal, At, OpName}
 use Rattle.tokens_why.specs.declared.terminal.Terminal.TheVariants as t
-use Rattle.tokens_why.specs.Operators.{is_star}
-use Rattle.tokens_why.specs.Terminals.{string_terminal}
-use Rattle.syntax_why.specs.declared.names.At.{At}
 use Rattle.syntax_why.specs.declared.names.Style.{Style}
 use Rattle.syntax_why.specs.declared.names.Style.TheVariants as style
-use Rattle.syntax_why.specs.declared.names.OpName.{OpName}
 use Rattle.syntax_why.specs.declared.names.QName.{QName}
 use Rattle.syntax_why.specs.declared.types.TypeTree.{TypeTree, TypeTree-F}
 use Rattle.syntax_why.specs.declared.types.TypeNode.{TypeNode}

@@ -1,9 +1,6 @@
 -- The plain trees of surface trees: declarations, theories and files, with the places that they carry.
-use Rattle.std.specs.Prelude.{ℕ, List, [], ◌∷◌, map, option_map}
-use Rattle.syntax_why.specs.declared.names.At.{At}
+use Rattle.syntax_why.specs.Common.{ℕ, List, [], ◌∷◌, map, option_map, At, Name, OpName}
 use Rattle.syntax_why.specs.declared.names.Style.TheVariants.{Plain}
-use Rattle.syntax_why.specs.declared.names.Name.{Name}
-use Rattle.syntax_why.specs.declared.names.OpName.{OpName}
 use Rattle.syntax_why.specs.declared.declarations.ParamTree.{ParamTree}
 use Rattle.syntax_why.specs.declared.declarations.MemberTree.{MemberTree}
 use Rattle.syntax_why.specs.declared.declarations.ConTree.{ConTree}

@@ -1,5 +1,4 @@
 // The surface trees of declarations, theories and files.
-// They hold names, types and expressions; their makers and all who read or write sources stand on them.
 use crate::expressions::Expr;
 use crate::names::{At, Name, OpName, Path, QName};
 use crate::types::TypeTree;

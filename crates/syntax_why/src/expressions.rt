@@ -1,5 +1,4 @@
 // The surface trees of expressions: terms, formulas, binders, triggers and branches.
-// They hold names, types and patterns; declarations stand on them.
 use crate::names::{At, Name, OpName, QName};
 use crate::patterns::Pat;
 use crate::types::TypeTree;

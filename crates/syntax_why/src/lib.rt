@@ -1,9 +1,7 @@
 //! The surface trees of Why3 sources, their makers, and which tokens a tree writes.
-//! It depends on the tokens; the readers depend on it.
 #![tactic(auto)]
 
 mod declarations;
-mod declaring;
 mod expressions;
 mod making;
 mod names;

@@ -1,5 +1,4 @@
 // Names as a source writes them, with their qualifiers and places.
-// Every other tree holds names.
 use outside::{Seq, Text};
 
 /// Where a thing stands: the number of the token with which it begins, and that of its operator.

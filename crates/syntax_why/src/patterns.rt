@@ -1,5 +1,4 @@
 // The surface trees of patterns.
-// They hold names; the branches and bindings of expressions stand on them.
 use crate::names::{At, Name, QName};
 use outside::{Boxed, Seq};
 

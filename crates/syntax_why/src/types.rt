@@ -1,5 +1,4 @@
 // The surface trees of types.
-// They hold names; expressions and declarations stand on them.
 use crate::names::{At, QName};
 use outside::{Seq, Text};
 

@@ -3,7 +3,9 @@
 use outside::{Seq, Text};
 use std::alloc::Global;
 use std::process::Abort;
-use syntax_why::{At, DeclTree, Expr, File, Name, OpName, PropKind, QName, Style, TheoryTree};
+use syntax_why::{
+    At, DeclNode, DeclTree, Expr, ExprNode, File, Name, OpName, PropKind, QName, Style, TheoryTree,
+};
 use tokens_why::{TokenKind, lex};
 use unparse_why::unparse;
 
@@ -59,7 +61,7 @@ pub fn two<T: Drop>(rt: &impl Abort, alloc: Global, first: T, second: T) -> Seq<
 /// A name without arguments, as an expression.
 pub fn atom(rt: &impl Abort, alloc: Global, of: &str) -> Expr {
     let function = called(rt, alloc, Style::Plain, of);
-    Expr::apply(HERE, function, Seq::new(alloc))
+    Expr::new(HERE, ExprNode::Apply(function, Seq::new(alloc)))
 }
 
 /// Whether kinds are those of the tokens of a text.
@@ -73,12 +75,12 @@ fn compare(rt: &impl Abort, alloc: Global, kinds: &[TokenKind], of: &str) {
 
 /// The source of one goal.
 fn source(rt: &impl Abort, alloc: Global, goal: Expr) -> File {
-    let goal = DeclTree::prop(HERE, PropKind::Goal, name(rt, alloc, "g"), goal);
+    let goal = DeclNode::Prop(PropKind::Goal, name(rt, alloc, "g"), goal);
     let theory = TheoryTree {
         at: HERE,
         module: false,
         name: name(rt, alloc, "T"),
-        decls: one(rt, alloc, goal),
+        decls: one(rt, alloc, DeclTree::new(HERE, goal)),
     };
     File {
         theories: one(rt, alloc, theory),

@@ -1,7 +1,5 @@
 -- What an answer of `lex` says, by the one reading of its text.
-use Rattle.std.proofs.Common.{◌≡◌, ℕ, List, Result, Ok, Err, ◌↔◌, sym, subst}
-use Rattle.tokens_why.specs.Tokens.{AreTokens, LexicalAt, BigLiteralAt, Reads, whole, lexical, big}
-use Rattle.tokens_why.specs.declared.token.Token.{Token}
+use Rattle.tokens_why.proofs.Common.{◌≡◌, ℕ, List, Result, Ok, Err, ◌↔◌, sym, subst, AreTokens, LexicalAt, BigLiteralAt, Reads, whole, lexical, big, Token}
 use Rattle.tokens_why.specs.declared.fault.LexFault.{LexFault}
 use Rattle.tokens_why.specs.declared.fault.LexFault.TheVariants.{Lexical, BigLiteral}
 use Rattle.tokens_why.proofs.TurnLemmas.{Reading}

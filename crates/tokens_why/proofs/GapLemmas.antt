@@ -1,8 +1,5 @@
 -- Steps over what stands between tokens, at a place of a text.
-use Rattle.std.proofs.Common.{◌≡◌, ℕ, zero, suc, ◌+◌, ◌-◌, ◌<◌, ◌≤◌, Bool, true, false, ◌&&◌, nat_eq, List, [], ◌∷◌, length, drop, Option, Some, None, refl, sym, ap, ◌∙◌, arith, length-drop}
-use Rattle.std.proofs.lemmas.Bool.Decides.{nat_tests}
-use Rattle.std.proofs.lemmas.List.{get_or-drop, drop-drop}
-use Rattle.tokens_why.specs.Gap.{byte_in, has_pair, has_star_name, comment, one_more, at_from, piece, gap, next}
+use Rattle.tokens_why.proofs.Common.{◌≡◌, ℕ, zero, suc, ◌+◌, ◌-◌, ◌<◌, ◌≤◌, Bool, true, false, ◌&&◌, nat_eq, List, [], ◌∷◌, length, drop, Option, Some, None, refl, sym, ap, ◌∙◌, arith, length-drop, nat_tests, get_or-drop, drop-drop, byte_in, has_pair, has_star_name, comment, one_more, at_from, piece, gap, next}
 
 -- behind the end there is no byte
 pub past : (text : List ℕ) (i : ℕ) → length text ≤ i → byte_in text i ≡ 256

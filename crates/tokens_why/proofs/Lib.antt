@@ -1,3 +1,4 @@
+pub mod Common
 pub mod Lists
 pub mod KindLemmas
 pub mod GapLemmas
@@ -6,5 +7,4 @@ pub mod LongestLemmas
 pub mod TokenLemmas
 pub mod TurnLemmas
 pub mod ClauseLemmas
-pub mod Rows
 pub mod WholeTexts

@@ -1,17 +1,6 @@
 -- The longest token at the front of a text, by its first byte.
-use Rattle.std.proofs.Common.{◌≡◌, ℕ, zero, suc, ◌+◌, ◌-◌, ◌<◌, ◌≤◌, ◌≢◌, ◌⊎◌, inl, inr, Bool, true, false, ◌&&◌, ◌||◌, nat_eq, nat_lt, if◌then◌else◌, List, [], ◌∷◌, length, take, drop, slice_range, None, refl, sym, ap, ◌∙◌, subst, arith}
-use Rattle.std.specs.List.{list_all, prefix_len}
-use Rattle.std.proofs.lemmas.Bool.Decides.{nat_tests}
-use Rattle.std.proofs.lemmas.Bool.{eqb-true}
-use Rattle.std.proofs.lemmas.List.{drop_more}
+use Rattle.tokens_why.proofs.Common.{◌≡◌, ℕ, zero, suc, ◌+◌, ◌-◌, ◌<◌, ◌≤◌, ◌≢◌, ◌⊎◌, inl, inr, Bool, true, false, ◌&&◌, ◌||◌, nat_eq, nat_lt, if◌then◌else◌, List, [], ◌∷◌, length, take, drop, slice_range, None, refl, sym, ap, ◌∙◌, subst, arith, list_all, prefix_len, nat_tests, eqb-true, drop_more, same, is_lower, is_digit, is_word_byte, byte_in, has_star_name, has_pair, is_digit_of, is_digit_or_line, radix_of, is_literal, is_based, digit_value, IsLongest, HasNone, based_radix, kind_of, only, is_variable_name, marks_kind, TokenKind}
 use Rattle.std.proofs.lemmas.List.Sums.{prefix_len-le-length}
-use Rattle.word_tables.specs.Words.{same}
-use Rattle.tokens_why.specs.Bytes.{is_lower, is_digit, is_word_byte}
-use Rattle.tokens_why.specs.Gap.{byte_in, has_star_name, has_pair}
-use Rattle.tokens_why.specs.Literal.{is_digit_of, is_digit_or_line, radix_of, is_literal, is_based, digit_value}
-use Rattle.tokens_why.specs.Longest.{IsLongest, HasNone, based_radix}
-use Rattle.tokens_why.specs.Strings.{kind_of, only, is_variable_name, marks_kind}
-use Rattle.tokens_why.specs.declared.token.TokenKind.{TokenKind}
 
 bool-cases : (b : Bool) → (b ≡ true) ⊎ (b ≡ false)
 bool-cases true = inl refl

@@ -1,9 +1,6 @@
 -- The number that digits write.
-use Rattle.std.proofs.Common.{◌≡◌, ℕ, ◌+◌, ◌*◌, ◌<◌, ◌≤◌, ◌≢◌, Bool, true, false, nat_eq, if◌then◌else◌, List, [], ◌∷◌, length, drop, get_or, ap, ◌∙◌, arith}
+use Rattle.tokens_why.proofs.Common.{◌≡◌, ℕ, ◌+◌, ◌*◌, ◌<◌, ◌≤◌, ◌≢◌, Bool, true, false, nat_eq, if◌then◌else◌, List, [], ◌∷◌, length, drop, get_or, ap, ◌∙◌, arith, nat_tests, drop_more, number, digit_value}
 use Rattle.std.proofs.Math.Nat.{mul-le-mul_left}
-use Rattle.std.proofs.lemmas.Bool.Decides.{nat_tests}
-use Rattle.std.proofs.lemmas.List.{drop_more}
-use Rattle.tokens_why.specs.Literal.{number, digit_value}
 
 abbrev joined : Bool → ℕ → ℕ → ℕ → ℕ
 joined b radix n d = if b then n else n * radix + d

@@ -1,15 +1,7 @@
 -- Type variables, literals and marks at a place of a text.
-use Rattle.std.proofs.Common.{◌≡◌, ℕ, zero, suc, ◌+◌, ◌-◌, ◌<◌, ◌≤◌, Bool, true, false, ◌&&◌, nat_eq, if◌then◌else◌, List, [], ◌∷◌, length, take, drop, get_or, Some, None, refl, sym, ap, ◌∙◌, subst, arith, length-drop}
-use Rattle.std.specs.List.{prefix_len}
-use Rattle.std.proofs.lemmas.Bool.{eqb-true}
-use Rattle.tokens_why.specs.Bytes.{is_letter, is_lower, is_digit, is_operator_byte, is_word_byte}
-use Rattle.tokens_why.specs.Gap.{byte_in, has_star_name, has_pair}
-use Rattle.tokens_why.specs.Literal.{is_digit_of, is_digit_or_line, radix_of, is_literal}
-use Rattle.tokens_why.specs.Longest.{IsLongest, HasNone, based_radix}
-use Rattle.tokens_why.specs.Strings.{kind_of, kind_by, lead_of, is_variable_name, marks_kind, mark_kind}
+use Rattle.tokens_why.proofs.Common.{◌≡◌, ℕ, zero, suc, ◌+◌, ◌-◌, ◌<◌, ◌≤◌, Bool, true, false, ◌&&◌, nat_eq, if◌then◌else◌, List, [], ◌∷◌, length, take, drop, get_or, Some, None, refl, sym, ap, ◌∙◌, subst, arith, length-drop, prefix_len, eqb-true, is_letter, is_lower, is_digit, is_operator_byte, is_word_byte, byte_in, has_star_name, has_pair, is_digit_of, is_digit_or_line, radix_of, is_literal, IsLongest, HasNone, based_radix, kind_of, kind_by, lead_of, is_variable_name, marks_kind, mark_kind, TokenKind}
 use Rattle.tokens_why.specs.declared.longest.Lead.{Lead}
 use Rattle.tokens_why.specs.declared.longest.Lead.TheVariants.{Letter, Quote, Digit, Sign, Mark}
-use Rattle.tokens_why.specs.declared.token.TokenKind.{TokenKind}
 use Rattle.tokens_why.specs.declared.token.TokenKind.TheVariants.{TyVar, Int, StarName, OrOr}
 use Rattle.tokens_why.proofs.GapLemmas.{byte-drop, within, and-left, and-right}
 use Rattle.tokens_why.proofs.Lists.{get_or-default}

@@ -1,10 +1,5 @@
 -- How the reading of a text goes on: what has been found is the beginning of every reading.
-use Rattle.std.proofs.Common.{◌≡◌, ℕ, ◌-◌, ◌<◌, List, [], ◌∷◌, ◌++◌, slice_range, Some, None, refl, sym, ap, ◌∙◌, subst, arith, append_assoc, append-nil}
-use Rattle.tokens_why.specs.Gap.{next}
-use Rattle.tokens_why.specs.Strings.{kind_of}
-use Rattle.tokens_why.specs.Tokens.{IsToken, Begins, Fits, Exceeds, Stop, whole, lexical, big, Stops, Reads}
-use Rattle.tokens_why.specs.declared.token.Token.{Token}
-use Rattle.tokens_why.specs.declared.token.TokenKind.{TokenKind}
+use Rattle.tokens_why.proofs.Common.{◌≡◌, ℕ, ◌-◌, ◌<◌, List, [], ◌∷◌, ◌++◌, slice_range, Some, None, refl, sym, ap, ◌∙◌, subst, arith, append_assoc, append-nil, next, kind_of, IsToken, Begins, Fits, Exceeds, Stop, whole, lexical, big, Stops, Reads, Token, TokenKind}
 
 -- one token begins at a byte
 same-end : (text : List ℕ) (t u : Token) → t.start ≡ u.start → IsToken text t → IsToken text u → t.end < u.end → ⊥

@@ -1,9 +1,5 @@
 -- The longest token in front of a text, and the text as a whole.
-use Rattle.std.proofs.Common.{◌≡◌, ℕ, ◌-◌, ◌≤◌, List, length, take, drop, Some, None, sym, ap, ◌∙◌, arith}
-use Rattle.std.proofs.lemmas.List.{take_all}
-use Rattle.tokens_why.specs.declared.token.Token.{Token}
-use Rattle.tokens_why.specs.Strings.{kind_of}
-use Rattle.tokens_why.specs.Longest.{IsLongestAt, HasNone}
+use Rattle.tokens_why.proofs.Common.{◌≡◌, ℕ, ◌-◌, ◌≤◌, List, length, take, drop, Some, None, sym, ap, ◌∙◌, arith, take_all, Token, kind_of, IsLongestAt, HasNone}
 
 whole : (bs : List ℕ) → take (length bs) bs ≡ bs
 whole bs = take_all (length bs) bs (omega arith)

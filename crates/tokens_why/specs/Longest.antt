@@ -1,10 +1,8 @@
 -- The longest string at the front of a text that is a token.
-use Rattle.std.specs.Prelude.{ℕ, ◌-◌, ◌<◌, ◌≤◌, ◌≡◌, ◌&&◌, nat_eq, List, length, take, drop, Some, None, if◌then◌else◌}
+use Rattle.tokens_why.specs.Common.{ℕ, ◌-◌, ◌<◌, ◌≤◌, ◌≡◌, ◌&&◌, nat_eq, List, length, take, drop, Some, None, if◌then◌else◌, Token, TokenKind}
 use Rattle.tokens_why.specs.Gap.{byte_in}
 use Rattle.tokens_why.specs.Literal.{is_digit_of, radix_of}
 use Rattle.tokens_why.specs.Strings.{kind_of}
-use Rattle.tokens_why.specs.declared.token.Token.{Token}
-use Rattle.tokens_why.specs.declared.token.TokenKind.{TokenKind}
 
 pub record IsLongest (bs : List ℕ) (n : ℕ) (k : TokenKind) : Type 0 where
   pub some : 0 < n

@@ -1,7 +1,5 @@
 -- The operators among the terminals, and how tightly they bind (Why3 manual, "Syntax", the table of precedences).
-use Rattle.std.specs.Prelude.{ℕ, Bool, true, false, List, codes}
-use Rattle.word_tables.specs.Words.{same}
-use Rattle.tokens_why.specs.declared.terminal.Terminal.{Terminal}
+use Rattle.tokens_why.specs.Common.{ℕ, Bool, true, false, List, codes, same, Terminal}
 use Rattle.tokens_why.specs.declared.terminal.Terminal.TheVariants as t
 
 -- how tightly an operator binds, and what it needs on its left and on its right

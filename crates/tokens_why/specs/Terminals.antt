@@ -1,11 +1,8 @@
 -- What each kind of token is to the grammar.
-use Rattle.std.specs.Prelude.{ℕ, true, false, nat_eq, if◌then◌else◌, List, Option, Some, None}
-use Rattle.std.proofs.Common.{get_or}
+use Rattle.tokens_why.specs.Common.{ℕ, true, false, nat_eq, if◌then◌else◌, List, Option, Some, None, get_or, TokenKind, Terminal}
 use Rattle.tokens_why.specs.Reserved.{reserved_terminals}
 use Rattle.tokens_why.specs.Strings.{kind_of}
-use Rattle.tokens_why.specs.declared.token.TokenKind.{TokenKind}
 use Rattle.tokens_why.specs.declared.token.TokenKind.TheVariants as k
-use Rattle.tokens_why.specs.declared.terminal.Terminal.{Terminal}
 use Rattle.tokens_why.specs.declared.terminal.Terminal.TheVariants as t
 
 -- an operator's terminal, by its level

@@ -1,11 +1,9 @@
 -- The tokens of a text, or the least byte at which there is none.
-use Rattle.std.specs.Prelude.{ℕ, ◌<◌, ◌≤◌, ◌≡◌, false, ◌||◌, List, [], ◌∷◌, length, drop, slice_range, Some, None, Result, Ok, Err}
+use Rattle.tokens_why.specs.Common.{ℕ, ◌<◌, ◌≤◌, ◌≡◌, false, ◌||◌, List, [], ◌∷◌, length, drop, slice_range, Some, None, Result, Ok, Err, Token, TokenKind}
 use Rattle.std.specs.Bool.{⊤}
 use Rattle.tokens_why.specs.Gap.{opens_comment, opens_attribute, next}
 use Rattle.tokens_why.specs.Strings.{kind_of}
 use Rattle.tokens_why.specs.Literal.{literal_value, greatest}
-use Rattle.tokens_why.specs.declared.token.Token.{Token}
-use Rattle.tokens_why.specs.declared.token.TokenKind.{TokenKind}
 use Rattle.tokens_why.specs.declared.token.TokenKind.TheVariants as tk
 use Rattle.tokens_why.specs.declared.fault.LexFault.{LexFault}
 use Rattle.tokens_why.specs.declared.fault.LexFault.TheVariants as fault

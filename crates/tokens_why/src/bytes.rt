@@ -1,7 +1,5 @@
 // Classes of bytes, and the bytes at a place of a text.
-// They stand on nothing; gaps, kinds and literals stand on them.
-ghost use Rattle.std.specs.Prelude.{◌≡◌, ◌+◌, ◌<◌, ◌≤◌, ◌&&◌, nat_eq, length, drop};
-ghost use Rattle.std.specs.List.{prefix_len};
+ghost use Rattle.tokens_why.specs.Common.{◌≡◌, ◌+◌, ◌<◌, ◌≤◌, ◌&&◌, nat_eq, length, drop, prefix_len};
 ghost use Rattle.tokens_why.specs.Bytes as spec;
 ghost use Rattle.tokens_why.specs.Classes.{is_in};
 ghost use Rattle.tokens_why.specs.Gap.{byte_in, has_pair};

@@ -1,5 +1,4 @@
 // Why a text has no tokens.
-// It stands on nothing; the lexer answers it.
 ghost use Rattle.std.specs.Prelude.{◌≡◌};
 ghost use Rattle.tokens_why.specs.declared.fault.LexFault.TheVariants.{Memory as NoMemory};
 

@@ -1,5 +1,4 @@
 // What stands between tokens: blanks, comments and attributes.
-// They stand on the classes of bytes; the longest token and the lexer stand on them.
 ghost use Rattle.std.specs.Prelude.{◌≡◌, ◌+◌, ◌≤◌, ◌<◌, length, drop, IfSome};
 ghost use Rattle.tokens_why.specs.Gap as spec;
 ghost use Rattle.tokens_why.specs.Gap.{at_from, comment, attribute, has_star_name, next};

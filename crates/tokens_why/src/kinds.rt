@@ -1,7 +1,5 @@
 // The kinds of words and of runs of operator characters.
-// They stand on the reserved words; the longest token stands on them.
-ghost use Rattle.std.specs.Prelude.{◌≡◌, ◌<◌, length};
-ghost use Rattle.std.specs.List.{list_any};
+ghost use Rattle.tokens_why.specs.Common.{◌≡◌, ◌<◌, length, list_any};
 ghost use Rattle.tokens_why.specs.Strings as spec;
 ghost use Rattle.tokens_why.specs.Reserved.{reserved_words};
 

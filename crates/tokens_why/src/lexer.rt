@@ -1,10 +1,7 @@
 // The tokens of a whole text.
-// They stand on gaps, literals and the longest token; the readers stand on them.
-ghost use Rattle.std.specs.Prelude.{◌≡◌, ◌<◌, ◌≤◌, ◌↔◌, ℕ, List, Err, length, MatchOption, MatchBool, IsOkAnd};
+ghost use Rattle.tokens_why.specs.Common.{◌≡◌, ◌<◌, ◌≤◌, ◌↔◌, ℕ, List, Err, length, MatchOption, MatchBool, IsOkAnd, Token, Lexical, BigLiteral};
 ghost use Rattle.tokens_why.specs.Reserved.{reserved_words};
 ghost use Rattle.tokens_why.specs.Tokens.{AreTokens, BigLiteralAt, Begins, Exceeds, Fits, LexicalAt, NoneBegins, UnlessMemory};
-ghost use Rattle.tokens_why.specs.declared.token.Token.{Token};
-ghost use Rattle.tokens_why.specs.declared.fault.LexFault.TheVariants.{Lexical, BigLiteral};
 
 use crate::fault::LexFault;
 use crate::gaps::{opens_attribute, opens_comment, skip};
@@ -47,9 +44,12 @@ fn is_too_big(text: &[u8], token: Token) -> bool
 /// It fails at the least byte at which no token, blank, comment or attribute begins, or one that isn't closed (`Lexical`),
 /// or an integer literal above 2^127 - 1 (`BigLiteral`), whichever comes first.
 pub fn lex(alloc: Global, text: &[u8]) -> Result<Vec<Token>, LexFault>
-    ensures tokens { UnlessMemory result ((ts : List Token) → IsOkAnd result (λ v. v.items ≡ ts) ↔ AreTokens text.now ts) }
-    ensures lexical { UnlessMemory result ((b : ℕ) → (result ≡ Err (Lexical b)) ↔ LexicalAt text.now b) }
-    ensures big_literal { UnlessMemory result ((b : ℕ) → (result ≡ Err (BigLiteral b)) ↔ BigLiteralAt text.now b) }
+    ensures tokens { UnlessMemory result
+        ((ts : List Token) → IsOkAnd result (λ v. v.items ≡ ts) ↔ AreTokens text.now ts) }
+    ensures lexical { UnlessMemory result
+        ((b : ℕ) → (result ≡ Err (Lexical b)) ↔ LexicalAt text.now b) }
+    ensures big_literal { UnlessMemory result
+        ((b : ℕ) → (result ≡ Err (BigLiteral b)) ↔ BigLiteralAt text.now b) }
 {
     let words = reserved();
     let mut found = Vec::new(alloc);

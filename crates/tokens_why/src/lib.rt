@@ -1,5 +1,4 @@
 //! The tokens of a Why3 source: `lex` cuts a text into them or names the least byte that fits none.
-//! It depends on the word tables; the surface trees and the readers depend on it.
 #![tactic(auto)]
 
 mod bytes;

@@ -1,5 +1,4 @@
 // Integer literals: their values.
-// They stand on the classes of bytes; the lexer stands on them.
 ghost use Rattle.std.specs.Prelude.{◌+◌, ◌*◌, ◌≤◌, ◌<◌, pos};
 ghost use Rattle.std.specs.Option.{SomeIff};
 ghost use Rattle.tokens_why.specs.Literal as spec;
@@ -22,7 +21,8 @@ fn with_digit(number: u128, radix: u8, digit: u8) -> Option<u128>
 /// The number that digits write, if it isn't too big; `_` counts for nothing.
 fn number(digits: &[u8], radix: u8) -> Option<u128>
     requires { 0 < radix }
-    ensures { SomeIff result (spec.number radix 0 digits.now ≤ greatest) (spec.number radix 0 digits.now) }
+    ensures { SomeIff result (spec.number radix 0 digits.now ≤ greatest)
+        (spec.number radix 0 digits.now) }
 {
     let mut number = 0;
     for byte in digits {
@@ -37,7 +37,8 @@ fn number(digits: &[u8], radix: u8) -> Option<u128>
 }
 
 fn magnitude(literal: &[u8]) -> Option<u128>
-    ensures { SomeIff result (spec.literal_value literal.now ≤ greatest) (spec.literal_value literal.now) }
+    ensures { SomeIff result (spec.literal_value literal.now ≤ greatest)
+        (spec.literal_value literal.now) }
 {
     if literal.len() < 2 {
         return number(literal, 10);
@@ -54,7 +55,8 @@ fn magnitude(literal: &[u8]) -> Option<u128>
 ///
 /// A literal is decimal, or has `0x`, `0o` or `0b` in front, letters of either case; `_` may stand behind the first digit.
 pub fn literal_value(literal: &[u8]) -> Option<i128>
-    ensures { SomeIff result (spec.literal_value literal.now ≤ greatest) (pos (spec.literal_value literal.now)) }
+    ensures { SomeIff result (spec.literal_value literal.now ≤ greatest)
+        (pos (spec.literal_value literal.now)) }
 {
     match magnitude(literal) {
         Some(value) => Some(value as i128),

@@ -1,5 +1,4 @@
 // The longest token at a place.
-// It stands on gaps and kinds; the lexer stands on it.
 ghost use Rattle.std.specs.Prelude.{◌≡◌, ◌<◌, ◌≤◌, ◌+◌, length, drop, MatchOption};
 ghost use Rattle.tokens_why.specs.Gap.{byte_in};
 ghost use Rattle.tokens_why.specs.Longest.{IsLongestAt, HasNone};

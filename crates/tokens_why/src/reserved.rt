@@ -1,5 +1,4 @@
 // The reserved words.
-// They stand on a word table; the kinds of words stand on them.
 ghost use Rattle.std.specs.Prelude.{◌≡◌};
 ghost use Rattle.tokens_why.specs.Reserved.{reserved_words};
 

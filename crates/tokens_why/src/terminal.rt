@@ -1,8 +1,6 @@
 // What a token is to the grammar: a terminal symbol.
-// It stands on a token's kind; the trees' writing is told in terminals.
-ghost use Rattle.std.specs.Prelude.{◌≡◌, map, IfOk};
+ghost use Rattle.tokens_why.specs.Common.{◌≡◌, map, IfOk, Operator, Reserved};
 ghost use Rattle.tokens_why.specs.Terminals.{kind_by, terminal_of};
-ghost use Rattle.tokens_why.specs.declared.token.TokenKind.TheVariants.{Operator, Reserved};
 
 use crate::token::TokenKind;
 use std::alloc::{AllocError, Global};

@@ -1,5 +1,4 @@
 // A token: its kind, and the bytes of the source that it takes.
-// It stands on nothing; the lexer, the trees' writing and the readers stand on it.
 
 /// What a token is, without its text (Why3 manual, "Lexical conventions").
 ///

@@ -1,5 +1,4 @@
 // The kind of a whole text, and its terminal.
-// It depends on the longest token; who asks what a name alone is depends on it.
 ghost use Rattle.std.specs.Prelude.{◌≡◌};
 ghost use Rattle.tokens_why.specs.Operators as operators;
 ghost use Rattle.tokens_why.specs.Strings.{kind_of};

@@ -1,6 +1,7 @@
-//! Tests of the tokens of texts.
-//! It stands on the lexer; nothing stands on it.
+//! Tests of the tokens of texts, and of tables of words.
 #![tactic(auto)]
 
 #[cfg(test)]
 mod tables;
+#[cfg(test)]
+mod words;

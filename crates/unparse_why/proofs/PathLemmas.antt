@@ -1,7 +1,5 @@
 -- The kinds of a path's tokens are the same whatever its first part is.
-use Rattle.std.proofs.Common.{◌≡◌, List, [], ◌∷◌, refl}
-use Rattle.syntax_why.specs.Lexeme.{Word, terminals}
-use Rattle.syntax_why.specs.Declarations.{path_from}
+use Rattle.unparse_why.proofs.Common.{◌≡◌, List, [], ◌∷◌, refl, Word, terminals, path_from}
 
 pub any_first : (w : Word) (ws : List Word) → terminals (path_from w ws) ≡ terminals (path_from [] ws)
 any_first w [] = refl

@@ -1,5 +1,4 @@
 // The tokens of an expression.
-// They depend on the tokens of its parts; declarations depend on them.
 ghost use Rattle.std.specs.Prelude.{◌≡◌, ◌++◌, ◌∷◌, [], map, option_map, OnOk};
 ghost use Rattle.tokens_why.specs.declared.terminal.Terminal.TheVariants.{Arrow, EndWord, LetWord, MatchWord, WithWord, Equal};
 ghost use Rattle.syntax_why.specs.Lexeme.{terminals, mark, at};
@@ -129,7 +128,8 @@ fn push_arms(bar: bool, arms: &[BranchTree], out: &mut Vec<Terminal>) -> Result<
 #[cycle(writing)]
 fn push_value(value: &Expr, bound: &[Pat], out: &mut Vec<Terminal>) -> Result<(), AllocError>
     ensures { OnOk result (out.new.items ≡ out.old.items ++ terminals
-        (mark LetWord ∷ form_list (patterns bound.now) ++ (mark Equal ∷ write (tree_of value.now)))) }
+        (mark LetWord ∷ form_list (patterns bound.now)
+        ++ (mark Equal ∷ write (tree_of value.now)))) }
 {
     out.push(Terminal::LetWord)?;
     push_patterns(bound, out)?;
@@ -199,8 +199,7 @@ fn push_triggers(triggers: &Option<TriggerTree>, out: &mut Vec<Terminal>) -> Res
         Some(t) => {
             out.push(Terminal::LBrack)?;
             push_terms(t.terms.as_slice(), t.bars.as_slice(), out)?;
-            out.push(Terminal::RBrack)?;
-            Ok(())
+            push_terminal(Terminal::RBrack, out)
         }
     }
 }

@@ -1,5 +1,4 @@
 // The kinds of the tokens of declarations, theories and files.
-// They depend on the tokens of expressions; who compares a file with its source depends on them.
 ghost use Rattle.std.specs.Prelude.{◌≡◌, ◌++◌, map, option_map, IfOk, OnOk};
 ghost use Rattle.syntax_why.specs.Lexeme.{terminals, at, kinds};
 ghost use Rattle.syntax_why.specs.Forms.{write_called};
@@ -9,7 +8,8 @@ ghost use Rattle.syntax_why.specs.SurfaceDeclarations.{declared_name, plain_name
 
 use crate::expressions::push_expr;
 use crate::parts::{
-    push_bar, push_called, push_names, push_own, push_type, push_type_part, push_types,
+    push_bar, push_called, push_names, push_own, push_terminal, push_type, push_type_part,
+    push_types,
 };
 use outside::Text;
 use std::alloc::{AllocError, Global};
@@ -62,8 +62,7 @@ fn push_param(param: &ParamTree, out: &mut Vec<Terminal>) -> Result<(), AllocErr
         push_names(names, out)?;
         out.push(Terminal::Colon)?;
         push_type(&param.ty, out)?;
-        out.push(Terminal::RParen)?;
-        Ok(())
+        push_terminal(Terminal::RParen, out)
     } else {
         push_type(&param.ty, out)
     }
@@ -244,14 +243,8 @@ fn push_link(link: Link, out: &mut Vec<Terminal>) -> Result<(), AllocError>
 {
     match link {
         Link::Bare => Ok(()),
-        Link::Import => {
-            out.push(Terminal::ImportWord)?;
-            Ok(())
-        }
-        Link::Export => {
-            out.push(Terminal::ExportWord)?;
-            Ok(())
-        }
+        Link::Import => push_terminal(Terminal::ImportWord, out),
+        Link::Export => push_terminal(Terminal::ExportWord, out),
     }
 }
 
@@ -275,8 +268,7 @@ fn push_as(name: &Option<Name>, out: &mut Vec<Terminal>) -> Result<(), AllocErro
         None => Ok(()),
         Some(_) => {
             out.push(Terminal::AsWord)?;
-            out.push(Terminal::Uident)?;
-            Ok(())
+            push_terminal(Terminal::Uident, out)
         }
     }
 }
@@ -305,8 +297,7 @@ fn push_element(element: &ElemTree, out: &mut Vec<Terminal>) -> Result<(), Alloc
         }
         ElemNode::AllAxioms => {
             out.push(Terminal::AxiomWord)?;
-            out.push(Terminal::Dot)?;
-            Ok(())
+            push_terminal(Terminal::Dot, out)
         }
     }
 }
@@ -487,8 +478,7 @@ fn push_decl(decl: &DeclTree, out: &mut Vec<Terminal>) -> Result<(), AllocError>
             out.push(Terminal::ScopeWord)?;
             out.push(Terminal::Uident)?;
             push_decls(of.as_slice(), out)?;
-            out.push(Terminal::EndWord)?;
-            Ok(())
+            push_terminal(Terminal::EndWord, out)
         }
     }
 }
@@ -511,8 +501,7 @@ fn push_theory(theory: &TheoryTree, out: &mut Vec<Terminal>) -> Result<(), Alloc
     out.push(heading_terminal(theory.module))?;
     out.push(Terminal::Uident)?;
     push_decls(theory.decls.as_slice(), out)?;
-    out.push(Terminal::EndWord)?;
-    Ok(())
+    push_terminal(Terminal::EndWord, out)
 }
 
 fn push_theories(of: &[TheoryTree], out: &mut Vec<Terminal>) -> Result<(), AllocError>

@@ -1,5 +1,4 @@
 // The tokens of names, types, patterns and binders.
-// They depend on the trees; the tokens of expressions depend on them.
 ghost use Rattle.std.specs.Prelude.{◌≡◌, ◌++◌, ◌∷◌, [], map, option_map, OnOk};
 ghost use Rattle.tokens_why.specs.declared.terminal.Terminal.TheVariants.{LParen, RParen};
 ghost use Rattle.syntax_why.specs.declared.names.Style.TheVariants.{Plain};
@@ -19,9 +18,7 @@ pub fn operator_terminal(operator: &OpName) -> Terminal
 {
     match operator.style {
         Style::Plain => terminal_of_text(operator.text.as_slice()),
-        Style::Infix => Terminal::OtherWord,
-        Style::Prefix => Terminal::OtherWord,
-        Style::Star => Terminal::OtherWord,
+        _ => Terminal::OtherWord,
     }
 }
 
@@ -49,8 +46,7 @@ fn push_named(terminal: Terminal, out: &mut Vec<Terminal>) -> Result<(), AllocEr
 {
     out.push(Terminal::LParen)?;
     out.push(terminal)?;
-    out.push(Terminal::RParen)?;
-    Ok(())
+    push_terminal(Terminal::RParen, out)
 }
 
 fn push_plain(text: &[u8], out: &mut Vec<Terminal>) -> Result<(), AllocError>
@@ -76,8 +72,7 @@ pub fn push_own(style: Style, text: &[u8], out: &mut Vec<Terminal>) -> Result<()
             out.push(Terminal::LParen)?;
             out.push(terminal_of_text(text))?;
             out.push(Terminal::Wild)?;
-            out.push(Terminal::RParen)?;
-            Ok(())
+            push_terminal(Terminal::RParen, out)
         }
         Style::Star => {
             if is_star(text) {
@@ -104,10 +99,7 @@ pub fn push_type(t: &TypeTree, out: &mut Vec<Terminal>) -> Result<(), AllocError
     ensures { OnOk result (out.new.items ≡ out.old.items ++ terminals (write_form (form_of t.now))) }
 {
     match &t.node {
-        TypeNode::Var(_) => {
-            out.push(Terminal::TyVar)?;
-            Ok(())
-        }
+        TypeNode::Var(_) => push_terminal(Terminal::TyVar, out),
         TypeNode::Named(name, arguments) => {
             push_called(name, out)?;
             push_types(arguments.as_slice(), out)
@@ -115,8 +107,7 @@ pub fn push_type(t: &TypeTree, out: &mut Vec<Terminal>) -> Result<(), AllocError
         TypeNode::Group(parts) => {
             out.push(Terminal::LParen)?;
             push_listed_types(parts.as_slice(), out)?;
-            out.push(Terminal::RParen)?;
-            Ok(())
+            push_terminal(Terminal::RParen, out)
         }
     }
 }
@@ -154,14 +145,8 @@ fn push_pattern(p: &Pat, out: &mut Vec<Terminal>) -> Result<(), AllocError>
         (write_form (pattern_of p.now))) }
 {
     match &p.node {
-        PatNode::Wild => {
-            out.push(Terminal::Wild)?;
-            Ok(())
-        }
-        PatNode::Var(_) => {
-            out.push(Terminal::Lident)?;
-            Ok(())
-        }
+        PatNode::Wild => push_terminal(Terminal::Wild, out),
+        PatNode::Var(_) => push_terminal(Terminal::Lident, out),
         PatNode::Con(name, parts) => {
             push_called(name, out)?;
             push_parts(parts.as_slice(), out)
@@ -169,14 +154,12 @@ fn push_pattern(p: &Pat, out: &mut Vec<Terminal>) -> Result<(), AllocError>
         PatNode::Group(parts) => {
             out.push(Terminal::LParen)?;
             push_patterns(parts.as_slice(), out)?;
-            out.push(Terminal::RParen)?;
-            Ok(())
+            push_terminal(Terminal::RParen, out)
         }
         PatNode::Alias(inner, _) => {
             push_pattern(inner.get(), out)?;
             out.push(Terminal::AsWord)?;
-            out.push(Terminal::Lident)?;
-            Ok(())
+            push_terminal(Terminal::Lident, out)
         }
     }
 }

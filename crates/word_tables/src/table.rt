@@ -1,5 +1,4 @@
 // A table of words.
-// It stands on nothing; the reserved words stand in one.
 ghost use Rattle.std.specs.Prelude.{◌≡◌, ℕ, ◌<◌, length, slice_get, IsTrue};
 ghost use Rattle.word_tables.specs.Words.{ascends, texts, place_of, Finds};
 

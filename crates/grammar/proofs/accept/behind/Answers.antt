@@ -1,11 +1,5 @@
-use Rattle.std.proofs.Common.{◌≡◌, ℕ, ◌+◌, ◌≤◌, ◌<◌, true, false, cond, List, Some, None, map, drop, length, get_or, refl, sym, ap, ◌∙◌, arith, add-one, drop-cons}
-use Rattle.std.proofs.Math.ListN.{drop_of_length-le}
+use Rattle.grammar.proofs.Common.{◌≡◌, ℕ, ◌+◌, ◌≤◌, ◌<◌, true, false, cond, List, Some, None, map, drop, length, get_or, refl, sym, ap, ◌∙◌, arith, add-one, drop-cons, drop_of_length-le, Terminal, Symbol, same, find, line_of}
 use Rattle.std.specs.Borrow.{Bor}
-use Rattle.tokens_why.specs.declared.terminal.Terminal.{Terminal}
-use Rattle.grammar.specs.declared.symbols.Symbol.{Symbol}
-use Rattle.grammar.specs.Alphabet.{same}
-use Rattle.grammar.specs.Machine.{find}
-use Rattle.grammar.specs.Rows.{line_of}
 use Rattle.grammar.proofs.accept.behind.Goals as goal
 
 abbrev Rows : Type 0

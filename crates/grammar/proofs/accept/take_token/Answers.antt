@@ -1,6 +1,4 @@
-use Rattle.std.proofs.Common.{true, false, reverse, sym, ap, ◌∙◌, subst}
-use Rattle.grammar.specs.Machine.{takes, step}
-use Rattle.grammar.specs.Rows.{IsPut, IsStep}
+use Rattle.grammar.proofs.Common.{true, false, reverse, sym, ap, ◌∙◌, subst, takes, step, IsPut, IsStep}
 use Rattle.grammar.proofs.Steps.{popped, put_step, stuck_step, passed_step, kept, shorter}
 use Rattle.grammar.proofs.accept.take_token.Goals as goal
 

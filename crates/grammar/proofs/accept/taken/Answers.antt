@@ -1,7 +1,5 @@
-use Rattle.std.proofs.Common.{◌≡◌, false, [], ◌∷◌, Some, length, take, reverse, get_or, ◌∙◌, subst, arith}
+use Rattle.grammar.proofs.Common.{◌≡◌, false, [], ◌∷◌, Some, length, take, reverse, get_or, ◌∙◌, subst, arith, step, run, IsStep}
 use Rattle.tokens_why.specs.declared.terminal.Terminal.TheVariants as t
-use Rattle.grammar.specs.Machine.{step, run}
-use Rattle.grammar.specs.Rows.{IsStep}
 use Rattle.grammar.proofs.Steps.{after, stepped, not_stepped}
 use Rattle.grammar.proofs.accept.taken.Goals as goal
 

@@ -1,6 +1,4 @@
-use Rattle.std.proofs.Common.{◌≡◌, [], ◌∷◌, ◌++◌, Some, take, option_map, reverse, sym, ap, ◌∙◌, subst}
-use Rattle.grammar.specs.Machine.{run, may_end}
-use Rattle.grammar.specs.Rows.{IsStep}
+use Rattle.grammar.proofs.Common.{◌≡◌, [], ◌∷◌, ◌++◌, Some, take, option_map, reverse, sym, ap, ◌∙◌, subst, run, may_end, IsStep}
 use Rattle.grammar.proofs.EndLemmas.{unaccepted, step_behind, whether}
 use Rattle.grammar.proofs.ends.first_fault.Goals as goal
 use Rattle.grammar.proofs.ends.first_fault.Goals.{else-place-tokens-via-then-place-tokens+else-may_stop, else-place-tokens-via-else-place-tokens}

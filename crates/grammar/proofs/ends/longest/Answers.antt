@@ -1,8 +1,5 @@
-use Rattle.std.proofs.Common.{◌≡◌, ◌+◌, false, cond, [], ◌∷◌, Some, take, reverse, get_or, sym, ap, ◌∙◌, subst}
+use Rattle.grammar.proofs.Common.{◌≡◌, ◌+◌, false, cond, [], ◌∷◌, Some, take, reverse, get_or, sym, ap, ◌∙◌, subst, step, run, may_end, IsStep, IsLongest}
 use Rattle.tokens_why.specs.declared.terminal.Terminal.TheVariants as t
-use Rattle.grammar.specs.Machine.{step, run, may_end}
-use Rattle.grammar.specs.Rows.{IsStep}
-use Rattle.grammar.specs.Ends.{IsLongest}
 use Rattle.grammar.proofs.Steps.{after, stepped, not_stepped}
 use Rattle.grammar.proofs.EndLemmas.{longest_more, longest_stuck}
 use Rattle.grammar.proofs.ends.longest.Goals as goal

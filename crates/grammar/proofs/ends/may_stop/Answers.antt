@@ -1,6 +1,4 @@
-use Rattle.std.proofs.Common.{reverse, sym, ap, ◌∙◌, arith, refl}
-use Rattle.std.proofs.Math.ListN.{drop_of_length-le}
-use Rattle.grammar.specs.Machine.{may_end}
+use Rattle.grammar.proofs.Common.{reverse, sym, ap, ◌∙◌, arith, refl, drop_of_length-le, may_end}
 use Rattle.grammar.specs.declared.symbols.Symbol.TheVariants as s
 use Rattle.tokens_why.specs.declared.terminal.Terminal.TheVariants as t
 use Rattle.grammar.proofs.EndLemmas.{stop_more, stop_not}

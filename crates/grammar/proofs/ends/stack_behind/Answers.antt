@@ -1,8 +1,5 @@
-use Rattle.std.proofs.Common.{◌≤◌, false, [], ◌∷◌, length, reverse, get_or, sym, ap, ◌∙◌, subst, arith}
-use Rattle.std.proofs.lemmas.List.{take_all}
+use Rattle.grammar.proofs.Common.{◌≤◌, false, [], ◌∷◌, length, reverse, get_or, sym, ap, ◌∙◌, subst, arith, take_all, step, run, IsStep}
 use Rattle.tokens_why.specs.declared.terminal.Terminal.TheVariants as t
-use Rattle.grammar.specs.Machine.{step, run}
-use Rattle.grammar.specs.Rows.{IsStep}
 use Rattle.grammar.proofs.Steps.{after, stepped, not_stepped}
 use Rattle.grammar.proofs.EndLemmas.{stuck_all}
 use Rattle.grammar.proofs.ends.stack_behind.Goals as goal

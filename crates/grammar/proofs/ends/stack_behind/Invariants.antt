@@ -1,5 +1,4 @@
-use Rattle.std.proofs.Common.{◌≡◌, [], ◌∷◌, Some, take, reverse}
-use Rattle.grammar.specs.Machine.{run}
+use Rattle.grammar.proofs.Common.{◌≡◌, [], ◌∷◌, Some, take, reverse, run}
 use Rattle.grammar.proofs.ends.stack_behind.Given as goal
 
 abbrev pub invariant-loop-x : goal.invariant-loop-x

@@ -1,5 +1,4 @@
-use Rattle.std.proofs.Common.{◌≡◌, ◌++◌, length, reverse}
-use Rattle.grammar.specs.Machine.{complete}
+use Rattle.grammar.proofs.Common.{◌≡◌, ◌++◌, length, reverse, complete}
 use Rattle.grammar.proofs.shortest.completion.Given as goal
 
 abbrev pub invariant-loop-symbol : goal.invariant-loop-symbol

@@ -1,18 +1,18 @@
+use Rattle.parse_decls.proofs.Cited.{member_body, member_params, member_read, member_result}
 use Rattle.parse_terms.proofs.Steps.{can_next, start}
-use Rattle.parse_decls.proofs.BodiesRead as B
 use Rattle.parse_decls.proofs.bodies.member.Goals as goal
 
 pub declared_name-requires : goal.declared_name-requires
 declared_name-requires c = can_next (start c.requires)
 
 pub params-requires : goal.params-requires
-params-requires c = can_next (B.member_params c.requires c.in_ok-name.ensures)
+params-requires c = can_next (member_params c.requires c.in_ok-name.ensures)
 
 pub member_result-requires : goal.member_result-requires
-member_result-requires c = can_next (B.member_result c.requires c.in_ok-name.ensures c.in_ok-params.ensures)
+member_result-requires c = can_next (member_result c.requires c.in_ok-name.ensures c.in_ok-params.ensures)
 
 pub expression-requires : goal.expression-requires
-expression-requires c = can_next (B.member_body c.requires c.in_ok-name.ensures c.in_ok-params.ensures c.in_ok-result.equal c.in_ok-result.ensures)
+expression-requires c = can_next (member_body c.requires c.in_ok-name.ensures c.in_ok-params.ensures c.in_ok-result.equal c.in_ok-result.ensures)
 
 pub returns : goal.returns
-returns c = B.member_read c.requires c.in_ok-name.ensures c.in_ok-params.ensures c.in_ok-result.equal c.in_ok-result.ensures c.in_ok-body.ensures.read
+returns c = member_read c.requires c.in_ok-name.ensures c.in_ok-params.ensures c.in_ok-result.equal c.in_ok-result.ensures c.in_ok-body.ensures.read

@@ -1,14 +1,12 @@
-use Rattle.std.proofs.Common.{sym, ◌∙◌, [], ◌∷◌, refl}
+use Rattle.parse_decls.proofs.Cited.{sym, ◌∙◌, [], ◌∷◌, refl, can_next, again, next, take, expand, only, start, result_start}
 use Rattle.tokens_why.specs.declared.terminal.Terminal.TheVariants as t
-use Rattle.parse_terms.proofs.Steps.{can_next, again, next, take, expand, only, start}
-use Rattle.parse_decls.proofs.BodiesRead as B
 use Rattle.parse_decls.proofs.bodies.member_result.Goals as goal
 
 pub type_tree-requires : goal.type_tree-requires
-type_tree-requires c = can_next (B.result_start c.requires (sym c.at-is_typed.ensures ∙ c.if-is_typed.true))
+type_tree-requires c = can_next (result_start c.requires (sym c.at-is_typed.ensures ∙ c.if-is_typed.true))
 
 pub returns-then-is_typed : goal.returns-then-is_typed
-returns-then-is_typed c = again (take (next (B.result_start c.requires (sym c.at-is_typed.ensures ∙ c.if-is_typed.true)) c.in_ok-ty.ensures)) 1 refl (λ k us. refl)
+returns-then-is_typed c = again (take (next (result_start c.requires (sym c.at-is_typed.ensures ∙ c.if-is_typed.true)) c.in_ok-ty.ensures)) 1 refl (λ k us. refl)
 
 pub returns : goal.returns
 returns c = again (expand (start c.requires) t.Equal (only (start c.requires) t.Equal (t.Colon ∷ []) refl refl ((sym c.at-is_typed.ensures ∙ c.if-is_typed.false), tt)) refl refl) 1 refl (λ k us. refl)

@@ -1,17 +1,14 @@
-use Rattle.std.proofs.Common.{map}
-use Rattle.syntax_why.specs.SurfaceDeclarations.{clause_of}
-use Rattle.parse_terms.proofs.Steps.{can_next, start}
-use Rattle.parse_decls.proofs.BodiesRead as B
+use Rattle.parse_decls.proofs.Cited.{map, clause_of, can_next, start, clause_start, inductive_params, inductive_read}
 use Rattle.parse_decls.proofs.clauses.inductive.Goals as goal
 
 pub declared_name-requires : goal.declared_name-requires
 declared_name-requires c = can_next (start c.requires)
 
 pub params-requires : goal.params-requires
-params-requires c = can_next (B.inductive_params c.requires c.in_ok-name.ensures)
+params-requires c = can_next (inductive_params c.requires c.in_ok-name.ensures)
 
 pub clauses-requires : goal.clauses-requires
-clauses-requires c = can_next (B.clause_start c.requires c.in_ok-name.ensures c.in_ok-params.ensures)
+clauses-requires c = can_next (clause_start c.requires c.in_ok-name.ensures c.in_ok-params.ensures)
 
 pub returns : goal.returns
-returns c = B.inductive_read c.requires c.in_ok-name.ensures c.in_ok-params.ensures c.in_ok-read.read.bar (map clause_of c.in_ok-read.read.clauses) c.in_ok-read.read.end c.in_ok-read.ensures
+returns c = inductive_read c.requires c.in_ok-name.ensures c.in_ok-params.ensures c.in_ok-read.read.bar (map clause_of c.in_ok-read.read.clauses) c.in_ok-read.read.end c.in_ok-read.ensures

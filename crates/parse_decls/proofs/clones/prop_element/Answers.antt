@@ -1,13 +1,5 @@
-use Rattle.std.proofs.Common.{sym, ap, ◌∙◌, subst, refl}
+use Rattle.parse_decls.proofs.Common.{sym, ap, ◌∙◌, subst, refl, called_of, called, prop_element, scoped_of, prop_kind, IsRead, terminal_at, lexemes, can_next, done, next}
 use Rattle.grammar.specs.declared.symbols.Symbol.TheVariants as s
-use Rattle.syntax_why.specs.Surface.{called_of}
-use Rattle.syntax_why.specs.Forms.{called}
-use Rattle.syntax_why.specs.Declarations.{prop_element}
-use Rattle.parse_terms.specs.Names.{scoped_of}
-use Rattle.parse_decls.specs.Clones.{prop_kind}
-use Rattle.parse_terms.specs.Reading.{IsRead, terminal_at}
-use Rattle.parse_terms.specs.Sources.{lexemes}
-use Rattle.parse_terms.proofs.Steps.{can_next, done, next}
 use Rattle.parse_decls.proofs.ClonesRead as R
 use Rattle.parse_decls.proofs.clones.prop_element.Goals as goal
 

@@ -1,26 +1,20 @@
-use Rattle.std.proofs.Common.{[], ◌∷◌, ◌++◌, map, sym, ap, ◌∙◌, subst, ◌+◌, refl, append_assoc, append-nil}
+use Rattle.parse_decls.proofs.Cited.{[], ◌∷◌, ◌++◌, map, sym, ap, ◌∙◌, subst, ◌+◌, refl, append_assoc, append-nil, map-append, element_of, IsRead, terminal_at, lexemes, done, none_of, pass, start, can_next, again, next, expand, Elements, elements_with}
 use Rattle.tokens_why.specs.declared.terminal.Terminal.TheVariants as t
-use Rattle.std.proofs.lemmas.List.{map-append}
 use Rattle.grammar.specs.declared.symbols.Symbol.TheVariants as s
-use Rattle.syntax_why.specs.SurfaceDeclarations.{element_of}
-use Rattle.parse_terms.specs.Reading.{IsRead, terminal_at}
-use Rattle.parse_terms.specs.Sources.{lexemes}
-use Rattle.parse_terms.proofs.Steps.{done, none_of, pass, start, can_next, again, next, expand}
-use Rattle.parse_decls.proofs.ClonesRead as R
 use Rattle.parse_decls.proofs.clones.substitution.Goals as goal
 
 pub element-requires : goal.element-requires
-element-requires c = can_next (R.elements_with c.requires (sym c.at-is_given.ensures ∙ c.if-is_given.true))
+element-requires c = can_next (elements_with c.requires (sym c.at-is_given.ensures ∙ c.if-is_given.true))
 
 pub more-init : goal.more-init
-more-init c = subst (λ ts. R.Elements (lexemes c.args.source) c.args.i (map element_of ts) c.in_ok-first.j) (sym (c.in_ok-push.ensures.items ∙ ap (λ v. v ++ c.in_ok-first.first ∷ []) c.new-elements.ensures.items))
-    (again (next (R.elements_with c.requires (sym c.at-is_given.ensures ∙ c.if-is_given.true)) c.in_ok-first.ensures) 1 refl (λ k us. refl))
+more-init c = subst (λ ts. Elements (lexemes c.args.source) c.args.i (map element_of ts) c.in_ok-first.j) (sym (c.in_ok-push.ensures.items ∙ ap (λ v. v ++ c.in_ok-first.first ∷ []) c.new-elements.ensures.items))
+    (again (next (elements_with c.requires (sym c.at-is_given.ensures ∙ c.if-is_given.true)) c.in_ok-first.ensures) 1 refl (λ k us. refl))
 
 pub element-requires-in-more : goal.element-requires-in-more
 element-requires-in-more c = can_next (expand c.more.invariant t.Comma (sym c.at.ensures ∙ c.more-test.true) refl refl)
 
 pub more-preserved : goal.more-preserved
-more-preserved c = subst (λ ts. R.Elements (lexemes c.args.source) c.args.i ts c.in_ok-next.end) (sym (ap (map element_of) c.in_ok-push-2.ensures.items ∙ map-append element_of c.more.elements.items (c.in_ok-next.next ∷ [])))
+more-preserved c = subst (λ ts. Elements (lexemes c.args.source) c.args.i ts c.in_ok-next.end) (sym (ap (map element_of) c.in_ok-push-2.ensures.items ∙ map-append element_of c.more.elements.items (c.in_ok-next.next ∷ [])))
     (again (next (expand c.more.invariant t.Comma (sym c.at.ensures ∙ c.more-test.true) refl refl) c.in_ok-next.ensures) 1 refl (λ k us. ap (λ w. (w, us.1)) (sym (append_assoc (map element_of c.more.elements.items) ((element_of c.in_ok-next.next) ∷ []) us.0))))
 
 pub returns-then-is_given : goal.returns-then-is_given

@@ -1,12 +1,6 @@
-use Rattle.std.proofs.Common.{rules, sym, subst, refl}
+use Rattle.parse_decls.proofs.Cited.{rules, sym, subst, refl, form_of, type_element, IsRead, lexemes, can_next, stands, done, next, inside}
 use Rattle.tokens_why.specs.declared.terminal.Terminal.TheVariants as t
 use Rattle.grammar.specs.declared.symbols.Symbol.TheVariants as s
-use Rattle.syntax_why.specs.Surface.{form_of}
-use Rattle.syntax_why.specs.Declarations.{type_element}
-use Rattle.parse_terms.specs.Reading.{IsRead}
-use Rattle.parse_terms.specs.Sources.{lexemes}
-use Rattle.parse_terms.proofs.Steps.{can_next, stands, done, next}
-use Rattle.parse_terms.proofs.TextsRead as T
 use Rattle.parse_decls.proofs.ClonesRead as R
 use Rattle.parse_decls.proofs.clones.type_element.Goals as goal
 
@@ -14,7 +8,7 @@ pub lower_name-requires : goal.lower_name-requires
 lower_name-requires c = can_next (R.type_start c.requires.can c.requires.word)
 
 pub overflow_add-n : goal.overflow_add-n
-overflow_add-n c = let h = T.inside c.args.source c.in_ok-vars.n (stands (lexemes c.args.source) c.in_ok-vars.n t.Equal (R.type_sign c.requires.can c.requires.word (record { scopes = c.in_ok-name.name.scopes; last = c.in_ok-name.name.text }) c.in_ok-name.j c.in_ok-name.ensures.read c.in_ok-vars.vars c.in_ok-vars.n c.in_ok-vars.ensures) refl) in search rules
+overflow_add-n c = let h = inside c.args.source c.in_ok-vars.n (stands (lexemes c.args.source) c.in_ok-vars.n t.Equal (R.type_sign c.requires.can c.requires.word (record { scopes = c.in_ok-name.name.scopes; last = c.in_ok-name.name.text }) c.in_ok-name.j c.in_ok-name.ensures.read c.in_ok-vars.vars c.in_ok-vars.n c.in_ok-vars.ensures) refl) in search rules
 
 pub type_tree-requires : goal.type_tree-requires
 type_tree-requires c = can_next (R.type_equal c.requires.can c.requires.word (record { scopes = c.in_ok-name.name.scopes; last = c.in_ok-name.name.text }) c.in_ok-name.j c.in_ok-name.ensures.read c.in_ok-vars.vars c.in_ok-vars.n c.in_ok-vars.ensures)

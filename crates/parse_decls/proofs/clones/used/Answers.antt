@@ -1,28 +1,26 @@
-use Rattle.std.proofs.Common.{sym, ◌∙◌, refl}
-use Rattle.parse_terms.proofs.Steps.{can_next, done, next}
-use Rattle.parse_decls.proofs.ClonesRead as R
+use Rattle.parse_decls.proofs.Cited.{sym, ◌∙◌, refl, can_next, done, next, bare, exported, imported}
 use Rattle.parse_decls.proofs.clones.used.Goals as goal
 
 pub path-requires : goal.path-requires
-path-requires c = can_next (R.exported c.requires (sym c.at-is_exported.ensures ∙ c.if-is_exported.true))
+path-requires c = can_next (exported c.requires (sym c.at-is_exported.ensures ∙ c.if-is_exported.true))
 
 pub path-requires-then-is_imported : goal.path-requires-then-is_imported
-path-requires-then-is_imported c = can_next (R.imported c.requires (sym c.at-is_imported.ensures ∙ c.if-is_imported.true))
+path-requires-then-is_imported c = can_next (imported c.requires (sym c.at-is_imported.ensures ∙ c.if-is_imported.true))
 
 pub path-requires-2 : goal.path-requires-2
-path-requires-2 c = can_next (R.bare c.requires (sym c.at-is_exported.ensures ∙ c.if-is_exported.false) (sym c.at-is_imported.ensures ∙ c.if-is_imported.false))
+path-requires-2 c = can_next (bare c.requires (sym c.at-is_exported.ensures ∙ c.if-is_exported.false) (sym c.at-is_imported.ensures ∙ c.if-is_imported.false))
 
 pub renamed-requires : goal.renamed-requires
-renamed-requires c = can_next (next (R.imported c.requires (sym c.at-is_imported.ensures ∙ c.if-is_imported.true)) c.in_ok-imported.ensures)
+renamed-requires c = can_next (next (imported c.requires (sym c.at-is_imported.ensures ∙ c.if-is_imported.true)) c.in_ok-imported.ensures)
 
 pub renamed-requires-2 : goal.renamed-requires-2
-renamed-requires-2 c = can_next (next (R.bare c.requires (sym c.at-is_exported.ensures ∙ c.if-is_exported.false) (sym c.at-is_imported.ensures ∙ c.if-is_imported.false)) c.in_ok-bare.ensures)
+renamed-requires-2 c = can_next (next (bare c.requires (sym c.at-is_exported.ensures ∙ c.if-is_exported.false) (sym c.at-is_imported.ensures ∙ c.if-is_imported.false)) c.in_ok-bare.ensures)
 
 pub returns-then-is_exported : goal.returns-then-is_exported
-returns-then-is_exported c = done (next (R.exported c.requires (sym c.at-is_exported.ensures ∙ c.if-is_exported.true)) c.in_ok-exported.ensures) _ refl (λ k us. refl)
+returns-then-is_exported c = done (next (exported c.requires (sym c.at-is_exported.ensures ∙ c.if-is_exported.true)) c.in_ok-exported.ensures) _ refl (λ k us. refl)
 
 pub returns-then-is_imported : goal.returns-then-is_imported
-returns-then-is_imported c = done (next (next (R.imported c.requires (sym c.at-is_imported.ensures ∙ c.if-is_imported.true)) c.in_ok-imported.ensures) c.in_ok-rename.ensures) _ refl (λ k us. refl)
+returns-then-is_imported c = done (next (next (imported c.requires (sym c.at-is_imported.ensures ∙ c.if-is_imported.true)) c.in_ok-imported.ensures) c.in_ok-rename.ensures) _ refl (λ k us. refl)
 
 pub returns : goal.returns
-returns c = done (next (next (R.bare c.requires (sym c.at-is_exported.ensures ∙ c.if-is_exported.false) (sym c.at-is_imported.ensures ∙ c.if-is_imported.false)) c.in_ok-bare.ensures) c.in_ok-name.ensures) _ refl (λ k us. refl)
+returns c = done (next (next (bare c.requires (sym c.at-is_exported.ensures ∙ c.if-is_exported.false) (sym c.at-is_imported.ensures ∙ c.if-is_imported.false)) c.in_ok-bare.ensures) c.in_ok-name.ensures) _ refl (λ k us. refl)

@@ -1,15 +1,6 @@
-use Rattle.std.proofs.Common.{rules, ◌≤◌, ◌+◌, [], ◌∷◌, ◌++◌, map, sym, ap, ◌∙◌, subst, refl, append_assoc, append-nil}
+use Rattle.parse_decls.proofs.Cited.{rules, ◌≤◌, ◌+◌, [], ◌∷◌, ◌++◌, map, sym, ap, ◌∙◌, subst, refl, append_assoc, append-nil, map-append, at, inductive_decl, more_decls, inductive_of, decl_of_node-Inductive, lexemes, terminal_at, can_run, again, follow, none_of, pass, IsDecl, upto}
 use Rattle.grammar.specs.declared.symbols.Symbol.TheVariants as s
 use Rattle.tokens_why.specs.declared.terminal.Terminal.TheVariants as t
-use Rattle.std.proofs.lemmas.List.{map-append}
-use Rattle.syntax_why.specs.Lexeme.{at}
-use Rattle.syntax_why.specs.Declarations.{inductive_decl, more_decls}
-use Rattle.syntax_why.specs.SurfaceDeclarations.{inductive_of}
-use Rattle.parse_terms.specs.Sources.{lexemes}
-use Rattle.parse_terms.specs.Reading.{terminal_at}
-use Rattle.parse_terms.proofs.Steps.{can_run, again, follow, none_of, pass}
-use Rattle.parse_terms.proofs.TextsRead as T
-use Rattle.parse_decls.specs.Bodies.{IsDecl}
 use Rattle.parse_decls.proofs.DeclaringRead as D
 use Rattle.parse_decls.proofs.declaring.inductive_declaration.Goals as goal
 
@@ -26,7 +17,7 @@ pub more-preserved : goal.more-preserved
 more-preserved c = subst (λ ts. D.Inductives (lexemes c.args.source) c.args.i ts c.in_ok-next.end) (sym (ap (map inductive_of) c.in_ok-push-2.ensures.items ∙ map-append inductive_of c.more.of.items (c.in_ok-next.next ∷ []))) (record { last = c.in_ok-next.ensures.last; is = again (follow c.in_ok-next.ensures.is (D.with_start (lexemes c.args.source) c.args.i (map inductive_of c.more.of.items) c.more.j c.more.invariant (sym c.at.ensures ∙ c.more-test.true))) 1 refl (λ k us. ap (λ v. (more_decls (inductive_decl (at c.args.i) v) us.1.0, us.1.1)) (sym (append_assoc (map inductive_of c.more.of.items) ((inductive_of c.in_ok-next.next) ∷ []) us.0.others))) })
 
 pub more-smaller : goal.more-smaller
-more-smaller c = let a : c.more.j + 1 + 1 ≤ c.in_ok-next.end = c.in_ok-next.ensures.is.ahead in let w = T.upto c.args.source c.in_ok-next.end c.in_ok-next.ensures.is.within in search rules
+more-smaller c = let a : c.more.j + 1 + 1 ≤ c.in_ok-next.end = c.in_ok-next.ensures.is.ahead in let w = upto c.args.source c.in_ok-next.end c.in_ok-next.ensures.is.within in search rules
 
 pub returns : goal.returns
-returns c = subst (λ d. IsDecl (lexemes c.args.source) c.args.i d c.more.j) (sym (c.inductive-tree.ensures ∙ ap (λ a. inductive_decl a (map inductive_of c.from_vec.result)) c.place-here.ensures ∙ ap (λ ds. inductive_decl (at c.args.i) (map inductive_of ds)) c.from_vec.ensures)) (again (pass c.more.invariant.is refl refl (none_of s.Clauses (t.Bar ∷ t.WithWord ∷ []) (terminal_at (lexemes c.args.source) c.more.j) refl (c.more.invariant.last, ((sym c.at.ensures ∙ c.more-test.false), tt)))) 1 refl (λ k us. ap (λ v. (more_decls (inductive_decl (at c.args.i) v) us.0, us.1)) (append-nil (map inductive_of c.more.of.items))))
+returns c = subst (λ d. IsDecl (lexemes c.args.source) c.args.i d c.more.j) (sym (c.new-tree.ensures ∙ decl_of_node-Inductive _ _ ∙ ap (λ a. inductive_decl a (map inductive_of c.from_vec.result)) c.place-here.ensures ∙ ap (λ ds. inductive_decl (at c.args.i) (map inductive_of ds)) c.from_vec.ensures)) (again (pass c.more.invariant.is refl refl (none_of s.Clauses (t.Bar ∷ t.WithWord ∷ []) (terminal_at (lexemes c.args.source) c.more.j) refl (c.more.invariant.last, ((sym c.at.ensures ∙ c.more-test.false), tt)))) 1 refl (λ k us. ap (λ v. (more_decls (inductive_decl (at c.args.i) v) us.0, us.1)) (append-nil (map inductive_of c.more.of.items))))

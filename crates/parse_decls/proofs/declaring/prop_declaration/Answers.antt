@@ -1,10 +1,4 @@
-use Rattle.std.proofs.Common.{sym, ap, ◌∙◌, subst}
-use Rattle.syntax_why.specs.Declarations.{prop_decl}
-use Rattle.syntax_why.specs.Surface.{tree_of}
-use Rattle.syntax_why.specs.SurfaceDeclarations.{plain_name}
-use Rattle.parse_terms.specs.Sources.{lexemes}
-use Rattle.parse_terms.proofs.Steps.{can_next}
-use Rattle.parse_decls.specs.Bodies.{IsDecl}
+use Rattle.parse_decls.proofs.Common.{sym, ap, ◌∙◌, subst, prop_decl, tree_of, plain_name, decl_of_node-Prop, lexemes, can_next, IsDecl}
 use Rattle.parse_decls.proofs.DeclaringRead as D
 use Rattle.parse_decls.proofs.declaring.prop_declaration.Goals as goal
 
@@ -15,4 +9,4 @@ pub expression-requires : goal.expression-requires
 expression-requires c = can_next (D.prop_expr c.requires.can c.args.kind c.requires.word c.in_ok-name.ensures)
 
 pub returns : goal.returns
-returns c = subst (λ d. IsDecl (lexemes c.args.source) c.args.i d c.in_ok-prop.prop.end) (sym (c.prop-tree.ensures ∙ ap (λ a. prop_decl a c.args.kind (plain_name c.in_ok-name.name) (tree_of c.in_ok-prop.prop.tree)) c.place-here.ensures)) (D.prop_read c.requires.can c.args.kind c.requires.word c.in_ok-name.ensures c.in_ok-prop.ensures.read)
+returns c = subst (λ d. IsDecl (lexemes c.args.source) c.args.i d c.in_ok-prop.prop.end) (sym (c.new-tree.ensures ∙ decl_of_node-Prop _ _ _ _ ∙ ap (λ a. prop_decl a c.args.kind (plain_name c.in_ok-name.name) (tree_of c.in_ok-prop.prop.tree)) c.place-here.ensures)) (D.prop_read c.requires.can c.args.kind c.requires.word c.in_ok-name.ensures c.in_ok-prop.ensures.read)

@@ -1,7 +1,4 @@
-use Rattle.std.proofs.Common.{◌-◌, ◌*◌, ◌+◌, length, map}
-use Rattle.syntax_why.specs.SurfaceDeclarations.{decl_of}
-use Rattle.parse_terms.specs.Sources.{lexemes}
-use Rattle.parse_decls.proofs.FilesRead as R
+use Rattle.parse_decls.proofs.Cited.{◌-◌, ◌*◌, ◌+◌, length, map, decl_of, lexemes, Declared}
 use Rattle.parse_decls.proofs.files.+declarations.Given as goal
 
 abbrev pub decreases-declaration : goal.decreases-declaration
@@ -14,7 +11,7 @@ abbrev pub decreases-declarations : goal.decreases-declarations
 decreases-declarations l = 4 * (length l.source.tokens.now - l.i) + 2
 
 abbrev pub invariant-declarations-items : goal.invariant-declarations-items
-invariant-declarations-items l = R.Declared (lexemes l.source) l.fn.i (map decl_of l.items.items) l.j
+invariant-declarations-items l = Declared (lexemes l.source) l.fn.i (map decl_of l.items.items) l.j
 
 abbrev pub decreases-declarations-items : goal.decreases-declarations-items
 decreases-declarations-items l = length l.source.tokens.now - l.j

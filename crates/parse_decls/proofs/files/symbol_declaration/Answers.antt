@@ -1,10 +1,4 @@
-use Rattle.std.proofs.Common.{◌≡◌, true, sym, ap, ◌∙◌, subst}
-use Rattle.grammar.specs.Alphabet.{same}
-use Rattle.syntax_why.specs.Declarations.{prop_word}
-use Rattle.parse_decls.specs.Clones.{prop_kind}
-use Rattle.parse_terms.specs.Reading.{terminal_at}
-use Rattle.parse_terms.specs.Sources.{lexemes}
-use Rattle.parse_decls.proofs.FilesRead as R
+use Rattle.parse_decls.proofs.Cited.{◌≡◌, true, sym, ap, ◌∙◌, subst, same, prop_word, prop_kind, terminal_at, lexemes, prop_left}
 use Rattle.parse_decls.proofs.files.symbol_declaration.Goals as goal
 
 pub function_declaration-requires : goal.function_declaration-requires
@@ -20,4 +14,4 @@ pub inductive_declaration-requires : goal.inductive_declaration-requires
 inductive_declaration-requires c = record { can = c.requires.can; word = sym c.at-is_inductive.ensures ∙ c.if-is_inductive.true }
 
 pub prop_declaration-requires : goal.prop_declaration-requires
-prop_declaration-requires c = record { can = c.requires.can; word = subst (λ k. same (prop_word k) (terminal_at (lexemes c.args.source) c.args.i) ≡ true) (sym (c.prop_kind-kind.ensures ∙ ap prop_kind c.terminal.ensures)) (R.prop_left c.requires.can c.requires.no_end c.requires.no_scope c.requires.no_type c.requires.no_use c.requires.no_clone (sym c.at-is_function.ensures ∙ c.if-is_function.false) (sym c.at-is_predicate.ensures ∙ c.if-is_predicate.false) (sym c.at-is_constant.ensures ∙ c.if-is_constant.false) (sym c.at-is_inductive.ensures ∙ c.if-is_inductive.false)) }
+prop_declaration-requires c = record { can = c.requires.can; word = subst (λ k. same (prop_word k) (terminal_at (lexemes c.args.source) c.args.i) ≡ true) (sym (c.prop_kind-kind.ensures ∙ ap prop_kind c.terminal.ensures)) (prop_left c.requires.can c.requires.no_end c.requires.no_scope c.requires.no_type c.requires.no_use c.requires.no_clone (sym c.at-is_function.ensures ∙ c.if-is_function.false) (sym c.at-is_predicate.ensures ∙ c.if-is_predicate.false) (sym c.at-is_constant.ensures ∙ c.if-is_constant.false) (sym c.at-is_inductive.ensures ∙ c.if-is_inductive.false)) }

@@ -1,22 +1,13 @@
-use Rattle.std.proofs.Common.{◌+◌, map, sym, subst, [], ◌∷◌, refl, ◌∙◌, ap}
+use Rattle.parse_decls.proofs.Cited.{◌+◌, map, sym, subst, [], ◌∷◌, refl, ◌∙◌, ap, at, name, decls, decl_of, lexemes, token_at, next_within, only, can_next, take, again, next, IsTheory, inside, upper_there, theory_so, theory_start}
 use Rattle.tokens_why.specs.declared.terminal.Terminal.TheVariants as t
-use Rattle.syntax_why.specs.Lexeme.{at, name}
-use Rattle.syntax_why.specs.SurfaceDeclarations.{decls, decl_of}
-use Rattle.parse_terms.specs.Sources.{lexemes}
-use Rattle.parse_terms.specs.Reading.{token_at}
-use Rattle.parse_terms.proofs.Steps.{next_within, only, can_next, take, again, next}
-use Rattle.parse_terms.proofs.TextsRead as T
-use Rattle.parse_decls.proofs.NamesThere as N
-use Rattle.parse_decls.proofs.FilesRead as R
-use Rattle.parse_decls.specs.Files.{IsTheory}
 use Rattle.parse_decls.proofs.files.theory.Goals as goal
 
 pub name_at-requires : goal.name_at-requires
-name_at-requires c = T.inside c.args.source (c.args.i + 1) (next_within (R.theory_start c.requires.can c.requires.word) refl)
+name_at-requires c = inside c.args.source (c.args.i + 1) (next_within (theory_start c.requires.can c.requires.word) refl)
 
 pub declarations-requires : goal.declarations-requires
-declarations-requires c = can_next (take (R.theory_start c.requires.can c.requires.word))
+declarations-requires c = can_next (take (theory_start c.requires.can c.requires.word))
 
 pub returns : goal.returns
 returns c = subst (λ a. IsTheory (lexemes c.args.source) c.args.i (record { at = a; is_module = c.at-is_module.result; name = c.in_ok-name.name; decls = decls (map decl_of c.in_ok-decls.decls) }) c.in_ok-decls.end) (sym c.place-here.ensures)
-    (again (next (take (R.theory_start c.requires.can c.requires.word)) c.in_ok-decls.ensures) 1 refl (λ k us. ap (λ v. (R.theory_so c.args.i v (name (c.args.i + 1) (token_at (lexemes c.args.source) (c.args.i + 1)).text) (decls (map decl_of c.in_ok-decls.decls)) ∷ us.0, us.1)) (sym c.at-is_module.ensures) ∙ ap (λ v. (R.theory_so c.args.i c.at-is_module.result v (decls (map decl_of c.in_ok-decls.decls)) ∷ us.0, us.1)) (sym (N.upper_there (lexemes c.args.source) (c.args.i + 1) c.in_ok-name.name c.in_ok-name.ensures.place c.in_ok-name.ensures.text (only (R.theory_start c.requires.can c.requires.word) t.Uident [] refl refl tt)))))
+    (again (next (take (theory_start c.requires.can c.requires.word)) c.in_ok-decls.ensures) 1 refl (λ k us. ap (λ v. (theory_so c.args.i v (name (c.args.i + 1) (token_at (lexemes c.args.source) (c.args.i + 1)).text) (decls (map decl_of c.in_ok-decls.decls)) ∷ us.0, us.1)) (sym c.at-is_module.ensures) ∙ ap (λ v. (theory_so c.args.i c.at-is_module.result v (decls (map decl_of c.in_ok-decls.decls)) ∷ us.0, us.1)) (sym (upper_there (lexemes c.args.source) (c.args.i + 1) c.in_ok-name.name c.in_ok-name.ensures.place c.in_ok-name.ensures.text (only (theory_start c.requires.can c.requires.word) t.Uident [] refl refl tt)))))

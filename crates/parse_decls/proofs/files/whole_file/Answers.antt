@@ -1,23 +1,17 @@
-use Rattle.std.proofs.Common.{◌≡◌, false, [], ◌∷◌, Some, map, sym, ap, ◌∙◌, subst, refl, append_assoc}
-use Rattle.std.proofs.lemmas.List.{map-append}
+use Rattle.parse_decls.proofs.Cited.{◌≡◌, false, [], ◌∷◌, Some, map, sym, ap, ◌∙◌, subst, refl, append_assoc, map-append, theory_of, lexemes, can_next, again, start, follow, read, Theories, can_file, theories_done}
 use Rattle.grammar.specs.declared.symbols.Symbol.TheVariants as s
-use Rattle.syntax_why.specs.SurfaceDeclarations.{theory_of}
-use Rattle.parse_terms.specs.Sources.{lexemes}
-use Rattle.parse_terms.proofs.Steps.{can_next, again, start, follow}
-use Rattle.parse_decls.proofs.FilesRead as R
-use Rattle.reading.specs.Values.{read}
 use Rattle.parse_decls.proofs.files.whole_file.Goals as goal
 
 pub more-init : goal.more-init
-more-init c = subst (λ ts. R.Theories (lexemes c.args.source) (map theory_of ts) 0) (sym c.new-theories.ensures.items) (again (start (R.can_file c.requires)) 0 refl (λ k us. refl))
+more-init c = subst (λ ts. Theories (lexemes c.args.source) (map theory_of ts) 0) (sym c.new-theories.ensures.items) (again (start (can_file c.requires)) 0 refl (λ k us. refl))
 
 pub theory-requires : goal.theory-requires
 theory-requires c = record { can = can_next c.more.invariant; word = sym c.at_theory.ensures ∙ c.more-test.true }
 
 pub more-preserved : goal.more-preserved
-more-preserved c = subst (λ ts. R.Theories (lexemes c.args.source) ts c.in_ok-next.end) (sym (ap (map theory_of) c.in_ok-push.ensures.items ∙ map-append theory_of c.more.theories.items (c.in_ok-next.next ∷ [])))
+more-preserved c = subst (λ ts. Theories (lexemes c.args.source) ts c.in_ok-next.end) (sym (ap (map theory_of) c.in_ok-push.ensures.items ∙ map-append theory_of c.more.theories.items (c.in_ok-next.next ∷ [])))
     (again (follow {K = λ k. k} c.in_ok-next.ensures c.more.invariant) 0 refl (λ k us. ap (λ w. (w, us.1)) (sym (append_assoc (map theory_of c.more.theories.items) ((theory_of c.in_ok-next.next) ∷ []) us.0))))
 
 pub returns : goal.returns
 returns c = subst (λ ts. read (lexemes c.args.source) 0 false (s.File ∷ []) ≡ Some (map theory_of ts, tt)) (sym c.from_vec.ensures)
-    (R.theories_done (lexemes c.args.source) (map theory_of c.more.theories.items) c.more.j c.more.invariant (sym c.at_theory.ensures ∙ c.more-test.false) c.requires)
+    (theories_done (lexemes c.args.source) (map theory_of c.more.theories.items) c.more.j c.more.invariant (sym c.at_theory.ensures ∙ c.more-test.false) c.requires)

@@ -1,7 +1,4 @@
-use Rattle.std.proofs.Common.{◌≡◌, ◌+◌, ◌-◌, length}
-use Rattle.parse_terms.specs.Reading.{from}
-use Rattle.parse_terms.specs.Sources.{lexemes}
-use Rattle.parse_decls.specs.Params.{names_before_colon}
+use Rattle.parse_decls.proofs.Common.{◌≡◌, ◌+◌, ◌-◌, length, from, lexemes, names_before_colon}
 use Rattle.parse_decls.proofs.parameters.at_names.Given as goal
 
 abbrev pub invariant-names : goal.invariant-names

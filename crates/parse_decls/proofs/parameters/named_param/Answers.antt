@@ -1,25 +1,17 @@
-use Rattle.std.proofs.Common.{◌+◌, [], ◌∷◌, ◌++◌, sym, ap, ◌∙◌, subst, refl}
+use Rattle.parse_decls.proofs.Cited.{◌+◌, [], ◌∷◌, ◌++◌, sym, ap, ◌∙◌, subst, refl, form_of, param_names, behind_paren, IsRead, from, terminal_at, lexemes, same, names_before_colon, can_next, stands_due, and_cases, done, next, take, inside, named_there}
 use Rattle.tokens_why.specs.declared.terminal.Terminal.TheVariants as t
 use Rattle.grammar.specs.declared.symbols.Symbol.TheVariants as s
-use Rattle.syntax_why.specs.Surface.{form_of}
-use Rattle.reading.specs.DeclParts.{param_names, behind_paren}
-use Rattle.parse_terms.specs.Reading.{IsRead, from, terminal_at}
-use Rattle.parse_terms.specs.Sources.{lexemes}
-use Rattle.grammar.specs.Alphabet.{same}
-use Rattle.parse_decls.specs.Params.{names_before_colon}
-use Rattle.parse_terms.proofs.Steps.{can_next, stands_due, and_cases, done, next, take}
-use Rattle.parse_terms.proofs.TextsRead as T
 use Rattle.parse_decls.proofs.ParamsRead as P
 use Rattle.parse_decls.proofs.parameters.named_param.Goals as goal
 
 pub name_at-requires : goal.name_at-requires
-name_at-requires c = T.inside c.args.source c.args.i (stands_due c.requires.can refl)
+name_at-requires c = inside c.args.source c.args.i (stands_due c.requires.can refl)
 
 pub names-init : goal.names-init
-names-init c = subst (λ ns. P.Naming (lexemes c.args.source) c.args.i ns (c.args.i + 1)) (ap (λ n. n ∷ []) (sym (T.named_there (lexemes c.args.source) c.args.i c.in_ok-first.first c.in_ok-first.ensures.place c.in_ok-first.ensures.text ((and_cases (same t.Lident (terminal_at (lexemes c.args.source) c.args.i)) (names_before_colon (from (lexemes c.args.source) (c.args.i + 1))) c.requires.names).0))) ∙ sym (c.in_ok-push.ensures.items ∙ ap (λ v. v ++ c.in_ok-first.first ∷ []) c.new-names.ensures.items)) (P.naming_start c.requires.can c.requires.names)
+names-init c = subst (λ ns. P.Naming (lexemes c.args.source) c.args.i ns (c.args.i + 1)) (ap (λ n. n ∷ []) (sym (named_there (lexemes c.args.source) c.args.i c.in_ok-first.first c.in_ok-first.ensures.place c.in_ok-first.ensures.text ((and_cases (same t.Lident (terminal_at (lexemes c.args.source) c.args.i)) (names_before_colon (from (lexemes c.args.source) (c.args.i + 1))) c.requires.names).0))) ∙ sym (c.in_ok-push.ensures.items ∙ ap (λ v. v ++ c.in_ok-first.first ∷ []) c.new-names.ensures.items)) (P.naming_start c.requires.can c.requires.names)
 
 pub names-preserved : goal.names-preserved
-names-preserved c = subst (λ ns. P.Naming (lexemes c.args.source) c.args.i ns (c.names.j + 1)) (ap (λ n. c.names.names.items ++ n ∷ []) (sym (T.named_there (lexemes c.args.source) c.names.j c.in_ok-next.next c.in_ok-next.ensures.place c.in_ok-next.ensures.text (sym c.at.ensures ∙ c.names-test.true))) ∙ sym c.in_ok-push-2.ensures.items) (P.naming_more (lexemes c.args.source) c.args.i c.names.names.items c.names.j c.names.invariant (sym c.at.ensures ∙ c.names-test.true))
+names-preserved c = subst (λ ns. P.Naming (lexemes c.args.source) c.args.i ns (c.names.j + 1)) (ap (λ n. c.names.names.items ++ n ∷ []) (sym (named_there (lexemes c.args.source) c.names.j c.in_ok-next.next c.in_ok-next.ensures.place c.in_ok-next.ensures.text (sym c.at.ensures ∙ c.names-test.true))) ∙ sym c.in_ok-push-2.ensures.items) (P.naming_more (lexemes c.args.source) c.args.i c.names.names.items c.names.j c.names.invariant (sym c.at.ensures ∙ c.names-test.true))
 
 pub type_tree-requires : goal.type_tree-requires
 type_tree-requires c = can_next (P.type_start (lexemes c.args.source) c.args.i c.names.names.items c.names.j c.names.invariant (sym c.at.ensures ∙ c.names-test.false))

@@ -1,5 +1,4 @@
-use Rattle.parse_terms.proofs.CutRead.{has_texts}
-use Rattle.parse_decls.proofs.SourcesRead.{is_file, only_file}
+use Rattle.parse_decls.proofs.Cited.{has_texts, is_file, only_file}
 use Rattle.parse_decls.proofs.sources.file_of_source.Goals as goal
 
 pub invariant_of-source : goal.invariant_of-source

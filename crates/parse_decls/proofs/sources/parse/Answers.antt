@@ -1,6 +1,5 @@
 use Rattle.std.proofs.Common.{sym, subst}
-use Rattle.recognise_why.specs.Depth.{IsShallow}
-use Rattle.recognise_why.proofs.SpanLemmas.{rest_terminals}
+use Rattle.parse_decls.proofs.Cited.{IsShallow, rest_terminals}
 use Rattle.parse_decls.proofs.sources.parse.Goals as goal
 
 pub returns-in_ok-whole-in-Ok-clause-shallow : goal.returns-in_ok-whole-in-Ok-clause-shallow

@@ -1,27 +1,20 @@
-use Rattle.std.proofs.Common.{[], ◌∷◌, ◌++◌, map, sym, ap, ◌∙◌, subst, ◌+◌, refl}
+use Rattle.parse_decls.proofs.Cited.{[], ◌∷◌, ◌++◌, map, sym, ap, ◌∙◌, subst, ◌+◌, refl, map-append, name, constructor_of, lexemes, IsConstructors, only, can_next, take, Constructors, bar_read, constructors_done, constructors_more, constructors_start}
 use Rattle.tokens_why.specs.declared.terminal.Terminal.TheVariants as t
-use Rattle.std.proofs.lemmas.List.{map-append}
-use Rattle.syntax_why.specs.Lexeme.{name}
-use Rattle.syntax_why.specs.SurfaceDeclarations.{constructor_of}
-use Rattle.parse_terms.specs.Sources.{lexemes}
-use Rattle.parse_decls.specs.Types.{IsConstructors}
-use Rattle.parse_terms.proofs.Steps.{only, can_next, take}
-use Rattle.parse_decls.proofs.TypesRead as R
 use Rattle.parse_decls.proofs.types.constructors.Goals as goal
 
 pub more-init : goal.more-init
-more-init c = subst (λ ts. R.Constructors (lexemes c.args.source) c.args.i (map constructor_of ts) c.in_ok-first.j) (sym (c.in_ok-push.ensures.items ∙ ap (λ v. v ++ c.in_ok-first.first ∷ []) c.new-cons.ensures.items))
-    (R.constructors_start (lexemes c.args.source) c.args.i (constructor_of c.in_ok-first.first) c.in_ok-first.j c.in_ok-first.ensures)
+more-init c = subst (λ ts. Constructors (lexemes c.args.source) c.args.i (map constructor_of ts) c.in_ok-first.j) (sym (c.in_ok-push.ensures.items ∙ ap (λ v. v ++ c.in_ok-first.first ∷ []) c.new-cons.ensures.items))
+    (constructors_start (lexemes c.args.source) c.args.i (constructor_of c.in_ok-first.first) c.in_ok-first.j c.in_ok-first.ensures)
 
 pub constructor-requires-in-more : goal.constructor-requires-in-more
 constructor-requires-in-more c = let e = sym c.at.ensures ∙ c.more-test.true in record {
-  name = (only (R.bar_read (lexemes c.args.source) c.args.i (map constructor_of c.more.cons.items) c.more.j c.more.invariant e) t.Uident [] refl refl tt);
-  can = (can_next (take (R.bar_read (lexemes c.args.source) c.args.i (map constructor_of c.more.cons.items) c.more.j c.more.invariant e)));
+  name = (only (bar_read (lexemes c.args.source) c.args.i (map constructor_of c.more.cons.items) c.more.j c.more.invariant e) t.Uident [] refl refl tt);
+  can = (can_next (take (bar_read (lexemes c.args.source) c.args.i (map constructor_of c.more.cons.items) c.more.j c.more.invariant e)));
 }
 
 pub more-preserved : goal.more-preserved
-more-preserved c = subst (λ ts. R.Constructors (lexemes c.args.source) c.args.i ts c.in_ok-next.end) (sym (ap (map constructor_of) c.in_ok-push-2.ensures.items ∙ map-append constructor_of c.more.cons.items (c.in_ok-next.next ∷ [])))
-    (R.constructors_more (lexemes c.args.source) c.args.i (map constructor_of c.more.cons.items) c.more.j c.more.invariant (sym c.at.ensures ∙ c.more-test.true) (constructor_of c.in_ok-next.next) c.in_ok-next.end c.in_ok-next.ensures)
+more-preserved c = subst (λ ts. Constructors (lexemes c.args.source) c.args.i ts c.in_ok-next.end) (sym (ap (map constructor_of) c.in_ok-push-2.ensures.items ∙ map-append constructor_of c.more.cons.items (c.in_ok-next.next ∷ [])))
+    (constructors_more (lexemes c.args.source) c.args.i (map constructor_of c.more.cons.items) c.more.j c.more.invariant (sym c.at.ensures ∙ c.more-test.true) (constructor_of c.in_ok-next.next) c.in_ok-next.end c.in_ok-next.ensures)
 
 pub returns : goal.returns
-returns c = subst (λ ts. IsConstructors (lexemes c.args.source) c.args.i (map constructor_of ts) c.more.j) (sym c.from_vec.ensures) (R.constructors_done (lexemes c.args.source) c.args.i (map constructor_of c.more.cons.items) c.more.j c.more.invariant (sym c.at.ensures ∙ c.more-test.false))
+returns c = subst (λ ts. IsConstructors (lexemes c.args.source) c.args.i (map constructor_of ts) c.more.j) (sym c.from_vec.ensures) (constructors_done (lexemes c.args.source) c.args.i (map constructor_of c.more.cons.items) c.more.j c.more.invariant (sym c.at.ensures ∙ c.more-test.false))

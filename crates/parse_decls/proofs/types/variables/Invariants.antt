@@ -1,6 +1,4 @@
-use Rattle.std.proofs.Common.{◌-◌, length}
-use Rattle.parse_terms.specs.Sources.{lexemes}
-use Rattle.parse_decls.specs.Types.{Named}
+use Rattle.parse_decls.proofs.Common.{◌-◌, length, lexemes, Named}
 use Rattle.parse_decls.proofs.types.variables.Given as goal
 
 abbrev pub invariant-names : goal.invariant-names

@@ -1,11 +1,4 @@
-use Rattle.std.proofs.Common.{◌≡◌, ◌-◌, ◌*◌, ◌+◌, length, map}
-use Rattle.syntax_why.specs.Trees.{ends_open}
-use Rattle.syntax_why.specs.Surface.{arm_of, binder_of, pattern_of, patterns, tree_of}
-use Rattle.parse_terms.specs.Reading.{Climb}
-use Rattle.parse_terms.specs.Sources.{lexemes}
-use Rattle.parse_terms.proofs.AtomsRead.{Arguments, Members}
-use Rattle.parse_terms.proofs.OpenRead.{Bound, Quantified, Triggering}
-use Rattle.parse_terms.proofs.MatchRead.{Alternatives, Branched, Matched}
+use Rattle.parse_terms.proofs.Cited.{◌≡◌, ◌-◌, ◌*◌, ◌+◌, length, map, ends_open, arm_of, binder_of, pattern_of, patterns, tree_of, Climb, lexemes, Arguments, Members, Bound, Quantified, Triggering, Alternatives, Branched, Matched}
 use Rattle.parse_terms.proofs.expressions.+descent.Given as goal
 
 abbrev pub decreases-expression : goal.decreases-expression
@@ -13,6 +6,9 @@ decreases-expression l = 8 * (length l.source.tokens.now - l.i) + 5
 
 abbrev pub decreases-any_expression : goal.decreases-any_expression
 decreases-any_expression l = 8 * (length l.source.tokens.now - l.i) + 6
+
+abbrev pub decreases-boxed_expression : goal.decreases-boxed_expression
+decreases-boxed_expression l = 8 * (length l.source.tokens.now - l.i) + 7
 
 abbrev pub decreases-operand : goal.decreases-operand
 decreases-operand l = 8 * (length l.source.tokens.now - l.i) + 4

@@ -1,29 +1,22 @@
-use Rattle.std.proofs.Common.{◌+◌, [], ◌∷◌, ◌++◌, sym, ap, ◌∙◌, subst, refl}
+use Rattle.parse_terms.proofs.Cited.{◌+◌, [], ◌∷◌, ◌++◌, sym, ap, ◌∙◌, subst, refl, same, own_of, IsRead, terminal_at, lexemes, and_cases, can_next, stands, again, start, Scopes, scopes_done, scopes_more, inside, upper_text}
 use Rattle.tokens_why.specs.declared.terminal.Terminal.TheVariants as t
 use Rattle.grammar.specs.declared.symbols.Symbol.TheVariants as s
-use Rattle.grammar.specs.Alphabet.{same}
-use Rattle.syntax_why.specs.Surface.{own_of}
-use Rattle.parse_terms.specs.Reading.{IsRead, terminal_at}
-use Rattle.parse_terms.specs.Sources.{lexemes}
-use Rattle.parse_terms.proofs.Steps.{and_cases, can_next, stands, again, start}
-use Rattle.parse_terms.proofs.NamesRead as N
-use Rattle.parse_terms.proofs.TextsRead as T
 use Rattle.parse_terms.proofs.names.head_name.Goals as goal
 
 pub scopes-init : goal.scopes-init
-scopes-init c = subst (λ ws. N.Scopes (lexemes c.args.source) c.args.i ws c.args.i) (sym c.new-scopes.ensures.items) (again (start c.requires) 0 refl (λ k us. refl))
+scopes-init c = subst (λ ws. Scopes (lexemes c.args.source) c.args.i ws c.args.i) (sym c.new-scopes.ensures.items) (again (start c.requires) 0 refl (λ k us. refl))
 
 pub text-requires : goal.text-requires
-text-requires c = T.inside c.args.source c.scopes.j (stands (lexemes c.args.source) c.scopes.j t.Uident (and_cases (same t.Uident (terminal_at (lexemes c.args.source) c.scopes.j)) (same t.Dot (terminal_at (lexemes c.args.source) (c.scopes.j + 1))) (sym c.at_scope.ensures ∙ c.scopes-test.true)).0 refl)
+text-requires c = inside c.args.source c.scopes.j (stands (lexemes c.args.source) c.scopes.j t.Uident (and_cases (same t.Uident (terminal_at (lexemes c.args.source) c.scopes.j)) (same t.Dot (terminal_at (lexemes c.args.source) (c.scopes.j + 1))) (sym c.at_scope.ensures ∙ c.scopes-test.true)).0 refl)
 
 pub scopes-preserved : goal.scopes-preserved
 scopes-preserved c = let e = sym c.at_scope.ensures ∙ c.scopes-test.true in
-    subst (λ ws. N.Scopes (lexemes c.args.source) c.args.i ws (c.scopes.j + 1 + 1)) (sym (c.in_ok-push.ensures.items ∙ ap (λ v. c.scopes.scopes.items ++ v ∷ []) (T.upper_text c.in_ok-word.ensures (and_cases (same t.Uident (terminal_at (lexemes c.args.source) c.scopes.j)) (same t.Dot (terminal_at (lexemes c.args.source) (c.scopes.j + 1))) e).0)))
-    (N.scopes_more (lexemes c.args.source) c.args.i c.scopes.scopes.items c.scopes.j e c.scopes.invariant)
+    subst (λ ws. Scopes (lexemes c.args.source) c.args.i ws (c.scopes.j + 1 + 1)) (sym (c.in_ok-push.ensures.items ∙ ap (λ v. c.scopes.scopes.items ++ v ∷ []) (upper_text c.in_ok-word.ensures (and_cases (same t.Uident (terminal_at (lexemes c.args.source) c.scopes.j)) (same t.Dot (terminal_at (lexemes c.args.source) (c.scopes.j + 1))) e).0)))
+    (scopes_more (lexemes c.args.source) c.args.i c.scopes.scopes.items c.scopes.j e c.scopes.invariant)
 
 pub own_name-requires : goal.own_name-requires
 own_name-requires c = record { can = can_next c.scopes.invariant; last = sym c.at_scope.ensures ∙ c.scopes-test.false }
 
 pub returns-clause-read : goal.returns-clause-read
 returns-clause-read c = subst (λ qs. IsRead (lexemes c.args.source) s.Qhead c.args.i (record { scopes = qs; own = own_of c.in_ok-own.own.style c.in_ok-own.own.text }) c.in_ok-own.own.end) (sym c.from_vec.ensures)
-    (N.scopes_done (lexemes c.args.source) c.args.i c.scopes.scopes.items c.scopes.j (own_of c.in_ok-own.own.style c.in_ok-own.own.text) c.in_ok-own.own.end c.scopes.invariant c.in_ok-own.ensures)
+    (scopes_done (lexemes c.args.source) c.args.i c.scopes.scopes.items c.scopes.j (own_of c.in_ok-own.own.style c.in_ok-own.own.text) c.in_ok-own.own.end c.scopes.invariant c.in_ok-own.ensures)

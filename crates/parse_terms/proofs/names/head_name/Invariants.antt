@@ -1,6 +1,4 @@
-use Rattle.std.proofs.Common.{◌-◌, length}
-use Rattle.parse_terms.specs.Sources.{lexemes}
-use Rattle.parse_terms.proofs.NamesRead.{Scopes}
+use Rattle.parse_terms.proofs.Cited.{◌-◌, length, lexemes, Scopes}
 use Rattle.parse_terms.proofs.names.head_name.Given as goal
 
 abbrev pub invariant-scopes : goal.invariant-scopes

@@ -1,6 +1,4 @@
-use Rattle.std.proofs.Common.{◌-◌, length}
-use Rattle.parse_terms.specs.Sources.{lexemes}
-use Rattle.parse_terms.proofs.NamesRead.{TypeScopes}
+use Rattle.parse_terms.proofs.Cited.{◌-◌, length, lexemes, TypeScopes}
 use Rattle.parse_terms.proofs.names.lower_name.Given as goal
 
 abbrev pub invariant-scopes : goal.invariant-scopes

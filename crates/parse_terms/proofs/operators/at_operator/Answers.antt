@@ -1,7 +1,4 @@
-use Rattle.std.proofs.Common.{◌≡◌, Bool, true, false, ◌&&◌, nat_le, sym, ap, ◌∙◌}
-use Rattle.tokens_why.specs.Operators.{is_infix, prec, need}
-use Rattle.parse_terms.specs.Reading.{terminal_at}
-use Rattle.parse_terms.specs.Sources.{lexemes}
+use Rattle.parse_terms.proofs.Common.{◌≡◌, Bool, true, false, ◌&&◌, nat_le, sym, ap, ◌∙◌, is_infix, prec, need, terminal_at, lexemes}
 use Rattle.parse_terms.proofs.operators.at_operator.Goals as goal
 use Rattle.parse_terms.proofs.operators.at_operator.Goals.{then-infix, else-infix}
 

@@ -1,12 +1,6 @@
-use Rattle.std.proofs.Common.{[], ◌∷◌, ◌++◌, map, sym, ap, ◌∙◌, subst, ◌+◌, refl}
+use Rattle.parse_terms.proofs.Cited.{[], ◌∷◌, ◌++◌, map, sym, ap, ◌∙◌, subst, ◌+◌, refl, map-append, forms, pattern_of, patterns, lexemes, IsAlternative, again, next, start, can_next, expand, alternative_done, patterned_more}
 use Rattle.tokens_why.specs.declared.terminal.Terminal.TheVariants as t
-use Rattle.std.proofs.lemmas.List.{map-append}
 use Rattle.grammar.specs.declared.symbols.Symbol.TheVariants as s
-use Rattle.syntax_why.specs.Surface.{forms, pattern_of, patterns}
-use Rattle.parse_terms.specs.Sources.{lexemes}
-use Rattle.parse_terms.specs.Terms.{IsAlternative}
-use Rattle.parse_terms.proofs.Steps.{again, next, start, can_next, expand}
-use Rattle.parse_terms.proofs.MatchRead as M
 use Rattle.parse_terms.proofs.parts.alternative.Goals as goal
 
 pub pattern-requires : goal.pattern-requires
@@ -28,9 +22,9 @@ more-preserved c = let g = c.more.invariant in record {
   first = g.first;
   others = g.others ++ pattern_of c.in_ok-next.next ∷ [];
   spelled = ap (λ v. v ++ pattern_of c.in_ok-next.next ∷ []) g.spelled ∙ sym (ap (map pattern_of) c.in_ok-push-2.ensures.items ∙ map-append pattern_of c.more.parts.items (c.in_ok-next.next ∷ []));
-  is = M.patterned_more (lexemes c.args.source) c.args.i g.first g.others c.more.j g.is (pattern_of c.in_ok-next.next) c.in_ok-next.end (sym c.at.ensures ∙ c.more-test.true) c.in_ok-next.ensures;
+  is = patterned_more (lexemes c.args.source) c.args.i g.first g.others c.more.j g.is (pattern_of c.in_ok-next.next) c.in_ok-next.end (sym c.at.ensures ∙ c.more-test.true) c.in_ok-next.ensures;
 }
 
 pub returns : goal.returns
 returns c = let g = c.more.invariant in subst (λ ts. IsAlternative (lexemes c.args.source) c.args.i (patterns ts) c.more.j) (sym c.from_vec.ensures)
-    (subst (λ fs. IsAlternative (lexemes c.args.source) c.args.i (forms fs) c.more.j) g.spelled (M.alternative_done (lexemes c.args.source) c.args.i g.first g.others c.more.j g.is (sym c.at.ensures ∙ c.more-test.false)))
+    (subst (λ fs. IsAlternative (lexemes c.args.source) c.args.i (forms fs) c.more.j) g.spelled (alternative_done (lexemes c.args.source) c.args.i g.first g.others c.more.j g.is (sym c.at.ensures ∙ c.more-test.false)))

@@ -1,7 +1,4 @@
-use Rattle.std.proofs.Common.{◌-◌, length, map}
-use Rattle.syntax_why.specs.Surface.{pattern_of}
-use Rattle.parse_terms.specs.Sources.{lexemes}
-use Rattle.parse_terms.proofs.PartsRead.{Patterning}
+use Rattle.parse_terms.proofs.Cited.{◌-◌, length, map, pattern_of, lexemes, Patterning}
 use Rattle.parse_terms.proofs.parts.alternative.Given as goal
 
 abbrev pub invariant-more : goal.invariant-more

@@ -1,11 +1,5 @@
-use Rattle.std.proofs.Common.{sym, ◌∙◌, subst, refl, Some, None}
+use Rattle.parse_terms.proofs.Cited.{sym, ◌∙◌, subst, refl, Some, None, form_of, lexemes, binds, IsBinder, can_next, expand, typed_binder, untyped_binder}
 use Rattle.tokens_why.specs.declared.terminal.Terminal.TheVariants as t
-use Rattle.syntax_why.specs.Surface.{form_of}
-use Rattle.parse_terms.specs.Sources.{lexemes}
-use Rattle.syntax_why.specs.Trees.{binds}
-use Rattle.parse_terms.specs.Terms.{IsBinder}
-use Rattle.parse_terms.proofs.Steps.{can_next, expand}
-use Rattle.parse_terms.proofs.OpenRead as O
 use Rattle.parse_terms.proofs.parts.binder.Goals as goal
 
 pub type_tree-requires : goal.type_tree-requires
@@ -13,8 +7,8 @@ type_tree-requires c = let g = c.in_ok-names.ensures in (can_next (expand g.is t
 
 pub returns-then-typed : goal.returns-then-typed
 returns-then-typed c = let g = c.in_ok-names.ensures in subst (λ ns. IsBinder (lexemes c.args.source) c.args.i (binds ns (Some (form_of c.in_ok-ty.ty))) c.in_ok-ty.end) g.spelled
-    (O.typed_binder (lexemes c.args.source) c.args.i g.first g.others c.in_ok-names.j g.is (form_of c.in_ok-ty.ty) c.in_ok-ty.end (sym c.at-typed.ensures ∙ c.if-typed.true) c.in_ok-ty.ensures)
+    (typed_binder (lexemes c.args.source) c.args.i g.first g.others c.in_ok-names.j g.is (form_of c.in_ok-ty.ty) c.in_ok-ty.end (sym c.at-typed.ensures ∙ c.if-typed.true) c.in_ok-ty.ensures)
 
 pub returns : goal.returns
 returns c = let g = c.in_ok-names.ensures in subst (λ ns. IsBinder (lexemes c.args.source) c.args.i (binds ns None) c.in_ok-names.j) g.spelled
-    (O.untyped_binder (lexemes c.args.source) c.args.i g.first g.others c.in_ok-names.j g.is g.ends (sym c.at-typed.ensures ∙ c.if-typed.false))
+    (untyped_binder (lexemes c.args.source) c.args.i g.first g.others c.in_ok-names.j g.is g.ends (sym c.at-typed.ensures ∙ c.if-typed.false))

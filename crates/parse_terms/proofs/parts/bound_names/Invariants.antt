@@ -1,6 +1,4 @@
-use Rattle.std.proofs.Common.{◌-◌, length}
-use Rattle.parse_terms.specs.Sources.{lexemes}
-use Rattle.parse_terms.proofs.ChoicesRead.{Named}
+use Rattle.parse_terms.proofs.Cited.{◌-◌, length, lexemes, Named}
 use Rattle.parse_terms.proofs.parts.bound_names.Given as goal
 
 abbrev pub invariant-more : goal.invariant-more

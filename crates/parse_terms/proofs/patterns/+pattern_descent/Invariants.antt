@@ -1,7 +1,4 @@
-use Rattle.std.proofs.Common.{◌-◌, ◌*◌, ◌+◌, length, map}
-use Rattle.syntax_why.specs.Surface.{pattern_of}
-use Rattle.parse_terms.specs.Sources.{lexemes}
-use Rattle.parse_terms.proofs.FormsRead.{Patterns, PatternList}
+use Rattle.parse_terms.proofs.Cited.{◌-◌, ◌*◌, ◌+◌, length, map, pattern_of, lexemes, Patterns, PatternList}
 use Rattle.parse_terms.proofs.patterns.+pattern_descent.Given as goal
 
 abbrev pub decreases-pattern : goal.decreases-pattern

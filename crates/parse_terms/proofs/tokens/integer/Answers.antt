@@ -1,9 +1,6 @@
-use Rattle.std.proofs.Common.{ℕ, ◌≡◌, ◌≤◌, ◌∷◌, [], pos, to_z, of_z, sym, subst, ap, ◌∙◌, arith}
+use Rattle.parse_terms.proofs.Cited.{ℕ, ◌≡◌, ◌≤◌, ◌∷◌, [], pos, to_z, of_z, sym, subst, ap, ◌∙◌, arith, value_of, greatest, literal_value, value_there}
 use Rattle.std.specs.Int.{w128}
 use Rattle.std.proofs.lemmas.Int.{to_z-of_z, fits_signed_from_abs}
-use Rattle.syntax_why.specs.Surface.{value_of}
-use Rattle.tokens_why.specs.Literal.{greatest, literal_value}
-use Rattle.parse_terms.proofs.TextsRead.{value_there}
 use Rattle.parse_terms.proofs.tokens.integer.Goals as goal
 
 pub bytes-requires : goal.bytes-requires

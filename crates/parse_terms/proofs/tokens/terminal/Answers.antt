@@ -1,9 +1,4 @@
-use Rattle.std.proofs.Common.{◌≡◌, ℕ, ◌≤◌, length, get_or, map, sym, ap, ◌∙◌}
-use Rattle.std.proofs.lemmas.List.{get_or-map, get_or_past, length-map}
-use Rattle.syntax_why.specs.Lexeme.{lexeme}
-use Rattle.parse_terms.specs.declared.source.Source.{Source}
-use Rattle.parse_terms.specs.Reading.{nowhere, terminal_at}
-use Rattle.parse_terms.specs.Sources.{lexemes}
+use Rattle.parse_terms.proofs.Common.{◌≡◌, ℕ, ◌≤◌, length, get_or, map, sym, ap, ◌∙◌, get_or-map, get_or_past, length-map, lexeme, Source, nowhere, terminal_at, lexemes}
 use Rattle.parse_terms.proofs.tokens.terminal.Goals as goal
 
 pub returns-then-i-source : goal.returns-then-i-source

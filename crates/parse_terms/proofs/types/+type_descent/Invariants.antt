@@ -1,7 +1,4 @@
-use Rattle.std.proofs.Common.{◌-◌, ◌*◌, ◌+◌, length, map}
-use Rattle.syntax_why.specs.Surface.{form_of}
-use Rattle.parse_terms.specs.Sources.{lexemes}
-use Rattle.parse_terms.proofs.FormsRead.{Types, TypeList}
+use Rattle.parse_terms.proofs.Cited.{◌-◌, ◌*◌, ◌+◌, length, map, form_of, lexemes, Types, TypeList}
 use Rattle.parse_terms.proofs.types.+type_descent.Given as goal
 
 abbrev pub decreases-type_tree : goal.decreases-type_tree

@@ -1,10 +1,4 @@
-use Rattle.std.proofs.Common.{take}
-use Rattle.grammar.specs.declared.symbols.Symbol.TheVariants.{File}
-use Rattle.syntax_why.specs.Lexeme.{rest}
-use Rattle.syntax_why.specs.Declarations.{write_file}
-use Rattle.syntax_why.specs.DeclarationRules.{IsLevelFile, PlacedFile}
-use Rattle.reading.proofs.Parsing.{whole_file, proper_rest, proper_take}
-use Rattle.recognise_why.specs.Spans.{terminals_of}
+use Rattle.recognise_why.proofs.Common.{take, File, rest, write_file, IsLevelFile, PlacedFile, whole_file, proper_rest, proper_take, terminals_of}
 use Rattle.recognise_why.proofs.SpanLemmas.{front_terminals}
 use Rattle.recognise_why.proofs.Answering.{completable, completed}
 use Rattle.recognise_why.proofs.completing.complete.Goals as goal

@@ -1,9 +1,4 @@
-use Rattle.std.proofs.Common.{◌-◌, take, drop}
-use Rattle.grammar.specs.declared.symbols.Symbol.TheVariants.{Expr}
-use Rattle.syntax_why.specs.Lexeme.{rest}
-use Rattle.syntax_why.specs.Trees.{IsLevel, IsPlacedTree, write}
-use Rattle.reading.proofs.Parsing.{whole_expr, proper_rest, proper_take}
-use Rattle.recognise_why.specs.Spans.{terminals_of}
+use Rattle.recognise_why.proofs.Common.{◌-◌, take, drop, Expr, rest, IsLevel, IsPlacedTree, write, whole_expr, proper_rest, proper_take, terminals_of}
 use Rattle.recognise_why.proofs.SpanLemmas.{front_terminals}
 use Rattle.recognise_why.proofs.Answering.{completable, completed}
 use Rattle.recognise_why.proofs.completing.complete_expr.Goals as goal

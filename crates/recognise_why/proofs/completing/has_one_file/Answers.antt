@@ -1,7 +1,5 @@
 use Rattle.grammar.specs.declared.symbols.Symbol.TheVariants as s
-use Rattle.syntax_why.specs.Declarations.{write_file}
-use Rattle.syntax_why.specs.DeclarationRules.{IsLevelFile, PlacedFile}
-use Rattle.reading.proofs.Parsing.{whole_file}
+use Rattle.recognise_why.proofs.Common.{write_file, IsLevelFile, PlacedFile, whole_file}
 use Rattle.recognise_why.proofs.Answering.{one}
 use Rattle.recognise_why.proofs.completing.has_one_file.Goals as goal
 

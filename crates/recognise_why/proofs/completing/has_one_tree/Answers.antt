@@ -1,6 +1,5 @@
 use Rattle.grammar.specs.declared.symbols.Symbol.TheVariants as s
-use Rattle.syntax_why.specs.Trees.{IsLevel, IsPlacedTree, write}
-use Rattle.reading.proofs.Parsing.{whole_expr}
+use Rattle.recognise_why.proofs.Common.{IsLevel, IsPlacedTree, write, whole_expr}
 use Rattle.recognise_why.proofs.Answering.{one}
 use Rattle.recognise_why.proofs.completing.has_one_tree.Goals as goal
 

@@ -1,6 +1,5 @@
-use Rattle.std.proofs.Common.{◌≡◌, ◌<◌, ◌≤◌, get_or, length, ap, ◌∙◌, arith}
+use Rattle.recognise_why.proofs.Common.{◌≡◌, ◌<◌, ◌≤◌, get_or, length, ap, ◌∙◌, arith, nesting, nested, most_nested}
 use Rattle.tokens_why.specs.declared.terminal.Terminal.TheVariants as t
-use Rattle.recognise_why.specs.Depth.{nesting, nested, most_nested}
 use Rattle.recognise_why.proofs.DepthLemmas.{nested_more, nested_deep}
 use Rattle.recognise_why.proofs.depth.too_deep.Goals as goal
 

@@ -1,5 +1,4 @@
-use Rattle.std.proofs.Common.{◌≤◌}
-use Rattle.recognise_why.specs.Depth.{most_nested}
+use Rattle.recognise_why.proofs.Common.{◌≤◌, most_nested}
 use Rattle.recognise_why.proofs.DepthLemmas.{Nested}
 use Rattle.recognise_why.proofs.depth.too_deep.Given as goal
 

@@ -1,8 +1,4 @@
-use Rattle.std.proofs.Common.{◌≡◌, [], ◌∷◌, Some, None, drop, length, ◌∙◌, subst}
-use Rattle.tokens_why.specs.declared.terminal.Terminal.TheVariants.{OtherWord}
-use Rattle.grammar.specs.declared.symbols.Symbol.TheVariants.{Expr}
-use Rattle.grammar.specs.Ends.{IsFault, IsLongest}
-use Rattle.recognise_why.specs.Spans.{terminals_of}
+use Rattle.recognise_why.proofs.Common.{◌≡◌, [], ◌∷◌, Some, None, drop, length, ◌∙◌, subst, OtherWord, Expr, IsFault, IsLongest, terminals_of}
 use Rattle.recognise_why.proofs.Answering.{ends_at, fault_at}
 use Rattle.recognise_why.proofs.expressions.expression_end.Goals as goal
 

@@ -1,8 +1,4 @@
-use Rattle.std.proofs.Common.{[], ◌∷◌, MatchOption, sym, ◌∙◌, subst}
-use Rattle.tokens_why.specs.declared.terminal.Terminal.TheVariants.{ScopeWord}
-use Rattle.grammar.specs.declared.symbols.Symbol.TheVariants.{File}
-use Rattle.grammar.specs.Ends.{IsFirstFault}
-use Rattle.recognise_why.specs.Depth.{IsShallow, IsTooDeep}
+use Rattle.recognise_why.proofs.Common.{[], ◌∷◌, MatchOption, sym, ◌∙◌, subst, ScopeWord, File, IsFirstFault, IsShallow, IsTooDeep}
 use Rattle.recognise_why.proofs.Answering.{is_source, is_too_deep}
 use Rattle.recognise_why.proofs.sources.check_source.Goals as goal
 

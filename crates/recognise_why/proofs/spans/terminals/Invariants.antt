@@ -1,5 +1,4 @@
-use Rattle.std.proofs.Common.{◌≡◌, ◌++◌, drop}
-use Rattle.recognise_why.specs.Spans.{terminals_of}
+use Rattle.recognise_why.proofs.Common.{◌≡◌, ◌++◌, drop, terminals_of}
 use Rattle.recognise_why.proofs.spans.terminals.Given as goal
 
 abbrev pub invariant-loop-token : goal.invariant-loop-token

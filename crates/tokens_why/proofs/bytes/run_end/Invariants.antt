@@ -1,5 +1,4 @@
-use Rattle.std.proofs.Common.{◌≡◌, ◌≤◌, ◌+◌, ◌-◌, length, drop}
-use Rattle.std.specs.List.{prefix_len}
+use Rattle.tokens_why.proofs.Common.{◌≡◌, ◌≤◌, ◌+◌, ◌-◌, length, drop, prefix_len}
 use Rattle.tokens_why.specs.Classes.{is_in}
 use Rattle.tokens_why.proofs.bytes.run_end.Given as goal
 

@@ -1,5 +1,4 @@
-use Rattle.std.proofs.Common.{drop, Some, sym, ap, ◌∙◌, arith}
-use Rattle.tokens_why.specs.Gap.{at_from}
+use Rattle.tokens_why.proofs.Common.{drop, Some, sym, ap, ◌∙◌, arith, at_from}
 use Rattle.tokens_why.proofs.GapLemmas.{comment-start, turn-star, turn-open, turn-close, turn-plain, closed}
 use Rattle.tokens_why.proofs.gaps.comment_end.Goals as goal
 

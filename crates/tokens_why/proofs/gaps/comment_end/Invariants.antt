@@ -1,5 +1,4 @@
-use Rattle.std.proofs.Common.{◌≡◌, ◌≤◌, ◌-◌, length, drop}
-use Rattle.tokens_why.specs.Gap.{comment, at_from}
+use Rattle.tokens_why.proofs.Common.{◌≡◌, ◌≤◌, ◌-◌, length, drop, comment, at_from}
 use Rattle.tokens_why.proofs.gaps.comment_end.Given as goal
 
 abbrev pub invariant-loop-at : goal.invariant-loop-at

@@ -1,5 +1,4 @@
-use Rattle.std.proofs.Common.{◌≡◌, ◌≤◌, ◌-◌, length}
-use Rattle.tokens_why.specs.Gap.{next}
+use Rattle.tokens_why.proofs.Common.{◌≡◌, ◌≤◌, ◌-◌, length, next}
 use Rattle.tokens_why.proofs.gaps.skip.Given as goal
 
 abbrev pub invariant-loop-at : goal.invariant-loop-at

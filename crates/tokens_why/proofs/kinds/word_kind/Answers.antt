@@ -1,6 +1,4 @@
-use Rattle.std.proofs.Common.{sym, ap, ◌∙◌}
-use Rattle.word_tables.specs.Words.{place_of}
-use Rattle.tokens_why.specs.Strings.{placed_kind}
+use Rattle.tokens_why.proofs.Common.{sym, ap, ◌∙◌, place_of, placed_kind}
 use Rattle.tokens_why.proofs.kinds.word_kind.Goals as goal
 
 pub returns-in-Some : goal.returns-in-Some

@@ -1,6 +1,4 @@
-use Rattle.std.proofs.Common.{◌≡◌, length, refl, sym, subst, arith}
-use Rattle.tokens_why.specs.Gap.{next}
-use Rattle.tokens_why.specs.Tokens.{Begins, NoneBegins, Fits, Exceeds, Stops, whole, lexical, big}
+use Rattle.tokens_why.proofs.Common.{◌≡◌, length, refl, sym, subst, arith, next, Begins, NoneBegins, Fits, Exceeds, Stops, whole, lexical, big}
 use Rattle.tokens_why.proofs.TurnLemmas.{Turn, first, turn, stopped, Reading}
 use Rattle.tokens_why.proofs.ClauseLemmas.{tokens-whole, tokens-lexical, tokens-big, lexical-whole, big-whole, lexical-lexical, big-lexical, lexical-big, big-big}
 use Rattle.tokens_why.proofs.lexer.lex.Goals as goal

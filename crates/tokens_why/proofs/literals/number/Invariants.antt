@@ -1,5 +1,4 @@
-use Rattle.std.proofs.Common.{◌≡◌, ◌≤◌, drop}
-use Rattle.tokens_why.specs.Literal.{number, greatest}
+use Rattle.tokens_why.proofs.Common.{◌≡◌, ◌≤◌, drop, number, greatest}
 use Rattle.tokens_why.proofs.literals.number.Given as goal
 
 abbrev pub invariant-loop-byte : goal.invariant-loop-byte

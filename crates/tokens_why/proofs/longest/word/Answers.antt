@@ -1,8 +1,4 @@
-use Rattle.std.proofs.Common.{ap, refl, arith}
-use Rattle.std.specs.List.{list_all}
-use Rattle.tokens_why.specs.Bytes.{is_word_byte}
-use Rattle.tokens_why.specs.Gap.{byte_in}
-use Rattle.tokens_why.specs.Strings.{word_kind, kind_by}
+use Rattle.tokens_why.proofs.Common.{ap, refl, arith, list_all, is_word_byte, byte_in, word_kind, kind_by}
 use Rattle.tokens_why.proofs.LongestLemmas.{span-at, class-span}
 use Rattle.tokens_why.proofs.longest.word.Goals as goal
 

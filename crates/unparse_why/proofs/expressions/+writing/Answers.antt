@@ -1,6 +1,4 @@
-use Rattle.std.proofs.Common.{arith, ◌∙◌}
-use Rattle.std.proofs.lemmas.Grind.{common_steps}
-use Rattle.syntax_why.proofs.TreeLemmas.{arm_of-fields, terms_of-fields, tree_is, tree_of_node-Apply, tree_of_node-Int, tree_of_node-True, tree_of_node-False, tree_of_node-Group, tree_of_node-Cast, tree_of_node-Match, tree_of_node-Prefix, tree_of_node-Not, tree_of_node-Binary, tree_of_node-If, tree_of_node-Let, tree_of_node-Quant}
+use Rattle.unparse_why.proofs.Common.{arith, ◌∙◌, common_steps, arm_of-fields, terms_of-fields, tree_is, tree_of_node-Apply, tree_of_node-Int, tree_of_node-True, tree_of_node-False, tree_of_node-Group, tree_of_node-Cast, tree_of_node-Match, tree_of_node-Prefix, tree_of_node-Not, tree_of_node-Binary, tree_of_node-If, tree_of_node-Let, tree_of_node-Quant}
 use Rattle.unparse_why.proofs.expressions.+writing.Goals as goal
 
 pub push_arm-returns : goal.push_arm-returns
@@ -45,5 +43,5 @@ push_expr-returns-in_ok-push_value-in-Let t c = let is = tree_is c.args.e.now _ 
 pub push_expr-returns-in_ok-push_triggers-in-Quant : goal.push_expr-returns-in_ok-push_triggers-in-Quant
 push_expr-returns-in_ok-push_triggers-in-Quant t c = let is = tree_is c.args.e.now _ c.in-Quant.is ∙ tree_of_node-Quant _ _ _ _ _ in grind (arith, common_steps)
 
-pub push_triggers-returns-in_ok-push-in-Some-2 : goal.push_triggers-returns-in_ok-push-in-Some-2
-push_triggers-returns-in_ok-push-in-Some-2 t c = let is = terms_of-fields c.in-Some.t in grind (arith, common_steps)
+pub push_triggers-returns-in_ok-push_terms-in-Some : goal.push_triggers-returns-in_ok-push_terms-in-Some
+push_triggers-returns-in_ok-push_terms-in-Some t c = let is = terms_of-fields c.in-Some.t in grind (arith, common_steps)

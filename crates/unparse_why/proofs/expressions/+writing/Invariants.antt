@@ -1,7 +1,4 @@
-use Rattle.std.proofs.Common.{◌≡◌, ◌++◌, drop, map}
-use Rattle.syntax_why.specs.Lexeme.{terminals}
-use Rattle.syntax_why.specs.Trees.{write_row, write_list, write_tail, write_branches, write_others, write_terms, terms_tail}
-use Rattle.syntax_why.specs.Surface.{tree_of, arm_of, trees, branches}
+use Rattle.unparse_why.proofs.Common.{◌≡◌, ◌++◌, drop, map, terminals, write_row, write_list, write_tail, write_branches, write_others, write_terms, terms_tail, tree_of, arm_of, trees, branches}
 use Rattle.unparse_why.proofs.expressions.+writing.Given as goal
 
 abbrev pub invariant-push_row-loop-e : goal.invariant-push_row-loop-e

@@ -1,5 +1,4 @@
-use Rattle.std.proofs.Common.{arith, ◌∙◌}
-use Rattle.std.proofs.lemmas.Grind.{common_steps}
+use Rattle.unparse_why.proofs.Common.{arith, ◌∙◌, common_steps}
 use Rattle.syntax_why.proofs.DeclLemmas.{decl_is, decl_of_node-TypeDecl, decl_of_node-Algebraic, decl_of_node-Function, decl_of_node-Predicate, decl_of_node-Constant, decl_of_node-Inductive, decl_of_node-Prop, decl_of_node-UseTheory, decl_of_node-CloneTheory, decl_of_node-ScopeDecl}
 use Rattle.unparse_why.proofs.files.+declaration_writing.Goals as goal
 
@@ -30,5 +29,5 @@ push_decl-returns-in-UseTheory t c = let is = decl_is c.args.decl.now _ c.in-Use
 pub push_decl-returns-in-CloneTheory : goal.push_decl-returns-in-CloneTheory
 push_decl-returns-in-CloneTheory t c = let is = decl_is c.args.decl.now _ c.in-CloneTheory.is ∙ decl_of_node-CloneTheory _ _ _ _ _ in grind (arith, common_steps)
 
-pub push_decl-returns-in_ok-push-in-ScopeDecl-3 : goal.push_decl-returns-in_ok-push-in-ScopeDecl-3
-push_decl-returns-in_ok-push-in-ScopeDecl-3 t c = let is = decl_is c.args.decl.now _ c.in-ScopeDecl.is ∙ decl_of_node-ScopeDecl _ _ _ in grind (arith, common_steps)
+pub push_decl-returns-in_ok-push_decls-in-ScopeDecl : goal.push_decl-returns-in_ok-push_decls-in-ScopeDecl
+push_decl-returns-in_ok-push_decls-in-ScopeDecl t c = let is = decl_is c.args.decl.now _ c.in-ScopeDecl.is ∙ decl_of_node-ScopeDecl _ _ _ in grind (arith, common_steps)

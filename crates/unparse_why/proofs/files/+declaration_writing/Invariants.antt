@@ -1,7 +1,4 @@
-use Rattle.std.proofs.Common.{◌≡◌, ◌++◌, drop, map}
-use Rattle.syntax_why.specs.Lexeme.{terminals}
-use Rattle.syntax_why.specs.Declarations.{write_decls}
-use Rattle.syntax_why.specs.SurfaceDeclarations.{decls, decl_of}
+use Rattle.unparse_why.proofs.Common.{◌≡◌, ◌++◌, drop, map, terminals, write_decls, decls, decl_of}
 use Rattle.unparse_why.proofs.files.+declaration_writing.Given as goal
 
 abbrev pub invariant-push_decls-loop-decl : goal.invariant-push_decls-loop-decl

@@ -1,7 +1,4 @@
-use Rattle.std.proofs.Common.{◌≡◌, ◌++◌, drop, map}
-use Rattle.syntax_why.specs.Lexeme.{terminals}
-use Rattle.syntax_why.specs.Declarations.{algebraic_list, algebraic_tail}
-use Rattle.syntax_why.specs.SurfaceDeclarations.{algebraic_of}
+use Rattle.unparse_why.proofs.Common.{◌≡◌, ◌++◌, drop, map, terminals, algebraic_list, algebraic_tail, algebraic_of}
 use Rattle.unparse_why.proofs.files.push_algebraics.Given as goal
 
 abbrev pub invariant-loop-algebraic : goal.invariant-loop-algebraic

@@ -1,7 +1,4 @@
-use Rattle.std.proofs.Common.{◌≡◌, ◌++◌, drop, map}
-use Rattle.syntax_why.specs.Lexeme.{terminals}
-use Rattle.syntax_why.specs.Declarations.{clause_list, clause_tail}
-use Rattle.syntax_why.specs.SurfaceDeclarations.{clause_of}
+use Rattle.unparse_why.proofs.Common.{◌≡◌, ◌++◌, drop, map, terminals, clause_list, clause_tail, clause_of}
 use Rattle.unparse_why.proofs.files.push_clauses.Given as goal
 
 abbrev pub invariant-loop-clause : goal.invariant-loop-clause

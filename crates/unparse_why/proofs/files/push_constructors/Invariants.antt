@@ -1,7 +1,4 @@
-use Rattle.std.proofs.Common.{◌≡◌, ◌++◌, drop, map}
-use Rattle.syntax_why.specs.Lexeme.{terminals}
-use Rattle.syntax_why.specs.Declarations.{constructor_list, constructor_tail}
-use Rattle.syntax_why.specs.SurfaceDeclarations.{constructor_of}
+use Rattle.unparse_why.proofs.Common.{◌≡◌, ◌++◌, drop, map, terminals, constructor_list, constructor_tail, constructor_of}
 use Rattle.unparse_why.proofs.files.push_constructors.Given as goal
 
 abbrev pub invariant-loop-constructor : goal.invariant-loop-constructor

@@ -1,7 +1,4 @@
-use Rattle.std.proofs.Common.{◌≡◌, ◌++◌, drop, map}
-use Rattle.syntax_why.specs.Lexeme.{terminals}
-use Rattle.syntax_why.specs.Declarations.{inductive_list, inductive_tail}
-use Rattle.syntax_why.specs.SurfaceDeclarations.{inductive_of}
+use Rattle.unparse_why.proofs.Common.{◌≡◌, ◌++◌, drop, map, terminals, inductive_list, inductive_tail, inductive_of}
 use Rattle.unparse_why.proofs.files.push_inductives.Given as goal
 
 abbrev pub invariant-loop-inductive : goal.invariant-loop-inductive

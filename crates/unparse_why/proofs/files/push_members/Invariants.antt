@@ -1,7 +1,4 @@
-use Rattle.std.proofs.Common.{◌≡◌, ◌++◌, drop, map}
-use Rattle.syntax_why.specs.Lexeme.{terminals}
-use Rattle.syntax_why.specs.Declarations.{other_members}
-use Rattle.syntax_why.specs.SurfaceDeclarations.{member_of}
+use Rattle.unparse_why.proofs.Common.{◌≡◌, ◌++◌, drop, map, terminals, other_members, member_of}
 use Rattle.unparse_why.proofs.files.push_members.Given as goal
 
 abbrev pub invariant-loop-member : goal.invariant-loop-member

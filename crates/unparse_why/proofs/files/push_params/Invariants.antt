@@ -1,7 +1,4 @@
-use Rattle.std.proofs.Common.{◌≡◌, ◌++◌, drop, map}
-use Rattle.syntax_why.specs.Lexeme.{terminals}
-use Rattle.syntax_why.specs.Declarations.{param_row}
-use Rattle.syntax_why.specs.SurfaceDeclarations.{param_of}
+use Rattle.unparse_why.proofs.Common.{◌≡◌, ◌++◌, drop, map, terminals, param_row, param_of}
 use Rattle.unparse_why.proofs.files.push_params.Given as goal
 
 abbrev pub invariant-loop-param : goal.invariant-loop-param

@@ -1,5 +1,4 @@
-use Rattle.std.proofs.Common.{arith}
-use Rattle.std.proofs.lemmas.Grind.{common_steps}
+use Rattle.unparse_why.proofs.Common.{arith, common_steps}
 use Rattle.unparse_why.proofs.PathLemmas.{any_first}
 use Rattle.unparse_why.proofs.files.push_path.Goals as goal
 

@@ -1,6 +1,4 @@
-use Rattle.std.proofs.Common.{◌≡◌, ◌++◌, drop, []}
-use Rattle.syntax_why.specs.Lexeme.{terminals}
-use Rattle.syntax_why.specs.Declarations.{write_path, path_from}
+use Rattle.unparse_why.proofs.Common.{◌≡◌, ◌++◌, drop, [], terminals, write_path, path_from}
 use Rattle.unparse_why.proofs.files.push_path.Given as goal
 
 abbrev pub invariant-loop-part : goal.invariant-loop-part

@@ -1,7 +1,4 @@
-use Rattle.std.proofs.Common.{◌≡◌, ◌++◌, drop, map}
-use Rattle.syntax_why.specs.Lexeme.{terminals}
-use Rattle.syntax_why.specs.Declarations.{element_tail, substitution}
-use Rattle.syntax_why.specs.SurfaceDeclarations.{element_of}
+use Rattle.unparse_why.proofs.Common.{◌≡◌, ◌++◌, drop, map, terminals, element_tail, substitution, element_of}
 use Rattle.unparse_why.proofs.files.push_substitution.Given as goal
 
 abbrev pub invariant-loop-element : goal.invariant-loop-element

@@ -1,7 +1,4 @@
-use Rattle.std.proofs.Common.{◌≡◌, ◌++◌, drop, map}
-use Rattle.syntax_why.specs.Lexeme.{terminals}
-use Rattle.syntax_why.specs.Declarations.{write_file}
-use Rattle.syntax_why.specs.SurfaceDeclarations.{theory_of}
+use Rattle.unparse_why.proofs.Common.{◌≡◌, ◌++◌, drop, map, terminals, write_file, theory_of}
 use Rattle.unparse_why.proofs.files.push_theories.Given as goal
 
 abbrev pub invariant-loop-theory : goal.invariant-loop-theory

@@ -1,6 +1,4 @@
-use Rattle.std.proofs.Common.{◌≡◌, ◌++◌, drop}
-use Rattle.syntax_why.specs.Lexeme.{terminals}
-use Rattle.syntax_why.specs.Declarations.{variable_row}
+use Rattle.unparse_why.proofs.Common.{◌≡◌, ◌++◌, drop, terminals, variable_row}
 use Rattle.unparse_why.proofs.files.push_variables.Given as goal
 
 abbrev pub invariant-loop-var : goal.invariant-loop-var

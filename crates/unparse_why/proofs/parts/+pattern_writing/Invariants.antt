@@ -1,7 +1,4 @@
-use Rattle.std.proofs.Common.{◌≡◌, ◌++◌, drop, map}
-use Rattle.syntax_why.specs.Lexeme.{terminals}
-use Rattle.syntax_why.specs.Forms.{form_row, form_list, form_tail}
-use Rattle.syntax_why.specs.Surface.{pattern_of, forms}
+use Rattle.unparse_why.proofs.Common.{◌≡◌, ◌++◌, drop, map, terminals, form_row, form_list, form_tail, pattern_of, forms}
 use Rattle.unparse_why.proofs.parts.+pattern_writing.Given as goal
 
 abbrev pub invariant-push_parts-loop-p : goal.invariant-push_parts-loop-p

@@ -1,13 +1,11 @@
-use Rattle.std.proofs.Common.{arith, ◌∙◌}
-use Rattle.std.proofs.lemmas.Grind.{common_steps}
-use Rattle.syntax_why.proofs.TreeLemmas.{form_is, form_of_node-Var, form_of_node-Named, form_of_node-Group}
+use Rattle.unparse_why.proofs.Common.{arith, ◌∙◌, common_steps, form_is, form_of_node-Var, form_of_node-Named, form_of_node-Group}
 use Rattle.unparse_why.proofs.parts.+type_writing.Goals as goal
 
-pub push_type-returns-in_ok-push-in-Var : goal.push_type-returns-in_ok-push-in-Var
-push_type-returns-in_ok-push-in-Var t c = let is = form_is c.args.t.now _ c.in-Var.is ∙ form_of_node-Var _ _ in grind (arith, common_steps)
+pub push_type-returns-in-Var : goal.push_type-returns-in-Var
+push_type-returns-in-Var t c = let is = form_is c.args.t.now _ c.in-Var.is ∙ form_of_node-Var _ _ in grind (arith, common_steps)
 
 pub push_type-returns-in_ok-push_called-in-Named : goal.push_type-returns-in_ok-push_called-in-Named
 push_type-returns-in_ok-push_called-in-Named t c = let is = form_is c.args.t.now _ c.in-Named.is ∙ form_of_node-Named _ _ _ in grind (arith, common_steps)
 
-pub push_type-returns-in_ok-push-in-Group-2 : goal.push_type-returns-in_ok-push-in-Group-2
-push_type-returns-in_ok-push-in-Group-2 t c = let is = form_is c.args.t.now _ c.in-Group.is ∙ form_of_node-Group _ _ in grind (arith, common_steps)
+pub push_type-returns-in_ok-push_listed_types-in-Group : goal.push_type-returns-in_ok-push_listed_types-in-Group
+push_type-returns-in_ok-push_listed_types-in-Group t c = let is = form_is c.args.t.now _ c.in-Group.is ∙ form_of_node-Group _ _ in grind (arith, common_steps)

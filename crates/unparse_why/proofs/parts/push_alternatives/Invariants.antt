@@ -1,7 +1,4 @@
-use Rattle.std.proofs.Common.{◌≡◌, ◌++◌, drop}
-use Rattle.syntax_why.specs.Lexeme.{terminals}
-use Rattle.syntax_why.specs.Trees.{alternative_tail, alternative_list}
-use Rattle.syntax_why.specs.Surface.{alternatives}
+use Rattle.unparse_why.proofs.Common.{◌≡◌, ◌++◌, drop, terminals, alternative_tail, alternative_list, alternatives}
 use Rattle.unparse_why.proofs.parts.push_alternatives.Given as goal
 
 abbrev pub invariant-loop-ps : goal.invariant-loop-ps

@@ -1,7 +1,4 @@
-use Rattle.std.proofs.Common.{◌≡◌, ◌++◌, drop, map}
-use Rattle.syntax_why.specs.Lexeme.{terminals}
-use Rattle.syntax_why.specs.Trees.{binder_tail, binder_list}
-use Rattle.syntax_why.specs.Surface.{binder_of}
+use Rattle.unparse_why.proofs.Common.{◌≡◌, ◌++◌, drop, map, terminals, binder_tail, binder_list, binder_of}
 use Rattle.unparse_why.proofs.parts.push_binders.Given as goal
 
 abbrev pub invariant-loop-b : goal.invariant-loop-b

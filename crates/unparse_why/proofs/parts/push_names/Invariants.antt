@@ -1,6 +1,4 @@
-use Rattle.std.proofs.Common.{◌≡◌, ◌++◌, drop}
-use Rattle.syntax_why.specs.Lexeme.{terminals}
-use Rattle.syntax_why.specs.Trees.{name_row}
+use Rattle.unparse_why.proofs.Common.{◌≡◌, ◌++◌, drop, terminals, name_row}
 use Rattle.unparse_why.proofs.parts.push_names.Given as goal
 
 abbrev pub invariant-loop-name : goal.invariant-loop-name

@@ -1,6 +1,4 @@
-use Rattle.std.proofs.Common.{◌≡◌, ◌++◌, drop}
-use Rattle.syntax_why.specs.Lexeme.{terminals}
-use Rattle.syntax_why.specs.Forms.{scoped}
+use Rattle.unparse_why.proofs.Common.{◌≡◌, ◌++◌, drop, terminals, scoped}
 use Rattle.unparse_why.proofs.parts.push_scopes.Given as goal
 
 abbrev pub invariant-loop-scope : goal.invariant-loop-scope

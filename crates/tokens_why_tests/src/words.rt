@@ -1,6 +1,5 @@
 // A table of words, and what it finds.
-// They stand on the table; nothing stands on them.
-use crate::WordTable;
+use word_tables::WordTable;
 
 #[test]
 fn places_and_words(rt: HostRuntime) {

@@ -1,0 +1,2 @@
+mod DeclRows
+mod PlaceRows

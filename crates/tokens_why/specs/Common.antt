@@ -1,0 +1,10 @@
+-- The names that most definitions and contracts cite, passed on from one place. Declares nothing.
+pub use Rattle.std.proofs.Common.{get_or}
+pub use Rattle.std.specs.List.{list_all, list_any, prefix_len}
+pub use Rattle.std.specs.Prelude.{suc, false, ◌&&◌, if◌then◌else◌, slice_range, true, zero, map, take, None, unwrap_or, ◌*◌, ℕ, ◌∷◌, [], option_map, Bool, ◌||◌, ◌-◌, ◌^◌, ◌↔◌, codes, MatchOption, Ok, length, Some, Err, IfOk, drop, nat_le, ◌+◌, ◌<◌, ◌≡◌, Option, List, ◌≤◌, IsOkAnd, nat_lt, not, Result, MatchBool, nat_eq}
+pub use Rattle.tokens_why.specs.declared.fault.LexFault.TheVariants.{BigLiteral, Lexical}
+pub use Rattle.tokens_why.specs.declared.terminal.Terminal.{Terminal}
+pub use Rattle.tokens_why.specs.declared.token.Token.{Token}
+pub use Rattle.tokens_why.specs.declared.token.TokenKind.{TokenKind}
+pub use Rattle.tokens_why.specs.declared.token.TokenKind.TheVariants.{Bar, Wild, Dot, Arrow, Lident, Colon, LParen, RBrack, RParen, Comma, Conj, RBrace, Uident, TyVar, LBrack, Operator, Semi, StarName, LBrace, Equiv, Minus, Equal, Reserved, AndAnd, OrOr, Disj, Int}
+pub use Rattle.word_tables.specs.Words.{same, place_of}
