@@ -14,7 +14,9 @@ use trees::TermId;
 const MEMORY: &str = "out of memory";
 
 // A template, the number of arguments, and its pieces: literals as they stand, arguments as the digit behind `@`.
-static TEMPLATES: [(&[u8], usize, Option<&[u8]>); 14] = [
+type Row = (&'static [u8], usize, Option<&'static [u8]>);
+
+static TEMPLATES: [Row; 14] = [
     (b"", 0, Some(b"")),
     (b"Int", 0, Some(b"Int")),
     (b"%%", 0, Some(b"%")),
@@ -49,18 +51,29 @@ fn shown(alloc: Global, pieces: &Seq<Piece>, rt: &impl Abort) -> Vec<u8> {
     out
 }
 
+fn is_shown(
+    rt: &impl Abort,
+    alloc: Global,
+    found: &Option<Seq<Piece>>,
+    wanted: Option<&[u8]>,
+) -> bool {
+    match (found, wanted) {
+        (Some(pieces), Some(line)) => shown(alloc, pieces, rt).as_slice() == line,
+        (None, None) => true,
+        _ => false,
+    }
+}
+
+fn compare_templates(rt: &impl Abort, alloc: Global, rows: &[Row]) {
+    for (template, arity, wanted) in rows {
+        let found = template_of(alloc, template, *arity).expect(rt, MEMORY);
+        assert!(rt; is_shown(rt, alloc, &found, *wanted));
+    }
+}
+
 #[test]
 fn templates_have_pieces(rt: HostRuntime) {
-    for (template, arity, wanted) in TEMPLATES {
-        let found = template_of(rt.alloc(), template, arity).expect(&rt, MEMORY);
-        match (found, wanted) {
-            (Some(pieces), Some(line)) => {
-                assert!(rt; shown(rt.alloc(), &pieces, &rt).as_slice() == line)
-            }
-            (None, None) => {}
-            _ => assert!(rt; false),
-        }
-    }
+    compare_templates(&rt, rt.alloc(), &TEMPLATES);
 }
 
 #[test]
@@ -75,7 +88,9 @@ fn words_name_transformations_and_printers(rt: HostRuntime) {
 }
 
 // A text, the number of a line, the tokens of a name in it, and the name.
-static NAMES: [(&[u8], usize, usize, usize, &[u8]); 7] = [
+type NameRow = (&'static [u8], usize, usize, usize, &'static [u8]);
+
+static NAMES: [NameRow; 7] = [
     (b"theory int . Int end", 0, 1, 4, b"int.Int"),
     (b"theory T remove prop S.a end", 1, 2, 5, b"S.a"),
     (b"theory T remove prop (*) end", 1, 2, 3, b"*"),
@@ -93,14 +108,19 @@ fn line_at(its: &DriverText, place: usize, rt: &impl Abort) -> DriverLine {
     its.lines.get(place).copied().expect(rt, "no line")
 }
 
+// The name that a row says.
+fn named(alloc: Global, row: &NameRow, rt: &impl Abort) -> Text {
+    let (text, place, first, end, _) = *row;
+    let its = lines(alloc, text, rt);
+    let line = line_at(&its, place, rt);
+    let tokens = part(part(&its.tokens, line.first, line.end), first, end);
+    name_of(alloc, text, tokens).expect(rt, MEMORY)
+}
+
 #[test]
 fn tokens_write_names(rt: HostRuntime) {
-    for (text, place, first, end, wanted) in NAMES {
-        let its = lines(rt.alloc(), text, &rt);
-        let line = line_at(&its, place, &rt);
-        let tokens = part(part(&its.tokens, line.first, line.end), first, end);
-        let name = name_of(rt.alloc(), text, tokens).expect(&rt, MEMORY);
-        assert_eq!(rt; name.as_slice(), wanted);
+    for row in NAMES.iter() {
+        assert!(rt; named(rt.alloc(), row, &rt).as_slice() == row.4);
     }
 }
 
@@ -163,39 +183,59 @@ static TARGETS: [(&[u8], NameKind, &[u8], Wanted); 9] = [
     (b"U", NameKind::Type, b"t", Wanted::Nothing),
 ];
 
-#[test]
-fn names_stand_for_the_last_entry(rt: HostRuntime) {
-    let mut symbols = Vec::new(rt.alloc());
-    for entry in ENTRIES {
-        symbols
-            .push(symbol(rt.alloc(), entry, &rt))
-            .expect(&rt, MEMORY);
+// The entries.
+fn symbols(alloc: Global, rt: &impl Abort) -> Vec<SymbolInfo> {
+    let mut symbols = Vec::new(alloc);
+    for entry in ENTRIES.iter() {
+        symbols.push(symbol(alloc, *entry, rt)).expect(rt, MEMORY);
     }
-    for (path, kind, name, wanted) in &TARGETS {
-        match (target_of(&symbols, path, *kind, name), wanted) {
-            (Some((Target::Int, 0)), Wanted::Int) => {}
-            (Some((Target::Equality, 2)), Wanted::Equality) => {}
-            (Some((Target::Entry(entry), arity)), Wanted::Entry(e, a)) => {
-                assert_eq!(rt; (entry, arity), (*e, *a))
-            }
-            (None, Wanted::Nothing) => {}
-            _ => assert!(rt; false),
-        }
+    symbols
+}
+
+fn is_target(found: Option<(Target, usize)>, wanted: &Wanted) -> bool {
+    match (found, wanted) {
+        (Some((Target::Int, 0)), Wanted::Int) => true,
+        (Some((Target::Equality, 2)), Wanted::Equality) => true,
+        (Some((Target::Entry(entry), arity)), Wanted::Entry(e, a)) => entry == *e && arity == *a,
+        (None, Wanted::Nothing) => true,
+        _ => false,
     }
 }
 
 #[test]
+fn names_stand_for_the_last_entry(rt: HostRuntime) {
+    let symbols = symbols(rt.alloc(), &rt);
+    for (path, kind, name, wanted) in TARGETS.iter() {
+        assert!(rt; is_target(target_of(&symbols, path, *kind, name), wanted));
+    }
+}
+
+// A theory `T` with the proposition `a`.
+fn theories(alloc: Global, rt: &impl Abort) -> Vec<(String, Vec<String>)> {
+    let path = String::from_str(alloc, "T").expect(rt, MEMORY);
+    let name = String::from_str(alloc, "a").expect(rt, MEMORY);
+    let names = vec![in alloc; name].expect(rt, MEMORY);
+    vec![in alloc; (path, names)].expect(rt, MEMORY)
+}
+
+// The path of a theory, and whether it is known.
+static PATHS: [(&[u8], bool); 3] = [(b"T", true), (b"BuiltIn", true), (b"U", false)];
+
+// The path of a theory, a name, and whether the theory has a proposition of this name.
+static PROPOSITIONS: [(&[u8], &[u8], bool); 4] = [
+    (b"T", b"a", true),
+    (b"T", b"b", false),
+    (b"U", b"a", false),
+    (b"BuiltIn", b"a", false),
+];
+
+#[test]
 fn theories_are_known_by_their_paths(rt: HostRuntime) {
-    let alloc = rt.alloc();
-    let path = String::from_str(alloc, "T").expect(&rt, MEMORY);
-    let name = String::from_str(alloc, "a").expect(&rt, MEMORY);
-    let names = vec![in alloc; name].expect(&rt, MEMORY);
-    let theories = vec![in alloc; (path, names)].expect(&rt, MEMORY);
-    assert!(rt; is_known(&theories, b"T"));
-    assert!(rt; is_known(&theories, b"BuiltIn"));
-    assert!(rt; !is_known(&theories, b"U"));
-    assert!(rt; has_proposition(&theories, b"T", b"a"));
-    assert!(rt; !has_proposition(&theories, b"T", b"b"));
-    assert!(rt; !has_proposition(&theories, b"U", b"a"));
-    assert!(rt; !has_proposition(&theories, b"BuiltIn", b"a"));
+    let theories = theories(rt.alloc(), &rt);
+    for (path, wanted) in PATHS.iter() {
+        assert!(rt; is_known(&theories, path) == *wanted);
+    }
+    for (path, name, wanted) in PROPOSITIONS.iter() {
+        assert!(rt; has_proposition(&theories, path, name) == *wanted);
+    }
 }
