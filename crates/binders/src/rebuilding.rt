@@ -33,8 +33,10 @@ pub trait Visit {
     ) -> Result<Option<TermId>, AllocError>
         requires ready { Ready self.now (G.trees g.old) }
         requires held { Holds (G.trees g.old) e }
-        requires fits { FitsUnder (change_over self.now (G.trees g.old)) depth (tree_at (G.trees g.old) e) }
-        ensures visited { IfOk result (IsVisited (change_over self.now (G.trees g.old)) depth (tree_at (G.trees g.old) e) (G.trees g.new)) }
+        requires fits { FitsUnder (change_over self.now (G.trees g.old)) depth
+            (tree_at (G.trees g.old) e) }
+        ensures visited { IfOk result (IsVisited (change_over self.now (G.trees g.old)) depth
+            (tree_at (G.trees g.old) e) (G.trees g.new)) }
         ensures kept { IfOk result (λ r. r ≡ None → g.new ≡ g.old) }
         ensures grows { G.grows g.old g.new };
 
@@ -73,7 +75,8 @@ fn remake<G: Grow>(g: &mut G, node: Node, parts: Parts) -> Result<TermId, AllocE
     requires held { AreBelow (length (G.trees g.old)) parts }
     requires fits { Fits (assemble (G.trees g.old) (head_of_node node) parts) }
     ensures held { IfOk result (Holds (G.trees g.new)) }
-    ensures tree { IfOk result (λ id. tree_at (G.trees g.new) id ≡ assemble (G.trees g.old) (head_of_node node) parts) }
+    ensures tree { IfOk result (λ id. tree_at (G.trees g.new) id
+        ≡ assemble (G.trees g.old) (head_of_node node) parts) }
     ensures grows { G.grows g.old g.new }
 {
     g.add(node.with_parts(parts))
@@ -89,8 +92,10 @@ fn rebuild<G: Grow, V: Visit>(
     e: TermId,
     depth: usize,
 ) -> Result<TermId, AllocError>
-    requires { CanRebuild (V.change_over visit.now (G.trees g.old)) (V.Ready visit.now (G.trees g.old)) (G.trees g.old) known.old e depth }
-    ensures rebuilt { IfOk result (IsRebuilt (V.change_over visit.now (G.trees g.old)) (tree_at (G.trees g.old) e) depth (G.trees g.new) known.new) }
+    requires { CanRebuild (V.change_over visit.now (G.trees g.old))
+        (V.Ready visit.now (G.trees g.old)) (G.trees g.old) known.old e depth }
+    ensures rebuilt { IfOk result (IsRebuilt (V.change_over visit.now (G.trees g.old))
+        (tree_at (G.trees g.old) e) depth (G.trees g.new) known.new) }
     ensures grows { G.grows g.old g.new }
 {
     if let Some(made) = known.get(&(e.0, depth)) {
@@ -111,8 +116,10 @@ fn rebuild_node<G: Grow, V: Visit>(
     e: TermId,
     depth: usize,
 ) -> Result<TermId, AllocError>
-    requires { CanRebuild (V.change_over visit.now (G.trees g.old)) (V.Ready visit.now (G.trees g.old)) (G.trees g.old) known.old e depth }
-    ensures rebuilt { IfOk result (IsRebuilt (V.change_over visit.now (G.trees g.old)) (tree_at (G.trees g.old) e) depth (G.trees g.new) known.new) }
+    requires { CanRebuild (V.change_over visit.now (G.trees g.old))
+        (V.Ready visit.now (G.trees g.old)) (G.trees g.old) known.old e depth }
+    ensures rebuilt { IfOk result (IsRebuilt (V.change_over visit.now (G.trees g.old))
+        (tree_at (G.trees g.old) e) depth (G.trees g.new) known.new) }
     ensures grows { G.grows g.old g.new }
 {
     match visit.visit(alloc, g, e, depth)? {
@@ -131,9 +138,12 @@ fn rebuild_parts<G: Grow, V: Visit>(
     e: TermId,
     depth: usize,
 ) -> Result<TermId, AllocError>
-    requires can { CanRebuild (V.change_over visit.now (G.trees g.old)) (V.Ready visit.now (G.trees g.old)) (G.trees g.old) known.old e depth }
-    requires plain { IsPlain (V.change_over visit.now (G.trees g.old)) (head_of (tree_at (G.trees g.old) e)) }
-    ensures rebuilt { IfOk result (IsRebuilt (V.change_over visit.now (G.trees g.old)) (tree_at (G.trees g.old) e) depth (G.trees g.new) known.new) }
+    requires can { CanRebuild (V.change_over visit.now (G.trees g.old))
+        (V.Ready visit.now (G.trees g.old)) (G.trees g.old) known.old e depth }
+    requires plain { IsPlain (V.change_over visit.now (G.trees g.old))
+        (head_of (tree_at (G.trees g.old) e)) }
+    ensures rebuilt { IfOk result (IsRebuilt (V.change_over visit.now (G.trees g.old))
+        (tree_at (G.trees g.old) e) depth (G.trees g.new) known.new) }
     ensures grows { G.grows g.old g.new }
 {
     let node = node_of(g, e);
@@ -167,11 +177,14 @@ pub fn changed<G: Grow, V: Visit>(
 ) -> Result<TermId, AllocError>
     requires ready { V.Ready visit.now (G.trees g.old) }
     requires e_held { Holds (G.trees g.old) e }
-    requires fits { IndicesFit (change (V.change_over visit.now (G.trees g.old)) 0 (tree_at (G.trees g.old) e)) }
+    requires fits { IndicesFit (change (V.change_over visit.now (G.trees g.old)) 0
+        (tree_at (G.trees g.old) e)) }
     ensures held { IfOk result (Holds (G.trees g.new)) }
-    ensures tree { IfOk result (λ id. tree_at (G.trees g.new) id ≡ change (V.change_over visit.now (G.trees g.old)) 0 (tree_at (G.trees g.old) e)) }
+    ensures tree { IfOk result (λ id. tree_at (G.trees g.new) id
+        ≡ change (V.change_over visit.now (G.trees g.old)) 0 (tree_at (G.trees g.old) e)) }
     ensures sorted { IfOk result (λ id. WellSorted (tree_at (G.trees g.new) id)) }
-    ensures sort { IfOk result (λ id. sort_of (tree_at (G.trees g.new) id) ≡ sort_of (tree_at (G.trees g.old) e)) }
+    ensures sort { IfOk result (λ id. sort_of (tree_at (G.trees g.new) id)
+        ≡ sort_of (tree_at (G.trees g.old) e)) }
     ensures grows { G.grows g.old g.new }
 {
     let mut known = IndexMap::new(alloc);

@@ -319,7 +319,8 @@ fn walk_all(
     locals: &Locals<'_>,
     wanted: &[TermId],
 ) -> Result<TermId, AllocError>
-    requires { CanWalkAll store.old draft.old world.now locals.now wanted.now (operands_at operands) }
+    requires { CanWalkAll store.old draft.old world.now locals.now wanted.now
+        (operands_at operands) }
     ensures walked { IfOk result (AreWalked (pieces (where_at store.old world.now) (locals_at
         store.old locals.now) (length draft.old.takers) (trees_at store.old wanted.now) (operands_at
         operands.entry)) store.old draft.old store.new draft.new) }

@@ -32,7 +32,8 @@ pub enum Alternative<'a> {
 fn type_among(store: &Store, locals: &[Local<'_>], name: &[u8]) -> TermId
     requires { All (λ l. HoldsType store.now l.ty) locals.now }
     ensures held { HoldsType store.now result }
-    ensures tree { tree_at store.now result ≡ type_in name.now (map (local_at store.now) locals.now) }
+    ensures tree { tree_at store.now result
+        ≡ type_in name.now (map (local_at store.now) locals.now) }
 {
     match locals.split_first() {
         Some((first, rest)) => {

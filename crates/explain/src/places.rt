@@ -42,7 +42,8 @@ pub fn place<'a>(
     byte: usize,
 ) -> Result<(usize, &'a [u8]), AllocError>
     requires { byte ≤ length text.now }
-    ensures { IfOk result (λ p. (p.0 ≡ line_number text.now byte) × (p.1.now ≡ before text.now byte)) }
+    ensures { IfOk result (λ p. (p.0 ≡ line_number text.now byte)
+        × (p.1.now ≡ before text.now byte)) }
 {
     let lines = lines(alloc, &text[..byte])?;
     Ok((lines.len(), line_of(&lines, lines.len())))

@@ -101,7 +101,8 @@ fn explain_file<L: Library>(
     fault: &[usize],
 ) -> Result<Vec<u8>, ExplainFault>
     ensures files { (L.state lib.new).files ≡ (L.state lib.old).files }
-    ensures gives { FileGives file.now fault.now (L.state lib.old) (L.state lib.new) (bytes_of result) }
+    ensures gives { FileGives file.now fault.now (L.state lib.old) (L.state lib.new)
+        (bytes_of result) }
 {
     if row_for(fault).is_none() {
         return Err(ExplainFault::Usage);
@@ -127,7 +128,8 @@ pub fn explain_words<L: Library>(
     words: &[String],
 ) -> Result<Vec<u8>, ExplainFault>
     ensures files { (L.state lib.new).files ≡ (L.state lib.old).files }
-    ensures gives { Gives (map string_bytes words.now) (L.state lib.old) (L.state lib.new) (bytes_of result) }
+    ensures gives { Gives (map string_bytes words.now) (L.state lib.old) (L.state lib.new)
+        (bytes_of result) }
 {
     match fault_of(alloc, words)? {
         None => Err(ExplainFault::Usage),

@@ -24,7 +24,8 @@ pub(crate) enum Summand {
 
 // A function on two arguments.
 fn on_two(ints: &Ints, f: usize, a: TermId, b: TermId) -> Summand
-    ensures tree { (s : List Tree) → top_at s result ≡ two_top (operation ints.now f) (tree_at s a) (tree_at s b) }
+    ensures tree { (s : List Tree) → top_at s result
+        ≡ two_top (operation ints.now f) (tree_at s a) (tree_at s b) }
     ensures below { (k : ℕ) → a.0 < k → b.0 < k → PartsBelow k result }
 {
     if f == ints.add {
@@ -71,7 +72,8 @@ fn summand_of(store: &Store, ints: &Ints, e: TermId) -> Summand
 #[tactic(auto, using(crate::proofs::Reading::reading_is))]
 pub(crate) fn top_of(store: &Store, ints: &Ints, e: TermId) -> Summand
     requires { Holds store.now e }
-    ensures reads { (v : Tree → ℤ) → reading ints.now v (tree_at store.now e) ≡ read_top ints.now v (tree_at store.now e) (top_at store.now result) }
+    ensures reads { (v : Tree → ℤ) → reading ints.now v (tree_at store.now e)
+        ≡ read_top ints.now v (tree_at store.now e) (top_at store.now result) }
     ensures below { PartsBelow e.0 result }
 {
     summand_of(store, ints, e)
@@ -166,7 +168,8 @@ pub(crate) fn value(store: &Store, ints: &Ints, e: TermId, one: Option<TermId>) 
     requires held { Holds store.now e }
     requires one { IfSome one (Holds store.now) }
     requires light { (reading ints.now zeros (tree_at store.now e)).weight ≤ 2 ^ 126 }
-    ensures { result ≡ (reading ints.now (one_at (option_map (tree_at store.now) one)) (tree_at store.now e)).value }
+    ensures { result ≡ (reading ints.now (one_at (option_map (tree_at store.now) one))
+        (tree_at store.now e)).value }
 {
     match top_of(store, ints, e) {
         Summand::Number(n) => n,

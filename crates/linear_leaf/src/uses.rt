@@ -54,7 +54,8 @@ fn at_most(a: TermId, b: TermId) -> Bound
 
 // A comparison.
 fn compared(ints: &Ints, p: usize, a: TermId, b: TermId) -> Option<Bound>
-    ensures tree { (s : List Tree) → option_map (bound_at s) result ≡ compared ints.now p (tree_at s a) (tree_at s b) }
+    ensures tree { (s : List Tree) → option_map (bound_at s) result
+        ≡ compared ints.now p (tree_at s a) (tree_at s b) }
     ensures held { (s : List Tree) → Holds s a → Holds s b → IfSome result (BoundHeld s) }
 {
     if p == ints.lt {
@@ -72,7 +73,8 @@ fn compared(ints: &Ints, p: usize, a: TermId, b: TermId) -> Option<Bound>
 
 // The negation of a comparison.
 fn uncompared(ints: &Ints, p: usize, a: TermId, b: TermId) -> Option<Bound>
-    ensures tree { (s : List Tree) → option_map (bound_at s) result ≡ uncompared ints.now p (tree_at s a) (tree_at s b) }
+    ensures tree { (s : List Tree) → option_map (bound_at s) result
+        ≡ uncompared ints.now p (tree_at s a) (tree_at s b) }
     ensures held { (s : List Tree) → Holds s a → Holds s b → IfSome result (BoundHeld s) }
 {
     if p == ints.lt {
@@ -137,7 +139,8 @@ fn bounded(store: &Store, ints: &Ints, f: TermId) -> Option<Bound>
 // The formula at a place, where it may stand in the sum.
 fn bounded_at(x: &Leaf<'_>, place: usize) -> Option<Bound>
     requires { LeafHeld x.now }
-    ensures tree { option_map (bound_at x.now.store.now) result ≡ bounded_at x.now.ints.now (sequent_of x.now) place }
+    ensures tree { option_map (bound_at x.now.store.now) result
+        ≡ bounded_at x.now.ints.now (sequent_of x.now) place }
     ensures held { IfSome result (BoundHeld x.now.store.now) }
 {
     match x.sequent.get(place) {
@@ -190,7 +193,8 @@ fn weigh_both(x: &Leaf<'_>, d: Bound) -> u128
 #[tactic(auto, using(crate::proofs::Integers::min_times))]
 fn weigh_part(x: &Leaf<'_>, d: Bound, multiplier: i128) -> u128
     requires { BoundHeld x.now.store.now d }
-    ensures { result ≡ min (weight_of x.now.ints.now multiplier (Some (bound_at x.now.store.now d))) u128.MAX }
+    ensures { result ≡ min (weight_of x.now.ints.now multiplier
+        (Some (bound_at x.now.store.now d))) u128.MAX }
 {
     multiplier.unsigned_abs().saturating_mul(weigh_both(x, d))
 }
@@ -222,7 +226,8 @@ fn difference(x: &Leaf<'_>, d: Bound, one: Option<TermId>) -> i128
     requires held { BoundHeld x.now.store.now d }
     requires one { IfSome one (Holds x.now.store.now) }
     requires light { heft x.now.ints.now (bound_at x.now.store.now d) ≤ 2 ^ 126 }
-    ensures value { result ≡ difference x.now.ints.now (one_at (option_map (tree_at x.now.store.now) one)) (bound_at x.now.store.now d) }
+    ensures value { result ≡ difference x.now.ints.now
+        (one_at (option_map (tree_at x.now.store.now) one)) (bound_at x.now.store.now d) }
     ensures within { nat_abs result ≤ heft x.now.ints.now (bound_at x.now.store.now d) }
 {
     let left = value(x.store, x.ints, d.left, one);
@@ -235,9 +240,13 @@ fn difference(x: &Leaf<'_>, d: Bound, one: Option<TermId>) -> i128
 fn part_of(x: &Leaf<'_>, d: Bound, multiplier: i128, one: Option<TermId>) -> i128
     requires held { BoundHeld x.now.store.now d }
     requires one { IfSome one (Holds x.now.store.now) }
-    requires light { weight_of x.now.ints.now multiplier (Some (bound_at x.now.store.now d)) ≤ 2 ^ 126 }
-    ensures value { result ≡ part x.now.ints.now (one_at (option_map (tree_at x.now.store.now) one)) multiplier (Some (bound_at x.now.store.now d)) }
-    ensures within { nat_abs result ≤ weight_of x.now.ints.now multiplier (Some (bound_at x.now.store.now d)) }
+    requires light { weight_of x.now.ints.now multiplier (Some (bound_at x.now.store.now d))
+        ≤ 2 ^ 126 }
+    ensures value { result ≡ part x.now.ints.now
+        (one_at (option_map (tree_at x.now.store.now) one)) multiplier
+        (Some (bound_at x.now.store.now d)) }
+    ensures within { nat_abs result ≤ weight_of x.now.ints.now multiplier
+        (Some (bound_at x.now.store.now d)) }
 {
     if multiplier == 0 {
         return 0;
@@ -250,9 +259,13 @@ fn part_of(x: &Leaf<'_>, d: Bound, multiplier: i128, one: Option<TermId>) -> i12
 fn part(x: &Leaf<'_>, d: Option<Bound>, multiplier: i128, one: Option<TermId>) -> i128
     requires held { IfSome d (BoundHeld x.now.store.now) }
     requires one { IfSome one (Holds x.now.store.now) }
-    requires light { weight_of x.now.ints.now multiplier (option_map (bound_at x.now.store.now) d) ≤ 2 ^ 126 }
-    ensures value { result ≡ part x.now.ints.now (one_at (option_map (tree_at x.now.store.now) one)) multiplier (option_map (bound_at x.now.store.now) d) }
-    ensures within { nat_abs result ≤ weight_of x.now.ints.now multiplier (option_map (bound_at x.now.store.now) d) }
+    requires light { weight_of x.now.ints.now multiplier (option_map (bound_at x.now.store.now) d)
+        ≤ 2 ^ 126 }
+    ensures value { result ≡ part x.now.ints.now
+        (one_at (option_map (tree_at x.now.store.now) one)) multiplier
+        (option_map (bound_at x.now.store.now) d) }
+    ensures within { nat_abs result ≤ weight_of x.now.ints.now multiplier
+        (option_map (bound_at x.now.store.now) d) }
 {
     match d {
         Some(bound) => part_of(x, bound, multiplier, one),
@@ -266,7 +279,8 @@ fn total(x: &Leaf<'_>, uses: &[(usize, i128)], one: Option<TermId>) -> i128
     requires held { LeafHeld x.now }
     requires one { IfSome one (Holds x.now.store.now) }
     requires light { weight x.now.ints.now (sequent_of x.now) uses.now ≤ 2 ^ 126 }
-    ensures value { result ≡ total x.now.ints.now (sequent_of x.now) (one_at (option_map (tree_at x.now.store.now) one)) uses.now }
+    ensures value { result ≡ total x.now.ints.now (sequent_of x.now)
+        (one_at (option_map (tree_at x.now.store.now) one)) uses.now }
 {
     match uses.split_first() {
         Some((first, more)) => plus(
@@ -295,7 +309,8 @@ fn all_cancel(x: &Leaf<'_>, e: TermId, constant: i128) -> bool
     requires e_held { Holds x.now.store.now e }
     requires light { IsLight x.now }
     requires constant { constant ≡ constant_of x.now }
-    ensures { IsTrue result ↔ Each (CancelsIn x.now) (reading x.now.ints.now zeros (tree_at x.now.store.now e)).atoms }
+    ensures { IsTrue result ↔ Each (CancelsIn x.now)
+        (reading x.now.ints.now zeros (tree_at x.now.store.now e)).atoms }
 {
     match top_of(x.store, x.ints, e) {
         Summand::Number(_) => true,
@@ -319,7 +334,8 @@ fn uses_cancel(x: &Leaf<'_>, uses: &[(usize, i128)], constant: i128) -> bool
     requires held { LeafHeld x.now }
     requires light { IsLight x.now }
     requires constant { constant ≡ constant_of x.now }
-    ensures { IsTrue result ↔ Each (CancelsIn x.now) (use_atoms x.now.ints.now (sequent_of x.now) uses.now) }
+    ensures { IsTrue result ↔ Each (CancelsIn x.now)
+        (use_atoms x.now.ints.now (sequent_of x.now) uses.now) }
 {
     match uses.split_first() {
         Some((first, more)) => match bounded_at(x, first.0) {

@@ -154,7 +154,8 @@ fn is_pattern(store: &Store, sig: &Signature, ty: TermId, id: TermId) -> bool
     requires ty { Holds store.now ty }
     requires symbols { All (SymbolHeld store.now) sig.now.symbols }
     ensures held { IsTrue result → Holds store.now id }
-    ensures is { IsTrue result → IsPattern (symbols_at store.now sig.now.symbols) (tree_at store.now id) }
+    ensures is { IsTrue result → IsPattern (symbols_at store.now sig.now.symbols)
+        (tree_at store.now id) }
     ensures has { IsTrue result → HaveType (tree_at store.now id ∷ []) (tree_at store.now ty) }
 {
     if !store.holds(id) {
@@ -176,7 +177,8 @@ fn are_patterns(store: &Store, sig: &Signature, ty: TermId, ids: &[TermId]) -> b
     requires ty { Holds store.now ty }
     requires symbols { All (SymbolHeld store.now) sig.now.symbols }
     ensures held { IsTrue result → All (Holds store.now) ids.now }
-    ensures are { IsTrue result → All (IsPattern (symbols_at store.now sig.now.symbols)) (trees_at store.now ids.now) }
+    ensures are { IsTrue result → All (IsPattern (symbols_at store.now sig.now.symbols))
+        (trees_at store.now ids.now) }
     ensures have { IsTrue result → HaveType (trees_at store.now ids.now) (tree_at store.now ty) }
 {
     match ids.split_first() {

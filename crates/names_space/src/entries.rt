@@ -91,7 +91,8 @@ impl Meanings {
     }
 
     fn with(self, table: Table, meaning: Option<Meaning>) -> Meanings
-        ensures { (other : Table) → meaning_in other result ≡ (if same_table other table then meaning else meaning_in other self) }
+        ensures { (other : Table) → meaning_in other result
+            ≡ (if same_table other table then meaning else meaning_in other self) }
     {
         match table {
             Table::Types => Meanings {
@@ -196,7 +197,9 @@ impl Entries {
         thing: TypeName,
         declared: bool,
     ) -> Result<(), AllocError>
-        ensures ok { OnOk result (self.new ≡ record { table = table; name = name.items; thing = thing; declared = declared } ∷ self.old) }
+        ensures ok { OnOk result (self.new
+            ≡ record { table = table; name = name.items; thing = thing; declared = declared }
+            ∷ self.old) }
         ensures err { OnErr result (self.new ≡ self.old) }
     {
         let key = Vec::from_slice(*name.allocator(), name.as_slice())?;
@@ -260,7 +263,8 @@ impl Entries {
 
     /// All entries, in the order in which they came.
     pub fn items(&self, alloc: Global) -> Result<Vec<Item>, AllocError>
-        ensures { IfOk result (λ items. (more : List Entry) → brought_before more items.items ≡ map imported self.now ++ more) }
+        ensures { IfOk result (λ items. (more : List Entry) → brought_before more items.items
+            ≡ map imported self.now ++ more) }
     {
         let mut items = Vec::new(alloc);
         for stored in &self.stored {

@@ -235,7 +235,8 @@ impl Scope {
     /// this name before. After a refusal all stays.
     pub fn open(&mut self, name: &str) -> Result<(), NameFault>
         ensures ok { OnOk result (self.new ≡ with_scope name.now true self.old) }
-        ensures duplicate { (result ≡ Err NameFault.Duplicate) ↔ IsTrue (is_declared Table.Scopes name.now (entries_of self.old (innermost self.old))) }
+        ensures duplicate { (result ≡ Err NameFault.Duplicate)
+            ↔ IsTrue (is_declared Table.Scopes name.now (entries_of self.old (innermost self.old))) }
         ensures never_unknown { IfErr result (λ fault. fault ≢ NameFault.Unknown) }
         ensures err { OnErr result (self.new ≡ self.old) }
     {
@@ -245,7 +246,8 @@ impl Scope {
     /// As `open`, of a name by its bytes.
     pub fn open_name(&mut self, name: &[u8]) -> Result<(), NameFault>
         ensures ok { OnOk result (self.new ≡ with_scope name.now true self.old) }
-        ensures duplicate { (result ≡ Err NameFault.Duplicate) ↔ IsTrue (is_declared Table.Scopes name.now (entries_of self.old (innermost self.old))) }
+        ensures duplicate { (result ≡ Err NameFault.Duplicate)
+            ↔ IsTrue (is_declared Table.Scopes name.now (entries_of self.old (innermost self.old))) }
         ensures never_unknown { IfErr result (λ fault. fault ≢ NameFault.Unknown) }
         ensures err { OnErr result (self.new ≡ self.old) }
     {
@@ -296,7 +298,8 @@ impl Scope {
     /// refusal all stays.
     pub fn enter(&mut self, table: Table, name: &str, thing: usize) -> Result<(), NameFault>
         ensures ok { OnOk result (self.new ≡ with_entry table name.now thing true self.old) }
-        ensures duplicate { (result ≡ Err NameFault.Duplicate) ↔ IsTrue (is_declared table name.now (entries_of self.old (innermost self.old))) }
+        ensures duplicate { (result ≡ Err NameFault.Duplicate)
+            ↔ IsTrue (is_declared table name.now (entries_of self.old (innermost self.old))) }
         ensures never_unknown { IfErr result (λ fault. fault ≢ NameFault.Unknown) }
         ensures err { OnErr result (self.new ≡ self.old) }
     {
@@ -306,7 +309,8 @@ impl Scope {
     /// As `enter` in the table of types, of a name that may be an alias.
     pub fn enter_type(&mut self, name: &str, thing: TypeName) -> Result<(), NameFault>
         ensures ok { OnOk result (self.new ≡ with_name Table.Types name.now thing true self.old) }
-        ensures duplicate { (result ≡ Err NameFault.Duplicate) ↔ IsTrue (is_declared Table.Types name.now (entries_of self.old (innermost self.old))) }
+        ensures duplicate { (result ≡ Err NameFault.Duplicate)
+            ↔ IsTrue (is_declared Table.Types name.now (entries_of self.old (innermost self.old))) }
         ensures never_unknown { IfErr result (λ fault. fault ≢ NameFault.Unknown) }
         ensures err { OnErr result (self.new ≡ self.old) }
     {
@@ -321,7 +325,8 @@ impl Scope {
         thing: TypeName,
     ) -> Result<(), NameFault>
         ensures ok { OnOk result (self.new ≡ with_name table name.now thing true self.old) }
-        ensures duplicate { (result ≡ Err NameFault.Duplicate) ↔ IsTrue (is_declared table name.now (entries_of self.old (innermost self.old))) }
+        ensures duplicate { (result ≡ Err NameFault.Duplicate)
+            ↔ IsTrue (is_declared table name.now (entries_of self.old (innermost self.old))) }
         ensures never_unknown { IfErr result (λ fault. fault ≢ NameFault.Unknown) }
         ensures err { OnErr result (self.new ≡ self.old) }
     {
@@ -363,7 +368,8 @@ impl Scope {
 
     // The entries of a scope, to be brought in.
     fn items(&self, number: usize) -> Result<Vec<Item>, AllocError>
-        ensures { IfOk result (λ items. (more : List Entry) → brought_before more items.items ≡ map imported (entries_of self.now number) ++ more) }
+        ensures { IfOk result (λ items. (more : List Entry) → brought_before more items.items
+            ≡ map imported (entries_of self.now number) ++ more) }
     {
         match self.scopes.get(number) {
             Some(entries) => entries.items(self.alloc),
@@ -374,8 +380,10 @@ impl Scope {
     /// The innermost scope gets all names of the scope at this path as imported ones: `Unknown` exactly where no scope is
     /// found there. After a refusal all stays.
     pub fn import_from(&mut self, path: &[String]) -> Result<(), NameFault>
-        ensures ok { OnOk result (IfSome (find self.old Table.Scopes (map string_bytes path.now)) (λ number. self.new ≡ with_import number self.old)) }
-        ensures unknown { (result ≡ Err NameFault.Unknown) ↔ IsNone (find self.old Table.Scopes (map string_bytes path.now)) }
+        ensures ok { OnOk result (IfSome (find self.old Table.Scopes (map string_bytes path.now))
+            (λ number. self.new ≡ with_import number self.old)) }
+        ensures unknown { (result ≡ Err NameFault.Unknown)
+            ↔ IsNone (find self.old Table.Scopes (map string_bytes path.now)) }
         ensures never_duplicate { IfErr result (λ fault. fault ≢ NameFault.Duplicate) }
         ensures err { OnErr result (self.new ≡ self.old) }
     {

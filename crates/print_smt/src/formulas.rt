@@ -34,7 +34,8 @@ fn push_formula(
 ) -> Result<(), AllocError>
     requires index { IsIndex names.now index.now }
     requires held { Holds store.now e }
-    ensures { OnOk result (out.new.items ≡ out.old.items ++ formula_text names.now (tree_at store.now e)) }
+    ensures { OnOk result (out.new.items ≡ out.old.items
+        ++ formula_text names.now (tree_at store.now e)) }
 {
     match store.node(e) {
         Node::True => out.extend_from_slice(b"true"),
@@ -66,7 +67,8 @@ pub fn push_assertion(
 ) -> Result<(), AllocError>
     requires index { IsIndex names.now index.now }
     requires held { Holds store.now e }
-    ensures { OnOk result (out.new.items ≡ out.old.items ++ assertion names.now (tree_at store.now e)) }
+    ensures { OnOk result (out.new.items ≡ out.old.items
+        ++ assertion names.now (tree_at store.now e)) }
 {
     out.extend_from_slice(b"(assert ")?;
     push_formula(out, store, names, index, e)?;
@@ -83,7 +85,8 @@ pub fn push_goal(
 ) -> Result<(), AllocError>
     requires index { IsIndex names.now index.now }
     requires held { Holds store.now e }
-    ensures { OnOk result (out.new.items ≡ out.old.items ++ goal_line names.now (tree_at store.now e)) }
+    ensures { OnOk result (out.new.items ≡ out.old.items
+        ++ goal_line names.now (tree_at store.now e)) }
 {
     out.extend_from_slice(b"(assert (not ")?;
     push_formula(out, store, names, index, e)?;

@@ -68,7 +68,8 @@ fn push_fact(
 ) -> Result<(), AllocError>
     requires index { IsIndex names.now index.now }
     requires held { BodyHeld store.now body.now }
-    ensures { OnOk result (out.new.items ≡ out.old.items ++ fact_text names.now (body_at store.now body.now)) }
+    ensures { OnOk result (out.new.items ≡ out.old.items
+        ++ fact_text names.now (body_at store.now body.now)) }
 {
     match body {
         Body::Prop(formula) => push_assertion(out, store, names, index, *formula),
@@ -85,7 +86,8 @@ fn push_facts(
 ) -> Result<(), AllocError>
     requires index { IsIndex names.now index.now }
     requires held { All (DeclHeld store.now) decls.now }
-    ensures { OnOk result (out.new.items ≡ out.old.items ++ facts_text names.now (declarations_at store.now decls.now)) }
+    ensures { OnOk result (out.new.items ≡ out.old.items
+        ++ facts_text names.now (declarations_at store.now decls.now)) }
 {
     for decl in decls {
         push_fact(out, store, names, index, &decl.body)?;
@@ -102,7 +104,8 @@ fn push_locals(
 ) -> Result<(), AllocError>
     requires index { IsIndex names.now index.now }
     requires held { All (Holds store.now) locals.now }
-    ensures { OnOk result (out.new.items ≡ out.old.items ++ flat_map (assertion names.now) (trees_at store.now locals.now)) }
+    ensures { OnOk result (out.new.items ≡ out.old.items
+        ++ flat_map (assertion names.now) (trees_at store.now locals.now)) }
 {
     for local in locals {
         push_assertion(out, store, names, index, *local)?;
@@ -122,7 +125,8 @@ pub fn smt_text(
 ) -> Result<Vec<u8>, AllocError>
     requires held { TaskHeld store.now task.now }
     requires symbols { SymbolsBelow (length task.now.sig.value.symbols) names.now }
-    ensures { IfOk result (λ v. v.items ≡ smt_text names.now (task_at store.now task.now) part parts) }
+    ensures { IfOk result (λ v. v.items ≡ smt_text names.now (task_at store.now task.now) part
+        parts) }
 {
     let index = symbol_index(alloc, names, task.sig.symbols.len())?;
     let mut out = Vec::new(alloc);

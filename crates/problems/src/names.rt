@@ -185,7 +185,8 @@ fn push_all_marked(
     symbols: &[usize],
     names: &mut Vec<NameEntry>,
 ) -> Result<(), AllocError>
-    ensures { OnOk result (PushesMarked task.now marks.now symbols.now names.old.items names.new.items) }
+    ensures { OnOk result (PushesMarked task.now marks.now symbols.now names.old.items
+        names.new.items) }
 {
     match symbols.split_first() {
         Some((first, rest)) => {
@@ -204,7 +205,8 @@ fn push_marked(
     symbol: usize,
     names: &mut Vec<NameEntry>,
 ) -> Result<(), AllocError>
-    ensures { OnOk result (PushesMarked task.now marks.now (symbol ∷ []) names.old.items names.new.items) }
+    ensures { OnOk result (PushesMarked task.now marks.now (symbol ∷ []) names.old.items
+        names.new.items) }
 {
     if !is_marked(marks, symbol) {
         return Ok(());

@@ -58,7 +58,8 @@ fn mark(store: &Store, e: TermId, marks: &mut Vec<bool>)
 // Marks the symbols of formulas.
 fn mark_formulas(store: &Store, formulas: &[TermId], marks: &mut Vec<bool>)
     requires { All (Holds store.now) formulas.now }
-    ensures { Marks marks.old.items marks.new.items (λ k. list_any (occurs k) (trees_at store.now formulas.now)) }
+    ensures { Marks marks.old.items marks.new.items
+        (λ k. list_any (occurs k) (trees_at store.now formulas.now)) }
 {
     for formula in formulas {
         mark(store, *formula, marks);
@@ -79,7 +80,9 @@ fn mark_body(store: &Store, body: &Body, marks: &mut Vec<bool>)
 // Marks the symbols of propositions.
 fn mark_props(store: &Store, decls: &[Decl], marks: &mut Vec<bool>)
     requires { All (DeclHeld store.now) decls.now }
-    ensures { Marks marks.old.items marks.new.items (λ k. list_any (occurs k) (map formula_of (props_of (declarations_at store.now decls.now)))) }
+    ensures { Marks marks.old.items marks.new.items
+        (λ k. list_any (occurs k) (map formula_of
+        (props_of (declarations_at store.now decls.now)))) }
 {
     for decl in decls {
         mark_body(store, &decl.body, marks);

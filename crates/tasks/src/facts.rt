@@ -23,7 +23,8 @@ pub enum Fact {
 
 // The equations of definitions, behind others.
 fn push_equations(defs: &[Def], facts: &mut Vec<Fact>) -> Result<(), AllocError>
-    ensures { OnOk result (facts.new.items ≡ facts.old.items ++ map (λ d. equation_name d.symbol) defs.now) }
+    ensures { OnOk result (facts.new.items ≡ facts.old.items
+        ++ map (λ d. equation_name d.symbol) defs.now) }
 {
     match defs.split_first() {
         Some((first, rest)) => {
@@ -42,7 +43,8 @@ fn push_clauses(
     facts: &mut Vec<Fact>,
 ) -> Result<(), AllocError>
     requires { from + length clauses.now ≤ usize.MAX }
-    ensures { OnOk result (facts.new.items ≡ facts.old.items ++ clause_names symbol from clauses.now) }
+    ensures { OnOk result (facts.new.items ≡ facts.old.items
+        ++ clause_names symbol from clauses.now) }
 {
     match clauses.split_first() {
         Some((_, rest)) => {
@@ -68,7 +70,8 @@ fn push_all_clauses(inductives: &[Ind], facts: &mut Vec<Fact>) -> Result<(), All
 
 // The inversion formulas of predicates, behind others.
 fn push_inversions(inductives: &[Ind], facts: &mut Vec<Fact>) -> Result<(), AllocError>
-    ensures { OnOk result (facts.new.items ≡ facts.old.items ++ map (λ i. inversion_name i.symbol) inductives.now) }
+    ensures { OnOk result (facts.new.items ≡ facts.old.items
+        ++ map (λ i. inversion_name i.symbol) inductives.now) }
 {
     match inductives.split_first() {
         Some((first, rest)) => {

@@ -45,7 +45,8 @@ fn mark_one(makers: &mut Vec<usize>, symbol: usize, place: usize)
 // Notes the place of a declaration at these entries.
 #[tactic(auto, using(crate::proofs::Marking::marks_none, crate::proofs::Marking::marks_then))]
 fn mark(makers: &mut Vec<usize>, symbols: &[usize], place: usize)
-    ensures { Marks makers.old.items makers.new.items (λ k. list_any (λ j. j == k) symbols.now) place }
+    ensures { Marks makers.old.items makers.new.items (λ k. list_any (λ j. j == k) symbols.now)
+        place }
 {
     match symbols.split_first() {
         Some((first, rest)) => {
@@ -104,7 +105,8 @@ fn listed(alloc: Global, decls: &[Decl]) -> Result<(Vec<Proposition>, Vec<Fact>)
 // The first declaration that makes a symbol.
 fn find_maker<'a>(store: &Store, decls: &'a [Decl], symbol: usize) -> Option<&'a Decl>
     requires { All (DeclHeld store.now) decls.now }
-    ensures tree { option_map (λ d. declaration_at store.now d.now) result ≡ maker (declarations_at store.now decls.now) symbol }
+    ensures tree { option_map (λ d. declaration_at store.now d.now) result
+        ≡ maker (declarations_at store.now decls.now) symbol }
     ensures held { IfSome result (λ d. DeclHeld store.now d.now) }
 {
     for decl in decls {
@@ -138,7 +140,8 @@ impl Index {
 
     /// The fact at a place, counted from 0; none where there are not so many.
     pub fn fact(&self, place: usize) -> Option<Fact>
-        ensures { (s : List Tree) (t : Task) → IsIndexOf self.now t → result ≡ option_map name_of (slice_get (facts (task_at s t)) place) }
+        ensures { (s : List Tree) (t : Task) → IsIndexOf self.now t → result
+            ≡ option_map name_of (slice_get (facts (task_at s t)) place) }
     {
         self.facts.get(place).copied()
     }
@@ -155,7 +158,8 @@ impl<'a> Lookup<'a> {
 
     /// A look-up by the index of the task.
     pub fn with_index(task: &'a Task, index: &'a Index) -> Lookup<'a>
-        ensures held { (s : List Tree) → TaskHeld s task.now → IsIndexOf index.now task.now → LookupHeld s result }
+        ensures held { (s : List Tree) → TaskHeld s task.now → IsIndexOf index.now task.now
+            → LookupHeld s result }
         ensures task { result.task.now ≡ task.now }
     {
         Lookup {
@@ -167,7 +171,8 @@ impl<'a> Lookup<'a> {
     // The first declaration that makes a symbol.
     fn maker(&self, store: &Store, symbol: usize) -> Option<&'a Decl>
         requires { LookupHeld store.now self.now }
-        ensures tree { option_map (λ d. declaration_at store.now d.now) result ≡ maker (declarations_at store.now self.now.task.now.decls) symbol }
+        ensures tree { option_map (λ d. declaration_at store.now d.now) result
+            ≡ maker (declarations_at store.now self.now.task.now.decls) symbol }
         ensures held { IfSome result (λ d. DeclHeld store.now d.now) }
     {
         let decls = self.task.decls.as_slice();
@@ -216,7 +221,8 @@ impl<'a> Lookup<'a> {
     /// What the task's declarations make a symbol as.
     pub fn role(&self, store: &Store, symbol: usize) -> Role<'a>
         requires { LookupHeld store.now self.now }
-        ensures tree { role_at store.now result ≡ role (task_at store.now self.now.task.now) symbol }
+        ensures tree { role_at store.now result
+            ≡ role (task_at store.now self.now.task.now) symbol }
         ensures held { RoleHeld store.now result }
     {
         match self.maker(store, symbol) {
@@ -228,7 +234,8 @@ impl<'a> Lookup<'a> {
     /// The proposition with this number, counted from 0; none where there are not so many.
     pub fn proposition(&self, store: &Store, number: usize) -> Option<Proposition>
         requires { LookupHeld store.now self.now }
-        ensures { option_map (proposition_at store.now) result ≡ slice_get (props (task_at store.now self.now.task.now)) number }
+        ensures { option_map (proposition_at store.now) result
+            ≡ slice_get (props (task_at store.now self.now.task.now)) number }
     {
         match self.index {
             Some(index) => index.props.get(number).copied(),

@@ -53,7 +53,8 @@ pub fn is_constructor(store: &Store, role: Role<'_>) -> bool
 // Among definitions.
 fn defined_as<'a>(store: &Store, defs: &'a [Def], symbol: usize) -> Role<'a>
     requires { All (λ (d : Def). Holds store.now d.equation) defs.now }
-    ensures tree { role_at store.now result ≡ defined_as symbol (definitions_at store.now defs.now) }
+    ensures tree { role_at store.now result
+        ≡ defined_as symbol (definitions_at store.now defs.now) }
     ensures held { RoleHeld store.now result }
 {
     match defs.split_first() {
@@ -71,7 +72,8 @@ fn defined_as<'a>(store: &Store, defs: &'a [Def], symbol: usize) -> Role<'a>
 // Among predicates with their clauses.
 fn inductive_as<'a>(store: &Store, inductives: &'a [Ind], symbol: usize) -> Role<'a>
     requires { All (InductiveHeld store.now) inductives.now }
-    ensures tree { role_at store.now result ≡ inductive_as symbol (inductives_at store.now inductives.now) }
+    ensures tree { role_at store.now result
+        ≡ inductive_as symbol (inductives_at store.now inductives.now) }
     ensures held { RoleHeld store.now result }
 {
     match inductives.split_first() {
@@ -131,7 +133,8 @@ fn constructed_as<'a>(store: &Store, cons: &'a [Con], symbol: usize) -> Role<'a>
 // Among algebraic types.
 fn algebraic_as<'a>(store: &Store, types: &'a [Alg], symbol: usize) -> Role<'a>
     requires { All (AlgebraicHeld store.now) types.now }
-    ensures tree { role_at store.now result ≡ algebraic_as symbol (algebraics_at store.now types.now) }
+    ensures tree { role_at store.now result
+        ≡ algebraic_as symbol (algebraics_at store.now types.now) }
     ensures held { RoleHeld store.now result }
 {
     match types.split_first() {

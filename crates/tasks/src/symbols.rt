@@ -21,7 +21,8 @@ fn push_defs(defs: &[Def], symbols: &mut Vec<usize>) -> Result<(), AllocError>
 
 // The symbols of inductive predicates, behind others.
 fn push_inductives(inductives: &[Ind], symbols: &mut Vec<usize>) -> Result<(), AllocError>
-    ensures { OnOk result (symbols.new.items ≡ symbols.old.items ++ map (λ i. i.symbol) inductives.now) }
+    ensures { OnOk result (symbols.new.items ≡ symbols.old.items
+        ++ map (λ i. i.symbol) inductives.now) }
 {
     match inductives.split_first() {
         Some((first, rest)) => {

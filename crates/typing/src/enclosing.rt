@@ -73,7 +73,8 @@ fn of_pattern(store: &Store, pattern: TermId, place: usize) -> Place
 // A place of the types of what an operator binds.
 fn of_binder(store: &Store, binder: Binder, first: TermId, place: usize) -> Place
     requires { Holds store.now first }
-    ensures { IsPlace store.now (bound_types (binder_head binder) (tree_at store.now first)) place result }
+    ensures { IsPlace store.now (bound_types (binder_head binder) (tree_at store.now first)) place
+        result }
 {
     match binder {
         Binder::Quantifier => only(store, Some(first), place),
@@ -85,7 +86,8 @@ fn of_binder(store: &Store, binder: Binder, first: TermId, place: usize) -> Plac
 // The type of a bound variable.
 pub(crate) fn bound_type(store: &Store, binders: &Binders<'_>, index: usize) -> Option<TermId>
     requires { BindersHeld store.now binders.now }
-    ensures tree { option_map (tree_at store.now) result ≡ slice_get (binders_at store.now binders.now) index }
+    ensures tree { option_map (tree_at store.now) result
+        ≡ slice_get (binders_at store.now binders.now) index }
     ensures held { IfSome result (Holds store.now) }
 {
     match binders {

@@ -64,8 +64,10 @@ pub fn variable_has_type(store: &Store, e: TermId, ty: TermId) -> bool
 fn variables_have(store: &Store, pattern: TermId, depth: usize, e: TermId) -> bool
     requires pattern_held { Holds store.now pattern }
     requires e_held { Holds store.now e }
-    ensures is { IsTrue result → HaveAt depth (pattern_types (tree_at store.now pattern)) (tree_at store.now e) }
-    ensures can { CanHaveAll depth (pattern_types (tree_at store.now pattern)) (tree_at store.now e) → IsTrue result }
+    ensures is { IsTrue result → HaveAt depth (pattern_types (tree_at store.now pattern))
+        (tree_at store.now e) }
+    ensures can { CanHaveAll depth (pattern_types (tree_at store.now pattern))
+        (tree_at store.now e) → IsTrue result }
 {
     match store.node(pattern) {
         Node::PatVar(ty) => variable_has(store, e, depth, ty),

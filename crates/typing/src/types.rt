@@ -55,7 +55,8 @@ pub(crate) fn has_members(store: &Store, list: TermId, count: usize) -> bool
 // The member of a list at a place.
 fn member(store: &Store, list: TermId, place: usize) -> Option<TermId>
     requires { Holds store.now list }
-    ensures tree { option_map (tree_at store.now) result ≡ slice_get (members (tree_at store.now list)) place }
+    ensures tree { option_map (tree_at store.now) result
+        ≡ slice_get (members (tree_at store.now list)) place }
     ensures held { IfSome result (Holds store.now) }
 {
     match store.node(list) {
@@ -73,7 +74,8 @@ fn member(store: &Store, list: TermId, place: usize) -> Option<TermId>
 // The type at a place.
 fn nth(store: &Store, types: Types<'_>, place: usize) -> Option<TermId>
     requires { TypesHeld store.now types }
-    ensures tree { option_map (tree_at store.now) result ≡ slice_get (types_at store.now types.entry) place }
+    ensures tree { option_map (tree_at store.now) result
+        ≡ slice_get (types_at store.now types.entry) place }
     ensures held { IfSome result (Holds store.now) }
 {
     match types {
@@ -106,7 +108,8 @@ pub fn is_instance(store: &Store, e: TermId, types: Types<'_>, made: TermId) -> 
     requires e_held { Holds store.now e }
     requires types_held { TypesHeld store.now types }
     requires made_held { Holds store.now made }
-    ensures { IsTrue result ↔ (tree_at store.now made ≡ inst_types (tree_at store.now e) (types_at store.now types.entry)) }
+    ensures { IsTrue result ↔ (tree_at store.now made
+        ≡ inst_types (tree_at store.now e) (types_at store.now types.entry)) }
 {
     is_changed(store, &types, e, made)
 }

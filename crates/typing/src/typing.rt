@@ -36,7 +36,8 @@ fn is_rigid(store: &Store, v: &Vocabulary<'_>, symbol: usize) -> bool
 fn is_type_symbol(store: &Store, v: &Vocabulary<'_>, symbol: usize, arguments: TermId) -> bool
     requires v_held { VocabularyHeld store.now v.now }
     requires held { Holds store.now arguments }
-    ensures { IsTrue result ↔ IsTypeSymbol (vocabulary_at store.now v.now) symbol (length (members (tree_at store.now arguments))) }
+    ensures { IsTrue result ↔ IsTypeSymbol (vocabulary_at store.now v.now) symbol
+        (length (members (tree_at store.now arguments))) }
 {
     match entry(store, v, symbol) {
         Some(info) => is_usable(store, v, symbol)
@@ -51,7 +52,8 @@ fn argument_fits(store: &Store, argument: TermId, wanted: TermId, types: TermId)
     requires argument_held { Holds store.now argument }
     requires wanted_held { Holds store.now wanted }
     requires types_held { Holds store.now types }
-    ensures { IsTrue result ↔ (type_of (tree_at store.now argument) ≡ Some (inst_types (tree_at store.now wanted) (members (tree_at store.now types)))) }
+    ensures { IsTrue result ↔ (type_of (tree_at store.now argument)
+        ≡ Some (inst_types (tree_at store.now wanted) (members (tree_at store.now types)))) }
 {
     match type_of(store, argument) {
         Some(known) => is_instance(store, wanted, Types::Listed(types), known),
@@ -64,7 +66,9 @@ fn arguments_fit(store: &Store, arguments: TermId, wanted: &[TermId], types: Ter
     requires arguments_held { Holds store.now arguments }
     requires wanted_held { All (Holds store.now) wanted.now }
     requires types_held { Holds store.now types }
-    ensures { IsTrue result ↔ (map type_of (members (tree_at store.now arguments)) ≡ map (λ a. Some (inst_types a (members (tree_at store.now types)))) (trees_at store.now wanted.now)) }
+    ensures { IsTrue result ↔ (map type_of (members (tree_at store.now arguments))
+        ≡ map (λ a. Some (inst_types a (members (tree_at store.now types))))
+        (trees_at store.now wanted.now)) }
 {
     match (store.node(arguments), wanted.split_first()) {
         (Node::Cell(first, rest), Some((ty, more))) => argument_fits(store, first, *ty, types)
@@ -79,7 +83,8 @@ fn is_use(store: &Store, info: &SymbolInfo, types: TermId, arguments: TermId) ->
     requires info_held { SymbolHeld store.now info.now }
     requires types_held { Holds store.now types }
     requires arguments_held { Holds store.now arguments }
-    ensures { IsTrue result ↔ IsUse (symbol_at store.now info.now) (tree_at store.now types) (tree_at store.now arguments) }
+    ensures { IsTrue result ↔ IsUse (symbol_at store.now info.now) (tree_at store.now types)
+        (tree_at store.now arguments) }
 {
     has_members(store, types, info.vars)
         && arguments_fit(store, arguments, info.args.as_slice(), types)
@@ -90,7 +95,8 @@ fn result_fits(store: &Store, known: Option<TermId>, types: TermId, made: TermId
     requires known_held { IfSome known (Holds store.now) }
     requires types_held { Holds store.now types }
     requires made_held { Holds store.now made }
-    ensures { IsTrue result ↔ (option_map (λ r. inst_types r (members (tree_at store.now types))) (option_map (tree_at store.now) known) ≡ Some (tree_at store.now made)) }
+    ensures { IsTrue result ↔ (option_map (λ r. inst_types r (members (tree_at store.now types)))
+        (option_map (tree_at store.now) known) ≡ Some (tree_at store.now made)) }
 {
     match known {
         Some(r) => is_instance(store, r, Types::Listed(types), made),
@@ -119,7 +125,8 @@ fn is_predicate_use(
     requires v_held { VocabularyHeld store.now v.now }
     requires types_held { Holds store.now types }
     requires arguments_held { Holds store.now arguments }
-    ensures { IsTrue result ↔ TwoTyped (vocabulary_at store.now v.now) (HPred symbol) (tree_at store.now types) (tree_at store.now arguments) }
+    ensures { IsTrue result ↔ TwoTyped (vocabulary_at store.now v.now) (HPred symbol)
+        (tree_at store.now types) (tree_at store.now arguments) }
 {
     match entry(store, v, symbol) {
         Some(info) => is_usable(store, v, symbol)
@@ -142,7 +149,8 @@ fn is_function_use(
     requires types_held { Holds store.now types }
     requires arguments_held { Holds store.now arguments }
     requires made_held { Holds store.now made }
-    ensures { IsTrue result ↔ ThreeTyped (vocabulary_at store.now v.now) (HFun symbol) (tree_at store.now types) (tree_at store.now arguments) (tree_at store.now made) }
+    ensures { IsTrue result ↔ ThreeTyped (vocabulary_at store.now v.now) (HFun symbol)
+        (tree_at store.now types) (tree_at store.now arguments) (tree_at store.now made) }
 {
     match entry(store, v, symbol) {
         Some(info) => is_usable(store, v, symbol)
@@ -166,7 +174,8 @@ fn is_pattern_use(
     requires types_held { Holds store.now types }
     requires parts_held { Holds store.now parts }
     requires made_held { Holds store.now made }
-    ensures { IsTrue result ↔ ThreeTyped (vocabulary_at store.now v.now) (HPatCon symbol) (tree_at store.now types) (tree_at store.now parts) (tree_at store.now made) }
+    ensures { IsTrue result ↔ ThreeTyped (vocabulary_at store.now v.now) (HPatCon symbol)
+        (tree_at store.now types) (tree_at store.now parts) (tree_at store.now made) }
 {
     match entry(store, v, symbol) {
         Some(info) => is_matched(store, v, symbol)
@@ -182,7 +191,8 @@ fn branch_fits(store: &Store, ty: Option<TermId>, first: TermId, branch: TermId)
     requires ty_held { IfSome ty (Holds store.now) }
     requires first_held { Holds store.now first }
     requires branch_held { Holds store.now branch }
-    ensures { IsTrue result ↔ BranchFits (option_map (tree_at store.now) ty) (tree_at store.now first) (tree_at store.now branch) }
+    ensures { IsTrue result ↔ BranchFits (option_map (tree_at store.now) ty)
+        (tree_at store.now first) (tree_at store.now branch) }
 {
     match store.node(branch) {
         Node::Arm(pattern, body) => same_types(store, type_of(store, pattern), ty)
@@ -197,7 +207,8 @@ fn branches_fit(store: &Store, ty: Option<TermId>, first: TermId, list: TermId) 
     requires ty_held { IfSome ty (Holds store.now) }
     requires first_held { Holds store.now first }
     requires list_held { Holds store.now list }
-    ensures { IsTrue result ↔ BranchesFit (option_map (tree_at store.now) ty) (tree_at store.now first) (tree_at store.now list) }
+    ensures { IsTrue result ↔ BranchesFit (option_map (tree_at store.now) ty)
+        (tree_at store.now first) (tree_at store.now list) }
 {
     match store.node(list) {
         Node::Cell(branch, rest) => branch_fits(store, ty, first, branch)
@@ -231,7 +242,8 @@ pub(crate) fn is_top_typed(
     requires v_held { VocabularyHeld store.now v.now }
     requires binders_held { BindersHeld store.now binders.now }
     requires held { AreBelow (length store.now) (parts_of node) }
-    ensures { IsTrue result ↔ TopTyped (vocabulary_at store.now v.now) (binders_at store.now binders.now) (node_tree store.now node) }
+    ensures { IsTrue result ↔ TopTyped (vocabulary_at store.now v.now)
+        (binders_at store.now binders.now) (node_tree store.now node) }
 {
     match node {
         Node::TyRigid(symbol) => is_rigid(store, v, symbol),
@@ -257,7 +269,8 @@ fn is_typed_under<'a>(
     requires v_held { VocabularyHeld store.now v.now }
     requires binders_held { BindersHeld store.now binders.now }
     requires held { Holds store.now e }
-    ensures { IsTrue result ↔ TypedUnder (vocabulary_at store.now v.now) (binders_at store.now binders.now) (tree_at store.now e) }
+    ensures { IsTrue result ↔ TypedUnder (vocabulary_at store.now v.now)
+        (binders_at store.now binders.now) (tree_at store.now e) }
 {
     let node = store.node(e);
     if !is_top_typed(store, v, binders, node) {

@@ -22,7 +22,8 @@ pub enum Vocabulary<'a> {
 // The entry of a symbol.
 pub(crate) fn entry<'a>(store: &Store, v: &Vocabulary<'a>, symbol: usize) -> Option<&'a SymbolInfo>
     requires { VocabularyHeld store.now v.now }
-    ensures tree { option_map (λ i. symbol_at store.now i.now) result ≡ entry (vocabulary_at store.now v.now) symbol }
+    ensures tree { option_map (λ i. symbol_at store.now i.now) result
+        ≡ entry (vocabulary_at store.now v.now) symbol }
     ensures held { IfSome result (λ i. SymbolHeld store.now i.now) }
 {
     let _ = store;
