@@ -1,0 +1,51 @@
+-- Terms whose forms a printer has.
+use Rattle.std.proofs.Common.{◌≡◌, ℕ, Bool, true, false, ◌&&◌, ◌||◌, nat_eq, if◌then◌else◌, List, [], ◌∷◌, ◌++◌, get_or, IsTrue, refl, sym, ap, subst, ◌∙◌, arith}
+use Rattle.std.specs.List.{list_any}
+use Rattle.std.proofs.lemmas.Bool.Decides.{nat_tests}
+use Rattle.trees.specs.declared.Parts.{Parts}
+use Rattle.trees.specs.declared.Parts.TheVariants as parts
+use Rattle.trees.specs.Tree.{Tree, Leaf, One, Two, Three, Head, HEnd, head_of}
+use Rattle.trees.specs.Node.{assemble}
+use Rattle.driver_items.specs.declared.kinds.Printer.{Printer}
+use Rattle.printed_problems.specs.Faults.{has_head, has_forms}
+use Rattle.printed_problems.specs.Checks.{HaveForms, parts_have_forms}
+
+and_true : (b : Bool) → (b && true) ≡ b
+and_true true = refl
+and_true false = refl
+
+-- the operator at the top, and the children
+pub forms_of_parts : (p : Printer) (e : Tree) → (has_head p (head_of e) && parts_have_forms p e) ≡ has_forms p e
+forms_of_parts p (Leaf h) = and_true (has_head p h)
+forms_of_parts p (One h a) = refl
+forms_of_parts p (Two h a b) = refl
+forms_of_parts p (Three h a b c) = refl
+
+pub forms_there : (p : Printer) (s : List Tree) (ids : List ℕ) (id : ℕ) → HaveForms p s ids → list_any (nat_eq id) ids ≡ true → has_forms p (get_or s id (Leaf HEnd)) ≡ true
+forms_there p s [] id h e = absurd (cc)
+forms_there p s (j ∷ ids) id h e = elim (nat_eq id j) as (λ b. nat_eq id j ≡ b → (b || list_any (nat_eq id) ids) ≡ true → has_forms p (get_or s id (Leaf HEnd)) ≡ true) [
+  | true ↦ λ q _. let same : j ≡ id = grind (arith, nat_tests) in subst (λ n. has_forms p (get_or s n (Leaf HEnd)) ≡ true) same h.0
+  | false ↦ λ q more. forms_there p s ids id h.1 more
+] refl e
+
+forms_push : (p : Printer) (s : List Tree) (ids : List ℕ) (id : ℕ) → HaveForms p s ids → has_forms p (get_or s id (Leaf HEnd)) ≡ true → HaveForms p s (ids ++ id ∷ [])
+forms_push p s [] id h k = (k, tt)
+forms_push p s (j ∷ ids) id h k = (h.0, forms_push p s ids id h.1 k)
+
+-- one more
+pub forms_marked : (p : Printer) (s : List Tree) (ids new : List ℕ) (id : ℕ) → HaveForms p s ids → has_forms p (get_or s id (Leaf HEnd)) ≡ true → new ≡ (if list_any (nat_eq id) ids then ids else ids ++ id ∷ [])
+    → HaveForms p s new
+forms_marked p s ids new id h k e = rw e (by (list_any (nat_eq id) ids))
+  where
+    by : (b : Bool) → HaveForms p s (if b then ids else ids ++ id ∷ [])
+    by true = h
+    by false = forms_push p s ids id h k
+
+pub head_of_assembled : (s : List Tree) (h : Head) (ps : Parts) → head_of (assemble s h ps) ≡ h
+head_of_assembled s h parts.None = refl
+head_of_assembled s h (parts.One a) = refl
+head_of_assembled s h (parts.Two a b) = refl
+head_of_assembled s h (parts.Three a b c) = refl
+
+pub all_forms : (p : Printer) (e : Tree) → has_head p (head_of e) ≡ true → parts_have_forms p e ≡ true → true ≡ has_forms p e
+all_forms p e h k = (λ i. sym h i && sym k i) ∙ forms_of_parts p e

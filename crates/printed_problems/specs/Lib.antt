@@ -1,0 +1,6 @@
+pub mod Templates
+pub mod Problems
+pub mod Faults
+pub mod Tests
+pub mod Checks
+pub mod Made

@@ -1,0 +1,92 @@
+// Whether a printer has all forms of a term. A term that is shared is looked at once.
+ghost use Rattle.std.specs.Prelude.{◌≡◌, IfOk};
+ghost use Rattle.trees.specs.Node.{tree_at, head_of_node, Holds};
+ghost use Rattle.printed_problems.specs.Faults.{is_smt, has_head, has_forms};
+ghost use Rattle.printed_problems.specs.Checks.{HaveForms, LooksAt, parts_have_forms};
+
+use driver_items::Printer;
+use indexmap::IndexSet;
+use std::alloc::AllocError;
+use term_store::Store;
+use trees::{Node, Parts, TermId};
+
+fn is_smt(printer: Printer) -> bool
+    ensures { result ≡ is_smt printer }
+{
+    match printer {
+        Printer::Smt => true,
+        Printer::Tff => false,
+    }
+}
+
+// Whether a printer has the form of a node.
+fn has_head(printer: Printer, node: Node) -> bool
+    ensures { result ≡ has_head printer (head_of_node node) }
+{
+    match node {
+        Node::Case(_, _) => false,
+        Node::Let(_, _) => is_smt(printer),
+        Node::If(_, _, _) => is_smt(printer),
+        _ => true,
+    }
+}
+
+/// Whether a printer has all forms of a term, given terms whose forms it has.
+#[cycle(forms)]
+pub(crate) fn has_forms(
+    store: &Store,
+    printer: Printer,
+    done: &mut IndexSet<usize>,
+    e: TermId,
+) -> Result<bool, AllocError>
+    requires done { HaveForms printer store.now done.old.keys }
+    requires held { Holds store.now e }
+    ensures { IfOk result (λ b. LooksAt printer store.now (has_forms printer (tree_at store.now e))
+        b done.new.keys) }
+{
+    if done.contains(&e.0) {
+        return Ok(true);
+    }
+    if !has_head(printer, store.node(e)) {
+        return Ok(false);
+    }
+    if !parts_have_forms(store, printer, done, e)? {
+        return Ok(false);
+    }
+    done.insert(e.0)?;
+    Ok(true)
+}
+
+// Whether a printer has all forms of the children of a term.
+#[cycle(forms)]
+fn parts_have_forms(
+    store: &Store,
+    printer: Printer,
+    done: &mut IndexSet<usize>,
+    e: TermId,
+) -> Result<bool, AllocError>
+    requires done { HaveForms printer store.now done.old.keys }
+    requires held { Holds store.now e }
+    ensures { IfOk result (λ b. LooksAt printer store.now (parts_have_forms printer (tree_at
+        store.now e)) b done.new.keys) }
+{
+    match store.node(e).parts() {
+        Parts::None => Ok(true),
+        Parts::One(a) => has_forms(store, printer, done, a),
+        Parts::Two(a, b) => {
+            if !has_forms(store, printer, done, a)? {
+                return Ok(false);
+            }
+            has_forms(store, printer, done, b)
+        }
+        Parts::Three(a, b, c) => {
+            if !has_forms(store, printer, done, a)? {
+                return Ok(false);
+            }
+            if !has_forms(store, printer, done, b)? {
+                return Ok(false);
+            }
+            has_forms(store, printer, done, c)
+        }
+    }
+}

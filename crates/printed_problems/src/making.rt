@@ -1,0 +1,210 @@
+// The problem of a task under a driver.
+ghost use Rattle.std.specs.Prelude.{◌≡◌, ◌++◌, All, IfOk, OnOk};
+ghost use Rattle.std.specs.Str.{bytes_eq};
+ghost use Rattle.trees.specs.Node.{Holds};
+ghost use Rattle.tasks.specs.Meaning.{trees_at, body_at, task_at, BodyHeld, DeclHeld, TaskHeld};
+ghost use Rattle.name_tables.specs.Tables.{problem_things};
+ghost use Rattle.name_tables.specs.Seen.{seen_at, AreHeld};
+ghost use Rattle.printed_problems.specs.Problems.{general, texts_where, problem_of};
+ghost use Rattle.printed_problems.specs.Faults.{print_fault};
+ghost use Rattle.printed_problems.specs.Checks.{Meets};
+ghost use Rattle.printed_problems.specs.Made.{problem_at, ProblemHeld, HasTheory, text_if, IsSpecial, PushesSpecial, ArePreludes, AreFacts, said_formulas, IsProblem};
+
+use crate::checks::{Checker, check_task};
+use crate::fault::PrintFault;
+use crate::places::{Question, places_of};
+use crate::printed::Problem;
+use driver_parts::Driver;
+use name_tables::{Things, names_of};
+use outside::{Seq, Text};
+use std::alloc::{AllocError, Global};
+use tasks::{Body, Decl, Task};
+use term_store::Store;
+use trees::TermId;
+
+fn is_of_theory(decl: &Decl, path: &[u8]) -> bool
+    ensures { result ≡ bytes_eq decl.now.theory path.now }
+{
+    decl.theory.as_slice() == path
+}
+
+// Whether a theory has a declaration among these.
+fn has_theory(decls: &[Decl], path: &[u8]) -> bool
+    ensures { HasTheory decls.now path.now result }
+{
+    for decl in decls {
+        if is_of_theory(decl, path) {
+            return true;
+        }
+    }
+    false
+}
+
+// Appends a prelude, if it is told to.
+fn push_if(
+    alloc: Global,
+    told: bool,
+    prelude: &Text,
+    made: &mut Vec<Text>,
+) -> Result<(), AllocError>
+    ensures { OnOk result (made.new.items ≡ made.old.items ++ text_if prelude.now told) }
+{
+    if !told {
+        return Ok(());
+    }
+    made.push(Text::from_slice(alloc, prelude.as_slice())?)?;
+    Ok(())
+}
+
+// Appends the preludes without a theory.
+fn push_general(
+    alloc: Global,
+    from: &[(Option<Text>, Text)],
+    made: &mut Vec<Text>,
+) -> Result<(), AllocError>
+    ensures { OnOk result (made.new.items ≡ made.old.items ++ texts_where general from.now) }
+{
+    for prelude in from {
+        push_if(alloc, prelude.0.is_none(), &prelude.1, made)?;
+    }
+    Ok(())
+}
+
+// Whether a prelude is that of a theory with a declaration among these.
+fn is_special(decls: &[Decl], path: &Option<Text>) -> bool
+    ensures { IsSpecial decls.now path.now result }
+{
+    match path {
+        Some(theory) => has_theory(decls, theory.as_slice()),
+        None => false,
+    }
+}
+
+// Appends the preludes of theories with a declaration among these.
+fn push_special(
+    alloc: Global,
+    decls: &[Decl],
+    from: &[(Option<Text>, Text)],
+    made: &mut Vec<Text>,
+) -> Result<(), AllocError>
+    ensures { OnOk result (PushesSpecial decls.now from.now made.old.items made.new.items) }
+{
+    for prelude in from {
+        push_if(alloc, is_special(decls, &prelude.0), &prelude.1, made)?;
+    }
+    Ok(())
+}
+
+// The preludes of a task, in order.
+fn preludes_of(alloc: Global, driver: &Driver, task: &Task) -> Result<Seq<Text>, AllocError>
+    ensures { IfOk result (ArePreludes driver.now task.now) }
+{
+    let mut made = Vec::new(alloc);
+    let from = driver.preludes.as_slice();
+    push_general(alloc, from, &mut made)?;
+    push_special(alloc, task.decls.as_slice(), from, &mut made)?;
+    Ok(Seq::from_vec(made))
+}
+
+// The propositions of declarations.
+fn facts_of(alloc: Global, store: &Store, decls: &[Decl]) -> Result<Seq<TermId>, AllocError>
+    requires { All (DeclHeld store.now) decls.now }
+    ensures { IfOk result (AreFacts store.now decls.now) }
+{
+    let _ = store;
+    let mut facts = Seq::new(alloc);
+    for decl in decls {
+        push_fact(store, &decl.body, &mut facts)?;
+    }
+    Ok(facts)
+}
+
+// Appends what a declaration says.
+fn push_fact(store: &Store, body: &Body, facts: &mut Seq<TermId>) -> Result<(), AllocError>
+    requires body { BodyHeld store.now body.now }
+    requires facts { All (Holds store.now) facts.old }
+    ensures held { OnOk result (All (Holds store.now) facts.new) }
+    ensures trees { OnOk result (trees_at store.now facts.new ≡ trees_at store.now facts.old ++
+        said_formulas (body_at store.now body.now)) }
+{
+    let _ = store;
+    match body {
+        Body::Prop(formula) => facts.push(*formula),
+        _ => Ok(()),
+    }
+}
+
+// The problem of a task that can be printed.
+fn problem_by(
+    alloc: Global,
+    store: &Store,
+    task: &Task,
+    driver: &Driver,
+    things: &Things,
+) -> Result<Problem, AllocError>
+    requires held { TaskHeld store.now task.now }
+    requires things_held { AreHeld store.now things.now }
+    requires things { seen_at store.now things.now ≡ problem_things (task_at store.now task.now) }
+    ensures { IfOk result (IsProblem store.now (problem_of driver.now (task_at store.now task.now))) }
+{
+    let symbols = places_of(alloc, driver, task, things, Question::IsDeclared)?;
+    let sorts = places_of(alloc, driver, task, things, Question::IsSort)?;
+    let names = names_of(alloc, store, task, things)?;
+    let preludes = preludes_of(alloc, driver, task)?;
+    let facts = facts_of(alloc, store, task.decls.as_slice())?;
+    let locals = Seq::from_slice(alloc, task.locals.as_slice())?;
+    Ok(Problem {
+        names: Seq::from_vec(names),
+        preludes,
+        sorts: Seq::from_vec(sorts),
+        symbols: Seq::from_vec(symbols),
+        facts,
+        locals,
+        goal: task.goal,
+    })
+}
+
+// Whether a task can be printed.
+fn check(
+    alloc: Global,
+    store: &Store,
+    task: &Task,
+    driver: &Driver,
+    things: &Things,
+) -> Result<(), PrintFault>
+    requires held { TaskHeld store.now task.now }
+    requires things_held { AreHeld store.now things.now }
+    requires things { seen_at store.now things.now ≡ problem_things (task_at store.now task.now) }
+    ensures { Meets result (print_fault driver.now (task_at store.now task.now)) }
+{
+    let bare = places_of(alloc, driver, task, things, Question::IsBare)?;
+    let checker = Checker {
+        store,
+        task,
+        driver,
+        things,
+        bare: bare.as_slice(),
+    };
+    check_task(alloc, &checker)
+}
+
+/// The problem of a task under a driver, or its first fault: declaration by declaration, then the types of the parameters, the
+/// locals, the goal; at each first a kind or form that the printer lacks, then a schematic type variable, then an interpreted
+/// symbol without a template. Want of memory may come at any place.
+pub fn problem(
+    alloc: Global,
+    store: &Store,
+    task: &Task,
+    driver: &Driver,
+) -> Result<Problem, PrintFault>
+    requires { TaskHeld store.now task.now }
+    ensures problem { IfOk result (λ p. problem_at store.now p ≡ problem_of driver.now (task_at
+        store.now task.now)) }
+    ensures held { IfOk result (ProblemHeld store.now) }
+    ensures due { Meets result (print_fault driver.now (task_at store.now task.now)) }
+{
+    let things = Things::of_problem(alloc, store, task)?;
+    check(alloc, store, task, driver, &things)?;
+    let made = problem_by(alloc, store, task, driver, &things)?;
+    Ok(made)
+}
