@@ -1,0 +1,15 @@
+pub mod Words
+pub mod Over
+pub mod Instances
+pub mod Forms
+pub mod Fixed
+pub mod Signed
+pub mod Sound
+pub mod Patterns
+pub mod Reordering
+pub mod Arms
+pub mod Alternatives
+pub mod Expressions
+pub mod Solutions
+pub mod Widths
+pub mod Rows

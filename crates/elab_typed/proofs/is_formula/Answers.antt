@@ -1,0 +1,5 @@
+use Rattle.elab_typed.proofs.Solutions.{solved_formula}
+use Rattle.elab_typed.proofs.is_formula.Goals as goal
+
+pub returns : goal.returns
+returns c = λ w n e tree ms h s i. solved_formula w h.signature n e tree ms h s i
