@@ -1,0 +1,6 @@
+pub mod Counted
+pub mod Declared
+pub mod Sorted
+pub mod Typed
+pub mod Placed
+pub mod Made

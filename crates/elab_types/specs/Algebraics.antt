@@ -1,0 +1,169 @@
+-- Algebraic types: what a group of them makes, and the first fault of its names (Why3 manual, "logical declarations"). The types
+-- of a group see each other.
+use Rattle.std.specs.Prelude.{◌≡◌, ℕ, ◌+◌, Bool, true, ◌||◌, List, [], ◌∷◌, ◌++◌, map, length, Option, None}
+use Rattle.std.specs.Option.{is_some}
+use Rattle.trees.specs.Tree.{Tree}
+use Rattle.tasks.specs.Task.{SymbolTree, ConTree, AlgebraicTree, Constructs}
+use Rattle.tasks.specs.Valid.{own_type}
+use Rattle.tasks.specs.declared.signature.Signature.{Signature}
+use Rattle.names_space.specs.Names.{Names, with_entry}
+use Rattle.names_space.specs.declared.Table.{Table}
+use Rattle.names_space.specs.declared.Table.TheVariants.{Types, Symbols}
+use Rattle.syntax_why.specs.Lexeme.{Word}
+use Rattle.syntax_why.specs.declared.types.TypeTree.{TypeTree}
+use Rattle.syntax_why.specs.declared.declarations.ConTree.{ConTree as ConSource}
+use Rattle.syntax_why.specs.declared.declarations.AlgTree.{AlgTree}
+use Rattle.syntax_why.specs.SurfaceDeclarations.{constructor_of, algebraic_of}
+use Rattle.syntax_why.specs.Surface as surface
+use Rattle.elab_names.specs.Abstract.{Forms, forms, count_forms}
+use Rattle.elab_names.specs.declared.NamingFault.{NamingFault}
+use Rattle.elab_names.specs.declared.NamingFault.TheVariants.{Duplicate}
+use Rattle.elab_names.specs.Faults.{first_of, fault_if}
+use Rattle.elab_names.specs.Where.{Where, place_of}
+use Rattle.elab_variables.specs.Seen.{Seen, forms_seen}
+use Rattle.elab_walk.specs.Patterns.{nothing}
+use Rattle.elab_walk.specs.Pieces.{types_at}
+use Rattle.elab_parts.specs.declared.ElabFault.{ElabFault}
+use Rattle.elab_parts.specs.declared.made.Elaborated.{Elaborated}
+use Rattle.elab_parts.specs.Elaborated.{unseen}
+use Rattle.elab_parts.specs.Declarations.{Called, Constructor, Algebraic, constructor, algebraic_type, words, list_fault, made_by_types, made_fault, with_vars, types_fault}
+use Rattle.elab_parts.specs.Entries.{type_entry, constructor_entries}
+use Rattle.elab_parts.specs.Outcomes.{Setting, Outcome, over, tuples_wanting, declared_in, IsRefusalFor, IsElaboratedAs}
+
+-- ---- of the trees in code
+abbrev pub fields_of : List TypeTree → Forms
+fields_of ts = forms (surface.types ts)
+
+abbrev pub constructors_of : List ConSource → List Constructor
+constructors_of ks = map constructor (map constructor_of ks)
+
+abbrev pub types_of : List AlgTree → List Algebraic
+types_of ts = map algebraic_type (map algebraic_of ts)
+
+-- ---- the widths of the tuples in the fields
+abbrev pub constructors_seen : Seen → List Constructor → Seen
+constructors_seen s [] = s
+constructors_seen s (k ∷ ks) = constructors_seen (forms_seen s k.fields) ks
+
+abbrev pub types_seen : Seen → List Algebraic → Seen
+types_seen s [] = s
+types_seen s (a ∷ ts) = types_seen (constructors_seen s a.constructors) ts
+
+abbrev pub group_seen : List Algebraic → Seen
+group_seen ts = types_seen unseen ts
+
+-- ---- numbers: behind the tuples stand the types, and behind these the constructors, each before its projections
+abbrev pub entry_count : List Constructor → ℕ
+entry_count [] = 0
+entry_count (k ∷ ks) = (count_forms k.fields + 1) + entry_count ks
+
+abbrev pub group_count : List Algebraic → ℕ
+group_count [] = 0
+group_count (a ∷ ts) = entry_count a.constructors + group_count ts
+
+abbrev pub first_type : Setting → List Algebraic → ℕ
+first_type c ts = length (c.symbols ++ tuples_wanting c (group_seen ts))
+
+abbrev pub first_constructor : Setting → List Algebraic → ℕ
+first_constructor c ts = first_type c ts + length ts
+
+-- a number for each of these, from one on
+abbrev pub numbers_from : ℕ → List Tree → List ℕ
+numbers_from n [] = []
+numbers_from n (t ∷ ts) = n ∷ numbers_from (n + 1) ts
+
+-- ---- names
+abbrev pub with_constructors : ℕ → List Constructor → Names → Names
+with_constructors n [] names = names
+with_constructors n (k ∷ ks) names = with_constructors (n + (count_forms k.fields + 1)) ks (with_entry Symbols k.called.name n true names)
+
+-- the types stand for the entries from i on, their constructors for those from n on
+abbrev pub with_types : ℕ → ℕ → List Algebraic → Names → Names
+with_types i n [] names = names
+with_types i n (a ∷ ts) names = with_types (i + 1) (n + entry_count a.constructors) ts (with_constructors n a.constructors (with_entry Types a.called.name i true names))
+
+abbrev pub group_names : Setting → List Algebraic → Names
+group_names c ts = with_types (first_type c ts) (first_constructor c ts) ts c.scope
+
+-- ---- entries of the types
+abbrev pub type_entries : Word → Word → List Algebraic → List SymbolTree
+type_entries theory within [] = []
+type_entries theory within (a ∷ ts) = type_entry theory (within ++ a.called.name) (length a.vars) ∷ type_entries theory within ts
+
+-- what names mean where the names of the group are there
+abbrev pub inside : Setting → List Algebraic → Where
+inside c ts = over c.trees (c.symbols ++ (tuples_wanting c (group_seen ts) ++ type_entries c.theory c.within ts)) (group_names c ts) []
+
+-- ---- the types with their constructors
+abbrev pub con_trees : Where → ℕ → List Constructor → List ConTree
+con_trees w n [] = []
+con_trees w n (k ∷ ks) = record { symbol = n; fields = types_at w k.fields; projections = numbers_from (n + 1) (types_at w k.fields) } ∷ con_trees w (n + (count_forms k.fields + 1)) ks
+
+abbrev pub algebraic_trees : Where → ℕ → ℕ → List Algebraic → List AlgebraicTree
+algebraic_trees w i n [] = []
+algebraic_trees w i n (a ∷ ts) = record { symbol = i; cons = con_trees (with_vars w (words a.vars)) n a.constructors } ∷ algebraic_trees w (i + 1) (n + entry_count a.constructors) ts
+
+abbrev pub group_trees : Setting → List Algebraic → List AlgebraicTree
+group_trees c ts = algebraic_trees (inside c ts) (first_type c ts) (first_constructor c ts) ts
+
+-- ---- entries of the constructors, each before its projections
+abbrev pub con_entries : Word → Word → ℕ → Tree → List Constructor → List ConTree → List SymbolTree
+con_entries theory within vars type [] cs = []
+con_entries theory within vars type (k ∷ ks) [] = []
+con_entries theory within vars type (k ∷ ks) (c ∷ cs) = constructor_entries theory (within ++ k.called.name) vars type c.fields ++ con_entries theory within vars type ks cs
+
+abbrev pub group_entries : Word → Word → List Algebraic → List AlgebraicTree → List SymbolTree
+group_entries theory within [] ys = []
+group_entries theory within (a ∷ ts) [] = []
+group_entries theory within (a ∷ ts) (y ∷ ys) = con_entries theory within (length a.vars) (own_type y.symbol (length a.vars)) a.constructors y.cons ++ group_entries theory within ts ys
+
+-- ---- what a group makes
+-- a declaration has the name and the type variables of its first type
+abbrev pub first_name : List Algebraic → Word
+first_name [] = []
+first_name (a ∷ ts) = a.called.name
+
+abbrev pub first_vars : List Algebraic → ℕ
+first_vars [] = 0
+first_vars (a ∷ ts) = length a.vars
+
+abbrev pub group_outcome : Setting → List Algebraic → Outcome
+group_outcome c ts = record {
+  symbols = tuples_wanting c (group_seen ts) ++ (type_entries c.theory c.within ts ++ group_entries c.theory c.within ts (group_trees c ts));
+  scope = group_names c ts;
+  decls = record { theory = c.theory; name = c.within ++ first_name ts; vars = first_vars ts; body = Constructs (group_trees c ts) } ∷ [];
+  rigid = [];
+  matches = [];
+}
+
+-- ---- the first fault of its names: of those that it makes, then of the types of its fields
+abbrev pub group_made : Names → List Algebraic → Option NamingFault
+group_made names ts = made_fault (declared_in names) [] (made_by_types ts)
+
+abbrev pub group_fault : Setting → List Algebraic → Option NamingFault
+group_fault c ts = first_of (group_made c.scope ts) (types_fault (inside c ts) ts)
+
+abbrev pub IsGroupElaborated : Setting → List Algebraic → Signature → List Tree → Signature → Names → Elaborated → Type 0
+IsGroupElaborated c ts g s' g' scope' made = IsElaboratedAs (λ (o : Outcome). o ≡ group_outcome c ts) (group_fault c ts) c.symbols g s' g' scope' made
+
+-- it has no type equations
+abbrev pub IsGroupRefusal : Setting → List Algebraic → ElabFault → Type 0
+IsGroupRefusal c ts f = IsRefusalFor c.decl (group_fault c ts) 0 nothing f
+
+-- ---- the names that it makes, by those that it made before in each table
+abbrev pub name_made : Bool → List Word → Called → Option NamingFault
+name_made declared before c = fault_if (declared || is_some (place_of c.name before)) (Duplicate c.at)
+
+-- a constructor that the scope declared, or that the group made before
+abbrev pub constructors_made : (Word → Bool) → List Word → List Constructor → Option NamingFault
+constructors_made declared before [] = None
+constructors_made declared before (k ∷ ks) = first_of (name_made (declared k.called.name) before k.called) (constructors_made declared (before ++ k.called.name ∷ []) ks)
+
+abbrev pub constructor_words : List Constructor → List Word
+constructor_words ks = map (λ (k : Constructor). k.called.name) ks
+
+abbrev pub types_made : (Table → Word → Bool) → List Word → List Word → List Algebraic → Option NamingFault
+types_made declared types constructors [] = None
+types_made declared types constructors (a ∷ ts) =
+    first_of (name_made (declared Types a.called.name) types a.called)
+    (first_of (list_fault [] a.vars) (first_of (constructors_made (declared Symbols) constructors a.constructors) (types_made declared (types ++ a.called.name ∷ []) (constructors ++ constructor_words a.constructors) ts)))

@@ -1,0 +1,2 @@
+pub mod Algebraics
+pub mod Held
