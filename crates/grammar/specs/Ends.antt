@@ -1,5 +1,6 @@
 -- Where a token string ends, where tokens are none, and what completes them.
-use Rattle.grammar.specs.Common.{ℕ, ◌≡◌, ◌+◌, ◌≤◌, ◌<◌, Bool, true, false, List, [], ◌∷◌, ◌++◌, Option, Some, None, length, take, Terminal, Symbol}
+use Rattle.std.specs.Prelude.{ℕ, ◌≡◌, ◌+◌, ◌≤◌, ◌<◌, Bool, true, false, List, [], ◌∷◌, ◌++◌, Option, Some, None, length, take}
+use Rattle.grammar.specs.Common.{Terminal, Symbol}
 use Rattle.grammar.specs.declared.ends.Fault.{Fault}
 use Rattle.grammar.specs.Machine.{run, accepts, is_taken}
 

@@ -1,5 +1,6 @@
 -- The machine without trees: a stack of symbols, which takes a terminal or is stuck, and what completes it.
-use Rattle.grammar.specs.Common.{Bool, true, false, ◌&&◌, if◌then◌else◌, List, [], ◌∷◌, ◌++◌, Option, Some, None, Terminal, Symbol}
+use Rattle.std.specs.Prelude.{Bool, true, false, ◌&&◌, if◌then◌else◌, List, [], ◌∷◌, ◌++◌, Option, Some, None}
+use Rattle.grammar.specs.Common.{Terminal, Symbol}
 use Rattle.grammar.specs.declared.symbols.Symbol.TheVariants as s
 use Rattle.grammar.specs.Alphabet.{same}
 use Rattle.grammar.specs.Table.{Line, rows, optional, shortest, leftovers}

@@ -1,5 +1,6 @@
 -- The rows, the stack and the shortest strings in code: what private contracts of the machine say.
-use Rattle.grammar.specs.Common.{ℕ, Bool, true, false, List, ◌++◌, [], ◌∷◌, Option, Some, None, option_map, reverse, ◌≡◌, ◌&&◌, nat_le, if◌then◌else◌, prec, need, right, is_infix, Terminal, Symbol}
+use Rattle.std.specs.Prelude.{ℕ, Bool, true, false, List, ◌++◌, [], ◌∷◌, Option, Some, None, option_map, reverse, ◌≡◌, ◌&&◌, nat_le, if◌then◌else◌}
+use Rattle.grammar.specs.Common.{prec, need, right, is_infix, Terminal, Symbol}
 use Rattle.std.specs.Borrow.{Bor}
 use Rattle.grammar.specs.declared.symbols.Symbol.TheVariants as s
 use Rattle.grammar.specs.Table.{Line, rows, open_rows, prim_rows, shortest}

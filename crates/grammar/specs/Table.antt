@@ -1,5 +1,6 @@
 -- The grammar (Why3 manual, "Syntax"): for each rule the terminals with which it begins, and the symbols that each leaves.
-use Rattle.grammar.specs.Common.{ℕ, Bool, true, false, ◌&&◌, nat_le, if◌then◌else◌, List, [], ◌∷◌, ◌++◌, Terminal, Symbol, prec, need, right}
+use Rattle.std.specs.Prelude.{ℕ, Bool, true, false, ◌&&◌, nat_le, if◌then◌else◌, List, [], ◌∷◌, ◌++◌}
+use Rattle.grammar.specs.Common.{Terminal, Symbol, prec, need, right}
 use Rattle.tokens_why.specs.declared.terminal.Terminal.TheVariants as t
 use Rattle.grammar.specs.declared.symbols.Symbol.TheVariants as s
 use Rattle.grammar.specs.Alphabet.{operators}

@@ -1,5 +1,6 @@
 // The infix operators: how tightly each binds, and what it needs on its left and on its right.
-ghost use Rattle.grammar.specs.Common.{◌≡◌, need, prec, right, is_infix};
+ghost use Rattle.std.specs.Prelude.{◌≡◌};
+ghost use Rattle.grammar.specs.Common.{need, prec, right, is_infix};
 
 use tokens_why::Terminal;
 

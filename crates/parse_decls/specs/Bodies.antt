@@ -1,5 +1,6 @@
 -- What is read as a definition and its members.
-use Rattle.parse_decls.specs.Common.{ℕ, ◌+◌, List, ◌∷◌, Option, Lexeme, Form, Decl, Member, more_decls, BodyPart, Begun}
+use Rattle.std.specs.Prelude.{ℕ, ◌+◌, List, ◌∷◌, Option}
+use Rattle.parse_decls.specs.Common.{Lexeme, Form, Decl, Member, more_decls, BodyPart, Begun}
 use Rattle.grammar.specs.declared.symbols.Symbol.TheVariants as s
 use Rattle.syntax_why.specs.Trees.{Tree}
 

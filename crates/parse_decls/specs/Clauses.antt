@@ -1,5 +1,6 @@
 -- What is read as clauses and inductive predicates.
-use Rattle.parse_decls.specs.Common.{ℕ, ◌≡◌, Bool, false, List, ◌∷◌, same, Name, Lexeme, Clause, Inductive, ClausePart, ClausesPart, Begun, terminal_at}
+use Rattle.std.specs.Prelude.{ℕ, ◌≡◌, Bool, false, List, ◌∷◌}
+use Rattle.parse_decls.specs.Common.{same, Name, Lexeme, Clause, Inductive, ClausePart, ClausesPart, Begun, terminal_at}
 use Rattle.tokens_why.specs.declared.terminal.Terminal.TheVariants as t
 use Rattle.grammar.specs.declared.symbols.Symbol.TheVariants as s
 

@@ -1,5 +1,6 @@
 -- What is read as theories, and tokens that are one file.
-use Rattle.parse_decls.specs.Common.{ℕ, ◌≡◌, Bool, false, ◌||◌, List, [], ◌∷◌, Some, Terminal, same, Lexeme, Theory, read, Begun}
+use Rattle.std.specs.Prelude.{ℕ, ◌≡◌, Bool, false, ◌||◌, List, [], ◌∷◌, Some}
+use Rattle.parse_decls.specs.Common.{Terminal, same, Lexeme, Theory, read, Begun}
 use Rattle.tokens_why.specs.declared.terminal.Terminal.TheVariants as t
 use Rattle.grammar.specs.declared.symbols.Symbol.TheVariants as s
 

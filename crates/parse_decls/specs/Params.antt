@@ -1,5 +1,6 @@
 -- What is read as parameters.
-use Rattle.parse_decls.specs.Common.{ℕ, ◌+◌, Bool, false, ◌&&◌, if◌then◌else◌, List, [], ◌∷◌, same, Lexeme, Param, param_names, Begun, IsRead, from, terminal_at}
+use Rattle.std.specs.Prelude.{ℕ, ◌+◌, Bool, false, ◌&&◌, if◌then◌else◌, List, [], ◌∷◌}
+use Rattle.parse_decls.specs.Common.{same, Lexeme, Param, param_names, Begun, IsRead, from, terminal_at}
 use Rattle.tokens_why.specs.declared.terminal.Terminal.TheVariants as t
 use Rattle.grammar.specs.declared.symbols.Symbol.TheVariants as s
 

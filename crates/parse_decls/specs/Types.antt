@@ -1,5 +1,6 @@
 -- What is read as type variables, constructors and algebraic types.
-use Rattle.parse_decls.specs.Common.{ℕ, ◌+◌, ◌≡◌, Bool, false, true, not, ◌&&◌, ◌||◌, List, [], ◌∷◌, Terminal, same, Name, Lexeme, name, Forms, Algebraic, Constructor, AlgPart, ConPart, FieldsPart, Begun, begins_atype, terminal_at, token_at}
+use Rattle.std.specs.Prelude.{ℕ, ◌+◌, ◌≡◌, Bool, false, true, not, ◌&&◌, ◌||◌, List, [], ◌∷◌}
+use Rattle.parse_decls.specs.Common.{Terminal, same, Name, Lexeme, name, Forms, Algebraic, Constructor, AlgPart, ConPart, FieldsPart, Begun, begins_atype, terminal_at, token_at}
 use Rattle.tokens_why.specs.declared.terminal.Terminal.TheVariants as t
 use Rattle.grammar.specs.declared.symbols.Symbol.TheVariants as s
 

@@ -1,5 +1,6 @@
 // Definitions of what is declared, with the members after `with`.
-ghost use Rattle.parse_decls.specs.Common.{◌+◌, ◌∷◌, IfOk, map, option_map, member_of, CanRead, CanRun, IsRead, lexemes};
+ghost use Rattle.std.specs.Prelude.{◌+◌, ◌∷◌, IfOk, map, option_map};
+ghost use Rattle.parse_decls.specs.Common.{member_of, CanRead, CanRun, IsRead, lexemes};
 ghost use Rattle.grammar.specs.declared.symbols.Symbol.TheVariants as rule;
 ghost use Rattle.syntax_why.specs.Surface.{form_of, tree_of};
 ghost use Rattle.parse_decls.specs.Bodies.{IsMember, IsResult, IsValue, body_part};

@@ -1,5 +1,6 @@
 // Inductive predicates with their clauses.
-ghost use Rattle.parse_decls.specs.Common.{◌+◌, ◌∷◌, IfOk, map, clause_of, inductive_of, CanRead, CanRun, lexemes};
+ghost use Rattle.std.specs.Prelude.{◌+◌, ◌∷◌, IfOk, map};
+ghost use Rattle.parse_decls.specs.Common.{clause_of, inductive_of, CanRead, CanRun, lexemes};
 ghost use Rattle.grammar.specs.declared.symbols.Symbol.TheVariants as rule;
 ghost use Rattle.tokens_why.specs.declared.terminal.Terminal.TheVariants.{Colon, Equal};
 ghost use Rattle.parse_decls.specs.Clauses.{IsClause, IsClauses, IsInductive};

@@ -1,5 +1,6 @@
 // The declarations `use` and `clone`, where they are known to stand: each call reads one, and says where it ends.
-ghost use Rattle.parse_decls.specs.Common.{false, true, ◌≡◌, ◌+◌, IfOk, map, same, decl_of, element_of, CanRead, IsRead, terminal_at, lexemes};
+ghost use Rattle.std.specs.Prelude.{false, true, ◌≡◌, ◌+◌, IfOk, map};
+ghost use Rattle.parse_decls.specs.Common.{same, decl_of, element_of, CanRead, IsRead, terminal_at, lexemes};
 ghost use Rattle.grammar.specs.declared.symbols.Symbol.TheVariants as rule;
 ghost use Rattle.tokens_why.specs.declared.terminal.Terminal.TheVariants as t;
 ghost use Rattle.reading.specs.Rows.{used as used_part};

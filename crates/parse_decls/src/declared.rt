@@ -1,5 +1,6 @@
 // Names of what is declared: symbols and propositions.
-ghost use Rattle.parse_decls.specs.Common.{◌+◌, IfOk, plain_name, CanRead, IsRead, lexemes};
+ghost use Rattle.std.specs.Prelude.{◌+◌, IfOk};
+ghost use Rattle.parse_decls.specs.Common.{plain_name, CanRead, IsRead, lexemes};
 ghost use Rattle.grammar.specs.declared.symbols.Symbol.TheVariants as rule;
 ghost use Rattle.syntax_why.specs.SurfaceDeclarations.{declared_name as name_of_symbol};
 

@@ -1,5 +1,6 @@
 // Declarations of functions, predicates, constants, inductive predicates and propositions.
-ghost use Rattle.parse_decls.specs.Common.{true, ◌≡◌, ◌+◌, IfOk, same, prop_word, decl_of, CanRead, terminal_at, lexemes};
+ghost use Rattle.std.specs.Prelude.{true, ◌≡◌, ◌+◌, IfOk};
+ghost use Rattle.parse_decls.specs.Common.{same, prop_word, decl_of, CanRead, terminal_at, lexemes};
 ghost use Rattle.grammar.specs.declared.symbols.Symbol.TheVariants as rule;
 ghost use Rattle.tokens_why.specs.declared.terminal.Terminal.TheVariants as t;
 ghost use Rattle.parse_decls.specs.Bodies.{IsDecl};

@@ -1,5 +1,6 @@
 // Declarations, theories and files, where they are known to stand: each call reads one, and says where it ends.
-ghost use Rattle.parse_decls.specs.Common.{false, true, not, ◌≡◌, ◌+◌, ◌∷◌, [], IfOk, Some, map, same, read, decl_of, file_of, theory_of, CanRead, IsRead, terminal_at, lexemes};
+ghost use Rattle.std.specs.Prelude.{false, true, not, ◌≡◌, ◌+◌, ◌∷◌, [], IfOk, Some, map};
+ghost use Rattle.parse_decls.specs.Common.{same, read, decl_of, file_of, theory_of, CanRead, IsRead, terminal_at, lexemes};
 ghost use Rattle.grammar.specs.declared.symbols.Symbol.TheVariants as rule;
 ghost use Rattle.tokens_why.specs.declared.terminal.Terminal.TheVariants as t;
 ghost use Rattle.syntax_why.specs.SurfaceDeclarations.{decls as decls_of};

@@ -1,5 +1,6 @@
 // Parameters of what is declared: types side by side, some of them with names.
-ghost use Rattle.parse_decls.specs.Common.{true, ◌≡◌, IfOk, map, param_of, CanRead, IsRead, begins_atype, terminal_at, lexemes};
+ghost use Rattle.std.specs.Prelude.{true, ◌≡◌, IfOk, map};
+ghost use Rattle.parse_decls.specs.Common.{param_of, CanRead, IsRead, begins_atype, terminal_at, lexemes};
 ghost use Rattle.grammar.specs.declared.symbols.Symbol.TheVariants as rule;
 ghost use Rattle.parse_decls.specs.Params.{IsNamedParam, IsParam, begins_names};
 

@@ -1,5 +1,6 @@
 // Declarations of types, where they are known to stand: each call reads one, and says where it ends.
-ghost use Rattle.parse_decls.specs.Common.{true, ◌≡◌, ◌+◌, ◌∷◌, IfOk, map, same, algebraic_of, constructor_of, decl_of, CanRead, CanRun, terminal_at, lexemes};
+ghost use Rattle.std.specs.Prelude.{true, ◌≡◌, ◌+◌, ◌∷◌, IfOk, map};
+ghost use Rattle.parse_decls.specs.Common.{same, algebraic_of, constructor_of, decl_of, CanRead, CanRun, terminal_at, lexemes};
 ghost use Rattle.grammar.specs.declared.symbols.Symbol.TheVariants as rule;
 ghost use Rattle.tokens_why.specs.declared.terminal.Terminal.TheVariants as t;
 ghost use Rattle.parse_decls.specs.Bodies.{IsDecl};

@@ -1,5 +1,6 @@
 -- What is read as the names that are bound together.
-use Rattle.parse_terms.specs.Common.{ℕ, ◌≡◌, false, List, ◌∷◌, ◌++◌, same, Name, Lexeme}
+use Rattle.std.specs.Prelude.{ℕ, ◌≡◌, false, List, ◌∷◌, ◌++◌}
+use Rattle.parse_terms.specs.Common.{same, Name, Lexeme}
 use Rattle.tokens_why.specs.declared.terminal.Terminal.TheVariants as t
 use Rattle.grammar.specs.declared.symbols.Symbol.TheVariants as s
 use Rattle.parse_terms.specs.Reading.{Begun, terminal_at}

@@ -1,5 +1,6 @@
 -- What is read as a name.
-use Rattle.parse_terms.specs.Common.{ℕ, ◌+◌, ◌≡◌, List, Option, Lexeme, Called, Own, own_of, Dotted, OpName, Scoped, own_op, upper_called}
+use Rattle.std.specs.Prelude.{ℕ, ◌+◌, ◌≡◌, List, Option}
+use Rattle.parse_terms.specs.Common.{Lexeme, Called, Own, own_of, Dotted, OpName, Scoped, own_op, upper_called}
 use Rattle.grammar.specs.declared.symbols.Symbol.TheVariants as s
 use Rattle.syntax_why.specs.declared.names.QName.{QName}
 use Rattle.parse_terms.specs.Reading.{IsRead, token_at}

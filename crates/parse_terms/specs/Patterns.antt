@@ -1,5 +1,6 @@
 -- What is read as a pattern, up to the name that may follow it.
-use Rattle.parse_terms.specs.Common.{ℕ, List, ◌∷◌, Lexeme, Form, named_at}
+use Rattle.std.specs.Prelude.{ℕ, List, ◌∷◌}
+use Rattle.parse_terms.specs.Common.{Lexeme, Form, named_at}
 use Rattle.grammar.specs.declared.symbols.Symbol.TheVariants as s
 use Rattle.parse_terms.specs.Reading.{Begun}
 

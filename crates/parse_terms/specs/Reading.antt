@@ -1,5 +1,6 @@
 -- What is read where in a list of tokens.
-use Rattle.parse_terms.specs.Common.{ℕ, ◌+◌, ◌≡◌, ◌≤◌, ◌<◌, Bool, true, false, ◌&&◌, List, [], ◌∷◌, length, Option, Some, None, Lexeme, Word, is_infix, is_operator, Tree, ends_open, Chain, Dotted, attach, first_of, scope_on, blank, read}
+use Rattle.std.specs.Prelude.{ℕ, ◌+◌, ◌≡◌, ◌≤◌, ◌<◌, Bool, true, false, ◌&&◌, List, [], ◌∷◌, length, Option, Some, None}
+use Rattle.parse_terms.specs.Common.{Lexeme, Word, is_infix, is_operator, Tree, ends_open, Chain, Dotted, attach, first_of, scope_on, blank, read}
 use Rattle.tokens_why.specs.declared.terminal.Terminal.{Terminal}
 use Rattle.tokens_why.specs.declared.terminal.Terminal.TheVariants as t
 use Rattle.grammar.specs.declared.symbols.Symbol.{Symbol}

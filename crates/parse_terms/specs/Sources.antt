@@ -1,5 +1,6 @@
 -- The lexemes of a source, and the texts of its names.
-use Rattle.parse_terms.specs.Common.{ℕ, ◌≡◌, List, map, Lexeme, Word, lexeme, said}
+use Rattle.std.specs.Prelude.{ℕ, ◌≡◌, List, map}
+use Rattle.parse_terms.specs.Common.{Lexeme, Word, lexeme, said}
 use Rattle.tokens_why.specs.Terminals.{string_terminal}
 use Rattle.parse_terms.specs.declared.source.Source.{Source}
 use Rattle.parse_terms.specs.Reading.{terminal_at, token_at}

@@ -1,5 +1,6 @@
 -- What is read as a branch of a match, as a binder and as a trigger.
-use Rattle.parse_terms.specs.Common.{ℕ, ◌≡◌, false, List, [], ◌∷◌, Option, same, Name, Lexeme, Form, Forms, more_forms, Binder, Trigger, binds, Arm, forms}
+use Rattle.std.specs.Prelude.{ℕ, ◌≡◌, false, List, [], ◌∷◌, Option}
+use Rattle.parse_terms.specs.Common.{same, Name, Lexeme, Form, Forms, more_forms, Binder, Trigger, binds, Arm, forms}
 use Rattle.tokens_why.specs.declared.terminal.Terminal.TheVariants as t
 use Rattle.grammar.specs.declared.symbols.Symbol.TheVariants as s
 use Rattle.parse_terms.specs.Reading.{Begun, terminal_at}

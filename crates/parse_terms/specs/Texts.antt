@@ -1,5 +1,6 @@
 -- Tokens that are those of their texts.
-use Rattle.parse_terms.specs.Common.{ℕ, ◌≡◌, ◌≤◌, List, Some, slice_get, length, Fits, text_of}
+use Rattle.std.specs.Prelude.{ℕ, ◌≡◌, ◌≤◌, List, Some, slice_get, length}
+use Rattle.parse_terms.specs.Common.{Fits, text_of}
 use Rattle.tokens_why.specs.declared.token.Token.{Token}
 use Rattle.tokens_why.specs.Strings.{kind_of}
 

@@ -1,5 +1,6 @@
 -- Tokens that are one term or formula.
-use Rattle.parse_terms.specs.Common.{ℕ, ◌≡◌, ◌≤◌, false, List, [], ◌∷◌, Some, length, Lexeme, Tree, from, read}
+use Rattle.std.specs.Prelude.{ℕ, ◌≡◌, ◌≤◌, false, List, [], ◌∷◌, Some, length}
+use Rattle.parse_terms.specs.Common.{Lexeme, Tree, from, read}
 use Rattle.grammar.specs.declared.symbols.Symbol.TheVariants as s
 
 -- The tokens from a place on are read as one expression.

@@ -1,5 +1,6 @@
 // Terms and formulas, where they are known to stand: each call reads one, and says where it ends.
-ghost use Rattle.parse_terms.specs.Common.{false, true, ◌&&◌, ◌||◌, ◌≡◌, ◌<◌, ◌∷◌, IfOk, map, not, option_map, same, is_prefix, arm_of, terms_of, tree_of, trees, ends_open};
+ghost use Rattle.std.specs.Prelude.{false, true, ◌&&◌, ◌||◌, ◌≡◌, ◌<◌, ◌∷◌, IfOk, map, not, option_map};
+ghost use Rattle.parse_terms.specs.Common.{same, is_prefix, arm_of, terms_of, tree_of, trees, ends_open};
 ghost use Rattle.grammar.specs.declared.symbols.Symbol.TheVariants as rule;
 ghost use Rattle.tokens_why.specs.declared.terminal.Terminal.TheVariants as t;
 ghost use Rattle.syntax_why.specs.Surface.{trigger as trigger_of};

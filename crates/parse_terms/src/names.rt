@@ -1,5 +1,6 @@
 // Names: behind scopes, of operators in parentheses, of types and of constructors.
-ghost use Rattle.parse_terms.specs.Common.{false, true, ◌≡◌, ◌+◌, ◌&&◌, [], IfOk, same, Opname, Qhead, Qlid, Quids, Dot, Uident, called, lower, called_of, own_of};
+ghost use Rattle.std.specs.Prelude.{false, true, ◌≡◌, ◌+◌, ◌&&◌, [], IfOk};
+ghost use Rattle.parse_terms.specs.Common.{same, Opname, Qhead, Qlid, Quids, Dot, Uident, called, lower, called_of, own_of};
 ghost use Rattle.parse_terms.specs.Names.{IsOperatorName, IsUpperName, scoped_of};
 ghost use Rattle.parse_terms.specs.Reading.{CanRead, IsRead, terminal_at};
 ghost use Rattle.parse_terms.specs.Sources.{lexemes};

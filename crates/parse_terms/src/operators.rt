@@ -1,5 +1,6 @@
 // Tokens of terms: which begin a name or a quantifier, and which are operators.
-ghost use Rattle.parse_terms.specs.Common.{◌&&◌, ◌||◌, ◌≡◌, ◌<◌, ◌+◌, IfOk, if◌then◌else◌, length, true, same, is_operator, is_prefix, op_of, tree_of, literal, op};
+ghost use Rattle.std.specs.Prelude.{◌&&◌, ◌||◌, ◌≡◌, ◌<◌, ◌+◌, IfOk, if◌then◌else◌, length, true};
+ghost use Rattle.parse_terms.specs.Common.{same, is_operator, is_prefix, op_of, tree_of, literal, op};
 ghost use Rattle.tokens_why.specs.declared.terminal.Terminal.TheVariants as t;
 ghost use Rattle.syntax_why.specs.Lexeme.{at as place_at};
 ghost use Rattle.parse_terms.specs.Reading.{ends_name, names, takes_infix, terminal_at, token_at};

@@ -1,5 +1,6 @@
 // Lists of patterns and names, as they stand in branches and binders.
-ghost use Rattle.parse_terms.specs.Common.{◌∷◌, IfOk, Lident, binder_of, patterns};
+ghost use Rattle.std.specs.Prelude.{◌∷◌, IfOk};
+ghost use Rattle.parse_terms.specs.Common.{Lident, binder_of, patterns};
 ghost use Rattle.grammar.specs.declared.symbols.Symbol.TheVariants as rule;
 ghost use Rattle.parse_terms.specs.Reading.{CanRun};
 ghost use Rattle.parse_terms.specs.Sources.{lexemes};

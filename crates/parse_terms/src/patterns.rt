@@ -1,5 +1,6 @@
 // Patterns, where they are known to stand: each call reads one, and says where it ends.
-ghost use Rattle.parse_terms.specs.Common.{◌<◌, IfOk, pattern_of, patterns};
+ghost use Rattle.std.specs.Prelude.{◌<◌, IfOk};
+ghost use Rattle.parse_terms.specs.Common.{pattern_of, patterns};
 ghost use Rattle.grammar.specs.declared.symbols.Symbol.TheVariants as rule;
 ghost use Rattle.parse_terms.specs.Patterns.{IsBare};
 ghost use Rattle.parse_terms.specs.Reading.{CanRead, IsRead};

@@ -1,5 +1,6 @@
 // Tokens by their numbers: what each is to the grammar, and its text.
-ghost use Rattle.parse_terms.specs.Common.{true, ◌≡◌, ◌<◌, length, Some, slice_get, IfOk, same, name, value_of, Int, text_of};
+ghost use Rattle.std.specs.Prelude.{true, ◌≡◌, ◌<◌, length, Some, slice_get, IfOk};
+ghost use Rattle.parse_terms.specs.Common.{same, name, value_of, Int, text_of};
 ghost use Rattle.syntax_why.specs.Lexeme.{at as place_at};
 ghost use Rattle.parse_terms.specs.Reading.{begins_atom, begins_atype, begins_patom, terminal_at, token_at};
 ghost use Rattle.parse_terms.specs.Texts.{HasText};

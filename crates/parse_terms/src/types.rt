@@ -1,5 +1,6 @@
 // Types, where they are known to stand: each call reads one, and says where it ends.
-ghost use Rattle.parse_terms.specs.Common.{◌<◌, IfOk, Atype, Targs, Ttuple, TypeOf, form_of, types};
+ghost use Rattle.std.specs.Prelude.{◌<◌, IfOk};
+ghost use Rattle.parse_terms.specs.Common.{Atype, Targs, Ttuple, TypeOf, form_of, types};
 ghost use Rattle.parse_terms.specs.Reading.{CanRead, IsRead};
 ghost use Rattle.parse_terms.specs.Sources.{lexemes};
 

@@ -1,5 +1,6 @@
 // Tokens that are one term or formula.
-ghost use Rattle.parse_terms.specs.Common.{false, ◌≡◌, [], ◌∷◌, IfOk, Some, from, read, tree_of};
+ghost use Rattle.std.specs.Prelude.{false, ◌≡◌, [], ◌∷◌, IfOk, Some};
+ghost use Rattle.parse_terms.specs.Common.{from, read, tree_of};
 ghost use Rattle.grammar.specs.declared.symbols.Symbol.TheVariants.{Expr as ExprRule};
 ghost use Rattle.parse_terms.specs.Sources.{lexemes};
 ghost use Rattle.parse_terms.specs.Whole.{IsExpression};

@@ -1,6 +1,6 @@
 -- What the rules of declarations are read as, before it is part of a declaration.
-use Rattle.reading.specs.Common.{ℕ, false, List, [], ◌∷◌, Some, None, Name, Word, at, name, lower, upper, Called, called, Form, Forms, composed, enclosed, no_forms, more_forms, Tree, Link, Path, Param, Member, Constructor, Algebraic, Clause, Inductive, Element, Decl, type_decl, algebraic_decl}
-use Rattle.std.specs.Prelude.{Bool, Option}
+use Rattle.reading.specs.Common.{Name, Word, at, name, lower, upper, Called, called, Form, Forms, composed, enclosed, no_forms, more_forms, Tree, Link, Path, Param, Member, Constructor, Algebraic, Clause, Inductive, Element, Decl, type_decl, algebraic_decl}
+use Rattle.std.specs.Prelude.{Bool, Option, ℕ, false, List, [], ◌∷◌, Some, None}
 use Rattle.syntax_why.specs.declared.names.At.{At}
 use Rattle.reading.specs.Parts.{Dotted}
 

@@ -1,6 +1,6 @@
 -- What the rules of terms are read as, before it is part of a tree.
-use Rattle.reading.specs.Common.{ℕ, false, List, [], ◌∷◌, Some, None, Name, Word, at, Called, Form, Forms, Own, aliased, called, infix_op, more_forms, no_forms, prefix_op, upper, Binder, Branches, Op, Tree, Trees, Trigger, apply, binary, binding, binds, branch, cases, cast, choice, falsity, group, literal, more, negation, none, prefixed, quantified, truth}
-use Rattle.std.specs.Prelude.{Bool, true, Option}
+use Rattle.reading.specs.Common.{Name, Word, at, Called, Form, Forms, Own, aliased, called, infix_op, more_forms, no_forms, prefix_op, upper, Binder, Branches, Op, Tree, Trees, Trigger, apply, binary, binding, binds, branch, cases, cast, choice, falsity, group, literal, more, negation, none, prefixed, quantified, truth}
+use Rattle.std.specs.Prelude.{Bool, true, Option, ℕ, false, List, [], ◌∷◌, Some, None}
 
 pub record Dotted : Type 0 where
   pub scopes : List Word

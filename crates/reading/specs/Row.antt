@@ -1,5 +1,6 @@
 -- What each symbol is read as, and the rows that read it.
-use Rattle.reading.specs.Common.{Bool, ◌++◌, Option, refl, sym, ◌∙◌, append_assoc, Terminal, Symbol, Name, Word, Called, Form, Forms, Branches, Tree, Trees, Path, Decls, Element, Member, Param, Theory}
+use Rattle.std.specs.Prelude.{◌++◌}
+use Rattle.reading.specs.Common.{Bool, Option, refl, sym, ◌∙◌, append_assoc, Terminal, Symbol, Name, Word, Called, Form, Forms, Branches, Tree, Trees, Path, Decls, Element, Member, Param, Theory}
 use Rattle.std.proofs.Common.{◌≡◌, ℕ, List, [], ◌∷◌}
 use Rattle.grammar.specs.declared.symbols.Symbol.TheVariants as s
 use Rattle.reading.specs.Parts.{ArmPart, BinderPart, BoundPart, BranchPart, CasesPart, Chain, Closing, Dotted, LetPart, Minus, OpName, Paren, Scoped, TermsPart}

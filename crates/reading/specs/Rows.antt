@@ -1,5 +1,6 @@
 -- The rows of the grammar, each with what it makes of what its symbols are read as.
-use Rattle.reading.specs.Common.{Bool, true, ◌&&◌, cond, ◌++◌, nat_le, ◌+◌, Option, Terminal, Symbol, at, name, Word, called, composed, enclosed, lower, more_forms, no_forms, star, type_variable, variable, wild, Called, upper, Tree, apply, binding, cases, choice, falsity, literal, more, negation, no_branch, none, op, prefixed, quantified, triggered, truth, untriggered, Name, Link, Path, Element, all_axioms, clone_decl, constant_decl, function_decl, inductive_decl, more_decls, no_decls, predicate_decl, prop_decl, prop_element, scope_decl, symbol_element, type_element, use_decl, operators}
+use Rattle.std.specs.Prelude.{◌&&◌, ◌++◌, ◌+◌}
+use Rattle.reading.specs.Common.{Bool, true, cond, nat_le, Option, Terminal, Symbol, at, name, Word, called, composed, enclosed, lower, more_forms, no_forms, star, type_variable, variable, wild, Called, upper, Tree, apply, binding, cases, choice, falsity, literal, more, negation, no_branch, none, op, prefixed, quantified, triggered, truth, untriggered, Name, Link, Path, Element, all_axioms, clone_decl, constant_decl, function_decl, inductive_decl, more_decls, no_decls, predicate_decl, prop_decl, prop_element, scope_decl, symbol_element, type_element, use_decl, operators}
 use Rattle.std.proofs.Common.{ℕ, false, List, [], ◌∷◌, Some, None}
 use Rattle.tokens_why.specs.Operators.{prec, need, right}
 use Rattle.reading.specs.Parts.{attach, behind_minus, binder_of, branch_of, link, name_of, named, named_at, named_by, next_alternative, next_pattern, next_term, nothing, own_op, paren, scope_own, upper_called, cast_to, closed, holds, operand, scope_on}

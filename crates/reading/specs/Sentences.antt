@@ -1,7 +1,7 @@
 -- Which tokens are those of a tree, which begin one, where tokens go wrong, and where the longest tree ends: for trees of any
 -- kind, given which of them are right, which have the places of their tokens, and the tokens that each writes.
-use Rattle.reading.specs.Common.{ℕ, ◌≡◌, ◌<◌, ◌≤◌, List, [], ◌∷◌, length, take, Terminal, Lexeme, lexeme_by, terminals}
-use Rattle.std.specs.Prelude.{◌+◌, ◌++◌}
+use Rattle.reading.specs.Common.{Terminal, Lexeme, lexeme_by, terminals}
+use Rattle.std.specs.Prelude.{◌+◌, ◌++◌, ℕ, ◌≡◌, ◌<◌, ◌≤◌, List, [], ◌∷◌, length, take}
 use Rattle.std.specs.Bool.{⊤}
 use Rattle.tokens_why.specs.declared.token.TokenKind.{TokenKind}
 use Rattle.tokens_why.specs.Terminals.{terminal_of}

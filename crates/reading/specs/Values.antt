@@ -1,5 +1,6 @@
 -- The machine with values: what it takes, it reads as trees.
-use Rattle.reading.specs.Common.{Bool, true, cond, ◌+◌, Option, option_map, Terminal, Symbol, Word, Lexeme, no_forms, none, same}
+use Rattle.std.specs.Prelude.{◌+◌}
+use Rattle.reading.specs.Common.{Bool, true, cond, Option, option_map, Terminal, Symbol, Word, Lexeme, no_forms, none, same}
 use Rattle.std.proofs.Common.{ℕ, false, List, [], ◌∷◌, Some, None}
 use Rattle.reading.specs.Parts.{nothing, stop}
 use Rattle.reading.specs.Row.{Row, Val, Vals}

@@ -1,6 +1,5 @@
 -- The names that most definitions and contracts cite, passed on from one place. Declares nothing.
 pub use Rattle.std.specs.Bool.{⊤}
-pub use Rattle.std.specs.Prelude.{◌∷◌, ◌++◌, ◌-◌, sum, length, [], ◌<◌, None, List, ◌≤◌, Some, ◌+◌, take, ℕ, map, true, false, IfErr, Bool, slice_get, ◌≡◌, IfOk}
 pub use Rattle.grammar.specs.Ends.{IsFault}
 pub use Rattle.grammar.specs.Machine.{is_safe, accepts}
 pub use Rattle.reading.specs.Sentences.{Begins, IsLeastFault, IsOf, IsOnly, IsLongest, IsNone}

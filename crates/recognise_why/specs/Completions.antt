@@ -1,5 +1,6 @@
 -- Kinds of tokens that complete others.
-use Rattle.recognise_why.specs.Common.{List, [], ◌∷◌, ◌++◌, ⊤, terminal_of, IsString, Lexeme, Word, lexeme_by, IsOf}
+use Rattle.std.specs.Prelude.{List, [], ◌∷◌, ◌++◌}
+use Rattle.recognise_why.specs.Common.{⊤, terminal_of, IsString, Lexeme, Word, lexeme_by, IsOf}
 use Rattle.tokens_why.specs.declared.token.TokenKind.{TokenKind}
 
 -- strings that are tokens of these kinds

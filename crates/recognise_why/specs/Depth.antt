@@ -1,5 +1,6 @@
 -- How deep a token is nested, over terminals alone: the brackets that are open around it, and what is counted in each.
-use Rattle.recognise_why.specs.Common.{ℕ, ◌+◌, ◌<◌, ◌≤◌, List, [], ◌∷◌, length, sum, take, Terminal, Opens, Closes, Counts, Restarts, Keeps}
+use Rattle.std.specs.Prelude.{ℕ, ◌+◌, ◌<◌, ◌≤◌, List, [], ◌∷◌, length, sum, take}
+use Rattle.recognise_why.specs.Common.{Terminal, Opens, Closes, Counts, Restarts, Keeps}
 use Rattle.tokens_why.specs.declared.terminal.Terminal.TheVariants as t
 use Rattle.recognise_why.specs.declared.depth.Nesting.{Nesting}
 

@@ -1,5 +1,6 @@
 -- The longest expression that stands at a token, or where none does any more.
-use Rattle.recognise_why.specs.Common.{ℕ, ◌+◌, ◌≡◌, ◌≤◌, ◌<◌, false, List, [], ◌∷◌, length, take, Some, ⊤, Token, rest, Tree, IsLevel, IsPlacedTree, write, read, Begins, IsLongest, IsNone, SyntaxFault}
+use Rattle.std.specs.Prelude.{ℕ, ◌+◌, ◌≡◌, ◌≤◌, ◌<◌, false, List, [], ◌∷◌, length, take, Some}
+use Rattle.recognise_why.specs.Common.{⊤, Token, rest, Tree, IsLevel, IsPlacedTree, write, read, Begins, IsLongest, IsNone, SyntaxFault}
 use Rattle.grammar.specs.declared.symbols.Symbol.TheVariants as s
 use Rattle.recognise_why.specs.declared.fault.SyntaxFault.TheVariants as f
 

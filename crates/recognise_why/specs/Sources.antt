@@ -1,5 +1,6 @@
 -- Tokens that are a source, or where they go wrong.
-use Rattle.recognise_why.specs.Common.{ℕ, ◌≡◌, Bool, true, false, List, [], ◌∷◌, ◌++◌, take, slice_get, Some, ⊤, Terminal, Lexeme, mark, terminals, Theory, write_file, IsLevelFile, PlacedFile, read, Begins, IsLeastFault, IsOnly, SyntaxFault}
+use Rattle.std.specs.Prelude.{ℕ, ◌≡◌, Bool, true, false, List, [], ◌∷◌, ◌++◌, take, slice_get, Some}
+use Rattle.recognise_why.specs.Common.{⊤, Terminal, Lexeme, mark, terminals, Theory, write_file, IsLevelFile, PlacedFile, read, Begins, IsLeastFault, IsOnly, SyntaxFault}
 use Rattle.tokens_why.specs.declared.terminal.Terminal.TheVariants as t
 use Rattle.grammar.specs.declared.symbols.Symbol.TheVariants as s
 use Rattle.recognise_why.specs.Depth.{IsTooDeep, IsShallow}

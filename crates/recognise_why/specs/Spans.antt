@@ -1,5 +1,6 @@
 -- The tokens of a text from one to another, and what they are to the grammar.
-use Rattle.recognise_why.specs.Common.{ℕ, ◌-◌, List, map, take, Terminal, Token, terminal_of, Lexeme, rest}
+use Rattle.std.specs.Prelude.{ℕ, ◌-◌, List, map, take}
+use Rattle.recognise_why.specs.Common.{Terminal, Token, terminal_of, Lexeme, rest}
 
 abbrev pub terminals_of : List Token → List Terminal
 terminals_of = map (λ k. terminal_of k.kind)

@@ -1,5 +1,6 @@
 // Kinds of tokens that complete an expression or a source, and the laws that tokens have one tree at most.
-ghost use Rattle.recognise_why.specs.Common.{◌≡◌, ◌≤◌, ◌∷◌, ◌++◌, [], true, List, ℕ, None, length, take, map, IfOk, accepts, is_safe, kind_by, AreTokens, Lexeme, rest, Tree, IsLevel, IsPlacedTree, write, Theory, write_file, IsLevelFile, PlacedFile, Begins, IsOf};
+ghost use Rattle.std.specs.Prelude.{◌≡◌, ◌≤◌, ◌∷◌, ◌++◌, [], true, List, ℕ, None, length, take, map, IfOk};
+ghost use Rattle.recognise_why.specs.Common.{accepts, is_safe, kind_by, AreTokens, Lexeme, rest, Tree, IsLevel, IsPlacedTree, write, Theory, write_file, IsLevelFile, PlacedFile, Begins, IsOf};
 ghost use Rattle.grammar.specs.declared.symbols.Symbol.TheVariants.{Expr, File};
 ghost use Rattle.recognise_why.specs.Completions.{CompletesWith};
 ghost use Rattle.recognise_why.specs.Spans.{between, terminals_of};

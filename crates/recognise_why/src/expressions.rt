@@ -1,5 +1,6 @@
 // How far the longest expression from a token on goes, or where none stands any more.
-ghost use Rattle.recognise_why.specs.Common.{◌≡◌, ◌∷◌, [], false, List, ℕ, IfOk, IfErr, IsFault, accepts, OtherWord};
+ghost use Rattle.std.specs.Prelude.{◌≡◌, ◌∷◌, [], false, List, ℕ, IfOk, IfErr};
+ghost use Rattle.recognise_why.specs.Common.{IsFault, accepts, OtherWord};
 ghost use Rattle.grammar.specs.declared.symbols.Symbol.TheVariants as symbol;
 ghost use Rattle.recognise_why.specs.Expressions.{EndsAt, IsExpressionRefusal};
 

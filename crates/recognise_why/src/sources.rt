@@ -1,5 +1,6 @@
 // Whether tokens are a source, or their first fault.
-ghost use Rattle.recognise_why.specs.Common.{◌≡◌, ◌∷◌, [], List, ℕ, IfOk, IfErr, IsFault, ScopeWord, rest};
+ghost use Rattle.std.specs.Prelude.{◌≡◌, ◌∷◌, [], List, ℕ, IfOk, IfErr};
+ghost use Rattle.recognise_why.specs.Common.{IsFault, ScopeWord, rest};
 ghost use Rattle.grammar.specs.declared.symbols.Symbol.TheVariants as symbol;
 ghost use Rattle.recognise_why.specs.Depth.{IsShallow};
 ghost use Rattle.recognise_why.specs.Sources as spec;

@@ -1,6 +1,5 @@
 -- The names that most definitions and contracts cite, passed on from one place. Declares nothing.
 pub use Rattle.std.specs.Bool.{⊤}
-pub use Rattle.std.specs.Prelude.{false, if◌then◌else◌, Some, true, map, ℤ, None, drop, ℕ, ◌+◌, ◌∷◌, ◌≡◌, Option, [], List, option_map, ◌≤◌, Bool, ◌++◌, pos, negsuc}
 pub use Rattle.syntax_why.specs.declared.declarations.Link.{Link}
 pub use Rattle.syntax_why.specs.declared.names.At.{At}
 pub use Rattle.syntax_why.specs.declared.names.Name.{Name}

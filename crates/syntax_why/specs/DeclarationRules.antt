@@ -1,5 +1,6 @@
 -- Which declarations, theories and files tokens can stand for, and where their parts stand.
-use Rattle.syntax_why.specs.Common.{ℕ, ◌+◌, ◌≡◌, List, [], ◌∷◌, Option, Some, None, ⊤, Name, Link}
+use Rattle.std.specs.Prelude.{ℕ, ◌+◌, ◌≡◌, List, [], ◌∷◌, Option, Some, None}
+use Rattle.syntax_why.specs.Common.{⊤, Name, Link}
 use Rattle.syntax_why.specs.declared.declarations.Link.TheVariants as lk
 use Rattle.syntax_why.specs.Lexeme.{at}
 use Rattle.syntax_why.specs.Forms.{Own, lower, upper, Called, write_called, Form, write_form, types, IsForm, AreParts, IsPart, IsHead, past, IsPlaced, PlacedRow}

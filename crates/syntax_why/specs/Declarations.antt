@@ -1,5 +1,6 @@
 -- Declarations, theories and files, and their tokens.
-use Rattle.syntax_why.specs.Common.{ℕ, Bool, true, false, List, [], ◌∷◌, ◌++◌, Option, Some, None, Terminal, At, Name, Link}
+use Rattle.std.specs.Prelude.{ℕ, Bool, true, false, List, [], ◌∷◌, ◌++◌, Option, Some, None}
+use Rattle.syntax_why.specs.Common.{Terminal, At, Name, Link}
 use Rattle.tokens_why.specs.declared.terminal.Terminal.TheVariants as t
 use Rattle.syntax_why.specs.declared.names.Path.{Path}
 use Rattle.syntax_why.specs.declared.declarations.PropKind.{PropKind}

@@ -1,5 +1,6 @@
 -- Types and patterns, their tokens, which of them are right, and where their parts stand.
-use Rattle.syntax_why.specs.Common.{ℕ, ◌+◌, ◌≡◌, List, [], ◌∷◌, ◌++◌, ⊤, Terminal, At, Name}
+use Rattle.std.specs.Prelude.{ℕ, ◌+◌, ◌≡◌, List, [], ◌∷◌, ◌++◌}
+use Rattle.syntax_why.specs.Common.{⊤, Terminal, At, Name}
 use Rattle.tokens_why.specs.declared.terminal.Terminal.TheVariants as t
 use Rattle.syntax_why.specs.Lexeme.{Word, Lexeme, lx, mark, at}
 

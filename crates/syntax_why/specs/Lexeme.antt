@@ -1,5 +1,6 @@
 -- Tokens with their texts, as the grammar sees them, and the places of trees.
-use Rattle.syntax_why.specs.Common.{ℕ, List, [], ◌∷◌, map, drop, Terminal, kind_by, terminal_of, At, Name}
+use Rattle.std.specs.Prelude.{ℕ, List, [], ◌∷◌, map, drop}
+use Rattle.syntax_why.specs.Common.{Terminal, kind_by, terminal_of, At, Name}
 use Rattle.tokens_why.specs.declared.terminal.Terminal.TheVariants as t
 use Rattle.tokens_why.specs.declared.token.Token.{Token}
 use Rattle.tokens_why.specs.declared.token.TokenKind.{TokenKind}

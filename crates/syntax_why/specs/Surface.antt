@@ -1,5 +1,6 @@
 -- The plain trees of surface trees: types, patterns, terms and formulas, with the places that they carry.
-use Rattle.syntax_why.specs.Common.{ℕ, ℤ, pos, negsuc, Bool, List, [], ◌∷◌, map, Option, Some, None, option_map, if◌then◌else◌, Terminal, is_star, string_terminal, At, OpName}
+use Rattle.std.specs.Prelude.{ℕ, ℤ, pos, negsuc, Bool, List, [], ◌∷◌, map, Option, Some, None, option_map, if◌then◌else◌}
+use Rattle.syntax_why.specs.Common.{Terminal, is_star, string_terminal, At, OpName}
 use Rattle.tokens_why.specs.declared.terminal.Terminal.TheVariants as t
 use Rattle.syntax_why.specs.declared.names.Style.{Style}
 use Rattle.syntax_why.specs.declared.names.Style.TheVariants as style

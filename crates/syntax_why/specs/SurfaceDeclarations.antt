@@ -1,5 +1,6 @@
 -- The plain trees of surface trees: declarations, theories and files, with the places that they carry.
-use Rattle.syntax_why.specs.Common.{ℕ, List, [], ◌∷◌, map, option_map, At, Name, OpName}
+use Rattle.std.specs.Prelude.{ℕ, List, [], ◌∷◌, map, option_map}
+use Rattle.syntax_why.specs.Common.{At, Name, OpName}
 use Rattle.syntax_why.specs.declared.names.Style.TheVariants.{Plain}
 use Rattle.syntax_why.specs.declared.declarations.ParamTree.{ParamTree}
 use Rattle.syntax_why.specs.declared.declarations.MemberTree.{MemberTree}

@@ -1,5 +1,6 @@
 -- Terms and formulas, their tokens, the level rule, and where their parts stand.
-use Rattle.syntax_why.specs.Common.{ℕ, ◌+◌, ◌≡◌, ◌≤◌, Bool, true, false, List, [], ◌∷◌, ◌++◌, Option, Some, None, ⊤, Terminal, prec, need, right, is_infix, is_prefix, is_operator, At, Name}
+use Rattle.std.specs.Prelude.{ℕ, ◌+◌, ◌≡◌, ◌≤◌, Bool, true, false, List, [], ◌∷◌, ◌++◌, Option, Some, None}
+use Rattle.syntax_why.specs.Common.{⊤, Terminal, prec, need, right, is_infix, is_prefix, is_operator, At, Name}
 use Rattle.tokens_why.specs.declared.terminal.Terminal.TheVariants as t
 use Rattle.syntax_why.specs.Lexeme.{Lexeme, Word, at, lx, mark}
 use Rattle.syntax_why.specs.Forms.{AreForms, Called, Form, Forms, IsForm, IsPlaced, Own, PlacedList, form_list, infix_op, more_forms, no_forms, past, patterns, prefix_op, types, write_called, write_form}

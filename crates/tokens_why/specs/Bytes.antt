@@ -1,5 +1,6 @@
 -- Classes of bytes, letters and digits those of ASCII.
-use Rattle.tokens_why.specs.Common.{ℕ, Bool, not, ◌&&◌, ◌||◌, nat_eq, nat_le, List, codes, list_any}
+use Rattle.std.specs.Prelude.{ℕ, Bool, not, ◌&&◌, ◌||◌, nat_eq, nat_le, List, codes}
+use Rattle.tokens_why.specs.Common.{list_any}
 
 abbrev pub is_between : ℕ → ℕ → ℕ → Bool
 is_between low high b = nat_le low b && nat_le b high

@@ -1,7 +1,7 @@
 -- The names that most definitions and contracts cite, passed on from one place. Declares nothing.
 pub use Rattle.std.proofs.Common.{get_or}
 pub use Rattle.std.specs.List.{list_all, list_any, prefix_len}
-pub use Rattle.std.specs.Prelude.{suc, false, ◌&&◌, if◌then◌else◌, slice_range, true, zero, map, take, None, unwrap_or, ◌*◌, ℕ, ◌∷◌, [], option_map, Bool, ◌||◌, ◌-◌, ◌^◌, ◌↔◌, codes, MatchOption, Ok, length, Some, Err, IfOk, drop, nat_le, ◌+◌, ◌<◌, ◌≡◌, Option, List, ◌≤◌, IsOkAnd, nat_lt, not, Result, MatchBool, nat_eq}
+pub use Rattle.std.specs.Prelude.{false, true, ℕ, Bool, codes, List}
 pub use Rattle.tokens_why.specs.declared.fault.LexFault.TheVariants.{BigLiteral, Lexical}
 pub use Rattle.tokens_why.specs.declared.terminal.Terminal.{Terminal}
 pub use Rattle.tokens_why.specs.declared.token.Token.{Token}

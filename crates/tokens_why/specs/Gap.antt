@@ -1,5 +1,6 @@
 -- What may stand between tokens: blanks, comments and attributes.
-use Rattle.tokens_why.specs.Common.{ℕ, zero, suc, ◌+◌, Bool, not, ◌&&◌, nat_eq, nat_lt, List, [], ◌∷◌, length, drop, Option, Some, None, option_map, unwrap_or, if◌then◌else◌, get_or, prefix_len}
+use Rattle.std.specs.Prelude.{ℕ, zero, suc, ◌+◌, Bool, not, ◌&&◌, nat_eq, nat_lt, List, [], ◌∷◌, length, drop, Option, Some, None, option_map, unwrap_or, if◌then◌else◌}
+use Rattle.tokens_why.specs.Common.{get_or, prefix_len}
 use Rattle.tokens_why.specs.Bytes.{is_blank, is_no_bracket}
 
 -- the byte at a place, and no byte behind the end

@@ -1,5 +1,6 @@
 -- Integer literals, decimal or behind `0x`, `0o`, `0b`, and their values.
-use Rattle.tokens_why.specs.Common.{ℕ, ◌+◌, ◌-◌, ◌*◌, ◌^◌, Bool, false, ◌&&◌, ◌||◌, nat_eq, nat_lt, if◌then◌else◌, List, [], ◌∷◌, drop, get_or, list_all}
+use Rattle.std.specs.Prelude.{ℕ, ◌+◌, ◌-◌, ◌*◌, ◌^◌, Bool, false, ◌&&◌, ◌||◌, nat_eq, nat_lt, if◌then◌else◌, List, [], ◌∷◌, drop}
+use Rattle.tokens_why.specs.Common.{get_or, list_all}
 use Rattle.tokens_why.specs.Bytes.{is_between, is_digit}
 
 -- the value of a digit, letters of either case counting on from 10

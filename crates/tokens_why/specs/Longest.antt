@@ -1,5 +1,6 @@
 -- The longest string at the front of a text that is a token.
-use Rattle.tokens_why.specs.Common.{ℕ, ◌-◌, ◌<◌, ◌≤◌, ◌≡◌, ◌&&◌, nat_eq, List, length, take, drop, Some, None, if◌then◌else◌, Token, TokenKind}
+use Rattle.std.specs.Prelude.{ℕ, ◌-◌, ◌<◌, ◌≤◌, ◌≡◌, ◌&&◌, nat_eq, List, length, take, drop, Some, None, if◌then◌else◌}
+use Rattle.tokens_why.specs.Common.{Token, TokenKind}
 use Rattle.tokens_why.specs.Gap.{byte_in}
 use Rattle.tokens_why.specs.Literal.{is_digit_of, radix_of}
 use Rattle.tokens_why.specs.Strings.{kind_of}

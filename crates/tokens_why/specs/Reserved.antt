@@ -1,5 +1,6 @@
 -- The reserved words in ascending order, each with its terminal symbol.
-use Rattle.tokens_why.specs.Common.{ℕ, List, [], ◌∷◌, codes, map, Terminal}
+use Rattle.std.specs.Prelude.{ℕ, List, [], ◌∷◌, codes, map}
+use Rattle.tokens_why.specs.Common.{Terminal}
 use Rattle.tokens_why.specs.declared.terminal.Terminal.TheVariants as t
 
 abbrev pub reserved : List (List ℕ × Terminal)

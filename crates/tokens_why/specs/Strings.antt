@@ -1,5 +1,6 @@
 -- The strings of each kind of token (Why3 manual, "Lexical conventions").
-use Rattle.tokens_why.specs.Common.{ℕ, Bool, true, false, not, ◌&&◌, nat_eq, if◌then◌else◌, List, [], ◌∷◌, Option, Some, None, codes, list_any, list_all, place_of, same, TokenKind, Lident, Uident, Wild, TyVar, Int, StarName, LParen, RParen, LBrack, RBrack, LBrace, RBrace, Comma, Dot, Colon, Semi, Bar, Arrow, Equiv, Conj, AndAnd, Disj, OrOr, Equal, Minus, Operator, Reserved}
+use Rattle.std.specs.Prelude.{ℕ, Bool, true, false, not, ◌&&◌, nat_eq, if◌then◌else◌, List, [], ◌∷◌, Option, Some, None, codes}
+use Rattle.tokens_why.specs.Common.{list_any, list_all, place_of, same, TokenKind, Lident, Uident, Wild, TyVar, Int, StarName, LParen, RParen, LBrack, RBrack, LBrace, RBrace, Comma, Dot, Colon, Semi, Bar, Arrow, Equiv, Conj, AndAnd, Disj, OrOr, Equal, Minus, Operator, Reserved}
 use Rattle.tokens_why.specs.Bytes.{is_digit, is_upper, is_lower, is_letter, is_word_byte, is_one_of, is_operator_byte}
 use Rattle.tokens_why.specs.Literal.{is_literal}
 use Rattle.tokens_why.specs.Reserved.{reserved_words}

@@ -1,5 +1,6 @@
 -- What each kind of token is to the grammar.
-use Rattle.tokens_why.specs.Common.{ℕ, true, false, nat_eq, if◌then◌else◌, List, Option, Some, None, get_or, TokenKind, Terminal}
+use Rattle.std.specs.Prelude.{ℕ, true, false, nat_eq, if◌then◌else◌, List, Option, Some, None}
+use Rattle.tokens_why.specs.Common.{get_or, TokenKind, Terminal}
 use Rattle.tokens_why.specs.Reserved.{reserved_terminals}
 use Rattle.tokens_why.specs.Strings.{kind_of}
 use Rattle.tokens_why.specs.declared.token.TokenKind.TheVariants as k

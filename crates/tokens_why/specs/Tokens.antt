@@ -1,5 +1,6 @@
 -- The tokens of a text, or the least byte at which there is none.
-use Rattle.tokens_why.specs.Common.{ℕ, ◌<◌, ◌≤◌, ◌≡◌, false, ◌||◌, List, [], ◌∷◌, length, drop, slice_range, Some, None, Result, Ok, Err, Token, TokenKind}
+use Rattle.std.specs.Prelude.{ℕ, ◌<◌, ◌≤◌, ◌≡◌, false, ◌||◌, List, [], ◌∷◌, length, drop, slice_range, Some, None, Result, Ok, Err}
+use Rattle.tokens_why.specs.Common.{Token, TokenKind}
 use Rattle.std.specs.Bool.{⊤}
 use Rattle.tokens_why.specs.Gap.{opens_comment, opens_attribute, next}
 use Rattle.tokens_why.specs.Strings.{kind_of}

@@ -1,5 +1,6 @@
 // Classes of bytes, and the bytes at a place of a text.
-ghost use Rattle.tokens_why.specs.Common.{◌≡◌, ◌+◌, ◌<◌, ◌≤◌, ◌&&◌, nat_eq, length, drop, prefix_len};
+ghost use Rattle.std.specs.Prelude.{◌≡◌, ◌+◌, ◌<◌, ◌≤◌, ◌&&◌, nat_eq, length, drop};
+ghost use Rattle.tokens_why.specs.Common.{prefix_len};
 ghost use Rattle.tokens_why.specs.Bytes as spec;
 ghost use Rattle.tokens_why.specs.Classes.{is_in};
 ghost use Rattle.tokens_why.specs.Gap.{byte_in, has_pair};

@@ -1,5 +1,6 @@
 // The kinds of words and of runs of operator characters.
-ghost use Rattle.tokens_why.specs.Common.{◌≡◌, ◌<◌, length, list_any};
+ghost use Rattle.std.specs.Prelude.{◌≡◌, ◌<◌, length};
+ghost use Rattle.tokens_why.specs.Common.{list_any};
 ghost use Rattle.tokens_why.specs.Strings as spec;
 ghost use Rattle.tokens_why.specs.Reserved.{reserved_words};
 

@@ -1,5 +1,6 @@
 // The tokens of a whole text.
-ghost use Rattle.tokens_why.specs.Common.{◌≡◌, ◌<◌, ◌≤◌, ◌↔◌, ℕ, List, Err, length, MatchOption, MatchBool, IsOkAnd, Token, Lexical, BigLiteral};
+ghost use Rattle.std.specs.Prelude.{◌≡◌, ◌<◌, ◌≤◌, ◌↔◌, ℕ, List, Err, length, MatchOption, MatchBool, IsOkAnd};
+ghost use Rattle.tokens_why.specs.Common.{Token, Lexical, BigLiteral};
 ghost use Rattle.tokens_why.specs.Reserved.{reserved_words};
 ghost use Rattle.tokens_why.specs.Tokens.{AreTokens, BigLiteralAt, Begins, Exceeds, Fits, LexicalAt, NoneBegins, UnlessMemory};
 

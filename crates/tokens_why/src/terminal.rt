@@ -1,5 +1,6 @@
 // What a token is to the grammar: a terminal symbol.
-ghost use Rattle.tokens_why.specs.Common.{◌≡◌, map, IfOk, Operator, Reserved};
+ghost use Rattle.std.specs.Prelude.{◌≡◌, map, IfOk};
+ghost use Rattle.tokens_why.specs.Common.{Operator, Reserved};
 ghost use Rattle.tokens_why.specs.Terminals.{kind_by, terminal_of};
 
 use crate::token::TokenKind;
