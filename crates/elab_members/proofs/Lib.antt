@@ -1,2 +1,5 @@
 pub mod ParamsClosed
-pub mod SymbolsMade
+pub mod NamesMade
+pub mod MembersNamed
+pub mod MembersScoped
+pub mod SignaturesHeld

@@ -2,12 +2,7 @@
 use Rattle.std.proofs.Common.{◌≡◌, ℕ, true, false, List, [], ◌∷◌, ◌++◌, length, Option, Some, None, IfSome, option_map, refl, sym, ap, subst, ◌∙◌}
 use Rattle.std.specs.Option.{is_some}
 use Rattle.trees.specs.Tree.{Tree}
-use Rattle.trees.specs.Node.{Grows}
 use Rattle.trees.specs.Facts.{TyVarsBelow}
-use Rattle.tasks.specs.Task.{SymbolTree}
-use Rattle.tasks.specs.Meaning.{symbols_at}
-use Rattle.tasks.specs.declared.signature.Signature.{Signature}
-use Rattle.names_space.specs.Names.{Names}
 use Rattle.syntax_why.specs.Lexeme.{Word}
 use Rattle.elab_names.specs.Abstract.{Form, Binder, quantified, truth, none}
 use Rattle.elab_names.specs.declared.NamingFault.{NamingFault}
@@ -21,11 +16,7 @@ use Rattle.elab_walk.proofs.Below.{AreBelow, form_below, both_all}
 use Rattle.elab_walk.proofs.Walking.{none_both}
 use Rattle.elab_parts.specs.Elaborated.{unseen}
 use Rattle.elab_parts.specs.Declarations.{Called, Parameter, words, params_seen, params_fault, with_vars}
-use Rattle.elab_parts.specs.Entries.{IsSignature, IsExtended, AreScopes}
-use Rattle.elab_parts.specs.Outcomes.{over}
-use Rattle.elab_parts.proofs.Alike.{binders_alike}
-use Rattle.elab_parts.proofs.Tupled.{alike_extended, scoped_extended}
-use Rattle.elab_members.specs.Symbols.{copies, parameter_types, symbol_seen}
+use Rattle.elab_members.specs.Members.{copies, parameter_types, signature_seen}
 
 -- parameters and a result as the binders of a formula
 abbrev pub as_binder : Parameter → Binder
@@ -53,10 +44,10 @@ bound_seen (p ∷ ps) r s = bound_seen ps r (form_seen s p.of_type)
 
 -- under a quantifier
 pub signature_closed : (w : Where) (ps : List Parameter) (r : Option Form) → first_of (params_fault w ps) (type_fault w true r) ≡ None
-    → binders_fault (with_vars w (symbol_seen ps r).vars) false (as_binders ps r) ≡ None
+    → binders_fault (with_vars w (signature_seen ps r).vars) false (as_binders ps r) ≡ None
 signature_closed w ps r h =
     let bs = as_binders ps r in
-    let vs = (symbol_seen ps r).vars in
+    let vs = (signature_seen ps r).vars in
     let open_fault : fault w true [] true (quantified 0 true bs none (truth 0)) ≡ None = first_alone (binders_fault w true bs) ∙ sym (bound_fault w ps r) ∙ h in
     let within : AreIn (seen unseen (quantified 0 true bs none (truth 0))).vars vs = λ v m. subst (λ (s : Seen). is_some (place_of v s.vars) ≡ true) (bound_seen ps r unseen) m in
     sym (first_alone (binders_fault (with_vars w vs) false bs)) ∙ closed w vs (quantified 0 true bs none (truth 0)) unseen [] true open_fault within
@@ -77,22 +68,3 @@ module _ (w : Where) (sc : IsScoped w) where
   result_below [] None h = tt
   result_below [] (Some f) h = form_below w sc f (none_both (form_fault w false f) None h).0
   result_below (p ∷ ps) r h = result_below ps r (none_both (form_fault w false p.of_type) (binders_fault w false (as_binders ps r)) h).1
-
--- where the tuples of the declaration are entered
-module _ (s s1 : List Tree) (grows : Grows s s1) (a b : Signature) (more : List SymbolTree) (names : Names) (sig : IsSignature s a.symbols) (scopes : AreScopes s (length a.symbols) names) (ext : IsExtended s a s1 b more) (ps : List Parameter) (r : Option Form)
-    (right : first_of (params_fault (over s (symbols_at s a.symbols) names []) ps) (type_fault (over s (symbols_at s a.symbols) names []) true r) ≡ None) where
-  abbrev vars : List Word
-  vars = (symbol_seen ps r).vars
-
-  abbrev inside : Where
-  inside = over s (symbols_at s a.symbols ++ more) names vars
-
-  closed_inside : binders_fault inside false (as_binders ps r) ≡ None
-  closed_inside =
-      sym (binders_alike (over s (symbols_at s a.symbols) names vars) inside (alike_extended s s1 grows a b more names sig scopes ext vars).forms false (as_binders ps r)) ∙ signature_closed (over s (symbols_at s a.symbols) names []) ps r right
-
-  pub args_within : AreBelow (length vars) (parameter_types inside ps)
-  args_within = params_below inside (scoped_extended s s1 grows a b more names sig scopes ext vars) ps r closed_inside
-
-  pub result_within : IfSome (option_map (type_at inside) r) (TyVarsBelow (length vars))
-  result_within = result_below inside (scoped_extended s s1 grows a b more names sig scopes ext vars) ps r closed_inside

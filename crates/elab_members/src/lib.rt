@@ -1,7 +1,11 @@
-//! The elaboration of functions, predicates and constants without a definition.
-//! It depends on the parts of elaboration; the elaboration of declarations depends on it.
+//! The members of a group of functions, predicates and constants: the names that they make and use, their signatures and entries.
 #![tactic(auto)]
 
-mod symbols;
+mod naming;
+mod params;
+mod signing;
+mod sources;
 
-pub use symbols::elaborate_symbol;
+pub use naming::{check_members, declare_members, over_vars, push_param_names};
+pub use signing::{Signatures, Signed, push_group};
+pub use sources::{MemberSource, enter_members, gather_members};

@@ -1,6 +1,6 @@
--- Symbols that stand alone in their group, without a definition.
-use Rattle.std.proofs.Common.{◌≡◌, List, [], ◌∷◌, Option, Some, None, option_map, refl, map}
-use Rattle.std.specs.Prelude.{IsSomeAnd}
+-- Groups of functions, predicates and constants: what is covered, and what they are in abstract syntax.
+use Rattle.std.proofs.Common.{◌≡◌, Bool, true, false, List, [], ◌∷◌, Option, Some, None, option_map, refl, map, ap}
+use Rattle.std.specs.Prelude.{IsSomeAnd, IsTrue}
 use Rattle.syntax_why.specs.declared.names.At.{At}
 use Rattle.syntax_why.specs.declared.names.OpName.{OpName}
 use Rattle.syntax_why.specs.declared.types.TypeTree.{TypeTree}
@@ -10,41 +10,41 @@ use Rattle.syntax_why.specs.declared.declarations.MemberTree.{MemberTree}
 use Rattle.syntax_why.specs.Declarations.{Decl, function_decl, predicate_decl, constant_decl}
 use Rattle.syntax_why.specs.Surface.{form_of, tree_of}
 use Rattle.syntax_why.specs.SurfaceDeclarations.{declared_name, param_of, member_of}
-use Rattle.elab_parts.specs.Declarations.{declaration, members}
-use Rattle.elab_members.specs.Symbols.{abstract_member}
+use Rattle.elab_parts.specs.Declarations.{Member, declaration, members}
+use Rattle.elab_groups.specs.Bodies.{AreDefined, IsWhole}
+use Rattle.elab_terms.specs.Heads.{first_member, other_members, is_whole}
 use Rattle.elab_terms.specs.Outcomes.{IsCovered}
 
 abbrev pub Covered : Decl → Type 0
 Covered d = IsSomeAnd (declaration d) IsCovered
 
-pub function_covered : (a : At) (n : OpName) (ps : List ParamTree) (t : TypeTree) (b : Option Expr) (ms : List MemberTree) → Covered (function_decl a (declared_name n) (map param_of ps) (form_of t) (option_map tree_of b) (map member_of ms))
-    → declaration (function_decl a (declared_name n) (map param_of ps) (form_of t) (option_map tree_of b) (map member_of ms)) ≡ Some (members (abstract_member n ps (Some t) ∷ []))
-function_covered a n ps t None [] h = refl
-function_covered a n ps t (Some e) [] h = absurd (cc)
-function_covered a n ps t b (m ∷ ms) h = absurd h
+-- ---- in abstract syntax
+pub function_members : (a : At) (n : OpName) (ps : List ParamTree) (t : TypeTree) (b : Option Expr) (ms : List MemberTree)
+    → declaration (function_decl a (declared_name n) (map param_of ps) (form_of t) (option_map tree_of b) (map member_of ms)) ≡ Some (members (first_member n ps (Some t) b ∷ other_members ms))
+function_members a n ps t None ms = refl
+function_members a n ps t (Some e) ms = refl
 
-pub predicate_covered : (a : At) (n : OpName) (ps : List ParamTree) (b : Option Expr) (ms : List MemberTree) → Covered (predicate_decl a (declared_name n) (map param_of ps) (option_map tree_of b) (map member_of ms))
-    → declaration (predicate_decl a (declared_name n) (map param_of ps) (option_map tree_of b) (map member_of ms)) ≡ Some (members (abstract_member n ps None ∷ []))
-predicate_covered a n ps None [] h = refl
-predicate_covered a n ps (Some e) [] h = absurd (cc)
-predicate_covered a n ps b (m ∷ ms) h = absurd h
+pub predicate_members : (a : At) (n : OpName) (ps : List ParamTree) (b : Option Expr) (ms : List MemberTree)
+    → declaration (predicate_decl a (declared_name n) (map param_of ps) (option_map tree_of b) (map member_of ms)) ≡ Some (members (first_member n ps None b ∷ other_members ms))
+predicate_members a n ps None ms = refl
+predicate_members a n ps (Some e) ms = refl
 
-pub constant_covered : (a : At) (n : OpName) (t : TypeTree) (b : Option Expr) → Covered (constant_decl a (declared_name n) (form_of t) (option_map tree_of b))
-    → declaration (constant_decl a (declared_name n) (form_of t) (option_map tree_of b)) ≡ Some (members (abstract_member n [] (Some t) ∷ []))
-constant_covered a n t None h = refl
-constant_covered a n t (Some e) h = absurd (cc)
+pub constant_members : (a : At) (n : OpName) (t : TypeTree) (b : Option Expr)
+    → declaration (constant_decl a (declared_name n) (form_of t) (option_map tree_of b)) ≡ Some (members (first_member n [] (Some t) b ∷ []))
+constant_members a n t None = refl
+constant_members a n t (Some e) = refl
 
--- the same the other way round: what is covered has no definition and no other members
-pub function_alone : (a : At) (n : OpName) (ps : List ParamTree) (t : TypeTree) (b : Option Expr) (ms : List MemberTree) → Covered (function_decl a (declared_name n) (map param_of ps) (form_of t) (option_map tree_of b) (map member_of ms)) → (b ≡ None) × (ms ≡ [])
-function_alone a n ps t None [] h = (refl, refl)
-function_alone a n ps t (Some e) [] h = absurd (cc)
-function_alone a n ps t b (m ∷ ms) h = absurd h
+-- ---- those behind `with` have definitions
+others_defined : (ms : List MemberTree) → AreDefined (other_members ms)
+others_defined [] = tt
+others_defined (m ∷ ms) = (refl, others_defined ms)
 
-pub predicate_alone : (a : At) (n : OpName) (ps : List ParamTree) (b : Option Expr) (ms : List MemberTree) → Covered (predicate_decl a (declared_name n) (map param_of ps) (option_map tree_of b) (map member_of ms)) → (b ≡ None) × (ms ≡ [])
-predicate_alone a n ps None [] h = (refl, refl)
-predicate_alone a n ps (Some e) [] h = absurd (cc)
-predicate_alone a n ps b (m ∷ ms) h = absurd h
+pub whole : (n : OpName) (ps : List ParamTree) (t : Option TypeTree) (b : Option Expr) (ms : List MemberTree) → is_whole b ms ≡ true → IsWhole (first_member n ps t b ∷ other_members ms)
+whole n ps t b [] h = tt
+whole n ps t (Some e) (m ∷ ms) h = (refl, others_defined (m ∷ ms))
+whole n ps t None (m ∷ ms) h = absurd (cc)
 
-pub constant_alone : (a : At) (n : OpName) (t : TypeTree) (b : Option Expr) → Covered (constant_decl a (declared_name n) (form_of t) (option_map tree_of b)) → b ≡ None
-constant_alone a n t None h = refl
-constant_alone a n t (Some e) h = absurd (cc)
+pub only_whole : (n : OpName) (ps : List ParamTree) (t : Option TypeTree) (b : Option Expr) (ms : List MemberTree) → IsWhole (first_member n ps t b ∷ other_members ms) → is_whole b ms ≡ true
+only_whole n ps t (Some e) ms h = refl
+only_whole n ps t None [] h = refl
+only_whole n ps t None (m ∷ ms) h = absurd (cc (h.0))

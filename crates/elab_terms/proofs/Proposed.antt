@@ -55,14 +55,14 @@ module _ (p : Place) (s : List Tree) (g : Signature) (names : Names) (k : PropKi
   used_kept = ap (λ (w : Where). fault w true [] true e) (over_kept s (symbols_at s g.symbols) x.name (stands.Entry p.decl) names [])
 
   pub name_refusal : (f : NamingFault) → IsNameRefused (declared_in names Propositions x.name) x.at f → IsRefusal (setting p s g names) (proposition k x e) (named p.decl f)
-  name_refusal f h = made_refusal p.decl (rigid_of (proposition k x e)) (notes_of c (proposition k x e)) made_here used_here f (name_refused (declared_in names Propositions x.name) x.at f None h)
+  name_refusal f h = made_refusal p.decl (rigid_of c (proposition k x e)) (notes_of c (proposition k x e)) made_here used_here f (name_refused (declared_in names Propositions x.name) x.at f None h)
 
   module _ (free : declared_in names Propositions x.name ≡ false) where
     made_free : made_fault (declared_in names) [] (made_by (proposition k x e)) ≡ None
     made_free = name_free (declared_in names Propositions x.name) x.at None free
 
     pub use_refusal : (f : NamingFault) → Tells (Err f) (fault (around (setting p s g (named_after p names x.name)) []) true [] true e) → IsRefusal (setting p s g names) (proposition k x e) (named p.decl f)
-    use_refusal f h = used_refusal p.decl (rigid_of (proposition k x e)) (notes_of c (proposition k x e)) made_here used_here f made_free (subst (λ (m : Option NamingFault). Tells (Err f) m) used_kept h)
+    use_refusal f h = used_refusal p.decl (rigid_of c (proposition k x e)) (notes_of c (proposition k x e)) made_here used_here f made_free (subst (λ (m : Option NamingFault). Tells (Err f) m) used_kept h)
 
     module _ (right : fault (around (setting p s g (named_after p names x.name)) []) true [] true e ≡ None) where
       all_named : names_fault (setting p s g names) (proposition k x e) ≡ None
@@ -70,7 +70,7 @@ module _ (p : Place) (s : List Tree) (g : Signature) (names : Names) (k : PropKi
 
       pub type_refusal : (f : TypingFault) → IsTypingFault (length (proposition_seen e).vars) (proposition_piece (setting p s g (named_after p names x.name)) e).notes f
           → IsRefusal (setting p s g names) (proposition k x e) (typed p.decl f)
-      type_refusal f h = typing_refusal p.decl (rigid_of (proposition k x e)) (notes_of c (proposition k x e)) (names_fault c (proposition k x e)) f all_named (subst (λ (q : Piece). IsTypingFault (length (proposition_seen e).vars) q.notes f) piece_kept h)
+      type_refusal f h = typing_refusal p.decl (rigid_of c (proposition k x e)) (notes_of c (proposition k x e)) (names_fault c (proposition k x e)) f all_named (subst (λ (q : Piece). IsTypingFault (length (proposition_seen e).vars) q.notes f) piece_kept h)
 
       pub elaborated : (s' : List Tree) (g' : Signature) (made : Elaborated) → IsTypedProposition p s g (named_after p names x.name) k x.name e s' g' made
           → IsElaborated (setting p s g names) (proposition k x e) g s' g' (named_after p names x.name) made

@@ -26,8 +26,10 @@ use Rattle.elab_parts.specs.declared.made.Elaborated.{Elaborated}
 use Rattle.elab_parts.specs.declared.made.Place.{Place}
 use Rattle.elab_parts.specs.Elaborated.{IsSolved, unseen}
 use Rattle.elab_parts.specs.Entries.{type_entry, wanting_tuples, IsExtended}
-use Rattle.elab_parts.specs.Declarations.{Called, Declaration, abstract_type, alias, members, proposition, words, made_by, made_fault}
-use Rattle.elab_members.specs.Symbols.{symbol_outcome, signature_fault}
+use Rattle.elab_parts.specs.Declarations.{Called, Declaration, abstract_type, alias, algebraic, members, proposition, words, made_by, made_fault, types_fault}
+use Rattle.elab_types.specs.Algebraics.{inside, group_outcome}
+use Rattle.elab_groups.specs.Bodies.{IsWhole}
+use Rattle.elab_groups.specs.Groups.{IsGroup, group_used, group_notes, group_signatures, most_variables}
 use Rattle.elab_parts.specs.Outcomes.{Setting, Outcome, over, around, tuples_wanting, tupled, full_name, declared_in, setting, IsRefusalFor, IsElaboratedAs}
 
 -- ---- a type symbol without a definition
@@ -108,21 +110,24 @@ abbrev pub IsCovered : Declaration → Type 0
 IsCovered (abstract_type x vs) = Unit {0}
 IsCovered (alias x vs f) = Unit {0}
 IsCovered (proposition k x e) = Unit {0}
-IsCovered (members (m ∷ [])) = m.body ≡ None
+IsCovered (algebraic ts) = Unit {0}
+IsCovered (members ms) = IsWhole ms
 IsCovered _ = ⊥
 
 abbrev pub IsOutcome : Setting → List Tree → Declaration → Outcome → Type 0
 IsOutcome c s' (abstract_type x vs) o = o ≡ type_outcome c x (length vs)
 IsOutcome c s' (alias x vs f) o = IsAlias c s' x vs f o
 IsOutcome c s' (proposition k x e) o = IsProposition c k x e o
-IsOutcome c s' (members (m ∷ [])) o = o ≡ symbol_outcome c m
+IsOutcome c s' (algebraic ts) o = o ≡ group_outcome c ts
+IsOutcome c s' (members ms) o = IsGroup c ms o
 IsOutcome c s' _ o = ⊥
 
 -- the first fault of the names that it uses
 abbrev pub used_fault : Setting → Declaration → Option NamingFault
 used_fault c (alias x vs f) = form_fault (around c (words vs)) false f
 used_fault c (proposition k x e) = fault (around c []) true [] true e
-used_fault c (members (m ∷ [])) = signature_fault (around c []) m
+used_fault c (algebraic ts) = types_fault (inside c ts) ts
+used_fault c (members ms) = group_used c ms
 used_fault c _ = None
 
 -- of those that it makes, and then of those that it uses
@@ -132,15 +137,17 @@ names_fault c d = first_of (made_fault (declared_in c.scope) [] (made_by d)) (us
 -- the notes of its type equations, and the number of its own type variables
 abbrev pub notes_of : Setting → Declaration → Notes
 notes_of c (proposition k x e) = (proposition_piece c e).notes
+notes_of c (members ms) = group_notes c ms
 notes_of c _ = nothing
 
-abbrev pub rigid_of : Declaration → ℕ
-rigid_of (proposition k x e) = length (proposition_seen e).vars
-rigid_of _ = 0
+abbrev pub rigid_of : Setting → Declaration → ℕ
+rigid_of c (proposition k x e) = length (proposition_seen e).vars
+rigid_of c (members ms) = most_variables (group_signatures c ms)
+rigid_of c _ = 0
 
 -- its first fault
 abbrev pub IsRefusal : Setting → Declaration → ElabFault → Type 0
-IsRefusal c d f = IsRefusalFor c.decl (names_fault c d) (rigid_of d) (notes_of c d) f
+IsRefusal c d f = IsRefusalFor c.decl (names_fault c d) (rigid_of c d) (notes_of c d) f
 
 -- it is elaborated
 abbrev pub IsElaborated : Setting → Declaration → Signature → List Tree → Signature → Names → Elaborated → Type 0

@@ -1,34 +1,84 @@
 // Elaboration: the declarations, entries, names and matches of a declaration, or its first fault.
-// It stands on each kind of declaration; theories stand on it.
 ghost use Rattle.std.specs.Prelude.{◌≡◌, ◌∷◌, ℕ, List, [], None, length, IsTrue, IsSomeAnd, IfSome, IfOk, IfErr};
+ghost use Rattle.std.specs.Option.{option_copied};
 ghost use Rattle.trees.specs.Tree.{Tree};
 ghost use Rattle.names_space.specs.Names.{start};
 ghost use Rattle.trees.specs.Node.{Grows};
 ghost use Rattle.syntax_why.specs.SurfaceDeclarations.{decl_of};
 ghost use Rattle.tasks.specs.Task.{int_symbol};
 ghost use Rattle.tasks.specs.Meaning.{symbols_at};
-ghost use Rattle.elab_parts.specs.Declarations.{declaration};
+ghost use Rattle.elab_parts.specs.Declarations.{declaration, members};
 ghost use Rattle.elab_parts.specs.Entries.{IsSignature, AreScopes};
-ghost use Rattle.elab_parts.specs.Outcomes.{standing, IsKept};
+ghost use Rattle.elab_parts.specs.Outcomes.{setting, standing, IsKept};
+ghost use Rattle.elab_members.specs.Sources.{member_at};
+ghost use Rattle.elab_groups.specs.Bodies.{IsWhole};
 ghost use Rattle.elab_terms.specs.Outcomes.{IsCovered, IsElaborated, IsRefusal};
+ghost use Rattle.elab_terms.specs.Heads.{first_member, other_members, is_whole};
 
 use crate::propositions::elaborate_proposition;
 use crate::types::elaborate_type_declaration;
-use elab_members::elaborate_symbol;
+use elab_groups::elaborate_group;
+use elab_members::{MemberSource, gather_members};
 use elab_parts::{ElabFault, Elaborated, Place};
+use elab_types::elaborate_algebraic;
 use names_space::Scope;
 use outside::{Seq, Text};
 use std::alloc::{AllocError, Global};
-use syntax_why::{DeclNode, DeclTree, Expr, MemberTree};
+use syntax_why::{DeclNode, DeclTree, Expr, MemberTree, OpName, ParamTree, TypeTree};
 use tasks::{Signature, SymbolInfo, SymbolKind};
 use term_store::Store;
 
+// The first member of a group.
+fn head_member<'a>(
+    name: &'a OpName,
+    params: &'a [ParamTree],
+    of_type: Option<&'a TypeTree>,
+    body: &'a Option<Expr>,
+) -> MemberSource<'a>
+    ensures { member_at result ≡ first_member name.now params.now
+        (option_copied of_type.entry) body.now }
+{
+    MemberSource {
+        name,
+        params,
+        result: of_type,
+        body: body.as_ref(),
+    }
+}
+
+// A group of a member and those behind `with`.
+fn elaborate_members(
+    alloc: Global,
+    store: &mut Store,
+    sig: &mut Signature,
+    scope: &mut Scope,
+    place: &Place<'_>,
+    first: MemberSource<'_>,
+    others: &[MemberTree],
+) -> Result<Elaborated, ElabFault>
+    requires signature { IsSignature store.old sig.old.symbols }
+    requires scopes { AreScopes store.old (length sig.old.symbols) scope.old }
+    requires whole { IsWhole (member_at first ∷ other_members others.now) }
+    ensures ok { IfOk result (IsElaborated (setting place.now store.old sig.old scope.old)
+        (members (member_at first.entry ∷ other_members others.now)) sig.old store.new sig.new scope.new) }
+    ensures kept { IfOk result (IsKept store.new sig.new scope.new) }
+    ensures err { IfErr result (IsRefusal (setting place.now store.old sig.old scope.old)
+        (members (member_at first.entry ∷ other_members others.now))) }
+    ensures grows { Grows store.old store.new }
+{
+    let mut list = Vec::new(alloc);
+    list.push(first)?;
+    gather_members(&mut list, others)?;
+    elaborate_group(alloc, store, sig, scope, place, list.as_slice())
+}
+
 /// The declarations, the entries, the names and the matches of a declaration, or its first fault. `theory` is the path of its
 /// theory, `within` has the names of the open scopes, each followed by a dot, and `at` is its number, which faults carry. It is
-/// a type, a function, a predicate or a constant without a definition, an alias or a proposition.
+/// a type without a definition, an alias, a group of algebraic types, a proposition, or a group of functions, predicates and
+/// constants.
 ///
 /// After `Ok` the signature has its earlier entries, then those of the tuples of new widths by first appearance, of what the
-/// declaration makes, and of the type variables of a lemma or a goal; the innermost scope has the name that it makes. After a
+/// declaration makes, and of the type variables of a lemma or a goal; the innermost scope has the names that it makes. After a
 /// refusal the signature and the scope are used no more.
 pub fn elaborate(
     alloc: Global,
@@ -64,25 +114,25 @@ pub fn elaborate(
         DeclNode::Prop(kind, name, e) => {
             elaborate_proposition(alloc, store, sig, scope, &place, *kind, name, e)
         }
-        DeclNode::Algebraic(_) => unreachable!(),
-        DeclNode::Function(name, params, ty, _, _) => {
+        DeclNode::Algebraic(types) => {
+            let types = types.as_slice();
+            elaborate_algebraic(alloc, store, sig, scope, &place, types)
+        }
+        DeclNode::Function(name, params, ty, body, others) => {
             let params = params.as_slice();
-            elaborate_symbol(alloc, store, sig, scope, &place, name, params, Some(ty))
+            let others = others.as_slice();
+            let first = head_member(name, params, Some(ty), body);
+            elaborate_members(alloc, store, sig, scope, &place, first, others)
         }
-        DeclNode::Predicate(name, params, _, _) => {
-            elaborate_symbol(
-                alloc,
-                store,
-                sig,
-                scope,
-                &place,
-                name,
-                params.as_slice(),
-                None,
-            )
+        DeclNode::Predicate(name, params, body, others) => {
+            let params = params.as_slice();
+            let others = others.as_slice();
+            let first = head_member(name, params, None, body);
+            elaborate_members(alloc, store, sig, scope, &place, first, others)
         }
-        DeclNode::Constant(name, ty, _) => {
-            elaborate_symbol(alloc, store, sig, scope, &place, name, &[], Some(ty))
+        DeclNode::Constant(name, ty, body) => {
+            let first = head_member(name, &[], Some(ty), body);
+            elaborate_members(alloc, store, sig, scope, &place, first, &[])
         }
         DeclNode::Inductive(_) => unreachable!(),
         DeclNode::UseTheory(_, _, _) => unreachable!(),
@@ -121,12 +171,11 @@ pub fn no_names(scope: &Scope)
     let _ = scope;
 }
 
-// Whether a symbol has no definition and no other members in its group.
-fn is_alone(body: &Option<Expr>, members: &[MemberTree]) -> bool
-    ensures only { IsTrue result → (body.now ≡ None) × (members.now ≡ []) }
-    ensures all { (body.now ≡ None) × (members.now ≡ []) → IsTrue result }
+// Whether a member has a definition, or no others behind it.
+fn is_whole(body: &Option<Expr>, others: &[MemberTree]) -> bool
+    ensures { result ≡ is_whole body.now others.now }
 {
-    body.is_none() && members.is_empty()
+    body.is_some() || others.is_empty()
 }
 
 /// Whether a declaration is of a form that `elaborate` takes.
@@ -137,10 +186,10 @@ pub fn is_covered(decl: &DeclTree) -> bool
     match &decl.node {
         DeclNode::TypeDecl(_, _, _) => true,
         DeclNode::Prop(_, _, _) => true,
-        DeclNode::Function(_, _, _, body, members) => is_alone(body, members.as_slice()),
-        DeclNode::Predicate(_, _, body, members) => is_alone(body, members.as_slice()),
-        DeclNode::Constant(_, _, body) => is_alone(body, &[]),
-        DeclNode::Algebraic(_) => false,
+        DeclNode::Function(_, _, _, body, others) => is_whole(body, others.as_slice()),
+        DeclNode::Predicate(_, _, body, others) => is_whole(body, others.as_slice()),
+        DeclNode::Constant(_, _, _) => true,
+        DeclNode::Algebraic(_) => true,
         DeclNode::Inductive(_) => false,
         DeclNode::UseTheory(_, _, _) => false,
         DeclNode::CloneTheory(_, _, _, _) => false,

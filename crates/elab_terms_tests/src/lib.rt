@@ -5,6 +5,8 @@
 #[cfg(test)]
 mod answers;
 #[cfg(test)]
+mod groups;
+#[cfg(test)]
 mod propositions;
 #[cfg(test)]
 mod symbols;

@@ -1,11 +1,11 @@
-// Types without a definition, and aliases.
+// Types without a definition, aliases, and groups of algebraic types.
 // They depend on the answers; nothing depends on them.
 use crate::answers::Answer::{self, Made, Refused};
 use crate::answers::compare;
 use elab_terms::ElabFault as Fault;
 
 // The signature begins with `int`. The entries of a pair are its type, its constructor and two projections.
-static ROWS: [(&str, Answer); 20] = [
+static ROWS: [(&str, Answer); 24] = [
     ("theory T type t end", Made(2, 1, 0, 0)),
     ("theory T type t 'a 'b end", Made(2, 1, 0, 0)),
     ("theory T type t type u 'a end", Made(3, 1, 0, 0)),
@@ -26,6 +26,19 @@ static ROWS: [(&str, Answer); 20] = [
         Made(10, 0, 0, 0),
     ),
     ("theory T type int = int end", Made(1, 0, 0, 0)),
+    ("theory T type t = A | B int end", Made(5, 1, 0, 0)),
+    (
+        "theory T type t 'a = N | C 'a (t 'a) with u = D (t u) end",
+        Made(9, 1, 0, 0),
+    ),
+    (
+        "theory T type t = A | B predicate p (x: t) = match x with A -> true | B -> false end end",
+        Made(5, 1, 0, 1),
+    ),
+    (
+        "theory T type t = A | A end",
+        Refused(Fault::Duplicate { decl: 1, token: 7 }),
+    ),
     (
         "theory T type t type t end",
         Refused(Fault::Duplicate { decl: 2, token: 5 }),

@@ -1,0 +1,23 @@
+use Rattle.std.proofs.Common.{◌≡◌, List, [], ◌∷◌, IfOk, IfErr, ap, subst, ◌∙◌}
+use Rattle.elab_parts.specs.Declarations.{Member, members}
+use Rattle.elab_parts.specs.Outcomes.{setting}
+use Rattle.elab_members.specs.Sources.{member_at, members_at}
+use Rattle.elab_terms.specs.Heads.{other_members}
+use Rattle.elab_terms.specs.Outcomes.{IsElaborated, IsRefusal}
+use Rattle.elab_terms.proofs.declarations.elaborate_members.Goals as goal
+
+pub returns-clause-ok : goal.returns-clause-ok
+returns-clause-ok c =
+    let heads : List Member = member_at c.args.first ∷ other_members c.args.others.now in
+    let q : members_at c.as_slice.result.now ≡ heads = ap members_at c.as_slice.ensures.value ∙ (rw (c.in_ok-push.ensures.items, c.new-list.ensures.items) at c.in_ok-gather_members.ensures) in
+    let st = setting c.args.place.now c.args.store.now c.args.sig.now c.args.scope.now in
+    let P : List Member → Type 0 = λ ms. IfOk c.elaborate_group.result (IsElaborated st (members ms) c.args.sig.now c.elaborate_group.new.store c.elaborate_group.new.sig c.elaborate_group.new.scope) in
+    subst P q c.elaborate_group.ensures.ok
+
+pub returns-clause-err : goal.returns-clause-err
+returns-clause-err c =
+    let heads : List Member = member_at c.args.first ∷ other_members c.args.others.now in
+    let q : members_at c.as_slice.result.now ≡ heads = ap members_at c.as_slice.ensures.value ∙ (rw (c.in_ok-push.ensures.items, c.new-list.ensures.items) at c.in_ok-gather_members.ensures) in
+    let st = setting c.args.place.now c.args.store.now c.args.sig.now c.args.scope.now in
+    let P : List Member → Type 0 = λ ms. IfErr c.elaborate_group.result (IsRefusal st (members ms)) in
+    subst P q c.elaborate_group.ensures.err

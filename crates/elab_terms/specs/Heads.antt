@@ -1,0 +1,24 @@
+-- The groups of functions, predicates and constants of surface declarations.
+use Rattle.std.specs.Prelude.{Bool, true, false, List, [], ◌∷◌, map, Option, Some, None, option_map}
+use Rattle.syntax_why.specs.declared.names.OpName.{OpName}
+use Rattle.syntax_why.specs.declared.types.TypeTree.{TypeTree}
+use Rattle.syntax_why.specs.declared.expressions.Expr.{Expr}
+use Rattle.syntax_why.specs.declared.declarations.ParamTree.{ParamTree}
+use Rattle.syntax_why.specs.declared.declarations.MemberTree.{MemberTree}
+use Rattle.syntax_why.specs.SurfaceDeclarations.{declared_name, member_of}
+use Rattle.elab_names.specs.Abstract.{expression_of}
+use Rattle.elab_parts.specs.Declarations.{Member, symbol, member}
+use Rattle.elab_members.specs.Sources.{parameters_of, result_form}
+
+-- the first member of a group, and those behind `with`
+abbrev pub first_member : OpName → List ParamTree → Option TypeTree → Option Expr → Member
+first_member n ps t b = record { called = symbol (declared_name n); params = parameters_of ps; result = result_form t; body = option_map expression_of b }
+
+abbrev pub other_members : List MemberTree → List Member
+other_members ms = map member (map member_of ms)
+
+-- the first one has a definition, or no others stand behind it
+abbrev pub is_whole : Option Expr → List MemberTree → Bool
+is_whole (Some e) ms = true
+is_whole None [] = true
+is_whole None (m ∷ ms) = false
