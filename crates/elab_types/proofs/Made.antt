@@ -29,7 +29,7 @@ use Rattle.elab_parts.proofs.Entering.{extended_both, extended_grows}
 use Rattle.elab_parts.proofs.Keeping.{length_extended}
 use Rattle.elab_parts.proofs.Refused.{no_fault, used_refusal}
 use Rattle.elab_parts.proofs.Scopes.{scopes_grow}
-use Rattle.elab_types.specs.Algebraics.{group_seen, entry_count, group_count, first_type, first_constructor, with_types, group_names, type_entries, inside, con_trees, algebraic_trees, group_trees, con_entries, group_entries, first_name, first_vars, group_outcome, group_made, IsGroupElaborated, IsGroupRefusal}
+use Rattle.elab_types.specs.Algebraics.{group_seen, entry_count, group_count, first_type, first_constructor, with_types, group_names, type_entries, inside, constructor_trees, algebraic_trees, group_trees, constructors_entries, group_entries, first_name, first_vars, group_outcome, group_made, IsGroupElaborated, IsGroupRefusal}
 use Rattle.elab_types.proofs.Counted.{types_length}
 use Rattle.elab_types.proofs.Placed.{scopes_types, stays_over}
 
@@ -38,13 +38,13 @@ projections_length : (theory x : Word) (n : ℕ) (t : Tree) (i : ℕ) (fs : List
 projections_length theory x n t i [] = refl
 projections_length theory x n t i (f ∷ fs) = ap suc (projections_length theory x n t (suc i) fs)
 
-cons_length : (theory within : Word) (v : ℕ) (t : Tree) (w : Where) (n : ℕ) (ks : List Constructor) → length (con_entries theory within v t ks (con_trees w n ks)) ≡ entry_count ks
+cons_length : (theory within : Word) (v : ℕ) (t : Tree) (w : Where) (n : ℕ) (ks : List Constructor) → length (constructors_entries theory within v t ks (constructor_trees w n ks)) ≡ entry_count ks
 cons_length theory within v t w n [] = refl
 cons_length theory within v t w n (k ∷ ks) =
     let fs = types_at w k.fields in
     let m = n + (count_forms k.fields + 1) in
     let here : List SymbolTree = constructor_entries theory (within ++ k.called.name) v t fs in
-    let rest : List SymbolTree = con_entries theory within v t ks (con_trees w m ks) in
+    let rest : List SymbolTree = constructors_entries theory within v t ks (constructor_trees w m ks) in
     let a : length (here ++ rest) ≡ length here + length rest = length-append here rest in
     let b : length here ≡ suc (count_forms k.fields) = ap suc (projections_length theory (within ++ k.called.name) v t 1 fs ∙ types_length w k.fields) in
     let d : length rest ≡ entry_count ks = cons_length theory within v t w m ks in
@@ -55,7 +55,7 @@ group_length theory within w i n [] = refl
 group_length theory within w i n (a ∷ ts) =
     let v = with_vars w (words a.vars) in
     let m = n + entry_count a.constructors in
-    let here : List SymbolTree = con_entries theory within (length a.vars) (own_type i (length a.vars)) a.constructors (con_trees v n a.constructors) in
+    let here : List SymbolTree = constructors_entries theory within (length a.vars) (own_type i (length a.vars)) a.constructors (constructor_trees v n a.constructors) in
     let rest : List SymbolTree = group_entries theory within ts (algebraic_trees w (i + 1) m ts) in
     let p : length (here ++ rest) ≡ length here + length rest = length-append here rest in
     let q : length here ≡ entry_count a.constructors = cons_length theory within (length a.vars) (own_type i (length a.vars)) v n a.constructors in

@@ -20,7 +20,7 @@ use Rattle.elab_walk.proofs.Below.{forms_below}
 use Rattle.elab_walk.proofs.Growing.{map_same, types_grow, types_stay}
 use Rattle.elab_walk.proofs.Walking.{none_both}
 use Rattle.elab_parts.specs.Declarations.{Constructor, Algebraic, words, with_vars, constructors_fault, types_fault}
-use Rattle.elab_types.specs.Algebraics.{entry_count, con_trees, algebraic_trees}
+use Rattle.elab_types.specs.Algebraics.{entry_count, constructor_trees, algebraic_trees}
 use Rattle.elab_types.specs.Held.{ConTyped, AlgTyped, AreConsWithin, AreWithin}
 
 module _ (s s' : List Tree) (g : Grows s s') where
@@ -75,7 +75,7 @@ algs_held s ys h = λ k e l. alg_held s _ (h k e l)
 scoped_with : (w : Where) (vs : List (List ℕ)) → IsScoped w → IsScoped (with_vars w vs)
 scoped_with w vs h = record { symbols = h.symbols; types = h.types; tuples = h.tuples }
 
-cons_within : (w : Where) → IsScoped w → (n : ℕ) (ks : List Constructor) → constructors_fault w ks ≡ None → AreConsWithin (length w.vars) (con_trees w n ks)
+cons_within : (w : Where) → IsScoped w → (n : ℕ) (ks : List Constructor) → constructors_fault w ks ≡ None → AreConsWithin (length w.vars) (constructor_trees w n ks)
 cons_within w sc n [] h = tt
 cons_within w sc n (k ∷ ks) h =
     let p = none_both (forms_fault w false k.fields) (constructors_fault w ks) h in
@@ -86,4 +86,4 @@ types_within w sc i n [] h = tt
 types_within w sc i n (a ∷ ts) h =
     let v = with_vars w (words a.vars) in
     let p = none_both (constructors_fault v a.constructors) (types_fault w ts) h in
-    (subst (λ (m : ℕ). AreConsWithin m (con_trees v n a.constructors)) (length-map a.vars (λ c. c.name)) (cons_within v (scoped_with w (words a.vars) sc) n a.constructors p.0), types_within w sc (i + 1) (n + entry_count a.constructors) ts p.1)
+    (subst (λ (m : ℕ). AreConsWithin m (constructor_trees v n a.constructors)) (length-map a.vars (λ c. c.name)) (cons_within v (scoped_with w (words a.vars) sc) n a.constructors p.0), types_within w sc (i + 1) (n + entry_count a.constructors) ts p.1)

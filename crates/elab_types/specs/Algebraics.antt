@@ -95,27 +95,27 @@ abbrev pub inside : Setting → List Algebraic → Where
 inside c ts = over c.trees (c.symbols ++ (tuples_wanting c (group_seen ts) ++ type_entries c.theory c.within ts)) (group_names c ts) []
 
 -- ---- the types with their constructors
-abbrev pub con_trees : Where → ℕ → List Constructor → List ConTree
-con_trees w n [] = []
-con_trees w n (k ∷ ks) = record { symbol = n; fields = types_at w k.fields; projections = numbers_from (n + 1) (types_at w k.fields) } ∷ con_trees w (n + (count_forms k.fields + 1)) ks
+abbrev pub constructor_trees : Where → ℕ → List Constructor → List ConTree
+constructor_trees w n [] = []
+constructor_trees w n (k ∷ ks) = record { symbol = n; fields = types_at w k.fields; projections = numbers_from (n + 1) (types_at w k.fields) } ∷ constructor_trees w (n + (count_forms k.fields + 1)) ks
 
 abbrev pub algebraic_trees : Where → ℕ → ℕ → List Algebraic → List AlgebraicTree
 algebraic_trees w i n [] = []
-algebraic_trees w i n (a ∷ ts) = record { symbol = i; cons = con_trees (with_vars w (words a.vars)) n a.constructors } ∷ algebraic_trees w (i + 1) (n + entry_count a.constructors) ts
+algebraic_trees w i n (a ∷ ts) = record { symbol = i; cons = constructor_trees (with_vars w (words a.vars)) n a.constructors } ∷ algebraic_trees w (i + 1) (n + entry_count a.constructors) ts
 
 abbrev pub group_trees : Setting → List Algebraic → List AlgebraicTree
 group_trees c ts = algebraic_trees (inside c ts) (first_type c ts) (first_constructor c ts) ts
 
 -- ---- entries of the constructors, each before its projections
-abbrev pub con_entries : Word → Word → ℕ → Tree → List Constructor → List ConTree → List SymbolTree
-con_entries theory within vars type [] cs = []
-con_entries theory within vars type (k ∷ ks) [] = []
-con_entries theory within vars type (k ∷ ks) (c ∷ cs) = constructor_entries theory (within ++ k.called.name) vars type c.fields ++ con_entries theory within vars type ks cs
+abbrev pub constructors_entries : Word → Word → ℕ → Tree → List Constructor → List ConTree → List SymbolTree
+constructors_entries theory within vars type [] cs = []
+constructors_entries theory within vars type (k ∷ ks) [] = []
+constructors_entries theory within vars type (k ∷ ks) (c ∷ cs) = constructor_entries theory (within ++ k.called.name) vars type c.fields ++ constructors_entries theory within vars type ks cs
 
 abbrev pub group_entries : Word → Word → List Algebraic → List AlgebraicTree → List SymbolTree
 group_entries theory within [] ys = []
 group_entries theory within (a ∷ ts) [] = []
-group_entries theory within (a ∷ ts) (y ∷ ys) = con_entries theory within (length a.vars) (own_type y.symbol (length a.vars)) a.constructors y.cons ++ group_entries theory within ts ys
+group_entries theory within (a ∷ ts) (y ∷ ys) = constructors_entries theory within (length a.vars) (own_type y.symbol (length a.vars)) a.constructors y.cons ++ group_entries theory within ts ys
 
 -- ---- what a group makes
 -- a declaration has the name and the type variables of its first type

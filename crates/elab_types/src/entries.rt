@@ -7,7 +7,7 @@ ghost use Rattle.tasks.specs.Meaning.{cons_at, algebraics_at};
 ghost use Rattle.tasks.specs.Valid.{own_type};
 ghost use Rattle.elab_walk.specs.Drafts.{HoldsType};
 ghost use Rattle.elab_parts.specs.Entries.{IsSignature, IsExtended};
-ghost use Rattle.elab_types.specs.Algebraics.{constructors_of, types_of, type_entries, con_entries, group_entries};
+ghost use Rattle.elab_types.specs.Algebraics.{constructors_of, types_of, type_entries, constructors_entries, group_entries};
 ghost use Rattle.elab_types.specs.Held.{ConTyped, AlgTyped, AreConsWithin, AreWithin};
 
 use elab_parts::{Place, joined, push_constructor, push_type, variables};
@@ -55,7 +55,7 @@ fn own_type(
 }
 
 // The entries of constructors of a type, each before its projections.
-fn push_con_entries(
+fn push_constructor_entries(
     alloc: Global,
     store: &Store,
     sig: &mut Signature,
@@ -70,7 +70,7 @@ fn push_con_entries(
     requires ty_below { TyVarsBelow vars (tree_at store.now ty) }
     requires typed { All (ConTyped store.now) cons.now }
     requires below { AreConsWithin vars (cons_at store.now cons.now) }
-    ensures { OnOk result (IsExtended store.now sig.old store.now sig.new (con_entries
+    ensures { OnOk result (IsExtended store.now sig.old store.now sig.new (constructors_entries
         place.now.theory.now place.now.within.now vars (tree_at store.now ty) (constructors_of
         sources.now) (cons_at store.now cons.now))) }
 {
@@ -91,7 +91,7 @@ fn push_con_entries(
         ty,
         con.fields.as_slice(),
     )?;
-    push_con_entries(alloc, store, sig, place, vars, ty, rest, others)
+    push_constructor_entries(alloc, store, sig, place, vars, ty, rest, others)
 }
 
 /// The entries of the constructors of types, each before its projections.
@@ -121,6 +121,6 @@ pub fn push_entries(
     let ty = own_type(alloc, store, alg.symbol, vars)?;
     let sources = first.cons.as_slice();
     let cons = alg.cons.as_slice();
-    push_con_entries(alloc, store, sig, place, vars, ty, sources, cons)?;
+    push_constructor_entries(alloc, store, sig, place, vars, ty, sources, cons)?;
     push_entries(alloc, store, sig, place, rest, others)
 }

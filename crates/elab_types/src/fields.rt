@@ -8,7 +8,7 @@ ghost use Rattle.elab_names.specs.Naming.{where_at, tuple_among, Tells};
 ghost use Rattle.elab_walk.specs.Drafts.{HoldsType, WorldHeld};
 ghost use Rattle.elab_walk.specs.Pieces.{types_at};
 ghost use Rattle.elab_parts.specs.Declarations.{word, words, constructors_fault, types_fault};
-ghost use Rattle.elab_types.specs.Algebraics.{fields_of, constructors_of, types_of, entry_count, group_count, numbers_from, con_trees, algebraic_trees};
+ghost use Rattle.elab_types.specs.Algebraics.{fields_of, constructors_of, types_of, entry_count, group_count, numbers_from, constructor_trees, algebraic_trees};
 ghost use Rattle.elab_parts.specs.Entries.{tuple_in, IsSignature};
 ghost use Rattle.elab_parts.specs.Outcomes.{over};
 ghost use Rattle.elab_types.specs.Held.{ConTyped, AlgTyped, HaveThings};
@@ -113,7 +113,7 @@ fn push_constructors(
     requires made { All (ConTyped store.old) made.old }
     requires fits { number.old + entry_count (constructors_of cons.now) < 2 ^ 64 }
     ensures typed { OnOk result (All (ConTyped store.new) made.new) }
-    ensures cons { OnOk result (cons_at store.new made.new ≡ cons_at store.old made.old ++ con_trees
+    ensures cons { OnOk result (cons_at store.new made.new ≡ cons_at store.old made.old ++ constructor_trees
         (where_at store.old world.now) number.old (constructors_of cons.now)) }
     ensures number { OnOk result (number.new ≡ number.old + entry_count (constructors_of
         cons.now)) }
@@ -155,7 +155,7 @@ fn world_of<'a>(
 }
 
 // The constructors of a type from a number on.
-fn make_cons(
+fn make_constructors(
     alloc: Global,
     store: &mut Store,
     sig: &Signature,
@@ -170,7 +170,7 @@ fn make_cons(
         (symbols_at s sig.now.symbols) n }
     requires fits { number.old + entry_count (constructors_of source.now.cons) < 2 ^ 64 }
     ensures typed { IfOk result (All (ConTyped store.new)) }
-    ensures cons { IfOk result (λ made. cons_at store.new made ≡ con_trees
+    ensures cons { IfOk result (λ made. cons_at store.new made ≡ constructor_trees
         (over store.old (symbols_at store.old sig.now.symbols) scope.now (words (map word
         source.now.vars))) number.old (constructors_of source.now.cons)) }
     ensures number { OnOk result (number.new ≡ number.old + entry_count (constructors_of
@@ -229,7 +229,7 @@ pub fn push_types(
     let Some((first, rest)) = types.split_first() else {
         return Ok(());
     };
-    let cons = make_cons(alloc, store, sig, scope, tuples, number, first)?;
+    let cons = make_constructors(alloc, store, sig, scope, tuples, number, first)?;
     made.push(Alg { symbol, cons })?;
     push_types(
         alloc,

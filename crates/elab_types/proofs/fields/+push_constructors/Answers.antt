@@ -11,7 +11,7 @@ use Rattle.elab_names.proofs.Told.{of_rest}
 use Rattle.elab_walk.specs.Pieces.{types_at}
 use Rattle.elab_walk.proofs.Growing.{world_stays, world_grows}
 use Rattle.elab_parts.specs.Declarations.{constructors_fault}
-use Rattle.elab_types.specs.Algebraics.{fields_of, constructors_of, numbers_from, con_trees}
+use Rattle.elab_types.specs.Algebraics.{fields_of, constructors_of, numbers_from, constructor_trees}
 use Rattle.elab_types.proofs.Counted.{counted_fields}
 use Rattle.elab_types.proofs.Typed.{cons_more, cons_are}
 use Rattle.elab_types.proofs.fields.+push_constructors.Goals as goal
@@ -62,8 +62,8 @@ returns-clause-cons t c =
     let one : con_at s1 c.in_ok-con.con ≡ here = c.in_ok-con.ensures.con ∙ ap (λ (ts : List TypeTree). record { symbol = n; fields = types_at w (fields_of ts); projections = numbers_from (n + 1) (types_at w (fields_of ts)) }) c.as_slice.ensures in
     let more : made ≡ old ++ here ∷ [] = ap (cons_at s1) c.in_ok-push.ensures.ok ∙ (cons_are s s1 g c.args.made.now c.in_ok-con.con c.requires.made ∙ ap (λ (x : ConTree). old ++ x ∷ []) one) in
     let same : where_at s1 c.args.world.now ≡ w = world_stays s s1 g c.args.world.now c.requires.world in
-    let rest = con_trees w (n + m) ks in
-    rw c.in-Some.ensures.cases.0 (on_ok_weaker c.push_constructors.result (λ h. h ∙ (ap (λ (v : Where). made ++ con_trees v (n + (c.len.result + 1)) ks) same ∙ (ap (λ (k : ℕ). made ++ con_trees w k ks) next ∙ (ap (λ (ts : List ConTree). ts ++ rest) more ∙ append_assoc old (here ∷ []) rest)))) c.push_constructors.ensures.cons)
+    let rest = constructor_trees w (n + m) ks in
+    rw c.in-Some.ensures.cases.0 (on_ok_weaker c.push_constructors.result (λ h. h ∙ (ap (λ (v : Where). made ++ constructor_trees v (n + (c.len.result + 1)) ks) same ∙ (ap (λ (k : ℕ). made ++ constructor_trees w k ks) next ∙ (ap (λ (ts : List ConTree). ts ++ rest) more ∙ append_assoc old (here ∷ []) rest)))) c.push_constructors.ensures.cons)
 
 pub returns-clause-number : goal.returns-clause-number
 returns-clause-number t c =

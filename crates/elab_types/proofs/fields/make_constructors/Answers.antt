@@ -6,9 +6,9 @@ use Rattle.elab_names.specs.Naming.{where_at, Tells}
 use Rattle.elab_names.specs.Where.{Where}
 use Rattle.elab_parts.specs.Declarations.{word, words, constructors_fault}
 use Rattle.elab_parts.specs.Outcomes.{over}
-use Rattle.elab_types.specs.Algebraics.{constructors_of, con_trees}
+use Rattle.elab_types.specs.Algebraics.{constructors_of, constructor_trees}
 use Rattle.elab_types.proofs.Counted.{words_texts, handed}
-use Rattle.elab_types.proofs.fields.make_cons.Goals as goal
+use Rattle.elab_types.proofs.fields.make_constructors.Goals as goal
 
 pub returns-in_err-push_constructors-clause-err : goal.returns-in_err-push_constructors-clause-err
 returns-in_err-push_constructors-clause-err c =
@@ -32,8 +32,8 @@ returns-clause-cons c =
     let there = over s (symbols_at s c.args.sig.now.symbols) c.args.scope.now in
     let vars : c.as_slice-2.result.now ≡ words (map word ns) = c.as_slice-2.ensures.value ∙ (c.in_ok-vars.ensures ∙ (ap texts c.as_slice.ensures ∙ sym (words_texts ns))) in
     let is : where_at s c.world_of-world.result ≡ there (words (map word ns)) = c.world_of-world.ensures.names s ∙ ap there vars in
-    let cons : cons_at s1 c.push_constructors.new.made ≡ con_trees (where_at s c.world_of-world.result) n (constructors_of c.as_slice-3.result.now) = rw c.new-made.ensures at c.in_ok-push_constructors.ensures.cons in
-    cons ∙ (ap (λ (w : Where). con_trees w n (constructors_of c.as_slice-3.result.now)) is ∙ ap (λ (cs : List ConSource). con_trees (there (words (map word ns))) n (constructors_of cs)) c.as_slice-3.ensures)
+    let cons : cons_at s1 c.push_constructors.new.made ≡ constructor_trees (where_at s c.world_of-world.result) n (constructors_of c.as_slice-3.result.now) = rw c.new-made.ensures at c.in_ok-push_constructors.ensures.cons in
+    cons ∙ (ap (λ (w : Where). constructor_trees w n (constructors_of c.as_slice-3.result.now)) is ∙ ap (λ (cs : List ConSource). constructor_trees (there (words (map word ns))) n (constructors_of cs)) c.as_slice-3.ensures)
 
 pub returns-clause-free : goal.returns-clause-free
 returns-clause-free c =
