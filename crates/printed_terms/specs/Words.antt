@@ -1,0 +1,77 @@
+-- The words of two syntaxes: SMT-LIB 2.6 (section 3.6 and the theory Core) and TPTP's typed first-order form, TFF0. Both
+-- conjunctions are one word, and both disjunctions.
+use Rattle.std.specs.Prelude.{ℕ, Bool, true, false, List, [], codes}
+use Rattle.trees.specs.declared.Op.TheVariants.{And, AndThen, Or, OrElse, Imp, Iff}
+use Rattle.driver_items.specs.declared.kinds.Printer.{Printer}
+use Rattle.driver_items.specs.declared.kinds.Printer.TheVariants.{Smt, Tff}
+use Rattle.printed_terms.specs.declared.words.Form.{Form}
+use Rattle.printed_terms.specs.declared.words.Form.TheVariants.{Negation, Connected, Equality, Conditional}
+use Rattle.printed_terms.specs.declared.words.Binder.{Binder}
+use Rattle.printed_terms.specs.declared.words.Binder.TheVariants.{ForAll, ThereIs, LetIn}
+
+abbrev pub truth : Printer → Bool → List ℕ
+truth Smt true = codes "true"
+truth Smt false = codes "false"
+truth Tff true = codes "$true"
+truth Tff false = codes "$false"
+
+-- what stands before the parts of a form; behind them stands `)`
+abbrev pub opening : Printer → Form → List ℕ
+opening Smt Negation = codes "(not "
+opening Smt (Connected And) = codes "(and "
+opening Smt (Connected AndThen) = codes "(and "
+opening Smt (Connected Or) = codes "(or "
+opening Smt (Connected OrElse) = codes "(or "
+opening Smt (Connected Imp) = codes "(=> "
+opening Smt (Connected Iff) = codes "(= "
+opening Smt Equality = codes "(= "
+opening Smt Conditional = codes "(ite "
+opening Tff Negation = codes "(~ "
+opening Tff _ = codes "("
+
+-- what stands between two parts of a form
+abbrev pub between : Printer → Form → List ℕ
+between Smt _ = codes " "
+between Tff (Connected And) = codes " & "
+between Tff (Connected AndThen) = codes " & "
+between Tff (Connected Or) = codes " | "
+between Tff (Connected OrElse) = codes " | "
+between Tff (Connected Imp) = codes " => "
+between Tff (Connected Iff) = codes " <=> "
+between Tff Equality = codes " = "
+between Tff _ = []
+
+-- what stands before a binder's variable, between it and its sort or value, and before its body
+abbrev pub binder_opening : Printer → Binder → List ℕ
+binder_opening Smt ForAll = codes "(forall (("
+binder_opening Smt ThereIs = codes "(exists (("
+binder_opening Smt LetIn = codes "(let (("
+binder_opening Tff ForAll = codes "(! ["
+binder_opening Tff ThereIs = codes "(? ["
+binder_opening Tff LetIn = []
+
+abbrev pub before_bound : Printer → List ℕ
+before_bound Smt = codes " "
+before_bound Tff = codes ": "
+
+abbrev pub before_body : Printer → List ℕ
+before_body Smt = codes ")) "
+before_body Tff = codes "] : "
+
+-- a bound variable's letter
+abbrev pub letter : Printer → List ℕ
+letter Smt = codes "x"
+letter Tff = codes "X"
+
+-- what stands before and behind the name of a symbol with arguments, and between these
+abbrev pub before_name : Printer → List ℕ
+before_name Smt = codes "("
+before_name Tff = []
+
+abbrev pub behind_name : Printer → List ℕ
+behind_name Smt = codes " "
+behind_name Tff = codes "("
+
+abbrev pub between_arguments : Printer → List ℕ
+between_arguments Smt = codes " "
+between_arguments Tff = codes ","

@@ -1,0 +1,173 @@
+// The words of both syntaxes.
+ghost use Rattle.std.specs.Prelude.{◌≡◌};
+ghost use Rattle.driver_items.specs.declared.kinds.Printer.TheVariants.{Smt, Tff};
+ghost use Rattle.printed_terms.specs.declared.words.Form.TheVariants.{Connected};
+ghost use Rattle.printed_terms.specs.Words.{truth, opening, between, binder_opening, before_bound, before_body, letter, before_name, behind_name, between_arguments};
+
+use driver_items::Printer;
+use trees::Op;
+
+/// A form with parts in it.
+#[derive(Clone, Copy)]
+pub enum Form {
+    Negation,
+    Connected(Op),
+    Equality,
+    Conditional,
+}
+
+/// A form that binds a variable.
+#[derive(Clone, Copy)]
+pub enum Binder {
+    ForAll,
+    ThereIs,
+    LetIn,
+}
+
+pub(crate) fn truth(syntax: Printer, value: bool) -> &'static [u8]
+    ensures { result.now ≡ truth syntax value }
+{
+    match (syntax, value) {
+        (Printer::Smt, true) => b"true",
+        (Printer::Smt, false) => b"false",
+        (Printer::Tff, true) => b"$true",
+        (Printer::Tff, false) => b"$false",
+    }
+}
+
+// What stands before two connected formulas in SMT-LIB.
+fn op_opening(op: Op) -> &'static [u8]
+    ensures { result.now ≡ opening Smt (Connected op) }
+{
+    match op {
+        Op::And => b"(and ",
+        Op::AndThen => b"(and ",
+        Op::Or => b"(or ",
+        Op::OrElse => b"(or ",
+        Op::Imp => b"(=> ",
+        Op::Iff => b"(= ",
+    }
+}
+
+// What stands before the parts of a form in SMT-LIB.
+fn smt_opening(form: Form) -> &'static [u8]
+    ensures { result.now ≡ opening Smt form }
+{
+    match form {
+        Form::Negation => b"(not ",
+        Form::Connected(op) => op_opening(op),
+        Form::Equality => b"(= ",
+        Form::Conditional => b"(ite ",
+    }
+}
+
+/// What stands before the parts of a form.
+pub(crate) fn opening(syntax: Printer, form: Form) -> &'static [u8]
+    ensures { result.now ≡ opening syntax form }
+{
+    match (syntax, form) {
+        (Printer::Smt, _) => smt_opening(form),
+        (Printer::Tff, Form::Negation) => b"(~ ",
+        (Printer::Tff, _) => b"(",
+    }
+}
+
+// What stands between two connected formulas in TFF0.
+fn op_between(op: Op) -> &'static [u8]
+    ensures { result.now ≡ between Tff (Connected op) }
+{
+    match op {
+        Op::And => b" & ",
+        Op::AndThen => b" & ",
+        Op::Or => b" | ",
+        Op::OrElse => b" | ",
+        Op::Imp => b" => ",
+        Op::Iff => b" <=> ",
+    }
+}
+
+/// What stands between two parts of a form.
+pub(crate) fn between(syntax: Printer, form: Form) -> &'static [u8]
+    ensures { result.now ≡ between syntax form }
+{
+    match (syntax, form) {
+        (Printer::Smt, _) => b" ",
+        (Printer::Tff, Form::Connected(op)) => op_between(op),
+        (Printer::Tff, Form::Equality) => b" = ",
+        (Printer::Tff, _) => b"",
+    }
+}
+
+/// What stands before a binder's variable.
+pub(crate) fn binder_opening(syntax: Printer, binder: Binder) -> &'static [u8]
+    ensures { result.now ≡ binder_opening syntax binder }
+{
+    match (syntax, binder) {
+        (Printer::Smt, Binder::ForAll) => b"(forall ((",
+        (Printer::Smt, Binder::ThereIs) => b"(exists ((",
+        (Printer::Smt, Binder::LetIn) => b"(let ((",
+        (Printer::Tff, Binder::ForAll) => b"(! [",
+        (Printer::Tff, Binder::ThereIs) => b"(? [",
+        (Printer::Tff, Binder::LetIn) => b"",
+    }
+}
+
+/// What stands between a binder's variable and its sort or value.
+pub(crate) fn before_bound(syntax: Printer) -> &'static [u8]
+    ensures { result.now ≡ before_bound syntax }
+{
+    match syntax {
+        Printer::Smt => b" ",
+        Printer::Tff => b": ",
+    }
+}
+
+/// What stands before a binder's body.
+pub(crate) fn before_body(syntax: Printer) -> &'static [u8]
+    ensures { result.now ≡ before_body syntax }
+{
+    match syntax {
+        Printer::Smt => b")) ",
+        Printer::Tff => b"] : ",
+    }
+}
+
+/// The letter of a bound variable.
+pub(crate) fn letter(syntax: Printer) -> &'static [u8]
+    ensures { result.now ≡ letter syntax }
+{
+    match syntax {
+        Printer::Smt => b"x",
+        Printer::Tff => b"X",
+    }
+}
+
+/// What stands before the name of a symbol with arguments.
+pub(crate) fn before_name(syntax: Printer) -> &'static [u8]
+    ensures { result.now ≡ before_name syntax }
+{
+    match syntax {
+        Printer::Smt => b"(",
+        Printer::Tff => b"",
+    }
+}
+
+/// What stands between a name and its arguments.
+pub(crate) fn behind_name(syntax: Printer) -> &'static [u8]
+    ensures { result.now ≡ behind_name syntax }
+{
+    match syntax {
+        Printer::Smt => b" ",
+        Printer::Tff => b"(",
+    }
+}
+
+/// What stands between two arguments.
+pub(crate) fn between_arguments(syntax: Printer) -> &'static [u8]
+    ensures { result.now ≡ between_arguments syntax }
+{
+    match syntax {
+        Printer::Smt => b" ",
+        Printer::Tff => b",",
+    }
+}

@@ -1,0 +1,25 @@
+use Rattle.std.proofs.Common.{ℕ, List, ◌++◌, codes, ap, ◌∙◌}
+use Rattle.printed_terms.specs.Texts.{joined}
+use Rattle.printed_terms.specs.Ranks.{sorts_at}
+use Rattle.printed_terms.specs.Meaning.{printing}
+use Rattle.smt_texts.specs.Text.{result_text}
+use Rattle.smt_texts.proofs.Joins.{then_piece}
+use Rattle.smt_texts.proofs.lines.push_rank.Goals as goal
+
+pub returns : goal.returns
+returns c =
+    let p = printing c.args.c.now in
+    let o = c.args.out.now.items in
+    let start = codes "(declare-fun " in
+    let name = c.args.name.now in
+    let sorts = joined (codes " ") (sorts_at p c.args.rank.now.args) in
+    let result = result_text p c.args.rank.now.result in
+    then_piece o _ _ (start ++ name ++ codes " (" ++ sorts ++ codes ") " ++ result) (codes ")\n")
+    (then_piece o _ _ (start ++ name ++ codes " (" ++ sorts ++ codes ") ") result
+    (then_piece o _ _ (start ++ name ++ codes " (" ++ sorts) (codes ") ")
+    (then_piece o _ _ (start ++ name ++ codes " (") sorts
+    (then_piece o _ _ (start ++ name) (codes " (")
+    (then_piece o _ _ start name c.in_ok-extend_from_slice.ensures.items c.in_ok-extend_from_slice-2.ensures.items)
+    c.in_ok-extend_from_slice-3.ensures.items)
+    (c.in_ok-push_sorts.ensures ∙ ap (λ (z : List ℕ). c.extend_from_slice-3.new.self.items ++ joined (codes " ") (sorts_at p z)) c.as_slice.ensures))
+    c.in_ok-extend_from_slice-4.ensures.items) c.in_ok-push_result.ensures) c.in_ok-extend_from_slice-5.ensures.items

@@ -1,0 +1,124 @@
+// The texts of small tasks.
+use crate::small::{MEMORY, Small, Templates, driver, store, task};
+use driver_items::Printer;
+use printed_problems::problem;
+use smt_texts::smt_text;
+use std::alloc::Global;
+use std::process::Abort;
+use term_store::Store;
+
+// All symbols, in the order of the integers, lists and the others.
+pub(crate) const ALL: &[(u8, usize)] = &[
+    (b's', 8),
+    (b's', 9),
+    (b's', 10),
+    (b's', 11),
+    (b's', 12),
+    (b's', 13),
+    (b's', 14),
+    (b's', 15),
+    (b't', 2),
+    (b's', 3),
+    (b's', 4),
+    (b's', 5),
+    (b's', 6),
+    (b's', 7),
+    (b's', 16),
+    (b's', 17),
+    (b't', 18),
+    (b's', 19),
+    (b's', 20),
+    (b's', 21),
+];
+
+// What is declared in the worked problem on the length of lists.
+pub(crate) const LENGTH: &[(u8, usize)] = &[
+    (b's', 8),
+    (b's', 9),
+    (b's', 10),
+    (b's', 11),
+    (b's', 12),
+    (b's', 13),
+    (b's', 14),
+    (b's', 15),
+    (b't', 2),
+    (b's', 3),
+    (b's', 4),
+    (b's', 5),
+    (b's', 6),
+    (b'p', 23),
+    (b'p', 27),
+    (b'p', 31),
+    (b'p', 40),
+    (b's', 7),
+    (b'p', 43),
+    (b'p', 51),
+    (b'p', 55),
+];
+
+pub(crate) const NONE: Templates = &[];
+
+/// A driver: a printer, a prelude, the templates of `int` and of equality, and those of symbols.
+pub(crate) type Words = (
+    Printer,
+    &'static str,
+    (&'static str, &'static str),
+    &'static [Templates],
+);
+
+/// A driver, a task, a part and the number of parts, and the text.
+pub(crate) type Row = (Words, Small, usize, usize, &'static str);
+
+/// The text of a row.
+pub(crate) fn printed(
+    rt: &impl Abort,
+    alloc: Global,
+    terms: &Store,
+    words: &Words,
+    small: &Small,
+    part: usize,
+    parts: usize,
+) -> Vec<u8> {
+    let one = task(rt, alloc, terms, small);
+    let by = driver(rt, alloc, words);
+    match problem(alloc, terms, &one, &by) {
+        Ok(made) => smt_text(alloc, terms, &one, &by, &made, part, parts).expect(rt, MEMORY),
+        Err(_) => {
+            assert!(rt; false);
+            Vec::new(alloc)
+        }
+    }
+}
+
+/// Compares the texts of rows.
+pub(crate) fn check(rt: &impl Abort, alloc: Global, rows: &[Row]) {
+    let terms = store(rt, alloc);
+    for (words, small, part, parts, wanted) in rows {
+        let found = printed(rt, alloc, &terms, words, small, *part, *parts);
+        assert!(rt; found.as_slice() == wanted.as_bytes());
+    }
+}
+
+// Whether a text has another one before its last bytes.
+fn ends_with(found: &[u8], goal: &[u8], end: &[u8]) -> bool {
+    found.ends_with(end) && found[..found.len() - end.len()].ends_with(goal)
+}
+
+/// A goal, the types of its parameters, and its text where all symbols are declared.
+pub(crate) type Form = (usize, &'static [usize], &'static str);
+
+/// Compares the texts of goals, which stand before the last bytes of the whole.
+pub(crate) fn check_forms(
+    rt: &impl Abort,
+    alloc: Global,
+    words: &Words,
+    rows: &[Form],
+    end: &[u8],
+) {
+    let terms = store(rt, alloc);
+    for (goal, params, wanted) in rows {
+        let small: Small = (ALL, params, &[], *goal);
+        let found = printed(rt, alloc, &terms, words, &small, 1, 1);
+        assert!(rt; ends_with(found.as_slice(), wanted.as_bytes(), end));
+    }
+}
