@@ -1,4 +1,4 @@
-//! Tests of texts in the syntax of SMT-LIB: whole problems, and each form of a formula.
+//! Tests of texts in both syntaxes: whole problems, and each form of a formula.
 //! It needs the texts; nothing needs it.
 #![tactic(auto)]
 
@@ -8,3 +8,5 @@ mod shown;
 mod small;
 #[cfg(test)]
 mod smt;
+#[cfg(test)]
+mod tff;

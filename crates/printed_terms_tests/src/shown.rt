@@ -1,11 +1,17 @@
 // The texts of small tasks.
+ghost use Rattle.tasks.specs.Meaning.{TaskHeld};
+ghost use Rattle.printed_problems.specs.Made.{ProblemHeld};
+
 use crate::small::{MEMORY, Small, Templates, driver, store, task};
 use driver_items::Printer;
-use printed_problems::problem;
+use driver_parts::Driver;
+use printed_problems::{Problem, problem};
 use smt_texts::smt_text;
-use std::alloc::Global;
+use std::alloc::{AllocError, Global};
 use std::process::Abort;
+use tasks::Task;
 use term_store::Store;
+use tff_texts::tff_text;
 
 // All symbols, in the order of the integers, lists and the others.
 pub(crate) const ALL: &[(u8, usize)] = &[
@@ -69,6 +75,24 @@ pub(crate) type Words = (
 /// A driver, a task, a part and the number of parts, and the text.
 pub(crate) type Row = (Words, Small, usize, usize, &'static str);
 
+fn text_of(
+    alloc: Global,
+    terms: &Store,
+    one: &Task,
+    by: &Driver,
+    made: &Problem,
+    part: usize,
+    parts: usize,
+) -> Result<Vec<u8>, AllocError>
+    requires held { TaskHeld terms.now one.now }
+    requires made_held { ProblemHeld terms.now made.now }
+{
+    match by.printer {
+        Printer::Smt => smt_text(alloc, terms, one, by, made, part, parts),
+        Printer::Tff => tff_text(alloc, terms, one, by, made, part, parts),
+    }
+}
+
 /// The text of a row.
 pub(crate) fn printed(
     rt: &impl Abort,
@@ -82,7 +106,7 @@ pub(crate) fn printed(
     let one = task(rt, alloc, terms, small);
     let by = driver(rt, alloc, words);
     match problem(alloc, terms, &one, &by) {
-        Ok(made) => smt_text(alloc, terms, &one, &by, &made, part, parts).expect(rt, MEMORY),
+        Ok(made) => text_of(alloc, terms, &one, &by, &made, part, parts).expect(rt, MEMORY),
         Err(_) => {
             assert!(rt; false);
             Vec::new(alloc)

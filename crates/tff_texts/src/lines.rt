@@ -1,0 +1,255 @@
+// The lines of a problem.
+ghost use Rattle.std.specs.Prelude.{All, OnOk};
+ghost use Rattle.std.specs.List.{flat_map};
+ghost use Rattle.trees.specs.Node.{tree_at, Holds};
+ghost use Rattle.tasks.specs.Meaning.{trees_at, symbols_at, SymbolHeld};
+ghost use Rattle.printed_terms.specs.Texts.{sort_text};
+ghost use Rattle.printed_terms.specs.Ranks.{sorts_at};
+ghost use Rattle.printed_terms.specs.Meaning.{printing, CanPrint, Appends};
+ghost use Rattle.tff_texts.specs.Text.{head_line, typed, sort_line, arguments_text, result_text, rank_line, symbol_line, parameter_line, parameter_lines, axiom_line, axiom_lines, goal_line};
+
+use printed_terms::{
+    Rank, TermPrinter, push_formula, push_name_at, push_number, push_parameter, push_sort,
+    push_sort_at, push_sorts, rank_of,
+};
+use std::alloc::{AllocError, Global};
+use tasks::SymbolInfo;
+use trees::TermId;
+
+/// Appends the line that counts a part.
+pub(crate) fn push_head(
+    alloc: Global,
+    out: &mut Vec<u8>,
+    part: usize,
+    parts: usize,
+) -> Result<(), AllocError>
+    ensures { OnOk result (Appends out.old.items (head_line part parts) out.new.items) }
+{
+    out.extend_from_slice(b"% ")?;
+    push_number(alloc, out, part)?;
+    out.extend_from_slice(b" of ")?;
+    push_number(alloc, out, parts)?;
+    out.extend_from_slice(b"\n")
+}
+
+// Appends the begin of the line that tells the type of a name.
+fn push_typed(out: &mut Vec<u8>, name: &[u8]) -> Result<(), AllocError>
+    ensures { OnOk result (Appends out.old.items (typed name.now) out.new.items) }
+{
+    out.extend_from_slice(b"tff(")?;
+    out.extend_from_slice(name)?;
+    out.extend_from_slice(b", type, ")?;
+    out.extend_from_slice(name)?;
+    out.extend_from_slice(b": ")?;
+    Ok(())
+}
+
+// Appends the line that declares a type.
+fn push_sort_line(c: &TermPrinter<'_>, out: &mut Vec<u8>, place: usize) -> Result<(), AllocError>
+    ensures { OnOk result (Appends out.old.items (sort_line (printing c.now) place) out.new.items) }
+{
+    let mut name = Vec::new(c.alloc);
+    push_name_at(c, &mut name, place)?;
+    push_typed(out, name.as_slice())?;
+    out.extend_from_slice(b"$tType).\n")?;
+    Ok(())
+}
+
+/// Appends the lines that declare types.
+pub(crate) fn push_sort_lines(
+    c: &TermPrinter<'_>,
+    out: &mut Vec<u8>,
+    places: &[usize],
+) -> Result<(), AllocError>
+    ensures { OnOk result (Appends out.old.items (flat_map (sort_line (printing c.now)) places.now)
+        out.new.items) }
+{
+    for place in places {
+        push_sort_line(c, out, *place)?;
+    }
+    Ok(())
+}
+
+// Appends the types of arguments, with the arrow to the result's behind them.
+fn push_arguments(
+    c: &TermPrinter<'_>,
+    out: &mut Vec<u8>,
+    places: &[usize],
+) -> Result<(), AllocError>
+    requires { CanPrint c.now }
+    ensures { OnOk result (Appends out.old.items (arguments_text (sorts_at (printing c.now)
+        places.now)) out.new.items) }
+{
+    match places {
+        [] => Ok(()),
+        [place] => {
+            push_sort_at(c, out, *place)?;
+            out.extend_from_slice(b" > ")
+        }
+        _ => {
+            out.extend_from_slice(b"(")?;
+            push_sorts(c, out, b" * ", places)?;
+            out.extend_from_slice(b") > ")
+        }
+    }
+}
+
+// Appends the type of a result.
+fn push_result(
+    c: &TermPrinter<'_>,
+    out: &mut Vec<u8>,
+    place: Option<usize>,
+) -> Result<(), AllocError>
+    requires { CanPrint c.now }
+    ensures { OnOk result (Appends out.old.items (result_text (printing c.now) place)
+        out.new.items) }
+{
+    match place {
+        Some(place) => push_sort_at(c, out, place),
+        None => out.extend_from_slice(b"$o"),
+    }
+}
+
+// Appends the line that declares a name with a rank.
+fn push_rank(
+    c: &TermPrinter<'_>,
+    out: &mut Vec<u8>,
+    name: &[u8],
+    rank: &Rank,
+) -> Result<(), AllocError>
+    requires { CanPrint c.now }
+    ensures { OnOk result (Appends out.old.items (rank_line (printing c.now) name.now rank.now)
+        out.new.items) }
+{
+    push_typed(out, name)?;
+    push_arguments(c, out, rank.args.as_slice())?;
+    push_result(c, out, rank.result)?;
+    out.extend_from_slice(b").\n")?;
+    Ok(())
+}
+
+// Appends the line that declares what stands at a place of the table.
+fn push_symbol_line(
+    c: &TermPrinter<'_>,
+    out: &mut Vec<u8>,
+    symbols: &[SymbolInfo],
+    place: usize,
+) -> Result<(), AllocError>
+    requires can { CanPrint c.now }
+    requires held { All (SymbolHeld c.now.store.now) symbols.now }
+    ensures { OnOk result (Appends out.old.items (symbol_line (printing c.now) (symbols_at
+        c.now.store.now symbols.now) place) out.new.items) }
+{
+    match c.names.get(place) {
+        Some(entry) => {
+            let rank = rank_of(c.alloc, c.store, c.names, symbols, entry)?;
+            push_rank(c, out, entry.name.as_slice(), &rank)
+        }
+        None => Ok(()),
+    }
+}
+
+/// Appends the lines that declare what stands at places of the table.
+pub(crate) fn push_symbol_lines(
+    c: &TermPrinter<'_>,
+    out: &mut Vec<u8>,
+    symbols: &[SymbolInfo],
+    places: &[usize],
+) -> Result<(), AllocError>
+    requires can { CanPrint c.now }
+    requires held { All (SymbolHeld c.now.store.now) symbols.now }
+    ensures { OnOk result (Appends out.old.items (flat_map (symbol_line (printing c.now)
+        (symbols_at c.now.store.now symbols.now)) places.now) out.new.items) }
+{
+    for place in places {
+        push_symbol_line(c, out, symbols, *place)?;
+    }
+    Ok(())
+}
+
+// Appends the line that declares a parameter.
+fn push_parameter_line(
+    c: &TermPrinter<'_>,
+    out: &mut Vec<u8>,
+    number: usize,
+    ty: TermId,
+) -> Result<(), AllocError>
+    requires can { CanPrint c.now }
+    requires held { Holds c.now.store.now ty }
+    ensures { OnOk result (Appends out.old.items (parameter_line number (sort_text
+        (printing c.now) (tree_at c.now.store.now ty))) out.new.items) }
+{
+    let mut name = Vec::new(c.alloc);
+    push_parameter(c.alloc, &mut name, number)?;
+    push_typed(out, name.as_slice())?;
+    push_sort(c, out, ty)?;
+    out.extend_from_slice(b").\n")?;
+    Ok(())
+}
+
+/// Appends the lines that declare parameters.
+pub(crate) fn push_parameter_lines(
+    c: &TermPrinter<'_>,
+    out: &mut Vec<u8>,
+    types: &[TermId],
+) -> Result<(), AllocError>
+    requires can { CanPrint c.now }
+    requires held { All (Holds c.now.store.now) types.now }
+    ensures { OnOk result (Appends out.old.items (parameter_lines (printing c.now) 0 (trees_at
+        c.now.store.now types.now)) out.new.items) }
+{
+    for number in 0..types.len() {
+        push_parameter_line(c, out, number, types[number])?;
+    }
+    Ok(())
+}
+
+// Appends an axiom with a number.
+fn push_axiom(
+    c: &TermPrinter<'_>,
+    out: &mut Vec<u8>,
+    number: usize,
+    e: TermId,
+) -> Result<(), AllocError>
+    requires can { CanPrint c.now }
+    requires held { Holds c.now.store.now e }
+    ensures { OnOk result (Appends out.old.items (axiom_line (printing c.now) number (tree_at
+        c.now.store.now e)) out.new.items) }
+{
+    out.extend_from_slice(b"tff(ax_")?;
+    push_number(c.alloc, out, number)?;
+    out.extend_from_slice(b", axiom, ")?;
+    push_formula(c, out, e)?;
+    out.extend_from_slice(b").\n")?;
+    Ok(())
+}
+
+/// Appends formulas as axioms.
+pub(crate) fn push_axioms(
+    c: &TermPrinter<'_>,
+    out: &mut Vec<u8>,
+    formulas: &[TermId],
+) -> Result<(), AllocError>
+    requires can { CanPrint c.now }
+    requires held { All (Holds c.now.store.now) formulas.now }
+    ensures { OnOk result (Appends out.old.items (axiom_lines (printing c.now) 0 (trees_at
+        c.now.store.now formulas.now)) out.new.items) }
+{
+    for number in 0..formulas.len() {
+        push_axiom(c, out, number, formulas[number])?;
+    }
+    Ok(())
+}
+
+/// Appends the goal as the conjecture.
+pub(crate) fn push_goal(c: &TermPrinter<'_>, out: &mut Vec<u8>, e: TermId) -> Result<(), AllocError>
+    requires can { CanPrint c.now }
+    requires held { Holds c.now.store.now e }
+    ensures { OnOk result (Appends out.old.items (goal_line (printing c.now) (tree_at
+        c.now.store.now e)) out.new.items) }
+{
+    out.extend_from_slice(b"tff(goal, conjecture, ")?;
+    push_formula(c, out, e)?;
+    out.extend_from_slice(b").\n")?;
+    Ok(())
+}
