@@ -12,4 +12,7 @@ pub mod Alternatives
 pub mod Expressions
 pub mod Solutions
 pub mod Widths
+pub mod Scopes
+pub mod Extended
+pub mod Tuples
 pub mod Rows
