@@ -5,7 +5,7 @@ use crate::answers::{compare, outcome};
 use elab_terms::ElabFault as Fault;
 
 // With patterns, which are tuples here; those of triggers count.
-static MATCHES: [(&str, Answer); 5] = [
+static MATCHES: [(&str, Answer); 8] = [
     (
         "theory T goal g: match (1, 2) with x, y -> x = y end end",
         Made(5, 1, 0, 1),
@@ -25,6 +25,18 @@ static MATCHES: [(&str, Answer); 5] = [
     (
         "theory T goal g: match (1, 2) with x, x -> true end end",
         Refused(Fault::Duplicate { decl: 1, token: 14 }),
+    ),
+    (
+        "theory T type u type t = A int | B u predicate p (x: t) = match x with A y | B y -> true end end",
+        Refused(Fault::Clash { decl: 3, k: 3 }),
+    ),
+    (
+        "theory T type t predicate p t goal g: forall x: int [p x]. true end",
+        Refused(Fault::Clash { decl: 3, k: 0 }),
+    ),
+    (
+        "theory T type t predicate p t predicate q int goal g: forall x y. p x /\\ q y end",
+        Made(4, 1, 0, 0),
     ),
 ];
 
