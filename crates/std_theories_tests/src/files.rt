@@ -1,19 +1,13 @@
 // The files of the library, each against a text of its theory.
 // They depend on the library and on what writes trees; nothing depends on them.
-use outside::Text;
-use std::alloc::Global;
-use std::process::Abort;
 use std_theories::library_files;
-use syntax_why::File;
-use tokens_why::{Token, TokenKind, lex};
+use tokens_why::lex;
 use unparse_why::unparse;
 
 const MEMORY: &str = "out of memory";
 
 // The path of each theory, its number of declarations, and a text.
-type Row = (&'static str, usize, &'static str);
-
-static THEORIES: [Row; 9] = [
+static THEORIES: [(&str, usize, &str); 9] = [
     (
         "int.Int",
         11,
@@ -75,42 +69,21 @@ static THEORIES: [Row; 9] = [
     ),
 ];
 
-// Whether kinds are those of tokens.
-fn are_kinds(kinds: &[TokenKind], tokens: &[Token]) -> bool {
-    for (kind, token) in kinds.iter().zip(tokens.iter()) {
-        if *kind != token.kind {
-            return false;
-        }
-    }
-    kinds.len() == tokens.len()
-}
-
-// Whether a file is written as a text.
-fn is_written(rt: &impl Abort, alloc: Global, file: &File, text: &str) -> bool {
-    let kinds = unparse(alloc, file).expect(rt, MEMORY);
-    let tokens = lex(alloc, text.as_bytes()).expect(rt, "tokens");
-    are_kinds(&kinds, &tokens)
-}
-
-// The number of declarations of a file of one theory.
-fn declarations(file: &File) -> Option<usize> {
-    match file.theories.as_slice() {
-        [theory] => Some(theory.decls.len()),
-        _ => None,
-    }
-}
-
-fn compare(rt: &impl Abort, alloc: Global, files: &[(Text, File)], rows: &[Row]) {
-    assert!(rt; files.len() == rows.len());
-    for (found, (name, decls, text)) in files.iter().zip(rows.iter()) {
-        assert!(rt; found.0.as_slice() == name.as_bytes());
-        assert!(rt; declarations(&found.1) == Some(*decls));
-        assert!(rt; is_written(rt, alloc, &found.1, text), "{name}");
-    }
-}
-
 #[test]
 fn each_theory_is_the_tree_of_its_text(rt: HostRuntime) {
     let files = library_files(rt.alloc()).expect(&rt, MEMORY);
-    compare(&rt, rt.alloc(), &files, &THEORIES);
+    assert_eq!(rt; files.len(), THEORIES.len());
+    for (found, (name, decls, text)) in files.iter().zip(THEORIES.iter()) {
+        assert!(rt; found.0.as_slice() == name.as_bytes());
+        let [theory] = found.1.theories.as_slice() else {
+            panic!(rt; "{name}")
+        };
+        assert_eq!(rt; theory.decls.len(), *decls, "{name}");
+        let kinds = unparse(rt.alloc(), &found.1).expect(&rt, MEMORY);
+        let tokens = lex(rt.alloc(), text.as_bytes()).expect(&rt, "tokens");
+        assert_eq!(rt; kinds.len(), tokens.len(), "{name}");
+        for (kind, token) in kinds.iter().zip(tokens.iter()) {
+            assert!(rt; *kind == token.kind, "{name}");
+        }
+    }
 }
