@@ -4,5 +4,6 @@
 mod expressions;
 mod files;
 mod parts;
+mod writing;
 
 pub use files::unparse;

@@ -22,8 +22,8 @@ push_expr-returns-in-Group t c = let is = tree_is c.args.e.now _ c.in-Group.is �
 pub push_expr-returns-in-Cast : goal.push_expr-returns-in-Cast
 push_expr-returns-in-Cast t c = let is = tree_is c.args.e.now _ c.in-Cast.is ∙ tree_of_node-Cast _ _ _ in grind (arith, common_steps)
 
-pub push_expr-returns-in_ok-push_scrutinees-in-Match : goal.push_expr-returns-in_ok-push_scrutinees-in-Match
-push_expr-returns-in_ok-push_scrutinees-in-Match t c = let is = tree_is c.args.e.now _ c.in-Match.is ∙ tree_of_node-Match _ _ _ _ in grind (arith, common_steps)
+pub push_expr-returns-in-Match : goal.push_expr-returns-in-Match
+push_expr-returns-in-Match t c = let is = tree_is c.args.e.now _ c.in-Match.is ∙ tree_of_node-Match _ _ _ _ in grind (arith, common_steps)
 
 pub push_expr-returns-in-Prefix : goal.push_expr-returns-in-Prefix
 push_expr-returns-in-Prefix t c = let is = tree_is c.args.e.now _ c.in-Prefix.is ∙ tree_of_node-Prefix _ _ _ in grind (arith, common_steps)
@@ -31,17 +31,17 @@ push_expr-returns-in-Prefix t c = let is = tree_is c.args.e.now _ c.in-Prefix.is
 pub push_expr-returns-in-Not : goal.push_expr-returns-in-Not
 push_expr-returns-in-Not t c = let is = tree_is c.args.e.now _ c.in-Not.is ∙ tree_of_node-Not _ _ in grind (arith, common_steps)
 
-pub push_expr-returns-in_ok-push_expr-in-Binary : goal.push_expr-returns-in_ok-push_expr-in-Binary
-push_expr-returns-in_ok-push_expr-in-Binary t c = let is = tree_is c.args.e.now _ c.in-Binary.is ∙ tree_of_node-Binary _ _ _ _ in grind (arith, common_steps)
+pub push_expr-returns-in-Binary : goal.push_expr-returns-in-Binary
+push_expr-returns-in-Binary t c = let is = tree_is c.args.e.now _ c.in-Binary.is ∙ tree_of_node-Binary _ _ _ _ in grind (arith, common_steps)
 
-pub push_expr-returns-in_ok-push_behind-in-If-2 : goal.push_expr-returns-in_ok-push_behind-in-If-2
-push_expr-returns-in_ok-push_behind-in-If-2 t c = let is = tree_is c.args.e.now _ c.in-If.is ∙ tree_of_node-If _ _ _ _ in grind (arith, common_steps)
+pub push_expr-returns-in-If : goal.push_expr-returns-in-If
+push_expr-returns-in-If t c = let is = tree_is c.args.e.now _ c.in-If.is ∙ tree_of_node-If _ _ _ _ in grind (arith, common_steps)
 
-pub push_expr-returns-in_ok-push_value-in-Let : goal.push_expr-returns-in_ok-push_value-in-Let
-push_expr-returns-in_ok-push_value-in-Let t c = let is = tree_is c.args.e.now _ c.in-Let.is ∙ tree_of_node-Let _ _ _ _ in grind (arith, common_steps)
+pub push_expr-returns-in-Let : goal.push_expr-returns-in-Let
+push_expr-returns-in-Let t c = let is = tree_is c.args.e.now _ c.in-Let.is ∙ tree_of_node-Let _ _ _ _ in grind (arith, common_steps)
 
-pub push_expr-returns-in_ok-push_triggers-in-Quant : goal.push_expr-returns-in_ok-push_triggers-in-Quant
-push_expr-returns-in_ok-push_triggers-in-Quant t c = let is = tree_is c.args.e.now _ c.in-Quant.is ∙ tree_of_node-Quant _ _ _ _ _ in grind (arith, common_steps)
+pub push_expr-returns-in-Quant : goal.push_expr-returns-in-Quant
+push_expr-returns-in-Quant t c = let is = tree_is c.args.e.now _ c.in-Quant.is ∙ tree_of_node-Quant _ _ _ _ _ in grind (arith, common_steps)
 
-pub push_triggers-returns-in_ok-push_terms-in-Some : goal.push_triggers-returns-in_ok-push_terms-in-Some
-push_triggers-returns-in_ok-push_terms-in-Some t c = let is = terms_of-fields c.in-Some.t in grind (arith, common_steps)
+pub push_triggers-returns-in-Some : goal.push_triggers-returns-in-Some
+push_triggers-returns-in-Some t c = let is = terms_of-fields c.in-Some.t in grind (arith, common_steps)

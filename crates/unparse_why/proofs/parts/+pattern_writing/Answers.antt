@@ -7,11 +7,11 @@ push_pattern-returns-in-Wild t c = let is = pattern_is c.args.p.now _ c.in-Wild.
 pub push_pattern-returns-in-Var : goal.push_pattern-returns-in-Var
 push_pattern-returns-in-Var t c = let is = pattern_is c.args.p.now _ c.in-Var.is ∙ pattern_of_node-Var _ _ in grind (arith, common_steps)
 
-pub push_pattern-returns-in_ok-push_called-in-Con : goal.push_pattern-returns-in_ok-push_called-in-Con
-push_pattern-returns-in_ok-push_called-in-Con t c = let is = pattern_is c.args.p.now _ c.in-Con.is ∙ pattern_of_node-Con _ _ _ in grind (arith, common_steps)
+pub push_pattern-returns-in-Con : goal.push_pattern-returns-in-Con
+push_pattern-returns-in-Con t c = let is = pattern_is c.args.p.now _ c.in-Con.is ∙ pattern_of_node-Con _ _ _ in grind (arith, common_steps)
 
-pub push_pattern-returns-in_ok-push_patterns-in-Group : goal.push_pattern-returns-in_ok-push_patterns-in-Group
-push_pattern-returns-in_ok-push_patterns-in-Group t c = let is = pattern_is c.args.p.now _ c.in-Group.is ∙ pattern_of_node-Group _ _ in grind (arith, common_steps)
+pub push_pattern-returns-in-Group : goal.push_pattern-returns-in-Group
+push_pattern-returns-in-Group t c = let is = pattern_is c.args.p.now _ c.in-Group.is ∙ pattern_of_node-Group _ _ in grind (arith, common_steps)
 
-pub push_pattern-returns-in_ok-push-in-Alias : goal.push_pattern-returns-in_ok-push-in-Alias
-push_pattern-returns-in_ok-push-in-Alias t c = let is = pattern_is c.args.p.now _ c.in-Alias.is ∙ pattern_of_node-Alias _ _ _ in grind (arith, common_steps)
+pub push_pattern-returns-in-Alias : goal.push_pattern-returns-in-Alias
+push_pattern-returns-in-Alias t c = let is = pattern_is c.args.p.now _ c.in-Alias.is ∙ pattern_of_node-Alias _ _ _ in grind (arith, common_steps)
