@@ -11,6 +11,7 @@ use Rattle.trees.specs.Facts.{IndicesFit}
 use Rattle.unify_types.specs.Assigned.{assign}
 use Rattle.unify_types.specs.Pairs.{SolvesAll}
 use Rattle.syntax_why.specs.Lexeme.{Word}
+use Rattle.tasks.specs.Vocabulary.{Vocabulary}
 use Rattle.elab_names.specs.Abstract.{Pattern, Patterns, wild, bound, constructed, tupled, aliased, no_patterns, more_patterns, Alternatives, no_alternatives, more_alternatives, count_patterns}
 use Rattle.elab_names.specs.declared.NamingFault.TheVariants.{WrongKind}
 use Rattle.elab_names.specs.Faults.{first_of, fault_if, pattern_names, pattern_fault, all_among, same_names, later_fault, alternatives_fault}
@@ -25,7 +26,7 @@ use Rattle.elab_typed.specs.Typed.{types_at}
 use Rattle.elab_typed.proofs.Words.{same_word, self_word, is_in, is_in_reverse, AreNew, pattern_new, both_true, among_count}
 use Rattle.elab_typed.proofs.Over.{IsOver, IsGood}
 use Rattle.elab_typed.proofs.Forms.{TypedAs}
-use Rattle.elab_typed.proofs.Sound.{IsPatternAt, AreNoted, both_noted, none_noted, first_solved, rest_solved, LocalsOver, sig, rigid}
+use Rattle.elab_typed.proofs.Sound.{IsPatternAt, AreNoted, both_noted, none_noted, first_solved, rest_solved, LocalsOver, sig}
 use Rattle.elab_typed.proofs.Patterns.{inner_types, IsMatched, pattern_sound}
 use Rattle.elab_typed.proofs.Arms.{AreArms, arm_typed, order_assigned}
 use Rattle.elab_typed.proofs.Reordering.{sort_at, type_at, reordered_good}
@@ -115,11 +116,11 @@ module _ (w : Where) (r : ℕ) (f : ℕ → Tree) (first : List LocalTree) where
         (patterns_bind ps (n + taken one.notes) (rest_of ts) (rest_solved r f one.notes.equations rest.notes.equations s))
 
 -- ---- the arms of a branch
-module _ (w : Where) (good : IsWellFormed w) where
+module _ (base : Vocabulary) (w : Where) (good : IsWellFormed base w) (rigid : ℕ) where
   -- a later alternative, by its variables and those of the first one
   record IsLater (first : List LocalTree) (t : Tree) (m : Matched) : Type 0 where
-    matched : IsMatched w good t m
-    binds : (f : ℕ → Tree) → SolvesAll (rigid w) f m.notes.equations → AllByRecursion (HasFirst (rigid w) f first) m.variables
+    matched : IsMatched base w good rigid t m
+    binds : (f : ℕ → Tree) → SolvesAll rigid f m.notes.equations → AllByRecursion (HasFirst rigid f first) m.variables
     among : all_among (names first) (names m.variables) ≡ true
     back : all_among (names m.variables) (names first) ≡ true
     new : AreNew [] (names m.variables)
@@ -127,7 +128,7 @@ module _ (w : Where) (good : IsWellFormed w) where
   abbrev AreLater : List LocalTree → Tree → List Matched → Type 0
   AreLater first t ms = AllByRecursion (IsLater first t) ms
 
-  later_sound : (ps : Alternatives) (first : List LocalTree) (n : ℕ) (t : Tree) → LocalsOver (sig w) first → IsOver (sig w) true t → AlternativesTuples w ps → later_fault w (names first) ps ≡ None → AreLater first t (later_pieces w first n t ps)
+  later_sound : (ps : Alternatives) (first : List LocalTree) (n : ℕ) (t : Tree) → LocalsOver (sig base w) first → IsOver (sig base w) true t → AlternativesTuples base w ps → later_fault w (names first) ps ≡ None → AreLater first t (later_pieces w first n t ps)
   later_sound no_alternatives first n t h o u q = tt
   later_sound (more_alternatives i p ps) first n t h o u q =
       let same = same_names (names first) (pattern_names p) in
@@ -137,8 +138,8 @@ module _ (w : Where) (good : IsWellFormed w) where
       let one = pattern_piece w (Some first) n t p in
       let e : names one.variables ≡ pattern_names p = pattern_variables w (Some first) n t p in
       let it : IsLater first t one = record {
-        matched = pattern_sound w good p (Some first) n t [] h o u.0 l.0;
-        binds = λ f s. pattern_binds w (rigid w) f first p n t s;
+        matched = pattern_sound base w good rigid p (Some first) n t [] h o u.0 l.0;
+        binds = λ f s. pattern_binds w rigid f first p n t s;
         among = rw e z.0;
         back = rw e z.1;
         new = rw e (pattern_new w p [] l.0);
@@ -148,17 +149,17 @@ module _ (w : Where) (good : IsWellFormed w) where
   count_names : (vs : List LocalTree) → length (names vs) ≡ length vs
   count_names vs = length-map vs (λ (l : LocalTree). l.name)
 
-  count_inner : (f : ℕ → Tree) (vs : List LocalTree) → length (inner_types (rigid w) f vs) ≡ length vs
-  count_inner f vs = length-map (reverse vs) (λ (l : LocalTree). assign (rigid w) f l.type) ∙ length-reverse vs
+  count_inner : (f : ℕ → Tree) (vs : List LocalTree) → length (inner_types rigid f vs) ≡ length vs
+  count_inner f vs = length-map (reverse vs) (λ (l : LocalTree). assign rigid f l.type) ∙ length-reverse vs
 
   -- the body under the variables of a later alternative
-  reordered_typed : (f : ℕ → Tree) (first : List LocalTree) (ls : List LocalTree) (s : Tree) (t : Option Tree) (m : Matched) (body : Tree) → ((j : ℕ) → IsOver (sig w) true (f j)) → AreNew [] (names first) → IsLater first s m → SolvesAll (rigid w) f m.notes.equations
-      → TypedAs (sig w) (inner_types (rigid w) f first ++ types_at (rigid w) f ls) t (assign (rigid w) f body) → IndicesFit (assign (rigid w) f (reordered first m.variables body))
-      → TypedAs (sig w) (inner_types (rigid w) f m.variables ++ types_at (rigid w) f ls) t (assign (rigid w) f (reordered first m.variables body))
+  reordered_typed : (f : ℕ → Tree) (first : List LocalTree) (ls : List LocalTree) (s : Tree) (t : Option Tree) (m : Matched) (body : Tree) → ((j : ℕ) → IsOver (sig base w) true (f j)) → AreNew [] (names first) → IsLater first s m → SolvesAll rigid f m.notes.equations
+      → TypedAs (sig base w) (inner_types rigid f first ++ types_at rigid f ls) t (assign rigid f body) → IndicesFit (assign rigid f (reordered first m.variables body))
+      → TypedAs (sig base w) (inner_types rigid f m.variables ++ types_at rigid f ls) t (assign rigid f (reordered first m.variables body))
   reordered_typed f first ls s t m body o new it solves x i =
-      let r = rigid w in
+      let r = rigid in
       let places = places_among (reverse first) (reverse m.variables) in
-      let q : assign r f (reordered first m.variables body) ≡ order.at places 0 (assign r f body) = order_assigned (sig w) r f o places 0 body in
+      let q : assign r f (reordered first m.variables body) ≡ order.at places 0 (assign r f body) = order_assigned (sig base w) r f o places 0 body in
       let xs = inner_types r f first in
       let ys = inner_types r f m.variables in
       let zs = types_at r f ls in
@@ -171,69 +172,69 @@ module _ (w : Where) (good : IsWellFormed w) where
       let there = reversed_all (λ (l : LocalTree). is_in l.name (names (reverse m.variables)) ≡ true) first (inside e first (each_among first (names m.variables) it.among)) in
       let bound = reversed_all (HasFirst r f first) m.variables (it.binds f solves) in
       let same = same_place r f first (reverse first) (reverse m.variables) own there bound in
-      let sorted = typed_sorted (sig w) (xs ++ zs) (assign r f body) x.0.0 in
-      let g : IsGood (sig w) (ys ++ zs) (order.at places 0 (assign r f body)) = reordered_good (sig w) places xs ys zs a b same (assign r f body) 0 [] refl x.0 (rw q at i) in
-      let z : TypedAs (sig w) (ys ++ zs) t (order.at places 0 (assign r f body)) = (g, (sort_at places 0 (assign r f body) ∙ x.1.0, type_at places 0 (assign r f body) sorted ∙ x.1.1)) in
+      let sorted = typed_sorted (sig base w) (xs ++ zs) (assign r f body) x.0.0 in
+      let g : IsGood (sig base w) (ys ++ zs) (order.at places 0 (assign r f body)) = reordered_good (sig base w) places xs ys zs a b same (assign r f body) 0 [] refl x.0 (rw q at i) in
+      let z : TypedAs (sig base w) (ys ++ zs) t (order.at places 0 (assign r f body)) = (g, (sort_at places 0 (assign r f body) ∙ x.1.0, type_at places 0 (assign r f body) sorted ∙ x.1.1)) in
       rw q z
     where
       inside : names (reverse m.variables) ≡ reverse (names m.variables) → (vs : List LocalTree) → AllByRecursion (λ (l : LocalTree). is_in l.name (names m.variables) ≡ true) vs → AllByRecursion (λ (l : LocalTree). is_in l.name (names (reverse m.variables)) ≡ true) vs
       inside e [] h = tt
       inside e (v ∷ vs) h = (ap (is_in v.name) e ∙ is_in_reverse v.name (names m.variables) ∙ h.0, inside e vs h.1)
 
-  later_typed : (f : ℕ → Tree) (first : List LocalTree) (ls : List LocalTree) (s : Tree) (t : Option Tree) (body : Tree) (ms : List Matched) → ((j : ℕ) → IsOver (sig w) true (f j)) → AreNew [] (names first) → AreLater first s ms
-      → SolvesAll (rigid w) f (all_notes ms).equations → TypedAs (sig w) (inner_types (rigid w) f first ++ types_at (rigid w) f ls) t (assign (rigid w) f body)
-      → AllByRecursion IndicesFit (map (assign (rigid w) f) (later_arms first body ms)) → AreArms (sig w) (types_at (rigid w) f ls) (assign (rigid w) f s) t (map (assign (rigid w) f) (later_arms first body ms))
+  later_typed : (f : ℕ → Tree) (first : List LocalTree) (ls : List LocalTree) (s : Tree) (t : Option Tree) (body : Tree) (ms : List Matched) → ((j : ℕ) → IsOver (sig base w) true (f j)) → AreNew [] (names first) → AreLater first s ms
+      → SolvesAll rigid f (all_notes ms).equations → TypedAs (sig base w) (inner_types rigid f first ++ types_at rigid f ls) t (assign rigid f body)
+      → AllByRecursion IndicesFit (map (assign rigid f) (later_arms first body ms)) → AreArms (sig base w) (types_at rigid f ls) (assign rigid f s) t (map (assign rigid f) (later_arms first body ms))
   later_typed f first ls s t body [] o new its solves x i = tt
   later_typed f first ls s t body (m ∷ ms) o new its solves x i =
-      let r = rigid w in
+      let r = rigid in
       let mine = first_solved r f m.notes.equations (all_notes ms).equations solves in
       let p = its.0.matched.typed f o mine (types_at r f ls) in
       let b = reordered_typed f first ls s t m body o new its.0 mine x i.0.1 in (
-        arm_typed (sig w) (types_at r f ls) (assign r f s) t (inner_types r f m.variables) (assign r f m.tree) (assign r f (reordered first m.variables body)) p b,
+        arm_typed (sig base w) (types_at r f ls) (assign r f s) t (inner_types r f m.variables) (assign r f m.tree) (assign r f (reordered first m.variables body)) p b,
         later_typed f first ls s t body ms o new its.1 (rest_solved r f m.notes.equations (all_notes ms).equations solves) x i.1,
       )
 
-  later_patterns : (f : ℕ → Tree) (first : List LocalTree) (s : Tree) (ms : List Matched) → ((j : ℕ) → IsOver (sig w) true (f j)) → AreLater first s ms → SolvesAll (rigid w) f (all_notes ms).equations
-      → AllByRecursion (IsPatternAt w (assign (rigid w) f s)) (map (assign (rigid w) f) (pattern_trees ms))
+  later_patterns : (f : ℕ → Tree) (first : List LocalTree) (s : Tree) (ms : List Matched) → ((j : ℕ) → IsOver (sig base w) true (f j)) → AreLater first s ms → SolvesAll rigid f (all_notes ms).equations
+      → AllByRecursion (IsPatternAt base w rigid (assign rigid f s)) (map (assign rigid f) (pattern_trees ms))
   later_patterns f first s [] o h z = tt
   later_patterns f first s (m ∷ ms) o h z =
-      let c = h.0.matched.typed f o (first_solved (rigid w) f m.notes.equations (all_notes ms).equations z) [] in
-      ((c.0, c.1, c.2), later_patterns f first s ms o h.1 (rest_solved (rigid w) f m.notes.equations (all_notes ms).equations z))
+      let c = h.0.matched.typed f o (first_solved rigid f m.notes.equations (all_notes ms).equations z) [] in
+      ((c.0, c.1, c.2), later_patterns f first s ms o h.1 (rest_solved rigid f m.notes.equations (all_notes ms).equations z))
 
-  later_over : (first : List LocalTree) (t : Tree) (ms : List Matched) → AreLater first t ms → AreNoted w (all_notes ms)
-  later_over first t [] h = none_noted w
-  later_over first t (m ∷ ms) h = both_noted w m.notes (all_notes ms) h.0.matched.notes (later_over first t ms h.1)
+  later_over : (first : List LocalTree) (t : Tree) (ms : List Matched) → AreLater first t ms → AreNoted base w rigid (all_notes ms)
+  later_over first t [] h = none_noted base w rigid
+  later_over first t (m ∷ ms) h = both_noted base w rigid m.notes (all_notes ms) h.0.matched.notes (later_over first t ms h.1)
 
   -- the alternatives of a branch that takes a type
   pub record IsBranch (s : Tree) (ms : List Matched) : Type 0 where
-    pub notes : AreNoted w (all_notes ms)
-    pub patterns : (f : ℕ → Tree) → ((j : ℕ) → IsOver (sig w) true (f j)) → SolvesAll (rigid w) f (all_notes ms).equations → AllByRecursion (IsPatternAt w (assign (rigid w) f s)) (map (assign (rigid w) f) (pattern_trees ms))
-    pub variables : LocalsOver (sig w) (first_variables ms)
-    pub typed : (f : ℕ → Tree) → ((j : ℕ) → IsOver (sig w) true (f j)) → SolvesAll (rigid w) f (all_notes ms).equations → (ls : List LocalTree) (t : Option Tree) (body : Tree)
-        → (IndicesFit (assign (rigid w) f body) → TypedAs (sig w) (types_at (rigid w) f (reverse (first_variables ms) ++ ls)) t (assign (rigid w) f body))
-        → AllByRecursion IndicesFit (map (assign (rigid w) f) (arms body ms)) → AreArms (sig w) (types_at (rigid w) f ls) (assign (rigid w) f s) t (map (assign (rigid w) f) (arms body ms))
+    pub notes : AreNoted base w rigid (all_notes ms)
+    pub patterns : (f : ℕ → Tree) → ((j : ℕ) → IsOver (sig base w) true (f j)) → SolvesAll rigid f (all_notes ms).equations → AllByRecursion (IsPatternAt base w rigid (assign rigid f s)) (map (assign rigid f) (pattern_trees ms))
+    pub variables : LocalsOver (sig base w) (first_variables ms)
+    pub typed : (f : ℕ → Tree) → ((j : ℕ) → IsOver (sig base w) true (f j)) → SolvesAll rigid f (all_notes ms).equations → (ls : List LocalTree) (t : Option Tree) (body : Tree)
+        → (IndicesFit (assign rigid f body) → TypedAs (sig base w) (types_at rigid f (reverse (first_variables ms) ++ ls)) t (assign rigid f body))
+        → AllByRecursion IndicesFit (map (assign rigid f) (arms body ms)) → AreArms (sig base w) (types_at rigid f ls) (assign rigid f s) t (map (assign rigid f) (arms body ms))
 
-  pub alternatives_sound : (ps : Alternatives) (n : ℕ) (s : Tree) → IsOver (sig w) true s → AlternativesTuples w ps → alternatives_fault w ps ≡ None → IsBranch s (alternatives_pieces w n s ps)
-  alternatives_sound no_alternatives n s o u q = record { notes = none_noted w; patterns = λ f g z. tt; variables = tt; typed = λ f g z ls t body x i. tt }
+  pub alternatives_sound : (ps : Alternatives) (n : ℕ) (s : Tree) → IsOver (sig base w) true s → AlternativesTuples base w ps → alternatives_fault w ps ≡ None → IsBranch s (alternatives_pieces w n s ps)
+  alternatives_sound no_alternatives n s o u q = record { notes = none_noted base w rigid; patterns = λ f g z. tt; variables = tt; typed = λ f g z ls t body x i. tt }
   alternatives_sound (more_alternatives i p ps) n s o u q =
       let k = none_both (pattern_fault w [] p) (later_fault w (pattern_names p) ps) q in
       let one = pattern_piece w None n s p in
       let e : names one.variables ≡ pattern_names p = pattern_variables w None n s p in
-      let x = pattern_sound w good p None n s [] tt o u.0 k.0 in
+      let x = pattern_sound base w good rigid p None n s [] tt o u.0 k.0 in
       let new : AreNew [] (names one.variables) = rw e (pattern_new w p [] k.0) in
       let ms = later_pieces w one.variables (n + taken one.notes) s ps in
       let y = later_sound ps one.variables (n + taken one.notes) s x.variables o u.1 (rw e k.1) in
       record {
-        notes = both_noted w one.notes (all_notes ms) x.notes (later_over one.variables s ms y);
+        notes = both_noted base w rigid one.notes (all_notes ms) x.notes (later_over one.variables s ms y);
         patterns = λ f g z.
-            let c = x.typed f g (first_solved (rigid w) f one.notes.equations (all_notes ms).equations z) [] in
-            ((c.0, c.1, c.2), later_patterns f one.variables s ms g y (rest_solved (rigid w) f one.notes.equations (all_notes ms).equations z));
+            let c = x.typed f g (first_solved rigid f one.notes.equations (all_notes ms).equations z) [] in
+            ((c.0, c.1, c.2), later_patterns f one.variables s ms g y (rest_solved rigid f one.notes.equations (all_notes ms).equations z));
         variables = x.variables;
         typed = λ f g z ls t body b j.
-            let r = rigid w in
+            let r = rigid in
             let m : types_at r f (reverse one.variables ++ ls) ≡ inner_types r f one.variables ++ types_at r f ls = map-append (λ (l : LocalTree). assign r f l.type) (reverse one.variables) ls in
-            let c : TypedAs (sig w) (inner_types r f one.variables ++ types_at r f ls) t (assign r f body) = rw (sym m) (b j.0.1) in (
-              arm_typed (sig w) (types_at r f ls) (assign r f s) t (inner_types r f one.variables) (assign r f one.tree) (assign r f body)
+            let c : TypedAs (sig base w) (inner_types r f one.variables ++ types_at r f ls) t (assign r f body) = rw (sym m) (b j.0.1) in (
+              arm_typed (sig base w) (types_at r f ls) (assign r f s) t (inner_types r f one.variables) (assign r f one.tree) (assign r f body)
                   (x.typed f g (first_solved r f one.notes.equations (all_notes ms).equations z) (types_at r f ls)) c,
               later_typed f one.variables ls s t body ms g new y (rest_solved r f one.notes.equations (all_notes ms).equations z) c j.1,
             );

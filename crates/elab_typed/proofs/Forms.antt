@@ -2,7 +2,7 @@
 use Rattle.std.proofs.Common.{◌≡◌, ◌≢◌, ℕ, ◌<◌, ℤ, Bool, true, false, List, [], ◌∷◌, ◌++◌, map, option_map, length, slice_get, Option, Some, None, IsSomeAnd, IsTrue, inl, inr, refl, sym, ap, subst, ◌∙◌}
 use Rattle.trees.specs.declared.Op.{Op}
 use Rattle.trees.specs.declared.Sort.{Sort}
-use Rattle.trees.specs.declared.Sort.TheVariants.{Kind, Term, Formula, Pattern, Branch}
+use Rattle.trees.specs.declared.Sort.TheVariants.{Kind, Term, Pattern}
 use Rattle.trees.specs.declared.Sort.TheVariants as sorts
 use Rattle.trees.specs.Tree.{Tree, Leaf, One, Two, Three, Head, HEnd, HCell, HBound, HNum, HFun, HPred, HEq, HTrue, HFalse, HNot, HJoin, HForall, HExists, HLet, HIf, HArm, HPatAny, HPatVar, HPatCon, HPatAlias, head_of}
 use Rattle.trees.specs.Sorts.{Fits, sort_of, yield, top_sort, first_sort, IsList, IsListOf, IsExpression, int_type, type_of, yield_type, top_type}

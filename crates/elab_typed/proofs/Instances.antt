@@ -11,7 +11,7 @@ use Rattle.elab_typed.proofs.Over.{IsOver, AreOver, over_assigned}
 
 -- the types of a use in place of type variables, as an assignment
 module _ (ts : List Tree) where
-  abbrev put : ℕ → Tree
+  abbrev pub put : ℕ → Tree
   put j = get_or ts j (TyVar j)
 
   leaf_put : (h : Head) → leaf_by (typing ts) h ≡ leaf_assigned 0 put h
@@ -23,7 +23,7 @@ module _ (ts : List Tree) where
   one_put d (HParam n) a = refl
   one_put d _ a = refl
 
-  put_assigns : (d : ℕ) (e : Tree) → change (typing ts) d e ≡ assign 0 put e
+  pub put_assigns : (d : ℕ) (e : Tree) → change (typing ts) d e ≡ assign 0 put e
   put_assigns d (Leaf h) = leaf_put h
   put_assigns d (One h a) = one_put d h (change (typing ts) d a) ∙ ap (One h) (put_assigns d a)
   put_assigns d (Two h a b) = cc (put_assigns d a, put_assigns (d + binders_over h a) b)

@@ -29,7 +29,7 @@ use Rattle.elab_typed.proofs.Over.{IsOver, AreOver, type_over, over_assigned}
 use Rattle.elab_typed.proofs.Instances.{inst_over, variables_over, cells_assigned, all_assigned_over}
 use Rattle.elab_typed.proofs.Forms.{PatternTyped, PartsTyped, wild_typed, bound_typed, alias_typed, no_parts, more_parts, constructor_typed}
 use Rattle.elab_typed.proofs.Signed.{IsEntry, named_symbol, named_matched, parameters_over, instance_at, at_assigned, parameters_assigned, int_over}
-use Rattle.elab_typed.proofs.Sound.{AreNoted, noted_sound, both_noted, none_noted, suc_same, EquationsOver, first_solved, rest_solved, LocalsOver, both_locals, sig, rigid, result_is, result_typed, count_at}
+use Rattle.elab_typed.proofs.Sound.{AreNoted, noted_sound, both_noted, none_noted, suc_same, EquationsOver, first_solved, rest_solved, LocalsOver, both_locals, sig, result_is, result_typed, count_at}
 
 -- the types of variables, innermost first
 abbrev pub inner_types : ℕ → (ℕ → Tree) → List LocalTree → List Tree
@@ -57,22 +57,22 @@ constructor_is : (k : SymbolKind) → is_constructor_kind k ≡ true → k ≡ C
 constructor_is Constructor q = refl
 constructor_is _ q = absurd (cc)
 
-module _ (w : Where) (good : IsWellFormed w) where
+module _ (base : Vocabulary) (w : Where) (good : IsWellFormed base w) (rigid : ℕ) where
   abbrev v : Vocabulary
-  v = sig w
+  v = sig base w
 
   abbrev r : ℕ
-  r = rigid w
+  r = rigid
 
   pub record IsMatched (t : Tree) (m : Matched) : Type 0 where
-    pub notes : AreNoted w m.notes
+    pub notes : AreNoted base w rigid m.notes
     pub variables : LocalsOver v m.variables
     pub typed : (f : ℕ → Tree) → ((j : ℕ) → IsOver v true (f j)) → SolvesAll r f m.notes.equations → (types : List Tree)
         → PatternTyped v types (assign r f t) (inner_types r f m.variables) (assign r f m.tree)
 
   -- parts of these types
   pub record AreMatched (ts : List Tree) (m : Matched) : Type 0 where
-    pub notes : AreNoted w m.notes
+    pub notes : AreNoted base w rigid m.notes
     pub variables : LocalsOver v m.variables
     pub typed : (f : ℕ → Tree) → ((j : ℕ) → IsOver v true (f j)) → SolvesAll r f m.notes.equations → (types : List Tree)
         → PartsTyped v types (map (assign r f) ts) (inner_types r f m.variables) (assign r f m.tree)
@@ -87,32 +87,32 @@ module _ (w : Where) (good : IsWellFormed w) where
       let e = symbol_or w.symbols k in
       let p = none_both (fault_if (not (is_constructor_kind e.kind)) (WrongKind i)) (fault_if (not (length e.args == n)) (Arity i)) h in
       let q = constructor_is e.kind (must_be (is_constructor_kind e.kind) (WrongKind i) p.0) in
-      (named_symbol v k s, q, named_matched w good k s q, eqb-true (length e.args) n (must_be (length e.args == n) (Arity i) p.1))
+      (named_symbol v k s, q, named_matched base w good k s q, eqb-true (length e.args) n (must_be (length e.args == n) (Arity i) p.1))
 
   constructor_tuple : (n : ℕ) (m : Option ℕ) → IsSomeAnd m (IsTuple v n) → IsConstructor n (entry_of w.symbols m)
   constructor_tuple n None s = absurd s
-  constructor_tuple n (Some k) s = (named_symbol v k s.symbol, s.kind, named_matched w good k s.symbol s.kind, s.args)
+  constructor_tuple n (Some k) s = (named_symbol v k s.symbol, s.kind, named_matched base w good k s.symbol s.kind, s.args)
 
   constructed_sound : (n i k : ℕ) (t : Tree) (c : Entry) (m : Matched) → IsConstructor k c → IsOver v true t → AreMatched (part_types n c) m → IsMatched t (constructed_by n i t c m)
   constructed_sound n i k t c m it o a =
       let e = c.symbol in
       let named = it.0 in
       let makes : MakesTerms e.kind = rw it.1 tt in
-      let x = result_is w good c named makes in
-      let z = result_typed w good c named e.result x.0 x.1 named.types.result in
+      let x = result_is base w good rigid c named makes in
+      let z = result_typed base w good rigid c named e.result x.0 x.1 named.types.result in
       let u : at_unknowns n e (result_or_int e.result) ≡ at_unknowns n e x.0 = ap (λ (y : Option Tree). at_unknowns n e (result_or_int y)) x.1 in
       record {
         notes =
             let from = at_unknowns n e (result_or_int e.result) in
-            both_noted w (noted ((from, t) ∷ []) (replicate e.vars i)) m.notes
-            (noted_sound w ((from, t) ∷ []) (replicate e.vars i) ((rw u (inst_over v true (type_variables n e.vars) (variables_over v n e.vars) x.0 (type_over v e.vars x.0 z)), o), tt)) a.notes;
+            both_noted base w rigid (noted ((from, t) ∷ []) (replicate e.vars i)) m.notes
+            (noted_sound base w rigid ((from, t) ∷ []) (replicate e.vars i) ((rw u (inst_over v true (type_variables n e.vars) (variables_over v n e.vars) x.0 (type_over v e.vars x.0 z)), o), tt)) a.notes;
         variables = a.variables;
         typed = λ f g s types.
             let ts = instance_at v e named.types n r f in
             let y = a.typed f g s.1 types in
             let same : inst_types x.0 ts ≡ assign r f t = sym (at_assigned v e named.types n r f x.0 z) ∙ ap (assign r f) (sym u) ∙ s.0 in
             let parts : PartsTyped v types (map (λ b. inst_types b ts) e.args) (inner_types r f m.variables) (assign r f m.tree) = rw (sym (parameters_assigned v e named.types n r f)) y in
-            rw (cells_assigned r f (type_variables n e.vars)) (constructor_typed v types c.number e ts (inner_types r f m.variables) (assign r f m.tree) x.0 (assign r f t) it.2 named.entry it.1 (count_at w good c named n f)
+            rw (cells_assigned r f (type_variables n e.vars)) (constructor_typed v types c.number e ts (inner_types r f m.variables) (assign r f m.tree) x.0 (assign r f t) it.2 named.entry it.1 (count_at base w good rigid c named n f)
             (all_assigned_over v r f g (type_variables n e.vars) (variables_over v n e.vars)) parts x.1 same (over_assigned v r f g true t o));
       }
 
@@ -120,10 +120,10 @@ module _ (w : Where) (good : IsWellFormed w) where
   parts_count n k c it = length-map c.symbol.args (at_unknowns n c.symbol) ∙ it.3
 
   mutual
-    pub pattern_sound : (p : Pattern) (first : Option (List LocalTree)) (n : ℕ) (t : Tree) (seen : List Word) → FirstOver v first → IsOver v true t → PatternTuples w p → pattern_fault w seen p ≡ None → IsMatched t (pattern_piece w first n t p)
-    pattern_sound (wild i) first n t seen h o u q = record { notes = none_noted w; variables = tt; typed = λ f g s types. wild_typed v types (assign r f t) (over_assigned v r f g true t o) }
+    pub pattern_sound : (p : Pattern) (first : Option (List LocalTree)) (n : ℕ) (t : Tree) (seen : List Word) → FirstOver v first → IsOver v true t → PatternTuples base w p → pattern_fault w seen p ≡ None → IsMatched t (pattern_piece w first n t p)
+    pattern_sound (wild i) first n t seen h o u q = record { notes = none_noted base w rigid; variables = tt; typed = λ f g s types. wild_typed v types (assign r f t) (over_assigned v r f g true t o) }
     pattern_sound (bound i x) first n t seen h o u q = record {
-      notes = noted_sound w (bind first x t) [] (bind_over v first x t (int_over w good) h o);
+      notes = noted_sound base w rigid (bind first x t) [] (bind_over v first x t (int_over base w good) h o);
       variables = (o, tt);
       typed = λ f g s types. bound_typed v types (assign r f t) (over_assigned v r f g true t o);
     }
@@ -143,15 +143,15 @@ module _ (w : Where) (good : IsWellFormed w) where
         let inner = pattern_piece w first n t p in
         let y = pattern_sound p first n t seen h o u k.0 in
         record {
-          notes = both_noted w inner.notes (noted (bind first x t) []) y.notes (noted_sound w (bind first x t) [] (bind_over v first x t (int_over w good) h o));
+          notes = both_noted base w rigid inner.notes (noted (bind first x t) []) y.notes (noted_sound base w rigid (bind first x t) [] (bind_over v first x t (int_over base w good) h o));
           variables = both_locals v inner.variables (local x t ∷ []) y.variables (o, tt);
           typed = λ f g s types. rw (inner_both r f inner.variables (local x t ∷ []))
               (alias_typed v types (assign r f t) (inner_types r f inner.variables) (assign r f inner.tree) (y.typed f g (first_solved r f inner.notes.equations (bind first x t) s) types));
         }
 
-    patterns_sound : (ps : Patterns) (first : Option (List LocalTree)) (n : ℕ) (ts : List Tree) (seen : List Word) → length ts ≡ count_patterns ps → FirstOver v first → AreOver v ts → PatternsTuples w ps → patterns_fault w seen ps ≡ None
+    patterns_sound : (ps : Patterns) (first : Option (List LocalTree)) (n : ℕ) (ts : List Tree) (seen : List Word) → length ts ≡ count_patterns ps → FirstOver v first → AreOver v ts → PatternsTuples base w ps → patterns_fault w seen ps ≡ None
         → AreMatched ts (patterns_piece w first n ts ps)
-    patterns_sound no_patterns first n [] seen l h o u q = record { notes = none_noted w; variables = tt; typed = λ f g s types. no_parts v types }
+    patterns_sound no_patterns first n [] seen l h o u q = record { notes = none_noted base w rigid; variables = tt; typed = λ f g s types. no_parts v types }
     patterns_sound no_patterns first n (t ∷ ts) seen l h o u q = absurd (cc)
     patterns_sound (more_patterns p ps) first n [] seen l h o u q = absurd (cc)
     patterns_sound (more_patterns p ps) first n (t ∷ ts) seen l h o u q =
@@ -161,7 +161,7 @@ module _ (w : Where) (good : IsWellFormed w) where
         let x = pattern_sound p first n t seen h o.0 u.0 k.0 in
         let y = patterns_sound ps first (n + taken one.notes) ts (seen ++ pattern_names p) (suc_same l) h o.1 u.1 k.1 in
         record {
-          notes = both_noted w one.notes rest.notes x.notes y.notes;
+          notes = both_noted base w rigid one.notes rest.notes x.notes y.notes;
           variables = both_locals v one.variables rest.variables x.variables y.variables;
           typed = λ f g s types. rw (inner_both r f one.variables rest.variables)
               (more_parts v types (assign r f t) (map (assign r f) ts) (inner_types r f one.variables) (inner_types r f rest.variables) (assign r f one.tree) (assign r f rest.tree)

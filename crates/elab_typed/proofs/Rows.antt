@@ -13,6 +13,7 @@ use Rattle.elab_walk.specs.Pieces.{piece}
 use Rattle.elab_parts.specs.Elaborated.{IsSolved, IsFixed}
 use Rattle.elab_typed.specs.Signature.{IsSymbol, IsWellFormed}
 use Rattle.elab_typed.specs.Typed.{IsNamed}
+use Rattle.elab_typed.proofs.Signed.{some_at}
 use Rattle.elab_typed.proofs.Solutions.{solved_formula}
 
 abbrev constant : SymbolTree
@@ -33,11 +34,13 @@ constant_types = record { args = λ k d l. absurd (omega arith); result = int_in
 constant_is : IsSymbol signature 1
 constant_is = record { usable = refl; signature = record { entry = omega arith; kind = λ e. cc; types = constant_types }; result = λ m. tt }
 
-well_formed : IsWellFormed here
+well_formed : IsWellFormed signature here
 well_formed = record {
   int = refl;
+  int_usable = refl;
   types = λ qs x. (refl, record { entry = omega arith; kind = refl; types = record { args = λ k d l. absurd (omega arith); result = tt } });
   names = λ qs x. constant_is;
+  constructors = λ k z q. rw (some_at here.symbols k int_symbol z.signature.entry, q) refl;
 }
 
 abbrev source : Expression
@@ -46,7 +49,7 @@ source = equated 1 true (apply 0 [] (codes "c") none) (literal 2 (pos 0))
 abbrev formula : Tree
 formula = Two HEq (Three (HFun 1) (Leaf HEnd) (Leaf HEnd) int_type) (Leaf (HNum (pos 0)))
 
-named : IsNamed here [] None source
+named : IsNamed signature here [] None source
 named = record { signature = well_formed; tuples = (tt, tt); named = refl }
 
 solved : IsSolved 0 (piece here [] 0 None source) formula []
@@ -61,4 +64,4 @@ solved = record {
     fixed (suc i) l = absurd (omega arith)
 
 row : IsFormulaOver signature [] 0 formula
-row = solved_formula here well_formed 0 source formula [] named solved ((tt, tt, (tt, tt)), tt)
+row = solved_formula signature here well_formed 0 0 source formula [] named solved ((tt, tt, (tt, tt)), tt)

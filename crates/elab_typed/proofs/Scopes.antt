@@ -1,11 +1,11 @@
 -- Over a typed signature and typed scopes names stand for what a well-formed signature asks.
-use Rattle.std.proofs.Common.{◌≡◌, ℕ, ◌<◌, zero, suc, Bool, true, false, cond, List, [], ◌∷◌, ◌++◌, length, get_or, slice_get, All, Option, Some, None, IfSome, option_map, codes, refl, sym, ap, subst, arith}
+use Rattle.std.proofs.Common.{◌≡◌, ℕ, ◌<◌, zero, suc, Bool, true, false, cond, List, [], ◌∷◌, ◌++◌, length, get_or, slice_get, All, Option, Some, None, IfSome, option_map, IsTrue, codes, refl, sym, ap, subst, arith}
 use Rattle.std.specs.Str.{bytes_eq}
 use Rattle.std.specs.List.{AllByRecursion}
 use Rattle.std.proofs.lemmas.List.Elements.{recursion_from_All, All-from_recursion, All-cons, All-set}
 use Rattle.trees.specs.Tree.{Tree}
 use Rattle.tasks.specs.Task.{SymbolTree, symbol_or, int_symbol}
-use Rattle.tasks.specs.Vocabulary.{Vocabulary, of_signature}
+use Rattle.tasks.specs.Vocabulary.{Vocabulary}
 use Rattle.names_space.specs.declared.Table.{Table}
 use Rattle.names_space.specs.declared.Table.TheVariants.{Types, Symbols, Propositions, Scopes}
 use Rattle.names_space.specs.declared.TypeName.{TypeName}
@@ -14,9 +14,10 @@ use Rattle.names_space.specs.Names.{Names, Entry, number_of, same_table, is_name
 use Rattle.syntax_why.specs.Lexeme.{Word}
 use Rattle.elab_names.specs.Naming.{or_int, type_named, meaning_at}
 use Rattle.elab_parts.specs.Outcomes.{over}
-use Rattle.elab_typed.specs.Signature.{IsSymbol, IsMeaning, IsWellFormed}
+use Rattle.elab_typed.specs.Signature.{with_entries, IsSymbol, IsMeaning, IsWellFormed}
 use Rattle.elab_typed.specs.Scopes.{IsTypedEntry, IsTypedSignature, IsTypeNumber, IsSymbolNumber, IsTypeName, IsTypedThing, AreTypedScopes}
 use Rattle.elab_typed.proofs.Words.{both_true}
+use Rattle.elab_typed.proofs.Signed.{some_at}
 
 same_is : (a b : Table) → same_table a b ≡ true → a ≡ b
 same_is Types Types h = refl
@@ -70,10 +71,22 @@ module _ (P : Table → TypeName → Type 0) where
       let e : Entry = record { table = table; name = x; thing = t; declared = d } in
       All-set (λ (es : List Entry). All IsEntry es) names.entries (innermost names) (e ∷ entries_of names (innermost names)) (All-cons IsEntry e (entries_of names (innermost names)) h (All-from_recursion IsEntry (entries_of names (innermost names)) old)) k
 
+-- ---- names of types
+abbrev pub OnTypes : Vocabulary → List Tree → Table → TypeName → Type 0
+OnTypes v s Types t = IsTypeName v s t
+OnTypes v s _ t = Unit {0}
+
+on_types : (v : Vocabulary) (s : List Tree) (table : Table) (t : TypeName) → IsTypedThing v s table t → OnTypes v s table t
+on_types v s Types t h = h
+on_types v s _ t h = tt
+
+pub types_alone : (v : Vocabulary) (s : List Tree) (names : Names) → AreTypedScopes v s names → All (λ (es : List Entry). All (λ (e : Entry). OnTypes v s e.table e.thing) es) names.entries
+types_alone v s names h = λ k es i. λ j e x. on_types v s (get_or (get_or names.entries k es) j e).table (get_or (get_or names.entries k es) j e).thing (h k es i j e x)
+
 -- ---- over a typed signature
-module _ (symbols : List SymbolTree) (sig : IsTypedSignature symbols) where
+module _ (base : Vocabulary) (symbols : List SymbolTree) (sig : IsTypedSignature base symbols) where
   abbrev v : Vocabulary
-  v = of_signature symbols
+  v = with_entries base symbols
 
   first_there : (es : List SymbolTree) → slice_get es 0 ≡ Some int_symbol → 0 < length es
   first_there [] h = absurd (cc)
@@ -84,18 +97,18 @@ module _ (symbols : List SymbolTree) (sig : IsTypedSignature symbols) where
   first_is (e ∷ es) h = cc
 
   pub int_number : IsTypeNumber v 0
-  int_number = record { there = first_there symbols sig.int; usable = rw sig.int refl; kind = ap (λ (e : SymbolTree). e.kind) (first_is symbols sig.int) }
+  int_number = record { there = first_there symbols sig.int; usable = sig.int_usable; kind = ap (λ (e : SymbolTree). e.kind) (first_is symbols sig.int) }
 
-  pub typed_entry : (k : ℕ) → k < length symbols → IsTypedEntry v (symbol_or symbols k)
-  typed_entry k l = sig.entries k int_symbol l
+  pub typed_entry : (k : ℕ) → k < length symbols → IsTrue (base.usable k) → IsTypedEntry v (symbol_or symbols k)
+  typed_entry k l u = sig.entries k (symbol_or symbols k) (some_at symbols k int_symbol l) u
 
   number_symbol : (k : ℕ) → IsSymbolNumber v k → IsSymbol v k
-  number_symbol k h = record { usable = h.usable; signature = record { entry = h.there; kind = h.kind; types = (typed_entry k h.there).types }; result = (typed_entry k h.there).result }
+  number_symbol k h = record { usable = h.usable; signature = record { entry = h.there; kind = h.kind; types = (typed_entry k h.there h.usable).types }; result = (typed_entry k h.there h.usable).result }
 
-  module _ (s : List Tree) (names : Names) (scopes : AreTypedScopes v s names) where
+  module _ (s : List Tree) where
     meaning : (m : Option TypeName) → IfSome m (IsTypeName v s) → IfSome (option_map (meaning_at s) m) (IsMeaning v)
     meaning None h = tt
-    meaning (Some (stands.Entry k)) h = (h.usable, record { entry = h.there; kind = h.kind; types = (typed_entry k h.there).types })
+    meaning (Some (stands.Entry k)) h = (h.usable, record { entry = h.there; kind = h.kind; types = (typed_entry k h.there h.usable).types })
     meaning (Some (stands.Alias vars ty)) h = h.type
 
     or_int_name : (qs : List Word) (x : Word) (m : Option TypeName) → IfSome m (IsTypeName v s) → IfSome (or_int qs x m) (IsTypeName v s)
@@ -111,9 +124,15 @@ module _ (symbols : List SymbolTree) (sig : IsTypedSignature symbols) where
     symbol None h = tt
     symbol (Some t) h = number_symbol (number_of t) h
 
-    pub over_well_formed : (vars : List Word) → IsWellFormed (over s symbols names vars)
-    over_well_formed vars = record {
+    -- where the names of types alone are typed
+    pub types_meant : (names : Names) → All (λ (es : List Entry). All (λ (e : Entry). OnTypes v s e.table e.thing) es) names.entries → (qs : List Word) (x : Word) → IfSome (option_map (meaning_at s) (type_named names qs x)) (IsMeaning v)
+    types_meant names h qs x = meaning (type_named names qs x) (or_int_name qs x (find_name names Types (qs ++ x ∷ [])) (found_thing (OnTypes v s) names h Types (qs ++ x ∷ [])))
+
+    pub over_well_formed : (names : Names) → AreTypedScopes v s names → (vars : List Word) → IsWellFormed base (over s symbols names vars)
+    over_well_formed names scopes vars = record {
       int = sig.int;
-      types = λ qs x. meaning (type_named names qs x) (or_int_name qs x (find_name names Types (qs ++ x ∷ [])) (found_thing (IsTypedThing v s) names scopes Types (qs ++ x ∷ [])));
+      int_usable = sig.int_usable;
+      types = types_meant names (types_alone v s names scopes);
       names = λ qs x. symbol (find_name names Symbols (qs ++ x ∷ [])) (found_thing (IsTypedThing v s) names scopes Symbols (qs ++ x ∷ []));
+      constructors = λ k z q. sig.constructors k (symbol_or symbols k) (some_at symbols k int_symbol z.signature.entry) z.usable q;
     }

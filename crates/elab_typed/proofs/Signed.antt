@@ -9,18 +9,20 @@ use Rattle.tasks.specs.declared.signature.SymbolKind.{SymbolKind}
 use Rattle.tasks.specs.declared.signature.SymbolKind.TheVariants.{Kind, Predicate, Constructor}
 use Rattle.tasks.specs.Equations.{cells, type_variables}
 use Rattle.tasks.specs.Task.{SymbolTree, symbol_or, int_symbol}
-use Rattle.tasks.specs.Vocabulary.{Vocabulary, of_signature}
+use Rattle.tasks.specs.Vocabulary.{Vocabulary}
 use Rattle.tasks.specs.Typing.{entry, members, MakesTerms}
 use Rattle.tasks.specs.Valid.{VariablesBelow, LeafBelow, IsTypeIn, HasTypes}
 use Rattle.unify_types.specs.Assigned.{assign}
+use Rattle.syntax_why.specs.Lexeme.{Word}
 use Rattle.elab_names.specs.Abstract.{Form, Forms, variable, composed, product, no_forms, more_forms, count_forms}
 use Rattle.elab_names.specs.declared.NamingFault.TheVariants.{Arity}
 use Rattle.elab_names.specs.Faults.{meaning_fault, form_fault, forms_fault, is_predicate}
 use Rattle.elab_names.specs.Where.{Where, MeaningTree, Stands, Abbreviates, place_of}
 use Rattle.elab_walk.specs.Patterns.{at_unknowns, result_or_int, Entry, entry_of}
+use Rattle.elab_walk.specs.Scoped.{IsScopedEntry}
 use Rattle.elab_walk.specs.Pieces.{type_at, types_at, applied, variable_at}
 use Rattle.elab_walk.proofs.Walking.{none_both, must_be}
-use Rattle.elab_typed.specs.Signature.{IsSymbol, IsTuple, IsMeaning, IsWellFormed, FormTuples, FormsTuples}
+use Rattle.elab_typed.specs.Signature.{with_entries, IsSymbol, IsTuple, IsMeaning, IsWellFormed, FormTuples, FormsTuples}
 use Rattle.elab_typed.proofs.Over.{IsOver, AreOver, type_over, cells_over, members_cells}
 use Rattle.elab_typed.proofs.Instances.{inst_over, variables_over, count_variables, inst_assigned}
 
@@ -28,13 +30,21 @@ leaf_is_below : (n : ℕ) (h : Head) → LeafBelow n h → leaf_below h n
 leaf_is_below n (HTyVar j) x = x
 leaf_is_below n _ x = tt
 
-is_below : (n : ℕ) (e : Tree) → VariablesBelow n e → TyVarsBelow n e
+pub is_below : (n : ℕ) (e : Tree) → VariablesBelow n e → TyVarsBelow n e
 is_below n (Leaf h) x = leaf_is_below n h x
 is_below n (One h a) x = is_below n a x
 is_below n (Two h a b) x = (is_below n a x.0, is_below n b x.1)
 is_below n (Three h a b c) x = (is_below n a x.0, is_below n b x.1, is_below n c x.2)
 
-some_at : {A : Type 0} (xs : List A) (k : ℕ) (d : A) → k < length xs → slice_get xs k ≡ Some (get_or xs k d)
+-- an entry of types over a vocabulary has its own type variables alone
+result_scoped : (v : Vocabulary) (n : ℕ) (r : Option Tree) → IfSome r (IsTypeIn v n) → IfSome r (TyVarsBelow n)
+result_scoped v n None x = tt
+result_scoped v n (Some t) x = is_below n t x.variables
+
+pub entry_scoped : (v : Vocabulary) (e : SymbolTree) → HasTypes v e → IsScopedEntry e
+entry_scoped v e h = record { args = λ k d l. is_below e.vars (get_or e.args k d) (h.args k d l).variables; result = result_scoped v e.vars e.result h.result }
+
+pub some_at : {A : Type 0} (xs : List A) (k : ℕ) (d : A) → k < length xs → slice_get xs k ≡ Some (get_or xs k d)
 some_at [] k d l = absurd (omega arith)
 some_at (x ∷ xs) zero d l = refl
 some_at (x ∷ xs) (suc k) d l = some_at xs k d (omega arith)
@@ -97,18 +107,16 @@ module _ (v : Vocabulary) where
           of [] a = refl
           of (t ∷ ts) a = cc (at_assigned t (a 0 t (omega arith)), of ts (λ k d l. a (suc k) d (omega arith)))
 
-module _ (w : Where) (good : IsWellFormed w) where
+-- where names of types stand for types over the signature
+module _ (base : Vocabulary) (w : Where) (int : slice_get w.symbols 0 ≡ Some int_symbol) (may : IsTrue (base.usable 0)) (types : (qs : List Word) (x : Word) → IfSome (w.types qs x) (IsMeaning (with_entries base w.symbols))) where
   abbrev v : Vocabulary
-  v = of_signature w.symbols
+  v = with_entries base w.symbols
 
-  pub int_over : IsOver v true int_type
-  int_over = ((rw good.int refl, rw good.int (refl, refl)), tt)
-
-  pub named_matched : (k : ℕ) → IsSymbol v k → (symbol_or w.symbols k).kind ≡ Constructor → IsTrue (v.matched k)
-  named_matched k s q = rw (some_at w.symbols k int_symbol s.signature.entry, q) refl
+  int_in : IsOver v true int_type
+  int_in = ((may, rw int (refl, refl)), tt)
 
   variable_over : (o : Option ℕ) → IsOver v true (variable_at o)
-  variable_over None = int_over
+  variable_over None = int_in
   variable_over (Some j) = tt
 
   applied_over : (m : Option MeaningTree) (i n : ℕ) (ts : List Tree) → meaning_fault w i n m ≡ None → length ts ≡ n → IfSome m (IsMeaning v) → AreOver v ts → IsOver v true (applied m ts)
@@ -124,17 +132,27 @@ module _ (w : Where) (good : IsWellFormed w) where
   tuple_over n (Some k) ts s o = inst_over v true ts o _ (of (symbol_or w.symbols k).result s.symbol.signature.types.result)
     where
       of : (r : Option Tree) → IfSome r (IsTypeIn v (symbol_or w.symbols k).vars) → IsOver v true (result_or_int r)
-      of None x = int_over
+      of None x = int_in
       of (Some t) x = type_over v (symbol_or w.symbols k).vars t x
 
   mutual
-    pub form_over : (f : Form) → form_fault w false f ≡ None → FormTuples w f → IsOver v true (type_at w f)
-    form_over (variable i x) h u = variable_over (place_of x w.vars)
-    form_over (composed i qs x fs) h u =
+    pub form_by : (f : Form) → form_fault w false f ≡ None → FormTuples base w f → IsOver v true (type_at w f)
+    form_by (variable i x) h u = variable_over (place_of x w.vars)
+    form_by (composed i qs x fs) h u =
         let p = none_both (meaning_fault w i (count_forms fs) (w.types qs x)) (forms_fault w false fs) h in
-        applied_over (w.types qs x) i (count_forms fs) (types_at w fs) p.0 (count_types w fs) (good.types qs x) (forms_over fs p.1 u)
-    form_over (product i fs) h u = tuple_over (count_forms fs) (w.tuples (count_forms fs)) (types_at w fs) u.0 (forms_over fs h u.1)
+        applied_over (w.types qs x) i (count_forms fs) (types_at w fs) p.0 (count_types w fs) (types qs x) (forms_by fs p.1 u)
+    form_by (product i fs) h u = tuple_over (count_forms fs) (w.tuples (count_forms fs)) (types_at w fs) u.0 (forms_by fs h u.1)
 
-    forms_over : (fs : Forms) → forms_fault w false fs ≡ None → FormsTuples w fs → AreOver v (types_at w fs)
-    forms_over no_forms h u = tt
-    forms_over (more_forms f fs) h u = let p = none_both (form_fault w false f) (forms_fault w false fs) h in (form_over f p.0 u.0, forms_over fs p.1 u.1)
+    pub forms_by : (fs : Forms) → forms_fault w false fs ≡ None → FormsTuples base w fs → AreOver v (types_at w fs)
+    forms_by no_forms h u = tt
+    forms_by (more_forms f fs) h u = let p = none_both (form_fault w false f) (forms_fault w false fs) h in (form_by f p.0 u.0, forms_by fs p.1 u.1)
+
+module _ (base : Vocabulary) (w : Where) (good : IsWellFormed base w) where
+  pub int_over : IsOver (with_entries base w.symbols) true int_type
+  int_over = int_in base w good.int good.int_usable good.types
+
+  pub named_matched : (k : ℕ) → IsSymbol (with_entries base w.symbols) k → (symbol_or w.symbols k).kind ≡ Constructor → IsTrue (base.matched k)
+  named_matched k s q = good.constructors k s q
+
+  pub form_over : (f : Form) → form_fault w false f ≡ None → FormTuples base w f → IsOver (with_entries base w.symbols) true (type_at w f)
+  form_over f h u = form_by base w good.int good.int_usable good.types f h u

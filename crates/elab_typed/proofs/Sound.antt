@@ -14,7 +14,7 @@ use Rattle.tasks.specs.declared.signature.SymbolKind.{SymbolKind}
 use Rattle.tasks.specs.declared.signature.SymbolKind.TheVariants.{Predicate}
 use Rattle.tasks.specs.Equations.{type_variables}
 use Rattle.tasks.specs.Task.{symbol_or}
-use Rattle.tasks.specs.Vocabulary.{Vocabulary, of_signature}
+use Rattle.tasks.specs.Vocabulary.{Vocabulary}
 use Rattle.tasks.specs.Typing.{MakesTerms}
 use Rattle.tasks.specs.Valid.{IsTypeIn}
 use Rattle.unify_types.specs.Assigned.{assign}
@@ -27,7 +27,7 @@ use Rattle.elab_walk.specs.Patterns.{Notes, noted, nothing, follow, LocalTree, a
 use Rattle.elab_walk.specs.Pieces.{Piece, bare, both, Use, Local', Symbol', variable_named, found, use_of, named, tuple_use, parameters, used, names}
 use Rattle.elab_walk.proofs.Below.{both_all}
 use Rattle.elab_walk.proofs.Walking.{none_both, not_if, must_be}
-use Rattle.elab_typed.specs.Signature.{IsSymbol, IsTuple, IsWellFormed, HasTuple}
+use Rattle.elab_typed.specs.Signature.{with_entries, IsSymbol, IsTuple, IsWellFormed, HasTuple}
 use Rattle.elab_typed.specs.Typed.{types_at}
 use Rattle.elab_typed.proofs.Over.{IsGood, IsOver, AreOver, type_over, over_assigned}
 use Rattle.elab_typed.proofs.Instances.{inst_over, variables_over, count_variables, cells_assigned, all_assigned_over}
@@ -132,87 +132,83 @@ pub usable_over : (v : Vocabulary) (ls : List LocalTree) (due : Bool) (n m : ℕ
 usable_over v ls due n m (Local' p ty) h = tt
 usable_over v ls due n m (Symbol' e) h = parameters_over v e.symbol h.0.types m
 
-abbrev pub sig : Where → Vocabulary
-sig w = of_signature w.symbols
-
--- the declaration's own type variables
-abbrev pub rigid : Where → ℕ
-rigid w = length w.vars
+abbrev pub sig : Vocabulary → Where → Vocabulary
+sig base w = with_entries base w.symbols
 
 -- ---- notes
-module _ (w : Where) where
+module _ (base : Vocabulary) (w : Where) (rigid : ℕ) where
   -- a pattern of a type
   abbrev pub IsPatternAt : Tree → Tree → Type 0
-  IsPatternAt t e = IsGood (sig w) [] e × (sort_of e ≡ Pattern) × (type_of e ≡ Some t)
+  IsPatternAt t e = IsGood (sig base w) [] e × (sort_of e ≡ Pattern) × (type_of e ≡ Some t)
 
   -- patterns of one type, at assigned unknowns
   abbrev pub ArePatternsAt : (ℕ → Tree) → List Tree → Type 0
-  ArePatternsAt f ps = (t : Tree) × IsOver (sig w) true t × AllByRecursion (IsPatternAt t) (map (assign (rigid w) f) ps)
+  ArePatternsAt f ps = (t : Tree) × IsOver (sig base w) true t × AllByRecursion (IsPatternAt t) (map (assign rigid f) ps)
 
   -- equations between types over the signature, and matches whose patterns are of one type
   pub record AreNoted (ns : Notes) : Type 0 where
-    pub equations : EquationsOver (sig w) ns.equations
-    pub matches : (f : ℕ → Tree) → ((j : ℕ) → IsOver (sig w) true (f j)) → SolvesAll (rigid w) f ns.equations → AllByRecursion (λ (m : ℕ × List Tree). ArePatternsAt f m.1) ns.matches
+    pub equations : EquationsOver (sig base w) ns.equations
+    pub matches : (f : ℕ → Tree) → ((j : ℕ) → IsOver (sig base w) true (f j)) → SolvesAll rigid f ns.equations → AllByRecursion (λ (m : ℕ × List Tree). ArePatternsAt f m.1) ns.matches
 
-  pub noted_sound : (es : List (Tree × Tree)) (ts : List ℕ) → EquationsOver (sig w) es → AreNoted (noted es ts)
+  pub noted_sound : (es : List (Tree × Tree)) (ts : List ℕ) → EquationsOver (sig base w) es → AreNoted (noted es ts)
   noted_sound es ts h = record { equations = h; matches = λ f o s. tt }
 
   pub both_noted : (a b : Notes) → AreNoted a → AreNoted b → AreNoted (follow a b)
   both_noted a b x y = record {
-    equations = more_over (sig w) a.equations b.equations x.equations y.equations;
-    matches = λ f o s. both_all (λ (m : ℕ × List Tree). ArePatternsAt f m.1) a.matches b.matches (x.matches f o (first_solved (rigid w) f a.equations b.equations s)) (y.matches f o (rest_solved (rigid w) f a.equations b.equations s));
+    equations = more_over (sig base w) a.equations b.equations x.equations y.equations;
+    matches = λ f o s. both_all (λ (m : ℕ × List Tree). ArePatternsAt f m.1) a.matches b.matches (x.matches f o (first_solved rigid f a.equations b.equations s)) (y.matches f o (rest_solved rigid f a.equations b.equations s));
   }
 
   pub none_noted : AreNoted nothing
   none_noted = noted_sound [] [] tt
 
-module _ (w : Where) (good : IsWellFormed w) where
+module _ (base : Vocabulary) (w : Where) (good : IsWellFormed base w) (rigid : ℕ) where
   -- an entry that a name leads to
-  symbol_usable : (ls : List LocalTree) (due : Bool) (i n : ℕ) (m : Option ℕ) → IfSome m (IsSymbol (sig w)) → symbol_fault w due i n m ≡ None → IsUsable (sig w) ls due n (Symbol' (entry_of w.symbols m))
+  symbol_usable : (ls : List LocalTree) (due : Bool) (i n : ℕ) (m : Option ℕ) → IfSome m (IsSymbol (sig base w)) → symbol_fault w due i n m ≡ None → IsUsable (sig base w) ls due n (Symbol' (entry_of w.symbols m))
   symbol_usable ls due i n None s h = absurd (cc)
   symbol_usable ls due i n (Some k) s h =
       let e = symbol_or w.symbols k in
       let p = none_both (fault_if (differ due (is_predicate e.kind)) (WrongKind i)) (fault_if (not (length e.args == n)) (Arity i)) h in
-      (named_symbol (sig w) k s, kind_fits due e.kind (not_if (differ due (is_predicate e.kind)) (WrongKind i) p.0), eqb-true (length e.args) n (must_be (length e.args == n) (Arity i) p.1))
+      (named_symbol (sig base w) k s, kind_fits due e.kind (not_if (differ due (is_predicate e.kind)) (WrongKind i) p.0), eqb-true (length e.args) n (must_be (length e.args == n) (Arity i) p.1))
 
-  pub named_usable : (ls : List LocalTree) (due : Bool) (i n : ℕ) (qs : List Word) (x : Word) → LocalsOver (sig w) ls → name_fault w (names ls) due i qs x n ≡ None → IsUsable (sig w) ls due n (named w ls qs x)
-  named_usable ls due i n qs x h q = of (found qs x ls) (is_found (sig w) qs x ls h) (ap (λ (b : Bool). cond b (local_fault due i n) (symbol_fault w due i n (w.names qs x))) (sym (found_name qs x ls)) ∙ q)
+  pub named_usable : (ls : List LocalTree) (due : Bool) (i n : ℕ) (qs : List Word) (x : Word) → LocalsOver (sig base w) ls → name_fault w (names ls) due i qs x n ≡ None → IsUsable (sig base w) ls due n (named w ls qs x)
+  named_usable ls due i n qs x h q = of (found qs x ls) (is_found (sig base w) qs x ls h) (ap (λ (b : Bool). cond b (local_fault due i n) (symbol_fault w due i n (w.names qs x))) (sym (found_name qs x ls)) ∙ q)
     where
-      of : (o : Option (ℕ × Tree)) → IsFound (sig w) ls o → cond (is_some o) (local_fault due i n) (symbol_fault w due i n (w.names qs x)) ≡ None → IsUsable (sig w) ls due n (use_of o (Symbol' (entry_of w.symbols (w.names qs x))))
+      of : (o : Option (ℕ × Tree)) → IsFound (sig base w) ls o → cond (is_some o) (local_fault due i n) (symbol_fault w due i n (w.names qs x)) ≡ None → IsUsable (sig base w) ls due n (use_of o (Symbol' (entry_of w.symbols (w.names qs x))))
       of None k z = symbol_usable ls due i n (w.names qs x) (good.names qs x) z
       of (Some p) k z =
           let l = none_both (fault_if due (WrongKind i)) (fault_if (not (n == 0)) (Arity i)) z in
           (not_if due (WrongKind i) l.0, eqb-true n 0 (must_be (n == 0) (Arity i) l.1), k.0, k.1)
 
-  pub tuple_usable : (ls : List LocalTree) (n : ℕ) → HasTuple w n → IsUsable (sig w) ls false n (tuple_use w n)
+  pub tuple_usable : (ls : List LocalTree) (n : ℕ) → HasTuple base w n → IsUsable (sig base w) ls false n (tuple_use w n)
   tuple_usable ls n h = of (w.tuples n) h
     where
-      of : (m : Option ℕ) → IsSomeAnd m (IsTuple (sig w) n) → IsUsable (sig w) ls false n (Symbol' (entry_of w.symbols m))
+      of : (m : Option ℕ) → IsSomeAnd m (IsTuple (sig base w) n) → IsUsable (sig base w) ls false n (Symbol' (entry_of w.symbols m))
       of None x = absurd x
-      of (Some k) x = (named_symbol (sig w) k x.symbol, ap is_predicate x.kind, x.args)
+      of (Some k) x = (named_symbol (sig base w) k x.symbol, ap is_predicate x.kind, x.args)
 
   -- ---- pieces
   pub record IsSound (ls : List LocalTree) (t : Option Tree) (p : Piece) : Type 0 where
-    pub notes : AreNoted w p.notes
-    pub typed : (f : ℕ → Tree) → ((j : ℕ) → IsOver (sig w) true (f j)) → SolvesAll (rigid w) f p.notes.equations → IndicesFit (assign (rigid w) f p.tree)
-        → TypedAs (sig w) (types_at (rigid w) f ls) (option_map (assign (rigid w) f) t) (assign (rigid w) f p.tree)
+    pub notes : AreNoted base w rigid p.notes
+    pub typed : (f : ℕ → Tree) → ((j : ℕ) → IsOver (sig base w) true (f j)) → SolvesAll rigid f p.notes.equations → IndicesFit (assign rigid f p.tree)
+        → TypedAs (sig base w) (types_at rigid f ls) (option_map (assign rigid f) t) (assign rigid f p.tree)
 
   -- arguments, of which these types are wanted
   pub record AreSound (ls : List LocalTree) (ts : List Tree) (p : Piece) : Type 0 where
-    pub notes : AreNoted w p.notes
-    pub typed : (f : ℕ → Tree) → ((j : ℕ) → IsOver (sig w) true (f j)) → SolvesAll (rigid w) f p.notes.equations → IndicesFit (assign (rigid w) f p.tree)
-        → ListTyped (sig w) Term (types_at (rigid w) f ls) (map (assign (rigid w) f) ts) (assign (rigid w) f p.tree)
+    pub notes : AreNoted base w rigid p.notes
+    pub typed : (f : ℕ → Tree) → ((j : ℕ) → IsOver (sig base w) true (f j)) → SolvesAll rigid f p.notes.equations → IndicesFit (assign rigid f p.tree)
+        → ListTyped (sig base w) Term (types_at rigid f ls) (map (assign rigid f) ts) (assign rigid f p.tree)
 
   pub no_arguments : (ls : List LocalTree) → AreSound ls [] (bare (Leaf HEnd))
-  no_arguments ls = record { notes = none_noted w; typed = λ f o s i. end_typed (sig w) (types_at (rigid w) f ls) Term }
+  no_arguments ls = record { notes = none_noted base w rigid; typed = λ f o s i. end_typed (sig base w) (types_at rigid f ls) Term }
 
   pub more_arguments : (ls : List LocalTree) (t : Tree) (ts : List Tree) (p q : Piece) → IsSound ls (Some t) p → AreSound ls ts q → AreSound ls (t ∷ ts) (both (Two HCell) p q)
   more_arguments ls t ts p q x y = record {
-    notes = both_noted w p.notes q.notes x.notes y.notes;
+    notes = both_noted base w rigid p.notes q.notes x.notes y.notes;
     typed = λ f o s i.
-        let a = x.typed f o (first_solved (rigid w) f p.notes.equations q.notes.equations s) i.0 in
-        let b = y.typed f o (rest_solved (rigid w) f p.notes.equations q.notes.equations s) i.1 in
-        cell_typed (sig w) (types_at (rigid w) f ls) Term (assign (rigid w) f t) (map (assign (rigid w) f) ts) (assign (rigid w) f p.tree) (assign (rigid w) f q.tree) (λ e. cc) a.0 a.1.0 a.1.1 b;
+        let a = x.typed f o (first_solved rigid f p.notes.equations q.notes.equations s) i.0 in
+        let b = y.typed f o (rest_solved rigid f p.notes.equations q.notes.equations s) i.1 in
+        cell_typed (sig base w) (types_at rigid f ls) Term (assign rigid f t) (map (assign rigid f) ts) (assign rigid f p.tree) (assign rigid f q.tree) (λ e. cc) a.0 a.1.0 a.1.1 b;
   }
 
   -- two operands
@@ -223,15 +219,15 @@ module _ (w : Where) (good : IsWellFormed w) where
   two_arguments ls (t ∷ u ∷ z ∷ zs) p q n x y = absurd (cc)
 
   -- ---- uses
-  local_sound : (ls : List LocalTree) (n : ℕ) (t : Option Tree) (i c p : ℕ) (ty : Tree) (args : Piece) → WantedOver (sig w) t → IsUsable (sig w) ls (is_none t) c (Local' p ty) → IsSound ls t (used n t i (Local' p ty) args)
+  local_sound : (ls : List LocalTree) (n : ℕ) (t : Option Tree) (i c p : ℕ) (ty : Tree) (args : Piece) → WantedOver (sig base w) t → IsUsable (sig base w) ls (is_none t) c (Local' p ty) → IsSound ls t (used n t i (Local' p ty) args)
   local_sound ls n None i c p ty args k u = absurd (cc (u.0))
   local_sound ls n (Some t) i c p ty args k u = record {
-    notes = both_noted w (noted ((ty, t) ∷ []) []) nothing (noted_sound w ((ty, t) ∷ []) [] ((u.2, k), tt)) (none_noted w);
-    typed = λ f o s x. subst (λ (z : Tree). TypedAs (sig w) (types_at (rigid w) f ls) (Some z) (One (HBound p) (assign (rigid w) f ty))) s.0
-        (variable_typed (sig w) (types_at (rigid w) f ls) p (assign (rigid w) f ty) x.0 (u.3 (rigid w) f) (over_assigned (sig w) (rigid w) f o true ty u.2));
+    notes = both_noted base w rigid (noted ((ty, t) ∷ []) []) nothing (noted_sound base w rigid ((ty, t) ∷ []) [] ((u.2, k), tt)) (none_noted base w rigid);
+    typed = λ f o s x. subst (λ (z : Tree). TypedAs (sig base w) (types_at rigid f ls) (Some z) (One (HBound p) (assign rigid f ty))) s.0
+        (variable_typed (sig base w) (types_at rigid f ls) p (assign rigid f ty) x.0 (u.3 rigid f) (over_assigned (sig base w) rigid f o true ty u.2));
   }
 
-  module _ (e : Entry) (it : IsEntry (sig w) e) where
+  module _ (e : Entry) (it : IsEntry (sig base w) e) where
     pub result_is : MakesTerms e.symbol.kind → (r : Tree) × (e.symbol.result ≡ Some r)
     result_is m = of e.symbol.result (it.result m)
       where
@@ -239,27 +235,27 @@ module _ (w : Where) (good : IsWellFormed w) where
         of None x = absurd x
         of (Some r) x = (r, refl)
 
-    pub result_typed : (o : Option Tree) (r : Tree) → o ≡ Some r → IfSome o (IsTypeIn (sig w) e.symbol.vars) → IsTypeIn (sig w) e.symbol.vars r
+    pub result_typed : (o : Option Tree) (r : Tree) → o ≡ Some r → IfSome o (IsTypeIn (sig base w) e.symbol.vars) → IsTypeIn (sig base w) e.symbol.vars r
     result_typed o r q h = rw q at h
 
-    pub count_at : (n : ℕ) (f : ℕ → Tree) → length (instance_at (sig w) e.symbol it.types n (rigid w) f) ≡ e.symbol.vars
-    count_at n f = length-map (type_variables n e.symbol.vars) (assign (rigid w) f) ∙ count_variables n e.symbol.vars
+    pub count_at : (n : ℕ) (f : ℕ → Tree) → length (instance_at (sig base w) e.symbol it.types n rigid f) ≡ e.symbol.vars
+    count_at n f = length-map (type_variables n e.symbol.vars) (assign rigid f) ∙ count_variables n e.symbol.vars
 
-    given_at : (ls : List LocalTree) (n : ℕ) (f : ℕ → Tree) (a : Tree) → ListTyped (sig w) Term (types_at (rigid w) f ls) (map (assign (rigid w) f) (map (at_unknowns n e.symbol) e.symbol.args)) a
-        → ListTyped (sig w) Term (types_at (rigid w) f ls) (map (λ x. inst_types x (instance_at (sig w) e.symbol it.types n (rigid w) f)) e.symbol.args) a
-    given_at ls n f a h = subst (λ (ts : List Tree). ListTyped (sig w) Term (types_at (rigid w) f ls) ts a) (parameters_assigned (sig w) e.symbol it.types n (rigid w) f) h
+    given_at : (ls : List LocalTree) (n : ℕ) (f : ℕ → Tree) (a : Tree) → ListTyped (sig base w) Term (types_at rigid f ls) (map (assign rigid f) (map (at_unknowns n e.symbol) e.symbol.args)) a
+        → ListTyped (sig base w) Term (types_at rigid f ls) (map (λ x. inst_types x (instance_at (sig base w) e.symbol it.types n rigid f)) e.symbol.args) a
+    given_at ls n f a h = subst (λ (ts : List Tree). ListTyped (sig base w) Term (types_at rigid f ls) ts a) (parameters_assigned (sig base w) e.symbol it.types n rigid f) h
 
     predicate_sound : (ls : List LocalTree) (n i : ℕ) (args : Piece) → e.symbol.kind ≡ Predicate → AreSound ls (map (at_unknowns n e.symbol) e.symbol.args) args → IsSound ls None (used n None i (Symbol' e) args)
     predicate_sound ls n i args q a = record {
-      notes = both_noted w (noted [] (replicate e.symbol.vars i)) args.notes (noted_sound w [] (replicate e.symbol.vars i) tt) a.notes;
+      notes = both_noted base w rigid (noted [] (replicate e.symbol.vars i)) args.notes (noted_sound base w rigid [] (replicate e.symbol.vars i) tt) a.notes;
       typed = λ f o s x.
-          let ts = instance_at (sig w) e.symbol it.types n (rigid w) f in
-          let g = given_at ls n f (assign (rigid w) f args.tree) (a.typed f o s x.1) in
-          rw (cells_assigned (rigid w) f (type_variables n e.symbol.vars)) (predicate_typed (sig w) (types_at (rigid w) f ls) e.number e.symbol ts (assign (rigid w) f args.tree) it.usable it.entry q (count_at n f)
-          (all_assigned_over (sig w) (rigid w) f o (type_variables n e.symbol.vars) (variables_over (sig w) n e.symbol.vars)) g);
+          let ts = instance_at (sig base w) e.symbol it.types n rigid f in
+          let g = given_at ls n f (assign rigid f args.tree) (a.typed f o s x.1) in
+          rw (cells_assigned rigid f (type_variables n e.symbol.vars)) (predicate_typed (sig base w) (types_at rigid f ls) e.number e.symbol ts (assign rigid f args.tree) it.usable it.entry q (count_at n f)
+          (all_assigned_over (sig base w) rigid f o (type_variables n e.symbol.vars) (variables_over (sig base w) n e.symbol.vars)) g);
     }
 
-    function_sound : (ls : List LocalTree) (n i : ℕ) (t : Tree) (args : Piece) → is_predicate e.symbol.kind ≡ false → IsOver (sig w) true t → AreSound ls (map (at_unknowns n e.symbol) e.symbol.args) args → IsSound ls (Some t) (used n (Some t) i (Symbol' e) args)
+    function_sound : (ls : List LocalTree) (n i : ℕ) (t : Tree) (args : Piece) → is_predicate e.symbol.kind ≡ false → IsOver (sig base w) true t → AreSound ls (map (at_unknowns n e.symbol) e.symbol.args) args → IsSound ls (Some t) (used n (Some t) i (Symbol' e) args)
     function_sound ls n i t args q k a =
         let m = makes_terms e.symbol.kind it.kind q in
         let r = result_is m in
@@ -268,18 +264,18 @@ module _ (w : Where) (good : IsWellFormed w) where
         record {
           notes =
               let from = at_unknowns n e.symbol (result_or_int e.symbol.result) in
-              both_noted w (noted ((from, t) ∷ []) (replicate e.symbol.vars i)) args.notes
-              (noted_sound w ((from, t) ∷ []) (replicate e.symbol.vars i) ((rw u (inst_over (sig w) true (type_variables n e.symbol.vars) (variables_over (sig w) n e.symbol.vars) r.0 (type_over (sig w) e.symbol.vars r.0 z)), k), tt)) a.notes;
+              both_noted base w rigid (noted ((from, t) ∷ []) (replicate e.symbol.vars i)) args.notes
+              (noted_sound base w rigid ((from, t) ∷ []) (replicate e.symbol.vars i) ((rw u (inst_over (sig base w) true (type_variables n e.symbol.vars) (variables_over (sig base w) n e.symbol.vars) r.0 (type_over (sig base w) e.symbol.vars r.0 z)), k), tt)) a.notes;
           typed = λ f o s x.
-              let ts = instance_at (sig w) e.symbol it.types n (rigid w) f in
-              let g = given_at ls n f (assign (rigid w) f args.tree) (a.typed f o s.1 x.1) in
-              let same : inst_types r.0 ts ≡ assign (rigid w) f t = sym (at_assigned (sig w) e.symbol it.types n (rigid w) f r.0 z) ∙ ap (assign (rigid w) f) (sym u) ∙ s.0 in
-              rw (cells_assigned (rigid w) f (type_variables n e.symbol.vars)) (function_typed (sig w) (types_at (rigid w) f ls) e.number e.symbol ts (assign (rigid w) f args.tree) r.0 (assign (rigid w) f t) it.usable it.entry m (count_at n f)
-              (all_assigned_over (sig w) (rigid w) f o (type_variables n e.symbol.vars) (variables_over (sig w) n e.symbol.vars)) g r.1 same (over_assigned (sig w) (rigid w) f o true t k));
+              let ts = instance_at (sig base w) e.symbol it.types n rigid f in
+              let g = given_at ls n f (assign rigid f args.tree) (a.typed f o s.1 x.1) in
+              let same : inst_types r.0 ts ≡ assign rigid f t = sym (at_assigned (sig base w) e.symbol it.types n rigid f r.0 z) ∙ ap (assign rigid f) (sym u) ∙ s.0 in
+              rw (cells_assigned rigid f (type_variables n e.symbol.vars)) (function_typed (sig base w) (types_at rigid f ls) e.number e.symbol ts (assign rigid f args.tree) r.0 (assign rigid f t) it.usable it.entry m (count_at n f)
+              (all_assigned_over (sig base w) rigid f o (type_variables n e.symbol.vars) (variables_over (sig base w) n e.symbol.vars)) g r.1 same (over_assigned (sig base w) rigid f o true t k));
         }
 
   -- a use, of which a type or a formula is wanted
-  pub used_sound : (ls : List LocalTree) (n : ℕ) (t : Option Tree) (i c : ℕ) (u : Use) (args : Piece) → WantedOver (sig w) t → IsUsable (sig w) ls (is_none t) c u → AreSound ls (parameters n u) args → IsSound ls t (used n t i u args)
+  pub used_sound : (ls : List LocalTree) (n : ℕ) (t : Option Tree) (i c : ℕ) (u : Use) (args : Piece) → WantedOver (sig base w) t → IsUsable (sig base w) ls (is_none t) c u → AreSound ls (parameters n u) args → IsSound ls t (used n t i u args)
   used_sound ls n t i c (Local' p ty) args k h a = local_sound ls n t i c p ty args k h
   used_sound ls n None i c (Symbol' e) args k h a = predicate_sound e h.0 ls n i args h.1 a
   used_sound ls n (Some t) i c (Symbol' e) args k h a = function_sound e h.0 ls n i t args h.1 k a

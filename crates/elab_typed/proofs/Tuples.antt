@@ -1,5 +1,5 @@
 -- The entries of tuples are typed, and there is a constructor of each width that was wanting.
-use Rattle.std.proofs.Common.{◌≡◌, ℕ, ◌+◌, ◌<◌, ◌==◌, ◌&&◌, ◌||◌, zero, suc, Bool, true, false, cond, List, [], ◌∷◌, ◌++◌, length, slice_get, All, Option, Some, None, IfSome, IsSomeAnd, codes, decimal, eq-eqb, refl, sym, ap, subst, ◌∙◌, arith, append_assoc, append-nil}
+use Rattle.std.proofs.Common.{◌≡◌, ℕ, ◌+◌, ◌<◌, ◌==◌, ◌&&◌, ◌||◌, zero, suc, Bool, true, false, cond, List, [], ◌∷◌, ◌++◌, length, slice_get, All, Option, Some, None, IfSome, IsSomeAnd, codes, decimal, eq-eqb, refl, sym, ap, subst, ◌∙◌, arith, append_assoc, append-nil, length-append}
 use Rattle.std.specs.Option.{is_some}
 use Rattle.std.specs.Str.{bytes_eq}
 use Rattle.std.proofs.lemmas.Bool.{eqb-true}
@@ -9,18 +9,18 @@ use Rattle.tasks.specs.declared.signature.SymbolKind.{SymbolKind}
 use Rattle.tasks.specs.declared.signature.SymbolKind.TheVariants.{Kind, Constructor}
 use Rattle.tasks.specs.Equations.{cells, type_variables}
 use Rattle.tasks.specs.Task.{SymbolTree, symbol_or}
-use Rattle.tasks.specs.Vocabulary.{Vocabulary, of_signature, is_empty, is_constructor_kind}
+use Rattle.tasks.specs.Vocabulary.{Vocabulary, is_empty, is_constructor_kind}
 use Rattle.tasks.specs.Typing.{members, IsTypeSymbol}
 use Rattle.tasks.specs.Valid.{VariablesBelow, IsTypeIn, own_type}
 use Rattle.syntax_why.specs.Lexeme.{Word}
 use Rattle.elab_variables.specs.Seen.{has_width}
 use Rattle.elab_parts.specs.Entries.{type_entry, projections, constructor_entries, builtin, tuple_entries, is_tuple, tuple_from, tuple_in, wanting_tuple, wanting_tuples}
-use Rattle.elab_typed.specs.Signature.{IsTuple}
-use Rattle.elab_typed.specs.Scopes.{IsTypedEntry, IsTypedSignature}
-use Rattle.elab_typed.proofs.Words.{same_word, both_true}
+use Rattle.elab_typed.specs.Signature.{with_entries, IsTuple}
+use Rattle.elab_typed.specs.Scopes.{NamesNew, IsTypedEntry, IsTypedSignature}
+use Rattle.elab_typed.proofs.Words.{both_true}
 use Rattle.elab_typed.proofs.Over.{IsOver, over_good, cells_over, members_cells}
 use Rattle.elab_typed.proofs.Instances.{variables_over, count_variables}
-use Rattle.elab_typed.proofs.Extended.{signature_more}
+use Rattle.elab_typed.proofs.Extended.{signature_more, news_front, news_later}
 use Rattle.elab_typed.proofs.Scopes.{typed_entry}
 
 -- ---- a type symbol at its own type variables
@@ -59,37 +59,41 @@ at_end : (xs : List SymbolTree) (e : SymbolTree) (ys : List SymbolTree) → slic
 at_end [] e ys = refl
 at_end (x ∷ xs) e ys = at_end xs e ys
 
-pub last_type : (xs ys : List SymbolTree) (theory name : Word) (n : ℕ) → is_empty theory ≡ false → IsTypeSymbol (of_signature (xs ++ type_entry theory name n ∷ ys)) (length xs) n
-last_type xs ys theory name n q = rw (at_end xs (type_entry theory name n) ys) (rw q refl, (refl, refl))
+pub last_type : (base : Vocabulary) (xs ys : List SymbolTree) (theory name : Word) (n : ℕ) → is_empty theory ≡ false → NamesNew base (length xs) (xs ++ type_entry theory name n ∷ ys) → IsTypeSymbol (with_entries base (xs ++ type_entry theory name n ∷ ys)) (length xs) n
+last_type base xs ys theory name n q news = let z = at_end xs (type_entry theory name n) ys in ((news (length xs) (type_entry theory name n) (omega arith) z).usable q, rw z (refl, refl))
 
-tuple_typed : (symbols : List SymbolTree) (n : ℕ) → All (IsTypedEntry (of_signature (symbols ++ tuple_entries (length symbols) n))) (tuple_entries (length symbols) n)
-tuple_typed symbols n =
+tuple_typed : (base : Vocabulary) (symbols : List SymbolTree) (n : ℕ) → NamesNew base (length symbols) (symbols ++ tuple_entries (length symbols) n) → All (IsTypedEntry (with_entries base (symbols ++ tuple_entries (length symbols) n))) (tuple_entries (length symbols) n)
+tuple_typed base symbols n news =
     let k = length symbols in
     let name = codes "tuple" ++ decimal n in
     let rest = constructor_entries builtin (codes "Tuple" ++ decimal n) n (own_type k n) (type_variables 0 n) in
-    let v = of_signature (symbols ++ tuple_entries k n) in
+    let v = with_entries base (symbols ++ tuple_entries k n) in
     All-cons (IsTypedEntry v) (type_entry builtin name n) rest (type_entry_typed v builtin name n)
-    (constructor_typed v builtin (codes "Tuple" ++ decimal n) n (own_type k n) (type_variables 0 n) (own_in v k n (last_type symbols rest builtin name n refl)) (variables_in v 0 n n (omega arith)))
+    (constructor_typed v builtin (codes "Tuple" ++ decimal n) n (own_type k n) (type_variables 0 n) (own_in v k n (last_type base symbols rest builtin name n refl news)) (variables_in v 0 n n (omega arith)))
 
-one_typed : (symbols : List SymbolTree) (n : ℕ) (m : Option ℕ) → IsTypedSignature symbols → IsTypedSignature (symbols ++ wanting_tuple symbols n m)
-one_typed symbols n None h = signature_more symbols (tuple_entries (length symbols) n) h (tuple_typed symbols n)
-one_typed symbols n (Some k) h = rw append-nil h
+one_typed : (base : Vocabulary) (symbols : List SymbolTree) (n : ℕ) (m : Option ℕ) → NamesNew base (length symbols) (symbols ++ wanting_tuple symbols n m) → IsTypedSignature base symbols → IsTypedSignature base (symbols ++ wanting_tuple symbols n m)
+one_typed base symbols n None news h = signature_more base symbols (tuple_entries (length symbols) n) h (tuple_typed base symbols n news) news
+one_typed base symbols n (Some k) news h = rw append-nil h
 
-pub tuples_typed : (symbols : List SymbolTree) (ns : List ℕ) → IsTypedSignature symbols → IsTypedSignature (symbols ++ wanting_tuples symbols ns)
-tuples_typed symbols [] h = rw append-nil h
-tuples_typed symbols (n ∷ ns) h =
+pub tuples_typed : (base : Vocabulary) (symbols : List SymbolTree) (ns : List ℕ) → NamesNew base (length symbols) (symbols ++ wanting_tuples symbols ns) → IsTypedSignature base symbols → IsTypedSignature base (symbols ++ wanting_tuples symbols ns)
+tuples_typed base symbols [] news h = rw append-nil h
+tuples_typed base symbols (n ∷ ns) news h =
     let more = wanting_tuple symbols n (tuple_in symbols n) in
-    subst IsTypedSignature (append_assoc symbols more (wanting_tuples (symbols ++ more) ns)) (tuples_typed (symbols ++ more) ns (one_typed symbols n (tuple_in symbols n) h))
+    let rest = wanting_tuples (symbols ++ more) ns in
+    let same = append_assoc symbols more rest in
+    let all : NamesNew base (length symbols) ((symbols ++ more) ++ rest) = subst (λ (es : List SymbolTree). NamesNew base (length symbols) es) (sym same) news in
+    subst (IsTypedSignature base) same
+    (tuples_typed base (symbols ++ more) ns (news_later base (length symbols) (length (symbols ++ more)) ((symbols ++ more) ++ rest) (omega (arith, length-append symbols more)) all) (one_typed base symbols n (tuple_in symbols n) (news_front base (length symbols) (symbols ++ more) rest all) h))
 
 -- ---- a constructor of a width
 some_cond : (b : Bool) (k : ℕ) (m : Option ℕ) → is_some (cond b (Some k) m) ≡ (b || is_some m)
 some_cond true k m = refl
 some_cond false k m = refl
 
-abbrev has_tuple : ℕ → ℕ → List SymbolTree → Bool
+abbrev pub has_tuple : ℕ → ℕ → List SymbolTree → Bool
 has_tuple n k es = is_some (tuple_from n k es)
 
-tuple_front : (n k : ℕ) (xs ys : List SymbolTree) → has_tuple n k xs ≡ true → has_tuple n k (xs ++ ys) ≡ true
+pub tuple_front : (n k : ℕ) (xs ys : List SymbolTree) → has_tuple n k xs ≡ true → has_tuple n k (xs ++ ys) ≡ true
 tuple_front n k [] ys h = absurd (cc)
 tuple_front n k (x ∷ xs) ys h = of (is_tuple n x) (tuple_from n (suc k) xs) h (λ q. tuple_front n (suc k) xs ys q)
   where
@@ -143,7 +147,7 @@ tuple_found n (e ∷ es) all k h l g =
         (omega (arith, l), rw s q, ap (slice_get all) z ∙ h 0 (omega arith) ∙ ap (λ (i : SymbolTree). Some i) (sym s))
     of false q m x = x
 
-module _ (symbols : List SymbolTree) (sig : IsTypedSignature symbols) where
+module _ (base : Vocabulary) (symbols : List SymbolTree) (sig : IsTypedSignature base symbols) where
   found_in : (n : ℕ) → IsFoundTuple symbols n (tuple_in symbols n)
   found_in n = tuple_found n symbols symbols 0 (λ j l. let q : 0 + j ≡ j = omega arith in ap (slice_get symbols) q ∙ entry_at symbols j l) (omega arith) (λ j l. let q : 0 + j ≡ j = omega arith in ap (symbol_or symbols) q)
     where
@@ -156,25 +160,25 @@ module _ (symbols : List SymbolTree) (sig : IsTypedSignature symbols) where
   constructor_kind Constructor q = refl
   constructor_kind _ q = absurd (cc)
 
-  tuple_is : (n k : ℕ) → k < length symbols → is_tuple n (symbol_or symbols k) ≡ true → slice_get symbols k ≡ Some (symbol_or symbols k) → IsTuple (of_signature symbols) n k
+  tuple_is : (n k : ℕ) → k < length symbols → is_tuple n (symbol_or symbols k) ≡ true → slice_get symbols k ≡ Some (symbol_or symbols k) → IsTuple (with_entries base symbols) n k
   tuple_is n k l q s =
       let e = symbol_or symbols k in
       let a = both_true (is_constructor_kind e.kind) (bytes_eq e.theory builtin && (e.vars == n && length e.args == n)) q in
       let b = both_true (bytes_eq e.theory builtin) (e.vars == n && length e.args == n) a.1 in
       let c = both_true (e.vars == n) (length e.args == n) b.1 in
       let kind = constructor_kind e.kind a.0 in
-      let theory : e.theory ≡ builtin = same_word e.theory builtin b.0 in
-      let it = typed_entry symbols sig k l in
+      let may = sig.tuples n k e s q in
+      let it = typed_entry base symbols sig k l may in
       record {
-        symbol = record { usable = rw (s, theory) refl; signature = record { entry = l; kind = λ z. let y : Constructor ≡ Kind = sym kind ∙ z in cc; types = it.types }; result = it.result };
+        symbol = record { usable = may; signature = record { entry = l; kind = λ z. let y : Constructor ≡ Kind = sym kind ∙ z in cc; types = it.types }; result = it.result };
         kind = kind;
         vars = eqb-true e.vars n c.0;
         args = eqb-true (length e.args) n c.1;
       }
 
-  pub tuple_of : (n : ℕ) → is_some (tuple_in symbols n) ≡ true → IsSomeAnd (tuple_in symbols n) (IsTuple (of_signature symbols) n)
+  pub tuple_of : (n : ℕ) → is_some (tuple_in symbols n) ≡ true → IsSomeAnd (tuple_in symbols n) (IsTuple (with_entries base symbols) n)
   tuple_of n h = of (tuple_in symbols n) h (found_in n)
     where
-      of : (m : Option ℕ) → is_some m ≡ true → IsFoundTuple symbols n m → IsSomeAnd m (IsTuple (of_signature symbols) n)
+      of : (m : Option ℕ) → is_some m ≡ true → IsFoundTuple symbols n m → IsSomeAnd m (IsTuple (with_entries base symbols) n)
       of None q x = absurd (cc)
       of (Some k) q x = tuple_is n k x.0 x.1 x.2

@@ -2,12 +2,16 @@
 use Rattle.std.specs.Prelude.{◌≡◌, ℕ, List, [], ◌∷◌, length, slice_get, Some, IsSomeAnd, IfSome, IsTrue}
 use Rattle.syntax_why.specs.Lexeme.{Word}
 use Rattle.tasks.specs.declared.signature.SymbolKind.TheVariants.{Constructor}
-use Rattle.tasks.specs.Task.{int_symbol, symbol_or}
-use Rattle.tasks.specs.Vocabulary.{Vocabulary, of_signature}
+use Rattle.tasks.specs.Task.{SymbolTree, int_symbol, symbol_or}
+use Rattle.tasks.specs.Vocabulary.{Vocabulary}
 use Rattle.tasks.specs.Typing.{MakesTerms}
 use Rattle.tasks.specs.Valid.{IsTypeIn, IsTypeEntry, IsSignatureOf}
 use Rattle.elab_names.specs.Abstract.{Form, Forms, variable, composed, product, no_forms, more_forms, Pattern, Patterns, wild, bound, constructed, tupled, aliased, no_patterns, more_patterns, Alternatives, no_alternatives, more_alternatives, Binder, Expression, Expressions, Branches, apply, infixed, literal, truth, falsity, tuple, cast, negation, joined, equated, choice, binding, cases, quantified, none, more, no_branches, more_branches, count_forms, count_patterns, count}
 use Rattle.elab_names.specs.Where.{Where, MeaningTree, Stands, Abbreviates}
+
+-- what may be named stays, over these entries
+abbrev pub with_entries : Vocabulary → List SymbolTree → Vocabulary
+with_entries base symbols = record base { symbols = symbols }
 
 -- a symbol that terms and formulas may name; one that makes terms has a result
 pub record IsSymbol (v : Vocabulary) (k : ℕ) : Type 0 where
@@ -27,67 +31,70 @@ abbrev pub IsMeaning : Vocabulary → MeaningTree → Type 0
 IsMeaning v (Stands k) = IsTrue (v.usable k) × IsTypeEntry v k
 IsMeaning v (Abbreviates vars t) = IsTypeIn v vars t
 
--- entry 0 is `int`; names stand for types over the signature, and for symbols whose types are over it
-pub record IsWellFormed (w : Where) : Type 0 where
+-- entry 0 is `int` and may be named; names stand for types over the signature, and for symbols whose types are over it;
+-- a pattern may name each constructor that may be named
+pub record IsWellFormed (base : Vocabulary) (w : Where) : Type 0 where
   pub int : slice_get w.symbols 0 ≡ Some int_symbol
-  pub types : (qs : List Word) (x : Word) → IfSome (w.types qs x) (IsMeaning (of_signature w.symbols))
-  pub names : (qs : List Word) (x : Word) → IfSome (w.names qs x) (IsSymbol (of_signature w.symbols))
+  pub int_usable : IsTrue (base.usable 0)
+  pub types : (qs : List Word) (x : Word) → IfSome (w.types qs x) (IsMeaning (with_entries base w.symbols))
+  pub names : (qs : List Word) (x : Word) → IfSome (w.names qs x) (IsSymbol (with_entries base w.symbols))
+  pub constructors : (k : ℕ) → IsSymbol (with_entries base w.symbols) k → (symbol_or w.symbols k).kind ≡ Constructor → IsTrue (base.matched k)
 
-abbrev pub HasTuple : Where → ℕ → Type 0
-HasTuple w n = IsSomeAnd (w.tuples n) (IsTuple (of_signature w.symbols) n)
+abbrev pub HasTuple : Vocabulary → Where → ℕ → Type 0
+HasTuple base w n = IsSomeAnd (w.tuples n) (IsTuple (with_entries base w.symbols) n)
 
 -- ---- each tuple that stands in it has a constructor of its width
 abbrev mutual
-  pub FormTuples : Where → Form → Type 0
-  FormTuples w (variable i x) = Unit {0}
-  FormTuples w (composed i qs x fs) = FormsTuples w fs
-  FormTuples w (product i fs) = HasTuple w (count_forms fs) × FormsTuples w fs
+  pub FormTuples : Vocabulary → Where → Form → Type 0
+  FormTuples base w (variable i x) = Unit {0}
+  FormTuples base w (composed i qs x fs) = FormsTuples base w fs
+  FormTuples base w (product i fs) = HasTuple base w (count_forms fs) × FormsTuples base w fs
 
-  pub FormsTuples : Where → Forms → Type 0
-  FormsTuples w no_forms = Unit {0}
-  FormsTuples w (more_forms f fs) = FormTuples w f × FormsTuples w fs
+  pub FormsTuples : Vocabulary → Where → Forms → Type 0
+  FormsTuples base w no_forms = Unit {0}
+  FormsTuples base w (more_forms f fs) = FormTuples base w f × FormsTuples base w fs
 
-abbrev pub BindersTuples : Where → List Binder → Type 0
-BindersTuples w [] = Unit {0}
-BindersTuples w (b ∷ bs) = IfSome b.of_type (FormTuples w) × BindersTuples w bs
-
-abbrev mutual
-  pub PatternTuples : Where → Pattern → Type 0
-  PatternTuples w (wild i) = Unit {0}
-  PatternTuples w (bound i x) = Unit {0}
-  PatternTuples w (constructed i qs x ps) = PatternsTuples w ps
-  PatternTuples w (tupled i ps) = HasTuple w (count_patterns ps) × PatternsTuples w ps
-  PatternTuples w (aliased p i x) = PatternTuples w p
-
-  pub PatternsTuples : Where → Patterns → Type 0
-  PatternsTuples w no_patterns = Unit {0}
-  PatternsTuples w (more_patterns p ps) = PatternTuples w p × PatternsTuples w ps
-
-abbrev pub AlternativesTuples : Where → Alternatives → Type 0
-AlternativesTuples w no_alternatives = Unit {0}
-AlternativesTuples w (more_alternatives i p ps) = PatternTuples w p × AlternativesTuples w ps
+abbrev pub BindersTuples : Vocabulary → Where → List Binder → Type 0
+BindersTuples base w [] = Unit {0}
+BindersTuples base w (b ∷ bs) = IfSome b.of_type (FormTuples base w) × BindersTuples base w bs
 
 abbrev mutual
-  pub HasTuples : Where → Expression → Type 0
-  HasTuples w (apply i qs x es) = HaveTuples w es
-  HasTuples w (infixed i x a b) = HasTuples w a × HasTuples w b
-  HasTuples w (literal i z) = Unit {0}
-  HasTuples w (truth i) = Unit {0}
-  HasTuples w (falsity i) = Unit {0}
-  HasTuples w (tuple i es) = HasTuple w (count es) × HaveTuples w es
-  HasTuples w (cast i e f) = HasTuples w e × FormTuples w f
-  HasTuples w (negation i e) = HasTuples w e
-  HasTuples w (joined i a o b) = HasTuples w a × HasTuples w b
-  HasTuples w (equated i same a b) = HasTuples w a × HasTuples w b
-  HasTuples w (choice i c a b) = HasTuples w c × HasTuples w a × HasTuples w b
-  HasTuples w (binding i x a b) = HasTuples w a × HasTuples w b
-  HasTuples w (cases i e bs) = HasTuples w e × BranchesTuples w bs
-  HasTuples w (quantified i all bs gs b) = BindersTuples w bs × HaveTuples w gs × HasTuples w b
+  pub PatternTuples : Vocabulary → Where → Pattern → Type 0
+  PatternTuples base w (wild i) = Unit {0}
+  PatternTuples base w (bound i x) = Unit {0}
+  PatternTuples base w (constructed i qs x ps) = PatternsTuples base w ps
+  PatternTuples base w (tupled i ps) = HasTuple base w (count_patterns ps) × PatternsTuples base w ps
+  PatternTuples base w (aliased p i x) = PatternTuples base w p
 
-  pub HaveTuples : Where → Expressions → Type 0
-  HaveTuples w none = Unit {0}
-  HaveTuples w (more e es) = HasTuples w e × HaveTuples w es
+  pub PatternsTuples : Vocabulary → Where → Patterns → Type 0
+  PatternsTuples base w no_patterns = Unit {0}
+  PatternsTuples base w (more_patterns p ps) = PatternTuples base w p × PatternsTuples base w ps
 
-  pub BranchesTuples : Where → Branches → Type 0
-  BranchesTuples w no_branches = Unit {0}
-  BranchesTuples w (more_branches ps b bs) = AlternativesTuples w ps × HasTuples w b × BranchesTuples w bs
+abbrev pub AlternativesTuples : Vocabulary → Where → Alternatives → Type 0
+AlternativesTuples base w no_alternatives = Unit {0}
+AlternativesTuples base w (more_alternatives i p ps) = PatternTuples base w p × AlternativesTuples base w ps
+
+abbrev mutual
+  pub HasTuples : Vocabulary → Where → Expression → Type 0
+  HasTuples base w (apply i qs x es) = HaveTuples base w es
+  HasTuples base w (infixed i x a b) = HasTuples base w a × HasTuples base w b
+  HasTuples base w (literal i z) = Unit {0}
+  HasTuples base w (truth i) = Unit {0}
+  HasTuples base w (falsity i) = Unit {0}
+  HasTuples base w (tuple i es) = HasTuple base w (count es) × HaveTuples base w es
+  HasTuples base w (cast i e f) = HasTuples base w e × FormTuples base w f
+  HasTuples base w (negation i e) = HasTuples base w e
+  HasTuples base w (joined i a o b) = HasTuples base w a × HasTuples base w b
+  HasTuples base w (equated i same a b) = HasTuples base w a × HasTuples base w b
+  HasTuples base w (choice i c a b) = HasTuples base w c × HasTuples base w a × HasTuples base w b
+  HasTuples base w (binding i x a b) = HasTuples base w a × HasTuples base w b
+  HasTuples base w (cases i e bs) = HasTuples base w e × BranchesTuples base w bs
+  HasTuples base w (quantified i all bs gs b) = BindersTuples base w bs × HaveTuples base w gs × HasTuples base w b
+
+  pub HaveTuples : Vocabulary → Where → Expressions → Type 0
+  HaveTuples base w none = Unit {0}
+  HaveTuples base w (more e es) = HasTuples base w e × HaveTuples base w es
+
+  pub BranchesTuples : Vocabulary → Where → Branches → Type 0
+  BranchesTuples base w no_branches = Unit {0}
+  BranchesTuples base w (more_branches ps b bs) = AlternativesTuples base w ps × HasTuples base w b × BranchesTuples base w bs

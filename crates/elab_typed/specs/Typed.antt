@@ -34,9 +34,9 @@ pub record IsTypedAs (v : Vocabulary) (types : List Tree) (t : Option Tree) (e :
   pub parameters : ParametersOf [] e
 
 -- an expression whose names are there, under these variables, where a term of a type or a formula is due
-pub record IsNamed (w : Where) (ls : List LocalTree) (t : Option Tree) (e : Expression) : Type 0 where
-  pub signature : IsWellFormed w
-  pub tuples : HasTuples w e
+pub record IsNamed (base : Vocabulary) (w : Where) (ls : List LocalTree) (t : Option Tree) (e : Expression) : Type 0 where
+  pub signature : IsWellFormed base w
+  pub tuples : HasTuples base w e
   pub named : fault w false (names ls) (is_none t) e ≡ None
 
 -- the types of variables

@@ -7,8 +7,8 @@ use Rattle.std.proofs.Common.{◌++◌}
 
 pub returns : goal.returns
 returns c = record {
-  typed = λ symbols widths h. tuples_typed symbols widths h;
-  formed = λ symbols s names vars h k. over_well_formed symbols h s names k vars;
-  tuples = λ symbols s names vars widths n h q. tuple_of (symbols ++ wanting_tuples symbols widths) (tuples_typed symbols widths h) n (tuples_there symbols widths n q);
-  scopes = λ symbols more s t names g h. scopes_extended s t g symbols more names h;
+  typed = λ v symbols widths news h. tuples_typed v symbols widths news h;
+  formed = λ v symbols s names vars h k. over_well_formed v symbols h s names k vars;
+  tuples = λ v symbols s names vars widths n news h q. tuple_of v (symbols ++ wanting_tuples symbols widths) (tuples_typed v symbols widths news h) n (tuples_there symbols widths n q);
+  scopes = λ v symbols more s t names g h. scopes_extended v s t g symbols more names h;
 }
