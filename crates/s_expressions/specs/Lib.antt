@@ -1,0 +1,2 @@
+pub mod Sexps
+pub mod Laws

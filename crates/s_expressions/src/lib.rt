@@ -1,0 +1,13 @@
+//! S-expressions, as SMT-LIB has them, and their texts: laws over the definitions alone.
+//! It needs nothing.
+#![tactic(auto)]
+
+ghost use Rattle.s_expressions.specs.Laws.{LawOfExpressions, LawOfLines};
+
+/// That a text is the text of one expression at most, and lines those of one list of expressions at
+/// most, where no word has a blank, a line feed or a parenthesis in it and none is empty: for readers
+/// to cite. It does nothing when it runs.
+pub fn laws()
+    ensures expressions { LawOfExpressions }
+    ensures lines { LawOfLines }
+{}
