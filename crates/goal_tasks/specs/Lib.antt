@@ -1,0 +1,4 @@
+pub mod Tuples
+pub mod Theories
+pub mod Tasks
+pub mod Meaning

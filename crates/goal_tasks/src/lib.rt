@@ -1,0 +1,10 @@
+//! Theories with their goals, and the task of a goal: the declarations that stand before it, behind those of tuples.
+//! It depends on the tasks and on the entries of tuples; the typing of sources makes theories.
+#![tactic(auto)]
+
+mod making;
+mod theories;
+mod tuples;
+
+pub use making::{TaskFault, task_of};
+pub use theories::{GoalAt, Theories, Theory};
