@@ -62,8 +62,7 @@ defined_step s s1 s2 g ds new d its ids k one h i j e q =
 
 -- a group whose first member has a body has a body for each
 pub whole_defined : (m : Member) (ms : List Member) → IsWhole (m ∷ ms) → is_some m.body ≡ true → AreDefined (m ∷ ms)
-whole_defined m [] h k = (k, tt)
-whole_defined m (n ∷ ms) h k = h
+whole_defined m ms h k = (k, h k)
 
 pub definitions_none : (k : ℕ) (gs : List SignatureTree) → definitions k gs [] ≡ []
 definitions_none k [] = refl

@@ -40,10 +40,10 @@ abbrev pub AreDefined : List Member → Type 0
 AreDefined [] = Unit {0}
 AreDefined (m ∷ ms) = (is_some m.body ≡ true) × AreDefined ms
 
--- each has one, or the only one has none
+-- each has one where the first one has one
 abbrev pub IsWhole : List Member → Type 0
-IsWhole (m ∷ []) = Unit {0}
-IsWhole ms = AreDefined ms
+IsWhole [] = Unit {0}
+IsWhole (m ∷ ms) = is_some m.body ≡ true → AreDefined ms
 
 -- the number of the piece's tree, and its notes behind those that were there
 pub record IsBodyWalked (p : Piece) (s : List Tree) (d : Draft) (s' : List Tree) (d' : Draft) (id : TermId) : Type 0 where

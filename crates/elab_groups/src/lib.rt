@@ -7,3 +7,4 @@ mod groups;
 mod solving;
 
 pub use groups::elaborate_group;
+pub use solving::{Bodies, solve_group};

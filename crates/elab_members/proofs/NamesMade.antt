@@ -18,10 +18,10 @@ use Rattle.elab_parts.specs.Outcomes.{declared_in}
 use Rattle.elab_members.specs.Members.{member_made, members_made}
 
 -- ---- what is declared and what stands before count together
-abbrev Same : (d d' : Word → Bool) (b b' : Word → Bool) → Type 0
+abbrev pub Same : (d d' : Word → Bool) (b b' : Word → Bool) → Type 0
 Same d d' b b' = (x : Word) → (d x || b x) ≡ (d' x || b' x)
 
-or_true : (a b : Bool) → b ≡ true → (a || b) ≡ true
+pub or_true : (a b : Bool) → b ≡ true → (a || b) ≡ true
 or_true true b h = refl
 or_true false b h = h
 
@@ -30,12 +30,12 @@ or_assoc true b c = refl
 or_assoc false b c = refl
 
 -- one more name on both sides
-more_same : (d b d' b' e : Bool) → (d || b) ≡ (d' || b') → (d || (e || b)) ≡ (d' || (e || b'))
+pub more_same : (d b d' b' e : Bool) → (d || b) ≡ (d' || b') → (d || (e || b)) ≡ (d' || (e || b'))
 more_same d b d' b' true h = or_true d true refl ∙ sym (or_true d' true refl)
 more_same d b d' b' false h = h
 
 -- the first of two
-among_first : (x y : Word) (ws : List Word) → is_some (place_of x (y ∷ ws)) ≡ (bytes_eq y x || is_some (place_of x ws))
+pub among_first : (x y : Word) (ws : List Word) → is_some (place_of x (y ∷ ws)) ≡ (bytes_eq y x || is_some (place_of x ws))
 among_first x y ws = at (bytes_eq y x)
   where
     at : (b : Bool) → is_some (cond b (Some 0) (option_map suc (place_of x ws))) ≡ (b || is_some (place_of x ws))
@@ -48,7 +48,7 @@ or_swap true false = refl
 or_swap false true = refl
 or_swap false false = refl
 
-among_last : (x y : Word) (ws : List Word) → is_some (place_of x (ws ++ y ∷ [])) ≡ (bytes_eq y x || is_some (place_of x ws))
+pub among_last : (x y : Word) (ws : List Word) → is_some (place_of x (ws ++ y ∷ [])) ≡ (bytes_eq y x || is_some (place_of x ws))
 among_last x y [] = among_first x y []
 among_last x y (w ∷ ws) =
     among_first x w (ws ++ y ∷ []) ∙ (ap (λ (b : Bool). bytes_eq w x || b) (among_last x y ws) ∙ (sym (or_assoc (bytes_eq w x) (bytes_eq y x) (is_some (place_of x ws)))
@@ -59,7 +59,7 @@ first_alone : (a : Option NamingFault) → first_of a None ≡ a
 first_alone None = refl
 first_alone (Some f) = refl
 
-first_assoc : (a b c : Option NamingFault) → first_of (first_of a b) c ≡ first_of a (first_of b c)
+pub first_assoc : (a b c : Option NamingFault) → first_of (first_of a b) c ≡ first_of a (first_of b c)
 first_assoc None b c = refl
 first_assoc (Some f) b c = refl
 

@@ -110,8 +110,8 @@ pub fn check_members(
     check_members(alloc, world, rest)
 }
 
-// The names that a member makes: its own, which neither the scope nor an earlier member has, and those of its parameters.
-fn declare_member(
+/// The names that a member makes: its own, which neither the scope nor an earlier member has, and those of its parameters.
+pub fn declare_member(
     alloc: Global,
     scope: &mut Scope,
     before: &[Text],

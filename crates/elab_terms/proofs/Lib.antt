@@ -2,4 +2,4 @@ pub mod Over
 pub mod Proposed
 pub mod TypesMade
 pub mod Rows
-pub mod Covered
+pub mod Heads

@@ -1,5 +1,5 @@
 -- The groups of functions, predicates and constants of surface declarations.
-use Rattle.std.specs.Prelude.{Bool, true, false, List, [], ◌∷◌, map, Option, Some, None, option_map}
+use Rattle.std.specs.Prelude.{List, map, Option, option_map}
 use Rattle.syntax_why.specs.declared.names.OpName.{OpName}
 use Rattle.syntax_why.specs.declared.types.TypeTree.{TypeTree}
 use Rattle.syntax_why.specs.declared.expressions.Expr.{Expr}
@@ -16,9 +16,3 @@ first_member n ps t b = record { called = symbol (declared_name n); params = par
 
 abbrev pub other_members : List MemberTree → List Member
 other_members ms = map member (map member_of ms)
-
--- the first one has a definition, or no others stand behind it
-abbrev pub is_whole : Option Expr → List MemberTree → Bool
-is_whole (Some e) ms = true
-is_whole None [] = true
-is_whole None (m ∷ ms) = false

@@ -11,6 +11,7 @@ use Rattle.names_space.specs.Names.{Names, with_entry, with_name}
 use Rattle.names_space.specs.declared.Table.TheVariants.{Types, Propositions}
 use Rattle.names_space.specs.declared.TypeName.TheVariants as stands
 use Rattle.syntax_why.specs.Lexeme.{Word}
+use Rattle.syntax_why.specs.Declarations.{Decl, use_decl, clone_decl, scope_decl}
 use Rattle.syntax_why.specs.declared.declarations.PropKind.{PropKind}
 use Rattle.syntax_why.specs.declared.declarations.PropKind.TheVariants as kind
 use Rattle.elab_names.specs.Abstract.{Form, Expression}
@@ -26,10 +27,10 @@ use Rattle.elab_parts.specs.declared.made.Elaborated.{Elaborated}
 use Rattle.elab_parts.specs.declared.made.Place.{Place}
 use Rattle.elab_parts.specs.Elaborated.{IsSolved, unseen}
 use Rattle.elab_parts.specs.Entries.{type_entry, wanting_tuples, IsExtended}
-use Rattle.elab_parts.specs.Declarations.{Called, Declaration, abstract_type, alias, algebraic, members, proposition, words, made_by, made_fault, types_fault}
+use Rattle.elab_parts.specs.Declarations.{Called, Declaration, abstract_type, alias, algebraic, members, inductive, proposition, words, made_by, made_fault, types_fault}
 use Rattle.elab_types.specs.Algebraics.{inside, group_outcome}
-use Rattle.elab_groups.specs.Bodies.{IsWhole}
 use Rattle.elab_groups.specs.Groups.{IsGroup, group_used, group_notes, group_signatures, most_variables}
+use Rattle.elab_inductives.specs.Inductives.{clause_signatures, IsInductiveGroup, inductives_used, inductive_notes}
 use Rattle.elab_parts.specs.Outcomes.{Setting, Outcome, over, around, tuples_wanting, tupled, full_name, declared_in, setting, IsRefusalFor, IsElaboratedAs}
 
 -- ---- a type symbol without a definition
@@ -105,14 +106,12 @@ abbrev pub type_declaration : Called → List Called → Option Form → Declara
 type_declaration x vs None = abstract_type x vs
 type_declaration x vs (Some f) = alias x vs f
 
--- the declarations that are spoken of
-abbrev pub IsCovered : Declaration → Type 0
-IsCovered (abstract_type x vs) = Unit {0}
-IsCovered (alias x vs f) = Unit {0}
-IsCovered (proposition k x e) = Unit {0}
-IsCovered (algebraic ts) = Unit {0}
-IsCovered (members ms) = IsWhole ms
-IsCovered _ = ⊥
+-- the declarations of a source that are elaborated: all but a `use`, a `clone` and a `scope`
+abbrev pub IsLogical : Decl → Type 0
+IsLogical (use_decl a l p n) = ⊥
+IsLogical (clone_decl a l p n es) = ⊥
+IsLogical (scope_decl a n ds) = ⊥
+IsLogical _ = Unit {0}
 
 abbrev pub IsOutcome : Setting → List Tree → Declaration → Outcome → Type 0
 IsOutcome c s' (abstract_type x vs) o = o ≡ type_outcome c x (length vs)
@@ -120,7 +119,7 @@ IsOutcome c s' (alias x vs f) o = IsAlias c s' x vs f o
 IsOutcome c s' (proposition k x e) o = IsProposition c k x e o
 IsOutcome c s' (algebraic ts) o = o ≡ group_outcome c ts
 IsOutcome c s' (members ms) o = IsGroup c ms o
-IsOutcome c s' _ o = ⊥
+IsOutcome c s' (inductive ds) o = IsInductiveGroup c ds o
 
 -- the first fault of the names that it uses
 abbrev pub used_fault : Setting → Declaration → Option NamingFault
@@ -128,6 +127,7 @@ used_fault c (alias x vs f) = form_fault (around c (words vs)) false f
 used_fault c (proposition k x e) = fault (around c []) true [] true e
 used_fault c (algebraic ts) = types_fault (inside c ts) ts
 used_fault c (members ms) = group_used c ms
+used_fault c (inductive ds) = inductives_used c ds
 used_fault c _ = None
 
 -- of those that it makes, and then of those that it uses
@@ -138,11 +138,13 @@ names_fault c d = first_of (made_fault (declared_in c.scope) [] (made_by d)) (us
 abbrev pub notes_of : Setting → Declaration → Notes
 notes_of c (proposition k x e) = (proposition_piece c e).notes
 notes_of c (members ms) = group_notes c ms
+notes_of c (inductive ds) = inductive_notes c ds
 notes_of c _ = nothing
 
 abbrev pub rigid_of : Setting → Declaration → ℕ
 rigid_of c (proposition k x e) = length (proposition_seen e).vars
 rigid_of c (members ms) = most_variables (group_signatures c ms)
+rigid_of c (inductive ds) = most_variables (clause_signatures ds)
 rigid_of c _ = 0
 
 -- its first fault

@@ -1,5 +1,5 @@
 // Elaboration: the declarations, entries, names and matches of a declaration, or its first fault.
-ghost use Rattle.std.specs.Prelude.{◌≡◌, ◌∷◌, ℕ, List, [], None, length, IsTrue, IsSomeAnd, IfSome, IfOk, IfErr};
+ghost use Rattle.std.specs.Prelude.{◌≡◌, ◌∷◌, ◌↔◌, ℕ, List, [], None, length, IsTrue, IfSome, IfOk, IfErr};
 ghost use Rattle.std.specs.Option.{option_copied};
 ghost use Rattle.trees.specs.Tree.{Tree};
 ghost use Rattle.names_space.specs.Names.{start};
@@ -11,13 +11,13 @@ ghost use Rattle.elab_parts.specs.Declarations.{declaration, members};
 ghost use Rattle.elab_parts.specs.Entries.{IsSignature, AreScopes};
 ghost use Rattle.elab_parts.specs.Outcomes.{setting, standing, IsKept};
 ghost use Rattle.elab_members.specs.Sources.{member_at};
-ghost use Rattle.elab_groups.specs.Bodies.{IsWhole};
-ghost use Rattle.elab_terms.specs.Outcomes.{IsCovered, IsElaborated, IsRefusal};
-ghost use Rattle.elab_terms.specs.Heads.{first_member, other_members, is_whole};
+ghost use Rattle.elab_terms.specs.Outcomes.{IsLogical, IsElaborated, IsRefusal};
+ghost use Rattle.elab_terms.specs.Heads.{first_member, other_members};
 
 use crate::propositions::elaborate_proposition;
 use crate::types::elaborate_type_declaration;
 use elab_groups::elaborate_group;
+use elab_inductives::elaborate_inductives;
 use elab_members::{MemberSource, gather_members};
 use elab_parts::{ElabFault, Elaborated, Place};
 use elab_types::elaborate_algebraic;
@@ -58,7 +58,6 @@ fn elaborate_members(
 ) -> Result<Elaborated, ElabFault>
     requires signature { IsSignature store.old sig.old.symbols }
     requires scopes { AreScopes store.old (length sig.old.symbols) scope.old }
-    requires whole { IsWhole (member_at first ∷ other_members others.now) }
     ensures ok { IfOk result (IsElaborated (setting place.now store.old sig.old scope.old)
         (members (member_at first.entry ∷ other_members others.now)) sig.old store.new sig.new scope.new) }
     ensures kept { IfOk result (IsKept store.new sig.new scope.new) }
@@ -74,8 +73,7 @@ fn elaborate_members(
 
 /// The declarations, the entries, the names and the matches of a declaration, or its first fault. `theory` is the path of its
 /// theory, `within` has the names of the open scopes, each followed by a dot, and `at` is its number, which faults carry. It is
-/// a type without a definition, an alias, a group of algebraic types, a proposition, or a group of functions, predicates and
-/// constants.
+/// no `use`, `clone` or `scope`.
 ///
 /// After `Ok` the signature has its earlier entries, then those of the tuples of new widths by first appearance, of what the
 /// declaration makes, and of the type variables of a lemma or a goal; the innermost scope has the names that it makes. After a
@@ -92,7 +90,7 @@ pub fn elaborate(
 ) -> Result<Elaborated, ElabFault>
     requires signature { IsSignature store.old sig.old.symbols }
     requires scopes { AreScopes store.old (length sig.old.symbols) scope.old }
-    requires covered { IsSomeAnd (declaration (decl_of decl.now)) IsCovered }
+    requires logical { IsLogical (decl_of decl.now) }
     ensures ok { IfOk result (λ made. IfSome (declaration (decl_of decl.now))
         (λ d. IsElaborated (standing theory.now within.now at store.old sig.old scope.old) d sig.old
         store.new sig.new scope.new made)) }
@@ -134,7 +132,10 @@ pub fn elaborate(
             let first = head_member(name, &[], Some(ty), body);
             elaborate_members(alloc, store, sig, scope, &place, first, &[])
         }
-        DeclNode::Inductive(_) => unreachable!(),
+        DeclNode::Inductive(inductives) => {
+            let inductives = inductives.as_slice();
+            elaborate_inductives(alloc, store, sig, scope, &place, inductives)
+        }
         DeclNode::UseTheory(_, _, _) => unreachable!(),
         DeclNode::CloneTheory(_, _, _, _) => unreachable!(),
         DeclNode::ScopeDecl(_, _) => unreachable!(),
@@ -171,26 +172,18 @@ pub fn no_names(scope: &Scope)
     let _ = scope;
 }
 
-// Whether a member has a definition, or no others behind it.
-fn is_whole(body: &Option<Expr>, others: &[MemberTree]) -> bool
-    ensures { result ≡ is_whole body.now others.now }
-{
-    body.is_some() || others.is_empty()
-}
-
-/// Whether a declaration is of a form that `elaborate` takes.
-pub fn is_covered(decl: &DeclTree) -> bool
-    ensures only { IsTrue result → IsSomeAnd (declaration (decl_of decl.now)) IsCovered }
-    ensures all { IsSomeAnd (declaration (decl_of decl.now)) IsCovered → IsTrue result }
+/// Whether a declaration is no `use`, `clone` or `scope`.
+pub fn is_logical(decl: &DeclTree) -> bool
+    ensures { IsTrue result ↔ IsLogical (decl_of decl.now) }
 {
     match &decl.node {
         DeclNode::TypeDecl(_, _, _) => true,
         DeclNode::Prop(_, _, _) => true,
-        DeclNode::Function(_, _, _, body, others) => is_whole(body, others.as_slice()),
-        DeclNode::Predicate(_, _, body, others) => is_whole(body, others.as_slice()),
+        DeclNode::Function(_, _, _, _, _) => true,
+        DeclNode::Predicate(_, _, _, _) => true,
         DeclNode::Constant(_, _, _) => true,
         DeclNode::Algebraic(_) => true,
-        DeclNode::Inductive(_) => false,
+        DeclNode::Inductive(_) => true,
         DeclNode::UseTheory(_, _, _) => false,
         DeclNode::CloneTheory(_, _, _, _) => false,
         DeclNode::ScopeDecl(_, _) => false,

@@ -6,5 +6,5 @@ mod declarations;
 mod propositions;
 mod types;
 
-pub use declarations::{begin, elaborate, is_covered, no_names};
+pub use declarations::{begin, elaborate, is_logical, no_names};
 pub use elab_parts::{ElabFault, Elaborated};

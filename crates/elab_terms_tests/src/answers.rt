@@ -3,7 +3,7 @@
 ghost use Rattle.std.specs.Prelude.{length};
 ghost use Rattle.elab_parts.specs.Entries.{IsSignature, AreScopes};
 
-use elab_terms::{ElabFault, begin, elaborate, is_covered, no_names};
+use elab_terms::{ElabFault, begin, elaborate, is_logical, no_names};
 use names_space::Scope;
 use parse_decls::parse;
 use std::alloc::Global;
@@ -41,7 +41,7 @@ fn answer_from(
     let Some((first, rest)) = decls.split_first() else {
         return last;
     };
-    if !is_covered(first) {
+    if !is_logical(first) {
         return last;
     }
     match elaborate(alloc, store, sig, scope, "T", "", first, at) {

@@ -7,6 +7,8 @@ mod answers;
 #[cfg(test)]
 mod groups;
 #[cfg(test)]
+mod inductives;
+#[cfg(test)]
 mod propositions;
 #[cfg(test)]
 mod symbols;

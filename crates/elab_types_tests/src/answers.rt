@@ -4,7 +4,7 @@ ghost use Rattle.std.specs.Prelude.{length, OnOk};
 ghost use Rattle.elab_parts.specs.Entries.{IsSignature, AreScopes};
 
 use elab_parts::{ElabFault, Elaborated, Place};
-use elab_terms::{begin, elaborate, is_covered, no_names};
+use elab_terms::{begin, elaborate, is_logical, no_names};
 use elab_types::elaborate_algebraic;
 use names_space::{Scope, Table};
 use parse_decls::parse;
@@ -50,7 +50,7 @@ fn elaborate_one(
         let made = elaborate_algebraic(alloc, store, sig, scope, &place, types.as_slice())?;
         return Ok(Some(made));
     }
-    if !is_covered(decl) {
+    if !is_logical(decl) {
         return Ok(None);
     }
     let made = elaborate(alloc, store, sig, scope, "T", "", decl, at)?;

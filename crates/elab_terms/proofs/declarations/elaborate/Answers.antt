@@ -1,4 +1,4 @@
-use Rattle.std.proofs.Common.{◌≡◌, List, [], ◌∷◌, Option, Some, None, option_map, IsSomeAnd, IfOk, IfErr, refl, sym, ap, subst, map, ◌∙◌}
+use Rattle.std.proofs.Common.{◌≡◌, List, [], ◌∷◌, Option, Some, None, option_map, IfOk, IfErr, refl, ap, subst, map, ◌∙◌}
 use Rattle.syntax_why.specs.declared.names.At.{At}
 use Rattle.syntax_why.specs.declared.names.Name.{Name}
 use Rattle.syntax_why.specs.declared.types.TypeTree.{TypeTree}
@@ -9,14 +9,14 @@ use Rattle.syntax_why.specs.Surface as code
 use Rattle.syntax_why.specs.SurfaceDeclarations.{decl_of}
 use Rattle.syntax_why.proofs.DeclLemmas.{decl_is, decl_of_node-TypeDecl, decl_of_node-Prop, decl_of_node-Algebraic, decl_of_node-Function, decl_of_node-Predicate, decl_of_node-Constant, decl_of_node-Inductive, decl_of_node-UseTheory, decl_of_node-CloneTheory, decl_of_node-ScopeDecl}
 use Rattle.elab_names.specs.Abstract.{form_of}
-use Rattle.elab_parts.specs.Declarations.{Algebraic, Declaration, Member, algebraic, declaration, members, word}
+use Rattle.elab_parts.specs.Declarations.{Algebraic, Inductive, Member, algebraic, declaration, inductive, members, word}
 use Rattle.elab_parts.specs.Outcomes.{standing}
 use Rattle.elab_members.specs.Sources.{member_at}
 use Rattle.elab_types.specs.Algebraics.{types_of}
-use Rattle.elab_groups.specs.Bodies.{IsWhole}
-use Rattle.elab_terms.specs.Outcomes.{type_declaration, IsCovered, IsElaborated, IsRefusal}
+use Rattle.elab_inductives.specs.Sources.{predicates_at}
+use Rattle.elab_terms.specs.Outcomes.{type_declaration, IsElaborated, IsRefusal}
 use Rattle.elab_terms.specs.Heads.{first_member, other_members}
-use Rattle.elab_terms.proofs.Covered.{function_members, predicate_members, constant_members}
+use Rattle.elab_terms.proofs.Heads.{function_members, predicate_members, constant_members}
 use Rattle.elab_terms.proofs.declarations.elaborate.Goals as goal
 
 declared_type : (a : At) (n : Name) (vs : List Name) (t : Option TypeTree) → declaration (type_decl a n vs (option_map code.form_of t)) ≡ Some (type_declaration (word n) (map word vs) (option_map form_of t))
@@ -24,16 +24,13 @@ declared_type a n vs None = refl
 declared_type a n vs (Some t) = refl
 
 pub unreachable-requires : goal.unreachable-requires
-unreachable-requires c = let e = decl_is c.args.decl.now (dv.Inductive c.in-Inductive.field-0) c.in-Inductive.is ∙ decl_of_node-Inductive c.in-Inductive.field-0 c.args.decl.now.at in rw e at c.requires.covered
-
-pub unreachable-requires-in-UseTheory : goal.unreachable-requires-in-UseTheory
-unreachable-requires-in-UseTheory c = let e = decl_is c.args.decl.now (dv.UseTheory c.in-UseTheory.field-0 c.in-UseTheory.field-1 c.in-UseTheory.field-2) c.in-UseTheory.is ∙ decl_of_node-UseTheory c.in-UseTheory.field-0 c.in-UseTheory.field-1 c.in-UseTheory.field-2 c.args.decl.now.at in rw e at c.requires.covered
+unreachable-requires c = let e = decl_is c.args.decl.now (dv.UseTheory c.in-UseTheory.field-0 c.in-UseTheory.field-1 c.in-UseTheory.field-2) c.in-UseTheory.is ∙ decl_of_node-UseTheory c.in-UseTheory.field-0 c.in-UseTheory.field-1 c.in-UseTheory.field-2 c.args.decl.now.at in rw e at c.requires.logical
 
 pub unreachable-requires-in-CloneTheory : goal.unreachable-requires-in-CloneTheory
-unreachable-requires-in-CloneTheory c = let e = decl_is c.args.decl.now (dv.CloneTheory c.in-CloneTheory.field-0 c.in-CloneTheory.field-1 c.in-CloneTheory.field-2 c.in-CloneTheory.field-3) c.in-CloneTheory.is ∙ decl_of_node-CloneTheory c.in-CloneTheory.field-0 c.in-CloneTheory.field-1 c.in-CloneTheory.field-2 c.in-CloneTheory.field-3 c.args.decl.now.at in rw e at c.requires.covered
+unreachable-requires-in-CloneTheory c = let e = decl_is c.args.decl.now (dv.CloneTheory c.in-CloneTheory.field-0 c.in-CloneTheory.field-1 c.in-CloneTheory.field-2 c.in-CloneTheory.field-3) c.in-CloneTheory.is ∙ decl_of_node-CloneTheory c.in-CloneTheory.field-0 c.in-CloneTheory.field-1 c.in-CloneTheory.field-2 c.in-CloneTheory.field-3 c.args.decl.now.at in rw e at c.requires.logical
 
 pub unreachable-requires-in-ScopeDecl : goal.unreachable-requires-in-ScopeDecl
-unreachable-requires-in-ScopeDecl c = let e = decl_is c.args.decl.now (dv.ScopeDecl c.in-ScopeDecl.field-0 c.in-ScopeDecl.field-1) c.in-ScopeDecl.is ∙ decl_of_node-ScopeDecl c.in-ScopeDecl.field-0 c.in-ScopeDecl.field-1 c.args.decl.now.at in rw e at c.requires.covered
+unreachable-requires-in-ScopeDecl c = let e = decl_is c.args.decl.now (dv.ScopeDecl c.in-ScopeDecl.field-0 c.in-ScopeDecl.field-1) c.in-ScopeDecl.is ∙ decl_of_node-ScopeDecl c.in-ScopeDecl.field-0 c.in-ScopeDecl.field-1 c.args.decl.now.at in rw e at c.requires.logical
 
 pub returns-in-TypeDecl-clause-ok : goal.returns-in-TypeDecl-clause-ok
 returns-in-TypeDecl-clause-ok c =
@@ -56,18 +53,6 @@ pub returns-in-Prop-clause-err : goal.returns-in-Prop-clause-err
 returns-in-Prop-clause-err c =
     let e = decl_is c.args.decl.now (dv.Prop c.in-Prop.kind c.in-Prop.name c.in-Prop.e) c.in-Prop.is ∙ decl_of_node-Prop c.in-Prop.kind c.in-Prop.name c.in-Prop.e c.args.decl.now.at in
     rw e (rw (c.as_bytes.ensures.value, c.as_bytes-2.ensures.value) at c.elaborate_proposition.ensures.err)
-
-pub elaborate_members-requires-clause-whole : goal.elaborate_members-requires-clause-whole
-elaborate_members-requires-clause-whole c =
-    let e = decl_is c.args.decl.now (dv.Function c.in-Function.name c.in-Function.params c.in-Function.ty c.in-Function.body c.in-Function.others) c.in-Function.is ∙ decl_of_node-Function c.in-Function.name c.in-Function.params c.in-Function.ty c.in-Function.body c.in-Function.others c.args.decl.now.at in
-    let heads : List Member = first_member c.in-Function.name c.in-Function.params (Some c.in-Function.ty) c.in-Function.body ∷ other_members c.in-Function.others in
-    let d : declaration (decl_of c.args.decl.now) ≡ Some (members heads) = ap declaration e ∙ function_members c.args.decl.now.at c.in-Function.name c.in-Function.params c.in-Function.ty c.in-Function.body c.in-Function.others in
-    let given : List Member = member_at c.head_member-first.result ∷ other_members c.as_slice-others.result.now in
-    let first = c.head_member-first.ensures ∙ ap (λ (ps : List ParamTree). first_member c.in-Function.name ps (Some c.in-Function.ty) c.in-Function.body) c.as_slice-params.ensures in
-    let others : other_members c.as_slice-others.result.now ≡ other_members c.in-Function.others = ap other_members c.as_slice-others.ensures in
-    let q : given ≡ heads = ap (λ (m : Member). m ∷ other_members c.as_slice-others.result.now) first ∙ ap (λ (ms : List Member). first_member c.in-Function.name c.in-Function.params (Some c.in-Function.ty) c.in-Function.body ∷ ms) others in
-    let h : IsWhole heads = subst (λ (o : Option Declaration). IsSomeAnd o IsCovered) d c.requires.covered in
-    subst IsWhole (sym q) h
 
 pub returns-in-Function-clause-ok : goal.returns-in-Function-clause-ok
 returns-in-Function-clause-ok c =
@@ -97,18 +82,6 @@ returns-in-Function-clause-err c =
     let base : P given = rw (c.as_bytes.ensures.value, c.as_bytes-2.ensures.value) at c.elaborate_members.ensures.err in
     rw d (subst P q base)
 
-pub elaborate_members-requires-in-Predicate-clause-whole : goal.elaborate_members-requires-in-Predicate-clause-whole
-elaborate_members-requires-in-Predicate-clause-whole c =
-    let e = decl_is c.args.decl.now (dv.Predicate c.in-Predicate.name c.in-Predicate.params c.in-Predicate.body c.in-Predicate.others) c.in-Predicate.is ∙ decl_of_node-Predicate c.in-Predicate.name c.in-Predicate.params c.in-Predicate.body c.in-Predicate.others c.args.decl.now.at in
-    let heads : List Member = first_member c.in-Predicate.name c.in-Predicate.params None c.in-Predicate.body ∷ other_members c.in-Predicate.others in
-    let d : declaration (decl_of c.args.decl.now) ≡ Some (members heads) = ap declaration e ∙ predicate_members c.args.decl.now.at c.in-Predicate.name c.in-Predicate.params c.in-Predicate.body c.in-Predicate.others in
-    let given : List Member = member_at c.head_member-first-in-Predicate.result ∷ other_members c.as_slice-others-in-Predicate.result.now in
-    let first = c.head_member-first-in-Predicate.ensures ∙ ap (λ (ps : List ParamTree). first_member c.in-Predicate.name ps None c.in-Predicate.body) c.as_slice-params-in-Predicate.ensures in
-    let others : other_members c.as_slice-others-in-Predicate.result.now ≡ other_members c.in-Predicate.others = ap other_members c.as_slice-others-in-Predicate.ensures in
-    let q : given ≡ heads = ap (λ (m : Member). m ∷ other_members c.as_slice-others-in-Predicate.result.now) first ∙ ap (λ (ms : List Member). first_member c.in-Predicate.name c.in-Predicate.params None c.in-Predicate.body ∷ ms) others in
-    let h : IsWhole heads = subst (λ (o : Option Declaration). IsSomeAnd o IsCovered) d c.requires.covered in
-    subst IsWhole (sym q) h
-
 pub returns-in-Predicate-clause-ok : goal.returns-in-Predicate-clause-ok
 returns-in-Predicate-clause-ok c =
     let e = decl_is c.args.decl.now (dv.Predicate c.in-Predicate.name c.in-Predicate.params c.in-Predicate.body c.in-Predicate.others) c.in-Predicate.is ∙ decl_of_node-Predicate c.in-Predicate.name c.in-Predicate.params c.in-Predicate.body c.in-Predicate.others c.args.decl.now.at in
@@ -136,16 +109,6 @@ returns-in-Predicate-clause-err c =
     let P : List Member → Type 0 = λ ms. IfErr c.elaborate_members-in-Predicate.result (IsRefusal st (members ms)) in
     let base : P given = rw (c.as_bytes.ensures.value, c.as_bytes-2.ensures.value) at c.elaborate_members-in-Predicate.ensures.err in
     rw d (subst P q base)
-
-pub elaborate_members-requires-in-Constant-clause-whole : goal.elaborate_members-requires-in-Constant-clause-whole
-elaborate_members-requires-in-Constant-clause-whole c =
-    let e = decl_is c.args.decl.now (dv.Constant c.in-Constant.name c.in-Constant.ty c.in-Constant.body) c.in-Constant.is ∙ decl_of_node-Constant c.in-Constant.name c.in-Constant.ty c.in-Constant.body c.args.decl.now.at in
-    let heads : List Member = first_member c.in-Constant.name [] (Some c.in-Constant.ty) c.in-Constant.body ∷ [] in
-    let d : declaration (decl_of c.args.decl.now) ≡ Some (members heads) = ap declaration e ∙ constant_members c.args.decl.now.at c.in-Constant.name c.in-Constant.ty c.in-Constant.body in
-    let given : List Member = member_at c.head_member-first-in-Constant.result ∷ [] in
-    let q : given ≡ heads = ap (λ (m : Member). m ∷ []) c.head_member-first-in-Constant.ensures in
-    let h : IsWhole heads = subst (λ (o : Option Declaration). IsSomeAnd o IsCovered) d c.requires.covered in
-    subst IsWhole (sym q) h
 
 pub returns-in-Constant-clause-ok : goal.returns-in-Constant-clause-ok
 returns-in-Constant-clause-ok c =
@@ -187,4 +150,22 @@ returns-in-Algebraic-clause-err c =
     let st = standing c.args.theory.now c.args.within.now c.args.at c.args.store.now c.args.sig.now c.args.scope.now in
     let P : List Algebraic → Type 0 = λ ts. IfErr c.elaborate_algebraic.result (IsRefusal st (algebraic ts)) in
     let base : P (types_of c.as_slice-types.result.now) = rw (c.as_bytes.ensures.value, c.as_bytes-2.ensures.value) at c.elaborate_algebraic.ensures.err in
+    rw e (subst P q base)
+
+pub returns-in-Inductive-clause-ok : goal.returns-in-Inductive-clause-ok
+returns-in-Inductive-clause-ok c =
+    let e = decl_is c.args.decl.now (dv.Inductive c.in-Inductive.inductives) c.in-Inductive.is ∙ decl_of_node-Inductive c.in-Inductive.inductives c.args.decl.now.at in
+    let q : predicates_at c.as_slice-inductives.result.now ≡ predicates_at c.in-Inductive.inductives = ap predicates_at c.as_slice-inductives.ensures in
+    let st = standing c.args.theory.now c.args.within.now c.args.at c.args.store.now c.args.sig.now c.args.scope.now in
+    let P : List Inductive → Type 0 = λ ds. IfOk c.elaborate_inductives.result (IsElaborated st (inductive ds) c.args.sig.now c.elaborate_inductives.new.store c.elaborate_inductives.new.sig c.elaborate_inductives.new.scope) in
+    let base : P (predicates_at c.as_slice-inductives.result.now) = rw (c.as_bytes.ensures.value, c.as_bytes-2.ensures.value) at c.elaborate_inductives.ensures.ok in
+    rw e (subst P q base)
+
+pub returns-in-Inductive-clause-err : goal.returns-in-Inductive-clause-err
+returns-in-Inductive-clause-err c =
+    let e = decl_is c.args.decl.now (dv.Inductive c.in-Inductive.inductives) c.in-Inductive.is ∙ decl_of_node-Inductive c.in-Inductive.inductives c.args.decl.now.at in
+    let q : predicates_at c.as_slice-inductives.result.now ≡ predicates_at c.in-Inductive.inductives = ap predicates_at c.as_slice-inductives.ensures in
+    let st = standing c.args.theory.now c.args.within.now c.args.at c.args.store.now c.args.sig.now c.args.scope.now in
+    let P : List Inductive → Type 0 = λ ds. IfErr c.elaborate_inductives.result (IsRefusal st (inductive ds)) in
+    let base : P (predicates_at c.as_slice-inductives.result.now) = rw (c.as_bytes.ensures.value, c.as_bytes-2.ensures.value) at c.elaborate_inductives.ensures.err in
     rw e (subst P q base)

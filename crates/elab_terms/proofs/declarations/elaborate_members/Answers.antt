@@ -1,10 +1,18 @@
-use Rattle.std.proofs.Common.{◌≡◌, List, [], ◌∷◌, IfOk, IfErr, ap, subst, ◌∙◌}
+use Rattle.std.proofs.Common.{◌≡◌, List, ◌∷◌, IfOk, IfErr, sym, ap, subst, ◌∙◌}
 use Rattle.elab_parts.specs.Declarations.{Member, members}
 use Rattle.elab_parts.specs.Outcomes.{setting}
 use Rattle.elab_members.specs.Sources.{member_at, members_at}
+use Rattle.elab_groups.specs.Bodies.{IsWhole}
 use Rattle.elab_terms.specs.Heads.{other_members}
 use Rattle.elab_terms.specs.Outcomes.{IsElaborated, IsRefusal}
+use Rattle.elab_terms.proofs.Heads.{others_defined}
 use Rattle.elab_terms.proofs.declarations.elaborate_members.Goals as goal
+
+pub elaborate_group-requires-clause-whole : goal.elaborate_group-requires-clause-whole
+elaborate_group-requires-clause-whole c =
+    let heads : List Member = member_at c.args.first ∷ other_members c.args.others.now in
+    let q : members_at c.as_slice.result.now ≡ heads = ap members_at c.as_slice.ensures.value ∙ (rw (c.in_ok-push.ensures.items, c.new-list.ensures.items) at c.in_ok-gather_members.ensures) in
+    subst IsWhole (sym q) (λ h. others_defined c.args.others.now)
 
 pub returns-clause-ok : goal.returns-clause-ok
 returns-clause-ok c =

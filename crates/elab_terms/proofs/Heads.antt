@@ -1,24 +1,18 @@
--- Groups of functions, predicates and constants: what is covered, and what they are in abstract syntax.
-use Rattle.std.proofs.Common.{◌≡◌, Bool, true, false, List, [], ◌∷◌, Option, Some, None, option_map, refl, map, ap}
-use Rattle.std.specs.Prelude.{IsSomeAnd, IsTrue}
+-- Groups of functions, predicates and constants: what they are in abstract syntax.
+use Rattle.std.proofs.Common.{◌≡◌, List, [], ◌∷◌, Option, Some, None, option_map, refl, map}
 use Rattle.syntax_why.specs.declared.names.At.{At}
 use Rattle.syntax_why.specs.declared.names.OpName.{OpName}
 use Rattle.syntax_why.specs.declared.types.TypeTree.{TypeTree}
 use Rattle.syntax_why.specs.declared.expressions.Expr.{Expr}
 use Rattle.syntax_why.specs.declared.declarations.ParamTree.{ParamTree}
 use Rattle.syntax_why.specs.declared.declarations.MemberTree.{MemberTree}
-use Rattle.syntax_why.specs.Declarations.{Decl, function_decl, predicate_decl, constant_decl}
+use Rattle.syntax_why.specs.Declarations.{function_decl, predicate_decl, constant_decl}
 use Rattle.syntax_why.specs.Surface.{form_of, tree_of}
 use Rattle.syntax_why.specs.SurfaceDeclarations.{declared_name, param_of, member_of}
-use Rattle.elab_parts.specs.Declarations.{Member, declaration, members}
-use Rattle.elab_groups.specs.Bodies.{AreDefined, IsWhole}
-use Rattle.elab_terms.specs.Heads.{first_member, other_members, is_whole}
-use Rattle.elab_terms.specs.Outcomes.{IsCovered}
+use Rattle.elab_parts.specs.Declarations.{declaration, members}
+use Rattle.elab_groups.specs.Bodies.{AreDefined}
+use Rattle.elab_terms.specs.Heads.{first_member, other_members}
 
-abbrev pub Covered : Decl → Type 0
-Covered d = IsSomeAnd (declaration d) IsCovered
-
--- ---- in abstract syntax
 pub function_members : (a : At) (n : OpName) (ps : List ParamTree) (t : TypeTree) (b : Option Expr) (ms : List MemberTree)
     → declaration (function_decl a (declared_name n) (map param_of ps) (form_of t) (option_map tree_of b) (map member_of ms)) ≡ Some (members (first_member n ps (Some t) b ∷ other_members ms))
 function_members a n ps t None ms = refl
@@ -34,17 +28,7 @@ pub constant_members : (a : At) (n : OpName) (t : TypeTree) (b : Option Expr)
 constant_members a n t None = refl
 constant_members a n t (Some e) = refl
 
--- ---- those behind `with` have definitions
-others_defined : (ms : List MemberTree) → AreDefined (other_members ms)
+-- those behind `with` have definitions
+pub others_defined : (ms : List MemberTree) → AreDefined (other_members ms)
 others_defined [] = tt
 others_defined (m ∷ ms) = (refl, others_defined ms)
-
-pub whole : (n : OpName) (ps : List ParamTree) (t : Option TypeTree) (b : Option Expr) (ms : List MemberTree) → is_whole b ms ≡ true → IsWhole (first_member n ps t b ∷ other_members ms)
-whole n ps t b [] h = tt
-whole n ps t (Some e) (m ∷ ms) h = (refl, others_defined (m ∷ ms))
-whole n ps t None (m ∷ ms) h = absurd (cc)
-
-pub only_whole : (n : OpName) (ps : List ParamTree) (t : Option TypeTree) (b : Option Expr) (ms : List MemberTree) → IsWhole (first_member n ps t b ∷ other_members ms) → is_whole b ms ≡ true
-only_whole n ps t (Some e) ms h = refl
-only_whole n ps t None [] h = refl
-only_whole n ps t None (m ∷ ms) h = absurd (cc (h.0))

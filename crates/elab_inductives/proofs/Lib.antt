@@ -1,0 +1,6 @@
+pub mod InductivesNamed
+pub mod InductivesTold
+pub mod ClausesResolved
+pub mod ClausesSplit
+pub mod InductivesMade
+pub mod Rows

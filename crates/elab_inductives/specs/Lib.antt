@@ -1,0 +1,2 @@
+pub mod Inductives
+pub mod Sources

@@ -1,0 +1,98 @@
+// Inductive predicates and their clauses as members of groups, and what is seen in them.
+ghost use Rattle.std.specs.Prelude.{◌≡◌, ◌++◌, map, OnOk};
+ghost use Rattle.syntax_why.specs.SurfaceDeclarations.{declared_name};
+ghost use Rattle.elab_variables.specs.Entered.{seen_at};
+ghost use Rattle.elab_parts.specs.Declarations.{symbol};
+ghost use Rattle.elab_members.specs.Sources.{members_at};
+ghost use Rattle.elab_inductives.specs.Inductives.{clauses_seen, inductives_seen, as_members, formula, formulas};
+ghost use Rattle.elab_inductives.specs.Sources.{predicates_at, clauses_at};
+
+use elab_members::{MemberSource, enter_params};
+use elab_variables::{Seen, enter_variables};
+use std::alloc::{AllocError, Global};
+use syntax_why::{ClauseTree, IndTree, OpName};
+
+/// Predicates without their clauses, behind the members that are there.
+pub fn push_predicates<'a>(
+    list: &mut Vec<MemberSource<'a>>,
+    inductives: &'a [IndTree],
+) -> Result<(), AllocError>
+    ensures { OnOk result (members_at list.new.items ≡ members_at list.old.items ++ as_members
+        (predicates_at inductives.now)) }
+{
+    let Some((first, rest)) = inductives.split_first() else {
+        return Ok(());
+    };
+    list.push(MemberSource {
+        name: &first.name,
+        params: first.params.as_slice(),
+        result: None,
+        body: None,
+    })?;
+    push_predicates(list, rest)
+}
+
+// The clauses of a predicate of a name, behind the members that are there.
+fn push_clauses<'a>(
+    list: &mut Vec<MemberSource<'a>>,
+    name: &'a OpName,
+    clauses: &'a [ClauseTree],
+) -> Result<(), AllocError>
+    ensures { OnOk result (members_at list.new.items ≡ members_at list.old.items ++ map
+        (formula (symbol (declared_name name.now))) (clauses_at clauses.now)) }
+{
+    let Some((first, rest)) = clauses.split_first() else {
+        return Ok(());
+    };
+    list.push(MemberSource {
+        name,
+        params: &[],
+        result: None,
+        body: Some(&first.prop),
+    })?;
+    push_clauses(list, name, rest)
+}
+
+/// The clauses of predicates, behind the members that are there.
+pub fn push_formulas<'a>(
+    list: &mut Vec<MemberSource<'a>>,
+    inductives: &'a [IndTree],
+) -> Result<(), AllocError>
+    ensures { OnOk result (members_at list.new.items ≡ members_at list.old.items ++ formulas
+        (predicates_at inductives.now)) }
+{
+    let Some((first, rest)) = inductives.split_first() else {
+        return Ok(());
+    };
+    push_clauses(list, &first.name, first.clauses.as_slice())?;
+    push_formulas(list, rest)
+}
+
+// The type variables and tuples of clauses, behind those that are there.
+fn enter_clauses(alloc: Global, seen: &mut Seen, clauses: &[ClauseTree]) -> Result<(), AllocError>
+    ensures { OnOk result (seen_at seen.new ≡ clauses_seen (seen_at seen.old)
+        (clauses_at clauses.now)) }
+{
+    let Some((first, rest)) = clauses.split_first() else {
+        return Ok(());
+    };
+    enter_variables(alloc, seen, &first.prop)?;
+    enter_clauses(alloc, seen, rest)
+}
+
+/// Those of predicates, behind those that are there.
+pub fn enter_inductives(
+    alloc: Global,
+    seen: &mut Seen,
+    inductives: &[IndTree],
+) -> Result<(), AllocError>
+    ensures { OnOk result (seen_at seen.new ≡ inductives_seen (seen_at seen.old)
+        (predicates_at inductives.now)) }
+{
+    let Some((first, rest)) = inductives.split_first() else {
+        return Ok(());
+    };
+    enter_params(alloc, seen, first.params.as_slice())?;
+    enter_clauses(alloc, seen, first.clauses.as_slice())?;
+    enter_inductives(alloc, seen, rest)
+}
