@@ -1,0 +1,17 @@
+pub mod Forms
+pub mod Back
+pub mod Words
+pub mod Found
+pub mod Kept
+pub mod Texts
+pub mod Inputs
+pub mod Symbols
+pub mod Formulas
+pub mod Tables
+pub mod Standing
+pub mod Sound
+pub mod Commands
+pub mod Same
+pub mod Telling
+pub mod Whole
+pub mod Shipped

@@ -1,0 +1,10 @@
+-- Both are lemmas.
+use Rattle.smt_law.proofs.Whole.{law}
+use Rattle.smt_law.proofs.Shipped.{plain}
+use Rattle.smt_law.proofs.law_of_texts.Goals as goal
+
+pub returns-clause-law : goal.returns-clause-law
+returns-clause-law c = law
+
+pub returns-clause-shipped : goal.returns-clause-shipped
+returns-clause-shipped c = plain

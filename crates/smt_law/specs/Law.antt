@@ -1,0 +1,69 @@
+-- The law of texts: what a text in SMT-LIB tells of its problem, where the templates of the driver are plain.
+use Rattle.std.specs.Prelude.{◌≡◌, ℕ, ◌<◌, ◌≤◌, ◌^◌, false, ◌++◌, map, length, All, None, ℤ, pos, negsuc}
+use Rattle.std.specs.List.{list_any}
+use Rattle.trees.specs.Tree.{Tree, Leaf, One, Two, Three, Head, HNum, height}
+use Rattle.driver_items.specs.declared.kinds.Printer.TheVariants.{Smt}
+use Rattle.driver_parts.specs.declared.driver.Driver.{Driver}
+use Rattle.tasks.specs.Task.{TaskTree}
+use Rattle.tasks.specs.Valid.{IsValid}
+use Rattle.problems.specs.declared.names.NameEntry.{NameEntry}
+use Rattle.name_tables.specs.Tables.{problem_things, problem_names}
+use Rattle.printed_problems.specs.Problems.{preludes, problem_of}
+use Rattle.printed_problems.specs.Faults.{print_fault}
+use Rattle.smt_texts.specs.Text.{smt_text}
+use Rattle.s_expressions.specs.Sexps.{breaks}
+use Rattle.smt_law.specs.Plain.{begins_number, Words, ArePlain}
+use Rattle.smt_law.specs.Reading.{reading}
+
+abbrev pub integer_fits : ℤ → Type 0
+integer_fits (pos n) = n < 2 ^ 128
+integer_fits (negsuc n) = n < 2 ^ 128
+
+abbrev pub literal_fits : Head → Type 0
+literal_fits (HNum z) = integer_fits z
+literal_fits _ = Unit {0}
+
+abbrev pub LiteralsFit : Tree → Type 0
+LiteralsFit (Leaf h) = literal_fits h
+LiteralsFit (One h a) = LiteralsFit a
+LiteralsFit (Two h a b) = LiteralsFit a × LiteralsFit b
+LiteralsFit (Three h a b c) = LiteralsFit a × LiteralsFit b × LiteralsFit c
+
+-- the numbers of a formula fit the machine, as those of each store do
+pub record NumbersFit (e : Tree) : Type 0 where
+  pub height : height e ≤ 2 ^ 64
+  pub literals : LiteralsFit e
+
+-- a name that doesn't begin as a number and has no blank, line feed or parenthesis in it, as no name of a source does
+pub record IsSpelt (e : NameEntry) : Type 0 where
+  pub start : begins_number e.name ≡ false
+  pub whole : list_any breaks e.name ≡ false
+
+-- a valid task that is printed under a driver
+pub record IsPrinted (d : Driver) (t : TaskTree) : Type 0 where
+  pub valid : IsValid t
+  pub printed : print_fault d t ≡ None
+  pub names : All IsSpelt (problem_names t)
+  pub table : length (problem_things t) ≤ 2 ^ 64
+  pub params : length t.params ≤ 2 ^ 64
+  pub facts : All NumbersFit (problem_of d t).facts
+  pub locals : All NumbersFit t.locals
+  pub goal : NumbersFit t.goal
+
+-- one signature with its integers, one table, and the same preludes
+pub record AreAlike (d : Driver) (t u : TaskTree) : Type 0 where
+  pub symbols : t.symbols ≡ u.symbols
+  pub ints : t.ints ≡ u.ints
+  pub things : problem_things t ≡ problem_things u
+  pub names : problem_names t ≡ problem_names u
+  pub preludes : preludes d t ≡ preludes d u
+
+-- the same facts and then locals, and the same goal
+pub record TellTheSame (d : Driver) (t u : TaskTree) : Type 0 where
+  pub premises : map reading ((problem_of d t).facts ++ (problem_of d t).locals) ≡ map reading ((problem_of d u).facts ++ (problem_of d u).locals)
+  pub goal : reading (problem_of d t).goal ≡ reading (problem_of d u).goal
+
+abbrev pub LawOfTexts : Type 0
+LawOfTexts =
+    (d : Driver) (words : Words) (t u : TaskTree) (k n : ℕ) → d.printer ≡ Smt → ArePlain d t.symbols (problem_names t) words → IsPrinted d t → IsPrinted d u → AreAlike d t u
+    → smt_text d t (problem_of d t) k n ≡ smt_text d u (problem_of d u) k n → TellTheSame d t u

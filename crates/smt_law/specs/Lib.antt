@@ -1,0 +1,4 @@
+pub mod Plain
+pub mod Reading
+pub mod Law
+pub mod Shipped
