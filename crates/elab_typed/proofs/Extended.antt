@@ -6,8 +6,9 @@ use Rattle.trees.specs.Tree.{Tree, Leaf, One, Two, Three, Head, HTyRigid, HTyApp
 use Rattle.trees.specs.Node.{Grows}
 use Rattle.trees.proofs.Nodes.{tree_at-grows}
 use Rattle.tasks.specs.Task.{SymbolTree, symbol_or, int_symbol}
+use Rattle.tasks.specs.declared.signature.SymbolKind.{SymbolKind}
 use Rattle.tasks.specs.declared.signature.SymbolKind.TheVariants.{Constructor}
-use Rattle.tasks.specs.Vocabulary.{Vocabulary, is_empty, is_constructor_kind}
+use Rattle.tasks.specs.Vocabulary.{Vocabulary, is_constructor_kind}
 use Rattle.tasks.specs.Typing.{entry, LeafTyped, OneTyped, TwoTyped, ThreeTyped, TypedUnder, bound_types}
 use Rattle.tasks.specs.Valid.{IsTypeIn, HasTypes}
 use Rattle.names_space.specs.Names.{Names, number_of}
@@ -20,7 +21,7 @@ use Rattle.elab_parts.specs.Entries.{builtin, is_tuple}
 use Rattle.elab_typed.specs.Signature.{with_entries}
 use Rattle.elab_typed.proofs.Words.{same_word, both_true}
 use Rattle.elab_typed.proofs.Signed.{some_at, entry_scoped}
-use Rattle.elab_typed.specs.Scopes.{NamesNew, IsPart, AgreeBelow, IsTypedEntry, IsTypedSignature, IsTypeNumber, IsSymbolNumber, IsAliased, IsTypedThing, AreTypedScopes}
+use Rattle.elab_typed.specs.Scopes.{is_projection_kind, may_stand, NamesNew, IsPart, AgreeBelow, IsTypedEntry, IsTypedSignature, IsTypeNumber, IsSymbolNumber, IsAliased, IsTypedThing, AreTypedScopes}
 
 module _ (v w : Vocabulary) (h : IsPart v w) where
   some_more : (k : ℕ) (o : Option SymbolTree) (P : SymbolTree → Type 0) → entry v k ≡ o → IsSomeAnd o P → IsSomeAnd (entry w k) P
@@ -68,7 +69,7 @@ module _ (v w : Vocabulary) (h : IsPart v w) where
   entry_more e x = record { types = types_more e x.types; result = x.result }
 
 -- ---- further entries
-further : (xs ys : List SymbolTree) (k : ℕ) (e : SymbolTree) → slice_get xs k ≡ Some e → slice_get (xs ++ ys) k ≡ Some e
+pub further : (xs ys : List SymbolTree) (k : ℕ) (e : SymbolTree) → slice_get xs k ≡ Some e → slice_get (xs ++ ys) k ≡ Some e
 further [] ys k e h = absurd (cc)
 further (x ∷ xs) ys zero e h = h
 further (x ∷ xs) ys (suc k) e h = further xs ys k e h
@@ -77,7 +78,7 @@ pub entries_part : (base : Vocabulary) (xs ys : List SymbolTree) → IsPart (wit
 entries_part base xs ys = record { entries = λ k e h. further xs ys k e h; rigid = λ k e q h. h; usable = λ k e q h. h; matched = λ k e q h. h }
 
 -- an entry of two lists is one of the first or of the second
-in_either : (xs ys : List SymbolTree) (k : ℕ) (e : SymbolTree) → slice_get (xs ++ ys) k ≡ Some e → (slice_get xs k ≡ Some e) ⊎ ((length xs ≤ k) × (slice_get ys (k - length xs) ≡ Some e))
+pub in_either : (xs ys : List SymbolTree) (k : ℕ) (e : SymbolTree) → slice_get (xs ++ ys) k ≡ Some e → (slice_get xs k ≡ Some e) ⊎ ((length xs ≤ k) × (slice_get ys (k - length xs) ≡ Some e))
 in_either [] ys k e h = let q : k - 0 ≡ k = omega arith in inr (omega arith, ap (slice_get ys) q ∙ h)
 in_either (x ∷ xs) ys zero e h = inl h
 in_either (x ∷ xs) ys (suc k) e h = of (in_either xs ys k e h)
@@ -86,7 +87,7 @@ in_either (x ∷ xs) ys (suc k) e h = of (in_either xs ys k e h)
     of (inl q) = inl q
     of (inr q) = let z : suc k - suc (length xs) ≡ k - length xs = omega arith in inr (omega (arith, q.0), ap (slice_get ys) z ∙ q.1)
 
-slice_below : (es : List SymbolTree) (k : ℕ) (e : SymbolTree) → slice_get es k ≡ Some e → k < length es
+pub slice_below : (es : List SymbolTree) (k : ℕ) (e : SymbolTree) → slice_get es k ≡ Some e → k < length es
 slice_below [] k e q = absurd (cc)
 slice_below (x ∷ xs) zero e q = omega arith
 slice_below (x ∷ xs) (suc k) e q = let l = slice_below xs k e q in omega arith
@@ -104,11 +105,15 @@ pub news_later : (base : Vocabulary) (n m : ℕ) (xs : List SymbolTree) → n �
 news_later base n m xs o h = λ k e l q. h k e (omega arith) q
 
 -- a tuple's constructor has the theory of what is built in
-tuple_builtin : (n : ℕ) (e : SymbolTree) → is_tuple n e ≡ true → is_empty e.theory ≡ false
+tuple_builtin : (n : ℕ) (e : SymbolTree) → is_tuple n e ≡ true → IsTrue (may_stand e)
 tuple_builtin n e q =
     let a = both_true (is_constructor_kind e.kind) (bytes_eq e.theory builtin && (e.vars == n && length e.args == n)) q in
     let b = both_true (bytes_eq e.theory builtin) (e.vars == n && length e.args == n) a.1 in
-    rw (same_word e.theory builtin b.0) refl
+    rw (same_word e.theory builtin b.0, no_projection e.kind a.0) refl
+  where
+    no_projection : (k : SymbolKind) → is_constructor_kind k ≡ true → is_projection_kind k ≡ false
+    no_projection Constructor z = refl
+    no_projection _ z = absurd (cc)
 
 pub signature_more : (base : Vocabulary) (xs ys : List SymbolTree) → IsTypedSignature base xs → All (IsTypedEntry (with_entries base (xs ++ ys))) ys → NamesNew base (length xs) (xs ++ ys) → IsTypedSignature base (xs ++ ys)
 signature_more base xs ys h typed news =

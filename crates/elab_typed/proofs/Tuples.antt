@@ -60,7 +60,7 @@ at_end [] e ys = refl
 at_end (x ∷ xs) e ys = at_end xs e ys
 
 pub last_type : (base : Vocabulary) (xs ys : List SymbolTree) (theory name : Word) (n : ℕ) → is_empty theory ≡ false → NamesNew base (length xs) (xs ++ type_entry theory name n ∷ ys) → IsTypeSymbol (with_entries base (xs ++ type_entry theory name n ∷ ys)) (length xs) n
-last_type base xs ys theory name n q news = let z = at_end xs (type_entry theory name n) ys in ((news (length xs) (type_entry theory name n) (omega arith) z).usable q, rw z (refl, refl))
+last_type base xs ys theory name n q news = let z = at_end xs (type_entry theory name n) ys in ((news (length xs) (type_entry theory name n) (omega arith) z).usable (rw q refl), rw z (refl, refl))
 
 tuple_typed : (base : Vocabulary) (symbols : List SymbolTree) (n : ℕ) → NamesNew base (length symbols) (symbols ++ tuple_entries (length symbols) n) → All (IsTypedEntry (with_entries base (symbols ++ tuple_entries (length symbols) n))) (tuple_entries (length symbols) n)
 tuple_typed base symbols n news =

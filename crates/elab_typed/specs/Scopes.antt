@@ -1,8 +1,10 @@
 -- Signatures and scopes that are typed: entries of types over the signature, and names that stand for entries of their kind.
-use Rattle.std.specs.Prelude.{◌≡◌, ◌≢◌, ℕ, ◌<◌, ◌≤◌, true, false, List, length, slice_get, All, Some, IsSomeAnd, IsTrue}
+use Rattle.std.specs.Prelude.{◌≡◌, ◌≢◌, ℕ, ◌<◌, ◌≤◌, Bool, true, false, not, ◌&&◌, List, length, slice_get, All, Some, IsSomeAnd, IsTrue}
 use Rattle.trees.specs.Tree.{Tree}
 use Rattle.trees.specs.Node.{tree_at, Holds}
-use Rattle.tasks.specs.declared.signature.SymbolKind.TheVariants.{Kind, Constructor}
+use Rattle.std.specs.Str.{bytes_eq}
+use Rattle.tasks.specs.declared.signature.SymbolKind.{SymbolKind}
+use Rattle.tasks.specs.declared.signature.SymbolKind.TheVariants.{Kind, Constructor, Projection}
 use Rattle.tasks.specs.Task.{SymbolTree, int_symbol, symbol_or}
 use Rattle.tasks.specs.Vocabulary.{Vocabulary, is_empty}
 use Rattle.tasks.specs.Typing.{entry, MakesTerms}
@@ -13,7 +15,7 @@ use Rattle.names_space.specs.declared.Table.TheVariants.{Types, Symbols}
 use Rattle.names_space.specs.declared.TypeName.{TypeName}
 use Rattle.names_space.specs.declared.TypeName.TheVariants as stands
 use Rattle.elab_walk.specs.Scoped.{IsScopedEntry}
-use Rattle.elab_parts.specs.Entries.{is_tuple}
+use Rattle.elab_parts.specs.Entries.{builtin, is_tuple}
 use Rattle.elab_typed.specs.Signature.{with_entries}
 
 -- its types are over the signature, and where it makes terms it has a result
@@ -32,9 +34,17 @@ pub record IsTypedSignature (base : Vocabulary) (symbols : List SymbolTree) : Ty
   pub patterns : (k : ℕ) (e : SymbolTree) → slice_get symbols k ≡ Some e → IsTrue (base.matched k) → IsTrue (base.usable k)
   pub tuples : (n k : ℕ) (e : SymbolTree) → slice_get symbols k ≡ Some e → is_tuple n e ≡ true → IsTrue (base.usable k)
 
--- an entry with a theory may be named, in a pattern if it is a constructor; one without a theory is a type variable of a goal
+abbrev pub is_projection_kind : SymbolKind → Bool
+is_projection_kind Projection = true
+is_projection_kind _ = false
+
+-- what a source may name: an entry with a theory, but for the projections of tuples
+abbrev pub may_stand : SymbolTree → Bool
+may_stand e = not (is_empty e.theory) && not (is_projection_kind e.kind && bytes_eq e.theory builtin)
+
+-- it may be named, in a pattern if it is a constructor; an entry without a theory is a type variable of a goal
 pub record IsNamedBy (base : Vocabulary) (k : ℕ) (e : SymbolTree) : Type 0 where
-  pub usable : is_empty e.theory ≡ false → IsTrue (base.usable k)
+  pub usable : IsTrue (may_stand e) → IsTrue (base.usable k)
   pub matched : e.kind ≡ Constructor → IsTrue (base.matched k)
   pub pattern : IsTrue (base.matched k) → IsTrue (base.usable k)
   pub rigid : is_empty e.theory ≡ true → IsTrue (base.rigid k)

@@ -1,0 +1,3 @@
+pub mod Valid
+pub mod Named
+pub mod Lists
