@@ -1,0 +1,19 @@
+//! Reads theories, one a line, and says of each what its last declaration becomes, or its first fault.
+//! It depends on the reader and on elaboration; its input and output are by `tools/elab-rows`.
+#![tactic(auto)]
+
+mod answers;
+mod made;
+mod printing;
+
+use answers::describe;
+use std::io;
+
+fn main(rt: HostRuntime) -> io::Result<()> {
+    let alloc = rt.alloc();
+    for line in rt.lines(alloc) {
+        let text = describe(alloc, line?.as_str())?;
+        println!(rt; "{text}")?;
+    }
+    Ok(())
+}
