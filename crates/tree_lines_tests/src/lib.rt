@@ -1,0 +1,8 @@
+//! Tests of the lines of trees: each kind of line, right and wrong in each way.
+//! It depends on tree_lines; nothing depends on it.
+#![tactic(auto)]
+
+#[cfg(test)]
+mod given;
+#[cfg(test)]
+mod lines;
