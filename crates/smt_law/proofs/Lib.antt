@@ -15,3 +15,4 @@ pub mod Same
 pub mod Telling
 pub mod Whole
 pub mod Shipped
+pub mod Spelt

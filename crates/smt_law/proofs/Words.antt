@@ -54,7 +54,7 @@ digits (c ∷ cs) d = let k = digit_from_value c d.0 in and_true (is_digit c) (a
 digit_no_break : (c : ℕ) → 48 ≤ c → c ≤ 57 → breaks c ≡ false
 digit_no_break c low high = grind (arith, nat_tests)
 
-digits_whole : (ds : List ℕ) → AllDigits 10 ds → list_any breaks ds ≡ false
+pub digits_whole : (ds : List ℕ) → AllDigits 10 ds → list_any breaks ds ≡ false
 digits_whole [] d = refl
 digits_whole (c ∷ cs) d = let k = digit_from_value c d.0 in or_false (breaks c) (list_any breaks cs) (digit_no_break c (omega (arith, k)) (omega (arith, k))) (digits_whole cs d.1)
 
@@ -105,7 +105,7 @@ digits_local : (c : ℕ) (ds : List ℕ) → ((c == 99) || (c == 120)) ≡ true 
 digits_local c [] h d some = absurd (omega arith)
 digits_local c (e ∷ cs) h d some = and_true ((c == 99) || (c == 120)) (all_digits (e ∷ cs)) h (digits (e ∷ cs) d)
 
-letter_no_number : (c : ℕ) (ds : List ℕ) → is_digit c ≡ false → (c == 45) ≡ false → begins_number (c ∷ ds) ≡ false
+pub letter_no_number : (c : ℕ) (ds : List ℕ) → is_digit c ≡ false → (c == 45) ≡ false → begins_number (c ∷ ds) ≡ false
 letter_no_number c [] h k = h
 letter_no_number c (e ∷ cs) h k = λ i. h i || (k i && is_digit e)
 

@@ -1,18 +1,19 @@
 -- The law of texts: what a text in SMT-LIB tells of its problem, where the templates of the driver are plain.
-use Rattle.std.specs.Prelude.{◌≡◌, ℕ, ◌<◌, ◌≤◌, ◌^◌, false, ◌++◌, map, length, All, None, ℤ, pos, negsuc}
+use Rattle.std.specs.Prelude.{◌≡◌, ℕ, ◌<◌, ◌≤◌, ◌^◌, Bool, false, List, [], ◌∷◌, ◌++◌, map, length, All, None, ℤ, pos, negsuc}
 use Rattle.std.specs.List.{list_any}
 use Rattle.trees.specs.Tree.{Tree, Leaf, One, Two, Three, Head, HNum, height}
 use Rattle.driver_items.specs.declared.kinds.Printer.TheVariants.{Smt}
 use Rattle.driver_parts.specs.declared.driver.Driver.{Driver}
-use Rattle.tasks.specs.Task.{TaskTree}
+use Rattle.tasks.specs.Task.{SymbolTree, TaskTree}
 use Rattle.tasks.specs.Valid.{IsValid}
 use Rattle.problems.specs.declared.names.NameEntry.{NameEntry}
+use Rattle.name_tables.specs.Spelling.{own_name}
 use Rattle.name_tables.specs.Tables.{problem_things, problem_names}
 use Rattle.printed_problems.specs.Problems.{preludes, problem_of}
 use Rattle.printed_problems.specs.Faults.{print_fault}
 use Rattle.smt_texts.specs.Text.{smt_text}
 use Rattle.s_expressions.specs.Sexps.{breaks}
-use Rattle.smt_law.specs.Plain.{begins_number, Words, ArePlain}
+use Rattle.smt_law.specs.Plain.{is_digit, begins_number, Words, ArePlain}
 use Rattle.smt_law.specs.Reading.{reading}
 
 abbrev pub integer_fits : ℤ → Type 0
@@ -34,7 +35,7 @@ pub record NumbersFit (e : Tree) : Type 0 where
   pub height : height e ≤ 2 ^ 64
   pub literals : LiteralsFit e
 
--- a name that doesn't begin as a number and has no blank, line feed or parenthesis in it, as no name of a source does
+-- a name that doesn't begin as a number and has no blank, line feed or parenthesis in it
 pub record IsSpelt (e : NameEntry) : Type 0 where
   pub start : begins_number e.name ≡ false
   pub whole : list_any breaks e.name ≡ false
@@ -67,3 +68,16 @@ abbrev pub LawOfTexts : Type 0
 LawOfTexts =
     (d : Driver) (words : Words) (t u : TaskTree) (k n : ℕ) → d.printer ≡ Smt → ArePlain d t.symbols (problem_names t) words → IsPrinted d t → IsPrinted d u → AreAlike d t u
     → smt_text d t (problem_of d t) k n ≡ smt_text d u (problem_of d u) k n → TellTheSame d t u
+
+abbrev pub begins_digit : List ℕ → Bool
+begins_digit [] = false
+begins_digit (c ∷ cs) = is_digit c
+
+-- a symbol whose own name, without those of its scopes, doesn't begin with a digit and has no blank, line feed or parenthesis in it
+pub record IsOrdinary (e : SymbolTree) : Type 0 where
+  pub start : begins_digit (own_name e.name) ≡ false
+  pub whole : list_any breaks (own_name e.name) ≡ false
+
+-- the names of a table are spelt where those of the symbols are ordinary
+abbrev pub NamesAreSpelt : Type 0
+NamesAreSpelt = (t : TaskTree) → length (problem_things t) ≤ 2 ^ 64 → All IsOrdinary t.symbols → All IsSpelt (problem_names t)

@@ -1,6 +1,7 @@
--- Both are lemmas.
+-- All three are lemmas.
 use Rattle.smt_law.proofs.Whole.{law}
 use Rattle.smt_law.proofs.Shipped.{plain}
+use Rattle.smt_law.proofs.Spelt.{names_are_spelt}
 use Rattle.smt_law.proofs.law_of_texts.Goals as goal
 
 pub returns-clause-law : goal.returns-clause-law
@@ -8,3 +9,6 @@ returns-clause-law c = law
 
 pub returns-clause-shipped : goal.returns-clause-shipped
 returns-clause-shipped c = plain
+
+pub returns-clause-spelt : goal.returns-clause-spelt
+returns-clause-spelt c = names_are_spelt
