@@ -93,20 +93,19 @@ fn text_of(
     }
 }
 
-/// The text of a row.
-pub(crate) fn printed(
+// The text of a task that can be printed.
+fn text_under(
     rt: &impl Abort,
     alloc: Global,
     terms: &Store,
-    words: &Words,
-    small: &Small,
-    part: usize,
-    parts: usize,
-) -> Vec<u8> {
-    let one = task(rt, alloc, terms, small);
-    let by = driver(rt, alloc, words);
-    match problem(alloc, terms, &one, &by) {
-        Ok(made) => text_of(alloc, terms, &one, &by, &made, part, parts).expect(rt, MEMORY),
+    one: &Task,
+    by: &Driver,
+    counts: (usize, usize),
+) -> Vec<u8>
+    requires { TaskHeld terms.now one.now }
+{
+    match problem(alloc, terms, one, by) {
+        Ok(made) => { text_of(alloc, terms, one, by, &made, counts.0, counts.1).expect(rt, MEMORY) }
         Err(_) => {
             assert!(rt; false);
             Vec::new(alloc)
@@ -114,35 +113,38 @@ pub(crate) fn printed(
     }
 }
 
+/// The text of a row.
+pub(crate) fn printed(
+    rt: &impl Abort,
+    alloc: Global,
+    terms: &Store,
+    words: &Words,
+    small: &Small,
+    counts: (usize, usize),
+) -> Vec<u8> {
+    let one = task(rt, alloc, terms, small);
+    let by = driver(rt, alloc, words);
+    text_under(rt, alloc, terms, &one, &by, counts)
+}
+
 /// Compares the texts of rows.
 pub(crate) fn check(rt: &impl Abort, alloc: Global, rows: &[Row]) {
     let terms = store(rt, alloc);
     for (words, small, part, parts, wanted) in rows {
-        let found = printed(rt, alloc, &terms, words, small, *part, *parts);
+        let found = printed(rt, alloc, &terms, words, small, (*part, *parts));
         assert!(rt; found.as_slice() == wanted.as_bytes());
     }
 }
 
-// Whether a text has another one before its last bytes.
-fn ends_with(found: &[u8], goal: &[u8], end: &[u8]) -> bool {
-    found.ends_with(end) && found[..found.len() - end.len()].ends_with(goal)
-}
-
-/// A goal, the types of its parameters, and its text where all symbols are declared.
+/// A goal, the types of its parameters, and the whole text where all symbols are declared.
 pub(crate) type Form = (usize, &'static [usize], &'static str);
 
-/// Compares the texts of goals, which stand before the last bytes of the whole.
-pub(crate) fn check_forms(
-    rt: &impl Abort,
-    alloc: Global,
-    words: &Words,
-    rows: &[Form],
-    end: &[u8],
-) {
+/// Compares the texts of goals.
+pub(crate) fn check_forms(rt: &impl Abort, alloc: Global, words: &Words, rows: &[Form]) {
     let terms = store(rt, alloc);
     for (goal, params, wanted) in rows {
         let small: Small = (ALL, params, &[], *goal);
-        let found = printed(rt, alloc, &terms, words, &small, 1, 1);
-        assert!(rt; ends_with(found.as_slice(), wanted.as_bytes(), end));
+        let found = printed(rt, alloc, &terms, words, &small, (1, 1));
+        assert!(rt; found.as_slice() == wanted.as_bytes());
     }
 }

@@ -142,44 +142,104 @@ fn whole_texts(rt: HostRuntime) {
 }
 
 static FORMS: [Form; 19] = [
-    (63, &[], "true"),
-    (71, &[], "(not false)"),
-    (6, &[], "p_9"),
-    (65, &[], "(and p_9 q_10)"),
-    (66, &[], "(and p_9 q_10)"),
-    (67, &[], "(or p_9 q_10)"),
-    (68, &[], "(or p_9 q_10)"),
-    (64, &[], "(=> p_9 q_10)"),
-    (69, &[], "(= p_9 q_10)"),
+    (
+        63,
+        &[],
+        "; 1 of 1\n(set-logic UFNIA)\n(assert (not true))\n(check-sat)\n",
+    ),
+    (
+        71,
+        &[],
+        "; 1 of 1\n(set-logic UFNIA)\n(assert (not (not false)))\n(check-sat)\n",
+    ),
+    (
+        6,
+        &[],
+        "; 1 of 1\n(set-logic UFNIA)\n(declare-fun p_9 () Bool)\n(assert (not p_9))\n(check-sat)\n",
+    ),
+    (
+        65,
+        &[],
+        "; 1 of 1\n(set-logic UFNIA)\n(declare-fun p_9 () Bool)\n(declare-fun q_10 () Bool)\n(assert (not (and p_9 q_10)))\n(check-sat)\n",
+    ),
+    (
+        66,
+        &[],
+        "; 1 of 1\n(set-logic UFNIA)\n(declare-fun p_9 () Bool)\n(declare-fun q_10 () Bool)\n(assert (not (and p_9 q_10)))\n(check-sat)\n",
+    ),
+    (
+        67,
+        &[],
+        "; 1 of 1\n(set-logic UFNIA)\n(declare-fun p_9 () Bool)\n(declare-fun q_10 () Bool)\n(assert (not (or p_9 q_10)))\n(check-sat)\n",
+    ),
+    (
+        68,
+        &[],
+        "; 1 of 1\n(set-logic UFNIA)\n(declare-fun p_9 () Bool)\n(declare-fun q_10 () Bool)\n(assert (not (or p_9 q_10)))\n(check-sat)\n",
+    ),
+    (
+        64,
+        &[],
+        "; 1 of 1\n(set-logic UFNIA)\n(declare-fun p_9 () Bool)\n(declare-fun q_10 () Bool)\n(assert (not (=> p_9 q_10)))\n(check-sat)\n",
+    ),
+    (
+        69,
+        &[],
+        "; 1 of 1\n(set-logic UFNIA)\n(declare-fun p_9 () Bool)\n(declare-fun q_10 () Bool)\n(assert (not (= p_9 q_10)))\n(check-sat)\n",
+    ),
     (
         80,
         &[],
-        "(forall ((x0 t_9)) (exists ((x1 t_9)) (=> (r_12 x0) (= (f_11 x0 x1) c_10))))",
+        "; 1 of 1\n(set-logic UFNIA)\n(declare-sort t_9 0)\n(declare-fun c_10 () t_9)\n(declare-fun f_11 (t_9 t_9) t_9)\n(declare-fun r_12 (t_9) Bool)\n(assert (not (forall ((x0 t_9)) (exists ((x1 t_9)) (=> (r_12 x0) (= (f_11 x0 x1) c_10))))))\n(check-sat)\n",
     ),
     (
         84,
         &[],
-        "(and (forall ((x0 t_9)) (r_10 x0)) (exists ((x0 t_9)) (r_10 x0)))",
+        "; 1 of 1\n(set-logic UFNIA)\n(declare-sort t_9 0)\n(declare-fun r_10 (t_9) Bool)\n(assert (not (and (forall ((x0 t_9)) (r_10 x0)) (exists ((x0 t_9)) (r_10 x0)))))\n(check-sat)\n",
     ),
     (
         92,
         &[],
-        "(let ((x0 (f_11 c_10 c_10))) (r_12 (f_11 x0 c_10)))",
+        "; 1 of 1\n(set-logic UFNIA)\n(declare-sort t_9 0)\n(declare-fun c_10 () t_9)\n(declare-fun f_11 (t_9 t_9) t_9)\n(declare-fun r_12 (t_9) Bool)\n(assert (not (let ((x0 (f_11 c_10 c_10))) (r_12 (f_11 x0 c_10)))))\n(check-sat)\n",
     ),
     (
         102,
         &[],
-        "(forall ((x0 t_9)) (let ((x1 (f_10 x0 x0))) (forall ((x2 t_9)) (and (r_11 x0) (and (r_11 x1) (r_11 x2))))))",
+        "; 1 of 1\n(set-logic UFNIA)\n(declare-sort t_9 0)\n(declare-fun f_10 (t_9 t_9) t_9)\n(declare-fun r_11 (t_9) Bool)\n(assert (not (forall ((x0 t_9)) (let ((x1 (f_10 x0 x0))) (forall ((x2 t_9)) (and (r_11 x0) (and (r_11 x1) (r_11 x2))))))))\n(check-sat)\n",
     ),
-    (103, &[], "(ite p_9 q_10 false)"),
-    (106, &[], "(r_13 (ite p_9 c_11 (f_12 c_11 c_11)))"),
-    (112, &[], "(< (- 1) -7)"),
-    (120, &[], "(= (* (- 1 0) (+ 1 1)) 0)"),
-    (123, &[], "(and (<= 1 0) (> 1 0))"),
-    (128, &[5], "(r_10 c0)"),
+    (
+        103,
+        &[],
+        "; 1 of 1\n(set-logic UFNIA)\n(declare-fun p_9 () Bool)\n(declare-fun q_10 () Bool)\n(assert (not (ite p_9 q_10 false)))\n(check-sat)\n",
+    ),
+    (
+        106,
+        &[],
+        "; 1 of 1\n(set-logic UFNIA)\n(declare-sort t_10 0)\n(declare-fun p_9 () Bool)\n(declare-fun c_11 () t_10)\n(declare-fun f_12 (t_10 t_10) t_10)\n(declare-fun r_13 (t_10) Bool)\n(assert (not (r_13 (ite p_9 c_11 (f_12 c_11 c_11)))))\n(check-sat)\n",
+    ),
+    (
+        112,
+        &[],
+        "; 1 of 1\n(set-logic UFNIA)\n(assert (not (< (- 1) -7)))\n(check-sat)\n",
+    ),
+    (
+        120,
+        &[],
+        "; 1 of 1\n(set-logic UFNIA)\n(assert (not (= (* (- 1 0) (+ 1 1)) 0)))\n(check-sat)\n",
+    ),
+    (
+        123,
+        &[],
+        "; 1 of 1\n(set-logic UFNIA)\n(assert (not (and (<= 1 0) (> 1 0))))\n(check-sat)\n",
+    ),
+    (
+        128,
+        &[5],
+        "; 1 of 1\n(set-logic UFNIA)\n(declare-sort t_9 0)\n(declare-fun r_10 (t_9) Bool)\n(declare-fun c0 () t_9)\n(assert (not (r_10 c0)))\n(check-sat)\n",
+    ),
 ];
 
 #[test]
 fn forms(rt: HostRuntime) {
-    check_forms(&rt, rt.alloc(), &WORDS, &FORMS, b"))\n(check-sat)\n");
+    check_forms(&rt, rt.alloc(), &WORDS, &FORMS);
 }

@@ -87,32 +87,76 @@ fn whole_texts(rt: HostRuntime) {
 }
 
 static FORMS: [Form; 15] = [
-    (63, &[], "$true"),
-    (71, &[], "(~ $false)"),
-    (6, &[], "p_9"),
-    (65, &[], "(p_9 & q_10)"),
-    (66, &[], "(p_9 & q_10)"),
-    (67, &[], "(p_9 | q_10)"),
-    (68, &[], "(p_9 | q_10)"),
-    (64, &[], "(p_9 => q_10)"),
-    (69, &[], "(p_9 <=> q_10)"),
+    (63, &[], "% 1 of 1\ntff(goal, conjecture, $true).\n"),
+    (71, &[], "% 1 of 1\ntff(goal, conjecture, (~ $false)).\n"),
+    (
+        6,
+        &[],
+        "% 1 of 1\ntff(p_9, type, p_9: $o).\ntff(goal, conjecture, p_9).\n",
+    ),
+    (
+        65,
+        &[],
+        "% 1 of 1\ntff(p_9, type, p_9: $o).\ntff(q_10, type, q_10: $o).\ntff(goal, conjecture, (p_9 & q_10)).\n",
+    ),
+    (
+        66,
+        &[],
+        "% 1 of 1\ntff(p_9, type, p_9: $o).\ntff(q_10, type, q_10: $o).\ntff(goal, conjecture, (p_9 & q_10)).\n",
+    ),
+    (
+        67,
+        &[],
+        "% 1 of 1\ntff(p_9, type, p_9: $o).\ntff(q_10, type, q_10: $o).\ntff(goal, conjecture, (p_9 | q_10)).\n",
+    ),
+    (
+        68,
+        &[],
+        "% 1 of 1\ntff(p_9, type, p_9: $o).\ntff(q_10, type, q_10: $o).\ntff(goal, conjecture, (p_9 | q_10)).\n",
+    ),
+    (
+        64,
+        &[],
+        "% 1 of 1\ntff(p_9, type, p_9: $o).\ntff(q_10, type, q_10: $o).\ntff(goal, conjecture, (p_9 => q_10)).\n",
+    ),
+    (
+        69,
+        &[],
+        "% 1 of 1\ntff(p_9, type, p_9: $o).\ntff(q_10, type, q_10: $o).\ntff(goal, conjecture, (p_9 <=> q_10)).\n",
+    ),
     (
         80,
         &[],
-        "(! [X0: t_9] : (? [X1: t_9] : (r_12(X0) => (f_11(X0,X1) = c_10))))",
+        "% 1 of 1\ntff(t_9, type, t_9: $tType).\ntff(c_10, type, c_10: t_9).\ntff(f_11, type, f_11: (t_9 * t_9) > t_9).\ntff(r_12, type, r_12: t_9 > $o).\ntff(goal, conjecture, (! [X0: t_9] : (? [X1: t_9] : (r_12(X0) => (f_11(X0,X1) = c_10))))).\n",
     ),
     (
         84,
         &[],
-        "((! [X0: t_9] : r_10(X0)) & (? [X0: t_9] : r_10(X0)))",
+        "% 1 of 1\ntff(t_9, type, t_9: $tType).\ntff(r_10, type, r_10: t_9 > $o).\ntff(goal, conjecture, ((! [X0: t_9] : r_10(X0)) & (? [X0: t_9] : r_10(X0)))).\n",
     ),
-    (112, &[], "$less($uminus(1),-7)"),
-    (120, &[], "($product($difference(1,0),$sum(1,1)) = 0)"),
-    (123, &[], "($lesseq(1,0) & $greater(1,0))"),
-    (128, &[5], "r_10(c0)"),
+    (
+        112,
+        &[],
+        "% 1 of 1\ntff(goal, conjecture, $less($uminus(1),-7)).\n",
+    ),
+    (
+        120,
+        &[],
+        "% 1 of 1\ntff(goal, conjecture, ($product($difference(1,0),$sum(1,1)) = 0)).\n",
+    ),
+    (
+        123,
+        &[],
+        "% 1 of 1\ntff(goal, conjecture, ($lesseq(1,0) & $greater(1,0))).\n",
+    ),
+    (
+        128,
+        &[5],
+        "% 1 of 1\ntff(t_9, type, t_9: $tType).\ntff(r_10, type, r_10: t_9 > $o).\ntff(c0, type, c0: t_9).\ntff(goal, conjecture, r_10(c0)).\n",
+    ),
 ];
 
 #[test]
 fn forms(rt: HostRuntime) {
-    check_forms(&rt, rt.alloc(), &WORDS, &FORMS, b").\n");
+    check_forms(&rt, rt.alloc(), &WORDS, &FORMS);
 }

@@ -50,13 +50,13 @@ one_begins (Group s) r c q p on off h = let e : 40 ≡ c = ap (λ z. get_or z 0 
 one_begins Nothing r c q p on off h = absurd p
 one_begins (Then a b) r c q p on off h = absurd p
 
--- ---- expressions, members behind `(`, and members each behind a blank
+-- ---- expressions, members after `(`, and members each after a blank
 pub record Told (s : Sexp) : Type 0 where
   pub one : IsOne s → (u : Sexp) → IsOne u → (r q : List ℕ) → Ends r → Ends q → (written s).text ++ r ≡ (written u).text ++ q → (s ≡ u) × (r ≡ q)
   pub first : AreMembers s → (u : Sexp) → AreMembers u → (r q : List ℕ) → (written s).first ++ 41 ∷ r ≡ (written u).first ++ 41 ∷ q → (s ≡ u) × (r ≡ q)
   pub later : AreMembers s → (u : Sexp) → AreMembers u → (r q : List ℕ) → (written s).later ++ 41 ∷ r ≡ (written u).later ++ 41 ∷ q → (s ≡ u) × (r ≡ q)
 
--- what stands behind the first member ends it
+-- what stands after the first member ends it
 later_ends : (s : Sexp) (r : List ℕ) → AreMembers s → Ends ((written s).later ++ 41 ∷ r)
 later_ends (Word w) r p = absurd p
 later_ends (Group s) r p = absurd p

@@ -9,7 +9,7 @@ pub data Sexp : Type 0 where
   Nothing : Sexp
   Then : Sexp → Sexp → Sexp
 
--- the text of an expression; that of members, the first of which stands behind `(`, and that of members each behind a blank
+-- the text of an expression; that of members, the first of which stands after `(`, and that of members each after a blank
 pub record Written : Type 0 where
   pub text : List ℕ
   pub first : List ℕ
@@ -50,7 +50,7 @@ IsOne s = (proper s).one
 abbrev pub AreMembers : Sexp → Type 0
 AreMembers s = (proper s).list
 
--- what may stand behind an expression
+-- what may stand after an expression
 abbrev pub Ends : List ℕ → Type 0
 Ends [] = Unit {0}
 Ends (c ∷ cs) = breaks c ≡ true
