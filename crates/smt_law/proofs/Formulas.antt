@@ -31,7 +31,7 @@ use Rattle.s_expressions.specs.Sexps.{Sexp, Word, Group, Nothing, Then, IsWord, 
 use Rattle.smt_law.specs.Plain.{arity}
 use Rattle.smt_law.specs.Reading.{read_op, reading}
 use Rattle.smt_law.proofs.Forms.{Known, called, two_called, word_of, bound_read, op_word, leaf_read, one_read, two_read, three_read, read}
-use Rattle.smt_law.proofs.Back.{Role, Local, Number, Free, role, type_called, is_formula_sort, is_formula, is_equality_word, equation, local_tree, word_tree, group_tree, members_tree, free_tree, back, nth}
+use Rattle.smt_law.proofs.Back.{is_formula_sort, is_formula, equation, word_tree, group_tree, back}
 use Rattle.smt_law.proofs.Words.{number_word, variable_word, parameter_word, decimal_value, free_role, or_right, its_word}
 use Rattle.smt_law.proofs.Kept.{sort_kept, type_kept}
 use Rattle.smt_law.proofs.Found.{IsReader, IsThere, IsSort, sort_is, entry_has, in_first, in_rest, equality_free}

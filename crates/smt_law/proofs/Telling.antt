@@ -19,7 +19,7 @@ use Rattle.smt_law.proofs.Words.{parameter_word}
 use Rattle.smt_law.proofs.Found.{IsReader, sort_is}
 use Rattle.smt_law.proofs.Formulas.{told}
 use Rattle.smt_law.proofs.Tables.{known, reader}
-use Rattle.smt_law.proofs.Sound.{EachOf, each_one, IsSound, IsSoundType, ground_by, premises_sound, facts_sound, locals_sound, goal_sound, types_sound}
+use Rattle.smt_law.proofs.Sound.{EachOf, each_one, IsSound, IsSoundType, ground_by, premises_sound, goal_sound, types_sound}
 use Rattle.smt_law.proofs.Commands.{formula_read, type_word, parameter_commands, assertions, ending, commands, parameter_line_is, assertion_is, goal_is}
 
 -- a formula that is read again, and a type whose sort is
@@ -101,12 +101,6 @@ module _ (d : Driver) (words : Words) (t : TaskTree) (smt : d.printer ≡ Smt) (
       let v = s.valid in
       let x = sort_is knows reads [] e v.typed v.sort (ground_by e v.variables) s.there in
       record { text = x.text; proper = x.free.proper; back = x.told }
-
-  pub facts_told : EachOf (IsTold knows) (problem_of d t).facts
-  facts_told = each_one (IsSound d words t smt p) (IsTold knows) formula_told (problem_of d t).facts (facts_sound d words t smt p)
-
-  pub locals_told : EachOf (IsTold knows) t.locals
-  locals_told = each_one (IsSound d words t smt p) (IsTold knows) formula_told t.locals (locals_sound d words t smt p)
 
   pub premises_told : EachOf (IsTold knows) ((problem_of d t).facts ++ (problem_of d t).locals)
   premises_told = each_one (IsSound d words t smt p) (IsTold knows) formula_told ((problem_of d t).facts ++ (problem_of d t).locals) (premises_sound d words t smt p)

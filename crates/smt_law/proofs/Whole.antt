@@ -1,5 +1,5 @@
 -- The law of texts.
-use Rattle.std.proofs.Common.{◌≡◌, ℕ, false, subst, List, [], ◌∷◌, ◌++◌, map, drop, codes, flat_map, Option, refl, sym, ap, ◌∙◌, append_assoc}
+use Rattle.std.proofs.Common.{◌≡◌, ℕ, false, subst, List, [], ◌∷◌, ◌++◌, map, drop, codes, flat_map, Option, sym, ap, ◌∙◌, append_assoc}
 use Rattle.std.proofs.lemmas.List.Concat.{flat_map-append}
 use Rattle.trees.specs.Tree.{Tree, Leaf, HEnd}
 use Rattle.trees.specs.declared.ints.Ints.{Ints}
@@ -13,7 +13,7 @@ use Rattle.name_tables.specs.Tables.{problem_things, problem_names}
 use Rattle.printed_problems.specs.Problems.{is_sort, is_declared, places_from, preludes, problem_of}
 use Rattle.printed_terms.specs.Texts.{Printing}
 use Rattle.printed_terms.specs.Problems.{line, printing_of}
-use Rattle.smt_texts.specs.Text.{head_line, sort_line, symbol_line, parameter_lines, goal_line, text_by, smt_text}
+use Rattle.smt_texts.specs.Text.{head_line, sort_line, symbol_line, parameter_lines, goal_line, smt_text}
 use Rattle.smt_texts.specs.Text as text
 use Rattle.s_expressions.specs.Sexps.{Sexp, lines, AllOne}
 use Rattle.s_expressions.proofs.Lines.{same_lines}
@@ -64,14 +64,8 @@ reader_of d words things names symbols params = record { printing = printing d t
 abbrev back_of : Driver → Words → List Occurrence → List NameEntry → List SymbolTree → List Tree → Sexp → Tree
 back_of d words things names symbols params s = (back (reader_of d words things names symbols params) s).one []
 
-back_is : (d : Driver) (words : Words) (t : TaskTree) (s : Sexp) → (back (known d words t) s).one [] ≡ back_of d words (problem_things t) (problem_names t) t.symbols t.params s
-back_is d words t s = refl
-
 abbrev type_of_word : Driver → Words → List Occurrence → List NameEntry → List SymbolTree → List ℕ → Tree
 type_of_word d words things names symbols w = type_called (reader_of d words things names symbols []) w
-
-type_is : (d : Driver) (words : Words) (t : TaskTree) (w : List ℕ) → type_called (known d words t) w ≡ type_of_word d words (problem_things t) (problem_names t) t.symbols w
-type_is d words t w = refl
 
 -- ---- the text of one problem
 abbrev premises_of : Driver → TaskTree → List Tree
