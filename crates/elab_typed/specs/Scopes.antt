@@ -42,12 +42,11 @@ is_projection_kind _ = false
 abbrev pub may_stand : SymbolTree → Bool
 may_stand e = not (is_empty e.theory) && not (is_projection_kind e.kind && bytes_eq e.theory builtin)
 
--- it may be named, in a pattern if it is a constructor; an entry without a theory is a type variable of a goal
+-- it may be named, in a pattern if it is a constructor
 pub record IsNamedBy (base : Vocabulary) (k : ℕ) (e : SymbolTree) : Type 0 where
   pub usable : IsTrue (may_stand e) → IsTrue (base.usable k)
   pub matched : e.kind ≡ Constructor → IsTrue (base.matched k)
   pub pattern : IsTrue (base.matched k) → IsTrue (base.usable k)
-  pub rigid : is_empty e.theory ≡ true → IsTrue (base.rigid k)
 
 -- so may each entry from a number on
 abbrev pub NamesNew : Vocabulary → ℕ → List SymbolTree → Type 0

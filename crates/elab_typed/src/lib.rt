@@ -30,8 +30,9 @@ ghost use Rattle.elab_typed.specs.Typed.{IsTypeOf, IsTypedAs, IsNamed, types_of,
 /// variables at that solution, and is a term of the wanted type there, or a formula. No variable
 /// has the greatest index, as in a store.
 pub fn is_typed_at_solutions()
-    ensures { (v : Vocabulary) (w : Where) (rigid : ℕ) (ls : List LocalTree) (n : ℕ) (t : Option Tree)
-        (e : Expression) (f : ℕ → Tree) → IsNamed v w ls t e → AreTypes (with_entries v w.symbols) ls t
+    ensures { (v : Vocabulary) (w : Where) (rigid : ℕ) (ls : List LocalTree) (n : ℕ)
+        (t : Option Tree) (e : Expression) (f : ℕ → Tree) → IsNamed v w ls t e
+        → AreTypes (with_entries v w.symbols) ls t
         → ((j : ℕ) → IsTypeOf (with_entries v w.symbols) (f j))
         → SolvesAll rigid f (piece w ls n t e).notes.equations
         → IndicesFit (assign rigid f (piece w ls n t e).tree)
@@ -44,8 +45,9 @@ pub fn is_typed_at_solutions()
 /// the signature under its variables, is a term of the wanted type or a formula, and has the
 /// rigid type variables alone. No variable has the greatest index, as in a store.
 pub fn is_well_typed()
-    ensures { (v : Vocabulary) (w : Where) (rigid : ℕ) (ls : List LocalTree) (n : ℕ) (t : Option Tree)
-        (e : Expression) (tree : Tree) (ms : List (ℕ × List Tree)) → IsNamed v w ls t e
+    ensures { (v : Vocabulary) (w : Where) (rigid : ℕ) (ls : List LocalTree) (n : ℕ)
+        (t : Option Tree) (e : Expression) (tree : Tree) (ms : List (ℕ × List Tree))
+        → IsNamed v w ls t e
         → AreTypesIn (with_entries v w.symbols) rigid ls t
         → IsSolved rigid (piece w ls n t e) tree ms → IndicesFit tree
         → IsTypedIn (with_entries v w.symbols) rigid (types_of ls) t tree }
@@ -56,14 +58,16 @@ pub fn is_well_typed()
 pub fn is_formula()
     ensures { (v : Vocabulary) (w : Where) (rigid n : ℕ) (e : Expression) (tree : Tree)
         (ms : List (ℕ × List Tree)) → IsNamed v w [] None e
-        → IsSolved rigid (piece w [] n None e) tree ms → IndicesFit tree → IsFormulaOver (with_entries v w.symbols) [] rigid tree }
+        → IsSolved rigid (piece w [] n None e) tree ms → IndicesFit tree
+        → IsFormulaOver (with_entries v w.symbols) [] rigid tree }
 {}
 
 /// A law: where the type equations of a piece determine its matches, the patterns of each match,
 /// also of one in a trigger, are well typed over the signature and of one type.
 pub fn has_typed_matches()
-    ensures { (v : Vocabulary) (w : Where) (rigid : ℕ) (ls : List LocalTree) (n : ℕ) (t : Option Tree)
-        (e : Expression) (tree : Tree) (ms : List (ℕ × List Tree)) → IsNamed v w ls t e
+    ensures { (v : Vocabulary) (w : Where) (rigid : ℕ) (ls : List LocalTree) (n : ℕ)
+        (t : Option Tree) (e : Expression) (tree : Tree) (ms : List (ℕ × List Tree))
+        → IsNamed v w ls t e
         → AreTypes (with_entries v w.symbols) ls t
         → IsSolved rigid (piece w ls n t e) tree ms
         → All (λ (m : ℕ × List Tree). ArePatterns (with_entries v w.symbols) m.1) ms }
@@ -73,7 +77,8 @@ pub fn has_typed_matches()
 /// seen in it, behind others, has one.
 pub fn has_tuples()
     ensures { (v : Vocabulary) (w : Where) (e : Expression) (s : Seen)
-        → ((n : ℕ) → has_width n (seen s e).widths ≡ true → HasTuple v w n) → HasTuples v w e }
+        → ((n : ℕ) → has_width n (seen s e).widths ≡ true → HasTuple v w n)
+        → HasTuples v w e }
 {}
 
 /// A law: over a typed signature with the entries of the tuples of some widths, and typed scopes,

@@ -25,7 +25,7 @@ use Rattle.elab_groups.specs.Bodies.{AreDefined, IsWhole}
 use Rattle.elab_terms.specs.Outcomes.{IsOutcome, used_fault, IsElaborated}
 use Rattle.tasks.specs.Vocabulary.{Vocabulary}
 use Rattle.elab_typed.specs.Scopes.{NamesNew}
-use Rattle.elab_valid.specs.Valid.{IsTypedSetting, BodyFits, DeclsFit, HaveNoFault, IsValidOutcome, IsValidElaborated}
+use Rattle.elab_valid.specs.Valid.{IsTypedSetting, BodyFits, DeclsFit, HaveNoFault, MayNameRigid, IsValidOutcome, IsValidElaborated}
 use Rattle.elab_valid.proofs.Types.{type_valid, alias_valid}
 use Rattle.elab_valid.proofs.Groups.{group_valid}
 use Rattle.elab_valid.proofs.Members.{members_valid}
@@ -81,20 +81,20 @@ is_source : (d : source.Decl) (x : Declaration) → declaration d ≡ Some x →
 is_source d x q = let P : Option Declaration → Type 0 = λ o. IfSome o IsSource in subst P q (from_source d)
 
 module _ (base : Vocabulary) (c : Setting) (h : IsTypedSetting base c) (s : List Tree) (r : Grows c.trees s) where
-  outcome_valid : (d : Declaration) (o : Outcome) → used_fault c d ≡ None → IsSource d → IsOutcome c s d o → DeclsFit o.decls → HaveNoFault (c.symbols ++ o.symbols) o.decls → NamesNew base (length c.symbols) (c.symbols ++ o.symbols) → IsValidOutcome base c s o
-  outcome_valid (abstract_type x vs) o q w e fits passes news = rw e (type_valid base c h s r x _ (rw e at news))
-  outcome_valid (alias x vs f) o q w e fits passes news = alias_valid base c h s r x vs f o q e news
-  outcome_valid (proposition k x e) o q w p fits passes news = proposition_valid base c h s r k x e o q p fits news
-  outcome_valid (algebraic ts) o q w e fits passes news = rw e (group_valid base c h s r ts q (rw e at news))
-  outcome_valid (members ms) o q w e fits passes news = members_valid base c h s r ms q o w e fits news
-  outcome_valid (inductive ds) o q w e fits passes news = inductives_valid base c h s r ds q o e fits passes news
+  outcome_valid : (d : Declaration) (o : Outcome) → used_fault c d ≡ None → IsSource d → IsOutcome c s d o → DeclsFit o.decls → HaveNoFault (c.symbols ++ o.symbols) o.decls → NamesNew base (length c.symbols) (c.symbols ++ o.symbols) → MayNameRigid base d o.rigid → IsValidOutcome base c s o
+  outcome_valid (abstract_type x vs) o q w e fits passes news may = rw e (type_valid base c h s r x _ (rw e at news))
+  outcome_valid (alias x vs f) o q w e fits passes news may = alias_valid base c h s r x vs f o q e news
+  outcome_valid (proposition k x e) o q w p fits passes news may = proposition_valid base c h s r k x e o q p news fits may
+  outcome_valid (algebraic ts) o q w e fits passes news may = rw e (group_valid base c h s r ts q (rw e at news))
+  outcome_valid (members ms) o q w e fits passes news may = members_valid base c h s r ms q o w e fits news
+  outcome_valid (inductive ds) o q w e fits passes news may = inductives_valid base c h s r ds q o e fits passes news
 
   pub elaborated_valid : (d : source.Decl) (x : Declaration) (g g' : Signature) (names : Names) (made : Elaborated) → declaration d ≡ Some x → IsElaborated c x g s g' names made → ((id : TermId) → Holds s id → WellSorted (tree_at s id)) → All (DeclHeld s) made.decls
-      → HaveNoFault (symbols_at s g'.symbols) (declarations_at s made.decls) → NamesNew base (length c.symbols) (symbols_at s g'.symbols) → IsValidElaborated base s g' names made
-  elaborated_valid d x g g' names made w e sorted held passes news =
+      → HaveNoFault (symbols_at s g'.symbols) (declarations_at s made.decls) → NamesNew base (length c.symbols) (symbols_at s g'.symbols) → MayNameRigid base x made.rigid → IsValidElaborated base s g' names made
+  elaborated_valid d x g g' names made w e sorted held passes news may =
       let fits = declarations_fit s sorted made.decls held in
       let q = none_both (made_fault (declared_in c.scope) [] (made_by x)) (used_fault c x) e.named in
-      let y = outcome_valid x e.outcome q.1 (is_source d x w) e.is (rw e.decls at fits) (rw (e.symbols_are, e.decls) at passes) (rw e.symbols_are at news) in
+      let y = outcome_valid x e.outcome q.1 (is_source d x w) e.is (rw e.decls at fits) (rw (e.symbols_are, e.decls) at passes) (rw e.symbols_are at news) (rw e.rigid at may) in
       record {
         signature = rw e.symbols_are y.signature;
         scopes = rw (e.symbols_are, e.scope) y.scopes;

@@ -19,3 +19,4 @@ pub mod Made
 pub mod MadeTypes
 pub mod Outcomes
 pub mod Steps
+pub mod Goals

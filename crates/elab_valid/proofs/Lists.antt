@@ -33,18 +33,18 @@ module _ (symbols : List SymbolTree) where
   role_more : (xs ys : List DeclarationTree) (k : ℕ) → IsTrue (is_constructor (role_by k (maker xs k))) → IsTrue (is_constructor (role_by k (maker (xs ++ ys) k)))
   role_more xs ys k h = let e = maker_both xs ys k in rw e (role_first k (maker xs k) (maker ys k) h)
 
-  pub list_part : (xs ys : List DeclarationTree) → IsPart (after symbols xs) (after symbols (xs ++ ys))
-  list_part xs ys = record {
+  pub list_part : (r : List ℕ) (xs ys : List DeclarationTree) → IsPart (after symbols r xs) (after symbols r (xs ++ ys))
+  list_part r xs ys = record {
     entries = λ k e q. q;
     rigid = λ k e q h. h;
     usable = λ k e q h. or_more _ (is_some (maker xs k)) (is_some (maker (xs ++ ys) k)) (made_more xs ys k) h;
     matched = λ k e q h. or_more _ (is_constructor (role_by k (maker xs k))) (is_constructor (role_by k (maker (xs ++ ys) k))) (role_more xs ys k) h;
   }
 
-  pub list_valid : (before ds : List DeclarationTree) → AreValidAfter symbols before ds → All (IsValidDecl (after symbols (before ++ ds))) ds
-  list_valid before [] h = All-nil (IsValidDecl (after symbols (before ++ [])))
+  pub list_valid : (before ds : List DeclarationTree) → AreValidAfter symbols before ds → All (IsValidDecl (after symbols [] (before ++ ds))) ds
+  list_valid before [] h = All-nil (IsValidDecl (after symbols [] (before ++ [])))
   list_valid before (d ∷ ds) h =
       let same : (before ++ d ∷ []) ++ ds ≡ before ++ d ∷ ds = append_assoc before (d ∷ []) ds in
-      let one : IsValidDecl (after symbols ((before ++ d ∷ []) ++ ds)) d = declaration_stays (after symbols (before ++ d ∷ [])) (after symbols ((before ++ d ∷ []) ++ ds)) (list_part (before ++ d ∷ []) ds) d h.0 in
-      subst (λ (xs : List DeclarationTree). All (IsValidDecl (after symbols xs)) (d ∷ ds)) same
-      (All-cons (IsValidDecl (after symbols ((before ++ d ∷ []) ++ ds))) d ds one (list_valid (before ++ d ∷ []) ds h.1))
+      let one : IsValidDecl (after symbols [] ((before ++ d ∷ []) ++ ds)) d = declaration_stays (after symbols [] (before ++ d ∷ [])) (after symbols [] ((before ++ d ∷ []) ++ ds)) (list_part [] (before ++ d ∷ []) ds) d h.0 in
+      subst (λ (xs : List DeclarationTree). All (IsValidDecl (after symbols [] xs)) (d ∷ ds)) same
+      (All-cons (IsValidDecl (after symbols [] ((before ++ d ∷ []) ++ ds))) d ds one (list_valid (before ++ d ∷ []) ds h.1))

@@ -1,5 +1,5 @@
 -- Axioms, lemmas and goals are valid.
-use Rattle.std.proofs.Common.{◌≡◌, ℕ, ◌+◌, ◌<◌, ◌≤◌, ◌⊎◌, inl, inr, IsTrue, zero, suc, true, false, List, [], ◌∷◌, ◌++◌, map, length, get_or, slice_get, All, Some, None, refl, sym, ap, subst, ◌∙◌, arith, length-append, append_assoc}
+use Rattle.std.proofs.Common.{◌≡◌, ℕ, ◌+◌, ◌<◌, ◌⊎◌, inl, inr, IsTrue, zero, suc, true, false, List, [], ◌∷◌, ◌++◌, map, length, get_or, slice_get, All, Some, None, refl, sym, ap, subst, ◌∙◌, arith, length-append, append_assoc}
 use Rattle.std.proofs.lemmas.List.Elements.{All-nil, All-cons}
 use Rattle.trees.specs.declared.Sort.TheVariants.{Kind}
 use Rattle.trees.specs.Tree.{Tree, Leaf, One, Two, Three, Head, HTyVar, HTyRigid, HBound, HParam, binders_over}
@@ -23,7 +23,8 @@ use Rattle.elab_names.specs.Abstract.{Expression}
 use Rattle.elab_names.specs.Faults.{fault}
 use Rattle.elab_variables.proofs.Closing.{closed}
 use Rattle.elab_parts.specs.Elaborated.{unseen}
-use Rattle.elab_parts.specs.Declarations.{Called}
+use Rattle.elab_parts.specs.Declarations.{Called, proposition}
+use Rattle.elab_variables.specs.Seen.{Seen}
 use Rattle.elab_parts.specs.Outcomes.{Setting, Outcome, around, tuples_wanting, full_name}
 use Rattle.elab_parts.proofs.Alike.{alike}
 use Rattle.elab_terms.specs.Outcomes.{proposition_seen, rigid_names, entry_numbers, rigid_types, said_as, schematic, IsProposition}
@@ -33,7 +34,7 @@ use Rattle.elab_typed.proofs.Widths.{tuples_seen}
 use Rattle.elab_typed.proofs.Solutions.{solved_formula}
 use Rattle.elab_typed.proofs.Scopes.{scopes_more}
 use Rattle.elab_typed.proofs.Extended.{entries_part, news_front, news_later, typed_more, signature_more, scopes_extended}
-use Rattle.elab_valid.specs.Valid.{IsTypedSetting, IsValidOutcome, DeclsFit}
+use Rattle.elab_valid.specs.Valid.{IsTypedSetting, IsTypedOutcome, IsValidOutcome, DeclsFit, MayNameRigid}
 use Rattle.elab_valid.proofs.Settings.{inside, inside_typed, inside_scopes, world, formed, tuples, same_names}
 
 -- ---- a formula at closed types
@@ -96,17 +97,16 @@ at_end (x ∷ xs) ys e zero q = absurd (omega (arith, q))
 at_end (x ∷ xs) ys e (suc k) q = at_end xs ys e k (omega (arith, q))
 
 -- each is a type of its own
-rigid_in : (base : Vocabulary) (xs : List SymbolTree) (names : List Word) (k n : ℕ) → k ≡ length xs → n ≤ k → NamesNew base n (xs ++ map rigid_symbol names) → All (IsTypeIn (with_entries base (xs ++ map rigid_symbol names)) 0) (rigid_types (entry_numbers k names))
-rigid_in base xs [] k n q l news = All-nil (IsTypeIn (with_entries base (xs ++ [])) 0)
-rigid_in base xs (x ∷ names) k n q l news =
+rigid_in : (base : Vocabulary) (xs : List SymbolTree) (names : List Word) (k : ℕ) → k ≡ length xs → All (λ (i : ℕ). IsTrue (base.rigid i)) (entry_numbers k names) → All (IsTypeIn (with_entries base (xs ++ map rigid_symbol names)) 0) (rigid_types (entry_numbers k names))
+rigid_in base xs [] k q may = All-nil (IsTypeIn (with_entries base (xs ++ [])) 0)
+rigid_in base xs (x ∷ names) k q may =
     let e = rigid_symbol x in
     let all = xs ++ e ∷ map rigid_symbol names in
     let v = with_entries base all in
     let here : slice_get all k ≡ Some e = at_end xs (map rigid_symbol names) e k q in
-    let is : IsRigid v k = ((news k e l here).rigid refl, rw here (refl, refl)) in
+    let is : IsRigid v k = (may 0 k (omega arith), rw here (refl, refl)) in
     let same : (xs ++ e ∷ []) ++ map rigid_symbol names ≡ all = append_assoc xs (e ∷ []) (map rigid_symbol names) in
-    let news' : NamesNew base n ((xs ++ e ∷ []) ++ map rigid_symbol names) = subst (λ (es : List SymbolTree). NamesNew base n es) (sym same) news in
-    let rest = rigid_in base (xs ++ e ∷ []) names (k + 1) n (omega (arith, q, length-append xs (e ∷ []))) (omega arith) news' in
+    let rest = rigid_in base (xs ++ e ∷ []) names (k + 1) (omega (arith, q, length-append xs (e ∷ []))) (λ i d l. may (suc i) d (omega arith)) in
     All-cons (IsTypeIn v 0) (Leaf (HTyRigid k)) (rigid_types (entry_numbers (k + 1) names)) (record { sort = refl; typed = (tt, is); variables = tt })
     (subst (λ (es : List SymbolTree). All (IsTypeIn (with_entries base es) 0) (rigid_types (entry_numbers (k + 1) names))) same rest)
 
@@ -152,37 +152,73 @@ said_fits kind.Lemma ks e x = x
 said_fits kind.Goal ks e x = fits_before (rigid_types ks) 0 e x
 
 module _ (base : Vocabulary) (xs : List SymbolTree) where
-  said_formula : (k : PropKind) (vs : List Word) (e : Tree) → IsTypedSignature base (xs ++ map rigid_symbol (rigid_names k vs)) → NamesNew base (length xs) (xs ++ map rigid_symbol (rigid_names k vs)) → IsFormulaOver (with_entries base xs) [] (length vs) e
+  abbrev GoalMay : PropKind → List ℕ → Type 0
+  GoalMay kind.Goal ks = All (λ (i : ℕ). IsTrue (base.rigid i)) ks
+  GoalMay _ ks = Unit {0}
+
+  said_formula : (k : PropKind) (vs : List Word) (e : Tree) → IsTypedSignature base (xs ++ map rigid_symbol (rigid_names k vs)) → GoalMay k (entry_numbers (length xs) (rigid_names k vs)) → IsFormulaOver (with_entries base xs) [] (length vs) e
       → IsFormulaOver (with_entries base (xs ++ map rigid_symbol (rigid_names k vs))) [] (schematic k vs) (said_as k (entry_numbers (length xs) (rigid_names k vs)) e)
-  said_formula kind.Axiom vs e sig news f = formula_more (with_entries base xs) (with_entries base (xs ++ [])) (entries_part base xs []) (length vs) e f
-  said_formula kind.Lemma vs e sig news f = formula_more (with_entries base xs) (with_entries base (xs ++ map rigid_symbol vs)) (entries_part base xs (map rigid_symbol vs)) (length vs) e f
-  said_formula kind.Goal vs e sig news f =
+  said_formula kind.Axiom vs e sig may f = formula_more (with_entries base xs) (with_entries base (xs ++ [])) (entries_part base xs []) (length vs) e f
+  said_formula kind.Lemma vs e sig may f = formula_more (with_entries base xs) (with_entries base (xs ++ map rigid_symbol vs)) (entries_part base xs (map rigid_symbol vs)) (length vs) e f
+  said_formula kind.Goal vs e sig may f =
       let ys = map rigid_symbol vs in
-      rigid_formula base (xs ++ ys) sig (entry_numbers (length xs) vs) (length vs) e (rigid_in base xs vs (length xs) (length xs) refl (omega arith) news) (count_rigid (length xs) vs)
+      rigid_formula base (xs ++ ys) sig (entry_numbers (length xs) vs) (length vs) e (rigid_in base xs vs (length xs) refl may) (count_rigid (length xs) vs)
       (formula_more (with_entries base xs) (with_entries base (xs ++ ys)) (entries_part base xs ys) (length vs) e f)
 
 module _ (base : Vocabulary) (c : Setting) (h : IsTypedSetting base c) (s : List Tree) (g : Grows c.trees s) where
-  pub proposition_valid : (k : PropKind) (x : Called) (e : Expression) (o : Outcome) → fault (around c []) true [] true e ≡ None → IsProposition c k x e o → DeclsFit o.decls → NamesNew base (length c.symbols) (c.symbols ++ o.symbols) → IsValidOutcome base c s o
-  proposition_valid k x e o q p fits all_news =
-      let seen = proposition_seen e in
-      let vs = seen.vars in
-      let w = world base c h seen vs in
-      let xs = inside base c h seen in
-      let ys = map rigid_symbol (rigid_names k vs) in
-      let named : fault w false [] true e ≡ None = sym (alike (around c vs) w (same_names base c h seen vs) e false [] true) ∙ closed (around c []) vs e unseen [] true q (λ u z. z) in
-      let d : DeclarationTree = record { theory = c.theory; name = full_name c x; vars = schematic k vs; body = Says (said_as k o.rigid p.formula) } in
-      let all : DeclsFit (d ∷ []) = rw p.decls at fits in
-      let said : IndicesFit (said_as k o.rigid p.formula) = all 0 d (omega arith) in
-      let split : c.symbols ++ o.symbols ≡ xs ++ ys = ap (λ (es : List SymbolTree). c.symbols ++ es) p.symbols ∙ sym (append_assoc c.symbols (tuples_wanting c seen) ys) in
-      let whole_news : NamesNew base (length c.symbols) (xs ++ ys) = subst (λ (es : List SymbolTree). NamesNew base (length c.symbols) es) split all_news in
-      let news : NamesNew base (length c.symbols) xs = news_front base (length c.symbols) xs ys whole_news in
-      let last : NamesNew base (length xs) (xs ++ ys) = news_later base (length c.symbols) (length xs) (xs ++ ys) (omega (arith, length-append c.symbols (tuples_wanting c seen))) whole_news in
-      let good = formed base c h seen news vs in
-      let f : IsFormulaOver (with_entries base xs) [] (length vs) p.formula =
-      solved_formula base w good (length vs) (length vs) e p.formula o.matches (record { signature = good; tuples = tuples_seen base w e unseen (tuples base c h seen news vs); named = named }) p.solved (said_fits k o.rigid p.formula said) in
-      let v = with_entries base (xs ++ ys) in
-      let sig : IsTypedSignature base (xs ++ ys) = signature_more base xs ys (inside_typed base c h seen news) (rigids_typed v (rigid_names k vs)) last in
-      let scopes : AreTypedScopes v s o.scope = rw p.scope (scopes_more (IsTypedThing v s) c.scope Propositions x.name (stands.Entry c.decl) true tt (scopes_extended base c.trees s g xs ys c.scope (inside_scopes base c h seen))) in
-      let formula : IsFormulaOver v [] (schematic k vs) (said_as k o.rigid p.formula) = rw p.rigid (said_formula base xs k vs p.formula sig last f) in
-      let decls : All (IsValidDecl v) o.decls = rw p.decls (All-cons (IsValidDecl v) d [] formula (All-nil (IsValidDecl v))) in
-      record { signature = rw split sig; scopes = rw split scopes; decls = rw split decls }
+  module _ (k : PropKind) (x : Called) (e : Expression) (o : Outcome) (q : fault (around c []) true [] true e ≡ None) (p : IsProposition c k x e o) (all_news : NamesNew base (length c.symbols) (c.symbols ++ o.symbols)) where
+    abbrev seen' : Seen
+    seen' = proposition_seen e
+
+    abbrev vs : List Word
+    vs = seen'.vars
+
+    abbrev xs : List SymbolTree
+    xs = inside base c h seen'
+
+    abbrev ys : List SymbolTree
+    ys = map rigid_symbol (rigid_names k vs)
+
+    split : c.symbols ++ o.symbols ≡ xs ++ ys
+    split = ap (λ (es : List SymbolTree). c.symbols ++ es) p.symbols ∙ sym (append_assoc c.symbols (tuples_wanting c seen') ys)
+
+    whole_news : NamesNew base (length c.symbols) (xs ++ ys)
+    whole_news = subst (λ (es : List SymbolTree). NamesNew base (length c.symbols) es) split all_news
+
+    news : NamesNew base (length c.symbols) xs
+    news = news_front base (length c.symbols) xs ys whole_news
+
+    last : NamesNew base (length xs) (xs ++ ys)
+    last = news_later base (length c.symbols) (length xs) (xs ++ ys) (omega (arith, length-append c.symbols (tuples_wanting c seen'))) whole_news
+
+    sig : IsTypedSignature base (xs ++ ys)
+    sig = signature_more base xs ys (inside_typed base c h seen' news) (rigids_typed (with_entries base (xs ++ ys)) (rigid_names k vs)) last
+
+    pub proposition_typed : IsTypedOutcome base c s o
+    proposition_typed =
+        let v = with_entries base (xs ++ ys) in
+        let scopes : AreTypedScopes v s o.scope = rw p.scope (scopes_more (IsTypedThing v s) c.scope Propositions x.name (stands.Entry c.decl) true tt (scopes_extended base c.trees s g xs ys c.scope (inside_scopes base c h seen'))) in
+        let z = split in
+        record { signature = rw z sig; scopes = rw z scopes }
+
+    pub proposition_valid : DeclsFit o.decls → MayNameRigid base (proposition k x e) o.rigid → IsValidOutcome base c s o
+    proposition_valid fits may =
+        let w = world base c h seen' vs in
+        let good = formed base c h seen' news vs in
+        let named : fault w false [] true e ≡ None = sym (alike (around c vs) w (same_names base c h seen' vs) e false [] true) ∙ closed (around c []) vs e unseen [] true q (λ u z. z) in
+        let d : DeclarationTree = record { theory = c.theory; name = full_name c x; vars = schematic k vs; body = Says (said_as k o.rigid p.formula) } in
+        let all : DeclsFit (d ∷ []) = rw p.decls at fits in
+        let said : IndicesFit (said_as k o.rigid p.formula) = all 0 d (omega arith) in
+        let f : IsFormulaOver (with_entries base xs) [] (length vs) p.formula =
+        solved_formula base w good (length vs) (length vs) e p.formula o.matches (record { signature = good; tuples = tuples_seen base w e unseen (tuples base c h seen' news vs); named = named }) p.solved (said_fits k o.rigid p.formula said) in
+        let v = with_entries base (xs ++ ys) in
+        let may' : GoalMay base xs k (entry_numbers (length xs) (rigid_names k vs)) = goal_may k o.rigid (entry_numbers (length xs) (rigid_names k vs)) p.rigid may in
+        let formula : IsFormulaOver v [] (schematic k vs) (said_as k o.rigid p.formula) = rw p.rigid (said_formula base xs k vs p.formula sig may' f) in
+        let decls : All (IsValidDecl v) o.decls = rw p.decls (All-cons (IsValidDecl v) d [] formula (All-nil (IsValidDecl v))) in
+        let z = split in
+        record { signature = proposition_typed.signature; scopes = proposition_typed.scopes; decls = rw z decls }
+      where
+        goal_may : (j : PropKind) (ks ns : List ℕ) → ks ≡ ns → MayNameRigid base (proposition j x e) ks → GoalMay base xs j ns
+        goal_may kind.Goal ks ns z m = rw (sym z) m
+        goal_may kind.Axiom ks ns z m = tt
+        goal_may kind.Lemma ks ns z m = tt

@@ -12,6 +12,8 @@ use Rattle.tasks.specs.Valid.{IsSignatureOf, IsValidDecl}
 use Rattle.names_space.specs.Names.{Names}
 use Rattle.elab_parts.specs.declared.made.Elaborated.{Elaborated}
 use Rattle.elab_parts.specs.Entries.{builtin}
+use Rattle.syntax_why.specs.declared.declarations.PropKind.TheVariants.{Goal}
+use Rattle.elab_parts.specs.Declarations.{Declaration, proposition}
 use Rattle.elab_parts.specs.Outcomes.{Setting, Outcome}
 use Rattle.decl_checks.specs.Checks.{HasNoFault}
 use Rattle.elab_typed.specs.Signature.{with_entries}
@@ -43,6 +45,16 @@ HaveNoFault symbols ds = All (λ (d : DeclarationTree). HasNoFault symbols d.bod
 -- what is made may be named
 abbrev pub MayName : Vocabulary → Setting → Outcome → Type 0
 MayName base c o = NamesNew base (length c.symbols) (c.symbols ++ o.symbols)
+
+-- signature and scopes are typed again, over a store
+pub record IsTypedOutcome (base : Vocabulary) (c : Setting) (s : List Tree) (o : Outcome) : Type 0 where
+  pub signature : IsTypedSignature base (c.symbols ++ o.symbols)
+  pub scopes : AreTypedScopes (with_entries base (c.symbols ++ o.symbols)) s o.scope
+
+-- the type variables of a goal may be named
+abbrev pub MayNameRigid : Vocabulary → Declaration → List ℕ → Type 0
+MayNameRigid base (proposition Goal x e) ks = All (λ (k : ℕ). IsTrue (base.rigid k)) ks
+MayNameRigid base _ ks = Unit {0}
 
 -- over a store
 pub record IsValidOutcome (base : Vocabulary) (c : Setting) (s : List Tree) (o : Outcome) : Type 0 where

@@ -15,10 +15,11 @@ ghost use Rattle.tasks.specs.Vocabulary.{Vocabulary, is_empty};
 ghost use Rattle.names_space.specs.Names.{Names, start};
 ghost use Rattle.syntax_why.specs.Declarations.{Decl};
 ghost use Rattle.syntax_why.specs.declared.declarations.PropKind.{PropKind};
+ghost use Rattle.syntax_why.specs.declared.declarations.PropKind.TheVariants.{Goal};
 ghost use Rattle.elab_names.specs.Abstract.{Form, Expression};
 ghost use Rattle.elab_names.specs.Faults.{fault, form_fault};
 ghost use Rattle.elab_parts.specs.declared.made.Elaborated.{Elaborated};
-ghost use Rattle.elab_parts.specs.Declarations.{Declaration, declaration, Called, Member, Algebraic, Inductive, words, types_fault};
+ghost use Rattle.elab_parts.specs.Declarations.{Declaration, proposition, declaration, Called, Member, Algebraic, Inductive, words, types_fault};
 ghost use Rattle.std.specs.Str.{bytes_eq};
 ghost use Rattle.elab_parts.specs.Entries.{builtin};
 ghost use Rattle.elab_parts.specs.Outcomes.{Setting, Outcome, around};
@@ -28,9 +29,9 @@ ghost use Rattle.elab_types.specs.Algebraics.{inside, group_outcome};
 ghost use Rattle.elab_inductives.specs.Inductives.{inductives_used, IsInductiveGroup};
 ghost use Rattle.elab_terms.specs.Outcomes.{type_outcome, IsAlias, IsProposition, IsElaborated};
 ghost use Rattle.elab_typed.specs.Scopes.{NamesNew, IsPart, AgreeBelow};
-ghost use Rattle.elab_valid.specs.Lists.{after, AreValidAfter, MakesBelow, IsGroupWhole, IsNextDeclaration};
+ghost use Rattle.elab_valid.specs.Lists.{after, AreValidAfter, MakesBelow, IsGroupWhole, IsNoGoal, IsNextDeclaration, IsNextGoal};
 ghost use Rattle.elab_valid.specs.Named.{DeclNames};
-ghost use Rattle.elab_valid.specs.Valid.{IsTypedSetting, MayName, DeclsFit, HaveNoFault, IsValidOutcome, IsDefinedBy, definition_by, IsValidElaborated};
+ghost use Rattle.elab_valid.specs.Valid.{IsTypedSetting, MayName, MayNameRigid, DeclsFit, HaveNoFault, IsValidOutcome, IsDefinedBy, definition_by, IsValidElaborated};
 
 /// A law: where the signature and the scopes are typed over a vocabulary, which may name what is
 /// made, and no name is at fault, a type without a definition, an alias, a group of algebraic types,
@@ -52,7 +53,8 @@ pub fn makes_valid()
     ensures propositions { (v : Vocabulary) (c : Setting) (s : List Tree) (k : PropKind)
         (x : Called) (e : Expression) (o : Outcome) → IsTypedSetting v c → Grows c.trees s
         → fault (around c []) true [] true e ≡ None → IsProposition c k x e o
-        → DeclsFit o.decls → MayName v c o → IsValidOutcome v c s o }
+        → DeclsFit o.decls → MayName v c o → MayNameRigid v (proposition k x e) o.rigid
+        → IsValidOutcome v c s o }
     ensures algebraics { (v : Vocabulary) (c : Setting) (s : List Tree) (ts : List Algebraic)
         → IsTypedSetting v c → Grows c.trees s → types_fault (inside c ts) ts ≡ None
         → MayName v c (group_outcome c ts) → IsValidOutcome v c s (group_outcome c ts) }
@@ -76,14 +78,15 @@ pub fn elaborates_valid()
         → All (DeclHeld s) made.decls
         → HaveNoFault (symbols_at s h.symbols) (declarations_at s made.decls)
         → NamesNew v (length c.symbols) (symbols_at s h.symbols)
-        → IsValidElaborated v s h names made }
+        → MayNameRigid v x made.rigid → IsValidElaborated v s h names made }
 {}
 
 /// A law: a signature with `int` alone and a scope without names are typed, in a theory with a
 /// name, which isn't that of what is built in, over a vocabulary that may name `int`.
 pub fn begins_typed()
     ensures { (v : Vocabulary) (c : Setting) → IsTrue (v.usable 0) → is_empty c.theory ≡ false
-        → bytes_eq c.theory builtin ≡ false → c.symbols ≡ int_symbol ∷ [] → c.scope ≡ start → IsTypedSetting v c }
+        → bytes_eq c.theory builtin ≡ false → c.symbols ≡ int_symbol ∷ [] → c.scope ≡ start
+        → IsTypedSetting v c }
 {}
 
 /// A law: what is typed over a vocabulary is so over one that may name the same entries.
@@ -117,20 +120,36 @@ pub fn defines_valid()
 pub fn lists_valid()
     ensures { (symbols : List SymbolTree) (before ds : List DeclarationTree)
         → AreValidAfter symbols before ds
-        → All (IsValidDecl (after symbols (before ++ ds))) ds }
+        → All (IsValidDecl (after symbols [] (before ++ ds))) ds }
 {}
 
 /// A law: where signature and scopes are typed over what declarations make, of which each stands in
-/// the signature, what `elaborate` gives of the next one is valid where it stands if the checks of
-/// declarations find no fault, and signature and scopes are typed over what all of them make.
+/// the signature, what `elaborate` gives of the next one, which is no goal, is valid where it stands
+/// if the checks of declarations find no fault, and signature and scopes are typed over what all of
+/// them make.
 pub fn next_valid()
     ensures { (c : Setting) (ds : List DeclarationTree) (d : Decl) (x : Declaration)
         (g : Signature) (s : List Tree) (h : Signature) (names : Names) (made : Elaborated)
-        → IsTypedSetting (after c.symbols ds) c → MakesBelow (length c.symbols) ds
-        → Grows c.trees s → declaration d ≡ Some x → IsGroupWhole d
+        → IsTypedSetting (after c.symbols [] ds) c → MakesBelow (length c.symbols) ds
+        → Grows c.trees s → declaration d ≡ Some x → IsGroupWhole d → IsNoGoal d
         → IsElaborated c x g s h names made
         → ((id : TermId) → Holds s id → WellSorted (tree_at s id))
         → All (DeclHeld s) made.decls
         → HaveNoFault (symbols_at s h.symbols) (declarations_at s made.decls)
         → IsNextDeclaration s (symbols_at s h.symbols) names ds (declarations_at s made.decls) }
+{}
+
+/// A law: of a goal after declarations the proposition is valid over what they make and its own type
+/// variables, whose entries these are; signature and scopes are typed over what they make.
+pub fn next_goal_valid()
+    ensures { (c : Setting) (ds : List DeclarationTree) (d : Decl) (x : Called) (e : Expression)
+        (g : Signature) (s : List Tree) (h : Signature) (names : Names) (made : Elaborated)
+        → IsTypedSetting (after c.symbols [] ds) c → MakesBelow (length c.symbols) ds
+        → Grows c.trees s → declaration d ≡ Some (proposition Goal x e)
+        → IsElaborated c (proposition Goal x e) g s h names made
+        → ((id : TermId) → Holds s id → WellSorted (tree_at s id))
+        → All (DeclHeld s) made.decls
+        → HaveNoFault (symbols_at s h.symbols) (declarations_at s made.decls)
+        → IsNextGoal s (symbols_at s h.symbols) names ds made.rigid
+        (declarations_at s made.decls) }
 {}
