@@ -1,0 +1,3 @@
+pub mod Ending
+pub mod Refusing
+pub mod Taking

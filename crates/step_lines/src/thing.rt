@@ -1,0 +1,13 @@
+// What a line makes.
+// It depends on steps; the reader of lines depends on it.
+use rule_rows::Step;
+use trees::TermId;
+
+/// What a line makes.
+#[derive(Drop)]
+pub enum MadeThing {
+    Type(TermId),
+    Pattern(TermId),
+    Expression(TermId),
+    Derived(Step),
+}
