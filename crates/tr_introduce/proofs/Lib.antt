@@ -1,0 +1,6 @@
+pub mod Introduced
+pub mod Moving
+pub mod Opening
+pub mod Tasks
+pub mod Removed
+pub mod Renamed

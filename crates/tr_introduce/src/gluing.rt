@@ -1,0 +1,111 @@
+// From a step that refutes what was introduced from a goal, one that refutes the goal's negation.
+ghost use Rattle.std.specs.Prelude.{◌≡◌, ◌++◌, [], ◌∷◌, IfOk};
+ghost use Rattle.trees.specs.Tree.{Two, HForall, HJoin};
+ghost use Rattle.trees.specs.Node.{tree_at, Holds};
+ghost use Rattle.tasks.specs.Task.{neg};
+ghost use Rattle.tasks.specs.Meaning.{trees_at};
+ghost use Rattle.evidence.specs.Drafts.{Extends, Refutes, IsFormulaAt, AreFormulas};
+ghost use Rattle.tr_introduce.specs.Steps.{AreBelow, EndsAt};
+
+use crate::introduction::opened;
+use crate::openings::{Beginning, beginning_of};
+use crate::refuting::{refute_implication, refute_universal};
+use evidence::{Draft, joined};
+use std::alloc::AllocError;
+use term_store::Grow;
+use trees::{Op, TermId};
+
+// From a step that refutes what is introduced from the goal over these formulas, where parameters count from this number, one that
+// refutes the formulas and the negated goal.
+#[cycle(glue)]
+pub(crate) fn glue_goal(
+    draft: &mut Draft,
+    front: &[TermId],
+    goal: TermId,
+    number: usize,
+    end: usize,
+) -> Result<usize, AllocError>
+    requires front { AreFormulas draft.old front.now }
+    requires goal { IsFormulaAt draft.old goal }
+    requires below { AreBelow number (trees_at draft.old.trees front.now)
+        (tree_at draft.old.trees goal) }
+    requires end { EndsAt draft.old end (trees_at draft.old.trees front.now)
+        (tree_at draft.old.trees goal) number }
+    ensures refutes { IfOk result (λ k. Refutes draft.new k
+        (trees_at draft.old.trees front.now ++ neg (tree_at draft.old.trees goal) ∷ [])) }
+    ensures grows { Extends draft.old draft.new }
+{
+    match beginning_of(draft.store(), goal) {
+        Beginning::Universal(ty, body) => {
+            glue_universal(draft, front, goal, ty, body, number, end)
+        }
+        Beginning::Implication(premise, conclusion) => {
+            glue_implication(draft, front, goal, premise, conclusion, number, end)
+        }
+        Beginning::Neither => Ok(end),
+    }
+}
+
+// The same of a quantifier.
+#[cycle(glue)]
+fn glue_universal(
+    draft: &mut Draft,
+    front: &[TermId],
+    goal: TermId,
+    ty: TermId,
+    body: TermId,
+    number: usize,
+    end: usize,
+) -> Result<usize, AllocError>
+    requires front { AreFormulas draft.old front.now }
+    requires goal { IsFormulaAt draft.old goal }
+    requires tree { tree_at draft.old.trees goal
+        ≡ Two HForall (tree_at draft.old.trees ty) (tree_at draft.old.trees body) }
+    requires ty_held { Holds draft.old.trees ty }
+    requires body_held { Holds draft.old.trees body }
+    requires below { AreBelow number (trees_at draft.old.trees front.now)
+        (tree_at draft.old.trees goal) }
+    requires end { EndsAt draft.old end (trees_at draft.old.trees front.now)
+        (tree_at draft.old.trees goal) number }
+    ensures refutes { IfOk result (λ k. Refutes draft.new k
+        (trees_at draft.old.trees front.now ++ neg (tree_at draft.old.trees goal) ∷ [])) }
+    ensures grows { Extends draft.old draft.new }
+{
+    if number == usize::MAX {
+        return Err(AllocError);
+    }
+    let alloc = draft.allocator();
+    let goal_at = opened(alloc, draft, number, ty, body)?;
+    let step = glue_goal(draft, front, goal_at, number + 1, end)?;
+    refute_universal(draft, front, goal, number, step)
+}
+
+// The same of an implication.
+#[cycle(glue)]
+fn glue_implication(
+    draft: &mut Draft,
+    front: &[TermId],
+    goal: TermId,
+    premise: TermId,
+    conclusion: TermId,
+    number: usize,
+    end: usize,
+) -> Result<usize, AllocError>
+    requires front { AreFormulas draft.old front.now }
+    requires goal { IsFormulaAt draft.old goal }
+    requires tree { tree_at draft.old.trees goal
+        ≡ Two (HJoin Op.Imp) (tree_at draft.old.trees premise) (tree_at draft.old.trees conclusion) }
+    requires premise_held { Holds draft.old.trees premise }
+    requires conclusion_held { Holds draft.old.trees conclusion }
+    requires below { AreBelow number (trees_at draft.old.trees front.now)
+        (tree_at draft.old.trees goal) }
+    requires end { EndsAt draft.old end (trees_at draft.old.trees front.now)
+        (tree_at draft.old.trees goal) number }
+    ensures refutes { IfOk result (λ k. Refutes draft.new k
+        (trees_at draft.old.trees front.now ++ neg (tree_at draft.old.trees goal) ∷ [])) }
+    ensures grows { Extends draft.old draft.new }
+{
+    let wider = joined(draft.allocator(), front, &[premise])?;
+    let step = glue_goal(draft, &wider, conclusion, number, end)?;
+    refute_implication(draft, front, goal, premise, step)
+}

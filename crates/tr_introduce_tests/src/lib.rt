@@ -1,0 +1,12 @@
+//! Tests of the transformations that introduce and remove, and of the bounds on the tasks of a stage.
+//! They stand on these crates; nothing stands on them.
+#![tactic(auto)]
+
+#[cfg(test)]
+mod introducing;
+#[cfg(test)]
+mod limits;
+#[cfg(test)]
+mod removing;
+#[cfg(test)]
+mod small;
