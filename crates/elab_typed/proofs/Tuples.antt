@@ -25,7 +25,7 @@ use Rattle.elab_typed.proofs.Scopes.{typed_entry}
 
 -- ---- a type symbol at its own type variables
 module _ (v : Vocabulary) where
-  variables_in : (m k n : ℕ) → m + k ≡ n → All (IsTypeIn v n) (type_variables m k)
+  pub variables_in : (m k n : ℕ) → m + k ≡ n → All (IsTypeIn v n) (type_variables m k)
   variables_in m zero n q = All-nil (IsTypeIn v n)
   variables_in m (suc k) n q = All-cons (IsTypeIn v n) (Leaf (HTyVar m)) (type_variables (m + 1) k) (record { sort = refl; typed = (tt, tt); variables = omega (arith, q) }) (variables_in (m + 1) k n (omega (arith, q)))
 

@@ -1,0 +1,35 @@
+-- What stands before a goal, and the goal, so that its task is valid.
+use Rattle.std.specs.Prelude.{◌≡◌, ◌≢◌, ℕ, false, List, [], All, AllPairs, slice_get, Some}
+use Rattle.std.specs.Str.{bytes_eq}
+use Rattle.tasks.specs.Task.{SymbolTree, symbol_or, DeclarationTree, made}
+use Rattle.tasks.specs.Rigid.{rigid_symbol}
+use Rattle.tasks.specs.Vocabulary.{is_empty}
+use Rattle.tasks.specs.Valid.{IsFormulaOver, IsQuoted}
+use Rattle.elab_parts.specs.Entries.{builtin}
+use Rattle.elab_valid.specs.Lists.{after, AreValidAfter}
+use Rattle.goal_tasks.specs.Theories.{GoalTree}
+use Rattle.valid_tasks.specs.Built.{IsBuiltRight}
+
+-- an entry of a theory of a source or of a library
+pub record IsOwn (symbols : List SymbolTree) (k : ℕ) : Type 0 where
+  pub stands : is_empty (symbol_or symbols k).theory ≡ false
+  pub other : bytes_eq (symbol_or symbols k).theory builtin ≡ false
+
+-- declarations are valid where they stand; no symbol is made twice, and none that is built in
+pub record AreSound (symbols : List SymbolTree) (ds : List DeclarationTree) : Type 0 where
+  pub built : IsBuiltRight symbols
+  pub valid : AreValidAfter symbols [] ds
+  pub once : AllPairs (λ j k. j ≢ k) (made ds)
+  pub own : All (IsOwn symbols) (made ds)
+
+-- the entry of a type variable of a goal, whose name has a quote
+pub record IsQuotedAt (symbols : List SymbolTree) (k : ℕ) : Type 0 where
+  pub name : List ℕ
+  pub quoted : IsQuoted name
+  pub entry : slice_get symbols k ≡ Some (rigid_symbol name)
+
+-- a goal behind declarations
+pub record IsSoundGoal (symbols : List SymbolTree) (ds : List DeclarationTree) (g : GoalTree) : Type 0 where
+  pub rigid : All (IsQuotedAt symbols) g.rigid
+  pub once : AllPairs (λ j k. j ≢ k) g.rigid
+  pub formula : IsFormulaOver (after symbols g.rigid ds) [] 0 g.prop
