@@ -44,11 +44,11 @@ far_numbers n k (x ∷ names) l = let q = unequal n k l in rw q (far_numbers (n 
     unequal : (a b : ℕ) → b < a → (a == b) ≡ false
     unequal a b h = grind (arith, nat_tests)
 
-all_among : (xs ks : List ℕ) → ((k : ℕ) → Contains xs k → Contains ks k) → All (λ (k : ℕ). IsTrue (list_any (λ j. j == k) ks)) xs
+pub all_among : (xs ks : List ℕ) → ((k : ℕ) → Contains xs k → Contains ks k) → All (λ (k : ℕ). IsTrue (list_any (λ j. j == k) ks)) xs
 all_among [] ks f = All-nil (λ (k : ℕ). IsTrue (list_any (λ j. j == k) ks))
 all_among (x ∷ xs) ks f = All-cons (λ (k : ℕ). IsTrue (list_any (λ j. j == k) ks)) x xs ((any_iff x ks).1 (f x (contains_step x x xs (inl refl)))) (all_among xs ks (λ k h. f k (contains_step x k xs (inr h))))
 
-at_end : (xs ys : List SymbolTree) (e : SymbolTree) (k : ℕ) → k ≡ length xs → slice_get (xs ++ e ∷ ys) k ≡ Some e
+pub at_end : (xs ys : List SymbolTree) (e : SymbolTree) (k : ℕ) → k ≡ length xs → slice_get (xs ++ e ∷ ys) k ≡ Some e
 at_end [] ys e k q = rw q refl
 at_end (x ∷ xs) ys e ℕ.zero q = absurd (omega (arith, q))
 at_end (x ∷ xs) ys e (suc k) q = at_end xs ys e k (omega (arith, q))
@@ -70,7 +70,7 @@ module _ (symbols : List SymbolTree) (own : List ℕ) (ds new : List Declaration
   maker_same : (k : ℕ) → maker (ds ++ new) k ≡ maker ds k
   maker_same k = maker_both ds new k ∙ (ap (option_or (maker ds k)) (maker_none k) ∙ or_none (maker ds k))
 
-  nothing_more : AgreeBelow (after symbols own (ds ++ new)) (after symbols own ds) (length symbols)
+  pub nothing_more : AgreeBelow (after symbols own (ds ++ new)) (after symbols own ds) (length symbols)
   nothing_more = record {
     rigid = λ k l. refl;
     usable = λ k l. let q = maker_same k in cc;

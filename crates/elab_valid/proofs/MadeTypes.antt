@@ -74,14 +74,14 @@ types_has w i n (a ∷ ts) =
     first_then i own rest (length ts) (subst (λ (k : ℕ). HasFrom rest k (length ts)) next (types_has w (i + 1) (n + c) ts))
 
 -- ---- they are between the first type and the last entry
-numbers_between : (n m : ℕ) (ts : List Tree) → n + length ts ≤ m → AreBetween n m (numbers_from n ts)
+pub numbers_between : (n m : ℕ) (ts : List Tree) → n + length ts ≤ m → AreBetween n m (numbers_from n ts)
 numbers_between n m [] l = no_numbers n m
 numbers_between n m (t ∷ ts) l = one_between n n m (numbers_from (n + 1) ts) (omega arith) (omega arith) (wider (n + 1) n m m (numbers_from (n + 1) ts) (omega arith) (omega arith) (numbers_between (n + 1) m ts (omega arith)))
 
 both_between : (n m : ℕ) (xs ys : List ℕ) → AreBetween n m xs → AreBetween n m ys → AreBetween n m (xs ++ ys)
 both_between n m xs ys h k = All-append (λ (i : ℕ). (n ≤ i) × (i < m)) xs ys h k
 
-cons_between : (w : Where) (n m : ℕ) (ks : List ConstructorOf) → n + entry_count ks ≤ m → AreBetween n m (made_by_cons (constructor_trees w n ks))
+pub cons_between : (w : Where) (n m : ℕ) (ks : List ConstructorOf) → n + entry_count ks ≤ m → AreBetween n m (made_by_cons (constructor_trees w n ks))
 cons_between w n m [] l = no_numbers n m
 cons_between w n m (k ∷ ks) l =
     let fs = types_at w k.fields in

@@ -5,3 +5,8 @@ pub mod Distinct
 pub mod TupleDecls
 pub mod TupleLists
 pub mod Sound
+pub mod Once
+pub mod Grown
+pub mod Next
+pub mod NextGoal
+pub mod Joined

@@ -1,6 +1,6 @@
 -- What is valid over a vocabulary names what that may name: so it is valid over one that may name all that stands in it.
 use Rattle.std.proofs.Common.{◌≡◌, ℕ, ◌||◌, nat_eq, suc, Bool, true, false, List, [], ◌∷◌, ◌++◌, map, All, Option, Some, None, IfSome, IsTrue, refl, sym, subst, arith}
-use Rattle.std.specs.List.{list_any, flat_map}
+use Rattle.std.specs.List.{flat_map}
 use Rattle.std.proofs.lemmas.List.Elements.{All-nil, All-cons}
 use Rattle.std.proofs.lemmas.List.Folds.{list_any-append}
 use Rattle.std.proofs.lemmas.List.Concat.{flat_map-append}

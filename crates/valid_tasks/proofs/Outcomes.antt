@@ -1,5 +1,5 @@
 -- What declarations make keeps right what is built in.
-use Rattle.std.proofs.Common.{◌≡◌, ◌⊎◌, inl, ℕ, zero, suc, Some, false, List, [], ◌∷◌, ◌++◌, map, length, slice_get, All, refl, sym, ap, ◌∙◌, append-nil}
+use Rattle.std.proofs.Common.{◌≡◌, ◌⊎◌, inl, ℕ, zero, suc, Some, false, List, [], ◌∷◌, ◌++◌, map, length, slice_get, get_or, All, refl, sym, ap, ◌∙◌, append-nil}
 use Rattle.std.specs.Str.{bytes_eq}
 use Rattle.std.proofs.lemmas.List.Elements.{All-nil, All-cons, All-append}
 use Rattle.trees.specs.Tree.{Tree}
@@ -27,37 +27,47 @@ rigids_of : (names : List Word) → All IsOfSource (map rigid_symbol names)
 rigids_of [] = All-nil IsOfSource
 rigids_of (x ∷ xs) = All-cons IsOfSource (rigid_symbol x) (map rigid_symbol xs) refl (rigids_of xs)
 
-module _ (theory : Word) (source : bytes_eq theory builtin ≡ false) where
-  signed_of : (within : Word) (ms : List Member) (gs : List SignatureTree) → All IsOfSource (signed_entries theory within ms gs)
-  signed_of within [] gs = All-nil IsOfSource
-  signed_of within (m ∷ ms) [] = All-nil IsOfSource
-  signed_of within (m ∷ ms) (g ∷ gs) = All-cons IsOfSource _ (signed_entries theory within ms gs) source (signed_of within ms gs)
+-- an entry of this theory
+abbrev pub OfTheory : Word → SymbolTree → Type 0
+OfTheory theory e = e.theory ≡ theory
 
-  types_of : (within : Word) (ts : List Algebraic) → All IsOfSource (type_entries theory within ts)
-  types_of within [] = All-nil IsOfSource
-  types_of within (a ∷ ts) = All-cons IsOfSource (type_entry theory (within ++ a.called.name) (length a.vars)) (type_entries theory within ts) source (types_of within ts)
+module _ (theory : Word) where
+  abbrev Of : SymbolTree → Type 0
+  Of = OfTheory theory
 
-  projections_of : (name : Word) (n : ℕ) (t : Tree) (i : ℕ) (fs : List Tree) → All IsOfSource (projections theory name n t i fs)
-  projections_of name n t i [] = All-nil IsOfSource
-  projections_of name n t i (f ∷ fs) = All-cons IsOfSource _ (projections theory name n t (suc i) fs) source (projections_of name n t (suc i) fs)
+  pub signed_of : (within : Word) (ms : List Member) (gs : List SignatureTree) → All Of (signed_entries theory within ms gs)
+  signed_of within [] gs = All-nil Of
+  signed_of within (m ∷ ms) [] = All-nil Of
+  signed_of within (m ∷ ms) (g ∷ gs) = All-cons Of _ (signed_entries theory within ms gs) refl (signed_of within ms gs)
 
-  constructor_of : (name : Word) (n : ℕ) (t : Tree) (fs : List Tree) → All IsOfSource (constructor_entries theory name n t fs)
-  constructor_of name n t fs = All-cons IsOfSource _ (projections theory name n t 1 fs) source (projections_of name n t 1 fs)
+  pub types_of : (within : Word) (ts : List Algebraic) → All Of (type_entries theory within ts)
+  types_of within [] = All-nil Of
+  types_of within (a ∷ ts) = All-cons Of (type_entry theory (within ++ a.called.name) (length a.vars)) (type_entries theory within ts) refl (types_of within ts)
 
-  constructors_of : (within : Word) (n : ℕ) (t : Tree) (ks : List Constructor) (cs : List ConTree) → All IsOfSource (constructors_entries theory within n t ks cs)
-  constructors_of within n t [] cs = All-nil IsOfSource
-  constructors_of within n t (k ∷ ks) [] = All-nil IsOfSource
+  projections_of : (name : Word) (n : ℕ) (t : Tree) (i : ℕ) (fs : List Tree) → All Of (projections theory name n t i fs)
+  projections_of name n t i [] = All-nil Of
+  projections_of name n t i (f ∷ fs) = All-cons Of _ (projections theory name n t (suc i) fs) refl (projections_of name n t (suc i) fs)
+
+  constructor_of : (name : Word) (n : ℕ) (t : Tree) (fs : List Tree) → All Of (constructor_entries theory name n t fs)
+  constructor_of name n t fs = All-cons Of _ (projections theory name n t 1 fs) refl (projections_of name n t 1 fs)
+
+  constructors_of : (within : Word) (n : ℕ) (t : Tree) (ks : List Constructor) (cs : List ConTree) → All Of (constructors_entries theory within n t ks cs)
+  constructors_of within n t [] cs = All-nil Of
+  constructors_of within n t (k ∷ ks) [] = All-nil Of
   constructors_of within n t (k ∷ ks) (c ∷ cs) =
-      All-append IsOfSource (constructor_entries theory (within ++ k.called.name) n t c.fields) (constructors_entries theory within n t ks cs) (constructor_of (within ++ k.called.name) n t c.fields) (constructors_of within n t ks cs)
+      All-append Of (constructor_entries theory (within ++ k.called.name) n t c.fields) (constructors_entries theory within n t ks cs) (constructor_of (within ++ k.called.name) n t c.fields) (constructors_of within n t ks cs)
 
-  group_of : (within : Word) (ts : List Algebraic) (ys : List AlgebraicTree) → All IsOfSource (group_entries theory within ts ys)
-  group_of within [] ys = All-nil IsOfSource
-  group_of within (a ∷ ts) [] = All-nil IsOfSource
+  pub group_of : (within : Word) (ts : List Algebraic) (ys : List AlgebraicTree) → All Of (group_entries theory within ts ys)
+  group_of within [] ys = All-nil Of
+  group_of within (a ∷ ts) [] = All-nil Of
   group_of within (a ∷ ts) (y ∷ ys) =
-      All-append IsOfSource (constructors_entries theory within (length a.vars) (own_type y.symbol (length a.vars)) a.constructors y.cons) (group_entries theory within ts ys)
+      All-append Of (constructors_entries theory within (length a.vars) (own_type y.symbol (length a.vars)) a.constructors y.cons) (group_entries theory within ts ys)
       (constructors_of within (length a.vars) (own_type y.symbol (length a.vars)) a.constructors y.cons) (group_of within ts ys)
 
 module _ (c : Setting) (s : List Tree) (source : bytes_eq c.theory builtin ≡ false) (h : IsBuiltRight c.symbols) where
+  sourced : (es : List SymbolTree) → All (OfTheory c.theory) es → All IsOfSource es
+  sourced es a = λ k e l. let q : (get_or es k e).theory ≡ c.theory = a k e l in rw q source
+
   split_kept : (o : Outcome) (ns : List ℕ) (own : List SymbolTree) → o.symbols ≡ wanting_tuples c.symbols ns ++ own → All IsOfSource own → IsBuiltRight (c.symbols ++ o.symbols)
   split_kept o ns own q k = rw q (all_kept c.symbols own ns h k)
 
@@ -70,11 +80,11 @@ module _ (c : Setting) (s : List Tree) (source : bytes_eq c.theory builtin ≡ f
   outcome_kept (algebraic ts) o e =
       let T = type_entries c.theory c.within ts in
       let G = group_entries c.theory c.within ts (group_trees c ts) in
-      split_kept o (group_seen ts).widths (T ++ G) (ap (λ (i : Outcome). i.symbols) e) (All-append IsOfSource T G (types_of c.theory source c.within ts) (group_of c.theory source c.within ts (group_trees c ts)))
-  outcome_kept (members ms) o e = split_kept o (members_seen unseen ms).widths (signed_entries c.theory c.within ms (group_signatures c ms)) e.symbols (signed_of c.theory source c.within ms (group_signatures c ms))
+      split_kept o (group_seen ts).widths (T ++ G) (ap (λ (i : Outcome). i.symbols) e) (All-append IsOfSource T G (sourced T (types_of c.theory c.within ts)) (sourced G (group_of c.theory c.within ts (group_trees c ts))))
+  outcome_kept (members ms) o e = split_kept o (members_seen unseen ms).widths (signed_entries c.theory c.within ms (group_signatures c ms)) e.symbols (sourced (signed_entries c.theory c.within ms (group_signatures c ms)) (signed_of c.theory c.within ms (group_signatures c ms)))
   outcome_kept (inductive ds) o e =
       let gs = signature_trees c (before_inductives c ds) (as_members ds) in
-      split_kept o (inductives_seen unseen ds).widths (signed_entries c.theory c.within (as_members ds) gs) e.symbols (signed_of c.theory source c.within (as_members ds) gs)
+      split_kept o (inductives_seen unseen ds).widths (signed_entries c.theory c.within (as_members ds) gs) e.symbols (sourced (signed_entries c.theory c.within (as_members ds) gs) (signed_of c.theory c.within (as_members ds) gs))
 
 pub elaborated_kept : (c : Setting) (d : Declaration) (g : Signature) (s : List Tree) (g' : Signature) (names : Names) (made : Elaborated) → bytes_eq c.theory builtin ≡ false → IsElaborated c d g s g' names made → IsBuiltRight c.symbols → IsBuiltRight (symbols_at s g'.symbols)
 elaborated_kept c d g s g' names made q e h = rw e.symbols_are (outcome_kept c s q h d e.outcome e.is)

@@ -28,12 +28,12 @@ use Rattle.valid_tasks.proofs.TupleDecls.{made_both, made_are, tuple_valid}
 use Rattle.valid_tasks.proofs.TupleLists.{IsTupleDecl, IsTupleEntry, entry_is, tuples_are, occurring_made, tuples_distinct}
 
 -- ---- who makes a symbol
-each_made : (ds : List DeclarationTree) (i : ℕ) (d : DeclarationTree) → i < length ds → (k : ℕ) → Contains (made_by (get_or ds i d).body) k → Contains (made ds) k
+pub each_made : (ds : List DeclarationTree) (i : ℕ) (d : DeclarationTree) → i < length ds → (k : ℕ) → Contains (made_by (get_or ds i d).body) k → Contains (made ds) k
 each_made [] i d l k h = absurd (omega (arith, l))
 each_made (x ∷ ds) zero d l k h = Contains-append_left (made_by x.body) (made ds) k h
 each_made (x ∷ ds) (suc i) d l k h = Contains-append_right (made_by x.body) (made ds) k (each_made ds i d (omega (arith, l)) k h)
 
-maker_all : (P : DeclarationTree → Type 0) (ds : List DeclarationTree) (k : ℕ) (d : DeclarationTree) → All P ds → maker ds k ≡ Some d → P d × Contains (made_by d.body) k
+pub maker_all : (P : DeclarationTree → Type 0) (ds : List DeclarationTree) (k : ℕ) (d : DeclarationTree) → All P ds → maker ds k ≡ Some d → P d × Contains (made_by d.body) k
 maker_all P [] k d a q = absurd (cc)
 maker_all P (x ∷ ds) k d a q = of (is_made_by k x.body) refl q (λ z. maker_all P ds k d (λ i e l. a (suc i) e (omega (arith, l))) z)
   where

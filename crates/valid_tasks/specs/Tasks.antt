@@ -1,11 +1,16 @@
 -- What stands before a goal, and the goal, so that its task is valid.
-use Rattle.std.specs.Prelude.{◌≡◌, ◌≢◌, ℕ, false, List, [], All, AllPairs, slice_get, Some}
+use Rattle.std.specs.Prelude.{◌≡◌, ◌≢◌, ℕ, false, List, [], ◌∷◌, map, All, AllPairs, slice_get, Some}
 use Rattle.std.specs.Str.{bytes_eq}
-use Rattle.tasks.specs.Task.{SymbolTree, symbol_or, DeclarationTree, made}
+use Rattle.trees.specs.Tree.{Tree}
+use Rattle.trees.specs.Binding.{inst_types}
+use Rattle.tasks.specs.Task.{SymbolTree, symbol_or, Says, DeclarationTree, made, made_by}
 use Rattle.tasks.specs.Rigid.{rigid_symbol}
 use Rattle.tasks.specs.Vocabulary.{is_empty}
 use Rattle.tasks.specs.Valid.{IsFormulaOver, IsQuoted}
+use Rattle.syntax_why.specs.declared.declarations.PropKind.{PropKind}
+use Rattle.syntax_why.specs.declared.declarations.PropKind.TheVariants.{Axiom}
 use Rattle.elab_parts.specs.Entries.{builtin}
+use Rattle.elab_terms.specs.Outcomes.{rigid_types}
 use Rattle.elab_valid.specs.Lists.{after, AreValidAfter}
 use Rattle.goal_tasks.specs.Theories.{GoalTree}
 use Rattle.valid_tasks.specs.Built.{IsBuiltRight}
@@ -15,12 +20,17 @@ pub record IsOwn (symbols : List SymbolTree) (k : ℕ) : Type 0 where
   pub stands : is_empty (symbol_or symbols k).theory ≡ false
   pub other : bytes_eq (symbol_or symbols k).theory builtin ≡ false
 
+-- what a declaration makes is of its theory
+abbrev pub IsOfTheory : List SymbolTree → DeclarationTree → Type 0
+IsOfTheory symbols d = All (λ (k : ℕ). (symbol_or symbols k).theory ≡ d.theory) (made_by d.body)
+
 -- declarations are valid where they stand; no symbol is made twice, and none that is built in
 pub record AreSound (symbols : List SymbolTree) (ds : List DeclarationTree) : Type 0 where
   pub built : IsBuiltRight symbols
   pub valid : AreValidAfter symbols [] ds
   pub once : AllPairs (λ j k. j ≢ k) (made ds)
   pub own : All (IsOwn symbols) (made ds)
+  pub theories : All (IsOfTheory symbols) ds
 
 -- the entry of a type variable of a goal, whose name has a quote
 pub record IsQuotedAt (symbols : List SymbolTree) (k : ℕ) : Type 0 where
@@ -33,3 +43,20 @@ pub record IsSoundGoal (symbols : List SymbolTree) (ds : List DeclarationTree) (
   pub rigid : All (IsQuotedAt symbols) g.rigid
   pub once : AllPairs (λ j k. j ≢ k) g.rigid
   pub formula : IsFormulaOver (after symbols g.rigid ds) [] 0 g.prop
+
+-- a goal, or a lemma, which is one until it is proved
+abbrev pub IsToProve : PropKind → Type 0
+IsToProve Axiom = ⊥
+IsToProve _ = Unit {0}
+
+-- the goal of what a proposition says: its formula at these type variables
+pub record IsGoalSaid (said : List DeclarationTree) (own : List ℕ) (g : GoalTree) : Type 0 where
+  pub formula : Tree
+  pub says : map (λ (d : DeclarationTree). d.body) said ≡ Says formula ∷ []
+  pub prop : g.prop ≡ inst_types formula (rigid_types own)
+  pub rigid : g.rigid ≡ own
+
+-- a goal stands behind sound declarations, and is well formed
+pub record IsSoundBehind (symbols : List SymbolTree) (ds : List DeclarationTree) (g : GoalTree) : Type 0 where
+  pub before : AreSound symbols ds
+  pub goal : IsSoundGoal symbols ds g

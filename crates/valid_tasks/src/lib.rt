@@ -1,25 +1,35 @@
-//! The task of a goal behind declarations that are valid where they stand is valid; what this asks of a
-//! signature, the entries of tuples, stays as declarations are elaborated.
+//! The task of a goal behind declarations that are valid where they stand is valid; what this asks of
+//! declarations, of goals and of the entries of tuples holds of what is elaborated, and of declarations
+//! joined to others.
 //! It depends on the definitions of elaboration and of the tasks of goals, and on no code of theirs.
 #![tactic(auto)]
 
-ghost use Rattle.std.specs.Prelude.{◌≡◌, false, List, [], ◌∷◌, IfSome};
+ghost use Rattle.std.specs.Prelude.{◌≡◌, false, List, [], ◌∷◌, ◌++◌, length, All, Some, IfSome};
 ghost use Rattle.std.specs.Str.{bytes_eq};
 ghost use Rattle.trees.specs.Tree.{Tree};
-ghost use Rattle.tasks.specs.Task.{int_symbol};
-ghost use Rattle.tasks.specs.Meaning.{symbols_at};
+ghost use Rattle.trees.specs.Node.{Grows, Holds, tree_at};
+ghost use Rattle.trees.specs.declared.TermId.{TermId};
+ghost use Rattle.trees.specs.Sorts.{WellSorted};
+ghost use Rattle.tasks.specs.Task.{SymbolTree, DeclarationTree, int_symbol};
+ghost use Rattle.tasks.specs.Meaning.{symbols_at, declarations_at, DeclHeld};
 ghost use Rattle.tasks.specs.declared.signature.Signature.{Signature};
-ghost use Rattle.tasks.specs.Valid.{AreInts, IsValid};
+ghost use Rattle.tasks.specs.Valid.{AreInts, IsQuoted, IsValid};
 ghost use Rattle.names_space.specs.Names.{Names};
+ghost use Rattle.syntax_why.specs.Declarations.{Decl};
+ghost use Rattle.syntax_why.specs.declared.declarations.PropKind.{PropKind};
+ghost use Rattle.elab_names.specs.Abstract.{Expression};
 ghost use Rattle.elab_parts.specs.declared.made.Elaborated.{Elaborated};
 ghost use Rattle.elab_parts.specs.Entries.{builtin};
-ghost use Rattle.elab_parts.specs.Declarations.{Declaration};
+ghost use Rattle.elab_parts.specs.Declarations.{Called, Declaration, proposition, declaration};
 ghost use Rattle.elab_parts.specs.Outcomes.{Setting};
-ghost use Rattle.elab_terms.specs.Outcomes.{IsElaborated};
+ghost use Rattle.elab_terms.specs.Outcomes.{proposition_seen, IsElaborated};
+ghost use Rattle.elab_valid.specs.Lists.{after, MakesBelow, IsGroupWhole, IsNoGoal};
+ghost use Rattle.elab_valid.specs.Valid.{IsTypedSetting, HaveNoFault};
 ghost use Rattle.goal_tasks.specs.Theories.{GoalTree, TheoryTree, TheoriesTree};
 ghost use Rattle.goal_tasks.specs.Tasks.{before, task_for};
 ghost use Rattle.valid_tasks.specs.Built.{IsBuiltRight};
-ghost use Rattle.valid_tasks.specs.Tasks.{AreSound, IsSoundGoal};
+ghost use Rattle.valid_tasks.specs.Joined.{Agree, AreJoined};
+ghost use Rattle.valid_tasks.specs.Tasks.{AreSound, IsSoundGoal, IsToProve, IsGoalSaid, IsSoundBehind};
 
 /// A law: in a signature with `int` alone what is built in is right.
 pub fn begins_built()
@@ -43,4 +53,52 @@ pub fn tasks_valid()
     ensures { (all : TheoriesTree) (t : TheoryTree) (g : GoalTree)
         → AreSound all.symbols (before t g) → IsSoundGoal all.symbols (before t g) g
         → IfSome all.ints (AreInts all.symbols) → IsValid (task_for all t g) }
+{}
+
+/// A law: none are sound where what is built in is right; sound declarations stay so with what
+/// `elaborate` gives of the next one, where the checks of declarations find no fault, with more entries
+/// of a signature, and without the last ones.
+pub fn keeps_sound()
+    ensures none { (symbols : List SymbolTree) → IsBuiltRight symbols → AreSound symbols [] }
+    ensures declarations { (c : Setting) (ds : List DeclarationTree) (d : Decl)
+        (x : Declaration) (g : Signature) (s : List Tree) (h : Signature) (names : Names)
+        (made : Elaborated) → IsTypedSetting (after c.symbols [] ds) c
+        → MakesBelow (length c.symbols) ds → Grows c.trees s → declaration d ≡ Some x
+        → IsGroupWhole d → IsNoGoal d → IsElaborated c x g s h names made
+        → ((id : TermId) → Holds s id → WellSorted (tree_at s id))
+        → All (DeclHeld s) made.decls
+        → HaveNoFault (symbols_at s h.symbols) (declarations_at s made.decls)
+        → AreSound c.symbols ds
+        → AreSound (symbols_at s h.symbols) (ds ++ declarations_at s made.decls) }
+    ensures entries { (xs ys : List SymbolTree) (ds : List DeclarationTree) → AreSound xs ds
+        → IsBuiltRight (xs ++ ys) → AreSound (xs ++ ys) ds }
+    ensures fewer { (symbols : List SymbolTree) (xs ys : List DeclarationTree)
+        → AreSound symbols (xs ++ ys) → AreSound symbols xs }
+{}
+
+/// A law: a goal or lemma that is elaborated behind sound declarations gives a goal that is sound behind
+/// them, where the names of its type variables have their quotes; it stays so with more entries.
+pub fn goals_sound()
+    ensures goals { (c : Setting) (ds : List DeclarationTree) (d : Decl) (k : PropKind)
+        (x : Called) (e : Expression) (g : Signature) (s : List Tree) (h : Signature)
+        (names : Names) (made : Elaborated) (goal : GoalTree)
+        → IsTypedSetting (after c.symbols [] ds) c → MakesBelow (length c.symbols) ds
+        → Grows c.trees s → IsToProve k → declaration d ≡ Some (proposition k x e)
+        → IsElaborated c (proposition k x e) g s h names made
+        → ((id : TermId) → Holds s id → WellSorted (tree_at s id))
+        → All (DeclHeld s) made.decls
+        → HaveNoFault (symbols_at s h.symbols) (declarations_at s made.decls)
+        → All IsQuoted (proposition_seen e).vars → AreSound c.symbols ds
+        → IsGoalSaid (declarations_at s made.decls) made.rigid goal
+        → IsSoundBehind (symbols_at s h.symbols) ds goal }
+    ensures entries { (xs ys : List SymbolTree) (ds : List DeclarationTree) (goal : GoalTree)
+        → IsSoundBehind xs ds goal → IsBuiltRight (xs ++ ys) → IsSoundBehind (xs ++ ys) ds goal }
+{}
+
+/// A law: sound declarations with those of a theory that is used, each theory's once, are sound, where
+/// both have the same of each theory that both have: the used theory's are over a signature that has
+/// grown since. What either may name may be named, and the signature is typed over what all make.
+pub fn joins_sound()
+    ensures { (xs ys : List SymbolTree) (ds es : List DeclarationTree) → AreSound (xs ++ ys) ds
+        → AreSound xs es → Agree ds es → AreJoined xs (xs ++ ys) ds es }
 {}

@@ -1,0 +1,80 @@
+-- What is elaborated keeps declarations sound: the next declaration stands behind them, and a goal is a sound one.
+use Rattle.std.proofs.Common.{◌≡◌, ℕ, ◌<◌, List, [], ◌++◌, length, get_or, All, Some, sym, ap, subst, ◌∙◌, arith}
+use Rattle.std.specs.List.{Contains}
+use Rattle.std.proofs.lemmas.List.Elements.{All-append, All-contains, Contains-get_or}
+use Rattle.trees.specs.Tree.{Tree}
+use Rattle.trees.specs.Sorts.{WellSorted}
+use Rattle.trees.specs.Node.{tree_at, Grows, Holds}
+use Rattle.trees.specs.declared.TermId.{TermId}
+use Rattle.tasks.specs.Task.{SymbolTree, symbol_or, DeclarationTree, made, made_by}
+use Rattle.tasks.specs.Meaning.{symbols_at, declarations_at, DeclHeld}
+use Rattle.tasks.specs.declared.signature.Signature.{Signature}
+use Rattle.names_space.specs.Names.{Names}
+use Rattle.syntax_why.specs.Declarations as source
+use Rattle.elab_parts.specs.declared.made.Elaborated.{Elaborated}
+use Rattle.elab_parts.specs.Declarations.{Declaration, declaration}
+use Rattle.elab_parts.specs.Outcomes.{Setting}
+use Rattle.elab_terms.specs.Outcomes.{IsElaborated}
+use Rattle.elab_valid.specs.Valid.{IsTypedSetting, HaveNoFault}
+use Rattle.elab_valid.specs.Lists.{after, AreValidAfter, IsNoGoal, MakesBelow, IsGroupWhole}
+use Rattle.elab_valid.proofs.Steps.{next_declaration}
+use Rattle.valid_tasks.specs.Built.{IsBuiltRight}
+use Rattle.valid_tasks.specs.Tasks.{IsOwn, IsOfTheory, AreSound}
+use Rattle.valid_tasks.proofs.Distinct.{IsDistinct, distinct_pairs, pairs_distinct, distinct_both}
+use Rattle.valid_tasks.proofs.TupleDecls.{made_both}
+use Rattle.valid_tasks.proofs.Sound.{each_made}
+use Rattle.valid_tasks.proofs.Outcomes.{elaborated_kept}
+use Rattle.valid_tasks.proofs.Once.{IsOnce, outcome_once}
+use Rattle.valid_tasks.proofs.Grown.{sound_more, then_valid}
+
+module _ (c : Setting) (ds : List DeclarationTree) (x : Declaration) (g : Signature) (s : List Tree) (h : Signature) (names : Names) (it : Elaborated) (typed : IsTypedSetting (after c.symbols [] ds) c) (below : MakesBelow (length c.symbols) ds) (e : IsElaborated c x g s h names it)
+    (sound : AreSound c.symbols ds) where
+  abbrev all : List SymbolTree
+  all = symbols_at s h.symbols
+
+  abbrev new : List DeclarationTree
+  new = declarations_at s it.decls
+
+  once : IsOnce c e.outcome
+  once = outcome_once c s x e.outcome e.is
+
+  pub front_kept : AreSound all ds
+  front_kept = subst (λ (es : List SymbolTree). AreSound es ds) (sym e.symbols_are) (sound_more c.symbols e.outcome.symbols ds sound (subst IsBuiltRight e.symbols_are (elaborated_kept c x g s h names it typed.source e sound.built)))
+
+  own_new : (k : ℕ) → Contains (made new) k → IsOwn all k
+  own_new k i =
+      let q : (symbol_or all k).theory ≡ c.theory = ap (λ (es : List SymbolTree). (symbol_or es k).theory) e.symbols_are ∙ once.theory k (subst (λ (xs : List DeclarationTree). Contains (made xs) k) e.decls i) in
+      record { stands = rw q typed.theory; other = rw q typed.source }
+
+  theory_new : All (IsOfTheory all) new
+  theory_new = λ i d l j k m.
+      let x = get_or new i d in
+      let n = get_or (made_by x.body) j k in
+      let of : All (λ (y : DeclarationTree). y.theory ≡ c.theory) new = subst (All (λ (y : DeclarationTree). y.theory ≡ c.theory)) (sym e.decls) once.of in
+      let here : Contains (made new) n = each_made new i d l n (Contains-get_or (made_by x.body) j k m) in
+      let q : (symbol_or all n).theory ≡ c.theory = ap (λ (es : List SymbolTree). (symbol_or es n).theory) e.symbols_are ∙ once.theory n (subst (λ (xs : List DeclarationTree). Contains (made xs) n) e.decls here) in
+      let z : x.theory ≡ c.theory = of i d l in
+      q ∙ sym z
+
+  pub both_sound : AreValidAfter all ds new → AreSound all (ds ++ new)
+  both_sound valid =
+      let q = made_both ds new in
+      record {
+        built = front_kept.built;
+        valid = then_valid all [] ds new front_kept.valid valid;
+        once = distinct_pairs (made (ds ++ new)) (subst IsDistinct (sym q) (distinct_both (made ds) (made new) (pairs_distinct (made ds) sound.once) (subst (λ (xs : List DeclarationTree). IsDistinct (made xs)) (sym e.decls) once.distinct) apart));
+        own = subst (All (IsOwn all)) (sym q) (All-append (IsOwn all) (made ds) (made new) front_kept.own (λ k i l. own_new (get_or (made new) k i) (Contains-get_or (made new) k i l)));
+        theories = All-append (IsOfTheory all) ds new front_kept.theories theory_new;
+      }
+    where
+      apart : (k : ℕ) → Contains (made ds) k → Contains (made new) k → ⊥
+      apart k a b =
+          let l : k < length c.symbols = All-contains (λ (j : ℕ). j < length c.symbols) (made ds) k below a in
+          let m = once.later k (subst (λ (xs : List DeclarationTree). Contains (made xs) k) e.decls b) in
+          omega (arith, l, m)
+
+pub next_sound : (c : Setting) (ds : List DeclarationTree) (d : source.Decl) (x : Declaration) (g : Signature) (s : List Tree) (h : Signature) (names : Names) (it : Elaborated) → IsTypedSetting (after c.symbols [] ds) c → MakesBelow (length c.symbols) ds → Grows c.trees s
+    → declaration d ≡ Some x → IsGroupWhole d → IsNoGoal d → IsElaborated c x g s h names it → ((id : TermId) → Holds s id → WellSorted (tree_at s id)) → All (DeclHeld s) it.decls → HaveNoFault (symbols_at s h.symbols) (declarations_at s it.decls)
+    → AreSound c.symbols ds → AreSound (symbols_at s h.symbols) (ds ++ declarations_at s it.decls)
+next_sound c ds d x g s h names it typed below r q w p e sorted held passes sound =
+    both_sound c ds x g s h names it typed below e sound (next_declaration c ds d x g s h names it typed below r q w p e sorted held passes).valid
