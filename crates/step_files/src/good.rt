@@ -1,0 +1,266 @@
+// Which lines are right.
+// They depend on what a line makes and on the kernel's conditions; the reader of lines depends on them.
+ghost use Rattle.std.specs.Prelude.{◌≡◌, ◌≤◌, ◌↔◌, IsTrue, IfOk, OnOk, IfSome, IfNone};
+ghost use Rattle.std.specs.Option.{ForSome};
+ghost use Rattle.trees.specs.Tree.{height};
+ghost use Rattle.trees.specs.Node.{tree_at, Holds, Grows};
+ghost use Rattle.tasks.specs.Meaning.{task_at, TaskHeld};
+ghost use Rattle.tasks.specs.Looking.{IsIndexOf};
+ghost use Rattle.linear_leaf.specs.Valuations.{Each};
+ghost use Rattle.rule_rows.specs.Trees.{trees_of};
+ghost use Rattle.rule_rows.specs.Meaning.{rule_at, step_at, steps_at, StepHeld, StepsHeld};
+ghost use Rattle.kernel.specs.Open.{OpenIn, StepIsOpen, TemplateIsOpen, types_in};
+ghost use Rattle.kernel.specs.Right.{IsRight};
+ghost use Rattle.tree_lines.specs.Made.{IsNamesOf};
+ghost use Rattle.step_lines.specs.Made.{IsMadeThing, ThingHeld, thing_at};
+ghost use Rattle.step_files.specs.Marks.{AreTyped};
+ghost use Rattle.step_files.specs.Lines.{IsGoodTree, IsGood, LineIsRight, thing_of};
+ghost use Rattle.step_files.specs.Reading.{MakesGood, ReadHeld, reading_at};
+
+use crate::marks::{are_marked, has_mark, is_open};
+use crate::read::Read;
+use crate::words::split;
+use kernel::{right_step, right_typed_step};
+use problems::NameEntry;
+use rule_rows::{Rule, Step};
+use std::alloc::{AllocError, Global};
+use step_lines::{MadeThing, made_by_line};
+use tasks::{Index, Lookup, Task};
+use term_store::Store;
+use tree_lines::{Known, Names};
+use trees::{Parts, TermId};
+
+// Whether a tree is no taller than so many nodes.
+fn is_no_taller(store: &Store, id: TermId, most: u64) -> bool
+    requires { Holds store.now id }
+    ensures { IsTrue result ↔ (height (tree_at store.now id) ≤ most) }
+{
+    if most == 0 {
+        return false;
+    }
+    match store.node(id).parts() {
+        Parts::None => true,
+        Parts::One(a) => is_no_taller(store, a, most - 1),
+        Parts::Two(a, b) => is_no_taller(store, a, most - 1) && is_no_taller(store, b, most - 1),
+        Parts::Three(a, b, c) => is_no_taller(store, a, most - 1)
+            && is_no_taller(store, b, most - 1)
+            && is_no_taller(store, c, most - 1),
+    }
+}
+
+// Whether a tree is no taller than the tallest. The store keeps heights below the greatest number, and no store has a tree
+// of another.
+fn is_low(store: &Store, tallest: Option<u64>, id: TermId) -> bool
+    requires { Holds store.now id }
+    ensures { IsTrue result ↔ ForSome tallest (λ n. height (tree_at store.now id) ≤ n) }
+{
+    match tallest {
+        Some(most) => {
+            let known = store.height(id);
+            if known < u64::MAX {
+                known <= most
+            } else {
+                is_no_taller(store, id, most)
+            }
+        }
+        None => true,
+    }
+}
+
+// Whether a tree is so, and typed as far as it stands.
+fn is_good_tree(
+    store: &Store,
+    task: &Task,
+    index: &Index,
+    marks: &mut Vec<bool>,
+    tallest: Option<u64>,
+    id: TermId,
+) -> Result<bool, AllocError>
+    requires task { TaskHeld store.now task.now }
+    requires index { IsIndexOf index.now task.now }
+    requires held { Holds store.now id }
+    requires marks { AreTyped (task_at store.now task.now) store.now marks.old.items }
+    ensures good { IfOk result (λ b. IsTrue b
+        ↔ IsGoodTree (task_at store.now task.now) tallest (tree_at store.now id)) }
+    ensures marks { OnOk result (AreTyped (task_at store.now task.now) store.now marks.new.items) }
+{
+    if !is_low(store, tallest, id) {
+        return Ok(false);
+    }
+    is_open(store, task, index, marks, id)
+}
+
+// Whether the terms and formulas that a rule names are marked.
+fn names_marked(store: &Store, task: &Task, marks: &[bool], rule: &Rule) -> bool
+    requires { AreTyped (task_at store.now task.now) store.now marks.now }
+    ensures { IsTrue result → Each (OpenIn (task_at store.now task.now))
+        (trees_of (rule_at store.now rule.now)) }
+{
+    match rule {
+        Rule::Forall(_, e) | Rule::NotExists(_, e) => has_mark(store, task, marks, *e),
+        Rule::Cut(e) | Rule::Refl(e) | Rule::LetDef(e) | Rule::IfDef(e) => {
+            has_mark(store, task, marks, *e)
+        }
+        Rule::MatchDef(e) | Rule::Case(e) | Rule::Project(e) => has_mark(store, task, marks, *e),
+        Rule::Bound(e, _) => has_mark(store, task, marks, *e),
+        Rule::Trichotomy(a, b) => {
+            has_mark(store, task, marks, *a) && has_mark(store, task, marks, *b)
+        }
+        _ => true,
+    }
+}
+
+// Whether the template of a replacement is marked.
+fn template_marked(store: &Store, task: &Task, marks: &[bool], rule: &Rule) -> bool
+    requires { AreTyped (task_at store.now task.now) store.now marks.now }
+    ensures { IsTrue result → TemplateIsOpen (task_at store.now task.now)
+        (rule_at store.now rule.now) }
+{
+    match rule {
+        Rule::Replace(_, _, e) => has_mark(store, task, marks, *e),
+        _ => true,
+    }
+}
+
+// The types that a rule names.
+fn rule_types(rule: &Rule) -> &[TermId]
+    ensures { result.now ≡ types_in rule.now }
+{
+    match rule {
+        Rule::Fact(_, types) => types.as_slice(),
+        Rule::Def(_, types) => types.as_slice(),
+        Rule::Clause(_, _, types) => types.as_slice(),
+        Rule::Inv(_, types) => types.as_slice(),
+        _ => &[],
+    }
+}
+
+// Whether all trees of a step are marked.
+fn step_marked(store: &Store, task: &Task, marks: &[bool], step: &Step) -> bool
+    requires { AreTyped (task_at store.now task.now) store.now marks.now }
+    ensures { IsTrue result → StepIsOpen (task_at store.now task.now) store.now step.now }
+{
+    are_marked(store, task, marks, step.sequent.as_slice())
+        && names_marked(store, task, marks, &step.rule)
+        && template_marked(store, task, marks, &step.rule)
+        && are_marked(store, task, marks, rule_types(&step.rule))
+}
+
+// Whether a step is right. Trees that are marked aren't typed again; where one isn't, all of the step's are.
+fn is_right(
+    store: &Store,
+    task: &Task,
+    index: &Index,
+    marks: &[bool],
+    before: &[Step],
+    step: &Step,
+) -> bool
+    requires task { TaskHeld store.now task.now }
+    requires index { IsIndexOf index.now task.now }
+    requires marks { AreTyped (task_at store.now task.now) store.now marks.now }
+    requires before_held { StepsHeld store.now before.now }
+    requires step_held { StepHeld store.now step.now }
+    ensures { IsTrue result ↔ IsRight (task_at store.now task.now)
+        (steps_at store.now before.now) (step_at store.now step.now) }
+{
+    if !step_marked(store, task, marks, step) {
+        return right_step(store, task, before, step);
+    }
+    let look = Lookup::with_index(task, index);
+    right_typed_step(store, &look, before, step)
+}
+
+// Whether a thing is good over the steps before it.
+fn is_good(
+    store: &Store,
+    task: &Task,
+    index: &Index,
+    marks: &mut Vec<bool>,
+    tallest: Option<u64>,
+    before: &[Step],
+    thing: &MadeThing,
+) -> Result<bool, AllocError>
+    requires task { TaskHeld store.now task.now }
+    requires index { IsIndexOf index.now task.now }
+    requires marks { AreTyped (task_at store.now task.now) store.now marks.old.items }
+    requires before_held { StepsHeld store.now before.now }
+    requires thing_held { ThingHeld store.now thing.now }
+    ensures good { IfOk result (λ b. IsTrue b ↔ IsGood (task_at store.now task.now) tallest
+        (steps_at store.now before.now) (thing_at store.now thing.now)) }
+    ensures marks { OnOk result (AreTyped (task_at store.now task.now) store.now marks.new.items) }
+{
+    match thing {
+        MadeThing::Type(ty) => is_good_tree(store, task, index, marks, tallest, *ty),
+        MadeThing::Pattern(p) => is_good_tree(store, task, index, marks, tallest, *p),
+        MadeThing::Expression(e) => is_good_tree(store, task, index, marks, tallest, *e),
+        MadeThing::Derived(step) => Ok(is_right(store, task, index, marks, before, step)),
+    }
+}
+
+// What a line makes.
+fn line_thing(
+    alloc: Global,
+    store: &mut Store,
+    task: &Task,
+    table: &[NameEntry],
+    names: &Names,
+    read: &Read,
+    line: &[u8],
+) -> Result<Option<MadeThing>, AllocError>
+    requires task { TaskHeld store.old task.now }
+    requires names { IsNamesOf names.now table.now }
+    requires read { ReadHeld store.old read.now }
+    ensures made { IfOk result (IsMadeThing store.new (thing_of (task_at store.old task.now) table.now
+        (reading_at store.old read.now).earlier line.now)) }
+    ensures grows { Grows store.old store.new }
+{
+    let words = split(alloc, line)?;
+    let x = Known {
+        task,
+        table,
+        names,
+        types: &read.types,
+        patterns: &read.patterns,
+        expressions: &read.expressions,
+    };
+    made_by_line(alloc, store, &x, &words)
+}
+
+/// What a line makes, where the line is right over what was read so far.
+pub(crate) fn right_thing(
+    alloc: Global,
+    store: &mut Store,
+    task: &Task,
+    index: &Index,
+    table: &[NameEntry],
+    names: &Names,
+    tallest: Option<u64>,
+    read: &Read,
+    marks: &mut Vec<bool>,
+    line: &[u8],
+) -> Result<Option<MadeThing>, AllocError>
+    requires task { TaskHeld store.old task.now }
+    requires index { IsIndexOf index.now task.now }
+    requires names { IsNamesOf names.now table.now }
+    requires read { ReadHeld store.old read.now }
+    requires marks { AreTyped (task_at store.old task.now) store.old marks.old.items }
+    ensures none { IfOk result (λ o. IfNone o
+        (LineIsRight (task_at store.old task.now) table.now tallest (reading_at store.old read.now)
+        line.now → ⊥)) }
+    ensures some { IfOk result (λ o. IfSome o
+        (λ x. MakesGood (task_at store.old task.now) table.now tallest
+        (reading_at store.old read.now) line.now (thing_at store.new x))) }
+    ensures held { IfOk result (λ o. IfSome o (ThingHeld store.new)) }
+    ensures marks { OnOk result
+        (AreTyped (task_at store.old task.now) store.new marks.new.items) }
+    ensures grows { Grows store.old store.new }
+{
+    let Some(thing) = line_thing(alloc, store, task, table, names, read, line)? else {
+        return Ok(None);
+    };
+    if is_good(store, task, index, marks, tallest, &read.steps, &thing)? {
+        Ok(Some(thing))
+    } else {
+        Ok(None)
+    }
+}
