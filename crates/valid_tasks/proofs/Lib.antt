@@ -10,3 +10,5 @@ pub mod Grown
 pub mod Next
 pub mod NextGoal
 pub mod Joined
+pub mod Quoted
+pub mod QuotedTokens

@@ -1,3 +1,4 @@
 pub mod Built
 pub mod Tasks
 pub mod Joined
+pub mod Quoted

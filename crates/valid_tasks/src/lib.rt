@@ -4,18 +4,22 @@
 //! It depends on the definitions of elaboration and of the tasks of goals, and on no code of theirs.
 #![tactic(auto)]
 
-ghost use Rattle.std.specs.Prelude.{◌≡◌, false, List, [], ◌∷◌, ◌++◌, length, All, Some, IfSome};
+ghost use Rattle.std.specs.Prelude.{◌≡◌, ℕ, false, List, [], ◌∷◌, ◌++◌, length, All, Some, IfSome};
 ghost use Rattle.std.specs.Str.{bytes_eq};
 ghost use Rattle.trees.specs.Tree.{Tree};
 ghost use Rattle.trees.specs.Node.{Grows, Holds, tree_at};
 ghost use Rattle.trees.specs.declared.TermId.{TermId};
 ghost use Rattle.trees.specs.Sorts.{WellSorted};
+ghost use Rattle.tokens_why.specs.declared.token.Token.{Token};
+ghost use Rattle.tokens_why.specs.Tokens.{AreTokens};
 ghost use Rattle.tasks.specs.Task.{SymbolTree, DeclarationTree, int_symbol};
 ghost use Rattle.tasks.specs.Meaning.{symbols_at, declarations_at, DeclHeld};
 ghost use Rattle.tasks.specs.declared.signature.Signature.{Signature};
 ghost use Rattle.tasks.specs.Valid.{AreInts, IsQuoted, IsValid};
 ghost use Rattle.names_space.specs.Names.{Names};
-ghost use Rattle.syntax_why.specs.Declarations.{Decl};
+ghost use Rattle.syntax_why.specs.Lexeme.{rest};
+ghost use Rattle.syntax_why.specs.Declarations.{Decl, write_decl};
+ghost use Rattle.syntax_why.specs.DeclarationRules.{IsLevelDecl};
 ghost use Rattle.syntax_why.specs.declared.declarations.PropKind.{PropKind};
 ghost use Rattle.elab_names.specs.Abstract.{Expression};
 ghost use Rattle.elab_parts.specs.declared.made.Elaborated.{Elaborated};
@@ -29,6 +33,7 @@ ghost use Rattle.goal_tasks.specs.Theories.{GoalTree, TheoryTree, TheoriesTree};
 ghost use Rattle.goal_tasks.specs.Tasks.{before, task_for};
 ghost use Rattle.valid_tasks.specs.Built.{IsBuiltRight};
 ghost use Rattle.valid_tasks.specs.Joined.{Agree, AreJoined};
+ghost use Rattle.valid_tasks.specs.Quoted.{IsQuotedLexeme};
 ghost use Rattle.valid_tasks.specs.Tasks.{AreSound, IsSoundGoal, IsToProve, IsGoalSaid, IsSoundBehind};
 
 /// A law: in a signature with `int` alone what is built in is right.
@@ -101,4 +106,16 @@ pub fn goals_sound()
 pub fn joins_sound()
     ensures { (xs ys : List SymbolTree) (ds es : List DeclarationTree) → AreSound (xs ++ ys) ds
         → AreSound xs es → Agree ds es → AreJoined xs (xs ++ ys) ds es }
+{}
+
+/// A law: what the laws above ask of a declaration holds of one that tokens stand for: where the first
+/// of a group has no definition there is no other; the names of the type variables of a proposition
+/// have their quotes where those of the tokens have, as the tokens of each text.
+pub fn tokens_fit()
+    ensures wholes { (d : Decl) → IsLevelDecl d → IsGroupWhole d }
+    ensures names { (d : Decl) (k : PropKind) (x : Called) (e : Expression)
+        → declaration d ≡ Some (proposition k x e) → All IsQuotedLexeme (write_decl d)
+        → All IsQuoted (proposition_seen e).vars }
+    ensures quotes { (text : List ℕ) (ts : List Token) (i : ℕ) → AreTokens text ts
+        → All IsQuotedLexeme (rest text ts i) }
 {}

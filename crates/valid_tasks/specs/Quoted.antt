@@ -1,0 +1,13 @@
+-- Names of type variables as they stand in a source.
+use Rattle.tasks.specs.Valid.{IsQuoted}
+use Rattle.tokens_why.specs.declared.terminal.Terminal.{Terminal}
+use Rattle.tokens_why.specs.declared.terminal.Terminal.TheVariants as t
+use Rattle.syntax_why.specs.Lexeme.{Word, Lexeme}
+
+abbrev pub QuotedAs : Terminal → Word → Type 0
+QuotedAs t.TyVar w = IsQuoted w
+QuotedAs _ w = Unit {0}
+
+-- the name of a type variable has its quote
+abbrev pub IsQuotedLexeme : Lexeme → Type 0
+IsQuotedLexeme l = QuotedAs l.terminal l.text
