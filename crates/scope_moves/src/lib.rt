@@ -1,0 +1,7 @@
+//! The names that a theory hands on, and how they come into scopes.
+//! It depends on scopes; the theories of a source depend on it.
+#![tactic(auto)]
+
+mod moves;
+
+pub use moves::{Move, bring, hand_on, leave, replay};
