@@ -327,7 +327,7 @@ module _ (base : Vocabulary) (s : List Tree) (whole : List SymbolTree) (typed : 
       unfolding narrowed
       narrowed_is j o q = ap (λ (i : ℕ). narrow i (f j)) q
 
-      -- the bodies of members behind others
+      -- the bodies of members after others
       abbrev Follows : List Member → List SignatureTree → ℕ → Type 0
       Follows ks hs n = (j : ℕ) → n ≤ j → owner all_ks all_hs rigid j ≡ owner ks hs n j
 

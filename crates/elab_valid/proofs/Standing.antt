@@ -108,7 +108,7 @@ abbrev pub AreSeen : Seen → List Member → Type 0
 AreSeen all [] = Unit {0}
 AreSeen all (m ∷ ms) = ((u : Seen) × IsWithin (type_seen (params_seen u m.params) m.result) all) × AreSeen all ms
 
--- where the members' names, behind those of a scope, hide no type
+-- where the members' names, after those of a scope, hide no type
 module _ (base : Vocabulary) (c : Setting) (h : IsTypedSetting base c) (ms : List Member) (all_seen : Seen) (names' : Names) (same_types : (qs : List Word) (x : Word) → type_named names' qs x ≡ type_named c.scope qs x) where
   abbrev pub front : List SymbolTree
   front = inside base c h all_seen

@@ -28,7 +28,7 @@ use Rattle.elab_typed.proofs.Tuples.{type_entry_typed}
 use Rattle.elab_valid.specs.Valid.{IsTypedSetting, IsValidOutcome}
 use Rattle.elab_valid.proofs.Settings.{inside, inside_typed, world, tuples, same_names, form_in}
 
--- ---- an entry behind others
+-- ---- an entry after others
 pub last_is : (xs : List SymbolTree) (e : SymbolTree) → slice_get (xs ++ e ∷ []) (length xs) ≡ Some e
 last_is [] e = refl
 last_is (x ∷ xs) e = last_is xs e

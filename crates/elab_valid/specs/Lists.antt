@@ -28,7 +28,7 @@ after symbols rigid ds = record {
   matched = λ k. passes (λ e. is_built e && is_constructor_kind e.kind) (slice_get symbols k) || is_constructor (role_by k (maker ds k));
 }
 
--- each declaration behind others is valid where it stands: over what it makes itself and what those before it make
+-- each declaration after others is valid where it stands: over what it makes itself and what those before it make
 abbrev pub AreValidAfter : List SymbolTree → List DeclarationTree → List DeclarationTree → Type 0
 AreValidAfter symbols before [] = Unit {0}
 AreValidAfter symbols before (d ∷ ds) = IsValidDecl (after symbols [] (before ++ d ∷ [])) d × AreValidAfter symbols (before ++ d ∷ []) ds

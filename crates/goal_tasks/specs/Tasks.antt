@@ -1,4 +1,4 @@
--- The task of a goal: the declarations before it, behind those of the tuples that occur (Why3 manual, "tasks").
+-- The task of a goal: the declarations before it, after those of the tuples that occur (Why3 manual, "tasks").
 use Rattle.std.specs.Prelude.{◌≡◌, ℕ, List, [], ◌++◌, take, IsSomeAnd}
 use Rattle.tasks.specs.Task.{DeclarationTree, TaskTree}
 use Rattle.named_symbols.specs.Named.{named, declarations_named}

@@ -29,7 +29,7 @@ pub enum TaskFault {
     NoGoal,
 }
 
-// The declaration with this place, if there is one, behind others.
+// The declaration with this place, if there is one, after others.
 fn push_placed(decls: &Seq<Decl>, place: usize, out: &mut Vec<Decl>) -> Result<(), AllocError>
     ensures { OnOk result (out.new.items ≡ out.old.items
         ++ option_to_list (slice_get decls.now place)) }
@@ -80,7 +80,7 @@ fn decls_before(
     Ok(own)
 }
 
-// Declarations behind those of the tuples that occur in them or in a goal.
+// Declarations after those of the tuples that occur in them or in a goal.
 fn with_tuples(
     alloc: Global,
     store: &Store,
@@ -134,7 +134,7 @@ fn make_task(
     })
 }
 
-/// The task of the goal with this name in the theory of the source with this path: the declarations that stand before it, behind
+/// The task of the goal with this name in the theory of the source with this path: the declarations that stand before it, after
 /// those of the tuples that occur in them or in the goal, in ascending width. Where several goals have the name, it is the last
 /// one. A theory of the embedded library is none of the source's.
 ///

@@ -135,7 +135,7 @@ fn occurs(found: &IndexSet<usize>, symbol: usize) -> bool
     found.contains(&symbol) || found.contains(&ty)
 }
 
-// The declaration of the tuples of a width, if they occur, behind others.
+// The declaration of the tuples of a width, if they occur, after others.
 fn push_tuple(
     alloc: Global,
     store: &Store,

@@ -77,7 +77,7 @@ fn remake(
     store.add(mapped.with_parts(parts))
 }
 
-// The members of a list of types, behind others.
+// The members of a list of types, after others.
 fn push_members(store: &Store, list: TermId, out: &mut Vec<TermId>) -> Result<(), AllocError>
     requires held { Holds store.now list }
     requires types { IsList Sort.Kind (tree_at store.now list) }

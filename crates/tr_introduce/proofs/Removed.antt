@@ -77,8 +77,8 @@ module _ (props : List (List ℕ × List ℕ)) (d : DeclarationTree) where
     said : (p : Proposition) × (said_by d d.body ≡ p ∷ [])
     said = says d d.body e
 
-    behind : (ds : List DeclarationTree) (m n j : ℕ) → m ≡ n + 1 → slice_get (props_of (d ∷ ds)) (m - n + j) ≡ slice_get (props_of ds) j
-    behind ds m n j q =
+    later : (ds : List DeclarationTree) (m n j : ℕ) → m ≡ n + 1 → slice_get (props_of (d ∷ ds)) (m - n + j) ≡ slice_get (props_of ds) j
+    later ds m n j q =
         let i : m - n + j ≡ suc j = omega arith in
         ap (slice_get (said_by d d.body ++ props_of ds)) i ∙ ap (λ (z : List Proposition). slice_get (z ++ props_of ds) (suc j)) said.1
 
@@ -88,7 +88,7 @@ module _ (props : List (List ℕ × List ℕ)) (d : DeclarationTree) where
         let r : is_removed props d ≡ true = ap (λ (b : Bool). b && list_any (is_named d) props) e ∙ a in
         record {
           kept = λ ds. ap (λ (z : List DeclarationTree). slice_get (props_of z) seek.left) (kept_by true r ds) ∙ ap (slice_get (props_of (kept_decls props ds))) (sym l);
-          old = λ ds j. behind ds next.place seek.place j p;
+          old = λ ds j. later ds next.place seek.place j p;
           more = omega (arith, p);
           one = omega (arith, p);
         }
@@ -101,7 +101,7 @@ module _ (props : List (List ℕ × List ℕ)) (d : DeclarationTree) where
     passes_kept seek next a l p = record {
       kept = λ ds. ap (λ (z : List DeclarationTree). slice_get (props_of z) seek.left) (kept_by false (kept_one a) ds) ∙ ap (λ (z : List Proposition). slice_get (z ++ props_of (kept_decls props ds)) seek.left) said.1
           ∙ ap (slice_get (said.0 ∷ props_of (kept_decls props ds))) l;
-      old = λ ds j. behind ds next.place seek.place j p;
+      old = λ ds j. later ds next.place seek.place j p;
       more = omega (arith, p);
       one = omega (arith, p);
     }

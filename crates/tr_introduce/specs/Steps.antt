@@ -31,7 +31,7 @@ pub record RefutesOpened (d : DraftTree) (step : ℕ) (front : List Tree) (goal 
   pub is : goal ≡ Two HForall ty body
   pub refutes : Refutes d step (front ++ neg (inst body (Param number ty)) ∷ [])
 
--- the same, behind the negated quantifier
+-- the same, after the negated quantifier
 pub record NegatesOpened (d : DraftTree) (step : ℕ) (front : List Tree) (no_goal : Tree) (number : ℕ) : Type 0 where
   pub ty : Tree
   pub body : Tree

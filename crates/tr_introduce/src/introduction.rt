@@ -16,7 +16,7 @@ use tasks::Task;
 use term_store::{Grow, Store};
 use trees::{Sort, TermId};
 
-// Puts the types of new parameters and the premises of the goal behind those that are there, and gives the goal that is left.
+// Puts the types of new parameters and the premises of the goal after those that are there, and gives the goal that is left.
 pub(crate) fn introduce(
     alloc: Global,
     store: &mut Store,

@@ -13,7 +13,7 @@ use std::alloc::AllocError;
 use trees::{Op, TermId};
 
 // The rule on the negation of a quantifier, the last formula: the premise refutes the sequent with the negated body at the
-// parameter of this number behind it.
+// parameter of this number after it.
 fn by_not_forall(
     draft: &mut Draft,
     front: &[TermId],

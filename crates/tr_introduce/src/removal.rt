@@ -53,7 +53,7 @@ fn is_removed(props: &[(Text, Text)], decl: &Decl) -> bool
     is_proposition(decl) && is_among(props, decl)
 }
 
-// Puts a copy of the declaration behind the others, where it isn't removed.
+// Puts a copy of the declaration after the others, where it isn't removed.
 fn keep_decl(kept: &mut Vec<Decl>, props: &[(Text, Text)], decl: &Decl) -> Result<(), AllocError>
     ensures kept { OnOk result ((s : List Tree) → declarations_at s kept.new.items
         ≡ declarations_at s kept.old.items

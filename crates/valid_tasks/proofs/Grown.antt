@@ -1,4 +1,4 @@
--- Declarations that are valid where they stand stay so over a longer signature, one list behind another, and in front of others.
+-- Declarations that are valid where they stand stay so over a longer signature, one list after another, and in front of others.
 use Rattle.std.proofs.Common.{◌≡◌, ◌⊎◌, inl, inr, ℕ, ◌<◌, ◌≤◌, ◌||◌, ◌&&◌, zero, suc, Bool, true, false, List, [], ◌∷◌, ◌++◌, length, get_or, slice_get, All, Option, Some, IsTrue, refl, sym, ap, subst, ◌∙◌, arith, append_assoc, append-nil}
 use Rattle.std.specs.List.{Contains}
 use Rattle.std.specs.Option.{is_some}
@@ -17,7 +17,7 @@ use Rattle.elab_valid.proofs.Propositions.{formula_more}
 use Rattle.elab_valid.proofs.Stays.{declaration_stays}
 use Rattle.goal_tasks.specs.Theories.{GoalTree}
 use Rattle.valid_tasks.specs.Built.{IsBuiltRight}
-use Rattle.valid_tasks.specs.Tasks.{IsOwn, IsOfTheory, AreSound, IsQuotedAt, IsSoundGoal, IsSoundBehind}
+use Rattle.valid_tasks.specs.Tasks.{IsOwn, IsOfTheory, AreSound, IsQuotedAt, IsSoundGoal, IsSoundAfter}
 use Rattle.valid_tasks.proofs.Distinct.{IsDistinct, distinct_pairs, pairs_distinct}
 use Rattle.valid_tasks.proofs.TupleDecls.{made_both}
 use Rattle.valid_tasks.proofs.Sound.{each_made}
@@ -83,7 +83,7 @@ module _ (xs ys : List SymbolTree) where
     formula = formula_more (after xs g.rigid ds) (after (xs ++ ys) g.rigid ds) (more_part g.rigid ds) 0 g.prop h.formula;
   }
 
-  pub behind_more : (ds : List DeclarationTree) (g : GoalTree) → IsSoundBehind xs ds g → IsBuiltRight (xs ++ ys) → IsSoundBehind (xs ++ ys) ds g
+  pub behind_more : (ds : List DeclarationTree) (g : GoalTree) → IsSoundAfter xs ds g → IsBuiltRight (xs ++ ys) → IsSoundAfter (xs ++ ys) ds g
   behind_more ds g h b = record { before = sound_more ds h.before b; goal = goal_more ds g h.goal }
 
 -- ---- two lists

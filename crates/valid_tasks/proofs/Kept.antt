@@ -70,7 +70,7 @@ take_whole zero (x ∷ xs) q = absurd (omega (arith, q))
 take_whole (suc n) [] q = absurd (omega (arith, q))
 take_whole (suc n) (x ∷ xs) q = ap (λ (r : List SymbolTree). x ∷ r) (take_whole n xs (omega (arith, q)))
 
--- ---- the entries of a width behind others
+-- ---- the entries of a width after others
 projections_count : (theory constructor : Word) (vars : ℕ) (t : Tree) (i : ℕ) (fs : List Tree) → length (projections theory constructor vars t i fs) ≡ length fs
 projections_count theory constructor vars t i [] = refl
 projections_count theory constructor vars t i (f ∷ fs) = ap suc (projections_count theory constructor vars t (suc i) fs)

@@ -1,4 +1,4 @@
--- What is elaborated keeps declarations sound: the next declaration stands behind them, and a goal is a sound one.
+-- What is elaborated keeps declarations sound: the next declaration stands after them, and a goal is a sound one.
 use Rattle.std.proofs.Common.{◌≡◌, ℕ, ◌<◌, List, [], ◌++◌, length, get_or, All, Some, sym, ap, subst, ◌∙◌, arith}
 use Rattle.std.specs.List.{Contains}
 use Rattle.std.proofs.lemmas.List.Elements.{All-append, All-contains, Contains-get_or}

@@ -1,4 +1,4 @@
--- A goal or lemma that is elaborated behind sound declarations gives a sound goal.
+-- A goal or lemma that is elaborated after sound declarations gives a sound goal.
 use Rattle.std.proofs.Common.{◌≡◌, ℕ, ◌+◌, ◌<◌, ◌≤◌, ◌==◌, suc, true, false, List, [], ◌∷◌, ◌++◌, map, length, get_or, All, Some, IsTrue, refl, sym, ap, subst, ◌∙◌, arith, length-append, append_assoc}
 use Rattle.std.specs.List.{list_any}
 use Rattle.std.proofs.lemmas.List.Elements.{All-nil, All-cons}
@@ -34,7 +34,7 @@ use Rattle.elab_valid.proofs.Elaborated.{elaborated_valid}
 use Rattle.elab_valid.proofs.Steps.{setting, news}
 use Rattle.elab_valid.proofs.Goals.{all_among, at_end, nothing_more, next_goal}
 use Rattle.goal_tasks.specs.Theories.{GoalTree}
-use Rattle.valid_tasks.specs.Tasks.{AreSound, IsQuotedAt, IsToProve, IsGoalSaid, IsSoundBehind}
+use Rattle.valid_tasks.specs.Tasks.{AreSound, IsQuotedAt, IsToProve, IsGoalSaid, IsSoundAfter}
 use Rattle.valid_tasks.proofs.Distinct.{IsDistinct, distinct_pairs}
 use Rattle.valid_tasks.proofs.Once.{distinct_step}
 use Rattle.valid_tasks.proofs.Next.{front_kept}
@@ -144,7 +144,7 @@ module _ (c : Setting) (ds : List DeclarationTree) (d : source.Decl) (x : Called
   abbrev first : List SymbolTree
   first = c.symbols ++ tuples_wanting c (proposition_seen y)
 
-  finish : AreSound all ds → All (IsQuotedAt all) own → IsDistinct own → IsFormulaOver (after all own ds) [] 0 (inst_types said.formula (rigid_types own)) → IsSoundBehind all ds goal
+  finish : AreSound all ds → All (IsQuotedAt all) own → IsDistinct own → IsFormulaOver (after all own ds) [] 0 (inst_types said.formula (rigid_types own)) → IsSoundAfter all ds goal
   finish before at distinct f = record {
     before = before;
     goal = record {
@@ -163,7 +163,7 @@ module _ (c : Setting) (ds : List DeclarationTree) (d : source.Decl) (x : Called
   count_at : own ≡ entry_numbers (length first) vs → length (rigid_types own) ≡ length vs
   count_at o = ap (λ (ks : List ℕ). length (rigid_types ks)) o ∙ count_types (length first) vs
 
-  goal_kept : declaration d ≡ Some (proposition kind.Goal x y) → IsElaborated c (proposition kind.Goal x y) g s h names it → IsSoundBehind all ds goal
+  goal_kept : declaration d ≡ Some (proposition kind.Goal x y) → IsElaborated c (proposition kind.Goal x y) g s h names it → IsSoundAfter all ds goal
   goal_kept q e =
       let p : IsProposition c kind.Goal x y e.outcome = e.is in
       let z : IsNextGoal s all names ds own new = next_goal c ds d x y g s h names it typed below r q e sorted held passes in
@@ -174,7 +174,7 @@ module _ (c : Setting) (ds : List DeclarationTree) (d : source.Decl) (x : Called
       finish (front_kept c ds (proposition kind.Goal x y) g s h names it typed below e sound) at (distinct_at o)
       (at_types all ds own (length vs) said.formula z.signature at (count_at o) (more_formula (after all own ds) (length vs) said.formula f))
 
-  lemma_kept : declaration d ≡ Some (proposition kind.Lemma x y) → IsElaborated c (proposition kind.Lemma x y) g s h names it → IsSoundBehind all ds goal
+  lemma_kept : declaration d ≡ Some (proposition kind.Lemma x y) → IsElaborated c (proposition kind.Lemma x y) g s h names it → IsSoundAfter all ds goal
   lemma_kept q e =
       let lemma = proposition kind.Lemma x y in
       let p : IsProposition c kind.Lemma x y e.outcome = e.is in
@@ -191,7 +191,7 @@ module _ (c : Setting) (ds : List DeclarationTree) (d : source.Decl) (x : Called
       let f = of_said all ds own new (length vs) _ _ _ (e.decls ∙ p.decls) valid said.formula said.says in
       finish (front_kept c ds lemma g s h names it typed below e sound) at (distinct_at o) (at_types all ds own (length vs) said.formula sig at (count_at o) f)
 
-  pub proved_kept : (k : PropKind) → IsToProve k → declaration d ≡ Some (proposition k x y) → IsElaborated c (proposition k x y) g s h names it → IsSoundBehind all ds goal
+  pub proved_kept : (k : PropKind) → IsToProve k → declaration d ≡ Some (proposition k x y) → IsElaborated c (proposition k x y) g s h names it → IsSoundAfter all ds goal
   proved_kept kind.Goal t q e = goal_kept q e
   proved_kept kind.Lemma t q e = lemma_kept q e
   proved_kept kind.Axiom t q e = absurd t

@@ -38,7 +38,7 @@ pub record IsQuotedAt (symbols : List SymbolTree) (k : ℕ) : Type 0 where
   pub quoted : IsQuoted name
   pub entry : slice_get symbols k ≡ Some (rigid_symbol name)
 
--- a goal behind declarations
+-- a goal after declarations
 pub record IsSoundGoal (symbols : List SymbolTree) (ds : List DeclarationTree) (g : GoalTree) : Type 0 where
   pub rigid : All (IsQuotedAt symbols) g.rigid
   pub once : AllPairs (λ j k. j ≢ k) g.rigid
@@ -56,7 +56,7 @@ pub record IsGoalSaid (said : List DeclarationTree) (own : List ℕ) (g : GoalTr
   pub prop : g.prop ≡ inst_types formula (rigid_types own)
   pub rigid : g.rigid ≡ own
 
--- a goal stands behind sound declarations, and is well formed
-pub record IsSoundBehind (symbols : List SymbolTree) (ds : List DeclarationTree) (g : GoalTree) : Type 0 where
+-- a goal stands after sound declarations, and is well formed
+pub record IsSoundAfter (symbols : List SymbolTree) (ds : List DeclarationTree) (g : GoalTree) : Type 0 where
   pub before : AreSound symbols ds
   pub goal : IsSoundGoal symbols ds g

@@ -1,4 +1,4 @@
-//! The task of a goal behind declarations that are valid where they stand is valid; what this asks of
+//! The task of a goal after declarations that are valid where they stand is valid; what this asks of
 //! declarations, of goals and of the entries of tuples holds of what is elaborated, and of declarations
 //! joined to others.
 //! It depends on the definitions of elaboration and of the tasks of goals, and on no code of theirs.
@@ -34,7 +34,7 @@ ghost use Rattle.goal_tasks.specs.Tasks.{before, task_for};
 ghost use Rattle.valid_tasks.specs.Built.{IsBuiltRight};
 ghost use Rattle.valid_tasks.specs.Joined.{Agree, AreJoined};
 ghost use Rattle.valid_tasks.specs.Quoted.{IsQuotedLexeme};
-ghost use Rattle.valid_tasks.specs.Tasks.{AreSound, IsSoundGoal, IsToProve, IsGoalSaid, IsSoundBehind};
+ghost use Rattle.valid_tasks.specs.Tasks.{AreSound, IsSoundGoal, IsToProve, IsGoalSaid, IsSoundAfter};
 
 /// A law: in a signature with `int` alone what is built in is right.
 pub fn begins_built()
@@ -52,8 +52,8 @@ pub fn keeps_built()
 {}
 
 /// A law: where declarations are valid where they stand, make no symbol twice and none that is built
-/// in, and a goal behind them is well formed over what they make and its own type variables, its task
-/// is valid, which has these declarations behind those of the tuples that occur.
+/// in, and a goal after them is well formed over what they make and its own type variables, its task
+/// is valid, which has these declarations after those of the tuples that occur.
 pub fn tasks_valid()
     ensures { (all : TheoriesTree) (t : TheoryTree) (g : GoalTree)
         → AreSound all.symbols (before t g) → IsSoundGoal all.symbols (before t g) g
@@ -81,7 +81,7 @@ pub fn keeps_sound()
         → AreSound symbols (xs ++ ys) → AreSound symbols xs }
 {}
 
-/// A law: a goal or lemma that is elaborated behind sound declarations gives a goal that is sound behind
+/// A law: a goal or lemma that is elaborated after sound declarations gives a goal that is sound after
 /// them, where the names of its type variables have their quotes; it stays so with more entries.
 pub fn goals_sound()
     ensures goals { (c : Setting) (ds : List DeclarationTree) (d : Decl) (k : PropKind)
@@ -95,9 +95,9 @@ pub fn goals_sound()
         → HaveNoFault (symbols_at s h.symbols) (declarations_at s made.decls)
         → All IsQuoted (proposition_seen e).vars → AreSound c.symbols ds
         → IsGoalSaid (declarations_at s made.decls) made.rigid goal
-        → IsSoundBehind (symbols_at s h.symbols) ds goal }
+        → IsSoundAfter (symbols_at s h.symbols) ds goal }
     ensures entries { (xs ys : List SymbolTree) (ds : List DeclarationTree) (goal : GoalTree)
-        → IsSoundBehind xs ds goal → IsBuiltRight (xs ++ ys) → IsSoundBehind (xs ++ ys) ds goal }
+        → IsSoundAfter xs ds goal → IsBuiltRight (xs ++ ys) → IsSoundAfter (xs ++ ys) ds goal }
 {}
 
 /// A law: sound declarations with those of a theory that is used, each theory's once, are sound, where
