@@ -1,0 +1,54 @@
+-- The side conditions of a declaration: each match takes all values, and then the declarations pass their checks (Why3 manual, "pattern
+-- matching", "logical declarations"). The first match in reading order counts before any check.
+use Rattle.std.specs.Prelude.{◌≡◌, ◌⊎◌, ℕ, List, [], ◌∷◌, map, All, Result, Ok, Err}
+use Rattle.trees.specs.Tree.{Tree}
+use Rattle.trees.specs.Node.{Holds}
+use Rattle.tasks.specs.Task.{SymbolTree, BodyTree, DeclarationTree}
+use Rattle.tasks.specs.Meaning.{trees_at}
+use Rattle.match_cover.specs.Shapes.{IsPattern, HaveOneType, AreExhaustive}
+use Rattle.decl_checks.specs.Checks.{HasNoFault, HasFault}
+use Rattle.decl_checks.specs.declared.fault.CheckFault.{CheckFault}
+use Rattle.elab_walk.specs.declared.draft.MatchAt.{MatchAt}
+use Rattle.side_conditions.specs.declared.sides.SideFault.{SideFault}
+use Rattle.side_conditions.specs.declared.sides.SideFault.TheVariants.{Memory, NotExhaustive, Check}
+
+-- a match by its token, with its patterns
+abbrev pub IsCovered : List SymbolTree → ℕ × List Tree → Type 0
+IsCovered symbols m = AreExhaustive symbols m.1
+
+-- the first match that doesn't take all values has this token
+abbrev pub IsFirstOpen : List SymbolTree → List (ℕ × List Tree) → ℕ → Type 0
+IsFirstOpen symbols [] token = ⊥
+IsFirstOpen symbols (m ∷ ms) token = ((m.0 ≡ token) × (IsCovered symbols m → ⊥)) ⊎ (IsCovered symbols m × IsFirstOpen symbols ms token)
+
+-- the first declaration with a fault has this one
+abbrev pub IsFirstFault : List SymbolTree → List BodyTree → CheckFault → Type 0
+IsFirstFault symbols [] f = ⊥
+IsFirstFault symbols (b ∷ bs) f = HasFault symbols b f ⊎ (HasNoFault symbols b × IsFirstFault symbols bs f)
+
+abbrev pub IsSideFault : List SymbolTree → List (ℕ × List Tree) → List BodyTree → SideFault → Type 0
+IsSideFault symbols ms bs Memory = Unit {0}
+IsSideFault symbols ms bs (NotExhaustive token) = IsFirstOpen symbols ms token
+IsSideFault symbols ms bs (Check f) = All (IsCovered symbols) ms × IsFirstFault symbols bs f
+
+-- the patterns of a match are held, well typed and of one type
+pub record IsMatch (s : List Tree) (symbols : List SymbolTree) (m : MatchAt) : Type 0 where
+  pub held : All (Holds s) m.patterns
+  pub patterns : All (IsPattern symbols) (trees_at s m.patterns)
+  pub one_type : HaveOneType (trees_at s m.patterns)
+
+abbrev pub bodies : List DeclarationTree → List BodyTree
+bodies ds = map (λ (d : DeclarationTree). d.body) ds
+
+-- answers of the two halves
+abbrev pub MatchesAnswer : List SymbolTree → List (ℕ × List Tree) → Result Unit SideFault → Type 0
+MatchesAnswer symbols ms (Ok u) = All (IsCovered symbols) ms
+MatchesAnswer symbols ms (Err Memory) = Unit {0}
+MatchesAnswer symbols ms (Err (NotExhaustive token)) = IsFirstOpen symbols ms token
+MatchesAnswer symbols ms (Err (Check f)) = ⊥
+
+abbrev pub ChecksAnswer : List SymbolTree → List BodyTree → Result Unit SideFault → Type 0
+ChecksAnswer symbols bs (Ok u) = All (HasNoFault symbols) bs
+ChecksAnswer symbols bs (Err Memory) = Unit {0}
+ChecksAnswer symbols bs (Err (NotExhaustive token)) = ⊥
+ChecksAnswer symbols bs (Err (Check f)) = IsFirstFault symbols bs f
