@@ -1,4 +1,4 @@
-// The parts of goals, which the transformation of tr_split makes of the valid tasks of sources.
+// The parts of goals, which the transformations of tr_split and tr_split_goals make of the valid tasks of sources.
 // They depend on the sources; nothing depends on them.
 ghost use Rattle.tasks.specs.Meaning.{task_at, TaskHeld};
 ghost use Rattle.tasks.specs.Valid.{IsValid};
@@ -11,6 +11,7 @@ use std::process::Abort;
 use tasks::Task;
 use term_store::Store;
 use tr_split::Split;
+use tr_split_goals::Split as SplitEvery;
 
 const MEMORY: &str = "out of memory";
 
@@ -37,10 +38,16 @@ fn task(rt: &impl Abort, alloc: Global, store: &mut Store, goal: &str) -> Task
 }
 
 // Whether the parts of a goal are these, each in a task that declares the same.
-fn compare(rt: &impl Abort, alloc: Global, goal: &str, parts: &[&str]) {
+fn compare<T: Transform>(
+    rt: &impl Abort,
+    alloc: Global,
+    transformation: &T,
+    goal: &str,
+    parts: &[&str],
+) {
     let mut store = Store::new(alloc).expect(rt, MEMORY);
     let whole = task(rt, alloc, &mut store, goal);
-    let Ok(split) = Split.apply(alloc, &mut store, &whole) else {
+    let Ok(split) = transformation.apply(alloc, &mut store, &whole) else {
         panic!(rt; "refused")
     };
     assert_eq!(rt; split.len(), parts.len(), "{goal}");
@@ -54,6 +61,7 @@ fn compare(rt: &impl Abort, alloc: Global, goal: &str, parts: &[&str]) {
 #[test]
 fn goals_are_taken_apart(rt: HostRuntime) {
     for (goal, parts) in ROWS.iter() {
-        compare(&rt, rt.alloc(), goal, parts);
+        compare(&rt, rt.alloc(), &Split, goal, parts);
+        compare(&rt, rt.alloc(), &SplitEvery, goal, parts);
     }
 }

@@ -1,0 +1,297 @@
+-- How scripts are followed: line by line, over drafts that grow.
+use Rattle.std.proofs.Common.{◌≡◌, ℕ, zero, suc, ◌+◌, ◌≤◌, List, [], ◌∷◌, ◌++◌, map, length, slice_get, take, drop, All, Option, Some, None, refl, sym, ap, subst, ◌∙◌, append_assoc, arith}
+use Rattle.std.proofs.lemmas.List.{map-append, length-map, length-append}
+use Rattle.std.proofs.lemmas.List.Elements.{All-cons, All-nil}
+use Rattle.tasks.specs.Valid.{IsGroundFormula}
+use Rattle.trees.specs.declared.TermId.{TermId}
+use Rattle.trees.specs.Tree.{Tree}
+use Rattle.trees.specs.Node.{tree_at, Holds}
+use Rattle.tasks.specs.Task.{TaskTree, neg}
+use Rattle.tasks.specs.Meaning.{trees_at}
+use Rattle.rule_rows.specs.Trees.{RuleTree, RCut, RForall, RLetDef, RIfDef}
+use Rattle.rule_rows.specs.Forms.{negated, connected}
+use Rattle.rule_rows.specs.Rows.{Row, where_true, where_false}
+use Rattle.evidence.specs.Drafts.{DraftTree, Extends, Refutes, RefuteAll, AreFormulas}
+use Rattle.evidence.specs.Rules.{RefuteAdded}
+use Rattle.evidence.proofs.Rules.{refutes_later, some_map}
+use Rattle.evidence.proofs.Formulas.{same, formulas_later, formula_later, both_formulas}
+use Rattle.proof_scripts.specs.declared.line.Word.{Word}
+use Rattle.proof_scripts.specs.declared.line.Word.TheVariants as word
+use Rattle.proof_scripts.specs.declared.line.Formulas.{Formulas}
+use Rattle.proof_scripts.specs.declared.line.Line.{Line}
+use Rattle.proof_scripts.specs.declared.line.Line.TheVariants as line
+use Rattle.proof_scripts.specs.Scripts.{LineTree, GivenLine, RuleLine, HoldingLine, FailingLine, CutLine, word_rule, WordHeld, ids_of, added_ids, added_at, line_at, lines_at, LineHeld, LinesHeld, under, IsGiven, IsByRule, Follows, CanFollow}
+use Rattle.proof_scripts.specs.Derived.{Consumes, RefuteUnder}
+
+abbrev cut_line : Tree → LineTree
+cut_line a = CutLine a
+
+abbrev word_rule_cut : Tree → RuleTree
+word_rule_cut e = RCut e
+
+abbrev word_rule_forall : ℕ → Tree → RuleTree
+word_rule_forall i e = RForall i e
+
+abbrev word_rule_let : Tree → RuleTree
+word_rule_let e = RLetDef e
+
+abbrev word_rule_if : Tree → RuleTree
+word_rule_if e = RIfDef e
+
+map_drop : {A B : Type 0} (f : A → B) (n : ℕ) (xs : List A) → map f (drop n xs) ≡ drop n (map f xs)
+map_drop f zero xs = refl
+map_drop f (suc n) [] = refl
+map_drop f (suc n) (x ∷ xs) = map_drop f n xs
+
+abbrev nothing_of : (A : Type 0) → List A
+nothing_of A = []
+
+drop_none : {A : Type 0} (n m : ℕ) → drop n (nothing_of A) ≡ drop m (nothing_of A)
+drop_none zero zero = refl
+drop_none zero (suc m) = refl
+drop_none (suc n) zero = refl
+drop_none (suc n) (suc m) = refl
+
+drop_drop : {A : Type 0} (n m : ℕ) (xs : List A) → drop n (drop m xs) ≡ drop (m + n) xs
+drop_drop n zero xs = let e : 0 + n ≡ n = omega arith in ap (λ k. drop k xs) (sym e)
+drop_drop n (suc m) [] = drop_none n (suc m + n)
+drop_drop n (suc m) (x ∷ xs) = let e : suc m + n ≡ suc (m + n) = omega arith in drop_drop n m xs ∙ ap (λ k. drop k (x ∷ xs)) (sym e)
+
+-- ---- lists
+All-left : {A : Type 0} (P : A → Type 0) (xs ys : List A) → All P (xs ++ ys) → All P xs
+All-left P [] ys a = All-nil P
+All-left P (x ∷ xs) ys a = All-cons P x xs (a 0 x (omega arith)) (All-left P xs ys (λ k d l. a (suc k) d (omega arith)))
+
+All-right : {A : Type 0} (P : A → Type 0) (xs ys : List A) → All P (xs ++ ys) → All P ys
+All-right P [] ys a = a
+All-right P (x ∷ xs) ys a = All-right P xs ys (λ k d l. a (suc k) d (omega arith))
+
+take_drop : {A : Type 0} (n : ℕ) (xs : List A) → take n xs ++ drop n xs ≡ xs
+take_drop zero xs = refl
+take_drop (suc n) [] = refl
+take_drop (suc n) (x ∷ xs) = ap (λ z. x ∷ z) (take_drop n xs)
+
+lines_dropped : (s : List Tree) (ls behind : List Line) (m : ℕ) → behind ≡ drop m ls → drop m (lines_at s ls) ≡ lines_at s behind
+lines_dropped s ls behind m q = sym (map_drop (line_at s) m ls) ∙ ap (lines_at s) (sym q)
+
+-- ---- over a draft that has grown
+module _ (d d1 : DraftTree) (x : Extends d d1) where
+  given_later : (f t : List Tree) (k n : ℕ) → IsGiven d f t k n → IsGiven d1 f t k n
+  given_later f t k n g = record { before = g.before; last = g.last; is = g.is; as_many = g.as_many; refutes = refutes_later d d1 x k _ g.refutes }
+
+  by_rule_later : (s : List Tree) (r : RuleTree) (added : List (List Tree)) → IsByRule d.task s r added → IsByRule d1.task s r added
+  by_rule_later s r added g = subst (λ (t : TaskTree). IsByRule t s r added) (sym x.task) g
+
+  pub follows_later : (f : List Tree) (ls : List LineTree) (ts : List (List Tree)) → Follows d f ls ts → Follows d1 f ls ts
+  follows_later f [] [] h = tt
+  follows_later f [] (t ∷ ts) h = h
+  follows_later f (GivenLine k n ∷ ls) [] h = h
+  follows_later f (RuleLine r a b ∷ ls) [] h = h
+  follows_later f (HoldingLine op i ∷ ls) [] h = h
+  follows_later f (FailingLine op i ∷ ls) [] h = h
+  follows_later f (CutLine a ∷ ls) [] h = h
+  follows_later f (GivenLine k n ∷ ls) (t ∷ ts) h = (given_later f t k n h.0, follows_later f ls ts h.1)
+  follows_later f (RuleLine r a b ∷ ls) (t ∷ ts) h = (by_rule_later (f ++ t) r (a ++ b) h.0, follows_later f ls (under t a ++ (under t b ++ ts)) h.1)
+  follows_later f (HoldingLine op i ∷ ls) (t ∷ ts) h =
+      some_map (connected (slice_get t i)) _ _ (λ p z. (z.0, follows_later f ls (under t (where_true op p.1 p.2) ++ ts) z.1)) h
+  follows_later f (FailingLine op i ∷ ls) (t ∷ ts) h =
+      some_map (connected (negated (slice_get t i))) _ _ (λ p z. (z.0, follows_later f ls (under t (where_false op p.1 p.2) ++ ts) z.1)) h
+  follows_later f (CutLine a ∷ ls) (t ∷ ts) h = follows_later f ls (under t ((a ∷ []) ∷ (neg a ∷ []) ∷ []) ++ ts) h
+
+  held_later : (id : TermId) → Holds d.trees id → Holds d1.trees id
+  held_later id h = omega (arith, h, x.trees.longer)
+
+  pub word_later : (w : Word) → WordHeld d.trees w → WordHeld d1.trees w
+  word_later (word.NotTrue i) h = tt
+  word_later (word.Clash i j) h = tt
+  word_later (word.Holding op i) h = tt
+  word_later (word.Failing op i) h = tt
+  word_later (word.Cut a) h = held_later a h
+  word_later (word.Forall i t) h = held_later t h
+  word_later (word.NotForall i n) h = tt
+  word_later (word.LetDef e) h = held_later e h
+  word_later (word.IfDef e) h = held_later e h
+
+  pub word_same : (w : Word) → WordHeld d.trees w → word_rule d1.trees w ≡ word_rule d.trees w
+  word_same (word.NotTrue i) h = refl
+  word_same (word.Clash i j) h = refl
+  word_same (word.Holding op i) h = refl
+  word_same (word.Failing op i) h = refl
+  word_same (word.Cut a) h = ap (λ e. word_rule_cut e) (x.trees.same a.0 h)
+  word_same (word.Forall i t) h = ap (λ e. word_rule_forall i e) (x.trees.same t.0 h)
+  word_same (word.NotForall i n) h = refl
+  word_same (word.LetDef e) h = ap (λ z. word_rule_let z) (x.trees.same e.0 h)
+  word_same (word.IfDef e) h = ap (λ z. word_rule_if z) (x.trees.same e.0 h)
+
+  pub added_later : (fs : Option Formulas) → All (AreFormulas d) (added_ids fs) → All (AreFormulas d1) (added_ids fs)
+  added_later None a = All-nil (AreFormulas d1)
+  added_later (Some fs) a = All-cons (AreFormulas d1) (ids_of fs) [] (formulas_later d d1 x (ids_of fs) (a 0 [] (omega arith))) (All-nil (AreFormulas d1))
+
+  pub added_same : (fs : Option Formulas) → All (AreFormulas d) (added_ids fs) → added_at d1.trees fs ≡ added_at d.trees fs
+  added_same None a = refl
+  added_same (Some fs) a = ap (λ (z : List Tree). z ∷ []) (same d d1 x (ids_of fs) (a 0 [] (omega arith)))
+
+  line_later : (l : Line) → LineHeld d l → LineHeld d1 l
+  line_later (line.Given k n) h = tt
+  line_later (line.Holding op i) h = tt
+  line_later (line.Failing op i) h = tt
+  line_later (line.Cut a) h = formula_later d d1 x a h
+  line_later (line.By w a b) h = (word_later w h.0, added_later a h.1, added_later b h.2)
+
+  line_same : (l : Line) → LineHeld d l → line_at d1.trees l ≡ line_at d.trees l
+  line_same (line.Given k n) h = refl
+  line_same (line.Holding op i) h = refl
+  line_same (line.Failing op i) h = refl
+  line_same (line.Cut a) h = ap cut_line (x.trees.same a.0 h.held)
+  line_same (line.By w a b) h = cc (word_same w h.0, added_same a h.1, added_same b h.2)
+
+  pub lines_later : (ls : List Line) → LinesHeld d ls → LinesHeld d1 ls
+  lines_later ls h = λ k z l. line_later _ (h k z l)
+
+  pub lines_same : (ls : List Line) → LinesHeld d ls → lines_at d1.trees ls ≡ lines_at d.trees ls
+  lines_same [] h = refl
+  lines_same (l ∷ ls) h = cc (line_same l (h 0 l (omega arith)), lines_same ls (λ k z q. h (suc k) z (omega arith)))
+
+  pub refute_later : (ks : List ℕ) (qs : List (List Tree)) → RefuteAll d ks qs → RefuteAll d1 ks qs
+  refute_later [] [] r = tt
+  refute_later [] (q ∷ qs) r = absurd r
+  refute_later (k ∷ ks) [] r = absurd r
+  refute_later (k ∷ ks) (q ∷ qs) r = (refutes_later d d1 x k q r.0, refute_later ks qs r.1)
+
+-- ---- the first line
+module _ (d : DraftTree) (f t : List Tree) (ts : List (List Tree)) (s : List Tree) (ls rest : List Line) (l : Line) (q : ls ≡ l ∷ rest) where
+  opened : Follows d f (lines_at s ls) (t ∷ ts) → Follows d f (line_at s l ∷ lines_at s rest) (t ∷ ts)
+  opened h = subst (λ (z : List Line). Follows d f (lines_at s z) (t ∷ ts)) q h
+
+  pub line_here : (m : Line) → l ≡ m → Follows d f (lines_at s ls) (t ∷ ts) → Follows d f (line_at s m ∷ lines_at s rest) (t ∷ ts)
+  line_here m e h = subst (λ (z : Line). Follows d f (line_at s z ∷ lines_at s rest) (t ∷ ts)) e (opened h)
+
+  pub given_here : (k n : ℕ) → l ≡ line.Given k n → Follows d f (lines_at s ls) (t ∷ ts) → IsGiven d f t k n × Follows d f (lines_at s rest) ts
+  given_here k n e h = subst (λ (z : Line). Follows d f (line_at s z ∷ lines_at s rest) (t ∷ ts)) e (opened h)
+
+  pub rule_here : (w : Word) (a b : Option Formulas) → l ≡ line.By w a b → Follows d f (lines_at s ls) (t ∷ ts)
+      → IsByRule d.task (f ++ t) (word_rule s w) (added_at s a ++ added_at s b) × Follows d f (lines_at s rest) ((under t (added_at s a) ++ under t (added_at s b)) ++ ts)
+  rule_here w a b e h =
+      let o : Follows d f (RuleLine (word_rule s w) (added_at s a) (added_at s b) ∷ lines_at s rest) (t ∷ ts) = subst (λ (z : Line). Follows d f (line_at s z ∷ lines_at s rest) (t ∷ ts)) e (opened h) in
+      (o.0, subst (Follows d f (lines_at s rest)) (sym (append_assoc (under t (added_at s a)) (under t (added_at s b)) ts)) o.1)
+
+  pub first_held : LinesHeld d ls → LineHeld d l
+  first_held h = subst (LinesHeld d) q h 0 l (omega arith)
+
+  pub rest_held : LinesHeld d ls → LinesHeld d rest
+  rest_held h = λ k z m. subst (LinesHeld d) q h (suc k) z (omega arith)
+
+  drop_lines : (n : ℕ) → drop (suc n) (lines_at s ls) ≡ drop n (lines_at s rest)
+  drop_lines n = ap (λ (z : List Line). drop (suc n) (lines_at s z)) q
+
+-- one line is used, and others after it
+pub consumes_more : (f t : List Tree) (s : List Tree) (ls rest : List Line) (l : Line) (q : ls ≡ l ∷ rest) (n : ℕ) (us : List (List Tree))
+    → ((d : DraftTree) (r : List (List Tree)) → Follows d f (lines_at s ls) (t ∷ r) → Follows d f (lines_at s rest) (us ++ r)) → Consumes f (lines_at s rest) us n → Consumes f (lines_at s ls) (t ∷ []) (suc n)
+consumes_more f t s ls rest l q n us step c =
+    let e : drop (suc n) (lines_at s ls) ≡ drop n (lines_at s rest) = ap (λ (z : List Line). drop (suc n) (lines_at s z)) q in
+    record { left = λ d r h. subst (λ (z : List LineTree). Follows d f z r) (sym e) (c.left d r (step d r h)) }
+
+-- nothing is used
+pub consumes_none : (f : List Tree) (ls : List LineTree) → Consumes f ls [] 0
+consumes_none f ls = record { left = λ d r h. h }
+
+-- one and then the other
+pub consumes_both : (f : List Tree) (s : List Tree) (ls behind : List Line) (ts us : List (List Tree)) (m n : ℕ) → behind ≡ drop m ls → Consumes f (lines_at s ls) ts m
+    → Consumes f (lines_at s behind) us n → Consumes f (lines_at s ls) (ts ++ us) (m + n)
+consumes_both f s ls behind ts us m n q a b = record {
+  left = λ d r h.
+      let first : Follows d f (drop m (lines_at s ls)) (us ++ r) = a.left d (us ++ r) (subst (Follows d f (lines_at s ls)) (append_assoc ts us r) h) in
+      let moved : drop m (lines_at s ls) ≡ lines_at s behind = lines_dropped s ls behind m q in
+      let second : Follows d f (drop n (lines_at s behind)) r = b.left d r (subst (λ (z : List LineTree). Follows d f z (us ++ r)) moved first) in
+      subst (λ (z : List LineTree). Follows d f z r) (ap (drop n) (sym moved) ∙ drop_drop n m (lines_at s ls)) second;
+}
+
+-- what is left for a second premise
+pub second_follows : (d : DraftTree) (f : List Tree) (s : List Tree) (ls behind : List Line) (ts us : List (List Tree)) (m : ℕ) → behind ≡ drop m ls → Consumes f (lines_at s ls) ts m
+    → (c : CanFollow d f (lines_at s ls) (ts ++ us)) → Follows d f (lines_at s behind) (us ++ c.rest)
+second_follows d f s ls behind ts us m q a c =
+    subst (λ (z : List LineTree). Follows d f z (us ++ c.rest)) (lines_dropped s ls behind m q) (a.left d (us ++ c.rest) (subst (Follows d f (lines_at s ls)) (append_assoc ts us c.rest) c.follows))
+
+pub behind_held : (d : DraftTree) (ls behind : List Line) (m : ℕ) → behind ≡ drop m ls → LinesHeld d ls → LinesHeld d behind
+behind_held d ls behind m q h = subst (LinesHeld d) (sym q) (All-right (LineHeld d) (take m ls) (drop m ls) (subst (LinesHeld d) (sym (take_drop m ls)) h))
+
+-- ---- the tail with what a premise adds
+module _ (d : DraftTree) (front tail w ids : List TermId) (e : w ≡ tail ++ ids) where
+  wider_trees : trees_at d.trees w ≡ trees_at d.trees tail ++ trees_at d.trees ids
+  wider_trees = ap (trees_at d.trees) e ∙ map-append (tree_at d.trees) tail ids
+
+  pub wider_formulas : AreFormulas d tail → AreFormulas d ids → AreFormulas d w
+  wider_formulas t a = both_formulas d tail ids w e t a
+
+  pub wider_follows : (f : List Tree) (ls : List LineTree) → CanFollow d f ls ((trees_at d.trees tail ++ trees_at d.trees ids) ∷ []) → CanFollow d f ls (trees_at d.trees w ∷ [])
+  wider_follows f ls c = subst (λ (t : List Tree). CanFollow d f ls (t ∷ [])) (sym wider_trees) c
+
+  pub wider_consumes : (f : List Tree) (ls : List LineTree) (n : ℕ) → Consumes f ls (trees_at d.trees w ∷ []) n → Consumes f ls ((trees_at d.trees tail ++ trees_at d.trees ids) ∷ []) n
+  wider_consumes f ls n c = subst (λ (t : List Tree). Consumes f ls (t ∷ []) n) wider_trees c
+
+  pub wider_refute : (d1 : DraftTree) (f : List Tree) (k : ℕ) (old new : List ℕ) → new ≡ old ++ k ∷ [] → Refutes d1 k (f ++ trees_at d.trees w) → RefuteUnder d1 old new f ((trees_at d.trees tail ++ trees_at d.trees ids) ∷ [])
+  wider_refute d1 f k old new p r = record {
+    more = k ∷ [];
+    is = p;
+    refute = (subst (λ (t : List Tree). Refutes d1 k (f ++ t)) wider_trees r, tt);
+  }
+
+-- ---- what a rule needs
+refute_both : (d : DraftTree) (ks js : List ℕ) (ps qs : List (List Tree)) → RefuteAll d ks ps → RefuteAll d js qs → RefuteAll d (ks ++ js) (ps ++ qs)
+refute_both d [] js [] qs r s = s
+refute_both d [] js (p ∷ ps) qs r s = absurd r
+refute_both d (k ∷ ks) js [] qs r s = absurd r
+refute_both d (k ∷ ks) js (p ∷ ps) qs r s = (r.0, refute_both d ks js ps qs r.1 s)
+
+behind_front : (f t : List Tree) (added : List (List Tree)) → map (λ x. f ++ x) (under t added) ≡ under (f ++ t) added
+behind_front f t [] = refl
+behind_front f t (a ∷ added) = let e : f ++ (t ++ a) ≡ (f ++ t) ++ a = sym (append_assoc f t a) in cc (e, behind_front f t added)
+
+pub rule_added : (d d1 d2 : DraftTree) (x : Extends d1 d2) (f t : List Tree) (r : RuleTree) (a b : List (List Tree)) (none one two : List ℕ) → d2.task ≡ d.task → none ≡ [] → IsByRule d.task (f ++ t) r (a ++ b)
+    → RefuteUnder d1 none one f (under t a) → RefuteUnder d2 one two f (under t b) → RefuteAdded d2 (f ++ t) r two
+rule_added d d1 d2 x f t r a b none one two k n g u v =
+    let all : two ≡ u.more ++ v.more = v.is ∙ ap (λ z. z ++ v.more) (u.is ∙ ap (λ z. z ++ u.more) n) in
+    let first : RefuteAll d2 u.more (under (f ++ t) a) = subst (RefuteAll d2 u.more) (behind_front f t a) (refute_later d1 d2 x u.more _ u.refute) in
+    let second : RefuteAll d2 v.more (under (f ++ t) b) = subst (RefuteAll d2 v.more) (behind_front f t b) v.refute in
+    let both : under (f ++ t) a ++ under (f ++ t) b ≡ under (f ++ t) (a ++ b) = sym (map-append (λ x. (f ++ t) ++ x) a b) in
+    record {
+      sequents = under (f ++ t) (a ++ b);
+      refuted = subst (λ (ks : List ℕ). RefuteAll d2 ks (under (f ++ t) (a ++ b))) (sym all) (subst (RefuteAll d2 (u.more ++ v.more)) both (refute_both d2 u.more v.more _ _ first second));
+      row = subst (λ (z : TaskTree). Row z (f ++ t) r (under (f ++ t) (a ++ b))) (sym k) g.row;
+    }
+
+-- ---- the end of the tail
+module _ (d : DraftTree) (f : List Tree) (tail before last : List TermId) (k n at : ℕ) (g : IsGiven d f (trees_at d.trees tail) k n) where
+  pub given_count : n ≤ length tail
+  given_count = omega (arith, g.as_many, ap length g.is, length-append g.before g.last, length-map tail (tree_at d.trees))
+
+  same_back : (xs ys us vs : List Tree) → xs ++ ys ≡ us ++ vs → length ys ≡ length vs → ys ≡ vs
+  same_back [] ys [] vs e q = e
+  same_back [] ys (u ∷ us) vs e q = absurd (omega (arith, ap length e, length-append (u ∷ us) vs, q))
+  same_back (x ∷ xs) ys [] vs e q = absurd (omega (arith, ap length e, length-append (x ∷ xs) ys, q))
+  same_back (x ∷ xs) ys (u ∷ us) vs e q = same_back xs ys us vs (ap (drop 1) e) q
+
+  pub given_last : tail ≡ before ++ last → length last ≡ n → Refutes d k (f ++ trees_at d.trees last)
+  given_last e q =
+      let whole : trees_at d.trees before ++ trees_at d.trees last ≡ g.before ++ g.last = sym (ap (trees_at d.trees) e ∙ map-append (tree_at d.trees) before last) ∙ g.is in
+      let same : trees_at d.trees last ≡ g.last = same_back (trees_at d.trees before) (trees_at d.trees last) g.before g.last whole (omega (arith, g.as_many, q, length-map last (tree_at d.trees))) in
+      subst (λ (t : List Tree). Refutes d k (f ++ t)) (sym same) g.refutes
+
+-- ---- a list in two parts
+pub split_is : (ids before last : List TermId) (n : ℕ) → before ≡ take n ids → last ≡ drop n ids → ids ≡ before ++ last
+split_is ids before last n e q = sym (ap (λ (z : List TermId). z ++ last) e ∙ ap (λ (z : List TermId). take n ids ++ z) q ∙ take_drop n ids)
+
+formulas_by : (d : DraftTree) (xs ys ids : List TermId) → ids ≡ xs ++ ys → AreFormulas d ids → AreFormulas d xs × AreFormulas d ys
+formulas_by d xs ys ids e f =
+    let g : AreFormulas d (xs ++ ys) = subst (AreFormulas d) e f in
+    let t : trees_at d.trees (xs ++ ys) ≡ trees_at d.trees xs ++ trees_at d.trees ys = map-append (tree_at d.trees) xs ys in
+    let ground : All (IsGroundFormula d.task) (trees_at d.trees xs ++ trees_at d.trees ys) = subst (All (IsGroundFormula d.task)) t g.ground in (
+      record { held = All-left (Holds d.trees) xs ys g.held; ground = All-left (IsGroundFormula d.task) (trees_at d.trees xs) (trees_at d.trees ys) ground },
+      record { held = All-right (Holds d.trees) xs ys g.held; ground = All-right (IsGroundFormula d.task) (trees_at d.trees xs) (trees_at d.trees ys) ground },
+    )
+
+pub front_formulas : (d : DraftTree) (ids before : List TermId) (n : ℕ) → before ≡ take n ids → AreFormulas d ids → AreFormulas d before
+front_formulas d ids before n e f = (formulas_by d before (drop n ids) ids (split_is ids before (drop n ids) n e refl) f).0
+
+pub back_formulas : (d : DraftTree) (ids last : List TermId) (n : ℕ) → last ≡ drop n ids → AreFormulas d ids → AreFormulas d last
+back_formulas d ids last n e f = (formulas_by d (take n ids) last ids (split_is ids (take n ids) last n refl e) f).1

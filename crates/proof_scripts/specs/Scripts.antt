@@ -1,0 +1,114 @@
+-- Scripts of derivations: a list of lines, each of which says by what rule a sequent is refuted and which formulas each premise adds
+-- to it. The lines come in the order in which the sequents open: a premise's lines follow its step's line.
+use Rattle.std.specs.Prelude.{◌≡◌, ℕ, List, [], ◌∷◌, ◌++◌, map, length, slice_get, All, Option, Some, None, IsSomeAnd}
+use Rattle.trees.specs.declared.TermId.{TermId}
+use Rattle.trees.specs.Tree.{Tree}
+use Rattle.trees.specs.Node.{tree_at, Holds}
+use Rattle.trees.specs.declared.Op.{Op}
+use Rattle.tasks.specs.Task.{TaskTree, neg}
+use Rattle.tasks.specs.Meaning.{trees_at}
+use Rattle.rule_rows.specs.Trees.{RuleTree, RNotTrue, RClash, RCut, RForall, RNotForall, RLetDef, RIfDef}
+use Rattle.rule_rows.specs.Forms.{negated, connected}
+use Rattle.rule_rows.specs.Rows.{Row, where_true, where_false}
+use Rattle.evidence.specs.Drafts.{DraftTree, Refutes, AreFormulas, IsFormulaAt}
+use Rattle.evidence.specs.Rules.{NamesOwn, holding_rule, failing_rule}
+use Rattle.proof_scripts.specs.declared.line.Word.{Word}
+use Rattle.proof_scripts.specs.declared.line.Word.TheVariants as word
+use Rattle.proof_scripts.specs.declared.line.Formulas.{Formulas}
+use Rattle.proof_scripts.specs.declared.line.Formulas.TheVariants as formulas
+use Rattle.proof_scripts.specs.declared.line.Line.{Line}
+use Rattle.proof_scripts.specs.declared.line.Line.TheVariants as line
+
+-- a line in trees: an earlier step that refutes the front and so many formulas at the end; a rule, with the formulas that each
+-- premise adds, in two lists of at most one premise; the rule on a connective, or on its negation, at a place of the tail; a cut
+pub data LineTree : Type 0 where
+  GivenLine : (step count : ℕ) → LineTree
+  RuleLine : (rule : RuleTree) → (first second : List (List Tree)) → LineTree
+  HoldingLine : (op : Op) → (place : ℕ) → LineTree
+  FailingLine : (op : Op) → (place : ℕ) → LineTree
+  CutLine : (formula : Tree) → LineTree
+
+-- the rule that a word names
+abbrev pub word_rule : List Tree → Word → RuleTree
+word_rule s (word.NotTrue i) = RNotTrue i
+word_rule s (word.Clash i j) = RClash i j
+word_rule s (word.Holding op i) = holding_rule op i
+word_rule s (word.Failing op i) = failing_rule op i
+word_rule s (word.Cut a) = RCut (tree_at s a)
+word_rule s (word.Forall i t) = RForall i (tree_at s t)
+word_rule s (word.NotForall i n) = RNotForall i n
+word_rule s (word.LetDef e) = RLetDef (tree_at s e)
+word_rule s (word.IfDef e) = RIfDef (tree_at s e)
+
+abbrev pub WordHeld : List Tree → Word → Type 0
+WordHeld s (word.Cut a) = Holds s a
+WordHeld s (word.Forall i t) = Holds s t
+WordHeld s (word.LetDef e) = Holds s e
+WordHeld s (word.IfDef e) = Holds s e
+WordHeld s _ = Unit {0}
+
+abbrev pub ids_of : Formulas → List TermId
+ids_of (formulas.One a) = a ∷ []
+ids_of (formulas.Two a b) = a ∷ b ∷ []
+
+-- the formulas that a premise adds, where there is one
+abbrev pub added_ids : Option Formulas → List (List TermId)
+added_ids None = []
+added_ids (Some fs) = ids_of fs ∷ []
+
+abbrev pub added_at : List Tree → Option Formulas → List (List Tree)
+added_at s fs = map (trees_at s) (added_ids fs)
+
+abbrev pub line_at : List Tree → Line → LineTree
+line_at s (line.Given k n) = GivenLine k n
+line_at s (line.By w a b) = RuleLine (word_rule s w) (added_at s a) (added_at s b)
+line_at s (line.Holding op i) = HoldingLine op i
+line_at s (line.Failing op i) = FailingLine op i
+line_at s (line.Cut a) = CutLine (tree_at s a)
+
+abbrev pub lines_at : List Tree → List Line → List LineTree
+lines_at s ls = map (line_at s) ls
+
+-- the numbers of a line are those of formulas and trees of the draft
+abbrev pub LineHeld : DraftTree → Line → Type 0
+LineHeld d (line.Given k n) = Unit {0}
+LineHeld d (line.By w a b) = WordHeld d.trees w × All (AreFormulas d) (added_ids a) × All (AreFormulas d) (added_ids b)
+LineHeld d (line.Holding op i) = Unit {0}
+LineHeld d (line.Failing op i) = Unit {0}
+LineHeld d (line.Cut a) = IsFormulaAt d a
+
+abbrev pub LinesHeld : DraftTree → List Line → Type 0
+LinesHeld d ls = All (LineHeld d) ls
+
+-- a sequent with the formulas of each premise after it
+abbrev pub under : List Tree → List (List Tree) → List (List Tree)
+under t added = map (λ x. t ++ x) added
+
+-- the step refutes the front and so many formulas at the end of the tail
+pub record IsGiven (d : DraftTree) (f t : List Tree) (k n : ℕ) : Type 0 where
+  pub before : List Tree
+  pub last : List Tree
+  pub is : t ≡ before ++ last
+  pub as_many : length last ≡ n
+  pub refutes : Refutes d k (f ++ last)
+
+-- the rule refutes the sequent where each premise with these formulas is refuted
+pub record IsByRule (t : TaskTree) (s : List Tree) (r : RuleTree) (added : List (List Tree)) : Type 0 where
+  pub names : NamesOwn t r
+  pub row : Row t s r (under s added)
+
+-- The lines refute the front with each of these tails, one after the other.
+abbrev pub Follows : DraftTree → List Tree → List LineTree → List (List Tree) → Type 0
+Follows d f [] [] = Unit {0}
+Follows d f [] (t ∷ ts) = ⊥
+Follows d f (l ∷ ls) [] = ⊥
+Follows d f (GivenLine k n ∷ ls) (t ∷ ts) = IsGiven d f t k n × Follows d f ls ts
+Follows d f (RuleLine r a b ∷ ls) (t ∷ ts) = IsByRule d.task (f ++ t) r (a ++ b) × Follows d f ls (under t a ++ (under t b ++ ts))
+Follows d f (HoldingLine op i ∷ ls) (t ∷ ts) = IsSomeAnd (connected (slice_get t i)) (λ p. (p.0 ≡ op) × Follows d f ls (under t (where_true op p.1 p.2) ++ ts))
+Follows d f (FailingLine op i ∷ ls) (t ∷ ts) = IsSomeAnd (connected (negated (slice_get t i))) (λ p. (p.0 ≡ op) × Follows d f ls (under t (where_false op p.1 p.2) ++ ts))
+Follows d f (CutLine a ∷ ls) (t ∷ ts) = Follows d f ls (under t ((a ∷ []) ∷ (neg a ∷ []) ∷ []) ++ ts)
+
+-- they refute these, and others after them
+pub record CanFollow (d : DraftTree) (f : List Tree) (ls : List LineTree) (ts : List (List Tree)) : Type 0 where
+  pub rest : List (List Tree)
+  pub follows : Follows d f ls (ts ++ rest)

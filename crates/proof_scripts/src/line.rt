@@ -1,0 +1,117 @@
+// Lines of scripts.
+ghost use Rattle.std.specs.Prelude.{◌≡◌, ◌++◌, List, IfOk};
+ghost use Rattle.trees.specs.Tree.{Tree};
+ghost use Rattle.rule_rows.specs.Meaning.{rule_at, RuleHeld};
+ghost use Rattle.evidence.specs.Rules.{holding_rule, failing_rule};
+ghost use Rattle.proof_scripts.specs.Scripts.{word_rule, WordHeld, ids_of};
+
+use rule_rows::Rule;
+use std::alloc::{AllocError, Global};
+use trees::{Op, TermId};
+
+/// A rule with its places in the whole sequent and its trees. `Holding` takes a connective apart, `Failing` its negation.
+#[derive(Clone, Copy)]
+pub enum Word {
+    NotTrue(usize),
+    Clash(usize, usize),
+    Holding(Op, usize),
+    Failing(Op, usize),
+    Cut(TermId),
+    Forall(usize, TermId),
+    NotForall(usize, usize),
+    LetDef(TermId),
+    IfDef(TermId),
+}
+
+/// The formulas that a premise adds.
+#[derive(Clone, Copy)]
+pub enum Formulas {
+    One(TermId),
+    Two(TermId, TermId),
+}
+
+/// A line: an earlier step that refutes the front and so many formulas at the end of the tail; a rule, with what each of its premises
+/// adds, of which it has at most two; or a rule on a connective, or on its negation, at a place of the tail, or a cut, whose premises
+/// add what the rule says.
+#[derive(Clone, Copy)]
+pub enum Line {
+    Given(usize, usize),
+    By(Word, Option<Formulas>, Option<Formulas>),
+    Holding(Op, usize),
+    Failing(Op, usize),
+    Cut(TermId),
+}
+
+/// What the premises of a rule add.
+#[derive(Clone, Copy)]
+pub(crate) struct Sides {
+    pub first: Option<Formulas>,
+    pub second: Option<Formulas>,
+}
+
+// The rule that takes a connective apart.
+fn holding(op: Op, place: usize) -> Rule
+    ensures tree { (s : List Tree) → rule_at s result ≡ holding_rule op place }
+    ensures held { (s : List Tree) → RuleHeld s result }
+{
+    match op {
+        Op::And => Rule::And(place),
+        Op::AndThen => Rule::AndThen(place),
+        Op::Or => Rule::Or(place),
+        Op::OrElse => Rule::OrElse(place),
+        Op::Imp => Rule::Imp(place),
+        Op::Iff => Rule::Iff(place),
+    }
+}
+
+// The rule that takes the negation of a connective apart.
+fn failing(op: Op, place: usize) -> Rule
+    ensures tree { (s : List Tree) → rule_at s result ≡ failing_rule op place }
+    ensures held { (s : List Tree) → RuleHeld s result }
+{
+    match op {
+        Op::And => Rule::NotAnd(place),
+        Op::AndThen => Rule::NotAndThen(place),
+        Op::Or => Rule::NotOr(place),
+        Op::OrElse => Rule::NotOrElse(place),
+        Op::Imp => Rule::NotImp(place),
+        Op::Iff => Rule::NotIff(place),
+    }
+}
+
+// The rule of a word.
+pub(crate) fn rule_of(word: Word) -> Rule
+    ensures tree { (s : List Tree) → rule_at s result ≡ word_rule s word }
+    ensures held { (s : List Tree) → WordHeld s word → RuleHeld s result }
+{
+    match word {
+        Word::NotTrue(i) => Rule::NotTrue(i),
+        Word::Clash(i, j) => Rule::Clash(i, j),
+        Word::Holding(op, i) => holding(op, i),
+        Word::Failing(op, i) => failing(op, i),
+        Word::Cut(a) => Rule::Cut(a),
+        Word::Forall(i, t) => Rule::Forall(i, t),
+        Word::NotForall(i, n) => Rule::NotForall(i, n),
+        Word::LetDef(e) => Rule::LetDef(e),
+        Word::IfDef(e) => Rule::IfDef(e),
+    }
+}
+
+// The tail with the formulas that a premise adds.
+pub(crate) fn wider(
+    alloc: Global,
+    tail: &[TermId],
+    added: Formulas,
+) -> Result<Vec<TermId>, AllocError>
+    ensures { IfOk result (λ v. v.items ≡ tail.now ++ ids_of added) }
+{
+    let mut all = Vec::from_slice(alloc, tail)?;
+    match added {
+        Formulas::One(a) => all.push(a)?,
+        Formulas::Two(a, b) => {
+            all.push(a)?;
+            all.push(b)?;
+        }
+    }
+    Ok(all)
+}

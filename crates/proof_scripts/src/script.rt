@@ -1,0 +1,320 @@
+// Steps by the lines of a script.
+ghost use Rattle.std.specs.Prelude.{◌≡◌, ◌+◌, ◌<◌, ◌≤◌, ◌++◌, [], ◌∷◌, List, All, length, slice_get, IfOk};
+ghost use Rattle.trees.specs.Tree.{Tree};
+ghost use Rattle.trees.specs.Node.{tree_at};
+ghost use Rattle.tasks.specs.Task.{neg};
+ghost use Rattle.tasks.specs.Meaning.{trees_at};
+ghost use Rattle.evidence.specs.Drafts.{Extends, Refutes, RefuteAll, AreFormulas, IsFormulaAt};
+ghost use Rattle.proof_scripts.specs.Scripts.{word_rule, WordHeld, added_ids, added_at, under, lines_at, LinesHeld, IsByRule, IsGiven, Follows, CanFollow, HoldingLine, FailingLine, CutLine};
+ghost use Rattle.proof_scripts.specs.Derived.{Consumes, ConsumesBehind, RefuteUnder};
+
+use crate::line::{Formulas, Line, Word, rule_of, wider};
+use crate::sides::{negated, where_false, where_true};
+use evidence::{Draft, by_rule, keep_but, negation};
+use std::alloc::AllocError;
+use term_store::Grow;
+use trees::{Node, Op, TermId};
+
+// A step, and how many lines it took.
+#[derive(Clone, Copy)]
+pub(crate) struct Derived {
+    step: usize,
+    used: usize,
+}
+
+// By an earlier step that refutes the front and so many formulas at the end of the tail.
+fn by_given(
+    draft: &mut Draft,
+    front: &[TermId],
+    tail: &[TermId],
+    step: usize,
+    count: usize,
+) -> Result<usize, AllocError>
+    requires front { AreFormulas draft.old front.now }
+    requires tail { AreFormulas draft.old tail.now }
+    requires given { IsGiven draft.old (trees_at draft.old.trees front.now)
+        (trees_at draft.old.trees tail.now) step count }
+    ensures refutes { IfOk result (λ k. Refutes draft.new k
+        (trees_at draft.old.trees front.now ++ trees_at draft.old.trees tail.now)) }
+    ensures grows { Extends draft.old draft.new }
+{
+    let (before, last) = tail.split_at(tail.len() - count);
+    keep_but(draft, front, before, last, step)
+}
+
+// A step for the front and the tail by the first lines.
+#[cycle(walk)]
+fn walk(
+    draft: &mut Draft,
+    front: &[TermId],
+    tail: &[TermId],
+    lines: &[Line],
+) -> Result<Derived, AllocError>
+    requires front { AreFormulas draft.old front.now }
+    requires tail { AreFormulas draft.old tail.now }
+    requires lines { LinesHeld draft.old lines.now }
+    requires follow { CanFollow draft.old (trees_at draft.old.trees front.now)
+        (lines_at draft.old.trees lines.now) (trees_at draft.old.trees tail.now ∷ []) }
+    ensures refutes { IfOk result (λ r. Refutes draft.new r.step
+        (trees_at draft.old.trees front.now ++ trees_at draft.old.trees tail.now)) }
+    ensures used { IfOk result (λ r. Consumes (trees_at draft.old.trees front.now)
+        (lines_at draft.old.trees lines.now) (trees_at draft.old.trees tail.now ∷ []) r.used) }
+    ensures within { IfOk result (λ r. r.used ≤ length lines.now) }
+    ensures grows { Extends draft.old draft.new }
+{
+    match lines.split_first() {
+        Some((line, rest)) => match line {
+            Line::Given(step, count) => {
+                let made = by_given(draft, front, tail, *step, *count)?;
+                Ok(Derived {
+                    step: made,
+                    used: 1,
+                })
+            }
+            Line::By(word, first, second) => {
+                by_word(draft, front, tail, *word, *first, *second, rest)
+            }
+            Line::Holding(op, place) => by_holding(draft, front, tail, *op, *place, rest),
+            Line::Failing(op, place) => by_failing(draft, front, tail, *op, *place, rest),
+            Line::Cut(formula) => by_cut(draft, front, tail, *formula, rest),
+        },
+        None => Err(AllocError),
+    }
+}
+
+// The same by a rule, over the lines after it.
+#[cycle(walk)]
+fn by_word(
+    draft: &mut Draft,
+    front: &[TermId],
+    tail: &[TermId],
+    word: Word,
+    first: Option<Formulas>,
+    second: Option<Formulas>,
+    lines: &[Line],
+) -> Result<Derived, AllocError>
+    requires front { AreFormulas draft.old front.now }
+    requires tail { AreFormulas draft.old tail.now }
+    requires word { WordHeld draft.old.trees word }
+    requires first { All (AreFormulas draft.old) (added_ids first) }
+    requires second { All (AreFormulas draft.old) (added_ids second) }
+    requires lines { LinesHeld draft.old lines.now }
+    requires rule { IsByRule draft.old.task
+        (trees_at draft.old.trees front.now ++ trees_at draft.old.trees tail.now)
+        (word_rule draft.old.trees word)
+        (added_at draft.old.trees first ++ added_at draft.old.trees second) }
+    requires follow { CanFollow draft.old (trees_at draft.old.trees front.now)
+        (lines_at draft.old.trees lines.now)
+        (under (trees_at draft.old.trees tail.now) (added_at draft.old.trees first)
+        ++ under (trees_at draft.old.trees tail.now) (added_at draft.old.trees second)) }
+    ensures refutes { IfOk result (λ r. Refutes draft.new r.step
+        (trees_at draft.old.trees front.now ++ trees_at draft.old.trees tail.now)) }
+    ensures used { IfOk result (λ r. ConsumesBehind
+        (trees_at draft.old.trees front.now) (lines_at draft.old.trees lines.now)
+        (under (trees_at draft.old.trees tail.now) (added_at draft.old.trees first)
+        ++ under (trees_at draft.old.trees tail.now) (added_at draft.old.trees second)) r.used) }
+    ensures within { IfOk result (λ r. r.used ≤ length lines.now + 1) }
+    ensures grows { Extends draft.old draft.new }
+{
+    let mut premises = Vec::new(draft.allocator());
+    let one = premise(draft, front, tail, first, lines, &mut premises)?;
+    let (_, behind) = lines.split_at(one);
+    let two = premise(draft, front, tail, second, behind, &mut premises)?;
+    let step = by_rule(draft, front, tail, rule_of(word), &premises)?;
+    Ok(Derived {
+        step,
+        used: 1 + one + two,
+    })
+}
+
+// The same by the rule on a connective of the tail, at a place, over the lines after it.
+#[cycle(walk)]
+fn by_holding(
+    draft: &mut Draft,
+    front: &[TermId],
+    tail: &[TermId],
+    op: Op,
+    place: usize,
+    lines: &[Line],
+) -> Result<Derived, AllocError>
+    requires front { AreFormulas draft.old front.now }
+    requires tail { AreFormulas draft.old tail.now }
+    requires lines { LinesHeld draft.old lines.now }
+    requires follow { CanFollow draft.old (trees_at draft.old.trees front.now)
+        (HoldingLine op place ∷ lines_at draft.old.trees lines.now)
+        (trees_at draft.old.trees tail.now ∷ []) }
+    ensures refutes { IfOk result (λ r. Refutes draft.new r.step
+        (trees_at draft.old.trees front.now ++ trees_at draft.old.trees tail.now)) }
+    ensures used { IfOk result (λ r. Consumes (trees_at draft.old.trees front.now)
+        (HoldingLine op place ∷ lines_at draft.old.trees lines.now)
+        (trees_at draft.old.trees tail.now ∷ []) r.used) }
+    ensures within { IfOk result (λ r. r.used ≤ length lines.now + 1) }
+    ensures grows { Extends draft.old draft.new }
+{
+    match draft.store().node(tail[place]) {
+        Node::Join(_, a, b) => {
+            let both = negated(draft, a, b)?;
+            let sides = where_true(op, both);
+            let word = Word::Holding(op, front.len() + place);
+            by_word(draft, front, tail, word, sides.first, sides.second, lines)
+        }
+        _ => Err(AllocError),
+    }
+}
+
+// The same by the rule on the negation of a connective of the tail, at a place, over the lines after it.
+#[cycle(walk)]
+fn by_failing(
+    draft: &mut Draft,
+    front: &[TermId],
+    tail: &[TermId],
+    op: Op,
+    place: usize,
+    lines: &[Line],
+) -> Result<Derived, AllocError>
+    requires front { AreFormulas draft.old front.now }
+    requires tail { AreFormulas draft.old tail.now }
+    requires lines { LinesHeld draft.old lines.now }
+    requires follow { CanFollow draft.old (trees_at draft.old.trees front.now)
+        (FailingLine op place ∷ lines_at draft.old.trees lines.now)
+        (trees_at draft.old.trees tail.now ∷ []) }
+    ensures refutes { IfOk result (λ r. Refutes draft.new r.step
+        (trees_at draft.old.trees front.now ++ trees_at draft.old.trees tail.now)) }
+    ensures used { IfOk result (λ r. Consumes (trees_at draft.old.trees front.now)
+        (FailingLine op place ∷ lines_at draft.old.trees lines.now)
+        (trees_at draft.old.trees tail.now ∷ []) r.used) }
+    ensures within { IfOk result (λ r. r.used ≤ length lines.now + 1) }
+    ensures grows { Extends draft.old draft.new }
+{
+    match draft.store().node(tail[place]) {
+        Node::Not(whole) => by_failed(draft, front, tail, op, place, whole, lines),
+        _ => Err(AllocError),
+    }
+}
+
+// The same, where the formula that is negated is known.
+#[cycle(walk)]
+fn by_failed(
+    draft: &mut Draft,
+    front: &[TermId],
+    tail: &[TermId],
+    op: Op,
+    place: usize,
+    whole: TermId,
+    lines: &[Line],
+) -> Result<Derived, AllocError>
+    requires front { AreFormulas draft.old front.now }
+    requires tail { AreFormulas draft.old tail.now }
+    requires whole { IsFormulaAt draft.old whole }
+    requires there { slice_get (trees_at draft.old.trees tail.now) place
+        ≡ Some (neg (tree_at draft.old.trees whole)) }
+    requires within { place < length tail.now }
+    requires lines { LinesHeld draft.old lines.now }
+    requires follow { CanFollow draft.old (trees_at draft.old.trees front.now)
+        (FailingLine op place ∷ lines_at draft.old.trees lines.now)
+        (trees_at draft.old.trees tail.now ∷ []) }
+    ensures refutes { IfOk result (λ r. Refutes draft.new r.step
+        (trees_at draft.old.trees front.now ++ trees_at draft.old.trees tail.now)) }
+    ensures used { IfOk result (λ r. Consumes (trees_at draft.old.trees front.now)
+        (FailingLine op place ∷ lines_at draft.old.trees lines.now)
+        (trees_at draft.old.trees tail.now ∷ []) r.used) }
+    ensures within { IfOk result (λ r. r.used ≤ length lines.now + 1) }
+    ensures grows { Extends draft.old draft.new }
+{
+    match draft.store().node(whole) {
+        Node::Join(_, a, b) => {
+            let both = negated(draft, a, b)?;
+            let sides = where_false(op, both);
+            let word = Word::Failing(op, front.len() + place);
+            by_word(draft, front, tail, word, sides.first, sides.second, lines)
+        }
+        _ => Err(AllocError),
+    }
+}
+
+// The same by a cut, over the lines after it.
+#[cycle(walk)]
+fn by_cut(
+    draft: &mut Draft,
+    front: &[TermId],
+    tail: &[TermId],
+    formula: TermId,
+    lines: &[Line],
+) -> Result<Derived, AllocError>
+    requires front { AreFormulas draft.old front.now }
+    requires tail { AreFormulas draft.old tail.now }
+    requires formula { IsFormulaAt draft.old formula }
+    requires lines { LinesHeld draft.old lines.now }
+    requires follow { CanFollow draft.old (trees_at draft.old.trees front.now)
+        (CutLine (tree_at draft.old.trees formula) ∷ lines_at draft.old.trees lines.now)
+        (trees_at draft.old.trees tail.now ∷ []) }
+    ensures refutes { IfOk result (λ r. Refutes draft.new r.step
+        (trees_at draft.old.trees front.now ++ trees_at draft.old.trees tail.now)) }
+    ensures used { IfOk result (λ r. Consumes (trees_at draft.old.trees front.now)
+        (CutLine (tree_at draft.old.trees formula) ∷ lines_at draft.old.trees lines.now)
+        (trees_at draft.old.trees tail.now ∷ []) r.used) }
+    ensures within { IfOk result (λ r. r.used ≤ length lines.now + 1) }
+    ensures grows { Extends draft.old draft.new }
+{
+    let negated = negation(draft, formula)?;
+    let yes = Some(Formulas::One(formula));
+    let no = Some(Formulas::One(negated));
+    by_word(draft, front, tail, Word::Cut(formula), yes, no, lines)
+}
+
+// Adds the number of a step for the premise, where there is one, by the first lines.
+#[cycle(walk)]
+fn premise(
+    draft: &mut Draft,
+    front: &[TermId],
+    tail: &[TermId],
+    added: Option<Formulas>,
+    lines: &[Line],
+    premises: &mut Vec<usize>,
+) -> Result<usize, AllocError>
+    requires front { AreFormulas draft.old front.now }
+    requires tail { AreFormulas draft.old tail.now }
+    requires added { All (AreFormulas draft.old) (added_ids added) }
+    requires lines { LinesHeld draft.old lines.now }
+    requires follow { CanFollow draft.old (trees_at draft.old.trees front.now)
+        (lines_at draft.old.trees lines.now)
+        (under (trees_at draft.old.trees tail.now) (added_at draft.old.trees added)) }
+    ensures refute { IfOk result (λ _. RefuteUnder draft.new premises.old.items premises.new.items
+        (trees_at draft.old.trees front.now)
+        (under (trees_at draft.old.trees tail.now) (added_at draft.old.trees added))) }
+    ensures used { IfOk result (λ n. Consumes (trees_at draft.old.trees front.now)
+        (lines_at draft.old.trees lines.now)
+        (under (trees_at draft.old.trees tail.now) (added_at draft.old.trees added)) n) }
+    ensures within { IfOk result (λ n. n ≤ length lines.now) }
+    ensures grows { Extends draft.old draft.new }
+{
+    match added {
+        None => Ok(0),
+        Some(formulas) => {
+            let all = wider(draft.allocator(), tail, formulas)?;
+            let made = walk(draft, front, &all, lines)?;
+            premises.push(made.step)?;
+            Ok(made.used)
+        }
+    }
+}
+
+/// A step whose sequent is the front and the tail, by a script that refutes it.
+pub fn derive(
+    draft: &mut Draft,
+    front: &[TermId],
+    tail: &[TermId],
+    lines: &[Line],
+) -> Result<usize, AllocError>
+    requires front { AreFormulas draft.old front.now }
+    requires tail { AreFormulas draft.old tail.now }
+    requires lines { LinesHeld draft.old lines.now }
+    requires follow { Follows draft.old (trees_at draft.old.trees front.now)
+        (lines_at draft.old.trees lines.now) (trees_at draft.old.trees tail.now ∷ []) }
+    ensures refutes { IfOk result (λ k. Refutes draft.new k
+        (trees_at draft.old.trees front.now ++ trees_at draft.old.trees tail.now)) }
+    ensures grows { Extends draft.old draft.new }
+{
+    let made = walk(draft, front, tail, lines)?;
+    Ok(made.step)
+}

@@ -1,0 +1,8 @@
+pub mod Instances
+pub mod Scripts
+pub mod Moving
+pub mod Inner
+pub mod Overs
+pub mod Values
+pub mod Opened
+pub mod Owned

@@ -1,0 +1,45 @@
+-- What steps refute over drafts that have grown.
+use Rattle.std.proofs.Common.{◌≡◌, ℕ, inr, List, [], ◌∷◌, ◌++◌, length, sym, ◌∙◌}
+use Rattle.std.proofs.lemmas.List.{length-map}
+use Rattle.std.proofs.lemmas.List.Elements.{All-cons, All-nil}
+use Rattle.trees.specs.declared.TermId.{TermId}
+use Rattle.trees.specs.Tree.{Tree}
+use Rattle.trees.specs.Node.{tree_at}
+use Rattle.tasks.specs.Task.{neg}
+use Rattle.tasks.specs.Meaning.{trees_at}
+use Rattle.kernel.specs.Right.{IsGroundExpression}
+use Rattle.evidence.specs.Drafts.{DraftTree, Extends, Refutes, AreFormulas, IsFormulaAt}
+use Rattle.evidence.proofs.Rules.{refutes_later}
+use Rattle.evidence.proofs.Formulas.{same}
+use Rattle.proof_scripts.specs.declared.line.Line.{Line}
+use Rattle.proof_scripts.specs.Scripts.{LineHeld, LinesHeld}
+
+-- a sequent that ends in a negation, over a draft that has the negation's number
+pub end_back : (d d1 : DraftTree) (x : Extends d d1) (front : List TermId) (f : AreFormulas d front) (d2 : DraftTree) (k : ℕ) (n : TermId) (a : Tree) → tree_at d1.trees n ≡ neg a
+    → Refutes d2 k (trees_at d1.trees front ++ trees_at d1.trees (n ∷ [])) → Refutes d2 k (trees_at d.trees front ++ neg a ∷ [])
+end_back d d1 x front f d2 k n a e r =
+    let b : trees_at d1.trees front ≡ trees_at d.trees front = same d d1 x front f in
+    record { within = r.within; is = r.is ∙ cc (b, e) }
+
+-- the same, of any formulas after the front
+pub moved : (d d1 : DraftTree) (x : Extends d d1) (front : List TermId) (f : AreFormulas d front) (k : ℕ) (t u : List Tree) → t ≡ u → Refutes d k (trees_at d.trees front ++ t) → Refutes d1 k (trees_at d1.trees front ++ u)
+moved d d1 x front f k t u e r =
+    let b : trees_at d1.trees front ≡ trees_at d.trees front = same d d1 x front f in
+    let q = refutes_later d d1 x k _ r in
+    record { within = q.within; is = q.is ∙ sym (cc (b, e)) }
+
+-- the lines of a script one by one
+abbrev pub EachHeld : DraftTree → List Line → Type 0
+EachHeld d [] = Unit {0}
+EachHeld d (l ∷ ls) = LineHeld d l × EachHeld d ls
+
+pub lines_held : (d : DraftTree) (ls : List Line) → EachHeld d ls → LinesHeld d ls
+lines_held d [] h = All-nil (LineHeld d)
+lines_held d (l ∷ ls) h = All-cons (LineHeld d) l ls h.0 (lines_held d ls h.1)
+
+pub front_length : (s : List Tree) (front : List TermId) → length (trees_at s front) ≡ length front
+front_length s front = length-map front (tree_at s)
+
+-- a formula of sequents is a formula of the task
+pub expression_at : (d : DraftTree) (id : TermId) → IsFormulaAt d id → IsGroundExpression d.task (tree_at d.trees id)
+expression_at d id f = record { sort = inr f.ground.sort; typed = f.ground.typed; ground = f.ground.ground }

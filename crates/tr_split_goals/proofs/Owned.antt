@@ -1,0 +1,25 @@
+-- What a valid task gives for the glue of its goal.
+use Rattle.std.proofs.Common.{◌≡◌, ℕ, ◌≤◌, length, All, sym, ap, subst, ◌∙◌, arith}
+use Rattle.std.proofs.lemmas.List.{length-map}
+use Rattle.std.proofs.lemmas.List.Elements.{All-weaker}
+use Rattle.trees.specs.Tree.{Tree, above_params}
+use Rattle.trees.specs.Node.{tree_at}
+use Rattle.tasks.specs.declared.task.Task.{Task}
+use Rattle.tasks.specs.Task.{TaskTree}
+use Rattle.tasks.specs.Valid.{IsFormula}
+use Rattle.tasks.specs.Meaning.{trees_at}
+use Rattle.evidence.specs.Drafts.{DraftTree}
+use Rattle.evidence.specs.Stages.{IsOwn}
+use Rattle.instances.proofs.Kept.{parameters_within}
+use Rattle.tr_split_goals.specs.Goals.{AreBelow}
+
+-- the parameters of a valid task are below their number
+pub own_below : (d : DraftTree) (from : Task) (n : ℕ) → n ≡ length from.params → IsOwn d from → AreBelow n (trees_at d.trees from.locals) (tree_at d.trees from.goal)
+own_below d from n q o =
+    let k : length d.task.params ≡ n = sym (ap (λ (t : TaskTree). length t.params) o.is) ∙ length-map from.params (tree_at d.trees) ∙ sym q in
+    let l : All (λ e. above_params e ≤ n) d.task.locals = All-weaker (IsFormula d.task d.task.params 0) (λ e. above_params e ≤ n) (λ e f. omega (arith, k, parameters_within d.task.params e f.parameters)) d.task.locals o.valid.locals in
+    let g : above_params d.task.goal ≤ n = omega (arith, k, parameters_within d.task.params d.task.goal o.valid.goal.parameters) in
+    record {
+      front = subst (All (λ e. above_params e ≤ n)) (sym (ap (λ (t : TaskTree). t.locals) o.is)) l;
+      goal = subst (λ (e : Tree). above_params e ≤ n) (sym (ap (λ (t : TaskTree). t.goal) o.is)) g;
+    }

@@ -1,0 +1,134 @@
+-- What stands inside a `let`, a quantifier and an `if`.
+use Rattle.std.proofs.Common.{◌≡◌, ℕ, ◌≤◌, ◌++◌, List, [], ◌∷◌, Some, map, false, refl, sym, ap, subst, arith}
+use Rattle.std.proofs.lemmas.List.Elements.{All-push, All-weaker}
+use Rattle.trees.specs.declared.TermId.{TermId}
+use Rattle.trees.specs.declared.Op.{Op}
+use Rattle.trees.specs.declared.Op.TheVariants.{Imp}
+use Rattle.trees.specs.declared.Sort.TheVariants.{Term}
+use Rattle.trees.specs.Tree.{Tree, Leaf, One, Two, Three, HCell, HBound, HParam, HNum, HFun, HJoin, HForall, HLet, HIf, HCase, HArm, loose, above_params}
+use Rattle.trees.specs.Node.{tree_at, Holds}
+use Rattle.trees.specs.Sorts.{sort_of, type_of, yield, yield_type, int_type}
+use Rattle.tasks.specs.Vocabulary.{of_task}
+use Rattle.tasks.specs.Valid.{IsGroundFormula}
+use Rattle.tasks.proofs.Closing.{typed_closed}
+use Rattle.tasks.specs.Meaning.{trees_at}
+use Rattle.evidence.specs.Drafts.{DraftTree, Extends, IsFormulaAt, AreFormulas}
+use Rattle.evidence.proofs.Formulas.{same}
+use Rattle.tr_split.specs.Kept.{let_sentence, then_sentence, else_sentence}
+use Rattle.tasks.specs.Typing.{bound_types}
+use Rattle.tasks.proofs.Closing.{typed_sorted}
+use Rattle.trees.specs.Binding.{inst}
+use Rattle.trees.specs.Facts.{has_param}
+use Rattle.trees.proofs.Above.{no_param_above}
+use Rattle.rule_rows.specs.Rows.{IsNew}
+use Rattle.tasks.specs.Task.{neg}
+use Rattle.tr_split_goals.specs.Goals.{AreBelow, splits}
+use Rattle.tr_split_goals.proofs.Instances.{splits_inst}
+use Rattle.tr_split_goals.specs.declared.over.Over.TheVariants as stands
+use Rattle.tr_split_goals.specs.Over.{IsTypedTermAt, inner_of}
+
+yields_type : (e : Tree) → yield e ≡ Term → (ty : Tree) × (yield_type e ≡ Some ty)
+yields_type (Leaf (HNum z)) q = (int_type, refl)
+yields_type (Leaf _) q = absurd (cc)
+yields_type (One (HBound i) a) q = (a, refl)
+yields_type (One (HParam n) a) q = (a, refl)
+yields_type (One _ a) q = absurd (cc)
+yields_type (Two HCell a b) q = yields_type a q
+yields_type (Two HLet a b) q = yields_type b q
+yields_type (Two HCase a b) q = yields_type b q
+yields_type (Two HArm a b) q = yields_type b q
+yields_type (Two _ a b) q = absurd (cc)
+yields_type (Three (HFun f) a b c) q = (c, refl)
+yields_type (Three HIf a b c) q = yields_type b q
+yields_type (Three _ a b c) q = absurd (cc)
+
+-- a term has a type
+pub has_type : (e : Tree) → sort_of e ≡ Term → (ty : Tree) × (type_of e ≡ Some ty)
+has_type (Leaf (HNum z)) q = (int_type, refl)
+has_type (Leaf _) q = absurd (cc)
+has_type (One (HBound i) a) q = (a, refl)
+has_type (One (HParam n) a) q = (a, refl)
+has_type (One _ a) q = absurd (cc)
+has_type (Two HLet a b) q = yields_type b q
+has_type (Two HCase a b) q = yields_type b q
+has_type (Two _ a b) q = absurd (cc)
+has_type (Three (HFun f) a b c) q = (c, refl)
+has_type (Three HIf a b c) q = yields_type b q
+has_type (Three _ a b c) q = absurd (cc)
+
+-- the value of a `let` is a closed term of some type
+pub value_at : (d : DraftTree) (goal value body : TermId) → IsFormulaAt d goal → tree_at d.trees goal ≡ Two HLet (tree_at d.trees value) (tree_at d.trees body) → Holds d.trees value → IsTypedTermAt d value
+value_at d goal value body f is h =
+    let v = tree_at d.trees value in
+    let w : IsGroundFormula d.task (Two HLet v (tree_at d.trees body)) = subst (IsGroundFormula d.task) is f.ground in
+    let k : loose v ≤ 0 = typed_closed (of_task d.task) [] v w.typed.2 in
+    let t = has_type v w.typed.0.0.0 in
+    record {
+      ty = t.0;
+      term = record {
+        held = h;
+        closed = record { sort = w.typed.0.0.0; closed = omega (arith, k) };
+        term = record { sort = w.typed.0.0.0; typed = w.typed.2; type = t.1 };
+        variables = w.ground.0;
+      };
+    }
+
+-- the parts of an `if` are formulas
+module _ (d : DraftTree) (goal cond a b : TermId) (f : IsFormulaAt d goal) (is : tree_at d.trees goal ≡ Three HIf (tree_at d.trees cond) (tree_at d.trees a) (tree_at d.trees b)) where
+  ground : IsGroundFormula d.task (Three HIf (tree_at d.trees cond) (tree_at d.trees a) (tree_at d.trees b))
+  ground = subst (IsGroundFormula d.task) is f.ground
+
+  pub cond_formula : Holds d.trees cond → IsFormulaAt d cond
+  cond_formula h = record { held = h; ground = record { sort = ground.typed.0.0; typed = ground.typed.2; ground = ground.ground.0 } }
+
+  pub then_formula : Holds d.trees a → IsFormulaAt d a
+  then_formula h = record { held = h; ground = record { sort = then_sentence (tree_at d.trees cond) (tree_at d.trees a) (tree_at d.trees b) ground.typed.0 ground.sort; typed = ground.typed.3; ground = ground.ground.1 } }
+
+  pub else_formula : Holds d.trees b → IsFormulaAt d b
+  else_formula h = record { held = h; ground = record { sort = else_sentence (tree_at d.trees cond) (tree_at d.trees a) (tree_at d.trees b) ground.typed.0 ground.sort; typed = ground.typed.4; ground = ground.ground.2 } }
+
+-- ---- numbers above the parameters
+pub left_below : (number : ℕ) (es : List Tree) (op : Op) (a b : Tree) → AreBelow number es (Two (HJoin op) a b) → AreBelow number es a
+left_below number es op a b l = let m : above_params (Two (HJoin op) a b) ≤ number = l.goal in record { front = l.front; goal = omega arith }
+
+pub right_below : (number : ℕ) (es : List Tree) (op : Op) (a b : Tree) → AreBelow number es (Two (HJoin op) a b) → AreBelow number es b
+right_below number es op a b l = let m : above_params (Two (HJoin op) a b) ≤ number = l.goal in record { front = l.front; goal = omega arith }
+
+pub joined_below : (number : ℕ) (es : List Tree) (op op' : Op) (a b : Tree) → AreBelow number es (Two (HJoin op) a b) → AreBelow number es (Two (HJoin op') a b)
+joined_below number es op op' a b l = let m : above_params (Two (HJoin op) a b) ≤ number = l.goal in record { front = l.front; goal = omega arith }
+
+pub premise_below : (number : ℕ) (es : List Tree) (op : Op) (a b : Tree) → AreBelow number es (Two (HJoin op) a b) → AreBelow number (es ++ a ∷ []) b
+premise_below number es op a b l =
+    let m : above_params (Two (HJoin op) a b) ≤ number = l.goal in
+    record { front = All-push (λ e. above_params e ≤ number) es a l.front (omega arith); goal = omega arith }
+
+pub below_later : (d d1 : DraftTree) (x : Extends d d1) (front : List TermId) (f : AreFormulas d front) (number : ℕ) (e e1 : Tree) → e1 ≡ e → AreBelow number (trees_at d.trees front) e → AreBelow number (trees_at d1.trees front) e1
+below_later d d1 x front f number e e1 q l = subst (λ (z : List Tree). AreBelow number z e1) (sym (same d d1 x front f)) (subst (AreBelow number (trees_at d.trees front)) (sym q) l)
+
+-- under a hypothesis the parts alone are the parts
+pub same_parts : (s : List Tree) (h : TermId) (xs : List Tree) → map (inner_of s (stands.Hypothesis h)) xs ≡ xs
+same_parts s h [] = refl
+same_parts s h (x ∷ xs) = ap (λ (z : List Tree). x ∷ z) (same_parts s h xs)
+
+-- how deep what is opened is split
+pub opened_splits : (d : DraftTree) (goal ty body : TermId) → IsFormulaAt d goal → tree_at d.trees goal ≡ Two HForall (tree_at d.trees ty) (tree_at d.trees body) → (t : Tree) → splits (inst (tree_at d.trees body) t) ≡ splits (tree_at d.trees body)
+opened_splits d goal ty body f is t =
+    let w : IsGroundFormula d.task (Two HForall (tree_at d.trees ty) (tree_at d.trees body)) = subst (IsGroundFormula d.task) is f.ground in
+    splits_inst (tree_at d.trees body) t (typed_sorted (of_task d.task) (tree_at d.trees ty ∷ []) (tree_at d.trees body) w.typed.3) w.typed.0.0.1
+
+pub valued_splits : (d : DraftTree) (goal value body : TermId) → IsFormulaAt d goal → tree_at d.trees goal ≡ Two HLet (tree_at d.trees value) (tree_at d.trees body) → (t : Tree) → splits (inst (tree_at d.trees body) t) ≡ splits (tree_at d.trees body)
+valued_splits d goal value body f is t =
+    let w : IsGroundFormula d.task (Two HLet (tree_at d.trees value) (tree_at d.trees body)) = subst (IsGroundFormula d.task) is f.ground in
+    splits_inst (tree_at d.trees body) t (typed_sorted (of_task d.task) (bound_types HLet (tree_at d.trees value) ++ []) (tree_at d.trees body) w.typed.3) (let_sentence (tree_at d.trees value) (tree_at d.trees body) w.typed.0 w.sort)
+
+-- a number above all parameters is new
+pub new_below : (number : ℕ) (front : List Tree) (goal : Tree) → AreBelow number front goal → IsNew number (front ++ neg goal ∷ [])
+new_below number front goal b =
+    All-push (λ a. has_param a number ≡ false) front (neg goal) (All-weaker (λ a. above_params a ≤ number) (λ a. has_param a number ≡ false) (λ a l. no_param_above a number l) front b.front)
+    (no_param_above goal number b.goal)
+
+pub then_below : (number : ℕ) (es : List Tree) (c a b : Tree) → AreBelow number es (Three HIf c a b) → AreBelow number es (Two (HJoin Imp) c a)
+then_below number es c a b l = let m : above_params (Three HIf c a b) ≤ number = l.goal in record { front = l.front; goal = omega arith }
+
+pub else_below : (number : ℕ) (es : List Tree) (c a b : Tree) → AreBelow number es (Three HIf c a b) → AreBelow number es (Two (HJoin Imp) (neg c) b)
+else_below number es c a b l = let m : above_params (Three HIf c a b) ≤ number = l.goal in record { front = l.front; goal = omega arith }

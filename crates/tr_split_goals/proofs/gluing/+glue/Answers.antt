@@ -1,0 +1,718 @@
+use Rattle.std.proofs.Common.{◌≡◌, ◌∙◌, ◌++◌, ◌∷◌, [], ℕ, suc, ◌+◌, List, length, min, map, sym, ap, subst, append_assoc, arith}
+use Rattle.std.proofs.lemmas.Result.{IfOk-weaker}
+use Rattle.std.proofs.lemmas.List.{length-append}
+use Rattle.trees.specs.declared.Op.TheVariants.{And, AndThen, Imp}
+use Rattle.trees.specs.Tree.{Tree, Two, Three, HJoin, HIf}
+use Rattle.trees.specs.Binding.{Param}
+use Rattle.tasks.specs.Task.{neg}
+use Rattle.trees.specs.Node.{tree_at}
+use Rattle.tasks.specs.Meaning.{trees_at}
+use Rattle.evidence.specs.Laws.{Extends_trans, AddsTrees_extends}
+use Rattle.evidence.proofs.Formulas.{same, formulas_later, formula_later}
+use Rattle.tr_split.specs.Split.{imp, split}
+use Rattle.tr_split.specs.Glue.{Ends}
+use Rattle.tr_split.proofs.Gained.{split_later}
+use Rattle.tr_split.proofs.Pieces.{sides_of, ends_later, ends_right, count_is, neg_moved, neg_back, wider_formulas, wider_is}
+use Rattle.tr_split_goals.specs.Goals.{AreBelow, splits}
+use Rattle.evidence.specs.Drafts.{Extends}
+use Rattle.evidence.proofs.Rules.{refutes_later}
+use Rattle.tr_split_goals.proofs.Values.{left_below, joined_below, premise_below, below_later, same_parts, opened_splits, valued_splits, new_below, then_below, else_below}
+use Rattle.tr_split_goals.proofs.gluing.+glue.Goals as goal
+
+-- ---- a conjunction
+pub glue_and-refute_and-requires-clause-front : goal.glue_and-refute_and-requires-clause-front
+glue_and-refute_and-requires-clause-front t c = formulas_later c.args.draft.now c.glue_two.new.draft c.in_ok-left.ensures.grows c.args.front.now c.requires.front
+
+pub glue_and-refute_and-requires-clause-left : goal.glue_and-refute_and-requires-clause-left
+glue_and-refute_and-requires-clause-left t c =
+    let d = c.args.draft.now in
+    let d1 = c.glue_two.new.draft in
+    let s = sides_of d c.args.goal And c.args.a c.args.b c.requires.joins c.requires.goal in
+    neg_moved d d1 c.in_ok-left.ensures.grows c.args.front.now c.requires.front c.args.a s.left d1 c.in_ok-left.left c.in_ok-left.ensures.left
+
+pub glue_and-refute_and-requires-clause-right : goal.glue_and-refute_and-requires-clause-right
+glue_and-refute_and-requires-clause-right t c =
+    let d = c.args.draft.now in
+    let d1 = c.glue_two.new.draft in
+    let s = sides_of d c.args.goal And c.args.a c.args.b c.requires.joins c.requires.goal in
+    neg_moved d d1 c.in_ok-left.ensures.grows c.args.front.now c.requires.front c.args.b s.right d1 c.in_ok-left.right c.in_ok-left.ensures.right
+
+pub glue_and-returns-clause-refutes : goal.glue_and-returns-clause-refutes
+glue_and-returns-clause-refutes t c =
+    IfOk-weaker c.refute_and.result _ _ (λ k r. neg_back c.args.draft.now c.glue_two.new.draft c.in_ok-left.ensures.grows c.args.front.now c.requires.front c.args.goal c.requires.goal c.refute_and.new.draft k r) c.refute_and.ensures.refutes
+
+pub glue_and-returns-clause-grows : goal.glue_and-returns-clause-grows
+glue_and-returns-clause-grows t c = Extends_trans _ _ _ c.in_ok-left.ensures.grows c.refute_and.ensures.grows
+
+-- ---- two formulas
+pub glue_two-glue_goal-requires-2 : goal.glue_two-glue_goal-requires-2
+glue_two-glue_goal-requires-2 t c =
+    let d = c.args.draft.now in
+    let F = c.args.front.now in
+    let a = c.args.a in
+    let b = c.args.b in
+    let xs = split (tree_at d.trees a) in
+    let ys = split (tree_at d.trees b) in
+    let counted : c.part_count-count.result ≡ min (length xs) 18446744073709551615 = c.part_count-count.ensures ∙ ap (λ (z : List Tree). min (length (split (tree_at z a))) 18446744073709551615) c.store.ensures in
+    let n : c.part_count-count.result ≡ length xs = count_is c.part_count-count.result (length xs) (length c.args.ends.now) counted (omega (arith, c.requires.ends.as_many, length-append xs ys)) (omega arith) in
+    let d1 = c.glue_goal.new.draft in
+    let x = c.in_ok-left.ensures.grows in
+    let e : tree_at d1.trees b ≡ tree_at d.trees b = x.trees.same b.0 c.requires.b.held in
+    let m : splits (tree_at d1.trees b) ≡ splits (tree_at d.trees b) = ap splits e in
+    let second = ends_right d c.args.ends.now c.split_at.result.1.now (trees_at d.trees F) xs ys c.part_count-count.result c.requires.ends c.split_at.ensures.back n in
+    let later = ends_later d d1 x F c.requires.front c.split_at.result.1.now ys second in
+    let f : trees_at d1.trees F ≡ trees_at d.trees F = same d d1 x F c.requires.front in
+    let below : AreBelow c.args.number (trees_at d1.trees F) (tree_at d1.trees b) =
+    subst (λ (z : List Tree). AreBelow c.args.number z (tree_at d1.trees b)) (sym f) (subst (AreBelow c.args.number (trees_at d.trees F)) (sym e) c.requires.below_b) in (
+      omega (arith, m),
+      (
+        formulas_later d d1 x F c.requires.front,
+        (
+          formula_later d d1 x b c.requires.b,
+          (
+            below,
+            subst (Ends d1 c.split_at.result.1.now (trees_at d1.trees F)) (sym (split_later d.trees d1.trees b x.trees c.requires.b.held)) later,
+          ),
+        ),
+      ),
+    )
+
+pub glue_two-returns-in_err-right-clause-grows : goal.glue_two-returns-in_err-right-clause-grows
+glue_two-returns-in_err-right-clause-grows t c = Extends_trans _ _ _ c.in_ok-left.ensures.grows c.glue_goal-2.ensures.grows
+
+pub glue_two-returns-clause-right : goal.glue_two-returns-clause-right
+glue_two-returns-clause-right t c =
+    neg_back c.args.draft.now c.glue_goal.new.draft c.in_ok-left.ensures.grows c.args.front.now c.requires.front c.args.b c.requires.b c.glue_goal-2.new.draft c.in_ok-right.right c.in_ok-right.ensures.refutes
+
+pub glue_two-returns-clause-grows : goal.glue_two-returns-clause-grows
+glue_two-returns-clause-grows t c = Extends_trans _ _ _ c.in_ok-left.ensures.grows c.in_ok-right.ensures.grows
+
+-- ---- a conjunction by `&&`
+pub glue_and_then-glue_two-requires : goal.glue_and_then-glue_two-requires
+glue_and_then-glue_two-requires t c =
+    let d = c.args.draft.now in
+    let F = c.args.front.now in
+    let d1 = c.connected.new.draft in
+    let x = AddsTrees_extends d d1 c.in_ok-implied.ensures.grows in
+    let j = c.requires.joins in
+    let s = sides_of d c.args.goal AndThen c.args.a c.args.b j c.requires.goal in
+    let A = tree_at d.trees c.args.a in
+    let B = tree_at d.trees c.args.b in
+    let ea : tree_at d1.trees c.args.a ≡ A = x.trees.same c.args.a.0 s.left.held in
+    let ei : tree_at d1.trees c.in_ok-implied.implied ≡ Two (HJoin Imp) A B = c.in_ok-implied.ensures.tree in
+    let ma : splits (tree_at d1.trees c.args.a) ≡ splits A = ap splits ea in
+    let mi : splits (tree_at d1.trees c.in_ok-implied.implied) ≡ suc (splits B) = ap splits ei in
+    let mg : splits (tree_at d.trees c.args.goal) ≡ suc (suc (splits A + splits B)) = ap splits j.tree in
+    let l : AreBelow c.args.number (trees_at d.trees F) (Two (HJoin AndThen) A B) = subst (AreBelow c.args.number (trees_at d.trees F)) j.tree c.requires.below in
+    let e : Ends d c.args.ends.now (trees_at d.trees F) (split A ++ map (imp A) (split B)) = subst (Ends d c.args.ends.now (trees_at d.trees F)) (ap split j.tree) c.requires.ends in
+    let sa : split (tree_at d1.trees c.args.a) ≡ split A = ap split ea in
+    let si : split (tree_at d1.trees c.in_ok-implied.implied) ≡ map (imp A) (split B) = ap split ei in
+    let q : split A ++ map (imp A) (split B) ≡ split (tree_at d1.trees c.args.a) ++ split (tree_at d1.trees c.in_ok-implied.implied) = cc (sa, si) in (
+      omega (arith, ma, mi, mg),
+      (
+        formulas_later d d1 x F c.requires.front,
+        (
+          formula_later d d1 x c.args.a s.left,
+          (
+            c.in_ok-implied.ensures.formula,
+            (
+              below_later d d1 x F c.requires.front c.args.number A (tree_at d1.trees c.args.a) ea (left_below c.args.number (trees_at d.trees F) AndThen A B l),
+              (
+                below_later d d1 x F c.requires.front c.args.number (Two (HJoin Imp) A B) (tree_at d1.trees c.in_ok-implied.implied) ei (joined_below c.args.number (trees_at d.trees F) AndThen Imp A B l),
+                subst (Ends d1 c.args.ends.now (trees_at d1.trees F)) q (ends_later d d1 x F c.requires.front c.args.ends.now (split A ++ map (imp A) (split B)) e),
+              ),
+            ),
+          ),
+        ),
+      ),
+    )
+
+pub glue_and_then-refute_and_then-requires-clause-front : goal.glue_and_then-refute_and_then-requires-clause-front
+glue_and_then-refute_and_then-requires-clause-front t c =
+    let d = c.args.draft.now in
+    let F = c.args.front.now in
+    let d1 = c.connected.new.draft in
+    let x = AddsTrees_extends d d1 c.in_ok-implied.ensures.grows in
+    let j = c.requires.joins in
+    let s = sides_of d c.args.goal AndThen c.args.a c.args.b j c.requires.goal in
+    let d2 = c.glue_two.new.draft in
+    let x2 = c.in_ok-left.ensures.grows in
+    formulas_later d d2 (Extends_trans d d1 d2 x x2) F c.requires.front
+
+pub glue_and_then-refute_and_then-requires-clause-left : goal.glue_and_then-refute_and_then-requires-clause-left
+glue_and_then-refute_and_then-requires-clause-left t c =
+    let d = c.args.draft.now in
+    let F = c.args.front.now in
+    let d1 = c.connected.new.draft in
+    let x = AddsTrees_extends d d1 c.in_ok-implied.ensures.grows in
+    let j = c.requires.joins in
+    let s = sides_of d c.args.goal AndThen c.args.a c.args.b j c.requires.goal in
+    let d2 = c.glue_two.new.draft in
+    let x2 = c.in_ok-left.ensures.grows in
+    neg_moved d1 d2 x2 F (formulas_later d d1 x F c.requires.front) c.args.a (formula_later d d1 x c.args.a s.left) d2 c.in_ok-left.left c.in_ok-left.ensures.left
+
+pub glue_and_then-refute_and_then-requires-clause-right : goal.glue_and_then-refute_and_then-requires-clause-right
+glue_and_then-refute_and_then-requires-clause-right t c =
+    let d = c.args.draft.now in
+    let F = c.args.front.now in
+    let d1 = c.connected.new.draft in
+    let x = AddsTrees_extends d d1 c.in_ok-implied.ensures.grows in
+    let j = c.requires.joins in
+    let s = sides_of d c.args.goal AndThen c.args.a c.args.b j c.requires.goal in
+    let d2 = c.glue_two.new.draft in
+    let x2 = c.in_ok-left.ensures.grows in
+    neg_moved d1 d2 x2 F (formulas_later d d1 x F c.requires.front) c.in_ok-implied.implied c.in_ok-implied.ensures.formula d2 c.in_ok-left.right c.in_ok-left.ensures.right
+
+pub glue_and_then-returns-clause-refutes : goal.glue_and_then-returns-clause-refutes
+glue_and_then-returns-clause-refutes t c =
+    let d = c.args.draft.now in
+    let F = c.args.front.now in
+    let d1 = c.connected.new.draft in
+    let x = AddsTrees_extends d d1 c.in_ok-implied.ensures.grows in
+    let j = c.requires.joins in
+    let s = sides_of d c.args.goal AndThen c.args.a c.args.b j c.requires.goal in
+    let d2 = c.glue_two.new.draft in
+    let x2 = c.in_ok-left.ensures.grows in
+    IfOk-weaker c.refute_and_then.result _ _ (λ k r. neg_back d d2 (Extends_trans d d1 d2 x x2) F c.requires.front c.args.goal c.requires.goal c.refute_and_then.new.draft k r) c.refute_and_then.ensures.refutes
+
+pub glue_and_then-returns-clause-grows : goal.glue_and_then-returns-clause-grows
+glue_and_then-returns-clause-grows t c =
+    let d = c.args.draft.now in
+    let F = c.args.front.now in
+    let d1 = c.connected.new.draft in
+    let x = AddsTrees_extends d d1 c.in_ok-implied.ensures.grows in
+    let j = c.requires.joins in
+    let s = sides_of d c.args.goal AndThen c.args.a c.args.b j c.requires.goal in
+    let d2 = c.glue_two.new.draft in
+    let x2 = c.in_ok-left.ensures.grows in
+    Extends_trans _ _ _ (Extends_trans d d1 d2 x x2) c.refute_and_then.ensures.grows
+
+-- ---- an implication
+pub glue_imp-glue_goal-requires : goal.glue_imp-glue_goal-requires
+glue_imp-glue_goal-requires t c =
+    let d = c.args.draft.now in
+    let F = c.args.front.now in
+    let d1 = c.ends_over.new.draft in
+    let x = c.in_ok-made.ensures.grows in
+    let j = c.requires.joins in
+    let a = c.args.a in
+    let b = c.args.b in
+    let A = tree_at d.trees a in
+    let B = tree_at d.trees b in
+    let s = sides_of d c.args.goal Imp a b j c.requires.goal in
+    let w : c.deref.result.now ≡ F ++ a ∷ [] = c.deref.ensures.value ∙ c.in_ok-wider.ensures in
+    let b1 : tree_at d1.trees b ≡ B = x.trees.same b.0 s.right.held in
+    let e1 : trees_at d1.trees c.deref.result.now ≡ trees_at d.trees F ++ A ∷ [] = wider_is d d1 x F c.deref.result.now a w c.requires.front s.left in
+    let m : splits (tree_at d1.trees b) ≡ splits B = ap splits b1 in
+    let mg : splits (tree_at d.trees c.args.goal) ≡ suc (splits B) = ap splits j.tree in
+    let l : AreBelow c.args.number (trees_at d.trees F) (Two (HJoin Imp) A B) = subst (AreBelow c.args.number (trees_at d.trees F)) j.tree c.requires.below in
+    let k : AreBelow c.args.number (trees_at d.trees F ++ A ∷ []) B = premise_below c.args.number (trees_at d.trees F) Imp A B l in
+    let below : AreBelow c.args.number (trees_at d1.trees c.deref.result.now) (tree_at d1.trees b) = subst (λ (z : List Tree). AreBelow c.args.number z (tree_at d1.trees b)) (sym e1) (subst (AreBelow c.args.number (trees_at d.trees F ++ A ∷ [])) (sym b1) k) in
+    let made = subst (λ (z : List ℕ). Ends d1 z (trees_at d.trees F ++ A ∷ []) (map (λ (y : Tree). y) (split B))) (sym c.deref-2.ensures.value) c.in_ok-made.ensures.ends in
+    let p : map (λ (y : Tree). y) (split B) ≡ split (tree_at d1.trees b) = same_parts d.trees a (split B) ∙ sym (ap split b1) in (
+      omega (arith, m, mg),
+      (
+        wider_formulas d1 F c.deref.result.now a w (formulas_later d d1 x F c.requires.front) (formula_later d d1 x a s.left),
+        (
+          formula_later d d1 x b s.right,
+          (below, subst (λ (z : List Tree). Ends d1 c.deref-2.result.now z (split (tree_at d1.trees b))) (sym e1) (subst (Ends d1 c.deref-2.result.now (trees_at d.trees F ++ A ∷ [])) p made)),
+        ),
+      ),
+    )
+
+pub glue_imp-returns-in_err-step-clause-grows : goal.glue_imp-returns-in_err-step-clause-grows
+glue_imp-returns-in_err-step-clause-grows t c =
+    Extends_trans _ _ _ c.in_ok-made.ensures.grows c.glue_goal.ensures.grows
+
+pub glue_imp-refute_imp-requires-clause-front : goal.glue_imp-refute_imp-requires-clause-front
+glue_imp-refute_imp-requires-clause-front t c =
+    let d = c.args.draft.now in
+    let F = c.args.front.now in
+    let d1 = c.ends_over.new.draft in
+    let x = c.in_ok-made.ensures.grows in
+    let j = c.requires.joins in
+    let a = c.args.a in
+    let b = c.args.b in
+    let A = tree_at d.trees a in
+    let B = tree_at d.trees b in
+    let s = sides_of d c.args.goal Imp a b j c.requires.goal in
+    let w : c.deref.result.now ≡ F ++ a ∷ [] = c.deref.ensures.value ∙ c.in_ok-wider.ensures in
+    let b1 : tree_at d1.trees b ≡ B = x.trees.same b.0 s.right.held in
+    let e1 : trees_at d1.trees c.deref.result.now ≡ trees_at d.trees F ++ A ∷ [] = wider_is d d1 x F c.deref.result.now a w c.requires.front s.left in
+    let d2 = c.glue_goal.new.draft in
+    let x2 = c.in_ok-step.ensures.grows in
+    let y : Extends d d2 = Extends_trans d d1 d2 x x2 in
+    formulas_later d d2 y F c.requires.front
+
+pub glue_imp-refute_imp-requires-clause-step : goal.glue_imp-refute_imp-requires-clause-step
+glue_imp-refute_imp-requires-clause-step t c =
+    let d = c.args.draft.now in
+    let F = c.args.front.now in
+    let d1 = c.ends_over.new.draft in
+    let x = c.in_ok-made.ensures.grows in
+    let j = c.requires.joins in
+    let a = c.args.a in
+    let b = c.args.b in
+    let A = tree_at d.trees a in
+    let B = tree_at d.trees b in
+    let s = sides_of d c.args.goal Imp a b j c.requires.goal in
+    let w : c.deref.result.now ≡ F ++ a ∷ [] = c.deref.ensures.value ∙ c.in_ok-wider.ensures in
+    let b1 : tree_at d1.trees b ≡ B = x.trees.same b.0 s.right.held in
+    let e1 : trees_at d1.trees c.deref.result.now ≡ trees_at d.trees F ++ A ∷ [] = wider_is d d1 x F c.deref.result.now a w c.requires.front s.left in
+    let d2 = c.glue_goal.new.draft in
+    let x2 = c.in_ok-step.ensures.grows in
+    let y : Extends d d2 = Extends_trans d d1 d2 x x2 in
+    let r = c.in_ok-step.ensures.refutes in
+    let f2 : trees_at d2.trees F ≡ trees_at d.trees F = same d d2 y F c.requires.front in
+    let a2 : tree_at d2.trees a ≡ A = y.trees.same a.0 s.left.held in
+    let b2 : tree_at d2.trees b ≡ B = y.trees.same b.0 s.right.held in
+    let q : trees_at d.trees F ++ A ∷ neg (tree_at d1.trees b) ∷ [] ≡ trees_at d2.trees F ++ tree_at d2.trees a ∷ neg (tree_at d2.trees b) ∷ [] = cc (f2, a2, b1, b2) in
+    record {
+      within = r.within;
+      is = r.is ∙ ap (λ (z : List Tree). z ++ neg (tree_at d1.trees b) ∷ []) e1 ∙ append_assoc (trees_at d.trees F) (A ∷ []) (neg (tree_at d1.trees b) ∷ []) ∙ q;
+    }
+
+pub glue_imp-returns-clause-refutes : goal.glue_imp-returns-clause-refutes
+glue_imp-returns-clause-refutes t c =
+    let d = c.args.draft.now in
+    let F = c.args.front.now in
+    let d1 = c.ends_over.new.draft in
+    let x = c.in_ok-made.ensures.grows in
+    let j = c.requires.joins in
+    let a = c.args.a in
+    let b = c.args.b in
+    let A = tree_at d.trees a in
+    let B = tree_at d.trees b in
+    let s = sides_of d c.args.goal Imp a b j c.requires.goal in
+    let w : c.deref.result.now ≡ F ++ a ∷ [] = c.deref.ensures.value ∙ c.in_ok-wider.ensures in
+    let b1 : tree_at d1.trees b ≡ B = x.trees.same b.0 s.right.held in
+    let e1 : trees_at d1.trees c.deref.result.now ≡ trees_at d.trees F ++ A ∷ [] = wider_is d d1 x F c.deref.result.now a w c.requires.front s.left in
+    let d2 = c.glue_goal.new.draft in
+    let x2 = c.in_ok-step.ensures.grows in
+    let y : Extends d d2 = Extends_trans d d1 d2 x x2 in
+    IfOk-weaker c.refute_imp.result _ _ (λ k r. neg_back d d2 y F c.requires.front c.args.goal c.requires.goal c.refute_imp.new.draft k r) c.refute_imp.ensures.refutes
+
+pub glue_imp-returns-clause-grows : goal.glue_imp-returns-clause-grows
+glue_imp-returns-clause-grows t c =
+    let d = c.args.draft.now in
+    let F = c.args.front.now in
+    let d1 = c.ends_over.new.draft in
+    let x = c.in_ok-made.ensures.grows in
+    let j = c.requires.joins in
+    let a = c.args.a in
+    let b = c.args.b in
+    let A = tree_at d.trees a in
+    let B = tree_at d.trees b in
+    let s = sides_of d c.args.goal Imp a b j c.requires.goal in
+    let w : c.deref.result.now ≡ F ++ a ∷ [] = c.deref.ensures.value ∙ c.in_ok-wider.ensures in
+    let b1 : tree_at d1.trees b ≡ B = x.trees.same b.0 s.right.held in
+    let e1 : trees_at d1.trees c.deref.result.now ≡ trees_at d.trees F ++ A ∷ [] = wider_is d d1 x F c.deref.result.now a w c.requires.front s.left in
+    let d2 = c.glue_goal.new.draft in
+    let x2 = c.in_ok-step.ensures.grows in
+    let y : Extends d d2 = Extends_trans d d1 d2 x x2 in
+    Extends_trans _ _ _ y c.refute_imp.ensures.grows
+
+-- ---- a quantifier
+pub glue_forall-glue_goal-requires : goal.glue_forall-glue_goal-requires
+glue_forall-glue_goal-requires t c =
+    let d = c.args.draft.now in
+    let F = c.args.front.now in
+    let d1 = c.open_universal.new.draft in
+    let x = c.in_ok-inner.ensures.grows in
+    let id = c.in_ok-inner.inner in
+    let X = tree_at d.trees c.args.ty in
+    let B = tree_at d.trees c.args.body in
+    let m : splits (tree_at d1.trees id) ≡ splits B = ap splits c.in_ok-inner.ensures.is ∙ opened_splits d c.args.goal c.args.ty c.args.body c.requires.goal c.requires.tree (Param c.args.number X) in
+    let mg : splits (tree_at d.trees c.args.goal) ≡ suc (splits B) = ap splits c.requires.tree in
+    let f : trees_at d1.trees F ≡ trees_at d.trees F = same d d1 x F c.requires.front in
+    let below = subst (λ (z : List Tree). AreBelow (c.args.number + 1) z (tree_at d1.trees id)) (sym f) c.in_ok-inner.ensures.below in
+    let made = subst (λ (z : List ℕ). Ends d1 z (trees_at d.trees F) (split (tree_at d1.trees id))) (sym c.deref.ensures.value) c.in_ok-inner.ensures.ends in
+    let ends = subst (λ (z : List Tree). Ends d1 c.deref.result.now z (split (tree_at d1.trees id))) (sym f) made in
+    (omega (arith, m, mg), (formulas_later d d1 x F c.requires.front, (c.in_ok-inner.ensures.formula, (below, ends))))
+
+pub glue_forall-returns-in_err-step-clause-grows : goal.glue_forall-returns-in_err-step-clause-grows
+glue_forall-returns-in_err-step-clause-grows t c =
+    Extends_trans _ _ _ c.in_ok-inner.ensures.grows c.glue_goal.ensures.grows
+
+pub glue_forall-refute_forall-requires-clause-front : goal.glue_forall-refute_forall-requires-clause-front
+glue_forall-refute_forall-requires-clause-front t c =
+    let d = c.args.draft.now in
+    let F = c.args.front.now in
+    let d1 = c.open_universal.new.draft in
+    let x = c.in_ok-inner.ensures.grows in
+    let id = c.in_ok-inner.inner in
+    let X = tree_at d.trees c.args.ty in
+    let B = tree_at d.trees c.args.body in
+    let d2 = c.glue_goal.new.draft in
+    let x2 = c.in_ok-step.ensures.grows in
+    let d3 = c.negation.new.draft in
+    let last = c.in_ok-no_inner.ensures in
+    let x3 = AddsTrees_extends d2 d3 last.grows in
+    let y : Extends d d3 = Extends_trans d d2 d3 (Extends_trans d d1 d2 x x2) x3 in
+    let y1 : Extends d1 d3 = Extends_trans d1 d2 d3 x2 x3 in
+    let f1 = formulas_later d d1 x F c.requires.front in
+    formulas_later d d3 y F c.requires.front
+
+pub glue_forall-refute_forall-requires-clause-step : goal.glue_forall-refute_forall-requires-clause-step
+glue_forall-refute_forall-requires-clause-step t c =
+    let d = c.args.draft.now in
+    let F = c.args.front.now in
+    let d1 = c.open_universal.new.draft in
+    let x = c.in_ok-inner.ensures.grows in
+    let id = c.in_ok-inner.inner in
+    let X = tree_at d.trees c.args.ty in
+    let B = tree_at d.trees c.args.body in
+    let d2 = c.glue_goal.new.draft in
+    let x2 = c.in_ok-step.ensures.grows in
+    let d3 = c.negation.new.draft in
+    let last = c.in_ok-no_inner.ensures in
+    let x3 = AddsTrees_extends d2 d3 last.grows in
+    let y : Extends d d3 = Extends_trans d d2 d3 (Extends_trans d d1 d2 x x2) x3 in
+    let y1 : Extends d1 d3 = Extends_trans d1 d2 d3 x2 x3 in
+    let f1 = formulas_later d d1 x F c.requires.front in
+    neg_moved d1 d3 y1 F f1 id c.in_ok-inner.ensures.formula d3 c.in_ok-step.step (refutes_later d2 d3 x3 c.in_ok-step.step _ c.in_ok-step.ensures.refutes)
+
+pub glue_forall-refute_forall-requires-clause-new : goal.glue_forall-refute_forall-requires-clause-new
+glue_forall-refute_forall-requires-clause-new t c =
+    let d = c.args.draft.now in
+    let F = c.args.front.now in
+    let d1 = c.open_universal.new.draft in
+    let x = c.in_ok-inner.ensures.grows in
+    let id = c.in_ok-inner.inner in
+    let X = tree_at d.trees c.args.ty in
+    let B = tree_at d.trees c.args.body in
+    let d2 = c.glue_goal.new.draft in
+    let x2 = c.in_ok-step.ensures.grows in
+    let d3 = c.negation.new.draft in
+    let last = c.in_ok-no_inner.ensures in
+    let x3 = AddsTrees_extends d2 d3 last.grows in
+    let y : Extends d d3 = Extends_trans d d2 d3 (Extends_trans d d1 d2 x x2) x3 in
+    let y1 : Extends d1 d3 = Extends_trans d1 d2 d3 x2 x3 in
+    let f1 = formulas_later d d1 x F c.requires.front in
+    let g : tree_at d3.trees c.args.goal ≡ tree_at d.trees c.args.goal = y.trees.same c.args.goal.0 c.requires.goal.held in
+    new_below c.args.number (trees_at d3.trees F) (tree_at d3.trees c.args.goal) (below_later d d3 y F c.requires.front c.args.number (tree_at d.trees c.args.goal) (tree_at d3.trees c.args.goal) g c.requires.below)
+
+pub glue_forall-returns-clause-refutes : goal.glue_forall-returns-clause-refutes
+glue_forall-returns-clause-refutes t c =
+    let d = c.args.draft.now in
+    let F = c.args.front.now in
+    let d1 = c.open_universal.new.draft in
+    let x = c.in_ok-inner.ensures.grows in
+    let id = c.in_ok-inner.inner in
+    let X = tree_at d.trees c.args.ty in
+    let B = tree_at d.trees c.args.body in
+    let d2 = c.glue_goal.new.draft in
+    let x2 = c.in_ok-step.ensures.grows in
+    let d3 = c.negation.new.draft in
+    let last = c.in_ok-no_inner.ensures in
+    let x3 = AddsTrees_extends d2 d3 last.grows in
+    let y : Extends d d3 = Extends_trans d d2 d3 (Extends_trans d d1 d2 x x2) x3 in
+    let y1 : Extends d1 d3 = Extends_trans d1 d2 d3 x2 x3 in
+    let f1 = formulas_later d d1 x F c.requires.front in
+    IfOk-weaker c.refute_forall.result _ _ (λ k r. neg_back d d3 y F c.requires.front c.args.goal c.requires.goal c.refute_forall.new.draft k r) c.refute_forall.ensures.refutes
+
+pub glue_forall-returns-clause-grows : goal.glue_forall-returns-clause-grows
+glue_forall-returns-clause-grows t c =
+    let d = c.args.draft.now in
+    let F = c.args.front.now in
+    let d1 = c.open_universal.new.draft in
+    let x = c.in_ok-inner.ensures.grows in
+    let id = c.in_ok-inner.inner in
+    let X = tree_at d.trees c.args.ty in
+    let B = tree_at d.trees c.args.body in
+    let d2 = c.glue_goal.new.draft in
+    let x2 = c.in_ok-step.ensures.grows in
+    let d3 = c.negation.new.draft in
+    let last = c.in_ok-no_inner.ensures in
+    let x3 = AddsTrees_extends d2 d3 last.grows in
+    let y : Extends d d3 = Extends_trans d d2 d3 (Extends_trans d d1 d2 x x2) x3 in
+    let y1 : Extends d1 d3 = Extends_trans d1 d2 d3 x2 x3 in
+    let f1 = formulas_later d d1 x F c.requires.front in
+    Extends_trans _ _ _ y c.refute_forall.ensures.grows
+
+-- ---- a `let`
+pub glue_let-glue_goal-requires : goal.glue_let-glue_goal-requires
+glue_let-glue_goal-requires t c =
+    let d = c.args.draft.now in
+    let F = c.args.front.now in
+    let d1 = c.open_valued.new.draft in
+    let x = c.in_ok-inner.ensures.grows in
+    let id = c.in_ok-inner.inner in
+    let X = tree_at d.trees c.args.value in
+    let B = tree_at d.trees c.args.body in
+    let m : splits (tree_at d1.trees id) ≡ splits B = ap splits c.in_ok-inner.ensures.is ∙ valued_splits d c.args.goal c.args.value c.args.body c.requires.goal c.requires.tree (X) in
+    let mg : splits (tree_at d.trees c.args.goal) ≡ suc (splits B) = ap splits c.requires.tree in
+    let f : trees_at d1.trees F ≡ trees_at d.trees F = same d d1 x F c.requires.front in
+    let below = subst (λ (z : List Tree). AreBelow (c.args.number) z (tree_at d1.trees id)) (sym f) c.in_ok-inner.ensures.below in
+    let made = subst (λ (z : List ℕ). Ends d1 z (trees_at d.trees F) (split (tree_at d1.trees id))) (sym c.deref.ensures.value) c.in_ok-inner.ensures.ends in
+    let ends = subst (λ (z : List Tree). Ends d1 c.deref.result.now z (split (tree_at d1.trees id))) (sym f) made in
+    (omega (arith, m, mg), (formulas_later d d1 x F c.requires.front, (c.in_ok-inner.ensures.formula, (below, ends))))
+
+pub glue_let-returns-in_err-step-clause-grows : goal.glue_let-returns-in_err-step-clause-grows
+glue_let-returns-in_err-step-clause-grows t c =
+    Extends_trans _ _ _ c.in_ok-inner.ensures.grows c.glue_goal.ensures.grows
+
+pub glue_let-refute_let-requires-clause-front : goal.glue_let-refute_let-requires-clause-front
+glue_let-refute_let-requires-clause-front t c =
+    let d = c.args.draft.now in
+    let F = c.args.front.now in
+    let d1 = c.open_valued.new.draft in
+    let x = c.in_ok-inner.ensures.grows in
+    let id = c.in_ok-inner.inner in
+    let X = tree_at d.trees c.args.value in
+    let B = tree_at d.trees c.args.body in
+    let d2 = c.glue_goal.new.draft in
+    let x2 = c.in_ok-step.ensures.grows in
+    let d3 = c.connected.new.draft in
+    let last = c.in_ok-defined.ensures in
+    let x3 = AddsTrees_extends d2 d3 last.grows in
+    let y : Extends d d3 = Extends_trans d d2 d3 (Extends_trans d d1 d2 x x2) x3 in
+    let y1 : Extends d1 d3 = Extends_trans d1 d2 d3 x2 x3 in
+    let f1 = formulas_later d d1 x F c.requires.front in
+    formulas_later d d3 y F c.requires.front
+
+pub glue_let-refute_let-requires-clause-step : goal.glue_let-refute_let-requires-clause-step
+glue_let-refute_let-requires-clause-step t c =
+    let d = c.args.draft.now in
+    let F = c.args.front.now in
+    let d1 = c.open_valued.new.draft in
+    let x = c.in_ok-inner.ensures.grows in
+    let id = c.in_ok-inner.inner in
+    let X = tree_at d.trees c.args.value in
+    let B = tree_at d.trees c.args.body in
+    let d2 = c.glue_goal.new.draft in
+    let x2 = c.in_ok-step.ensures.grows in
+    let d3 = c.connected.new.draft in
+    let last = c.in_ok-defined.ensures in
+    let x3 = AddsTrees_extends d2 d3 last.grows in
+    let y : Extends d d3 = Extends_trans d d2 d3 (Extends_trans d d1 d2 x x2) x3 in
+    let y1 : Extends d1 d3 = Extends_trans d1 d2 d3 x2 x3 in
+    let f1 = formulas_later d d1 x F c.requires.front in
+    neg_moved d1 d3 y1 F f1 id c.in_ok-inner.ensures.formula d3 c.in_ok-step.step (refutes_later d2 d3 x3 c.in_ok-step.step _ c.in_ok-step.ensures.refutes)
+
+pub glue_let-returns-clause-refutes : goal.glue_let-returns-clause-refutes
+glue_let-returns-clause-refutes t c =
+    let d = c.args.draft.now in
+    let F = c.args.front.now in
+    let d1 = c.open_valued.new.draft in
+    let x = c.in_ok-inner.ensures.grows in
+    let id = c.in_ok-inner.inner in
+    let X = tree_at d.trees c.args.value in
+    let B = tree_at d.trees c.args.body in
+    let d2 = c.glue_goal.new.draft in
+    let x2 = c.in_ok-step.ensures.grows in
+    let d3 = c.connected.new.draft in
+    let last = c.in_ok-defined.ensures in
+    let x3 = AddsTrees_extends d2 d3 last.grows in
+    let y : Extends d d3 = Extends_trans d d2 d3 (Extends_trans d d1 d2 x x2) x3 in
+    let y1 : Extends d1 d3 = Extends_trans d1 d2 d3 x2 x3 in
+    let f1 = formulas_later d d1 x F c.requires.front in
+    IfOk-weaker c.refute_let.result _ _ (λ k r. neg_back d d3 y F c.requires.front c.args.goal c.requires.goal c.refute_let.new.draft k r) c.refute_let.ensures.refutes
+
+pub glue_let-returns-clause-grows : goal.glue_let-returns-clause-grows
+glue_let-returns-clause-grows t c =
+    let d = c.args.draft.now in
+    let F = c.args.front.now in
+    let d1 = c.open_valued.new.draft in
+    let x = c.in_ok-inner.ensures.grows in
+    let id = c.in_ok-inner.inner in
+    let X = tree_at d.trees c.args.value in
+    let B = tree_at d.trees c.args.body in
+    let d2 = c.glue_goal.new.draft in
+    let x2 = c.in_ok-step.ensures.grows in
+    let d3 = c.connected.new.draft in
+    let last = c.in_ok-defined.ensures in
+    let x3 = AddsTrees_extends d2 d3 last.grows in
+    let y : Extends d d3 = Extends_trans d d2 d3 (Extends_trans d d1 d2 x x2) x3 in
+    let y1 : Extends d1 d3 = Extends_trans d1 d2 d3 x2 x3 in
+    let f1 = formulas_later d d1 x F c.requires.front in
+    Extends_trans _ _ _ y c.refute_let.ensures.grows
+
+pub glue_forall-returns-in_err-no_inner-clause-grows : goal.glue_forall-returns-in_err-no_inner-clause-grows
+glue_forall-returns-in_err-no_inner-clause-grows t c = Extends_trans _ _ _ (Extends_trans _ _ _ c.in_ok-inner.ensures.grows c.in_ok-step.ensures.grows) (AddsTrees_extends _ _ c.negation.ensures.grows)
+
+pub glue_let-returns-in_err-defined-clause-grows : goal.glue_let-returns-in_err-defined-clause-grows
+glue_let-returns-in_err-defined-clause-grows t c = Extends_trans _ _ _ (Extends_trans _ _ _ c.in_ok-inner.ensures.grows c.in_ok-step.ensures.grows) (AddsTrees_extends _ _ c.connected.ensures.grows)
+
+-- ---- an `if`
+pub glue_if-glue_two-requires : goal.glue_if-glue_two-requires
+glue_if-glue_two-requires t c =
+    let d = c.args.draft.now in
+    let F = c.args.front.now in
+    let n1 = c.negation.new.draft in
+    let n2 = c.connected.new.draft in
+    let n3 = c.connected-2.new.draft in
+    let n4 = c.if_equation.new.draft in
+    let x1 = AddsTrees_extends d n1 c.in_ok-no_cond.ensures.grows in
+    let x2 = AddsTrees_extends n1 n2 c.in_ok-there.ensures.grows in
+    let x3 = AddsTrees_extends n2 n3 c.in_ok-away.ensures.grows in
+    let x4 = AddsTrees_extends n3 n4 c.in_ok-defined.ensures.grows in
+    let y34 : Extends n2 n4 = Extends_trans n2 n3 n4 x3 x4 in
+    let y12 : Extends d n2 = Extends_trans d n1 n2 x1 x2 in
+    let y : Extends d n4 = Extends_trans d n2 n4 y12 y34 in
+    let there = c.in_ok-there.there in
+    let away = c.in_ok-away.away in
+    let tf = formula_later n2 n4 y34 there c.in_ok-there.ensures.formula in
+    let wf = formula_later n3 n4 x4 away c.in_ok-away.ensures.formula in
+    let C = tree_at d.trees c.args.cond in
+    let A = tree_at d.trees c.args.a in
+    let B = tree_at d.trees c.args.b in
+    let c1 : tree_at n1.trees c.args.cond ≡ C = x1.trees.same c.args.cond.0 c.requires.cond.held in
+    let a1 : tree_at n1.trees c.args.a ≡ A = x1.trees.same c.args.a.0 c.requires.a.held in
+    let b2 : tree_at n2.trees c.args.b ≡ B = y12.trees.same c.args.b.0 c.requires.b.held in
+    let k2 : tree_at n2.trees c.in_ok-no_cond.no_cond ≡ neg C = x2.trees.same c.in_ok-no_cond.no_cond.0 c.in_ok-no_cond.ensures.formula.held ∙ c.in_ok-no_cond.ensures.tree in
+    let jt : Two (HJoin Imp) (tree_at n1.trees c.args.cond) (tree_at n1.trees c.args.a) ≡ Two (HJoin Imp) C A = cc (c1, a1) in
+    let jw : Two (HJoin Imp) (tree_at n2.trees c.in_ok-no_cond.no_cond) (tree_at n2.trees c.args.b) ≡ Two (HJoin Imp) (neg C) B = cc (k2, b2) in
+    let et : tree_at n4.trees there ≡ Two (HJoin Imp) C A = y34.trees.same there.0 c.in_ok-there.ensures.formula.held ∙ c.in_ok-there.ensures.tree ∙ jt in
+    let ew : tree_at n4.trees away ≡ Two (HJoin Imp) (neg C) B = x4.trees.same away.0 c.in_ok-away.ensures.formula.held ∙ c.in_ok-away.ensures.tree ∙ jw in
+    let mt : splits (tree_at n4.trees there) ≡ suc (splits A) = ap splits et in
+    let mw : splits (tree_at n4.trees away) ≡ suc (splits B) = ap splits ew in
+    let mg : splits (tree_at d.trees c.args.goal) ≡ suc (suc (suc (splits A + splits B))) = ap splits c.requires.tree in
+    let l : AreBelow c.args.number (trees_at d.trees F) (Three HIf C A B) = subst (AreBelow c.args.number (trees_at d.trees F)) c.requires.tree c.requires.below in
+    let e : Ends d c.args.ends.now (trees_at d.trees F) (map (imp C) (split A) ++ map (imp (neg C)) (split B)) = subst (Ends d c.args.ends.now (trees_at d.trees F)) (ap split c.requires.tree) c.requires.ends in
+    let st : split (tree_at n4.trees there) ≡ map (imp C) (split A) = ap split et in
+    let sw : split (tree_at n4.trees away) ≡ map (imp (neg C)) (split B) = ap split ew in
+    let q : map (imp C) (split A) ++ map (imp (neg C)) (split B) ≡ split (tree_at n4.trees there) ++ split (tree_at n4.trees away) = cc (st, sw) in (
+      omega (arith, mt, mw, mg),
+      (
+        formulas_later d n4 y F c.requires.front,
+        (
+          tf,
+          (
+            wf,
+            (
+              below_later d n4 y F c.requires.front c.args.number (Two (HJoin Imp) C A) (tree_at n4.trees there) et (then_below c.args.number (trees_at d.trees F) C A B l),
+              (
+                below_later d n4 y F c.requires.front c.args.number (Two (HJoin Imp) (neg C) B) (tree_at n4.trees away) ew (else_below c.args.number (trees_at d.trees F) C A B l),
+                subst (Ends n4 c.args.ends.now (trees_at n4.trees F)) q (ends_later d n4 y F c.requires.front c.args.ends.now (map (imp C) (split A) ++ map (imp (neg C)) (split B)) e),
+              ),
+            ),
+          ),
+        ),
+      ),
+    )
+
+pub glue_if-refute_if-requires-clause-front : goal.glue_if-refute_if-requires-clause-front
+glue_if-refute_if-requires-clause-front t c =
+    let d = c.args.draft.now in
+    let F = c.args.front.now in
+    let n1 = c.negation.new.draft in
+    let n2 = c.connected.new.draft in
+    let n3 = c.connected-2.new.draft in
+    let n4 = c.if_equation.new.draft in
+    let x1 = AddsTrees_extends d n1 c.in_ok-no_cond.ensures.grows in
+    let x2 = AddsTrees_extends n1 n2 c.in_ok-there.ensures.grows in
+    let x3 = AddsTrees_extends n2 n3 c.in_ok-away.ensures.grows in
+    let x4 = AddsTrees_extends n3 n4 c.in_ok-defined.ensures.grows in
+    let y34 : Extends n2 n4 = Extends_trans n2 n3 n4 x3 x4 in
+    let y12 : Extends d n2 = Extends_trans d n1 n2 x1 x2 in
+    let y : Extends d n4 = Extends_trans d n2 n4 y12 y34 in
+    let there = c.in_ok-there.there in
+    let away = c.in_ok-away.away in
+    let tf = formula_later n2 n4 y34 there c.in_ok-there.ensures.formula in
+    let wf = formula_later n3 n4 x4 away c.in_ok-away.ensures.formula in
+    let n5 = c.glue_two.new.draft in
+    let x5 = c.in_ok-left.ensures.grows in
+    let f4 = formulas_later d n4 y F c.requires.front in
+    let z : Extends d n5 = Extends_trans d n4 n5 y x5 in
+    formulas_later d n5 z F c.requires.front
+
+pub glue_if-refute_if-requires-clause-left : goal.glue_if-refute_if-requires-clause-left
+glue_if-refute_if-requires-clause-left t c =
+    let d = c.args.draft.now in
+    let F = c.args.front.now in
+    let n1 = c.negation.new.draft in
+    let n2 = c.connected.new.draft in
+    let n3 = c.connected-2.new.draft in
+    let n4 = c.if_equation.new.draft in
+    let x1 = AddsTrees_extends d n1 c.in_ok-no_cond.ensures.grows in
+    let x2 = AddsTrees_extends n1 n2 c.in_ok-there.ensures.grows in
+    let x3 = AddsTrees_extends n2 n3 c.in_ok-away.ensures.grows in
+    let x4 = AddsTrees_extends n3 n4 c.in_ok-defined.ensures.grows in
+    let y34 : Extends n2 n4 = Extends_trans n2 n3 n4 x3 x4 in
+    let y12 : Extends d n2 = Extends_trans d n1 n2 x1 x2 in
+    let y : Extends d n4 = Extends_trans d n2 n4 y12 y34 in
+    let there = c.in_ok-there.there in
+    let away = c.in_ok-away.away in
+    let tf = formula_later n2 n4 y34 there c.in_ok-there.ensures.formula in
+    let wf = formula_later n3 n4 x4 away c.in_ok-away.ensures.formula in
+    let n5 = c.glue_two.new.draft in
+    let x5 = c.in_ok-left.ensures.grows in
+    let f4 = formulas_later d n4 y F c.requires.front in
+    let z : Extends d n5 = Extends_trans d n4 n5 y x5 in
+    neg_moved n4 n5 x5 F f4 there tf n5 c.in_ok-left.left c.in_ok-left.ensures.left
+
+pub glue_if-refute_if-requires-clause-right : goal.glue_if-refute_if-requires-clause-right
+glue_if-refute_if-requires-clause-right t c =
+    let d = c.args.draft.now in
+    let F = c.args.front.now in
+    let n1 = c.negation.new.draft in
+    let n2 = c.connected.new.draft in
+    let n3 = c.connected-2.new.draft in
+    let n4 = c.if_equation.new.draft in
+    let x1 = AddsTrees_extends d n1 c.in_ok-no_cond.ensures.grows in
+    let x2 = AddsTrees_extends n1 n2 c.in_ok-there.ensures.grows in
+    let x3 = AddsTrees_extends n2 n3 c.in_ok-away.ensures.grows in
+    let x4 = AddsTrees_extends n3 n4 c.in_ok-defined.ensures.grows in
+    let y34 : Extends n2 n4 = Extends_trans n2 n3 n4 x3 x4 in
+    let y12 : Extends d n2 = Extends_trans d n1 n2 x1 x2 in
+    let y : Extends d n4 = Extends_trans d n2 n4 y12 y34 in
+    let there = c.in_ok-there.there in
+    let away = c.in_ok-away.away in
+    let tf = formula_later n2 n4 y34 there c.in_ok-there.ensures.formula in
+    let wf = formula_later n3 n4 x4 away c.in_ok-away.ensures.formula in
+    let n5 = c.glue_two.new.draft in
+    let x5 = c.in_ok-left.ensures.grows in
+    let f4 = formulas_later d n4 y F c.requires.front in
+    let z : Extends d n5 = Extends_trans d n4 n5 y x5 in
+    neg_moved n4 n5 x5 F f4 away wf n5 c.in_ok-left.right c.in_ok-left.ensures.right
+
+pub glue_if-returns-clause-refutes : goal.glue_if-returns-clause-refutes
+glue_if-returns-clause-refutes t c =
+    let d = c.args.draft.now in
+    let F = c.args.front.now in
+    let n1 = c.negation.new.draft in
+    let n2 = c.connected.new.draft in
+    let n3 = c.connected-2.new.draft in
+    let n4 = c.if_equation.new.draft in
+    let x1 = AddsTrees_extends d n1 c.in_ok-no_cond.ensures.grows in
+    let x2 = AddsTrees_extends n1 n2 c.in_ok-there.ensures.grows in
+    let x3 = AddsTrees_extends n2 n3 c.in_ok-away.ensures.grows in
+    let x4 = AddsTrees_extends n3 n4 c.in_ok-defined.ensures.grows in
+    let y34 : Extends n2 n4 = Extends_trans n2 n3 n4 x3 x4 in
+    let y12 : Extends d n2 = Extends_trans d n1 n2 x1 x2 in
+    let y : Extends d n4 = Extends_trans d n2 n4 y12 y34 in
+    let there = c.in_ok-there.there in
+    let away = c.in_ok-away.away in
+    let tf = formula_later n2 n4 y34 there c.in_ok-there.ensures.formula in
+    let wf = formula_later n3 n4 x4 away c.in_ok-away.ensures.formula in
+    let n5 = c.glue_two.new.draft in
+    let x5 = c.in_ok-left.ensures.grows in
+    let f4 = formulas_later d n4 y F c.requires.front in
+    let z : Extends d n5 = Extends_trans d n4 n5 y x5 in
+    IfOk-weaker c.refute_if.result _ _ (λ k r. neg_back d n5 z F c.requires.front c.args.goal c.requires.goal c.refute_if.new.draft k r) c.refute_if.ensures.refutes
+
+pub glue_if-returns-clause-grows : goal.glue_if-returns-clause-grows
+glue_if-returns-clause-grows t c =
+    let d = c.args.draft.now in
+    let F = c.args.front.now in
+    let n1 = c.negation.new.draft in
+    let n2 = c.connected.new.draft in
+    let n3 = c.connected-2.new.draft in
+    let n4 = c.if_equation.new.draft in
+    let x1 = AddsTrees_extends d n1 c.in_ok-no_cond.ensures.grows in
+    let x2 = AddsTrees_extends n1 n2 c.in_ok-there.ensures.grows in
+    let x3 = AddsTrees_extends n2 n3 c.in_ok-away.ensures.grows in
+    let x4 = AddsTrees_extends n3 n4 c.in_ok-defined.ensures.grows in
+    let y34 : Extends n2 n4 = Extends_trans n2 n3 n4 x3 x4 in
+    let y12 : Extends d n2 = Extends_trans d n1 n2 x1 x2 in
+    let y : Extends d n4 = Extends_trans d n2 n4 y12 y34 in
+    let there = c.in_ok-there.there in
+    let away = c.in_ok-away.away in
+    let tf = formula_later n2 n4 y34 there c.in_ok-there.ensures.formula in
+    let wf = formula_later n3 n4 x4 away c.in_ok-away.ensures.formula in
+    let n5 = c.glue_two.new.draft in
+    let x5 = c.in_ok-left.ensures.grows in
+    let f4 = formulas_later d n4 y F c.requires.front in
+    let z : Extends d n5 = Extends_trans d n4 n5 y x5 in
+    Extends_trans _ _ _ z c.refute_if.ensures.grows

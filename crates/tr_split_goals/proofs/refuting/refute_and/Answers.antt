@@ -1,0 +1,52 @@
+use Rattle.std.proofs.Common.{◌≡◌, [], ◌∷◌, length, refl, ap, ◌∙◌}
+use Rattle.std.proofs.lemmas.Result.{IfOk-weaker}
+use Rattle.std.proofs.lemmas.List.Elements.{All-nil}
+use Rattle.trees.specs.declared.Op.TheVariants.{And}
+use Rattle.trees.specs.Node.{tree_at}
+use Rattle.tasks.specs.Task.{neg}
+use Rattle.tasks.specs.Meaning.{trees_at}
+use Rattle.rule_rows.specs.Forms.{join}
+use Rattle.evidence.specs.Drafts.{AreFormulas}
+use Rattle.evidence.specs.Laws.{Extends_trans, AddsTrees_extends}
+use Rattle.evidence.proofs.Formulas.{formulas_later}
+use Rattle.proof_scripts.specs.declared.line.Line.TheVariants as line
+use Rattle.tr_split_goals.proofs.Moving.{end_back, moved, front_length, lines_held}
+use Rattle.tr_split_goals.proofs.Scripts.{and_follows}
+use Rattle.tr_split_goals.proofs.refuting.refute_and.Goals as goal
+
+pub derive-requires-clause-front : goal.derive-requires-clause-front
+derive-requires-clause-front c = formulas_later c.args.draft.now c.negation.new.draft (AddsTrees_extends _ _ c.in_ok-no_goal.ensures.grows) c.args.front.now c.requires.front
+
+pub derive-requires-clause-lines : goal.derive-requires-clause-lines
+derive-requires-clause-lines c =
+    let d = c.args.draft.now in
+    let d1 = c.negation.new.draft in
+    let x = AddsTrees_extends d d1 c.in_ok-no_goal.ensures.grows in
+    let n = length c.args.front.now in
+    let N = All-nil (AreFormulas d1) in
+    lines_held d1 (line.Failing And 0 ∷ line.Given c.args.left 1 ∷ line.Given c.args.right 1 ∷ [])
+    (tt, (tt, (tt, tt)))
+
+pub derive-requires-clause-follow : goal.derive-requires-clause-follow
+derive-requires-clause-follow c =
+    let d = c.args.draft.now in
+    let d1 = c.negation.new.draft in
+    let x = AddsTrees_extends d d1 c.in_ok-no_goal.ensures.grows in
+    let s = d.trees in
+    let F = c.args.front.now in
+    let f = c.requires.front in
+    let a = tree_at s c.args.a in
+    let b = tree_at s c.args.b in
+    let e : tree_at d1.trees c.in_ok-no_goal.no_goal ≡ neg (join And a b) = c.in_ok-no_goal.ensures.tree ∙ ap neg c.requires.tree in
+    let l = moved d d1 x F f c.args.left (neg a ∷ []) (neg a ∷ []) refl c.requires.left in
+    let r = moved d d1 x F f c.args.right (neg b ∷ []) (neg b ∷ []) refl c.requires.right in
+    rw e (and_follows d1 (trees_at d1.trees F) _ (front_length d1.trees F) a b c.args.left c.args.right l r)
+
+pub returns-clause-refutes : goal.returns-clause-refutes
+returns-clause-refutes c =
+    let d = c.args.draft.now in
+    let x = AddsTrees_extends d c.negation.new.draft c.in_ok-no_goal.ensures.grows in
+    IfOk-weaker c.derive.result _ _ (λ k r. end_back d c.negation.new.draft x c.args.front.now c.requires.front c.derive.new.draft k c.in_ok-no_goal.no_goal (tree_at d.trees c.args.goal) c.in_ok-no_goal.ensures.tree r) c.derive.ensures.refutes
+
+pub returns-clause-grows : goal.returns-clause-grows
+returns-clause-grows c = Extends_trans _ _ _ (AddsTrees_extends _ _ c.in_ok-no_goal.ensures.grows) c.derive.ensures.grows

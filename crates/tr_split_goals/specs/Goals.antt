@@ -1,0 +1,27 @@
+-- The equation of splitting goals, bounded as every stage's is, and how deep a formula is split.
+use Rattle.std.specs.Prelude.{ℕ, suc, ◌+◌, ◌≤◌, List, Result, All}
+use Rattle.trees.specs.declared.Op.TheVariants.{And, AndThen, Imp}
+use Rattle.trees.specs.Tree.{Tree, Two, Three, HJoin, HForall, HLet, HIf, above_params}
+use Rattle.tasks.specs.Task.{TaskTree}
+use Rattle.evidence.specs.Stages.{Refusal}
+use Rattle.stage_limits.specs.Limits.{limited}
+use Rattle.tr_split.specs.Split.{split_task}
+
+-- a task for each part of the goal, where they aren't too large
+abbrev pub split_equation : TaskTree → Result (List TaskTree) Refusal
+split_equation t = limited (split_task t)
+
+-- a number that falls from a formula to each formula that is split in its place
+abbrev pub splits : Tree → ℕ
+splits (Two (HJoin And) a b) = suc (splits a + splits b)
+splits (Two (HJoin AndThen) a b) = suc (suc (splits a + splits b))
+splits (Two (HJoin Imp) a b) = suc (splits b)
+splits (Two HForall ty a) = suc (splits a)
+splits (Two HLet t a) = suc (splits a)
+splits (Three HIf c a b) = suc (suc (suc (splits a + splits b)))
+splits _ = 0
+
+-- each parameter of the formulas and of the goal is below this number
+pub record AreBelow (number : ℕ) (es : List Tree) (e : Tree) : Type 0 where
+  pub front : All (λ a. above_params a ≤ number) es
+  pub goal : above_params e ≤ number

@@ -1,0 +1,67 @@
+-- What a part stands under, and what its end gives.
+use Rattle.std.specs.Prelude.{ℕ, List, [], ◌∷◌, ◌++◌, map}
+use Rattle.trees.specs.declared.TermId.{TermId}
+use Rattle.trees.specs.Tree.{Tree, Two, HForall, HLet}
+use Rattle.trees.specs.Node.{tree_at, Holds}
+use Rattle.trees.specs.Binding.{inst}
+use Rattle.tasks.specs.Task.{neg}
+use Rattle.tasks.specs.Vocabulary.{of_task}
+use Rattle.tasks.specs.Valid.{VariablesBelow}
+use Rattle.evidence.specs.Drafts.{DraftTree, Refutes, IsFormulaAt}
+use Rattle.instances.specs.Instances.{IsTermOf, IsClosedTerm}
+use Rattle.tr_split.specs.Split.{imp, split}
+use Rattle.tr_split_goals.specs.declared.over.Over.{Over}
+use Rattle.tr_split_goals.specs.declared.over.Over.TheVariants as stands
+
+-- a step refutes the formulas and the negation of a part under this
+pub record PartOf (d : DraftTree) (k : ℕ) (front : List Tree) (whole : Tree → Tree) : Type 0 where
+  pub part : Tree
+  pub refutes : Refutes d k (front ++ neg (whole part) ∷ [])
+
+-- a closed term of this type, over the task of the draft
+pub record IsTermAt (d : DraftTree) (ty : Tree) (id : TermId) : Type 0 where
+  pub held : Holds d.trees id
+  pub closed : IsClosedTerm (tree_at d.trees id)
+  pub term : IsTermOf (of_task d.task) ty (tree_at d.trees id)
+  pub variables : VariablesBelow 0 (tree_at d.trees id)
+
+-- a closed term of some type
+pub record IsTypedTermAt (d : DraftTree) (id : TermId) : Type 0 where
+  pub ty : Tree
+  pub term : IsTermAt d ty id
+
+-- a quantifier or a `let`
+abbrev pub IsBinding : Tree → Type 0
+IsBinding (Two HForall a b) = Unit {0}
+IsBinding (Two HLet a b) = Unit {0}
+IsBinding _ = ⊥
+
+-- ---- what a part stands under
+abbrev pub whole_of : List Tree → Over → Tree → Tree
+whole_of s (stands.Hypothesis h) a = imp (tree_at s h) a
+whole_of s (stands.Universal ty t) a = Two HForall (tree_at s ty) a
+whole_of s (stands.Value v) a = Two HLet (tree_at s v) a
+
+-- the part alone: under a hypothesis it is the same, and under a binder that is opened it is an instance
+abbrev pub inner_of : List Tree → Over → Tree → Tree
+inner_of s (stands.Hypothesis h) a = a
+inner_of s (stands.Universal ty t) a = inst a (tree_at s t)
+inner_of s (stands.Value v) a = inst a (tree_at s v)
+
+-- what is assumed for the part alone
+abbrev pub extra_of : List Tree → Over → List Tree
+extra_of s (stands.Hypothesis h) = tree_at s h ∷ []
+extra_of s (stands.Universal ty t) = []
+extra_of s (stands.Value v) = []
+
+abbrev pub OverHeld : DraftTree → Over → Type 0
+OverHeld d (stands.Hypothesis h) = IsFormulaAt d h
+OverHeld d (stands.Universal ty t) = Holds d.trees ty × IsTermAt d (tree_at d.trees ty) t
+OverHeld d (stands.Value v) = IsTypedTermAt d v
+
+-- the parts of a formula under what they stand under, and alone
+abbrev pub wholes : List Tree → Over → Tree → List Tree
+wholes s o a = map (whole_of s o) (split a)
+
+abbrev pub inners : List Tree → Over → Tree → List Tree
+inners s o a = map (inner_of s o) (split a)

@@ -1,0 +1,87 @@
+// What a goal binds opened, with the ends of its parts there.
+ghost use Rattle.std.specs.Prelude.{◌≡◌, ◌<◌, ◌+◌, IfOk};
+ghost use Rattle.trees.specs.Tree.{Two, HForall, HLet};
+ghost use Rattle.trees.specs.Node.{tree_at, Holds};
+ghost use Rattle.trees.specs.Binding.{inst, Param};
+ghost use Rattle.tasks.specs.Meaning.{trees_at};
+ghost use Rattle.evidence.specs.Drafts.{Extends, IsFormulaAt, AreFormulas};
+ghost use Rattle.tr_split.specs.Split.{split};
+ghost use Rattle.tr_split.specs.Glue.{Ends};
+ghost use Rattle.tr_split_goals.specs.Goals.{AreBelow};
+
+use crate::over::{Over, ends_over};
+use evidence::Draft;
+use instances::{instance, parameter};
+use std::alloc::AllocError;
+use trees::TermId;
+
+// The body of a quantifier at the parameter of this number, and steps that refute its parts.
+pub(crate) fn open_universal(
+    draft: &mut Draft,
+    front: &[TermId],
+    goal: TermId,
+    ty: TermId,
+    body: TermId,
+    number: usize,
+    ends: &[usize],
+) -> Result<(TermId, Vec<usize>), AllocError>
+    requires front { AreFormulas draft.old front.now }
+    requires goal { IsFormulaAt draft.old goal }
+    requires tree { tree_at draft.old.trees goal
+        ≡ Two HForall (tree_at draft.old.trees ty) (tree_at draft.old.trees body) }
+    requires ty_held { Holds draft.old.trees ty }
+    requires body_held { Holds draft.old.trees body }
+    requires below { AreBelow number (trees_at draft.old.trees front.now)
+        (tree_at draft.old.trees goal) }
+    requires ends { Ends draft.old ends.now (trees_at draft.old.trees front.now)
+        (split (tree_at draft.old.trees goal)) }
+    ensures formula { IfOk result (λ r. IsFormulaAt draft.new r.0) }
+    ensures is { IfOk result (λ r. tree_at draft.new.trees r.0
+        ≡ inst (tree_at draft.old.trees body) (Param number (tree_at draft.old.trees ty))) }
+    ensures below { IfOk result (λ r. AreBelow (number + 1) (trees_at draft.old.trees front.now)
+        (tree_at draft.new.trees r.0)) }
+    ensures ends { IfOk result (λ r. Ends draft.new r.1.items
+        (trees_at draft.old.trees front.now) (split (tree_at draft.new.trees r.0))) }
+    ensures grows { Extends draft.old draft.new }
+{
+    let param = parameter(draft, number, ty)?;
+    let alloc = draft.allocator();
+    let inner = instance(alloc, draft, body, param)?;
+    let made = ends_over(draft, front, Over::Universal(ty, param), body, ends)?;
+    Ok((inner, made))
+}
+
+// The body of a `let` at its value, and steps that refute its parts.
+pub(crate) fn open_valued(
+    draft: &mut Draft,
+    front: &[TermId],
+    goal: TermId,
+    value: TermId,
+    body: TermId,
+    number: usize,
+    ends: &[usize],
+) -> Result<(TermId, Vec<usize>), AllocError>
+    requires front { AreFormulas draft.old front.now }
+    requires goal { IsFormulaAt draft.old goal }
+    requires tree { tree_at draft.old.trees goal
+        ≡ Two HLet (tree_at draft.old.trees value) (tree_at draft.old.trees body) }
+    requires value_held { Holds draft.old.trees value }
+    requires body_held { Holds draft.old.trees body }
+    requires below { AreBelow number (trees_at draft.old.trees front.now)
+        (tree_at draft.old.trees goal) }
+    requires ends { Ends draft.old ends.now (trees_at draft.old.trees front.now)
+        (split (tree_at draft.old.trees goal)) }
+    ensures formula { IfOk result (λ r. IsFormulaAt draft.new r.0) }
+    ensures is { IfOk result (λ r. tree_at draft.new.trees r.0
+        ≡ inst (tree_at draft.old.trees body) (tree_at draft.old.trees value)) }
+    ensures below { IfOk result (λ r. AreBelow number (trees_at draft.old.trees front.now)
+        (tree_at draft.new.trees r.0)) }
+    ensures ends { IfOk result (λ r. Ends draft.new r.1.items
+        (trees_at draft.old.trees front.now) (split (tree_at draft.new.trees r.0))) }
+    ensures grows { Extends draft.old draft.new }
+{
+    let alloc = draft.allocator();
+    let inner = instance(alloc, draft, body, value)?;
+    let made = ends_over(draft, front, Over::Value(value), body, ends)?;
+    Ok((inner, made))
+}

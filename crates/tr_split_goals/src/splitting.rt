@@ -1,0 +1,63 @@
+// The transformation that splits every goal.
+ghost use Rattle.tr_split_goals.specs.Goals.{split_equation};
+ghost use Rattle.tr_split_goals.specs.Kept.{split_keeps};
+
+use crate::gluing::glue_goal;
+use evidence::{Draft, StageFault, Transform, fact_lemma};
+use stage_limits::limited;
+use std::alloc::{AllocError, Global};
+use tasks::{Fact, Task};
+use term_store::Store;
+use tr_split::split_goal;
+use trees::TermId;
+
+/// The transformation that takes a goal apart, whatever the goal: a task for each part, or `TooLarge` where they are too large.
+#[derive(Clone, Copy, Debug)]
+pub struct Split;
+
+impl Transform for Split {
+    ghost equation = { λ _ from. split_equation from };
+
+    ghost closed = { λ _ _ _. ⊥ };
+
+    /// A task for each part of the goal, in order.
+    fn apply(
+        &self,
+        alloc: Global,
+        store: &mut Store,
+        task: &Task,
+    ) -> Result<Vec<Task>, StageFault> {
+        match split_goal(alloc, store, task) {
+            Ok(tasks) => limited(store, tasks),
+            Err(_) => Err(StageFault::Memory),
+        }
+    }
+
+    fn fact(
+        &self,
+        from: &Task,
+        to: &Task,
+        name: Fact,
+        types: &[TermId],
+        formula: TermId,
+        draft: &mut Draft,
+    ) -> Result<usize, AllocError> {
+        let _ = from;
+        let _ = to;
+        fact_lemma(draft, name, types, formula)
+    }
+
+    fn glue(
+        &self,
+        from: &Task,
+        to: &Vec<Task>,
+        ends: &[usize],
+        draft: &mut Draft,
+    ) -> Result<usize, AllocError> {
+        let _ = to;
+        let number = from.params.len();
+        glue_goal(draft, from.locals.as_slice(), from.goal, number, ends)
+    }
+
+    ghost keeps = { λ _ t ts valid gives. split_keeps t ts valid gives };
+}
