@@ -1,4 +1,5 @@
 // Whether tasks are small enough, and the answer of a stage by it.
+ghost use Rattle.evidence.specs.declared.stage.StageFault.TheVariants.{TooLarge};
 ghost use Rattle.std.specs.Prelude.{◌≡◌, min, sum_by, IfOk, IfErr};
 ghost use Rattle.std.specs.List.{list_all};
 ghost use Rattle.tasks.specs.Task.{nodes};
@@ -66,6 +67,7 @@ pub fn limited(store: &Store, tasks: Vec<Task>) -> Result<Vec<Task>, StageFault>
     ensures tasks { IfOk result (λ ts. limited (tasks_at store.now tasks.items)
         ≡ Ok (tasks_at store.now ts.items)) }
     ensures fault { IfErr result (IsStageFault (limited (tasks_at store.now tasks.items))) }
+    ensures large { IfErr result (λ e. e ≡ TooLarge) }
 {
     if are_small(store, &tasks) {
         Ok(tasks)
