@@ -223,6 +223,15 @@ fn counts_shared_parts(rt: &impl Abort, store: &mut Store) {
     assert!(rt; size == u64::MAX);
 }
 
+// One type symbol with two lists of arguments.
+fn compares_the_arguments(rt: &impl Abort, store: &mut Store) {
+    let first = put(rt, store, Node::TyApp(9, TermId(0)));
+    let list = put(rt, store, Node::Cell(TermId(1), TermId(0)));
+    let second = put(rt, store, Node::TyApp(9, list));
+    assert!(rt; store.holds(first) && store.holds(second));
+    assert!(rt; store.same(first, first) && !store.same(first, second));
+}
+
 // Adds literals that are new at first, from a number on.
 fn add_literals(rt: &impl Abort, store: &mut Store, first: TermId) {
     for literal in 0..1048576 {
@@ -245,6 +254,7 @@ fn answers_of_trees(rt: HostRuntime) {
         assert!(rt; !store.accepts(*node), "{node:?}");
     }
     numbers_above_variables(&rt, &mut store);
+    compares_the_arguments(&rt, &mut store);
     counts_shared_parts(&rt, &mut store);
     let first = put(&rt, &mut store, Node::Num(8));
     add_literals(&rt, &mut store, first);

@@ -26,7 +26,7 @@ const LIST: TermId = TermId(4);
 const INTS: TermId = TermId(6);
 
 // The nodes from the number 2 on.
-static NODES: [Node; 23] = [
+static NODES: [Node; 25] = [
     Node::TyVar(0),
     Node::Cell(TermId(2), END),
     Node::TyApp(1, TermId(3)),
@@ -50,6 +50,8 @@ static NODES: [Node; 23] = [
     Node::Cell(TermId(21), END),
     Node::Cell(TermId(19), TermId(22)),
     Node::TyRigid(6),
+    Node::Cell(INTS, END),
+    Node::Cell(INT, TermId(25)),
 ];
 
 // Each entry's kind, its type variables, the types of its arguments, and of its result, where it has one: int, lists with

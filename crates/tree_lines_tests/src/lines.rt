@@ -25,12 +25,13 @@ const OPEN: TermId = TermId(12);
 const TRUE: TermId = TermId(13);
 
 // The letter of a line, its words, and the node that they make.
-static MADE: [(u8, &str, Node); 46] = [
+static MADE: [(u8, &str, Node); 47] = [
     (b'y', "int_0", Node::TyApp(0, END)),
     (b'y', "list_1 0", Node::TyApp(1, AT_INT)),
     (b'y', "list_7", Node::TyApp(1, AT_INT)),
     (b'y', "a_6", Node::TyRigid(6)),
     (b'y', "list_1", Node::TyApp(1, END)),
+    (b'y', "list_1 0 1", Node::TyApp(1, TermId(26))),
     (b'y', "int_0 0", Node::TyApp(0, AT_INT)),
     (b'p', "any 0", Node::PatAny(INT)),
     (b'p', "var 1", Node::PatVar(INTS)),
