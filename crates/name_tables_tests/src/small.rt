@@ -38,7 +38,7 @@ pub(crate) static SYMBOLS: [(&str, SymbolKind); 16] = [
 ];
 
 // The nodes of its terms, from the number 2 on.
-static NODES: [Node; 28] = [
+static NODES: [Node; 29] = [
     // 2 to 9: `'a`, `list 'a`, `list int`, `u`, `list u`
     Node::TyRigid(1),
     Node::Cell(TermId(2), END),
@@ -72,6 +72,8 @@ static NODES: [Node; 28] = [
     Node::Param(0, TermId(4)),
     Node::Eq(TermId(27), TermId(10)),
     Node::Eq(TermId(15), TermId(11)),
+    // 30: `Nil` at both types
+    Node::Eq(TermId(10), TermId(11)),
 ];
 
 /// The store of its terms.

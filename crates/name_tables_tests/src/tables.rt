@@ -104,6 +104,13 @@ fn places_of_things(rt: HostRuntime) {
 fn what_occurs_in_a_term(rt: HostRuntime) {
     let alloc = rt.alloc();
     let terms = store(&rt, alloc);
+    // `Nil` at the type variable, then at `int`
+    if terms.holds(TermId(30)) {
+        let things = Things::of_term(alloc, &terms, TermId(30)).expect(&rt, MEMORY);
+        assert!(rt;
+            things.as_slice() == [(1, 0), (2, 3), (4, 3), (0, 0), (2, 5), (4, 5)].as_slice()
+        );
+    }
     // `int`, `list int`, `Cons`, `Nil`; of `list u`: `u` and itself
     if terms.holds(TermId(15)) {
         let things = Things::of_term(alloc, &terms, TermId(15)).expect(&rt, MEMORY);
