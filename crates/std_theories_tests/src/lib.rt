@@ -1,3 +1,0 @@
-//! Tests of the embedded library: its trees write its texts.
-
-mod files;

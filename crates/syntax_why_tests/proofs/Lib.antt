@@ -1,2 +1,0 @@
-mod DeclRows
-mod PlaceRows
