@@ -1,0 +1,5 @@
+pub mod Alike
+pub mod Types
+pub mod Trees
+pub mod Forms
+pub mod Declarations
