@@ -85,7 +85,7 @@ fn put_answer(
         return text.push_str("no declaration");
     }
     let from = sig.symbols.len();
-    match elaborate(alloc, store, sig, scope, "T", "", first, at) {
+    match elaborate(alloc, store, sig, scope, b"T", b"", first, at) {
         Ok(made) => {
             put_last(alloc, text, store, sig, from, &made, rest.is_empty())?;
             put_answer(alloc, text, store, sig, scope, rest, at.saturating_add(1))

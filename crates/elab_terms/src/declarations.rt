@@ -83,8 +83,8 @@ pub fn elaborate(
     store: &mut Store,
     sig: &mut Signature,
     scope: &mut Scope,
-    theory: &str,
-    within: &str,
+    theory: &[u8],
+    within: &[u8],
     decl: &DeclTree,
     at: usize,
 ) -> Result<Elaborated, ElabFault>
@@ -100,8 +100,8 @@ pub fn elaborate(
     ensures grows { Grows store.old store.new }
 {
     let place = Place {
-        theory: theory.as_bytes(),
-        within: within.as_bytes(),
+        theory,
+        within,
         decl: at,
     };
     match &decl.node {

@@ -8,3 +8,4 @@ mod types;
 
 pub use declarations::{begin, elaborate, is_logical, no_names};
 pub use elab_parts::{ElabFault, Elaborated};
+pub use propositions::say;

@@ -99,8 +99,8 @@ fn rigid_vars(kind: PropKind, vars: &[Text]) -> &[Text]
     }
 }
 
-// What a proposition says: of a goal, at its rigid types.
-fn say(
+/// What a proposition says: of a goal, at its rigid types. Only want of memory refuses.
+pub fn say(
     alloc: Global,
     store: &mut Store,
     kind: PropKind,

@@ -44,7 +44,7 @@ fn answer_from(
     if !is_logical(first) {
         return last;
     }
-    match elaborate(alloc, store, sig, scope, "T", "", first, at) {
+    match elaborate(alloc, store, sig, scope, b"T", b"", first, at) {
         Ok(made) => {
             let answer = Answer::Made(
                 sig.symbols.len(),

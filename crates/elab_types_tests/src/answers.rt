@@ -53,7 +53,7 @@ fn elaborate_one(
     if !is_logical(decl) {
         return Ok(None);
     }
-    let made = elaborate(alloc, store, sig, scope, "T", "", decl, at)?;
+    let made = elaborate(alloc, store, sig, scope, b"T", b"", decl, at)?;
     Ok(Some(made))
 }
 

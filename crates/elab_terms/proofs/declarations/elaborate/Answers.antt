@@ -36,23 +36,23 @@ pub returns-in-TypeDecl-clause-ok : goal.returns-in-TypeDecl-clause-ok
 returns-in-TypeDecl-clause-ok c =
     let e = decl_is c.args.decl.now (dv.TypeDecl c.in-TypeDecl.name c.in-TypeDecl.vars c.in-TypeDecl.ty) c.in-TypeDecl.is ∙ decl_of_node-TypeDecl c.in-TypeDecl.name c.in-TypeDecl.vars c.in-TypeDecl.ty c.args.decl.now.at in
     let d : declaration (decl_of c.args.decl.now) ≡ Some (type_declaration (word c.in-TypeDecl.name) (map word c.in-TypeDecl.vars) (option_map form_of c.in-TypeDecl.ty)) = ap declaration e ∙ declared_type c.args.decl.now.at c.in-TypeDecl.name c.in-TypeDecl.vars c.in-TypeDecl.ty in
-    rw d (rw (c.as_bytes.ensures.value, c.as_bytes-2.ensures.value, c.as_slice-vars.ensures) at c.elaborate_type_declaration.ensures.ok)
+    rw d (rw (c.as_slice-vars.ensures) at c.elaborate_type_declaration.ensures.ok)
 
 pub returns-in-TypeDecl-clause-err : goal.returns-in-TypeDecl-clause-err
 returns-in-TypeDecl-clause-err c =
     let e = decl_is c.args.decl.now (dv.TypeDecl c.in-TypeDecl.name c.in-TypeDecl.vars c.in-TypeDecl.ty) c.in-TypeDecl.is ∙ decl_of_node-TypeDecl c.in-TypeDecl.name c.in-TypeDecl.vars c.in-TypeDecl.ty c.args.decl.now.at in
     let d : declaration (decl_of c.args.decl.now) ≡ Some (type_declaration (word c.in-TypeDecl.name) (map word c.in-TypeDecl.vars) (option_map form_of c.in-TypeDecl.ty)) = ap declaration e ∙ declared_type c.args.decl.now.at c.in-TypeDecl.name c.in-TypeDecl.vars c.in-TypeDecl.ty in
-    rw d (rw (c.as_bytes.ensures.value, c.as_bytes-2.ensures.value, c.as_slice-vars.ensures) at c.elaborate_type_declaration.ensures.err)
+    rw d (rw (c.as_slice-vars.ensures) at c.elaborate_type_declaration.ensures.err)
 
 pub returns-in-Prop-clause-ok : goal.returns-in-Prop-clause-ok
 returns-in-Prop-clause-ok c =
     let e = decl_is c.args.decl.now (dv.Prop c.in-Prop.kind c.in-Prop.name c.in-Prop.e) c.in-Prop.is ∙ decl_of_node-Prop c.in-Prop.kind c.in-Prop.name c.in-Prop.e c.args.decl.now.at in
-    rw e (rw (c.as_bytes.ensures.value, c.as_bytes-2.ensures.value) at c.elaborate_proposition.ensures.ok)
+    rw e c.elaborate_proposition.ensures.ok
 
 pub returns-in-Prop-clause-err : goal.returns-in-Prop-clause-err
 returns-in-Prop-clause-err c =
     let e = decl_is c.args.decl.now (dv.Prop c.in-Prop.kind c.in-Prop.name c.in-Prop.e) c.in-Prop.is ∙ decl_of_node-Prop c.in-Prop.kind c.in-Prop.name c.in-Prop.e c.args.decl.now.at in
-    rw e (rw (c.as_bytes.ensures.value, c.as_bytes-2.ensures.value) at c.elaborate_proposition.ensures.err)
+    rw e c.elaborate_proposition.ensures.err
 
 pub returns-in-Function-clause-ok : goal.returns-in-Function-clause-ok
 returns-in-Function-clause-ok c =
@@ -65,7 +65,7 @@ returns-in-Function-clause-ok c =
     let q : given ≡ heads = ap (λ (m : Member). m ∷ other_members c.as_slice-others.result.now) first ∙ ap (λ (ms : List Member). first_member c.in-Function.name c.in-Function.params (Some c.in-Function.ty) c.in-Function.body ∷ ms) others in
     let st = standing c.args.theory.now c.args.within.now c.args.at c.args.store.now c.args.sig.now c.args.scope.now in
     let P : List Member → Type 0 = λ ms. IfOk c.elaborate_members.result (IsElaborated st (members ms) c.args.sig.now c.elaborate_members.new.store c.elaborate_members.new.sig c.elaborate_members.new.scope) in
-    let base : P given = rw (c.as_bytes.ensures.value, c.as_bytes-2.ensures.value) at c.elaborate_members.ensures.ok in
+    let base : P given = c.elaborate_members.ensures.ok in
     rw d (subst P q base)
 
 pub returns-in-Function-clause-err : goal.returns-in-Function-clause-err
@@ -79,7 +79,7 @@ returns-in-Function-clause-err c =
     let q : given ≡ heads = ap (λ (m : Member). m ∷ other_members c.as_slice-others.result.now) first ∙ ap (λ (ms : List Member). first_member c.in-Function.name c.in-Function.params (Some c.in-Function.ty) c.in-Function.body ∷ ms) others in
     let st = standing c.args.theory.now c.args.within.now c.args.at c.args.store.now c.args.sig.now c.args.scope.now in
     let P : List Member → Type 0 = λ ms. IfErr c.elaborate_members.result (IsRefusal st (members ms)) in
-    let base : P given = rw (c.as_bytes.ensures.value, c.as_bytes-2.ensures.value) at c.elaborate_members.ensures.err in
+    let base : P given = c.elaborate_members.ensures.err in
     rw d (subst P q base)
 
 pub returns-in-Predicate-clause-ok : goal.returns-in-Predicate-clause-ok
@@ -93,7 +93,7 @@ returns-in-Predicate-clause-ok c =
     let q : given ≡ heads = ap (λ (m : Member). m ∷ other_members c.as_slice-others-in-Predicate.result.now) first ∙ ap (λ (ms : List Member). first_member c.in-Predicate.name c.in-Predicate.params None c.in-Predicate.body ∷ ms) others in
     let st = standing c.args.theory.now c.args.within.now c.args.at c.args.store.now c.args.sig.now c.args.scope.now in
     let P : List Member → Type 0 = λ ms. IfOk c.elaborate_members-in-Predicate.result (IsElaborated st (members ms) c.args.sig.now c.elaborate_members-in-Predicate.new.store c.elaborate_members-in-Predicate.new.sig c.elaborate_members-in-Predicate.new.scope) in
-    let base : P given = rw (c.as_bytes.ensures.value, c.as_bytes-2.ensures.value) at c.elaborate_members-in-Predicate.ensures.ok in
+    let base : P given = c.elaborate_members-in-Predicate.ensures.ok in
     rw d (subst P q base)
 
 pub returns-in-Predicate-clause-err : goal.returns-in-Predicate-clause-err
@@ -107,7 +107,7 @@ returns-in-Predicate-clause-err c =
     let q : given ≡ heads = ap (λ (m : Member). m ∷ other_members c.as_slice-others-in-Predicate.result.now) first ∙ ap (λ (ms : List Member). first_member c.in-Predicate.name c.in-Predicate.params None c.in-Predicate.body ∷ ms) others in
     let st = standing c.args.theory.now c.args.within.now c.args.at c.args.store.now c.args.sig.now c.args.scope.now in
     let P : List Member → Type 0 = λ ms. IfErr c.elaborate_members-in-Predicate.result (IsRefusal st (members ms)) in
-    let base : P given = rw (c.as_bytes.ensures.value, c.as_bytes-2.ensures.value) at c.elaborate_members-in-Predicate.ensures.err in
+    let base : P given = c.elaborate_members-in-Predicate.ensures.err in
     rw d (subst P q base)
 
 pub returns-in-Constant-clause-ok : goal.returns-in-Constant-clause-ok
@@ -119,7 +119,7 @@ returns-in-Constant-clause-ok c =
     let q : given ≡ heads = ap (λ (m : Member). m ∷ []) c.head_member-first-in-Constant.ensures in
     let st = standing c.args.theory.now c.args.within.now c.args.at c.args.store.now c.args.sig.now c.args.scope.now in
     let P : List Member → Type 0 = λ ms. IfOk c.elaborate_members-in-Constant.result (IsElaborated st (members ms) c.args.sig.now c.elaborate_members-in-Constant.new.store c.elaborate_members-in-Constant.new.sig c.elaborate_members-in-Constant.new.scope) in
-    let base : P given = rw (c.as_bytes.ensures.value, c.as_bytes-2.ensures.value) at c.elaborate_members-in-Constant.ensures.ok in
+    let base : P given = c.elaborate_members-in-Constant.ensures.ok in
     rw d (subst P q base)
 
 pub returns-in-Constant-clause-err : goal.returns-in-Constant-clause-err
@@ -131,7 +131,7 @@ returns-in-Constant-clause-err c =
     let q : given ≡ heads = ap (λ (m : Member). m ∷ []) c.head_member-first-in-Constant.ensures in
     let st = standing c.args.theory.now c.args.within.now c.args.at c.args.store.now c.args.sig.now c.args.scope.now in
     let P : List Member → Type 0 = λ ms. IfErr c.elaborate_members-in-Constant.result (IsRefusal st (members ms)) in
-    let base : P given = rw (c.as_bytes.ensures.value, c.as_bytes-2.ensures.value) at c.elaborate_members-in-Constant.ensures.err in
+    let base : P given = c.elaborate_members-in-Constant.ensures.err in
     rw d (subst P q base)
 
 pub returns-in-Algebraic-clause-ok : goal.returns-in-Algebraic-clause-ok
@@ -140,7 +140,7 @@ returns-in-Algebraic-clause-ok c =
     let q : types_of c.as_slice-types.result.now ≡ types_of c.in-Algebraic.types = ap types_of c.as_slice-types.ensures in
     let st = standing c.args.theory.now c.args.within.now c.args.at c.args.store.now c.args.sig.now c.args.scope.now in
     let P : List Algebraic → Type 0 = λ ts. IfOk c.elaborate_algebraic.result (IsElaborated st (algebraic ts) c.args.sig.now c.elaborate_algebraic.new.store c.elaborate_algebraic.new.sig c.elaborate_algebraic.new.scope) in
-    let base : P (types_of c.as_slice-types.result.now) = rw (c.as_bytes.ensures.value, c.as_bytes-2.ensures.value) at c.elaborate_algebraic.ensures.ok in
+    let base : P (types_of c.as_slice-types.result.now) = c.elaborate_algebraic.ensures.ok in
     rw e (subst P q base)
 
 pub returns-in-Algebraic-clause-err : goal.returns-in-Algebraic-clause-err
@@ -149,7 +149,7 @@ returns-in-Algebraic-clause-err c =
     let q : types_of c.as_slice-types.result.now ≡ types_of c.in-Algebraic.types = ap types_of c.as_slice-types.ensures in
     let st = standing c.args.theory.now c.args.within.now c.args.at c.args.store.now c.args.sig.now c.args.scope.now in
     let P : List Algebraic → Type 0 = λ ts. IfErr c.elaborate_algebraic.result (IsRefusal st (algebraic ts)) in
-    let base : P (types_of c.as_slice-types.result.now) = rw (c.as_bytes.ensures.value, c.as_bytes-2.ensures.value) at c.elaborate_algebraic.ensures.err in
+    let base : P (types_of c.as_slice-types.result.now) = c.elaborate_algebraic.ensures.err in
     rw e (subst P q base)
 
 pub returns-in-Inductive-clause-ok : goal.returns-in-Inductive-clause-ok
@@ -158,7 +158,7 @@ returns-in-Inductive-clause-ok c =
     let q : predicates_at c.as_slice-inductives.result.now ≡ predicates_at c.in-Inductive.inductives = ap predicates_at c.as_slice-inductives.ensures in
     let st = standing c.args.theory.now c.args.within.now c.args.at c.args.store.now c.args.sig.now c.args.scope.now in
     let P : List Inductive → Type 0 = λ ds. IfOk c.elaborate_inductives.result (IsElaborated st (inductive ds) c.args.sig.now c.elaborate_inductives.new.store c.elaborate_inductives.new.sig c.elaborate_inductives.new.scope) in
-    let base : P (predicates_at c.as_slice-inductives.result.now) = rw (c.as_bytes.ensures.value, c.as_bytes-2.ensures.value) at c.elaborate_inductives.ensures.ok in
+    let base : P (predicates_at c.as_slice-inductives.result.now) = c.elaborate_inductives.ensures.ok in
     rw e (subst P q base)
 
 pub returns-in-Inductive-clause-err : goal.returns-in-Inductive-clause-err
@@ -167,5 +167,5 @@ returns-in-Inductive-clause-err c =
     let q : predicates_at c.as_slice-inductives.result.now ≡ predicates_at c.in-Inductive.inductives = ap predicates_at c.as_slice-inductives.ensures in
     let st = standing c.args.theory.now c.args.within.now c.args.at c.args.store.now c.args.sig.now c.args.scope.now in
     let P : List Inductive → Type 0 = λ ds. IfErr c.elaborate_inductives.result (IsRefusal st (inductive ds)) in
-    let base : P (predicates_at c.as_slice-inductives.result.now) = rw (c.as_bytes.ensures.value, c.as_bytes-2.ensures.value) at c.elaborate_inductives.ensures.err in
+    let base : P (predicates_at c.as_slice-inductives.result.now) = c.elaborate_inductives.ensures.err in
     rw e (subst P q base)
