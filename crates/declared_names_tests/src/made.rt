@@ -10,6 +10,7 @@ use syntax_why::File;
 use tokens_why::lex;
 
 const READ: &str = "the source is read";
+
 const MEMORY: &str = "out of memory";
 
 type Named = (Table, &'static str, TypeName);

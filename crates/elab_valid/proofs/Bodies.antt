@@ -2,6 +2,7 @@
 use Rattle.std.proofs.Common.{◌≡◌, Bool, cond, nat_lt, ℕ, ◌<◌, ◌≤◌, suc, true, false, List, [], ◌∷◌, ◌++◌, map, reverse, length, get_or, All, Option, Some, None, IfSome, option_map, refl, sym, ap, subst, ◌∙◌, arith}
 use Rattle.std.specs.Option.{is_some, is_none}
 use Rattle.std.specs.List.{AllByRecursion}
+use Rattle.std.proofs.lemmas.List.Elements.{All-nil, All-cons}
 use mathlib.Core.List.{reverse-cons}
 use Rattle.trees.specs.Tree.{Tree, Leaf, One, Two, Three, Head, HTyVar}
 use Rattle.trees.specs.Sorts.{int_type}
@@ -23,6 +24,7 @@ use Rattle.elab_walk.specs.Patterns.{LocalTree}
 use Rattle.elab_walk.specs.Pieces.{piece, past, names}
 use Rattle.elab_walk.specs.Scoped.{IsScoped}
 use Rattle.elab_walk.proofs.Below.{below_more}
+use Rattle.elab_parts.specs.Elaborated.{matches_assigned}
 use Rattle.elab_parts.specs.Entries.{tuple_in}
 use Rattle.elab_parts.specs.Declarations.{Parameter, Member, params_seen}
 use Rattle.elab_parts.specs.Outcomes.{over}
@@ -30,17 +32,17 @@ use Rattle.elab_members.specs.Members.{SignatureTree, words_of, body_seen, membe
 use Rattle.elab_members.specs.Sources.{AreResolved}
 use Rattle.elab_groups.specs.Bodies.{AreDefined}
 use Rattle.elab_groups.specs.Groups.{typed_locals, body_piece, member_piece, member_pieces, most_variables, pieces_notes, pieces_trees, BodiesSolved}
-use Rattle.elab_typed.specs.Typed.{IsTypedIn, types_of, types_at}
+use Rattle.elab_typed.specs.Typed.{IsTypedIn, IsPatternOf, ArePatterns, types_of, types_at}
 use Rattle.elab_typed.specs.Signature.{with_entries, IsWellFormed, HasTuple}
 use Rattle.elab_typed.specs.Scopes.{IsTypedSignature, AreTypedScopes}
 use Rattle.elab_typed.proofs.Over.{IsOver, type_over, over_good, over_assigned}
 use Rattle.elab_typed.proofs.Signed.{int_over}
 use Rattle.elab_typed.proofs.Forms.{TypedAs}
 use Rattle.elab_typed.proofs.Fixed.{closed}
-use Rattle.elab_typed.proofs.Sound.{EquationsOver, more_over, LocalsOver, WantedOver, IsSound, first_solved, rest_solved}
+use Rattle.elab_typed.proofs.Sound.{LocalsOver, WantedOver, IsPatternAt, ArePatternsAt, AreNoted, none_noted, both_noted, IsSound, first_solved, rest_solved}
 use Rattle.elab_typed.proofs.Alternatives.{names_reverse}
 use Rattle.elab_typed.proofs.Expressions.{sound, reversed_over}
-use Rattle.elab_typed.proofs.Solutions.{own_same, kept, kept_over, kept_solves}
+use Rattle.elab_typed.proofs.Solutions.{own_same, kept, kept_over, kept_kind, kept_solves}
 use Rattle.elab_typed.proofs.Widths.{IsWithin, type_grows, grows, form_grows, tuples_seen}
 use Rattle.elab_typed.proofs.Scopes.{over_well_formed}
 use Rattle.elab_typed.proofs.Tuples.{tuple_of}
@@ -252,9 +254,10 @@ module _ (base : Vocabulary) (s : List Tree) (whole : List SymbolTree) (typed : 
         sound base (inner g.vars) (good g.vars) rigid e (params m g) n g.result (reversed_over base (inner g.vars) (good g.vars) rigid (typed_locals xs g.args) (params_over v (length g.vars) xs g.args s.args)) (result_over v (length g.vars) g.result s.result)
         (tuples_seen base (inner g.vars) e u (λ k z. widths g.vars k (i k z))) right
 
-    body_over : (m : Member) (g : SignatureTree) (n : ℕ) (b : Option Expression) → BodySound m g n b → EquationsOver v (body_piece (inner g.vars) (params m g) n g.result b).notes.equations
-    body_over m g n None x = tt
-    body_over m g n (Some e) x = x.notes.equations
+    -- its equations are over the signature, and the patterns of each match are of one type
+    body_noted : (m : Member) (g : SignatureTree) (n : ℕ) (b : Option Expression) → BodySound m g n b → AreNoted base (inner []) rigid (body_piece (inner g.vars) (params m g) n g.result b).notes
+    body_noted m g n None x = none_noted base (inner []) rigid
+    body_noted m g n (Some e) x = record { equations = x.notes.equations; matches = x.notes.matches }
 
     abbrev PiecesSound : List Member → List SignatureTree → ℕ → Type 0
     PiecesSound (m ∷ ks) (g ∷ hs) n = BodySound m g n m.body × PiecesSound ks hs (past n (member_piece (inner []) n m g))
@@ -265,12 +268,12 @@ module _ (base : Vocabulary) (s : List Tree) (whole : List SymbolTree) (typed : 
     pieces_sound (m ∷ ks) [] n s r i = tt
     pieces_sound (m ∷ ks) (g ∷ hs) n s r i = (body_sound m g n i.0.0 m.body s.0 r.0.count r.0.right i.0.1, pieces_sound ks hs (past n (member_piece (inner []) n m g)) s.1 r.1 i.1)
 
-    pieces_over : (ks : List Member) (hs : List SignatureTree) (n : ℕ) → PiecesSound ks hs n → EquationsOver v (pieces_notes (member_pieces (inner []) n ks hs)).equations
-    pieces_over [] hs n x = tt
-    pieces_over (m ∷ ks) [] n x = tt
-    pieces_over (m ∷ ks) (g ∷ hs) n x =
+    pieces_noted : (ks : List Member) (hs : List SignatureTree) (n : ℕ) → PiecesSound ks hs n → AreNoted base (inner []) rigid (pieces_notes (member_pieces (inner []) n ks hs))
+    pieces_noted [] hs n x = none_noted base (inner []) rigid
+    pieces_noted (m ∷ ks) [] n x = none_noted base (inner []) rigid
+    pieces_noted (m ∷ ks) (g ∷ hs) n x =
         let p = member_piece (inner []) n m g in
-        more_over v p.notes.equations (pieces_notes (member_pieces (inner []) (past n p) ks hs)).equations (body_over m g n m.body x.0) (pieces_over ks hs (past n p) x.1)
+        both_noted base (inner []) rigid p.notes (pieces_notes (member_pieces (inner []) (past n p) ks hs)) (body_noted m g n m.body x.0) (pieces_noted ks hs (past n p) x.1)
 
     -- ---- type variables
     module _ (P : ℕ → Type 0) where
@@ -391,9 +394,37 @@ module _ (base : Vocabulary) (s : List Tree) (whole : List SymbolTree) (typed : 
       let notes = pieces_notes (member_pieces w rigid ks hs) in
       let x = kept base w (good []) rigid f solution.types in
       let over' = kept_over base w (good []) rigid f solution.types in
-      let solves = kept_solves base w (good []) rigid f solution.types notes.equations (pieces_over rigid ks hs rigid sound') solution.solves in
+      let solves = kept_solves base w (good []) rigid f solution.types notes.equations (pieces_noted rigid ks hs rigid sound').equations solution.solves in
       let y = narrowed rigid x over' ks hs in
       let few' = few hs rigid (omega arith) in
       let solves' = all_solved rigid x over' ks hs ks hs rigid (omega arith) (λ j a. refl) few' s r solves in
       let are : map (assign rigid y) (pieces_trees (member_pieces w rigid ks hs)) ≡ bodies = it.trees_are y (record { types = narrowed_kind rigid x over' ks hs; solves = solves' }) in
       subst (λ (bs : List Tree). AreBodied v hs bs) are (bodies_typed rigid x over' ks hs ks hs rigid (omega arith) (λ j a. refl) few' d s r sound' solves')
+
+  -- ---- matches: the patterns of each are well typed, and of one type
+  module _ (r : ℕ) (f : ℕ → Tree) where
+    as_patterns : (t : Tree) (es : List Tree) → AllByRecursion (IsPatternAt base (inner []) r t) es → All (IsPatternOf v t) es
+    as_patterns t [] h = All-nil (IsPatternOf v t)
+    as_patterns t (e ∷ es) h = All-cons (IsPatternOf v t) e es (record { typed = h.0.0.0; sort = h.0.1; type = h.0.2; parameters = h.0.0.1 }) (as_patterns t es h.1)
+
+    as_matches : (ms : List (ℕ × List Tree)) → AllByRecursion (λ (m : ℕ × List Tree). ArePatternsAt base (inner []) r f m.1) ms → All (λ (m : ℕ × List Tree). ArePatterns v m.1) (matches_assigned r f ms)
+    as_matches [] h = All-nil (λ (m : ℕ × List Tree). ArePatterns v m.1)
+    as_matches (m ∷ ms) h =
+        let x = over_good v true [] h.0.0 h.0.1 in
+        All-cons (λ (i : ℕ × List Tree). ArePatterns v i.1) (m.0, map (assign r f) m.1) (matches_assigned r f ms)
+        (record { type = h.0.0; over = record { sort = x.1; typed = x.0.0 }; patterns = as_patterns h.0.0 (map (assign r f) m.1) h.0.2 }) (as_matches ms h.1)
+
+  pub bodies_patterns : (ks : List Member) (hs : List SignatureTree) (bodies : List Tree) (matches : List (ℕ × List Tree)) → AreSigned v ks hs → AreResolved (inner []) ks hs → BodiesSeen all_seen ks
+      → BodiesSolved (inner []) ks hs bodies matches → All (λ (m : ℕ × List Tree). ArePatterns v m.1) matches
+  bodies_patterns ks hs bodies matches s r i it =
+      let rigid = most_variables hs in
+      let w = inner [] in
+      let noted' = pieces_noted rigid ks hs rigid (pieces_sound rigid ks hs rigid s r i) in
+      let f = it.determined.solvable.0 in
+      let solution = it.determined.solvable.1 in
+      let notes = pieces_notes (member_pieces w rigid ks hs) in
+      let x = kept base w (good []) rigid f solution.types in
+      let solves = kept_solves base w (good []) rigid f solution.types notes.equations noted'.equations solution.solves in
+      let are : matches_assigned rigid x notes.matches ≡ matches = it.matches x (record { types = kept_kind base w (good []) rigid f solution.types; solves = solves }) in
+      subst (λ (ms : List (ℕ × List Tree)). All (λ (m : ℕ × List Tree). ArePatterns v m.1) ms) are
+      (as_matches rigid x notes.matches (noted'.matches x (kept_over base w (good []) rigid f solution.types) solves))

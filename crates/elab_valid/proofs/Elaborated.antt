@@ -1,5 +1,5 @@
 -- What `elaborate` gives is valid.
-use Rattle.std.proofs.Common.{◌≡◌, length, List, [], ◌∷◌, ◌++◌, map, All, Option, Some, None, IfSome, refl, subst, suc, arith}
+use Rattle.std.proofs.Common.{◌≡◌, ℕ, length, List, [], ◌∷◌, ◌++◌, map, All, Option, Some, None, IfSome, refl, ap, subst, suc, arith}
 use Rattle.std.proofs.lemmas.List.Elements.{All-nil, All-cons}
 use Rattle.trees.specs.Tree.{Tree}
 use Rattle.trees.specs.declared.TermId.{TermId}
@@ -17,6 +17,7 @@ use Rattle.tasks.specs.Meaning.{symbols_at, trees_at, declarations_at, definitio
 use Rattle.tasks.specs.declared.signature.Signature.{Signature}
 use Rattle.names_space.specs.Names.{Names}
 use Rattle.syntax_why.specs.Declarations as source
+use Rattle.elab_walk.specs.Drafts.{match_at}
 use Rattle.elab_walk.proofs.Walking.{none_both}
 use Rattle.elab_parts.specs.declared.made.Elaborated.{Elaborated}
 use Rattle.elab_parts.specs.Declarations.{Declaration, abstract_type, alias, algebraic, members, inductive, proposition, member, declaration, made_by, made_fault}
@@ -24,13 +25,15 @@ use Rattle.elab_parts.specs.Outcomes.{Setting, Outcome, declared_in}
 use Rattle.elab_groups.specs.Bodies.{AreDefined, IsWhole}
 use Rattle.elab_terms.specs.Outcomes.{IsOutcome, used_fault, IsElaborated}
 use Rattle.tasks.specs.Vocabulary.{Vocabulary}
+use Rattle.elab_typed.specs.Signature.{with_entries}
 use Rattle.elab_typed.specs.Scopes.{NamesNew}
+use Rattle.elab_typed.specs.Typed.{ArePatterns}
 use Rattle.elab_valid.specs.Valid.{IsTypedSetting, BodyFits, DeclsFit, HaveNoFault, MayNameRigid, IsValidOutcome, IsValidElaborated}
 use Rattle.elab_valid.proofs.Types.{type_valid, alias_valid}
 use Rattle.elab_valid.proofs.Groups.{group_valid}
-use Rattle.elab_valid.proofs.Members.{members_valid}
-use Rattle.elab_valid.proofs.Inductives.{inductives_valid}
-use Rattle.elab_valid.proofs.Propositions.{proposition_valid}
+use Rattle.elab_valid.proofs.Members.{members_valid, members_patterns}
+use Rattle.elab_valid.proofs.Inductives.{inductives_valid, inductives_patterns}
+use Rattle.elab_valid.proofs.Propositions.{proposition_valid, proposition_patterns}
 
 -- ---- in a store
 body_fits : (s : List Tree) → ((id : TermId) → Holds s id → WellSorted (tree_at s id)) → (b : Body) → BodyHeld s b → BodyFits (body_at s b)
@@ -86,8 +89,8 @@ module _ (base : Vocabulary) (c : Setting) (h : IsTypedSetting base c) (s : List
   outcome_valid (alias x vs f) o q w e fits passes news may = alias_valid base c h s r x vs f o q e news
   outcome_valid (proposition k x e) o q w p fits passes news may = proposition_valid base c h s r k x e o q p news fits may
   outcome_valid (algebraic ts) o q w e fits passes news may = rw e (group_valid base c h s r ts q (rw e at news))
-  outcome_valid (members ms) o q w e fits passes news may = members_valid base c h s r ms q o w e fits news
-  outcome_valid (inductive ds) o q w e fits passes news may = inductives_valid base c h s r ds q o e fits passes news
+  outcome_valid (members ms) o q w e fits passes news may = members_valid base c h s r ms q o e news w fits
+  outcome_valid (inductive ds) o q w e fits passes news may = inductives_valid base c h s r ds q o e news fits passes
 
   pub elaborated_valid : (d : source.Decl) (x : Declaration) (g g' : Signature) (names : Names) (made : Elaborated) → declaration d ≡ Some x → IsElaborated c x g s g' names made → ((id : TermId) → Holds s id → WellSorted (tree_at s id)) → All (DeclHeld s) made.decls
       → HaveNoFault (symbols_at s g'.symbols) (declarations_at s made.decls) → NamesNew base (length c.symbols) (symbols_at s g'.symbols) → MayNameRigid base x made.rigid → IsValidElaborated base s g' names made
@@ -100,3 +103,21 @@ module _ (base : Vocabulary) (c : Setting) (h : IsTypedSetting base c) (s : List
         scopes = rw (e.symbols_are, e.scope) y.scopes;
         decls = rw (e.symbols_are, e.decls) y.decls;
       }
+
+  -- ---- the patterns of each match are well typed, and of one type
+  no_patterns : (v : Vocabulary) (ms : List (ℕ × List Tree)) → ms ≡ [] → All (λ (m : ℕ × List Tree). ArePatterns v m.1) ms
+  no_patterns v ms q = rw q (All-nil (λ (m : ℕ × List Tree). ArePatterns v m.1))
+
+  outcome_patterns : (d : Declaration) (o : Outcome) → used_fault c d ≡ None → IsOutcome c s d o → NamesNew base (length c.symbols) (c.symbols ++ o.symbols) → All (λ (m : ℕ × List Tree). ArePatterns (with_entries base (c.symbols ++ o.symbols)) m.1) o.matches
+  outcome_patterns (abstract_type x vs) o q e news = no_patterns _ o.matches (ap (λ (i : Outcome). i.matches) e)
+  outcome_patterns (alias x vs f) o q e news = no_patterns _ o.matches e.matches
+  outcome_patterns (proposition k x e) o q p news = proposition_patterns base c h s r k x e o q p news
+  outcome_patterns (algebraic ts) o q e news = no_patterns _ o.matches (ap (λ (i : Outcome). i.matches) e)
+  outcome_patterns (members ms) o q e news = members_patterns base c h s r ms q o e news
+  outcome_patterns (inductive ds) o q e news = inductives_patterns base c h s r ds q o e news
+
+  pub elaborated_patterns : (x : Declaration) (g g' : Signature) (names : Names) (made : Elaborated) → IsElaborated c x g s g' names made → NamesNew base (length c.symbols) (symbols_at s g'.symbols)
+      → All (λ (m : ℕ × List Tree). ArePatterns (with_entries base (symbols_at s g'.symbols)) m.1) (map (match_at s) made.matches)
+  elaborated_patterns x g g' names made e news =
+      let q = none_both (made_fault (declared_in c.scope) [] (made_by x)) (used_fault c x) e.named in
+      rw (e.symbols_are, e.matches) (outcome_patterns x e.outcome q.1 e.is (rw e.symbols_are at news))

@@ -53,7 +53,7 @@ at_end [] ys e k q = rw q refl
 at_end (x ∷ xs) ys e ℕ.zero q = absurd (omega (arith, q))
 at_end (x ∷ xs) ys e (suc k) q = at_end xs ys e k (omega (arith, q))
 
-rigid_entries : (xs : List SymbolTree) (names : List Word) (k : ℕ) → k ≡ length xs → All (IsRigidAt (xs ++ map rigid_symbol names)) (entry_numbers k names)
+pub rigid_entries : (xs : List SymbolTree) (names : List Word) (k : ℕ) → k ≡ length xs → All (IsRigidAt (xs ++ map rigid_symbol names)) (entry_numbers k names)
 rigid_entries xs [] k q = All-nil (IsRigidAt (xs ++ []))
 rigid_entries xs (x ∷ names) k q =
     let e = rigid_symbol x in

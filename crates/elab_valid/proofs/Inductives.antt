@@ -26,7 +26,7 @@ use Rattle.elab_inductives.proofs.InductivesNamed.{inductives_types}
 use Rattle.elab_inductives.proofs.ClausesResolved.{members_right, formulas_resolved, formulas_defined}
 use Rattle.decl_checks.specs.Checks.{group_of, OwnClause, own_clauses, all_clauses, ClauseHasForm, ClauseIsPositive, HasNoFault}
 use Rattle.decl_checks.proofs.Forms.{clause_of}
-use Rattle.elab_typed.specs.Typed.{IsTypedAs}
+use Rattle.elab_typed.specs.Typed.{IsTypedAs, ArePatterns}
 use Rattle.elab_typed.specs.Signature.{with_entries}
 use Rattle.elab_typed.specs.Scopes.{NamesNew, IsTypedSignature, IsTypedThing, AreTypedScopes}
 use Rattle.elab_typed.proofs.Widths.{IsWithin, grows}
@@ -34,7 +34,7 @@ use Rattle.elab_typed.proofs.Scopes.{scopes_more}
 use Rattle.elab_valid.specs.Valid.{IsTypedSetting, BodyFits, DeclsFit, HaveNoFault, IsValidOutcome}
 use Rattle.elab_valid.proofs.Settings.{inside, of_below}
 use Rattle.elab_valid.proofs.Algebraics.{EntriesAt, got}
-use Rattle.elab_valid.proofs.Bodies.{params_grow, BodiesSeen, AreSigned, AreBodied, bodies_valid}
+use Rattle.elab_valid.proofs.Bodies.{params_grow, BodiesSeen, AreSigned, AreBodied, bodies_valid, bodies_patterns}
 use Rattle.elab_valid.proofs.Standing.{entry_of, number_of_member, signature_at, AreSeen, whole, own_entries, outer, inner, whole_typed, entries_here, old_scopes, seen_tuples, count_signed}
 
 -- ---- what is seen
@@ -212,17 +212,31 @@ module _ (base : Vocabulary) (c : Setting) (h : IsTypedSetting base c) (s : List
         (predicates_valid c.theory c.within h.theory base A typed (group_of is) (d ∷ ks) hs bs k l e t f (recursion_from_All (ClauseHasForm A (group_of is)) (all_clauses is) x.form) (recursion_from_All (ClauseIsPositive (group_of is)) (all_clauses is) x.positive))
         (All-nil (IsValidDecl (with_entries base A)))
 
-  pub inductives_valid : (o : Outcome) → IsInductiveGroup c ds o → DeclsFit o.decls → HaveNoFault (c.symbols ++ o.symbols) o.decls → NamesNew base (length c.symbols) (c.symbols ++ o.symbols) → IsValidOutcome base c s o
-  inductives_valid o it fits passes all_news =
-      let v = with_entries base A in
-      let w = inner base c h ms all_seen names' same_types [] in
-      let entries = own_entries base c h ms all_seen names' same_types in
-      let split : c.symbols ++ o.symbols ≡ A = ap (λ (es : List SymbolTree). c.symbols ++ es) it.symbols ∙ sym (append_assoc c.symbols (tuples_wanting c all_seen) entries) in
-      let news : NamesNew base (length c.symbols) A = subst (λ (es : List SymbolTree). NamesNew base (length c.symbols) es) split all_news in
-      let bodied : AreBodied v (clause_signatures ds) it.clauses =
-      bodies_valid base c.trees A (typed news) names' (scopes news c.trees (Grows_refl c.trees)) all_seen (seen_tuples base c h ms all_seen names' same_types news sees right) (formulas ds) (clause_signatures ds) it.clauses o.matches (formulas_defined ds) (formulas_signed v ds) (formulas_resolved w ds q)
-      (formulas_seen all_seen ds unseen (λ n z. z)) it.solved in
-      let scopes' : AreTypedScopes v s o.scope = rw it.scope (scopes news s g) in
-      let passes' : HaveNoFault A o.decls = subst (λ (es : List SymbolTree). HaveNoFault es o.decls) split passes in
-      let decls : All (IsValidDecl v) o.decls = rw it.decls (decls_valid news ds gs it.clauses (length (inside base c h all_seen)) count (here news) bodied (rw it.decls at fits) (rw it.decls at passes')) in
-      record { signature = rw split (typed news); scopes = rw split scopes'; decls = rw split decls }
+  module _ (o : Outcome) (it : IsInductiveGroup c ds o) (all_news : NamesNew base (length c.symbols) (c.symbols ++ o.symbols)) where
+    split : c.symbols ++ o.symbols ≡ A
+    split = ap (λ (es : List SymbolTree). c.symbols ++ es) it.symbols ∙ sym (append_assoc c.symbols (tuples_wanting c all_seen) (own_entries base c h ms all_seen names' same_types))
+
+    news : NamesNew base (length c.symbols) A
+    news = subst (λ (es : List SymbolTree). NamesNew base (length c.symbols) es) split all_news
+
+    pub inductives_valid : DeclsFit o.decls → HaveNoFault (c.symbols ++ o.symbols) o.decls → IsValidOutcome base c s o
+    inductives_valid fits passes =
+        let v = with_entries base A in
+        let w = inner base c h ms all_seen names' same_types [] in
+        let bodied : AreBodied v (clause_signatures ds) it.clauses =
+        bodies_valid base c.trees A (typed news) names' (scopes news c.trees (Grows_refl c.trees)) all_seen (seen_tuples base c h ms all_seen names' same_types news sees right) (formulas ds) (clause_signatures ds) it.clauses o.matches (formulas_defined ds) (formulas_signed v ds) (formulas_resolved w ds q)
+        (formulas_seen all_seen ds unseen (λ n z. z)) it.solved in
+        let scopes' : AreTypedScopes v s o.scope = rw it.scope (scopes news s g) in
+        let passes' : HaveNoFault A o.decls = subst (λ (es : List SymbolTree). HaveNoFault es o.decls) split passes in
+        let decls : All (IsValidDecl v) o.decls = rw it.decls (decls_valid news ds gs it.clauses (length (inside base c h all_seen)) count (here news) bodied (rw it.decls at fits) (rw it.decls at passes')) in
+        let z = split in
+        record { signature = rw z (typed news); scopes = rw z scopes'; decls = rw z decls }
+
+    -- the patterns of each match are well typed, and of one type
+    pub inductives_patterns : All (λ (m : ℕ × List Tree). ArePatterns (with_entries base (c.symbols ++ o.symbols)) m.1) o.matches
+    inductives_patterns =
+        let v = with_entries base A in
+        let w = inner base c h ms all_seen names' same_types [] in
+        let z = split in
+        rw z (bodies_patterns base c.trees A (typed news) names' (scopes news c.trees (Grows_refl c.trees)) all_seen (seen_tuples base c h ms all_seen names' same_types news sees right) (formulas ds) (clause_signatures ds) it.clauses o.matches (formulas_signed v ds) (formulas_resolved w ds q)
+        (formulas_seen all_seen ds unseen (λ n z. z)) it.solved)

@@ -63,7 +63,7 @@ tuple_built symbols n None =
     All-cons IsTupleEntry (type_entry builtin (codes "tuple" ++ decimal n) n) (constructor_entries builtin name n t (type_variables 0 n)) refl (constructor_built name n t (type_variables 0 n))
 tuple_built symbols n (Some k) = All-nil IsTupleEntry
 
-tuples_built : (symbols : List SymbolTree) (ns : List ℕ) → All IsTupleEntry (wanting_tuples symbols ns)
+pub tuples_built : (symbols : List SymbolTree) (ns : List ℕ) → All IsTupleEntry (wanting_tuples symbols ns)
 tuples_built symbols [] = All-nil IsTupleEntry
 tuples_built symbols (n ∷ ns) =
     let more = wanting_tuple symbols n (tuple_in symbols n) in

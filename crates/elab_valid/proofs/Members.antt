@@ -24,7 +24,7 @@ use Rattle.elab_members.proofs.MembersNamed.{members_types}
 use Rattle.elab_members.proofs.MembersScoped.{members_resolved}
 use Rattle.elab_groups.specs.Bodies.{AreDefined, IsWhole}
 use Rattle.elab_groups.specs.Groups.{inner_equation, definitions, group_body, group_decls, group_tuples, group_signatures, group_used, IsGroup}
-use Rattle.elab_typed.specs.Typed.{IsTypedIn}
+use Rattle.elab_typed.specs.Typed.{IsTypedIn, ArePatterns}
 use Rattle.elab_typed.specs.Signature.{with_entries}
 use Rattle.elab_typed.specs.Scopes.{NamesNew, IsTypedSignature, AreTypedScopes}
 use Rattle.elab_typed.proofs.Widths.{IsWithin}
@@ -33,7 +33,7 @@ use Rattle.elab_valid.proofs.Settings.{inside, inside_typed, inside_scopes, form
 use Rattle.elab_valid.proofs.Algebraics.{EntriesAt, got}
 use Rattle.elab_valid.proofs.Definitions.{definition_valid}
 use Rattle.elab_valid.proofs.Standing.{entry_of, number_of_member, signature_at, members_scoped, AreSeen, whole, own_entries, outer, inner, whole_signed, whole_typed, front_news, entries_here, old_scopes, seen_tuples, count_signed, some_entry}
-use Rattle.elab_valid.proofs.Bodies.{body_grows, members_grow, AreSigned, AreBodied, bodies_seen, bodies_valid}
+use Rattle.elab_valid.proofs.Bodies.{body_grows, members_grow, AreSigned, AreBodied, bodies_seen, bodies_valid, bodies_patterns}
 
 -- ---- equations of definitions
 body_inside : (ts : List Tree) (e : Tree) → IndicesFit (for_all ts e) → IndicesFit e
@@ -133,23 +133,40 @@ module _ (base : Vocabulary) (c : Setting) (h : IsTypedSetting base c) (s : List
       scopes t r = members_scoped c.theory c.within h.theory base A typed t ms (group_signatures c ms) (length (inside base c h all_seen)) c.scope (count_signed (outer base c h ms all_seen names' same_types []) ms) here
           (old_scopes base c h ms all_seen names' same_types news sees q t r)
 
-    pub members_valid : (o : Outcome) → IsWhole ms → IsGroup c ms o → All (λ (d : DeclarationTree). BodyFits d.body) o.decls → NamesNew base (length c.symbols) (c.symbols ++ o.symbols) → IsValidOutcome base c s o
-    members_valid o w it fits all_news =
-        let gs = group_signatures c ms in
-        let v = with_entries base A in
-        let before = inside base c h all_seen in
-        let k = length before in
-        let entries = own_entries base c h ms all_seen names' same_types in
-        let split : c.symbols ++ o.symbols ≡ A = ap (λ (es : List SymbolTree). c.symbols ++ es) it.symbols ∙ sym (append_assoc c.symbols (group_tuples c ms) entries) in
-        let news : NamesNew base (length c.symbols) A = subst (λ (es : List SymbolTree). NamesNew base (length c.symbols) es) split all_news in
-        let first : NamesNew base (length c.symbols) before = front_news base c h ms all_seen names' same_types news in
-        let signed' = whole_signed base c h ms all_seen names' same_types news sees q in
-        let old = inside_scopes base c h all_seen in
-        let old_typed = inside_typed base c h all_seen first in
-        let resolved : AreResolved (inner base c h ms all_seen names' same_types []) ms gs = members_resolved c.trees before entries c.scope names' (scopes_of base before c.trees c.scope old) (some_entry before old_typed.int)
-        same_types (λ vars. over_scoped base c.trees before c.scope vars old_typed (formed base c h all_seen first vars)) ms q in
-        let bodied : AreDefined ms → AreBodied v gs it.bodies =
-        λ d. bodies_valid base c.trees A (typed news) names' (scopes news c.trees (Grows_refl c.trees)) all_seen (seen_tuples base c h ms all_seen names' same_types news sees q) ms gs it.bodies o.matches d signed' resolved (bodies_seen all_seen ms unseen (λ n z. z)) it.solved in
-        let scopes' : AreTypedScopes v s o.scope = rw it.scope (scopes news s g) in
-        let decls : All (IsValidDecl v) o.decls = rw it.decls (decls_valid A (typed news) ms gs it.bodies k (count_signed (outer base c h ms all_seen names' same_types []) ms) signed' (here news) w bodied (rw it.decls at fits)) in
-        record { signature = rw split (typed news); scopes = rw split scopes'; decls = rw split decls }
+    module _ (o : Outcome) (it : IsGroup c ms o) (all_news : NamesNew base (length c.symbols) (c.symbols ++ o.symbols)) where
+      split : c.symbols ++ o.symbols ≡ A
+      split = ap (λ (es : List SymbolTree). c.symbols ++ es) it.symbols ∙ sym (append_assoc c.symbols (group_tuples c ms) (own_entries base c h ms all_seen names' same_types))
+
+      news : NamesNew base (length c.symbols) A
+      news = subst (λ (es : List SymbolTree). NamesNew base (length c.symbols) es) split all_news
+
+      signed : AreSigned (with_entries base A) ms (group_signatures c ms)
+      signed = whole_signed base c h ms all_seen names' same_types news sees q
+
+      resolved : AreResolved (inner base c h ms all_seen names' same_types []) ms (group_signatures c ms)
+      resolved =
+          let before = inside base c h all_seen in
+          let first : NamesNew base (length c.symbols) before = front_news base c h ms all_seen names' same_types news in
+          let old = inside_scopes base c h all_seen in
+          let old_typed = inside_typed base c h all_seen first in
+          members_resolved c.trees before (own_entries base c h ms all_seen names' same_types) c.scope names' (scopes_of base before c.trees c.scope old) (some_entry before old_typed.int)
+          same_types (λ vars. over_scoped base c.trees before c.scope vars old_typed (formed base c h all_seen first vars)) ms q
+
+      pub members_valid : IsWhole ms → All (λ (d : DeclarationTree). BodyFits d.body) o.decls → IsValidOutcome base c s o
+      members_valid w fits =
+          let gs = group_signatures c ms in
+          let v = with_entries base A in
+          let k = length (inside base c h all_seen) in
+          let bodied : AreDefined ms → AreBodied v gs it.bodies =
+          λ d. bodies_valid base c.trees A (typed news) names' (scopes news c.trees (Grows_refl c.trees)) all_seen (seen_tuples base c h ms all_seen names' same_types news sees q) ms gs it.bodies o.matches d signed resolved (bodies_seen all_seen ms unseen (λ n z. z)) it.solved in
+          let scopes' : AreTypedScopes v s o.scope = rw it.scope (scopes news s g) in
+          let decls : All (IsValidDecl v) o.decls = rw it.decls (decls_valid A (typed news) ms gs it.bodies k (count_signed (outer base c h ms all_seen names' same_types []) ms) signed (here news) w bodied (rw it.decls at fits)) in
+          let z = split in
+          record { signature = rw z (typed news); scopes = rw z scopes'; decls = rw z decls }
+
+      -- the patterns of each match are well typed, and of one type
+      pub members_patterns : All (λ (m : ℕ × List Tree). ArePatterns (with_entries base (c.symbols ++ o.symbols)) m.1) o.matches
+      members_patterns =
+          let z = split in
+          rw z (bodies_patterns base c.trees A (typed news) names' (scopes news c.trees (Grows_refl c.trees)) all_seen (seen_tuples base c h ms all_seen names' same_types news sees q) ms (group_signatures c ms) it.bodies o.matches signed resolved
+          (bodies_seen all_seen ms unseen (λ n z. z)) it.solved)

@@ -25,13 +25,15 @@ use Rattle.elab_variables.proofs.Closing.{closed}
 use Rattle.elab_parts.specs.Elaborated.{unseen}
 use Rattle.elab_parts.specs.Declarations.{Called, proposition}
 use Rattle.elab_variables.specs.Seen.{Seen}
+use Rattle.elab_walk.specs.Patterns.{LocalTree}
 use Rattle.elab_parts.specs.Outcomes.{Setting, Outcome, around, tuples_wanting, full_name}
 use Rattle.elab_parts.proofs.Alike.{alike}
 use Rattle.elab_terms.specs.Outcomes.{proposition_seen, rigid_names, entry_numbers, rigid_types, said_as, schematic, IsProposition}
 use Rattle.elab_typed.specs.Signature.{with_entries}
+use Rattle.elab_typed.specs.Typed.{IsTypeOf, IsPatternOf, ArePatterns}
 use Rattle.elab_typed.specs.Scopes.{IsPart, NamesNew, IsTypedEntry, IsTypedSignature, IsTypedThing, AreTypedScopes}
 use Rattle.elab_typed.proofs.Widths.{tuples_seen}
-use Rattle.elab_typed.proofs.Solutions.{solved_formula}
+use Rattle.elab_typed.proofs.Solutions.{matches_typed, solved_formula}
 use Rattle.elab_typed.proofs.Scopes.{scopes_more}
 use Rattle.elab_typed.proofs.Extended.{entries_part, news_front, news_later, typed_more, signature_more, scopes_extended}
 use Rattle.elab_valid.specs.Valid.{IsTypedSetting, IsTypedOutcome, IsValidOutcome, DeclsFit, MayNameRigid}
@@ -142,6 +144,13 @@ module _ (base : Vocabulary) (symbols : List SymbolTree) (sig : IsTypedSignature
         variables = ground_after tys (λ j l. rigid_at (VariablesBelow 0) (λ k. tt) ks j (TyVar j) l) 0 e (subst (λ (m : ℕ). VariablesBelow m e) (sym q) f.variables);
       }
 
+patterns_more : (v w : Vocabulary) → IsPart v w → (es : List Tree) → ArePatterns v es → ArePatterns w es
+patterns_more v w part es x = record {
+  type = x.type;
+  over = record { sort = x.over.sort; typed = typed_more v w part [] x.type x.over.typed };
+  patterns = λ k d l. let p : IsPatternOf v x.type (get_or es k d) = x.patterns k d l in record { typed = typed_more v w part [] (get_or es k d) p.typed; sort = p.sort; type = p.type; parameters = p.parameters };
+}
+
 pub formula_more : (v w : Vocabulary) → IsPart v w → (n : ℕ) (e : Tree) → IsFormulaOver v [] n e → IsFormulaOver w [] n e
 formula_more v w part n e f = record { sort = f.sort; typed = typed_more v w part [] e f.typed; parameters = f.parameters; variables = f.variables }
 
@@ -194,6 +203,9 @@ module _ (base : Vocabulary) (c : Setting) (h : IsTypedSetting base c) (s : List
     sig : IsTypedSignature base (xs ++ ys)
     sig = signature_more base xs ys (inside_typed base c h seen' news) (rigids_typed (with_entries base (xs ++ ys)) (rigid_names k vs)) last
 
+    named : fault (world base c h seen' vs) false [] true e ≡ None
+    named = sym (alike (around c vs) (world base c h seen' vs) (same_names base c h seen' vs) e false [] true) ∙ closed (around c []) vs e unseen [] true q (λ u z. z)
+
     pub proposition_typed : IsTypedOutcome base c s o
     proposition_typed =
         let v = with_entries base (xs ++ ys) in
@@ -205,7 +217,6 @@ module _ (base : Vocabulary) (c : Setting) (h : IsTypedSetting base c) (s : List
     proposition_valid fits may =
         let w = world base c h seen' vs in
         let good = formed base c h seen' news vs in
-        let named : fault w false [] true e ≡ None = sym (alike (around c vs) w (same_names base c h seen' vs) e false [] true) ∙ closed (around c []) vs e unseen [] true q (λ u z. z) in
         let d : DeclarationTree = record { theory = c.theory; name = full_name c x; vars = schematic k vs; body = Says (said_as k o.rigid p.formula) } in
         let all : DeclsFit (d ∷ []) = rw p.decls at fits in
         let said : IndicesFit (said_as k o.rigid p.formula) = all 0 d (omega arith) in
@@ -222,3 +233,13 @@ module _ (base : Vocabulary) (c : Setting) (h : IsTypedSetting base c) (s : List
         goal_may kind.Goal ks ns z m = rw (sym z) m
         goal_may kind.Axiom ks ns z m = tt
         goal_may kind.Lemma ks ns z m = tt
+
+    -- the patterns of each match are well typed, and of one type
+    pub proposition_patterns : All (λ (m : ℕ × List Tree). ArePatterns (with_entries base (c.symbols ++ o.symbols)) m.1) o.matches
+    proposition_patterns =
+        let w = world base c h seen' vs in
+        let good = formed base c h seen' news vs in
+        let n = length vs in
+        let over' = matches_typed base w good n [] n None e p.formula o.matches (record { signature = good; tuples = tuples_seen base w e unseen (tuples base c h seen' news vs); named = named }) (record { variables = All-nil (λ (l : LocalTree). IsTypeOf (with_entries base xs) l.type); wanted = tt }) p.solved in
+        let z = split in
+        rw z (λ k d l. patterns_more (with_entries base xs) (with_entries base (xs ++ ys)) (entries_part base xs ys) (get_or o.matches k d).1 (over' k d l))

@@ -2,7 +2,7 @@
 //! It depends on the definitions of elaboration and on the laws of typing, and on no code of theirs.
 #![tactic(auto)]
 
-ghost use Rattle.std.specs.Prelude.{◌≡◌, ℕ, true, false, List, [], ◌∷◌, ◌++◌, length, All, Some, None, IsTrue};
+ghost use Rattle.std.specs.Prelude.{◌≡◌, ℕ, true, false, List, [], ◌∷◌, ◌++◌, map, length, All, Some, None, IsTrue};
 ghost use Rattle.trees.specs.Tree.{Tree};
 ghost use Rattle.trees.specs.Node.{Grows, Holds, tree_at};
 ghost use Rattle.trees.specs.declared.TermId.{TermId};
@@ -18,6 +18,7 @@ ghost use Rattle.syntax_why.specs.declared.declarations.PropKind.{PropKind};
 ghost use Rattle.syntax_why.specs.declared.declarations.PropKind.TheVariants.{Goal};
 ghost use Rattle.elab_names.specs.Abstract.{Form, Expression};
 ghost use Rattle.elab_names.specs.Faults.{fault, form_fault};
+ghost use Rattle.elab_walk.specs.Drafts.{match_at};
 ghost use Rattle.elab_parts.specs.declared.made.Elaborated.{Elaborated};
 ghost use Rattle.elab_parts.specs.Declarations.{Declaration, proposition, declaration, Called, Member, Algebraic, Inductive, words, types_fault};
 ghost use Rattle.std.specs.Str.{bytes_eq};
@@ -28,7 +29,9 @@ ghost use Rattle.elab_groups.specs.Groups.{group_used, IsGroup};
 ghost use Rattle.elab_types.specs.Algebraics.{inside, group_outcome};
 ghost use Rattle.elab_inductives.specs.Inductives.{inductives_used, IsInductiveGroup};
 ghost use Rattle.elab_terms.specs.Outcomes.{type_outcome, IsAlias, IsProposition, IsElaborated};
+ghost use Rattle.elab_typed.specs.Signature.{with_entries};
 ghost use Rattle.elab_typed.specs.Scopes.{NamesNew, IsPart, AgreeBelow};
+ghost use Rattle.elab_typed.specs.Typed.{ArePatterns};
 ghost use Rattle.elab_valid.specs.Lists.{after, AreValidAfter, MakesBelow, IsGroupWhole, IsNoGoal, IsNextDeclaration, IsNextGoal};
 ghost use Rattle.elab_valid.specs.Named.{DeclNames};
 ghost use Rattle.elab_valid.specs.Valid.{IsTypedSetting, MayName, MayNameRigid, DeclsFit, HaveNoFault, IsValidOutcome, IsDefinedBy, definition_by, IsValidElaborated};
@@ -79,6 +82,18 @@ pub fn elaborates_valid()
         → HaveNoFault (symbols_at s h.symbols) (declarations_at s made.decls)
         → NamesNew v (length c.symbols) (symbols_at s h.symbols)
         → MayNameRigid v x made.rigid → IsValidElaborated v s h names made }
+{}
+
+/// A law: over a typed signature and typed scopes the patterns of each match of what `elaborate` gives,
+/// also of one in a trigger, are well typed over a vocabulary of the signature afterwards that may name
+/// what is made, and of one type.
+pub fn elaborates_patterns()
+    ensures { (v : Vocabulary) (c : Setting) (x : Declaration) (g : Signature) (s : List Tree)
+        (h : Signature) (names : Names) (made : Elaborated) → IsTypedSetting v c
+        → Grows c.trees s → IsElaborated c x g s h names made
+        → NamesNew v (length c.symbols) (symbols_at s h.symbols)
+        → All (λ (m : ℕ × List Tree). ArePatterns (with_entries v (symbols_at s h.symbols)) m.1)
+        (map (match_at s) made.matches) }
 {}
 
 /// A law: a signature with `int` alone and a scope without names are typed, in a theory with a

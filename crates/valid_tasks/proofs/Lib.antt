@@ -12,3 +12,4 @@ pub mod NextGoal
 pub mod Joined
 pub mod Quoted
 pub mod QuotedTokens
+pub mod Typed

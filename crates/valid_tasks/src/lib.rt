@@ -4,7 +4,7 @@
 //! It depends on the definitions of elaboration and of the tasks of goals, and on no code of theirs.
 #![tactic(auto)]
 
-ghost use Rattle.std.specs.Prelude.{◌≡◌, ℕ, false, List, [], ◌∷◌, ◌++◌, length, All, Some, IfSome};
+ghost use Rattle.std.specs.Prelude.{◌≡◌, ℕ, false, List, [], ◌∷◌, ◌++◌, map, length, All, Some, IfSome};
 ghost use Rattle.std.specs.Str.{bytes_eq};
 ghost use Rattle.trees.specs.Tree.{Tree};
 ghost use Rattle.trees.specs.Node.{Grows, Holds, tree_at};
@@ -15,6 +15,7 @@ ghost use Rattle.tokens_why.specs.Tokens.{AreTokens};
 ghost use Rattle.tasks.specs.Task.{SymbolTree, DeclarationTree, int_symbol};
 ghost use Rattle.tasks.specs.Meaning.{symbols_at, declarations_at, DeclHeld};
 ghost use Rattle.tasks.specs.declared.signature.Signature.{Signature};
+ghost use Rattle.tasks.specs.Vocabulary.{of_signature};
 ghost use Rattle.tasks.specs.Valid.{AreInts, IsQuoted, IsValid};
 ghost use Rattle.names_space.specs.Names.{Names};
 ghost use Rattle.syntax_why.specs.Lexeme.{rest};
@@ -22,6 +23,7 @@ ghost use Rattle.syntax_why.specs.Declarations.{Decl, write_decl};
 ghost use Rattle.syntax_why.specs.DeclarationRules.{IsLevelDecl};
 ghost use Rattle.syntax_why.specs.declared.declarations.PropKind.{PropKind};
 ghost use Rattle.elab_names.specs.Abstract.{Expression};
+ghost use Rattle.elab_walk.specs.Drafts.{match_at};
 ghost use Rattle.elab_parts.specs.declared.made.Elaborated.{Elaborated};
 ghost use Rattle.elab_parts.specs.Entries.{builtin};
 ghost use Rattle.elab_parts.specs.Declarations.{Called, Declaration, proposition, declaration};
@@ -33,6 +35,7 @@ ghost use Rattle.goal_tasks.specs.Theories.{GoalTree, TheoryTree, TheoriesTree};
 ghost use Rattle.goal_tasks.specs.Tasks.{before, task_for};
 ghost use Rattle.valid_tasks.specs.Built.{IsBuiltRight};
 ghost use Rattle.valid_tasks.specs.Joined.{Agree, AreJoined};
+ghost use Rattle.valid_tasks.specs.Typed.{IsFitMatch, IsTypedOver};
 ghost use Rattle.valid_tasks.specs.Quoted.{IsQuotedLexeme};
 ghost use Rattle.valid_tasks.specs.Tasks.{AreSound, IsSoundGoal, IsToProve, IsGoalSaid, IsSoundAfter};
 
@@ -98,6 +101,26 @@ pub fn goals_sound()
         → IsSoundAfter (symbols_at s h.symbols) ds goal }
     ensures entries { (xs ys : List SymbolTree) (ds : List DeclarationTree) (goal : GoalTree)
         → IsSoundAfter xs ds goal → IsBuiltRight (xs ++ ys) → IsSoundAfter (xs ++ ys) ds goal }
+{}
+
+/// A law: where the signature and the scopes are typed, and each entry that has a theory may be named, the
+/// patterns of each match of what `elaborate` gives are well typed over the signature afterwards, and of one
+/// type, as the test of exhaustive matches asks for; where the checks of declarations find no fault, that
+/// signature and the scopes are typed again.
+pub fn keeps_typed()
+    ensures matches { (c : Setting) (x : Declaration) (g : Signature) (s : List Tree)
+        (h : Signature) (names : Names) (made : Elaborated)
+        → IsTypedSetting (of_signature c.symbols) c → Grows c.trees s
+        → IsElaborated c x g s h names made
+        → All (IsFitMatch (symbols_at s h.symbols)) (map (match_at s) made.matches) }
+    ensures setting { (c : Setting) (d : Decl) (x : Declaration) (g : Signature) (s : List Tree)
+        (h : Signature) (names : Names) (made : Elaborated)
+        → IsTypedSetting (of_signature c.symbols) c → Grows c.trees s → declaration d ≡ Some x
+        → IsElaborated c x g s h names made
+        → ((id : TermId) → Holds s id → WellSorted (tree_at s id))
+        → All (DeclHeld s) made.decls
+        → HaveNoFault (symbols_at s h.symbols) (declarations_at s made.decls)
+        → IsTypedOver s (symbols_at s h.symbols) names }
 {}
 
 /// A law: sound declarations with those of a theory that is used, each theory's once, are sound, where
