@@ -1,14 +1,16 @@
-// The answer to a theory: what its last declaration becomes, or the first fault.
-ghost use Rattle.std.specs.Prelude.{length};
+// The answer to a theory: what its last declaration becomes, what its matches leave, or the first fault.
+ghost use Rattle.std.specs.Prelude.{length, All, OnOk};
+ghost use Rattle.tasks.specs.Meaning.{DeclHeld};
 ghost use Rattle.elab_parts.specs.Entries.{IsSignature, AreScopes};
 
-use crate::made::{put_entry, put_made};
+use crate::made::{put_entries, put_made};
 use crate::printing::put_numbered;
+use crate::sides::{put_covers, put_sides};
 use elab_terms::{ElabFault, Elaborated, begin, elaborate, is_logical, no_names};
 use names_space::Scope;
 use parse_decls::parse;
 use std::alloc::{AllocError, Global};
-use syntax_why::DeclTree;
+use syntax_why::{DeclNode, DeclTree};
 use tasks::Signature;
 use term_store::Store;
 use tokens_why::lex;
@@ -43,7 +45,18 @@ fn put_refusal(alloc: Global, text: &mut String, fault: ElabFault) -> Result<(),
     }
 }
 
-// What the last declaration becomes, whose entries stand from a number on; of an earlier one nothing is said.
+// What is asked of a theory's last declaration: what it becomes, which shapes its matches leave, which of them leave one, or the
+// first fault of its side conditions.
+#[derive(Clone, Copy)]
+enum Asked {
+    Made,
+    Covers,
+    Open,
+    Sides,
+}
+
+// What is asked of the last declaration, whose entries stand from a number on; of an earlier one nothing is said.
+#[tactic(auto, using(crate::proofs::Held::symbols_held))]
 fn put_last(
     alloc: Global,
     text: &mut String,
@@ -51,21 +64,73 @@ fn put_last(
     sig: &Signature,
     from: usize,
     made: &Elaborated,
-    is_last: bool,
-) -> Result<(), AllocError> {
-    if !is_last {
-        return Ok(());
-    }
-    put_numbered(alloc, text, "Made ", sig.symbols.len())?;
-    for (number, info) in sig.symbols.as_slice().iter().enumerate() {
-        if number >= from {
-            put_entry(alloc, text, store, info)?;
+    asked: Asked,
+) -> Result<(), AllocError>
+    requires signature { IsSignature store.now sig.now.symbols }
+    requires decls { All (DeclHeld store.now) made.now.decls }
+{
+    match asked {
+        Asked::Covers => put_covers(alloc, text, store, sig, made.matches.as_slice(), true),
+        Asked::Open => put_covers(alloc, text, store, sig, made.matches.as_slice(), false),
+        Asked::Sides => put_sides(alloc, text, store, sig, made),
+        Asked::Made => {
+            put_numbered(alloc, text, "Made ", sig.symbols.len())?;
+            put_entries(alloc, text, store, sig.symbols.as_slice(), from)?;
+            put_made(alloc, text, store, made)
         }
     }
-    put_made(alloc, text, store, made)
 }
 
-// What the last of these declarations becomes, the first of which has the number `at`.
+// Elaborates the declarations of a scope `S`, which is open, all under one number, as far as they are no `use`, `clone` or `scope`.
+fn elaborate_inside(
+    alloc: Global,
+    store: &mut Store,
+    sig: &mut Signature,
+    scope: &mut Scope,
+    decls: &[DeclTree],
+    at: usize,
+) -> Result<(), ElabFault>
+    requires signature { IsSignature store.old sig.old.symbols }
+    requires scopes { AreScopes store.old (length sig.old.symbols) scope.old }
+    ensures signature { OnOk result (IsSignature store.new sig.new.symbols) }
+    ensures scopes { OnOk result (AreScopes store.new (length sig.new.symbols) scope.new) }
+{
+    let Some((first, rest)) = decls.split_first() else {
+        return Ok(());
+    };
+    if !is_logical(first) {
+        return Ok(());
+    }
+    elaborate(alloc, store, sig, scope, "T", "S.", first, at)?;
+    elaborate_inside(alloc, store, sig, scope, rest, at)
+}
+
+// The declarations of a scope that is named `S`.
+#[tactic(auto, using(crate::proofs::Held::opened_scopes))]
+fn elaborate_scope(
+    alloc: Global,
+    store: &mut Store,
+    sig: &mut Signature,
+    scope: &mut Scope,
+    decls: &[DeclTree],
+    at: usize,
+) -> Result<(), ElabFault>
+    requires signature { IsSignature store.old sig.old.symbols }
+    requires scopes { AreScopes store.old (length sig.old.symbols) scope.old }
+    ensures signature { OnOk result (IsSignature store.new sig.new.symbols) }
+    ensures scopes { OnOk result (AreScopes store.new (length sig.new.symbols) scope.new) }
+{
+    if scope.open("S").is_err() {
+        return Err(ElabFault::Memory);
+    }
+    elaborate_inside(alloc, store, sig, scope, decls, at)?;
+    if scope.is_nested() {
+        let _ = scope.close();
+    }
+    Ok(())
+}
+
+// What is asked of the last of these declarations, the first of which has the number `at`.
 fn put_answer(
     alloc: Global,
     text: &mut String,
@@ -74,6 +139,7 @@ fn put_answer(
     scope: &mut Scope,
     decls: &[DeclTree],
     at: usize,
+    asked: Asked,
 ) -> Result<(), AllocError>
     requires signature { IsSignature store.old sig.old.symbols }
     requires scopes { AreScopes store.old (length sig.old.symbols) scope.old }
@@ -81,32 +147,49 @@ fn put_answer(
     let Some((first, rest)) = decls.split_first() else {
         return Ok(());
     };
+    let next = at.saturating_add(1);
+    if let DeclNode::ScopeDecl(_, inner) = &first.node {
+        return match elaborate_scope(alloc, store, sig, scope, inner.as_slice(), at) {
+            Ok(()) => put_answer(alloc, text, store, sig, scope, rest, next, asked),
+            Err(fault) => put_refusal(alloc, text, fault),
+        };
+    }
     if !is_logical(first) {
         return text.push_str("no declaration");
     }
     let from = sig.symbols.len();
     match elaborate(alloc, store, sig, scope, b"T", b"", first, at) {
         Ok(made) => {
-            put_last(alloc, text, store, sig, from, &made, rest.is_empty())?;
-            put_answer(alloc, text, store, sig, scope, rest, at.saturating_add(1))
+            if rest.is_empty() {
+                put_last(alloc, text, store, sig, from, &made, asked)
+            } else {
+                put_answer(alloc, text, store, sig, scope, rest, next, asked)
+            }
         }
         Err(fault) => put_refusal(alloc, text, fault),
     }
 }
 
-// The answer to a theory's declarations, which are counted from 1.
-fn describe_all(alloc: Global, text: &mut String, decls: &[DeclTree]) -> Result<(), AllocError> {
+// What is asked of a theory's declarations, which are counted from 1.
+fn describe_all(
+    alloc: Global,
+    text: &mut String,
+    decls: &[DeclTree],
+    asked: Asked,
+) -> Result<(), AllocError> {
     let mut store = Store::new(alloc)?;
     let mut sig = begin(alloc)?;
     let Ok(mut scope) = Scope::new(alloc) else {
         return Err(AllocError);
     };
     no_names(&scope);
-    put_answer(alloc, text, &mut store, &mut sig, &mut scope, decls, 1)
+    put_answer(
+        alloc, text, &mut store, &mut sig, &mut scope, decls, 1, asked,
+    )
 }
 
-/// The answer to the first theory of a source.
-pub(crate) fn describe(alloc: Global, source: &str) -> Result<String, AllocError> {
+// What is asked of the first theory of a source.
+fn describe_source(alloc: Global, source: &str, asked: Asked) -> Result<String, AllocError> {
     let mut text = String::new(alloc);
     let bytes = source.as_bytes();
     let Ok(tokens) = lex(alloc, bytes) else {
@@ -118,8 +201,22 @@ pub(crate) fn describe(alloc: Global, source: &str) -> Result<String, AllocError
         return Ok(text);
     };
     match file.theories.as_slice().first() {
-        Some(theory) => describe_all(alloc, &mut text, theory.decls.as_slice())?,
+        Some(theory) => describe_all(alloc, &mut text, theory.decls.as_slice(), asked)?,
         None => text.push_str("no theory")?,
     }
     Ok(text)
+}
+
+/// The answer to a line: a source, before which one of the words `covers`, `open` and `sides` may stand.
+pub(crate) fn describe(alloc: Global, line: &str) -> Result<String, AllocError> {
+    if let Some(source) = line.strip_prefix("covers ") {
+        return describe_source(alloc, source, Asked::Covers);
+    }
+    if let Some(source) = line.strip_prefix("open ") {
+        return describe_source(alloc, source, Asked::Open);
+    }
+    if let Some(source) = line.strip_prefix("sides ") {
+        return describe_source(alloc, source, Asked::Sides);
+    }
+    describe_source(alloc, line, Asked::Made)
 }

@@ -15,8 +15,8 @@ fn kind_word(kind: SymbolKind) -> &'static str {
     }
 }
 
-/// An entry: its theory, its name, what it is, and its types.
-pub(crate) fn put_entry(
+// An entry: its theory, its name, what it is, and its types.
+fn put_entry(
     alloc: Global,
     text: &mut String,
     store: &Store,
@@ -32,6 +32,22 @@ pub(crate) fn put_entry(
         Some(ty) => put_tree(alloc, text, store, ty),
         None => Ok(()),
     }
+}
+
+/// The entries of a signature from a number on.
+pub(crate) fn put_entries(
+    alloc: Global,
+    text: &mut String,
+    store: &Store,
+    symbols: &[SymbolInfo],
+    from: usize,
+) -> Result<(), AllocError> {
+    for (number, info) in symbols.iter().enumerate() {
+        if number >= from {
+            put_entry(alloc, text, store, info)?;
+        }
+    }
+    Ok(())
 }
 
 fn put_constructor(

@@ -1,10 +1,11 @@
-//! Reads theories, one a line, and says of each what its last declaration becomes, or its first fault.
-//! It depends on the reader and on elaboration; its input and output are by `tools/elab-rows`.
+//! Reads theories, one a line, and says of each what its last declaration becomes, what its matches leave, or its first fault.
+//! It depends on the reader, on elaboration and on the side conditions; its input and output are by `tools/elab-rows`.
 #![tactic(auto)]
 
 mod answers;
 mod made;
 mod printing;
+mod sides;
 
 use answers::describe;
 use std::io;

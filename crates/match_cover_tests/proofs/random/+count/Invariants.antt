@@ -1,4 +1,0 @@
-use Rattle.match_cover_tests.proofs.random.+count.Given as goal
-
-abbrev pub decreases-count : goal.decreases-count
-decreases-count l = l.depth
