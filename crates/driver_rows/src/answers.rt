@@ -5,18 +5,35 @@ use crate::showing::{put_bytes, put_driver, put_fault, put_number, put_pieces};
 use driver_files::read_driver;
 use driver_items::template_of;
 use driver_tokens::{DriverSyntaxFault, read_lines, string_value};
+use outside::MemoryLibrary;
 use std::alloc::{AllocError, Global};
 
-/// What a driver gives, which is the first of these files.
-fn put_read(alloc: Global, out: &mut String, bytes: &[u8], failing: u8) -> Result<(), AllocError> {
-    let mut files = library(alloc, bytes, failing)?;
+/// What a driver gives, which is the first of the files.
+fn put_read(
+    alloc: Global,
+    out: &mut String,
+    bytes: &[u8],
+    files: &mut MemoryLibrary,
+) -> Result<(), AllocError> {
     let name = String::from_utf8_lossy(alloc, driver_name(bytes))?;
     let sig = signature(alloc)?;
     let known = theories(alloc)?;
-    match read_driver(alloc, &mut files, &sig, &known, name.as_str()) {
+    match read_driver(alloc, files, &sig, &known, name.as_str()) {
         Ok(driver) => put_driver(alloc, out, &driver),
         Err(fault) => put_fault(alloc, out, fault),
     }
+}
+
+/// The same over the files of a line, of which the fetch with a number fails.
+fn put_line(
+    alloc: Global,
+    out: &mut String,
+    bytes: &[u8],
+    failing: u8,
+    is_long: bool,
+) -> Result<(), AllocError> {
+    let mut files = library(alloc, bytes, failing, is_long)?;
+    put_read(alloc, out, bytes, &mut files)
 }
 
 /// How many lines a text has, or where it goes wrong.
@@ -50,7 +67,8 @@ fn put_answer(
     bytes: &[u8],
 ) -> Result<(), AllocError> {
     match letter {
-        b'd' => put_read(alloc, out, bytes, number),
+        b'd' => put_line(alloc, out, bytes, number, false),
+        b'b' => put_line(alloc, out, bytes, number, true),
         b'l' => put_count(alloc, out, bytes),
         b's' => put_string(alloc, out, bytes),
         b't' => put_template(alloc, out, bytes, number),

@@ -121,13 +121,19 @@ pub(crate) fn driver_name(bytes: &[u8]) -> &[u8] {
     bytes.get(..place_of(bytes, b':')).unwrap_or(b"")
 }
 
-/// The files, of which the fetch with a number fails, counted from 1; none where it is 0.
+/// The files, of which the fetch with a number fails, counted from 1; none where it is 0. Where `is_long`, behind them the file
+/// `e`, whose blanks are one more than a file may have bytes.
 pub(crate) fn library(
     alloc: Global,
     bytes: &[u8],
     failing: u8,
+    is_long: bool,
 ) -> Result<MemoryLibrary, AllocError> {
-    let files = files_of(alloc, bytes)?;
+    let mut files = files_of(alloc, bytes)?;
+    if is_long {
+        let name = String::from_str(alloc, "e")?;
+        files.push((name, vec![in alloc; 32u8; 67_108_865]?))?;
+    }
     let mut fetches = Vec::new(alloc);
     if failing > 0 {
         fetches.push(u64::from(failing) - 1)?;

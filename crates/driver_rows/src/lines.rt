@@ -13,27 +13,21 @@ fn escaped_byte(letter: u8) -> u8 {
     }
 }
 
-/// The bytes of a line. `\n`, `\t`, `\r`, `\x` (the byte 255) and `\|` (the byte 1) stand for one byte each; `\2` doubles the
-/// last `\(`, which stands for none, with all that is behind it; a backslash before another byte stands for that byte.
+/// The bytes of a line. `\n`, `\t`, `\r`, `\x` (the byte 255) and `\|` (the byte 1) stand for one byte each; a backslash before
+/// another byte stands for that byte.
 pub(crate) fn bytes_of(alloc: Global, line: &[u8]) -> Result<Vec<u8>, AllocError> {
     let mut out = Vec::new(alloc);
-    let mut from = 0;
     let mut is_escaped = false;
     for letter in line {
         if !is_escaped && *letter == b'\\' {
             is_escaped = true;
             continue;
         }
-        if is_escaped && *letter == b'(' {
-            from = out.len();
-        } else if is_escaped && *letter == b'2' {
-            let more = Vec::from_slice(alloc, out.get(from..).unwrap_or(b""))?;
-            out.extend_from_slice(&more)?;
-        } else if is_escaped {
-            out.push(escaped_byte(*letter))?;
+        out.push(if is_escaped {
+            escaped_byte(*letter)
         } else {
-            out.push(*letter)?;
-        }
+            *letter
+        })?;
         is_escaped = false;
     }
     Ok(out)
