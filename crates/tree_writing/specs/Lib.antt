@@ -1,1 +1,9 @@
 pub mod Spelt
+pub mod Referring
+pub mod Naming
+pub mod Plain
+pub mod Used
+pub mod Branches
+pub mod Parts
+pub mod Text
+pub mod Whole

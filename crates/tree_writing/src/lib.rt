@@ -3,6 +3,16 @@
 //! It depends on the reader's definitions of such lines.
 #![tactic(auto)]
 
+mod branches;
+mod expressions;
+mod marking;
+mod naming;
+mod plain;
+mod referring;
 mod spelling;
+mod used;
+mod writer;
 
+pub use referring::{find_line, line_number, push_numbers};
 pub use spelling::{Spelling, SymbolNames};
+pub use writer::{LineKind, Written, push_line, written_trees};

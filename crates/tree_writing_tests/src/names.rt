@@ -10,7 +10,7 @@ use tree_lines::Names;
 use tree_writing::SymbolNames;
 use trees::{Node, TermId};
 
-const MEMORY: &str = "out of memory";
+pub(crate) const MEMORY: &str = "out of memory";
 
 const END: TermId = TermId(0);
 
@@ -74,7 +74,7 @@ fn filled(rt: &impl Abort, alloc: Global) -> Store {
 }
 
 // The name table.
-fn table(rt: &impl Abort, alloc: Global) -> Vec<NameEntry> {
+pub(crate) fn table(rt: &impl Abort, alloc: Global) -> Vec<NameEntry> {
     let mut all = Vec::new(alloc);
     for (name, symbol, places) in NAMES.iter() {
         let entry = NameEntry {
