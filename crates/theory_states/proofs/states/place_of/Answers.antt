@@ -1,0 +1,29 @@
+use Rattle.std.proofs.Common.{◌≡◌, true, false, get_or, sym, ap, ◌∙◌}
+use Rattle.theory_states.specs.declared.states.Known.{Known}
+use Rattle.theory_states.specs.States.{has_path}
+use Rattle.theory_states.specs.Meaning.{known_at}
+use Rattle.theory_states.proofs.Lists.{passed, found, none_left}
+use Rattle.theory_states.proofs.states.place_of.Goals as goal
+
+pub returns-then-has_path-clause-found : goal.returns-then-has_path-clause-found
+returns-then-has_path-clause-found c = λ s.
+    let f = known_at s in
+    let p = has_path c.args.path.now in
+    let xs = c.args.list.now in
+    let i = c.loop-at.at in
+    let d = c.index-list-at.result in
+    let here : p (f (get_or xs i d)) ≡ true = ap (λ (t : Known). p (f t)) (sym c.index-list-at.is) ∙ sym (c.has_path.ensures s) ∙ c.if-has_path.true in
+    found p f xs i d c.loop-at-test.true here ∙ c.loop-at.invariant s
+
+pub loop-at-preserved : goal.loop-at-preserved
+loop-at-preserved c = λ s.
+    let f = known_at s in
+    let p = has_path c.args.path.now in
+    let xs = c.args.list.now in
+    let i = c.loop-at.at in
+    let d = c.index-list-at.result in
+    let past : p (f (get_or xs i d)) ≡ false = ap (λ (t : Known). p (f t)) (sym c.index-list-at.is) ∙ sym (c.has_path.ensures s) ∙ c.if-has_path.false in
+    sym (passed p f xs i d c.loop-at-test.true past) ∙ c.loop-at.invariant s
+
+pub returns-clause-none : goal.returns-clause-none
+returns-clause-none c = λ s. sym (c.loop-at.invariant s) ∙ none_left (has_path c.args.path.now) (known_at s) c.args.list.now c.loop-at.at c.loop-at-test.false

@@ -1,0 +1,38 @@
+-- What the theories in code stand for.
+use Rattle.std.specs.Prelude.{ℕ, ◌<◌, List, map, length, All}
+use Rattle.trees.specs.Tree.{Tree}
+use Rattle.tasks.specs.Meaning.{symbols_at, declarations_at, DeclHeld}
+use Rattle.goal_tasks.specs.Meaning.{goal_at, GoalHeld}
+use Rattle.elab_parts.specs.Entries.{IsSignature}
+use Rattle.theory_states.specs.declared.states.Known.{Known}
+use Rattle.theory_states.specs.declared.states.Opened.{Opened}
+use Rattle.theory_states.specs.declared.states.Typed.{Typed}
+use Rattle.theory_states.specs.States.{KnownTree, OpenedTree, StateTree}
+
+abbrev pub known_at : List Tree → Known → KnownTree
+known_at s k = record { path = k.theory.path; visible = k.theory.visible; axioms = k.axioms; goals = map (goal_at s) k.theory.goals; moves = k.moves }
+
+abbrev pub opened_at : List Tree → Opened → OpenedTree
+opened_at s o = record { path = o.path; within = o.within.items; scope = o.scope; visible = o.visible.keys; axioms = o.axioms; goals = map (goal_at s) o.goals; moves = o.moves.items }
+
+abbrev pub state_at : List Tree → Typed → Opened → StateTree
+state_at s t o = record { trees = s; symbols = symbols_at s t.sig.symbols; decls = declarations_at s t.decls; known = map (known_at s) t.known; opened = opened_at s o; number = o.count }
+
+-- the numbers in a theory are held, over so many declarations
+pub record KnownHeld (s : List Tree) (count : ℕ) (k : Known) : Type 0 where
+  pub visible : All (λ (p : ℕ). p < count) k.theory.visible
+  pub goals : All (GoalHeld s) k.theory.goals
+
+pub record OpenedHeld (s : List Tree) (count : ℕ) (o : Opened) : Type 0 where
+  pub visible : All (λ (p : ℕ). p < count) o.visible.keys
+  pub goals : All (GoalHeld s) o.goals
+
+pub record TypedHeld (s : List Tree) (t : Typed) : Type 0 where
+  pub signature : IsSignature s t.sig.symbols
+  pub decls : All (DeclHeld s) t.decls
+  pub known : All (KnownHeld s (length t.decls)) t.known
+
+-- all numbers are held
+pub record StateHeld (s : List Tree) (t : Typed) (o : Opened) : Type 0 where
+  pub typed : TypedHeld s t
+  pub opened : OpenedHeld s (length t.decls) o
