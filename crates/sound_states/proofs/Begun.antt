@@ -32,7 +32,7 @@ use Rattle.valid_tasks.proofs.Outcomes.{begins as begins_right}
 use Rattle.valid_tasks.proofs.Distinct.{distinct_pairs}
 use Rattle.theory_states.specs.States.{KnownTree, StateTree, at_places, opened_empty, known_as, known_named}
 use Rattle.sound_states.specs.Whole.{IsWhole}
-use Rattle.sound_states.specs.Sound.{IsSoundAmong, IsSoundTheory, IsSoundKnown, IsSoundOpened, paths, IsSoundState, AreSoundTheories}
+use Rattle.sound_states.specs.Sound.{IsSoundAxiom, IsSoundAmong, IsSoundTheory, IsSoundKnown, IsSoundOpened, paths, IsSoundState, AreSoundTheories}
 use Rattle.sound_states.proofs.Places.{none_here, cases_of, later, from_places, slice_in}
 
 -- ---- what is built in is typed
@@ -91,7 +91,7 @@ module _ (symbols : List SymbolTree) (built : IsBuiltRight symbols) where
         let is : symbol_or symbols (c - 1) ≡ e = ap (symbol_or symbols) i ∙ slice_or symbols k e q in
         subst (IsTypedEntry v) (sym (type_is symbols n c at) ∙ is) (type_entry_typed v builtin (codes "tuple" ++ decimal n) n)
 
-  entry_built : (k : ℕ) (e : SymbolTree) → slice_get symbols k ≡ Some e → (k ≡ 0) ⊎ IsOfTuple symbols k → IsTypedEntry v e
+  pub entry_built : (k : ℕ) (e : SymbolTree) → slice_get symbols k ≡ Some e → (k ≡ 0) ⊎ IsOfTuple symbols k → IsTypedEntry v e
   entry_built k e q (inl z) = let same : Some int_symbol ≡ Some e = sym built.int ∙ ap (slice_get symbols) (sym z) ∙ q in let i : int_symbol ≡ e = cc in subst (IsTypedEntry v) i int_typed
   entry_built k e q (inr t) = of_tuple k e q t t.is
 
@@ -126,13 +126,14 @@ module _ (s : List Tree) (symbols : List SymbolTree) (decls : List DeclarationTr
   nothing_whole : IsWhole decls []
   nothing_whole = λ j k d e q r c z. absurd (none_here k c)
 
-  empty_sound : IsSoundTheory s symbols symbols decls path [] [] []
+  empty_sound : IsSoundTheory s symbols symbols decls path [] [] [] []
   empty_sound = record {
     sound = none_sound symbols built;
     others = none_sound symbols built;
     signature = built_typed symbols built scoped;
     typed_moves = All-nil (IsTypedMove (after symbols [] []) s);
     sound_goals = All-nil (IsSoundAmong symbols []);
+    sound_axioms = All-nil (IsSoundAxiom decls);
     below = All-nil (λ (k : ℕ). k < length decls);
     once = distinct_pairs [] tt;
     whole = nothing_whole;

@@ -22,9 +22,10 @@ use Rattle.valid_tasks.specs.Tasks.{AreSound}
 use Rattle.valid_tasks.proofs.Distinct.{IsDistinct, distinct_pairs, pairs_distinct, distinct_both, range_contains, range_distinct}
 use Rattle.valid_tasks.proofs.TupleDecls.{in_range}
 use Rattle.valid_tasks.proofs.Grown.{more_part, sound_more, behind_more}
+use Rattle.theory_states.specs.declared.states.AxiomAt.{AxiomAt}
 use Rattle.theory_states.specs.States.{KnownTree, OpenedTree, StateTree, at_places, visible_now}
 use Rattle.sound_states.specs.Whole.{IsWhole}
-use Rattle.sound_states.specs.Sound.{others, IsSoundAmong, IsSoundTheory, IsSoundKnown, IsApart, IsSoundOpened, paths, AreOf, IsSoundState, IsAfter, IsSoundAddition}
+use Rattle.sound_states.specs.Sound.{others, IsSoundAmong, IsSoundAxiom, IsSoundTheory, IsSoundKnown, IsApart, IsSoundOpened, paths, AreOf, IsSoundState, IsAfter, IsSoundAddition}
 use Rattle.sound_states.proofs.Places.{none_here, cases_of, there, further, at_both, in_places, slice_in, places_grown}
 use Rattle.sound_states.proofs.Used.{is_part_itself, among_more, others_more}
 
@@ -67,6 +68,13 @@ range_below a (suc m) j c = of (cases_of a j (range_with_len (a + 1) m) c) (λ z
     of (inl e) f = omega (arith, e)
     of (inr z) f = let l = f z in omega (arith, l)
 
+pub axiom_more : (decls new : List DeclarationTree) (a : AxiomAt) → IsSoundAxiom decls a → IsSoundAxiom (decls ++ new) a
+axiom_more decls new a h = record {
+  there = let b = h.there in let n = length-append decls new in omega (arith, b, n);
+  count = λ d q. let x = there decls a.decl h.there in let z : Some x.0 ≡ Some d = sym (further decls new a.decl x.0 x.1) ∙ q in h.count d (x.1 ∙ z);
+  quoted = h.quoted;
+}
+
 -- ---- a theory before, as more is known
 module _ (s s' : List Tree) (g : Grows s s') (all more : List SymbolTree) (built : IsBuiltRight (all ++ more)) (decls new : List DeclarationTree) (path : List ℕ) (of : All (λ (d : DeclarationTree). d.theory ≡ path) new) where
   new_theory : (i : ℕ) (d : DeclarationTree) → slice_get new i ≡ Some d → d.theory ≡ path
@@ -77,7 +85,7 @@ module _ (s s' : List Tree) (g : Grows s s') (all more : List SymbolTree) (built
       by (x ∷ ds) zero d q h = let e : x ≡ d = cc in ap (λ (z : DeclarationTree). z.theory) (sym e) ∙ All-head (λ (z : DeclarationTree). z.theory ≡ path) x ds h
       by (x ∷ ds) (suc i) d q h = by ds i d q (All-tail (λ (z : DeclarationTree). z.theory ≡ path) x ds h)
 
-  module _ (t : KnownTree) (apart : IsApart decls path t) (xs : List SymbolTree) (h : IsSoundTheory s all xs decls t.path t.visible t.goals t.moves) where
+  module _ (t : KnownTree) (apart : IsApart decls path t) (xs : List SymbolTree) (h : IsSoundTheory s all xs decls t.path t.visible t.axioms t.goals t.moves) where
     same : at_places (decls ++ new) t.visible ≡ at_places decls t.visible
     same = places_grown decls new t.visible h.below
 
@@ -94,7 +102,7 @@ module _ (s s' : List Tree) (g : Grows s s') (all more : List SymbolTree) (built
         by j k d e (inl q) r c u = h.whole j k d e q r c u
         by j k d e (inr z) r c u = absurd (All-contains (λ (x : DeclarationTree). x.theory ≢ path) (at_places decls t.visible) e apart (in_places decls t.visible k e c r) (sym u ∙ new_theory z.0 d z.2))
 
-    known_theory : IsSoundTheory s' (all ++ more) xs (decls ++ new) t.path t.visible t.goals t.moves
+    known_theory : IsSoundTheory s' (all ++ more) xs (decls ++ new) t.path t.visible t.axioms t.goals t.moves
     known_theory = record {
       sound = subst (AreSound xs) (sym same) h.sound;
       others = subst (λ (ds : List DeclarationTree). AreSound xs (others t.path ds)) (sym same) h.others;
@@ -102,6 +110,7 @@ module _ (s s' : List Tree) (g : Grows s s') (all more : List SymbolTree) (built
       typed_moves = subst (λ (ds : List DeclarationTree). AreTypedMoves (after xs [] ds) s' t.moves) (sym same)
           (moves_more (after xs [] (at_places decls t.visible)) (after xs [] (at_places decls t.visible)) (is_part_itself (after xs [] (at_places decls t.visible))) s s' g t.moves h.typed_moves);
       sound_goals = λ i x l. subst (λ (ds : List DeclarationTree). IsSoundAmong (all ++ more) ds (get_or t.goals i x)) (sym same) (goal_more (get_or t.goals i x) (h.sound_goals i x l));
+      sound_axioms = λ i a l. axiom_more decls new (get_or t.axioms i a) (h.sound_axioms i a l);
       below = λ i d l. let b = h.below i d l in let n = length-append decls new in omega (arith, b, n);
       once = h.once;
       whole = still_whole;
@@ -187,7 +196,7 @@ module _ (s s' : List Tree) (g : Grows s s') (all more : List SymbolTree) (decls
   once_now = distinct_both o.visible places (pairs_distinct o.visible h.theory.once) (range_distinct (length decls) (length new))
       (λ k c d. let a = All-contains (λ (i : ℕ). i < length decls) o.visible k h.theory.below c in let b = range_contains (length decls) (length new) k d in omega arith)
 
-  module _ (goals : List GoalTree) (moves : List Move) (goals_are : o'.goals ≡ o.goals ++ goals) (moves_are : o'.moves ≡ o.moves ++ moves)
+  module _ (axioms : List AxiomAt) (goals : List GoalTree) (moves : List Move) (axioms_are : o'.axioms ≡ o.axioms ++ axioms) (assumed : All (IsSoundAxiom (decls ++ new)) axioms) (goals_are : o'.goals ≡ o.goals ++ goals) (moves_are : o'.moves ≡ o.moves ++ moves)
       (sound : AreSound (all ++ more) both) (signature : IsTypedSignature (after (all ++ more) [] both) (all ++ more)) (scopes : AreTypedScopes (after (all ++ more) [] both) s' o'.scope)
       (typed : AreTypedMoves (after (all ++ more) [] both) s' moves) (said : All (IsSoundAmong (all ++ more) both) goals) where
     part : IsPart (after all [] ds) (after (all ++ more) [] both)
@@ -201,7 +210,7 @@ module _ (s s' : List Tree) (g : Grows s s') (all more : List SymbolTree) (decls
         subst (λ (p : List ℕ). AreSound (all ++ more) (others p both)) (sym path)
         (subst (AreSound (all ++ more)) (sym (others_more o.path ds new of)) (sound_more all more (others o.path ds) h.theory.others sound.built))
 
-    theory_now : IsSoundTheory s' (all ++ more) (all ++ more) (decls ++ new) o'.path o'.visible o'.goals o'.moves
+    theory_now : IsSoundTheory s' (all ++ more) (all ++ more) (decls ++ new) o'.path o'.visible o'.axioms o'.goals o'.moves
     theory_now = record {
       sound = subst (AreSound (all ++ more)) (sym now) sound;
       others = subst (λ (zs : List DeclarationTree). AreSound (all ++ more) (others o'.path zs)) (sym now) other_sound;
@@ -212,6 +221,7 @@ module _ (s s' : List Tree) (g : Grows s s') (all more : List SymbolTree) (decls
       sound_goals = subst (λ (zs : List DeclarationTree). All (IsSoundAmong (all ++ more) zs) o'.goals) (sym now)
           (subst (All (IsSoundAmong (all ++ more) both)) (sym goals_are)
           (All-append (IsSoundAmong (all ++ more) both) o.goals goals (λ i x l. goal_still (get_or o.goals i x) (h.theory.sound_goals i x l)) said));
+      sound_axioms = subst (All (IsSoundAxiom (decls ++ new))) (sym axioms_are) (All-append (IsSoundAxiom (decls ++ new)) o.axioms axioms (λ i a l. axiom_more decls new (get_or o.axioms i a) (h.theory.sound_axioms i a l)) assumed);
       below = subst (All (λ (k : ℕ). k < length (decls ++ new))) (sym visible) below_now;
       once = subst (AllPairs (λ (j k : ℕ). j ≢ k)) (sym visible) (distinct_pairs (o.visible ++ places) once_now);
       whole = subst (IsWhole (decls ++ new)) (sym visible) whole_now;
@@ -227,8 +237,8 @@ module _ (s s' : List Tree) (g : Grows s s') (all more : List SymbolTree) (decls
     }
 
 -- ---- a state
-pub state_further : (c c' : StateTree) (more : List SymbolTree) (new : List DeclarationTree) (goals : List GoalTree) (moves : List Move) → IsSoundState c → IsAfter c c' more new goals moves → IsSoundAddition c c' new goals moves → IsSoundState c'
-state_further c c' more new goals moves h a add = record {
+pub state_further : (c c' : StateTree) (more : List SymbolTree) (new : List DeclarationTree) (axioms : List AxiomAt) (goals : List GoalTree) (moves : List Move) → IsSoundState c → IsAfter c c' more new axioms goals moves → IsSoundAddition c c' new axioms goals moves → IsSoundState c'
+state_further c c' more new axioms goals moves h a add = record {
   opened = subst (λ (es : List SymbolTree). IsSoundOpened c'.trees es c'.decls c'.opened) (sym a.symbols)
       (subst (λ (zs : List DeclarationTree). IsSoundOpened c'.trees (c.symbols ++ more) zs c'.opened) (sym a.decls) opened);
   known = subst (λ (es : List SymbolTree). All (IsSoundKnown c'.trees es c'.decls) c'.known) (sym a.symbols)
@@ -249,7 +259,7 @@ state_further c c' more new goals moves h a add = record {
     built = subst IsBuiltRight a.symbols add.sound.built
 
     opened : IsSoundOpened c'.trees (c.symbols ++ more) (c.decls ++ new) c'.opened
-    opened = opened_further c.trees c'.trees a.trees c.symbols more c.decls new c.opened c'.opened h.opened a.of a.path a.visible goals moves a.goals_are a.moves_are
+    opened = opened_further c.trees c'.trees a.trees c.symbols more c.decls new c.opened c'.opened h.opened a.of a.path a.visible axioms goals moves a.axioms_are (subst (λ (zs : List DeclarationTree). All (IsSoundAxiom zs) axioms) a.decls add.sound_axioms) a.goals_are a.moves_are
         (subst (λ (es : List SymbolTree). AreSound es (visible_now c ++ new)) a.symbols add.sound)
         (subst (λ (es : List SymbolTree). IsTypedSignature (after es [] (visible_now c ++ new)) es) a.symbols add.signature)
         (subst (λ (es : List SymbolTree). AreTypedScopes (after es [] (visible_now c ++ new)) c'.trees c'.opened.scope) a.symbols add.scopes)

@@ -35,7 +35,7 @@ use_kept : (c : StateTree) (t : KnownTree) (link : Link) (last : List ℕ) (alia
 use_kept c t link last alias h k apart = record {
   opened = subst (λ (es : List SymbolTree). IsSoundOpened c.trees es c.decls (used link last alias t c.opened)) (sym k.symbols)
       (used_sound c.trees k.earlier k.later c.decls c.opened (subst (λ (es : List SymbolTree). IsSoundOpened c.trees es c.decls c.opened) k.symbols h.opened) t
-      (subst (λ (es : List SymbolTree). IsSoundTheory c.trees es k.earlier c.decls t.path t.visible t.goals t.moves) k.symbols k.theory) apart link last alias);
+      (subst (λ (es : List SymbolTree). IsSoundTheory c.trees es k.earlier c.decls t.path t.visible t.axioms t.goals t.moves) k.symbols k.theory) apart link last alias);
   known = h.known;
   apart = h.apart;
   of = h.of;
@@ -60,6 +60,7 @@ scopes_kept c within names moves number h scopes typed = record {
       signature = h.opened.theory.signature;
       typed_moves = All-append (IsTypedMove (after c.symbols [] (visible_now c)) c.trees) c.opened.moves moves h.opened.theory.typed_moves typed;
       sound_goals = h.opened.theory.sound_goals;
+      sound_axioms = h.opened.theory.sound_axioms;
       below = h.opened.theory.below;
       once = h.opened.theory.once;
       whole = h.opened.theory.whole;

@@ -113,7 +113,7 @@ among_more symbols xs ys g h =
 
 -- ---- a use
 module _ (s : List Tree) (xs ys : List SymbolTree) (decls : List DeclarationTree) (o : OpenedTree) (h : IsSoundOpened s (xs ++ ys) decls o) (t : KnownTree)
-    (k : IsSoundTheory s (xs ++ ys) xs decls t.path t.visible t.goals t.moves) (apart : All (λ (d : DeclarationTree). d.theory ≢ o.path) (at_places decls t.visible)) where
+    (k : IsSoundTheory s (xs ++ ys) xs decls t.path t.visible t.axioms t.goals t.moves) (apart : All (λ (d : DeclarationTree). d.theory ≢ o.path) (at_places decls t.visible)) where
   abbrev all : List SymbolTree
   all = xs ++ ys
 
@@ -157,7 +157,7 @@ module _ (s : List Tree) (xs ys : List SymbolTree) (decls : List DeclarationTree
       of j (inl c) = All-contains (λ (i : ℕ). i < length decls) o.visible j h.theory.below c
       of j (inr c) = All-contains (λ (i : ℕ). i < length decls) t.visible j k.below c
 
-  used_theory : (link : Link) → IsSoundTheory s all all decls o.path (joined o.visible t.visible) o.goals (o.moves ++ handed link t.moves)
+  used_theory : (link : Link) → IsSoundTheory s all all decls o.path (joined o.visible t.visible) o.axioms o.goals (o.moves ++ handed link t.moves)
   used_theory link = record {
     sound = subst (AreSound all) (sym join) (later_sound xs ys ds es h.theory.sound k.sound agree);
     others = subst (λ (zs : List DeclarationTree). AreSound all (others o.path zs)) (sym join) new_others;
@@ -165,6 +165,7 @@ module _ (s : List Tree) (xs ys : List SymbolTree) (decls : List DeclarationTree
     typed_moves = subst (λ (zs : List DeclarationTree). AreTypedMoves (after all [] zs) s (o.moves ++ handed link t.moves)) (sym join)
         (All-append (IsTypedMove (after all [] both) s) o.moves (handed link t.moves) (moves_more (after all [] ds) (after all [] both) first s s (grows_itself s) o.moves h.theory.typed_moves) (handed_on link));
     sound_goals = λ i g l. subst (λ (zs : List DeclarationTree). IsSoundAmong all zs (get_or o.goals i g)) (sym join) (among_more all ds (fresh ds es) (get_or o.goals i g) (h.theory.sound_goals i g l));
+    sound_axioms = h.theory.sound_axioms;
     below = below;
     once = distinct_pairs (joined o.visible t.visible) (joined_distinct o.visible t.visible (pairs_distinct o.visible h.theory.once));
     whole = joined_whole decls o.visible t.visible h.theory.whole k.whole;

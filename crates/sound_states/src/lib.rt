@@ -21,6 +21,7 @@ ghost use Rattle.elab_valid.specs.Lists.{after};
 ghost use Rattle.goal_tasks.specs.Theories.{GoalTree, TheoriesTree};
 ghost use Rattle.goal_tasks.specs.Tasks.{task_for};
 ghost use Rattle.valid_tasks.specs.Joined.{fresh, Agree};
+ghost use Rattle.theory_states.specs.declared.states.AxiomAt.{AxiomAt};
 ghost use Rattle.theory_states.specs.States.{KnownTree, StateTree, at_places, visible_now, joined, opened_empty, known_as, known_named};
 ghost use Rattle.theory_states.specs.Uses.{IsUsed};
 ghost use Rattle.sound_states.specs.Whole.{IsWhole};
@@ -62,8 +63,8 @@ pub fn begins_sound()
 {}
 
 /// A law: a sound state stays so where a theory is used; with other typed scopes and further typed
-/// moves; and with further entries, declarations of the theory, goals and moves that are sound after
-/// what was visible.
+/// moves; and with further entries, declarations of the theory, axioms, goals and moves that are sound
+/// after what was visible.
 pub fn stays_sound()
     ensures used { (link : Link) (p : Path) (alias : Option Name) (c next : StateTree)
         → IsSoundState c → IsUsed link p alias c next → IsSoundState next }
@@ -80,9 +81,9 @@ pub fn stays_sound()
           number = number;
         }) }
     ensures further { (c next : StateTree) (more : List SymbolTree) (new : List DeclarationTree)
-        (goals : List GoalTree) (moves : List Move) → IsSoundState c
-        → IsAfter c next more new goals moves → IsSoundAddition c next new goals moves
-        → IsSoundState next }
+        (axioms : List AxiomAt) (goals : List GoalTree) (moves : List Move) → IsSoundState c
+        → IsAfter c next more new axioms goals moves
+        → IsSoundAddition c next new axioms goals moves → IsSoundState next }
 {}
 
 /// A law: the task of each goal of a sound theory is valid.

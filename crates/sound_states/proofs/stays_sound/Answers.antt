@@ -6,5 +6,5 @@ pub returns : goal.returns
 returns u = record {
   used = λ link p alias c d h k. uses_kept link p alias c d h k;
   scoped = λ c within names moves number h scopes typed. scopes_kept c within names moves number h scopes typed;
-  further = λ c d more new goals moves h a add. state_further c d more new goals moves h a add;
+  further = λ c d more new axioms goals moves h a add. state_further c d more new axioms goals moves h a add;
 }
