@@ -1,0 +1,4 @@
+mod Typed
+mod Named
+mod Refused
+mod Pushed

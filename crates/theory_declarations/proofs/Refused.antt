@@ -1,0 +1,70 @@
+-- Faults of a declaration.
+use Rattle.std.proofs.Common.{◌≡◌, List, [], ◌∷◌, map, All, Option, Some, None, IfSome, refl, subst}
+use Rattle.std.proofs.lemmas.List.Elements.{All-nil, All-cons, All-head, All-tail}
+use Rattle.trees.specs.Tree.{Tree}
+use Rattle.trees.specs.Node.{Holds}
+use Rattle.tasks.specs.Task.{SymbolTree}
+use Rattle.tasks.specs.declared.signature.SymbolInfo.{SymbolInfo}
+use Rattle.tasks.specs.Meaning.{SymbolHeld}
+use Rattle.trees.specs.declared.TermId.{TermId}
+use Rattle.syntax_why.specs.Declarations as source
+use Rattle.elab_walk.specs.declared.draft.MatchAt.{MatchAt}
+use Rattle.elab_walk.specs.Drafts.{HoldsType, SymbolTyped, MatchHeld, match_at}
+use Rattle.elab_parts.specs.Declarations.{Declaration, declaration}
+use Rattle.elab_terms.specs.Outcomes.{IsLogical}
+use Rattle.side_conditions.specs.Sides.{IsMatch}
+use Rattle.valid_tasks.specs.Typed.{IsFitMatch}
+use Rattle.theory_states.specs.declared.fault.SourceFault.{SourceFault}
+use Rattle.theory_states.specs.declared.fault.SourceFault.TheVariants.{Memory}
+use Rattle.theory_states.specs.States.{StateTree}
+use Rattle.theory_states.specs.Uses.{OrMemory}
+use Rattle.typed_states.specs.Typed.{setting}
+use Rattle.theory_declarations.specs.Declared.{IsDeclaredFault, of_elaboration}
+use Rattle.theory_declarations.specs.Steps.{IsRefusedBy}
+
+pub or_memory : (Is : SourceFault → Type 0) (f : SourceFault) → Is f → OrMemory Is f
+or_memory Is Memory h = tt
+or_memory Is f h = h
+
+-- a declaration that is no use, clone or scope has parts
+pub logical_parts : (d : source.Decl) → IsLogical d → (x : Declaration) × (declaration d ≡ Some x)
+logical_parts (source.type_decl a n vs None) l = (_, refl)
+logical_parts (source.type_decl a n vs (Some f)) l = (_, refl)
+logical_parts (source.algebraic_decl a ts) l = (_, refl)
+logical_parts (source.function_decl a c ps f e ms) l = (_, refl)
+logical_parts (source.predicate_decl a c ps e ms) l = (_, refl)
+logical_parts (source.constant_decl a c f e) l = (_, refl)
+logical_parts (source.inductive_decl a ds) l = (_, refl)
+logical_parts (source.prop_decl a k c e) l = (_, refl)
+logical_parts (source.use_decl a k p n) l = absurd l
+logical_parts (source.clone_decl a k p n es) l = absurd l
+logical_parts (source.scope_decl a n ds) l = absurd l
+
+pub some_weaker : {X : Type 0} (o : Option X) (P Q : X → Type 0) → ((x : X) → P x → Q x) → IfSome o P → IfSome o Q
+some_weaker None P Q f h = tt
+some_weaker (Some x) P Q f h = f x h
+
+pub told : (P : Declaration → Type 0) (d : source.Decl) (x : Declaration) → declaration d ≡ Some x → IfSome (declaration d) P → P x
+told P d x q h = let Q : Option Declaration → Type 0 = λ o. IfSome o P in subst Q q h
+
+pub refused_by : (d : source.Decl) (c : StateTree) (f : SourceFault) → IsLogical d → IfSome (declaration d) (λ x. IsRefusedBy (setting c) x f) → OrMemory (IsDeclaredFault d c) f
+refused_by d c f l h =
+    let p = logical_parts d l in
+    let r = told (λ x. IsRefusedBy (setting c) x f) d p.0 p.1 h in
+    or_memory (IsDeclaredFault d c) f (of_elaboration p.0 r.0 p.1 r.1 r.2)
+
+-- ---- what is held
+option_held : (s : List Tree) (o : Option TermId) → IfSome o (HoldsType s) → IfSome o (Holds s)
+option_held s None h = tt
+option_held s (Some id) h = h.held
+
+pub symbols_held : (s : List Tree) (is : List SymbolInfo) → All (SymbolTyped s) is → All (SymbolHeld s) is
+symbols_held s is h = λ k d l. let x : SymbolTyped s _ = h k d l in record { args = λ i e m. (x.args i e m).held; result = option_held s _ x.result }
+
+-- the matches of what is elaborated can be tested
+pub matches_are : (s : List Tree) (symbols : List SymbolTree) (ms : List MatchAt) → All (MatchHeld s) ms → All (IsFitMatch symbols) (map (match_at s) ms) → All (IsMatch s symbols) ms
+matches_are s symbols [] h f = All-nil (IsMatch s symbols)
+matches_are s symbols (m ∷ ms) h f =
+    let one : IsFitMatch symbols (match_at s m) = All-head (IsFitMatch symbols) (match_at s m) (map (match_at s) ms) f in
+    All-cons (IsMatch s symbols) m ms (record { held = All-head (MatchHeld s) m ms h; patterns = one.patterns; one_type = one.one_type })
+    (matches_are s symbols ms (All-tail (MatchHeld s) m ms h) (All-tail (IsFitMatch symbols) (match_at s m) (map (match_at s) ms) f))

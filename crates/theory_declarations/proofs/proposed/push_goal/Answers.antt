@@ -1,0 +1,34 @@
+use Rattle.std.proofs.Common.{◌≡◌, Option, Some, length, sym, ap, ◌∙◌}
+use Rattle.std.proofs.lemmas.Result.{IfOk-weaker}
+use Rattle.trees.specs.Tree.{Tree}
+use Rattle.trees.specs.Node.{tree_at}
+use Rattle.tasks.specs.Meaning.{declaration_at}
+use Rattle.goal_tasks.specs.declared.theories.GoalAt.{GoalAt}
+use Rattle.goal_tasks.specs.Theories.{GoalTree}
+use Rattle.goal_tasks.specs.Meaning.{goal_at}
+use Rattle.theory_states.specs.Meaning.{state_at}
+use Rattle.theory_declarations.specs.Declared.{formula_of, to_prove, goals_said}
+use Rattle.theory_declarations.proofs.Pushed.{with_goals, goal_pushed, goal_held}
+use Rattle.theory_declarations.proofs.proposed.push_goal.Goals as goal
+
+pub returns-clause-state : goal.returns-clause-state
+returns-clause-state c =
+    let s = c.args.store.now in
+    let s1 = c.formula_to_prove.new.store in
+    let o = c.args.open.now in
+    let k = c.args.kind in
+    let rigid = c.args.rigid in
+    let d = c.args.decl.now in
+    let n = length o.visible.keys in
+    let f = tree_at s c.in-Some.formula in
+    let it : GoalAt = record { name = c.in_ok-name.name; before = n; prop = c.in_ok-prop.prop; rigid = rigid } in
+    let x : GoalTree = record { name = d.name; before = n; prop = to_prove k rigid f; rigid = rigid } in
+    let same : goal_at s1 it ≡ x = cc (c.in_ok-name.ensures.cases, c.in_ok-prop.ensures.tree, c.as_slice.ensures) in
+    let before = record (state_at s c.args.typed.now o) { trees = s1 } in
+    let said : formula_of (declaration_at s d).body ≡ Some f = sym c.in-Some.ensures.tree in
+    IfOk-weaker c.add_goal.result _ _ (λ u q. goal_pushed s s1 c.formula_to_prove.ensures.grows c.args.typed.now o c.add_goal.new.open it x c.requires.state q same ∙ ap (λ (p : Option Tree). with_goals (goals_said k n rigid d.name p) before) (sym said)) c.add_goal.ensures
+
+pub returns-clause-held : goal.returns-clause-held
+returns-clause-held c =
+    let it : GoalAt = record { name = c.in_ok-name.name; before = length c.args.open.now.visible.keys; prop = c.in_ok-prop.prop; rigid = c.args.rigid } in
+    IfOk-weaker c.add_goal.result _ _ (λ u q. goal_held c.args.store.now c.formula_to_prove.new.store c.formula_to_prove.ensures.grows c.args.typed.now c.args.open.now c.add_goal.new.open it c.requires.state q c.in_ok-prop.ensures.held) c.add_goal.ensures

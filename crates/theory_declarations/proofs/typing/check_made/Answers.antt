@@ -1,0 +1,12 @@
+use Rattle.std.proofs.Common.{List, map, All, subst}
+use Rattle.tasks.specs.Meaning.{symbols_at}
+use Rattle.elab_walk.specs.declared.draft.MatchAt.{MatchAt}
+use Rattle.elab_walk.specs.Drafts.{match_at}
+use Rattle.side_conditions.specs.Sides.{IsCovered}
+use Rattle.theory_declarations.proofs.typing.check_made.Goals as goal
+
+pub returns-in-Ok-clause-covered : goal.returns-in-Ok-clause-covered
+returns-in-Ok-clause-covered c =
+    let s = c.args.store.now in
+    let P : List MatchAt → Type 0 = λ ms. All (IsCovered (symbols_at s c.args.sig.now.symbols)) (map (match_at s) ms) in
+    subst P c.as_slice.ensures c.in-Ok.ensures.covered

@@ -1,0 +1,67 @@
+use Rattle.std.proofs.Common.{◌≡◌, ℕ, ◌++◌, ap, subst, ◌∙◌}
+use Rattle.std.proofs.Math.ListN.{length-map}
+use Rattle.tasks.specs.Meaning.{symbol_at, symbols_at}
+use Rattle.tasks.specs.Vocabulary.{of_signature}
+use Rattle.syntax_why.specs.SurfaceDeclarations.{decl_of}
+use Rattle.elab_parts.specs.Declarations.{Declaration}
+use Rattle.elab_parts.specs.Entries.{AreScopes}
+use Rattle.elab_parts.proofs.Solving.{if_err}
+use Rattle.elab_terms.specs.Outcomes.{IsElaborated}
+use Rattle.elab_valid.proofs.Settings.{scopes_of}
+use Rattle.valid_tasks.proofs.Typed.{matches_fitting}
+use Rattle.side_conditions.specs.Sides.{IsSideFault, bodies}
+use Rattle.theory_states.specs.declared.states.Opened.{Opened}
+use Rattle.theory_states.specs.Meaning.{state_at}
+use Rattle.theory_states.specs.Uses.{OrMemory}
+use Rattle.typed_states.specs.Typed.{setting}
+use Rattle.theory_declarations.specs.Declared.{IsDeclaredFault, of_sides}
+use Rattle.theory_declarations.specs.Faults.{side_fault}
+use Rattle.theory_declarations.proofs.Typed.{setting_typed}
+use Rattle.theory_declarations.proofs.Refused.{or_memory, logical_parts, told, refused_by, matches_are}
+use Rattle.theory_declarations.proofs.typing.elaborate_checked.Goals as goal
+
+pub elaborate_next-requires-clause-scopes : goal.elaborate_next-requires-clause-scopes
+elaborate_next-requires-clause-scopes c =
+    let s = c.args.store.now in
+    let is = c.args.typed.now.sig.symbols in
+    let symbols = symbols_at s is in
+    let scope = c.args.open.now.scope in
+    subst (λ (n : ℕ). AreScopes s n scope) (length-map is (symbol_at s)) (scopes_of (of_signature symbols) symbols s scope c.requires.typed.scopes)
+
+pub returns-in_err-made-clause-err : goal.returns-in_err-made-clause-err
+returns-in_err-made-clause-err c =
+    let d = decl_of c.args.decl.now in
+    let before = state_at c.args.store.now c.args.typed.now c.args.open.now in
+    let k = refused_by d before c.in_err-made.field-0.0 c.requires.logical c.in_err-made.ensures.err in
+    if_err c.from_residual.result _ (OrMemory (IsDeclaredFault d before)) c.from_residual.ensures.1 (λ e h. rw h k)
+
+pub check_made-requires-clause-matches : goal.check_made-requires-clause-matches
+check_made-requires-clause-matches c =
+    let d = decl_of c.args.decl.now in
+    let before = state_at c.args.store.now c.args.typed.now c.args.open.now in
+    let sig = c.args.typed.now.sig in
+    let s1 = c.elaborate_next.new.store in
+    let sig1 = c.elaborate_next.new.sig in
+    let names = c.elaborate_next.new.open.scope in
+    let made = c.in_ok-made.made in
+    let p = logical_parts d c.requires.logical in
+    let e : IsElaborated (setting before) p.0 sig s1 sig1 names made = told (λ (x : Declaration). IsElaborated (setting before) x sig s1 sig1 names made) d p.0 p.1 c.in_ok-made.ensures.ok in
+    matches_are s1 (symbols_at s1 sig1.symbols) made.matches c.in_ok-made.ensures.kept.matches (matches_fitting (setting before) p.0 sig s1 sig1 names made (setting_typed before c.requires.typed) c.elaborate_next.ensures.grows e)
+
+pub returns-in_err-check_made-clause-err : goal.returns-in_err-check_made-clause-err
+returns-in_err-check_made-clause-err c =
+    let d = decl_of c.args.decl.now in
+    let before = state_at c.args.store.now c.args.typed.now c.args.open.now in
+    let sig = c.args.typed.now.sig in
+    let s1 = c.elaborate_next.new.store in
+    let sig1 = c.elaborate_next.new.sig in
+    let names = c.elaborate_next.new.open.scope in
+    let made = c.in_ok-made.made in
+    let p = logical_parts d c.requires.logical in
+    let e : IsElaborated (setting before) p.0 sig s1 sig1 names made = told (λ (x : Declaration). IsElaborated (setting before) x sig s1 sig1 names made) d p.0 p.1 c.in_ok-made.ensures.ok in
+    let o = e.outcome in
+    let x = c.in_err-check_made.ensures.refused in
+    let side : IsSideFault (before.symbols ++ o.symbols) o.matches (bodies o.decls) x.0 = rw (e.symbols_are, e.matches, e.decls) at x.1 in
+    let number : c.elaborate_next.new.open.count ≡ c.args.open.now.count = ap (λ (i : Opened). i.count) c.elaborate_next.ensures.opened in
+    let k = or_memory (IsDeclaredFault d before) c.in_err-check_made.field-0.0 (of_sides p.0 s1 o x.0 p.1 c.elaborate_next.ensures.grows e.is e.named side (x.2 ∙ ap (λ (n : ℕ). side_fault n x.0) number)) in
+    if_err c.from_residual-in_err-check_made.result _ (OrMemory (IsDeclaredFault d before)) c.from_residual-in_err-check_made.ensures.1 (λ f h. rw h k)

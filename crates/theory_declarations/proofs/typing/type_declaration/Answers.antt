@@ -1,0 +1,27 @@
+use Rattle.std.proofs.Common.{refl}
+use Rattle.syntax_why.specs.SurfaceDeclarations.{decl_of}
+use Rattle.theory_states.specs.declared.states.Opened.{Opened}
+use Rattle.theory_declarations.proofs.Named.{named_held, is_declared, is_typed}
+use Rattle.theory_declarations.proofs.typing.type_declaration.Goals as goal
+
+pub push_made-requires-clause-state : goal.push_made-requires-clause-state
+push_made-requires-clause-state c =
+    let x = c.elaborate_checked in
+    let o : Opened = record x.new.open { moves = c.push_declared.new.moves } in
+    named_held c.args.store.now c.args.typed.now c.args.open.now (decl_of c.args.decl.now) x.new.store x.new.typed x.new.open o c.in_ok-made.made x.ensures.grows c.requires.held c.in_ok-made.ensures.ok refl c.in_ok-push_declared.ensures
+
+pub returns-clause-ok : goal.returns-clause-ok
+returns-clause-ok c =
+    let x = c.elaborate_checked in
+    let y = c.push_made in
+    let o : Opened = record x.new.open { moves = c.push_declared.new.moves } in
+    is_declared c.args.store.now c.args.typed.now c.args.open.now (decl_of c.args.decl.now) x.new.store x.new.typed x.new.open o c.in_ok-made.made x.ensures.grows c.requires.held c.in_ok-made.ensures.ok refl c.in_ok-push_declared.ensures
+    y.new.store y.new.typed y.new.open y.ensures.grows c.in_ok-push_made.ensures.state
+
+pub returns-clause-typed : goal.returns-clause-typed
+returns-clause-typed c =
+    let x = c.elaborate_checked in
+    let y = c.push_made in
+    let o : Opened = record x.new.open { moves = c.push_declared.new.moves } in
+    is_typed c.args.store.now c.args.typed.now c.args.open.now (decl_of c.args.decl.now) x.new.store x.new.typed x.new.open o c.in_ok-made.made x.ensures.grows c.requires.held c.in_ok-made.ensures.ok refl c.in_ok-push_declared.ensures
+    y.new.store y.new.typed y.new.open y.ensures.grows c.in_ok-push_made.ensures.state c.laws.ensures.sorted c.requires.typed

@@ -1,0 +1,89 @@
+-- The typing of a declaration of a theory, and its first fault (Why3 manual, "theories", "logical declarations"): its names, its types,
+-- whether its matches take all values, and then its other side conditions; and what becomes known by it.
+use Rattle.std.specs.Prelude.{◌≡◌, ℕ, List, [], ◌∷◌, ◌++◌, length, All, Option, Some, None}
+use Rattle.trees.specs.Tree.{Tree}
+use Rattle.trees.specs.Node.{Grows}
+use Rattle.trees.specs.Binding.{inst_types}
+use Rattle.tasks.specs.Task.{BodyTree, Says, DeclarationTree}
+use Rattle.syntax_why.specs.Lexeme.{Word}
+use Rattle.syntax_why.specs.Declarations as source
+use Rattle.syntax_why.specs.declared.declarations.PropKind.{PropKind}
+use Rattle.syntax_why.specs.declared.declarations.PropKind.TheVariants as kind
+use Rattle.decl_checks.specs.Checks.{HasNoFault}
+use Rattle.elab_names.specs.Abstract.{Expression, expression}
+use Rattle.elab_parts.specs.declared.ElabFault.{ElabFault}
+use Rattle.elab_parts.specs.Declarations.{Declaration, declaration}
+use Rattle.elab_parts.specs.Outcomes.{Outcome}
+use Rattle.elab_terms.specs.Outcomes.{proposition_seen, rigid_types, IsOutcome, names_fault, IsRefusal}
+use Rattle.side_conditions.specs.declared.sides.SideFault.{SideFault}
+use Rattle.side_conditions.specs.Sides.{IsCovered, IsSideFault, bodies}
+use Rattle.goal_tasks.specs.Theories.{GoalTree}
+use Rattle.declared_names.specs.Made.{moves_declared}
+use Rattle.theory_states.specs.declared.fault.SourceFault.{SourceFault}
+use Rattle.theory_states.specs.declared.states.AxiomAt.{AxiomAt}
+use Rattle.theory_states.specs.States.{StateTree, with_declaration, with_declarations}
+use Rattle.typed_states.specs.Typed.{setting}
+use Rattle.theory_declarations.specs.Faults.{elaboration_fault, side_fault}
+
+-- ---- what becomes known
+abbrev pub formula_of : BodyTree → Option Tree
+formula_of (Says e) = Some e
+formula_of _ = None
+
+-- what is to be proved: a lemma at its rigid types; a goal has them
+abbrev pub to_prove : PropKind → List ℕ → Tree → Tree
+to_prove kind.Lemma rigid e = inst_types e (rigid_types rigid)
+to_prove _ rigid e = e
+
+abbrev pub goals_said : PropKind → ℕ → List ℕ → Word → Option Tree → List GoalTree
+goals_said k before rigid name None = []
+goals_said k before rigid name (Some e) = record { name = name; before = before; prop = to_prove k rigid e; rigid = rigid } ∷ []
+
+-- a goal, before which the visible declarations stand
+abbrev pub with_goal : PropKind → List ℕ → DeclarationTree → StateTree → StateTree
+with_goal k rigid d c = record c { opened = record c.opened { goals = c.opened.goals ++ goals_said k (length c.opened.visible) rigid d.name (formula_of d.body) } }
+
+-- the last declaration is an axiom with these type variables
+abbrev pub with_axiom : AxiomAt → StateTree → StateTree
+with_axiom x c = record c { opened = record c.opened { axioms = c.opened.axioms ++ x ∷ [] } }
+
+-- an axiom is known; a lemma is known, and a goal until it is proved; a goal isn't known
+abbrev pub with_proposition : PropKind → List Word → List ℕ → DeclarationTree → StateTree → StateTree
+with_proposition kind.Axiom vars rigid d c = with_axiom (record { decl = length c.decls; vars = vars }) (with_declaration d c)
+with_proposition kind.Lemma vars rigid d c = with_declaration d (with_goal kind.Lemma rigid d c)
+with_proposition kind.Goal vars rigid d c = with_goal kind.Goal rigid d c
+
+-- a proposition makes one declaration
+abbrev pub with_proposed : PropKind → List Word → List ℕ → List DeclarationTree → StateTree → StateTree
+with_proposed k vars rigid [] c = c
+with_proposed k vars rigid (d ∷ ds) c = with_proposition k vars rigid d c
+
+abbrev pub proposition_in : source.Decl → Option (PropKind × Expression)
+proposition_in (source.prop_decl a k c e) = Some (k, expression e)
+proposition_in _ = None
+
+abbrev pub known_by : Option (PropKind × Expression) → List ℕ → List DeclarationTree → StateTree → StateTree
+known_by None rigid ds c = with_declarations ds c
+known_by (Some p) rigid ds c = with_proposed p.0 (proposition_seen p.1).vars rigid ds c
+
+-- the entries and the names that it makes, over a store
+abbrev pub named_by : source.Decl → Outcome → List Tree → StateTree → StateTree
+named_by d o s c = record c { trees = s; symbols = c.symbols ++ o.symbols; opened = record c.opened { scope = o.scope; moves = c.opened.moves ++ moves_declared o.scope d } }
+
+-- ---- a declaration that is no use, clone or scope
+pub record IsDeclared (d : source.Decl) (c c' : StateTree) : Type 0 where
+  pub grows : Grows c.trees c'.trees
+  pub parts : Declaration
+  pub of : declaration d ≡ Some parts
+  pub outcome : Outcome
+  pub is : IsOutcome (setting c) c'.trees parts outcome
+  pub named : names_fault (setting c) parts ≡ None
+  pub covered : All (IsCovered (c.symbols ++ outcome.symbols)) outcome.matches
+  pub checked : All (HasNoFault (c.symbols ++ outcome.symbols)) (bodies outcome.decls)
+  pub known : c' ≡ known_by (proposition_in d) outcome.rigid outcome.decls (named_by d outcome c'.trees c)
+
+-- its first fault: of its names and types; else, as it has an outcome, of its side conditions
+pub data IsDeclaredFault (d : source.Decl) (c : StateTree) (f : SourceFault) : Type 0 where
+  of_elaboration : (x : Declaration) (g : ElabFault) → declaration d ≡ Some x → IsRefusal (setting c) x g → f ≡ elaboration_fault g → IsDeclaredFault d c f
+  of_sides : (x : Declaration) (s : List Tree) (o : Outcome) (g : SideFault) → declaration d ≡ Some x → Grows c.trees s → IsOutcome (setting c) s x o → names_fault (setting c) x ≡ None
+      → IsSideFault (c.symbols ++ o.symbols) o.matches (bodies o.decls) g → f ≡ side_fault c.number g → IsDeclaredFault d c f

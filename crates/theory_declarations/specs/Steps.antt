@@ -1,0 +1,40 @@
+-- The steps of the typing of a declaration in code: what is elaborated and checked, or why it is refused.
+use Rattle.std.specs.Prelude.{◌≡◌, ℕ, List, map, All, Some}
+use Rattle.trees.specs.Tree.{Tree}
+use Rattle.tasks.specs.Task.{SymbolTree, BodyTree}
+use Rattle.tasks.specs.Meaning.{symbols_at, declarations_at}
+use Rattle.syntax_why.specs.Declarations as source
+use Rattle.decl_checks.specs.Checks.{HasNoFault}
+use Rattle.elab_walk.specs.Drafts.{match_at}
+use Rattle.elab_parts.specs.declared.ElabFault.{ElabFault}
+use Rattle.elab_parts.specs.declared.made.Elaborated.{Elaborated}
+use Rattle.elab_parts.specs.Declarations.{Declaration, declaration}
+use Rattle.elab_parts.specs.Outcomes.{Setting, IsKept}
+use Rattle.elab_terms.specs.Outcomes.{IsElaborated, IsRefusal}
+use Rattle.side_conditions.specs.declared.sides.SideFault.{SideFault}
+use Rattle.side_conditions.specs.Sides.{IsCovered, IsSideFault, bodies}
+use Rattle.theory_states.specs.declared.fault.SourceFault.{SourceFault}
+use Rattle.theory_states.specs.declared.states.Opened.{Opened}
+use Rattle.theory_states.specs.declared.states.Typed.{Typed}
+use Rattle.theory_states.specs.Meaning.{state_at}
+use Rattle.typed_states.specs.Typed.{setting}
+use Rattle.theory_declarations.specs.Faults.{elaboration_fault, side_fault}
+
+-- for its names or its types
+abbrev pub IsRefusedBy : Setting → Declaration → SourceFault → Type 0
+IsRefusedBy c d f = (g : ElabFault) × IsRefusal c d g × (f ≡ elaboration_fault g)
+
+-- for a side condition, in the declaration of a number
+abbrev pub IsRefusedFor : ℕ → List SymbolTree → List (ℕ × List Tree) → List BodyTree → SourceFault → Type 0
+IsRefusedFor n symbols ms bs f = (g : SideFault) × IsSideFault symbols ms bs g × (f ≡ side_fault n g)
+
+-- what is made is right, and its names are in the scope of the open theory
+pub record IsNext (s : List Tree) (t : Typed) (o : Opened) (d : source.Decl) (s' : List Tree) (t' : Typed) (o' : Opened) (made : Elaborated) : Type 0 where
+  pub parts : Declaration
+  pub of : declaration d ≡ Some parts
+  pub elaborated : IsElaborated (setting (state_at s t o)) parts t.sig s' t'.sig o'.scope made
+  pub kept : IsKept s' t'.sig o'.scope made
+  pub covered : All (IsCovered (symbols_at s' t'.sig.symbols)) (map (match_at s') made.matches)
+  pub checked : All (HasNoFault (symbols_at s' t'.sig.symbols)) (bodies (declarations_at s' made.decls))
+  pub typed : t' ≡ record t { sig = t'.sig }
+  pub opened : o' ≡ record o { scope = o'.scope }

@@ -1,0 +1,114 @@
+// What a declaration leaves behind: declarations that are known, axioms and goals.
+// They depend on what is known of theories.
+ghost use Rattle.std.specs.Prelude.{◌≡◌, option_map, All, IsSome, OnOk};
+ghost use Rattle.trees.specs.Node.{Grows};
+ghost use Rattle.tasks.specs.Meaning.{declarations_at, DeclHeld};
+ghost use Rattle.syntax_why.specs.SurfaceDeclarations.{decl_of};
+ghost use Rattle.elab_names.specs.Abstract.{expression_of};
+ghost use Rattle.elab_terms.specs.Outcomes.{proposition_seen};
+ghost use Rattle.theory_states.specs.States.{with_declarations};
+ghost use Rattle.theory_states.specs.Meaning.{state_at, StateHeld};
+ghost use Rattle.theory_declarations.specs.Declared.{with_proposed, proposition_in, known_by};
+
+use crate::proposed::push_proposition;
+use elab_parts::Elaborated;
+use outside::Seq;
+use std::alloc::{AllocError, Global};
+use syntax_why::{DeclNode, DeclTree, Expr, PropKind};
+use tasks::Decl;
+use term_store::Store;
+use theory_states::{Opened, Typed, push_decl};
+
+// The kind of a proposition, and what it says.
+fn proposition_in(decl: &DeclTree) -> Option<(PropKind, &Expr)>
+    ensures { option_map (λ p. (p.0, expression_of p.1.now)) result ≡ proposition_in (decl_of decl.entry.now) }
+{
+    match &decl.node {
+        DeclNode::Prop(kind, _, e) => Some((*kind, e)),
+        DeclNode::TypeDecl(_, _, _) => None,
+        DeclNode::Function(_, _, _, _, _) => None,
+        DeclNode::Predicate(_, _, _, _) => None,
+        DeclNode::Constant(_, _, _) => None,
+        DeclNode::Algebraic(_) => None,
+        DeclNode::Inductive(_) => None,
+        DeclNode::UseTheory(_, _, _) => None,
+        DeclNode::CloneTheory(_, _, _, _) => None,
+        DeclNode::ScopeDecl(_, _) => None,
+    }
+}
+
+// Further declarations, in order.
+fn push_decls(
+    store: &Store,
+    typed: &mut Typed,
+    open: &mut Opened,
+    decls: Seq<Decl>,
+) -> Result<(), AllocError>
+    requires decls { All (DeclHeld store.now) decls }
+    requires state { StateHeld store.now typed.old open.old }
+    ensures state { OnOk result (state_at store.now typed.new open.new ≡ with_declarations
+        (declarations_at store.now decls) (state_at store.now typed.old open.old)) }
+    ensures held { OnOk result (StateHeld store.now typed.new open.new) }
+    ensures typed { OnOk result (typed.new ≡ record typed.old { decls = typed.new.decls }) }
+{
+    let mut rest = decls;
+    if rest.is_empty() {
+        return Ok(());
+    }
+    let first = rest.remove(0);
+    push_decl(typed, open, first)?;
+    push_decls(store, typed, open, rest)
+}
+
+// What the declarations of a proposition leave, of which there is one.
+fn push_proposed(
+    alloc: Global,
+    store: &mut Store,
+    typed: &mut Typed,
+    open: &mut Opened,
+    kind: PropKind,
+    e: &Expr,
+    decls: Seq<Decl>,
+    rigid: Seq<usize>,
+) -> Result<(), AllocError>
+    requires decls { All (DeclHeld store.old) decls }
+    requires state { StateHeld store.old typed.old open.old }
+    ensures state { OnOk result (state_at store.new typed.new open.new ≡ with_proposed kind
+        (proposition_seen (expression_of e.now)).vars rigid (declarations_at store.old decls)
+        (record (state_at store.old typed.old open.old) { trees = store.new })) }
+    ensures held { OnOk result (StateHeld store.new typed.new open.new) }
+    ensures typed { OnOk result (typed.new ≡ record typed.old { decls = typed.new.decls }) }
+    ensures grows { Grows store.old store.new }
+{
+    let mut rest = decls;
+    if rest.is_empty() {
+        return Ok(());
+    }
+    let first = rest.remove(0);
+    push_proposition(alloc, store, typed, open, kind, e, first, rigid)
+}
+
+/// What a declaration leaves behind that is elaborated. Only want of memory refuses.
+pub(crate) fn push_made(
+    alloc: Global,
+    store: &mut Store,
+    typed: &mut Typed,
+    open: &mut Opened,
+    decl: &DeclTree,
+    made: Elaborated,
+) -> Result<(), AllocError>
+    requires decls { All (DeclHeld store.old) made.decls }
+    requires state { StateHeld store.old typed.old open.old }
+    ensures state { OnOk result (state_at store.new typed.new open.new ≡ known_by
+        (proposition_in (decl_of decl.now)) made.rigid (declarations_at store.old made.decls)
+        (record (state_at store.old typed.old open.old) { trees = store.new })) }
+    ensures held { OnOk result (StateHeld store.new typed.new open.new) }
+    ensures typed { OnOk result (typed.new ≡ record typed.old { decls = typed.new.decls }) }
+    ensures grows { Grows store.old store.new }
+{
+    let Elaborated { decls, rigid, .. } = made;
+    match proposition_in(decl) {
+        Some((kind, e)) => push_proposed(alloc, store, typed, open, kind, e, decls, rigid),
+        None => push_decls(store, typed, open, decls),
+    }
+}
