@@ -101,7 +101,7 @@ fn elaborate_inside(
     if !is_logical(first) {
         return Ok(());
     }
-    elaborate(alloc, store, sig, scope, "T", "S.", first, at)?;
+    elaborate(alloc, store, sig, scope, b"T", b"S.", first, at)?;
     elaborate_inside(alloc, store, sig, scope, rest, at)
 }
 
