@@ -1,0 +1,5 @@
+pub mod Looked
+pub mod Compared
+pub mod Growing
+pub mod Sided
+pub mod Told

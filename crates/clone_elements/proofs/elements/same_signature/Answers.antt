@@ -1,0 +1,38 @@
+use Rattle.std.proofs.Common.{◌≡◌, map, sym, ap, ◌∙◌}
+use Rattle.std.specs.Option.{option_map}
+use Rattle.trees.specs.Node.{tree_at, Grows}
+use Rattle.tasks.specs.Task.{SymbolTree}
+use Rattle.tasks.specs.Meaning.{trees_at}
+use Rattle.tasks.proofs.Growth.{symbol_later}
+use Rattle.symbol_maps.specs.Mapped.{Map, mapped}
+use Rattle.symbol_maps.specs.Meaning.{map_at}
+use Rattle.symbol_maps.proofs.Steps.{map_held, map_stays, known_on, known_back}
+use Rattle.clone_elements.proofs.elements.same_signature.Goals as goal
+
+pub same_result-requires-clause-map_held : goal.same_result-requires-clause-map_held
+same_result-requires-clause-map_held c = map_held c.args.store.now c.same_types.new.store c.same_types.ensures.grows c.args.morphism.now c.requires.map_held
+
+pub same_result-requires-clause-known : goal.same_result-requires-clause-known
+same_result-requires-clause-known c = known_on c.args.morphism.now c.args.store.now c.same_types.new.store c.same_types.ensures.grows c.requires.map_held c.same_types.new.known c.in_ok-args.ensures.known
+
+pub returns-then-args-clause-same : goal.returns-then-args-clause-same
+returns-then-args-clause-same c =
+    let s = c.args.store.now in
+    let s1 = c.same_types.new.store in
+    let w : Grows s s1 = c.same_types.ensures.grows in
+    let mo = c.args.morphism.now in
+    let m = map_at s mo in
+    let a = c.args.info.now in
+    let b = c.args.other.now in
+    let args : map (mapped m) (trees_at s a.args) ≡ trees_at s b.args = rw (c.as_slice-types.ensures, c.as_slice.ensures) at (c.in_ok-args.ensures.same.0 c.if-args.true) in
+    let ra : option_map (tree_at s1) a.result ≡ option_map (tree_at s) a.result = ap (λ (e : SymbolTree). e.result) (symbol_later s s1 w a c.requires.held) in
+    let rb : option_map (tree_at s1) b.result ≡ option_map (tree_at s) b.result = ap (λ (e : SymbolTree). e.result) (symbol_later s s1 w b c.requires.other_held) in
+    let p : option_map (mapped (map_at s1 mo)) (option_map (tree_at s1) a.result) ≡ option_map (mapped m) (option_map (tree_at s) a.result) =
+    ap (λ (v : Map). option_map (mapped v) (option_map (tree_at s1) a.result)) (map_stays s s1 w mo c.requires.map_held) ∙ ap (option_map (mapped m)) ra in
+    (λ r. record { args = args; result = sym p ∙ (c.in_ok-results.ensures.same.0 r ∙ rb) }, λ h. c.in_ok-results.ensures.same.1 (p ∙ (h.result ∙ sym rb)))
+
+pub returns-then-args-clause-known : goal.returns-then-args-clause-known
+returns-then-args-clause-known c = known_back c.args.morphism.now c.args.store.now c.same_types.new.store c.same_types.ensures.grows c.requires.map_held c.same_result.new.store c.same_result.new.known c.in_ok-results.ensures.known
+
+pub returns-else-args-clause-known : goal.returns-else-args-clause-known
+returns-else-args-clause-known c = known_back c.args.morphism.now c.args.store.now c.same_types.new.store c.same_types.ensures.grows c.requires.map_held c.same_result.new.store c.same_result.new.known c.in_ok-results.ensures.known

@@ -1,0 +1,10 @@
+use Rattle.std.proofs.Common.{◌≡◌, ℕ, List, drop, None}
+use Rattle.trees.specs.Tree.{Tree}
+use Rattle.tasks.specs.Meaning.{symbols_at}
+use Rattle.clone_elements.specs.Left.{last_place}
+use Rattle.clone_elements.specs.Origins.{origin_at, place_at}
+use Rattle.clone_elements.proofs.left.LeftNames.new.Given as goal
+
+abbrev pub invariant-loop-place : goal.invariant-loop-place
+invariant-loop-place l = (s : List Tree) (x : List ℕ) → last_place (symbols_at s l.sig.symbols) (origin_at s l.source) x (place_at l.names x) (drop l.place-index l.source.own.now)
+    ≡ last_place (symbols_at s l.sig.symbols) (origin_at s l.source) x None l.source.own.now

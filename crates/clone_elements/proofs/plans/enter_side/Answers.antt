@@ -1,0 +1,16 @@
+use Rattle.std.proofs.Common.{◌≡◌, ℕ, Option, Some, sym, subst, ◌∙◌}
+use Rattle.syntax_why.specs.SurfaceDeclarations.{element_of}
+use Rattle.clone_elements.specs.declared.plans.Fate.{Fate}
+use Rattle.clone_elements.specs.Plans.{said, with_fate}
+use Rattle.clone_elements.specs.Meaning.{fates_at}
+use Rattle.clone_elements.proofs.plans.enter_side.Goals as goal
+
+pub returns : goal.returns
+returns c = λ s.
+    let e = element_of c.args.side.now.element.now in
+    let old = fates_at c.args.fates.now in
+    let new = fates_at c.insert.new.self in
+    let place = c.in-Some.place in
+    let says : Some c.in-Some-said.fate ≡ said e = sym c.in-Some-said.is ∙ c.said.ensures c.args.side.now.element.now.at in
+    let there : new ≡ with_fate (Some place) (Some c.in-Some-said.fate) old = λ i q. c.in_ok-insert.ensures.updates.0 q i in
+    subst (λ (l : Option ℕ). new ≡ with_fate l (said e) old) (sym c.in-Some.is) (subst (λ (f : Option Fate). new ≡ with_fate (Some place) f old) says there)

@@ -1,0 +1,12 @@
+use Rattle.std.proofs.Common.{◌≡◌, ◌+◌, List, drop}
+use Rattle.trees.specs.Tree.{Tree}
+use Rattle.symbol_maps.specs.Meaning.{map_at, MapHeld}
+use Rattle.clone_elements.specs.Plans.{with_numbers}
+use Rattle.clone_elements.proofs.plans.put_numbers.Given as goal
+
+abbrev pub invariant-loop-symbol : goal.invariant-loop-symbol
+invariant-loop-symbol l = record {
+  number : l.number ≡ l.first + l.symbol-index;
+  is : (s : List Tree) → with_numbers l.number (drop l.symbol-index l.others) (map_at s l.morphism) ≡ with_numbers l.first l.others (map_at s l.initial.morphism);
+  held : (s : List Tree) → MapHeld s l.initial.morphism → MapHeld s l.morphism;
+}

@@ -1,0 +1,79 @@
+use Rattle.std.proofs.Common.{◌≡◌, ◌∷◌, ◌++◌, [], ℕ, List, Option, None, map, length, ap, subst, ◌∙◌, arith, append_assoc}
+use Rattle.std.proofs.lemmas.List.{map-append}
+use Rattle.std.proofs.lemmas.List.Elements.{All-push}
+use Rattle.std.proofs.lemmas.Result.{on_ok_weaker}
+use Rattle.tasks.specs.Task.{SymbolTree}
+use Rattle.tasks.specs.Meaning.{symbols_at}
+use Rattle.syntax_why.specs.Lexeme.{Word}
+use Rattle.syntax_why.specs.Declarations.{Element}
+use Rattle.syntax_why.specs.SurfaceDeclarations.{element_of}
+use Rattle.elab_names.specs.Naming.{Tells}
+use Rattle.elab_names.proofs.Told.{of_rest}
+use Rattle.elab_parts.proofs.Overs.{some_entry}
+use Rattle.elab_parts.proofs.Tupled.{scopes_extended}
+use Rattle.clone_elements.specs.declared.plans.Side.{Side as CodeSide}
+use Rattle.clone_elements.specs.Left.{place_by, element_key}
+use Rattle.clone_elements.specs.Rights.{right_tuples, right_made, right_fault, rights_fault}
+use Rattle.clone_elements.specs.Plans.{Side, sides_made}
+use Rattle.clone_elements.specs.Origins.{place_at}
+use Rattle.clone_elements.specs.Meaning.{side_at, sides_at, SideHeld}
+use Rattle.clone_elements.proofs.Growing.{sides_stay, sides_grow}
+use Rattle.clone_elements.proofs.Sided.{sides_made_stay, rights_fault_stay}
+use Rattle.clone_elements.proofs.sides.+push_sides.Goals as goal
+
+pub push_sides-requires : goal.push_sides-requires
+push_sides-requires t c =
+    let s = c.args.store.now in
+    let s1 = c.right_side.new.store in
+    let w = c.right_side.ensures.grows in
+    let first = c.in-Some.first in
+    let ext = c.in_ok-right.ensures.entries first.now.at in
+    let side : CodeSide = record { element = first; left = c.in_ok-left.left; right = c.in_ok-right.right } in
+    let held : SideHeld s1 side = record { right = c.in_ok-right.ensures.held; within = c.in_ok-right.ensures.within first.now.at } in (
+      omega (arith, ap length c.in-Some.ensures.cases.0),
+      (
+        ext.signature,
+        (
+          scopes_extended s s1 w c.args.sig.now c.right_side.new.sig _ c.args.scope.now c.requires.signature c.requires.scopes ext,
+          rw c.in_ok-push.ensures.items (All-push (SideHeld s1) c.args.sides.now.items side (sides_grow s s1 w c.args.sides.now.items c.requires.held) held),
+        ),
+      ),
+    )
+
+pub returns-clause-sides : goal.returns-clause-sides
+returns-clause-sides t c =
+    let s = c.args.store.now in
+    let s1 = c.right_side.new.store in
+    let w = c.right_side.ensures.grows in
+    let first = c.in-Some.first in
+    let e = element_of first.now in
+    let names = c.args.scope.now in
+    let places : Word → Option ℕ = place_at c.args.names.now in
+    let symbols = symbols_at s c.args.sig.now.symbols in
+    let es : List Element = map element_of c.in-Some.rest.now in
+    let xs = c.args.sides.now.items in
+    let ext = c.in_ok-right.ensures.entries first.now.at in
+    let side : CodeSide = record { element = first; left = c.in_ok-left.left; right = c.in_ok-right.right } in
+    let made : Side = record { element = e; left = place_by places (element_key e); right = right_made s symbols names e } in
+    let is : side_at s1 side ≡ made = λ i. record { element = e; left = c.in_ok-left.ensures first.now.at i; right = c.in_ok-right.ensures.made first.now.at i } in
+    let old : sides_at s1 c.push.new.self.items ≡ sides_at s xs ++ made ∷ [] =
+    ap (sides_at s1) c.in_ok-push.ensures.items ∙ (map-append (side_at s1) xs (side ∷ []) ∙ (ap (λ (z : List Side). z ++ side_at s1 side ∷ []) (sides_stay s s1 w xs c.requires.held) ∙ ap (λ (z : Side). sides_at s xs ++ z ∷ []) is)) in
+    let later : sides_made places s1 (symbols_at s1 c.right_side.new.sig.symbols) names es ≡ sides_made places s (symbols ++ right_tuples symbols e) names es =
+    ap (λ (z : List SymbolTree). sides_made places s1 z names es) ext.symbols ∙ sides_made_stay s s1 w (length c.args.sig.now.symbols) names c.requires.scopes (some_entry s c.args.sig.now.symbols c.requires.signature) places (symbols ++ right_tuples symbols e) es in
+    let more = sides_made places s (symbols ++ right_tuples symbols e) names es in
+    rw c.in-Some.ensures.cases.0 (on_ok_weaker c.push_sides.result (λ h. h ∙ (ap (λ (z : List Side). sides_at s1 c.push.new.self.items ++ z) later ∙ (ap (λ (z : List Side). z ++ more) old ∙ append_assoc (sides_at s xs) (made ∷ []) more))) c.push_sides.ensures.sides)
+
+pub returns-clause-told : goal.returns-clause-told
+returns-clause-told t c =
+    let s = c.args.store.now in
+    let s1 = c.right_side.new.store in
+    let first = c.in-Some.first in
+    let e = element_of first.now in
+    let names = c.args.scope.now in
+    let symbols = symbols_at s c.args.sig.now.symbols in
+    let es : List Element = map element_of c.in-Some.rest.now in
+    let ext = c.in_ok-right.ensures.entries first.now.at in
+    let free : right_fault s symbols names e ≡ None = c.in_ok-right.ensures.free first.now.at in
+    let later : rights_fault s1 (symbols_at s1 c.right_side.new.sig.symbols) names es ≡ rights_fault s (symbols ++ right_tuples symbols e) names es =
+    ap (λ (z : List SymbolTree). rights_fault s1 z names es) ext.symbols ∙ rights_fault_stay s s1 c.right_side.ensures.grows (length c.args.sig.now.symbols) names c.requires.scopes (some_entry s c.args.sig.now.symbols c.requires.signature) (symbols ++ right_tuples symbols e) es in
+    rw c.in-Some.ensures.cases.0 (of_rest c.push_sides.result (right_fault s symbols names e) (rights_fault s (symbols ++ right_tuples symbols e) names es) free (subst (Tells c.push_sides.result) later c.push_sides.ensures.told))

@@ -1,0 +1,19 @@
+-- What a theory that is cloned and its table of names stand for.
+use Rattle.std.specs.Prelude.{ℕ, nat_eq, List, Option}
+use Rattle.std.specs.Option.{is_some}
+use Rattle.std.specs.HashMap.{get_by}
+use Rattle.std.specs.Str.{bytes_eq}
+use Rattle.indexmap.specs.IndexMap.{get}
+use Rattle.trees.specs.Tree.{Tree}
+use Rattle.tasks.specs.Meaning.{declarations_at}
+use Rattle.syntax_why.specs.Lexeme.{Word}
+use Rattle.clone_elements.specs.declared.left.Source.{Source}
+use Rattle.clone_elements.specs.declared.left.LeftNames.{LeftNames}
+use Rattle.clone_elements.specs.Left.{Origin}
+
+abbrev pub origin_at : List Tree → Source → Origin
+origin_at s x = record { decls = declarations_at s x.decls.now; own = x.own.now; axioms = λ k. is_some (get nat_eq x.axioms.now k) }
+
+-- the place that a table has at a key
+abbrev pub place_at : LeftNames → Word → Option ℕ
+place_at n x = get_by (λ k. bytes_eq x k.items) n.places

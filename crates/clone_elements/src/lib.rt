@@ -1,0 +1,15 @@
+//! The elements of a clone: what their sides stand for, the first that is wrong, and what they replace.
+//! It depends on the walk of names and types and on maps of symbols; the copies of theories depend on it.
+#![tactic(auto)]
+
+mod elements;
+mod left;
+mod plans;
+mod rights;
+mod sides;
+
+pub use elements::{ElementFault, Plan, entry_or, make_plan};
+pub use left::{Abstract, LeftNames, Source};
+pub use plans::{Fate, Fates, Side, SymbolFor, TypeFor, is_replaced, kept, map_of, vars_of};
+pub use rights::{Right, check_variables};
+pub use sides::sides_of;
