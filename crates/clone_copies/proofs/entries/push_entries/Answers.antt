@@ -1,0 +1,26 @@
+use Rattle.std.proofs.Common.{◌≡◌, ◌++◌, List, All, get_or, sym, ap, subst, ◌∙◌}
+use Rattle.std.proofs.lemmas.List.{map-append}
+use Rattle.std.proofs.lemmas.List.Elements.{All-append}
+use Rattle.std.proofs.lemmas.Result.{on_ok_weaker}
+use Rattle.tasks.specs.declared.signature.SymbolInfo.{SymbolInfo}
+use Rattle.tasks.specs.Task.{SymbolTree}
+use Rattle.tasks.specs.Meaning.{symbol_at, symbols_at, SymbolHeld}
+use Rattle.tasks.proofs.Growth.{symbols_later, symbol_held_later}
+use Rattle.clone_copies.proofs.entries.push_entries.Goals as goal
+
+pub returns-clause-symbols : goal.returns-clause-symbols
+returns-clause-symbols c =
+    let s = c.args.store.now in
+    let s1 = c.copy_entries.new.store in
+    let old = c.args.sig.now.symbols in
+    let copies = c.in_ok-copies.copies.items in
+    on_ok_weaker c.append.result (λ h. ap (symbols_at s1) (h ∙ ap (λ (z : List SymbolInfo). old ++ z) c.from_vec.ensures)
+    ∙ (map-append (symbol_at s1) old copies ∙ (ap (λ (z : List SymbolTree). z ++ symbols_at s1 copies) (symbols_later s s1 c.copy_entries.ensures.grows old c.requires.entries) ∙ ap (λ (z : List SymbolTree). symbols_at s old ++ z) c.in_ok-copies.ensures.made))) c.append.ensures.ok
+
+pub returns-clause-held : goal.returns-clause-held
+returns-clause-held c =
+    let s = c.args.store.now in
+    let s1 = c.copy_entries.new.store in
+    let old = c.args.sig.now.symbols in
+    let copies = c.in_ok-copies.copies.items in
+    on_ok_weaker c.append.result (λ h. subst (λ (z : List SymbolInfo). All (SymbolHeld s1) z) (sym (h ∙ ap (λ (z : List SymbolInfo). old ++ z) c.from_vec.ensures)) (All-append (SymbolHeld s1) old copies (λ k d l. symbol_held_later s s1 c.copy_entries.ensures.grows (get_or old k d) (c.requires.entries k d l)) c.in_ok-copies.ensures.held)) c.append.ensures.ok

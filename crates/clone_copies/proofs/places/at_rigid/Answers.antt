@@ -1,0 +1,21 @@
+use Rattle.std.proofs.Common.{◌≡◌, ap, ◌∙◌}
+use Rattle.std.proofs.lemmas.Result.{IfOk-weaker}
+use Rattle.trees.specs.Tree.{Tree}
+use Rattle.trees.specs.Node.{tree_at}
+use Rattle.trees.specs.Binding.{inst_types}
+use Rattle.trees.proofs.Nodes.{tree_at-grows}
+use Rattle.tasks.specs.Meaning.{trees_at}
+use Rattle.elab_parts.proofs.Putting.{hold_types}
+use Rattle.clone_copies.specs.Places.{rigid_types}
+use Rattle.clone_copies.proofs.places.at_rigid.Goals as goal
+
+pub inst_types-requires-clause-types : goal.inst_types-requires-clause-types
+inst_types-requires-clause-types c = rw c.as_slice.ensures.value (hold_types c.push_rigid_types.new.store c.push_rigid_types.new.types.items c.in_ok-push_rigid_types.ensures.held)
+
+pub returns-clause-tree : goal.returns-clause-tree
+returns-clause-tree c =
+    let s = c.args.store.now in
+    let s1 = c.push_rigid_types.new.store in
+    let types : trees_at s1 c.as_slice.result.now ≡ rigid_types c.args.numbers.now = ap (trees_at s1) c.as_slice.ensures.value ∙ (rw c.new-types.ensures.items at c.in_ok-push_rigid_types.ensures.trees) in
+    let tree : tree_at s1 c.args.formula ≡ tree_at s c.args.formula = tree_at-grows s s1 c.args.formula c.push_rigid_types.ensures.grows c.requires in
+    IfOk-weaker c.inst_types.result _ _ (λ id h. h ∙ (ap (λ (e : Tree). inst_types e (trees_at s1 c.as_slice.result.now)) tree ∙ ap (inst_types (tree_at s c.args.formula)) types)) c.inst_types.ensures.tree

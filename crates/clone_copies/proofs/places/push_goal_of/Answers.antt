@@ -1,0 +1,29 @@
+use Rattle.std.proofs.Common.{◌≡◌, ℕ, List, length, sym, ap, ◌∙◌}
+use Rattle.trees.specs.Node.{tree_at}
+use Rattle.trees.specs.Binding.{inst_types}
+use Rattle.goal_tasks.specs.declared.theories.GoalAt.{GoalAt}
+use Rattle.goal_tasks.specs.Meaning.{goal_at}
+use Rattle.clone_copies.specs.Places.{next_numbers, rigid_types, goal_of}
+use Rattle.clone_copies.proofs.Bare.{goal_bare, goal_held}
+use Rattle.clone_copies.proofs.places.push_goal_of.Goals as goal
+
+pub returns-clause-state : goal.returns-clause-state
+returns-clause-state c =
+    let s = c.args.store.now in
+    let t = c.at_rigid.new.store in
+    let x = c.args.typed.now in
+    let o = c.args.open.now in
+    let vars = c.args.vars.now in
+    let name = c.args.name.now in
+    let e = tree_at s c.args.formula in
+    let made : GoalAt = record { name = c.in_ok-name.name; before = c.len-before.result; prop = c.in_ok-prop.prop; rigid = c.from_vec-rigid.result } in
+    let numbers : c.push_rigid.new.numbers.items ≡ next_numbers (length x.sig.symbols) vars = rw c.new-numbers.ensures.items at c.in_ok-push_rigid.ensures.numbers in
+    let prop : tree_at t c.in_ok-prop.prop ≡ inst_types e (rigid_types (next_numbers (length x.sig.symbols) vars)) = c.in_ok-prop.ensures.tree ∙ ap (λ (ks : List ℕ). inst_types e (rigid_types ks)) (c.as_slice.ensures.value ∙ numbers) in
+    let rigid : c.from_vec-rigid.result ≡ next_numbers (length x.sig.symbols) vars = c.from_vec-rigid.ensures ∙ numbers in
+    let is : goal_at t made ≡ goal_of name (length o.visible.keys) e (next_numbers (length x.sig.symbols) vars) = λ i. record { name = c.in_ok-name.ensures.cases i; before = c.len-before.ensures.len i; prop = prop i; rigid = rigid i } in
+    goal_bare s t c.at_rigid.ensures.grows x o c.requires.held c.push_rigid.new.sig vars c.in_ok-push_rigid.ensures.entries c.push.new.self made c.in_ok-push.ensures.ok name e is
+
+pub returns-clause-held : goal.returns-clause-held
+returns-clause-held c =
+    let made : GoalAt = record { name = c.in_ok-name.name; before = c.len-before.result; prop = c.in_ok-prop.prop; rigid = c.from_vec-rigid.result } in
+    goal_held c.args.store.now c.at_rigid.new.store c.at_rigid.ensures.grows c.args.typed.now c.args.open.now c.requires.held c.push_rigid.new.sig c.args.vars.now c.in_ok-push_rigid.ensures.entries c.push.new.self made c.in_ok-push.ensures.ok c.in_ok-prop.ensures.held

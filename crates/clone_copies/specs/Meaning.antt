@@ -1,0 +1,19 @@
+-- What the parts of a clone in code stand for.
+use Rattle.std.specs.Prelude.{◌≡◌, ℕ, ◌<◌, nat_eq, List, [], map, length, All}
+use Rattle.indexmap.specs.IndexMap.{IndexMap, get}
+use Rattle.trees.specs.Tree.{Tree}
+use Rattle.symbol_maps.specs.Meaning.{map_at, MapHeld}
+use Rattle.theory_states.specs.declared.states.Typed.{Typed}
+use Rattle.theory_states.specs.declared.states.Opened.{Opened}
+use Rattle.theory_states.specs.States.{StateTree}
+use Rattle.theory_states.specs.Meaning.{state_at}
+use Rattle.clone_elements.specs.Meaning.{fates_at}
+use Rattle.clone_copies.specs.declared.places.Job.{Job}
+use Rattle.clone_copies.specs.Places.{Copying}
+
+abbrev pub copying_at : List Tree → Job → Copying
+copying_at s x = record { path = x.path.now; axioms = get nat_eq x.axioms.now; fates = fates_at x.plan.now.fates; all = x.plan.now.all_axioms; mapping = map_at s x.morphism.now; within = x.within.now }
+
+-- a state without its trees
+abbrev pub bare_at : List Tree → Typed → Opened → StateTree
+bare_at s t o = record (state_at s t o) { trees = [] }
