@@ -2,3 +2,4 @@ mod Typed
 mod Named
 mod Refused
 mod Pushed
+mod Sound

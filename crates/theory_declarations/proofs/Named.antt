@@ -114,7 +114,7 @@ module _ (s : List Tree) (t : Typed) (o : Opened) (d : source.Decl) (s' : List T
 
   -- ---- what is known then
   module _ (s3 : List Tree) (t3 : Typed) (o3 : Opened) (later : Grows s' s3) (p : state_at s3 t3 o3 ≡ known_by (proposition_in d) made.rigid (declarations_at s' made.decls) (record (state_at s' t' o2) { trees = s3 })) where
-    known_state : state_at s3 t3 o3 ≡ known_by (proposition_in d) n.elaborated.outcome.rigid n.elaborated.outcome.decls (named_by d n.elaborated.outcome s3 c)
+    pub known_state : state_at s3 t3 o3 ≡ known_by (proposition_in d) n.elaborated.outcome.rigid n.elaborated.outcome.decls (named_by d n.elaborated.outcome s3 c)
     known_state =
         let e = n.elaborated in
         let over : List ℕ → List DeclarationTree → StateTree → StateTree = λ ks ds x. known_by (proposition_in d) ks ds (record x { trees = s3 }) in

@@ -2,14 +2,10 @@
 use Rattle.std.proofs.Common.{◌≡◌, List, [], ◌∷◌, map, All, Option, Some, None, IfSome, refl, subst}
 use Rattle.std.proofs.lemmas.List.Elements.{All-nil, All-cons, All-head, All-tail}
 use Rattle.trees.specs.Tree.{Tree}
-use Rattle.trees.specs.Node.{Holds}
 use Rattle.tasks.specs.Task.{SymbolTree}
-use Rattle.tasks.specs.declared.signature.SymbolInfo.{SymbolInfo}
-use Rattle.tasks.specs.Meaning.{SymbolHeld}
-use Rattle.trees.specs.declared.TermId.{TermId}
 use Rattle.syntax_why.specs.Declarations as source
 use Rattle.elab_walk.specs.declared.draft.MatchAt.{MatchAt}
-use Rattle.elab_walk.specs.Drafts.{HoldsType, SymbolTyped, MatchHeld, match_at}
+use Rattle.elab_walk.specs.Drafts.{MatchHeld, match_at}
 use Rattle.elab_parts.specs.Declarations.{Declaration, declaration}
 use Rattle.elab_terms.specs.Outcomes.{IsLogical}
 use Rattle.side_conditions.specs.Sides.{IsMatch}
@@ -52,14 +48,6 @@ refused_by d c f l h =
     let p = logical_parts d l in
     let r = told (λ x. IsRefusedBy (setting c) x f) d p.0 p.1 h in
     or_memory (IsDeclaredFault d c) f (of_elaboration p.0 r.0 p.1 r.1 r.2)
-
--- ---- what is held
-option_held : (s : List Tree) (o : Option TermId) → IfSome o (HoldsType s) → IfSome o (Holds s)
-option_held s None h = tt
-option_held s (Some id) h = h.held
-
-pub symbols_held : (s : List Tree) (is : List SymbolInfo) → All (SymbolTyped s) is → All (SymbolHeld s) is
-symbols_held s is h = λ k d l. let x : SymbolTyped s _ = h k d l in record { args = λ i e m. (x.args i e m).held; result = option_held s _ x.result }
 
 -- the matches of what is elaborated can be tested
 pub matches_are : (s : List Tree) (symbols : List SymbolTree) (ms : List MatchAt) → All (MatchHeld s) ms → All (IsFitMatch symbols) (map (match_at s) ms) → All (IsMatch s symbols) ms

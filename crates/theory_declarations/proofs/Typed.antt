@@ -72,7 +72,7 @@ signature_part xs ys = record {
 pub setting_typed : (c : StateTree) → IsTypedState c → IsTypedSetting (of_signature c.symbols) (setting c)
 setting_typed c h = record { theory = h.theory; source = h.source; signature = h.theories.signature; scopes = h.scopes }
 
-same_part : (v : Vocabulary) → IsPart v v
+pub same_part : (v : Vocabulary) → IsPart v v
 same_part v = record { entries = λ k e q. q; rigid = λ k e q h. h; usable = λ k e q h. h; matched = λ k e q h. h }
 
 -- over a store that has grown

@@ -3,14 +3,17 @@ use Rattle.std.specs.Prelude.{◌≡◌, ℕ, List, map, All, Some}
 use Rattle.trees.specs.Tree.{Tree}
 use Rattle.tasks.specs.Task.{SymbolTree, BodyTree}
 use Rattle.tasks.specs.Meaning.{symbols_at, declarations_at}
+use Rattle.tasks.specs.Valid.{IsQuoted}
+use Rattle.syntax_why.specs.declared.declarations.PropKind.{PropKind}
 use Rattle.syntax_why.specs.Declarations as source
 use Rattle.decl_checks.specs.Checks.{HasNoFault}
 use Rattle.elab_walk.specs.Drafts.{match_at}
 use Rattle.elab_parts.specs.declared.ElabFault.{ElabFault}
 use Rattle.elab_parts.specs.declared.made.Elaborated.{Elaborated}
-use Rattle.elab_parts.specs.Declarations.{Declaration, declaration}
+use Rattle.elab_names.specs.Abstract.{Expression}
+use Rattle.elab_parts.specs.Declarations.{Called, Declaration, proposition, declaration}
 use Rattle.elab_parts.specs.Outcomes.{Setting, IsKept}
-use Rattle.elab_terms.specs.Outcomes.{IsElaborated, IsRefusal}
+use Rattle.elab_terms.specs.Outcomes.{proposition_seen, IsElaborated, IsRefusal}
 use Rattle.side_conditions.specs.declared.sides.SideFault.{SideFault}
 use Rattle.side_conditions.specs.Sides.{IsCovered, IsSideFault, bodies}
 use Rattle.theory_states.specs.declared.fault.SourceFault.{SourceFault}
@@ -38,3 +41,7 @@ pub record IsNext (s : List Tree) (t : Typed) (o : Opened) (d : source.Decl) (s'
   pub checked : All (HasNoFault (symbols_at s' t'.sig.symbols)) (bodies (declarations_at s' made.decls))
   pub typed : t' ≡ record t { sig = t'.sig }
   pub opened : o' ≡ record o { scope = o'.scope }
+
+-- the type variables of a proposition have names with a quote, as those of the tokens of a text
+abbrev pub AreQuoted : source.Decl → Type 0
+AreQuoted d = (k : PropKind) (y : Called) (x : Expression) → declaration d ≡ Some (proposition k y x) → All IsQuoted (proposition_seen x).vars

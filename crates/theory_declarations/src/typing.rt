@@ -4,16 +4,20 @@ ghost use Rattle.std.specs.Prelude.{◌≡◌, map, length, All, IfOk, IfErr, If
 ghost use Rattle.trees.specs.Node.{Grows};
 ghost use Rattle.tasks.specs.Meaning.{symbols_at, declarations_at, SymbolHeld, DeclHeld};
 ghost use Rattle.syntax_why.specs.SurfaceDeclarations.{decl_of};
+ghost use Rattle.syntax_why.specs.Declarations.{write_decl};
 ghost use Rattle.decl_checks.specs.Checks.{HasNoFault};
 ghost use Rattle.elab_walk.specs.Drafts.{match_at};
 ghost use Rattle.elab_parts.specs.Declarations.{declaration};
 ghost use Rattle.elab_parts.specs.Entries.{IsSignature, AreScopes};
 ghost use Rattle.elab_parts.specs.Outcomes.{standing, IsKept};
 ghost use Rattle.elab_terms.specs.Outcomes.{IsLogical, IsElaborated, IsRefusal};
+ghost use Rattle.elab_valid.specs.Lists.{IsGroupWhole};
 ghost use Rattle.side_conditions.specs.Sides.{IsCovered, IsMatch, IsSideFault, bodies};
 ghost use Rattle.theory_states.specs.Meaning.{state_at, StateHeld};
 ghost use Rattle.theory_states.specs.Uses.{OrMemory};
 ghost use Rattle.typed_states.specs.Typed.{setting, IsTypedState};
+ghost use Rattle.valid_tasks.specs.Quoted.{IsQuotedLexeme};
+ghost use Rattle.sound_states.specs.Sound.{IsSoundState};
 ghost use Rattle.theory_declarations.specs.Declared.{IsDeclared, IsDeclaredFault};
 ghost use Rattle.theory_declarations.specs.Steps.{IsRefusedBy, IsRefusedFor, IsNext};
 
@@ -139,6 +143,10 @@ pub fn type_declaration(
         (state_at store.old typed.old open.old) (state_at store.new typed.new open.new)) }
     ensures held { OnOk result (StateHeld store.new typed.new open.new) }
     ensures typed { OnOk result (IsTypedState (state_at store.new typed.new open.new)) }
+    ensures sound { OnOk result (IsGroupWhole (decl_of decl.now)
+        → All IsQuotedLexeme (write_decl (decl_of decl.now))
+        → IsSoundState (state_at store.old typed.old open.old)
+        → IsSoundState (state_at store.new typed.new open.new)) }
     ensures count { OnOk result (open.new.count ≡ open.old.count) }
     ensures ints { OnOk result (typed.new.sig.ints ≡ typed.old.sig.ints) }
     ensures err { IfErr result (OrMemory (IsDeclaredFault (decl_of decl.now)

@@ -1,7 +1,10 @@
-use Rattle.std.proofs.Common.{refl}
+use Rattle.std.proofs.Common.{refl, sym, subst}
 use Rattle.syntax_why.specs.SurfaceDeclarations.{decl_of}
 use Rattle.theory_states.specs.declared.states.Opened.{Opened}
-use Rattle.theory_declarations.proofs.Named.{named_held, is_declared, is_typed}
+use Rattle.valid_tasks.proofs.Quoted.{quoted_in}
+use Rattle.sound_states.specs.Sound.{IsSoundState}
+use Rattle.theory_declarations.proofs.Named.{named_held, known_state, is_declared, is_typed}
+use Rattle.theory_declarations.proofs.Sound.{declared_sound}
 use Rattle.theory_declarations.proofs.typing.type_declaration.Goals as goal
 
 pub push_made-requires-clause-state : goal.push_made-requires-clause-state
@@ -25,3 +28,14 @@ returns-clause-typed c =
     let o : Opened = record x.new.open { moves = c.push_declared.new.moves } in
     is_typed c.args.store.now c.args.typed.now c.args.open.now (decl_of c.args.decl.now) x.new.store x.new.typed x.new.open o c.in_ok-made.made x.ensures.grows c.requires.held c.in_ok-made.ensures.ok refl c.in_ok-push_declared.ensures
     y.new.store y.new.typed y.new.open y.ensures.grows c.in_ok-push_made.ensures.state c.laws.ensures.sorted c.requires.typed
+
+pub returns-clause-sound : goal.returns-clause-sound
+returns-clause-sound c =
+    let x = c.elaborate_checked in
+    let y = c.push_made in
+    let s = c.args.store.now in
+    let t = c.args.typed.now in
+    let d = decl_of c.args.decl.now in
+    let o : Opened = record x.new.open { moves = c.push_declared.new.moves } in
+    let known = known_state s t c.args.open.now d x.new.store x.new.typed x.new.open o c.in_ok-made.made x.ensures.grows c.requires.held c.in_ok-made.ensures.ok refl c.in_ok-push_declared.ensures y.new.store y.new.typed y.new.open y.ensures.grows c.in_ok-push_made.ensures.state in
+    λ w q h. subst IsSoundState (sym known) (declared_sound s t c.args.open.now d x.new.store x.new.typed x.new.open c.in_ok-made.made x.ensures.grows c.in_ok-made.ensures.ok c.laws.ensures.sorted y.new.store y.ensures.grows w (λ k i e r. quoted_in d k i e r q) h)
