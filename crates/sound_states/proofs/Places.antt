@@ -152,7 +152,7 @@ theory_in (x ∷ ds) t q = of (bytes_eq x.theory t) refl q (λ h. theory_in ds t
     of true z h f = (x, here x ds, z)
     of false z h f = let r = f h in (r.0, later x r.0 ds r.1, r.2)
 
-in_theory : (ds : List DeclarationTree) (d : DeclarationTree) → Contains ds d → has_theory ds d.theory ≡ true
+pub in_theory : (ds : List DeclarationTree) (d : DeclarationTree) → Contains ds d → has_theory ds d.theory ≡ true
 in_theory [] d c = absurd (none_here d c)
 in_theory (x ∷ ds) d c = of (cases_of x d ds c) (λ h. in_theory ds d h)
   where

@@ -165,7 +165,7 @@ module _ (m : Map) where
     role_mapped (Says a) h c = absurd (never false refl c)
 
 -- ---- numbers under a map
-in_mapped : (f : ℕ → ℕ) (ks : List ℕ) (j : ℕ) → Contains (map f ks) j → (k : ℕ) × (Contains ks k) × (f k ≡ j)
+pub in_mapped : (f : ℕ → ℕ) (ks : List ℕ) (j : ℕ) → Contains (map f ks) j → (k : ℕ) × (Contains ks k) × (f k ≡ j)
 in_mapped f [] j c = absurd (none_in j c)
 in_mapped f (k ∷ ks) j (zero, l, q) = (k, (0, omega arith, refl), q)
 in_mapped f (k ∷ ks) j (suc i, l, q) = let r = in_mapped f ks j (i, omega (arith, l), q) in (r.0, (suc r.1.0, let b = r.1.1 in omega (arith, b), r.1.2), r.2)

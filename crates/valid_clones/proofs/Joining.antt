@@ -31,10 +31,10 @@ cases_of : (x d : DeclarationTree) (xs : List DeclarationTree) → Contains (x �
 cases_of x d xs (zero, l, e) = inl e
 cases_of x d xs (suc j, l, e) = inr (j, omega (arith, l), e)
 
-into_made : (ds : List DeclarationTree) (d : DeclarationTree) (k : ℕ) → Contains ds d → Contains (made_by d.body) k → Contains (made ds) k
+pub into_made : (ds : List DeclarationTree) (d : DeclarationTree) (k : ℕ) → Contains ds d → Contains (made_by d.body) k → Contains (made ds) k
 into_made ds d k h i = each_made ds h.0 d h.1 k (subst (λ (e : DeclarationTree). Contains (made_by e.body) k) (sym h.2) i)
 
-apart_from : (xs ys : List ℕ) (k : ℕ) → IsDistinct (xs ++ ys) → Contains xs k → Contains ys k → ⊥
+pub apart_from : (xs ys : List ℕ) (k : ℕ) → IsDistinct (xs ++ ys) → Contains xs k → Contains ys k → ⊥
 apart_from [] ys k h a b = none_in k a
 apart_from (x ∷ xs) ys k h (zero, l, e) b = h.0 (Contains-append_right xs ys x (let q : x ≡ k = e in subst (λ (i : ℕ). Contains ys i) (sym q) b))
 apart_from (x ∷ xs) ys k h (suc j, l, e) b = apart_from xs ys k h.1 (j, omega (arith, l), e) b
@@ -43,10 +43,10 @@ distinct_rest : (xs ys : List ℕ) → IsDistinct (xs ++ ys) → IsDistinct ys
 distinct_rest [] ys h = h
 distinct_rest (x ∷ xs) ys h = distinct_rest xs ys h.1
 
-maker_found : (ds : List DeclarationTree) (k : ℕ) (b : DeclarationTree) → maker ds k ≡ Some b → Contains ds b × Contains (made_by b.body) k
+pub maker_found : (ds : List DeclarationTree) (k : ℕ) (b : DeclarationTree) → maker ds k ≡ Some b → Contains ds b × Contains (made_by b.body) k
 maker_found ds k b q = maker_all (Contains ds) ds k b (All-contains_itself ds) q
 
-maker_is : (ds : List DeclarationTree) (k : ℕ) (b : DeclarationTree) → IsDistinct (made ds) → Contains ds b → Contains (made_by b.body) k → maker ds k ≡ Some b
+pub maker_is : (ds : List DeclarationTree) (k : ℕ) (b : DeclarationTree) → IsDistinct (made ds) → Contains ds b → Contains (made_by b.body) k → maker ds k ≡ Some b
 maker_is [] k b h i j = absurd (omega (arith, i.1))
 maker_is (x ∷ ds) k b h i j = of (is_made_by k x.body) refl (cases_of x b ds i) (λ z. maker_is ds k b (distinct_rest (made_by x.body) (made ds) h) z j)
   where

@@ -4,3 +4,8 @@ pub mod Copied
 pub mod Taken
 pub mod Others
 pub mod Joining
+pub mod Signatures
+pub mod Goals
+pub mod Rights
+pub mod Trials
+pub mod Steps

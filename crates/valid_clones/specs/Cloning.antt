@@ -1,9 +1,10 @@
 -- Declarations that are copied or taken over under a map of symbols, one after the other: what those before became may be named.
-use Rattle.std.specs.Prelude.{◌≡◌, ◌≢◌, ℕ, ◌<◌, Bool, true, List, [], length, slice_get, Some, None, IsSomeAnd, IsTrue}
+use Rattle.std.specs.Prelude.{◌≡◌, ◌≢◌, ℕ, ◌<◌, Bool, true, List, [], length, slice_get, All, Some, None, IsSomeAnd, IsTrue}
 use Rattle.tasks.specs.declared.signature.SymbolKind.TheVariants.{Kind, Constructor}
-use Rattle.tasks.specs.Task.{SymbolTree, symbol_or, DeclarationTree}
+use Rattle.tasks.specs.Task.{SymbolTree, symbol_or, DeclarationTree, made_by}
+use Rattle.tasks.specs.Roles.{is_constructor, role_in}
 use Rattle.tasks.specs.Vocabulary.{Vocabulary}
-use Rattle.tasks.specs.Typing.{entry}
+use Rattle.tasks.specs.Typing.{entry, MakesTerms}
 use Rattle.symbol_maps.specs.Mapped.{Map}
 use Rattle.clones.specs.Copies.{entry_copied}
 use Rattle.elab_valid.specs.Lists.{is_built, after}
@@ -36,3 +37,11 @@ pub record IsFixed (m : Map) (k : ℕ) : Type 0 where
 -- what is built in stays
 abbrev pub KeepsBuilt : List SymbolTree → Map → Type 0
 KeepsBuilt xs m = (k : ℕ) (e : SymbolTree) → slice_get xs k ≡ Some e → is_built e ≡ true → IsFixed m k
+
+-- a symbol that a declaration makes: where it makes terms it has a result, and as a constructor it is one of an algebraic type
+pub record IsMadeRight (symbols : List SymbolTree) (d : DeclarationTree) (k : ℕ) : Type 0 where
+  pub result : MakesTerms (symbol_or symbols k).kind → IsSomeAnd (symbol_or symbols k).result (λ t. Unit {0})
+  pub constructor : (symbol_or symbols k).kind ≡ Constructor → IsTrue (is_constructor (role_in k d.body))
+
+abbrev pub AreMadeRight : List SymbolTree → List DeclarationTree → Type 0
+AreMadeRight symbols ds = All (λ (d : DeclarationTree). All (IsMadeRight symbols d) (made_by d.body)) ds

@@ -1,1 +1,4 @@
 pub mod Cloning
+pub mod Rights
+pub mod Trials
+pub mod Steps

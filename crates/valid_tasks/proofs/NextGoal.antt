@@ -47,13 +47,13 @@ entries_between k (x ∷ vs) =
     let rest = entries_between (k + 1) vs in
     All-cons P k (entry_numbers (k + 1) vs) (omega arith, omega arith) (λ j i l. let y = rest j i l in (let a = y.0 in omega (arith, a), let b = y.1 in omega (arith, b)))
 
-entries_distinct : (k : ℕ) (vs : List Word) → IsDistinct (entry_numbers k vs)
+pub entries_distinct : (k : ℕ) (vs : List Word) → IsDistinct (entry_numbers k vs)
 entries_distinct k [] = tt
 entries_distinct k (x ∷ vs) =
     let next : k + 1 ≡ suc k = omega arith in
     distinct_step k (k + 1 + length vs) (entry_numbers (k + 1) vs) (subst (λ (n : ℕ). All (λ (i : ℕ). (n ≤ i) × (i < k + 1 + length vs)) (entry_numbers (k + 1) vs)) next (entries_between (k + 1) vs)) (entries_distinct (k + 1) vs)
 
-quoted_entries : (xs : List SymbolTree) (vs : List Word) (k : ℕ) → k ≡ length xs → All IsQuoted vs → All (IsQuotedAt (xs ++ map rigid_symbol vs)) (entry_numbers k vs)
+pub quoted_entries : (xs : List SymbolTree) (vs : List Word) (k : ℕ) → k ≡ length xs → All IsQuoted vs → All (IsQuotedAt (xs ++ map rigid_symbol vs)) (entry_numbers k vs)
 quoted_entries xs [] k q h = All-nil (IsQuotedAt (xs ++ []))
 quoted_entries xs (x ∷ vs) k q h =
     let e = rigid_symbol x in
@@ -62,7 +62,7 @@ quoted_entries xs (x ∷ vs) k q h =
     All-cons (IsQuotedAt (xs ++ e ∷ map rigid_symbol vs)) k (entry_numbers (k + 1) vs) (record { name = x; quoted = h 0 x (omega arith); entry = at_end xs (map rigid_symbol vs) e k q })
     (subst (λ (es : List SymbolTree). All (IsQuotedAt es) (entry_numbers (k + 1) vs)) same rest)
 
-count_types : (k : ℕ) (vs : List Word) → length (rigid_types (entry_numbers k vs)) ≡ length vs
+pub count_types : (k : ℕ) (vs : List Word) → length (rigid_types (entry_numbers k vs)) ≡ length vs
 count_types k [] = refl
 count_types k (x ∷ vs) = ap suc (count_types (k + 1) vs)
 
@@ -113,7 +113,7 @@ module _ (symbols : List SymbolTree) (ds : List DeclarationTree) (own : List ℕ
       All-cons (IsTypeIn v 0) (Leaf (HTyRigid k)) (rigid_types ks) (record { sort = refl; typed = (tt, is); variables = tt })
       (types_in ks (λ i d l. may (suc i) d (omega (arith, l))) (λ i d l. at (suc i) d (omega (arith, l))))
 
-  at_types : (n : ℕ) (e : Tree) → IsTypedSignature (after symbols [] ds) symbols → All (IsQuotedAt symbols) own → length (rigid_types own) ≡ n → IsFormulaOver v [] n e → IsFormulaOver v [] 0 (inst_types e (rigid_types own))
+  pub at_types : (n : ℕ) (e : Tree) → IsTypedSignature (after symbols [] ds) symbols → All (IsQuotedAt symbols) own → length (rigid_types own) ≡ n → IsFormulaOver v [] n e → IsFormulaOver v [] 0 (inst_types e (rigid_types own))
   at_types n e sig at count f = rigid_formula v symbols (own_signature sig) own n e (types_in own (all_among own own (λ k h. h)) at) count f
 
   of_said : (new : List DeclarationTree) (n : ℕ) (theory name : Word) (e : Tree) → new ≡ record { theory = theory; name = name; vars = n; body = Says e } ∷ [] → All (IsValidDecl v) new → (a : Tree) → map (λ (d : DeclarationTree). d.body) new ≡ Says a ∷ [] → IsFormulaOver v [] n a
