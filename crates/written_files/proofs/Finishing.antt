@@ -1,0 +1,56 @@
+-- A whole text, read back.
+use Rattle.std.proofs.Common.{◌≡◌, ℕ, List, ◌++◌, get_or, All, inl, inr, sym, ap, subst}
+use Rattle.std.specs.Prelude.{flat_map}
+use Rattle.trees.specs.Tree.{Tree}
+use Rattle.trees.specs.Sorts.{sort_of, IsExpression}
+use Rattle.problems.specs.declared.names.NameEntry.{NameEntry}
+use Rattle.rule_rows.specs.declared.rule.Step.{Step}
+use Rattle.rule_rows.specs.Trees.{StepTree, types_of}
+use Rattle.rule_rows.specs.Meaning.{steps_at}
+use Rattle.tree_writing.specs.declared.writer.LineKind.{LineKind}
+use Rattle.tree_writing.specs.declared.writer.LineKind.TheVariants as kind
+use Rattle.tree_writing.specs.Spelt.{AreNamesOf}
+use Rattle.tree_writing.specs.Referring.{HasLine}
+use Rattle.tree_writing.specs.Whole.{kind_of_sort, IsOfKind, TopNamed, IsWritten, HaveLines, LacksName}
+use Rattle.written_files.specs.declared.words.Lines.{Lines}
+use Rattle.written_files.specs.Named.{AreWords, rule_expressions, step_trees, IsNamedTree, AreNamed, SymbolsNamed, AreSorted}
+use Rattle.written_files.specs.Words.{StepReady}
+use Rattle.written_files.specs.Written.{read_with, AddsSteps, ReadsBack}
+use Rattle.written_files.proofs.Texts.{trees_text, text_read}
+use Rattle.written_files.proofs.Rightness.{all_used, all_good, all_stand, flat_all, all_flat, front_all, back_all}
+
+pub finished : (x : Lines) (steps : List Step) (roots : List Tree) (start new : List ℕ) → roots ≡ flat_map step_trees (steps_at x.store.now steps) → IsWritten x.store.now x.table.now roots start x.numbers.now → AreWords x.table.now → AddsSteps x steps start new → ReadsBack x.table.now (steps_at x.store.now steps) new
+finished x steps roots start new are written words adds t tallest closes low =
+    let s = x.store.now in
+    let all = steps_at s steps in
+    let w = subst (λ (l : List Tree). IsWritten s x.table.now l start x.numbers.now) are written in
+    let text = trees_text t x.table.now tallest s (flat_map step_trees all) start x.numbers.now w (all_used t all closes.right) (all_good t tallest all closes.right low) in
+    text_read t x.table.now tallest words new (read_with w.earlier all) (adds t tallest w.earlier w.numbered closes.right text) closes.starts
+
+pub no_name : (table : List NameEntry) (steps : List StepTree) (roots : List Tree) → roots ≡ flat_map step_trees steps → LacksName table roots → AreNamed table steps → ⊥
+no_name table steps roots are lacks named =
+    let a = flat_all (IsNamedTree table) step_trees steps (λ k d l. (named k d l).trees) in
+    lacks (all_stand (TopNamed table) roots (subst (All (IsNamedTree table)) (sym are) a))
+
+kind_expression : (e : Tree) → IsExpression (sort_of e) → IsOfKind kind.Expression e
+kind_expression e (inl h) = ap kind_of_sort h
+kind_expression e (inr h) = ap kind_of_sort h
+
+pub steps_ready : (x : Lines) (steps : List StepTree) (roots : List Tree) → roots ≡ flat_map step_trees steps → AreNamesOf x.store.now x.table.now x.names.now → HaveLines x.store.now x.numbers.now roots → AreSorted steps → All (SymbolsNamed x.table.now) steps → All (StepReady x) steps
+steps_ready x steps roots are names lines sorted symbols k d l =
+    let s = x.store.now in
+    let numbers = x.numbers.now in
+    let Has : Tree → Type 0 = λ e. (j : LineKind) → IsOfKind j e → HasLine s numbers e in
+    let st = get_or steps k d in
+    let a = all_flat Has step_trees steps (subst (All Has) are lines) k d l in
+    let rule = back_all Has st.sequent (rule_expressions st.rule ++ types_of st.rule) a in
+    let o = sorted k d l in
+    record {
+      names = names;
+      sequent = λ i y m. record { sort = o.sequent i y m; line = front_all Has st.sequent (rule_expressions st.rule ++ types_of st.rule) a i y m kind.Expression (kind_expression (get_or st.sequent i y) (o.sequent i y m)) };
+      rule = record {
+        expressions = λ i y m. record { sort = o.expressions i y m; line = front_all Has (rule_expressions st.rule) (types_of st.rule) rule i y m kind.Expression (kind_expression (get_or (rule_expressions st.rule) i y) (o.expressions i y m)) };
+        types = λ i y m. record { sort = o.types i y m; line = back_all Has (rule_expressions st.rule) (types_of st.rule) rule i y m kind.Type (ap kind_of_sort (o.types i y m)) };
+        symbols = symbols k d l;
+      };
+    }

@@ -1,0 +1,7 @@
+use Rattle.std.proofs.Common.{All, take}
+use Rattle.problems.specs.declared.names.NameEntry.{NameEntry}
+use Rattle.written_files.specs.Named.{IsName}
+use Rattle.written_files.proofs.named.are_words.Given as goal
+
+abbrev pub invariant-loop-entry : goal.invariant-loop-entry
+invariant-loop-entry l = All (λ (n : NameEntry). IsName n.name) (take l.entry-index l.table)

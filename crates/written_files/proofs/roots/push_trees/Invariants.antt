@@ -1,0 +1,12 @@
+use Rattle.std.proofs.Common.{◌≡◌, ◌++◌, All, take}
+use Rattle.trees.specs.Node.{Holds}
+use Rattle.tasks.specs.Meaning.{trees_at}
+use Rattle.rule_words.specs.Arguments.{arguments_at}
+use Rattle.written_files.specs.Named.{trees_in}
+use Rattle.written_files.proofs.roots.push_trees.Given as goal
+
+abbrev pub invariant-loop-argument : goal.invariant-loop-argument
+invariant-loop-argument l = record {
+  trees : trees_at l.store l.roots.items ≡ trees_at l.store l.initial.roots.items ++ trees_in (arguments_at l.store (take l.argument-index l.arguments));
+  held : All (Holds l.store) l.roots.items;
+}

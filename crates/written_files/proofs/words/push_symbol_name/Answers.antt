@@ -1,0 +1,15 @@
+use Rattle.std.proofs.Common.{[], IsSome, subst}
+use Rattle.tree_writing.specs.Referring.{words_of}
+use Rattle.tree_writing.proofs.Reading.{on_ok}
+use Rattle.written_files.proofs.Pushing.{symbol_pushed}
+use Rattle.written_files.proofs.words.push_symbol_name.Goals as goal
+
+pub unreachable-requires : goal.unreachable-requires
+unreachable-requires c =
+    let none = subst IsSome c.in_default.is (c.find.ensures.found [] c.requires.names.none c.requires.spelt) in
+    absurd (cc)
+
+pub returns : goal.returns
+returns c =
+    on_ok c.push_word.result c.push_word.ensures
+    (λ h. symbol_pushed c.args.x.now (words_of c.args.words.now.items) (words_of c.push_word.new.words.items) c.in-Some.spelling.name.now c.args.symbol c.in-Some.spelling.whole h (c.in-Some.ensures.spells [] c.requires.names.none))
