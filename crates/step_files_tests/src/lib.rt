@@ -1,5 +1,5 @@
-//! Tests of step files read: worked files, and lines of each kind, right and wrong in each way.
-//! It depends on step_files; nothing depends on it.
+//! Tests of step files, read and written: worked files, and lines of each kind, right and wrong in each way.
+//! It depends on step_files and written_files; nothing depends on it.
 #![tactic(auto)]
 
 #[cfg(test)]
@@ -8,3 +8,5 @@ mod lines;
 mod rows;
 #[cfg(test)]
 mod task;
+#[cfg(test)]
+mod writing;

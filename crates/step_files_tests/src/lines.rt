@@ -11,7 +11,7 @@ const END: TermId = TermId(0);
 const INT: TermId = TermId(1);
 
 // Lists with their length, and a predicate on them.
-static LISTS: Given = Given {
+pub(crate) static LISTS: Given = Given {
     nodes: &[
         Node::TyVar(0),
         Node::Cell(TermId(2), END),
@@ -108,7 +108,7 @@ static LISTS: Given = Given {
 };
 
 // The lines before each row.
-static BEFORE: &str = "y int_0
+pub(crate) static BEFORE: &str = "y int_0
 y list_9 0
 y list_9 1
 p any 0

@@ -69,7 +69,7 @@ fn if_held(store: &Store, number: Option<usize>) -> Option<TermId>
     if store.holds(id) { Some(id) } else { None }
 }
 
-fn filled(rt: &impl Abort, alloc: Global, nodes: &[Node]) -> Store {
+pub(crate) fn filled(rt: &impl Abort, alloc: Global, nodes: &[Node]) -> Store {
     let mut store = Store::new(alloc).expect(rt, MEMORY);
     for node in nodes {
         assert!(rt; store.accepts(*node));
@@ -178,7 +178,7 @@ fn decls(rt: &impl Abort, alloc: Global, store: &Store, rows: &[(u8, usize)]) ->
     all
 }
 
-fn task(rt: &impl Abort, alloc: Global, store: &Store, given: &Given) -> Task
+pub(crate) fn task(rt: &impl Abort, alloc: Global, store: &Store, given: &Given) -> Task
     ensures { TaskHeld store.now result }
 {
     let sig = Signature {
@@ -195,7 +195,7 @@ fn task(rt: &impl Abort, alloc: Global, store: &Store, given: &Given) -> Task
     }
 }
 
-fn names(rt: &impl Abort, alloc: Global, rows: &[NameRow]) -> Vec<NameEntry> {
+pub(crate) fn names(rt: &impl Abort, alloc: Global, rows: &[NameRow]) -> Vec<NameEntry> {
     let mut all = Vec::new(alloc);
     for (name, symbol, places) in rows {
         let types = Seq::from_slice(alloc, places).expect(rt, MEMORY);
