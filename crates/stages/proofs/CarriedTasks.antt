@@ -1,0 +1,191 @@
+-- Tasks that are carried through, step by step.
+use Rattle.std.proofs.Common.{◌≡◌, ◌∙◌, ℕ, ◌<◌, ◌≤◌, ◌+◌, List, [], ◌∷◌, ◌++◌, length, map, get_or, drop, All, Result, Ok, Err, refl, ap, sym, subst, arith, append_assoc}
+use Rattle.std.proofs.lemmas.List.{append-nil, length-map, map-append, get_or-map, drop_more, drop_all}
+use Rattle.std.proofs.lemmas.List.Elements.{All-append, All-nil, All-weaker}
+use Rattle.trees.specs.Tree.{Tree}
+use Rattle.trees.specs.Node.{Grows}
+use Rattle.tasks.specs.declared.task.Task.{Task}
+use Rattle.tasks.specs.Task.{TaskTree}
+use Rattle.tasks.specs.Meaning.{task_at, tasks_at, TaskHeld, TasksHeld}
+use Rattle.tasks.specs.Valid.{IsValid}
+use Rattle.tasks.proofs.Growth.{task_later, task_held_later, tasks_later, tasks_held_later}
+use Rattle.evidence.specs.Stages.{Refusal, Equation, Keeps, no_task}
+use Rattle.stages.specs.declared.transformation.Transformation.{Transformation}
+use Rattle.stages.specs.Transformations.{equation_of}
+use Rattle.stages.specs.Kept.{keeps_of}
+use Rattle.stages.specs.Carried.{and_then, map_ok, all_tasks, carried_once, StageRefusal, at_stage, carried}
+use Rattle.stage_limits.specs.Limits.{limited}
+use Rattle.stages.specs.Faults.{IsCarryFault}
+use Rattle.stages.specs.declared.fault.CarryFault.{CarryFault}
+use Rattle.stages.specs.declared.fault.CarryFault.TheVariants as fault
+use Rattle.stages.specs.Steps.{AreTasks, ArePushed}
+
+-- in a store that has grown
+pub tasks_kept : (s s' : List Tree) (tasks : List Task) → Grows s s' → AreTasks s tasks → AreTasks s' tasks
+tasks_kept s s' tasks g a = record {
+  held = tasks_held_later s s' g tasks a.held;
+  valid = subst (All IsValid) (sym (tasks_later s s' g tasks a.held)) a.valid;
+}
+
+-- the tasks of tasks, after those that are there
+abbrev pub after_tasks : Equation → List TaskTree → List TaskTree → Result (List TaskTree) Refusal
+after_tasks equation there ts = map_ok (λ us. there ++ us) (all_tasks equation ts)
+
+map_nothing : {E : Type 0} (r : Result (List TaskTree) E) → map_ok (λ us. [] ++ us) r ≡ r
+map_nothing (Ok us) = refl
+map_nothing (Err e) = refl
+
+pub after_none : (equation : Equation) (ts : List TaskTree) → after_tasks equation [] ts ≡ all_tasks equation ts
+after_none equation ts = map_nothing (all_tasks equation ts)
+
+map_joined : (there us : List TaskTree) (r : Result (List TaskTree) Refusal) → map_ok (λ vs. there ++ vs) (map_ok (λ vs. us ++ vs) r) ≡ map_ok (λ vs. (there ++ us) ++ vs) r
+map_joined there us (Ok vs) = ap (λ (z : List TaskTree). Ok z) (sym (append_assoc there us vs))
+map_joined there us (Err e) = refl
+
+-- one task more
+pub after_more : (equation : Equation) (there us : List TaskTree) (t : TaskTree) (ts : List TaskTree) → equation t ≡ Ok us → after_tasks equation (there ++ us) ts ≡ after_tasks equation there (t ∷ ts)
+after_more equation there us t ts e = rw e (sym (map_joined there us (all_tasks equation ts)))
+
+-- the task at a place, and those from there on
+pub rest_from : (s s' : List Tree) (g : Grows s s') (tasks : List Task) (i : ℕ) (t : Task) → TasksHeld s tasks → t ≡ get_or tasks i t → i < length tasks
+    → drop i (tasks_at s tasks) ≡ task_at s' t ∷ drop (i + 1) (tasks_at s tasks)
+rest_from s s' g tasks i t held is l =
+    let same : tasks_at s' tasks ≡ tasks_at s tasks = tasks_later s s' g tasks held in
+    let m : i < length (tasks_at s' tasks) = omega (arith, length-map tasks (task_at s'), l) in
+    let d = drop_more (tasks_at s' tasks) i no_task m in
+    let here : get_or (tasks_at s' tasks) i no_task ≡ task_at s' t = get_or-map (task_at s') tasks i t no_task l ∙ ap (task_at s') (sym is) in
+    subst (λ (ts : List TaskTree). drop i ts ≡ task_at s' t ∷ drop (i + 1) ts) same (d ∙ ap (λ (x : TaskTree). x ∷ drop (i + 1) (tasks_at s' tasks)) here)
+
+-- a task that is refused
+pub after_refused : (equation : Equation) (n : ℕ) (there : List TaskTree) (t : TaskTree) (ts : List TaskTree) (e : CarryFault) → IsCarryFault (at_stage n (equation t)) e
+    → IsCarryFault (at_stage n (after_tasks equation there (t ∷ ts))) e
+after_refused equation n there t ts e f = by (equation t) e f
+  where
+    by : (r : Result (List TaskTree) Refusal) (e : CarryFault) → IsCarryFault (at_stage n r) e → IsCarryFault (at_stage n (map_ok (λ us. there ++ us) (and_then r (λ us. map_ok (λ vs. us ++ vs) (all_tasks equation ts))))) e
+    by (Err q) fault.Memory h = tt
+    by (Err q) (fault.NotBuilt k) h = h
+    by (Err q) (fault.Misplaced k d) h = h
+    by (Err q) (fault.TooLarge k) h = h
+    by (Ok us) fault.Memory h = tt
+    by (Ok us) (fault.NotBuilt k) h = absurd h
+    by (Ok us) (fault.Misplaced k d) h = absurd (cc)
+    by (Ok us) (fault.TooLarge k) h = absurd (cc)
+
+-- all tasks of a stage, behind none, are limited
+pub once_limited : (equation : Equation) (ts us : List TaskTree) → all_tasks equation ts ≡ Ok us → carried_once equation ts ≡ limited us
+once_limited equation ts us e = rw e refl
+
+pub once_refused : (equation : Equation) (n : ℕ) (ts : List TaskTree) (e : CarryFault) → IsCarryFault (at_stage n (all_tasks equation ts)) e → IsCarryFault (at_stage n (carried_once equation ts)) e
+once_refused equation n ts e f = by (all_tasks equation ts) e f
+  where
+    by : (r : Result (List TaskTree) Refusal) (e : CarryFault) → IsCarryFault (at_stage n r) e → IsCarryFault (at_stage n (and_then r limited)) e
+    by (Err q) fault.Memory h = tt
+    by (Err q) (fault.NotBuilt k) h = h
+    by (Err q) (fault.Misplaced k d) h = h
+    by (Err q) (fault.TooLarge k) h = h
+    by (Ok us) fault.Memory h = tt
+    by (Ok us) (fault.NotBuilt k) h = absurd h
+    by (Ok us) (fault.Misplaced k d) h = absurd (cc)
+    by (Ok us) (fault.TooLarge k) h = absurd (cc)
+
+-- one stage more
+pub carried_more : (equations : List Equation) (equation : Equation) (n : ℕ) (ts us : List TaskTree) → carried_once equation ts ≡ Ok us → carried (equation ∷ equations) n ts ≡ carried equations (n + 1) us
+carried_more equations equation n ts us e = rw e refl
+
+pub carried_refused : (equations : List Equation) (equation : Equation) (n : ℕ) (ts : List TaskTree) (e : CarryFault) → IsCarryFault (at_stage n (carried_once equation ts)) e
+    → IsCarryFault (carried (equation ∷ equations) n ts) e
+carried_refused equations equation n ts e f = by (at_stage n (carried_once equation ts)) e f
+  where
+    by : (r : Result (List TaskTree) StageRefusal) (e : CarryFault) → IsCarryFault r e → IsCarryFault (and_then r (carried equations (n + 1))) e
+    by (Err q) fault.Memory h = tt
+    by (Err q) (fault.NotBuilt k) h = h
+    by (Err q) (fault.Misplaced k d) h = h
+    by (Err q) (fault.TooLarge k) h = h
+    by (Ok us) fault.Memory h = tt
+    by (Ok us) (fault.NotBuilt k) h = absurd h
+    by (Ok us) (fault.Misplaced k d) h = absurd (cc)
+    by (Ok us) (fault.TooLarge k) h = absurd (cc)
+
+-- the equations of the stages from a place on
+pub equations_from : {A B : Type 0} (f : A → B) (xs : List A) (i : ℕ) (x : A) → x ≡ get_or xs i x → i < length xs → map f (drop i xs) ≡ f x ∷ map f (drop (i + 1) xs)
+equations_from f xs i x is l = ap (map f) (drop_more xs i x l ∙ ap (λ z. z ∷ drop (i + 1) xs) (sym is))
+
+pub task_there_held : (s s' : List Tree) (g : Grows s s') (tasks : List Task) (i : ℕ) (t : Task) → TasksHeld s tasks → t ≡ get_or tasks i t → i < length tasks → TaskHeld s' t
+task_there_held s s' g tasks i t held is l = task_held_later s s' g t (subst (TaskHeld s) (sym is) (held i t l))
+
+pub task_there_same : (s s' : List Tree) (g : Grows s s') (tasks : List Task) (i : ℕ) (t : Task) → TasksHeld s tasks → t ≡ get_or tasks i t → i < length tasks → task_at s' t ≡ task_at s t
+task_there_same s s' g tasks i t held is l = task_later s s' g t (subst (TaskHeld s) (sym is) (held i t l))
+
+pub task_there_valid : (s s' : List Tree) (g : Grows s s') (tasks : List Task) (i : ℕ) (t : Task) → AreTasks s tasks → t ≡ get_or tasks i t → i < length tasks → IsValid (task_at s' t)
+task_there_valid s s' g tasks i t a is l =
+    let h : IsValid (get_or (tasks_at s tasks) i (task_at s t)) = a.valid i (task_at s t) (omega (arith, length-map tasks (task_at s), l)) in
+    let e : get_or (tasks_at s tasks) i (task_at s t) ≡ task_at s t = get_or-map (task_at s) tasks i t (task_at s t) l ∙ ap (task_at s) (sym is) in
+    subst IsValid (e ∙ sym (task_there_same s s' g tasks i t a.held is l)) h
+
+-- the tasks that a task becomes, after others
+pub pushed_of : (x : Transformation) (s s' : List Tree) (g : Grows s s') (t : Task) (all made new : List Task) → IsValid (task_at s t) → AreTasks s all → TasksHeld s' made
+    → equation_of x (task_at s t) ≡ Ok (tasks_at s' made) → new ≡ all ++ made → ArePushed (equation_of x (task_at s t)) s all s' new
+pushed_of x s s' g t all made new v a h e is =
+    let kept = tasks_kept s s' all g a in
+    let valid : All IsValid (tasks_at s' made) = All-weaker (Keeps (task_at s t)) IsValid (λ u k. k.valid) (tasks_at s' made) (keeps_of x (task_at s t) (tasks_at s' made) v e) in
+    let both : tasks_at s' (all ++ made) ≡ tasks_at s' all ++ tasks_at s' made = map-append (task_at s') all made in
+    record {
+      are = subst (AreTasks s') (sym is) (record { held = All-append (TaskHeld s') all made kept.held h; valid = subst (All IsValid) (sym both) (All-append IsValid (tasks_at s' all) (tasks_at s' made) kept.valid valid) });
+      given = tasks_at s' made;
+      gives = e;
+      is = ap (tasks_at s') is ∙ both ∙ ap (λ (us : List TaskTree). us ++ tasks_at s' made) (tasks_later s s' g all a.held);
+    }
+
+module _ (equation : Equation) (s0 : List Tree) (tasks : List Task) where
+  abbrev pub SoFar : List Tree → List Task → ℕ → Type 0
+  SoFar s all i = after_tasks equation (tasks_at s all) (drop i (tasks_at s0 tasks)) ≡ all_tasks equation (tasks_at s0 tasks)
+
+  pub once_step : (s s' : List Tree) (g : Grows s0 s) (i : ℕ) (t : Task) (all new : List Task) → TasksHeld s0 tasks → t ≡ get_or tasks i t → i < length tasks
+      → ArePushed (equation (task_at s t)) s all s' new → SoFar s all i → SoFar s' new (i + 1)
+  once_step s s' g i t all new held is l p so =
+      let rest = drop (i + 1) (tasks_at s0 tasks) in
+      let here : drop i (tasks_at s0 tasks) ≡ task_at s t ∷ rest = rest_from s0 s g tasks i t held is l in
+      ap (λ (ts : List TaskTree). after_tasks equation ts rest) p.is ∙ after_more equation (tasks_at s all) p.given (task_at s t) rest p.gives
+      ∙ ap (after_tasks equation (tasks_at s all)) (sym here) ∙ so
+
+  pub once_fault : (s : List Tree) (g : Grows s0 s) (i n : ℕ) (t : Task) (all : List Task) (e : CarryFault) → TasksHeld s0 tasks → t ≡ get_or tasks i t → i < length tasks
+      → IsCarryFault (at_stage n (equation (task_at s t))) e → SoFar s all i → IsCarryFault (at_stage n (carried_once equation (tasks_at s0 tasks))) e
+  once_fault s g i n t all e held is l f so =
+      let rest = drop (i + 1) (tasks_at s0 tasks) in
+      let here : drop i (tasks_at s0 tasks) ≡ task_at s t ∷ rest = rest_from s0 s g tasks i t held is l in
+      let whole = ap (after_tasks equation (tasks_at s all)) (sym here) ∙ so in
+      once_refused equation n (tasks_at s0 tasks) e
+      (subst (λ (r : Result (List TaskTree) Refusal). IsCarryFault (at_stage n r) e) whole (after_refused equation n (tasks_at s all) (task_at s t) rest e f))
+
+  pub once_done : (s : List Tree) (i : ℕ) (all : List Task) → length tasks ≤ i → SoFar s all i → carried_once equation (tasks_at s0 tasks) ≡ limited (tasks_at s all)
+  once_done s i all l so =
+      let none : drop i (tasks_at s0 tasks) ≡ [] = drop_all i (tasks_at s0 tasks) (omega (arith, length-map tasks (task_at s0), l)) in
+      let is : all_tasks equation (tasks_at s0 tasks) ≡ Ok (tasks_at s all) = sym so ∙ ap (after_tasks equation (tasks_at s all)) none ∙ ap (λ (ts : List TaskTree). Ok ts) (append-nil (tasks_at s all)) in
+      once_limited equation (tasks_at s0 tasks) (tasks_at s all) is
+
+-- before any task
+pub once_none : (equation : Equation) (s : List Tree) (tasks : List Task) → SoFar equation s tasks s [] 0
+once_none equation s tasks = after_none equation (tasks_at s tasks)
+
+pub none_are : (s : List Tree) → AreTasks s []
+none_are s = record { held = All-nil (TaskHeld s); valid = All-nil IsValid }
+
+-- the stages from a place on
+module _ (stages : List Transformation) (said : Result (List TaskTree) StageRefusal) where
+  abbrev pub Left : ℕ → List TaskTree → Type 0
+  Left n ts = carried (map equation_of (drop n stages)) n ts ≡ said
+
+  pub left_step : (n : ℕ) (x : Transformation) (ts us : List TaskTree) → x ≡ get_or stages n x → n < length stages → carried_once (equation_of x) ts ≡ Ok us → Left n ts → Left (n + 1) us
+  left_step n x ts us is l e so =
+      let later = map equation_of (drop (n + 1) stages) in
+      sym (ap (λ (es : List Equation). carried es n ts) (equations_from equation_of stages n x is l) ∙ carried_more later (equation_of x) n ts us e) ∙ so
+
+  pub left_fault : (n : ℕ) (x : Transformation) (ts : List TaskTree) (e : CarryFault) → x ≡ get_or stages n x → n < length stages → IsCarryFault (at_stage n (carried_once (equation_of x) ts)) e
+      → Left n ts → IsCarryFault said e
+  left_fault n x ts e is l f so =
+      let later = map equation_of (drop (n + 1) stages) in
+      let whole = ap (λ (es : List Equation). carried es n ts) (sym (equations_from equation_of stages n x is l)) ∙ so in
+      subst (λ (r : Result (List TaskTree) StageRefusal). IsCarryFault r e) whole (carried_refused later (equation_of x) n ts e f)
+
+  pub left_done : (n : ℕ) (ts : List TaskTree) → length stages ≤ n → Left n ts → said ≡ Ok ts
+  left_done n ts l so = sym so ∙ ap (λ (xs : List Transformation). carried (map equation_of xs) n ts) (drop_all n stages l)

@@ -1,0 +1,49 @@
+-- What is lifted: refutations of the tasks that a task becomes, and the derivation that is made of them.
+use Rattle.std.specs.Prelude.{◌≡◌, ℕ, ◌<◌, List, length, map, All, Ok}
+use Rattle.trees.specs.Tree.{Tree}
+use Rattle.trees.specs.Node.{Grows}
+use Rattle.tasks.specs.Task.{TaskTree}
+use Rattle.rule_rows.specs.Trees.{StepTree, step_or}
+use Rattle.rule_rows.specs.Meaning.{steps_at, StepsHeld}
+use Rattle.kernel.specs.Right.{Closes}
+use Rattle.evidence.specs.Stages.{PartsClose, PartsHeld, parts_at, part_or}
+use Rattle.stages.specs.declared.transformation.Transformation.{Transformation}
+use Rattle.stages.specs.declared.lifting.Derived.{Derived}
+use Rattle.stages.specs.declared.lifting.Parts.{Parts}
+use Rattle.stages.specs.Transformations.{equation_of}
+use Rattle.stages.specs.Carried.{carried_task}
+
+-- one of the steps has the sequent of this one
+abbrev pub HasSequent : List StepTree → StepTree → Type 0
+HasSequent steps st = (k : ℕ) × (k < length steps) × ((step_or steps k).sequent ≡ st.sequent)
+
+-- for each step of each handed list there is one with its sequent
+abbrev pub HasSequents : List StepTree → List (List StepTree) → Type 0
+HasSequents steps handed = All (λ part. All (HasSequent steps) part) handed
+
+-- one of the lists has a step with the sequent of this one
+abbrev pub OneHasSequent : List (List StepTree) → StepTree → Type 0
+OneHasSequent lists st = (i : ℕ) × (i < length lists) × HasSequent (part_or lists i) st
+
+abbrev pub HaveSequents : List (List StepTree) → List (List StepTree) → Type 0
+HaveSequents lists handed = All (λ part. All (OneHasSequent lists) part) handed
+
+-- the tasks that a task becomes by stages, each refuted by its steps
+pub record AreRefuted (stages : List Transformation) (t : TaskTree) (handed : List (List StepTree)) : Type 0 where
+  pub tasks : List TaskTree
+  pub becomes : carried_task (map equation_of stages) t ≡ Ok tasks
+  pub close : PartsClose tasks handed
+
+-- in a store that has grown, steps derive a task, with the sequents of the handed steps
+pub record IsDerived (s : List Tree) (t : TaskTree) (handed : List (List StepTree)) (d : Derived) : Type 0 where
+  pub grows : Grows s d.store
+  pub held : StepsHeld d.store d.steps
+  pub closes : Closes t (steps_at d.store d.steps)
+  pub sequents : HasSequents (steps_at d.store d.steps) handed
+
+-- and so for tasks
+pub record AreDerived (s : List Tree) (ts : List TaskTree) (handed : List (List StepTree)) (p : Parts) : Type 0 where
+  pub grows : Grows s p.store
+  pub held : PartsHeld p.store p.lists.items
+  pub close : PartsClose ts (parts_at p.store p.lists.items)
+  pub sequents : HaveSequents (parts_at p.store p.lists.items) handed

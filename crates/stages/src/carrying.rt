@@ -1,0 +1,119 @@
+// Tasks carried through stages.
+// It depends on the transformations that are built; the program depends on it.
+ghost use Rattle.std.specs.Prelude.{◌≡◌, [], ◌∷◌, map, All, Ok, IfOk, IfErr};
+ghost use Rattle.trees.specs.Node.{Grows};
+ghost use Rattle.tasks.specs.Meaning.{task_at, tasks_at, TaskHeld, TasksHeld};
+ghost use Rattle.tasks.specs.Valid.{IsValid};
+ghost use Rattle.stage_limits.specs.Limits.{limited};
+ghost use Rattle.stages.specs.Transformations.{equation_of};
+ghost use Rattle.stages.specs.Carried.{carried_once, carried_task, at_stage};
+ghost use Rattle.stages.specs.Faults.{IsCarryFault};
+ghost use Rattle.stages.specs.Steps.{AreTasks, AreTasksOf, ArePushed, IsAlone};
+
+use crate::fault::{CarryFault, fault_at};
+use crate::transformation::Transformation;
+use evidence::Transform;
+use stage_limits::limited;
+use std::alloc::{AllocError, Global};
+use tasks::Task;
+use term_store::Store;
+
+// Puts the tasks that a task becomes after the others.
+fn push_tasks(
+    alloc: Global,
+    store: &mut Store,
+    stage: &Transformation,
+    number: usize,
+    task: &Task,
+    all: &mut Vec<Task>,
+) -> Result<(), CarryFault>
+    requires held { TaskHeld store.old task.now }
+    requires valid { IsValid (task_at store.old task.now) }
+    requires all { AreTasks store.old all.old.items }
+    ensures pushed { IfOk result (λ u. ArePushed (equation_of stage.now
+        (task_at store.old task.now)) store.old all.old.items store.new all.new.items) }
+    ensures fault { IfErr result (IsCarryFault (at_stage number (equation_of stage.now
+        (task_at store.old task.now)))) }
+    ensures grows { Grows store.old store.new }
+{
+    match stage.apply(alloc, store, task) {
+        Ok(made) => {
+            let mut made = made;
+            all.append(&mut made)?;
+            Ok(())
+        }
+        Err(fault) => Err(fault_at(number, fault)),
+    }
+}
+
+// The tasks where they aren't too large, else `TooLarge`.
+fn limited_at(store: &Store, number: usize, tasks: Vec<Task>) -> Result<Vec<Task>, CarryFault>
+    requires { AreTasks store.now tasks.items }
+    ensures tasks { IfOk result (λ ts. AreTasksOf (limited (tasks_at store.now tasks.items))
+        store.now ts.items) }
+    ensures fault { IfErr result (IsCarryFault (at_stage number
+        (limited (tasks_at store.now tasks.items)))) }
+{
+    match limited(store, tasks) {
+        Ok(tasks) => Ok(tasks),
+        Err(fault) => Err(fault_at(number, fault)),
+    }
+}
+
+/// The tasks that tasks become by the stage with this number.
+pub(crate) fn carry_once(
+    alloc: Global,
+    store: &mut Store,
+    stage: &Transformation,
+    number: usize,
+    tasks: &[Task],
+) -> Result<Vec<Task>, CarryFault>
+    requires { AreTasks store.old tasks.now }
+    ensures tasks { IfOk result (λ ts. AreTasksOf (carried_once (equation_of stage.now)
+        (tasks_at store.old tasks.now)) store.new ts.items) }
+    ensures fault { IfErr result (IsCarryFault (at_stage number (carried_once
+        (equation_of stage.now) (tasks_at store.old tasks.now)))) }
+    ensures grows { Grows store.old store.new }
+{
+    let mut all = Vec::new(alloc);
+    for i in 0..tasks.len() {
+        push_tasks(alloc, store, stage, number, &tasks[i], &mut all)?;
+    }
+    limited_at(store, number, all)
+}
+
+// A copy of a task, alone.
+fn alone(alloc: Global, task: &Task) -> Result<Vec<Task>, AllocError>
+    ensures { IfOk result (λ ts. IsAlone task.now ts.items) }
+{
+    let mut tasks = Vec::with_capacity(alloc, 1)?;
+    tasks.push(task.with_goal(alloc, task.goal)?)?;
+    Ok(tasks)
+}
+
+/// The tasks that a task becomes by stages in order, the first of which has number 0.
+///
+/// The first refusal is answered: in each stage that of each task in turn, `Misplaced` at a declaration that the
+/// transformation doesn't take, or `TooLarge` where one of its tasks has more than 2^20 tree nodes or a tree that is higher
+/// than 2,000, or they have more than 2^23 nodes together; then `TooLarge` where all tasks of the stage have more than 2^23
+/// nodes together. Else only want of memory refuses.
+pub fn carry(
+    alloc: Global,
+    store: &mut Store,
+    stages: &[Transformation],
+    task: &Task,
+) -> Result<Vec<Task>, CarryFault>
+    requires held { TaskHeld store.old task.now }
+    requires valid { IsValid (task_at store.old task.now) }
+    ensures tasks { IfOk result (λ ts. AreTasksOf (carried_task (map equation_of stages.now)
+        (task_at store.old task.now)) store.new ts.items) }
+    ensures fault { IfErr result (IsCarryFault (carried_task (map equation_of stages.now)
+        (task_at store.old task.now))) }
+    ensures grows { Grows store.old store.new }
+{
+    let mut tasks = alone(alloc, task)?;
+    for number in 0..stages.len() {
+        tasks = carry_once(alloc, store, &stages[number], number, &tasks)?;
+    }
+    Ok(tasks)
+}

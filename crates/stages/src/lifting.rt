@@ -1,0 +1,229 @@
+// Refutations of the tasks that a task becomes, brought back through the stages to a derivation of the task.
+// It depends on the laws of the transformations that are built; the program depends on it.
+ghost use Rattle.std.specs.Prelude.{◌≡◌, ℕ, ◌≤◌, List, Ok, IfOk, length, map};
+ghost use Rattle.trees.specs.Node.{Grows};
+ghost use Rattle.tasks.specs.Task.{TaskTree};
+ghost use Rattle.tasks.specs.Meaning.{task_at, tasks_at, TaskHeld, TasksHeld};
+ghost use Rattle.tasks.specs.Valid.{IsValid};
+ghost use Rattle.kernel.specs.Right.{last_starts};
+ghost use Rattle.rule_rows.specs.Meaning.{steps_at, StepsHeld};
+ghost use Rattle.evidence.specs.Drafts.{Extends};
+ghost use Rattle.evidence.specs.Stages.{Gives, IsOwn, PartsClose, PartsHeld, parts_at};
+ghost use Rattle.stages.specs.Transformations.{equation_of};
+ghost use Rattle.stages.specs.Steps.{AreTasks, IsCopy};
+ghost use Rattle.stages.specs.Lifted.{AreDerived, AreRefuted, HasSequents, IsDerived};
+ghost use Rattle.stages.specs.Levels.{AreRefutedFrom, AreRefutedOnce, IsFrontClosed, IsNext};
+
+use crate::carrying::carry_once;
+use crate::transformation::Transformation;
+use evidence::{Draft, Transform, finish, lift_stage};
+use outside::Seq;
+use rule_rows::Step;
+use std::alloc::{AllocError, Global};
+use std::rc::Rc;
+use std::slice::from_ref;
+use tasks::Task;
+use term_store::Store;
+
+/// Steps, with the store that holds their trees.
+#[derive(Drop)]
+pub struct Derived {
+    pub store: Store,
+    pub steps: Seq<Step>,
+}
+
+/// Lists of steps, one for each task, with the store that holds their trees.
+#[derive(Drop)]
+pub struct Parts {
+    pub store: Store,
+    pub lists: Vec<Seq<Step>>,
+}
+
+// Makes an empty draft of a task one that ends in its start and has the sequents of the handed steps.
+fn lift_draft(
+    stage: &Transformation,
+    task: &Task,
+    to: &Vec<Task>,
+    parts: &[Seq<Step>],
+    draft: &mut Draft,
+) -> Result<(), AllocError>
+    requires own { IsOwn draft.old task.now }
+    requires to_held { TasksHeld draft.old.trees to.now.items }
+    requires gives { Gives (equation_of stage.now) draft.old.task
+        (tasks_at draft.old.trees to.now.items) }
+    requires parts_held { PartsHeld draft.old.trees parts.now }
+    requires close { PartsClose (tasks_at draft.old.trees to.now.items)
+        (parts_at draft.old.trees parts.now) }
+    ensures starts { IfOk result (λ _. last_starts draft.new.task draft.new.steps) }
+    ensures sequents { IfOk result (λ _. HasSequents draft.new.steps
+        (parts_at draft.old.trees parts.now)) }
+    ensures grows { Extends draft.old draft.new }
+{
+    let number = lift_stage(stage, task, to, parts, draft)?;
+    finish(draft, number)
+}
+
+// A copy of a task.
+fn copy_of(alloc: Global, task: &Task) -> Result<Rc<Task>, AllocError>
+    ensures { IfOk result (λ r. IsCopy task.now r.value) }
+{
+    let copy = task.with_goal(alloc, task.goal)?;
+    let copy = Rc::new(alloc, copy)?;
+    Ok(copy)
+}
+
+// The derivation of a task, from refutations of the tasks that it becomes by a stage.
+fn lift_one(
+    alloc: Global,
+    store: Store,
+    stage: &Transformation,
+    task: &Task,
+    to: &Vec<Task>,
+    parts: &[Seq<Step>],
+) -> Result<Derived, AllocError>
+    requires held { TaskHeld store task.now }
+    requires valid { IsValid (task_at store task.now) }
+    requires to_held { TasksHeld store to.now.items }
+    requires gives { Gives (equation_of stage.now) (task_at store task.now)
+        (tasks_at store to.now.items) }
+    requires parts_held { PartsHeld store parts.now }
+    requires close { PartsClose (tasks_at store to.now.items) (parts_at store parts.now) }
+    ensures { IfOk result (IsDerived store (task_at store task.now) (parts_at store parts.now)) }
+{
+    let own = copy_of(alloc, task)?;
+    let mut draft = Draft::new(alloc, store, own.clone()?);
+    lift_draft(stage, &own, to, parts, &mut draft)?;
+    let (store, steps) = draft.into_parts();
+    Ok(Derived {
+        store,
+        steps: Seq::from_vec(steps),
+    })
+}
+
+// The tasks that a task becomes by a stage, where it becomes some.
+fn tasks_again(
+    alloc: Global,
+    store: &mut Store,
+    stage: &Transformation,
+    task: &Task,
+) -> Result<Vec<Task>, AllocError>
+    requires held { TaskHeld store.old task.now }
+    requires valid { IsValid (task_at store.old task.now) }
+    ensures held { IfOk result (λ ts. TasksHeld store.new ts.items) }
+    ensures tasks { IfOk result (λ ts. Gives (equation_of stage.now) (task_at store.old task.now)
+        (tasks_at store.new ts.items)) }
+    ensures grows { Grows store.old store.new }
+{
+    match stage.apply(alloc, store, task) {
+        Ok(to) => Ok(to),
+        Err(_) => Err(AllocError),
+    }
+}
+
+// The derivation of one task more, from the refutations that come next, and how many those are.
+fn lift_next(
+    alloc: Global,
+    store: Store,
+    stage: &Transformation,
+    task: &Task,
+    rest: &[Seq<Step>],
+) -> Result<(Derived, usize), AllocError>
+    requires held { TaskHeld store task.now }
+    requires valid { IsValid (task_at store task.now) }
+    requires rest_held { PartsHeld store rest.now }
+    requires close { (us : List TaskTree) → Gives (equation_of stage.now) (task_at store task.now) us
+        → IsFrontClosed us (parts_at store rest.now) }
+    ensures { IfOk result (IsNext (equation_of stage.now) store (task_at store task.now) (parts_at store rest.now)) }
+{
+    let mut store = store;
+    let to = tasks_again(alloc, &mut store, stage, task)?;
+    let count = to.len();
+    let derived = lift_one(alloc, store, stage, task, &to, &rest[..count])?;
+    Ok((derived, count))
+}
+
+// The derivations of tasks, from refutations of the tasks that they become by a stage.
+fn lift_level(
+    alloc: Global,
+    store: Store,
+    stage: &Transformation,
+    tasks: &[Task],
+    parts: &[Seq<Step>],
+) -> Result<Parts, AllocError>
+    requires tasks { AreTasks store tasks.now }
+    requires parts_held { PartsHeld store parts.now }
+    requires refuted { AreRefutedOnce (equation_of stage.now) (tasks_at store tasks.now)
+        (parts_at store parts.now) }
+    ensures { IfOk result (AreDerived store (tasks_at store tasks.now) (parts_at store parts.now)) }
+{
+    let mut store = store;
+    let mut lists = Vec::with_capacity(alloc, tasks.len())?;
+    let mut used = 0;
+    for i in 0..tasks.len() {
+        let (derived, count) = lift_next(alloc, store, stage, &tasks[i], &parts[used..])?;
+        let Derived {
+            store: grown,
+            steps,
+        } = derived;
+        lists.push(steps)?;
+        store = grown;
+        used += count;
+    }
+    Ok(Parts { store, lists })
+}
+
+// The derivations of tasks, from refutations of the tasks that they become by stages.
+fn lift_from(
+    alloc: Global,
+    store: Store,
+    stages: &[Transformation],
+    tasks: &[Task],
+    parts: Vec<Seq<Step>>,
+) -> Result<Parts, AllocError>
+    requires tasks { AreTasks store tasks.now }
+    requires parts_held { PartsHeld store parts.items }
+    requires refuted { AreRefutedFrom (map equation_of stages.now) (tasks_at store tasks.now)
+        (parts_at store parts.items) }
+    ensures { IfOk result (AreDerived store (tasks_at store tasks.now) (parts_at store parts.items)) }
+{
+    match stages.split_first() {
+        None => Ok(Parts {
+            store,
+            lists: parts,
+        }),
+        Some((stage, later)) => {
+            let mut store = store;
+            match carry_once(alloc, &mut store, stage, 0, tasks) {
+                Ok(next) => {
+                    let lifted = lift_from(alloc, store, later, &next, parts)?;
+                    lift_level(alloc, lifted.store, stage, tasks, &lifted.lists)
+                }
+                Err(_) => Err(AllocError),
+            }
+        }
+    }
+}
+
+/// A derivation of a task, from refutations of the tasks that it becomes by stages, in order. For each step of a refutation it has
+/// a step with the same sequent.
+///
+/// Only want of memory refuses.
+pub fn lift(
+    alloc: Global,
+    store: Store,
+    stages: &[Transformation],
+    task: &Task,
+    parts: Vec<Seq<Step>>,
+) -> Result<Derived, AllocError>
+    requires held { TaskHeld store task.now }
+    requires valid { IsValid (task_at store task.now) }
+    requires parts_held { PartsHeld store parts.items }
+    requires refuted { AreRefuted stages.now (task_at store task.now) (parts_at store parts.items) }
+    ensures { IfOk result (IsDerived store (task_at store task.now) (parts_at store parts.items)) }
+{
+    let lifted = lift_from(alloc, store, stages, from_ref(task), parts)?;
+    let Parts { store, lists } = lifted;
+    let mut lists = lists;
+    let steps = lists.remove(0);
+    Ok(Derived { store, steps })
+}

@@ -1,0 +1,72 @@
+// The transformations that are built, as one type.
+// Each is a crate of its own; the list of a driver's stages is made of them.
+ghost use Rattle.std.specs.Prelude.{List};
+ghost use Rattle.stages.specs.Transformations.{equation_of};
+ghost use Rattle.stages.specs.Kept.{keeps_of};
+
+use evidence::{Draft, StageFault, Transform};
+use std::alloc::{AllocError, Global};
+use tasks::{Fact, Task};
+use term_store::Store;
+use tr_introduce::{Introduce, Remove};
+use tr_split_goals::Split;
+use trees::TermId;
+
+/// A transformation that is built.
+#[derive(Drop)]
+pub enum Transformation {
+    Remove(Remove),
+    Split(Split),
+    Introduce(Introduce),
+}
+
+impl Transform for Transformation {
+    ghost equation = { equation_of };
+
+    ghost closed = { λ _ _ _. ⊥ };
+
+    fn apply(
+        &self,
+        alloc: Global,
+        store: &mut Store,
+        task: &Task,
+    ) -> Result<Vec<Task>, StageFault> {
+        match self {
+            Transformation::Remove(its) => its.apply(alloc, store, task),
+            Transformation::Split(its) => its.apply(alloc, store, task),
+            Transformation::Introduce(its) => its.apply(alloc, store, task),
+        }
+    }
+
+    fn fact(
+        &self,
+        from: &Task,
+        to: &Task,
+        name: Fact,
+        types: &[TermId],
+        formula: TermId,
+        draft: &mut Draft,
+    ) -> Result<usize, AllocError> {
+        match self {
+            Transformation::Remove(its) => its.fact(from, to, name, types, formula, draft),
+            Transformation::Split(its) => its.fact(from, to, name, types, formula, draft),
+            Transformation::Introduce(its) => its.fact(from, to, name, types, formula, draft),
+        }
+    }
+
+    fn glue(
+        &self,
+        from: &Task,
+        to: &Vec<Task>,
+        ends: &[usize],
+        draft: &mut Draft,
+    ) -> Result<usize, AllocError> {
+        match self {
+            Transformation::Remove(its) => its.glue(from, to, ends, draft),
+            Transformation::Split(its) => its.glue(from, to, ends, draft),
+            Transformation::Introduce(its) => its.glue(from, to, ends, draft),
+        }
+    }
+
+    ghost keeps = { keeps_of };
+}
