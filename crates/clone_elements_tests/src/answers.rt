@@ -1,6 +1,8 @@
 // What is told of the elements of a clone.
 // It depends on the reader and on elaboration; the table depends on it.
-ghost use Rattle.std.specs.Prelude.{length, OnOk};
+ghost use Rattle.std.specs.Prelude.{length, All, IfOk, OnOk};
+ghost use Rattle.trees.specs.Node.{Grows};
+ghost use Rattle.tasks.specs.Meaning.{DeclHeld};
 ghost use Rattle.elab_parts.specs.Entries.{IsSignature, AreScopes};
 
 use clone_elements::{ElementFault, LeftNames, Source, check_variables, make_plan, sides_of};
@@ -27,6 +29,39 @@ const TYPED: &str = "a theory without a fault";
 /// A fault of an element: its code and its token; 0 for want of memory.
 pub(crate) type Told = Option<(usize, usize)>;
 
+// The names of a theory, and its declarations.
+#[derive(Drop)]
+struct Made {
+    scope: Scope,
+    decls: Seq<Decl>,
+}
+
+// A declaration of a theory, after others. One that uses, clones or opens a scope makes none.
+fn elaborate_one(
+    alloc: Global,
+    store: &mut Store,
+    sig: &mut Signature,
+    scope: &mut Scope,
+    made: &mut Seq<Decl>,
+    theory: &[u8],
+    decl: &DeclTree,
+) -> Result<(), ElabFault>
+    requires signature { IsSignature store.old sig.old.symbols }
+    requires scopes { AreScopes store.old (length sig.old.symbols) scope.old }
+    requires held { All (DeclHeld store.old) made.old }
+    ensures signature { OnOk result (IsSignature store.new sig.new.symbols) }
+    ensures scopes { OnOk result (AreScopes store.new (length sig.new.symbols) scope.new) }
+    ensures held { OnOk result (All (DeclHeld store.new) made.new) }
+    ensures grows { Grows store.old store.new }
+{
+    if !is_logical(decl) {
+        return Ok(());
+    }
+    let more = elaborate(alloc, store, sig, scope, theory, b"", decl, 0)?;
+    made.append(more.decls)?;
+    Ok(())
+}
+
 // Declarations of a theory, after others.
 fn elaborate_from(
     alloc: Global,
@@ -39,17 +74,38 @@ fn elaborate_from(
 ) -> Result<(), ElabFault>
     requires signature { IsSignature store.old sig.old.symbols }
     requires scopes { AreScopes store.old (length sig.old.symbols) scope.old }
+    requires held { All (DeclHeld store.old) made.old }
     ensures signature { OnOk result (IsSignature store.new sig.new.symbols) }
     ensures scopes { OnOk result (AreScopes store.new (length sig.new.symbols) scope.new) }
+    ensures held { OnOk result (All (DeclHeld store.new) made.new) }
+    ensures grows { Grows store.old store.new }
 {
     let Some((first, rest)) = decls.split_first() else {
         return Ok(());
     };
-    if is_logical(first) {
-        let more = elaborate(alloc, store, sig, scope, theory, b"", first, 0)?;
-        made.append(more.decls)?;
-    }
+    elaborate_one(alloc, store, sig, scope, made, theory, first)?;
     elaborate_from(alloc, store, sig, scope, made, theory, rest)
+}
+
+// The declarations of a theory.
+fn elaborate_theory(
+    alloc: Global,
+    store: &mut Store,
+    sig: &mut Signature,
+    theory: &[u8],
+    decls: &[DeclTree],
+) -> Result<Made, ElabFault>
+    requires { IsSignature store.old sig.old.symbols }
+    ensures signature { OnOk result (IsSignature store.new sig.new.symbols) }
+    ensures scopes { IfOk result (λ m. AreScopes store.new (length sig.new.symbols) m.scope) }
+    ensures held { IfOk result (λ m. All (DeclHeld store.new) m.decls) }
+    ensures grows { Grows store.old store.new }
+{
+    let mut scope = Scope::new(alloc)?;
+    no_names(&scope);
+    let mut made = Seq::new(alloc);
+    elaborate_from(alloc, store, sig, &mut scope, &mut made, theory, decls)?;
+    Ok(Made { scope, decls: made })
 }
 
 fn of_names(fault: NamingFault) -> Told {
@@ -90,6 +146,7 @@ fn first_fault(
 ) -> Told
     requires signature { IsSignature store.old sig.old.symbols }
     requires scopes { AreScopes store.old (length sig.old.symbols) scope.now }
+    requires held { All (DeclHeld store.old) made.now }
 {
     if let Err(fault) = check_variables(alloc, elements) {
         return of_names(fault);
@@ -124,51 +181,32 @@ fn elements_of(decls: &[DeclTree]) -> &[ElemTree] {
 }
 
 // The first fault of the elements of the clone in a source's second theory, which clones the first one.
-fn told(rt: &impl Abort, alloc: Global, text: &str) -> Told {
+fn told(rt: &impl Abort, alloc: Global, text: &str) -> Result<Told, ElabFault> {
     let bytes = text.as_bytes();
     let tokens = lex(alloc, bytes).expect(rt, READ);
     let file = parse(alloc, &tokens, bytes).expect(rt, READ);
-    let (cloned, others) = file.theories.as_slice().split_first().expect(rt, READ);
-    let open = others.first().expect(rt, READ);
+    let (first, others) = file.theories.as_slice().split_first().expect(rt, READ);
+    let second = others.first().expect(rt, READ);
     let mut store = Store::new(alloc).expect(rt, MEMORY);
     let mut sig = begin(alloc).expect(rt, MEMORY);
-    let mut made = Seq::new(alloc);
-    let mut names = Scope::new(alloc).expect(rt, MEMORY);
-    no_names(&names);
-    let decls = cloned.decls.as_slice();
-    elaborate_from(
-        alloc, &mut store, &mut sig, &mut names, &mut made, b"U", decls,
-    )
-    .expect(rt, TYPED);
-    let mut scope = Scope::new(alloc).expect(rt, MEMORY);
-    no_names(&scope);
-    let decls = open.decls.as_slice();
-    let mut others = Seq::new(alloc);
-    elaborate_from(
-        alloc,
-        &mut store,
-        &mut sig,
-        &mut scope,
-        &mut others,
-        b"T",
-        decls,
-    )
-    .expect(rt, TYPED);
-    first_fault(
+    let cloned = elaborate_theory(alloc, &mut store, &mut sig, b"U", first.decls.as_slice())?;
+    let decls = second.decls.as_slice();
+    let open = elaborate_theory(alloc, &mut store, &mut sig, b"T", decls)?;
+    Ok(first_fault(
         rt,
         alloc,
         &mut store,
         &mut sig,
-        &scope,
-        made.as_slice(),
+        &open.scope,
+        cloned.decls.as_slice(),
         elements_of(decls),
-    )
+    ))
 }
 
 /// Each source has the fault that is wanted.
 pub(crate) fn compare(rt: &impl Abort, alloc: Global, rows: &[(&str, Told)]) {
     for (text, wanted) in rows {
-        let found = told(rt, alloc, text);
+        let found = told(rt, alloc, text).expect(rt, TYPED);
         assert_eq!(rt; found, *wanted, "the fault of {text}");
     }
 }
