@@ -1,4 +1,4 @@
-//! Tests of the checker: each rule once right and, for each of its conditions, once wrong, and derivations.
+//! Tests of the checker: random steps against a plain check, and steps that no step file can write.
 //! It stands on the kernel; nothing stands on it.
 #![tactic(auto)]
 
@@ -7,6 +7,6 @@ mod nodes;
 #[cfg(test)]
 mod random;
 #[cfg(test)]
-mod rows;
-#[cfg(test)]
 mod small;
+#[cfg(test)]
+mod steps;

@@ -4,8 +4,8 @@ ghost use Rattle.std.specs.Prelude.{◌<◌};
 ghost use Rattle.rule_rows.specs.Meaning.{RuleHeld};
 
 use crate::nodes::NODES;
-use crate::rows::{before, step};
 use crate::small::{filled, held_or_int, small_task};
+use crate::steps::{before, step};
 use kernel::right_step;
 use rule_rows::Rule;
 use std::alloc::Global;

@@ -1,0 +1,150 @@
+// The answer to a block: what each line makes, and then whether its steps close the task.
+ghost use Rattle.trees.specs.Node.{Grows};
+ghost use Rattle.tasks.specs.Meaning.{TaskHeld};
+ghost use Rattle.rule_rows.specs.Meaning.{StepsHeld};
+
+use crate::given::read_task;
+use crate::lines::put_line;
+use crate::printing::put_number;
+use crate::read::Read;
+use integer_words::integer;
+use kernel::{closes, ends_in_start, first_wrong};
+use outside::{Seq, Text};
+use problems::{NameEntry, NameOf};
+use rule_rows::Step;
+use std::alloc::{AllocError, Global};
+use tasks::Task;
+use term_store::Store;
+use tree_lines::Names;
+
+// The number of a word, or 0.
+fn number_of(word: &str) -> usize {
+    match integer(word.as_bytes()) {
+        Some(n) => usize::try_from(n).unwrap_or(0),
+        None => 0,
+    }
+}
+
+// What a name stands for: `int` for the number 0, a type variable of the goal for a number after `!`, else a symbol.
+fn meaning_of(word: &str) -> NameOf {
+    if let Some(number) = word.strip_prefix("!") {
+        return NameOf::Rigid(number_of(number));
+    }
+    match number_of(word) {
+        0 => NameOf::Int,
+        k => NameOf::Symbol(k),
+    }
+}
+
+// An entry of the name table: a name, what it stands for, and the places of its types.
+fn entry_of(alloc: Global, line: &str) -> Result<NameEntry, AllocError> {
+    let mut words = line.split(' ');
+    let name = words.next().unwrap_or("");
+    let symbol = meaning_of(words.next().unwrap_or(""));
+    let mut types = Seq::new(alloc);
+    for word in words {
+        types.push(number_of(word))?;
+    }
+    Ok(NameEntry {
+        name: Text::from_slice(alloc, name.as_bytes())?,
+        symbol,
+        types,
+    })
+}
+
+// The name table: the lines after `n `.
+fn table_of(alloc: Global, lines: &[String]) -> Result<Vec<NameEntry>, AllocError> {
+    let mut table = Vec::new(alloc);
+    for line in lines {
+        if let Some(entry) = line.as_str().strip_prefix("n ") {
+            table.push(entry_of(alloc, entry)?)?;
+        }
+    }
+    Ok(table)
+}
+
+// The first wrong step, if any, and whether the last one is the start and all of them close the task.
+fn put_verdict(
+    alloc: Global,
+    text: &mut String,
+    store: &Store,
+    task: &Task,
+    steps: &[Step],
+) -> Result<(), AllocError>
+    requires task { TaskHeld store.now task.now }
+    requires steps { StepsHeld store.now steps.now }
+{
+    if let Some(number) = first_wrong(store, task, steps) {
+        text.push_str("wrong at ")?;
+        put_number(alloc, text, number)?;
+    }
+    if ends_in_start(store, task, steps) {
+        text.push_str(" ends in the start")?;
+    }
+    if closes(store, task, steps) {
+        text.push_str(" closes")?;
+    }
+    text.push_str("\n")
+}
+
+// The lines after those of the name table.
+fn after_names<'a>(lines: &'a [String]) -> &'a [String] {
+    match lines.split_first() {
+        Some((first, rest)) => {
+            if first.as_str().starts_with("n ") {
+                after_names(rest)
+            } else {
+                lines
+            }
+        }
+        None => lines,
+    }
+}
+
+// What each of the lines makes that are no names.
+fn put_lines(
+    alloc: Global,
+    text: &mut String,
+    store: &mut Store,
+    task: &Task,
+    lines: &[String],
+) -> Result<(), AllocError>
+    requires { TaskHeld store.old task.now }
+{
+    let table = table_of(alloc, lines)?;
+    let names = Names::new(alloc, &table)?;
+    let mut read = Read {
+        types: Vec::new(alloc),
+        patterns: Vec::new(alloc),
+        expressions: Vec::new(alloc),
+        steps: Vec::new(alloc),
+    };
+    for line in after_names(lines) {
+        put_line(
+            alloc,
+            text,
+            store,
+            task,
+            &table,
+            &names,
+            &mut read,
+            line.as_bytes(),
+        )?;
+    }
+    put_verdict(alloc, text, store, task, &read.steps)
+}
+
+/// The answer to a block, whose first line is a theory.
+pub(crate) fn describe(alloc: Global, block: &[String]) -> Result<String, AllocError> {
+    let mut text = String::new(alloc);
+    let Some((source, lines)) = block.split_first() else {
+        return Ok(text);
+    };
+    let mut store = Store::new(alloc)?;
+    let tasks = read_task(alloc, &mut store, source.as_str())?;
+    match tasks.as_slice().first() {
+        Some(task) => put_lines(alloc, &mut text, &mut store, task, lines)?,
+        None => text.push_str("no task\n")?,
+    }
+    Ok(text)
+}

@@ -1,0 +1,31 @@
+// What the lines of a block have made so far.
+// It depends on the lines of steps; the lines depend on it.
+ghost use Rattle.std.specs.Prelude.{◌≡◌, OnOk};
+ghost use Rattle.step_rows.specs.Read.{IsKept};
+
+use rule_rows::Step;
+use std::alloc::AllocError;
+use step_lines::MadeThing;
+use trees::TermId;
+
+/// What the lines so far have made, each kind counted from 0.
+#[derive(Drop)]
+pub(crate) struct Read {
+    pub types: Vec<TermId>,
+    pub patterns: Vec<TermId>,
+    pub expressions: Vec<TermId>,
+    pub steps: Vec<Step>,
+}
+
+/// Puts a thing after those of its kind.
+pub(crate) fn keep(read: &mut Read, thing: MadeThing) -> Result<(), AllocError>
+    ensures { OnOk result (IsKept thing read.old read.new) }
+{
+    match thing {
+        MadeThing::Type(ty) => read.types.push(ty)?,
+        MadeThing::Pattern(pattern) => read.patterns.push(pattern)?,
+        MadeThing::Expression(expression) => read.expressions.push(expression)?,
+        MadeThing::Derived(step) => read.steps.push(step)?,
+    }
+    Ok(())
+}

@@ -1,0 +1,18 @@
+//! Reads systems of type equations, one a line, and prints what the asked unknowns are, or the equation that has no solution.
+//! It depends on the store and on type equations; its input and output are by `tools/type-rows`.
+#![tactic(auto)]
+
+mod answers;
+mod printing;
+
+use answers::describe;
+use std::io;
+
+fn main(rt: HostRuntime) -> io::Result<()> {
+    let alloc = rt.alloc();
+    for line in rt.lines(alloc) {
+        let text = describe(alloc, line?.as_str())?;
+        println!(rt; "{text}")?;
+    }
+    Ok(())
+}

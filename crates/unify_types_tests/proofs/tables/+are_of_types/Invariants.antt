@@ -1,5 +1,0 @@
-use Rattle.std.proofs.Common.{length}
-use Rattle.unify_types_tests.proofs.tables.+are_of_types.Given as goal
-
-abbrev pub decreases-are_of_types : goal.decreases-are_of_types
-decreases-are_of_types c = length c.equations.now
