@@ -1,0 +1,4 @@
+pub mod Kept
+pub mod Others
+pub mod Cloned
+pub mod Names
