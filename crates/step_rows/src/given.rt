@@ -51,7 +51,7 @@ fn gather(
     if !is_logical(first) {
         return Ok(());
     }
-    let made = elaborate(alloc, store, sig, scope, "T", "", first, at)?;
+    let made = elaborate(alloc, store, sig, scope, b"T", b"", first, at)?;
     out.append(decls_of(made))?;
     gather(alloc, store, sig, scope, rest, at.saturating_add(1), out)
 }
