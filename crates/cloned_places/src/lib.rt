@@ -3,11 +3,19 @@
 #![tactic(auto)]
 
 ghost use Rattle.std.specs.Prelude.{◌≡◌, ◌≢◌, ℕ, ◌<◌, List, ◌++◌, length, All, AllPairs};
+ghost use Rattle.trees.specs.Tree.{Tree};
+ghost use Rattle.tasks.specs.Vocabulary.{Vocabulary};
+ghost use Rattle.symbol_maps.specs.Mapped.{Map};
+ghost use Rattle.scope_moves.specs.declared.moves.Move.{Move};
+ghost use Rattle.typed_moves.specs.Moves.{AreTypedMoves};
+ghost use Rattle.valid_copies.specs.Morphisms.{IsMorphism};
 ghost use Rattle.theory_states.specs.States.{KnownTree, StateTree, visible_now};
 ghost use Rattle.sound_states.specs.Whole.{IsWhole};
 ghost use Rattle.clone_copies.specs.Places.{Copying, with_places};
 ghost use Rattle.valid_clones.specs.Steps.{made_from};
 ghost use Rattle.cloned_states.specs.Cloned.{AreClonedPlaces};
+ghost use Rattle.clone_copies.specs.Moves.{AreMovesMapped};
+ghost use Rattle.cloned_places.specs.Moves.{IsPlainMove};
 ghost use Rattle.cloned_places.specs.Steps.{steps_at};
 
 /// A law: where each theory's declarations are whole among the visible ones, those that are visible after
@@ -28,4 +36,13 @@ pub fn places_made()
         → All (λ (k : ℕ). k < length c.decls) t.visible
         → AllPairs (λ (j k : ℕ). j ≢ k) t.visible
         → AreClonedPlaces c (with_places x t.visible c) t }
+{}
+
+/// A law: the names that a theory hands on stand for things of their tables after a clone, over the store
+/// in which they are mapped, where the map takes what one vocabulary may name to what another one may
+/// name, and no alias is a name of symbols.
+pub fn moves_become()
+    ensures { (v w : Vocabulary) (m : Map) (s : List Tree) (xs ys : List Move)
+        → IsMorphism v w m → All IsPlainMove xs → AreTypedMoves v s xs
+        → AreMovesMapped s v.symbols m xs ys → AreTypedMoves w s ys }
 {}
