@@ -1,5 +1,4 @@
 pub mod Common
-pub mod Alphabet
 pub mod Table
 pub mod Machine
 pub mod Rows

@@ -2,7 +2,7 @@
 use Rattle.std.specs.Prelude.{Bool, true, false, ◌&&◌, if◌then◌else◌, List, [], ◌∷◌, ◌++◌, Option, Some, None}
 use Rattle.grammar.specs.Common.{Terminal, Symbol}
 use Rattle.grammar.specs.declared.symbols.Symbol.TheVariants as s
-use Rattle.grammar.specs.Alphabet.{same}
+use Rattle.tokens_why.specs.Alphabet.{same}
 use Rattle.grammar.specs.Table.{Line, rows, optional, shortest, leftovers}
 
 abbrev pub find : List Line → Terminal → Option (List Symbol)

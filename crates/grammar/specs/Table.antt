@@ -3,7 +3,7 @@ use Rattle.std.specs.Prelude.{ℕ, Bool, true, false, ◌&&◌, nat_le, if◌the
 use Rattle.grammar.specs.Common.{Terminal, Symbol, prec, need, right}
 use Rattle.tokens_why.specs.declared.terminal.Terminal.TheVariants as t
 use Rattle.grammar.specs.declared.symbols.Symbol.TheVariants as s
-use Rattle.grammar.specs.Alphabet.{operators}
+use Rattle.tokens_why.specs.Alphabet.{operators}
 
 pub record Line : Type 0 where
   pub first : Terminal

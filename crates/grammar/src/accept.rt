@@ -1,6 +1,6 @@
 // The machine in code: a stack of symbols, the top one last, that takes one token after another.
 ghost use Rattle.std.specs.Prelude.{◌≡◌, ◌++◌, [], ◌∷◌, IfOk, map, option_map, reverse};
-ghost use Rattle.grammar.specs.Alphabet.{number, same};
+ghost use Rattle.tokens_why.specs.Alphabet.{number, same};
 ghost use Rattle.grammar.specs.Machine.{find, is_seal, sealed, takes};
 ghost use Rattle.grammar.specs.Rows.{Puts, Takes, line_of, operand_takes, tail_takes};
 ghost use Rattle.grammar.specs.Ends.{TakesAll};

@@ -1,6 +1,6 @@
 -- The names that most definitions and contracts cite, passed on from one place. Declares nothing.
 pub use Rattle.std.specs.Prelude.{true, false, IfErr, Bool, IfOk}
-pub use Rattle.grammar.specs.Alphabet.{same}
+pub use Rattle.tokens_why.specs.Alphabet.{same}
 pub use Rattle.parse_terms.specs.Reading.{CanRead, Begun, IsRead, begins_atype, CanRun, token_at, from, terminal_at}
 pub use Rattle.parse_terms.specs.Sources.{lexemes}
 pub use Rattle.reading.specs.DeclParts.{ClausePart, ConPart, FieldsPart, BodyPart, ClausesPart, param_names, AlgPart}

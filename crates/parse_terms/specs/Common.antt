@@ -1,6 +1,6 @@
 -- The names that most definitions and contracts cite, passed on from one place. Declares nothing.
 pub use Rattle.std.specs.Prelude.{IfErr, IfOk}
-pub use Rattle.grammar.specs.Alphabet.{same}
+pub use Rattle.tokens_why.specs.Alphabet.{same}
 pub use Rattle.grammar.specs.declared.symbols.Symbol.TheVariants.{Opname, TypeOf, Qlid, Atype, Ttuple, Qhead, Targs, Quids}
 pub use Rattle.reading.specs.Parts.{Chain, OpName, Dotted, named_at, scope_on, first_of, Scoped, own_op, attach, upper_called}
 pub use Rattle.reading.specs.Reads.{from}

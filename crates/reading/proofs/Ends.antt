@@ -1,5 +1,6 @@
 -- What stands behind a declaration, and what no part of the declaration takes.
-use Rattle.reading.proofs.Common.{◌≡◌, Bool, true, false, List, [], ◌∷◌, ◌++◌, refl, no_false, Terminal, Lexeme, lx, mark, write_called, write_form, write, PropKind, Decls, algebraic_decl, algebraic_list, clone_decl, constant_decl, definition, function_decl, inductive_decl, inductive_list, link_words, more_decls, no_decls, other_members, param_row, predicate_decl, prop_decl, prop_word, renamed, scope_decl, substitution, type_decl, type_equation, use_decl, variable_row, write_decls, write_path}
+use Rattle.reading.proofs.Common.{same, ◌≡◌, Bool, true, false, List, [], ◌∷◌, ◌++◌, refl, no_false, Terminal, Lexeme, lx, mark, write_called, write_form, write, PropKind, Decls, algebraic_decl, algebraic_list, clone_decl, constant_decl, definition, function_decl, inductive_decl, inductive_list, link_words, more_decls, no_decls, other_members, param_row, predicate_decl, prop_decl, prop_word, renamed, scope_decl, substitution, type_decl, type_equation, use_decl, variable_row, write_decls, write_path}
+use Rattle.std.specs.List.{list_any}
 use Rattle.tokens_why.specs.declared.terminal.Terminal.TheVariants as t
 use Rattle.grammar.specs.declared.symbols.Symbol.TheVariants as s
 use Rattle.syntax_why.specs.declared.declarations.PropKind.TheVariants as pk
@@ -23,19 +24,7 @@ pub record Ends (zs : List Lexeme) : Type 0 where
   pub no_qids : Stops s.Qids zs
 
 abbrev pub ends_decl : Terminal → Bool
-ends_decl t.EndWord = true
-ends_decl t.ScopeWord = true
-ends_decl t.TypeWord = true
-ends_decl t.FunctionWord = true
-ends_decl t.PredicateWord = true
-ends_decl t.ConstantWord = true
-ends_decl t.InductiveWord = true
-ends_decl t.AxiomWord = true
-ends_decl t.LemmaWord = true
-ends_decl t.GoalWord = true
-ends_decl t.UseWord = true
-ends_decl t.CloneWord = true
-ends_decl _ = false
+ends_decl x = list_any (same x) (t.EndWord ∷ t.ScopeWord ∷ t.TypeWord ∷ t.FunctionWord ∷ t.PredicateWord ∷ t.ConstantWord ∷ t.InductiveWord ∷ t.AxiomWord ∷ t.LemmaWord ∷ t.GoalWord ∷ t.UseWord ∷ t.CloneWord ∷ [])
 
 pub ends_at : (x : Terminal) (zs : List Lexeme) → ends_decl x ≡ true → Ends (mark x ∷ zs)
 ends_at t.EndWord zs h = record { follow = record { args = refl; scope = refl; ops = λ i. absurd (no_false i) }; no_targs = refl; no_fields = refl; no_tvars = refl; no_upper = refl; no_params = refl; no_body = refl; no_members = refl; no_value = refl; no_clauses = refl; no_renamed = refl; no_subst = refl; no_elems = refl; no_qids = refl }

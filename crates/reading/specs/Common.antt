@@ -1,7 +1,7 @@
 -- The names that most definitions and contracts cite, passed on from one place. Declares nothing.
 pub use Rattle.std.proofs.Common.{◌++◌, ◌&&◌, cond, append_assoc, sym, option_map, ◌+◌, true, Option, nat_le, Bool, ◌∙◌, refl}
 pub use Rattle.std.specs.Prelude.{drop, List, ℕ, get_or}
-pub use Rattle.grammar.specs.Alphabet.{same, operators}
+pub use Rattle.tokens_why.specs.Alphabet.{same, operators}
 pub use Rattle.grammar.specs.declared.symbols.Symbol.{Symbol}
 pub use Rattle.syntax_why.specs.Declarations.{type_element, inductive_decl, scope_decl, algebraic_decl, prop_element, use_decl, no_decls, Inductive, all_axioms, predicate_decl, type_decl, Member, Constructor, more_decls, clone_decl, Theory, function_decl, prop_decl, Decl, Algebraic, constant_decl, Element, Decls, Clause, Param, symbol_element}
 pub use Rattle.syntax_why.specs.Forms.{star, variable, prefix_op, Forms, composed, Form, called, wild, lower, more_forms, type_variable, aliased, Own, Called, upper, infix_op, no_forms, enclosed}

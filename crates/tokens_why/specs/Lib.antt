@@ -1,4 +1,5 @@
 pub mod Common
+pub mod Alphabet
 pub mod Bytes
 pub mod Classes
 pub mod Gap

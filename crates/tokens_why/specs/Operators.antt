@@ -3,50 +3,29 @@ use Rattle.tokens_why.specs.Common.{ℕ, Bool, true, false, List, codes, same, T
 use Rattle.tokens_why.specs.declared.terminal.Terminal.TheVariants as t
 
 -- how tightly an operator binds, and what it needs on its left and on its right
+abbrev levels : Terminal → ℕ × ℕ × ℕ
+levels t.Arrow = (0, 1, 0)
+levels t.Equiv = (0, 1, 0)
+levels t.Disj = (1, 2, 1)
+levels t.OrOr = (1, 2, 1)
+levels t.Conj = (2, 3, 2)
+levels t.AndAnd = (2, 3, 2)
+levels t.Equal = (4, 5, 5)
+levels t.Operator1 = (4, 5, 5)
+levels t.Minus = (5, 5, 6)
+levels t.Operator2 = (5, 5, 6)
+levels t.Operator3 = (6, 6, 7)
+levels t.Operator4 = (7, 7, 8)
+levels _ = (0, 0, 0)
+
 abbrev pub prec : Terminal → ℕ
-prec t.Arrow = 0
-prec t.Equiv = 0
-prec t.Disj = 1
-prec t.OrOr = 1
-prec t.Conj = 2
-prec t.AndAnd = 2
-prec t.Equal = 4
-prec t.Operator1 = 4
-prec t.Minus = 5
-prec t.Operator2 = 5
-prec t.Operator3 = 6
-prec t.Operator4 = 7
-prec _ = 0
+prec x = (levels x).0
 
 abbrev pub need : Terminal → ℕ
-need t.Arrow = 1
-need t.Equiv = 1
-need t.Disj = 2
-need t.OrOr = 2
-need t.Conj = 3
-need t.AndAnd = 3
-need t.Equal = 5
-need t.Operator1 = 5
-need t.Minus = 5
-need t.Operator2 = 5
-need t.Operator3 = 6
-need t.Operator4 = 7
-need _ = 0
+need x = (levels x).1
 
 abbrev pub right : Terminal → ℕ
-right t.Arrow = 0
-right t.Equiv = 0
-right t.Disj = 1
-right t.OrOr = 1
-right t.Conj = 2
-right t.AndAnd = 2
-right t.Equal = 5
-right t.Operator1 = 5
-right t.Minus = 6
-right t.Operator2 = 6
-right t.Operator3 = 7
-right t.Operator4 = 8
-right _ = 0
+right x = (levels x).2
 
 abbrev pub is_infix : Terminal → Bool
 is_infix t.Arrow = true

@@ -1,6 +1,7 @@
 -- What each kind of token is to the grammar.
-use Rattle.std.specs.Prelude.{ℕ, true, false, nat_eq, if◌then◌else◌, List, Option, Some, None}
+use Rattle.std.specs.Prelude.{ℕ, suc, true, false, nat_eq, if◌then◌else◌, List, [], ◌∷◌, Option, Some, None}
 use Rattle.tokens_why.specs.Common.{get_or, TokenKind, Terminal}
+use Rattle.tokens_why.specs.Alphabet.{same}
 use Rattle.tokens_why.specs.Reserved.{reserved_terminals}
 use Rattle.tokens_why.specs.Strings.{kind_of}
 use Rattle.tokens_why.specs.declared.token.TokenKind.TheVariants as k
@@ -48,6 +49,11 @@ terminal_if None = t.OtherWord
 abbrev pub string_terminal : List ℕ → Terminal
 string_terminal w = terminal_if (kind_of w)
 
+-- the place of a terminal's first reserved word
+abbrev pub word_place : List Terminal → Terminal → ℕ
+word_place [] x = 0
+word_place (y ∷ ys) x = if same y x then 0 else suc (word_place ys x)
+
 -- a kind of token that is this terminal: the only one, but for the words that begin no declaration of the grammar
 abbrev pub kind_by : Terminal → TokenKind
 kind_by t.Lident = k.Lident
@@ -80,34 +86,4 @@ kind_by t.Operator2 = k.Operator 2 false
 kind_by t.Operator3 = k.Operator 3 false
 kind_by t.Operator4 = k.Operator 4 false
 kind_by t.PrefixOperator = k.Operator 4 true
-kind_by t.AsWord = k.Reserved 4
-kind_by t.AxiomWord = k.Reserved 5
-kind_by t.CloneWord = k.Reserved 8
-kind_by t.ConstantWord = k.Reserved 10
-kind_by t.ElseWord = k.Reserved 14
-kind_by t.EndWord = k.Reserved 15
-kind_by t.ExistsWord = k.Reserved 19
-kind_by t.ExportWord = k.Reserved 20
-kind_by t.FalseWord = k.Reserved 21
-kind_by t.ForallWord = k.Reserved 23
-kind_by t.FunctionWord = k.Reserved 25
-kind_by t.GoalWord = k.Reserved 27
-kind_by t.IfWord = k.Reserved 28
-kind_by t.ImportWord = k.Reserved 29
-kind_by t.InWord = k.Reserved 30
-kind_by t.InductiveWord = k.Reserved 31
-kind_by t.LemmaWord = k.Reserved 33
-kind_by t.LetWord = k.Reserved 34
-kind_by t.MatchWord = k.Reserved 35
-kind_by t.ModuleWord = k.Reserved 37
-kind_by t.NotWord = k.Reserved 39
-kind_by t.PredicateWord = k.Reserved 40
-kind_by t.ScopeWord = k.Reserved 49
-kind_by t.ThenWord = k.Reserved 51
-kind_by t.TheoryWord = k.Reserved 52
-kind_by t.TrueWord = k.Reserved 54
-kind_by t.TypeWord = k.Reserved 56
-kind_by t.UseWord = k.Reserved 57
-kind_by t.WithWord = k.Reserved 61
-kind_by t.ProgramWord = k.Reserved 9
-kind_by t.OtherWord = k.Reserved 0
+kind_by x = k.Reserved (word_place reserved_terminals x)

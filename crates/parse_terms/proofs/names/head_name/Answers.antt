@@ -1,4 +1,4 @@
-use Rattle.parse_terms.proofs.Cited.{◌+◌, [], ◌∷◌, ◌++◌, sym, ap, ◌∙◌, subst, refl, same, own_of, IsRead, terminal_at, lexemes, and_cases, can_next, stands, again, start, Scopes, scopes_done, scopes_more, inside, upper_text}
+use Rattle.parse_terms.proofs.Cited.{arith, ◌+◌, [], ◌∷◌, ◌++◌, sym, ap, ◌∙◌, subst, refl, same, own_of, IsRead, terminal_at, lexemes, and_cases, can_next, stands, again, start, Scopes, scopes_done, scopes_more, inside, upper_text}
 use Rattle.tokens_why.specs.declared.terminal.Terminal.TheVariants as t
 use Rattle.grammar.specs.declared.symbols.Symbol.TheVariants as s
 use Rattle.parse_terms.proofs.names.head_name.Goals as goal
@@ -20,3 +20,8 @@ own_name-requires c = record { can = can_next c.scopes.invariant; last = sym c.a
 pub returns-clause-read : goal.returns-clause-read
 returns-clause-read c = subst (λ qs. IsRead (lexemes c.args.source) s.Qhead c.args.i (record { scopes = qs; own = own_of c.in_ok-own.own.style c.in_ok-own.own.text }) c.in_ok-own.own.end) (sym c.from_vec.ensures)
     (scopes_done (lexemes c.args.source) c.args.i c.scopes.scopes.items c.scopes.j (own_of c.in_ok-own.own.style c.in_ok-own.own.text) c.in_ok-own.own.end c.scopes.invariant c.in_ok-own.ensures)
+
+pub scopes-smaller : goal.scopes-smaller
+scopes-smaller c =
+    let h = inside c.args.source c.scopes.j (stands (lexemes c.args.source) c.scopes.j t.Uident (and_cases (same t.Uident (terminal_at (lexemes c.args.source) c.scopes.j)) (same t.Dot (terminal_at (lexemes c.args.source) (c.scopes.j + 1))) (sym c.at_scope.ensures ∙ c.scopes-test.true)).0 refl) in
+    omega (arith, h)

@@ -1,4 +1,4 @@
-use Rattle.parse_terms.proofs.Cited.{◌+◌, [], ◌∷◌, ◌++◌, sym, ap, ◌∙◌, subst, refl, called, IsRead, lexemes, next_within, again, start, TypeScopes, type_name_there, type_scopes_done, type_scopes_more, inside, lower_text, lower_word, upper_text}
+use Rattle.parse_terms.proofs.Cited.{arith, ◌+◌, [], ◌∷◌, ◌++◌, sym, ap, ◌∙◌, subst, refl, called, IsRead, lexemes, next_within, again, start, TypeScopes, type_name_there, type_scopes_done, type_scopes_more, inside, lower_text, lower_word, upper_text}
 use Rattle.grammar.specs.declared.symbols.Symbol.TheVariants as s
 use Rattle.parse_terms.proofs.names.lower_name.Goals as goal
 
@@ -21,3 +21,9 @@ returns-clause-read c = let n = sym c.at.ensures ∙ c.scopes-test.false in let 
 
 pub returns-clause-name : goal.returns-clause-name
 returns-clause-name c = ap (called c.args.i c.from_vec.result) (lower_word c.in_ok-last.ensures (type_name_there (lexemes c.args.source) c.args.i c.scopes.scopes.items c.scopes.j c.scopes.invariant (sym c.at.ensures ∙ c.scopes-test.false)))
+
+pub text-requires-2 : goal.text-requires-2
+text-requires-2 c = inside c.args.source c.scopes.j (next_within c.scopes.invariant refl)
+
+pub scopes-smaller : goal.scopes-smaller
+scopes-smaller c = let h = inside c.args.source c.scopes.j (next_within c.scopes.invariant refl) in omega (arith, h)

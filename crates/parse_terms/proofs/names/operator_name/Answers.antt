@@ -1,4 +1,4 @@
-use Rattle.parse_terms.proofs.Cited.{true, false, sym, ◌∙◌, refl, op, terminal_at, token_at, lexemes, stands_due, done, expand, take, opname_start, prefix_wild, infix_own, inside, prefix_own}
+use Rattle.parse_terms.proofs.Cited.{rules, ◌+◌, next_within, true, false, sym, ◌∙◌, refl, op, terminal_at, token_at, lexemes, stands_due, done, expand, take, opname_start, prefix_wild, infix_own, inside, prefix_own}
 use Rattle.tokens_why.specs.declared.terminal.Terminal.TheVariants as t
 use Rattle.parse_terms.proofs.names.operator_name.Goals as goal
 
@@ -18,3 +18,17 @@ returns c = record {
   named = sym (prefix_own c.in_ok-word.ensures);
   is = (done (take (expand (opname_start c.requires) t.Wild (prefix_wild c.requires (sym c.at-closed.ensures ∙ c.if-closed.false)) refl refl)) _ refl (λ k us. refl));
 }
+
+pub overflow_add-behind : goal.overflow_add-behind
+overflow_add-behind c = let h = inside c.args.source c.args.i (stands_due c.requires refl) in search rules
+
+pub overflow_add-result : goal.overflow_add-result
+overflow_add-result c = let h = inside c.args.source (c.args.i + 1) (next_within (opname_start c.requires) refl) in search rules
+
+pub overflow_add-result-2 : goal.overflow_add-result-2
+overflow_add-result-2 c = let h = inside c.args.source (c.args.i + 1) (next_within (opname_start c.requires) refl) in search rules
+
+pub overflow_add-result-3 : goal.overflow_add-result-3
+overflow_add-result-3 c =
+    let h = inside c.args.source (c.args.i + 1 + 1) (next_within (expand (opname_start c.requires) t.Wild (prefix_wild c.requires (sym c.at-closed.ensures ∙ c.if-closed.false)) refl refl) refl) in
+    search rules

@@ -1,4 +1,4 @@
-use Rattle.parse_terms.proofs.Cited.{◌+◌, [], sym, ap, ◌∙◌, subst, refl, ◌≡◌, ◌&&◌, ◌∷◌, false, own_of, IsRead, terminal_at, lexemes, same, can_next, stands_due, done, expand, start, none_of, pass, next, operator_start, inside, lower_own, upper_own}
+use Rattle.parse_terms.proofs.Cited.{rules, ◌+◌, [], sym, ap, ◌∙◌, subst, refl, ◌≡◌, ◌&&◌, ◌∷◌, false, own_of, IsRead, terminal_at, lexemes, same, can_next, stands_due, done, expand, start, none_of, pass, next, operator_start, inside, lower_own, upper_own}
 use Rattle.tokens_why.specs.declared.terminal.Terminal.TheVariants as t
 use Rattle.grammar.specs.declared.symbols.Symbol.TheVariants as s
 use Rattle.syntax_why.specs.declared.names.Style.TheVariants as style
@@ -25,3 +25,9 @@ operator_name-requires c = can_next (operator_start c.requires.can (sym c.at-is_
 pub returns : goal.returns
 returns c = let r = c.in_ok-name.ensures in subst (λ o. IsRead (lexemes c.args.source) s.Qhead c.args.i (record { scopes = []; own = o }) c.in_ok-name.name.end) r.named
     (done (next (operator_start c.requires.can (sym c.at-is_lower.ensures ∙ c.if-is_lower.false) (sym c.at-is_upper.ensures ∙ c.if-is_upper.false) (sym c.at-is_star.ensures ∙ c.if-is_star.false)) r.is) _ refl (λ k us. refl))
+
+pub overflow_add-result-then-is_star : goal.overflow_add-result-then-is_star
+overflow_add-result-then-is_star c = let h = inside c.args.source c.args.i (stands_due c.requires.can refl) in search rules
+
+pub overflow_add-i : goal.overflow_add-i
+overflow_add-i c = let h = inside c.args.source c.args.i (stands_due c.requires.can refl) in search rules

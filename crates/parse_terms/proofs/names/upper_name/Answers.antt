@@ -1,4 +1,4 @@
-use Rattle.parse_terms.proofs.Cited.{◌+◌, sym, ◌∙◌, subst, refl, called, own_of, IsUpperName, lexemes, stands, UpperWords, inside, upper_words_done, upper_words_more, upper_words_start, upper_words_within}
+use Rattle.parse_terms.proofs.Cited.{arith, ◌+◌, sym, ◌∙◌, subst, refl, called, own_of, IsUpperName, lexemes, stands, UpperWords, inside, upper_words_done, upper_words_more, upper_words_start, upper_words_within}
 use Rattle.tokens_why.specs.declared.terminal.Terminal.TheVariants as t
 use Rattle.syntax_why.specs.declared.names.Style.TheVariants as style
 use Rattle.parse_terms.proofs.names.upper_name.Goals as goal
@@ -21,3 +21,8 @@ pub returns : goal.returns
 returns c = let n = sym c.at.ensures ∙ c.scopes-test.false in
     subst (λ qs. IsUpperName (lexemes c.args.source) c.args.i (called c.args.i qs (own_of style.Plain c.scopes.last)) c.scopes.j) (sym c.from_vec.ensures)
     (upper_words_done (lexemes c.args.source) c.args.i c.scopes.scopes.items c.scopes.last c.scopes.j c.scopes.invariant n)
+
+pub scopes-smaller : goal.scopes-smaller
+scopes-smaller c =
+    let h = inside c.args.source (c.scopes.j + 1) (upper_words_within (lexemes c.args.source) c.args.i c.scopes.scopes.items c.scopes.last c.scopes.j c.scopes.invariant (sym c.at.ensures ∙ c.scopes-test.true)) in
+    omega (arith, h)

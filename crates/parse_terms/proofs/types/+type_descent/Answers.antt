@@ -1,4 +1,4 @@
-use Rattle.parse_terms.proofs.Cited.{rules, ◌≤◌, ◌+◌, [], ◌∷◌, ◌++◌, map, sym, ap, ◌∙◌, subst, refl, map-append, at, called, composed, enclosed, lower, more_forms, no_forms, called_of, form_of, types, form_of_node-Group, form_of_node-Named, IsRead, begins_atype, terminal_at, token_at, lexemes, can_next, next, next_within, stands_due, done, side_start, side_item, stands_by, side_more, side_done, expand, start, again, many_more, many, only, TypeList, Types, atype_none, atype_some, first_type_start, forms_many, group_part_start, group_start, named_part_start, named_start, inside, upto}
+use Rattle.parse_terms.proofs.Cited.{arith, rules, ◌≤◌, ◌+◌, [], ◌∷◌, ◌++◌, map, sym, ap, ◌∙◌, subst, refl, map-append, at, called, composed, enclosed, lower, more_forms, no_forms, called_of, form_of, types, form_of_node-Group, form_of_node-Named, IsRead, begins_atype, terminal_at, token_at, lexemes, can_next, next, next_within, stands_due, done, side_start, side_item, stands_by, side_more, side_done, expand, start, again, many_more, many, only, TypeList, Types, atype_none, atype_some, first_type_start, forms_many, group_part_start, group_start, named_part_start, named_start, inside, upto}
 use Rattle.syntax_why.specs.Forms.{type_variable}
 use Rattle.syntax_why.proofs.TreeLemmas.{form_of_node-Var}
 use Rattle.parse_terms.proofs.TextsRead.{variable_text}
@@ -78,3 +78,44 @@ type_tree-returns-then-is_variable m c = subst (λ f. IsRead (lexemes c.args.sou
 pub argument-returns-then-is_variable : goal.argument-returns-then-is_variable
 argument-returns-then-is_variable m c = subst (λ f. IsRead (lexemes c.args.source) s.Atype c.args.i f (c.args.i + 1)) (sym (c.new.ensures ∙ form_of_node-Var _ _ ∙ ap (λ a. type_variable a c.in_ok-word.word) c.place-here.ensures ∙ ap (type_variable (at c.args.i)) (variable_text c.in_ok-word.ensures (sym c.at-is_variable.ensures ∙ c.if-is_variable.true))))
     (done (expand (start c.requires) t.TyVar (sym c.at-is_variable.ensures ∙ c.if-is_variable.true) refl refl) (type_variable (at c.args.i) (token_at (lexemes c.args.source) c.args.i).text) refl (λ k us. refl))
+
+-- a token stands here, so the next number fits
+
+pub type_tree-text-requires : goal.type_tree-text-requires
+type_tree-text-requires m c = inside c.args.source c.args.i (stands_due c.requires refl)
+
+pub type_tree-overflow_add-result : goal.type_tree-overflow_add-result
+type_tree-overflow_add-result m c = let h = inside c.args.source c.args.i (stands_due c.requires refl) in search rules
+
+pub type_tree-overflow_add-i : goal.type_tree-overflow_add-i
+type_tree-overflow_add-i m c = let h = inside c.args.source c.args.i (stands_due c.requires refl) in search rules
+
+pub argument-text-requires : goal.argument-text-requires
+argument-text-requires m c = inside c.args.source c.args.i (stands_due c.requires refl)
+
+pub argument-overflow_add-result : goal.argument-overflow_add-result
+argument-overflow_add-result m c = let h = inside c.args.source c.args.i (stands_due c.requires refl) in search rules
+
+pub argument-overflow_add-i : goal.argument-overflow_add-i
+argument-overflow_add-i m c = let h = inside c.args.source c.args.i (stands_due c.requires refl) in search rules
+
+pub type_arguments-arguments-smaller : goal.type_arguments-arguments-smaller
+type_arguments-arguments-smaller m c =
+    let h = inside c.args.source c.arguments.j (stands_by begins_atype (lexemes c.args.source) c.arguments.j refl (sym c.at_type.ensures ∙ c.arguments-test.true)) in
+    let a : c.arguments.j + 1 ≤ c.in_ok-next.end = c.in_ok-next.ensures.ahead in
+    omega (arith, h, a)
+
+pub type_list-overflow_add-result : goal.type_list-overflow_add-result
+type_list-overflow_add-result m c = let h = inside c.args.source c.args.i (stands_due c.requires refl) in search rules
+
+pub type_list-overflow_add-j : goal.type_list-overflow_add-j
+type_list-overflow_add-j m c = let h = inside c.args.source c.more.j (next_within c.more.invariant refl) in search rules
+
+pub type_list-more-smaller : goal.type_list-more-smaller
+type_list-more-smaller m c =
+    let h = inside c.args.source c.more.j (next_within c.more.invariant refl) in
+    let a : c.more.j + 1 + 1 ≤ c.in_ok-next.end = c.in_ok-next.ensures.ahead in
+    omega (arith, h, a)
+
+pub type_list-overflow_add-result-2 : goal.type_list-overflow_add-result-2
+type_list-overflow_add-result-2 m c = let h = inside c.args.source c.more.j (next_within c.more.invariant refl) in search rules

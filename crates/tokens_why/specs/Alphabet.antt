@@ -1,6 +1,6 @@
 -- The terminals in order, and the infix operators among them.
 use Rattle.std.specs.Prelude.{ℕ, Bool, nat_eq, List, [], ◌∷◌}
-use Rattle.grammar.specs.Common.{Terminal}
+use Rattle.tokens_why.specs.Common.{Terminal}
 use Rattle.tokens_why.specs.declared.terminal.Terminal.TheVariants as t
 
 abbrev pub number : Terminal → ℕ
