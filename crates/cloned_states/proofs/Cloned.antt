@@ -11,13 +11,13 @@ use Rattle.scope_moves.specs.declared.moves.Move.{Move}
 use Rattle.scope_moves.specs.Moves.{handed}
 use Rattle.elab_walk.specs.Scoped.{IsScopedEntry}
 use Rattle.elab_parts.specs.Entries.{builtin}
-use Rattle.elab_typed.specs.Scopes.{IsPart, IsTypedSignature, AreTypedScopes}
-use Rattle.elab_typed.proofs.Words.{same_word, self_word}
-use Rattle.elab_typed.proofs.Extended.{scopes_part}
-use Rattle.typed_moves.specs.Moves.{IsTypedMove, AreTypedMoves}
-use Rattle.typed_moves.proofs.Scopes.{brought_typed, handed_typed, moves_more}
-use Rattle.elab_valid.specs.Lists.{after}
-use Rattle.elab_valid.proofs.Lists.{list_part}
+use Rattle.valid_tasks.specs.Scopes.{IsPart, IsTypedSignature, AreTypedScopes}
+use Rattle.valid_tasks.proofs.Words.{same_word, self_word}
+use Rattle.valid_tasks.proofs.Extended.{scopes_part}
+use Rattle.sound_states.specs.Moves.{IsTypedMove, AreTypedMoves}
+use Rattle.sound_states.proofs.Scopes.{brought_typed, handed_typed, moves_more}
+use Rattle.valid_tasks.specs.Lists.{after}
+use Rattle.valid_tasks.proofs.Lists.{list_part}
 use Rattle.goal_tasks.specs.Theories.{GoalTree}
 use Rattle.valid_tasks.specs.Built.{IsBuiltRight}
 use Rattle.valid_tasks.specs.Joined.{has_theory, fresh, Agree}
@@ -29,18 +29,17 @@ use Rattle.theory_states.specs.States.{KnownTree, StateTree, visible_in, visible
 use Rattle.sound_states.specs.Whole.{IsWhole}
 use Rattle.sound_states.specs.Sound.{is_other, others, IsSoundAmong, IsSoundAxiom, IsSoundTheory, IsSoundKnown, IsApart, IsSoundOpened, paths, AreOf, IsSoundState}
 use Rattle.sound_states.proofs.Places.{places_agree, slice_in}
-use Rattle.sound_states.proofs.Used.{among_more}
-use Rattle.sound_states.proofs.Further.{axiom_more}
-use Rattle.cloned_states.proofs.Kept.{others_agree, slice_either, known_further, apart_further}
-use Rattle.valid_clones.specs.Cloning.{IsMadeRight, AreMadeRight, IsCloning}
-use Rattle.valid_clones.specs.Steps.{Step, declarations_of, taken_of, made_from, IsClone}
-use Rattle.valid_clones.proofs.Vocabularies.{made_below}
-use Rattle.valid_clones.proofs.Joining.{into_made}
-use Rattle.valid_clones.proofs.Signatures.{made_right, signature_of}
-use Rattle.valid_clones.proofs.Goals.{right_more}
-use Rattle.valid_clones.proofs.Steps.{clone_sound}
+use Rattle.sound_states.proofs.Used.{others_agree, among_more}
+use Rattle.sound_states.proofs.Further.{slice_either, known_further, apart_further, axiom_more}
+use Rattle.cloned_states.specs.Cloning.{IsMadeRight, AreMadeRight, IsCloning}
+use Rattle.cloned_states.specs.Steps.{Step, declarations_of, taken_of, made_from, IsClone}
+use Rattle.cloned_states.proofs.Vocabularies.{made_below}
+use Rattle.cloned_states.proofs.Joining.{into_made}
+use Rattle.cloned_states.proofs.Signatures.{made_right, signature_of}
+use Rattle.cloned_states.proofs.Goals.{right_more}
+use Rattle.cloned_states.proofs.Steps.{clone_sound}
 use Rattle.cloned_states.specs.Cloned.{IsAfterClone, IsSoundClone}
-use Rattle.cloned_states.proofs.Others.{others_made, made_right_of}
+use Rattle.cloned_states.proofs.StateOthers.{others_made, made_right_of}
 
 filtered_in : (p : DeclarationTree → Bool) (ds : List DeclarationTree) (d : DeclarationTree) → Contains (filter p ds) d → Contains ds d
 filtered_in p ds d c = All-contains (Contains ds) (filter p ds) d (All-filter p (Contains ds) ds (λ i e l. Contains-get_or ds i e l)) c

@@ -1,4 +1,24 @@
-pub mod Kept
+pub mod Numbers
+mod Lefts
+pub mod Rights
+pub mod Mapped
+pub mod Copies
+pub mod Outcomes
+pub mod Vocabularies
+pub mod Extending
+pub mod Copied
+pub mod Taken
 pub mod Others
-pub mod Cloned
+pub mod Joining
+pub mod Signatures
+pub mod Goals
+pub mod CopiedRights
+pub mod Trials
+pub mod Steps
+pub mod Entries
 pub mod Names
+pub mod StateOthers
+pub mod Cloned
+pub mod StateNames
+pub mod PlaceSteps
+pub mod Moves

@@ -8,15 +8,15 @@ use Rattle.syntax_why.specs.declared.declarations.Link.{Link}
 use Rattle.scope_moves.specs.declared.moves.Move.{Move}
 use Rattle.scope_moves.specs.Moves.{brought, handed}
 use Rattle.elab_walk.specs.Scoped.{IsScopedEntry}
-use Rattle.typed_moves.specs.Moves.{AreTypedMoves}
-use Rattle.elab_valid.specs.Lists.{after}
+use Rattle.sound_states.specs.Moves.{AreTypedMoves}
+use Rattle.valid_tasks.specs.Lists.{after}
 use Rattle.goal_tasks.specs.Theories.{GoalTree}
 use Rattle.valid_tasks.specs.Built.{IsBuiltRight}
 use Rattle.theory_states.specs.declared.states.AxiomAt.{AxiomAt}
 use Rattle.theory_states.specs.States.{KnownTree, StateTree, visible_in, visible_now}
 use Rattle.sound_states.specs.Sound.{others, IsSoundAmong, IsSoundAxiom}
-use Rattle.valid_clones.specs.Cloning.{KeepsBuilt}
-use Rattle.valid_clones.specs.Steps.{Step, declarations_of, taken_of, made_from, StepFits}
+use Rattle.cloned_states.specs.Cloning.{KeepsBuilt}
+use Rattle.cloned_states.specs.Steps.{Step, declarations_of, taken_of, made_from, StepFits}
 
 -- the places of the declarations: those that were visible, those of other theories that the clone takes over, and new ones
 pub record AreClonedPlaces (c c' : StateTree) (t : KnownTree) : Type 0 where

@@ -1,1 +1,10 @@
+pub mod Sides
+pub mod Placed
+pub mod Cloning
+pub mod Rights
+pub mod Trials
+pub mod Steps
+pub mod Entries
 pub mod Cloned
+pub mod PlaceSteps
+pub mod Moves

@@ -15,20 +15,20 @@ use Rattle.tasks.specs.Typing.{IsTypeSymbol}
 use Rattle.tasks.specs.Valid.{own_type}
 use Rattle.elab_walk.specs.Scoped.{IsScopedEntry}
 use Rattle.elab_parts.specs.Entries.{builtin, is_tuple, type_entry}
-use Rattle.elab_typed.specs.Scopes.{is_projection_kind, IsTypedEntry, IsTypedSignature, IsTypedThing}
-use Rattle.elab_typed.proofs.Words.{both_true, self_word}
-use Rattle.elab_typed.proofs.Tuples.{variables_in, own_in, type_entry_typed, constructor_typed}
-use Rattle.elab_typed.proofs.Signed.{some_at}
+use Rattle.valid_tasks.specs.Scopes.{is_projection_kind, IsTypedEntry, IsTypedSignature, IsTypedThing}
+use Rattle.valid_tasks.proofs.Words.{both_true, self_word}
+use Rattle.valid_tasks.proofs.Tuples.{variables_in, own_in, type_entry_typed, constructor_typed}
+use Rattle.valid_tasks.proofs.Signed.{some_at}
 use Rattle.names_space.specs.Names.{Entry}
-use Rattle.typed_moves.specs.Moves.{IsTypedMove}
-use Rattle.elab_valid.specs.Lists.{is_built, after}
+use Rattle.sound_states.specs.Moves.{IsTypedMove}
+use Rattle.valid_tasks.specs.Lists.{is_built, after}
 use Rattle.goal_tasks.specs.Meaning.{IsTupleAt}
 use Rattle.valid_tasks.specs.Built.{IsOfTuple, IsBuiltRight}
 use Rattle.valid_tasks.proofs.TupleDecls.{type_is, constructor_is}
 use Rattle.valid_tasks.proofs.Kept.{within}
 use Rattle.valid_tasks.proofs.Joined.{matched_usable}
 use Rattle.valid_tasks.proofs.Grown.{none_sound}
-use Rattle.valid_tasks.proofs.Outcomes.{begins as begins_right}
+use Rattle.valid_tasks.proofs.TaskOutcomes.{begins as begins_right}
 use Rattle.valid_tasks.proofs.Distinct.{distinct_pairs}
 use Rattle.theory_states.specs.States.{KnownTree, StateTree, at_places, opened_empty, known_as, known_named}
 use Rattle.sound_states.specs.Whole.{IsWhole}

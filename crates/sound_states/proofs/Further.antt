@@ -11,12 +11,12 @@ use Rattle.tasks.specs.Vocabulary.{Vocabulary, is_empty}
 use Rattle.elab_parts.specs.Entries.{builtin}
 use Rattle.goal_tasks.specs.Theories.{GoalTree}
 use Rattle.scope_moves.specs.declared.moves.Move.{Move}
-use Rattle.elab_typed.specs.Scopes.{IsPart, IsTypedSignature, AreTypedScopes}
-use Rattle.elab_typed.proofs.Words.{same_word, self_word}
-use Rattle.typed_moves.specs.Moves.{IsTypedMove, AreTypedMoves}
-use Rattle.typed_moves.proofs.Scopes.{moves_more}
-use Rattle.elab_valid.specs.Lists.{after}
-use Rattle.elab_valid.proofs.Lists.{list_part}
+use Rattle.valid_tasks.specs.Scopes.{IsPart, IsTypedSignature, AreTypedScopes}
+use Rattle.valid_tasks.proofs.Words.{same_word, self_word}
+use Rattle.sound_states.specs.Moves.{IsTypedMove, AreTypedMoves}
+use Rattle.sound_states.proofs.Scopes.{moves_more}
+use Rattle.valid_tasks.specs.Lists.{after}
+use Rattle.valid_tasks.proofs.Lists.{list_part}
 use Rattle.valid_tasks.specs.Built.{IsBuiltRight}
 use Rattle.valid_tasks.specs.Tasks.{AreSound}
 use Rattle.valid_tasks.proofs.Distinct.{IsDistinct, distinct_pairs, pairs_distinct, distinct_both, range_contains, range_distinct}
@@ -35,7 +35,7 @@ below [] k d q = absurd (cc)
 below (x ∷ xs) zero d q = omega arith
 below (x ∷ xs) (suc k) d q = let l = below xs k d q in omega arith
 
-slice_either : (xs ys : List DeclarationTree) (k : ℕ) (d : DeclarationTree) → slice_get (xs ++ ys) k ≡ Some d → (slice_get xs k ≡ Some d) ⊎ ((i : ℕ) × (k ≡ length xs + i) × (slice_get ys i ≡ Some d))
+pub slice_either : (xs ys : List DeclarationTree) (k : ℕ) (d : DeclarationTree) → slice_get (xs ++ ys) k ≡ Some d → (slice_get xs k ≡ Some d) ⊎ ((i : ℕ) × (k ≡ length xs + i) × (slice_get ys i ≡ Some d))
 slice_either [] ys k d q = inr (k, omega arith, q)
 slice_either (x ∷ xs) ys zero d q = inl q
 slice_either (x ∷ xs) ys (suc k) d q = of (slice_either xs ys k d q)
@@ -122,7 +122,7 @@ module _ (s s' : List Tree) (g : Grows s s') (all more : List SymbolTree) (built
     still_apart : IsApart (decls ++ new) path t
     still_apart = subst (All (λ (d : DeclarationTree). d.theory ≢ path)) (sym same) apart
 
-  known_further : (t : KnownTree) → IsApart decls path t → IsSoundKnown s all decls t → IsSoundKnown s' (all ++ more) (decls ++ new) t
+  pub known_further : (t : KnownTree) → IsApart decls path t → IsSoundKnown s all decls t → IsSoundKnown s' (all ++ more) (decls ++ new) t
   known_further t apart h = record {
     earlier = h.earlier;
     later = h.later ++ more;
@@ -130,7 +130,7 @@ module _ (s s' : List Tree) (g : Grows s s') (all more : List SymbolTree) (built
     theory = known_theory t apart h.earlier h.theory;
   }
 
-  apart_further : (t : KnownTree) → IsApart decls path t → IsSoundKnown s all decls t → IsApart (decls ++ new) path t
+  pub apart_further : (t : KnownTree) → IsApart decls path t → IsSoundKnown s all decls t → IsApart (decls ++ new) path t
   apart_further t apart h = still_apart t apart h.earlier h.theory
 
 -- ---- the open theory

@@ -1,3 +1,9 @@
+pub mod Scopes
+pub mod Types
+pub mod Trees
+pub mod Forms
+pub mod Declarations
+pub mod Keeping
 pub mod Places
 pub mod Used
 pub mod Begun

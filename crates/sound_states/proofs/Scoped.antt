@@ -10,12 +10,12 @@ use Rattle.syntax_why.specs.declared.names.Path.{Path}
 use Rattle.syntax_why.specs.declared.declarations.Link.{Link}
 use Rattle.names_space.specs.Names.{Names}
 use Rattle.scope_moves.specs.declared.moves.Move.{Move}
-use Rattle.elab_typed.specs.Scopes.{AreTypedScopes}
-use Rattle.typed_moves.specs.Moves.{IsTypedMove, AreTypedMoves}
-use Rattle.elab_valid.specs.Lists.{after}
+use Rattle.valid_tasks.specs.Scopes.{AreTypedScopes}
+use Rattle.sound_states.specs.Moves.{IsTypedMove, AreTypedMoves}
+use Rattle.valid_tasks.specs.Lists.{after}
 use Rattle.goal_tasks.specs.Theories.{GoalTree, TheoriesTree}
 use Rattle.goal_tasks.specs.Tasks.{task_for}
-use Rattle.valid_tasks.proofs.Sound.{task_valid}
+use Rattle.valid_tasks.proofs.TaskSound.{task_valid}
 use Rattle.theory_states.specs.States.{KnownTree, StateTree, at_places, visible_now, has_path, known_named}
 use Rattle.theory_states.specs.Uses.{path_text, last_part, alias_text, used, IsUsed}
 use Rattle.sound_states.specs.Sound.{IsSoundAmong, IsSoundTheory, IsSoundKnown, IsApart, IsSoundOpened, IsSoundState}

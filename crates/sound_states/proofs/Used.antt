@@ -11,12 +11,12 @@ use Rattle.tasks.specs.Vocabulary.{Vocabulary}
 use Rattle.syntax_why.specs.declared.declarations.Link.{Link}
 use Rattle.scope_moves.specs.Moves.{brought, handed}
 use Rattle.goal_tasks.specs.Theories.{GoalTree}
-use Rattle.elab_typed.specs.Scopes.{IsPart, IsTypedSignature, AreTypedScopes}
-use Rattle.elab_typed.proofs.Words.{same_word, self_word}
-use Rattle.elab_typed.proofs.Extended.{scopes_part}
-use Rattle.typed_moves.specs.Moves.{IsTypedMove, AreTypedMoves}
-use Rattle.typed_moves.proofs.Scopes.{brought_typed, handed_typed, moves_more}
-use Rattle.elab_valid.specs.Lists.{after}
+use Rattle.valid_tasks.specs.Scopes.{IsPart, IsTypedSignature, AreTypedScopes}
+use Rattle.valid_tasks.proofs.Words.{same_word, self_word}
+use Rattle.valid_tasks.proofs.Extended.{scopes_part}
+use Rattle.sound_states.specs.Moves.{IsTypedMove, AreTypedMoves}
+use Rattle.sound_states.proofs.Scopes.{brought_typed, handed_typed, moves_more}
+use Rattle.valid_tasks.specs.Lists.{after}
 use Rattle.valid_tasks.specs.Joined.{has_theory, fresh, Agree}
 use Rattle.valid_tasks.specs.Tasks.{AreSound, IsSoundAfter}
 use Rattle.valid_tasks.proofs.Distinct.{distinct_pairs, pairs_distinct}
@@ -37,7 +37,7 @@ module _ (path : List ℕ) where
   abbrev p : DeclarationTree → Bool
   p d = is_other path d
 
-  other_is : (d : DeclarationTree) → d.theory ≢ path → p d ≡ true
+  pub other_is : (d : DeclarationTree) → d.theory ≢ path → p d ≡ true
   other_is d n = of (bytes_eq d.theory path) refl
     where
       of : (b : Bool) → bytes_eq d.theory path ≡ b → not b ≡ true
@@ -55,7 +55,7 @@ module _ (path : List ℕ) where
       of false e (inr z) f = f z
 
   -- a theory is there where it is there without this one
-  theory_other : (ds : List DeclarationTree) (t : List ℕ) → t ≢ path → has_theory (others path ds) t ≡ has_theory ds t
+  pub theory_other : (ds : List DeclarationTree) (t : List ℕ) → t ≢ path → has_theory (others path ds) t ≡ has_theory ds t
   theory_other [] t n = refl
   theory_other (x ∷ ds) t n = of (bytes_eq x.theory path) refl (theory_other ds t n)
     where
@@ -88,7 +88,7 @@ module _ (path : List ℕ) where
   others_joined : (ds es : List DeclarationTree) → ((d : DeclarationTree) → Contains es d → d.theory ≢ path) → others path (ds ++ fresh ds es) ≡ others path ds ++ fresh (others path ds) es
   others_joined ds es h = filter-append p ds (fresh ds es) ∙ ap (λ (xs : List DeclarationTree). others path ds ++ xs) (fresh_others ds es h)
 
-  others_agree : (ds es : List DeclarationTree) → ((d : DeclarationTree) → Contains es d → d.theory ≢ path) → Agree ds es → Agree (others path ds) es
+  pub others_agree : (ds es : List DeclarationTree) → ((d : DeclarationTree) → Contains es d → d.theory ≢ path) → Agree ds es → Agree (others path ds) es
   others_agree ds es h agree = λ i e l t.
       let d = get_or es i e in
       let c : Contains es d = Contains-get_or es i e l in

@@ -1,2 +1,5 @@
+pub mod Moves
+pub mod Morphisms
+pub mod Typed
 pub mod Whole
 pub mod Sound

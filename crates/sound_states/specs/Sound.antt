@@ -10,9 +10,9 @@ use Rattle.tasks.specs.Vocabulary.{is_empty}
 use Rattle.tasks.specs.Valid.{IsQuoted}
 use Rattle.elab_walk.specs.Scoped.{IsScopedEntry}
 use Rattle.elab_parts.specs.Entries.{builtin}
-use Rattle.elab_typed.specs.Scopes.{IsTypedSignature, AreTypedScopes}
-use Rattle.typed_moves.specs.Moves.{AreTypedMoves}
-use Rattle.elab_valid.specs.Lists.{after}
+use Rattle.valid_tasks.specs.Scopes.{IsTypedSignature, AreTypedScopes}
+use Rattle.sound_states.specs.Moves.{AreTypedMoves}
+use Rattle.valid_tasks.specs.Lists.{after}
 use Rattle.goal_tasks.specs.Theories.{GoalTree}
 use Rattle.scope_moves.specs.declared.moves.Move.{Move}
 use Rattle.valid_tasks.specs.Built.{IsBuiltRight}

@@ -1,2 +1,2 @@
-mod Alike
+pub mod Alike
 pub mod Steps

@@ -10,17 +10,17 @@ use Rattle.tasks.specs.Task.{SymbolTree, symbol_or, int_symbol, DeclarationTree,
 use Rattle.tasks.specs.Roles.{is_constructor, maker, role_by}
 use Rattle.tasks.specs.Vocabulary.{passes, is_empty, is_constructor_kind}
 use Rattle.elab_parts.specs.Entries.{builtin}
-use Rattle.elab_typed.specs.Scopes.{IsPart}
-use Rattle.elab_typed.proofs.Extended.{further}
-use Rattle.elab_valid.specs.Lists.{is_built, after, AreValidAfter}
-use Rattle.elab_valid.proofs.Propositions.{formula_more}
-use Rattle.elab_valid.proofs.Stays.{declaration_stays}
+use Rattle.valid_tasks.specs.Scopes.{IsPart}
+use Rattle.valid_tasks.proofs.Extended.{further}
+use Rattle.valid_tasks.specs.Lists.{is_built, after, AreValidAfter}
+use Rattle.valid_tasks.proofs.Propositions.{formula_more}
+use Rattle.valid_tasks.proofs.Stays.{declaration_stays}
 use Rattle.goal_tasks.specs.Theories.{GoalTree}
 use Rattle.valid_tasks.specs.Built.{IsBuiltRight}
 use Rattle.valid_tasks.specs.Tasks.{IsOwn, IsOfTheory, AreSound, IsQuotedAt, IsSoundGoal, IsSoundAfter}
 use Rattle.valid_tasks.proofs.Distinct.{IsDistinct, distinct_pairs, pairs_distinct}
 use Rattle.valid_tasks.proofs.TupleDecls.{made_both}
-use Rattle.valid_tasks.proofs.Sound.{each_made}
+use Rattle.valid_tasks.proofs.TaskSound.{each_made}
 
 pub none_sound : (symbols : List SymbolTree) → IsBuiltRight symbols → AreSound symbols []
 none_sound symbols b = record { built = b; valid = tt; once = distinct_pairs [] tt; own = All-nil (IsOwn symbols); theories = All-nil (IsOfTheory symbols) }

@@ -10,18 +10,18 @@ use Rattle.tasks.specs.Roles.{is_constructor, is_made_by, maker, role_by}
 use Rattle.tasks.specs.Vocabulary.{passes, is_constructor_kind}
 use Rattle.tasks.specs.Valid.{IsValidDecl}
 use Rattle.tasks.proofs.Declared.{none_in, any_iff, maker_made, made_maker}
-use Rattle.elab_typed.specs.Scopes.{IsPart, IsTypedEntry, IsTypedSignature}
-use Rattle.elab_typed.proofs.Extended.{further, entry_more}
-use Rattle.elab_typed.proofs.Signed.{some_at}
-use Rattle.elab_typed.proofs.Words.{self_word}
-use Rattle.elab_valid.specs.Lists.{is_built, after, AreValidAfter}
-use Rattle.elab_valid.proofs.Lists.{or_more, list_part}
-use Rattle.elab_valid.proofs.Stays.{declaration_stays}
+use Rattle.valid_tasks.specs.Scopes.{IsPart, IsTypedEntry, IsTypedSignature}
+use Rattle.valid_tasks.proofs.Extended.{further, entry_more}
+use Rattle.valid_tasks.proofs.Signed.{some_at}
+use Rattle.valid_tasks.proofs.Words.{self_word}
+use Rattle.valid_tasks.specs.Lists.{is_built, after, AreValidAfter}
+use Rattle.valid_tasks.proofs.Lists.{or_more, list_part}
+use Rattle.valid_tasks.proofs.Stays.{declaration_stays}
 use Rattle.valid_tasks.specs.Joined.{has_theory, fresh, Agree}
 use Rattle.valid_tasks.specs.Tasks.{IsOwn, IsOfTheory, AreSound}
 use Rattle.valid_tasks.proofs.Distinct.{IsDistinct, distinct_pairs, pairs_distinct, distinct_both}
 use Rattle.valid_tasks.proofs.TupleDecls.{made_both}
-use Rattle.valid_tasks.proofs.Sound.{each_made, maker_all}
+use Rattle.valid_tasks.proofs.TaskSound.{each_made, maker_all}
 use Rattle.valid_tasks.proofs.Grown.{own_below, more_part, sound_more, then_valid, front_distinct}
 
 -- ---- declarations in lists

@@ -11,10 +11,10 @@ use Rattle.tasks.specs.Vocabulary.{is_constructor_kind}
 use Rattle.tasks.specs.Valid.{own_type}
 use Rattle.syntax_why.specs.Lexeme.{Word}
 use Rattle.elab_parts.specs.Entries.{projections, builtin, tuple_entries, is_tuple, tuple_from, tuple_in, wanting_tuple, wanting_tuples}
-use Rattle.elab_typed.specs.Scopes.{is_projection_kind}
-use Rattle.elab_typed.proofs.Instances.{count_variables}
-use Rattle.elab_typed.proofs.Extended.{further, in_either, slice_all}
-use Rattle.elab_valid.specs.Lists.{is_built}
+use Rattle.valid_tasks.specs.Scopes.{is_projection_kind}
+use Rattle.valid_tasks.proofs.Instances.{count_variables}
+use Rattle.valid_tasks.proofs.Extended.{further, in_either, slice_all}
+use Rattle.valid_tasks.specs.Lists.{is_built}
 use Rattle.goal_tasks.specs.Meaning.{IsTupleAt, AreTuples}
 use Rattle.valid_tasks.specs.Built.{IsOfTuple, IsBuiltRight}
 

@@ -15,15 +15,15 @@ use Rattle.elab_parts.specs.declared.made.Elaborated.{Elaborated}
 use Rattle.elab_parts.specs.Declarations.{Declaration, declaration}
 use Rattle.elab_parts.specs.Outcomes.{Setting}
 use Rattle.elab_terms.specs.Outcomes.{IsElaborated}
-use Rattle.elab_valid.specs.Valid.{IsTypedSetting, HaveNoFault}
-use Rattle.elab_valid.specs.Lists.{after, AreValidAfter, IsNoGoal, MakesBelow, IsGroupWhole}
-use Rattle.elab_valid.proofs.Steps.{next_declaration}
+use Rattle.valid_tasks.specs.Valid.{IsTypedSetting, HaveNoFault}
+use Rattle.valid_tasks.specs.Lists.{after, AreValidAfter, IsNoGoal, MakesBelow, IsGroupWhole}
+use Rattle.valid_tasks.proofs.Steps.{next_declaration}
 use Rattle.valid_tasks.specs.Built.{IsBuiltRight}
 use Rattle.valid_tasks.specs.Tasks.{IsOwn, IsOfTheory, AreSound}
 use Rattle.valid_tasks.proofs.Distinct.{IsDistinct, distinct_pairs, pairs_distinct, distinct_both}
 use Rattle.valid_tasks.proofs.TupleDecls.{made_both}
-use Rattle.valid_tasks.proofs.Sound.{each_made}
-use Rattle.valid_tasks.proofs.Outcomes.{elaborated_kept}
+use Rattle.valid_tasks.proofs.TaskSound.{each_made}
+use Rattle.valid_tasks.proofs.TaskOutcomes.{elaborated_kept}
 use Rattle.valid_tasks.proofs.Once.{IsOnce, outcome_once}
 use Rattle.valid_tasks.proofs.Grown.{sound_more, then_valid}
 

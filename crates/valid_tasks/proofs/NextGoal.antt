@@ -24,15 +24,15 @@ use Rattle.elab_parts.specs.declared.made.Elaborated.{Elaborated}
 use Rattle.elab_parts.specs.Declarations.{Called, proposition, declaration}
 use Rattle.elab_parts.specs.Outcomes.{Setting, tuples_wanting}
 use Rattle.elab_terms.specs.Outcomes.{proposition_seen, entry_numbers, rigid_types, IsProposition, IsElaborated}
-use Rattle.elab_typed.specs.Scopes.{IsPart, IsTypedSignature}
-use Rattle.elab_typed.proofs.Extended.{entry_more, agrees_part, signature_agrees}
-use Rattle.elab_valid.specs.Valid.{IsTypedSetting, HaveNoFault, IsValidElaborated}
-use Rattle.elab_valid.specs.Lists.{after, MakesBelow, IsNextGoal}
-use Rattle.elab_valid.proofs.Stays.{declaration_stays}
-use Rattle.elab_valid.proofs.Propositions.{rigid_formula}
-use Rattle.elab_valid.proofs.Elaborated.{elaborated_valid}
-use Rattle.elab_valid.proofs.Steps.{setting, news}
-use Rattle.elab_valid.proofs.Goals.{all_among, at_end, nothing_more, next_goal}
+use Rattle.valid_tasks.specs.Scopes.{IsPart, IsTypedSignature}
+use Rattle.valid_tasks.proofs.Extended.{entry_more, agrees_part, signature_agrees}
+use Rattle.valid_tasks.specs.Valid.{IsTypedSetting, HaveNoFault, IsValidElaborated}
+use Rattle.valid_tasks.specs.Lists.{after, MakesBelow, IsNextGoal}
+use Rattle.valid_tasks.proofs.Stays.{declaration_stays}
+use Rattle.valid_tasks.proofs.Propositions.{rigid_formula}
+use Rattle.valid_tasks.proofs.Elaborated.{elaborated_valid}
+use Rattle.valid_tasks.proofs.Steps.{setting, news}
+use Rattle.valid_tasks.proofs.Goals.{all_among, at_end, nothing_more, next_goal}
 use Rattle.goal_tasks.specs.Theories.{GoalTree}
 use Rattle.valid_tasks.specs.Tasks.{AreSound, IsQuotedAt, IsToProve, IsGoalSaid, IsSoundAfter}
 use Rattle.valid_tasks.proofs.Distinct.{IsDistinct, distinct_pairs}

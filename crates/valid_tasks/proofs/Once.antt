@@ -20,12 +20,12 @@ use Rattle.elab_inductives.specs.Inductives.{as_member, as_members, inductives_s
 use Rattle.elab_types.specs.Algebraics.{entry_count, group_seen, first_type, first_constructor, numbers_from, type_entries, constructor_trees, algebraic_trees, group_trees, group_entries, group_outcome}
 use Rattle.elab_types.specs.Algebraics as group
 use Rattle.elab_terms.specs.Outcomes.{type_outcome, IsOutcome}
-use Rattle.elab_valid.proofs.Algebraics.{types_length}
-use Rattle.elab_valid.proofs.Standing.{count_signed}
-use Rattle.elab_valid.proofs.Made.{AreBetween, wider, one_between, no_numbers, signed_length, defined_between, induced_between}
-use Rattle.elab_valid.proofs.MadeTypes.{numbers_between, cons_between, group_between, group_length, count_types}
+use Rattle.valid_tasks.proofs.Algebraics.{types_length}
+use Rattle.valid_tasks.proofs.Standing.{count_signed}
+use Rattle.valid_tasks.proofs.Made.{AreBetween, wider, one_between, no_numbers, signed_length, defined_between, induced_between}
+use Rattle.valid_tasks.proofs.MadeTypes.{numbers_between, cons_between, group_between, group_length, count_types}
 use Rattle.valid_tasks.proofs.Distinct.{IsDistinct, distinct_both}
-use Rattle.valid_tasks.proofs.Outcomes.{OfTheory, signed_of, types_of, group_of}
+use Rattle.valid_tasks.proofs.TaskOutcomes.{OfTheory, signed_of, types_of, group_of}
 
 -- ---- numbers that follow one another
 between_at : (n m : ℕ) (ks : List ℕ) (k : ℕ) → AreBetween n m ks → Contains ks k → (n ≤ k) × (k < m)

@@ -1,101 +1,191 @@
--- What declarations make keeps right what is built in.
-use Rattle.std.proofs.Common.{◌≡◌, ◌⊎◌, inl, ℕ, zero, suc, Some, false, List, [], ◌∷◌, ◌++◌, map, length, slice_get, get_or, All, refl, sym, ap, ◌∙◌, append-nil}
-use Rattle.std.specs.Str.{bytes_eq}
-use Rattle.std.proofs.lemmas.List.Elements.{All-nil, All-cons, All-append}
+-- What each kind of declaration makes: every new entry is of a tuple, a rigid type variable, or made by the declaration.
+use Rattle.std.proofs.Common.{◌≡◌, inr, ℕ, ◌+◌, ◌≤◌, zero, suc, List, [], ◌∷◌, ◌++◌, map, length, Option, Some, None, refl, sym, ap, ◌∙◌, arith, length-append, append-nil}
+use Rattle.std.proofs.Math.ListN.{length-map}
 use Rattle.trees.specs.Tree.{Tree}
 use Rattle.tasks.specs.Rigid.{rigid_symbol}
-use Rattle.tasks.specs.Meaning.{symbols_at}
-use Rattle.tasks.specs.declared.signature.Signature.{Signature}
-use Rattle.names_space.specs.Names.{Names}
-use Rattle.elab_parts.specs.declared.made.Elaborated.{Elaborated}
-use Rattle.tasks.specs.Task.{SymbolTree, int_symbol, ConTree, AlgebraicTree}
-use Rattle.tasks.specs.Valid.{own_type}
+use Rattle.tasks.specs.Task.{SymbolTree, InductiveTree, Constructs, DeclarationTree, made, made_by, made_by_types}
+use Rattle.unify_types.specs.Assigned.{assign}
 use Rattle.syntax_why.specs.Lexeme.{Word}
+use Rattle.syntax_why.specs.declared.declarations.PropKind.{PropKind}
+use Rattle.elab_names.specs.Abstract.{Form, Expression}
+use Rattle.elab_names.specs.Where.{Where}
+use Rattle.elab_walk.specs.Pieces.{past}
+use Rattle.elab_parts.specs.Entries.{type_entry}
+use Rattle.elab_parts.specs.Declarations.{Called, Member, Algebraic, Inductive, Declaration, abstract_type, alias, algebraic, members, inductive, proposition}
+use Rattle.elab_parts.specs.Outcomes.{Setting, Outcome, over, full_name, tuples_wanting}
 use Rattle.elab_parts.specs.Elaborated.{unseen}
-use Rattle.elab_parts.specs.Entries.{tuple_in, type_entry, projections, constructor_entries, builtin, wanting_tuples}
-use Rattle.elab_parts.specs.Declarations.{Constructor, Algebraic, Member, Declaration, abstract_type, alias, algebraic, members, inductive, proposition}
-use Rattle.elab_parts.specs.Outcomes.{Setting, Outcome, full_name}
 use Rattle.elab_members.specs.Members.{SignatureTree, signed_entries, signature_trees, members_seen}
-use Rattle.elab_groups.specs.Groups.{group_signatures}
-use Rattle.elab_inductives.specs.Inductives.{as_members, before_inductives, inductives_seen}
-use Rattle.elab_types.specs.Algebraics.{group_seen, type_entries, constructors_entries, group_trees, group_entries}
-use Rattle.elab_terms.specs.Outcomes.{alias_seen, proposition_seen, rigid_names, IsOutcome, IsElaborated}
-use Rattle.valid_tasks.specs.Built.{IsOfTuple, IsBuiltRight}
-use Rattle.valid_tasks.proofs.Kept.{IsOfSource, all_kept}
+use Rattle.elab_groups.specs.Groups.{member_piece, member_pieces, most_variables, pieces_trees, BodiesSolved, group_body, group_tuples, before_group, group_signatures, within_group, IsGroup}
+use Rattle.elab_inductives.specs.Inductives.{as_member, as_members, inductives_seen, before_inductives, induced, IsInductiveGroup}
+use Rattle.elab_types.specs.Algebraics.{group_seen, first_type, first_constructor, type_entries, group_trees, group_entries, group_outcome}
+use Rattle.elab_types.specs.Algebraics as group
+use Rattle.elab_terms.specs.Outcomes.{type_outcome, alias_seen, IsAlias, proposition_seen, rigid_names, IsProposition, IsOutcome}
+use Rattle.valid_tasks.proofs.Standing.{count_signed}
+use Rattle.valid_tasks.proofs.Made.{HasFrom, AreBetween, wider, no_numbers, one_between, AreNew, both_new, none_new, tuples_new, rigids_new, signed_new, signed_length, defined_from, induced_from, defined_between, induced_between}
+use Rattle.valid_tasks.proofs.MadeTypes.{group_between, group_length, types_new, group_new, count_types}
 
-rigids_of : (names : List Word) → All IsOfSource (map rigid_symbol names)
-rigids_of [] = All-nil IsOfSource
-rigids_of (x ∷ xs) = All-cons IsOfSource (rigid_symbol x) (map rigid_symbol xs) refl (rigids_of xs)
+pub record IsMade (c : Setting) (o : Outcome) : Type 0 where
+  pub new : AreNew o.decls (length c.symbols) o.symbols
+  pub between : AreBetween (length c.symbols) (length (c.symbols ++ o.symbols)) (made o.decls)
+  -- there is one declaration, or none
+  pub single : length o.decls ≤ 1
 
--- an entry of this theory
-abbrev pub OfTheory : Word → SymbolTree → Type 0
-OfTheory theory e = e.theory ≡ theory
+-- where the first member of a group has no definition, it is the only one
+abbrev pub IsAlone : Declaration → Type 0
+IsAlone (members (m ∷ ms)) = m.body ≡ None → ms ≡ []
+IsAlone _ = Unit {0}
 
-module _ (theory : Word) where
-  abbrev Of : SymbolTree → Type 0
-  Of = OfTheory theory
+type_made : (c : Setting) (x : Called) (n : ℕ) → IsMade c (type_outcome c x n)
+type_made c x n =
+    let k = length c.symbols in
+    let e = type_entry c.theory (full_name c x) n in
+    record {
+      new = of k e;
+      between = one_between k k (length (c.symbols ++ e ∷ [])) [] (omega arith) (omega (arith, length-append c.symbols (e ∷ []))) (no_numbers k (length (c.symbols ++ e ∷ [])));
+      single = omega arith;
+    }
+  where
+    of : (k : ℕ) (e : SymbolTree) → AreNew ((type_outcome c x n).decls) (length c.symbols) ((type_outcome c x n).symbols)
+    of k e zero i z =
+        let s : type_entry c.theory (full_name c x) n ≡ i = cc in
+        inr (inr (record { made = (0, omega arith, omega arith); constructor = λ q. absurd (let y : (type_entry c.theory (full_name c x) n).kind ≡ i.kind = ap (λ (g : SymbolTree). g.kind) s in cc) }))
+    of k e (suc j) i z = absurd (cc)
 
-  pub signed_of : (within : Word) (ms : List Member) (gs : List SignatureTree) → All Of (signed_entries theory within ms gs)
-  signed_of within [] gs = All-nil Of
-  signed_of within (m ∷ ms) [] = All-nil Of
-  signed_of within (m ∷ ms) (g ∷ gs) = All-cons Of _ (signed_entries theory within ms gs) refl (signed_of within ms gs)
+alias_made : (c : Setting) (s : List Tree) (x : Called) (vs : List Called) (f : Form) (o : Outcome) → IsAlias c s x vs f o → IsMade c o
+alias_made c s x vs f o a = record {
+  new = rw (a.symbols, a.decls) (tuples_new [] (length c.symbols) c.symbols (alias_seen f).widths);
+  between = rw a.decls (no_numbers (length c.symbols) (length (c.symbols ++ o.symbols)));
+  single = let q = ap length a.decls in omega (arith, q);
+}
 
-  pub types_of : (within : Word) (ts : List Algebraic) → All Of (type_entries theory within ts)
-  types_of within [] = All-nil Of
-  types_of within (a ∷ ts) = All-cons Of (type_entry theory (within ++ a.called.name) (length a.vars)) (type_entries theory within ts) refl (types_of within ts)
+proposition_made : (c : Setting) (k : PropKind) (x : Called) (e : Expression) (o : Outcome) → IsProposition c k x e o → IsMade c o
+proposition_made c k x e o p =
+    let n = length c.symbols in
+    let seen = proposition_seen e in
+    let tuples = tuples_wanting c seen in
+    let rigid = map rigid_symbol (rigid_names k seen.vars) in
+    record {
+      new = rw p.symbols (both_new o.decls n (n + length tuples) tuples rigid refl (tuples_new o.decls n c.symbols seen.widths) (rigids_new o.decls (n + length tuples) (rigid_names k seen.vars)));
+      between = rw p.decls (no_numbers n (length (c.symbols ++ o.symbols)));
+      single = let q = ap length p.decls in omega (arith, q);
+    }
 
-  projections_of : (name : Word) (n : ℕ) (t : Tree) (i : ℕ) (fs : List Tree) → All Of (projections theory name n t i fs)
-  projections_of name n t i [] = All-nil Of
-  projections_of name n t i (f ∷ fs) = All-cons Of _ (projections theory name n t (suc i) fs) refl (projections_of name n t (suc i) fs)
+group_made : (c : Setting) (ts : List Algebraic) → IsMade c (group_outcome c ts)
+group_made c ts =
+    let o = group_outcome c ts in
+    let n = length c.symbols in
+    let tuples = tuples_wanting c (group_seen ts) in
+    let T = type_entries c.theory c.within ts in
+    let w = group.inside c ts in
+    let i = first_type c ts in
+    let m = first_constructor c ts in
+    let G = group_entries c.theory c.within ts (group_trees c ts) in
+    let d : DeclarationTree = record { theory = c.theory; name = c.within ++ group.first_name ts; vars = group.first_vars ts; body = Constructs (group_trees c ts) } in
+    let before = length-append c.symbols tuples in
+    let many = count_types c.theory c.within ts in
+    let long = group_length c.theory c.within w i m ts in
+    let own = both_new (d ∷ []) i m T G (omega (arith, many)) (types_new c.theory c.within w i m ts d refl) (group_new c.theory c.within w i m ts d refl (omega arith)) in
+    let nil = append-nil (made_by_types (group_trees c ts)) in
+    record {
+      new = both_new (d ∷ []) n i tuples (T ++ G) (omega (arith, before)) (tuples_new (d ∷ []) n c.symbols (group_seen ts).widths) own;
+      between = rw nil (group_between w n i m (length (c.symbols ++ o.symbols)) ts (omega (arith, before)) (omega (arith, before))
+          (omega (arith, before, many, long, length-append c.symbols (tuples ++ (T ++ G)), length-append tuples (T ++ G), length-append T G))
+          (omega (arith, before, many, long, length-append c.symbols (tuples ++ (T ++ G)), length-append tuples (T ++ G), length-append T G)));
+      single = omega arith;
+    }
 
-  constructor_of : (name : Word) (n : ℕ) (t : Tree) (fs : List Tree) → All Of (constructor_entries theory name n t fs)
-  constructor_of name n t fs = All-cons Of _ (projections theory name n t 1 fs) refl (projections_of name n t 1 fs)
+-- ---- groups with bodies
+pieces_count : (w : Where) (n : ℕ) (ms : List Member) (gs : List SignatureTree) → length gs ≡ length ms → length (pieces_trees (member_pieces w n ms gs)) ≡ length gs
+pieces_count w n [] [] q = refl
+pieces_count w n [] (g ∷ gs) q = absurd (cc)
+pieces_count w n (m ∷ ms) [] q = absurd (cc)
+pieces_count w n (m ∷ ms) (g ∷ gs) q = ap suc (pieces_count w (past n (member_piece w n m g)) ms gs (omega (arith, q)))
 
-  constructors_of : (within : Word) (n : ℕ) (t : Tree) (ks : List Constructor) (cs : List ConTree) → All Of (constructors_entries theory within n t ks cs)
-  constructors_of within n t [] cs = All-nil Of
-  constructors_of within n t (k ∷ ks) [] = All-nil Of
-  constructors_of within n t (k ∷ ks) (c ∷ cs) =
-      All-append Of (constructor_entries theory (within ++ k.called.name) n t c.fields) (constructors_entries theory within n t ks cs) (constructor_of (within ++ k.called.name) n t c.fields) (constructors_of within n t ks cs)
+bodies_count : (w : Where) (ms : List Member) (gs : List SignatureTree) (bodies : List Tree) (matches : List (ℕ × List Tree)) → length gs ≡ length ms → BodiesSolved w ms gs bodies matches → length bodies ≡ length gs
+bodies_count w ms gs bodies matches q it =
+    let r = most_variables gs in
+    let f = it.determined.solvable.0 in
+    let trees = pieces_trees (member_pieces w r ms gs) in
+    let are : map (assign r f) trees ≡ bodies = it.trees_are f it.determined.solvable.1 in
+    ap length (sym are) ∙ (length-map trees (assign r f) ∙ pieces_count w r ms gs q)
 
-  pub group_of : (within : Word) (ts : List Algebraic) (ys : List AlgebraicTree) → All Of (group_entries theory within ts ys)
-  group_of within [] ys = All-nil Of
-  group_of within (a ∷ ts) [] = All-nil Of
-  group_of within (a ∷ ts) (y ∷ ys) =
-      All-append Of (constructors_entries theory within (length a.vars) (own_type y.symbol (length a.vars)) a.constructors y.cons) (group_entries theory within ts ys)
-      (constructors_of within (length a.vars) (own_type y.symbol (length a.vars)) a.constructors y.cons) (group_of within ts ys)
+-- the symbols of a group with or without bodies
+body_from : (m : Member) (ks : List Member) (gs : List SignatureTree) (bs : List Tree) (k : ℕ) (b : Option Expression) → m.body ≡ b → (m.body ≡ None → ks ≡ []) → length gs ≡ length (m ∷ ks) → length bs ≡ length gs → HasFrom (made_by (group_body b k gs bs)) k (length gs)
+body_from m ks gs bs k None z a q l =
+    let alone = ap length (a z) in
+    λ j h. (0, omega arith, omega (arith, alone, q, h))
+body_from m ks gs bs k (Some e) z a q l = defined_from k gs bs l
 
-module _ (c : Setting) (s : List Tree) (source : bytes_eq c.theory builtin ≡ false) (h : IsBuiltRight c.symbols) where
-  sourced : (es : List SymbolTree) → All (OfTheory c.theory) es → All IsOfSource es
-  sourced es a = λ k e l. let q : (get_or es k e).theory ≡ c.theory = a k e l in rw q source
+body_between : (m : Member) (ks : List Member) (gs : List SignatureTree) (bs : List Tree) (k : ℕ) (b : Option Expression) → length gs ≡ length (m ∷ ks) → AreBetween k (k + length gs) (made_by (group_body b k gs bs))
+body_between m ks gs bs k None q = one_between k k (k + length gs) [] (omega arith) (omega (arith, q)) (no_numbers k (k + length gs))
+body_between m ks gs bs k (Some e) q = defined_between k (k + length gs) gs bs (omega arith)
 
-  split_kept : (o : Outcome) (ns : List ℕ) (own : List SymbolTree) → o.symbols ≡ wanting_tuples c.symbols ns ++ own → All IsOfSource own → IsBuiltRight (c.symbols ++ o.symbols)
-  split_kept o ns own q k = rw q (all_kept c.symbols own ns h k)
+module _ (c : Setting) (tuples : List SymbolTree) (theory within : Word) (ms : List Member) (gs : List SignatureTree) (count : length gs ≡ length ms) (o : Outcome) (symbols : o.symbols ≡ tuples ++ signed_entries theory within ms gs)
+    (built : AreNew o.decls (length c.symbols) tuples) (ks : List ℕ) (are : made o.decls ≡ ks) (one : length o.decls ≤ 1) (k : ℕ) (at : k ≡ length c.symbols + length tuples) where
+  own_made : HasFrom ks k (length gs) → AreBetween k (k + length gs) ks → IsMade c o
+  own_made h b =
+      let n = length c.symbols in
+      let own = signed_entries theory within ms gs in
+      let long = signed_length theory within ms gs count in
+      let has : HasFrom (made o.decls) k (length own) = rw (are, long) h in
+      let all = ap length symbols in
+      record {
+        new = rw symbols (both_new o.decls n k tuples own at built (signed_new o.decls k theory within ms gs has));
+        between = rw are (wider k n (k + length gs) (length (c.symbols ++ o.symbols)) ks (omega (arith, at)) (omega (arith, at, long, all, length-append c.symbols o.symbols, length-append tuples own)) b);
+        single = one;
+      }
 
-  pub outcome_kept : (d : Declaration) (o : Outcome) → IsOutcome c s d o → IsBuiltRight (c.symbols ++ o.symbols)
-  outcome_kept (abstract_type x vs) o e =
-      let t = type_entry c.theory (full_name c x) (length vs) in
-      split_kept o [] (t ∷ []) (ap (λ (i : Outcome). i.symbols) e) (All-cons IsOfSource t [] source (All-nil IsOfSource))
-  outcome_kept (alias x vs f) o e = let tuples = wanting_tuples c.symbols (alias_seen f).widths in split_kept o (alias_seen f).widths [] (e.symbols ∙ sym (append-nil tuples)) (All-nil IsOfSource)
-  outcome_kept (proposition k x y) o e = split_kept o (proposition_seen y).widths (map rigid_symbol (rigid_names k (proposition_seen y).vars)) e.symbols (rigids_of (rigid_names k (proposition_seen y).vars))
-  outcome_kept (algebraic ts) o e =
-      let T = type_entries c.theory c.within ts in
-      let G = group_entries c.theory c.within ts (group_trees c ts) in
-      split_kept o (group_seen ts).widths (T ++ G) (ap (λ (i : Outcome). i.symbols) e) (All-append IsOfSource T G (sourced T (types_of c.theory c.within ts)) (sourced G (group_of c.theory c.within ts (group_trees c ts))))
-  outcome_kept (members ms) o e = split_kept o (members_seen unseen ms).widths (signed_entries c.theory c.within ms (group_signatures c ms)) e.symbols (sourced (signed_entries c.theory c.within ms (group_signatures c ms)) (signed_of c.theory c.within ms (group_signatures c ms)))
-  outcome_kept (inductive ds) o e =
-      let gs = signature_trees c (before_inductives c ds) (as_members ds) in
-      split_kept o (inductives_seen unseen ds).widths (signed_entries c.theory c.within (as_members ds) gs) e.symbols (sourced (signed_entries c.theory c.within (as_members ds) gs) (signed_of c.theory c.within (as_members ds) gs))
+members_made : (c : Setting) (ms : List Member) (o : Outcome) → IsAlone (members ms) → IsGroup c ms o → IsMade c o
+members_made c [] o a it =
+    let n = length c.symbols in
+    let tuples = group_tuples c [] in
+    record {
+      new = rw it.symbols (both_new o.decls n (n + length tuples) tuples [] refl (tuples_new o.decls n c.symbols (members_seen unseen []).widths) (none_new o.decls (n + length tuples)));
+      between = rw it.decls (no_numbers n (length (c.symbols ++ o.symbols)));
+      single = let q = ap length it.decls in omega (arith, q);
+    }
+members_made c (m ∷ ks) o a it =
+    let ms = m ∷ ks in
+    let n = length c.symbols in
+    let gs = group_signatures c ms in
+    let k = length (before_group c ms) in
+    let tuples = group_tuples c ms in
+    let count = count_signed (over c.trees (before_group c ms) c.scope []) ms in
+    let bs = it.bodies in
+    let bodies = bodies_count (within_group c ms) ms gs bs o.matches count it.solved in
+    let list = made_by (group_body m.body k gs bs) in
+    let are : made o.decls ≡ list = ap made it.decls ∙ append-nil list in
+    own_made c tuples c.theory c.within ms gs count o it.symbols (tuples_new o.decls n c.symbols (members_seen unseen ms).widths) list are (let q = ap length it.decls in omega (arith, q)) k (length-append c.symbols tuples)
+    (body_from m ks gs bs k m.body refl a count bodies) (body_between m ks gs bs k m.body count)
 
-pub elaborated_kept : (c : Setting) (d : Declaration) (g : Signature) (s : List Tree) (g' : Signature) (names : Names) (made : Elaborated) → bytes_eq c.theory builtin ≡ false → IsElaborated c d g s g' names made → IsBuiltRight c.symbols → IsBuiltRight (symbols_at s g'.symbols)
-elaborated_kept c d g s g' names made q e h = rw e.symbols_are (outcome_kept c s q h d e.outcome e.is)
+inductives_made : (c : Setting) (ds : List Inductive) (o : Outcome) → IsInductiveGroup c ds o → IsMade c o
+inductives_made c [] o it =
+    let n = length c.symbols in
+    let tuples = tuples_wanting c (inductives_seen unseen []) in
+    record {
+      new = rw it.symbols (both_new o.decls n (n + length tuples) tuples [] refl (tuples_new o.decls n c.symbols (inductives_seen unseen []).widths) (none_new o.decls (n + length tuples)));
+      between = rw it.decls (no_numbers n (length (c.symbols ++ o.symbols)));
+      single = let q = ap length it.decls in omega (arith, q);
+    }
+inductives_made c (d ∷ is) o it =
+    let ds = d ∷ is in
+    let ms = as_members ds in
+    let n = length c.symbols in
+    let gs = signature_trees c (before_inductives c ds) ms in
+    let k = length (before_inductives c ds) in
+    let tuples = tuples_wanting c (inductives_seen unseen ds) in
+    let count = count_signed (over c.trees (before_inductives c ds) c.scope []) ms in
+    let list = map (λ (i : InductiveTree). i.symbol) (induced k ds it.clauses) in
+    let are : made o.decls ≡ list = ap made it.decls ∙ append-nil list in
+    let many = length-map ds as_member in
+    let same : length gs ≡ length ds = count ∙ many in
+    own_made c tuples c.theory c.within ms gs count o it.symbols (tuples_new o.decls n c.symbols (inductives_seen unseen ds).widths) list are (let q = ap length it.decls in omega (arith, q)) k (length-append c.symbols tuples)
+    (rw same (induced_from k ds it.clauses)) (induced_between k (k + length gs) ds it.clauses (omega (arith, same)))
 
--- ---- at the beginning
-no_tuple : (n c : ℕ) → tuple_in (int_symbol ∷ []) n ≡ Some c → ⊥
-no_tuple n c q = cc
-
-alone : (k : ℕ) (e : SymbolTree) → slice_get (int_symbol ∷ []) k ≡ Some e → (k ≡ 0) ⊎ IsOfTuple (int_symbol ∷ []) k
-alone zero e q = inl refl
-alone (suc k) e q = absurd (cc)
-
-pub begins : IsBuiltRight (int_symbol ∷ [])
-begins = record { int = refl; tuples = λ n c q. absurd (no_tuple n c q); alone = λ k e q b. alone k e q }
+pub outcome_made : (c : Setting) (s : List Tree) (d : Declaration) (o : Outcome) → IsAlone d → IsOutcome c s d o → IsMade c o
+outcome_made c s (abstract_type x vs) o a e = rw e (type_made c x _)
+outcome_made c s (alias x vs f) o a e = alias_made c s x vs f o e
+outcome_made c s (proposition k x e) o a p = proposition_made c k x e o p
+outcome_made c s (algebraic ts) o a e = rw e (group_made c ts)
+outcome_made c s (members ms) o a e = members_made c ms o a e
+outcome_made c s (inductive ds) o a e = inductives_made c ds o e

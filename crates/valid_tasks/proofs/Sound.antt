@@ -1,285 +1,281 @@
--- The task of a goal after declarations that are valid where they stand is valid.
-use Rattle.std.proofs.Common.{◌≡◌, ◌≢◌, ◌⊎◌, inl, inr, ℕ, ◌-◌, ◌<◌, ◌&&◌, ◌||◌, zero, suc, Bool, true, false, if◌then◌else◌, List, [], ◌∷◌, ◌++◌, length, get_or, slice_get, All, Option, Some, None, IfSome, IsTrue, refl, sym, ap, subst, ◌∙◌, arith, append-nil}
-use Rattle.std.specs.List.{Contains}
-use Rattle.std.specs.Option.{is_some, option_or}
+-- What it is for a piece to be well typed at each solution of its equations, and how the parts of a form make it so.
+use Rattle.std.proofs.Common.{◌≡◌, ℕ, ◌==◌, suc, Bool, true, false, not, cond, List, [], ◌∷◌, ◌++◌, map, replicate, length, slice_get, Option, Some, None, IfSome, IsSomeAnd, option_map, refl, sym, ap, subst, ◌∙◌, arith}
+use Rattle.std.specs.Option.{is_some, is_none}
+use Rattle.std.specs.List.{AllByRecursion}
 use Rattle.std.specs.Str.{bytes_eq}
-use Rattle.std.proofs.lemmas.List.Elements.{All-nil, All-cons, All-append, All-contains, Contains-append_left, Contains-append_right, Contains-append_cases}
+use Rattle.std.proofs.lemmas.Bool.{eqb-true}
+use Rattle.std.proofs.Math.ListN.{length-map}
+use Rattle.trees.specs.declared.Sort.TheVariants.{Term, Pattern}
+use Rattle.trees.specs.Tree.{Tree, Leaf, One, Two, HEnd, HCell, HBound}
+use Rattle.trees.specs.Sorts.{int_type, sort_of, type_of}
+use Rattle.trees.specs.Binding.{inst_types}
+use Rattle.trees.specs.Facts.{IndicesFit}
 use Rattle.tasks.specs.declared.signature.SymbolKind.{SymbolKind}
-use Rattle.tasks.specs.declared.signature.SymbolKind.TheVariants.{Kind, Function, Predicate, Constructor, Projection}
-use Rattle.tasks.specs.Task.{SymbolTree, symbol_or, int_symbol, DeclarationTree, TaskTree, made, made_by, declared}
-use Rattle.tasks.specs.Roles.{is_constructor, is_made_by, maker, role_in, role_by}
-use Rattle.tasks.specs.Rigid.{rigid_symbol}
-use Rattle.tasks.specs.Vocabulary.{Vocabulary, of_task, passes, is_empty, is_constructor_kind}
-use Rattle.tasks.specs.Valid.{IsFormula, IsTypeOver, IsValidDecl, IsRigidEntry, AreInts, IsValid}
-use Rattle.tasks.proofs.Declared.{contains_step, any_iff, maker_made, made_maker, made_usable}
-use Rattle.named_symbols.specs.Named.{named, body_named, declarations_named, is_among}
-use Rattle.elab_parts.specs.Entries.{builtin}
-use Rattle.elab_valid.specs.Lists.{is_built, after}
-use Rattle.elab_valid.proofs.Algebraics.{got}
-use Rattle.elab_valid.proofs.Lists.{maker_both, list_valid}
-use Rattle.goal_tasks.specs.Tuples.{tuple_declaration, occurs, tuples_in}
-use Rattle.goal_tasks.specs.Theories.{GoalTree, TheoryTree, TheoriesTree}
-use Rattle.goal_tasks.specs.Tasks.{before, task_named, task_for}
-use Rattle.valid_tasks.specs.Built.{IsOfTuple}
-use Rattle.valid_tasks.specs.Tasks.{IsOwn, AreSound, IsQuotedAt, IsSoundGoal}
-use Rattle.valid_tasks.proofs.Names.{or_left, or_right, Within, left_in, right_in, declaration_named, formula_named}
-use Rattle.valid_tasks.proofs.Distinct.{IsDistinct, distinct_pairs, pairs_distinct, distinct_both}
-use Rattle.valid_tasks.proofs.TupleDecls.{made_both, made_are, tuple_valid}
-use Rattle.valid_tasks.proofs.TupleLists.{IsTupleDecl, IsTupleEntry, entry_is, tuples_are, occurring_made, tuples_distinct}
+use Rattle.tasks.specs.declared.signature.SymbolKind.TheVariants.{Predicate}
+use Rattle.tasks.specs.Equations.{type_variables}
+use Rattle.tasks.specs.Task.{symbol_or}
+use Rattle.tasks.specs.Vocabulary.{Vocabulary}
+use Rattle.tasks.specs.Typing.{MakesTerms}
+use Rattle.tasks.specs.Valid.{IsTypeIn}
+use Rattle.unify_types.specs.Assigned.{assign}
+use Rattle.unify_types.specs.Pairs.{SolvesAll}
+use Rattle.syntax_why.specs.Lexeme.{Word}
+use Rattle.elab_names.specs.declared.NamingFault.TheVariants.{WrongKind, Arity}
+use Rattle.elab_names.specs.Faults.{fault_if, name_fault, local_fault, symbol_fault, is_variable, is_predicate, differ}
+use Rattle.elab_names.specs.Where.{Where, place_of}
+use Rattle.elab_walk.specs.Patterns.{Notes, noted, nothing, follow, LocalTree, at_unknowns, result_or_int, first_or_int, rest_of, Entry, entry_of}
+use Rattle.elab_walk.specs.Pieces.{Piece, bare, both, Use, Local', Symbol', variable_named, found, use_of, named, tuple_use, parameters, used, names}
+use Rattle.elab_walk.proofs.Below.{both_all}
+use Rattle.elab_walk.proofs.Walking.{none_both, not_if, must_be}
+use Rattle.valid_tasks.specs.Signature.{with_entries, IsSymbol, IsTuple, IsWellFormed, HasTuple}
+use Rattle.valid_tasks.specs.Typed.{types_at}
+use Rattle.valid_tasks.proofs.Over.{IsGood, IsOver, AreOver, type_over, over_assigned}
+use Rattle.valid_tasks.proofs.Instances.{inst_over, variables_over, count_variables, cells_assigned, all_assigned_over}
+use Rattle.valid_tasks.proofs.Forms.{TypedAs, ListTyped, variable_typed, predicate_typed, function_typed, end_typed, cell_typed}
+use Rattle.valid_tasks.proofs.Signed.{IsEntry, named_symbol, parameters_over, instance_at, at_assigned, parameters_assigned, is_predicate_kind, makes_terms}
 
--- ---- who makes a symbol
-pub each_made : (ds : List DeclarationTree) (i : ℕ) (d : DeclarationTree) → i < length ds → (k : ℕ) → Contains (made_by (get_or ds i d).body) k → Contains (made ds) k
-each_made [] i d l k h = absurd (omega (arith, l))
-each_made (x ∷ ds) zero d l k h = Contains-append_left (made_by x.body) (made ds) k h
-each_made (x ∷ ds) (suc i) d l k h = Contains-append_right (made_by x.body) (made ds) k (each_made ds i d (omega (arith, l)) k h)
+pub suc_same : {m n : ℕ} → suc m ≡ suc n → m ≡ n
+suc_same h = omega (arith, h)
 
-pub maker_all : (P : DeclarationTree → Type 0) (ds : List DeclarationTree) (k : ℕ) (d : DeclarationTree) → All P ds → maker ds k ≡ Some d → P d × Contains (made_by d.body) k
-maker_all P [] k d a q = absurd (cc)
-maker_all P (x ∷ ds) k d a q = of (is_made_by k x.body) refl q (λ z. maker_all P ds k d (λ i e l. a (suc i) e (omega (arith, l))) z)
+-- ---- equations
+abbrev pub EquationsOver : Vocabulary → List (Tree × Tree) → Type 0
+EquationsOver v [] = Unit {0}
+EquationsOver v (e ∷ es) = (IsOver v true e.0 × IsOver v true e.1) × EquationsOver v es
+
+pub more_over : (v : Vocabulary) (xs ys : List (Tree × Tree)) → EquationsOver v xs → EquationsOver v ys → EquationsOver v (xs ++ ys)
+more_over v [] ys h k = k
+more_over v (x ∷ xs) ys h k = (h.0, more_over v xs ys h.1 k)
+
+pub first_solved : (r : ℕ) (f : ℕ → Tree) (xs ys : List (Tree × Tree)) → SolvesAll r f (xs ++ ys) → SolvesAll r f xs
+first_solved r f [] ys h = tt
+first_solved r f (x ∷ xs) ys h = (h.0, first_solved r f xs ys h.1)
+
+pub rest_solved : (r : ℕ) (f : ℕ → Tree) (xs ys : List (Tree × Tree)) → SolvesAll r f (xs ++ ys) → SolvesAll r f ys
+rest_solved r f [] ys h = h
+rest_solved r f (x ∷ xs) ys h = rest_solved r f xs ys h.1
+
+-- ---- variables
+abbrev pub LocalsOver : Vocabulary → List LocalTree → Type 0
+LocalsOver v [] = Unit {0}
+LocalsOver v (l ∷ ls) = IsOver v true l.type × LocalsOver v ls
+
+pub both_locals : (v : Vocabulary) (xs ys : List LocalTree) → LocalsOver v xs → LocalsOver v ys → LocalsOver v (xs ++ ys)
+both_locals v [] ys h k = k
+both_locals v (x ∷ xs) ys h k = (h.0, both_locals v xs ys h.1 k)
+
+-- a variable by its name, or none
+abbrev IsFound : Vocabulary → List LocalTree → Option (ℕ × Tree) → Type 0
+IsFound v ls o = IfSome o (λ (p : ℕ × Tree). IsOver v true p.1 × ((r : ℕ) (f : ℕ → Tree) → slice_get (types_at r f ls) p.0 ≡ Some (assign r f p.1)))
+
+variable_found : (v : Vocabulary) (x : Word) (ls : List LocalTree) → LocalsOver v ls → IsFound v ls (variable_named x ls)
+variable_found v x [] h = tt
+variable_found v x (l ∷ ls) h = of (bytes_eq l.name x) (variable_named x ls) (variable_found v x ls h.1)
   where
-    of : (b : Bool) → is_made_by k x.body ≡ b → (if b then Some x else maker ds k) ≡ Some d → (maker ds k ≡ Some d → P d × Contains (made_by d.body) k) → P d × Contains (made_by d.body) k
-    of true z y f = let e : x ≡ d = cc in let p : P x = a 0 x (omega arith) in subst (λ (i : DeclarationTree). P i × Contains (made_by i.body) k) e (p, (any_iff k (made_by x.body)).0 z)
-    of false z y f = f y
+    of : (b : Bool) (o : Option (ℕ × Tree)) → IsFound v ls o → IsFound v (l ∷ ls) (cond b (Some (0, l.type)) (option_map (λ (p : ℕ × Tree). (suc p.0, p.1)) o))
+    of true o k = (h.0, λ r f. refl)
+    of false None k = tt
+    of false (Some p) k = (k.0, λ r f. k.1 r f)
 
-maker_some : (ds : List DeclarationTree) (k : ℕ) → Contains (made ds) k → (d : DeclarationTree) × (maker ds k ≡ Some d)
-maker_some ds k h = of (maker ds k) (made_maker k ds h)
+is_found : (v : Vocabulary) (qs : List Word) (x : Word) (ls : List LocalTree) → LocalsOver v ls → IsFound v ls (found qs x ls)
+is_found v [] x ls h = variable_found v x ls h
+is_found v (q ∷ qs) x ls h = tt
+
+either_way : (b : Bool) (z : ℕ × Tree) (p : Option ℕ) (q : Option (ℕ × Tree)) → is_some p ≡ is_some q → is_some (cond b (Some 0) (option_map suc p)) ≡ is_some (cond b (Some z) (option_map (λ (r : ℕ × Tree). (suc r.0, r.1)) q))
+either_way true z p q h = refl
+either_way false z None None h = refl
+either_way false z None (Some r) h = h
+either_way false z (Some k) None h = h
+either_way false z (Some k) (Some r) h = refl
+
+variable_name : (c : Word) (xs : List LocalTree) → is_some (place_of c (names xs)) ≡ is_some (variable_named c xs)
+variable_name c [] = refl
+variable_name c (x ∷ xs) = either_way (bytes_eq x.name c) (0, x.type) (place_of c (names xs)) (variable_named c xs) (variable_name c xs)
+
+found_name : (qs : List Word) (c : Word) (xs : List LocalTree) → is_variable qs c (names xs) ≡ is_some (found qs c xs)
+found_name [] c xs = variable_name c xs
+found_name (q ∷ qs) c xs = refl
+
+-- ---- what is due
+abbrev pub KindFits : Bool → SymbolKind → Type 0
+KindFits true k = k ≡ Predicate
+KindFits false k = is_predicate k ≡ false
+
+kind_fits : (due : Bool) (k : SymbolKind) → differ due (is_predicate k) ≡ false → KindFits due k
+kind_fits true k h = is_predicate_kind k (of (is_predicate k) h)
   where
-    of : (o : Option DeclarationTree) → IsTrue (is_some o) → (d : DeclarationTree) × (o ≡ Some d)
-    of None t = absurd (let e : true ≡ false = sym t in cc)
-    of (Some d) t = (d, refl)
+    of : (b : Bool) → not b ≡ false → b ≡ true
+    of true q = refl
+    of false q = absurd (cc)
+kind_fits false k h = h
 
-con_maker : (k : ℕ) (o : Option DeclarationTree) → IsTrue (is_constructor (role_by k o)) → IsTrue (is_some o)
-con_maker k None h = absurd (let e : true ≡ false = sym h in cc)
-con_maker k (Some d) h = refl
+-- a use with so many arguments
+abbrev pub IsUsable : Vocabulary → List LocalTree → Bool → ℕ → Use → Type 0
+IsUsable v ls due n (Local' p ty) = (due ≡ false) × (n ≡ 0) × IsOver v true ty × ((r : ℕ) (f : ℕ → Tree) → slice_get (types_at r f ls) p ≡ Some (assign r f ty))
+IsUsable v ls due n (Symbol' e) = IsEntry v e × KindFits due e.symbol.kind × (length e.symbol.args ≡ n)
 
-con_kind : (s : SymbolKind) → is_constructor_kind s ≡ true → s ≡ Constructor
-con_kind Constructor q = refl
-con_kind Kind q = absurd (let e : true ≡ false = sym q in cc)
-con_kind Function q = absurd (let e : true ≡ false = sym q in cc)
-con_kind Predicate q = absurd (let e : true ≡ false = sym q in cc)
-con_kind Projection q = absurd (let e : true ≡ false = sym q in cc)
+abbrev pub WantedOver : Vocabulary → Option Tree → Type 0
+WantedOver v t = IfSome t (IsOver v true)
 
--- the constructor of a width is made as one
-tuple_role : (n c k : ℕ) → 0 < c → k ≡ c → IsTrue (is_constructor (role_in k (tuple_declaration n (c - 1)).body))
-tuple_role n zero k l q = absurd (omega (arith, l))
-tuple_role n (suc c) k l q = grind arith
+pub first_over : (v : Vocabulary) (ts : List Tree) → IsOver v true int_type → AreOver v ts → IsOver v true (first_or_int ts)
+first_over v [] i h = i
+first_over v (t ∷ ts) i h = h.0
 
-module _ (all : TheoriesTree) (t : TheoryTree) (g : GoalTree) (sound : AreSound all.symbols (before t g)) (goal : IsSoundGoal all.symbols (before t g) g) where
-  abbrev symbols : List SymbolTree
-  symbols = all.symbols
+pub rest_over : (v : Vocabulary) (ts : List Tree) → AreOver v ts → AreOver v (rest_of ts)
+rest_over v [] h = tt
+rest_over v (t ∷ ts) h = h.1
 
-  abbrev ds : List DeclarationTree
-  ds = before t g
+pub parameters_count : (v : Vocabulary) (ls : List LocalTree) (due : Bool) (n m : ℕ) (u : Use) → IsUsable v ls due n u → length (parameters m u) ≡ n
+parameters_count v ls due n m (Local' p ty) h = sym h.1
+parameters_count v ls due n m (Symbol' e) h = length-map e.symbol.args (at_unknowns m e.symbol) ∙ h.2
 
-  abbrev ks : List ℕ
-  ks = task_named all t g
+pub usable_over : (v : Vocabulary) (ls : List LocalTree) (due : Bool) (n m : ℕ) (u : Use) → IsUsable v ls due n u → AreOver v (parameters m u)
+usable_over v ls due n m (Local' p ty) h = tt
+usable_over v ls due n m (Symbol' e) h = parameters_over v e.symbol h.0.types m
 
-  abbrev Ts : List DeclarationTree
-  Ts = tuples_in symbols ks
+abbrev pub sig : Vocabulary → Where → Vocabulary
+sig base w = with_entries base w.symbols
 
-  abbrev T : TaskTree
-  T = task_for all t g
+-- ---- notes
+module _ (base : Vocabulary) (w : Where) (rigid : ℕ) where
+  -- a pattern of a type
+  abbrev pub IsPatternAt : Tree → Tree → Type 0
+  IsPatternAt t e = IsGood (sig base w) [] e × (sort_of e ≡ Pattern) × (type_of e ≡ Some t)
 
-  abbrev w : Vocabulary
-  w = of_task T
+  -- patterns of one type, at assigned unknowns
+  abbrev pub ArePatternsAt : (ℕ → Tree) → List Tree → Type 0
+  ArePatternsAt f ps = (t : Tree) × IsOver (sig base w) true t × AllByRecursion (IsPatternAt t) (map (assign rigid f) ps)
 
-  abbrev over : List ℕ → Vocabulary
-  over r = after symbols r ds
+  -- equations between types over the signature, and matches whose patterns are of one type
+  pub record AreNoted (ns : Notes) : Type 0 where
+    pub equations : EquationsOver (sig base w) ns.equations
+    pub matches : (f : ℕ → Tree) → ((j : ℕ) → IsOver (sig base w) true (f j)) → SolvesAll rigid f ns.equations → AllByRecursion (λ (m : ℕ × List Tree). ArePatternsAt f m.1) ns.matches
 
-  -- ---- what tuples make, and what declarations make
-  tuple_made : (d : DeclarationTree) → IsTupleDecl symbols d → (k : ℕ) → Contains (made_by d.body) k → (n : ℕ) × (c : ℕ) × IsTupleEntry symbols n c k
-  tuple_made d x k h =
-      let at = sound.built.tuples x.width x.constructor x.found in
-      let same = x.is in
-      let i = subst (λ (e : DeclarationTree). Contains (made_by e.body) k) same h in
-      let nil = append-nil (made_by (tuple_declaration x.width (x.constructor - 1)).body) in
-      (x.width, x.constructor, entry_is symbols sound.built x.width x.constructor at k (subst (λ (xs : List ℕ). Contains xs k) (sym nil) i))
+  pub noted_sound : (es : List (Tree × Tree)) (ts : List ℕ) → EquationsOver (sig base w) es → AreNoted (noted es ts)
+  noted_sound es ts h = record { equations = h; matches = λ f o s. tt }
 
-  tuple_entry : (k : ℕ) → Contains (made Ts) k → (n : ℕ) × (c : ℕ) × IsTupleEntry symbols n c k
-  tuple_entry k h =
-      let s = maker_some Ts k h in
-      let p = maker_all (IsTupleDecl symbols) Ts k s.0 (tuples_are symbols sound.built ks) s.1 in
-      tuple_made s.0 p.0 k p.1
-
-  own_entry : (k : ℕ) → Contains (made ds) k → IsOwn symbols k
-  own_entry k h = All-contains (IsOwn symbols) (made ds) k sound.own h
-
-  clash : (k : ℕ) → Contains (made Ts) k → Contains (made ds) k → ⊥
-  clash k a b =
-      let x = (tuple_entry k a).2.theory in
-      let y = (own_entry k b).other in
-      let z : bytes_eq builtin builtin ≡ false = sym (ap (λ (n : List ℕ). bytes_eq n builtin) x) ∙ y in
-      let u : true ≡ false = z in cc
-
-  -- ---- what the task may name
-  of_tuple_made : (k : ℕ) → IsTrue (is_among ks k) → IsOfTuple symbols k → Contains (made Ts) k
-  of_tuple_made k i o = occurring_made symbols sound.built ks o.width o.constructor k o.found (of o.is) o.is
-    where
-      of : (k ≡ o.constructor) ⊎ (suc k ≡ o.constructor) → IsTrue (occurs ks o.constructor)
-      of (inl q) = or_left (is_among ks o.constructor) (is_among ks (o.constructor - 1)) (subst (λ (j : ℕ). IsTrue (is_among ks j)) q i)
-      of (inr q) = let z : k ≡ o.constructor - 1 = omega (arith, q) in or_right (is_among ks o.constructor) (is_among ks (o.constructor - 1)) (subst (λ (j : ℕ). IsTrue (is_among ks j)) z i)
-
-  in_first : (k : ℕ) → Contains (made Ts) k → Contains (made (Ts ++ ds)) k
-  in_first k h = let e = made_both Ts ds in subst (λ (xs : List ℕ). Contains xs k) (sym e) (Contains-append_left (made Ts) (made ds) k h)
-
-  in_last : (k : ℕ) → Contains (made ds) k → Contains (made (Ts ++ ds)) k
-  in_last k h = let e = made_both Ts ds in subst (λ (xs : List ℕ). Contains xs k) (sym e) (Contains-append_right (made Ts) (made ds) k h)
-
-  named_made : (k : ℕ) → IsTrue (is_among ks k) → IsTrue ((over []).usable k) → Contains (0 ∷ made (Ts ++ ds)) k
-  named_made k i h = of (slice_get symbols k) refl h
-    where
-      own : IsTrue (is_some (maker ds k)) → Contains (0 ∷ made (Ts ++ ds)) k
-      own h = contains_step 0 k (made (Ts ++ ds)) (inr (in_last k (maker_made k ds h)))
-
-      built_in : (k ≡ 0) ⊎ IsOfTuple symbols k → Contains (0 ∷ made (Ts ++ ds)) k
-      built_in (inl q) = contains_step 0 k (made (Ts ++ ds)) (inl q)
-      built_in (inr o) = contains_step 0 k (made (Ts ++ ds)) (inr (in_first k (of_tuple_made k i o)))
-
-      by : (e : SymbolTree) (b : Bool) → slice_get symbols k ≡ Some e → is_built e ≡ b → IsTrue (b || is_some (maker ds k)) → Contains (0 ∷ made (Ts ++ ds)) k
-      by e true q z h = built_in (sound.built.alone k e q z)
-      by e false q z h = own h
-
-      of : (o : Option SymbolTree) → slice_get symbols k ≡ o → IsTrue (passes is_built o || is_some (maker ds k)) → Contains (0 ∷ made (Ts ++ ds)) k
-      of None q h = own h
-      of (Some e) q h = by e (is_built e) q refl h
-
-  usable : (k : ℕ) → IsTrue (is_among ks k) → IsTrue ((over []).usable k) → IsTrue (w.usable k)
-  usable k i h = made_usable T k (named_made k i h)
-
-  matched_cases : (k : ℕ) → IsTrue (is_among ks k) → IsTrue ((over []).matched k) → (Contains (made Ts) k × ((symbol_or symbols k).kind ≡ Constructor)) ⊎ IsTrue (is_constructor (role_by k (maker ds k)))
-  matched_cases k i h = of (slice_get symbols k) refl h
-    where
-      built_in : (e : SymbolTree) → slice_get symbols k ≡ Some e → e.kind ≡ Constructor → (k ≡ 0) ⊎ IsOfTuple symbols k → Contains (made Ts) k
-      built_in e q z (inl x) =
-          let y : Some e ≡ Some int_symbol = sym q ∙ (ap (slice_get symbols) x ∙ sound.built.int) in
-          let same : e ≡ int_symbol = cc in
-          absurd (let u : Kind ≡ Constructor = sym (ap (λ (d : SymbolTree). d.kind) same) ∙ z in cc)
-      built_in e q z (inr o) = of_tuple_made k i o
-
-      by : (e : SymbolTree) (a b : Bool) → slice_get symbols k ≡ Some e → is_built e ≡ a → is_constructor_kind e.kind ≡ b → IsTrue ((a && b) || is_constructor (role_by k (maker ds k)))
-          → (Contains (made Ts) k × ((symbol_or symbols k).kind ≡ Constructor)) ⊎ IsTrue (is_constructor (role_by k (maker ds k)))
-      by e true true q y z h =
-          let c = con_kind e.kind z in
-          let same = (got symbols k e q).1 in
-          inl (built_in e q c (sound.built.alone k e q y), ap (λ (d : SymbolTree). d.kind) same ∙ c)
-      by e true false q y z h = inr h
-      by e false b q y z h = inr h
-
-      of : (o : Option SymbolTree) → slice_get symbols k ≡ o → IsTrue (passes (λ e. is_built e && is_constructor_kind e.kind) o || is_constructor (role_by k (maker ds k)))
-          → (Contains (made Ts) k × ((symbol_or symbols k).kind ≡ Constructor)) ⊎ IsTrue (is_constructor (role_by k (maker ds k)))
-      of None q h = inr h
-      of (Some e) q h = by e (is_built e) (is_constructor_kind e.kind) q refl refl h
-
-  matched : (k : ℕ) → IsTrue (is_among ks k) → IsTrue ((over []).matched k) → IsTrue (w.matched k)
-  matched k i h =
-      let e = maker_both Ts ds k in
-      subst (λ (o : Option DeclarationTree). IsTrue (is_constructor (role_by k o))) (sym e) (of (maker Ts k) refl (matched_cases k i h))
-    where
-      of : (o : Option DeclarationTree) → maker Ts k ≡ o → (Contains (made Ts) k × ((symbol_or symbols k).kind ≡ Constructor)) ⊎ IsTrue (is_constructor (role_by k (maker ds k))) → IsTrue (is_constructor (role_by k (option_or o (maker ds k))))
-      of None q (inl x) = absurd (let s = maker_some Ts k x.0 in cc)
-      of None q (inr x) = x
-      of (Some d) q (inl x) =
-          let p = maker_all (IsTupleDecl symbols) Ts k d (tuples_are symbols sound.built ks) q in
-          let at = sound.built.tuples p.0.width p.0.constructor p.0.found in
-          let c : k ≡ p.0.constructor = (entry_of d p.0 p.1).constructor x.1 in
-          subst (λ (b : DeclarationTree). IsTrue (is_constructor (role_in k b.body))) (sym p.0.is) (tuple_role p.0.width p.0.constructor k at.type_before c)
-        where
-          entry_of : (d : DeclarationTree) (y : IsTupleDecl symbols d) → Contains (made_by d.body) k → IsTupleEntry symbols y.width y.constructor k
-          entry_of d y h =
-              let nil = append-nil (made_by (tuple_declaration y.width (y.constructor - 1)).body) in
-              entry_is symbols sound.built y.width y.constructor (sound.built.tuples y.width y.constructor y.found) k (subst (λ (xs : List ℕ). Contains xs k) (sym nil) (subst (λ (e : DeclarationTree). Contains (made_by e.body) k) y.is h))
-      of (Some d) q (inr x) =
-          absurd (clash k (maker_made k Ts (subst (λ (o : Option DeclarationTree). IsTrue (is_some o)) (sym q) refl)) (maker_made k ds (con_maker k (maker ds k) x)))
-
-  -- ---- its declarations
-  tuples_valid : All (IsValidDecl w) Ts
-  tuples_valid = λ i d l. one i d l (tuples_are symbols sound.built ks i d l)
-    where
-      one : (i : ℕ) (d : DeclarationTree) → i < length Ts → IsTupleDecl symbols (get_or Ts i d) → IsValidDecl w (get_or Ts i d)
-      one i d l x =
-          let at = sound.built.tuples x.width x.constructor x.found in
-          let are = made_are symbols x.width x.constructor at in
-          let type = x.constructor - 1 in
-          let first : Contains (made (tuple_declaration x.width type ∷ [])) type = subst (λ (xs : List ℕ). Contains xs type) (sym are) (0, omega arith, refl) in
-          let nil = append-nil (made_by (tuple_declaration x.width type).body) in
-          let here : Contains (made_by (get_or Ts i d).body) type = subst (λ (e : DeclarationTree). Contains (made_by e.body) type) (sym x.is) (subst (λ (xs : List ℕ). Contains xs type) nil first) in
-          let may = made_usable T type (contains_step 0 type (made (Ts ++ ds)) (inr (in_first type (each_made Ts i d l type here)))) in
-          subst (IsValidDecl w) (sym x.is) (tuple_valid symbols x.width x.constructor at w refl may)
-
-  no_rigid : (k : ℕ) → IsTrue ((over []).rigid k) → IsTrue (w.rigid k)
-  no_rigid k h = absurd (let e : true ≡ false = sym h in cc)
-
-  others_valid : (xs : List DeclarationTree) → Within ks (declarations_named symbols xs) → All (IsValidDecl (over [])) xs → All (IsValidDecl w) xs
-  others_valid [] i h = All-nil (IsValidDecl w)
-  others_valid (d ∷ xs) i h =
-      let one : IsValidDecl (over []) d = h 0 d (omega arith) in
-      All-cons (IsValidDecl w) d xs (declaration_named ks (over []) w no_rigid usable matched refl d (left_in ks (body_named symbols d.body) (declarations_named symbols xs) i) one)
-      (others_valid xs (right_in ks (body_named symbols d.body) (declarations_named symbols xs) i) (λ k e l. h (suc k) e (omega (arith, l))))
-
-  decls_valid : All (IsValidDecl w) (Ts ++ ds)
-  decls_valid = All-append (IsValidDecl w) Ts ds tuples_valid (others_valid ds (left_in ks (declarations_named symbols ds) (named g.prop) (λ k h. h)) (list_valid symbols [] ds sound.valid))
-
-  goal_valid : IsFormula T [] 0 g.prop
-  goal_valid = formula_named ks (over g.rigid) w (λ k h. h) usable matched refl 0 g.prop (right_in ks (declarations_named symbols ds) (named g.prop) (λ k h. h)) goal.formula
-
-  -- ---- no symbol is made twice
-  made_is : (k : ℕ) → Contains (made (Ts ++ ds)) k → (is_empty (symbol_or symbols k).theory ≡ false) × (k ≢ 0)
-  made_is k h = let e = made_both Ts ds in of (Contains-append_cases (made Ts) (made ds) k (subst (λ (xs : List ℕ). Contains xs k) e h))
-    where
-      of : Contains (made Ts) k ⊎ Contains (made ds) k → (is_empty (symbol_or symbols k).theory ≡ false) × (k ≢ 0)
-      of (inl c) = let x = (tuple_entry k c).2 in (ap is_empty x.theory, x.first)
-      of (inr c) =
-          let x = own_entry k c in (
-            x.stands,
-            λ z.
-                let first : symbol_or symbols k ≡ int_symbol = ap (symbol_or symbols) z ∙ (got symbols 0 int_symbol sound.built.int).1 in
-                let y : bytes_eq builtin builtin ≡ false = sym (ap (λ (e : SymbolTree). bytes_eq e.theory builtin) first) ∙ x.other in
-                let u : true ≡ false = y in cc,
-          )
-
-  rigid_is : (k : ℕ) → Contains g.rigid k → is_empty (symbol_or symbols k).theory ≡ true
-  rigid_is k c =
-      let x = All-contains (IsQuotedAt symbols) g.rigid k goal.rigid c in
-      ap (λ (e : SymbolTree). is_empty e.theory) (got symbols k (rigid_symbol x.name) x.entry).1
-
-  distinct : IsDistinct (declared T)
-  distinct = ((λ c. zero_in (Contains-append_cases g.rigid (made (Ts ++ ds)) 0 c)), distinct_both g.rigid (made (Ts ++ ds)) (pairs_distinct g.rigid goal.once) both apart)
-    where
-      both : IsDistinct (made (Ts ++ ds))
-      both = subst IsDistinct (sym (made_both Ts ds)) (distinct_both (made Ts) (made ds) (tuples_distinct symbols sound.built ks) (pairs_distinct (made ds) sound.once) clash)
-
-      apart : (k : ℕ) → Contains g.rigid k → Contains (made (Ts ++ ds)) k → ⊥
-      apart k a b = let x = rigid_is k a in let y = (made_is k b).0 in let u : true ≡ false = sym x ∙ y in cc
-
-      zero_in : Contains g.rigid 0 ⊎ Contains (made (Ts ++ ds)) 0 → ⊥
-      zero_in (inl a) =
-          let x = rigid_is 0 a in
-          let first : symbol_or symbols 0 ≡ int_symbol = (got symbols 0 int_symbol sound.built.int).1 in
-          let y : is_empty builtin ≡ true = sym (ap (λ (e : SymbolTree). is_empty e.theory) first) ∙ x in
-          let u : false ≡ true = y in cc
-      zero_in (inr b) = (made_is 0 b).1 refl
-
-  rigid_entry : (k : ℕ) → IsQuotedAt symbols k → IsRigidEntry T k
-  rigid_entry k x =
-      let e = got symbols k (rigid_symbol x.name) x.entry in
-      record {
-        entry = e.0;
-        kind = ap (λ (s : SymbolTree). s.kind) e.1;
-        vars = ap (λ (s : SymbolTree). s.vars) e.1;
-        theory = ap (λ (s : SymbolTree). s.theory) e.1;
-        name = let q : (symbol_or symbols k).name ≡ x.name = ap (λ (s : SymbolTree). s.name) e.1 in rw q x.quoted;
-        args = ap (λ (s : SymbolTree). s.args) e.1;
-        result = ap (λ (s : SymbolTree). s.result) e.1;
-      }
-
-  pub task_valid : IfSome all.ints (AreInts symbols) → IsValid T
-  task_valid ints = record {
-    int = sound.built.int;
-    ints = ints;
-    once = distinct_pairs (declared T) distinct;
-    rigid = λ i d l. rigid_entry (get_or g.rigid i d) (goal.rigid i d l);
-    decls = decls_valid;
-    params = All-nil (IsTypeOver T 0);
-    locals = All-nil (IsFormula T [] 0);
-    goal = goal_valid;
+  pub both_noted : (a b : Notes) → AreNoted a → AreNoted b → AreNoted (follow a b)
+  both_noted a b x y = record {
+    equations = more_over (sig base w) a.equations b.equations x.equations y.equations;
+    matches = λ f o s. both_all (λ (m : ℕ × List Tree). ArePatternsAt f m.1) a.matches b.matches (x.matches f o (first_solved rigid f a.equations b.equations s)) (y.matches f o (rest_solved rigid f a.equations b.equations s));
   }
+
+  pub none_noted : AreNoted nothing
+  none_noted = noted_sound [] [] tt
+
+module _ (base : Vocabulary) (w : Where) (good : IsWellFormed base w) (rigid : ℕ) where
+  -- an entry that a name leads to
+  symbol_usable : (ls : List LocalTree) (due : Bool) (i n : ℕ) (m : Option ℕ) → IfSome m (IsSymbol (sig base w)) → symbol_fault w due i n m ≡ None → IsUsable (sig base w) ls due n (Symbol' (entry_of w.symbols m))
+  symbol_usable ls due i n None s h = absurd (cc)
+  symbol_usable ls due i n (Some k) s h =
+      let e = symbol_or w.symbols k in
+      let p = none_both (fault_if (differ due (is_predicate e.kind)) (WrongKind i)) (fault_if (not (length e.args == n)) (Arity i)) h in
+      (named_symbol (sig base w) k s, kind_fits due e.kind (not_if (differ due (is_predicate e.kind)) (WrongKind i) p.0), eqb-true (length e.args) n (must_be (length e.args == n) (Arity i) p.1))
+
+  pub named_usable : (ls : List LocalTree) (due : Bool) (i n : ℕ) (qs : List Word) (x : Word) → LocalsOver (sig base w) ls → name_fault w (names ls) due i qs x n ≡ None → IsUsable (sig base w) ls due n (named w ls qs x)
+  named_usable ls due i n qs x h q = of (found qs x ls) (is_found (sig base w) qs x ls h) (ap (λ (b : Bool). cond b (local_fault due i n) (symbol_fault w due i n (w.names qs x))) (sym (found_name qs x ls)) ∙ q)
+    where
+      of : (o : Option (ℕ × Tree)) → IsFound (sig base w) ls o → cond (is_some o) (local_fault due i n) (symbol_fault w due i n (w.names qs x)) ≡ None → IsUsable (sig base w) ls due n (use_of o (Symbol' (entry_of w.symbols (w.names qs x))))
+      of None k z = symbol_usable ls due i n (w.names qs x) (good.names qs x) z
+      of (Some p) k z =
+          let l = none_both (fault_if due (WrongKind i)) (fault_if (not (n == 0)) (Arity i)) z in
+          (not_if due (WrongKind i) l.0, eqb-true n 0 (must_be (n == 0) (Arity i) l.1), k.0, k.1)
+
+  pub tuple_usable : (ls : List LocalTree) (n : ℕ) → HasTuple base w n → IsUsable (sig base w) ls false n (tuple_use w n)
+  tuple_usable ls n h = of (w.tuples n) h
+    where
+      of : (m : Option ℕ) → IsSomeAnd m (IsTuple (sig base w) n) → IsUsable (sig base w) ls false n (Symbol' (entry_of w.symbols m))
+      of None x = absurd x
+      of (Some k) x = (named_symbol (sig base w) k x.symbol, ap is_predicate x.kind, x.args)
+
+  -- ---- pieces
+  pub record IsSound (ls : List LocalTree) (t : Option Tree) (p : Piece) : Type 0 where
+    pub notes : AreNoted base w rigid p.notes
+    pub typed : (f : ℕ → Tree) → ((j : ℕ) → IsOver (sig base w) true (f j)) → SolvesAll rigid f p.notes.equations → IndicesFit (assign rigid f p.tree)
+        → TypedAs (sig base w) (types_at rigid f ls) (option_map (assign rigid f) t) (assign rigid f p.tree)
+
+  -- arguments, of which these types are wanted
+  pub record AreSound (ls : List LocalTree) (ts : List Tree) (p : Piece) : Type 0 where
+    pub notes : AreNoted base w rigid p.notes
+    pub typed : (f : ℕ → Tree) → ((j : ℕ) → IsOver (sig base w) true (f j)) → SolvesAll rigid f p.notes.equations → IndicesFit (assign rigid f p.tree)
+        → ListTyped (sig base w) Term (types_at rigid f ls) (map (assign rigid f) ts) (assign rigid f p.tree)
+
+  pub no_arguments : (ls : List LocalTree) → AreSound ls [] (bare (Leaf HEnd))
+  no_arguments ls = record { notes = none_noted base w rigid; typed = λ f o s i. end_typed (sig base w) (types_at rigid f ls) Term }
+
+  pub more_arguments : (ls : List LocalTree) (t : Tree) (ts : List Tree) (p q : Piece) → IsSound ls (Some t) p → AreSound ls ts q → AreSound ls (t ∷ ts) (both (Two HCell) p q)
+  more_arguments ls t ts p q x y = record {
+    notes = both_noted base w rigid p.notes q.notes x.notes y.notes;
+    typed = λ f o s i.
+        let a = x.typed f o (first_solved rigid f p.notes.equations q.notes.equations s) i.0 in
+        let b = y.typed f o (rest_solved rigid f p.notes.equations q.notes.equations s) i.1 in
+        cell_typed (sig base w) (types_at rigid f ls) Term (assign rigid f t) (map (assign rigid f) ts) (assign rigid f p.tree) (assign rigid f q.tree) (λ e. cc) a.0 a.1.0 a.1.1 b;
+  }
+
+  -- two operands
+  pub two_arguments : (ls : List LocalTree) (ts : List Tree) (p q : Piece) → length ts ≡ 2 → IsSound ls (Some (first_or_int ts)) p → IsSound ls (Some (first_or_int (rest_of ts))) q → AreSound ls ts (both (Two HCell) p (both (Two HCell) q (bare (Leaf HEnd))))
+  two_arguments ls [] p q n x y = absurd (cc)
+  two_arguments ls (t ∷ []) p q n x y = absurd (cc)
+  two_arguments ls (t ∷ u ∷ []) p q n x y = more_arguments ls t (u ∷ []) p _ x (more_arguments ls u [] q _ y (no_arguments ls))
+  two_arguments ls (t ∷ u ∷ z ∷ zs) p q n x y = absurd (cc)
+
+  -- ---- uses
+  local_sound : (ls : List LocalTree) (n : ℕ) (t : Option Tree) (i c p : ℕ) (ty : Tree) (args : Piece) → WantedOver (sig base w) t → IsUsable (sig base w) ls (is_none t) c (Local' p ty) → IsSound ls t (used n t i (Local' p ty) args)
+  local_sound ls n None i c p ty args k u = absurd (cc (u.0))
+  local_sound ls n (Some t) i c p ty args k u = record {
+    notes = both_noted base w rigid (noted ((ty, t) ∷ []) []) nothing (noted_sound base w rigid ((ty, t) ∷ []) [] ((u.2, k), tt)) (none_noted base w rigid);
+    typed = λ f o s x. subst (λ (z : Tree). TypedAs (sig base w) (types_at rigid f ls) (Some z) (One (HBound p) (assign rigid f ty))) s.0
+        (variable_typed (sig base w) (types_at rigid f ls) p (assign rigid f ty) x.0 (u.3 rigid f) (over_assigned (sig base w) rigid f o true ty u.2));
+  }
+
+  module _ (e : Entry) (it : IsEntry (sig base w) e) where
+    pub result_is : MakesTerms e.symbol.kind → (r : Tree) × (e.symbol.result ≡ Some r)
+    result_is m = of e.symbol.result (it.result m)
+      where
+        of : (o : Option Tree) → IsSomeAnd o (λ t. Unit {0}) → (r : Tree) × (o ≡ Some r)
+        of None x = absurd x
+        of (Some r) x = (r, refl)
+
+    pub result_typed : (o : Option Tree) (r : Tree) → o ≡ Some r → IfSome o (IsTypeIn (sig base w) e.symbol.vars) → IsTypeIn (sig base w) e.symbol.vars r
+    result_typed o r q h = rw q at h
+
+    pub count_at : (n : ℕ) (f : ℕ → Tree) → length (instance_at (sig base w) e.symbol it.types n rigid f) ≡ e.symbol.vars
+    count_at n f = length-map (type_variables n e.symbol.vars) (assign rigid f) ∙ count_variables n e.symbol.vars
+
+    given_at : (ls : List LocalTree) (n : ℕ) (f : ℕ → Tree) (a : Tree) → ListTyped (sig base w) Term (types_at rigid f ls) (map (assign rigid f) (map (at_unknowns n e.symbol) e.symbol.args)) a
+        → ListTyped (sig base w) Term (types_at rigid f ls) (map (λ x. inst_types x (instance_at (sig base w) e.symbol it.types n rigid f)) e.symbol.args) a
+    given_at ls n f a h = subst (λ (ts : List Tree). ListTyped (sig base w) Term (types_at rigid f ls) ts a) (parameters_assigned (sig base w) e.symbol it.types n rigid f) h
+
+    predicate_sound : (ls : List LocalTree) (n i : ℕ) (args : Piece) → e.symbol.kind ≡ Predicate → AreSound ls (map (at_unknowns n e.symbol) e.symbol.args) args → IsSound ls None (used n None i (Symbol' e) args)
+    predicate_sound ls n i args q a = record {
+      notes = both_noted base w rigid (noted [] (replicate e.symbol.vars i)) args.notes (noted_sound base w rigid [] (replicate e.symbol.vars i) tt) a.notes;
+      typed = λ f o s x.
+          let ts = instance_at (sig base w) e.symbol it.types n rigid f in
+          let g = given_at ls n f (assign rigid f args.tree) (a.typed f o s x.1) in
+          rw (cells_assigned rigid f (type_variables n e.symbol.vars)) (predicate_typed (sig base w) (types_at rigid f ls) e.number e.symbol ts (assign rigid f args.tree) it.usable it.entry q (count_at n f)
+          (all_assigned_over (sig base w) rigid f o (type_variables n e.symbol.vars) (variables_over (sig base w) n e.symbol.vars)) g);
+    }
+
+    function_sound : (ls : List LocalTree) (n i : ℕ) (t : Tree) (args : Piece) → is_predicate e.symbol.kind ≡ false → IsOver (sig base w) true t → AreSound ls (map (at_unknowns n e.symbol) e.symbol.args) args → IsSound ls (Some t) (used n (Some t) i (Symbol' e) args)
+    function_sound ls n i t args q k a =
+        let m = makes_terms e.symbol.kind it.kind q in
+        let r = result_is m in
+        let z = result_typed e.symbol.result r.0 r.1 it.types.result in
+        let u : at_unknowns n e.symbol (result_or_int e.symbol.result) ≡ at_unknowns n e.symbol r.0 = ap (λ (o : Option Tree). at_unknowns n e.symbol (result_or_int o)) r.1 in
+        record {
+          notes =
+              let from = at_unknowns n e.symbol (result_or_int e.symbol.result) in
+              both_noted base w rigid (noted ((from, t) ∷ []) (replicate e.symbol.vars i)) args.notes
+              (noted_sound base w rigid ((from, t) ∷ []) (replicate e.symbol.vars i) ((rw u (inst_over (sig base w) true (type_variables n e.symbol.vars) (variables_over (sig base w) n e.symbol.vars) r.0 (type_over (sig base w) e.symbol.vars r.0 z)), k), tt)) a.notes;
+          typed = λ f o s x.
+              let ts = instance_at (sig base w) e.symbol it.types n rigid f in
+              let g = given_at ls n f (assign rigid f args.tree) (a.typed f o s.1 x.1) in
+              let same : inst_types r.0 ts ≡ assign rigid f t = sym (at_assigned (sig base w) e.symbol it.types n rigid f r.0 z) ∙ ap (assign rigid f) (sym u) ∙ s.0 in
+              rw (cells_assigned rigid f (type_variables n e.symbol.vars)) (function_typed (sig base w) (types_at rigid f ls) e.number e.symbol ts (assign rigid f args.tree) r.0 (assign rigid f t) it.usable it.entry m (count_at n f)
+              (all_assigned_over (sig base w) rigid f o (type_variables n e.symbol.vars) (variables_over (sig base w) n e.symbol.vars)) g r.1 same (over_assigned (sig base w) rigid f o true t k));
+        }
+
+  -- a use, of which a type or a formula is wanted
+  pub used_sound : (ls : List LocalTree) (n : ℕ) (t : Option Tree) (i c : ℕ) (u : Use) (args : Piece) → WantedOver (sig base w) t → IsUsable (sig base w) ls (is_none t) c u → AreSound ls (parameters n u) args → IsSound ls t (used n t i u args)
+  used_sound ls n t i c (Local' p ty) args k h a = local_sound ls n t i c p ty args k h
+  used_sound ls n None i c (Symbol' e) args k h a = predicate_sound e h.0 ls n i args h.1 a
+  used_sound ls n (Some t) i c (Symbol' e) args k h a = function_sound e h.0 ls n i t args h.1 k a

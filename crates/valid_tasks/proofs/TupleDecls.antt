@@ -14,9 +14,9 @@ use Rattle.tasks.specs.Valid.{own_type, IsTypeIn, AreProjections, IsConstructorO
 use Rattle.tasks.proofs.Declared.{contains_cases, contains_step}
 use Rattle.syntax_why.specs.Lexeme.{Word}
 use Rattle.elab_parts.specs.Entries.{type_entry, projections, builtin, tuple_entries}
-use Rattle.elab_typed.proofs.Signed.{some_at}
-use Rattle.elab_typed.proofs.Instances.{count_variables}
-use Rattle.elab_typed.proofs.Tuples.{own_in, variables_in}
+use Rattle.valid_tasks.proofs.Signed.{some_at}
+use Rattle.valid_tasks.proofs.Instances.{count_variables}
+use Rattle.valid_tasks.proofs.Tuples.{own_in, variables_in}
 use Rattle.goal_tasks.specs.Tuples.{tuple_constructor, tuple_type, tuple_declaration}
 use Rattle.goal_tasks.specs.Meaning.{IsTupleAt}
 use Rattle.valid_tasks.proofs.Kept.{within}

@@ -10,8 +10,8 @@ use Rattle.tasks.specs.Valid.{own_type}
 use Rattle.tasks.proofs.Declared.{none_in}
 use Rattle.syntax_why.specs.Lexeme.{Word}
 use Rattle.elab_parts.specs.Entries.{type_entry, projections, builtin, tuple_in}
-use Rattle.elab_typed.proofs.Instances.{count_variables}
-use Rattle.elab_valid.proofs.Algebraics.{got}
+use Rattle.valid_tasks.proofs.Instances.{count_variables}
+use Rattle.valid_tasks.proofs.Algebraics.{got}
 use Rattle.goal_tasks.specs.Tuples.{tuple_declaration, occurs, tuples_of, tuples_in}
 use Rattle.goal_tasks.specs.Meaning.{IsTupleAt}
 use Rattle.valid_tasks.specs.Built.{IsBuiltRight}

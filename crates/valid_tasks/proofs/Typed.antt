@@ -28,18 +28,18 @@ use Rattle.elab_groups.specs.Groups.{group_signatures}
 use Rattle.elab_inductives.specs.Inductives.{as_members, before_inductives, inductives_seen}
 use Rattle.elab_types.specs.Algebraics.{group_seen, type_entries, group_trees, group_entries}
 use Rattle.elab_terms.specs.Outcomes.{alias_seen, proposition_seen, rigid_names, entry_numbers, IsProposition, IsOutcome, IsElaborated}
-use Rattle.elab_typed.specs.Scopes.{is_projection_kind, IsNamedBy, NamesNew, AgreeBelow}
-use Rattle.elab_typed.specs.Typed.{IsPatternOf, ArePatterns}
-use Rattle.elab_typed.proofs.Signed.{some_at}
-use Rattle.elab_typed.proofs.Extended.{further, in_either, slice_below, slice_all}
-use Rattle.elab_valid.specs.Valid.{IsTypedSetting, HaveNoFault, MayNameRigid}
-use Rattle.elab_valid.specs.Lists.{IsRigidAt}
-use Rattle.elab_valid.proofs.Begin.{agrees}
-use Rattle.elab_valid.proofs.Made.{tuples_built}
-use Rattle.elab_valid.proofs.Elaborated.{elaborated_valid, elaborated_patterns}
-use Rattle.elab_valid.proofs.Goals.{rigid_entries}
-use Rattle.valid_tasks.specs.Typed.{IsFitMatch, IsTypedOver}
-use Rattle.valid_tasks.proofs.Outcomes.{OfTheory, signed_of, types_of, group_of}
+use Rattle.valid_tasks.specs.Scopes.{is_projection_kind, IsNamedBy, NamesNew, AgreeBelow}
+use Rattle.valid_tasks.specs.Typed.{IsPatternOf, ArePatterns}
+use Rattle.valid_tasks.proofs.Signed.{some_at}
+use Rattle.valid_tasks.proofs.Extended.{further, in_either, slice_below, slice_all}
+use Rattle.valid_tasks.specs.Valid.{IsTypedSetting, HaveNoFault, MayNameRigid}
+use Rattle.valid_tasks.specs.Lists.{IsRigidAt}
+use Rattle.valid_tasks.proofs.Begin.{agrees}
+use Rattle.valid_tasks.proofs.Made.{tuples_built}
+use Rattle.valid_tasks.proofs.Elaborated.{elaborated_valid, elaborated_patterns}
+use Rattle.valid_tasks.proofs.Goals.{rigid_entries}
+use Rattle.valid_tasks.specs.TaskTyped.{IsFitMatch, IsTypedOver}
+use Rattle.valid_tasks.proofs.TaskOutcomes.{OfTheory, signed_of, types_of, group_of}
 
 -- ---- new entries: a constructor has a theory
 abbrev IsPlaced : SymbolTree → Type 0

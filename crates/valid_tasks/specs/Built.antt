@@ -2,7 +2,7 @@
 use Rattle.std.specs.Prelude.{◌≡◌, ◌⊎◌, ℕ, suc, true, List, slice_get, Some}
 use Rattle.tasks.specs.Task.{SymbolTree, int_symbol}
 use Rattle.elab_parts.specs.Entries.{tuple_in}
-use Rattle.elab_valid.specs.Lists.{is_built}
+use Rattle.valid_tasks.specs.Lists.{is_built}
 use Rattle.goal_tasks.specs.Meaning.{AreTuples}
 
 -- a type or the constructor of the tuples of a width

@@ -3,8 +3,8 @@ use Rattle.std.specs.Prelude.{ℕ, not, Bool, List, [], ◌++◌, All, IsTrue}
 use Rattle.std.specs.List.{list_any, filter, Contains}
 use Rattle.std.specs.Str.{bytes_eq}
 use Rattle.tasks.specs.Task.{SymbolTree, DeclarationTree}
-use Rattle.elab_typed.specs.Scopes.{IsPart, IsTypedSignature}
-use Rattle.elab_valid.specs.Lists.{after}
+use Rattle.valid_tasks.specs.Scopes.{IsPart, IsTypedSignature}
+use Rattle.valid_tasks.specs.Lists.{after}
 use Rattle.valid_tasks.specs.Tasks.{AreSound}
 
 -- whether a declaration of a theory is among these

@@ -1,5 +1,11 @@
+pub mod Signature
+pub mod Typed
+pub mod Scopes
+pub mod Valid
+pub mod Named
+pub mod Lists
 pub mod Built
 pub mod Tasks
 pub mod Joined
 pub mod Quoted
-pub mod Typed
+pub mod TaskTyped

@@ -11,7 +11,7 @@ use Rattle.syntax_why.specs.declared.declarations.PropKind.{PropKind}
 use Rattle.syntax_why.specs.declared.declarations.PropKind.TheVariants.{Axiom}
 use Rattle.elab_parts.specs.Entries.{builtin}
 use Rattle.elab_terms.specs.Outcomes.{rigid_types}
-use Rattle.elab_valid.specs.Lists.{after, AreValidAfter}
+use Rattle.valid_tasks.specs.Lists.{after, AreValidAfter}
 use Rattle.goal_tasks.specs.Theories.{GoalTree}
 use Rattle.valid_tasks.specs.Built.{IsBuiltRight}
 

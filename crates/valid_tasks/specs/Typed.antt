@@ -1,18 +1,76 @@
--- What is typed over a signature of which each entry that has a theory may be named.
-use Rattle.std.specs.Prelude.{ℕ, List, All}
+-- What is elaborated is well typed over the signature (rank-1 polymorphism).
+use Rattle.std.specs.Prelude.{◌≡◌, ℕ, false, List, [], map, All, Option, Some, None, IfSome}
+use Rattle.std.specs.Option.{is_none}
+use Rattle.trees.specs.declared.Sort.{Sort}
+use Rattle.trees.specs.declared.Sort.TheVariants.{Kind, Term, Formula, Pattern}
 use Rattle.trees.specs.Tree.{Tree}
-use Rattle.tasks.specs.Task.{SymbolTree}
-use Rattle.tasks.specs.Vocabulary.{of_signature}
-use Rattle.match_cover.specs.Shapes.{IsPattern, HaveOneType}
-use Rattle.names_space.specs.Names.{Names}
-use Rattle.elab_typed.specs.Scopes.{IsTypedSignature, AreTypedScopes}
+use Rattle.trees.specs.Sorts.{sort_of, type_of}
+use Rattle.tasks.specs.Vocabulary.{Vocabulary}
+use Rattle.tasks.specs.Typing.{TypedUnder}
+use Rattle.tasks.specs.Valid.{VariablesBelow, ParametersOf, IsTypeIn}
+use Rattle.unify_types.specs.Assigned.{assign}
+use Rattle.elab_names.specs.Abstract.{Expression}
+use Rattle.elab_names.specs.Faults.{fault}
+use Rattle.elab_names.specs.Where.{Where}
+use Rattle.elab_walk.specs.Patterns.{LocalTree}
+use Rattle.elab_walk.specs.Pieces.{names}
+use Rattle.valid_tasks.specs.Signature.{IsWellFormed, HasTuples}
 
--- a match, by its token: its patterns are well typed, and of one type
-pub record IsFitMatch (symbols : List SymbolTree) (m : ℕ × List Tree) : Type 0 where
-  pub patterns : All (IsPattern symbols) m.1
-  pub one_type : HaveOneType m.1
+-- a formula is due, or a term of a type
+abbrev pub due : Option Tree → Sort
+due None = Formula
+due (Some t) = Term
 
--- the signature and scopes are typed, over a store
-pub record IsTypedOver (s : List Tree) (symbols : List SymbolTree) (names : Names) : Type 0 where
-  pub signature : IsTypedSignature (of_signature symbols) symbols
-  pub scopes : AreTypedScopes (of_signature symbols) s names
+-- a type over the signature, at whatever type variables
+pub record IsTypeOf (v : Vocabulary) (t : Tree) : Type 0 where
+  pub sort : sort_of t ≡ Kind
+  pub typed : TypedUnder v [] t
+
+-- a term of this type, or a formula, under variables of these types
+pub record IsTypedAs (v : Vocabulary) (types : List Tree) (t : Option Tree) (e : Tree) : Type 0 where
+  pub typed : TypedUnder v types e
+  pub sort : sort_of e ≡ due t
+  pub type : type_of e ≡ t
+  pub parameters : ParametersOf [] e
+
+-- an expression whose names are there, under these variables, where a term of a type or a formula is due
+pub record IsNamed (base : Vocabulary) (w : Where) (ls : List LocalTree) (t : Option Tree) (e : Expression) : Type 0 where
+  pub signature : IsWellFormed base w
+  pub tuples : HasTuples base w e
+  pub named : fault w false (names ls) (is_none t) e ≡ None
+
+-- the types of variables
+abbrev pub types_of : List LocalTree → List Tree
+types_of ls = map (λ (l : LocalTree). l.type) ls
+
+-- at assigned unknowns
+abbrev pub types_at : ℕ → (ℕ → Tree) → List LocalTree → List Tree
+types_at rigid f ls = map (λ (l : LocalTree). assign rigid f l.type) ls
+
+-- variables and a wanted type of types over the signature
+pub record AreTypes (v : Vocabulary) (ls : List LocalTree) (t : Option Tree) : Type 0 where
+  pub variables : All (λ (l : LocalTree). IsTypeOf v l.type) ls
+  pub wanted : IfSome t (IsTypeOf v)
+
+-- at the declaration's own type variables, of which there are so many
+pub record AreTypesIn (v : Vocabulary) (vars : ℕ) (ls : List LocalTree) (t : Option Tree) : Type 0 where
+  pub variables : All (λ (l : LocalTree). IsTypeIn v vars l.type) ls
+  pub wanted : IfSome t (IsTypeIn v vars)
+
+-- well typed, with the declaration's own type variables alone
+pub record IsTypedIn (v : Vocabulary) (vars : ℕ) (types : List Tree) (t : Option Tree) (e : Tree) : Type 0 where
+  pub typed : IsTypedAs v types t e
+  pub variables : VariablesBelow vars e
+
+-- a pattern of a type over the signature
+pub record IsPatternOf (v : Vocabulary) (t e : Tree) : Type 0 where
+  pub typed : TypedUnder v [] e
+  pub sort : sort_of e ≡ Pattern
+  pub type : type_of e ≡ Some t
+  pub parameters : ParametersOf [] e
+
+-- patterns of one type over the signature, as those of a match
+pub record ArePatterns (v : Vocabulary) (es : List Tree) : Type 0 where
+  pub type : Tree
+  pub over : IsTypeOf v type
+  pub patterns : All (IsPatternOf v type) es

@@ -1,5 +1,0 @@
-use Rattle.clone_maps.proofs.Mapped.{maps_types}
-use Rattle.clone_maps.proofs.types_mapped.Goals as goal
-
-pub returns : goal.returns
-returns k = λ c t es theory within h q n. maps_types c t es theory within h q n

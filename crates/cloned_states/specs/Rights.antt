@@ -1,0 +1,23 @@
+-- A type on the right side of a clone's element, over a signature with the tuples that are seen in it.
+use Rattle.std.specs.Prelude.{List, ◌++◌, length}
+use Rattle.tasks.specs.Task.{SymbolTree}
+use Rattle.tasks.specs.Vocabulary.{Vocabulary}
+use Rattle.tasks.specs.Valid.{IsTypeIn}
+use Rattle.syntax_why.specs.Lexeme.{Word}
+use Rattle.elab_names.specs.Abstract.{Form}
+use Rattle.elab_variables.specs.Seen.{form_seen}
+use Rattle.elab_walk.specs.Pieces.{type_at}
+use Rattle.elab_parts.specs.Elaborated.{unseen}
+use Rattle.elab_parts.specs.Entries.{wanting_tuples}
+use Rattle.elab_parts.specs.Outcomes.{Setting, over}
+use Rattle.valid_tasks.specs.Signature.{with_entries}
+use Rattle.valid_tasks.specs.Scopes.{IsTypedSignature, AreTypedScopes}
+
+abbrev pub with_tuples : Setting → Form → List SymbolTree
+with_tuples c f = c.symbols ++ wanting_tuples c.symbols (form_seen unseen f).widths
+
+-- it is a type over that signature, which is typed, as the scopes are over it
+pub record IsTypedRight (base : Vocabulary) (c : Setting) (vars : List Word) (f : Form) : Type 0 where
+  pub type : IsTypeIn (with_entries base (with_tuples c f)) (length vars) (type_at (over c.trees (with_tuples c f) c.scope vars) f)
+  pub signature : IsTypedSignature base (with_tuples c f)
+  pub scopes : AreTypedScopes (with_entries base (with_tuples c f)) c.trees c.scope

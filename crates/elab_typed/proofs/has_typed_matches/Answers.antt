@@ -1,5 +1,0 @@
-use Rattle.elab_typed.proofs.Solutions.{matches_typed}
-use Rattle.elab_typed.proofs.has_typed_matches.Goals as goal
-
-pub returns : goal.returns
-returns c = λ v w r ls n t e tree ms h a s. matches_typed v w h.signature r ls n t e tree ms h a s

@@ -1,5 +1,0 @@
-use Rattle.elab_typed.proofs.Solutions.{solved_formula}
-use Rattle.elab_typed.proofs.is_formula.Goals as goal
-
-pub returns : goal.returns
-returns c = λ v w r n e tree ms h s i. solved_formula v w h.signature r n e tree ms h s i

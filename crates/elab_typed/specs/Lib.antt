@@ -1,3 +1,0 @@
-pub mod Signature
-pub mod Typed
-pub mod Scopes

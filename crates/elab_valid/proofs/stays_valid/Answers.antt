@@ -1,5 +1,0 @@
-use Rattle.elab_valid.proofs.Stays.{declaration_stays}
-use Rattle.elab_valid.proofs.stays_valid.Goals as goal
-
-pub returns : goal.returns
-returns k = λ v w d part h. declaration_stays v w part d h

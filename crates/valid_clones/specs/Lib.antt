@@ -1,4 +1,0 @@
-pub mod Cloning
-pub mod Rights
-pub mod Trials
-pub mod Steps

@@ -1,5 +1,0 @@
-pub mod Alike
-pub mod Types
-pub mod Trees
-pub mod Forms
-pub mod Declarations

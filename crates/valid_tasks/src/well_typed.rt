@@ -1,0 +1,101 @@
+// What is elaborated is well typed over the signature: the laws that validity of every task depends on.
+ghost use Rattle.std.specs.Prelude.{◌≡◌, ℕ, true, List, [], ◌++◌, length, All, Option, None, option_map};
+ghost use Rattle.trees.specs.Tree.{Tree};
+ghost use Rattle.trees.specs.Facts.{IndicesFit};
+ghost use Rattle.trees.specs.Node.{Grows};
+ghost use Rattle.tasks.specs.Task.{SymbolTree};
+ghost use Rattle.tasks.specs.Vocabulary.{Vocabulary};
+ghost use Rattle.tasks.specs.Valid.{IsFormulaOver};
+ghost use Rattle.unify_types.specs.Assigned.{assign};
+ghost use Rattle.unify_types.specs.Pairs.{SolvesAll};
+ghost use Rattle.names_space.specs.Names.{Names};
+ghost use Rattle.syntax_why.specs.Lexeme.{Word};
+ghost use Rattle.elab_names.specs.Abstract.{Expression};
+ghost use Rattle.elab_names.specs.Where.{Where};
+ghost use Rattle.elab_variables.specs.Seen.{Seen, has_width, seen};
+ghost use Rattle.elab_walk.specs.Patterns.{LocalTree};
+ghost use Rattle.elab_walk.specs.Pieces.{piece};
+ghost use Rattle.elab_parts.specs.Elaborated.{IsSolved};
+ghost use Rattle.elab_parts.specs.Entries.{wanting_tuples};
+ghost use Rattle.elab_parts.specs.Outcomes.{over};
+ghost use Rattle.valid_tasks.specs.Scopes.{IsTypedSignature, NamesNew, AreTypedScopes};
+ghost use Rattle.valid_tasks.specs.Signature.{with_entries, IsWellFormed, HasTuple, HasTuples};
+ghost use Rattle.valid_tasks.specs.Typed.{IsTypeOf, IsTypedAs, IsNamed, types_of, types_at, AreTypes, AreTypesIn, IsTypedIn, ArePatterns};
+
+/// A law: at each solution of its equations by types over the signature, where so many type
+/// variables stand for themselves, the tree of a piece is well typed over the signature under its
+/// variables at that solution, and is a term of the wanted type there, or a formula. No variable
+/// has the greatest index, as in a store.
+pub fn is_typed_at_solutions()
+    ensures { (v : Vocabulary) (w : Where) (rigid : ℕ) (ls : List LocalTree) (n : ℕ)
+        (t : Option Tree) (e : Expression) (f : ℕ → Tree) → IsNamed v w ls t e
+        → AreTypes (with_entries v w.symbols) ls t
+        → ((j : ℕ) → IsTypeOf (with_entries v w.symbols) (f j))
+        → SolvesAll rigid f (piece w ls n t e).notes.equations
+        → IndicesFit (assign rigid f (piece w ls n t e).tree)
+        → IsTypedAs (with_entries v w.symbols) (types_at rigid f ls)
+        (option_map (assign rigid f) t)
+        (assign rigid f (piece w ls n t e).tree) }
+{}
+
+/// A law: where the type equations of a piece determine its tree, that tree is well typed over
+/// the signature under its variables, is a term of the wanted type or a formula, and has the
+/// rigid type variables alone. No variable has the greatest index, as in a store.
+pub fn is_well_typed()
+    ensures { (v : Vocabulary) (w : Where) (rigid : ℕ) (ls : List LocalTree) (n : ℕ)
+        (t : Option Tree) (e : Expression) (tree : Tree) (ms : List (ℕ × List Tree))
+        → IsNamed v w ls t e
+        → AreTypesIn (with_entries v w.symbols) rigid ls t
+        → IsSolved rigid (piece w ls n t e) tree ms → IndicesFit tree
+        → IsTypedIn (with_entries v w.symbols) rigid (types_of ls) t tree }
+{}
+
+/// A law: the tree of a proposition is a closed formula over the signature, with the
+/// rigid type variables. No variable has the greatest index, as in a store.
+pub fn is_formula()
+    ensures { (v : Vocabulary) (w : Where) (rigid n : ℕ) (e : Expression) (tree : Tree)
+        (ms : List (ℕ × List Tree)) → IsNamed v w [] None e
+        → IsSolved rigid (piece w [] n None e) tree ms → IndicesFit tree
+        → IsFormulaOver (with_entries v w.symbols) [] rigid tree }
+{}
+
+/// A law: where the type equations of a piece determine its matches, the patterns of each match,
+/// also of one in a trigger, are well typed over the signature and of one type.
+pub fn has_typed_matches()
+    ensures { (v : Vocabulary) (w : Where) (rigid : ℕ) (ls : List LocalTree) (n : ℕ)
+        (t : Option Tree) (e : Expression) (tree : Tree) (ms : List (ℕ × List Tree))
+        → IsNamed v w ls t e
+        → AreTypes (with_entries v w.symbols) ls t
+        → IsSolved rigid (piece w ls n t e) tree ms
+        → All (λ (m : ℕ × List Tree). ArePatterns (with_entries v w.symbols) m.1) ms }
+{}
+
+/// A law: each tuple of an expression has a constructor of its width where each width that is
+/// seen in it, behind others, has one.
+pub fn has_tuples()
+    ensures { (v : Vocabulary) (w : Where) (e : Expression) (s : Seen)
+        → ((n : ℕ) → has_width n (seen s e).widths ≡ true → HasTuple v w n)
+        → HasTuples v w e }
+{}
+
+/// A law: over a typed signature with the entries of the tuples of some widths, and typed scopes,
+/// names stand for what a well-formed signature asks, and each of these widths has its
+/// constructor; the signature with these entries is typed, where what is new may be named.
+pub fn is_well_formed()
+    ensures typed { (v : Vocabulary) (symbols : List SymbolTree) (widths : List ℕ)
+        → NamesNew v (length symbols) (symbols ++ wanting_tuples symbols widths)
+        → IsTypedSignature v symbols
+        → IsTypedSignature v (symbols ++ wanting_tuples symbols widths) }
+    ensures formed { (v : Vocabulary) (symbols : List SymbolTree) (s : List Tree) (names : Names)
+        (vars : List Word) → IsTypedSignature v symbols
+        → AreTypedScopes (with_entries v symbols) s names
+        → IsWellFormed v (over s symbols names vars) }
+    ensures tuples { (v : Vocabulary) (symbols : List SymbolTree) (s : List Tree) (names : Names)
+        (vars : List Word) (widths : List ℕ) (n : ℕ)
+        → NamesNew v (length symbols) (symbols ++ wanting_tuples symbols widths)
+        → IsTypedSignature v symbols → has_width n widths ≡ true
+        → HasTuple v (over s (symbols ++ wanting_tuples symbols widths) names vars) n }
+    ensures scopes { (v : Vocabulary) (symbols more : List SymbolTree) (s t : List Tree)
+        (names : Names) → Grows s t → AreTypedScopes (with_entries v symbols) s names
+        → AreTypedScopes (with_entries v (symbols ++ more)) t names }
+{}
