@@ -52,14 +52,6 @@ forth d d1 x front tail f t k r =
     let q = refutes_later d d1 x k _ r in
     record { within = q.within; is = q.is ∙ cc (a, b) }
 
-pub back_but : (d d1 : DraftTree) (x : Extends d d1) (front middle last : List TermId) (f : AreFormulas d front) (m : AreFormulas d middle) (l : AreFormulas d last) (d2 : DraftTree) (k : ℕ)
-    → Refutes d2 k (trees_at d1.trees front ++ (trees_at d1.trees middle ++ trees_at d1.trees last)) → Refutes d2 k (trees_at d.trees front ++ (trees_at d.trees middle ++ trees_at d.trees last))
-back_but d d1 x front middle last f m l d2 k r =
-    let a : trees_at d1.trees front ≡ trees_at d.trees front = same d d1 x front f in
-    let b : trees_at d1.trees middle ≡ trees_at d.trees middle = same d d1 x middle m in
-    let c : trees_at d1.trees last ≡ trees_at d.trees last = same d d1 x last l in
-    record { within = r.within; is = r.is ∙ cc (a, b, c) }
-
 -- what is refuted over the later draft, by the trees of the earlier one
 pub back : (d d1 : DraftTree) (x : Extends d d1) (front tail : List TermId) (f : AreFormulas d front) (t : AreFormulas d tail) (d2 : DraftTree) (k : ℕ)
     → Refutes d2 k (trees_at d1.trees front ++ trees_at d1.trees tail) → Refutes d2 k (trees_at d.trees front ++ trees_at d.trees tail)

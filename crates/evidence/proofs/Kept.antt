@@ -1,7 +1,8 @@
 -- A draft stays one as its store grows and right steps are put at its end.
-use Rattle.std.proofs.Common.{◌≡◌, List, [], ◌∷◌, ◌++◌, subst}
-use Rattle.std.proofs.lemmas.List.{map-append}
+use Rattle.std.proofs.Common.{◌≡◌, ℕ, ◌+◌, List, [], ◌∷◌, ◌++◌, length, Result, Ok, Err, IfOk, sym, ap, subst, ◌∙◌}
+use Rattle.std.proofs.lemmas.List.{map-append, length-append}
 use Rattle.std.proofs.lemmas.List.Elements.{All-push}
+use Rattle.std.specs.declared.alloc.AllocError.{AllocError}
 use Rattle.trees.specs.Tree.{Tree}
 use Rattle.trees.specs.Node.{Grows}
 use Rattle.tasks.specs.declared.task.Task.{Task}
@@ -9,6 +10,7 @@ use Rattle.tasks.specs.Meaning.{task_at}
 use Rattle.tasks.specs.Valid.{IsValid}
 use Rattle.tasks.proofs.Growth.{task_later, task_held_later}
 use Rattle.rule_rows.specs.declared.rule.Step.{Step}
+use Rattle.rule_rows.specs.Trees.{StepTree}
 use Rattle.kernel.specs.Right.{IsRight, AreRight}
 use Rattle.rule_rows.specs.Meaning.{step_at, steps_at, StepHeld}
 use Rattle.kernel.proofs.Growth.{right_more, steps_later, steps_held_later}
@@ -42,3 +44,8 @@ pub draft_adds : (s s' : List Tree) (t : Task) (list : List Step) (d : DraftTree
 draft_adds s s' t list d is g inv =
     subst (λ (x : DraftTree). AddsTrees x (seen s' t list)) is
     (record { trees = g; task = task_later s s' g t inv.task; steps = steps_later s s' g list inv.held })
+
+-- a step that was put at the end is the last
+pub pushed_last : (r : Result ℕ AllocError) (d d1 : DraftTree) (st : StepTree) → IfOk r (λ k. k ≡ length d.steps) → IfOk r (λ _. d1 ≡ record d { steps = d.steps ++ st ∷ [] }) → IfOk r (λ k. length d1.steps ≡ k + 1)
+pushed_last (Ok k) d d1 st n e = ap (λ (z : DraftTree). length z.steps) e ∙ length-append d.steps (st ∷ []) ∙ ap (λ (z : ℕ). z + 1) (sym n)
+pushed_last (Err x) d d1 st n e = tt

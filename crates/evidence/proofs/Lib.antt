@@ -4,4 +4,3 @@ pub mod Rules
 pub mod Formulas
 pub mod Moved
 pub mod Lifted
-pub mod Staying

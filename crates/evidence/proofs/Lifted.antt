@@ -26,7 +26,6 @@ use Rattle.rule_rows.proofs.Sequents.{map_twice}
 use Rattle.evidence.specs.Drafts.{DraftTree, Extends, Refutes, IsFormulaAt, AreFormulas}
 use Rattle.evidence.specs.Facts.{citing, CitesNone}
 use Rattle.evidence.specs.Stages.{Equation, Gives, HaveSequents, StandFor, EndIn, HasSequents, KeepsDeclared, Keeps, IsAmong, IsOwn, InStage, Cites, PartsClose, PartsHeld, parts_at, part_or, task_or, no_task, sequent_of, start_of}
-use Rattle.evidence.specs.Languages.{Language, StepIsIn, StepsAreIn}
 use Rattle.evidence.proofs.Typed.{formulas_moved, trees_moved, types_moved}
 use Rattle.evidence.proofs.Moved.{row_other}
 use Rattle.evidence.proofs.Rules.{refutes_later, row_cited}
@@ -135,9 +134,6 @@ in_stage_later q d d1 from to x i =
     let among : IsAmong (Gives q d1.task) (task_at d1.trees to) = rw (x.task, f) i.among in
     record { own = own_later d d1 from x i.own; held = task_held_later d.trees d1.trees x.trees to i.held; among = among }
 
-pub lifts_later : (L : TaskTree → Type 0) (d d1 : DraftTree) → Extends d d1 → L d.task → L d1.task
-lifts_later L d d1 x h = subst L (sym x.task) h
-
 pub have_more : (d d1 : DraftTree) (ns : List ℕ) (q : ℕ → List Tree) (n k : ℕ) → Extends d d1 → HaveSequents d ns q n → Refutes d1 k (q n) → HaveSequents d1 (ns ++ k ∷ []) q (n + 1)
 have_more d d1 ns q n k x u r = record {
   as_many = omega (arith, length-append ns (k ∷ []), u.as_many);
@@ -173,9 +169,6 @@ module _ (d d1 : DraftTree) (part : List Step) (g : Extends d d1) (ph : StepsHel
   part_right to j x th a l is =
       let e1 : task_at d1.trees to ≡ task_at d.trees to = task_later d.trees d1.trees g.trees to th in
       rw (e1, front_later j, step_moved j x l is) (a j (rw (length-map part (step_at d.trees)) l))
-
-  pub part_step_in : (p : Language) (j : ℕ) (x : Step) → StepsAreIn p (steps_at d.trees part) → j < length part → x ≡ get_or part j x → StepIsIn p (step_at d1.trees x)
-  part_step_in p j x f l is = rw (step_moved j x l is) (f j no_step (rw (length-map part (step_at d.trees)) l))
 
   pub stand_part : (j : ℕ) (ns these : List ℕ) → j < length part → these ≡ ns → HaveSequents d1 ns (sequent_of (steps_at d.trees part)) j → StandFor d1 these (steps_at d1.trees (take j part))
   stand_part j ns these l e u =
@@ -243,10 +236,6 @@ module _ (d d1 : DraftTree) (g : Extends d d1) where
       let a : task_at d1.trees x ≡ task_or (tasks_at d.trees to) i = task_later d.trees d1.trees g.trees x h ∙ sym at in
       let b : steps_at d1.trees these ≡ part_or (parts_at d.trees parts) i = part_later parts i y these ph m iy e in
       rw (a, b) (c.each i (rw (length-map to (task_at d.trees)) l))
-
-  pub part_in : (p : Language) (parts : List (List Step)) (i : ℕ) (y these : List Step) → PartsHeld d.trees parts → All (StepsAreIn p) (parts_at d.trees parts) → i < length parts → y ≡ get_or parts i y → these ≡ y
-      → StepsAreIn p (steps_at d1.trees these)
-  part_in p parts i y these ph f m iy e = rw (part_later parts i y these ph m iy e) (f i [] (rw (length-map parts (steps_at d.trees)) m))
 
   pub sequents_more : (q : ℕ → List StepTree) (n : ℕ) → ((i : ℕ) → i < n → HasSequents d (q i)) → HasSequents d1 (q n) → (i : ℕ) → i < n + 1 → HasSequents d1 (q i)
   sequents_more q n a h i l = elim (cases_lt i n) [

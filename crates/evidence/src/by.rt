@@ -1,7 +1,7 @@
 // Steps by each rule, over steps that refute what the rule adds. A sequent is written in two parts: some formulas, the front,
 // and a tail behind them, in which the rule has its places.
 // They stand on drafts; lifting and the transformations put their steps by them.
-ghost use Rattle.std.specs.Prelude.{◌≡◌, ◌+◌, ◌++◌, ◌<◌, ◌≤◌, List, [], ◌∷◌, length, slice_get, All, IfOk, OnOk, ⊤};
+ghost use Rattle.std.specs.Prelude.{◌≡◌, ◌+◌, ◌++◌, ◌<◌, ◌≤◌, List, [], ◌∷◌, length, slice_get, All, IfOk, OnOk};
 ghost use Rattle.trees.specs.Tree.{Tree};
 ghost use Rattle.trees.specs.Node.{tree_at, Holds};
 ghost use Rattle.tasks.specs.Task.{neg, start};
@@ -13,7 +13,6 @@ ghost use Rattle.evidence.specs.Drafts.{Extends, AddsTrees, Refutes, HasLast, Is
 ghost use Rattle.evidence.specs.Facts.{citing, IsFact};
 ghost use Rattle.evidence.specs.Rules.{NamesOwn, RefuteAdded, RefuteHolding, RefuteFailing};
 ghost use Rattle.evidence.specs.Rules.{Clash, holding_rule, failing_rule, counted};
-ghost use Rattle.evidence.specs.Languages.{IsIn, AreIn, RuleIsIn, RespectsNegation, StaysIn};
 
 use crate::Draft;
 use outside::Seq;
@@ -71,9 +70,6 @@ pub fn by_rule(
         (rule_at draft.old.trees rule) premises.now }
     ensures refutes { IfOk result (λ k. Refutes draft.new k
         (trees_at draft.old.trees front.now ++ trees_at draft.old.trees tail.now)) }
-    ensures language { StaysIn (λ p. AreIn p (trees_at draft.old.trees front.now)
-        × AreIn p (trees_at draft.old.trees tail.now)
-        × RuleIsIn p (rule_at draft.old.trees rule)) draft.old draft.new }
     ensures last { IfOk result (λ k. length draft.new.steps ≡ k + 1) }
     ensures grows { Extends draft.old draft.new }
 {
@@ -102,8 +98,6 @@ pub fn by_clash(
     requires clash { Clash (trees_at draft.old.trees tail.now) formula negation }
     ensures refutes { IfOk result (λ k. Refutes draft.new k
         (trees_at draft.old.trees front.now ++ trees_at draft.old.trees tail.now)) }
-    ensures language { StaysIn (λ p. AreIn p (trees_at draft.old.trees front.now)
-        × AreIn p (trees_at draft.old.trees tail.now)) draft.old draft.new }
     ensures grows { Extends draft.old draft.new }
 {
     let from = front.len();
@@ -158,9 +152,6 @@ pub fn by_holding(
         (slice_get (trees_at draft.old.trees tail.now) place) premises.now }
     ensures refutes { IfOk result (λ k. Refutes draft.new k
         (trees_at draft.old.trees front.now ++ trees_at draft.old.trees tail.now)) }
-    ensures language { StaysIn (λ p. AreIn p (trees_at draft.old.trees front.now)
-        × AreIn p (trees_at draft.old.trees tail.now)
-        × RuleIsIn p (holding_rule op place)) draft.old draft.new }
     ensures grows { Extends draft.old draft.new }
 {
     let rule = holding(op, front.len() + place);
@@ -184,9 +175,6 @@ pub fn by_failing(
         (negated (slice_get (trees_at draft.old.trees tail.now) place)) premises.now }
     ensures refutes { IfOk result (λ k. Refutes draft.new k
         (trees_at draft.old.trees front.now ++ trees_at draft.old.trees tail.now)) }
-    ensures language { StaysIn (λ p. AreIn p (trees_at draft.old.trees front.now)
-        × AreIn p (trees_at draft.old.trees tail.now)
-        × RuleIsIn p (failing_rule op place)) draft.old draft.new }
     ensures grows { Extends draft.old draft.new }
 {
     let rule = failing(op, front.len() + place);
@@ -213,9 +201,6 @@ pub fn by_cut(
         ++ neg (tree_at draft.old.trees formula) ∷ []) }
     ensures refutes { IfOk result (λ k. Refutes draft.new k
         (trees_at draft.old.trees front.now ++ trees_at draft.old.trees tail.now)) }
-    ensures language { StaysIn (λ p. AreIn p (trees_at draft.old.trees front.now)
-        × AreIn p (trees_at draft.old.trees tail.now)
-        × IsIn p (tree_at draft.old.trees formula)) draft.old draft.new }
     ensures grows { Extends draft.old draft.new }
 {
     by_rule(draft, front, tail, Rule::Cut(formula), &[yes, no])
@@ -248,9 +233,6 @@ pub fn keep_but(
     ensures refutes { IfOk result (λ k. Refutes draft.new k
         (trees_at draft.old.trees front.now ++ (trees_at draft.old.trees middle.now
         ++ trees_at draft.old.trees last.now))) }
-    ensures language { StaysIn (λ p. AreIn p (trees_at draft.old.trees front.now)
-        × AreIn p (trees_at draft.old.trees middle.now)
-        × AreIn p (trees_at draft.old.trees last.now)) draft.old draft.new }
     ensures last { IfOk result (λ k. length draft.new.steps ≡ k + 1) }
     ensures grows { Extends draft.old draft.new }
 {
@@ -301,9 +283,6 @@ pub fn by_fact(
         ++ tree_at draft.old.trees formula ∷ []) }
     ensures refutes { IfOk result (λ k. Refutes draft.new k
         (trees_at draft.old.trees front.now ++ trees_at draft.old.trees tail.now)) }
-    ensures language { StaysIn (λ p. AreIn p (trees_at draft.old.trees front.now)
-        × AreIn p (trees_at draft.old.trees tail.now)
-        × RuleIsIn p (citing name (trees_at draft.old.trees types.now))) draft.old draft.new }
     ensures grows { Extends draft.old draft.new }
 {
     let _ = formula;
@@ -325,9 +304,6 @@ pub fn fact_lemma(
         (trees_at draft.old.trees types.now) (tree_at draft.old.trees formula) }
     ensures refutes { IfOk result (λ k. Refutes draft.new k
         (neg (tree_at draft.old.trees formula) ∷ [])) }
-    ensures language { StaysIn (λ p. RespectsNegation p
-        × RuleIsIn p (citing name (trees_at draft.old.trees types.now))
-        × IsIn p (tree_at draft.old.trees formula)) draft.old draft.new }
     ensures grows { Extends draft.old draft.new }
 {
     let no_fact = negation(draft, formula)?;
@@ -339,7 +315,6 @@ pub fn fact_lemma(
 pub fn finish(draft: &mut Draft, number: usize) -> Result<(), AllocError>
     requires start { Refutes draft.old number (start draft.old.task) }
     ensures starts { IfOk result (λ _. last_starts draft.new.task draft.new.steps) }
-    ensures language { StaysIn (λ _. ⊤) draft.old draft.new }
     ensures grows { Extends draft.old draft.new }
 {
     let steps = draft.steps();

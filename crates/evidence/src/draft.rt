@@ -38,7 +38,11 @@ impl Model for Draft {
     ghost use Rattle.rule_rows.specs.Meaning.{steps_at};
     ghost use Rattle.evidence.specs.Inside.{IsDraft};
 
-    ghost view = { λ a. record { trees = a.store; task = task_at a.store a.task.value; steps = steps_at a.store a.steps.items } };
+    ghost view = { λ a. record {
+      trees = a.store;
+      task = task_at a.store a.task.value;
+      steps = steps_at a.store a.steps.items;
+    } };
 
     ghost invariant = { λ a. IsDraft a.store a.task.value a.steps.items };
 }

@@ -10,7 +10,6 @@ ghost use Rattle.rule_rows.specs.Meaning.{rule_at, RuleHeld, step_at, steps_at, 
 ghost use Rattle.evidence.specs.Drafts.{Extends, Refutes, IsFormulaAt, AreFormulas};
 ghost use Rattle.evidence.specs.Facts.{citing, CitesNone};
 ghost use Rattle.evidence.specs.Stages.{Gives, IsOwn, InStage, StandFor, HasSequents, Cites, parts_at, PartsHeld, PartsClose};
-ghost use Rattle.evidence.specs.Languages.{IsIn, AreIn, RuleIsIn, StepIsIn, StepsAreIn, RespectsNegation, IsLanguageOf, StaysIn};
 
 use crate::by::{by_cut, keep_but, last_formula, negation};
 use crate::{Draft, Transform};
@@ -90,8 +89,6 @@ fn lift_other(step: &Step, premises: Seq<usize>, draft: &mut Draft) -> Result<us
         (record (step_at draft.old.trees step.now) { premises = premises }) }
     ensures refutes { IfOk result (λ k. Refutes draft.new k
         (trees_at draft.old.trees step.now.sequent)) }
-    ensures language { StaysIn (λ p. StepIsIn p (step_at draft.old.trees step.now)) draft.old
-        draft.new }
     ensures grows { Extends draft.old draft.new }
 {
     let sequent = step.sequent.clone()?;
@@ -135,9 +132,6 @@ fn cut_on(
     requires proved { Refutes draft.old lemma (neg (tree_at draft.old.trees formula) ∷ []) }
     ensures refutes { IfOk result (λ k. Refutes draft.new k
         (trees_at draft.old.trees sequent.now)) }
-    ensures language { StaysIn (λ p. RespectsNegation p
-        × AreIn p (trees_at draft.old.trees sequent.now)
-        × IsIn p (tree_at draft.old.trees formula)) draft.old draft.new }
     ensures grows { Extends draft.old draft.new }
 {
     let no_fact = negation(draft, formula)?;
@@ -157,16 +151,12 @@ fn lift_cited<T: Transform>(
     draft: &mut Draft,
 ) -> Result<usize, AllocError>
     requires stage { InStage (T.equation stage.now) draft.old from.now to.now }
-    requires lifts { T.lifts stage.now draft.old.task }
     requires sequent { AreFormulas draft.old sequent.now }
     requires types_held { All (Holds draft.old.trees) types.now }
     requires cites { Cites draft.old (task_at draft.old.trees to.now)
         (trees_at draft.old.trees sequent.now) name (trees_at draft.old.trees types.now) with_fact }
     ensures refutes { IfOk result (λ k. Refutes draft.new k
         (trees_at draft.old.trees sequent.now)) }
-    ensures language { StaysIn (λ p. IsLanguageOf (T.closed stage.now) draft.old.task p
-        × AreIn p (trees_at draft.old.trees sequent.now)
-        × RuleIsIn p (citing name (trees_at draft.old.trees types.now))) draft.old draft.new }
     ensures grows { Extends draft.old draft.new }
 {
     let formula = last_formula(draft, with_fact);
@@ -185,15 +175,12 @@ fn lift_step<T: Transform>(
     draft: &mut Draft,
 ) -> Result<usize, AllocError>
     requires stage { InStage (T.equation stage.now) draft.old from.now to.now }
-    requires lifts { T.lifts stage.now draft.old.task }
     requires held { StepHeld draft.old.trees step.now }
     requires right { IsRight (task_at draft.old.trees to.now)
         (steps_at draft.old.trees before.now) (step_at draft.old.trees step.now) }
     requires numbers { StandFor draft.old numbers.now (steps_at draft.old.trees before.now) }
     ensures refutes { IfOk result (λ k. Refutes draft.new k
         (trees_at draft.old.trees step.now.sequent)) }
-    ensures language { StaysIn (λ p. IsLanguageOf (T.closed stage.now) draft.old.task p
-        × StepIsIn p (step_at draft.old.trees step.now)) draft.old draft.new }
     ensures grows { Extends draft.old draft.new }
 {
     let premises = renumbered(draft.allocator(), numbers, step.premises.as_slice())?;
@@ -216,13 +203,10 @@ fn lift_part<T: Transform>(
     draft: &mut Draft,
 ) -> Result<Vec<usize>, AllocError>
     requires stage { InStage (T.equation stage.now) draft.old from.now to.now }
-    requires lifts { T.lifts stage.now draft.old.task }
     requires held { StepsHeld draft.old.trees part.now }
     requires right { AreRight (task_at draft.old.trees to.now) (steps_at draft.old.trees part.now) }
     ensures numbers { IfOk result (λ v. StandFor draft.new v.items
         (steps_at draft.old.trees part.now)) }
-    ensures language { StaysIn (λ p. IsLanguageOf (T.closed stage.now) draft.old.task p
-        × StepsAreIn p (steps_at draft.old.trees part.now)) draft.old draft.new }
     ensures grows { Extends draft.old draft.new }
 {
     let mut numbers: Vec<usize> = Vec::new(draft.allocator());
@@ -242,15 +226,12 @@ fn lift_end<T: Transform>(
     draft: &mut Draft,
 ) -> Result<usize, AllocError>
     requires stage { InStage (T.equation stage.now) draft.old from.now to.now }
-    requires lifts { T.lifts stage.now draft.old.task }
     requires held { StepsHeld draft.old.trees part.now }
     requires closes { Closes (task_at draft.old.trees to.now) (steps_at draft.old.trees part.now) }
     ensures refutes { IfOk result (λ k. Refutes draft.new k
         (start (task_at draft.old.trees to.now))) }
     ensures sequents { IfOk result (λ _. HasSequents draft.new
         (steps_at draft.old.trees part.now)) }
-    ensures language { StaysIn (λ p. IsLanguageOf (T.closed stage.now) draft.old.task p
-        × StepsAreIn p (steps_at draft.old.trees part.now)) draft.old draft.new }
     ensures grows { Extends draft.old draft.new }
 {
     let numbers = lift_part(stage, from, to, part, draft)?;
@@ -258,9 +239,8 @@ fn lift_end<T: Transform>(
 }
 
 /// From steps that derive each of the tasks that the draft's task becomes, a step whose sequent is the start of the
-/// draft's task. The draft then has, for each of those steps, a step with its sequent. Its new steps are made of the
-/// formulas of the task and of the handed steps: they are in each language of the task that has these, and is closed
-/// under what the transformation's steps do. After a refusal the draft has further right steps, in these languages.
+/// draft's task. The draft then has, for each of those steps, a step with its sequent. After a refusal the draft has
+/// further right steps.
 pub fn lift_stage<T: Transform>(
     stage: &T,
     from: &Task,
@@ -269,7 +249,6 @@ pub fn lift_stage<T: Transform>(
     draft: &mut Draft,
 ) -> Result<usize, AllocError>
     requires own { IsOwn draft.old from.now }
-    requires lifts { T.lifts stage.now draft.old.task }
     requires to_held { TasksHeld draft.old.trees to.now.items }
     requires gives { Gives (T.equation stage.now) draft.old.task
         (tasks_at draft.old.trees to.now.items) }
@@ -279,8 +258,6 @@ pub fn lift_stage<T: Transform>(
     ensures refutes { IfOk result (λ k. Refutes draft.new k (start draft.old.task)) }
     ensures sequents { IfOk result (λ _. All (HasSequents draft.new)
         (parts_at draft.old.trees parts.now)) }
-    ensures language { StaysIn (λ p. IsLanguageOf (T.closed stage.now) draft.old.task p
-        × All (StepsAreIn p) (parts_at draft.old.trees parts.now)) draft.old draft.new }
     ensures grows { Extends draft.old draft.new }
 {
     let mut ends: Vec<usize> = Vec::new(draft.allocator());

@@ -1,15 +1,14 @@
 // Transformations, and the laws by which refutations of what they make are brought back.
 // They stand on drafts; each transformation's crate gives them once, and `lift_stage` is proved from them alone.
-ghost use Rattle.std.specs.Prelude.{◌≡◌, List, [], ◌∷◌, All, IfOk, IfErr, ⊤};
+ghost use Rattle.std.specs.Prelude.{◌≡◌, List, [], ◌∷◌, All, IfOk, IfErr};
 ghost use Rattle.trees.specs.Node.{tree_at, Holds, Grows};
 ghost use Rattle.tasks.specs.Task.{TaskTree, neg, start};
 ghost use Rattle.tasks.specs.Valid.{IsValid};
 ghost use Rattle.tasks.specs.Meaning.{trees_at, task_at, tasks_at, TaskHeld, TasksHeld};
 ghost use Rattle.evidence.specs.Drafts.{Extends, Refutes, IsFormulaAt};
-ghost use Rattle.evidence.specs.Facts.{citing, IsFact};
+ghost use Rattle.evidence.specs.Facts.{IsFact};
 ghost use Rattle.evidence.specs.declared.stage.StageFault.{StageFault};
 ghost use Rattle.evidence.specs.Stages.{Equation, Gives, IsStageFault, Keeps, IsOwn, InStage, EndIn};
-ghost use Rattle.evidence.specs.Languages.{Language, IsIn, RuleIsIn, IsLanguageOf, StaysIn};
 
 use crate::Draft;
 use std::alloc::{AllocError, Global};
@@ -40,13 +39,6 @@ pub trait Transform {
     /// Which tasks a task becomes, or why it becomes none.
     ghost equation: { Self → Equation };
 
-    /// The tasks for which it brings refutations back.
-    ghost lifts: { Self → TaskTree → Type 0 } = { λ _ _. ⊤ };
-
-    /// The languages (sets of formulas and types) that are closed under what its steps for a task do: such a language of
-    /// the task has the formulas of the steps that `fact` and `glue` put in, where it has those of the earlier steps.
-    ghost closed: { Self → TaskTree → Language → Type 0 };
-
     /// What the equation says: its tasks, or a fault for which it gives none. Want of memory apart, it says nothing else.
     fn apply(&self, alloc: Global, store: &mut Store, task: &Task) -> Result<Vec<Task>, StageFault>
         requires held { TaskHeld store.old task.now }
@@ -71,16 +63,12 @@ pub trait Transform {
         draft: &mut Draft,
     ) -> Result<usize, AllocError>
         requires stage { InStage (equation self.now) draft.old from.now to.now }
-        requires lifts { lifts self.now draft.old.task }
         requires types_held { All (Holds draft.old.trees) types.now }
         requires formula { IsFormulaAt draft.old formula }
         requires fact { IsFact draft.old.task (task_at draft.old.trees to.now) name
             (trees_at draft.old.trees types.now) (tree_at draft.old.trees formula) }
         ensures refutes { IfOk result (λ k. Refutes draft.new k
             (neg (tree_at draft.old.trees formula) ∷ [])) }
-        ensures language { StaysIn (λ p. IsLanguageOf (closed self.now) draft.old.task p
-            × RuleIsIn p (citing name (trees_at draft.old.trees types.now))
-            × IsIn p (tree_at draft.old.trees formula)) draft.old draft.new }
         ensures grows { Extends draft.old draft.new };
 
     /// From steps whose sequents are the starts of `to`, the tasks that the draft's task becomes, a step whose sequent is
@@ -93,14 +81,11 @@ pub trait Transform {
         draft: &mut Draft,
     ) -> Result<usize, AllocError>
         requires own { IsOwn draft.old from.now }
-        requires lifts { lifts self.now draft.old.task }
         requires to_held { TasksHeld draft.old.trees to.now.items }
         requires gives { Gives (equation self.now) draft.old.task
             (tasks_at draft.old.trees to.now.items) }
         requires ends { EndIn draft.old ends.now (tasks_at draft.old.trees to.now.items) }
         ensures refutes { IfOk result (λ k. Refutes draft.new k (start draft.old.task)) }
-        ensures language { StaysIn (IsLanguageOf (closed self.now) draft.old.task) draft.old
-            draft.new }
         ensures grows { Extends draft.old draft.new };
 
     /// The tasks of a valid task have its symbols, declare the same, and are valid; their algebraic and inductive groups

@@ -1,8 +1,8 @@
 // Tasks carried through stages.
 // It depends on the transformations that are built; the program depends on it.
-ghost use Rattle.std.specs.Prelude.{◌≡◌, [], ◌∷◌, map, All, Ok, IfOk, IfErr};
+ghost use Rattle.std.specs.Prelude.{map, Ok, IfOk, IfErr};
 ghost use Rattle.trees.specs.Node.{Grows};
-ghost use Rattle.tasks.specs.Meaning.{task_at, tasks_at, TaskHeld, TasksHeld};
+ghost use Rattle.tasks.specs.Meaning.{task_at, tasks_at, TaskHeld};
 ghost use Rattle.tasks.specs.Valid.{IsValid};
 ghost use Rattle.stage_limits.specs.Limits.{limited};
 ghost use Rattle.stages.specs.Transformations.{equation_of};

@@ -1,12 +1,11 @@
 // Refutations of the tasks that a task becomes, brought back through the stages to a derivation of the task.
 // It depends on the laws of the transformations that are built; the program depends on it.
-ghost use Rattle.std.specs.Prelude.{◌≡◌, ℕ, ◌≤◌, List, Ok, IfOk, length, map};
+ghost use Rattle.std.specs.Prelude.{List, Ok, IfOk, map};
 ghost use Rattle.trees.specs.Node.{Grows};
 ghost use Rattle.tasks.specs.Task.{TaskTree};
 ghost use Rattle.tasks.specs.Meaning.{task_at, tasks_at, TaskHeld, TasksHeld};
 ghost use Rattle.tasks.specs.Valid.{IsValid};
 ghost use Rattle.kernel.specs.Right.{last_starts};
-ghost use Rattle.rule_rows.specs.Meaning.{steps_at, StepsHeld};
 ghost use Rattle.evidence.specs.Drafts.{Extends};
 ghost use Rattle.evidence.specs.Stages.{Gives, IsOwn, PartsClose, PartsHeld, parts_at};
 ghost use Rattle.stages.specs.Transformations.{equation_of};
@@ -131,9 +130,11 @@ fn lift_next(
     requires held { TaskHeld store task.now }
     requires valid { IsValid (task_at store task.now) }
     requires rest_held { PartsHeld store rest.now }
-    requires close { (us : List TaskTree) → Gives (equation_of stage.now) (task_at store task.now) us
+    requires close { (us : List TaskTree)
+        → Gives (equation_of stage.now) (task_at store task.now) us
         → IsFrontClosed us (parts_at store rest.now) }
-    ensures { IfOk result (IsNext (equation_of stage.now) store (task_at store task.now) (parts_at store rest.now)) }
+    ensures { IfOk result (IsNext (equation_of stage.now) store (task_at store task.now)
+        (parts_at store rest.now)) }
 {
     let mut store = store;
     let to = tasks_again(alloc, &mut store, stage, task)?;
@@ -184,7 +185,8 @@ fn lift_from(
     requires parts_held { PartsHeld store parts.items }
     requires refuted { AreRefutedFrom (map equation_of stages.now) (tasks_at store tasks.now)
         (parts_at store parts.items) }
-    ensures { IfOk result (AreDerived store (tasks_at store tasks.now) (parts_at store parts.items)) }
+    ensures { IfOk result (AreDerived store (tasks_at store tasks.now)
+        (parts_at store parts.items)) }
 {
     match stages.split_first() {
         None => Ok(Parts {

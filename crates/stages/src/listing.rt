@@ -2,7 +2,7 @@
 // It depends on the transformations that are built; the carrying of tasks depends on it.
 ghost use Rattle.std.specs.List.{list_any};
 ghost use Rattle.std.specs.Str.{bytes_eq};
-ghost use Rattle.std.specs.Prelude.{◌≡◌, ◌+◌, ◌++◌, List, Ok, Err, IfOk, MatchResult, OnOk, drop};
+ghost use Rattle.std.specs.Prelude.{◌≡◌, ◌+◌, ◌++◌, List, Ok, Err, IfOk, MatchResult, OnOk};
 ghost use Rattle.trees.specs.Tree.{Tree};
 ghost use Rattle.tasks.specs.Meaning.{declaration_at, declarations_at, task_at};
 ghost use Rattle.stages.specs.Listing.{IsPushed, IsPushedOne, built, is_removed_of, name_if, removed_names, removed_of, stages_of};
@@ -160,7 +160,8 @@ pub fn stages_of(
     driver: &Driver,
     task: &Task,
 ) -> Result<Vec<Transformation>, CarryFault>
-    ensures { MatchResult result (λ v. (s : List Tree) → stages_of driver.now (task_at s task.now) ≡ Ok v.items)
+    ensures { MatchResult result (λ v. (s : List Tree) → stages_of driver.now (task_at s task.now)
+        ≡ Ok v.items)
         (λ e. (s : List Tree) → IsListFault (stages_of driver.now (task_at s task.now)) e) }
 {
     let props = removed_names(alloc, driver, task)?;

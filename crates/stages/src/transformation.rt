@@ -1,6 +1,5 @@
 // The transformations that are built, as one type.
 // Each is a crate of its own; the list of a driver's stages is made of them.
-ghost use Rattle.std.specs.Prelude.{List};
 ghost use Rattle.stages.specs.Transformations.{equation_of};
 ghost use Rattle.stages.specs.Kept.{keeps_of};
 
@@ -22,8 +21,6 @@ pub enum Transformation {
 
 impl Transform for Transformation {
     ghost equation = { equation_of };
-
-    ghost closed = { λ _ _ _. ⊥ };
 
     fn apply(
         &self,

@@ -22,8 +22,6 @@ pub struct Introduce;
 impl Transform for Introduce {
     ghost equation = { λ _ from. introduce_equation from };
 
-    ghost closed = { λ _ _ _. ⊥ };
-
     /// The task with what is introduced.
     fn apply(
         &self,

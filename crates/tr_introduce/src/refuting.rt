@@ -1,5 +1,5 @@
 // From a step that refutes what was introduced from a goal once, one that refutes the goal's negation.
-ghost use Rattle.std.specs.Prelude.{◌≡◌, ◌++◌, [], ◌∷◌, ◌<◌, length, slice_get, IfOk};
+ghost use Rattle.std.specs.Prelude.{◌++◌, [], ◌∷◌, ◌<◌, IfOk};
 ghost use Rattle.trees.specs.Node.{tree_at};
 ghost use Rattle.tasks.specs.Task.{neg};
 ghost use Rattle.tasks.specs.Meaning.{trees_at};

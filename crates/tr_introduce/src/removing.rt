@@ -26,8 +26,6 @@ pub struct Remove {
 impl Transform for Remove {
     ghost equation = { λ x from. remove_equation x.props from };
 
-    ghost closed = { λ _ _ _. ⊥ };
-
     /// The task without what is removed.
     fn apply(
         &self,

@@ -3,4 +3,3 @@ pub mod Gained
 pub mod Tasks
 pub mod Pieces
 pub mod Glued
-pub mod Sides

@@ -1,6 +1,6 @@
 -- The pieces of a derivation of a goal from its parts are right.
-use Rattle.std.proofs.Common.{◌≡◌, ℕ, ◌<◌, ◌≤◌, ◌+◌, ◌-◌, List, [], ◌∷◌, ◌++◌, Some, length, map, get_or, slice_get, take, drop, min, All, refl, sym, ap, subst, ◌∙◌, append_assoc, arith}
-use Rattle.std.proofs.lemmas.List.{map-append, length-append, length-map, get_or-map, get_or-append-add, get_or_append_left, get_or-take, get_or-drop, length-take-le, length-drop}
+use Rattle.std.proofs.Common.{◌≡◌, ℕ, ◌<◌, ◌≤◌, ◌+◌, ◌-◌, List, [], ◌∷◌, ◌++◌, Some, length, map, get_or, slice_get, drop, min, All, refl, sym, ap, subst, ◌∙◌, append_assoc, arith}
+use Rattle.std.proofs.lemmas.List.{map-append, length-append, length-map, get_or-map, get_or-append-add, get_or-drop, length-drop}
 use Rattle.std.proofs.lemmas.List.Elements.{All-push}
 use Rattle.trees.specs.declared.TermId.{TermId}
 use Rattle.trees.specs.Tree.{Tree, Leaf, Two, HEnd, HJoin}
@@ -10,16 +10,14 @@ use Rattle.tasks.specs.Valid.{IsGroundFormula}
 use Rattle.tasks.specs.Meaning.{trees_at}
 use Rattle.evidence.specs.Drafts.{DraftTree, Extends, Refutes, AreFormulas, IsFormulaAt}
 use Rattle.evidence.specs.Rules.{Clash, RefuteBehind, RefuteHolding, RefuteFailing}
-use Rattle.evidence.specs.Stages.{HaveSequents}
 use Rattle.rule_rows.specs.Forms.{negated, join}
 use Rattle.rule_rows.specs.Rows.{where_true, where_false}
 use Rattle.evidence.proofs.Rules.{refutes_later}
 use Rattle.evidence.proofs.Formulas.{same}
 use Rattle.trees.specs.declared.Op.{Op}
 use Rattle.tr_split.specs.Parts.{Joins}
-use Rattle.tr_split.specs.Split.{imp, split}
-use Rattle.tr_split.proofs.Gained.{imp_later}
-use Rattle.tr_split.specs.Glue.{Ends, end_of}
+use Rattle.tr_split.specs.Split.{imp}
+use Rattle.tr_split.specs.Glue.{Ends}
 
 pub regroup : (d : DraftTree) (k : ℕ) (f t x : List Tree) → Refutes d k (f ++ (t ++ x)) → Refutes d k ((f ++ t) ++ x)
 regroup d k f t x r = record { within = r.within; is = r.is ∙ sym (append_assoc f t x) }
@@ -66,13 +64,6 @@ under_later d d1 x front f k h n a g r e =
     let q = refutes_later d d1 x k _ r in
     record { within = q.within; is = q.is ∙ append_assoc (trees_at d.trees front) (tree_at d.trees h ∷ []) (neg a ∷ []) ∙ cc (b, c, e) }
 
-pub under_back : (d d1 : DraftTree) (x : Extends d d1) (front : List TermId) (f : AreFormulas d front) (d2 : DraftTree) (k : ℕ) (h n : TermId) (a : Tree) → IsFormulaAt d h → tree_at d1.trees n ≡ neg a
-    → Refutes d2 k (trees_at d1.trees front ++ trees_at d1.trees (h ∷ n ∷ [])) → Refutes d2 k ((trees_at d.trees front ++ tree_at d.trees h ∷ []) ++ neg a ∷ [])
-under_back d d1 x front f d2 k h n a g e r =
-    let b : trees_at d1.trees front ≡ trees_at d.trees front = same d d1 x front f in
-    let c : tree_at d1.trees h ≡ tree_at d.trees h = x.trees.same h.0 g.held in
-    record { within = r.within; is = r.is ∙ cc (b, c, e) ∙ sym (append_assoc (trees_at d.trees front) (tree_at d.trees h ∷ []) (neg a ∷ [])) }
-
 -- an end of an implication's parts, over a draft that has grown
 pub part_under : (d d1 : DraftTree) (x : Extends d d1) (front : List TermId) (f : AreFormulas d front) (h : TermId) (g : IsFormulaAt d h) (ends : List ℕ) (parts : List Tree) (i : ℕ)
     → Ends d ends (trees_at d.trees front) (map (imp (tree_at d.trees h)) parts) → i < length ends
@@ -88,18 +79,6 @@ part_under d d1 x front f h g ends parts i u l =
     let q = refutes_later d d1 x (get_or ends i 0) _ r in
     let c : neg (get_or (map (imp H) parts) i (Leaf HEnd)) ≡ neg (imp (tree_at d1.trees h) (get_or parts i (Leaf HEnd))) = ap neg (e ∙ ap (λ (z : Tree). imp z (get_or parts i (Leaf HEnd))) (sym b)) in
     record { within = q.within; is = q.is ∙ cc (a, c) }
-
-pub part_done : (d d1 d2 : DraftTree) (x : Extends d d1) (front : List TermId) (f : AreFormulas d front) (h : TermId) (g : IsFormulaAt d h) (k : ℕ) (part : Tree)
-    → Refutes d2 k ((trees_at d1.trees front ++ tree_at d1.trees h ∷ []) ++ neg part ∷ []) → Refutes d2 k ((trees_at d.trees front ++ tree_at d.trees h ∷ []) ++ neg part ∷ [])
-part_done d d1 d2 x front f h g k part r =
-    let a : trees_at d1.trees front ≡ trees_at d.trees front = same d d1 x front f in
-    let b : tree_at d1.trees h ≡ tree_at d.trees h = x.trees.same h.0 g.held in
-    record { within = r.within; is = r.is ∙ cc (a, b) }
-
-pub ends_all : (d : DraftTree) (ns ends : List ℕ) (front more parts : List Tree) (h : Tree) (n : ℕ) → HaveSequents d ns (end_of more parts) n → length ends ≡ length (map (imp h) parts) → length ends ≤ n → n ≤ length ends → Ends d ns more parts
-ends_all d ns ends front more parts h n u e l m =
-    let k : n ≡ length parts = omega (arith, length-map parts (imp h)) in
-    record { as_many = u.as_many ∙ k; each = λ i q. u.each i (omega arith) }
 
 -- the sides of a formula that joins two are formulas of sequents
 pub record Sides (d : DraftTree) (a b : TermId) : Type 0 where
@@ -122,19 +101,6 @@ ends_later d d1 x front f ends parts u = record {
   each = λ i h. let q = refutes_later d d1 x (get_or ends i 0) _ (u.each i h) in
       record { within = q.within; is = q.is ∙ ap (λ (z : List Tree). z ++ neg (get_or parts i (Leaf HEnd)) ∷ []) (sym (same d d1 x front f)) };
 }
-
-pub ends_left : (d : DraftTree) (ends first : List ℕ) (front xs ys : List Tree) (n : ℕ) → Ends d ends front (xs ++ ys) → first ≡ take n ends → n ≡ length xs → Ends d first front xs
-ends_left d ends first front xs ys n u e l =
-    let m : length ends ≡ length xs + length ys = u.as_many ∙ length-append xs ys in
-    let k : length (take n ends) ≡ n = length-take-le n ends (omega arith) in
-    record {
-      as_many = ap length e ∙ k ∙ l;
-      each = λ i h.
-          let a : get_or first i 0 ≡ get_or ends i 0 = ap (λ (z : List ℕ). get_or z i 0) e ∙ get_or-take n ends i 0 (omega arith) in
-          let b : get_or (xs ++ ys) i (Leaf HEnd) ≡ get_or xs i (Leaf HEnd) = get_or_append_left xs ys (Leaf HEnd) i h in
-          let r = u.each i (omega (arith, length-append xs ys)) in
-          subst (λ (z : Tree). Refutes d (get_or first i 0) (front ++ neg z ∷ [])) b (subst (λ (z : ℕ). Refutes d z (front ++ neg (get_or (xs ++ ys) i (Leaf HEnd)) ∷ [])) (sym a) r);
-    }
 
 pub ends_right : (d : DraftTree) (ends second : List ℕ) (front xs ys : List Tree) (n : ℕ) → Ends d ends front (xs ++ ys) → second ≡ drop n ends → n ≡ length xs → Ends d second front ys
 ends_right d ends second front xs ys n u e l =
@@ -165,12 +131,6 @@ neg_back d d1 x front f a g d2 k r =
     let e : trees_at d1.trees front ≡ trees_at d.trees front = same d d1 x front f in
     let h : tree_at d1.trees a ≡ tree_at d.trees a = x.trees.same a.0 g.held in
     record { within = r.within; is = r.is ∙ cc (e, h) }
-
-pub ends_of_imp : (d d1 : DraftTree) (x : Extends d d1) (front : List TermId) (f : AreFormulas d front) (a b : TermId) (s : Sides d a b) (ends : List ℕ)
-    → Ends d ends (trees_at d.trees front) (map (imp (tree_at d.trees a)) (split (tree_at d.trees b))) → Ends d1 ends (trees_at d1.trees front) (map (imp (tree_at d1.trees a)) (split (tree_at d1.trees b)))
-ends_of_imp d d1 x front f a b s ends u =
-    let e = imp_later d.trees d1.trees b (tree_at d1.trees a) (tree_at d.trees a) (x.trees.same a.0 s.left.held) x.trees s.right.held in
-    subst (Ends d1 ends (trees_at d1.trees front)) (sym e) (ends_later d d1 x front f ends _ u)
 
 pub wider_formulas : (d : DraftTree) (front wider : List TermId) (a : TermId) → wider ≡ front ++ a ∷ [] → AreFormulas d front → IsFormulaAt d a → AreFormulas d wider
 wider_formulas d front wider a e f g =

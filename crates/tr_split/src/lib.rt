@@ -1,9 +1,7 @@
-//! Splits the goal of a task into its parts (Why3 manual, "split_goal_right").
-//! It stands on the transformations of evidence; the program splits with it.
+//! The parts of a goal (Why3 manual, "split_goal_right"), and a task for each of them.
 #![tactic(auto)]
 
-mod glue;
 mod parts;
 mod split;
 
-pub use split::{Split, split_goal};
+pub use split::split_goal;

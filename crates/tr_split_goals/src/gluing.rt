@@ -328,7 +328,8 @@ fn glue_if(
     requires front { AreFormulas draft.old front.now }
     requires goal { IsFormulaAt draft.old goal }
     requires tree { tree_at draft.old.trees goal
-        ≡ Three HIf (tree_at draft.old.trees cond) (tree_at draft.old.trees a) (tree_at draft.old.trees b) }
+        ≡ Three HIf (tree_at draft.old.trees cond) (tree_at draft.old.trees a)
+        (tree_at draft.old.trees b) }
     requires cond { IsFormulaAt draft.old cond }
     requires a { IsFormulaAt draft.old a }
     requires b { IsFormulaAt draft.old b }

@@ -1,5 +1,5 @@
 // From the end of a part under something, which is read from its step, the end of the part alone.
-ghost use Rattle.std.specs.Prelude.{◌≡◌, ◌++◌, [], ◌∷◌, IfOk};
+ghost use Rattle.std.specs.Prelude.{◌++◌, [], ◌∷◌, IfOk};
 ghost use Rattle.trees.specs.Tree.{Tree, Two, HForall, HLet};
 ghost use Rattle.trees.specs.Node.{tree_at, Holds};
 ghost use Rattle.trees.specs.Binding.{inst};

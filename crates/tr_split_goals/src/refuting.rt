@@ -1,5 +1,5 @@
 // The negation of a goal refuted, from steps that refute those of what it is split into.
-ghost use Rattle.std.specs.Prelude.{◌≡◌, ◌++◌, [], ◌∷◌, length, IfOk};
+ghost use Rattle.std.specs.Prelude.{◌≡◌, ◌++◌, [], ◌∷◌, IfOk};
 ghost use Rattle.trees.specs.Tree.{Leaf, Two, Three, HTrue, HForall, HLet, HIf, HJoin};
 ghost use Rattle.trees.specs.Node.{tree_at};
 ghost use Rattle.trees.specs.Binding.{inst, Param};
@@ -313,7 +313,8 @@ pub(crate) fn refute_if(
     requires front { AreFormulas draft.old front.now }
     requires goal { IsFormulaAt draft.old goal }
     requires tree { tree_at draft.old.trees goal
-        ≡ Three HIf (tree_at draft.old.trees cond) (tree_at draft.old.trees then) (tree_at draft.old.trees other) }
+        ≡ Three HIf (tree_at draft.old.trees cond) (tree_at draft.old.trees then)
+        (tree_at draft.old.trees other) }
     requires cond { IsFormulaAt draft.old cond }
     requires there { IsFormulaAt draft.old there }
     requires there_is { tree_at draft.old.trees there
@@ -323,8 +324,10 @@ pub(crate) fn refute_if(
         ≡ Two (HJoin Op.Imp) (neg (tree_at draft.old.trees cond)) (tree_at draft.old.trees other) }
     requires defined { IsFormulaAt draft.old defined }
     requires defined_is { tree_at draft.old.trees defined ≡ Two (HJoin Op.And)
-        (Two (HJoin Op.Imp) (tree_at draft.old.trees cond) (Two (HJoin Op.Iff) (tree_at draft.old.trees goal) (tree_at draft.old.trees then)))
-        (Two (HJoin Op.Imp) (neg (tree_at draft.old.trees cond)) (Two (HJoin Op.Iff) (tree_at draft.old.trees goal) (tree_at draft.old.trees other))) }
+        (Two (HJoin Op.Imp) (tree_at draft.old.trees cond)
+        (Two (HJoin Op.Iff) (tree_at draft.old.trees goal) (tree_at draft.old.trees then)))
+        (Two (HJoin Op.Imp) (neg (tree_at draft.old.trees cond))
+        (Two (HJoin Op.Iff) (tree_at draft.old.trees goal) (tree_at draft.old.trees other))) }
     requires left { Refutes draft.old left (trees_at draft.old.trees front.now
         ++ neg (tree_at draft.old.trees there) ∷ []) }
     requires right { Refutes draft.old right (trees_at draft.old.trees front.now

@@ -18,8 +18,6 @@ pub struct Split;
 impl Transform for Split {
     ghost equation = { λ _ from. split_equation from };
 
-    ghost closed = { λ _ _ _. ⊥ };
-
     /// A task for each part of the goal, in order.
     fn apply(
         &self,

@@ -1,5 +1,4 @@
 use Rattle.evidence.proofs.Formulas.{clash_names, clash_added}
-use Rattle.evidence.proofs.Staying.{stays_by}
 use Rattle.evidence.proofs.by.by_clash.Goals as goal
 
 pub by_rule-requires-clause-names : goal.by_rule-requires-clause-names
@@ -7,6 +6,3 @@ by_rule-requires-clause-names c = clash_names c.args.draft.now.task _ _
 
 pub by_rule-requires-clause-added : goal.by_rule-requires-clause-added
 by_rule-requires-clause-added c = clash_added c.args.draft.now c.args.front.now c.args.tail.now c.args.formula c.args.negation c.requires.clash
-
-pub returns-clause-language : goal.returns-clause-language
-returns-clause-language c = stays_by _ _ _ _ c.by_rule.ensures.language (λ p k s. (k.0, k.1, tt))

@@ -2,7 +2,6 @@ use Rattle.std.proofs.Common.{◌++◌}
 use Rattle.trees.specs.Node.{tree_at}
 use Rattle.tasks.specs.Meaning.{trees_at}
 use Rattle.evidence.proofs.Formulas.{citing_names, fact_added}
-use Rattle.evidence.proofs.Staying.{stays_by}
 use Rattle.evidence.proofs.by.by_fact.Goals as goal
 
 pub by_rule-requires-clause-held : goal.by_rule-requires-clause-held
@@ -18,7 +17,3 @@ by_rule-requires-clause-added c =
     let d = c.args.draft.now in
     rw (c.citation-rule.ensures.tree d.trees, c.in_ok-list.ensures)
     (fact_added d (trees_at d.trees c.args.front.now ++ trees_at d.trees c.args.tail.now) c.args.name (trees_at d.trees c.args.types.now) (tree_at d.trees c.args.formula) c.args.premise c.requires.fact c.requires.premise)
-
-pub returns-clause-language : goal.returns-clause-language
-returns-clause-language c =
-    stays_by _ _ _ _ c.by_rule.ensures.language (λ p k s. (k.0, k.1, rw (c.citation-rule.ensures.tree c.args.draft.now.trees, c.in_ok-list.ensures) k.2))

@@ -1,5 +1,4 @@
 use Rattle.evidence.proofs.Formulas.{failing_names, failing_added}
-use Rattle.evidence.proofs.Staying.{stays_by, failing_in}
 use Rattle.evidence.proofs.by.by_failing.Goals as goal
 
 pub by_rule-requires-clause-held : goal.by_rule-requires-clause-held
@@ -10,7 +9,3 @@ by_rule-requires-clause-names c = rw (c.failing-rule.ensures.tree c.args.draft.n
 
 pub by_rule-requires-clause-added : goal.by_rule-requires-clause-added
 by_rule-requires-clause-added c = rw (c.failing-rule.ensures.tree c.args.draft.now.trees) (failing_added c.args.draft.now c.args.front.now c.args.tail.now c.args.op c.args.place c.args.premises.now c.requires.joined)
-
-pub returns-clause-language : goal.returns-clause-language
-returns-clause-language c =
-    stays_by _ _ _ _ c.by_rule.ensures.language (λ p k s. (k.0, k.1, rw (c.failing-rule.ensures.tree c.args.draft.now.trees) (failing_in p c.args.op c.args.place _ k.2)))

@@ -1,8 +1,8 @@
 use Rattle.std.proofs.Common.{◌≡◌, ◌∙◌, ◌++◌, All, sym, subst}
 use Rattle.std.proofs.lemmas.List.Elements.{All-append}
 use Rattle.trees.specs.Node.{Holds}
+use Rattle.evidence.proofs.Kept.{pushed_last}
 use Rattle.evidence.proofs.Rules.{step_right}
-use Rattle.evidence.proofs.Staying.{stays_pushed, pushed_last, joined_in}
 use Rattle.evidence.proofs.by.by_rule.Goals as goal
 
 pub push-requires-clause-held : goal.push-requires-clause-held
@@ -15,14 +15,6 @@ pub push-requires-clause-right : goal.push-requires-clause-right
 push-requires-clause-right c =
     step_right c.args.draft.now c.args.front.now c.args.tail.now c.from_vec-sequent.result c.args.rule c.in_ok-premises.premises c.args.premises.now
     (c.from_vec-sequent.ensures ∙ c.in_ok-joined.ensures) c.in_ok-premises.ensures c.requires.front c.requires.tail c.requires.names c.requires.added
-
-pub returns-clause-language : goal.returns-clause-language
-returns-clause-language c =
-    let d = c.args.draft.now in
-    stays_pushed _ c.push.result d c.push.new.self _ c.push.ensures.pushed c.push.ensures.unchanged (λ p k s. record {
-      sequent = joined_in d.trees p c.args.front.now c.args.tail.now c.from_vec-sequent.result (c.from_vec-sequent.ensures ∙ c.in_ok-joined.ensures) k.0 k.1;
-      rule = k.2;
-    })
 
 pub returns-clause-last : goal.returns-clause-last
 returns-clause-last c = pushed_last c.push.result c.args.draft.now c.push.new.self _ c.push.ensures.number c.push.ensures.pushed

@@ -1,17 +1,12 @@
-use Rattle.std.proofs.Common.{◌≡◌, ◌∙◌, ◌∷◌, [], List, sym, subst}
+use Rattle.std.proofs.Common.{◌≡◌, ◌∙◌, ◌∷◌, [], subst}
 use Rattle.std.proofs.lemmas.Result.{IfOk-weaker}
-use Rattle.std.proofs.lemmas.List.Elements.{All-nil}
 use Rattle.trees.specs.Tree.{Tree}
 use Rattle.trees.specs.Node.{tree_at}
 use Rattle.tasks.specs.Task.{neg}
-use Rattle.tasks.specs.Meaning.{trees_at}
-use Rattle.tasks.proofs.Growth.{trees_later, all_held_later}
+use Rattle.tasks.proofs.Growth.{all_held_later}
 use Rattle.evidence.specs.Drafts.{Refutes}
-use Rattle.evidence.specs.Facts.{citing}
 use Rattle.evidence.specs.Laws.{Extends_trans, AddsTrees_extends}
-use Rattle.evidence.specs.Languages.{Language, IsIn, RuleIsIn, RespectsNegation, StaysIn}
 use Rattle.evidence.proofs.Formulas.{none_formulas, one_formula, two_formulas, formula_later, fact_later, clash_of, first_negated}
-use Rattle.evidence.proofs.Staying.{stays_same, stays_then, negation_in, one_in, two_in}
 use Rattle.evidence.proofs.by.fact_lemma.Goals as goal
 
 pub by_clash-requires-clause-front : goal.by_clash-requires-clause-front
@@ -60,41 +55,3 @@ returns-clause-refutes c =
 
 pub returns-clause-grows : goal.returns-clause-grows
 returns-clause-grows c = Extends_trans _ _ _ (Extends_trans _ _ _ (AddsTrees_extends _ _ c.in_ok-no_fact.ensures.grows) c.in_ok-clash.ensures.grows) c.by_fact.ensures.grows
-
-pub returns-in_err-no_fact-clause-language : goal.returns-in_err-no_fact-clause-language
-returns-in_err-no_fact-clause-language c = stays_same _ _ _ c.negation.ensures.grows.steps
-
-pub returns-in_err-clash-clause-language : goal.returns-in_err-clash-clause-language
-returns-in_err-clash-clause-language c =
-    let d = c.args.draft.now in
-    let d1 = c.negation.new.draft in
-    let g = c.in_ok-no_fact.ensures.grows in
-    let n = c.in_ok-no_fact.no_fact in
-    let a = c.args.formula in
-    stays_then _ _ d d1 _ (stays_same _ d d1 g.steps) c.by_clash.ensures.language (λ p k s. (
-      All-nil (IsIn p),
-      two_in d1.trees p n a (negation_in p k.0 _ _ c.in_ok-no_fact.ensures.tree k.2) (subst (IsIn p) (sym (g.trees.same _ c.requires.formula.held)) k.2),
-    ))
-
-pub returns-clause-language : goal.returns-clause-language
-returns-clause-language c =
-    let d = c.args.draft.now in
-    let d1 = c.negation.new.draft in
-    let d2 = c.by_clash.new.draft in
-    let g = c.in_ok-no_fact.ensures.grows in
-    let x = c.in_ok-clash.ensures.grows in
-    let y = Extends_trans d d1 d2 (AddsTrees_extends d d1 g) x in
-    let n = c.in_ok-no_fact.no_fact in
-    let a = c.args.formula in
-    let types = c.args.types.now in
-    let K : Language → Type 0 = λ p. RespectsNegation p × RuleIsIn p (citing c.args.name (trees_at d.trees types)) × IsIn p (tree_at d.trees a) in
-    let e : tree_at d2.trees n ≡ neg (tree_at d.trees a) = x.trees.same _ c.in_ok-no_fact.ensures.formula.held ∙ c.in_ok-no_fact.ensures.tree in
-    let clash : StaysIn K d d2 = stays_then K _ d d1 d2 (stays_same _ d d1 g.steps) c.by_clash.ensures.language (λ p k s. (
-      All-nil (IsIn p),
-      two_in d1.trees p n a (negation_in p k.0 _ _ c.in_ok-no_fact.ensures.tree k.2) (subst (IsIn p) (sym (g.trees.same _ c.requires.formula.held)) k.2),
-    )) in
-    stays_then K _ d d2 _ clash c.by_fact.ensures.language (λ p k s. (
-      All-nil (IsIn p),
-      one_in d2.trees p n (negation_in p k.0 _ _ e k.2),
-      subst (λ (ts : List Tree). RuleIsIn p (citing c.args.name ts)) (sym (trees_later d.trees d2.trees y.trees types c.requires.types_held)) k.1,
-    ))

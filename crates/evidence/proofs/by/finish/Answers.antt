@@ -1,12 +1,8 @@
-use Rattle.std.proofs.Common.{◌≡◌, ◌∙◌, ◌++◌, [], sym, subst, rules}
+use Rattle.std.proofs.Common.{◌≡◌, ◌∙◌, ◌++◌, [], rules}
 use Rattle.std.proofs.lemmas.List.{append-nil}
-use Rattle.std.proofs.lemmas.List.Elements.{All-nil}
 use Rattle.tasks.specs.Meaning.{trees_at}
 use Rattle.tasks.specs.Task.{start}
-use Rattle.rule_rows.specs.Trees.{no_step}
-use Rattle.evidence.specs.Languages.{IsIn, AreIn}
 use Rattle.evidence.proofs.Formulas.{none_formulas, step_formulas, whole_kept, ends_at}
-use Rattle.evidence.proofs.Staying.{stays_by}
 use Rattle.evidence.proofs.by.finish.Goals as goal
 
 pub keep_but-requires-clause-front : goal.keep_but-requires-clause-front
@@ -38,19 +34,3 @@ returns-clause-starts c =
     let f = step_formulas d steps c.args.number c.index-steps-number.result c.as_slice.result.now c.steps-steps.ensures.held c.steps-steps.ensures.trees c.steps-steps.ensures.right c.index-steps-number.is seq c.requires.start.within in
     let e : trees_at d.trees c.as_slice.result.now ++ [] ≡ start d.task = append-nil (trees_at d.trees c.as_slice.result.now) ∙ f.1 ∙ c.requires.start.is in
     ends_at d c.keep_but.new.draft c.in_ok-kept.kept _ c.in_ok-kept.ensures.grows e c.in_ok-kept.ensures.refutes c.in_ok-kept.ensures.last
-
-pub returns-in_err-kept-clause-language : goal.returns-in_err-kept-clause-language
-returns-in_err-kept-clause-language c =
-    let d = c.args.draft.now in
-    let steps = c.steps-steps.result.now in
-    let seq : c.as_slice.result.now ≡ c.index-steps-number.result.sequent = search rules in
-    let f = step_formulas d steps c.args.number c.index-steps-number.result c.as_slice.result.now c.steps-steps.ensures.held c.steps-steps.ensures.trees c.steps-steps.ensures.right c.index-steps-number.is seq c.requires.start.within in
-    stays_by _ _ _ _ c.keep_but.ensures.language (λ p k s. (subst (AreIn p) (sym f.1) (s c.args.number no_step c.requires.start.within).sequent, All-nil (IsIn p), All-nil (IsIn p)))
-
-pub returns-clause-language : goal.returns-clause-language
-returns-clause-language c =
-    let d = c.args.draft.now in
-    let steps = c.steps-steps.result.now in
-    let seq : c.as_slice.result.now ≡ c.index-steps-number.result.sequent = search rules in
-    let f = step_formulas d steps c.args.number c.index-steps-number.result c.as_slice.result.now c.steps-steps.ensures.held c.steps-steps.ensures.trees c.steps-steps.ensures.right c.index-steps-number.is seq c.requires.start.within in
-    stays_by _ _ _ _ c.keep_but.ensures.language (λ p k s. (subst (AreIn p) (sym f.1) (s c.args.number no_step c.requires.start.within).sequent, All-nil (IsIn p), All-nil (IsIn p)))

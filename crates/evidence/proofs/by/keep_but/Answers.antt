@@ -1,6 +1,5 @@
 use Rattle.std.proofs.Common.{◌∙◌}
 use Rattle.evidence.proofs.Formulas.{both_formulas, keep_names, but_added}
-use Rattle.evidence.proofs.Staying.{stays_by, joined_in}
 use Rattle.evidence.proofs.by.keep_but.Goals as goal
 
 pub by_rule-requires-clause-tail : goal.by_rule-requires-clause-tail
@@ -12,8 +11,3 @@ by_rule-requires-clause-names c = keep_names c.args.draft.now.task _
 pub by_rule-requires-clause-added : goal.by_rule-requires-clause-added
 by_rule-requires-clause-added c = rw c.from_vec.ensures (but_added c.args.draft.now c.args.front.now c.args.middle.now c.args.last.now c.deref.result.now c.new-places.result.items c.count_on.new.places.items
     c.count_on-2.new.places.items c.args.step c.requires.step (c.deref.ensures.value ∙ c.in_ok-tail.ensures) c.new-places.ensures.items c.in_ok-count_on.ensures c.in_ok-count_on-2.ensures)
-
-pub returns-clause-language : goal.returns-clause-language
-returns-clause-language c =
-    stays_by _ _ _ _ c.by_rule.ensures.language (λ p k s.
-    (k.0, joined_in c.args.draft.now.trees p c.args.middle.now c.args.last.now c.deref.result.now (c.deref.ensures.value ∙ c.in_ok-tail.ensures) k.1 k.2, tt))

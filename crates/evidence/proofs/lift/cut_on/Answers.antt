@@ -1,13 +1,7 @@
-use Rattle.std.proofs.Common.{sym, subst}
 use Rattle.std.proofs.lemmas.Result.{IfOk-weaker}
-use Rattle.std.proofs.lemmas.List.Elements.{All-nil}
-use Rattle.trees.specs.Node.{tree_at}
-use Rattle.tasks.specs.Meaning.{trees_at}
 use Rattle.evidence.specs.Laws.{Extends_trans, AddsTrees_extends}
-use Rattle.evidence.specs.Languages.{Language, IsIn, AreIn, RespectsNegation, StaysIn}
 use Rattle.evidence.proofs.Formulas.{none_formulas, one_formula, formula_later, formulas_later}
 use Rattle.evidence.proofs.Lifted.{lemma_later, cut_yes, cut_no, cut_done}
-use Rattle.evidence.proofs.Staying.{stays_same, stays_then, negation_in, in_later, one_in}
 use Rattle.evidence.proofs.lift.cut_on.Goals as goal
 
 pub keep_but-requires-clause-front : goal.keep_but-requires-clause-front
@@ -60,36 +54,3 @@ returns-clause-refutes c =
 
 pub returns-clause-grows : goal.returns-clause-grows
 returns-clause-grows c = Extends_trans _ _ _ (Extends_trans _ _ _ (AddsTrees_extends _ _ c.in_ok-no_fact.ensures.grows) c.in_ok-without.ensures.grows) c.by_cut.ensures.grows
-
-pub returns-in_err-no_fact-clause-language : goal.returns-in_err-no_fact-clause-language
-returns-in_err-no_fact-clause-language c = stays_same _ _ _ c.negation.ensures.grows.steps
-
-pub returns-in_err-without-clause-language : goal.returns-in_err-without-clause-language
-returns-in_err-without-clause-language c =
-    let d = c.args.draft.now in
-    let d1 = c.negation.new.draft in
-    let g = c.in_ok-no_fact.ensures.grows in
-    stays_then _ _ d d1 _ (stays_same _ d d1 g.steps) c.keep_but.ensures.language (λ p k s. (
-      All-nil (IsIn p),
-      in_later d d1 (AddsTrees_extends d d1 g) p c.args.sequent.now c.requires.sequent k.1,
-      one_in d1.trees p c.in_ok-no_fact.no_fact (negation_in p k.0 _ _ c.in_ok-no_fact.ensures.tree k.2),
-    ))
-
-pub returns-clause-language : goal.returns-clause-language
-returns-clause-language c =
-    let d = c.args.draft.now in
-    let d1 = c.negation.new.draft in
-    let d2 = c.keep_but.new.draft in
-    let g = c.in_ok-no_fact.ensures.grows in
-    let x = Extends_trans d d1 d2 (AddsTrees_extends d d1 g) c.in_ok-without.ensures.grows in
-    let K : Language → Type 0 = λ p. RespectsNegation p × AreIn p (trees_at d.trees c.args.sequent.now) × IsIn p (tree_at d.trees c.args.formula) in
-    let kept : StaysIn K d d2 = stays_then K _ d d1 d2 (stays_same _ d d1 g.steps) c.keep_but.ensures.language (λ p k s. (
-      All-nil (IsIn p),
-      in_later d d1 (AddsTrees_extends d d1 g) p c.args.sequent.now c.requires.sequent k.1,
-      one_in d1.trees p c.in_ok-no_fact.no_fact (negation_in p k.0 _ _ c.in_ok-no_fact.ensures.tree k.2),
-    )) in
-    stays_then K _ d d2 _ kept c.by_cut.ensures.language (λ p k s. (
-      in_later d d2 x p c.args.sequent.now c.requires.sequent k.1,
-      All-nil (IsIn p),
-      subst (IsIn p) (sym (x.trees.same _ c.requires.formula.held)) k.2,
-    ))

@@ -5,12 +5,10 @@ use Rattle.trees.specs.Node.{tree_at}
 use Rattle.tasks.specs.Task.{neg}
 use Rattle.tasks.specs.Meaning.{trees_at, task_at}
 use Rattle.evidence.specs.Drafts.{Refutes}
-use Rattle.evidence.specs.Facts.{citing, IsFact}
+use Rattle.evidence.specs.Facts.{IsFact}
 use Rattle.evidence.specs.Laws.{Extends_trans}
-use Rattle.evidence.specs.Languages.{Language, IsIn, AreIn, RuleIsIn, IsLanguageOf, StaysIn}
 use Rattle.evidence.proofs.Rules.{refutes_later}
 use Rattle.evidence.proofs.Formulas.{same, formula_later, formulas_later}
-use Rattle.evidence.proofs.Staying.{stays_by, stays_then, in_later, last_in}
 use Rattle.evidence.proofs.lift.lift_cited.Goals as goal
 
 pub last_formula-formula-requires : goal.last_formula-formula-requires
@@ -53,27 +51,3 @@ returns-clause-refutes g c =
 
 pub returns-clause-grows : goal.returns-clause-grows
 returns-clause-grows g c = Extends_trans _ _ _ c.in_ok-lemma.ensures.grows c.cut_on.ensures.grows
-
-pub returns-in_err-lemma-clause-language : goal.returns-in_err-lemma-clause-language
-returns-in_err-lemma-clause-language g c =
-    let d = c.args.draft.now in
-    let e = c.last_formula-formula.ensures.is (trees_at d.trees c.args.sequent.now) c.requires.cites.formula c.requires.cites.taken in
-    stays_by _ _ _ _ c.fact.ensures.language (λ p k s.
-    (k.0, k.2, subst (IsIn p) (sym e) (last_in p d c.args.with_fact (trees_at d.trees c.args.sequent.now) c.requires.cites.formula s c.requires.cites.taken)))
-
-pub returns-clause-language : goal.returns-clause-language
-returns-clause-language g c =
-    let d = c.args.draft.now in
-    let d1 = c.fact.new.draft in
-    let x = c.in_ok-lemma.ensures.grows in
-    let a = c.last_formula-formula.result in
-    let e = c.last_formula-formula.ensures.is (trees_at d.trees c.args.sequent.now) c.requires.cites.formula c.requires.cites.taken in
-    let b = x.trees.same _ c.last_formula-formula.ensures.formula.held in
-    let K : Language → Type 0 = λ p. IsLanguageOf (g.T.Transform.closed c.args.stage.now) d.task p × AreIn p (trees_at d.trees c.args.sequent.now) × RuleIsIn p (citing c.args.name (trees_at d.trees c.args.types.now)) in
-    let one : StaysIn K d d1 = stays_by K _ d d1 c.fact.ensures.language (λ p k s.
-    (k.0, k.2, subst (IsIn p) (sym e) (last_in p d c.args.with_fact (trees_at d.trees c.args.sequent.now) c.requires.cites.formula s c.requires.cites.taken))) in
-    stays_then K _ d d1 _ one c.cut_on.ensures.language (λ p k s. (
-      k.0.negation,
-      in_later d d1 x p c.args.sequent.now c.requires.sequent k.1,
-      subst (IsIn p) (sym (b ∙ e)) (last_in p d c.args.with_fact (trees_at d.trees c.args.sequent.now) c.requires.cites.formula s c.requires.cites.taken),
-    ))

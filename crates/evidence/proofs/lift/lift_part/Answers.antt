@@ -4,15 +4,11 @@ use Rattle.rule_rows.specs.Meaning.{steps_at}
 use Rattle.evidence.specs.Drafts.{Refutes}
 use Rattle.evidence.specs.Stages.{sequent_of}
 use Rattle.evidence.specs.Laws.{Extends_trans}
-use Rattle.evidence.proofs.Lifted.{in_stage_later, lifts_later, part_right, part_step_in, stand_part, step_sequent, have_more}
-use Rattle.evidence.proofs.Staying.{stays_then, language_later}
+use Rattle.evidence.proofs.Lifted.{in_stage_later, part_right, stand_part, step_sequent, have_more}
 use Rattle.evidence.proofs.lift.lift_part.Goals as goal
 
 pub lift_step-requires-clause-stage : goal.lift_step-requires-clause-stage
 lift_step-requires-clause-stage g c = in_stage_later (g.T.Transform.equation c.args.stage.now) c.args.draft.now c.loop-j.draft c.args.from.now c.args.to.now c.loop-j.invariant.grows c.requires.stage
-
-pub lift_step-requires-clause-lifts : goal.lift_step-requires-clause-lifts
-lift_step-requires-clause-lifts g c = lifts_later (g.T.Transform.lifts c.args.stage.now) c.args.draft.now c.loop-j.draft c.loop-j.invariant.grows c.requires.lifts
 
 pub lift_step-requires-clause-right : goal.lift_step-requires-clause-right
 lift_step-requires-clause-right g c = part_right c.args.draft.now c.loop-j.draft c.args.part.now c.loop-j.invariant.grows c.requires.held c.args.to.now c.loop-j.j c.index-part-j.result
@@ -35,30 +31,9 @@ loop-j-preserved g c =
     let d2 = c.lift_step.new.draft in
     let j = c.loop-j.j in
     let x = c.index-part-j.result in
-    let C = g.T.Transform.closed c.args.stage.now in
     let e = step_sequent d d1 c.args.part.now c.loop-j.invariant.grows c.requires.held j x c.loop-j-test.true c.index-part-j.is in
     record {
       grows = Extends_trans _ _ _ c.loop-j.invariant.grows c.lift_step.ensures.grows;
-      language = stays_then _ _ _ _ _ c.loop-j.invariant.language c.lift_step.ensures.language
-          (λ p k s. (language_later C d d1 c.loop-j.invariant.grows p k.0, part_step_in d d1 c.args.part.now c.loop-j.invariant.grows c.requires.held p j x k.1 c.loop-j-test.true c.index-part-j.is));
       numbers = rw c.in_ok-push.ensures.items (have_more d1 d2 c.loop-j.numbers.items (sequent_of (steps_at d.trees c.args.part.now)) j c.in_ok-number.number
           c.lift_step.ensures.grows c.loop-j.invariant.numbers (subst (λ (q : List Tree). Refutes d2 c.in_ok-number.number q) e c.in_ok-number.ensures.refutes));
     }
-
-pub returns-in_err-number-clause-language : goal.returns-in_err-number-clause-language
-returns-in_err-number-clause-language g c =
-    let d = c.args.draft.now in
-    let d1 = c.loop-j.draft in
-    let x = c.loop-j.invariant.grows in
-    let C = g.T.Transform.closed c.args.stage.now in
-    stays_then _ _ _ _ _ c.loop-j.invariant.language c.lift_step.ensures.language
-    (λ p k s. (language_later C d d1 x p k.0, part_step_in d d1 c.args.part.now x c.requires.held p c.loop-j.j c.index-part-j.result k.1 c.loop-j-test.true c.index-part-j.is))
-
-pub returns-in_err-push-clause-language : goal.returns-in_err-push-clause-language
-returns-in_err-push-clause-language g c =
-    let d = c.args.draft.now in
-    let d1 = c.loop-j.draft in
-    let x = c.loop-j.invariant.grows in
-    let C = g.T.Transform.closed c.args.stage.now in
-    stays_then _ _ _ _ _ c.loop-j.invariant.language c.lift_step.ensures.language
-    (λ p k s. (language_later C d d1 x p k.0, part_step_in d d1 c.args.part.now x c.requires.held p c.loop-j.j c.index-part-j.result k.1 c.loop-j-test.true c.index-part-j.is))

@@ -1,12 +1,10 @@
 use Rattle.rule_rows.specs.Meaning.{steps_at}
 use Rattle.evidence.specs.Drafts.{Extends}
 use Rattle.evidence.specs.Stages.{HaveSequents, sequent_of}
-use Rattle.evidence.specs.Languages.{StepsAreIn, IsLanguageOf, StaysIn}
 use Rattle.evidence.proofs.lift.lift_part.Given as goal
 
 abbrev pub invariant-loop-j : goal.invariant-loop-j
 invariant-loop-j g l = record {
   grows : Extends l.initial.draft l.draft;
-  language : StaysIn (λ p. IsLanguageOf (g.T.Transform.closed l.stage) l.initial.draft.task p × StepsAreIn p (steps_at l.initial.draft.trees l.part)) l.initial.draft l.draft;
   numbers : HaveSequents l.draft l.numbers.items (sequent_of (steps_at l.initial.draft.trees l.part)) l.j;
 }

@@ -10,8 +10,7 @@ use Rattle.rule_rows.specs.Meaning.{steps_at}
 use Rattle.evidence.specs.Drafts.{Refutes}
 use Rattle.evidence.specs.Stages.{Gives, HasSequents, start_of, parts_at, part_or}
 use Rattle.evidence.specs.Laws.{Extends_trans}
-use Rattle.evidence.proofs.Lifted.{in_stage_later, in_stage_of, own_later, lifts_later, closes_later, start_later, part_later, part_held_later, part_in, have_more, sequents_more, tasks_later, tasks_held_later, end_all, has_later}
-use Rattle.evidence.proofs.Staying.{stays_then, language_later}
+use Rattle.evidence.proofs.Lifted.{in_stage_later, in_stage_of, own_later, closes_later, start_later, part_later, part_held_later, have_more, sequents_more, tasks_later, tasks_held_later, end_all, has_later}
 use Rattle.evidence.proofs.lift.lift_stage.Goals as goal
 
 pub lift_end-requires-clause-stage : goal.lift_end-requires-clause-stage
@@ -23,9 +22,6 @@ lift_end-requires-clause-stage g c =
     let l : i < length to = omega (arith, c.args.to.now.ok.0) in
     in_stage_later P d c.loop-i.draft c.args.from.now c.index.result.now c.loop-i.invariant.grows
     (in_stage_of P d c.args.from.now to i c.index.result.now c.requires.own c.requires.to_held c.requires.gives l c.index.ensures)
-
-pub lift_end-requires-clause-lifts : goal.lift_end-requires-clause-lifts
-lift_end-requires-clause-lifts g c = lifts_later (g.T.Transform.lifts c.args.stage.now) c.args.draft.now c.loop-i.draft c.loop-i.invariant.grows c.requires.lifts
 
 pub lift_end-requires-clause-held : goal.lift_end-requires-clause-held
 lift_end-requires-clause-held g c =
@@ -69,11 +65,6 @@ loop-i-preserved g c =
     let p : ℕ → List StepTree = λ k. part_or (parts_at d.trees parts) k in
     record {
       grows = Extends_trans _ _ _ c.loop-i.invariant.grows c.lift_end.ensures.grows;
-      language = stays_then _ _ _ _ _ c.loop-i.invariant.language c.lift_end.ensures.language
-          (λ p k s. (
-            language_later (g.T.Transform.closed c.args.stage.now) d d1 c.loop-i.invariant.grows p k.0,
-            part_in d d1 c.loop-i.invariant.grows p parts i c.index-parts-i.result c.as_slice.result.now c.requires.parts_held k.1 m c.index-parts-i.is c.as_slice.ensures,
-          ));
       ends = rw c.in_ok-push.ensures.items (have_more d1 d2 c.loop-i.ends.items q i c.in_ok-end.end c.lift_end.ensures.grows c.loop-i.invariant.ends
           (subst (λ (z : List Tree). Refutes d2 c.in_ok-end.end z) e c.in_ok-end.ensures.refutes));
       sequents = sequents_more d1 d2 c.lift_end.ensures.grows p i c.loop-i.invariant.sequents (subst (λ (z : List StepTree). HasSequents d2 z) b c.in_ok-end.ensures.sequents);
@@ -81,9 +72,6 @@ loop-i-preserved g c =
 
 pub glue-requires-clause-own : goal.glue-requires-clause-own
 glue-requires-clause-own g c = own_later c.args.draft.now c.loop-i.draft c.args.from.now c.loop-i.invariant.grows c.requires.own
-
-pub glue-requires-clause-lifts : goal.glue-requires-clause-lifts
-glue-requires-clause-lifts g c = lifts_later (g.T.Transform.lifts c.args.stage.now) c.args.draft.now c.loop-i.draft c.loop-i.invariant.grows c.requires.lifts
 
 pub glue-requires-clause-to_held : goal.glue-requires-clause-to_held
 glue-requires-clause-to_held g c = tasks_held_later c.args.draft.now c.loop-i.draft c.loop-i.invariant.grows c.args.to.now.items c.requires.to_held
@@ -120,34 +108,3 @@ returns-clause-sequents g c =
 
 pub returns-clause-grows : goal.returns-clause-grows
 returns-clause-grows g c = Extends_trans _ _ _ c.loop-i.invariant.grows c.glue.ensures.grows
-
-pub returns-in_err-end-clause-language : goal.returns-in_err-end-clause-language
-returns-in_err-end-clause-language g c =
-    let d = c.args.draft.now in
-    let d1 = c.loop-i.draft in
-    let x = c.loop-i.invariant.grows in
-    let C = g.T.Transform.closed c.args.stage.now in
-    let to = c.args.to.now.items in
-    let i = c.loop-i.i in
-    let parts = c.args.parts.now in
-    let m : i < length parts = omega (arith, c.requires.close.as_many, length-map parts (steps_at d.trees), length-map to (task_at d.trees), c.args.to.now.ok.0) in
-    stays_then _ _ _ _ _ c.loop-i.invariant.language c.lift_end.ensures.language
-    (λ p k s. (language_later C d d1 x p k.0, part_in d d1 x p parts i c.index-parts-i.result c.as_slice.result.now c.requires.parts_held k.1 m c.index-parts-i.is c.as_slice.ensures))
-
-pub returns-in_err-push-clause-language : goal.returns-in_err-push-clause-language
-returns-in_err-push-clause-language g c =
-    let d = c.args.draft.now in
-    let d1 = c.loop-i.draft in
-    let x = c.loop-i.invariant.grows in
-    let C = g.T.Transform.closed c.args.stage.now in
-    let to = c.args.to.now.items in
-    let i = c.loop-i.i in
-    let parts = c.args.parts.now in
-    let m : i < length parts = omega (arith, c.requires.close.as_many, length-map parts (steps_at d.trees), length-map to (task_at d.trees), c.args.to.now.ok.0) in
-    stays_then _ _ _ _ _ c.loop-i.invariant.language c.lift_end.ensures.language
-    (λ p k s. (language_later C d d1 x p k.0, part_in d d1 x p parts i c.index-parts-i.result c.as_slice.result.now c.requires.parts_held k.1 m c.index-parts-i.is c.as_slice.ensures))
-
-pub returns-clause-language : goal.returns-clause-language
-returns-clause-language g c =
-    stays_then _ _ _ _ _ c.loop-i.invariant.language c.glue.ensures.language
-    (λ p k s. language_later (g.T.Transform.closed c.args.stage.now) c.args.draft.now c.loop-i.draft c.loop-i.invariant.grows p k.0)

@@ -4,9 +4,7 @@ use Rattle.trees.specs.declared.TermId.{TermId}
 use Rattle.tasks.specs.Meaning.{trees_at, task_at}
 use Rattle.rule_rows.specs.Meaning.{step_at, steps_at}
 use Rattle.evidence.specs.Drafts.{Refutes}
-use Rattle.evidence.specs.Languages.{RuleIsIn}
 use Rattle.evidence.proofs.Lifted.{cites, right_lifted, among_keeps, formulas_lifted}
-use Rattle.evidence.proofs.Staying.{stays_by}
 use Rattle.evidence.proofs.lift.lift_step.Goals as goal
 
 pub lift_cited-requires-clause-sequent : goal.lift_cited-requires-clause-sequent
@@ -46,11 +44,3 @@ lift_other-requires g c =
 pub returns-in-Some-clause-refutes : goal.returns-in-Some-clause-refutes
 returns-in-Some-clause-refutes g c =
     IfOk-weaker c.lift_cited.result _ _ (λ k r. subst (λ (z : List TermId). Refutes c.lift_cited.new.draft k (trees_at c.args.draft.now.trees z)) c.as_slice-sequent.ensures r) c.lift_cited.ensures.refutes
-
-pub returns-in-Some-clause-language : goal.returns-in-Some-clause-language
-returns-in-Some-clause-language g c =
-    let d = c.args.draft.now in
-    stays_by _ _ _ _ c.lift_cited.ensures.language (λ p k s. (k.0, rw c.as_slice-sequent.ensures k.1.sequent, subst (RuleIsIn p) (c.in-Some.ensures.some d.trees) k.1.rule))
-
-pub returns-in-None-clause-language : goal.returns-in-None-clause-language
-returns-in-None-clause-language g c = stays_by _ _ _ _ c.lift_other.ensures.language (λ p k s. k.1)
