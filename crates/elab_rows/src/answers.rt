@@ -3,12 +3,12 @@ ghost use Rattle.std.specs.Prelude.{length, All, OnOk};
 ghost use Rattle.tasks.specs.Meaning.{DeclHeld};
 ghost use Rattle.elab_parts.specs.Entries.{IsSignature, AreScopes};
 
-use crate::made::{put_entries, put_made};
-use crate::printing::put_numbered;
+use crate::made::put_made;
 use crate::sides::{put_covers, put_sides};
 use elab_terms::{ElabFault, Elaborated, begin, elaborate, is_logical, no_names};
 use names_space::Scope;
 use parse_decls::parse;
+use row_texts::{put_entries, put_numbered};
 use std::alloc::{AllocError, Global};
 use syntax_why::{DeclNode, DeclTree};
 use tasks::Signature;
@@ -75,7 +75,7 @@ fn put_last(
         Asked::Sides => put_sides(alloc, text, store, sig, made),
         Asked::Made => {
             put_numbered(alloc, text, "Made ", sig.symbols.len())?;
-            put_entries(alloc, text, store, sig.symbols.as_slice(), from)?;
+            put_entries(alloc, text, store, &[], sig.symbols.as_slice(), from)?;
             put_made(alloc, text, store, made)
         }
     }

@@ -4,7 +4,6 @@
 
 mod answers;
 mod made;
-mod printing;
 mod sides;
 
 use answers::describe;

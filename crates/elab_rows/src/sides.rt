@@ -5,11 +5,11 @@ ghost use Rattle.tasks.specs.Meaning.{symbols_at, trees_at, SymbolHeld, DeclHeld
 ghost use Rattle.match_cover.specs.Shapes.{IsPattern, HaveType};
 ghost use Rattle.side_conditions.specs.Sides.{IsMatch};
 
-use crate::printing::put_numbered;
 use decl_checks::CheckFault;
 use elab_terms::Elaborated;
 use elab_walk::MatchAt;
 use match_cover::{Shape, cover};
+use row_texts::put_numbered;
 use side_conditions::{SideFault, check_sides};
 use std::alloc::{AllocError, Global};
 use tasks::Signature;

@@ -3,8 +3,8 @@ use Rattle.std.specs.Prelude.{◌≡◌, pos, List, [], ◌∷◌, codes, refl, 
 use Rattle.trees.specs.Tree.{Tree, Leaf, One, Two, Three, HTyVar, HTyApp, HEnd, HFun, HPred, HNum, HPatVar, HPatCon, HCase, HArm}
 use Rattle.tasks.specs.declared.signature.SymbolKind.TheVariants.{Kind, Constructor, Predicate}
 use Rattle.tasks.specs.Task.{SymbolTree, int_symbol, TaskTree}
-use Rattle.problems.specs.declared.names.NameOf.TheVariants.{Int, Symbol}
-use Rattle.problems.specs.declared.names.NameEntry.{NameEntry}
+use Rattle.name_entries.specs.declared.names.NameOf.TheVariants.{Int, Symbol}
+use Rattle.name_entries.specs.declared.names.NameEntry.{NameEntry}
 use Rattle.tree_lines.specs.Named.{cells, meaning}
 use Rattle.tree_lines.specs.Lines.{Earlier, type_of_line, pattern_of_line, expression_of_line}
 

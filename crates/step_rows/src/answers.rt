@@ -3,27 +3,20 @@ ghost use Rattle.trees.specs.Node.{Grows};
 ghost use Rattle.tasks.specs.Meaning.{TaskHeld};
 ghost use Rattle.rule_rows.specs.Meaning.{StepsHeld};
 
+use crate::files::{Tables, put_files};
 use crate::given::read_task;
 use crate::lines::put_line;
-use crate::printing::put_number;
 use crate::read::Read;
-use integer_words::integer;
+use crate::words::number_of;
 use kernel::{closes, ends_in_start, first_wrong};
+use name_entries::{NameEntry, NameOf};
 use outside::{Seq, Text};
-use problems::{NameEntry, NameOf};
+use row_texts::put_number;
 use rule_rows::Step;
 use std::alloc::{AllocError, Global};
 use tasks::Task;
 use term_store::Store;
 use tree_lines::Names;
-
-// The number of a word, or 0.
-fn number_of(word: &str) -> usize {
-    match integer(word.as_bytes()) {
-        Some(n) => usize::try_from(n).unwrap_or(0),
-        None => 0,
-    }
-}
 
 // What a name stands for: `int` for the number 0, a type variable of the goal for a number after `!`, else a symbol.
 fn meaning_of(word: &str) -> NameOf {
@@ -52,11 +45,11 @@ fn entry_of(alloc: Global, line: &str) -> Result<NameEntry, AllocError> {
     })
 }
 
-// The name table: the lines after `n `.
-fn table_of(alloc: Global, lines: &[String]) -> Result<Vec<NameEntry>, AllocError> {
+// A name table: the lines after `n ` or after `w `.
+fn table_of(alloc: Global, lines: &[String], letter: &str) -> Result<Vec<NameEntry>, AllocError> {
     let mut table = Vec::new(alloc);
     for line in lines {
-        if let Some(entry) = line.as_str().strip_prefix("n ") {
+        if let Some(entry) = line.as_str().strip_prefix(letter) {
             table.push(entry_of(alloc, entry)?)?;
         }
     }
@@ -87,11 +80,11 @@ fn put_verdict(
     text.push_str("\n")
 }
 
-// The lines after those of the name table.
+// The lines after those of the name tables.
 fn after_names<'a>(lines: &'a [String]) -> &'a [String] {
     match lines.split_first() {
         Some((first, rest)) => {
-            if first.as_str().starts_with("n ") {
+            if first.as_str().starts_with("n ") || first.as_str().starts_with("w ") {
                 after_names(rest)
             } else {
                 lines
@@ -111,7 +104,7 @@ fn put_lines(
 ) -> Result<(), AllocError>
     requires { TaskHeld store.old task.now }
 {
-    let table = table_of(alloc, lines)?;
+    let table = table_of(alloc, lines, "n ")?;
     let names = Names::new(alloc, &table)?;
     let mut read = Read {
         types: Vec::new(alloc),
@@ -134,6 +127,37 @@ fn put_lines(
     put_verdict(alloc, text, store, task, &read.steps)
 }
 
+// The table by which files are read, and the one by which they are written, which is the same where no other is given.
+fn tables_of(alloc: Global, lines: &[String]) -> Result<Tables, AllocError> {
+    let read = table_of(alloc, lines, "n ")?;
+    let others = table_of(alloc, lines, "w ")?;
+    let written = if others.is_empty() {
+        table_of(alloc, lines, "n ")?
+    } else {
+        others
+    };
+    Ok(Tables { read, written })
+}
+
+// What is asked of files, or else what each line makes.
+fn put_block(
+    alloc: Global,
+    text: &mut String,
+    store: &mut Store,
+    task: &Task,
+    lines: &[String],
+) -> Result<(), AllocError>
+    requires { TaskHeld store.old task.now }
+{
+    if let Some((first, files)) = after_names(lines).split_first() {
+        if first.as_str() == "f" {
+            let tables = tables_of(alloc, lines)?;
+            return put_files(alloc, text, store, task, &tables, files);
+        }
+    }
+    put_lines(alloc, text, store, task, lines)
+}
+
 /// The answer to a block, whose first line is a theory.
 pub(crate) fn describe(alloc: Global, block: &[String]) -> Result<String, AllocError> {
     let mut text = String::new(alloc);
@@ -143,7 +167,7 @@ pub(crate) fn describe(alloc: Global, block: &[String]) -> Result<String, AllocE
     let mut store = Store::new(alloc)?;
     let tasks = read_task(alloc, &mut store, source.as_str())?;
     match tasks.as_slice().first() {
-        Some(task) => put_lines(alloc, &mut text, &mut store, task, lines)?,
+        Some(task) => put_block(alloc, &mut text, &mut store, task, lines)?,
         None => text.push_str("no task\n")?,
     }
     Ok(text)

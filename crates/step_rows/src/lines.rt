@@ -8,11 +8,11 @@ ghost use Rattle.tree_lines.specs.Made.{IsNamesOf};
 ghost use Rattle.step_lines.specs.Made.{ThingHeld};
 ghost use Rattle.step_rows.specs.Read.{ReadHeld};
 
-use crate::printing::{put_number, put_tree, put_trees};
 use crate::read::{Read, keep};
 use integer_words::integer_word;
 use kernel::right_step;
-use problems::NameEntry;
+use name_entries::NameEntry;
+use row_texts::{put_number, put_tree, put_trees};
 use rule_rows::{Rule, Step};
 use rule_words::{Argument, word_of, written_rule};
 use std::alloc::{AllocError, Global};
@@ -44,11 +44,11 @@ fn put_argument(
         }
         Argument::Expression(e) => {
             text.push_str(" e")?;
-            put_tree(alloc, text, store, e)
+            put_tree(alloc, text, store, &[], e)
         }
         Argument::Type(y) => {
             text.push_str(" t")?;
-            put_tree(alloc, text, store, y)
+            put_tree(alloc, text, store, &[], y)
         }
     }
 }
@@ -83,7 +83,7 @@ fn put_step(
 {
     let is_right = right_step(store, task, before, step);
     text.push_str("s ")?;
-    put_trees(alloc, text, store, step.sequent.as_slice())?;
+    put_trees(alloc, text, store, &[], step.sequent.as_slice())?;
     text.push_str(" : ")?;
     put_rule(alloc, text, store, &step.rule)?;
     text.push_str(" :")?;
@@ -110,15 +110,15 @@ fn put_thing(
     match thing {
         MadeThing::Type(ty) => {
             text.push_str("y ")?;
-            put_tree(alloc, text, store, *ty)
+            put_tree(alloc, text, store, &[], *ty)
         }
         MadeThing::Pattern(pattern) => {
             text.push_str("p ")?;
-            put_tree(alloc, text, store, *pattern)
+            put_tree(alloc, text, store, &[], *pattern)
         }
         MadeThing::Expression(expression) => {
             text.push_str("e ")?;
-            put_tree(alloc, text, store, *expression)
+            put_tree(alloc, text, store, &[], *expression)
         }
         MadeThing::Derived(step) => put_step(alloc, text, store, task, before, step),
     }

@@ -1,4 +1,4 @@
-use Rattle.step_rows.proofs.printing.+put_tree.Given as goal
+use Rattle.row_texts.proofs.printing.+put_tree.Given as goal
 
 abbrev pub decreases-put_tree : goal.decreases-put_tree
 decreases-put_tree l = l.id.0

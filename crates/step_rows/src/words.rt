@@ -1,0 +1,10 @@
+// The numbers that words write.
+use integer_words::integer;
+
+/// The number of a word, or 0.
+pub(crate) fn number_of(word: &str) -> usize {
+    match integer(word.as_bytes()) {
+        Some(n) => usize::try_from(n).unwrap_or(0),
+        None => 0,
+    }
+}
