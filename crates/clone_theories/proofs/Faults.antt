@@ -1,0 +1,32 @@
+-- The faults of a clone, from what is told of its parts.
+use Rattle.std.proofs.Common.{◌≡◌, ℕ, List, Option, Some, None, Err, refl}
+use Rattle.syntax_why.specs.declared.names.Path.{Path}
+use Rattle.syntax_why.specs.Declarations.{Element}
+use Rattle.elab_names.specs.declared.NamingFault.{NamingFault}
+use Rattle.elab_names.specs.declared.NamingFault.TheVariants as names
+use Rattle.elab_names.specs.Naming.{Tells}
+use Rattle.theory_states.specs.declared.fault.SourceFault.{SourceFault}
+use Rattle.theory_states.specs.declared.fault.SourceFault.TheVariants.{Memory}
+use Rattle.theory_states.specs.States.{KnownTree, StateTree, known_named}
+use Rattle.theory_states.specs.Uses.{path_text, OrMemory}
+use Rattle.clone_elements.specs.Rights.{all_variables_fault}
+use Rattle.clone_copies.specs.Origins.{origin_of}
+use Rattle.clone_theories.specs.Cloned.{naming, IsNamesFault, IsCloneFault, of_names, of_elements}
+use Rattle.clone_theories.specs.Planned.{IsReadFault, in_names, in_elements}
+
+pub names_fault : (number : ℕ) (g : NamingFault) (o : Option NamingFault) → Tells (Err g) o → OrMemory (IsNamesFault number o) (naming number g)
+names_fault number names.Memory o h = tt
+names_fault number (names.Unknown token) o h = record { fault = names.Unknown token; first = h; is = refl }
+names_fault number (names.Duplicate token) o h = record { fault = names.Duplicate token; first = h; is = refl }
+names_fault number (names.WrongKind token) o h = record { fault = names.WrongKind token; first = h; is = refl }
+names_fault number (names.Arity token) o h = record { fault = names.Arity token; first = h; is = refl }
+
+pub or_weaker : (P Q : SourceFault → Type 0) → ((f : SourceFault) → P f → Q f) → (f : SourceFault) → OrMemory P f → OrMemory Q f
+or_weaker P Q g Memory h = tt
+or_weaker P Q g f h = g f h
+
+-- the elements of a theory that is known
+pub read_fault : (p : Path) (es : List Element) (c : StateTree) (t : KnownTree) → all_variables_fault es ≡ None → known_named c.known (path_text p.parts) ≡ Some t
+    → (f : SourceFault) → IsReadFault c.number c.trees c.symbols c.opened.scope (origin_of c.decls t) es f → IsCloneFault p es c f
+read_fault p es c t v q f (in_names h) = of_names t v q h
+read_fault p es c t v q f (in_elements n h) = of_elements t v q n h

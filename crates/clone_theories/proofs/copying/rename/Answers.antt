@@ -1,0 +1,31 @@
+use Rattle.std.proofs.Common.{◌≡◌, ℕ, List, length, sym, ap, ◌∙◌}
+use Rattle.std.proofs.Math.ListN.{length-map}
+use Rattle.trees.specs.Tree.{Tree}
+use Rattle.tasks.specs.Meaning.{symbol_at, symbols_at}
+use Rattle.clone_elements.specs.Plans.{map_of}
+use Rattle.clone_elements.specs.Origins.{origin_at}
+use Rattle.clone_elements.specs.Meaning.{types_at, symbol_pairs}
+use Rattle.clone_theories.specs.Planned.{planned_kept}
+use Rattle.clone_theories.proofs.copying.rename.Goals as goal
+
+pub returns : goal.returns
+returns c =
+    let s = c.args.store.now in
+    let is = c.args.sig.now.symbols in
+    let symbols = symbols_at s is in
+    let p = c.args.plan.now in
+    let types = types_at s p.types.items in
+    let pairs = symbol_pairs p.symbols.items in
+    let first = c.len-first.result in
+    let all : c.in_ok-symbols.symbols.items ≡ planned_kept (origin_at s c.args.source.now) p = c.in_ok-symbols.ensures s in
+    let ks : c.as_slice-3.result.now ≡ planned_kept (origin_at s c.args.source.now) p = c.as_slice-3.ensures.value ∙ all in
+    let n : first ≡ length symbols = c.len-first.ensures ∙ sym (length-map is (symbol_at s)) in
+    record {
+      is = c.in_ok-morphism.ensures.is
+          ∙ (ap (λ (z : List (ℕ × Tree)). map_of z (symbol_pairs c.as_slice-2.result.now) first c.as_slice-3.result.now) (ap (types_at s) c.as_slice.ensures.value)
+          ∙ (ap (λ (z : List (ℕ × ℕ)). map_of types z first c.as_slice-3.result.now) (ap symbol_pairs c.as_slice-2.ensures.value)
+          ∙ (ap (λ (k : ℕ). map_of types pairs k c.as_slice-3.result.now) n
+          ∙ ap (map_of types pairs (length symbols)) ks)));
+      held = c.in_ok-morphism.ensures.held;
+      symbols = all;
+    }

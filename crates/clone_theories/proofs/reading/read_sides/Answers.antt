@@ -1,0 +1,26 @@
+use Rattle.std.proofs.Common.{◌≡◌, ℕ, Option, None, map, sym, ap, subst, ◌∙◌}
+use Rattle.tasks.specs.Meaning.{symbols_at}
+use Rattle.syntax_why.specs.Lexeme.{Word}
+use Rattle.syntax_why.specs.SurfaceDeclarations.{element_of}
+use Rattle.theory_states.specs.Uses.{OrMemory}
+use Rattle.clone_elements.specs.Left.{last_place}
+use Rattle.clone_elements.specs.Rights.{rights_fault}
+use Rattle.clone_elements.specs.Plans.{sides_made}
+use Rattle.clone_elements.specs.Origins.{origin_at, place_at}
+use Rattle.clone_theories.specs.Cloned.{IsNamesFault}
+use Rattle.clone_theories.proofs.Faults.{names_fault}
+use Rattle.clone_theories.proofs.reading.read_sides.Goals as goal
+
+pub returns-in-Ok-clause-sides : goal.returns-in-Ok-clause-sides
+returns-in-Ok-clause-sides c =
+    let s = c.args.store.now in
+    let symbols = symbols_at s c.args.sig.now.symbols in
+    let o = origin_at s c.args.source.now in
+    let places : place_at c.in_ok-names.names ≡ (λ x. last_place symbols o x None o.own) = λ i x. c.in_ok-names.ensures s x i in
+    c.in-Ok.ensures.sides ∙ ap (λ (f : Word → Option ℕ). sides_made f s symbols c.args.scope.now (map element_of c.args.elements.now)) places
+
+pub returns-clause-err : goal.returns-clause-err
+returns-clause-err c =
+    let s = c.args.store.now in
+    let found = rights_fault s (symbols_at s c.args.sig.now.symbols) c.args.scope.now (map element_of c.args.elements.now) in
+    subst (OrMemory (IsNamesFault c.args.number found)) (sym c.naming.ensures) (names_fault c.args.number c.in-Err.fault found c.in-Err.ensures.err)

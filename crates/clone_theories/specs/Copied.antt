@@ -1,0 +1,77 @@
+-- A theory that is copied in code: the map with the symbols that the copies make, what is asked before, and what is known after.
+use Rattle.std.specs.Prelude.{◌≡◌, ℕ, ◌<◌, List, [], ◌++◌, length, All, Option, IfSome}
+use Rattle.trees.specs.Tree.{Tree}
+use Rattle.trees.specs.Sorts.{sort_of}
+use Rattle.trees.specs.declared.Sort.TheVariants.{Kind}
+use Rattle.tasks.specs.Task.{SymbolTree}
+use Rattle.tasks.specs.Meaning.{declarations_at}
+use Rattle.scope_moves.specs.declared.moves.Move.{Move}
+use Rattle.syntax_why.specs.Lexeme.{Word}
+use Rattle.syntax_why.specs.declared.declarations.Link.{Link}
+use Rattle.symbol_maps.specs.Mapped.{Map}
+use Rattle.symbol_maps.specs.Meaning.{map_at, MapHeld}
+use Rattle.elab_walk.specs.Scoped.{IsScopedEntry}
+use Rattle.theory_states.specs.declared.states.Opened.{Opened}
+use Rattle.theory_states.specs.declared.states.Typed.{Typed}
+use Rattle.theory_states.specs.States.{KnownTree, StateTree}
+use Rattle.theory_states.specs.Meaning.{state_at, StateHeld}
+use Rattle.clone_elements.specs.declared.elements.Plan.{Plan}
+use Rattle.clone_elements.specs.Plans.{kept}
+use Rattle.clone_elements.specs.Meaning.{TypeForHeld}
+use Rattle.clone_copies.specs.Origins.{origin_of}
+use Rattle.clone_copies.specs.Entries.{entries_copied}
+use Rattle.clone_copies.specs.Places.{Copying, with_places}
+use Rattle.clone_copies.specs.Moves.{AreMovesMapped, MoveHeld}
+use Rattle.clone_theories.specs.declared.copying.Renaming.{Renaming}
+use Rattle.clone_theories.specs.declared.own.Own.{Own}
+use Rattle.clone_theories.specs.Cloned.{with_names}
+use Rattle.clone_theories.specs.Owned.{IsOwnOf, theory_at}
+use Rattle.clone_theories.specs.Planned.{planned}
+
+-- the map of a clone, and the symbols that become new ones, in order
+pub record IsRenaming (s : List Tree) (m : Map) (ks : List ℕ) (r : Renaming) : Type 0 where
+  pub is : map_at s r.morphism ≡ m
+  pub held : MapHeld s r.morphism
+  pub symbols : r.symbols.items ≡ ks
+
+-- ---- entries as a signature keeps them
+-- the types of an entry are types
+pub record HasKinds (e : SymbolTree) : Type 0 where
+  pub args : All (λ (t : Tree). sort_of t ≡ Kind) e.args
+  pub result : IfSome e.result (λ (t : Tree). sort_of t ≡ Kind)
+
+-- and hold its own type variables alone
+pub record IsKeptEntry (e : SymbolTree) : Type 0 where
+  pub kinds : HasKinds e
+  pub scoped : IsScopedEntry e
+
+-- ---- the copies
+abbrev pub entries_made : KnownTree → Copying → StateTree → List SymbolTree
+entries_made t x c = entries_copied c.symbols x.mapping c.opened.path x.within (kept (origin_of c.decls t) x.fates)
+
+-- with their entries, and with all of them
+abbrev pub with_made : KnownTree → Copying → StateTree → StateTree
+with_made t x c = record c { symbols = c.symbols ++ entries_made t x c }
+
+abbrev pub with_copies : KnownTree → Copying → StateTree → StateTree
+with_copies t x c = with_places x t.visible (with_made t x c)
+
+-- a theory can be copied by what elements replace
+pub record IsReady (s : List Tree) (t : Typed) (o : Opened) (k : ℕ) (it : Own) (p : Plan) (within : Word) : Type 0 where
+  pub held : StateHeld s t o
+  pub there : k < length t.known
+  pub own : IsOwnOf (declarations_at s t.decls) (theory_at s t k) it
+  pub types : All (TypeForHeld s) p.types.items
+  pub moves : All (MoveHeld s) (theory_at s t k).moves
+  pub kept : All IsKeptEntry (entries_made (theory_at s t k) (planned s (state_at s t o) (theory_at s t k) p within) (state_at s t o))
+
+-- its contents are copied, and these names are handed on
+pub record AreContents (t : KnownTree) (x : Copying) (moves : List Move) (c c' : StateTree) : Type 0 where
+  pub mapped : AreMovesMapped c'.trees c.symbols x.mapping t.moves moves
+  pub is : record c' { trees = [] } ≡ with_copies t x (record c { trees = [] })
+
+-- it is copied, and its names come into scopes
+pub record IsCopied (l : Link) (last : Word) (alias : Option Word) (t : KnownTree) (x : Copying) (c c' : StateTree) : Type 0 where
+  pub moves : List Move
+  pub mapped : AreMovesMapped c'.trees c.symbols x.mapping t.moves moves
+  pub is : record c' { trees = [] } ≡ with_names l last alias moves (with_copies t x (record c { trees = [] }))

@@ -1,0 +1,4 @@
+pub mod Cloned
+pub mod Owned
+pub mod Planned
+pub mod Copied

@@ -1,0 +1,191 @@
+// The copies of a clone, from what its elements replace.
+// They depend on copies and on what is known of theories.
+ghost use Rattle.std.specs.Prelude.{All, IfOk, OnOk};
+ghost use Rattle.std.specs.Option.{option_copied};
+ghost use Rattle.trees.specs.Node.{Grows};
+ghost use Rattle.tasks.specs.Meaning.{symbols_at};
+ghost use Rattle.symbol_maps.specs.Meaning.{map_at, MapHeld, AreKnown};
+ghost use Rattle.elab_parts.specs.Entries.{IsSignature, IsExtended};
+ghost use Rattle.theory_states.specs.Meaning.{state_at, StateHeld};
+ghost use Rattle.clone_elements.specs.Origins.{origin_at};
+ghost use Rattle.clone_elements.specs.Meaning.{TypeForHeld};
+ghost use Rattle.clone_copies.specs.Entries.{entries_copied};
+ghost use Rattle.clone_copies.specs.Moves.{AreMovesMapped, MoveHeld};
+ghost use Rattle.clone_theories.specs.Cloned.{within_of};
+ghost use Rattle.clone_theories.specs.Owned.{theory_at};
+ghost use Rattle.clone_theories.specs.Planned.{planned_kept, planned_map, planned};
+ghost use Rattle.clone_theories.specs.Copied.{IsRenaming, IsKeptEntry, IsReady, AreContents, IsCopied};
+
+use crate::own::{Own, source_of, within_of};
+use clone_copies::{Job, copy_places, map_moves, push_entries};
+use clone_elements::{Plan, Source, kept, map_of};
+use scope_moves::Move;
+use std::alloc::{AllocError, Global};
+use symbol_maps::{Known as Trees, SymbolMap, no_trees};
+use syntax_why::Link;
+use tasks::Signature;
+use term_store::Store;
+use theory_states::{Opened, Typed, bring_names};
+
+/// The map of a clone, and the symbols that become new ones, in order.
+#[derive(Drop)]
+pub(crate) struct Renaming {
+    pub(crate) symbols: Vec<usize>,
+    pub(crate) morphism: SymbolMap,
+}
+
+// The map of a clone from what its elements replace. Only want of memory refuses.
+fn rename(
+    alloc: Global,
+    store: &Store,
+    sig: &Signature,
+    source: &Source<'_>,
+    plan: &Plan,
+) -> Result<Renaming, AllocError>
+    requires { All (TypeForHeld store.now) plan.now.types.items }
+    ensures { IfOk result (IsRenaming store.now (planned_map store.now
+        (symbols_at store.now sig.now.symbols) (origin_at store.now source.now) plan.now)
+        (planned_kept (origin_at store.now source.now) plan.now)) }
+{
+    let symbols = kept(alloc, source, &plan.fates)?;
+    let first = sig.symbols.len();
+    let morphism = map_of(
+        alloc,
+        store,
+        plan.types.as_slice(),
+        plan.symbols.as_slice(),
+        first,
+        symbols.as_slice(),
+    )?;
+    Ok(Renaming { symbols, morphism })
+}
+
+// The names that a theory hands on are mapped, and the entries of the copies come after those of the signature. Only want of memory
+// refuses.
+fn copy_symbols(
+    alloc: Global,
+    store: &mut Store,
+    sig: &mut Signature,
+    made: &Renaming,
+    trees: &mut Trees,
+    moves: &[Move],
+    path: &[u8],
+    within: &[u8],
+) -> Result<Vec<Move>, AllocError>
+    requires signature { IsSignature store.old sig.old.symbols }
+    requires map_held { MapHeld store.old made.now.morphism }
+    requires known { AreKnown (map_at store.old made.now.morphism) store.old trees.old }
+    requires moves { All (MoveHeld store.old) moves.now }
+    requires kept { All IsKeptEntry (entries_copied (symbols_at store.old sig.old.symbols)
+        (map_at store.old made.now.morphism) path.now within.now made.now.symbols.items) }
+    ensures entries { OnOk result (IsExtended store.old sig.old store.new sig.new (entries_copied
+        (symbols_at store.old sig.old.symbols) (map_at store.old made.now.morphism) path.now
+        within.now made.now.symbols.items)) }
+    ensures moves { IfOk result (λ v. AreMovesMapped store.new (symbols_at store.old
+        sig.old.symbols) (map_at store.old made.now.morphism) moves.now v.items) }
+    ensures known { OnOk result (AreKnown (map_at store.old made.now.morphism) store.new
+        trees.new) }
+    ensures grows { Grows store.old store.new }
+{
+    let mapped = map_moves(alloc, store, sig, &made.morphism, trees, moves)?;
+    push_entries(
+        alloc,
+        store,
+        sig,
+        &made.morphism,
+        trees,
+        path,
+        within,
+        made.symbols.as_slice(),
+    )?;
+    Ok(mapped)
+}
+
+// The copies of a theory's symbols and declarations, and the names that they hand on. Only want of memory refuses.
+fn copy_contents(
+    alloc: Global,
+    store: &mut Store,
+    typed: &mut Typed,
+    open: &mut Opened,
+    theory: usize,
+    own: &Own,
+    plan: &Plan,
+    within: &[u8],
+) -> Result<Vec<Move>, AllocError>
+    requires { IsReady store.old typed.old open.old theory own.now plan.now within.now }
+    ensures copies { IfOk result (λ v. AreContents (theory_at store.old typed.old theory)
+        (planned store.old (state_at store.old typed.old open.old)
+        (theory_at store.old typed.old theory) plan.now within.now) v.items
+        (state_at store.old typed.old open.old) (state_at store.new typed.new open.new)) }
+    ensures held { OnOk result (StateHeld store.new typed.new open.new) }
+    ensures grows { Grows store.old store.new }
+{
+    let source = source_of(typed.decls.as_slice(), own);
+    let made = rename(alloc, store, &typed.sig, &source, plan)?;
+    let mut trees = no_trees(alloc);
+    let known = &typed.known.as_slice()[theory];
+    let moves = copy_symbols(
+        alloc,
+        store,
+        &mut typed.sig,
+        &made,
+        &mut trees,
+        known.moves.as_slice(),
+        open.path.as_slice(),
+        within,
+    )?;
+    let job = Job {
+        path: own.path.as_slice(),
+        axioms: &own.axioms,
+        plan,
+        morphism: &made.morphism,
+        within,
+    };
+    copy_places(
+        alloc,
+        store,
+        typed,
+        open,
+        &job,
+        &mut trees,
+        own.visible.as_slice(),
+    )?;
+    Ok(moves)
+}
+
+/// The copies of a theory, whose names come into scopes as by `use`. Only want of memory refuses.
+pub(crate) fn copy_theory(
+    alloc: Global,
+    store: &mut Store,
+    typed: &mut Typed,
+    open: &mut Opened,
+    theory: usize,
+    own: &Own,
+    plan: &Plan,
+    link: Link,
+    last: &[u8],
+    alias: Option<&[u8]>,
+) -> Result<(), AllocError>
+    requires { IsReady store.old typed.old open.old theory own.now plan.now
+        (within_of link last.now (option_copied alias) open.old.within.items) }
+    ensures copied { OnOk result (IsCopied link last.now (option_copied alias.entry)
+        (theory_at store.old typed.old theory) (planned store.old
+        (state_at store.old typed.old open.old) (theory_at store.old typed.old theory) plan.now
+        (within_of link last.now (option_copied alias.entry) open.old.within.items))
+        (state_at store.old typed.old open.old) (state_at store.new typed.new open.new)) }
+    ensures held { OnOk result (StateHeld store.new typed.new open.new) }
+    ensures grows { Grows store.old store.new }
+{
+    let within = within_of(alloc, open.within.as_slice(), link, last, alias)?;
+    let moves = copy_contents(
+        alloc,
+        store,
+        typed,
+        open,
+        theory,
+        own,
+        plan,
+        within.as_slice(),
+    )?;
+    bring_names(open, moves.as_slice(), link, last, alias)
+}
