@@ -1,0 +1,24 @@
+-- A path that is new is one that a theory may have.
+use Rattle.std.proofs.Common.{◌≡◌, ℕ, Bool, true, false, List, refl}
+use Rattle.std.specs.Prelude.{◌||◌}
+use Rattle.std.specs.Str.{bytes_eq}
+use Rattle.std.specs.Option.{is_some}
+use Rattle.tasks.specs.Vocabulary.{is_empty}
+use Rattle.elab_parts.specs.Entries.{builtin}
+use Rattle.theory_states.specs.States.{KnownTree, known_named}
+use Rattle.theories.specs.Files.{is_taken}
+use Rattle.theories.specs.Right.{IsPath}
+
+or_left : (a b : Bool) → (a || b) ≡ false → a ≡ false
+or_left true b h = absurd (cc)
+or_left false b h = refl
+
+or_right : (a b : Bool) → (a || b) ≡ false → b ≡ false
+or_right true b h = absurd (cc)
+or_right false b h = h
+
+pub new_path : (path : List ℕ) (known : List KnownTree) → is_taken path known ≡ false → IsPath path
+new_path path known h = record {
+  named = or_left (is_empty path) (bytes_eq path builtin || is_some (known_named known path)) h;
+  other = or_left (bytes_eq path builtin) (is_some (known_named known path)) (or_right (is_empty path) (bytes_eq path builtin || is_some (known_named known path)) h);
+}

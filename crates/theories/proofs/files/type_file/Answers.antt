@@ -1,0 +1,48 @@
+use Rattle.std.proofs.Common.{◌≡◌, ℕ, List, map, length, inr, sym, ap, subst, ◌∙◌}
+use Rattle.std.proofs.lemmas.Result.{err_from_is_err_and}
+use Rattle.std.proofs.lemmas.List.{length-map}
+use Rattle.tasks.specs.Meaning.{symbols_at}
+use Rattle.tasks.specs.Valid.{AreInts}
+use Rattle.tasks.specs.declared.signature.SymbolInfo.{SymbolInfo}
+use Rattle.syntax_why.specs.SurfaceDeclarations.{file_of}
+use Rattle.theory_states.specs.declared.fault.SourceFault.{SourceFault}
+use Rattle.theory_states.specs.Meaning.{known_at}
+use Rattle.theories.specs.Ints.{int_entries}
+use Rattle.theories.specs.Files.{AreFaultyIn, theories_of, IsFirstFault}
+use Rattle.theories.specs.Right.{between_at}
+use Rattle.theories.proofs.Forgetting.{library_forgotten, forgotten}
+use Rattle.theories.proofs.Walking.{fault_so}
+use Rattle.theories.proofs.files.type_file.Goals as goal
+
+pub type_library-requires-clause-right : goal.type_library-requires-clause-right
+type_library-requires-clause-right c = c.in_ok-typed.ensures.right c.args.store.now
+
+pub returns-clause-sound : goal.returns-clause-sound
+returns-clause-sound c =
+    let s = c.type_library.new.store in
+    let t = c.type_library.new.typed in
+    let s' = c.type_theories.new.store in
+    let t' = c.type_theories.new.typed in
+    let done = rw c.as_slice.ensures at c.in_ok-type_theories.ensures.ok in
+    let after = between_at s' t' done.0 in
+    let count : c.len-embedded.result ≡ length (map (known_at s) t.known) = c.len-embedded.ensures ∙ sym (length-map t.known (known_at s)) in
+    record {
+      before = between_at s t 0;
+      library = c.in_ok-type_library.ensures.ok;
+      after = after;
+      typed = done.1;
+      ints = subst (λ (xs : List SymbolInfo). AreInts (symbols_at s' xs) int_entries) c.as_slice-2.ensures (c.are_ints.ensures c.if-not-are_ints.false);
+      are = c.in_ok-collect.ensures.ok done.0 ∙ ap (λ (n : ℕ). theories_of n after) count;
+    }
+
+pub returns-clause-ok : goal.returns-clause-ok
+returns-clause-ok c = forgotten c.args.store.now (file_of c.args.file.now) _ (returns-clause-sound c)
+
+pub returns-in_err-type_theories-clause-err : goal.returns-in_err-type_theories-clause-err
+returns-in_err-type_theories-clause-err c =
+    let p = err_from_is_err_and c.from_residual-in_err-type_theories.result c.from_residual-in_err-type_theories.ensures.1 in
+    let s = c.args.store.now in
+    let source = file_of c.args.file.now in
+    let before = between_at c.type_library.new.store c.type_library.new.typed 0 in
+    let k : (f : SourceFault) → AreFaultyIn source before f → IsFirstFault s source f = λ f h. inr (record { before = before; library = library_forgotten s before c.in_ok-type_library.ensures.ok; fault = h }) in
+    rw (p.1, p.2) (fault_so k c.in_err-type_theories.field-0.0 (rw c.as_slice.ensures at c.in_err-type_theories.ensures.err))

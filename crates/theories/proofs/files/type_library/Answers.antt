@@ -1,0 +1,24 @@
+use Rattle.std.proofs.Common.{sym, subst}
+use Rattle.std.proofs.lemmas.Result.{on_ok_weaker}
+use Rattle.theory_states.specs.States.{StateTree}
+use Rattle.std_theories.specs.Library.{AreFilesOf, library}
+use Rattle.theories.specs.Files.{AreEmbeddedBy, AreEmbeddedFaulty, IsLibraryFault}
+use Rattle.theories.specs.Sound.{AreSoundlyTyped}
+use Rattle.theories.specs.Right.{between_at}
+use Rattle.theories.proofs.Walking.{answer_so}
+use Rattle.theories.proofs.files.type_library.Goals as goal
+
+pub returns-clause-ok : goal.returns-clause-ok
+returns-clause-ok c =
+    let xs = c.as_slice.result.now in
+    let are : AreFilesOf library xs = subst (AreFilesOf library) (sym c.as_slice.ensures.value) c.in_ok-files.ensures in
+    let b = between_at c.type_files-done.new.store c.type_files-done.new.typed 0 in
+    on_ok_weaker c.type_files-done.result (λ h. record { files = xs; are = are; typed = subst (λ (z : StateTree). AreEmbeddedBy AreSoundlyTyped xs z b) c.requires.nothing h }) c.type_files-done.ensures.ok
+
+pub returns-clause-err : goal.returns-clause-err
+returns-clause-err c =
+    let xs = c.as_slice.result.now in
+    let are : AreFilesOf library xs = subst (AreFilesOf library) (sym c.as_slice.ensures.value) c.in_ok-files.ensures in
+    let s = c.args.store.now in
+    let a = between_at s c.args.typed.now 0 in
+    answer_so (AreEmbeddedFaulty xs a) (IsLibraryFault s) (λ f h. record { files = xs; are = are; fault = subst (λ (z : StateTree). AreEmbeddedFaulty xs z f) c.requires.nothing h }) c.type_files-done.result c.type_files-done.ensures.err

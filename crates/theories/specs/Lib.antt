@@ -1,0 +1,5 @@
+pub mod Ints
+pub mod Typing
+pub mod Files
+pub mod Sound
+pub mod Right

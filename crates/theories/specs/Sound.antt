@@ -1,0 +1,28 @@
+-- The theories of a source, typed so that what is known stays sound: for the laws, which know of one declaration what its typing ensures.
+use Rattle.std.specs.Prelude.{List, All}
+use Rattle.trees.specs.Tree.{Tree}
+use Rattle.syntax_why.specs.Declarations.{Decl, Decls, Theory, write_decl}
+use Rattle.valid_tasks.specs.Lists.{IsGroupWhole}
+use Rattle.valid_tasks.specs.Quoted.{IsQuotedLexeme}
+use Rattle.goal_tasks.specs.Theories.{TheoriesTree}
+use Rattle.theory_states.specs.States.{StateTree}
+use Rattle.sound_states.specs.Typed.{IsTypedState}
+use Rattle.sound_states.specs.Sound.{IsSoundState}
+use Rattle.theory_declarations.specs.Declared.{IsDeclared}
+use Rattle.theories.specs.Typing.{IsTypedBy, AreTypedBy}
+use Rattle.theories.specs.Files.{TheoriesBy}
+
+-- a declaration that is no use, clone or scope: what is known then is typed, and sound where it was and the declaration is one of a text
+pub record IsSoundlyDeclared (d : Decl) (c c' : StateTree) : Type 0 where
+  pub declared : IsDeclared d c c'
+  pub typed : IsTypedState c'
+  pub sound : IsGroupWhole d → All IsQuotedLexeme (write_decl d) → IsSoundState c → IsSoundState c'
+
+abbrev pub IsSoundlyTyped : Decl → StateTree → StateTree → Type 0
+IsSoundlyTyped = IsTypedBy IsSoundlyDeclared
+
+abbrev pub AreSoundlyTyped : Decls → StateTree → StateTree → Type 0
+AreSoundlyTyped = AreTypedBy IsSoundlyDeclared
+
+abbrev pub SoundTheoriesOf : List Tree → List Theory → TheoriesTree → Type 0
+SoundTheoriesOf = TheoriesBy AreSoundlyTyped
