@@ -1,0 +1,17 @@
+pub mod Lists
+pub mod Names
+pub mod Finding
+pub mod Growing
+pub mod Overs
+pub mod Made
+pub mod Solved
+pub mod Settings
+pub mod Outcomes
+pub mod Faults
+pub mod Determined
+pub mod StateLists
+pub mod Later
+pub mod Known
+pub mod Sides
+pub mod Declared
+pub mod Steps

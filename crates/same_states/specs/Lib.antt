@@ -1,0 +1,4 @@
+pub mod Same
+pub mod OutcomeSame
+pub mod StateSame
+pub mod Steps
