@@ -1,0 +1,68 @@
+-- The files of the library are those of its texts, so that there is one tree for each.
+use Rattle.std.proofs.Common.{◌≡◌, ℕ, List, [], ◌∷◌, ◌++◌, refl, sym, subst, subst₂, ◌∙◌, append_assoc, append-nil, inl, inr}
+use Rattle.tokens_why.specs.declared.token.Token.{Token}
+use Rattle.tokens_why.specs.Tokens.{Reads, AreTokens}
+use Rattle.tokens_why.specs.Tokens as text
+use Rattle.tokens_why.proofs.TurnLemmas.{Turn, first, turn, Reading, stopped}
+use Rattle.syntax_why.specs.Lexeme.{rest}
+use Rattle.syntax_why.specs.Declarations.{Theory}
+use Rattle.syntax_why.specs.declared.declarations.File.{File}
+use Rattle.syntax_why.specs.SurfaceDeclarations.{file_of}
+use Rattle.recognise_why.specs.Sources.{IsOnlyFile}
+use Rattle.std_theories.specs.Library.{Entry, IsFileOfText, AreFilesOf}
+use Rattle.theory_states.specs.declared.fault.SourceFault.{SourceFault}
+use Rattle.theory_states.specs.States.{StateTree}
+use Rattle.theories.specs.Typing.{Steps}
+use Rattle.theories.specs.Files.{AreEmbeddedIn, AreEmbeddedFaultyIn, AreEmbeddedFaulty}
+
+-- ---- a text has one reading
+reading_from : (bytes : List ℕ) (at : ℕ) (stop : text.Stop) (found ts : List Token) → Turn bytes at found → Reads bytes stop at ts → Reading bytes stop (found ++ ts)
+reading_from bytes at stop found [] h r = subst (Reading bytes stop) (sym (append-nil found)) (stopped bytes at stop found r h)
+reading_from bytes at stop found (t ∷ ts) h r =
+    let more : Turn bytes t.end (found ++ t ∷ []) = turn bytes at t found (found ++ t ∷ []) (r.0, r.1) r.2 refl h in
+    subst (Reading bytes stop) (append_assoc found (t ∷ []) ts) (reading_from bytes t.end stop (found ++ t ∷ []) ts more r.3)
+
+one_tokens : (bytes : List ℕ) (ts us : List Token) → AreTokens bytes ts → AreTokens bytes us → ts ≡ us
+one_tokens bytes ts us a b = sym ((reading_from bytes 0 text.whole [] ts (first bytes) a).only text.whole us b).1
+
+one_file : (bytes : List ℕ) (f g : File) → IsFileOfText bytes f → IsFileOfText bytes g → file_of f ≡ file_of g
+one_file bytes f g a b =
+    let there : IsOnlyFile (rest bytes b.tokens 0) (file_of f) = subst (λ (ts : List Token). IsOnlyFile (rest bytes ts 0) (file_of f)) (one_tokens bytes a.tokens b.tokens a.are b.are) a.only in
+    b.only.only (file_of f) there.of there.placed
+
+-- ---- files with the same paths and trees
+abbrev pub AreSameFiles : List (List ℕ × File) → List (List ℕ × File) → Type 0
+AreSameFiles [] [] = Unit {0}
+AreSameFiles (f ∷ fs) (g ∷ gs) = (f.0 ≡ g.0) × (file_of f.1 ≡ file_of g.1) × AreSameFiles fs gs
+AreSameFiles _ _ = ⊥
+
+pub one_files : (es : List Entry) (fs gs : List (List ℕ × File)) → AreFilesOf es fs → AreFilesOf es gs → AreSameFiles fs gs
+one_files [] [] [] a b = tt
+one_files [] [] (g ∷ gs) a b = absurd b
+one_files [] (f ∷ fs) gs a b = absurd a
+one_files (e ∷ es) [] gs a b = absurd a
+one_files (e ∷ es) (f ∷ fs) [] a b = absurd b
+one_files (e ∷ es) (f ∷ fs) (g ∷ gs) a b = (a.0 ∙ sym b.0, one_file e.1 f.1 g.1 a.1 b.1, one_files es fs gs a.2 b.2)
+
+-- what is typed of one list of files is typed of the other
+abbrev IsEmbeddedFile : List ℕ × File → StateTree → StateTree → Type 0
+IsEmbeddedFile f = AreEmbeddedIn f.0 (file_of f.1)
+
+file_there : (f g : List ℕ × File) (c c' : StateTree) → f.0 ≡ g.0 → file_of f.1 ≡ file_of g.1 → IsEmbeddedFile f c c' → IsEmbeddedFile g c c'
+file_there f g c c' p q h = subst₂ (λ (path : List ℕ) (ts : List Theory). AreEmbeddedIn path ts c c') p q h
+
+fault_there : (f g : List ℕ × File) (c : StateTree) (x : SourceFault) → f.0 ≡ g.0 → file_of f.1 ≡ file_of g.1 → AreEmbeddedFaultyIn f.0 (file_of f.1) c x → AreEmbeddedFaultyIn g.0 (file_of g.1) c x
+fault_there f g c x p q h = subst₂ (λ (path : List ℕ) (ts : List Theory). AreEmbeddedFaultyIn path ts c x) p q h
+
+pub files_there : (fs gs : List (List ℕ × File)) (c c' : StateTree) → AreSameFiles fs gs → Steps IsEmbeddedFile fs c c' → Steps IsEmbeddedFile gs c c'
+files_there [] [] c c' h a = a
+files_there [] (g ∷ gs) c c' h a = absurd h
+files_there (f ∷ fs) [] c c' h a = absurd h
+files_there (f ∷ fs) (g ∷ gs) c c' h a = record { between = a.between; first = file_there f g c a.between h.0 h.1 a.first; second = files_there fs gs a.between c' h.2 a.second }
+
+pub faulty_there : (fs gs : List (List ℕ × File)) (c : StateTree) (x : SourceFault) → AreSameFiles fs gs → AreEmbeddedFaulty fs c x → AreEmbeddedFaulty gs c x
+faulty_there [] [] c x h a = a
+faulty_there [] (g ∷ gs) c x h a = absurd h
+faulty_there (f ∷ fs) [] c x h a = absurd h
+faulty_there (f ∷ fs) (g ∷ gs) c x h (inl a) = inl (fault_there f g c x h.0 h.1 a)
+faulty_there (f ∷ fs) (g ∷ gs) c x h (inr a) = inr (record { between = a.between; first = file_there f g c a.between h.0 h.1 a.first; fault = faulty_there fs gs a.between x h.2 a.fault })

@@ -1,0 +1,4 @@
+pub mod Plain
+pub mod Sources
+pub mod Lexemes
+pub mod Names

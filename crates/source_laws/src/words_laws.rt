@@ -1,0 +1,21 @@
+// Names of symbols in the task of a goal of a source have no space and no line feed, so that they can be written in a line.
+ghost use Rattle.std.specs.Prelude.{ℕ, List};
+ghost use Rattle.trees.specs.Tree.{Tree};
+ghost use Rattle.tokens_why.specs.declared.token.Token.{Token};
+ghost use Rattle.tokens_why.specs.Tokens.{AreTokens};
+ghost use Rattle.tasks.specs.Task.{TaskTree};
+ghost use Rattle.syntax_why.specs.Lexeme.{rest};
+ghost use Rattle.syntax_why.specs.Declarations.{Theory};
+ghost use Rattle.recognise_why.specs.Sources.{IsOnlyFile};
+ghost use Rattle.goal_tasks.specs.Theories.{TheoriesTree};
+ghost use Rattle.goal_tasks.specs.Tasks.{IsTaskOf};
+ghost use Rattle.theories.specs.Files.{TheoriesOf};
+ghost use Rattle.written_files.specs.Named.{NamesAreWords};
+
+/// A law: each name of a symbol in the task of a goal of a source is a word of a line.
+pub fn names_words()
+    ensures { (text : List ℕ) (ts : List Token) (file : List Theory) (s : List Tree)
+        (all : TheoriesTree) (theory goal : List ℕ) (t : TaskTree) → AreTokens text ts
+        → IsOnlyFile (rest text ts 0) file → TheoriesOf s file all → IsTaskOf all theory goal t
+        → NamesAreWords t }
+{}
