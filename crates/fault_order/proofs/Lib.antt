@@ -1,0 +1,3 @@
+pub mod Meeting
+pub mod Stages
+pub mod OneStage

@@ -1,0 +1,13 @@
+//! How a run begins and ends: the shape of its words, its status with the line and the code, what is put on the sinks.
+//! It depends on the order of faults; the top call depends on it.
+#![tactic(auto)]
+
+mod lines;
+mod numbers;
+mod sinks;
+mod status;
+mod words;
+
+pub use sinks::{finish, report};
+pub use status::Status;
+pub use words::{Command, read_command};
