@@ -1,0 +1,14 @@
+use Rattle.std.proofs.Common.{ℕ, List, subst}
+use Rattle.fault_order.specs.Answers.{IsStageAnswer}
+use Rattle.source_goals.specs.Order.{SourceTheories}
+use Rattle.source_goals.specs.Values.{theories_in}
+use Rattle.fault_order.proofs.Meeting.{answers_then}
+use Rattle.fault_order.proofs.Stages.{answers_stage}
+use Rattle.source_goals.proofs.goal.fetch_theories.Goals as goal
+
+pub returns-clause-answers : goal.returns-clause-answers
+returns-clause-answers g c =
+    let bytes = c.in_ok-text.text.items in
+    let r = theories_in c.read_source.new.store c.read_source.result in
+    let read = subst (λ (b : List ℕ). IsStageAnswer (SourceTheories b) r) c.deref.ensures.value c.read_source.ensures.theories in
+    answers_then (λ b files limit. SourceTheories b) c.in_ok-text.ensures (answers_stage (SourceTheories bytes) 1 _ r read)

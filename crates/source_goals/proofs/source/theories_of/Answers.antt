@@ -1,0 +1,17 @@
+use Rattle.std.proofs.Common.{Result, Err, sym, subst}
+use Rattle.syntax_why.specs.SurfaceDeclarations.{file_of}
+use Rattle.goal_tasks.specs.Theories.{TheoriesTree}
+use Rattle.fault_order.specs.declared.faults.RunFault.{RunFault}
+use Rattle.fault_order.specs.Answers.{IsStageAnswer}
+use Rattle.source_goals.specs.Order.{Declares}
+use Rattle.source_goals.proofs.Faults.{no_theories}
+use Rattle.source_goals.proofs.source.theories_of.Goals as goal
+
+pub returns-in-Ok-clause-declares : goal.returns-in-Ok-clause-declares
+returns-in-Ok-clause-declares c = (c.args.store.now, c.in-Ok.ensures.ok)
+
+pub returns-in-Err-clause-declares : goal.returns-in-Err-clause-declares
+returns-in-Err-clause-declares c =
+    let file = file_of c.args.file.now in
+    let r : RunFault → Result TheoriesTree RunFault = λ e. Err e in
+    subst (λ (e : RunFault). IsStageAnswer (Declares file) (r e)) (sym c.source_fault.ensures) (no_theories c.args.store.now file c.in-Err.fault c.in-Err.ensures.err)

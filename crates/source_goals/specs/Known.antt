@@ -1,0 +1,67 @@
+-- What the theories of a source tell the reader of a driver (Why3 manual, "Drivers").
+use Rattle.std.specs.Prelude.{◌≡◌, ℕ, List, [], ◌∷◌, Option, Some, None, map, if◌then◌else◌, string_bytes}
+use Rattle.std.specs.List.{flat_map}
+use Rattle.std.specs.Str.{bytes_eq}
+use Rattle.std.specs.Str.Lossy.{utf8_lossy}
+use Rattle.trees.specs.Tree.{Tree}
+use Rattle.tasks.specs.Task.{SymbolTree, DeclarationTree, BodyTree, Says}
+use Rattle.tasks.specs.Meaning.{symbols_at}
+use Rattle.tasks.specs.declared.declaration.Body.{Body}
+use Rattle.tasks.specs.declared.declaration.Body.TheVariants.{Prop}
+use Rattle.tasks.specs.declared.declaration.Decl.{Decl}
+use Rattle.tasks.specs.declared.signature.SymbolInfo.{SymbolInfo}
+use Rattle.driver_items.specs.Symbols.{Theories as NamedTheories, Theory as NamedTheory}
+use Rattle.goal_tasks.specs.declared.theories.Theory.{Theory}
+use Rattle.goal_tasks.specs.Theories.{TheoryTree, TheoriesTree}
+use Rattle.goal_tasks.specs.Meaning.{placed}
+
+-- the symbols that a driver may name, and the known theories, each with the names of its propositions
+pub record Known : Type 0 where
+  pub symbols : List SymbolTree
+  pub theories : List (List ℕ × List (List ℕ))
+
+-- Names are ASCII, so nothing is replaced in them.
+abbrev pub said_name : List ℕ → BodyTree → List (List ℕ)
+said_name name (Says a) = utf8_lossy name ∷ []
+said_name name _ = []
+
+-- the name of a proposition that the theory with this path itself declares
+abbrev pub own_name : List ℕ → DeclarationTree → List (List ℕ)
+own_name path d = if bytes_eq d.theory path then said_name d.name d.body else []
+
+abbrev pub own_names : List ℕ → List DeclarationTree → List (List ℕ)
+own_names path ds = flat_map (own_name path) ds
+
+abbrev pub known_theory : TheoryTree → List ℕ × List (List ℕ)
+known_theory t = (utf8_lossy t.path, own_names t.path t.decls)
+
+-- the theories of the source and those of the embedded library are known
+abbrev pub known_of : TheoriesTree → Known
+known_of all = record { symbols = all.symbols; theories = map known_theory all.list }
+
+abbrev pub named_bytes : NamedTheory → List ℕ × List (List ℕ)
+named_bytes theory = (string_bytes theory.0, map string_bytes theory.1.items)
+
+-- a signature and named theories are what is known
+pub record AreKnown (known : Known) (infos : List SymbolInfo) (named : NamedTheories) : Type 0 where
+  pub store : List Tree
+  pub symbols : symbols_at store infos ≡ known.symbols
+  pub theories : map named_bytes named ≡ known.theories
+
+-- ---- of declarations in code
+abbrev pub said_in : List ℕ → Body → List (List ℕ)
+said_in name (Prop a) = utf8_lossy name ∷ []
+said_in name _ = []
+
+abbrev pub own_in : List ℕ → Decl → List (List ℕ)
+own_in path d = if bytes_eq d.theory path then said_in d.name d.body else []
+
+abbrev pub own_at : List ℕ → Option Decl → List (List ℕ)
+own_at path None = []
+own_at path (Some d) = own_in path d
+
+abbrev pub names_in : List ℕ → List Decl → List (List ℕ)
+names_in path ds = flat_map (own_in path) ds
+
+abbrev pub theory_in : List Decl → Theory → List ℕ × List (List ℕ)
+theory_in ds t = (utf8_lossy t.path, names_in t.path (placed ds t.visible))

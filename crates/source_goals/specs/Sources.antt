@@ -1,0 +1,30 @@
+-- Theories and tasks that come from a source.
+use Rattle.std.specs.Prelude.{ℕ, List}
+use Rattle.trees.specs.Tree.{Tree}
+use Rattle.tasks.specs.Task.{TaskTree}
+use Rattle.tokens_why.specs.declared.token.Token.{Token}
+use Rattle.tokens_why.specs.Tokens.{AreTokens}
+use Rattle.syntax_why.specs.Lexeme.{rest}
+use Rattle.syntax_why.specs.Declarations.{Theory}
+use Rattle.recognise_why.specs.Sources.{IsOnlyFile}
+use Rattle.goal_tasks.specs.Theories.{TheoriesTree}
+use Rattle.goal_tasks.specs.Tasks.{IsTaskOf}
+use Rattle.theories.specs.Sound.{SoundTheoriesOf}
+
+-- some text has these theories
+pub record AreSourceTheories (all : TheoriesTree) : Type 0 where
+  pub text : List ℕ
+  pub tokens : List Token
+  pub file : List Theory
+  pub trees : List Tree
+  pub lexes : AreTokens text tokens
+  pub parses : IsOnlyFile (rest text tokens 0) file
+  pub typed : SoundTheoriesOf trees file all
+
+-- the task is that of a goal of some text
+pub record IsSourceTask (t : TaskTree) : Type 0 where
+  pub all : TheoriesTree
+  pub theories : AreSourceTheories all
+  pub theory : List ℕ
+  pub goal : List ℕ
+  pub is : IsTaskOf all theory goal t
