@@ -74,7 +74,8 @@ fn copy_defs(
     requires known { AreKnown (map_at store.old morphism.now) store.old known.old }
     requires held { All (DefHeld store.old) defs.now }
     ensures tree { IfOk result (λ v. definitions_at store.new v
-        ≡ map (definition_mapped (map_at store.old morphism.now)) (definitions_at store.old defs.now)) }
+        ≡ map (definition_mapped (map_at store.old morphism.now))
+        (definitions_at store.old defs.now)) }
     ensures new_held { IfOk result (All (DefHeld store.new)) }
     ensures new_known { OnOk result (AreKnown (map_at store.old morphism.now) store.new known.new) }
     ensures grows { Grows store.old store.new }
@@ -121,7 +122,8 @@ fn copy_inds(
     requires known { AreKnown (map_at store.old morphism.now) store.old known.old }
     requires held { All (InductiveHeld store.old) inds.now }
     ensures tree { IfOk result (λ v. inductives_at store.new v
-        ≡ map (inductive_mapped (map_at store.old morphism.now)) (inductives_at store.old inds.now)) }
+        ≡ map (inductive_mapped (map_at store.old morphism.now))
+        (inductives_at store.old inds.now)) }
     ensures new_held { IfOk result (All (InductiveHeld store.new)) }
     ensures new_known { OnOk result (AreKnown (map_at store.old morphism.now) store.new known.new) }
     ensures grows { Grows store.old store.new }
@@ -236,7 +238,8 @@ fn copy_algs(
     requires known { AreKnown (map_at store.old morphism.now) store.old known.old }
     requires held { All (AlgebraicHeld store.old) algs.now }
     ensures tree { IfOk result (λ v. algebraics_at store.new v
-        ≡ map (algebraic_mapped (map_at store.old morphism.now)) (algebraics_at store.old algs.now)) }
+        ≡ map (algebraic_mapped (map_at store.old morphism.now))
+        (algebraics_at store.old algs.now)) }
     ensures new_held { IfOk result (All (AlgebraicHeld store.new)) }
     ensures new_known { OnOk result (AreKnown (map_at store.old morphism.now) store.new known.new) }
     ensures grows { Grows store.old store.new }
