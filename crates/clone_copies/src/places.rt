@@ -276,7 +276,8 @@ fn copy_own(
     ensures state { OnOk result (bare_at store.new typed.new open.new ≡ with_own
         (copying_at store.old job.now) place (bare_at store.old typed.old open.old)) }
     ensures held { OnOk result (StateHeld store.new typed.new open.new) }
-    ensures known { OnOk result (AreKnown (map_at store.old job.now.morphism.now) store.new trees.new) }
+    ensures known { OnOk result (AreKnown (map_at store.old job.now.morphism.now) store.new
+        trees.new) }
     ensures grows { Grows store.old store.new }
 {
     if is_replaced(&job.plan.fates, place) {
@@ -312,7 +313,8 @@ fn copy_place(
     ensures state { OnOk result (bare_at store.new typed.new open.new ≡ with_place
         (copying_at store.old job.now) place (bare_at store.old typed.old open.old)) }
     ensures held { OnOk result (StateHeld store.new typed.new open.new) }
-    ensures known { OnOk result (AreKnown (map_at store.old job.now.morphism.now) store.new trees.new) }
+    ensures known { OnOk result (AreKnown (map_at store.old job.now.morphism.now) store.new
+        trees.new) }
     ensures grows { Grows store.old store.new }
 {
     if is_own(typed.decls.as_slice(), job.path, place) {
@@ -340,7 +342,8 @@ pub fn copy_places(
     ensures state { OnOk result (bare_at store.new typed.new open.new ≡ with_places
         (copying_at store.old job.now) places.now (bare_at store.old typed.old open.old)) }
     ensures held { OnOk result (StateHeld store.new typed.new open.new) }
-    ensures known { OnOk result (AreKnown (map_at store.old job.now.morphism.now) store.new trees.new) }
+    ensures known { OnOk result (AreKnown (map_at store.old job.now.morphism.now) store.new
+        trees.new) }
     ensures grows { Grows store.old store.new }
 {
     for place in places {

@@ -180,7 +180,8 @@ fn same_types(
     requires known { AreKnown (map_at store.old morphism.now) store.old known.old }
     requires held { All (Holds store.old) types.now }
     requires others_held { All (Holds store.old) others.now }
-    ensures same { IfOk result (λ b. IsTrue b ↔ (map (mapped (map_at store.old morphism.now)) (trees_at
+    ensures same { IfOk result (λ b. IsTrue b
+        ↔ (map (mapped (map_at store.old morphism.now)) (trees_at
         store.old types.now) ≡ trees_at store.old others.now)) }
     ensures known { OnOk result (AreKnown (map_at store.old morphism.now) store.new known.new) }
     ensures grows { Grows store.old store.new }
@@ -281,7 +282,8 @@ fn replaces(
     ensures same { IfOk result (λ b. IsTrue b ↔ Replaces (symbols_at store.old
         trial.now.sig.now.symbols) (map_at store.old trial.now.morphism.now) word
         (symbol_at_place (declarations_at store.old trial.now.source.now.decls.now) place) other) }
-    ensures known { OnOk result (AreKnown (map_at store.old trial.now.morphism.now) store.new known.new) }
+    ensures known { OnOk result (AreKnown (map_at store.old trial.now.morphism.now) store.new
+        known.new) }
     ensures grows { Grows store.old store.new }
 {
     let symbol = symbol_at_place(trial.source.decls, place);
@@ -306,7 +308,8 @@ fn is_right(
         trial.now.sig.now.symbols) (origin_at store.old trial.now.source.now)
         (map_at store.old trial.now.morphism.now) (element_of side.now.element.now) side.now.left
         (right_at store.old side.now.right)) }
-    ensures known { OnOk result (AreKnown (map_at store.old trial.now.morphism.now) store.new known.new) }
+    ensures known { OnOk result (AreKnown (map_at store.old trial.now.morphism.now) store.new
+        known.new) }
     ensures grows { Grows store.old store.new }
 {
     match &side.element.node {
@@ -338,7 +341,8 @@ fn check_side(
     ensures told { IfOk result (SideTold (symbols_at store.old trial.now.sig.now.symbols)
         (origin_at store.old trial.now.source.now) (map_at store.old trial.now.morphism.now)
         (fates_at fates.now) (side_at store.old side.now)) }
-    ensures known { OnOk result (AreKnown (map_at store.old trial.now.morphism.now) store.new known.new) }
+    ensures known { OnOk result (AreKnown (map_at store.old trial.now.morphism.now) store.new
+        known.new) }
     ensures grows { Grows store.old store.new }
 {
     if is_wrong(trial, fates, side) {
@@ -471,7 +475,8 @@ fn check_elements(
     requires trial { TrialHeld store.old trial.now }
     requires sides { All (SideHeld store.old) sides.now }
     ensures right { OnOk result (SidesTold (symbols_at store.old trial.now.sig.now.symbols)
-        (origin_at store.old trial.now.source.now) (map_at store.old trial.now.morphism.now) no_fates
+        (origin_at store.old trial.now.source.now) (map_at store.old trial.now.morphism.now)
+        no_fates
         (sides_at store.old sides.now) None) }
     ensures fates { IfOk result (λ f. fates_at f ≡ fates_of (sides_at store.old sides.now)) }
     ensures err { IfErr result (IsElementRefused (symbols_at store.old trial.now.sig.now.symbols)

@@ -93,7 +93,7 @@ pub fn symbol_of(decl: &Decl) -> usize
     }
 }
 
-// Whether an element replaces the declaration at a place.
+/// Whether an element replaces the declaration at a place. It is no where no element names it, or makes another proposition of it.
 pub fn is_replaced(fates: &Fates, place: usize) -> bool
     ensures { result ≡ is_replaced (fates_at fates.now place) }
 {
@@ -104,7 +104,7 @@ pub fn is_replaced(fates: &Fates, place: usize) -> bool
     }
 }
 
-// The number of type variables of a symbol.
+/// The number of type variables of a symbol, by its entry; 0 where the signature has none of that number.
 pub fn vars_of(sig: &Signature, symbol: usize) -> usize
     ensures { (s : List Tree) → result ≡ (symbol_or (symbols_at s sig.now.symbols) symbol).vars }
 {
@@ -134,7 +134,8 @@ fn push_type_at(
     vars: usize,
     ty: TermId,
 ) -> Result<(), AllocError>
-    ensures types { OnOk result ((s : List Tree) → types_at s types.new.items ≡ types_at s types.old.items
+    ensures types { OnOk result ((s : List Tree) → types_at s types.new.items
+        ≡ types_at s types.old.items
         ++ type_with (symbols_at s sig.now.symbols) (origin_at s source.now) (fates_at fates.now)
         place vars (tree_at s ty)) }
     ensures held { OnOk result ((s : List Tree) → All (TypeForHeld s) types.old.items → HoldsType s

@@ -51,7 +51,8 @@ pub fn push_param_names(
 
 /// What names mean with these type variables and no others.
 pub fn over_vars<'a>(world: &World<'a>, vars: &'a [Text]) -> World<'a>
-    ensures names { (s : List Tree) → where_at s result ≡ with_vars (where_at s world.now) vars.now }
+    ensures names { (s : List Tree) → where_at s result
+        ≡ with_vars (where_at s world.now) vars.now }
     ensures closed { result.new_vars ≡ false }
     ensures held { (s : List Tree) → WorldHeld s world.now → WorldHeld s result }
 {

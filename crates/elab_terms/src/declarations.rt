@@ -59,7 +59,8 @@ fn elaborate_members(
     requires signature { IsSignature store.old sig.old.symbols }
     requires scopes { AreScopes store.old (length sig.old.symbols) scope.old }
     ensures ok { IfOk result (IsElaborated (setting place.now store.old sig.old scope.old)
-        (members (member_at first.entry ∷ other_members others.now)) sig.old store.new sig.new scope.new) }
+        (members (member_at first.entry ∷ other_members others.now)) sig.old store.new sig.new
+        scope.new) }
     ensures kept { IfOk result (IsKept store.new sig.new scope.new) }
     ensures err { IfErr result (IsRefusal (setting place.now store.old sig.old scope.old)
         (members (member_at first.entry ∷ other_members others.now))) }

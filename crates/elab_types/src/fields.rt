@@ -113,7 +113,8 @@ fn push_constructors(
     requires made { All (ConTyped store.old) made.old }
     requires fits { number.old + entry_count (constructors_of cons.now) < 2 ^ 64 }
     ensures typed { OnOk result (All (ConTyped store.new) made.new) }
-    ensures cons { OnOk result (cons_at store.new made.new ≡ cons_at store.old made.old ++ constructor_trees
+    ensures cons { OnOk result (cons_at store.new made.new ≡ cons_at store.old made.old
+        ++ constructor_trees
         (where_at store.old world.now) number.old (constructors_of cons.now)) }
     ensures number { OnOk result (number.new ≡ number.old + entry_count (constructors_of
         cons.now)) }

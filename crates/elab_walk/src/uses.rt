@@ -18,7 +18,7 @@ use tasks::SymbolInfo;
 use term_store::{Grow, Store};
 use trees::{Node, TermId};
 
-// A variable of a place and a type. More places than there are numbers are want of memory.
+/// A variable of a place and a type. More places than there are numbers are want of memory.
 pub fn walk_local(
     store: &mut Store,
     draft: &mut Draft,
@@ -51,7 +51,7 @@ fn entry_vars(info: Option<&SymbolInfo>) -> usize
     }
 }
 
-// The types of an entry's arguments.
+/// The types of an entry's arguments.
 pub fn entry_args(info: Option<&SymbolInfo>) -> &[TermId]
     ensures trees { (s : List Tree) → trees_at s result.now
         ≡ (symbol_got s (option_copied info.entry)).args }
@@ -64,7 +64,7 @@ pub fn entry_args(info: Option<&SymbolInfo>) -> &[TermId]
     }
 }
 
-// The unknowns of a use of a symbol, and the equation of its result.
+/// The unknowns of a use of a symbol, and the equation of its result.
 pub fn begin_use(
     alloc: Global,
     store: &mut Store,
@@ -88,7 +88,7 @@ pub fn begin_use(
     Ok(types)
 }
 
-// Types at types.
+/// Types at types.
 pub fn types_put(
     alloc: Global,
     store: &mut Store,
@@ -110,7 +110,7 @@ pub fn types_put(
     Ok(them)
 }
 
-// A symbol at types before arguments: a term of a type, or a formula.
+/// A symbol at types before arguments: a term of a type, or a formula.
 pub fn finish_use(
     store: &mut Store,
     draft: &Draft,
@@ -135,7 +135,7 @@ pub fn finish_use(
     }
 }
 
-// The first of some types, or `int`.
+/// The first of some types, or `int`.
 pub fn first_type(store: &Store, types: &[TermId]) -> TermId
     requires { All (HoldsType store.now) types.now }
     ensures held { HoldsType store.now result }
@@ -147,7 +147,7 @@ pub fn first_type(store: &Store, types: &[TermId]) -> TermId
     }
 }
 
-// The types behind the first.
+/// The types behind the first.
 pub fn other_types(types: &[TermId]) -> &[TermId]
     ensures { result.now ≡ rest_of types.now }
 {

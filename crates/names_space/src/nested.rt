@@ -28,9 +28,13 @@ impl Model for Scope {
 
     ghost Value = { Names };
 
-    ghost view = { λ s. record { entries = s.scopes.items; nested = s.current ∷ reverse s.outer.items } };
+    ghost view = { λ s. record {
+      entries = s.scopes.items;
+      nested = s.current ∷ reverse s.outer.items;
+    } };
 
-    ghost invariant = { λ s. (s.current < length s.scopes.items) × All (λ i. i < length s.scopes.items) s.outer.items };
+    ghost invariant = { λ s. (s.current < length s.scopes.items)
+        × All (λ i. i < length s.scopes.items) s.outer.items };
 }
 
 // A word of a path, which is read as its bytes.
@@ -236,7 +240,8 @@ impl Scope {
     pub fn open(&mut self, name: &str) -> Result<(), NameFault>
         ensures ok { OnOk result (self.new ≡ with_scope name.now true self.old) }
         ensures duplicate { (result ≡ Err NameFault.Duplicate)
-            ↔ IsTrue (is_declared Table.Scopes name.now (entries_of self.old (innermost self.old))) }
+            ↔ IsTrue (is_declared Table.Scopes name.now
+            (entries_of self.old (innermost self.old))) }
         ensures never_unknown { IfErr result (λ fault. fault ≢ NameFault.Unknown) }
         ensures err { OnErr result (self.new ≡ self.old) }
     {
@@ -247,7 +252,8 @@ impl Scope {
     pub fn open_name(&mut self, name: &[u8]) -> Result<(), NameFault>
         ensures ok { OnOk result (self.new ≡ with_scope name.now true self.old) }
         ensures duplicate { (result ≡ Err NameFault.Duplicate)
-            ↔ IsTrue (is_declared Table.Scopes name.now (entries_of self.old (innermost self.old))) }
+            ↔ IsTrue (is_declared Table.Scopes name.now
+            (entries_of self.old (innermost self.old))) }
         ensures never_unknown { IfErr result (λ fault. fault ≢ NameFault.Unknown) }
         ensures err { OnErr result (self.new ≡ self.old) }
     {

@@ -145,7 +145,8 @@ fn problem_by(
     requires held { TaskHeld store.now task.now }
     requires things_held { AreHeld store.now things.now }
     requires things { seen_at store.now things.now ≡ problem_things (task_at store.now task.now) }
-    ensures { IfOk result (IsProblem store.now (problem_of driver.now (task_at store.now task.now))) }
+    ensures { IfOk result (IsProblem store.now
+        (problem_of driver.now (task_at store.now task.now))) }
 {
     let symbols = places_of(alloc, driver, task, things, Question::IsDeclared)?;
     let sorts = places_of(alloc, driver, task, things, Question::IsSort)?;

@@ -114,7 +114,8 @@ pub(crate) struct Bindings<'a> {
 }
 
 impl<'a> Put for Bindings<'a> {
-    ghost change_over = { λ v s. instantiating_many (bind (task_of v.x.now) (tree_at s v.pattern) (tree_at s v.term)) };
+    ghost change_over = { λ v s. instantiating_many (bind (task_of v.x.now)
+        (tree_at s v.pattern) (tree_at s v.term)) };
 
     ghost Ready = { λ v s. IsReady v.x.now v.pattern v.term s };
 

@@ -27,7 +27,8 @@ struct Rebuilt<'a> {
 }
 
 impl<'a> Shape for Rebuilt<'a> {
-    ghost tree = { λ v s. rebuilt (task_of v.x.now) v.con.now.symbol v.con.now.projections (tree_at s v.types) (tree_at s v.term) };
+    ghost tree = { λ v s. rebuilt (task_of v.x.now) v.con.now.symbol v.con.now.projections
+        (tree_at s v.types) (tree_at s v.term) };
 
     ghost IsHeld = { λ v s. IsRebuiltHeld v s };
 

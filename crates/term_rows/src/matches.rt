@@ -29,7 +29,8 @@ struct Branch<'a> {
 }
 
 impl<'a> Shape for Branch<'a> {
-    ghost tree = { λ v s. inst_many (tree_at s v.body) (bind (task_of v.x.now) (tree_at s v.pattern) (tree_at s v.term)) };
+    ghost tree = { λ v s. inst_many (tree_at s v.body) (bind (task_of v.x.now) (tree_at s v.pattern)
+        (tree_at s v.term)) };
 
     ghost IsHeld = { λ v s. IsReady v.x.now v.pattern v.term s × Holds s v.body };
 

@@ -19,14 +19,14 @@ use Rattle.elab_parts.specs.declared.made.Elaborated.{Elaborated}
 use Rattle.elab_parts.specs.Declarations.{Declaration, abstract_type, alias, algebraic, members, inductive, proposition}
 use Rattle.elab_parts.specs.Outcomes.{Setting, Outcome}
 use Rattle.elab_terms.specs.Outcomes.{IsOutcome}
-use Rattle.elab_typed.specs.Scopes.{IsTypedSignature, AreTypedScopes}
-use Rattle.elab_valid.specs.Valid.{HaveNoFault}
+use Rattle.valid_tasks.specs.Scopes.{IsTypedSignature, AreTypedScopes}
+use Rattle.valid_tasks.specs.Valid.{HaveNoFault}
 use Rattle.side_conditions.specs.Sides.{bodies}
-use Rattle.typed_moves.specs.Moves.{IsTypedMove}
-use Rattle.typed_moves.proofs.Scopes.{moves_more}
+use Rattle.sound_states.specs.Moves.{IsTypedMove}
+use Rattle.sound_states.proofs.Scopes.{moves_more}
 use Rattle.valid_tasks.specs.Built.{IsBuiltRight}
-use Rattle.valid_tasks.specs.Typed.{IsTypedOver}
-use Rattle.valid_tasks.proofs.Outcomes.{elaborated_kept}
+use Rattle.valid_tasks.specs.TaskTyped.{IsTypedOver}
+use Rattle.valid_tasks.proofs.TaskOutcomes.{elaborated_kept}
 use Rattle.valid_tasks.proofs.Typed.{setting_kept}
 use Rattle.declared_names.specs.Made.{moves_declared}
 use Rattle.theory_states.specs.declared.states.Opened.{Opened}
@@ -34,7 +34,7 @@ use Rattle.theory_states.specs.declared.states.Typed.{Typed}
 use Rattle.theory_states.specs.States.{StateTree}
 use Rattle.theory_states.specs.Meaning.{state_at, OpenedHeld, TypedHeld, StateHeld}
 use Rattle.theory_states.proofs.Growing.{held_grows, state_grows}
-use Rattle.typed_states.specs.Typed.{setting, IsTypedState}
+use Rattle.sound_states.specs.Typed.{setting, IsTypedState}
 use Rattle.theory_declarations.specs.Declared.{proposition_in, known_by, named_by, IsDeclared}
 use Rattle.theory_declarations.specs.Steps.{IsNext}
 use Rattle.theory_declarations.proofs.Typed.{declared_typed, signature_part, setting_typed, trees_typed, known_typed}

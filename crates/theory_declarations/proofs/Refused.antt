@@ -9,12 +9,12 @@ use Rattle.elab_walk.specs.Drafts.{MatchHeld, match_at}
 use Rattle.elab_parts.specs.Declarations.{Declaration, declaration}
 use Rattle.elab_terms.specs.Outcomes.{IsLogical}
 use Rattle.side_conditions.specs.Sides.{IsMatch}
-use Rattle.valid_tasks.specs.Typed.{IsFitMatch}
+use Rattle.valid_tasks.specs.TaskTyped.{IsFitMatch}
 use Rattle.theory_states.specs.declared.fault.SourceFault.{SourceFault}
 use Rattle.theory_states.specs.declared.fault.SourceFault.TheVariants.{Memory}
 use Rattle.theory_states.specs.States.{StateTree}
 use Rattle.theory_states.specs.Uses.{OrMemory}
-use Rattle.typed_states.specs.Typed.{setting}
+use Rattle.sound_states.specs.Typed.{setting}
 use Rattle.theory_declarations.specs.Declared.{IsDeclaredFault, of_elaboration}
 use Rattle.theory_declarations.specs.Steps.{IsRefusedBy}
 

@@ -27,12 +27,12 @@ use Rattle.elab_members.specs.Members.{SignatureTree}
 use Rattle.elab_groups.specs.Groups.{group_decls}
 use Rattle.elab_inductives.specs.Inductives.{inductive_decls}
 use Rattle.elab_terms.specs.Outcomes.{proposition_seen, rigid_types, said_as, schematic, names_fault, IsProposition, IsOutcome, IsElaborated}
-use Rattle.elab_typed.specs.Scopes.{IsTypedSignature, AreTypedScopes}
-use Rattle.elab_typed.proofs.Extended.{scopes_part}
-use Rattle.elab_valid.specs.Lists.{after, MakesBelow, IsGroupWhole, IsNoGoal, IsNextDeclaration, IsNextGoal}
-use Rattle.elab_valid.specs.Valid.{IsTypedSetting, HaveNoFault}
-use Rattle.elab_valid.proofs.Steps.{next_declaration}
-use Rattle.elab_valid.proofs.Goals.{next_goal}
+use Rattle.valid_tasks.specs.Scopes.{IsTypedSignature, AreTypedScopes}
+use Rattle.valid_tasks.proofs.Extended.{scopes_part}
+use Rattle.valid_tasks.specs.Lists.{after, MakesBelow, IsGroupWhole, IsNoGoal, IsNextDeclaration, IsNextGoal}
+use Rattle.valid_tasks.specs.Valid.{IsTypedSetting, HaveNoFault}
+use Rattle.valid_tasks.proofs.Steps.{next_declaration}
+use Rattle.valid_tasks.proofs.Goals.{next_goal}
 use Rattle.goal_tasks.specs.Theories.{GoalTree}
 use Rattle.valid_tasks.specs.Tasks.{AreSound, IsToProve, IsGoalSaid, IsSoundAfter}
 use Rattle.valid_tasks.proofs.Grown.{own_below}
@@ -45,7 +45,7 @@ use Rattle.theory_states.specs.declared.states.Opened.{Opened}
 use Rattle.theory_states.specs.declared.states.Typed.{Typed}
 use Rattle.theory_states.specs.States.{StateTree, visible_now}
 use Rattle.theory_states.specs.Meaning.{state_at}
-use Rattle.typed_states.specs.Typed.{setting}
+use Rattle.sound_states.specs.Typed.{setting}
 use Rattle.sound_states.specs.Sound.{IsSoundAmong, IsSoundAxiom, IsSoundState, IsAfter, IsSoundAddition}
 use Rattle.sound_states.proofs.Places.{places_count}
 use Rattle.sound_states.proofs.Further.{state_further}

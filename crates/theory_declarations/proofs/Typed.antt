@@ -18,17 +18,17 @@ use Rattle.scope_moves.specs.declared.moves.Move.TheVariants.{Brings}
 use Rattle.elab_names.specs.Abstract.{Expression}
 use Rattle.elab_parts.specs.Declarations.{Declaration, declaration, Made, makes, binds, made_by}
 use Rattle.elab_terms.specs.Outcomes.{proposition_seen}
-use Rattle.elab_typed.specs.Scopes.{IsPart, IsTypedThing, AreTypedScopes}
-use Rattle.elab_typed.proofs.Extended.{further, scopes_part}
-use Rattle.elab_typed.proofs.Scopes.{found_thing}
-use Rattle.elab_valid.specs.Valid.{IsTypedSetting}
+use Rattle.valid_tasks.specs.Scopes.{IsPart, IsTypedThing, AreTypedScopes}
+use Rattle.valid_tasks.proofs.Extended.{further, scopes_part}
+use Rattle.valid_tasks.proofs.Scopes.{found_thing}
+use Rattle.valid_tasks.specs.Valid.{IsTypedSetting}
 use Rattle.goal_tasks.specs.Theories.{GoalTree}
-use Rattle.typed_moves.specs.Moves.{IsTypedMove, AreTypedMoves}
-use Rattle.typed_moves.proofs.Scopes.{moves_more}
+use Rattle.sound_states.specs.Moves.{IsTypedMove, AreTypedMoves}
+use Rattle.sound_states.proofs.Scopes.{moves_more}
 use Rattle.declared_names.specs.Made.{thing_named, brought_as, moves_made, moves_of, moves_declared}
 use Rattle.theory_states.specs.declared.states.AxiomAt.{AxiomAt}
 use Rattle.theory_states.specs.States.{StateTree, with_declaration, with_declarations}
-use Rattle.typed_states.specs.Typed.{setting, IsTypedState}
+use Rattle.sound_states.specs.Typed.{setting, IsTypedState}
 use Rattle.theory_declarations.specs.Declared.{with_goal, with_proposition, with_proposed, known_by}
 
 -- ---- moves of names of a typed scope

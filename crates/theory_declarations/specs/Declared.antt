@@ -22,7 +22,7 @@ use Rattle.declared_names.specs.Made.{moves_declared}
 use Rattle.theory_states.specs.declared.fault.SourceFault.{SourceFault}
 use Rattle.theory_states.specs.declared.states.AxiomAt.{AxiomAt}
 use Rattle.theory_states.specs.States.{StateTree, with_declaration, with_declarations}
-use Rattle.typed_states.specs.Typed.{setting}
+use Rattle.sound_states.specs.Typed.{setting}
 use Rattle.theory_declarations.specs.Faults.{elaboration_fault, side_fault}
 
 -- ---- what becomes known

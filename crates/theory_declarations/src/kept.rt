@@ -21,7 +21,8 @@ use theory_states::{Opened, Typed, push_decl};
 
 // The kind of a proposition, and what it says.
 fn proposition_in(decl: &DeclTree) -> Option<(PropKind, &Expr)>
-    ensures { option_map (λ p. (p.0, expression_of p.1.now)) result ≡ proposition_in (decl_of decl.entry.now) }
+    ensures { option_map (λ p. (p.0, expression_of p.1.now)) result
+        ≡ proposition_in (decl_of decl.entry.now) }
 {
     match &decl.node {
         DeclNode::Prop(kind, _, e) => Some((*kind, e)),

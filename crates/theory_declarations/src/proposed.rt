@@ -82,7 +82,13 @@ fn add_goal(
 ) -> Result<(), AllocError>
     ensures { OnOk result (open.new ≡ record open.old {
       goals = open.old.goals
-          ++ record { name = name; before = length open.old.visible.keys; prop = prop; rigid = rigid }
+          ++ record {
+            name = name;
+            before = length open.old.visible.keys;
+            prop = prop;
+            rigid =
+                rigid;
+          }
           ∷ [];
     }) }
 {

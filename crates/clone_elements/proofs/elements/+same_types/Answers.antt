@@ -3,6 +3,7 @@ use Rattle.std.proofs.lemmas.Result.{IfOk-weaker, on_ok_weaker}
 use Rattle.trees.specs.declared.TermId.{TermId}
 use Rattle.trees.specs.Tree.{Tree}
 use Rattle.trees.specs.Node.{tree_at, Holds, Grows}
+use Rattle.trees.proofs.Nodes.{Grows_trans}
 use Rattle.tasks.specs.Meaning.{trees_at}
 use Rattle.tasks.proofs.Growth.{tree_later, trees_later, all_held_later}
 use Rattle.symbol_maps.specs.Mapped.{Map, mapped}
@@ -56,3 +57,27 @@ returns-then-same-clause-same t c =
 
 pub returns-then-same-clause-known : goal.returns-then-same-clause-known
 returns-then-same-clause-known t c = on_ok_weaker c.same_types.result (λ h. known_back c.args.morphism.now c.args.store.now c.map_tree.new.store c.map_tree.ensures.grows c.requires.map_held c.same_types.new.store c.same_types.new.known h) c.same_types.ensures.known
+
+pub map_tree-requires-clause-map_held : goal.map_tree-requires-clause-map_held
+map_tree-requires-clause-map_held t c = c.requires.map_held
+
+pub map_tree-requires-clause-known : goal.map_tree-requires-clause-known
+map_tree-requires-clause-known t c = c.requires.known
+
+pub returns-in_default-clause-known : goal.returns-in_default-clause-known
+returns-in_default-clause-known t c = c.requires.known
+
+pub returns-in_default-split_first-clause-known : goal.returns-in_default-split_first-clause-known
+returns-in_default-split_first-clause-known t c = c.requires.known
+
+pub same-requires-clause-a_held : goal.same-requires-clause-a_held
+same-requires-clause-a_held t c = c.in_ok-made.ensures.mapped.held
+
+pub returns-then-same-clause-grows : goal.returns-then-same-clause-grows
+returns-then-same-clause-grows t c = Grows_trans c.args.store.now c.map_tree.new.store c.same_types.new.store c.map_tree.ensures.grows c.same_types.ensures.grows
+
+pub returns-else-same-clause-known : goal.returns-else-same-clause-known
+returns-else-same-clause-known t c = c.in_ok-made.ensures.known
+
+pub returns-else-same-clause-grows : goal.returns-else-same-clause-grows
+returns-else-same-clause-grows t c = c.map_tree.ensures.grows

@@ -1,6 +1,7 @@
-use Rattle.std.proofs.Common.{◌≡◌, map, sym, ap, ◌∙◌}
+use Rattle.std.proofs.Common.{◌≡◌, true, false, map, sym, ap, ◌∙◌}
 use Rattle.std.specs.Option.{option_map}
 use Rattle.trees.specs.Node.{tree_at, Grows}
+use Rattle.trees.proofs.Nodes.{Grows_trans}
 use Rattle.tasks.specs.Task.{SymbolTree}
 use Rattle.tasks.specs.Meaning.{trees_at}
 use Rattle.tasks.proofs.Growth.{symbol_later}
@@ -36,3 +37,18 @@ returns-then-args-clause-known c = known_back c.args.morphism.now c.args.store.n
 
 pub returns-else-args-clause-known : goal.returns-else-args-clause-known
 returns-else-args-clause-known c = known_back c.args.morphism.now c.args.store.now c.same_types.new.store c.same_types.ensures.grows c.requires.map_held c.same_result.new.store c.same_result.new.known c.in_ok-results.ensures.known
+
+pub same_types-requires-clause-map_held : goal.same_types-requires-clause-map_held
+same_types-requires-clause-map_held c = c.requires.map_held
+
+pub same_types-requires-clause-known : goal.same_types-requires-clause-known
+same_types-requires-clause-known c = c.requires.known
+
+pub returns-then-args-clause-grows : goal.returns-then-args-clause-grows
+returns-then-args-clause-grows c = Grows_trans c.args.store.now c.same_types.new.store c.same_result.new.store c.same_types.ensures.grows c.same_result.ensures.grows
+
+pub returns-else-args-clause-grows : goal.returns-else-args-clause-grows
+returns-else-args-clause-grows c = Grows_trans c.args.store.now c.same_types.new.store c.same_result.new.store c.same_types.ensures.grows c.same_result.ensures.grows
+
+pub returns-else-args-clause-same : goal.returns-else-args-clause-same
+returns-else-args-clause-same c = (λ r. let e : false ≡ true = sym c.if-args.false ∙ r in cc, λ h. c.in_ok-args.ensures.same.1 (rw (c.as_slice-types.ensures, c.as_slice.ensures) h.args))

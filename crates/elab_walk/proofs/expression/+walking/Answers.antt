@@ -736,3 +736,103 @@ walk_match-make-requires-clause-fits t c =
     let h = in_cases (where_at c.args.store.now c.args.world.now) (names_of c.args.locals.now) (is_due c.args.wanted) c.args.token (grouped (first_tree (code.trees (map code.tree_of c.args.values.now))) (expressions_of c.args.values.now)) bs c.requires.resolved in
     let cell = has_arm (where_at s2 c.args.world.now) (locals_at s2 c.args.locals.now) (tree_at s2 c.in_ok-ty.ty) (option_map (tree_at s2) c.args.wanted) bs (length c.walk_group.new.draft.takers) h.1 in
     case_fits (tree_at s3 c.in_ok-subject.subject) (tree_at s3 c.in_ok-arms.arms) (grown_sort s2 s3 c.walk_branches.ensures.grows subject.held subject.sort) arms.branches (ap head_of arms.tree ∙ cell)
+
+-- ---- the store grows
+pub walk-returns-in_ok-equate-in-Cast-clause-grows : goal.walk-returns-in_ok-equate-in-Cast-clause-grows
+walk-returns-in_ok-equate-in-Cast-clause-grows t c = Grows_trans _ _ _ c.type_of_form.ensures.grows c.walk.ensures.grows
+
+pub walk-returns-in_ok-a-in-Not-clause-grows : goal.walk-returns-in_ok-a-in-Not-clause-grows
+walk-returns-in_ok-a-in-Not-clause-grows t c = Grows_trans _ _ _ c.walk-in-Not.ensures.grows c.make-in-Not.ensures.grows
+
+pub walk-returns-in_ok-b-in-Connective-clause-grows : goal.walk-returns-in_ok-b-in-Connective-clause-grows
+walk-returns-in_ok-b-in-Connective-clause-grows t c = Grows_trans _ _ _ c.walk-in-Connective.ensures.grows (Grows_trans _ _ _ c.walk-in-Connective-2.ensures.grows c.make-in-Connective.ensures.grows)
+
+pub walk-returns-in_err-b-in-Connective-clause-grows : goal.walk-returns-in_err-b-in-Connective-clause-grows
+walk-returns-in_err-b-in-Connective-clause-grows t c = Grows_trans _ _ _ c.walk-in-Connective.ensures.grows c.walk-in-Connective-2.ensures.grows
+
+pub walk-returns-in_ok-b-in-Equality-clause-grows : goal.walk-returns-in_ok-b-in-Equality-clause-grows
+walk-returns-in_ok-b-in-Equality-clause-grows t c = Grows_trans _ _ _ c.unknown.ensures.grows (Grows_trans _ _ _ c.walk-in-Equality.ensures.grows (Grows_trans _ _ _ c.walk-in-Equality-2.ensures.grows c.make_equality.ensures.grows))
+
+pub walk-returns-in_err-a-in-Equality-clause-grows : goal.walk-returns-in_err-a-in-Equality-clause-grows
+walk-returns-in_err-a-in-Equality-clause-grows t c = Grows_trans _ _ _ c.unknown.ensures.grows c.walk-in-Equality.ensures.grows
+
+pub walk-returns-in_err-b-in-Equality-clause-grows : goal.walk-returns-in_err-b-in-Equality-clause-grows
+walk-returns-in_err-b-in-Equality-clause-grows t c = Grows_trans _ _ _ c.unknown.ensures.grows (Grows_trans _ _ _ c.walk-in-Equality.ensures.grows c.walk-in-Equality-2.ensures.grows)
+
+pub walk-returns-in_ok-b-in-If-clause-grows : goal.walk-returns-in_ok-b-in-If-clause-grows
+walk-returns-in_ok-b-in-If-clause-grows t c = Grows_trans _ _ _ c.walk-in-If.ensures.grows (Grows_trans _ _ _ c.walk-in-If-2.ensures.grows (Grows_trans _ _ _ c.walk-in-If-3.ensures.grows c.make-in-If.ensures.grows))
+
+pub walk-returns-in_err-a-in-If-clause-grows : goal.walk-returns-in_err-a-in-If-clause-grows
+walk-returns-in_err-a-in-If-clause-grows t c = Grows_trans _ _ _ c.walk-in-If.ensures.grows c.walk-in-If-2.ensures.grows
+
+pub walk-returns-in_err-b-in-If-clause-grows : goal.walk-returns-in_err-b-in-If-clause-grows
+walk-returns-in_err-b-in-If-clause-grows t c = Grows_trans _ _ _ c.walk-in-If.ensures.grows (Grows_trans _ _ _ c.walk-in-If-2.ensures.grows c.walk-in-If-3.ensures.grows)
+
+pub walk-returns-in_ok-b-in-Some-clause-grows : goal.walk-returns-in_ok-b-in-Some-clause-grows
+walk-returns-in_ok-b-in-Some-clause-grows t c = Grows_trans _ _ _ c.unknown-in-Some.ensures.grows (Grows_trans _ _ _ c.walk-in-Some.ensures.grows (Grows_trans _ _ _ c.walk-in-Some-2.ensures.grows c.make-in-Some.ensures.grows))
+
+pub walk-returns-in_err-a-in-Some-clause-grows : goal.walk-returns-in_err-a-in-Some-clause-grows
+walk-returns-in_err-a-in-Some-clause-grows t c = Grows_trans _ _ _ c.unknown-in-Some.ensures.grows c.walk-in-Some.ensures.grows
+
+pub walk-returns-in_err-b-in-Some-clause-grows : goal.walk-returns-in_err-b-in-Some-clause-grows
+walk-returns-in_err-b-in-Some-clause-grows t c = Grows_trans _ _ _ c.unknown-in-Some.ensures.grows (Grows_trans _ _ _ c.walk-in-Some.ensures.grows c.walk-in-Some-2.ensures.grows)
+
+pub walk_symbol-returns-clause-grows : goal.walk_symbol-returns-clause-grows
+walk_symbol-returns-clause-grows t c = Grows_trans _ _ _ c.begin_use.ensures.grows (Grows_trans _ _ _ c.types_put.ensures.grows (Grows_trans _ _ _ c.walk_all.ensures.grows c.finish_use.ensures.grows))
+
+pub walk_symbol-returns-in_err-parameters-clause-grows : goal.walk_symbol-returns-in_err-parameters-clause-grows
+walk_symbol-returns-in_err-parameters-clause-grows t c = Grows_trans _ _ _ c.begin_use.ensures.grows c.types_put.ensures.grows
+
+pub walk_symbol-returns-in_err-args-clause-grows : goal.walk_symbol-returns-in_err-args-clause-grows
+walk_symbol-returns-in_err-args-clause-grows t c = Grows_trans _ _ _ c.begin_use.ensures.grows (Grows_trans _ _ _ c.types_put.ensures.grows c.walk_all.ensures.grows)
+
+pub walk_all-returns-clause-grows : goal.walk_all-returns-clause-grows
+walk_all-returns-clause-grows t c = Grows_trans _ _ _ c.walk.ensures.grows (Grows_trans _ _ _ c.walk_all.ensures.grows c.make-2.ensures.grows)
+
+pub walk_all-returns-in_err-b-clause-grows : goal.walk_all-returns-in_err-b-clause-grows
+walk_all-returns-in_err-b-clause-grows t c = Grows_trans _ _ _ c.walk.ensures.grows c.walk_all.ensures.grows
+
+pub walk_quantified-returns-clause-grows : goal.walk_quantified-returns-clause-grows
+walk_quantified-returns-clause-grows t c = Grows_trans _ _ _ c.bind.ensures.grows (Grows_trans _ _ _ c.walk_triggers.ensures.grows (Grows_trans _ _ _ c.walk.ensures.grows c.quantify.ensures.grows))
+
+pub walk_quantified-returns-in_err-walk_triggers-clause-grows : goal.walk_quantified-returns-in_err-walk_triggers-clause-grows
+walk_quantified-returns-in_err-walk_triggers-clause-grows t c = Grows_trans _ _ _ c.bind.ensures.grows c.walk_triggers.ensures.grows
+
+pub walk_quantified-returns-in_err-inner-clause-grows : goal.walk_quantified-returns-in_err-inner-clause-grows
+walk_quantified-returns-in_err-inner-clause-grows t c = Grows_trans _ _ _ c.bind.ensures.grows (Grows_trans _ _ _ c.walk_triggers.ensures.grows c.walk.ensures.grows)
+
+pub walk_terms-returns-clause-grows : goal.walk_terms-returns-clause-grows
+walk_terms-returns-clause-grows t c = Grows_trans _ _ _ c.trigger_type.ensures.grows (Grows_trans _ _ _ c.walk.ensures.grows c.walk_terms.ensures.grows)
+
+pub walk_terms-returns-in_err-walk-clause-grows : goal.walk_terms-returns-in_err-walk-clause-grows
+walk_terms-returns-in_err-walk-clause-grows t c = Grows_trans _ _ _ c.trigger_type.ensures.grows c.walk.ensures.grows
+
+pub walk_match-returns-clause-grows : goal.walk_match-returns-clause-grows
+walk_match-returns-clause-grows t c = Grows_trans _ _ _ c.unknown.ensures.grows (Grows_trans _ _ _ c.walk_group.ensures.grows (Grows_trans _ _ _ c.walk_branches.ensures.grows c.make.ensures.grows))
+
+pub walk_match-returns-in_err-subject-clause-grows : goal.walk_match-returns-in_err-subject-clause-grows
+walk_match-returns-in_err-subject-clause-grows t c = Grows_trans _ _ _ c.unknown.ensures.grows c.walk_group.ensures.grows
+
+pub walk_match-returns-in_err-arms-clause-grows : goal.walk_match-returns-in_err-arms-clause-grows
+walk_match-returns-in_err-arms-clause-grows t c = Grows_trans _ _ _ c.unknown.ensures.grows (Grows_trans _ _ _ c.walk_group.ensures.grows c.walk_branches.ensures.grows)
+
+pub walk_matched-returns-clause-grows : goal.walk_matched-returns-clause-grows
+walk_matched-returns-clause-grows t c = Grows_trans _ _ _ c.unknown.ensures.grows (Grows_trans _ _ _ c.walk.ensures.grows (Grows_trans _ _ _ c.walk_branch.ensures.grows c.make.ensures.grows))
+
+pub walk_matched-returns-in_err-subject-clause-grows : goal.walk_matched-returns-in_err-subject-clause-grows
+walk_matched-returns-in_err-subject-clause-grows t c = Grows_trans _ _ _ c.unknown.ensures.grows c.walk.ensures.grows
+
+pub walk_matched-returns-in_err-arms-clause-grows : goal.walk_matched-returns-in_err-arms-clause-grows
+walk_matched-returns-in_err-arms-clause-grows t c = Grows_trans _ _ _ c.unknown.ensures.grows (Grows_trans _ _ _ c.walk.ensures.grows c.walk_branch.ensures.grows)
+
+pub walk_branches-returns-in_ok-walk-in-None-clause-grows : goal.walk_branches-returns-in_ok-walk-in-None-clause-grows
+walk_branches-returns-in_ok-walk-in-None-clause-grows t c = Grows_trans _ _ _ c.walk.ensures.grows c.walk_branches.ensures.grows
+
+pub walk_branch-returns-clause-grows : goal.walk_branch-returns-clause-grows
+walk_branch-returns-clause-grows t c = Grows_trans _ _ _ c.walk_alternatives.ensures.grows (Grows_trans _ _ _ c.walk.ensures.grows (Grows_trans _ _ _ c.walk_branches.ensures.grows c.push_arms.ensures.grows))
+
+pub walk_branch-returns-in_err-body-clause-grows : goal.walk_branch-returns-in_err-body-clause-grows
+walk_branch-returns-in_err-body-clause-grows t c = Grows_trans _ _ _ c.walk_alternatives.ensures.grows c.walk.ensures.grows
+
+pub walk_branch-returns-in_err-list-clause-grows : goal.walk_branch-returns-in_err-list-clause-grows
+walk_branch-returns-in_err-list-clause-grows t c = Grows_trans _ _ _ c.walk_alternatives.ensures.grows (Grows_trans _ _ _ c.walk.ensures.grows c.walk_branches.ensures.grows)

@@ -7,13 +7,13 @@ use Rattle.elab_parts.specs.Declarations.{Declaration}
 use Rattle.elab_parts.specs.Entries.{AreScopes}
 use Rattle.elab_parts.proofs.Solving.{if_err}
 use Rattle.elab_terms.specs.Outcomes.{IsElaborated}
-use Rattle.elab_valid.proofs.Settings.{scopes_of}
+use Rattle.valid_tasks.proofs.Settings.{scopes_of}
 use Rattle.valid_tasks.proofs.Typed.{matches_fitting}
 use Rattle.side_conditions.specs.Sides.{IsSideFault, bodies}
 use Rattle.theory_states.specs.declared.states.Opened.{Opened}
 use Rattle.theory_states.specs.Meaning.{state_at}
 use Rattle.theory_states.specs.Uses.{OrMemory}
-use Rattle.typed_states.specs.Typed.{setting}
+use Rattle.sound_states.specs.Typed.{setting}
 use Rattle.theory_declarations.specs.Declared.{IsDeclaredFault, of_sides}
 use Rattle.theory_declarations.specs.Faults.{side_fault}
 use Rattle.theory_declarations.proofs.Typed.{setting_typed}
