@@ -10,8 +10,6 @@ ROOT = os.path.dirname(os.path.dirname(os.path.realpath(__file__)))
 # loaded and built in a minute beside that.
 LINES_A_MINUTE = 500
 CRATES_A_MINUTE = 2
-# The word DRV that is read so far.
-PLAIN = "plain.drv"
 
 
 def tell(text):
@@ -114,22 +112,48 @@ def build(name):
 
 
 def places_of(words):
-    """Returns the places of the words that name the files which a command fetches, in the order of their numbers."""
+    """Returns the places of the words that name files: the source, then the driver or the derivation, then the refutations."""
     command = words[0] if words else ""
-    return {"print": [1, 2], "check": [1, 4], "lift": [1, 2, *range(5, len(words))]}.get(command, [])
+    return {"print": [1, 2], "names": [1, 2], "check": [1, 4], "lift": [1, 2, *range(5, len(words))]}.get(command, [])
+
+
+def imports_below(driver, named):
+    """Returns the pairs of a file that a driver imports and its name, in the order in which they are fetched, each once.
+
+    `named` is the driver's name: an import's name is that up to its last `/`, with the string of the import after it.
+    """
+    found, seen = [], {named}
+
+    def walk(file, name):
+        try:
+            with open(file, encoding="utf-8", errors="replace") as it:
+                text = re.sub(r"\(\*(?!\)).*?\*\)", " ", it.read(), flags=re.DOTALL)
+        except OSError:
+            return
+        for string in re.findall(r'\bimport\s*"([^"]*)"', text):
+            one, its_name = file[: file.rfind("/") + 1] + string, name[: name.rfind("/") + 1] + string
+            if its_name not in seen:
+                seen.add(its_name)
+                found.append((one, its_name))
+                walk(one, its_name)
+
+    walk(driver, named)
+    return found
 
 
 def file_of(words, number):
-    """Returns the word of the file that a command fetches with this number, if it has one."""
-    places = places_of(words)
-    return words[places[number]] if number < len(places) else None
+    """Returns the name of the file that a command fetches with this number, if it has one."""
+    files = [words[it] for it in places_of(words) if it < len(words)]
+    if words[0] != "check" and len(files) > 1:
+        files[2:2] = [name for _, name in imports_below(files[1], files[1])]
+    return files[number] if number < len(files) else None
 
 
 def file_of_refusal(words, numbers):
-    """Returns the word of the file that a refusal with these numbers speaks of."""
-    if numbers[0] == 91:
-        return file_of(words, numbers[1] if words[0] == "check" else numbers[1] + 1)
-    return file_of(words, numbers[1] if numbers[0] == 15 or 50 <= numbers[0] < 60 else 0)
+    """Returns the name of the file that a refusal with these numbers is about."""
+    if numbers[0] == 91 and words[0] == "lift":
+        return words[numbers[1] + 4]
+    return file_of(words, numbers[1] if numbers[0] in (15, 91) or 50 <= numbers[0] < 60 else 0)
 
 
 def explain(words, line):
@@ -146,10 +170,8 @@ def explain(words, line):
     elif found[1]:
         why = "no such file" if found[1] == "absent" else "can't be read"
         tell(f"{file_of(words, numbers[0])}: {why}")
-    elif words[:1] in (["names"], ["stress"]):
-        tell(f"{words[0]} isn't built yet")
-    elif words[:1] in (["print"], ["lift"]) and words[2:] and words[2] != PLAIN:
-        tell(f"the word DRV is {PLAIN}, until drivers are read")
+    elif words[:1] == ["stress"]:
+        tell("stress isn't built yet")
 
 
 def run_proved(words):
@@ -191,10 +213,13 @@ def run_unproved(words):
     if words[:1] == ["explain"]:
         crate, words, places = "why3lift_explain", words[1:], [0]
     else:
-        # the driver isn't read so far
-        crate, places = "why3lift", [it for it in places_of(words) if it != 2]
+        crate, places = "why3lift", places_of(words)
     data = []
     shown = [copied(at, word, data) if at in places else word for at, word in enumerate(words)]
+    if 2 in places and len(words) > 2:
+        for file, name in imports_below(words[2], shown[2]):
+            if os.path.isfile(file):
+                data += ["--data", f"{name}={os.path.abspath(file)}"]
     how = {"cwd": f"{ROOT}/crates/{crate}", "stdin": subprocess.DEVNULL, "stderr": subprocess.PIPE}
     ran = subprocess.run(["rt", "try", *data, "--", *shown], check=False, **how)
     for line in ran.stderr.decode(errors="replace").splitlines():
