@@ -3,7 +3,7 @@
 use explain::explain;
 
 // The text of the file `f`, a fault in it, and the message; nothing where the numbers are no fault.
-static MESSAGES: [(&str, &[usize], &str); 38] = [
+static MESSAGES: [(&str, &[usize], &str); 49] = [
     (
         "goal \"p\"",
         &[10, 5],
@@ -42,9 +42,9 @@ static MESSAGES: [(&str, &[usize], &str); 38] = [
         "f: file longer than 67,108,864 bytes (refused: 15 0)\n",
     ),
     (
-        "theory T\n  type t",
-        &[16, 11],
-        "f:2:3: declaration that isn't read so far (refused: 16 11)\n  type t\n  ^\n",
+        "theory T",
+        &[16, 1],
+        "f: transformation that isn't built (refused: 16 1)\n",
     ),
     (
         "theory T\n  goal g: p /\\ r\nend",
@@ -147,10 +147,65 @@ static MESSAGES: [(&str, &[usize], &str); 38] = [
     // no code, no such code, other numbers
     ("a", &[], ""),
     ("a", &[9, 0], ""),
-    ("a", &[30, 1, 0], ""),
+    ("a", &[29, 1, 0], ""),
     ("a", &[10], ""),
     ("a", &[20, 5], ""),
     ("a", &[61, 0], ""),
+    (
+        "abc",
+        &[30, 1, 0],
+        "f: types that clash (refused: 30 1 0)\n",
+    ),
+    (
+        "abc",
+        &[33, 1, 0],
+        "f: clause of another form (refused: 33 1 0)\n",
+    ),
+    (
+        "abc",
+        &[34, 1, 0],
+        "f: predicate of the group where none is allowed (refused: 34 1 0)\n",
+    ),
+    (
+        "abc",
+        &[35, 1],
+        "f: recursion that doesn't descend (refused: 35 1)\n",
+    ),
+    (
+        "abc",
+        &[36, 1],
+        "f: recursive group that is too wide (refused: 36 1)\n",
+    ),
+    (
+        "abc",
+        &[37, 1],
+        "f: type without a finite value (refused: 37 1)\n",
+    ),
+    (
+        "abc",
+        &[70, 1, 0],
+        "f: declaration that the stage doesn't take (refused: 70 1 0)\n",
+    ),
+    (
+        "abc",
+        &[71, 1],
+        "f: task that is too large after the stage (refused: 71 1)\n",
+    ),
+    (
+        "abc",
+        &[80, 1, 0],
+        "f: polymorphic proposition (refused: 80 1 0)\n",
+    ),
+    (
+        "abc",
+        &[81, 1, 0],
+        "f: declaration or form that the printer lacks (refused: 81 1 0)\n",
+    ),
+    (
+        "abc",
+        &[82, 1, 0],
+        "f: symbol without a template (refused: 82 1 0)\n",
+    ),
 ];
 
 #[test]

@@ -5,3 +5,4 @@ pub mod Seen
 pub mod Own
 pub mod Groups
 pub mod Examples
+pub mod Named

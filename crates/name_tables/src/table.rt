@@ -4,15 +4,15 @@ ghost use Rattle.std.specs.Prelude.{◌≡◌, ◌++◌, map, IfOk, OnOk};
 ghost use Rattle.trees.specs.Node.{tree_at, Holds};
 ghost use Rattle.tasks.specs.Typing.{members};
 ghost use Rattle.tasks.specs.Meaning.{task_at, TaskHeld};
-ghost use Rattle.problems.specs.Named.{IsNameOf};
+ghost use Rattle.name_tables.specs.Named.{IsNameOf};
 ghost use Rattle.name_tables.specs.Tables.{is_in, thing_of, place_of, name_of, entry_of, names_of, problem_names, task_names, NamesDiffer};
 ghost use Rattle.name_tables.specs.Seen.{occurrence_at, seen_at, KeyHeld, AreHeld};
 
 use crate::spelling::name_at_place;
 use crate::things::Things;
 use crate::walk::Key;
+use name_entries::{NameEntry, NameOf};
 use outside::Seq;
-use problems::{NameEntry, NameOf};
 use std::alloc::{AllocError, Global};
 use tasks::Task;
 use term_store::Store;

@@ -8,7 +8,7 @@ use Rattle.tasks.specs.declared.signature.SymbolInfo.{SymbolInfo}
 use Rattle.tasks.specs.Task.{SymbolTree, int_symbol, TaskTree, symbol_or}
 use Rattle.tasks.specs.Meaning.{symbol_at, symbols_at, task_at, tasks_at}
 use Rattle.driver_parts.specs.declared.driver.Driver.{Driver}
-use Rattle.problems.specs.declared.names.NameEntry.{NameEntry}
+use Rattle.name_entries.specs.declared.names.NameEntry.{NameEntry}
 use Rattle.name_tables.specs.Tables.{problem_names}
 use Rattle.printed_problems.specs.declared.fault.PrintFault.{PrintFault}
 use Rattle.printed_problems.specs.declared.printed.Problem.{Problem}

@@ -4,9 +4,9 @@ use Rattle.std.specs.List.{flat_map}
 use Rattle.tasks.specs.declared.signature.SymbolKind.{SymbolKind}
 use Rattle.tasks.specs.declared.signature.SymbolKind.TheVariants.{Kind, Predicate}
 use Rattle.tasks.specs.Task.{SymbolTree, TaskTree, symbol_or}
-use Rattle.problems.specs.declared.names.NameOf.{NameOf}
-use Rattle.problems.specs.declared.names.NameOf.TheVariants.{Int, Rigid, Symbol}
-use Rattle.problems.specs.declared.names.NameEntry.{NameEntry}
+use Rattle.name_entries.specs.declared.names.NameOf.{NameOf}
+use Rattle.name_entries.specs.declared.names.NameOf.TheVariants.{Int, Rigid, Symbol}
+use Rattle.name_entries.specs.declared.names.NameEntry.{NameEntry}
 use Rattle.name_tables.specs.Spelling.{own_name, is_operator_byte}
 use Rattle.name_tables.specs.Tables.{problem_names}
 

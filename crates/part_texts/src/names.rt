@@ -10,8 +10,8 @@ ghost use Rattle.part_texts.specs.Problems.{AreProblems};
 ghost use Rattle.part_texts.specs.Names.{entry_line, entry_words, is_operator, kind_word, name_text, name_texts, part_head, shown_name, shown_own, symbol_words, type_words};
 
 use driver_parts::Driver;
+use name_entries::{NameEntry, NameOf};
 use printed_problems::Problem;
-use problems::{NameEntry, NameOf};
 use std::alloc::{AllocError, Global};
 use tasks::{Signature, SymbolInfo, SymbolKind, Task};
 use term_store::Store;

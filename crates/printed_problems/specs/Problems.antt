@@ -7,7 +7,7 @@ use Rattle.tasks.specs.declared.signature.SymbolKind.{SymbolKind}
 use Rattle.tasks.specs.declared.signature.SymbolKind.TheVariants.{Kind}
 use Rattle.tasks.specs.Task.{TaskTree, Proposition, DeclarationTree, symbol_or, props}
 use Rattle.driver_parts.specs.declared.driver.Driver.{Driver}
-use Rattle.problems.specs.declared.names.NameEntry.{NameEntry}
+use Rattle.name_entries.specs.declared.names.NameEntry.{NameEntry}
 use Rattle.name_tables.specs.Occurrences.{Occurrence}
 use Rattle.name_tables.specs.Tables.{is_interpreted, problem_things, problem_names}
 use Rattle.printed_problems.specs.Templates.{has_template}

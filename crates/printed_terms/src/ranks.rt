@@ -10,8 +10,8 @@ ghost use Rattle.printed_terms.specs.Meaning.{printing, CanPrint, Appends};
 
 use crate::printer::TermPrinter;
 use crate::sorts::push_sort_at;
+use name_entries::{NameEntry, NameOf};
 use outside::Seq;
-use problems::{NameEntry, NameOf};
 use std::alloc::{AllocError, Global};
 use tasks::SymbolInfo;
 use term_store::Store;

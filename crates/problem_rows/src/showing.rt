@@ -1,6 +1,6 @@
 // Names and faults as text.
+use name_entries::NameEntry;
 use printed_problems::PrintFault;
-use problems::NameEntry;
 use std::alloc::{AllocError, Global};
 
 /// Bytes, a line's end as `\n`.

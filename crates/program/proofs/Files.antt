@@ -1,6 +1,6 @@
 -- The files of refutations, read one after another.
 use Rattle.std.proofs.Common.{◌≡◌, ◌≤◌, ◌<◌, ◌+◌, ◌-◌, ◌∙◌, ℕ, zero, suc, List, [], ◌∷◌, ◌++◌, length, get_or, map, All, Result, Ok, Err, String, Global, string_bytes, inl, inr, refl, sym, ap, subst, arith, add-one}
-use Rattle.std.proofs.lemmas.List.{length-map, length-append, get_or-map, get_or_append_left}
+use Rattle.std.proofs.lemmas.List.{length-append, get_or-map, get_or_append_left}
 use Rattle.std.proofs.lemmas.List.Elements.{All-append, All-cons, All-nil}
 use Rattle.std.proofs.lemmas.Bool.{cases_lt}
 use Rattle.std.proofs.Math.Seq.{get_or-append_seam}
@@ -15,14 +15,14 @@ use Rattle.rule_rows.specs.declared.rule.Step.{Step}
 use Rattle.rule_rows.specs.Trees.{StepTree}
 use Rattle.rule_rows.specs.Meaning.{steps_at, StepsHeld}
 use Rattle.kernel.proofs.Growth.{steps_later, steps_held_later}
-use Rattle.evidence.specs.Stages.{task_or, no_task, parts_at, part_or, PartsHeld}
-use Rattle.problems.specs.Used.{DeclaresEntries}
-use Rattle.program.specs.Lifted.{IsRefutation, AreRefuted}
-use Rattle.program.specs.Answers.{Answers}
-use Rattle.program.specs.Order.{Meaning, Answer, After, PartFile, FirstFiles, name_or}
-use Rattle.program.specs.declared.status.RunFault.{RunFault}
-use Rattle.program.specs.declared.status.RunFault.TheVariants as run_fault
-use Rattle.program.proofs.Meeting.{answers_then, answers_stop, answers_value, still_twice}
+use Rattle.evidence.specs.Stages.{task_or, no_task, parts_at, part_or, PartsHeld, PartsClose}
+use Rattle.kernel.specs.Right.{Closes}
+use Rattle.fault_order.specs.Answers.{Answers}
+use Rattle.fault_order.specs.Order.{Meaning, Answer, After}
+use Rattle.program.specs.Order.{PartFile, FirstFiles, name_or}
+use Rattle.fault_order.specs.declared.faults.RunFault.{RunFault}
+use Rattle.fault_order.specs.declared.faults.RunFault.TheVariants as run_fault
+use Rattle.fault_order.proofs.Meeting.{answers_then, answers_stop, answers_value, still_twice}
 
 module _ (s s' : List Tree) (g : Grows s s') where
   -- a part, over a store that has grown
@@ -33,10 +33,6 @@ module _ (s s' : List Tree) (g : Grows s s') where
 
   pub part_held : (parts : List Task) (i : ℕ) (t : Task) → t ≡ get_or parts i t → i < length parts → TasksHeld s parts → TaskHeld s' t
   part_held parts i t is l th = task_held_later s s' g t (subst (TaskHeld s) (sym is) (th i t l))
-
-  pub part_entries : (parts : List Task) (i : ℕ) (t : Task) → t ≡ get_or parts i t → i < length parts → TasksHeld s parts → All DeclaresEntries (tasks_at s parts) → DeclaresEntries (task_at s' t)
-  part_entries parts i t is l th a =
-      subst DeclaresEntries (sym (part_later parts i t is l th)) (a i no_task (omega (arith, length-map parts (task_at s))))
 
   pub handed_later : (handed : List (List Step)) → PartsHeld s handed → parts_at s' handed ≡ parts_at s handed
   handed_later handed ph = map_agree (steps_at s') (steps_at s) handed (λ i z h. steps_later s s' g _ (ph i z h))
@@ -52,65 +48,73 @@ handed_more s (x ∷ xs) steps = ap (λ z. steps_at s x ∷ z) (handed_more s xs
 pub held_more : (s : List Tree) (handed : List (List Step)) (steps : List Step) → PartsHeld s handed → StepsHeld s steps → PartsHeld s (handed ++ steps ∷ [])
 held_more s handed steps ph h = All-append (StepsHeld s) handed (steps ∷ []) ph (All-cons (StepsHeld s) steps [] h (All-nil (StepsHeld s)))
 
-pub refuted_none : (parts : List TaskTree) → AreRefuted parts [] 0
-refuted_none parts = record { as_many = refl; each = λ i l. absurd (omega arith) }
+-- the first n tasks are derived, each by its steps
+pub record FirstClose (parts : List TaskTree) (handed : List (List StepTree)) (n : ℕ) : Type 0 where
+  pub as_many : length handed ≡ n
+  pub each : (i : ℕ) → i < n → Closes (task_or parts i) (part_or handed i)
 
-pub refuted_more : (parts : List TaskTree) (handed : List (List StepTree)) (n : ℕ) (steps : List StepTree) → AreRefuted parts handed n → IsRefutation (task_or parts n) steps → AreRefuted parts (handed ++ steps ∷ []) (n + 1)
-refuted_more parts handed n steps a r = record {
+pub close_none : (parts : List TaskTree) → FirstClose parts [] 0
+close_none parts = record { as_many = refl; each = λ i l. absurd (omega arith) }
+
+pub close_more : (parts : List TaskTree) (handed : List (List StepTree)) (n : ℕ) (steps : List StepTree) → FirstClose parts handed n → Closes (task_or parts n) steps → FirstClose parts (handed ++ steps ∷ []) (n + 1)
+close_more parts handed n steps a r = record {
   as_many = omega (arith, length-append handed (steps ∷ []), a.as_many);
   each = λ i l. elim (cases_lt i n) [
     | inl m ↦ let e : part_or (handed ++ steps ∷ []) i ≡ part_or handed i = get_or_append_left handed (steps ∷ []) [] i (omega (arith, a.as_many)) in
-        subst (IsRefutation (task_or parts i)) (sym e) (a.each i m)
+        subst (Closes (task_or parts i)) (sym e) (a.each i m)
     | inr m ↦ let same : i ≡ n = omega arith in
         let e : part_or (handed ++ steps ∷ []) i ≡ steps = ap (λ (z : ℕ). get_or (handed ++ steps ∷ []) z []) (same ∙ sym a.as_many) ∙ get_or-append_seam handed steps [] [] in
-        subst (IsRefutation (task_or parts i)) (sym e) (subst (λ (z : ℕ). IsRefutation (task_or parts z) steps) (sym same) r)
+        subst (Closes (task_or parts i)) (sym e) (subst (λ (z : ℕ). Closes (task_or parts z) steps) (sym same) r)
   ];
 }
+
+pub close_all : (parts : List TaskTree) (handed : List (List StepTree)) (n : ℕ) → n ≡ length parts → FirstClose parts handed n → PartsClose parts handed
+close_all parts handed n e a = record { as_many = a.as_many ∙ e; each = λ i l. a.each i (omega arith) }
 
 -- a name, as the code has it
 pub name_at : (names : List (String Global)) (i : ℕ) (x : String Global) (name : List ℕ) → x ≡ get_or names i x → i < length names → name ≡ string_bytes x → name ≡ name_or (map string_bytes names) i
 name_at names i x name is l e = e ∙ ap string_bytes is ∙ sym (get_or-map string_bytes names i x [] l)
 
-module _ (parts : List TaskTree) (names : List (List ℕ)) where
+module _ (first : ℕ) (parts : List TaskTree) (names : List (List ℕ)) where
   -- what is left after the first k files
   abbrev next_file : ℕ → List (List StepTree) → Meaning (List (List StepTree))
-  next_file k handed files limit = After (PartFile k (task_or parts k) (name_or names k) files limit) (λ steps. Answer (Ok (handed ++ steps ∷ [])))
+  next_file k handed files limit = After (PartFile first k (task_or parts k) (name_or names k) files limit) (λ steps. Answer (Ok (handed ++ steps ∷ [])))
 
   abbrev added : List (List StepTree) → List StepTree → Meaning (List (List StepTree))
   added handed steps files limit = Answer (Ok (handed ++ steps ∷ []))
 
-module _ (parts : List TaskTree) (names : List (List ℕ)) {s0 s1 s2 : LibraryState} where
+module _ (first : ℕ) (parts : List TaskTree) (names : List (List ℕ)) {s0 s1 s2 : LibraryState} where
   -- one file more
-  pub files_more : (k : ℕ) (handed : List (List StepTree)) (steps : List StepTree) → Answers (FirstFiles parts names k) 2 (λ _. k + 2) s0 s1 (Ok handed)
-      → Answers (PartFile k (task_or parts k) (name_or names k)) (k + 2) (λ _. k + 2 + 1) s1 s2 (Ok steps)
-      → Answers (FirstFiles parts names (k + 1)) 2 (λ _. k + 1 + 2) s0 s2 (Ok (handed ++ steps ∷ []))
+  pub files_more : (k : ℕ) (handed : List (List StepTree)) (steps : List StepTree) → Answers (FirstFiles first parts names k) first (λ _. k + first) s0 s1 (Ok handed)
+      → Answers (PartFile first k (task_or parts k) (name_or names k)) (k + first) (λ _. k + first + 1) s1 s2 (Ok steps)
+      → Answers (FirstFiles first parts names (k + 1)) first (λ _. k + 1 + first) s0 s2 (Ok (handed ++ steps ∷ []))
   files_more k handed steps one two =
-      let e : k + 2 + 1 ≡ k + 1 + 2 = omega arith in
+      let e : k + first + 1 ≡ k + 1 + first = omega arith in
       let r : Result (List (List StepTree)) RunFault = Ok (handed ++ steps ∷ []) in
-      let whole : Answers (FirstFiles parts names (suc k)) 2 (λ _. k + 2 + 1) s0 s2 r = answers_then (next_file parts names k) one (answers_then (added parts names handed) two (answers_value {next = λ _. k + 2 + 1} (omega arith) (λ files limit. refl))) in
-      let here : Answers (FirstFiles parts names (k + 1)) 2 (λ _. k + 2 + 1) s0 s2 r = subst (λ (n : ℕ). Answers (FirstFiles parts names n) 2 (λ _. k + 2 + 1) s0 s2 r) (sym (add-one k)) whole in
-      subst (λ (n : ℕ). Answers (FirstFiles parts names (k + 1)) 2 (λ _. n) s0 s2 r) e here
+      let whole : Answers (FirstFiles first parts names (suc k)) first (λ _. k + first + 1) s0 s2 r = answers_then (next_file first parts names k) one (answers_then (added first parts names handed) two (answers_value {next = λ _. k + first + 1} (omega arith) (λ files limit. refl))) in
+      let here : Answers (FirstFiles first parts names (k + 1)) first (λ _. k + first + 1) s0 s2 r = subst (λ (n : ℕ). Answers (FirstFiles first parts names n) first (λ _. k + first + 1) s0 s2 r) (sym (add-one k)) whole in
+      subst (λ (n : ℕ). Answers (FirstFiles first parts names (k + 1)) first (λ _. n) s0 s2 r) e here
 
-module _ (parts : List TaskTree) (names : List (List ℕ)) {s0 s1 : LibraryState} {e : RunFault} where
-  stop_on : (d m : ℕ) (next : List (List StepTree) → ℕ) → Answers (FirstFiles parts names m) 2 next s0 s1 (Err e) → Answers (FirstFiles parts names (d + m)) 2 next s0 s1 (Err e)
-  stop_on zero m next one = let q : m ≡ 0 + m = omega arith in subst (λ (n : ℕ). Answers (FirstFiles parts names n) 2 next s0 s1 (Err e)) q one
+module _ (first : ℕ) (parts : List TaskTree) (names : List (List ℕ)) {s0 s1 : LibraryState} {e : RunFault} where
+  stop_on : (d m : ℕ) (next : List (List StepTree) → ℕ) → Answers (FirstFiles first parts names m) first next s0 s1 (Err e) → Answers (FirstFiles first parts names (d + m)) first next s0 s1 (Err e)
+  stop_on zero m next one = let q : m ≡ 0 + m = omega arith in subst (λ (n : ℕ). Answers (FirstFiles first parts names n) first next s0 s1 (Err e)) q one
   stop_on (suc d) m next one =
       let q : suc (d + m) ≡ suc d + m = omega arith in
-      subst (λ (n : ℕ). Answers (FirstFiles parts names n) 2 next s0 s1 (Err e)) q (answers_stop (next_file parts names (d + m)) next (stop_on d m next one))
+      subst (λ (n : ℕ). Answers (FirstFiles first parts names n) first next s0 s1 (Err e)) q (answers_stop (next_file first parts names (d + m)) next (stop_on d m next one))
 
-  pub stop_later : (m n : ℕ) (next : List (List StepTree) → ℕ) → m ≤ n → Answers (FirstFiles parts names m) 2 next s0 s1 (Err e) → Answers (FirstFiles parts names n) 2 next s0 s1 (Err e)
+  pub stop_later : (m n : ℕ) (next : List (List StepTree) → ℕ) → m ≤ n → Answers (FirstFiles first parts names m) first next s0 s1 (Err e) → Answers (FirstFiles first parts names n) first next s0 s1 (Err e)
   stop_later m n next l one =
       let q : n - m + m ≡ n = omega arith in
-      subst (λ (z : ℕ). Answers (FirstFiles parts names z) 2 next s0 s1 (Err e)) q (stop_on (n - m) m next one)
+      subst (λ (z : ℕ). Answers (FirstFiles first parts names z) first next s0 s1 (Err e)) q (stop_on (n - m) m next one)
 
 -- a file stops
-pub files_stop : (parts : List TaskTree) (names : List (List ℕ)) {s0 s1 s2 : LibraryState} {e : RunFault} (k n : ℕ) (handed : List (List StepTree)) → k < n → Answers (FirstFiles parts names k) 2 (λ _. k + 2) s0 s1 (Ok handed)
-    → Answers (PartFile k (task_or parts k) (name_or names k)) (k + 2) (λ _. k + 2 + 1) s1 s2 (Err e)
-    → Answers (FirstFiles parts names n) 2 (λ _. n + 2) s0 s2 (Err e)
-files_stop parts names {s0 = s0} {s1 = s1} {s2 = s2} {e = e} k n handed l one two =
-    let whole : Answers (FirstFiles parts names (suc k)) 2 (λ _. n + 2) s0 s2 (Err e) =
-    answers_then (next_file parts names k) one (answers_stop (added parts names handed) (λ _. n + 2) two) in
-    stop_later parts names (suc k) n (λ _. n + 2) (omega arith) whole
+pub files_stop : (first : ℕ) (parts : List TaskTree) (names : List (List ℕ)) {s0 s1 s2 : LibraryState} {e : RunFault} (k n : ℕ) (handed : List (List StepTree)) → k < n → Answers (FirstFiles first parts names k) first (λ _. k + first) s0 s1 (Ok handed)
+    → Answers (PartFile first k (task_or parts k) (name_or names k)) (k + first) (λ _. k + first + 1) s1 s2 (Err e)
+    → Answers (FirstFiles first parts names n) first (λ _. n + first) s0 s2 (Err e)
+files_stop first parts names {s0 = s0} {s1 = s1} {s2 = s2} {e = e} k n handed l one two =
+    let whole : Answers (FirstFiles first parts names (suc k)) first (λ _. n + first) s0 s2 (Err e) =
+    answers_then (next_file first parts names k) one (answers_stop (added first parts names handed) (λ _. n + first) two) in
+    stop_later first parts names (suc k) n (λ _. n + first) (omega arith) whole
 
 -- want of memory after what was read
 pub lost_after : {A B C : Type 0} {first : Meaning A} {second : Meaning B} (whole : Meaning C) {start two three : ℕ} {f : A → ℕ} {h : B → ℕ} (next : C → ℕ) {s0 s1 s2 : LibraryState} {a : A} {b : B}

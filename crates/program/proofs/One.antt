@@ -1,36 +1,48 @@
 -- A run has one answer: each stage has at most one. Where a derivation is lifted it is one stop, or none.
-use Rattle.std.proofs.Common.{◌≡◌, ◌⊎◌, ◌+◌, ◌++◌, ◌∷◌, [], ◌∙◌, ℕ, zero, suc, length, drop, List, Option, Some, None, Result, Ok, Err, inl, inr, refl, sym, ap, subst}
+use Rattle.std.proofs.Common.{◌≡◌, ◌⊎◌, ◌+◌, ◌++◌, ◌∷◌, [], ◌∙◌, ℕ, zero, suc, length, map, drop, List, Option, Some, None, Result, Ok, Err, inl, inr, refl, sym, ap, subst}
 use Rattle.outside.specs.State.{Files}
 use Rattle.tasks.specs.Task.{TaskTree}
 use Rattle.rule_rows.specs.Trees.{StepTree}
 use Rattle.evidence.specs.Stages.{task_or}
-use Rattle.tr_split.specs.Split.{split_task}
-use Rattle.problems.specs.Names.{plain_names, task_names}
-use Rattle.propositional.specs.Meaning.{task_named}
-use Rattle.program.specs.Texts.{printed}
-use Rattle.program.specs.Order.{Stop, refused, misused, Stage, Answer, After, fetched, if_short, ShortFile, SourceTheories, Source, or_stop, Goal, PrintText, WholeFile, Checks, Derivation, CheckText, if_counted, Refutes, PartFile, name_or, FirstFiles, Lifts, Handed, Lifting, LiftText, word, TextOf, AnswerBy, AnswerOf}
-use Rattle.program.proofs.OneStage.{One, one_answer, one_after}
-use Rattle.program.proofs.OneSource.{one_theories}
+use Rattle.name_tables.specs.Tables.{problem_names, task_names}
+use Rattle.stages.specs.Transformations.{equation_of}
+use Rattle.stages.specs.Carried.{carried_task}
+use Rattle.stages.specs.Listing.{stages_of}
+use Rattle.part_texts.specs.Texts.{part_texts}
+use Rattle.part_texts.specs.Names.{name_texts}
+use Rattle.fault_order.specs.Order.{Stop, refused, misused, Stage, Answer, After, fetched, if_short, ShortFile, WholeFile, One}
+use Rattle.source_goals.specs.Order.{Goal, Setting, GoalUnder, AreDetermined}
+use Rattle.program.specs.Order.{or_not_built, or_refused, Carried, Printable, Parts, Printed, Named, PrintText, NamesText, Checks, Derivation, CheckText, if_counted, Refutes, PartFile, name_or, FirstFiles, Lifts, Handed, Reading, Lifting, LiftText, word, TextOf, AnswerBy, AnswerOf}
+use Rattle.fault_order.proofs.OneStage.{one_answer, one_after}
+use Rattle.source_goals.proofs.OneSource.{one_goal}
+use Rattle.source_goals.proofs.OneSetting.{one_setting}
 use Rattle.program.proofs.Checking.{one_outcome, one_wrong, one_list}
-use Rattle.program.specs.Words.{command_of}
-use Rattle.program.specs.declared.status.Fault.TheVariants.{WrongLine}
-use Rattle.program.specs.declared.words.Command.{Command}
-use Rattle.program.specs.declared.words.Command.TheVariants.{Print, Check, Lift}
+use Rattle.statuses.specs.Words.{command_of}
+use Rattle.fault_order.specs.declared.faults.Fault.TheVariants.{WrongLine}
+use Rattle.statuses.specs.declared.words.Command.{Command}
+use Rattle.statuses.specs.declared.words.Command.TheVariants.{Print, Names, Check, Lift}
 
 one_short_file : (file : ℕ) (name : List ℕ) (files : Files) (limit : Option ℕ) → One (ShortFile file name files limit)
 one_short_file file name files limit =
     one_after (Answer (fetched file name 67108865 files limit)) (λ bytes. Answer (if_short file bytes)) (one_answer _) (λ bytes. one_answer _)
 
-one_source : (src : List ℕ) (files : Files) (limit : Option ℕ) → One (Source src files limit)
-one_source src files limit = one_after (ShortFile 0 src files limit) SourceTheories (one_short_file 0 src files limit) one_theories
+one_carried : (g : Setting) → One (Carried g)
+one_carried g = one_after (Answer (or_not_built (stages_of g.driver g.task))) (λ stages. Answer (or_refused (carried_task (map equation_of stages) g.task))) (one_answer _) (λ stages. one_answer _)
 
-one_goal : (src theory goal : List ℕ) (files : Files) (limit : Option ℕ) → One (Goal src theory goal files limit)
-one_goal src theory goal files limit =
-    one_after (Source src files limit) (λ theories. Answer (or_stop (task_named theories theory goal))) (one_source src files limit) (λ theories. one_answer _)
+one_parts : (g : Setting) → One (Parts g)
+one_parts g = one_after (Carried g) (Printable g.driver) (one_carried g) (λ ts. one_answer _)
 
-one_print : (src theory goal : List ℕ) (files : Files) (limit : Option ℕ) → One (PrintText src theory goal files limit)
-one_print src theory goal files limit =
-    one_after (Goal src theory goal files limit) (λ t. Answer (Ok (printed t))) (one_goal src theory goal files limit) (λ t. one_answer _)
+one_printed : (g : Setting) → One (Printed g)
+one_printed g = one_after (Parts g) (λ ts. Answer (Ok (part_texts g.driver ts))) (one_parts g) (λ ts. one_answer _)
+
+one_named : (g : Setting) → One (Named g)
+one_named g = one_after (Parts g) (λ ts. Answer (Ok (name_texts ts))) (one_parts g) (λ ts. one_answer _)
+
+one_print : (determined : AreDetermined) → (src drv theory goal : List ℕ) (files : Files) (limit : Option ℕ) → One (PrintText src drv theory goal files limit)
+one_print determined src drv theory goal files limit = one_after (GoalUnder src drv theory goal files limit) Printed (one_setting determined src drv theory goal files limit) one_printed
+
+one_names : (determined : AreDetermined) → (src drv theory goal : List ℕ) (files : Files) (limit : Option ℕ) → One (NamesText src drv theory goal files limit)
+one_names determined src drv theory goal files limit = one_after (GoalUnder src drv theory goal files limit) Named (one_setting determined src drv theory goal files limit) one_named
 
 one_checks : (t : TaskTree) (bytes : List ℕ) → One (Checks t bytes)
 one_checks t bytes (Ok a) (Ok b) x y = ap (λ (z : List ℕ). Ok z) (x.2 ∙ sym y.2)
@@ -43,30 +55,34 @@ one_checks t bytes (Err stop) (Err other) x y =
 one_derivation : (der : List ℕ) (t : TaskTree) (files : Files) (limit : Option ℕ) → One (Derivation der t files limit)
 one_derivation der t files limit = one_after (WholeFile 1 der files limit) (Checks t) (one_answer _) (one_checks t)
 
-one_check : (src theory goal der : List ℕ) (files : Files) (limit : Option ℕ) → One (CheckText src theory goal der files limit)
-one_check src theory goal der files limit =
-    one_after (Goal src theory goal files limit) (λ t. Derivation der t files limit) (one_goal src theory goal files limit) (λ t. one_derivation der t files limit)
+one_check : (determined : AreDetermined) → (src theory goal der : List ℕ) (files : Files) (limit : Option ℕ) → One (CheckText src theory goal der files limit)
+one_check determined src theory goal der files limit =
+    one_after (Goal src theory goal files limit) (λ t. Derivation der t files limit) (one_goal determined src theory goal files limit) (λ t. one_derivation der t files limit)
 
 one_refutes : (number : ℕ) (part : TaskTree) (bytes : List ℕ) → One (Refutes number part bytes)
-one_refutes number part bytes (Ok a) (Ok b) x y = ap (λ (z : List StepTree). Ok z) (one_list part (plain_names part) (Some 2000) bytes a b x y)
-one_refutes number part bytes (Ok a) (Err stop) x y = absurd (one_outcome part (plain_names part) (Some 2000) bytes a y.0 x y.1)
-one_refutes number part bytes (Err stop) (Ok b) x y = absurd (one_outcome part (plain_names part) (Some 2000) bytes b x.0 y x.1)
+one_refutes number part bytes (Ok a) (Ok b) x y = ap (λ (z : List StepTree). Ok z) (one_list part (problem_names part) (Some 2000) bytes a b x y)
+one_refutes number part bytes (Ok a) (Err stop) x y = absurd (one_outcome part (problem_names part) (Some 2000) bytes a y.0 x y.1)
+one_refutes number part bytes (Err stop) (Ok b) x y = absurd (one_outcome part (problem_names part) (Some 2000) bytes b x.0 y x.1)
 one_refutes number part bytes (Err stop) (Err other) x y =
-    let line : x.0 ≡ y.0 = one_wrong part (plain_names part) (Some 2000) bytes x.0 y.0 x.1 y.1 in
+    let line : x.0 ≡ y.0 = one_wrong part (problem_names part) (Some 2000) bytes x.0 y.0 x.1 y.1 in
     ap (λ (z : Stop). Err z) (x.2 ∙ ap (λ (n : ℕ). refused (WrongLine number n)) line ∙ sym y.2)
 
-one_part_file : (k : ℕ) (part : TaskTree) (name : List ℕ) (files : Files) (limit : Option ℕ) → One (PartFile k part name files limit)
-one_part_file k part name files limit = one_after (ShortFile (k + 2) name files limit) (Refutes (k + 1) part) (one_short_file (k + 2) name files limit) (one_refutes (k + 1) part)
+one_part_file : (first k : ℕ) (part : TaskTree) (name : List ℕ) (files : Files) (limit : Option ℕ) → One (PartFile first k part name files limit)
+one_part_file first k part name files limit = one_after (ShortFile (k + first) name files limit) (Refutes (k + 1) part) (one_short_file (k + first) name files limit) (one_refutes (k + 1) part)
 
-one_first_files : (parts : List TaskTree) (names : List (List ℕ)) (n : ℕ) (files : Files) (limit : Option ℕ) → One (FirstFiles parts names n files limit)
-one_first_files parts names zero files limit = one_answer (Ok [])
-one_first_files parts names (suc n) files limit =
-    one_after (FirstFiles parts names n files limit) (λ handed. After (PartFile n (task_or parts n) (name_or names n) files limit) (λ steps. Answer (Ok (handed ++ steps ∷ [])))) (one_first_files parts names n files limit)
-    (λ handed. one_after (PartFile n (task_or parts n) (name_or names n) files limit) (λ steps. Answer (Ok (handed ++ steps ∷ []))) (one_part_file n (task_or parts n) (name_or names n) files limit) (λ steps. one_answer _))
+one_first_files : (first : ℕ) (parts : List TaskTree) (names : List (List ℕ)) (n : ℕ) (files : Files) (limit : Option ℕ) → One (FirstFiles first parts names n files limit)
+one_first_files first parts names zero files limit = one_answer (Ok [])
+one_first_files first parts names (suc n) files limit =
+    one_after (FirstFiles first parts names n files limit) (λ handed. After (PartFile first n (task_or parts n) (name_or names n) files limit) (λ steps. Answer (Ok (handed ++ steps ∷ [])))) (one_first_files first parts names n files limit)
+    (λ handed. one_after (PartFile first n (task_or parts n) (name_or names n) files limit) (λ steps. Answer (Ok (handed ++ steps ∷ []))) (one_part_file first n (task_or parts n) (name_or names n) files limit) (λ steps. one_answer _))
 
-one_handed : (names : List (List ℕ)) (t : TaskTree) (files : Files) (limit : Option ℕ) → One (Handed names t files limit)
-one_handed names t files limit =
-    one_after (Answer (if_counted (split_task t) (length names))) (λ parts. FirstFiles parts names (length names) files limit) (one_answer _) (λ parts. one_first_files parts names (length names) files limit)
+one_handed : (first : ℕ) (names : List (List ℕ)) (parts : List TaskTree) (files : Files) (limit : Option ℕ) → One (Handed first names parts files limit)
+one_handed first names parts files limit =
+    one_after (Answer (if_counted parts (length names))) (λ counted. FirstFiles first counted names (length names) files limit) (one_answer _) (λ counted. one_first_files first counted names (length names) files limit)
+
+one_reading : (names : List (List ℕ)) (g : Setting) (files : Files) (limit : Option ℕ) → One (Reading names g files limit)
+one_reading names g files limit =
+    one_after (Parts g) (λ parts. Handed g.driver.next_file names parts files limit) (one_parts g) (λ parts. one_handed g.driver.next_file names parts files limit)
 
 -- both have a value, or both have this stop
 abbrev pub Alike : {A : Type 0} → Result A Stop → Result A Stop → Type 0
@@ -107,19 +123,22 @@ stop_lifts t handed (Ok a) (Ok b) x y = tt
 stop_lifts t handed (Ok a) (Err stop) x y = absurd y
 stop_lifts t handed (Err stop) q x y = absurd x
 
-stop_lift : (src theory goal : List ℕ) (names : List (List ℕ)) (files : Files) (limit : Option ℕ) → OneStop (LiftText src theory goal names files limit)
-stop_lift src theory goal names files limit =
-    stop_after (Goal src theory goal files limit) (λ t. Lifting names t files limit) (one_goal src theory goal files limit)
-    (λ t. stop_after (Handed names t files limit) (Lifts t) (one_handed names t files limit) (stop_lifts t))
+stop_lifting : (names : List (List ℕ)) (g : Setting) (files : Files) (limit : Option ℕ) → OneStop (Lifting names g files limit)
+stop_lifting names g files limit = stop_after (Reading names g files limit) (Lifts g.task) (one_reading names g files limit) (stop_lifts g.task)
 
-stop_text : (command : Command) (words : List (List ℕ)) (files : Files) (limit : Option ℕ) → OneStop (TextOf command words files limit)
-stop_text Print words files limit = one_stop (TextOf Print words files limit) (one_print (word words 2) (word words 4) (word words 5) files limit)
-stop_text Check words files limit = one_stop (TextOf Check words files limit) (one_check (word words 2) (word words 3) (word words 4) (word words 5) files limit)
-stop_text Lift words files limit = stop_lift (word words 2) (word words 4) (word words 5) (drop 6 words) files limit
+stop_lift : (determined : AreDetermined) → (src drv theory goal : List ℕ) (names : List (List ℕ)) (files : Files) (limit : Option ℕ) → OneStop (LiftText src drv theory goal names files limit)
+stop_lift determined src drv theory goal names files limit =
+    stop_after (GoalUnder src drv theory goal files limit) (λ g. Lifting names g files limit) (one_setting determined src drv theory goal files limit) (λ g. stop_lifting names g files limit)
 
-stop_by : (command : Option Command) (words : List (List ℕ)) (files : Files) (limit : Option ℕ) → OneStop (AnswerBy command words files limit)
-stop_by None words files limit = one_stop (Answer (Err misused)) (one_answer (Err misused))
-stop_by (Some command) words files limit = stop_text command words files limit
+stop_text : (determined : AreDetermined) → (command : Command) (words : List (List ℕ)) (files : Files) (limit : Option ℕ) → OneStop (TextOf command words files limit)
+stop_text determined Print words files limit = one_stop (TextOf Print words files limit) (one_print determined (word words 2) (word words 3) (word words 4) (word words 5) files limit)
+stop_text determined Names words files limit = one_stop (TextOf Names words files limit) (one_names determined (word words 2) (word words 3) (word words 4) (word words 5) files limit)
+stop_text determined Check words files limit = one_stop (TextOf Check words files limit) (one_check determined (word words 2) (word words 3) (word words 4) (word words 5) files limit)
+stop_text determined Lift words files limit = stop_lift determined (word words 2) (word words 3) (word words 4) (word words 5) (drop 6 words) files limit
 
-pub stop_of_all : (words : List (List ℕ)) (files : Files) (limit : Option ℕ) → OneStop (AnswerOf words files limit)
-stop_of_all words files limit = stop_by (command_of words) words files limit
+stop_by : (determined : AreDetermined) → (command : Option Command) (words : List (List ℕ)) (files : Files) (limit : Option ℕ) → OneStop (AnswerBy command words files limit)
+stop_by determined None words files limit = one_stop (Answer (Err misused)) (one_answer (Err misused))
+stop_by determined (Some command) words files limit = stop_text determined command words files limit
+
+pub stop_of_all : (determined : AreDetermined) → (words : List (List ℕ)) (files : Files) (limit : Option ℕ) → OneStop (AnswerOf words files limit)
+stop_of_all determined words files limit = stop_by determined (command_of words) words files limit

@@ -1,16 +1,15 @@
 // The command `check`: whether a file derives a goal from the goal's own theory.
-// It stands on the goal's task and on the checker; the top call stands on it.
+// It depends on the goal's task and on the checker; the top call depends on it.
 ghost use Rattle.tasks.specs.Meaning.{task_at, TaskHeld};
-ghost use Rattle.program.specs.Answers.{Ends, IsStageAnswer, bytes_of};
-ghost use Rattle.program.specs.Order.{CheckText, Checks};
+ghost use Rattle.fault_order.specs.Answers.{Answers, Ends, IsStageAnswer, bytes_of};
+ghost use Rattle.program.specs.Order.{CheckText, Checks, Derivation};
 
-use crate::fetching::fetch_whole;
-use crate::goal::find_task;
-use crate::{Fault, RunFault};
+use fault_order::{Fault, RunFault, fetch_whole};
+use name_tables::task_names;
 use outside::Library;
-use problems::task_names;
+use source_goals::find_task;
 use std::alloc::Global;
-use steps_text::{ReadFault, StepReader};
+use step_files::{ReadFault, StepReader};
 use tasks::Task;
 use term_store::Store;
 
@@ -38,11 +37,26 @@ fn check_steps(
     }
 }
 
+// Fetches and checks the file of a derivation of a task.
+fn check_file<L: Library>(
+    alloc: Global,
+    lib: &mut L,
+    mut store: Store,
+    task: &Task,
+    der: &str,
+) -> Result<Vec<u8>, RunFault>
+    requires held { TaskHeld store task.now }
+    ensures { Answers (Derivation der.now (task_at store task.now)) 1 (λ _. 2) (L.state lib.old)
+        (L.state lib.new) (bytes_of result) }
+{
+    let bytes = fetch_whole(lib, 1, der)?;
+    check_steps(alloc, &mut store, task, &bytes)
+}
+
 /// `accepted` and a line feed, where a file is a derivation of a goal from the goal's own theory.
 ///
-/// The order of faults is that of the specification: the source's length (15), its tokens (10, 11), its syntax (13, then
-/// 12 or 14), its declarations in turn (16, then 21, then 20), its theory (60), its goal (61), the file's first wrong line
-/// (91), as part 1.
+/// The first fault is answered: the source's length (15), its tokens (10, 11), its syntax (13, then 12 or 14), its theories and their
+/// declarations in turn (20 to 40), the theory (60), the goal (61), the file's first wrong line (91), as part 1.
 pub fn check_goal<L: Library>(
     alloc: Global,
     lib: &mut L,
@@ -56,6 +70,5 @@ pub fn check_goal<L: Library>(
 {
     let mut store = Store::new(alloc)?;
     let task = find_task(alloc, lib, &mut store, src, theory, goal)?;
-    let bytes = fetch_whole(lib, 1, der)?;
-    check_steps(alloc, &mut store, &task, &bytes)
+    check_file(alloc, lib, store, &task, der)
 }

@@ -1,78 +1,61 @@
 // The derivation of a task that refutations of its parts are lifted to, and its text.
-// It stands on the stage that is lifted and on the writer of steps; `lift` stands on it.
-ghost use Rattle.std.specs.Prelude.{◌≡◌, [], length, IfOk};
-ghost use Rattle.tasks.specs.Meaning.{task_at, tasks_at, TaskHeld, TasksHeld};
+// It depends on the stages and on the writer of steps; `lift` depends on it.
+ghost use Rattle.std.specs.Prelude.{Ok, IfOk};
+ghost use Rattle.tasks.specs.Meaning.{task_at, TaskHeld};
 ghost use Rattle.tasks.specs.Valid.{IsValid};
-ghost use Rattle.kernel.specs.Right.{last_starts};
-ghost use Rattle.evidence.specs.Drafts.{Extends};
 ghost use Rattle.evidence.specs.Stages.{parts_at, PartsHeld};
-ghost use Rattle.evidence.specs.Languages.{StepsAreIn};
-ghost use Rattle.problems.specs.Names.{task_names};
-ghost use Rattle.steps_text.specs.Writing.{is_writable};
-ghost use Rattle.tr_split.specs.Split.{split_task};
-ghost use Rattle.program.specs.Lifted.{IsLifted, HasSequents, AreRefuted};
-ghost use Rattle.program.specs.Fragment.{IsInFragment};
+ghost use Rattle.stages.specs.Listing.{stages_of};
+ghost use Rattle.stages.specs.Lifted.{IsDerived};
+ghost use Rattle.written_files.specs.Named.{NamesAreWords};
+ghost use Rattle.program.specs.Lifted.{AreRefutedUnder, IsLifted};
 
-use evidence::{Draft, finish, lift_stage};
 use outside::Seq;
-use problems::task_names;
 use rule_rows::Step;
+use source_goals::GoalSetting;
+use stages::{Derived, lift, stages_of};
 use std::alloc::{AllocError, Global};
-use std::rc::Rc;
-use steps_text::write_steps;
-use tasks::Task;
 use term_store::Store;
-use tr_split::Split;
+use written_files::write_derivation;
 
-// Makes an empty draft of the task one that ends in its start and has the sequents of the handed steps.
-fn lifted_draft(
-    draft: &mut Draft,
-    task: &Task,
-    parts: &Vec<Task>,
-    handed: &[Seq<Step>],
-) -> Result<(), AllocError>
-    requires task_held { TaskHeld draft.old.trees task.now }
-    requires own { task_at draft.old.trees task.now ≡ draft.old.task }
-    requires valid { IsValid draft.old.task }
-    requires empty { draft.old.steps ≡ [] }
-    requires fragment { IsInFragment draft.old.task }
-    requires parts_held { TasksHeld draft.old.trees parts.now.items }
-    requires split { tasks_at draft.old.trees parts.now.items ≡ split_task draft.old.task }
-    requires handed_held { PartsHeld draft.old.trees handed.now }
-    requires refuted { AreRefuted (tasks_at draft.old.trees parts.now.items)
-        (parts_at draft.old.trees handed.now) (length parts.now.items) }
-    ensures starts { IfOk result (λ _. last_starts draft.new.task draft.new.steps) }
-    ensures sequents { IfOk result (λ _. HasSequents draft.new.steps
-        (parts_at draft.old.trees handed.now)) }
-    ensures language { StepsAreIn (is_writable (task_names draft.old.task)) draft.new.steps }
-    ensures grows { Extends draft.old draft.new }
-{
-    let number = lift_stage(&Split, task, parts, handed, draft)?;
-    finish(draft, number)
-}
-
-/// The text of a derivation of a task, from refutations of the parts of its goal.
-pub(crate) fn lifted_text(
+// A derivation of a task, from refutations of its parts.
+fn derived(
     alloc: Global,
     store: Store,
-    task: Task,
-    parts: &Vec<Task>,
-    handed: &[Seq<Step>],
-) -> Result<Vec<u8>, AllocError>
-    requires task_held { TaskHeld store task }
-    requires valid { IsValid (task_at store task) }
-    requires fragment { IsInFragment (task_at store task) }
-    requires parts_held { TasksHeld store parts.now.items }
-    requires split { tasks_at store parts.now.items ≡ split_task (task_at store task) }
-    requires handed_held { PartsHeld store handed.now }
-    requires refuted { AreRefuted (tasks_at store parts.now.items) (parts_at store handed.now)
-        (length parts.now.items) }
-    ensures { IfOk result (λ v. IsLifted (task_at store task) (parts_at store handed.now) v.items) }
+    setting: &GoalSetting,
+    handed: Vec<Seq<Step>>,
+) -> Result<Derived, AllocError>
+    requires held { TaskHeld store setting.now.task }
+    requires valid { IsValid (task_at store setting.now.task) }
+    requires handed_held { PartsHeld store handed.items }
+    requires refuted { AreRefutedUnder setting.now.driver (task_at store setting.now.task)
+        (parts_at store handed.items) }
+    ensures { IfOk result (IsDerived store (task_at store setting.now.task)
+        (parts_at store handed.items)) }
 {
-    let task = Rc::new(alloc, task)?;
-    let mut draft = Draft::new(alloc, store, task.clone()?);
-    lifted_draft(&mut draft, &task, parts, handed)?;
-    let (store, steps) = draft.into_parts();
-    let names = task_names(alloc, &store, &task)?;
-    write_steps(alloc, &store, &task, &names, &steps)
+    match stages_of(alloc, &setting.driver, &setting.task) {
+        Ok(stages) => lift(alloc, store, &stages, &setting.task, handed),
+        Err(_) => Err(AllocError),
+    }
+}
+
+/// The text of a derivation of a task, from refutations of its parts under a driver.
+pub fn lifted_text(
+    alloc: Global,
+    store: Store,
+    setting: &GoalSetting,
+    handed: Vec<Seq<Step>>,
+) -> Result<Vec<u8>, AllocError>
+    requires held { TaskHeld store setting.now.task }
+    requires valid { IsValid (task_at store setting.now.task) }
+    requires names { NamesAreWords (task_at store setting.now.task) }
+    requires handed_held { PartsHeld store handed.items }
+    requires refuted { AreRefutedUnder setting.now.driver (task_at store setting.now.task)
+        (parts_at store handed.items) }
+    ensures { IfOk result (λ v. IsLifted (task_at store setting.now.task)
+        (parts_at store handed.items) v.items) }
+{
+    let derived = derived(alloc, store, setting, handed)?;
+    let Derived { store, steps } = derived;
+    let mut store = store;
+    write_derivation(alloc, &mut store, &setting.task, steps.as_slice())
 }

@@ -1,21 +1,27 @@
 // The command `lift`: from refutations of a goal's problems, a derivation of the goal from its theory.
-// It stands on the goal's task, the refutations and the derivation; the top call stands on it.
-ghost use Rattle.std.specs.Prelude.{◌≡◌, ◌≢◌, ◌+◌, codes, length, map, string_bytes, MatchResult};
-ghost use Rattle.tasks.specs.Meaning.{task_at, TaskHeld};
+// It depends on the parts of the goal's task, the refutations and the derivation; the top call depends on it.
+ghost use Rattle.std.specs.Prelude.{◌≡◌, ◌≢◌, ◌+◌, length, map, string_bytes, MatchResult, IfOk};
+ghost use Rattle.trees.specs.Node.{Grows};
+ghost use Rattle.tasks.specs.Meaning.{task_at, tasks_at, TaskHeld, TasksHeld};
 ghost use Rattle.tasks.specs.Valid.{IsValid};
-ghost use Rattle.program.specs.Fragment.{IsInFragment};
-ghost use Rattle.program.specs.Answers.{Answers, Ends, bytes_of};
-ghost use Rattle.program.specs.Order.{Lifting, LiftText};
+ghost use Rattle.evidence.specs.Stages.{PartsClose, PartsHeld, parts_at};
+ghost use Rattle.written_files.specs.Named.{NamesAreWords};
+ghost use Rattle.fault_order.specs.Answers.{Answers, Ends, bytes_of};
+ghost use Rattle.program.specs.Order.{Handed, Lifting, LiftText, Reading};
+ghost use Rattle.program.specs.Lifted.{AreRefutedUnder};
+ghost use Rattle.program.specs.Values.{handed_in, setting_at};
 
 use crate::derivation::lifted_text;
-use crate::goal::find_task;
+use crate::parts::find_parts;
 use crate::refutations::read_files;
-use crate::{Fault, RunFault};
-use outside::Library;
+use crate::setting::valid_setting;
+use fault_order::{Fault, RunFault};
+use outside::{Library, Seq};
+use rule_rows::Step;
+use source_goals::GoalSetting;
 use std::alloc::Global;
 use tasks::Task;
 use term_store::Store;
-use tr_split::split_goal;
 
 // Whether there are as many files as parts.
 fn count_files(parts: usize, files: usize) -> Result<(), RunFault>
@@ -32,34 +38,83 @@ fn count_files(parts: usize, files: usize) -> Result<(), RunFault>
     }
 }
 
+// The refutations of parts, in files with the numbers from `first` on, where there are as many files as parts.
+fn read_counted<L: Library>(
+    alloc: Global,
+    lib: &mut L,
+    store: &mut Store,
+    parts: &[Task],
+    first: usize,
+    refs: &[String],
+) -> Result<Vec<Seq<Step>>, RunFault>
+    requires held { TasksHeld store.old parts.now }
+    ensures answers { Answers (Handed first (map string_bytes refs.now) (tasks_at store.old
+        parts.now)) first (λ _. length refs.now + first) (L.state lib.old) (L.state lib.new)
+        (handed_in store.new result) }
+    ensures held { IfOk result (λ v. PartsHeld store.new v.items) }
+    ensures refuted { IfOk result (λ v. PartsClose (tasks_at store.old parts.now)
+        (parts_at store.new v.items)) }
+    ensures grows { Grows store.old store.new }
+{
+    count_files(parts.len(), refs.len())?;
+    read_files(alloc, lib, store, parts, first, refs)
+}
+
+// The refutations of the parts of a task.
+fn read_handed<L: Library>(
+    alloc: Global,
+    lib: &mut L,
+    store: &mut Store,
+    setting: &GoalSetting,
+    refs: &[String],
+) -> Result<Vec<Seq<Step>>, RunFault>
+    requires held { TaskHeld store.old setting.now.task }
+    requires valid { IsValid (task_at store.old setting.now.task) }
+    ensures answers { Answers (Reading (map string_bytes refs.now) (setting_at store.old
+        setting.now)) setting.now.driver.next_file
+        (λ _. length refs.now + setting.now.driver.next_file) (L.state lib.old)
+        (L.state lib.new) (handed_in store.new result) }
+    ensures held { IfOk result (λ v. PartsHeld store.new v.items) }
+    ensures refuted { IfOk result (λ v. AreRefutedUnder setting.now.driver (task_at store.old
+        setting.now.task) (parts_at store.new v.items)) }
+    ensures grows { Grows store.old store.new }
+{
+    let parts = find_parts(alloc, store, setting)?;
+    read_counted(
+        alloc,
+        lib,
+        store,
+        &parts.tasks,
+        setting.driver.next_file,
+        refs,
+    )
+}
+
 // The derivation of a task.
 fn lift_task<L: Library>(
     alloc: Global,
     lib: &mut L,
     mut store: Store,
-    task: Task,
+    setting: &GoalSetting,
     refs: &[String],
 ) -> Result<Vec<u8>, RunFault>
-    requires held { TaskHeld store task }
-    requires valid { IsValid (task_at store task) }
-    requires fragment { IsInFragment (task_at store task) }
-    ensures { Answers (Lifting (map string_bytes refs.now) (task_at store task)) 1
-        (λ _. length refs.now + 2) (L.state lib.old) (L.state lib.new) (bytes_of result) }
+    requires held { TaskHeld store setting.now.task }
+    requires valid { IsValid (task_at store setting.now.task) }
+    requires names { NamesAreWords (task_at store setting.now.task) }
+    ensures { Answers (Lifting (map string_bytes refs.now) (setting_at store setting.now))
+        setting.now.driver.next_file (λ _. length refs.now + setting.now.driver.next_file)
+        (L.state lib.old) (L.state lib.new) (bytes_of result) }
 {
-    let parts = split_goal(alloc, &mut store, &task)?;
-    count_files(parts.len(), refs.len())?;
-    let handed = read_files(alloc, lib, &mut store, &parts, refs)?;
-    let text = lifted_text(alloc, store, task, &parts, &handed)?;
+    let handed = read_handed(alloc, lib, &mut store, setting, refs)?;
+    let text = lifted_text(alloc, store, setting, handed)?;
     Ok(text)
 }
 
 /// A derivation of the goal from its theory, from refutations of the problems of its task, in order. For each step of a
 /// refutation it has a step with the same sequent.
 ///
-/// The driver is `plain.drv`, whose one transformation splits the goal; it isn't read. The order of faults is that of
-/// the specification: the source's length (15), its tokens (10, 11), its syntax (13, then 12 or 14), its declarations in
-/// turn (16, then 21, then 20), its theory (60), its goal (61), the number of refutations (90), and then for each of them
-/// in turn its length (15) and its first wrong line (91).
+/// The order of faults is that of `print_goal`; then the number of refutations (90), and then for each of them in turn its length
+/// (15) and its first wrong line (91).
 pub fn lift_goal<L: Library>(
     alloc: Global,
     lib: &mut L,
@@ -69,12 +124,10 @@ pub fn lift_goal<L: Library>(
     goal: &str,
     refs: &[String],
 ) -> Result<Vec<u8>, RunFault>
-    requires { drv.now ≡ codes "plain.drv" }
-    ensures { Ends (LiftText src.now theory.now goal.now (map string_bytes refs.now))
+    ensures { Ends (LiftText src.now drv.now theory.now goal.now (map string_bytes refs.now))
         (L.state lib.old) (L.state lib.new) (bytes_of result) }
 {
-    let _ = drv;
     let mut store = Store::new(alloc)?;
-    let task = find_task(alloc, lib, &mut store, src, theory, goal)?;
-    lift_task(alloc, lib, store, task, refs)
+    let found = valid_setting(alloc, lib, &mut store, src, drv, theory, goal)?;
+    lift_task(alloc, lib, store, &found, refs)
 }

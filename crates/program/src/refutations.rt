@@ -1,23 +1,22 @@
 // The refutations that are handed in, one file for each part of a goal, read in turn.
-// They stand on the fetched files and the reader of steps; `lift` stands on them.
-ghost use Rattle.std.specs.Prelude.{◌≡◌, ◌+◌, ◌^◌, ◌<◌, length, map, All, IfOk, string_bytes};
+// They depend on the fetched files and the reader of steps; `lift` depends on them.
+ghost use Rattle.std.specs.Prelude.{◌≡◌, ◌+◌, ◌<◌, length, map, IfOk, string_bytes};
 ghost use Rattle.trees.specs.Node.{Grows};
 ghost use Rattle.tasks.specs.Meaning.{task_at, tasks_at, TaskHeld, TasksHeld};
 ghost use Rattle.rule_rows.specs.Meaning.{steps_at, StepsHeld};
 ghost use Rattle.evidence.specs.Stages.{parts_at, PartsHeld};
-ghost use Rattle.problems.specs.Used.{DeclaresEntries};
-ghost use Rattle.program.specs.Answers.{Answers, IsStageAnswer};
+ghost use Rattle.fault_order.specs.Answers.{Answers, IsStageAnswer};
 ghost use Rattle.program.specs.Order.{Refutes, PartFile, FirstFiles};
-ghost use Rattle.program.specs.Lifted.{IsRefutation, AreRefuted};
+ghost use Rattle.kernel.specs.Right.{Closes};
+ghost use Rattle.evidence.specs.Stages.{PartsClose};
 ghost use Rattle.program.specs.Values.{steps_in, handed_in};
 
-use crate::fetching::fetch_short;
-use crate::{Fault, RunFault};
+use fault_order::{Fault, RunFault, fetch_short};
+use name_tables::problem_names;
 use outside::{Library, Seq};
-use problems::plain_names;
 use rule_rows::Step;
 use std::alloc::Global;
-use steps_text::{ReadFault, StepReader};
+use step_files::{ReadFault, StepReader};
 use tasks::Task;
 use term_store::Store;
 
@@ -33,15 +32,14 @@ fn read_refutation(
     bytes: &[u8],
 ) -> Result<Vec<Step>, RunFault>
     requires held { TaskHeld store.old part.now }
-    requires entries { DeclaresEntries (task_at store.old part.now) }
     ensures steps { IsStageAnswer (Refutes number (task_at store.old part.now) bytes.now)
         (steps_in store.new result) }
     ensures held { IfOk result (λ v. StepsHeld store.new v.items) }
-    ensures refutes { IfOk result (λ v. IsRefutation (task_at store.old part.now)
+    ensures refutes { IfOk result (λ v. Closes (task_at store.old part.now)
         (steps_at store.new v.items)) }
     ensures grows { Grows store.old store.new }
 {
-    let names = plain_names(alloc, store, part)?;
+    let names = problem_names(alloc, store, part)?;
     let mut reader = StepReader::new(alloc, Some(TALLEST));
     if reader.feed(store, part, &names, bytes).is_err() {
         return Err(RunFault::Memory);
@@ -62,20 +60,24 @@ fn read_file<L: Library>(
     lib: &mut L,
     store: &mut Store,
     part: &Task,
+    first: usize,
     place: usize,
     name: &str,
 ) -> Result<Vec<Step>, RunFault>
-    requires room { place + 2 < 2 ^ 64 }
     requires held { TaskHeld store.old part.now }
-    requires entries { DeclaresEntries (task_at store.old part.now) }
-    ensures answers { Answers (PartFile place (task_at store.old part.now) name.now) (place + 2)
-        (λ _. place + 2 + 1) (L.state lib.old) (L.state lib.new) (steps_in store.new result) }
+    ensures answers { Answers (PartFile first place (task_at store.old part.now) name.now)
+        (place + first) (λ _. place + first + 1) (L.state lib.old) (L.state lib.new)
+        (steps_in store.new result) }
     ensures held { IfOk result (λ v. StepsHeld store.new v.items) }
-    ensures refutes { IfOk result (λ v. IsRefutation (task_at store.old part.now)
+    ensures refutes { IfOk result (λ v. Closes (task_at store.old part.now)
         (steps_at store.new v.items)) }
     ensures grows { Grows store.old store.new }
 {
-    let bytes = fetch_short(lib, place + 2, name)?;
+    if usize::MAX - first <= place {
+        // The names of so many files find no memory.
+        return Err(RunFault::Memory);
+    }
+    let bytes = fetch_short(lib, place + first, name)?;
     read_refutation(alloc, store, part, place + 1, &bytes)
 }
 
@@ -86,17 +88,17 @@ pub(crate) fn read_files<L: Library>(
     lib: &mut L,
     store: &mut Store,
     parts: &[Task],
+    first: usize,
     names: &[String],
 ) -> Result<Vec<Seq<Step>>, RunFault>
     requires as_many { length parts.now ≡ length names.now }
     requires held { TasksHeld store.old parts.now }
-    requires entries { All DeclaresEntries (tasks_at store.old parts.now) }
-    ensures answers { Answers (FirstFiles (tasks_at store.old parts.now)
-        (map string_bytes names.now) (length names.now)) 2 (λ _. length names.now + 2)
+    ensures answers { Answers (FirstFiles first (tasks_at store.old parts.now)
+        (map string_bytes names.now) (length names.now)) first (λ _. length names.now + first)
         (L.state lib.old) (L.state lib.new) (handed_in store.new result) }
     ensures held { IfOk result (λ v. PartsHeld store.new v.items) }
-    ensures refuted { IfOk result (λ v. AreRefuted (tasks_at store.old parts.now)
-        (parts_at store.new v.items) (length parts.now)) }
+    ensures refuted { IfOk result (λ v. PartsClose (tasks_at store.old parts.now)
+        (parts_at store.new v.items)) }
     ensures grows { Grows store.old store.new }
 {
     let mut handed = Vec::new(alloc);
@@ -106,6 +108,7 @@ pub(crate) fn read_files<L: Library>(
             lib,
             store,
             &parts[place],
+            first,
             place,
             names[place].as_str(),
         )?;

@@ -14,9 +14,9 @@ use Rattle.tasks.specs.Task.{SymbolTree, symbol_or}
 use Rattle.tasks.specs.Typing.{members, option_list}
 use Rattle.tasks.specs.Equations.{cells}
 use Rattle.linear_leaf.specs.Valuations.{same_tree}
-use Rattle.problems.specs.declared.names.NameOf.{NameOf}
-use Rattle.problems.specs.declared.names.NameOf.TheVariants.{Rigid}
-use Rattle.problems.specs.declared.names.NameEntry.{NameEntry}
+use Rattle.name_entries.specs.declared.names.NameOf.{NameOf}
+use Rattle.name_entries.specs.declared.names.NameOf.TheVariants.{Rigid}
+use Rattle.name_entries.specs.declared.names.NameEntry.{NameEntry}
 use Rattle.name_tables.specs.Occurrences.{Occurrence, whole}
 use Rattle.name_tables.specs.Tables.{place_of}
 use Rattle.printed_problems.specs.Templates.{has_template}

@@ -16,7 +16,7 @@ use Rattle.linear_leaf.specs.Valuations.{same_tree}
 use Rattle.linear_leaf.proofs.SameTree.{and_left, and_right, same_is}
 use Rattle.driver_items.specs.declared.kinds.Piece.{Piece}
 use Rattle.driver_items.specs.declared.kinds.Printer.TheVariants.{Smt}
-use Rattle.problems.specs.declared.names.NameEntry.{NameEntry}
+use Rattle.name_entries.specs.declared.names.NameEntry.{NameEntry}
 use Rattle.name_tables.specs.Occurrences.{Occurrence, occurrence, whole, in_type}
 use Rattle.name_tables.specs.Tables.{is_same, place_of, thing_of}
 use Rattle.name_tables.specs.Seen.{has, AreIn}

@@ -13,7 +13,7 @@ use Rattle.driver_items.specs.declared.kinds.Piece.TheVariants.{Literal, Argumen
 use Rattle.driver_parts.specs.declared.driver.Driver.{Driver}
 use Rattle.tasks.specs.Task.{SymbolTree, int_symbol, TaskTree, symbol_or}
 use Rattle.tasks.specs.Valid.{AreInts, IsValid}
-use Rattle.problems.specs.declared.names.NameEntry.{NameEntry}
+use Rattle.name_entries.specs.declared.names.NameEntry.{NameEntry}
 use Rattle.name_tables.specs.Occurrences.{Occurrence}
 use Rattle.name_tables.specs.Spelling.{own_name, clean}
 use Rattle.name_tables.specs.Tables.{entries_from, problem_things, problem_names}

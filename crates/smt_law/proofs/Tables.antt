@@ -10,8 +10,8 @@ use Rattle.driver_parts.specs.declared.driver.Driver.{Driver}
 use Rattle.tasks.specs.Task.{TaskTree, symbol_or, declared, made}
 use Rattle.tasks.specs.Vocabulary.{of_task}
 use Rattle.tasks.proofs.Declared.{any_iff, usable_made, contains_cases, contains_step}
-use Rattle.problems.specs.declared.names.NameOf.TheVariants.{Int, Rigid, Symbol}
-use Rattle.problems.specs.declared.names.NameEntry.{NameEntry}
+use Rattle.name_entries.specs.declared.names.NameOf.TheVariants.{Int, Rigid, Symbol}
+use Rattle.name_entries.specs.declared.names.NameEntry.{NameEntry}
 use Rattle.name_tables.specs.Occurrences.{Occurrence, occurrence, whole}
 use Rattle.name_tables.specs.Spelling.{own_name, clean}
 use Rattle.name_tables.specs.Tables.{is_same, is_in, place_of, name_of, entry_of, entries_from, problem_things, problem_names}

@@ -7,7 +7,7 @@ use Rattle.driver_items.specs.declared.kinds.Printer.TheVariants.{Smt}
 use Rattle.driver_parts.specs.declared.driver.Driver.{Driver}
 use Rattle.tasks.specs.Task.{SymbolTree, TaskTree}
 use Rattle.tasks.specs.Vocabulary.{Vocabulary}
-use Rattle.problems.specs.declared.names.NameEntry.{NameEntry}
+use Rattle.name_entries.specs.declared.names.NameEntry.{NameEntry}
 use Rattle.name_tables.specs.Occurrences.{Occurrence}
 use Rattle.name_tables.specs.Tables.{problem_things, problem_names}
 use Rattle.printed_problems.specs.Problems.{is_sort, is_declared, places_from, preludes, problem_of}

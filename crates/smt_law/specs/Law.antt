@@ -6,7 +6,7 @@ use Rattle.driver_items.specs.declared.kinds.Printer.TheVariants.{Smt}
 use Rattle.driver_parts.specs.declared.driver.Driver.{Driver}
 use Rattle.tasks.specs.Task.{SymbolTree, TaskTree}
 use Rattle.tasks.specs.Valid.{IsValid}
-use Rattle.problems.specs.declared.names.NameEntry.{NameEntry}
+use Rattle.name_entries.specs.declared.names.NameEntry.{NameEntry}
 use Rattle.name_tables.specs.Spelling.{own_name}
 use Rattle.name_tables.specs.Tables.{problem_things, problem_names}
 use Rattle.printed_problems.specs.Problems.{preludes, problem_of}

@@ -5,7 +5,7 @@ use Rattle.driver_items.specs.declared.kinds.Piece.{Piece}
 use Rattle.driver_items.specs.declared.kinds.Printer.TheVariants.{Smt}
 use Rattle.driver_parts.specs.declared.driver.Driver.{Driver}
 use Rattle.tasks.specs.Task.{SymbolTree, symbol_or}
-use Rattle.problems.specs.declared.names.NameEntry.{NameEntry}
+use Rattle.name_entries.specs.declared.names.NameEntry.{NameEntry}
 use Rattle.printed_problems.specs.Templates.{by_pieces, template_of, has_template}
 use Rattle.printed_problems.specs.Problems.{is_kind}
 use Rattle.printed_terms.specs.Texts.{applied}

@@ -5,7 +5,7 @@ use Rattle.std.specs.Fmt.{decimal}
 use Rattle.std.specs.List.{flat_map}
 use Rattle.trees.specs.Tree.{Tree}
 use Rattle.tasks.specs.Task.{SymbolTree, TaskTree}
-use Rattle.problems.specs.declared.names.NameEntry.{NameEntry}
+use Rattle.name_entries.specs.declared.names.NameEntry.{NameEntry}
 use Rattle.driver_parts.specs.declared.driver.Driver.{Driver}
 use Rattle.printed_problems.specs.Problems.{ProblemTree}
 use Rattle.printed_terms.specs.Texts.{Printing, name_at, joined, sort_text, formula_text, parameter}

@@ -56,3 +56,13 @@ pub fn library_files(alloc: Global) -> Result<Vec<(Text, File)>, AllocError>
     push_files(alloc, &LIBRARY, &mut files)?;
     Ok(files)
 }
+
+/// Lets the files of the library go, for a caller that is to have no code for their parts.
+pub fn drop_files(files: Vec<(Text, File)>) {
+    let _ = &files;
+}
+
+/// Lets the file of a source go, for a caller that is to have no code for its parts.
+pub fn drop_file(file: File) {
+    let _ = &file;
+}

@@ -3,7 +3,7 @@ use Rattle.std.proofs.Common.{◌≡◌, ℕ, zero, suc, List, [], ◌∷◌, Op
 use Rattle.std.specs.Prelude.{IsSomeAnd, IfErr, Result, Ok, Err}
 use Rattle.tasks.specs.Task.{TaskTree}
 use Rattle.rule_rows.specs.Trees.{StepTree}
-use Rattle.problems.specs.declared.names.NameEntry.{NameEntry}
+use Rattle.name_entries.specs.declared.names.NameEntry.{NameEntry}
 use Rattle.step_files.specs.Words.{lines_of}
 use Rattle.step_lines.specs.Steps.{Thing}
 use Rattle.step_files.specs.Lines.{Reading, nothing_read, thing_of, IsGood, after, AreRead, IsWrongLine, StepsOf}

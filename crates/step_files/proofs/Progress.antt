@@ -8,7 +8,7 @@ use Rattle.tasks.specs.Task.{TaskTree}
 use Rattle.rule_rows.specs.Trees.{StepTree}
 use Rattle.kernel.specs.Right.{AreRight, last_starts}
 use Rattle.kernel.proofs.Growth.{right_more}
-use Rattle.problems.specs.declared.names.NameEntry.{NameEntry}
+use Rattle.name_entries.specs.declared.names.NameEntry.{NameEntry}
 use Rattle.step_lines.specs.Steps.{Thing, TypeOf, PatternOf, ExpressionOf, StepOf}
 use Rattle.step_files.specs.Lines.{Reading, nothing_read, IsGood, LineIsRight, after, AreRead, IsWrongLine}
 use Rattle.step_files.specs.Reading.{MakesGood}

@@ -6,7 +6,7 @@ use Rattle.tasks.specs.Task.{TaskTree}
 use Rattle.rule_rows.specs.Trees.{StepTree}
 use Rattle.kernel.specs.Right.{IsRight, last_starts}
 use Rattle.kernel.specs.Open.{OpenIn}
-use Rattle.problems.specs.declared.names.NameEntry.{NameEntry}
+use Rattle.name_entries.specs.declared.names.NameEntry.{NameEntry}
 use Rattle.tree_lines.specs.Lines.{Earlier}
 use Rattle.step_lines.specs.Steps.{Thing, TypeOf, PatternOf, ExpressionOf, StepOf, line_made}
 use Rattle.step_files.specs.Words.{lines_of, words_of}

@@ -6,7 +6,7 @@ use Rattle.binders.specs.Visits.{HoldTypes}
 use Rattle.tasks.specs.Task.{TaskTree}
 use Rattle.tasks.specs.Meaning.{trees_at}
 use Rattle.rule_rows.specs.Meaning.{steps_at, StepsHeld}
-use Rattle.problems.specs.declared.names.NameEntry.{NameEntry}
+use Rattle.name_entries.specs.declared.names.NameEntry.{NameEntry}
 use Rattle.step_lines.specs.declared.thing.MadeThing.{MadeThing}
 use Rattle.step_lines.specs.declared.thing.MadeThing.TheVariants as made
 use Rattle.step_lines.specs.Steps.{Thing}

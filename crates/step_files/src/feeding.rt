@@ -12,7 +12,7 @@ ghost use Rattle.step_files.specs.declared.fault.ReadFault.TheVariants.{Memory};
 
 use crate::fault::ReadFault;
 use crate::reader::read_whole;
-use problems::NameEntry;
+use name_entries::NameEntry;
 use rule_rows::Step;
 use std::alloc::Global;
 use std::marker::Model;

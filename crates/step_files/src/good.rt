@@ -21,7 +21,7 @@ use crate::marks::{are_marked, has_mark, is_open};
 use crate::read::Read;
 use crate::words::split;
 use kernel::{right_step, right_typed_step};
-use problems::NameEntry;
+use name_entries::NameEntry;
 use rule_rows::{Rule, Step};
 use std::alloc::{AllocError, Global};
 use step_lines::{MadeThing, made_by_line};
@@ -210,7 +210,8 @@ fn line_thing(
     requires task { TaskHeld store.old task.now }
     requires names { IsNamesOf names.now table.now }
     requires read { ReadHeld store.old read.now }
-    ensures made { IfOk result (IsMadeThing store.new (thing_of (task_at store.old task.now) table.now
+    ensures made { IfOk result (IsMadeThing store.new
+        (thing_of (task_at store.old task.now) table.now
         (reading_at store.old read.now).earlier line.now)) }
     ensures grows { Grows store.old store.new }
 {

@@ -15,7 +15,7 @@ use crate::good::right_thing;
 use crate::read::{Read, into_steps, keep};
 use crate::words::lines;
 use kernel::ends_in_start;
-use problems::NameEntry;
+use name_entries::NameEntry;
 use rule_rows::Step;
 use std::alloc::{AllocError, Global};
 use tasks::{Index, Task};

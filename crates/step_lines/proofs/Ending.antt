@@ -8,7 +8,7 @@ use Rattle.trees.specs.Node.{Grows}
 use Rattle.tasks.specs.Task.{TaskTree}
 use Rattle.tasks.specs.Meaning.{task_at}
 use Rattle.tasks.proofs.Growth.{task_later}
-use Rattle.problems.specs.declared.names.NameEntry.{NameEntry}
+use Rattle.name_entries.specs.declared.names.NameEntry.{NameEntry}
 use Rattle.rule_rows.specs.Trees.{RuleTree, StepTree}
 use Rattle.rule_words.specs.declared.argument.Argument.{Argument}
 use Rattle.rule_words.specs.declared.argument.ArgumentKind.{ArgumentKind}

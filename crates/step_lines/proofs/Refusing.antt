@@ -9,7 +9,7 @@ use Rattle.trees.specs.declared.TermId.{TermId}
 use Rattle.trees.specs.Tree.{Tree}
 use Rattle.trees.specs.Sorts.{WellSorted}
 use Rattle.tasks.specs.Task.{TaskTree}
-use Rattle.problems.specs.declared.names.NameEntry.{NameEntry}
+use Rattle.name_entries.specs.declared.names.NameEntry.{NameEntry}
 use Rattle.tree_lines.specs.Words.{Word, texts}
 use Rattle.tree_lines.specs.Lines.{Earlier, pattern_of_line, expression_of_line}
 use Rattle.tree_lines.specs.Made.{IsMade}

@@ -10,7 +10,7 @@ use Rattle.tasks.specs.Task.{TaskTree}
 use Rattle.tasks.specs.Meaning.{trees_at}
 use Rattle.rule_words.specs.declared.argument.Argument.{Argument}
 use Rattle.rule_words.specs.declared.argument.Argument.TheVariants as made
-use Rattle.problems.specs.declared.names.NameEntry.{NameEntry}
+use Rattle.name_entries.specs.declared.names.NameEntry.{NameEntry}
 use Rattle.rule_words.specs.declared.argument.ArgumentKind.{ArgumentKind}
 use Rattle.rule_words.specs.declared.argument.ArgumentKind.TheVariants as kind
 use Rattle.rule_words.specs.Arguments.{ArgumentTree, AType, argument_at, arguments_at, ArgumentHeld}

@@ -5,7 +5,7 @@ use Rattle.std.specs.Str.{bytes_eq}
 use Rattle.trees.specs.Tree.{Tree}
 use Rattle.tasks.specs.Task.{TaskTree}
 use Rattle.rule_rows.specs.Trees.{RuleTree, StepTree}
-use Rattle.problems.specs.declared.names.NameEntry.{NameEntry}
+use Rattle.name_entries.specs.declared.names.NameEntry.{NameEntry}
 use Rattle.integer_words.specs.Integers.{integer}
 use Rattle.rule_words.specs.declared.argument.ArgumentKind.{ArgumentKind}
 use Rattle.rule_words.specs.declared.argument.ArgumentKind.TheVariants as kind

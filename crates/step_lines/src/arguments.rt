@@ -13,7 +13,7 @@ ghost use Rattle.tree_lines.specs.Made.{KnownHeld, IsNamesOf, earlier_at};
 ghost use Rattle.step_lines.specs.Steps.{argument, arguments, next_kinds, types_named, own_types};
 
 use integer_words::integer;
-use problems::NameOf;
+use name_entries::NameOf;
 use rule_words::{Argument, ArgumentKind};
 use std::alloc::{AllocError, Global};
 use term_store::Store;

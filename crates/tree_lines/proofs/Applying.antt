@@ -14,8 +14,8 @@ use Rattle.binders.specs.Visits.{HoldTypes, trees_stay}
 use Rattle.tasks.specs.Task.{TaskTree, SymbolTree}
 use Rattle.tasks.specs.Meaning.{trees_at}
 use Rattle.tasks.proofs.Growth.{held_later, tree_later, all_held_later, trees_later}
-use Rattle.problems.specs.declared.names.NameOf.TheVariants.{Symbol}
-use Rattle.problems.specs.declared.names.NameEntry.{NameEntry}
+use Rattle.name_entries.specs.declared.names.NameOf.TheVariants.{Symbol}
+use Rattle.name_entries.specs.declared.names.NameEntry.{NameEntry}
 use Rattle.tree_lines.specs.Words.{Word, texts, each}
 use Rattle.tree_lines.specs.Named.{Meaning, cells}
 use Rattle.tree_lines.specs.Lines.{Earlier, SymbolUse, use_by, types_of, use_of, named_use, symbol_of}

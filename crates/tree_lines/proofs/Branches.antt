@@ -10,7 +10,7 @@ use Rattle.trees.specs.Node.{tree_at, node_tree, Holds, Grows}
 use Rattle.trees.specs.Sorts.{WellSorted}
 use Rattle.tasks.specs.Task.{TaskTree}
 use Rattle.tasks.specs.Meaning.{trees_at}
-use Rattle.problems.specs.declared.names.NameEntry.{NameEntry}
+use Rattle.name_entries.specs.declared.names.NameEntry.{NameEntry}
 use Rattle.tasks.proofs.Growth.{tree_later}
 use Rattle.tree_lines.specs.Words.{Word, texts, at_number, pairs}
 use Rattle.tree_lines.specs.Named.{cells}

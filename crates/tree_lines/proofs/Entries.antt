@@ -8,7 +8,7 @@ use Rattle.trees.specs.Tree.{Tree}
 use Rattle.trees.specs.Node.{tree_at, Grows}
 use Rattle.binders.specs.Visits.{HoldTypes, typing_stays_ready, trees_stay}
 use Rattle.tasks.specs.Meaning.{trees_at}
-use Rattle.problems.specs.declared.names.NameEntry.{NameEntry}
+use Rattle.name_entries.specs.declared.names.NameEntry.{NameEntry}
 use Rattle.tree_lines.specs.Words.{each}
 use Rattle.tree_lines.specs.Named.{type_at, entry_type}
 use Rattle.tree_lines.specs.Made.{IsType}

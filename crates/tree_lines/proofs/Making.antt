@@ -13,7 +13,7 @@ use Rattle.trees.specs.declared.Sort.TheVariants.{Kind}
 use Rattle.tasks.specs.Task.{TaskTree}
 use Rattle.tasks.specs.Meaning.{trees_at, task_at}
 use Rattle.tasks.proofs.Growth.{all_held_later, trees_later, task_held_later, task_later}
-use Rattle.problems.specs.declared.names.NameEntry.{NameEntry}
+use Rattle.name_entries.specs.declared.names.NameEntry.{NameEntry}
 use Rattle.tree_lines.specs.declared.known.Known.{Known}
 use Rattle.tree_lines.specs.Words.{Word, texts, number, at_number, each}
 use Rattle.tree_lines.specs.Named.{Meaning, meaning, type_at}

@@ -7,9 +7,9 @@ use Rattle.trees.specs.Binding.{inst_types}
 use Rattle.tasks.specs.declared.signature.SymbolKind.{SymbolKind}
 use Rattle.tasks.specs.declared.signature.SymbolKind.TheVariants.{Kind, Function, Predicate, Constructor, Projection}
 use Rattle.tasks.specs.Task.{TaskTree, SymbolTree}
-use Rattle.problems.specs.declared.names.NameOf.{NameOf}
-use Rattle.problems.specs.declared.names.NameOf.TheVariants.{Int, Rigid, Symbol}
-use Rattle.problems.specs.declared.names.NameEntry.{NameEntry}
+use Rattle.name_entries.specs.declared.names.NameOf.{NameOf}
+use Rattle.name_entries.specs.declared.names.NameOf.TheVariants.{Int, Rigid, Symbol}
+use Rattle.name_entries.specs.declared.names.NameEntry.{NameEntry}
 use Rattle.integer_words.specs.Integers.{integer}
 use Rattle.word_tables.specs.Words.{place_of}
 use Rattle.tree_lines.specs.declared.kinds.NodeWord.{NodeWord}

@@ -10,7 +10,7 @@ use Rattle.trees.specs.Node.{tree_at, Holds}
 use Rattle.trees.specs.Sorts.{WellSorted, sort_of}
 use Rattle.binders.specs.Visits.{HoldTypes}
 use Rattle.tasks.specs.Meaning.{trees_at, symbol_at, TaskHeld}
-use Rattle.problems.specs.declared.names.NameEntry.{NameEntry}
+use Rattle.name_entries.specs.declared.names.NameEntry.{NameEntry}
 use Rattle.tree_lines.specs.declared.names.Names.{Names}
 use Rattle.tree_lines.specs.declared.names.Named.{Named}
 use Rattle.tree_lines.specs.declared.known.Known.{Known}

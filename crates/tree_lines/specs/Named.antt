@@ -3,9 +3,9 @@ use Rattle.std.specs.Prelude.{ℕ, zero, suc, if◌then◌else◌, List, [], ◌
 use Rattle.std.specs.Option.{option_and_then, option_map}
 use Rattle.std.specs.Str.{bytes_eq}
 use Rattle.trees.specs.Tree.{Tree, Leaf, One, Two, HEnd, HCell, HTyApp, HTyRigid}
-use Rattle.problems.specs.declared.names.NameOf.{NameOf}
-use Rattle.problems.specs.declared.names.NameOf.TheVariants.{Int, Rigid, Symbol}
-use Rattle.problems.specs.declared.names.NameEntry.{NameEntry}
+use Rattle.name_entries.specs.declared.names.NameOf.{NameOf}
+use Rattle.name_entries.specs.declared.names.NameOf.TheVariants.{Int, Rigid, Symbol}
+use Rattle.name_entries.specs.declared.names.NameEntry.{NameEntry}
 use Rattle.tree_lines.specs.Words.{each}
 
 -- the list of these trees

@@ -8,7 +8,7 @@ ghost use Rattle.tree_lines.specs.Words.{at_number, each, pairs, texts};
 
 use crate::names::Names;
 use crate::words::number_of_word;
-use problems::NameEntry;
+use name_entries::NameEntry;
 use std::alloc::{AllocError, Global};
 use tasks::Task;
 use term_store::Store;

@@ -6,12 +6,12 @@ ghost use Rattle.trees.specs.Tree.{One, HTyApp};
 ghost use Rattle.trees.specs.Node.{tree_at, Grows};
 ghost use Rattle.binders.specs.Visits.{HoldTypes};
 ghost use Rattle.tasks.specs.Meaning.{trees_at};
-ghost use Rattle.problems.specs.declared.names.NameOf.TheVariants.{Rigid};
+ghost use Rattle.name_entries.specs.declared.names.NameOf.TheVariants.{Rigid};
 ghost use Rattle.tree_lines.specs.Named.{cells, entry_type, entry_types, entry_named, meaning, type_at};
 ghost use Rattle.tree_lines.specs.Made.{IsNamesOf, IsType, meaning_at};
 
 use crate::nodes::type_list;
-use problems::{NameEntry, NameOf};
+use name_entries::{NameEntry, NameOf};
 use std::alloc::{AllocError, Global};
 use std::collections::HashMap;
 use term_store::{Grow, Store};

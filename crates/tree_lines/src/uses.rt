@@ -15,7 +15,7 @@ use crate::known::{Known, things_at};
 use crate::names::{Named, meaning_of};
 use crate::nodes::{add_node, cell_list, type_list};
 use binders::inst_types;
-use problems::NameOf;
+use name_entries::NameOf;
 use std::alloc::{AllocError, Global};
 use tasks::{SymbolInfo, SymbolKind};
 use term_store::Store;

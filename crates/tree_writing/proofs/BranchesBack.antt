@@ -12,7 +12,7 @@ use Rattle.trees.specs.declared.Sort.{Sort}
 use Rattle.trees.specs.declared.Sort.TheVariants.{Branch, Term}
 use Rattle.trees.specs.Sorts.{leaf_sort, one_sort, two_sort, three_sort, yield, WellSorted, IsList, sort_of}
 use Rattle.tasks.specs.Typing.{members}
-use Rattle.problems.specs.declared.names.NameEntry.{NameEntry}
+use Rattle.name_entries.specs.declared.names.NameEntry.{NameEntry}
 use Rattle.tree_lines.specs.Named.{cells}
 use Rattle.tree_lines.specs.Lines.{arm_list, match_tree, expression_of_line}
 use Rattle.tree_writing.specs.Referring.{AreLines, Refers, PushesNumbers}

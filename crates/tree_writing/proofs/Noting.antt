@@ -8,9 +8,9 @@ use Rattle.trees.specs.declared.TermId.{TermId}
 use Rattle.trees.specs.Tree.{Tree, Leaf, HEnd}
 use Rattle.trees.specs.Node.{tree_at, Holds, Grows}
 use Rattle.tasks.proofs.Growth.{held_later, tree_later}
-use Rattle.problems.specs.declared.names.NameOf.{NameOf}
-use Rattle.problems.specs.declared.names.NameOf.TheVariants.{Int, Rigid, Symbol}
-use Rattle.problems.specs.declared.names.NameEntry.{NameEntry}
+use Rattle.name_entries.specs.declared.names.NameOf.{NameOf}
+use Rattle.name_entries.specs.declared.names.NameOf.TheVariants.{Int, Rigid, Symbol}
+use Rattle.name_entries.specs.declared.names.NameEntry.{NameEntry}
 use Rattle.tree_lines.specs.Named.{Meaning, meaning, meaning_by, entry_meaning, entry_named, cells}
 use Rattle.tree_writing.specs.declared.spelling.Spelling.{Spelling}
 use Rattle.tree_writing.specs.Spelt.{Key, key_of, same_key, IsNoted, IsReached, AreNoted, IsSpelt, Spells}

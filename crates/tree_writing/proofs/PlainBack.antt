@@ -12,7 +12,7 @@ use Rattle.trees.specs.Node.{node_tree}
 use Rattle.trees.specs.Tree.{Tree, Leaf, One, Two, Three, HNum, HTrue, HFalse, HBound, HParam, HNot, HJoin, HForall, HExists, HLet, HEq, HIf}
 use Rattle.trees.specs.Sorts.{sort_of, IsExpression}
 use Rattle.tasks.specs.Task.{TaskTree}
-use Rattle.problems.specs.declared.names.NameEntry.{NameEntry}
+use Rattle.name_entries.specs.declared.names.NameEntry.{NameEntry}
 use Rattle.tree_lines.specs.Words.{Word, number, each, at_number, two, three}
 use Rattle.tree_lines.specs.Lines.{Earlier, expression_of_line}
 use Rattle.tree_writing.specs.Referring.{AreLines, Refers, PushesNumbers, trees_of_sort}

@@ -10,10 +10,10 @@ use Rattle.trees.specs.Sorts.{WellSorted, IsList}
 use Rattle.trees.specs.Node.{node_tree}
 use Rattle.tasks.specs.Task.{TaskTree}
 use Rattle.tasks.specs.Typing.{members}
-use Rattle.problems.specs.declared.names.NameOf.{NameOf}
-use Rattle.problems.specs.declared.names.NameEntry.{NameEntry}
+use Rattle.name_entries.specs.declared.names.NameOf.{NameOf}
+use Rattle.name_entries.specs.declared.names.NameEntry.{NameEntry}
 use Rattle.tree_lines.specs.Words.{Word, number, each, at_number}
-use Rattle.problems.specs.declared.names.NameOf.TheVariants.{Rigid}
+use Rattle.name_entries.specs.declared.names.NameOf.TheVariants.{Rigid}
 use Rattle.tree_lines.specs.Named.{meaning_by, type_at, cells}
 use Rattle.tree_lines.specs.Lines.{Earlier, types_of, type_of_line}
 use Rattle.tree_writing.specs.Spelt.{Spells, IsSpelt, types_under}

@@ -7,7 +7,7 @@ use Rattle.trees.specs.declared.Sort.TheVariants as sort
 use Rattle.trees.specs.Tree.{Tree, Leaf, One, Two, Three, Head, head_of, HEnd, HTyVar, HTyRigid, HTyApp, HCell, HBound, HParam, HNum, HFun, HPred, HEq, HTrue, HFalse, HNot, HJoin, HForall, HExists, HLet, HIf, HCase, HArm, HPatAny, HPatVar, HPatCon, HPatAlias}
 use Rattle.trees.specs.Sorts.{top_sort, yield, sort_of, WellSorted, IsList, IsExpression}
 use Rattle.tasks.specs.Typing.{members}
-use Rattle.problems.specs.declared.names.NameEntry.{NameEntry}
+use Rattle.name_entries.specs.declared.names.NameEntry.{NameEntry}
 use Rattle.tree_writing.specs.declared.writer.LineKind.{LineKind}
 use Rattle.tree_writing.specs.declared.writer.LineKind.TheVariants as kind
 use Rattle.tree_writing.specs.Referring.{HasLine}

@@ -14,8 +14,8 @@ use Rattle.tasks.specs.declared.signature.SymbolKind.{SymbolKind}
 use Rattle.tasks.specs.declared.signature.SymbolKind.TheVariants as kind
 use Rattle.tasks.specs.Task.{TaskTree, SymbolTree}
 use Rattle.tasks.specs.Typing.{members, MakesTerms, Gives}
-use Rattle.problems.specs.declared.names.NameOf.TheVariants.{Symbol}
-use Rattle.problems.specs.declared.names.NameEntry.{NameEntry}
+use Rattle.name_entries.specs.declared.names.NameOf.TheVariants.{Symbol}
+use Rattle.name_entries.specs.declared.names.NameEntry.{NameEntry}
 use Rattle.tree_lines.specs.Words.{Word, each, at_number}
 use Rattle.tree_lines.specs.Named.{cells, meaning, meaning_by}
 use Rattle.tree_lines.specs.Lines.{Earlier, use_by, use_of, used_on, named_use, types_of, pattern_of_line, expression_of_line, applied, applied_as, term_of, matched, use_trees}

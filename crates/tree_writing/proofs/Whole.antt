@@ -13,11 +13,11 @@ use Rattle.trees.specs.Node.{tree_at}
 use Rattle.trees.specs.Sorts.{sort_of}
 use Rattle.tasks.specs.Task.{TaskTree}
 use Rattle.tasks.specs.Meaning.{trees_at}
-use Rattle.problems.specs.declared.names.NameEntry.{NameEntry}
+use Rattle.name_entries.specs.declared.names.NameEntry.{NameEntry}
 use Rattle.tree_lines.specs.Words.{Word}
 use Rattle.tree_lines.specs.Lines.{Earlier}
 use Rattle.tree_lines.specs.Named.{cells}
-use Rattle.problems.specs.declared.names.NameOf.{NameOf}
+use Rattle.name_entries.specs.declared.names.NameOf.{NameOf}
 use Rattle.tree_writing.specs.declared.spelling.Spelling.{Spelling}
 use Rattle.tree_writing.specs.Spelt.{IsSpelt, Spells}
 use Rattle.tree_writing.specs.Referring.{words_of}

@@ -5,7 +5,7 @@ use Rattle.trees.specs.declared.Op.TheVariants.{And, AndThen, Or, OrElse, Imp, I
 use Rattle.trees.specs.Tree.{Tree, Leaf, One, Two, Three, Head, HNum, HTrue, HFalse, HBound, HParam, HNot, HEq, HJoin, HForall, HExists, HLet, HIf}
 use Rattle.trees.specs.Sorts.{sort_of}
 use Rattle.tasks.specs.Task.{TaskTree}
-use Rattle.problems.specs.declared.names.NameEntry.{NameEntry}
+use Rattle.name_entries.specs.declared.names.NameEntry.{NameEntry}
 use Rattle.integer_words.specs.Integers.{integer}
 use Rattle.tree_lines.specs.Words.{Word, number, at_number}
 use Rattle.tree_lines.specs.Lines.{Earlier, expression_of_line}

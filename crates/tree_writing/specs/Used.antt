@@ -7,8 +7,8 @@ use Rattle.trees.specs.Sorts.{IsList}
 use Rattle.tasks.specs.declared.signature.SymbolKind.TheVariants.{Predicate}
 use Rattle.tasks.specs.Task.{TaskTree}
 use Rattle.tasks.specs.Typing.{members, MakesTerms, Gives}
-use Rattle.problems.specs.declared.names.NameOf.TheVariants.{Symbol}
-use Rattle.problems.specs.declared.names.NameEntry.{NameEntry}
+use Rattle.name_entries.specs.declared.names.NameOf.TheVariants.{Symbol}
+use Rattle.name_entries.specs.declared.names.NameEntry.{NameEntry}
 use Rattle.tree_lines.specs.Words.{Word, number, each}
 use Rattle.tree_lines.specs.Lines.{Earlier, pattern_of_line, expression_of_line}
 use Rattle.tree_writing.specs.Spelt.{Spells, IsSpelt}

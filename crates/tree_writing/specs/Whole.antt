@@ -7,8 +7,8 @@ use Rattle.trees.specs.Sorts.{sort_of}
 use Rattle.tasks.specs.Task.{TaskTree}
 use Rattle.tasks.specs.Typing.{members}
 use Rattle.tasks.specs.Meaning.{trees_at}
-use Rattle.problems.specs.declared.names.NameOf.TheVariants.{Rigid, Symbol}
-use Rattle.problems.specs.declared.names.NameEntry.{NameEntry}
+use Rattle.name_entries.specs.declared.names.NameOf.TheVariants.{Rigid, Symbol}
+use Rattle.name_entries.specs.declared.names.NameEntry.{NameEntry}
 use Rattle.tree_lines.specs.Words.{Word}
 use Rattle.tree_lines.specs.Lines.{Earlier, type_of_line, pattern_of_line, expression_of_line}
 use Rattle.tree_writing.specs.declared.writer.LineKind.{LineKind}

@@ -14,7 +14,7 @@ ghost use Rattle.tree_writing.specs.Naming.{types_after, PushesSymbol, type_name
 
 use crate::referring::{list_numbers, push_numbers};
 use crate::spelling::SymbolNames;
-use problems::{NameEntry, NameOf};
+use name_entries::{NameEntry, NameOf};
 use std::alloc::{AllocError, Global};
 use term_store::Store;
 use trees::{Node, TermId};

@@ -10,7 +10,7 @@ ghost use Rattle.tree_lines.specs.Named.{cells};
 ghost use Rattle.tree_lines.specs.Made.{IsNamesOf};
 ghost use Rattle.tree_writing.specs.Spelt.{Spells, IsSpelt, key_of, AreNoted, AreNamesOf};
 
-use problems::{NameEntry, NameOf};
+use name_entries::{NameEntry, NameOf};
 use std::alloc::{AllocError, Global};
 use std::collections::HashMap;
 use term_store::{Grow, Store};

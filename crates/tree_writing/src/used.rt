@@ -5,7 +5,7 @@ ghost use Rattle.trees.specs.Node.{tree_at, Holds};
 ghost use Rattle.trees.specs.Sorts.{IsList};
 ghost use Rattle.trees.specs.declared.Sort.TheVariants.{Kind};
 ghost use Rattle.tasks.specs.Typing.{members};
-ghost use Rattle.problems.specs.declared.names.NameOf.TheVariants.{Symbol};
+ghost use Rattle.name_entries.specs.declared.names.NameOf.TheVariants.{Symbol};
 ghost use Rattle.tree_writing.specs.Spelt.{IsSpelt};
 ghost use Rattle.tree_writing.specs.Referring.{words_of, HasLine};
 ghost use Rattle.tree_writing.specs.Naming.{SourceHeld};
@@ -14,7 +14,7 @@ ghost use Rattle.tree_writing.specs.Used.{PushesParts, AreUseWords, IsNamed, Nod
 use crate::naming::{Source, push_symbol};
 use crate::plain::one_word;
 use crate::referring::{list_numbers, push_numbers};
-use problems::NameOf;
+use name_entries::NameOf;
 use std::alloc::{AllocError, Global};
 use trees::{Node, TermId};
 

@@ -16,7 +16,7 @@ use crate::marking::marked;
 use crate::naming::{Source, table_symbol, type_words};
 use crate::spelling::SymbolNames;
 use crate::used::pattern_words;
-use problems::{NameEntry, NameOf};
+use name_entries::{NameEntry, NameOf};
 use std::alloc::{AllocError, Global};
 use term_store::Store;
 use trees::{Node, Sort, TermId};

@@ -1,8 +1,8 @@
 // Names of symbols, whole and at types, and symbols that have none.
 // It depends on tree_writing; nothing depends on it.
 
+use name_entries::{NameEntry, NameOf};
 use outside::{Seq, Text};
-use problems::{NameEntry, NameOf};
 use std::alloc::Global;
 use std::process::Abort;
 use term_store::{Grow, Store};

@@ -3,7 +3,7 @@ use Rattle.std.proofs.Common.{◌≡◌, ◌≤◌, ◌^◌, List, length, None,
 use Rattle.trees.specs.Tree.{Tree}
 use Rattle.tasks.specs.Task.{TaskTree}
 use Rattle.tasks.specs.Valid.{IsValid}
-use Rattle.problems.specs.declared.names.NameEntry.{NameEntry}
+use Rattle.name_entries.specs.declared.names.NameEntry.{NameEntry}
 use Rattle.rule_rows.specs.Trees.{StepTree}
 use Rattle.kernel.specs.Right.{AreRight}
 use Rattle.name_tables.specs.Tables.{task_names, NamesDiffer}

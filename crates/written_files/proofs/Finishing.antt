@@ -3,7 +3,7 @@ use Rattle.std.proofs.Common.{◌≡◌, ℕ, List, ◌++◌, get_or, All, inl, 
 use Rattle.std.specs.Prelude.{flat_map}
 use Rattle.trees.specs.Tree.{Tree}
 use Rattle.trees.specs.Sorts.{sort_of, IsExpression}
-use Rattle.problems.specs.declared.names.NameEntry.{NameEntry}
+use Rattle.name_entries.specs.declared.names.NameEntry.{NameEntry}
 use Rattle.rule_rows.specs.declared.rule.Step.{Step}
 use Rattle.rule_rows.specs.Trees.{StepTree, types_of}
 use Rattle.rule_rows.specs.Meaning.{steps_at}

@@ -11,7 +11,7 @@ use Rattle.std.proofs.lemmas.List.{take-append-drop}
 use Rattle.trees.specs.Tree.{Tree, Leaf, Three, HNum, HTrue, HFalse, HIf}
 use Rattle.tasks.specs.Task.{TaskTree, SymbolTree}
 use Rattle.rule_rows.specs.Trees.{RuleTree, StepTree}
-use Rattle.problems.specs.declared.names.NameEntry.{NameEntry}
+use Rattle.name_entries.specs.declared.names.NameEntry.{NameEntry}
 use Rattle.integer_words.specs.Integers.{number_from, number_below, negative, integer}
 use Rattle.word_tables.specs.Words.{same, place_of}
 use Rattle.rule_words.specs.declared.argument.ArgumentKind.{ArgumentKind}

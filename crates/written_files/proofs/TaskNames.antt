@@ -25,9 +25,9 @@ use Rattle.tasks.specs.Inversion.{inversion}
 use Rattle.rule_rows.specs.Rows.{Row, Adds, AtTypes, equation, clauses}
 use Rattle.kernel.specs.Right.{IsRight, AreRight}
 use Rattle.kernel.specs.Open.{OpenIn}
-use Rattle.problems.specs.declared.names.NameOf.{NameOf}
-use Rattle.problems.specs.declared.names.NameOf.TheVariants.{Int, Rigid, Symbol}
-use Rattle.problems.specs.declared.names.NameEntry.{NameEntry}
+use Rattle.name_entries.specs.declared.names.NameOf.{NameOf}
+use Rattle.name_entries.specs.declared.names.NameOf.TheVariants.{Int, Rigid, Symbol}
+use Rattle.name_entries.specs.declared.names.NameEntry.{NameEntry}
 use Rattle.tree_lines.specs.Named.{meaning_by, entry_meaning, entry_named, entry_type}
 use Rattle.tree_lines.specs.Words.{each}
 use Rattle.name_tables.specs.Occurrences.{Occurrence, whole}

@@ -13,7 +13,7 @@ use Rattle.rule_rows.specs.declared.rule.Step.{Step}
 use Rattle.rule_rows.specs.Trees.{StepTree, no_step, step_or}
 use Rattle.rule_rows.specs.Meaning.{step_at, steps_at}
 use Rattle.kernel.specs.Right.{last_starts}
-use Rattle.problems.specs.declared.names.NameEntry.{NameEntry}
+use Rattle.name_entries.specs.declared.names.NameEntry.{NameEntry}
 use Rattle.tree_lines.specs.Words.{Word}
 use Rattle.tree_lines.specs.Lines.{Earlier}
 use Rattle.step_lines.specs.Steps.{Thing, TypeOf, PatternOf, ExpressionOf, StepOf, line_made}

@@ -7,8 +7,8 @@ use Rattle.trees.specs.declared.Sort.TheVariants.{Kind}
 use Rattle.tasks.specs.Task.{TaskTree, SymbolTree}
 use Rattle.rule_words.specs.Arguments.{ArgumentTree, AExpression, AType}
 use Rattle.rule_rows.specs.Trees.{RuleTree, RForall, RNotExists, RCut, RRefl, RReplace, RLetDef, RIfDef, RMatchDef, RDef, RClause, RInv, RCase, RProject, RTrichotomy, RBound, StepTree, types_of}
-use Rattle.problems.specs.declared.names.NameOf.TheVariants.{Symbol}
-use Rattle.problems.specs.declared.names.NameEntry.{NameEntry}
+use Rattle.name_entries.specs.declared.names.NameOf.TheVariants.{Symbol}
+use Rattle.name_entries.specs.declared.names.NameEntry.{NameEntry}
 use Rattle.tree_writing.specs.Spelt.{IsSpelt}
 use Rattle.tree_writing.specs.Parts.{IsPart}
 use Rattle.tree_writing.specs.Whole.{TopNamed}

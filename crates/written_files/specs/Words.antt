@@ -5,8 +5,8 @@ use Rattle.trees.specs.Tree.{Tree}
 use Rattle.trees.specs.Node.{tree_at, Holds}
 use Rattle.trees.specs.Sorts.{sort_of, IsExpression}
 use Rattle.tasks.specs.Task.{TaskTree}
-use Rattle.problems.specs.declared.names.NameOf.TheVariants.{Symbol}
-use Rattle.problems.specs.declared.names.NameEntry.{NameEntry}
+use Rattle.name_entries.specs.declared.names.NameOf.TheVariants.{Symbol}
+use Rattle.name_entries.specs.declared.names.NameEntry.{NameEntry}
 use Rattle.integer_words.specs.Integers.{integer}
 use Rattle.rule_rows.specs.declared.rule.Step.{Step}
 use Rattle.rule_rows.specs.Trees.{RuleTree, types_of, StepTree}

@@ -1,12 +1,12 @@
 // Whether the names of a table can be words of lines, and whether rules name symbols that have names.
 // They depend on names by symbols; the writer of files depends on them.
 ghost use Rattle.std.specs.Prelude.{◌≡◌, ◌↔◌, [], All, IsTrue, codes};
-ghost use Rattle.problems.specs.declared.names.NameOf.TheVariants.{Symbol};
+ghost use Rattle.name_entries.specs.declared.names.NameOf.TheVariants.{Symbol};
 ghost use Rattle.rule_rows.specs.Meaning.{rule_at, steps_at};
 ghost use Rattle.tree_writing.specs.Spelt.{IsSpelt, AreNamesOf};
 ghost use Rattle.written_files.specs.Named.{IsPlain, IsWord, IsName, AreWords, rule_symbols, SymbolsNamed};
 
-use problems::{NameEntry, NameOf};
+use name_entries::{NameEntry, NameOf};
 use rule_rows::{Rule, Step};
 use term_store::Store;
 use tree_writing::SymbolNames;

@@ -3,7 +3,7 @@
 ghost use Rattle.std.specs.Prelude.{◌≡◌, ◌++◌, ◌∷◌, [], All, IfOk, OnOk};
 ghost use Rattle.trees.specs.Node.{tree_at, Holds};
 ghost use Rattle.tasks.specs.Meaning.{trees_at};
-ghost use Rattle.problems.specs.declared.names.NameOf.TheVariants.{Symbol};
+ghost use Rattle.name_entries.specs.declared.names.NameOf.TheVariants.{Symbol};
 ghost use Rattle.rule_rows.specs.Meaning.{rule_at, step_at, RuleHeld, StepHeld};
 ghost use Rattle.rule_words.specs.Arguments.{ASymbol, argument_at, arguments_at};
 ghost use Rattle.tree_writing.specs.Spelt.{IsSpelt, AreNamesOf};
@@ -11,7 +11,7 @@ ghost use Rattle.tree_writing.specs.Referring.{words_of, HasLine};
 ghost use Rattle.written_files.specs.Words.{IsLineOf, IsReady, PushesReference, PushesArguments, PushesSequent, PushesRule, RuleReady, StepReady, StepBack};
 
 use integer_words::integer_word;
-use problems::{NameEntry, NameOf};
+use name_entries::{NameEntry, NameOf};
 use rule_rows::{Rule, Step};
 use rule_words::{Argument, word_of, written_rule};
 use std::alloc::{AllocError, Global};

@@ -1,13 +1,13 @@
-use Rattle.std.proofs.Common.{Ok, ap, arith, List, ℕ}
-use Rattle.tasks.specs.Task.{TaskTree}
-use Rattle.program.specs.Order.{Meaning, Answer}
-use Rattle.program.specs.Texts.{printed}
-use Rattle.program.proofs.Meeting.{answers_then, answers_value, ends}
+use Rattle.tasks.specs.Meaning.{task_at}
+use Rattle.fault_order.specs.Answers.{bytes_of}
+use Rattle.source_goals.specs.Order.{setting_of}
+use Rattle.program.specs.Order.{Printed}
+use Rattle.fault_order.proofs.Meeting.{answers_then, ends}
+use Rattle.fault_order.proofs.Stages.{answers_stage}
 use Rattle.program.proofs.print.print_goal.Goals as goal
 
--- what is left after the task
-abbrev printing : TaskTree → Meaning (List ℕ)
-printing t files limit = Answer (Ok (printed t))
-
 pub returns : goal.returns
-returns g c = ends (answers_then printing c.in_ok-task.ensures.answers (answers_value {next = λ _. 1} (omega arith) (λ files limit. ap (λ (z : List ℕ). Ok z) c.in_ok-text.ensures)))
+returns g c =
+    let f = c.in_ok-found.found in
+    let x = setting_of f.driver (task_at c.valid_setting.new.store f.task) in
+    ends (answers_then (λ g files limit. Printed g) c.in_ok-found.ensures.answers (answers_stage (Printed x) f.driver.next_file _ (bytes_of c.print_task.result) c.print_task.ensures))

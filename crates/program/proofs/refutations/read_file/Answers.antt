@@ -1,10 +1,10 @@
 use Rattle.std.proofs.Common.{◌+◌, List, ℕ, subst}
 use Rattle.tasks.specs.Meaning.{task_at}
-use Rattle.program.specs.Answers.{IsStageAnswer}
+use Rattle.fault_order.specs.Answers.{IsStageAnswer}
 use Rattle.program.specs.Order.{Refutes}
 use Rattle.program.specs.Values.{steps_in}
-use Rattle.program.proofs.Meeting.{answers_then}
-use Rattle.program.proofs.Checking.{answers_stage}
+use Rattle.fault_order.proofs.Meeting.{answers_then}
+use Rattle.fault_order.proofs.Stages.{answers_stage}
 use Rattle.program.proofs.refutations.read_file.Goals as goal
 
 pub returns-clause-answers : goal.returns-clause-answers
@@ -13,4 +13,4 @@ returns-clause-answers g c =
     let k = c.args.place + 1 in
     let r = steps_in c.read_refutation.new.store c.read_refutation.result in
     let read = subst (λ (bytes : List ℕ). IsStageAnswer (Refutes k t bytes) r) c.deref.ensures.value c.read_refutation.ensures.steps in
-    answers_then (λ bytes files limit. Refutes k t bytes) c.in_ok-bytes.ensures (answers_stage (Refutes k t c.in_ok-bytes.bytes.items) (c.args.place + 2 + 1) _ r read)
+    answers_then (λ bytes files limit. Refutes k t bytes) c.in_ok-bytes.ensures (answers_stage (Refutes k t c.in_ok-bytes.bytes.items) (c.args.place + c.args.first + 1) _ r read)

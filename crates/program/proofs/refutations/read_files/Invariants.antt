@@ -2,15 +2,15 @@ use Rattle.std.proofs.Common.{◌+◌, Ok, map, string_bytes}
 use Rattle.trees.specs.Node.{Grows}
 use Rattle.tasks.specs.Meaning.{tasks_at}
 use Rattle.evidence.specs.Stages.{parts_at, PartsHeld}
-use Rattle.program.specs.Lifted.{AreRefuted}
-use Rattle.program.specs.Answers.{Answers}
+use Rattle.fault_order.specs.Answers.{Answers}
 use Rattle.program.specs.Order.{FirstFiles}
+use Rattle.program.proofs.Files.{FirstClose}
 use Rattle.program.proofs.refutations.read_files.Given as goal
 
 abbrev pub invariant-loop-place : goal.invariant-loop-place
 invariant-loop-place g l = record {
-  answers : Answers (FirstFiles (tasks_at l.initial.store l.parts) (map string_bytes l.names) l.place) 2 (λ _. l.place + 2) (g.L.Library.state l.initial.lib) (g.L.Library.state l.lib) (Ok (parts_at l.store l.handed.items));
+  answers : Answers (FirstFiles l.first (tasks_at l.initial.store l.parts) (map string_bytes l.names) l.place) l.first (λ _. l.place + l.first) (g.L.Library.state l.initial.lib) (g.L.Library.state l.lib) (Ok (parts_at l.store l.handed.items));
   held : PartsHeld l.store l.handed.items;
-  refuted : AreRefuted (tasks_at l.initial.store l.parts) (parts_at l.store l.handed.items) l.place;
+  close : FirstClose (tasks_at l.initial.store l.parts) (parts_at l.store l.handed.items) l.place;
   grows : Grows l.initial.store l.store;
 }

@@ -4,7 +4,7 @@ use Rattle.std.specs.Option.{option_map}
 use Rattle.std.specs.HashMap.{get}
 use Rattle.trees.specs.declared.TermId.{TermId}
 use Rattle.tasks.specs.Meaning.{trees_at}
-use Rattle.problems.specs.declared.names.NameEntry.{NameEntry}
+use Rattle.name_entries.specs.declared.names.NameEntry.{NameEntry}
 use Rattle.tree_lines.specs.Named.{meaning, cells}
 use Rattle.tree_lines.specs.Made.{meaning_at}
 use Rattle.tree_writing.specs.Spelt.{Key, same_key}

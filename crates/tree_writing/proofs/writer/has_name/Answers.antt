@@ -3,8 +3,8 @@ use Rattle.trees.specs.Tree.{Tree}
 use Rattle.trees.specs.Node.{tree_at}
 use Rattle.trees.specs.Sorts.{WellSorted}
 use Rattle.tasks.specs.Typing.{members}
-use Rattle.problems.specs.declared.names.NameOf.{NameOf}
-use Rattle.problems.specs.declared.names.NameOf.TheVariants.{Rigid, Symbol}
+use Rattle.name_entries.specs.declared.names.NameOf.{NameOf}
+use Rattle.name_entries.specs.declared.names.NameOf.TheVariants.{Rigid, Symbol}
 use Rattle.tree_writing.specs.Spelt.{IsSpelt}
 use Rattle.tree_writing.specs.Whole.{TopNamed}
 use Rattle.tree_writing.proofs.Cells.{is_cells}

@@ -1,6 +1,6 @@
 use Rattle.std.proofs.Common.{[], All, IsTrue, sym, subst}
 use Rattle.trees.specs.Node.{tree_at}
-use Rattle.problems.specs.declared.names.NameOf.TheVariants.{Symbol}
+use Rattle.name_entries.specs.declared.names.NameOf.TheVariants.{Symbol}
 use Rattle.rule_rows.specs.declared.rule.Rule.{Rule}
 use Rattle.rule_rows.specs.Meaning.{rule_at}
 use Rattle.tree_writing.specs.Spelt.{IsSpelt}

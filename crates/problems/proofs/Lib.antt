@@ -1,3 +1,0 @@
-pub mod Marking
-pub mod Tables
-pub mod AllNames

@@ -1,0 +1,117 @@
+// The parts of a task: it is carried through the stages of the driver, and each part can be printed.
+// They depend on the stages and on the problems of parts; `print`, `names` and `lift` depend on them.
+ghost use Rattle.std.specs.Prelude.{◌≡◌, IfOk};
+ghost use Rattle.trees.specs.Node.{Grows};
+ghost use Rattle.tasks.specs.Meaning.{task_at, tasks_at, TaskHeld, TasksHeld};
+ghost use Rattle.tasks.specs.Valid.{IsValid};
+ghost use Rattle.part_texts.specs.Problems.{AreProblems};
+ghost use Rattle.fault_order.specs.Answers.{IsStageAnswer};
+ghost use Rattle.program.specs.Order.{Carried, Parts, Printable};
+ghost use Rattle.program.specs.Values.{carry_fault, part_fault, parts_in, setting_at, tasks_in};
+
+use driver_parts::Driver;
+use fault_order::{Fault, RunFault};
+use part_texts::{PartFault, problems_of};
+use printed_problems::Problem;
+use source_goals::GoalSetting;
+use stages::{CarryFault, carry, stages_of};
+use std::alloc::Global;
+use tasks::Task;
+use term_store::Store;
+
+/// The parts of a task, with their problems.
+#[derive(Drop)]
+pub struct PartProblems {
+    pub tasks: Vec<Task>,
+    pub problems: Vec<Problem>,
+}
+
+// Why there is no text, where a task isn't carried through.
+fn carry_fault(fault: CarryFault) -> RunFault
+    ensures { result ≡ carry_fault fault }
+{
+    match fault {
+        CarryFault::Memory => RunFault::Memory,
+        CarryFault::NotBuilt { stage } => RunFault::Refused(Fault::NotBuilt { stage }),
+        CarryFault::Misplaced { stage, decl } => {
+            RunFault::Refused(Fault::Misplaced { stage, decl })
+        }
+        CarryFault::TooLarge { stage } => RunFault::Refused(Fault::TooLarge { stage }),
+    }
+}
+
+// Why there is no text, where a part can't be printed.
+fn part_fault(fault: PartFault) -> RunFault
+    ensures { result ≡ part_fault fault }
+{
+    match fault {
+        PartFault::Memory => RunFault::Memory,
+        PartFault::Polymorphic { part, decl } => {
+            RunFault::Refused(Fault::Polymorphic { part, decl })
+        }
+        PartFault::Unprintable { part, decl } => {
+            RunFault::Refused(Fault::Unprintable { part, decl })
+        }
+        PartFault::NoSyntax { part, symbol } => {
+            RunFault::Refused(Fault::NoSyntax { part, symbol })
+        }
+    }
+}
+
+// The task carried through the stages of the driver.
+fn carried(alloc: Global, store: &mut Store, setting: &GoalSetting) -> Result<Vec<Task>, RunFault>
+    requires held { TaskHeld store.old setting.now.task }
+    requires valid { IsValid (task_at store.old setting.now.task) }
+    ensures carried { IsStageAnswer (Carried (setting_at store.old setting.now)) (tasks_in store.new
+        result) }
+    ensures held { IfOk result (λ ts. TasksHeld store.new ts.items) }
+    ensures grows { Grows store.old store.new }
+{
+    let stages = match stages_of(alloc, &setting.driver, &setting.task) {
+        Ok(stages) => stages,
+        Err(fault) => return Err(carry_fault(fault)),
+    };
+    match carry(alloc, store, &stages, &setting.task) {
+        Ok(tasks) => Ok(tasks),
+        Err(fault) => Err(carry_fault(fault)),
+    }
+}
+
+// The parts with their problems.
+fn with_problems(
+    alloc: Global,
+    store: &Store,
+    driver: &Driver,
+    tasks: Vec<Task>,
+) -> Result<PartProblems, RunFault>
+    requires held { TasksHeld store.now tasks.items }
+    ensures parts { IsStageAnswer (Printable driver.now (tasks_at store.now tasks.items))
+        (parts_in store.now result) }
+    ensures held { IfOk result (λ p. TasksHeld store.now p.tasks.items) }
+    ensures problems { IfOk result (λ p. AreProblems store.now driver.now (tasks_at store.now
+        p.tasks.items) p.problems.items) }
+{
+    match problems_of(alloc, store, driver, &tasks) {
+        Ok(problems) => Ok(PartProblems { tasks, problems }),
+        Err(fault) => Err(part_fault(fault)),
+    }
+}
+
+/// The parts of a goal's task under its driver, with their problems.
+pub fn find_parts(
+    alloc: Global,
+    store: &mut Store,
+    setting: &GoalSetting,
+) -> Result<PartProblems, RunFault>
+    requires held { TaskHeld store.old setting.now.task }
+    requires valid { IsValid (task_at store.old setting.now.task) }
+    ensures parts { IsStageAnswer (Parts (setting_at store.old setting.now)) (parts_in store.new
+        result) }
+    ensures held { IfOk result (λ p. TasksHeld store.new p.tasks.items) }
+    ensures problems { IfOk result (λ p. AreProblems store.new setting.now.driver
+        (tasks_at store.new p.tasks.items) p.problems.items) }
+    ensures grows { Grows store.old store.new }
+{
+    let tasks = carried(alloc, store, setting)?;
+    with_problems(alloc, store, &setting.driver, tasks)
+}

@@ -1,0 +1,34 @@
+// The task of a goal of a source, and the driver that it goes through. What the laws of sources say of the task is told here.
+// It depends on the goals of sources; the commands depend on it.
+ghost use Rattle.std.specs.Prelude.{IfOk};
+ghost use Rattle.tasks.specs.Meaning.{task_at, TaskHeld};
+ghost use Rattle.tasks.specs.Valid.{IsValid};
+ghost use Rattle.written_files.specs.Named.{NamesAreWords};
+ghost use Rattle.fault_order.specs.Answers.{Answers};
+ghost use Rattle.source_goals.specs.Order.{GoalUnder};
+ghost use Rattle.source_goals.specs.Values.{next_in, setting_in};
+
+use fault_order::RunFault;
+use outside::Library;
+use source_goals::{GoalSetting, find_setting};
+use std::alloc::Global;
+use term_store::Store;
+
+/// The task of a goal of the source, with the driver of a file.
+pub fn valid_setting<L: Library>(
+    alloc: Global,
+    lib: &mut L,
+    store: &mut Store,
+    src: &str,
+    drv: &str,
+    theory: &str,
+    goal: &str,
+) -> Result<GoalSetting, RunFault>
+    ensures answers { Answers (GoalUnder src.now drv.now theory.now goal.now) 0 next_in
+        (L.state lib.old) (L.state lib.new) (setting_in store.new result) }
+    ensures held { IfOk result (λ g. TaskHeld store.new g.task) }
+    ensures valid { IfOk result (λ g. IsValid (task_at store.new g.task)) }
+    ensures names { IfOk result (λ g. NamesAreWords (task_at store.new g.task)) }
+{
+    find_setting(alloc, lib, store, src, drv, theory, goal)
+}

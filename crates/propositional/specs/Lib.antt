@@ -1,5 +1,0 @@
-pub mod Fragment
-pub mod Theories
-pub mod Meaning
-pub mod Names
-pub mod Readers

@@ -1,0 +1,18 @@
+//! Runs the whole program over the files of each line, and prints the code of the status and what both sinks gained.
+//! It depends on the program; its input and output are by `tools/run-rows`.
+#![tactic(auto)]
+
+mod answers;
+mod row;
+
+use answers::describe;
+use std::io;
+
+fn main(rt: HostRuntime) -> io::Result<()> {
+    let alloc = rt.alloc();
+    for line in rt.lines(alloc) {
+        let text = describe(alloc, line?.as_str())?;
+        println!(rt; "{text}")?;
+    }
+    Ok(())
+}
