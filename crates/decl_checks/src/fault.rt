@@ -3,7 +3,7 @@
 use std::alloc::AllocError;
 
 /// What is wrong with a declaration, or want of memory.
-#[derive(Clone, Copy, Debug, PartialEq, Eq)]
+#[derive(Clone, Copy)]
 pub enum CheckFault {
     Memory,
     /// The form or the type variables of a clause of an inductive predicate, counted from 0 through its group.

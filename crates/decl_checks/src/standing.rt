@@ -172,7 +172,7 @@ fn parameter_at(count: usize, place: usize, index: usize) -> Standing
 }
 
 // How what is inside something stands, or (false) the thing itself.
-fn through(inside: bool, standing: Standing) -> Standing
+fn standing_through(inside: bool, standing: Standing) -> Standing
     ensures { result ≡ through inside standing }
 {
     if !inside {
@@ -204,7 +204,7 @@ fn standing_at(store: &Store, sig: &Signature, known: &Known<'_>, index: usize) 
             store, sig, false, *e, *pattern, index,
         ) {
             BoundTo::Found(inside, t) => match bound_index(store, t) {
-                Some(up) => through(inside, standing_at(store, sig, outer, up)),
+                Some(up) => standing_through(inside, standing_at(store, sig, outer, up)),
                 None => Standing::Other,
             },
             BoundTo::Past(left) => standing_at(store, sig, outer, left),

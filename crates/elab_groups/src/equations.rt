@@ -38,7 +38,7 @@ fn parameters_list(store: &mut Store, args: &[TermId]) -> Result<TermId, AllocEr
 }
 
 // A formula under a quantifier for each of these types, the first outermost.
-fn quantified(store: &mut Store, args: &[TermId], formula: TermId) -> Result<TermId, AllocError>
+fn quantify_formula(store: &mut Store, args: &[TermId], formula: TermId) -> Result<TermId, AllocError>
     requires args { All (HoldsType store.old) args.now }
     requires formula { Holds store.old formula }
     requires sort { sort_of (tree_at store.old formula) ≡ Formula }
@@ -51,13 +51,13 @@ fn quantified(store: &mut Store, args: &[TermId], formula: TermId) -> Result<Ter
     let Some((first, rest)) = args.split_first() else {
         return Ok(formula);
     };
-    let inner = quantified(store, rest, formula)?;
+    let inner = quantify_formula(store, rest, formula)?;
     store.add(Node::Forall(*first, inner))
 }
 
 // The symbol of a number at its own type variables and its parameters, with its body: an equation, or for a predicate an
 // equivalence.
-fn equated(
+fn symbol_equation(
     alloc: Global,
     store: &mut Store,
     number: usize,
@@ -104,8 +104,8 @@ fn equation(
         (signed_at store.old signed.now).result (tree_at store.old body))) }
     ensures grows { Grows store.old store.new }
 {
-    let formula = equated(alloc, store, number, signed, body)?;
-    quantified(store, signed.args.as_slice(), formula)
+    let formula = symbol_equation(alloc, store, number, signed, body)?;
+    quantify_formula(store, signed.args.as_slice(), formula)
 }
 
 /// The equations of members with their bodies, the first of which has a number, behind those that are there.

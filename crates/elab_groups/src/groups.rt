@@ -21,8 +21,7 @@ use elab_members::{
 };
 use elab_names::{World, own_name};
 use elab_parts::{
-    ElabFault, Elaborated, Place, TypingFault, joined, naming_fault, tuple_names, typing_fault,
-    world_over,
+    ElabFault, Elaborated, Place, TypingFault, join_words, naming_fault, typing_fault, world_over,
 };
 use elab_variables::Seen;
 use names_space::Scope;
@@ -88,7 +87,7 @@ fn group_decls(
     let own = own_name(alloc, first.name.style, first.name.text.as_slice())?;
     decls.push(Decl {
         theory: Text::from_slice(alloc, place.theory)?,
-        name: joined(alloc, place.within, own.as_slice())?,
+        name: join_words(alloc, place.within, own.as_slice())?,
         vars: one.vars.len(),
         body,
     })?;
@@ -162,8 +161,7 @@ pub fn elaborate_group(
     let mut before = Vec::new(alloc);
     match declare_members(alloc, scope, &mut before, members, entered.number) {
         Ok(()) => {
-            let tuples = tuple_names(alloc, sig.symbols.as_slice())?;
-            let world = world_over(sig, scope, tuples.as_slice(), &[], true);
+            let world = world_over(sig, scope, &[], true);
             match check_members(alloc, &world, members) {
                 Ok(()) => match type_group(alloc, store, &world, place, members, &entered) {
                     Ok(made) => Ok(made),

@@ -18,7 +18,7 @@ use crate::bodies::walk_bodies;
 use elab_members::{MemberSource, Signed};
 use elab_names::World;
 use elab_parts::{TypingFault, put_matches, put_trees, solve_draft};
-use elab_walk::{Draft, MatchAt, start};
+use elab_walk::{Draft, MatchAt, start_draft};
 use outside::Seq;
 use std::alloc::Global;
 use term_store::Store;
@@ -111,7 +111,7 @@ pub fn solve_group(
     ensures grows { Grows store.old store.new }
 {
     let rigid = most_variables(signed);
-    let mut draft = start(alloc, rigid)?;
+    let mut draft = start_draft(alloc, rigid)?;
     let mut ids = Vec::new(alloc);
     walk_bodies(alloc, store, &mut draft, world, &mut ids, members, signed)?;
     solve_bodies(alloc, store, rigid, &draft, ids.as_slice())

@@ -20,8 +20,7 @@ use elab_groups::solve_group;
 use elab_members::{Signatures, push_group, signature_seen};
 use elab_names::{World, own_name};
 use elab_parts::{
-    ElabFault, Elaborated, Place, TypingFault, joined, naming_fault, tuple_names, typing_fault,
-    world_over,
+    ElabFault, Elaborated, Place, TypingFault, join_words, naming_fault, typing_fault, world_over,
 };
 use elab_variables::Seen;
 use names_space::Scope;
@@ -59,7 +58,7 @@ fn inductive_decls(
     let own = own_name(alloc, first.name.style, first.name.text.as_slice())?;
     decls.push(Decl {
         theory: Text::from_slice(alloc, place.theory)?,
-        name: joined(alloc, place.within, own.as_slice())?,
+        name: join_words(alloc, place.within, own.as_slice())?,
         vars: vars.len(),
         body: Body::Inductives(list),
     })?;
@@ -155,8 +154,7 @@ pub fn elaborate_inductives(
     let number = entered.number;
     match declare_group(alloc, scope, inductives, number, place.decl) {
         Ok(()) => {
-            let tuples = tuple_names(alloc, sig.symbols.as_slice())?;
-            let world = world_over(sig, scope, tuples.as_slice(), &[], true);
+            let world = world_over(sig, scope, &[], true);
             match check_inductives(alloc, &world, inductives) {
                 Ok(()) => match type_inductives(alloc, store, &world, place, inductives, number) {
                     Ok(made) => Ok(made),

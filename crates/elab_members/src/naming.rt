@@ -13,7 +13,7 @@ ghost use Rattle.elab_members.specs.Sources.{parameters_of, member_at, members_a
 use crate::params::{check_params, gather_params, signature_seen};
 use crate::sources::MemberSource;
 use elab_names::{Names, NamingFault, World, check, check_form, own_name, variable_named};
-use elab_parts::{declare, repeated};
+use elab_parts::{declare, find_repeated};
 use names_space::{Scope, Table, TypeName};
 use outside::Text;
 use std::alloc::{AllocError, Global};
@@ -59,7 +59,6 @@ pub fn over_vars<'a>(world: &World<'a>, vars: &'a [Text]) -> World<'a>
     World {
         symbols: world.symbols,
         scope: world.scope,
-        tuples: world.tuples,
         vars,
         new_vars: false,
     }
@@ -132,7 +131,7 @@ pub fn declare_member(
     declare(scope, Table::Symbols, own, thing, m.name.at)?;
     let mut list = Vec::new(alloc);
     gather_params(&mut list, m.params)?;
-    match repeated(list.as_slice()) {
+    match find_repeated(list.as_slice()) {
         Some(token) => Err(NamingFault::Duplicate { token }),
         None => Ok(()),
     }

@@ -14,7 +14,7 @@ use crate::naming::over_vars;
 use crate::params::{kind_of, push_params, signature_seen};
 use crate::sources::MemberSource;
 use elab_names::{World, own_name};
-use elab_parts::{Place, joined, push_tuples, tuple_names, world_over};
+use elab_parts::{Place, join_words, push_tuples, world_over};
 use elab_walk::type_of_form;
 use names_space::Scope;
 use outside::{Seq, Text};
@@ -106,8 +106,7 @@ fn sign_members(
         (members_at members.now)) }
     ensures grows { Grows store.old store.new }
 {
-    let tuples = tuple_names(alloc, sig.symbols.as_slice())?;
-    let world = world_over(sig, scope, tuples.as_slice(), &[], true);
+    let world = world_over(sig, scope, &[], true);
     let mut list = Vec::new(alloc);
     sign_all(alloc, store, &world, &mut list, members)?;
     Ok(list)
@@ -133,7 +132,7 @@ fn push_member(
     let own = own_name(alloc, m.name.style, m.name.text.as_slice())?;
     let info = SymbolInfo {
         theory: Text::from_slice(alloc, place.theory)?,
-        name: joined(alloc, place.within, own.as_slice())?,
+        name: join_words(alloc, place.within, own.as_slice())?,
         kind: kind_of(m.result),
         vars: signed.vars.len(),
         args: Seq::from_slice(alloc, signed.args.as_slice())?,

@@ -3,3 +3,4 @@ pub mod Nodes
 pub mod Told
 pub mod Operated
 pub mod Rows
+pub mod Tuples

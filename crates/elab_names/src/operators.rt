@@ -23,7 +23,7 @@ pub enum Operation<'a> {
 }
 
 // The characters of an operator; of what is none, nothing.
-fn spelled(text: &[u8]) -> &[u8]
+fn operator_text(text: &[u8]) -> &[u8]
     ensures { result.now ≡ spelled (string_terminal text.now) (said
         (string_terminal text.now) text.now) }
 {
@@ -63,9 +63,9 @@ pub fn own_name(alloc: Global, style: Style, text: &[u8]) -> Result<Text, AllocE
         Style::Plain => Text::from_slice(alloc, word(text)),
         Style::Infix => match terminal_of_text(text) {
             Terminal::PrefixOperator => prefix_name(alloc, text),
-            _ => Text::from_slice(alloc, spelled(text)),
+            _ => Text::from_slice(alloc, operator_text(text)),
         },
-        Style::Prefix => prefix_name(alloc, spelled(text)),
+        Style::Prefix => prefix_name(alloc, operator_text(text)),
         Style::Star => {
             if is_star(text) {
                 Text::from_slice(alloc, b"*".as_slice())
@@ -82,7 +82,7 @@ pub fn prefix_operator(alloc: Global, op: &OpName) -> Result<Text, AllocError>
         (op_of op.now).text)) }
 {
     match op.style {
-        Style::Plain => prefix_name(alloc, spelled(op.text.as_slice())),
+        Style::Plain => prefix_name(alloc, operator_text(op.text.as_slice())),
         _ => prefix_name(alloc, b"".as_slice()),
     }
 }
@@ -107,7 +107,7 @@ fn operation_of(text: &[u8]) -> Operation<'_>
                 Operation::Symbol(text)
             }
         }
-        _ => Operation::Symbol(spelled(text)),
+        _ => Operation::Symbol(operator_text(text)),
     }
 }
 

@@ -22,7 +22,7 @@ use std::alloc::{AllocError, Global};
 use syntax_why::{Pat, PatNode};
 use tasks::{SymbolInfo, SymbolKind};
 
-fn is_constructor(kind: SymbolKind) -> bool
+pub(crate) fn is_constructor(kind: SymbolKind) -> bool
     ensures { result ≡ is_constructor_kind kind }
 {
     match kind {

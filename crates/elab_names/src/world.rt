@@ -1,45 +1,53 @@
 // What names mean where a declaration stands.
 // It depends on signatures and scopes; the walks of names and of trees look names up here.
-ghost use Rattle.std.specs.Prelude.{◌≡◌, ◌<◌, length, IfSome};
+ghost use Rattle.std.specs.Prelude.{◌≡◌, ◌<◌, List, length, IfSome};
+ghost use Rattle.trees.specs.Tree.{Tree};
+ghost use Rattle.tasks.specs.Meaning.{symbol_at, symbols_at};
 ghost use Rattle.elab_names.specs.Where.{place_of};
-ghost use Rattle.elab_names.specs.Naming.{tuple_among};
+ghost use Rattle.elab_names.specs.Naming.{is_tuple, tuple_in};
 
+use crate::patterns::is_constructor;
 use names_space::{Scope, Table, TypeName};
 use outside::Text;
 use tasks::SymbolInfo;
 
-/// The entry of the constructor of the tuples of a width.
-#[derive(Clone, Copy)]
-pub struct TupleName {
-    pub width: usize,
-    pub symbol: usize,
-}
-
-/// The signature, the scopes, the constructors of tuples, and the declaration's type variables by number. Where `new_vars` is
+/// The signature, the scopes, and the declaration's type variables by number. Where `new_vars` is
 /// true any other type variable is new, and else it isn't there.
 #[derive(Clone, Copy)]
 pub struct World<'a> {
     pub symbols: &'a [SymbolInfo],
     pub scope: &'a Scope,
-    pub tuples: &'a [TupleName],
     pub vars: &'a [Text],
     pub new_vars: bool,
 }
 
-fn tuple_among(tuples: &[TupleName], width: usize) -> Option<usize>
-    ensures { result ≡ tuple_among tuples.now width }
+/// Whether an entry is a constructor of tuples of a width.
+pub fn is_tuple(info: &SymbolInfo, width: usize) -> bool
+    ensures { (s : List Tree) → is_tuple width (symbol_at s info.now) ≡ result }
 {
-    let (first, rest) = tuples.split_first()?;
-    if first.width == width {
-        Some(first.symbol)
-    } else {
-        tuple_among(rest, width)
+    is_constructor(info.kind)
+        && info.theory.as_slice() == b"BuiltIn".as_slice()
+        && info.vars == width
+        && info.args.len() == width
+}
+
+/// The first constructor of tuples of a width among the entries of a signature.
+pub fn tuple_among(symbols: &[SymbolInfo], width: usize) -> Option<usize>
+    ensures { (s : List Tree) → tuple_in (symbols_at s symbols.now) width ≡ result }
+{
+    for (number, info) in symbols.iter().enumerate() {
+        if is_tuple(info, width) {
+            return Some(number);
+        }
     }
+    None
 }
 
 impl World<'_> {
-    ghost use Rattle.std.specs.Prelude.{◌≡◌};
-    ghost use Rattle.elab_names.specs.Naming.{symbol_named, type_named, tuple_among};
+    ghost use Rattle.std.specs.Prelude.{◌≡◌, List};
+    ghost use Rattle.trees.specs.Tree.{Tree};
+    ghost use Rattle.tasks.specs.Meaning.{symbols_at};
+    ghost use Rattle.elab_names.specs.Naming.{symbol_named, type_named, tuple_in};
 
     /// The entry for which a symbol's name behind its scopes stands.
     pub fn symbol_named(&self, scopes: &[Text], name: &[u8]) -> Option<usize>
@@ -67,9 +75,9 @@ impl World<'_> {
 
     /// The entry of the constructor of the tuples of a width.
     pub fn tuple_named(&self, width: usize) -> Option<usize>
-        ensures { result ≡ tuple_among self.now.tuples.now width }
+        ensures { (s : List Tree) → result ≡ tuple_in (symbols_at s self.now.symbols.now) width }
     {
-        tuple_among(self.tuples, width)
+        tuple_among(self.symbols, width)
     }
 }
 

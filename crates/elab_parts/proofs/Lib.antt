@@ -1,5 +1,4 @@
 pub mod Alike
-pub mod Tuples
 pub mod Scopes
 pub mod Refused
 pub mod Overs

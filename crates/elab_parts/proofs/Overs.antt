@@ -9,10 +9,9 @@ use Rattle.names_space.specs.Names.{Names}
 use Rattle.names_space.specs.declared.TypeName.{TypeName}
 use Rattle.names_space.specs.declared.TypeName.TheVariants as stands
 use Rattle.syntax_why.specs.Lexeme.{Word}
-use Rattle.elab_names.specs.Naming.{meaning_at, type_named, where_at, symbol_named, tuple_among}
+use Rattle.elab_names.specs.Naming.{meaning_at, type_named, where_at, symbol_named}
 use Rattle.elab_names.specs.Where.{Where, MeaningTree}
 use Rattle.elab_names.specs.declared.world.World.{World}
-use Rattle.elab_names.specs.declared.world.TupleName.{TupleName}
 use Rattle.elab_walk.specs.Scoped.{IsScoped}
 use Rattle.elab_walk.specs.Drafts.{WorldHeld, MeaningHeld}
 use Rattle.elab_walk.proofs.Growing.{type_stays}
@@ -39,18 +38,15 @@ module _ (s s' : List Tree) (g : Grows s s') (n : ℕ) where
       ap (λ (f : List Word → Word → Option MeaningTree). record { symbols = symbols; types = f; names = symbol_named names; tuples = tuple_in symbols; vars = vars }) types
 
 -- ---- the world of a signature
-abbrev meant : List Tree → List SymbolInfo → Names → (ℕ → Option ℕ) → List Word → Where
-meant s is names tuples vars = record { symbols = symbols_at s is; types = λ qs x. option_map (meaning_at s) (type_named names qs x); names = symbol_named names; tuples = tuples; vars = vars }
+abbrev meant : List Tree → List SymbolInfo → Names → List Word → Where
+meant s is names vars = record { symbols = symbols_at s is; types = λ qs x. option_map (meaning_at s) (type_named names qs x); names = symbol_named names; tuples = tuple_in (symbols_at s is); vars = vars }
 
-module _ (s : List Tree) (is : List SymbolInfo) (names : Names) (w : World) (tuples : List TupleName)
-    (symbols : w.symbols.now ≡ is) (scope : w.scope.now ≡ names) (tuples_are : w.tuples.now ≡ tuples) (found : (n : ℕ) → tuple_among tuples n ≡ tuple_in (symbols_at s is) n) where
+module _ (s : List Tree) (is : List SymbolInfo) (names : Names) (w : World)
+    (symbols : w.symbols.now ≡ is) (scope : w.scope.now ≡ names) where
   pub world_is : (vars : List Word) → w.vars.now ≡ vars → where_at s w ≡ over s (symbols_at s is) names vars
   world_is vars v =
-      let all : tuple_among tuples ≡ tuple_in (symbols_at s is) = λ i. λ n. found n i in
-      ap (λ (js : List SymbolInfo). meant s js w.scope.now (tuple_among w.tuples.now) w.vars.now) symbols
-      ∙ (ap (λ (ns : Names). meant s is ns (tuple_among w.tuples.now) w.vars.now) scope
-      ∙ (ap (λ (ts : List TupleName). meant s is names (tuple_among ts) w.vars.now) tuples_are
-      ∙ (ap (λ (f : ℕ → Option ℕ). meant s is names f w.vars.now) all ∙ ap (meant s is names (tuple_in (symbols_at s is))) v)))
+      ap (λ (js : List SymbolInfo). meant s js w.scope.now w.vars.now) symbols
+      ∙ (ap (λ (ns : Names). meant s is ns w.vars.now) scope ∙ ap (meant s is names) v)
 
   pub world_held : IsSignature s is → AreScopes s (length is) names → WorldHeld s w
   world_held h k = record {

@@ -20,6 +20,7 @@ use Rattle.names_space.specs.declared.Table.{Table}
 use Rattle.names_space.specs.declared.Table.TheVariants.{Types, Symbols}
 use Rattle.names_space.specs.declared.TypeName.{TypeName}
 use Rattle.names_space.specs.declared.TypeName.TheVariants as stands
+pub use Rattle.elab_names.specs.Naming.{builtin, is_tuple, tuple_from, tuple_in}
 use Rattle.elab_walk.specs.Scoped.{IsScopedEntry}
 use Rattle.elab_walk.specs.Drafts.{HoldsType, SymbolTyped}
 
@@ -43,24 +44,10 @@ constructor_entries theory name vars type fields =
     record { theory = theory; name = name; kind = Constructor; vars = vars; args = fields; result = Some type } ∷ projections theory name vars type 1 fields
 
 -- ---- tuples
-abbrev pub builtin : Word
-builtin = codes "BuiltIn"
-
 -- the type of the tuples of a width, of this number, with its constructor
 abbrev pub tuple_entries : ℕ → ℕ → List SymbolTree
 tuple_entries k n =
     type_entry builtin (codes "tuple" ++ decimal n) n ∷ constructor_entries builtin (codes "Tuple" ++ decimal n) n (own_type k n) (type_variables 0 n)
-
-abbrev pub is_tuple : ℕ → SymbolTree → Bool
-is_tuple n e = is_constructor_kind e.kind && (bytes_eq e.theory builtin && (e.vars == n && length e.args == n))
-
--- the first constructor of tuples of a width, counted from k
-abbrev pub tuple_from : ℕ → ℕ → List SymbolTree → Option ℕ
-tuple_from n k [] = None
-tuple_from n k (e ∷ es) = cond (is_tuple n e) (Some k) (tuple_from n (suc k) es)
-
-abbrev pub tuple_in : List SymbolTree → ℕ → Option ℕ
-tuple_in symbols n = tuple_from n 0 symbols
 
 -- the entries of a width, where its constructor isn't there
 abbrev pub wanting_tuple : List SymbolTree → ℕ → Option ℕ → List SymbolTree

@@ -8,12 +8,11 @@ ghost use Rattle.trees.specs.Facts.{TyVarsBelow};
 ghost use Rattle.tasks.specs.Meaning.{symbol_at, symbols_at, trees_at};
 ghost use Rattle.tasks.specs.Equations.{type_variables};
 ghost use Rattle.tasks.specs.Vocabulary.{is_constructor_kind};
-ghost use Rattle.elab_names.specs.Naming.{tuple_among};
 ghost use Rattle.elab_walk.specs.Scoped.{IsScopedEntry};
 ghost use Rattle.elab_walk.specs.Drafts.{HoldsType, SymbolTyped};
 ghost use Rattle.elab_parts.specs.Entries.{type_entry, projections, constructor_entries, tuple_entries, is_tuple, tuple_in, wanting_tuple, wanting_tuples, IsSignature, IsExtended};
 
-use elab_names::TupleName;
+use elab_names::tuple_among;
 use elab_walk::list_of;
 use outside::{Seq, Text};
 use std::alloc::{AllocError, Global};
@@ -22,7 +21,7 @@ use term_store::{Grow, Store};
 use trees::{Node, TermId};
 
 /// A word behind another.
-pub fn joined(alloc: Global, first: &[u8], second: &[u8]) -> Result<Text, AllocError>
+pub fn join_words(alloc: Global, first: &[u8], second: &[u8]) -> Result<Text, AllocError>
     ensures { IfOk result (λ it. it ≡ first.now ++ second.now) }
 {
     let mut text = Vec::from_slice(alloc, first)?;
@@ -31,11 +30,11 @@ pub fn joined(alloc: Global, first: &[u8], second: &[u8]) -> Result<Text, AllocE
 }
 
 // A word before the digits of a number.
-fn numbered(alloc: Global, word: &[u8], number: usize) -> Result<Text, AllocError>
+fn numbered_word(alloc: Global, word: &[u8], number: usize) -> Result<Text, AllocError>
     ensures { IfOk result (λ it. it ≡ word.now ++ decimal number) }
 {
     let digits = number.to_string(alloc)?;
-    joined(alloc, word, digits.as_bytes())
+    join_words(alloc, word, digits.as_bytes())
 }
 
 /// A further entry.
@@ -95,12 +94,12 @@ fn push_projection(
         (projections theory.now constructor.now vars (tree_at store.now ty) number
         (tree_at store.now field ∷ []))) }
 {
-    let quoted = joined(alloc, constructor, b"'")?;
+    let quoted = join_words(alloc, constructor, b"'")?;
     let mut args = Seq::new(alloc);
     args.push(ty)?;
     let info = SymbolInfo {
         theory: Text::from_slice(alloc, theory)?,
-        name: numbered(alloc, quoted.as_slice(), number)?,
+        name: numbered_word(alloc, quoted.as_slice(), number)?,
         kind: SymbolKind::Projection,
         vars,
         args,
@@ -217,12 +216,12 @@ fn push_tuple(
     ensures grows { Grows store.old store.new }
 {
     let number = sig.symbols.len();
-    let name = numbered(alloc, b"tuple", width)?;
+    let name = numbered_word(alloc, b"tuple", width)?;
     push_type(alloc, store, sig, b"BuiltIn", name, width)?;
     let types = variables(alloc, store, width)?;
     let list = list_of(store, types.as_slice())?;
     let ty = store.add(Node::TyApp(number, list))?;
-    let name = numbered(alloc, b"Tuple", width)?;
+    let name = numbered_word(alloc, b"Tuple", width)?;
     push_constructor(
         alloc,
         store,
@@ -233,52 +232,6 @@ fn push_tuple(
         ty,
         types.as_slice(),
     )
-}
-
-fn is_constructor(kind: SymbolKind) -> bool
-    ensures { result ≡ is_constructor_kind kind }
-{
-    match kind {
-        SymbolKind::Constructor => true,
-        _ => false,
-    }
-}
-
-// Whether an entry is a constructor of tuples of a width.
-fn is_tuple(info: &SymbolInfo, width: usize) -> bool
-    ensures { (s : List Tree) → is_tuple width (symbol_at s info.now) ≡ result }
-{
-    is_constructor(info.kind)
-        && info.theory.as_slice() == b"BuiltIn".as_slice()
-        && info.vars == width
-        && info.args.len() == width
-}
-
-// The first constructor of tuples of a width.
-fn tuple_named(symbols: &[SymbolInfo], width: usize) -> Option<usize>
-    ensures { (s : List Tree) → tuple_in (symbols_at s symbols.now) width ≡ result }
-{
-    for (number, info) in symbols.iter().enumerate() {
-        if is_tuple(info, width) {
-            return Some(number);
-        }
-    }
-    None
-}
-
-/// The constructors of tuples by width.
-pub fn tuple_names(alloc: Global, symbols: &[SymbolInfo]) -> Result<Vec<TupleName>, AllocError>
-    ensures { IfOk result (λ names. (s : List Tree) (n : ℕ) → tuple_among names.items n ≡ tuple_in
-        (symbols_at s symbols.now) n) }
-{
-    let mut names = Vec::new(alloc);
-    for (symbol, info) in symbols.iter().enumerate() {
-        let width = info.vars;
-        if is_tuple(info, width) {
-            names.push(TupleName { width, symbol })?;
-        }
-    }
-    Ok(names)
 }
 
 // The entries of the tuples of a width, where its constructor isn't there.
@@ -294,7 +247,7 @@ fn push_width(
         (tuple_in (symbols_at store.old sig.old.symbols) width))) }
     ensures grows { Grows store.old store.new }
 {
-    match tuple_named(sig.symbols.as_slice(), width) {
+    match tuple_among(sig.symbols.as_slice(), width) {
         Some(_) => Ok(()),
         None => push_tuple(alloc, store, sig, width),
     }

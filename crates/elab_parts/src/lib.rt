@@ -10,16 +10,14 @@ mod solution;
 
 ghost use Rattle.std.specs.Prelude.{◌≡◌};
 
-pub use entries::{
-    joined, push_constructor, push_entry, push_tuples, push_type, tuple_names, variables,
-};
+pub use entries::{join_words, push_constructor, push_entry, push_tuples, push_type, variables};
 pub use made::{Elaborated, Place, declare, naming_fault, typing_fault};
-pub use names::{Written, gather, repeated, texts_of, world_over};
-pub use solution::{Formula, TypingFault, put_matches, put_trees, solve_draft, solved};
+pub use names::{Written, gather, find_repeated, texts_of, world_over};
+pub use solution::{Formula, TypingFault, put_matches, put_trees, solve_draft, solve_formula};
 use std::alloc::{AllocError, AllocFailed};
 
 /// Why a declaration isn't elaborated; `decl` is its number.
-#[derive(Clone, Copy, Debug, PartialEq, Eq)]
+#[derive(Clone, Copy)]
 pub enum ElabFault {
     /// Memory is wanting.
     Memory,

@@ -6,7 +6,7 @@ ghost use Rattle.trees.specs.Tree.{Tree};
 ghost use Rattle.tasks.specs.Meaning.{symbols_at};
 ghost use Rattle.elab_names.specs.Abstract.{texts};
 ghost use Rattle.elab_names.specs.Where.{place_of};
-ghost use Rattle.elab_names.specs.Naming.{where_at, tuple_among};
+ghost use Rattle.elab_names.specs.Naming.{where_at};
 ghost use Rattle.elab_names.specs.declared.NamingFault.TheVariants.{Duplicate};
 ghost use Rattle.elab_walk.specs.Scoped.{IsScoped};
 ghost use Rattle.elab_walk.specs.Drafts.{WorldHeld};
@@ -15,7 +15,7 @@ ghost use Rattle.elab_parts.specs.Written.{written};
 ghost use Rattle.elab_parts.specs.Entries.{tuple_in, IsSignature, AreScopes};
 ghost use Rattle.elab_parts.specs.Outcomes.{over};
 
-use elab_names::{TupleName, World};
+use elab_names::World;
 use names_space::Scope;
 use outside::Text;
 use std::alloc::{AllocError, Global};
@@ -55,7 +55,7 @@ fn is_among(list: &[Written<'_>], name: &[u8]) -> bool
 }
 
 /// The token of the second of two equal names in a list.
-pub fn repeated(list: &[Written<'_>]) -> Option<usize>
+pub fn find_repeated(list: &[Written<'_>]) -> Option<usize>
     ensures { option_map Duplicate result ≡ list_fault [] (map written list.now) }
 {
     for (number, name) in list.iter().enumerate() {
@@ -78,16 +78,13 @@ pub fn texts_of(alloc: Global, names: &[Name]) -> Result<Vec<Text>, AllocError>
     Ok(them)
 }
 
-/// What names mean over a signature and scopes, with the constructors of tuples and the type variables of a declaration.
+/// What names mean over a signature and scopes, with the type variables of a declaration.
 pub fn world_over<'a>(
     sig: &'a Signature,
     scope: &'a Scope,
-    tuples: &'a [TupleName],
     vars: &'a [Text],
     new_vars: bool,
 ) -> World<'a>
-    requires { (s : List Tree) (n : ℕ) → tuple_among tuples.now n ≡ tuple_in
-        (symbols_at s sig.now.symbols) n }
     ensures names { (s : List Tree) → where_at s result ≡ over s (symbols_at s sig.now.symbols)
         scope.now vars.now }
     ensures open { result.new_vars ≡ new_vars }
@@ -100,7 +97,6 @@ pub fn world_over<'a>(
     World {
         symbols: sig.symbols.as_slice(),
         scope,
-        tuples,
         vars,
         new_vars,
     }

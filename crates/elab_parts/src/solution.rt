@@ -14,7 +14,7 @@ ghost use Rattle.elab_parts.specs.Values.{AreKinds, IsTypeNumbered, AreValues, A
 
 use binders::inst_types;
 use elab_names::World;
-use elab_walk::{Draft, Locals, MatchAt, start, walk};
+use elab_walk::{Draft, Locals, MatchAt, start_draft, walk};
 use outside::Seq;
 use std::alloc::{AllocError, AllocFailed, Global};
 use syntax_why::Expr;
@@ -23,7 +23,7 @@ use trees::{Node, TermId};
 use unify_types::{Solution, UnifyFault, solve};
 
 /// What is wrong with the types of a declaration.
-#[derive(Clone, Copy, Debug, PartialEq, Eq)]
+#[derive(Clone, Copy)]
 pub enum TypingFault {
     /// Memory is wanting.
     Memory,
@@ -88,7 +88,7 @@ fn type_numbered(
 }
 
 // The types of all type variables by number, or the token of the node that takes the first unknown that is left open.
-fn determined(
+fn determine_types(
     alloc: Global,
     store: &mut Store,
     rigid: usize,
@@ -126,7 +126,7 @@ pub fn solve_draft(
     ensures grows { Grows store.old store.new }
 {
     let solution = solve(alloc, store, rigid, draft.equations.as_slice())?;
-    determined(alloc, store, rigid, draft.takers.as_slice(), &solution)
+    determine_types(alloc, store, rigid, draft.takers.as_slice(), &solution)
 }
 
 /// Trees at types, behind those that are there.
@@ -209,7 +209,7 @@ pub struct Formula {
 
 /// The tree of a formula whose names are there, and its matches: what its piece is at every solution of its equations. A fault
 /// of its types is the least prefix of the equations without a solution, or the first node that the solutions leave open.
-pub fn solved(
+pub fn solve_formula(
     alloc: Global,
     store: &mut Store,
     world: &World<'_>,
@@ -229,7 +229,7 @@ pub fn solved(
     ensures grows { Grows store.old store.new }
 {
     let rigid = world.vars.len();
-    let mut draft = start(alloc, rigid)?;
+    let mut draft = start_draft(alloc, rigid)?;
     let tree = walk(alloc, store, &mut draft, e, world, &Locals::Outside, None)?;
     let types = solve_draft(alloc, store, rigid, &draft)?;
     let tree = inst_types(alloc, store, tree, types.as_slice())?;

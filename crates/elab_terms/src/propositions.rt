@@ -22,8 +22,8 @@ ghost use Rattle.elab_terms.specs.Outcomes.{proposition_seen, proposition_piece,
 use binders::inst_types;
 use elab_names::{Names, NamingFault, check, own_name};
 use elab_parts::{
-    ElabFault, Elaborated, Formula, Place, TypingFault, declare, joined, naming_fault, push_entry,
-    push_tuples, solved, tuple_names, typing_fault, world_over,
+    ElabFault, Elaborated, Formula, Place, TypingFault, declare, join_words, naming_fault,
+    push_entry, push_tuples, solve_formula, typing_fault, world_over,
 };
 use elab_variables::{Seen, enter_variables};
 use names_space::{Scope, Table, TypeName};
@@ -39,8 +39,7 @@ fn check_formula(alloc: Global, sig: &Signature, scope: &Scope, e: &Expr) -> Res
     ensures { (s : List Tree) → Tells result (fault (over s (symbols_at s sig.now.symbols) scope.now
         []) true [] true (expression_of e.now)) }
 {
-    let tuples = tuple_names(alloc, sig.symbols.as_slice())?;
-    let world = world_over(sig, scope, tuples.as_slice(), &[], true);
+    let world = world_over(sig, scope, &[], true);
     check(alloc, e, &world, &Names::Outside, true)
 }
 
@@ -125,7 +124,7 @@ pub fn say(
 }
 
 // The number of type variables of a proposition that stay schematic.
-fn schematic(kind: PropKind, vars: &[Text]) -> usize
+fn count_schematic(kind: PropKind, vars: &[Text]) -> usize
     ensures { result ≡ schematic kind vars.now }
 {
     match kind {
@@ -160,9 +159,8 @@ fn solve_proposition(
     ensures grows { Grows store.old store.new }
 {
     push_tuples(alloc, store, sig, seen.widths.as_slice())?;
-    let tuples = tuple_names(alloc, sig.symbols.as_slice())?;
-    let world = world_over(sig, scope, tuples.as_slice(), seen.vars.as_slice(), false);
-    solved(alloc, store, &world, e)
+    let world = world_over(sig, scope, seen.vars.as_slice(), false);
+    solve_formula(alloc, store, &world, e)
 }
 
 // The declaration of a proposition with its formula, and the entries of its rigid type variables.
@@ -201,8 +199,8 @@ fn make_proposition(
     let mut decls = Seq::new(alloc);
     decls.push(Decl {
         theory: Text::from_slice(alloc, place.theory)?,
-        name: joined(alloc, place.within, name)?,
-        vars: schematic(kind, vars),
+        name: join_words(alloc, place.within, name)?,
+        vars: count_schematic(kind, vars),
         body: Body::Prop(said),
     })?;
     Ok(Elaborated {

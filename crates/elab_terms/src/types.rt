@@ -19,8 +19,8 @@ ghost use Rattle.elab_terms.specs.Outcomes.{alias_seen, type_declaration, IsElab
 
 use elab_names::{NamingFault, check_form};
 use elab_parts::{
-    ElabFault, Elaborated, Place, declare, gather, joined, naming_fault, push_tuples, push_type,
-    repeated, texts_of, tuple_names, world_over,
+    ElabFault, Elaborated, Place, declare, find_repeated, gather, join_words, naming_fault,
+    push_tuples, push_type, texts_of, world_over,
 };
 use elab_variables::{Seen, enter_form};
 use elab_walk::type_of_form;
@@ -55,12 +55,12 @@ fn make_type(
     ensures matches { IfOk result (λ made. made.matches ≡ []) }
 {
     let number = sig.symbols.len();
-    let full = joined(alloc, place.within, name)?;
+    let full = join_words(alloc, place.within, name)?;
     push_type(alloc, store, sig, place.theory, full, vars)?;
     let mut decls = Seq::new(alloc);
     decls.push(Decl {
         theory: Text::from_slice(alloc, place.theory)?,
-        name: joined(alloc, place.within, name)?,
+        name: join_words(alloc, place.within, name)?,
         vars,
         body: Body::TypeSymbol(number),
     })?;
@@ -86,7 +86,7 @@ fn declare_type(
     declare(scope, Table::Types, name.text.as_slice(), thing, name.at)?;
     let mut list = Vec::new(alloc);
     gather(&mut list, vars)?;
-    match repeated(list.as_slice()) {
+    match find_repeated(list.as_slice()) {
         Some(token) => Err(NamingFault::Duplicate { token }),
         None => Ok(()),
     }
@@ -150,8 +150,7 @@ fn make_alias(
     };
     enter_form(alloc, &mut seen, ty)?;
     push_tuples(alloc, store, sig, seen.widths.as_slice())?;
-    let tuples = tuple_names(alloc, sig.symbols.as_slice())?;
-    let world = world_over(sig, scope, tuples.as_slice(), vars, false);
+    let world = world_over(sig, scope, vars, false);
     type_of_form(alloc, store, &world, ty)
 }
 
@@ -166,8 +165,7 @@ fn check_alias(
     ensures { (s : List Tree) → Tells result (form_fault
         (over s (symbols_at s sig.now.symbols) scope.now vars.now) false (form_of ty.now)) }
 {
-    let tuples = tuple_names(alloc, sig.symbols.as_slice())?;
-    let world = world_over(sig, scope, tuples.as_slice(), vars, false);
+    let world = world_over(sig, scope, vars, false);
     check_form(alloc, ty, &world)
 }
 

@@ -10,7 +10,7 @@ ghost use Rattle.elab_parts.specs.Entries.{IsSignature, IsExtended};
 ghost use Rattle.elab_types.specs.Algebraics.{constructors_of, types_of, type_entries, constructors_entries, group_entries};
 ghost use Rattle.elab_types.specs.Held.{ConTyped, AlgTyped, AreConsWithin, AreWithin};
 
-use elab_parts::{Place, joined, push_constructor, push_type, variables};
+use elab_parts::{Place, join_words, push_constructor, push_type, variables};
 use elab_walk::list_of;
 use std::alloc::{AllocError, Global};
 use syntax_why::{AlgTree, ConTree};
@@ -33,7 +33,7 @@ pub fn push_type_entries(
     let Some((first, rest)) = types.split_first() else {
         return Ok(());
     };
-    let name = joined(alloc, place.within, first.name.text.as_slice())?;
+    let name = join_words(alloc, place.within, first.name.text.as_slice())?;
     push_type(alloc, store, sig, place.theory, name, first.vars.len())?;
     push_type_entries(alloc, store, sig, place, rest)
 }
@@ -80,7 +80,7 @@ fn push_constructor_entries(
     let Some((con, others)) = cons.split_first() else {
         return Ok(());
     };
-    let name = joined(alloc, place.within, first.name.text.as_slice())?;
+    let name = join_words(alloc, place.within, first.name.text.as_slice())?;
     push_constructor(
         alloc,
         store,

@@ -4,7 +4,7 @@ ghost use Rattle.trees.specs.Tree.{Tree};
 ghost use Rattle.trees.specs.Node.{Grows};
 ghost use Rattle.tasks.specs.Meaning.{symbols_at, trees_at, con_at, cons_at, algebraics_at};
 ghost use Rattle.elab_names.specs.Faults.{forms_fault};
-ghost use Rattle.elab_names.specs.Naming.{where_at, tuple_among, Tells};
+ghost use Rattle.elab_names.specs.Naming.{where_at, Tells};
 ghost use Rattle.elab_walk.specs.Drafts.{HoldsType, WorldHeld};
 ghost use Rattle.elab_walk.specs.Pieces.{types_at};
 ghost use Rattle.elab_parts.specs.Declarations.{word, words, constructors_fault, types_fault};
@@ -13,7 +13,7 @@ ghost use Rattle.elab_parts.specs.Entries.{tuple_in, IsSignature};
 ghost use Rattle.elab_parts.specs.Outcomes.{over};
 ghost use Rattle.elab_types.specs.Held.{ConTyped, AlgTyped, HaveThings};
 
-use elab_names::{NamingFault, TupleName, World, check_form};
+use elab_names::{NamingFault, World, check_form};
 use elab_parts::texts_of;
 use elab_walk::type_of_form;
 use names_space::Scope;
@@ -132,14 +132,7 @@ fn push_constructors(
 }
 
 // What names mean over a signature and scopes with these type variables and no others.
-fn world_of<'a>(
-    sig: &'a Signature,
-    scope: &'a Scope,
-    tuples: &'a [TupleName],
-    vars: &'a [Text],
-) -> World<'a>
-    requires { (s : List Tree) (n : ℕ) → tuple_among tuples.now n ≡ tuple_in
-        (symbols_at s sig.now.symbols) n }
+fn world_of<'a>(sig: &'a Signature, scope: &'a Scope, vars: &'a [Text]) -> World<'a>
     ensures names { (s : List Tree) → where_at s result ≡ over s (symbols_at s sig.now.symbols)
         scope.now vars.now }
     ensures closed { result.new_vars ≡ false }
@@ -149,7 +142,6 @@ fn world_of<'a>(
     World {
         symbols: sig.symbols.as_slice(),
         scope,
-        tuples,
         vars,
         new_vars: false,
     }
@@ -161,14 +153,11 @@ fn make_constructors(
     store: &mut Store,
     sig: &Signature,
     scope: &Scope,
-    tuples: &[TupleName],
     number: &mut usize,
     source: &AlgTree,
 ) -> Result<Seq<Con>, NamingFault>
     requires signature { IsSignature store.old sig.now.symbols }
     requires scopes { HaveThings store.old scope.now }
-    requires tuples { (s : List Tree) (n : ℕ) → tuple_among tuples.now n ≡ tuple_in
-        (symbols_at s sig.now.symbols) n }
     requires fits { number.old + entry_count (constructors_of source.now.cons) < 2 ^ 64 }
     ensures typed { IfOk result (All (ConTyped store.new)) }
     ensures cons { IfOk result (λ made. cons_at store.new made ≡ constructor_trees
@@ -185,7 +174,7 @@ fn make_constructors(
     ensures grows { Grows store.old store.new }
 {
     let vars = texts_of(alloc, source.vars.as_slice())?;
-    let world = world_of(sig, scope, tuples, vars.as_slice());
+    let world = world_of(sig, scope, vars.as_slice());
     let mut made = Seq::new(alloc);
     push_constructors(
         alloc,
@@ -204,7 +193,6 @@ pub fn push_types(
     store: &mut Store,
     sig: &Signature,
     scope: &Scope,
-    tuples: &[TupleName],
     made: &mut Seq<Alg>,
     symbol: usize,
     number: &mut usize,
@@ -212,8 +200,6 @@ pub fn push_types(
 ) -> Result<(), NamingFault>
     requires signature { IsSignature store.old sig.now.symbols }
     requires scopes { HaveThings store.old scope.now }
-    requires tuples { (s : List Tree) (n : ℕ) → tuple_among tuples.now n ≡ tuple_in
-        (symbols_at s sig.now.symbols) n }
     requires made { All (AlgTyped store.old) made.old }
     requires symbols { symbol + length types.now < 2 ^ 64 }
     requires fits { number.old + group_count (types_of types.now) < 2 ^ 64 }
@@ -230,17 +216,7 @@ pub fn push_types(
     let Some((first, rest)) = types.split_first() else {
         return Ok(());
     };
-    let cons = make_constructors(alloc, store, sig, scope, tuples, number, first)?;
+    let cons = make_constructors(alloc, store, sig, scope, number, first)?;
     made.push(Alg { symbol, cons })?;
-    push_types(
-        alloc,
-        store,
-        sig,
-        scope,
-        tuples,
-        made,
-        symbol + 1,
-        number,
-        rest,
-    )
+    push_types(alloc, store, sig, scope, made, symbol + 1, number, rest)
 }

@@ -16,7 +16,7 @@ use crate::fields::push_types;
 use crate::naming::{Before, declare_types};
 use crate::widths::group_seen;
 use elab_names::NamingFault;
-use elab_parts::{ElabFault, Elaborated, Place, joined, naming_fault, push_tuples, tuple_names};
+use elab_parts::{ElabFault, Elaborated, Place, join_words, naming_fault, push_tuples};
 use names_space::Scope;
 use outside::{Seq, Text};
 use std::alloc::{AllocError, Global};
@@ -109,12 +109,10 @@ fn make_types(
         types.now))) }
     ensures grows { Grows store.old store.new }
 {
-    let tuples = tuple_names(alloc, sig.symbols.as_slice())?;
     let mut made = Seq::new(alloc);
     let mut next = number;
-    let names = tuples.as_slice();
     push_types(
-        alloc, store, sig, scope, names, &mut made, symbol, &mut next, types,
+        alloc, store, sig, scope, &mut made, symbol, &mut next, types,
     )?;
     Ok(made)
 }
@@ -167,7 +165,7 @@ fn make_group(
     let mut decls = Seq::new(alloc);
     decls.push(Decl {
         theory: Text::from_slice(alloc, place.theory)?,
-        name: joined(alloc, place.within, first_name(types))?,
+        name: join_words(alloc, place.within, first_name(types))?,
         vars: first_vars(types),
         body: Body::Algebraics(made),
     })?;

@@ -7,7 +7,7 @@ ghost use Rattle.elab_parts.specs.Outcomes.{declared_in};
 ghost use Rattle.elab_types.specs.Algebraics.{constructors_of, types_of, entry_count, group_count, with_constructors, with_types, name_made, constructor_words, constructors_made, types_made};
 
 use elab_names::{NamingFault, variable_named};
-use elab_parts::{declare, gather, repeated};
+use elab_parts::{declare, gather, find_repeated};
 use names_space::{Scope, Table, TypeName};
 use outside::Text;
 use std::alloc::{AllocError, Global};
@@ -81,7 +81,7 @@ fn check_variables(alloc: Global, vars: &[Name]) -> Result<(), NamingFault>
 {
     let mut list = Vec::new(alloc);
     gather(&mut list, vars)?;
-    match repeated(list.as_slice()) {
+    match find_repeated(list.as_slice()) {
         Some(token) => Err(NamingFault::Duplicate { token }),
         None => Ok(()),
     }

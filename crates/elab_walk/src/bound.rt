@@ -9,7 +9,7 @@ ghost use Rattle.elab_names.specs.Naming.{where_at};
 ghost use Rattle.elab_walk.specs.Pieces.{quantify, typed, untyped, binder_locals, binder_vars, binders_vars, bound};
 ghost use Rattle.elab_walk.specs.Drafts.{HoldsType, WorldHeld, IsReady, IsMade, IsBound, local_at};
 
-use crate::draft::{Draft, make, unknown};
+use crate::draft::{Draft, make, new_unknown};
 use crate::locals::Local;
 use crate::types::type_of_form;
 use elab_names::World;
@@ -89,7 +89,7 @@ fn bind_untyped<'a>(
     let Some((first, rest)) = names.split_first() else {
         return Ok(());
     };
-    let ty = unknown(store, draft, token)?;
+    let ty = new_unknown(store, draft, token)?;
     locals.push(Local {
         name: first.text.as_slice(),
         ty,

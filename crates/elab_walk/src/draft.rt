@@ -31,7 +31,7 @@ pub struct Draft {
 }
 
 /// A draft without equations, for a declaration with so many type variables.
-pub fn start(alloc: Global, rigid: usize) -> Result<Draft, AllocError>
+pub fn start_draft(alloc: Global, rigid: usize) -> Result<Draft, AllocError>
     ensures equations { IfOk result (λ d. d.equations ≡ []) }
     ensures takers { IfOk result (λ d. length d.takers ≡ rigid) }
     ensures matches { IfOk result (λ d. d.matches ≡ []) }
@@ -61,7 +61,7 @@ pub fn make(store: &mut Store, draft: &Draft, node: Node) -> Result<TermId, Allo
 
 /// A new unknown, which the node at a token takes.
 #[tactic(auto, using(crate::proofs::Noting::unknown_noted))]
-pub fn unknown(store: &mut Store, draft: &mut Draft, token: usize) -> Result<TermId, AllocError>
+pub fn new_unknown(store: &mut Store, draft: &mut Draft, token: usize) -> Result<TermId, AllocError>
     requires ready { IsReady store.old draft.old }
     ensures held { IfOk result (HoldsType store.new) }
     ensures tree { IfOk result (λ id. tree_at store.new id ≡ Leaf (HTyVar (length
@@ -91,7 +91,7 @@ pub fn unknowns(
 {
     let mut types = Vec::new(alloc);
     for _number in 0..count {
-        let ty = unknown(store, draft, token)?;
+        let ty = new_unknown(store, draft, token)?;
         types.push(ty)?;
     }
     Ok(types)

@@ -15,7 +15,7 @@ ghost use Rattle.elab_walk.specs.Drafts.{HoldsType, locals_at, due, is_due, oper
 
 use crate::arms::{push_arms, push_patterns};
 use crate::bound::{bind, quantify};
-use crate::draft::{Draft, equate, fill, make, reserve, unknown};
+use crate::draft::{Draft, equate, fill, make, reserve, new_unknown};
 use crate::locals::{Local, Locals, local_named};
 use crate::operands::{Operands, split_operands};
 use crate::patterns::walk_alternatives;
@@ -166,7 +166,7 @@ pub fn walk(
                 make(store, draft, Node::Join(op, a, b))
             }
             Operation::Equality(same) => {
-                let ty = unknown(store, draft, token)?;
+                let ty = new_unknown(store, draft, token)?;
                 let a = walk(alloc, store, draft, left.get(), world, locals, Some(ty))?;
                 let b = walk(alloc, store, draft, right.get(), world, locals, Some(ty))?;
                 make_equality(store, draft, same, a, b)
@@ -195,7 +195,7 @@ pub fn walk(
         }
         ExprNode::Let(patterns, value, body) => match let_name(patterns.as_slice()) {
             Some(name) => {
-                let ty = unknown(store, draft, token)?;
+                let ty = new_unknown(store, draft, token)?;
                 let a = walk(alloc, store, draft, value.get(), world, locals, Some(ty))?;
                 let bound = [Local {
                     name: name.text.as_slice(),
@@ -482,7 +482,7 @@ fn walk_match(
     ensures grows { Grows store.old store.new }
 {
     let place = reserve(alloc, store, draft, token)?;
-    let ty = unknown(store, draft, token)?;
+    let ty = new_unknown(store, draft, token)?;
     let first = first_token(values);
     let subject = walk_group(alloc, store, draft, first, values, world, locals, Some(ty))?;
     let mut patterns = Seq::new(alloc);
@@ -528,7 +528,7 @@ fn walk_matched(
     ensures grows { Grows store.old store.new }
 {
     let place = reserve(alloc, store, draft, token)?;
-    let ty = unknown(store, draft, token)?;
+    let ty = new_unknown(store, draft, token)?;
     let subject = walk(alloc, store, draft, value, world, locals, Some(ty))?;
     let mut patterns = Seq::new(alloc);
     let arms = walk_branch(

@@ -7,7 +7,7 @@ ghost use Rattle.trees.specs.Binding.{change};
 ghost use Rattle.elab_walk.specs.Patterns.{reordering};
 ghost use Rattle.elab_walk.specs.Reordered.{sorts_reordering, IsInOrder};
 
-use binders::{Visit, changed};
+use binders::{Visit, change_tree};
 use std::alloc::{AllocError, Global};
 use term_store::{Grow, Store};
 use trees::{Node, TermId};
@@ -65,12 +65,12 @@ impl<'a> Visit for Reordering<'a> {
 }
 
 // The greatest of some places, or 0.
-fn greatest(places: &[usize]) -> usize
+fn greatest_place(places: &[usize]) -> usize
     ensures { All (λ p. p ≤ result) places.now }
 {
     match places.split_first() {
         Some((first, rest)) => {
-            let most = greatest(rest);
+            let most = greatest_place(rest);
             if *first < most { most } else { *first }
         }
         None => 0,
@@ -114,10 +114,10 @@ pub fn reorder(
     if is_in_order(places, 0) {
         return Ok(body);
     }
-    let room = u64::MAX - greatest(places) as u64;
+    let room = u64::MAX - greatest_place(places) as u64;
     if store.size(body) >= room {
         return Err(AllocError);
     }
     store.laws();
-    changed(alloc, store, &Reordering { places }, body)
+    change_tree(alloc, store, &Reordering { places }, body)
 }

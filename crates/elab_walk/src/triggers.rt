@@ -9,7 +9,7 @@ ghost use Rattle.elab_names.specs.Naming.{where_at, head_at};
 ghost use Rattle.elab_walk.specs.Pieces.{trigger_wanted, trigger_taken};
 ghost use Rattle.elab_walk.specs.Drafts.{HoldsType, locals_at, names_of, is_due, IsReady, IsNoted};
 
-use crate::draft::{Draft, unknown};
+use crate::draft::{Draft, new_unknown};
 use crate::locals::{Locals, local_named};
 use elab_names::{TriggerHead, World, names_predicate, own_name, prefix_operator, trigger_of};
 use outside::Text;
@@ -83,6 +83,6 @@ pub fn trigger_type(
     if is_formula_head(alloc, found.head, world, locals)? {
         return Ok(None);
     }
-    let ty = unknown(store, draft, found.token)?;
+    let ty = new_unknown(store, draft, found.token)?;
     Ok(Some(ty))
 }

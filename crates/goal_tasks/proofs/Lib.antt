@@ -1,2 +1,4 @@
 mod Placed
 mod TuplesMade
+mod Passed
+mod TupleNames

@@ -1,11 +1,12 @@
 -- The declarations of tuples: an algebraic type `tupleN` with the constructor `TupleN` for each width N (Why3 manual, "tuples").
-use Rattle.std.specs.Prelude.{ℕ, ◌+◌, ◌-◌, ◌||◌, Bool, if◌then◌else◌, codes, List, [], ◌∷◌, ◌++◌, length, Option, Some, None}
+use Rattle.std.specs.Prelude.{ℕ, ◌+◌, ◌-◌, ◌==◌, ◌||◌, Bool, cond, if◌then◌else◌, codes, List, [], ◌∷◌, ◌++◌, length, Option, Some, None}
 use Rattle.std.specs.List.{flat_map, range_with_len}
 use Rattle.std.specs.Fmt.{decimal}
 use Rattle.tasks.specs.Task.{SymbolTree, ConTree, AlgebraicTree, Constructs, DeclarationTree}
 use Rattle.tasks.specs.Equations.{type_variables}
 use Rattle.elab_parts.specs.Entries.{builtin, tuple_in}
 use Rattle.named_symbols.specs.Named.{is_among}
+use Rattle.goal_tasks.specs.declared.tuples.TupleName.{TupleName}
 
 -- the tuples of a width, whose type has this number; the constructor has the next one, and the projections have those after it
 abbrev pub tuple_constructor : ℕ → ℕ → ConTree
@@ -29,3 +30,8 @@ tuples_of ks n (Some c) = if occurs ks c then tuple_declaration n (c - 1) ∷ []
 -- those of the widths that occur, in ascending order; tuples have more entries than their width
 abbrev pub tuples_in : List SymbolTree → List ℕ → List DeclarationTree
 tuples_in symbols ks = flat_map (λ n. tuples_of ks n (tuple_in symbols n)) (range_with_len 0 (length symbols))
+
+-- the constructor that is kept for a width
+abbrev pub symbol_of_width : List TupleName → ℕ → Option ℕ
+symbol_of_width [] n = None
+symbol_of_width (t ∷ ts) n = cond (t.width == n) (Some t.symbol) (symbol_of_width ts n)

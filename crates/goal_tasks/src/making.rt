@@ -20,7 +20,7 @@ use term_store::Store;
 use trees::TermId;
 
 /// Why there is no task, or want of memory.
-#[derive(Clone, Copy, Debug, PartialEq, Eq)]
+#[derive(Clone, Copy)]
 pub enum TaskFault {
     Memory,
     /// The source has no theory with this path.
@@ -45,7 +45,7 @@ fn push_placed(decls: &Seq<Decl>, place: usize, out: &mut Vec<Decl>) -> Result<(
 }
 
 // The declarations with the first so many of these places.
-fn placed(
+fn declarations_at(
     alloc: Global,
     decls: &Seq<Decl>,
     places: &[usize],
@@ -76,7 +76,7 @@ fn decls_before(
     ensures held { IfOk result (λ v. All (DeclHeld store.now) v.items) }
 {
     let _ = store;
-    let own = placed(alloc, decls, theory.visible.as_slice(), goal.before)?;
+    let own = declarations_at(alloc, decls, theory.visible.as_slice(), goal.before)?;
     Ok(own)
 }
 

@@ -1,15 +1,15 @@
 // The declarations of tuples, for the widths that occur.
 // They depend on the entries of tuples in a signature; tasks begin with them.
-ghost use Rattle.std.specs.Prelude.{◌≡◌, ◌+◌, ◌-◌, ◌<◌, ◌≤◌, [], ◌∷◌, ◌++◌, length, All, IfOk, IfSome, OnOk};
+ghost use Rattle.std.specs.Prelude.{◌≡◌, ℕ, List, ◌+◌, ◌-◌, ◌<◌, ◌≤◌, [], ◌∷◌, ◌++◌, length, All, IfOk, IfSome, OnOk};
 ghost use Rattle.std.specs.List.{range_with_len};
 ghost use Rattle.tasks.specs.Task.{symbol_or};
 ghost use Rattle.tasks.specs.Meaning.{symbol_at, symbols_at, con_at, algebraics_at, declaration_at, declarations_at, SymbolHeld, ConHeld, AlgebraicHeld, DeclHeld};
-ghost use Rattle.elab_names.specs.Naming.{tuple_among};
-ghost use Rattle.goal_tasks.specs.Tuples.{tuple_constructor, tuple_type, tuple_declaration, occurs, tuples_of, tuples_in};
+ghost use Rattle.trees.specs.Tree.{Tree};
+ghost use Rattle.elab_names.specs.Naming.{tuple_in};
+ghost use Rattle.goal_tasks.specs.Tuples.{symbol_of_width, tuple_constructor, tuple_type, tuple_declaration, occurs, tuples_of, tuples_in};
 ghost use Rattle.goal_tasks.specs.Meaning.{IsTupleAt, AreTuples};
 
-use elab_names::TupleName;
-use elab_parts::tuple_names;
+use elab_names::is_tuple;
 use indexmap::IndexSet;
 use outside::{Seq, Text};
 use std::alloc::{AllocError, Global};
@@ -114,9 +114,31 @@ fn tuple_decl(
     })
 }
 
+/// A constructor of tuples with its width.
+#[derive(Clone, Copy)]
+pub struct TupleName {
+    pub width: usize,
+    pub symbol: usize,
+}
+
+// The constructors of tuples by width.
+fn tuple_names(alloc: Global, symbols: &[SymbolInfo]) -> Result<Vec<TupleName>, AllocError>
+    ensures { IfOk result (λ names. (s : List Tree) (n : ℕ) → symbol_of_width names.items n
+        ≡ tuple_in (symbols_at s symbols.now) n) }
+{
+    let mut names = Vec::new(alloc);
+    for (symbol, info) in symbols.iter().enumerate() {
+        let width = info.vars;
+        if is_tuple(info, width) {
+            names.push(TupleName { width, symbol })?;
+        }
+    }
+    Ok(names)
+}
+
 // The constructor of the tuples of a width.
 fn tuple_named(names: &[TupleName], width: usize) -> Option<usize>
-    ensures { result ≡ tuple_among names.now width }
+    ensures { result ≡ symbol_of_width names.now width }
 {
     let (first, rest) = names.split_first()?;
     if first.width == width {

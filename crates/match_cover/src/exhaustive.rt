@@ -11,8 +11,8 @@ ghost use Rattle.match_cover.specs.Meaning.{shape_of, shapes_of, table_at, Table
 
 use crate::Shape;
 use crate::constructors::constructors_of;
-use crate::patterns::{column_told, specialized};
-use crate::shape::{behind_unknown, unknown, unknowns, with_built};
+use crate::patterns::{column_told, specialize_rows};
+use crate::shape::{behind_unknown, unknown_shape, unknowns, with_built};
 use outside::Seq;
 use std::alloc::{AllocError, Global};
 use tasks::Signature;
@@ -50,7 +50,7 @@ fn arity_of(store: &Store, sig: &Signature, con: usize) -> usize
 }
 
 // Shapes, one for each of so many columns from a place on, that no row takes; none where each is taken.
-fn missed(
+fn missed_shapes(
     alloc: Global,
     store: &Store,
     sig: &Signature,
@@ -76,18 +76,18 @@ fn missed(
     let cons = splits(alloc, store, sig, rows, at)?;
     let found = cons.as_slice();
     if found.is_empty() {
-        let rest = missed(alloc, store, sig, rows, at + 1, columns - 1)?;
+        let rest = missed_shapes(alloc, store, sig, rows, at + 1, columns - 1)?;
         let whole = behind_unknown(alloc, rest)?;
         return Ok(whole);
     }
     for con in found {
         let arity = arity_of(store, sig, *con);
-        let left = specialized(alloc, store, rows, at, *con, arity)?;
+        let left = specialize_rows(alloc, store, rows, at, *con, arity)?;
         let more = match arity.checked_add(columns - 1) {
             Some(more) => more,
             None => return Err(AllocError),
         };
-        match missed(alloc, store, sig, left.as_slice(), 0, more)? {
+        match missed_shapes(alloc, store, sig, left.as_slice(), 0, more)? {
             Some(shapes) => {
                 let whole = with_built(alloc, *con, arity, shapes)?;
                 return Ok(Some(whole));
@@ -138,11 +138,11 @@ pub fn cover(
         → IfOk result (λ o. IfSome o (λ s. shape_of s ≡ unspecified)) }
 {
     if patterns.is_empty() {
-        return Ok(Some(unknown(alloc)));
+        return Ok(Some(unknown_shape(alloc)));
     }
     let mut rows = Vec::new(alloc);
     push_alone(alloc, patterns, &mut rows)?;
-    let found = missed(alloc, store, sig, rows.as_slice(), 0, 1)?;
+    let found = missed_shapes(alloc, store, sig, rows.as_slice(), 0, 1)?;
     match found {
         Some(mut shapes) => {
             let last = shapes.pop();

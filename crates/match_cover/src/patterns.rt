@@ -16,13 +16,13 @@ use term_store::Store;
 use trees::{Node, TermId};
 
 // A pattern without the names that it gives to what it takes.
-fn bare(store: &Store, pattern: TermId) -> TermId
+fn bare_pattern(store: &Store, pattern: TermId) -> TermId
     requires { Holds store.now pattern }
     ensures tree { tree_at store.now result ≡ bare (tree_at store.now pattern) }
     ensures held { Holds store.now result }
 {
     match store.node(pattern) {
-        Node::PatAlias(inner) => bare(store, inner),
+        Node::PatAlias(inner) => bare_pattern(store, inner),
         _ => pattern,
     }
 }
@@ -45,7 +45,7 @@ fn push_members(store: &Store, list: TermId, out: &mut Vec<TermId>) -> Result<()
 }
 
 // The constructor of a pattern without names, and the list of its parts.
-fn apart(store: &Store, pattern: TermId) -> Option<(usize, TermId)>
+fn constructor_parts(store: &Store, pattern: TermId) -> Option<(usize, TermId)>
     requires { Holds store.now pattern }
     ensures tree { option_map (λ q. (q.0, tree_at store.now q.1)) result
         ≡ apart (tree_at store.now pattern) }
@@ -72,8 +72,8 @@ fn parts(
         ≡ opened con arity (bare (tree_at store.now pattern)) row) }
     ensures held { IfOk result (λ o. IfSome o (λ v. All (Holds store.now) v.items)) }
 {
-    let inner = bare(store, pattern);
-    match apart(store, inner) {
+    let inner = bare_pattern(store, pattern);
+    match constructor_parts(store, inner) {
         Some((found, list)) => {
             if found != con {
                 return Ok(None);
@@ -103,7 +103,7 @@ fn from_column<'a>(store: &Store, row: &'a Seq<TermId>, at: usize) -> &'a [TermI
 }
 
 // Patterns and others behind them, as one row.
-fn joined(store: &Store, parts: Vec<TermId>, rest: &[TermId]) -> Result<Seq<TermId>, AllocError>
+fn join_row(store: &Store, parts: Vec<TermId>, rest: &[TermId]) -> Result<Seq<TermId>, AllocError>
     requires parts_held { All (Holds store.now) parts.items }
     requires rest_held { All (Holds store.now) rest.now }
     ensures tree { IfOk result (λ r. trees_at store.now r
@@ -134,7 +134,7 @@ fn push_opened(
     match row.split_first() {
         Some((first, rest)) => match parts(alloc, store, *first, con, arity)? {
             Some(kept) => {
-                let whole = joined(store, kept, rest)?;
+                let whole = join_row(store, kept, rest)?;
                 out.push(whole)?;
                 Ok(())
             }
@@ -172,7 +172,7 @@ fn push_specialized(
 }
 
 // The rows that may take a constructor, from a column on, with the parts of the patterns in that column.
-pub(crate) fn specialized(
+pub(crate) fn specialize_rows(
     alloc: Global,
     store: &Store,
     rows: &[Seq<TermId>],
@@ -202,7 +202,7 @@ fn symbol_of_type(store: &Store, ty: TermId) -> Option<usize>
 }
 
 // The type symbol that a pattern without names tells of its values.
-fn told(store: &Store, pattern: TermId) -> Option<usize>
+fn told_type(store: &Store, pattern: TermId) -> Option<usize>
     requires { Holds store.now pattern }
     ensures { result ≡ told (tree_at store.now pattern) }
 {
@@ -218,7 +218,7 @@ fn row_told(store: &Store, row: &[TermId]) -> Option<usize>
     ensures { result ≡ row_told (trees_at store.now row.now) }
 {
     match row.first() {
-        Some(first) => told(store, bare(store, *first)),
+        Some(first) => told_type(store, bare_pattern(store, *first)),
         None => None,
     }
 }

@@ -19,7 +19,7 @@ pub struct Shape {
 }
 
 // The unspecified shape.
-pub(crate) fn unknown(alloc: Global) -> Shape
+pub(crate) fn unknown_shape(alloc: Global) -> Shape
     ensures { shape_of result ≡ unspecified }
 {
     Shape {
@@ -35,7 +35,7 @@ pub(crate) fn unknowns(alloc: Global, count: usize) -> Result<Vec<Shape>, AllocE
 {
     let mut shapes = Vec::new(alloc);
     for _made in 0..count {
-        shapes.push(unknown(alloc))?;
+        shapes.push(unknown_shape(alloc))?;
     }
     Ok(shapes)
 }
@@ -60,7 +60,7 @@ pub(crate) fn behind_unknown(
 {
     match shapes {
         Some(rest) => {
-            let all = with_first(alloc, unknown(alloc), rest)?;
+            let all = with_first(alloc, unknown_shape(alloc), rest)?;
             Ok(Some(all))
         }
         None => Ok(None),
@@ -68,7 +68,7 @@ pub(crate) fn behind_unknown(
 }
 
 // A constructor on shapes.
-fn built(con: usize, parts: Vec<Shape>) -> Shape
+fn build_shape(con: usize, parts: Vec<Shape>) -> Shape
     ensures { shape_of result ≡ built con (shapes_of parts.items) }
 {
     Shape {
@@ -91,6 +91,6 @@ pub(crate) fn with_built(
         (behind arity (shapes_of shapes.items))) }
 {
     let rest = shapes.split_off(arity)?;
-    let all = with_first(alloc, built(con, shapes), rest)?;
+    let all = with_first(alloc, build_shape(con, shapes), rest)?;
     Ok(all)
 }

@@ -14,7 +14,7 @@ use tasks::{Decl, Signature};
 use term_store::Store;
 
 /// What is wrong beside names and types, or want of memory.
-#[derive(Clone, Copy, Debug, PartialEq, Eq)]
+#[derive(Clone, Copy)]
 pub enum SideFault {
     Memory,
     /// The match at this token doesn't take all values.

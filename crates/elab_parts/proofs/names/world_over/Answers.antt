@@ -5,10 +5,10 @@ use Rattle.elab_parts.proofs.names.world_over.Goals as goal
 
 pub returns-clause-held : goal.returns-clause-held
 returns-clause-held c s h k =
-    let w : World = record { symbols = c.as_slice.result; scope = c.args.scope; tuples = c.args.tuples; vars = c.args.vars; new_vars = c.args.new_vars } in
-    world_held s c.args.sig.now.symbols c.args.scope.now w c.args.tuples.now c.as_slice.ensures refl refl (c.requires s) h k
+    let w : World = record { symbols = c.as_slice.result; scope = c.args.scope; vars = c.args.vars; new_vars = c.args.new_vars } in
+    world_held s c.args.sig.now.symbols c.args.scope.now w c.as_slice.ensures refl h k
 
 pub returns-clause-scoped : goal.returns-clause-scoped
 returns-clause-scoped c s h k =
-    let w : World = record { symbols = c.as_slice.result; scope = c.args.scope; tuples = c.args.tuples; vars = c.args.vars; new_vars = c.args.new_vars } in
-    world_scoped s c.args.sig.now.symbols c.args.scope.now w c.args.tuples.now c.as_slice.ensures refl refl (c.requires s) c.args.vars.now refl h k
+    let w : World = record { symbols = c.as_slice.result; scope = c.args.scope; vars = c.args.vars; new_vars = c.args.new_vars } in
+    world_scoped s c.args.sig.now.symbols c.args.scope.now w c.as_slice.ensures refl c.args.vars.now refl h k

@@ -8,8 +8,8 @@ use Rattle.elab_parts.specs.Values.{AreTypes, behind}
 use Rattle.elab_parts.proofs.Solving.{value_kind, if_err, clash_fault, first_fault, types_of_all}
 use Rattle.elab_parts.proofs.solution.solve_draft.Goals as goal
 
-pub determined-requires : goal.determined-requires
-determined-requires c u id l v = value_kind c.args.rigid c.solve.new.store _ c.in_ok-solution.solution c.in_ok-solution.ensures.general c.in_ok-solution.ensures.values u id l v
+pub determine_types-requires : goal.determine_types-requires
+determine_types-requires c u id l v = value_kind c.args.rigid c.solve.new.store _ c.in_ok-solution.solution c.in_ok-solution.ensures.general c.in_ok-solution.ensures.values u id l v
 
 pub returns-in_err-solution-clause-err : goal.returns-in_err-solution-clause-err
 returns-in_err-solution-clause-err c =
@@ -23,8 +23,8 @@ returns-clause-ok c =
     let ns : Notes = behind r (notes_at c.args.store.now c.args.draft.now) in
     let general : HasPrincipal r ns.equations = rw c.as_slice.ensures at c.in_ok-solution.ensures.general in
     let values = rw c.as_slice.ensures at c.in_ok-solution.ensures.values in
-    IfOk-weaker c.determined.result _ (λ types. AreTypes c.determined.new.store r ns types.items)
-    (λ types a. types_of_all r ns c.args.draft.now.takers refl c.requires.own c.solve.new.store c.determined.new.store c.in_ok-solution.solution c.determined.ensures.grows general values types.items (rw c.as_slice-2.ensures at a)) c.determined.ensures.ok
+    IfOk-weaker c.determine_types.result _ (λ types. AreTypes c.determine_types.new.store r ns types.items)
+    (λ types a. types_of_all r ns c.args.draft.now.takers refl c.requires.own c.solve.new.store c.determine_types.new.store c.in_ok-solution.solution c.determine_types.ensures.grows general values types.items (rw c.as_slice-2.ensures at a)) c.determine_types.ensures.ok
 
 pub returns-clause-err : goal.returns-clause-err
 returns-clause-err c =
@@ -32,5 +32,5 @@ returns-clause-err c =
     let ns : Notes = behind r (notes_at c.args.store.now c.args.draft.now) in
     let general : HasPrincipal r ns.equations = rw c.as_slice.ensures at c.in_ok-solution.ensures.general in
     let values = rw c.as_slice.ensures at c.in_ok-solution.ensures.values in
-    IfErr-weaker c.determined.result _ (IsTypingFault r ns)
-    (λ f a. first_fault r ns c.args.draft.now.takers refl c.requires.own c.solve.new.store c.determined.new.store c.in_ok-solution.solution c.determined.ensures.grows general values f (rw c.as_slice-2.ensures at a)) c.determined.ensures.err
+    IfErr-weaker c.determine_types.result _ (IsTypingFault r ns)
+    (λ f a. first_fault r ns c.args.draft.now.takers refl c.requires.own c.solve.new.store c.determine_types.new.store c.in_ok-solution.solution c.determine_types.ensures.grows general values f (rw c.as_slice-2.ensures at a)) c.determine_types.ensures.err

@@ -13,8 +13,8 @@ use Rattle.elab_parts.proofs.Tupled.{over_extended, formula_resolved}
 use Rattle.elab_terms.proofs.Over.{always, solved_over, fault_over}
 use Rattle.elab_terms.proofs.propositions.solve_proposition.Goals as goal
 
-pub solved-requires-clause-resolved : goal.solved-requires-clause-resolved
-solved-requires-clause-resolved c =
+pub solve_formula-requires-clause-resolved : goal.solve_formula-requires-clause-resolved
+solve_formula-requires-clause-resolved c =
     let s = c.args.store.now in
     let s1 = c.push_tuples.new.store in
     let g = c.args.sig.now in
@@ -24,7 +24,7 @@ solved-requires-clause-resolved c =
     let vars = c.args.seen.now.vars in
     let more : List SymbolTree = wanting_tuples (symbols_at s g.symbols) c.args.seen.now.widths in
     let ext : IsExtended s g s1 g1 more = rw c.as_slice.ensures at c.in_ok-push_tuples.ensures.entries in
-    let is : where_at s1 c.world_over-world.result ≡ over s (symbols_at s g.symbols ++ more) names vars = c.world_over-world.ensures.names s1 ∙ (ap (over s1 (symbols_at s1 g1.symbols) names) c.as_slice-4.ensures ∙ over_extended s s1 c.push_tuples.ensures.grows g g1 more names c.requires.signature c.requires.scopes ext vars) in
+    let is : where_at s1 c.world_over-world.result ≡ over s (symbols_at s g.symbols ++ more) names vars = c.world_over-world.ensures.names s1 ∙ (ap (over s1 (symbols_at s1 g1.symbols) names) c.as_slice-2.ensures ∙ over_extended s s1 c.push_tuples.ensures.grows g g1 more names c.requires.signature c.requires.scopes ext vars) in
     ap (λ (v : Where). fault v false [] true e) (is ∙ ap (λ sn. over s (symbols_at s g.symbols ++ more) names sn.vars) c.requires.seen)
     ∙ formula_resolved s s1 c.push_tuples.ensures.grows g g1 more names c.requires.signature c.requires.scopes ext e c.requires.resolved
 
@@ -34,7 +34,7 @@ returns-clause-entries c =
     let g = c.args.sig.now in
     let more : List SymbolTree = wanting_tuples (symbols_at s g.symbols) c.args.seen.now.widths in
     let ext : IsExtended s g c.push_tuples.new.store c.push_tuples.new.sig more = rw c.as_slice.ensures at c.in_ok-push_tuples.ensures.entries in
-    always c.solved.result (extended_grows more c.solved.ensures.grows ext)
+    always c.solve_formula.result (extended_grows more c.solve_formula.ensures.grows ext)
 
 pub returns-clause-ok : goal.returns-clause-ok
 returns-clause-ok c =
@@ -47,9 +47,9 @@ returns-clause-ok c =
     let more : List SymbolTree = wanting_tuples (symbols_at s g.symbols) c.args.seen.now.widths in
     let ext : IsExtended s g s1 g1 more = rw c.as_slice.ensures at c.in_ok-push_tuples.ensures.entries in
     let world = c.world_over-world.result in
-    let is : where_at s1 world ≡ over s (symbols_at s g.symbols ++ more) names vars = c.world_over-world.ensures.names s1 ∙ (ap (over s1 (symbols_at s1 g1.symbols) names) c.as_slice-4.ensures ∙ over_extended s s1 c.push_tuples.ensures.grows g g1 more names c.requires.signature c.requires.scopes ext vars) in
-    let n : length world.vars.now ≡ length vars = ap length (c.world_over-world.ensures.vars ∙ c.as_slice-4.ensures) in
-    IfOk-weaker c.solved.result _ _ (λ it h. solved_over (where_at s1 world) (over s (symbols_at s g.symbols ++ more) names vars) (length world.vars.now) (length vars) (expression_of c.args.e.now) _ _ is n h) c.solved.ensures.ok
+    let is : where_at s1 world ≡ over s (symbols_at s g.symbols ++ more) names vars = c.world_over-world.ensures.names s1 ∙ (ap (over s1 (symbols_at s1 g1.symbols) names) c.as_slice-2.ensures ∙ over_extended s s1 c.push_tuples.ensures.grows g g1 more names c.requires.signature c.requires.scopes ext vars) in
+    let n : length world.vars.now ≡ length vars = ap length (c.world_over-world.ensures.vars ∙ c.as_slice-2.ensures) in
+    IfOk-weaker c.solve_formula.result _ _ (λ it h. solved_over (where_at s1 world) (over s (symbols_at s g.symbols ++ more) names vars) (length world.vars.now) (length vars) (expression_of c.args.e.now) _ _ is n h) c.solve_formula.ensures.ok
 
 pub returns-clause-err : goal.returns-clause-err
 returns-clause-err c =
@@ -62,6 +62,6 @@ returns-clause-err c =
     let more : List SymbolTree = wanting_tuples (symbols_at s g.symbols) c.args.seen.now.widths in
     let ext : IsExtended s g s1 g1 more = rw c.as_slice.ensures at c.in_ok-push_tuples.ensures.entries in
     let world = c.world_over-world.result in
-    let is : where_at s1 world ≡ over s (symbols_at s g.symbols ++ more) names vars = c.world_over-world.ensures.names s1 ∙ (ap (over s1 (symbols_at s1 g1.symbols) names) c.as_slice-4.ensures ∙ over_extended s s1 c.push_tuples.ensures.grows g g1 more names c.requires.signature c.requires.scopes ext vars) in
-    let n : length world.vars.now ≡ length vars = ap length (c.world_over-world.ensures.vars ∙ c.as_slice-4.ensures) in
-    IfErr-weaker c.solved.result _ _ (λ f h. fault_over (where_at s1 world) (over s (symbols_at s g.symbols ++ more) names vars) (length world.vars.now) (length vars) (expression_of c.args.e.now) f is n h) c.solved.ensures.err
+    let is : where_at s1 world ≡ over s (symbols_at s g.symbols ++ more) names vars = c.world_over-world.ensures.names s1 ∙ (ap (over s1 (symbols_at s1 g1.symbols) names) c.as_slice-2.ensures ∙ over_extended s s1 c.push_tuples.ensures.grows g g1 more names c.requires.signature c.requires.scopes ext vars) in
+    let n : length world.vars.now ≡ length vars = ap length (c.world_over-world.ensures.vars ∙ c.as_slice-2.ensures) in
+    IfErr-weaker c.solve_formula.result _ _ (λ f h. fault_over (where_at s1 world) (over s (symbols_at s g.symbols ++ more) names vars) (length world.vars.now) (length vars) (expression_of c.args.e.now) f is n h) c.solve_formula.ensures.err

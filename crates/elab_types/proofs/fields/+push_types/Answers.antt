@@ -28,10 +28,7 @@ push_types-requires t c =
         signature_grows s s1 g c.args.sig.now.symbols c.requires.signature,
         (
           things_grow s s1 g c.args.scope.now c.requires.scopes,
-          (
-            c.requires.tuples,
-            (rw c.in_ok-push.ensures.ok (algs_more s s1 g c.args.made.now alg c.requires.made (record { cons = c.in_ok-cons.ensures.typed })), (omega (arith, l, c.requires.symbols), omega (arith, f, c.in_ok-cons.ensures.number))),
-          ),
+          (rw c.in_ok-push.ensures.ok (algs_more s s1 g c.args.made.now alg c.requires.made (record { cons = c.in_ok-cons.ensures.typed })), (omega (arith, l, c.requires.symbols), omega (arith, f, c.in_ok-cons.ensures.number))),
         ),
       ),
     )

@@ -14,8 +14,8 @@ returns-clause-bound t c =
     let u = c.in_ok-ty.ensures in
     let l : Local = record { name = c.as_slice.result; ty = c.in_ok-ty.ty } in
     let v : LocalTree = local c.in-Some.first.now.text (unknown n) in
-    let e : local_at c.unknown.new.store l ≡ v = cc (c.as_slice.ensures, u.tree) in
+    let e : local_at c.new_unknown.new.store l ≡ v = cc (c.as_slice.ensures, u.tree) in
     let z : n + 1 ≡ suc n = omega arith in
-    let k : length c.unknown.new.draft.takers ≡ suc n = next u.noted ∙ z in
+    let k : length c.new_unknown.new.draft.takers ≡ suc n = next u.noted ∙ z in
     let b = rw (c.in_ok-push.ensures.items, k) at c.bind_untyped.ensures.bound in
     rw c.in-Some.ensures.cases.0 (on_ok_weaker c.bind_untyped.result (λ h. bound_first l v (noted [] (c.args.token ∷ [])) (suc (length c.in-Some.rest.now)) u.grows c.requires.held e u.noted refl h) b)

@@ -177,13 +177,13 @@ pub walk-walk-requires-in-Equality : goal.walk-walk-requires-in-Equality
 walk-walk-requires-in-Equality t c =
     let is = operated_as c.args.e.now c.in-Binary.left c.in-Binary.op c.in-Binary.right c.in-Binary.is (equality c.in-Equality.same) (sym c.infix_operation.ensures ∙ ap operation_at c.in-Equality.is) in
     let h = in_equated (where_at c.args.store.now c.args.world.now) false (names_of c.args.locals.now) (is_due c.args.wanted) c.args.e.now.at.main c.in-Equality.same (expression_of c.in-Binary.left) (expression_of c.in-Binary.right) (rw is at c.requires.resolved) in
-    (omega (arith, size_at-Binary c.args.e.now c.in-Binary.left c.in-Binary.op c.in-Binary.right c.in-Binary.is, ap size_of c.get-in-Equality.ensures), go_on c.requires.set c.unknown.ensures.grows c.in_ok-ty-in-Equality.ensures.noted.ready c.in_ok-ty-in-Equality.ensures.held (rw c.get-in-Equality.ensures h.1))
+    (omega (arith, size_at-Binary c.args.e.now c.in-Binary.left c.in-Binary.op c.in-Binary.right c.in-Binary.is, ap size_of c.get-in-Equality.ensures), go_on c.requires.set c.new_unknown.ensures.grows c.in_ok-ty-in-Equality.ensures.noted.ready c.in_ok-ty-in-Equality.ensures.held (rw c.get-in-Equality.ensures h.1))
 
 pub walk-walk-requires-in-Equality-2 : goal.walk-walk-requires-in-Equality-2
 walk-walk-requires-in-Equality-2 t c =
     let is = operated_as c.args.e.now c.in-Binary.left c.in-Binary.op c.in-Binary.right c.in-Binary.is (equality c.in-Equality.same) (sym c.infix_operation.ensures ∙ ap operation_at c.in-Equality.is) in
     let h = in_equated (where_at c.args.store.now c.args.world.now) false (names_of c.args.locals.now) (is_due c.args.wanted) c.args.e.now.at.main c.in-Equality.same (expression_of c.in-Binary.left) (expression_of c.in-Binary.right) (rw is at c.requires.resolved) in
-    (omega (arith, size_at-Binary c.args.e.now c.in-Binary.left c.in-Binary.op c.in-Binary.right c.in-Binary.is, ap size_of c.get-in-Equality-2.ensures), go_on c.requires.set (Grows_trans _ _ _ c.unknown.ensures.grows c.walk-in-Equality.ensures.grows) c.in_ok-a-in-Equality.ensures.walked.noted.ready (type_grows _ _ c.walk-in-Equality.ensures.grows c.in_ok-ty-in-Equality.ty c.in_ok-ty-in-Equality.ensures.held) (rw c.get-in-Equality-2.ensures h.2))
+    (omega (arith, size_at-Binary c.args.e.now c.in-Binary.left c.in-Binary.op c.in-Binary.right c.in-Binary.is, ap size_of c.get-in-Equality-2.ensures), go_on c.requires.set (Grows_trans _ _ _ c.new_unknown.ensures.grows c.walk-in-Equality.ensures.grows) c.in_ok-a-in-Equality.ensures.walked.noted.ready (type_grows _ _ c.walk-in-Equality.ensures.grows c.in_ok-ty-in-Equality.ty c.in_ok-ty-in-Equality.ensures.held) (rw c.get-in-Equality-2.ensures h.2))
 
 pub walk-returns-in_ok-b-in-Equality-clause-walked : goal.walk-returns-in_ok-b-in-Equality-clause-walked
 walk-returns-in_ok-b-in-Equality-clause-walked t c =
@@ -192,9 +192,9 @@ walk-returns-in_ok-b-in-Equality-clause-walked t c =
     let n : ℕ = length c.args.draft.now.takers in
     let u = c.in_ok-ty-in-Equality.ensures in
     let ty = c.in_ok-ty-in-Equality.ty in
-    let a = as_begun c.requires.set c.unknown.ensures.grows (Some ty) (expression_of c.in-Binary.left) (n + 1) (Some (unknown n)) (next u.noted) (ap Some u.tree) (rw c.get-in-Equality.ensures at c.in_ok-a-in-Equality.ensures.walked) in
+    let a = as_begun c.requires.set c.new_unknown.ensures.grows (Some ty) (expression_of c.in-Binary.left) (n + 1) (Some (unknown n)) (next u.noted) (ap Some u.tree) (rw c.get-in-Equality.ensures at c.in_ok-a-in-Equality.ensures.walked) in
     let p = piece (where_at c.args.store.now c.args.world.now) (locals_at c.args.store.now c.args.locals.now) (n + 1) (Some (unknown n)) (expression_of c.in-Binary.left) in
-    let far = Grows_trans _ _ _ c.unknown.ensures.grows c.walk-in-Equality.ensures.grows in
+    let far = Grows_trans _ _ _ c.new_unknown.ensures.grows c.walk-in-Equality.ensures.grows in
     let l = next a.noted ∙ ap (λ (m : ℕ). m + taken p.notes) (next u.noted) in
     let own = type_stays _ _ c.walk-in-Equality.ensures.grows ty u.held ∙ u.tree in
     let b = as_begun c.requires.set far (Some ty) (expression_of c.in-Binary.right) (past (n + 1) p) (Some (unknown n)) l (ap Some own) (rw c.get-in-Equality-2.ensures at c.in_ok-b-in-Equality.ensures.walked) in
@@ -250,13 +250,13 @@ pub walk-walk-requires-in-Some : goal.walk-walk-requires-in-Some
 walk-walk-requires-in-Some t c =
     let is = bound_as c.args.e.now c.in-Let.patterns c.in-Let.value c.in-Let.body c.in-Let.is c.in-Some.name.now.text (rw (c.as_slice-in-Let.ensures, c.in-Some.is) at c.let_name.ensures) in
     let h = in_binding (where_at c.args.store.now c.args.world.now) false (names_of c.args.locals.now) (is_due c.args.wanted) c.args.e.now.at.main c.in-Some.name.now.text (expression_of c.in-Let.value) (expression_of c.in-Let.body) (rw is at c.requires.resolved) in
-    (omega (arith, size_at-Let c.args.e.now c.in-Let.patterns c.in-Let.value c.in-Let.body c.in-Let.is, ap size_of c.get-in-Some.ensures), go_on c.requires.set c.unknown-in-Some.ensures.grows c.in_ok-ty-in-Some.ensures.noted.ready c.in_ok-ty-in-Some.ensures.held (rw c.get-in-Some.ensures h.0))
+    (omega (arith, size_at-Let c.args.e.now c.in-Let.patterns c.in-Let.value c.in-Let.body c.in-Let.is, ap size_of c.get-in-Some.ensures), go_on c.requires.set c.new_unknown-in-Some.ensures.grows c.in_ok-ty-in-Some.ensures.noted.ready c.in_ok-ty-in-Some.ensures.held (rw c.get-in-Some.ensures h.0))
 
 pub walk-walk-requires-in-Some-2 : goal.walk-walk-requires-in-Some-2
 walk-walk-requires-in-Some-2 t c =
     let is = bound_as c.args.e.now c.in-Let.patterns c.in-Let.value c.in-Let.body c.in-Let.is c.in-Some.name.now.text (rw (c.as_slice-in-Let.ensures, c.in-Some.is) at c.let_name.ensures) in
     let h = in_binding (where_at c.args.store.now c.args.world.now) false (names_of c.args.locals.now) (is_due c.args.wanted) c.args.e.now.at.main c.in-Some.name.now.text (expression_of c.in-Let.value) (expression_of c.in-Let.body) (rw is at c.requires.resolved) in
-    let g = Grows_trans _ _ _ c.unknown-in-Some.ensures.grows c.walk-in-Some.ensures.grows in
+    let g = Grows_trans _ _ _ c.new_unknown-in-Some.ensures.grows c.walk-in-Some.ensures.grows in
     let own = type_grows _ _ c.walk-in-Some.ensures.grows c.in_ok-ty-in-Some.ty c.in_ok-ty-in-Some.ensures.held in (
       omega (arith, size_at-Let c.args.e.now c.in-Let.patterns c.in-Let.value c.in-Let.body c.in-Let.is, ap size_of c.get-in-Some-2.ensures),
       go_inside c.requires.set _ g c.in_ok-a-in-Some.ensures.walked.noted.ready (one_held _ _ own, locals_grow _ _ g c.args.locals.now c.requires.set.locals) (wanted_grows _ _ g c.args.wanted c.requires.wanted) (rw (c.get-in-Some-2.ensures, c.as_slice-in-Some.ensures) h.1),
@@ -275,7 +275,7 @@ walk-returns-in_ok-b-in-Some-clause-walked t c =
     let want : Option Tree = option_map (tree_at s) c.args.wanted in
     let u = c.in_ok-ty-in-Some.ensures in
     let ty = c.in_ok-ty-in-Some.ty in
-    let g1 = c.unknown-in-Some.ensures.grows in
+    let g1 = c.new_unknown-in-Some.ensures.grows in
     let a = as_begun c.requires.set g1 (Some ty) (expression_of c.in-Let.value) (n + 1) (Some (unknown n)) (next u.noted) (ap Some u.tree) (rw c.get-in-Some.ensures at c.in_ok-a-in-Some.ensures.walked) in
     let p = piece (where_at s c.args.world.now) (locals_at s c.args.locals.now) (n + 1) (Some (unknown n)) (expression_of c.in-Let.value) in
     let g = Grows_trans _ _ _ g1 c.walk-in-Some.ensures.grows in
@@ -433,7 +433,7 @@ pub walk_group-returns-clause-walked : goal.walk_group-returns-clause-walked
 walk_group-returns-clause-walked t c =
     let many = group_many c.args.token c.args.list.now c.if-list-eq1.false in
     let count = counted c.args.list.now in
-    rw many (rw (c.tuple_named-symbol.ensures, sym count) at c.walk_symbol.ensures.walked)
+    rw many (rw (c.tuple_named-symbol.ensures c.args.store.now, sym count) at c.walk_symbol.ensures.walked)
 
 -- ---- quantifiers
 pub walk_quantified-bind-requires-clause-held : goal.walk_quantified-bind-requires-clause-held
@@ -548,12 +548,12 @@ walk_match-walk_group-requires t c =
     let w = where_at c.args.store.now c.args.world.now in
     let h = in_cases w (names_of c.args.locals.now) (is_due c.args.wanted) c.args.token (grouped (first_tree (code.trees (map code.tree_of c.args.values.now))) (expressions_of c.args.values.now)) (branches_of c.args.branches.now) c.requires.resolved in
     let none' = ap (λ (i : ℕ). fault w false (names_of c.args.locals.now) false (grouped i (expressions_of c.args.values.now))) c.first_token-first.ensures ∙ h.0 in
-    (omega arith, go_on c.requires.set c.unknown.ensures.grows c.in_ok-ty.ensures.noted.ready c.in_ok-ty.ensures.held none')
+    (omega arith, go_on c.requires.set c.new_unknown.ensures.grows c.in_ok-ty.ensures.noted.ready c.in_ok-ty.ensures.held none')
 
 pub walk_match-walk_branches-requires : goal.walk_match-walk_branches-requires
 walk_match-walk_branches-requires t c =
     let h = in_cases (where_at c.args.store.now c.args.world.now) (names_of c.args.locals.now) (is_due c.args.wanted) c.args.token (grouped (first_tree (code.trees (map code.tree_of c.args.values.now))) (expressions_of c.args.values.now)) (branches_of c.args.branches.now) c.requires.resolved in
-    let g = Grows_trans _ _ _ c.unknown.ensures.grows c.walk_group.ensures.grows in (
+    let g = Grows_trans _ _ _ c.new_unknown.ensures.grows c.walk_group.ensures.grows in (
       omega arith,
       record {
         set = set_on c.requires.set g c.in_ok-subject.ensures.walked.noted.ready;
@@ -569,7 +569,7 @@ walk_match-returns-clause-walked t c =
     let u = c.in_ok-ty.ensures in
     let a = rw c.first_token-first.ensures at c.in_ok-subject.ensures.walked in
     let r = rw c.new-patterns.ensures at c.in_ok-arms.ensures.arms in
-    IfOk-weaker c.make.result _ _ (λ id m. match_walked c.args.token (grouped (first_tree (code.trees (map code.tree_of c.args.values.now))) (expressions_of c.args.values.now)) (branches_of c.args.branches.now) c.requires c.in_ok-place.place c.in_ok-place.ensures.place c.in_ok-place.ensures.noted u.tree u.held u.noted c.unknown.ensures.grows a c.walk_group.ensures.grows r c.walk_branches.ensures.grows c.fill.ensures.equations c.fill.ensures.takers c.fill.ensures.matches m) c.make.ensures.made
+    IfOk-weaker c.make.result _ _ (λ id m. match_walked c.args.token (grouped (first_tree (code.trees (map code.tree_of c.args.values.now))) (expressions_of c.args.values.now)) (branches_of c.args.branches.now) c.requires c.in_ok-place.place c.in_ok-place.ensures.place c.in_ok-place.ensures.noted u.tree u.held u.noted c.new_unknown.ensures.grows a c.walk_group.ensures.grows r c.walk_branches.ensures.grows c.fill.ensures.equations c.fill.ensures.takers c.fill.ensures.matches m) c.make.ensures.made
 
 pub walk_branch-walk-requires : goal.walk_branch-walk-requires
 walk_branch-walk-requires t c =
@@ -640,12 +640,12 @@ walk_branch-returns-clause-arms t c =
 pub walk_matched-walk-requires : goal.walk_matched-walk-requires
 walk_matched-walk-requires t c =
     let h = in_cases (where_at c.args.store.now c.args.world.now) (names_of c.args.locals.now) (is_due c.args.wanted) c.args.token (expression_of c.args.value.now) (more_branches (more_alternatives (first_form (code.patterns c.args.pattern.now)) (side_by_side (code.patterns c.args.pattern.now)) no_alternatives) (expression_of c.args.body.now) no_branches) c.requires.resolved in
-    (omega arith, go_on c.requires.set c.unknown.ensures.grows c.in_ok-ty.ensures.noted.ready c.in_ok-ty.ensures.held h.0)
+    (omega arith, go_on c.requires.set c.new_unknown.ensures.grows c.in_ok-ty.ensures.noted.ready c.in_ok-ty.ensures.held h.0)
 
 pub walk_matched-walk_branch-requires : goal.walk_matched-walk_branch-requires
 walk_matched-walk_branch-requires t c =
     let h = in_cases (where_at c.args.store.now c.args.world.now) (names_of c.args.locals.now) (is_due c.args.wanted) c.args.token (expression_of c.args.value.now) (more_branches (more_alternatives (first_form (code.patterns c.args.pattern.now)) (side_by_side (code.patterns c.args.pattern.now)) no_alternatives) (expression_of c.args.body.now) no_branches) c.requires.resolved in
-    let g = Grows_trans _ _ _ c.unknown.ensures.grows c.walk.ensures.grows in (
+    let g = Grows_trans _ _ _ c.new_unknown.ensures.grows c.walk.ensures.grows in (
       omega arith,
       record {
         set = set_on c.requires.set g c.in_ok-subject.ensures.walked.noted.ready;
@@ -660,7 +660,7 @@ pub walk_matched-returns-clause-walked : goal.walk_matched-returns-clause-walked
 walk_matched-returns-clause-walked t c =
     let u = c.in_ok-ty.ensures in
     let r = rw c.new-patterns.ensures at c.in_ok-arms.ensures.arms in
-    IfOk-weaker c.make.result _ _ (λ id m. match_walked c.args.token (expression_of c.args.value.now) (more_branches (more_alternatives (first_form (code.patterns c.args.pattern.now)) (side_by_side (code.patterns c.args.pattern.now)) no_alternatives) (expression_of c.args.body.now) no_branches) c.requires c.in_ok-place.place c.in_ok-place.ensures.place c.in_ok-place.ensures.noted u.tree u.held u.noted c.unknown.ensures.grows c.in_ok-subject.ensures.walked c.walk.ensures.grows r c.walk_branch.ensures.grows c.fill.ensures.equations c.fill.ensures.takers c.fill.ensures.matches m) c.make.ensures.made
+    IfOk-weaker c.make.result _ _ (λ id m. match_walked c.args.token (expression_of c.args.value.now) (more_branches (more_alternatives (first_form (code.patterns c.args.pattern.now)) (side_by_side (code.patterns c.args.pattern.now)) no_alternatives) (expression_of c.args.body.now) no_branches) c.requires c.in_ok-place.place c.in_ok-place.ensures.place c.in_ok-place.ensures.noted u.tree u.held u.noted c.new_unknown.ensures.grows c.in_ok-subject.ensures.walked c.walk.ensures.grows r c.walk_branch.ensures.grows c.fill.ensures.equations c.fill.ensures.takers c.fill.ensures.matches m) c.make.ensures.made
 
 pub walk_branches-returns-in_default-clause-arms : goal.walk_branches-returns-in_default-clause-arms
 walk_branches-returns-in_default-clause-arms t c =
@@ -751,13 +751,13 @@ pub walk-returns-in_err-b-in-Connective-clause-grows : goal.walk-returns-in_err-
 walk-returns-in_err-b-in-Connective-clause-grows t c = Grows_trans _ _ _ c.walk-in-Connective.ensures.grows c.walk-in-Connective-2.ensures.grows
 
 pub walk-returns-in_ok-b-in-Equality-clause-grows : goal.walk-returns-in_ok-b-in-Equality-clause-grows
-walk-returns-in_ok-b-in-Equality-clause-grows t c = Grows_trans _ _ _ c.unknown.ensures.grows (Grows_trans _ _ _ c.walk-in-Equality.ensures.grows (Grows_trans _ _ _ c.walk-in-Equality-2.ensures.grows c.make_equality.ensures.grows))
+walk-returns-in_ok-b-in-Equality-clause-grows t c = Grows_trans _ _ _ c.new_unknown.ensures.grows (Grows_trans _ _ _ c.walk-in-Equality.ensures.grows (Grows_trans _ _ _ c.walk-in-Equality-2.ensures.grows c.make_equality.ensures.grows))
 
 pub walk-returns-in_err-a-in-Equality-clause-grows : goal.walk-returns-in_err-a-in-Equality-clause-grows
-walk-returns-in_err-a-in-Equality-clause-grows t c = Grows_trans _ _ _ c.unknown.ensures.grows c.walk-in-Equality.ensures.grows
+walk-returns-in_err-a-in-Equality-clause-grows t c = Grows_trans _ _ _ c.new_unknown.ensures.grows c.walk-in-Equality.ensures.grows
 
 pub walk-returns-in_err-b-in-Equality-clause-grows : goal.walk-returns-in_err-b-in-Equality-clause-grows
-walk-returns-in_err-b-in-Equality-clause-grows t c = Grows_trans _ _ _ c.unknown.ensures.grows (Grows_trans _ _ _ c.walk-in-Equality.ensures.grows c.walk-in-Equality-2.ensures.grows)
+walk-returns-in_err-b-in-Equality-clause-grows t c = Grows_trans _ _ _ c.new_unknown.ensures.grows (Grows_trans _ _ _ c.walk-in-Equality.ensures.grows c.walk-in-Equality-2.ensures.grows)
 
 pub walk-returns-in_ok-b-in-If-clause-grows : goal.walk-returns-in_ok-b-in-If-clause-grows
 walk-returns-in_ok-b-in-If-clause-grows t c = Grows_trans _ _ _ c.walk-in-If.ensures.grows (Grows_trans _ _ _ c.walk-in-If-2.ensures.grows (Grows_trans _ _ _ c.walk-in-If-3.ensures.grows c.make-in-If.ensures.grows))
@@ -769,13 +769,13 @@ pub walk-returns-in_err-b-in-If-clause-grows : goal.walk-returns-in_err-b-in-If-
 walk-returns-in_err-b-in-If-clause-grows t c = Grows_trans _ _ _ c.walk-in-If.ensures.grows (Grows_trans _ _ _ c.walk-in-If-2.ensures.grows c.walk-in-If-3.ensures.grows)
 
 pub walk-returns-in_ok-b-in-Some-clause-grows : goal.walk-returns-in_ok-b-in-Some-clause-grows
-walk-returns-in_ok-b-in-Some-clause-grows t c = Grows_trans _ _ _ c.unknown-in-Some.ensures.grows (Grows_trans _ _ _ c.walk-in-Some.ensures.grows (Grows_trans _ _ _ c.walk-in-Some-2.ensures.grows c.make-in-Some.ensures.grows))
+walk-returns-in_ok-b-in-Some-clause-grows t c = Grows_trans _ _ _ c.new_unknown-in-Some.ensures.grows (Grows_trans _ _ _ c.walk-in-Some.ensures.grows (Grows_trans _ _ _ c.walk-in-Some-2.ensures.grows c.make-in-Some.ensures.grows))
 
 pub walk-returns-in_err-a-in-Some-clause-grows : goal.walk-returns-in_err-a-in-Some-clause-grows
-walk-returns-in_err-a-in-Some-clause-grows t c = Grows_trans _ _ _ c.unknown-in-Some.ensures.grows c.walk-in-Some.ensures.grows
+walk-returns-in_err-a-in-Some-clause-grows t c = Grows_trans _ _ _ c.new_unknown-in-Some.ensures.grows c.walk-in-Some.ensures.grows
 
 pub walk-returns-in_err-b-in-Some-clause-grows : goal.walk-returns-in_err-b-in-Some-clause-grows
-walk-returns-in_err-b-in-Some-clause-grows t c = Grows_trans _ _ _ c.unknown-in-Some.ensures.grows (Grows_trans _ _ _ c.walk-in-Some.ensures.grows c.walk-in-Some-2.ensures.grows)
+walk-returns-in_err-b-in-Some-clause-grows t c = Grows_trans _ _ _ c.new_unknown-in-Some.ensures.grows (Grows_trans _ _ _ c.walk-in-Some.ensures.grows c.walk-in-Some-2.ensures.grows)
 
 pub walk_symbol-returns-clause-grows : goal.walk_symbol-returns-clause-grows
 walk_symbol-returns-clause-grows t c = Grows_trans _ _ _ c.begin_use.ensures.grows (Grows_trans _ _ _ c.types_put.ensures.grows (Grows_trans _ _ _ c.walk_all.ensures.grows c.finish_use.ensures.grows))
@@ -808,22 +808,22 @@ pub walk_terms-returns-in_err-walk-clause-grows : goal.walk_terms-returns-in_err
 walk_terms-returns-in_err-walk-clause-grows t c = Grows_trans _ _ _ c.trigger_type.ensures.grows c.walk.ensures.grows
 
 pub walk_match-returns-clause-grows : goal.walk_match-returns-clause-grows
-walk_match-returns-clause-grows t c = Grows_trans _ _ _ c.unknown.ensures.grows (Grows_trans _ _ _ c.walk_group.ensures.grows (Grows_trans _ _ _ c.walk_branches.ensures.grows c.make.ensures.grows))
+walk_match-returns-clause-grows t c = Grows_trans _ _ _ c.new_unknown.ensures.grows (Grows_trans _ _ _ c.walk_group.ensures.grows (Grows_trans _ _ _ c.walk_branches.ensures.grows c.make.ensures.grows))
 
 pub walk_match-returns-in_err-subject-clause-grows : goal.walk_match-returns-in_err-subject-clause-grows
-walk_match-returns-in_err-subject-clause-grows t c = Grows_trans _ _ _ c.unknown.ensures.grows c.walk_group.ensures.grows
+walk_match-returns-in_err-subject-clause-grows t c = Grows_trans _ _ _ c.new_unknown.ensures.grows c.walk_group.ensures.grows
 
 pub walk_match-returns-in_err-arms-clause-grows : goal.walk_match-returns-in_err-arms-clause-grows
-walk_match-returns-in_err-arms-clause-grows t c = Grows_trans _ _ _ c.unknown.ensures.grows (Grows_trans _ _ _ c.walk_group.ensures.grows c.walk_branches.ensures.grows)
+walk_match-returns-in_err-arms-clause-grows t c = Grows_trans _ _ _ c.new_unknown.ensures.grows (Grows_trans _ _ _ c.walk_group.ensures.grows c.walk_branches.ensures.grows)
 
 pub walk_matched-returns-clause-grows : goal.walk_matched-returns-clause-grows
-walk_matched-returns-clause-grows t c = Grows_trans _ _ _ c.unknown.ensures.grows (Grows_trans _ _ _ c.walk.ensures.grows (Grows_trans _ _ _ c.walk_branch.ensures.grows c.make.ensures.grows))
+walk_matched-returns-clause-grows t c = Grows_trans _ _ _ c.new_unknown.ensures.grows (Grows_trans _ _ _ c.walk.ensures.grows (Grows_trans _ _ _ c.walk_branch.ensures.grows c.make.ensures.grows))
 
 pub walk_matched-returns-in_err-subject-clause-grows : goal.walk_matched-returns-in_err-subject-clause-grows
-walk_matched-returns-in_err-subject-clause-grows t c = Grows_trans _ _ _ c.unknown.ensures.grows c.walk.ensures.grows
+walk_matched-returns-in_err-subject-clause-grows t c = Grows_trans _ _ _ c.new_unknown.ensures.grows c.walk.ensures.grows
 
 pub walk_matched-returns-in_err-arms-clause-grows : goal.walk_matched-returns-in_err-arms-clause-grows
-walk_matched-returns-in_err-arms-clause-grows t c = Grows_trans _ _ _ c.unknown.ensures.grows (Grows_trans _ _ _ c.walk.ensures.grows c.walk_branch.ensures.grows)
+walk_matched-returns-in_err-arms-clause-grows t c = Grows_trans _ _ _ c.new_unknown.ensures.grows (Grows_trans _ _ _ c.walk.ensures.grows c.walk_branch.ensures.grows)
 
 pub walk_branches-returns-in_ok-walk-in-None-clause-grows : goal.walk_branches-returns-in_ok-walk-in-None-clause-grows
 walk_branches-returns-in_ok-walk-in-None-clause-grows t c = Grows_trans _ _ _ c.walk.ensures.grows c.walk_branches.ensures.grows

@@ -158,4 +158,4 @@ walk_grouped-walk_constructor-requires t c = (omega arith, c.requires)
 
 pub walk_grouped-returns-clause-matched : goal.walk_grouped-returns-clause-matched
 walk_grouped-returns-clause-matched t c =
-    rw (grouped_many c.args.token c.args.list.now c.if-list-eq1.false) (rw (c.tuple_named-symbol.ensures, sym (counted_patterns c.args.list.now)) at c.walk_constructor.ensures.matched)
+    rw (grouped_many c.args.token c.args.list.now c.if-list-eq1.false) (rw (c.tuple_named-symbol.ensures c.args.store.now, sym (counted_patterns c.args.list.now)) at c.walk_constructor.ensures.matched)

@@ -8,9 +8,9 @@ use Rattle.elab_walk.proofs.reorder.reorder.Goals as goal
 pub returns-then-is_in_order-clause-tree : goal.returns-then-is_in_order-clause-tree
 returns-then-is_in_order-clause-tree c = sym (order_same c.args.places.now (c.is_in_order.ensures c.if-is_in_order.true) 0 (tree_at c.args.store.now c.args.body))
 
-pub changed-requires-clause-fits : goal.changed-requires-clause-fits
-changed-requires-clause-fits c =
+pub change_tree-requires-clause-fits : goal.change_tree-requires-clause-fits
+change_tree-requires-clause-fits c =
     let e = tree_at c.args.store.now c.args.body in
     let n : c.size.result ≡ min (size e) 18446744073709551615 = c.size.ensures in
-    let l : size e + c.greatest.result < 18446744073709551615 = omega (arith, n, c.if-size-room.false) in
-    reordered_fits c.greatest.result c.args.places.now e c.greatest.ensures l (sorted_fits e (c.laws.ensures.sorted c.args.body c.requires))
+    let l : size e + c.greatest_place.result < 18446744073709551615 = omega (arith, n, c.if-size-room.false) in
+    reordered_fits c.greatest_place.result c.args.places.now e c.greatest_place.ensures l (sorted_fits e (c.laws.ensures.sorted c.args.body c.requires))

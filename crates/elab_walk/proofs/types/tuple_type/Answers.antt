@@ -13,6 +13,6 @@ pub returns-clause-tree : goal.returns-clause-tree
 returns-clause-tree c =
     let s = c.args.store.now in
     let es = (where_at s c.args.world.now).symbols in
-    let number = c.entry_number-symbol.ensures es ∙ ap (entry_of es) c.tuple_named.ensures in
+    let number = c.entry_number-symbol.ensures es ∙ ap (entry_of es) (c.tuple_named.ensures s) in
     let e = ap (symbol_got s) c.entry_at-info.ensures ∙ (sym (entry_got s c.args.world.now.symbols.now c.entry_number-symbol.result) ∙ ap (λ (x : Entry). x.symbol) number) in
     IfOk-weaker c.put_types.result _ _ (λ id h. h ∙ ap (λ (x : SymbolTree). inst_types (result_or_int x.result) (trees_at s c.args.types.now)) e) (rw c.result_type-ty.ensures.tree at c.put_types.ensures.tree)

@@ -8,6 +8,7 @@ use Rattle.tasks.specs.Meaning.{symbols_at, declaration_at, declarations_at, Dec
 use Rattle.named_symbols.specs.Named.{named, declarations_named}
 use Rattle.named_symbols.specs.Gathered.{Gains}
 use Rattle.goal_tasks.proofs.TuplesMade.{tuples_same}
+use Rattle.goal_tasks.proofs.Passed.{no_value}
 use Rattle.goal_tasks.proofs.making.with_tuples.Goals as goal
 
 pub returns-clause-tree : goal.returns-clause-tree
@@ -29,3 +30,21 @@ returns-clause-new_held c =
     let own = c.args.own.items in
     let joined : c.append.new.self ≡ first ++ own = c.in_ok-append.ensures.ok ∙ ap (λ (z : List Decl). z ++ c.from_vec.result) c.from_vec-decls.ensures ∙ ap (λ (z : List Decl). first ++ z) c.from_vec.ensures in
     subst (λ (z : List Decl). All (DeclHeld s) z) (sym joined) (All-append (DeclHeld s) first own c.in_ok-tuples_in.ensures.held c.requires.held)
+
+pub returns-in_err-found-clause-tree : goal.returns-in_err-found-clause-tree
+returns-in_err-found-clause-tree c = no_value _ _ c.from_residual.result c.from_residual.ensures.1
+
+pub returns-in_err-found-clause-new_held : goal.returns-in_err-found-clause-new_held
+returns-in_err-found-clause-new_held c = no_value _ _ c.from_residual.result c.from_residual.ensures.1
+
+pub returns-in_err-tuples_in-clause-tree : goal.returns-in_err-tuples_in-clause-tree
+returns-in_err-tuples_in-clause-tree c = no_value _ _ c.from_residual-in_err-tuples_in.result c.from_residual-in_err-tuples_in.ensures.1
+
+pub returns-in_err-tuples_in-clause-new_held : goal.returns-in_err-tuples_in-clause-new_held
+returns-in_err-tuples_in-clause-new_held c = no_value _ _ c.from_residual-in_err-tuples_in.result c.from_residual-in_err-tuples_in.ensures.1
+
+pub returns-in_err-append-clause-tree : goal.returns-in_err-append-clause-tree
+returns-in_err-append-clause-tree c = no_value _ _ c.from_residual-in_err-append.result c.from_residual-in_err-append.ensures.1
+
+pub returns-in_err-append-clause-new_held : goal.returns-in_err-append-clause-new_held
+returns-in_err-append-clause-new_held c = no_value _ _ c.from_residual-in_err-append.result c.from_residual-in_err-append.ensures.1

@@ -12,23 +12,23 @@ returns-then-is_empty-clause-exhaustive c =
     let symbols = symbols_at c.args.store.now c.args.sig.now.symbols in
     let ps = trees_at c.args.store.now c.args.patterns.now in
     let none = ap (trees_at c.args.store.now) (empty_is c.args.patterns.now c.is_empty.result c.is_empty.ensures c.if-is_empty.true) in
-    some_iff symbols ps (shape_of c.unknown.result) c.unknown.result (subst (Escapes symbols ps) (sym c.unknown.ensures) (empty_escapes symbols ps c.requires.one_type none))
+    some_iff symbols ps (shape_of c.unknown_shape.result) c.unknown_shape.result (subst (Escapes symbols ps) (sym c.unknown_shape.ensures) (empty_escapes symbols ps c.requires.one_type none))
 
 pub returns-then-is_empty-clause-escapes : goal.returns-then-is_empty-clause-escapes
 returns-then-is_empty-clause-escapes c =
     let symbols = symbols_at c.args.store.now c.args.sig.now.symbols in
     let ps = trees_at c.args.store.now c.args.patterns.now in
     let none = ap (trees_at c.args.store.now) (empty_is c.args.patterns.now c.is_empty.result c.is_empty.ensures c.if-is_empty.true) in
-    subst (Escapes symbols ps) (sym c.unknown.ensures) (empty_escapes symbols ps c.requires.one_type none)
+    subst (Escapes symbols ps) (sym c.unknown_shape.ensures) (empty_escapes symbols ps c.requires.one_type none)
 
-pub missed-requires-clause-held : goal.missed-requires-clause-held
-missed-requires-clause-held c =
+pub missed_shapes-requires-clause-held : goal.missed_shapes-requires-clause-held
+missed_shapes-requires-clause-held c =
     let ps = c.args.patterns.now in
     let are : c.as_slice.result.now ≡ map single ps = c.as_slice.ensures.value ∙ c.in_ok-push_alone.ensures ∙ ap (λ y. y ++ map single ps) c.new-rows.ensures.items in
     rows_held (symbols_at c.args.store.now c.args.sig.now.symbols) c.args.store.now ps c.as_slice.result.now are c.requires.held
 
-pub missed-requires-clause-table : goal.missed-requires-clause-table
-missed-requires-clause-table c =
+pub missed_shapes-requires-clause-table : goal.missed_shapes-requires-clause-table
+missed_shapes-requires-clause-table c =
     let ps = c.args.patterns.now in
     let are : c.as_slice.result.now ≡ map single ps = c.as_slice.ensures.value ∙ c.in_ok-push_alone.ensures ∙ ap (λ y. y ++ map single ps) c.new-rows.ensures.items in
     rows_table (symbols_at c.args.store.now c.args.sig.now.symbols) c.args.store.now ps c.as_slice.result.now are c.requires.patterns c.requires.one_type

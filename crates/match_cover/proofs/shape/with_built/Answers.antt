@@ -6,5 +6,5 @@ use Rattle.match_cover.proofs.shape.with_built.Goals as goal
 
 pub returns : goal.returns
 returns c =
-    built_first c.args.shapes.items c.in_ok-rest.rest.items c.in_ok-all.all.items c.built.result c.args.arity c.args.con c.in_ok-all.ensures c.in_ok-rest.ensures.tail
-    (c.built.ensures ∙ ap (λ y. built c.args.con (shapes_of y)) c.in_ok-rest.ensures.items)
+    built_first c.args.shapes.items c.in_ok-rest.rest.items c.in_ok-all.all.items c.build_shape.result c.args.arity c.args.con c.in_ok-all.ensures c.in_ok-rest.ensures.tail
+    (c.build_shape.ensures ∙ ap (λ y. built c.args.con (shapes_of y)) c.in_ok-rest.ensures.items)

@@ -1,7 +1,0 @@
-use Rattle.std.proofs.Common.{◌≡◌, take, drop, map, []}
-use Rattle.elab_parts.specs.Declarations.{words, list_fault}
-use Rattle.elab_parts.specs.Written.{written}
-use Rattle.elab_parts.proofs.names.repeated.Given as goal
-
-abbrev pub invariant-loop-number : goal.invariant-loop-number
-invariant-loop-number l = list_fault (words (map written (take l.number l.list))) (map written (drop l.number l.list)) ≡ list_fault [] (map written l.list)

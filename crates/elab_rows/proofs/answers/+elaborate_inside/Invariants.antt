@@ -1,5 +1,0 @@
-use Rattle.std.proofs.Common.{length}
-use Rattle.elab_rows.proofs.answers.+elaborate_inside.Given as goal
-
-abbrev pub decreases-elaborate_inside : goal.decreases-elaborate_inside
-decreases-elaborate_inside l = length l.decls.now

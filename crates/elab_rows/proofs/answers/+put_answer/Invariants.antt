@@ -1,5 +1,0 @@
-use Rattle.std.proofs.Common.{length}
-use Rattle.elab_rows.proofs.answers.+put_answer.Given as goal
-
-abbrev pub decreases-put_answer : goal.decreases-put_answer
-decreases-put_answer l = length l.decls.now

@@ -1,4 +1,0 @@
-use Rattle.elab_rows.proofs.answers.describe_all.Goals as goal
-
-pub put_answer-requires-clause-signature : goal.put_answer-requires-clause-signature
-put_answer-requires-clause-signature c = c.in_ok-sig.ensures.kept c.in_ok-store.store

@@ -1,0 +1,16 @@
+use Rattle.std.proofs.Common.{◌<◌, ◌++◌, List, length, get_or, slice_get, option_to_list, refl, sym, ap, ◌∙◌, arith}
+use Rattle.tasks.specs.declared.declaration.Decl.{Decl}
+use Rattle.goal_tasks.proofs.Placed.{placed_more}
+use Rattle.goal_tasks.proofs.Passed.{no_value}
+use Rattle.goal_tasks.proofs.making.declarations_at.Goals as goal
+
+pub loop-at-preserved : goal.loop-at-preserved
+loop-at-preserved c =
+    let ds = c.args.decls.now in
+    let ks = c.args.places.now in
+    let i = c.loop-at.at in
+    let within : i < length ks = omega (arith, c.min-end.ensures, c.loop-at-test.true) in
+    c.in_ok-push_placed.ensures ∙ ap (λ (z : List Decl). z ++ option_to_list (slice_get ds (get_or ks i 0))) c.loop-at.invariant ∙ sym (placed_more ds ks i (get_or ks i 0) within refl)
+
+pub returns-in_err-push_placed : goal.returns-in_err-push_placed
+returns-in_err-push_placed c = no_value _ _ c.from_residual.result c.from_residual.ensures.1

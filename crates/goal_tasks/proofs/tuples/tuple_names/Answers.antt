@@ -1,0 +1,27 @@
+use Rattle.std.proofs.Common.{◌≡◌, ◌+◌, ◌<◌, ◌++◌, ◌∷◌, [], List, true, false, length, drop, get_or, subst, ap, ◌∙◌}
+use Rattle.tasks.specs.Meaning.{symbol_at, symbols_at}
+use Rattle.tasks.specs.declared.signature.SymbolInfo.{SymbolInfo}
+use Rattle.goal_tasks.specs.declared.tuples.TupleName.{TupleName}
+use Rattle.goal_tasks.specs.Tuples.{symbol_of_width}
+use Rattle.elab_names.specs.Naming.{is_tuple, tuple_from}
+use Rattle.goal_tasks.proofs.TupleNames.{or_number, names_more, names_same}
+use Rattle.goal_tasks.proofs.tuples.tuple_names.Goals.{then-is_tuple+in_ok-push, else-is_tuple}
+use Rattle.goal_tasks.proofs.tuples.tuple_names.Goals as goal
+
+pub loop-symbol-preserved : goal.loop-symbol-preserved
+loop-symbol-preserved c =
+    let xs = c.args.symbols.now in
+    let i = c.loop-symbol.symbol in
+    let d = c.index-symbols-symbol.result in
+    let old = c.loop-symbol.names.items in
+    let l : i < length xs = c.loop-symbol-test.true in
+    elim c.if-is_tuple.branch [
+      | then-is_tuple+in_ok-push w ↦ λ s n.
+          let f : is_tuple (get_or xs i d).vars (symbol_at s (get_or xs i d)) ≡ true = subst (λ (x : SymbolInfo). is_tuple x.vars (symbol_at s x) ≡ true) c.index-symbols-symbol.is (c.is_tuple.ensures s ∙ w.if-is_tuple.true) in
+          let q : c.if-is_tuple.names.items ≡ old ++ record { width = (get_or xs i d).vars; symbol = i } ∷ [] = ap (λ v. v.items) w.names-is ∙ (w.in_ok-push.ensures.items ∙ ap (λ (x : SymbolInfo). old ++ record { width = x.vars; symbol = i } ∷ []) c.index-symbols-symbol.is) in
+          ap (λ (ts : List TupleName). or_number (symbol_of_width ts n) (tuple_from n (i + 1) (symbols_at s (drop (i + 1) xs)))) q ∙ (names_more s i xs d l old n f ∙ c.loop-symbol.invariant s n)
+      | else-is_tuple w ↦ λ s n.
+          let f : is_tuple (get_or xs i d).vars (symbol_at s (get_or xs i d)) ≡ false = subst (λ (x : SymbolInfo). is_tuple x.vars (symbol_at s x) ≡ false) c.index-symbols-symbol.is (c.is_tuple.ensures s ∙ w.if-is_tuple.false) in
+          let q : c.if-is_tuple.names.items ≡ old = ap (λ v. v.items) w.names-is in
+          ap (λ (ts : List TupleName). or_number (symbol_of_width ts n) (tuple_from n (i + 1) (symbols_at s (drop (i + 1) xs)))) q ∙ (names_same s i xs d l old n f ∙ c.loop-symbol.invariant s n)
+    ]
