@@ -87,7 +87,18 @@ differ (o ∷ os) y = not (same o y) && differ os y
 
 operators_only : (y : Terminal) → takes (s.Tail 0 9) y ≡ None → differ operators y ≡ true
 operators_only t.Arrow h = cc
-operators_only _ h = cc
+operators_only t.Equiv h = cc
+operators_only t.Disj h = cc
+operators_only t.OrOr h = cc
+operators_only t.Conj h = cc
+operators_only t.AndAnd h = cc
+operators_only t.Equal h = cc
+operators_only t.Operator1 h = cc
+operators_only t.Minus h = cc
+operators_only t.Operator2 h = cc
+operators_only t.Operator3 h = cc
+operators_only t.Operator4 h = cc
+operators_only _ h = refl
 
 tail_silent : (m u : ℕ) (os : List Terminal) (y : Terminal) → differ os y ≡ true → find (tail_of m u os) y ≡ None
 tail_silent m u [] y h = refl
@@ -148,16 +159,31 @@ abbrev behind_of : Option (List Symbol) → List Symbol
 behind_of (Some ss) = ss
 behind_of None = []
 
-starts_by : (s : Symbol) (b : Bool) → optional s ≡ b → (b ≡ true → shortest s ≡ []) → (b ≡ false → takes s (head_of (shortest s)) ≡ Some (behind_of (takes s (head_of (shortest s))))) → (b ≡ false → shortest s ≡ head_of (shortest s) ∷ complete (behind_of (takes s (head_of (shortest s))))) → Starts s
-starts_by s true o e t h = empty o (e refl)
-starts_by s false o e t h = due (head_of (shortest s)) (behind_of (takes s (head_of (shortest s)))) (t refl) (h refl) o
-
 starts : (s : Symbol) → Starts s
 starts (s.Take x) = due x [] (take_starts x) refl refl
 starts (s.Expr m) = due t.StarName (s.Args ∷ s.Tail m 9 ∷ []) (expr_starts m (nat_le m 3)) refl refl
 starts (s.Tail m u) = empty refl refl
-starts s.Seal = starts_by s.Seal (optional s.Seal) refl (λ h. cc) (λ h. cc) (λ h. cc)
-starts s = starts_by s (optional s) refl (λ h. cc) (λ h. cc) (λ h. cc)
+starts s.Seal = empty refl refl
+starts s.File = empty refl refl
+starts s.Tvars = empty refl refl
+starts s.Upper = empty refl refl
+starts s.Params = empty refl refl
+starts s.Body = empty refl refl
+starts s.Members = empty refl refl
+starts s.Value = empty refl refl
+starts s.Clauses = empty refl refl
+starts s.Renamed = empty refl refl
+starts s.Subst = empty refl refl
+starts s.Elems = empty refl refl
+starts s.Qids = empty refl refl
+starts s.Targs = empty refl refl
+starts s.AsPart = empty refl refl
+starts s.Quids = empty refl refl
+starts s.Patoms = empty refl refl
+starts s.Fields = empty refl refl
+starts s.Scoped = empty refl refl
+starts s.Args = empty refl refl
+starts s = due (head_of (shortest s)) (behind_of (takes s (head_of (shortest s)))) refl refl refl
 
 -- The stack after a terminal that its shortest string begins with.
 pub record Onward (b : Bool) (k : List Symbol) (x : Terminal) (xs : List Terminal) : Type 0 where

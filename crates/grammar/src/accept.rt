@@ -7,7 +7,7 @@ ghost use Rattle.grammar.specs.Ends.{TakesAll};
 ghost use Rattle.grammar.specs.declared.symbols.Symbol.TheVariants.{Expr};
 ghost use Rattle.grammar.specs.Table.{optional};
 
-use crate::operators::{infix, need_of, prec_of, right_of};
+use crate::operators::{is_infix, need_of, prec_of, right_of};
 use crate::symbols::Symbol;
 use crate::table::{OPEN, PRIM, Row, rows_of};
 use std::alloc::{AllocError, Global};
@@ -28,7 +28,7 @@ pub fn is_same(a: Terminal, b: Terminal) -> bool
 }
 
 /// What stands behind a token among rows.
-fn behind(rows: &'static [Row], x: Terminal) -> Option<&'static [Symbol]>
+fn symbols_after(rows: &'static [Row], x: Terminal) -> Option<&'static [Symbol]>
     ensures { option_map (λ r. r.now) result ≡ find (map line_of rows.now) x }
 {
     for row in rows {
@@ -54,7 +54,7 @@ fn push_all(stack: &mut Vec<Symbol>, symbols: &[Symbol]) -> Result<(), AllocErro
 fn put_row(stack: &mut Vec<Symbol>, rows: &'static [Row], x: Terminal) -> Result<bool, AllocError>
     ensures { IfOk result (Puts (find (map line_of rows.now) x) stack.old.items stack.new.items) }
 {
-    match behind(rows, x) {
+    match symbols_after(rows, x) {
         None => Ok(false),
         Some(symbols) => {
             push_all(stack, symbols)?;
@@ -96,7 +96,7 @@ pub fn may_be_empty(symbol: Symbol) -> bool
 fn put_tail(stack: &mut Vec<Symbol>, m: u8, u: u8, x: Terminal) -> Result<bool, AllocError>
     ensures { IfOk result (Puts (tail_takes m u x) stack.old.items stack.new.items) }
 {
-    if infix(x) && m <= prec_of(x) && need_of(x) <= u {
+    if is_infix(x) && m <= prec_of(x) && need_of(x) <= u {
         stack.push(Symbol::Tail(m, prec_of(x)))?;
         stack.push(Symbol::Expr(right_of(x)))?;
         Ok(true)
@@ -187,7 +187,7 @@ pub fn take_token(stack: &mut Vec<Symbol>, x: Terminal) -> Result<bool, AllocErr
 }
 
 /// How many tokens, from the first on, begin a token string of a symbol.
-pub fn taken(alloc: Global, start: Symbol, tokens: &[Terminal]) -> Result<usize, AllocError>
+pub fn count_taken(alloc: Global, start: Symbol, tokens: &[Terminal]) -> Result<usize, AllocError>
     ensures { IfOk result (λ n. TakesAll (start ∷ []) tokens.now n) }
 {
     let mut stack: Vec<Symbol> = Vec::new(alloc);

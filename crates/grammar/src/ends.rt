@@ -3,7 +3,7 @@ ghost use Rattle.std.specs.Prelude.{true, ◌≡◌, [], ◌∷◌, if◌then◌
 ghost use Rattle.grammar.specs.Ends.{Completes, IsFirstFault, IsLongest};
 ghost use Rattle.grammar.specs.Machine.{is_safe, may_end, run};
 
-use crate::accept::{may_be_empty, take_token, taken};
+use crate::accept::{count_taken, may_be_empty, take_token};
 use crate::shortest::completion;
 use crate::symbols::Symbol;
 use std::alloc::{AllocError, Global};
@@ -13,7 +13,7 @@ use tokens_why::Terminal;
 ///
 /// The first `place` of them begin one, and with the next token, where there is one, they begin none. `other_stands` says
 /// whether the other terminal that was asked for could stand behind the first `place`.
-#[derive(Clone, Copy, Debug, PartialEq, Eq)]
+#[derive(Clone, Copy)]
 pub struct Fault {
     pub place: usize,
     pub other_stands: bool,
@@ -38,7 +38,7 @@ fn later_end(stack: &[Symbol], i: usize, best: Option<usize>) -> Option<usize>
 }
 
 /// How many tokens, from the first on, are the longest token string of a symbol; none where no such string is one.
-pub fn longest(
+pub fn longest_length(
     alloc: Global,
     start: Symbol,
     tokens: &[Terminal],
@@ -76,7 +76,7 @@ fn stack_behind(
 }
 
 /// What completes tokens to a token string of a symbol, or none where nothing does.
-pub fn complete(
+pub fn complete_tokens(
     alloc: Global,
     start: Symbol,
     tokens: &[Terminal],
@@ -103,7 +103,7 @@ pub fn first_fault(
 ) -> Result<Option<Fault>, AllocError>
     ensures { IfOk result (IsFirstFault (start ∷ []) tokens.now other) }
 {
-    let place = taken(alloc, start, tokens)?;
+    let place = count_taken(alloc, start, tokens)?;
     match stack_behind(alloc, start, &tokens[..place])? {
         None => unreachable!(),
         Some(mut stack) => {

@@ -52,7 +52,7 @@ pub fn right_of(x: Terminal) -> u8
 }
 
 /// Whether a terminal is an infix operator.
-pub fn infix(x: Terminal) -> bool
+pub fn is_infix(x: Terminal) -> bool
     ensures { result ≡ is_infix x }
 {
     matches!(

@@ -3,7 +3,7 @@
 use tokens_why::Terminal;
 
 /// A terminal, or a rule.
-#[derive(Clone, Copy, Debug, PartialEq, Eq)]
+#[derive(Clone, Copy)]
 pub enum Symbol {
     Take(Terminal),
     Expr(u8),

@@ -238,6 +238,7 @@ const TRIGGER: [Row; 3] = [
     (T::RBrack, &[Take(T::Dot), ANY, Seal]),
 ];
 
+/// The rows of the expressions that end only where what stands around them ends: `if`, `let` and quantifiers.
 pub const OPEN: [Row; 4] = [
     (T::IfWord, &[ANY, THEN, ANY, ELSE, ANY, Seal]),
     (T::LetWord, &[Pat, Letpats]),
@@ -261,6 +262,7 @@ const PATOM: [Row; 4] = [
     (T::LParen, &[Ptuple]),
 ];
 
+/// The rows of primary expressions.
 pub const PRIM: [Row; 8] = [
     (T::Lident, &[Args]),
     (T::Uident, &[Scoped, Args]),

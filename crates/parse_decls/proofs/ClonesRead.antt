@@ -2,6 +2,8 @@
 use Rattle.parse_decls.proofs.Common.{◌≡◌, ℕ, ◌+◌, ◌<◌, ◌≤◌, Bool, true, false, zero, suc, List, [], ◌∷◌, ◌++◌, length, Some, None, refl, ap, ◌∙◌, subst, arith, append-nil, Terminal, Symbol, same, same_true, Name, Lexeme, Word, at, Form, called, lower, Element, all_axioms, clone_decl, more_decls, prop_element, symbol_element, type_element, use_decl, Dotted, Scoped, scope_own, VarsPart, prop_called, scope_called, axioms_of, axioms_own, cloned, used, rows, Vals, row, find, Begun, CanRead, IsRead, terminal_at, token_at, again, begins, done, expand, extended_due, many, missed, next, next_within, none_of, only, pass, start, take, unexpand, begins_symbol, prop_kind, symbol_word, IsNamed}
 use Rattle.tokens_why.specs.declared.terminal.Terminal.TheVariants as t
 use Rattle.grammar.specs.declared.symbols.Symbol.TheVariants as s
+use Rattle.reading.proofs.Common.{no_false}
+use Rattle.parse_terms.proofs.Steps.{apart}
 use Rattle.syntax_why.specs.declared.names.Path.{Path}
 use Rattle.syntax_why.specs.declared.declarations.Link.TheVariants as lk
 use Rattle.syntax_why.specs.declared.declarations.PropKind.TheVariants as pk
@@ -153,7 +155,7 @@ module _ {xs : List Lexeme} {i : ℕ} (c : CanRead xs s.Elem i) where
         left_one t.FunctionWord h f n = cc
         left_one t.ConstantWord h f n = cc
         left_one t.PredicateWord h f n = refl
-        left_one _ h f n = cc
+        left_one _ h f n = absurd (no_false h)
 
         by_constant : (a : Bool) → same t.FunctionWord (terminal_at xs i) ≡ false → same t.ConstantWord (terminal_at xs i) ≡ a → Begun xs 1 (λ k. s.Elem ∷ k) i (λ k. s.Qop ∷ s.Take t.Equal ∷ s.Qop ∷ k) (λ k us. (symbol_element i (symbol_word (terminal_at xs i)) us.0 us.1.1.0, us.1.1.1)) (i + 1)
         by_constant true f e = again (expand (start c) t.ConstantWord e refl refl) 1 refl (λ k us. ap (λ v. (symbol_element i (symbol_word v) us.0 us.1.1.0, us.1.1.1)) (stands_so t.ConstantWord e))
@@ -173,19 +175,10 @@ module _ {xs : List Lexeme} {i : ℕ} (c : CanRead xs s.Elem i) where
   -- an element that is a proposition, or all axioms
   module _ (ty : same t.TypeWord (terminal_at xs i) ≡ false) (sy : begins_symbol (terminal_at xs i) ≡ false) where
     axiom_left : same t.LemmaWord (terminal_at xs i) ≡ false → same t.GoalWord (terminal_at xs i) ≡ false → same t.AxiomWord (terminal_at xs i) ≡ true
-    axiom_left l o = only (start c) t.AxiomWord (t.TypeWord ∷ t.FunctionWord ∷ t.ConstantWord ∷ t.PredicateWord ∷ t.LemmaWord ∷ t.GoalWord ∷ []) refl refl (ty, (no_function (terminal_at xs i) sy, (no_constant (terminal_at xs i) sy, (no_predicate (terminal_at xs i) sy, (l, (o, tt))))))
+    axiom_left l o = only (start c) t.AxiomWord (t.TypeWord ∷ t.FunctionWord ∷ t.ConstantWord ∷ t.PredicateWord ∷ t.LemmaWord ∷ t.GoalWord ∷ []) refl refl (ty, (differs_from t.FunctionWord refl, (differs_from t.ConstantWord refl, (differs_from t.PredicateWord refl, (l, (o, tt))))))
       where
-        no_function : (x : Terminal) → begins_symbol x ≡ false → same t.FunctionWord x ≡ false
-        no_function t.FunctionWord h = cc
-        no_function _ h = refl
-
-        no_constant : (x : Terminal) → begins_symbol x ≡ false → same t.ConstantWord x ≡ false
-        no_constant t.ConstantWord h = cc
-        no_constant _ h = refl
-
-        no_predicate : (x : Terminal) → begins_symbol x ≡ false → same t.PredicateWord x ≡ false
-        no_predicate t.PredicateWord h = cc
-        no_predicate _ h = refl
+        differs_from : (y : Terminal) → begins_symbol y ≡ true → same y (terminal_at xs i) ≡ false
+        differs_from y h = apart begins_symbol y (terminal_at xs i) h sy
 
     axiom_start : same t.AxiomWord (terminal_at xs i) ≡ true → Begun xs 1 (λ k. s.Elem ∷ k) i (λ k. s.Axioms ∷ k) (λ k us. (axioms_of i us.0, us.1)) (i + 1)
     axiom_start e = expand (start c) t.AxiomWord e refl refl

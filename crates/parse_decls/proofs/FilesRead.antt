@@ -1,5 +1,5 @@
 -- What follows where declarations, theories and files are read.
-use Rattle.parse_decls.proofs.Common.{◌≡◌, ℕ, ◌+◌, ◌<◌, Bool, true, false, not, ◌||◌, List, [], ◌∷◌, ◌++◌, length, Some, refl, sym, ap, ◌∙◌, subst, arith, append-nil, Terminal, same, same_true, Name, Lexeme, at, name, Decl, Decls, Theory, more_decls, no_decls, prop_word, scope_decl, decls, read, Begun, CanRead, IsRead, terminal_at, again, done, expand, many, next_within, none_of, only, pass, start, prop_kind, IsFile, begins_theory}
+use Rattle.parse_decls.proofs.Common.{◌≡◌, ℕ, ◌+◌, ◌<◌, Bool, true, false, not, ◌||◌, List, [], ◌∷◌, ◌++◌, length, Some, refl, sym, ap, ◌∙◌, subst, arith, append-nil, Terminal, same, same_true, Name, Lexeme, at, Decl, Decls, Theory, more_decls, no_decls, prop_word, scope_decl, decls, read, Begun, CanRead, IsRead, terminal_at, again, done, expand, many, next_within, none_of, only, pass, start, prop_kind, IsFile, begins_theory}
 use Rattle.tokens_why.specs.declared.terminal.Terminal.TheVariants as t
 use Rattle.grammar.specs.declared.symbols.Symbol.TheVariants as s
 use Rattle.parse_terms.proofs.ChoicesRead.{neither}

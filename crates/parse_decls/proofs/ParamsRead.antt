@@ -2,6 +2,8 @@
 use Rattle.parse_decls.proofs.Common.{◌≡◌, ℕ, zero, suc, ◌+◌, ◌<◌, ◌≤◌, ◌⊎◌, inl, inr, Bool, true, false, ◌&&◌, if◌then◌else◌, List, [], ◌∷◌, ◌++◌, length, Some, None, refl, sym, ap, ◌∙◌, subst, arith, get_or_past, Terminal, Symbol, same, same_true, Name, Lexeme, at, name, Form, Forms, called, composed, enclosed, lower, more_forms, no_forms, type_variable, Param, NamePart, ParamPart, behind_name, behind_paren, name_names, name_types, param, param_types, Row, Vals, row, then_row, params_own, pparen_own, rows, find, read, below_or, by_first, first_row, from_cons, from_end, stands_within, Begun, CanRead, CanRun, IsRead, begins_atype, from, nowhere, rest, terminal_at, token_at, again, and_cases, expand, extended, extended_due, many, many_more, missed, next, only, reread, stands, stands_by, start, unexpand, IsParam, begins_names, names_before_colon}
 use Rattle.tokens_why.specs.declared.terminal.Terminal.TheVariants as t
 use Rattle.grammar.specs.declared.symbols.Symbol.TheVariants as s
+use Rattle.reading.proofs.Common.{no_false}
+use Rattle.parse_terms.proofs.Steps.{none_where}
 
 -- names before a colon, one by one
 pub names_at : (xs : List Lexeme) (j : ℕ) → j < length xs → names_before_colon (from xs j) ≡ (if same t.Lident (terminal_at xs j) then names_before_colon (from xs (j + 1)) else same t.Colon (terminal_at xs j))
@@ -133,11 +135,13 @@ module _ {xs : List Lexeme} {i : ℕ} (c : CanRead xs s.Params i) where
     where
       params_some : (x : Terminal) → begins_atype x ≡ true → find (rows s.Params) x ≡ None → ⊥
       params_some t.TyVar h e = cc
-      params_some _ h e = cc
+      params_some t.Lident h e = cc
+      params_some t.Uident h e = cc
+      params_some t.LParen h e = cc
+      params_some _ h e = no_false h
 
 abbrev pub Params : List Lexeme → ℕ → List Param → ℕ → Type 0
 Params xs i ps j = Begun xs 0 (λ k. s.Params ∷ k) i (λ k. s.Params ∷ k) (λ k us. (ps ++ us.0, us.1)) j
 
 pub params_none : (x : Terminal) → begins_atype x ≡ false → find (rows s.Params) x ≡ None
-params_none t.TyVar h = cc
-params_none _ h = cc
+params_none x h = none_where (rows s.Params) begins_atype (t.TyVar ∷ t.Lident ∷ t.Uident ∷ t.LParen ∷ []) x refl refl h

@@ -4,6 +4,8 @@ use Rattle.tokens_why.specs.declared.terminal.Terminal.TheVariants as t
 use Rattle.grammar.specs.declared.symbols.Symbol.TheVariants as s
 use Rattle.grammar.specs.Machine.{is_seal}
 use Rattle.reading.proofs.Reading.{Stops, find_apart, find_extend, passed}
+use Rattle.reading.proofs.Common.{no_false}
+use Rattle.parse_terms.proofs.Steps.{all_apart, none_of, none_where}
 use Rattle.parse_terms.proofs.FormsRead.{forms_many}
 
 le_self : (n : ℕ) → nat_le n n ≡ true
@@ -74,17 +76,18 @@ field_many [] v = refl
 field_many (f ∷ fs) v = ap (field_on f) (field_many fs v)
 
 fields_apart : (x : Terminal) → begins_atype x ≡ true → find fields_own x ≡ None
-fields_apart t.TyVar h = refl
-fields_apart _ h = cc
+fields_apart x h = none_where fields_own (λ y. not (begins_atype y)) (t.Bar ∷ t.WithWord ∷ []) x refl refl (ap not h)
 
 fields_some : (x : Terminal) → begins_atype x ≡ true → find (rows s.Fields) x ≡ None → ⊥
 fields_some t.TyVar h e = cc
-fields_some _ h e = cc
+fields_some t.Lident h e = cc
+fields_some t.Uident h e = cc
+fields_some t.LParen h e = cc
+fields_some _ h e = no_false h
 
 -- where no type, no bar and no `with` stands, nothing stands behind fields
 fields_none : (x : Terminal) → begins_atype x ≡ false → same t.Bar x ≡ false → same t.WithWord x ≡ false → find (rows s.Fields) x ≡ None
-fields_none t.TyVar h b w = cc
-fields_none _ h b w = cc
+fields_none x h b w = none_of s.Fields (t.Bar ∷ t.WithWord ∷ t.TyVar ∷ t.Lident ∷ t.Uident ∷ t.LParen ∷ []) x refl (b, (w, all_apart begins_atype (t.TyVar ∷ t.Lident ∷ t.Uident ∷ t.LParen ∷ []) x refl h))
 
 abbrev pub Fields : List Lexeme → ℕ → List Form → ℕ → Type 0
 Fields xs i fs j = Begun xs 0 (λ k. s.Fields ∷ k) i (λ k. s.Fields ∷ k) (λ k us. (many field_on fs us.0, us.1)) j

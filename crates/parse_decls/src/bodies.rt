@@ -7,8 +7,8 @@ ghost use Rattle.parse_decls.specs.Bodies.{IsMember, IsResult, IsValue, body_par
 
 use crate::declared::declared_name;
 use crate::parameters::params;
-use outside::Seq;
-use parse_terms::{Source, at, expression, type_tree};
+use outside::{Boxed, Seq};
+use parse_terms::{Source, expression, is_at, type_tree};
 use std::alloc::{AllocError, Global};
 use syntax_why::{Expr, MemberTree, TypeTree};
 use tokens_why::Terminal;
@@ -19,7 +19,7 @@ pub fn value(alloc: Global, source: Source, i: usize) -> Result<(Option<Expr>, u
     ensures { IfOk result
         (λ r. IsValue (lexemes source.entry) i (option_map tree_of r.0) r.1) }
 {
-    let is_given = at(source, i, Terminal::Equal);
+    let is_given = is_at(source, i, Terminal::Equal);
     if is_given {
         let read = expression(alloc, source, 0, i + 1)?;
         return Ok((Some(read.tree), read.end));
@@ -37,7 +37,7 @@ fn member_result(
     ensures { IfOk result
         (λ r. IsResult (lexemes source.entry) i (option_map form_of r.0) r.1) }
 {
-    let is_typed = at(source, i, Terminal::Colon);
+    let is_typed = is_at(source, i, Terminal::Colon);
     if is_typed {
         let (ty, end) = type_tree(alloc, source, i + 1)?;
         return Ok((Some(ty), end));
@@ -71,7 +71,7 @@ fn members(alloc: Global, source: Source, i: usize) -> Result<(Seq<MemberTree>, 
 {
     let mut members: Vec<MemberTree> = Vec::new(alloc);
     let mut j = i;
-    'members: while at(source, j, Terminal::WithWord) {
+    'members: while is_at(source, j, Terminal::WithWord) {
         let (next, end) = member(alloc, source, j + 1)?;
         members.push(next)?;
         j = end;
@@ -93,12 +93,14 @@ pub fn body(alloc: Global, source: Source, i: usize) -> Result<Definition, Alloc
     ensures { IfOk result (λ r. IsRead (lexemes source.entry) rule.Body i
         (body_part (option_map tree_of r.definition) (map member_of r.members)) r.end) }
 {
-    let is_given = at(source, i, Terminal::Equal);
+    let is_given = is_at(source, i, Terminal::Equal);
     if is_given {
         let read = expression(alloc, source, 0, i + 1)?;
+        // A box is dropped by one call where the members find no memory, and the tree form by form.
+        let held = Boxed::new(alloc, read.tree)?;
         let (others, end) = members(alloc, source, read.end)?;
         return Ok(Definition {
-            definition: Some(read.tree),
+            definition: Some(held.into_inner()),
             members: others,
             end,
         });

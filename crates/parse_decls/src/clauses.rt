@@ -8,7 +8,7 @@ ghost use Rattle.parse_decls.specs.Clauses.{IsClause, IsClauses, IsInductive};
 use crate::declared::{declared_name, prop_name};
 use crate::parameters::params;
 use outside::Seq;
-use parse_terms::{Source, at, expression, past_bar};
+use parse_terms::{Source, expression, is_at, past_bar};
 use std::alloc::{AllocError, Global};
 use syntax_why::{ClauseTree, IndTree};
 use tokens_why::Terminal;
@@ -45,7 +45,7 @@ fn clauses(alloc: Global, source: Source, i: usize) -> Result<ReadClauses, Alloc
     let mut clauses: Vec<ClauseTree> = Vec::new(alloc);
     let (first, mut j) = clause(alloc, source, begin)?;
     clauses.push(first)?;
-    'more: while at(source, j, Terminal::Bar) {
+    'more: while is_at(source, j, Terminal::Bar) {
         let (next, end) = clause(alloc, source, j + 1)?;
         clauses.push(next)?;
         j = end;
@@ -58,7 +58,11 @@ fn clauses(alloc: Global, source: Source, i: usize) -> Result<ReadClauses, Alloc
 }
 
 /// An inductive predicate with its clauses, and the token behind it. Only want of memory refuses.
-pub fn inductive(alloc: Global, source: Source, i: usize) -> Result<(IndTree, usize), AllocError>
+pub fn inductive_predicate(
+    alloc: Global,
+    source: Source,
+    i: usize,
+) -> Result<(IndTree, usize), AllocError>
     requires { CanRun (lexemes source)
         (λ k. rule.Op ∷ rule.Params ∷ rule.Take Equal ∷ rule.Clause ∷ k) i }
     ensures { IfOk result (λ r. IsInductive (lexemes source.entry) i (inductive_of r.0) r.1) }

@@ -9,7 +9,9 @@ ghost use Rattle.parse_decls.specs.Clones.{begins_symbol, prop_kind as prop_kind
 
 use crate::types::variables;
 use outside::{Seq, Text};
-use parse_terms::{Source, at, head_name, lower_name, name_at, place, terminal, text, type_tree};
+use parse_terms::{
+    Source, head_name, is_at, lower_name, name_at, place, terminal, text, type_tree,
+};
 use std::alloc::{AllocError, Global};
 use syntax_why::{DeclNode, DeclTree, ElemNode, ElemTree, Link, Name, Path, PropKind, SymbolWord};
 use tokens_why::Terminal;
@@ -30,7 +32,7 @@ fn path(alloc: Global, source: Source, i: usize) -> Result<(Path, usize), AllocE
 {
     let mut parts: Vec<Text> = Vec::new(alloc);
     let mut j = i;
-    'parts: while at(source, j, Terminal::Lident) {
+    'parts: while is_at(source, j, Terminal::Lident) {
         let word = text(alloc, source, j)?;
         parts.push(word)?;
         j = j + 1 + 1;
@@ -45,11 +47,15 @@ fn path(alloc: Global, source: Source, i: usize) -> Result<(Path, usize), AllocE
 }
 
 /// The name after `as`, if there is one.
-fn renamed(alloc: Global, source: Source, i: usize) -> Result<(Option<Name>, usize), AllocError>
+fn name_after_as(
+    alloc: Global,
+    source: Source,
+    i: usize,
+) -> Result<(Option<Name>, usize), AllocError>
     requires { CanRead (lexemes source) rule.Renamed i }
     ensures { IfOk result (λ r. IsRead (lexemes source.entry) rule.Renamed i r.0 r.1) }
 {
-    let is_named = at(source, i, Terminal::AsWord);
+    let is_named = is_at(source, i, Terminal::AsWord);
     if is_named {
         let behind = i + 1;
         let name = name_at(alloc, source, behind)?;
@@ -59,12 +65,12 @@ fn renamed(alloc: Global, source: Source, i: usize) -> Result<(Option<Name>, usi
 }
 
 /// What stands behind `use`, or behind `clone` up to its elements.
-fn used(alloc: Global, source: Source, i: usize) -> Result<UsedTheory, AllocError>
+fn used_theory(alloc: Global, source: Source, i: usize) -> Result<UsedTheory, AllocError>
     requires { CanRead (lexemes source) rule.Used i }
     ensures { IfOk result (λ r. IsRead (lexemes source.entry) rule.Used i
         (used_part r.link r.path r.name) r.end) }
 {
-    let is_exported = at(source, i, Terminal::ExportWord);
+    let is_exported = is_at(source, i, Terminal::ExportWord);
     if is_exported {
         let (exported, end) = path(alloc, source, i + 1)?;
         return Ok(UsedTheory {
@@ -74,10 +80,10 @@ fn used(alloc: Global, source: Source, i: usize) -> Result<UsedTheory, AllocErro
             end,
         });
     }
-    let is_imported = at(source, i, Terminal::ImportWord);
+    let is_imported = is_at(source, i, Terminal::ImportWord);
     if is_imported {
         let (imported, n) = path(alloc, source, i + 1)?;
-        let (rename, after) = renamed(alloc, source, n)?;
+        let (rename, after) = name_after_as(alloc, source, n)?;
         return Ok(UsedTheory {
             link: Link::Import,
             path: imported,
@@ -86,7 +92,7 @@ fn used(alloc: Global, source: Source, i: usize) -> Result<UsedTheory, AllocErro
         });
     }
     let (bare, j) = path(alloc, source, i)?;
-    let (name, last) = renamed(alloc, source, j)?;
+    let (name, last) = name_after_as(alloc, source, j)?;
     Ok(UsedTheory {
         link: Link::Bare,
         path: bare,
@@ -168,7 +174,7 @@ fn prop_element(alloc: Global, source: Source, i: usize) -> Result<(ElemTree, us
         (λ r. IsRead (lexemes source.entry) rule.Elem i (element_of r.0) r.1) }
 {
     let behind = i + 1;
-    let is_all = at(source, behind, Terminal::Dot);
+    let is_all = is_at(source, behind, Terminal::Dot);
     if is_all {
         let all = ElemTree {
             at: i,
@@ -191,7 +197,7 @@ fn element(alloc: Global, source: Source, i: usize) -> Result<(ElemTree, usize),
     ensures { IfOk result
         (λ r. IsRead (lexemes source.entry) rule.Elem i (element_of r.0) r.1) }
 {
-    let is_type = at(source, i, Terminal::TypeWord);
+    let is_type = is_at(source, i, Terminal::TypeWord);
     if is_type {
         let (ty, n) = type_element(alloc, source, i)?;
         return Ok((ty, n));
@@ -216,11 +222,11 @@ fn substitution(
         (λ r. IsRead (lexemes source.entry) rule.Subst i (map element_of r.0) r.1) }
 {
     let mut elements: Vec<ElemTree> = Vec::new(alloc);
-    let is_given = at(source, i, Terminal::WithWord);
+    let is_given = is_at(source, i, Terminal::WithWord);
     if is_given {
         let (first, mut j) = element(alloc, source, i + 1)?;
         elements.push(first)?;
-        'more: while at(source, j, Terminal::Comma) {
+        'more: while is_at(source, j, Terminal::Comma) {
             let (next, end) = element(alloc, source, j + 1)?;
             elements.push(next)?;
             j = end;
@@ -241,7 +247,7 @@ pub fn use_declaration(
     ensures { IfOk result (λ r. IsDecl (lexemes source.entry) i (decl_of r.0) r.1) }
 {
     let here = place(i);
-    let theory = used(alloc, source, i + 1)?;
+    let theory = used_theory(alloc, source, i + 1)?;
     let tree = DeclTree::new(
         here,
         DeclNode::UseTheory(theory.link, theory.path, theory.name),
@@ -260,7 +266,7 @@ pub fn clone_declaration(
     ensures { IfOk result (λ r. IsDecl (lexemes source.entry) i (decl_of r.0) r.1) }
 {
     let here = place(i);
-    let theory = used(alloc, source, i + 1)?;
+    let theory = used_theory(alloc, source, i + 1)?;
     let (elements, end) = substitution(alloc, source, theory.end)?;
     let tree = DeclTree::new(
         here,

@@ -5,7 +5,7 @@ ghost use Rattle.grammar.specs.declared.symbols.Symbol.TheVariants as rule;
 ghost use Rattle.syntax_why.specs.SurfaceDeclarations.{declared_name as name_of_symbol};
 
 use outside::Text;
-use parse_terms::{Source, at, name_at, operator_name, text};
+use parse_terms::{Source, is_at, name_at, operator_name, text};
 use std::alloc::{AllocError, Global};
 use syntax_why::{Name, OpName, Style};
 use tokens_why::Terminal;
@@ -16,7 +16,7 @@ pub fn declared_name(alloc: Global, source: Source, i: usize) -> Result<(OpName,
     ensures { IfOk result
         (λ r. IsRead (lexemes source.entry) rule.Op i (name_of_symbol r.0) r.1) }
 {
-    let is_lower = at(source, i, Terminal::Lident);
+    let is_lower = is_at(source, i, Terminal::Lident);
     if is_lower {
         let lower = text(alloc, source, i)?;
         let name = OpName {
@@ -26,7 +26,7 @@ pub fn declared_name(alloc: Global, source: Source, i: usize) -> Result<(OpName,
         };
         return Ok((name, i + 1));
     }
-    let is_star = at(source, i, Terminal::StarName);
+    let is_star = is_at(source, i, Terminal::StarName);
     if is_star {
         let star = Text::from_slice(alloc, b"*")?;
         let name = OpName {

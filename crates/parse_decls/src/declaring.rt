@@ -6,11 +6,11 @@ ghost use Rattle.tokens_why.specs.declared.terminal.Terminal.TheVariants as t;
 ghost use Rattle.parse_decls.specs.Bodies.{IsDecl};
 
 use crate::bodies::{body, value};
-use crate::clauses::inductive;
+use crate::clauses::inductive_predicate;
 use crate::declared::{declared_name, prop_name};
 use crate::parameters::params;
 use outside::Seq;
-use parse_terms::{Source, at, expression, place, type_tree};
+use parse_terms::{Source, expression, is_at, place, type_tree};
 use std::alloc::{AllocError, Global};
 use syntax_why::{DeclNode, DeclTree, IndTree, PropKind};
 use tokens_why::Terminal;
@@ -87,10 +87,10 @@ pub fn inductive_declaration(
     ensures { IfOk result (λ r. IsDecl (lexemes source.entry) i (decl_of r.0) r.1) }
 {
     let mut of: Vec<IndTree> = Vec::new(alloc);
-    let (first, mut j) = inductive(alloc, source, i + 1)?;
+    let (first, mut j) = inductive_predicate(alloc, source, i + 1)?;
     of.push(first)?;
-    'more: while at(source, j, Terminal::WithWord) {
-        let (next, end) = inductive(alloc, source, j + 1)?;
+    'more: while is_at(source, j, Terminal::WithWord) {
+        let (next, end) = inductive_predicate(alloc, source, j + 1)?;
         of.push(next)?;
         j = end;
     }

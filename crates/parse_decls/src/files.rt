@@ -14,7 +14,7 @@ use crate::declaring::{
 };
 use crate::types::type_declaration;
 use outside::Seq;
-use parse_terms::{Source, at, name_at, place, terminal};
+use parse_terms::{Source, is_at, name_at, place, terminal};
 use std::alloc::{AllocError, Global};
 use syntax_why::{DeclNode, DeclTree, File, TheoryTree};
 use tokens_why::Terminal;
@@ -33,22 +33,22 @@ fn symbol_declaration(
     requires no_clone { same t.CloneWord (terminal_at (lexemes source) i) ≡ false }
     ensures { IfOk result (λ r. IsDecl (lexemes source.entry) i (decl_of r.0) r.1) }
 {
-    let is_function = at(source, i, Terminal::FunctionWord);
+    let is_function = is_at(source, i, Terminal::FunctionWord);
     if is_function {
         let (function, n) = function_declaration(alloc, source, i)?;
         return Ok((function, n));
     }
-    let is_predicate = at(source, i, Terminal::PredicateWord);
+    let is_predicate = is_at(source, i, Terminal::PredicateWord);
     if is_predicate {
         let (predicate, n) = predicate_declaration(alloc, source, i)?;
         return Ok((predicate, n));
     }
-    let is_constant = at(source, i, Terminal::ConstantWord);
+    let is_constant = is_at(source, i, Terminal::ConstantWord);
     if is_constant {
         let (constant, n) = constant_declaration(alloc, source, i)?;
         return Ok((constant, n));
     }
-    let is_inductive = at(source, i, Terminal::InductiveWord);
+    let is_inductive = is_at(source, i, Terminal::InductiveWord);
     if is_inductive {
         let (group, n) = inductive_declaration(alloc, source, i)?;
         return Ok((group, n));
@@ -69,17 +69,17 @@ fn flat_declaration(
     requires no_scope { same t.ScopeWord (terminal_at (lexemes source) i) ≡ false }
     ensures { IfOk result (λ r. IsDecl (lexemes source.entry) i (decl_of r.0) r.1) }
 {
-    let is_type = at(source, i, Terminal::TypeWord);
+    let is_type = is_at(source, i, Terminal::TypeWord);
     if is_type {
         let (ty, n) = type_declaration(alloc, source, i)?;
         return Ok((ty, n));
     }
-    let is_use = at(source, i, Terminal::UseWord);
+    let is_use = is_at(source, i, Terminal::UseWord);
     if is_use {
         let (used, n) = use_declaration(alloc, source, i)?;
         return Ok((used, n));
     }
-    let is_clone = at(source, i, Terminal::CloneWord);
+    let is_clone = is_at(source, i, Terminal::CloneWord);
     if is_clone {
         let (cloned, n) = clone_declaration(alloc, source, i)?;
         return Ok((cloned, n));
@@ -91,7 +91,7 @@ fn flat_declaration(
 fn goes_on(source: Source, i: usize) -> bool
     ensures { result ≡ not (same t.EndWord (terminal_at (lexemes source.entry) i)) }
 {
-    !at(source, i, Terminal::EndWord)
+    !is_at(source, i, Terminal::EndWord)
 }
 
 /// A declaration, and the token behind it.
@@ -101,7 +101,7 @@ fn declaration(alloc: Global, source: Source, i: usize) -> Result<(DeclTree, usi
     requires word { same t.EndWord (terminal_at (lexemes source) i) ≡ false }
     ensures { IfOk result (λ r. IsDecl (lexemes source.entry) i (decl_of r.0) r.1) }
 {
-    let is_scope = at(source, i, Terminal::ScopeWord);
+    let is_scope = is_at(source, i, Terminal::ScopeWord);
     if is_scope {
         let (inner, n) = scope(alloc, source, i)?;
         return Ok((inner, n));
@@ -148,7 +148,7 @@ pub fn declarations(
 fn at_theory(source: Source, i: usize) -> bool
     ensures { result ≡ begins_theory (terminal_at (lexemes source.entry) i) }
 {
-    at(source, i, Terminal::TheoryWord) || at(source, i, Terminal::ModuleWord)
+    is_at(source, i, Terminal::TheoryWord) || is_at(source, i, Terminal::ModuleWord)
 }
 
 /// A theory or module, and the token behind it.
@@ -158,7 +158,7 @@ fn theory(alloc: Global, source: Source, i: usize) -> Result<(TheoryTree, usize)
     ensures { IfOk result (λ r. IsTheory (lexemes source.entry) i (theory_of r.0) r.1) }
 {
     let here = place(i);
-    let is_module = at(source, i, Terminal::ModuleWord);
+    let is_module = is_at(source, i, Terminal::ModuleWord);
     let name = name_at(alloc, source, i + 1)?;
     let (decls, end) = declarations(alloc, source, i + 1 + 1)?;
     let tree = TheoryTree {

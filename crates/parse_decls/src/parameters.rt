@@ -5,7 +5,7 @@ ghost use Rattle.grammar.specs.declared.symbols.Symbol.TheVariants as rule;
 ghost use Rattle.parse_decls.specs.Params.{IsNamedParam, IsParam, begins_names};
 
 use outside::Seq;
-use parse_terms::{Source, argument, at, at_type, name_at, place, type_list, type_tree};
+use parse_terms::{Source, argument, at_type, is_at, name_at, place, type_list, type_tree};
 use std::alloc::{AllocError, Global};
 use syntax_why::{Name, ParamTree, TypeNode, TypeTree};
 use tokens_why::Terminal;
@@ -14,13 +14,13 @@ use tokens_why::Terminal;
 fn at_names(source: Source, i: usize) -> bool
     ensures { result ≡ begins_names (lexemes source.entry) i }
 {
-    let is_lower = at(source, i, Terminal::Lident);
+    let is_lower = is_at(source, i, Terminal::Lident);
     if is_lower {
         let mut j = i + 1;
-        'names: while at(source, j, Terminal::Lident) {
+        'names: while is_at(source, j, Terminal::Lident) {
             j = j + 1;
         }
-        let is_typed = at(source, j, Terminal::Colon);
+        let is_typed = is_at(source, j, Terminal::Colon);
         return is_typed;
     }
     false
@@ -36,7 +36,7 @@ fn named_param(alloc: Global, source: Source, i: usize) -> Result<(ParamTree, us
     let first = name_at(alloc, source, i)?;
     names.push(first)?;
     let mut j = i + 1;
-    'names: while at(source, j, Terminal::Lident) {
+    'names: while is_at(source, j, Terminal::Lident) {
         let next = name_at(alloc, source, j)?;
         names.push(next)?;
         j = j + 1;
@@ -55,7 +55,7 @@ fn param(alloc: Global, source: Source, i: usize) -> Result<(ParamTree, usize), 
     requires begins { begins_atype (terminal_at (lexemes source) i) ≡ true }
     ensures { IfOk result (λ r. IsParam (lexemes source.entry) i (param_of r.0) r.1) }
 {
-    let is_paren = at(source, i, Terminal::LParen);
+    let is_paren = is_at(source, i, Terminal::LParen);
     if is_paren {
         let behind = i + 1;
         let is_named = at_names(source, behind);

@@ -7,7 +7,7 @@ ghost use Rattle.parse_decls.specs.Bodies.{IsDecl};
 ghost use Rattle.parse_decls.specs.Types.{IsAlgebraic, IsCon, IsConstructor, IsConstructors, IsNamed, begins_constructor};
 
 use outside::Seq;
-use parse_terms::{Source, argument, at, at_type, name_at, place, type_tree};
+use parse_terms::{Source, argument, at_type, is_at, name_at, place, type_tree};
 use std::alloc::{AllocError, Global};
 use syntax_why::{AlgTree, ConTree, DeclNode, DeclTree, Name, TypeTree};
 use tokens_why::Terminal;
@@ -18,7 +18,7 @@ pub fn variables(alloc: Global, source: Source, i: usize) -> Result<(Seq<Name>, 
 {
     let mut names: Vec<Name> = Vec::new(alloc);
     let mut j = i;
-    'names: while at(source, j, Terminal::TyVar) {
+    'names: while is_at(source, j, Terminal::TyVar) {
         let next = name_at(alloc, source, j)?;
         names.push(next)?;
         j = j + 1;
@@ -31,8 +31,8 @@ fn at_constructor(source: Source, i: usize) -> bool
     ensures { result ≡ begins_constructor (terminal_at (lexemes source.entry) i)
         (terminal_at (lexemes source.entry) (i + 1)) }
 {
-    at(source, i, Terminal::Bar)
-        || (at(source, i, Terminal::Uident) && !at(source, i + 1, Terminal::Dot))
+    is_at(source, i, Terminal::Bar)
+        || (is_at(source, i, Terminal::Uident) && !is_at(source, i + 1, Terminal::Dot))
 }
 
 /// A constructor with its fields.
@@ -68,7 +68,7 @@ fn constructors(
     let mut cons: Vec<ConTree> = Vec::new(alloc);
     let (first, mut j) = constructor(alloc, source, i)?;
     cons.push(first)?;
-    'more: while at(source, j, Terminal::Bar) {
+    'more: while is_at(source, j, Terminal::Bar) {
         let (next, end) = constructor(alloc, source, j + 1)?;
         cons.push(next)?;
         j = end;
@@ -86,7 +86,7 @@ fn alternatives(
     ensures { IfOk result
         (λ r. IsCon (lexemes source.entry) i r.0 (map constructor_of r.1) r.2) }
 {
-    let is_barred = at(source, i, Terminal::Bar);
+    let is_barred = is_at(source, i, Terminal::Bar);
     if is_barred {
         let (behind, after) = constructors(alloc, source, i + 1)?;
         return Ok((true, behind, after));
@@ -96,7 +96,7 @@ fn alternatives(
 }
 
 /// An algebraic type from its name on.
-fn algebraic(alloc: Global, source: Source, i: usize) -> Result<(AlgTree, usize), AllocError>
+fn algebraic_type(alloc: Global, source: Source, i: usize) -> Result<(AlgTree, usize), AllocError>
     requires { CanRun (lexemes source) (λ k. rule.Take t.Lident ∷ rule.Algvars ∷ k) i }
     ensures { IfOk result (λ r. IsAlgebraic (lexemes source.entry) i (algebraic_of r.0) r.1) }
 {
@@ -126,7 +126,7 @@ pub fn type_declaration(
     let here = place(i);
     let name = name_at(alloc, source, i + 1)?;
     let (vars, j) = variables(alloc, source, i + 1 + 1)?;
-    let is_defined = at(source, j, Terminal::Equal);
+    let is_defined = is_at(source, j, Terminal::Equal);
     if is_defined {
         let behind = j + 1;
         let is_algebraic = at_constructor(source, behind);
@@ -141,8 +141,8 @@ pub fn type_declaration(
             };
             types.push(first)?;
             let mut n = after;
-            'others: while at(source, n, Terminal::WithWord) {
-                let (next, end) = algebraic(alloc, source, n + 1)?;
+            'others: while is_at(source, n, Terminal::WithWord) {
+                let (next, end) = algebraic_type(alloc, source, n + 1)?;
                 types.push(next)?;
                 n = end;
             }

@@ -1,8 +1,8 @@
 -- What follows where atoms, arguments and trees in parentheses are read.
-use Rattle.parse_terms.proofs.Common.{◌≡◌, ℕ, ◌+◌, ◌≤◌, Bool, true, false, List, [], ◌∷◌, None, refl, ap, arith, Terminal, same, Lexeme, at, called, Tree, Trees, apply, group, more, none, trees, Scoped, closing, paren, rows, find, Begun, CanRead, IsClosed, IsRead, begins_atom, is_name, names, terminal_at}
+use Rattle.parse_terms.proofs.Common.{◌≡◌, ℕ, ◌+◌, ◌≤◌, Bool, true, false, List, [], ◌∷◌, None, refl, sym, ap, arith, Terminal, same, same_true, no_false, Lexeme, at, called, Tree, Trees, apply, group, more, none, Scoped, closing, paren, rows, find, Begun, CanRead, IsClosed, IsRead, begins_atom, is_name, names, terminal_at}
 use Rattle.tokens_why.specs.declared.terminal.Terminal.TheVariants as t
 use Rattle.grammar.specs.declared.symbols.Symbol.TheVariants as s
-use Rattle.parse_terms.proofs.Steps.{SideBySide, again, done, expand, many, next, only, reread, start, unexpand}
+use Rattle.parse_terms.proofs.Steps.{SideBySide, again, apart, done, expand, many, next, none_where, only, reread, start, unexpand}
 use Rattle.parse_terms.proofs.TermSteps.{sure}
 use Rattle.parse_terms.proofs.HeadsRead.{atom_inner, head_atom_start, head_start, no_name}
 
@@ -16,11 +16,17 @@ name_read {xs} {i} c d j n q = let p = next (head_atom_start c n) q in record { 
 -- arguments
 pub atom_some : (x : Terminal) → begins_atom x ≡ true → find (rows s.Atom) x ≡ None → ⊥
 atom_some t.Lident h e = cc
-atom_some _ h e = cc
+atom_some t.Uident h e = cc
+atom_some t.StarName h e = cc
+atom_some t.LParen h e = cc
+atom_some t.Int h e = cc
+atom_some t.TrueWord h e = cc
+atom_some t.FalseWord h e = cc
+atom_some t.MatchWord h e = cc
+atom_some _ h e = no_false h
 
 pub atom_none : (x : Terminal) → begins_atom x ≡ false → find (rows s.Atom) x ≡ None
-atom_none t.Lident h = cc
-atom_none _ h = cc
+atom_none x h = none_where (rows s.Atom) begins_atom (t.Lident ∷ t.Uident ∷ t.StarName ∷ t.LParen ∷ t.Int ∷ t.TrueWord ∷ t.FalseWord ∷ t.MatchWord ∷ []) x refl refl h
 
 abbrev pub Arguments : List Lexeme → ℕ → List Tree → ℕ → Type 0
 Arguments xs i es j = SideBySide s.Args s.Atom more none refl xs i es j
@@ -28,10 +34,7 @@ Arguments xs i es j = SideBySide s.Args s.Atom more none refl xs i es j
 -- atoms of one token
 module _ {xs : List Lexeme} {i : ℕ} (c : CanRead xs s.Atom i) where
   named_apart : (x o d : Terminal) → is_name x o d ≡ false → (same t.Lident x ≡ false) × (same t.Uident x ≡ false) × (same t.StarName x ≡ false)
-  named_apart t.Lident o d n = cc
-  named_apart t.Uident o d n = cc
-  named_apart t.StarName o d n = cc
-  named_apart _ o d n = (refl, refl, refl)
+  named_apart x o d n = (apart (λ y. is_name y o d) t.Lident x refl n, apart (λ y. is_name y o d) t.Uident x refl n, apart (λ y. is_name y o d) t.StarName x refl n)
 
   pub only_paren : names xs i ≡ false → same t.Int (terminal_at xs i) ≡ false → same t.TrueWord (terminal_at xs i) ≡ false → same t.FalseWord (terminal_at xs i) ≡ false → same t.MatchWord (terminal_at xs i) ≡ false → same t.LParen (terminal_at xs i) ≡ true
   only_paren n a b d f = let q = named_apart (terminal_at xs i) (terminal_at xs (i + 1)) (terminal_at xs (i + 1 + 1)) n in
@@ -42,8 +45,7 @@ module _ {xs : List Lexeme} {i : ℕ} (c : CanRead xs s.Atom i) where
     paren_start = let p = expand (start c) t.LParen l refl refl in again p 1 refl (λ k us. refl)
 
     lparen : (x : Terminal) → same t.LParen x ≡ true → x ≡ t.LParen
-    lparen t.LParen h = refl
-    lparen _ h = cc
+    lparen x h = sym (same_true t.LParen x h)
 
     pub inner_start : names xs i ≡ false → same t.RParen (terminal_at xs (i + 1)) ≡ false → Begun xs 1 (λ k. s.Atom ∷ k) i (λ k. s.Expr 0 ∷ s.GroupRest ∷ k) (λ k us. (closing i us.0 us.1.0, us.1.1)) (i + 1)
     inner_start n o = reread paren_start (λ k. s.Expr 0 ∷ s.GroupRest ∷ k) (λ k us. (closing i us.0 us.1.0, us.1.1))

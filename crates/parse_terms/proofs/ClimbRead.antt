@@ -3,7 +3,7 @@ use Rattle.parse_terms.proofs.Common.{◌≡◌, ℕ, ◌+◌, ◌<◌, ◌⊎�
 use Rattle.tokens_why.specs.declared.terminal.Terminal.TheVariants as t
 use Rattle.grammar.specs.declared.symbols.Symbol.TheVariants as s
 use Rattle.reading.proofs.Operators.{tail_found, tail_none}
-use Rattle.parse_terms.proofs.Steps.{again, and_cases, begins, expand_by, extended_due, next, stands_due, start}
+use Rattle.parse_terms.proofs.Steps.{Differ, again, and_cases, apart, begins, expand_by, extended_due, next, none_by, stands_due, start}
 use Rattle.parse_terms.proofs.TermSteps.{silent}
 use Rattle.grammar.proofs.Tails.{infix_among}
 
@@ -11,11 +11,19 @@ not_low : (m : ℕ) (b : Bool) → b ≡ false → find (expr_own m b ++ extend 
 not_low m false h = refl
 not_low m true h = cc
 
+-- the terminals that begin an operand and no application
+abbrev firsts : List Terminal
+firsts = t.NotWord ∷ t.Minus ∷ t.PrefixOperator ∷ t.IfWord ∷ t.LetWord ∷ t.ForallWord ∷ t.ExistsWord ∷ []
+
 own_none : (m : ℕ) (b : Bool) (x : Terminal) → same t.NotWord x ≡ false → is_prefix x ≡ false → same t.IfWord x ≡ false → same t.LetWord x ≡ false → same t.ForallWord x ≡ false → same t.ExistsWord x ≡ false → find (expr_own m b) x ≡ None
-own_none m true t.NotWord n p i l f e = cc
-own_none m true _ n p i l f e = cc
-own_none m false t.NotWord n p i l f e = cc
-own_none m false _ n p i l f e = cc
+own_none m b x n p i l f e = by_level b
+  where
+    differ : Differ firsts x
+    differ = (n, (apart is_prefix t.Minus x refl p, (apart is_prefix t.PrefixOperator x refl p, (i, (l, (f, (e, tt)))))))
+
+    by_level : (b : Bool) → find (expr_own m b) x ≡ None
+    by_level true = none_by (expr_own m true) firsts x refl differ
+    by_level false = none_by (expr_own m false) firsts x refl differ
 
 module _ {xs : List Lexeme} {m i : ℕ} (c : CanRead xs (s.Expr m) i) where
   pub not_start : same t.NotWord (terminal_at xs i) ≡ true → Begun xs 1 (λ k. s.Expr m ∷ k) i (λ k. s.Expr 3 ∷ s.Tail m 3 ∷ k) (λ k us. (attach (negation (at i) us.0) us.1.0, us.1.1)) (i + 1)

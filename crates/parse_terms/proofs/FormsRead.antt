@@ -1,8 +1,8 @@
 -- What follows where types and patterns are read.
-use Rattle.parse_terms.proofs.Common.{◌≡◌, ℕ, ◌+◌, Bool, true, false, List, [], ◌∷◌, None, refl, ap, arith, Terminal, same, Lexeme, at, name, Form, called, composed, enclosed, lower, more_forms, no_forms, forms, named_at, upper_called, row, rows, find, Begun, CanRead, begins_atype, begins_patom, terminal_at, token_at}
+use Rattle.parse_terms.proofs.Common.{◌≡◌, ℕ, ◌+◌, Bool, true, false, List, [], ◌∷◌, None, refl, ap, arith, Terminal, same, no_false, Lexeme, at, Form, called, composed, enclosed, lower, more_forms, no_forms, forms, named_at, upper_called, row, rows, find, Begun, CanRead, begins_atype, begins_patom, terminal_at, token_at}
 use Rattle.tokens_why.specs.declared.terminal.Terminal.TheVariants as t
 use Rattle.grammar.specs.declared.symbols.Symbol.TheVariants as s
-use Rattle.parse_terms.proofs.Steps.{SideBySide, again, expand, extended_due, many, missed, only, start, unexpand}
+use Rattle.parse_terms.proofs.Steps.{SideBySide, again, expand, extended_due, many, missed, none_where, only, start, unexpand}
 
 pub forms_many : (fs : List Form) → many more_forms fs no_forms ≡ forms fs
 forms_many [] = refl
@@ -38,11 +38,13 @@ module _ {xs : List Lexeme} {i : ℕ} (c : CanRead xs s.Atype i) where
 
 pub atype_some : (x : Terminal) → begins_atype x ≡ true → find (rows s.Atype) x ≡ None → ⊥
 atype_some t.TyVar h e = cc
-atype_some _ h e = cc
+atype_some t.Lident h e = cc
+atype_some t.Uident h e = cc
+atype_some t.LParen h e = cc
+atype_some _ h e = no_false h
 
 pub atype_none : (x : Terminal) → begins_atype x ≡ false → find (rows s.Atype) x ≡ None
-atype_none t.TyVar h = cc
-atype_none _ h = cc
+atype_none x h = none_where (rows s.Atype) begins_atype (t.TyVar ∷ t.Lident ∷ t.Uident ∷ t.LParen ∷ []) x refl refl h
 
 abbrev pub Types : List Lexeme → ℕ → List Form → ℕ → Type 0
 Types xs i fs j = SideBySide s.Targs s.Atype more_forms no_forms refl xs i fs j
@@ -81,11 +83,13 @@ module _ {xs : List Lexeme} {i : ℕ} (c : CanRead xs s.Patom i) where
 
 pub patom_some : (x : Terminal) → begins_patom x ≡ true → find (rows s.Patom) x ≡ None → ⊥
 patom_some t.Wild h e = cc
-patom_some _ h e = cc
+patom_some t.Lident h e = cc
+patom_some t.Uident h e = cc
+patom_some t.LParen h e = cc
+patom_some _ h e = no_false h
 
 pub patom_none : (x : Terminal) → begins_patom x ≡ false → find (rows s.Patom) x ≡ None
-patom_none t.Wild h = cc
-patom_none _ h = cc
+patom_none x h = none_where (rows s.Patom) begins_patom (t.Wild ∷ t.Lident ∷ t.Uident ∷ t.LParen ∷ []) x refl refl h
 
 abbrev pub Patterns : List Lexeme → ℕ → List Form → ℕ → Type 0
 Patterns xs i fs j = SideBySide s.Patoms s.Patom more_forms no_forms refl xs i fs j

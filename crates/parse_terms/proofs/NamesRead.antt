@@ -1,8 +1,8 @@
 -- What follows where names are read.
-use Rattle.parse_terms.proofs.Common.{◌≡◌, ℕ, ◌+◌, ◌<◌, Bool, true, false, ◌&&◌, List, [], ◌∷◌, ◌++◌, length, Option, Some, None, refl, sym, ap, ◌∙◌, append_assoc, append-nil, Terminal, is_operator, same, Lexeme, Word, Own, lower, op, Dotted, Scoped, own_op, scope_on, opname_rows, find, opname_found, Begun, CanRead, IsRead, beyond, terminal_at, token_at}
+use Rattle.parse_terms.proofs.Common.{◌≡◌, ℕ, ◌+◌, ◌<◌, Bool, true, false, ◌&&◌, List, [], ◌∷◌, ◌++◌, length, Option, Some, None, refl, sym, ap, ◌∙◌, append_assoc, append-nil, Terminal, is_operator, same, Lexeme, Word, Own, op, Dotted, Scoped, own_op, scope_on, opname_rows, find, opname_found, Begun, CanRead, IsRead, beyond, terminal_at, token_at}
 use Rattle.tokens_why.specs.declared.terminal.Terminal.TheVariants as t
 use Rattle.grammar.specs.declared.symbols.Symbol.TheVariants as s
-use Rattle.parse_terms.proofs.Steps.{again, and_cases, begins, done, expand, expand_by, next, next_within, none_of, only, pass, stands_due, start, take}
+use Rattle.parse_terms.proofs.Steps.{again, and_cases, begins, done, expand, expand_by, next, next_within, none_of, none_where, only, pass, stands_due, start, take}
 
 -- names of terms: scopes, then a name or an operator
 abbrev pub scoped_on : List Word → Scoped → Scoped
@@ -33,8 +33,7 @@ module _ {xs : List Lexeme} {i : ℕ} (c : CanRead xs s.Qhead i) where
 
 -- operators' names
 opname_none : (o : Terminal) → is_operator o ≡ false → find opname_rows o ≡ None
-opname_none t.Equal h = cc
-opname_none _ h = cc
+opname_none o h = none_where opname_rows is_operator (t.Equal ∷ t.Minus ∷ t.Operator1 ∷ t.Operator2 ∷ t.Operator3 ∷ t.Operator4 ∷ t.PrefixOperator ∷ []) o refl refl h
 
 module _ {xs : List Lexeme} {j : ℕ} (c : CanRead xs s.Opname j) where
   pub opname_start : Begun xs 1 (λ k. s.Opname ∷ k) j (λ k. s.Opend ∷ k) (λ k us. (record { op = op j (terminal_at xs j) (token_at xs j).text; prefix = us.0 }, us.1)) (j + 1)

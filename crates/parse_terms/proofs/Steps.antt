@@ -60,7 +60,7 @@ differs (z ∷ ys) x y d h = by_case (or_cases (same z y) (among ys y) h) (diffe
     by_case (inl e) g = subst (λ q. same q x ≡ false) (same_true z y e) d.0
     by_case (inr e) g = g e
 
-none_by : {s : Symbol} → (rs : List (Row s)) (ys : List Terminal) (x : Terminal) → covered rs ys ≡ true → Differ ys x → find rs x ≡ None
+pub none_by : {s : Symbol} → (rs : List (Row s)) (ys : List Terminal) (x : Terminal) → covered rs ys ≡ true → Differ ys x → find rs x ≡ None
 none_by [] ys x c d = refl
 none_by (r ∷ rs) ys x c d = let q = and_cases (among ys r.first) (covered rs ys) c in by_test (same r.first x) (differs ys x r.first d q.0) (none_by rs ys x q.1 d)
   where
@@ -71,6 +71,26 @@ none_by (r ∷ rs) ys x c d = let q = and_cases (among ys r.first) (covered rs y
 -- No row of a rule begins with what stands there.
 pub none_of : (s : Symbol) (ys : List Terminal) (x : Terminal) → covered (rows s) ys ≡ true → Differ ys x → find (rows s) x ≡ None
 none_of s ys x c d = none_by (rows s) ys x c d
+
+-- A terminal of which a test holds doesn't stand where the test fails.
+pub apart : (f : Terminal → Bool) (y x : Terminal) → f y ≡ true → f x ≡ false → same y x ≡ false
+apart f y x h n = by_test (same y x) refl
+  where
+    by_test : (b : Bool) → same y x ≡ b → b ≡ false
+    by_test false e = refl
+    by_test true e = sym h ∙ ap f (same_true y x e) ∙ n
+
+abbrev pub passes_all : (Terminal → Bool) → List Terminal → Bool
+passes_all f [] = true
+passes_all f (y ∷ ys) = f y && passes_all f ys
+
+pub all_apart : (f : Terminal → Bool) (ys : List Terminal) (x : Terminal) → passes_all f ys ≡ true → f x ≡ false → Differ ys x
+all_apart f [] x h n = tt
+all_apart f (y ∷ ys) x h n = let q = and_cases (f y) (passes_all f ys) h in (apart f y x q.0 n, all_apart f ys x q.1 n)
+
+-- No row begins with what stands there, where a test of all first terminals fails.
+pub none_where : {s : Symbol} → (rs : List (Row s)) (f : Terminal → Bool) (ys : List Terminal) (x : Terminal) → covered rs ys ≡ true → passes_all f ys ≡ true → f x ≡ false → find rs x ≡ None
+none_where rs f ys x c h n = none_by rs ys x c (all_apart f ys x h n)
 
 -- Of the terminals with which rows begin only one may stand there.
 pub left : {s : Symbol} → (rs : List (Row s)) (y : Terminal) (ys : List Terminal) (x : Terminal) (r : Row s) → covered rs (y ∷ ys) ≡ true → Differ ys x → find rs x ≡ Some r → same y x ≡ true

@@ -15,7 +15,7 @@ use crate::operators::{
 use crate::parts::{alternative, binder};
 use crate::patterns::pattern;
 use crate::source::Source;
-use crate::tokens::{at, at_atom, place, terminal};
+use crate::tokens::{at_atom, is_at, place, terminal};
 use crate::types::type_tree;
 use grammar::{prec_of, right_of};
 use outside::{Boxed, Seq};
@@ -145,18 +145,18 @@ fn operand(alloc: Global, source: Source, m: u8, i: usize) -> Result<ReadOperand
         (λ r. Climb (lexemes source.entry) m i (tree_of r.tree) r.tight r.end) }
     ensures is_open { IfOk result (λ r. r.is_open ≡ ends_open (tree_of r.tree)) }
 {
-    let is_negation = at(source, i, Terminal::NotWord);
+    let is_negation = is_at(source, i, Terminal::NotWord);
     if is_negation {
         return negation(alloc, source, m, i);
     }
     if at_prefix(source, i) {
         return prefix(alloc, source, m, i);
     }
-    let is_choice = at(source, i, Terminal::IfWord);
+    let is_choice = is_at(source, i, Terminal::IfWord);
     if is_choice {
         return choice(alloc, source, m, i);
     }
-    let is_binding = at(source, i, Terminal::LetWord);
+    let is_binding = is_at(source, i, Terminal::LetWord);
     if is_binding {
         return let_in(alloc, source, m, i);
     }
@@ -244,7 +244,7 @@ fn let_in(alloc: Global, source: Source, m: u8, i: usize) -> Result<ReadOperand,
     let mut bound: Vec<Pat> = Vec::new(alloc);
     let (first, mut j) = pattern(alloc, source, i + 1)?;
     bound.push(first)?;
-    'more: while at(source, j, Terminal::Comma) {
+    'more: while is_at(source, j, Terminal::Comma) {
         let (next, end) = pattern(alloc, source, j + 1)?;
         bound.push(next)?;
         j = end;
@@ -270,11 +270,11 @@ fn quantification(alloc: Global, source: Source, m: u8, i: usize) -> Result<Read
         (λ r. Climb (lexemes source.entry) m i (tree_of r.tree) r.tight r.end) }
     ensures is_open { IfOk result (λ r. r.is_open ≡ ends_open (tree_of r.tree)) }
 {
-    let forall = at(source, i, Terminal::ForallWord);
+    let forall = is_at(source, i, Terminal::ForallWord);
     let mut binders: Vec<BinderTree> = Vec::new(alloc);
     let (first, mut j) = binder(alloc, source, i + 1)?;
     binders.push(first)?;
-    'more: while at(source, j, Terminal::Comma) {
+    'more: while is_at(source, j, Terminal::Comma) {
         let (next, end) = binder(alloc, source, j + 1)?;
         binders.push(next)?;
         j = end;
@@ -282,7 +282,7 @@ fn quantification(alloc: Global, source: Source, m: u8, i: usize) -> Result<Read
     let (triggers, behind) = trigger(alloc, source, j)?;
     let (body, last) = any_expression(alloc, source, behind)?;
     let bound = Seq::from_vec(binders);
-    let tree = Expr::quantified(alloc, place(i), forall, bound, triggers, body)?;
+    let tree = Expr::quantifier(alloc, place(i), forall, bound, triggers, body)?;
     Ok(ReadOperand {
         tree,
         tight: 0,
@@ -303,14 +303,14 @@ fn trigger(
     ensures { IfOk result (λ r. IsTrigger (lexemes source.entry) i
         (trigger_of (option_map terms_of r.0)) r.1) }
 {
-    let is_given = at(source, i, Terminal::LBrack);
+    let is_given = is_at(source, i, Terminal::LBrack);
     if is_given {
         let mut terms: Vec<Expr> = Vec::new(alloc);
         let mut bars: Vec<bool> = Vec::new(alloc);
         let (first, mut j) = any_expression(alloc, source, i + 1)?;
         terms.push(first)?;
         'terms: while at_separator(source, j) {
-            let bar = at(source, j, Terminal::Bar);
+            let bar = is_at(source, j, Terminal::Bar);
             let (next, end) = any_expression(alloc, source, j + 1)?;
             terms.push(next)?;
             bars.push(bar)?;
@@ -382,25 +382,25 @@ fn plain_atom(alloc: Global, source: Source, i: usize) -> Result<(Expr, usize), 
         (λ r. IsClosed (lexemes source.entry) rule.Atom i (tree_of r.0) (tree_of r.0) r.1) }
 {
     let here = place(i);
-    let is_integer = at(source, i, Terminal::Int);
+    let is_integer = is_at(source, i, Terminal::Int);
     if is_integer {
         return Ok((integer_tree(source, i), i + 1));
     }
-    let is_true = at(source, i, Terminal::TrueWord);
+    let is_true = is_at(source, i, Terminal::TrueWord);
     if is_true {
         return Ok((Expr::new(here, ExprNode::True), i + 1));
     }
-    let is_false = at(source, i, Terminal::FalseWord);
+    let is_false = is_at(source, i, Terminal::FalseWord);
     if is_false {
         return Ok((Expr::new(here, ExprNode::False), i + 1));
     }
-    let is_match = at(source, i, Terminal::MatchWord);
+    let is_match = is_at(source, i, Terminal::MatchWord);
     if is_match {
         let (tree, end) = cases(alloc, source, i)?;
         return Ok((tree, end));
     }
     let behind = i + 1;
-    let is_empty = at(source, behind, Terminal::RParen);
+    let is_empty = is_at(source, behind, Terminal::RParen);
     if is_empty {
         return Ok((
             Expr::new(here, ExprNode::Group(Seq::new(alloc))),
@@ -408,7 +408,7 @@ fn plain_atom(alloc: Global, source: Source, i: usize) -> Result<(Expr, usize), 
         ));
     }
     let (first, mut j) = any_expression(alloc, source, behind)?;
-    let is_cast = at(source, j, Terminal::Colon);
+    let is_cast = is_at(source, j, Terminal::Colon);
     if is_cast {
         let held = Boxed::new(alloc, first)?;
         let (ty, end) = type_tree(alloc, source, j + 1)?;
@@ -417,7 +417,7 @@ fn plain_atom(alloc: Global, source: Source, i: usize) -> Result<(Expr, usize), 
     }
     let mut parts: Vec<Expr> = Vec::new(alloc);
     parts.push(first)?;
-    'members: while at(source, j, Terminal::Comma) {
+    'members: while is_at(source, j, Terminal::Comma) {
         let (next, end) = any_expression(alloc, source, j + 1)?;
         parts.push(next)?;
         j = end;
@@ -439,7 +439,7 @@ fn cases(alloc: Global, source: Source, i: usize) -> Result<(Expr, usize), Alloc
     let mut scrutinees: Vec<Expr> = Vec::new(alloc);
     let (first, mut j) = any_expression(alloc, source, i + 1)?;
     scrutinees.push(first)?;
-    'scrutinees: while at(source, j, Terminal::Comma) {
+    'scrutinees: while is_at(source, j, Terminal::Comma) {
         let (next, end) = any_expression(alloc, source, j + 1)?;
         scrutinees.push(next)?;
         j = end;
@@ -448,7 +448,7 @@ fn cases(alloc: Global, source: Source, i: usize) -> Result<(Expr, usize), Alloc
     let mut arms: Vec<BranchTree> = Vec::new(alloc);
     let (arm, mut n) = branch(alloc, source, begin)?;
     arms.push(arm)?;
-    'arms: while at(source, n, Terminal::Bar) {
+    'arms: while is_at(source, n, Terminal::Bar) {
         let (more, end) = branch(alloc, source, n + 1)?;
         arms.push(more)?;
         n = end;
@@ -470,7 +470,7 @@ fn branch(alloc: Global, source: Source, i: usize) -> Result<(BranchTree, usize)
     let mut alternatives: Vec<Seq<Pat>> = Vec::new(alloc);
     let (first, mut j) = alternative(alloc, source, i)?;
     alternatives.push(first)?;
-    'alternatives: while at(source, j, Terminal::Bar) {
+    'alternatives: while is_at(source, j, Terminal::Bar) {
         let (next, end) = alternative(alloc, source, j + 1)?;
         alternatives.push(next)?;
         j = end;

@@ -20,6 +20,6 @@ pub use parse::parse_expr;
 pub use patterns::pattern;
 pub use recognise_why::{SyntaxFault, complete_expr, has_one_tree};
 pub use source::Source;
-pub use tokens::{at, at_atom, at_type, integer, name_at, place, terminal, text};
+pub use tokens::{at_atom, at_type, integer, is_at, name_at, place, terminal, text};
 pub use types::{argument, type_arguments, type_list, type_tree};
 pub use whole::whole_expression;

@@ -6,7 +6,7 @@ ghost use Rattle.parse_terms.specs.Reading.{CanRead, IsRead, terminal_at};
 ghost use Rattle.parse_terms.specs.Sources.{lexemes};
 
 use crate::source::Source;
-use crate::tokens::{at, text};
+use crate::tokens::{is_at, text};
 use outside::{Seq, Text};
 use std::alloc::{AllocError, Global};
 use syntax_why::{QName, Style};
@@ -28,7 +28,7 @@ pub fn operator_name(alloc: Global, source: Source, i: usize) -> Result<OwnName,
 {
     let word = text(alloc, source, i)?;
     let behind = i + 1;
-    let closed = at(source, behind, Terminal::RParen);
+    let closed = is_at(source, behind, Terminal::RParen);
     if closed {
         return Ok(OwnName {
             style: Style::Infix,
@@ -48,7 +48,7 @@ fn at_scope(source: Source, i: usize) -> bool
     ensures { result ≡ (same Uident (terminal_at (lexemes source.entry) i)
         && same Dot (terminal_at (lexemes source.entry) (i + 1))) }
 {
-    at(source, i, Terminal::Uident) && at(source, i + 1, Terminal::Dot)
+    is_at(source, i, Terminal::Uident) && is_at(source, i + 1, Terminal::Dot)
 }
 
 /// A name's last part.
@@ -59,7 +59,7 @@ fn own_name(alloc: Global, source: Source, i: usize) -> Result<OwnName, AllocErr
     ensures { IfOk result (λ r. IsRead (lexemes source.entry) Qhead i
         (record { scopes = []; own = own_of r.style r.text }) r.end) }
 {
-    let is_lower = at(source, i, Terminal::Lident);
+    let is_lower = is_at(source, i, Terminal::Lident);
     if is_lower {
         let lower = text(alloc, source, i)?;
         return Ok(OwnName {
@@ -68,7 +68,7 @@ fn own_name(alloc: Global, source: Source, i: usize) -> Result<OwnName, AllocErr
             end: i + 1,
         });
     }
-    let is_upper = at(source, i, Terminal::Uident);
+    let is_upper = is_at(source, i, Terminal::Uident);
     if is_upper {
         let upper = text(alloc, source, i)?;
         return Ok(OwnName {
@@ -77,7 +77,7 @@ fn own_name(alloc: Global, source: Source, i: usize) -> Result<OwnName, AllocErr
             end: i + 1,
         });
     }
-    let is_star = at(source, i, Terminal::StarName);
+    let is_star = is_at(source, i, Terminal::StarName);
     if is_star {
         let star = Text::from_slice(alloc, b"*")?;
         return Ok(OwnName {
@@ -122,7 +122,7 @@ pub fn lower_name(alloc: Global, source: Source, i: usize) -> Result<(QName, usi
 {
     let mut scopes: Vec<Text> = Vec::new(alloc);
     let mut j = i;
-    'scopes: while at(source, j, Terminal::Uident) {
+    'scopes: while is_at(source, j, Terminal::Uident) {
         let word = text(alloc, source, j)?;
         scopes.push(word)?;
         j = j + 1 + 1;
@@ -146,7 +146,7 @@ pub fn upper_name(alloc: Global, source: Source, i: usize) -> Result<(QName, usi
     let mut scopes: Vec<Text> = Vec::new(alloc);
     let mut last = text(alloc, source, i)?;
     let mut j = i + 1;
-    'scopes: while at(source, j, Terminal::Dot) {
+    'scopes: while is_at(source, j, Terminal::Dot) {
         let word = text(alloc, source, j + 1)?;
         scopes.push(last)?;
         last = word;

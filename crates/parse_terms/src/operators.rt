@@ -7,8 +7,8 @@ ghost use Rattle.parse_terms.specs.Reading.{ends_name, names, takes_infix, termi
 ghost use Rattle.parse_terms.specs.Sources.{lexemes};
 
 use crate::source::Source;
-use crate::tokens::{at, integer, place, terminal, text};
-use grammar::{infix, need_of, prec_of};
+use crate::tokens::{integer, is_at, place, terminal, text};
+use grammar::{is_infix, need_of, prec_of};
 use std::alloc::{AllocError, Global};
 use syntax_why::{Expr, ExprNode, OpName, Style};
 use tokens_why::Terminal;
@@ -51,7 +51,7 @@ pub fn at_operator(source: Source, m: u8, tight: u8, i: usize) -> bool
     ensures { result ≡ takes_infix m tight (terminal_at (lexemes source.entry) i) }
 {
     let x = terminal(source, i);
-    infix(x) && m <= prec_of(x) && need_of(x) <= tight
+    is_infix(x) && m <= prec_of(x) && need_of(x) <= tight
 }
 
 /// Whether a prefix operator stands at a token.
@@ -69,7 +69,7 @@ pub fn at_quantifier(source: Source, i: usize) -> bool
     ensures { result ≡ (same t.ForallWord (terminal_at (lexemes source.entry) i)
         || same t.ExistsWord (terminal_at (lexemes source.entry) i)) }
 {
-    at(source, i, Terminal::ForallWord) || at(source, i, Terminal::ExistsWord)
+    is_at(source, i, Terminal::ForallWord) || is_at(source, i, Terminal::ExistsWord)
 }
 
 /// Whether another term of a trigger follows.
@@ -77,7 +77,7 @@ pub fn at_separator(source: Source, i: usize) -> bool
     ensures { result ≡ (same t.Comma (terminal_at (lexemes source.entry) i)
         || same t.Bar (terminal_at (lexemes source.entry) i)) }
 {
-    at(source, i, Terminal::Comma) || at(source, i, Terminal::Bar)
+    is_at(source, i, Terminal::Comma) || is_at(source, i, Terminal::Bar)
 }
 
 /// The operator at a token. Only want of memory refuses.
@@ -100,7 +100,7 @@ pub fn past_bar(source: Source, i: usize) -> (bool, usize)
     ensures bar { result.0 ≡ same t.Bar (terminal_at (lexemes source.entry) i) }
     ensures begins { result.1 ≡ (if result.0 then i + 1 else i) }
 {
-    if at(source, i, Terminal::Bar) {
+    if is_at(source, i, Terminal::Bar) {
         (true, i + 1)
     } else {
         (false, i)

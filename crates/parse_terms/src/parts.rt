@@ -9,7 +9,7 @@ ghost use Rattle.parse_terms.specs.Binders.{IsNaming};
 
 use crate::patterns::pattern;
 use crate::source::Source;
-use crate::tokens::{at, name_at};
+use crate::tokens::{is_at, name_at};
 use crate::types::type_tree;
 use outside::Seq;
 use std::alloc::{AllocError, Global};
@@ -24,7 +24,7 @@ pub fn alternative(alloc: Global, source: Source, i: usize) -> Result<(Seq<Pat>,
     let mut parts: Vec<Pat> = Vec::new(alloc);
     let (first, mut j) = pattern(alloc, source, i)?;
     parts.push(first)?;
-    'more: while at(source, j, Terminal::Comma) {
+    'more: while is_at(source, j, Terminal::Comma) {
         let (next, end) = pattern(alloc, source, j + 1)?;
         parts.push(next)?;
         j = end;
@@ -41,7 +41,7 @@ fn bound_names(alloc: Global, source: Source, i: usize) -> Result<(Seq<Name>, us
     let first = name_at(alloc, source, i)?;
     names.push(first)?;
     let mut j = i + 1;
-    'more: while at(source, j, Terminal::Lident) {
+    'more: while is_at(source, j, Terminal::Lident) {
         let next = name_at(alloc, source, j)?;
         names.push(next)?;
         j = j + 1;
@@ -55,7 +55,7 @@ pub fn binder(alloc: Global, source: Source, i: usize) -> Result<(BinderTree, us
     ensures { IfOk result (λ r. IsBinder (lexemes source.entry) i (binder_of r.0) r.1) }
 {
     let (names, j) = bound_names(alloc, source, i)?;
-    let typed = at(source, j, Terminal::Colon);
+    let typed = is_at(source, j, Terminal::Colon);
     if typed {
         let (ty, end) = type_tree(alloc, source, j + 1)?;
         let tree = BinderTree {

@@ -8,7 +8,7 @@ ghost use Rattle.parse_terms.specs.Sources.{lexemes};
 
 use crate::names::upper_name;
 use crate::source::Source;
-use crate::tokens::{at, at_pattern, name_at, place};
+use crate::tokens::{at_pattern, is_at, name_at, place};
 use outside::Seq;
 use std::alloc::{AllocError, Global};
 use syntax_why::{Pat, PatNode};
@@ -20,8 +20,8 @@ pub fn pattern(alloc: Global, source: Source, i: usize) -> Result<(Pat, usize), 
     requires { CanRead (lexemes source) rule.Pat i }
     ensures { IfOk result (λ r. IsRead (lexemes source.entry) rule.Pat i (pattern_of r.0) r.1) }
 {
-    let (inner, end) = bare(alloc, source, i)?;
-    let is_named = at(source, end, Terminal::AsWord);
+    let (inner, end) = bare_pattern(alloc, source, i)?;
+    let is_named = is_at(source, end, Terminal::AsWord);
     if is_named {
         let behind = end + 1;
         let name = name_at(alloc, source, behind)?;
@@ -34,11 +34,11 @@ pub fn pattern(alloc: Global, source: Source, i: usize) -> Result<(Pat, usize), 
 
 /// A pattern without the name that may follow.
 #[cycle(pattern_descent)]
-fn bare(alloc: Global, source: Source, i: usize) -> Result<(Pat, usize), AllocError>
+fn bare_pattern(alloc: Global, source: Source, i: usize) -> Result<(Pat, usize), AllocError>
     requires { CanRead (lexemes source) rule.Pat i }
     ensures { IfOk result (λ r. IsBare (lexemes source.entry) i (pattern_of r.0) r.1) }
 {
-    let is_constructor = at(source, i, Terminal::Uident);
+    let is_constructor = is_at(source, i, Terminal::Uident);
     if is_constructor {
         let here = place(i);
         let (name, j) = upper_name(alloc, source, i)?;
@@ -56,16 +56,16 @@ fn pattern_atom(alloc: Global, source: Source, i: usize) -> Result<(Pat, usize),
     ensures { IfOk result (λ r. IsRead (lexemes source.entry) rule.Patom i (pattern_of r.0) r.1) }
 {
     let here = place(i);
-    let is_wild = at(source, i, Terminal::Wild);
+    let is_wild = is_at(source, i, Terminal::Wild);
     if is_wild {
         return Ok((Pat::new(here, PatNode::Wild), i + 1));
     }
-    let is_name = at(source, i, Terminal::Lident);
+    let is_name = is_at(source, i, Terminal::Lident);
     if is_name {
         let name = name_at(alloc, source, i)?;
         return Ok((Pat::new(here, PatNode::Var(name)), i + 1));
     }
-    let is_constant = at(source, i, Terminal::Uident);
+    let is_constant = is_at(source, i, Terminal::Uident);
     if is_constant {
         let (name, end) = upper_name(alloc, source, i)?;
         return Ok((Pat::new(here, PatNode::Con(name, Seq::new(alloc))), end));
@@ -97,13 +97,13 @@ fn pattern_list(alloc: Global, source: Source, i: usize) -> Result<(Seq<Pat>, us
     ensures { IfOk result (λ r. IsRead (lexemes source.entry) rule.Ptuple i (patterns r.0) r.1) }
 {
     let mut parts: Vec<Pat> = Vec::new(alloc);
-    let is_empty = at(source, i, Terminal::RParen);
+    let is_empty = is_at(source, i, Terminal::RParen);
     if is_empty {
         return Ok((Seq::from_vec(parts), i + 1));
     }
     let (first, mut j) = pattern(alloc, source, i)?;
     parts.push(first)?;
-    'more: while at(source, j, Terminal::Comma) {
+    'more: while is_at(source, j, Terminal::Comma) {
         let (next, end) = pattern(alloc, source, j + 1)?;
         parts.push(next)?;
         j = end;

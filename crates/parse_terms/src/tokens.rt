@@ -25,7 +25,7 @@ pub fn terminal(source: Source, i: usize) -> Terminal
 }
 
 /// Whether a terminal stands at a token.
-pub fn at(source: Source, i: usize, sought: Terminal) -> bool
+pub fn is_at(source: Source, i: usize, sought: Terminal) -> bool
     ensures { result ≡ same sought (terminal_at (lexemes source.entry) i) }
 {
     is_same(sought, terminal(source, i))

@@ -6,7 +6,7 @@ ghost use Rattle.parse_terms.specs.Sources.{lexemes};
 
 use crate::names::lower_name;
 use crate::source::Source;
-use crate::tokens::{at, at_type, place, text};
+use crate::tokens::{at_type, is_at, place, text};
 use outside::Seq;
 use std::alloc::{AllocError, Global};
 use syntax_why::{TypeNode, TypeTree};
@@ -19,12 +19,12 @@ pub fn type_tree(alloc: Global, source: Source, i: usize) -> Result<(TypeTree, u
     ensures { IfOk result (λ r. IsRead (lexemes source.entry) TypeOf i (form_of r.0) r.1) }
 {
     let here = place(i);
-    let is_variable = at(source, i, Terminal::TyVar);
+    let is_variable = is_at(source, i, Terminal::TyVar);
     if is_variable {
         let word = text(alloc, source, i)?;
         return Ok((TypeTree::new(here, TypeNode::Var(word)), i + 1));
     }
-    let is_group = at(source, i, Terminal::LParen);
+    let is_group = is_at(source, i, Terminal::LParen);
     if is_group {
         let (parts, end) = type_list(alloc, source, i + 1)?;
         return Ok((TypeTree::new(here, TypeNode::Group(parts)), end));
@@ -41,12 +41,12 @@ pub fn argument(alloc: Global, source: Source, i: usize) -> Result<(TypeTree, us
     ensures { IfOk result (λ r. IsRead (lexemes source.entry) Atype i (form_of r.0) r.1) }
 {
     let here = place(i);
-    let is_variable = at(source, i, Terminal::TyVar);
+    let is_variable = is_at(source, i, Terminal::TyVar);
     if is_variable {
         let word = text(alloc, source, i)?;
         return Ok((TypeTree::new(here, TypeNode::Var(word)), i + 1));
     }
-    let is_group = at(source, i, Terminal::LParen);
+    let is_group = is_at(source, i, Terminal::LParen);
     if is_group {
         let (parts, end) = type_list(alloc, source, i + 1)?;
         return Ok((TypeTree::new(here, TypeNode::Group(parts)), end));
@@ -89,13 +89,13 @@ pub fn type_list(
     ensures { IfOk result (λ r. IsRead (lexemes source.entry) Ttuple i (types r.0) r.1) }
 {
     let mut parts: Vec<TypeTree> = Vec::new(alloc);
-    let is_empty = at(source, i, Terminal::RParen);
+    let is_empty = is_at(source, i, Terminal::RParen);
     if is_empty {
         return Ok((Seq::from_vec(parts), i + 1));
     }
     let (first, mut j) = type_tree(alloc, source, i)?;
     parts.push(first)?;
-    'more: while at(source, j, Terminal::Comma) {
+    'more: while is_at(source, j, Terminal::Comma) {
         let (next, end) = type_tree(alloc, source, j + 1)?;
         parts.push(next)?;
         j = end;

@@ -32,10 +32,22 @@ expr_quantifier m true false = refl
 expr_quantifier m false false = refl
 
 pub expr_apart : (m : ℕ) (b : Bool) (x : Terminal) (r : Row s.Prim) → find prim_rows x ≡ Some r → find (expr_own m b) x ≡ None
-expr_apart m true t.Lident r h = refl
-expr_apart m false t.Lident r h = refl
-expr_apart m true _ r h = cc
-expr_apart m false _ r h = cc
+expr_apart m true t.NotWord r h = cc
+expr_apart m false t.NotWord r h = refl
+expr_apart m true t.Minus r h = cc
+expr_apart m false t.Minus r h = cc
+expr_apart m true t.PrefixOperator r h = cc
+expr_apart m false t.PrefixOperator r h = cc
+expr_apart m true t.IfWord r h = cc
+expr_apart m false t.IfWord r h = cc
+expr_apart m true t.LetWord r h = cc
+expr_apart m false t.LetWord r h = cc
+expr_apart m true t.ForallWord r h = cc
+expr_apart m false t.ForallWord r h = cc
+expr_apart m true t.ExistsWord r h = cc
+expr_apart m false t.ExistsWord r h = cc
+expr_apart m true _ r h = refl
+expr_apart m false _ r h = refl
 
 pub expr_extend : (m : ℕ) → Extends (s.Expr m) s.Prim (s.Tail m 9 ∷ []) (λ v vs. attach v vs.0) (expr_own m (nat_le m 3))
 expr_extend m = record { is = refl; due = refl; apart = expr_apart m (nat_le m 3) }
@@ -43,7 +55,13 @@ expr_extend m = record { is = refl; due = refl; apart = expr_apart m (nat_le m 3
 -- names
 pub opname_found : (o : Terminal) → is_operator o ≡ true → find opname_rows o ≡ Some (opname_row o)
 opname_found t.Equal h = refl
-opname_found _ h = cc
+opname_found t.Minus h = refl
+opname_found t.Operator1 h = refl
+opname_found t.Operator2 h = refl
+opname_found t.Operator3 h = refl
+opname_found t.Operator4 h = refl
+opname_found t.PrefixOperator h = refl
+opname_found _ h = absurd (no_false h)
 
 pub reads_qhead : (qs : List Word) (o : Own) (ys : List Lexeme) (i : ℕ) (k : List Symbol) (vs : Vals k) → IsOwn o → Stops s.Scoped ys → Reads k ys (past i (scoped qs ++ write_own o)) vs → Reads (s.Qhead ∷ k) ((scoped qs ++ write_own o) ++ ys) i (record { scopes = qs; own = o }, vs)
 reads_qhead [] (lower w) ys i k vs l n h = rw h refl
@@ -55,11 +73,23 @@ reads_qhead (q ∷ qs) o ys i k vs l n h = rw (reads_qhead qs o ys (i + 1 + 1) k
 
 hop_found : (o : Terminal) → is_operator o ≡ true → is_prefix o ≡ false → find (rows s.Hparen) o ≡ Some (hop_row o)
 hop_found t.Equal h p = refl
-hop_found _ h p = cc
+hop_found t.Operator1 h p = refl
+hop_found t.Operator2 h p = refl
+hop_found t.Operator3 h p = refl
+hop_found t.Operator4 h p = refl
+hop_found t.Minus h p = cc
+hop_found t.PrefixOperator h p = cc
+hop_found _ h p = absurd (no_false h)
 
 aop_found : (o : Terminal) → is_operator o ≡ true → is_prefix o ≡ false → find (rows s.Aparen) o ≡ Some (aop_row o)
 aop_found t.Equal h p = refl
-aop_found _ h p = cc
+aop_found t.Operator1 h p = refl
+aop_found t.Operator2 h p = refl
+aop_found t.Operator3 h p = refl
+aop_found t.Operator4 h p = refl
+aop_found t.Minus h p = cc
+aop_found t.PrefixOperator h p = cc
+aop_found _ h p = absurd (no_false h)
 
 pub hparen_infix : (o : Terminal) (w : Word) (ts : Trees) (ys : List Lexeme) (i : ℕ) (k : List Symbol) (vs : Vals k) → is_operator o ≡ true → Reads (s.Args ∷ k) ys (i + 1 + 1) (ts, vs) → Reads (s.Hparen ∷ k) (lx o w ∷ mark t.RParen ∷ ys) i (named (op i o w) false ts, vs)
 hparen_infix t.Minus w ts ys i k vs l h = rw h refl
@@ -103,11 +133,25 @@ args_extend = record { is = refl; due = refl; apart = λ x r e. refl }
 -- A tree behind a parenthesis, read as an expression and what closes it.
 pub hparen_apart : (x : Terminal) (r : Row (s.Expr 0)) → is_prefix x ≡ false → find (expr_rows 0) x ≡ Some r → find hparen_own x ≡ None
 hparen_apart t.RParen r p h = cc
-hparen_apart _ r p h = cc
+hparen_apart t.Equal r p h = cc
+hparen_apart t.Operator1 r p h = cc
+hparen_apart t.Operator2 r p h = cc
+hparen_apart t.Operator3 r p h = cc
+hparen_apart t.Operator4 r p h = cc
+hparen_apart t.Minus r p h = cc
+hparen_apart t.PrefixOperator r p h = cc
+hparen_apart _ r p h = refl
 
 pub aparen_apart : (x : Terminal) (r : Row (s.Expr 0)) → is_prefix x ≡ false → find (expr_rows 0) x ≡ Some r → find aparen_own x ≡ None
 aparen_apart t.RParen r p h = cc
-aparen_apart _ r p h = cc
+aparen_apart t.Equal r p h = cc
+aparen_apart t.Operator1 r p h = cc
+aparen_apart t.Operator2 r p h = cc
+aparen_apart t.Operator3 r p h = cc
+aparen_apart t.Operator4 r p h = cc
+aparen_apart t.Minus r p h = cc
+aparen_apart t.PrefixOperator r p h = cc
+aparen_apart _ r p h = refl
 
 pub hminus_apart : (x : Terminal) (r : Row (s.Expr 8)) → find (expr_rows 8) x ≡ Some r → find hminus_own x ≡ None
 hminus_apart t.RParen r h = cc

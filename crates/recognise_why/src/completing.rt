@@ -6,7 +6,7 @@ ghost use Rattle.recognise_why.specs.Completions.{CompletesWith};
 ghost use Rattle.recognise_why.specs.Spans.{between, terminals_of};
 
 use crate::spans::terminals;
-use grammar::{Symbol, complete as complete_symbol};
+use grammar::{Symbol, complete_tokens};
 use std::alloc::{AllocError, Global};
 use tokens_why::{Terminal, Token, TokenKind, token_kinds};
 
@@ -19,7 +19,7 @@ fn completion(alloc: Global, start: Symbol, tokens: &[Token]) -> Result<Vec<Toke
         (accepts (start ∷ []) (terminals_of tokens.now ++ ys) ≡ true) × (v.items ≡ map kind_by ys)) }
 {
     let found = terminals(alloc, tokens)?;
-    match complete_symbol(alloc, start, &found)? {
+    match complete_tokens(alloc, start, &found)? {
         Some(more) => token_kinds(alloc, more.as_slice()),
         None => unreachable!(),
     }

@@ -77,7 +77,7 @@ fn nests(terminal: Terminal) -> Nesting
 }
 
 /// One bracket more.
-fn opened(counters: Counters) -> Result<Counters, AllocError>
+fn open_bracket(counters: Counters) -> Result<Counters, AllocError>
     requires { counters.depth ≤ most_nested }
     ensures { IfOk result (λ c. c.counts ≡ nested OpensOne counters.counts) }
 {
@@ -90,7 +90,7 @@ fn opened(counters: Counters) -> Result<Counters, AllocError>
 }
 
 /// Without the innermost bracket, if there is one.
-fn closed(alloc: Global, counters: Counters) -> Counters
+fn close_bracket(alloc: Global, counters: Counters) -> Counters
     ensures { result.counts ≡ nested ClosesOne counters.counts }
 {
     let Counters { counts, depth } = counters;
@@ -104,7 +104,7 @@ fn closed(alloc: Global, counters: Counters) -> Counters
 }
 
 /// One count more in the innermost bracket, if there is one.
-fn counted(alloc: Global, counters: Counters) -> Result<Counters, AllocError>
+fn count_one(alloc: Global, counters: Counters) -> Result<Counters, AllocError>
     requires { counters.depth ≤ most_nested }
     ensures { IfOk result (λ c. c.counts ≡ nested CountsOne counters.counts) }
 {
@@ -122,7 +122,7 @@ fn counted(alloc: Global, counters: Counters) -> Result<Counters, AllocError>
 }
 
 /// No count in the innermost bracket, if there is one.
-fn restarted(alloc: Global, counters: Counters) -> Result<Counters, AllocError>
+fn restart_count(alloc: Global, counters: Counters) -> Result<Counters, AllocError>
     ensures { IfOk result (λ c. c.counts ≡ nested RestartsOne counters.counts) }
 {
     let Counters { counts, depth } = counters;
@@ -148,15 +148,15 @@ fn no_counters(alloc: Global) -> Counters
 }
 
 /// The counters behind a token.
-fn behind(alloc: Global, counters: Counters, by: Nesting) -> Result<Counters, AllocError>
+fn counters_after(alloc: Global, counters: Counters, by: Nesting) -> Result<Counters, AllocError>
     requires { counters.depth ≤ most_nested }
     ensures { IfOk result (λ c. c.counts ≡ nested by counters.counts) }
 {
     match by {
-        Nesting::Opens => opened(counters),
-        Nesting::Closes => Ok(closed(alloc, counters)),
-        Nesting::Counts => counted(alloc, counters),
-        Nesting::Restarts => restarted(alloc, counters),
+        Nesting::Opens => open_bracket(counters),
+        Nesting::Closes => Ok(close_bracket(alloc, counters)),
+        Nesting::Counts => count_one(alloc, counters),
+        Nesting::Restarts => restart_count(alloc, counters),
         Nesting::Keeps => Ok(counters),
     }
 }
@@ -167,7 +167,7 @@ pub fn too_deep(alloc: Global, tokens: &[Terminal]) -> Result<Option<usize>, All
 {
     let mut counters = no_counters(alloc);
     for at in 0..tokens.len() {
-        let next = behind(alloc, counters, nests(tokens[at]))?;
+        let next = counters_after(alloc, counters, nests(tokens[at]))?;
         if next.depth > 200 {
             return Ok(Some(at));
         }

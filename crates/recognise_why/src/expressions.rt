@@ -6,7 +6,7 @@ ghost use Rattle.recognise_why.specs.Expressions.{EndsAt, IsExpressionRefusal};
 
 use crate::fault::SyntaxFault;
 use crate::spans::terminals_from;
-use grammar::{Fault, Symbol, first_fault, longest};
+use grammar::{Fault, Symbol, first_fault, longest_length};
 use std::alloc::{AllocError, Global};
 use tokens_why::{Terminal, Token};
 
@@ -31,7 +31,7 @@ pub fn expression_end(alloc: Global, tokens: &[Token], from: usize) -> Result<us
     ensures refused { (text : List ℕ) → IfErr result (IsExpressionRefusal text tokens.now from) }
 {
     let terminals = terminals_from(alloc, tokens, from)?;
-    match longest(alloc, Symbol::Expr(0), &terminals)? {
+    match longest_length(alloc, Symbol::Expr(0), &terminals)? {
         Some(count) => Ok(from + count),
         None => {
             let fault = expression_fault(alloc, &terminals)?;

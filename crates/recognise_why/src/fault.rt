@@ -10,7 +10,7 @@ use std::alloc::AllocError;
 /// - `Syntax`: no source begins with the tokens up to this one, or the tokens end too early.
 /// - `TooDeep`: this token is nested too deeply.
 /// - `ProgramDecl`: at this token a declaration of a program begins.
-#[derive(Clone, Copy, Debug, PartialEq, Eq)]
+#[derive(Clone, Copy)]
 pub enum SyntaxFault {
     Memory,
     Syntax { token: usize },

@@ -12,7 +12,7 @@ pub struct ParamTree {
 }
 
 /// What kind of proposition a declaration states.
-#[derive(Clone, Copy, Debug, PartialEq, Eq)]
+#[derive(Clone, Copy)]
 pub enum PropKind {
     Axiom,
     Lemma,
@@ -20,7 +20,7 @@ pub enum PropKind {
 }
 
 /// The word behind `use` or `clone`.
-#[derive(Clone, Copy, Debug, PartialEq, Eq)]
+#[derive(Clone, Copy)]
 pub enum Link {
     Bare,
     Import,
@@ -28,7 +28,7 @@ pub enum Link {
 }
 
 /// The word before a symbol that a clone replaces.
-#[derive(Clone, Copy, Debug, PartialEq, Eq)]
+#[derive(Clone, Copy)]
 pub enum SymbolWord {
     Function,
     Constant,

@@ -83,7 +83,7 @@ impl Expr {
     }
 
     /// A quantifier, `forall` or else `exists`; only want of memory refuses it.
-    pub fn quantified(
+    pub fn quantifier(
         alloc: Global,
         at: At,
         forall: bool,

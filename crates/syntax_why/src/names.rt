@@ -3,21 +3,21 @@ use outside::{Seq, Text};
 
 /// Where a thing stands: the number of the token with which it begins, and that of its operator.
 /// `main` is the operator's token of a `Binary`, else `first`.
-#[derive(Clone, Copy, Debug, PartialEq, Eq)]
+#[derive(Clone, Copy)]
 pub struct At {
     pub first: usize,
     pub main: usize,
 }
 
 /// A name, or a type variable with its quote.
-#[derive(Debug, Drop)]
+#[derive(Drop)]
 pub struct Name {
     pub at: usize,
     pub text: Text,
 }
 
 /// How a name is written: plain, or as `(op)`, `(op_)` or `(*)`.
-#[derive(Clone, Copy, Debug, PartialEq, Eq)]
+#[derive(Clone, Copy)]
 pub enum Style {
     Plain,
     Infix,
@@ -26,7 +26,7 @@ pub enum Style {
 }
 
 /// The name of an operator, or of what is declared; a connective has the style `Plain`.
-#[derive(Debug, Drop)]
+#[derive(Drop)]
 pub struct OpName {
     pub at: usize,
     pub style: Style,
@@ -34,7 +34,7 @@ pub struct OpName {
 }
 
 /// A name with the scopes before it, each followed by a dot.
-#[derive(Debug, Drop)]
+#[derive(Drop)]
 pub struct QName {
     pub at: usize,
     pub scopes: Seq<Text>,
@@ -43,7 +43,7 @@ pub struct QName {
 }
 
 /// The path of a theory.
-#[derive(Debug, Drop)]
+#[derive(Drop)]
 pub struct Path {
     pub at: usize,
     pub parts: Seq<Text>,

@@ -50,7 +50,8 @@ pub fn is_letter(byte: u8) -> bool
     is_lower(byte) || is_upper(byte)
 }
 
-fn is_word_byte(byte: u8) -> bool
+/// Whether a byte may stand in a word behind its first one.
+pub fn is_word_byte(byte: u8) -> bool
     ensures { result ≡ spec.is_word_byte byte }
 {
     is_letter(byte) || is_digit(byte) || byte == b'\''
@@ -117,7 +118,7 @@ fn is_in(class: Class, byte: u8) -> bool
 }
 
 /// Where the bytes of a class that stand from a place on end.
-pub fn run_end(text: &[u8], from: usize, class: Class) -> usize
+pub fn class_end(text: &[u8], from: usize, class: Class) -> usize
     requires { from ≤ length text.now }
     ensures place { result ≡ from + prefix_len (is_in class) (drop from text.now) }
     ensures within { result ≤ length text.now }

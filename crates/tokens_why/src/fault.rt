@@ -9,7 +9,7 @@ use std::alloc::{AllocError, AllocFailed};
 /// - `Memory`: memory ran out.
 /// - `Lexical`: at this byte no token, blank, comment or attribute begins, or a comment or attribute that isn't closed.
 /// - `BigLiteral`: the integer literal that begins at this byte exceeds 2^127 - 1.
-#[derive(Clone, Copy, Debug, PartialEq, Eq)]
+#[derive(Clone, Copy)]
 pub enum LexFault {
     Memory,
     Lexical { byte: usize },

@@ -3,7 +3,7 @@ ghost use Rattle.std.specs.Prelude.{◌≡◌, ◌+◌, ◌≤◌, ◌<◌, leng
 ghost use Rattle.tokens_why.specs.Gap as spec;
 ghost use Rattle.tokens_why.specs.Gap.{at_from, comment, attribute, has_star_name, next};
 
-use crate::bytes::{Class, is_blank, is_byte, is_pair, run_end};
+use crate::bytes::{Class, is_blank, is_byte, is_pair, class_end};
 
 /// Whether a comment opens at a place: `(*` without `)` behind it.
 pub fn opens_comment(text: &[u8], at: usize) -> bool
@@ -36,7 +36,7 @@ pub fn opens_attribute(text: &[u8], at: usize) -> bool
 }
 
 /// Where the comment that opens at a place ends, if it is closed.
-fn comment_end(text: &[u8], from: usize) -> Option<usize>
+pub fn comment_end(text: &[u8], from: usize) -> Option<usize>
     requires { from + 2 ≤ length text.now }
     ensures place { result ≡ at_from from (comment (drop from text.now) 1 2) }
     ensures within { IfSome result (λ end. (from ≤ end) × (end ≤ length text.now)) }
@@ -67,7 +67,7 @@ fn attribute_length(text: &[u8], from: usize) -> usize
     ensures place { result ≡ attribute (drop from text.now) }
     ensures within { from + result ≤ length text.now }
 {
-    let inside = run_end(text, from, Class::NoBracket);
+    let inside = class_end(text, from, Class::NoBracket);
     if inside < text.len() {
         inside + 1 - from
     } else {

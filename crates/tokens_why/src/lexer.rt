@@ -7,8 +7,8 @@ ghost use Rattle.tokens_why.specs.Tokens.{AreTokens, BigLiteralAt, Begins, Excee
 use crate::fault::LexFault;
 use crate::gaps::{opens_attribute, opens_comment, skip};
 use crate::literals::literal_value;
-use crate::longest::longest;
-use crate::reserved::{ReservedWords, reserved};
+use crate::longest::longest_token;
+use crate::reserved::{ReservedWords, reserved_words};
 use crate::token::{Token, TokenKind};
 use std::alloc::Global;
 
@@ -24,7 +24,7 @@ fn token_at(words: &ReservedWords, text: &[u8], start: usize) -> Option<Token>
     if opens_attribute(text, start) {
         return None;
     }
-    longest(words, text, start)
+    longest_token(words, text, start)
 }
 
 /// Whether a token is a literal that is too big.
@@ -52,7 +52,7 @@ pub fn lex(alloc: Global, text: &[u8]) -> Result<Vec<Token>, LexFault>
     ensures big_literal { UnlessMemory result
         ((b : ℕ) → (result ≡ Err (BigLiteral b)) ↔ BigLiteralAt text.now b) }
 {
-    let words = reserved();
+    let words = reserved_words();
     let mut found = Vec::new(alloc);
     let mut at: usize = 0;
     'tokens: loop {

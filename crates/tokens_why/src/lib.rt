@@ -13,7 +13,9 @@ mod terminal;
 mod token;
 mod whole;
 
+pub use bytes::{is_blank, is_digit, is_letter, is_operator_byte, is_word_byte};
 pub use fault::LexFault;
+pub use gaps::{comment_end, is_star_name, opens_comment};
 pub use lexer::lex;
 pub use literals::literal_value;
 pub use terminal::{Terminal, classify, token_kind, token_kinds};

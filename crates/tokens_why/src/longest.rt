@@ -7,7 +7,7 @@ ghost use Rattle.tokens_why.specs.Strings.{lead_of, mark_kind};
 ghost use Rattle.tokens_why.specs.Reserved.{reserved_words};
 
 use crate::bytes::{
-    Class, digit_value, is_digit, is_letter, is_lower, is_operator_byte, is_pair, radix_of, run_end,
+    Class, digit_value, is_digit, is_letter, is_lower, is_operator_byte, is_pair, radix_of, class_end,
 };
 use crate::gaps::is_star_name;
 use crate::kinds::{run_kind, word_kind};
@@ -47,7 +47,7 @@ fn word(words: &ReservedWords, text: &[u8], start: usize) -> Token
     requires words { words.now ≡ reserved_words }
     ensures { IsLongestAt text.now start result }
 {
-    let end = run_end(text, start + 1, Class::Word);
+    let end = class_end(text, start + 1, Class::Word);
     let kind = word_kind(words, &text[start..end]);
     Token { kind, start, end }
 }
@@ -65,7 +65,7 @@ fn variable(text: &[u8], start: usize) -> Option<Token>
     if !is_lower(first) {
         return None;
     }
-    let end = run_end(text, start + 2, Class::Word);
+    let end = class_end(text, start + 2, Class::Word);
     if first == b'_' {
         if end == start + 2 {
             return None;
@@ -107,10 +107,10 @@ fn literal(text: &[u8], start: usize) -> Token
     let kind = TokenKind::Int;
     let radix = based_radix(text, start);
     if radix == 0 {
-        let end = run_end(text, start + 1, Class::DigitOrLine(10));
+        let end = class_end(text, start + 1, Class::DigitOrLine(10));
         Token { kind, start, end }
     } else {
-        let end = run_end(text, start + 3, Class::DigitOrLine(radix));
+        let end = class_end(text, start + 3, Class::DigitOrLine(radix));
         Token { kind, start, end }
     }
 }
@@ -121,7 +121,7 @@ fn run(text: &[u8], start: usize) -> Token
     requires lead { lead_of (byte_in text.now start) ≡ Lead.Sign }
     ensures { IsLongestAt text.now start result }
 {
-    let end = run_end(text, start + 1, Class::Operator);
+    let end = class_end(text, start + 1, Class::Operator);
     let kind = run_kind(&text[start..end]);
     Token { kind, start, end }
 }
@@ -170,7 +170,7 @@ fn marks(text: &[u8], start: usize) -> Option<Token>
 }
 
 /// The longest token at a place, comments and attributes left aside.
-pub fn longest(words: &ReservedWords, text: &[u8], start: usize) -> Option<Token>
+pub fn longest_token(words: &ReservedWords, text: &[u8], start: usize) -> Option<Token>
     requires within { start < length text.now }
     requires words { words.now ≡ reserved_words }
     ensures { MatchOption result (HasNone (drop start text.now)) (IsLongestAt text.now start) }

@@ -75,7 +75,7 @@ const RESERVED: [&str; 63] = [
 ];
 
 /// The table of the reserved words.
-pub fn reserved() -> ReservedWords
+pub fn reserved_words() -> ReservedWords
     ensures { result ≡ reserved_words }
 {
     WordTable::new(&RESERVED)

@@ -36,7 +36,7 @@ pub enum TokenKind {
 }
 
 /// A token, which takes the bytes from `start` up to `end`.
-#[derive(Clone, Copy, Debug, PartialEq, Eq)]
+#[derive(Clone, Copy)]
 pub struct Token {
     pub kind: TokenKind,
     pub start: usize,

@@ -4,8 +4,8 @@ ghost use Rattle.tokens_why.specs.Operators as operators;
 ghost use Rattle.tokens_why.specs.Strings.{kind_of};
 ghost use Rattle.tokens_why.specs.Terminals.{string_terminal};
 
-use crate::longest::longest;
-use crate::reserved::reserved;
+use crate::longest::longest_token;
+use crate::reserved::reserved_words;
 use crate::terminal::{Terminal, classify};
 use crate::token::TokenKind;
 
@@ -16,8 +16,8 @@ pub fn kind_of_text(text: &[u8]) -> Option<TokenKind>
     if text.is_empty() {
         return None;
     }
-    let words = reserved();
-    match longest(&words, text, 0) {
+    let words = reserved_words();
+    match longest_token(&words, text, 0) {
         Some(token) => {
             if token.end == text.len() {
                 Some(token.kind)

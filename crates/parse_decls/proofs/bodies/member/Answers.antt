@@ -1,4 +1,4 @@
-use Rattle.parse_decls.proofs.Cited.{member_body, member_params, member_read, member_result}
+use Rattle.parse_decls.proofs.Cited.{member_body, member_params, member_read, member_result, rules, upto, ◌+◌}
 use Rattle.parse_terms.proofs.Steps.{can_next, start}
 use Rattle.parse_decls.proofs.bodies.member.Goals as goal
 
@@ -16,3 +16,8 @@ expression-requires c = can_next (member_body c.requires c.in_ok-name.ensures c.
 
 pub returns : goal.returns
 returns c = member_read c.requires c.in_ok-name.ensures c.in_ok-params.ensures c.in_ok-result.equal c.in_ok-result.ensures c.in_ok-body.ensures.read
+
+-- the numbers of tokens, which are at most that of all tokens
+
+pub overflow_add-equal : goal.overflow_add-equal
+overflow_add-equal c = let h = upto c.args.source (c.in_ok-result.equal + 1) c.in_ok-result.ensures.within in search rules

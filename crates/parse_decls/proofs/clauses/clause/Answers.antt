@@ -1,4 +1,4 @@
-use Rattle.parse_decls.proofs.Cited.{clause_read, prop_start}
+use Rattle.parse_decls.proofs.Cited.{clause_read, prop_start, rules, upto}
 use Rattle.parse_terms.proofs.Steps.{can_next, start}
 use Rattle.parse_decls.proofs.clauses.clause.Goals as goal
 
@@ -10,3 +10,11 @@ expression-requires c = can_next (prop_start c.requires c.in_ok-name.ensures)
 
 pub returns : goal.returns
 returns c = clause_read c.requires c.in_ok-name.ensures c.in_ok-prop.ensures.read
+
+-- the numbers of tokens, which are at most that of all tokens
+
+pub overflow_add-i : goal.overflow_add-i
+overflow_add-i c = let h = upto c.args.source c.args.i c.requires.within in search rules
+
+pub overflow_add-i-2 : goal.overflow_add-i-2
+overflow_add-i-2 c = let h = upto c.args.source c.args.i c.requires.within in search rules

@@ -1,4 +1,4 @@
-use Rattle.parse_decls.proofs.Cited.{rules, sym, subst, refl, form_of, type_element, IsRead, lexemes, can_next, stands, done, next, inside}
+use Rattle.parse_decls.proofs.Cited.{rules, sym, subst, refl, form_of, type_element, IsRead, lexemes, can_next, stands, done, next, inside, upto}
 use Rattle.tokens_why.specs.declared.terminal.Terminal.TheVariants as t
 use Rattle.grammar.specs.declared.symbols.Symbol.TheVariants as s
 use Rattle.parse_decls.proofs.ClonesRead as R
@@ -16,3 +16,8 @@ type_tree-requires c = can_next (R.type_equal c.requires.can c.requires.word (re
 pub returns : goal.returns
 returns c = subst (λ q. IsRead (lexemes c.args.source) s.Elem c.args.i (type_element c.args.i q c.in_ok-vars.vars (form_of c.in_ok-ty.ty)) c.in_ok-ty.end) (sym c.in_ok-name.ensures.name)
     (done (next (R.type_equal c.requires.can c.requires.word (record { scopes = c.in_ok-name.name.scopes; last = c.in_ok-name.name.text }) c.in_ok-name.j c.in_ok-name.ensures.read c.in_ok-vars.vars c.in_ok-vars.n c.in_ok-vars.ensures) c.in_ok-ty.ensures) _ refl (λ k us. refl))
+
+-- the numbers of tokens, which are at most that of all tokens
+
+pub overflow_add-i : goal.overflow_add-i
+overflow_add-i c = let h = upto c.args.source c.args.i c.requires.can.within in search rules

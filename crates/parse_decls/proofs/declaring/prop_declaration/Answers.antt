@@ -1,4 +1,5 @@
 use Rattle.parse_decls.proofs.Common.{sym, ap, ◌∙◌, subst, prop_decl, tree_of, plain_name, decl_of_node-Prop, lexemes, can_next, IsDecl}
+use Rattle.parse_decls.proofs.Cited.{rules, upto}
 use Rattle.parse_decls.proofs.DeclaringRead as D
 use Rattle.parse_decls.proofs.declaring.prop_declaration.Goals as goal
 
@@ -10,3 +11,17 @@ expression-requires c = can_next (D.prop_expr c.requires.can c.args.kind c.requi
 
 pub returns : goal.returns
 returns c = subst (λ d. IsDecl (lexemes c.args.source) c.args.i d c.in_ok-prop.prop.end) (sym (c.new-tree.ensures ∙ decl_of_node-Prop _ _ _ _ ∙ ap (λ a. prop_decl a c.args.kind (plain_name c.in_ok-name.name) (tree_of c.in_ok-prop.prop.tree)) c.place-here.ensures)) (D.prop_read c.requires.can c.args.kind c.requires.word c.in_ok-name.ensures c.in_ok-prop.ensures.read)
+
+-- the numbers of tokens, which are at most that of all tokens
+
+pub overflow_add-i : goal.overflow_add-i
+overflow_add-i c = let h = upto c.args.source c.args.i c.requires.can.within in search rules
+
+pub overflow_add-i-2 : goal.overflow_add-i-2
+overflow_add-i-2 c = let h = upto c.args.source c.args.i c.requires.can.within in search rules
+
+pub overflow_add-i-3 : goal.overflow_add-i-3
+overflow_add-i-3 c = let h = upto c.args.source c.args.i c.requires.can.within in search rules
+
+pub overflow_add-i-4 : goal.overflow_add-i-4
+overflow_add-i-4 c = let h = upto c.args.source c.args.i c.requires.can.within in search rules

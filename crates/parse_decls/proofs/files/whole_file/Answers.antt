@@ -1,4 +1,4 @@
-use Rattle.parse_decls.proofs.Cited.{◌≡◌, false, [], ◌∷◌, Some, map, sym, ap, ◌∙◌, subst, refl, append_assoc, map-append, theory_of, lexemes, can_next, again, start, follow, read, Theories, can_file, theories_done}
+use Rattle.parse_decls.proofs.Cited.{◌≡◌, false, [], ◌∷◌, Some, map, sym, ap, ◌∙◌, subst, refl, append_assoc, map-append, theory_of, lexemes, can_next, again, start, follow, read, Theories, can_file, theories_done, arith, ◌≤◌, ◌+◌, upto}
 use Rattle.grammar.specs.declared.symbols.Symbol.TheVariants as s
 use Rattle.parse_decls.proofs.files.whole_file.Goals as goal
 
@@ -15,3 +15,8 @@ more-preserved c = subst (λ ts. Theories (lexemes c.args.source) ts c.in_ok-nex
 pub returns : goal.returns
 returns c = subst (λ ts. read (lexemes c.args.source) 0 false (s.File ∷ []) ≡ Some (map theory_of ts, tt)) (sym c.from_vec.ensures)
     (theories_done (lexemes c.args.source) (map theory_of c.more.theories.items) c.more.j c.more.invariant (sym c.at_theory.ensures ∙ c.more-test.false) c.requires)
+
+-- the numbers of tokens, which are at most that of all tokens
+
+pub more-smaller : goal.more-smaller
+more-smaller c = let a : c.more.j + 1 ≤ c.in_ok-next.end = c.in_ok-next.ensures.ahead in let w = upto c.args.source c.in_ok-next.end c.in_ok-next.ensures.within in omega (arith, a, w)

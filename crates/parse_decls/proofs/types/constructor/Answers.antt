@@ -1,4 +1,4 @@
-use Rattle.parse_decls.proofs.Cited.{◌+◌, [], ◌∷◌, map, sym, ap, ◌∙◌, subst, refl, map-append, name, form_of, types, lexemes, stands, again, start, can_next, many_more, next, IsConstructor, inside, upper_there, Fields, constructor_done, field_item, field_on}
+use Rattle.parse_decls.proofs.Cited.{◌+◌, [], ◌∷◌, map, sym, ap, ◌∙◌, subst, refl, map-append, form_of, types, lexemes, stands, again, start, can_next, many_more, next, IsConstructor, inside, upper_there, Fields, constructor_done, field_item, field_on, rules, arith, ◌≤◌, upto}
 use Rattle.tokens_why.specs.declared.terminal.Terminal.TheVariants as t
 use Rattle.parse_decls.proofs.types.constructor.Goals as goal
 
@@ -18,3 +18,11 @@ fields-preserved c = subst (λ ts. Fields (lexemes c.args.source) (c.args.i + 1)
 pub returns : goal.returns
 returns c = subst (λ ts. IsConstructor (lexemes c.args.source) c.args.i (record { name = c.in_ok-name.name; fields = types ts }) c.fields.j) (sym c.from_vec-fields.ensures)
     (constructor_done (lexemes c.args.source) c.args.i c.in_ok-name.name (map form_of c.fields.parts.items) c.fields.j (upper_there (lexemes c.args.source) c.args.i c.in_ok-name.name c.in_ok-name.ensures.place c.in_ok-name.ensures.text c.requires.name) (sym c.at_type.ensures ∙ c.fields-test.false) c.fields.invariant)
+
+-- the numbers of tokens, which are at most that of all tokens
+
+pub overflow_add-j : goal.overflow_add-j
+overflow_add-j c = let h = upto c.args.source (c.args.i + 1) c.requires.can.within in search rules
+
+pub fields-smaller : goal.fields-smaller
+fields-smaller c = let a : c.fields.j + 1 ≤ c.in_ok-next.end = c.in_ok-next.ensures.ahead in let w = upto c.args.source c.in_ok-next.end c.in_ok-next.ensures.within in omega (arith, a, w)

@@ -9,14 +9,14 @@ pub returns-then-closed : goal.returns-then-closed
 returns-then-closed c = record {
   name = record { op = op c.args.i (terminal_at (lexemes c.args.source) c.args.i) (token_at (lexemes c.args.source) c.args.i).text; prefix = false };
   named = sym (infix_own c.in_ok-word.ensures);
-  is = (done (expand (opname_start c.requires) t.RParen (sym c.at-closed.ensures ∙ c.if-closed.true) refl refl) _ refl (λ k us. refl));
+  is = (done (expand (opname_start c.requires) t.RParen (sym c.is_at-closed.ensures ∙ c.if-closed.true) refl refl) _ refl (λ k us. refl));
 }
 
 pub returns : goal.returns
 returns c = record {
   name = record { op = op c.args.i (terminal_at (lexemes c.args.source) c.args.i) (token_at (lexemes c.args.source) c.args.i).text; prefix = true };
   named = sym (prefix_own c.in_ok-word.ensures);
-  is = (done (take (expand (opname_start c.requires) t.Wild (prefix_wild c.requires (sym c.at-closed.ensures ∙ c.if-closed.false)) refl refl)) _ refl (λ k us. refl));
+  is = (done (take (expand (opname_start c.requires) t.Wild (prefix_wild c.requires (sym c.is_at-closed.ensures ∙ c.if-closed.false)) refl refl)) _ refl (λ k us. refl));
 }
 
 pub overflow_add-behind : goal.overflow_add-behind
@@ -30,5 +30,5 @@ overflow_add-result-2 c = let h = inside c.args.source (c.args.i + 1) (next_with
 
 pub overflow_add-result-3 : goal.overflow_add-result-3
 overflow_add-result-3 c =
-    let h = inside c.args.source (c.args.i + 1 + 1) (next_within (expand (opname_start c.requires) t.Wild (prefix_wild c.requires (sym c.at-closed.ensures ∙ c.if-closed.false)) refl refl) refl) in
+    let h = inside c.args.source (c.args.i + 1 + 1) (next_within (expand (opname_start c.requires) t.Wild (prefix_wild c.requires (sym c.is_at-closed.ensures ∙ c.if-closed.false)) refl refl) refl) in
     search rules

@@ -1,5 +1,5 @@
 use Rattle.std.proofs.Common.{rules}
-use Rattle.parse_terms.proofs.Cited.{ap, ◌∙◌, literal, token_at, lexemes, at, value_of}
+use Rattle.parse_terms.proofs.Cited.{ap, ◌∙◌, literal, at, value_of}
 use Rattle.syntax_why.proofs.TreeLemmas.{tree_of_node-Int}
 use Rattle.parse_terms.proofs.operators.integer_tree.Goals as goal
 

@@ -4,8 +4,8 @@ use Rattle.parse_terms.proofs.patterns.+pattern_descent.Given as goal
 abbrev pub decreases-pattern : goal.decreases-pattern
 decreases-pattern l = 4 * (length l.source.tokens.now - l.i) + 2
 
-abbrev pub decreases-bare : goal.decreases-bare
-decreases-bare l = 4 * (length l.source.tokens.now - l.i) + 1
+abbrev pub decreases-bare_pattern : goal.decreases-bare_pattern
+decreases-bare_pattern l = 4 * (length l.source.tokens.now - l.i) + 1
 
 abbrev pub decreases-pattern_atom : goal.decreases-pattern_atom
 decreases-pattern_atom l = 4 * (length l.source.tokens.now - l.i)

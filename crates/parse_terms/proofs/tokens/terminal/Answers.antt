@@ -1,4 +1,4 @@
-use Rattle.parse_terms.proofs.Common.{◌≡◌, ℕ, ◌≤◌, length, get_or, map, sym, ap, ◌∙◌, get_or-map, get_or_past, length-map, lexeme, Source, nowhere, terminal_at, lexemes}
+use Rattle.parse_terms.proofs.Common.{◌≡◌, ℕ, ◌≤◌, length, sym, ap, ◌∙◌, get_or-map, get_or_past, length-map, lexeme, Source, nowhere, terminal_at, lexemes}
 use Rattle.parse_terms.proofs.tokens.terminal.Goals as goal
 
 pub returns-then-i-source : goal.returns-then-i-source

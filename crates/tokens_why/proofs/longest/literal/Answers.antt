@@ -5,13 +5,13 @@ use Rattle.tokens_why.proofs.longest.literal.Goals as goal
 pub returns-then-radix-eq0 : goal.returns-then-radix-eq0
 returns-then-radix-eq0 c = record {
   start_is = refl;
-  ordered = omega (arith, c.run_end-end.ensures.place);
-  longest = decimal-at c.args.text.now c.args.start c.run_end-end.result c.based_radix-radix.result c.requires.within c.requires.lead c.based_radix-radix.ensures.value c.if-radix-eq0.true c.run_end-end.ensures.place;
+  ordered = omega (arith, c.class_end-end.ensures.place);
+  longest = decimal-at c.args.text.now c.args.start c.class_end-end.result c.based_radix-radix.result c.requires.within c.requires.lead c.based_radix-radix.ensures.value c.if-radix-eq0.true c.class_end-end.ensures.place;
 }
 
 pub returns-else-radix-eq0 : goal.returns-else-radix-eq0
 returns-else-radix-eq0 c =
-    let end = c.run_end-end-else-radix-eq0 in
+    let end = c.class_end-end-else-radix-eq0 in
     let some : 0 < c.based_radix-radix.result = omega arith in
     record {
       start_is = refl;

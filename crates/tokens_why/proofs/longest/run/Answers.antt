@@ -7,7 +7,7 @@ returns c =
     let text = c.args.text.now in
     record {
       start_is = refl;
-      ordered = omega (arith, c.run_end-end.ensures.place);
-      longest = span-at text c.args.start c.run_end-end.result _ (list_all is_operator_byte) run_kind c.run_kind-kind.result (omega arith) c.run_end-end.ensures.place
+      ordered = omega (arith, c.class_end-end.ensures.place);
+      longest = span-at text c.args.start c.class_end-end.result _ (list_all is_operator_byte) run_kind c.run_kind-kind.result (omega arith) c.class_end-end.ensures.place
           (λ cs. ap (λ l. kind_by l (byte_in text c.args.start) cs) c.requires.lead) (class-span is_operator_byte _) c.run_kind-kind.ensures;
     }

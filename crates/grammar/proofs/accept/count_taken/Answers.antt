@@ -1,7 +1,7 @@
 use Rattle.grammar.proofs.Common.{◌≡◌, false, [], ◌∷◌, Some, length, take, reverse, get_or, ◌∙◌, subst, arith, step, run, IsStep}
 use Rattle.tokens_why.specs.declared.terminal.Terminal.TheVariants as t
 use Rattle.grammar.proofs.Steps.{after, stepped, not_stepped}
-use Rattle.grammar.proofs.accept.taken.Goals as goal
+use Rattle.grammar.proofs.accept.count_taken.Goals as goal
 
 pub returns-then-not-branch : goal.returns-then-not-branch
 returns-then-not-branch c = record {

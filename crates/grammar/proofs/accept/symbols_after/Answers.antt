@@ -1,6 +1,6 @@
 use Rattle.grammar.proofs.Common.{◌≡◌, ℕ, ◌+◌, ◌≤◌, ◌<◌, true, false, cond, List, Some, None, map, drop, length, get_or, refl, sym, ap, ◌∙◌, arith, add-one, drop-cons, drop_of_length-le, Terminal, Symbol, same, find, line_of}
 use Rattle.std.specs.Borrow.{Bor}
-use Rattle.grammar.proofs.accept.behind.Goals as goal
+use Rattle.grammar.proofs.accept.symbols_after.Goals as goal
 
 abbrev Rows : Type 0
 Rows = List (Terminal × Bor (List Symbol))

@@ -2,7 +2,7 @@ use Rattle.grammar.proofs.Common.{◌≡◌, ◌+◌, false, cond, [], ◌∷◌
 use Rattle.tokens_why.specs.declared.terminal.Terminal.TheVariants as t
 use Rattle.grammar.proofs.Steps.{after, stepped, not_stepped}
 use Rattle.grammar.proofs.EndLemmas.{longest_more, longest_stuck}
-use Rattle.grammar.proofs.ends.longest.Goals as goal
+use Rattle.grammar.proofs.ends.longest_length.Goals as goal
 
 pub returns-then-not-branch : goal.returns-then-not-branch
 returns-then-not-branch c = longest_stuck (c.args.start ∷ []) c.args.tokens.now c.loop-i.i c.loop-i.best c.loop-i-test.true

@@ -1,6 +1,6 @@
 use Rattle.std.proofs.Common.{[], ◌∷◌, option_map, reverse, sym, ap, ◌∙◌}
 use Rattle.grammar.proofs.EndLemmas.{never, completed}
-use Rattle.grammar.proofs.ends.complete.Goals as goal
+use Rattle.grammar.proofs.ends.complete_tokens.Goals as goal
 
 pub returns-in-None : goal.returns-in-None
 returns-in-None c = never (c.args.start ∷ []) c.args.tokens.now (sym c.in_ok-stack_behind.ensures ∙ ap (option_map (λ v. reverse v.items)) c.in-None.is)

@@ -1,6 +1,6 @@
 use Rattle.tokens_why.proofs.Common.{◌≡◌, ◌≤◌, ◌+◌, ◌-◌, length, drop, prefix_len}
 use Rattle.tokens_why.specs.Classes.{is_in}
-use Rattle.tokens_why.proofs.bytes.run_end.Given as goal
+use Rattle.tokens_why.proofs.bytes.class_end.Given as goal
 
 abbrev pub invariant-loop-at : goal.invariant-loop-at
 invariant-loop-at l = record {
