@@ -1,3 +1,4 @@
 pub mod Bare
 pub mod Moved
 pub mod Longer
+mod Passed

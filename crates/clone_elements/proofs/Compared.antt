@@ -1,5 +1,5 @@
 -- Lists and pairs of tests that are compared.
-use Rattle.std.specs.Prelude.{OnOk, IfErr}
+use Rattle.std.specs.Prelude.{OnOk, IfOk, IfErr}
 use Rattle.std.specs.Result.{IsErrAnd}
 use Rattle.std.proofs.Common.{Result, Ok, Err, ◌≡◌, ◌↔◌, Bool, IsTrue, List, ◌∷◌, sym, subst}
 
@@ -30,3 +30,12 @@ on_both (Err e) f p q = tt
 pub err_passed : {T E : Type 0} (P : E → Type 0) (r : Result T E) (g : E) → IsErrAnd r (λ (e : E). e ≡ g) → P g → IfErr r P
 err_passed P (Ok v) g h p = tt
 err_passed P (Err e) g h p = subst P (sym h) p
+
+-- what is said of a value doesn't matter after a fault
+pub no_ok : {T E : Type 0} (P : Type 0) (Q : E → Type 0) (r : Result T E) → IsErrAnd r Q → OnOk r P
+no_ok P Q (Ok v) h = absurd h
+no_ok P Q (Err e) h = tt
+
+pub no_value : {T E : Type 0} (P : T → Type 0) (Q : E → Type 0) (r : Result T E) → IsErrAnd r Q → IfOk r P
+no_value P Q (Ok v) h = absurd h
+no_value P Q (Err e) h = tt

@@ -10,15 +10,15 @@ ghost use Rattle.symbol_maps.specs.Mapped.{mapped};
 ghost use Rattle.symbol_maps.specs.Meaning.{map_at, MapHeld, AreKnown};
 ghost use Rattle.elab_parts.specs.Entries.{IsSignature};
 ghost use Rattle.clone_elements.specs.Left.{symbol_at_place};
-ghost use Rattle.clone_elements.specs.Plans.{with_sides, symbol_for, symbols_replaced, has_all, is_all, no_fates, kept, map_of, tried_map, fates_of};
+ghost use Rattle.clone_elements.specs.Plans.{with_sides, symbol_for, symbols_replaced, has_all, is_all, no_fates, kept, map_of, tried_map, fates_of, types_replaced};
 ghost use Rattle.clone_elements.specs.Elements.{left_token, right_token, has_vars, is_wrong_at, is_wrong, is_kind, IsSameSignature, Replaces, IsRight, SideTold, SidesTold};
 ghost use Rattle.clone_elements.specs.Origins.{origin_at};
 ghost use Rattle.clone_elements.specs.Meaning.{right_at, side_at, sides_at, SideHeld, fates_at, types_at, symbol_pairs, TypeForHeld, TrialHeld, IsElementRefused, IsPlan};
 
 use crate::left::Source;
 use crate::plans::{
-    Fates, Side, SymbolFor, TypeFor, enter_side, kept, map_of, symbol_at_place, types_replaced,
-    vars_of,
+    Fates, Side, SymbolFor, TypeFor, enter_side, kept_symbols, map_of, symbol_at_place,
+    types_replaced, vars_of,
 };
 use crate::rights::Right;
 use indexmap::IndexMap;
@@ -30,7 +30,7 @@ use term_store::Store;
 use trees::TermId;
 
 /// What is wrong with the elements of a clone, at a token, or want of memory.
-#[derive(Clone, Copy, Debug, PartialEq, Eq)]
+#[derive(Clone, Copy)]
 pub enum ElementFault {
     Memory,
     BadSubstitution { token: usize },
@@ -69,10 +69,10 @@ pub struct Plan {
 
 // What elements are compared over: the signature, the theory, and the map of its types.
 #[derive(Clone, Copy)]
-struct Trial<'a, 'b, 'c, 'd> {
+struct Trial<'a> {
     sig: &'a Signature,
-    source: &'b Source<'c>,
-    morphism: &'d SymbolMap,
+    source: &'a Source<'a>,
+    morphism: &'a SymbolMap,
 }
 
 // The token of the left name of an element.
@@ -117,7 +117,7 @@ fn has_vars(sig: &Signature, symbol: usize, node: &ElemNode, right: Right) -> bo
 }
 
 // Whether an element that names something is refused at its left name.
-fn is_wrong_at(trial: &Trial<'_, '_, '_, '_>, fates: &Fates, side: &Side<'_>) -> bool
+fn is_wrong_at(trial: &Trial<'_>, fates: &Fates, side: &Side<'_>) -> bool
     ensures { (s : List Tree) → result ≡ is_wrong_at (symbols_at s trial.now.sig.now.symbols)
         (origin_at s trial.now.source.now) (fates_at fates.now) (element_of side.now.element.now)
         (right_at s side.now.right) side.now.left }
@@ -135,7 +135,7 @@ fn is_wrong_at(trial: &Trial<'_, '_, '_, '_>, fates: &Fates, side: &Side<'_>) ->
 }
 
 // Whether an element is refused at its left name.
-fn is_wrong(trial: &Trial<'_, '_, '_, '_>, fates: &Fates, side: &Side<'_>) -> bool
+fn is_wrong(trial: &Trial<'_>, fates: &Fates, side: &Side<'_>) -> bool
     ensures { (s : List Tree) → result ≡ is_wrong (symbols_at s trial.now.sig.now.symbols)
         (origin_at s trial.now.source.now) (fates_at fates.now) (element_of side.now.element.now)
         (right_at s side.now.right) side.now.left }
@@ -271,7 +271,7 @@ fn same_signature(
 fn replaces(
     alloc: Global,
     store: &mut Store,
-    trial: &Trial<'_, '_, '_, '_>,
+    trial: &Trial<'_>,
     known: &mut Known,
     word: SymbolWord,
     place: usize,
@@ -298,7 +298,7 @@ fn replaces(
 fn is_right(
     alloc: Global,
     store: &mut Store,
-    trial: &Trial<'_, '_, '_, '_>,
+    trial: &Trial<'_>,
     known: &mut Known,
     side: &Side<'_>,
 ) -> Result<bool, AllocError>
@@ -331,7 +331,7 @@ fn is_right(
 fn check_side(
     alloc: Global,
     store: &mut Store,
-    trial: &Trial<'_, '_, '_, '_>,
+    trial: &Trial<'_>,
     known: &mut Known,
     fates: &Fates,
     side: &Side<'_>,
@@ -359,7 +359,7 @@ fn check_side(
 fn check_sides(
     alloc: Global,
     store: &mut Store,
-    trial: &Trial<'_, '_, '_, '_>,
+    trial: &Trial<'_>,
     known: &mut Known,
     fates: &mut Fates,
     sides: &[Side<'_>],
@@ -461,35 +461,74 @@ fn tried_map(
     ensures held { IfOk result (MapHeld store.now) }
 {
     let none: Fates = IndexMap::new(alloc);
-    let all = kept(alloc, source, &none)?;
+    let all = kept_symbols(alloc, source, &none)?;
     map_of(alloc, store, types, &[], sig.symbols.len(), all.as_slice())
 }
 
-// The fates of the declarations that elements name, or the first element that is wrong.
-fn check_elements(
+// The fates of the declarations that elements name, under a map of types, or the first element that is wrong.
+fn check_elements<'a>(
     alloc: Global,
     store: &mut Store,
-    trial: &Trial<'_, '_, '_, '_>,
+    sig: &'a Signature,
+    source: &'a Source<'a>,
+    morphism: &'a SymbolMap,
     sides: &[Side<'_>],
 ) -> Result<Fates, ElementFault>
-    requires trial { TrialHeld store.old trial.now }
+    requires signature { IsSignature store.old sig.now.symbols }
+    requires decls { All (DeclHeld store.old) source.now.decls.now }
+    requires map_held { MapHeld store.old morphism.now }
     requires sides { All (SideHeld store.old) sides.now }
-    ensures right { OnOk result (SidesTold (symbols_at store.old trial.now.sig.now.symbols)
-        (origin_at store.old trial.now.source.now) (map_at store.old trial.now.morphism.now)
-        no_fates
+    ensures right { OnOk result (SidesTold (symbols_at store.old sig.now.symbols)
+        (origin_at store.old source.now) (map_at store.old morphism.now) no_fates
         (sides_at store.old sides.now) None) }
     ensures fates { IfOk result (λ f. fates_at f ≡ fates_of (sides_at store.old sides.now)) }
-    ensures err { IfErr result (IsElementRefused (symbols_at store.old trial.now.sig.now.symbols)
-        (origin_at store.old trial.now.source.now) (map_at store.old trial.now.morphism.now)
+    ensures err { IfErr result (IsElementRefused (symbols_at store.old sig.now.symbols)
+        (origin_at store.old source.now) (map_at store.old morphism.now)
         (sides_at store.old sides.now)) }
     ensures grows { Grows store.old store.new }
 {
+    let trial = Trial {
+        sig,
+        source,
+        morphism,
+    };
     let mut fates: Fates = IndexMap::new(alloc);
     let mut known = no_trees(alloc);
-    match check_sides(alloc, store, trial, &mut known, &mut fates, sides)? {
+    match check_sides(alloc, store, &trial, &mut known, &mut fates, sides)? {
         Some(token) => Err(ElementFault::BadSubstitution { token }),
         None => Ok(fates),
     }
+}
+
+// The fates of the declarations that elements name, with the types for type symbols, or the first element that is wrong.
+fn find_fates(
+    alloc: Global,
+    store: &mut Store,
+    sig: &Signature,
+    source: &Source<'_>,
+    types: &[TypeFor],
+    sides: &[Side<'_>],
+) -> Result<Fates, ElementFault>
+    requires signature { IsSignature store.old sig.now.symbols }
+    requires decls { All (DeclHeld store.old) source.now.decls.now }
+    requires held { All (TypeForHeld store.old) types.now }
+    requires types { types_at store.old types.now ≡ types_replaced
+        (symbols_at store.old sig.now.symbols) (origin_at store.old source.now)
+        (sides_at store.old sides.now) }
+    requires sides { All (SideHeld store.old) sides.now }
+    ensures right { OnOk result (SidesTold (symbols_at store.old sig.now.symbols)
+        (origin_at store.old source.now) (tried_map (symbols_at store.old sig.now.symbols)
+        (origin_at store.old source.now) (sides_at store.old sides.now)) no_fates
+        (sides_at store.old sides.now) None) }
+    ensures fates { IfOk result (λ f. fates_at f ≡ fates_of (sides_at store.old sides.now)) }
+    ensures err { IfErr result (IsElementRefused (symbols_at store.old sig.now.symbols)
+        (origin_at store.old source.now) (tried_map (symbols_at store.old sig.now.symbols)
+        (origin_at store.old source.now) (sides_at store.old sides.now))
+        (sides_at store.old sides.now)) }
+    ensures grows { Grows store.old store.new }
+{
+    let morphism = tried_map(alloc, store, sig, source, types)?;
+    check_elements(alloc, store, sig, source, &morphism, sides)
 }
 
 /// What the elements of a clone replace, or the first element that is wrong. Beside that only want of memory refuses.
@@ -516,15 +555,9 @@ pub fn make_plan(
     ensures grows { Grows store.old store.new }
 {
     let types = types_replaced(alloc, sig, source, sides)?;
-    let morphism = tried_map(alloc, store, sig, source, types.as_slice())?;
-    let trial = Trial {
-        sig,
-        source,
-        morphism: &morphism,
-    };
-    let fates = check_elements(alloc, store, &trial, sides)?;
     let mut symbols = Vec::new(alloc);
     push_symbols(source, &mut symbols, sides)?;
+    let fates = find_fates(alloc, store, sig, source, types.as_slice(), sides)?;
     Ok(Plan {
         types,
         symbols,

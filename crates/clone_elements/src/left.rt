@@ -18,7 +18,7 @@ use syntax_why::{ElemNode, QName, SymbolWord};
 use tasks::{Body, Decl, Signature, SymbolKind};
 
 /// What elements name: abstract types, functions and predicates, and axioms.
-#[derive(Clone, Copy, Debug, PartialEq, Eq)]
+#[derive(Clone, Copy)]
 pub enum Abstract {
     Type,
     Function,
@@ -191,7 +191,11 @@ impl LeftNames {
     }
 
     /// The place of the declaration that the left side of an element names. Only want of memory refuses.
-    pub fn find(&self, alloc: Global, node: &ElemNode) -> Result<Option<usize>, AllocError>
+    pub fn find_declaration(
+        &self,
+        alloc: Global,
+        node: &ElemNode,
+    ) -> Result<Option<usize>, AllocError>
         ensures { IfOk result (λ o. (token : ℕ) → o ≡ place_by (place_at self.now) (element_key
             (element_by node.now token))) }
     {

@@ -10,6 +10,8 @@ mod sides;
 
 pub use elements::{ElementFault, Plan, entry_or, make_plan};
 pub use left::{Abstract, LeftNames, Source};
-pub use plans::{Fate, Fates, Side, SymbolFor, TypeFor, is_replaced, kept, map_of, vars_of};
+pub use plans::{
+    Fate, Fates, Side, SymbolFor, TypeFor, is_replaced, kept_symbols, map_of, vars_of,
+};
 pub use rights::{Right, check_variables};
 pub use sides::sides_of;

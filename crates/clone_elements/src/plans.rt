@@ -24,7 +24,7 @@ use term_store::Store;
 use trees::TermId;
 
 /// What becomes of a declaration that an element names: it is replaced, or an axiom becomes one of its kinds.
-#[derive(Clone, Copy, Debug, PartialEq, Eq)]
+#[derive(Clone, Copy)]
 pub enum Fate {
     Replaced,
     Becomes(PropKind),
@@ -56,7 +56,7 @@ pub struct SymbolFor {
 }
 
 // What an element says of the declaration that it names.
-fn said(node: &ElemNode) -> Option<Fate>
+fn element_fate(node: &ElemNode) -> Option<Fate>
     ensures { (token : ℕ) → result ≡ said (element_by node.now token) }
 {
     match node {
@@ -75,7 +75,7 @@ pub fn enter_side(fates: &mut Fates, side: &Side<'_>) -> Result<(), AllocError>
     let Some(place) = side.left else {
         return Ok(());
     };
-    let Some(fate) = said(&side.element.node) else {
+    let Some(fate) = element_fate(&side.element.node) else {
         return Ok(());
     };
     fates.insert(place, fate)?;
@@ -241,7 +241,11 @@ fn push_kept(
 }
 
 /// The symbols of own declarations that aren't replaced, in order. Only want of memory refuses.
-pub fn kept(alloc: Global, source: &Source<'_>, fates: &Fates) -> Result<Vec<usize>, AllocError>
+pub fn kept_symbols(
+    alloc: Global,
+    source: &Source<'_>,
+    fates: &Fates,
+) -> Result<Vec<usize>, AllocError>
     ensures { IfOk result (λ v. (s : List Tree) → v.items ≡ kept (origin_at s source.now)
         (fates_at fates.now)) }
 {
@@ -259,21 +263,6 @@ fn put_symbol(morphism: &mut SymbolMap, symbol: usize, new: usize) -> Result<(),
     ensures held { (s : List Tree) → MapHeld s morphism.old → MapHeld s morphism.new }
 {
     morphism.add_symbol(symbol, new)
-}
-
-// A type symbol becomes a type.
-fn put_type(
-    store: &Store,
-    morphism: &mut SymbolMap,
-    symbol: usize,
-    ty: TermId,
-) -> Result<(), AllocError>
-    requires { HoldsType store.now ty }
-    ensures is { OnOk result (map_at store.now morphism.new
-        ≡ with_type symbol (tree_at store.now ty) (map_at store.now morphism.old)) }
-    ensures held { OnOk result (MapHeld store.now morphism.old → MapHeld store.now morphism.new) }
-{
-    morphism.add_type(store, symbol, ty)
 }
 
 // Each of these symbols becomes the next number. No memory holds so many entries that a number doesn't fit.
@@ -316,7 +305,7 @@ fn put_types(store: &Store, morphism: &mut SymbolMap, types: &[TypeFor]) -> Resu
     let Some((first, rest)) = types.split_first() else {
         return Ok(());
     };
-    put_type(store, morphism, first.symbol, first.ty)?;
+    morphism.add_type(store, first.symbol, first.ty)?;
     put_types(store, morphism, rest)
 }
 

@@ -18,7 +18,7 @@ ghost use Rattle.clone_elements.specs.Rights.{variables_fault, all_variables_fau
 ghost use Rattle.clone_elements.specs.Meaning.{right_at, RightHeld};
 
 use elab_names::{NamingFault, check_form, own_name};
-use elab_parts::{gather, push_tuples, repeated, texts_of, tuple_names, world_over};
+use elab_parts::{find_repeated, gather, push_tuples, texts_of, world_over};
 use elab_variables::{Seen, enter_form};
 use elab_walk::type_of_form;
 use names_space::{Scope, Table};
@@ -45,7 +45,7 @@ fn check_element_variables(alloc: Global, node: &ElemNode) -> Result<(), NamingF
         ElemNode::TypeElem(_, vars, _) => {
             let mut list = Vec::new(alloc);
             gather(&mut list, vars.as_slice())?;
-            match repeated(list.as_slice()) {
+            match find_repeated(list.as_slice()) {
                 Some(token) => Err(NamingFault::Duplicate { token }),
                 None => Ok(()),
             }
@@ -76,8 +76,7 @@ fn check_type(
     ensures { (s : List Tree) → Tells result (form_fault
         (over s (symbols_at s sig.now.symbols) scope.now vars.now) false (form_of ty.now)) }
 {
-    let tuples = tuple_names(alloc, sig.symbols.as_slice())?;
-    let world = world_over(sig, scope, tuples.as_slice(), vars, false);
+    let world = world_over(sig, scope, vars, false);
     check_form(alloc, ty, &world)
 }
 
@@ -110,8 +109,7 @@ fn make_type(
     };
     enter_form(alloc, &mut seen, ty)?;
     push_tuples(alloc, store, sig, seen.widths.as_slice())?;
-    let tuples = tuple_names(alloc, sig.symbols.as_slice())?;
-    let world = world_over(sig, scope, tuples.as_slice(), vars, false);
+    let world = world_over(sig, scope, vars, false);
     type_of_form(alloc, store, &world, ty)
 }
 

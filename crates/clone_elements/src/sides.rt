@@ -49,7 +49,7 @@ fn push_sides<'a>(
         return Ok(());
     };
     let right = right_side(alloc, store, sig, scope, &first.node)?;
-    let left = names.find(alloc, &first.node)?;
+    let left = names.find_declaration(alloc, &first.node)?;
     sides.push(Side {
         element: first,
         left,

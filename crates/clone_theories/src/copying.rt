@@ -18,7 +18,7 @@ ghost use Rattle.clone_theories.specs.Copied.{IsRenaming, IsKeptEntry, IsReady, 
 
 use crate::own::{Own, source_of, within_of};
 use clone_copies::{Job, copy_places, map_moves, push_entries};
-use clone_elements::{Plan, Source, kept, map_of};
+use clone_elements::{Plan, Source, kept_symbols, map_of};
 use scope_moves::Move;
 use std::alloc::{AllocError, Global};
 use symbol_maps::{Known as Trees, SymbolMap, no_trees};
@@ -47,7 +47,7 @@ fn rename(
         (symbols_at store.now sig.now.symbols) (origin_at store.now source.now) plan.now)
         (planned_kept (origin_at store.now source.now) plan.now)) }
 {
-    let symbols = kept(alloc, source, &plan.fates)?;
+    let symbols = kept_symbols(alloc, source, &plan.fates)?;
     let first = sig.symbols.len();
     let morphism = map_of(
         alloc,

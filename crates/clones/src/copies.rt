@@ -292,7 +292,7 @@ fn copy_body(
 }
 
 // A name after the names of scopes.
-fn joined(alloc: Global, within: &[u8], name: &Text) -> Result<Text, AllocError>
+fn name_within(alloc: Global, within: &[u8], name: &Text) -> Result<Text, AllocError>
     ensures { IfOk result (λ v. v ≡ within.now ++ name.now) }
 {
     let mut bytes = Vec::from_slice(alloc, within)?;
@@ -322,7 +322,7 @@ pub fn copy_decl(
     ensures grows { Grows store.old store.new }
 {
     let theory = Text::from_slice(alloc, theory)?;
-    let name = joined(alloc, within, &decl.name)?;
+    let name = name_within(alloc, within, &decl.name)?;
     let body = copy_body(alloc, store, morphism, known, &decl.body)?;
     Ok(Decl {
         theory,
@@ -380,7 +380,7 @@ pub fn copy_entry(
     ensures grows { Grows store.old store.new }
 {
     let theory = Text::from_slice(alloc, theory)?;
-    let name = joined(alloc, within, &info.name)?;
+    let name = name_within(alloc, within, &info.name)?;
     let args = map_trees(alloc, store, morphism, known, info.args.as_slice())?;
     let result_type = map_result(alloc, store, morphism, known, info.result)?;
     Ok(SymbolInfo {

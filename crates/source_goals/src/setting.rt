@@ -47,7 +47,7 @@ fn task_under(
 }
 
 // The task of a goal of theories, under a driver that is read first.
-fn driven<L: Library>(
+fn task_driven<L: Library>(
     alloc: Global,
     lib: &mut L,
     store: &Store,
@@ -90,5 +90,5 @@ pub fn find_setting<L: Library>(
     ensures source { IfOk result (λ g. IsSourceTask (task_at store.new g.task)) }
 {
     let all = fetch_theories(alloc, lib, store, src)?;
-    driven(alloc, lib, store, &all, drv, theory, goal)
+    task_driven(alloc, lib, store, &all, drv, theory, goal)
 }

@@ -5,3 +5,4 @@ pub mod Passing
 pub mod Ending
 pub mod Paths
 pub mod Placing
+mod Passed

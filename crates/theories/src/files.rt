@@ -112,7 +112,7 @@ fn is_taken(store: &Store, typed: &Typed, path: &[u8]) -> bool
     ensures { result ≡ is_taken path.now (map (known_at store.now) typed.now.known) }
 {
     let _ = store;
-    path.is_empty() || path == b"BuiltIn".as_slice() || typed.find(path).is_some()
+    path.is_empty() || path == b"BuiltIn".as_slice() || typed.theory_place(path).is_some()
 }
 
 // A theory with a path that no theory has yet.

@@ -3,3 +3,4 @@ mod Named
 mod Refused
 mod Pushed
 mod Sound
+mod Passed

@@ -1,5 +1,5 @@
 -- A goal, an axiom or declarations more.
-use Rattle.std.proofs.Common.{◌≡◌, List, [], ◌∷◌, ◌++◌, map, sym, ap, subst, ◌∙◌, append-nil}
+use Rattle.std.proofs.Common.{◌≡◌, List, [], ◌∷◌, ◌++◌, map, slice_get, remove, Some, sym, ap, subst, ◌∙◌, append-nil}
 use Rattle.std.proofs.lemmas.List.{map-append}
 use Rattle.std.proofs.lemmas.List.Elements.{All-push}
 use Rattle.trees.specs.Tree.{Tree}
@@ -12,6 +12,14 @@ use Rattle.theory_states.specs.declared.states.Typed.{Typed}
 use Rattle.theory_states.specs.States.{StateTree}
 use Rattle.theory_states.specs.Meaning.{state_at, StateHeld}
 use Rattle.theory_states.proofs.Growing.{held_grows, state_grows}
+
+-- a list's first item is taken out
+pub first_of : {X : Type 0} (xs ys : List X) (x : X) → slice_get xs 0 ≡ Some x → ys ≡ remove xs 0 → xs ≡ x ∷ ys
+first_of [] ys x h r = absurd (cc)
+first_of (y ∷ xs) ys x h r =
+    let e : ys ≡ xs = r in
+    let f : Some y ≡ Some x = h in
+    cc
 
 abbrev pub with_goals : List GoalTree → StateTree → StateTree
 with_goals gs c = record c { opened = record c.opened { goals = c.opened.goals ++ gs } }

@@ -3,7 +3,7 @@ use std::alloc::{AllocError, AllocFailed};
 
 /// The first thing that is wrong with the theories of a source, or want of memory. `decl` counts the source's declarations from 0, the
 /// headers of theories and scopes among them.
-#[derive(Clone, Copy, Debug, PartialEq, Eq)]
+#[derive(Clone, Copy)]
 pub enum SourceFault {
     Memory,
     /// A name, or the path of a theory, that isn't there.

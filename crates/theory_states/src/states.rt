@@ -81,7 +81,7 @@ fn place_of(list: &[Known], path: &[u8]) -> Option<usize>
 
 impl Typed {
     /// The place of the first theory with this path.
-    pub fn find(&self, path: &[u8]) -> Option<usize>
+    pub fn theory_place(&self, path: &[u8]) -> Option<usize>
         ensures none { IfNone result ((s : List Tree)
             → known_named (map (known_at s) self.now.known)
             path.now ≡ None) }

@@ -11,7 +11,7 @@ ghost use Rattle.theory_states.specs.Uses.{path_text, last_part, alias_text, OrM
 use crate::fault::SourceFault;
 use crate::states::{Opened, Typed};
 use outside::Text;
-use scope_moves::{Move, bring, hand_on};
+use scope_moves::{Move, bring_theory, hand_on};
 use std::alloc::{AllocError, Global};
 use syntax_why::{Link, Name, Path};
 
@@ -65,7 +65,7 @@ pub fn bring_names(
         ≡ open.old.moves.items ++ handed link moves.now) }
     ensures others { open.new ≡ record open.old { scope = open.new.scope; moves = open.new.moves } }
 {
-    bring(&mut open.scope, link, last, alias, moves)?;
+    bring_theory(&mut open.scope, link, last, alias, moves)?;
     hand_on(link, moves, &mut open.moves)
 }
 
@@ -84,7 +84,7 @@ pub fn find_theory(
         (map (known_at s) typed.now.known) decl) f) }
 {
     let text = path_text(alloc, path.parts.as_slice())?;
-    match typed.find(text.as_slice()) {
+    match typed.theory_place(text.as_slice()) {
         Some(place) => Ok(place),
         None => Err(SourceFault::Unknown {
             decl,

@@ -1,8 +1,8 @@
 use Rattle.std.proofs.Common.{◌≡◌, ◌∷◌, ◌++◌, [], ℕ, List, All, get_or, take, sym, ap, subst, ◌∙◌}
-use Rattle.std.proofs.lemmas.List.{map-append, map_more}
-use Rattle.std.proofs.lemmas.List.Elements.{All-push}
+use Rattle.std.proofs.lemmas.List.{map-append, map_more, take_all}
+use Rattle.std.proofs.lemmas.List.Elements.{All-nil, All-push}
 use Rattle.trees.specs.Node.{Grows}
-use Rattle.trees.proofs.Nodes.{Grows_trans}
+use Rattle.trees.proofs.Nodes.{Grows_refl, Grows_trans}
 use Rattle.tasks.specs.declared.signature.SymbolInfo.{SymbolInfo}
 use Rattle.tasks.specs.Task.{SymbolTree, symbol_or}
 use Rattle.tasks.specs.Meaning.{symbol_at, symbols_at, SymbolHeld}
@@ -12,6 +12,7 @@ use Rattle.symbol_maps.specs.Meaning.{map_at}
 use Rattle.symbol_maps.proofs.Steps.{map_held, map_stays, known_on, known_back}
 use Rattle.clones.specs.Copies.{entry_copied}
 use Rattle.clone_copies.specs.Entries.{entries_copied}
+use Rattle.clone_copies.proofs.Passed.{no_ok, no_value}
 use Rattle.clone_copies.proofs.entries.copy_entries.Goals as goal
 
 pub copy_entry-requires-clause-map_held : goal.copy_entry-requires-clause-map_held
@@ -51,3 +52,51 @@ loop-symbol-preserved c =
       made = ap (symbols_at s2) c.in_ok-push.ensures.items ∙ (map-append (symbol_at s2) out (copy ∷ []) ∙ (ap (λ (z : List SymbolTree). z ++ symbol_at s2 copy ∷ []) old ∙ (ap (λ (e : SymbolTree). entries_copied symbols m th wi (take i ks) ++ e ∷ []) tree ∙ sym (map_more copied ks i 0 c.loop-symbol-test.true))));
       held = subst (λ (z : List SymbolInfo). All (SymbolHeld s2) z) (sym c.in_ok-push.ensures.items) (All-push (SymbolHeld s2) out copy (λ k d l. symbol_held_later s1 s2 w2 (get_or out k d) (inv.held k d l)) c.in_ok-copy.ensures.new_held);
     }
+
+pub returns-in_err-copy-clause-made : goal.returns-in_err-copy-clause-made
+returns-in_err-copy-clause-made c = no_value _ _ c.from_residual.result c.from_residual.ensures.1
+
+pub returns-in_err-copy-clause-held : goal.returns-in_err-copy-clause-held
+returns-in_err-copy-clause-held c = no_value _ _ c.from_residual.result c.from_residual.ensures.1
+
+pub returns-in_err-copy-clause-known : goal.returns-in_err-copy-clause-known
+returns-in_err-copy-clause-known c = no_ok _ _ c.from_residual.result c.from_residual.ensures.1
+
+pub returns-in_err-push-clause-made : goal.returns-in_err-push-clause-made
+returns-in_err-push-clause-made c = no_value _ _ c.from_residual-in_err-push.result c.from_residual-in_err-push.ensures.1
+
+pub returns-in_err-push-clause-held : goal.returns-in_err-push-clause-held
+returns-in_err-push-clause-held c = no_value _ _ c.from_residual-in_err-push.result c.from_residual-in_err-push.ensures.1
+
+pub returns-in_err-push-clause-known : goal.returns-in_err-push-clause-known
+returns-in_err-push-clause-known c = no_ok _ _ c.from_residual-in_err-push.result c.from_residual-in_err-push.ensures.1
+
+pub loop-symbol-init : goal.loop-symbol-init
+loop-symbol-init c =
+    let s = c.args.store.now in
+    record {
+      grows = Grows_refl s;
+      known = c.requires.known;
+      made = ap (symbols_at s) c.new-out.ensures.items;
+      held = subst (λ (z : List SymbolInfo). All (SymbolHeld s) z) (sym c.new-out.ensures.items) (All-nil (SymbolHeld s));
+    }
+
+pub returns-clause-made : goal.returns-clause-made
+returns-clause-made c =
+    let s = c.args.store.now in
+    c.loop-symbol.invariant.made ∙ ap (entries_copied (symbols_at s c.args.sig.now.symbols) (map_at s c.args.morphism.now) c.args.theory.now c.args.within.now) (take_all c.loop-symbol.symbol-index c.args.symbols.now c.loop-symbol-test.false)
+
+pub returns-clause-held : goal.returns-clause-held
+returns-clause-held c = c.loop-symbol.invariant.held
+
+pub returns-clause-known : goal.returns-clause-known
+returns-clause-known c = c.loop-symbol.invariant.known
+
+pub returns-clause-grows : goal.returns-clause-grows
+returns-clause-grows c = c.loop-symbol.invariant.grows
+
+pub returns-in_err-copy-clause-grows : goal.returns-in_err-copy-clause-grows
+returns-in_err-copy-clause-grows c = Grows_trans c.args.store.now c.loop-symbol.store c.copy_entry.new.store c.loop-symbol.invariant.grows c.copy_entry.ensures.grows
+
+pub returns-in_err-push-clause-grows : goal.returns-in_err-push-clause-grows
+returns-in_err-push-clause-grows c = Grows_trans c.args.store.now c.loop-symbol.store c.copy_entry.new.store c.loop-symbol.invariant.grows c.copy_entry.ensures.grows

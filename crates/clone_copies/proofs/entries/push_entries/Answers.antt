@@ -6,6 +6,7 @@ use Rattle.tasks.specs.declared.signature.SymbolInfo.{SymbolInfo}
 use Rattle.tasks.specs.Task.{SymbolTree}
 use Rattle.tasks.specs.Meaning.{symbol_at, symbols_at, SymbolHeld}
 use Rattle.tasks.proofs.Growth.{symbols_later, symbol_held_later}
+use Rattle.clone_copies.proofs.Passed.{no_ok}
 use Rattle.clone_copies.proofs.entries.push_entries.Goals as goal
 
 pub returns-clause-symbols : goal.returns-clause-symbols
@@ -24,3 +25,12 @@ returns-clause-held c =
     let old = c.args.sig.now.symbols in
     let copies = c.in_ok-copies.copies.items in
     on_ok_weaker c.append.result (λ h. subst (λ (z : List SymbolInfo). All (SymbolHeld s1) z) (sym (h ∙ ap (λ (z : List SymbolInfo). old ++ z) c.from_vec.ensures)) (All-append (SymbolHeld s1) old copies (λ k d l. symbol_held_later s s1 c.copy_entries.ensures.grows (get_or old k d) (c.requires.entries k d l)) c.in_ok-copies.ensures.held)) c.append.ensures.ok
+
+pub returns-in_err-copies-clause-symbols : goal.returns-in_err-copies-clause-symbols
+returns-in_err-copies-clause-symbols c = no_ok _ _ c.from_residual.result c.from_residual.ensures.1
+
+pub returns-in_err-copies-clause-held : goal.returns-in_err-copies-clause-held
+returns-in_err-copies-clause-held c = no_ok _ _ c.from_residual.result c.from_residual.ensures.1
+
+pub returns-in_err-copies-clause-known : goal.returns-in_err-copies-clause-known
+returns-in_err-copies-clause-known c = no_ok _ _ c.from_residual.result c.from_residual.ensures.1

@@ -10,6 +10,7 @@ use Rattle.symbol_maps.specs.Meaning.{map_at}
 use Rattle.symbol_maps.proofs.Steps.{map_held, map_stays, known_on, known_back}
 use Rattle.clone_copies.specs.Moves.{IsMoveMapped, MoveHeld}
 use Rattle.clone_copies.proofs.Moved.{move_grows, move_held_grows, each_more}
+use Rattle.clone_copies.proofs.Passed.{no_ok, no_value}
 use Rattle.clone_copies.proofs.moves.map_moves.Goals as goal
 
 pub map_move-requires-clause-map_held : goal.map_move-requires-clause-map_held
@@ -50,3 +51,15 @@ loop-step-preserved c =
           each_more (IsMoveMapped s2 symbols m) xs out c.push.new.self.items i x c.in_ok-copy.copy inv.count c.loop-step-test.true c.step-item.is c.in_ok-push.ensures.items
           (λ k d l. move_grows s1 s2 w2 symbols m (get_or xs k d) (get_or out k d) (held k d (omega (arith, l, c.loop-step-test.true))) (inv.each u k d l)) here;
     }
+
+pub returns-in_err-copy-clause-are : goal.returns-in_err-copy-clause-are
+returns-in_err-copy-clause-are c = no_value _ _ c.from_residual.result c.from_residual.ensures.1
+
+pub returns-in_err-copy-clause-known : goal.returns-in_err-copy-clause-known
+returns-in_err-copy-clause-known c = no_ok _ _ c.from_residual.result c.from_residual.ensures.1
+
+pub returns-in_err-push-clause-are : goal.returns-in_err-push-clause-are
+returns-in_err-push-clause-are c = no_value _ _ c.from_residual-in_err-push.result c.from_residual-in_err-push.ensures.1
+
+pub returns-in_err-push-clause-known : goal.returns-in_err-push-clause-known
+returns-in_err-push-clause-known c = no_ok _ _ c.from_residual-in_err-push.result c.from_residual-in_err-push.ensures.1

@@ -3,6 +3,7 @@ use Rattle.std.proofs.lemmas.List.{at_drop_more}
 use Rattle.indexmap.specs.IndexMap.{get}
 use Rattle.theory_states.specs.declared.states.AxiomAt.{AxiomAt}
 use Rattle.clone_copies.specs.Origins.{Axioms, with_axioms}
+use Rattle.clone_copies.proofs.Passed.{no_value}
 use Rattle.clone_copies.proofs.origins.axioms_of.Goals as goal
 
 pub loop-it-preserved : goal.loop-it-preserved
@@ -15,3 +16,9 @@ loop-it-preserved c =
     let vars = c.in_ok-names.ensures ∙ c.as_slice.ensures in
     let step : get nat_eq c.insert.new.self ≡ (λ q. cond (nat_eq a.decl q) (Some a.vars) (f q)) = λ j q. (c.in_ok-insert.ensures.updates.0 q ∙ ap (λ (v : List (List ℕ)). cond (nat_eq a.decl q) (Some v) (f q)) vars) j in
     ap more step ∙ (ap (λ (b : AxiomAt). with_axioms (b ∷ drop (i + 1) xs) f) c.it-item.is ∙ (sym (at_drop_more (λ (ys : List AxiomAt). with_axioms ys f) xs i a c.loop-it-test.true) ∙ c.loop-it.invariant))
+
+pub returns-in_err-names : goal.returns-in_err-names
+returns-in_err-names c = no_value _ _ c.from_residual.result c.from_residual.ensures.1
+
+pub returns-in_err-insert : goal.returns-in_err-insert
+returns-in_err-insert c = no_value _ _ c.from_residual-in_err-insert.result c.from_residual-in_err-insert.ensures.1

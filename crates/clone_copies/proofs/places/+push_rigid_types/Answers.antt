@@ -1,8 +1,11 @@
-use Rattle.std.proofs.Common.{◌∷◌, [], ◌∙◌, append_assoc}
+use Rattle.std.proofs.Common.{◌∷◌, [], length, ap, ◌∙◌, arith, append_assoc}
 use Rattle.std.proofs.lemmas.Result.{on_ok_weaker}
 use Rattle.trees.specs.Tree.{Leaf, HTyRigid}
+use Rattle.trees.specs.Sorts.{sort_of}
+use Rattle.trees.proofs.Nodes.{Grows_trans}
 use Rattle.tasks.specs.Meaning.{trees_at}
-use Rattle.elab_walk.proofs.Growing.{types_stay}
+use Rattle.elab_walk.specs.Drafts.{HoldsType}
+use Rattle.elab_walk.proofs.Growing.{types_stay, types_more}
 use Rattle.elab_walk.proofs.Taking.{mapped_more}
 use Rattle.clone_copies.specs.Places.{rigid_types}
 use Rattle.clone_copies.proofs.places.+push_rigid_types.Goals as goal
@@ -14,3 +17,15 @@ returns-clause-trees t c =
     let here = mapped_more s1 c.args.types.now.items c.in_ok-ty.ty in
     let kept = types_stay s s1 c.add.ensures.grows c.args.types.now.items c.requires in
     rw c.in-Some.ensures.cases.0 (on_ok_weaker c.push_rigid_types.result (λ h. h ∙ (rw (here, kept, c.in_ok-ty.ensures.tree) (append_assoc (trees_at s c.args.types.now.items) (Leaf (HTyRigid c.in-Some.first.now) ∷ []) (rigid_types c.in-Some.rest.now)))) (rw c.in_ok-push.ensures.items at c.push_rigid_types.ensures.trees))
+
+pub push_rigid_types-requires : goal.push_rigid_types-requires
+push_rigid_types-requires t c =
+    let s1 = c.add.new.self in
+    let ty : HoldsType s1 c.in_ok-ty.ty = record { held = c.in_ok-ty.ensures.held; kind = ap sort_of c.in_ok-ty.ensures.tree } in
+    (omega (arith, ap length c.in-Some.ensures.cases.0), rw c.in_ok-push.ensures.items (types_more c.args.store.now s1 c.add.ensures.grows c.args.types.now.items c.in_ok-ty.ty c.requires ty))
+
+pub returns-clause-held : goal.returns-clause-held
+returns-clause-held t c = c.push_rigid_types.ensures.held
+
+pub returns-clause-grows : goal.returns-clause-grows
+returns-clause-grows t c = Grows_trans c.args.store.now c.add.new.self c.push_rigid_types.new.store c.add.ensures.grows c.push_rigid_types.ensures.grows

@@ -7,6 +7,7 @@ use Rattle.trees.proofs.Nodes.{tree_at-grows}
 use Rattle.tasks.specs.Meaning.{trees_at}
 use Rattle.elab_parts.proofs.Putting.{hold_types}
 use Rattle.clone_copies.specs.Places.{rigid_types}
+use Rattle.clone_copies.proofs.Passed.{no_value}
 use Rattle.clone_copies.proofs.places.at_rigid.Goals as goal
 
 pub inst_types-requires-clause-types : goal.inst_types-requires-clause-types
@@ -19,3 +20,9 @@ returns-clause-tree c =
     let types : trees_at s1 c.as_slice.result.now ≡ rigid_types c.args.numbers.now = ap (trees_at s1) c.as_slice.ensures.value ∙ (rw c.new-types.ensures.items at c.in_ok-push_rigid_types.ensures.trees) in
     let tree : tree_at s1 c.args.formula ≡ tree_at s c.args.formula = tree_at-grows s s1 c.args.formula c.push_rigid_types.ensures.grows c.requires in
     IfOk-weaker c.inst_types.result _ _ (λ id h. h ∙ (ap (λ (e : Tree). inst_types e (trees_at s1 c.as_slice.result.now)) tree ∙ ap (inst_types (tree_at s c.args.formula)) types)) c.inst_types.ensures.tree
+
+pub returns-in_err-push_rigid_types-clause-held : goal.returns-in_err-push_rigid_types-clause-held
+returns-in_err-push_rigid_types-clause-held c = no_value _ _ c.from_residual.result c.from_residual.ensures.1
+
+pub returns-in_err-push_rigid_types-clause-tree : goal.returns-in_err-push_rigid_types-clause-tree
+returns-in_err-push_rigid_types-clause-tree c = no_value _ _ c.from_residual.result c.from_residual.ensures.1

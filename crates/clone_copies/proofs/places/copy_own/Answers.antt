@@ -16,6 +16,7 @@ use Rattle.clone_elements.specs.Plans.{is_replaced}
 use Rattle.clone_copies.specs.Places.{Copying, with_copy, copy_of}
 use Rattle.clone_copies.specs.Meaning.{copying_at, bare_at}
 use Rattle.clone_copies.proofs.Bare.{bare_grows, copying_stays}
+use Rattle.clone_copies.proofs.Passed.{no_ok}
 use Rattle.clone_copies.proofs.places.copy_own.Goals as goal
 
 pub push_copy-requires-clause-held : goal.push_copy-requires-clause-held
@@ -47,3 +48,12 @@ returns-clause-state c =
 
 pub returns-clause-known : goal.returns-clause-known
 returns-clause-known c = ok_any c.push_copy.result (known_later (map_at c.args.store.now c.args.job.now.morphism.now) c.copy_decl.new.store c.push_copy.new.store c.copy_decl.new.known c.push_copy.ensures.grows c.in_ok-copy.ensures.new_known)
+
+pub returns-in_err-copy-clause-state : goal.returns-in_err-copy-clause-state
+returns-in_err-copy-clause-state c = no_ok _ _ c.from_residual.result c.from_residual.ensures.1
+
+pub returns-in_err-copy-clause-held : goal.returns-in_err-copy-clause-held
+returns-in_err-copy-clause-held c = no_ok _ _ c.from_residual.result c.from_residual.ensures.1
+
+pub returns-in_err-copy-clause-known : goal.returns-in_err-copy-clause-known
+returns-in_err-copy-clause-known c = no_ok _ _ c.from_residual.result c.from_residual.ensures.1

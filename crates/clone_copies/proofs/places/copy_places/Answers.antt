@@ -10,6 +10,7 @@ use Rattle.clone_copies.specs.Places.{Copying, with_place, with_places}
 use Rattle.clone_copies.specs.Meaning.{copying_at, bare_at}
 use Rattle.clone_copies.proofs.Bare.{copying_stays}
 use Rattle.clone_copies.proofs.Longer.{place_longer}
+use Rattle.clone_copies.proofs.Passed.{no_ok}
 use Rattle.clone_copies.proofs.places.copy_places.Goals as goal
 
 pub copy_place-requires-clause-map_held : goal.copy_place-requires-clause-map_held
@@ -45,3 +46,12 @@ loop-place-preserved c =
       longer = omega (arith, inv.longer, n1, n2, n, place_longer x k old);
       state = ap (with_places x (drop (i + 1) ks)) made ∙ (sym (at_drop_more (λ (ys : List ℕ). with_places x ys old) ks i 0 c.loop-place-test.true) ∙ inv.state);
     }
+
+pub returns-in_err-copy_place-clause-state : goal.returns-in_err-copy_place-clause-state
+returns-in_err-copy_place-clause-state c = no_ok _ _ c.from_residual.result c.from_residual.ensures.1
+
+pub returns-in_err-copy_place-clause-held : goal.returns-in_err-copy_place-clause-held
+returns-in_err-copy_place-clause-held c = no_ok _ _ c.from_residual.result c.from_residual.ensures.1
+
+pub returns-in_err-copy_place-clause-known : goal.returns-in_err-copy_place-clause-known
+returns-in_err-copy_place-clause-known c = no_ok _ _ c.from_residual.result c.from_residual.ensures.1

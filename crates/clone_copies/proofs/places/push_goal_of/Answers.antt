@@ -5,6 +5,7 @@ use Rattle.goal_tasks.specs.declared.theories.GoalAt.{GoalAt}
 use Rattle.goal_tasks.specs.Meaning.{goal_at}
 use Rattle.clone_copies.specs.Places.{next_numbers, rigid_types, goal_of}
 use Rattle.clone_copies.proofs.Bare.{goal_bare, goal_held}
+use Rattle.clone_copies.proofs.Passed.{no_ok}
 use Rattle.clone_copies.proofs.places.push_goal_of.Goals as goal
 
 pub returns-clause-state : goal.returns-clause-state
@@ -27,3 +28,27 @@ pub returns-clause-held : goal.returns-clause-held
 returns-clause-held c =
     let made : GoalAt = record { name = c.in_ok-name.name; before = c.len-before.result; prop = c.in_ok-prop.prop; rigid = c.from_vec-rigid.result } in
     goal_held c.args.store.now c.at_rigid.new.store c.at_rigid.ensures.grows c.args.typed.now c.args.open.now c.requires.held c.push_rigid.new.sig c.args.vars.now c.in_ok-push_rigid.ensures.entries c.push.new.self made c.in_ok-push.ensures.ok c.in_ok-prop.ensures.held
+
+pub returns-in_err-push_rigid-clause-state : goal.returns-in_err-push_rigid-clause-state
+returns-in_err-push_rigid-clause-state c = no_ok _ _ c.from_residual.result c.from_residual.ensures.1
+
+pub returns-in_err-push_rigid-clause-held : goal.returns-in_err-push_rigid-clause-held
+returns-in_err-push_rigid-clause-held c = no_ok _ _ c.from_residual.result c.from_residual.ensures.1
+
+pub returns-in_err-prop-clause-state : goal.returns-in_err-prop-clause-state
+returns-in_err-prop-clause-state c = no_ok _ _ c.from_residual-in_err-prop.result c.from_residual-in_err-prop.ensures.1
+
+pub returns-in_err-prop-clause-held : goal.returns-in_err-prop-clause-held
+returns-in_err-prop-clause-held c = no_ok _ _ c.from_residual-in_err-prop.result c.from_residual-in_err-prop.ensures.1
+
+pub returns-in_err-name-clause-state : goal.returns-in_err-name-clause-state
+returns-in_err-name-clause-state c = no_ok _ _ c.from_residual-in_err-name.result c.from_residual-in_err-name.ensures.1
+
+pub returns-in_err-name-clause-held : goal.returns-in_err-name-clause-held
+returns-in_err-name-clause-held c = no_ok _ _ c.from_residual-in_err-name.result c.from_residual-in_err-name.ensures.1
+
+pub returns-in_err-push-clause-state : goal.returns-in_err-push-clause-state
+returns-in_err-push-clause-state c = no_ok _ _ c.from_residual-in_err-push.result c.from_residual-in_err-push.ensures.1
+
+pub returns-in_err-push-clause-held : goal.returns-in_err-push-clause-held
+returns-in_err-push-clause-held c = no_ok _ _ c.from_residual-in_err-push.result c.from_residual-in_err-push.ensures.1

@@ -7,6 +7,7 @@ use Rattle.theory_states.specs.States.{with_declaration}
 use Rattle.clone_copies.specs.Places.{with_goal, with_kind}
 use Rattle.clone_copies.specs.Meaning.{bare_at}
 use Rattle.clone_copies.proofs.Bare.{declared_bare}
+use Rattle.clone_copies.proofs.Passed.{no_ok}
 use Rattle.clone_copies.proofs.places.push_kind.Goals as goal
 
 pub returns-in_ok-push_decl-in-Lemma-clause-state : goal.returns-in_ok-push_decl-in-Lemma-clause-state
@@ -28,3 +29,15 @@ returns-in_ok-push_decl-in-Lemma-clause-state c =
 
 pub returns-in_ok-push_decl-in-Lemma-clause-held : goal.returns-in_ok-push_decl-in-Lemma-clause-held
 returns-in_ok-push_decl-in-Lemma-clause-held c = c.in_ok-push_decl-in-Lemma.ensures.held c.push_goal.new.store c.in_ok-push_goal-in-Lemma.ensures.held (decl_held_later c.args.store.now c.push_goal.new.store c.push_goal.ensures.grows c.args.copy c.requires.copy_held)
+
+pub returns-in_err-push_goal-in-Lemma-clause-state : goal.returns-in_err-push_goal-in-Lemma-clause-state
+returns-in_err-push_goal-in-Lemma-clause-state c = no_ok _ _ c.from_residual.result c.from_residual.ensures.1
+
+pub returns-in_err-push_goal-in-Lemma-clause-held : goal.returns-in_err-push_goal-in-Lemma-clause-held
+returns-in_err-push_goal-in-Lemma-clause-held c = no_ok _ _ c.from_residual.result c.from_residual.ensures.1
+
+pub returns-in_err-push_decl-in-Lemma-clause-state : goal.returns-in_err-push_decl-in-Lemma-clause-state
+returns-in_err-push_decl-in-Lemma-clause-state c = no_ok _ _ c.from_residual-in_err-push_decl-in-Lemma.result c.from_residual-in_err-push_decl-in-Lemma.ensures.1
+
+pub returns-in_err-push_decl-in-Lemma-clause-held : goal.returns-in_err-push_decl-in-Lemma-clause-held
+returns-in_err-push_decl-in-Lemma-clause-held c = no_ok _ _ c.from_residual-in_err-push_decl-in-Lemma.result c.from_residual-in_err-push_decl-in-Lemma.ensures.1

@@ -4,6 +4,7 @@ use Rattle.tasks.specs.Meaning.{symbols_at}
 use Rattle.symbol_maps.specs.Meaning.{map_at}
 use Rattle.clone_elements.specs.Elements.{is_kind, IsSameSignature}
 use Rattle.clone_elements.proofs.Looked.{typed_held}
+use Rattle.clone_elements.proofs.Compared.{no_ok, no_value}
 use Rattle.clone_elements.proofs.elements.replaces.Goals as goal
 
 pub same_signature-requires-clause-held : goal.same_signature-requires-clause-held
@@ -46,3 +47,9 @@ returns-else-kind-clause-known c = c.in_ok-same.ensures.known
 
 pub returns-else-kind-clause-grows : goal.returns-else-kind-clause-grows
 returns-else-kind-clause-grows c = c.same_signature.ensures.grows
+
+pub returns-in_err-same-clause-same : goal.returns-in_err-same-clause-same
+returns-in_err-same-clause-same c = no_value _ _ c.from_residual.result c.from_residual.ensures.1
+
+pub returns-in_err-same-clause-known : goal.returns-in_err-same-clause-known
+returns-in_err-same-clause-known c = no_ok _ _ c.from_residual.result c.from_residual.ensures.1

@@ -8,6 +8,7 @@ use Rattle.tasks.proofs.Growth.{symbol_later}
 use Rattle.symbol_maps.specs.Mapped.{Map, mapped}
 use Rattle.symbol_maps.specs.Meaning.{map_at}
 use Rattle.symbol_maps.proofs.Steps.{map_held, map_stays, known_on, known_back}
+use Rattle.clone_elements.proofs.Compared.{no_ok, no_value}
 use Rattle.clone_elements.proofs.elements.same_signature.Goals as goal
 
 pub same_result-requires-clause-map_held : goal.same_result-requires-clause-map_held
@@ -52,3 +53,15 @@ returns-else-args-clause-grows c = Grows_trans c.args.store.now c.same_types.new
 
 pub returns-else-args-clause-same : goal.returns-else-args-clause-same
 returns-else-args-clause-same c = (λ r. let e : false ≡ true = sym c.if-args.false ∙ r in cc, λ h. c.in_ok-args.ensures.same.1 (rw (c.as_slice-types.ensures, c.as_slice.ensures) h.args))
+
+pub returns-in_err-args-clause-same : goal.returns-in_err-args-clause-same
+returns-in_err-args-clause-same c = no_value _ _ c.from_residual.result c.from_residual.ensures.1
+
+pub returns-in_err-args-clause-known : goal.returns-in_err-args-clause-known
+returns-in_err-args-clause-known c = no_ok _ _ c.from_residual.result c.from_residual.ensures.1
+
+pub returns-in_err-results-clause-same : goal.returns-in_err-results-clause-same
+returns-in_err-results-clause-same c = no_value _ _ c.from_residual-in_err-results.result c.from_residual-in_err-results.ensures.1
+
+pub returns-in_err-results-clause-known : goal.returns-in_err-results-clause-known
+returns-in_err-results-clause-known c = no_ok _ _ c.from_residual-in_err-results.result c.from_residual-in_err-results.ensures.1

@@ -2,6 +2,7 @@ use Rattle.std.proofs.Common.{◌+◌, ℕ, List, drop, sym, ap, ◌∙◌, arit
 use Rattle.std.proofs.lemmas.List.{at_drop_more}
 use Rattle.symbol_maps.specs.Meaning.{map_at}
 use Rattle.clone_elements.specs.Plans.{with_numbers}
+use Rattle.clone_elements.proofs.Compared.{no_ok}
 use Rattle.clone_elements.proofs.plans.put_numbers.Goals as goal
 
 pub loop-symbol-preserved : goal.loop-symbol-preserved
@@ -16,3 +17,9 @@ loop-symbol-preserved c =
           ∙ (sym (at_drop_more (λ (ys : List ℕ). with_numbers n ys (map_at s c.loop-symbol.morphism)) xs i 0 c.loop-symbol-test.true) ∙ inv.is s));
       held = λ s h. c.put_symbol.ensures.held s (inv.held s h);
     }
+
+pub returns-in_err-put_symbol-clause-is : goal.returns-in_err-put_symbol-clause-is
+returns-in_err-put_symbol-clause-is c = no_ok _ _ c.from_residual.result c.from_residual.ensures.1
+
+pub returns-in_err-put_symbol-clause-held : goal.returns-in_err-put_symbol-clause-held
+returns-in_err-put_symbol-clause-held c = no_ok _ _ c.from_residual.result c.from_residual.ensures.1

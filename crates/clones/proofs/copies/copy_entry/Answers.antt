@@ -8,6 +8,7 @@ use Rattle.tasks.proofs.Growth.{trees_later, symbol_later, symbol_held_later}
 use Rattle.symbol_maps.specs.Mapped.{Map, mapped}
 use Rattle.symbol_maps.specs.Meaning.{map_at}
 use Rattle.symbol_maps.proofs.Steps.{map_held, map_stays, known_on, known_back}
+use Rattle.clones.proofs.Loops.{no_ok, no_value}
 use Rattle.clones.proofs.copies.copy_entry.Goals as goal
 
 pub map_result-requires-clause-map_held : goal.map_result-requires-clause-map_held
@@ -37,3 +38,39 @@ returns-clause-tree c =
 
 pub returns-clause-new_known : goal.returns-clause-new_known
 returns-clause-new_known c = known_back c.args.morphism.now c.args.store.now c.map_trees.new.store c.in_ok-args.ensures.grows c.requires.map_held c.map_result.new.store c.map_result.new.known c.in_ok-result_type.ensures.new_known
+
+pub returns-in_err-theory-clause-tree : goal.returns-in_err-theory-clause-tree
+returns-in_err-theory-clause-tree c = no_value _ _ c.from_residual.result c.from_residual.ensures.1
+
+pub returns-in_err-theory-clause-new_held : goal.returns-in_err-theory-clause-new_held
+returns-in_err-theory-clause-new_held c = no_value _ _ c.from_residual.result c.from_residual.ensures.1
+
+pub returns-in_err-theory-clause-new_known : goal.returns-in_err-theory-clause-new_known
+returns-in_err-theory-clause-new_known c = no_ok _ _ c.from_residual.result c.from_residual.ensures.1
+
+pub returns-in_err-name-clause-tree : goal.returns-in_err-name-clause-tree
+returns-in_err-name-clause-tree c = no_value _ _ c.from_residual-in_err-name.result c.from_residual-in_err-name.ensures.1
+
+pub returns-in_err-name-clause-new_held : goal.returns-in_err-name-clause-new_held
+returns-in_err-name-clause-new_held c = no_value _ _ c.from_residual-in_err-name.result c.from_residual-in_err-name.ensures.1
+
+pub returns-in_err-name-clause-new_known : goal.returns-in_err-name-clause-new_known
+returns-in_err-name-clause-new_known c = no_ok _ _ c.from_residual-in_err-name.result c.from_residual-in_err-name.ensures.1
+
+pub returns-in_err-args-clause-tree : goal.returns-in_err-args-clause-tree
+returns-in_err-args-clause-tree c = no_value _ _ c.from_residual-in_err-args.result c.from_residual-in_err-args.ensures.1
+
+pub returns-in_err-args-clause-new_held : goal.returns-in_err-args-clause-new_held
+returns-in_err-args-clause-new_held c = no_value _ _ c.from_residual-in_err-args.result c.from_residual-in_err-args.ensures.1
+
+pub returns-in_err-args-clause-new_known : goal.returns-in_err-args-clause-new_known
+returns-in_err-args-clause-new_known c = no_ok _ _ c.from_residual-in_err-args.result c.from_residual-in_err-args.ensures.1
+
+pub returns-in_err-result_type-clause-tree : goal.returns-in_err-result_type-clause-tree
+returns-in_err-result_type-clause-tree c = no_value _ _ c.from_residual-in_err-result_type.result c.from_residual-in_err-result_type.ensures.1
+
+pub returns-in_err-result_type-clause-new_held : goal.returns-in_err-result_type-clause-new_held
+returns-in_err-result_type-clause-new_held c = no_value _ _ c.from_residual-in_err-result_type.result c.from_residual-in_err-result_type.ensures.1
+
+pub returns-in_err-result_type-clause-new_known : goal.returns-in_err-result_type-clause-new_known
+returns-in_err-result_type-clause-new_known c = no_ok _ _ c.from_residual-in_err-result_type.result c.from_residual-in_err-result_type.ensures.1

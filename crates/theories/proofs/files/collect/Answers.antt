@@ -6,6 +6,7 @@ use Rattle.goal_tasks.specs.Meaning.{AreTuples}
 use Rattle.theory_states.specs.declared.states.Known.{Known}
 use Rattle.theories.specs.Ints.{int_entries}
 use Rattle.theories.proofs.Ending.{collected_is, collected_held, symbols_held}
+use Rattle.theories.proofs.Passed.{no_value}
 use Rattle.theories.proofs.files.collect.Goals as goal
 
 pub returns-clause-ok : goal.returns-clause-ok
@@ -33,3 +34,21 @@ returns-clause-tuples c =
     let t = c.args.typed in
     let v : c.in_ok-new.field-0.value ≡ record { symbols = t.sig.symbols; ints = Some int_entries } = c.in_ok-new.ensures.ok ∙ ap (λ (i : Ints). let it : Signature = record { symbols = t.sig.symbols; ints = Some i } in it) c.int_entries.ensures in
     subst (λ (g : Signature). AreTuples (symbols_at s g.symbols)) (sym v) c.requires.typed.built.tuples
+
+pub returns-in_err-list-clause-ok : goal.returns-in_err-list-clause-ok
+returns-in_err-list-clause-ok c = no_value _ _ c.from_residual.result c.from_residual.ensures.1
+
+pub returns-in_err-list-clause-held : goal.returns-in_err-list-clause-held
+returns-in_err-list-clause-held c = no_value _ _ c.from_residual.result c.from_residual.ensures.1
+
+pub returns-in_err-list-clause-tuples : goal.returns-in_err-list-clause-tuples
+returns-in_err-list-clause-tuples c = no_value _ _ c.from_residual.result c.from_residual.ensures.1
+
+pub returns-in_err-new-clause-ok : goal.returns-in_err-new-clause-ok
+returns-in_err-new-clause-ok c = no_value _ _ c.from_residual-in_err-new.result c.from_residual-in_err-new.ensures.1
+
+pub returns-in_err-new-clause-held : goal.returns-in_err-new-clause-held
+returns-in_err-new-clause-held c = no_value _ _ c.from_residual-in_err-new.result c.from_residual-in_err-new.ensures.1
+
+pub returns-in_err-new-clause-tuples : goal.returns-in_err-new-clause-tuples
+returns-in_err-new-clause-tuples c = no_value _ _ c.from_residual-in_err-new.result c.from_residual-in_err-new.ensures.1

@@ -6,6 +6,7 @@ use Rattle.theory_states.specs.declared.states.Typed.{Typed}
 use Rattle.theory_states.specs.States.{KnownTree, known_as}
 use Rattle.theory_states.specs.Meaning.{known_at, opened_at, KnownHeld}
 use Rattle.theories.proofs.Ending.{ended_right}
+use Rattle.theories.proofs.Passed.{no_ok, no_value}
 use Rattle.theories.proofs.files.end_theory.Goals as goal
 
 pub returns-clause-right : goal.returns-clause-right
@@ -19,3 +20,15 @@ returns-clause-right c =
     let q : known_at s k ≡ known_as (opened_at s o) = ap (λ (vs : List ℕ). mk vs c.from_vec.result) vis ∙ ap (mk o.visible.keys) c.from_vec.ensures in
     let one : KnownHeld s (length t.decls) k = record { visible = subst (All (λ (p : ℕ). p < length t.decls)) (sym vis) c.requires.held.opened.visible; goals = c.requires.held.opened.goals } in
     ended_right s t (record t { known = c.push.new.self }) o k (ap (λ (ks : List Known). let it : Typed = record t { known = ks } in it) c.in_ok-push.ensures.ok) q one c.requires
+
+pub returns-in_err-from_slice-clause-ok : goal.returns-in_err-from_slice-clause-ok
+returns-in_err-from_slice-clause-ok c = no_value _ _ c.from_residual.result c.from_residual.ensures.1
+
+pub returns-in_err-from_slice-clause-right : goal.returns-in_err-from_slice-clause-right
+returns-in_err-from_slice-clause-right c = no_ok _ _ c.from_residual.result c.from_residual.ensures.1
+
+pub returns-in_err-push-clause-ok : goal.returns-in_err-push-clause-ok
+returns-in_err-push-clause-ok c = no_value _ _ c.from_residual-in_err-push.result c.from_residual-in_err-push.ensures.1
+
+pub returns-in_err-push-clause-right : goal.returns-in_err-push-clause-right
+returns-in_err-push-clause-right c = no_ok _ _ c.from_residual-in_err-push.result c.from_residual-in_err-push.ensures.1

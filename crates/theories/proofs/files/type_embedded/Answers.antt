@@ -13,6 +13,7 @@ use Rattle.theories.specs.Right.{between_at}
 use Rattle.theories.proofs.Forgetting.{embedded_forgotten, first_so}
 use Rattle.theories.proofs.Walking.{fault_so}
 use Rattle.theories.proofs.Lists.{list_next, list_fails, list_ends, steps_map, fault_map}
+use Rattle.theories.proofs.Passed.{no_ok}
 use Rattle.theories.proofs.files.type_embedded.Goals as goal
 
 pub returns-clause-ok : goal.returns-clause-ok
@@ -53,3 +54,15 @@ loop-theory-preserved c =
       grows = Grows_trans c.args.store.now c.loop-theory.store c.type_new.new.store c.loop-theory.invariant.grows c.type_new.ensures.grows;
       walk = list_next R F a b c.args.theories.now c.loop-theory.theory-index c.theory-item.result c.loop-theory-test.true c.theory-item.is c.loop-theory.invariant.walk d (record { between = n; first = subst (λ (x : List ℕ). IsNewTheoryBy AreSoundlyTyped x (theory_of c.theory-item.result).decls b n) c.in_ok-clone.ensures.cases c.in_ok-type_new.ensures.ok; second = refl });
     }
+
+pub returns-in_err-clone-clause-ok : goal.returns-in_err-clone-clause-ok
+returns-in_err-clone-clause-ok c = no_ok _ _ c.from_residual.result c.from_residual.ensures.1
+
+pub returns-in_err-clone-clause-right : goal.returns-in_err-clone-clause-right
+returns-in_err-clone-clause-right c = no_ok _ _ c.from_residual.result c.from_residual.ensures.1
+
+pub returns-in_err-type_new-clause-ok : goal.returns-in_err-type_new-clause-ok
+returns-in_err-type_new-clause-ok c = no_ok _ _ c.from_residual-in_err-type_new.result c.from_residual-in_err-type_new.ensures.1
+
+pub returns-in_err-type_new-clause-right : goal.returns-in_err-type_new-clause-right
+returns-in_err-type_new-clause-right c = no_ok _ _ c.from_residual-in_err-type_new.result c.from_residual-in_err-type_new.ensures.1

@@ -12,6 +12,7 @@ use Rattle.theories.specs.Files.{AreFaultyIn, theories_of, IsFirstFault}
 use Rattle.theories.specs.Right.{between_at}
 use Rattle.theories.proofs.Forgetting.{library_forgotten, forgotten}
 use Rattle.theories.proofs.Walking.{fault_so}
+use Rattle.theories.proofs.Passed.{no_value}
 use Rattle.theories.proofs.files.type_file.Goals as goal
 
 pub type_library-requires-clause-right : goal.type_library-requires-clause-right
@@ -46,3 +47,51 @@ returns-in_err-type_theories-clause-err c =
     let before = between_at c.type_library.new.store c.type_library.new.typed 0 in
     let k : (f : SourceFault) → AreFaultyIn source before f → IsFirstFault s source f = λ f h. inr (record { before = before; library = library_forgotten s before c.in_ok-type_library.ensures.ok; fault = h }) in
     rw (p.1, p.2) (fault_so k c.in_err-type_theories.field-0.0 (rw c.as_slice.ensures at c.in_err-type_theories.ensures.err))
+
+pub returns-in_err-typed-clause-ok : goal.returns-in_err-typed-clause-ok
+returns-in_err-typed-clause-ok c = no_value _ _ c.from_residual.result c.from_residual.ensures.1
+
+pub returns-in_err-typed-clause-sound : goal.returns-in_err-typed-clause-sound
+returns-in_err-typed-clause-sound c = no_value _ _ c.from_residual.result c.from_residual.ensures.1
+
+pub returns-in_err-typed-clause-held : goal.returns-in_err-typed-clause-held
+returns-in_err-typed-clause-held c = no_value _ _ c.from_residual.result c.from_residual.ensures.1
+
+pub returns-in_err-typed-clause-tuples : goal.returns-in_err-typed-clause-tuples
+returns-in_err-typed-clause-tuples c = no_value _ _ c.from_residual.result c.from_residual.ensures.1
+
+pub returns-in_err-type_library-clause-ok : goal.returns-in_err-type_library-clause-ok
+returns-in_err-type_library-clause-ok c = no_value _ _ c.from_residual-in_err-type_library.result c.from_residual-in_err-type_library.ensures.1
+
+pub returns-in_err-type_library-clause-sound : goal.returns-in_err-type_library-clause-sound
+returns-in_err-type_library-clause-sound c = no_value _ _ c.from_residual-in_err-type_library.result c.from_residual-in_err-type_library.ensures.1
+
+pub returns-in_err-type_library-clause-held : goal.returns-in_err-type_library-clause-held
+returns-in_err-type_library-clause-held c = no_value _ _ c.from_residual-in_err-type_library.result c.from_residual-in_err-type_library.ensures.1
+
+pub returns-in_err-type_library-clause-tuples : goal.returns-in_err-type_library-clause-tuples
+returns-in_err-type_library-clause-tuples c = no_value _ _ c.from_residual-in_err-type_library.result c.from_residual-in_err-type_library.ensures.1
+
+pub returns-in_err-type_theories-clause-ok : goal.returns-in_err-type_theories-clause-ok
+returns-in_err-type_theories-clause-ok c = no_value _ _ c.from_residual-in_err-type_theories.result c.from_residual-in_err-type_theories.ensures.1
+
+pub returns-in_err-type_theories-clause-sound : goal.returns-in_err-type_theories-clause-sound
+returns-in_err-type_theories-clause-sound c = no_value _ _ c.from_residual-in_err-type_theories.result c.from_residual-in_err-type_theories.ensures.1
+
+pub returns-in_err-type_theories-clause-held : goal.returns-in_err-type_theories-clause-held
+returns-in_err-type_theories-clause-held c = no_value _ _ c.from_residual-in_err-type_theories.result c.from_residual-in_err-type_theories.ensures.1
+
+pub returns-in_err-type_theories-clause-tuples : goal.returns-in_err-type_theories-clause-tuples
+returns-in_err-type_theories-clause-tuples c = no_value _ _ c.from_residual-in_err-type_theories.result c.from_residual-in_err-type_theories.ensures.1
+
+pub returns-in_err-collect-clause-ok : goal.returns-in_err-collect-clause-ok
+returns-in_err-collect-clause-ok c = no_value _ _ c.from_residual-in_err-collect.result c.from_residual-in_err-collect.ensures.1
+
+pub returns-in_err-collect-clause-sound : goal.returns-in_err-collect-clause-sound
+returns-in_err-collect-clause-sound c = no_value _ _ c.from_residual-in_err-collect.result c.from_residual-in_err-collect.ensures.1
+
+pub returns-in_err-collect-clause-held : goal.returns-in_err-collect-clause-held
+returns-in_err-collect-clause-held c = no_value _ _ c.from_residual-in_err-collect.result c.from_residual-in_err-collect.ensures.1
+
+pub returns-in_err-collect-clause-tuples : goal.returns-in_err-collect-clause-tuples
+returns-in_err-collect-clause-tuples c = no_value _ _ c.from_residual-in_err-collect.result c.from_residual-in_err-collect.ensures.1

@@ -11,6 +11,7 @@ use Rattle.theories.specs.Right.{between_at}
 use Rattle.theories.proofs.Walking.{fault_so}
 use Rattle.theories.proofs.Lists.{list_next, list_fails, list_ends}
 use Rattle.theories.proofs.Forgetting.{file_forgotten, first_so}
+use Rattle.theories.proofs.Passed.{no_ok}
 use Rattle.theories.proofs.files.type_files.Goals as goal
 
 pub returns-clause-ok : goal.returns-clause-ok
@@ -50,3 +51,9 @@ loop-path-preserved c =
       grows = Grows_trans c.args.store.now c.loop-path.store c.type_embedded.new.store c.loop-path.invariant.grows c.type_embedded.ensures.grows;
       walk = list_next R F a b xs c.loop-path.path-index x c.loop-path-test.true c.loop-path-item.is c.loop-path.invariant.walk d (rw c.as_slice.ensures at c.in_ok-type_embedded.ensures.ok);
     }
+
+pub returns-in_err-type_embedded-clause-ok : goal.returns-in_err-type_embedded-clause-ok
+returns-in_err-type_embedded-clause-ok c = no_ok _ _ c.from_residual.result c.from_residual.ensures.1
+
+pub returns-in_err-type_embedded-clause-right : goal.returns-in_err-type_embedded-clause-right
+returns-in_err-type_embedded-clause-right c = no_ok _ _ c.from_residual.result c.from_residual.ensures.1

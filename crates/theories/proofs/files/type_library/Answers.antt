@@ -6,6 +6,7 @@ use Rattle.theories.specs.Files.{AreEmbeddedBy, AreEmbeddedFaulty, IsLibraryFaul
 use Rattle.theories.specs.Sound.{AreSoundlyTyped}
 use Rattle.theories.specs.Right.{between_at}
 use Rattle.theories.proofs.Walking.{answer_so}
+use Rattle.theories.proofs.Passed.{no_ok}
 use Rattle.theories.proofs.files.type_library.Goals as goal
 
 pub returns-clause-ok : goal.returns-clause-ok
@@ -22,3 +23,9 @@ returns-clause-err c =
     let s = c.args.store.now in
     let a = between_at s c.args.typed.now 0 in
     answer_so (AreEmbeddedFaulty xs a) (IsLibraryFault s) (λ f h. record { files = xs; are = are; fault = subst (λ (z : StateTree). AreEmbeddedFaulty xs z f) c.requires.nothing h }) c.type_files-done.result c.type_files-done.ensures.err
+
+pub returns-in_err-files-clause-ok : goal.returns-in_err-files-clause-ok
+returns-in_err-files-clause-ok c = no_ok _ _ c.from_residual.result c.from_residual.ensures.1
+
+pub returns-in_err-files-clause-right : goal.returns-in_err-files-clause-right
+returns-in_err-files-clause-right c = no_ok _ _ c.from_residual.result c.from_residual.ensures.1

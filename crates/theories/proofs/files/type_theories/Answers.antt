@@ -13,6 +13,7 @@ use Rattle.theories.specs.Right.{between_at}
 use Rattle.theories.proofs.Forgetting.{new_forgotten, first_so}
 use Rattle.theories.proofs.Walking.{fault_so}
 use Rattle.theories.proofs.Lists.{list_next, list_fails, list_ends, steps_map, fault_map}
+use Rattle.theories.proofs.Passed.{no_ok}
 use Rattle.theories.proofs.files.type_theories.Goals as goal
 
 abbrev N : Theory → StateTree → StateTree → Type 0
@@ -56,3 +57,15 @@ loop-theory-preserved c =
       grows = Grows_trans c.args.store.now c.loop-theory.store c.type_new.new.store c.loop-theory.invariant.grows c.type_new.ensures.grows;
       walk = list_next R F a b c.args.theories.now c.loop-theory.theory-index c.theory-item.result c.loop-theory-test.true c.theory-item.is c.loop-theory.invariant.walk d (subst (λ (p : List ℕ). IsNewTheoryBy AreSoundlyTyped p x.decls b d) c.in_ok-path.ensures.cases c.in_ok-count.ensures.ok);
     }
+
+pub returns-in_err-path-clause-ok : goal.returns-in_err-path-clause-ok
+returns-in_err-path-clause-ok c = no_ok _ _ c.from_residual.result c.from_residual.ensures.1
+
+pub returns-in_err-path-clause-right : goal.returns-in_err-path-clause-right
+returns-in_err-path-clause-right c = no_ok _ _ c.from_residual.result c.from_residual.ensures.1
+
+pub returns-in_err-count-clause-ok : goal.returns-in_err-count-clause-ok
+returns-in_err-count-clause-ok c = no_ok _ _ c.from_residual-in_err-count.result c.from_residual-in_err-count.ensures.1
+
+pub returns-in_err-count-clause-right : goal.returns-in_err-count-clause-right
+returns-in_err-count-clause-right c = no_ok _ _ c.from_residual-in_err-count.result c.from_residual-in_err-count.ensures.1

@@ -1,5 +1,6 @@
 use Rattle.std.proofs.Common.{◌+◌}
 use Rattle.theories.proofs.Passing.{passed_right}
+use Rattle.theories.proofs.Passed.{no_ok}
 use Rattle.theories.proofs.typing.type_clone.Goals as goal
 
 pub returns-clause-right : goal.returns-clause-right
@@ -12,3 +13,15 @@ returns-clause-right c =
       typed = c.in_ok-clone_theory.ensures.typed;
       placed = c.in_ok-clone_theory.ensures.placed;
     })
+
+pub returns-in_err-clone_theory-clause-ok : goal.returns-in_err-clone_theory-clause-ok
+returns-in_err-clone_theory-clause-ok c = no_ok _ _ c.from_residual.result c.from_residual.ensures.1
+
+pub returns-in_err-clone_theory-clause-right : goal.returns-in_err-clone_theory-clause-right
+returns-in_err-clone_theory-clause-right c = no_ok _ _ c.from_residual.result c.from_residual.ensures.1
+
+pub returns-in_err-pass-clause-ok : goal.returns-in_err-pass-clause-ok
+returns-in_err-pass-clause-ok c = no_ok _ _ c.from_residual-in_err-pass.result c.from_residual-in_err-pass.ensures.1
+
+pub returns-in_err-pass-clause-right : goal.returns-in_err-pass-clause-right
+returns-in_err-pass-clause-right c = no_ok _ _ c.from_residual-in_err-pass.result c.from_residual-in_err-pass.ensures.1

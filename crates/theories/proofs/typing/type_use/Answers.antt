@@ -3,6 +3,7 @@ use Rattle.std.proofs.lemmas.Result.{err_from_is_err_and}
 use Rattle.theory_states.specs.Meaning.{state_at}
 use Rattle.sound_states.proofs.Keeping.{used_typed}
 use Rattle.theories.proofs.Passing.{passed_right}
+use Rattle.theories.proofs.Passed.{no_ok}
 use Rattle.theories.proofs.typing.type_use.Goals as goal
 
 pub returns-in_err-use_theory-clause-err : goal.returns-in_err-use_theory-clause-err
@@ -20,3 +21,15 @@ returns-clause-right c =
       typed = used_typed c.args.link c.args.path.now c.args.alias.now (state_at s t c.args.open.now) (state_at s t o) (c.in_ok-use_theory.ensures.ok s) c.requires.typed;
       placed = c.requires.placed;
     })
+
+pub returns-in_err-use_theory-clause-ok : goal.returns-in_err-use_theory-clause-ok
+returns-in_err-use_theory-clause-ok c = no_ok _ _ c.from_residual.result c.from_residual.ensures.1
+
+pub returns-in_err-use_theory-clause-right : goal.returns-in_err-use_theory-clause-right
+returns-in_err-use_theory-clause-right c = no_ok _ _ c.from_residual.result c.from_residual.ensures.1
+
+pub returns-in_err-pass-clause-ok : goal.returns-in_err-pass-clause-ok
+returns-in_err-pass-clause-ok c = no_ok _ _ c.from_residual-in_err-pass.result c.from_residual-in_err-pass.ensures.1
+
+pub returns-in_err-pass-clause-right : goal.returns-in_err-pass-clause-right
+returns-in_err-pass-clause-right c = no_ok _ _ c.from_residual-in_err-pass.result c.from_residual-in_err-pass.ensures.1

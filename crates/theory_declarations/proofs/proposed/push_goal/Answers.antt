@@ -9,6 +9,7 @@ use Rattle.goal_tasks.specs.Meaning.{goal_at}
 use Rattle.theory_states.specs.Meaning.{state_at}
 use Rattle.theory_declarations.specs.Declared.{formula_of, to_prove, goals_said}
 use Rattle.theory_declarations.proofs.Pushed.{with_goals, goal_pushed, goal_held}
+use Rattle.theory_declarations.proofs.Passed.{no_ok}
 use Rattle.theory_declarations.proofs.proposed.push_goal.Goals as goal
 
 pub returns-clause-state : goal.returns-clause-state
@@ -32,3 +33,15 @@ pub returns-clause-held : goal.returns-clause-held
 returns-clause-held c =
     let it : GoalAt = record { name = c.in_ok-name.name; before = length c.args.open.now.visible.keys; prop = c.in_ok-prop.prop; rigid = c.args.rigid } in
     IfOk-weaker c.add_goal.result _ _ (λ u q. goal_held c.args.store.now c.formula_to_prove.new.store c.formula_to_prove.ensures.grows c.args.typed.now c.args.open.now c.add_goal.new.open it c.requires.state q c.in_ok-prop.ensures.held) c.add_goal.ensures
+
+pub returns-in_err-prop-clause-state : goal.returns-in_err-prop-clause-state
+returns-in_err-prop-clause-state c = no_ok _ _ c.from_residual.result c.from_residual.ensures.1
+
+pub returns-in_err-prop-clause-held : goal.returns-in_err-prop-clause-held
+returns-in_err-prop-clause-held c = no_ok _ _ c.from_residual.result c.from_residual.ensures.1
+
+pub returns-in_err-name-clause-state : goal.returns-in_err-name-clause-state
+returns-in_err-name-clause-state c = no_ok _ _ c.from_residual-in_err-name.result c.from_residual-in_err-name.ensures.1
+
+pub returns-in_err-name-clause-held : goal.returns-in_err-name-clause-held
+returns-in_err-name-clause-held c = no_ok _ _ c.from_residual-in_err-name.result c.from_residual-in_err-name.ensures.1

@@ -4,6 +4,7 @@ use Rattle.tasks.specs.Meaning.{declaration_at}
 use Rattle.tasks.proofs.Growth.{decl_held_later, declaration_later}
 use Rattle.theory_states.specs.States.{with_declaration}
 use Rattle.theory_states.specs.Meaning.{state_at}
+use Rattle.theory_declarations.proofs.Passed.{no_ok}
 use Rattle.theory_declarations.proofs.proposed.push_lemma.Goals as goal
 
 pub returns-clause-state : goal.returns-clause-state
@@ -16,3 +17,21 @@ returns-clause-state c =
 
 pub returns-clause-held : goal.returns-clause-held
 returns-clause-held c = c.in_ok-push_decl.ensures.held c.push_goal.new.store c.in_ok-push_goal.ensures.held (decl_held_later c.args.store.now c.push_goal.new.store c.push_goal.ensures.grows c.args.decl c.requires.decl)
+
+pub returns-in_err-push_goal-clause-state : goal.returns-in_err-push_goal-clause-state
+returns-in_err-push_goal-clause-state c = no_ok _ _ c.from_residual.result c.from_residual.ensures.1
+
+pub returns-in_err-push_goal-clause-held : goal.returns-in_err-push_goal-clause-held
+returns-in_err-push_goal-clause-held c = no_ok _ _ c.from_residual.result c.from_residual.ensures.1
+
+pub returns-in_err-push_goal-clause-typed : goal.returns-in_err-push_goal-clause-typed
+returns-in_err-push_goal-clause-typed c = no_ok _ _ c.from_residual.result c.from_residual.ensures.1
+
+pub returns-in_err-push_decl-clause-state : goal.returns-in_err-push_decl-clause-state
+returns-in_err-push_decl-clause-state c = no_ok _ _ c.from_residual-in_err-push_decl.result c.from_residual-in_err-push_decl.ensures.1
+
+pub returns-in_err-push_decl-clause-held : goal.returns-in_err-push_decl-clause-held
+returns-in_err-push_decl-clause-held c = no_ok _ _ c.from_residual-in_err-push_decl.result c.from_residual-in_err-push_decl.ensures.1
+
+pub returns-in_err-push_decl-clause-typed : goal.returns-in_err-push_decl-clause-typed
+returns-in_err-push_decl-clause-typed c = no_ok _ _ c.from_residual-in_err-push_decl.result c.from_residual-in_err-push_decl.ensures.1

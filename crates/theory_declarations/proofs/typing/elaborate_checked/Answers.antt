@@ -18,6 +18,7 @@ use Rattle.theory_declarations.specs.Declared.{IsDeclaredFault, of_sides}
 use Rattle.theory_declarations.specs.Faults.{side_fault}
 use Rattle.theory_declarations.proofs.Typed.{setting_typed}
 use Rattle.theory_declarations.proofs.Refused.{or_memory, logical_parts, told, refused_by, matches_are}
+use Rattle.theory_declarations.proofs.Passed.{no_value}
 use Rattle.theory_declarations.proofs.typing.elaborate_checked.Goals as goal
 
 pub elaborate_next-requires-clause-scopes : goal.elaborate_next-requires-clause-scopes
@@ -65,3 +66,9 @@ returns-in_err-check_made-clause-err c =
     let number : c.elaborate_next.new.open.count ≡ c.args.open.now.count = ap (λ (i : Opened). i.count) c.elaborate_next.ensures.opened in
     let k = or_memory (IsDeclaredFault d before) c.in_err-check_made.field-0.0 (of_sides p.0 s1 o x.0 p.1 c.elaborate_next.ensures.grows e.is e.named side (x.2 ∙ ap (λ (n : ℕ). side_fault n x.0) number)) in
     if_err c.from_residual-in_err-check_made.result _ (OrMemory (IsDeclaredFault d before)) c.from_residual-in_err-check_made.ensures.1 (λ f h. rw h k)
+
+pub returns-in_err-made-clause-ok : goal.returns-in_err-made-clause-ok
+returns-in_err-made-clause-ok c = no_value _ _ c.from_residual.result c.from_residual.ensures.1
+
+pub returns-in_err-check_made-clause-ok : goal.returns-in_err-check_made-clause-ok
+returns-in_err-check_made-clause-ok c = no_value _ _ c.from_residual-in_err-check_made.result c.from_residual-in_err-check_made.ensures.1

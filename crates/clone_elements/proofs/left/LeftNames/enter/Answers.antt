@@ -5,6 +5,7 @@ use Rattle.tasks.specs.Meaning.{symbols_at, declaration_at, declarations_at}
 use Rattle.names_space.proofs.Listed.{updates_name}
 use Rattle.clone_elements.specs.Left.{key_of, is_key, decl_or, no_declaration}
 use Rattle.clone_elements.specs.Origins.{origin_at, place_at}
+use Rattle.clone_elements.proofs.Compared.{no_ok}
 use Rattle.clone_elements.proofs.left.LeftNames.enter.Goals as goal
 
 pub returns-in_ok-insert : goal.returns-in_ok-insert
@@ -19,3 +20,9 @@ returns-in_ok-insert c = λ s x.
     let keyed : Some name ≡ key_of symbols c.contains_key-assumed.result (declaration_at s d) = sym (ap (option_map (λ v. v.items)) c.in-Some-2.is) ∙ c.in_ok-bytes.ensures s in
     let whole : Some name ≡ key_of symbols (o.axioms k) (decl_or o.decls k) = keyed ∙ (ap (λ (b : Bool). key_of symbols b (declaration_at s d)) c.contains_key-assumed.ensures ∙ ap (key_of symbols (o.axioms k)) (sym there)) in
     updates_name name c.args.self.now.places c.insert.new.self _ c.in_ok-insert.ensures.updates x ∙ ap (λ (y : Option (List ℕ)). cond (is_key x y) (Some k) (place_at c.args.self.now x)) whole
+
+pub returns-in_err-bytes : goal.returns-in_err-bytes
+returns-in_err-bytes c = no_ok _ _ c.from_residual.result c.from_residual.ensures.1
+
+pub returns-in_err-insert : goal.returns-in_err-insert
+returns-in_err-insert c = no_ok _ _ c.from_residual-in_err-insert.result c.from_residual-in_err-insert.ensures.1

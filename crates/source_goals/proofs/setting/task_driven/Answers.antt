@@ -3,7 +3,7 @@ use Rattle.goal_tasks.specs.Meaning.{theories_at}
 use Rattle.fault_order.proofs.Meeting.{answers_then, answers_stop}
 use Rattle.source_goals.specs.Values.{next_in, setting_in}
 use Rattle.source_goals.proofs.Settings.{under, under_answers}
-use Rattle.source_goals.proofs.setting.driven.Goals as goal
+use Rattle.source_goals.proofs.setting.task_driven.Goals as goal
 
 pub returns-clause-answers : goal.returns-clause-answers
 returns-clause-answers g c =

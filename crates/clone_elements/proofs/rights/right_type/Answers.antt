@@ -1,0 +1,47 @@
+use Rattle.clone_elements.proofs.Compared.{no_ok, no_value}
+use Rattle.clone_elements.proofs.rights.right_type.Goals as goal
+
+pub returns-in_err-vars-clause-entries : goal.returns-in_err-vars-clause-entries
+returns-in_err-vars-clause-entries c = no_ok _ _ c.from_residual.result c.from_residual.ensures.1
+
+pub returns-in_err-vars-clause-held : goal.returns-in_err-vars-clause-held
+returns-in_err-vars-clause-held c = no_value _ _ c.from_residual.result c.from_residual.ensures.1
+
+pub returns-in_err-vars-clause-tree : goal.returns-in_err-vars-clause-tree
+returns-in_err-vars-clause-tree c = no_value _ _ c.from_residual.result c.from_residual.ensures.1
+
+pub returns-in_err-vars-clause-below : goal.returns-in_err-vars-clause-below
+returns-in_err-vars-clause-below c = no_value _ _ c.from_residual.result c.from_residual.ensures.1
+
+pub returns-in_err-vars-clause-free : goal.returns-in_err-vars-clause-free
+returns-in_err-vars-clause-free c = no_ok _ _ c.from_residual.result c.from_residual.ensures.1
+
+pub returns-in_err-check_type-clause-entries : goal.returns-in_err-check_type-clause-entries
+returns-in_err-check_type-clause-entries c = no_ok _ _ c.from_residual-in_err-check_type.result c.from_residual-in_err-check_type.ensures.1
+
+pub returns-in_err-check_type-clause-held : goal.returns-in_err-check_type-clause-held
+returns-in_err-check_type-clause-held c = no_value _ _ c.from_residual-in_err-check_type.result c.from_residual-in_err-check_type.ensures.1
+
+pub returns-in_err-check_type-clause-tree : goal.returns-in_err-check_type-clause-tree
+returns-in_err-check_type-clause-tree c = no_value _ _ c.from_residual-in_err-check_type.result c.from_residual-in_err-check_type.ensures.1
+
+pub returns-in_err-check_type-clause-below : goal.returns-in_err-check_type-clause-below
+returns-in_err-check_type-clause-below c = no_value _ _ c.from_residual-in_err-check_type.result c.from_residual-in_err-check_type.ensures.1
+
+pub returns-in_err-check_type-clause-free : goal.returns-in_err-check_type-clause-free
+returns-in_err-check_type-clause-free c = no_ok _ _ c.from_residual-in_err-check_type.result c.from_residual-in_err-check_type.ensures.1
+
+pub returns-in_err-id-clause-entries : goal.returns-in_err-id-clause-entries
+returns-in_err-id-clause-entries c = no_ok _ _ c.from_residual-in_err-id.result c.from_residual-in_err-id.ensures.1
+
+pub returns-in_err-id-clause-held : goal.returns-in_err-id-clause-held
+returns-in_err-id-clause-held c = no_value _ _ c.from_residual-in_err-id.result c.from_residual-in_err-id.ensures.1
+
+pub returns-in_err-id-clause-tree : goal.returns-in_err-id-clause-tree
+returns-in_err-id-clause-tree c = no_value _ _ c.from_residual-in_err-id.result c.from_residual-in_err-id.ensures.1
+
+pub returns-in_err-id-clause-below : goal.returns-in_err-id-clause-below
+returns-in_err-id-clause-below c = no_value _ _ c.from_residual-in_err-id.result c.from_residual-in_err-id.ensures.1
+
+pub returns-in_err-id-clause-free : goal.returns-in_err-id-clause-free
+returns-in_err-id-clause-free c = no_ok _ _ c.from_residual-in_err-id.result c.from_residual-in_err-id.ensures.1
