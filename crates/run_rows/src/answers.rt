@@ -28,8 +28,8 @@ fn run_row(alloc: Global, row: Row) -> Result<Answer, AllocError> {
     let code = run(alloc, &words, &mut lib, &mut out, &mut err).code();
     Ok(Answer {
         code,
-        line: Vec::from_slice(alloc, err.written())?,
-        text: Vec::from_slice(alloc, out.written())?,
+        line: Vec::from_slice(alloc, err.written_bytes())?,
+        text: Vec::from_slice(alloc, out.written_bytes())?,
     })
 }
 
@@ -57,7 +57,7 @@ fn check_words(alloc: Global, lift: &[String]) -> Result<Vec<String>, AllocError
 }
 
 // What the check of a text answers, over the files of a line.
-fn checked(alloc: Global, line: &str, text: Vec<u8>) -> Result<Answer, AllocError> {
+fn check_text(alloc: Global, line: &str, text: Vec<u8>) -> Result<Answer, AllocError> {
     let mut row = read_row(alloc, line)?;
     row.words = check_words(alloc, &row.words)?;
     row.files.push((String::from_str(alloc, "@out")?, text))?;
@@ -72,7 +72,7 @@ fn push_bytes(text: &mut Vec<u8>, bytes: &[u8]) -> Result<(), AllocError> {
     Ok(())
 }
 
-fn shown(alloc: Global, answer: &Answer) -> Result<String, AllocError> {
+fn answer_text(alloc: Global, answer: &Answer) -> Result<String, AllocError> {
     let digits = (answer.code as usize).to_string(alloc)?;
     let mut text = Vec::from_slice(alloc, digits.as_bytes())?;
     text.push(b'\t')?;
@@ -86,8 +86,8 @@ fn shown(alloc: Global, answer: &Answer) -> Result<String, AllocError> {
 pub(crate) fn describe(alloc: Global, line: &str) -> Result<String, AllocError> {
     let found = run_row(alloc, read_row(alloc, line)?)?;
     if found.code == 0 && line.starts_with("lift ") {
-        let again = checked(alloc, line, found.text)?;
-        return shown(alloc, &again);
+        let again = check_text(alloc, line, found.text)?;
+        return answer_text(alloc, &again);
     }
-    shown(alloc, &found)
+    answer_text(alloc, &found)
 }

@@ -6,46 +6,51 @@ use goal_tasks::{TaskFault, Theories, task_of};
 use parse_decls::parse;
 use row_texts::{put_declaration, put_number, put_numbered, put_tree};
 use std::alloc::{AllocError, Global};
+use std_theories::drop_file;
 use syntax_why::File;
 use tasks::Task;
 use term_store::Store;
 use theories::{SourceFault, type_file};
 use tokens_why::lex;
 
-// A fault of a declaration by its code.
-fn put_code(alloc: Global, text: &mut String, code: &str, decl: usize) -> Result<(), AllocError> {
-    text.push_str(code)?;
-    put_numbered(alloc, text, " ", decl)
+// The code of a fault, its declaration, and its place there, if it has one.
+#[derive(Clone, Copy)]
+struct CodedFault {
+    code: usize,
+    decl: usize,
+    place: Option<usize>,
 }
 
-// A fault of a place in a declaration.
-fn put_place(
-    alloc: Global,
-    text: &mut String,
-    code: &str,
-    decl: usize,
-    place: usize,
-) -> Result<(), AllocError> {
-    put_code(alloc, text, code, decl)?;
-    put_numbered(alloc, text, " ", place)
+// Nothing where memory ran out.
+fn coded_fault(fault: SourceFault) -> Option<CodedFault> {
+    let (code, decl, place) = match fault {
+        SourceFault::Memory => return None,
+        SourceFault::Unknown { decl, token } => (20, decl, Some(token)),
+        SourceFault::Duplicate { decl, token } => (21, decl, Some(token)),
+        SourceFault::WrongKind { decl, token } => (22, decl, Some(token)),
+        SourceFault::Arity { decl, token } => (23, decl, Some(token)),
+        SourceFault::Clash { decl, k } => (30, decl, Some(k)),
+        SourceFault::Undetermined { decl, token } => (31, decl, Some(token)),
+        SourceFault::NotExhaustive { decl, token } => (32, decl, Some(token)),
+        SourceFault::BadClause { decl, clause } => (33, decl, Some(clause)),
+        SourceFault::NotPositive { decl, clause } => (34, decl, Some(clause)),
+        SourceFault::NotStructural { decl } => (35, decl, None),
+        SourceFault::GroupTooWide { decl } => (36, decl, None),
+        SourceFault::Uninhabited { decl } => (37, decl, None),
+        SourceFault::BadSubstitution { decl, token } => (40, decl, Some(token)),
+    };
+    Some(CodedFault { code, decl, place })
 }
 
 fn put_fault(alloc: Global, text: &mut String, fault: SourceFault) -> Result<(), AllocError> {
-    match fault {
-        SourceFault::Memory => Err(AllocError),
-        SourceFault::Unknown { decl, token } => put_place(alloc, text, "20", decl, token),
-        SourceFault::Duplicate { decl, token } => put_place(alloc, text, "21", decl, token),
-        SourceFault::WrongKind { decl, token } => put_place(alloc, text, "22", decl, token),
-        SourceFault::Arity { decl, token } => put_place(alloc, text, "23", decl, token),
-        SourceFault::Clash { decl, k } => put_place(alloc, text, "30", decl, k),
-        SourceFault::Undetermined { decl, token } => put_place(alloc, text, "31", decl, token),
-        SourceFault::NotExhaustive { decl, token } => put_place(alloc, text, "32", decl, token),
-        SourceFault::BadClause { decl, clause } => put_place(alloc, text, "33", decl, clause),
-        SourceFault::NotPositive { decl, clause } => put_place(alloc, text, "34", decl, clause),
-        SourceFault::NotStructural { decl } => put_code(alloc, text, "35", decl),
-        SourceFault::GroupTooWide { decl } => put_code(alloc, text, "36", decl),
-        SourceFault::Uninhabited { decl } => put_code(alloc, text, "37", decl),
-        SourceFault::BadSubstitution { decl, token } => put_place(alloc, text, "40", decl, token),
+    let Some(CodedFault { code, decl, place }) = coded_fault(fault) else {
+        return Err(AllocError);
+    };
+    put_number(alloc, text, code)?;
+    put_numbered(alloc, text, " ", decl)?;
+    match place {
+        Some(place) => put_numbered(alloc, text, " ", place),
+        None => Ok(()),
     }
 }
 
@@ -117,14 +122,18 @@ fn put_source(
     asked: Asked,
 ) -> Result<(), AllocError> {
     let bytes = source.as_bytes();
+    let mut store = Store::new(alloc)?;
     let Ok(tokens) = lex(alloc, bytes) else {
         return text.push_str("no tokens");
     };
-    let Ok(file) = parse(alloc, &tokens, bytes) else {
-        return text.push_str("no source");
-    };
-    let mut store = Store::new(alloc)?;
-    put_typed(alloc, text, &mut store, &file, asked)
+    match parse(alloc, &tokens, bytes) {
+        Ok(file) => {
+            let put = put_typed(alloc, text, &mut store, &file, asked);
+            drop_file(file);
+            put
+        }
+        Err(_) => text.push_str("no source"),
+    }
 }
 
 // A source behind the names of a theory and of a goal.

@@ -1,11 +1,24 @@
-//! Reads sources, one a line, and says of each that it is right, its first fault, or the task of a goal of it.
-//! It depends on the typing of sources; its input and output are by `tools/source-rows`.
+//! Reads sources, one a line, and says of each that it is right, its first fault, the task of a goal of it, or what the last
+//! declaration of its first theory becomes.
+//! It depends on the typing of sources, on elaboration and on the side conditions; its input and output are by
+//! `tools/source-rows`.
 #![tactic(auto)]
 
 mod answers;
+mod declarations;
+mod made;
+mod sides;
 
-use answers::describe;
+use std::alloc::{AllocError, Global};
 use std::io;
+
+// The answer to a line: behind `last` it is about the last declaration of a theory, else about a source.
+fn describe(alloc: Global, line: &str) -> Result<String, AllocError> {
+    match line.strip_prefix("last ") {
+        Some(rest) => declarations::describe(alloc, rest),
+        None => answers::describe(alloc, line),
+    }
+}
 
 fn main(rt: HostRuntime) -> io::Result<()> {
     let alloc = rt.alloc();

@@ -1,15 +1,14 @@
-#!/usr/bin/env python3
-"""The rows of crates/elab_rows: those by hand, random theories, and random lists of patterns.
+"""The rows of crates/source_rows that ask for the last declaration of a theory: those by hand, random theories, and random
+lists of patterns. `tools/source-rows` writes them behind its own.
 
-    tools/elab-rows [SEED [COUNT [FOLDER]]]     writes FOLDER/stdin and FOLDER/stdout, by default in crates/elab_rows
-
-First come the rows of crates/elab_rows/rows, as they are there. Of the random theories the first COUNT, by default 250,
-have four declarations that are well typed. Each further one has one name, type or number of arguments changed in one of
-those declarations, behind those before it. The elaborator here is plain: it gathers all faults of names and takes the one
-at the first token, it unifies by substitution on trees, and it looks for a type that is left open node by node. A thousand
-lists of patterns come last, ten in a line: each is exhaustive where each shape that is deeper than its patterns is met.
+First come the rows of crates/source_rows/declarations, as they are there. Of the random theories the first COUNT have four
+declarations that are well typed. Each further one has one name, type or number of arguments changed in one of those
+declarations, behind those before it. The elaborator here is plain: it gathers all faults of names and takes the one at the
+first token, it unifies by substitution on trees, and it looks for a type that is left open node by node. A thousand lists of
+patterns come last, ten in a line: each is exhaustive where each shape that is deeper than its patterns is met.
 """
 import copy
+import inspect
 import itertools
 import os
 import random
@@ -1519,12 +1518,12 @@ def cover_rows(rng, shapes):
 
 
 def rows_by_hand(folder):
-    """The rows of the files in `rows`: a source, and its answer behind four blanks in the next line. A line `before: TEXT`
-    or `after: TEXT` gives what stands around the sources behind it, a blank between."""
+    """The rows of a folder's files: a source, and its answer behind four blanks in the next line. A line `before: TEXT` or
+    `after: TEXT` gives what stands around the sources behind it, a blank between."""
     made = []
-    for name in sorted(os.listdir(f"{folder}/rows")):
+    for name in sorted(os.listdir(folder)):
         around = {"before:": "", "after:": ""}
-        with open(f"{folder}/rows/{name}", encoding="utf-8") as it:
+        with open(f"{folder}/{name}", encoding="utf-8") as it:
             lines = [line for line in it.read().split("\n") if line and not line.startswith("#")]
         source = None
         for line in lines:
@@ -1541,10 +1540,10 @@ def rows_by_hand(folder):
     return made
 
 
-def main():
-    seed = int(sys.argv[1]) if sys.argv[1:] else 1
-    count = int(sys.argv[2]) if sys.argv[2:] else 250
-    folder = sys.argv[3] if sys.argv[3:] else f"{TOP}/crates/elab_rows"
+def declaration_rows(seed, count):
+    """Lines of `stdin`, each with its answer."""
+    # A declaration that nests without end draws numbers up to this limit, so that the rows depend on it.
+    sys.setrecursionlimit(998 + len(inspect.stack()))
     rng = random.Random(seed)
     rows = [well_typed(rng) for _ in range(count)]
     rows += [changed(rng, declarations[: k + 1]) for declarations in rows[:] for k in range(len(declarations))]
@@ -1552,12 +1551,5 @@ def main():
     pairs = [(text, answer_of(Theory(), annotated)) for text, annotated in made]
     shapes = {kind: shapes_of(kind, 5) for kind in CONSTRUCTORS}
     pairs += [cover_rows(rng, shapes) for _ in range(100)]
-    pairs = rows_by_hand(f"{TOP}/crates/elab_rows") + pairs
-    with open(f"{folder}/stdin", "w", encoding="utf-8") as it:
-        it.writelines(text + "\n" for text, _ in pairs)
-    with open(f"{folder}/stdout", "w", encoding="utf-8") as it:
-        it.writelines(answer + "\n" for _, answer in pairs)
-
-
-if __name__ == "__main__":
-    main()
+    pairs = rows_by_hand(f"{TOP}/crates/source_rows/declarations") + pairs
+    return [(f"last {text}", answer) for text, answer in pairs]

@@ -1,0 +1,35 @@
+-- The entries of a signature are held, and scopes stay well kept where one is opened.
+use Rattle.std.proofs.Common.{ℕ, Bool, List, [], ◌∷◌, length, IfSome, Option, Some, None}
+use Rattle.std.specs.List.{All}
+use Rattle.std.proofs.lemmas.List.Elements.{All-nil, All-cons, All-append, All-weaker}
+use Rattle.trees.specs.Tree.{Tree}
+use Rattle.trees.specs.Node.{Holds}
+use Rattle.trees.specs.declared.TermId.{TermId}
+use Rattle.tasks.specs.Meaning.{SymbolHeld}
+use Rattle.tasks.specs.declared.signature.SymbolInfo.{SymbolInfo}
+use Rattle.names_space.specs.declared.Table.TheVariants.{Scopes}
+use Rattle.names_space.specs.declared.TypeName.TheVariants as stands
+use Rattle.names_space.specs.Names.{Names, Entry, with_entry, with_scope}
+use Rattle.syntax_why.specs.Lexeme.{Word}
+use Rattle.elab_walk.specs.Drafts.{HoldsType, SymbolTyped}
+use Rattle.elab_parts.specs.Entries.{IsEntry, AreScopes}
+use Rattle.elab_parts.proofs.Scopes.{scopes_more}
+
+result_held : (s : List Tree) (ty : Option TermId) → IfSome ty (HoldsType s) → IfSome ty (Holds s)
+result_held s None h = tt
+result_held s (Some id) h = h.held
+
+symbol_held : (s : List Tree) (i : SymbolInfo) → SymbolTyped s i → SymbolHeld s i
+symbol_held s i h = record {
+  args = All-weaker (HoldsType s) (Holds s) (λ id k. k.held) i.args h.args;
+  result = result_held s i.result h.result;
+}
+
+pub symbols_held : (s : List Tree) (is : List SymbolInfo) → All (SymbolTyped s) is → All (SymbolHeld s) is
+symbols_held s is h = All-weaker (SymbolTyped s) (SymbolHeld s) (symbol_held s) is h
+
+pub opened_scopes : (s : List Tree) (n : ℕ) (x : Word) (d : Bool) (names : Names) → AreScopes s n names → AreScopes s n (with_scope x d names)
+opened_scopes s n x d names h =
+    let P : List Entry → Type 0 = λ (es : List Entry). All (IsEntry s n) es in
+    let own = with_entry Scopes x (length names.entries) d names in
+    All-append P own.entries ([] ∷ []) (scopes_more s n names Scopes x (stands.Entry (length names.entries)) d tt h) (All-cons P [] [] (All-nil (IsEntry s n)) (All-nil P))
