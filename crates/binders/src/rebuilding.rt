@@ -169,7 +169,7 @@ fn rebuild_parts<G: Grow, V: Visit>(
 }
 
 /// The change of a tree. Each part of it is visited once under each number of binders.
-pub fn changed<G: Grow, V: Visit>(
+pub fn change_tree<G: Grow, V: Visit>(
     alloc: Global,
     g: &mut G,
     visit: &V,

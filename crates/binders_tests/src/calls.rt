@@ -56,7 +56,7 @@ fn is_closed_term(store: &Store, e: TermId) -> bool
     store.loose(e) == 0 && is(store, e, Sort::Term)
 }
 
-fn shifted(alloc: Global, store: &mut Store, e: TermId, up: usize, from: usize) -> Option<TermId> {
+fn try_shift(alloc: Global, store: &mut Store, e: TermId, up: usize, from: usize) -> Option<TermId> {
     if !store.holds(e) {
         return None;
     }
@@ -157,9 +157,9 @@ fn at_type(alloc: Global, store: &mut Store, e: TermId, ty: TermId) -> Option<Te
 }
 
 // The changed tree, where the call may be made.
-pub fn made(alloc: Global, store: &mut Store, e: TermId, change: Change) -> Option<TermId> {
+pub fn make_change(alloc: Global, store: &mut Store, e: TermId, change: Change) -> Option<TermId> {
     match change {
-        Change::Shift(up, from) => shifted(alloc, store, e, up, from),
+        Change::Shift(up, from) => try_shift(alloc, store, e, up, from),
         Change::Put(by) => {
             let by = TermId(by);
             match instance_by_closed(alloc, store, e, by) {
@@ -222,7 +222,7 @@ fn plain_put(
     above: usize,
 ) -> Option<TermId> {
     match (change, above) {
-        (Change::Put(by), 0) => shifted(alloc, store, TermId(by), depth, 0),
+        (Change::Put(by), 0) => try_shift(alloc, store, TermId(by), depth, 0),
         (Change::PutTwo(_, second), 0) => Some(TermId(second)),
         (Change::PutTwo(first, _), 1) => Some(TermId(first)),
         _ => None,
@@ -245,7 +245,7 @@ fn plain_index(change: Change, index: usize, above: usize) -> usize {
 }
 
 // The node of a tree below so many binders, over its changed children.
-fn rebuilt(
+fn rebuild_node(
     alloc: Global,
     store: &mut Store,
     node: Node,
@@ -291,10 +291,10 @@ pub fn plain(
     }
     let node = store.node(e);
     match node.parts() {
-        Parts::None => rebuilt(alloc, store, node, node, change, depth),
+        Parts::None => rebuild_node(alloc, store, node, node, change, depth),
         Parts::One(a) => {
             let x = plain(alloc, store, a, change, depth)?;
-            rebuilt(
+            rebuild_node(
                 alloc,
                 store,
                 node,

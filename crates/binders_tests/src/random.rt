@@ -1,6 +1,6 @@
 // Random trees of each kind, each changed by the calls and by the plain walk, and a chain that is too large for it.
 // They go through the calls of `binders` over a store; the tables stand on them.
-use crate::calls::{Change, is_made, made, plain, put};
+use crate::calls::{Change, is_made, make_change, plain, put};
 use std::alloc::Global;
 use term_store::Store;
 use trees::{Node, Op, TermId};
@@ -119,7 +119,7 @@ pub fn agree_on_random_trees(alloc: Global, store: &mut Store, seed: &mut u64) -
             _ => Change::Close(a % 4),
         };
         if is_small(store, e) && is_small(store, TermId(a)) {
-            if let Some(found) = made(alloc, store, e, change) {
+            if let Some(found) = make_change(alloc, store, e, change) {
                 if !agrees(alloc, store, e, change, found) {
                     return false;
                 }
@@ -139,7 +139,7 @@ pub fn put_into_chain(alloc: Global, store: &mut Store) -> Option<bool> {
     let mut outside = put(store, Node::Bound(0, TermId(1)))?;
     let mut inside = seven;
     for _ in 0..70 {
-        if made(alloc, store, open, Change::Put(seven.0)) != Some(outside) {
+        if make_change(alloc, store, open, Change::Put(seven.0)) != Some(outside) {
             return Some(false);
         }
         let below = open;

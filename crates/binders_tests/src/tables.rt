@@ -1,6 +1,6 @@
 // Trees with binders, and what each call makes of them, reasoned from the textbook's equations.
 // They go through the calls of `binders` over a store; nothing stands on them.
-use crate::calls::{Change, is_made, made, put};
+use crate::calls::{Change, is_made, make_change, put};
 use crate::random::{agree_on_random_trees, fill, put_into_chain};
 use binders::{has_param, occurs};
 use std::alloc::Global;
@@ -83,7 +83,7 @@ static MADE: [(Change, usize, usize); 37] = [
 ];
 
 // Whether each node has its place as its number.
-fn filled(store: &mut Store) -> bool {
+fn fill_store(store: &mut Store) -> bool {
     for (i, node) in NODES.iter().enumerate() {
         if put(store, *node) != Some(TermId(i)) {
             return false;
@@ -94,7 +94,7 @@ fn filled(store: &mut Store) -> bool {
 
 // Whether the calls make what a row says, and it is told without memory of that tree, and not of the empty list.
 fn is_row(alloc: Global, store: &mut Store, change: Change, e: TermId, wanted: TermId) -> bool {
-    made(alloc, store, e, change) == Some(wanted)
+    make_change(alloc, store, e, change) == Some(wanted)
         && is_made(store, e, change, wanted) != Some(false)
         && is_made(store, e, change, TermId(0)) != Some(true)
 }
@@ -111,7 +111,7 @@ fn part_in(store: &Store, part: TermId, param: usize, e: TermId) -> Option<(bool
 #[test]
 fn changes_trees(rt: HostRuntime) {
     let mut store = Store::new(rt.alloc()).expect(&rt, "memory");
-    assert!(rt; filled(&mut store));
+    assert!(rt; fill_store(&mut store));
     for (change, e, wanted) in MADE.iter() {
         let is = is_row(rt.alloc(), &mut store, *change, TermId(*e), TermId(*wanted));
         assert!(rt; is, "{e} {wanted}");

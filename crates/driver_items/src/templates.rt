@@ -104,7 +104,7 @@ fn is_as_wanted(pieces: &[Piece], arity: usize, number: usize) -> bool
     uses_of(pieces, number) == wanted
 }
 
-fn both(left: bool, right: bool) -> bool
+fn are_both(left: bool, right: bool) -> bool
     ensures { result ≡ (left && right) }
 {
     left && right
@@ -116,7 +116,7 @@ fn fits(pieces: &[Piece], arity: usize) -> bool
 {
     let mut all = arity <= 9;
     for number in 0..9 {
-        all = both(all, is_as_wanted(pieces, arity, number));
+        all = are_both(all, is_as_wanted(pieces, arity, number));
     }
     all
 }

@@ -5,7 +5,7 @@ ghost use Rattle.driver_tokens.specs.File.{Cuts, Gives, IsRefusal, lines_in, lin
 ghost use Rattle.driver_tokens.specs.Lines.{AreOnlyLines};
 
 use crate::fault::DriverSyntaxFault;
-use crate::lexer::lex;
+use crate::lexer::lex_driver;
 use crate::machine::{DriverState, Move, may_end, step};
 use crate::token::DriverToken;
 use std::alloc::{AllocError, Global};
@@ -71,7 +71,7 @@ pub fn read_lines(alloc: Global, text: &[u8]) -> Result<DriverText, DriverSyntax
     ensures lines { IfOk result (λ its. AreOnlyLines text.now (lines_in text.now its)) }
     ensures refused { IfErr result (IsRefusal text.now) }
 {
-    let tokens = lex(alloc, text)?;
+    let tokens = lex_driver(alloc, text)?;
     match cut(alloc, &tokens, text.len()) {
         Ok(lines) => Ok(DriverText { tokens, lines }),
         Err(fault) => Err(fault),

@@ -6,13 +6,14 @@ ghost use Rattle.driver_tokens.specs.Strings.{quoted};
 ghost use Rattle.driver_tokens.specs.Tokens.{lexeme_in, lexemes, mark_length, mark_of, number_length, string_length, terminal_of, token_length};
 ghost use Rattle.driver_tokens.specs.Words.{driver_words};
 
-use crate::bytes::{Run, is_digit, is_letter, is_operator_byte, run_end};
-use crate::gaps::{is_star_name, opens_comment, piece_length};
+use crate::bytes::{Run, run_end};
+use crate::gaps::piece_length;
 use crate::strings::{is_utf8, quote_end};
 use crate::terminal::DriverTerminal;
 use crate::token::DriverToken;
 use crate::words::{DriverWords, driver_words, word_of};
 use std::alloc::{AllocError, Global};
+use tokens_why::{is_digit, is_letter, is_operator_byte, is_star_name, opens_comment};
 
 fn number_end(text: &[u8], start: usize) -> usize
     requires { start < length text.now }
@@ -123,7 +124,7 @@ fn terminal_of(words: &DriverWords, word: &[u8]) -> DriverTerminal
 }
 
 /// The tokens of a text, in order. Where no token begins at a byte, the last one is `Nothing` there.
-pub fn lex(alloc: Global, text: &[u8]) -> Result<Vec<DriverToken>, AllocError>
+pub fn lex_driver(alloc: Global, text: &[u8]) -> Result<Vec<DriverToken>, AllocError>
     ensures { IfOk result (λ v. map (lexeme_in text.now) v.items ≡ lexemes text.now) }
 {
     let words = driver_words();

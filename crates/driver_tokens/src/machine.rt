@@ -190,7 +190,7 @@ fn removal(x: DriverTerminal) -> Move
 }
 
 /// What stands behind a name.
-fn behind(owner: Owner) -> DriverState
+fn state_after(owner: Owner) -> DriverState
     ensures { result ≡ spec.behind owner }
 {
     match owner {
@@ -216,7 +216,7 @@ fn name(owner: Owner, x: DriverTerminal) -> Move
     match x {
         DriverTerminal::Word(_) => Move::Within(DriverState::NameDot(owner)),
         DriverTerminal::Open => Move::Within(DriverState::Operator(owner)),
-        DriverTerminal::Star => Move::Within(behind(owner)),
+        DriverTerminal::Star => Move::Within(state_after(owner)),
         _ => Move::Stuck,
     }
 }
@@ -243,7 +243,7 @@ fn operator_end(owner: Owner, x: DriverTerminal) -> Move
     ensures { result ≡ spec.operator_end owner x }
 {
     match x {
-        DriverTerminal::Close => Move::Within(behind(owner)),
+        DriverTerminal::Close => Move::Within(state_after(owner)),
         DriverTerminal::Word(DriverWord::Line) => Move::Within(DriverState::OperatorClose(owner)),
         _ => Move::Stuck,
     }
@@ -253,7 +253,7 @@ fn operator_close(owner: Owner, x: DriverTerminal) -> Move
     ensures { result ≡ spec.operator_close owner x }
 {
     match x {
-        DriverTerminal::Close => Move::Within(behind(owner)),
+        DriverTerminal::Close => Move::Within(state_after(owner)),
         _ => Move::Stuck,
     }
 }

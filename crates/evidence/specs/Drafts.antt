@@ -8,7 +8,7 @@ use Rattle.trees.specs.Coding.{trees_code}
 use Rattle.tasks.specs.Task.{TaskTree}
 use Rattle.tasks.specs.Valid.{IsGroundFormula}
 use Rattle.tasks.specs.Meaning.{trees_at}
-use Rattle.rule_rows.specs.Trees.{StepTree, RCut, RKeep, step_or}
+use Rattle.rule_rows.specs.Trees.{StepTree, step_or}
 use Rattle.rule_rows.specs.Codes.{steps_code}
 use Rattle.tasks.specs.Codes.{task_code}
 
@@ -61,9 +61,3 @@ pub record HasLast (d : DraftTree) (k : ℕ) : Type 0 where
   pub front : List Tree
   pub last : Tree
   pub refutes : Refutes d k (front ++ last ∷ [])
-
-abbrev pub cut_step : List Tree → Tree → ℕ → ℕ → StepTree
-cut_step s a first second = record { sequent = s; rule = RCut a; premises = first ∷ second ∷ [] }
-
-abbrev pub keep_step : List Tree → List ℕ → ℕ → StepTree
-keep_step s places k = record { sequent = s; rule = RKeep places; premises = k ∷ [] }

@@ -23,7 +23,7 @@ use term_store::Grow;
 use trees::{Node, Op, TermId};
 
 /// The tail behind the front.
-pub fn joined(alloc: Global, front: &[TermId], tail: &[TermId]) -> Result<Vec<TermId>, AllocError>
+pub fn join_lists(alloc: Global, front: &[TermId], tail: &[TermId]) -> Result<Vec<TermId>, AllocError>
     ensures { IfOk result (λ v. v.items ≡ front.now ++ tail.now) }
 {
     let mut all = Vec::from_slice(alloc, front)?;
@@ -74,7 +74,7 @@ pub fn by_rule(
     ensures grows { Extends draft.old draft.new }
 {
     let alloc = draft.allocator();
-    let sequent = Seq::from_vec(joined(alloc, front, tail)?);
+    let sequent = Seq::from_vec(join_lists(alloc, front, tail)?);
     let premises = Seq::from_slice(alloc, premises)?;
     draft.push(Step {
         sequent,
@@ -105,8 +105,8 @@ pub fn by_clash(
     by_rule(draft, front, tail, rule, &[])
 }
 
-// The rule that takes a connective apart.
-fn holding(op: Op, place: usize) -> Rule
+/// The rule that takes a connective at a place apart.
+pub fn holding_rule(op: Op, place: usize) -> Rule
     ensures tree { (s : List Tree) → rule_at s result ≡ holding_rule op place }
     ensures held { (s : List Tree) → RuleHeld s result }
 {
@@ -120,8 +120,8 @@ fn holding(op: Op, place: usize) -> Rule
     }
 }
 
-// The rule that takes the negation of a connective apart.
-fn failing(op: Op, place: usize) -> Rule
+/// The rule that takes the negation of a connective at a place apart.
+pub fn failing_rule(op: Op, place: usize) -> Rule
     ensures tree { (s : List Tree) → rule_at s result ≡ failing_rule op place }
     ensures held { (s : List Tree) → RuleHeld s result }
 {
@@ -154,7 +154,7 @@ pub fn by_holding(
         (trees_at draft.old.trees front.now ++ trees_at draft.old.trees tail.now)) }
     ensures grows { Extends draft.old draft.new }
 {
-    let rule = holding(op, front.len() + place);
+    let rule = holding_rule(op, front.len() + place);
     by_rule(draft, front, tail, rule, premises)
 }
 
@@ -177,7 +177,7 @@ pub fn by_failing(
         (trees_at draft.old.trees front.now ++ trees_at draft.old.trees tail.now)) }
     ensures grows { Extends draft.old draft.new }
 {
-    let rule = failing(op, front.len() + place);
+    let rule = failing_rule(op, front.len() + place);
     by_rule(draft, front, tail, rule, premises)
 }
 
@@ -240,7 +240,7 @@ pub fn keep_but(
     let mut places = Vec::new(alloc);
     count_on(&mut places, 0, front.len())?;
     count_on(&mut places, front.len() + middle.len(), last.len())?;
-    let tail = joined(alloc, middle, last)?;
+    let tail = join_lists(alloc, middle, last)?;
     by_rule(
         draft,
         front,

@@ -1,16 +1,14 @@
 // Drafts: a store, a task, and steps that are right for it.
 // It stands on the kernel's right steps; the transformations and `lift_stage` push their steps here.
 ghost use Rattle.std.specs.Prelude.{◌≡◌, [], ◌∷◌, ◌++◌, length, All, IfOk, OnErr};
-ghost use Rattle.trees.specs.Node.{tree_at, Holds};
 ghost use Rattle.tasks.specs.Meaning.{trees_at, task_at, TaskHeld};
 ghost use Rattle.tasks.specs.Valid.{IsValid};
 ghost use Rattle.kernel.specs.Right.{IsRight, AreRight};
 ghost use Rattle.rule_rows.specs.Meaning.{step_at, steps_at, StepHeld, StepsHeld};
-ghost use Rattle.evidence.specs.Drafts.{Extends, AddsTrees, Refutes, cut_step, keep_step};
+ghost use Rattle.evidence.specs.Drafts.{Extends, AddsTrees, Refutes};
 ghost use Rattle.evidence.specs.Laws.{AddsTrees_refl, AddsTrees_trans, AddsTrees_trees};
 
-use outside::Seq;
-use rule_rows::{Rule, Step};
+use rule_rows::Step;
 use std::alloc::{AllocError, Global};
 use std::marker::Model;
 use std::rc::Rc;
@@ -116,71 +114,6 @@ impl Draft {
         let number = self.steps.len();
         self.steps.push(step)?;
         Ok(number)
-    }
-
-    /// Puts a cut at the end: `yes` refutes the sequent with the formula, `no` the sequent with its negation.
-    pub fn cut(
-        &mut self,
-        sequent: &[TermId],
-        formula: TermId,
-        yes: usize,
-        no: usize,
-    ) -> Result<usize, AllocError>
-        requires sequent_held { All (Holds self.old.trees) sequent.now }
-        requires formula_held { Holds self.old.trees formula }
-        requires right { IsRight self.old.task self.old.steps
-            (cut_step (trees_at self.old.trees sequent.now)
-            (tree_at self.old.trees formula) yes no) }
-        ensures number { IfOk result (λ k. k ≡ length self.old.steps) }
-        ensures pushed { IfOk result (λ _. self.new
-            ≡ record self.old {
-              steps = self.old.steps ++ cut_step
-                  (trees_at self.old.trees sequent.now) (tree_at self.old.trees formula) yes no
-                  ∷ [];
-            }) }
-        ensures unchanged { OnErr result (self.new ≡ self.old) }
-        ensures refutes { IfOk result (λ k. Refutes self.new k
-            (trees_at self.old.trees sequent.now)) }
-        ensures grows { Extends self.old self.new }
-    {
-        let sequent = Seq::from_slice(self.alloc, sequent)?;
-        let premises = Seq::from_vec(vec![in self.alloc; yes, no]?);
-        self.push(Step {
-            sequent,
-            rule: Rule::Cut(formula),
-            premises,
-        })
-    }
-
-    /// Puts a step at the end whose premise has the formulas at these places.
-    pub fn keep(
-        &mut self,
-        sequent: &[TermId],
-        places: &[usize],
-        step: usize,
-    ) -> Result<usize, AllocError>
-        requires sequent_held { All (Holds self.old.trees) sequent.now }
-        requires right { IsRight self.old.task self.old.steps
-            (keep_step (trees_at self.old.trees sequent.now) places.now step) }
-        ensures number { IfOk result (λ k. k ≡ length self.old.steps) }
-        ensures pushed { IfOk result (λ _. self.new
-            ≡ record self.old {
-              steps = self.old.steps ++ keep_step
-                  (trees_at self.old.trees sequent.now) places.now step ∷ [];
-            }) }
-        ensures unchanged { OnErr result (self.new ≡ self.old) }
-        ensures refutes { IfOk result (λ k. Refutes self.new k
-            (trees_at self.old.trees sequent.now)) }
-        ensures grows { Extends self.old self.new }
-    {
-        let sequent = Seq::from_slice(self.alloc, sequent)?;
-        let places = Seq::from_slice(self.alloc, places)?;
-        let premises = Seq::from_vec(vec![in self.alloc; step]?);
-        self.push(Step {
-            sequent,
-            rule: Rule::Keep(places),
-            premises,
-        })
     }
 }
 

@@ -67,7 +67,7 @@ fn copy_of(rule: &Rule) -> Result<Rule, AllocError>
 }
 
 // The numbers of premises in a draft.
-fn renumbered(
+fn renumber_premises(
     alloc: Global,
     numbers: &[usize],
     premises: &[usize],
@@ -101,7 +101,7 @@ fn lift_other(step: &Step, premises: Seq<usize>, draft: &mut Draft) -> Result<us
 }
 
 // What a rule cites: a fact by its name, and the types.
-fn cited(rule: &Rule) -> Option<(Fact, &[TermId])>
+fn cited_fact(rule: &Rule) -> Option<(Fact, &[TermId])>
     ensures some { (s : List Tree) → IfSome result (λ p. rule_at s rule.now
         ≡ citing p.0 (trees_at s p.1.now)) }
     ensures none { (s : List Tree) → IfNone result (CitesNone (rule_at s rule.now)) }
@@ -183,8 +183,8 @@ fn lift_step<T: Transform>(
         (trees_at draft.old.trees step.now.sequent)) }
     ensures grows { Extends draft.old draft.new }
 {
-    let premises = renumbered(draft.allocator(), numbers, step.premises.as_slice())?;
-    match cited(&step.rule) {
+    let premises = renumber_premises(draft.allocator(), numbers, step.premises.as_slice())?;
+    match cited_fact(&step.rule) {
         Some((name, types)) => {
             let sequent = step.sequent.as_slice();
             let with_fact = premises.as_slice()[0];

@@ -17,7 +17,7 @@ use term_store::Store;
 use trees::TermId;
 
 /// Why a transformation gives no tasks.
-#[derive(Clone, Copy, Debug, PartialEq, Eq)]
+#[derive(Clone, Copy)]
 pub enum StageFault {
     Memory,
     /// A declaration that the transformation doesn't take, by its place.

@@ -24,7 +24,7 @@ fn push_numbers(alloc: Global, text: &mut Vec<u8>, numbers: &[usize]) -> Result<
     Ok(())
 }
 
-fn shown(byte: u8) -> u8
+fn shown_byte(byte: u8) -> u8
     ensures { result ≡ spec.shown byte }
 {
     if byte == b'\t' {
@@ -36,7 +36,7 @@ fn shown(byte: u8) -> u8
     }
 }
 
-fn under(byte: u8) -> u8
+fn byte_under(byte: u8) -> u8
     ensures { result ≡ spec.under byte }
 {
     if byte == b'\t' { b'\t' } else { b' ' }
@@ -47,7 +47,7 @@ fn shown_line(alloc: Global, line: &[u8]) -> Result<Vec<u8>, AllocError>
 {
     let mut text = Vec::new(alloc);
     for byte in line {
-        text.push(shown(*byte))?;
+        text.push(shown_byte(*byte))?;
     }
     text.push(b'\n')?;
     Ok(text)
@@ -68,7 +68,7 @@ fn caret_line(alloc: Global, before: &[u8]) -> Result<Vec<u8>, AllocError>
     let mut text = Vec::new(alloc);
     for byte in before {
         if begins_character(*byte) {
-            text.push(under(*byte))?;
+            text.push(byte_under(*byte))?;
         }
     }
     text.extend_from_slice(b"^\n")?;

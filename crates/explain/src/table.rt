@@ -22,7 +22,7 @@ pub(crate) struct Row {
     pub words: &'static str,
 }
 
-fn found(fields: usize, counts: Counts, words: &'static str) -> Option<Row>
+fn make_row(fields: usize, counts: Counts, words: &'static str) -> Option<Row>
     ensures { option_map row_text result
         ≡ Some (record { fields = fields; counts = counts; words = words.now }) }
 {
@@ -38,73 +38,73 @@ pub(crate) fn row_of(code: usize) -> Option<Row>
     ensures { option_map row_text result ≡ row_of code }
 {
     match code {
-        10 => found(
+        10 => make_row(
             1,
             Counts::Bytes,
             "no token begins here, or a comment or attribute that isn't closed",
         ),
-        11 => found(1, Counts::Bytes, "integer literal above 2^127 - 1"),
-        12 => found(1, Counts::Tokens, "syntax error"),
-        13 => found(1, Counts::Tokens, "nested deeper than 200"),
-        14 => found(1, Counts::Tokens, "declaration of a program"),
-        15 => found(1, Counts::Nothing, "file longer than 67,108,864 bytes"),
-        16 => found(1, Counts::Nothing, "transformation that isn't built"),
-        20 => found(2, Counts::Tokens, "unknown name"),
-        21 => found(2, Counts::Tokens, "name that is taken"),
-        22 => found(
+        11 => make_row(1, Counts::Bytes, "integer literal above 2^127 - 1"),
+        12 => make_row(1, Counts::Tokens, "syntax error"),
+        13 => make_row(1, Counts::Tokens, "nested deeper than 200"),
+        14 => make_row(1, Counts::Tokens, "declaration of a program"),
+        15 => make_row(1, Counts::Nothing, "file longer than 67,108,864 bytes"),
+        16 => make_row(1, Counts::Nothing, "transformation that isn't built"),
+        20 => make_row(2, Counts::Tokens, "unknown name"),
+        21 => make_row(2, Counts::Tokens, "name that is taken"),
+        22 => make_row(
             2,
             Counts::Tokens,
             "formula where a term is due, term where a formula is due, or alternative with other names",
         ),
-        23 => found(2, Counts::Tokens, "wrong number of arguments"),
-        30 => found(2, Counts::Nothing, "types that clash"),
-        31 => found(2, Counts::Tokens, "type that is left open"),
-        32 => found(2, Counts::Tokens, "match that isn't exhaustive"),
-        33 => found(2, Counts::Nothing, "clause of another form"),
-        34 => found(
+        23 => make_row(2, Counts::Tokens, "wrong number of arguments"),
+        30 => make_row(2, Counts::Nothing, "types that clash"),
+        31 => make_row(2, Counts::Tokens, "type that is left open"),
+        32 => make_row(2, Counts::Tokens, "match that isn't exhaustive"),
+        33 => make_row(2, Counts::Nothing, "clause of another form"),
+        34 => make_row(
             2,
             Counts::Nothing,
             "predicate of the group where none is allowed",
         ),
-        35 => found(1, Counts::Nothing, "recursion that doesn't descend"),
-        36 => found(1, Counts::Nothing, "recursive group that is too wide"),
-        37 => found(1, Counts::Nothing, "type without a finite value"),
-        40 => found(2, Counts::Tokens, "clone element that doesn't fit"),
-        50 => found(2, Counts::Bytes, "syntax error"),
-        51 => found(2, Counts::Bytes, "unknown transformation"),
-        52 => found(
+        35 => make_row(1, Counts::Nothing, "recursion that doesn't descend"),
+        36 => make_row(1, Counts::Nothing, "recursive group that is too wide"),
+        37 => make_row(1, Counts::Nothing, "type without a finite value"),
+        40 => make_row(2, Counts::Tokens, "clone element that doesn't fit"),
+        50 => make_row(2, Counts::Bytes, "syntax error"),
+        51 => make_row(2, Counts::Bytes, "unknown transformation"),
+        52 => make_row(
             2,
             Counts::Bytes,
             "template that lacks an argument, or has one twice",
         ),
-        53 => found(2, Counts::Bytes, "unknown symbol"),
-        54 => found(
+        53 => make_row(2, Counts::Bytes, "unknown symbol"),
+        54 => make_row(
             2,
             Counts::Bytes,
             "import of a file that is being read, or too many imports",
         ),
-        55 => found(2, Counts::Bytes, "unknown printer, or none"),
-        60 => found(0, Counts::Nothing, "no such theory"),
-        61 => found(0, Counts::Nothing, "no such goal"),
-        70 => found(
+        55 => make_row(2, Counts::Bytes, "unknown printer, or none"),
+        60 => make_row(0, Counts::Nothing, "no such theory"),
+        61 => make_row(0, Counts::Nothing, "no such goal"),
+        70 => make_row(
             2,
             Counts::Nothing,
             "declaration that the stage doesn't take",
         ),
-        71 => found(1, Counts::Nothing, "task that is too large after the stage"),
-        80 => found(2, Counts::Nothing, "polymorphic proposition"),
-        81 => found(
+        71 => make_row(1, Counts::Nothing, "task that is too large after the stage"),
+        80 => make_row(2, Counts::Nothing, "polymorphic proposition"),
+        81 => make_row(
             2,
             Counts::Nothing,
             "declaration or form that the printer lacks",
         ),
-        82 => found(2, Counts::Nothing, "symbol without a template"),
-        90 => found(
+        82 => make_row(2, Counts::Nothing, "symbol without a template"),
+        90 => make_row(
             2,
             Counts::Nothing,
             "another number of refutations than of problems",
         ),
-        91 => found(
+        91 => make_row(
             2,
             Counts::Lines,
             "wrong line; behind the last line: the steps don't end in the start",

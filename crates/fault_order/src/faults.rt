@@ -7,7 +7,7 @@ use std::alloc::{AllocError, AllocFailed};
 
 /// What is wrong with the input. Bytes, tokens, declarations, files, stages and places count from 0, lines and
 /// parts from 1.
-#[derive(Clone, Copy, Debug, PartialEq, Eq)]
+#[derive(Clone, Copy)]
 pub enum Fault {
     /// 10: no token, blank, comment or attribute begins at this byte, or one that isn't closed begins there.
     Lexical { byte: usize },
@@ -82,7 +82,7 @@ pub enum Fault {
 }
 
 /// Why there is no text.
-#[derive(Clone, Copy, Debug, PartialEq, Eq)]
+#[derive(Clone, Copy)]
 pub enum RunFault {
     Memory,
     Absent { file: usize },

@@ -66,7 +66,7 @@ fn unsigned(word: &[u8]) -> Option<i128>
 }
 
 // The integer of a word after a minus.
-fn negated(word: &[u8]) -> Option<i128>
+fn negative_integer(word: &[u8]) -> Option<i128>
     ensures { result ≡ option_map negative
         (number_below 170141183460469231731687303715884105729 word.now) }
 {
@@ -93,7 +93,7 @@ pub fn integer(word: &[u8]) -> Option<i128>
         [] => None,
         [first, rest @ ..] => {
             if *first == MINUS {
-                negated(rest)
+                negative_integer(rest)
             } else {
                 unsigned(word)
             }

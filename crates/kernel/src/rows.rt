@@ -7,8 +7,8 @@ ghost use Rattle.kernel.specs.Open.{EachClosed, TemplateIsOpen};
 
 use fact_rows::{bound, clause, def, fact, inv, linear, trichotomy};
 use rule_rows::{
-    Rule, Tried, at_new, at_term, clash, cut, existential, failing, formula_at, holding, if_def,
-    irrefl, is_false, keep, let_def, negated, not_not, not_true, refl, replace, universal,
+    Rule, Tried, at_new, at_term, clash, cut, existential_parts, connective_fails, formula_at, connective_holds, if_def,
+    irrefl, is_false, keep, let_def, negated_formula, not_not, not_true, refl, replace, universal_parts,
 };
 use term_rows::{case, distinct, inject, match_def, project};
 use trees::Op;
@@ -29,29 +29,45 @@ pub(crate) fn row_holds<'a>(x: &'a Tried<'a>, rule: &'a Rule) -> bool
         Rule::Distinct(i) => distinct(x, *i),
         Rule::Linear(uses) => linear(x, uses.as_slice()),
         Rule::NotNot(i) => not_not(x, *i),
-        Rule::And(i) => holding(x, Op::And, formula_at(x, *i)),
-        Rule::NotAnd(i) => failing(x, Op::And, negated(x.store, formula_at(x, *i))),
-        Rule::AndThen(i) => holding(x, Op::AndThen, formula_at(x, *i)),
-        Rule::NotAndThen(i) => failing(x, Op::AndThen, negated(x.store, formula_at(x, *i))),
-        Rule::Or(i) => holding(x, Op::Or, formula_at(x, *i)),
-        Rule::NotOr(i) => failing(x, Op::Or, negated(x.store, formula_at(x, *i))),
-        Rule::OrElse(i) => holding(x, Op::OrElse, formula_at(x, *i)),
-        Rule::NotOrElse(i) => failing(x, Op::OrElse, negated(x.store, formula_at(x, *i))),
-        Rule::Imp(i) => holding(x, Op::Imp, formula_at(x, *i)),
-        Rule::NotImp(i) => failing(x, Op::Imp, negated(x.store, formula_at(x, *i))),
-        Rule::Iff(i) => holding(x, Op::Iff, formula_at(x, *i)),
-        Rule::NotIff(i) => failing(x, Op::Iff, negated(x.store, formula_at(x, *i))),
-        Rule::Forall(i, t) => at_term(x, universal(x.store, formula_at(x, *i)), *t, true),
+        Rule::And(i) => connective_holds(x, Op::And, formula_at(x, *i)),
+        Rule::NotAnd(i) => connective_fails(
+            x,
+            Op::And,
+            negated_formula(x.store, formula_at(x, *i)),
+        ),
+        Rule::AndThen(i) => connective_holds(x, Op::AndThen, formula_at(x, *i)),
+        Rule::NotAndThen(i) => connective_fails(
+            x,
+            Op::AndThen,
+            negated_formula(x.store, formula_at(x, *i)),
+        ),
+        Rule::Or(i) => connective_holds(x, Op::Or, formula_at(x, *i)),
+        Rule::NotOr(i) => connective_fails(x, Op::Or, negated_formula(x.store, formula_at(x, *i))),
+        Rule::OrElse(i) => connective_holds(x, Op::OrElse, formula_at(x, *i)),
+        Rule::NotOrElse(i) => connective_fails(
+            x,
+            Op::OrElse,
+            negated_formula(x.store, formula_at(x, *i)),
+        ),
+        Rule::Imp(i) => connective_holds(x, Op::Imp, formula_at(x, *i)),
+        Rule::NotImp(i) => connective_fails(
+            x,
+            Op::Imp,
+            negated_formula(x.store, formula_at(x, *i)),
+        ),
+        Rule::Iff(i) => connective_holds(x, Op::Iff, formula_at(x, *i)),
+        Rule::NotIff(i) => connective_fails(x, Op::Iff, negated_formula(x.store, formula_at(x, *i))),
+        Rule::Forall(i, t) => at_term(x, universal_parts(x.store, formula_at(x, *i)), *t, true),
         Rule::NotForall(i, n) => at_new(
             x,
-            universal(x.store, negated(x.store, formula_at(x, *i))),
+            universal_parts(x.store, negated_formula(x.store, formula_at(x, *i))),
             *n,
             false,
         ),
-        Rule::Exists(i, n) => at_new(x, existential(x.store, formula_at(x, *i)), *n, true),
+        Rule::Exists(i, n) => at_new(x, existential_parts(x.store, formula_at(x, *i)), *n, true),
         Rule::NotExists(i, t) => at_term(
             x,
-            existential(x.store, negated(x.store, formula_at(x, *i))),
+            existential_parts(x.store, negated_formula(x.store, formula_at(x, *i))),
             *t,
             false,
         ),

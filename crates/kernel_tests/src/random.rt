@@ -4,8 +4,8 @@ ghost use Rattle.std.specs.Prelude.{◌<◌};
 ghost use Rattle.rule_rows.specs.Meaning.{RuleHeld};
 
 use crate::nodes::NODES;
-use crate::small::{filled, held_or_int, small_task};
-use crate::steps::{before, step};
+use crate::small::{filled_store, held_or_int, small_task};
+use crate::steps::{premise_steps, step};
 use kernel::right_step;
 use rule_rows::Rule;
 use std::alloc::Global;
@@ -145,7 +145,7 @@ fn random(seed: &mut u64, bound: u64) -> usize
 }
 
 // One of some numbers.
-fn any(seed: &mut u64, ids: &[TermId]) -> TermId {
+fn pick_any(seed: &mut u64, ids: &[TermId]) -> TermId {
     let at = random(seed, 1000) % ids.len().max(1);
     ids.get(at).copied().unwrap_or(END)
 }
@@ -153,9 +153,9 @@ fn any(seed: &mut u64, ids: &[TermId]) -> TermId {
 // A formula of the task, seldom something else.
 fn any_formula(seed: &mut u64) -> TermId {
     if random(seed, 40) == 0 {
-        any(seed, &OTHERS)
+        pick_any(seed, &OTHERS)
     } else {
-        any(seed, &FORMULAS)
+        pick_any(seed, &FORMULAS)
     }
 }
 
@@ -177,7 +177,7 @@ fn put(store: &mut Store, node: Node) -> TermId {
 }
 
 // What a negation negates.
-fn negated(store: &Store, id: TermId) -> TermId {
+fn negation_of(store: &Store, id: TermId) -> TermId {
     match node_at(store, id) {
         Node::Not(a) => a,
         _ => END,
@@ -185,7 +185,7 @@ fn negated(store: &Store, id: TermId) -> TermId {
 }
 
 // A body with a closed term for its variable, so many levels deep.
-fn opened(store: &mut Store, e: TermId, term: TermId, depth: usize, levels: usize) -> TermId {
+fn open_at(store: &mut Store, e: TermId, term: TermId, depth: usize, levels: usize) -> TermId {
     if levels == 0 {
         return END;
     }
@@ -199,15 +199,15 @@ fn opened(store: &mut Store, e: TermId, term: TermId, depth: usize, levels: usiz
     };
     let parts = match node.parts() {
         Parts::None => return e,
-        Parts::One(a) => Parts::One(opened(store, a, term, depth, levels - 1)),
+        Parts::One(a) => Parts::One(open_at(store, a, term, depth, levels - 1)),
         Parts::Two(a, b) => {
-            let a = opened(store, a, term, depth, levels - 1);
-            Parts::Two(a, opened(store, b, term, under, levels - 1))
+            let a = open_at(store, a, term, depth, levels - 1);
+            Parts::Two(a, open_at(store, b, term, under, levels - 1))
         }
         Parts::Three(a, b, c) => {
-            let a = opened(store, a, term, depth, levels - 1);
-            let b = opened(store, b, term, depth, levels - 1);
-            Parts::Three(a, b, opened(store, c, term, depth, levels - 1))
+            let a = open_at(store, a, term, depth, levels - 1);
+            let b = open_at(store, b, term, depth, levels - 1);
+            Parts::Three(a, b, open_at(store, c, term, depth, levels - 1))
         }
     };
     put(store, node.with_parts(parts))
@@ -245,7 +245,7 @@ fn type_of(term: TermId) -> TermId {
 }
 
 // One premise with these formulas.
-fn one(a: TermId, b: TermId) -> Option<Premises> {
+fn one_premise(a: TermId, b: TermId) -> Option<Premises> {
     Some(Premises {
         count: 1,
         a,
@@ -255,7 +255,7 @@ fn one(a: TermId, b: TermId) -> Option<Premises> {
 }
 
 // Two premises with these formulas.
-fn two(a: TermId, b: TermId, c: TermId, d: TermId) -> Option<Premises> {
+fn two_premises(a: TermId, b: TermId, c: TermId, d: TermId) -> Option<Premises> {
     Some(Premises {
         count: 2,
         a,
@@ -266,7 +266,7 @@ fn two(a: TermId, b: TermId, c: TermId, d: TermId) -> Option<Premises> {
 }
 
 // What a connective adds where it holds, or where its negation does.
-fn joined(store: &mut Store, op: Op, f: TermId, holds: bool) -> Option<Premises> {
+fn join_premises(store: &mut Store, op: Op, f: TermId, holds: bool) -> Option<Premises> {
     let Node::Join(found, a, b) = node_at(store, f) else {
         return None;
     };
@@ -277,30 +277,30 @@ fn joined(store: &mut Store, op: Op, f: TermId, holds: bool) -> Option<Premises>
     let no_b = put(store, Node::Not(b));
     match op {
         Op::And | Op::AndThen => if holds {
-            one(a, b)
+            one_premise(a, b)
         } else {
-            two(no_a, END, no_b, END)
+            two_premises(no_a, END, no_b, END)
         },
         Op::Or | Op::OrElse => if holds {
-            two(a, END, b, END)
+            two_premises(a, END, b, END)
         } else {
-            one(no_a, no_b)
+            one_premise(no_a, no_b)
         },
         Op::Imp => if holds {
-            two(no_a, END, b, END)
+            two_premises(no_a, END, b, END)
         } else {
-            one(a, no_b)
+            one_premise(a, no_b)
         },
         Op::Iff => if holds {
-            two(a, b, no_a, no_b)
+            two_premises(a, b, no_a, no_b)
         } else {
-            two(a, no_b, no_a, b)
+            two_premises(a, no_b, no_a, b)
         },
     }
 }
 
 // What a quantifier adds at a term of its type, or at a new parameter.
-fn quantified(
+fn quantify_premises(
     store: &mut Store,
     sequent: &[TermId],
     choice: Choice,
@@ -308,7 +308,7 @@ fn quantified(
 ) -> Option<Premises> {
     let negates = choice.kind % 2 == 1;
     let universal = choice.kind < 14;
-    let f = if negates { negated(store, f) } else { f };
+    let f = if negates { negation_of(store, f) } else { f };
     let (ty, body, is_universal) = match node_at(store, f) {
         Node::Forall(ty, body) => (ty, body, true),
         Node::Exists(ty, body) => (ty, body, false),
@@ -330,30 +330,30 @@ fn quantified(
         }
         put(store, Node::Param(choice.j, ty))
     };
-    let made = opened(store, body, term, 0, LEVELS);
+    let made = open_at(store, body, term, 0, LEVELS);
     if negates {
-        one(put(store, Node::Not(made)), END)
+        one_premise(put(store, Node::Not(made)), END)
     } else {
-        one(made, END)
+        one_premise(made, END)
     }
 }
 
 // What a replacement adds: the template at the second side of the equation, where the first one's stands.
-fn replaced(store: &mut Store, f: TermId, g: TermId, template: TermId) -> Option<Premises> {
+fn replace_formula(store: &mut Store, f: TermId, g: TermId, template: TermId) -> Option<Premises> {
     let Node::Eq(a, b) = node_at(store, f) else {
         return None;
     };
     if template != TermId(5) && type_of(a) != INT {
         return None;
     }
-    if g == END || opened(store, template, a, 0, LEVELS) != g {
+    if g == END || open_at(store, template, a, 0, LEVELS) != g {
         return None;
     }
-    one(opened(store, template, b, 0, LEVELS), END)
+    one_premise(open_at(store, template, b, 0, LEVELS), END)
 }
 
 // The symbol of a constructor of t and its only argument, if it has one.
-fn constructed(store: &Store, e: TermId) -> Option<(usize, TermId)> {
+fn constructor_parts(store: &Store, e: TermId) -> Option<(usize, TermId)> {
     match node_at(store, e) {
         Node::Fun(4, _, args, _) => match node_at(store, args) {
             Node::Cell(a, _) => Some((4, a)),
@@ -365,21 +365,21 @@ fn constructed(store: &Store, e: TermId) -> Option<(usize, TermId)> {
 }
 
 // What two constructors in an equation add.
-fn equated(store: &mut Store, f: TermId, injects: bool) -> Option<Premises> {
+fn equate_premises(store: &mut Store, f: TermId, injects: bool) -> Option<Premises> {
     let Node::Eq(a, b) = node_at(store, f) else {
         return None;
     };
-    let (c, s) = constructed(store, a)?;
-    let (d, t) = constructed(store, b)?;
+    let (c, s) = constructor_parts(store, a)?;
+    let (d, t) = constructor_parts(store, b)?;
     if (c == d) != injects {
         return None;
     }
     if !injects {
         Some(NO_PREMISES)
     } else if s == END {
-        one(END, END)
+        one_premise(END, END)
     } else {
-        one(put(store, Node::Eq(s, t)), END)
+        one_premise(put(store, Node::Eq(s, t)), END)
     }
 }
 
@@ -388,42 +388,42 @@ fn nothing_if(holds: bool) -> Option<Premises> {
 }
 
 // What the premises of a rule add to a sequent of formulas, where it may be used.
-fn added(store: &mut Store, sequent: &[TermId], choice: Choice) -> Option<Premises> {
+fn add_formulas(store: &mut Store, sequent: &[TermId], choice: Choice) -> Option<Premises> {
     let f = sequent.get(choice.i).copied().unwrap_or(END);
     let g = sequent.get(choice.j).copied().unwrap_or(END);
-    let n = negated(store, f);
+    let n = negation_of(store, f);
     let op = OPS[choice.kind % 6];
     match choice.kind {
-        0..=5 => joined(store, op, f, true),
-        6..=11 => joined(store, op, n, false),
-        12..=15 => quantified(store, sequent, choice, f),
+        0..=5 => join_premises(store, op, f, true),
+        6..=11 => join_premises(store, op, n, false),
+        12..=15 => quantify_premises(store, sequent, choice, f),
         16 => nothing_if(matches!(node_at(store, f), Node::False)),
         17 => nothing_if(matches!(node_at(store, n), Node::True)),
-        18 => nothing_if(f != END && negated(store, g) == f),
+        18 => nothing_if(f != END && negation_of(store, g) == f),
         19 => match node_at(store, n) {
             Node::Eq(a, b) => nothing_if(a == b),
             _ => None,
         },
         20 => {
-            let a = negated(store, n);
-            if a == END { None } else { one(a, END) }
+            let a = negation_of(store, n);
+            if a == END { None } else { one_premise(a, END) }
         }
         21 => {
             if !FORMULAS.contains(&choice.tree) {
                 return None;
             }
             let no = put(store, Node::Not(choice.tree));
-            two(choice.tree, END, no, END)
+            two_premises(choice.tree, END, no, END)
         }
         22 => {
             if type_of(choice.tree) == END {
                 return None;
             }
-            one(put(store, Node::Eq(choice.tree, choice.tree)), END)
+            one_premise(put(store, Node::Eq(choice.tree, choice.tree)), END)
         }
-        23 => replaced(store, f, g, choice.tree),
-        24 => equated(store, f, false),
-        _ => equated(store, f, true),
+        23 => replace_formula(store, f, g, choice.tree),
+        24 => equate_premises(store, f, false),
+        _ => equate_premises(store, f, true),
     }
 }
 
@@ -431,8 +431,8 @@ fn any_choice(seed: &mut u64) -> Choice {
     let kind = random(seed, KINDS);
     let tree = match kind {
         21 => any_formula(seed),
-        23 => any(seed, &TEMPLATES),
-        _ => any(seed, &TERMS),
+        23 => pick_any(seed, &TEMPLATES),
+        _ => pick_any(seed, &TERMS),
     };
     Choice {
         kind,
@@ -479,7 +479,7 @@ fn rule_of(store: &Store, choice: Choice) -> Rule
 }
 
 // The same with a change: another formula, one more or one less, another number of premises, or the premises exchanged.
-fn changed(seed: &mut u64, p: Premises) -> Premises {
+fn change_premises(seed: &mut u64, p: Premises) -> Premises {
     let formula = any_formula(seed);
     match random(seed, 6) {
         0 => Premises { a: formula, ..p },
@@ -517,7 +517,7 @@ fn are_asked(asked: Option<Premises>, p: Premises) -> bool {
 }
 
 // A sequent with formulas behind it.
-fn behind(rt: &impl Abort, alloc: Global, sequent: &[TermId], a: TermId, b: TermId) -> Vec<TermId> {
+fn with_formulas(rt: &impl Abort, alloc: Global, sequent: &[TermId], a: TermId, b: TermId) -> Vec<TermId> {
     let mut all = Vec::from_slice(alloc, sequent).expect(rt, MEMORY);
     for formula in &[a, b] {
         if *formula != END {
@@ -537,9 +537,9 @@ fn is_taken(
     p: Premises,
 ) -> bool {
     let task = small_task(rt, alloc, store, true);
-    let first = behind(rt, alloc, sequent, p.a, p.b);
-    let second = behind(rt, alloc, sequent, p.c, p.d);
-    let earlier = before(rt, alloc, store, &[&first, &second]);
+    let first = with_formulas(rt, alloc, sequent, p.a, p.b);
+    let second = with_formulas(rt, alloc, sequent, p.c, p.d);
+    let earlier = premise_steps(rt, alloc, store, &[&first, &second]);
     let rule = rule_of(store, choice);
     let tried = step(
         rt,
@@ -557,13 +557,13 @@ fn try_one(rt: &impl Abort, alloc: Global, store: &mut Store, seed: &mut u64) ->
     let formulas = [any_formula(seed), any_formula(seed), any_formula(seed)];
     let sequent = &formulas[..random(seed, 3) + 1];
     let choice = any_choice(seed);
-    let asked = added(store, sequent, choice);
+    let asked = add_formulas(store, sequent, choice);
     let mut p = asked.unwrap_or(Premises {
         count: 1,
         ..NO_PREMISES
     });
     if random(seed, 2) == 0 {
-        p = changed(seed, p);
+        p = change_premises(seed, p);
     }
     let are_formulas = sequent.iter().all(|f| FORMULAS.contains(f));
     let right = are_formulas && are_asked(asked, p);
@@ -581,7 +581,7 @@ fn try_one(rt: &impl Abort, alloc: Global, store: &mut Store, seed: &mut u64) ->
 
 #[test]
 fn random_steps_are_right_or_wrong(rt: HostRuntime) {
-    let mut store = filled(&rt, rt.alloc(), &NODES);
+    let mut store = filled_store(&rt, rt.alloc(), &NODES);
     let mut seed = 7;
     let mut were_right = [false; 26];
     for _ in 0..20_000 {

@@ -51,7 +51,7 @@ static SYMBOLS: [(SymbolKind, &[TermId], &[TermId]); 17] = [
 ];
 
 /// A store with these nodes.
-pub(crate) fn filled(rt: &impl Abort, alloc: Global, nodes: &[Node]) -> Store {
+pub(crate) fn filled_store(rt: &impl Abort, alloc: Global, nodes: &[Node]) -> Store {
     let mut store = Store::new(alloc).expect(rt, MEMORY);
     for (place, node) in nodes.iter().enumerate() {
         assert!(rt; store.accepts(*node));
@@ -191,7 +191,7 @@ fn algebraic(rt: &impl Abort, alloc: Global, store: &Store) -> Body
 }
 
 // The function f with its equation.
-fn defined(rt: &impl Abort, alloc: Global, store: &Store) -> Body
+fn definition_of(rt: &impl Abort, alloc: Global, store: &Store) -> Body
     ensures { BodyHeld store.now result }
 {
     let equation = held_or_int(store, Some(TermId(20)));
@@ -226,7 +226,14 @@ fn decls(rt: &impl Abort, alloc: Global, store: &Store, ints: bool) -> Seq<Decl>
     declare(rt, alloc, store, &mut all, 0, Body::Symbol(1));
     declare(rt, alloc, store, &mut all, 0, Body::Symbol(2));
     declare(rt, alloc, store, &mut all, 0, algebraic(rt, alloc, store));
-    declare(rt, alloc, store, &mut all, 0, defined(rt, alloc, store));
+    declare(
+        rt,
+        alloc,
+        store,
+        &mut all,
+        0,
+        definition_of(rt, alloc, store),
+    );
     declare(rt, alloc, store, &mut all, 0, inductive(rt, alloc, store));
     let axiom = held_or_int(store, Some(TermId(26)));
     declare(rt, alloc, store, &mut all, 0, Body::Prop(axiom));

@@ -3,7 +3,7 @@
 ghost use Rattle.rule_rows.specs.Meaning.{RuleHeld, StepHeld, StepsHeld};
 
 use crate::nodes::NODES;
-use crate::small::{filled, ids_of, small_task};
+use crate::small::{filled_store, ids_of, small_task};
 use kernel::right_step;
 use outside::Seq;
 use rule_rows::{Rule, Step};
@@ -39,7 +39,7 @@ pub(crate) fn step(
 }
 
 // Steps with these sequents, which are premises.
-pub(crate) fn before(
+pub(crate) fn premise_steps(
     rt: &impl Abort,
     alloc: Global,
     store: &Store,
@@ -59,7 +59,7 @@ pub(crate) fn before(
 #[test]
 fn integers_are_declared(rt: HostRuntime) {
     let alloc = rt.alloc();
-    let store = filled(&rt, alloc, &NODES);
+    let store = filled_store(&rt, alloc, &NODES);
     let task = small_task(&rt, alloc, &store, false);
     let uses = Seq::from_slice(alloc, &[(0, 1)]).expect(&rt, MEMORY);
     let tried = step(&rt, alloc, &store, &[EQUATION], Rule::Linear(uses), &[]);
@@ -69,9 +69,9 @@ fn integers_are_declared(rt: HostRuntime) {
 #[test]
 fn a_sequent_has_no_schematic_formula(rt: HostRuntime) {
     let alloc = rt.alloc();
-    let store = filled(&rt, alloc, &NODES);
+    let store = filled_store(&rt, alloc, &NODES);
     let task = small_task(&rt, alloc, &store, true);
-    let earlier = before(&rt, alloc, &store, &[&[]]);
+    let earlier = premise_steps(&rt, alloc, &store, &[&[]]);
     let rule = Rule::Keep(Seq::new(alloc));
     let tried = step(&rt, alloc, &store, &[SCHEMATIC], rule, &[0]);
     assert!(rt; !right_step(&store, &task, earlier.as_slice(), &tried));

@@ -30,7 +30,7 @@ struct Leaf<'a> {
     uses: &'a [(usize, i128)],
 }
 
-fn less(a: TermId, b: TermId) -> Bound
+fn less_bound(a: TermId, b: TermId) -> Bound
     ensures { result ≡ record { left = a; right = b; strict = true; equation = false } }
 {
     Bound {
@@ -53,17 +53,17 @@ fn at_most(a: TermId, b: TermId) -> Bound
 }
 
 // A comparison.
-fn compared(ints: &Ints, p: usize, a: TermId, b: TermId) -> Option<Bound>
+fn comparison_bound(ints: &Ints, p: usize, a: TermId, b: TermId) -> Option<Bound>
     ensures tree { (s : List Tree) → option_map (bound_at s) result
         ≡ compared ints.now p (tree_at s a) (tree_at s b) }
     ensures held { (s : List Tree) → Holds s a → Holds s b → IfSome result (BoundHeld s) }
 {
     if p == ints.lt {
-        Some(less(a, b))
+        Some(less_bound(a, b))
     } else if p == ints.le {
         Some(at_most(a, b))
     } else if p == ints.gt {
-        Some(less(b, a))
+        Some(less_bound(b, a))
     } else if p == ints.ge {
         Some(at_most(b, a))
     } else {
@@ -72,7 +72,7 @@ fn compared(ints: &Ints, p: usize, a: TermId, b: TermId) -> Option<Bound>
 }
 
 // The negation of a comparison.
-fn uncompared(ints: &Ints, p: usize, a: TermId, b: TermId) -> Option<Bound>
+fn negation_bound(ints: &Ints, p: usize, a: TermId, b: TermId) -> Option<Bound>
     ensures tree { (s : List Tree) → option_map (bound_at s) result
         ≡ uncompared ints.now p (tree_at s a) (tree_at s b) }
     ensures held { (s : List Tree) → Holds s a → Holds s b → IfSome result (BoundHeld s) }
@@ -80,11 +80,11 @@ fn uncompared(ints: &Ints, p: usize, a: TermId, b: TermId) -> Option<Bound>
     if p == ints.lt {
         Some(at_most(b, a))
     } else if p == ints.le {
-        Some(less(b, a))
+        Some(less_bound(b, a))
     } else if p == ints.gt {
         Some(at_most(a, b))
     } else if p == ints.ge {
-        Some(less(a, b))
+        Some(less_bound(a, b))
     } else {
         None
     }
@@ -109,7 +109,7 @@ fn pair(store: &Store, list: TermId) -> Option<(TermId, TermId)>
 }
 
 // A formula that may stand in the sum.
-fn bounded(store: &Store, ints: &Ints, f: TermId) -> Option<Bound>
+fn formula_bound(store: &Store, ints: &Ints, f: TermId) -> Option<Bound>
     requires { Holds store.now f }
     ensures tree { option_map (bound_at store.now) result ≡ bounded ints.now (tree_at store.now f) }
     ensures held { IfSome result (BoundHeld store.now) }
@@ -123,12 +123,12 @@ fn bounded(store: &Store, ints: &Ints, f: TermId) -> Option<Bound>
         }),
         Node::Pred(p, _, args) => {
             let (a, b) = pair(store, args)?;
-            compared(ints, p, a, b)
+            comparison_bound(ints, p, a, b)
         },
         Node::Not(inner) => match store.node(inner) {
             Node::Pred(p, _, args) => {
                 let (a, b) = pair(store, args)?;
-                uncompared(ints, p, a, b)
+                negation_bound(ints, p, a, b)
             },
             _ => None,
         },
@@ -144,7 +144,7 @@ fn bounded_at(x: &Leaf<'_>, place: usize) -> Option<Bound>
     ensures held { IfSome result (BoundHeld x.now.store.now) }
 {
     match x.sequent.get(place) {
-        Some(f) => bounded(x.store, x.ints, *f),
+        Some(f) => formula_bound(x.store, x.ints, *f),
         None => None,
     }
 }

@@ -142,7 +142,7 @@ static ROWS: [(&[TermId], &[(usize, i128)], bool); 27] = [
 ];
 
 // The store of the rows.
-fn filled(rt: &impl Abort, alloc: Global) -> Store {
+fn filled_store(rt: &impl Abort, alloc: Global) -> Store {
     let mut store = Store::new(alloc).expect(rt, MEMORY);
     for (place, node) in NODES.iter().enumerate() {
         assert!(rt; store.accepts(*node));
@@ -163,7 +163,7 @@ fn are_held(store: &Store, sequent: &[TermId]) -> bool
 
 #[test]
 fn a_leaf_closes_or_does_not(rt: HostRuntime) {
-    let store = filled(&rt, rt.alloc());
+    let store = filled_store(&rt, rt.alloc());
     for (sequent, uses, closes) in ROWS.iter() {
         assert!(rt; are_held(&store, sequent));
         assert!(rt; closes_linear(&store, &INTS, sequent, uses) == *closes);

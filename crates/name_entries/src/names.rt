@@ -13,7 +13,7 @@ pub enum NameOf {
 }
 
 /// An entry of a name table.
-#[derive(Debug, Drop)]
+#[derive(Drop)]
 pub struct NameEntry {
     pub name: Text,
     pub symbol: NameOf,

@@ -13,7 +13,7 @@ fn own_name(name: &[u8]) -> &[u8]
 {
     let mut start = 0;
     for place in 0..name.len() {
-        if name[place] == 46 {
+        if name[place] == b'.' {
             start = place + 1;
         }
     }
@@ -21,27 +21,27 @@ fn own_name(name: &[u8]) -> &[u8]
 }
 
 // The word of a character of operators, and nothing for another byte.
-fn spelt(byte: u8) -> &'static [u8]
+fn character_word(byte: u8) -> &'static [u8]
     ensures { result.now ≡ spelt byte }
 {
     match byte {
-        33 => b"_bang",
-        36 => b"_dollar",
-        38 => b"_amp",
-        63 => b"_quest",
-        64 => b"_at",
-        94 => b"_caret",
-        35 => b"_hash",
-        61 => b"_eq",
-        60 => b"_lt",
-        62 => b"_gt",
-        126 => b"_tilde",
-        43 => b"_plus",
-        45 => b"_minus",
-        42 => b"_star",
-        47 => b"_slash",
-        92 => b"_back",
-        37 => b"_pct",
+        b'!' => b"_bang",
+        b'$' => b"_dollar",
+        b'&' => b"_amp",
+        b'?' => b"_quest",
+        b'@' => b"_at",
+        b'^' => b"_caret",
+        b'#' => b"_hash",
+        b'=' => b"_eq",
+        b'<' => b"_lt",
+        b'>' => b"_gt",
+        b'~' => b"_tilde",
+        b'+' => b"_plus",
+        b'-' => b"_minus",
+        b'*' => b"_star",
+        b'/' => b"_slash",
+        b'\\' => b"_back",
+        b'%' => b"_pct",
         _ => b"",
     }
 }
@@ -49,7 +49,7 @@ fn spelt(byte: u8) -> &'static [u8]
 fn is_operator_byte(byte: u8) -> bool
     ensures { result ≡ is_operator_byte byte }
 {
-    match spelt(byte) {
+    match character_word(byte) {
         [] => false,
         _ => true,
     }
@@ -60,7 +60,7 @@ fn is_prefix(name: &[u8]) -> bool
     ensures { result ≡ is_prefix name.now }
 {
     match name.last() {
-        Some(byte) => *byte == 95,
+        Some(byte) => *byte == b'_',
         None => false,
     }
 }
@@ -76,7 +76,7 @@ fn push_spelt(made: &mut Vec<u8>, name: &[u8]) -> Result<(), AllocError>
     ensures { OnOk result (made.new.items ≡ made.old.items ++ flat_map spelt name.now) }
 {
     for byte in name {
-        made.extend_from_slice(spelt(*byte))?;
+        made.extend_from_slice(character_word(*byte))?;
     }
     Ok(())
 }
@@ -92,14 +92,14 @@ fn push_operator(made: &mut Vec<u8>, name: &[u8]) -> Result<(), AllocError>
 fn clean_byte(byte: u8) -> u8
     ensures { result ≡ clean_byte byte }
 {
-    if byte == 39 { 113 } else { byte }
+    if byte == b'\'' { b'q' } else { byte }
 }
 
 // A letter in lower case.
 fn lower(byte: u8) -> u8
     ensures { result ≡ lower byte }
 {
-    if 65 <= byte && byte <= 90 {
+    if b'A' <= byte && byte <= b'Z' {
         byte + 32
     } else {
         byte
@@ -109,7 +109,7 @@ fn lower(byte: u8) -> u8
 fn push_first(made: &mut Vec<u8>, byte: u8) -> Result<(), AllocError>
     ensures { OnOk result (made.new.items ≡ made.old.items ++ clean_first byte) }
 {
-    if byte == 95 {
+    if byte == b'_' {
         made.extend_from_slice(b"u_")?;
         return Ok(());
     }
@@ -149,7 +149,7 @@ pub fn name_at_place(alloc: Global, name: &[u8], place: usize) -> Result<Text, A
 {
     let mut made = Vec::new(alloc);
     push_clean(&mut made, own_name(name))?;
-    made.push(95)?;
+    made.push(b'_')?;
     let digits = place.to_string(alloc)?;
     made.extend_from_slice(digits.as_bytes())?;
     Ok(Text::from_vec(made))

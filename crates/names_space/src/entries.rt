@@ -11,14 +11,14 @@ use std::collections::HashMap;
 use std::marker::Model;
 
 /// The latest thing of a name in a table, and whether the name was declared there.
-#[derive(Clone, Copy, Debug)]
+#[derive(Clone, Copy)]
 pub struct Meaning {
     pub thing: TypeName,
     pub declared: bool,
 }
 
 /// What a name means in each table.
-#[derive(Clone, Copy, Debug)]
+#[derive(Clone, Copy)]
 pub struct Meanings {
     pub types: Option<Meaning>,
     pub symbols: Option<Meaning>,
@@ -90,7 +90,7 @@ impl Meanings {
         }
     }
 
-    fn with(self, table: Table, meaning: Option<Meaning>) -> Meanings
+    fn with_meaning(self, table: Table, meaning: Option<Meaning>) -> Meanings
         ensures { (other : Table) → meaning_in other result
             ≡ (if same_table other table then meaning else meaning_in other self) }
     {
@@ -166,7 +166,7 @@ impl Entries {
     }
 
     /// What a name means in each table.
-    fn known(&self, name: &[u8]) -> Meanings
+    fn meanings_of(&self, name: &[u8]) -> Meanings
         ensures { (table : Table) → meaning_in table result ≡ meaning table name.now self.now }
     {
         match self.meanings.get(name) {
@@ -179,14 +179,14 @@ impl Entries {
     pub fn latest(&self, table: Table, name: &[u8]) -> Option<TypeName>
         ensures { result ≡ latest table name.now self.now }
     {
-        thing_of(self.known(name).in_table(table))
+        thing_of(self.meanings_of(name).in_table(table))
     }
 
     /// Whether this name was declared in this table.
     pub fn is_declared(&self, table: Table, name: &[u8]) -> bool
         ensures { result ≡ is_declared table name.now self.now }
     {
-        was_declared(self.known(name).in_table(table))
+        was_declared(self.meanings_of(name).in_table(table))
     }
 
     /// Adds an entry. Where memory is wanting, all stays.
@@ -203,7 +203,7 @@ impl Entries {
         ensures err { OnErr result (self.new ≡ self.old) }
     {
         let key = Vec::from_slice(*name.allocator(), name.as_slice())?;
-        let known = self.known(name.as_slice());
+        let known = self.meanings_of(name.as_slice());
         let before = known.in_table(table);
         let meaning = meaning_after(before, thing, declared);
         let count = self.stored.len();
@@ -214,7 +214,7 @@ impl Entries {
             declared,
             before,
         })?;
-        match self.meanings.insert(key, known.with(table, Some(meaning))) {
+        match self.meanings.insert(key, known.with_meaning(table, Some(meaning))) {
             Ok(_) => {}
             Err(_) => {
                 self.stored.truncate(count);
@@ -231,7 +231,7 @@ impl Entries {
     {
         if let Some(last) = self.stored.pop() {
             if let Some(known) = self.meanings.get_mut(last.name.as_slice()) {
-                *known = known.with(last.table, last.before);
+                *known = known.with_meaning(last.table, last.before);
             }
         }
     }

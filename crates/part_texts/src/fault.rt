@@ -9,7 +9,7 @@ use std::alloc::{AllocError, AllocFailed};
 
 /// Why the parts of a goal have no texts. Parts count from 1; a declaration counts from 0 in its part, where locals and the goal
 /// have the number of declarations.
-#[derive(Clone, Copy, Debug, PartialEq, Eq)]
+#[derive(Clone, Copy)]
 pub enum PartFault {
     Memory,
     /// A schematic type variable stands in this declaration.

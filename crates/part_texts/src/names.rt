@@ -23,9 +23,23 @@ fn is_operator(name: &[u8]) -> bool
     match name {
         [] => false,
         [byte, ..] => match byte {
-            33 | 35 | 36 | 37 | 38 | 42 | 43 | 45 | 47 | 60 | 61 | 62 | 63 | 64 | 92 | 94 | 126 => {
-                true
-            }
+            b'!'
+            | b'#'
+            | b'$'
+            | b'%'
+            | b'&'
+            | b'*'
+            | b'+'
+            | b'-'
+            | b'/'
+            | b'<'
+            | b'='
+            | b'>'
+            | b'?'
+            | b'@'
+            | b'\\'
+            | b'^'
+            | b'~' => true,
             _ => false,
         },
     }
@@ -38,7 +52,7 @@ fn own_start(name: &[u8]) -> usize
 {
     let mut start = 0;
     for place in 0..name.len() {
-        if name[place] == 46 {
+        if name[place] == b'.' {
             start = place + 1;
         }
     }
@@ -83,9 +97,9 @@ fn push_symbol(out: &mut Vec<u8>, symbol: &SymbolInfo) -> Result<(), AllocError>
         ++ symbol_words (symbol_at s symbol.now)) }
 {
     out.extend_from_slice(kind_word(symbol.kind))?;
-    out.push(32)?;
+    out.push(b' ')?;
     out.extend_from_slice(symbol.theory.as_slice())?;
-    out.push(46)?;
+    out.push(b'.')?;
     push_name(out, symbol.name.as_slice())
 }
 
@@ -134,7 +148,7 @@ fn push_words(out: &mut Vec<u8>, sig: &Signature, its: NameOf) -> Result<(), All
 fn push_type(out: &mut Vec<u8>, names: &[NameEntry], place: usize) -> Result<(), AllocError>
     ensures { OnOk result (out.new.items ≡ out.old.items ++ type_words names.now place) }
 {
-    out.push(32)?;
+    out.push(b' ')?;
     match names.get(place) {
         Some(entry) => out.extend_from_slice(entry.name.as_slice()),
         None => Ok(()),
@@ -163,10 +177,10 @@ fn push_entry(
         ++ entry_line (symbols_at s sig.now.symbols) names.now entry.now) }
 {
     out.extend_from_slice(entry.name.as_slice())?;
-    out.push(32)?;
+    out.push(b' ')?;
     push_words(out, sig, entry.symbol)?;
     push_types(out, names, entry.types.as_slice())?;
-    out.push(10)?;
+    out.push(b'\n')?;
     Ok(())
 }
 
@@ -180,7 +194,7 @@ fn push_head(alloc: Global, out: &mut Vec<u8>, part: usize, parts: usize) -> Res
     out.extend_from_slice(b" of ")?;
     let count = parts.to_string(alloc)?;
     out.extend_from_slice(count.as_bytes())?;
-    out.push(10)?;
+    out.push(b'\n')?;
     Ok(())
 }
 

@@ -10,7 +10,7 @@ use std::alloc::{AllocError, AllocFailed};
 /// - `Polymorphic`: a schematic type variable stands in this declaration.
 /// - `Unprintable`: this declaration is of a kind, or has a form, that the printer lacks.
 /// - `NoSyntax`: `int` or a symbol of int.Int is used and has no template; the symbol is its place in the name table.
-#[derive(Clone, Copy, Debug, PartialEq, Eq)]
+#[derive(Clone, Copy)]
 pub enum PrintFault {
     Memory,
     Polymorphic { decl: usize },

@@ -13,7 +13,7 @@ use crate::lists::members;
 use crate::printer::{TermPrinter, push_name, push_parameter, push_variable, template_in};
 use crate::sorts::push_sort;
 use crate::words::{
-    Binder, Form, before_body, before_bound, before_name, behind_name, between, between_arguments,
+    Binder, Form, before_body, before_bound, before_name, behind_name, separator, between_arguments,
     binder_opening, opening, truth,
 };
 use driver_items::Piece;
@@ -131,7 +131,7 @@ fn push_enclosed(
 {
     let syntax = c.driver.printer;
     out.extend_from_slice(opening(syntax, form))?;
-    push_joined(c, out, between(syntax, form), args, below, depth)?;
+    push_joined(c, out, separator(syntax, form), args, below, depth)?;
     out.extend_from_slice(b")")
 }
 

@@ -87,7 +87,7 @@ fn op_between(op: Op) -> &'static [u8]
 }
 
 /// What stands between two parts of a form.
-pub(crate) fn between(syntax: Printer, form: Form) -> &'static [u8]
+pub(crate) fn separator(syntax: Printer, form: Form) -> &'static [u8]
     ensures { result.now ≡ between syntax form }
 {
     match (syntax, form) {

@@ -45,7 +45,7 @@ fn split_types(kind: SymbolKind, types: &[TermId]) -> (&[TermId], Option<TermId>
 }
 
 // A number, if it is held.
-fn held(store: &Store, id: Option<TermId>) -> Option<TermId>
+fn held_number(store: &Store, id: Option<TermId>) -> Option<TermId>
     ensures { IfSome result (Holds store.now) }
 {
     match id {
@@ -71,7 +71,7 @@ fn symbol(
         kind,
         vars: number_of(field(line, 3)),
         args: ids(alloc, store, args)?,
-        result: held(store, end),
+        result: held_number(store, end),
     })
 }
 

@@ -38,7 +38,7 @@ fn leaf(letter: u8, number: usize, value: i128) -> Option<Node> {
 }
 
 // A node with one child.
-fn unary(letter: u8, number: usize, a: TermId) -> Option<Node> {
+fn node_of_one(letter: u8, number: usize, a: TermId) -> Option<Node> {
     match letter {
         b't' => Some(Node::TyApp(number, a)),
         b'b' => Some(Node::Bound(number, a)),
@@ -50,7 +50,7 @@ fn unary(letter: u8, number: usize, a: TermId) -> Option<Node> {
 }
 
 // A node with two children.
-fn binary(letter: u8, number: usize, a: TermId, b: TermId) -> Option<Node> {
+fn node_of_two(letter: u8, number: usize, a: TermId, b: TermId) -> Option<Node> {
     match letter {
         b',' => Some(Node::Cell(a, b)),
         b'p' => Some(Node::Pred(number, a, b)),
@@ -71,7 +71,7 @@ fn binary(letter: u8, number: usize, a: TermId, b: TermId) -> Option<Node> {
 }
 
 // A node with three children.
-fn ternary(letter: u8, number: usize, a: TermId, b: TermId, c: TermId) -> Option<Node> {
+fn node_of_three(letter: u8, number: usize, a: TermId, b: TermId, c: TermId) -> Option<Node> {
     match letter {
         b'f' => Some(Node::Fun(number, a, b, c)),
         b'?' => Some(Node::If(a, b, c)),
@@ -85,15 +85,15 @@ fn node_of(letter: u8, number: usize, value: i128, stack: &mut Vec<TermId>) -> O
         return Some(node);
     }
     let c = pop(stack);
-    if let Some(node) = unary(letter, number, c) {
+    if let Some(node) = node_of_one(letter, number, c) {
         return Some(node);
     }
     let b = pop(stack);
-    if let Some(node) = binary(letter, number, b, c) {
+    if let Some(node) = node_of_two(letter, number, b, c) {
         return Some(node);
     }
     let a = pop(stack);
-    ternary(letter, number, a, b, c)
+    node_of_three(letter, number, a, b, c)
 }
 
 // Puts the tree of a letter on the stack; none where the letter is of no node or its children don't fit.

@@ -18,7 +18,7 @@ use term_store::Store;
 use written_files::write_derivation;
 
 // A derivation of a task, from refutations of its parts.
-fn derived(
+fn derive_task(
     alloc: Global,
     store: Store,
     setting: &GoalSetting,
@@ -54,7 +54,7 @@ pub fn lifted_text(
     ensures { IfOk result (λ v. IsLifted (task_at store setting.now.task)
         (parts_at store handed.items) v.items) }
 {
-    let derived = derived(alloc, store, setting, handed)?;
+    let derived = derive_task(alloc, store, setting, handed)?;
     let Derived { store, steps } = derived;
     let mut store = store;
     write_derivation(alloc, &mut store, &setting.task, steps.as_slice())

@@ -59,7 +59,7 @@ fn part_fault(fault: PartFault) -> RunFault
 }
 
 // The task carried through the stages of the driver.
-fn carried(alloc: Global, store: &mut Store, setting: &GoalSetting) -> Result<Vec<Task>, RunFault>
+fn carry_task(alloc: Global, store: &mut Store, setting: &GoalSetting) -> Result<Vec<Task>, RunFault>
     requires held { TaskHeld store.old setting.now.task }
     requires valid { IsValid (task_at store.old setting.now.task) }
     ensures carried { IsStageAnswer (Carried (setting_at store.old setting.now)) (tasks_in store.new
@@ -112,6 +112,6 @@ pub fn find_parts(
         (tasks_at store.new p.tasks.items) p.problems.items) }
     ensures grows { Grows store.old store.new }
 {
-    let tasks = carried(alloc, store, setting)?;
+    let tasks = carry_task(alloc, store, setting)?;
     with_problems(alloc, store, &setting.driver, tasks)
 }

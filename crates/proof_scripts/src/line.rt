@@ -2,9 +2,9 @@
 ghost use Rattle.std.specs.Prelude.{◌≡◌, ◌++◌, List, IfOk};
 ghost use Rattle.trees.specs.Tree.{Tree};
 ghost use Rattle.rule_rows.specs.Meaning.{rule_at, RuleHeld};
-ghost use Rattle.evidence.specs.Rules.{holding_rule, failing_rule};
 ghost use Rattle.proof_scripts.specs.Scripts.{word_rule, WordHeld, ids_of};
 
+use evidence::{failing_rule, holding_rule};
 use rule_rows::Rule;
 use std::alloc::{AllocError, Global};
 use trees::{Op, TermId};
@@ -49,36 +49,6 @@ pub(crate) struct Sides {
     pub second: Option<Formulas>,
 }
 
-// The rule that takes a connective apart.
-fn holding(op: Op, place: usize) -> Rule
-    ensures tree { (s : List Tree) → rule_at s result ≡ holding_rule op place }
-    ensures held { (s : List Tree) → RuleHeld s result }
-{
-    match op {
-        Op::And => Rule::And(place),
-        Op::AndThen => Rule::AndThen(place),
-        Op::Or => Rule::Or(place),
-        Op::OrElse => Rule::OrElse(place),
-        Op::Imp => Rule::Imp(place),
-        Op::Iff => Rule::Iff(place),
-    }
-}
-
-// The rule that takes the negation of a connective apart.
-fn failing(op: Op, place: usize) -> Rule
-    ensures tree { (s : List Tree) → rule_at s result ≡ failing_rule op place }
-    ensures held { (s : List Tree) → RuleHeld s result }
-{
-    match op {
-        Op::And => Rule::NotAnd(place),
-        Op::AndThen => Rule::NotAndThen(place),
-        Op::Or => Rule::NotOr(place),
-        Op::OrElse => Rule::NotOrElse(place),
-        Op::Imp => Rule::NotImp(place),
-        Op::Iff => Rule::NotIff(place),
-    }
-}
-
 // The rule of a word.
 pub(crate) fn rule_of(word: Word) -> Rule
     ensures tree { (s : List Tree) → rule_at s result ≡ word_rule s word }
@@ -87,8 +57,8 @@ pub(crate) fn rule_of(word: Word) -> Rule
     match word {
         Word::NotTrue(i) => Rule::NotTrue(i),
         Word::Clash(i, j) => Rule::Clash(i, j),
-        Word::Holding(op, i) => holding(op, i),
-        Word::Failing(op, i) => failing(op, i),
+        Word::Holding(op, i) => holding_rule(op, i),
+        Word::Failing(op, i) => failing_rule(op, i),
         Word::Cut(a) => Rule::Cut(a),
         Word::Forall(i, t) => Rule::Forall(i, t),
         Word::NotForall(i, n) => Rule::NotForall(i, n),
@@ -98,7 +68,7 @@ pub(crate) fn rule_of(word: Word) -> Rule
 }
 
 // The tail with the formulas that a premise adds.
-pub(crate) fn wider(
+pub(crate) fn tail_with(
     alloc: Global,
     tail: &[TermId],
     added: Formulas,

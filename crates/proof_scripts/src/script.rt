@@ -8,8 +8,8 @@ ghost use Rattle.evidence.specs.Drafts.{Extends, Refutes, RefuteAll, AreFormulas
 ghost use Rattle.proof_scripts.specs.Scripts.{word_rule, WordHeld, added_ids, added_at, under, lines_at, LinesHeld, IsByRule, IsGiven, Follows, CanFollow, HoldingLine, FailingLine, CutLine};
 ghost use Rattle.proof_scripts.specs.Derived.{Consumes, ConsumesBehind, RefuteUnder};
 
-use crate::line::{Formulas, Line, Word, rule_of, wider};
-use crate::sides::{negated, where_false, where_true};
+use crate::line::{Formulas, Line, Word, rule_of, tail_with};
+use crate::sides::{negate_both, where_false, where_true};
 use evidence::{Draft, by_rule, keep_but, negation};
 use std::alloc::AllocError;
 use term_store::Grow;
@@ -153,7 +153,7 @@ fn by_holding(
 {
     match draft.store().node(tail[place]) {
         Node::Join(_, a, b) => {
-            let both = negated(draft, a, b)?;
+            let both = negate_both(draft, a, b)?;
             let sides = where_true(op, both);
             let word = Word::Holding(op, front.len() + place);
             by_word(draft, front, tail, word, sides.first, sides.second, lines)
@@ -223,7 +223,7 @@ fn by_failed(
 {
     match draft.store().node(whole) {
         Node::Join(_, a, b) => {
-            let both = negated(draft, a, b)?;
+            let both = negate_both(draft, a, b)?;
             let sides = where_false(op, both);
             let word = Word::Failing(op, front.len() + place);
             by_word(draft, front, tail, word, sides.first, sides.second, lines)
@@ -291,7 +291,7 @@ fn premise(
     match added {
         None => Ok(0),
         Some(formulas) => {
-            let all = wider(draft.allocator(), tail, formulas)?;
+            let all = tail_with(draft.allocator(), tail, formulas)?;
             let made = walk(draft, front, &all, lines)?;
             premises.push(made.step)?;
             Ok(made.used)

@@ -12,7 +12,7 @@ use term_store::Store;
 use trees::{Node, TermId};
 
 /// Of a negation what it negates.
-pub fn negated(store: &Store, f: Option<TermId>) -> Option<TermId>
+pub fn negated_formula(store: &Store, f: Option<TermId>) -> Option<TermId>
     requires { IfSome f (Holds store.now) }
     ensures tree { option_map (tree_at store.now) result
         ≡ negated (option_map (tree_at store.now) f) }
@@ -25,7 +25,7 @@ pub fn negated(store: &Store, f: Option<TermId>) -> Option<TermId>
 }
 
 /// The type and the body of a universal formula.
-pub fn universal(store: &Store, f: Option<TermId>) -> Option<(TermId, TermId)>
+pub fn universal_parts(store: &Store, f: Option<TermId>) -> Option<(TermId, TermId)>
     requires { IfSome f (Holds store.now) }
     ensures tree { option_map (pair_at store.now) result
         ≡ universal (option_map (tree_at store.now) f) }
@@ -38,7 +38,7 @@ pub fn universal(store: &Store, f: Option<TermId>) -> Option<(TermId, TermId)>
 }
 
 /// The type and the body of an existential formula.
-pub fn existential(store: &Store, f: Option<TermId>) -> Option<(TermId, TermId)>
+pub fn existential_parts(store: &Store, f: Option<TermId>) -> Option<(TermId, TermId)>
     requires { IfSome f (Holds store.now) }
     ensures tree { option_map (pair_at store.now) result
         ≡ existential (option_map (tree_at store.now) f) }
@@ -51,7 +51,7 @@ pub fn existential(store: &Store, f: Option<TermId>) -> Option<(TermId, TermId)>
 }
 
 /// The sides of an equation.
-pub fn equated(store: &Store, f: Option<TermId>) -> Option<(TermId, TermId)>
+pub fn equation_sides(store: &Store, f: Option<TermId>) -> Option<(TermId, TermId)>
     requires { IfSome f (Holds store.now) }
     ensures tree { option_map (pair_at store.now) result
         ≡ equated (option_map (tree_at store.now) f) }
@@ -64,7 +64,7 @@ pub fn equated(store: &Store, f: Option<TermId>) -> Option<(TermId, TermId)>
 }
 
 /// A function's symbol, types and arguments.
-pub fn applied(store: &Store, e: TermId) -> Option<(usize, TermId, TermId)>
+pub fn application_parts(store: &Store, e: TermId) -> Option<(usize, TermId, TermId)>
     requires { Holds store.now e }
     ensures tree { option_map (applied_at store.now) result ≡ applied (tree_at store.now e) }
     ensures held { IfSome result (AppliedHeld store.now) }

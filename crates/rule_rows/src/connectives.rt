@@ -43,7 +43,7 @@ fn where_false(x: &Tried<'_>, op: Op, a: TermId, b: TermId) -> bool
 }
 
 /// A connective that holds.
-pub fn holding(x: &Tried<'_>, op: Op, f: Option<TermId>) -> bool
+pub fn connective_holds(x: &Tried<'_>, op: Op, f: Option<TermId>) -> bool
     requires tried { TriedHeld x.now }
     requires held { IfSome f (Holds x.now.store.now) }
     ensures { IsTrue result ↔ Holding op (sequent_of x.now) (option_map (tree_at x.now.store.now) f)
@@ -59,7 +59,7 @@ pub fn holding(x: &Tried<'_>, op: Op, f: Option<TermId>) -> bool
 }
 
 /// A connective that fails.
-pub fn failing(x: &Tried<'_>, op: Op, f: Option<TermId>) -> bool
+pub fn connective_fails(x: &Tried<'_>, op: Op, f: Option<TermId>) -> bool
     requires tried { TriedHeld x.now }
     requires held { IfSome f (Holds x.now.store.now) }
     ensures { IsTrue result ↔ Failing op (sequent_of x.now) (option_map (tree_at x.now.store.now) f)

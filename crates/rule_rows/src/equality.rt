@@ -10,7 +10,7 @@ ghost use Rattle.rule_rows.specs.Trees.{RRefl, RReplace, RLetDef, RIfDef};
 ghost use Rattle.rule_rows.specs.Rows.{IsTemplate};
 ghost use Rattle.rule_rows.specs.Meaning.{task_of, TriedHeld, RowOf};
 
-use crate::apart::equated;
+use crate::apart::equation_sides;
 use crate::shape::{Alike, Equal, Instance, Join, Not};
 use crate::term::Term;
 use crate::tried::{Tried, adds_one, formula_at};
@@ -118,7 +118,7 @@ pub fn replace(x: &Tried<'_>, i: usize, j: usize, template: TermId) -> bool
     requires open { OpenTyped (of_task (task_of x.now)) (tree_at x.now.store.now template) }
     ensures { IsTrue result ↔ RowOf x.now (RReplace i j (tree_at x.now.store.now template)) }
 {
-    match (equated(x.store, formula_at(x, i)), formula_at(x, j)) {
+    match (equation_sides(x.store, formula_at(x, i)), formula_at(x, j)) {
         (Some((a, b)), Some(made)) => fits_template(x, a, template)
             && is_changed(x.store, &Term::Held(a), template, made)
             && adds_one(

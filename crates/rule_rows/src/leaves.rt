@@ -6,7 +6,7 @@ ghost use Rattle.tasks.specs.Meaning.{trees_at};
 ghost use Rattle.rule_rows.specs.Trees.{RFalse, RNotTrue, RClash, RIrrefl, RNotNot, RCut, RKeep};
 ghost use Rattle.rule_rows.specs.Meaning.{sequent_of, TriedHeld, RowOf};
 
-use crate::apart::{equated, negated};
+use crate::apart::{equation_sides, negated_formula};
 use crate::shape::Not;
 use crate::tried::{Tried, adds_each, adds_none, adds_one, formula_at, premise};
 use trees::{Node, Sort, TermId};
@@ -30,7 +30,7 @@ pub fn not_true(x: &Tried<'_>, i: usize) -> bool
     requires { TriedHeld x.now }
     ensures { IsTrue result ↔ RowOf x.now (RNotTrue i) }
 {
-    match negated(x.store, formula_at(x, i)) {
+    match negated_formula(x.store, formula_at(x, i)) {
         Some(id) => match x.store.node(id) {
             Node::True => adds_none(x),
             _ => false,
@@ -44,7 +44,7 @@ pub fn clash(x: &Tried<'_>, i: usize, j: usize) -> bool
     requires { TriedHeld x.now }
     ensures { IsTrue result ↔ RowOf x.now (RClash i j) }
 {
-    match (formula_at(x, i), negated(x.store, formula_at(x, j))) {
+    match (formula_at(x, i), negated_formula(x.store, formula_at(x, j))) {
         (Some(a), Some(b)) => x.store.same(a, b) && adds_none(x),
         _ => false,
     }
@@ -55,7 +55,7 @@ pub fn irrefl(x: &Tried<'_>, i: usize) -> bool
     requires { TriedHeld x.now }
     ensures { IsTrue result ↔ RowOf x.now (RIrrefl i) }
 {
-    match equated(x.store, negated(x.store, formula_at(x, i))) {
+    match equation_sides(x.store, negated_formula(x.store, formula_at(x, i))) {
         Some((a, b)) => x.store.same(a, b) && adds_none(x),
         None => false,
     }
@@ -66,7 +66,7 @@ pub fn not_not(x: &Tried<'_>, i: usize) -> bool
     requires { TriedHeld x.now }
     ensures { IsTrue result ↔ RowOf x.now (RNotNot i) }
 {
-    match negated(x.store, negated(x.store, formula_at(x, i))) {
+    match negated_formula(x.store, negated_formula(x.store, formula_at(x, i))) {
         Some(a) => adds_one(x, &a),
         None => false,
     }

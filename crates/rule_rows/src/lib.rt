@@ -12,8 +12,8 @@ mod shape;
 mod term;
 mod tried;
 
-pub use apart::{applied, equated, existential, has_type, is_end, negated, universal};
-pub use connectives::{failing, holding};
+pub use apart::{application_parts, equation_sides, existential_parts, has_type, is_end, negated_formula, universal_parts};
+pub use connectives::{connective_fails, connective_holds};
 pub use equality::{if_def, let_def, refl, replace};
 pub use leaves::{clash, cut, irrefl, is_false, keep, not_not, not_true};
 pub use quantifiers::{at_new, at_term};

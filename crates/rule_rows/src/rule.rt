@@ -4,7 +4,7 @@ use outside::Seq;
 use trees::TermId;
 
 /// A rule of the tableau calculus, with its places in the sequent and its trees, in the order of the table.
-#[derive(Debug, Drop)]
+#[derive(Drop)]
 pub enum Rule {
     /// `false` at this place.
     False(usize),
@@ -87,7 +87,7 @@ pub enum Rule {
 }
 
 /// A sequent, the rule that refutes it, and the earlier steps that the rule takes.
-#[derive(Debug, Drop)]
+#[derive(Drop)]
 pub struct Step {
     pub sequent: Seq<TermId>,
     pub rule: Rule,

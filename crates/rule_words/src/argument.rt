@@ -24,7 +24,7 @@ pub enum Argument {
 }
 
 /// What an argument is.
-#[derive(Clone, Copy, Debug, PartialEq, Eq)]
+#[derive(Clone, Copy, PartialEq, Eq)]
 pub enum ArgumentKind {
     Number,
     Symbol,

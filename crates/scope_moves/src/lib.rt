@@ -4,4 +4,4 @@
 
 mod moves;
 
-pub use moves::{Move, bring, hand_on, leave, replay};
+pub use moves::{Move, bring_theory, hand_on, leave, replay};

@@ -86,7 +86,7 @@ fn name_or<'a>(last: &'a [u8], alias: Option<&'a [u8]>) -> &'a [u8]
 }
 
 /// Brings the names of a theory into a scope: into one of its own, into the current one, or into both. Only want of memory refuses.
-pub fn bring(
+pub fn bring_theory(
     scope: &mut Scope,
     link: Link,
     last: &[u8],

@@ -10,5 +10,5 @@ mod words_laws;
 
 pub use cloned_laws::{cloned_sound, stays_plain};
 pub use determined_laws::{clone_determined, declarations_determined, theories_determined};
-pub use sound_laws::{tasks_valid, theories_sound};
+pub use sound_laws::{source_tasks_valid, theories_sound};
 pub use words_laws::names_words;

@@ -22,7 +22,7 @@ pub fn theories_sound()
 {}
 
 /// A law: the task of each goal of a source that is read from a text is valid.
-pub fn tasks_valid()
+pub fn source_tasks_valid()
     ensures { (text : List ℕ) (ts : List Token) (file : List Theory) (s : List Tree)
         (all : TheoriesTree) (theory goal : List ℕ) (t : TaskTree) → AreTokens text ts
         → IsOnlyFile (rest text ts 0) file → SoundTheoriesOf s file all

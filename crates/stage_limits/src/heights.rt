@@ -72,7 +72,7 @@ fn declaration_height(store: &Store, decls: &[Decl]) -> u64
 
 /// The greatest height of a task's propositions, equations of definitions, clauses, locals and goal, or the greatest
 /// number where it is above that.
-pub fn height(store: &Store, task: &Task) -> u64
+pub fn task_height(store: &Store, task: &Task) -> u64
     requires { TaskHeld store.now task.now }
     ensures { result ≡ min (task_height (task_at store.now task.now)) u64.MAX }
 {

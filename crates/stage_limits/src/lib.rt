@@ -5,5 +5,5 @@
 mod heights;
 mod limits;
 
-pub use heights::height;
-pub use limits::{are_small, limited};
+pub use heights::task_height;
+pub use limits::{are_small, limit_tasks};

@@ -7,7 +7,7 @@ ghost use Rattle.tasks.specs.Meaning.{task_at, tasks_at, TaskHeld, TasksHeld};
 ghost use Rattle.evidence.specs.Stages.{IsStageFault};
 ghost use Rattle.stage_limits.specs.Limits.{is_small, are_small, limited};
 
-use crate::heights::height;
+use crate::heights::task_height;
 use evidence::StageFault;
 use tasks::{Task, nodes};
 use term_store::Store;
@@ -23,7 +23,7 @@ fn is_small(store: &Store, task: &Task) -> bool
     requires { TaskHeld store.now task.now }
     ensures { result ≡ is_small (task_at store.now task.now) }
 {
-    nodes(store, task) <= NODES && height(store, task) <= HEIGHT
+    nodes(store, task) <= NODES && task_height(store, task) <= HEIGHT
 }
 
 // Whether each task is small enough.
@@ -61,7 +61,7 @@ pub fn are_small(store: &Store, tasks: &[Task]) -> bool
 }
 
 /// The tasks where they are small enough, else `TooLarge`.
-pub fn limited(store: &Store, tasks: Vec<Task>) -> Result<Vec<Task>, StageFault>
+pub fn limit_tasks(store: &Store, tasks: Vec<Task>) -> Result<Vec<Task>, StageFault>
     requires { TasksHeld store.now tasks.items }
     ensures held { IfOk result (λ ts. TasksHeld store.now ts.items) }
     ensures tasks { IfOk result (λ ts. limited (tasks_at store.now tasks.items)

@@ -13,7 +13,7 @@ ghost use Rattle.stages.specs.Steps.{AreTasks, AreTasksOf, ArePushed, IsAlone};
 use crate::fault::{CarryFault, fault_at};
 use crate::transformation::Transformation;
 use evidence::Transform;
-use stage_limits::limited;
+use stage_limits::limit_tasks;
 use std::alloc::{AllocError, Global};
 use tasks::Task;
 use term_store::Store;
@@ -54,7 +54,7 @@ fn limited_at(store: &Store, number: usize, tasks: Vec<Task>) -> Result<Vec<Task
     ensures fault { IfErr result (IsCarryFault (at_stage number
         (limited (tasks_at store.now tasks.items)))) }
 {
-    match limited(store, tasks) {
+    match limit_tasks(store, tasks) {
         Ok(tasks) => Ok(tasks),
         Err(fault) => Err(fault_at(number, fault)),
     }
@@ -83,7 +83,7 @@ pub(crate) fn carry_once(
 }
 
 // A copy of a task, alone.
-fn alone(alloc: Global, task: &Task) -> Result<Vec<Task>, AllocError>
+fn copy_task(alloc: Global, task: &Task) -> Result<Vec<Task>, AllocError>
     ensures { IfOk result (λ ts. IsAlone task.now ts.items) }
 {
     let mut tasks = Vec::with_capacity(alloc, 1)?;
@@ -111,7 +111,7 @@ pub fn carry(
         (task_at store.old task.now))) }
     ensures grows { Grows store.old store.new }
 {
-    let mut tasks = alone(alloc, task)?;
+    let mut tasks = copy_task(alloc, task)?;
     for number in 0..stages.len() {
         tasks = carry_once(alloc, store, &stages[number], number, &tasks)?;
     }

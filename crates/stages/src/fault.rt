@@ -8,7 +8,7 @@ use evidence::StageFault;
 use std::alloc::{AllocError, AllocFailed};
 
 /// Why a task isn't carried through. Stage 0 is the removals, and stage k is the driver's k-th transformation.
-#[derive(Clone, Copy, Debug, PartialEq, Eq)]
+#[derive(Clone, Copy)]
 pub enum CarryFault {
     Memory,
     /// The transformation of this stage isn't built.

@@ -19,7 +19,7 @@ use tr_introduce::{Introduce, Remove};
 use tr_split_goals::Split;
 
 // The transformation of this name, if it is built.
-fn built(name: Trans) -> Option<Transformation>
+fn transformation_of(name: Trans) -> Option<Transformation>
     ensures { result ≡ built name }
 {
     match name {
@@ -131,7 +131,7 @@ fn removed_names(
 fn push_one(stages: &mut Vec<Transformation>, name: Trans, number: usize) -> Result<(), CarryFault>
     ensures { IsPushedOne stages.old.items name number stages.new.items result }
 {
-    match built(name) {
+    match transformation_of(name) {
         Some(stage) => {
             stages.push(stage)?;
             Ok(())

@@ -16,19 +16,19 @@ pub fn push_numbers(alloc: Global, text: &mut Vec<u8>, numbers: &[usize]) -> Res
     ensures { OnOk result (text.new.items ≡ text.old.items ++ spaced numbers.now) }
 {
     for number in numbers {
-        text.push(32)?;
+        text.push(b' ')?;
         let digits = number.to_string(alloc)?;
         text.extend_from_slice(digits.as_bytes())?;
     }
     Ok(())
 }
 
-fn numbered(alloc: Global, word: &str, numbers: &[usize]) -> Result<Vec<u8>, AllocError>
+fn numbered_line(alloc: Global, word: &str, numbers: &[usize]) -> Result<Vec<u8>, AllocError>
     ensures { IfOk result (λ v. v.items ≡ word.now ++ spaced numbers.now ++ 10 ∷ []) }
 {
     let mut text = Vec::from_slice(alloc, word.as_bytes())?;
     push_numbers(alloc, &mut text, numbers)?;
-    text.push(10)?;
+    text.push(b'\n')?;
     Ok(text)
 }
 
@@ -37,7 +37,7 @@ fn refused_line(alloc: Global, fault: Fault) -> Result<Vec<u8>, AllocError>
 {
     let mut text = Vec::from_slice(alloc, b"refused:")?;
     push_fault(alloc, &mut text, fault)?;
-    text.push(10)?;
+    text.push(b'\n')?;
     Ok(text)
 }
 
@@ -47,9 +47,9 @@ pub fn line_of(alloc: Global, status: Status) -> Result<Vec<u8>, AllocError>
 {
     match status {
         Status::Refused(fault) => refused_line(alloc, fault),
-        Status::Absent { file } => numbered(alloc, "absent:", &[file]),
-        Status::ReadFault { file } => numbered(alloc, "read fault:", &[file]),
-        Status::Usage => numbered(alloc, USAGE, &[]),
+        Status::Absent { file } => numbered_line(alloc, "absent:", &[file]),
+        Status::ReadFault { file } => numbered_line(alloc, "read fault:", &[file]),
+        Status::Usage => numbered_line(alloc, USAGE, &[]),
         Status::Done => Ok(Vec::new(alloc)),
         Status::Memory => Ok(Vec::new(alloc)),
         Status::WriteFault => Ok(Vec::new(alloc)),

@@ -6,7 +6,7 @@ ghost use Rattle.statuses.specs.Code.{code_of};
 use fault_order::Fault;
 
 /// How a run ends.
-#[derive(Clone, Copy, Debug, PartialEq, Eq)]
+#[derive(Clone, Copy)]
 pub enum Status {
     /// The text was written.
     Done,

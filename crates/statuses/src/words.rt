@@ -4,7 +4,7 @@ ghost use Rattle.std.specs.Prelude.{◌≡◌, map, string_bytes};
 ghost use Rattle.statuses.specs.Words.{command_of, is_plain, all_plain, four_of, lift_of, named};
 
 /// A command that is built.
-#[derive(Clone, Copy, Debug, PartialEq, Eq)]
+#[derive(Clone, Copy)]
 pub enum Command {
     /// `print SRC DRV THEORY GOAL`
     Print,
@@ -22,7 +22,7 @@ fn is_plain(word: &str) -> bool
 {
     match word.as_bytes() {
         [] => false,
-        [c, ..] => *c != 45,
+        [c, ..] => *c != b'-',
     }
 }
 

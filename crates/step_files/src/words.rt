@@ -11,14 +11,14 @@ use std::alloc::{AllocError, Global};
 pub(crate) fn split<'a>(alloc: Global, line: &'a [u8]) -> Result<Vec<&'a [u8]>, AllocError>
     ensures { IfOk result (λ v. texts v.items ≡ words_of line.now) }
 {
-    line.split(|b| *b == 32).collect(alloc)
+    line.split(|b| *b == b' ').collect(alloc)
 }
 
 // The parts between line feeds.
 fn parts<'a>(alloc: Global, bytes: &'a [u8]) -> Result<Vec<&'a [u8]>, AllocError>
     ensures { IfOk result (λ v. texts v.items ≡ slice_split (λ c. c == 10) bytes.now) }
 {
-    bytes.split(|b| *b == 10).collect(alloc)
+    bytes.split(|b| *b == b'\n').collect(alloc)
 }
 
 /// The lines: each ends at a line feed, the last one optionally so.

@@ -26,7 +26,7 @@ fn symbol_named(x: &Known<'_>, word: &[u8]) -> Option<usize>
     ensures { result ≡ option_and_then (λ e. symbol_of e.symbol)
         (entry_named x.now.table.now word.now) }
 {
-    match x.names.find(x.table, word)?.symbol {
+    match x.names.find_entry(x.table, word)?.symbol {
         NameOf::Symbol(symbol) => Some(symbol),
         NameOf::Int | NameOf::Rigid(_) => None,
     }

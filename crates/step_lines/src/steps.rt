@@ -23,7 +23,7 @@ use tree_lines::{Known, things_at};
 use trees::TermId;
 
 // Three lists of arguments as one.
-fn joined(
+fn join_arguments(
     mut all: Vec<Argument>,
     more: &[Argument],
     last: &[Argument],
@@ -57,7 +57,7 @@ fn all_arguments(
         return Ok(None);
     };
     match word_arguments(alloc, store, x, &[], kinds.repeated, &words[count..])? {
-        Some(rest) => Ok(Some(joined(first, &own, &rest)?)),
+        Some(rest) => Ok(Some(join_arguments(first, &own, &rest)?)),
         None => Ok(None),
     }
 }

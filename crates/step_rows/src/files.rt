@@ -148,7 +148,11 @@ fn put_file(
 // The text of a file, with a semicolon for each line feed.
 fn put_bytes(text: &mut String, file: &[u8]) -> Result<(), AllocError> {
     for byte in file {
-        text.push(if *byte == 10 { ';' } else { char::from(*byte) })?;
+        text.push(if *byte == b'\n' {
+            ';'
+        } else {
+            char::from(*byte)
+        })?;
     }
     Ok(())
 }
@@ -227,7 +231,7 @@ fn bytes_of(
                 line.as_str()
             };
             bytes.extend_from_slice(line.as_bytes())?;
-            bytes.push(10)?;
+            bytes.push(b'\n')?;
         }
     }
     Ok(bytes)

@@ -126,7 +126,7 @@ fn put_thing(
 
 // The words between single spaces.
 fn split<'a>(alloc: Global, line: &'a [u8]) -> Result<Vec<&'a [u8]>, AllocError> {
-    line.split(|b| *b == 32).collect(alloc)
+    line.split(|b| *b == b' ').collect(alloc)
 }
 
 // What a line makes after others.

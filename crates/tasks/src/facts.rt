@@ -9,7 +9,7 @@ use std::alloc::AllocError;
 use trees::TermId;
 
 /// A fact of a task, by what it is cited by.
-#[derive(Clone, Copy, Debug, PartialEq, Eq)]
+#[derive(Clone, Copy)]
 pub enum Fact {
     /// A proposition, by its number among the propositions.
     Proposition(usize),

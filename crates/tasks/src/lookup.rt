@@ -89,7 +89,7 @@ fn push_said(decl: &Decl, props: &mut Vec<Proposition>) -> Result<(), AllocError
 }
 
 // The propositions, and the names of the facts.
-fn listed(alloc: Global, decls: &[Decl]) -> Result<(Vec<Proposition>, Vec<Fact>), AllocError>
+fn list_propositions(alloc: Global, decls: &[Decl]) -> Result<(Vec<Proposition>, Vec<Fact>), AllocError>
     ensures props { IfOk result (λ p. AreProps decls.now p.0.items) }
     ensures facts { IfOk result (λ p. AreFacts decls.now p.1.items) }
 {
@@ -130,7 +130,7 @@ impl Index {
         ensures { IfOk result (λ i. IsIndexOf i task.now) }
     {
         let makers = makers_of(alloc, task)?;
-        let (props, facts) = listed(alloc, task.decls.as_slice())?;
+        let (props, facts) = list_propositions(alloc, task.decls.as_slice())?;
         Ok(Index {
             makers,
             props,
@@ -139,7 +139,7 @@ impl Index {
     }
 
     /// The fact at a place, counted from 0; none where there are not so many.
-    pub fn fact(&self, place: usize) -> Option<Fact>
+    pub fn fact_at(&self, place: usize) -> Option<Fact>
         ensures { (s : List Tree) (t : Task) → IsIndexOf self.now t → result
             ≡ option_map name_of (slice_get (facts (task_at s t)) place) }
     {

@@ -210,7 +210,7 @@ fn lists(rt: &impl Abort, alloc: Global, store: &Store) -> Body
 }
 
 // A predicate with its equation.
-fn defined(rt: &impl Abort, alloc: Global, store: &Store, equation: TermId) -> Body
+fn definition_of(rt: &impl Abort, alloc: Global, store: &Store, equation: TermId) -> Body
     requires { Holds store.now equation }
     ensures { BodyHeld store.now result }
 {
@@ -253,7 +253,7 @@ fn decls(rt: &impl Abort, alloc: Global, store: &Store, formula: TermId, other: 
         alloc,
         store,
         &mut all,
-        defined(rt, alloc, store, formula),
+        definition_of(rt, alloc, store, formula),
     );
     declare(
         rt,

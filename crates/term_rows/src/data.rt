@@ -10,7 +10,7 @@ ghost use Rattle.rule_rows.specs.Trees.{RDistinct, RInject, RProject};
 ghost use Rattle.rule_rows.specs.Rows.{equal_each, projected};
 ghost use Rattle.rule_rows.specs.Meaning.{task_of, TriedHeld, RowOf};
 
-use rule_rows::{Equal, Shape, Tried, adds_none, adds_one, applied, equated, formula_at, premise};
+use rule_rows::{Equal, Shape, Tried, adds_none, adds_one, application_parts, equation_sides, formula_at, premise};
 use tasks::{Role, is_constructor};
 use term_store::Store;
 use trees::{Node, TermId};
@@ -39,8 +39,8 @@ pub fn distinct(x: &Tried<'_>, i: usize) -> bool
     requires { TriedHeld x.now }
     ensures { IsTrue result ↔ RowOf x.now (RDistinct i) }
 {
-    match equated(x.store, formula_at(x, i)) {
-        Some((a, b)) => match (applied(x.store, a), applied(x.store, b)) {
+    match equation_sides(x.store, formula_at(x, i)) {
+        Some((a, b)) => match (application_parts(x.store, a), application_parts(x.store, b)) {
             (Some((c, _, _)), Some((d, _, _))) => is_made_as_constructor(x, c)
                 && is_made_as_constructor(x, d)
                 && c != d
@@ -117,8 +117,8 @@ pub fn inject(x: &Tried<'_>, i: usize) -> bool
     requires { TriedHeld x.now }
     ensures { IsTrue result ↔ RowOf x.now (RInject i) }
 {
-    match equated(x.store, formula_at(x, i)) {
-        Some((a, b)) => match (applied(x.store, a), applied(x.store, b)) {
+    match equation_sides(x.store, formula_at(x, i)) {
+        Some((a, b)) => match (application_parts(x.store, a), application_parts(x.store, b)) {
             (Some((c, _, ts)), Some((d, _, us))) => is_made_as_constructor(x, c)
                 && c == d
                 && x.premises.len() == 1
@@ -154,10 +154,10 @@ pub fn project(x: &Tried<'_>, e: TermId) -> bool
     requires held { Holds x.now.store.now e }
     ensures { IsTrue result ↔ RowOf x.now (RProject (tree_at x.now.store.now e)) }
 {
-    match applied(x.store, e) {
+    match application_parts(x.store, e) {
         Some((f, _, args)) => match projection(x, f) {
             Some((constructor, field)) => match member(x.store, args, 0) {
-                Some(inner) => match applied(x.store, inner) {
+                Some(inner) => match application_parts(x.store, inner) {
                     Some((c, _, fields)) => match member(x.store, fields, field) {
                         Some(t) => c == constructor && adds_one(x, &Equal(e, t)),
                         None => false,

@@ -82,7 +82,7 @@ fn agree(store: &Store, plain: &PlainStore, id: TermId) -> bool
 }
 
 // Both stores take a node, or both refuse it. Whether it is taken.
-fn taken(rt: &impl Abort, store: &mut Store, plain: &mut PlainStore, node: Node) -> bool {
+fn take_node(rt: &impl Abort, store: &mut Store, plain: &mut PlainStore, node: Node) -> bool {
     if !store.accepts(node) {
         assert!(rt; !plain.accepts(node));
         return false;
@@ -90,7 +90,7 @@ fn taken(rt: &impl Abort, store: &mut Store, plain: &mut PlainStore, node: Node)
     assert!(rt; plain.accepts(node));
     let id = store.add(node).expect(rt, "memory");
     let other = plain.add(node).expect(rt, "memory");
-    assert!(rt; id.0 == other.0 && agree(store, plain, id), "{node:?}");
+    assert!(rt; id.0 == other.0 && agree(store, plain, id));
     true
 }
 
@@ -111,7 +111,7 @@ fn answers_as_the_plain_list_does(rt: HostRuntime) {
             let a = child(&mut seed, list, branch, count);
             let b = child(&mut seed, list, branch, count);
             let c = child(&mut seed, list, branch, count);
-            if taken(&rt, &mut store, &mut plain, node_of(kind, number, a, b, c)) {
+            if take_node(&rt, &mut store, &mut plain, node_of(kind, number, a, b, c)) {
                 made[kind] += 1;
             }
             if store.holds(TermId(count as usize)) {

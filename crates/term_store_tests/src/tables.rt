@@ -6,7 +6,7 @@ use trees::{Node, Op, Sort, TermId};
 
 // Adds a node that fits.
 fn put(rt: &impl Abort, store: &mut Store, node: Node) -> TermId {
-    assert!(rt; store.accepts(node), "{node:?}");
+    assert!(rt; store.accepts(node));
     store.add(node).expect(rt, "memory")
 }
 
@@ -188,7 +188,7 @@ fn are_above(store: &Store, id: TermId, types: usize, params: usize) -> bool {
 fn numbers_above_variables(rt: &impl Abort, store: &mut Store) {
     for (node, types, params) in ABOVE.iter() {
         let id = put(rt, store, *node);
-        assert!(rt; are_above(store, id, *types, *params), "{node:?}");
+        assert!(rt; are_above(store, id, *types, *params));
     }
 }
 
@@ -251,7 +251,7 @@ fn answers_of_trees(rt: HostRuntime) {
     assert!(rt; store.binders(Node::Forall(int, end), int) == 1);
     answers_of_each_tree(&rt, &mut store);
     for node in REFUSED.iter() {
-        assert!(rt; !store.accepts(*node), "{node:?}");
+        assert!(rt; !store.accepts(*node));
     }
     numbers_above_variables(&rt, &mut store);
     compares_the_arguments(&rt, &mut store);

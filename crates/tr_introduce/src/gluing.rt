@@ -7,10 +7,10 @@ ghost use Rattle.tasks.specs.Meaning.{trees_at};
 ghost use Rattle.evidence.specs.Drafts.{Extends, Refutes, IsFormulaAt, AreFormulas};
 ghost use Rattle.tr_introduce.specs.Steps.{AreBelow, EndsAt};
 
-use crate::introduction::opened;
+use crate::introduction::open_body;
 use crate::openings::{Beginning, beginning_of};
 use crate::refuting::{refute_implication, refute_universal};
-use evidence::{Draft, joined};
+use evidence::{Draft, join_lists};
 use std::alloc::AllocError;
 use term_store::Grow;
 use trees::{Op, TermId};
@@ -75,7 +75,7 @@ fn glue_universal(
         return Err(AllocError);
     }
     let alloc = draft.allocator();
-    let goal_at = opened(alloc, draft, number, ty, body)?;
+    let goal_at = open_body(alloc, draft, number, ty, body)?;
     let step = glue_goal(draft, front, goal_at, number + 1, end)?;
     refute_universal(draft, front, goal, number, step)
 }
@@ -105,7 +105,7 @@ fn glue_implication(
         (trees_at draft.old.trees front.now ++ neg (tree_at draft.old.trees goal) ∷ [])) }
     ensures grows { Extends draft.old draft.new }
 {
-    let wider = joined(draft.allocator(), front, &[premise])?;
+    let wider = join_lists(draft.allocator(), front, &[premise])?;
     let step = glue_goal(draft, &wider, conclusion, number, end)?;
     refute_implication(draft, front, goal, premise, step)
 }

@@ -8,7 +8,7 @@ ghost use Rattle.tr_introduce.specs.Kept.{introduce_keeps};
 use crate::gluing::glue_goal;
 use crate::introduction::introduced_task;
 use evidence::{Draft, StageFault, Transform, fact_lemma};
-use stage_limits::limited;
+use stage_limits::limit_tasks;
 use std::alloc::{AllocError, Global};
 use tasks::{Fact, Task};
 use term_store::Store;
@@ -16,7 +16,7 @@ use trees::TermId;
 
 /// The transformation that introduces parameters and premises as long as the goal begins with `forall` or `->`. It gives one
 /// task, or `TooLarge` where that is too large.
-#[derive(Clone, Copy, Debug)]
+#[derive(Clone, Copy)]
 pub struct Introduce;
 
 impl Transform for Introduce {
@@ -30,7 +30,7 @@ impl Transform for Introduce {
         task: &Task,
     ) -> Result<Vec<Task>, StageFault> {
         match introduced_tasks(alloc, store, task) {
-            Ok(tasks) => limited(store, tasks),
+            Ok(tasks) => limit_tasks(store, tasks),
             Err(_) => Err(StageFault::Memory),
         }
     }

@@ -32,7 +32,7 @@ pub(crate) fn introduce(
 {
     match beginning_of(store, goal) {
         Beginning::Universal(ty, body) => {
-            let goal_at = opened(alloc, store, params.len(), ty, body)?;
+            let goal_at = open_body(alloc, store, params.len(), ty, body)?;
             params.push(ty)?;
             introduce(alloc, store, goal_at, params, locals)
         }
@@ -45,7 +45,7 @@ pub(crate) fn introduce(
 }
 
 // The body of a quantifier at the parameter of this number.
-pub(crate) fn opened<G: Grow>(
+pub(crate) fn open_body<G: Grow>(
     alloc: Global,
     g: &mut G,
     number: usize,

@@ -22,13 +22,13 @@ pub(crate) fn beginning_of(store: &Store, goal: TermId) -> Beginning
 {
     match store.node(goal) {
         Node::Forall(ty, body) => Beginning::Universal(ty, body),
-        Node::Join(op, a, b) => joined(store, goal, op, a, b),
+        Node::Join(op, a, b) => connective_beginning(store, goal, op, a, b),
         _ => Beginning::Neither,
     }
 }
 
 // The same of a formula that joins two.
-fn joined(store: &Store, goal: TermId, op: Op, a: TermId, b: TermId) -> Beginning
+fn connective_beginning(store: &Store, goal: TermId, op: Op, a: TermId, b: TermId) -> Beginning
     requires tree { tree_at store.now goal ≡ Two (HJoin op) (tree_at store.now a)
         (tree_at store.now b) }
     requires a_held { Holds store.now a }

@@ -121,7 +121,7 @@ pub(crate) struct Seek {
 }
 
 // The search after this declaration, or none where the declaration says the proposition.
-fn after(seek: Seek, props: &[(Text, Text)], decl: &Decl) -> Option<Seek>
+fn seek_after(seek: Seek, props: &[(Text, Text)], decl: &Decl) -> Option<Seek>
     requires { seek.place < usize.MAX }
     ensures { (s : List Tree) → MatchOption result
         (Found props.now (declaration_at s decl.now) seek)
@@ -152,7 +152,7 @@ pub(crate) fn old_place(props: &[(Text, Text)], decls: &[Decl], k: usize) -> usi
 {
     let mut seek = Seek { left: k, place: 0 };
     for decl in decls {
-        match after(seek, props, decl) {
+        match seek_after(seek, props, decl) {
             Some(next) => seek = next,
             None => return seek.place,
         }

@@ -10,7 +10,7 @@ ghost use Rattle.tr_introduce.specs.KeptDecls.{remove_keeps};
 use crate::removal::{old_place, removed_task};
 use evidence::{Draft, StageFault, Transform, fact_lemma};
 use outside::{Seq, Text};
-use stage_limits::limited;
+use stage_limits::limit_tasks;
 use std::alloc::{AllocError, Global};
 use tasks::{Fact, Task};
 use term_store::Store;
@@ -34,7 +34,7 @@ impl Transform for Remove {
         task: &Task,
     ) -> Result<Vec<Task>, StageFault> {
         match removed_tasks(alloc, self.props.as_slice(), task) {
-            Ok(tasks) => limited(store, tasks),
+            Ok(tasks) => limit_tasks(store, tasks),
             Err(_) => Err(StageFault::Memory),
         }
     }

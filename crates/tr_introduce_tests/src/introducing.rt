@@ -1,5 +1,5 @@
 // What is introduced from goals.
-use crate::small::{filled, task};
+use crate::small::{filled_store, task};
 use std::alloc::Global;
 use std::process::Abort;
 use tr_introduce::introduced_task;
@@ -73,7 +73,7 @@ static ROWS: [Row; 9] = [
 
 fn compare(rt: &impl Abort, alloc: Global, row: &Row) {
     let (params, goal, made_params, made_locals, made_goal) = *row;
-    let mut store = filled(rt, alloc, &NODES);
+    let mut store = filled_store(rt, alloc, &NODES);
     let whole = task(rt, alloc, &store, params, goal, &[("T", "a", true)]);
     let made = introduced_task(alloc, &mut store, &whole).expect(rt, "out of memory");
     assert!(rt; made.params.as_slice() == made_params);

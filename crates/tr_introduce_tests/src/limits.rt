@@ -1,6 +1,6 @@
 // The bounds on the tasks of a stage.
 use crate::small::task;
-use stage_limits::{are_small, height, limited};
+use stage_limits::{are_small, limit_tasks, task_height};
 use std::alloc::Global;
 use std::process::Abort;
 use term_store::{Grow, Store};
@@ -49,7 +49,7 @@ fn compare(rt: &impl Abort, alloc: Global, row: &(usize, usize, usize, bool)) {
             .expect(rt, MEMORY);
     }
     assert!(rt; are_small(&store, &tasks) == small);
-    assert!(rt; limited(&store, tasks).is_ok() == small);
+    assert!(rt; limit_tasks(&store, tasks).is_ok() == small);
 }
 
 #[test]
@@ -65,5 +65,5 @@ fn a_height_counts_propositions(rt: HostRuntime) {
     let mut store = Store::new(alloc).expect(&rt, MEMORY);
     let goal = formula(&rt, &mut store, 3, 2);
     let whole = task(&rt, alloc, &store, &[], goal, &[("T", "a", true)]);
-    assert!(&rt; height(&store, &whole) == 6);
+    assert!(&rt; task_height(&store, &whole) == 6);
 }

@@ -1,5 +1,5 @@
 // Which propositions are removed.
-use crate::small::{Named, filled, task, text};
+use crate::small::{Named, filled_store, task, text};
 use outside::Text;
 use std::alloc::Global;
 use std::process::Abort;
@@ -40,7 +40,7 @@ fn names(rt: &impl Abort, alloc: Global, words: &[(&str, &str)]) -> Vec<(Text, T
 
 fn compare(rt: &impl Abort, alloc: Global, row: &Row) {
     let (words, left) = *row;
-    let store = filled(rt, alloc, &NODES);
+    let store = filled_store(rt, alloc, &NODES);
     let whole = task(rt, alloc, &store, &[], TermId(2), &DECLS);
     let props = names(rt, alloc, words);
     let made = removed_task(alloc, &props, &whole).expect(rt, "out of memory");

@@ -18,7 +18,7 @@ pub(crate) const MEMORY: &str = "out of memory";
 pub(crate) type Named = (&'static str, &'static str, bool);
 
 /// A store with these nodes, of which the first has the number 2.
-pub(crate) fn filled(rt: &impl Abort, alloc: Global, nodes: &[Node]) -> Store {
+pub(crate) fn filled_store(rt: &impl Abort, alloc: Global, nodes: &[Node]) -> Store {
     let mut store = Store::new(alloc).expect(rt, MEMORY);
     for (place, node) in nodes.iter().enumerate() {
         assert!(rt; store.accepts(*node));

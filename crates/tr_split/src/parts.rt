@@ -188,14 +188,14 @@ fn add_wrapped(
     ensures grows { Grows store.old store.new }
 {
     for formula in formulas {
-        let whole = wrapped(store, node, first, *formula)?;
+        let whole = wrap_part(store, node, first, *formula)?;
         parts.push(whole)?;
     }
     Ok(())
 }
 
 // The node over these children.
-fn wrapped(
+fn wrap_part(
     store: &mut Store,
     node: Node,
     first: TermId,

@@ -14,7 +14,7 @@ use term_store::Grow;
 use trees::{Node, Op, TermId};
 
 // Two formulas joined.
-pub(crate) fn connected(
+pub(crate) fn connect(
     draft: &mut Draft,
     op: Op,
     a: TermId,
@@ -53,15 +53,15 @@ pub(crate) fn if_equation(
         (Two (HJoin Op.Iff) (tree_at draft.old.trees goal) (tree_at draft.old.trees b)))) }
     ensures grows { AddsTrees draft.old draft.new }
 {
-    let yes = connected(draft, Op::Iff, goal, a)?;
-    let no = connected(draft, Op::Iff, goal, b)?;
-    let first = connected(draft, Op::Imp, cond, yes)?;
-    let second = connected(draft, Op::Imp, no_cond, no)?;
-    connected(draft, Op::And, first, second)
+    let yes = connect(draft, Op::Iff, goal, a)?;
+    let no = connect(draft, Op::Iff, goal, b)?;
+    let first = connect(draft, Op::Imp, cond, yes)?;
+    let second = connect(draft, Op::Imp, no_cond, no)?;
+    connect(draft, Op::And, first, second)
 }
 
 // What a negation negates.
-pub(crate) fn negated(draft: &Draft, id: TermId) -> TermId
+pub(crate) fn formula_under_not(draft: &Draft, id: TermId) -> TermId
     requires formula { IsFormulaAt draft.now id }
     requires negation { IsNegation (tree_at draft.now.trees id) }
     ensures formula { IsFormulaAt draft.now result }

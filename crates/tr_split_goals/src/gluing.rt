@@ -10,14 +10,14 @@ ghost use Rattle.tr_split.specs.Glue.{Ends};
 ghost use Rattle.tr_split.specs.Parts.{Joins};
 ghost use Rattle.tr_split_goals.specs.Goals.{AreBelow};
 
-use crate::forming::{connected, if_equation};
+use crate::forming::{connect, if_equation};
 use crate::opening::{open_universal, open_valued};
 use crate::over::{Over, ends_over};
 use crate::refuting::{
     refute_and, refute_and_then, refute_forall, refute_if, refute_iff, refute_imp, refute_let,
     refute_true,
 };
-use evidence::{Draft, joined, negation};
+use evidence::{Draft, join_lists, negation};
 use std::alloc::AllocError;
 use term_store::{Grow, Store};
 use trees::{Node, Op, TermId};
@@ -192,7 +192,7 @@ fn glue_and_then(
         (trees_at draft.old.trees front.now ++ neg (tree_at draft.old.trees goal) ∷ [])) }
     ensures grows { Extends draft.old draft.new }
 {
-    let implied = connected(draft, Op::Imp, a, b)?;
+    let implied = connect(draft, Op::Imp, a, b)?;
     let (left, right) = glue_two(draft, front, a, implied, number, ends)?;
     refute_and_then(draft, front, goal, a, b, implied, left, right)
 }
@@ -220,7 +220,7 @@ fn glue_imp(
     ensures grows { Extends draft.old draft.new }
 {
     let made = ends_over(draft, front, Over::Hypothesis(a), b, ends)?;
-    let wider = joined(draft.allocator(), front, &[a])?;
+    let wider = join_lists(draft.allocator(), front, &[a])?;
     let step = glue_goal(draft, &wider, b, number, &made)?;
     refute_imp(draft, front, goal, a, b, step)
 }
@@ -243,8 +243,8 @@ fn glue_iff(
         (trees_at draft.old.trees front.now ++ neg (tree_at draft.old.trees goal) ∷ [])) }
     ensures grows { Extends draft.old draft.new }
 {
-    let there = connected(draft, Op::Imp, a, b)?;
-    let back = connected(draft, Op::Imp, b, a)?;
+    let there = connect(draft, Op::Imp, a, b)?;
+    let back = connect(draft, Op::Imp, b, a)?;
     refute_iff(draft, front, goal, a, b, there, back, ends[0], ends[1])
 }
 
@@ -309,7 +309,7 @@ fn glue_let(
 {
     let (inner, made) = open_valued(draft, front, goal, value, body, number, ends)?;
     let step = glue_goal(draft, front, inner, number, &made)?;
-    let defined = connected(draft, Op::Iff, goal, inner)?;
+    let defined = connect(draft, Op::Iff, goal, inner)?;
     refute_let(draft, front, goal, value, body, inner, defined, step)
 }
 
@@ -342,8 +342,8 @@ fn glue_if(
     ensures grows { Extends draft.old draft.new }
 {
     let no_cond = negation(draft, cond)?;
-    let there = connected(draft, Op::Imp, cond, a)?;
-    let away = connected(draft, Op::Imp, no_cond, b)?;
+    let there = connect(draft, Op::Imp, cond, a)?;
+    let away = connect(draft, Op::Imp, no_cond, b)?;
     let defined = if_equation(draft, goal, cond, no_cond, a, b)?;
     let (left, right) = glue_two(draft, front, there, away, number, ends)?;
     refute_if(

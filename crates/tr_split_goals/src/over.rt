@@ -11,7 +11,7 @@ ghost use Rattle.tr_split.specs.Glue.{Ends};
 ghost use Rattle.tr_split_goals.specs.Over.{PartOf, IsTermAt, IsTypedTermAt, whole_of, inner_of, extra_of, wholes, inners, OverHeld};
 
 use crate::ends::{end_opened, end_under, end_valued};
-use crate::forming::{connected, negated, right_side, under_binder};
+use crate::forming::{connect, formula_under_not, right_side, under_binder};
 use evidence::{Draft, last_formula, negation};
 use instances::instance;
 use std::alloc::AllocError;
@@ -43,7 +43,7 @@ pub(crate) fn part_under(
     ensures grows { Extends draft.old draft.new }
 {
     let no_whole = last_formula(draft, end);
-    let whole = negated(draft, no_whole);
+    let whole = formula_under_not(draft, no_whole);
     let part = right_side(draft, whole);
     let no_part = negation(draft, part)?;
     end_under(draft, front, hypothesis, part, no_part, whole, end)
@@ -69,7 +69,7 @@ pub(crate) fn part_opened(
     ensures grows { Extends draft.old draft.new }
 {
     let no_whole = last_formula(draft, end);
-    let whole = negated(draft, no_whole);
+    let whole = formula_under_not(draft, no_whole);
     let part = under_binder(draft, whole);
     let alloc = draft.allocator();
     let inner = instance(alloc, draft, part, term)?;
@@ -95,12 +95,12 @@ pub(crate) fn part_valued(
     ensures grows { Extends draft.old draft.new }
 {
     let no_whole = last_formula(draft, end);
-    let whole = negated(draft, no_whole);
+    let whole = formula_under_not(draft, no_whole);
     let part = under_binder(draft, whole);
     let alloc = draft.allocator();
     let inner = instance(alloc, draft, part, value)?;
     let no_inner = negation(draft, inner)?;
-    let defined = connected(draft, Op::Iff, whole, inner)?;
+    let defined = connect(draft, Op::Iff, whole, inner)?;
     end_valued(
         draft, front, value, part, inner, no_inner, whole, defined, end,
     )

@@ -4,7 +4,7 @@ ghost use Rattle.tr_split_goals.specs.Kept.{split_keeps};
 
 use crate::gluing::glue_goal;
 use evidence::{Draft, StageFault, Transform, fact_lemma};
-use stage_limits::limited;
+use stage_limits::limit_tasks;
 use std::alloc::{AllocError, Global};
 use tasks::{Fact, Task};
 use term_store::Store;
@@ -12,7 +12,7 @@ use tr_split::split_goal;
 use trees::TermId;
 
 /// The transformation that takes a goal apart, whatever the goal: a task for each part, or `TooLarge` where they are too large.
-#[derive(Clone, Copy, Debug)]
+#[derive(Clone, Copy)]
 pub struct Split;
 
 impl Transform for Split {
@@ -26,7 +26,7 @@ impl Transform for Split {
         task: &Task,
     ) -> Result<Vec<Task>, StageFault> {
         match split_goal(alloc, store, task) {
-            Ok(tasks) => limited(store, tasks),
+            Ok(tasks) => limit_tasks(store, tasks),
             Err(_) => Err(StageFault::Memory),
         }
     }

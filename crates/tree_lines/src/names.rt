@@ -46,7 +46,7 @@ impl Names {
     }
 
     /// The first entry with a name.
-    pub fn find<'a>(&self, table: &'a [NameEntry], name: &[u8]) -> Option<&'a NameEntry>
+    pub fn find_entry<'a>(&self, table: &'a [NameEntry], name: &[u8]) -> Option<&'a NameEntry>
         requires { IsNamesOf self.now table.now }
         ensures { option_map (λ e. e.now) result ≡ entry_named table.now name.now }
     {
@@ -181,7 +181,7 @@ pub fn meaning_of(
     ensures held { IfOk result (λ o. IfSome o (λ n. HoldTypes store.new n.types.items)) }
     ensures grows { Grows store.old store.new }
 {
-    let Some(entry) = names.find(table, name) else {
+    let Some(entry) = names.find_entry(table, name) else {
         return Ok(None);
     };
     match types_of_entries(alloc, store, table, entry.types.as_slice())? {

@@ -65,7 +65,7 @@ fn root_marks(alloc: Global, store: &Store, roots: &[TermId]) -> Result<Vec<bool
 }
 
 /// Trees and all that stand in them, marked.
-pub(crate) fn marked(
+pub(crate) fn mark_trees(
     alloc: Global,
     store: &Store,
     roots: &[TermId],

@@ -69,7 +69,7 @@ pub(crate) fn push_symbol(
         (words_of words.new.items)) }
 {
     x.store.laws();
-    let Some(spelling) = x.names.find(x.store, x.table, symbol, list) else {
+    let Some(spelling) = x.names.find_spelling(x.store, x.table, symbol, list) else {
         unreachable!()
     };
     let numbers = type_numbers(alloc, x, list, spelling.whole)?;

@@ -102,7 +102,7 @@ impl SymbolNames {
     }
 
     /// A name of a symbol: one under which it stands whole, else one at the types of a list.
-    pub fn find<'a>(
+    pub fn find_spelling<'a>(
         &self,
         store: &Store,
         table: &'a [NameEntry],

@@ -12,7 +12,7 @@ ghost use Rattle.tree_writing.specs.Whole.{kind_of_sort, IsOfKind, letter, TopNa
 ghost use Rattle.tree_writing.specs.declared.writer.LineKind.{LineKind};
 
 use crate::expressions::expression_words;
-use crate::marking::marked;
+use crate::marking::mark_trees;
 use crate::naming::{Source, table_symbol, type_words};
 use crate::spelling::SymbolNames;
 use crate::used::pattern_words;
@@ -79,12 +79,12 @@ fn has_name(store: &Store, names: &SymbolNames, table: &[NameEntry], id: TermId)
     match store.node(id) {
         Node::TyVar(_) => false,
         Node::TyRigid(k) => names
-            .find(store, table, NameOf::Rigid(k), names.end)
+            .find_spelling(store, table, NameOf::Rigid(k), names.end)
             .is_some(),
-        Node::TyApp(k, list) => names.find(store, table, table_symbol(k), list).is_some(),
-        Node::Fun(k, list, _, _) => names.find(store, table, NameOf::Symbol(k), list).is_some(),
-        Node::Pred(k, list, _) => names.find(store, table, NameOf::Symbol(k), list).is_some(),
-        Node::PatCon(k, list, _, _) => names.find(store, table, NameOf::Symbol(k), list).is_some(),
+        Node::TyApp(k, list) => names.find_spelling(store, table, table_symbol(k), list).is_some(),
+        Node::Fun(k, list, _, _) => names.find_spelling(store, table, NameOf::Symbol(k), list).is_some(),
+        Node::Pred(k, list, _) => names.find_spelling(store, table, NameOf::Symbol(k), list).is_some(),
+        Node::PatCon(k, list, _, _) => names.find_spelling(store, table, NameOf::Symbol(k), list).is_some(),
         _ => true,
     }
 }
@@ -119,10 +119,10 @@ pub fn push_line(text: &mut Vec<u8>, first: u8, words: &[Vec<u8>]) -> Result<(),
 {
     text.push(first)?;
     for word in words {
-        text.push(32)?;
+        text.push(b' ')?;
         text.extend_from_slice(word)?;
     }
-    text.push(10)?;
+    text.push(b'\n')?;
     Ok(())
 }
 
@@ -281,7 +281,7 @@ pub fn written_trees(
     ensures none { IfOk result (λ o. IfNone o
         (LacksName table.now (trees_at store.now roots.now))) }
 {
-    let marks = marked(alloc, store, roots)?;
+    let marks = mark_trees(alloc, store, roots)?;
     let x = Trees {
         store,
         table,

@@ -88,7 +88,7 @@ static UNNAMED: [&[TermId]; 4] = [
     &[TermId(26), TermId(28)],
 ];
 
-fn filled(rt: &impl Abort, alloc: Global) -> Store {
+fn filled_store(rt: &impl Abort, alloc: Global) -> Store {
     let mut store = Store::new(alloc).expect(rt, MEMORY);
     for (place, node) in NODES.iter().enumerate() {
         assert!(rt; store.accepts(*node));
@@ -112,7 +112,7 @@ fn held_of(rt: &impl Abort, alloc: Global, store: &Store, ids: &[TermId]) -> Vec
 }
 
 fn each_is_written(rt: &impl Abort, alloc: Global, rows: &[(&[TermId], usize, &str)]) {
-    let mut store = filled(rt, alloc);
+    let mut store = filled_store(rt, alloc);
     let table = table(rt, alloc);
     let names = Names::new(alloc, &table).expect(rt, MEMORY);
     let symbols = SymbolNames::new(alloc, &mut store, &names, &table).expect(rt, MEMORY);
@@ -137,7 +137,7 @@ fn lines_are_written(rt: HostRuntime) {
 }
 
 fn each_lacks_a_name(rt: &impl Abort, alloc: Global, rows: &[&[TermId]]) {
-    let mut store = filled(rt, alloc);
+    let mut store = filled_store(rt, alloc);
     let table = table(rt, alloc);
     let names = Names::new(alloc, &table).expect(rt, MEMORY);
     let symbols = SymbolNames::new(alloc, &mut store, &names, &table).expect(rt, MEMORY);

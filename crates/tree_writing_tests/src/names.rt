@@ -64,7 +64,7 @@ static NONE: [(NameOf, usize); 8] = [
 ];
 
 // A store with the nodes.
-fn filled(rt: &impl Abort, alloc: Global) -> Store {
+fn filled_store(rt: &impl Abort, alloc: Global) -> Store {
     let mut store = Store::new(alloc).expect(rt, MEMORY);
     for node in &NODES {
         assert!(rt; store.accepts(*node));
@@ -88,7 +88,7 @@ pub(crate) fn table(rt: &impl Abort, alloc: Global) -> Vec<NameEntry> {
 }
 
 fn each_is_found(rt: &impl Abort, alloc: Global, rows: &[(NameOf, usize, &str, bool)]) {
-    let mut store = filled(rt, alloc);
+    let mut store = filled_store(rt, alloc);
     let table = table(rt, alloc);
     let names = Names::new(alloc, &table).expect(rt, MEMORY);
     let symbols = SymbolNames::new(alloc, &mut store, &names, &table).expect(rt, MEMORY);
@@ -96,7 +96,7 @@ fn each_is_found(rt: &impl Abort, alloc: Global, rows: &[(NameOf, usize, &str, b
         let list = TermId(*list);
         assert!(rt; store.holds(list));
         let found = symbols
-            .find(&store, &table, *symbol, list)
+            .find_spelling(&store, &table, *symbol, list)
             .expect(rt, "no name");
         assert!(rt; found.name == name.as_bytes(), "{name}");
         assert!(rt; found.whole == *whole, "{name}");
@@ -104,14 +104,14 @@ fn each_is_found(rt: &impl Abort, alloc: Global, rows: &[(NameOf, usize, &str, b
 }
 
 fn each_is_missing(rt: &impl Abort, alloc: Global, rows: &[(NameOf, usize)]) {
-    let mut store = filled(rt, alloc);
+    let mut store = filled_store(rt, alloc);
     let table = table(rt, alloc);
     let names = Names::new(alloc, &table).expect(rt, MEMORY);
     let symbols = SymbolNames::new(alloc, &mut store, &names, &table).expect(rt, MEMORY);
     for (symbol, list) in rows {
         let list = TermId(*list);
         assert!(rt; store.holds(list));
-        assert!(rt; symbols.find(&store, &table, *symbol, list).is_none());
+        assert!(rt; symbols.find_spelling(&store, &table, *symbol, list).is_none());
     }
 }
 

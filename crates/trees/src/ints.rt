@@ -2,7 +2,7 @@
 // A signature tells them, and arithmetic on terms reads them.
 
 /// The entries of the functions and predicates of the theory `int.Int` in a signature.
-#[derive(Clone, Copy, Debug)]
+#[derive(Clone, Copy)]
 pub struct Ints {
     pub neg: usize,
     pub add: usize,

@@ -33,7 +33,7 @@ enum Place {
 }
 
 // A place of a list with at most one type.
-fn only(store: &Store, known: Option<TermId>, place: usize) -> Place
+fn only_place(store: &Store, known: Option<TermId>, place: usize) -> Place
     requires { IfSome known (Holds store.now) }
     ensures { IsPlace store.now (option_list (option_map (tree_at store.now) known)) place result }
 {
@@ -56,8 +56,8 @@ fn of_pattern(store: &Store, pattern: TermId, place: usize) -> Place
     ensures { IsPlace store.now (pattern_types (tree_at store.now pattern)) place result }
 {
     match store.node(pattern) {
-        Node::PatVar(a) => only(store, Some(a), place),
-        Node::PatAlias(a) => match only(store, type_of(store, a), place) {
+        Node::PatVar(a) => only_place(store, Some(a), place),
+        Node::PatAlias(a) => match only_place(store, type_of(store, a), place) {
             Place::Found(ty) => Place::Found(ty),
             Place::Past(left) => of_pattern(store, a, left),
         },
@@ -77,8 +77,8 @@ fn of_binder(store: &Store, binder: Binder, first: TermId, place: usize) -> Plac
         result }
 {
     match binder {
-        Binder::Quantifier => only(store, Some(first), place),
-        Binder::Let => only(store, type_of(store, first), place),
+        Binder::Quantifier => only_place(store, Some(first), place),
+        Binder::Let => only_place(store, type_of(store, first), place),
         Binder::Arm => of_pattern(store, first, place),
     }
 }

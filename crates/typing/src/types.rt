@@ -72,7 +72,7 @@ fn member(store: &Store, list: TermId, place: usize) -> Option<TermId>
 }
 
 // The type at a place.
-fn nth(store: &Store, types: Types<'_>, place: usize) -> Option<TermId>
+fn type_at_place(store: &Store, types: Types<'_>, place: usize) -> Option<TermId>
     requires { TypesHeld store.now types }
     ensures tree { option_map (tree_at store.now) result
         ≡ slice_get (types_at store.now types.entry) place }
@@ -94,7 +94,7 @@ impl Put for Types<'_> {
             return Some(s.same(made, e));
         }
         match s.node(e) {
-            Node::TyVar(number) => match nth(s, *self, number) {
+            Node::TyVar(number) => match type_at_place(s, *self, number) {
                 Some(known) => Some(s.same(made, known)),
                 None => Some(s.same(made, e)),
             },

@@ -15,7 +15,7 @@ use tree_writing::SymbolNames;
 fn is_plain(byte: u8) -> bool
     ensures { IsTrue result ↔ IsPlain byte }
 {
-    byte != 32 && byte != 10
+    byte != b' ' && byte != b'\n'
 }
 
 // Whether no space and no line feed stands in a name.
@@ -67,13 +67,13 @@ fn names_symbol(store: &Store, names: &SymbolNames, table: &[NameEntry], rule: &
 {
     match rule {
         Rule::Def(k, _) => names
-            .find(store, table, NameOf::Symbol(*k), names.end)
+            .find_spelling(store, table, NameOf::Symbol(*k), names.end)
             .is_some(),
         Rule::Clause(k, _, _) => names
-            .find(store, table, NameOf::Symbol(*k), names.end)
+            .find_spelling(store, table, NameOf::Symbol(*k), names.end)
             .is_some(),
         Rule::Inv(k, _) => names
-            .find(store, table, NameOf::Symbol(*k), names.end)
+            .find_spelling(store, table, NameOf::Symbol(*k), names.end)
             .is_some(),
         _ => true,
     }

@@ -68,7 +68,7 @@ fn push_symbol_name(
 {
     let Some(spelling) = x
         .names
-        .find(x.store, x.table, NameOf::Symbol(symbol), x.names.end)
+        .find_spelling(x.store, x.table, NameOf::Symbol(symbol), x.names.end)
     else {
         unreachable!()
     };

@@ -34,4 +34,4 @@ pub returns-clause-values : goal.returns-clause-values
 returns-clause-values c =
     let end : c.loop-k.k ≡ length c.args.equations.now = omega (arith, c.loop-k-test.false, c.loop-k.auto.k-end) in
     let whole : take c.loop-k.k c.args.equations.now ≡ c.args.equations.now = ap (λ (n : ℕ). take n c.args.equations.now) end ∙ take-length c.args.equations.now in
-    value_given c.args.rigid_vars c.args.store.now c.args.equations.now c.loop-k.k c.loop-k.store c.determined.new.store c.loop-k.bindings c.in_ok-values.values c.loop-k.invariant whole c.in_ok-values.ensures.grows c.in_ok-values.ensures.values c.in_ok-values.ensures.treated
+    value_given c.args.rigid_vars c.args.store.now c.args.equations.now c.loop-k.k c.loop-k.store c.determined_unknowns.new.store c.loop-k.bindings c.in_ok-values.values c.loop-k.invariant whole c.in_ok-values.ensures.grows c.in_ok-values.ensures.values c.in_ok-values.ensures.treated

@@ -160,7 +160,7 @@ by_word-returns-clause-used t c =
 pub by_holding-by_word-requires : goal.by_holding-by_word-requires
 by_holding-by_word-requires t c =
     let d = c.args.draft.now in
-    let d1 = c.negated.new.draft in
+    let d1 = c.negate_both.new.draft in
     let s = d.trees in
     let F = c.args.front.now in
     let T = c.args.tail.now in
@@ -202,14 +202,14 @@ by_holding-by_word-requires t c =
 pub by_holding-returns-in_ok-both-in-Join-clause-refutes : goal.by_holding-returns-in_ok-both-in-Join-clause-refutes
 by_holding-returns-in_ok-both-in-Join-clause-refutes t c =
     let d = c.args.draft.now in
-    let d1 = c.negated.new.draft in
+    let d1 = c.negate_both.new.draft in
     let x = AddsTrees_extends d d1 c.in_ok-both-in-Join.ensures.grows in
     IfOk-weaker c.by_word.result _ _ (λ r q. back d d1 x c.args.front.now c.args.tail.now c.requires.front c.requires.tail c.by_word.new.draft r.step q) c.by_word.ensures.refutes
 
 pub by_holding-returns-in_ok-both-in-Join-clause-used : goal.by_holding-returns-in_ok-both-in-Join-clause-used
 by_holding-returns-in_ok-both-in-Join-clause-used t c =
     let d = c.args.draft.now in
-    let d1 = c.negated.new.draft in
+    let d1 = c.negate_both.new.draft in
     let s = d.trees in
     let F = c.args.front.now in
     let T = c.args.tail.now in
@@ -226,7 +226,7 @@ by_holding-returns-in_ok-both-in-Join-clause-used t c =
 pub by_failed-by_word-requires : goal.by_failed-by_word-requires
 by_failed-by_word-requires t c =
     let d = c.args.draft.now in
-    let d1 = c.negated.new.draft in
+    let d1 = c.negate_both.new.draft in
     let s = d.trees in
     let F = c.args.front.now in
     let T = c.args.tail.now in
@@ -267,14 +267,14 @@ by_failed-by_word-requires t c =
 pub by_failed-returns-in_ok-both-in-Join-clause-refutes : goal.by_failed-returns-in_ok-both-in-Join-clause-refutes
 by_failed-returns-in_ok-both-in-Join-clause-refutes t c =
     let d = c.args.draft.now in
-    let d1 = c.negated.new.draft in
+    let d1 = c.negate_both.new.draft in
     let x = AddsTrees_extends d d1 c.in_ok-both-in-Join.ensures.grows in
     IfOk-weaker c.by_word.result _ _ (λ r q. back d d1 x c.args.front.now c.args.tail.now c.requires.front c.requires.tail c.by_word.new.draft r.step q) c.by_word.ensures.refutes
 
 pub by_failed-returns-in_ok-both-in-Join-clause-used : goal.by_failed-returns-in_ok-both-in-Join-clause-used
 by_failed-returns-in_ok-both-in-Join-clause-used t c =
     let d = c.args.draft.now in
-    let d1 = c.negated.new.draft in
+    let d1 = c.negate_both.new.draft in
     let s = d.trees in
     let F = c.args.front.now in
     let T = c.args.tail.now in

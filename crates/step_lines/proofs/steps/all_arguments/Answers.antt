@@ -52,8 +52,8 @@ returns-in-Some-2-clause-trees c =
     let own = c.in_ok-own.ensures.trees ∙ ap (λ (l : List ArgumentKind). own_types t x.table.now r l (texts words)) c.kinds_of-kinds.ensures.first in
     let first = (rw c.in-Some.is at c.in_ok-first.ensures.trees) ∙ arguments_same s s' g x c.requires c.kinds_of-kinds.result.first.now [] front ∙ ap (λ (l : List ArgumentKind). arguments t x.table.now r l [] front) c.kinds_of-kinds.ensures.first in
     let rest = (rw c.in-Some-2.is at c.in_ok-rest.ensures.trees) ∙ arguments_same s s' g x c.requires [] c.kinds_of-kinds.result.repeated.now back ∙ ap (λ (l : List ArgumentKind). arguments t x.table.now r [] l back) c.kinds_of-kinds.ensures.repeated in
-    let items = c.in_ok-joined-in-Some-2.ensures ∙ ap (λ (l : List Argument). c.in-Some.first.items ++ (l ++ c.deref-in-Some-2.result.now)) c.deref.ensures.value ∙ ap (λ (l : List Argument). c.in-Some.first.items ++ (c.in_ok-own.own.items ++ l)) c.deref-in-Some-2.ensures.value in
-    ap Some (three_lists s' c.in_ok-joined-in-Some-2.field-0.items c.in-Some.first.items c.in_ok-own.own.items c.in-Some-2.rest.items items)
+    let items = c.in_ok-join_arguments-in-Some-2.ensures ∙ ap (λ (l : List Argument). c.in-Some.first.items ++ (l ++ c.deref-in-Some-2.result.now)) c.deref.ensures.value ∙ ap (λ (l : List Argument). c.in-Some.first.items ++ (c.in_ok-own.own.items ++ l)) c.deref-in-Some-2.ensures.value in
+    ap Some (three_lists s' c.in_ok-join_arguments-in-Some-2.field-0.items c.in-Some.first.items c.in_ok-own.own.items c.in-Some-2.rest.items items)
     ∙ all_made t x.table.now r ks words c.min-count.result cut (arguments_at s' c.in_ok-own.own.items) (arguments_at s' c.in-Some.first.items) (arguments_at s' c.in-Some-2.rest.items) own first rest
 
 pub returns-in-Some-2-clause-held : goal.returns-in-Some-2-clause-held
@@ -61,7 +61,7 @@ returns-in-Some-2-clause-held c =
     let s' = c.types_of_first.new.store in
     let first = rw c.in-Some.is at c.in_ok-first.ensures.held in
     let rest = rw c.in-Some-2.is at c.in_ok-rest.ensures.held in
-    let items = c.in_ok-joined-in-Some-2.ensures ∙ ap (λ (l : List Argument). c.in-Some.first.items ++ (l ++ c.deref-in-Some-2.result.now)) c.deref.ensures.value ∙ ap (λ (l : List Argument). c.in-Some.first.items ++ (c.in_ok-own.own.items ++ l)) c.deref-in-Some-2.ensures.value in
+    let items = c.in_ok-join_arguments-in-Some-2.ensures ∙ ap (λ (l : List Argument). c.in-Some.first.items ++ (l ++ c.deref-in-Some-2.result.now)) c.deref.ensures.value ∙ ap (λ (l : List Argument). c.in-Some.first.items ++ (c.in_ok-own.own.items ++ l)) c.deref-in-Some-2.ensures.value in
     let all = All-append (ArgumentHeld s') c.in-Some.first.items (c.in_ok-own.own.items ++ c.in-Some-2.rest.items) first (All-append (ArgumentHeld s') c.in_ok-own.own.items c.in-Some-2.rest.items c.in_ok-own.ensures.held rest) in
     subst (λ (l : List Argument). All (ArgumentHeld s') l) (sym items) all
 

@@ -19,7 +19,7 @@ use Rattle.tr_introduce.proofs.gluing.+glue.Goals as goal
 pub glue_universal-glue_goal-requires : goal.glue_universal-glue_goal-requires
 glue_universal-glue_goal-requires t c =
     let d = c.args.draft.now in
-    let d1 = c.opened.new.g in
+    let d1 = c.open_body.new.g in
     let F = c.args.front.now in
     let f = c.requires.goal in
     let o = c.in_ok-goal_at.ensures in
@@ -45,21 +45,21 @@ glue_universal-glue_goal-requires t c =
 pub glue_universal-refute_universal-requires-clause-front : goal.glue_universal-refute_universal-requires-clause-front
 glue_universal-refute_universal-requires-clause-front t c =
     let d = c.args.draft.now in
-    let x = Extends_trans d c.opened.new.g c.glue_goal.new.draft (AddsTrees_extends _ _ c.in_ok-goal_at.ensures.grows) c.in_ok-step.ensures.grows in
+    let x = Extends_trans d c.open_body.new.g c.glue_goal.new.draft (AddsTrees_extends _ _ c.in_ok-goal_at.ensures.grows) c.in_ok-step.ensures.grows in
     formulas_later d c.glue_goal.new.draft x c.args.front.now c.requires.front
 
 pub glue_universal-refute_universal-requires-clause-below : goal.glue_universal-refute_universal-requires-clause-below
 glue_universal-refute_universal-requires-clause-below t c =
     let d = c.args.draft.now in
     let d2 = c.glue_goal.new.draft in
-    let x = Extends_trans d c.opened.new.g d2 (AddsTrees_extends _ _ c.in_ok-goal_at.ensures.grows) c.in_ok-step.ensures.grows in
+    let x = Extends_trans d c.open_body.new.g d2 (AddsTrees_extends _ _ c.in_ok-goal_at.ensures.grows) c.in_ok-step.ensures.grows in
     let e : tree_at d2.trees c.args.goal ≡ tree_at d.trees c.args.goal = x.trees.same c.args.goal.0 c.requires.goal.held in
     subst (λ (es : List Tree). AreBelow c.args.number es (tree_at d2.trees c.args.goal)) (sym (same d d2 x c.args.front.now c.requires.front)) (subst (AreBelow c.args.number (trees_at d.trees c.args.front.now)) (sym e) c.requires.below)
 
 pub glue_universal-refute_universal-requires-clause-opened : goal.glue_universal-refute_universal-requires-clause-opened
 glue_universal-refute_universal-requires-clause-opened t c =
     let d = c.args.draft.now in
-    let d1 = c.opened.new.g in
+    let d1 = c.open_body.new.g in
     let d2 = c.glue_goal.new.draft in
     let F = c.args.front.now in
     let o = c.in_ok-goal_at.ensures in
@@ -80,7 +80,7 @@ pub glue_universal-returns-clause-refutes : goal.glue_universal-returns-clause-r
 glue_universal-returns-clause-refutes t c =
     let d = c.args.draft.now in
     let d2 = c.glue_goal.new.draft in
-    let x = Extends_trans d c.opened.new.g d2 (AddsTrees_extends _ _ c.in_ok-goal_at.ensures.grows) c.in_ok-step.ensures.grows in
+    let x = Extends_trans d c.open_body.new.g d2 (AddsTrees_extends _ _ c.in_ok-goal_at.ensures.grows) c.in_ok-step.ensures.grows in
     IfOk-weaker c.refute_universal.result _ _ (λ k r. neg_back d d2 x c.args.front.now c.requires.front c.args.goal c.requires.goal c.refute_universal.new.draft k r) c.refute_universal.ensures.refutes
 
 pub glue_universal-returns-clause-grows : goal.glue_universal-returns-clause-grows

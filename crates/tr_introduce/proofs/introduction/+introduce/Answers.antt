@@ -10,7 +10,7 @@ use Rattle.tr_introduce.proofs.introduction.+introduce.Goals as goal
 pub introduce-requires : goal.introduce-requires
 introduce-requires t c =
     let s = c.args.store.now in
-    let s1 = c.opened.new.g in
+    let s1 = c.open_body.new.g in
     let b = c.in-Universal.ensures in
     let ty = c.in-Universal.ty in
     let body = c.in-Universal.body in
@@ -22,7 +22,7 @@ introduce-requires t c =
 pub returns-in_ok-push-in-Universal-clause-is : goal.returns-in_ok-push-in-Universal-clause-is
 returns-in_ok-push-in-Universal-clause-is t c =
     let s = c.args.store.now in
-    let s1 = c.opened.new.g in
+    let s1 = c.open_body.new.g in
     let b = c.in-Universal.ensures in
     let ty = c.in-Universal.ty in
     let body = c.in-Universal.body in

@@ -10,15 +10,15 @@ use Rattle.tr_split.proofs.parts.add_wrapped.Goals as goal
 abbrev none : TermId
 none = record { 0 = 0 }
 
-pub wrapped-requires-clause-sentence : goal.wrapped-requires-clause-sentence
-wrapped-requires-clause-sentence c =
+pub wrap_part-requires-clause-sentence : goal.wrap_part-requires-clause-sentence
+wrap_part-requires-clause-sentence c =
     let at : IsSentence (tree_at c.args.store.now (get_or c.args.formulas.now c.loop-formula.formula-index none)) = sentence_at c.args.store.now c.args.formulas.now c.loop-formula.formula-index none c.requires.sentences c.loop-formula-test.true in
     let e = c.loop-formula.invariant.grows.same _ (c.requires.formulas_held c.loop-formula.formula-index none c.loop-formula-test.true) in
     subst IsSentence (sym e) at
 
 pub loop-formula-preserved : goal.loop-formula-preserved
 loop-formula-preserved c =
-    let a = c.args.store.now in let b = c.loop-formula.store in let d = c.wrapped.new.store in
+    let a = c.args.store.now in let b = c.loop-formula.store in let d = c.wrap_part.new.store in
     let p = c.args.parts.now.items in let q = c.loop-formula.parts.items in
     let id = c.in_ok-whole.whole in
     let g = gains_wrapped a b d p q c.push.new.self.items c.args.formulas.now c.loop-formula.formula-index id c.args.first none (head_of_node c.args.node) c.loop-formula.invariant.grows c.in_ok-whole.ensures.grows

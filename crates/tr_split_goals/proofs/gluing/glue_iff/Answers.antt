@@ -18,8 +18,8 @@ pub refute_iff-requires-clause-front : goal.refute_iff-requires-clause-front
 refute_iff-requires-clause-front c =
     let d = c.args.draft.now in
     let F = c.args.front.now in
-    let d1 = c.connected.new.draft in
-    let d2 = c.connected-2.new.draft in
+    let d1 = c.connect.new.draft in
+    let d2 = c.connect-2.new.draft in
     let x1 = AddsTrees_extends d d1 c.in_ok-there.ensures.grows in
     let x2 = AddsTrees_extends d1 d2 c.in_ok-back.ensures.grows in
     let x : Extends d d2 = Extends_trans d d1 d2 x1 x2 in
@@ -34,8 +34,8 @@ pub refute_iff-requires-clause-left : goal.refute_iff-requires-clause-left
 refute_iff-requires-clause-left c =
     let d = c.args.draft.now in
     let F = c.args.front.now in
-    let d1 = c.connected.new.draft in
-    let d2 = c.connected-2.new.draft in
+    let d1 = c.connect.new.draft in
+    let d2 = c.connect-2.new.draft in
     let x1 = AddsTrees_extends d d1 c.in_ok-there.ensures.grows in
     let x2 = AddsTrees_extends d1 d2 c.in_ok-back.ensures.grows in
     let x : Extends d d2 = Extends_trans d d1 d2 x1 x2 in
@@ -51,8 +51,8 @@ pub refute_iff-requires-clause-right : goal.refute_iff-requires-clause-right
 refute_iff-requires-clause-right c =
     let d = c.args.draft.now in
     let F = c.args.front.now in
-    let d1 = c.connected.new.draft in
-    let d2 = c.connected-2.new.draft in
+    let d1 = c.connect.new.draft in
+    let d2 = c.connect-2.new.draft in
     let x1 = AddsTrees_extends d d1 c.in_ok-there.ensures.grows in
     let x2 = AddsTrees_extends d1 d2 c.in_ok-back.ensures.grows in
     let x : Extends d d2 = Extends_trans d d1 d2 x1 x2 in
@@ -70,8 +70,8 @@ pub returns-clause-refutes : goal.returns-clause-refutes
 returns-clause-refutes c =
     let d = c.args.draft.now in
     let F = c.args.front.now in
-    let d1 = c.connected.new.draft in
-    let d2 = c.connected-2.new.draft in
+    let d1 = c.connect.new.draft in
+    let d2 = c.connect-2.new.draft in
     let x1 = AddsTrees_extends d d1 c.in_ok-there.ensures.grows in
     let x2 = AddsTrees_extends d1 d2 c.in_ok-back.ensures.grows in
     let x : Extends d d2 = Extends_trans d d1 d2 x1 x2 in

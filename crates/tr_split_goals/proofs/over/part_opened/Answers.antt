@@ -22,9 +22,9 @@ negation-requires c =
     let ref = c.requires.end.refutes in
     let o = c.in_ok-inner.ensures in
     let n : tree_at s c.last_formula-no_whole.result ≡ neg (Two HForall (tree_at s c.args.ty) part) = c.last_formula-no_whole.ensures.is (trees_at s F) (neg (Two HForall (tree_at s c.args.ty) part)) ref in
-    let w : tree_at s c.negated-whole.result ≡ Two HForall (tree_at s c.args.ty) part = neg_same (tree_at s c.negated-whole.result) (Two HForall (tree_at s c.args.ty) part) (sym c.negated-whole.ensures.tree ∙ n) in
+    let w : tree_at s c.formula_under_not-whole.result ≡ Two HForall (tree_at s c.args.ty) part = neg_same (tree_at s c.formula_under_not-whole.result) (Two HForall (tree_at s c.args.ty) part) (sym c.formula_under_not-whole.ensures.tree ∙ n) in
     let p : tree_at s c.under_binder-part.result ≡ part = c.under_binder-part.ensures.universal (tree_at s c.args.ty) part w in
-    opened_formula d c.negated-whole.result c.under_binder-part.result c.args.term (tree_at s c.args.ty) c.negated-whole.ensures.formula (w ∙ ap (Two HForall (tree_at s c.args.ty)) (sym p)) c.requires.term d1 c.in_ok-inner.inner o.grows.task o.held o.keeps
+    opened_formula d c.formula_under_not-whole.result c.under_binder-part.result c.args.term (tree_at s c.args.ty) c.formula_under_not-whole.ensures.formula (w ∙ ap (Two HForall (tree_at s c.args.ty)) (sym p)) c.requires.term d1 c.in_ok-inner.inner o.grows.task o.held o.keeps
 
 pub end_opened-requires-clause-front : goal.end_opened-requires-clause-front
 end_opened-requires-clause-front c =
@@ -45,9 +45,9 @@ end_opened-requires-clause-end c =
     let part = c.requires.end.part in
     let ref = c.requires.end.refutes in
     let n : tree_at s c.last_formula-no_whole.result ≡ neg (Two HForall (tree_at s c.args.ty) part) = c.last_formula-no_whole.ensures.is (trees_at s F) (neg (Two HForall (tree_at s c.args.ty) part)) ref in
-    let w : tree_at s c.negated-whole.result ≡ Two HForall (tree_at s c.args.ty) part = neg_same (tree_at s c.negated-whole.result) (Two HForall (tree_at s c.args.ty) part) (sym c.negated-whole.ensures.tree ∙ n) in
-    let e : Two HForall (tree_at s c.args.ty) part ≡ tree_at d1.trees c.negated-whole.result = sym (x.trees.same c.negated-whole.result.0 c.negated-whole.ensures.formula.held ∙ w) in
-    moved d d1 x F c.requires.front c.args.end (neg (Two HForall (tree_at s c.args.ty) part) ∷ []) (neg (tree_at d1.trees c.negated-whole.result) ∷ []) (ap (λ (z : Tree). neg z ∷ []) e) ref
+    let w : tree_at s c.formula_under_not-whole.result ≡ Two HForall (tree_at s c.args.ty) part = neg_same (tree_at s c.formula_under_not-whole.result) (Two HForall (tree_at s c.args.ty) part) (sym c.formula_under_not-whole.ensures.tree ∙ n) in
+    let e : Two HForall (tree_at s c.args.ty) part ≡ tree_at d1.trees c.formula_under_not-whole.result = sym (x.trees.same c.formula_under_not-whole.result.0 c.formula_under_not-whole.ensures.formula.held ∙ w) in
+    moved d d1 x F c.requires.front c.args.end (neg (Two HForall (tree_at s c.args.ty) part) ∷ []) (neg (tree_at d1.trees c.formula_under_not-whole.result) ∷ []) (ap (λ (z : Tree). neg z ∷ []) e) ref
 
 pub returns-clause-refutes : goal.returns-clause-refutes
 returns-clause-refutes c =
@@ -59,7 +59,7 @@ returns-clause-refutes c =
     let b : trees_at d1.trees F ≡ trees_at s F = same d d1 x F c.requires.front in
     IfOk-weaker c.end_opened.result _ _ (λ k r part ref.
     let n : tree_at s c.last_formula-no_whole.result ≡ neg (Two HForall (tree_at s c.args.ty) part) = c.last_formula-no_whole.ensures.is (trees_at s F) (neg (Two HForall (tree_at s c.args.ty) part)) ref in
-    let w : tree_at s c.negated-whole.result ≡ Two HForall (tree_at s c.args.ty) part = neg_same (tree_at s c.negated-whole.result) (Two HForall (tree_at s c.args.ty) part) (sym c.negated-whole.ensures.tree ∙ n) in
+    let w : tree_at s c.formula_under_not-whole.result ≡ Two HForall (tree_at s c.args.ty) part = neg_same (tree_at s c.formula_under_not-whole.result) (Two HForall (tree_at s c.args.ty) part) (sym c.formula_under_not-whole.ensures.tree ∙ n) in
     let p : tree_at s c.under_binder-part.result ≡ part = c.under_binder-part.ensures.universal (tree_at s c.args.ty) part w in
     let m : tree_at c.instance.new.g.trees c.in_ok-inner.inner ≡ inst part (tree_at s c.args.term) = c.in_ok-inner.ensures.tree ∙ ap (λ (z : Tree). inst z (tree_at s c.args.term)) p in
     let q : tree_at c.negation.new.draft.trees c.in_ok-no_inner.no_inner ≡ neg (inst part (tree_at s c.args.term)) = c.in_ok-no_inner.ensures.tree ∙ ap neg m in

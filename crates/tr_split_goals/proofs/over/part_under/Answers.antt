@@ -31,9 +31,9 @@ end_under-requires-clause-end c =
     let part = c.requires.end.part in
     let ref = c.requires.end.refutes in
     let n : tree_at s c.last_formula-no_whole.result ≡ neg (imp (tree_at s c.args.hypothesis) part) = c.last_formula-no_whole.ensures.is (trees_at s F) (neg (imp (tree_at s c.args.hypothesis) part)) ref in
-    let w : tree_at s c.negated-whole.result ≡ imp (tree_at s c.args.hypothesis) part = neg_same (tree_at s c.negated-whole.result) (imp (tree_at s c.args.hypothesis) part) (sym c.negated-whole.ensures.tree ∙ n) in
-    let e : imp (tree_at s c.args.hypothesis) part ≡ tree_at d1.trees c.negated-whole.result = sym (x.trees.same c.negated-whole.result.0 c.negated-whole.ensures.formula.held ∙ w) in
-    moved d d1 x F c.requires.front c.args.end (neg (imp (tree_at s c.args.hypothesis) part) ∷ []) (neg (tree_at d1.trees c.negated-whole.result) ∷ []) (ap (λ (z : Tree). neg z ∷ []) e) ref
+    let w : tree_at s c.formula_under_not-whole.result ≡ imp (tree_at s c.args.hypothesis) part = neg_same (tree_at s c.formula_under_not-whole.result) (imp (tree_at s c.args.hypothesis) part) (sym c.formula_under_not-whole.ensures.tree ∙ n) in
+    let e : imp (tree_at s c.args.hypothesis) part ≡ tree_at d1.trees c.formula_under_not-whole.result = sym (x.trees.same c.formula_under_not-whole.result.0 c.formula_under_not-whole.ensures.formula.held ∙ w) in
+    moved d d1 x F c.requires.front c.args.end (neg (imp (tree_at s c.args.hypothesis) part) ∷ []) (neg (tree_at d1.trees c.formula_under_not-whole.result) ∷ []) (ap (λ (z : Tree). neg z ∷ []) e) ref
 
 pub returns-clause-refutes : goal.returns-clause-refutes
 returns-clause-refutes c =
@@ -45,7 +45,7 @@ returns-clause-refutes c =
     let b : trees_at d1.trees F ≡ trees_at s F = same d d1 x F c.requires.front in
     IfOk-weaker c.end_under.result _ _ (λ k r part ref.
     let n : tree_at s c.last_formula-no_whole.result ≡ neg (imp (tree_at s c.args.hypothesis) part) = c.last_formula-no_whole.ensures.is (trees_at s F) (neg (imp (tree_at s c.args.hypothesis) part)) ref in
-    let w : tree_at s c.negated-whole.result ≡ imp (tree_at s c.args.hypothesis) part = neg_same (tree_at s c.negated-whole.result) (imp (tree_at s c.args.hypothesis) part) (sym c.negated-whole.ensures.tree ∙ n) in
+    let w : tree_at s c.formula_under_not-whole.result ≡ imp (tree_at s c.args.hypothesis) part = neg_same (tree_at s c.formula_under_not-whole.result) (imp (tree_at s c.args.hypothesis) part) (sym c.formula_under_not-whole.ensures.tree ∙ n) in
     let p : tree_at s c.right_side-part.result ≡ part = c.right_side-part.ensures.tree (tree_at s c.args.hypothesis) part w in
     let q : tree_at d1.trees c.in_ok-no_part.no_part ≡ neg part = c.in_ok-no_part.ensures.tree ∙ ap neg p in
     let h : tree_at d1.trees c.args.hypothesis ≡ tree_at s c.args.hypothesis = x.trees.same c.args.hypothesis.0 c.requires.hypothesis.held in

@@ -11,7 +11,7 @@ pub unreachable-requires : goal.unreachable-requires
 unreachable-requires c =
     let list = tree_at c.args.x.now.store.now c.args.list in
     let is : list ≡ cells (members list) = is_cells list (c.laws.ensures.sorted c.args.list c.requires.held) c.requires.types.0 in
-    let none = subst IsSome c.in_default.is (c.find.ensures.found (members list) is c.requires.spelt) in
+    let none = subst IsSome c.in_default.is (c.find_spelling.ensures.found (members list) is c.requires.spelt) in
     absurd (cc)
 
 pub returns : goal.returns

@@ -17,7 +17,7 @@ returns-in-TyRigid c =
     let table = c.args.table.now in
     let b = c.is_some.result in
     subst (λ (x : Tree). (IsTrue b → TopNamed table x) × (TopNamed table x → IsTrue b)) (sym c.in-TyRigid.ensures.tree)
-    (found_iff table (Rigid c.in-TyRigid.k) [] (tree_at s c.args.names.now.end) c.find.result b c.is_some.ensures c.requires.names.none c.find.ensures.spells c.find.ensures.found)
+    (found_iff table (Rigid c.in-TyRigid.k) [] (tree_at s c.args.names.now.end) c.find_spelling.result b c.is_some.ensures c.requires.names.none c.find_spelling.ensures.spells c.find_spelling.ensures.found)
 
 pub returns-in-TyApp : goal.returns-in-TyApp
 returns-in-TyApp c =
@@ -28,7 +28,7 @@ returns-in-TyApp c =
     let w = subst WellSorted c.in-TyApp.ensures.tree c.in-TyApp.ensures.sorted in
     subst (λ (x : Tree). (IsTrue b → TopNamed table x) × (TopNamed table x → IsTrue b)) (sym c.in-TyApp.ensures.tree)
     (subst (λ (n : NameOf). (IsTrue b → IsSpelt table n (members list)) × (IsSpelt table n (members list) → IsTrue b)) c.table_symbol.ensures
-    (found_iff table c.table_symbol.result (members list) list c.find-in-TyApp.result b c.is_some-in-TyApp.ensures (is_cells list w.1 w.0.0) c.find-in-TyApp.ensures.spells c.find-in-TyApp.ensures.found))
+    (found_iff table c.table_symbol.result (members list) list c.find_spelling-in-TyApp.result b c.is_some-in-TyApp.ensures (is_cells list w.1 w.0.0) c.find_spelling-in-TyApp.ensures.spells c.find_spelling-in-TyApp.ensures.found))
 
 pub returns-in-Fun : goal.returns-in-Fun
 returns-in-Fun c =
@@ -38,7 +38,7 @@ returns-in-Fun c =
     let list = tree_at s c.in-Fun.list in
     let w = subst WellSorted c.in-Fun.ensures.tree c.in-Fun.ensures.sorted in
     subst (λ (x : Tree). (IsTrue b → TopNamed table x) × (TopNamed table x → IsTrue b)) (sym c.in-Fun.ensures.tree)
-    (found_iff table (Symbol c.in-Fun.k) (members list) list c.find-in-Fun.result b c.is_some-in-Fun.ensures (is_cells list w.1 w.0.0.0) c.find-in-Fun.ensures.spells c.find-in-Fun.ensures.found)
+    (found_iff table (Symbol c.in-Fun.k) (members list) list c.find_spelling-in-Fun.result b c.is_some-in-Fun.ensures (is_cells list w.1 w.0.0.0) c.find_spelling-in-Fun.ensures.spells c.find_spelling-in-Fun.ensures.found)
 
 pub returns-in-Pred : goal.returns-in-Pred
 returns-in-Pred c =
@@ -48,7 +48,7 @@ returns-in-Pred c =
     let list = tree_at s c.in-Pred.list in
     let w = subst WellSorted c.in-Pred.ensures.tree c.in-Pred.ensures.sorted in
     subst (λ (x : Tree). (IsTrue b → TopNamed table x) × (TopNamed table x → IsTrue b)) (sym c.in-Pred.ensures.tree)
-    (found_iff table (Symbol c.in-Pred.k) (members list) list c.find-in-Pred.result b c.is_some-in-Pred.ensures (is_cells list w.1 w.0.0.0.0) c.find-in-Pred.ensures.spells c.find-in-Pred.ensures.found)
+    (found_iff table (Symbol c.in-Pred.k) (members list) list c.find_spelling-in-Pred.result b c.is_some-in-Pred.ensures (is_cells list w.1 w.0.0.0.0) c.find_spelling-in-Pred.ensures.spells c.find_spelling-in-Pred.ensures.found)
 
 pub returns-in-PatCon : goal.returns-in-PatCon
 returns-in-PatCon c =
@@ -58,4 +58,4 @@ returns-in-PatCon c =
     let list = tree_at s c.in-PatCon.list in
     let w = subst WellSorted c.in-PatCon.ensures.tree c.in-PatCon.ensures.sorted in
     subst (λ (x : Tree). (IsTrue b → TopNamed table x) × (TopNamed table x → IsTrue b)) (sym c.in-PatCon.ensures.tree)
-    (found_iff table (Symbol c.in-PatCon.k) (members list) list c.find-in-PatCon.result b c.is_some-in-PatCon.ensures (is_cells list w.1 w.0.0.0) c.find-in-PatCon.ensures.spells c.find-in-PatCon.ensures.found)
+    (found_iff table (Symbol c.in-PatCon.k) (members list) list c.find_spelling-in-PatCon.result b c.is_some-in-PatCon.ensures (is_cells list w.1 w.0.0.0) c.find_spelling-in-PatCon.ensures.spells c.find_spelling-in-PatCon.ensures.found)

@@ -14,7 +14,7 @@ returns-in-Def c =
     let table = c.args.table.now in
     let b = c.is_some.result in
     subst (λ (r : Rule). (IsTrue b → All (λ k. IsSpelt table (Symbol k) []) (rule_symbols (rule_at s r))) × (All (λ k. IsSpelt table (Symbol k) []) (rule_symbols (rule_at s r)) → IsTrue b)) (sym c.in-Def.is)
-    (only (λ k. IsSpelt table (Symbol k) []) c.in-Def.k b (found_iff table (Symbol c.in-Def.k) [] (tree_at s c.args.names.now.end) c.find.result b c.is_some.ensures c.requires.none c.find.ensures.spells c.find.ensures.found))
+    (only (λ k. IsSpelt table (Symbol k) []) c.in-Def.k b (found_iff table (Symbol c.in-Def.k) [] (tree_at s c.args.names.now.end) c.find_spelling.result b c.is_some.ensures c.requires.none c.find_spelling.ensures.spells c.find_spelling.ensures.found))
 
 pub returns-in-Clause : goal.returns-in-Clause
 returns-in-Clause c =
@@ -22,7 +22,7 @@ returns-in-Clause c =
     let table = c.args.table.now in
     let b = c.is_some-in-Clause.result in
     subst (λ (r : Rule). (IsTrue b → All (λ k. IsSpelt table (Symbol k) []) (rule_symbols (rule_at s r))) × (All (λ k. IsSpelt table (Symbol k) []) (rule_symbols (rule_at s r)) → IsTrue b)) (sym c.in-Clause.is)
-    (only (λ k. IsSpelt table (Symbol k) []) c.in-Clause.k b (found_iff table (Symbol c.in-Clause.k) [] (tree_at s c.args.names.now.end) c.find-in-Clause.result b c.is_some-in-Clause.ensures c.requires.none c.find-in-Clause.ensures.spells c.find-in-Clause.ensures.found))
+    (only (λ k. IsSpelt table (Symbol k) []) c.in-Clause.k b (found_iff table (Symbol c.in-Clause.k) [] (tree_at s c.args.names.now.end) c.find_spelling-in-Clause.result b c.is_some-in-Clause.ensures c.requires.none c.find_spelling-in-Clause.ensures.spells c.find_spelling-in-Clause.ensures.found))
 
 pub returns-in-Inv : goal.returns-in-Inv
 returns-in-Inv c =
@@ -30,4 +30,4 @@ returns-in-Inv c =
     let table = c.args.table.now in
     let b = c.is_some-in-Inv.result in
     subst (λ (r : Rule). (IsTrue b → All (λ k. IsSpelt table (Symbol k) []) (rule_symbols (rule_at s r))) × (All (λ k. IsSpelt table (Symbol k) []) (rule_symbols (rule_at s r)) → IsTrue b)) (sym c.in-Inv.is)
-    (only (λ k. IsSpelt table (Symbol k) []) c.in-Inv.k b (found_iff table (Symbol c.in-Inv.k) [] (tree_at s c.args.names.now.end) c.find-in-Inv.result b c.is_some-in-Inv.ensures c.requires.none c.find-in-Inv.ensures.spells c.find-in-Inv.ensures.found))
+    (only (λ k. IsSpelt table (Symbol k) []) c.in-Inv.k b (found_iff table (Symbol c.in-Inv.k) [] (tree_at s c.args.names.now.end) c.find_spelling-in-Inv.result b c.is_some-in-Inv.ensures c.requires.none c.find_spelling-in-Inv.ensures.spells c.find_spelling-in-Inv.ensures.found))

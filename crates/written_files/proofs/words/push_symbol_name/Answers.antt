@@ -6,7 +6,7 @@ use Rattle.written_files.proofs.words.push_symbol_name.Goals as goal
 
 pub unreachable-requires : goal.unreachable-requires
 unreachable-requires c =
-    let none = subst IsSome c.in_default.is (c.find.ensures.found [] c.requires.names.none c.requires.spelt) in
+    let none = subst IsSome c.in_default.is (c.find_spelling.ensures.found [] c.requires.names.none c.requires.spelt) in
     absurd (cc)
 
 pub returns : goal.returns

@@ -13,12 +13,12 @@ invariant_of-self-in-Ok c =
     let key_is : c.in_ok-key.key.items ≡ c.args.name.items = c.in_ok-key.ensures.items ∙ c.as_slice.ensures.value in
     let updates = updates_name c.in_ok-key.key.items c.self.inside.meanings c.insert.new.self _ c.in-Ok.ensures.updates in
     rw c.in_ok-push.ensures.items
-    (kept_push c.self.inside.stored.items x c.self.inside.meanings c.insert.new.self c.known-known.result c.with.result
+    (kept_push c.self.inside.stored.items x c.self.inside.meanings c.insert.new.self c.meanings_of-known.result c.with_meaning.result
     c.self.invariant
-    (λ t. c.known-known.ensures t ∙ ap (λ (n : List ℕ). meaning t n c.args.self.now) c.as_slice-2.ensures.value ∙ ap (meaning t c.args.name.items) (sym c.self.view_is))
-    (λ t. c.with.ensures t ∙ ap (λ (m : Meaning). cond (same_table t c.args.table) (Some m) (meaning_in t c.known-known.result)) c.meaning_after-meaning.ensures)
+    (λ t. c.meanings_of-known.ensures t ∙ ap (λ (n : List ℕ). meaning t n c.args.self.now) c.as_slice-2.ensures.value ∙ ap (meaning t c.args.name.items) (sym c.self.view_is))
+    (λ t. c.with_meaning.ensures t ∙ ap (λ (m : Meaning). cond (same_table t c.args.table) (Some m) (meaning_in t c.meanings_of-known.result)) c.meaning_after-meaning.ensures)
     c.in_table-before.ensures
-    (λ q. updates q ∙ ap (λ (n : List ℕ). cond (bytes_eq n q) (Some c.with.result) (meanings_of c.self.inside.meanings q)) key_is))
+    (λ q. updates q ∙ ap (λ (n : List ℕ). cond (bytes_eq n q) (Some c.with_meaning.result) (meanings_of c.self.inside.meanings q)) key_is))
 
 pub returns-clause-ok : goal.returns-clause-ok
 returns-clause-ok c =

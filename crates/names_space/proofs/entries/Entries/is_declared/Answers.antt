@@ -4,4 +4,4 @@ use Rattle.names_space.proofs.Listed.{was_declared-meaning}
 use Rattle.names_space.proofs.entries.Entries.is_declared.Goals as goal
 
 pub returns : goal.returns
-returns c = c.was_declared.ensures ∙ ap was_declared (c.in_table.ensures ∙ c.known.ensures c.args.table) ∙ was_declared-meaning c.args.table c.args.name.now c.args.self.now
+returns c = c.was_declared.ensures ∙ ap was_declared (c.in_table.ensures ∙ c.meanings_of.ensures c.args.table) ∙ was_declared-meaning c.args.table c.args.name.now c.args.self.now

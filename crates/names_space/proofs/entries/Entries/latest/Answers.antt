@@ -4,4 +4,4 @@ use Rattle.names_space.proofs.Listed.{thing_of-meaning}
 use Rattle.names_space.proofs.entries.Entries.latest.Goals as goal
 
 pub returns : goal.returns
-returns c = c.thing_of.ensures ∙ ap thing_of (c.in_table.ensures ∙ c.known.ensures c.args.table) ∙ thing_of-meaning c.args.table c.args.name.now c.args.self.now
+returns c = c.thing_of.ensures ∙ ap thing_of (c.in_table.ensures ∙ c.meanings_of.ensures c.args.table) ∙ thing_of-meaning c.args.table c.args.name.now c.args.self.now

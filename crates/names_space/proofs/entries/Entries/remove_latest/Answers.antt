@@ -7,9 +7,9 @@ pub invariant_of-self : goal.invariant_of-self
 invariant_of-self c =
     let kept = rw c.in-Some.ensures.items at c.self.invariant in
     let known = ap (λ (n : List ℕ). meanings_of c.self.inside.meanings n) (sym c.as_slice.ensures.value) ∙ sym c.in-Some-get_mut.ensures.value in
-    let updates = updates_name c.as_slice.result.now c.self.inside.meanings (c.get_mut.follows.lender c.with.result) (Some c.with.result) ((c.get_mut.follows.holds c.with.result).3 (search rules)) in
-    kept_pop c.pop.new.self.items c.in-Some.last c.self.inside.meanings (c.get_mut.follows.lender c.with.result) c.in-Some-get_mut.known.now c.with.result
-    kept known c.with.ensures
+    let updates = updates_name c.as_slice.result.now c.self.inside.meanings (c.get_mut.follows.lender c.with_meaning.result) (Some c.with_meaning.result) ((c.get_mut.follows.holds c.with_meaning.result).3 (search rules)) in
+    kept_pop c.pop.new.self.items c.in-Some.last c.self.inside.meanings (c.get_mut.follows.lender c.with_meaning.result) c.in-Some-get_mut.known.now c.with_meaning.result
+    kept known c.with_meaning.ensures
     (λ q. rw (← c.as_slice.ensures.value) (updates q))
 
 pub returns-in-Some-get_mut : goal.returns-in-Some-get_mut

@@ -1,5 +1,0 @@
-use Rattle.rule_rows.specs.Meaning.{StepsHeld}
-use Rattle.kernel_tests.proofs.steps.before.Given as goal
-
-abbrev pub invariant-loop-ids : goal.invariant-loop-ids
-invariant-loop-ids g l = StepsHeld l.store l.steps
