@@ -1,5 +1,5 @@
 //! The change of a tree over a store: one walk for all binding functions, which remembers what it made.
-//! It stands on the store's queries; the binding functions stand on it.
+//! It depends on the store's queries; the binding functions depend on it.
 
 ghost use Rattle.std.specs.Prelude.{◌≡◌, ◌<◌, List, None, length, IfOk};
 ghost use Rattle.trees.specs.Node.{tree_at, node_tree, assemble, Holds, Grows, head_of_node, parts_of, AreBelow, IsLike};
@@ -7,7 +7,7 @@ ghost use Rattle.trees.specs.Sorts.{sort_of, Fits, WellSorted};
 ghost use Rattle.trees.specs.Facts.{IndicesFit, PutsSorts};
 ghost use Rattle.trees.specs.Tree.{Tree, head_of};
 ghost use Rattle.trees.specs.Binding.{Change, change};
-ghost use Rattle.binders.specs.Depth.{IsUnder, FitsUnder, IsVisited, IsPlain};
+ghost use Rattle.binders.specs.Depth.{IsUnder, FitsUnder, IsVisited, ChangesChildrenOnly};
 ghost use Rattle.binders.specs.Known.{CanRebuild, IsRebuilt};
 
 use indexmap::IndexMap;
@@ -140,7 +140,7 @@ fn rebuild_parts<G: Grow, V: Visit>(
 ) -> Result<TermId, AllocError>
     requires can { CanRebuild (V.change_over visit.now (G.trees g.old))
         (V.Ready visit.now (G.trees g.old)) (G.trees g.old) known.old e depth }
-    requires plain { IsPlain (V.change_over visit.now (G.trees g.old))
+    requires plain { ChangesChildrenOnly (V.change_over visit.now (G.trees g.old))
         (head_of (tree_at (G.trees g.old) e)) }
     ensures rebuilt { IfOk result (IsRebuilt (V.change_over visit.now (G.trees g.old))
         (tree_at (G.trees g.old) e) depth (G.trees g.new) known.new) }

@@ -1,5 +1,5 @@
-// The calls of `binders` on trees that are small enough, and a plain walk that makes each occurrence anew as their reference.
-// They stand on the store; the tables and the random trees stand on them.
+// The calls of `binders` on trees that are small enough, and a plain walk that makes each occurrence again as their reference.
+// They depend on the store; the tables and the random trees depend on them.
 ghost use Rattle.std.specs.Prelude.{◌≡◌, ◌<◌, IsTrue};
 ghost use Rattle.trees.specs.Tree.{loose, size};
 ghost use Rattle.trees.specs.Node.{tree_at, Holds};
@@ -11,7 +11,7 @@ use term_store::{Grow, Store};
 use trees::{Node, Parts, Sort, TermId};
 
 // What a call does: shift by so much from there on, put a term in for the variable 0, two for 1 and 0, a type for the type
-// variable 0, or close over a parameter. Trees stand under their numbers.
+// variable 0, or close over a parameter. Trees are under their numbers.
 #[derive(Clone, Copy)]
 pub enum Change {
     Shift(usize, usize),
@@ -56,7 +56,13 @@ fn is_closed_term(store: &Store, e: TermId) -> bool
     store.loose(e) == 0 && is(store, e, Sort::Term)
 }
 
-fn try_shift(alloc: Global, store: &mut Store, e: TermId, up: usize, from: usize) -> Option<TermId> {
+fn try_shift(
+    alloc: Global,
+    store: &mut Store,
+    e: TermId,
+    up: usize,
+    from: usize,
+) -> Option<TermId> {
     if !store.holds(e) {
         return None;
     }
@@ -278,7 +284,7 @@ fn rebuild_node(
     }
 }
 
-// The change of a tree below so many binders, by a walk that makes each occurrence of a part anew.
+// The change of a tree below so many binders, by a walk that makes each occurrence of a part again.
 pub fn plain(
     alloc: Global,
     store: &mut Store,

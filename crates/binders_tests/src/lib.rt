@@ -1,5 +1,5 @@
 //! Tests of the binding functions: tables, random trees against a plain walk, and trees with more nodes than a number counts.
-//! It stands on binders; nothing stands on it.
+//! It depends on binders; nothing depends on it.
 #![tactic(auto)]
 
 #[cfg(test)]

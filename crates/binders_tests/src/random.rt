@@ -1,5 +1,5 @@
 // Random trees of each kind, each changed by the calls and by the plain walk, and a chain that is too large for it.
-// They go through the calls of `binders` over a store; the tables stand on them.
+// They go through the calls of `binders` over a store; the tables depend on them.
 use crate::calls::{Change, is_made, make_change, plain, put};
 use std::alloc::Global;
 use term_store::Store;

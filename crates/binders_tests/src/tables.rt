@@ -1,5 +1,5 @@
 // Trees with binders, and what each call makes of them, reasoned from the textbook's equations.
-// They go through the calls of `binders` over a store; nothing stands on them.
+// They go through the calls of `binders` over a store; nothing depends on them.
 use crate::calls::{Change, is_made, make_change, put};
 use crate::random::{agree_on_random_trees, fill, put_into_chain};
 use binders::{has_param, occurs};

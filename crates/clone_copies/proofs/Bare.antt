@@ -21,14 +21,14 @@ use Rattle.theory_states.specs.declared.states.AxiomAt.{AxiomAt}
 use Rattle.theory_states.specs.declared.states.Known.{Known}
 use Rattle.theory_states.specs.declared.states.Opened.{Opened}
 use Rattle.theory_states.specs.declared.states.Typed.{Typed}
-use Rattle.theory_states.specs.States.{KnownTree, OpenedTree, StateTree, joined, with_declaration}
+use Rattle.theory_states.specs.States.{KnownTree, OpenedTree, StateTree, joined_places, with_declaration}
 use Rattle.theory_states.specs.Meaning.{known_at, opened_at, state_at, TypedHeld, OpenedHeld, StateHeld}
 use Rattle.theory_states.proofs.Growing.{state_grows, held_grows, typed_held_later, all_known_stay}
 use Rattle.symbol_maps.specs.Mapped.{Map}
 use Rattle.symbol_maps.specs.Meaning.{map_at, MapHeld}
 use Rattle.symbol_maps.proofs.Steps.{map_stays}
 use Rattle.clone_copies.specs.declared.places.Job.{Job}
-use Rattle.clone_copies.specs.Places.{Copying, axiom_at, with_axiom, goal_of, goal_with, next_numbers, rigid_types, with_joined}
+use Rattle.clone_copies.specs.Places.{Copying, axiom_at, with_copied_axiom, goal_of, goal_with, next_numbers, rigid_types, with_joined}
 use Rattle.clone_copies.specs.Meaning.{copying_at, bare_at}
 
 abbrev pub bare : StateTree → StateTree
@@ -48,7 +48,7 @@ declared_bare s x y o p d e = ap bare e
 -- ---- one more axiom
 pub axiom_bare : (s : List Tree) (x y : Typed) (o p : Opened) (d : DeclarationTree) (as_ : List AxiomAt) (vars : List (List ℕ))
     → state_at s y p ≡ with_declaration d (state_at s x o) → as_ ≡ o.axioms ++ axiom_at (length x.decls) vars ∷ []
-    → bare_at s y (record p { axioms = as_ }) ≡ with_axiom vars d (bare_at s x o)
+    → bare_at s y (record p { axioms = as_ }) ≡ with_copied_axiom vars d (bare_at s x o)
 axiom_bare s x y o p d as_ vars e q =
     let put : List AxiomAt → StateTree → StateTree = λ it c. record c { trees = []; opened = record c.opened { axioms = it } } in
     let n : length x.decls ≡ length (declarations_at s x.decls) = sym (length-map x.decls (declaration_at s)) in
@@ -58,7 +58,7 @@ pub axiom_held : (s : List Tree) (y : Typed) (p : Opened) (as_ : List AxiomAt) �
 axiom_held s y p as_ h = record { typed = h.typed; opened = record { visible = h.opened.visible; goals = h.opened.goals } }
 
 -- ---- a place that is joined
-pub joined_bare : (s : List Tree) (x : Typed) (o p : Opened) (k : ℕ) → p ≡ record o { visible = p.visible } → p.visible.keys ≡ joined o.visible.keys (k ∷ []) → bare_at s x p ≡ with_joined k (bare_at s x o)
+pub joined_bare : (s : List Tree) (x : Typed) (o p : Opened) (k : ℕ) → p ≡ record o { visible = p.visible } → p.visible.keys ≡ joined_places o.visible.keys (k ∷ []) → bare_at s x p ≡ with_joined k (bare_at s x o)
 joined_bare s x o p k e q =
     let put : List ℕ → StateTree = λ ks. record (bare_at s x o) { opened = record (opened_at s o) { visible = ks } } in
     ap (bare_at s x) e ∙ ap put q

@@ -6,7 +6,7 @@ use Rattle.syntax_why.specs.declared.declarations.PropKind.TheVariants as kind
 use Rattle.theory_states.specs.States.{StateTree, with_declaration}
 use Rattle.clone_elements.specs.Plans.{is_replaced, kind_or}
 use Rattle.clone_copies.specs.Origins.{is_own}
-use Rattle.clone_copies.specs.Places.{Copying, goal_with, with_goal, with_kind, with_copy, copy_of, with_own, with_joined, with_place}
+use Rattle.clone_copies.specs.Places.{Copying, goal_with, with_copied_goal, with_kind, with_copy, copy_of, with_own, with_joined, with_place}
 
 declared : (d : DeclarationTree) (c : StateTree) → length c.decls ≤ length (with_declaration d c).decls
 declared d c = omega (arith, length-append c.decls (d ∷ []))
@@ -21,7 +21,7 @@ goal_keeps vars name (Constructs ds) c = refl
 
 kind_longer : (k : PropKind) (vars : List (List ℕ)) (d : DeclarationTree) (c : StateTree) → length c.decls ≤ length (with_kind k vars d c).decls
 kind_longer kind.Axiom vars d c = declared d c
-kind_longer kind.Lemma vars d c = omega (arith, ap length (goal_keeps vars d.name d.body c), declared d (with_goal vars d c))
+kind_longer kind.Lemma vars d c = omega (arith, ap length (goal_keeps vars d.name d.body c), declared d (with_copied_goal vars d c))
 kind_longer kind.Goal vars d c = omega (arith, ap length (goal_keeps vars d.name d.body c))
 
 copy_longer : (x : Copying) (k : ℕ) (o : Option (List (List ℕ))) (d : DeclarationTree) (c : StateTree) → length c.decls ≤ length (with_copy x k o d c).decls

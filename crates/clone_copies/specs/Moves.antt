@@ -1,4 +1,4 @@
--- The names that a clone hands on: what each stands for is mapped (Why3 manual, "theory cloning").
+-- The names that a clone passes on: what each stands for is mapped (Why3 manual, "theory cloning").
 use Rattle.std.specs.Prelude.{◌≡◌, ℕ, ◌<◌, List, length, get_or, Option, Some, None}
 use Rattle.trees.specs.Tree.{Tree}
 use Rattle.trees.specs.Node.{tree_at}

@@ -34,8 +34,8 @@ abbrev pub with_axioms : List AxiomAt → Axioms → Axioms
 with_axioms [] f = f
 with_axioms (a ∷ as_) f = with_axioms as_ (λ q. if a.decl == q then Some a.vars else f q)
 
-abbrev pub axioms_of : List AxiomAt → Axioms
-axioms_of as_ = with_axioms as_ no_axioms
+abbrev pub axioms_at : List AxiomAt → Axioms
+axioms_at as_ = with_axioms as_ no_axioms
 
 abbrev pub origin_of : List DeclarationTree → KnownTree → Origin
-origin_of ds t = record { decls = ds; own = own_places ds t; axioms = λ k. is_some (axioms_of t.axioms k) }
+origin_of ds t = record { decls = ds; own = own_places ds t; axioms = λ k. is_some (axioms_at t.axioms k) }

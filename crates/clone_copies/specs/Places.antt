@@ -11,17 +11,18 @@ use Rattle.symbol_maps.specs.Mapped.{Map}
 use Rattle.clones.specs.Copies.{declaration_copied}
 use Rattle.goal_tasks.specs.Theories.{GoalTree}
 use Rattle.theory_states.specs.declared.states.AxiomAt.{AxiomAt}
-use Rattle.theory_states.specs.States.{StateTree, OpenedTree, joined, with_declaration}
+use Rattle.theory_states.specs.States.{StateTree, OpenedTree, joined_places, with_declaration}
 use Rattle.clone_elements.specs.Left.{decl_or}
-use Rattle.clone_elements.specs.Plans.{Fates, is_replaced, kind_or}
+use Rattle.clone_elements.specs.Plans.{PlacedFates, is_replaced, kind_or}
 use Rattle.clone_copies.specs.Origins.{Axioms, is_own}
+pub use Rattle.elab_parts.specs.Outcomes.{rigid_types}
 
 -- the path of the theory that is cloned and its axioms, what becomes of its declarations, whether all axioms that aren't named stay
 -- axioms, the map, and the names of the scopes of the copies, each followed by a dot
 pub record Copying : Type 0 where
   pub path : Word
   pub axioms : Axioms
-  pub fates : Fates
+  pub fates : PlacedFates
   pub all : Bool
   pub mapping : Map
   pub within : Word
@@ -31,16 +32,13 @@ pub record Copying : Type 0 where
 abbrev pub axiom_at : ℕ → List Word → AxiomAt
 axiom_at place vars = record { decl = place; vars = vars }
 
-abbrev pub with_axiom : List Word → DeclarationTree → StateTree → StateTree
-with_axiom vars d c = record (with_declaration d c) { opened = record (with_declaration d c).opened { axioms = c.opened.axioms ++ axiom_at (length c.decls) vars ∷ [] } }
+abbrev pub with_copied_axiom : List Word → DeclarationTree → StateTree → StateTree
+with_copied_axiom vars d c = record (with_declaration d c) { opened = record (with_declaration d c).opened { axioms = c.opened.axioms ++ axiom_at (length c.decls) vars ∷ [] } }
 
 -- as a goal: its type variables are the next entries
 abbrev pub next_numbers : ℕ → List Word → List ℕ
 next_numbers k [] = []
 next_numbers k (v ∷ vs) = k ∷ next_numbers (k + 1) vs
-
-abbrev pub rigid_types : List ℕ → List Tree
-rigid_types ks = map (λ k. Leaf (HTyRigid k)) ks
 
 abbrev pub goal_of : Word → ℕ → Tree → List ℕ → GoalTree
 goal_of name before e ks = record { name = name; before = before; prop = inst_types e (rigid_types ks); rigid = ks }
@@ -56,14 +54,14 @@ goal_with vars name (Defines ds) c = c
 goal_with vars name (Induces ds) c = c
 goal_with vars name (Constructs ds) c = c
 
-abbrev pub with_goal : List Word → DeclarationTree → StateTree → StateTree
-with_goal vars d c = goal_with vars d.name d.body c
+abbrev pub with_copied_goal : List Word → DeclarationTree → StateTree → StateTree
+with_copied_goal vars d c = goal_with vars d.name d.body c
 
 -- a lemma is known after its goal
 abbrev pub with_kind : PropKind → List Word → DeclarationTree → StateTree → StateTree
-with_kind kind.Axiom vars d c = with_axiom vars d c
-with_kind kind.Lemma vars d c = with_declaration d (with_goal vars d c)
-with_kind kind.Goal vars d c = with_goal vars d c
+with_kind kind.Axiom vars d c = with_copied_axiom vars d c
+with_kind kind.Lemma vars d c = with_declaration d (with_copied_goal vars d c)
+with_kind kind.Goal vars d c = with_copied_goal vars d c
 
 -- ---- all copies
 abbrev pub with_copy : Copying → ℕ → Option (List Word) → DeclarationTree → StateTree → StateTree
@@ -74,7 +72,7 @@ abbrev pub copy_of : Copying → StateTree → ℕ → DeclarationTree
 copy_of x c k = declaration_copied x.mapping c.opened.path x.within (decl_or c.decls k)
 
 abbrev pub with_joined : ℕ → StateTree → StateTree
-with_joined k c = record c { opened = record c.opened { visible = joined c.opened.visible (k ∷ []) } }
+with_joined k c = record c { opened = record c.opened { visible = joined_places c.opened.visible (k ∷ []) } }
 
 -- an own declaration is copied unless it is replaced, another one is joined
 abbrev pub with_own : Copying → ℕ → StateTree → StateTree

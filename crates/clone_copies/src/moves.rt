@@ -1,4 +1,4 @@
-// The names that a clone hands on.
+// The names that a clone passes on.
 // They depend on maps of symbols and on moves in scopes.
 ghost use Rattle.std.specs.Prelude.{◌≡◌, List, All, IfOk, OnOk};
 ghost use Rattle.trees.specs.Tree.{Tree};

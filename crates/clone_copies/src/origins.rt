@@ -5,7 +5,7 @@ ghost use Rattle.indexmap.specs.IndexMap.{get};
 ghost use Rattle.trees.specs.Tree.{Tree};
 ghost use Rattle.tasks.specs.Meaning.{declarations_at};
 ghost use Rattle.theory_states.specs.Meaning.{known_at};
-ghost use Rattle.clone_copies.specs.Origins.{is_own, own_at, own_places, axioms_of};
+ghost use Rattle.clone_copies.specs.Origins.{is_own, own_at, own_places, axioms_at};
 
 use indexmap::IndexMap;
 use outside::{Seq, Text};
@@ -69,7 +69,7 @@ pub fn axioms_of(
     alloc: Global,
     axioms: &[AxiomAt],
 ) -> Result<IndexMap<usize, Seq<Text>>, AllocError>
-    ensures { IfOk result (λ m. get nat_eq m ≡ axioms_of axioms.now) }
+    ensures { IfOk result (λ m. get nat_eq m ≡ axioms_at axioms.now) }
 {
     let mut places: IndexMap<usize, Seq<Text>> = IndexMap::new(alloc);
     for it in axioms {

@@ -13,7 +13,7 @@ ghost use Rattle.elab_parts.specs.Entries.{IsSignature, IsExtended};
 ghost use Rattle.theory_states.specs.Meaning.{StateHeld};
 ghost use Rattle.clone_elements.specs.Plans.{kind_or};
 ghost use Rattle.clone_elements.specs.Meaning.{fates_at};
-ghost use Rattle.clone_copies.specs.Places.{next_numbers, rigid_types, with_axiom, goal_with, with_goal, with_kind, with_copy, with_own, with_place, with_places};
+ghost use Rattle.clone_copies.specs.Places.{next_numbers, rigid_types, with_copied_axiom, goal_with, with_copied_goal, with_kind, with_copy, with_own, with_place, with_places};
 ghost use Rattle.clone_copies.specs.Meaning.{copying_at, bare_at};
 
 use crate::origins::{copy_names, is_own};
@@ -116,7 +116,7 @@ fn push_axiom(
 ) -> Result<(), AllocError>
     requires held { StateHeld store.now typed.old open.old }
     requires copy_held { DeclHeld store.now copy }
-    ensures state { OnOk result (bare_at store.now typed.new open.new ≡ with_axiom vars.now
+    ensures state { OnOk result (bare_at store.now typed.new open.new ≡ with_copied_axiom vars.now
         (declaration_at store.now copy) (bare_at store.now typed.old open.old)) }
     ensures held { OnOk result (StateHeld store.now typed.new open.new) }
 {
@@ -170,7 +170,7 @@ fn push_goal(
 ) -> Result<(), AllocError>
     requires held { StateHeld store.old typed.old open.old }
     requires copy_held { DeclHeld store.old copy.now }
-    ensures state { OnOk result (bare_at store.new typed.new open.new ≡ with_goal vars.now
+    ensures state { OnOk result (bare_at store.new typed.new open.new ≡ with_copied_goal vars.now
         (declaration_at store.old copy.now) (bare_at store.old typed.old open.old)) }
     ensures held { OnOk result (StateHeld store.new typed.new open.new) }
     ensures grows { Grows store.old store.new }

@@ -26,7 +26,7 @@ pub on_both : {T E P Q R : Type 0} (r : Result T E) → (P → Q → R) → OnOk
 on_both (Ok x) f p q = f p q
 on_both (Err e) f p q = tt
 
--- a fault that is handed on
+-- a fault that is passed on
 pub err_passed : {T E : Type 0} (P : E → Type 0) (r : Result T E) (g : E) → IsErrAnd r (λ (e : E). e ≡ g) → P g → IfErr r P
 err_passed P (Ok v) g h p = tt
 err_passed P (Err e) g h p = subst P (sym h) p

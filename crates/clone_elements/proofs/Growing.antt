@@ -9,13 +9,13 @@ use Rattle.clone_elements.specs.declared.rights.Right.{Right}
 use Rattle.clone_elements.specs.declared.rights.Right.TheVariants as right
 use Rattle.clone_elements.specs.declared.plans.Side.{Side as CodeSide}
 use Rattle.clone_elements.specs.declared.plans.TypeFor.{TypeFor}
-use Rattle.clone_elements.specs.Rights.{RightTree, is_type, IsWithin}
-use Rattle.clone_elements.specs.Plans.{Side}
-use Rattle.clone_elements.specs.Meaning.{right_at, RightHeld, side_at, sides_at, SideHeld, type_pair, types_at, TypeForHeld}
+use Rattle.clone_elements.specs.Rights.{RightTree, type_right, IsWithin}
+use Rattle.clone_elements.specs.Plans.{SideTree}
+use Rattle.clone_elements.specs.Meaning.{right_at, RightHeld, side_at, sides_at, SideHeld, type_pair, type_pairs_at, TypeForHeld}
 
 module _ (s t : List Tree) (w : Grows s t) where
   pub right_stays : (r : Right) → RightHeld s r → right_at t r ≡ right_at s r
-  right_stays (right.Type ty) h = ap is_type (type_stays s t w ty h)
+  right_stays (right.Type ty) h = ap type_right (type_stays s t w ty h)
   right_stays (right.Symbol k) h = refl
   right_stays right.Nothing h = refl
 
@@ -25,7 +25,7 @@ module _ (s t : List Tree) (w : Grows s t) where
   right_grows right.Nothing h = tt
 
   pub side_stays : (x : CodeSide) → SideHeld s x → side_at t x ≡ side_at s x
-  side_stays x h = let mk : RightTree → Side = λ r. record { element = element_of x.element.now; left = x.left; right = r } in ap mk (right_stays x.right h.right)
+  side_stays x h = let mk : RightTree → SideTree = λ r. record { element = element_of x.element.now; left = x.left; right = r } in ap mk (right_stays x.right h.right)
 
   pub side_grows : (x : CodeSide) → SideHeld s x → SideHeld t x
   side_grows x h = record { right = right_grows x.right h.right; within = subst (IsWithin (element_of x.element.now)) (sym (right_stays x.right h.right)) h.within }
@@ -36,7 +36,7 @@ module _ (s t : List Tree) (w : Grows s t) where
   pub sides_grow : (xs : List CodeSide) → All (SideHeld s) xs → All (SideHeld t) xs
   sides_grow xs a k d h = side_grows (get_or xs k d) (a k d h)
 
-  pub types_for_stay : (ps : List TypeFor) → All (TypeForHeld s) ps → types_at t ps ≡ types_at s ps
+  pub types_for_stay : (ps : List TypeFor) → All (TypeForHeld s) ps → type_pairs_at t ps ≡ type_pairs_at s ps
   types_for_stay ps a = map_agree (type_pair t) (type_pair s) ps (λ k d h. let p = get_or ps k d in ap (λ (e : Tree). let it : ℕ × Tree = (p.symbol, e) in it) (type_stays s t w p.ty (a k d h)))
 
   pub types_for_grow : (ps : List TypeFor) → All (TypeForHeld s) ps → All (TypeForHeld t) ps

@@ -9,17 +9,17 @@ use Rattle.std.proofs.Common.{All}
 use Rattle.symbol_maps.specs.Mapped.{Map}
 use Rattle.clone_elements.specs.declared.left.Source.{Source}
 use Rattle.clone_elements.specs.Left.{Origin}
-use Rattle.clone_elements.specs.Plans.{Side, Fates}
+use Rattle.clone_elements.specs.Plans.{SideTree, PlacedFates}
 use Rattle.clone_elements.specs.Elements.{SidesTold}
 use Rattle.clone_elements.specs.Origins.{origin_at}
 
-pub told_moved : (a b : List SymbolTree) (o p : Origin) (m n : Map) (f g : Fates) (xs ys : List Side) (it : Option ℕ) → a ≡ b → o ≡ p → m ≡ n → f ≡ g → xs ≡ ys → SidesTold a o m f xs it → SidesTold b p n g ys it
+pub told_moved : (a b : List SymbolTree) (o p : Origin) (m n : Map) (f g : PlacedFates) (xs ys : List SideTree) (it : Option ℕ) → a ≡ b → o ≡ p → m ≡ n → f ≡ g → xs ≡ ys → SidesTold a o m f xs it → SidesTold b p n g ys it
 told_moved a b o p m n f g xs ys it qa qo qm qf qx h =
     let h1 : SidesTold b o m f xs it = subst (λ (z : List SymbolTree). SidesTold z o m f xs it) qa h in
     let h2 : SidesTold b p m f xs it = subst (λ (z : Origin). SidesTold b z m f xs it) qo h1 in
     let h3 : SidesTold b p n f xs it = subst (λ (z : Map). SidesTold b p z f xs it) qm h2 in
-    let h4 : SidesTold b p n g xs it = subst (λ (z : Fates). SidesTold b p n z xs it) qf h3 in
-    subst (λ (z : List Side). SidesTold b p n g z it) qx h4
+    let h4 : SidesTold b p n g xs it = subst (λ (z : PlacedFates). SidesTold b p n z xs it) qf h3 in
+    subst (λ (z : List SideTree). SidesTold b p n g z it) qx h4
 
 pub origin_stays : (s t : List Tree) → Grows s t → (x : Source) → All (DeclHeld s) x.decls.now → origin_at t x ≡ origin_at s x
 origin_stays s t w x h = ap (λ (ds : List DeclarationTree). let it : Origin = record { decls = ds; own = x.own.now; axioms = (origin_at s x).axioms } in it) (declarations_later s t w x.decls.now h)

@@ -10,7 +10,7 @@ use Rattle.syntax_why.specs.Forms.{Called}
 use Rattle.syntax_why.specs.declared.declarations.SymbolWord.{SymbolWord}
 use Rattle.syntax_why.specs.declared.declarations.SymbolWord.TheVariants as word
 use Rattle.syntax_why.specs.Declarations.{Element, type_element, symbol_element, prop_element, all_axioms}
-use Rattle.elab_names.specs.Abstract.{own_name}
+use Rattle.elab_names.specs.Abstract.{text_of_own}
 use Rattle.clone_elements.specs.declared.left.Abstract.{Abstract}
 use Rattle.clone_elements.specs.declared.left.Abstract.TheVariants as abstract
 
@@ -20,7 +20,7 @@ dotted [] x = x
 dotted (q ∷ qs) x = q ++ (codes "." ++ dotted qs x)
 
 abbrev pub called_text : Called → Word
-called_text c = dotted c.scopes (own_name c.own)
+called_text c = dotted c.scopes (text_of_own c.own)
 
 -- all declarations, the places of the theory's own ones in order, and whether a place is that of an axiom of it
 pub record Origin : Type 0 where
@@ -28,7 +28,7 @@ pub record Origin : Type 0 where
   pub own : List ℕ
   pub axioms : ℕ → Bool
 
--- what stands where a list has no declaration: it makes nothing
+-- what is where a list has no declaration: it makes nothing
 abbrev pub no_declaration : DeclarationTree
 no_declaration = record { theory = []; name = []; vars = 0; body = Defines [] }
 
@@ -36,13 +36,13 @@ abbrev pub decl_or : List DeclarationTree → ℕ → DeclarationTree
 decl_or ds place = get_or ds place no_declaration
 
 -- the symbol of an abstract declaration
-abbrev pub symbol_of : BodyTree → ℕ
-symbol_of (MakesType k) = k
-symbol_of (Makes k) = k
-symbol_of _ = 0
+abbrev pub abstract_symbol : BodyTree → ℕ
+abstract_symbol (MakesType k) = k
+abstract_symbol (Makes k) = k
+abstract_symbol _ = 0
 
 abbrev pub symbol_at_place : List DeclarationTree → ℕ → ℕ
-symbol_at_place ds place = symbol_of (decl_or ds place).body
+symbol_at_place ds place = abstract_symbol (decl_or ds place).body
 
 -- ---- kinds
 -- constructors and projections count as functions
@@ -72,21 +72,21 @@ kind_of_body symbols assumed (Induces ds) = None
 kind_of_body symbols assumed (Constructs ds) = None
 
 -- ---- keys: a kind's letter before a name
-abbrev pub letter : Abstract → ℕ
-letter abstract.Type = 116
-letter abstract.Function = 102
-letter abstract.Predicate = 112
-letter abstract.Axiom = 97
+abbrev pub kind_letter : Abstract → ℕ
+kind_letter abstract.Type = 116
+kind_letter abstract.Function = 102
+kind_letter abstract.Predicate = 112
+kind_letter abstract.Axiom = 97
 
 abbrev pub key : Abstract → Word → Word
-key kind name = letter kind ∷ name
+key kind name = kind_letter kind ∷ name
 
 abbrev pub key_with : Word → Option Abstract → Option Word
 key_with name None = None
 key_with name (Some kind) = Some (key kind name)
 
-abbrev pub key_of : List SymbolTree → Bool → DeclarationTree → Option Word
-key_of symbols assumed d = key_with d.name (kind_of_body symbols assumed d.body)
+abbrev pub left_key : List SymbolTree → Bool → DeclarationTree → Option Word
+left_key symbols assumed d = key_with d.name (kind_of_body symbols assumed d.body)
 
 abbrev pub element_key : Element → Option Word
 element_key (type_element i c vs f) = Some (key abstract.Type (called_text c))
@@ -101,7 +101,7 @@ is_key x (Some y) = bytes_eq y x
 
 -- the place at a key after one more declaration
 abbrev pub place_after : List SymbolTree → Origin → Word → Option ℕ → ℕ → Option ℕ
-place_after symbols t x found k = if is_key x (key_of symbols (t.axioms k) (decl_or t.decls k)) then Some k else found
+place_after symbols t x found k = if is_key x (left_key symbols (t.axioms k) (decl_or t.decls k)) then Some k else found
 
 abbrev pub last_place : List SymbolTree → Origin → Word → Option ℕ → List ℕ → Option ℕ
 last_place symbols t x found [] = found

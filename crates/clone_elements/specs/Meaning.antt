@@ -11,7 +11,7 @@ use Rattle.clone_elements.specs.declared.plans.Side.{Side as CodeSide}
 use Rattle.clone_elements.specs.declared.plans.TypeFor.{TypeFor}
 use Rattle.clone_elements.specs.declared.plans.SymbolFor.{SymbolFor}
 use Rattle.clone_elements.specs.declared.plans.Fate.{Fate}
-use Rattle.clone_elements.specs.Rights.{RightTree, is_type, is_symbol, is_nothing, IsWithin}
+use Rattle.clone_elements.specs.Rights.{RightTree, type_right, symbol_right, no_right, IsWithin}
 use Rattle.clone_elements.specs.declared.elements.Plan.{Plan}
 use Rattle.clone_elements.specs.declared.elements.Trial.{Trial}
 use Rattle.clone_elements.specs.declared.elements.ElementFault.{ElementFault}
@@ -23,22 +23,22 @@ use Rattle.symbol_maps.specs.Meaning.{MapHeld}
 use Rattle.elab_parts.specs.Entries.{IsSignature}
 use Rattle.clone_elements.specs.Left.{Origin}
 use Rattle.clone_elements.specs.Elements.{SidesTold}
-use Rattle.clone_elements.specs.Plans.{Side, Fates, no_fates, types_replaced, symbols_replaced, fates_of, has_all}
+use Rattle.clone_elements.specs.Plans.{SideTree, PlacedFates, no_fates, types_replaced, symbols_replaced, fates_of, has_all}
 
 abbrev pub right_at : List Tree → Right → RightTree
-right_at s (right.Type ty) = is_type (tree_at s ty)
-right_at s (right.Symbol k) = is_symbol k
-right_at s right.Nothing = is_nothing
+right_at s (right.Type ty) = type_right (tree_at s ty)
+right_at s (right.Symbol k) = symbol_right k
+right_at s right.Nothing = no_right
 
 abbrev pub RightHeld : List Tree → Right → Type 0
 RightHeld s (right.Type ty) = HoldsType s ty
 RightHeld s (right.Symbol k) = Unit {0}
 RightHeld s right.Nothing = Unit {0}
 
-abbrev pub side_at : List Tree → CodeSide → Side
+abbrev pub side_at : List Tree → CodeSide → SideTree
 side_at s x = record { element = element_of x.element.now; left = x.left; right = right_at s x.right }
 
-abbrev pub sides_at : List Tree → List CodeSide → List Side
+abbrev pub sides_at : List Tree → List CodeSide → List SideTree
 sides_at s xs = map (side_at s) xs
 
 pub record SideHeld (s : List Tree) (x : CodeSide) : Type 0 where
@@ -48,8 +48,8 @@ pub record SideHeld (s : List Tree) (x : CodeSide) : Type 0 where
 abbrev pub type_pair : List Tree → TypeFor → ℕ × Tree
 type_pair s p = (p.symbol, tree_at s p.ty)
 
-abbrev pub types_at : List Tree → List TypeFor → List (ℕ × Tree)
-types_at s ps = map (type_pair s) ps
+abbrev pub type_pairs_at : List Tree → List TypeFor → List (ℕ × Tree)
+type_pairs_at s ps = map (type_pair s) ps
 
 abbrev pub symbol_pair : SymbolFor → ℕ × ℕ
 symbol_pair p = (p.symbol, p.new)
@@ -61,7 +61,7 @@ abbrev pub TypeForHeld : List Tree → TypeFor → Type 0
 TypeForHeld s p = HoldsType s p.ty
 
 -- the fates in a map
-abbrev pub fates_at : {S : Type 0} → IndexMap ℕ Fate S → Fates
+abbrev pub fates_at : {S : Type 0} → IndexMap ℕ Fate S → PlacedFates
 fates_at m = get nat_eq m
 
 -- ---- elements that are compared, and plans
@@ -70,13 +70,13 @@ pub record TrialHeld (s : List Tree) (x : Trial) : Type 0 where
   pub decls : All (DeclHeld s) x.source.now.decls.now
   pub morphism : MapHeld s x.morphism.now
 
-abbrev pub IsElementRefused : List SymbolTree → Origin → Map → List Side → ElementFault → Type 0
+abbrev pub IsElementRefused : List SymbolTree → Origin → Map → List SideTree → ElementFault → Type 0
 IsElementRefused symbols t m xs fault.Memory = Unit {0}
 IsElementRefused symbols t m xs (fault.BadSubstitution token) = SidesTold symbols t m no_fates xs (Some token)
 
 -- what elements replace
-pub record IsPlan (s : List Tree) (entries : List SymbolTree) (t : Origin) (xs : List Side) (p : Plan) : Type 0 where
-  pub types : types_at s p.types.items ≡ types_replaced entries t xs
+pub record IsPlan (s : List Tree) (entries : List SymbolTree) (t : Origin) (xs : List SideTree) (p : Plan) : Type 0 where
+  pub types : type_pairs_at s p.types.items ≡ types_replaced entries t xs
   pub held : All (TypeForHeld s) p.types.items
   pub symbols : symbol_pairs p.symbols.items ≡ symbols_replaced t xs
   pub fates : fates_at p.fates ≡ fates_of xs

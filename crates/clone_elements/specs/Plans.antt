@@ -7,54 +7,54 @@ use Rattle.tasks.specs.Task.{SymbolTree, symbol_or, made_by}
 use Rattle.syntax_why.specs.declared.declarations.PropKind.{PropKind}
 use Rattle.syntax_why.specs.declared.declarations.PropKind.TheVariants as kind
 use Rattle.syntax_why.specs.Declarations.{Element, type_element, symbol_element, prop_element, all_axioms}
-use Rattle.names_space.specs.Names.{Names}
+use Rattle.names_space.specs.Names.{ScopeNames}
 use Rattle.syntax_why.specs.Lexeme.{Word}
 use Rattle.symbol_maps.specs.Mapped.{Map}
 use Rattle.clone_elements.specs.Left.{Origin, decl_or, symbol_at_place, element_key, place_by}
-use Rattle.clone_elements.specs.Rights.{RightTree, is_type, is_symbol, right_made, right_tuples}
+use Rattle.clone_elements.specs.Rights.{RightTree, type_right, symbol_right, right_made, right_tuples}
 use Rattle.clone_elements.specs.declared.plans.Fate.{Fate}
 use Rattle.clone_elements.specs.declared.plans.Fate.TheVariants.{Replaced, Becomes}
 
--- an element, the place of the declaration that its left side names, and what stands on its right
-pub record Side : Type 0 where
+-- an element, the place of the declaration that its left side names, and what is on its right
+pub record SideTree : Type 0 where
   pub element : Element
   pub left : Option ℕ
   pub right : RightTree
 
 -- the sides of elements: the left ones by the places of a table, the right ones over the signature with the tuples of those before
-abbrev pub sides_made : (Word → Option ℕ) → List Tree → List SymbolTree → Names → List Element → List Side
+abbrev pub sides_made : (Word → Option ℕ) → List Tree → List SymbolTree → ScopeNames → List Element → List SideTree
 sides_made places s symbols names [] = []
 sides_made places s symbols names (e ∷ es) =
     record { element = e; left = place_by places (element_key e); right = right_made s symbols names e } ∷ sides_made places s (symbols ++ right_tuples symbols e) names es
 
 -- ---- fates of declarations
 -- an element replaces a type or a symbol, or says what an axiom becomes
-abbrev pub said : Element → Option Fate
-said (type_element i c vs f) = Some Replaced
-said (symbol_element i w c d) = Some Replaced
-said (prop_element i k c) = Some (Becomes k)
-said (all_axioms i) = None
+abbrev pub element_fate : Element → Option Fate
+element_fate (type_element i c vs f) = Some Replaced
+element_fate (symbol_element i w c d) = Some Replaced
+element_fate (prop_element i k c) = Some (Becomes k)
+element_fate (all_axioms i) = None
 
-abbrev pub Fates : Type 0
-Fates = ℕ → Option Fate
+abbrev pub PlacedFates : Type 0
+PlacedFates = ℕ → Option Fate
 
-abbrev pub no_fates : Fates
+abbrev pub no_fates : PlacedFates
 no_fates q = None
 
-abbrev pub with_fate : Option ℕ → Option Fate → Fates → Fates
+abbrev pub with_fate : Option ℕ → Option Fate → PlacedFates → PlacedFates
 with_fate (Some place) (Some f) fates = λ q. if place == q then Some f else fates q
 with_fate (Some place) None fates = fates
 with_fate None f fates = fates
 
-abbrev pub with_side : Side → Fates → Fates
-with_side x fates = with_fate x.left (said x.element) fates
+abbrev pub with_side : SideTree → PlacedFates → PlacedFates
+with_side x fates = with_fate x.left (element_fate x.element) fates
 
-abbrev pub with_sides : List Side → Fates → Fates
+abbrev pub with_sides : List SideTree → PlacedFates → PlacedFates
 with_sides [] fates = fates
 with_sides (x ∷ xs) fates = with_sides xs (with_side x fates)
 
 -- the declarations that are named, with what becomes of each
-abbrev pub fates_of : List Side → Fates
+abbrev pub fates_of : List SideTree → PlacedFates
 fates_of xs = with_sides xs no_fates
 
 abbrev pub is_replaced : Option Fate → Bool
@@ -69,31 +69,31 @@ is_all (symbol_element i w c d) = false
 is_all (prop_element i k c) = false
 is_all (all_axioms i) = true
 
-abbrev pub has_all : List Side → Bool
-has_all xs = list_any (λ (x : Side). is_all x.element) xs
+abbrev pub has_all : List SideTree → Bool
+has_all xs = list_any (λ (x : SideTree). is_all x.element) xs
 
 -- ---- types and symbols
 -- the type for the type symbol at a place, where so many type variables belong to it and no element before named it
-abbrev pub type_with : List SymbolTree → Origin → Fates → ℕ → ℕ → Tree → List (ℕ × Tree)
+abbrev pub type_with : List SymbolTree → Origin → PlacedFates → ℕ → ℕ → Tree → List (ℕ × Tree)
 type_with symbols t fates place n ty =
     if is_none (fates place) && ((symbol_or symbols (symbol_at_place t.decls place)).vars == n) then (symbol_at_place t.decls place, ty) ∷ [] else []
 
-abbrev pub type_for : List SymbolTree → Origin → Fates → Element → Option ℕ → RightTree → List (ℕ × Tree)
-type_for symbols t fates (type_element i c vs f) (Some place) (is_type ty) = type_with symbols t fates place (length vs) ty
+abbrev pub type_for : List SymbolTree → Origin → PlacedFates → Element → Option ℕ → RightTree → List (ℕ × Tree)
+type_for symbols t fates (type_element i c vs f) (Some place) (type_right ty) = type_with symbols t fates place (length vs) ty
 type_for symbols t fates e left r = []
 
-abbrev pub types_after : List SymbolTree → Origin → Fates → List Side → List (ℕ × Tree)
-types_after symbols t fates [] = []
-types_after symbols t fates (x ∷ xs) = type_for symbols t fates x.element x.left x.right ++ types_after symbols t (with_side x fates) xs
+abbrev pub replaced_types : List SymbolTree → Origin → PlacedFates → List SideTree → List (ℕ × Tree)
+replaced_types symbols t fates [] = []
+replaced_types symbols t fates (x ∷ xs) = type_for symbols t fates x.element x.left x.right ++ replaced_types symbols t (with_side x fates) xs
 
-abbrev pub types_replaced : List SymbolTree → Origin → List Side → List (ℕ × Tree)
-types_replaced symbols t xs = types_after symbols t no_fates xs
+abbrev pub types_replaced : List SymbolTree → Origin → List SideTree → List (ℕ × Tree)
+types_replaced symbols t xs = replaced_types symbols t no_fates xs
 
 abbrev pub symbol_for : Origin → Option ℕ → RightTree → List (ℕ × ℕ)
-symbol_for t (Some place) (is_symbol k) = (symbol_at_place t.decls place, k) ∷ []
+symbol_for t (Some place) (symbol_right k) = (symbol_at_place t.decls place, k) ∷ []
 symbol_for t left r = []
 
-abbrev pub symbols_replaced : Origin → List Side → List (ℕ × ℕ)
+abbrev pub symbols_replaced : Origin → List SideTree → List (ℕ × ℕ)
 symbols_replaced t [] = []
 symbols_replaced t (x ∷ xs) = symbol_for t x.left x.right ++ symbols_replaced t xs
 
@@ -117,31 +117,31 @@ abbrev pub with_symbols : List (ℕ × ℕ) → Map → Map
 with_symbols [] m = m
 with_symbols (p ∷ ps) m = with_symbols ps (with_symbol p.0 p.1 m)
 
-abbrev pub with_types : List (ℕ × Tree) → Map → Map
-with_types [] m = m
-with_types (p ∷ ps) m = with_types ps (with_type p.0 p.1 m)
+abbrev pub with_mapped_types : List (ℕ × Tree) → Map → Map
+with_mapped_types [] m = m
+with_mapped_types (p ∷ ps) m = with_mapped_types ps (with_type p.0 p.1 m)
 
 -- type symbols become types, symbols others, and further ones new numbers
 abbrev pub map_of : List (ℕ × Tree) → List (ℕ × ℕ) → ℕ → List ℕ → Map
-map_of types symbols first others = with_types types (with_symbols symbols (with_numbers first others same_map))
+map_of types symbols first others = with_mapped_types types (with_symbols symbols (with_numbers first others same_map))
 
 -- the symbols of own declarations that aren't replaced, in order
-abbrev pub kept_at : Origin → Fates → ℕ → List ℕ
+abbrev pub kept_at : Origin → PlacedFates → ℕ → List ℕ
 kept_at t fates k = if is_replaced (fates k) then [] else made_by (decl_or t.decls k).body
 
-abbrev pub kept_of : Origin → Fates → List ℕ → List ℕ
+abbrev pub kept_of : Origin → PlacedFates → List ℕ → List ℕ
 kept_of t fates [] = []
 kept_of t fates (k ∷ ks) = kept_at t fates k ++ kept_of t fates ks
 
-abbrev pub kept : Origin → Fates → List ℕ
+abbrev pub kept : Origin → PlacedFates → List ℕ
 kept t fates = kept_of t fates t.own
 
 -- the map of a clone: the copies' symbols are the next ones of the signature
-abbrev pub clone_map : List SymbolTree → Origin → List Side → Map
+abbrev pub clone_map : List SymbolTree → Origin → List SideTree → Map
 clone_map symbols t xs = map_of (types_replaced symbols t xs) (symbols_replaced t xs) (length symbols) (kept t (fates_of xs))
 
 -- the map by which signatures are compared: types that aren't replaced count as their copies
-abbrev pub tried_map : List SymbolTree → Origin → List Side → Map
+abbrev pub tried_map : List SymbolTree → Origin → List SideTree → Map
 tried_map symbols t xs = map_of (types_replaced symbols t xs) [] (length symbols) (kept t no_fates)
 
 -- ---- axioms

@@ -4,10 +4,10 @@ use Rattle.std.specs.Prelude.{ℕ, false, List, [], ◌∷◌, ◌++◌, map, le
 use Rattle.trees.specs.Tree.{Tree}
 use Rattle.trees.specs.Facts.{TyVarsBelow}
 use Rattle.tasks.specs.Task.{SymbolTree}
-use Rattle.names_space.specs.Names.{Names}
+use Rattle.names_space.specs.Names.{ScopeNames}
 use Rattle.syntax_why.specs.Declarations.{Element, type_element, symbol_element, prop_element, all_axioms}
 use Rattle.syntax_why.specs.Forms.{Called}
-use Rattle.elab_names.specs.Abstract.{Form, texts, form, own_name}
+use Rattle.elab_names.specs.Abstract.{TypeExpression, texts_of_names, type_expression, text_of_own}
 use Rattle.elab_names.specs.declared.NamingFault.{NamingFault}
 use Rattle.elab_names.specs.declared.NamingFault.TheVariants.{Unknown}
 use Rattle.elab_names.specs.Faults.{first_of, form_fault}
@@ -21,11 +21,11 @@ use Rattle.elab_parts.specs.Outcomes.{over}
 
 -- a type, a symbol, or nothing
 pub data RightTree : Type 0 where
-  is_type : Tree → RightTree
-  is_symbol : ℕ → RightTree
-  is_nothing : RightTree
+  type_right : Tree → RightTree
+  symbol_right : ℕ → RightTree
+  no_right : RightTree
 
--- ---- type variables that stand twice in one element
+-- ---- type variables that occur twice in one element
 abbrev pub variables_fault : Element → Option NamingFault
 variables_fault (type_element i c vs f) = list_fault [] (map word vs)
 variables_fault (symbol_element i s c d) = None
@@ -42,46 +42,46 @@ abbrev pub symbol_missing : ℕ → Option ℕ → Option NamingFault
 symbol_missing token None = Some (Unknown token)
 symbol_missing token (Some k) = None
 
-abbrev pub called_symbol : Names → Called → Option ℕ
-called_symbol names c = symbol_named names c.scopes (own_name c.own)
+abbrev pub called_symbol : ScopeNames → Called → Option ℕ
+called_symbol names c = symbol_named names c.scopes (text_of_own c.own)
 
-abbrev pub right_fault : List Tree → List SymbolTree → Names → Element → Option NamingFault
-right_fault s symbols names (type_element i c vs f) = form_fault (over s symbols names (texts vs)) false (form f)
+abbrev pub right_fault : List Tree → List SymbolTree → ScopeNames → Element → Option NamingFault
+right_fault s symbols names (type_element i c vs f) = form_fault (over s symbols names (texts_of_names vs)) false (type_expression f)
 right_fault s symbols names (symbol_element i w c d) = symbol_missing d.at (called_symbol names d)
 right_fault s symbols names (prop_element i k c) = None
 right_fault s symbols names (all_axioms i) = None
 
 -- ---- entries of the tuples of a type
-abbrev pub type_tuples : List SymbolTree → Form → List SymbolTree
+abbrev pub type_tuples : List SymbolTree → TypeExpression → List SymbolTree
 type_tuples symbols f = wanting_tuples symbols (form_seen unseen f).widths
 
 abbrev pub right_tuples : List SymbolTree → Element → List SymbolTree
-right_tuples symbols (type_element i c vs f) = type_tuples symbols (form f)
+right_tuples symbols (type_element i c vs f) = type_tuples symbols (type_expression f)
 right_tuples symbols (symbol_element i w c d) = []
 right_tuples symbols (prop_element i k c) = []
 right_tuples symbols (all_axioms i) = []
 
 -- ---- what they stand for
-abbrev pub right_made : List Tree → List SymbolTree → Names → Element → RightTree
-right_made s symbols names (type_element i c vs f) = is_type (type_at (over s (symbols ++ type_tuples symbols (form f)) names (texts vs)) (form f))
-right_made s symbols names (symbol_element i w c d) = is_symbol (unwrap_or (called_symbol names d) 0)
-right_made s symbols names (prop_element i k c) = is_nothing
-right_made s symbols names (all_axioms i) = is_nothing
+abbrev pub right_made : List Tree → List SymbolTree → ScopeNames → Element → RightTree
+right_made s symbols names (type_element i c vs f) = type_right (type_at (over s (symbols ++ type_tuples symbols (type_expression f)) names (texts_of_names vs)) (type_expression f))
+right_made s symbols names (symbol_element i w c d) = symbol_right (unwrap_or (called_symbol names d) 0)
+right_made s symbols names (prop_element i k c) = no_right
+right_made s symbols names (all_axioms i) = no_right
 
 -- ---- of all elements, each over the signature with the tuples of those before it
 abbrev pub rights_tuples : List SymbolTree → List Element → List SymbolTree
 rights_tuples symbols [] = []
 rights_tuples symbols (e ∷ es) = right_tuples symbols e ++ rights_tuples (symbols ++ right_tuples symbols e) es
 
-abbrev pub rights_fault : List Tree → List SymbolTree → Names → List Element → Option NamingFault
+abbrev pub rights_fault : List Tree → List SymbolTree → ScopeNames → List Element → Option NamingFault
 rights_fault s symbols names [] = None
 rights_fault s symbols names (e ∷ es) = first_of (right_fault s symbols names e) (rights_fault s (symbols ++ right_tuples symbols e) names es)
 
-abbrev pub rights_made : List Tree → List SymbolTree → Names → List Element → List RightTree
+abbrev pub rights_made : List Tree → List SymbolTree → ScopeNames → List Element → List RightTree
 rights_made s symbols names [] = []
 rights_made s symbols names (e ∷ es) = right_made s symbols names e ∷ rights_made s (symbols ++ right_tuples symbols e) names es
 
 -- the type on the right of an element has its type variables alone
 abbrev pub IsWithin : Element → RightTree → Type 0
-IsWithin (type_element i c vs f) (is_type ty) = TyVarsBelow (length vs) ty
+IsWithin (type_element i c vs f) (type_right ty) = TyVarsBelow (length vs) ty
 IsWithin e r = Unit {0}

@@ -11,9 +11,9 @@ ghost use Rattle.symbol_maps.specs.Meaning.{map_at, MapHeld, AreKnown};
 ghost use Rattle.elab_parts.specs.Entries.{IsSignature};
 ghost use Rattle.clone_elements.specs.Left.{symbol_at_place};
 ghost use Rattle.clone_elements.specs.Plans.{with_sides, symbol_for, symbols_replaced, has_all, is_all, no_fates, kept, map_of, tried_map, fates_of, types_replaced};
-ghost use Rattle.clone_elements.specs.Elements.{left_token, right_token, has_vars, is_wrong_at, is_wrong, is_kind, IsSameSignature, Replaces, IsRight, SideTold, SidesTold};
+ghost use Rattle.clone_elements.specs.Elements.{left_token, right_token, has_vars, is_wrong_at, is_wrong, is_kind_of_word, IsSameSignature, Replaces, IsRightSide, SideTold, SidesTold};
 ghost use Rattle.clone_elements.specs.Origins.{origin_at};
-ghost use Rattle.clone_elements.specs.Meaning.{right_at, side_at, sides_at, SideHeld, fates_at, types_at, symbol_pairs, TypeForHeld, TrialHeld, IsElementRefused, IsPlan};
+ghost use Rattle.clone_elements.specs.Meaning.{right_at, side_at, sides_at, SideHeld, fates_at, type_pairs_at, symbol_pairs, TypeForHeld, TrialHeld, IsElementRefused, IsPlan};
 
 use crate::left::Source;
 use crate::plans::{
@@ -150,7 +150,7 @@ fn is_wrong(trial: &Trial<'_>, fates: &Fates, side: &Side<'_>) -> bool
 
 // Whether a symbol's kind is that of a word.
 fn is_kind(kind: SymbolKind, word: SymbolWord) -> bool
-    ensures { result ≡ is_kind kind word }
+    ensures { result ≡ is_kind_of_word kind word }
 {
     match kind {
         SymbolKind::Kind => false,
@@ -304,7 +304,7 @@ fn is_right(
 ) -> Result<bool, AllocError>
     requires trial { TrialHeld store.old trial.now }
     requires known { AreKnown (map_at store.old trial.now.morphism.now) store.old known.old }
-    ensures right { IfOk result (λ b. IsTrue b ↔ IsRight (symbols_at store.old
+    ensures right { IfOk result (λ b. IsTrue b ↔ IsRightSide (symbols_at store.old
         trial.now.sig.now.symbols) (origin_at store.old trial.now.source.now)
         (map_at store.old trial.now.morphism.now) (element_of side.now.element.now) side.now.left
         (right_at store.old side.now.right)) }
@@ -456,7 +456,8 @@ fn tried_map(
     types: &[TypeFor],
 ) -> Result<SymbolMap, AllocError>
     requires { All (TypeForHeld store.now) types.now }
-    ensures is { IfOk result (λ m. map_at store.now m ≡ map_of (types_at store.now types.now) []
+    ensures is { IfOk result (λ m. map_at store.now m
+        ≡ map_of (type_pairs_at store.now types.now) []
         (length sig.now.symbols) (kept (origin_at store.now source.now) no_fates)) }
     ensures held { IfOk result (MapHeld store.now) }
 {
@@ -512,7 +513,7 @@ fn find_fates(
     requires signature { IsSignature store.old sig.now.symbols }
     requires decls { All (DeclHeld store.old) source.now.decls.now }
     requires held { All (TypeForHeld store.old) types.now }
-    requires types { types_at store.old types.now ≡ types_replaced
+    requires types { type_pairs_at store.old types.now ≡ types_replaced
         (symbols_at store.old sig.now.symbols) (origin_at store.old source.now)
         (sides_at store.old sides.now) }
     requires sides { All (SideHeld store.old) sides.now }

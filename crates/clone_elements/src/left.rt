@@ -5,8 +5,8 @@ ghost use Rattle.trees.specs.Tree.{Tree};
 ghost use Rattle.tasks.specs.Meaning.{symbols_at, body_at, declaration_at};
 ghost use Rattle.syntax_why.specs.Surface.{own_of, called_of};
 ghost use Rattle.syntax_why.specs.SurfaceDeclarations.{element_by};
-ghost use Rattle.elab_names.specs.Abstract.{own_name};
-ghost use Rattle.clone_elements.specs.Left.{dotted, called_text, key, key_of, kind_of_symbol, kind_of_word, kind_of_body, element_key, place_after, last_place, place_by};
+ghost use Rattle.elab_names.specs.Abstract.{text_of_own};
+ghost use Rattle.clone_elements.specs.Left.{dotted, called_text, key, left_key, kind_of_symbol, kind_of_word, kind_of_body, element_key, place_after, last_place, place_by};
 ghost use Rattle.clone_elements.specs.Origins.{origin_at, place_at};
 
 use elab_names::own_name;
@@ -93,7 +93,7 @@ fn key_of(
     decl: &Decl,
 ) -> Result<Option<Vec<u8>>, AllocError>
     ensures { IfOk result (λ o. (s : List Tree) → option_map (λ v. v.items) o
-        ≡ key_of (symbols_at s sig.now.symbols) assumed (declaration_at s decl.now)) }
+        ≡ left_key (symbols_at s sig.now.symbols) assumed (declaration_at s decl.now)) }
 {
     match kind_of_body(sig, assumed, &decl.body) {
         Some(kind) => {

@@ -8,10 +8,10 @@ ghost use Rattle.tasks.specs.Meaning.{symbols_at, body_at, declarations_at};
 ghost use Rattle.syntax_why.specs.SurfaceDeclarations.{element_of, element_by};
 ghost use Rattle.elab_walk.specs.Drafts.{HoldsType};
 ghost use Rattle.symbol_maps.specs.Meaning.{map_at, MapHeld};
-ghost use Rattle.clone_elements.specs.Left.{symbol_of, symbol_at_place};
-ghost use Rattle.clone_elements.specs.Plans.{said, with_side, is_replaced, type_with, type_for, types_after, types_replaced, with_symbol, with_type, with_numbers, with_symbols, with_types, map_of, kept_at, kept};
+ghost use Rattle.clone_elements.specs.Left.{abstract_symbol, symbol_at_place};
+ghost use Rattle.clone_elements.specs.Plans.{element_fate, with_side, is_replaced, type_with, type_for, replaced_types, types_replaced, with_symbol, with_type, with_numbers, with_symbols, with_mapped_types, map_of, kept_at, kept};
 ghost use Rattle.clone_elements.specs.Origins.{origin_at};
-ghost use Rattle.clone_elements.specs.Meaning.{right_at, RightHeld, side_at, sides_at, SideHeld, fates_at, types_at, symbol_pairs, TypeForHeld};
+ghost use Rattle.clone_elements.specs.Meaning.{right_at, RightHeld, side_at, sides_at, SideHeld, fates_at, type_pairs_at, symbol_pairs, TypeForHeld};
 
 use crate::left::Source;
 use crate::rights::Right;
@@ -30,7 +30,7 @@ pub enum Fate {
     Becomes(PropKind),
 }
 
-/// An element, the place of the declaration that its left side names, and what stands on its right.
+/// An element, the place of the declaration that its left side names, and what is on its right.
 #[derive(Clone, Copy)]
 pub struct Side<'a> {
     pub element: &'a ElemTree,
@@ -57,7 +57,7 @@ pub struct SymbolFor {
 
 // What an element says of the declaration that it names.
 fn element_fate(node: &ElemNode) -> Option<Fate>
-    ensures { (token : ℕ) → result ≡ said (element_by node.now token) }
+    ensures { (token : ℕ) → result ≡ element_fate (element_by node.now token) }
 {
     match node {
         ElemNode::TypeElem(_, _, _) => Some(Fate::Replaced),
@@ -84,7 +84,7 @@ pub fn enter_side(fates: &mut Fates, side: &Side<'_>) -> Result<(), AllocError>
 
 /// The symbol of an abstract declaration, and 0 for any other.
 pub fn symbol_of(decl: &Decl) -> usize
-    ensures { (s : List Tree) → result ≡ symbol_of (body_at s decl.now.body) }
+    ensures { (s : List Tree) → result ≡ abstract_symbol (body_at s decl.now.body) }
 {
     match decl.body {
         Body::TypeSymbol(symbol) => symbol,
@@ -134,8 +134,8 @@ fn push_type_at(
     vars: usize,
     ty: TermId,
 ) -> Result<(), AllocError>
-    ensures types { OnOk result ((s : List Tree) → types_at s types.new.items
-        ≡ types_at s types.old.items
+    ensures types { OnOk result ((s : List Tree) → type_pairs_at s types.new.items
+        ≡ type_pairs_at s types.old.items
         ++ type_with (symbols_at s sig.now.symbols) (origin_at s source.now) (fates_at fates.now)
         place vars (tree_at s ty)) }
     ensures held { OnOk result ((s : List Tree) → All (TypeForHeld s) types.old.items → HoldsType s
@@ -157,7 +157,7 @@ fn push_type(
     types: &mut Vec<TypeFor>,
     side: &Side<'_>,
 ) -> Result<(), AllocError>
-    ensures types { OnOk result ((s : List Tree) → types_at s types.new.items ≡ types_at s
+    ensures types { OnOk result ((s : List Tree) → type_pairs_at s types.new.items ≡ type_pairs_at s
         types.old.items ++ type_for (symbols_at s sig.now.symbols) (origin_at s source.now)
         (fates_at fates.now) (element_of side.now.element.now) side.now.left
         (right_at s side.now.right)) }
@@ -187,8 +187,8 @@ fn push_types(
     types: &mut Vec<TypeFor>,
     sides: &[Side<'_>],
 ) -> Result<(), AllocError>
-    ensures types { OnOk result ((s : List Tree) → types_at s types.new.items ≡ types_at s
-        types.old.items ++ types_after (symbols_at s sig.now.symbols) (origin_at s source.now)
+    ensures types { OnOk result ((s : List Tree) → type_pairs_at s types.new.items ≡ type_pairs_at s
+        types.old.items ++ replaced_types (symbols_at s sig.now.symbols) (origin_at s source.now)
         (fates_at fates.old) (sides_at s sides.now)) }
     ensures held { OnOk result ((s : List Tree) → All (TypeForHeld s) types.old.items → All
         (SideHeld s) sides.now → All (TypeForHeld s) types.new.items) }
@@ -208,7 +208,7 @@ pub fn types_replaced(
     source: &Source<'_>,
     sides: &[Side<'_>],
 ) -> Result<Vec<TypeFor>, AllocError>
-    ensures types { IfOk result (λ v. (s : List Tree) → types_at s v.items ≡ types_replaced
+    ensures types { IfOk result (λ v. (s : List Tree) → type_pairs_at s v.items ≡ types_replaced
         (symbols_at s sig.now.symbols) (origin_at s source.now) (sides_at s sides.now)) }
     ensures held { IfOk result (λ v. (s : List Tree) → All (SideHeld s) sides.now → All
         (TypeForHeld s) v.items) }
@@ -299,7 +299,7 @@ fn put_symbols(morphism: &mut SymbolMap, symbols: &[SymbolFor]) -> Result<(), Al
 fn put_types(store: &Store, morphism: &mut SymbolMap, types: &[TypeFor]) -> Result<(), AllocError>
     requires { All (TypeForHeld store.now) types.now }
     ensures is { OnOk result (map_at store.now morphism.new
-        ≡ with_types (types_at store.now types.now) (map_at store.now morphism.old)) }
+        ≡ with_mapped_types (type_pairs_at store.now types.now) (map_at store.now morphism.old)) }
     ensures held { OnOk result (MapHeld store.now morphism.old → MapHeld store.now morphism.new) }
 {
     let Some((first, rest)) = types.split_first() else {
@@ -320,7 +320,7 @@ pub fn map_of(
     others: &[usize],
 ) -> Result<SymbolMap, AllocError>
     requires { All (TypeForHeld store.now) types.now }
-    ensures is { IfOk result (λ m. map_at store.now m ≡ map_of (types_at store.now types.now)
+    ensures is { IfOk result (λ m. map_at store.now m ≡ map_of (type_pairs_at store.now types.now)
         (symbol_pairs symbols.now) first others.now) }
     ensures held { IfOk result (MapHeld store.now) }
 {

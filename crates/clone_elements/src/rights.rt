@@ -7,7 +7,7 @@ ghost use Rattle.trees.specs.Facts.{TyVarsBelow};
 ghost use Rattle.tasks.specs.Meaning.{symbols_at};
 ghost use Rattle.syntax_why.specs.Surface.{called_of};
 ghost use Rattle.syntax_why.specs.SurfaceDeclarations.{element_of, element_by};
-ghost use Rattle.elab_names.specs.Abstract.{form_of, texts};
+ghost use Rattle.elab_names.specs.Abstract.{type_expression_of, texts_of_names};
 ghost use Rattle.elab_names.specs.Faults.{form_fault};
 ghost use Rattle.elab_names.specs.Naming.{Tells};
 ghost use Rattle.elab_walk.specs.Pieces.{type_at};
@@ -29,7 +29,7 @@ use tasks::Signature;
 use term_store::Store;
 use trees::TermId;
 
-/// What stands on the right of an element: a type, a symbol, or nothing.
+/// What is on the right of an element: a type, a symbol, or nothing.
 #[derive(Clone, Copy)]
 pub enum Right {
     Type(TermId),
@@ -54,7 +54,7 @@ fn check_element_variables(alloc: Global, node: &ElemNode) -> Result<(), NamingF
     }
 }
 
-/// The first type variable that stands twice in one element is a fault at its second place.
+/// The first type variable that occurs twice in one element is a fault at its second place.
 pub fn check_variables(alloc: Global, elements: &[ElemTree]) -> Result<(), NamingFault>
     ensures { Tells result (all_variables_fault (map element_of elements.now)) }
 {
@@ -74,7 +74,8 @@ fn check_type(
     ty: &TypeTree,
 ) -> Result<(), NamingFault>
     ensures { (s : List Tree) → Tells result (form_fault
-        (over s (symbols_at s sig.now.symbols) scope.now vars.now) false (form_of ty.now)) }
+        (over s (symbols_at s sig.now.symbols) scope.now vars.now) false
+        (type_expression_of ty.now)) }
 {
     let world = world_over(sig, scope, vars, false);
     check_form(alloc, ty, &world)
@@ -92,15 +93,15 @@ fn make_type(
     requires signature { IsSignature store.old sig.old.symbols }
     requires scopes { AreScopes store.old (length sig.old.symbols) scope.now }
     ensures entries { OnOk result (IsExtended store.old sig.old store.new sig.new
-        (type_tuples (symbols_at store.old sig.old.symbols) (form_of ty.now))) }
+        (type_tuples (symbols_at store.old sig.old.symbols) (type_expression_of ty.now))) }
     ensures held { IfOk result (HoldsType store.new) }
     ensures tree { IfOk result (λ id. tree_at store.new id ≡ type_at
         (over store.old (symbols_at store.old sig.old.symbols ++ type_tuples
-        (symbols_at store.old sig.old.symbols) (form_of ty.now)) scope.now vars.now)
-        (form_of ty.now)) }
+        (symbols_at store.old sig.old.symbols) (type_expression_of ty.now)) scope.now vars.now)
+        (type_expression_of ty.now)) }
     ensures below { IfOk result (λ id. form_fault
         (over store.old (symbols_at store.old sig.old.symbols) scope.now vars.now) false
-        (form_of ty.now) ≡ None → TyVarsBelow (length vars.now) (tree_at store.new id)) }
+        (type_expression_of ty.now) ≡ None → TyVarsBelow (length vars.now) (tree_at store.new id)) }
     ensures grows { Grows store.old store.new }
 {
     let mut seen = Seen {
@@ -125,19 +126,21 @@ fn right_type(
     requires signature { IsSignature store.old sig.old.symbols }
     requires scopes { AreScopes store.old (length sig.old.symbols) scope.now }
     ensures entries { OnOk result (IsExtended store.old sig.old store.new sig.new
-        (type_tuples (symbols_at store.old sig.old.symbols) (form_of ty.now))) }
+        (type_tuples (symbols_at store.old sig.old.symbols) (type_expression_of ty.now))) }
     ensures held { IfOk result (HoldsType store.new) }
     ensures tree { IfOk result (λ id. tree_at store.new id ≡ type_at
         (over store.old (symbols_at store.old sig.old.symbols ++ type_tuples
-        (symbols_at store.old sig.old.symbols) (form_of ty.now)) scope.now (texts vars.now))
-        (form_of ty.now)) }
+        (symbols_at store.old sig.old.symbols) (type_expression_of ty.now)) scope.now
+        (texts_of_names vars.now))
+        (type_expression_of ty.now)) }
     ensures below { IfOk result (λ id. TyVarsBelow (length vars.now) (tree_at store.new id)) }
     ensures free { OnOk result (form_fault (over store.old
-        (symbols_at store.old sig.old.symbols) scope.now (texts vars.now)) false (form_of ty.now)
+        (symbols_at store.old sig.old.symbols) scope.now (texts_of_names vars.now)) false
+        (type_expression_of ty.now)
         ≡ None) }
     ensures err { IfErr result (λ fault. Tells (Err fault) (form_fault (over store.old
-        (symbols_at store.old sig.old.symbols) scope.now (texts vars.now)) false
-        (form_of ty.now))) }
+        (symbols_at store.old sig.old.symbols) scope.now (texts_of_names vars.now)) false
+        (type_expression_of ty.now))) }
     ensures grows { Grows store.old store.new }
 {
     let vars = texts_of(alloc, vars)?;
@@ -159,7 +162,7 @@ fn right_symbol(alloc: Global, scope: &Scope, name: &QName) -> Result<usize, Nam
     }
 }
 
-/// What stands on the right of an element, and the entries of the tuples of its type; or its first fault of names.
+/// What is on the right of an element, and the entries of the tuples of its type; or its first fault of names.
 pub fn right_side(
     alloc: Global,
     store: &mut Store,

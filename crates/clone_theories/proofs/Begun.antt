@@ -21,7 +21,7 @@ use Rattle.theory_states.specs.declared.states.Typed.{Typed}
 use Rattle.theory_states.specs.States.{KnownTree, StateTree, known_named}
 use Rattle.theory_states.specs.Meaning.{known_at, state_at, StateHeld}
 use Rattle.theory_states.specs.Uses.{path_text, last_part, alias_text}
-use Rattle.sound_states.specs.Typed.{setting, IsTypedState}
+use Rattle.sound_states.specs.Typed.{state_setting, IsTypedState}
 use Rattle.clone_elements.specs.declared.elements.Plan.{Plan}
 use Rattle.clone_elements.specs.Left.{Origin}
 use Rattle.clone_elements.specs.Rights.{all_variables_fault, rights_tuples}
@@ -33,23 +33,23 @@ use Rattle.cloned_states.specs.Sides.{copies_made, with_copies as with_all_copie
 use Rattle.cloned_states.proofs.Copies.{all_copies_typed}
 use Rattle.clone_theories.specs.declared.own.Own.{Own}
 use Rattle.clone_theories.specs.Cloned.{symbols_tupled, within_of, copying_in, IsCloned}
-use Rattle.clone_theories.specs.Owned.{IsOwnOf, no_theory, theory_at}
-use Rattle.clone_theories.specs.Planned.{IsRead, planned}
-use Rattle.clone_theories.specs.Copied.{IsKeptEntry, entries_made, IsReady, IsCopied}
+use Rattle.clone_theories.specs.Owned.{IsOwnOf, no_theory, known_theory_at}
+use Rattle.clone_theories.specs.Planned.{AreElementsRead, planned}
+use Rattle.clone_theories.specs.Copied.{IsKeptEntry, entries_made, IsCopyReady, IsTheoryCopied}
 use Rattle.clone_theories.proofs.Kept.{moves_held_later}
 use Rattle.clone_theories.proofs.Fitting.{typed_kept, moves_held}
 use Rattle.clone_theories.proofs.Told.{along}
 use Rattle.clone_theories.proofs.Stages.{state_tupled, held_tupled, theory_tupled, planned_is, cloned_is}
 
 module _ (s s1 : List Tree) (w : Grows s s1) (t : Typed) (o : Opened) (h : StateHeld s t o) (typed : IsTypedState (state_at s t o)) (placed : ArePlaced (symbols_at s t.sig.symbols))
-    (k : ℕ) (there : k < length t.known) (own : Own) (is_own : IsOwnOf (declarations_at s t.decls) (theory_at s t k) own)
+    (k : ℕ) (there : k < length t.known) (own : Own) (is_own : IsOwnOf (declarations_at s t.decls) (known_theory_at s t k) own)
     (es : List Element) (g : Signature) (ext : IsExtended s t.sig s1 g (rights_tuples (symbols_at s t.sig.symbols) es))
-    (x : Origin) (same : x ≡ origin_of (declarations_at s t.decls) (theory_at s t k)) (p : Plan) (read : IsRead s (symbols_at s t.sig.symbols) o.scope x es s1 p) where
+    (x : Origin) (same : x ≡ origin_of (declarations_at s t.decls) (known_theory_at s t k)) (p : Plan) (read : AreElementsRead s (symbols_at s t.sig.symbols) o.scope x es s1 p) where
   abbrev c : StateTree
   c = state_at s t o
 
   abbrev theory : KnownTree
-  theory = theory_at s t k
+  theory = known_theory_at s t k
 
   abbrev t1 : Typed
   t1 = record t { sig = g }
@@ -57,18 +57,18 @@ module _ (s s1 : List Tree) (w : Grows s s1) (t : Typed) (o : Opened) (h : State
   abbrev c1 : StateTree
   c1 = record c { trees = s1; symbols = symbols_tupled c es }
 
-  here : IsRead s c.symbols o.scope (origin_of c.decls theory) es s1 p
-  here = subst (λ (z : Origin). IsRead s c.symbols o.scope z es s1 p) same read
+  here : AreElementsRead s c.symbols o.scope (origin_of c.decls theory) es s1 p
+  here = subst (λ (z : Origin). AreElementsRead s c.symbols o.scope z es s1 p) same read
 
   state_is : state_at s1 t1 o ≡ c1
   state_is = state_tupled s s1 w t o h g (rights_tuples c.symbols es) ext
 
-  theory_is : theory_at s1 t1 k ≡ theory
+  theory_is : known_theory_at s1 t1 k ≡ theory
   theory_is = theory_tupled s s1 w t o h g (rights_tuples c.symbols es) ext k
 
-  copying_is : (within : Word) → planned s1 (state_at s1 t1 o) (theory_at s1 t1 k) p within ≡ copying_in c theory es within
+  copying_is : (within : Word) → planned s1 (state_at s1 t1 o) (known_theory_at s1 t1 k) p within ≡ copying_in c theory es within
   copying_is within =
-      ap (λ (z : StateTree). planned s1 z (theory_at s1 t1 k) p within) state_is
+      ap (λ (z : StateTree). planned s1 z (known_theory_at s1 t1 k) p within) state_is
       ∙ (ap (λ (z : KnownTree). planned s1 c1 z p within) theory_is ∙ planned_is s1 c theory es p within here.plan)
 
   moves : All (MoveHeld s1) theory.moves
@@ -76,15 +76,15 @@ module _ (s s1 : List Tree) (w : Grows s s1) (t : Typed) (o : Opened) (h : State
       let below : k < length (map (known_at s) t.known) = omega (arith, there, length-map t.known (known_at s)) in
       moves_held_later s s1 w theory.moves (moves_held (of_signature c.symbols) s theory.moves (typed.theories.known k no_theory below))
 
-  setting_typed : IsTypedSetting (of_signature c.symbols) (setting c)
+  setting_typed : IsTypedSetting (of_signature c.symbols) (state_setting c)
   setting_typed = record { theory = typed.theory; source = typed.source; signature = typed.theories.signature; scopes = typed.scopes }
 
-  entries : (within : Word) → All IsKeptEntry (copies_made (setting c) (origin_of c.decls theory) es c.opened.path within)
+  entries : (within : Word) → All IsKeptEntry (copies_made (state_setting c) (origin_of c.decls theory) es c.opened.path within)
   entries within =
-      let v : Vocabulary = of_signature (with_all_copies (setting c) (origin_of c.decls theory) es c.opened.path within) in
-      typed_kept v (copies_made (setting c) (origin_of c.decls theory) es c.opened.path within) (all_copies_typed (setting c) (origin_of c.decls theory) es c.opened.path within placed setting_typed here.names typed.theory)
+      let v : Vocabulary = of_signature (with_all_copies (state_setting c) (origin_of c.decls theory) es c.opened.path within) in
+      typed_kept v (copies_made (state_setting c) (origin_of c.decls theory) es c.opened.path within) (all_copies_typed (state_setting c) (origin_of c.decls theory) es c.opened.path within placed setting_typed here.names typed.theory)
 
-  pub ready : (within : Word) → IsReady s1 t1 o k own p within
+  pub ready : (within : Word) → IsCopyReady s1 t1 o k own p within
   ready within = record {
     held = held_tupled s s1 w t o h g (rights_tuples c.symbols es) ext;
     there = there;
@@ -98,14 +98,14 @@ module _ (s s1 : List Tree) (w : Grows s s1) (t : Typed) (o : Opened) (h : State
   module _ (path : Path) (alias : Option Name) (variables : all_variables_fault es ≡ None) (found : known_named c.known (path_text path.parts) ≡ Some theory) (l : Link)
       (last : Word) (name : Option Word) (last_is : last ≡ last_part path.parts) (name_is : name ≡ alias_text alias) (c' : StateTree) (later : Grows s1 c'.trees) where
     abbrev Copied : Word → Option Word → Type 0
-    Copied a b = IsCopied l a b (theory_at s1 t1 k) (planned s1 (state_at s1 t1 o) (theory_at s1 t1 k) p (within_of l a b o.within.items)) (state_at s1 t1 o) c'
+    Copied a b = IsTheoryCopied l a b (known_theory_at s1 t1 k) (planned s1 (state_at s1 t1 o) (known_theory_at s1 t1 k) p (within_of l a b o.within.items)) (state_at s1 t1 o) c'
 
     pub is_cloned : Copied last name → IsCloned l path alias es c c'
     is_cloned z =
         let within = within_of l (last_part path.parts) (alias_text alias) o.within.items in
         let named : Copied (last_part path.parts) (alias_text alias) = subst (Copied (last_part path.parts)) name_is (subst (λ (a : Word). Copied a name) last_is z) in
-        let y : IsCopied l (last_part path.parts) (alias_text alias) theory (copying_in c theory es within) c1 c' =
-        along (λ (kt : KnownTree) (q : Copying) (e : StateTree). IsCopied l (last_part path.parts) (alias_text alias) kt q e c') theory_is (copying_is within) state_is named in
+        let y : IsTheoryCopied l (last_part path.parts) (alias_text alias) theory (copying_in c theory es within) c1 c' =
+        along (λ (kt : KnownTree) (q : Copying) (e : StateTree). IsTheoryCopied l (last_part path.parts) (alias_text alias) kt q e c') theory_is (copying_is within) state_is named in
         record {
           variables = variables;
           theory = theory;

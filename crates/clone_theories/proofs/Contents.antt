@@ -29,13 +29,13 @@ use Rattle.clone_copies.specs.Moves.{AreMovesMapped, MoveHeld}
 use Rattle.clone_copies.specs.Meaning.{bare_at}
 use Rattle.clone_theories.specs.declared.copying.Renaming.{Renaming}
 use Rattle.clone_theories.specs.declared.own.Own.{Own}
-use Rattle.clone_theories.specs.Owned.{theory_at}
+use Rattle.clone_theories.specs.Owned.{known_theory_at}
 use Rattle.clone_theories.specs.Planned.{planned_kept, planned_map, planned}
-use Rattle.clone_theories.specs.Copied.{IsRenaming, IsKeptEntry, entries_made, with_made, IsReady, AreContents}
+use Rattle.clone_theories.specs.Copied.{IsRenaming, IsKeptEntry, entries_made, with_made, IsCopyReady, AreContents}
 use Rattle.clone_theories.proofs.Kept.{moves_grow}
 use Rattle.clone_theories.proofs.Stages.{theory_is, origin_is, state_tupled, held_tupled}
 
-module _ (s : List Tree) (t : Typed) (o : Opened) (k : ℕ) (own : Own) (plan : Plan) (within : Word) (r : IsReady s t o k own plan within)
+module _ (s : List Tree) (t : Typed) (o : Opened) (k : ℕ) (own : Own) (plan : Plan) (within : Word) (r : IsCopyReady s t o k own plan within)
     (source : Source) (decls_are : source.decls.now ≡ t.decls) (own_is : source.own.now ≡ own.places.items) (axioms_are : source.axioms.now ≡ own.axioms)
     (made : Renaming) (m : IsRenaming s (planned_map s (symbols_at s t.sig.symbols) (origin_at s source) plan) (planned_kept (origin_at s source) plan) made)
     (known : Known) (is : known ≡ get_or t.known k known) where
@@ -43,7 +43,7 @@ module _ (s : List Tree) (t : Typed) (o : Opened) (k : ℕ) (own : Own) (plan : 
   c = state_at s t o
 
   abbrev theory : KnownTree
-  theory = theory_at s t k
+  theory = known_theory_at s t k
 
   abbrev x : Copying
   x = planned s c theory plan within

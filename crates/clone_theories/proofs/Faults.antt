@@ -11,8 +11,8 @@ use Rattle.theory_states.specs.States.{KnownTree, StateTree, known_named}
 use Rattle.theory_states.specs.Uses.{path_text, OrMemory}
 use Rattle.clone_elements.specs.Rights.{all_variables_fault}
 use Rattle.clone_copies.specs.Origins.{origin_of}
-use Rattle.clone_theories.specs.Cloned.{naming, IsNamesFault, IsCloneFault, of_names, of_elements}
-use Rattle.clone_theories.specs.Planned.{IsReadFault, in_names, in_elements}
+use Rattle.clone_theories.specs.Cloned.{naming, IsNamesFault, IsCloneFault, of_clone_names, of_elements}
+use Rattle.clone_theories.specs.Planned.{IsElementsFault, in_names, in_elements}
 
 pub names_fault : (number : ℕ) (g : NamingFault) (o : Option NamingFault) → Tells (Err g) o → OrMemory (IsNamesFault number o) (naming number g)
 names_fault number names.Memory o h = tt
@@ -27,6 +27,6 @@ or_weaker P Q g f h = g f h
 
 -- the elements of a theory that is known
 pub read_fault : (p : Path) (es : List Element) (c : StateTree) (t : KnownTree) → all_variables_fault es ≡ None → known_named c.known (path_text p.parts) ≡ Some t
-    → (f : SourceFault) → IsReadFault c.number c.trees c.symbols c.opened.scope (origin_of c.decls t) es f → IsCloneFault p es c f
-read_fault p es c t v q f (in_names h) = of_names t v q h
+    → (f : SourceFault) → IsElementsFault c.number c.trees c.symbols c.opened.scope (origin_of c.decls t) es f → IsCloneFault p es c f
+read_fault p es c t v q f (in_names h) = of_clone_names t v q h
 read_fault p es c t v q f (in_elements n h) = of_elements t v q n h

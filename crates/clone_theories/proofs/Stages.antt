@@ -8,7 +8,7 @@ use Rattle.trees.specs.Node.{Grows}
 use Rattle.tasks.specs.declared.signature.Signature.{Signature}
 use Rattle.tasks.specs.Task.{SymbolTree, DeclarationTree}
 use Rattle.tasks.specs.Meaning.{symbols_at, declarations_at}
-use Rattle.names_space.specs.Names.{Names}
+use Rattle.names_space.specs.Names.{ScopeNames}
 use Rattle.scope_moves.specs.declared.moves.Move.{Move}
 use Rattle.scope_moves.specs.Moves.{brought, handed}
 use Rattle.syntax_why.specs.Lexeme.{Word}
@@ -27,24 +27,24 @@ use Rattle.clone_elements.specs.Left.{Origin}
 use Rattle.clone_elements.specs.Plans.{kept, map_of}
 use Rattle.clone_elements.specs.Origins.{origin_at}
 use Rattle.clone_elements.specs.Meaning.{IsPlan}
-use Rattle.clone_copies.specs.Origins.{Axioms, axioms_of, origin_of}
+use Rattle.clone_copies.specs.Origins.{Axioms, axioms_at, origin_of}
 use Rattle.clone_copies.specs.Places.{Copying, with_places}
 use Rattle.clone_copies.specs.Moves.{AreMovesMapped}
 use Rattle.clone_theories.specs.declared.own.Own.{Own}
-use Rattle.clone_theories.specs.Cloned.{symbols_tupled, sides_in, copying_in, with_entries, with_names}
-use Rattle.clone_theories.specs.Owned.{IsOwnOf, no_theory, theory_at}
+use Rattle.clone_theories.specs.Cloned.{symbols_tupled, sides_in, copying_in, with_copied_entries, with_names}
+use Rattle.clone_theories.specs.Owned.{IsOwnOf, no_theory, known_theory_at}
 use Rattle.clone_theories.specs.Planned.{planned}
-use Rattle.clone_theories.specs.Copied.{with_copies, AreContents, IsCopied}
+use Rattle.clone_theories.specs.Copied.{with_theory_copies, AreContents, IsTheoryCopied}
 use Rattle.clone_theories.proofs.Putting.{trees_put}
 
 -- ---- the theory at a place
-pub theory_is : (s : List Tree) (t : Typed) (k : ℕ) (x : Known) → k < length t.known → x ≡ get_or t.known k x → theory_at s t k ≡ known_at s x
+pub theory_is : (s : List Tree) (t : Typed) (k : ℕ) (x : Known) → k < length t.known → x ≡ get_or t.known k x → known_theory_at s t k ≡ known_at s x
 theory_is s t k x l q = get_or-map (known_at s) t.known k x no_theory l ∙ ap (known_at s) (sym q)
 
 pub origin_is : (s : List Tree) (t : KnownTree) (own : Own) (x : Source) (ds : List DeclarationTree) → declarations_at s x.decls.now ≡ ds → x.own.now ≡ own.places.items → x.axioms.now ≡ own.axioms → IsOwnOf ds t own → origin_at s x ≡ origin_of ds t
 origin_is s t own x ds d p a h =
     let mk : List DeclarationTree → List ℕ → Axioms → Origin = λ e ks f. record { decls = e; own = ks; axioms = λ k. is_some (f k) } in
-    let f : get nat_eq x.axioms.now ≡ axioms_of t.axioms = ap (get nat_eq) a ∙ h.axioms in
+    let f : get nat_eq x.axioms.now ≡ axioms_at t.axioms = ap (get nat_eq) a ∙ h.axioms in
     λ i. mk (d i) ((p ∙ h.places) i) (f i)
 
 -- ---- with the entries of tuples, over a later store
@@ -63,7 +63,7 @@ module _ (s s1 : List Tree) (w : Grows s s1) (t : Typed) (o : Opened) (h : State
         opened = record { visible = grown.opened.visible; goals = grown.opened.goals };
       }
 
-  pub theory_tupled : (k : ℕ) → theory_at s1 (record t { sig = g }) k ≡ theory_at s t k
+  pub theory_tupled : (k : ℕ) → known_theory_at s1 (record t { sig = g }) k ≡ known_theory_at s t k
   theory_tupled k = ap (λ (ks : List KnownTree). get_or ks k no_theory) (all_known_stay s s1 w (length t.decls) t.known h.typed.known)
 
 -- ---- a plan
@@ -72,7 +72,7 @@ planned_is s c t es p within h =
     let o = origin_of c.decls t in
     λ i. record {
       path = t.path;
-      axioms = axioms_of t.axioms;
+      axioms = axioms_at t.axioms;
       fates = h.fates i;
       all = h.all i;
       mapping = map_of (h.types i) (h.symbols i) (length (symbols_tupled c es)) (kept o (h.fates i));
@@ -81,25 +81,25 @@ planned_is s c t es p within h =
 
 -- ---- the clone
 pub cloned_is : (c c' : StateTree) (l : Link) (last : Word) (alias : Option Word) (es : List Element) (t : KnownTree) (ms : List Move) (within : Word)
-    → record c' { trees = [] } ≡ with_names l last alias ms (with_copies t (copying_in c t es within) (record c { trees = []; symbols = symbols_tupled c es }))
-    → c' ≡ record (with_names l last alias ms (with_places (copying_in c t es within) t.visible (with_entries c t es within))) { trees = c'.trees }
+    → record c' { trees = [] } ≡ with_names l last alias ms (with_theory_copies t (copying_in c t es within) (record c { trees = []; symbols = symbols_tupled c es }))
+    → c' ≡ record (with_names l last alias ms (with_places (copying_in c t es within) t.visible (with_copied_entries c t es within))) { trees = c'.trees }
 cloned_is c c' l last alias es t ms within h =
     let s = c'.trees in
     let put : StateTree → StateTree = λ z. record z { trees = s } in
     let named : StateTree → StateTree = λ z. put (with_names l last alias ms z) in
-    ap put h ∙ ap named (trees_put [] (copying_in c t es within) t.visible (with_entries c t es within))
+    ap put h ∙ ap named (trees_put [] (copying_in c t es within) t.visible (with_copied_entries c t es within))
 
 -- ---- names that come into scopes
 pub named_state : (s : List Tree) (t : Typed) (o o' : Opened) (l : Link) (last : Word) (alias : Option Word) (ms : List Move) → o' ≡ record o { scope = o'.scope; moves = o'.moves }
     → o'.scope ≡ brought l last alias ms o.scope → o'.moves.items ≡ o.moves.items ++ handed l ms → state_at s t o' ≡ with_names l last alias ms (state_at s t o)
 named_state s t o o' l last alias ms e p q =
-    let mk : Names → List Move → StateTree = λ n x. record (state_at s t o) { opened = record (opened_at s o) { scope = n; moves = x } } in
+    let mk : ScopeNames → List Move → StateTree = λ n x. record (state_at s t o) { opened = record (opened_at s o) { scope = n; moves = x } } in
     ap (state_at s t) e ∙ (λ i. mk (p i) (q i))
 
 pub named_held : (s : List Tree) (t : Typed) (o o' : Opened) → o' ≡ record o { scope = o'.scope; moves = o'.moves } → StateHeld s t o → StateHeld s t o'
 named_held s t o o' e h = record { typed = h.typed; opened = subst (OpenedHeld s (length t.decls)) (sym e) (record { visible = h.opened.visible; goals = h.opened.goals }) }
 
-pub copied_by : (l : Link) (last : Word) (alias : Option Word) (t : KnownTree) (x : Copying) (ms : List Move) (c c1 c' : StateTree) → AreContents t x ms c c1 → c' ≡ with_names l last alias ms c1 → IsCopied l last alias t x c c'
+pub copied_by : (l : Link) (last : Word) (alias : Option Word) (t : KnownTree) (x : Copying) (ms : List Move) (c c1 c' : StateTree) → AreContents t x ms c c1 → c' ≡ with_names l last alias ms c1 → IsTheoryCopied l last alias t x c c'
 copied_by l last alias t x ms c c1 c' h q =
     let bare : StateTree → StateTree = λ z. record z { trees = [] } in
     record {

@@ -8,7 +8,7 @@ use Rattle.trees.proofs.Nodes.{Grows_refl}
 use Rattle.tasks.specs.Task.{SymbolTree, symbol_or, DeclarationTree, BodyTree, MakesType, Makes, Defines, Induces, Constructs, Says}
 use Rattle.tasks.specs.Rigid.{rigid_symbol}
 use Rattle.tasks.specs.Vocabulary.{Vocabulary, of_signature, is_empty}
-use Rattle.names_space.specs.Names.{Names, find_name, number_of}
+use Rattle.names_space.specs.Names.{ScopeNames, find_name, number_of}
 use Rattle.names_space.specs.declared.Table.{Table}
 use Rattle.names_space.specs.declared.Table.TheVariants.{Types, Symbols, Propositions, Scopes}
 use Rattle.names_space.specs.declared.TypeName.{TypeName}
@@ -25,10 +25,10 @@ use Rattle.syntax_why.specs.Declarations.{Element, type_element, symbol_element,
 use Rattle.symbol_maps.specs.Mapped.{Map}
 use Rattle.clones.specs.Copies.{entry_copied}
 use Rattle.goal_tasks.specs.Theories.{GoalTree}
-use Rattle.elab_names.specs.Abstract.{own_name}
+use Rattle.elab_names.specs.Abstract.{text_of_own}
 use Rattle.elab_names.specs.Faults.{first_of}
 use Rattle.elab_names.specs.declared.NamingFault.{NamingFault}
-use Rattle.valid_tasks.specs.Scopes.{IsPart, IsTypeNumber, IsSymbolNumber, IsTypeName, IsTypedThing, IsTypedEntry, IsTypedSignature, AreTypedScopes}
+use Rattle.valid_tasks.specs.Scopes.{IsSubvocabulary, IsTypeNumber, IsSymbolNumber, IsTypeName, IsTypedThing, IsTypedEntry, IsTypedSignature, AreTypedScopes}
 use Rattle.valid_tasks.proofs.Extended.{slice_below, scopes_part}
 use Rattle.valid_tasks.proofs.Scopes.{found_thing}
 use Rattle.valid_tasks.specs.Valid.{IsTypedSetting}
@@ -41,22 +41,22 @@ use Rattle.cloned_states.proofs.Names.{type_kept, type_replaced, alias_mapped, s
 use Rattle.sound_states.specs.Moves.{IsTypedMove, AreTypedMoves}
 use Rattle.sound_states.proofs.Scopes.{moves_more, brought_typed, handed_typed}
 use Rattle.theory_states.specs.declared.states.AxiomAt.{AxiomAt}
-use Rattle.theory_states.specs.States.{KnownTree, StateTree, has_path, with_declaration}
+use Rattle.theory_states.specs.States.{KnownTree, StateTree, known_has_path, with_declaration}
 use Rattle.theory_states.specs.Uses.{path_text, last_part, alias_text}
-use Rattle.sound_states.specs.Typed.{setting, IsTypedState}
+use Rattle.sound_states.specs.Typed.{state_setting, IsTypedState}
 use Rattle.clone_elements.specs.Left.{Origin, symbol_at_place}
-use Rattle.clone_elements.specs.Rights.{RightTree, is_type, is_symbol, is_nothing, symbol_missing, called_symbol, right_made, right_fault, right_tuples, rights_fault}
-use Rattle.clone_elements.specs.Plans.{Side, sides_made, symbol_for, symbols_replaced, types_replaced, fates_of, kept, kind_or, is_replaced}
+use Rattle.clone_elements.specs.Rights.{RightTree, type_right, symbol_right, no_right, symbol_missing, called_symbol, right_made, right_fault, right_tuples, rights_fault}
+use Rattle.clone_elements.specs.Plans.{SideTree, sides_made, symbol_for, symbols_replaced, types_replaced, fates_of, kept, kind_or, is_replaced}
 use Rattle.clone_copies.specs.Origins.{origin_of, is_own}
 use Rattle.clone_copies.specs.Moves.{IsTypeMapped, IsThingMapped, IsMoveMapped, AreMovesMapped}
-use Rattle.clone_copies.specs.Places.{Copying, with_axiom, goal_with, with_goal, with_kind, with_copy, copy_of, with_joined, with_own, with_place, with_places}
+use Rattle.clone_copies.specs.Places.{Copying, with_copied_axiom, goal_with, with_copied_goal, with_kind, with_copy, copy_of, with_joined, with_own, with_place, with_places}
 use Rattle.cloned_states.specs.Placed.{IsPlacedEntry, ArePlaced}
 use Rattle.cloned_states.specs.Sides.{with_rights, copies_made, with_copies}
 use Rattle.cloned_states.proofs.Numbers.{symbol_of}
 use Rattle.cloned_states.proofs.Rights.{all_typed, rights_built, entries_more}
 use Rattle.cloned_states.proofs.Mapped.{maps_types}
 use Rattle.cloned_states.proofs.Copies.{all_copies_typed, all_placed, rigids_placed}
-use Rattle.clone_theories.specs.Cloned.{symbols_tupled, sides_in, map_in, within_of, copying_in, with_entries, with_names, IsCloned}
+use Rattle.clone_theories.specs.Cloned.{symbols_tupled, sides_in, map_in, within_of, copying_in, with_copied_entries, with_names, IsCloned}
 
 -- ---- lists
 none_here : {X : Type 0} (x : X) → Contains [] x → ⊥
@@ -100,9 +100,9 @@ module _ (xs ys : List SymbolTree) where
           record { there = slice_below (xs ++ ys) k e z; usable = part.usable k e p h.usable; kind = λ w. h.kind (ap (λ (s : SymbolTree). s.kind) (sym same) ∙ w) }
 
 -- ---- symbols on right sides
-module _ (v : Vocabulary) (s : List Tree) (names : Names) (scopes : AreTypedScopes v s names) where
+module _ (v : Vocabulary) (s : List Tree) (names : ScopeNames) (scopes : AreTypedScopes v s names) where
   abbrev RightSymbol : RightTree → Type 0
-  RightSymbol (is_symbol k) = IsSymbolNumber v k
+  RightSymbol (symbol_right k) = IsSymbolNumber v k
   RightSymbol r = Unit {0}
 
   numbered : (o : Option TypeName) → IfSome o (IsTypedThing v s Symbols) → IfSome (option_map number_of o) (IsSymbolNumber v)
@@ -115,7 +115,7 @@ module _ (v : Vocabulary) (s : List Tree) (names : Names) (scopes : AreTypedScop
 
   right_symbol : (symbols : List SymbolTree) (e : Element) → right_fault s symbols names e ≡ None → RightSymbol (right_made s symbols names e)
   right_symbol symbols (type_element i c vs f) q = tt
-  right_symbol symbols (symbol_element i w c d) q = named_symbol d.at (called_symbol names d) q (numbered (find_name names Symbols (d.scopes ++ own_name d.own ∷ [])) (found_thing (IsTypedThing v s) names scopes Symbols (d.scopes ++ own_name d.own ∷ [])))
+  right_symbol symbols (symbol_element i w c d) q = named_symbol d.at (called_symbol names d) q (numbered (find_name names Symbols (d.scopes ++ text_of_own d.own ∷ [])) (found_thing (IsTypedThing v s) names scopes Symbols (d.scopes ++ text_of_own d.own ∷ [])))
   right_symbol symbols (prop_element i k c) q = tt
   right_symbol symbols (all_axioms i) q = tt
 
@@ -123,7 +123,7 @@ module _ (v : Vocabulary) (s : List Tree) (names : Names) (scopes : AreTypedScop
   first_none None b q = (refl, q)
   first_none (Some f) b q = absurd (cc)
 
-  abbrev SideSymbol : Side → Type 0
+  abbrev SideSymbol : SideTree → Type 0
   SideSymbol x = RightSymbol x.right
 
   sides_symbols : (places : Word → Option ℕ) (es : List Element) (symbols : List SymbolTree) → rights_fault s symbols names es ≡ None → All SideSymbol (sides_made places s symbols names es)
@@ -133,12 +133,12 @@ module _ (v : Vocabulary) (s : List Tree) (names : Names) (scopes : AreTypedScop
       All-cons SideSymbol _ (sides_made places s (symbols ++ right_tuples symbols e) names es) (right_symbol symbols e p.0) (sides_symbols places es (symbols ++ right_tuples symbols e) p.1)
 
   pair_symbol : (t : Origin) (left : Option ℕ) (r : RightTree) (p : ℕ × ℕ) → RightSymbol r → Contains (symbol_for t left r) p → IsSymbolNumber v p.1
-  pair_symbol t (Some place) (is_symbol k) p h c = let e : (symbol_at_place t.decls place, k) ≡ p = only_here _ p c in subst (λ (q : ℕ × ℕ). IsSymbolNumber v q.1) e h
-  pair_symbol t (Some place) (is_type ty) p h c = absurd (none_here p c)
-  pair_symbol t (Some place) is_nothing p h c = absurd (none_here p c)
+  pair_symbol t (Some place) (symbol_right k) p h c = let e : (symbol_at_place t.decls place, k) ≡ p = only_here _ p c in subst (λ (q : ℕ × ℕ). IsSymbolNumber v q.1) e h
+  pair_symbol t (Some place) (type_right ty) p h c = absurd (none_here p c)
+  pair_symbol t (Some place) no_right p h c = absurd (none_here p c)
   pair_symbol t None r p h c = absurd (none_here p c)
 
-  pairs_symbols : (t : Origin) (xs : List Side) → All SideSymbol xs → (p : ℕ × ℕ) → Contains (symbols_replaced t xs) p → IsSymbolNumber v p.1
+  pairs_symbols : (t : Origin) (xs : List SideTree) → All SideSymbol xs → (p : ℕ × ℕ) → Contains (symbols_replaced t xs) p → IsSymbolNumber v p.1
   pairs_symbols t [] h p c = absurd (none_here p c)
   pairs_symbols t (x ∷ xs) h p c = of (Contains-append_cases (symbol_for t x.left x.right) (symbols_replaced t xs) p c) (λ z. pairs_symbols t xs (All-tail SideSymbol x xs h) p z)
     where
@@ -169,14 +169,14 @@ module _ (v w : Vocabulary) (m : Map) (maps : MapsTypes v w m) (symbol_becomes :
   moves_typed xs ys h z = λ k d l. let n = z.count in let b : k < length xs = omega (arith, n, l) in move_typed (get_or xs k d) (get_or ys k d) (h k d b) (z.each k d b)
 
 -- ---- states
-same_part : (v : Vocabulary) → IsPart v v
+same_part : (v : Vocabulary) → IsSubvocabulary v v
 same_part v = record { entries = λ k e q. q; rigid = λ k e q h. h; usable = λ k e q h. h; matched = λ k e q h. h }
 
 state_over : (c : StateTree) (s : List Tree) (ys : List SymbolTree) → Grows c.trees s → IsTypedSignature (of_signature (c.symbols ++ ys)) (c.symbols ++ ys) → IsBuiltRight (c.symbols ++ ys) → IsTypedState c → IsTypedState (record c { trees = s; symbols = c.symbols ++ ys })
 state_over c s ys g signature built h =
     let v = of_signature c.symbols in
     let w = of_signature (c.symbols ++ ys) in
-    let p : IsPart v w = entries_more c.symbols ys in
+    let p : IsSubvocabulary v w = entries_more c.symbols ys in
     record {
       theories = record {
         signature = signature;
@@ -248,8 +248,8 @@ module _ (s : List Tree) (ms : List Move) where
   goal_kept vars name (Constructs ds) c h = h
 
   kind_kept : (k : PropKind) (vars : List Word) (d : DeclarationTree) (c : StateTree) → Kept c → Kept (with_kind k vars d c)
-  kind_kept kind.Axiom vars d c h = let e = with_axiom vars d c in others_kept c e.decls e.opened.visible e.opened.axioms e.opened.goals h
-  kind_kept kind.Lemma vars d c h = declaration_kept d (with_goal vars d c) (goal_kept vars d.name d.body c h)
+  kind_kept kind.Axiom vars d c h = let e = with_copied_axiom vars d c in others_kept c e.decls e.opened.visible e.opened.axioms e.opened.goals h
+  kind_kept kind.Lemma vars d c h = declaration_kept d (with_copied_goal vars d c) (goal_kept vars d.name d.body c h)
   kind_kept kind.Goal vars d c h = goal_kept vars d.name d.body c h
 
   copy_kept : (x : Copying) (k : ℕ) (o : Option (List Word)) (d : DeclarationTree) (c : StateTree) → Kept c → Kept (with_copy x k o d c)
@@ -299,10 +299,10 @@ module _ (l : Link) (p : Path) (alias : Option Name) (es : List Element) (c c' :
   ks = kept o (fates_of (sides_in c h.theory es))
 
   abbrev copies : List SymbolTree
-  copies = copies_made (setting c) o es c.opened.path within
+  copies = copies_made (state_setting c) o es c.opened.path within
 
   abbrev whole : List SymbolTree
-  whole = with_copies (setting c) o es c.opened.path within
+  whole = with_copies (state_setting c) o es c.opened.path within
 
   abbrev v : Vocabulary
   v = of_signature all
@@ -310,17 +310,17 @@ module _ (l : Link) (p : Path) (alias : Option Name) (es : List Element) (c c' :
   abbrev w : Vocabulary
   w = of_signature whole
 
-  here : IsTypedSetting (of_signature c.symbols) (setting c)
+  here : IsTypedSetting (of_signature c.symbols) (state_setting c)
   here = record { theory = typed.theory; source = typed.source; signature = typed.theories.signature; scopes = typed.scopes }
 
-  tupled : IsTypedSetting v (with_rights (setting c) es)
-  tupled = all_typed es (setting c) here h.names
+  tupled : IsTypedSetting v (with_rights (state_setting c) es)
+  tupled = all_typed es (state_setting c) here h.names
 
   maps : MapsTypes v w m
-  maps = maps_types (setting c) o es c.opened.path within here h.names typed.theory
+  maps = maps_types (state_setting c) o es c.opened.path within here h.names typed.theory
 
   entries : All (IsTypedEntry w) copies
-  entries = all_copies_typed (setting c) o es c.opened.path within placed here h.names typed.theory
+  entries = all_copies_typed (state_setting c) o es c.opened.path within placed here h.names typed.theory
 
   copy : ℕ → SymbolTree
   copy k = entry_copied m c.opened.path within (symbol_or all k)
@@ -359,7 +359,7 @@ module _ (l : Link) (p : Path) (alias : Option Name) (es : List Element) (c c' :
   own_moves : AreTypedMoves v c'.trees h.theory.moves
   own_moves =
       let u = of_signature c.symbols in
-      let known : AreTypedMoves u c.trees h.theory.moves = found_has (λ (t : KnownTree). AreTypedMoves u c.trees t.moves) (has_path (path_text p.parts)) c.known h.theory typed.theories.known h.found in
+      let known : AreTypedMoves u c.trees h.theory.moves = found_has (λ (t : KnownTree). AreTypedMoves u c.trees t.moves) (known_has_path (path_text p.parts)) c.known h.theory typed.theories.known h.found in
       moves_more u v (entries_more c.symbols _) c.trees c'.trees h.grows h.theory.moves known
 
   new_moves : AreTypedMoves w c'.trees h.moves
@@ -367,7 +367,7 @@ module _ (l : Link) (p : Path) (alias : Option Name) (es : List Element) (c c' :
 
   -- with the entries
   abbrev E : StateTree
-  E = with_entries c h.theory es within
+  E = with_copied_entries c h.theory es within
 
   begun : Kept c'.trees h.moves E
   begun =
@@ -375,7 +375,7 @@ module _ (l : Link) (p : Path) (alias : Option Name) (es : List Element) (c c' :
       let s1 : IsTypedState c1 = state_over c c.trees _ (Grows_refl c.trees) tupled.signature (rights_built es c.symbols typed.theories.built) typed in
       record {
         typed = state_over c1 c.trees copies (Grows_refl c.trees) signature built s1;
-        placed = all_placed (setting c) o es c.opened.path within placed typed.theory;
+        placed = all_placed (state_setting c) o es c.opened.path within placed typed.theory;
         moves = new_moves;
         grows = h.grows;
       }

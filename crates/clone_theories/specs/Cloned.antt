@@ -1,10 +1,10 @@
--- A theory that is cloned, or the first fault of a clone: a type variable that stands twice in an element, the path, the names on the
+-- A theory that is cloned, or the first fault of a clone: a type variable that occurs twice in an element, the path, the names on the
 -- right of the elements, and an element that is wrong (Why3 manual, "theory cloning").
 use Rattle.std.specs.Prelude.{◌≡◌, ℕ, List, ◌++◌, Option, Some, None, codes}
 use Rattle.trees.specs.Tree.{Tree}
 use Rattle.trees.specs.Node.{Grows}
 use Rattle.tasks.specs.Task.{SymbolTree}
-use Rattle.names_space.specs.Names.{Names}
+use Rattle.names_space.specs.Names.{ScopeNames}
 use Rattle.scope_moves.specs.declared.moves.Move.{Move}
 use Rattle.scope_moves.specs.Moves.{brought, handed, name_or}
 use Rattle.syntax_why.specs.Lexeme.{Word}
@@ -22,9 +22,9 @@ use Rattle.theory_states.specs.States.{KnownTree, StateTree, known_named}
 use Rattle.theory_states.specs.Uses.{path_text, last_part, alias_text, IsUnknownTheory}
 use Rattle.clone_elements.specs.Left.{Origin, last_place}
 use Rattle.clone_elements.specs.Rights.{all_variables_fault, rights_fault, rights_tuples}
-use Rattle.clone_elements.specs.Plans.{Side, sides_made, fates_of, has_all, no_fates, kept, clone_map, tried_map}
+use Rattle.clone_elements.specs.Plans.{SideTree, sides_made, fates_of, has_all, no_fates, kept, clone_map, tried_map}
 use Rattle.clone_elements.specs.Elements.{SidesTold}
-use Rattle.clone_copies.specs.Origins.{axioms_of, origin_of}
+use Rattle.clone_copies.specs.Origins.{axioms_at, origin_of}
 use Rattle.clone_copies.specs.Entries.{entries_copied}
 use Rattle.clone_copies.specs.Places.{Copying, with_places}
 use Rattle.clone_copies.specs.Moves.{AreMovesMapped}
@@ -34,10 +34,10 @@ use Rattle.clone_copies.specs.Moves.{AreMovesMapped}
 abbrev pub symbols_tupled : StateTree → List Element → List SymbolTree
 symbols_tupled c es = c.symbols ++ rights_tuples c.symbols es
 
-abbrev pub sides_over : Origin → List Tree → List SymbolTree → Names → List Element → List Side
+abbrev pub sides_over : Origin → List Tree → List SymbolTree → ScopeNames → List Element → List SideTree
 sides_over o s symbols names es = sides_made (λ x. last_place symbols o x None o.own) s symbols names es
 
-abbrev pub sides_in : StateTree → KnownTree → List Element → List Side
+abbrev pub sides_in : StateTree → KnownTree → List Element → List SideTree
 sides_in c t es = sides_over (origin_of c.decls t) c.trees c.symbols c.opened.scope es
 
 abbrev pub tried_in : StateTree → KnownTree → List Element → Map
@@ -60,7 +60,7 @@ within_of link.Bare last alias within = within ++ (name_or last alias ++ codes "
 abbrev pub copying_in : StateTree → KnownTree → List Element → Word → Copying
 copying_in c t es within = record {
   path = t.path;
-  axioms = axioms_of t.axioms;
+  axioms = axioms_at t.axioms;
   fates = fates_of (sides_in c t es);
   all = has_all (sides_in c t es);
   mapping = map_in c t es;
@@ -68,8 +68,8 @@ copying_in c t es within = record {
 }
 
 -- with the entries of the copies
-abbrev pub with_entries : StateTree → KnownTree → List Element → Word → StateTree
-with_entries c t es within = record c {
+abbrev pub with_copied_entries : StateTree → KnownTree → List Element → Word → StateTree
+with_copied_entries c t es within = record c {
   symbols = symbols_tupled c es ++ entries_copied (symbols_tupled c es) (map_in c t es) c.opened.path within (kept (origin_of c.decls t) (fates_of (sides_in c t es)));
 }
 
@@ -77,9 +77,9 @@ with_entries c t es within = record c {
 abbrev pub with_names : Link → Word → Option Word → List Move → StateTree → StateTree
 with_names l last alias ms c = record c { opened = record c.opened { scope = brought l last alias ms c.opened.scope; moves = c.opened.moves ++ handed l ms } }
 
-abbrev pub cloned : Link → Word → Option Word → List Element → KnownTree → List Move → StateTree → StateTree
-cloned l last alias es t ms c =
-    with_names l last alias ms (with_places (copying_in c t es (within_of l last alias c.opened.within)) t.visible (with_entries c t es (within_of l last alias c.opened.within)))
+abbrev pub state_cloned : Link → Word → Option Word → List Element → KnownTree → List Move → StateTree → StateTree
+state_cloned l last alias es t ms c =
+    with_names l last alias ms (with_places (copying_in c t es (within_of l last alias c.opened.within)) t.visible (with_copied_entries c t es (within_of l last alias c.opened.within)))
 
 pub record IsCloned (l : Link) (p : Path) (alias : Option Name) (es : List Element) (c c' : StateTree) : Type 0 where
   pub variables : all_variables_fault es ≡ None
@@ -90,7 +90,7 @@ pub record IsCloned (l : Link) (p : Path) (alias : Option Name) (es : List Eleme
   pub grows : Grows c.trees c'.trees
   pub moves : List Move
   pub mapped : AreMovesMapped c'.trees (symbols_tupled c es) (map_in c theory es) theory.moves moves
-  pub is : c' ≡ record (cloned l (last_part p.parts) (alias_text alias) es theory moves c) { trees = c'.trees }
+  pub is : c' ≡ record (state_cloned l (last_part p.parts) (alias_text alias) es theory moves c) { trees = c'.trees }
 
 -- ---- its faults
 abbrev pub naming : ℕ → NamingFault → SourceFault
@@ -107,7 +107,7 @@ pub record IsNamesFault (number : ℕ) (found : Option NamingFault) (f : SourceF
   pub is : f ≡ naming number fault
 
 -- the first wrong element
-pub record IsElementFault (number : ℕ) (symbols : List SymbolTree) (o : Origin) (xs : List Side) (f : SourceFault) : Type 0 where
+pub record IsElementFault (number : ℕ) (symbols : List SymbolTree) (o : Origin) (xs : List SideTree) (f : SourceFault) : Type 0 where
   pub token : ℕ
   pub told : SidesTold symbols o (tried_map symbols o xs) no_fates xs (Some token)
   pub is : f ≡ fault.BadSubstitution number token
@@ -115,5 +115,5 @@ pub record IsElementFault (number : ℕ) (symbols : List SymbolTree) (o : Origin
 pub data IsCloneFault (p : Path) (es : List Element) (c : StateTree) (f : SourceFault) : Type 0 where
   of_variables : IsNamesFault c.number (all_variables_fault es) f → IsCloneFault p es c f
   of_path : all_variables_fault es ≡ None → IsUnknownTheory p c.known c.number f → IsCloneFault p es c f
-  of_names : (t : KnownTree) → all_variables_fault es ≡ None → known_named c.known (path_text p.parts) ≡ Some t → IsNamesFault c.number (rights_fault c.trees c.symbols c.opened.scope es) f → IsCloneFault p es c f
+  of_clone_names : (t : KnownTree) → all_variables_fault es ≡ None → known_named c.known (path_text p.parts) ≡ Some t → IsNamesFault c.number (rights_fault c.trees c.symbols c.opened.scope es) f → IsCloneFault p es c f
   of_elements : (t : KnownTree) → all_variables_fault es ≡ None → known_named c.known (path_text p.parts) ≡ Some t → rights_fault c.trees c.symbols c.opened.scope es ≡ None → IsElementFault c.number (symbols_tupled c es) (origin_of c.decls t) (sides_in c t es) f → IsCloneFault p es c f

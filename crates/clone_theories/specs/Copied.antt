@@ -25,7 +25,7 @@ use Rattle.clone_copies.specs.Moves.{AreMovesMapped, MoveHeld}
 use Rattle.clone_theories.specs.declared.copying.Renaming.{Renaming}
 use Rattle.clone_theories.specs.declared.own.Own.{Own}
 use Rattle.clone_theories.specs.Cloned.{with_names}
-use Rattle.clone_theories.specs.Owned.{IsOwnOf, theory_at}
+use Rattle.clone_theories.specs.Owned.{IsOwnOf, known_theory_at}
 use Rattle.clone_theories.specs.Planned.{planned}
 
 -- the map of a clone, and the symbols that become new ones, in order
@@ -53,25 +53,25 @@ entries_made t x c = entries_copied c.symbols x.mapping c.opened.path x.within (
 abbrev pub with_made : KnownTree → Copying → StateTree → StateTree
 with_made t x c = record c { symbols = c.symbols ++ entries_made t x c }
 
-abbrev pub with_copies : KnownTree → Copying → StateTree → StateTree
-with_copies t x c = with_places x t.visible (with_made t x c)
+abbrev pub with_theory_copies : KnownTree → Copying → StateTree → StateTree
+with_theory_copies t x c = with_places x t.visible (with_made t x c)
 
 -- a theory can be copied by what elements replace
-pub record IsReady (s : List Tree) (t : Typed) (o : Opened) (k : ℕ) (it : Own) (p : Plan) (within : Word) : Type 0 where
+pub record IsCopyReady (s : List Tree) (t : Typed) (o : Opened) (k : ℕ) (it : Own) (p : Plan) (within : Word) : Type 0 where
   pub held : StateHeld s t o
   pub there : k < length t.known
-  pub own : IsOwnOf (declarations_at s t.decls) (theory_at s t k) it
+  pub own : IsOwnOf (declarations_at s t.decls) (known_theory_at s t k) it
   pub types : All (TypeForHeld s) p.types.items
-  pub moves : All (MoveHeld s) (theory_at s t k).moves
-  pub kept : All IsKeptEntry (entries_made (theory_at s t k) (planned s (state_at s t o) (theory_at s t k) p within) (state_at s t o))
+  pub moves : All (MoveHeld s) (known_theory_at s t k).moves
+  pub kept : All IsKeptEntry (entries_made (known_theory_at s t k) (planned s (state_at s t o) (known_theory_at s t k) p within) (state_at s t o))
 
--- its contents are copied, and these names are handed on
+-- its contents are copied, and these names are passed on
 pub record AreContents (t : KnownTree) (x : Copying) (moves : List Move) (c c' : StateTree) : Type 0 where
   pub mapped : AreMovesMapped c'.trees c.symbols x.mapping t.moves moves
-  pub is : record c' { trees = [] } ≡ with_copies t x (record c { trees = [] })
+  pub is : record c' { trees = [] } ≡ with_theory_copies t x (record c { trees = [] })
 
 -- it is copied, and its names come into scopes
-pub record IsCopied (l : Link) (last : Word) (alias : Option Word) (t : KnownTree) (x : Copying) (c c' : StateTree) : Type 0 where
+pub record IsTheoryCopied (l : Link) (last : Word) (alias : Option Word) (t : KnownTree) (x : Copying) (c c' : StateTree) : Type 0 where
   pub moves : List Move
   pub mapped : AreMovesMapped c'.trees c.symbols x.mapping t.moves moves
-  pub is : record c' { trees = [] } ≡ with_names l last alias moves (with_copies t x (record c { trees = [] }))
+  pub is : record c' { trees = [] } ≡ with_names l last alias moves (with_theory_copies t x (record c { trees = [] }))

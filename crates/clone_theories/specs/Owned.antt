@@ -6,18 +6,18 @@ use Rattle.tasks.specs.Task.{DeclarationTree}
 use Rattle.theory_states.specs.declared.states.Typed.{Typed}
 use Rattle.theory_states.specs.States.{KnownTree}
 use Rattle.theory_states.specs.Meaning.{known_at}
-use Rattle.clone_copies.specs.Origins.{own_places, axioms_of}
+use Rattle.clone_copies.specs.Origins.{own_places, axioms_at}
 use Rattle.clone_theories.specs.declared.own.Own.{Own}
 
 pub record IsOwnOf (ds : List DeclarationTree) (t : KnownTree) (o : Own) : Type 0 where
   pub path : o.path ≡ t.path
   pub visible : o.visible ≡ t.visible
   pub places : o.places.items ≡ own_places ds t
-  pub axioms : get nat_eq o.axioms ≡ axioms_of t.axioms
+  pub axioms : get nat_eq o.axioms ≡ axioms_at t.axioms
 
--- what stands where a list has no theory
+-- what is where a list has no theory
 abbrev pub no_theory : KnownTree
 no_theory = record { path = []; visible = []; axioms = []; goals = []; moves = [] }
 
-abbrev pub theory_at : List Tree → Typed → ℕ → KnownTree
-theory_at s t k = get_or (map (known_at s) t.known) k no_theory
+abbrev pub known_theory_at : List Tree → Typed → ℕ → KnownTree
+known_theory_at s t k = get_or (map (known_at s) t.known) k no_theory

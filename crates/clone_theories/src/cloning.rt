@@ -10,7 +10,7 @@ ghost use Rattle.sound_states.specs.Typed.{IsTypedState};
 ghost use Rattle.clone_elements.specs.Rights.{all_variables_fault};
 ghost use Rattle.cloned_states.specs.Placed.{ArePlaced};
 ghost use Rattle.clone_theories.specs.Cloned.{IsCloned, IsCloneFault};
-ghost use Rattle.clone_theories.specs.Owned.{theory_at};
+ghost use Rattle.clone_theories.specs.Owned.{known_theory_at};
 
 use crate::copying::copy_theory;
 use crate::own::{own_of, source_of};
@@ -21,7 +21,7 @@ use syntax_why::{ElemTree, Link, Name, Path};
 use term_store::Store;
 use theory_states::{Opened, SourceFault, Typed, alias_text, find_theory, last_part};
 
-// The theory at a place is cloned, or the first fault of the clone but for type variables that stand twice.
+// The theory at a place is cloned, or the first fault of the clone but for type variables that occur twice.
 fn clone_known(
     alloc: Global,
     store: &mut Store,
@@ -39,7 +39,7 @@ fn clone_known(
     requires variables { all_variables_fault (map element_of elements.now) ≡ None }
     requires there { theory < length typed.old.known }
     requires found { known_named (map (known_at store.old) typed.old.known)
-        (path_text path.now.parts) ≡ Some (theory_at store.old typed.old theory) }
+        (path_text path.now.parts) ≡ Some (known_theory_at store.old typed.old theory) }
     ensures ok { OnOk result (IsCloned link path.now alias.now (map element_of elements.now)
         (state_at store.old typed.old open.old) (state_at store.new typed.new open.new)) }
     ensures held { OnOk result (StateHeld store.new typed.new open.new) }
@@ -74,7 +74,7 @@ fn clone_known(
     Ok(())
 }
 
-/// A theory before the open one is cloned, or the first fault of the clone: a type variable that stands twice in an element, the path,
+/// A theory before the open one is cloned, or the first fault of the clone: a type variable that occurs twice in an element, the path,
 /// the names on the right of the elements, and an element that is wrong. The state is used no more after a refusal.
 pub fn clone_theory(
     alloc: Global,

@@ -12,9 +12,9 @@ ghost use Rattle.clone_elements.specs.Meaning.{TypeForHeld};
 ghost use Rattle.clone_copies.specs.Entries.{entries_copied};
 ghost use Rattle.clone_copies.specs.Moves.{AreMovesMapped, MoveHeld};
 ghost use Rattle.clone_theories.specs.Cloned.{within_of};
-ghost use Rattle.clone_theories.specs.Owned.{theory_at};
+ghost use Rattle.clone_theories.specs.Owned.{known_theory_at};
 ghost use Rattle.clone_theories.specs.Planned.{planned_kept, planned_map, planned};
-ghost use Rattle.clone_theories.specs.Copied.{IsRenaming, IsKeptEntry, IsReady, AreContents, IsCopied};
+ghost use Rattle.clone_theories.specs.Copied.{IsRenaming, IsKeptEntry, IsCopyReady, AreContents, IsTheoryCopied};
 
 use crate::own::{Own, source_of, within_of};
 use clone_copies::{Job, copy_places, map_moves, push_entries};
@@ -60,7 +60,7 @@ fn rename(
     Ok(Renaming { symbols, morphism })
 }
 
-// The names that a theory hands on are mapped, and the entries of the copies come after those of the signature. Only want of memory
+// The names that a theory passes on are mapped, and the entries of the copies come after those of the signature. Only want of memory
 // refuses.
 fn copy_symbols(
     alloc: Global,
@@ -101,7 +101,7 @@ fn copy_symbols(
     Ok(mapped)
 }
 
-// The copies of a theory's symbols and declarations, and the names that they hand on. Only want of memory refuses.
+// The copies of a theory's symbols and declarations, and the names that they pass on. Only want of memory refuses.
 fn copy_contents(
     alloc: Global,
     store: &mut Store,
@@ -112,10 +112,10 @@ fn copy_contents(
     plan: &Plan,
     within: &[u8],
 ) -> Result<Vec<Move>, AllocError>
-    requires { IsReady store.old typed.old open.old theory own.now plan.now within.now }
-    ensures copies { IfOk result (λ v. AreContents (theory_at store.old typed.old theory)
+    requires { IsCopyReady store.old typed.old open.old theory own.now plan.now within.now }
+    ensures copies { IfOk result (λ v. AreContents (known_theory_at store.old typed.old theory)
         (planned store.old (state_at store.old typed.old open.old)
-        (theory_at store.old typed.old theory) plan.now within.now) v.items
+        (known_theory_at store.old typed.old theory) plan.now within.now) v.items
         (state_at store.old typed.old open.old) (state_at store.new typed.new open.new)) }
     ensures held { OnOk result (StateHeld store.new typed.new open.new) }
     ensures grows { Grows store.old store.new }
@@ -166,11 +166,12 @@ pub(crate) fn copy_theory(
     last: &[u8],
     alias: Option<&[u8]>,
 ) -> Result<(), AllocError>
-    requires { IsReady store.old typed.old open.old theory own.now plan.now
+    requires { IsCopyReady store.old typed.old open.old theory own.now plan.now
         (within_of link last.now (option_copied alias) open.old.within.items) }
-    ensures copied { OnOk result (IsCopied link last.now (option_copied alias.entry)
-        (theory_at store.old typed.old theory) (planned store.old
-        (state_at store.old typed.old open.old) (theory_at store.old typed.old theory) plan.now
+    ensures copied { OnOk result (IsTheoryCopied link last.now (option_copied alias.entry)
+        (known_theory_at store.old typed.old theory) (planned store.old
+        (state_at store.old typed.old open.old) (known_theory_at store.old typed.old theory)
+        plan.now
         (within_of link last.now (option_copied alias.entry) open.old.within.items))
         (state_at store.old typed.old open.old) (state_at store.new typed.new open.new)) }
     ensures held { OnOk result (StateHeld store.new typed.new open.new) }

@@ -12,7 +12,7 @@ ghost use Rattle.clone_elements.specs.Elements.{SidesTold};
 ghost use Rattle.clone_elements.specs.Meaning.{sides_at, SideHeld, IsPlan};
 ghost use Rattle.clone_elements.specs.Origins.{origin_at};
 ghost use Rattle.clone_theories.specs.Cloned.{naming, sides_over, IsNamesFault, IsElementFault};
-ghost use Rattle.clone_theories.specs.Planned.{IsRead, IsReadFault};
+ghost use Rattle.clone_theories.specs.Planned.{AreElementsRead, IsElementsFault};
 
 use clone_elements::{ElementFault, LeftNames, Plan, Side, Source, make_plan, sides_of};
 use elab_names::NamingFault;
@@ -116,9 +116,10 @@ pub(crate) fn plan_elements(
     requires decls { All (DeclHeld store.old) source.now.decls.now }
     ensures entries { OnOk result (IsExtended store.old sig.old store.new sig.new (rights_tuples
         (symbols_at store.old sig.old.symbols) (map element_of elements.now))) }
-    ensures read { IfOk result (IsRead store.old (symbols_at store.old sig.old.symbols) scope.now
+    ensures read { IfOk result (AreElementsRead store.old (symbols_at store.old sig.old.symbols)
+        scope.now
         (origin_at store.old source.now) (map element_of elements.now) store.new) }
-    ensures err { IfErr result (OrMemory (IsReadFault number store.old
+    ensures err { IfErr result (OrMemory (IsElementsFault number store.old
         (symbols_at store.old sig.old.symbols) scope.now (origin_at store.old source.now)
         (map element_of elements.now))) }
     ensures grows { Grows store.old store.new }

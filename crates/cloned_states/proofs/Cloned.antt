@@ -11,7 +11,7 @@ use Rattle.scope_moves.specs.declared.moves.Move.{Move}
 use Rattle.scope_moves.specs.Moves.{handed}
 use Rattle.elab_walk.specs.Scoped.{IsScopedEntry}
 use Rattle.elab_parts.specs.Entries.{builtin}
-use Rattle.valid_tasks.specs.Scopes.{IsPart, IsTypedSignature, AreTypedScopes}
+use Rattle.valid_tasks.specs.Scopes.{IsSubvocabulary, IsTypedSignature, AreTypedScopes}
 use Rattle.valid_tasks.proofs.Words.{same_word, self_word}
 use Rattle.valid_tasks.proofs.Extended.{scopes_part}
 use Rattle.sound_states.specs.Moves.{IsTypedMove, AreTypedMoves}
@@ -32,7 +32,7 @@ use Rattle.sound_states.proofs.Places.{places_agree, slice_in}
 use Rattle.sound_states.proofs.Used.{others_agree, among_more}
 use Rattle.sound_states.proofs.Further.{slice_either, known_further, apart_further, axiom_more}
 use Rattle.cloned_states.specs.Cloning.{IsMadeRight, AreMadeRight, IsCloning}
-use Rattle.cloned_states.specs.Steps.{Step, declarations_of, taken_of, made_from, IsClone}
+use Rattle.cloned_states.specs.Steps.{CopyStep, declarations_of, taken_of, made_from, IsClone}
 use Rattle.cloned_states.proofs.Vocabularies.{made_below}
 use Rattle.cloned_states.proofs.Joining.{into_made}
 use Rattle.cloned_states.proofs.Signatures.{made_right, signature_of}
@@ -44,7 +44,7 @@ use Rattle.cloned_states.proofs.StateOthers.{others_made, made_right_of}
 filtered_in : (p : DeclarationTree → Bool) (ds : List DeclarationTree) (d : DeclarationTree) → Contains (filter p ds) d → Contains ds d
 filtered_in p ds d c = All-contains (Contains ds) (filter p ds) d (All-filter p (Contains ds) ds (λ i e l. Contains-get_or ds i e l)) c
 
-module _ (c c' : StateTree) (t : KnownTree) (tuples more : List SymbolTree) (new : List DeclarationTree) (m : Map) (within : List ℕ) (ss : List Step) (axioms : List AxiomAt) (goals : List GoalTree) (link : Link) (last : List ℕ) (alias : Option (List ℕ)) (moves : List Move)
+module _ (c c' : StateTree) (t : KnownTree) (tuples more : List SymbolTree) (new : List DeclarationTree) (m : Map) (within : List ℕ) (ss : List CopyStep) (axioms : List AxiomAt) (goals : List GoalTree) (link : Link) (last : List ℕ) (alias : Option (List ℕ)) (moves : List Move)
     (h : IsSoundState c) (known : IsSoundKnown c.trees c.symbols c.decls t) (apart : IsApart c.decls c.opened.path t)
     (a : IsAfterClone c c' t tuples more new m within ss axioms goals link last alias moves) (s : IsSoundClone c c' tuples more m within ss axioms goals moves) where
   abbrev p : List ℕ
@@ -131,10 +131,10 @@ module _ (c c' : StateTree) (t : KnownTree) (tuples more : List SymbolTree) (new
       (later_sound xs more (others p first) (taken_of ss) (sound_here (others p first) h.opened.theory.others) is_clone.others (others_agree p first (taken_of ss) strange agree))
 
   -- ---- what could be named may be named
-  part : IsPart (after c.symbols [] first) (after all [] now)
+  part : IsSubvocabulary (after c.symbols [] first) (after all [] now)
   part =
       let x = more_part c.symbols (tuples ++ more) [] first in
-      let y : IsPart (after c.symbols [] first) (after all [] first) = subst (λ (zs : List SymbolTree). IsPart (after c.symbols [] first) (after zs [] first)) (sym grown) x in
+      let y : IsSubvocabulary (after c.symbols [] first) (after all [] first) = subst (λ (zs : List SymbolTree). IsSubvocabulary (after c.symbols [] first) (after zs [] first)) (sym grown) x in
       let z = list_part all [] first (made_from m p within first ss) in
       record {
         entries = λ k e q. z.entries k e (y.entries k e q);
@@ -147,8 +147,8 @@ module _ (c c' : StateTree) (t : KnownTree) (tuples more : List SymbolTree) (new
   over_next : (P : List SymbolTree → List DeclarationTree → Type 0) → P all now → P c'.symbols (visible_now c')
   over_next P x = subst (λ (zs : List SymbolTree). P zs (visible_now c')) (sym a.symbols) (subst (P all) (sym a.visible) x)
 
-  part_next : IsPart (after c.symbols [] first) (after c'.symbols [] (visible_now c'))
-  part_next = over_next (λ (zs : List SymbolTree) (ds : List DeclarationTree). IsPart (after c.symbols [] first) (after zs [] ds)) part
+  part_next : IsSubvocabulary (after c.symbols [] first) (after c'.symbols [] (visible_now c'))
+  part_next = over_next (λ (zs : List SymbolTree) (ds : List DeclarationTree). IsSubvocabulary (after c.symbols [] first) (after zs [] ds)) part
 
   goal_next : (g : GoalTree) → IsSoundAmong c.symbols first g → IsSoundAmong c'.symbols (visible_now c') g
   goal_next g y =

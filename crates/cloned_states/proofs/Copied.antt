@@ -9,8 +9,8 @@ use Rattle.std.proofs.lemmas.List.Elements.{All-nil, All-cons, All-head, All-tai
 use Rattle.trees.specs.Tree.{Tree}
 use Rattle.tasks.specs.declared.signature.SymbolKind.{SymbolKind}
 use Rattle.tasks.specs.declared.signature.SymbolKind.TheVariants.{Kind, Predicate}
-use Rattle.tasks.specs.Task.{SymbolTree, symbol_or, DefinitionTree, InductiveTree, ConTree, AlgebraicTree, BodyTree, MakesType, Makes, Defines, Induces, Constructs, Says, DeclarationTree, made, made_by, made_by_cons, made_by_types}
-use Rattle.tasks.specs.Roles.{RoleTree, Defined, Inductive, defined_as, inductive_as, is_plain, is_constructor, or_role, projection_at, projected_as, constructed_as, algebraic_as, is_made_by, maker, role_in, role_by}
+use Rattle.tasks.specs.Task.{SymbolTree, symbol_or, DefinitionTree, InductiveTree, ConstructorTree, AlgebraicTree, BodyTree, MakesType, Makes, Defines, Induces, Constructs, Says, DeclarationTree, made, made_by, made_by_cons, made_by_types}
+use Rattle.tasks.specs.Roles.{RoleTree, DefinedRole, InductiveRole, defined_as, inductive_as, is_plain, is_constructor, or_role, projection_at, projected_as, constructed_as, algebraic_as, is_made_by, maker, role_in, role_by}
 use Rattle.tasks.specs.Vocabulary.{Vocabulary, is_empty, passes, is_constructor_kind}
 use Rattle.tasks.specs.Valid.{IsValidDecl}
 use Rattle.tasks.proofs.Declared.{none_in, any_iff, maker_made, made_maker}
@@ -19,13 +19,13 @@ use Rattle.clones.specs.Copies.{definition_mapped, inductive_mapped, con_mapped,
 use Rattle.elab_parts.specs.Entries.{builtin}
 use Rattle.valid_tasks.specs.Lists.{is_built, after}
 use Rattle.valid_tasks.proofs.Lists.{maker_both, list_part, list_valid}
-use Rattle.valid_tasks.specs.Tasks.{IsOwn, IsOfTheory, AreSound}
+use Rattle.valid_tasks.specs.Tasks.{IsOwnSymbol, IsOfTheory, AreSound}
 use Rattle.valid_tasks.proofs.Distinct.{IsDistinct, distinct_pairs, pairs_distinct, distinct_both}
 use Rattle.valid_tasks.proofs.TupleDecls.{made_both}
 use Rattle.valid_tasks.proofs.Grown.{then_valid, front_distinct}
 use Rattle.sound_states.specs.Morphisms.{TypeBecomes, KindBecomes, HasMappedTypes, IsMorphism, IsCopied}
 use Rattle.sound_states.proofs.Declarations.{declaration_valid}
-use Rattle.cloned_states.specs.Cloning.{IsImage, IsNew, IsCloning}
+use Rattle.cloned_states.specs.Cloning.{IsImage, BecomesNew, IsCloning}
 use Rattle.cloned_states.proofs.Vocabularies.{right_of, slice_or, typed_list, made_below}
 use Rattle.cloned_states.proofs.Extending.{morphism_more, morphism_next}
 
@@ -52,7 +52,7 @@ distinct_middle xs ys zs h = front_distinct ys zs (distinct_last xs (ys ++ zs) h
 
 -- ---- what copies make
 module _ (m : Map) where
-  cons_mapped : (cs : List ConTree) → made_by_cons (map (con_mapped m) cs) ≡ map m.symbols (made_by_cons cs)
+  cons_mapped : (cs : List ConstructorTree) → made_by_cons (map (con_mapped m) cs) ≡ map m.symbols (made_by_cons cs)
   cons_mapped [] = refl
   cons_mapped (c ∷ cs) = ap (λ (ks : List ℕ). (m.symbols c.symbol ∷ map m.symbols c.projections) ++ ks) (cons_mapped cs) ∙ sym (map-append m.symbols (c.symbol ∷ c.projections) (made_by_cons cs))
 
@@ -107,11 +107,11 @@ module _ (m : Map) where
         of true false c d e = absurd (cc)
         of false true c d e = absurd (cc)
 
-    at_mapped : (c c' : ConTree) (o : Option ℕ) → IsSameRole (projection_at c' o) (projection_at c o)
+    at_mapped : (c c' : ConstructorTree) (o : Option ℕ) → IsSameRole (projection_at c' o) (projection_at c o)
     at_mapped c c' None = (refl, refl)
     at_mapped c c' (Some n) = (refl, refl)
 
-    projected_mapped : (c : ConTree) → IsAlone c.projections → IsSameRole (projected_as (m.symbols k) (con_mapped m c)) (projected_as k c)
+    projected_mapped : (c : ConstructorTree) → IsAlone c.projections → IsSameRole (projected_as (m.symbols k) (con_mapped m c)) (projected_as k c)
     projected_mapped c h = subst (λ (o : Option ℕ). IsSameRole (projection_at (con_mapped m c) o) (projected_as k c)) (sym (position_mapped 0 c.projections h)) (at_mapped c (con_mapped m c) (position_from (λ j. j == k) 0 c.projections))
 
     test_roles : (a b : Bool) (p p' q q' : RoleTree) → a ≡ b → IsSameRole p p' → IsSameRole q q' → IsSameRole (cond a p q) (cond b p' q')
@@ -120,7 +120,7 @@ module _ (m : Map) where
     test_roles true false p p' q q' e x y = absurd (cc)
     test_roles false true p p' q q' e x y = absurd (cc)
 
-    constructed_mapped : (cs : List ConTree) → IsAlone (made_by_cons cs) → IsSameRole (constructed_as (m.symbols k) (map (con_mapped m) cs)) (constructed_as k cs)
+    constructed_mapped : (cs : List ConstructorTree) → IsAlone (made_by_cons cs) → IsSameRole (constructed_as (m.symbols k) (map (con_mapped m) cs)) (constructed_as k cs)
     constructed_mapped [] h = (refl, refl)
     constructed_mapped (c ∷ cs) h =
         let P : ℕ → Type 0 = λ j. m.symbols j ≡ m.symbols k → j ≡ k in
@@ -140,7 +140,7 @@ module _ (m : Map) where
     defined_no [] = refl
     defined_no (d ∷ ds) = of (d.symbol == k) (defined_no ds)
       where
-        of : (b : Bool) → is_constructor (defined_as k ds) ≡ false → is_constructor (cond b (Defined d.equation) (defined_as k ds)) ≡ false
+        of : (b : Bool) → is_constructor (defined_as k ds) ≡ false → is_constructor (cond b (DefinedRole d.equation) (defined_as k ds)) ≡ false
         of true h = refl
         of false h = h
 
@@ -148,7 +148,7 @@ module _ (m : Map) where
     inductive_no [] = refl
     inductive_no (i ∷ is) = of (i.symbol == k) (inductive_no is)
       where
-        of : (b : Bool) → is_constructor (inductive_as k is) ≡ false → is_constructor (cond b (Inductive i.clauses) (inductive_as k is)) ≡ false
+        of : (b : Bool) → is_constructor (inductive_as k is) ≡ false → is_constructor (cond b (InductiveRole i.clauses) (inductive_as k is)) ≡ false
         of true h = refl
         of false h = h
 
@@ -189,15 +189,15 @@ kinds_become _ n = tt
 
 -- ---- a copy
 module _ (xs : List SymbolTree) (pre : List DeclarationTree) (m : Map) (symbols : List SymbolTree) (now : List DeclarationTree) (h : IsCloning xs pre m symbols now) (d : DeclarationTree) (whole : AreSound xs (pre ++ d ∷ []))
-    (theory within : List ℕ) (named : is_empty theory ≡ false) (source : bytes_eq theory builtin ≡ false) (news : All (IsNew xs symbols m theory within) (made_by d.body)) (apart : (k : ℕ) → Contains (made_by d.body) k → Contains (made now) (m.symbols k) → ⊥) where
+    (theory within : List ℕ) (named : is_empty theory ≡ false) (source : bytes_eq theory builtin ≡ false) (news : All (BecomesNew xs symbols m theory within) (made_by d.body)) (apart : (k : ℕ) → Contains (made_by d.body) k → Contains (made now) (m.symbols k) → ⊥) where
   abbrev copy : DeclarationTree
   copy = declaration_copied m theory within d
 
   abbrev w : Vocabulary
   w = after symbols [] (now ++ copy ∷ [])
 
-  new_at : (k : ℕ) → Contains (made_by d.body) k → IsNew xs symbols m theory within k
-  new_at k c = All-contains (IsNew xs symbols m theory within) (made_by d.body) k news c
+  new_at : (k : ℕ) → Contains (made_by d.body) k → BecomesNew xs symbols m theory within k
+  new_at k c = All-contains (BecomesNew xs symbols m theory within) (made_by d.body) k news c
 
   last_made : (k : ℕ) → Contains (made_by d.body) k → Contains (made (pre ++ d ∷ [])) k
   last_made k c = subst (λ (ks : List ℕ). Contains ks k) (sym (made_both pre (d ∷ []))) (Contains-append_right (made pre) (made (d ∷ [])) k (Contains-append_left (made_by d.body) [] k c))
@@ -269,10 +269,10 @@ module _ (xs : List SymbolTree) (pre : List DeclarationTree) (m : Map) (symbols 
   valid_copy : IsValidDecl w copy
   valid_copy = declaration_valid (after xs [] (pre ++ d ∷ [])) w m morphism_copied (typed_list xs (pre ++ d ∷ []) whole) theory within d (λ i j l. copied_at (get_or (made_by d.body) i j) (Contains-get_or (made_by d.body) i j l)) valid_last
 
-  own_copied : All (IsOwn symbols) (made_by copy.body)
-  own_copied = subst (All (IsOwn symbols)) (sym (made_mapped m d.body)) (All-map (IsOwn symbols) m.symbols (made_by d.body) (λ i j l. own_at (get_or (made_by d.body) i j) (Contains-get_or (made_by d.body) i j l)))
+  own_copied : All (IsOwnSymbol symbols) (made_by copy.body)
+  own_copied = subst (All (IsOwnSymbol symbols)) (sym (made_mapped m d.body)) (All-map (IsOwnSymbol symbols) m.symbols (made_by d.body) (λ i j l. own_at (get_or (made_by d.body) i j) (Contains-get_or (made_by d.body) i j l)))
     where
-      own_at : (k : ℕ) → Contains (made_by d.body) k → IsOwn symbols (m.symbols k)
+      own_at : (k : ℕ) → Contains (made_by d.body) k → IsOwnSymbol symbols (m.symbols k)
       own_at k c = record { stands = ap (λ (e : SymbolTree). is_empty e.theory) (entry_is k c) ∙ named; other = ap (λ (e : SymbolTree). bytes_eq e.theory builtin) (entry_is k c) ∙ source }
 
   of_theory : IsOfTheory symbols copy
@@ -296,7 +296,7 @@ module _ (xs : List SymbolTree) (pre : List DeclarationTree) (m : Map) (symbols 
       built = h.sound.built;
       valid = then_valid symbols [] now (copy ∷ []) h.sound.valid (valid_copy, tt);
       once = distinct_pairs (made (now ++ copy ∷ [])) distinct_copy;
-      own = subst (All (IsOwn symbols)) (sym (made_both now (copy ∷ []) ∙ ap (λ (ks : List ℕ). made now ++ ks) (append-nil (made_by copy.body)))) (All-append (IsOwn symbols) (made now) (made_by copy.body) h.sound.own own_copied);
+      own = subst (All (IsOwnSymbol symbols)) (sym (made_both now (copy ∷ []) ∙ ap (λ (ks : List ℕ). made now ++ ks) (append-nil (made_by copy.body)))) (All-append (IsOwnSymbol symbols) (made now) (made_by copy.body) h.sound.own own_copied);
       theories = All-append (IsOfTheory symbols) now (copy ∷ []) h.sound.theories (All-cons (IsOfTheory symbols) copy [] of_theory (All-nil (IsOfTheory symbols)));
     };
     morphism = morphism_copied;

@@ -2,7 +2,7 @@
 use Rattle.std.proofs.Common.{◌≡◌, false, List, length, None, sym, ◌∙◌}
 use Rattle.tasks.specs.Vocabulary.{Vocabulary}
 use Rattle.syntax_why.specs.Lexeme.{Word}
-use Rattle.elab_names.specs.Abstract.{Form}
+use Rattle.elab_names.specs.Abstract.{TypeExpression}
 use Rattle.elab_names.specs.Faults.{form_fault}
 use Rattle.elab_variables.specs.Seen.{form_seen}
 use Rattle.elab_parts.specs.Elaborated.{unseen}
@@ -12,9 +12,9 @@ use Rattle.valid_tasks.specs.Scopes.{NamesNew}
 use Rattle.valid_tasks.proofs.Widths.{form_tuples}
 use Rattle.valid_tasks.specs.Valid.{IsTypedSetting}
 use Rattle.valid_tasks.proofs.Settings.{inside_scopes, inside_typed, world, tuples, same_names, form_in}
-use Rattle.cloned_states.specs.Rights.{with_tuples, IsTypedRight}
+use Rattle.cloned_states.specs.Rights.{with_tuples, IsTypedForm}
 
-pub right_typed : (base : Vocabulary) (c : Setting) (vars : List Word) (f : Form) → IsTypedSetting base c → form_fault (around c vars) false f ≡ None → NamesNew base (length c.symbols) (with_tuples c f) → IsTypedRight base c vars f
+pub right_typed : (base : Vocabulary) (c : Setting) (vars : List Word) (f : TypeExpression) → IsTypedSetting base c → form_fault (around c vars) false f ≡ None → NamesNew base (length c.symbols) (with_tuples c f) → IsTypedForm base c vars f
 right_typed base c vars f h q news =
     let seen = form_seen unseen f in
     let w = world base c h seen vars in

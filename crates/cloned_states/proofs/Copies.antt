@@ -12,7 +12,7 @@ use Rattle.syntax_why.specs.Declarations.{Element, type_element, symbol_element,
 use Rattle.symbol_maps.specs.Mapped.{Map, mapped}
 use Rattle.clones.specs.Copies.{entry_copied}
 use Rattle.elab_parts.specs.Entries.{builtin, wanting_tuples}
-use Rattle.elab_names.specs.Abstract.{form}
+use Rattle.elab_names.specs.Abstract.{type_expression}
 use Rattle.elab_variables.specs.Seen.{form_seen}
 use Rattle.elab_parts.specs.Elaborated.{unseen}
 use Rattle.elab_parts.specs.Outcomes.{Setting}
@@ -25,7 +25,7 @@ use Rattle.clone_elements.specs.Left.{Origin}
 use Rattle.clone_elements.specs.Rights.{right_tuples, rights_tuples, rights_fault}
 use Rattle.clone_elements.specs.Plans.{fates_of, kept, clone_map}
 use Rattle.cloned_states.specs.Placed.{IsPlacedEntry, ArePlaced}
-use Rattle.cloned_states.specs.Sides.{with_rights, sides_at, copies_made, with_copies}
+use Rattle.cloned_states.specs.Sides.{with_rights, left_sides_at, copies_made, with_copies}
 use Rattle.cloned_states.proofs.Rights.{all_typed}
 use Rattle.cloned_states.proofs.Mapped.{maps_types}
 
@@ -79,11 +79,11 @@ copies_typed v w m theory within symbols maps h (k ∷ ks) =
     (copy_typed v w m theory within (symbol_or symbols k) maps (h k)) (copies_typed v w m theory within symbols maps h ks)
 
 pub entries_typed : (c : Setting) (t : Origin) (es : List Element) (theory within : Word) (h : IsTypedSetting (of_signature (with_rights c es).symbols) (with_rights c es)) → ArePlaced (with_rights c es).symbols
-    → MapsTypes (of_signature (with_rights c es).symbols) (of_signature (with_copies c t es theory within)) (clone_map (with_rights c es).symbols t (sides_at c t es))
-    → All (IsTypedEntry (of_signature (with_copies c t es theory within))) (map (λ k. entry_copied (clone_map (with_rights c es).symbols t (sides_at c t es)) theory within (symbol_or (with_rights c es).symbols k)) (kept t (fates_of (sides_at c t es))))
+    → MapsTypes (of_signature (with_rights c es).symbols) (of_signature (with_copies c t es theory within)) (clone_map (with_rights c es).symbols t (left_sides_at c t es))
+    → All (IsTypedEntry (of_signature (with_copies c t es theory within))) (map (λ k. entry_copied (clone_map (with_rights c es).symbols t (left_sides_at c t es)) theory within (symbol_or (with_rights c es).symbols k)) (kept t (fates_of (left_sides_at c t es))))
 entries_typed c t es theory within h placed maps =
     let all = (with_rights c es).symbols in
-    copies_typed (of_signature all) (of_signature (with_copies c t es theory within)) (clone_map all t (sides_at c t es)) theory within all maps (or_typed all h.signature placed) (kept t (fates_of (sides_at c t es)))
+    copies_typed (of_signature all) (of_signature (with_copies c t es theory within)) (clone_map all t (left_sides_at c t es)) theory within all maps (or_typed all h.signature placed) (kept t (fates_of (left_sides_at c t es)))
 
 -- ---- entries with a theory
 pub theory_placed : (theory : Word) → is_empty theory ≡ false → (es : List SymbolTree) → All (λ (e : SymbolTree). e.theory ≡ theory) es → ArePlaced es
@@ -103,7 +103,7 @@ built_placed : (es : List SymbolTree) → All (λ (e : SymbolTree). e.theory ≡
 built_placed es h = theory_placed builtin refl es h
 
 right_placed : (symbols : List SymbolTree) (e : Element) → ArePlaced (right_tuples symbols e)
-right_placed symbols (type_element i c vs f) = let ns = (form_seen unseen (form f)).widths in built_placed (wanting_tuples symbols ns) (tuples_built symbols ns)
+right_placed symbols (type_element i c vs f) = let ns = (form_seen unseen (type_expression f)).widths in built_placed (wanting_tuples symbols ns) (tuples_built symbols ns)
 right_placed symbols (symbol_element i w c d) = All-nil IsPlacedEntry
 right_placed symbols (prop_element i k c) = All-nil IsPlacedEntry
 right_placed symbols (all_axioms i) = All-nil IsPlacedEntry
@@ -119,8 +119,8 @@ module _ (c : Setting) (t : Origin) (es : List Element) (theory within : Word) (
   pub all_placed : is_empty theory ≡ false → ArePlaced (with_copies c t es theory within)
   all_placed n =
       let all = (with_rights c es).symbols in
-      let m = clone_map all t (sides_at c t es) in
-      let ks = kept t (fates_of (sides_at c t es)) in
+      let m = clone_map all t (left_sides_at c t es) in
+      let ks = kept t (fates_of (left_sides_at c t es)) in
       All-append IsPlacedEntry all (map (λ k. entry_copied m theory within (symbol_or all k)) ks) tupled_placed (copies_placed m theory within all n ks)
 
   pub all_copies_typed : IsTypedSetting (of_signature c.symbols) c → rights_fault c.trees c.symbols c.scope es ≡ None → is_empty theory ≡ false → All (IsTypedEntry (of_signature (with_copies c t es theory within))) (copies_made c t es theory within)

@@ -10,7 +10,7 @@ use Rattle.tasks.specs.Vocabulary.{Vocabulary, passes, is_constructor_kind}
 use Rattle.tasks.specs.Typing.{entry, IsRigid, IsTypeSymbol}
 use Rattle.tasks.proofs.Declared.{any_iff, made_maker}
 use Rattle.symbol_maps.specs.Mapped.{Map}
-use Rattle.valid_tasks.specs.Scopes.{IsPart}
+use Rattle.valid_tasks.specs.Scopes.{IsSubvocabulary}
 use Rattle.valid_tasks.proofs.Extended.{type_more}
 use Rattle.valid_tasks.specs.Lists.{is_built, after}
 use Rattle.valid_tasks.proofs.Lists.{maker_both}
@@ -24,7 +24,7 @@ found None P h = absurd h
 found (Some e) P h = (e, (refl, h))
 
 -- ---- a vocabulary that may name more
-module _ (w w' : Vocabulary) (part : IsPart w w') where
+module _ (w w' : Vocabulary) (part : IsSubvocabulary w w') where
   some_more : (k : ℕ) (P : SymbolTree → Type 0) → IsSomeAnd (entry w k) P → IsSomeAnd (entry w' k) P
   some_more k P h = let f = found (entry w k) P h in rw (part.entries k f.0 f.1.0) f.1.1
 

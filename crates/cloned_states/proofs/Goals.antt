@@ -9,7 +9,7 @@ use Rattle.tasks.specs.Task.{SymbolTree, symbol_or, int_symbol, DeclarationTree,
 use Rattle.tasks.specs.Rigid.{rigid_symbol}
 use Rattle.tasks.specs.Valid.{IsQuoted, IsFormulaOver}
 use Rattle.elab_walk.specs.Scoped.{IsScopedEntry}
-use Rattle.valid_tasks.specs.Scopes.{IsPart, IsTypedSignature}
+use Rattle.valid_tasks.specs.Scopes.{IsSubvocabulary, IsTypedSignature}
 use Rattle.valid_tasks.specs.Lists.{after}
 use Rattle.valid_tasks.proofs.Propositions.{formula_more}
 use Rattle.elab_terms.specs.Outcomes.{entry_numbers, rigid_types}
@@ -66,7 +66,7 @@ module _ (symbols : List SymbolTree) (now : List DeclarationTree) (sound : AreSo
   at : All (IsQuotedAt all) own
   at = quoted_entries symbols vs (length symbols) refl quoted
 
-  own_part : IsPart (after symbols [] now) (after all own now)
+  own_part : IsSubvocabulary (after symbols [] now) (after all own now)
   own_part =
       let a = more_part symbols (map rigid_symbol vs) [] now in
       record { entries = a.entries; rigid = λ k x q h. absurd (let z : false ≡ true = h in cc); usable = a.usable; matched = a.matched }

@@ -1,4 +1,4 @@
--- A declaration of another theory stands in a clone as it stands among those of other theories alone.
+-- A declaration of another theory is in a clone as it is among those of other theories alone.
 use Rattle.std.proofs.Common.{◌≡◌, ◌⊎◌, inl, inr, ℕ, ◌&&◌, zero, suc, cond, Bool, true, false, List, [], ◌∷◌, ◌++◌, get_or, slice_get, Contains, Option, Some, None, IsSomeAnd, IsTrue, refl, sym, ap, subst, ◌∙◌, arith, append-nil}
 use Rattle.std.specs.Option.{is_some}
 use Rattle.std.proofs.lemmas.List.Elements.{All-contains, All-contains_itself, Contains-get_or, Contains-append_left, Contains-append_right, Contains-append_cases}
@@ -10,12 +10,12 @@ use Rattle.tasks.specs.Typing.{IsTypeSymbol}
 use Rattle.tasks.specs.Valid.{IsValidDecl}
 use Rattle.tasks.proofs.Declared.{none_in, any_iff, made_maker}
 use Rattle.symbol_maps.specs.Mapped.{Map}
-use Rattle.valid_tasks.specs.Scopes.{IsPart}
+use Rattle.valid_tasks.specs.Scopes.{IsSubvocabulary}
 use Rattle.valid_tasks.proofs.Signed.{some_at}
 use Rattle.valid_tasks.specs.Lists.{is_built, after}
 use Rattle.valid_tasks.proofs.Lists.{or_more, list_valid}
 use Rattle.valid_tasks.proofs.Stays.{declaration_stays}
-use Rattle.valid_tasks.specs.Tasks.{IsOwn, IsOfTheory, AreSound}
+use Rattle.valid_tasks.specs.Tasks.{IsOwnSymbol, IsOfTheory, AreSound}
 use Rattle.valid_tasks.proofs.Distinct.{IsDistinct, pairs_distinct, distinct_both}
 use Rattle.valid_tasks.proofs.TupleDecls.{made_both}
 use Rattle.valid_tasks.proofs.Grown.{more_part, sound_more}
@@ -69,7 +69,7 @@ module _ (symbols : List SymbolTree) (small big : List DeclarationTree) (distinc
   role_there k None z h = absurd (let u : true ≡ false = sym h in cc)
   role_there k (Some b) z h = let y = maker_same k b z in rw y h
 
-  pub among_part : IsPart (after symbols [] small) (after symbols [] big)
+  pub among_part : IsSubvocabulary (after symbols [] small) (after symbols [] big)
   among_part = record {
     entries = λ k e q. q;
     rigid = λ k e q h. h;
@@ -110,7 +110,7 @@ module _ (xs more : List SymbolTree) (pre olds : List DeclarationTree) (m : Map)
       (subst (λ (o : Option DeclarationTree). IsTrue (is_constructor (role_by k o))) (sym is) r)
 
   module _ (big : List DeclarationTree) (distinct : IsDistinct (made big)) (among : (b : DeclarationTree) → Contains (olds ++ d ∷ []) b → Contains big b) where
-    part : IsPart v (after all [] big)
+    part : IsSubvocabulary v (after all [] big)
     part =
         let a = more_part xs more [] (olds ++ d ∷ []) in
         let b = among_part all (olds ++ d ∷ []) big distinct among in
@@ -159,7 +159,7 @@ module _ (xs more : List SymbolTree) (pre olds : List DeclarationTree) (m : Map)
       let later : AreSound all (olds ++ d ∷ []) = sound_more xs more (olds ++ d ∷ []) alone h.sound.built in
       let place : Contains (olds ++ d ∷ []) d = Contains-append_right olds (d ∷ []) d (0, omega arith, refl) in
       cloning_taken xs pre m all now h d whole (valid_there (now ++ d ∷ []) distinct both)
-      (λ i j l. All-contains (IsOwn all) (made (olds ++ d ∷ [])) (get_or (made_by d.body) i j) later.own (own_made (get_or (made_by d.body) i j) (Contains-get_or (made_by d.body) i j l)))
+      (λ i j l. All-contains (IsOwnSymbol all) (made (olds ++ d ∷ [])) (get_or (made_by d.body) i j) later.own (own_made (get_or (made_by d.body) i j) (Contains-get_or (made_by d.body) i j l)))
       (All-contains (IsOfTheory all) (olds ++ d ∷ []) d later.theories place) own apart (image (now ++ d ∷ []) distinct both)
     where
       both : (b : DeclarationTree) → Contains (olds ++ d ∷ []) b → Contains (now ++ d ∷ []) b

@@ -9,17 +9,17 @@ use Rattle.syntax_why.specs.declared.declarations.SymbolWord.TheVariants as word
 use Rattle.valid_tasks.proofs.Words.{same_word}
 use Rattle.clone_elements.specs.declared.left.Abstract.{Abstract}
 use Rattle.clone_elements.specs.declared.left.Abstract.TheVariants as abstract
-use Rattle.clone_elements.specs.Left.{Origin, decl_or, symbol_of, symbol_at_place, kind_of_symbol, kind_of_word, kind_of_proposition, kind_of_body, letter, key, key_with, key_of, is_key, place_after, last_place}
+use Rattle.clone_elements.specs.Left.{Origin, decl_or, abstract_symbol, symbol_at_place, kind_of_symbol, kind_of_word, kind_of_proposition, kind_of_body, kind_letter, key, key_with, left_key, is_key, place_after, last_place}
 
 -- the last declaration with a key has it
 module _ (symbols : List SymbolTree) (t : Origin) (x : Word) where
   abbrev IsAt : ℕ → Type 0
-  IsAt k = is_key x (key_of symbols (t.axioms k) (decl_or t.decls k)) ≡ true
+  IsAt k = is_key x (left_key symbols (t.axioms k) (decl_or t.decls k)) ≡ true
 
   after_at : (found : Option ℕ) (k : ℕ) → IfSome found IsAt → IfSome (place_after symbols t x found k) IsAt
-  after_at found k h = of (is_key x (key_of symbols (t.axioms k) (decl_or t.decls k))) refl
+  after_at found k h = of (is_key x (left_key symbols (t.axioms k) (decl_or t.decls k))) refl
     where
-      of : (b : Bool) → is_key x (key_of symbols (t.axioms k) (decl_or t.decls k)) ≡ b → IfSome (if b then Some k else found) IsAt
+      of : (b : Bool) → is_key x (left_key symbols (t.axioms k) (decl_or t.decls k)) ≡ b → IfSome (if b then Some k else found) IsAt
       of true q = q
       of false q = h
 
@@ -31,25 +31,25 @@ module _ (symbols : List SymbolTree) (t : Origin) (x : Word) where
 abbrev pub IsOther : SymbolTree → Type 0
 IsOther e = e.kind ≢ symbol.Kind
 
-not_type : (w : SymbolWord) → letter (kind_of_word w) ≢ letter abstract.Type
+not_type : (w : SymbolWord) → kind_letter (kind_of_word w) ≢ kind_letter abstract.Type
 not_type word.Predicate q = absurd (omega (arith, q))
 not_type word.Function q = absurd (omega (arith, q))
 not_type word.Constant q = absurd (omega (arith, q))
 
-not_axiom : (w : SymbolWord) → letter (kind_of_word w) ≢ letter abstract.Axiom
+not_axiom : (w : SymbolWord) → kind_letter (kind_of_word w) ≢ kind_letter abstract.Axiom
 not_axiom word.Predicate q = absurd (omega (arith, q))
 not_axiom word.Function q = absurd (omega (arith, q))
 not_axiom word.Constant q = absurd (omega (arith, q))
 
-keyed : (x y : Abstract) (name own : Word) → is_key (key x name) (key_with own (Some y)) ≡ true → letter x ≡ letter y
-keyed x y name own q = let same : letter y ∷ own ≡ letter x ∷ name = same_word (key y own) (key x name) q in cc
+keyed : (x y : Abstract) (name own : Word) → is_key (key x name) (key_with own (Some y)) ≡ true → kind_letter x ≡ kind_letter y
+keyed x y name own q = let same : kind_letter y ∷ own ≡ kind_letter x ∷ name = same_word (key y own) (key x name) q in cc
 
 module _ (symbols : List SymbolTree) (w : SymbolWord) (name : Word) where
   of_proposition : (own : Word) (assumed : Bool) → is_key (key (kind_of_word w) name) (key_with own (kind_of_proposition assumed)) ≡ true → ⊥
   of_proposition own true q = not_axiom w (keyed (kind_of_word w) abstract.Axiom name own q)
   of_proposition own false q = let z : false ≡ true = q in absurd (cc)
 
-  of_body : (own : Word) (assumed : Bool) (b : BodyTree) → is_key (key (kind_of_word w) name) (key_with own (kind_of_body symbols assumed b)) ≡ true → IsOther (symbol_or symbols (symbol_of b))
+  of_body : (own : Word) (assumed : Bool) (b : BodyTree) → is_key (key (kind_of_word w) name) (key_with own (kind_of_body symbols assumed b)) ≡ true → IsOther (symbol_or symbols (abstract_symbol b))
   of_body own assumed (MakesType k) q = absurd (not_type w (keyed (kind_of_word w) abstract.Type name own q))
   of_body own assumed (Makes k) q = λ z. let no : false ≡ true = sym (ap (λ (s : SymbolKind). is_key (key (kind_of_word w) name) (key_with own (kind_of_symbol s))) z) ∙ q in absurd (cc)
   of_body own assumed (Says e) q = absurd (of_proposition own assumed q)

@@ -15,14 +15,14 @@ use Rattle.syntax_why.specs.Declarations.{Element, type_element, symbol_element,
 use Rattle.symbol_maps.specs.Mapped.{Map}
 use Rattle.clones.specs.Copies.{entry_copied}
 use Rattle.elab_parts.specs.Outcomes.{Setting}
-use Rattle.valid_tasks.specs.Scopes.{IsPart}
+use Rattle.valid_tasks.specs.Scopes.{IsSubvocabulary}
 use Rattle.valid_tasks.proofs.Extended.{type_more}
 use Rattle.valid_tasks.specs.Valid.{IsTypedSetting}
 use Rattle.clone_elements.specs.Left.{Origin, symbol_at_place, called_text, last_place}
-use Rattle.clone_elements.specs.Rights.{RightTree, is_type, is_symbol, is_nothing, right_tuples, rights_fault}
-use Rattle.clone_elements.specs.Plans.{Side, Fates, no_fates, with_side, fates_of, type_with, type_for, types_after, types_replaced, symbol_for, symbols_replaced, kept, clone_map, sides_made}
+use Rattle.clone_elements.specs.Rights.{RightTree, type_right, symbol_right, no_right, right_tuples, rights_fault}
+use Rattle.clone_elements.specs.Plans.{SideTree, PlacedFates, no_fates, with_side, fates_of, type_with, type_for, replaced_types, types_replaced, symbol_for, symbols_replaced, kept, clone_map, sides_made}
 use Rattle.sound_states.specs.Morphisms.{TypeBecomes, MapsTypes}
-use Rattle.cloned_states.specs.Sides.{IsTypedRight, IsTypedSide, with_rights, sides_at, with_copies}
+use Rattle.cloned_states.specs.Sides.{IsTypedRight, IsTypedSide, with_rights, left_sides_at, with_copies}
 use Rattle.cloned_states.proofs.Numbers.{symbol_of, type_of}
 use Rattle.cloned_states.proofs.Lefts.{IsOther, named_other}
 use Rattle.cloned_states.proofs.Rights.{entries_more, rights_typed}
@@ -79,10 +79,10 @@ kind_at symbols k n h = of (slice_get symbols k) refl h.1
 
 -- ---- symbols that are replaced are no types
 abbrev ReplacesOther : List SymbolTree → Origin → Option ℕ → RightTree → Type 0
-ReplacesOther symbols t left (is_symbol k) = IfSome left (λ (place : ℕ). IsOther (symbol_or symbols (symbol_at_place t.decls place)))
+ReplacesOther symbols t left (symbol_right k) = IfSome left (λ (place : ℕ). IsOther (symbol_or symbols (symbol_at_place t.decls place)))
 ReplacesOther symbols t left r = Unit {0}
 
-abbrev IsOtherSide : List SymbolTree → Origin → Side → Type 0
+abbrev IsOtherSide : List SymbolTree → Origin → SideTree → Type 0
 IsOtherSide symbols t x = ReplacesOther symbols t x.left x.right
 
 module _ (c : Setting) (t : Origin) where
@@ -101,12 +101,12 @@ module _ (c : Setting) (t : Origin) where
 
 module _ (symbols : List SymbolTree) (t : Origin) where
   pair_other : (left : Option ℕ) (r : RightTree) (p : ℕ × ℕ) → ReplacesOther symbols t left r → Contains (symbol_for t left r) p → IsOther (symbol_or symbols p.0)
-  pair_other (Some place) (is_symbol k) p h c = let e : (symbol_at_place t.decls place, k) ≡ p = only_here _ p c in subst (λ (q : ℕ × ℕ). IsOther (symbol_or symbols q.0)) e h
-  pair_other (Some place) (is_type ty) p h c = absurd (none_here p c)
-  pair_other (Some place) is_nothing p h c = absurd (none_here p c)
+  pair_other (Some place) (symbol_right k) p h c = let e : (symbol_at_place t.decls place, k) ≡ p = only_here _ p c in subst (λ (q : ℕ × ℕ). IsOther (symbol_or symbols q.0)) e h
+  pair_other (Some place) (type_right ty) p h c = absurd (none_here p c)
+  pair_other (Some place) no_right p h c = absurd (none_here p c)
   pair_other None r p h c = absurd (none_here p c)
 
-  pairs_other : (xs : List Side) → All (IsOtherSide symbols t) xs → (p : ℕ × ℕ) → Contains (symbols_replaced t xs) p → IsOther (symbol_or symbols p.0)
+  pairs_other : (xs : List SideTree) → All (IsOtherSide symbols t) xs → (p : ℕ × ℕ) → Contains (symbols_replaced t xs) p → IsOther (symbol_or symbols p.0)
   pairs_other [] h p c = absurd (none_here p c)
   pairs_other (x ∷ xs) h p c = of (Contains-append_cases (symbol_for t x.left x.right) (symbols_replaced t xs) p c) (λ z. pairs_other xs (All-tail (IsOtherSide symbols t) x xs h) p z)
     where
@@ -129,7 +129,7 @@ module _ (symbols : List SymbolTree) (t : Origin) where
   same_number : (a b : ℕ) → (a == b) ≡ true → a ≡ b
   same_number a b q = grind (arith, nat_tests)
 
-  with_fits : (fates : Fates) (place n : ℕ) (ty : Tree) (p : ℕ × Tree) → IsTypeIn v n ty → Contains (type_with symbols t fates place n ty) p → Fits p
+  with_fits : (fates : PlacedFates) (place n : ℕ) (ty : Tree) (p : ℕ × Tree) → IsTypeIn v n ty → Contains (type_with symbols t fates place n ty) p → Fits p
   with_fits fates place n ty p h c = of (is_none (fates place) && ((symbol_or symbols (symbol_at_place t.decls place)).vars == n)) refl c
     where
       k : ℕ
@@ -142,20 +142,20 @@ module _ (symbols : List SymbolTree) (t : Origin) where
           subst Fits e (subst (λ (i : ℕ). IsTypeIn v i ty) (sym m) h)
       of false q z = absurd (none_here p z)
 
-  for_fits : (fates : Fates) (e : Element) (left : Option ℕ) (r : RightTree) (p : ℕ × Tree) → IsTypedRight v e r → Contains (type_for symbols t fates e left r) p → Fits p
-  for_fits fates (type_element i c vs f) (Some place) (is_type ty) p h z = with_fits fates place (length vs) ty p h z
-  for_fits fates (type_element i c vs f) (Some place) (is_symbol k) p h z = absurd (none_here p z)
-  for_fits fates (type_element i c vs f) (Some place) is_nothing p h z = absurd (none_here p z)
+  for_fits : (fates : PlacedFates) (e : Element) (left : Option ℕ) (r : RightTree) (p : ℕ × Tree) → IsTypedRight v e r → Contains (type_for symbols t fates e left r) p → Fits p
+  for_fits fates (type_element i c vs f) (Some place) (type_right ty) p h z = with_fits fates place (length vs) ty p h z
+  for_fits fates (type_element i c vs f) (Some place) (symbol_right k) p h z = absurd (none_here p z)
+  for_fits fates (type_element i c vs f) (Some place) no_right p h z = absurd (none_here p z)
   for_fits fates (type_element i c vs f) None r p h z = absurd (none_here p z)
   for_fits fates (symbol_element i w c d) left r p h z = absurd (none_here p z)
   for_fits fates (prop_element i k c) left r p h z = absurd (none_here p z)
   for_fits fates (all_axioms i) left r p h z = absurd (none_here p z)
 
-  after_fits : (xs : List Side) (fates : Fates) → All (IsTypedSide v) xs → (p : ℕ × Tree) → Contains (types_after symbols t fates xs) p → Fits p
+  after_fits : (xs : List SideTree) (fates : PlacedFates) → All (IsTypedSide v) xs → (p : ℕ × Tree) → Contains (replaced_types symbols t fates xs) p → Fits p
   after_fits [] fates h p c = absurd (none_here p c)
-  after_fits (x ∷ xs) fates h p c = of (Contains-append_cases (type_for symbols t fates x.element x.left x.right) (types_after symbols t (with_side x fates) xs) p c) (λ z. after_fits xs (with_side x fates) (All-tail (IsTypedSide v) x xs h) p z)
+  after_fits (x ∷ xs) fates h p c = of (Contains-append_cases (type_for symbols t fates x.element x.left x.right) (replaced_types symbols t (with_side x fates) xs) p c) (λ z. after_fits xs (with_side x fates) (All-tail (IsTypedSide v) x xs h) p z)
     where
-      of : Contains (type_for symbols t fates x.element x.left x.right) p ⊎ Contains (types_after symbols t (with_side x fates) xs) p → (Contains (types_after symbols t (with_side x fates) xs) p → Fits p) → Fits p
+      of : Contains (type_for symbols t fates x.element x.left x.right) p ⊎ Contains (replaced_types symbols t (with_side x fates) xs) p → (Contains (replaced_types symbols t (with_side x fates) xs) p → Fits p) → Fits p
       of (inl z) f = for_fits fates x.element x.left x.right p (All-head (IsTypedSide v) x xs h) z
       of (inr z) f = f z
 
@@ -164,8 +164,8 @@ module _ (c : Setting) (t : Origin) (es : List Element) (theory within : Word) (
   abbrev all : List SymbolTree
   all = (with_rights c es).symbols
 
-  abbrev xs : List Side
-  xs = sides_at c t es
+  abbrev xs : List SideTree
+  xs = left_sides_at c t es
 
   abbrev m : Map
   m = clone_map all t xs
@@ -185,7 +185,7 @@ module _ (c : Setting) (t : Origin) (es : List Element) (theory within : Word) (
   abbrev after' : Vocabulary
   after' = of_signature symbols'
 
-  part : IsPart before' after'
+  part : IsSubvocabulary before' after'
   part = entries_more all (map (λ k. entry_copied m theory within (symbol_or all k)) ks)
 
   -- a type symbol becomes one with as many arguments

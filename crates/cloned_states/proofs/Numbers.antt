@@ -4,7 +4,7 @@ use Rattle.std.specs.List.{Contains}
 use Rattle.std.proofs.lemmas.Bool.Decides.{nat_tests}
 use Rattle.trees.specs.Tree.{Tree}
 use Rattle.symbol_maps.specs.Mapped.{Map}
-use Rattle.clone_elements.specs.Plans.{same_map, with_symbol, with_type, with_numbers, with_symbols, with_types, map_of}
+use Rattle.clone_elements.specs.Plans.{same_map, with_symbol, with_type, with_numbers, with_symbols, with_mapped_types, map_of}
 
 same_number : (a b : ℕ) → (a == b) ≡ true → a ≡ b
 same_number a b q = grind (arith, nat_tests)
@@ -43,12 +43,12 @@ module _ (Q : ℕ → Tree → Type 0) where
       of true q = subst (λ (i : ℕ). Q i ty) (same_number j k q) p
       of false q = h k
 
-  types_have : (ps : List (ℕ × Tree)) (m : Map) → ((p : ℕ × Tree) → Contains ps p → Q p.0 p.1) → ((k : ℕ) → IfSome (m.types k) (Q k)) → (k : ℕ) → IfSome ((with_types ps m).types k) (Q k)
+  types_have : (ps : List (ℕ × Tree)) (m : Map) → ((p : ℕ × Tree) → Contains ps p → Q p.0 p.1) → ((k : ℕ) → IfSome (m.types k) (Q k)) → (k : ℕ) → IfSome ((with_mapped_types ps m).types k) (Q k)
   types_have [] m f h = h
   types_have (p ∷ ps) m f h = types_have ps (with_type p.0 p.1 m) (λ q c. f q (later p q ps c)) (type_has p.0 p.1 m (f p (here p ps)) h)
 
 -- ---- each leaves the others
-types_leave : (ps : List (ℕ × Tree)) (m : Map) (k : ℕ) → (with_types ps m).symbols k ≡ m.symbols k
+types_leave : (ps : List (ℕ × Tree)) (m : Map) (k : ℕ) → (with_mapped_types ps m).symbols k ≡ m.symbols k
 types_leave [] m k = refl
 types_leave (p ∷ ps) m k = types_leave ps (with_type p.0 p.1 m) k
 

@@ -1,4 +1,4 @@
--- Declarations of other theories, which a map leaves as they are: what they make may be named where they stand.
+-- Declarations of other theories, which a map leaves as they are: what they make may be named where they are.
 use Rattle.std.proofs.Common.{◌≡◌, ◌≢◌, ◌⊎◌, inl, inr, ℕ, Bool, true, false, List, [], ◌∷◌, ◌++◌, map, length, slice_get, All, Contains, Option, Some, None, IfSome, option_map, IsSomeAnd, IsTrue, refl, sym, ap, subst, ◌∙◌, arith}
 use Rattle.std.proofs.lemmas.List.Elements.{All-tail, All-head}
 use Rattle.trees.specs.Tree.{Tree, Leaf, One, Two, Three, HTyApp, HEnd, HCell}
@@ -8,7 +8,7 @@ use Rattle.tasks.specs.Vocabulary.{Vocabulary, passes}
 use Rattle.tasks.specs.Typing.{members, entry, IsTypeSymbol}
 use Rattle.tasks.specs.Valid.{HasTypes, IsTypeIn}
 use Rattle.symbol_maps.specs.Mapped.{Map, type_mapped, mapped}
-use Rattle.valid_tasks.specs.Scopes.{IsPart}
+use Rattle.valid_tasks.specs.Scopes.{IsSubvocabulary}
 use Rattle.valid_tasks.proofs.Over.{IsOver, type_over}
 use Rattle.valid_tasks.specs.Lists.{is_built, after}
 use Rattle.valid_tasks.proofs.Lists.{list_part}
@@ -47,7 +47,7 @@ module _ (v : Vocabulary) (m : Map) (fixed : (k n : ℕ) → IsTypeSymbol v k n 
   types_fixed e h = record { vars = refl; args = all_fixed e.vars e.args h.args; result = some_fixed e.vars e.result h.result }
 
 -- an entry that stays is its own image where it may be named
-module _ (v w : Vocabulary) (part : IsPart v w) (m : Map) (fixed : (k n : ℕ) → IsTypeSymbol v k n → IsFixed m k) (k : ℕ) (e : SymbolTree) (q : entry v k ≡ Some e) (f : IsFixed m k) where
+module _ (v w : Vocabulary) (part : IsSubvocabulary v w) (m : Map) (fixed : (k n : ℕ) → IsTypeSymbol v k n → IsFixed m k) (k : ℕ) (e : SymbolTree) (q : entry v k ≡ Some e) (f : IsFixed m k) where
   there : entry w (m.symbols k) ≡ Some e
   there = ap (entry w) f.symbol ∙ part.entries k e q
 
@@ -74,7 +74,7 @@ module _ (xs more : List SymbolTree) (now : List DeclarationTree) (m : Map) (bui
   abbrev w : Vocabulary
   w = after (xs ++ more) [] now
 
-  begin_part : IsPart v w
+  begin_part : IsSubvocabulary v w
   begin_part =
       let a = more_part xs more [] [] in
       let b = list_part (xs ++ more) [] [] now in

@@ -7,7 +7,7 @@ use Rattle.tasks.specs.Rigid.{rigid_symbol}
 use Rattle.tasks.specs.Vocabulary.{is_empty}
 use Rattle.elab_parts.specs.Elaborated.{unseen}
 use Rattle.elab_parts.specs.Entries.{builtin, type_entry, wanting_tuples}
-use Rattle.elab_parts.specs.Declarations.{Declaration, abstract_type, alias, algebraic, members, inductive, proposition}
+use Rattle.elab_parts.specs.Declarations.{Declaration, abstract_type, alias, algebraic, member_group, inductive, proposition_declaration}
 use Rattle.elab_parts.specs.Outcomes.{Setting, Outcome, full_name}
 use Rattle.elab_members.specs.Members.{signed_entries, signature_trees, members_seen}
 use Rattle.elab_groups.specs.Groups.{group_signatures}
@@ -34,13 +34,13 @@ module _ (c : Setting) (s : List Tree) (named : is_empty c.theory ≡ false) whe
       let t = type_entry c.theory (full_name c x) (length vs) in
       tuples_then o [] (t ∷ []) (ap (λ (i : Outcome). i.symbols) e) (own_placed (t ∷ []) (All-cons (OfTheory c.theory) t [] refl (All-nil (OfTheory c.theory))))
   outcome_placed (alias x vs f) o e = rw e.symbols (built (alias_seen f).widths)
-  outcome_placed (proposition k x y) o e = let vs = rigid_names k (proposition_seen y).vars in tuples_then o (proposition_seen y).widths (map rigid_symbol vs) e.symbols (rigids_placed vs)
+  outcome_placed (proposition_declaration k x y) o e = let vs = rigid_names k (proposition_seen y).vars in tuples_then o (proposition_seen y).widths (map rigid_symbol vs) e.symbols (rigids_placed vs)
   outcome_placed (algebraic ts) o e =
       let T = type_entries c.theory c.within ts in
       let G = group_entries c.theory c.within ts (group_trees c ts) in
       let h = All-append (OfTheory c.theory) T G (types_of c.theory c.within ts) (group_of c.theory c.within ts (group_trees c ts)) in
       tuples_then o (group_seen ts).widths (T ++ G) (ap (λ (i : Outcome). i.symbols) e) (own_placed (T ++ G) h)
-  outcome_placed (members ms) o e =
+  outcome_placed (member_group ms) o e =
       let es = signed_entries c.theory c.within ms (group_signatures c ms) in
       tuples_then o (members_seen unseen ms).widths es e.symbols (own_placed es (signed_of c.theory c.within ms (group_signatures c ms)))
   outcome_placed (inductive ds) o e =

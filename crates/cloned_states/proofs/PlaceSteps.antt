@@ -16,13 +16,13 @@ use Rattle.valid_tasks.proofs.Distinct.{IsDistinct, distinct_pairs, distinct_bot
 use Rattle.clone_elements.specs.Left.{decl_or}
 use Rattle.clone_elements.specs.Plans.{is_replaced, kind_or}
 use Rattle.clone_copies.specs.Origins.{is_own}
-use Rattle.clone_copies.specs.Places.{Copying, goal_with, with_goal, with_kind, with_copy, copy_of, with_joined, with_place, with_places}
+use Rattle.clone_copies.specs.Places.{Copying, goal_with, with_copied_goal, with_kind, with_copy, copy_of, with_joined, with_place, with_places}
 use Rattle.cloned_states.specs.Cloned.{AreClonedPlaces}
 use Rattle.theory_states.specs.States.{KnownTree, StateTree, at_places, visible_now}
 use Rattle.sound_states.specs.Whole.{IsWhole}
 use Rattle.sound_states.proofs.Places.{none_here, cases_of, here, later, there, further, at_both, in_places, from_places, in_theory, places_grown, places_agree, joined_new}
 use Rattle.cloned_states.specs.Steps.{leaves, joins, made_of, made_from}
-use Rattle.cloned_states.specs.PlaceSteps.{step_as, step_of, step_at, steps_at}
+use Rattle.cloned_states.specs.PlaceSteps.{step_as, step_of, copy_step_at, copy_steps_at}
 
 -- ---- declarations by places
 first_of : (xs : List DeclarationTree) (y : DeclarationTree) → slice_get (xs ++ y ∷ []) (length xs) ≡ Some y
@@ -233,7 +233,7 @@ module _ (x : Copying) (c0 : StateTree) (whole : IsWhole c0.decls c0.opened.visi
         let g = goal_same vars (copy_of x c k).name (copy_of x c k).body c in
         subst (λ (e : DeclarationTree). IsReached (done ++ k ∷ []) (with_kind kind.Lemma vars (copy_of x c k) c) (made ++ e ∷ [])) copy_is
         (added own (copy_of x c k) (with_kind kind.Lemma vars (copy_of x c k) c) (ap (λ (ds : List DeclarationTree). ds ++ copy_of x c k ∷ []) g.0)
-        (ap (λ (ds : List DeclarationTree). (with_goal vars (copy_of x c k) c).opened.visible ++ length ds ∷ []) g.0 ∙ ap (λ (ks : List ℕ). ks ++ length c.decls ∷ []) g.1) g.2)
+        (ap (λ (ds : List DeclarationTree). (with_copied_goal vars (copy_of x c k) c).opened.visible ++ length ds ∷ []) g.0 ∙ ap (λ (ks : List ℕ). ks ++ length c.decls ∷ []) g.1) g.2)
     by_kind own kind.Goal vars = let g = goal_same vars (copy_of x c k).name (copy_of x c k).body c in unchanged (λ z. absurd (let y : true ≡ false = sym own ∙ z in cc)) (with_kind kind.Goal vars (copy_of x c k) c) g.0 g.1 g.2
 
     copied_here : is_own old x.path k ≡ true → (o : Option (List (List ℕ))) → IsReached (done ++ k ∷ []) (with_copy x k o (copy_of x c k) c) (made ++ made_of x.mapping path x.within first (step_of x k o own_decl))
@@ -243,7 +243,7 @@ module _ (x : Copying) (c0 : StateTree) (whole : IsWhole c0.decls c0.opened.visi
     own_same : is_own c.decls x.path k ≡ is_own old x.path k
     own_same = ap (λ (e : DeclarationTree). bytes_eq e.theory x.path) same_here
 
-    placed : IsReached (done ++ k ∷ []) (with_place x k c) (made ++ made_of x.mapping path x.within first (step_at x old k))
+    placed : IsReached (done ++ k ∷ []) (with_place x k c) (made ++ made_of x.mapping path x.within first (copy_step_at x old k))
     placed =
         subst (λ (b : Bool). IsReached (done ++ k ∷ []) (with_place x k c) (made ++ made_of x.mapping path x.within first (cond b (cond (is_replaced (x.fates k)) (leaves own_decl) (step_of x k (x.axioms k) own_decl)) (joins own_decl)))) own_same
         (of (is_own c.decls x.path k) (is_replaced (x.fates k)) (sym own_same))
@@ -255,15 +255,15 @@ module _ (x : Copying) (c0 : StateTree) (whole : IsWhole c0.decls c0.opened.visi
         of false r own = subst (λ (e : DeclarationTree). IsReached (done ++ k ∷ []) (with_joined k c) (made ++ made_of x.mapping path x.within first (joins e))) (sym (or_is old k d found.1)) (joined_here own)
 
   run : (ks done : List ℕ) (c : StateTree) (made : List DeclarationTree) → IsReached done c made → All (λ (k : ℕ). k < length old) ks → IsDistinct ks → ((k : ℕ) → Contains ks k → Contains done k → ⊥)
-      → IsReached (done ++ ks) (with_places x ks c) (made ++ made_from x.mapping path x.within first (steps_at x old ks))
+      → IsReached (done ++ ks) (with_places x ks c) (made ++ made_from x.mapping path x.within first (copy_steps_at x old ks))
   run [] done c made h low distinct apart = subst (λ (ds : List ℕ). IsReached ds c (made ++ [])) (sym (append-nil done)) (subst (IsReached done c) (sym (append-nil made)) h)
   run (k ∷ ks) done c made h low distinct apart =
       let here_low = All-head (λ (i : ℕ). i < length old) k ks low in
       let s = placed done c made h k here_low (λ i. apart k (here k ks) i) in
-      let step = made_of x.mapping path x.within first (step_at x old k) in
+      let step = made_of x.mapping path x.within first (copy_step_at x old k) in
       let rest = run ks (done ++ k ∷ []) (with_place x k c) (made ++ step) s (All-tail (λ (i : ℕ). i < length old) k ks low) distinct.1 (λ j i z. split j i (Contains-append_cases done (k ∷ []) j z)) in
-      subst (λ (ds : List ℕ). IsReached ds (with_places x (k ∷ ks) c) (made ++ made_from x.mapping path x.within first (steps_at x old (k ∷ ks)))) (append_assoc done (k ∷ []) ks)
-      (subst (IsReached ((done ++ k ∷ []) ++ ks) (with_places x (k ∷ ks) c)) (append_assoc made step (made_from x.mapping path x.within first (steps_at x old ks))) rest)
+      subst (λ (ds : List ℕ). IsReached ds (with_places x (k ∷ ks) c) (made ++ made_from x.mapping path x.within first (copy_steps_at x old (k ∷ ks)))) (append_assoc done (k ∷ []) ks)
+      (subst (IsReached ((done ++ k ∷ []) ++ ks) (with_places x (k ∷ ks) c)) (append_assoc made step (made_from x.mapping path x.within first (copy_steps_at x old ks))) rest)
     where
       split : (j : ℕ) → Contains ks j → Contains done j ⊎ Contains (k ∷ []) j → ⊥
       split j i (inl z) = apart j (later k j ks i) z
@@ -277,10 +277,10 @@ module _ (x : Copying) (c0 : StateTree) (whole : IsWhole c0.decls c0.opened.visi
     begun : IsReached [] c0 []
     begun = record { new = []; decls = sym (append-nil old); same_path = refl; below = below; list = sym (append-nil first); from = λ k l i. inl i; kept = λ k i. i; taken = λ k i o. absurd (none_here k i); news = λ k a l. absurd (omega (arith, a, l)); once = once }
 
-    all_reached : IsReached ks (with_places x ks c0) (made_from x.mapping path x.within first (steps_at x old ks))
+    all_reached : IsReached ks (with_places x ks c0) (made_from x.mapping path x.within first (copy_steps_at x old ks))
     all_reached = run ks [] c0 [] begun low distinct (λ k i z. none_here k z)
 
-    pub places_made : visible_now (with_places x ks c0) ≡ first ++ made_from x.mapping path x.within first (steps_at x old ks)
+    pub places_made : visible_now (with_places x ks c0) ≡ first ++ made_from x.mapping path x.within first (copy_steps_at x old ks)
     places_made = all_reached.list
 
     pub places_decls : (new : List DeclarationTree) × ((with_places x ks c0).decls ≡ old ++ new)
@@ -289,7 +289,7 @@ module _ (x : Copying) (c0 : StateTree) (whole : IsWhole c0.decls c0.opened.visi
 -- ---- the places of a theory
 module _ (x : Copying) (c : StateTree) (t : KnownTree) (same : x.path ≡ t.path) (whole : IsWhole c.decls c.opened.visible) (below : All (λ (k : ℕ). k < length c.decls) c.opened.visible) (once : IsDistinct c.opened.visible)
     (low : All (λ (k : ℕ). k < length c.decls) t.visible) (distinct : IsDistinct t.visible) where
-  reached : IsReached x c whole t.visible (with_places x t.visible c) (made_from x.mapping c.opened.path x.within (visible_now c) (steps_at x c.decls t.visible))
+  reached : IsReached x c whole t.visible (with_places x t.visible c) (made_from x.mapping c.opened.path x.within (visible_now c) (copy_steps_at x c.decls t.visible))
   reached = all_reached x c whole below once t.visible low distinct
 
   own_is : (k : ℕ) (d : DeclarationTree) → slice_get c.decls k ≡ Some d → is_own c.decls x.path k ≡ bytes_eq d.theory t.path

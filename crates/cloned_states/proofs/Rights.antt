@@ -8,7 +8,7 @@ use Rattle.tasks.specs.Valid.{IsTypeIn}
 use Rattle.syntax_why.specs.Lexeme.{Word}
 use Rattle.syntax_why.specs.declared.names.Name.{Name}
 use Rattle.syntax_why.specs.Declarations.{Element, type_element, symbol_element, prop_element, all_axioms}
-use Rattle.elab_names.specs.Abstract.{Form, texts, form}
+use Rattle.elab_names.specs.Abstract.{TypeExpression, texts_of_names, type_expression}
 use Rattle.elab_names.specs.declared.NamingFault.{NamingFault}
 use Rattle.elab_names.specs.Faults.{first_of, form_fault}
 use Rattle.elab_variables.specs.Seen.{form_seen}
@@ -17,7 +17,7 @@ use Rattle.elab_parts.specs.Elaborated.{unseen}
 use Rattle.elab_parts.specs.Entries.{builtin, wanting_tuples}
 use Rattle.elab_parts.specs.Outcomes.{Setting, over, around}
 use Rattle.elab_parts.proofs.Alike.{form_alike}
-use Rattle.valid_tasks.specs.Scopes.{IsNamedBy, NamesNew, IsPart, AgreeBelow}
+use Rattle.valid_tasks.specs.Scopes.{IsNamedBy, NamesNew, IsSubvocabulary, AgreeBelow}
 use Rattle.valid_tasks.proofs.Signed.{some_at}
 use Rattle.valid_tasks.proofs.Extended.{further, in_either, slice_below, slice_all, type_more}
 use Rattle.valid_tasks.proofs.Widths.{form_tuples}
@@ -27,12 +27,12 @@ use Rattle.valid_tasks.proofs.Made.{tuples_built}
 use Rattle.valid_tasks.proofs.Settings.{inside_scopes, inside_typed, world, tuples, same_names, form_in}
 use Rattle.valid_tasks.specs.Built.{IsBuiltRight}
 use Rattle.valid_tasks.proofs.Kept.{all_kept}
-use Rattle.clone_elements.specs.Rights.{RightTree, is_type, is_symbol, is_nothing, right_tuples, right_fault, right_made, rights_tuples, rights_fault}
+use Rattle.clone_elements.specs.Rights.{RightTree, type_right, symbol_right, no_right, right_tuples, right_fault, right_made, rights_tuples, rights_fault}
 use Rattle.clone_elements.specs.Plans.{sides_made}
 use Rattle.cloned_states.specs.Sides.{IsTypedRight, IsTypedSide, with_rights}
 
 -- ---- more entries
-pub entries_more : (xs ys : List SymbolTree) → IsPart (of_signature xs) (of_signature (xs ++ ys))
+pub entries_more : (xs ys : List SymbolTree) → IsSubvocabulary (of_signature xs) (of_signature (xs ++ ys))
 entries_more xs ys = record {
   entries = λ k e q. further xs ys k e q;
   rigid = λ k e q h. let z = further xs ys k e q in rw z (rw q at h);
@@ -77,11 +77,11 @@ module _ (xs ys : List SymbolTree) (built : All (λ (e : SymbolTree). e.theory �
 
 -- ---- one right side
 
-record IsTypedForm (c : Setting) (vars : List Word) (f : Form) (es : List SymbolTree) : Type 0 where
+record IsTypedForm (c : Setting) (vars : List Word) (f : TypeExpression) (es : List SymbolTree) : Type 0 where
   type : IsTypeIn (of_signature (c.symbols ++ es)) (length vars) (type_at (over c.trees (c.symbols ++ es) c.scope vars) f)
   setting : IsTypedSetting (of_signature (c.symbols ++ es)) (record c { symbols = c.symbols ++ es })
 
-form_typed : (c : Setting) (vars : List Word) (f : Form) → IsTypedSetting (of_signature c.symbols) c → form_fault (around c vars) false f ≡ None → IsTypedForm c vars f (wanting_tuples c.symbols (form_seen unseen f).widths)
+form_typed : (c : Setting) (vars : List Word) (f : TypeExpression) → IsTypedSetting (of_signature c.symbols) c → form_fault (around c vars) false f ≡ None → IsTypedForm c vars f (wanting_tuples c.symbols (form_seen unseen f).widths)
 form_typed c vars f typed q =
     let seen = form_seen unseen f in
     let ys = wanting_tuples c.symbols seen.widths in
@@ -101,7 +101,7 @@ first_none : (a b : Option NamingFault) → first_of a b ≡ None → (a ≡ Non
 first_none None b q = (refl, q)
 first_none (Some f) b q = absurd (cc)
 
-texts_count : (vs : List Name) → length (texts vs) ≡ length vs
+texts_count : (vs : List Name) → length (texts_of_names vs) ≡ length vs
 texts_count [] = refl
 texts_count (v ∷ vs) = let h = texts_count vs in omega (arith, h)
 
@@ -115,10 +115,10 @@ without c h = subst (λ (es : List SymbolTree). IsTypedSetting (of_signature es)
 
 element_typed : (c : Setting) (e : Element) → IsTypedSetting (of_signature c.symbols) c → right_fault c.trees c.symbols c.scope e ≡ None → IsTypedElement c e
 element_typed c (type_element i d vs f) h q =
-    let z = form_typed c (texts vs) (form f) h q in
-    let ys = wanting_tuples c.symbols (form_seen unseen (form f)).widths in
+    let z = form_typed c (texts_of_names vs) (type_expression f) h q in
+    let ys = wanting_tuples c.symbols (form_seen unseen (type_expression f)).widths in
     record {
-      right = subst (λ (n : ℕ). IsTypeIn (of_signature (c.symbols ++ ys)) n (type_at (over c.trees (c.symbols ++ ys) c.scope (texts vs)) (form f))) (texts_count vs) z.type;
+      right = subst (λ (n : ℕ). IsTypeIn (of_signature (c.symbols ++ ys)) n (type_at (over c.trees (c.symbols ++ ys) c.scope (texts_of_names vs)) (type_expression f))) (texts_count vs) z.type;
       setting = z.setting;
     }
 element_typed c (symbol_element i w d e) h q = record { right = tt; setting = without c h }
@@ -134,10 +134,10 @@ all_typed (e ∷ es) c h q =
     let z = all_typed es (record c { symbols = c.symbols ++ more }) (element_typed c e h p.0).setting p.1 in
     subst (λ (all : List SymbolTree). IsTypedSetting (of_signature all) (record c { symbols = all })) (append_assoc c.symbols more (rights_tuples (c.symbols ++ more) es)) z
 
-right_more : (v w : Vocabulary) → IsPart v w → (e : Element) (r : RightTree) → IsTypedRight v e r → IsTypedRight w e r
-right_more v w part (type_element i c vs f) (is_type ty) h = type_more v w part (length vs) ty h
-right_more v w part (type_element i c vs f) (is_symbol k) h = tt
-right_more v w part (type_element i c vs f) is_nothing h = tt
+right_more : (v w : Vocabulary) → IsSubvocabulary v w → (e : Element) (r : RightTree) → IsTypedRight v e r → IsTypedRight w e r
+right_more v w part (type_element i c vs f) (type_right ty) h = type_more v w part (length vs) ty h
+right_more v w part (type_element i c vs f) (symbol_right k) h = tt
+right_more v w part (type_element i c vs f) no_right h = tt
 right_more v w part (symbol_element i s c d) r h = tt
 right_more v w part (prop_element i k c) r h = tt
 right_more v w part (all_axioms i) r h = tt
@@ -160,7 +160,7 @@ rights_typed places (e ∷ es) c h q =
 -- what is built in
 right_built : (symbols : List SymbolTree) (e : Element) → IsBuiltRight symbols → IsBuiltRight (symbols ++ right_tuples symbols e)
 right_built symbols (type_element i c vs f) h =
-    let ns = (form_seen unseen (form f)).widths in
+    let ns = (form_seen unseen (type_expression f)).widths in
     subst (λ (es : List SymbolTree). IsBuiltRight (symbols ++ es)) (append-nil (wanting_tuples symbols ns)) (all_kept symbols [] ns h (All-nil (λ (e : SymbolTree). bytes_eq e.theory builtin ≡ false)))
 right_built symbols (symbol_element i w c d) h = rw append-nil h
 right_built symbols (prop_element i k c) h = rw append-nil h

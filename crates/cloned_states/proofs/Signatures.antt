@@ -18,24 +18,24 @@ use Rattle.valid_tasks.proofs.Signed.{some_at}
 use Rattle.valid_tasks.proofs.Extended.{entry_more}
 use Rattle.valid_tasks.specs.Lists.{is_built, after}
 use Rattle.valid_tasks.proofs.Lists.{list_part, list_valid}
-use Rattle.valid_tasks.specs.Tasks.{IsOwn, AreSound}
+use Rattle.valid_tasks.specs.Tasks.{IsOwnSymbol, AreSound}
 use Rattle.valid_tasks.proofs.Distinct.{pairs_distinct}
 use Rattle.valid_tasks.proofs.Joined.{matched_usable}
 use Rattle.sound_states.proofs.Begun.{built_typed}
-use Rattle.cloned_states.specs.Cloning.{IsNew, IsMadeRight, AreMadeRight}
+use Rattle.cloned_states.specs.Cloning.{BecomesNew, IsMadeRight, AreMadeRight}
 use Rattle.cloned_states.proofs.Vocabularies.{right_of, slice_or, usable_cases, made_below}
 use Rattle.cloned_states.proofs.Copied.{made_mapped, role_mapped}
 use Rattle.cloned_states.proofs.Joining.{into_made, maker_found, maker_is}
 
-not_built : (symbols : List SymbolTree) (k : ℕ) → IsOwn symbols k → is_built (symbol_or symbols k) ≡ false
+not_built : (symbols : List SymbolTree) (k : ℕ) → IsOwnSymbol symbols k → is_built (symbol_or symbols k) ≡ false
 not_built symbols k o = ap (λ (b : Bool). b && not (is_projection_kind (symbol_or symbols k).kind)) o.other
 
 module _ (symbols : List SymbolTree) (ds : List DeclarationTree) (sound : AreSound symbols ds) where
   abbrev v : Vocabulary
   v = after symbols [] ds
 
-  own_at : (k : ℕ) → Contains (made ds) k → IsOwn symbols k
-  own_at k c = All-contains (IsOwn symbols) (made ds) k sound.own c
+  own_at : (k : ℕ) → Contains (made ds) k → IsOwnSymbol symbols k
+  own_at k c = All-contains (IsOwnSymbol symbols) (made ds) k sound.own c
 
   there : (k : ℕ) → Contains (made ds) k → slice_get symbols k ≡ Some (symbol_or symbols k)
   there k c = some_at symbols k int_symbol (made_below symbols ds sound k c)
@@ -110,15 +110,15 @@ some_mapped : (f : Tree → Tree) (o : Option Tree) → IsSomeAnd o (λ t. Unit 
 some_mapped f None h = h
 some_mapped f (Some t) h = tt
 
-module _ (xs symbols : List SymbolTree) (m : Map) (theory within : List ℕ) (d : DeclarationTree) (below : (k : ℕ) → Contains (made_by d.body) k → k < length xs) (news : All (IsNew xs symbols m theory within) (made_by d.body)) (right : All (IsMadeRight xs d) (made_by d.body)) where
+module _ (xs symbols : List SymbolTree) (m : Map) (theory within : List ℕ) (d : DeclarationTree) (below : (k : ℕ) → Contains (made_by d.body) k → k < length xs) (news : All (BecomesNew xs symbols m theory within) (made_by d.body)) (right : All (IsMadeRight xs d) (made_by d.body)) where
   copy_right : (k : ℕ) → Contains (made_by d.body) k → IsMadeRight symbols (declaration_copied m theory within d) (m.symbols k)
   copy_right k c =
-      let n = All-contains (IsNew xs symbols m theory within) (made_by d.body) k news c in
+      let n = All-contains (BecomesNew xs symbols m theory within) (made_by d.body) k news c in
       let r = All-contains (IsMadeRight xs d) (made_by d.body) k right c in
       let is : symbol_or symbols (m.symbols k) ≡ entry_copied m theory within (symbol_or xs k) = slice_or symbols (m.symbols k) (entry_copied m theory within (symbol_or xs k)) n.entry in
       record {
         result = λ t. subst (λ (e : SymbolTree). IsSomeAnd e.result (λ z. Unit {0})) (sym is) (some_mapped (mapped m) (symbol_or xs k).result (r.result (subst (λ (e : SymbolTree). MakesTerms e.kind) is t)));
-        constructor = λ q. role_mapped m k d.body (λ i j l z. (All-contains (IsNew xs symbols m theory within) (made_by d.body) k news c).alone (get_or (made_by d.body) i j) (below (get_or (made_by d.body) i j) (Contains-get_or (made_by d.body) i j l)) z)
+        constructor = λ q. role_mapped m k d.body (λ i j l z. (All-contains (BecomesNew xs symbols m theory within) (made_by d.body) k news c).alone (get_or (made_by d.body) i j) (below (get_or (made_by d.body) i j) (Contains-get_or (made_by d.body) i j l)) z)
             (r.constructor (ap (λ (e : SymbolTree). e.kind) (sym is) ∙ q));
       }
 

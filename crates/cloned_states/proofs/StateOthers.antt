@@ -10,7 +10,7 @@ use Rattle.valid_tasks.specs.Joined.{has_theory, fresh}
 use Rattle.sound_states.specs.Sound.{others}
 use Rattle.sound_states.proofs.Used.{theory_other, other_is}
 use Rattle.cloned_states.specs.Cloning.{IsMadeRight}
-use Rattle.cloned_states.specs.Steps.{Step, copies, leaves, joins, declarations_of, taken_of, made_from, StepFits}
+use Rattle.cloned_states.specs.Steps.{CopyStep, copies, leaves, joins, declarations_of, taken_of, made_from, StepFits}
 use Rattle.cloned_states.proofs.Signatures.{copied_right}
 
 -- ---- declarations of other theories
@@ -23,7 +23,7 @@ module _ (m : Map) (theory within : List ℕ) (first : List DeclarationTree) whe
   other_kept : (d : DeclarationTree) (ds : List DeclarationTree) → d.theory ≢ theory → others theory (d ∷ ds) ≡ d ∷ others theory ds
   other_kept d ds n = ap (λ (b : Bool). cond b (d ∷ others theory ds) (others theory ds)) (other_is theory d n)
 
-  pub others_made : (ss : List Step) → ((d : DeclarationTree) → Contains (taken_of ss) d → d.theory ≢ theory) → others theory (made_from m theory within first ss) ≡ fresh (others theory first) (taken_of ss)
+  pub others_made : (ss : List CopyStep) → ((d : DeclarationTree) → Contains (taken_of ss) d → d.theory ≢ theory) → others theory (made_from m theory within first ss) ≡ fresh (others theory first) (taken_of ss)
   others_made [] n = refl
   others_made (copies d ∷ ss) n = other_copy (declaration_copied m theory within d) (made_from m theory within first ss) refl ∙ others_made ss n
   others_made (leaves d ∷ ss) n = others_made ss n
@@ -47,7 +47,7 @@ module _ (m : Map) (theory within : List ℕ) (first : List DeclarationTree) whe
     abbrev Right : List SymbolTree → DeclarationTree → Type 0
     Right es d = All (IsMadeRight es d) (made_by d.body)
 
-    pub made_right_of : (ss : List Step) → All (Right xs) (declarations_of ss) → All (Right symbols) (declarations_of ss) → All (λ (d : DeclarationTree). (k : ℕ) → Contains (made_by d.body) k → k < length xs) (declarations_of ss)
+    pub made_right_of : (ss : List CopyStep) → All (Right xs) (declarations_of ss) → All (Right symbols) (declarations_of ss) → All (λ (d : DeclarationTree). (k : ℕ) → Contains (made_by d.body) k → k < length xs) (declarations_of ss)
         → All (StepFits xs m symbols theory within first) ss → All (Right symbols) (made_from m theory within first ss)
     made_right_of [] r s l f = All-nil (Right symbols)
     made_right_of (copies d ∷ ss) r s l f =

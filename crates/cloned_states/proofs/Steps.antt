@@ -14,8 +14,8 @@ use Rattle.valid_tasks.proofs.Distinct.{IsDistinct, pairs_distinct}
 use Rattle.valid_tasks.proofs.TupleDecls.{made_both}
 use Rattle.valid_tasks.proofs.Grown.{front_sound}
 use Rattle.sound_states.proofs.Places.{in_theory}
-use Rattle.cloned_states.specs.Cloning.{IsImage, IsNew, IsFixed, IsCloning}
-use Rattle.cloned_states.specs.Steps.{Step, copies, leaves, joins, declaration_of, declarations_of, taken_of, made_of, made_from, StepFits, IsClone}
+use Rattle.cloned_states.specs.Cloning.{IsImage, BecomesNew, IsFixed, IsCloning}
+use Rattle.cloned_states.specs.Steps.{CopyStep, copies, leaves, joins, declaration_of, declarations_of, taken_of, made_of, made_from, StepFits, IsClone}
 use Rattle.cloned_states.proofs.Vocabularies.{slice_or, made_below}
 use Rattle.cloned_states.proofs.Extending.{image_more}
 use Rattle.cloned_states.proofs.Copied.{made_mapped, in_mapped, cloning_copied}
@@ -31,50 +31,50 @@ from_made (x ∷ ds) k c = of (Contains-append_cases (made_by x.body) (made ds) 
     of (inl i) f = (x, (0, omega arith, refl), i)
     of (inr i) f = let y = f i in (y.0, (suc y.1.0, let l = y.1.1 in omega (arith, l), y.1.2), y.2)
 
-taken_both : (ss us : List Step) → taken_of (ss ++ us) ≡ taken_of ss ++ taken_of us
+taken_both : (ss us : List CopyStep) → taken_of (ss ++ us) ≡ taken_of ss ++ taken_of us
 taken_both [] us = refl
 taken_both (copies d ∷ ss) us = taken_both ss us
 taken_both (leaves d ∷ ss) us = taken_both ss us
 taken_both (joins d ∷ ss) us = ap (λ (ds : List DeclarationTree). d ∷ ds) (taken_both ss us)
 
 module _ (m : Map) (theory within : List ℕ) (first : List DeclarationTree) where
-  abbrev makes : List Step → List DeclarationTree
+  abbrev makes : List CopyStep → List DeclarationTree
   makes ss = made_from m theory within first ss
 
-  made_then : (ss : List Step) (s : Step) → first ++ makes (ss ++ s ∷ []) ≡ (first ++ makes ss) ++ made_of m theory within first s
+  made_then : (ss : List CopyStep) (s : CopyStep) → first ++ makes (ss ++ s ∷ []) ≡ (first ++ makes ss) ++ made_of m theory within first s
   made_then ss s = ap (λ (ds : List DeclarationTree). first ++ ds) (by ss) ∙ sym (append_assoc first (makes ss) (made_of m theory within first s))
     where
-      by : (us : List Step) → makes (us ++ s ∷ []) ≡ makes us ++ made_of m theory within first s
+      by : (us : List CopyStep) → makes (us ++ s ∷ []) ≡ makes us ++ made_of m theory within first s
       by [] = append-nil (made_of m theory within first s)
       by (u ∷ us) = ap (λ (ds : List DeclarationTree). made_of m theory within first u ++ ds) (by us) ∙ sym (append_assoc (made_of m theory within first u) (makes us) (made_of m theory within first s))
 
   -- where a declaration comes from
-  abbrev IsMade : List Step → DeclarationTree → Type 0
+  abbrev IsMade : List CopyStep → DeclarationTree → Type 0
   IsMade ss b = (Contains (taken_of ss) b × (has_theory first b.theory ≡ false)) ⊎ ((d : DeclarationTree) × (Contains ss (copies d)) × (b ≡ declaration_copied m theory within d))
 
-  later_step : (s : Step) (ss : List Step) (x : Step) → Contains ss x → Contains (s ∷ ss) x
+  later_step : (s : CopyStep) (ss : List CopyStep) (x : CopyStep) → Contains ss x → Contains (s ∷ ss) x
   later_step s ss x c = (suc c.0, let l = c.1 in omega (arith, l), c.2)
 
-  later_taken : (d b : DeclarationTree) (ss : List Step) → Contains (taken_of ss) b → Contains (d ∷ taken_of ss) b
+  later_taken : (d b : DeclarationTree) (ss : List CopyStep) → Contains (taken_of ss) b → Contains (d ∷ taken_of ss) b
   later_taken d b ss c = (suc c.0, let l = c.1 in omega (arith, l), c.2)
 
   one_is : (x b : DeclarationTree) → Contains (x ∷ []) b → x ≡ b
   one_is x b (zero, l, q) = q
   one_is x b (suc i, l, q) = absurd (omega (arith, l))
 
-  copied_more : (d : DeclarationTree) (ss : List Step) (b : DeclarationTree) → IsMade ss b → IsMade (copies d ∷ ss) b
+  copied_more : (d : DeclarationTree) (ss : List CopyStep) (b : DeclarationTree) → IsMade ss b → IsMade (copies d ∷ ss) b
   copied_more d ss b (inl h) = inl h
   copied_more d ss b (inr h) = inr (h.0, later_step (copies d) ss (copies h.0) h.1, h.2)
 
-  left_more : (d : DeclarationTree) (ss : List Step) (b : DeclarationTree) → IsMade ss b → IsMade (leaves d ∷ ss) b
+  left_more : (d : DeclarationTree) (ss : List CopyStep) (b : DeclarationTree) → IsMade ss b → IsMade (leaves d ∷ ss) b
   left_more d ss b (inl h) = inl h
   left_more d ss b (inr h) = inr (h.0, later_step (leaves d) ss (copies h.0) h.1, h.2)
 
-  joined_more : (d : DeclarationTree) (ss : List Step) (b : DeclarationTree) → IsMade ss b → IsMade (joins d ∷ ss) b
+  joined_more : (d : DeclarationTree) (ss : List CopyStep) (b : DeclarationTree) → IsMade ss b → IsMade (joins d ∷ ss) b
   joined_more d ss b (inl h) = inl (later_taken d b ss h.0, h.1)
   joined_more d ss b (inr h) = inr (h.0, later_step (joins d) ss (copies h.0) h.1, h.2)
 
-  from_makes : (ss : List Step) (b : DeclarationTree) → Contains (makes ss) b → IsMade ss b
+  from_makes : (ss : List CopyStep) (b : DeclarationTree) → Contains (makes ss) b → IsMade ss b
   from_makes [] b c = absurd (omega (arith, c.1))
   from_makes (copies d ∷ ss) b c = of (Contains-append_cases (declaration_copied m theory within d ∷ []) (makes ss) b c) (λ i. from_makes ss b i)
     where
@@ -93,7 +93,7 @@ module _ (m : Map) (theory within : List ℕ) (first : List DeclarationTree) whe
       by false q i f = of q (Contains-append_cases (d ∷ []) (makes ss) b i) f
 
   -- those that were taken over are there
-  taken_there : (ss : List Step) → ((b : DeclarationTree) → Contains (taken_of ss) b → has_theory first b.theory ≡ true → Contains first b) → (b : DeclarationTree) → Contains (taken_of ss) b → Contains first b ⊎ Contains (makes ss) b
+  taken_there : (ss : List CopyStep) → ((b : DeclarationTree) → Contains (taken_of ss) b → has_theory first b.theory ≡ true → Contains first b) → (b : DeclarationTree) → Contains (taken_of ss) b → Contains first b ⊎ Contains (makes ss) b
   taken_there [] agree b c = absurd (omega (arith, c.1))
   taken_there (copies d ∷ ss) agree b c = of (taken_there ss agree b c)
     where
@@ -116,7 +116,7 @@ module _ (m : Map) (theory within : List ℕ) (first : List DeclarationTree) whe
       by false q (inl e) f = inr (Contains-append_left (d ∷ []) (makes ss) b (0, omega arith, e))
       by t q (inr i) f = rest t (f i)
 
-  module _ (xs more : List SymbolTree) (ss : List Step) (h : IsClone xs more m theory within first ss) where
+  module _ (xs more : List SymbolTree) (ss : List CopyStep) (h : IsClone xs more m theory within first ss) where
     abbrev all : List SymbolTree
     all = xs ++ more
 
@@ -124,11 +124,11 @@ module _ (m : Map) (theory within : List ℕ) (first : List DeclarationTree) whe
     agrees b c q = All-contains (λ (e : DeclarationTree). IsTrue (has_theory first e.theory) → Contains first e) (taken_of ss) b h.agree c q
 
     -- a step after others
-    module _ (pre rest : List Step) (s : Step) (whole : ss ≡ (pre ++ s ∷ []) ++ rest) (before : IsCloning xs (declarations_of pre) m all (first ++ makes pre)) where
+    module _ (pre rest : List CopyStep) (s : CopyStep) (whole : ss ≡ (pre ++ s ∷ []) ++ rest) (before : IsCloning xs (declarations_of pre) m all (first ++ makes pre)) where
       abbrev now : List DeclarationTree
       now = first ++ makes pre
 
-      abbrev next : List Step
+      abbrev next : List CopyStep
       next = pre ++ s ∷ []
 
       source_next : AreSound xs (declarations_of pre ++ declaration_of s ∷ [])
@@ -150,20 +150,20 @@ module _ (m : Map) (theory within : List ℕ) (first : List DeclarationTree) whe
           of (inl i) = Contains-append_left first (makes pre) b i
           of (inr i) = Contains-append_right first (makes pre) b i
 
-      step_in : (x : Step) → Contains pre x → Contains ss x
-      step_in x c = subst (λ (us : List Step). Contains us x) (sym whole) (Contains-append_left next rest x (Contains-append_left pre (s ∷ []) x c))
+      step_in : (x : CopyStep) → Contains pre x → Contains ss x
+      step_in x c = subst (λ (us : List CopyStep). Contains us x) (sym whole) (Contains-append_left next rest x (Contains-append_left pre (s ∷ []) x c))
 
       this_in : Contains ss s
-      this_in = subst (λ (us : List Step). Contains us s) (sym whole) (Contains-append_left next rest s (Contains-append_right pre (s ∷ []) s (0, omega arith, refl)))
+      this_in = subst (λ (us : List CopyStep). Contains us s) (sym whole) (Contains-append_left next rest s (Contains-append_right pre (s ∷ []) s (0, omega arith, refl)))
 
-      fits : (x : Step) → Contains ss x → StepFits xs m all theory within first x
+      fits : (x : CopyStep) → Contains ss x → StepFits xs m all theory within first x
       fits x c = All-contains (StepFits xs m all theory within first) ss x h.fit c
 
       -- what the step's declaration makes, none before it makes
-      declared : (x : Step) → Contains pre x → Contains (declarations_of pre) (declaration_of x)
+      declared : (x : CopyStep) → Contains pre x → Contains (declarations_of pre) (declaration_of x)
       declared x c = by pre c
         where
-          by : (us : List Step) → Contains us x → Contains (declarations_of us) (declaration_of x)
+          by : (us : List CopyStep) → Contains us x → Contains (declarations_of us) (declaration_of x)
           by [] i = absurd (omega (arith, i.1))
           by (u ∷ us) (zero, l, q) = (0, omega arith, ap declaration_of q)
           by (u ∷ us) (suc i, l, q) = let r = by us (i, omega (arith, l), q) in (suc r.0, let b = r.1 in omega (arith, b), r.2)
@@ -180,7 +180,7 @@ module _ (m : Map) (theory within : List ℕ) (first : List DeclarationTree) whe
       taken_declared : (b : DeclarationTree) → Contains (taken_of pre) b → Contains (declarations_of pre) b
       taken_declared b c = by pre c
         where
-          by : (us : List Step) → Contains (taken_of us) b → Contains (declarations_of us) b
+          by : (us : List CopyStep) → Contains (taken_of us) b → Contains (declarations_of us) b
           by [] i = absurd (omega (arith, i.1))
           by (copies d ∷ us) i = let r = by us i in (suc r.0, let l = r.1 in omega (arith, l), r.2)
           by (leaves d ∷ us) i = let r = by us i in (suc r.0, let l = r.1 in omega (arith, l), r.2)
@@ -190,7 +190,7 @@ module _ (m : Map) (theory within : List ℕ) (first : List DeclarationTree) whe
       taken_step : (b : DeclarationTree) → Contains (taken_of pre) b → Contains pre (joins b)
       taken_step b c = by pre c
         where
-          by : (us : List Step) → Contains (taken_of us) b → Contains us (joins b)
+          by : (us : List CopyStep) → Contains (taken_of us) b → Contains us (joins b)
           by [] i = absurd (omega (arith, i.1))
           by (copies d ∷ us) i = later_step (copies d) us (joins b) (by us i)
           by (leaves d ∷ us) i = later_step (leaves d) us (joins b) (by us i)
@@ -206,12 +206,12 @@ module _ (m : Map) (theory within : List ℕ) (first : List DeclarationTree) whe
           (subst (IsCloning xs (declarations_of pre ++ declaration_of s ∷ []) m all) (sym (made_then pre s)) c)
 
     -- a copy
-    module _ (pre rest : List Step) (d : DeclarationTree) (whole : ss ≡ (pre ++ copies d ∷ []) ++ rest) (before : IsCloning xs (declarations_of pre) m all (first ++ makes pre)) where
-      copy_fits : All (λ (k : ℕ). IsNew xs all m theory within k × (Contains (made first) (m.symbols k) → ⊥)) (made_by d.body)
+    module _ (pre rest : List CopyStep) (d : DeclarationTree) (whole : ss ≡ (pre ++ copies d ∷ []) ++ rest) (before : IsCloning xs (declarations_of pre) m all (first ++ makes pre)) where
+      copy_fits : All (λ (k : ℕ). BecomesNew xs all m theory within k × (Contains (made first) (m.symbols k) → ⊥)) (made_by d.body)
       copy_fits = fits pre rest (copies d) whole before (copies d) (this_in pre rest (copies d) whole before)
 
-      new_at : (k : ℕ) → Contains (made_by d.body) k → IsNew xs all m theory within k
-      new_at k c = (All-contains (λ (k : ℕ). IsNew xs all m theory within k × (Contains (made first) (m.symbols k) → ⊥)) (made_by d.body) k copy_fits c).0
+      new_at : (k : ℕ) → Contains (made_by d.body) k → BecomesNew xs all m theory within k
+      new_at k c = (All-contains (λ (k : ℕ). BecomesNew xs all m theory within k × (Contains (made first) (m.symbols k) → ⊥)) (made_by d.body) k copy_fits c).0
 
       below_at : (k : ℕ) → Contains (made_by d.body) k → k < length xs
       below_at k c =
@@ -222,7 +222,7 @@ module _ (m : Map) (theory within : List ℕ) (first : List DeclarationTree) whe
       theory_at k c = ap (λ (e : SymbolTree). e.theory) (slice_or all (m.symbols k) (entry_copied m theory within (symbol_or xs k)) (new_at k c).entry)
 
       not_made : (k : ℕ) → Contains (made_by d.body) k → (b : DeclarationTree) → Contains (first ++ makes pre) b → Contains (made_by b.body) (m.symbols k) → Contains first b ⊎ IsMade pre b → ⊥
-      not_made k c b i j (inl f) = (All-contains (λ (k : ℕ). IsNew xs all m theory within k × (Contains (made first) (m.symbols k) → ⊥)) (made_by d.body) k copy_fits c).1 (into_made first b (m.symbols k) f j)
+      not_made k c b i j (inl f) = (All-contains (λ (k : ℕ). BecomesNew xs all m theory within k × (Contains (made first) (m.symbols k) → ⊥)) (made_by d.body) k copy_fits c).1 (into_made first b (m.symbols k) f j)
       not_made k c b i j (inr (inl t)) = other_theory pre rest (copies d) whole before b t.0 (sym (theory_now pre rest (copies d) whole before b (m.symbols k) i j) ∙ theory_at k c)
       not_made k c b i j (inr (inr z)) =
           let in_copy : Contains (made_by (declaration_copied m theory within z.0).body) (m.symbols k) = subst (λ (x : DeclarationTree). Contains (made_by x.body) (m.symbols k)) z.2 j in
@@ -246,7 +246,7 @@ module _ (m : Map) (theory within : List ℕ) (first : List DeclarationTree) whe
           (cloning_copied xs (declarations_of pre) m all (first ++ makes pre) before d (source_next pre rest (copies d) whole before) theory within h.named h.not_built (λ i k l. (copy_fits i k l).0) apart_at)
 
     -- one that is left out
-    left_step : (pre rest : List Step) (d : DeclarationTree) → ss ≡ (pre ++ leaves d ∷ []) ++ rest → IsCloning xs (declarations_of pre) m all (first ++ makes pre) → IsCloning xs (declarations_of (pre ++ leaves d ∷ [])) m all (first ++ makes (pre ++ leaves d ∷ []))
+    left_step : (pre rest : List CopyStep) (d : DeclarationTree) → ss ≡ (pre ++ leaves d ∷ []) ++ rest → IsCloning xs (declarations_of pre) m all (first ++ makes pre) → IsCloning xs (declarations_of (pre ++ leaves d ∷ [])) m all (first ++ makes (pre ++ leaves d ∷ []))
     left_step pre rest d whole before =
         let fit = fits pre rest (leaves d) whole before (leaves d) (this_in pre rest (leaves d) whole before) in
         finished pre rest (leaves d) whole before
@@ -256,7 +256,7 @@ module _ (m : Map) (theory within : List ℕ) (first : List DeclarationTree) whe
         (All-contains (λ (k : ℕ). IsImage (after all [] first) m (symbol_or xs k) k (is_constructor (role_in k d.body))) (made_by d.body) k fit c))))
 
     -- one of another theory
-    module _ (pre rest : List Step) (d : DeclarationTree) (whole : ss ≡ (pre ++ joins d ∷ []) ++ rest) (before : IsCloning xs (declarations_of pre) m all (first ++ makes pre)) where
+    module _ (pre rest : List CopyStep) (d : DeclarationTree) (whole : ss ≡ (pre ++ joins d ∷ []) ++ rest) (before : IsCloning xs (declarations_of pre) m all (first ++ makes pre)) where
       alone_here : AreSound xs (taken_of pre ++ d ∷ [])
       alone_here = front_sound xs (taken_of pre ++ d ∷ []) (taken_of rest) (subst (AreSound xs) (taken_split pre rest (joins d) whole before) h.others)
 
@@ -306,8 +306,8 @@ module _ (m : Map) (theory within : List ℕ) (first : List DeclarationTree) whe
       joined_step : IsCloning xs (declarations_of (pre ++ joins d ∷ [])) m all (first ++ makes (pre ++ joins d ∷ []))
       joined_step = finished pre rest (joins d) whole before (by_theory (has_theory first d.theory) refl)
 
-    go : (pre rest : List Step) → ss ≡ pre ++ rest → IsCloning xs (declarations_of pre) m all (first ++ makes pre) → IsCloning xs (declarations_of ss) m all (first ++ makes ss)
-    go pre [] w b = let q : pre ≡ ss = sym (append-nil pre) ∙ sym w in subst (λ (us : List Step). IsCloning xs (declarations_of us) m all (first ++ makes us)) q b
+    go : (pre rest : List CopyStep) → ss ≡ pre ++ rest → IsCloning xs (declarations_of pre) m all (first ++ makes pre) → IsCloning xs (declarations_of ss) m all (first ++ makes ss)
+    go pre [] w b = let q : pre ≡ ss = sym (append-nil pre) ∙ sym w in subst (λ (us : List CopyStep). IsCloning xs (declarations_of us) m all (first ++ makes us)) q b
     go pre (copies d ∷ rest) w b = let w' = w ∙ sym (append_assoc pre (copies d ∷ []) rest) in go (pre ++ copies d ∷ []) rest w' (copied_step pre rest d w' b)
     go pre (leaves d ∷ rest) w b = let w' = w ∙ sym (append_assoc pre (leaves d ∷ []) rest) in go (pre ++ leaves d ∷ []) rest w' (left_step pre rest d w' b)
     go pre (joins d ∷ rest) w b = let w' = w ∙ sym (append_assoc pre (joins d ∷ []) rest) in go (pre ++ joins d ∷ []) rest w' (joined_step pre rest d w' b)
@@ -316,7 +316,7 @@ module _ (m : Map) (theory within : List ℕ) (first : List DeclarationTree) whe
     clone_sound = go [] ss refl (subst (IsCloning xs [] m all) (sym (append-nil first)) (cloning_begun xs more first m h.source.built h.first_sound h.built))
 
 -- the first of them
-module _ (xs more : List SymbolTree) (m : Map) (theory within : List ℕ) (first : List DeclarationTree) (ss us : List Step) (h : IsClone xs more m theory within first (ss ++ us)) where
+module _ (xs more : List SymbolTree) (m : Map) (theory within : List ℕ) (first : List DeclarationTree) (ss us : List CopyStep) (h : IsClone xs more m theory within first (ss ++ us)) where
   front_all : {X : Type 0} (P : X → Type 0) (as_ bs : List X) → All P (as_ ++ bs) → All P as_
   front_all P [] bs g = All-nil P
   front_all P (x ∷ as_) bs g = All-cons P x as_ (All-head P x (as_ ++ bs) g) (front_all P as_ bs (All-tail P x (as_ ++ bs) g))

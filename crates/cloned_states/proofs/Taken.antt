@@ -8,7 +8,7 @@ use Rattle.symbol_maps.specs.Mapped.{Map}
 use Rattle.valid_tasks.specs.Lists.{after}
 use Rattle.valid_tasks.proofs.Lists.{list_part}
 use Rattle.valid_tasks.specs.Built.{IsBuiltRight}
-use Rattle.valid_tasks.specs.Tasks.{IsOwn, IsOfTheory, AreSound}
+use Rattle.valid_tasks.specs.Tasks.{IsOwnSymbol, IsOfTheory, AreSound}
 use Rattle.valid_tasks.proofs.Distinct.{IsDistinct, distinct_pairs, pairs_distinct, distinct_both}
 use Rattle.valid_tasks.proofs.TupleDecls.{made_both}
 use Rattle.valid_tasks.proofs.Grown.{then_valid, more_part, sound_more}
@@ -21,7 +21,7 @@ module _ (xs : List SymbolTree) (pre : List DeclarationTree) (m : Map) (symbols 
   cloning_left images = record { source = whole; sound = h.sound; morphism = morphism_next xs pre d (after symbols [] now) m h.morphism images }
 
   -- it stays as it is
-  pub cloning_taken : IsValidDecl (after symbols [] (now ++ d ∷ [])) d → All (IsOwn symbols) (made_by d.body) → IsOfTheory symbols d → IsDistinct (made_by d.body) → ((k : ℕ) → Contains (made now) k → Contains (made_by d.body) k → ⊥)
+  pub cloning_taken : IsValidDecl (after symbols [] (now ++ d ∷ [])) d → All (IsOwnSymbol symbols) (made_by d.body) → IsOfTheory symbols d → IsDistinct (made_by d.body) → ((k : ℕ) → Contains (made now) k → Contains (made_by d.body) k → ⊥)
       → ((k : ℕ) → Contains (made_by d.body) k → IsImage (after symbols [] (now ++ d ∷ [])) m (symbol_or xs k) k (is_constructor (role_in k d.body))) → IsCloning xs (pre ++ d ∷ []) m symbols (now ++ d ∷ [])
   cloning_taken valid own theory distinct apart images = record {
     source = whole;
@@ -29,7 +29,7 @@ module _ (xs : List SymbolTree) (pre : List DeclarationTree) (m : Map) (symbols 
       built = h.sound.built;
       valid = then_valid symbols [] now (d ∷ []) h.sound.valid (valid, tt);
       once = distinct_pairs (made (now ++ d ∷ [])) (subst IsDistinct (sym all_made) (distinct_both (made now) (made_by d.body) (pairs_distinct (made now) h.sound.once) distinct apart));
-      own = subst (All (IsOwn symbols)) (sym all_made) (All-append (IsOwn symbols) (made now) (made_by d.body) h.sound.own own);
+      own = subst (All (IsOwnSymbol symbols)) (sym all_made) (All-append (IsOwnSymbol symbols) (made now) (made_by d.body) h.sound.own own);
       theories = All-append (IsOfTheory symbols) now (d ∷ []) h.sound.theories (All-cons (IsOfTheory symbols) d [] theory (All-nil (IsOfTheory symbols)));
     };
     morphism = morphism_next xs pre d (after symbols [] (now ++ d ∷ [])) m (morphism_more (after symbols [] now) (after symbols [] (now ++ d ∷ [])) (list_part symbols [] now (d ∷ [])) (after xs [] pre) m h.morphism) images;

@@ -13,7 +13,7 @@ use Rattle.valid_tasks.specs.Scopes.{IsTypedEntry}
 use Rattle.valid_tasks.proofs.Extended.{entry_more}
 use Rattle.valid_tasks.specs.Lists.{is_built, after}
 use Rattle.valid_tasks.proofs.Lists.{list_part, list_valid}
-use Rattle.valid_tasks.specs.Tasks.{IsOwn, AreSound}
+use Rattle.valid_tasks.specs.Tasks.{IsOwnSymbol, AreSound}
 use Rattle.valid_tasks.proofs.Grown.{own_below}
 use Rattle.valid_tasks.proofs.Joined.{matched_usable}
 use Rattle.sound_states.specs.Morphisms.{AreTyped}
@@ -49,7 +49,7 @@ module _ (xs : List SymbolTree) (ds : List DeclarationTree) where
 
   module _ (sound : AreSound xs ds) where
     pub made_below : (k : ℕ) → Contains (made ds) k → k < length xs
-    made_below k c = own_below xs [] k (All-contains (IsOwn xs) (made ds) k sound.own c)
+    made_below k c = own_below xs [] k (All-contains (IsOwnSymbol xs) (made ds) k sound.own c)
 
     types_of : (k : ℕ) (e : SymbolTree) → entry v k ≡ Some e → IsTrue (passes is_built (slice_get xs k)) ⊎ Contains (made ds) k → HasTypes v e
     types_of k e q (inl h) =

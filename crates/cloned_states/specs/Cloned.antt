@@ -16,7 +16,7 @@ use Rattle.theory_states.specs.declared.states.AxiomAt.{AxiomAt}
 use Rattle.theory_states.specs.States.{KnownTree, StateTree, visible_in, visible_now}
 use Rattle.sound_states.specs.Sound.{others, IsSoundAmong, IsSoundAxiom}
 use Rattle.cloned_states.specs.Cloning.{KeepsBuilt}
-use Rattle.cloned_states.specs.Steps.{Step, declarations_of, taken_of, made_from, StepFits}
+use Rattle.cloned_states.specs.Steps.{CopyStep, declarations_of, taken_of, made_from, StepFits}
 
 -- the places of the declarations: those that were visible, those of other theories that the clone takes over, and new ones
 pub record AreClonedPlaces (c c' : StateTree) (t : KnownTree) : Type 0 where
@@ -30,7 +30,7 @@ pub record AreClonedPlaces (c c' : StateTree) (t : KnownTree) : Type 0 where
 
 -- over the signature with further entries, of which the first ones are of tuples, a clone by steps under a map, with the goals and
 -- axioms that it makes and the names that it brings
-pub record IsAfterClone (c c' : StateTree) (t : KnownTree) (tuples more : List SymbolTree) (new : List DeclarationTree) (m : Map) (within : List ℕ) (ss : List Step) (axioms : List AxiomAt) (goals : List GoalTree) (link : Link) (last : List ℕ) (alias : Option (List ℕ)) (moves : List Move) : Type 0 where
+pub record IsAfterClone (c c' : StateTree) (t : KnownTree) (tuples more : List SymbolTree) (new : List DeclarationTree) (m : Map) (within : List ℕ) (ss : List CopyStep) (axioms : List AxiomAt) (goals : List GoalTree) (link : Link) (last : List ℕ) (alias : Option (List ℕ)) (moves : List Move) : Type 0 where
   pub trees : Grows c.trees c'.trees
   pub symbols : c'.symbols ≡ (c.symbols ++ tuples) ++ more
   pub decls : c'.decls ≡ c.decls ++ new
@@ -47,7 +47,7 @@ pub record IsAfterClone (c c' : StateTree) (t : KnownTree) (tuples more : List S
   pub taken_are : taken_of ss ≡ others t.path (visible_in c t)
 
 -- the map fits, and what the clone adds is sound after it
-pub record IsSoundClone (c c' : StateTree) (tuples more : List SymbolTree) (m : Map) (within : List ℕ) (ss : List Step) (axioms : List AxiomAt) (goals : List GoalTree) (moves : List Move) : Type 0 where
+pub record IsSoundClone (c c' : StateTree) (tuples more : List SymbolTree) (m : Map) (within : List ℕ) (ss : List CopyStep) (axioms : List AxiomAt) (goals : List GoalTree) (moves : List Move) : Type 0 where
   pub tupled : IsBuiltRight (c.symbols ++ tuples)
   pub built : IsBuiltRight c'.symbols
   pub scoped : All IsScopedEntry c'.symbols

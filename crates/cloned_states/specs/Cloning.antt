@@ -18,7 +18,7 @@ pub record IsImage (w : Vocabulary) (m : Map) (e : SymbolTree) (k : ℕ) (patter
   pub constructor : IsTrue pattern → e.kind ≡ Constructor → IsTrue (w.matched (m.symbols k)) × IsSomeAnd (entry w (m.symbols k)) (λ j. (j.kind ≡ Constructor) × HasMappedTypes m e j)
 
 -- a symbol becomes a new one, which has the copy of its entry, and which no other symbol becomes
-pub record IsNew (xs symbols : List SymbolTree) (m : Map) (theory within : List ℕ) (k : ℕ) : Type 0 where
+pub record BecomesNew (xs symbols : List SymbolTree) (m : Map) (theory within : List ℕ) (k : ℕ) : Type 0 where
   pub kept : m.types k ≡ None
   pub entry : slice_get symbols (m.symbols k) ≡ Some (entry_copied m theory within (symbol_or xs k))
   pub alone : (j : ℕ) → j < length xs → m.symbols j ≡ m.symbols k → j ≡ k

@@ -4,7 +4,7 @@ use Rattle.tasks.specs.Task.{SymbolTree}
 use Rattle.tasks.specs.Vocabulary.{Vocabulary}
 use Rattle.tasks.specs.Valid.{IsTypeIn}
 use Rattle.syntax_why.specs.Lexeme.{Word}
-use Rattle.elab_names.specs.Abstract.{Form}
+use Rattle.elab_names.specs.Abstract.{TypeExpression}
 use Rattle.elab_variables.specs.Seen.{form_seen}
 use Rattle.elab_walk.specs.Pieces.{type_at}
 use Rattle.elab_parts.specs.Elaborated.{unseen}
@@ -13,11 +13,11 @@ use Rattle.elab_parts.specs.Outcomes.{Setting, over}
 use Rattle.valid_tasks.specs.Signature.{with_entries}
 use Rattle.valid_tasks.specs.Scopes.{IsTypedSignature, AreTypedScopes}
 
-abbrev pub with_tuples : Setting → Form → List SymbolTree
+abbrev pub with_tuples : Setting → TypeExpression → List SymbolTree
 with_tuples c f = c.symbols ++ wanting_tuples c.symbols (form_seen unseen f).widths
 
 -- it is a type over that signature, which is typed, as the scopes are over it
-pub record IsTypedRight (base : Vocabulary) (c : Setting) (vars : List Word) (f : Form) : Type 0 where
+pub record IsTypedForm (base : Vocabulary) (c : Setting) (vars : List Word) (f : TypeExpression) : Type 0 where
   pub type : IsTypeIn (with_entries base (with_tuples c f)) (length vars) (type_at (over c.trees (with_tuples c f) c.scope vars) f)
   pub signature : IsTypedSignature base (with_tuples c f)
   pub scopes : AreTypedScopes (with_entries base (with_tuples c f)) c.trees c.scope

@@ -1,4 +1,4 @@
-// The copies of a theory's declarations that a clone makes are valid where they stand, after what is there.
+// The copies of a theory's declarations that a clone makes are valid where they are, after what is there.
 ghost use Rattle.std.specs.Prelude.{◌≡◌, ◌≢◌, ℕ, ◌<◌, false, List, [], ◌∷◌, ◌++◌, map, length, All, AllPairs, Some, None};
 ghost use Rattle.std.specs.List.{Contains};
 ghost use Rattle.std.specs.Str.{bytes_eq};
@@ -12,7 +12,7 @@ ghost use Rattle.tasks.specs.Valid.{IsTypeIn, HasTypes, IsQuoted, IsFormulaOver,
 ghost use Rattle.symbol_maps.specs.Mapped.{Map};
 ghost use Rattle.clones.specs.Copies.{declaration_copied};
 ghost use Rattle.syntax_why.specs.Lexeme.{Word};
-ghost use Rattle.elab_names.specs.Abstract.{Form};
+ghost use Rattle.elab_names.specs.Abstract.{TypeExpression};
 ghost use Rattle.elab_names.specs.Faults.{form_fault};
 ghost use Rattle.elab_parts.specs.Outcomes.{Setting, around};
 ghost use Rattle.elab_walk.specs.Scoped.{IsScopedEntry};
@@ -22,13 +22,13 @@ ghost use Rattle.valid_tasks.specs.Scopes.{NamesNew, IsTypedSignature};
 ghost use Rattle.valid_tasks.specs.Valid.{IsTypedSetting};
 ghost use Rattle.valid_tasks.specs.Lists.{after};
 ghost use Rattle.valid_tasks.specs.Built.{IsBuiltRight};
-ghost use Rattle.valid_tasks.specs.Tasks.{IsOwn, IsOfTheory, AreSound, IsSoundAfter};
+ghost use Rattle.valid_tasks.specs.Tasks.{IsOwnSymbol, IsOfTheory, AreSound, IsSoundAfter};
 ghost use Rattle.tasks.specs.Typing.{IsTypeSymbol};
 ghost use Rattle.sound_states.specs.Morphisms.{HasMappedTypes};
-ghost use Rattle.cloned_states.specs.Steps.{Step, declarations_of, made_from, IsClone};
+ghost use Rattle.cloned_states.specs.Steps.{CopyStep, declarations_of, made_from, IsClone};
 ghost use Rattle.cloned_states.specs.Trials.{AgreeOn};
-ghost use Rattle.cloned_states.specs.Rights.{with_tuples, IsTypedRight};
-ghost use Rattle.cloned_states.specs.Cloning.{IsImage, IsNew, IsFixed, KeepsBuilt, IsCloning, IsMadeRight, AreMadeRight};
+ghost use Rattle.cloned_states.specs.Rights.{with_tuples, IsTypedForm};
+ghost use Rattle.cloned_states.specs.Cloning.{IsImage, BecomesNew, IsFixed, KeepsBuilt, IsCloning, IsMadeRight, AreMadeRight};
 
 /// A law: of sound declarations over a signature the next one, copied under a map by which what was
 /// before became what is sound now, is sound after it, where its symbols become new ones; so is what
@@ -40,7 +40,7 @@ pub fn clones_next()
         (theory within : List ℕ) → IsCloning xs pre m symbols now
         → AreSound xs (pre ++ d ∷ []) → is_empty theory ≡ false
         → bytes_eq theory builtin ≡ false
-        → All (IsNew xs symbols m theory within) (made_by d.body)
+        → All (BecomesNew xs symbols m theory within) (made_by d.body)
         → ((k : ℕ) → Contains (made_by d.body) k → Contains (made now) (m.symbols k) → ⊥)
         → IsCloning xs (pre ++ d ∷ []) m symbols
         (now ++ declaration_copied m theory within d ∷ []) }
@@ -54,7 +54,7 @@ pub fn clones_next()
         (symbols : List SymbolTree) (now : List DeclarationTree) (d : DeclarationTree)
         → IsCloning xs pre m symbols now → AreSound xs (pre ++ d ∷ [])
         → IsValidDecl (after symbols [] (now ++ d ∷ [])) d
-        → All (IsOwn symbols) (made_by d.body) → IsOfTheory symbols d
+        → All (IsOwnSymbol symbols) (made_by d.body) → IsOfTheory symbols d
         → AllPairs (λ (j k : ℕ). j ≢ k) (made_by d.body)
         → ((k : ℕ) → Contains (made now) k → Contains (made_by d.body) k → ⊥)
         → ((k : ℕ) → Contains (made_by d.body) k → IsImage (after symbols [] (now ++ d ∷ [])) m
@@ -103,7 +103,7 @@ pub fn signatures_typed()
         → IsTypedSignature (after symbols [] ds) symbols }
     ensures copied { (xs symbols : List SymbolTree) (m : Map) (theory within : List ℕ)
         (d : DeclarationTree) → ((k : ℕ) → Contains (made_by d.body) k → k < length xs)
-        → All (IsNew xs symbols m theory within) (made_by d.body)
+        → All (BecomesNew xs symbols m theory within) (made_by d.body)
         → All (IsMadeRight xs d) (made_by d.body)
         → AreMadeRight symbols (declaration_copied m theory within d ∷ []) }
     ensures entries { (symbols more : List SymbolTree) (ds : List DeclarationTree)
@@ -129,9 +129,9 @@ pub fn new_goals_sound()
 /// there is a type over the signature with the tuples that are seen in it, if these may be named;
 /// signature and scopes are typed again.
 pub fn rights_typed()
-    ensures { (base : Vocabulary) (c : Setting) (vars : List Word) (f : Form)
+    ensures { (base : Vocabulary) (c : Setting) (vars : List Word) (f : TypeExpression)
         → IsTypedSetting base c → form_fault (around c vars) false f ≡ None
-        → NamesNew base (length c.symbols) (with_tuples c f) → IsTypedRight base c vars f }
+        → NamesNew base (length c.symbols) (with_tuples c f) → IsTypedForm base c vars f }
 {}
 
 /// A law: a symbol whose types become those of another one under a trial map does so under a map that
@@ -148,12 +148,12 @@ pub fn trials_agree()
 /// its theory are there. So it is after the first of them, as where a goal is made.
 pub fn clones_sound()
     ensures sound { (xs more : List SymbolTree) (m : Map) (theory within : List ℕ)
-        (first : List DeclarationTree) (ss : List Step)
+        (first : List DeclarationTree) (ss : List CopyStep)
         → IsClone xs more m theory within first ss
         → IsCloning xs (declarations_of ss) m (xs ++ more)
         (first ++ made_from m theory within first ss) }
     ensures front { (xs more : List SymbolTree) (m : Map) (theory within : List ℕ)
-        (first : List DeclarationTree) (ss us : List Step)
+        (first : List DeclarationTree) (ss us : List CopyStep)
         → IsClone xs more m theory within first (ss ++ us)
         → IsClone xs more m theory within first ss }
 {}

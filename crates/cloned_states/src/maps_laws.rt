@@ -17,7 +17,7 @@ ghost use Rattle.clone_elements.specs.Rights.{rights_tuples, rights_fault};
 ghost use Rattle.clone_elements.specs.Plans.{clone_map};
 ghost use Rattle.sound_states.specs.Morphisms.{MapsTypes};
 ghost use Rattle.cloned_states.specs.Placed.{ArePlaced};
-ghost use Rattle.cloned_states.specs.Sides.{IsTypedSide, with_rights, sides_at, copies_made, with_copies};
+ghost use Rattle.cloned_states.specs.Sides.{IsTypedSide, with_rights, left_sides_at, copies_made, with_copies};
 
 /// A law: over a typed signature and typed scopes, where the right sides of elements have no fault of
 /// names, the types on them are types over the signature with the tuples that are seen in them, over
@@ -26,7 +26,7 @@ pub fn sides_typed()
     ensures typed { (c : Setting) (t : Origin) (es : List Element)
         → IsTypedSetting (of_signature c.symbols) c
         → rights_fault c.trees c.symbols c.scope es ≡ None
-        → All (IsTypedSide (of_signature (with_rights c es).symbols)) (sides_at c t es) }
+        → All (IsTypedSide (of_signature (with_rights c es).symbols)) (left_sides_at c t es) }
     ensures setting { (c : Setting) (es : List Element)
         → IsTypedSetting (of_signature c.symbols) c
         → rights_fault c.trees c.symbols c.scope es ≡ None
@@ -43,7 +43,7 @@ pub fn types_mapped()
         → rights_fault c.trees c.symbols c.scope es ≡ None → is_empty theory ≡ false
         → MapsTypes (of_signature (with_rights c es).symbols)
         (of_signature (with_copies c t es theory within))
-        (clone_map (with_rights c es).symbols t (sides_at c t es)) }
+        (clone_map (with_rights c es).symbols t (left_sides_at c t es)) }
 {}
 
 /// A law: where an entry without a theory is that of a type variable, each entry of the copies is typed,

@@ -13,7 +13,7 @@ ghost use Rattle.cloned_states.specs.Steps.{made_from};
 ghost use Rattle.cloned_states.specs.Cloned.{AreClonedPlaces};
 ghost use Rattle.clone_copies.specs.Moves.{AreMovesMapped};
 ghost use Rattle.cloned_states.specs.Moves.{IsPlainMove};
-ghost use Rattle.cloned_states.specs.PlaceSteps.{steps_at};
+ghost use Rattle.cloned_states.specs.PlaceSteps.{copy_steps_at};
 
 /// A law: where each theory's declarations are whole among the visible ones, those that are visible after
 /// the places of a theory were cloned are these and what the steps make: own declarations that are
@@ -25,7 +25,7 @@ pub fn places_made()
         → AllPairs (λ (j k : ℕ). j ≢ k) c.opened.visible
         → All (λ (k : ℕ). k < length c.decls) ks → AllPairs (λ (j k : ℕ). j ≢ k) ks
         → visible_now (with_places x ks c) ≡ visible_now c
-        ++ made_from x.mapping c.opened.path x.within (visible_now c) (steps_at x c.decls ks) }
+        ++ made_from x.mapping c.opened.path x.within (visible_now c) (copy_steps_at x c.decls ks) }
     ensures places { (x : Copying) (c : StateTree) (t : KnownTree) → x.path ≡ t.path
         → IsWhole c.decls c.opened.visible
         → All (λ (k : ℕ). k < length c.decls) c.opened.visible
@@ -35,7 +35,7 @@ pub fn places_made()
         → AreClonedPlaces c (with_places x t.visible c) t }
 {}
 
-/// A law: the names that a theory hands on stand for things of their tables after a clone, over the store
+/// A law: the names that a theory passes on stand for things of their tables after a clone, over the store
 /// in which they are mapped, where the map takes what one vocabulary may name to what another one may
 /// name, and no alias is a name of symbols.
 pub fn moves_become()

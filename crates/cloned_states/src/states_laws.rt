@@ -12,14 +12,14 @@ ghost use Rattle.goal_tasks.specs.Theories.{GoalTree};
 ghost use Rattle.theory_states.specs.declared.states.AxiomAt.{AxiomAt};
 ghost use Rattle.theory_states.specs.States.{KnownTree, StateTree};
 ghost use Rattle.sound_states.specs.Sound.{IsSoundState};
-ghost use Rattle.cloned_states.specs.Steps.{Step};
+ghost use Rattle.cloned_states.specs.Steps.{CopyStep};
 ghost use Rattle.cloned_states.specs.Cloned.{IsAfterClone, IsSoundClone};
 
 /// A law: a sound state stays so where a theory before it is cloned by steps under a map that fits them,
 /// with goals, axioms and names that are sound after what the clone leaves.
 pub fn clones_stay()
     ensures { (c next : StateTree) (t : KnownTree) (tuples more : List SymbolTree)
-        (new : List DeclarationTree) (m : Map) (within : List ℕ) (ss : List Step)
+        (new : List DeclarationTree) (m : Map) (within : List ℕ) (ss : List CopyStep)
         (axioms : List AxiomAt) (goals : List GoalTree) (link : Link) (last : List ℕ)
         (alias : Option (List ℕ)) (moves : List Move) → IsSoundState c → Contains c.known t
         → IsAfterClone c next t tuples more new m within ss axioms goals link last alias moves

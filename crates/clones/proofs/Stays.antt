@@ -7,7 +7,7 @@ use Rattle.tasks.specs.declared.declaration.Def.{Def}
 use Rattle.tasks.specs.declared.declaration.Ind.{Ind}
 use Rattle.tasks.specs.declared.declaration.Con.{Con}
 use Rattle.tasks.specs.declared.declaration.Alg.{Alg}
-use Rattle.tasks.specs.Task.{DefinitionTree, InductiveTree, ConTree, AlgebraicTree}
+use Rattle.tasks.specs.Task.{DefinitionTree, InductiveTree, ConstructorTree, AlgebraicTree}
 use Rattle.tasks.specs.Meaning.{definition_at, inductive_at, con_at, algebraic_at, InductiveHeld, ConHeld, AlgebraicHeld}
 use Rattle.tasks.proofs.Growth.{map_agree, trees_later, all_held_later}
 use Rattle.clones.specs.Copies.{DefHeld}
@@ -32,14 +32,14 @@ module _ (s t : List Tree) (w : Grows s t) where
   ind_held i h = record { clauses = all_held_later s t w i.clauses h.clauses }
 
   pub con_stays : (c : Con) → ConHeld s c → con_at t c ≡ con_at s c
-  con_stays c h = let mk : List Tree → ConTree = λ fs. record { symbol = c.symbol; fields = fs; projections = c.projections } in ap mk (trees_later s t w c.fields h.fields)
+  con_stays c h = let mk : List Tree → ConstructorTree = λ fs. record { symbol = c.symbol; fields = fs; projections = c.projections } in ap mk (trees_later s t w c.fields h.fields)
 
   pub con_held : (c : Con) → ConHeld s c → ConHeld t c
   con_held c h = record { fields = all_held_later s t w c.fields h.fields }
 
   pub alg_stays : (a : Alg) → AlgebraicHeld s a → algebraic_at t a ≡ algebraic_at s a
   alg_stays a h =
-      let mk : List ConTree → AlgebraicTree = λ cs. record { symbol = a.symbol; cons = cs } in
+      let mk : List ConstructorTree → AlgebraicTree = λ cs. record { symbol = a.symbol; cons = cs } in
       ap mk (map_agree (con_at t) (con_at s) a.cons (λ k d l. con_stays (get_or a.cons k d) (h.cons k d l)))
 
   pub alg_held : (a : Alg) → AlgebraicHeld s a → AlgebraicHeld t a

@@ -5,7 +5,7 @@ use Rattle.std.specs.Option.{option_map}
 use Rattle.trees.specs.Tree.{Tree}
 use Rattle.trees.specs.Node.{Holds}
 use Rattle.tasks.specs.declared.declaration.Def.{Def}
-use Rattle.tasks.specs.Task.{SymbolTree, DefinitionTree, InductiveTree, ConTree, AlgebraicTree, BodyTree, MakesType, Makes, Defines, Induces, Constructs, Says, DeclarationTree}
+use Rattle.tasks.specs.Task.{SymbolTree, DefinitionTree, InductiveTree, ConstructorTree, AlgebraicTree, BodyTree, MakesType, Makes, Defines, Induces, Constructs, Says, DeclarationTree}
 use Rattle.symbol_maps.specs.Mapped.{Map, mapped}
 
 abbrev pub definition_mapped : Map → DefinitionTree → DefinitionTree
@@ -14,7 +14,7 @@ definition_mapped m d = record { symbol = m.symbols d.symbol; equation = mapped 
 abbrev pub inductive_mapped : Map → InductiveTree → InductiveTree
 inductive_mapped m i = record { symbol = m.symbols i.symbol; clauses = map (mapped m) i.clauses }
 
-abbrev pub con_mapped : Map → ConTree → ConTree
+abbrev pub con_mapped : Map → ConstructorTree → ConstructorTree
 con_mapped m c = record { symbol = m.symbols c.symbol; fields = map (mapped m) c.fields; projections = map m.symbols c.projections }
 
 abbrev pub algebraic_mapped : Map → AlgebraicTree → AlgebraicTree
@@ -28,7 +28,7 @@ body_mapped m (Induces is) = Induces (map (inductive_mapped m) is)
 body_mapped m (Constructs ts) = Constructs (map (algebraic_mapped m) ts)
 body_mapped m (Says a) = Says (mapped m a)
 
--- the scopes of the copy stand before the name
+-- the scopes of the copy are before the name
 abbrev pub declaration_copied : Map → List ℕ → List ℕ → DeclarationTree → DeclarationTree
 declaration_copied m theory within d = record { theory = theory; name = within ++ d.name; vars = d.vars; body = body_mapped m d.body }
 

@@ -300,7 +300,7 @@ fn name_within(alloc: Global, within: &[u8], name: &Text) -> Result<Text, AllocE
     Ok(Text::from_vec(bytes))
 }
 
-/// A copy of a declaration in a theory, whose name stands after the names of its scopes, each followed by a dot. Only want of memory
+/// A copy of a declaration in a theory, whose name is after the names of its scopes, each followed by a dot. Only want of memory
 /// refuses.
 pub fn copy_decl(
     alloc: Global,
@@ -358,7 +358,7 @@ fn map_result(
     }
 }
 
-/// A copy of a symbol's entry in a theory, whose name stands after the names of its scopes, each followed by a dot. Only want of
+/// A copy of a symbol's entry in a theory, whose name is after the names of its scopes, each followed by a dot. Only want of
 /// memory refuses.
 pub fn copy_entry(
     alloc: Global,

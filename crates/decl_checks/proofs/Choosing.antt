@@ -3,7 +3,7 @@ use Rattle.std.proofs.Common.{◌≡◌, ℕ, zero, suc, ◌+◌, ◌*◌, ◌/�
 use Rattle.std.proofs.lemmas.Nat.{mod-mul-add, div-mul-add, mul-add-lt}
 use Rattle.std.proofs.Math.Nat.{le-mul_of_pos_right, mul_comm}
 use Rattle.tasks.specs.Task.{SymbolTree, DefinitionTree}
-use Rattle.decl_checks.specs.Structure.{arity, AllPass, IsStructural, choices, choice_of, PassesAt}
+use Rattle.decl_checks.specs.Structure.{symbol_arity, AllPass, IsStructural, choices, choice_of, PassesAt}
 
 -- ---- the number of a choice
 -- a number below the count that has this choice
@@ -24,7 +24,7 @@ numbered symbols chosen [] (m ∷ ms) h = absurd h
 numbered symbols chosen (d ∷ ds) [] h = absurd h
 numbered symbols chosen (d ∷ ds) (m ∷ ms) h =
     let rest = numbered symbols chosen ds ms h.1 in
-    let a = arity symbols d.symbol in
+    let a = symbol_arity symbols d.symbol in
     record {
       number = rest.number * a + m.1;
       below = (let l = mul-add-lt rest.number a m.1 (choices symbols ds) rest.below h.0.1 in l);

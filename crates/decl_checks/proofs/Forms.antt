@@ -1,4 +1,4 @@
--- A clause with its form, in which the group stands where it may, is a clause as a valid task has it.
+-- A clause with its form, in which the group is where it may, is a clause as a valid task has it.
 use Rattle.std.proofs.Common.{ℕ, List}
 use Rattle.trees.specs.Tree.{Tree, Two, HPred, HJoin, HForall, HExists}
 use Rattle.trees.specs.declared.Op.TheVariants.{And, AndThen, Or, OrElse, Imp}

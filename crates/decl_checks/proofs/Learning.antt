@@ -7,7 +7,7 @@ use Rattle.tasks.specs.Meaning.{symbol_at, symbols_at}
 use Rattle.tasks.specs.declared.signature.SymbolInfo.{SymbolInfo}
 use Rattle.decl_checks.specs.declared.standing.Standing.{Standing}
 use Rattle.decl_checks.specs.declared.standing.Standing.TheVariants.{Other}
-use Rattle.decl_checks.specs.Structure.{bound_index, standing_by, standing, through, is_tuple, components, parts_bound, bound_to, stands}
+use Rattle.decl_checks.specs.Structure.{bound_index, standing_by, standing, through, is_tuple_constructor, components, parts_bound, bound_to, stands}
 
 -- ---- an entry that isn't there
 pub absent : (s : List Tree) (is : List SymbolInfo) (k : ℕ) → slice_get is k ≡ None → symbol_or (symbols_at s is) k ≡ int_symbol
@@ -43,14 +43,14 @@ left_out_too true false x p = refl
 left_out_too false b x p = refl
 
 module _ (symbols : List SymbolTree) (c f : ℕ) (types args type : Tree) where
-  pub tuple_args : f ≡ c → is_tuple (symbol_or symbols f) ≡ true → components symbols false c (Three (HFun f) types args type) ≡ Some args
-  tuple_args e t = chosen (f == c) (is_tuple (symbol_or symbols f)) args (same_number f c e) t
+  pub tuple_args : f ≡ c → is_tuple_constructor (symbol_or symbols f) ≡ true → components symbols false c (Three (HFun f) types args type) ≡ Some args
+  tuple_args e t = chosen (f == c) (is_tuple_constructor (symbol_or symbols f)) args (same_number f c e) t
 
   pub other_constructor : (f ≡ c → ⊥) → components symbols false c (Three (HFun f) types args type) ≡ None
-  other_constructor n = left_out (f == c) (is_tuple (symbol_or symbols f)) args (other_number f c n)
+  other_constructor n = left_out (f == c) (is_tuple_constructor (symbol_or symbols f)) args (other_number f c n)
 
-  pub not_tuple : is_tuple (symbol_or symbols f) ≡ false → components symbols false c (Three (HFun f) types args type) ≡ None
-  not_tuple t = left_out_too (f == c) (is_tuple (symbol_or symbols f)) args t
+  pub not_tuple : is_tuple_constructor (symbol_or symbols f) ≡ false → components symbols false c (Three (HFun f) types args type) ≡ None
+  not_tuple t = left_out_too (f == c) (is_tuple_constructor (symbol_or symbols f)) args t
 
 pub none_inside : (symbols : List SymbolTree) (c : ℕ) (e : Tree) → components symbols true c e ≡ None
 none_inside symbols c e = refl

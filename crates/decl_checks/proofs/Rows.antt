@@ -24,11 +24,11 @@ bound i = One (HBound i) int_type
 other-row : HasClauseForm (1 ∷ []) 1 0 (Leaf HEnd) (predicate 2 []) → ⊥
 other-row h = let e : 2 ≡ 1 = h.conclusion.0 in omega (arith, e)
 
--- `inductive p = c: not p -> p` has the form, but p stands under a negation
+-- `inductive p = c: not p -> p` has the form, but p is under a negation
 negated-row : IsPositiveClause (1 ∷ []) (implies (One HNot (predicate 1 [])) (predicate 1 [])) → ⊥
 negated-row h = h.0.0 (0, omega arith, refl)
 
--- the variables of `Cons y r` stand inside what is matched, that of `z` stands as it does
+-- the variables of `Cons y r` are inside what is matched, that of `z` stands as it does
 cons-row : learned [] (Whole ∷ []) (bound 0) (Three (HPatCon 3) (Leaf HEnd) (cells (One HPatVar int_type ∷ One HPatVar int_type ∷ [])) int_type) ≡ Inside ∷ Inside ∷ []
 cons-row = refl
 

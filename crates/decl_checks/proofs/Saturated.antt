@@ -2,7 +2,7 @@
 use Rattle.std.proofs.Common.{◌≡◌, ◌↔◌, inl, inr, ℕ, ◌+◌, ◌<◌, ◌≤◌, Bool, true, false, IsTrue, List, [], ◌∷◌, ◌++◌, All, Contains, refl, sym, subst, arith}
 use Rattle.std.proofs.lemmas.List.Elements.{All-push, All-contains, Contains-append_left, Contains-push}
 use Rattle.trees.specs.Tree.{Tree, One, HTyApp}
-use Rattle.tasks.specs.Task.{ConTree, AlgebraicTree}
+use Rattle.tasks.specs.Task.{ConstructorTree, AlgebraicTree}
 use Rattle.tasks.proofs.Declared.{any_iff}
 use Rattle.decl_checks.specs.Values.{type_symbols, HasValue, HaveValues, SomeHasValues, IsClosedOver, IsClosed, AreInhabited, is_member, NextValued}
 
@@ -16,7 +16,7 @@ module _ (group : List ℕ) (small large : ℕ → Bool) (within : (k : ℕ) →
   values_more [] h = tt
   values_more (t ∷ ts) h = (value_more t h.0, values_more ts h.1)
 
-  some_more : (cs : List ConTree) → SomeHasValues group small cs → SomeHasValues group large cs
+  some_more : (cs : List ConstructorTree) → SomeHasValues group small cs → SomeHasValues group large cs
   some_more [] h = h
   some_more (c ∷ cs) (inl h) = inl (values_more c.fields h)
   some_more (c ∷ cs) (inr h) = inr (some_more cs h)

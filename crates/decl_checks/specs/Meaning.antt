@@ -10,15 +10,15 @@ use Rattle.decl_checks.specs.declared.standing.Standing.TheVariants.{Other}
 use Rattle.decl_checks.specs.declared.standing.Known.{Known, Parameters, Plain', Matched'}
 use Rattle.decl_checks.specs.declared.standing.BoundTo.{BoundTo}
 use Rattle.decl_checks.specs.declared.standing.BoundTo.TheVariants.{Found, Past}
-use Rattle.decl_checks.specs.Structure.{learned, parameters}
+use Rattle.decl_checks.specs.Structure.{learned, parameter_standings}
 use Rattle.decl_checks.specs.Checks.{OwnClause, ClauseHasForm, ClauseIsPositive}
 
 -- a clause with its predicate
 abbrev pub clause_at : List Tree → ℕ × TermId → OwnClause
 clause_at s q = record { predicate = q.0; formula = tree_at s q.1 }
 
-abbrev pub clauses_at : List Tree → List (ℕ × TermId) → List OwnClause
-clauses_at s qs = map (clause_at s) qs
+abbrev pub own_clauses_at : List Tree → List (ℕ × TermId) → List OwnClause
+own_clauses_at s qs = map (clause_at s) qs
 
 abbrev pub ClausesHeld : List Tree → List (ℕ × TermId) → Type 0
 ClausesHeld s qs = All (λ (q : ℕ × TermId). Holds s q.1) qs
@@ -32,15 +32,15 @@ abbrev pub DefinitionHeld : List Tree → Def → Type 0
 DefinitionHeld s d = Holds s d.equation
 
 -- how the variables around a tree stand, innermost first
-abbrev pub known_at : List SymbolTree → List Tree → Known → List Standing
-known_at symbols s (Parameters count place) = parameters count place
-known_at symbols s (Plain' p outer) = Other ∷ known_at symbols s outer
-known_at symbols s (Matched' e pattern p outer) = learned symbols (known_at symbols s outer) (tree_at s e) (tree_at s pattern) ++ known_at symbols s outer
+abbrev pub standings_at : List SymbolTree → List Tree → Known → List Standing
+standings_at symbols s (Parameters count place) = parameter_standings count place
+standings_at symbols s (Plain' p outer) = Other ∷ standings_at symbols s outer
+standings_at symbols s (Matched' e pattern p outer) = learned symbols (standings_at symbols s outer) (tree_at s e) (tree_at s pattern) ++ standings_at symbols s outer
 
-abbrev pub KnownHeld : List Tree → Known → Type 0
-KnownHeld s (Parameters count place) = Unit {0}
-KnownHeld s (Plain' p outer) = KnownHeld s outer
-KnownHeld s (Matched' e pattern p outer) = Holds s e × Holds s pattern × KnownHeld s outer
+abbrev pub StandingsHeld : List Tree → Known → Type 0
+StandingsHeld s (Parameters count place) = Unit {0}
+StandingsHeld s (Plain' p outer) = StandingsHeld s outer
+StandingsHeld s (Matched' e pattern p outer) = Holds s e × Holds s pattern × StandingsHeld s outer
 
 -- what a variable is bound to at a place of such a list, or how far the place is past its end
 abbrev pub IsBoundAt : List Tree → List (Bool × Tree) → ℕ → BoundTo → Type 0

@@ -11,6 +11,7 @@ use Rattle.tasks.specs.Task.{SymbolTree, symbol_or, DefinitionTree}
 use Rattle.tasks.specs.Typing.{members}
 use Rattle.decl_checks.specs.declared.standing.Standing.{Standing}
 use Rattle.decl_checks.specs.declared.standing.Standing.TheVariants.{Other, Whole, Inside}
+pub use Rattle.tasks.specs.Vocabulary.{is_constructor_kind}
 
 -- a variable by the number of binders between it and its own
 abbrev pub bound_index : Tree → Option ℕ
@@ -31,26 +32,22 @@ through true Other = Other
 through true _ = Inside
 through false s = s
 
-abbrev pub is_constructor_kind : SymbolKind → Bool
-is_constructor_kind Constructor = true
-is_constructor_kind _ = false
-
 -- a constructor of tuples
-abbrev pub is_tuple : SymbolTree → Bool
-is_tuple e = is_constructor_kind e.kind && bytes_eq e.theory (codes "BuiltIn")
+abbrev pub is_tuple_constructor : SymbolTree → Bool
+is_tuple_constructor e = is_constructor_kind e.kind && bytes_eq e.theory (codes "BuiltIn")
 
 -- the list of the members of a tuple of this constructor that is written out; none inside a term
 abbrev pub components : List SymbolTree → Bool → ℕ → Tree → Option Tree
-components symbols false c (Three (HFun f) types args type) = if (f == c) && is_tuple (symbol_or symbols f) then Some args else None
+components symbols false c (Three (HFun f) types args type) = if (f == c) && is_tuple_constructor (symbol_or symbols f) then Some args else None
 components symbols _ c _ = None
 
-abbrev pub first_member : Tree → Tree
-first_member (Two HCell a b) = a
-first_member e = e
+abbrev pub list_head : Tree → Tree
+list_head (Two HCell a b) = a
+list_head e = e
 
-abbrev pub other_members : Tree → Tree
-other_members (Two HCell a b) = b
-other_members e = e
+abbrev pub list_tail : Tree → Tree
+list_tail (Two HCell a b) = b
+list_tail e = e
 
 abbrev pub one_bound : Head → Bool × Tree → List (Bool × Tree) → List (Bool × Tree)
 one_bound HPatVar s inner = s ∷ []
@@ -75,7 +72,7 @@ three_bound _ by_constructor = []
 abbrev pub bound_to : List SymbolTree → Bool → Tree → Tree → List (Bool × Tree)
 bound_to symbols inside e (Leaf h) = []
 bound_to symbols inside e (One h p) = one_bound h (inside, e) (bound_to symbols inside e p)
-bound_to symbols inside e (Two h p ps) = two_bound h (bound_to symbols inside (other_members e) ps) (bound_to symbols inside (first_member e) p)
+bound_to symbols inside e (Two h p ps) = two_bound h (bound_to symbols inside (list_tail e) ps) (bound_to symbols inside (list_head e) p)
 bound_to symbols inside e (Three h types parts type) =
     three_bound h (λ c. parts_bound (components symbols inside c e) (λ under t. bound_to symbols under t parts) e)
 
@@ -86,7 +83,7 @@ stands known q = through q.0 (standing known q.1)
 abbrev pub learned : List SymbolTree → List Standing → Tree → Tree → List Standing
 learned symbols known e p = map (stands known) (bound_to symbols false e p)
 
--- the argument at a place of a list stands strictly inside
+-- the argument at a place of a list is strictly inside
 abbrev pub PassesInside : List Standing → Tree → ℕ → Type 0
 PassesInside known args place = IsSomeAnd (slice_get (members args) place) (λ e. standing known e ≡ Inside)
 
@@ -115,19 +112,19 @@ matched_in e HCase a = a
 matched_in e _ a = e
 
 -- each use of a member in a tree passes something inside at the member's place
-abbrev pub Passes : List SymbolTree → List (ℕ × ℕ) → List Standing → Tree → Tree → Type 0
-Passes symbols chosen known e (Leaf h) = Unit {0}
-Passes symbols chosen known e (One h a) = Passes symbols chosen known e a
-Passes symbols chosen known e (Two h a b) =
-    TopPasses chosen known (Two h a b) × Passes symbols chosen known e a
-    × Passes symbols chosen (bound_standings symbols known e h a ++ known) (matched_in e h a) b
-Passes symbols chosen known e (Three h a b c) =
-    TopPasses chosen known (Three h a b c) × Passes symbols chosen known e a × Passes symbols chosen known e b × Passes symbols chosen known e c
+abbrev pub UsesPassInside : List SymbolTree → List (ℕ × ℕ) → List Standing → Tree → Tree → Type 0
+UsesPassInside symbols chosen known e (Leaf h) = Unit {0}
+UsesPassInside symbols chosen known e (One h a) = UsesPassInside symbols chosen known e a
+UsesPassInside symbols chosen known e (Two h a b) =
+    TopPasses chosen known (Two h a b) × UsesPassInside symbols chosen known e a
+    × UsesPassInside symbols chosen (bound_standings symbols known e h a ++ known) (matched_in e h a) b
+UsesPassInside symbols chosen known e (Three h a b c) =
+    TopPasses chosen known (Three h a b c) × UsesPassInside symbols chosen known e a × UsesPassInside symbols chosen known e b × UsesPassInside symbols chosen known e c
 
 -- the parameters of a definition, of which one is the argument, the last one first
-abbrev pub parameters : ℕ → ℕ → List Standing
-parameters zero place = []
-parameters (suc n) place = (if n == place then Whole else Other) ∷ parameters n place
+abbrev pub parameter_standings : ℕ → ℕ → List Standing
+parameter_standings zero place = []
+parameter_standings (suc n) place = (if n == place then Whole else Other) ∷ parameter_standings n place
 
 -- the body of an equation
 abbrev pub defining_body : Tree → Tree
@@ -137,14 +134,14 @@ defining_body (Two (HJoin Iff) a b) = b
 defining_body e = e
 
 -- the number of arguments of a symbol
-abbrev pub arity : List SymbolTree → ℕ → ℕ
-arity symbols k = length (symbol_or symbols k).args
+abbrev pub symbol_arity : List SymbolTree → ℕ → ℕ
+symbol_arity symbols k = length (symbol_or symbols k).args
 
 -- A definition has this member, with the place of one of its arguments, and its body passes: the argument is the same one for each use.
 abbrev pub OnePasses : List SymbolTree → List (ℕ × ℕ) → DefinitionTree → ℕ × ℕ → Type 0
 OnePasses symbols chosen d m =
-    (m.0 ≡ d.symbol) × (m.1 < arity symbols d.symbol)
-    × Passes symbols chosen (parameters (arity symbols d.symbol) m.1) (defining_body d.equation) (defining_body d.equation)
+    (m.0 ≡ d.symbol) × (m.1 < symbol_arity symbols d.symbol)
+    × UsesPassInside symbols chosen (parameter_standings (symbol_arity symbols d.symbol) m.1) (defining_body d.equation) (defining_body d.equation)
 
 -- so does each
 abbrev pub AllPass : List SymbolTree → List (ℕ × ℕ) → List DefinitionTree → List (ℕ × ℕ) → Type 0
@@ -184,12 +181,12 @@ IsRecursive ds = SomeUses (defined ds) ds
 -- how many choices of places there are
 abbrev pub choices : List SymbolTree → List DefinitionTree → ℕ
 choices symbols [] = 1
-choices symbols (d ∷ ds) = arity symbols d.symbol * choices symbols ds
+choices symbols (d ∷ ds) = symbol_arity symbols d.symbol * choices symbols ds
 
 -- the choice of a number below that, by its digits
 abbrev pub choice_of : List SymbolTree → List DefinitionTree → ℕ → List (ℕ × ℕ)
 choice_of symbols [] n = []
-choice_of symbols (d ∷ ds) n = (d.symbol, n % arity symbols d.symbol) ∷ choice_of symbols ds (n / arity symbols d.symbol)
+choice_of symbols (d ∷ ds) n = (d.symbol, n % symbol_arity symbols d.symbol) ∷ choice_of symbols ds (n / symbol_arity symbols d.symbol)
 
 -- the choice of a number passes
 abbrev pub PassesAt : List SymbolTree → List DefinitionTree → ℕ → Type 0

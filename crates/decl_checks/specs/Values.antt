@@ -3,7 +3,7 @@
 use Rattle.std.specs.Prelude.{◌≡◌, ℕ, ◌==◌, Bool, IsTrue, List, [], ◌∷◌, map, All, Contains, ◌⊎◌}
 use Rattle.std.specs.List.{list_any}
 use Rattle.trees.specs.Tree.{Tree, One, HTyApp}
-use Rattle.tasks.specs.Task.{ConTree, AlgebraicTree}
+use Rattle.tasks.specs.Task.{ConstructorTree, AlgebraicTree}
 
 abbrev pub type_symbols : List AlgebraicTree → List ℕ
 type_symbols ts = map (λ (a : AlgebraicTree). a.symbol) ts
@@ -18,7 +18,7 @@ HaveValues group set [] = Unit {0}
 HaveValues group set (t ∷ ts) = HasValue group set t × HaveValues group set ts
 
 -- the fields of some constructor all have one
-abbrev pub SomeHasValues : List ℕ → (ℕ → Bool) → List ConTree → Type 0
+abbrev pub SomeHasValues : List ℕ → (ℕ → Bool) → List ConstructorTree → Type 0
 SomeHasValues group set [] = ⊥
 SomeHasValues group set (c ∷ cs) = HaveValues group set c.fields ⊎ SomeHasValues group set cs
 

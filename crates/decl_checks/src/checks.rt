@@ -1,12 +1,12 @@
 // The checks of a declaration: the clauses of inductive predicates, recursive definitions, values of algebraic types.
-// They stand on clauses, structure and values; the theories of a source stand on them.
+// They depend on clauses, structure and values; the theories of a source depend on them.
 ghost use Rattle.std.specs.Prelude.{◌≡◌, ◌↔◌, ◌++◌, IsTrue, IsOk, All, MatchOption, OnOk};
 ghost use Rattle.trees.specs.Node.{Holds};
 ghost use Rattle.tasks.specs.Task.{symbol_or};
 ghost use Rattle.tasks.specs.Task.{Defines, Induces, Constructs};
 ghost use Rattle.tasks.specs.Meaning.{trees_at, symbols_at, definitions_at, inductives_at, algebraics_at, body_at, InductiveHeld, AlgebraicHeld, DeclHeld};
 ghost use Rattle.decl_checks.specs.Checks.{own_clauses, all_clauses, group_of, IsFirstWithout, HasNoFault, HasFault, TakesMemory, IsAnswerTo, HasMemory, ClausesAnswer};
-ghost use Rattle.decl_checks.specs.Meaning.{clause_at, clauses_at, ClausesHeld, PassesAs, DefinitionHeld};
+ghost use Rattle.decl_checks.specs.Meaning.{clause_at, own_clauses_at, ClausesHeld, PassesAs, DefinitionHeld};
 
 use crate::CheckFault;
 use crate::clauses::{has_form, is_positive_clause};
@@ -20,7 +20,7 @@ use trees::TermId;
 /// The greatest number of choices of arguments that a recursive group may have.
 const CHOICES: usize = 4096;
 
-// The clauses of a predicate, each with it, behind others.
+// The clauses of a predicate, each with it, after others.
 fn push_own(
     store: &Store,
     symbol: usize,
@@ -29,8 +29,8 @@ fn push_own(
 ) -> Result<(), AllocError>
     requires held { All (Holds store.now) clauses.now }
     requires out_held { ClausesHeld store.now out.old.items }
-    ensures tree { OnOk result (clauses_at store.now out.new.items
-        ≡ clauses_at store.now out.old.items
+    ensures tree { OnOk result (own_clauses_at store.now out.new.items
+        ≡ own_clauses_at store.now out.old.items
         ++ own_clauses symbol (trees_at store.now clauses.now)) }
     ensures held { OnOk result (ClausesHeld store.now out.new.items) }
 {
@@ -43,7 +43,7 @@ fn push_own(
     }
 }
 
-// The clauses of predicates, behind others.
+// The clauses of predicates, after others.
 fn push_all(
     store: &Store,
     inductives: &[Ind],
@@ -51,8 +51,8 @@ fn push_all(
 ) -> Result<(), AllocError>
     requires held { All (InductiveHeld store.now) inductives.now }
     requires out_held { ClausesHeld store.now out.old.items }
-    ensures tree { OnOk result (clauses_at store.now out.new.items
-        ≡ clauses_at store.now out.old.items
+    ensures tree { OnOk result (own_clauses_at store.now out.new.items
+        ≡ own_clauses_at store.now out.old.items
         ++ all_clauses (inductives_at store.now inductives.now)) }
     ensures held { OnOk result (ClausesHeld store.now out.new.items) }
 {
@@ -76,7 +76,7 @@ fn vars_of(store: &Store, sig: &Signature, symbol: usize) -> usize
     }
 }
 
-// Whether a clause of a predicate passes: its form, or where the group stands in it.
+// Whether a clause of a predicate passes: its form, or where the group is in it.
 fn passes(
     store: &Store,
     sig: &Signature,
@@ -107,9 +107,9 @@ fn first_without(
     requires { ClausesHeld store.now clauses.now }
     ensures { MatchOption result
         (All (PassesAs (symbols_at store.now sig.now.symbols) group.now positive)
-        (clauses_at store.now clauses.now))
+        (own_clauses_at store.now clauses.now))
         (IsFirstWithout (PassesAs (symbols_at store.now sig.now.symbols) group.now positive)
-        (clauses_at store.now clauses.now)) }
+        (own_clauses_at store.now clauses.now)) }
 {
     match clauses.split_first() {
         Some((first, rest)) => {
@@ -129,7 +129,7 @@ fn first_without(
     }
 }
 
-// The symbols of predicates, behind others.
+// The symbols of predicates, after others.
 fn push_group(store: &Store, inductives: &[Ind], out: &mut Vec<usize>) -> Result<(), AllocError>
     ensures { OnOk result (out.new.items
         ≡ out.old.items ++ group_of (inductives_at store.now inductives.now)) }
@@ -152,7 +152,7 @@ fn check_listed(
 ) -> Result<(), CheckFault>
     requires { ClausesHeld store.now clauses.now }
     ensures { ClausesAnswer (symbols_at store.now sig.now.symbols) group.now
-        (clauses_at store.now clauses.now) result }
+        (own_clauses_at store.now clauses.now) result }
 {
     if let Some(clause) = first_without(store, sig, group, false, clauses) {
         return Err(CheckFault::BadClause { clause });
@@ -240,7 +240,7 @@ fn check_body(alloc: Global, store: &Store, sig: &Signature, decl: &Decl) -> Res
 }
 
 /// The first thing that is wrong with a declaration. Inductive predicates: the first clause without its form, then the first in
-/// which the group stands where it may not. Recursive definitions: too many choices of arguments, then none that is structural.
+/// which the group is where it may not. Recursive definitions: too many choices of arguments, then none that is structural.
 /// Algebraic types: one without a finite value. Nothing is wrong with any other declaration. Want of memory comes only where
 /// memory is taken: for inductive predicates, recursive definitions that aren't too wide, and algebraic types.
 pub fn check_decl(

@@ -1,5 +1,5 @@
 // The clauses of inductive predicates: their form, and where the predicates of their group stand.
-// They stand on the store; the checks of declarations stand on them.
+// They depend on the store; the checks of declarations depend on them.
 ghost use Rattle.std.specs.Prelude.{◌≡◌, ◌↔◌, IsTrue, Contains, length};
 ghost use Rattle.trees.specs.Node.{tree_at, node_tree, head_of_node, parts_of, Holds, AreBelow};
 ghost use Rattle.trees.specs.Facts.{leaf_below, TyVarsBelow};
@@ -47,7 +47,7 @@ fn are_below(store: &Store, vars: usize, e: TermId) -> bool
     }
 }
 
-// Whether a predicate of a group at the top of a tree stands at so many type variables, in order.
+// Whether a predicate of a group at the top of a tree is at so many type variables, in order.
 fn top_stands(store: &Store, group: &[usize], vars: usize, node: Node) -> bool
     requires { AreBelow (length store.now) (parts_of node) }
     ensures { IsTrue result
@@ -62,7 +62,7 @@ fn top_stands(store: &Store, group: &[usize], vars: usize, node: Node) -> bool
     are_own_variables(store, a, vars)
 }
 
-// Whether each predicate of a group stands at so many type variables, in order.
+// Whether each predicate of a group is at so many type variables, in order.
 fn stands_at(store: &Store, group: &[usize], vars: usize, e: TermId) -> bool
     requires { Holds store.now e }
     ensures { IsTrue result
@@ -84,7 +84,7 @@ fn stands_at(store: &Store, group: &[usize], vars: usize, e: TermId) -> bool
     }
 }
 
-// Whether no predicate of a group stands at the top of a tree.
+// Whether no predicate of a group is at the top of a tree.
 fn top_is_free(store: &Store, group: &[usize], node: Node) -> bool
     ensures { IsTrue result ↔ TopIsFree group.now (node_tree store.now node) }
 {
@@ -95,7 +95,7 @@ fn top_is_free(store: &Store, group: &[usize], node: Node) -> bool
     }
 }
 
-// Whether no predicate of a group stands in a tree.
+// Whether no predicate of a group is in a tree.
 fn is_free(store: &Store, group: &[usize], e: TermId) -> bool
     requires { Holds store.now e }
     ensures { IsTrue result ↔ IsFree group.now (tree_at store.now e) }
@@ -114,7 +114,7 @@ fn is_free(store: &Store, group: &[usize], e: TermId) -> bool
     }
 }
 
-// What stands behind the quantifiers of a clause.
+// What comes after the quantifiers of a clause.
 fn rule(store: &Store, clause: TermId) -> TermId
     requires { Holds store.now clause }
     ensures tree { tree_at store.now result ≡ rule (tree_at store.now clause) }
@@ -126,7 +126,7 @@ fn rule(store: &Store, clause: TermId) -> TermId
     }
 }
 
-// What stands behind the premises.
+// What comes after the premises.
 fn conclusion(store: &Store, e: TermId) -> TermId
     requires { Holds store.now e }
     ensures tree { tree_at store.now result ≡ conclusion (tree_at store.now e) }
@@ -168,7 +168,7 @@ pub(crate) fn has_form(
         && are_below(store, vars, clause)
 }
 
-// Whether the predicates of a group stand in a formula in positive places only.
+// Whether the predicates of a group are in a formula in positive places only.
 fn is_positive(store: &Store, group: &[usize], e: TermId) -> bool
     requires { Holds store.now e }
     ensures { IsTrue result ↔ IsPositive group.now (tree_at store.now e) }
@@ -187,7 +187,7 @@ fn is_positive(store: &Store, group: &[usize], e: TermId) -> bool
     }
 }
 
-// Whether the predicates of a group stand in positive places of the premises, and not in the arguments of the conclusion.
+// Whether the predicates of a group are in positive places of the premises, and not in the arguments of the conclusion.
 fn are_positive(store: &Store, group: &[usize], e: TermId) -> bool
     requires { Holds store.now e }
     ensures { IsTrue result ↔ ArePositive group.now (tree_at store.now e) }
@@ -201,7 +201,7 @@ fn are_positive(store: &Store, group: &[usize], e: TermId) -> bool
     }
 }
 
-/// Whether the predicates of a group stand in a clause where they may.
+/// Whether the predicates of a group are in a clause where they may.
 pub(crate) fn is_positive_clause(store: &Store, group: &[usize], clause: TermId) -> bool
     requires { Holds store.now clause }
     ensures { IsTrue result ↔ IsPositiveClause group.now (tree_at store.now clause) }

@@ -1,5 +1,5 @@
 // What is wrong with a declaration.
-// It stands on std alone.
+// It depends on std alone.
 use std::alloc::AllocError;
 
 /// What is wrong with a declaration, or want of memory.
@@ -8,7 +8,7 @@ pub enum CheckFault {
     Memory,
     /// The form or the type variables of a clause of an inductive predicate, counted from 0 through its group.
     BadClause { clause: usize },
-    /// A predicate of the group stands in such a clause where it may not.
+    /// A predicate of the group is in such a clause where it may not.
     NotPositive { clause: usize },
     /// No choice of arguments makes a recursive group structural.
     NotStructural,

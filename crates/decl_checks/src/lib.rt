@@ -1,5 +1,5 @@
 //! The checks of a source's declarations: the clauses of inductive predicates, recursive definitions, values of algebraic types.
-//! It stands on tasks; the theories of a source stand on it.
+//! It depends on tasks; the theories of a source depend on it.
 #![tactic(auto)]
 
 mod checks;

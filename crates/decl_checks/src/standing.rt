@@ -1,19 +1,19 @@
 // How variables stand to the argument that a use has to make smaller, without memory.
-// They stand on tasks; structural recursion stands on them.
+// They depend on tasks; structural recursion depends on them.
 ghost use Rattle.std.specs.Prelude.{◌≡◌, List, get_or, IfSome};
 ghost use Rattle.std.specs.Option.{option_map};
 ghost use Rattle.trees.specs.Tree.{Tree};
 ghost use Rattle.trees.specs.Node.{tree_at, Holds};
 ghost use Rattle.tasks.specs.Task.{symbol_or};
 ghost use Rattle.tasks.specs.Meaning.{symbol_at, symbols_at};
-ghost use Rattle.decl_checks.specs.Structure.{parameters, bound_index, standing, through, is_tuple, components, first_member, other_members, bound_to};
-ghost use Rattle.decl_checks.specs.Meaning.{known_at, KnownHeld, IsBoundAt};
+ghost use Rattle.decl_checks.specs.Structure.{parameter_standings, bound_index, standing, through, is_tuple_constructor, components, list_head, list_tail, bound_to};
+ghost use Rattle.decl_checks.specs.Meaning.{standings_at, StandingsHeld, IsBoundAt};
 
 use tasks::{Signature, SymbolInfo, SymbolKind};
 use term_store::Store;
 use trees::{Node, TermId};
 
-/// How a variable stands to the argument: it is none of it, it is the argument, or it stands strictly inside it.
+/// How a variable stands to the argument: it is none of it, it is the argument, or it is strictly inside it.
 #[derive(Clone, Copy)]
 pub(crate) enum Standing {
     Other,
@@ -39,14 +39,15 @@ enum BoundTo {
 
 // Whether an entry is a constructor of tuples.
 fn is_tuple(info: &SymbolInfo) -> bool
-    ensures { (s : List Tree) → result ≡ is_tuple (symbol_at s info.now) }
+    ensures { (s : List Tree) → result ≡ is_tuple_constructor (symbol_at s info.now) }
 {
     info.kind == SymbolKind::Constructor && info.theory.as_slice() == b"BuiltIn".as_slice()
 }
 
 // Whether a symbol is a constructor of tuples.
 fn is_tuple_at(store: &Store, sig: &Signature, symbol: usize) -> bool
-    ensures { result ≡ is_tuple (symbol_or (symbols_at store.now sig.now.symbols) symbol) }
+    ensures { result ≡ is_tuple_constructor
+        (symbol_or (symbols_at store.now sig.now.symbols) symbol) }
 {
     let _ = store;
     match sig.symbols.get(symbol) {
@@ -83,7 +84,7 @@ fn components(store: &Store, sig: &Signature, inside: bool, con: usize, e: TermI
 // The first member of a list.
 fn first_member(store: &Store, list: TermId) -> TermId
     requires { Holds store.now list }
-    ensures tree { tree_at store.now result ≡ first_member (tree_at store.now list) }
+    ensures tree { tree_at store.now result ≡ list_head (tree_at store.now list) }
     ensures held { Holds store.now result }
 {
     match store.node(list) {
@@ -95,7 +96,7 @@ fn first_member(store: &Store, list: TermId) -> TermId
 // The other members of a list.
 fn other_members(store: &Store, list: TermId) -> TermId
     requires { Holds store.now list }
-    ensures tree { tree_at store.now result ≡ other_members (tree_at store.now list) }
+    ensures tree { tree_at store.now result ≡ list_tail (tree_at store.now list) }
     ensures held { Holds store.now result }
 {
     match store.node(list) {
@@ -160,7 +161,7 @@ fn bound_index(store: &Store, e: TermId) -> Option<usize>
 // How a parameter stands, counted from the last one.
 #[tactic(auto, using(crate::proofs::Parameters::parameter_is, crate::proofs::Parameters::parameter_other, crate::proofs::Parameters::parameter_past))]
 fn parameter_at(count: usize, place: usize, index: usize) -> Standing
-    ensures { result ≡ get_or (parameters count place) index Standing.Other }
+    ensures { result ≡ get_or (parameter_standings count place) index Standing.Other }
 {
     if index >= count {
         return Standing::Other;
@@ -187,8 +188,9 @@ fn standing_through(inside: bool, standing: Standing) -> Standing
 // How the variable of so many binders up stands.
 #[tactic(auto, using(crate::proofs::Learning::learned_found, crate::proofs::Learning::learned_other, crate::proofs::Learning::learned_past))]
 fn standing_at(store: &Store, sig: &Signature, known: &Known<'_>, index: usize) -> Standing
-    requires { KnownHeld store.now known.now }
-    ensures { result ≡ get_or (known_at (symbols_at store.now sig.now.symbols) store.now known.now)
+    requires { StandingsHeld store.now known.now }
+    ensures { result ≡ get_or (standings_at (symbols_at store.now sig.now.symbols) store.now
+        known.now)
         index Standing.Other }
 {
     match known {
@@ -214,9 +216,9 @@ fn standing_at(store: &Store, sig: &Signature, known: &Known<'_>, index: usize) 
 
 /// How a term stands.
 pub(crate) fn standing_of(store: &Store, sig: &Signature, known: &Known<'_>, e: TermId) -> Standing
-    requires known_held { KnownHeld store.now known.now }
+    requires known_held { StandingsHeld store.now known.now }
     requires held { Holds store.now e }
-    ensures { result ≡ standing (known_at (symbols_at store.now sig.now.symbols)
+    ensures { result ≡ standing (standings_at (symbols_at store.now sig.now.symbols)
         store.now known.now) (tree_at store.now e) }
 {
     match bound_index(store, e) {

@@ -1,10 +1,10 @@
 // Structural recursion: a choice of one argument for each member of a group, at which each use of a member gets smaller.
-// It stands on how variables stand; the check of a declaration stands on it.
+// It depends on how variables stand; the check of a declaration depends on it.
 ghost use Rattle.std.specs.Prelude.{◌≡◌, ◌↔◌, ◌*◌, ◌<◌, ◌++◌, IsTrue, All, Contains, min, length, IfOk, OnOk};
 ghost use Rattle.trees.specs.Node.{tree_at, node_tree, parts_of, Holds, AreBelow};
 ghost use Rattle.tasks.specs.Meaning.{symbols_at, definition_at, definitions_at};
-ghost use Rattle.decl_checks.specs.Structure.{PassesInside, UsePasses, TopPasses, Passes, defining_body, arity, OnePasses, AllPass, IsStructural, defined, TopUses, Uses, SomeUses, IsRecursive, choices, choice_of, PassesAt};
-ghost use Rattle.decl_checks.specs.Meaning.{known_at, KnownHeld, DefinitionHeld};
+ghost use Rattle.decl_checks.specs.Structure.{PassesInside, UsePasses, TopPasses, UsesPassInside, defining_body, symbol_arity, OnePasses, AllPass, IsStructural, defined, TopUses, Uses, SomeUses, IsRecursive, choices, choice_of, PassesAt};
+ghost use Rattle.decl_checks.specs.Meaning.{standings_at, StandingsHeld, DefinitionHeld};
 
 use crate::standing::{Known, Standing, standing_of};
 use std::alloc::{AllocError, Global};
@@ -12,7 +12,7 @@ use tasks::{Def, Signature};
 use term_store::Store;
 use trees::{Node, Op, Parts, TermId};
 
-// Whether the argument at a place of a list stands strictly inside.
+// Whether the argument at a place of a list is strictly inside.
 fn passes_inside(
     store: &Store,
     sig: &Signature,
@@ -20,9 +20,9 @@ fn passes_inside(
     args: TermId,
     place: usize,
 ) -> bool
-    requires known_held { KnownHeld store.now known.now }
+    requires known_held { StandingsHeld store.now known.now }
     requires held { Holds store.now args }
-    ensures { IsTrue result ↔ PassesInside (known_at (symbols_at store.now sig.now.symbols)
+    ensures { IsTrue result ↔ PassesInside (standings_at (symbols_at store.now sig.now.symbols)
         store.now known.now) (tree_at store.now args) place }
 {
     match store.node(args) {
@@ -46,10 +46,10 @@ fn member_passes(
     symbol: usize,
     args: TermId,
 ) -> bool
-    requires known_held { KnownHeld store.now known.now }
+    requires known_held { StandingsHeld store.now known.now }
     requires held { Holds store.now args }
     ensures { IsTrue result ↔ (member.0 ≡ symbol
-        → PassesInside (known_at (symbols_at store.now sig.now.symbols) store.now known.now)
+        → PassesInside (standings_at (symbols_at store.now sig.now.symbols) store.now known.now)
         (tree_at store.now args) member.1) }
 {
     if member.0 != symbol {
@@ -67,9 +67,10 @@ fn use_passes(
     symbol: usize,
     args: TermId,
 ) -> bool
-    requires known_held { KnownHeld store.now known.now }
+    requires known_held { StandingsHeld store.now known.now }
     requires held { Holds store.now args }
-    ensures { IsTrue result ↔ UsePasses chosen.now (known_at (symbols_at store.now sig.now.symbols)
+    ensures { IsTrue result ↔ UsePasses chosen.now
+        (standings_at (symbols_at store.now sig.now.symbols)
         store.now known.now) symbol (tree_at store.now args) }
 {
     match chosen.split_first() {
@@ -89,9 +90,10 @@ fn top_passes(
     known: &Known<'_>,
     node: Node,
 ) -> bool
-    requires known_held { KnownHeld store.now known.now }
+    requires known_held { StandingsHeld store.now known.now }
     requires held { AreBelow (length store.now) (parts_of node) }
-    ensures { IsTrue result ↔ TopPasses chosen.now (known_at (symbols_at store.now sig.now.symbols)
+    ensures { IsTrue result ↔ TopPasses chosen.now
+        (standings_at (symbols_at store.now sig.now.symbols)
         store.now known.now) (node_tree store.now node) }
 {
     match node {
@@ -110,11 +112,11 @@ fn passes<'a>(
     matched: TermId,
     e: TermId,
 ) -> bool
-    requires known_held { KnownHeld store.now known.now }
+    requires known_held { StandingsHeld store.now known.now }
     requires matched_held { Holds store.now matched }
     requires held { Holds store.now e }
-    ensures { IsTrue result ↔ Passes (symbols_at store.now sig.now.symbols) chosen.now
-        (known_at (symbols_at store.now sig.now.symbols) store.now known.now)
+    ensures { IsTrue result ↔ UsesPassInside (symbols_at store.now sig.now.symbols) chosen.now
+        (standings_at (symbols_at store.now sig.now.symbols) store.now known.now)
         (tree_at store.now matched) (tree_at store.now e) }
 {
     let node = store.node(e);
@@ -172,7 +174,7 @@ fn defining_body(store: &Store, equation: TermId) -> TermId
 
 // The number of a symbol's arguments.
 fn arity_of(store: &Store, sig: &Signature, symbol: usize) -> usize
-    ensures { result ≡ arity (symbols_at store.now sig.now.symbols) symbol }
+    ensures { result ≡ symbol_arity (symbols_at store.now sig.now.symbols) symbol }
 {
     let _ = store;
     match sig.symbols.get(symbol) {
@@ -229,7 +231,7 @@ fn all_pass(
     }
 }
 
-// The choice of a number, behind others.
+// The choice of a number, after others.
 #[tactic(auto, using(crate::proofs::Choosing::left_positive, crate::proofs::Choosing::right_positive))]
 fn push_choice(
     store: &Store,

@@ -1,5 +1,5 @@
 // Finite values of algebraic types: the types of a group that have one are found one by one.
-// They stand on the store; the check of a declaration stands on them.
+// They depend on the store; the check of a declaration depends on them.
 ghost use Rattle.std.specs.Prelude.{◌≡◌, ◌↔◌, ◌++◌, ◌<◌, IsTrue, All, Contains, IfOk, OnOk, MatchOption};
 ghost use Rattle.trees.specs.Node.{tree_at, Holds};
 ghost use Rattle.tasks.specs.Meaning.{trees_at, cons_at, algebraics_at, ConHeld, AlgebraicHeld};
@@ -11,7 +11,7 @@ use tasks::{Alg, Con};
 use term_store::Store;
 use trees::{Node, TermId};
 
-// The symbols of types, behind others.
+// The symbols of types, after others.
 fn push_type_symbols(store: &Store, types: &[Alg], out: &mut Vec<usize>) -> Result<(), AllocError>
     ensures { OnOk result (out.new.items
         ≡ out.old.items ++ type_symbols (algebraics_at store.now types.now)) }

@@ -4,7 +4,7 @@ ghost use Rattle.std.specs.Prelude.{◌≡◌, ◌++◌, ◌∷◌, [], map, opt
 ghost use Rattle.names_space.specs.declared.TypeName.TheVariants as stands;
 ghost use Rattle.names_space.specs.declared.Table.TheVariants.{Types, Symbols, Propositions};
 ghost use Rattle.syntax_why.specs.SurfaceDeclarations.{decl_of, declared_name, plain_name, member_of, constructor_of, algebraic_of, clause_of, inductive_of};
-ghost use Rattle.elab_parts.specs.Declarations.{makes, word, symbol, member, constructor, algebraic_type, clause, inductive_predicate, made_by_constructors, made_by_types, made_by_members, made_by_clauses, made_by_inductives};
+ghost use Rattle.elab_parts.specs.Declarations.{makes, word, symbol, group_member, constructor, algebraic_type, clause, inductive_predicate, made_by_constructors, made_type_names, made_by_members, made_by_clauses, made_by_inductives};
 ghost use Rattle.declared_names.specs.Made.{thing_named, brought_as, moves_made, moves_declared};
 
 use elab_names::own_name;
@@ -115,7 +115,7 @@ fn push_constructors(
 
 fn push_types(scope: &Scope, types: &[AlgTree], moves: &mut Vec<Move>) -> Result<(), AllocError>
     ensures { OnOk result (moves.new.items ≡ moves.old.items ++ moves_made scope.now
-        (made_by_types (map algebraic_type (map algebraic_of types.now)))) }
+        (made_type_names (map algebraic_type (map algebraic_of types.now)))) }
 {
     let Some((first, rest)) = types.split_first() else {
         return Ok(());
@@ -132,7 +132,7 @@ fn push_members(
     moves: &mut Vec<Move>,
 ) -> Result<(), AllocError>
     ensures { OnOk result (moves.new.items ≡ moves.old.items ++ moves_made scope.now
-        (made_by_members (map member (map member_of members.now)))) }
+        (made_by_members (map group_member (map member_of members.now)))) }
 {
     let Some((first, rest)) = members.split_first() else {
         return Ok(());

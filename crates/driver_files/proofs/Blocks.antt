@@ -1,4 +1,4 @@
--- The block in which what stands behind a line of the code is.
+-- The block in which what comes after a line of the code is.
 use Rattle.std.proofs.Common.{◌≡◌, ◌≤◌, ◌∙◌, ℕ, true, false, List, length, map, get_or, slice_get, slice_range, ◌-◌, Option, Some, None, refl, sym, ap}
 use Rattle.std.specs.Option.{option_map}
 use Rattle.driver_tokens.specs.declared.terminal.DriverTerminal.{DriverTerminal}
@@ -8,7 +8,7 @@ use Rattle.driver_tokens.specs.declared.terminal.Heading.TheVariants as h
 use Rattle.driver_tokens.specs.declared.terminal.NameKind.{NameKind}
 use Rattle.driver_tokens.specs.declared.token.DriverToken.{DriverToken}
 use Rattle.driver_tokens.specs.Tokens.{DriverLexeme, lexeme_in}
-use Rattle.driver_items.specs.Items.{name_of}
+use Rattle.driver_items.specs.Items.{written_name}
 use Rattle.driver_parts.specs.Items.{template_by, removed_by, item_of}
 use Rattle.driver_parts.specs.Lines.{syntax_in, remove_in, item_in}
 use Rattle.driver_parts.specs.Steps.{block_behind}
@@ -44,11 +44,11 @@ module _ (path : Option (List ℕ)) where
   other-stays text (t.Word (w.Heading h.Silent)) y line e = refl
   other-stays text _ y line e = refl
 
-  theory-opens : (text : List ℕ) (x : DriverTerminal) (y : DriverToken) (line : List DriverToken) → is_theory x ≡ true → block_behind path (item_in text x y line) ≡ Some (name_of (map (lexeme_in text) (slice_range line 1 (length line))))
+  theory-opens : (text : List ℕ) (x : DriverTerminal) (y : DriverToken) (line : List DriverToken) → is_theory x ≡ true → block_behind path (item_in text x y line) ≡ Some (written_name (map (lexeme_in text) (slice_range line 1 (length line))))
   theory-opens text (t.Word w.Theory) y line e = refl
   theory-opens text _ y line e = absurd (cc)
 
-  pub behind-theory : (text : List ℕ) (line : List DriverToken) (d : DriverToken) → 2 ≤ length line → is_theory (get_or line 0 d).terminal ≡ true → Some (name_of (map (lexeme_in text) (slice_range line 1 (length line)))) ≡ block_behind path (item_of (map (lexeme_in text) line))
+  pub behind-theory : (text : List ℕ) (line : List DriverToken) (d : DriverToken) → 2 ≤ length line → is_theory (get_or line 0 d).terminal ≡ true → Some (written_name (map (lexeme_in text) (slice_range line 1 (length line)))) ≡ block_behind path (item_of (map (lexeme_in text) line))
   behind-theory text line d le e =
       sym (ap (block_behind path) (two-tokens text line d d le) ∙ theory-opens text (get_or line 0 d).terminal (get_or line 1 d) line e)
 

@@ -1,4 +1,4 @@
--- Names of imported files: the folder of the importing file, and the string behind it.
+-- Names of imported files: the folder of the importing file, and the string after it.
 use Rattle.std.proofs.Common.{◌≡◌, ◌<◌, ◌+◌, ◌-◌, ◌∙◌, ◌⊎◌, inl, inr, ℕ, suc, Bool, true, false, cond, ◌||◌, nat_eq, List, [], ◌∷◌, ◌++◌, length, take, get_or, slice_range, refl, sym, ap, subst, arith}
 use Rattle.std.specs.List.{list_any}
 use Rattle.std.specs.Str.{IsUtf8}
@@ -90,6 +90,6 @@ folder-utf8 name u = elim (either (slashes name)) [
   | inr h ↦ subst IsUtf8 (sym (no-folder name h)) IsUtf8-nil
 ]
 
--- The name of an imported file is the folder with the string behind it, where both are UTF-8.
+-- The name of an imported file is the folder with the string after it, where both are UTF-8.
 pub name-plain : (importer string : List ℕ) → IsUtf8 importer → IsUtf8 string → name_from importer string ≡ folder importer ++ string
 name-plain importer string u v = utf8_lossy-IsUtf8 (folder importer ++ string) (IsUtf8-append (folder importer) string (folder-utf8 importer u) v)

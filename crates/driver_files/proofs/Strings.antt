@@ -8,8 +8,8 @@ use Rattle.tokens_why.specs.Gap.{one_more}
 use Rattle.driver_tokens.specs.declared.terminal.DriverTerminal.{DriverTerminal}
 use Rattle.driver_tokens.specs.declared.terminal.DriverTerminal.TheVariants as t
 use Rattle.driver_tokens.specs.Strings.{quoted}
-use Rattle.driver_tokens.specs.Tokens.{DriverLexeme, gap_length, number_length, string_length, mark_length, token_length, open_or_star, terminal_of, lexeme, after_gap, lexed, lexemes}
-use Rattle.driver_items.specs.Items.{value_of}
+use Rattle.driver_tokens.specs.Tokens.{DriverLexeme, gap_length, number_length, string_length, mark_length, token_length, open_or_star, driver_terminal_of, driver_lexeme, after_gap, lexed, driver_lexemes}
+use Rattle.driver_items.specs.Items.{string_value_of}
 use Rattle.driver_files.proofs.Texts.{said-text}
 
 either : (b : Bool) → (b ≡ true) ⊎ (b ≡ false)
@@ -80,7 +80,7 @@ quote-first : (p q r s u : Bool) (o : DriverTerminal) → (o ≡ t.Text → ⊥)
 quote-first p q r s true o n e = refl
 quote-first p q r s false o n e = absurd (no-mark p q r s o n e)
 
-string-token : (a n : ℕ) (bs : List ℕ) → suc n ≡ token_length (a ∷ bs) → terminal_of (a ∷ take n bs) ≡ t.Text → is_utf8 (inside (a ∷ take n bs)) ≡ true
+string-token : (a n : ℕ) (bs : List ℕ) → suc n ≡ token_length (a ∷ bs) → driver_terminal_of (a ∷ take n bs) ≡ t.Text → is_utf8 (inside (a ∷ take n bs)) ≡ true
 string-token a n bs e k =
     let l = peel (is_letter a) _ _ t.Text k (λ x. cc) in
     let d = peel (is_digit a) _ _ t.Text l.1 (λ x. cc) in
@@ -95,13 +95,13 @@ string-token a n bs e k =
 
 -- each string of a text says UTF-8
 abbrev pub IsText : DriverLexeme → Type 0
-IsText x = x.terminal ≡ t.Text → IsUtf8 (value_of x)
+IsText x = x.terminal ≡ t.Text → IsUtf8 (string_value_of x)
 
 abbrev pub AreTexts : List DriverLexeme → Type 0
 AreTexts [] = Unit {0}
 AreTexts (x ∷ xs) = IsText x × AreTexts xs
 
-token-text : (at n : ℕ) (text : List ℕ) → suc n ≡ token_length text → IsText (lexeme at (take (suc n) text))
+token-text : (at n : ℕ) (text : List ℕ) → suc n ≡ token_length text → IsText (driver_lexeme at (take (suc n) text))
 token-text at n [] e = absurd (omega arith)
 token-text at n (a ∷ bs) e = λ k. said-text (inside (a ∷ take n bs)) (IsUtf8-from_is_utf8 (inside (a ∷ take n bs)) (string-token a n bs e k))
 
@@ -115,5 +115,5 @@ lexed-texts [] at passed = tt
 lexed-texts (a ∷ bs) at (suc n) = lexed-texts bs (at + 1) n
 lexed-texts (a ∷ bs) at zero = gap-texts (gap_length (a ∷ bs)) (token_length (a ∷ bs)) at (a ∷ bs) (λ n. lexed bs (at + 1) n) refl (λ n. lexed-texts bs (at + 1) n)
 
-pub texts : (text : List ℕ) → AreTexts (lexemes text)
+pub texts : (text : List ℕ) → AreTexts (driver_lexemes text)
 texts text = lexed-texts text 0 0

@@ -5,7 +5,7 @@ use lib.Utf8.{encode, encodes, scalar, scalars, low_scalar}
 use Rattle.std.proofs.lemmas.Bool.{cases_lt}
 use Rattle.std.proofs.lemmas.Bool.Decides.{nat_tests}
 use Rattle.std.proofs.lemmas.Str.{IsUtf8-nil, IsUtf8-append, IsUtf8-encode, encode_ascii}
-use Rattle.driver_tokens.specs.Strings.{escaped, said, said_by}
+use Rattle.driver_tokens.specs.Strings.{escaped, bytes_said, string_says}
 
 either : (b : Bool) → (b ≡ true) ⊎ (b ≡ false)
 either true = inl refl
@@ -41,10 +41,10 @@ high-encode c h =
 other : (b k : ℕ) → k < 128 → 128 ≤ b → nat_eq b k ≡ false
 other b k lt h = grind (arith, nat_tests)
 
-said-high : (bs r : List ℕ) → High bs → said false (bs ++ r) ≡ bs ++ said false r
+said-high : (bs r : List ℕ) → High bs → bytes_said false (bs ++ r) ≡ bs ++ bytes_said false r
 said-high [] r h = refl
 said-high (b ∷ bs) r h =
-    ap (λ v. cond v (said true (bs ++ r)) (b ∷ said false (bs ++ r))) (other b 92 (omega arith) h.0) ∙ ap (λ v. b ∷ v) (said-high bs r h.1)
+    ap (λ v. cond v (bytes_said true (bs ++ r)) (b ∷ bytes_said false (bs ++ r))) (other b 92 (omega arith) h.0) ∙ ap (λ v. b ∷ v) (said-high bs r h.1)
 
 escaped-high : (b : ℕ) → 128 ≤ b → escaped b ≡ 92 ∷ b ∷ []
 escaped-high b h =
@@ -52,9 +52,9 @@ escaped-high b h =
     ∙ ap (λ v. cond v (b ∷ []) (cond (nat_eq b 110) (10 ∷ []) (92 ∷ b ∷ []))) (other b 92 (omega arith) h)
     ∙ ap (λ v. cond v (10 ∷ []) (92 ∷ b ∷ [])) (other b 110 (omega arith) h)
 
-said-behind : (bs r : List ℕ) → High bs → 0 < length bs → said true (bs ++ r) ≡ 92 ∷ (bs ++ said false r)
+said-behind : (bs r : List ℕ) → High bs → 0 < length bs → bytes_said true (bs ++ r) ≡ 92 ∷ (bs ++ bytes_said false r)
 said-behind [] r h lt = absurd (omega arith)
-said-behind (b ∷ bs) r h lt = ap (λ v. v ++ said false (bs ++ r)) (escaped-high b h.0) ∙ ap (λ v. 92 ∷ b ∷ v) (said-high bs r h.1)
+said-behind (b ∷ bs) r h lt = ap (λ v. v ++ bytes_said false (bs ++ r)) (escaped-high b h.0) ∙ ap (λ v. 92 ∷ b ∷ v) (said-high bs r h.1)
 
 one : (c : ℕ) → c < 128 → IsUtf8 (c ∷ [])
 one c lt = subst IsUtf8 (encode_ascii c lt) (IsUtf8-encode c (low_scalar c (omega arith)))
@@ -71,10 +71,10 @@ both-true true q e = (refl, e)
 both-true false q e = absurd (cc)
 
 abbrev Says : List ℕ → Type 0
-Says bs = IsUtf8 (said false bs) × IsUtf8 (said true bs)
+Says bs = IsUtf8 (bytes_said false bs) × IsUtf8 (bytes_said true bs)
 
 low : (c : ℕ) (r : List ℕ) → c < 128 → Says r → Says (c ∷ r)
-low c r lt h = (text-if (nat_eq c 92) (said true r) (c ∷ said false r) h.1 (IsUtf8-append (c ∷ []) (said false r) (one c lt) h.0), IsUtf8-append (escaped c) (said false r) (escaped-text c lt) h.0)
+low c r lt h = (text-if (nat_eq c 92) (bytes_said true r) (c ∷ bytes_said false r) h.1 (IsUtf8-append (c ∷ []) (bytes_said false r) (one c lt) h.0), IsUtf8-append (escaped c) (bytes_said false r) (escaped-text c lt) h.0)
 
 some-encode : (c : ℕ) → 0 < length (encode c)
 unfolding encode
@@ -82,8 +82,8 @@ some-encode c = grind arith
 
 high : (c : ℕ) (r : List ℕ) → scalar c ≡ true → 128 ≤ c → Says r → Says (encode c ++ r)
 high c r s ge h =
-    let e = IsUtf8-append (encode c) (said false r) (IsUtf8-encode c s) h.0 in
-    (subst IsUtf8 (sym (said-high (encode c) r (high-encode c ge))) e, subst IsUtf8 (sym (said-behind (encode c) r (high-encode c ge) (some-encode c))) (IsUtf8-append (92 ∷ []) (encode c ++ said false r) (one 92 (omega arith)) e))
+    let e = IsUtf8-append (encode c) (bytes_said false r) (IsUtf8-encode c s) h.0 in
+    (subst IsUtf8 (sym (said-high (encode c) r (high-encode c ge))) e, subst IsUtf8 (sym (said-behind (encode c) r (high-encode c ge) (some-encode c))) (IsUtf8-append (92 ∷ []) (encode c ++ bytes_said false r) (one 92 (omega arith)) e))
 
 says : (cs : List ℕ) → scalars cs ≡ true → Says (encodes cs)
 says [] e = (IsUtf8-nil, one 92 (omega arith))
@@ -95,5 +95,5 @@ says (c ∷ cs) e =
     ]
 
 -- a string whose bytes are UTF-8 says what is
-pub said-text : (bs : List ℕ) → IsUtf8 bs → IsUtf8 (said_by bs)
-said-text bs u = subst (λ v. IsUtf8 (said_by v)) u.1.1 (says u.0 u.1.0).0
+pub said-text : (bs : List ℕ) → IsUtf8 bs → IsUtf8 (string_says bs)
+said-text bs u = subst (λ v. IsUtf8 (string_says v)) u.1.1 (says u.0 u.1.0).0

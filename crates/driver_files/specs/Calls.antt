@@ -9,26 +9,26 @@ use Rattle.driver_tokens.specs.declared.terminal.DriverWord.TheVariants as w
 use Rattle.driver_tokens.specs.declared.token.DriverToken.{DriverToken}
 use Rattle.driver_tokens.specs.Tokens.{DriverLexeme, lexeme_in}
 use Rattle.tasks.specs.declared.signature.SymbolInfo.{SymbolInfo}
-use Rattle.driver_items.specs.Items.{value_of}
-use Rattle.driver_items.specs.Symbols.{Theories}
-use Rattle.driver_parts.specs.Items.{Item, imported, item_of}
-use Rattle.driver_tokens.specs.File.{lines_of, lines_in}
+use Rattle.driver_items.specs.Items.{string_value_of}
+use Rattle.driver_items.specs.Symbols.{NamedTheories}
+use Rattle.driver_parts.specs.Items.{DriverItem, file_import, item_of}
+use Rattle.driver_tokens.specs.File.{driver_lines, lines_in}
 use Rattle.driver_parts.specs.declared.driver.Driver.{Driver}
 use Rattle.driver_parts.specs.declared.fault.DriverFault.{DriverFault}
 use Rattle.driver_parts.specs.declared.fault.DriverFault.TheVariants as f
 use Rattle.driver_files.specs.declared.reading.Progress.{Progress}
-use Rattle.driver_files.specs.Reading.{refused, ◌then◌, or_syntax, Place, Meaning, import, take_item, take_lines, take_bytes, finished, with_printer, read_from, importer}
+use Rattle.driver_files.specs.Reading.{file_refused, ◌then◌, or_syntax, ReadingPlace, CallMeaning, import, take_item, take_lines, take_bytes, finished, driver_with_printer, read_from, importer}
 
 -- the bytes of a result
-abbrev pub bytes_of : {E : Type 0} → Result (Vec ℕ Global) E → Result (List ℕ) E
-bytes_of (Ok bytes) = Ok bytes.items
-bytes_of (Err e) = Err e
+abbrev pub bytes_of_result : {E : Type 0} → Result (Vec ℕ Global) E → Result (List ℕ) E
+bytes_of_result (Ok bytes) = Ok bytes.items
+bytes_of_result (Err e) = Err e
 
 -- the lines of a file's bytes, or its fault
 abbrev pub HasLines : ℕ → List ℕ → Result DriverText DriverFault → Type 0
-HasLines file text (Ok its) = or_syntax file (lines_of text) ≡ Ok (lines_in text its)
+HasLines file text (Ok its) = or_syntax file (driver_lines text) ≡ Ok (lines_in text its)
 HasLines file text (Err f.Memory) = ⊤
-HasLines file text (Err e) = or_syntax file (lines_of text) ≡ Err (refused e)
+HasLines file text (Err e) = or_syntax file (driver_lines text) ≡ Err (file_refused e)
 
 -- how far a driver is read, where nothing was wrong
 abbrev pub with_progress : {X : Type 0} → Result X DriverFault → Progress → Result Progress DriverFault
@@ -38,47 +38,47 @@ with_progress (Err e) progress = Err e
 abbrev pub next_of : Progress → ℕ
 next_of progress = progress.next
 
-abbrev pub place : ℕ → List ℕ → List (List ℕ) → ℕ → Place
+abbrev pub place : ℕ → List ℕ → List (List ℕ) → ℕ → ReadingPlace
 place file name opened room = record { file = file; name = name; opened = opened; room = room }
 
 -- two parts, one after the other
-abbrev pub both : {A B : Type 0} → Meaning A → (A → Meaning B) → Meaning B
-both first second files limit = first files limit then (λ a. second a files limit)
+abbrev pub both_meanings : {A B : Type 0} → CallMeaning A → (A → CallMeaning B) → CallMeaning B
+both_meanings first second files limit = first files limit then (λ a. second a files limit)
 
-module _ (symbols : List SymbolInfo) (theories : Theories) where
+module _ (symbols : List SymbolInfo) (theories : NamedTheories) where
   -- the meanings of the parts of the reader
-  abbrev pub Import : Place → ℕ → List ℕ → Progress → Meaning Progress
-  Import at byte name progress files limit = import (importer symbols theories at.room files limit) at byte name progress
+  abbrev pub ImportMeaning : ReadingPlace → ℕ → List ℕ → Progress → CallMeaning Progress
+  ImportMeaning at byte name progress files limit = import (importer symbols theories at.room files limit) at byte name progress
 
-  abbrev pub OneLine : Place → Option (List ℕ) → List DriverLexeme → Progress → Meaning Progress
-  OneLine at path line progress files limit = take_item symbols theories (importer symbols theories at.room files limit) at path (item_of line) progress
+  abbrev pub OneLineMeaning : ReadingPlace → Option (List ℕ) → List DriverLexeme → Progress → CallMeaning Progress
+  OneLineMeaning at path line progress files limit = take_item symbols theories (importer symbols theories at.room files limit) at path (item_of line) progress
 
-  abbrev pub Lines : Place → Option (List ℕ) → List (List DriverLexeme) → Progress → Meaning Progress
-  Lines at path lines progress files limit = take_lines symbols theories (importer symbols theories at.room files limit) at path lines progress
+  abbrev pub LinesMeaning : ReadingPlace → Option (List ℕ) → List (List DriverLexeme) → Progress → CallMeaning Progress
+  LinesMeaning at path lines progress files limit = take_lines symbols theories (importer symbols theories at.room files limit) at path lines progress
 
   -- the lines of a file, which then was read whole
-  abbrev pub Whole : Place → List ℕ → List (List DriverLexeme) → Progress → Meaning Progress
-  Whole at bytes lines progress = both (Lines at None lines progress) (λ p files limit. Ok (finished at.name bytes p))
+  abbrev pub WholeMeaning : ReadingPlace → List ℕ → List (List DriverLexeme) → Progress → CallMeaning Progress
+  WholeMeaning at bytes lines progress = both_meanings (LinesMeaning at None lines progress) (λ p files limit. Ok (finished at.name bytes p))
 
-  abbrev pub Bytes : Place → List ℕ → Progress → Meaning Progress
-  Bytes at bytes progress files limit = take_bytes symbols theories (importer symbols theories at.room files limit) at bytes progress
+  abbrev pub BytesMeaning : ReadingPlace → List ℕ → Progress → CallMeaning Progress
+  BytesMeaning at bytes progress files limit = take_bytes symbols theories (importer symbols theories at.room files limit) at bytes progress
 
-  abbrev pub File : ℕ → List (List ℕ) → List ℕ → Progress → Meaning Progress
-  File room opened name progress files limit = read_from symbols theories room files limit opened name progress
+  abbrev pub FileMeaning : ℕ → List (List ℕ) → List ℕ → Progress → CallMeaning Progress
+  FileMeaning room opened name progress files limit = read_from symbols theories room files limit opened name progress
 
 -- whether an item is no import
-abbrev pub NoImport : Item → Type 0
-NoImport (imported byte string) = ⊥
+abbrev pub NoImport : DriverItem → Type 0
+NoImport (file_import byte string) = ⊥
 NoImport _ = ⊤
 
 abbrev pub IsImport : List DriverToken → Option DriverToken → Type 0
-IsImport line (Some string) = (text : List ℕ) → item_of (map (lexeme_in text) line) ≡ imported string.start (value_of (lexeme_in text string))
+IsImport line (Some string) = (text : List ℕ) → item_of (map (lexeme_in text) line) ≡ file_import string.start (string_value_of (lexeme_in text string))
 IsImport line None = (text : List ℕ) → NoImport (item_of (map (lexeme_in text) line))
 
 -- the driver of how far it is read, or 55
-abbrev pub Finishes : Progress → Result Driver DriverFault → Type 0
-Finishes progress (Ok driver) = with_printer progress progress.parts.printer ≡ Ok driver
-Finishes progress (Err e) = with_printer progress progress.parts.printer ≡ Err (refused e)
+abbrev pub FinishesDriver : Progress → Result Driver DriverFault → Type 0
+FinishesDriver progress (Ok driver) = driver_with_printer progress progress.parts.printer ≡ Ok driver
+FinishesDriver progress (Err e) = driver_with_printer progress progress.parts.printer ≡ Err (file_refused e)
 
 -- the words that begin and end a block
 abbrev pub is_theory : DriverTerminal → Bool

@@ -2,66 +2,66 @@
 use Rattle.std.specs.Prelude.{ℕ, zero, suc, ◌+◌, ◌≡◌, ◌≤◌, Bool, true, ◌||◌, nat_eq, nat_lt, List, [], ◌∷◌, ◌++◌, length, take, Option, Some, None, IfSome, Result, Ok, Err, if◌then◌else◌}
 use Rattle.std.specs.List.{list_any}
 use Rattle.std.specs.Str.Lossy.{utf8_lossy}
-use Rattle.word_tables.specs.Words.{same}
+use Rattle.word_tables.specs.Words.{is_same_word}
 use Rattle.outside.specs.State.{Files, LibraryState, Rose}
 use Rattle.tasks.specs.declared.signature.SymbolInfo.{SymbolInfo}
 use Rattle.driver_tokens.specs.Tokens.{DriverLexeme}
-use Rattle.driver_tokens.specs.File.{lines_of}
+use Rattle.driver_tokens.specs.File.{driver_lines}
 use Rattle.driver_parts.specs.declared.driver.Driver.{Driver}
 use Rattle.driver_items.specs.declared.kinds.Printer.{Printer}
 use Rattle.driver_parts.specs.declared.fault.DriverFault.{DriverFault}
 use Rattle.driver_parts.specs.declared.fault.DriverFault.TheVariants as f
 use Rattle.driver_parts.specs.declared.parts.Parts.{Parts}
 use Rattle.driver_files.specs.declared.reading.Progress.{Progress}
-use Rattle.driver_parts.specs.Items.{Item, imported, item_of}
+use Rattle.driver_parts.specs.Items.{DriverItem, file_import, item_of}
 use Rattle.driver_parts.specs.Parts.{no_parts, driver_of}
-use Rattle.driver_parts.specs.Steps.{step, block_behind}
-use Rattle.driver_items.specs.Symbols.{Theories}
+use Rattle.driver_parts.specs.Steps.{item_step, block_behind}
+use Rattle.driver_items.specs.Symbols.{NamedTheories}
 
--- what stands in the way of a driver: a fault, a file that isn't there, or one that can't be read, with its name
+-- what is in the way of a driver: a fault, a file that isn't there, or one that can't be read, with its name
 pub data DriverStop : Type 0 where
-  refused : DriverFault → DriverStop
-  absent : ℕ → DriverStop
-  unread : ℕ → List ℕ → DriverStop
+  file_refused : DriverFault → DriverStop
+  file_absent : ℕ → DriverStop
+  file_unread : ℕ → List ℕ → DriverStop
 
-abbrev pub Outcome : Type 0 → Type 0
-Outcome A = Result A DriverStop
+abbrev pub DriverOutcome : Type 0 → Type 0
+DriverOutcome A = Result A DriverStop
 
 infixl 10 ◌then◌
-abbrev pub ◌then◌ : {A B : Type 0} → Outcome A → (A → Outcome B) → Outcome B
+abbrev pub ◌then◌ : {A B : Type 0} → DriverOutcome A → (A → DriverOutcome B) → DriverOutcome B
 (Ok a) then g = g a
 (Err e) then g = Err e
 
-abbrev pub or_refused : {A : Type 0} → Result A DriverFault → Outcome A
+abbrev pub or_refused : {A : Type 0} → Result A DriverFault → DriverOutcome A
 or_refused (Ok a) = Ok a
-or_refused (Err e) = Err (refused e)
+or_refused (Err e) = Err (file_refused e)
 
 -- so many fetches can be read: those of the files with numbers below, or all
-abbrev pub reads : Option ℕ → ℕ → Bool
-reads None file = true
-reads (Some n) file = nat_lt file n
+abbrev pub file_reads : Option ℕ → ℕ → Bool
+file_reads None file = true
+file_reads (Some n) file = nat_lt file n
 
-abbrev pub if_there : ℕ → Option (List ℕ) → Outcome (List ℕ)
-if_there file None = Err (absent file)
-if_there file (Some whole) = Ok (take 67108865 whole)
+abbrev pub if_file_there : ℕ → Option (List ℕ) → DriverOutcome (List ℕ)
+if_file_there file None = Err (file_absent file)
+if_file_there file (Some whole) = Ok (take 67108865 whole)
 
-abbrev pub fetched : ℕ → List ℕ → Files → Option ℕ → Outcome (List ℕ)
-fetched file name files limit = if reads limit file then if_there file (files name) else Err (unread file name)
+abbrev pub file_fetched : ℕ → List ℕ → Files → Option ℕ → DriverOutcome (List ℕ)
+file_fetched file name files limit = if file_reads limit file then if_file_there file (files name) else Err (file_unread file name)
 
-abbrev pub if_short : ℕ → List ℕ → Outcome (List ℕ)
-if_short file bytes = if nat_eq (length bytes) 67108865 then Err (refused (f.TooLong file)) else Ok bytes
+abbrev pub if_file_short : ℕ → List ℕ → DriverOutcome (List ℕ)
+if_file_short file bytes = if nat_eq (length bytes) 67108865 then Err (file_refused (f.TooLong file)) else Ok bytes
 
 -- the bytes of a file that isn't too long
-abbrev pub short_file : ℕ → List ℕ → Files → Option ℕ → Outcome (List ℕ)
-short_file file name files limit = fetched file name files limit then if_short file
+abbrev pub short_file : ℕ → List ℕ → Files → Option ℕ → DriverOutcome (List ℕ)
+short_file file name files limit = file_fetched file name files limit then if_file_short file
 
 -- the lines of a file's bytes
-abbrev pub or_syntax : ℕ → Result (List (List DriverLexeme)) ℕ → Outcome (List (List DriverLexeme))
+abbrev pub or_syntax : ℕ → Result (List (List DriverLexeme)) ℕ → DriverOutcome (List (List DriverLexeme))
 or_syntax file (Ok lines) = Ok lines
-or_syntax file (Err byte) = Err (refused (f.DriverSyntax file byte))
+or_syntax file (Err byte) = Err (file_refused (f.DriverSyntax file byte))
 
-abbrev pub is_among : List (List ℕ) → List ℕ → Bool
-is_among names name = list_any (λ its. same its name) names
+abbrev pub is_named_among : List (List ℕ) → List ℕ → Bool
+is_named_among names name = list_any (λ its. is_same_word its name) names
 
 -- the bytes up to the last `/`, with it
 abbrev pub folder : List ℕ → List ℕ
@@ -74,7 +74,7 @@ abbrev pub name_from : List ℕ → List ℕ → List ℕ
 name_from importer string = utf8_lossy (folder importer ++ string)
 
 -- a file that is being read: its number, its name, the files that are being read with it, and how many more may be
-pub record Place : Type 0 where
+pub record ReadingPlace : Type 0 where
   pub file : ℕ
   pub name : List ℕ
   pub opened : List (List ℕ)
@@ -82,25 +82,25 @@ pub record Place : Type 0 where
 
 -- what reads an imported file, given the files that are being read, its name, and how far the driver is read
 abbrev pub Importer : Type 0
-Importer = List (List ℕ) → List ℕ → Progress → Outcome Progress
+Importer = List (List ℕ) → List ℕ → Progress → DriverOutcome Progress
 
 -- An import: 54 where the file is being read, or no more may be; a file that was read whole is passed over.
-abbrev pub import : Importer → Place → ℕ → List ℕ → Progress → Outcome Progress
+abbrev pub import : Importer → ReadingPlace → ℕ → List ℕ → Progress → DriverOutcome Progress
 import read place byte name progress =
-    if nat_eq place.room 0 || is_among place.opened name then Err (refused (f.ImportCycle place.file byte))
-    else (if is_among progress.whole name then Ok progress else read place.opened name progress)
+    if nat_eq place.room 0 || is_named_among place.opened name then Err (file_refused (f.ImportCycle place.file byte))
+    else (if is_named_among progress.whole name then Ok progress else read place.opened name progress)
 
-abbrev pub with_parts : Progress → Result Parts DriverFault → Outcome Progress
+abbrev pub with_parts : Progress → Result Parts DriverFault → DriverOutcome Progress
 with_parts progress (Ok parts) = Ok (record progress { parts = parts })
-with_parts progress (Err e) = Err (refused e)
+with_parts progress (Err e) = Err (file_refused e)
 
 -- a file that was read whole
 abbrev pub finished : List ℕ → List ℕ → Progress → Progress
 finished name bytes progress = record progress { whole = progress.whole ++ name ∷ []; length = length bytes }
 
 -- where a file is read: it is one of those that are being read
-abbrev pub place_of : ℕ → List (List ℕ) → List ℕ → ℕ → Place
-place_of room opened name file = record { file = file; name = name; opened = opened ++ name ∷ []; room = room }
+abbrev pub reading_place : ℕ → List (List ℕ) → List ℕ → ℕ → ReadingPlace
+reading_place room opened name file = record { file = file; name = name; opened = opened ++ name ∷ []; room = room }
 
 abbrev pub one_file_more : Progress → Progress
 one_file_more progress = record progress { next = progress.next + 1 }
@@ -108,35 +108,35 @@ one_file_more progress = record progress { next = progress.next + 1 }
 abbrev pub no_import : Importer
 no_import opened name progress = Ok progress
 
-abbrev pub nothing_read : Progress
-nothing_read = record { parts = no_parts; whole = []; next = 1; length = 0 }
+abbrev pub no_progress : Progress
+no_progress = record { parts = no_parts; whole = []; next = 1; length = 0 }
 
 -- the driver, or 55 where no printer is named
-abbrev pub with_printer : Progress → Option Printer → Outcome Driver
-with_printer progress (Some printer) = Ok (driver_of progress.parts printer progress.next)
-with_printer progress None = Err (refused (f.UnknownPrinter 1 progress.length))
+abbrev pub driver_with_printer : Progress → Option Printer → DriverOutcome Driver
+driver_with_printer progress (Some printer) = Ok (driver_of progress.parts printer progress.next)
+driver_with_printer progress None = Err (file_refused (f.UnknownPrinter 1 progress.length))
 
-module _ (symbols : List SymbolInfo) (theories : Theories) where
+module _ (symbols : List SymbolInfo) (theories : NamedTheories) where
   -- an item in its place
-  abbrev pub take_item : Importer → Place → Option (List ℕ) → Item → Progress → Outcome Progress
-  take_item read place path (imported byte string) progress = import read place byte (name_from place.name string) progress
-  take_item read place path item progress = with_parts progress (step symbols theories place.file path item progress.parts)
+  abbrev pub take_item : Importer → ReadingPlace → Option (List ℕ) → DriverItem → Progress → DriverOutcome Progress
+  take_item read place path (file_import byte string) progress = import read place byte (name_from place.name string) progress
+  take_item read place path item progress = with_parts progress (item_step symbols theories place.file path item progress.parts)
 
   -- the lines of a file, in order
-  abbrev pub take_lines : Importer → Place → Option (List ℕ) → List (List DriverLexeme) → Progress → Outcome Progress
+  abbrev pub take_lines : Importer → ReadingPlace → Option (List ℕ) → List (List DriverLexeme) → Progress → DriverOutcome Progress
   take_lines read place path [] progress = Ok progress
   take_lines read place path (l ∷ ls) progress =
       take_item read place path (item_of l) progress then take_lines read place (block_behind path (item_of l)) ls
 
   -- the bytes of a file: its whole syntax before its items
-  abbrev pub take_bytes : Importer → Place → List ℕ → Progress → Outcome Progress
+  abbrev pub take_bytes : Importer → ReadingPlace → List ℕ → Progress → DriverOutcome Progress
   take_bytes read place bytes progress =
-      or_syntax place.file (lines_of bytes) then (λ lines. take_lines read place None lines progress) then (λ p. Ok (finished place.name bytes p))
+      or_syntax place.file (driver_lines bytes) then (λ lines. take_lines read place None lines progress) then (λ p. Ok (finished place.name bytes p))
 
   -- a file, which is fetched with the next number
   abbrev pub take_file : Importer → ℕ → Files → Option ℕ → Importer
   take_file read room files limit opened name progress =
-      short_file progress.next name files limit then (λ bytes. take_bytes read (place_of room opened name progress.next) bytes (one_file_more progress))
+      short_file progress.next name files limit then (λ bytes. take_bytes read (reading_place room opened name progress.next) bytes (one_file_more progress))
 
   -- a file, where so many more may be read at once
   unfoldable pub read_from : ℕ → Files → Option ℕ → Importer
@@ -149,48 +149,48 @@ module _ (symbols : List SymbolInfo) (theories : Theories) where
   importer (suc room) files limit = read_from room files limit
 
   -- the driver of a file, whose number is 1; 32 files may be read at once
-  abbrev pub driver_named : List ℕ → Files → Option ℕ → Outcome Driver
-  driver_named name files limit = read_from 31 files limit [] name nothing_read then (λ p. with_printer p p.parts.printer)
+  abbrev pub driver_named : List ℕ → Files → Option ℕ → DriverOutcome Driver
+  driver_named name files limit = read_from 31 files limit [] name no_progress then (λ p. driver_with_printer p p.parts.printer)
 
 -- What a call answers over a library, against its meaning.
-abbrev pub Meaning : Type 0 → Type 0
-Meaning A = Files → Option ℕ → Outcome A
+abbrev pub CallMeaning : Type 0 → Type 0
+CallMeaning A = Files → Option ℕ → DriverOutcome A
 
 -- so many fetches can be read
-abbrev pub Reaches : Option ℕ → ℕ → Type 0
-Reaches None next = Unit {0}
-Reaches (Some n) next = next ≤ n
+abbrev pub ReachesReading : Option ℕ → ℕ → Type 0
+ReachesReading None next = Unit {0}
+ReachesReading (Some n) next = next ≤ n
 
 -- no count rose; a file is absent; a fetch failed
-pub record Still (old new : LibraryState) : Type 0 where
+pub record StaysSame (old new : LibraryState) : Type 0 where
   pub faults : new.faults ≡ old.faults
   pub absents : new.absents ≡ old.absents
 
-pub record OneAbsent (old new : LibraryState) : Type 0 where
+pub record OneFileAbsent (old new : LibraryState) : Type 0 where
   pub faults : new.faults ≡ old.faults
   pub later : old.absents ≤ new.absents
   pub rose : Rose old.absents new.absents
 
-pub record OneFault (old new : LibraryState) : Type 0 where
+pub record OneFileFault (old new : LibraryState) : Type 0 where
   pub absents : new.absents ≡ old.absents
   pub later : old.faults ≤ new.faults
   pub rose : Rose old.faults new.faults
 
 -- the file with this number can't be read, and it is the one whose name the library refused
-abbrev pub StopsAt : {A : Type 0} → Meaning A → ℕ → Option (List ℕ) → Files → Type 0
-StopsAt meaning file refused_name files =
-    (name : List ℕ) × (meaning files (Some file) ≡ Err (unread file name)) × IfSome refused_name (λ its. its ≡ name)
+abbrev pub StopsReadingAt : {A : Type 0} → CallMeaning A → ℕ → Option (List ℕ) → Files → Type 0
+StopsReadingAt meaning file refused_name files =
+    (name : List ℕ) × (meaning files (Some file) ≡ Err (file_unread file name)) × IfSome refused_name (λ its. its ≡ name)
 
 -- The answer of a part that fetches files from number `start` on, and after Ok has fetched those below `next`.
-abbrev pub IsReadAs : {A : Type 0} → Meaning A → ℕ → (A → ℕ) → LibraryState → LibraryState → Result A DriverFault → Type 0
-IsReadAs meaning start next old new (Ok value) = Still old new × (start ≤ next value)
-    × IfSome old.files (λ files. (limit : Option ℕ) → Reaches limit (next value) → meaning files limit ≡ Ok value)
-IsReadAs meaning start next old new (Err f.Memory) = Still old new
-IsReadAs meaning start next old new (Err (f.Absent file)) = OneAbsent old new × IfSome old.files (λ files. meaning files None ≡ Err (absent file))
-IsReadAs meaning start next old new (Err (f.ReadFault file)) = OneFault old new × (start ≤ file) × IfSome old.files (StopsAt meaning file new.refused_name)
-IsReadAs meaning start next old new (Err fault) = Still old new × IfSome old.files (λ files. meaning files None ≡ Err (refused fault))
+abbrev pub IsReadAs : {A : Type 0} → CallMeaning A → ℕ → (A → ℕ) → LibraryState → LibraryState → Result A DriverFault → Type 0
+IsReadAs meaning start next old new (Ok value) = StaysSame old new × (start ≤ next value)
+    × IfSome old.files (λ files. (limit : Option ℕ) → ReachesReading limit (next value) → meaning files limit ≡ Ok value)
+IsReadAs meaning start next old new (Err f.Memory) = StaysSame old new
+IsReadAs meaning start next old new (Err (f.Absent file)) = OneFileAbsent old new × IfSome old.files (λ files. meaning files None ≡ Err (file_absent file))
+IsReadAs meaning start next old new (Err (f.ReadFault file)) = OneFileFault old new × (start ≤ file) × IfSome old.files (StopsReadingAt meaning file new.refused_name)
+IsReadAs meaning start next old new (Err fault) = StaysSame old new × IfSome old.files (λ files. meaning files None ≡ Err (file_refused fault))
 
 -- The files stay, and the answer meets the meaning.
-pub record ReadsAs {A : Type 0} (meaning : Meaning A) (start : ℕ) (next : A → ℕ) (old new : LibraryState) (result : Result A DriverFault) : Type 0 where
+pub record ReadsAs {A : Type 0} (meaning : CallMeaning A) (start : ℕ) (next : A → ℕ) (old new : LibraryState) (result : Result A DriverFault) : Type 0 where
   pub files : new.files ≡ old.files
   pub meets : IsReadAs meaning start next old new result

@@ -1,7 +1,7 @@
 // The files of a driver, by their numbers, and their lines.
 // They depend on the library; the reading of files depends on them.
 ghost use Rattle.std.specs.Prelude.{◌+◌};
-ghost use Rattle.driver_files.specs.Calls.{HasLines, bytes_of};
+ghost use Rattle.driver_files.specs.Calls.{HasLines, bytes_of_result};
 ghost use Rattle.driver_files.specs.Reading.{ReadsAs, short_file};
 
 use driver_parts::DriverFault;
@@ -15,7 +15,7 @@ const MOST: usize = 67_108_865;
 /// A file of at most 67,108,864 bytes, which is fetched with this number.
 pub fn fetch_file<L: Library>(lib: &mut L, file: usize, name: &str) -> Result<Vec<u8>, DriverFault>
     ensures { ReadsAs (short_file file name.now) file (λ _. file + 1) (L.state lib.old)
-        (L.state lib.new) (bytes_of result) }
+        (L.state lib.new) (bytes_of_result result) }
 {
     match lib.fetch(name, MOST) {
         Ok(bytes) => {

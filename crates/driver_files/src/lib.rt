@@ -1,4 +1,4 @@
-//! Drivers: `read_driver` reads a driver file with its imports, or names what stands in its way first.
+//! Drivers: `read_driver` reads a driver file with its imports, or names what is in its way first.
 //! It depends on a library of files and on the parts of drivers; nothing depends on it yet.
 #![tactic(auto)]
 

@@ -1,7 +1,7 @@
 // Names of files: whether one is among others, and that of an imported file.
 // They depend on the thin collections; the reading of files depends on them.
 ghost use Rattle.std.specs.Prelude.{◌≡◌, ◌||◌, IfOk, if◌then◌else◌, length, nat_eq, string_bytes};
-ghost use Rattle.word_tables.specs.Words.{same};
+ghost use Rattle.word_tables.specs.Words.{is_same_word};
 ghost use Rattle.driver_files.specs.Reading as spec;
 
 use driver_items::part;
@@ -9,14 +9,14 @@ use outside::Text;
 use std::alloc::{AllocError, Global};
 
 fn is_name(its: &Text, name: &[u8]) -> bool
-    ensures { result ≡ same its.now name.now }
+    ensures { result ≡ is_same_word its.now name.now }
 {
     its.as_slice() == name
 }
 
 /// Whether a name is among others.
 pub fn is_among(names: &[Text], name: &[u8]) -> bool
-    ensures { result ≡ spec.is_among names.now name.now }
+    ensures { result ≡ spec.is_named_among names.now name.now }
 {
     for its in names {
         if is_name(its, name) {
@@ -28,7 +28,7 @@ pub fn is_among(names: &[Text], name: &[u8]) -> bool
 
 /// Whether a file can't be imported: no more files may be read at once, or it is being read.
 pub fn is_cycle(room: usize, opened: &[Text], name: &[u8]) -> bool
-    ensures { result ≡ (nat_eq room 0 || spec.is_among opened.now name.now) }
+    ensures { result ≡ (nat_eq room 0 || spec.is_named_among opened.now name.now) }
 {
     if room == 0 {
         return true;

@@ -5,9 +5,9 @@ ghost use Rattle.driver_tokens.specs.File.{lines_in};
 ghost use Rattle.driver_tokens.specs.Tokens.{lexeme_in};
 ghost use Rattle.driver_parts.specs.Items.{item_of};
 ghost use Rattle.driver_parts.specs.Steps as steps;
-ghost use Rattle.driver_files.specs.Calls.{Bytes, File, Import, IsImport, Lines, OneLine, Whole, next_of, place, with_progress};
+ghost use Rattle.driver_files.specs.Calls.{BytesMeaning, FileMeaning, ImportMeaning, IsImport, LinesMeaning, OneLineMeaning, WholeMeaning, next_of, place, with_progress};
 ghost use Rattle.driver_files.specs.Calls as calls;
-ghost use Rattle.driver_files.specs.Reading.{ReadsAs, driver_named, place_of};
+ghost use Rattle.driver_files.specs.Reading.{ReadsAs, driver_named, reading_place};
 ghost use Rattle.driver_files.specs.Reading as spec;
 
 use crate::fetching::{fetch_file, lines_of};
@@ -65,7 +65,7 @@ fn is_end(terminal: DriverTerminal) -> bool
     }
 }
 
-/// The block in which what stands behind a line is.
+/// The block in which what comes after a line is.
 fn block_behind(
     alloc: Global,
     text: &[u8],
@@ -123,7 +123,7 @@ fn read_import<L: Library>(
     opened: &mut Seq<Text>,
     progress: &mut Progress,
 ) -> Result<(), DriverFault>
-    ensures answers { ReadsAs (Import symbols.now theories.now
+    ensures answers { ReadsAs (ImportMeaning symbols.now theories.now
         (place file importer.now opened.old room) byte name.now progress.old) progress.old.next
         next_of (L.state lib.old) (L.state lib.new) (with_progress result progress.new) }
     ensures opened { OnOk result (opened.new ≡ opened.old) }
@@ -154,7 +154,7 @@ fn read_line<L: Library>(
     opened: &mut Seq<Text>,
     progress: &mut Progress,
 ) -> Result<(), DriverFault>
-    ensures answers { ReadsAs (OneLine symbols.now theories.now
+    ensures answers { ReadsAs (OneLineMeaning symbols.now theories.now
         (place file name.now opened.old room) block.now (map (lexeme_in text.now) line.now)
         progress.old) progress.old.next next_of (L.state lib.old) (L.state lib.new)
         (with_progress result progress.new) }
@@ -206,7 +206,8 @@ fn read_lines<L: Library>(
     opened: &mut Seq<Text>,
     progress: &mut Progress,
 ) -> Result<(), DriverFault>
-    ensures answers { ReadsAs (Lines symbols.now theories.now (place file name.now opened.old room)
+    ensures answers { ReadsAs (LinesMeaning symbols.now theories.now
+        (place file name.now opened.old room)
         None (lines_in text.now its.now) progress.old) progress.old.next next_of (L.state lib.old)
         (L.state lib.new) (with_progress result progress.new) }
     ensures opened { OnOk result (opened.new ≡ opened.old) }
@@ -237,8 +238,9 @@ fn read_whole<L: Library>(
     opened: &mut Seq<Text>,
     progress: &mut Progress,
 ) -> Result<(), DriverFault>
-    ensures answers { ReadsAs (Whole symbols.now theories.now
-        (place_of room opened.old name.now file) text.now (lines_in text.now its.now) progress.old)
+    ensures answers { ReadsAs (WholeMeaning symbols.now theories.now
+        (reading_place room opened.old name.now file) text.now (lines_in text.now its.now)
+        progress.old)
         progress.old.next next_of (L.state lib.old) (L.state lib.new)
         (with_progress result progress.new) }
     ensures opened { OnOk result (opened.new ≡ opened.old) }
@@ -265,8 +267,9 @@ fn read_bytes<L: Library>(
     opened: &mut Seq<Text>,
     progress: &mut Progress,
 ) -> Result<(), DriverFault>
-    ensures answers { ReadsAs (Bytes symbols.now theories.now
-        (place_of room opened.old name.now file) text.now progress.old) progress.old.next next_of
+    ensures answers { ReadsAs (BytesMeaning symbols.now theories.now
+        (reading_place room opened.old name.now file) text.now progress.old) progress.old.next
+        next_of
         (L.state lib.old) (L.state lib.new) (with_progress result progress.new) }
     ensures opened { OnOk result (opened.new ≡ opened.old) }
 {
@@ -288,7 +291,8 @@ fn read_file<L: Library>(
     opened: &mut Seq<Text>,
     progress: &mut Progress,
 ) -> Result<(), DriverFault>
-    ensures answers { ReadsAs (File symbols.now theories.now room opened.old name.now progress.old)
+    ensures answers { ReadsAs (FileMeaning symbols.now theories.now room opened.old name.now
+        progress.old)
         progress.old.next next_of (L.state lib.old) (L.state lib.new)
         (with_progress result progress.new) }
     ensures opened { OnOk result (opened.new ≡ opened.old) }
@@ -307,7 +311,7 @@ fn read_file<L: Library>(
 
 /// The driver of how far it is read, if a printer was named.
 fn finish(progress: Progress) -> Result<Driver, DriverFault>
-    ensures { calls.Finishes progress result }
+    ensures { calls.FinishesDriver progress result }
 {
     let Progress {
         parts,
@@ -327,9 +331,9 @@ fn finish(progress: Progress) -> Result<Driver, DriverFault>
 /// The driver of a file, with its imports in place, over a signature and the known theories with their propositions.
 ///
 /// A file is fetched with the next number from 1 on, unless it was read whole before. The name of an imported file is the
-/// folder of the importing one (its name up to the last `/`) with the string behind it.
+/// folder of the importing one (its name up to the last `/`) with the string after it.
 ///
-/// The first of these is answered, where one stands in the way:
+/// The first of these is answered, where one is in the way:
 /// - `Absent`, `ReadFault`: the file with this number isn't there, or can't be read.
 /// - `TooLong`: it has more than 67,108,864 bytes.
 /// - `DriverSyntax`: the first byte at which no token begins or a token that no driver file allows there, before any item

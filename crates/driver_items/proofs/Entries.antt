@@ -5,16 +5,16 @@ use Rattle.driver_tokens.specs.declared.terminal.NameKind.{NameKind}
 use Rattle.tasks.specs.declared.signature.SymbolInfo.{SymbolInfo}
 use Rattle.driver_items.specs.declared.symbols.Target.{Target}
 use Rattle.driver_items.specs.declared.symbols.Target.TheVariants.{Entry}
-use Rattle.driver_items.specs.Symbols.{is_named, by_kind, or_later, entry_from}
+use Rattle.driver_items.specs.Symbols.{is_symbol_named, by_kind, target_or_later, entry_from}
 
-or_twice : (a b c : Option (Target × ℕ)) → or_later a (or_later b c) ≡ or_later (or_later a b) c
+or_twice : (a b c : Option (Target × ℕ)) → target_or_later a (target_or_later b c) ≡ target_or_later (target_or_later a b) c
 or_twice a b (Some t) = refl
 or_twice a b None = refl
 
 -- with one symbol more
-pub entry-turn : (path : List ℕ) (kind : NameKind) (name : List ℕ) (ss : List SymbolInfo) (i : ℕ) (d : SymbolInfo) (found : Option (Target × ℕ)) (b : Bool) → i < length ss → b ≡ is_named path kind name (get_or ss i d) → or_later found (entry_from path kind name i (drop i ss)) ≡ or_later (or_later found (cond b (Some (Entry i, by_kind (get_or ss i d).kind (get_or ss i d))) None)) (entry_from path kind name (i + 1) (drop (i + 1) ss))
+pub entry-turn : (path : List ℕ) (kind : NameKind) (name : List ℕ) (ss : List SymbolInfo) (i : ℕ) (d : SymbolInfo) (found : Option (Target × ℕ)) (b : Bool) → i < length ss → b ≡ is_symbol_named path kind name (get_or ss i d) → target_or_later found (entry_from path kind name i (drop i ss)) ≡ target_or_later (target_or_later found (cond b (Some (Entry i, by_kind (get_or ss i d).kind (get_or ss i d))) None)) (entry_from path kind name (i + 1) (drop (i + 1) ss))
 entry-turn path kind name ss i d found b lt e =
     let s = get_or ss i d in
-    ap (λ v. or_later found (entry_from path kind name i v)) (drop_more ss i d lt)
-    ∙ ap (λ v. or_later found (or_later (cond v (Some (Entry i, by_kind s.kind s)) None) (entry_from path kind name (i + 1) (drop (i + 1) ss)))) (sym e)
+    ap (λ v. target_or_later found (entry_from path kind name i v)) (drop_more ss i d lt)
+    ∙ ap (λ v. target_or_later found (target_or_later (cond v (Some (Entry i, by_kind s.kind s)) None) (entry_from path kind name (i + 1) (drop (i + 1) ss)))) (sym e)
     ∙ or_twice found (cond b (Some (Entry i, by_kind s.kind s)) None) (entry_from path kind name (i + 1) (drop (i + 1) ss))

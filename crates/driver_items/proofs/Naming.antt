@@ -4,7 +4,7 @@ use Rattle.std.specs.List.{flat_map}
 use Rattle.std.specs.Option.{option_map}
 use Rattle.driver_tokens.specs.declared.token.DriverToken.{DriverToken}
 use Rattle.driver_tokens.specs.Tokens.{DriverLexeme, lexeme_in}
-use Rattle.driver_items.specs.Items.{name_bytes, line_of, name_of}
+use Rattle.driver_items.specs.Items.{name_bytes, prefix_mark, written_name}
 
 get-map : (f : DriverToken → DriverLexeme) (ts : List DriverToken) (i : ℕ) → slice_get (map f ts) i ≡ option_map f (slice_get ts i)
 get-map f [] i = refl
@@ -18,12 +18,12 @@ length-of f (t ∷ ts) = ap suc (length-of f ts)
 abbrev pub bytes_of : List DriverLexeme → List ℕ
 bytes_of xs = flat_map (λ x. name_bytes x.terminal x.text) xs
 
-pub whole-name : (text : List ℕ) (ts : List DriverToken) (front more : List ℕ) → front ≡ bytes_of (map (lexeme_in text) ts) → more ≡ front ++ line_of (option_map (lexeme_in text) (slice_get ts (length ts - 2))) → more ≡ name_of (map (lexeme_in text) ts)
+pub whole-name : (text : List ℕ) (ts : List DriverToken) (front more : List ℕ) → front ≡ bytes_of (map (lexeme_in text) ts) → more ≡ front ++ prefix_mark (option_map (lexeme_in text) (slice_get ts (length ts - 2))) → more ≡ written_name (map (lexeme_in text) ts)
 whole-name text ts front more e h =
     let f = lexeme_in text in
     h
-    ∙ ap (λ v. v ++ line_of (option_map f (slice_get ts (length ts - 2)))) e
-    ∙ ap (λ v. bytes_of (map f ts) ++ line_of v) (sym (get-map f ts (length ts - 2)) ∙ ap (λ v. slice_get (map f ts) (v - 2)) (sym (length-of f ts)))
+    ∙ ap (λ v. v ++ prefix_mark (option_map f (slice_get ts (length ts - 2)))) e
+    ∙ ap (λ v. bytes_of (map f ts) ++ prefix_mark v) (sym (get-map f ts (length ts - 2)) ∙ ap (λ v. slice_get (map f ts) (v - 2)) (sym (length-of f ts)))
 
 drop-end : (ts : List DriverToken) (i : ℕ) → length ts ≤ i → drop i ts ≡ []
 drop-end [] zero le = refl

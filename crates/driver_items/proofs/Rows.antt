@@ -6,19 +6,19 @@ use Rattle.driver_items.specs.declared.kinds.Trans.TheVariants as t
 use Rattle.driver_items.specs.declared.symbols.Target.TheVariants.{Int}
 use Rattle.driver_items.specs.Names.{printer_of, trans_of}
 use Rattle.driver_items.specs.Symbols.{target_of}
-use Rattle.driver_items.specs.Templates.{template_of}
+use Rattle.driver_items.specs.Templates.{template_pieces}
 
-minus : template_of (codes "(- %1)") 1 ≡ Some (Literal (codes "(- ") ∷ Argument 0 ∷ Literal (codes ")") ∷ [])
+minus : template_pieces (codes "(- %1)") 1 ≡ Some (Literal (codes "(- ") ∷ Argument 0 ∷ Literal (codes ")") ∷ [])
 minus = refl
 
-twice : template_of (codes "%1%1") 1 ≡ None
+twice : template_pieces (codes "%1%1") 1 ≡ None
 twice = refl
 
 -- `int` has no argument
-an_argument_of_int : template_of (codes "%1") 0 ≡ None
+an_argument_of_int : template_pieces (codes "%1") 0 ≡ None
 an_argument_of_int = refl
 
-no_percent : template_of (codes "50%") 0 ≡ None
+no_percent : template_pieces (codes "50%") 0 ≡ None
 no_percent = refl
 
 split : trans_of (codes "split_goal_right") ≡ Some t.SplitGoalRight

@@ -6,12 +6,12 @@ use Rattle.tokens_why.specs.declared.token.TokenKind.{TokenKind}
 use Rattle.tokens_why.specs.declared.token.TokenKind.TheVariants as source
 use Rattle.driver_tokens.specs.declared.terminal.DriverTerminal.{DriverTerminal}
 use Rattle.driver_tokens.specs.declared.terminal.DriverTerminal.TheVariants as t
-use Rattle.driver_tokens.specs.Strings.{said_by}
+use Rattle.driver_tokens.specs.Strings.{string_says}
 use Rattle.driver_tokens.specs.Tokens.{DriverLexeme}
 
 -- what a string says
-abbrev pub value_of : DriverLexeme → List ℕ
-value_of x = said_by (slice_range x.text 1 (length x.text - 1))
+abbrev pub string_value_of : DriverLexeme → List ℕ
+string_value_of x = string_says (slice_range x.text 1 (length x.text - 1))
 
 abbrev pub is_prefix_kind : Option TokenKind → Bool
 is_prefix_kind (Some (source.Operator level prefix)) = prefix
@@ -25,14 +25,14 @@ name_bytes t.Star text = slice_range text 1 2
 name_bytes _ text = text
 
 -- a prefix operator is spelled with `_` at its end, also where it is named without
-abbrev pub line_by : DriverTerminal → List ℕ → List ℕ
-line_by t.Operator text = if is_prefix_kind (kind_of text) then codes "_" else []
-line_by _ text = []
+abbrev pub prefix_mark_by : DriverTerminal → List ℕ → List ℕ
+prefix_mark_by t.Operator text = if is_prefix_kind (kind_of text) then codes "_" else []
+prefix_mark_by _ text = []
 
-abbrev pub line_of : Option DriverLexeme → List ℕ
-line_of (Some x) = line_by x.terminal x.text
-line_of None = []
+abbrev pub prefix_mark : Option DriverLexeme → List ℕ
+prefix_mark (Some x) = prefix_mark_by x.terminal x.text
+prefix_mark None = []
 
 -- the name that tokens write: words with dots, and an operator's own name
-abbrev pub name_of : List DriverLexeme → List ℕ
-name_of xs = flat_map (λ x. name_bytes x.terminal x.text) xs ++ line_of (slice_get xs (length xs - 2))
+abbrev pub written_name : List DriverLexeme → List ℕ
+written_name xs = flat_map (λ x. name_bytes x.terminal x.text) xs ++ prefix_mark (slice_get xs (length xs - 2))

@@ -1,7 +1,7 @@
 -- The words of transformations and printers in ascending order (Why3 manual, "Drivers").
 use Rattle.std.specs.Prelude.{ℕ, List, [], ◌∷◌, codes, map, Option, slice_get}
 use Rattle.std.specs.Option.{option_and_then}
-use Rattle.word_tables.specs.Words.{place_of}
+use Rattle.word_tables.specs.Words.{place_in_words}
 use Rattle.driver_items.specs.declared.kinds.Printer.{Printer}
 use Rattle.driver_items.specs.declared.kinds.Printer.TheVariants as printers
 use Rattle.driver_items.specs.declared.kinds.Trans.{Trans}
@@ -26,18 +26,18 @@ named_transformations = (codes "discriminate", transes.Discriminate)
 abbrev pub named_printers : List (List ℕ × Printer)
 named_printers = (codes "smtv2", printers.Smt) ∷ (codes "tptp-tff0", printers.Tff) ∷ []
 
-abbrev pub words_of : {A : Type 0} → List (List ℕ × A) → List (List ℕ)
-words_of {A} entries = map (λ (e : List ℕ × A). e.0) entries
+abbrev pub words_of_entries : {A : Type 0} → List (List ℕ × A) → List (List ℕ)
+words_of_entries {A} entries = map (λ (e : List ℕ × A). e.0) entries
 
 abbrev pub things_of : {A : Type 0} → List (List ℕ × A) → List A
 things_of {A} entries = map (λ (e : List ℕ × A). e.1) entries
 
-abbrev pub named : {A : Type 0} → List (List ℕ × A) → List ℕ → Option A
-named entries word = option_and_then (slice_get (things_of entries)) (place_of word (words_of entries))
+abbrev pub value_named : {A : Type 0} → List (List ℕ × A) → List ℕ → Option A
+value_named entries word = option_and_then (slice_get (things_of entries)) (place_in_words word (words_of_entries entries))
 
 -- the transformation that a word names
 abbrev pub trans_of : List ℕ → Option Trans
-trans_of = named named_transformations
+trans_of = value_named named_transformations
 
 abbrev pub printer_of : List ℕ → Option Printer
-printer_of = named named_printers
+printer_of = value_named named_printers

@@ -31,7 +31,7 @@ pub fn bytes_of(text: &[u8], token: DriverToken) -> &[u8]
 
 /// What a string says.
 pub fn string_of(alloc: Global, text: &[u8], token: DriverToken) -> Result<Text, AllocError>
-    ensures { IfOk result (λ t. t ≡ spec.value_of (lexeme_in text.now token)) }
+    ensures { IfOk result (λ t. t ≡ spec.string_value_of (lexeme_in text.now token)) }
 {
     let bytes = bytes_of(text, token);
     string_value(alloc, part(bytes, 1, bytes.len().saturating_sub(1)))
@@ -46,9 +46,10 @@ fn is_prefix_operator(operator: &[u8]) -> bool
     }
 }
 
-/// What stands behind an operator that is named without `_`.
+/// What comes after an operator that is named without `_`.
 fn line_by(text: &[u8], token: DriverToken) -> bool
-    ensures { (if result then codes "_" else []) ≡ spec.line_by token.terminal (lexeme_in text.now
+    ensures { (if result then codes "_" else [])
+        ≡ spec.prefix_mark_by token.terminal (lexeme_in text.now
         token).text }
 {
     match token.terminal {
@@ -59,7 +60,7 @@ fn line_by(text: &[u8], token: DriverToken) -> bool
 
 /// Whether a name lacks the `_` of its prefix operator.
 fn lacks_line(text: &[u8], tokens: &[DriverToken]) -> bool
-    ensures { (if result then codes "_" else []) ≡ spec.line_of (option_map (lexeme_in text.now)
+    ensures { (if result then codes "_" else []) ≡ spec.prefix_mark (option_map (lexeme_in text.now)
         (slice_get tokens.now (length tokens.now - 2))) }
 {
     let place = tokens.len().saturating_sub(2);
@@ -81,9 +82,9 @@ fn name_bytes(text: &[u8], token: DriverToken) -> &[u8]
     }
 }
 
-/// The `_` of a prefix operator that is named without, behind a name.
+/// The `_` of a prefix operator that is named without, after a name.
 fn push_line(name: &mut Vec<u8>, text: &[u8], tokens: &[DriverToken]) -> Result<(), AllocError>
-    ensures { IfOk result (λ u. name.new.items ≡ name.old.items ++ spec.line_of (option_map
+    ensures { IfOk result (λ u. name.new.items ≡ name.old.items ++ spec.prefix_mark (option_map
         (lexeme_in text.now) (slice_get tokens.now (length tokens.now - 2)))) }
 {
     let lacks = lacks_line(text, tokens);
@@ -97,7 +98,7 @@ fn push_line(name: &mut Vec<u8>, text: &[u8], tokens: &[DriverToken]) -> Result<
 
 /// The name that tokens write: words with dots, and an operator's own name.
 pub fn name_of(alloc: Global, text: &[u8], tokens: &[DriverToken]) -> Result<Text, AllocError>
-    ensures { IfOk result (λ t. t ≡ spec.name_of (map (lexeme_in text.now) tokens.now)) }
+    ensures { IfOk result (λ t. t ≡ spec.written_name (map (lexeme_in text.now) tokens.now)) }
 {
     let mut name = Vec::new(alloc);
     for token in tokens {

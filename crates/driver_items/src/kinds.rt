@@ -28,7 +28,7 @@ pub enum Trans {
     SplitGoalRight,
 }
 
-/// A piece of a template: bytes as they stand, or the argument with this number, which counts from 0.
+/// A piece of a template: bytes as they are, or the argument with this number, which counts from 0.
 #[derive(Drop)]
 pub enum Piece {
     Literal(Text),

@@ -1,13 +1,13 @@
 // What a driver's name of a symbol stands for, and which theories are known.
 // They depend on signatures; the steps of the reader depend on them.
 ghost use Rattle.std.specs.Prelude.{◌≡◌, option_map, string_bytes};
-ghost use Rattle.word_tables.specs.Words.{same};
-ghost use Rattle.driver_items.specs.Symbols.{among, builtin_of, by_kind, entry_from, has_proposition, is_builtin, is_kind, is_known, is_named, is_path, target_of, theory_of};
+ghost use Rattle.word_tables.specs.Words.{is_same_word};
+ghost use Rattle.driver_items.specs.Symbols.{among, builtin_of, by_kind, entry_from, has_proposition, is_builtin, is_named_kind, is_known, is_symbol_named, is_path, target_of, theory_with_path};
 
 use driver_tokens::NameKind;
 use tasks::{SymbolInfo, SymbolKind};
 
-/// A symbol for which a template may stand.
+/// A symbol for which a template may be there.
 #[derive(Clone, Copy)]
 pub enum Target {
     Int,
@@ -33,7 +33,7 @@ fn theory_of<'a>(
     theories: &'a [(String, Vec<String>)],
     path: &[u8],
 ) -> Option<&'a (String, Vec<String>)>
-    ensures { option_map (λ t. t.now) result ≡ theory_of path.now theories.now }
+    ensures { option_map (λ t. t.now) result ≡ theory_with_path path.now theories.now }
 {
     for theory in theories {
         if is_path(theory, path) {
@@ -51,7 +51,7 @@ pub fn is_known(theories: &[(String, Vec<String>)], path: &[u8]) -> bool
 }
 
 fn is_kind(kind: NameKind, its: SymbolKind) -> bool
-    ensures { result ≡ is_kind kind its }
+    ensures { result ≡ is_named_kind kind its }
 {
     match (kind, its) {
         (NameKind::Type, SymbolKind::Kind) => true,
@@ -63,7 +63,7 @@ fn is_kind(kind: NameKind, its: SymbolKind) -> bool
 }
 
 fn is_named(symbol: &SymbolInfo, path: &[u8], kind: NameKind, name: &[u8]) -> bool
-    ensures { result ≡ is_named path.now kind name.now symbol.now }
+    ensures { result ≡ is_symbol_named path.now kind name.now symbol.now }
 {
     if !is_kind(kind, symbol.kind) {
         return false;
@@ -137,7 +137,7 @@ pub fn target_of(
 }
 
 fn is_text(its: &String, name: &[u8]) -> bool
-    ensures { result ≡ same (string_bytes its.now) name.now }
+    ensures { result ≡ is_same_word (string_bytes its.now) name.now }
 {
     its.as_bytes() == name
 }

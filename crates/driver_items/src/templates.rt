@@ -10,7 +10,7 @@ use std::alloc::{AllocError, Global};
 
 /// The pieces so far, and a literal that isn't ended.
 fn put_literal(alloc: Global, pieces: &mut Seq<Piece>, literal: &[u8]) -> Result<(), AllocError>
-    ensures { IfOk result (λ u. pieces.new ≡ pieces.old ++ spec.literal literal.now) }
+    ensures { IfOk result (λ u. pieces.new ≡ pieces.old ++ spec.literal_pieces literal.now) }
 {
     if !literal.is_empty() {
         pieces.push(Piece::Literal(Text::from_slice(alloc, literal)?))?;
@@ -18,7 +18,7 @@ fn put_literal(alloc: Global, pieces: &mut Seq<Piece>, literal: &[u8]) -> Result
     Ok(())
 }
 
-/// A byte where no `%` stands before; whether it is one.
+/// A byte where no `%` is before; whether it is one.
 fn take_plain(literal: &mut Vec<u8>, byte: u8) -> Result<bool, AllocError>
     ensures { IfOk result (λ percent. GoesOnPlain byte literal.old.items literal.new.items
         percent) }
@@ -30,7 +30,7 @@ fn take_plain(literal: &mut Vec<u8>, byte: u8) -> Result<bool, AllocError>
     Ok(false)
 }
 
-/// A byte behind `%`; whether it may stand there.
+/// A byte after `%`; whether it may be there.
 fn take_escaped(
     alloc: Global,
     pieces: &mut Seq<Piece>,
@@ -53,7 +53,7 @@ fn take_escaped(
     Ok(true)
 }
 
-/// The pieces of a template, unless `%` stands before something else than a digit from 1 to 9 or `%`.
+/// The pieces of a template, unless `%` is before something else than a digit from 1 to 9 or `%`.
 fn pieces_of(alloc: Global, template: &[u8]) -> Result<Option<Seq<Piece>>, AllocError>
     ensures { IfOk result (λ r. r ≡ spec.pieces_from false [] template.now) }
 {
@@ -127,7 +127,7 @@ pub fn template_of(
     template: &[u8],
     arity: usize,
 ) -> Result<Option<Seq<Piece>>, AllocError>
-    ensures { IfOk result (λ r. r ≡ spec.template_of template.now arity) }
+    ensures { IfOk result (λ r. r ≡ spec.template_pieces template.now arity) }
 {
     match pieces_of(alloc, template)? {
         None => Ok(None),

@@ -2,7 +2,7 @@
 use Rattle.std.proofs.Common.{◌≡◌, ℕ, zero, suc, ◌<◌, ◌≤◌, true, false, nat_eq, nat_lt, cond, List, [], ◌∷◌, ◌++◌, length, slice_set, get_or, refl, sym, ap, ◌∙◌, arith}
 use Rattle.std.proofs.lemmas.Bool.Decides.{nat_tests}
 use Rattle.driver_items.specs.declared.kinds.Piece.{Piece}
-use Rattle.driver_parts.specs.Parts.{with_entry, IsPlaceOf}
+use Rattle.driver_parts.specs.Parts.{with_template_at, IsPlaceOf}
 
 abbrev pub Template : Type 0
 Template = ℕ × List Piece
@@ -14,23 +14,23 @@ NoneBefore ts entry place = (k : ℕ) → k < place → (get_or ts k (0, [])).0 
 abbrev pub none : Template
 none = (0, [])
 
-some_set : (ts : List Template) (entry : ℕ) (pieces : List Piece) (i : ℕ) → NoneBefore ts entry i → i < length ts → (get_or ts i none).0 ≡ entry → with_entry ts entry pieces ≡ slice_set ts i (entry, pieces)
+some_set : (ts : List Template) (entry : ℕ) (pieces : List Piece) (i : ℕ) → NoneBefore ts entry i → i < length ts → (get_or ts i none).0 ≡ entry → with_template_at ts entry pieces ≡ slice_set ts i (entry, pieces)
 some_set [] entry pieces i n lt e = absurd (omega arith)
 some_set (t ∷ ts) entry pieces zero n lt e =
     let here : nat_eq t.0 entry ≡ true = grind (arith, nat_tests) in
-    ap (λ v. cond v ((entry, pieces) ∷ ts) (t ∷ with_entry ts entry pieces)) here
+    ap (λ v. cond v ((entry, pieces) ∷ ts) (t ∷ with_template_at ts entry pieces)) here
 some_set (t ∷ ts) entry pieces (suc i) n lt e =
     let other : t.0 ≡ entry → ⊥ = n 0 (omega arith) in
     let here : nat_eq t.0 entry ≡ false = grind (arith, nat_tests) in
-    ap (λ v. cond v ((entry, pieces) ∷ ts) (t ∷ with_entry ts entry pieces)) here
+    ap (λ v. cond v ((entry, pieces) ∷ ts) (t ∷ with_template_at ts entry pieces)) here
     ∙ ap (λ v. t ∷ v) (some_set ts entry pieces i (λ k l. n (suc k) (omega arith)) (omega arith) e)
 
-none_set : (ts : List Template) (entry : ℕ) (pieces : List Piece) → NoneBefore ts entry (length ts) → with_entry ts entry pieces ≡ ts ++ (entry, pieces) ∷ []
+none_set : (ts : List Template) (entry : ℕ) (pieces : List Piece) → NoneBefore ts entry (length ts) → with_template_at ts entry pieces ≡ ts ++ (entry, pieces) ∷ []
 none_set [] entry pieces n = refl
 none_set (t ∷ ts) entry pieces n =
     let other : t.0 ≡ entry → ⊥ = n 0 (omega arith) in
     let here : nat_eq t.0 entry ≡ false = grind (arith, nat_tests) in
-    ap (λ v. cond v ((entry, pieces) ∷ ts) (t ∷ with_entry ts entry pieces)) here
+    ap (λ v. cond v ((entry, pieces) ∷ ts) (t ∷ with_template_at ts entry pieces)) here
     ∙ ap (λ v. t ∷ v) (none_set ts entry pieces (λ k l. n (suc k) (omega arith)))
 
 pub place-found : (ts : List Template) (entry i : ℕ) → NoneBefore ts entry i → i < length ts → (get_or ts i none).0 ≡ entry → IsPlaceOf ts entry i

@@ -7,12 +7,12 @@ use Rattle.driver_tokens.specs.declared.terminal.DriverWord.TheVariants as w
 use Rattle.driver_tokens.specs.declared.terminal.Heading.TheVariants as h
 use Rattle.driver_tokens.specs.declared.token.DriverToken.{DriverToken}
 use Rattle.driver_tokens.specs.Tokens.{DriverLexeme, lexeme_in}
-use Rattle.driver_items.specs.Items.{name_of}
+use Rattle.driver_items.specs.Items.{written_name}
 use Rattle.driver_parts.specs.Items.{block, silent, template_by, removed_by, syntax_by, removal_by, item_by, item_alone, item_of, end_of_block}
 use Rattle.tasks.specs.declared.signature.SymbolInfo.{SymbolInfo}
-use Rattle.driver_items.specs.Symbols.{Theories, is_known}
+use Rattle.driver_items.specs.Symbols.{NamedTheories, is_known}
 use Rattle.driver_parts.specs.declared.parts.Parts.{Parts}
-use Rattle.driver_parts.specs.Steps.{Read, step}
+use Rattle.driver_parts.specs.Steps.{Read, item_step}
 use Rattle.driver_parts.specs.Lines.{syntax_in, remove_in, item_in}
 
 module _ (f : DriverToken → DriverLexeme) where
@@ -64,7 +64,7 @@ removal-same text (t.Word w.Prop) line =
 removal-same text _ line = refl
 
 item-same : (text : List ℕ) (x : DriverTerminal) (y : DriverToken) (line : List DriverToken) → item_by x (lexeme_in text y) (map (lexeme_in text) line) ≡ item_in text x y line
-item-same text (t.Word w.Theory) y line = ap (λ v. block (name_of v)) (rest-map (lexeme_in text) 1 line)
+item-same text (t.Word w.Theory) y line = ap (λ v. block (written_name v)) (rest-map (lexeme_in text) 1 line)
 item-same text (t.Word w.Syntax) y line = syntax-same text y.terminal line
 item-same text (t.Word w.Remove) y line = removal-same text y.terminal line
 item-same text (t.Word (w.Heading h.Printer)) y line = refl
@@ -87,19 +87,19 @@ same-both : (b : Bool) (p : Parts) → cond b (Ok p) (Ok p) ≡ kept p
 same-both true p = refl
 same-both false p = refl
 
-silent-step : (symbols : List SymbolInfo) (theories : Theories) (file : ℕ) (path : Option (List ℕ)) (p : Parts) → step symbols theories file path silent p ≡ Ok p
+silent-step : (symbols : List SymbolInfo) (theories : NamedTheories) (file : ℕ) (path : Option (List ℕ)) (p : Parts) → item_step symbols theories file path silent p ≡ Ok p
 silent-step symbols theories file None p = refl
 silent-step symbols theories file (Some path) p = same-both (is_known theories path) p
 
-end-step : (symbols : List SymbolInfo) (theories : Theories) (file : ℕ) (path : Option (List ℕ)) (p : Parts) → step symbols theories file path end_of_block p ≡ Ok p
+end-step : (symbols : List SymbolInfo) (theories : NamedTheories) (file : ℕ) (path : Option (List ℕ)) (p : Parts) → item_step symbols theories file path end_of_block p ≡ Ok p
 end-step symbols theories file None p = refl
 end-step symbols theories file (Some path) p = same-both (is_known theories path) p
 
-alone-step : (symbols : List SymbolInfo) (theories : Theories) (file : ℕ) (path : Option (List ℕ)) (p : Parts) (x : DriverTerminal) → step symbols theories file path (item_alone x) p ≡ Ok p
+alone-step : (symbols : List SymbolInfo) (theories : NamedTheories) (file : ℕ) (path : Option (List ℕ)) (p : Parts) (x : DriverTerminal) → item_step symbols theories file path (item_alone x) p ≡ Ok p
 alone-step symbols theories file path p (t.Word w.End) = end-step symbols theories file path p
 alone-step symbols theories file path p _ = silent-step symbols theories file path p
 
-pub short-line : (symbols : List SymbolInfo) (theories : Theories) (file : ℕ) (path : Option (List ℕ)) (p : Parts) (text : List ℕ) (line : List DriverToken) → length line < 2 → step symbols theories file path (item_of (map (lexeme_in text) line)) p ≡ Ok p
+pub short-line : (symbols : List SymbolInfo) (theories : NamedTheories) (file : ℕ) (path : Option (List ℕ)) (p : Parts) (text : List ℕ) (line : List DriverToken) → length line < 2 → item_step symbols theories file path (item_of (map (lexeme_in text) line)) p ≡ Ok p
 short-line symbols theories file path p text [] lt = silent-step symbols theories file path p
 short-line symbols theories file path p text (x ∷ []) lt = alone-step symbols theories file path p x.terminal
 short-line symbols theories file path p text (x ∷ y ∷ zs) lt = absurd (omega arith)

@@ -6,60 +6,60 @@ use Rattle.driver_tokens.specs.declared.terminal.DriverWord.TheVariants as w
 use Rattle.driver_tokens.specs.declared.terminal.Heading.TheVariants as h
 use Rattle.driver_tokens.specs.declared.terminal.NameKind.{NameKind}
 use Rattle.driver_tokens.specs.Tokens.{DriverLexeme}
-use Rattle.driver_items.specs.Items.{value_of, name_of}
+use Rattle.driver_items.specs.Items.{string_value_of, written_name}
 
 -- What a line says; numbers are bytes. A line that has no effect is silent.
-pub data Item : Type 0 where
-  prelude : List ℕ → Item
-  printer : ℕ → List ℕ → Item
-  transformation : ℕ → List ℕ → Item
-  imported : ℕ → List ℕ → Item
-  block : List ℕ → Item
-  end_of_block : Item
-  template : NameKind → ℕ → List ℕ → ℕ → List ℕ → Item
-  removal : ℕ → List ℕ → Item
-  removal_of_all : Item
-  silent : Item
+pub data DriverItem : Type 0 where
+  prelude : List ℕ → DriverItem
+  printer : ℕ → List ℕ → DriverItem
+  transformation : ℕ → List ℕ → DriverItem
+  file_import : ℕ → List ℕ → DriverItem
+  block : List ℕ → DriverItem
+  end_of_block : DriverItem
+  template : NameKind → ℕ → List ℕ → ℕ → List ℕ → DriverItem
+  removal : ℕ → List ℕ → DriverItem
+  removal_of_all : DriverItem
+  silent : DriverItem
 
--- `syntax KIND NAME STRING`, by the tokens behind the kind
-abbrev pub template_by : NameKind → Option DriverLexeme → Option DriverLexeme → List DriverLexeme → Item
-template_by k (Some x) (Some z) name = template k x.at (name_of name) z.at (value_of z)
+-- `syntax KIND NAME STRING`, by the tokens after the kind
+abbrev pub template_by : NameKind → Option DriverLexeme → Option DriverLexeme → List DriverLexeme → DriverItem
+template_by k (Some x) (Some z) name = template k x.at (written_name name) z.at (string_value_of z)
 template_by k _ _ name = silent
 
-abbrev pub syntax_by : DriverTerminal → List DriverLexeme → Item
+abbrev pub syntax_by : DriverTerminal → List DriverLexeme → DriverItem
 syntax_by (t.Word (w.Kind k)) line = template_by k (slice_get line 2) (slice_get line (length line - 1)) (slice_range line 2 (length line - 1))
 syntax_by _ line = silent
 
 -- `remove prop NAME`
-abbrev pub removed_by : Option DriverLexeme → List DriverLexeme → Item
-removed_by (Some x) name = removal x.at (name_of name)
+abbrev pub removed_by : Option DriverLexeme → List DriverLexeme → DriverItem
+removed_by (Some x) name = removal x.at (written_name name)
 removed_by None name = silent
 
-abbrev pub removal_by : DriverTerminal → List DriverLexeme → Item
+abbrev pub removal_by : DriverTerminal → List DriverLexeme → DriverItem
 removal_by (t.Word w.Prop) line = removed_by (slice_get line 2) (slice_range line 2 (length line))
 removal_by (t.Word w.Allprops) line = removal_of_all
 removal_by _ line = silent
 
 -- a line by its first token and its second
-abbrev pub item_by : DriverTerminal → DriverLexeme → List DriverLexeme → Item
-item_by (t.Word w.Prelude) y line = prelude (value_of y)
-item_by (t.Word (w.Heading h.Printer)) y line = printer y.at (value_of y)
-item_by (t.Word (w.Heading h.Transformation)) y line = transformation y.at (value_of y)
-item_by (t.Word (w.Heading h.Import)) y line = imported y.at (value_of y)
-item_by (t.Word w.Theory) y line = block (name_of (slice_range line 1 (length line)))
+abbrev pub item_by : DriverTerminal → DriverLexeme → List DriverLexeme → DriverItem
+item_by (t.Word w.Prelude) y line = prelude (string_value_of y)
+item_by (t.Word (w.Heading h.Printer)) y line = printer y.at (string_value_of y)
+item_by (t.Word (w.Heading h.Transformation)) y line = transformation y.at (string_value_of y)
+item_by (t.Word (w.Heading h.Import)) y line = file_import y.at (string_value_of y)
+item_by (t.Word w.Theory) y line = block (written_name (slice_range line 1 (length line)))
 item_by (t.Word w.Syntax) y line = syntax_by y.terminal line
 item_by (t.Word w.Remove) y line = removal_by y.terminal line
 item_by _ y line = silent
 
-abbrev pub item_alone : DriverTerminal → Item
+abbrev pub item_alone : DriverTerminal → DriverItem
 item_alone (t.Word w.End) = end_of_block
 item_alone _ = silent
 
-abbrev pub by_two : Option DriverLexeme → Option DriverLexeme → List DriverLexeme → Item
+abbrev pub by_two : Option DriverLexeme → Option DriverLexeme → List DriverLexeme → DriverItem
 by_two (Some x) (Some y) line = item_by x.terminal y line
 by_two (Some x) None line = item_alone x.terminal
 by_two None _ line = silent
 
 -- what a line says
-abbrev pub item_of : List DriverLexeme → Item
+abbrev pub item_of : List DriverLexeme → DriverItem
 item_of line = by_two (slice_get line 0) (slice_get line 1) line

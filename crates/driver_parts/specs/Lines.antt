@@ -8,32 +8,32 @@ use Rattle.driver_tokens.specs.declared.terminal.Heading.TheVariants as h
 use Rattle.driver_tokens.specs.declared.terminal.NameKind.{NameKind}
 use Rattle.driver_tokens.specs.declared.token.DriverToken.{DriverToken}
 use Rattle.driver_tokens.specs.Tokens.{lexeme_in}
-use Rattle.driver_items.specs.Items.{value_of, name_of}
-use Rattle.driver_parts.specs.Items.{Item, prelude, printer, transformation, imported, block, removal_of_all, silent, template_by, removed_by}
+use Rattle.driver_items.specs.Items.{string_value_of, written_name}
+use Rattle.driver_parts.specs.Items.{DriverItem, prelude, printer, transformation, file_import, block, removal_of_all, silent, template_by, removed_by}
 
-abbrev pub template_in : List ℕ → NameKind → List DriverToken → Item
-template_in text kind line =
+abbrev pub template_item : List ℕ → NameKind → List DriverToken → DriverItem
+template_item text kind line =
     template_by kind (option_map (lexeme_in text) (slice_get line 2)) (option_map (lexeme_in text) (slice_get line (length line - 1))) (map (lexeme_in text) (slice_range line 2 (length line - 1)))
 
-abbrev pub removal_in : List ℕ → List DriverToken → Item
+abbrev pub removal_in : List ℕ → List DriverToken → DriverItem
 removal_in text line = removed_by (option_map (lexeme_in text) (slice_get line 2)) (map (lexeme_in text) (slice_range line 2 (length line)))
 
-abbrev pub syntax_in : List ℕ → DriverTerminal → List DriverToken → Item
-syntax_in text (t.Word (w.Kind kind)) line = template_in text kind line
+abbrev pub syntax_in : List ℕ → DriverTerminal → List DriverToken → DriverItem
+syntax_in text (t.Word (w.Kind kind)) line = template_item text kind line
 syntax_in text _ line = silent
 
-abbrev pub remove_in : List ℕ → DriverTerminal → List DriverToken → Item
+abbrev pub remove_in : List ℕ → DriverTerminal → List DriverToken → DriverItem
 remove_in text (t.Word w.Prop) line = removal_in text line
 remove_in text (t.Word w.Allprops) line = removal_of_all
 remove_in text _ line = silent
 
 -- what a line says, by its first token's terminal and its second token
-abbrev pub item_in : List ℕ → DriverTerminal → DriverToken → List DriverToken → Item
-item_in text (t.Word w.Prelude) y line = prelude (value_of (lexeme_in text y))
-item_in text (t.Word (w.Heading h.Printer)) y line = printer y.start (value_of (lexeme_in text y))
-item_in text (t.Word (w.Heading h.Transformation)) y line = transformation y.start (value_of (lexeme_in text y))
-item_in text (t.Word (w.Heading h.Import)) y line = imported y.start (value_of (lexeme_in text y))
-item_in text (t.Word w.Theory) y line = block (name_of (map (lexeme_in text) (slice_range line 1 (length line))))
+abbrev pub item_in : List ℕ → DriverTerminal → DriverToken → List DriverToken → DriverItem
+item_in text (t.Word w.Prelude) y line = prelude (string_value_of (lexeme_in text y))
+item_in text (t.Word (w.Heading h.Printer)) y line = printer y.start (string_value_of (lexeme_in text y))
+item_in text (t.Word (w.Heading h.Transformation)) y line = transformation y.start (string_value_of (lexeme_in text y))
+item_in text (t.Word (w.Heading h.Import)) y line = file_import y.start (string_value_of (lexeme_in text y))
+item_in text (t.Word w.Theory) y line = block (written_name (map (lexeme_in text) (slice_range line 1 (length line))))
 item_in text (t.Word w.Syntax) y line = syntax_in text y.terminal line
 item_in text (t.Word w.Remove) y line = remove_in text y.terminal line
 item_in text _ y line = silent

@@ -20,14 +20,14 @@ literal_of (Literal text ∷ pieces) = text
 literal_of (Argument number ∷ pieces) = []
 
 -- the template of an entry in the place of its earlier one, or at the end
-abbrev pub with_entry : List (ℕ × List Piece) → ℕ → List Piece → List (ℕ × List Piece)
-with_entry [] entry pieces = (entry, pieces) ∷ []
-with_entry (t ∷ ts) entry pieces = if nat_eq t.0 entry then (entry, pieces) ∷ ts else t ∷ with_entry ts entry pieces
+abbrev pub with_template_at : List (ℕ × List Piece) → ℕ → List Piece → List (ℕ × List Piece)
+with_template_at [] entry pieces = (entry, pieces) ∷ []
+with_template_at (t ∷ ts) entry pieces = if nat_eq t.0 entry then (entry, pieces) ∷ ts else t ∷ with_template_at ts entry pieces
 
 abbrev pub with_template : Parts → Target → List Piece → Parts
 with_template parts Int pieces = record parts { int_template = Some (literal_of pieces) }
 with_template parts Equality pieces = record parts { eq_template = Some pieces }
-with_template parts (Entry entry) pieces = record parts { templates = with_entry parts.templates entry pieces }
+with_template parts (Entry entry) pieces = record parts { templates = with_template_at parts.templates entry pieces }
 
 abbrev pub with_stage : Parts → Trans → Parts
 with_stage parts stage = record parts { stages = parts.stages ++ stage ∷ [] }
@@ -59,8 +59,8 @@ driver_of parts printer next_file = record {
 }
 
 -- where the template of an entry goes
-abbrev pub placed : List (ℕ × List Piece) → ℕ → ℕ × List Piece → List (ℕ × List Piece)
-placed ts place t = if nat_lt place (length ts) then slice_set ts place t else ts ++ t ∷ []
+abbrev pub template_placed : List (ℕ × List Piece) → ℕ → ℕ × List Piece → List (ℕ × List Piece)
+template_placed ts place t = if nat_lt place (length ts) then slice_set ts place t else ts ++ t ∷ []
 
 abbrev pub IsPlaceOf : List (ℕ × List Piece) → ℕ → ℕ → Type 0
-IsPlaceOf ts entry place = (pieces : List Piece) → with_entry ts entry pieces ≡ placed ts place (entry, pieces)
+IsPlaceOf ts entry place = (pieces : List Piece) → with_template_at ts entry pieces ≡ template_placed ts place (entry, pieces)

@@ -19,7 +19,7 @@ pub struct Driver {
     pub int_template: Option<Text>,
     /// The template of equality.
     pub eq_template: Option<Seq<Piece>>,
-    /// The preludes in order, each with the theory in whose block it stands.
+    /// The preludes in order, each with the theory in whose block it is there.
     pub preludes: Seq<(Option<Text>, Text)>,
     /// The number of the file that is fetched next: one more than that of the last file of the driver.
     pub next_file: usize,

@@ -15,7 +15,7 @@ use std::alloc::{AllocError, AllocFailed};
 ///   it ends too early.
 /// - `UnknownTransformation`: the string at this byte names no transformation.
 /// - `BadTemplate`: the template at this byte doesn't name each argument of the symbol exactly once, or there are more than
-///   nine, or `%` stands before something else.
+///   nine, or `%` is before something else.
 /// - `UnknownSymbol`: the theory of the block is known and has nothing of this kind and name.
 /// - `ImportCycle`: the file that is imported at this byte is being read, or 32 files are.
 /// - `UnknownPrinter`: the string at this byte names no printer; or the driver names none, at the length of file 1.

@@ -52,7 +52,7 @@ fn literal_of(alloc: Global, pieces: Seq<Piece>) -> Text
     }
 }
 
-/// The place of an entry's template, if it has one, or behind the last.
+/// The place of an entry's template, if it has one, or after the last.
 fn place_of(templates: &[(usize, Seq<Piece>)], entry: usize) -> usize
     ensures { IsPlaceOf templates.now entry result }
 {
@@ -70,7 +70,7 @@ fn set_entry(
     entry: usize,
     pieces: Seq<Piece>,
 ) -> Result<(), AllocError>
-    ensures { IfOk result (λ u. templates.new ≡ spec.with_entry templates.old entry pieces) }
+    ensures { IfOk result (λ u. templates.new ≡ spec.with_template_at templates.old entry pieces) }
 {
     let place = place_of(templates.as_slice(), entry);
     if place < templates.len() {

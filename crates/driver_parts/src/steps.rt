@@ -2,14 +2,14 @@
 // They depend on what the lines say and on the parts; the reader of files depends on them.
 ghost use Rattle.std.specs.Prelude.{◌≡◌, None, Ok, Some, map, option_map};
 ghost use Rattle.driver_tokens.specs.Tokens.{lexeme_in};
-ghost use Rattle.driver_items.specs.Items.{value_of};
+ghost use Rattle.driver_items.specs.Items.{string_value_of};
 ghost use Rattle.driver_items.specs.Names as names;
 ghost use Rattle.driver_items.specs.Templates as templates;
 ghost use Rattle.driver_parts.specs.Items.{item_of};
-ghost use Rattle.driver_parts.specs.Lines.{item_in, removal_in, template_in};
+ghost use Rattle.driver_parts.specs.Lines.{item_in, removal_in, template_item};
 ghost use Rattle.driver_parts.specs.Parts.{with_all_removed, with_prelude};
 ghost use Rattle.driver_parts.specs.Steps as spec;
-ghost use Rattle.driver_parts.specs.Steps.{Meets};
+ghost use Rattle.driver_parts.specs.Steps.{MeetsResult};
 
 use crate::fault::DriverFault;
 use crate::parts::{Parts, set_template};
@@ -29,8 +29,9 @@ fn set_printer(
     parts: &mut Parts,
     string: DriverToken,
 ) -> Result<(), DriverFault>
-    ensures { Meets result parts.new (spec.printed file string.start parts.old (names.printer_of
-        (value_of (lexeme_in text.now string)))) }
+    ensures { MeetsResult result parts.new
+        (spec.printer_read file string.start parts.old (names.printer_of
+        (string_value_of (lexeme_in text.now string)))) }
 {
     let word = string_of(alloc, text, string)?;
     match printer_of(word.as_slice()) {
@@ -52,8 +53,8 @@ fn push_stage(
     parts: &mut Parts,
     string: DriverToken,
 ) -> Result<(), DriverFault>
-    ensures { Meets result parts.new (spec.staged file string.start parts.old (names.trans_of
-        (value_of (lexeme_in text.now string)))) }
+    ensures { MeetsResult result parts.new (spec.staged file string.start parts.old (names.trans_of
+        (string_value_of (lexeme_in text.now string)))) }
 {
     let word = string_of(alloc, text, string)?;
     match trans_of(word.as_slice()) {
@@ -78,8 +79,8 @@ fn put_template(
     arity: usize,
     template: &[u8],
 ) -> Result<(), DriverFault>
-    ensures { Meets result parts.new (spec.templated file byte parts.old target
-        (templates.template_of template.now arity)) }
+    ensures { MeetsResult result parts.new (spec.templated file byte parts.old target
+        (templates.template_pieces template.now arity)) }
 {
     match template_of(alloc, template, arity)? {
         Some(pieces) => {
@@ -90,7 +91,7 @@ fn put_template(
     }
 }
 
-/// A template for a name, whose first byte is told where it stands for nothing.
+/// A template for a name, whose first byte is told where it is for nothing.
 fn put_named(
     alloc: Global,
     file: usize,
@@ -100,7 +101,7 @@ fn put_named(
     target: Option<(Target, usize)>,
     template: &[u8],
 ) -> Result<(), DriverFault>
-    ensures { Meets result parts.new (spec.targeted file name_byte byte template.now parts.old
+    ensures { MeetsResult result parts.new (spec.targeted file name_byte byte template.now parts.old
         target) }
 {
     match target {
@@ -124,8 +125,8 @@ fn take_template(
     kind: NameKind,
     line: &[DriverToken],
 ) -> Result<(), DriverFault>
-    ensures { Meets result parts.new (spec.block_step symbols.now theories.now file path.now
-        (template_in text.now kind line.now) parts.old) }
+    ensures { MeetsResult result parts.new (spec.block_step symbols.now theories.now file path.now
+        (template_item text.now kind line.now) parts.old) }
 {
     let last = line.len().saturating_sub(1);
     match (line.get(2), line.get(last)) {
@@ -158,7 +159,7 @@ fn take_removal(
     parts: &mut Parts,
     line: &[DriverToken],
 ) -> Result<(), DriverFault>
-    ensures { Meets result parts.new (spec.block_step symbols.now theories.now file path.now
+    ensures { MeetsResult result parts.new (spec.block_step symbols.now theories.now file path.now
         (removal_in text.now line.now) parts.old) }
 {
     match line.get(2) {
@@ -179,7 +180,7 @@ fn take_removal(
 }
 
 fn push_all_removed(alloc: Global, path: &[u8], parts: &mut Parts) -> Result<(), DriverFault>
-    ensures { Meets result parts.new (Ok (with_all_removed parts.old path.now)) }
+    ensures { MeetsResult result parts.new (Ok (with_all_removed parts.old path.now)) }
 {
     let path = Text::from_slice(alloc, path)?;
     parts.all_removed.push(path)?;
@@ -193,8 +194,8 @@ fn push_prelude(
     parts: &mut Parts,
     string: DriverToken,
 ) -> Result<(), DriverFault>
-    ensures { Meets result parts.new (Ok (with_prelude parts.old (option_map (λ p. p.now)
-        path.entry) (value_of (lexeme_in text.now string)))) }
+    ensures { MeetsResult result parts.new (Ok (with_prelude parts.old (option_map (λ p. p.now)
+        path.entry) (string_value_of (lexeme_in text.now string)))) }
 {
     let value = string_of(alloc, text, string)?;
     let path = match path {
@@ -218,7 +219,7 @@ fn block_line(
     second: DriverToken,
     line: &[DriverToken],
 ) -> Result<(), DriverFault>
-    ensures { Meets result parts.new (spec.block_step symbols.now theories.now file path.now
+    ensures { MeetsResult result parts.new (spec.block_step symbols.now theories.now file path.now
         (item_in text.now first second line.now) parts.old) }
 {
     match (first, second.terminal) {
@@ -251,7 +252,8 @@ fn top_line(
     second: DriverToken,
     line: &[DriverToken],
 ) -> Result<(), DriverFault>
-    ensures { Meets result parts.new (spec.in_block symbols.now theories.now file None (item_in
+    ensures { MeetsResult result parts.new
+        (spec.item_in_block symbols.now theories.now file None (item_in
         text.now first second line.now) parts.old) }
 {
     match first {
@@ -275,7 +277,8 @@ fn take_two(
     second: DriverToken,
     line: &[DriverToken],
 ) -> Result<(), DriverFault>
-    ensures { Meets result parts.new (spec.step symbols.now theories.now file block.now (item_in
+    ensures { MeetsResult result parts.new
+        (spec.item_step symbols.now theories.now file block.now (item_in
         text.now first second line.now) parts.old) }
 {
     match first {
@@ -314,7 +317,8 @@ pub fn take_line(
     parts: &mut Parts,
     line: &[DriverToken],
 ) -> Result<(), DriverFault>
-    ensures { Meets result parts.new (spec.step symbols.now theories.now file block.now (item_of
+    ensures { MeetsResult result parts.new
+        (spec.item_step symbols.now theories.now file block.now (item_of
         (map (lexeme_in text.now) line.now)) parts.old) }
 {
     if line.len() < 2 {

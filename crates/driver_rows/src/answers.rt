@@ -1,4 +1,4 @@
-// The answer to a line: what stands behind its first two letters, read as the first one says.
+// The answer to a line: what comes after its first two letters, read as the first one says.
 use crate::given::{driver_name, library, signature, theories};
 use crate::lines::bytes_of;
 use crate::showing::{put_bytes, put_driver, put_fault, put_number, put_pieces};

@@ -87,7 +87,7 @@ fn place_of(bytes: &[u8], wanted: u8) -> usize {
     bytes.len()
 }
 
-// Puts a file behind others: its name, a colon and its text.
+// Puts a file after others: its name, a colon and its text.
 fn push_file(
     alloc: Global,
     files: &mut Vec<(String, Vec<u8>)>,
@@ -121,7 +121,7 @@ pub(crate) fn driver_name(bytes: &[u8]) -> &[u8] {
     bytes.get(..place_of(bytes, b':')).unwrap_or(b"")
 }
 
-/// The files, of which the fetch with a number fails, counted from 1; none where it is 0. Where `is_long`, behind them the file
+/// The files, of which the fetch with a number fails, counted from 1; none where it is 0. Where `is_long`, after them the file
 /// `e`, whose blanks are one more than a file may have bytes.
 pub(crate) fn library(
     alloc: Global,

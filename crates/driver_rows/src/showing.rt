@@ -15,7 +15,7 @@ pub(crate) fn put_bytes(out: &mut String, bytes: &[u8]) -> Result<(), AllocError
     Ok(())
 }
 
-/// A word with a number behind it.
+/// A word with a number after it.
 pub(crate) fn put_number(
     alloc: Global,
     out: &mut String,

@@ -6,7 +6,7 @@ use Rattle.driver_tokens.specs.declared.machine.DriverState.{DriverState}
 use Rattle.driver_tokens.specs.declared.machine.DriverState.TheVariants as q
 use Rattle.driver_tokens.specs.declared.machine.Move.{Move}
 use Rattle.driver_tokens.specs.declared.machine.Move.TheVariants as m
-use Rattle.driver_tokens.specs.Machine.{step, may_end, ending, within, begins, moved, runs, put, put_all, cut}
+use Rattle.driver_tokens.specs.Machine.{machine_step, state_may_end, ending, within, begins, moves_from, runs, put, put_all, cut}
 use Rattle.driver_tokens.proofs.Complete.{run, is_taken}
 
 abbrev pub Ends : Type 0 → Type 0
@@ -35,15 +35,15 @@ image-ending : {A B : Type 0} (f : A → B) (b : Bool) → ending b ≡ image f 
 image-ending f true = refl
 image-ending f false = refl
 
-image-moved : {A B : Type 0} (f : A → B) (g : B → DriverTerminal) (x : A) (xs : List A) (y : Move) → ((s : DriverState) → runs g s (map f xs) ≡ image f (runs (λ a. g (f a)) s xs)) → moved (f x) (map f xs) y (λ s. runs g s (map f xs)) ≡ image f (moved x xs y (λ s. runs (λ a. g (f a)) s xs))
+image-moved : {A B : Type 0} (f : A → B) (g : B → DriverTerminal) (x : A) (xs : List A) (y : Move) → ((s : DriverState) → runs g s (map f xs) ≡ image f (runs (λ a. g (f a)) s xs)) → moves_from (f x) (map f xs) y (λ s. runs g s (map f xs)) ≡ image f (moves_from x xs y (λ s. runs (λ a. g (f a)) s xs))
 image-moved f g x xs m.Stuck h = refl
 image-moved f g x xs (m.Within s) h = ap (within (f x)) (h s) ∙ image-within f x _
 image-moved f g x xs (m.Begins s) h = ap (begins (f x)) (h s) ∙ image-begins f x _
 
 -- what the machine answers on images is the image of its answer
 pub runs-map : {A B : Type 0} (f : A → B) (g : B → DriverTerminal) (xs : List A) (s : DriverState) → runs g s (map f xs) ≡ image f (runs (λ a. g (f a)) s xs)
-runs-map f g [] s = image-ending f (may_end s)
-runs-map f g (x ∷ xs) s = image-moved f g x xs (step s (g (f x))) (runs-map f g xs)
+runs-map f g [] s = image-ending f (state_may_end s)
+runs-map f g (x ∷ xs) s = image-moved f g x xs (machine_step s (g (f x))) (runs-map f g xs)
 
 abbrev pub image_all : {A B : Type 0} → (A → B) → Result (List (List A)) (List A) → Result (List (List B)) (List B)
 image_all f (Ok ls) = Ok (map (map f) ls)
@@ -79,20 +79,20 @@ ending_flat false c e = cc
 abbrev Flat : {A : Type 0} → (A → DriverTerminal) → List A → Type 0
 Flat {A} g xs = (s : DriverState) (c : List A × List (List A)) → runs g s xs ≡ Ok c → flat c ≡ xs
 
-moved_flat : {A : Type 0} (g : A → DriverTerminal) (x : A) (xs : List A) → Flat g xs → (y : Move) (c : List A × List (List A)) → moved x xs y (λ s. runs g s xs) ≡ Ok c → flat c ≡ x ∷ xs
+moved_flat : {A : Type 0} (g : A → DriverTerminal) (x : A) (xs : List A) → Flat g xs → (y : Move) (c : List A × List (List A)) → moves_from x xs y (λ s. runs g s xs) ≡ Ok c → flat c ≡ x ∷ xs
 moved_flat g x xs h m.Stuck c e = cc
 moved_flat g x xs h (m.Within s) c e = let i = within_ok x (runs g s xs) c e in ap flat (sym i.2) ∙ ap (λ v. x ∷ v) (h s i.0 i.1)
 moved_flat g x xs h (m.Begins s) c e = let i = begins_ok x (runs g s xs) c e in ap flat (sym i.2) ∙ ap (λ v. x ∷ v) (h s i.0 i.1)
 
 -- no token is lost
 pub runs_flat : {A : Type 0} (g : A → DriverTerminal) (xs : List A) → Flat g xs
-runs_flat g [] s c e = ending_flat (may_end s) c e
-runs_flat g (x ∷ xs) s c e = moved_flat g x xs (runs_flat g xs) (step s (g x)) c e
+runs_flat g [] s c e = ending_flat (state_may_end s) c e
+runs_flat g (x ∷ xs) s c e = moved_flat g x xs (runs_flat g xs) (machine_step s (g x)) c e
 
--- Where the machine is stuck: behind some tokens it stands in a state that can't take the next one, or can't end.
+-- Where the machine is stuck: after some tokens it is in a state that can't take the next one, or can't end.
 abbrev pub IsStuck : {A : Type 0} → (A → DriverTerminal) → DriverState → List A → Type 0
-IsStuck g s [] = may_end s ≡ false
-IsStuck g s (x ∷ xs) = step s (g x) ≡ m.Stuck
+IsStuck g s [] = state_may_end s ≡ false
+IsStuck g s (x ∷ xs) = machine_step s (g x) ≡ m.Stuck
 
 pub record Stuck {A : Type 0} (g : A → DriverTerminal) (s : DriverState) (xs after : List A) : Type 0 where
   pub before : List A
@@ -117,7 +117,7 @@ begins_err : {A : Type 0} (x : A) (r : Ends A) (e : List A) → begins x r ≡ E
 begins_err x (Ok d) e h = cc
 begins_err x (Err d) e h = cc
 
-ending_stuck : {A : Type 0} (g : A → DriverTerminal) (s : DriverState) (b : Bool) (e : List A) → may_end s ≡ b → ending b ≡ Err e → Stuck g s [] e
+ending_stuck : {A : Type 0} (g : A → DriverTerminal) (s : DriverState) (b : Bool) (e : List A) → state_may_end s ≡ b → ending b ≡ Err e → Stuck g s [] e
 ending_stuck g s true e i h = cc
 ending_stuck g s false e i h = from_nil (sym nil)
   where
@@ -130,7 +130,7 @@ ending_stuck g s false e i h = from_nil (sym nil)
 abbrev Stucks : {A : Type 0} → (A → DriverTerminal) → List A → Type 0
 Stucks {A} g xs = (s : DriverState) (e : List A) → runs g s xs ≡ Err e → Stuck g s xs e
 
-moved_stuck : {A : Type 0} (g : A → DriverTerminal) (x : A) (xs : List A) → Stucks g xs → (s : DriverState) (y : Move) (e : List A) → step s (g x) ≡ y → moved x xs y (λ n. runs g n xs) ≡ Err e → Stuck g s (x ∷ xs) e
+moved_stuck : {A : Type 0} (g : A → DriverTerminal) (x : A) (xs : List A) → Stucks g xs → (s : DriverState) (y : Move) (e : List A) → machine_step s (g x) ≡ y → moves_from x xs y (λ n. runs g n xs) ≡ Err e → Stuck g s (x ∷ xs) e
 moved_stuck g x xs h s m.Stuck e i j = from_all cc
   where
     from_all : e ≡ x ∷ xs → Stuck g s (x ∷ xs) e
@@ -142,7 +142,7 @@ moved_stuck g x xs h s (m.Within n) e i j =
       state = k.state;
       tokens = ap (λ v. x ∷ v) k.tokens;
       stuck = k.stuck;
-      goes = λ ys. ap (λ v. is_taken (moved (g x) (map g k.before ++ ys) v (λ o. run o (map g k.before ++ ys)))) i ∙ taken-within (g x) (run n (map g k.before ++ ys)) ∙ k.goes ys;
+      goes = λ ys. ap (λ v. is_taken (moves_from (g x) (map g k.before ++ ys) v (λ o. run o (map g k.before ++ ys)))) i ∙ taken-within (g x) (run n (map g k.before ++ ys)) ∙ k.goes ys;
     }
 moved_stuck g x xs h s (m.Begins n) e i j =
     let k = h n e (begins_err x (runs g n xs) e j) in
@@ -151,18 +151,18 @@ moved_stuck g x xs h s (m.Begins n) e i j =
       state = k.state;
       tokens = ap (λ v. x ∷ v) k.tokens;
       stuck = k.stuck;
-      goes = λ ys. ap (λ v. is_taken (moved (g x) (map g k.before ++ ys) v (λ o. run o (map g k.before ++ ys)))) i ∙ taken-begins (g x) (run n (map g k.before ++ ys)) ∙ k.goes ys;
+      goes = λ ys. ap (λ v. is_taken (moves_from (g x) (map g k.before ++ ys) v (λ o. run o (map g k.before ++ ys)))) i ∙ taken-begins (g x) (run n (map g k.before ++ ys)) ∙ k.goes ys;
     }
 
 pub runs_stuck : {A : Type 0} (g : A → DriverTerminal) (xs : List A) → Stucks g xs
-runs_stuck g [] s e h = ending_stuck g s (may_end s) e refl h
-runs_stuck g (x ∷ xs) s e h = moved_stuck g x xs (runs_stuck g xs) s (step s (g x)) e refl h
+runs_stuck g [] s e h = ending_stuck g s (state_may_end s) e refl h
+runs_stuck g (x ∷ xs) s e h = moved_stuck g x xs (runs_stuck g xs) s (machine_step s (g x)) e refl h
 
 -- what is stuck takes nothing that begins with the next token
-pub stays_stuck : (s : DriverState) (x : DriverTerminal) (ys : List DriverTerminal) → step s x ≡ m.Stuck → is_taken (run s (x ∷ ys)) ≡ false
-stays_stuck s x ys e = ap (λ v. is_taken (moved x ys v (λ n. run n ys))) e
+pub stays_stuck : (s : DriverState) (x : DriverTerminal) (ys : List DriverTerminal) → machine_step s x ≡ m.Stuck → is_taken (run s (x ∷ ys)) ≡ false
+stays_stuck s x ys e = ap (λ v. is_taken (moves_from x ys v (λ n. run n ys))) e
 
-pub end_stuck : (s : DriverState) → may_end s ≡ false → is_taken (run s []) ≡ false
+pub end_stuck : (s : DriverState) → state_may_end s ≡ false → is_taken (run s []) ≡ false
 end_stuck s e = ap (λ v. is_taken (ending {A = DriverTerminal} v)) e
 
 -- Two cuts of the same tokens with the same terminals are one.

@@ -1,4 +1,4 @@
--- The lines of a text are the only ones, and a fault stands at the least token that no driver file allows there.
+-- The lines of a text are the only ones, and a fault is at the least token that no driver file allows there.
 use Rattle.std.proofs.Common.{◌≡◌, ℕ, Bool, true, false, List, [], ◌∷◌, ◌++◌, map, length, Ok, Err, refl, sym, ap, ◌∙◌, append_assoc, append-nil}
 use Rattle.std.proofs.lemmas.List.{map-append}
 use Rattle.std.specs.List.{flat_map}
@@ -6,9 +6,9 @@ use Rattle.driver_tokens.specs.declared.terminal.DriverTerminal.{DriverTerminal}
 use Rattle.driver_tokens.specs.declared.machine.DriverState.{DriverState}
 use Rattle.driver_tokens.specs.declared.machine.DriverState.TheVariants as q
 use Rattle.driver_tokens.specs.Machine.{runs, put, put_all, cut}
-use Rattle.driver_tokens.specs.Grammar.{Line, write_line}
-use Rattle.driver_tokens.specs.Tokens.{DriverLexeme, lexemes}
-use Rattle.driver_tokens.specs.Lines.{terminals, IsFile, Begins, AreLines, AreOnlyLines, byte_of, Stops, IsSyntaxFault}
+use Rattle.driver_tokens.specs.Grammar.{GrammarLine, write_line}
+use Rattle.driver_tokens.specs.Tokens.{DriverLexeme, driver_lexemes}
+use Rattle.driver_tokens.specs.Lines.{driver_terminals, IsDriverFile, BeginsFile, AreDriverLines, AreOnlyLines, byte_of, CannotFollow, IsSyntaxFault}
 use Rattle.driver_tokens.proofs.Rests.{Cut, cut_of}
 use Rattle.driver_tokens.proofs.Sound.{sound}
 use Rattle.driver_tokens.proofs.Complete.{run, complete, completion, completed, is_taken}
@@ -25,12 +25,12 @@ taken_cut : (r : Ends DriverTerminal) → is_taken r ≡ true → (c : Cut) × (
 taken_cut (Ok c) e = (c, refl)
 taken_cut (Err d) e = cc
 
-concat-map : (ls : List Line) → flat_map write_line ls ≡ concat (map write_line ls)
+concat-map : (ls : List GrammarLine) → flat_map write_line ls ≡ concat (map write_line ls)
 concat-map [] = refl
 concat-map (l ∷ ls) = ap (λ v. write_line l ++ v) (concat-map ls)
 
 -- what is taken is a file, and a file is taken
-file_of : (xs : List DriverTerminal) → is_taken (run start xs) ≡ true → IsFile xs
+file_of : (xs : List DriverTerminal) → is_taken (run start xs) ≡ true → IsDriverFile xs
 file_of xs e =
     let c = taken_cut (run start xs) e in
     let s = sound xs start c.0 c.1 in
@@ -40,32 +40,32 @@ file_of xs e =
       written = concat-map s.0.lines ∙ ap flat s.1 ∙ runs_flat (λ x. x) xs start c.0 c.1;
     }
 
-taken_file : (xs : List DriverTerminal) → IsFile xs → is_taken (run start xs) ≡ true
+taken_file : (xs : List DriverTerminal) → IsDriverFile xs → is_taken (run start xs) ≡ true
 taken_file xs f = ap (λ v. is_taken (run start v)) (sym f.written) ∙ ap is_taken (complete false f.lines f.are)
 
 no_both : (b : Bool) → b ≡ true → b ≡ false → ⊥
 no_both b e f = cc
 
-begins_of : (text : List ℕ) (after : List DriverLexeme) (s : Stuck terminal start (lexemes text) after) → Begins (terminals s.before)
+begins_of : (text : List ℕ) (after : List DriverLexeme) (s : Stuck terminal start (driver_lexemes text) after) → BeginsFile (driver_terminals s.before)
 begins_of text after s = record {
   more = completion s.state;
-  file = file_of (terminals s.before ++ completion s.state) (s.goes (completion s.state) ∙ completed s.state);
+  file = file_of (driver_terminals s.before ++ completion s.state) (s.goes (completion s.state) ∙ completed s.state);
 }
 
-stops_of : (before after : List DriverLexeme) (state : DriverState) → IsStuck terminal state after → ((ys : List DriverTerminal) → is_taken (run start (terminals before ++ ys)) ≡ is_taken (run state ys)) → Stops before after
+stops_of : (before after : List DriverLexeme) (state : DriverState) → IsStuck terminal state after → ((ys : List DriverTerminal) → is_taken (run start (driver_terminals before ++ ys)) ≡ is_taken (run state ys)) → CannotFollow before after
 stops_of before [] state stuck goes = λ f.
-    no_both (is_taken (run start (terminals before ++ []))) (ap (λ v. is_taken (run start v)) (append-nil (terminals before)) ∙ taken_file (terminals before) f) (goes [] ∙ end_stuck state stuck)
+    no_both (is_taken (run start (driver_terminals before ++ []))) (ap (λ v. is_taken (run start v)) (append-nil (driver_terminals before)) ∙ taken_file (driver_terminals before) f) (goes [] ∙ end_stuck state stuck)
 stops_of before (x ∷ after) state stuck goes = λ b.
-    no_both (is_taken (run start (terminals before ++ (x.terminal ∷ b.more)))) (ap (λ v. is_taken (run start v)) (sym (append_assoc (terminals before) (x.terminal ∷ []) b.more)) ∙ taken_file _ b.file) (goes (x.terminal ∷ b.more) ∙ stays_stuck state x.terminal b.more stuck)
+    no_both (is_taken (run start (driver_terminals before ++ (x.terminal ∷ b.more)))) (ap (λ v. is_taken (run start v)) (sym (append_assoc (driver_terminals before) (x.terminal ∷ []) b.more)) ∙ taken_file _ b.file) (goes (x.terminal ∷ b.more) ∙ stays_stuck state x.terminal b.more stuck)
 
 put_err : (r : Ends DriverLexeme) (after : List DriverLexeme) → put_all r ≡ Err after → r ≡ Err after
 put_err (Ok c) after e = cc
 put_err (Err d) after e = cc
 
 -- where no lines are found the text goes wrong at that byte
-pub fault_of : (text : List ℕ) (after : List DriverLexeme) (byte : ℕ) → cut terminal (lexemes text) ≡ Err after → byte ≡ byte_of after (length text) → IsSyntaxFault text byte
+pub fault_of : (text : List ℕ) (after : List DriverLexeme) (byte : ℕ) → cut terminal (driver_lexemes text) ≡ Err after → byte ≡ byte_of after (length text) → IsSyntaxFault text byte
 fault_of text after byte e at =
-    let s = runs_stuck terminal (lexemes text) start after (put_err (runs terminal start (lexemes text)) after e) in
+    let s = runs_stuck terminal (driver_lexemes text) start after (put_err (runs terminal start (driver_lexemes text)) after e) in
     record {
       before = s.before;
       after = after;
@@ -84,29 +84,29 @@ put_none f [] ls e = (refl, refl)
 put_none f (x ∷ xs) ls e = cc
 
 -- a cut of a text whose lines can be written
-lines_found : (text : List ℕ) (c : List DriverLexeme × List (List DriverLexeme)) (found : List (List DriverLexeme)) → runs terminal start (lexemes text) ≡ Ok c → put c.0 c.1 ≡ found → AreLines text found
+lines_found : (text : List ℕ) (c : List DriverLexeme × List (List DriverLexeme)) (found : List (List DriverLexeme)) → runs terminal start (driver_lexemes text) ≡ Ok c → put c.0 c.1 ≡ found → AreDriverLines text found
 lines_found text c found e h =
-    let t : run start (terminals (lexemes text)) ≡ Ok (cut_of (terminals c.0) (map terminals c.1)) = runs-map terminal (λ x. x) (lexemes text) start ∙ ap (image terminal) e in
-    let s = sound (terminals (lexemes text)) start (cut_of (terminals c.0) (map terminals c.1)) t in
-    let first : [] ≡ terminals c.0 = ap (λ (d : Cut). d.0) s.1 in
-    let lines : map write_line s.0.lines ≡ map terminals c.1 = ap (λ (d : Cut). d.1) s.1 in
+    let t : run start (driver_terminals (driver_lexemes text)) ≡ Ok (cut_of (driver_terminals c.0) (map driver_terminals c.1)) = runs-map terminal (λ x. x) (driver_lexemes text) start ∙ ap (image terminal) e in
+    let s = sound (driver_terminals (driver_lexemes text)) start (cut_of (driver_terminals c.0) (map driver_terminals c.1)) t in
+    let first : [] ≡ driver_terminals c.0 = ap (λ (d : Cut). d.0) s.1 in
+    let lines : map write_line s.0.lines ≡ map driver_terminals c.1 = ap (λ (d : Cut). d.1) s.1 in
     let p = put_none terminal c.0 c.1 first in
     let same : c.1 ≡ found = sym p.0 ∙ h in
     record {
       lines = s.0.lines;
       are = s.0.are;
-      written = lines ∙ ap (map terminals) same;
-      tokens = ap concat (sym same) ∙ sym p.1 ∙ runs_flat terminal (lexemes text) start c e;
+      written = lines ∙ ap (map driver_terminals) same;
+      tokens = ap concat (sym same) ∙ sym p.1 ∙ runs_flat terminal (driver_lexemes text) start c e;
     }
 
-terminals-concat : (ls : List (List DriverLexeme)) → terminals (concat ls) ≡ concat (map terminals ls)
+terminals-concat : (ls : List (List DriverLexeme)) → driver_terminals (concat ls) ≡ concat (map driver_terminals ls)
 terminals-concat [] = refl
-terminals-concat (l ∷ ls) = map-append terminal l (concat ls) ∙ ap (λ v. terminals l ++ v) (terminals-concat ls)
+terminals-concat (l ∷ ls) = map-append terminal l (concat ls) ∙ ap (λ v. driver_terminals l ++ v) (terminals-concat ls)
 
 -- the lines that are written are those that the machine finds
-found_by : (text : List ℕ) (found : List (List DriverLexeme)) → AreLines text found → run start (terminals (lexemes text)) ≡ Ok (cut_of [] (map terminals found))
+found_by : (text : List ℕ) (found : List (List DriverLexeme)) → AreDriverLines text found → run start (driver_terminals (driver_lexemes text)) ≡ Ok (cut_of [] (map driver_terminals found))
 found_by text found a =
-    let w : flat_map write_line a.lines ≡ terminals (lexemes text) = concat-map a.lines ∙ ap concat a.written ∙ sym (terminals-concat found) ∙ ap terminals a.tokens in
+    let w : flat_map write_line a.lines ≡ driver_terminals (driver_lexemes text) = concat-map a.lines ∙ ap concat a.written ∙ sym (terminals-concat found) ∙ ap driver_terminals a.tokens in
     ap (run start) (sym w) ∙ complete false a.lines a.are ∙ ap (λ v. Ok (cut_of [] v)) a.written
 
 abbrev taken : List (List DriverTerminal) → Ends DriverTerminal
@@ -120,14 +120,14 @@ same_lines : (a b : List (List DriverTerminal)) → taken a ≡ taken b → a �
 same_lines a b e = ap lines_taken e
 
 -- the lines that are found are those of the text, and no others are
-pub only_lines : (text : List ℕ) (found : List (List DriverLexeme)) → cut terminal (lexemes text) ≡ Ok found → AreOnlyLines text found
+pub only_lines : (text : List ℕ) (found : List (List DriverLexeme)) → cut terminal (driver_lexemes text) ≡ Ok found → AreOnlyLines text found
 only_lines text found e =
-    let p = put_ok (runs terminal start (lexemes text)) found e in
+    let p = put_ok (runs terminal start (driver_lexemes text)) found e in
     let a = lines_found text p.0 found p.1 p.2 in
     record {
       of = a;
       only = λ others b.
-          let same : taken (map terminals others) ≡ taken (map terminals found) = sym (found_by text others b) ∙ found_by text found a in
-          let i = same_lines (map terminals others) (map terminals found) same in
+          let same : taken (map driver_terminals others) ≡ taken (map driver_terminals found) = sym (found_by text others b) ∙ found_by text found a in
+          let i = same_lines (map driver_terminals others) (map driver_terminals found) same in
           one_cut terminal others found i (b.tokens ∙ sym a.tokens);
     }

@@ -7,8 +7,8 @@ use Rattle.driver_tokens.specs.declared.token.DriverToken.{DriverToken}
 use Rattle.driver_tokens.specs.declared.file.DriverLine.{DriverLine}
 use Rattle.driver_tokens.specs.declared.machine.DriverState.{DriverState}
 use Rattle.driver_tokens.specs.declared.machine.Move.TheVariants as m
-use Rattle.driver_tokens.specs.Machine.{step, within, begins, moved, runs, put, put_all, cut}
-use Rattle.driver_tokens.specs.File.{with_line, parts_of}
+use Rattle.driver_tokens.specs.Machine.{machine_step, within, begins, moves_from, runs, put, put_all, cut}
+use Rattle.driver_tokens.specs.File.{with_line, tokens_of_lines}
 use Rattle.driver_tokens.proofs.Cutting.{Ends}
 
 abbrev pub onto : {A : Type 0} → List (List A) → List A → Ends A → Result (List (List A)) (List A)
@@ -62,38 +62,38 @@ slice-some : (ts : List DriverToken) (first i : ℕ) → first < i → i ≤ len
 slice-some ts first i lt le = omega (arith, length-take (i - first) (drop first ts), length-drop first ts)
 
 -- a line is put at the end where it has tokens
-pub parts-with : (ts : List DriverToken) (lines : List DriverLine) (first i : ℕ) → first ≤ i → i ≤ length ts → parts_of ts (with_line lines first i) ≡ parts_of ts lines ++ put (slice_range ts first i) []
+pub parts-with : (ts : List DriverToken) (lines : List DriverLine) (first i : ℕ) → first ≤ i → i ≤ length ts → tokens_of_lines ts (with_line lines first i) ≡ tokens_of_lines ts lines ++ put (slice_range ts first i) []
 parts-with ts lines first i le within = by_bool (nat_lt first i) refl
   where
-    by_bool : (b : Bool) → nat_lt first i ≡ b → parts_of ts (cond b (lines ++ record { first = first; end = i } ∷ []) lines) ≡ parts_of ts lines ++ put (slice_range ts first i) []
+    by_bool : (b : Bool) → nat_lt first i ≡ b → tokens_of_lines ts (cond b (lines ++ record { first = first; end = i } ∷ []) lines) ≡ tokens_of_lines ts lines ++ put (slice_range ts first i) []
     by_bool true e =
         let lt : first < i = grind (arith, nat_tests) in
         map-append _ lines (record { first = first; end = i } ∷ [])
-        ∙ ap (λ v. parts_of ts lines ++ v) (sym (put-some (slice_range ts first i) (slice-some ts first i lt within)))
+        ∙ ap (λ v. tokens_of_lines ts lines ++ v) (sym (put-some (slice_range ts first i) (slice-some ts first i lt within)))
     by_bool false e =
         let same : first ≡ i = grind (arith, nat_tests) in
         let none : slice_range ts first i ≡ [] = ap (λ v. slice_range ts v i) same ∙ slice-none ts i in
-        sym (ap (λ v. parts_of ts lines ++ put v []) none ∙ append-nil (parts_of ts lines))
+        sym (ap (λ v. tokens_of_lines ts lines ++ put v []) none ∙ append-nil (tokens_of_lines ts lines))
 
 -- a token that goes on in the line
-pub turn-within : (ts : List DriverToken) (lines : List DriverLine) (s n : DriverState) (first i : ℕ) (d : DriverToken) → first ≤ i → i < length ts → m.Within n ≡ step s (get_or ts i d).terminal → cut terminal ts ≡ onto (parts_of ts lines) (slice_range ts first i) (runs terminal s (drop i ts)) → cut terminal ts ≡ onto (parts_of ts lines) (slice_range ts first (i + 1)) (runs terminal n (drop (i + 1) ts))
+pub turn-within : (ts : List DriverToken) (lines : List DriverLine) (s n : DriverState) (first i : ℕ) (d : DriverToken) → first ≤ i → i < length ts → m.Within n ≡ machine_step s (get_or ts i d).terminal → cut terminal ts ≡ onto (tokens_of_lines ts lines) (slice_range ts first i) (runs terminal s (drop i ts)) → cut terminal ts ≡ onto (tokens_of_lines ts lines) (slice_range ts first (i + 1)) (runs terminal n (drop (i + 1) ts))
 turn-within ts lines s n first i d le lt e h =
     let x = get_or ts i d in
     let rest = drop (i + 1) ts in
     h
-    ∙ ap (λ v. onto (parts_of ts lines) (slice_range ts first i) (runs terminal s v)) (drop_more ts i d lt)
-    ∙ ap (λ v. onto (parts_of ts lines) (slice_range ts first i) (moved x rest v (λ k. runs terminal k rest))) (sym e)
-    ∙ onto-within (parts_of ts lines) (slice_range ts first i) x (runs terminal n rest)
-    ∙ ap (λ v. onto (parts_of ts lines) v (runs terminal n rest)) (sym (slice-more ts first i d le lt))
+    ∙ ap (λ v. onto (tokens_of_lines ts lines) (slice_range ts first i) (runs terminal s v)) (drop_more ts i d lt)
+    ∙ ap (λ v. onto (tokens_of_lines ts lines) (slice_range ts first i) (moves_from x rest v (λ k. runs terminal k rest))) (sym e)
+    ∙ onto-within (tokens_of_lines ts lines) (slice_range ts first i) x (runs terminal n rest)
+    ∙ ap (λ v. onto (tokens_of_lines ts lines) v (runs terminal n rest)) (sym (slice-more ts first i d le lt))
 
 -- a token that begins a line
-pub turn-begins : (ts : List DriverToken) (lines more : List DriverLine) (s n : DriverState) (first i : ℕ) (d : DriverToken) → first ≤ i → i < length ts → more ≡ with_line lines first i → m.Begins n ≡ step s (get_or ts i d).terminal → cut terminal ts ≡ onto (parts_of ts lines) (slice_range ts first i) (runs terminal s (drop i ts)) → cut terminal ts ≡ onto (parts_of ts more) (slice_range ts i (i + 1)) (runs terminal n (drop (i + 1) ts))
+pub turn-begins : (ts : List DriverToken) (lines more : List DriverLine) (s n : DriverState) (first i : ℕ) (d : DriverToken) → first ≤ i → i < length ts → more ≡ with_line lines first i → m.Begins n ≡ machine_step s (get_or ts i d).terminal → cut terminal ts ≡ onto (tokens_of_lines ts lines) (slice_range ts first i) (runs terminal s (drop i ts)) → cut terminal ts ≡ onto (tokens_of_lines ts more) (slice_range ts i (i + 1)) (runs terminal n (drop (i + 1) ts))
 turn-begins ts lines more s n first i d le lt p e h =
     let x = get_or ts i d in
     let rest = drop (i + 1) ts in
     h
-    ∙ ap (λ v. onto (parts_of ts lines) (slice_range ts first i) (runs terminal s v)) (drop_more ts i d lt)
-    ∙ ap (λ v. onto (parts_of ts lines) (slice_range ts first i) (moved x rest v (λ k. runs terminal k rest))) (sym e)
-    ∙ onto-begins (parts_of ts lines) (slice_range ts first i) x (runs terminal n rest)
-    ∙ ap (λ v. onto v (x ∷ []) (runs terminal n rest)) (sym (parts-with ts lines first i le (omega arith)) ∙ ap (parts_of ts) (sym p))
-    ∙ ap (λ v. onto (parts_of ts more) v (runs terminal n rest)) (sym (slice-one ts i d lt))
+    ∙ ap (λ v. onto (tokens_of_lines ts lines) (slice_range ts first i) (runs terminal s v)) (drop_more ts i d lt)
+    ∙ ap (λ v. onto (tokens_of_lines ts lines) (slice_range ts first i) (moves_from x rest v (λ k. runs terminal k rest))) (sym e)
+    ∙ onto-begins (tokens_of_lines ts lines) (slice_range ts first i) x (runs terminal n rest)
+    ∙ ap (λ v. onto v (x ∷ []) (runs terminal n rest)) (sym (parts-with ts lines first i le (omega arith)) ∙ ap (tokens_of_lines ts) (sym p))
+    ∙ ap (λ v. onto (tokens_of_lines ts more) v (runs terminal n rest)) (sym (slice-one ts i d lt))

@@ -1,4 +1,4 @@
--- What may follow in each state of the machine, as trees, and the terminals that it writes: the rest of a line and the lines behind.
+-- What may follow in each state of the machine, as trees, and the terminals that it writes: the rest of a line and the lines after.
 use Rattle.std.proofs.Common.{◌≡◌, Bool, true, false, List, [], ◌∷◌, ◌++◌, map, Option, Some, None}
 use Rattle.driver_tokens.specs.declared.terminal.DriverWord.{DriverWord}
 use Rattle.driver_tokens.specs.declared.terminal.DriverWord.TheVariants as w
@@ -9,32 +9,32 @@ use Rattle.driver_tokens.specs.declared.machine.Owner.{Owner}
 use Rattle.driver_tokens.specs.declared.machine.Owner.TheVariants as o
 use Rattle.driver_tokens.specs.declared.machine.DriverState.{DriverState}
 use Rattle.driver_tokens.specs.declared.machine.DriverState.TheVariants as q
-use Rattle.driver_tokens.specs.Grammar.{Name, write_name, Value, write_value, Argument, write_argument, write_more, write_arguments, Called, write_called, write_path, Line, write_line, are_lines}
+use Rattle.driver_tokens.specs.Grammar.{DriverName, write_name, Value, write_value, MetaArgument, write_argument, write_more, write_arguments, MetaName, write_meta_name, write_driver_path, GrammarLine, write_line, are_lines}
 
 pub record Lines (b : Bool) : Type 0 where
-  pub lines : List Line
+  pub lines : List GrammarLine
   pub are : are_lines b lines ≡ true
 
 abbrev pub After : Owner → Type 0
 After o.Syntax = Lines true
 After o.Remove = Lines true
-After (o.Meta b) = List Argument × Lines b
+After (o.Meta b) = List MetaArgument × Lines b
 
 abbrev pub Rest : DriverState → Type 0
 Rest (q.Lines b) = Lines b
 Rest q.PathWord = DriverWord × List DriverWord × Lines true
 Rest q.Path = List DriverWord × Lines true
 Rest (q.LineText b) = Lines b
-Rest (q.MetaName b) = Called × List Argument × Lines b
-Rest (q.Arguments b) = List Argument × Lines b
-Rest (q.Argument b) = Argument × List Argument × Lines b
-Rest (q.MoreArguments b) = List Argument × Lines b
+Rest (q.MetaName b) = MetaName × List MetaArgument × Lines b
+Rest (q.Arguments b) = List MetaArgument × Lines b
+Rest (q.Argument b) = MetaArgument × List MetaArgument × Lines b
+Rest (q.MoreArguments b) = List MetaArgument × Lines b
 Rest q.Value = Value × List Value × Lines false
 Rest q.Values = List Value × Lines false
-Rest q.NameKind = NameKind × Name × Lines true
-Rest q.Removal = Option Name × Lines true
-Rest (q.Name x) = Name × After x
-Rest (q.NameDot x) = Option Name × After x
+Rest q.NameKind = NameKind × DriverName × Lines true
+Rest q.Removal = Option DriverName × Lines true
+Rest (q.Name x) = DriverName × After x
+Rest (q.NameDot x) = Option DriverName × After x
 Rest (q.Operator x) = Bool × After x
 Rest (q.OperatorEnd x) = Bool × After x
 Rest (q.OperatorClose x) = After x
@@ -56,11 +56,11 @@ written_after (o.Meta b) r = cut_of (write_more r.0) (behind_of r.1)
 abbrev pub join : List DriverTerminal → Cut → Cut
 join xs c = cut_of (xs ++ c.0) c.1
 
-abbrev pub write_removed : Option Name → List DriverTerminal
+abbrev pub write_removed : Option DriverName → List DriverTerminal
 write_removed (Some n) = t.Word w.Prop ∷ write_name n
 write_removed None = t.Word w.Allprops ∷ []
 
-abbrev pub write_dotted : Option Name → List DriverTerminal
+abbrev pub write_dotted : Option DriverName → List DriverTerminal
 write_dotted (Some n) = t.Dot ∷ write_name n
 write_dotted None = []
 
@@ -70,10 +70,10 @@ write_close false = t.Close ∷ []
 
 abbrev pub written : (s : DriverState) → Rest s → Cut
 written (q.Lines b) r = cut_of [] (behind_of r)
-written q.PathWord r = cut_of (t.Word r.0 ∷ write_path r.1) (behind_of r.2)
-written q.Path r = cut_of (write_path r.0) (behind_of r.1)
+written q.PathWord r = cut_of (t.Word r.0 ∷ write_driver_path r.1) (behind_of r.2)
+written q.Path r = cut_of (write_driver_path r.0) (behind_of r.1)
 written (q.LineText b) r = cut_of (t.Text ∷ []) (behind_of r)
-written (q.MetaName b) r = cut_of (write_called r.0 ∷ write_arguments r.1) (behind_of r.2)
+written (q.MetaName b) r = cut_of (write_meta_name r.0 ∷ write_arguments r.1) (behind_of r.2)
 written (q.Arguments b) r = cut_of (write_arguments r.0) (behind_of r.1)
 written (q.Argument b) r = cut_of (write_argument r.0 ++ write_more r.1) (behind_of r.2)
 written (q.MoreArguments b) r = cut_of (write_more r.0) (behind_of r.1)

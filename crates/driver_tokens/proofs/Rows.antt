@@ -4,8 +4,8 @@ use Rattle.driver_tokens.specs.declared.terminal.DriverTerminal.TheVariants as t
 use Rattle.driver_tokens.specs.declared.terminal.DriverWord.TheVariants as w
 use Rattle.driver_tokens.specs.declared.terminal.Heading.TheVariants as h
 use Rattle.driver_tokens.specs.Machine.{cut}
-use Rattle.driver_tokens.specs.Strings.{quoted, said_by}
-use Rattle.driver_tokens.specs.File.{lines_of}
+use Rattle.driver_tokens.specs.Strings.{quoted, string_says}
+use Rattle.driver_tokens.specs.File.{driver_lines}
 
 -- `printer "smtv2" foo` is refused at `foo`
 no_line : cut (λ x. x) (t.Word (w.Heading h.Printer) ∷ t.Text ∷ t.Word w.Other ∷ []) ≡ Err (t.Word w.Other ∷ [])
@@ -16,19 +16,19 @@ block : cut (λ x. x) (t.Word w.Theory ∷ t.Word w.Other ∷ t.Word w.Remove �
 block = refl
 
 -- a block that isn't ended
-no_end : lines_of (codes "theory T") ≡ Err 8
+no_end : driver_lines (codes "theory T") ≡ Err 8
 no_end = refl
 
 -- `foo` is no operator
-no_operator : lines_of (codes "theory T syntax function (foo) end") ≡ Err 26
+no_operator : driver_lines (codes "theory T syntax function (foo) end") ≡ Err 26
 no_operator = refl
 
 -- a number has no zero in front
-zero : lines_of (codes "meta x 007") ≡ Err 8
+zero : driver_lines (codes "meta x 007") ≡ Err 8
 zero = refl
 
 -- attributes are no gaps of drivers
-no_attribute : lines_of (codes "[@a]") ≡ Err 0
+no_attribute : driver_lines (codes "[@a]") ≡ Err 0
 no_attribute = refl
 
 -- `a\"b"`: the second quote ends the string
@@ -38,5 +38,5 @@ escaped_quote = refl
 not_closed : quoted false (codes "a\\\"") ≡ None
 not_closed = refl
 
-said_escapes : said_by (codes "\\n\\x\\\\") ≡ 10 ∷ codes "\\x\\"
+said_escapes : string_says (codes "\\n\\x\\\\") ≡ 10 ∷ codes "\\x\\"
 said_escapes = refl

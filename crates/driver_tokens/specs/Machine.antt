@@ -22,9 +22,9 @@ line_word true w.Syntax = m.Begins q.NameKind
 line_word true w.Remove = m.Begins q.Removal
 line_word b _ = m.Stuck
 
-abbrev pub line : Bool → DriverTerminal → Move
-line b (t.Word s) = line_word b s
-line b _ = m.Stuck
+abbrev pub line_move : Bool → DriverTerminal → Move
+line_move b (t.Word s) = line_word b s
+line_move b _ = m.Stuck
 
 abbrev pub path_word : DriverTerminal → Move
 path_word (t.Word s) = m.Within q.Path
@@ -32,11 +32,11 @@ path_word _ = m.Stuck
 
 abbrev pub path : DriverTerminal → Move
 path t.Dot = m.Within q.PathWord
-path x = line true x
+path x = line_move true x
 
-abbrev pub line_text : Bool → DriverTerminal → Move
-line_text b t.Text = m.Within (q.Lines b)
-line_text b _ = m.Stuck
+abbrev pub line_text_move : Bool → DriverTerminal → Move
+line_text_move b t.Text = m.Within (q.Lines b)
+line_text_move b _ = m.Stuck
 
 abbrev pub meta_name : Bool → DriverTerminal → Move
 meta_name b t.Text = m.Within (q.Arguments b)
@@ -48,22 +48,22 @@ argument_word b (w.Kind k) = m.Within (q.Name (o.Meta b))
 argument_word b w.Prop = m.Within (q.Name (o.Meta b))
 argument_word b _ = m.Stuck
 
-abbrev pub argument : Bool → DriverTerminal → Move
-argument b t.Text = m.Within (q.MoreArguments b)
-argument b t.Number = m.Within (q.MoreArguments b)
-argument b (t.Word s) = argument_word b s
-argument b _ = m.Stuck
+abbrev pub argument_move : Bool → DriverTerminal → Move
+argument_move b t.Text = m.Within (q.MoreArguments b)
+argument_move b t.Number = m.Within (q.MoreArguments b)
+argument_move b (t.Word s) = argument_word b s
+argument_move b _ = m.Stuck
 
 abbrev pub or_move : Move → Move → Move
 or_move m.Stuck y = y
 or_move x y = x
 
-abbrev pub arguments : Bool → DriverTerminal → Move
-arguments b x = or_move (argument b x) (line b x)
+abbrev pub arguments_move : Bool → DriverTerminal → Move
+arguments_move b x = or_move (argument_move b x) (line_move b x)
 
 abbrev pub more_arguments : Bool → DriverTerminal → Move
 more_arguments b t.Comma = m.Within (q.Argument b)
-more_arguments b x = line b x
+more_arguments b x = line_move b x
 
 abbrev pub value : DriverTerminal → Move
 value t.Text = m.Within q.Values
@@ -73,7 +73,7 @@ value _ = m.Stuck
 abbrev pub values : DriverTerminal → Move
 values t.Text = m.Within q.Values
 values t.Number = m.Within q.Values
-values x = line false x
+values x = line_move false x
 
 abbrev pub name_kind_word : DriverWord → Move
 name_kind_word (w.Kind k) = m.Within (q.Name o.Syntax)
@@ -88,25 +88,25 @@ removal_word w.Prop = m.Within (q.Name o.Remove)
 removal_word w.Allprops = m.Within (q.Lines true)
 removal_word _ = m.Stuck
 
-abbrev pub removal : DriverTerminal → Move
-removal (t.Word s) = removal_word s
-removal _ = m.Stuck
+abbrev pub removal_move : DriverTerminal → Move
+removal_move (t.Word s) = removal_word s
+removal_move _ = m.Stuck
 
-abbrev pub behind : Owner → DriverState
-behind o.Syntax = q.LineText true
-behind o.Remove = q.Lines true
-behind (o.Meta b) = q.MoreArguments b
+abbrev pub state_after : Owner → DriverState
+state_after o.Syntax = q.LineText true
+state_after o.Remove = q.Lines true
+state_after (o.Meta b) = q.MoreArguments b
 
 abbrev pub step_behind : Owner → DriverTerminal → Move
-step_behind o.Syntax x = line_text true x
-step_behind o.Remove x = line true x
+step_behind o.Syntax x = line_text_move true x
+step_behind o.Remove x = line_move true x
 step_behind (o.Meta b) x = more_arguments b x
 
-abbrev pub name : Owner → DriverTerminal → Move
-name o (t.Word s) = m.Within (q.NameDot o)
-name o t.Open = m.Within (q.Operator o)
-name o t.Star = m.Within (behind o)
-name o _ = m.Stuck
+abbrev pub name_move : Owner → DriverTerminal → Move
+name_move o (t.Word s) = m.Within (q.NameDot o)
+name_move o t.Open = m.Within (q.Operator o)
+name_move o t.Star = m.Within (state_after o)
+name_move o _ = m.Stuck
 
 abbrev pub name_dot : Owner → DriverTerminal → Move
 name_dot o t.Dot = m.Within (q.Name o)
@@ -121,40 +121,40 @@ operator_end_word o w.Line = m.Within (q.OperatorClose o)
 operator_end_word o _ = m.Stuck
 
 abbrev pub operator_end : Owner → DriverTerminal → Move
-operator_end o t.Close = m.Within (behind o)
+operator_end o t.Close = m.Within (state_after o)
 operator_end o (t.Word s) = operator_end_word o s
 operator_end o _ = m.Stuck
 
 abbrev pub operator_close : Owner → DriverTerminal → Move
-operator_close o t.Close = m.Within (behind o)
+operator_close o t.Close = m.Within (state_after o)
 operator_close o _ = m.Stuck
 
-abbrev pub step : DriverState → DriverTerminal → Move
-step (q.Lines b) = line b
-step q.PathWord = path_word
-step q.Path = path
-step (q.LineText b) = line_text b
-step (q.MetaName b) = meta_name b
-step (q.Arguments b) = arguments b
-step (q.Argument b) = argument b
-step (q.MoreArguments b) = more_arguments b
-step q.Value = value
-step q.Values = values
-step q.NameKind = name_kind
-step q.Removal = removal
-step (q.Name o) = name o
-step (q.NameDot o) = name_dot o
-step (q.Operator o) = operator o
-step (q.OperatorEnd o) = operator_end o
-step (q.OperatorClose o) = operator_close o
+abbrev pub machine_step : DriverState → DriverTerminal → Move
+machine_step (q.Lines b) = line_move b
+machine_step q.PathWord = path_word
+machine_step q.Path = path
+machine_step (q.LineText b) = line_text_move b
+machine_step (q.MetaName b) = meta_name b
+machine_step (q.Arguments b) = arguments_move b
+machine_step (q.Argument b) = argument_move b
+machine_step (q.MoreArguments b) = more_arguments b
+machine_step q.Value = value
+machine_step q.Values = values
+machine_step q.NameKind = name_kind
+machine_step q.Removal = removal_move
+machine_step (q.Name o) = name_move o
+machine_step (q.NameDot o) = name_dot o
+machine_step (q.Operator o) = operator o
+machine_step (q.OperatorEnd o) = operator_end o
+machine_step (q.OperatorClose o) = operator_close o
 
-abbrev pub may_end : DriverState → Bool
-may_end (q.Lines b) = not b
-may_end (q.Arguments b) = not b
-may_end (q.MoreArguments b) = not b
-may_end (q.NameDot (o.Meta b)) = not b
-may_end q.Values = true
-may_end _ = false
+abbrev pub state_may_end : DriverState → Bool
+state_may_end (q.Lines b) = not b
+state_may_end (q.Arguments b) = not b
+state_may_end (q.MoreArguments b) = not b
+state_may_end (q.NameDot (o.Meta b)) = not b
+state_may_end q.Values = true
+state_may_end _ = false
 
 -- the end of a file, where it may be
 abbrev pub ending : {A : Type 0} → Bool → Result (List A × List (List A)) (List A)
@@ -170,15 +170,15 @@ abbrev pub begins : {A : Type 0} → A → Result (List A × List (List A)) (Lis
 begins x (Ok w) = Ok ([], (x ∷ w.0) ∷ w.1)
 begins x (Err e) = Err e
 
-abbrev pub moved : {A : Type 0} → A → List A → Move → (DriverState → Result (List A × List (List A)) (List A)) → Result (List A × List (List A)) (List A)
-moved x xs m.Stuck next = Err (x ∷ xs)
-moved x xs (m.Within s) next = within x (next s)
-moved x xs (m.Begins s) next = begins x (next s)
+abbrev pub moves_from : {A : Type 0} → A → List A → Move → (DriverState → Result (List A × List (List A)) (List A)) → Result (List A × List (List A)) (List A)
+moves_from x xs m.Stuck next = Err (x ∷ xs)
+moves_from x xs (m.Within s) next = within x (next s)
+moves_from x xs (m.Begins s) next = begins x (next s)
 
--- The rest of a line and the lines behind it, or the tokens from the first on that can't stand.
+-- The rest of a line and the lines after it, or the tokens from the first on that can't be there.
 abbrev pub runs : {A : Type 0} → (A → DriverTerminal) → DriverState → List A → Result (List A × List (List A)) (List A)
-runs f s [] = ending (may_end s)
-runs f s (x ∷ xs) = moved x xs (step s (f x)) (λ next. runs f next xs)
+runs f s [] = ending (state_may_end s)
+runs f s (x ∷ xs) = moves_from x xs (machine_step s (f x)) (λ next. runs f next xs)
 
 -- a line in front, if it has tokens
 abbrev pub put : {A : Type 0} → List A → List (List A) → List (List A)

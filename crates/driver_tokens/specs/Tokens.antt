@@ -12,10 +12,10 @@ use Rattle.driver_tokens.specs.declared.terminal.DriverTerminal.{DriverTerminal}
 use Rattle.driver_tokens.specs.declared.terminal.DriverTerminal.TheVariants as t
 use Rattle.driver_tokens.specs.declared.token.DriverToken.{DriverToken}
 
-abbrev pub is_in : Run → ℕ → Bool
-is_in Word = is_word_byte
-is_in Digit = is_digit
-is_in Operator = is_operator_byte
+abbrev pub is_in_run : Run → ℕ → Bool
+is_in_run Word = is_word_byte
+is_in_run Digit = is_digit
+is_in_run Operator = is_operator_byte
 
 -- How many bytes the blank or comment in front takes, as in sources. 0: there is none, or one that isn't closed.
 abbrev pub gap_length : List ℕ → ℕ
@@ -58,9 +58,9 @@ mark_of a bs = if nat_eq a 34 then t.Text
     else (if nat_eq a 44 then t.Comma else t.Nothing))))
 
 -- what the text of a token is; the empty text is none
-abbrev pub terminal_of : List ℕ → DriverTerminal
-terminal_of [] = t.Nothing
-terminal_of (a ∷ bs) = if is_letter a then t.Word (word_of (a ∷ bs))
+abbrev pub driver_terminal_of : List ℕ → DriverTerminal
+driver_terminal_of [] = t.Nothing
+driver_terminal_of (a ∷ bs) = if is_letter a then t.Word (word_of (a ∷ bs))
     else (if is_digit a then t.Number
     else (if is_operator_byte a then t.Operator
     else mark_of a bs))
@@ -71,15 +71,15 @@ pub record DriverLexeme : Type 0 where
   pub at : ℕ
   pub text : List ℕ
 
-abbrev pub lexeme : ℕ → List ℕ → DriverLexeme
-lexeme at text = record { terminal = terminal_of text; at = at; text = text }
+abbrev pub driver_lexeme : ℕ → List ℕ → DriverLexeme
+driver_lexeme at text = record { terminal = driver_terminal_of text; at = at; text = text }
 
--- Behind a gap the tokens go on; a token stands with those behind it; a byte with which no token begins is a last one, without
+-- After a gap the tokens go on; a token stands with those after it; a byte with which no token begins is a last one, without
 -- text.
 abbrev pub after_gap : ℕ → ℕ → ℕ → List ℕ → (ℕ → List DriverLexeme) → List DriverLexeme
 after_gap (suc n) k at text next = next n
-after_gap zero zero at text next = lexeme at [] ∷ []
-after_gap zero (suc n) at text next = lexeme at (take (suc n) text) ∷ next n
+after_gap zero zero at text next = driver_lexeme at [] ∷ []
+after_gap zero (suc n) at text next = driver_lexeme at (take (suc n) text) ∷ next n
 
 -- the tokens from a byte on, after so many bytes that are passed over
 abbrev pub lexed : List ℕ → ℕ → ℕ → List DriverLexeme
@@ -88,8 +88,8 @@ lexed (a ∷ bs) at (suc n) = lexed bs (at + 1) n
 lexed (a ∷ bs) at zero = after_gap (gap_length (a ∷ bs)) (token_length (a ∷ bs)) at (a ∷ bs) (λ n. lexed bs (at + 1) n)
 
 -- the tokens of a text
-abbrev pub lexemes : List ℕ → List DriverLexeme
-lexemes text = lexed text 0 0
+abbrev pub driver_lexemes : List ℕ → List DriverLexeme
+driver_lexemes text = lexed text 0 0
 
 -- a token of the code, in its text
 abbrev pub lexeme_in : List ℕ → DriverToken → DriverLexeme

@@ -1,7 +1,7 @@
 -- The words of driver files in ascending order, each with what it is (Why3 manual, "Drivers").
 use Rattle.std.specs.Prelude.{ℕ, List, [], ◌∷◌, codes, map, Option, Some, None}
 use Rattle.std.proofs.Common.{get_or}
-use Rattle.word_tables.specs.Words.{place_of}
+use Rattle.word_tables.specs.Words.{place_in_words}
 use Rattle.driver_tokens.specs.declared.terminal.DriverWord.{DriverWord}
 use Rattle.driver_tokens.specs.declared.terminal.DriverWord.TheVariants as w
 use Rattle.driver_tokens.specs.declared.terminal.Heading.TheVariants as h
@@ -47,4 +47,4 @@ kind_if None = w.Other
 
 -- what a word is
 abbrev pub word_of : List ℕ → DriverWord
-word_of word = kind_if (place_of word driver_words)
+word_of word = kind_if (place_in_words word driver_words)

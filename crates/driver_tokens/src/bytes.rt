@@ -2,7 +2,7 @@
 // They depend on the classes of bytes of sources; the lexer depends on them.
 ghost use Rattle.std.specs.Prelude.{◌≡◌, ◌+◌, ◌≤◌, length, drop};
 ghost use Rattle.std.specs.List.{prefix_len};
-ghost use Rattle.driver_tokens.specs.Tokens.{is_in};
+ghost use Rattle.driver_tokens.specs.Tokens.{is_in_run};
 
 use tokens_why::{is_digit, is_operator_byte, is_word_byte};
 
@@ -15,7 +15,7 @@ pub enum Run {
 }
 
 fn is_in(run: Run, byte: u8) -> bool
-    ensures { result ≡ is_in run byte }
+    ensures { result ≡ is_in_run run byte }
 {
     match run {
         Run::Word => is_word_byte(byte),
@@ -27,7 +27,7 @@ fn is_in(run: Run, byte: u8) -> bool
 /// Where the bytes of a run that stand from a place on end.
 pub fn run_end(text: &[u8], from: usize, run: Run) -> usize
     requires { from ≤ length text.now }
-    ensures place { result ≡ from + prefix_len (is_in run) (drop from text.now) }
+    ensures place { result ≡ from + prefix_len (is_in_run run) (drop from text.now) }
     ensures within { (from ≤ result) × (result ≤ length text.now) }
 {
     let mut at = from;

@@ -1,7 +1,7 @@
 // The lines of a driver text, or the first byte that no driver file allows there.
 // They depend on the lexer and the machine; the reader of drivers depends on them.
 ghost use Rattle.std.specs.Prelude.{◌≡◌, IfErr, IfOk};
-ghost use Rattle.driver_tokens.specs.File.{Cuts, Gives, IsRefusal, lines_in, lines_of, with_line};
+ghost use Rattle.driver_tokens.specs.File.{Cuts, GivesLines, IsDriverRefusal, lines_in, driver_lines, with_line};
 ghost use Rattle.driver_tokens.specs.Lines.{AreOnlyLines};
 
 use crate::fault::DriverSyntaxFault;
@@ -67,9 +67,9 @@ fn cut(
 /// A refusal names the first token that no driver file allows there, by its byte, or the first byte with which no token
 /// begins; the text's length, where it ends too early.
 pub fn read_lines(alloc: Global, text: &[u8]) -> Result<DriverText, DriverSyntaxFault>
-    ensures exact { Gives text.now result (lines_of text.now) }
+    ensures exact { GivesLines text.now result (driver_lines text.now) }
     ensures lines { IfOk result (λ its. AreOnlyLines text.now (lines_in text.now its)) }
-    ensures refused { IfErr result (IsRefusal text.now) }
+    ensures refused { IfErr result (IsDriverRefusal text.now) }
 {
     let tokens = lex_driver(alloc, text)?;
     match cut(alloc, &tokens, text.len()) {

@@ -1,4 +1,4 @@
-// What stands between the tokens of a driver: blanks and comments.
+// What is between the tokens of a driver: blanks and comments.
 // They depend on the comments of sources; the lexer depends on them.
 ghost use Rattle.std.specs.Prelude.{◌≡◌, ◌+◌, ◌≤◌, ◌<◌, length, drop};
 ghost use Rattle.driver_tokens.specs.Tokens.{gap_length};

@@ -3,7 +3,7 @@
 ghost use Rattle.std.specs.Prelude.{false, ◌≡◌, ◌<◌, ◌≤◌, ◌+◌, length, drop, map, IfOk};
 ghost use Rattle.tokens_why.specs.Gap.{byte_in};
 ghost use Rattle.driver_tokens.specs.Strings.{quoted};
-ghost use Rattle.driver_tokens.specs.Tokens.{lexeme_in, lexemes, mark_length, mark_of, number_length, string_length, terminal_of, token_length};
+ghost use Rattle.driver_tokens.specs.Tokens.{lexeme_in, driver_lexemes, mark_length, mark_of, number_length, string_length, driver_terminal_of, token_length};
 ghost use Rattle.driver_tokens.specs.Words.{driver_words};
 
 use crate::bytes::{Run, run_end};
@@ -106,7 +106,7 @@ fn mark_of(word: &[u8]) -> DriverTerminal
 /// What the text of a token is.
 fn terminal_of(words: &DriverWords, word: &[u8]) -> DriverTerminal
     requires { words.now ≡ driver_words }
-    ensures { result ≡ terminal_of word.now }
+    ensures { result ≡ driver_terminal_of word.now }
 {
     if word.is_empty() {
         return DriverTerminal::Nothing;
@@ -125,7 +125,7 @@ fn terminal_of(words: &DriverWords, word: &[u8]) -> DriverTerminal
 
 /// The tokens of a text, in order. Where no token begins at a byte, the last one is `Nothing` there.
 pub fn lex_driver(alloc: Global, text: &[u8]) -> Result<Vec<DriverToken>, AllocError>
-    ensures { IfOk result (λ v. map (lexeme_in text.now) v.items ≡ lexemes text.now) }
+    ensures { IfOk result (λ v. map (lexeme_in text.now) v.items ≡ driver_lexemes text.now) }
 {
     let words = driver_words();
     let mut found = Vec::new(alloc);

@@ -5,7 +5,7 @@ ghost use Rattle.driver_tokens.specs.Machine as spec;
 
 use crate::terminal::{DriverTerminal, DriverWord};
 
-/// What a name belongs to; whether a `meta` stands in a block.
+/// What a name belongs to; whether a `meta` is in a block.
 #[derive(Clone, Copy)]
 pub enum Owner {
     Syntax,
@@ -24,7 +24,7 @@ pub enum DriverState {
     Path,
     /// A string, which ends a line.
     LineText(bool),
-    /// What behind `meta` stands.
+    /// What after `meta` stands.
     MetaName(bool),
     /// The first argument of a `meta`, or a line.
     Arguments(bool),
@@ -41,7 +41,7 @@ pub enum DriverState {
     /// `prop` or `allprops`.
     Removal,
     Name(Owner),
-    /// A dot of a name, or what stands behind the name.
+    /// A dot of a name, or what comes after the name.
     NameDot(Owner),
     Operator(Owner),
     /// `_` or a closing parenthesis.
@@ -49,7 +49,7 @@ pub enum DriverState {
     OperatorClose(Owner),
 }
 
-/// What a token does to a state: it can't stand there, or it goes on in a line, or it begins one.
+/// What a token does to a state: it can't be there, or it goes on in a line, or it begins one.
 #[derive(Clone, Copy)]
 pub enum Move {
     Stuck,
@@ -74,7 +74,7 @@ fn line_word(in_block: bool, word: DriverWord) -> Move
 }
 
 fn line(in_block: bool, x: DriverTerminal) -> Move
-    ensures { result ≡ spec.line in_block x }
+    ensures { result ≡ spec.line_move in_block x }
 {
     match x {
         DriverTerminal::Word(word) => line_word(in_block, word),
@@ -101,7 +101,7 @@ fn path(x: DriverTerminal) -> Move
 }
 
 fn line_text(in_block: bool, x: DriverTerminal) -> Move
-    ensures { result ≡ spec.line_text in_block x }
+    ensures { result ≡ spec.line_text_move in_block x }
 {
     match x {
         DriverTerminal::Text => Move::Within(DriverState::Lines(in_block)),
@@ -121,7 +121,7 @@ fn meta_name(in_block: bool, x: DriverTerminal) -> Move
 }
 
 fn argument(in_block: bool, x: DriverTerminal) -> Move
-    ensures { result ≡ spec.argument in_block x }
+    ensures { result ≡ spec.argument_move in_block x }
 {
     match x {
         DriverTerminal::Text | DriverTerminal::Number => {
@@ -135,7 +135,7 @@ fn argument(in_block: bool, x: DriverTerminal) -> Move
 }
 
 fn arguments(in_block: bool, x: DriverTerminal) -> Move
-    ensures { result ≡ spec.arguments in_block x }
+    ensures { result ≡ spec.arguments_move in_block x }
 {
     match argument(in_block, x) {
         Move::Stuck => line(in_block, x),
@@ -180,7 +180,7 @@ fn name_kind(x: DriverTerminal) -> Move
 }
 
 fn removal(x: DriverTerminal) -> Move
-    ensures { result ≡ spec.removal x }
+    ensures { result ≡ spec.removal_move x }
 {
     match x {
         DriverTerminal::Word(DriverWord::Prop) => Move::Within(DriverState::Name(Owner::Remove)),
@@ -189,9 +189,9 @@ fn removal(x: DriverTerminal) -> Move
     }
 }
 
-/// What stands behind a name.
+/// What comes after a name.
 fn state_after(owner: Owner) -> DriverState
-    ensures { result ≡ spec.behind owner }
+    ensures { result ≡ spec.state_after owner }
 {
     match owner {
         Owner::Syntax => DriverState::LineText(true),
@@ -211,7 +211,7 @@ fn step_behind(owner: Owner, x: DriverTerminal) -> Move
 }
 
 fn name(owner: Owner, x: DriverTerminal) -> Move
-    ensures { result ≡ spec.name owner x }
+    ensures { result ≡ spec.name_move owner x }
 {
     match x {
         DriverTerminal::Word(_) => Move::Within(DriverState::NameDot(owner)),
@@ -260,7 +260,7 @@ fn operator_close(owner: Owner, x: DriverTerminal) -> Move
 
 /// What a token does to a state.
 pub fn step(state: DriverState, x: DriverTerminal) -> Move
-    ensures { result ≡ spec.step state x }
+    ensures { result ≡ spec.machine_step state x }
 {
     match state {
         DriverState::Lines(in_block) => line(in_block, x),
@@ -285,7 +285,7 @@ pub fn step(state: DriverState, x: DriverTerminal) -> Move
 
 /// Whether a file may end in a state.
 pub fn may_end(state: DriverState) -> bool
-    ensures { result ≡ spec.may_end state }
+    ensures { result ≡ spec.state_may_end state }
 {
     match state {
         DriverState::Lines(in_block)

@@ -3,12 +3,12 @@
 ghost use Rattle.std.specs.Prelude.{false, ◌≡◌, ◌+◌, ◌≤◌, ◌++◌, length, drop, IfOk, IfSome};
 ghost use Rattle.std.specs.Str.{is_utf8};
 ghost use Rattle.tokens_why.specs.Gap.{at_from};
-ghost use Rattle.driver_tokens.specs.Strings.{escaped, quoted, said_by};
+ghost use Rattle.driver_tokens.specs.Strings.{escaped, quoted, string_says};
 
 use outside::Text;
 use std::alloc::{AllocError, Global};
 
-/// Where the string ends whose first quote stands before a place: behind its last quote, if there is one.
+/// Where the string ends whose first quote is before a place: after its last quote, if there is one.
 pub fn quote_end(text: &[u8], from: usize) -> Option<usize>
     requires { from ≤ length text.now }
     ensures place { result ≡ at_from from (quoted false (drop from text.now)) }
@@ -55,7 +55,7 @@ fn push_escaped(value: &mut Vec<u8>, byte: u8) -> Result<(), AllocError>
 /// What a string says, given the bytes between its quotes: `\"`, `\\` and `\n` are a quote, a backslash and a line feed, and
 /// before any other byte a backslash stands for itself.
 pub fn string_value(alloc: Global, inside: &[u8]) -> Result<Text, AllocError>
-    ensures { IfOk result (λ t. t ≡ said_by inside.now) }
+    ensures { IfOk result (λ t. t ≡ string_says inside.now) }
 {
     let mut value = Vec::new(alloc);
     let mut escaped = false;

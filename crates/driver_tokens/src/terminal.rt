@@ -1,7 +1,7 @@
 // What a token of a driver is to the grammar.
 // It depends on nothing; the tokens and the machine depend on it.
 
-/// The word of a line that has a string and stands outside of blocks.
+/// The word of a line that has a string and is outside of blocks.
 #[derive(Clone, Copy)]
 pub enum Heading {
     Printer,

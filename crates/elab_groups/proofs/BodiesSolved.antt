@@ -17,7 +17,7 @@ use Rattle.elab_walk.proofs.Below.{AreBelow}
 use Rattle.elab_walk.proofs.Growing.{types_stay}
 use Rattle.elab_parts.specs.declared.solution.TypingFault.{TypingFault}
 use Rattle.elab_parts.specs.Elaborated.{IsTypingFault}
-use Rattle.elab_parts.specs.Values.{AreTypes, behind, match_instance}
+use Rattle.elab_parts.specs.Values.{AreSolvedTypes, notes_after, match_instance}
 use Rattle.elab_parts.proofs.MatchesBelow.{MatchesBelow}
 use Rattle.elab_parts.proofs.Putting.{trees_stay, matches_stay, hold_types}
 use Rattle.elab_parts.proofs.Solving.{trees_at_types, matches_at_types}
@@ -25,7 +25,7 @@ use Rattle.elab_groups.specs.Groups.{AreSolved}
 use Rattle.elab_groups.specs.Bodies.{AreBounded}
 
 -- walked in the store s1, at the types of the store s2; the stores s3 and s4 have the trees and the matches
-pub group_solved : (s1 s2 s3 s4 : List Tree) → Grows s1 s2 → Grows s2 s3 → Grows s3 s4 → (r : ℕ) (ns : Notes) (types : List TermId) → AreTypes s2 r ns types
+pub group_solved : (s1 s2 s3 s4 : List Tree) → Grows s1 s2 → Grows s2 s3 → Grows s3 s4 → (r : ℕ) (ns : Notes) (types : List TermId) → AreSolvedTypes s2 r ns types
     → (ids out : List TermId) → All (Holds s1) ids → AreBelow (r + taken ns) (trees_at s1 ids) → MatchesBelow (r + taken ns) ns.matches
     → All (Holds s3) out → trees_at s3 out ≡ instances (trees_at s2 types) (trees_at s2 ids)
     → (ms done : List MatchAt) → All (MatchHeld s1) ms → map (match_at s1) ms ≡ ns.matches → map (match_at s4) done ≡ map (match_instance (trees_at s3 types)) (map (match_at s3) ms)
@@ -48,20 +48,20 @@ instances_sorts s types h [] = refl
 instances_sorts s types h (e ∷ es) = cc (sort_of-change (typing (trees_at s types)) (sorts_typing s types (hold_types s types h)) 0 e, instances_sorts s types h es)
 
 -- ---- told by other words
-pub solved_moved : (k r : ℕ) (n ns : Notes) (ts us out : List Tree) (ms : List (ℕ × List Tree)) → k ≡ r → behind r n ≡ ns → ts ≡ us → AreSolved k (behind k n) ts out ms → AreSolved r ns us out ms
+pub solved_moved : (k r : ℕ) (n ns : Notes) (ts us out : List Tree) (ms : List (ℕ × List Tree)) → k ≡ r → notes_after r n ≡ ns → ts ≡ us → AreSolved k (notes_after k n) ts out ms → AreSolved r ns us out ms
 solved_moved k r n ns ts us out ms p q e h =
-    let a : AreSolved r (behind r n) ts out ms = subst (λ (i : ℕ). AreSolved i (behind i n) ts out ms) p h in
+    let a : AreSolved r (notes_after r n) ts out ms = subst (λ (i : ℕ). AreSolved i (notes_after i n) ts out ms) p h in
     let b : AreSolved r ns ts out ms = subst (λ (x : Notes). AreSolved r x ts out ms) q a in
     subst (λ (x : List Tree). AreSolved r ns x out ms) e b
 
-pub fault_moved : (k r : ℕ) (n ns : Notes) (f : TypingFault) → k ≡ r → behind r n ≡ ns → IsTypingFault k (behind k n) f → IsTypingFault r ns f
-fault_moved k r n ns f p q h = subst (λ (x : Notes). IsTypingFault r x f) q (subst (λ (i : ℕ). IsTypingFault i (behind i n) f) p h)
+pub fault_moved : (k r : ℕ) (n ns : Notes) (f : TypingFault) → k ≡ r → notes_after r n ≡ ns → IsTypingFault k (notes_after k n) f → IsTypingFault r ns f
+fault_moved k r n ns f p q h = subst (λ (x : Notes). IsTypingFault r x f) q (subst (λ (i : ℕ). IsTypingFault i (notes_after i n) f) p h)
 
-pub bounded_moved : (k r : ℕ) (n ns : Notes) (ts us : List Tree) → k ≡ r → behind r n ≡ ns → ts ≡ us → AreBounded r ns us → AreBounded k (behind k n) ts
+pub bounded_moved : (k r : ℕ) (n ns : Notes) (ts us : List Tree) → k ≡ r → notes_after r n ≡ ns → ts ≡ us → AreBounded r ns us → AreBounded k (notes_after k n) ts
 bounded_moved k r n ns ts us p q e h =
     let a : AreBounded r ns ts = subst (AreBounded r ns) (sym e) h in
-    let b : AreBounded r (behind r n) ts = subst (λ (x : Notes). AreBounded r x ts) (sym q) a in
-    subst (λ (i : ℕ). AreBounded i (behind i n) ts) (sym p) b
+    let b : AreBounded r (notes_after r n) ts = subst (λ (x : Notes). AreBounded r x ts) (sym q) a in
+    subst (λ (i : ℕ). AreBounded i (notes_after i n) ts) (sym p) b
 
 pub if_ok_both : {T E : Type 0} (r : Result T E) (P Q R : T → Type 0) → ((x : T) → P x → Q x → R x) → IfOk r P → IfOk r Q → IfOk r R
 if_ok_both (Ok x) P Q R f p q = f x p q

@@ -28,7 +28,7 @@ names_at s (l ∷ ls) = ap (λ ys. local_name l ∷ ys) (names_at s ls)
 pub names_are : (s : List Tree) (ls : List Local) (xs : List Word) (ts : List Tree) → map (local_at s) ls ≡ typed_locals xs ts → length ts ≡ length xs → map local_name ls ≡ xs
 names_are s ls xs ts h l = names_at s ls ∙ (ap (map name_of) h ∙ names_typed xs ts l)
 
--- a variable behind others
+-- a variable after others
 pub locals_held : (s : List Tree) (ls : List Local) (l : Local) → All (λ (x : Local). HoldsType s x.ty) ls → HoldsType s l.ty → All (λ (x : Local). HoldsType s x.ty) (ls ++ l ∷ [])
 locals_held s ls l h k = All-append (λ (x : Local). HoldsType s x.ty) ls (l ∷ []) h (All-cons (λ (x : Local). HoldsType s x.ty) l [] k (All-nil (λ (x : Local). HoldsType s x.ty)))
 

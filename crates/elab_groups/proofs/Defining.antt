@@ -18,14 +18,14 @@ use Rattle.syntax_why.specs.declared.expressions.Expr.{Expr}
 use Rattle.elab_names.specs.Abstract.{Expression, expression_of}
 use Rattle.elab_walk.specs.Drafts.{due}
 use Rattle.elab_walk.proofs.Growing.{map_same, held_grows}
-use Rattle.elab_parts.specs.Declarations.{Member}
+use Rattle.elab_parts.specs.Declarations.{GroupMember}
 use Rattle.elab_parts.proofs.Putting.{all_first, all_rest, trees_stay, all_held}
 use Rattle.elab_members.specs.declared.signing.Signed.{Signed}
 use Rattle.elab_members.specs.Members.{SignatureTree}
 use Rattle.elab_members.specs.Sources.{signed_at, SignedHeld}
 use Rattle.elab_members.proofs.SignaturesHeld.{all_signed_stay}
 use Rattle.elab_groups.specs.Groups.{definitions, group_body}
-use Rattle.elab_groups.specs.Bodies.{IsBody, AreBodies, AreDefined, IsWhole, sorts_due}
+use Rattle.elab_groups.specs.Bodies.{IsBody, AreBodies, AreDefined, AllHaveBodies, sorts_due}
 
 abbrev pub DefHeld : List Tree → Def → Type 0
 DefHeld s d = Holds s d.equation
@@ -50,7 +50,7 @@ first_body s it its id ids h = record { held = h.held 0 id (omega arith); sort =
 pub other_bodies : (s : List Tree) (it : Signed) (its : List Signed) (id : TermId) (ids : List TermId) → AreBodies s (it ∷ its) (id ∷ ids) → AreBodies s its ids
 other_bodies s it its id ids h = record { held = λ k d l. h.held (suc k) d (omega arith); sorts = cc (h.sorts) }
 
--- a definition behind others
+-- a definition after others
 pub defined_step : (s s1 s2 : List Tree) → Grows s s1 → (ds new : List Def) (d : Def) (its : List Signed) (ids : List TermId) (k : ℕ) (one : DefinitionTree) → All (DefHeld s) ds → All (SignedHeld s) its → All (Holds s) ids
     → definition_at s1 d ≡ one
     → map (definition_at s2) new ≡ map (definition_at s1) (ds ++ d ∷ []) ++ definitions k (map (signed_at s1) its) (trees_at s1 ids)
@@ -61,7 +61,7 @@ defined_step s s1 s2 g ds new d its ids k one h i j e q =
     q ∙ (rw (a, all_signed_stay s s1 g its i, trees_stay s s1 g ids j, e) (append_assoc (map (definition_at s) ds) (one ∷ []) rest))
 
 -- a group whose first member has a body has a body for each
-pub whole_defined : (m : Member) (ms : List Member) → IsWhole (m ∷ ms) → is_some m.body ≡ true → AreDefined (m ∷ ms)
+pub whole_defined : (m : GroupMember) (ms : List GroupMember) → AllHaveBodies (m ∷ ms) → is_some m.body ≡ true → AreDefined (m ∷ ms)
 whole_defined m ms h k = (k, h k)
 
 pub definitions_none : (k : ℕ) (gs : List SignatureTree) → definitions k gs [] ≡ []

@@ -9,7 +9,7 @@ use Rattle.trees.proofs.Nodes.{Grows_refl}
 use Rattle.tasks.specs.Task.{SymbolTree, int_symbol}
 use Rattle.tasks.specs.Meaning.{symbol_at, symbols_at, declarations_at}
 use Rattle.tasks.specs.declared.signature.Signature.{Signature}
-use Rattle.names_space.specs.Names.{Names}
+use Rattle.names_space.specs.Names.{ScopeNames}
 use Rattle.syntax_why.specs.Lexeme.{Word}
 use Rattle.elab_names.specs.declared.NamingFault.{NamingFault}
 use Rattle.elab_names.specs.Faults.{first_of}
@@ -18,7 +18,7 @@ use Rattle.elab_walk.specs.Drafts.{match_at}
 use Rattle.elab_walk.specs.Scoped.{IsScopedEntry}
 use Rattle.elab_parts.specs.declared.made.Elaborated.{Elaborated}
 use Rattle.elab_parts.specs.declared.made.Place.{Place}
-use Rattle.elab_parts.specs.Declarations.{Member, made_by_members, made_fault}
+use Rattle.elab_parts.specs.Declarations.{GroupMember, made_by_members, made_fault}
 use Rattle.elab_parts.specs.Entries.{IsSignature, AreScopes}
 use Rattle.elab_parts.specs.Outcomes.{Setting, over, setting, declared_in, IsKept}
 use Rattle.elab_parts.proofs.Entering.{entries_stay, signature_grows}
@@ -37,7 +37,7 @@ first_stays : {A : Type 0} (xs ys : List A) (x : A) → slice_get xs 0 ≡ Some 
 first_stays [] ys x h = absurd (cc)
 first_stays (z ∷ xs) ys x h = h
 
-module _ (p : Place) (s s1 : List Tree) (grows : Grows s s1) (g g1 : Signature) (names : Names) (ms : List Member) (it : Signatures) (sig : IsSignature s g.symbols) (scopes : AreScopes s (length g.symbols) names)
+module _ (p : Place) (s s1 : List Tree) (grows : Grows s s1) (g g1 : Signature) (names : ScopeNames) (ms : List GroupMember) (it : Signatures) (sig : IsSignature s g.symbols) (scopes : AreScopes s (length g.symbols) names)
     (e : IsEntered (setting p s g names) (before_group (setting p s g names) ms) ms g s1 g1 it) where
   abbrev c : Setting
   c = setting p s g names
@@ -48,7 +48,7 @@ module _ (p : Place) (s s1 : List Tree) (grows : Grows s s1) (g g1 : Signature) 
   abbrev entries : List SymbolTree
   entries = member_entries c before ms
 
-  abbrev after : Names
+  abbrev after : ScopeNames
   after = with_members it.number ms names
 
   abbrev total : ℕ
@@ -79,7 +79,7 @@ module _ (p : Place) (s s1 : List Tree) (grows : Grows s s1) (g g1 : Signature) 
   pub inside_is : over s1 (symbols_at s1 g1.symbols) after [] ≡ within_group c ms
   inside_is =
       let a : 0 < total = omega (arith, total_is, some) in
-      ap (λ (es : List SymbolTree). over s1 es after []) e.symbols ∙ (over_stays s s1 grows total (before ++ entries) after [] scopes_total a ∙ ap (λ (ns : Names). over s (before ++ entries) ns []) after_is)
+      ap (λ (es : List SymbolTree). over s1 es after []) e.symbols ∙ (over_stays s s1 grows total (before ++ entries) after [] scopes_total a ∙ ap (λ (ns : ScopeNames). over s (before ++ entries) ns []) after_is)
 
   counted : length g1.symbols ≡ total
   counted = sym (length-map g1.symbols (symbol_at s1)) ∙ ap length e.symbols

@@ -13,10 +13,10 @@ use Rattle.syntax_why.specs.Lexeme.{Word}
 use Rattle.elab_names.specs.Where.{Where}
 use Rattle.elab_walk.specs.declared.draft.Draft.{Draft}
 use Rattle.elab_walk.specs.Patterns.{Notes, taken}
-use Rattle.elab_walk.specs.Pieces.{Piece}
+use Rattle.elab_walk.specs.Pieces.{NotedTree}
 use Rattle.elab_walk.specs.Drafts.{IsReady, IsNoted, MatchHeld, match_at, due}
 use Rattle.elab_parts.specs.declared.made.Elaborated.{Elaborated}
-use Rattle.elab_parts.specs.Declarations.{Member}
+use Rattle.elab_parts.specs.Declarations.{GroupMember}
 use Rattle.elab_members.specs.declared.signing.Signed.{Signed}
 use Rattle.elab_members.specs.Members.{SignatureTree}
 use Rattle.elab_groups.specs.declared.solving.Bodies.{Bodies}
@@ -36,23 +36,23 @@ pub record AreBodies (s : List Tree) (its : List Signed) (ids : List TermId) : T
   pub sorts : map sort_of (trees_at s ids) ≡ sorts_due its
 
 -- each member has a body
-abbrev pub AreDefined : List Member → Type 0
+abbrev pub AreDefined : List GroupMember → Type 0
 AreDefined [] = Unit {0}
 AreDefined (m ∷ ms) = (is_some m.body ≡ true) × AreDefined ms
 
 -- each has one where the first one has one
-abbrev pub IsWhole : List Member → Type 0
-IsWhole [] = Unit {0}
-IsWhole (m ∷ ms) = is_some m.body ≡ true → AreDefined ms
+abbrev pub AllHaveBodies : List GroupMember → Type 0
+AllHaveBodies [] = Unit {0}
+AllHaveBodies (m ∷ ms) = is_some m.body ≡ true → AreDefined ms
 
--- the number of the piece's tree, and its notes behind those that were there
-pub record IsBodyWalked (p : Piece) (s : List Tree) (d : Draft) (s' : List Tree) (d' : Draft) (id : TermId) : Type 0 where
+-- the number of the piece's tree, and its notes after those that were there
+pub record IsBodyWalked (p : NotedTree) (s : List Tree) (d : Draft) (s' : List Tree) (d' : Draft) (id : TermId) : Type 0 where
   pub held : Holds s' id
   pub tree : tree_at s' id ≡ p.tree
   pub noted : IsNoted s d s' d' p.notes
 
--- of pieces in order, behind those that are there
-pub record AreBodiesWalked (ps : List Piece) (ms : List Member) (its : List Signed) (s : List Tree) (d : Draft) (ids : List TermId) (s' : List Tree) (d' : Draft) (ids' : List TermId) : Type 0 where
+-- of pieces in order, after those that are there
+pub record AreBodiesWalked (ps : List NotedTree) (ms : List GroupMember) (its : List Signed) (s : List Tree) (d : Draft) (ids : List TermId) (s' : List Tree) (d' : Draft) (ids' : List TermId) : Type 0 where
   pub held : All (Holds s') ids'
   pub trees : trees_at s' ids' ≡ trees_at s ids ++ pieces_trees ps
   pub sorts : length ms ≡ length its → AreDefined ms → map sort_of (pieces_trees ps) ≡ sorts_due its
@@ -69,7 +69,7 @@ pub record AreBounded (rigid : ℕ) (ns : Notes) (es : List Tree) : Type 0 where
   pub matches : AllByRecursion (λ (m : ℕ × List Tree). AllByRecursion (TyVarsBelow (rigid + taken ns)) m.1) ns.matches
 
 -- a group whose names are there and whose entries stand from a number on
-pub record IsGroupMade (w : Where) (theory within : Word) (ms : List Member) (k : ℕ) (gs : List SignatureTree) (s' : List Tree) (made : Elaborated) : Type 0 where
+pub record IsGroupMade (w : Where) (theory within : Word) (ms : List GroupMember) (k : ℕ) (gs : List SignatureTree) (s' : List Tree) (made : Elaborated) : Type 0 where
   pub bodies : List Tree
   pub solved : BodiesSolved w ms gs bodies (map (match_at s') made.matches)
   pub decls : declarations_at s' made.decls ≡ group_decls theory within ms k gs bodies

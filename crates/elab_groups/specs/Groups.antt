@@ -8,20 +8,20 @@ use Rattle.tasks.specs.declared.signature.SymbolKind.TheVariants.{Function, Pred
 use Rattle.tasks.specs.declared.signature.Signature.{Signature}
 use Rattle.unify_types.specs.Assigned.{assign}
 use Rattle.unify_types.specs.Pairs.{IsSolution}
-use Rattle.names_space.specs.Names.{Names}
+use Rattle.names_space.specs.Names.{ScopeNames}
 use Rattle.syntax_why.specs.Lexeme.{Word}
 use Rattle.elab_names.specs.Abstract.{Expression}
 use Rattle.elab_names.specs.declared.NamingFault.{NamingFault}
 use Rattle.elab_names.specs.Faults.{first_of}
 use Rattle.elab_names.specs.Where.{Where}
-use Rattle.elab_walk.specs.Patterns.{Notes, nothing, follow, LocalTree, local}
-use Rattle.elab_walk.specs.Pieces.{Piece, piece, bare, past}
+use Rattle.elab_walk.specs.Patterns.{Notes, no_notes, follow, LocalTree, local}
+use Rattle.elab_walk.specs.Pieces.{NotedTree, piece, bare_piece, unknown_after}
 use Rattle.elab_parts.specs.declared.ElabFault.{ElabFault}
 use Rattle.elab_parts.specs.declared.made.Elaborated.{Elaborated}
 use Rattle.elab_parts.specs.Elaborated.{IsDetermined, AreMatches, unseen}
-use Rattle.elab_parts.specs.Declarations.{Member, with_vars, made_by_members, made_fault}
+use Rattle.elab_parts.specs.Declarations.{GroupMember, with_vars, made_by_members, made_fault}
 use Rattle.elab_parts.specs.Outcomes.{Setting, Outcome, tuples_wanting, declared_in, IsRefusalFor, IsElaboratedAs}
-use Rattle.elab_members.specs.Members.{SignatureTree, words_of, members_seen, signature_trees, member_entries, with_members, inside, members_fault}
+use Rattle.elab_members.specs.Members.{SignatureTree, words_of_parameters, members_seen, signature_trees, member_entries, with_members, inside_group, members_fault}
 
 -- ---- bodies
 -- the variables of these names and types
@@ -31,36 +31,36 @@ typed_locals (x ∷ xs) [] = []
 typed_locals (x ∷ xs) (t ∷ ts) = local x t ∷ typed_locals xs ts
 
 -- a member without a body has nothing
-abbrev pub body_piece : Where → List LocalTree → ℕ → Option Tree → Option Expression → Piece
-body_piece w ls n t None = bare (Leaf HEnd)
+abbrev pub body_piece : Where → List LocalTree → ℕ → Option Tree → Option Expression → NotedTree
+body_piece w ls n t None = bare_piece (Leaf HEnd)
 body_piece w ls n t (Some e) = piece w ls n t e
 
 -- under its parameters, with its own type variables, where a value of its result's type is due, or a formula
-abbrev pub member_piece : Where → ℕ → Member → SignatureTree → Piece
-member_piece w n m g = body_piece (with_vars w g.vars) (reverse (typed_locals (words_of m.params) g.args)) n g.result m.body
+abbrev pub member_piece : Where → ℕ → GroupMember → SignatureTree → NotedTree
+member_piece w n m g = body_piece (with_vars w g.vars) (reverse (typed_locals (words_of_parameters m.params) g.args)) n g.result m.body
 
 -- one counter of unknowns goes through all bodies
-abbrev pub member_pieces : Where → ℕ → List Member → List SignatureTree → List Piece
+abbrev pub member_pieces : Where → ℕ → List GroupMember → List SignatureTree → List NotedTree
 member_pieces w n [] gs = []
 member_pieces w n (m ∷ ms) [] = []
 member_pieces w n (m ∷ ms) (g ∷ gs) =
     let p = member_piece w n m g in
-    p ∷ member_pieces w (past n p) ms gs
+    p ∷ member_pieces w (unknown_after n p) ms gs
 
 abbrev pub most_variables : List SignatureTree → ℕ
 most_variables [] = 0
 most_variables (g ∷ gs) = max (length g.vars) (most_variables gs)
 
--- their unknowns stand behind the type variables of each member
-abbrev pub bodies_pieces : Where → List Member → List SignatureTree → List Piece
+-- their unknowns come after the type variables of each member
+abbrev pub bodies_pieces : Where → List GroupMember → List SignatureTree → List NotedTree
 bodies_pieces w ms gs = member_pieces w (most_variables gs) ms gs
 
-abbrev pub pieces_notes : List Piece → Notes
-pieces_notes [] = nothing
+abbrev pub pieces_notes : List NotedTree → Notes
+pieces_notes [] = no_notes
 pieces_notes (p ∷ ps) = follow p.notes (pieces_notes ps)
 
-abbrev pub pieces_trees : List Piece → List Tree
-pieces_trees ps = map (λ (p : Piece). p.tree) ps
+abbrev pub pieces_trees : List NotedTree → List Tree
+pieces_trees ps = map (λ (p : NotedTree). p.tree) ps
 
 -- trees and matches over the unknowns of notes, at every solution of their equations
 pub record AreSolved (rigid : ℕ) (ns : Notes) (open_ : List Tree) (trees : List Tree) (ms : List (ℕ × List Tree)) : Type 0 where
@@ -68,7 +68,7 @@ pub record AreSolved (rigid : ℕ) (ns : Notes) (open_ : List Tree) (trees : Lis
   pub trees_are : (f : ℕ → Tree) → IsSolution rigid f ns.equations → map (assign rigid f) open_ ≡ trees
   pub matches : AreMatches rigid ns ms
 
-abbrev pub BodiesSolved : Where → List Member → List SignatureTree → List Tree → List (ℕ × List Tree) → Type 0
+abbrev pub BodiesSolved : Where → List GroupMember → List SignatureTree → List Tree → List (ℕ × List Tree) → Type 0
 BodiesSolved w ms gs trees matches = AreSolved (most_variables gs) (pieces_notes (bodies_pieces w ms gs)) (pieces_trees (bodies_pieces w ms gs)) trees matches
 
 -- ---- definitions
@@ -92,29 +92,29 @@ group_body None k gs bs = Makes k
 group_body (Some e) k gs bs = Defines (definitions k gs bs)
 
 -- it has the name and the number of type variables of its first member
-abbrev pub group_decls : Word → Word → List Member → ℕ → List SignatureTree → List Tree → List DeclarationTree
+abbrev pub group_decls : Word → Word → List GroupMember → ℕ → List SignatureTree → List Tree → List DeclarationTree
 group_decls theory within [] k gs bs = []
 group_decls theory within (m ∷ ms) k [] bs = []
 group_decls theory within (m ∷ ms) k (g ∷ gs) bs = record { theory = theory; name = within ++ m.called.name; vars = length g.vars; body = group_body m.body k (g ∷ gs) bs } ∷ []
 
--- ---- a group where it stands: the entries of its tuples, then those of its members
-abbrev pub group_tuples : Setting → List Member → List SymbolTree
+-- ---- a group where it is: the entries of its tuples, then those of its members
+abbrev pub group_tuples : Setting → List GroupMember → List SymbolTree
 group_tuples c ms = tuples_wanting c (members_seen unseen ms)
 
-abbrev pub before_group : Setting → List Member → List SymbolTree
+abbrev pub before_group : Setting → List GroupMember → List SymbolTree
 before_group c ms = c.symbols ++ group_tuples c ms
 
-abbrev pub group_signatures : Setting → List Member → List SignatureTree
+abbrev pub group_signatures : Setting → List GroupMember → List SignatureTree
 group_signatures c ms = signature_trees c (before_group c ms) ms
 
-abbrev pub group_scope : Setting → List Member → Names
+abbrev pub group_scope : Setting → List GroupMember → ScopeNames
 group_scope c ms = with_members (length (before_group c ms)) ms c.scope
 
 -- what names mean in its bodies
-abbrev pub within_group : Setting → List Member → Where
-within_group c ms = inside c (before_group c ms) ms (group_scope c ms)
+abbrev pub within_group : Setting → List GroupMember → Where
+within_group c ms = inside_group c (before_group c ms) ms (group_scope c ms)
 
-pub record IsGroup (c : Setting) (ms : List Member) (o : Outcome) : Type 0 where
+pub record IsGroup (c : Setting) (ms : List GroupMember) (o : Outcome) : Type 0 where
   pub bodies : List Tree
   pub solved : BodiesSolved (within_group c ms) ms (group_signatures c ms) bodies o.matches
   pub symbols : o.symbols ≡ group_tuples c ms ++ member_entries c (before_group c ms) ms
@@ -123,19 +123,19 @@ pub record IsGroup (c : Setting) (ms : List Member) (o : Outcome) : Type 0 where
   pub rigid : o.rigid ≡ []
 
 -- the first fault of the names that it uses
-abbrev pub group_used : Setting → List Member → Option NamingFault
+abbrev pub group_used : Setting → List GroupMember → Option NamingFault
 group_used c ms = members_fault (within_group c ms) ms
 
 -- of those that it makes, and then of those that it uses
-abbrev pub group_fault : Setting → List Member → Option NamingFault
+abbrev pub group_fault : Setting → List GroupMember → Option NamingFault
 group_fault c ms = first_of (made_fault (declared_in c.scope) [] (made_by_members ms)) (group_used c ms)
 
 -- the notes of its type equations
-abbrev pub group_notes : Setting → List Member → Notes
+abbrev pub group_notes : Setting → List GroupMember → Notes
 group_notes c ms = pieces_notes (bodies_pieces (within_group c ms) ms (group_signatures c ms))
 
-abbrev pub IsGroupElaborated : Setting → List Member → Signature → List Tree → Signature → Names → Elaborated → Type 0
+abbrev pub IsGroupElaborated : Setting → List GroupMember → Signature → List Tree → Signature → ScopeNames → Elaborated → Type 0
 IsGroupElaborated c ms g s' g' scope' made = IsElaboratedAs (IsGroup c ms) (group_fault c ms) c.symbols g s' g' scope' made
 
-abbrev pub IsGroupRefusal : Setting → List Member → ElabFault → Type 0
+abbrev pub IsGroupRefusal : Setting → List GroupMember → ElabFault → Type 0
 IsGroupRefusal c ms f = IsRefusalFor c.decl (group_fault c ms) (most_variables (group_signatures c ms)) (group_notes c ms) f

@@ -19,7 +19,7 @@ use std::alloc::{AllocError, Global};
 use term_store::{Grow, Store};
 use trees::{Node, TermId};
 
-// The variables of these names and types, behind those that are there.
+// The variables of these names and types, after those that are there.
 fn push_locals<'a>(
     list: &mut Vec<Local<'a>>,
     names: &'a [Text],
@@ -78,7 +78,7 @@ fn walk_body(
     walk(alloc, store, draft, e, &own, &locals, signed.result)
 }
 
-/// The bodies of members, behind those that are there.
+/// The bodies of members, after those that are there.
 pub fn walk_bodies(
     alloc: Global,
     store: &mut Store,

@@ -38,7 +38,11 @@ fn parameters_list(store: &mut Store, args: &[TermId]) -> Result<TermId, AllocEr
 }
 
 // A formula under a quantifier for each of these types, the first outermost.
-fn quantify_formula(store: &mut Store, args: &[TermId], formula: TermId) -> Result<TermId, AllocError>
+fn quantify_formula(
+    store: &mut Store,
+    args: &[TermId],
+    formula: TermId,
+) -> Result<TermId, AllocError>
     requires args { All (HoldsType store.old) args.now }
     requires formula { Holds store.old formula }
     requires sort { sort_of (tree_at store.old formula) ≡ Formula }
@@ -108,7 +112,7 @@ fn equation(
     quantify_formula(store, signed.args.as_slice(), formula)
 }
 
-/// The equations of members with their bodies, the first of which has a number, behind those that are there.
+/// The equations of members with their bodies, the first of which has a number, after those that are there.
 pub fn push_definitions(
     alloc: Global,
     store: &mut Store,

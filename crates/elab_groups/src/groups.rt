@@ -1,4 +1,4 @@
-// Groups where they stand: what is made of them, or their first fault.
+// Groups where they are: what is made of them, or their first fault.
 ghost use Rattle.std.specs.Prelude.{◌≡◌, List, length, map, true, All, IfOk, IfErr};
 ghost use Rattle.std.specs.List.{AllByRecursion};
 ghost use Rattle.std.specs.Option.{is_some};
@@ -12,7 +12,7 @@ ghost use Rattle.elab_parts.specs.Entries.{IsSignature, AreScopes};
 ghost use Rattle.elab_parts.specs.Outcomes.{setting, IsKept};
 ghost use Rattle.elab_members.specs.Sources.{member_at, members_at, signed_at, SignedHeld, IsScopedSignature, AreResolved};
 ghost use Rattle.elab_groups.specs.Groups.{most_variables, bodies_pieces, pieces_notes, group_body, group_decls, IsGroupElaborated, IsGroupRefusal};
-ghost use Rattle.elab_groups.specs.Bodies.{AreDefined, IsWhole, AreBodies, IsGroupMade};
+ghost use Rattle.elab_groups.specs.Bodies.{AreDefined, AllHaveBodies, AreBodies, IsGroupMade};
 
 use crate::equations::push_definitions;
 use crate::solving::solve_group;
@@ -67,7 +67,7 @@ fn group_decls(
     bodies: &[TermId],
 ) -> Result<Seq<Decl>, AllocError>
     requires signed { All (SignedHeld store.old) signed.now }
-    requires whole { IsWhole (members_at members.now) }
+    requires whole { AllHaveBodies (members_at members.now) }
     requires bodies { AreDefined (members_at members.now) → AreBodies store.old signed.now
         bodies.now }
     ensures held { IfOk result (All (DeclHeld store.new)) }
@@ -111,7 +111,7 @@ fn type_group(
     requires resolved { AreResolved (where_at store.old world.now) (members_at members.now)
         (map (signed_at store.old) entered.now.list.items) }
     requires each { length entered.now.list.items ≡ length members.now }
-    requires whole { IsWhole (members_at members.now) }
+    requires whole { AllHaveBodies (members_at members.now) }
     ensures ok { IfOk result (IsGroupMade (where_at store.old world.now) place.now.theory.now
         place.now.within.now (members_at members.now) entered.now.number
         (map (signed_at store.old) entered.now.list.items) store.new) }
@@ -143,7 +143,7 @@ pub fn elaborate_group(
 ) -> Result<Elaborated, ElabFault>
     requires signature { IsSignature store.old sig.old.symbols }
     requires scopes { AreScopes store.old (length sig.old.symbols) scope.old }
-    requires whole { IsWhole (members_at members.now) }
+    requires whole { AllHaveBodies (members_at members.now) }
     ensures ok { IfOk result (IsGroupElaborated (setting place.now store.old sig.old scope.old)
         (members_at members.now) sig.old store.new sig.new scope.new) }
     ensures kept { IfOk result (IsKept store.new sig.new scope.new) }

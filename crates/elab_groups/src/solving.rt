@@ -9,7 +9,7 @@ ghost use Rattle.elab_names.specs.Naming.{where_at};
 ghost use Rattle.elab_walk.specs.Drafts.{WorldHeld, IsReady, match_at, notes_at};
 ghost use Rattle.elab_walk.specs.Scoped.{IsScoped};
 ghost use Rattle.elab_parts.specs.Elaborated.{IsTypingFault};
-ghost use Rattle.elab_parts.specs.Values.{behind};
+ghost use Rattle.elab_parts.specs.Values.{notes_after};
 ghost use Rattle.elab_members.specs.Sources.{members_at, signed_at, SignedHeld, IsScopedSignature, AreResolved};
 ghost use Rattle.elab_groups.specs.Groups.{most_variables, bodies_pieces, pieces_notes, AreSolved, BodiesSolved};
 ghost use Rattle.elab_groups.specs.Bodies.{AreDefined, AreBodies, BodiesHeld, AreBounded};
@@ -42,15 +42,17 @@ fn solve_bodies(
     requires ready { IsReady store.old draft.now }
     requires own { rigid ≤ length draft.now.takers }
     requires ids { All (Holds store.old) ids.now }
-    requires bounded { AreBounded rigid (behind rigid (notes_at store.old draft.now))
+    requires bounded { AreBounded rigid (notes_after rigid (notes_at store.old draft.now))
         (trees_at store.old ids.now) }
     ensures held { IfOk result (BodiesHeld store.new) }
     ensures sorts { IfOk result (λ it. map sort_of (trees_at store.new it.trees.items) ≡ map sort_of
         (trees_at store.old ids.now)) }
-    ensures ok { IfOk result (λ it. AreSolved rigid (behind rigid (notes_at store.old draft.now))
+    ensures ok { IfOk result (λ it. AreSolved rigid
+        (notes_after rigid (notes_at store.old draft.now))
         (trees_at store.old ids.now) (trees_at store.new it.trees.items)
         (map (match_at store.new) it.matches)) }
-    ensures err { IfErr result (IsTypingFault rigid (behind rigid (notes_at store.old draft.now))) }
+    ensures err { IfErr result (IsTypingFault rigid
+        (notes_after rigid (notes_at store.old draft.now))) }
     ensures grows { Grows store.old store.new }
 {
     let types = solve_draft(alloc, store, rigid, draft)?;

@@ -11,10 +11,10 @@ use Rattle.trees.specs.Node.{tree_at, Holds}
 use Rattle.tasks.specs.declared.declaration.Ind.{Ind}
 use Rattle.tasks.specs.Task.{InductiveTree}
 use Rattle.tasks.specs.Meaning.{trees_at, inductive_at, inductives_at, InductiveHeld}
-use Rattle.elab_parts.specs.Declarations.{Inductive}
-use Rattle.elab_inductives.specs.Inductives.{formula, formulas, induced}
+use Rattle.elab_parts.specs.Declarations.{InductivePredicate}
+use Rattle.elab_inductives.specs.Inductives.{formula, formula_members, induced}
 
--- ---- the first of a list, and those behind them
+-- ---- the first of a list, and those after them
 module _ {A B : Type 0} (f : A → B) where
   take_map : (n : ℕ) (xs : List A) → take n (map f xs) ≡ map f (take n xs)
   take_map zero xs = refl
@@ -44,17 +44,17 @@ module _ {A : Type 0} (P : A → Type 0) where
   all_dropped n xs h = All-from_recursion P (drop n xs) (drop_each n xs (recursion_from_All P xs h))
 
 -- ---- as many as its clauses
-pub formulas_count : (d : Inductive) (ds : List Inductive) → length (formulas (d ∷ ds)) ≡ length d.clauses + length (formulas ds)
-formulas_count d ds = length-append (map (formula d.called) d.clauses) (formulas ds) ∙ ap (λ (n : ℕ). n + length (formulas ds)) (length-map d.clauses (formula d.called))
+pub formulas_count : (d : InductivePredicate) (ds : List InductivePredicate) → length (formula_members (d ∷ ds)) ≡ length d.clauses + length (formula_members ds)
+formulas_count d ds = length-append (map (formula d.called) d.clauses) (formula_members ds) ∙ ap (λ (n : ℕ). n + length (formula_members ds)) (length-map d.clauses (formula d.called))
 
-pub clauses_within : (d : Inductive) (ds : List Inductive) (n : ℕ) → n ≡ length (formulas (d ∷ ds)) → length d.clauses ≤ n
+pub clauses_within : (d : InductivePredicate) (ds : List InductivePredicate) (n : ℕ) → n ≡ length (formula_members (d ∷ ds)) → length d.clauses ≤ n
 clauses_within d ds n e = let q = formulas_count d ds in omega (arith, e, q)
 
-pub others_count : (d : Inductive) (ds : List Inductive) (ids : List TermId) → length ids ≡ length (formulas (d ∷ ds)) → length (drop (length d.clauses) ids) ≡ length (formulas ds)
+pub others_count : (d : InductivePredicate) (ds : List InductivePredicate) (ids : List TermId) → length ids ≡ length (formula_members (d ∷ ds)) → length (drop (length d.clauses) ids) ≡ length (formula_members ds)
 others_count d ds ids e = let q = formulas_count d ds in let l = length-drop (length d.clauses) ids in omega (arith, e, q, l)
 
--- ---- a predicate with its clauses, behind others
-pub induced_step : (s : List Tree) (list new : List Ind) (k : ℕ) (d : Inductive) (ds : List Inductive) (ids : List TermId) (one : Ind)
+-- ---- a predicate with its clauses, after others
+pub induced_step : (s : List Tree) (list new : List Ind) (k : ℕ) (d : InductivePredicate) (ds : List InductivePredicate) (ids : List TermId) (one : Ind)
     → one.symbol ≡ k → one.clauses ≡ take (length d.clauses) ids
     → inductives_at s new ≡ inductives_at s (list ++ one ∷ []) ++ induced (suc k) ds (trees_at s (drop (length d.clauses) ids))
     → inductives_at s new ≡ inductives_at s list ++ induced k (d ∷ ds) (trees_at s ids)

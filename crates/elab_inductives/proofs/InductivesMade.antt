@@ -9,13 +9,13 @@ use Rattle.trees.proofs.Nodes.{Grows_refl}
 use Rattle.tasks.specs.Task.{SymbolTree, int_symbol}
 use Rattle.tasks.specs.Meaning.{symbol_at, symbols_at, declarations_at}
 use Rattle.tasks.specs.declared.signature.Signature.{Signature}
-use Rattle.names_space.specs.Names.{Names}
+use Rattle.names_space.specs.Names.{ScopeNames}
 use Rattle.elab_names.specs.Where.{Where}
 use Rattle.elab_walk.specs.Drafts.{match_at}
 use Rattle.elab_walk.specs.Scoped.{IsScopedEntry}
 use Rattle.elab_parts.specs.declared.made.Elaborated.{Elaborated}
 use Rattle.elab_parts.specs.declared.made.Place.{Place}
-use Rattle.elab_parts.specs.Declarations.{Inductive, made_by_inductives, made_fault}
+use Rattle.elab_parts.specs.Declarations.{InductivePredicate, made_by_inductives, made_fault}
 use Rattle.elab_parts.specs.Elaborated.{unseen}
 use Rattle.elab_parts.specs.Entries.{IsSignature, AreScopes}
 use Rattle.elab_parts.specs.Outcomes.{Setting, over, setting, declared_in, tuples_wanting, IsKept}
@@ -29,7 +29,7 @@ use Rattle.elab_members.specs.Sources.{IsEntered, AreResolved}
 use Rattle.elab_members.proofs.MembersNamed.{entries_count}
 use Rattle.elab_members.proofs.MembersScoped.{members_scoped}
 use Rattle.elab_groups.specs.Groups.{BodiesSolved}
-use Rattle.elab_inductives.specs.Inductives.{inductives_seen, as_member, as_members, formulas, clause_signatures, with_inductives, before_inductives, inductives_scope, within_inductives, inductive_decls, inductives_used, IsInductiveElaborated}
+use Rattle.elab_inductives.specs.Inductives.{inductives_seen, as_member, as_members, formula_members, clause_signatures, with_inductives, before_inductives, inductives_scope, within_inductives, inductive_decls, inductives_used, IsInductiveElaborated}
 use Rattle.elab_inductives.specs.Sources.{AreInductivesMade}
 use Rattle.elab_inductives.proofs.InductivesNamed.{inductives_types, inductives_scopes}
 use Rattle.elab_inductives.proofs.ClausesResolved.{members_right, formulas_resolved}
@@ -38,7 +38,7 @@ first_stays : {A : Type 0} (xs ys : List A) (x : A) → slice_get xs 0 ≡ Some 
 first_stays [] ys x h = absurd (cc)
 first_stays (z ∷ xs) ys x h = h
 
-module _ (p : Place) (s s1 : List Tree) (grows : Grows s s1) (g g1 : Signature) (names : Names) (ds : List Inductive) (it : Signatures) (sig : IsSignature s g.symbols) (scopes : AreScopes s (length g.symbols) names)
+module _ (p : Place) (s s1 : List Tree) (grows : Grows s s1) (g g1 : Signature) (names : ScopeNames) (ds : List InductivePredicate) (it : Signatures) (sig : IsSignature s g.symbols) (scopes : AreScopes s (length g.symbols) names)
     (e : IsEntered (setting p s g names) (before_inductives (setting p s g names) ds) (as_members ds) g s1 g1 it) where
   abbrev c : Setting
   c = setting p s g names
@@ -49,7 +49,7 @@ module _ (p : Place) (s s1 : List Tree) (grows : Grows s s1) (g g1 : Signature) 
   abbrev entries : List SymbolTree
   entries = member_entries c before (as_members ds)
 
-  abbrev after : Names
+  abbrev after : ScopeNames
   after = with_inductives p.decl it.number ds names
 
   abbrev total : ℕ
@@ -80,7 +80,7 @@ module _ (p : Place) (s s1 : List Tree) (grows : Grows s s1) (g g1 : Signature) 
   pub inside_is : over s1 (symbols_at s1 g1.symbols) after [] ≡ within_inductives c ds
   inside_is =
       let a : 0 < total = omega (arith, total_is, some) in
-      ap (λ (es : List SymbolTree). over s1 es after []) e.symbols ∙ (over_stays s s1 grows total (before ++ entries) after [] scopes_total a ∙ ap (λ (ns : Names). over s (before ++ entries) ns []) after_is)
+      ap (λ (es : List SymbolTree). over s1 es after []) e.symbols ∙ (over_stays s s1 grows total (before ++ entries) after [] scopes_total a ∙ ap (λ (ns : ScopeNames). over s (before ++ entries) ns []) after_is)
 
   counted : length g1.symbols ≡ total
   counted = sym (length-map g1.symbols (symbol_at s1)) ∙ ap length e.symbols
@@ -100,12 +100,12 @@ module _ (p : Place) (s s1 : List Tree) (grows : Grows s s1) (g g1 : Signature) 
           (members_scoped s before entries names (inductives_scope c ds) scopes_before some (inductives_types p.decl (length before) ds names) e.outer c.theory c.within (as_members ds) members_are));
     }
 
-    pub resolved_after : (w : Where) → w ≡ within_inductives c ds → AreResolved w (formulas ds) (clause_signatures ds)
-    resolved_after w q = subst (λ (v : Where). AreResolved v (formulas ds) (clause_signatures ds)) (sym q) (formulas_resolved (within_inductives c ds) ds right)
+    pub resolved_after : (w : Where) → w ≡ within_inductives c ds → AreResolved w (formula_members ds) (clause_signatures ds)
+    resolved_after w q = subst (λ (v : Where). AreResolved v (formula_members ds) (clause_signatures ds)) (sym q) (formulas_resolved (within_inductives c ds) ds right)
 
     module _ (s2 : List Tree) (further : Grows s1 s2) (w : Where) (q : w ≡ within_inductives c ds) (made : Elaborated) (m : AreInductivesMade w p.theory.now p.within.now ds it.number s2 made) where
-      solved_after : BodiesSolved (within_inductives c ds) (formulas ds) (clause_signatures ds) m.clauses (map (match_at s2) made.matches)
-      solved_after = subst (λ (v : Where). BodiesSolved v (formulas ds) (clause_signatures ds) m.clauses (map (match_at s2) made.matches)) q m.solved
+      solved_after : BodiesSolved (within_inductives c ds) (formula_members ds) (clause_signatures ds) m.clauses (map (match_at s2) made.matches)
+      solved_after = subst (λ (v : Where). BodiesSolved v (formula_members ds) (clause_signatures ds) m.clauses (map (match_at s2) made.matches)) q m.solved
 
       decls_after : declarations_at s2 made.decls ≡ inductive_decls c.theory c.within ds (length before) m.clauses
       decls_after = m.decls ∙ ap (λ (k : ℕ). inductive_decls c.theory c.within ds k m.clauses) e.number

@@ -4,37 +4,37 @@ use Rattle.trees.specs.Tree.{Tree, Leaf, One, HTyApp, HTyVar, HEnd}
 use Rattle.tasks.specs.declared.signature.SymbolKind.TheVariants.{Predicate}
 use Rattle.tasks.specs.Task.{int_symbol}
 use Rattle.syntax_why.specs.Lexeme.{Word}
-use Rattle.names_space.specs.Names.{start}
-use Rattle.elab_names.specs.Abstract.{Form, Expression, variable, composed, no_forms, apply, literal, cast, none, more}
+use Rattle.names_space.specs.Names.{empty_names}
+use Rattle.elab_names.specs.Abstract.{TypeExpression, Expression, variable_type, composed_type, no_types, applied_expression, integer_expression, cast_expression, no_expressions, more_expressions}
 use Rattle.elab_names.specs.declared.NamingFault.TheVariants.{Unknown, Duplicate, WrongKind}
-use Rattle.elab_parts.specs.Declarations.{Clause, Inductive, called}
+use Rattle.elab_parts.specs.Declarations.{InductiveClause, InductivePredicate, token_name}
 use Rattle.elab_parts.specs.Outcomes.{Setting}
 use Rattle.elab_members.specs.Members.{member_entries}
 use Rattle.elab_inductives.specs.Inductives.{as_members, before_inductives, clause_signature, induced, inductive_group_fault, inductive_notes}
 
 -- a theory `T` that has `int` alone
 abbrev here : Setting
-here = record { theory = codes "T"; within = codes "S."; decl = 1; trees = []; symbols = int_symbol ∷ []; scope = start }
+here = record { theory = codes "T"; within = codes "S."; decl = 1; trees = []; symbols = int_symbol ∷ []; scope = empty_names }
 
-abbrev int_form : Form
-int_form = composed 0 [] (codes "int") no_forms
+abbrev int_form : TypeExpression
+int_form = composed_type 0 [] (codes "int") no_types
 
 abbrev int_type : Tree
 int_type = One (HTyApp 0) (Leaf HEnd)
 
 abbrev one : Expression
-one = literal 13 (pos 1)
+one = integer_expression 13 (pos 1)
 
--- a predicate of a name that stands at a token, of one parameter `x`, with its clauses
-abbrev predicate : ℕ → Word → Form → List Clause → Inductive
-predicate i p t cs = record { called = called i p; params = record { names = called 5 (codes "x") ∷ []; of_type = t } ∷ []; clauses = cs }
+-- a predicate of a name that is at a token, of one parameter `x`, with its clauses
+abbrev predicate : ℕ → Word → TypeExpression → List InductiveClause → InductivePredicate
+predicate i p t cs = record { called = token_name i p; params = record { names = token_name 5 (codes "x") ∷ []; of_type = t } ∷ []; clauses = cs }
 
--- a clause of a name that stands at a token says a predicate of an expression
-abbrev says : ℕ → Word → Word → Expression → Clause
-says i c p e = record { called = called i c; prop = apply 12 [] p (more e none) }
+-- a clause of a name that is at a token says a predicate of an expression
+abbrev says : ℕ → Word → Word → Expression → InductiveClause
+says i c p e = record { called = token_name i c; prop = applied_expression 12 [] p (more_expressions e no_expressions) }
 
 -- `inductive p (x: int) = c: p 1`
-abbrev holds : Inductive
+abbrev holds : InductivePredicate
 holds = predicate 3 (codes "p") int_form (says 10 (codes "c") (codes "p") one ∷ [])
 
 holds_entries : member_entries here (before_inductives here (holds ∷ [])) (as_members (holds ∷ [])) ≡ record { theory = codes "T"; name = codes "S.p"; kind = Predicate; vars = 0; args = int_type ∷ []; result = None } ∷ []
@@ -47,7 +47,7 @@ holds_right : inductive_group_fault here (holds ∷ []) ≡ None
 holds_right = refl
 
 -- each predicate has its own clauses, in order
-abbrev two : Inductive
+abbrev two : InductivePredicate
 two = predicate 20 (codes "q") int_form (says 25 (codes "d") (codes "p") one ∷ says 30 (codes "e") (codes "q") one ∷ [])
 
 split : induced 1 (holds ∷ two ∷ []) (Leaf (HTyVar 0) ∷ Leaf (HTyVar 1) ∷ Leaf (HTyVar 2) ∷ [])
@@ -61,7 +61,7 @@ both_equations : (inductive_notes here (holds ∷ two ∷ [])).equations ≡ (in
 both_equations = refl
 
 -- the type variables of its predicate come first in a clause: `inductive p (x: 'a) = c: p (y: 'b)` has both
-own_variables : (clause_signature (predicate 3 (codes "p") (variable 6 (codes "'a")) []) (says 10 (codes "c") (codes "p") (cast 13 (apply 14 [] (codes "y") none) (variable 15 (codes "'b"))))).vars ≡ codes "'a" ∷ codes "'b" ∷ []
+own_variables : (clause_signature (predicate 3 (codes "p") (variable_type 6 (codes "'a")) []) (says 10 (codes "c") (codes "p") (cast_expression 13 (applied_expression 14 [] (codes "y") no_expressions) (variable_type 15 (codes "'b"))))).vars ≡ codes "'a" ∷ codes "'b" ∷ []
 own_variables = refl
 
 -- ---- faults
@@ -80,7 +80,7 @@ named_alike : inductive_group_fault here (predicate 3 (codes "p") int_form (says
 named_alike = refl
 
 -- a parameter is no variable of the clauses
-lacking : inductive_group_fault here (predicate 3 (codes "p") int_form (says 10 (codes "c") (codes "p") (apply 13 [] (codes "x") none) ∷ []) ∷ []) ≡ Some (Unknown 13)
+lacking : inductive_group_fault here (predicate 3 (codes "p") int_form (says 10 (codes "c") (codes "p") (applied_expression 13 [] (codes "x") no_expressions) ∷ []) ∷ []) ≡ Some (Unknown 13)
 lacking = refl
 
 -- names that are made come before those that are used
@@ -88,5 +88,5 @@ made_first : inductive_group_fault here (predicate 3 (codes "p") int_form (says 
 made_first = refl
 
 -- a clause is a formula
-a_term : inductive_group_fault here (predicate 3 (codes "p") int_form (record { called = called 10 (codes "c"); prop = one } ∷ []) ∷ []) ≡ Some (WrongKind 13)
+a_term : inductive_group_fault here (predicate 3 (codes "p") int_form (record { called = token_name 10 (codes "c"); prop = one } ∷ []) ∷ []) ≡ Some (WrongKind 13)
 a_term = refl

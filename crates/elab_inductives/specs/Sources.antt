@@ -9,23 +9,23 @@ use Rattle.syntax_why.specs.Lexeme.{Word}
 use Rattle.elab_names.specs.Where.{Where}
 use Rattle.elab_walk.specs.Drafts.{MatchHeld, match_at}
 use Rattle.elab_parts.specs.declared.made.Elaborated.{Elaborated}
-use Rattle.elab_parts.specs.Declarations.{Clause, Inductive, clause, inductive_predicate}
+use Rattle.elab_parts.specs.Declarations.{InductiveClause, InductivePredicate, clause, inductive_predicate}
 use Rattle.elab_groups.specs.Groups.{BodiesSolved}
-use Rattle.elab_inductives.specs.Inductives.{formulas, clause_signatures, inductive_decls}
+use Rattle.elab_inductives.specs.Inductives.{formula_members, clause_signatures, inductive_decls}
 
-abbrev pub predicate_at : IndTree → Inductive
+abbrev pub predicate_at : IndTree → InductivePredicate
 predicate_at d = inductive_predicate (inductive_of d)
 
-abbrev pub predicates_at : List IndTree → List Inductive
+abbrev pub predicates_at : List IndTree → List InductivePredicate
 predicates_at ds = map inductive_predicate (map inductive_of ds)
 
-abbrev pub clauses_at : List ClauseTree → List Clause
+abbrev pub clauses_at : List ClauseTree → List InductiveClause
 clauses_at cs = map clause (map clause_of cs)
 
 -- a group whose names are there and whose entries stand from a number on
-pub record AreInductivesMade (w : Where) (theory within : Word) (ds : List Inductive) (k : ℕ) (s' : List Tree) (made : Elaborated) : Type 0 where
+pub record AreInductivesMade (w : Where) (theory within : Word) (ds : List InductivePredicate) (k : ℕ) (s' : List Tree) (made : Elaborated) : Type 0 where
   pub clauses : List Tree
-  pub solved : BodiesSolved w (formulas ds) (clause_signatures ds) clauses (map (match_at s') made.matches)
+  pub solved : BodiesSolved w (formula_members ds) (clause_signatures ds) clauses (map (match_at s') made.matches)
   pub decls : declarations_at s' made.decls ≡ inductive_decls theory within ds k clauses
   pub rigid : made.rigid ≡ []
   pub decls_held : All (DeclHeld s') made.decls

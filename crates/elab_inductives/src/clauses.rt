@@ -7,7 +7,7 @@ ghost use Rattle.elab_names.specs.Abstract.{expression_of};
 ghost use Rattle.elab_variables.specs.Seen.{seen};
 ghost use Rattle.elab_parts.specs.Declarations.{signature_variables};
 ghost use Rattle.elab_members.specs.Sources.{parameters_of, signed_at, SignedHeld};
-ghost use Rattle.elab_inductives.specs.Inductives.{formulas, clause_signature, clause_signatures, induced};
+ghost use Rattle.elab_inductives.specs.Inductives.{formula_members, clause_signature, clause_signatures, induced};
 ghost use Rattle.elab_inductives.specs.Sources.{predicate_at, predicates_at, clauses_at};
 
 use elab_members::{Signed, signature_seen};
@@ -34,7 +34,7 @@ fn clause_vars(alloc: Global, params: &[ParamTree], prop: &Expr) -> Result<Seq<T
     Ok(seen.vars)
 }
 
-// The signatures of a predicate's clauses, behind those that are there.
+// The signatures of a predicate's clauses, after those that are there.
 fn sign_clauses(
     alloc: Global,
     list: &mut Vec<Signed>,
@@ -59,7 +59,7 @@ fn sign_clauses(
     sign_clauses(alloc, list, inductive, rest)
 }
 
-/// The signatures of the clauses of predicates, behind those that are there.
+/// The signatures of the clauses of predicates, after those that are there.
 pub fn sign_inductives(
     alloc: Global,
     list: &mut Vec<Signed>,
@@ -77,7 +77,7 @@ pub fn sign_inductives(
     sign_inductives(alloc, list, rest)
 }
 
-/// The clauses of predicates, whose entries stand from a number on, behind those that are there: `bodies` has those of all.
+/// The clauses of predicates, whose entries stand from a number on, after those that are there: `bodies` has those of all.
 pub fn push_induced(
     alloc: Global,
     list: &mut Seq<Ind>,
@@ -85,7 +85,7 @@ pub fn push_induced(
     inductives: &[IndTree],
     bodies: &[TermId],
 ) -> Result<(), AllocError>
-    requires { length bodies.now ≡ length (formulas (predicates_at inductives.now)) }
+    requires { length bodies.now ≡ length (formula_members (predicates_at inductives.now)) }
     ensures held { OnOk result ((s : List Tree) → All (Holds s) bodies.now → All (InductiveHeld s)
         list.old → All (InductiveHeld s) list.new) }
     ensures induced { OnOk result ((s : List Tree) → inductives_at s list.new ≡ inductives_at s

@@ -1,4 +1,4 @@
-// Groups of inductive predicates where they stand: what is made of them, or their first fault.
+// Groups of inductive predicates where they are: what is made of them, or their first fault.
 ghost use Rattle.std.specs.Prelude.{◌≡◌, length, All, IfOk, IfErr};
 ghost use Rattle.trees.specs.Node.{Holds, Grows};
 ghost use Rattle.tasks.specs.Meaning.{trees_at, declarations_at, DeclHeld};
@@ -10,7 +10,7 @@ ghost use Rattle.elab_parts.specs.Entries.{IsSignature, AreScopes};
 ghost use Rattle.elab_parts.specs.Outcomes.{setting, IsKept};
 ghost use Rattle.elab_members.specs.Sources.{IsEntered, AreResolved};
 ghost use Rattle.elab_groups.specs.Groups.{most_variables, bodies_pieces, pieces_notes};
-ghost use Rattle.elab_inductives.specs.Inductives.{as_members, formulas, clause_signatures, before_inductives, inductive_decls, IsInductiveElaborated, IsInductiveRefusal};
+ghost use Rattle.elab_inductives.specs.Inductives.{as_members, formula_members, clause_signatures, before_inductives, inductive_decls, IsInductiveElaborated, IsInductiveRefusal};
 ghost use Rattle.elab_inductives.specs.Sources.{predicates_at, AreInductivesMade};
 
 use crate::clauses::{push_induced, sign_inductives};
@@ -41,7 +41,7 @@ fn inductive_decls(
     bodies: &[TermId],
 ) -> Result<Seq<Decl>, AllocError>
     requires held { All (Holds store.now) bodies.now }
-    requires each { length bodies.now ≡ length (formulas (predicates_at inductives.now)) }
+    requires each { length bodies.now ≡ length (formula_members (predicates_at inductives.now)) }
     ensures held { IfOk result (All (DeclHeld store.now)) }
     ensures decls { IfOk result (λ ds. declarations_at store.now ds ≡ inductive_decls
         place.now.theory.now place.now.within.now (predicates_at inductives.now) number
@@ -77,7 +77,7 @@ fn type_inductives(
     requires world { WorldHeld store.old world.now }
     requires scoped { IsScoped (where_at store.old world.now) }
     requires resolved { AreResolved (where_at store.old world.now)
-        (formulas (predicates_at inductives.now))
+        (formula_members (predicates_at inductives.now))
         (clause_signatures (predicates_at inductives.now)) }
     ensures ok { IfOk result (AreInductivesMade (where_at store.old world.now)
         place.now.theory.now place.now.within.now (predicates_at inductives.now) number
@@ -85,7 +85,7 @@ fn type_inductives(
     ensures err { IfErr result (IsTypingFault
         (most_variables (clause_signatures (predicates_at inductives.now)))
         (pieces_notes (bodies_pieces (where_at store.old world.now)
-        (formulas (predicates_at inductives.now))
+        (formula_members (predicates_at inductives.now))
         (clause_signatures (predicates_at inductives.now))))) }
     ensures grows { Grows store.old store.new }
 {
@@ -103,7 +103,7 @@ fn type_inductives(
     })
 }
 
-// The entries of a group, behind those of its tuples, whether their names are there or not.
+// The entries of a group, after those of its tuples, whether their names are there or not.
 fn enter_group(
     alloc: Global,
     store: &mut Store,

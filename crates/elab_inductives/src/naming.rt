@@ -3,7 +3,7 @@ ghost use Rattle.std.specs.Prelude.{◌≡◌, ◌++◌, ◌∷◌, [], true, Li
 ghost use Rattle.trees.specs.Tree.{Tree};
 ghost use Rattle.names_space.specs.Names.{with_name};
 ghost use Rattle.elab_names.specs.Naming.{where_at, Tells};
-ghost use Rattle.elab_parts.specs.Declarations.{called, clauses_fault, inductives_fault, made_by_inductives, made_fault};
+ghost use Rattle.elab_parts.specs.Declarations.{token_name, clauses_fault, inductives_fault, made_by_inductives, made_fault};
 ghost use Rattle.elab_parts.specs.Outcomes.{declared_in};
 ghost use Rattle.elab_inductives.specs.Inductives.{with_clauses, with_inductives, clause_names, clause_made, clauses_made, inductive_made, inductives_made};
 ghost use Rattle.elab_inductives.specs.Sources.{predicate_at, predicates_at, clauses_at};
@@ -62,7 +62,7 @@ fn declare_clause(
     ensures ok { OnOk result (scope.new ≡ with_name Table.Propositions own.now (TypeName.Entry decl)
         true scope.old) }
     ensures told { Tells result (clause_made (declared_in scope.old Table.Propositions) named.now
-        (called token own.now)) }
+        (token_name token own.now)) }
 {
     if variable_named(named, own).is_some() {
         return Err(NamingFault::Duplicate { token });

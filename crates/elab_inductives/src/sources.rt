@@ -4,7 +4,7 @@ ghost use Rattle.syntax_why.specs.SurfaceDeclarations.{declared_name};
 ghost use Rattle.elab_variables.specs.Entered.{seen_at};
 ghost use Rattle.elab_parts.specs.Declarations.{symbol};
 ghost use Rattle.elab_members.specs.Sources.{members_at};
-ghost use Rattle.elab_inductives.specs.Inductives.{clauses_seen, inductives_seen, as_members, formula, formulas};
+ghost use Rattle.elab_inductives.specs.Inductives.{clauses_seen, inductives_seen, as_members, formula, formula_members};
 ghost use Rattle.elab_inductives.specs.Sources.{predicates_at, clauses_at};
 
 use elab_members::{MemberSource, enter_params};
@@ -12,7 +12,7 @@ use elab_variables::{Seen, enter_variables};
 use std::alloc::{AllocError, Global};
 use syntax_why::{ClauseTree, IndTree, OpName};
 
-/// Predicates without their clauses, behind the members that are there.
+/// Predicates without their clauses, after the members that are there.
 pub fn push_predicates<'a>(
     list: &mut Vec<MemberSource<'a>>,
     inductives: &'a [IndTree],
@@ -32,7 +32,7 @@ pub fn push_predicates<'a>(
     push_predicates(list, rest)
 }
 
-// The clauses of a predicate of a name, behind the members that are there.
+// The clauses of a predicate of a name, after the members that are there.
 fn push_clauses<'a>(
     list: &mut Vec<MemberSource<'a>>,
     name: &'a OpName,
@@ -53,12 +53,12 @@ fn push_clauses<'a>(
     push_clauses(list, name, rest)
 }
 
-/// The clauses of predicates, behind the members that are there.
+/// The clauses of predicates, after the members that are there.
 pub fn push_formulas<'a>(
     list: &mut Vec<MemberSource<'a>>,
     inductives: &'a [IndTree],
 ) -> Result<(), AllocError>
-    ensures { OnOk result (members_at list.new.items ≡ members_at list.old.items ++ formulas
+    ensures { OnOk result (members_at list.new.items ≡ members_at list.old.items ++ formula_members
         (predicates_at inductives.now)) }
 {
     let Some((first, rest)) = inductives.split_first() else {
@@ -68,7 +68,7 @@ pub fn push_formulas<'a>(
     push_formulas(list, rest)
 }
 
-// The type variables and tuples of clauses, behind those that are there.
+// The type variables and tuples of clauses, after those that are there.
 fn enter_clauses(alloc: Global, seen: &mut Seen, clauses: &[ClauseTree]) -> Result<(), AllocError>
     ensures { OnOk result (seen_at seen.new ≡ clauses_seen (seen_at seen.old)
         (clauses_at clauses.now)) }
@@ -80,7 +80,7 @@ fn enter_clauses(alloc: Global, seen: &mut Seen, clauses: &[ClauseTree]) -> Resu
     enter_clauses(alloc, seen, rest)
 }
 
-/// Those of predicates, behind those that are there.
+/// Those of predicates, after those that are there.
 pub fn enter_inductives(
     alloc: Global,
     seen: &mut Seen,

@@ -3,25 +3,25 @@ use Rattle.std.proofs.Common.{◌≡◌, ℕ, ◌+◌, ◌≤◌, true, List, []
 use Rattle.trees.specs.Tree.{Tree}
 use Rattle.names_space.specs.declared.Table.TheVariants.{Symbols}
 use Rattle.names_space.specs.declared.TypeName.TheVariants as stands
-use Rattle.names_space.specs.Names.{Names, with_name}
+use Rattle.names_space.specs.Names.{ScopeNames, with_name}
 use Rattle.syntax_why.specs.Lexeme.{Word}
 use Rattle.elab_names.specs.Naming.{type_named}
 use Rattle.elab_names.specs.Where.{Where}
-use Rattle.elab_parts.specs.Declarations.{Member}
+use Rattle.elab_parts.specs.Declarations.{GroupMember}
 use Rattle.elab_parts.specs.Entries.{AreScopes}
 use Rattle.elab_parts.proofs.Scopes.{types_past, scopes_more}
 use Rattle.elab_members.specs.Members.{signature_of, signed_entries, with_members}
 
-pub members_types : (k : ℕ) (ms : List Member) (names : Names) (qs : List Word) (x : Word) → type_named (with_members k ms names) qs x ≡ type_named names qs x
+pub members_types : (k : ℕ) (ms : List GroupMember) (names : ScopeNames) (qs : List Word) (x : Word) → type_named (with_members k ms names) qs x ≡ type_named names qs x
 members_types k [] names qs x = refl
 members_types k (m ∷ ms) names qs x =
     members_types (suc k) ms (with_name Symbols m.called.name (stands.Entry k) true names) qs x ∙ types_past Symbols refl m.called.name (stands.Entry k) true names refl qs x
 
-pub members_scopes : (s : List Tree) (n k : ℕ) (ms : List Member) (names : Names) → k + length ms ≤ n → AreScopes s n names → AreScopes s n (with_members k ms names)
+pub members_scopes : (s : List Tree) (n k : ℕ) (ms : List GroupMember) (names : ScopeNames) → k + length ms ≤ n → AreScopes s n names → AreScopes s n (with_members k ms names)
 members_scopes s n k [] names l h = h
 members_scopes s n k (m ∷ ms) names l h = members_scopes s n (suc k) ms (with_name Symbols m.called.name (stands.Entry k) true names) (omega arith) (scopes_more s n names Symbols m.called.name (stands.Entry k) true (omega arith) h)
 
 -- an entry for each member
-pub entries_count : (theory within : Word) (ms : List Member) (w : Where) → length (signed_entries theory within ms (map (signature_of w) ms)) ≡ length ms
+pub entries_count : (theory within : Word) (ms : List GroupMember) (w : Where) → length (signed_entries theory within ms (map (signature_of w) ms)) ≡ length ms
 entries_count theory within [] w = refl
 entries_count theory within (m ∷ ms) w = ap suc (entries_count theory within ms w)

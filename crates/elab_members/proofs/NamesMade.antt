@@ -6,18 +6,18 @@ use Rattle.std.specs.Str.{bytes_eq}
 use Rattle.names_space.specs.declared.Table.{Table}
 use Rattle.names_space.specs.declared.Table.TheVariants.{Symbols}
 use Rattle.names_space.specs.declared.TypeName.{TypeName}
-use Rattle.names_space.specs.Names.{Names, Entry, is_declared, innermost, with_name}
+use Rattle.names_space.specs.Names.{ScopeNames, ScopeEntry, is_declared, innermost, with_name}
 use Rattle.syntax_why.specs.Lexeme.{Word}
 use Rattle.elab_names.specs.declared.NamingFault.{NamingFault}
 use Rattle.elab_names.specs.declared.NamingFault.TheVariants.{Duplicate}
 use Rattle.elab_names.specs.Faults.{first_of, fault_if}
 use Rattle.elab_names.specs.Where.{place_of}
 use Rattle.elab_names.proofs.Placed.{one_more}
-use Rattle.elab_parts.specs.Declarations.{Member, Made, makes, binds, names_of, list_fault, made_before, made_by_members, made_fault}
+use Rattle.elab_parts.specs.Declarations.{GroupMember, Made, makes, binds_names, names_of_parameters, list_fault, made_before, made_by_members, made_fault}
 use Rattle.elab_parts.specs.Outcomes.{declared_in}
 use Rattle.elab_members.specs.Members.{member_made, members_made}
 
--- ---- what is declared and what stands before count together
+-- ---- what is declared and what is before count together
 abbrev pub Same : (d d' : Word → Bool) (b b' : Word → Bool) → Type 0
 Same d d' b b' = (x : Word) → (d x || b x) ≡ (d' x || b' x)
 
@@ -64,29 +64,29 @@ first_assoc None b c = refl
 first_assoc (Some f) b c = refl
 
 told_by : (declared : Table → Word → Bool) (d : Word → Bool) (before : List Made) (ws : List Word) → Same (declared Symbols) d (λ x. made_before Symbols x before) (λ x. is_some (place_of x ws))
-    → (ms : List Member) → made_fault declared before (made_by_members ms) ≡ members_made d ws ms
+    → (ms : List GroupMember) → made_fault declared before (made_by_members ms) ≡ members_made d ws ms
 told_by declared d before ws h [] = refl
 told_by declared d before ws h (m ∷ ms) =
     let c = m.called in
     let one : fault_if (declared Symbols c.name || made_before Symbols c.name before) (Duplicate c.at) ≡ fault_if (d c.name || is_some (place_of c.name ws)) (Duplicate c.at) = ap (λ (b : Bool). fault_if b (Duplicate c.at)) (h c.name) in
-    let further : Same (declared Symbols) d (λ x. made_before Symbols x (binds (names_of m.params) ∷ makes Symbols c ∷ before)) (λ x. is_some (place_of x (ws ++ c.name ∷ []))) =
+    let further : Same (declared Symbols) d (λ x. made_before Symbols x (binds_names (names_of_parameters m.params) ∷ makes Symbols c ∷ before)) (λ x. is_some (place_of x (ws ++ c.name ∷ []))) =
     λ x. more_same (declared Symbols x) (made_before Symbols x before) (d x) (is_some (place_of x ws)) (bytes_eq c.name x) (h x) ∙ ap (λ (b : Bool). d x || b) (sym (among_last x c.name ws)) in
-    let rest = told_by declared d (binds (names_of m.params) ∷ makes Symbols c ∷ before) (ws ++ c.name ∷ []) further ms in
-    ap (λ (a : Option NamingFault). first_of a (first_of (list_fault [] (names_of m.params)) (made_fault declared (binds (names_of m.params) ∷ makes Symbols c ∷ before) (made_by_members ms)))) one
-    ∙ (ap (λ (r : Option NamingFault). first_of (fault_if (d c.name || is_some (place_of c.name ws)) (Duplicate c.at)) (first_of (list_fault [] (names_of m.params)) r)) rest
-    ∙ sym (first_assoc (fault_if (d c.name || is_some (place_of c.name ws)) (Duplicate c.at)) (list_fault [] (names_of m.params)) (members_made d (ws ++ c.name ∷ []) ms)))
+    let rest = told_by declared d (binds_names (names_of_parameters m.params) ∷ makes Symbols c ∷ before) (ws ++ c.name ∷ []) further ms in
+    ap (λ (a : Option NamingFault). first_of a (first_of (list_fault [] (names_of_parameters m.params)) (made_fault declared (binds_names (names_of_parameters m.params) ∷ makes Symbols c ∷ before) (made_by_members ms)))) one
+    ∙ (ap (λ (r : Option NamingFault). first_of (fault_if (d c.name || is_some (place_of c.name ws)) (Duplicate c.at)) (first_of (list_fault [] (names_of_parameters m.params)) r)) rest
+    ∙ sym (first_assoc (fault_if (d c.name || is_some (place_of c.name ws)) (Duplicate c.at)) (list_fault [] (names_of_parameters m.params)) (members_made d (ws ++ c.name ∷ []) ms)))
 
-pub made_told : (names : Names) (ms : List Member) → made_fault (declared_in names) [] (made_by_members ms) ≡ members_made (declared_in names Symbols) [] ms
+pub made_told : (names : ScopeNames) (ms : List GroupMember) → made_fault (declared_in names) [] (made_by_members ms) ≡ members_made (declared_in names Symbols) [] ms
 made_told names ms = told_by (declared_in names) (declared_in names Symbols) [] [] (λ x. refl) ms
 
 -- ---- a name that is declared meanwhile
-same_made : (d d' : Word → Bool) (ws : List Word) → Same d d' (λ x. is_some (place_of x ws)) (λ x. is_some (place_of x ws)) → (ms : List Member) → members_made d ws ms ≡ members_made d' ws ms
+same_made : (d d' : Word → Bool) (ws : List Word) → Same d d' (λ x. is_some (place_of x ws)) (λ x. is_some (place_of x ws)) → (ms : List GroupMember) → members_made d ws ms ≡ members_made d' ws ms
 same_made d d' ws h [] = refl
 same_made d d' ws h (m ∷ ms) =
     let c = m.called in
     let further : Same d d' (λ x. is_some (place_of x (ws ++ c.name ∷ []))) (λ x. is_some (place_of x (ws ++ c.name ∷ []))) =
     λ x. ap (λ (b : Bool). d x || b) (among_last x c.name ws) ∙ (more_same (d x) (is_some (place_of x ws)) (d' x) (is_some (place_of x ws)) (bytes_eq c.name x) (h x) ∙ ap (λ (b : Bool). d' x || b) (sym (among_last x c.name ws))) in
-    ap (λ (b : Bool). first_of (first_of (fault_if b (Duplicate c.at)) (list_fault [] (names_of m.params))) (members_made d (ws ++ c.name ∷ []) ms)) (h c.name)
+    ap (λ (b : Bool). first_of (first_of (fault_if b (Duplicate c.at)) (list_fault [] (names_of_parameters m.params))) (members_made d (ws ++ c.name ∷ []) ms)) (h c.name)
     ∙ ap (first_of (member_made d' ws c m.params)) (same_made d d' (ws ++ c.name ∷ []) further ms)
 
 -- the scope has the entries that it had, or one more
@@ -95,10 +95,10 @@ counts_once true d w f = sym (or_true d w (f refl))
 counts_once false d w f = refl
 
 module _ (x y : Word) (thing : TypeName) (w : Bool) (f : bytes_eq y x ≡ true → w ≡ true) where
-  abbrev e : Entry
+  abbrev e : ScopeEntry
   e = record { table = Symbols; name = y; thing = thing; declared = true }
 
-  one_entry : (ess : List (List Entry)) (k : ℕ) → (is_declared Symbols x (get_or (set ess k (e ∷ get_or ess k [])) k []) || w) ≡ (is_declared Symbols x (get_or ess k []) || w)
+  one_entry : (ess : List (List ScopeEntry)) (k : ℕ) → (is_declared Symbols x (get_or (set ess k (e ∷ get_or ess k [])) k []) || w) ≡ (is_declared Symbols x (get_or ess k []) || w)
   one_entry [] k = refl
   one_entry (es ∷ ess) zero = counts_once (bytes_eq y x) (is_declared Symbols x es) w f
   one_entry (es ∷ ess) (suc k) = one_entry ess k
@@ -106,8 +106,8 @@ module _ (x y : Word) (thing : TypeName) (w : Bool) (f : bytes_eq y x ≡ true �
 among_same : (x y : Word) (ws : List Word) → bytes_eq y x ≡ true → is_some (place_of x (ws ++ y ∷ [])) ≡ true
 among_same x y ws h = among_last x y ws ∙ ap (λ (b : Bool). b || is_some (place_of x ws)) h
 
--- a member's name is declared, and stands among those before the others
-pub made_next : (names : Names) (y : Word) (thing : TypeName) (ws : List Word) (ms : List Member)
+-- a member's name is declared, and is among those before the others
+pub made_next : (names : ScopeNames) (y : Word) (thing : TypeName) (ws : List Word) (ms : List GroupMember)
     → members_made (declared_in (with_name Symbols y thing true names) Symbols) (ws ++ y ∷ []) ms ≡ members_made (declared_in names Symbols) (ws ++ y ∷ []) ms
 made_next names y thing ws ms =
     same_made (declared_in (with_name Symbols y thing true names) Symbols) (declared_in names Symbols) (ws ++ y ∷ [])

@@ -13,7 +13,7 @@ use Rattle.elab_names.specs.Where.{Where}
 use Rattle.elab_walk.specs.Pieces.{type_at}
 use Rattle.elab_walk.specs.Drafts.{HoldsType, SymbolTyped}
 use Rattle.elab_walk.proofs.Growing.{map_same, types_stay, types_grow, wanted_stays, wanted_grows}
-use Rattle.elab_parts.specs.Declarations.{Member, own_variables, with_vars}
+use Rattle.elab_parts.specs.Declarations.{GroupMember, own_variables, with_vars}
 use Rattle.elab_members.specs.declared.signing.Signed.{Signed}
 use Rattle.elab_members.specs.Members.{SignatureTree, signature_of, parameter_types}
 use Rattle.elab_members.specs.Sources.{signed_at, SignedHeld}
@@ -31,7 +31,7 @@ module _ (s s' : List Tree) (g : Grows s s') where
   pub all_signed_grow : (its : List Signed) → All (SignedHeld s) its → All (SignedHeld s') its
   all_signed_grow its h = λ k e l. signed_grows (get_or its k e) (h k e l)
 
--- one more behind others
+-- one more after others
 pub signed_more : (s s' : List Tree) → Grows s s' → (its : List Signed) (it : Signed) → All (SignedHeld s) its → SignedHeld s' it → All (SignedHeld s') (its ++ it ∷ [])
 signed_more s s' g its it h k = All-append (SignedHeld s') its (it ∷ []) (all_signed_grow s s' g its h) (All-cons (SignedHeld s') it [] k (All-nil (SignedHeld s')))
 
@@ -42,11 +42,11 @@ signed_step s s1 g its it rest new one h e q =
     q ∙ (rw (a, e) (append_assoc (map (signed_at s) its) (one ∷ []) rest))
 
 -- a signature of these parts is the member's
-pub signed_same : (w : Where) (m : Member) (s : List Tree) (vars : List Word) (args : List TermId) (r : Option TermId) → vars ≡ own_variables m → trees_at s args ≡ parameter_types (with_vars w (own_variables m)) m.params
+pub signed_same : (w : Where) (m : GroupMember) (s : List Tree) (vars : List Word) (args : List TermId) (r : Option TermId) → vars ≡ own_variables m → trees_at s args ≡ parameter_types (with_vars w (own_variables m)) m.params
     → option_map (tree_at s) r ≡ option_map (type_at (with_vars w (own_variables m))) m.result → ◌≡◌ {A = SignatureTree} (record { vars = vars; args = trees_at s args; result = option_map (tree_at s) r }) (signature_of w m)
 signed_same w m s vars args r p q h = cc
 
--- the entry of a signature behind others
+-- the entry of a signature after others
 pub typed_more : (s : List Tree) (is new : List SymbolInfo) (i : SymbolInfo) (it : Signed) → i.args ≡ it.args → i.result ≡ it.result → new ≡ is ++ i ∷ [] → SignedHeld s it → All (SymbolTyped s) is → All (SymbolTyped s) new
 typed_more s is new i it a r q held all =
     let one : SymbolTyped s i = record { args = subst (All (HoldsType s)) (sym a) held.args; result = subst (λ (x : Option TermId). IfSome x (HoldsType s)) (sym r) held.result } in

@@ -12,28 +12,28 @@ use Rattle.syntax_why.specs.SurfaceDeclarations.{declared_name, param_of}
 use Rattle.syntax_why.specs.declared.declarations.ParamTree.{ParamTree}
 use Rattle.syntax_why.specs.declared.types.TypeTree.{TypeTree}
 use Rattle.syntax_why.specs.Lexeme.{Word}
-use Rattle.elab_names.specs.Abstract.{Form, form_of, expression_of}
+use Rattle.elab_names.specs.Abstract.{TypeExpression, type_expression_of, expression_of}
 use Rattle.elab_names.specs.Where.{Where}
 use Rattle.elab_walk.specs.Scoped.{IsScoped, IsScopedEntry}
 use Rattle.elab_walk.specs.Drafts.{HoldsType, SymbolTyped}
-use Rattle.elab_parts.specs.Declarations.{Member, Parameter, parameter, symbol}
+use Rattle.elab_parts.specs.Declarations.{GroupMember, Parameter, parameter_of, symbol}
 use Rattle.elab_parts.specs.Outcomes.{Setting, over}
 use Rattle.elab_members.specs.declared.sources.MemberSource.{MemberSource}
 use Rattle.elab_members.specs.declared.signing.Signed.{Signed}
 use Rattle.elab_members.specs.declared.signing.Signatures.{Signatures}
-use Rattle.elab_members.specs.Members.{SignatureTree, words_of, body_fault, signature_trees, member_entries}
+use Rattle.elab_members.specs.Members.{SignatureTree, words_of_parameters, body_fault, signature_trees, member_entries}
 
 abbrev pub parameters_of : List ParamTree → List Parameter
-parameters_of ps = map parameter (map param_of ps)
+parameters_of ps = map parameter_of (map param_of ps)
 
 -- the type of a result, where there is one
-abbrev pub result_form : Option TypeTree → Option Form
-result_form t = option_map form_of t
+abbrev pub result_form : Option TypeTree → Option TypeExpression
+result_form t = option_map type_expression_of t
 
-abbrev pub member_at : MemberSource → Member
+abbrev pub member_at : MemberSource → GroupMember
 member_at m = record { called = symbol (declared_name m.name.now); params = parameters_of m.params.now; result = result_form (option_copied m.result); body = option_map expression_of (option_copied m.body) }
 
-abbrev pub members_at : List MemberSource → List Member
+abbrev pub members_at : List MemberSource → List GroupMember
 members_at ms = map member_at ms
 
 -- ---- signatures
@@ -44,8 +44,8 @@ pub record SignedHeld (s : List Tree) (it : Signed) : Type 0 where
   pub args : All (HoldsType s) it.args
   pub result : IfSome it.result (HoldsType s)
 
--- the entries of members are made behind others, whether their names are there or not
-pub record IsEntered (c : Setting) (before : List SymbolTree) (ms : List Member) (g : Signature) (s' : List Tree) (g' : Signature) (it : Signatures) : Type 0 where
+-- the entries of members are made after others, whether their names are there or not
+pub record IsEntered (c : Setting) (before : List SymbolTree) (ms : List GroupMember) (g : Signature) (s' : List Tree) (g' : Signature) (it : Signatures) : Type 0 where
   pub number : it.number ≡ length before
   pub held : All (SignedHeld s') it.list.items
   pub signed : map (signed_at s') it.list.items ≡ signature_trees c before ms
@@ -62,11 +62,11 @@ pub record IsScopedSignature (g : SignatureTree) : Type 0 where
   pub result : IfSome g.result (TyVarsBelow (length g.vars))
 
 -- the body of a member has no fault of names; it has a type for each parameter, and a result where one is due
-pub record IsResolved (w : Where) (m : Member) (g : SignatureTree) : Type 0 where
+pub record IsResolved (w : Where) (m : GroupMember) (g : SignatureTree) : Type 0 where
   pub right : body_fault w m g.vars m.body ≡ None
-  pub count : length g.args ≡ length (words_of m.params)
+  pub count : length g.args ≡ length (words_of_parameters m.params)
   pub kind : is_none m.result ≡ is_none g.result
 
-abbrev pub AreResolved : Where → List Member → List SignatureTree → Type 0
+abbrev pub AreResolved : Where → List GroupMember → List SignatureTree → Type 0
 AreResolved w (m ∷ ms) (g ∷ gs) = IsResolved w m g × AreResolved w ms gs
 AreResolved w _ _ = Unit {0}

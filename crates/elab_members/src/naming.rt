@@ -5,9 +5,9 @@ ghost use Rattle.names_space.specs.Names.{with_name};
 ghost use Rattle.names_space.specs.declared.TypeName.TheVariants as stands;
 ghost use Rattle.elab_names.specs.Naming.{where_at, Tells};
 ghost use Rattle.elab_walk.specs.Drafts.{WorldHeld};
-ghost use Rattle.elab_parts.specs.Declarations.{called, word, words, own_variables, with_vars};
+ghost use Rattle.elab_parts.specs.Declarations.{token_name, word, words, own_variables, with_vars};
 ghost use Rattle.elab_parts.specs.Outcomes.{declared_in};
-ghost use Rattle.elab_members.specs.Members.{words_of, with_members, member_made, members_made, body_fault, member_fault, members_fault};
+ghost use Rattle.elab_members.specs.Members.{words_of_parameters, with_members, member_made, members_made, body_fault, member_fault, members_fault};
 ghost use Rattle.elab_members.specs.Sources.{parameters_of, member_at, members_at};
 
 use crate::params::{check_params, gather_params, signature_seen};
@@ -19,7 +19,7 @@ use outside::Text;
 use std::alloc::{AllocError, Global};
 use syntax_why::{Name, ParamTree};
 
-// Names, behind those that are there.
+// Names, after those that are there.
 fn push_names(alloc: Global, list: &mut Vec<Text>, names: &[Name]) -> Result<(), AllocError>
     ensures { OnOk result (list.new.items ≡ list.old.items ++ words (map word names.now)) }
 {
@@ -30,13 +30,14 @@ fn push_names(alloc: Global, list: &mut Vec<Text>, names: &[Name]) -> Result<(),
     push_names(alloc, list, rest)
 }
 
-/// The names of parameters in order, an empty one for a parameter without, behind those that are there.
+/// The names of parameters in order, an empty one for a parameter without, after those that are there.
 pub fn push_param_names(
     alloc: Global,
     list: &mut Vec<Text>,
     params: &[ParamTree],
 ) -> Result<(), AllocError>
-    ensures { OnOk result (list.new.items ≡ list.old.items ++ words_of (parameters_of params.now)) }
+    ensures { OnOk result (list.new.items ≡ list.old.items
+        ++ words_of_parameters (parameters_of params.now)) }
 {
     let Some((first, rest)) = params.split_first() else {
         return Ok(());
@@ -122,7 +123,7 @@ pub fn declare_member(
     ensures ok { OnOk result (scope.new ≡ with_name Table.Symbols own.now (TypeName.Entry number)
         true scope.old) }
     ensures told { Tells result (member_made (declared_in scope.old Table.Symbols) before.now
-        (called m.now.name.now.at own.now) (parameters_of m.now.params.now)) }
+        (token_name m.now.name.now.at own.now) (parameters_of m.now.params.now)) }
 {
     if variable_named(before, own).is_some() {
         return Err(NamingFault::Duplicate { token: m.name.at });

@@ -7,9 +7,9 @@ ghost use Rattle.tasks.specs.Meaning.{trees_at};
 ghost use Rattle.elab_names.specs.Naming.{where_at, Tells};
 ghost use Rattle.elab_variables.specs.Entered.{seen_at};
 ghost use Rattle.elab_walk.specs.Drafts.{HoldsType, WorldHeld};
-ghost use Rattle.elab_parts.specs.Declarations.{word, names_of, params_seen, params_fault};
-ghost use Rattle.elab_parts.specs.Written.{written};
-ghost use Rattle.elab_members.specs.Members.{signature_seen, copies, parameter_types, kind_of};
+ghost use Rattle.elab_parts.specs.Declarations.{word, names_of_parameters, params_seen, params_fault};
+ghost use Rattle.elab_parts.specs.Written.{written_token_name};
+ghost use Rattle.elab_members.specs.Members.{signature_seen, type_copies, parameter_types, symbol_kind_of};
 ghost use Rattle.elab_members.specs.Sources.{parameters_of, result_form};
 
 use elab_names::{NamingFault, World, check_form};
@@ -40,7 +40,7 @@ pub fn check_params(
     check_params(alloc, rest, world)
 }
 
-/// The type variables and tuples of parameters, behind those that are there.
+/// The type variables and tuples of parameters, after those that are there.
 pub fn enter_params(alloc: Global, seen: &mut Seen, params: &[ParamTree]) -> Result<(), AllocError>
     ensures { OnOk result (seen_at seen.new ≡ params_seen (seen_at seen.old)
         (parameters_of params.now)) }
@@ -72,10 +72,10 @@ pub fn signature_seen(
     Ok(seen)
 }
 
-// A type for each name of a parameter, or once for none, behind those that are there.
+// A type for each name of a parameter, or once for none, after those that are there.
 fn push_copies(types: &mut Vec<TermId>, ty: TermId, names: &[Name]) -> Result<(), AllocError>
     ensures trees { OnOk result ((s : List Tree) → trees_at s types.new.items ≡ trees_at s
-        types.old.items ++ copies (tree_at s ty) (map word names.now)) }
+        types.old.items ++ type_copies (tree_at s ty) (map word names.now)) }
     ensures held { OnOk result ((s : List Tree) → HoldsType s ty → All (HoldsType s) types.old.items
         → All (HoldsType s) types.new.items) }
 {
@@ -92,7 +92,7 @@ fn push_copies(types: &mut Vec<TermId>, ty: TermId, names: &[Name]) -> Result<()
     }
 }
 
-/// The types of parameters, behind those that are there.
+/// The types of parameters, after those that are there.
 pub fn push_params(
     alloc: Global,
     store: &mut Store,
@@ -118,7 +118,7 @@ pub fn push_params(
 
 /// What a symbol is: a function where it has a result.
 pub fn kind_of(of_type: Option<&TypeTree>) -> SymbolKind
-    ensures { result ≡ kind_of (result_form (option_copied of_type.entry)) }
+    ensures { result ≡ symbol_kind_of (result_form (option_copied of_type.entry)) }
 {
     match of_type {
         Some(_) => SymbolKind::Function,
@@ -126,12 +126,13 @@ pub fn kind_of(of_type: Option<&TypeTree>) -> SymbolKind
     }
 }
 
-/// The names of parameters, behind those that are there.
+/// The names of parameters, after those that are there.
 pub fn gather_params<'a>(
     list: &mut Vec<Written<'a>>,
     params: &'a [ParamTree],
 ) -> Result<(), AllocError>
-    ensures { OnOk result (map written list.new.items ≡ map written list.old.items ++ names_of
+    ensures { OnOk result (map written_token_name list.new.items
+        ≡ map written_token_name list.old.items ++ names_of_parameters
         (parameters_of params.now)) }
 {
     let Some((first, rest)) = params.split_first() else {

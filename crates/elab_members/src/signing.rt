@@ -66,7 +66,7 @@ fn sign(
     })
 }
 
-// The signatures of members, behind those that are there.
+// The signatures of members, after those that are there.
 fn sign_all(
     alloc: Global,
     store: &mut Store,

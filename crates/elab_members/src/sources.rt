@@ -2,7 +2,7 @@
 ghost use Rattle.std.specs.Prelude.{◌≡◌, ◌++◌, ◌∷◌, [], map, OnOk};
 ghost use Rattle.syntax_why.specs.SurfaceDeclarations.{member_of};
 ghost use Rattle.elab_variables.specs.Entered.{seen_at};
-ghost use Rattle.elab_parts.specs.Declarations.{member};
+ghost use Rattle.elab_parts.specs.Declarations.{group_member};
 ghost use Rattle.elab_members.specs.Members.{members_seen};
 ghost use Rattle.elab_members.specs.Sources.{member_at, members_at};
 
@@ -20,12 +20,12 @@ pub struct MemberSource<'a> {
     pub body: Option<&'a Expr>,
 }
 
-/// The members behind `with`, behind those that are there.
+/// The members after `with`, after those that are there.
 pub fn gather_members<'a>(
     list: &mut Vec<MemberSource<'a>>,
     members: &'a [MemberTree],
 ) -> Result<(), AllocError>
-    ensures { OnOk result (members_at list.new.items ≡ members_at list.old.items ++ map member
+    ensures { OnOk result (members_at list.new.items ≡ members_at list.old.items ++ map group_member
         (map member_of members.now)) }
 {
     let Some((first, rest)) = members.split_first() else {
@@ -40,7 +40,7 @@ pub fn gather_members<'a>(
     gather_members(list, rest)
 }
 
-// The type variables and tuples of a member, behind those that are there.
+// The type variables and tuples of a member, after those that are there.
 fn enter_member(alloc: Global, seen: &mut Seen, m: &MemberSource<'_>) -> Result<(), AllocError>
     ensures { OnOk result (seen_at seen.new ≡ members_seen (seen_at seen.old)
         (member_at m.now ∷ [])) }
@@ -55,7 +55,7 @@ fn enter_member(alloc: Global, seen: &mut Seen, m: &MemberSource<'_>) -> Result<
     }
 }
 
-/// Those of members, behind those that are there.
+/// Those of members, after those that are there.
 pub fn enter_members(
     alloc: Global,
     seen: &mut Seen,

@@ -7,15 +7,15 @@ use Rattle.syntax_why.specs.declared.expressions.ExprNode.TheVariants as ev
 use Rattle.syntax_why.specs.Lexeme.{Word}
 use Rattle.syntax_why.specs.Surface as code
 use Rattle.syntax_why.specs.Surface.{op_of}
-use Rattle.elab_names.specs.Abstract.{Operation, binding, operated, operation, let_by, let_name, expression_of, cases, more_branches, no_branches, more_alternatives, no_alternatives, first_form, side_by_side}
+use Rattle.elab_names.specs.Abstract.{OperatorMeaning, let_expression, operated, operator_meaning, let_by, let_name, expression_of, match_expression, more_branches, no_branches, more_alternatives, no_alternatives, first_form, side_by_side}
 use Rattle.elab_names.proofs.Nodes.{expression_at-Binary, expression_at-Let}
 
-pub operated_as : (e a : Expr) (o : OpName) (b : Expr) → e.node ≡ ev.Binary a o b → (r : Operation) → operation (op_of o).terminal (op_of o).text ≡ r → expression_of e ≡ operated e.at.main (expression_of a) r (expression_of b)
-operated_as e a o b is r q = expression_at-Binary e a o b is ∙ ap (λ (x : Operation). operated e.at.main (expression_of a) x (expression_of b)) q
+pub operated_as : (e a : Expr) (o : OpName) (b : Expr) → e.node ≡ ev.Binary a o b → (r : OperatorMeaning) → operator_meaning (op_of o).terminal (op_of o).text ≡ r → expression_of e ≡ operated e.at.main (expression_of a) r (expression_of b)
+operated_as e a o b is r q = expression_at-Binary e a o b is ∙ ap (λ (x : OperatorMeaning). operated e.at.main (expression_of a) x (expression_of b)) q
 
-pub bound_as : (e : Expr) (ps : List Pat) (a b : Expr) → e.node ≡ ev.Let ps a b → (x : Word) → let_name (code.patterns ps) ≡ Some x → expression_of e ≡ binding e.at.main x (expression_of a) (expression_of b)
+pub bound_as : (e : Expr) (ps : List Pat) (a b : Expr) → e.node ≡ ev.Let ps a b → (x : Word) → let_name (code.patterns ps) ≡ Some x → expression_of e ≡ let_expression e.at.main x (expression_of a) (expression_of b)
 bound_as e ps a b is x q = expression_at-Let e ps a b is ∙ ap (λ (o : Option Word). let_by o e.at.main (code.patterns ps) (expression_of a) (expression_of b)) q
 
 pub matched_as : (e : Expr) (ps : List Pat) (a b : Expr) → e.node ≡ ev.Let ps a b → let_name (code.patterns ps) ≡ None
-    → expression_of e ≡ cases e.at.main (expression_of a) (more_branches (more_alternatives (first_form (code.patterns ps)) (side_by_side (code.patterns ps)) no_alternatives) (expression_of b) no_branches)
+    → expression_of e ≡ match_expression e.at.main (expression_of a) (more_branches (more_alternatives (first_form (code.patterns ps)) (side_by_side (code.patterns ps)) no_alternatives) (expression_of b) no_branches)
 matched_as e ps a b is q = expression_at-Let e ps a b is ∙ ap (λ (o : Option Word). let_by o e.at.main (code.patterns ps) (expression_of a) (expression_of b)) q

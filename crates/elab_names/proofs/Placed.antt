@@ -1,4 +1,4 @@
--- Whether a word stands in lists of words.
+-- Whether a word is in lists of words.
 use Rattle.std.proofs.Common.{◌≡◌, ℕ, suc, Bool, true, false, cond, ◌||◌, List, [], ◌∷◌, ◌++◌, reverse, Option, Some, None, option_map, refl, sym, ap, ◌∙◌}
 use mathlib.Core.List.{reverse-cons}
 use Rattle.std.specs.Option.{is_some}

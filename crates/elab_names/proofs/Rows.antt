@@ -8,7 +8,7 @@ use Rattle.tasks.specs.declared.signature.SymbolKind.{SymbolKind}
 use Rattle.tasks.specs.declared.signature.SymbolKind.TheVariants.{Kind, Function, Predicate, Constructor}
 use Rattle.tasks.specs.Task.{SymbolTree, int_symbol}
 use Rattle.syntax_why.specs.Lexeme.{Word}
-use Rattle.elab_names.specs.Abstract.{variable, composed, no_forms, Pattern, wild, bound, constructed, aliased, no_patterns, more_patterns, Alternatives, no_alternatives, more_alternatives, Expression, apply, truth, negation, joined, equated, binding, cases, quantified, none, more, no_branches, more_branches}
+use Rattle.elab_names.specs.Abstract.{variable_type, composed_type, no_types, Pattern, wildcard_pattern, variable_pattern, constructor_pattern, alias_pattern, no_patterns, more_patterns, Alternatives, no_alternatives, more_alternatives, Expression, applied_expression, true_expression, not_expression, connected_expression, equality_expression, let_expression, match_expression, quantified_expression, no_expressions, more_expressions, no_branches, more_branches}
 use Rattle.elab_names.specs.declared.NamingFault.{NamingFault}
 use Rattle.elab_names.specs.declared.NamingFault.TheVariants.{Unknown, Duplicate, WrongKind, Arity}
 use Rattle.elab_names.specs.Where.{Where, Stands, Abbreviates}
@@ -37,19 +37,19 @@ abbrev formula_fault : Expression → Option NamingFault
 formula_fault e = fault here true [] true e
 
 abbrev name : ℕ → Word → Expression
-name i x = apply i [] x none
+name i x = applied_expression i [] x no_expressions
 
 abbrev call : ℕ → Word → Expression → Expression
-call i x e = apply i [] x (more e none)
+call i x e = applied_expression i [] x (more_expressions e no_expressions)
 
 abbrev matching : Alternatives → Expression → Expression
-matching ps b = cases 0 (name 1 (codes "c")) (more_branches ps b no_branches)
+matching ps b = match_expression 0 (name 1 (codes "c")) (more_branches ps b no_branches)
 
 abbrev one : Pattern → Alternatives
 one p = more_alternatives 3 p no_alternatives
 
 abbrev cons : ℕ → Pattern → Pattern → Pattern
-cons i a b = constructed i [] (codes "Cons") (more_patterns a (more_patterns b no_patterns))
+cons i a b = constructor_pattern i [] (codes "Cons") (more_patterns a (more_patterns b no_patterns))
 
 -- a name that isn't there; a term for a formula; an argument too few; a term for a formula before its arguments' number
 unknown_name : formula_fault (name 5 (codes "r")) ≡ Some (Unknown 5)
@@ -65,22 +65,22 @@ kind_before_arity : formula_fault (call 0 (codes "c") (name 1 (codes "r"))) ≡ 
 kind_before_arity = refl
 
 -- `p (r /\ true)` and `p (not r)`: by the order of the tokens
-left_first : formula_fault (call 0 (codes "p") (joined 3 (name 2 (codes "r")) And (truth 4))) ≡ Some (Unknown 2)
+left_first : formula_fault (call 0 (codes "p") (connected_expression 3 (name 2 (codes "r")) And (true_expression 4))) ≡ Some (Unknown 2)
 left_first = refl
 
-operator_first : formula_fault (call 0 (codes "p") (negation 2 (name 3 (codes "r")))) ≡ Some (WrongKind 2)
+operator_first : formula_fault (call 0 (codes "p") (not_expression 2 (name 3 (codes "r")))) ≡ Some (WrongKind 2)
 operator_first = refl
 
 -- `let q = c in q`: the variable hides the predicate
-hidden : formula_fault (binding 0 (codes "q") (name 3 (codes "c")) (name 5 (codes "q"))) ≡ Some (WrongKind 5)
+hidden : formula_fault (let_expression 0 (codes "q") (name 3 (codes "c")) (name 5 (codes "q"))) ≡ Some (WrongKind 5)
 hidden = refl
 
 -- `forall x: rows. q`, and a type variable where the list is open, and where it is closed
-alias_arity : formula_fault (quantified 0 true (record { names = codes "x" ∷ []; of_type = Some (composed 3 [] (codes "rows") no_forms) } ∷ []) none (name 5 (codes "q"))) ≡ Some (Arity 3)
+alias_arity : formula_fault (quantified_expression 0 true (record { names = codes "x" ∷ []; of_type = Some (composed_type 3 [] (codes "rows") no_types) } ∷ []) no_expressions (name 5 (codes "q"))) ≡ Some (Arity 3)
 alias_arity = refl
 
 abbrev with_variable : Bool → Word → Option NamingFault
-with_variable open_ v = fault here open_ [] true (quantified 0 true (record { names = codes "x" ∷ []; of_type = Some (variable 3 v) } ∷ []) none (name 5 (codes "q")))
+with_variable open_ v = fault here open_ [] true (quantified_expression 0 true (record { names = codes "x" ∷ []; of_type = Some (variable_type 3 v) } ∷ []) no_expressions (name 5 (codes "q")))
 
 new_variable : with_variable true (codes "'b") ≡ None
 new_variable = refl
@@ -92,30 +92,30 @@ own_variable : with_variable false (codes "'a") ≡ None
 own_variable = refl
 
 -- `forall x [x <> c]. q`: such a trigger is a term
-not_equal : formula_fault (quantified 0 true (record { names = codes "x" ∷ []; of_type = None } ∷ []) (more (equated 4 false (name 3 (codes "x")) (name 5 (codes "c"))) none) (name 8 (codes "q"))) ≡ Some (WrongKind 4)
+not_equal : formula_fault (quantified_expression 0 true (record { names = codes "x" ∷ []; of_type = None } ∷ []) (more_expressions (equality_expression 4 false (name 3 (codes "x")) (name 5 (codes "c"))) no_expressions) (name 8 (codes "q"))) ≡ Some (WrongKind 4)
 not_equal = refl
 
 -- `match c with Cons x y -> p y end`; a constructor that is none, with too many parts, and a variable twice
-good_match : formula_fault (matching (one (cons 3 (bound 4 (codes "x")) (bound 5 (codes "y")))) (call 7 (codes "p") (name 8 (codes "y")))) ≡ None
+good_match : formula_fault (matching (one (cons 3 (variable_pattern 4 (codes "x")) (variable_pattern 5 (codes "y")))) (call 7 (codes "p") (name 8 (codes "y")))) ≡ None
 good_match = refl
 
-no_constructor : formula_fault (matching (one (constructed 3 [] (codes "c") no_patterns)) (name 5 (codes "q"))) ≡ Some (WrongKind 3)
+no_constructor : formula_fault (matching (one (constructor_pattern 3 [] (codes "c") no_patterns)) (name 5 (codes "q"))) ≡ Some (WrongKind 3)
 no_constructor = refl
 
-too_many_parts : formula_fault (matching (one (constructed 3 [] (codes "Nil") (more_patterns (wild 4) no_patterns))) (name 6 (codes "q"))) ≡ Some (Arity 3)
+too_many_parts : formula_fault (matching (one (constructor_pattern 3 [] (codes "Nil") (more_patterns (wildcard_pattern 4) no_patterns))) (name 6 (codes "q"))) ≡ Some (Arity 3)
 too_many_parts = refl
 
-twice : formula_fault (matching (one (cons 3 (bound 4 (codes "x")) (bound 5 (codes "x")))) (name 7 (codes "r"))) ≡ Some (Duplicate 5)
+twice : formula_fault (matching (one (cons 3 (variable_pattern 4 (codes "x")) (variable_pattern 5 (codes "x")))) (name 7 (codes "r"))) ≡ Some (Duplicate 5)
 twice = refl
 
 -- `Cons x _ as x`
-twice_as : formula_fault (matching (one (aliased (cons 3 (bound 4 (codes "x")) (wild 5)) 7 (codes "x"))) (name 9 (codes "r"))) ≡ Some (Duplicate 7)
+twice_as : formula_fault (matching (one (alias_pattern (cons 3 (variable_pattern 4 (codes "x")) (wildcard_pattern 5)) 7 (codes "x"))) (name 9 (codes "r"))) ≡ Some (Duplicate 7)
 twice_as = refl
 
 -- `x | Nope y`: the names of an alternative are told before its parts
-other_names : formula_fault (matching (more_alternatives 3 (bound 3 (codes "x")) (more_alternatives 5 (constructed 5 [] (codes "Nope") (more_patterns (bound 6 (codes "y")) no_patterns)) no_alternatives)) (name 8 (codes "q"))) ≡ Some (WrongKind 5)
+other_names : formula_fault (matching (more_alternatives 3 (variable_pattern 3 (codes "x")) (more_alternatives 5 (constructor_pattern 5 [] (codes "Nope") (more_patterns (variable_pattern 6 (codes "y")) no_patterns)) no_alternatives)) (name 8 (codes "q"))) ≡ Some (WrongKind 5)
 other_names = refl
 
 -- `Cons x y | Cons y x`
-same_names : formula_fault (matching (more_alternatives 3 (cons 3 (bound 4 (codes "x")) (bound 5 (codes "y"))) (more_alternatives 7 (cons 7 (bound 8 (codes "y")) (bound 9 (codes "x"))) no_alternatives)) (name 11 (codes "q"))) ≡ None
+same_names : formula_fault (matching (more_alternatives 3 (cons 3 (variable_pattern 4 (codes "x")) (variable_pattern 5 (codes "y"))) (more_alternatives 7 (cons 7 (variable_pattern 8 (codes "y")) (variable_pattern 9 (codes "x"))) no_alternatives)) (name 11 (codes "q"))) ≡ None
 same_names = refl

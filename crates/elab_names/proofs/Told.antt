@@ -11,9 +11,9 @@ use Rattle.syntax_why.specs.declared.patterns.Pat.{Pat}
 use Rattle.syntax_why.specs.Forms as surface
 use Rattle.syntax_why.specs.Lexeme.{Word}
 use Rattle.syntax_why.specs.Surface as code
-use Rattle.elab_names.specs.Abstract.{Expression, Expressions, none, more, Patterns, no_patterns, more_patterns, Alternatives, Branches, no_branches, more_branches, Operation, connective, equality, symbol, operated, let_by, Forms, no_forms, more_forms, tuple, count, count_forms, count_patterns, grouped_forms, grouped_patterns, grouped, first_form, side_by_side, forms_of, expression_of, expressions_of, patterns_of}
+use Rattle.elab_names.specs.Abstract.{Expression, Expressions, no_expressions, more_expressions, Patterns, no_patterns, more_patterns, Alternatives, MatchBranches, no_branches, more_branches, OperatorMeaning, connective_operator, equality_operator, symbol_operator, operated, let_by, TypeExpressions, no_types, more_types, tuple_expression, count_expressions, count_forms, count_patterns, grouped_forms, grouped_patterns, grouped, first_form, side_by_side, forms_of, expression_of, expressions_of, patterns_of}
 use Rattle.elab_names.specs.Where.{Where}
-use Rattle.elab_names.specs.Faults.{first_of, name_fault, form_fault, forms_fault, fault, faults, pattern_fault, patterns_fault, pattern_names, patterns_names, alternatives_fault, alternatives_names, branch_fault, branches_fault, head, head_of, head_other, token}
+use Rattle.elab_names.specs.Faults.{first_of, name_fault, form_fault, forms_fault, fault, faults, pattern_fault, patterns_fault, pattern_names, patterns_names, alternatives_fault, alternatives_names, branch_fault, branches_fault, trigger_head, operator_head, trigger_other, token}
 use Rattle.elab_names.specs.Naming.{Tells}
 use Rattle.elab_names.proofs.Nodes.{patterns_are}
 
@@ -25,11 +25,11 @@ of_first (Duplicate t) x y h = rw h refl
 of_first (WrongKind t) x y h = rw h refl
 of_first (Arity t) x y h = rw h refl
 
--- behind a part without one, that of the rest
+-- after a part without one, that of the rest
 pub of_rest : (r : Result Unit NamingFault) (x y : Option NamingFault) → x ≡ None → Tells r y → Tells r (first_of x y)
 of_rest r x y n h = rw n h
 
--- an answer that hands on an error
+-- an answer that passes on an error
 pub passed : (r : Result Unit NamingFault) (g : NamingFault) (x : Option NamingFault) → IsErrAnd r (λ (e : NamingFault). e ≡ g) → Tells (Err g) x → Tells r x
 passed (Ok v) g x h k = absurd h
 passed (Err e) g x h k = rw h k
@@ -45,7 +45,7 @@ on_ok (Ok v) p = p
 on_ok (Err e) p = tt
 
 -- the number of arguments
-pub counted : (es : List Expr) → count (expressions_of es) ≡ length es
+pub counted : (es : List Expr) → count_expressions (expressions_of es) ≡ length es
 counted [] = refl
 counted (e ∷ es) = ap suc (counted es)
 
@@ -66,51 +66,51 @@ pub first_alone : (r : Result Unit NamingFault) (x : Option NamingFault) → Tel
 first_alone r None h = h
 first_alone r (Some f) h = h
 
--- ---- what stands in parentheses
+-- ---- what is in parentheses
 first_none : (x : Option NamingFault) → first_of x None ≡ x
 first_none None = refl
 first_none (Some f) = refl
 
-pub group_forms : (w : Where) (o : Bool) (i : ℕ) (fs : Forms) → forms_fault w o fs ≡ form_fault w o (grouped_forms i fs)
-group_forms w o i no_forms = refl
-group_forms w o i (more_forms f no_forms) = first_none (form_fault w o f)
-group_forms w o i (more_forms f (more_forms g gs)) = refl
+pub group_forms : (w : Where) (o : Bool) (i : ℕ) (fs : TypeExpressions) → forms_fault w o fs ≡ form_fault w o (grouped_forms i fs)
+group_forms w o i no_types = refl
+group_forms w o i (more_types f no_types) = first_none (form_fault w o f)
+group_forms w o i (more_types f (more_types g gs)) = refl
 
 pub group_one : (i : ℕ) (xs : List Expr) (d : Expr) → length xs ≡ 1 → grouped i (expressions_of xs) ≡ expression_of (get_or xs 0 d)
 group_one i [] d h = absurd (cc)
 group_one i (x ∷ []) d h = refl
 group_one i (x ∷ y ∷ zs) d h = absurd (cc)
 
-pub group_many : (i : ℕ) (xs : List Expr) → (length xs ≡ 1 → ⊥) → grouped i (expressions_of xs) ≡ tuple i (expressions_of xs)
+pub group_many : (i : ℕ) (xs : List Expr) → (length xs ≡ 1 → ⊥) → grouped i (expressions_of xs) ≡ tuple_expression i (expressions_of xs)
 group_many i [] h = refl
 group_many i (x ∷ []) h = absurd (h refl)
 group_many i (x ∷ y ∷ zs) h = refl
 
 -- ---- an operator between two
-pub operated_head : (i : ℕ) (a : Expression) (o : Operation) (b : Expression) → head (operated i a o b) ≡ head_of o
-operated_head i a (connective o) b = refl
-operated_head i a (equality same) b = refl
-operated_head i a (symbol w) b = refl
+pub operated_head : (i : ℕ) (a : Expression) (o : OperatorMeaning) (b : Expression) → trigger_head (operated i a o b) ≡ operator_head o
+operated_head i a (connective_operator o) b = refl
+operated_head i a (equality_operator same) b = refl
+operated_head i a (symbol_operator w) b = refl
 
-pub operated_token : (i : ℕ) (a : Expression) (o : Operation) (b : Expression) → token (operated i a o b) ≡ i
-operated_token i a (connective o) b = refl
-operated_token i a (equality same) b = refl
-operated_token i a (symbol w) b = refl
+pub operated_token : (i : ℕ) (a : Expression) (o : OperatorMeaning) (b : Expression) → token (operated i a o b) ≡ i
+operated_token i a (connective_operator o) b = refl
+operated_token i a (equality_operator same) b = refl
+operated_token i a (symbol_operator w) b = refl
 
 -- ---- a `let`
-pub let_head : (o : Option Word) (i : ℕ) (ps : surface.Forms) (a b : Expression) → head (let_by o i ps a b) ≡ head_other
+pub let_head : (o : Option Word) (i : ℕ) (ps : surface.SyntaxForms) (a b : Expression) → trigger_head (let_by o i ps a b) ≡ trigger_other
 let_head None i ps a b = refl
 let_head (Some x) i ps a b = refl
 
-pub let_token : (o : Option Word) (i : ℕ) (ps : surface.Forms) (a b : Expression) → token (let_by o i ps a b) ≡ i
+pub let_token : (o : Option Word) (i : ℕ) (ps : surface.SyntaxForms) (a b : Expression) → token (let_by o i ps a b) ≡ i
 let_token None i ps a b = refl
 let_token (Some x) i ps a b = refl
 
 -- ---- values of a `match`
 pub due_group : (w : Where) (o : Bool) (ls : List Word) (i : ℕ) (es : Expressions) → faults w o ls es ≡ fault w o ls false (grouped i es)
-due_group w o ls i none = refl
-due_group w o ls i (more e none) = first_none (fault w o ls false e)
-due_group w o ls i (more e (more f es)) = refl
+due_group w o ls i no_expressions = refl
+due_group w o ls i (more_expressions e no_expressions) = first_none (fault w o ls false e)
+due_group w o ls i (more_expressions e (more_expressions f es)) = refl
 
 -- ---- patterns
 group_patterns : (w : Where) (us : List Word) (i : ℕ) (ps : Patterns) → patterns_fault w us ps ≡ pattern_fault w us (grouped_patterns i ps)
@@ -141,7 +141,7 @@ three : (x y z : Option NamingFault) → first_of (first_of x y) z ≡ first_of 
 three None y z = refl
 three (Some f) y z = refl
 
-pub branch_first : (w : Where) (o : Bool) (ls : List Word) (due : Bool) (ps : Alternatives) (b : Expression) (bs : Branches)
+pub branch_first : (w : Where) (o : Bool) (ls : List Word) (due : Bool) (ps : Alternatives) (b : Expression) (bs : MatchBranches)
     → first_of (branch_fault w o ls due ps b) (branches_fault w o ls due bs) ≡ branches_fault w o ls due (more_branches ps b bs)
 branch_first w o ls due ps b bs = three (alternatives_fault w ps) (fault w o (reverse (alternatives_names ps) ++ ls) due b) (branches_fault w o ls due bs)
 

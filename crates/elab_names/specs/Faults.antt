@@ -1,4 +1,4 @@
--- The first fault of names: each check stands at a token, and they go in the order of their tokens (Why3 manual, "logical
+-- The first fault of names: each check is at a token, and they go in the order of their tokens (Why3 manual, "logical
 -- declarations"; a term and a formula are told apart by their place).
 use Rattle.std.specs.Prelude.{ℕ, Bool, true, false, cond, not, ◌==◌, ◌&&◌, List, [], ◌∷◌, ◌++◌, reverse, length, Option, Some, None}
 use Rattle.std.specs.Option.{is_some, is_none}
@@ -7,7 +7,7 @@ use Rattle.tasks.specs.Vocabulary.{is_constructor_kind}
 use Rattle.tasks.specs.declared.signature.SymbolKind.{SymbolKind}
 use Rattle.tasks.specs.declared.signature.SymbolKind.TheVariants.{Predicate}
 use Rattle.syntax_why.specs.Lexeme.{Word}
-use Rattle.elab_names.specs.Abstract.{Form, Forms, variable, composed, product, no_forms, more_forms, Pattern, Patterns, wild, bound, constructed, tupled, aliased, no_patterns, more_patterns, Alternatives, no_alternatives, more_alternatives, Binder, Expression, Expressions, Branches, apply, infixed, literal, truth, falsity, tuple, cast, negation, joined, equated, choice, binding, cases, quantified, none, more, no_branches, more_branches, count_forms, count_patterns, count, Operation, connective, equality, symbol}
+use Rattle.elab_names.specs.Abstract.{TypeExpression, TypeExpressions, variable_type, composed_type, product_type, no_types, more_types, Pattern, Patterns, wildcard_pattern, variable_pattern, constructor_pattern, tuple_pattern, alias_pattern, no_patterns, more_patterns, Alternatives, no_alternatives, more_alternatives, BoundNames, Expression, Expressions, MatchBranches, applied_expression, infix_expression, integer_expression, true_expression, false_expression, tuple_expression, cast_expression, not_expression, connected_expression, equality_expression, if_expression, let_expression, match_expression, quantified_expression, no_expressions, more_expressions, no_branches, more_branches, count_forms, count_patterns, count_expressions, OperatorMeaning, connective_operator, equality_operator, symbol_operator}
 use Rattle.elab_names.specs.declared.NamingFault.{NamingFault}
 use Rattle.elab_names.specs.declared.NamingFault.TheVariants.{Unknown, Duplicate, WrongKind, Arity}
 use Rattle.elab_names.specs.Where.{Where, MeaningTree, Stands, Abbreviates, place_of}
@@ -30,14 +30,14 @@ meaning_fault w i n (Some (Abbreviates vars t)) = fault_if (not (vars == n)) (Ar
 
 -- in an open declaration a type variable is new where it isn't there
 abbrev mutual
-  pub form_fault : Where → Bool → Form → Option NamingFault
-  form_fault w open_ (variable i v) = fault_if (cond open_ false (is_none (place_of v w.vars))) (Unknown i)
-  form_fault w open_ (composed i qs x fs) = first_of (meaning_fault w i (count_forms fs) (w.types qs x)) (forms_fault w open_ fs)
-  form_fault w open_ (product i fs) = forms_fault w open_ fs
+  pub form_fault : Where → Bool → TypeExpression → Option NamingFault
+  form_fault w open_ (variable_type i v) = fault_if (cond open_ false (is_none (place_of v w.vars))) (Unknown i)
+  form_fault w open_ (composed_type i qs x fs) = first_of (meaning_fault w i (count_forms fs) (w.types qs x)) (forms_fault w open_ fs)
+  form_fault w open_ (product_type i fs) = forms_fault w open_ fs
 
-  pub forms_fault : Where → Bool → Forms → Option NamingFault
-  forms_fault w open_ no_forms = None
-  forms_fault w open_ (more_forms f fs) = first_of (form_fault w open_ f) (forms_fault w open_ fs)
+  pub forms_fault : Where → Bool → TypeExpressions → Option NamingFault
+  forms_fault w open_ no_types = None
+  forms_fault w open_ (more_types f fs) = first_of (form_fault w open_ f) (forms_fault w open_ fs)
 
 -- ---- symbols and variables
 abbrev pub is_predicate : SymbolKind → Bool
@@ -59,25 +59,25 @@ symbol_fault w due i n (Some k) = entry_fault due i n (symbol_or w.symbols k)
 abbrev pub local_fault : Bool → ℕ → ℕ → Option NamingFault
 local_fault due i n = first_of (fault_if due (WrongKind i)) (fault_if (not (n == 0)) (Arity i))
 
--- whether a name behind scopes is that of a variable: only a name without scopes is
+-- whether a name after scopes is that of a variable: only a name without scopes is
 abbrev pub is_variable : List Word → Word → List Word → Bool
 is_variable [] x ls = is_some (place_of x ls)
 is_variable (q ∷ qs) x ls = false
 
--- a name that stands before so many arguments
+-- a name that is before so many arguments
 abbrev pub name_fault : Where → List Word → Bool → ℕ → List Word → Word → ℕ → Option NamingFault
 name_fault w ls due i qs x n = cond (is_variable qs x ls) (local_fault due i n) (symbol_fault w due i n (w.names qs x))
 
 -- ---- binders
-abbrev pub type_fault : Where → Bool → Option Form → Option NamingFault
+abbrev pub type_fault : Where → Bool → Option TypeExpression → Option NamingFault
 type_fault w open_ None = None
 type_fault w open_ (Some f) = form_fault w open_ f
 
-abbrev pub binders_fault : Where → Bool → List Binder → Option NamingFault
+abbrev pub binders_fault : Where → Bool → List BoundNames → Option NamingFault
 binders_fault w open_ [] = None
 binders_fault w open_ (b ∷ bs) = first_of (type_fault w open_ b.of_type) (binders_fault w open_ bs)
 
-abbrev pub bound_names : List Binder → List Word
+abbrev pub bound_names : List BoundNames → List Word
 bound_names [] = []
 bound_names (b ∷ bs) = b.names ++ bound_names bs
 
@@ -85,11 +85,11 @@ bound_names (b ∷ bs) = b.names ++ bound_names bs
 -- the variables in order
 abbrev mutual
   pub pattern_names : Pattern → List Word
-  pattern_names (wild i) = []
-  pattern_names (bound i x) = x ∷ []
-  pattern_names (constructed i qs x ps) = patterns_names ps
-  pattern_names (tupled i ps) = patterns_names ps
-  pattern_names (aliased p i x) = pattern_names p ++ x ∷ []
+  pattern_names (wildcard_pattern i) = []
+  pattern_names (variable_pattern i x) = x ∷ []
+  pattern_names (constructor_pattern i qs x ps) = patterns_names ps
+  pattern_names (tuple_pattern i ps) = patterns_names ps
+  pattern_names (alias_pattern p i x) = pattern_names p ++ x ∷ []
 
   pub patterns_names : Patterns → List Word
   patterns_names no_patterns = []
@@ -102,14 +102,14 @@ abbrev pub constructor_fault : Where → ℕ → ℕ → Option ℕ → Option N
 constructor_fault w i n None = Some (Unknown i)
 constructor_fault w i n (Some k) = constructor_entry_fault i n (symbol_or w.symbols k)
 
--- a variable stands once in a pattern
+-- a variable occurs once in a pattern
 abbrev mutual
   pub pattern_fault : Where → List Word → Pattern → Option NamingFault
-  pattern_fault w seen (wild i) = None
-  pattern_fault w seen (bound i x) = fault_if (is_some (place_of x seen)) (Duplicate i)
-  pattern_fault w seen (constructed i qs x ps) = first_of (constructor_fault w i (count_patterns ps) (w.names qs x)) (patterns_fault w seen ps)
-  pattern_fault w seen (tupled i ps) = patterns_fault w seen ps
-  pattern_fault w seen (aliased p i x) = first_of (pattern_fault w seen p) (fault_if (is_some (place_of x (seen ++ pattern_names p))) (Duplicate i))
+  pattern_fault w seen (wildcard_pattern i) = None
+  pattern_fault w seen (variable_pattern i x) = fault_if (is_some (place_of x seen)) (Duplicate i)
+  pattern_fault w seen (constructor_pattern i qs x ps) = first_of (constructor_fault w i (count_patterns ps) (w.names qs x)) (patterns_fault w seen ps)
+  pattern_fault w seen (tuple_pattern i ps) = patterns_fault w seen ps
+  pattern_fault w seen (alias_pattern p i x) = first_of (pattern_fault w seen p) (fault_if (is_some (place_of x (seen ++ pattern_names p))) (Duplicate i))
 
   pub patterns_fault : Where → List Word → Patterns → Option NamingFault
   patterns_fault w seen no_patterns = None
@@ -137,88 +137,88 @@ alternatives_names no_alternatives = []
 alternatives_names (more_alternatives i p ps) = pattern_names p
 
 -- whether a branch has an alternative
-abbrev pub has_alternative : Branches → Bool
+abbrev pub has_alternative : MatchBranches → Bool
 has_alternative no_branches = false
 has_alternative (more_branches no_alternatives b bs) = has_alternative bs
 has_alternative (more_branches (more_alternatives i p ps) b bs) = true
 
 -- ---- triggers
--- the head of a trigger: a name behind its scopes, equality or with `false` its negation, or no name
-pub data Head : Type 0 where
-  head_named : List Word → Word → Head
-  head_equality : Bool → Head
-  head_other : Head
+-- the head of a trigger: a name after its scopes, equality or with `false` its negation, or no name
+pub data TriggerHeadTree : Type 0 where
+  trigger_named : List Word → Word → TriggerHeadTree
+  trigger_equality : Bool → TriggerHeadTree
+  trigger_other : TriggerHeadTree
 
-abbrev pub head : Expression → Head
-head (apply i qs x es) = head_named qs x
-head (infixed i x a b) = head_named [] x
-head (equated i same a b) = head_equality same
-head _ = head_other
+abbrev pub trigger_head : Expression → TriggerHeadTree
+trigger_head (applied_expression i qs x es) = trigger_named qs x
+trigger_head (infix_expression i x a b) = trigger_named [] x
+trigger_head (equality_expression i same a b) = trigger_equality same
+trigger_head _ = trigger_other
 
 -- of an operator between two operands
-abbrev pub head_of : Operation → Head
-head_of (connective o) = head_other
-head_of (equality same) = head_equality same
-head_of (symbol w) = head_named [] w
+abbrev pub operator_head : OperatorMeaning → TriggerHeadTree
+operator_head (connective_operator o) = trigger_other
+operator_head (equality_operator same) = trigger_equality same
+operator_head (symbol_operator w) = trigger_named [] w
 
 -- the token that stands for an expression
 abbrev pub token : Expression → ℕ
-token (apply i qs x es) = i
-token (infixed i x a b) = i
-token (literal i z) = i
-token (truth i) = i
-token (falsity i) = i
-token (tuple i es) = i
-token (cast i e f) = i
-token (negation i e) = i
-token (joined i a o b) = i
-token (equated i same a b) = i
-token (choice i c a b) = i
-token (binding i x a b) = i
-token (cases i e bs) = i
-token (quantified i all bs gs b) = i
+token (applied_expression i qs x es) = i
+token (infix_expression i x a b) = i
+token (integer_expression i z) = i
+token (true_expression i) = i
+token (false_expression i) = i
+token (tuple_expression i es) = i
+token (cast_expression i e f) = i
+token (not_expression i e) = i
+token (connected_expression i a o b) = i
+token (equality_expression i same a b) = i
+token (if_expression i c a b) = i
+token (let_expression i x a b) = i
+token (match_expression i e bs) = i
+token (quantified_expression i all bs gs b) = i
 
 abbrev pub makes_formulas : Where → Option ℕ → Bool
 makes_formulas w None = false
 makes_formulas w (Some k) = is_predicate (symbol_or w.symbols k).kind
 
 -- a trigger is a formula where its head is a predicate that no variable hides, or `=`
-abbrev pub is_formula_head : Where → List Word → Head → Bool
-is_formula_head w ls (head_named qs x) = cond (is_variable qs x ls) false (makes_formulas w (w.names qs x))
-is_formula_head w ls (head_equality same) = same
-is_formula_head w ls head_other = false
+abbrev pub is_formula_head : Where → List Word → TriggerHeadTree → Bool
+is_formula_head w ls (trigger_named qs x) = cond (is_variable qs x ls) false (makes_formulas w (w.names qs x))
+is_formula_head w ls (trigger_equality same) = same
+is_formula_head w ls trigger_other = false
 
 abbrev pub is_formula_trigger : Where → List Word → Expression → Bool
-is_formula_trigger w ls e = is_formula_head w ls (head e)
+is_formula_trigger w ls e = is_formula_head w ls (trigger_head e)
 
 -- ---- terms and formulas
 -- the first fault of an expression under the variables of these names, innermost first, where a formula is due or a term
 abbrev mutual
   pub fault : Where → Bool → List Word → Bool → Expression → Option NamingFault
-  fault w open_ ls due (apply i qs x es) = first_of (name_fault w ls due i qs x (count es)) (faults w open_ ls es)
-  fault w open_ ls due (infixed i x a b) = first_of (fault w open_ ls false a) (first_of (name_fault w ls due i [] x 2) (fault w open_ ls false b))
-  fault w open_ ls due (literal i z) = fault_if due (WrongKind i)
-  fault w open_ ls due (truth i) = fault_if (not due) (WrongKind i)
-  fault w open_ ls due (falsity i) = fault_if (not due) (WrongKind i)
-  fault w open_ ls due (tuple i es) = first_of (fault_if due (WrongKind i)) (faults w open_ ls es)
-  fault w open_ ls due (cast i e f) = first_of (fault_if due (WrongKind i)) (first_of (fault w open_ ls false e) (form_fault w open_ f))
-  fault w open_ ls due (negation i e) = first_of (fault_if (not due) (WrongKind i)) (fault w open_ ls true e)
-  fault w open_ ls due (joined i a o b) = first_of (fault w open_ ls true a) (first_of (fault_if (not due) (WrongKind i)) (fault w open_ ls true b))
-  fault w open_ ls due (equated i same a b) = first_of (fault w open_ ls false a) (first_of (fault_if (not due) (WrongKind i)) (fault w open_ ls false b))
-  fault w open_ ls due (choice i c a b) = first_of (fault w open_ ls true c) (first_of (fault w open_ ls due a) (fault w open_ ls due b))
-  fault w open_ ls due (binding i x a b) = first_of (fault w open_ ls false a) (fault w open_ (x ∷ ls) due b)
-  fault w open_ ls due (cases i e bs) = first_of (fault w open_ ls false e) (first_of (fault_if (not (has_alternative bs)) (WrongKind i)) (branches_fault w open_ ls due bs))
-  fault w open_ ls due (quantified i all bs gs b) = first_of (fault_if (not due) (WrongKind i)) (first_of (binders_fault w open_ bs) (first_of (triggers_fault w open_ (reverse (bound_names bs) ++ ls) gs) (fault w open_ (reverse (bound_names bs) ++ ls) true b)))
+  fault w open_ ls due (applied_expression i qs x es) = first_of (name_fault w ls due i qs x (count_expressions es)) (faults w open_ ls es)
+  fault w open_ ls due (infix_expression i x a b) = first_of (fault w open_ ls false a) (first_of (name_fault w ls due i [] x 2) (fault w open_ ls false b))
+  fault w open_ ls due (integer_expression i z) = fault_if due (WrongKind i)
+  fault w open_ ls due (true_expression i) = fault_if (not due) (WrongKind i)
+  fault w open_ ls due (false_expression i) = fault_if (not due) (WrongKind i)
+  fault w open_ ls due (tuple_expression i es) = first_of (fault_if due (WrongKind i)) (faults w open_ ls es)
+  fault w open_ ls due (cast_expression i e f) = first_of (fault_if due (WrongKind i)) (first_of (fault w open_ ls false e) (form_fault w open_ f))
+  fault w open_ ls due (not_expression i e) = first_of (fault_if (not due) (WrongKind i)) (fault w open_ ls true e)
+  fault w open_ ls due (connected_expression i a o b) = first_of (fault w open_ ls true a) (first_of (fault_if (not due) (WrongKind i)) (fault w open_ ls true b))
+  fault w open_ ls due (equality_expression i same a b) = first_of (fault w open_ ls false a) (first_of (fault_if (not due) (WrongKind i)) (fault w open_ ls false b))
+  fault w open_ ls due (if_expression i c a b) = first_of (fault w open_ ls true c) (first_of (fault w open_ ls due a) (fault w open_ ls due b))
+  fault w open_ ls due (let_expression i x a b) = first_of (fault w open_ ls false a) (fault w open_ (x ∷ ls) due b)
+  fault w open_ ls due (match_expression i e bs) = first_of (fault w open_ ls false e) (first_of (fault_if (not (has_alternative bs)) (WrongKind i)) (branches_fault w open_ ls due bs))
+  fault w open_ ls due (quantified_expression i all bs gs b) = first_of (fault_if (not due) (WrongKind i)) (first_of (binders_fault w open_ bs) (first_of (triggers_fault w open_ (reverse (bound_names bs) ++ ls) gs) (fault w open_ (reverse (bound_names bs) ++ ls) true b)))
 
   pub faults : Where → Bool → List Word → Expressions → Option NamingFault
-  faults w open_ ls none = None
-  faults w open_ ls (more e es) = first_of (fault w open_ ls false e) (faults w open_ ls es)
+  faults w open_ ls no_expressions = None
+  faults w open_ ls (more_expressions e es) = first_of (fault w open_ ls false e) (faults w open_ ls es)
 
   pub triggers_fault : Where → Bool → List Word → Expressions → Option NamingFault
-  triggers_fault w open_ ls none = None
-  triggers_fault w open_ ls (more e es) = first_of (fault w open_ ls (is_formula_trigger w ls e) e) (triggers_fault w open_ ls es)
+  triggers_fault w open_ ls no_expressions = None
+  triggers_fault w open_ ls (more_expressions e es) = first_of (fault w open_ ls (is_formula_trigger w ls e) e) (triggers_fault w open_ ls es)
 
-  pub branches_fault : Where → Bool → List Word → Bool → Branches → Option NamingFault
+  pub branches_fault : Where → Bool → List Word → Bool → MatchBranches → Option NamingFault
   branches_fault w open_ ls due no_branches = None
   branches_fault w open_ ls due (more_branches ps b bs) = first_of (alternatives_fault w ps) (first_of (fault w open_ (reverse (alternatives_names ps) ++ ls) due b) (branches_fault w open_ ls due bs))
 

@@ -9,13 +9,13 @@ use Rattle.tasks.specs.Task.{SymbolTree}
 use Rattle.tasks.specs.Vocabulary.{is_constructor_kind}
 use Rattle.syntax_why.specs.Lexeme.{Word}
 use Rattle.syntax_why.specs.Surface.{own_of, op_of}
-use Rattle.names_space.specs.Names.{Names, find, find_name}
+use Rattle.names_space.specs.Names.{ScopeNames, find_number, find_name}
 use Rattle.names_space.specs.declared.Table.TheVariants.{Types, Symbols}
 use Rattle.names_space.specs.declared.TypeName.{TypeName}
 use Rattle.names_space.specs.declared.TypeName.TheVariants as stands
-use Rattle.elab_names.specs.Abstract.{binders_of, connective, equality, symbol, own_name, prefix_name, spelled}
+use Rattle.elab_names.specs.Abstract.{binders_of, connective_operator, equality_operator, symbol_operator, text_of_own, prefix_name, spelled}
 use Rattle.elab_names.specs.Abstract as abstract
-use Rattle.elab_names.specs.Faults.{bound_names, Head, head_named, head_equality, head_other}
+use Rattle.elab_names.specs.Faults.{bound_names, TriggerHeadTree, trigger_named, trigger_equality, trigger_other}
 use Rattle.elab_names.specs.Where.{Where, MeaningTree, Stands, Abbreviates}
 use Rattle.elab_names.specs.declared.NamingFault.{NamingFault}
 use Rattle.elab_names.specs.declared.NamingFault.TheVariants.{Memory}
@@ -27,16 +27,16 @@ use Rattle.elab_names.specs.declared.triggers.TriggerHead.TheVariants as head
 use Rattle.elab_names.specs.declared.world.World.{World}
 
 -- ---- names
--- the entry for which a symbol's name behind its scopes stands
-abbrev pub symbol_named : Names → List Word → Word → Option ℕ
-symbol_named names qs x = find names Symbols (qs ++ x ∷ [])
+-- the entry for which a symbol's name after its scopes stands
+abbrev pub symbol_named : ScopeNames → List Word → Word → Option ℕ
+symbol_named names qs x = find_number names Symbols (qs ++ x ∷ [])
 
 -- `int` is the outermost name of a type
 abbrev pub or_int : List Word → Word → Option TypeName → Option TypeName
 or_int [] x None = cond (bytes_eq x (codes "int")) (Some (stands.Entry 0)) None
 or_int qs x found = found
 
-abbrev pub type_named : Names → List Word → Word → Option TypeName
+abbrev pub type_named : ScopeNames → List Word → Word → Option TypeName
 type_named names qs x = or_int qs x (find_name names Types (qs ++ x ∷ []))
 
 abbrev pub meaning_at : List Tree → TypeName → MeaningTree
@@ -75,17 +75,17 @@ names_at (Inside' name p outer) = name.now ∷ names_at outer
 names_at (Under' bs p outer) = reverse (bound_names (binders_of bs.now)) ++ names_at outer
 names_at (Among' names p outer) = reverse names.now ++ names_at outer
 
-abbrev pub operation_at : Operation → abstract.Operation
-operation_at (Connective o) = connective o
-operation_at (Equality same) = equality same
-operation_at (Symbol w) = symbol w.now
+abbrev pub operation_at : Operation → abstract.OperatorMeaning
+operation_at (Connective o) = connective_operator o
+operation_at (Equality same) = equality_operator same
+operation_at (Symbol w) = symbol_operator w.now
 
-abbrev pub head_at : TriggerHead → Head
-head_at (head.Name q) = head_named q.now.scopes (own_name (own_of q.now.style q.now.text))
-head_at (head.Prefix o) = head_named [] (prefix_name (spelled (op_of o.now).terminal (op_of o.now).text))
-head_at (head.Infix w) = head_named [] w.now
-head_at (head.Equality same) = head_equality same
-head_at head.Other = head_other
+abbrev pub head_at : TriggerHead → TriggerHeadTree
+head_at (head.Name q) = trigger_named q.now.scopes (text_of_own (own_of q.now.style q.now.text))
+head_at (head.Prefix o) = trigger_named [] (prefix_name (spelled (op_of o.now).terminal (op_of o.now).text))
+head_at (head.Infix w) = trigger_named [] w.now
+head_at (head.Equality same) = trigger_equality same
+head_at head.Other = trigger_other
 
 -- ---- answers
 -- it tells the first fault, or that there is none; want of memory tells nothing

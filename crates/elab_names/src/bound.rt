@@ -2,7 +2,7 @@
 // They depend on the surface trees alone; the walk of an expression's names depends on them.
 ghost use Rattle.std.specs.Prelude.{◌≡◌, List, map};
 ghost use Rattle.std.specs.Option.{is_some};
-ghost use Rattle.elab_names.specs.Abstract.{texts, binders_of};
+ghost use Rattle.elab_names.specs.Abstract.{texts_of_names, binders_of};
 ghost use Rattle.elab_names.specs.Where.{place_of};
 ghost use Rattle.elab_names.specs.Faults.{bound_names, is_variable};
 ghost use Rattle.elab_names.specs.Naming.{names_at};
@@ -22,7 +22,7 @@ pub enum Names<'a> {
 
 // Whether a name is among these.
 fn is_among(names: &[Name], name: &[u8]) -> bool
-    ensures { result ≡ is_some (place_of name.now (texts names.now)) }
+    ensures { result ≡ is_some (place_of name.now (texts_of_names names.now)) }
 {
     match names.split_first() {
         Some((first, rest)) => first.text.as_slice() == name || is_among(rest, name),
@@ -56,7 +56,7 @@ fn is_bound(names: &Names<'_>, name: &[u8]) -> bool
     }
 }
 
-/// Whether a name behind scopes is that of a variable.
+/// Whether a name after scopes is that of a variable.
 pub fn is_variable(names: &Names<'_>, scopes: &[Text], name: &[u8]) -> bool
     ensures { result ≡ is_variable scopes.now name.now (names_at names.now) }
 {

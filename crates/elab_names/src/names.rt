@@ -61,7 +61,7 @@ fn check_use(
     }
 }
 
-// A name that stands before so many arguments.
+// A name that is before so many arguments.
 fn check_name(
     world: &World<'_>,
     names: &Names<'_>,
@@ -291,7 +291,7 @@ fn check_terms(
     Ok(())
 }
 
-// What stands under the names of the first of some alternatives.
+// What is under the names of the first of some alternatives.
 #[cycle(naming)]
 fn check_under(
     alloc: Global,

@@ -1,7 +1,7 @@
 // Operators and their own names.
 // They depend on the terminals of tokens; the walks of names and of trees depend on them.
 ghost use Rattle.std.specs.Prelude.{◌≡◌, IfOk};
-ghost use Rattle.elab_names.specs.Abstract.{spelled, prefix_name, own_name, operation};
+ghost use Rattle.elab_names.specs.Abstract.{spelled, prefix_name, text_of_own, operator_meaning};
 ghost use Rattle.elab_names.specs.Naming.{operation_at};
 ghost use Rattle.syntax_why.specs.Lexeme.{said};
 ghost use Rattle.syntax_why.specs.declared.names.Style.TheVariants.{Plain};
@@ -47,7 +47,7 @@ pub fn prefix_name(alloc: Global, text: &[u8]) -> Result<Text, AllocError>
 
 // A word that is the name of a thing; of what is none, nothing.
 fn word(text: &[u8]) -> &[u8]
-    ensures { result.now ≡ own_name (own_of Plain text.now) }
+    ensures { result.now ≡ text_of_own (own_of Plain text.now) }
 {
     match terminal_of_text(text) {
         Terminal::Lident | Terminal::Uident => text,
@@ -57,7 +57,7 @@ fn word(text: &[u8]) -> &[u8]
 
 /// The own name of what a name calls: an operator's characters, those of a prefix operator before `_`.
 pub fn own_name(alloc: Global, style: Style, text: &[u8]) -> Result<Text, AllocError>
-    ensures { IfOk result (λ name. name ≡ own_name (own_of style text.now)) }
+    ensures { IfOk result (λ name. name ≡ text_of_own (own_of style text.now)) }
 {
     match style {
         Style::Plain => Text::from_slice(alloc, word(text)),
@@ -89,7 +89,7 @@ pub fn prefix_operator(alloc: Global, op: &OpName) -> Result<Text, AllocError>
 
 // What the characters of an operator are.
 fn operation_of(text: &[u8]) -> Operation<'_>
-    ensures { operation_at result ≡ operation (string_terminal text.now) (said
+    ensures { operation_at result ≡ operator_meaning (string_terminal text.now) (said
         (string_terminal text.now) text.now) }
 {
     match terminal_of_text(text) {
@@ -113,7 +113,7 @@ fn operation_of(text: &[u8]) -> Operation<'_>
 
 /// What an operator between two operands is.
 pub fn infix_operation(op: &OpName) -> Operation<'_>
-    ensures { operation_at result ≡ operation (op_of op.now).terminal (op_of op.now).text }
+    ensures { operation_at result ≡ operator_meaning (op_of op.now).terminal (op_of op.now).text }
 {
     match op.style {
         Style::Plain => operation_of(op.text.as_slice()),

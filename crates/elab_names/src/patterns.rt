@@ -1,4 +1,4 @@
-// The names of patterns in reading order: constructors before so many parts, and variables, each of which stands once in a
+// The names of patterns in reading order: constructors before so many parts, and variables, each of which occurs once in a
 // pattern.
 // They depend on what names mean and on operators; the walk of an expression's names depends on them.
 ghost use Rattle.std.specs.Prelude.{◌≡◌, List, [], ◌∷◌, ◌++◌, not, OnOk};
@@ -6,7 +6,7 @@ ghost use Rattle.std.specs.Option.{is_some};
 ghost use Rattle.trees.specs.Tree.{Tree};
 ghost use Rattle.tasks.specs.Meaning.{symbol_at};
 ghost use Rattle.tasks.specs.Vocabulary.{is_constructor_kind};
-ghost use Rattle.elab_names.specs.Abstract.{more_alternatives, pattern_of, patterns_of, first_form, side_by_side, alternatives_of};
+ghost use Rattle.elab_names.specs.Abstract.{more_alternatives, abstract_pattern_of, patterns_of, first_form, side_by_side, alternatives_of};
 ghost use Rattle.elab_names.specs.Where.{place_of};
 ghost use Rattle.elab_names.specs.Faults.{fault_if, first_of, constructor_entry_fault, constructor_fault, pattern_fault, patterns_fault, pattern_names, patterns_names, all_among, same_names, later_fault, alternatives_fault};
 ghost use Rattle.elab_names.specs.declared.NamingFault.TheVariants.{Duplicate, WrongKind};
@@ -61,7 +61,7 @@ fn check_constructor(
     }
 }
 
-// A name, put behind the others.
+// A name, put after the others.
 fn enter_name(alloc: Global, names: &mut Seq<Text>, name: &[u8]) -> Result<(), AllocError>
     ensures { OnOk result (names.new ≡ names.old ++ name.now ∷ []) }
 {
@@ -69,7 +69,7 @@ fn enter_name(alloc: Global, names: &mut Seq<Text>, name: &[u8]) -> Result<(), A
     names.push(text)
 }
 
-// A variable of a pattern behind the others, where it isn't among them.
+// A variable of a pattern after the others, where it isn't among them.
 fn check_variable(
     alloc: Global,
     token: usize,
@@ -86,7 +86,7 @@ fn check_variable(
     Ok(())
 }
 
-/// The first fault of a pattern behind variables of the same pattern. Its own are put behind them.
+/// The first fault of a pattern after variables of the same pattern. Its own are put after them.
 #[cycle(pattern_naming)]
 pub fn check_pattern(
     alloc: Global,
@@ -95,8 +95,9 @@ pub fn check_pattern(
     names: &mut Seq<Text>,
 ) -> Result<(), NamingFault>
     ensures fault { (s : List Tree) → Tells result (pattern_fault (where_at s world.now) names.old
-        (pattern_of p.now)) }
-    ensures names { OnOk result (names.new ≡ names.old ++ pattern_names (pattern_of p.now)) }
+        (abstract_pattern_of p.now)) }
+    ensures names { OnOk result (names.new ≡ names.old
+        ++ pattern_names (abstract_pattern_of p.now)) }
 {
     let token = p.at.main;
     match &p.node {
@@ -134,10 +135,10 @@ pub fn check_patterns(
     Ok(())
 }
 
-// The variables of a pattern, put behind the others.
+// The variables of a pattern, put after the others.
 #[cycle(pattern_entering)]
 fn enter_names(alloc: Global, p: &Pat, names: &mut Seq<Text>) -> Result<(), AllocError>
-    ensures { OnOk result (names.new ≡ names.old ++ pattern_names (pattern_of p.now)) }
+    ensures { OnOk result (names.new ≡ names.old ++ pattern_names (abstract_pattern_of p.now)) }
 {
     match &p.node {
         PatNode::Wild => Ok(()),

@@ -3,8 +3,8 @@
 ghost use Rattle.std.specs.Prelude.{◌≡◌, List, IfOk};
 ghost use Rattle.trees.specs.Tree.{Tree};
 ghost use Rattle.elab_names.specs.Abstract.{expression_of, expressions_of, grouped};
-ghost use Rattle.elab_names.specs.Abstract.{operation};
-ghost use Rattle.elab_names.specs.Faults.{is_predicate, head, head_named, head_other, head_of, is_formula_head, makes_formulas};
+ghost use Rattle.elab_names.specs.Abstract.{operator_meaning};
+ghost use Rattle.elab_names.specs.Faults.{is_predicate, trigger_head, trigger_named, trigger_other, operator_head, is_formula_head, makes_formulas};
 ghost use Rattle.elab_names.specs.Faults as faults;
 ghost use Rattle.elab_names.specs.Naming.{names_at, where_at, head_at, symbol_named};
 ghost use Rattle.syntax_why.specs.Surface.{op_of};
@@ -48,7 +48,7 @@ pub fn is_predicate(kind: SymbolKind) -> bool
 
 // A trigger without a name at its head.
 fn no_head(token: usize) -> Trigger<'static>
-    ensures head { head_at result.head ≡ head_other }
+    ensures head { head_at result.head ≡ trigger_other }
     ensures token { result.token ≡ token }
 {
     Trigger {
@@ -59,7 +59,8 @@ fn no_head(token: usize) -> Trigger<'static>
 
 // The head of two operands with an operator between.
 fn infix_head(op: &OpName) -> TriggerHead<'_>
-    ensures { head_at result ≡ head_of (operation (op_of op.now).terminal (op_of op.now).text) }
+    ensures { head_at result ≡ operator_head
+        (operator_meaning (op_of op.now).terminal (op_of op.now).text) }
 {
     match infix_operation(op) {
         Operation::Connective(_) => TriggerHead::Other,
@@ -71,7 +72,7 @@ fn infix_head(op: &OpName) -> TriggerHead<'_>
 /// The head of a trigger and its token. Parentheses round one trigger are looked through.
 #[cycle(heads)]
 pub fn trigger_of(e: &Expr) -> Trigger<'_>
-    ensures head { head_at result.head ≡ head (expression_of e.now) }
+    ensures head { head_at result.head ≡ trigger_head (expression_of e.now) }
     ensures token { result.token ≡ faults.token (expression_of e.now) }
 {
     let token = e.at.main;
@@ -103,7 +104,7 @@ pub fn trigger_of(e: &Expr) -> Trigger<'_>
 
 #[cycle(heads)]
 fn group_trigger(list: &[Expr], token: usize) -> Trigger<'_>
-    ensures head { head_at result.head ≡ head (grouped token (expressions_of list.now)) }
+    ensures head { head_at result.head ≡ trigger_head (grouped token (expressions_of list.now)) }
     ensures token { result.token ≡ faults.token (grouped token (expressions_of list.now)) }
 {
     if list.len() == 1 {
@@ -130,7 +131,7 @@ pub fn names_predicate(world: &World<'_>, scopes: &[Text], name: &[u8]) -> bool
 // Whether a name is that of a predicate, which no variable hides.
 fn is_formula_name(world: &World<'_>, names: &Names<'_>, scopes: &[Text], name: &[u8]) -> bool
     ensures { (s : List Tree) → result ≡ is_formula_head (where_at s world.now) (names_at names.now)
-        (head_named scopes.now name.now) }
+        (trigger_named scopes.now name.now) }
 {
     if is_variable(names, scopes, name) {
         false

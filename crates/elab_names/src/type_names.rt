@@ -2,7 +2,7 @@
 // They depend on what names mean; the walk of an expression's names depends on them.
 ghost use Rattle.std.specs.Prelude.{List, Some, option_map};
 ghost use Rattle.trees.specs.Tree.{Tree};
-ghost use Rattle.elab_names.specs.Abstract.{variable, form_of, forms_of, binder_of, binders_of};
+ghost use Rattle.elab_names.specs.Abstract.{variable_type, type_expression_of, forms_of, bound_names_of, binders_of};
 ghost use Rattle.elab_names.specs.Where.{Stands};
 ghost use Rattle.elab_names.specs.Faults.{fault_if, meaning_fault, form_fault, forms_fault, type_fault, binders_fault};
 ghost use Rattle.elab_names.specs.Naming.{where_at, meaning_at, type_named, Tells};
@@ -61,7 +61,7 @@ fn check_meaning(
 // A type variable: one of the declaration, or a new one where such are allowed.
 fn check_variable(world: &World<'_>, token: usize, name: &[u8]) -> Result<(), NamingFault>
     ensures { (s : List Tree) → Tells result (form_fault (where_at s world.now) world.now.new_vars
-        (variable token name.now)) }
+        (variable_type token name.now)) }
 {
     if world.new_vars {
         return Ok(());
@@ -74,7 +74,7 @@ fn check_variable(world: &World<'_>, token: usize, name: &[u8]) -> Result<(), Na
 #[cycle(form_naming)]
 pub fn check_form(alloc: Global, ty: &TypeTree, world: &World<'_>) -> Result<(), NamingFault>
     ensures { (s : List Tree) → Tells result (form_fault (where_at s world.now) world.now.new_vars
-        (form_of ty.now)) }
+        (type_expression_of ty.now)) }
 {
     match &ty.node {
         TypeNode::Var(name) => check_variable(world, ty.at.main, name.as_slice()),
@@ -102,7 +102,7 @@ fn check_forms(alloc: Global, list: &[TypeTree], world: &World<'_>) -> Result<()
 // The first fault of a binder's type, where it has one.
 fn check_binder(alloc: Global, binder: &BinderTree, world: &World<'_>) -> Result<(), NamingFault>
     ensures { (s : List Tree) → Tells result (type_fault (where_at s world.now) world.now.new_vars
-        (binder_of binder.now).of_type) }
+        (bound_names_of binder.now).of_type) }
 {
     match &binder.ty {
         Some(ty) => check_form(alloc, ty, world),

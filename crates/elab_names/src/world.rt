@@ -49,14 +49,14 @@ impl World<'_> {
     ghost use Rattle.tasks.specs.Meaning.{symbols_at};
     ghost use Rattle.elab_names.specs.Naming.{symbol_named, type_named, tuple_in};
 
-    /// The entry for which a symbol's name behind its scopes stands.
+    /// The entry for which a symbol's name after its scopes stands.
     pub fn symbol_named(&self, scopes: &[Text], name: &[u8]) -> Option<usize>
         ensures { result ≡ symbol_named self.now.scope.now scopes.now name.now }
     {
         self.scope.look_at(Table::Symbols, scopes, name)
     }
 
-    /// What a type's name behind its scopes stands for. The name `int` without scopes is the type `int` where nothing else
+    /// What a type's name after its scopes stands for. The name `int` without scopes is the type `int` where nothing else
     /// has it.
     pub fn type_named(&self, scopes: &[Text], name: &[u8]) -> Option<TypeName>
         ensures { result ≡ type_named self.now.scope.now scopes.now name.now }

@@ -7,7 +7,7 @@ use Rattle.tasks.specs.Meaning.{symbol_at, symbols_at}
 use Rattle.tasks.specs.declared.signature.Signature.{Signature}
 use Rattle.names_space.specs.declared.Table.TheVariants.{Propositions}
 use Rattle.names_space.specs.declared.TypeName.{TypeName}
-use Rattle.names_space.specs.Names.{Names, with_name}
+use Rattle.names_space.specs.Names.{ScopeNames, with_name}
 use Rattle.syntax_why.specs.Lexeme.{Word}
 use Rattle.elab_names.specs.Naming.{meaning_at, type_named, symbol_named}
 use Rattle.elab_names.specs.Where.{MeaningTree}
@@ -16,7 +16,7 @@ use Rattle.elab_parts.specs.Outcomes.{over}
 use Rattle.elab_parts.proofs.Scopes.{types_past, symbols_past}
 
 -- what a proposition's name leaves
-pub over_kept : (s : List Tree) (symbols : List SymbolTree) (x : Word) (t : TypeName) (names : Names) (vars : List Word) → over s symbols (with_name Propositions x t true names) vars ≡ over s symbols names vars
+pub over_kept : (s : List Tree) (symbols : List SymbolTree) (x : Word) (t : TypeName) (names : ScopeNames) (vars : List Word) → over s symbols (with_name Propositions x t true names) vars ≡ over s symbols names vars
 over_kept s symbols x t names vars =
     let new : List Word → Word → Option MeaningTree = λ qs y. option_map (meaning_at s) (type_named (with_name Propositions x t true names) qs y) in
     let old : List Word → Word → Option MeaningTree = λ qs y. option_map (meaning_at s) (type_named names qs y) in

@@ -5,7 +5,7 @@ use Rattle.trees.specs.Node.{Grows}
 use Rattle.tasks.specs.Task.{SymbolTree}
 use Rattle.tasks.specs.Meaning.{symbols_at}
 use Rattle.tasks.specs.declared.signature.SymbolInfo.{SymbolInfo}
-use Rattle.names_space.specs.Names.{Names}
+use Rattle.names_space.specs.Names.{ScopeNames}
 use Rattle.names_space.specs.declared.TypeName.{TypeName}
 use Rattle.names_space.specs.declared.TypeName.TheVariants as stands
 use Rattle.syntax_why.specs.Lexeme.{Word}
@@ -15,7 +15,7 @@ use Rattle.elab_names.specs.declared.world.World.{World}
 use Rattle.elab_walk.specs.Scoped.{IsScoped}
 use Rattle.elab_walk.specs.Drafts.{WorldHeld, MeaningHeld}
 use Rattle.elab_walk.proofs.Growing.{type_stays}
-use Rattle.elab_parts.specs.Entries.{IsMeaning, IsSignature, AreScopes, tuple_in}
+use Rattle.elab_parts.specs.Entries.{IsTypeNameMeaning, IsSignature, AreScopes, tuple_in}
 use Rattle.elab_parts.specs.Outcomes.{over}
 use Rattle.elab_parts.proofs.Scopes.{type_thing, meaning_held, meaning_scoped, tuples_below}
 
@@ -25,12 +25,12 @@ some_entry s [] h = absurd (cc (h.int))
 some_entry s (i ∷ is) h = omega arith
 
 module _ (s s' : List Tree) (g : Grows s s') (n : ℕ) where
-  meaning_stays : (m : Option TypeName) → IfSome m (IsMeaning s n) → option_map (meaning_at s') m ≡ option_map (meaning_at s) m
+  meaning_stays : (m : Option TypeName) → IfSome m (IsTypeNameMeaning s n) → option_map (meaning_at s') m ≡ option_map (meaning_at s) m
   meaning_stays None h = refl
   meaning_stays (Some (stands.Entry k)) h = refl
   meaning_stays (Some (stands.Alias vars ty)) h = cc (type_stays s s' g (record { 0 = ty }) h.0)
 
-  pub over_stays : (symbols : List SymbolTree) (names : Names) (vars : List Word) → AreScopes s n names → 0 < n → over s' symbols names vars ≡ over s symbols names vars
+  pub over_stays : (symbols : List SymbolTree) (names : ScopeNames) (vars : List Word) → AreScopes s n names → 0 < n → over s' symbols names vars ≡ over s symbols names vars
   over_stays symbols names vars h p =
       let new : List Word → Word → Option MeaningTree = λ qs x. option_map (meaning_at s') (type_named names qs x) in
       let old : List Word → Word → Option MeaningTree = λ qs x. option_map (meaning_at s) (type_named names qs x) in
@@ -38,20 +38,20 @@ module _ (s s' : List Tree) (g : Grows s s') (n : ℕ) where
       ap (λ (f : List Word → Word → Option MeaningTree). record { symbols = symbols; types = f; names = symbol_named names; tuples = tuple_in symbols; vars = vars }) types
 
 -- ---- the world of a signature
-abbrev meant : List Tree → List SymbolInfo → Names → List Word → Where
+abbrev meant : List Tree → List SymbolInfo → ScopeNames → List Word → Where
 meant s is names vars = record { symbols = symbols_at s is; types = λ qs x. option_map (meaning_at s) (type_named names qs x); names = symbol_named names; tuples = tuple_in (symbols_at s is); vars = vars }
 
-module _ (s : List Tree) (is : List SymbolInfo) (names : Names) (w : World)
+module _ (s : List Tree) (is : List SymbolInfo) (names : ScopeNames) (w : World)
     (symbols : w.symbols.now ≡ is) (scope : w.scope.now ≡ names) where
   pub world_is : (vars : List Word) → w.vars.now ≡ vars → where_at s w ≡ over s (symbols_at s is) names vars
   world_is vars v =
       ap (λ (js : List SymbolInfo). meant s js w.scope.now w.vars.now) symbols
-      ∙ (ap (λ (ns : Names). meant s is ns w.vars.now) scope ∙ ap (meant s is names) v)
+      ∙ (ap (λ (ns : ScopeNames). meant s is ns w.vars.now) scope ∙ ap (meant s is names) v)
 
   pub world_held : IsSignature s is → AreScopes s (length is) names → WorldHeld s w
   world_held h k = record {
     symbols = rw symbols h.typed;
-    types = subst (λ (ns : Names). (qs : List Word) (x : Word) → IfSome (type_named ns qs x) (MeaningHeld s)) (sym scope) (λ qs x. meaning_held s (length is) (type_named names qs x) (type_thing s (length is) names k (some_entry s is h) qs x));
+    types = subst (λ (ns : ScopeNames). (qs : List Word) (x : Word) → IfSome (type_named ns qs x) (MeaningHeld s)) (sym scope) (λ qs x. meaning_held s (length is) (type_named names qs x) (type_thing s (length is) names k (some_entry s is h) qs x));
   }
 
   pub world_scoped : (vars : List Word) → w.vars.now ≡ vars → IsSignature s is → AreScopes s (length is) names → IsScoped (where_at s w)

@@ -34,14 +34,14 @@ module _ (s s' : List Tree) (g : Grows s s') where
   pub matches_stay : (ms : List MatchAt) → All (MatchHeld s) ms → map (match_at s') ms ≡ map (match_at s) ms
   matches_stay ms h = map_same (match_at s') (match_at s) ms (λ k e l. match_stays _ (h k e l))
 
--- one more behind those that are held
+-- one more after those that are held
 pub held_more : (s s' : List Tree) → Grows s s' → (ids : List TermId) (x : TermId) → All (Holds s) ids → Holds s' x → All (Holds s') (ids ++ x ∷ [])
 held_more s s' g ids x h k = All-append (Holds s') ids (x ∷ []) (all_held s s' g ids h) (All-cons (Holds s') x [] k (All-nil (Holds s')))
 
 pub matches_more : (s s' : List Tree) → Grows s s' → (ms : List MatchAt) (m : MatchAt) → All (MatchHeld s) ms → MatchHeld s' m → All (MatchHeld s') (ms ++ m ∷ [])
 matches_more s s' g ms m h k = All-append (MatchHeld s') ms (m ∷ []) (matches_grow s s' g ms h) (All-cons (MatchHeld s') m [] k (All-nil (MatchHeld s')))
 
--- the first of those that are to be put in, and the others behind it
+-- the first of those that are to be put in, and the others after it
 pub put_step : (s s1 s2 : List Tree) → Grows s s1 → (them : List TermId) (x id : TermId) (rest types new : List TermId) → All (Holds s) them → All (Holds s) rest → All (HoldsType s) types
     → tree_at s1 id ≡ inst_types (tree_at s x) (trees_at s types)
     → trees_at s2 new ≡ trees_at s1 (them ++ id ∷ []) ++ instances (trees_at s1 types) (trees_at s1 rest)

@@ -11,7 +11,7 @@ use Rattle.elab_parts.specs.declared.ElabFault.{ElabFault}
 use Rattle.elab_parts.specs.declared.ElabFault.TheVariants as elab
 use Rattle.elab_parts.specs.declared.solution.TypingFault.{TypingFault}
 use Rattle.elab_parts.specs.declared.solution.TypingFault.TheVariants as types
-use Rattle.elab_parts.specs.Elaborated.{IsTypingFault, named, typed}
+use Rattle.elab_parts.specs.Elaborated.{IsTypingFault, elab_naming_fault, elab_typing_fault}
 use Rattle.elab_parts.specs.Outcomes.{IsNameRefused, IsRefusalFor, wants_memory, of_names, of_types}
 
 -- ---- faults of names
@@ -32,21 +32,21 @@ no_fault a b e h = rw (e, h) refl
 
 module _ (decl : ℕ) (r : ℕ) (ns : Notes) where
   -- want of memory, or the first fault of names
-  told_refusal : (first : Option NamingFault) (f : NamingFault) → Tells (Err f) first → IsRefusalFor decl first r ns (named decl f)
+  told_refusal : (first : Option NamingFault) (f : NamingFault) → Tells (Err f) first → IsRefusalFor decl first r ns (elab_naming_fault decl f)
   told_refusal first names.Memory h = wants_memory refl
   told_refusal first (names.Unknown t) h = of_names (names.Unknown t) refl h
   told_refusal first (names.Duplicate t) h = of_names (names.Duplicate t) refl h
   told_refusal first (names.WrongKind t) h = of_names (names.WrongKind t) refl h
   told_refusal first (names.Arity t) h = of_names (names.Arity t) refl h
 
-  pub made_refusal : (a b : Option NamingFault) (f : NamingFault) → Tells (Err f) a → IsRefusalFor decl (first_of a b) r ns (named decl f)
+  pub made_refusal : (a b : Option NamingFault) (f : NamingFault) → Tells (Err f) a → IsRefusalFor decl (first_of a b) r ns (elab_naming_fault decl f)
   made_refusal a b f h = told_refusal (first_of a b) f (told_made f a b h)
 
-  pub used_refusal : (a b : Option NamingFault) (f : NamingFault) → a ≡ None → Tells (Err f) b → IsRefusalFor decl (first_of a b) r ns (named decl f)
+  pub used_refusal : (a b : Option NamingFault) (f : NamingFault) → a ≡ None → Tells (Err f) b → IsRefusalFor decl (first_of a b) r ns (elab_naming_fault decl f)
   used_refusal a b f e h = told_refusal (first_of a b) f (told_used f a b e h)
 
   -- ---- faults of types
-  pub typing_refusal : (first : Option NamingFault) (f : TypingFault) → first ≡ None → IsTypingFault r ns f → IsRefusalFor decl first r ns (typed decl f)
+  pub typing_refusal : (first : Option NamingFault) (f : TypingFault) → first ≡ None → IsTypingFault r ns f → IsRefusalFor decl first r ns (elab_typing_fault decl f)
   typing_refusal first types.Memory e h = wants_memory refl
   typing_refusal first (types.Clash k) e h = of_types (types.Clash k) refl e h
   typing_refusal first (types.Undetermined t) e h = of_types (types.Undetermined t) refl e h

@@ -14,7 +14,7 @@ use Rattle.names_space.specs.declared.Table.{Table}
 use Rattle.names_space.specs.declared.Table.TheVariants.{Types, Symbols, Propositions, Scopes}
 use Rattle.names_space.specs.declared.TypeName.{TypeName}
 use Rattle.names_space.specs.declared.TypeName.TheVariants as stands
-use Rattle.names_space.specs.Names.{Names, Entry, number_of, same_table, is_named, latest, entries_of, or_else, first_found, table_before, find_within, find_name, innermost, with_name}
+use Rattle.names_space.specs.Names.{ScopeNames, ScopeEntry, number_of, same_table, is_named, latest, entries_of, or_else, first_found, table_before, find_within, find_name, innermost, with_name}
 use Rattle.syntax_why.specs.Lexeme.{Word}
 use Rattle.elab_names.specs.Naming.{or_int, type_named, symbol_named, meaning_at}
 use Rattle.elab_walk.specs.Patterns.{entry_of}
@@ -22,8 +22,8 @@ use Rattle.elab_walk.specs.Scoped.{IsScopedMeaning}
 use Rattle.elab_walk.specs.Drafts.{MeaningHeld}
 use Rattle.elab_walk.proofs.Growing.{type_grows, type_stays}
 use Rattle.trees.specs.Facts.{TyVarsBelow}
-use Rattle.elab_parts.specs.Alike.{arity, shape, Alike}
-use Rattle.elab_parts.specs.Entries.{IsMeaning, IsThing, IsEntry, AreScopes, builtin, is_tuple, tuple_from, tuple_in}
+use Rattle.elab_parts.specs.Alike.{meaning_arity, shape, AreScopesAlike}
+use Rattle.elab_parts.specs.Entries.{IsTypeNameMeaning, IsThing, IsEntry, AreScopes, builtin, is_tuple, tuple_from, tuple_in}
 use Rattle.elab_parts.specs.Outcomes.{over}
 
 and_left : (a b : Bool) → (a && b) ≡ true → a ≡ true
@@ -43,20 +43,20 @@ same_is _ _ h = absurd (cc)
 
 -- ---- what is found is the thing of an entry
 module _ (s : List Tree) (n : ℕ) where
-  latest_step : (table : Table) (x : Word) (e : Entry) (m : Option TypeName) (b : Bool) → is_named table x e ≡ b → IsEntry s n e → IfSome m (IsThing s n table) → IfSome (cond b (Some e.thing) m) (IsThing s n table)
+  latest_step : (table : Table) (x : Word) (e : ScopeEntry) (m : Option TypeName) (b : Bool) → is_named table x e ≡ b → IsEntry s n e → IfSome m (IsThing s n table) → IfSome (cond b (Some e.thing) m) (IsThing s n table)
   latest_step table x e m true q h k = subst (λ (t : Table). IsThing s n t e.thing) (sym (same_is table e.table (and_left (same_table table e.table) (bytes_eq e.name x) q))) h
   latest_step table x e m false q h k = k
 
-  latest_thing : (table : Table) (x : Word) (es : List Entry) → AllByRecursion (IsEntry s n) es → IfSome (latest table x es) (IsThing s n table)
+  latest_thing : (table : Table) (x : Word) (es : List ScopeEntry) → AllByRecursion (IsEntry s n) es → IfSome (latest table x es) (IsThing s n table)
   latest_thing table x [] h = tt
   latest_thing table x (e ∷ es) h = latest_step table x e (latest table x es) (is_named table x e) refl h.0 (latest_thing table x es h.1)
 
-  at_scope : (ess : List (List Entry)) → AllByRecursion (λ (es : List Entry). All (IsEntry s n) es) ess → (k : ℕ) → AllByRecursion (IsEntry s n) (get_or ess k [])
+  at_scope : (ess : List (List ScopeEntry)) → AllByRecursion (λ (es : List ScopeEntry). All (IsEntry s n) es) ess → (k : ℕ) → AllByRecursion (IsEntry s n) (get_or ess k [])
   at_scope [] h k = tt
   at_scope (es ∷ ess) h zero = recursion_from_All (IsEntry s n) es h.0
   at_scope (es ∷ ess) h (suc k) = at_scope ess h.1 k
 
-  module _ (ess : List (List Entry)) (h : AllByRecursion (λ (es : List Entry). All (IsEntry s n) es) ess) where
+  module _ (ess : List (List ScopeEntry)) (h : AllByRecursion (λ (es : List ScopeEntry). All (IsEntry s n) es) ess) where
     within_thing : (table : Table) (names : List Word) (found : Option TypeName) → IfSome found (IsThing s n (table_before table names)) → IfSome (find_within ess table found names) (IsThing s n table)
     within_thing table [] found k = k
     within_thing table (x ∷ names) None k = tt
@@ -70,44 +70,44 @@ module _ (s : List Tree) (n : ℕ) where
     first_thing table x [] = tt
     first_thing table x (k ∷ ks) = or_thing table (latest table x (get_or ess k [])) (first_found table x ess ks) (latest_thing table x (get_or ess k []) (at_scope ess h k)) (first_thing table x ks)
 
-  found_thing : (names : Names) → AreScopes s n names → (table : Table) (path : List Word) → IfSome (find_name names table path) (IsThing s n table)
+  found_thing : (names : ScopeNames) → AreScopes s n names → (table : Table) (path : List Word) → IfSome (find_name names table path) (IsThing s n table)
   found_thing names h table [] = tt
   found_thing names h table (x ∷ path) =
-      let k = recursion_from_All (λ (es : List Entry). All (IsEntry s n) es) names.entries h in
+      let k = recursion_from_All (λ (es : List ScopeEntry). All (IsEntry s n) es) names.entries h in
       within_thing names.entries k table path (first_found (table_before table path) x names.entries names.nested) (first_thing names.entries k (table_before table path) x names.nested)
 
-  or_int_thing : (qs : List Word) (x : Word) (m : Option TypeName) → 0 < n → IfSome m (IsMeaning s n) → IfSome (or_int qs x m) (IsMeaning s n)
+  or_int_thing : (qs : List Word) (x : Word) (m : Option TypeName) → 0 < n → IfSome m (IsTypeNameMeaning s n) → IfSome (or_int qs x m) (IsTypeNameMeaning s n)
   or_int_thing [] x None p h = at (bytes_eq x (codes "int"))
     where
-      at : (b : Bool) → IfSome (cond b (Some (stands.Entry 0)) None) (IsMeaning s n)
+      at : (b : Bool) → IfSome (cond b (Some (stands.Entry 0)) None) (IsTypeNameMeaning s n)
       at true = p
       at false = tt
   or_int_thing [] x (Some t) p h = h
   or_int_thing (q ∷ qs) x m p h = h
 
-  pub type_thing : (names : Names) → AreScopes s n names → 0 < n → (qs : List Word) (x : Word) → IfSome (type_named names qs x) (IsMeaning s n)
+  pub type_thing : (names : ScopeNames) → AreScopes s n names → 0 < n → (qs : List Word) (x : Word) → IfSome (type_named names qs x) (IsTypeNameMeaning s n)
   type_thing names h p qs x = or_int_thing qs x (find_name names Types (qs ++ x ∷ [])) p (found_thing names h Types (qs ++ x ∷ []))
 
   number_below : (m : Option TypeName) → IfSome m (IsThing s n Symbols) → IfSome (option_map number_of m) (λ (k : ℕ). k < n)
   number_below None h = tt
   number_below (Some t) h = h
 
-  pub symbol_below : (names : Names) → AreScopes s n names → (qs : List Word) (x : Word) → IfSome (symbol_named names qs x) (λ (k : ℕ). k < n)
+  pub symbol_below : (names : ScopeNames) → AreScopes s n names → (qs : List Word) (x : Word) → IfSome (symbol_named names qs x) (λ (k : ℕ). k < n)
   symbol_below names h qs x = number_below (find_name names Symbols (qs ++ x ∷ [])) (found_thing names h Symbols (qs ++ x ∷ []))
 
-  pub meaning_held : (m : Option TypeName) → IfSome m (IsMeaning s n) → IfSome m (MeaningHeld s)
+  pub meaning_held : (m : Option TypeName) → IfSome m (IsTypeNameMeaning s n) → IfSome m (MeaningHeld s)
   meaning_held None h = tt
   meaning_held (Some (stands.Entry k)) h = tt
   meaning_held (Some (stands.Alias vars ty)) h = h.0
 
-  pub meaning_scoped : (m : Option TypeName) → IfSome m (IsMeaning s n) → IfSome (option_map (meaning_at s) m) IsScopedMeaning
+  pub meaning_scoped : (m : Option TypeName) → IfSome m (IsTypeNameMeaning s n) → IfSome (option_map (meaning_at s) m) IsScopedMeaning
   meaning_scoped None h = tt
   meaning_scoped (Some (stands.Entry k)) h = tt
   meaning_scoped (Some (stands.Alias vars ty)) h = h.1
 
 -- ---- further names
 module _ (s s' : List Tree) (g : Grows s s') (m n : ℕ) (l : m ≤ n) where
-  meaning_on : (t : TypeName) → IsMeaning s m t → IsMeaning s' n t
+  meaning_on : (t : TypeName) → IsTypeNameMeaning s m t → IsTypeNameMeaning s' n t
   meaning_on (stands.Entry k) h = omega arith
   meaning_on (stands.Alias vars ty) h = (type_grows s s' g (record { 0 = ty }) h.0, subst (TyVarsBelow vars) (sym (type_stays s s' g (record { 0 = ty }) h.0)) h.1)
 
@@ -117,32 +117,32 @@ module _ (s s' : List Tree) (g : Grows s s') (m n : ℕ) (l : m ≤ n) where
   thing_on Propositions t h = tt
   thing_on Scopes t h = tt
 
-  pub scopes_grow : (names : Names) → AreScopes s m names → AreScopes s' n names
+  pub scopes_grow : (names : ScopeNames) → AreScopes s m names → AreScopes s' n names
   scopes_grow names h = λ k es i. λ j e x. thing_on (get_or (get_or names.entries k es) j e).table (get_or (get_or names.entries k es) j e).thing (h k es i j e x)
 
-pub scopes_more : (s : List Tree) (n : ℕ) (names : Names) (table : Table) (x : Word) (t : TypeName) (d : Bool) → IsThing s n table t → AreScopes s n names → AreScopes s n (with_name table x t d names)
+pub scopes_more : (s : List Tree) (n : ℕ) (names : ScopeNames) (table : Table) (x : Word) (t : TypeName) (d : Bool) → IsThing s n table t → AreScopes s n names → AreScopes s n (with_name table x t d names)
 scopes_more s n names table x t d h k =
-    let old = at_scope s n names.entries (recursion_from_All (λ (es : List Entry). All (IsEntry s n) es) names.entries k) (innermost names) in
-    let e : Entry = record { table = table; name = x; thing = t; declared = d } in
-    All-set (λ (es : List Entry). All (IsEntry s n) es) names.entries (innermost names) (e ∷ entries_of names (innermost names)) (All-cons (IsEntry s n) e (entries_of names (innermost names)) h (All-from_recursion (IsEntry s n) (entries_of names (innermost names)) old)) k
+    let old = at_scope s n names.entries (recursion_from_All (λ (es : List ScopeEntry). All (IsEntry s n) es) names.entries k) (innermost names) in
+    let e : ScopeEntry = record { table = table; name = x; thing = t; declared = d } in
+    All-set (λ (es : List ScopeEntry). All (IsEntry s n) es) names.entries (innermost names) (e ∷ entries_of names (innermost names)) (All-cons (IsEntry s n) e (entries_of names (innermost names)) h (All-from_recursion (IsEntry s n) (entries_of names (innermost names)) old)) k
 
 -- ---- a name hides those of its own table alone
-module _ (table : Table) (x : Word) (e : Entry) (h : (es : List Entry) → latest table x (e ∷ es) ≡ latest table x es) where
-  latest_kept : (ess : List (List Entry)) (k j : ℕ) → latest table x (get_or (set ess k (e ∷ get_or ess k [])) j []) ≡ latest table x (get_or ess j [])
+module _ (table : Table) (x : Word) (e : ScopeEntry) (h : (es : List ScopeEntry) → latest table x (e ∷ es) ≡ latest table x es) where
+  latest_kept : (ess : List (List ScopeEntry)) (k j : ℕ) → latest table x (get_or (set ess k (e ∷ get_or ess k [])) j []) ≡ latest table x (get_or ess j [])
   latest_kept [] k j = refl
   latest_kept (es ∷ ess) zero zero = h es
   latest_kept (es ∷ ess) zero (suc j) = refl
   latest_kept (es ∷ ess) (suc k) zero = refl
   latest_kept (es ∷ ess) (suc k) (suc j) = latest_kept ess k j
 
-module _ (hidden : Table) (no_scope : same_table Scopes hidden ≡ false) (x : Word) (t : TypeName) (d : Bool) (names : Names) where
-  abbrev e : Entry
+module _ (hidden : Table) (no_scope : same_table Scopes hidden ≡ false) (x : Word) (t : TypeName) (d : Bool) (names : ScopeNames) where
+  abbrev e : ScopeEntry
   e = record { table = hidden; name = x; thing = t; declared = d }
 
-  abbrev more : List (List Entry)
+  abbrev more : List (List ScopeEntry)
   more = set names.entries (innermost names) (e ∷ entries_of names (innermost names))
 
-  skipped : (table : Table) → same_table table hidden ≡ false → (y : Word) (es : List Entry) → latest table y (e ∷ es) ≡ latest table y es
+  skipped : (table : Table) → same_table table hidden ≡ false → (y : Word) (es : List ScopeEntry) → latest table y (e ∷ es) ≡ latest table y es
   skipped table h y es = ap (λ (b : Bool). cond (b && bytes_eq x y) (Some t) (latest table y es)) h
 
   unheard : (table : Table) → same_table table hidden ≡ false → (y : Word) (j : ℕ) → latest table y (get_or more j []) ≡ latest table y (get_or names.entries j [])
@@ -175,7 +175,7 @@ module _ (hidden : Table) (no_scope : same_table Scopes hidden ≡ false) (x : W
 
 -- ---- further entries
 module _ (s s' : List Tree) (symbols more : List SymbolTree) where
-  pub arity_kept : (m : Option TypeName) → IfSome m (IsMeaning s (length symbols)) → option_map (arity symbols) (option_map (meaning_at s) m) ≡ option_map (arity (symbols ++ more)) (option_map (meaning_at s') m)
+  pub arity_kept : (m : Option TypeName) → IfSome m (IsTypeNameMeaning s (length symbols)) → option_map (meaning_arity symbols) (option_map (meaning_at s) m) ≡ option_map (meaning_arity (symbols ++ more)) (option_map (meaning_at s') m)
   arity_kept None h = refl
   arity_kept (Some (stands.Entry k)) h = ap (λ (e : SymbolTree). Some e.vars) (sym (get_or-append symbols more int_symbol k h))
   arity_kept (Some (stands.Alias vars ty)) h = refl
@@ -184,12 +184,12 @@ module _ (s s' : List Tree) (symbols more : List SymbolTree) where
   shape_kept None h = refl
   shape_kept (Some k) h = let q : get_or symbols k int_symbol ≡ get_or (symbols ++ more) k int_symbol = sym (get_or-append symbols more int_symbol k h) in cc
 
-  pub alike_more : (names names' : Names) (vars : List Word) → AreScopes s (length symbols) names → 0 < length symbols
+  pub alike_more : (names names' : ScopeNames) (vars : List Word) → AreScopes s (length symbols) names → 0 < length symbols
       → ((qs : List Word) (x : Word) → type_named names' qs x ≡ type_named names qs x) → ((qs : List Word) (x : Word) → symbol_named names' qs x ≡ symbol_named names qs x)
-      → Alike (over s symbols names vars) (over s' (symbols ++ more) names' vars)
+      → AreScopesAlike (over s symbols names vars) (over s' (symbols ++ more) names' vars)
   alike_more names names' vars h p types syms = record {
     forms = record {
-      types = λ qs x. arity_kept (type_named names qs x) (type_thing s (length symbols) names h p qs x) ∙ ap (λ (m : Option TypeName). option_map (arity (symbols ++ more)) (option_map (meaning_at s') m)) (sym (types qs x));
+      types = λ qs x. arity_kept (type_named names qs x) (type_thing s (length symbols) names h p qs x) ∙ ap (λ (m : Option TypeName). option_map (meaning_arity (symbols ++ more)) (option_map (meaning_at s') m)) (sym (types qs x));
       vars = refl;
     };
     names = λ qs x. shape_kept (symbol_named names qs x) (symbol_below s (length symbols) names h qs x) ∙ ap (option_map (shape (symbols ++ more))) (sym (syms qs x));

@@ -27,32 +27,32 @@ use Rattle.unify_types.proofs.Bridge.{is_instance}
 use Rattle.elab_walk.specs.Patterns.{Notes, follow, taken}
 use Rattle.elab_walk.specs.declared.draft.Draft.{Draft}
 use Rattle.elab_walk.specs.declared.draft.MatchAt.{MatchAt}
-use Rattle.elab_walk.specs.Pieces.{Piece}
+use Rattle.elab_walk.specs.Pieces.{NotedTree}
 use Rattle.elab_walk.specs.Drafts.{instances, IsReady, IsNoted, notes_at, match_at, MatchHeld}
 use Rattle.elab_walk.proofs.Growing.{types_stay}
 use Rattle.elab_walk.proofs.Noting.{next}
 use Rattle.elab_walk.proofs.Below.{AreBelow}
 use Rattle.elab_parts.specs.declared.solution.TypingFault.{TypingFault}
 use Rattle.elab_parts.specs.declared.solution.TypingFault.TheVariants.{Memory, Clash, Undetermined}
-use Rattle.elab_parts.specs.Elaborated.{IsFixed, IsTypingFault, IsSolved, matches_assigned}
-use Rattle.elab_parts.specs.Values.{IsValueAt, AreValues, AreTypes, behind, IsFirstOpen, typing_fault, match_instance}
+use Rattle.elab_parts.specs.Elaborated.{IsFixedUnknown, IsTypingFault, IsSolved, matches_assigned}
+use Rattle.elab_parts.specs.Values.{IsValueAt, AreSolutionValues, AreSolvedTypes, notes_after, IsFirstOpen, typing_fault, match_instance}
 use Rattle.elab_parts.proofs.MatchesBelow.{MatchesBelow}
 use Rattle.elab_parts.proofs.Putting.{matches_stay}
 
--- what stands behind the first of a list
+-- what comes after the first of a list
 dropped : (r : ℕ) (xs : List ℕ) (i k : ℕ) → k + r ≡ i → slice_get (drop r xs) k ≡ slice_get xs i
 dropped zero xs i k e = let q : k ≡ i = omega arith in rw q refl
 dropped (suc r) [] i k e = refl
 dropped (suc r) (x ∷ xs) zero k e = absurd (omega arith)
 dropped (suc r) (x ∷ xs) (suc i) k e = dropped r xs i k (omega arith)
 
--- the notes behind what a draft begins with
-pub begun : (r : ℕ) (a b n : Notes) → n ≡ follow a b → a.equations ≡ [] → length a.takers ≡ r → a.matches ≡ [] → behind r n ≡ b
+-- the notes after what a draft begins with
+pub begun : (r : ℕ) (a b n : Notes) → n ≡ follow a b → a.equations ≡ [] → length a.takers ≡ r → a.matches ≡ [] → notes_after r n ≡ b
 begun r a b n e p q m =
     let k : drop r (a.takers ++ b.takers) ≡ b.takers = subst (λ (j : ℕ). drop j (a.takers ++ b.takers) ≡ b.takers) q (drop-append_seam a.takers b.takers) in
     let x : a.equations ++ b.equations ≡ b.equations = ap (λ (es : List (Tree × Tree)). es ++ b.equations) p in
     let z : a.matches ++ b.matches ≡ b.matches = ap (λ (ms : List (ℕ × List Tree)). ms ++ b.matches) m in
-    ap (behind r) e
+    ap (notes_after r) e
     ∙ (ap (λ (es : List (Tree × Tree)). record { equations = es; takers = drop r (a.takers ++ b.takers); matches = a.matches ++ b.matches }) x
     ∙ (ap (λ (ts : List ℕ). record { equations = b.equations; takers = ts; matches = a.matches ++ b.matches }) k
     ∙ ap (λ (ms : List (ℕ × List Tree)). record { equations = b.equations; takers = b.takers; matches = ms }) z))
@@ -79,10 +79,10 @@ module _ (r : ℕ) (ns : Notes) (ts : List ℕ) (own : ns.takers ≡ drop r ts) 
   known : (u : ℕ) (id : TermId) → r ≤ u → value_of sol u ≡ Some id → (f : ℕ → Tree) → IsSolution r f ns.equations → f u ≡ tree_at s1 id
   known u id l v f h = (subst (IsFixedAs r ns.equations s1 u) v (values u l)).1 f h.solves
 
-  fixed : (u : ℕ) (id : TermId) → r ≤ u → value_of sol u ≡ Some id → IsFixed r ns.equations u
+  fixed : (u : ℕ) (id : TermId) → r ≤ u → value_of sol u ≡ Some id → IsFixedUnknown r ns.equations u
   fixed u id l v = λ f h a b. known u id l v f a ∙ sym (known u id l v h b)
 
-  module _ (types : List TermId) (a : AreValues s2 r sol (length ts) types) where
+  module _ (types : List TermId) (a : AreSolutionValues s2 r sol (length ts) types) where
     -- the type that is put in for a type variable is what a solution assigns to it
     given : (f : ℕ → Tree) → IsSolution r f ns.equations → (j : ℕ) → j < length types → get_or (trees_at s2 types) j (TyVar j) ≡ assign r f (TyVar j)
     given f h j l = at (cases_order j r)
@@ -111,7 +111,7 @@ module _ (r : ℕ) (ns : Notes) (ts : List ℕ) (own : ns.takers ≡ drop r ts) 
     counted : length ts ≡ r + taken ns
     counted = omega (arith, ap length own, length-drop r ts)
 
-    pub types_of_all : AreTypes s2 r ns types
+    pub types_of_all : AreSolvedTypes s2 r ns types
     types_of_all = record {
       determined = record {
         solvable = (general.assigned, general.solution);
@@ -149,7 +149,7 @@ module _ (r : ℕ) (ns : Notes) (ts : List ℕ) (own : ns.takers ≡ drop r ts) 
   first_fault (Clash k) o = absurd o
 
 -- trees and matches at the types of all type variables
-module _ (s : List Tree) (r : ℕ) (ns : Notes) (types : List TermId) (a : AreTypes s r ns types) (f : ℕ → Tree) (h : IsSolution r f ns.equations) where
+module _ (s : List Tree) (r : ℕ) (ns : Notes) (types : List TermId) (a : AreSolvedTypes s r ns types) (f : ℕ → Tree) (h : IsSolution r f ns.equations) where
   pub tree_at_types : (e : Tree) → TyVarsBelow (r + taken ns) e → assign r f e ≡ inst_types e (trees_at s types)
   tree_at_types e b =
       let n : length (trees_at s types) ≡ length types = length-map types (tree_at s) in
@@ -163,8 +163,8 @@ module _ (s : List Tree) (r : ℕ) (ns : Notes) (types : List TermId) (a : AreTy
   matches_at_types [] b = refl
   matches_at_types (m ∷ ms) b = cc (trees_at_types m.1 b.0, matches_at_types ms b.1)
 
--- the notes of a draft without equations and matches, behind so many takers
-pub begun_behind : {s s1 : List Tree} {d d1 : Draft} {b : Notes} (r : ℕ) → d.equations ≡ [] → length d.takers ≡ r → d.matches ≡ [] → IsNoted s d s1 d1 b → behind r (notes_at s1 d1) ≡ b
+-- the notes of a draft without equations and matches, after so many takers
+pub begun_behind : {s s1 : List Tree} {d d1 : Draft} {b : Notes} (r : ℕ) → d.equations ≡ [] → length d.takers ≡ r → d.matches ≡ [] → IsNoted s d s1 d1 b → notes_after r (notes_at s1 d1) ≡ b
 begun_behind {s} {s1} {d} {d1} {b} r e n m h = begun r (notes_at s d) b (notes_at s1 d1) h.notes (ap (equations_at s) e) n (ap (map (match_at s)) m)
 
 pub begun_ready : (s : List Tree) (d : Draft) → d.equations ≡ [] → d.matches ≡ [] → IsReady s d
@@ -178,7 +178,7 @@ pub few_takers : {s s1 : List Tree} {d d1 : Draft} {b : Notes} (r : ℕ) → len
 few_takers r n h = omega (arith, next h)
 
 -- a formula that was walked in the store s1, at the types of the store s2; the stores s3 and s4 have its tree and its matches
-pub formula_solved : (s1 s2 s3 s4 : List Tree) → Grows s1 s2 → Grows s2 s3 → Grows s3 s4 → (r : ℕ) (p : Piece) (types : List TermId) → AreTypes s2 r p.notes types
+pub formula_solved : (s1 s2 s3 s4 : List Tree) → Grows s1 s2 → Grows s2 s3 → Grows s3 s4 → (r : ℕ) (p : NotedTree) (types : List TermId) → AreSolvedTypes s2 r p.notes types
     → (tree id : TermId) → Holds s1 tree → tree_at s1 tree ≡ p.tree → TyVarsBelow (r + taken p.notes) p.tree → MatchesBelow (r + taken p.notes) p.notes.matches
     → Holds s3 id → tree_at s3 id ≡ inst_types (tree_at s2 tree) (trees_at s2 types)
     → (ms out : List MatchAt) → All (MatchHeld s1) ms → map (match_at s1) ms ≡ p.notes.matches

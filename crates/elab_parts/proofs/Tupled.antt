@@ -7,16 +7,16 @@ use Rattle.trees.specs.Facts.{TyVarsBelow}
 use Rattle.tasks.specs.Task.{SymbolTree}
 use Rattle.tasks.specs.Meaning.{symbol_at, symbols_at}
 use Rattle.tasks.specs.declared.signature.Signature.{Signature}
-use Rattle.names_space.specs.Names.{Names}
+use Rattle.names_space.specs.Names.{ScopeNames}
 use Rattle.syntax_why.specs.Lexeme.{Word}
-use Rattle.elab_names.specs.Abstract.{Form, Expression}
+use Rattle.elab_names.specs.Abstract.{TypeExpression, Expression}
 use Rattle.elab_names.specs.Faults.{form_fault, fault}
 use Rattle.elab_variables.specs.Seen.{seen}
 use Rattle.elab_variables.proofs.Closing.{closed}
 use Rattle.elab_walk.specs.Pieces.{type_at}
 use Rattle.elab_walk.specs.Scoped.{IsScoped}
 use Rattle.elab_walk.proofs.Below.{form_below}
-use Rattle.elab_parts.specs.Alike.{Alike}
+use Rattle.elab_parts.specs.Alike.{AreScopesAlike}
 use Rattle.elab_parts.specs.Elaborated.{unseen}
 use Rattle.elab_parts.specs.Entries.{IsSignature, IsExtended, AreScopes}
 use Rattle.elab_parts.specs.Outcomes.{over}
@@ -25,7 +25,7 @@ use Rattle.elab_parts.proofs.Scopes.{type_thing, meaning_scoped, scopes_grow, al
 use Rattle.elab_parts.proofs.Overs.{some_entry, over_stays}
 use Rattle.elab_parts.proofs.Keeping.{length_extended}
 
-module _ (s s1 : List Tree) (grows : Grows s s1) (a b : Signature) (more : List SymbolTree) (names : Names) (sig : IsSignature s a.symbols) (scopes : AreScopes s (length a.symbols) names) (ext : IsExtended s a s1 b more) where
+module _ (s s1 : List Tree) (grows : Grows s s1) (a b : Signature) (more : List SymbolTree) (names : ScopeNames) (sig : IsSignature s a.symbols) (scopes : AreScopes s (length a.symbols) names) (ext : IsExtended s a s1 b more) where
   -- over the store that grew
   pub over_extended : (vars : List Word) → over s1 (symbols_at s1 b.symbols) names vars ≡ over s (symbols_at s a.symbols ++ more) names vars
   over_extended vars =
@@ -34,7 +34,7 @@ module _ (s s1 : List Tree) (grows : Grows s s1) (a b : Signature) (more : List 
   counted : length (symbols_at s a.symbols) ≡ length a.symbols
   counted = length-map a.symbols (symbol_at s)
 
-  pub alike_extended : (vars : List Word) → Alike (over s (symbols_at s a.symbols) names vars) (over s (symbols_at s a.symbols ++ more) names vars)
+  pub alike_extended : (vars : List Word) → AreScopesAlike (over s (symbols_at s a.symbols) names vars) (over s (symbols_at s a.symbols ++ more) names vars)
   alike_extended vars =
       let p : 0 < length a.symbols = some_entry s a.symbols sig in
       alike_more s s (symbols_at s a.symbols) more names names vars (subst (λ (n : ℕ). AreScopes s n names) (sym counted) scopes) (omega (arith, counted)) (λ qs x. refl) (λ qs x. refl)
@@ -50,7 +50,7 @@ module _ (s s1 : List Tree) (grows : Grows s s1) (a b : Signature) (more : List 
   })
 
   -- a type has the declaration's type variables alone
-  pub form_within : (vars : List Word) (f : Form) → form_fault (over s (symbols_at s a.symbols) names vars) false f ≡ None → TyVarsBelow (length vars) (type_at (over s (symbols_at s a.symbols ++ more) names vars) f)
+  pub form_within : (vars : List Word) (f : TypeExpression) → form_fault (over s (symbols_at s a.symbols) names vars) false f ≡ None → TyVarsBelow (length vars) (type_at (over s (symbols_at s a.symbols ++ more) names vars) f)
   form_within vars f h =
       let w = over s (symbols_at s a.symbols) names vars in
       let v = over s (symbols_at s a.symbols ++ more) names vars in

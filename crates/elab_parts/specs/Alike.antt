@@ -6,21 +6,21 @@ use Rattle.tasks.specs.declared.signature.SymbolKind.{SymbolKind}
 use Rattle.syntax_why.specs.Lexeme.{Word}
 use Rattle.elab_names.specs.Where.{Where, MeaningTree, Stands, Abbreviates}
 
-abbrev pub arity : List SymbolTree → MeaningTree → ℕ
-arity symbols (Stands k) = (symbol_or symbols k).vars
-arity symbols (Abbreviates n t) = n
+abbrev pub meaning_arity : List SymbolTree → MeaningTree → ℕ
+meaning_arity symbols (Stands k) = (symbol_or symbols k).vars
+meaning_arity symbols (Abbreviates n t) = n
 
-pub record Shape : Type 0 where
+pub record EntryShape : Type 0 where
   pub kind : SymbolKind
   pub count : ℕ
 
-abbrev pub shape : List SymbolTree → ℕ → Shape
+abbrev pub shape : List SymbolTree → ℕ → EntryShape
 shape symbols k = record { kind = (symbol_or symbols k).kind; count = length (symbol_or symbols k).args }
 
 pub record TypesAlike (w v : Where) : Type 0 where
-  pub types : (qs : List Word) (x : Word) → option_map (arity w.symbols) (w.types qs x) ≡ option_map (arity v.symbols) (v.types qs x)
+  pub types : (qs : List Word) (x : Word) → option_map (meaning_arity w.symbols) (w.types qs x) ≡ option_map (meaning_arity v.symbols) (v.types qs x)
   pub vars : w.vars ≡ v.vars
 
-pub record Alike (w v : Where) : Type 0 where
+pub record AreScopesAlike (w v : Where) : Type 0 where
   pub forms : TypesAlike w v
   pub names : (qs : List Word) (x : Word) → option_map (shape w.symbols) (w.names qs x) ≡ option_map (shape v.symbols) (v.names qs x)

@@ -15,7 +15,7 @@ use Rattle.tasks.specs.Equations.{type_variables}
 use Rattle.tasks.specs.Vocabulary.{is_constructor_kind}
 use Rattle.tasks.specs.Valid.{own_type}
 use Rattle.syntax_why.specs.Lexeme.{Word}
-use Rattle.names_space.specs.Names.{Names, Entry, number_of}
+use Rattle.names_space.specs.Names.{ScopeNames, ScopeEntry, number_of}
 use Rattle.names_space.specs.declared.Table.{Table}
 use Rattle.names_space.specs.declared.Table.TheVariants.{Types, Symbols}
 use Rattle.names_space.specs.declared.TypeName.{TypeName}
@@ -68,25 +68,25 @@ pub record IsSignature (s : List Tree) (is : List SymbolInfo) : Type 0 where
   pub typed : All (SymbolTyped s) is
   pub scoped : All IsScopedEntry (symbols_at s is)
 
--- further entries stand behind those of a signature, which else stays
+-- further entries come after those of a signature, which else stays
 pub record IsExtended (s : List Tree) (g : Signature) (s' : List Tree) (g' : Signature) (more : List SymbolTree) : Type 0 where
   pub symbols : symbols_at s' g'.symbols ≡ symbols_at s g.symbols ++ more
   pub signature : IsSignature s' g'.symbols
   pub ints : g'.ints ≡ g.ints
 
 -- a name of a type stands for one of so many entries, or for a type at its own type variables
-abbrev pub IsMeaning : List Tree → ℕ → TypeName → Type 0
-IsMeaning s count (stands.Entry k) = k < count
-IsMeaning s count (stands.Alias vars ty) = HoldsType s (record { 0 = ty }) × TyVarsBelow vars (tree_at s (record { 0 = ty }))
+abbrev pub IsTypeNameMeaning : List Tree → ℕ → TypeName → Type 0
+IsTypeNameMeaning s count (stands.Entry k) = k < count
+IsTypeNameMeaning s count (stands.Alias vars ty) = HoldsType s (record { 0 = ty }) × TyVarsBelow vars (tree_at s (record { 0 = ty }))
 
 abbrev pub IsThing : List Tree → ℕ → Table → TypeName → Type 0
-IsThing s count Types thing = IsMeaning s count thing
+IsThing s count Types thing = IsTypeNameMeaning s count thing
 IsThing s count Symbols thing = number_of thing < count
 IsThing s count _ thing = Unit {0}
 
-abbrev pub IsEntry : List Tree → ℕ → Entry → Type 0
+abbrev pub IsEntry : List Tree → ℕ → ScopeEntry → Type 0
 IsEntry s count e = IsThing s count e.table e.thing
 
 -- each name of the tables of types and symbols stands for one of so many entries, or for a type
-abbrev pub AreScopes : List Tree → ℕ → Names → Type 0
-AreScopes s count names = All (λ (es : List Entry). All (IsEntry s count) es) names.entries
+abbrev pub AreScopes : List Tree → ℕ → ScopeNames → Type 0
+AreScopes s count names = All (λ (es : List ScopeEntry). All (IsEntry s count) es) names.entries

@@ -1,18 +1,18 @@
--- What the elaboration of a declaration gives where it stands, or its first fault (Why3 manual, "logical declarations"). Each kind of
+-- What the elaboration of a declaration gives where it is, or its first fault (Why3 manual, "logical declarations"). Each kind of
 -- declaration says by these what it makes.
 use Rattle.std.specs.Prelude.{◌≡◌, ℕ, Bool, true, All, List, ◌++◌, map, length, Option, Some, None, option_map}
-use Rattle.trees.specs.Tree.{Tree}
+use Rattle.trees.specs.Tree.{Tree, Leaf, HTyRigid}
 use Rattle.tasks.specs.Task.{SymbolTree, DeclarationTree}
 use Rattle.tasks.specs.Meaning.{symbols_at, declarations_at, DeclHeld}
 use Rattle.tasks.specs.declared.signature.Signature.{Signature}
-use Rattle.names_space.specs.Names.{Names, is_declared, entries_of, innermost}
+use Rattle.names_space.specs.Names.{ScopeNames, is_declared, entries_of, innermost}
 use Rattle.names_space.specs.declared.Table.{Table}
 use Rattle.syntax_why.specs.Lexeme.{Word}
 use Rattle.elab_names.specs.declared.NamingFault.{NamingFault}
 use Rattle.elab_names.specs.declared.NamingFault.TheVariants as names
 use Rattle.elab_names.specs.Naming.{meaning_at, type_named, symbol_named}
 use Rattle.elab_names.specs.Where.{Where}
-use Rattle.elab_variables.specs.Seen.{Seen}
+use Rattle.elab_variables.specs.Seen.{SeenTree}
 use Rattle.elab_walk.specs.Patterns.{Notes}
 use Rattle.elab_walk.specs.Drafts.{match_at, MatchHeld}
 use Rattle.elab_parts.specs.declared.ElabFault.{ElabFault}
@@ -20,9 +20,9 @@ use Rattle.elab_parts.specs.declared.ElabFault.TheVariants as elab
 use Rattle.elab_parts.specs.declared.solution.TypingFault.{TypingFault}
 use Rattle.elab_parts.specs.declared.made.Elaborated.{Elaborated}
 use Rattle.elab_parts.specs.declared.made.Place.{Place}
-use Rattle.elab_parts.specs.Elaborated.{IsTypingFault, named, typed}
+use Rattle.elab_parts.specs.Elaborated.{IsTypingFault, elab_naming_fault, elab_typing_fault}
 use Rattle.elab_parts.specs.Entries.{tuple_in, wanting_tuples, IsSignature, AreScopes}
-use Rattle.elab_parts.specs.Declarations.{Called}
+use Rattle.elab_parts.specs.Declarations.{TokenName}
 
 -- where a declaration stands: its theory's path, the names of the open scopes, its number, the store, the signature and the scopes
 pub record Setting : Type 0 where
@@ -31,19 +31,19 @@ pub record Setting : Type 0 where
   pub decl : ℕ
   pub trees : List Tree
   pub symbols : List SymbolTree
-  pub scope : Names
+  pub scope : ScopeNames
 
 -- what it gives: further entries, the scopes with the names that it makes, declarations, the entries of its rigid type variables,
 -- and its matches in reading order
 pub record Outcome : Type 0 where
   pub symbols : List SymbolTree
-  pub scope : Names
+  pub scope : ScopeNames
   pub decls : List DeclarationTree
   pub rigid : List ℕ
   pub matches : List (ℕ × List Tree)
 
 -- what names mean over a signature
-abbrev pub over : List Tree → List SymbolTree → Names → List Word → Where
+abbrev pub over : List Tree → List SymbolTree → ScopeNames → List Word → Where
 over s symbols names vars = record {
   symbols = symbols;
   types = λ qs x. option_map (meaning_at s) (type_named names qs x);
@@ -57,17 +57,17 @@ abbrev pub around : Setting → List Word → Where
 around c vars = over c.trees c.symbols c.scope vars
 
 -- with the constructors of the tuples that are seen in it
-abbrev pub tuples_wanting : Setting → Seen → List SymbolTree
+abbrev pub tuples_wanting : Setting → SeenTree → List SymbolTree
 tuples_wanting c s = wanting_tuples c.symbols s.widths
 
-abbrev pub tupled : Setting → Seen → Where
-tupled c s = over c.trees (c.symbols ++ tuples_wanting c s) c.scope s.vars
+abbrev pub where_tuples_are : Setting → SeenTree → Where
+where_tuples_are c s = over c.trees (c.symbols ++ tuples_wanting c s) c.scope s.vars
 
-abbrev pub full_name : Setting → Called → Word
+abbrev pub full_name : Setting → TokenName → Word
 full_name c x = c.within ++ x.name
 
 -- whether the innermost scope declared a name in a table
-abbrev pub declared_in : Names → Table → Word → Bool
+abbrev pub declared_in : ScopeNames → Table → Word → Bool
 declared_in names t x = is_declared t x (entries_of names (innermost names))
 
 -- a name is refused for want of memory, or where it is declared
@@ -78,11 +78,11 @@ IsNameRefused declared token f = (declared ≡ true) × (f ≡ names.Duplicate t
 -- The first fault of the declaration of a number: of these names, or of types where no name is at fault. Want of memory tells nothing
 pub data IsRefusalFor (decl : ℕ) (first : Option NamingFault) (rigid : ℕ) (ns : Notes) (f : ElabFault) : Type 0 where
   wants_memory : f ≡ elab.Memory → IsRefusalFor decl first rigid ns f
-  of_names : (g : NamingFault) → f ≡ named decl g → first ≡ Some g → IsRefusalFor decl first rigid ns f
-  of_types : (g : TypingFault) → f ≡ typed decl g → first ≡ None → IsTypingFault rigid ns g → IsRefusalFor decl first rigid ns f
+  of_names : (g : NamingFault) → f ≡ elab_naming_fault decl g → first ≡ Some g → IsRefusalFor decl first rigid ns f
+  of_types : (g : TypingFault) → f ≡ elab_typing_fault decl g → first ≡ None → IsTypingFault rigid ns g → IsRefusalFor decl first rigid ns f
 
 -- A declaration without a fault of names gives an outcome: what is made, and what the signature and the scopes have then
-pub record IsElaboratedAs (Is : Outcome → Type 0) (first : Option NamingFault) (symbols : List SymbolTree) (g : Signature) (s' : List Tree) (g' : Signature) (scope' : Names) (made : Elaborated) : Type 0 where
+pub record IsElaboratedAs (Is : Outcome → Type 0) (first : Option NamingFault) (symbols : List SymbolTree) (g : Signature) (s' : List Tree) (g' : Signature) (scope' : ScopeNames) (made : Elaborated) : Type 0 where
   pub outcome : Outcome
   pub is : Is outcome
   pub named : first ≡ None
@@ -94,14 +94,17 @@ pub record IsElaboratedAs (Is : Outcome → Type 0) (first : Option NamingFault)
   pub matches : map (match_at s') made.matches ≡ outcome.matches
 
 -- what is made is held, and the signature and the scopes are kept well
-pub record IsKept (s : List Tree) (g : Signature) (names : Names) (made : Elaborated) : Type 0 where
+pub record IsKept (s : List Tree) (g : Signature) (names : ScopeNames) (made : Elaborated) : Type 0 where
   pub signature : IsSignature s g.symbols
   pub scopes : AreScopes s (length g.symbols) names
   pub decls : All (DeclHeld s) made.decls
   pub matches : All (MatchHeld s) made.matches
 
-abbrev pub setting : Place → List Tree → Signature → Names → Setting
+abbrev pub setting : Place → List Tree → Signature → ScopeNames → Setting
 setting p s g names = record { theory = p.theory.now; within = p.within.now; decl = p.decl; trees = s; symbols = symbols_at s g.symbols; scope = names }
 
-abbrev pub standing : Word → Word → ℕ → List Tree → Signature → Names → Setting
-standing theory within at s g names = record { theory = theory; within = within; decl = at; trees = s; symbols = symbols_at s g.symbols; scope = names }
+abbrev pub setting_where : Word → Word → ℕ → List Tree → Signature → ScopeNames → Setting
+setting_where theory within at s g names = record { theory = theory; within = within; decl = at; trees = s; symbols = symbols_at s g.symbols; scope = names }
+
+abbrev pub rigid_types : List ℕ → List Tree
+rigid_types ks = map (λ k. Leaf (HTyRigid k)) ks

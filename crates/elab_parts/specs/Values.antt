@@ -33,17 +33,17 @@ abbrev pub IsTypeNumbered : List Tree → ℕ → Solution → ℕ → Option Te
 IsTypeNumbered s rigid solution i None = (rigid ≤ i) × (value_of solution i ≡ None)
 IsTypeNumbered s rigid solution i (Some id) = HoldsType s id × IsValueAt s rigid solution i id
 
-pub record AreValues (s : List Tree) (rigid : ℕ) (solution : Solution) (n : ℕ) (types : List TermId) : Type 0 where
+pub record AreSolutionValues (s : List Tree) (rigid : ℕ) (solution : Solution) (n : ℕ) (types : List TermId) : Type 0 where
   pub count : length types ≡ n
   pub held : All (HoldsType s) types
   pub values : (i : ℕ) (d : TermId) → i < n → IsValueAt s rigid solution i (get_or types i d)
 
--- the notes behind so many takers, which are the declaration's own type variables
-abbrev pub behind : ℕ → Notes → Notes
-behind rigid ns = record { equations = ns.equations; takers = drop rigid ns.takers; matches = ns.matches }
+-- the notes after so many takers, which are the declaration's own type variables
+abbrev pub notes_after : ℕ → Notes → Notes
+notes_after rigid ns = record { equations = ns.equations; takers = drop rigid ns.takers; matches = ns.matches }
 
 -- the types of all type variables at every solution, by their numbers
-pub record AreTypes (s : List Tree) (rigid : ℕ) (ns : Notes) (types : List TermId) : Type 0 where
+pub record AreSolvedTypes (s : List Tree) (rigid : ℕ) (ns : Notes) (types : List TermId) : Type 0 where
   pub determined : IsDetermined rigid ns
   pub held : All (HoldsType s) types
   pub count : length types ≡ rigid + taken ns

@@ -1,6 +1,6 @@
 -- Names in code.
 use Rattle.elab_parts.specs.declared.names.Written.{Written}
-use Rattle.elab_parts.specs.Declarations.{Called, called}
+use Rattle.elab_parts.specs.Declarations.{TokenName, token_name}
 
-abbrev pub written : Written → Called
-written w = called w.at w.text.now
+abbrev pub written_token_name : Written → TokenName
+written_token_name w = token_name w.at w.text.now

@@ -1,5 +1,5 @@
 // Entries of a signature: type symbols, constructors with their projections, and tuples.
-// They stand on signatures and types; each kind of declaration enters what it makes by them.
+// They depend on signatures and types; each kind of declaration enters what it makes by them.
 ghost use Rattle.std.specs.Prelude.{◌≡◌, ◌+◌, ◌<◌, ◌^◌, ◌++◌, ◌∷◌, [], ℕ, List, length, All, IfOk, OnOk};
 ghost use Rattle.std.specs.Fmt.{decimal};
 ghost use Rattle.trees.specs.Tree.{Tree};
@@ -20,7 +20,7 @@ use tasks::{Signature, SymbolInfo, SymbolKind};
 use term_store::{Grow, Store};
 use trees::{Node, TermId};
 
-/// A word behind another.
+/// A word after another.
 pub fn join_words(alloc: Global, first: &[u8], second: &[u8]) -> Result<Text, AllocError>
     ensures { IfOk result (λ it. it ≡ first.now ++ second.now) }
 {

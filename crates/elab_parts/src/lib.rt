@@ -1,6 +1,6 @@
-//! What the elaboration of each kind of declaration stands on: entries of a signature, the names that a declaration makes, and
+//! What the elaboration of each kind of declaration depends on: entries of a signature, the names that a declaration makes, and
 //! formulas from expressions by the walk of trees and the solution of type equations.
-//! It stands on the walks of names and of trees; the kinds of declarations stand on it.
+//! It depends on the walks of names and of trees; the kinds of declarations depend on it.
 #![tactic(auto)]
 
 mod entries;
@@ -12,7 +12,7 @@ ghost use Rattle.std.specs.Prelude.{◌≡◌};
 
 pub use entries::{join_words, push_constructor, push_entry, push_tuples, push_type, variables};
 pub use made::{Elaborated, Place, declare, naming_fault, typing_fault};
-pub use names::{Written, gather, find_repeated, texts_of, world_over};
+pub use names::{Written, find_repeated, gather, texts_of, world_over};
 pub use solution::{Formula, TypingFault, put_matches, put_trees, solve_draft, solve_formula};
 use std::alloc::{AllocError, AllocFailed};
 

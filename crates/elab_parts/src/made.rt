@@ -1,8 +1,8 @@
 // What the elaboration of a declaration gives, and why a declaration is refused.
-// They stand on the declarations of tasks; each kind of declaration gives or answers these.
+// They depend on the declarations of tasks; each kind of declaration gives or answers these.
 ghost use Rattle.std.specs.Prelude.{◌≡◌, true, false, OnOk, IfErr};
 ghost use Rattle.names_space.specs.Names.{with_name};
-ghost use Rattle.elab_parts.specs.Elaborated.{named, typed};
+ghost use Rattle.elab_parts.specs.Elaborated.{elab_naming_fault, elab_typing_fault};
 ghost use Rattle.elab_parts.specs.Outcomes.{declared_in, IsNameRefused};
 
 use crate::ElabFault;
@@ -34,7 +34,7 @@ pub struct Place<'a> {
 
 /// A fault of names in the declaration of a number.
 pub fn naming_fault(decl: usize, fault: NamingFault) -> ElabFault
-    ensures { result ≡ named decl fault }
+    ensures { result ≡ elab_naming_fault decl fault }
 {
     match fault {
         NamingFault::Memory => ElabFault::Memory,
@@ -47,7 +47,7 @@ pub fn naming_fault(decl: usize, fault: NamingFault) -> ElabFault
 
 /// A fault of types in the declaration of a number.
 pub fn typing_fault(decl: usize, fault: TypingFault) -> ElabFault
-    ensures { result ≡ typed decl fault }
+    ensures { result ≡ elab_typing_fault decl fault }
 {
     match fault {
         TypingFault::Memory => ElabFault::Memory,
@@ -56,7 +56,7 @@ pub fn typing_fault(decl: usize, fault: TypingFault) -> ElabFault
     }
 }
 
-/// The innermost scope declares a name, which stands at a token. That a name is never unknown there is known.
+/// The innermost scope declares a name, which is at a token. That a name is never unknown there is known.
 pub fn declare(
     scope: &mut Scope,
     table: Table,

@@ -1,17 +1,17 @@
-// Names that a declaration makes, and what names mean where it stands.
-// They stand on scopes and signatures; each kind of declaration stands on them.
+// Names that a declaration makes, and what names mean where it is.
+// They depend on scopes and signatures; each kind of declaration depends on them.
 ghost use Rattle.std.specs.Prelude.{◌≡◌, ℕ, List, [], ◌++◌, length, map, IfOk, OnOk, option_map};
 ghost use Rattle.std.specs.Option.{is_some};
 ghost use Rattle.trees.specs.Tree.{Tree};
 ghost use Rattle.tasks.specs.Meaning.{symbols_at};
-ghost use Rattle.elab_names.specs.Abstract.{texts};
+ghost use Rattle.elab_names.specs.Abstract.{texts_of_names};
 ghost use Rattle.elab_names.specs.Where.{place_of};
 ghost use Rattle.elab_names.specs.Naming.{where_at};
 ghost use Rattle.elab_names.specs.declared.NamingFault.TheVariants.{Duplicate};
 ghost use Rattle.elab_walk.specs.Scoped.{IsScoped};
 ghost use Rattle.elab_walk.specs.Drafts.{WorldHeld};
 ghost use Rattle.elab_parts.specs.Declarations.{word, words, list_fault};
-ghost use Rattle.elab_parts.specs.Written.{written};
+ghost use Rattle.elab_parts.specs.Written.{written_token_name};
 ghost use Rattle.elab_parts.specs.Entries.{tuple_in, IsSignature, AreScopes};
 ghost use Rattle.elab_parts.specs.Outcomes.{over};
 
@@ -29,9 +29,10 @@ pub struct Written<'a> {
     pub text: &'a [u8],
 }
 
-/// Names, behind those that are there.
+/// Names, after those that are there.
 pub fn gather<'a>(list: &mut Vec<Written<'a>>, names: &'a [Name]) -> Result<(), AllocError>
-    ensures { OnOk result (map written list.new.items ≡ map written list.old.items ++ map word
+    ensures { OnOk result (map written_token_name list.new.items
+        ≡ map written_token_name list.old.items ++ map word
         names.now) }
 {
     let Some((first, rest)) = names.split_first() else {
@@ -46,7 +47,7 @@ pub fn gather<'a>(list: &mut Vec<Written<'a>>, names: &'a [Name]) -> Result<(), 
 
 // Whether a name is among these.
 fn is_among(list: &[Written<'_>], name: &[u8]) -> bool
-    ensures { result ≡ is_some (place_of name.now (words (map written list.now))) }
+    ensures { result ≡ is_some (place_of name.now (words (map written_token_name list.now))) }
 {
     match list.split_first() {
         Some((first, rest)) => first.text == name || is_among(rest, name),
@@ -56,7 +57,7 @@ fn is_among(list: &[Written<'_>], name: &[u8]) -> bool
 
 /// The token of the second of two equal names in a list.
 pub fn find_repeated(list: &[Written<'_>]) -> Option<usize>
-    ensures { option_map Duplicate result ≡ list_fault [] (map written list.now) }
+    ensures { option_map Duplicate result ≡ list_fault [] (map written_token_name list.now) }
 {
     for (number, name) in list.iter().enumerate() {
         if is_among(&list[..number], name.text) {
@@ -68,7 +69,7 @@ pub fn find_repeated(list: &[Written<'_>]) -> Option<usize>
 
 /// The texts of names.
 pub fn texts_of(alloc: Global, names: &[Name]) -> Result<Vec<Text>, AllocError>
-    ensures { IfOk result (λ them. them.items ≡ texts names.now) }
+    ensures { IfOk result (λ them. them.items ≡ texts_of_names names.now) }
 {
     let mut them = Vec::new(alloc);
     for name in names {

@@ -10,7 +10,7 @@ ghost use Rattle.elab_walk.specs.Pieces.{piece};
 ghost use Rattle.elab_walk.specs.Scoped.{IsScoped};
 ghost use Rattle.elab_walk.specs.Drafts.{HoldsType, WorldHeld, IsReady, MatchHeld, match_at, notes_at, instances};
 ghost use Rattle.elab_parts.specs.Elaborated.{IsSolved, IsTypingFault};
-ghost use Rattle.elab_parts.specs.Values.{AreKinds, IsTypeNumbered, AreValues, AreTypes, behind, IsFirstOpen, match_instance, FormulaHeld};
+ghost use Rattle.elab_parts.specs.Values.{AreKinds, IsTypeNumbered, AreSolutionValues, AreSolvedTypes, notes_after, IsFirstOpen, match_instance, FormulaHeld};
 
 use binders::inst_types;
 use elab_names::World;
@@ -96,7 +96,8 @@ fn determine_types(
     solution: &Solution,
 ) -> Result<Vec<TermId>, TypingFault>
     requires { AreKinds store.old rigid solution.now }
-    ensures ok { IfOk result (λ types. AreValues store.new rigid solution.now (length takers.now)
+    ensures ok { IfOk result (λ types. AreSolutionValues store.new rigid solution.now
+        (length takers.now)
         types.items) }
     ensures err { IfErr result (IsFirstOpen rigid solution.now takers.now) }
     ensures grows { Grows store.old store.new }
@@ -120,16 +121,17 @@ pub fn solve_draft(
 ) -> Result<Vec<TermId>, TypingFault>
     requires ready { IsReady store.old draft.now }
     requires own { rigid ≤ length draft.now.takers }
-    ensures ok { IfOk result (λ types. AreTypes store.new rigid
-        (behind rigid (notes_at store.old draft.now)) types.items) }
-    ensures err { IfErr result (IsTypingFault rigid (behind rigid (notes_at store.old draft.now))) }
+    ensures ok { IfOk result (λ types. AreSolvedTypes store.new rigid
+        (notes_after rigid (notes_at store.old draft.now)) types.items) }
+    ensures err { IfErr result (IsTypingFault rigid
+        (notes_after rigid (notes_at store.old draft.now))) }
     ensures grows { Grows store.old store.new }
 {
     let solution = solve(alloc, store, rigid, draft.equations.as_slice())?;
     determine_types(alloc, store, rigid, draft.takers.as_slice(), &solution)
 }
 
-/// Trees at types, behind those that are there.
+/// Trees at types, after those that are there.
 pub fn put_trees(
     alloc: Global,
     store: &mut Store,
@@ -175,7 +177,7 @@ fn put_match(
     })
 }
 
-/// Matches at types, behind those that are there.
+/// Matches at types, after those that are there.
 pub fn put_matches(
     alloc: Global,
     store: &mut Store,

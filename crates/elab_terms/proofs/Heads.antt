@@ -9,26 +9,26 @@ use Rattle.syntax_why.specs.declared.declarations.MemberTree.{MemberTree}
 use Rattle.syntax_why.specs.Declarations.{function_decl, predicate_decl, constant_decl}
 use Rattle.syntax_why.specs.Surface.{form_of, tree_of}
 use Rattle.syntax_why.specs.SurfaceDeclarations.{declared_name, param_of, member_of}
-use Rattle.elab_parts.specs.Declarations.{declaration, members}
+use Rattle.elab_parts.specs.Declarations.{declaration, member_group}
 use Rattle.elab_groups.specs.Bodies.{AreDefined}
-use Rattle.elab_terms.specs.Heads.{first_member, other_members}
+use Rattle.elab_terms.specs.Heads.{first_member, later_members}
 
 pub function_members : (a : At) (n : OpName) (ps : List ParamTree) (t : TypeTree) (b : Option Expr) (ms : List MemberTree)
-    → declaration (function_decl a (declared_name n) (map param_of ps) (form_of t) (option_map tree_of b) (map member_of ms)) ≡ Some (members (first_member n ps (Some t) b ∷ other_members ms))
+    → declaration (function_decl a (declared_name n) (map param_of ps) (form_of t) (option_map tree_of b) (map member_of ms)) ≡ Some (member_group (first_member n ps (Some t) b ∷ later_members ms))
 function_members a n ps t None ms = refl
 function_members a n ps t (Some e) ms = refl
 
 pub predicate_members : (a : At) (n : OpName) (ps : List ParamTree) (b : Option Expr) (ms : List MemberTree)
-    → declaration (predicate_decl a (declared_name n) (map param_of ps) (option_map tree_of b) (map member_of ms)) ≡ Some (members (first_member n ps None b ∷ other_members ms))
+    → declaration (predicate_decl a (declared_name n) (map param_of ps) (option_map tree_of b) (map member_of ms)) ≡ Some (member_group (first_member n ps None b ∷ later_members ms))
 predicate_members a n ps None ms = refl
 predicate_members a n ps (Some e) ms = refl
 
 pub constant_members : (a : At) (n : OpName) (t : TypeTree) (b : Option Expr)
-    → declaration (constant_decl a (declared_name n) (form_of t) (option_map tree_of b)) ≡ Some (members (first_member n [] (Some t) b ∷ []))
+    → declaration (constant_decl a (declared_name n) (form_of t) (option_map tree_of b)) ≡ Some (member_group (first_member n [] (Some t) b ∷ []))
 constant_members a n t None = refl
 constant_members a n t (Some e) = refl
 
--- those behind `with` have definitions
-pub others_defined : (ms : List MemberTree) → AreDefined (other_members ms)
+-- those after `with` have definitions
+pub others_defined : (ms : List MemberTree) → AreDefined (later_members ms)
 others_defined [] = tt
 others_defined (m ∷ ms) = (refl, others_defined ms)

@@ -3,7 +3,7 @@ use Rattle.std.proofs.Common.{◌≡◌, ℕ, List, [], ◌∷◌, map, None, re
 use Rattle.std.specs.Prelude.{OnOk}
 use Rattle.trees.specs.Tree.{Tree}
 use Rattle.syntax_why.specs.declared.names.Name.{Name}
-use Rattle.elab_names.specs.Abstract.{Expression, texts}
+use Rattle.elab_names.specs.Abstract.{Expression, texts_of_names}
 use Rattle.elab_names.specs.Where.{Where}
 use Rattle.elab_walk.specs.Pieces.{piece}
 use Rattle.elab_parts.specs.declared.solution.TypingFault.{TypingFault}
@@ -22,6 +22,6 @@ pub fault_over : (w v : Where) (m n : ℕ) (e : Expression) (f : TypingFault) �
 fault_over w v m n e f p q h = subst (λ (x : Where). IsTypingFault n (piece x [] n None e).notes f) p (subst (λ (k : ℕ). IsTypingFault k (piece w [] k None e).notes f) q h)
 
 -- the texts of names
-pub words_texts : (ns : List Name) → words (map word ns) ≡ texts ns
+pub words_texts : (ns : List Name) → words (map word ns) ≡ texts_of_names ns
 words_texts [] = refl
 words_texts (n ∷ ns) = ap (λ ws. n.text ∷ ws) (words_texts ns)

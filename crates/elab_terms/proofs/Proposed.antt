@@ -10,7 +10,7 @@ use Rattle.tasks.specs.Meaning.{symbol_at, symbols_at, declarations_at, DeclHeld
 use Rattle.tasks.specs.declared.signature.Signature.{Signature}
 use Rattle.names_space.specs.declared.Table.TheVariants.{Propositions}
 use Rattle.names_space.specs.declared.TypeName.TheVariants as stands
-use Rattle.names_space.specs.Names.{Names, with_name}
+use Rattle.names_space.specs.Names.{ScopeNames, with_name}
 use Rattle.syntax_why.specs.Lexeme.{Word}
 use Rattle.syntax_why.specs.declared.declarations.PropKind.{PropKind}
 use Rattle.elab_names.specs.Abstract.{Expression}
@@ -18,14 +18,14 @@ use Rattle.elab_names.specs.declared.NamingFault.{NamingFault}
 use Rattle.elab_names.specs.Faults.{fault}
 use Rattle.elab_names.specs.Naming.{Tells}
 use Rattle.elab_names.specs.Where.{Where}
-use Rattle.elab_walk.specs.Pieces.{Piece, piece}
-use Rattle.elab_variables.specs.Seen.{Seen}
+use Rattle.elab_walk.specs.Pieces.{NotedTree, piece}
+use Rattle.elab_variables.specs.Seen.{SeenTree}
 use Rattle.elab_walk.specs.Drafts.{match_at, MatchHeld}
 use Rattle.elab_parts.specs.declared.made.Elaborated.{Elaborated}
 use Rattle.elab_parts.specs.declared.made.Place.{Place}
 use Rattle.elab_parts.specs.declared.solution.TypingFault.{TypingFault}
-use Rattle.elab_parts.specs.Elaborated.{IsSolved, IsTypingFault, named, typed}
-use Rattle.elab_parts.specs.Declarations.{Called, proposition, made_by, made_fault}
+use Rattle.elab_parts.specs.Elaborated.{IsSolved, IsTypingFault, elab_naming_fault, elab_typing_fault}
+use Rattle.elab_parts.specs.Declarations.{TokenName, proposition_declaration, made_names, made_fault}
 use Rattle.elab_parts.specs.Entries.{IsExtended, AreScopes, wanting_tuples}
 use Rattle.elab_parts.specs.Outcomes.{Setting, over, around, setting, declared_in, IsNameRefused, IsKept}
 use Rattle.elab_terms.specs.Outcomes.{proposition_seen, proposition_piece, rigid_names, entry_numbers, said_as, schematic, IsTypedProposition, IsElaborated, IsRefusal, names_fault, notes_of, rigid_of}
@@ -35,15 +35,15 @@ use Rattle.elab_parts.proofs.Keeping.{over_kept, length_extended}
 use Rattle.elab_parts.proofs.Refused.{no_fault, name_refused, name_free, made_refusal, used_refusal, typing_refusal}
 
 -- a proposition, whose name stands for its number in the scopes afterwards
-abbrev pub named_after : Place → Names → Word → Names
+abbrev pub named_after : Place → ScopeNames → Word → ScopeNames
 named_after p names x = with_name Propositions x (stands.Entry p.decl) true names
 
-module _ (p : Place) (s : List Tree) (g : Signature) (names : Names) (k : PropKind) (x : Called) (e : Expression) where
+module _ (p : Place) (s : List Tree) (g : Signature) (names : ScopeNames) (k : PropKind) (x : TokenName) (e : Expression) where
   abbrev c : Setting
   c = setting p s g names
 
   abbrev made_here : Option NamingFault
-  made_here = made_fault (declared_in names) [] (made_by (proposition k x e))
+  made_here = made_fault (declared_in names) [] (made_names (proposition_declaration k x e))
 
   abbrev used_here : Option NamingFault
   used_here = fault (around c []) true [] true e
@@ -54,26 +54,26 @@ module _ (p : Place) (s : List Tree) (g : Signature) (names : Names) (k : PropKi
   pub used_kept : fault (around (setting p s g (named_after p names x.name)) []) true [] true e ≡ fault (around (setting p s g names) []) true [] true e
   used_kept = ap (λ (w : Where). fault w true [] true e) (over_kept s (symbols_at s g.symbols) x.name (stands.Entry p.decl) names [])
 
-  pub name_refusal : (f : NamingFault) → IsNameRefused (declared_in names Propositions x.name) x.at f → IsRefusal (setting p s g names) (proposition k x e) (named p.decl f)
-  name_refusal f h = made_refusal p.decl (rigid_of c (proposition k x e)) (notes_of c (proposition k x e)) made_here used_here f (name_refused (declared_in names Propositions x.name) x.at f None h)
+  pub name_refusal : (f : NamingFault) → IsNameRefused (declared_in names Propositions x.name) x.at f → IsRefusal (setting p s g names) (proposition_declaration k x e) (elab_naming_fault p.decl f)
+  name_refusal f h = made_refusal p.decl (rigid_of c (proposition_declaration k x e)) (notes_of c (proposition_declaration k x e)) made_here used_here f (name_refused (declared_in names Propositions x.name) x.at f None h)
 
   module _ (free : declared_in names Propositions x.name ≡ false) where
-    made_free : made_fault (declared_in names) [] (made_by (proposition k x e)) ≡ None
+    made_free : made_fault (declared_in names) [] (made_names (proposition_declaration k x e)) ≡ None
     made_free = name_free (declared_in names Propositions x.name) x.at None free
 
-    pub use_refusal : (f : NamingFault) → Tells (Err f) (fault (around (setting p s g (named_after p names x.name)) []) true [] true e) → IsRefusal (setting p s g names) (proposition k x e) (named p.decl f)
-    use_refusal f h = used_refusal p.decl (rigid_of c (proposition k x e)) (notes_of c (proposition k x e)) made_here used_here f made_free (subst (λ (m : Option NamingFault). Tells (Err f) m) used_kept h)
+    pub use_refusal : (f : NamingFault) → Tells (Err f) (fault (around (setting p s g (named_after p names x.name)) []) true [] true e) → IsRefusal (setting p s g names) (proposition_declaration k x e) (elab_naming_fault p.decl f)
+    use_refusal f h = used_refusal p.decl (rigid_of c (proposition_declaration k x e)) (notes_of c (proposition_declaration k x e)) made_here used_here f made_free (subst (λ (m : Option NamingFault). Tells (Err f) m) used_kept h)
 
     module _ (right : fault (around (setting p s g (named_after p names x.name)) []) true [] true e ≡ None) where
-      all_named : names_fault (setting p s g names) (proposition k x e) ≡ None
+      all_named : names_fault (setting p s g names) (proposition_declaration k x e) ≡ None
       all_named = no_fault made_here used_here made_free (sym used_kept ∙ right)
 
       pub type_refusal : (f : TypingFault) → IsTypingFault (length (proposition_seen e).vars) (proposition_piece (setting p s g (named_after p names x.name)) e).notes f
-          → IsRefusal (setting p s g names) (proposition k x e) (typed p.decl f)
-      type_refusal f h = typing_refusal p.decl (rigid_of c (proposition k x e)) (notes_of c (proposition k x e)) (names_fault c (proposition k x e)) f all_named (subst (λ (q : Piece). IsTypingFault (length (proposition_seen e).vars) q.notes f) piece_kept h)
+          → IsRefusal (setting p s g names) (proposition_declaration k x e) (elab_typing_fault p.decl f)
+      type_refusal f h = typing_refusal p.decl (rigid_of c (proposition_declaration k x e)) (notes_of c (proposition_declaration k x e)) (names_fault c (proposition_declaration k x e)) f all_named (subst (λ (q : NotedTree). IsTypingFault (length (proposition_seen e).vars) q.notes f) piece_kept h)
 
       pub elaborated : (s' : List Tree) (g' : Signature) (made : Elaborated) → IsTypedProposition p s g (named_after p names x.name) k x.name e s' g' made
-          → IsElaborated (setting p s g names) (proposition k x e) g s' g' (named_after p names x.name) made
+          → IsElaborated (setting p s g names) (proposition_declaration k x e) g s' g' (named_after p names x.name) made
       elaborated s' g' made h = record {
         outcome = record {
           symbols = wanting_tuples (symbols_at s g.symbols) (proposition_seen e).widths ++ map rigid_symbol (rigid_names k (proposition_seen e).vars);
@@ -84,7 +84,7 @@ module _ (p : Place) (s : List Tree) (g : Signature) (names : Names) (k : PropKi
         };
         is = record {
           formula = h.formula;
-          solved = subst (λ (q : Piece). IsSolved (length (proposition_seen e).vars) q h.formula (map (match_at s') made.matches)) piece_kept h.solved;
+          solved = subst (λ (q : NotedTree). IsSolved (length (proposition_seen e).vars) q h.formula (map (match_at s') made.matches)) piece_kept h.solved;
           symbols = refl;
           scope = refl;
           rigid = h.rigid;
@@ -112,17 +112,17 @@ module _ (p : Place) (s : List Tree) (g : Signature) (names : Names) (k : PropKi
       }
 
 -- the parts of a proposition whose names are there, where `sn` is what is seen in it
-module _ (p : Place) (s s1 s2 : List Tree) (g g1 g2 : Signature) (names : Names) (k : PropKind) (x : Word) (e : Expression) (made : Elaborated) where
-  abbrev tuples : Seen → List SymbolTree
+module _ (p : Place) (s s1 s2 : List Tree) (g g1 g2 : Signature) (names : ScopeNames) (k : PropKind) (x : Word) (e : Expression) (made : Elaborated) where
+  abbrev tuples : SeenTree → List SymbolTree
   tuples sn = wanting_tuples (symbols_at s g.symbols) sn.widths
 
-  abbrev piece_at : Seen → Piece
+  abbrev piece_at : SeenTree → NotedTree
   piece_at sn = piece (over s (symbols_at s g.symbols ++ tuples sn) names sn.vars) [] (length sn.vars) None e
 
-  placed : (sn : Seen) → IsExtended s g s1 g1 (tuples sn) → length (symbols_at s g.symbols ++ tuples sn) ≡ length g1.symbols
+  placed : (sn : SeenTree) → IsExtended s g s1 g1 (tuples sn) → length (symbols_at s g.symbols ++ tuples sn) ≡ length g1.symbols
   placed sn h = length-append (symbols_at s g.symbols) (tuples sn) ∙ ap (λ (n : ℕ). n + length (tuples sn)) (length-map g.symbols (symbol_at s)) ∙ sym (length_extended (tuples sn) h)
 
-  pub typed_proposition : (sn : Seen) → sn ≡ proposition_seen e → IsExtended s g s1 g1 (tuples sn) → (formula : Tree) (ms : List (ℕ × List Tree)) → IsSolved (length sn.vars) (piece_at sn) formula ms
+  pub typed_proposition : (sn : SeenTree) → sn ≡ proposition_seen e → IsExtended s g s1 g1 (tuples sn) → (formula : Tree) (ms : List (ℕ × List Tree)) → IsSolved (length sn.vars) (piece_at sn) formula ms
       → IsExtended s1 g1 s2 g2 (map rigid_symbol (rigid_names k sn.vars)) → made.rigid ≡ entry_numbers (length g1.symbols) (rigid_names k sn.vars)
       → declarations_at s2 made.decls ≡ record { theory = p.theory.now; name = p.within.now ++ x; vars = schematic k sn.vars; body = Says (said_as k made.rigid formula) } ∷ []
       → map (match_at s2) made.matches ≡ ms → All (DeclHeld s2) made.decls → All (MatchHeld s2) made.matches → IsTypedProposition p s g names k x e s2 g2 made
@@ -130,11 +130,11 @@ module _ (p : Place) (s s1 s2 : List Tree) (g g1 g2 : Signature) (names : Names)
       let both = extended_both (tuples sn) (map rigid_symbol (rigid_names k sn.vars)) h r in
       let numbers : made.rigid ≡ entry_numbers (length (symbols_at s g.symbols ++ tuples sn)) (rigid_names k sn.vars) = n ∙ ap (λ (i : ℕ). entry_numbers i (rigid_names k sn.vars)) (sym (placed sn h)) in
       record {
-        extended = subst (λ (v : Seen). IsExtended s g s2 g2 (tuples v ++ map rigid_symbol (rigid_names k v.vars))) q both;
+        extended = subst (λ (v : SeenTree). IsExtended s g s2 g2 (tuples v ++ map rigid_symbol (rigid_names k v.vars))) q both;
         formula = formula;
-        solved = subst (λ (v : Seen). IsSolved (length v.vars) (piece_at v) formula (map (match_at s2) made.matches)) q (subst (IsSolved (length sn.vars) (piece_at sn) formula) (sym m) t);
-        rigid = subst (λ (v : Seen). made.rigid ≡ entry_numbers (length (symbols_at s g.symbols ++ tuples v)) (rigid_names k v.vars)) q numbers;
-        decls = subst (λ (v : Seen). declarations_at s2 made.decls ≡ record { theory = p.theory.now; name = p.within.now ++ x; vars = schematic k v.vars; body = Says (said_as k made.rigid formula) } ∷ []) q d;
+        solved = subst (λ (v : SeenTree). IsSolved (length v.vars) (piece_at v) formula (map (match_at s2) made.matches)) q (subst (IsSolved (length sn.vars) (piece_at sn) formula) (sym m) t);
+        rigid = subst (λ (v : SeenTree). made.rigid ≡ entry_numbers (length (symbols_at s g.symbols ++ tuples v)) (rigid_names k v.vars)) q numbers;
+        decls = subst (λ (v : SeenTree). declarations_at s2 made.decls ≡ record { theory = p.theory.now; name = p.within.now ++ x; vars = schematic k v.vars; body = Says (said_as k made.rigid formula) } ∷ []) q d;
         decls_held = dh;
         matches_held = mh;
       }

@@ -7,16 +7,16 @@ use Rattle.tasks.specs.Equations.{cells}
 use Rattle.syntax_why.specs.Lexeme.{Word}
 use Rattle.syntax_why.specs.declared.declarations.PropKind.TheVariants.{Axiom, Goal}
 use Rattle.names_space.specs.declared.Table.TheVariants.{Types}
-use Rattle.names_space.specs.Names.{start, with_entry}
-use Rattle.elab_names.specs.Abstract.{variable, composed, no_forms, more_forms, apply, equated, cast, literal, quantified, none}
+use Rattle.names_space.specs.Names.{empty_names, with_entry}
+use Rattle.elab_names.specs.Abstract.{variable_type, composed_type, no_types, more_types, applied_expression, equality_expression, cast_expression, integer_expression, quantified_expression, no_expressions}
 use Rattle.elab_names.specs.declared.NamingFault.TheVariants.{Unknown, Duplicate, Arity}
 use Rattle.elab_parts.specs.Entries.{tuple_entries, wanting_tuples}
-use Rattle.elab_parts.specs.Declarations.{Called, called, abstract_type, alias, proposition, made_by, made_fault}
+use Rattle.elab_parts.specs.Declarations.{TokenName, token_name, abstract_type, alias, proposition_declaration, made_names, made_fault}
 use Rattle.elab_parts.specs.Outcomes.{Setting, declared_in}
 use Rattle.elab_terms.specs.Outcomes.{type_outcome, proposition_seen, rigid_names, entry_numbers, names_fault}
 
-abbrev named : ℕ → Word → Called
-named i x = called i x
+abbrev named : ℕ → Word → TokenName
+named i x = token_name i x
 
 -- a theory `T` that has `int` and a type `t`, which it declared
 abbrev here : Setting
@@ -26,10 +26,10 @@ here = record {
   decl = 3;
   trees = [];
   symbols = int_symbol ∷ record { theory = codes "T"; name = codes "t"; kind = Kind; vars = 0; args = []; result = None } ∷ [];
-  scope = with_entry Types (codes "t") 1 true start;
+  scope = with_entry Types (codes "t") 1 true empty_names;
 }
 
--- `type u 'a`: the entry behind the others, whose name has those of the scopes before it
+-- `type u 'a`: the entry after the others, whose name has those of the scopes before it
 type_gives : (type_outcome here (named 5 (codes "u")) 1).symbols ≡ record { theory = codes "T"; name = codes "S.u"; kind = Kind; vars = 1; args = []; result = None } ∷ []
 type_gives = refl
 
@@ -38,26 +38,26 @@ declared_twice : names_fault here (abstract_type (named 5 (codes "t")) []) ≡ S
 declared_twice = refl
 
 -- `goal t: ..` may have the name, since it is of another table
-other_table : made_fault (declared_in here.scope) [] (made_by (proposition Goal (named 5 (codes "t")) (literal 7 (pos 0)))) ≡ None
+other_table : made_fault (declared_in here.scope) [] (made_names (proposition_declaration Goal (named 5 (codes "t")) (integer_expression 7 (pos 0)))) ≡ None
 other_table = refl
 
 -- `type u 'a 'a`: a parameter twice
 parameter_twice : names_fault here (abstract_type (named 5 (codes "u")) (named 6 (codes "'a") ∷ named 7 (codes "'a") ∷ [])) ≡ Some (Duplicate 7)
 parameter_twice = refl
 
--- `type u 'a = t 'b`: an arity stands before the arguments' faults
-arity_first : names_fault here (alias (named 5 (codes "u")) (named 6 (codes "'a") ∷ []) (composed 8 [] (codes "t") (more_forms (variable 9 (codes "'b")) no_forms))) ≡ Some (Arity 8)
+-- `type u 'a = t 'b`: an arity is before the arguments' faults
+arity_first : names_fault here (alias (named 5 (codes "u")) (named 6 (codes "'a") ∷ []) (composed_type 8 [] (codes "t") (more_types (variable_type 9 (codes "'b")) no_types))) ≡ Some (Arity 8)
 arity_first = refl
 
 -- `type u 'a = 'b`: a type variable that the left side lacks
-unknown_variable : names_fault here (alias (named 5 (codes "u")) (named 6 (codes "'a") ∷ []) (variable 8 (codes "'b"))) ≡ Some (Unknown 8)
+unknown_variable : names_fault here (alias (named 5 (codes "u")) (named 6 (codes "'a") ∷ []) (variable_type 8 (codes "'b"))) ≡ Some (Unknown 8)
 unknown_variable = refl
 
 -- `type u = u`: an alias names earlier types alone
-alias_of_itself : names_fault here (alias (named 5 (codes "u")) [] (composed 7 [] (codes "u") no_forms)) ≡ Some (Unknown 7)
+alias_of_itself : names_fault here (alias (named 5 (codes "u")) [] (composed_type 7 [] (codes "u") no_types)) ≡ Some (Unknown 7)
 alias_of_itself = refl
 
--- a pair has its constructor and two projections, behind its type
+-- a pair has its constructor and two projections, after its type
 pair_entries : map (λ (e : SymbolTree). e.kind) (tuple_entries 4 2) ≡ Kind ∷ Constructor ∷ Projection ∷ Projection ∷ []
 pair_entries = refl
 
@@ -69,7 +69,7 @@ pair_again : wanting_tuples (int_symbol ∷ tuple_entries 1 2) (2 ∷ []) ≡ []
 pair_again = refl
 
 -- `forall x: 'b. x = (x: 'a)`: the type variables by first appearance
-by_appearance : (proposition_seen (quantified 0 true (record { names = codes "x" ∷ []; of_type = Some (variable 3 (codes "'b")) } ∷ []) none (equated 6 true (apply 5 [] (codes "x") none) (cast 7 (apply 8 [] (codes "x") none) (variable 9 (codes "'a")))))).vars
+by_appearance : (proposition_seen (quantified_expression 0 true (record { names = codes "x" ∷ []; of_type = Some (variable_type 3 (codes "'b")) } ∷ []) no_expressions (equality_expression 6 true (applied_expression 5 [] (codes "x") no_expressions) (cast_expression 7 (applied_expression 8 [] (codes "x") no_expressions) (variable_type 9 (codes "'a")))))).vars
     ≡ codes "'b" ∷ codes "'a" ∷ []
 by_appearance = refl
 

@@ -17,14 +17,14 @@ use Rattle.syntax_why.specs.Lexeme.{Word}
 use Rattle.tasks.specs.declared.signature.Signature.{Signature}
 use Rattle.names_space.specs.declared.Table.TheVariants.{Types}
 use Rattle.names_space.specs.declared.TypeName.TheVariants as stands
-use Rattle.names_space.specs.Names.{Names, with_name}
-use Rattle.elab_names.specs.Abstract.{Form}
+use Rattle.names_space.specs.Names.{ScopeNames, with_name}
+use Rattle.elab_names.specs.Abstract.{TypeExpression}
 use Rattle.elab_names.specs.Faults.{form_fault}
 use Rattle.elab_walk.specs.Pieces.{type_at}
 use Rattle.elab_walk.specs.Drafts.{HoldsType, MatchHeld, match_at}
 use Rattle.elab_parts.specs.declared.made.Elaborated.{Elaborated}
 use Rattle.elab_parts.specs.declared.made.Place.{Place}
-use Rattle.elab_parts.specs.Declarations.{Called, words, abstract_type, alias, made_by, made_fault}
+use Rattle.elab_parts.specs.Declarations.{TokenName, words, abstract_type, alias, made_names, made_fault}
 use Rattle.elab_parts.specs.Entries.{type_entry, IsExtended, AreScopes, wanting_tuples}
 use Rattle.elab_parts.specs.Outcomes.{over, around, setting, declared_in, IsKept}
 use Rattle.elab_terms.specs.Outcomes.{type_outcome, alias_seen, IsElaborated}
@@ -50,11 +50,11 @@ types_held s [] theory name n k h = All-nil (DeclHeld s)
 types_held s (d ∷ []) theory name n k h = let q : body_at s d.body ≡ MakesType k = ap first_body h in All-cons (DeclHeld s) d [] (body_held s d.body k q) (All-nil (DeclHeld s))
 types_held s (d ∷ e ∷ ds) theory name n k h = absurd (cc)
 
-module _ (p : Place) (s : List Tree) (g g' : Signature) (names : Names) (x : Called) (vs : List Called) (made : Elaborated) where
+module _ (p : Place) (s : List Tree) (g g' : Signature) (names : ScopeNames) (x : TokenName) (vs : List TokenName) (made : Elaborated) where
   counted : length (symbols_at s g.symbols) ≡ length g.symbols
   counted = length-map g.symbols (symbol_at s)
 
-  pub type_elaborated : made_fault (declared_in names) [] (made_by (abstract_type x vs)) ≡ None
+  pub type_elaborated : made_fault (declared_in names) [] (made_names (abstract_type x vs)) ≡ None
       → IsExtended s g s g' (type_entry p.theory.now (p.within.now ++ x.name) (length vs) ∷ [])
       → declarations_at s made.decls ≡ record { theory = p.theory.now; name = p.within.now ++ x.name; vars = length vs; body = MakesType (length g.symbols) } ∷ []
       → made.rigid ≡ [] → made.matches ≡ []
@@ -62,7 +62,7 @@ module _ (p : Place) (s : List Tree) (g g' : Signature) (names : Names) (x : Cal
   type_elaborated free h d r m = record {
     outcome = type_outcome (setting p s g names) x (length vs);
     is = refl;
-    named = no_fault (made_fault (declared_in names) [] (made_by (abstract_type x vs))) None free refl;
+    named = no_fault (made_fault (declared_in names) [] (made_names (abstract_type x vs))) None free refl;
     symbols_are = h.symbols;
     ints = h.ints;
     scope = ap (λ (k : ℕ). with_name Types x.name (stands.Entry k) true names) (sym counted);
@@ -83,8 +83,8 @@ module _ (p : Place) (s : List Tree) (g g' : Signature) (names : Names) (x : Cal
       }
 
 -- an alias, whose type is one of the store afterwards
-module _ (p : Place) (s s' : List Tree) (grows : Grows s s') (g g' : Signature) (names : Names) (x : Called) (vs : List Called) (f : Form) (made : Elaborated) (id : TermId) where
-  pub alias_elaborated : made_fault (declared_in names) [] (made_by (alias x vs f)) ≡ None → form_fault (around (setting p s g names) (words vs)) false f ≡ None
+module _ (p : Place) (s s' : List Tree) (grows : Grows s s') (g g' : Signature) (names : ScopeNames) (x : TokenName) (vs : List TokenName) (f : TypeExpression) (made : Elaborated) (id : TermId) where
+  pub alias_elaborated : made_fault (declared_in names) [] (made_names (alias x vs f)) ≡ None → form_fault (around (setting p s g names) (words vs)) false f ≡ None
       → IsExtended s g s' g' (wanting_tuples (symbols_at s g.symbols) (alias_seen f).widths) → HoldsType s' id
       → tree_at s' id ≡ type_at (over s (symbols_at s g.symbols ++ wanting_tuples (symbols_at s g.symbols) (alias_seen f).widths) names (words vs)) f
       → made.decls ≡ [] → made.rigid ≡ [] → made.matches ≡ []
@@ -92,7 +92,7 @@ module _ (p : Place) (s s' : List Tree) (grows : Grows s s') (g g' : Signature) 
   alias_elaborated free right h held tree d r m = record {
     outcome = record { symbols = wanting_tuples (symbols_at s g.symbols) (alias_seen f).widths; scope = with_name Types x.name (stands.Alias (length vs) id.0) true names; decls = []; rigid = []; matches = [] };
     is = record { type = id.0; held = held; tree = tree; symbols = refl; scope = refl; decls = refl; rigid = refl; matches = refl };
-    named = no_fault (made_fault (declared_in names) [] (made_by (alias x vs f))) (form_fault (around (setting p s g names) (words vs)) false f) free right;
+    named = no_fault (made_fault (declared_in names) [] (made_names (alias x vs f))) (form_fault (around (setting p s g names) (words vs)) false f) free right;
     symbols_are = h.symbols;
     ints = h.ints;
     scope = refl;

@@ -7,12 +7,12 @@ use Rattle.syntax_why.specs.declared.declarations.ParamTree.{ParamTree}
 use Rattle.syntax_why.specs.declared.declarations.MemberTree.{MemberTree}
 use Rattle.syntax_why.specs.SurfaceDeclarations.{declared_name, member_of}
 use Rattle.elab_names.specs.Abstract.{expression_of}
-use Rattle.elab_parts.specs.Declarations.{Member, symbol, member}
+use Rattle.elab_parts.specs.Declarations.{GroupMember, symbol, group_member}
 use Rattle.elab_members.specs.Sources.{parameters_of, result_form}
 
--- the first member of a group, and those behind `with`
-abbrev pub first_member : OpName → List ParamTree → Option TypeTree → Option Expr → Member
+-- the first member of a group, and those after `with`
+abbrev pub first_member : OpName → List ParamTree → Option TypeTree → Option Expr → GroupMember
 first_member n ps t b = record { called = symbol (declared_name n); params = parameters_of ps; result = result_form t; body = option_map expression_of b }
 
-abbrev pub other_members : List MemberTree → List Member
-other_members ms = map member (map member_of ms)
+abbrev pub later_members : List MemberTree → List GroupMember
+later_members ms = map group_member (map member_of ms)

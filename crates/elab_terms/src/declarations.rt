@@ -2,17 +2,17 @@
 ghost use Rattle.std.specs.Prelude.{◌≡◌, ◌∷◌, ◌↔◌, ℕ, List, [], None, length, IsTrue, IfSome, IfOk, IfErr};
 ghost use Rattle.std.specs.Option.{option_copied};
 ghost use Rattle.trees.specs.Tree.{Tree};
-ghost use Rattle.names_space.specs.Names.{start};
+ghost use Rattle.names_space.specs.Names.{empty_names};
 ghost use Rattle.trees.specs.Node.{Grows};
 ghost use Rattle.syntax_why.specs.SurfaceDeclarations.{decl_of};
 ghost use Rattle.tasks.specs.Task.{int_symbol};
 ghost use Rattle.tasks.specs.Meaning.{symbols_at};
-ghost use Rattle.elab_parts.specs.Declarations.{declaration, members};
+ghost use Rattle.elab_parts.specs.Declarations.{declaration, member_group};
 ghost use Rattle.elab_parts.specs.Entries.{IsSignature, AreScopes};
-ghost use Rattle.elab_parts.specs.Outcomes.{setting, standing, IsKept};
+ghost use Rattle.elab_parts.specs.Outcomes.{setting, setting_where, IsKept};
 ghost use Rattle.elab_members.specs.Sources.{member_at};
 ghost use Rattle.elab_terms.specs.Outcomes.{IsLogical, IsElaborated, IsRefusal};
-ghost use Rattle.elab_terms.specs.Heads.{first_member, other_members};
+ghost use Rattle.elab_terms.specs.Heads.{first_member, later_members};
 
 use crate::propositions::elaborate_proposition;
 use crate::types::elaborate_type_declaration;
@@ -46,7 +46,7 @@ fn head_member<'a>(
     }
 }
 
-// A group of a member and those behind `with`.
+// A group of a member and those after `with`.
 fn elaborate_members(
     alloc: Global,
     store: &mut Store,
@@ -59,11 +59,11 @@ fn elaborate_members(
     requires signature { IsSignature store.old sig.old.symbols }
     requires scopes { AreScopes store.old (length sig.old.symbols) scope.old }
     ensures ok { IfOk result (IsElaborated (setting place.now store.old sig.old scope.old)
-        (members (member_at first.entry ∷ other_members others.now)) sig.old store.new sig.new
+        (member_group (member_at first.entry ∷ later_members others.now)) sig.old store.new sig.new
         scope.new) }
     ensures kept { IfOk result (IsKept store.new sig.new scope.new) }
     ensures err { IfErr result (IsRefusal (setting place.now store.old sig.old scope.old)
-        (members (member_at first.entry ∷ other_members others.now))) }
+        (member_group (member_at first.entry ∷ later_members others.now))) }
     ensures grows { Grows store.old store.new }
 {
     let mut list = Vec::new(alloc);
@@ -93,11 +93,13 @@ pub fn elaborate(
     requires scopes { AreScopes store.old (length sig.old.symbols) scope.old }
     requires logical { IsLogical (decl_of decl.now) }
     ensures ok { IfOk result (λ made. IfSome (declaration (decl_of decl.now))
-        (λ d. IsElaborated (standing theory.now within.now at store.old sig.old scope.old) d sig.old
+        (λ d. IsElaborated (setting_where theory.now within.now at store.old sig.old scope.old) d
+        sig.old
         store.new sig.new scope.new made)) }
     ensures kept { IfOk result (IsKept store.new sig.new scope.new) }
     ensures err { IfErr result (λ fault. IfSome (declaration (decl_of decl.now))
-        (λ d. IsRefusal (standing theory.now within.now at store.old sig.old scope.old) d fault)) }
+        (λ d. IsRefusal (setting_where theory.now within.now at store.old sig.old scope.old) d
+        fault)) }
     ensures grows { Grows store.old store.new }
 {
     let place = Place {
@@ -167,7 +169,7 @@ pub fn begin(alloc: Global) -> Result<Signature, AllocError>
 
 /// A scope without names, in which each name stands for what it may. It does nothing when it runs.
 pub fn no_names(scope: &Scope)
-    requires { scope.now ≡ start }
+    requires { scope.now ≡ empty_names }
     ensures { (s : List Tree) (count : ℕ) → AreScopes s count scope.now }
 {
     let _ = scope;

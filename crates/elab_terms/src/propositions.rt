@@ -1,5 +1,5 @@
 // Propositions: axioms, lemmas and goals.
-// They stand on the solution of type equations, on entries and names; elaboration stands on them.
+// They depend on the solution of type equations, on entries and names; elaboration depends on them.
 ghost use Rattle.std.specs.Prelude.{◌≡◌, ◌++◌, ◌∷◌, [], List, length, map, true, None, All, IfOk, IfErr, OnOk};
 ghost use Rattle.trees.specs.Tree.{Tree};
 ghost use Rattle.trees.specs.Node.{tree_at, Holds, Grows};
@@ -14,7 +14,7 @@ ghost use Rattle.syntax_why.specs.SurfaceDeclarations.{plain_name};
 ghost use Rattle.elab_walk.specs.Drafts.{HoldsType, MatchHeld, match_at};
 ghost use Rattle.elab_parts.specs.Elaborated.{IsSolved, IsTypingFault};
 ghost use Rattle.elab_parts.specs.Values.{FormulaHeld};
-ghost use Rattle.elab_parts.specs.Declarations.{symbol, proposition};
+ghost use Rattle.elab_parts.specs.Declarations.{symbol, proposition_declaration};
 ghost use Rattle.elab_parts.specs.Entries.{wanting_tuples, IsSignature, IsExtended, AreScopes};
 ghost use Rattle.elab_parts.specs.Outcomes.{over, setting, IsKept};
 ghost use Rattle.elab_terms.specs.Outcomes.{proposition_seen, proposition_piece, rigid_names, entry_numbers, rigid_types, said_as, schematic, solved_piece, IsTypedProposition, IsElaborated, IsRefusal};
@@ -43,7 +43,7 @@ fn check_formula(alloc: Global, sig: &Signature, scope: &Scope, e: &Expr) -> Res
     check(alloc, e, &world, &Names::Outside, true)
 }
 
-// The entries of the rigid type variables of these names, and their numbers behind those that are there.
+// The entries of the rigid type variables of these names, and their numbers after those that are there.
 fn push_rigid(
     alloc: Global,
     store: &Store,
@@ -67,7 +67,7 @@ fn push_rigid(
     push_rigid(alloc, store, sig, numbers, rest)
 }
 
-// The rigid types of these entries, behind those that are there.
+// The rigid types of these entries, after those that are there.
 fn push_rigid_types(
     store: &mut Store,
     types: &mut Vec<TermId>,
@@ -257,11 +257,12 @@ pub fn elaborate_proposition(
     requires signature { IsSignature store.old sig.old.symbols }
     requires scopes { AreScopes store.old (length sig.old.symbols) scope.old }
     ensures ok { IfOk result (IsElaborated (setting place.now store.old sig.old scope.old)
-        (proposition kind (symbol (plain_name name.now)) (expression_of e.now)) sig.old store.new
+        (proposition_declaration kind (symbol (plain_name name.now)) (expression_of e.now)) sig.old
+        store.new
         sig.new scope.new) }
     ensures kept { IfOk result (IsKept store.new sig.new scope.new) }
     ensures err { IfErr result (IsRefusal (setting place.now store.old sig.old scope.old)
-        (proposition kind (symbol (plain_name name.now)) (expression_of e.now))) }
+        (proposition_declaration kind (symbol (plain_name name.now)) (expression_of e.now))) }
     ensures grows { Grows store.old store.new }
 {
     let own = own_name(alloc, Style::Plain, name.text.as_slice())?;

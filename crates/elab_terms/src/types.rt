@@ -1,5 +1,5 @@
 // Type symbols without a definition, and aliases.
-// They stand on entries and names; elaboration stands on them.
+// They depend on entries and names; elaboration depends on them.
 ghost use Rattle.std.specs.Prelude.{◌≡◌, ◌++◌, ◌∷◌, [], List, None, length, map, true, false, IfOk, IfErr, OnOk, option_map};
 ghost use Rattle.trees.specs.Tree.{Tree};
 ghost use Rattle.trees.specs.Node.{tree_at, Grows};
@@ -7,12 +7,12 @@ ghost use Rattle.trees.specs.Facts.{TyVarsBelow};
 ghost use Rattle.tasks.specs.Task.{MakesType};
 ghost use Rattle.tasks.specs.Meaning.{symbols_at, declarations_at};
 ghost use Rattle.names_space.specs.Names.{with_name};
-ghost use Rattle.elab_names.specs.Abstract.{form_of};
+ghost use Rattle.elab_names.specs.Abstract.{type_expression_of};
 ghost use Rattle.elab_names.specs.Faults.{form_fault};
 ghost use Rattle.elab_names.specs.Naming.{Tells};
 ghost use Rattle.elab_walk.specs.Pieces.{type_at};
 ghost use Rattle.elab_walk.specs.Drafts.{HoldsType};
-ghost use Rattle.elab_parts.specs.Declarations.{word, abstract_type, alias, made_fault, makes, binds};
+ghost use Rattle.elab_parts.specs.Declarations.{word, abstract_type, alias, made_fault, makes, binds_names};
 ghost use Rattle.elab_parts.specs.Entries.{type_entry, wanting_tuples, IsSignature, IsExtended, AreScopes};
 ghost use Rattle.elab_parts.specs.Outcomes.{over, setting, declared_in, IsKept};
 ghost use Rattle.elab_terms.specs.Outcomes.{alias_seen, type_declaration, IsElaborated, IsRefusal};
@@ -32,7 +32,7 @@ use tasks::{Body, Decl, Signature};
 use term_store::Store;
 use trees::TermId;
 
-// The declaration of a type symbol, whose entry stands at the signature's end.
+// The declaration of a type symbol, whose entry is at the signature's end.
 fn make_type(
     alloc: Global,
     store: &Store,
@@ -79,9 +79,10 @@ fn declare_type(
     vars: &[Name],
     thing: TypeName,
 ) -> Result<(), NamingFault>
-    ensures ok { OnOk result (scope.new ≡ with_name Table.Types name.now.text thing true scope.old) }
+    ensures ok { OnOk result (scope.new ≡ with_name Table.Types name.now.text thing true
+        scope.old) }
     ensures told { Tells result (made_fault (declared_in scope.old) []
-        (makes Table.Types (word name.now) ∷ binds (map word vars.now) ∷ [])) }
+        (makes Table.Types (word name.now) ∷ binds_names (map word vars.now) ∷ [])) }
 {
     declare(scope, Table::Types, name.text.as_slice(), thing, name.at)?;
     let mut list = Vec::new(alloc);
@@ -133,15 +134,16 @@ fn make_alias(
     requires scopes { AreScopes store.old (length sig.old.symbols) scope.now }
     ensures entries { OnOk result (IsExtended store.old sig.old store.new sig.new
         (wanting_tuples (symbols_at store.old sig.old.symbols)
-        (alias_seen (form_of ty.now)).widths)) }
+        (alias_seen (type_expression_of ty.now)).widths)) }
     ensures held { IfOk result (HoldsType store.new) }
     ensures tree { IfOk result (λ id. tree_at store.new id ≡ type_at
         (over store.old (symbols_at store.old sig.old.symbols ++ wanting_tuples
-        (symbols_at store.old sig.old.symbols) (alias_seen (form_of ty.now)).widths) scope.now
-        vars.now) (form_of ty.now)) }
+        (symbols_at store.old sig.old.symbols) (alias_seen (type_expression_of ty.now)).widths)
+        scope.now
+        vars.now) (type_expression_of ty.now)) }
     ensures below { IfOk result (λ id. form_fault
         (over store.old (symbols_at store.old sig.old.symbols) scope.now vars.now) false
-        (form_of ty.now) ≡ None → TyVarsBelow (length vars.now) (tree_at store.new id)) }
+        (type_expression_of ty.now) ≡ None → TyVarsBelow (length vars.now) (tree_at store.new id)) }
     ensures grows { Grows store.old store.new }
 {
     let mut seen = Seen {
@@ -163,7 +165,8 @@ fn check_alias(
     ty: &TypeTree,
 ) -> Result<(), NamingFault>
     ensures { (s : List Tree) → Tells result (form_fault
-        (over s (symbols_at s sig.now.symbols) scope.now vars.now) false (form_of ty.now)) }
+        (over s (symbols_at s sig.now.symbols) scope.now vars.now) false
+        (type_expression_of ty.now)) }
 {
     let world = world_over(sig, scope, vars, false);
     check_form(alloc, ty, &world)
@@ -183,11 +186,12 @@ fn elaborate_alias(
     requires signature { IsSignature store.old sig.old.symbols }
     requires scopes { AreScopes store.old (length sig.old.symbols) scope.old }
     ensures ok { IfOk result (IsElaborated (setting place.now store.old sig.old scope.old)
-        (alias (word name.now) (map word vars.now) (form_of ty.now)) sig.old store.new sig.new
+        (alias (word name.now) (map word vars.now) (type_expression_of ty.now)) sig.old store.new
+        sig.new
         scope.new) }
     ensures kept { IfOk result (IsKept store.new sig.new scope.new) }
     ensures err { IfErr result (IsRefusal (setting place.now store.old sig.old scope.old)
-        (alias (word name.now) (map word vars.now) (form_of ty.now))) }
+        (alias (word name.now) (map word vars.now) (type_expression_of ty.now))) }
     ensures grows { Grows store.old store.new }
 {
     let texts = texts_of(alloc, vars)?;
@@ -224,11 +228,13 @@ pub fn elaborate_type_declaration(
     requires signature { IsSignature store.old sig.old.symbols }
     requires scopes { AreScopes store.old (length sig.old.symbols) scope.old }
     ensures ok { IfOk result (IsElaborated (setting place.now store.old sig.old scope.old)
-        (type_declaration (word name.now) (map word vars.now) (option_map form_of ty.now)) sig.old
+        (type_declaration (word name.now) (map word vars.now)
+        (option_map type_expression_of ty.now)) sig.old
         store.new sig.new scope.new) }
     ensures kept { IfOk result (IsKept store.new sig.new scope.new) }
     ensures err { IfErr result (IsRefusal (setting place.now store.old sig.old scope.old)
-        (type_declaration (word name.now) (map word vars.now) (option_map form_of ty.now))) }
+        (type_declaration (word name.now) (map word vars.now)
+        (option_map type_expression_of ty.now))) }
     ensures grows { Grows store.old store.new }
 {
     match ty {

@@ -5,7 +5,7 @@ use Rattle.std.specs.Option.{is_some}
 use Rattle.std.specs.Str.{bytes_eq}
 use Rattle.names_space.specs.declared.Table.{Table}
 use Rattle.names_space.specs.declared.Table.TheVariants.{Types, Symbols}
-use Rattle.names_space.specs.Names.{Names, Entry, is_named, is_declared, innermost, with_entry}
+use Rattle.names_space.specs.Names.{ScopeNames, ScopeEntry, is_named, is_declared, innermost, with_entry}
 use Rattle.syntax_why.specs.Lexeme.{Word}
 use Rattle.elab_names.specs.Abstract.{count_forms}
 use Rattle.elab_names.specs.declared.NamingFault.{NamingFault}
@@ -13,7 +13,7 @@ use Rattle.elab_names.specs.declared.NamingFault.TheVariants as names
 use Rattle.elab_names.specs.Faults.{first_of, fault_if}
 use Rattle.elab_names.specs.Naming.{Tells}
 use Rattle.elab_names.specs.Where.{place_of}
-use Rattle.elab_parts.specs.Declarations.{Constructor, Algebraic, list_fault}
+use Rattle.elab_parts.specs.Declarations.{AlgebraicConstructor, AlgebraicType, list_fault}
 use Rattle.elab_parts.specs.Outcomes.{declared_in, IsNameRefused}
 use Rattle.elab_parts.proofs.Alike.{both}
 use Rattle.elab_types.specs.Algebraics.{with_constructors, constructors_made, constructor_words, types_made}
@@ -49,7 +49,7 @@ among_append y [] vs = refl
 among_append y (u ∷ us) vs =
     some_step (bytes_eq u y) (place_of y (us ++ vs)) ∙ (ap (λ (b : Bool). bytes_eq u y || b) (among_append y us vs) ∙ (or_assoc (bytes_eq u y) (is_among y us) (is_among y vs) ∙ ap (λ (b : Bool). b || is_among y vs) (sym (some_step (bytes_eq u y) (place_of y us)))))
 
--- ---- names that were made since stand in a list
+-- ---- names that were made since are in a list
 abbrev pub Agrees : List Word → (Word → Bool) → (Word → Bool) → Type 0
 Agrees before d d' = (y : Word) → (d' y || is_among y before) ≡ (d y || is_among y before)
 
@@ -68,7 +68,7 @@ absorbed false d a h = refl
 absorbed true true a h = refl
 absorbed true false a h = h
 
-entered : (u : Table) (y : Word) (e : Entry) (a : Bool) → ((is_named u y e && e.declared) || a) ≡ a → (ess : List (List Entry)) (i : ℕ)
+entered : (u : Table) (y : Word) (e : ScopeEntry) (a : Bool) → ((is_named u y e && e.declared) || a) ≡ a → (ess : List (List ScopeEntry)) (i : ℕ)
     → (is_declared u y (get_or (set ess i (e ∷ get_or ess i [])) i []) || a) ≡ (is_declared u y (get_or ess i []) || a)
 entered u y e a h [] i = refl
 entered u y e a h (es ∷ ess) zero = absorbed (is_named u y e && e.declared) (is_declared u y es) a h
@@ -84,7 +84,7 @@ last_among true y x before h =
     right_true true = refl
     right_true false = refl
 
-module _ (names : Names) (x : Word) (k : ℕ) where
+module _ (names : ScopeNames) (x : Word) (k : ℕ) where
   pub type_entered : (before : List Word) → Agrees (before ++ x ∷ []) (declared_in names Types) (declared_in (with_entry Types x k true names) Types)
   type_entered before y = entered Types y _ (is_among y (before ++ x ∷ [])) (last_among (bytes_eq x y) y x before refl) names.entries (innermost names)
 
@@ -98,7 +98,7 @@ module _ (names : Names) (x : Word) (k : ℕ) where
   types_past before y = entered Types y _ (is_among y before) refl names.entries (innermost names)
 
 -- ---- constructors
-pub constructors_entered : (n : ℕ) (ks : List Constructor) (names : Names) (before : List Word)
+pub constructors_entered : (n : ℕ) (ks : List AlgebraicConstructor) (names : ScopeNames) (before : List Word)
     → Agrees (before ++ constructor_words ks) (declared_in names Symbols) (declared_in (with_constructors n ks names) Symbols)
 constructors_entered n [] names before = λ y. refl
 constructors_entered n (k ∷ ks) names before =
@@ -110,19 +110,19 @@ constructors_entered n (k ∷ ks) names before =
     subst (λ (ws : List Word). Agrees ws d d2) (append_assoc before (x ∷ []) more)
     (agrees_both ((before ++ x ∷ []) ++ more) d d1 d2 (agrees_more (before ++ x ∷ []) more d d1 (symbol_entered names x n before)) (constructors_entered (n + (count_forms k.fields + 1)) ks (with_entry Symbols x n true names) (before ++ x ∷ [])))
 
-pub types_kept : (n : ℕ) (ks : List Constructor) (names : Names) (before : List Word) → Agrees before (declared_in names Types) (declared_in (with_constructors n ks names) Types)
+pub types_kept : (n : ℕ) (ks : List AlgebraicConstructor) (names : ScopeNames) (before : List Word) → Agrees before (declared_in names Types) (declared_in (with_constructors n ks names) Types)
 types_kept n [] names before = λ y. refl
 types_kept n (k ∷ ks) names before =
     let x = k.called.name in
     agrees_both before (declared_in names Types) (declared_in (with_entry Symbols x n true names) Types) (declared_in (with_constructors n (k ∷ ks) names) Types) (types_past names x n before) (types_kept (n + (count_forms k.fields + 1)) ks (with_entry Symbols x n true names) before)
 
 -- ---- faults
-pub constructors_same : (d d' : Word → Bool) (before : List Word) (ks : List Constructor) → Agrees before d d' → constructors_made d' before ks ≡ constructors_made d before ks
+pub constructors_same : (d d' : Word → Bool) (before : List Word) (ks : List AlgebraicConstructor) → Agrees before d d' → constructors_made d' before ks ≡ constructors_made d before ks
 constructors_same d d' before [] h = refl
 constructors_same d d' before (k ∷ ks) h =
     both (ap (λ (b : Bool). fault_if b (names.Duplicate k.called.at)) (h k.called.name)) (constructors_same d d' (before ++ k.called.name ∷ []) ks (agrees_more before (k.called.name ∷ []) d d' h))
 
-pub types_same : (d d' : Table → Word → Bool) (us vs : List Word) (ts : List Algebraic) → Agrees us (d Types) (d' Types) → Agrees vs (d Symbols) (d' Symbols) → types_made d' us vs ts ≡ types_made d us vs ts
+pub types_same : (d d' : Table → Word → Bool) (us vs : List Word) (ts : List AlgebraicType) → Agrees us (d Types) (d' Types) → Agrees vs (d Symbols) (d' Symbols) → types_made d' us vs ts ≡ types_made d us vs ts
 types_same d d' us vs [] h k = refl
 types_same d d' us vs (a ∷ ts) h k =
     both (ap (λ (b : Bool). fault_if b (names.Duplicate a.called.at)) (h a.called.name))
@@ -130,18 +130,18 @@ types_same d d' us vs (a ∷ ts) h k =
     (both (constructors_same (d Symbols) (d' Symbols) vs a.constructors k)
     (types_same d d' (us ++ a.called.name ∷ []) (vs ++ constructor_words a.constructors) ts (agrees_more us (a.called.name ∷ []) (d Types) (d' Types) h) (agrees_more vs (constructor_words a.constructors) (d Symbols) (d' Symbols) k))))
 
--- behind a first type
-module _ (names : Names) (us vs : List Word) (a : Algebraic) (i n : ℕ) where
-  abbrev named : Names
+-- after a first type
+module _ (names : ScopeNames) (us vs : List Word) (a : AlgebraicType) (i n : ℕ) where
+  abbrev named : ScopeNames
   named = with_entry Types a.called.name i true names
 
-  abbrev after : Names
+  abbrev after : ScopeNames
   after = with_constructors n a.constructors named
 
   pub first_constructors : constructors_made (declared_in named Symbols) vs a.constructors ≡ constructors_made (declared_in names Symbols) vs a.constructors
   first_constructors = constructors_same (declared_in names Symbols) (declared_in named Symbols) vs a.constructors (symbols_past names a.called.name i vs)
 
-  pub rest_types : (ts : List Algebraic) → types_made (declared_in after) (us ++ a.called.name ∷ []) (vs ++ constructor_words a.constructors) ts ≡ types_made (declared_in names) (us ++ a.called.name ∷ []) (vs ++ constructor_words a.constructors) ts
+  pub rest_types : (ts : List AlgebraicType) → types_made (declared_in after) (us ++ a.called.name ∷ []) (vs ++ constructor_words a.constructors) ts ≡ types_made (declared_in names) (us ++ a.called.name ∷ []) (vs ++ constructor_words a.constructors) ts
   rest_types ts =
       let us' = us ++ a.called.name ∷ [] in
       let vs' = vs ++ constructor_words a.constructors in

@@ -10,26 +10,26 @@ use Rattle.tasks.specs.Task.{SymbolTree, AlgebraicTree, Constructs, DeclarationT
 use Rattle.tasks.specs.Valid.{own_type}
 use Rattle.tasks.specs.Meaning.{symbol_at, symbols_at, declarations_at, DeclHeld}
 use Rattle.tasks.specs.declared.signature.Signature.{Signature}
-use Rattle.names_space.specs.Names.{Names}
+use Rattle.names_space.specs.Names.{ScopeNames}
 use Rattle.syntax_why.specs.Lexeme.{Word}
 use Rattle.elab_names.specs.Abstract.{count_forms}
 use Rattle.elab_names.specs.Naming.{Tells}
 use Rattle.elab_names.specs.Where.{Where}
 use Rattle.elab_names.specs.declared.NamingFault.{NamingFault}
 use Rattle.elab_walk.specs.Drafts.{MatchHeld, match_at}
-use Rattle.elab_walk.specs.Patterns.{nothing}
+use Rattle.elab_walk.specs.Patterns.{no_notes}
 use Rattle.elab_walk.specs.Pieces.{types_at}
 use Rattle.elab_parts.specs.declared.made.Elaborated.{Elaborated}
 use Rattle.elab_parts.specs.declared.made.Place.{Place}
-use Rattle.elab_parts.specs.Elaborated.{named}
-use Rattle.elab_parts.specs.Declarations.{Constructor, Algebraic, words, with_vars, types_fault}
+use Rattle.elab_parts.specs.Elaborated.{elab_naming_fault}
+use Rattle.elab_parts.specs.Declarations.{AlgebraicConstructor, AlgebraicType, words, with_vars, types_fault}
 use Rattle.elab_parts.specs.Entries.{wanting_tuples, projections, constructor_entries, IsExtended, AreScopes}
 use Rattle.elab_parts.specs.Outcomes.{Setting, over, setting, IsKept}
 use Rattle.elab_parts.proofs.Entering.{extended_both, extended_grows}
 use Rattle.elab_parts.proofs.Keeping.{length_extended}
 use Rattle.elab_parts.proofs.Refused.{no_fault, used_refusal}
 use Rattle.elab_parts.proofs.Scopes.{scopes_grow}
-use Rattle.elab_types.specs.Algebraics.{group_seen, entry_count, group_count, first_type, first_constructor, with_types, group_names, type_entries, inside, constructor_trees, algebraic_trees, group_trees, constructors_entries, group_entries, first_name, first_vars, group_outcome, group_made, IsGroupElaborated, IsGroupRefusal}
+use Rattle.elab_types.specs.Algebraics.{group_seen, entry_count, group_count, first_type, first_constructor, with_types, group_names, type_entries, inside_types, constructor_trees, algebraic_trees, group_trees, constructors_entries, group_entries, first_name, first_vars, group_outcome, group_made, AreTypesElaborated, IsTypesRefusal}
 use Rattle.elab_types.proofs.Counted.{types_length}
 use Rattle.elab_types.proofs.Placed.{scopes_types, stays_over}
 
@@ -38,7 +38,7 @@ projections_length : (theory x : Word) (n : ℕ) (t : Tree) (i : ℕ) (fs : List
 projections_length theory x n t i [] = refl
 projections_length theory x n t i (f ∷ fs) = ap suc (projections_length theory x n t (suc i) fs)
 
-cons_length : (theory within : Word) (v : ℕ) (t : Tree) (w : Where) (n : ℕ) (ks : List Constructor) → length (constructors_entries theory within v t ks (constructor_trees w n ks)) ≡ entry_count ks
+cons_length : (theory within : Word) (v : ℕ) (t : Tree) (w : Where) (n : ℕ) (ks : List AlgebraicConstructor) → length (constructors_entries theory within v t ks (constructor_trees w n ks)) ≡ entry_count ks
 cons_length theory within v t w n [] = refl
 cons_length theory within v t w n (k ∷ ks) =
     let fs = types_at w k.fields in
@@ -50,7 +50,7 @@ cons_length theory within v t w n (k ∷ ks) =
     let d : length rest ≡ entry_count ks = cons_length theory within v t w m ks in
     let e : length (here ++ rest) ≡ (count_forms k.fields + 1) + entry_count ks = omega (arith, a, b, d) in e
 
-group_length : (theory within : Word) (w : Where) (i n : ℕ) (ts : List Algebraic) → length (group_entries theory within ts (algebraic_trees w i n ts)) ≡ group_count ts
+group_length : (theory within : Word) (w : Where) (i n : ℕ) (ts : List AlgebraicType) → length (group_entries theory within ts (algebraic_trees w i n ts)) ≡ group_count ts
 group_length theory within w i n [] = refl
 group_length theory within w i n (a ∷ ts) =
     let v = with_vars w (words a.vars) in
@@ -67,7 +67,7 @@ pub group_same : {t t' n n' : Word} {v v' : ℕ} {ys ys' : List AlgebraicTree} �
     → ◌≡◌ {A = List DeclarationTree} (record { theory = t; name = n; vars = v; body = Constructs ys } ∷ []) (record { theory = t'; name = n'; vars = v'; body = Constructs ys' } ∷ [])
 group_same p q e f = cc
 
-module _ (p : Place) (s s1 : List Tree) (grows : Grows s s1) (g g1 : Signature) (names after : Names) (ts : List Algebraic) (symbol number : ℕ)
+module _ (p : Place) (s s1 : List Tree) (grows : Grows s s1) (g g1 : Signature) (names after : ScopeNames) (ts : List AlgebraicType) (symbol number : ℕ)
     (scopes : AreScopes s (length g.symbols) names)
     (ext : IsExtended s g s1 g1 (wanting_tuples (symbols_at s g.symbols) (group_seen ts).widths ++ type_entries p.theory.now p.within.now ts))
     (first : symbol ≡ length g.symbols + length (wanting_tuples (symbols_at s g.symbols) (group_seen ts).widths))
@@ -96,21 +96,21 @@ module _ (p : Place) (s s1 : List Tree) (grows : Grows s s1) (g g1 : Signature) 
   pub all_scopes : (s' : List Tree) → Grows s s' → AreScopes s' all after
   all_scopes s' g' =
       let k : AreScopes s' all names = scopes_grow s s' g' (length g.symbols) all (omega (arith, first, behind, begins)) names scopes in
-      subst (λ (ns : Names). AreScopes s' all ns) (sym declared) (scopes_types s' all symbol number ts names (omega (arith, behind, begins)) (omega arith) k)
+      subst (λ (ns : ScopeNames). AreScopes s' all ns) (sym declared) (scopes_types s' all symbol number ts names (omega (arith, behind, begins)) (omega arith) k)
 
-  is_inside : there ≡ inside c ts
+  is_inside : there ≡ inside_types c ts
   is_inside =
       ap (λ (es : List SymbolTree). over s1 es after []) ext.symbols
       ∙ (stays_over s all after (all_scopes s (Grows_refl s)) s1 grows (symbols_at s g.symbols ++ (tuples ++ type_entries p.theory.now p.within.now ts)) []
-      ∙ ap (λ (ns : Names). over s (symbols_at s g.symbols ++ (tuples ++ type_entries p.theory.now p.within.now ts)) ns []) is_declared)
+      ∙ ap (λ (ns : ScopeNames). over s (symbols_at s g.symbols ++ (tuples ++ type_entries p.theory.now p.within.now ts)) ns []) is_declared)
 
   is_trees : algebraic_trees there symbol number ts ≡ group_trees c ts
   is_trees =
       ap (λ (w : Where). algebraic_trees w symbol number ts) is_inside
-      ∙ (ap (λ (i : ℕ). algebraic_trees (inside c ts) i number ts) (sym is_first) ∙ ap (λ (n : ℕ). algebraic_trees (inside c ts) (first_type c ts) n ts) (sym is_constructor))
+      ∙ (ap (λ (i : ℕ). algebraic_trees (inside_types c ts) i number ts) (sym is_first) ∙ ap (λ (n : ℕ). algebraic_trees (inside_types c ts) (first_type c ts) n ts) (sym is_constructor))
 
-  pub group_refused : (f : NamingFault) → group_made names ts ≡ None → Tells (Err f) (types_fault there ts) → IsGroupRefusal c ts (named p.decl f)
-  group_refused f free h = used_refusal p.decl 0 nothing (group_made names ts) (types_fault (inside c ts) ts) f free (subst (λ (w : Where). Tells (Err f) (types_fault w ts)) is_inside h)
+  pub group_refused : (f : NamingFault) → group_made names ts ≡ None → Tells (Err f) (types_fault there ts) → IsTypesRefusal c ts (elab_naming_fault p.decl f)
+  group_refused f free h = used_refusal p.decl 0 no_notes (group_made names ts) (types_fault (inside_types c ts) ts) f free (subst (λ (w : Where). Tells (Err f) (types_fault w ts)) is_inside h)
 
   -- with its types and its declaration
   module _ (s2 s3 : List Tree) (more : Grows s1 s2) (g3 : Signature) (made : Elaborated) (ys : List AlgebraicTree) (trees : ys ≡ algebraic_trees there symbol number ts)
@@ -123,11 +123,11 @@ module _ (p : Place) (s s1 : List Tree) (grows : Grows s s1) (g g1 : Signature) 
 
     pub group_elaborated : group_made names ts ≡ None → types_fault there ts ≡ None
         → declarations_at s3 made.decls ≡ record { theory = p.theory.now; name = p.within.now ++ first_name ts; vars = first_vars ts; body = Constructs ys } ∷ []
-        → made.rigid ≡ [] → made.matches ≡ [] → IsGroupElaborated c ts g s3 g3 after made
+        → made.rigid ≡ [] → made.matches ≡ [] → AreTypesElaborated c ts g s3 g3 after made
     group_elaborated free right decls rigid matches = record {
       outcome = group_outcome c ts;
       is = refl;
-      named = no_fault (group_made names ts) (types_fault (inside c ts) ts) free (subst (λ (w : Where). types_fault w ts ≡ None) is_inside right);
+      named = no_fault (group_made names ts) (types_fault (inside_types c ts) ts) free (subst (λ (w : Where). types_fault w ts ≡ None) is_inside right);
       symbols_are = whole.symbols ∙ ap (λ (es : List SymbolTree). symbols_at s g.symbols ++ es) (append_assoc tuples (type_entries p.theory.now p.within.now ts) (group_entries p.theory.now p.within.now ts ys) ∙ ap (λ (zs : List AlgebraicTree). tuples ++ (type_entries p.theory.now p.within.now ts ++ group_entries p.theory.now p.within.now ts zs)) are);
       ints = whole.ints;
       scope = is_declared;

@@ -7,7 +7,7 @@ use Rattle.tasks.specs.declared.signature.SymbolInfo.{SymbolInfo}
 use Rattle.tasks.specs.declared.signature.Signature.{Signature}
 use Rattle.tasks.specs.Task.{SymbolTree}
 use Rattle.tasks.specs.Meaning.{symbols_at}
-use Rattle.names_space.specs.Names.{Names, with_entry}
+use Rattle.names_space.specs.Names.{ScopeNames, with_entry}
 use Rattle.names_space.specs.declared.Table.TheVariants.{Types, Symbols}
 use Rattle.names_space.specs.declared.TypeName.TheVariants as stands
 use Rattle.syntax_why.specs.Lexeme.{Word}
@@ -16,7 +16,7 @@ use Rattle.elab_names.specs.Abstract.{count_forms}
 use Rattle.elab_names.specs.declared.world.World.{World}
 use Rattle.elab_walk.specs.Drafts.{MeaningHeld, WorldHeld}
 use Rattle.elab_walk.specs.Scoped.{IsScoped}
-use Rattle.elab_parts.specs.Declarations.{Constructor, Algebraic}
+use Rattle.elab_parts.specs.Declarations.{AlgebraicConstructor, AlgebraicType}
 use Rattle.elab_parts.specs.Entries.{IsSignature, IsExtended, AreScopes}
 use Rattle.elab_parts.specs.Outcomes.{over}
 use Rattle.elab_parts.proofs.Overs.{over_stays}
@@ -26,12 +26,12 @@ use Rattle.elab_types.specs.Algebraics.{entry_count, group_count, with_construct
 use Rattle.elab_types.specs.Held.{HaveThings}
 
 -- ---- names of entries below a number
-pub scopes_constructors : (s : List Tree) (m n : ℕ) (ks : List Constructor) (names : Names) → n + entry_count ks ≤ m → AreScopes s m names → AreScopes s m (with_constructors n ks names)
+pub scopes_constructors : (s : List Tree) (m n : ℕ) (ks : List AlgebraicConstructor) (names : ScopeNames) → n + entry_count ks ≤ m → AreScopes s m names → AreScopes s m (with_constructors n ks names)
 scopes_constructors s m n [] names h k = k
 scopes_constructors s m n (c ∷ ks) names h k =
     scopes_constructors s m (n + (count_forms c.fields + 1)) ks (with_entry Symbols c.called.name n true names) (omega arith) (scopes_more s m names Symbols c.called.name (stands.Entry n) true (omega arith) k)
 
-pub scopes_types : (s : List Tree) (m i n : ℕ) (ts : List Algebraic) (names : Names) → i + length ts ≤ m → n + group_count ts ≤ m → AreScopes s m names → AreScopes s m (with_types i n ts names)
+pub scopes_types : (s : List Tree) (m i n : ℕ) (ts : List AlgebraicType) (names : ScopeNames) → i + length ts ≤ m → n + group_count ts ≤ m → AreScopes s m names → AreScopes s m (with_types i n ts names)
 scopes_types s m i n [] names h l k = k
 scopes_types s m i n (a ∷ ts) names h l k =
     let named = with_entry Types a.called.name i true names in
@@ -39,7 +39,7 @@ scopes_types s m i n (a ∷ ts) names h l k =
     scopes_types s m (i + 1) (n + entry_count a.constructors) ts (with_constructors n a.constructors named) (omega arith) (omega arith) (scopes_constructors s m n a.constructors named (omega arith) one)
 
 -- ---- names of entries below any number
-module _ (s : List Tree) (n : ℕ) (names : Names) (h : AreScopes s n names) where
+module _ (s : List Tree) (n : ℕ) (names : ScopeNames) (h : AreScopes s n names) where
   further : AreScopes s (n + 1) names
   further = scopes_grow s s (Grows_refl s) n (n + 1) (omega arith) names h
 
@@ -49,7 +49,7 @@ module _ (s : List Tree) (n : ℕ) (names : Names) (h : AreScopes s n names) whe
   pub placed_held : (is : List SymbolInfo) (w : World) → IsSignature s is → w.symbols.now ≡ is → w.scope.now ≡ names → WorldHeld s w
   placed_held is w sig symbols scope = record {
     symbols = rw symbols sig.typed;
-    types = subst (λ (ns : Names). (qs : List Word) (x : Word) → IfSome (type_named ns qs x) (MeaningHeld s)) (sym scope) (λ qs x. meaning_held s (n + 1) (type_named names qs x) (type_thing s (n + 1) names further (omega arith) qs x));
+    types = subst (λ (ns : ScopeNames). (qs : List Word) (x : Word) → IfSome (type_named ns qs x) (MeaningHeld s)) (sym scope) (λ qs x. meaning_held s (n + 1) (type_named names qs x) (type_thing s (n + 1) names further (omega arith) qs x));
   }
 
   pub placed_scoped : (is : List SymbolInfo) (vars : List Word) → IsSignature s is → IsScoped (over s (symbols_at s is) names vars)
@@ -61,10 +61,10 @@ module _ (s : List Tree) (n : ℕ) (names : Names) (h : AreScopes s n names) whe
 
 -- where the store grows
 module _ (s s' : List Tree) (g : Grows s s') where
-  pub things_grow : (names : Names) → HaveThings s names → HaveThings s' names
+  pub things_grow : (names : ScopeNames) → HaveThings s names → HaveThings s' names
   things_grow names h = (h.0, scopes_grow s s' g h.0 h.0 (omega arith) names h.1)
 
-  pub over_grows : (is : List SymbolInfo) (names : Names) (vars : List Word) → IsSignature s is → HaveThings s names → over s' (symbols_at s' is) names vars ≡ over s (symbols_at s is) names vars
+  pub over_grows : (is : List SymbolInfo) (names : ScopeNames) (vars : List Word) → IsSignature s is → HaveThings s names → over s' (symbols_at s' is) names vars ≡ over s (symbols_at s is) names vars
   over_grows is names vars sig h = ap (λ (es : List SymbolTree). over s' es names vars) (entries_stay s s' g is sig) ∙ stays_over s h.0 names h.1 s' g (symbols_at s is) vars
 
   pub extended_over : (a b : Signature) (more : List SymbolTree) → IsSignature s a.symbols → IsExtended s' a s' b more → IsExtended s a s' b more

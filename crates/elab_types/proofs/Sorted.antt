@@ -5,12 +5,12 @@ use Rattle.std.specs.Str.{bytes_eq}
 use Rattle.std.proofs.lemmas.List.{append-nil}
 use Rattle.names_space.specs.declared.Table.{Table}
 use Rattle.names_space.specs.declared.Table.TheVariants.{Types, Symbols}
-use Rattle.names_space.specs.Names.{Names}
+use Rattle.names_space.specs.Names.{ScopeNames}
 use Rattle.syntax_why.specs.Lexeme.{Word}
 use Rattle.elab_names.specs.declared.NamingFault.{NamingFault}
 use Rattle.elab_names.specs.declared.NamingFault.TheVariants.{Duplicate}
 use Rattle.elab_names.specs.Faults.{first_of, fault_if}
-use Rattle.elab_parts.specs.Declarations.{Constructor, Algebraic, Made, makes, binds, made_by_constructors, made_by_types, list_fault, made_before, made_fault}
+use Rattle.elab_parts.specs.Declarations.{AlgebraicConstructor, AlgebraicType, Made, makes, binds_names, made_by_constructors, made_type_names, list_fault, made_before, made_fault}
 use Rattle.elab_parts.specs.Outcomes.{declared_in}
 use Rattle.elab_parts.proofs.Alike.{both}
 use Rattle.elab_types.specs.Algebraics.{constructors_made, constructor_words, types_made, group_made}
@@ -35,21 +35,21 @@ more y x p ws h =
     ap (λ (q : Bool). bytes_eq y x || q) h ∙ (swapped (bytes_eq y x) (is_among x ws) ∙ (ap (λ (q : Bool). is_among x ws || q) (sym (some_step (bytes_eq y x) None)) ∙ sym (among_append x ws (y ∷ []))))
 
 -- ---- constructors
-abbrev after : List Constructor → List Made → List Made
+abbrev after : List AlgebraicConstructor → List Made → List Made
 after [] before = before
 after (k ∷ ks) before = after ks (makes Symbols k.called ∷ before)
 
-after_types : (ks : List Constructor) (before : List Made) (x : Word) → made_before Types x (after ks before) ≡ made_before Types x before
+after_types : (ks : List AlgebraicConstructor) (before : List Made) (x : Word) → made_before Types x (after ks before) ≡ made_before Types x before
 after_types [] before x = refl
 after_types (k ∷ ks) before x = after_types ks (makes Symbols k.called ∷ before) x
 
-after_symbols : (ks : List Constructor) (before : List Made) (vs : List Word) → AreBefore Symbols before vs → AreBefore Symbols (after ks before) (vs ++ constructor_words ks)
+after_symbols : (ks : List AlgebraicConstructor) (before : List Made) (vs : List Word) → AreBefore Symbols before vs → AreBefore Symbols (after ks before) (vs ++ constructor_words ks)
 after_symbols [] before vs h x = h x ∙ ap (is_among x) (sym (append-nil vs))
 after_symbols (k ∷ ks) before vs h x =
     after_symbols ks (makes Symbols k.called ∷ before) (vs ++ k.called.name ∷ []) (λ y. more k.called.name y (made_before Symbols y before) vs (h y)) x ∙ ap (is_among x) (append_assoc vs (k.called.name ∷ []) (constructor_words ks))
 
 module _ (d : Table → Word → Bool) where
-  constructors_sorted : (ks : List Constructor) (before : List Made) (vs : List Word) (ms : List Made) → AreBefore Symbols before vs
+  constructors_sorted : (ks : List AlgebraicConstructor) (before : List Made) (vs : List Word) (ms : List Made) → AreBefore Symbols before vs
       → first_of (constructors_made (d Symbols) vs ks) (made_fault d (after ks before) ms) ≡ made_fault d before (made_by_constructors ks ++ ms)
   constructors_sorted [] before vs ms h = refl
   constructors_sorted (k ∷ ks) before vs ms h =
@@ -58,17 +58,17 @@ module _ (d : Table → Word → Bool) where
       first_assoc (fault_if (d Symbols x || is_among x vs) (Duplicate k.called.at)) (constructors_made (d Symbols) (vs ++ x ∷ []) ks) (made_fault d (after ks next) ms)
       ∙ both (ap (λ (b : Bool). fault_if (d Symbols x || b) (Duplicate k.called.at)) (sym (h x))) (constructors_sorted ks next (vs ++ x ∷ []) ms (λ y. more x y (made_before Symbols y before) vs (h y)))
 
-  types_sorted : (ts : List Algebraic) (before : List Made) (us vs : List Word) → AreBefore Types before us → AreBefore Symbols before vs → types_made d us vs ts ≡ made_fault d before (made_by_types ts)
+  types_sorted : (ts : List AlgebraicType) (before : List Made) (us vs : List Word) → AreBefore Types before us → AreBefore Symbols before vs → types_made d us vs ts ≡ made_fault d before (made_type_names ts)
   types_sorted [] before us vs h k = refl
   types_sorted (a ∷ ts) before us vs h k =
       let x = a.called.name in
       let ks = a.constructors in
-      let next = binds a.vars ∷ (makes Types a.called ∷ before) in
+      let next = binds_names a.vars ∷ (makes Types a.called ∷ before) in
       let us' = us ++ x ∷ [] in
       let vs' = vs ++ constructor_words ks in
       let rest = types_sorted ts (after ks next) us' vs' (λ y. after_types ks next y ∙ more x y (made_before Types y before) us (h y)) (after_symbols ks next vs k) in
       both (ap (λ (b : Bool). fault_if (d Types x || b) (Duplicate a.called.at)) (sym (h x)))
-      (ap (first_of (list_fault [] a.vars)) (ap (first_of (constructors_made (d Symbols) vs ks)) rest ∙ constructors_sorted ks next vs (made_by_types ts) k))
+      (ap (first_of (list_fault [] a.vars)) (ap (first_of (constructors_made (d Symbols) vs ks)) rest ∙ constructors_sorted ks next vs (made_type_names ts) k))
 
-pub group_sorted : (names : Names) (ts : List Algebraic) → types_made (declared_in names) [] [] ts ≡ group_made names ts
+pub group_sorted : (names : ScopeNames) (ts : List AlgebraicType) → types_made (declared_in names) [] [] ts ≡ group_made names ts
 group_sorted names ts = types_sorted (declared_in names) ts [] [] [] (λ x. refl) (λ x. refl)

@@ -7,7 +7,7 @@ use Rattle.std.proofs.lemmas.List.Elements.{All-append, All-cons, All-nil, All-f
 use Rattle.trees.specs.Tree.{Tree}
 use Rattle.trees.specs.Node.{Grows}
 use Rattle.trees.specs.Facts.{TyVarsBelow}
-use Rattle.tasks.specs.Task.{ConTree, AlgebraicTree}
+use Rattle.tasks.specs.Task.{ConstructorTree, AlgebraicTree}
 use Rattle.tasks.specs.Meaning.{con_at, cons_at, algebraic_at, algebraics_at, ConHeld, AlgebraicHeld}
 use Rattle.tasks.specs.declared.declaration.Con.{Con}
 use Rattle.tasks.specs.declared.declaration.Alg.{Alg}
@@ -19,7 +19,7 @@ use Rattle.elab_walk.specs.Scoped.{IsScoped}
 use Rattle.elab_walk.proofs.Below.{forms_below}
 use Rattle.elab_walk.proofs.Growing.{map_same, types_grow, types_stay}
 use Rattle.elab_walk.proofs.Walking.{none_both}
-use Rattle.elab_parts.specs.Declarations.{Constructor, Algebraic, words, with_vars, constructors_fault, types_fault}
+use Rattle.elab_parts.specs.Declarations.{AlgebraicConstructor, AlgebraicType, words, with_vars, constructors_fault, types_fault}
 use Rattle.elab_types.specs.Algebraics.{entry_count, constructor_trees, algebraic_trees}
 use Rattle.elab_types.specs.Held.{ConTyped, AlgTyped, AreConsWithin, AreWithin}
 
@@ -40,7 +40,7 @@ module _ (s s' : List Tree) (g : Grows s s') where
   alg_grows a h = record { cons = cons_grow a.cons h.cons }
 
   alg_stays : (a : Alg) → AlgTyped s a → algebraic_at s' a ≡ algebraic_at s a
-  alg_stays a h = ap (λ (cs : List ConTree). record { symbol = a.symbol; cons = cs }) (cons_stay a.cons h.cons)
+  alg_stays a h = ap (λ (cs : List ConstructorTree). record { symbol = a.symbol; cons = cs }) (cons_stay a.cons h.cons)
 
   pub algs_grow : (ys : List Alg) → All (AlgTyped s) ys → All (AlgTyped s') ys
   algs_grow ys h = λ k e l. alg_grows _ (h k e l)
@@ -48,12 +48,12 @@ module _ (s s' : List Tree) (g : Grows s s') where
   pub algs_stay : (ys : List Alg) → All (AlgTyped s) ys → algebraics_at s' ys ≡ algebraics_at s ys
   algs_stay ys h = map_same (algebraic_at s') (algebraic_at s) ys (λ k e l. alg_stays _ (h k e l))
 
-  -- one more behind those that are there
+  -- one more after those that are there
   pub cons_more : (cs : List Con) (c : Con) → All (ConTyped s) cs → ConTyped s' c → All (ConTyped s') (cs ++ c ∷ [])
   cons_more cs c h k = All-append (ConTyped s') cs (c ∷ []) (cons_grow cs h) (All-cons (ConTyped s') c [] k (All-nil (ConTyped s')))
 
   pub cons_are : (cs : List Con) (c : Con) → All (ConTyped s) cs → cons_at s' (cs ++ c ∷ []) ≡ cons_at s cs ++ con_at s' c ∷ []
-  cons_are cs c h = map-append (con_at s') cs (c ∷ []) ∙ ap (λ (ts : List ConTree). ts ++ con_at s' c ∷ []) (cons_stay cs h)
+  cons_are cs c h = map-append (con_at s') cs (c ∷ []) ∙ ap (λ (ts : List ConstructorTree). ts ++ con_at s' c ∷ []) (cons_stay cs h)
 
   pub algs_more : (ys : List Alg) (a : Alg) → All (AlgTyped s) ys → AlgTyped s' a → All (AlgTyped s') (ys ++ a ∷ [])
   algs_more ys a h k = All-append (AlgTyped s') ys (a ∷ []) (algs_grow ys h) (All-cons (AlgTyped s') a [] k (All-nil (AlgTyped s')))
@@ -75,13 +75,13 @@ algs_held s ys h = λ k e l. alg_held s _ (h k e l)
 scoped_with : (w : Where) (vs : List (List ℕ)) → IsScoped w → IsScoped (with_vars w vs)
 scoped_with w vs h = record { symbols = h.symbols; types = h.types; tuples = h.tuples }
 
-cons_within : (w : Where) → IsScoped w → (n : ℕ) (ks : List Constructor) → constructors_fault w ks ≡ None → AreConsWithin (length w.vars) (constructor_trees w n ks)
+cons_within : (w : Where) → IsScoped w → (n : ℕ) (ks : List AlgebraicConstructor) → constructors_fault w ks ≡ None → AreConsWithin (length w.vars) (constructor_trees w n ks)
 cons_within w sc n [] h = tt
 cons_within w sc n (k ∷ ks) h =
     let p = none_both (forms_fault w false k.fields) (constructors_fault w ks) h in
     (All-from_recursion (TyVarsBelow (length w.vars)) (types_at w k.fields) (forms_below w sc k.fields p.0), cons_within w sc (n + (count_forms k.fields + 1)) ks p.1)
 
-pub types_within : (w : Where) → IsScoped w → (i n : ℕ) (ts : List Algebraic) → types_fault w ts ≡ None → AreWithin ts (algebraic_trees w i n ts)
+pub types_within : (w : Where) → IsScoped w → (i n : ℕ) (ts : List AlgebraicType) → types_fault w ts ≡ None → AreWithin ts (algebraic_trees w i n ts)
 types_within w sc i n [] h = tt
 types_within w sc i n (a ∷ ts) h =
     let v = with_vars w (words a.vars) in

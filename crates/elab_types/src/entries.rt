@@ -7,7 +7,7 @@ ghost use Rattle.tasks.specs.Meaning.{cons_at, algebraics_at};
 ghost use Rattle.tasks.specs.Valid.{own_type};
 ghost use Rattle.elab_walk.specs.Drafts.{HoldsType};
 ghost use Rattle.elab_parts.specs.Entries.{IsSignature, IsExtended};
-ghost use Rattle.elab_types.specs.Algebraics.{constructors_of, types_of, type_entries, constructors_entries, group_entries};
+ghost use Rattle.elab_types.specs.Algebraics.{constructors_of, algebraics_of, type_entries, constructors_entries, group_entries};
 ghost use Rattle.elab_types.specs.Held.{ConTyped, AlgTyped, AreConsWithin, AreWithin};
 
 use elab_parts::{Place, join_words, push_constructor, push_type, variables};
@@ -28,7 +28,7 @@ pub fn push_type_entries(
 ) -> Result<(), AllocError>
     requires { IsSignature store.now sig.old.symbols }
     ensures { OnOk result (IsExtended store.now sig.old store.now sig.new (type_entries
-        place.now.theory.now place.now.within.now (types_of types.now))) }
+        place.now.theory.now place.now.within.now (algebraics_of types.now))) }
 {
     let Some((first, rest)) = types.split_first() else {
         return Ok(());
@@ -105,9 +105,9 @@ pub fn push_entries(
 ) -> Result<(), AllocError>
     requires signature { IsSignature store.old sig.old.symbols }
     requires typed { All (AlgTyped store.old) types.now }
-    requires below { AreWithin (types_of sources.now) (algebraics_at store.old types.now) }
+    requires below { AreWithin (algebraics_of sources.now) (algebraics_at store.old types.now) }
     ensures entries { OnOk result (IsExtended store.old sig.old store.new sig.new (group_entries
-        place.now.theory.now place.now.within.now (types_of sources.now)
+        place.now.theory.now place.now.within.now (algebraics_of sources.now)
         (algebraics_at store.old types.now))) }
     ensures grows { Grows store.old store.new }
 {

@@ -8,7 +8,7 @@ ghost use Rattle.elab_names.specs.Naming.{where_at, Tells};
 ghost use Rattle.elab_walk.specs.Drafts.{HoldsType, WorldHeld};
 ghost use Rattle.elab_walk.specs.Pieces.{types_at};
 ghost use Rattle.elab_parts.specs.Declarations.{word, words, constructors_fault, types_fault};
-ghost use Rattle.elab_types.specs.Algebraics.{fields_of, constructors_of, types_of, entry_count, group_count, numbers_from, constructor_trees, algebraic_trees};
+ghost use Rattle.elab_types.specs.Algebraics.{field_expressions, constructors_of, algebraics_of, entry_count, group_count, numbering_from, constructor_trees, algebraic_trees};
 ghost use Rattle.elab_parts.specs.Entries.{tuple_in, IsSignature};
 ghost use Rattle.elab_parts.specs.Outcomes.{over};
 ghost use Rattle.elab_types.specs.Held.{ConTyped, AlgTyped, HaveThings};
@@ -24,7 +24,7 @@ use tasks::{Alg, Con, Signature};
 use term_store::Store;
 use trees::TermId;
 
-// The types of fields, behind those that are there.
+// The types of fields, after those that are there.
 fn push_fields(
     alloc: Global,
     store: &mut Store,
@@ -37,9 +37,9 @@ fn push_fields(
     requires held { All (HoldsType store.old) types.old.items }
     ensures held { OnOk result (All (HoldsType store.new) types.new.items) }
     ensures trees { OnOk result (trees_at store.new types.new.items ≡ trees_at store.old
-        types.old.items ++ types_at (where_at store.old world.now) (fields_of fields.now)) }
+        types.old.items ++ types_at (where_at store.old world.now) (field_expressions fields.now)) }
     ensures told { Tells result (forms_fault (where_at store.old world.now) false
-        (fields_of fields.now)) }
+        (field_expressions fields.now)) }
     ensures grows { Grows store.old store.new }
 {
     let Some((first, rest)) = fields.split_first() else {
@@ -54,7 +54,7 @@ fn push_fields(
 // A number for each of these types, from one on.
 fn push_numbers(numbers: &mut Vec<usize>, number: usize, types: &[TermId]) -> Result<(), AllocError>
     requires { number + length types.now < 2 ^ 64 }
-    ensures { OnOk result ((s : List Tree) → numbers.new.items ≡ numbers.old.items ++ numbers_from
+    ensures { OnOk result ((s : List Tree) → numbers.new.items ≡ numbers.old.items ++ numbering_from
         number (trees_at s types.now)) }
 {
     let Some((_, rest)) = types.split_first() else {
@@ -78,14 +78,14 @@ fn make_constructor(
     ensures typed { IfOk result (ConTyped store.new) }
     ensures con { IfOk result (λ it. con_at store.new it ≡ record {
       symbol = number;
-      fields = types_at (where_at store.old world.now) (fields_of fields.now);
-      projections = numbers_from (number + 1) (types_at (where_at store.old world.now)
-          (fields_of fields.now));
+      fields = types_at (where_at store.old world.now) (field_expressions fields.now);
+      projections = numbering_from (number + 1) (types_at (where_at store.old world.now)
+          (field_expressions fields.now));
     }) }
     ensures free { OnOk result (forms_fault (where_at store.old world.now) false
-        (fields_of fields.now) ≡ None) }
+        (field_expressions fields.now) ≡ None) }
     ensures err { IfErr result (λ fault. Tells (Err fault) (forms_fault
-        (where_at store.old world.now) false (fields_of fields.now))) }
+        (where_at store.old world.now) false (field_expressions fields.now))) }
     ensures grows { Grows store.old store.new }
 {
     let mut types = Vec::new(alloc);
@@ -99,7 +99,7 @@ fn make_constructor(
     })
 }
 
-// Constructors from a number on, behind those that are there.
+// Constructors from a number on, after those that are there.
 fn push_constructors(
     alloc: Global,
     store: &mut Store,
@@ -187,7 +187,7 @@ fn make_constructors(
     Ok(made)
 }
 
-/// The types of a group from a number on, with their constructors from another, behind those that are there.
+/// The types of a group from a number on, with their constructors from another, after those that are there.
 pub fn push_types(
     alloc: Global,
     store: &mut Store,
@@ -202,14 +202,14 @@ pub fn push_types(
     requires scopes { HaveThings store.old scope.now }
     requires made { All (AlgTyped store.old) made.old }
     requires symbols { symbol + length types.now < 2 ^ 64 }
-    requires fits { number.old + group_count (types_of types.now) < 2 ^ 64 }
+    requires fits { number.old + group_count (algebraics_of types.now) < 2 ^ 64 }
     ensures typed { OnOk result (All (AlgTyped store.new) made.new) }
     ensures types { OnOk result (algebraics_at store.new made.new ≡ algebraics_at store.old
         made.old ++ algebraic_trees
         (over store.old (symbols_at store.old sig.now.symbols) scope.now []) symbol number.old
-        (types_of types.now)) }
+        (algebraics_of types.now)) }
     ensures told { Tells result (types_fault
-        (over store.old (symbols_at store.old sig.now.symbols) scope.now []) (types_of
+        (over store.old (symbols_at store.old sig.now.symbols) scope.now []) (algebraics_of
         types.now)) }
     ensures grows { Grows store.old store.new }
 {

@@ -8,7 +8,7 @@ ghost use Rattle.elab_names.specs.Naming.{Tells};
 ghost use Rattle.elab_parts.specs.Declarations.{types_fault};
 ghost use Rattle.elab_parts.specs.Entries.{wanting_tuples, IsSignature, IsExtended, AreScopes};
 ghost use Rattle.elab_parts.specs.Outcomes.{over, setting, IsKept};
-ghost use Rattle.elab_types.specs.Algebraics.{types_of, group_seen, group_count, with_types, type_entries, algebraic_trees, group_entries, first_name, first_vars, group_made, IsGroupElaborated, IsGroupRefusal};
+ghost use Rattle.elab_types.specs.Algebraics.{algebraics_of, group_seen, group_count, with_types, type_entries, algebraic_trees, group_entries, first_name, first_vars, group_made, AreTypesElaborated, IsTypesRefusal};
 ghost use Rattle.elab_types.specs.Held.{AlgTyped, AreWithin, HaveThings};
 
 use crate::entries::{push_entries, push_type_entries};
@@ -34,11 +34,11 @@ fn push_symbols(
 ) -> Result<usize, AllocError>
     requires { IsSignature store.old sig.old.symbols }
     ensures entries { OnOk result (IsExtended store.old sig.old store.new sig.new
-        (wanting_tuples (symbols_at store.old sig.old.symbols) (group_seen (types_of
-        types.now)).widths ++ type_entries place.now.theory.now place.now.within.now (types_of
+        (wanting_tuples (symbols_at store.old sig.old.symbols) (group_seen (algebraics_of
+        types.now)).widths ++ type_entries place.now.theory.now place.now.within.now (algebraics_of
         types.now))) }
     ensures first { IfOk result (λ symbol. symbol ≡ length sig.old.symbols + length
-        (wanting_tuples (symbols_at store.old sig.old.symbols) (group_seen (types_of
+        (wanting_tuples (symbols_at store.old sig.old.symbols) (group_seen (algebraics_of
         types.now)).widths)) }
     ensures behind { IfOk result (λ symbol. length sig.new.symbols ≡ symbol + length types.now) }
     ensures grows { Grows store.old store.new }
@@ -66,10 +66,10 @@ fn declare_group(
     types: &[AlgTree],
 ) -> Result<(), NamingFault>
     requires { symbol + length types.now < 2 ^ 64 }
-    ensures scope { OnOk result (scope.new ≡ with_types symbol number (types_of types.now)
+    ensures scope { OnOk result (scope.new ≡ with_types symbol number (algebraics_of types.now)
         scope.old) }
-    ensures fits { OnOk result (number + group_count (types_of types.now) < 2 ^ 64) }
-    ensures told { Tells result (group_made scope.old (types_of types.now)) }
+    ensures fits { OnOk result (number + group_count (algebraics_of types.now) < 2 ^ 64) }
+    ensures told { Tells result (group_made scope.old (algebraics_of types.now)) }
 {
     let mut before = Before {
         types: Vec::new(alloc),
@@ -94,18 +94,20 @@ fn make_types(
     requires signature { IsSignature store.old sig.now.symbols }
     requires scopes { HaveThings store.old scope.now }
     requires symbols { symbol + length types.now < 2 ^ 64 }
-    requires fits { number + group_count (types_of types.now) < 2 ^ 64 }
+    requires fits { number + group_count (algebraics_of types.now) < 2 ^ 64 }
     ensures typed { IfOk result (All (AlgTyped store.new)) }
     ensures types { IfOk result (λ made. algebraics_at store.new made ≡ algebraic_trees
-        (over store.old (symbols_at store.old sig.now.symbols) scope.now []) symbol number (types_of
+        (over store.old (symbols_at store.old sig.now.symbols) scope.now []) symbol number
+        (algebraics_of
         types.now)) }
-    ensures within { IfOk result (λ made. AreWithin (types_of types.now)
+    ensures within { IfOk result (λ made. AreWithin (algebraics_of types.now)
         (algebraics_at store.new made)) }
     ensures free { OnOk result (types_fault
-        (over store.old (symbols_at store.old sig.now.symbols) scope.now []) (types_of types.now)
+        (over store.old (symbols_at store.old sig.now.symbols) scope.now [])
+        (algebraics_of types.now)
         ≡ None) }
     ensures err { IfErr result (λ fault. Tells (Err fault) (types_fault
-        (over store.old (symbols_at store.old sig.now.symbols) scope.now []) (types_of
+        (over store.old (symbols_at store.old sig.now.symbols) scope.now []) (algebraics_of
         types.now))) }
     ensures grows { Grows store.old store.new }
 {
@@ -118,7 +120,7 @@ fn make_types(
 }
 
 fn first_name(types: &[AlgTree]) -> &[u8]
-    ensures { result.now ≡ first_name (types_of types.now) }
+    ensures { result.now ≡ first_name (algebraics_of types.now) }
 {
     match types.split_first() {
         Some((first, _)) => first.name.text.as_slice(),
@@ -127,7 +129,7 @@ fn first_name(types: &[AlgTree]) -> &[u8]
 }
 
 fn first_vars(types: &[AlgTree]) -> usize
-    ensures { result ≡ first_vars (types_of types.now) }
+    ensures { result ≡ first_vars (algebraics_of types.now) }
 {
     match types.split_first() {
         Some((first, _)) => first.vars.len(),
@@ -146,14 +148,14 @@ fn make_group(
 ) -> Result<Elaborated, AllocError>
     requires signature { IsSignature store.old sig.old.symbols }
     requires typed { All (AlgTyped store.old) made }
-    requires below { AreWithin (types_of types.now) (algebraics_at store.old made) }
+    requires below { AreWithin (algebraics_of types.now) (algebraics_at store.old made) }
     ensures entries { OnOk result (IsExtended store.old sig.old store.new sig.new (group_entries
-        place.now.theory.now place.now.within.now (types_of types.now)
+        place.now.theory.now place.now.within.now (algebraics_of types.now)
         (algebraics_at store.old made))) }
     ensures decls { IfOk result (λ it. declarations_at store.new it.decls ≡ record {
       theory = place.now.theory.now;
-      name = place.now.within.now ++ first_name (types_of types.now);
-      vars = first_vars (types_of types.now);
+      name = place.now.within.now ++ first_name (algebraics_of types.now);
+      vars = first_vars (algebraics_of types.now);
       body = Constructs (algebraics_at store.old made);
     } ∷ []) }
     ensures held { IfOk result (λ it. All (DeclHeld store.new) it.decls) }
@@ -192,11 +194,11 @@ pub fn elaborate_algebraic(
 ) -> Result<Elaborated, ElabFault>
     requires signature { IsSignature store.old sig.old.symbols }
     requires scopes { AreScopes store.old (length sig.old.symbols) scope.old }
-    ensures ok { IfOk result (IsGroupElaborated (setting place.now store.old sig.old scope.old)
-        (types_of types.now) sig.old store.new sig.new scope.new) }
+    ensures ok { IfOk result (AreTypesElaborated (setting place.now store.old sig.old scope.old)
+        (algebraics_of types.now) sig.old store.new sig.new scope.new) }
     ensures kept { IfOk result (IsKept store.new sig.new scope.new) }
-    ensures err { IfErr result (IsGroupRefusal (setting place.now store.old sig.old scope.old)
-        (types_of types.now)) }
+    ensures err { IfErr result (IsTypesRefusal (setting place.now store.old sig.old scope.old)
+        (algebraics_of types.now)) }
     ensures grows { Grows store.old store.new }
 {
     let symbol = push_symbols(alloc, store, sig, place, types)?;

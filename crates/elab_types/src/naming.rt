@@ -4,10 +4,10 @@ ghost use Rattle.names_space.specs.Names.{with_entry};
 ghost use Rattle.elab_names.specs.Naming.{Tells};
 ghost use Rattle.elab_parts.specs.Declarations.{word, list_fault};
 ghost use Rattle.elab_parts.specs.Outcomes.{declared_in};
-ghost use Rattle.elab_types.specs.Algebraics.{constructors_of, types_of, entry_count, group_count, with_constructors, with_types, name_made, constructor_words, constructors_made, types_made};
+ghost use Rattle.elab_types.specs.Algebraics.{constructors_of, algebraics_of, entry_count, group_count, with_constructors, with_types, name_made, constructor_words, constructors_made, types_made};
 
 use elab_names::{NamingFault, variable_named};
-use elab_parts::{declare, gather, find_repeated};
+use elab_parts::{declare, find_repeated, gather};
 use names_space::{Scope, Table, TypeName};
 use outside::Text;
 use std::alloc::{AllocError, Global};
@@ -36,7 +36,7 @@ fn declare_name(
     declare(scope, table, name.text.as_slice(), thing, name.at)
 }
 
-// The number behind a constructor and its projections.
+// The number after a constructor and its projections.
 fn number_behind(number: usize, fields: usize) -> Result<usize, NamingFault>
     ensures next { IfOk result (λ next. next ≡ number + (fields + 1)) }
     ensures err { IfErr result (λ fault. fault ≡ NamingFault.Memory) }
@@ -75,7 +75,7 @@ fn declare_constructors(
     declare_constructors(alloc, scope, before, number, rest)
 }
 
-// A type variable that stands twice among those of a type.
+// A type variable that occurs twice among those of a type.
 fn check_variables(alloc: Global, vars: &[Name]) -> Result<(), NamingFault>
     ensures { Tells result (list_fault [] (map word vars.now)) }
 {
@@ -105,11 +105,11 @@ pub fn declare_types(
     types: &[AlgTree],
 ) -> Result<(), NamingFault>
     requires { symbol + length types.now < 2 ^ 64 }
-    ensures scope { OnOk result (scope.new ≡ with_types symbol number.old (types_of types.now)
+    ensures scope { OnOk result (scope.new ≡ with_types symbol number.old (algebraics_of types.now)
         scope.old) }
-    ensures number { OnOk result (number.new ≡ number.old + group_count (types_of types.now)) }
+    ensures number { OnOk result (number.new ≡ number.old + group_count (algebraics_of types.now)) }
     ensures told { Tells result (types_made (declared_in scope.old) before.old.types.items
-        before.old.constructors.items (types_of types.now)) }
+        before.old.constructors.items (algebraics_of types.now)) }
 {
     let Some((first, rest)) = types.split_first() else {
         return Ok(());

@@ -2,16 +2,17 @@
 ghost use Rattle.std.specs.Prelude.{◌≡◌, IfOk, OnOk};
 ghost use Rattle.elab_variables.specs.Seen.{forms_seen};
 ghost use Rattle.elab_variables.specs.Entered.{seen_at};
-ghost use Rattle.elab_types.specs.Algebraics.{fields_of, constructors_of, types_of, constructors_seen, types_seen, group_seen};
+ghost use Rattle.elab_types.specs.Algebraics.{field_expressions, constructors_of, algebraics_of, constructors_seen, types_seen, group_seen};
 
 use elab_variables::{Seen, enter_form};
 use outside::Seq;
 use std::alloc::{AllocError, Global};
 use syntax_why::{AlgTree, ConTree, TypeTree};
 
-// Those of fields, behind those that are there.
+// Those of fields, after those that are there.
 fn enter_fields(alloc: Global, seen: &mut Seen, fields: &[TypeTree]) -> Result<(), AllocError>
-    ensures { OnOk result (seen_at seen.new ≡ forms_seen (seen_at seen.old) (fields_of fields.now)) }
+    ensures { OnOk result (seen_at seen.new
+        ≡ forms_seen (seen_at seen.old) (field_expressions fields.now)) }
 {
     let Some((first, rest)) = fields.split_first() else {
         return Ok(());
@@ -20,7 +21,7 @@ fn enter_fields(alloc: Global, seen: &mut Seen, fields: &[TypeTree]) -> Result<(
     enter_fields(alloc, seen, rest)
 }
 
-// Those of constructors, behind those that are there.
+// Those of constructors, after those that are there.
 fn enter_constructors(alloc: Global, seen: &mut Seen, cons: &[ConTree]) -> Result<(), AllocError>
     ensures { OnOk result (seen_at seen.new ≡ constructors_seen (seen_at seen.old)
         (constructors_of cons.now)) }
@@ -32,9 +33,10 @@ fn enter_constructors(alloc: Global, seen: &mut Seen, cons: &[ConTree]) -> Resul
     enter_constructors(alloc, seen, rest)
 }
 
-// Those of types, behind those that are there.
+// Those of types, after those that are there.
 fn enter_types(alloc: Global, seen: &mut Seen, types: &[AlgTree]) -> Result<(), AllocError>
-    ensures { OnOk result (seen_at seen.new ≡ types_seen (seen_at seen.old) (types_of types.now)) }
+    ensures { OnOk result (seen_at seen.new
+        ≡ types_seen (seen_at seen.old) (algebraics_of types.now)) }
 {
     let Some((first, rest)) = types.split_first() else {
         return Ok(());
@@ -45,7 +47,7 @@ fn enter_types(alloc: Global, seen: &mut Seen, types: &[AlgTree]) -> Result<(), 
 
 /// Those of a group.
 pub fn group_seen(alloc: Global, types: &[AlgTree]) -> Result<Seen, AllocError>
-    ensures { IfOk result (λ seen. seen_at seen ≡ group_seen (types_of types.now)) }
+    ensures { IfOk result (λ seen. seen_at seen ≡ group_seen (algebraics_of types.now)) }
 {
     let mut seen = Seen {
         vars: Seq::new(alloc),

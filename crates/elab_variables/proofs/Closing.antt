@@ -4,12 +4,12 @@ use Rattle.std.specs.Option.{is_some, is_none}
 use Rattle.std.specs.Str.{bytes_eq}
 use Rattle.std.proofs.lemmas.Slice.Eq.{bytes_eq-Decides}
 use Rattle.syntax_why.specs.Lexeme.{Word}
-use Rattle.elab_names.specs.Abstract.{Form, Forms, variable, composed, product, no_forms, more_forms, Pattern, Patterns, wild, bound, constructed, tupled, aliased, no_patterns, more_patterns, Alternatives, no_alternatives, more_alternatives, Binder, Expression, Expressions, Branches, apply, infixed, literal, truth, falsity, tuple, cast, negation, joined, equated, choice, binding, cases, quantified, none, more, no_branches, more_branches, count_forms, count_patterns, count}
+use Rattle.elab_names.specs.Abstract.{TypeExpression, TypeExpressions, variable_type, composed_type, product_type, no_types, more_types, Pattern, Patterns, wildcard_pattern, variable_pattern, constructor_pattern, tuple_pattern, alias_pattern, no_patterns, more_patterns, Alternatives, no_alternatives, more_alternatives, BoundNames, Expression, Expressions, MatchBranches, applied_expression, infix_expression, integer_expression, true_expression, false_expression, tuple_expression, cast_expression, not_expression, connected_expression, equality_expression, if_expression, let_expression, match_expression, quantified_expression, no_expressions, more_expressions, no_branches, more_branches, count_forms, count_patterns, count_expressions}
 use Rattle.elab_names.specs.declared.NamingFault.{NamingFault}
 use Rattle.elab_names.specs.declared.NamingFault.TheVariants.{Unknown, WrongKind}
 use Rattle.elab_names.specs.Where.{Where, MeaningTree, Stands, Abbreviates, place_of}
-use Rattle.elab_names.specs.Faults.{first_of, fault_if, meaning_fault, form_fault, forms_fault, symbol_fault, local_fault, is_variable, name_fault, type_fault, binders_fault, bound_names, constructor_fault, pattern_fault, patterns_fault, pattern_names, later_fault, alternatives_fault, alternatives_names, Head, head_named, head_equality, head_other, head, makes_formulas, is_formula_head, is_formula_trigger, fault, faults, triggers_fault, branches_fault, has_alternative}
-use Rattle.elab_variables.specs.Seen.{Seen, with_variable, with_width, form_seen, forms_seen, type_seen, binders_seen, pattern_seen, patterns_seen, alternatives_seen, seen, all_seen, branches_seen}
+use Rattle.elab_names.specs.Faults.{first_of, fault_if, meaning_fault, form_fault, forms_fault, symbol_fault, local_fault, is_variable, name_fault, type_fault, binders_fault, bound_names, constructor_fault, pattern_fault, patterns_fault, pattern_names, later_fault, alternatives_fault, alternatives_names, TriggerHeadTree, trigger_named, trigger_equality, trigger_other, trigger_head, makes_formulas, is_formula_head, is_formula_trigger, fault, faults, triggers_fault, branches_fault, has_alternative}
+use Rattle.elab_variables.specs.Seen.{SeenTree, with_variable, with_width, form_seen, forms_seen, type_seen, binders_seen, pattern_seen, patterns_seen, alternatives_seen, seen, all_seen, branches_seen}
 use Rattle.elab_names.proofs.Placed.{one_more}
 
 abbrev IsIn : Word → List Word → Type 0
@@ -20,7 +20,7 @@ abbrev pub AreIn : List Word → List Word → Type 0
 AreIn us vs = (v : Word) → IsIn v us → IsIn v vs
 
 -- each type variable of the first is one of the second
-abbrev Stay : Seen → Seen → Type 0
+abbrev Stay : SeenTree → SeenTree → Type 0
 Stay s t = AreIn s.vars t.vars
 
 none_both : (x y : Option NamingFault) → first_of x y ≡ None → (x ≡ None) × (y ≡ None)
@@ -57,14 +57,14 @@ in_back v (u ∷ us) vs h = behind (bytes_eq u v) (place_of v (us ++ vs)) (in_ba
 itself : (v : Word) → IsIn v (v ∷ [])
 itself v = head_or (bytes_eq v v) (option_map suc (place_of v [])) (bytes_same v)
 
-with_more : (v : Word) (s : Seen) → Stay s (with_variable v s)
+with_more : (v : Word) (s : SeenTree) → Stay s (with_variable v s)
 with_more v s u h = at (is_some (place_of v s.vars))
   where
     at : (b : Bool) → IsIn u (cond b s.vars (s.vars ++ v ∷ []))
     at true = h
     at false = in_front u s.vars (v ∷ []) h
 
-with_has : (v : Word) (s : Seen) → IsIn v (with_variable v s).vars
+with_has : (v : Word) (s : SeenTree) → IsIn v (with_variable v s).vars
 with_has v s = at (is_some (place_of v s.vars)) refl
   where
     at : (b : Bool) → is_some (place_of v s.vars) ≡ b → IsIn v (cond b s.vars (s.vars ++ v ∷ []))
@@ -73,61 +73,61 @@ with_has v s = at (is_some (place_of v s.vars)) refl
 
 -- ---- each list of type variables stays in the next
 mutual
-  form_more : (f : Form) (s : Seen) → Stay s (form_seen s f)
-  form_more (variable i v) s u h = with_more v s u h
-  form_more (composed i qs x fs) s u h = forms_more fs s u h
-  form_more (product i fs) s u h = forms_more fs (with_width (count_forms fs) s) u h
+  form_more : (f : TypeExpression) (s : SeenTree) → Stay s (form_seen s f)
+  form_more (variable_type i v) s u h = with_more v s u h
+  form_more (composed_type i qs x fs) s u h = forms_more fs s u h
+  form_more (product_type i fs) s u h = forms_more fs (with_width (count_forms fs) s) u h
 
-  forms_more : (fs : Forms) (s : Seen) → Stay s (forms_seen s fs)
-  forms_more no_forms s u h = h
-  forms_more (more_forms f fs) s u h = forms_more fs (form_seen s f) u (form_more f s u h)
+  forms_more : (fs : TypeExpressions) (s : SeenTree) → Stay s (forms_seen s fs)
+  forms_more no_types s u h = h
+  forms_more (more_types f fs) s u h = forms_more fs (form_seen s f) u (form_more f s u h)
 
-type_more : (f : Option Form) (s : Seen) → Stay s (type_seen s f)
+type_more : (f : Option TypeExpression) (s : SeenTree) → Stay s (type_seen s f)
 type_more None s u h = h
 type_more (Some f) s u h = form_more f s u h
 
-binders_more : (bs : List Binder) (s : Seen) → Stay s (binders_seen s bs)
+binders_more : (bs : List BoundNames) (s : SeenTree) → Stay s (binders_seen s bs)
 binders_more [] s u h = h
 binders_more (b ∷ bs) s u h = binders_more bs (type_seen s b.of_type) u (type_more b.of_type s u h)
 
 mutual
-  pattern_more : (p : Pattern) (s : Seen) → Stay s (pattern_seen s p)
-  pattern_more (wild i) s u h = h
-  pattern_more (bound i x) s u h = h
-  pattern_more (constructed i qs x ps) s u h = patterns_more ps s u h
-  pattern_more (tupled i ps) s u h = patterns_more ps (with_width (count_patterns ps) s) u h
-  pattern_more (aliased p i x) s u h = pattern_more p s u h
+  pattern_more : (p : Pattern) (s : SeenTree) → Stay s (pattern_seen s p)
+  pattern_more (wildcard_pattern i) s u h = h
+  pattern_more (variable_pattern i x) s u h = h
+  pattern_more (constructor_pattern i qs x ps) s u h = patterns_more ps s u h
+  pattern_more (tuple_pattern i ps) s u h = patterns_more ps (with_width (count_patterns ps) s) u h
+  pattern_more (alias_pattern p i x) s u h = pattern_more p s u h
 
-  patterns_more : (ps : Patterns) (s : Seen) → Stay s (patterns_seen s ps)
+  patterns_more : (ps : Patterns) (s : SeenTree) → Stay s (patterns_seen s ps)
   patterns_more no_patterns s u h = h
   patterns_more (more_patterns p ps) s u h = patterns_more ps (pattern_seen s p) u (pattern_more p s u h)
 
-alternatives_more : (ps : Alternatives) (s : Seen) → Stay s (alternatives_seen s ps)
+alternatives_more : (ps : Alternatives) (s : SeenTree) → Stay s (alternatives_seen s ps)
 alternatives_more no_alternatives s u h = h
 alternatives_more (more_alternatives i p ps) s u h = alternatives_more ps (pattern_seen s p) u (pattern_more p s u h)
 
 mutual
-  some_more : (e : Expression) (s : Seen) → Stay s (seen s e)
-  some_more (apply i qs x es) s u h = all_more es s u h
-  some_more (infixed i x a b) s u h = some_more b (seen s a) u (some_more a s u h)
-  some_more (literal i z) s u h = h
-  some_more (truth i) s u h = h
-  some_more (falsity i) s u h = h
-  some_more (tuple i es) s u h = all_more es (with_width (count es) s) u h
-  some_more (cast i e f) s u h = form_more f (seen s e) u (some_more e s u h)
-  some_more (negation i e) s u h = some_more e s u h
-  some_more (joined i a o b) s u h = some_more b (seen s a) u (some_more a s u h)
-  some_more (equated i same a b) s u h = some_more b (seen s a) u (some_more a s u h)
-  some_more (choice i c a b) s u h = some_more b (seen (seen s c) a) u (some_more a (seen s c) u (some_more c s u h))
-  some_more (binding i x a b) s u h = some_more b (seen s a) u (some_more a s u h)
-  some_more (cases i e bs) s u h = branches_more bs (seen s e) u (some_more e s u h)
-  some_more (quantified i all bs gs b) s u h = some_more b (all_seen (binders_seen s bs) gs) u (all_more gs (binders_seen s bs) u (binders_more bs s u h))
+  some_more : (e : Expression) (s : SeenTree) → Stay s (seen s e)
+  some_more (applied_expression i qs x es) s u h = all_more es s u h
+  some_more (infix_expression i x a b) s u h = some_more b (seen s a) u (some_more a s u h)
+  some_more (integer_expression i z) s u h = h
+  some_more (true_expression i) s u h = h
+  some_more (false_expression i) s u h = h
+  some_more (tuple_expression i es) s u h = all_more es (with_width (count_expressions es) s) u h
+  some_more (cast_expression i e f) s u h = form_more f (seen s e) u (some_more e s u h)
+  some_more (not_expression i e) s u h = some_more e s u h
+  some_more (connected_expression i a o b) s u h = some_more b (seen s a) u (some_more a s u h)
+  some_more (equality_expression i same a b) s u h = some_more b (seen s a) u (some_more a s u h)
+  some_more (if_expression i c a b) s u h = some_more b (seen (seen s c) a) u (some_more a (seen s c) u (some_more c s u h))
+  some_more (let_expression i x a b) s u h = some_more b (seen s a) u (some_more a s u h)
+  some_more (match_expression i e bs) s u h = branches_more bs (seen s e) u (some_more e s u h)
+  some_more (quantified_expression i all bs gs b) s u h = some_more b (all_seen (binders_seen s bs) gs) u (all_more gs (binders_seen s bs) u (binders_more bs s u h))
 
-  all_more : (es : Expressions) (s : Seen) → Stay s (all_seen s es)
-  all_more none s u h = h
-  all_more (more e es) s u h = all_more es (seen s e) u (some_more e s u h)
+  all_more : (es : Expressions) (s : SeenTree) → Stay s (all_seen s es)
+  all_more no_expressions s u h = h
+  all_more (more_expressions e es) s u h = all_more es (seen s e) u (some_more e s u h)
 
-  branches_more : (bs : Branches) (s : Seen) → Stay s (branches_seen s bs)
+  branches_more : (bs : MatchBranches) (s : SeenTree) → Stay s (branches_seen s bs)
   branches_more no_branches s u h = h
   branches_more (more_branches ps b bs) s u h = branches_more bs (seen (alternatives_seen s ps) b) u (some_more b (alternatives_seen s ps) u (alternatives_more ps s u h))
 
@@ -160,18 +160,18 @@ module _ (w : Where) (vs : List Word) where
   makes_same None = refl
   makes_same (Some k) = refl
 
-  head_same : (ls : List Word) (h : Head) → is_formula_head with_vars ls h ≡ is_formula_head w ls h
-  head_same ls (head_named qs x) = ap (cond (is_variable qs x ls) false) (makes_same (w.names qs x))
-  head_same ls (head_equality same) = refl
-  head_same ls head_other = refl
+  head_same : (ls : List Word) (h : TriggerHeadTree) → is_formula_head with_vars ls h ≡ is_formula_head w ls h
+  head_same ls (trigger_named qs x) = ap (cond (is_variable qs x ls) false) (makes_same (w.names qs x))
+  head_same ls (trigger_equality same) = refl
+  head_same ls trigger_other = refl
 
   mutual
     pattern_same : (p : Pattern) (us : List Word) → pattern_fault with_vars us p ≡ pattern_fault w us p
-    pattern_same (wild i) us = refl
-    pattern_same (bound i x) us = refl
-    pattern_same (constructed i qs x ps) us = cc (constructor_same i (count_patterns ps) (w.names qs x), patterns_same ps us)
-    pattern_same (tupled i ps) us = patterns_same ps us
-    pattern_same (aliased p i x) us = cc (pattern_same p us)
+    pattern_same (wildcard_pattern i) us = refl
+    pattern_same (variable_pattern i x) us = refl
+    pattern_same (constructor_pattern i qs x ps) us = cc (constructor_same i (count_patterns ps) (w.names qs x), patterns_same ps us)
+    pattern_same (tuple_pattern i ps) us = patterns_same ps us
+    pattern_same (alias_pattern p i x) us = cc (pattern_same p us)
 
     patterns_same : (ps : Patterns) (us : List Word) → patterns_fault with_vars us ps ≡ patterns_fault w us ps
     patterns_same no_patterns us = refl
@@ -186,72 +186,72 @@ module _ (w : Where) (vs : List Word) where
   alternatives_same (more_alternatives i p ps) = cc (pattern_same p [], later_same ps (pattern_names p))
 
   mutual
-    form_closed : (f : Form) (s : Seen) → form_fault w true f ≡ None → AreIn (form_seen s f).vars vs → form_fault with_vars false f ≡ None
-    form_closed (variable i v) s h k = ap (λ (b : Bool). fault_if b (Unknown i)) (none_not (place_of v vs) (k v (with_has v s)))
-    form_closed (composed i qs x fs) s h k =
+    form_closed : (f : TypeExpression) (s : SeenTree) → form_fault w true f ≡ None → AreIn (form_seen s f).vars vs → form_fault with_vars false f ≡ None
+    form_closed (variable_type i v) s h k = ap (λ (b : Bool). fault_if b (Unknown i)) (none_not (place_of v vs) (k v (with_has v s)))
+    form_closed (composed_type i qs x fs) s h k =
         let p = none_both (meaning_fault w i (count_forms fs) (w.types qs x)) (forms_fault w true fs) h in
         both_none _ _ (meaning_same i (count_forms fs) (w.types qs x) ∙ p.0) (forms_closed fs s p.1 k)
-    form_closed (product i fs) s h k = forms_closed fs (with_width (count_forms fs) s) h k
+    form_closed (product_type i fs) s h k = forms_closed fs (with_width (count_forms fs) s) h k
 
-    forms_closed : (fs : Forms) (s : Seen) → forms_fault w true fs ≡ None → AreIn (forms_seen s fs).vars vs → forms_fault with_vars false fs ≡ None
-    forms_closed no_forms s h k = refl
-    forms_closed (more_forms f fs) s h k =
+    forms_closed : (fs : TypeExpressions) (s : SeenTree) → forms_fault w true fs ≡ None → AreIn (forms_seen s fs).vars vs → forms_fault with_vars false fs ≡ None
+    forms_closed no_types s h k = refl
+    forms_closed (more_types f fs) s h k =
         let p = none_both (form_fault w true f) (forms_fault w true fs) h in
         both_none _ _ (form_closed f s p.0 (λ v m. k v (forms_more fs (form_seen s f) v m))) (forms_closed fs (form_seen s f) p.1 k)
 
-  type_closed : (f : Option Form) (s : Seen) → type_fault w true f ≡ None → AreIn (type_seen s f).vars vs → type_fault with_vars false f ≡ None
+  type_closed : (f : Option TypeExpression) (s : SeenTree) → type_fault w true f ≡ None → AreIn (type_seen s f).vars vs → type_fault with_vars false f ≡ None
   type_closed None s h k = refl
   type_closed (Some f) s h k = form_closed f s h k
 
-  binders_closed : (bs : List Binder) (s : Seen) → binders_fault w true bs ≡ None → AreIn (binders_seen s bs).vars vs → binders_fault with_vars false bs ≡ None
+  binders_closed : (bs : List BoundNames) (s : SeenTree) → binders_fault w true bs ≡ None → AreIn (binders_seen s bs).vars vs → binders_fault with_vars false bs ≡ None
   binders_closed [] s h k = refl
   binders_closed (b ∷ bs) s h k =
       let p = none_both (type_fault w true b.of_type) (binders_fault w true bs) h in
       both_none _ _ (type_closed b.of_type s p.0 (λ v m. k v (binders_more bs (type_seen s b.of_type) v m))) (binders_closed bs (type_seen s b.of_type) p.1 k)
 
   mutual
-    pub closed : (e : Expression) (s : Seen) (ls : List Word) (due : Bool) → fault w true ls due e ≡ None → AreIn (seen s e).vars vs → fault with_vars false ls due e ≡ None
-    closed (apply i qs x es) s ls due h k =
-        let p = none_both (name_fault w ls due i qs x (count es)) (faults w true ls es) h in
-        both_none _ _ (name_same ls due i qs x (count es) ∙ p.0) (all_closed es s ls p.1 k)
-    closed (infixed i x a b) s ls due h k =
+    pub closed : (e : Expression) (s : SeenTree) (ls : List Word) (due : Bool) → fault w true ls due e ≡ None → AreIn (seen s e).vars vs → fault with_vars false ls due e ≡ None
+    closed (applied_expression i qs x es) s ls due h k =
+        let p = none_both (name_fault w ls due i qs x (count_expressions es)) (faults w true ls es) h in
+        both_none _ _ (name_same ls due i qs x (count_expressions es) ∙ p.0) (all_closed es s ls p.1 k)
+    closed (infix_expression i x a b) s ls due h k =
         let p = none_both (fault w true ls false a) (first_of (name_fault w ls due i [] x 2) (fault w true ls false b)) h in
         let q = none_both (name_fault w ls due i [] x 2) (fault w true ls false b) p.1 in
         both_none _ _ (closed a s ls false p.0 (λ v m. k v (some_more b (seen s a) v m))) (both_none _ _ (name_same ls due i [] x 2 ∙ q.0) (closed b (seen s a) ls false q.1 k))
-    closed (literal i z) s ls due h k = h
-    closed (truth i) s ls due h k = h
-    closed (falsity i) s ls due h k = h
-    closed (tuple i es) s ls due h k =
+    closed (integer_expression i z) s ls due h k = h
+    closed (true_expression i) s ls due h k = h
+    closed (false_expression i) s ls due h k = h
+    closed (tuple_expression i es) s ls due h k =
         let p = none_both (fault_if due (WrongKind i)) (faults w true ls es) h in
-        both_none _ _ p.0 (all_closed es (with_width (count es) s) ls p.1 k)
-    closed (cast i e f) s ls due h k =
+        both_none _ _ p.0 (all_closed es (with_width (count_expressions es) s) ls p.1 k)
+    closed (cast_expression i e f) s ls due h k =
         let p = none_both (fault_if due (WrongKind i)) (first_of (fault w true ls false e) (form_fault w true f)) h in
         let q = none_both (fault w true ls false e) (form_fault w true f) p.1 in
         both_none _ _ p.0 (both_none _ _ (closed e s ls false q.0 (λ v m. k v (form_more f (seen s e) v m))) (form_closed f (seen s e) q.1 k))
-    closed (negation i e) s ls due h k =
+    closed (not_expression i e) s ls due h k =
         let p = none_both (fault_if (not due) (WrongKind i)) (fault w true ls true e) h in
         both_none _ _ p.0 (closed e s ls true p.1 k)
-    closed (joined i a o b) s ls due h k =
+    closed (connected_expression i a o b) s ls due h k =
         let p = none_both (fault w true ls true a) (first_of (fault_if (not due) (WrongKind i)) (fault w true ls true b)) h in
         let q = none_both (fault_if (not due) (WrongKind i)) (fault w true ls true b) p.1 in
         both_none _ _ (closed a s ls true p.0 (λ v m. k v (some_more b (seen s a) v m))) (both_none _ _ q.0 (closed b (seen s a) ls true q.1 k))
-    closed (equated i same a b) s ls due h k =
+    closed (equality_expression i same a b) s ls due h k =
         let p = none_both (fault w true ls false a) (first_of (fault_if (not due) (WrongKind i)) (fault w true ls false b)) h in
         let q = none_both (fault_if (not due) (WrongKind i)) (fault w true ls false b) p.1 in
         both_none _ _ (closed a s ls false p.0 (λ v m. k v (some_more b (seen s a) v m))) (both_none _ _ q.0 (closed b (seen s a) ls false q.1 k))
-    closed (choice i c a b) s ls due h k =
+    closed (if_expression i c a b) s ls due h k =
         let p = none_both (fault w true ls true c) (first_of (fault w true ls due a) (fault w true ls due b)) h in
         let q = none_both (fault w true ls due a) (fault w true ls due b) p.1 in
         let l : AreIn (seen (seen s c) a).vars vs = λ v m. k v (some_more b (seen (seen s c) a) v m) in
         both_none _ _ (closed c s ls true p.0 (λ v m. l v (some_more a (seen s c) v m))) (both_none _ _ (closed a (seen s c) ls due q.0 l) (closed b (seen (seen s c) a) ls due q.1 k))
-    closed (binding i x a b) s ls due h k =
+    closed (let_expression i x a b) s ls due h k =
         let p = none_both (fault w true ls false a) (fault w true (x ∷ ls) due b) h in
         both_none _ _ (closed a s ls false p.0 (λ v m. k v (some_more b (seen s a) v m))) (closed b (seen s a) (x ∷ ls) due p.1 k)
-    closed (cases i e bs) s ls due h k =
+    closed (match_expression i e bs) s ls due h k =
         let p = none_both (fault w true ls false e) (first_of (fault_if (not (has_alternative bs)) (WrongKind i)) (branches_fault w true ls due bs)) h in
         let q = none_both (fault_if (not (has_alternative bs)) (WrongKind i)) (branches_fault w true ls due bs) p.1 in
         both_none _ _ (closed e s ls false p.0 (λ v m. k v (branches_more bs (seen s e) v m))) (both_none _ _ q.0 (branches_closed bs (seen s e) ls due q.1 k))
-    closed (quantified i all bs gs b) s ls due h k =
+    closed (quantified_expression i all bs gs b) s ls due h k =
         let inside = reverse (bound_names bs) ++ ls in
         let s1 = binders_seen s bs in
         let p = none_both (fault_if (not due) (WrongKind i)) (first_of (binders_fault w true bs) (first_of (triggers_fault w true inside gs) (fault w true inside true b))) h in
@@ -260,20 +260,20 @@ module _ (w : Where) (vs : List Word) where
         let l : AreIn (all_seen s1 gs).vars vs = λ v m. k v (some_more b (all_seen s1 gs) v m) in
         both_none _ _ p.0 (both_none _ _ (binders_closed bs s q.0 (λ v m. l v (all_more gs s1 v m))) (both_none _ _ (triggers_closed gs s1 inside r.0 l) (closed b (all_seen s1 gs) inside true r.1 k)))
 
-    all_closed : (es : Expressions) (s : Seen) (ls : List Word) → faults w true ls es ≡ None → AreIn (all_seen s es).vars vs → faults with_vars false ls es ≡ None
-    all_closed none s ls h k = refl
-    all_closed (more e es) s ls h k =
+    all_closed : (es : Expressions) (s : SeenTree) (ls : List Word) → faults w true ls es ≡ None → AreIn (all_seen s es).vars vs → faults with_vars false ls es ≡ None
+    all_closed no_expressions s ls h k = refl
+    all_closed (more_expressions e es) s ls h k =
         let p = none_both (fault w true ls false e) (faults w true ls es) h in
         both_none _ _ (closed e s ls false p.0 (λ v m. k v (all_more es (seen s e) v m))) (all_closed es (seen s e) ls p.1 k)
 
-    triggers_closed : (es : Expressions) (s : Seen) (ls : List Word) → triggers_fault w true ls es ≡ None → AreIn (all_seen s es).vars vs → triggers_fault with_vars false ls es ≡ None
-    triggers_closed none s ls h k = refl
-    triggers_closed (more e es) s ls h k =
+    triggers_closed : (es : Expressions) (s : SeenTree) (ls : List Word) → triggers_fault w true ls es ≡ None → AreIn (all_seen s es).vars vs → triggers_fault with_vars false ls es ≡ None
+    triggers_closed no_expressions s ls h k = refl
+    triggers_closed (more_expressions e es) s ls h k =
         let p = none_both (fault w true ls (is_formula_trigger w ls e) e) (triggers_fault w true ls es) h in
         let q = closed e s ls (is_formula_trigger w ls e) p.0 (λ v m. k v (all_more es (seen s e) v m)) in
-        both_none _ _ (ap (λ (b : Bool). fault with_vars false ls b e) (head_same ls (head e)) ∙ q) (triggers_closed es (seen s e) ls p.1 k)
+        both_none _ _ (ap (λ (b : Bool). fault with_vars false ls b e) (head_same ls (trigger_head e)) ∙ q) (triggers_closed es (seen s e) ls p.1 k)
 
-    branches_closed : (bs : Branches) (s : Seen) (ls : List Word) (due : Bool) → branches_fault w true ls due bs ≡ None → AreIn (branches_seen s bs).vars vs → branches_fault with_vars false ls due bs ≡ None
+    branches_closed : (bs : MatchBranches) (s : SeenTree) (ls : List Word) (due : Bool) → branches_fault w true ls due bs ≡ None → AreIn (branches_seen s bs).vars vs → branches_fault with_vars false ls due bs ≡ None
     branches_closed no_branches s ls due h k = refl
     branches_closed (more_branches ps b bs) s ls due h k =
         let inside = reverse (alternatives_names ps) ++ ls in

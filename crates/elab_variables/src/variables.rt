@@ -1,7 +1,7 @@
 // The type variables of an expression and the widths of its tuples, by first appearance.
 // They depend on the surface trees alone; elaboration begins with them.
 ghost use Rattle.std.specs.Prelude.{◌≡◌, ◌==◌, cond, OnOk};
-ghost use Rattle.elab_names.specs.Abstract.{form_of, forms_of, binder_of, binders_of, expression_of, expressions_of, triggers_of, pattern_of, patterns_of, side_by_side, alternatives_of, branches_of};
+ghost use Rattle.elab_names.specs.Abstract.{type_expression_of, forms_of, bound_names_of, binders_of, expression_of, expressions_of, triggers_of, abstract_pattern_of, patterns_of, side_by_side, alternatives_of, branches_of};
 ghost use Rattle.syntax_why.specs.Surface as code;
 ghost use Rattle.elab_variables.specs.Seen.{has_width, with_variable, with_width, form_seen, forms_seen, type_seen, binders_seen, all_seen, pattern_seen, patterns_seen, alternatives_seen, branches_seen};
 ghost use Rattle.elab_variables.specs.Seen as fold;
@@ -52,7 +52,7 @@ fn enter_width(seen: &mut Seen, width: usize) -> Result<(), AllocError>
     seen.widths.push(width)
 }
 
-// The width of what stands in parentheses: one alone is no tuple.
+// The width of what is in parentheses: one alone is no tuple.
 fn enter_tuple(seen: &mut Seen, width: usize) -> Result<(), AllocError>
     ensures { OnOk result (seen_at seen.new ≡ cond (width == 1) (seen_at seen.old) (with_width width
         (seen_at seen.old))) }
@@ -64,10 +64,11 @@ fn enter_tuple(seen: &mut Seen, width: usize) -> Result<(), AllocError>
     }
 }
 
-/// Those of a type, behind those that are there.
+/// Those of a type, after those that are there.
 #[cycle(form_entering)]
 pub fn enter_form(alloc: Global, seen: &mut Seen, ty: &TypeTree) -> Result<(), AllocError>
-    ensures { OnOk result (seen_at seen.new ≡ form_seen (seen_at seen.old) (form_of ty.now)) }
+    ensures { OnOk result (seen_at seen.new
+        ≡ form_seen (seen_at seen.old) (type_expression_of ty.now)) }
 {
     match &ty.node {
         TypeNode::Var(name) => enter_variable(alloc, seen, name.as_slice()),
@@ -92,7 +93,7 @@ fn enter_forms(alloc: Global, seen: &mut Seen, types: &[TypeTree]) -> Result<(),
 // Those of a binder's type, where it has one.
 fn enter_binder(alloc: Global, seen: &mut Seen, binder: &BinderTree) -> Result<(), AllocError>
     ensures { OnOk result (seen_at seen.new ≡ type_seen (seen_at seen.old)
-        (binder_of binder.now).of_type) }
+        (bound_names_of binder.now).of_type) }
 {
     match &binder.ty {
         Some(ty) => enter_form(alloc, seen, ty),
@@ -113,7 +114,8 @@ fn enter_binders(alloc: Global, seen: &mut Seen, binders: &[BinderTree]) -> Resu
 // The widths of a pattern's tuples.
 #[cycle(pattern_entering)]
 fn enter_pattern(seen: &mut Seen, p: &Pat) -> Result<(), AllocError>
-    ensures { OnOk result (seen_at seen.new ≡ pattern_seen (seen_at seen.old) (pattern_of p.now)) }
+    ensures { OnOk result (seen_at seen.new
+        ≡ pattern_seen (seen_at seen.old) (abstract_pattern_of p.now)) }
 {
     match &p.node {
         PatNode::Wild => Ok(()),
@@ -157,7 +159,7 @@ fn enter_alternatives(seen: &mut Seen, list: &[Seq<Pat>]) -> Result<(), AllocErr
     Ok(())
 }
 
-/// Those of an expression, behind those that are there.
+/// Those of an expression, after those that are there.
 #[cycle(entering)]
 pub fn enter_variables(alloc: Global, seen: &mut Seen, e: &Expr) -> Result<(), AllocError>
     ensures { OnOk result (seen_at seen.new ≡ fold.seen (seen_at seen.old) (expression_of e.now)) }

@@ -11,12 +11,12 @@ use Rattle.trees.specs.Facts.{TyVarsBelow, leaf_below}
 use Rattle.tasks.specs.Task.{SymbolTree, symbol_or, int_symbol}
 use Rattle.tasks.specs.Equations.{cells, type_variables}
 use Rattle.syntax_why.specs.Lexeme.{Word}
-use Rattle.elab_names.specs.Abstract.{Form, Forms, variable, composed, product, no_forms, more_forms, Binder, count_forms}
+use Rattle.elab_names.specs.Abstract.{TypeExpression, TypeExpressions, variable_type, composed_type, product_type, no_types, more_types, BoundNames, count_forms}
 use Rattle.elab_names.specs.declared.NamingFault.TheVariants.{Arity}
 use Rattle.elab_names.specs.Faults.{meaning_fault, form_fault, forms_fault, type_fault, binders_fault}
 use Rattle.elab_names.specs.Where.{Where, MeaningTree, Stands, Abbreviates, place_of}
 use Rattle.elab_walk.specs.Patterns.{LocalTree, at_unknowns, result_or_int, first_or_int, rest_of, entry_of, reordering}
-use Rattle.elab_walk.specs.Pieces.{type_at, types_at, applied, variable_at, Use, Local', Symbol', variable_named, found, named, use_of, use_vars, parameters, at_types, untyped, typed, binder_locals, binder_vars, binders_vars, bound, quantify}
+use Rattle.elab_walk.specs.Pieces.{type_at, types_at, applied_meaning, variable_at, Use, Local', Symbol', variable_named, found_local, use_of_name, use_or, use_vars, parameters, symbol_at_types, untyped, locals_of_type, binder_locals, binder_vars, binders_vars, bound, quantify}
 use Rattle.elab_walk.specs.Scoped.{IsScoped, IsScopedEntry, IsScopedMeaning}
 use Rattle.elab_walk.proofs.Walking.{none_both, not_if}
 
@@ -136,7 +136,7 @@ variable_found c n (l ∷ ls) h = of (bytes_eq l.name c) (variable_named c ls) (
     of false None k = tt
     of false (Some p) k = k
 
-found_below : (qs : List Word) (c : Word) (n : ℕ) (ls : List LocalTree) → LocalsBelow n ls → IfSome (found qs c ls) (λ (p : ℕ × Tree). TyVarsBelow n p.1)
+found_below : (qs : List Word) (c : Word) (n : ℕ) (ls : List LocalTree) → LocalsBelow n ls → IfSome (found_local qs c ls) (λ (p : ℕ × Tree). TyVarsBelow n p.1)
 found_below [] c n ls h = variable_found c n ls h
 found_below (q ∷ qs) c n ls h = tt
 
@@ -158,7 +158,7 @@ pub parameters_of : (n : ℕ) (u : Use) → UseBelow n u → AreBelow (n + use_v
 parameters_of n (Local' i ty) h = tt
 parameters_of n (Symbol' e) h = parameters_below n e.symbol e.symbol.args (recursion_from_All (TyVarsBelow e.symbol.vars) e.symbol.args h.args)
 
-pub typed_use : (m k : ℕ) (ts : List Tree) (t : Option Tree) (a : Tree) → AreBelow m ts → IfSome t (TyVarsBelow m) → TyVarsBelow m a → TyVarsBelow m (at_types k ts t a)
+pub typed_use : (m k : ℕ) (ts : List Tree) (t : Option Tree) (a : Tree) → AreBelow m ts → IfSome t (TyVarsBelow m) → TyVarsBelow m a → TyVarsBelow m (symbol_at_types k ts t a)
 typed_use m k ts None a h o b = (cells_below m ts h, b)
 typed_use m k ts (Some x) a h o b = (cells_below m ts h, b, o)
 
@@ -175,10 +175,10 @@ module _ (w : Where) (sc : IsScoped w) where
   symbol_scoped None = entry_scoped 0
   symbol_scoped (Some k) = entry_scoped k
 
-  pub use_below : (n : ℕ) (ls : List LocalTree) (qs : List Word) (c : Word) → LocalsBelow n ls → UseBelow n (named w ls qs c)
-  use_below n ls qs c h = of (found qs c ls) (found_below qs c n ls h)
+  pub use_below : (n : ℕ) (ls : List LocalTree) (qs : List Word) (c : Word) → LocalsBelow n ls → UseBelow n (use_of_name w ls qs c)
+  use_below n ls qs c h = of (found_local qs c ls) (found_below qs c n ls h)
     where
-      of : (x : Option (ℕ × Tree)) → IfSome x (λ (p : ℕ × Tree). TyVarsBelow n p.1) → UseBelow n (use_of x (Symbol' (entry_of w.symbols (w.names qs c))))
+      of : (x : Option (ℕ × Tree)) → IfSome x (λ (p : ℕ × Tree). TyVarsBelow n p.1) → UseBelow n (use_or x (Symbol' (entry_of w.symbols (w.names qs c))))
       of None k = symbol_scoped (w.names qs c)
       of (Some p) k = k
 
@@ -186,16 +186,16 @@ module _ (w : Where) (sc : IsScoped w) where
   variable_below None h = tt
   variable_below (Some j) h = h
 
-  count_types : (fs : Forms) → length (types_at w fs) ≡ count_forms fs
-  count_types no_forms = refl
-  count_types (more_forms f fs) = ap suc (count_types fs)
+  count_types : (fs : TypeExpressions) → length (types_at w fs) ≡ count_forms fs
+  count_types no_types = refl
+  count_types (more_types f fs) = ap suc (count_types fs)
 
   found_at : (xs : List Tree) → AreBelow (length w.vars) xs → (j : ℕ) (d : Tree) → j < length xs → TyVarsBelow (length w.vars) (get_or xs j d)
   found_at [] h j d b = absurd (omega arith)
   found_at (x ∷ xs) h zero d b = h.0
   found_at (x ∷ xs) h (suc j) d b = found_at xs h.1 j d (omega arith)
 
-  applied_below : (m : Option MeaningTree) (i n : ℕ) (ts : List Tree) → meaning_fault w i n m ≡ None → length ts ≡ n → IfSome m IsScopedMeaning → AreBelow (length w.vars) ts → TyVarsBelow (length w.vars) (applied m ts)
+  applied_below : (m : Option MeaningTree) (i n : ℕ) (ts : List Tree) → meaning_fault w i n m ≡ None → length ts ≡ n → IfSome m IsScopedMeaning → AreBelow (length w.vars) ts → TyVarsBelow (length w.vars) (applied_meaning m ts)
   applied_below None i n ts f l s h = tt
   applied_below (Some (Stands k)) i n ts f l s h = cells_below (length w.vars) ts h
   applied_below (Some (Abbreviates vars t)) i n ts f l s h =
@@ -210,34 +210,34 @@ module _ (w : Where) (sc : IsScoped w) where
       of (Some t) k = k
 
   mutual
-    pub form_below : (f : Form) → form_fault w false f ≡ None → TyVarsBelow (length w.vars) (type_at w f)
-    form_below (variable i v) h = variable_below (place_of v w.vars) (place_below v w.vars)
-    form_below (composed i qs x fs) h =
+    pub form_below : (f : TypeExpression) → form_fault w false f ≡ None → TyVarsBelow (length w.vars) (type_at w f)
+    form_below (variable_type i v) h = variable_below (place_of v w.vars) (place_below v w.vars)
+    form_below (composed_type i qs x fs) h =
         let p = none_both (meaning_fault w i (count_forms fs) (w.types qs x)) (forms_fault w false fs) h in
         applied_below (w.types qs x) i (count_forms fs) (types_at w fs) p.0 (count_types fs) (sc.types qs x) (forms_below fs p.1)
-    form_below (product i fs) h =
+    form_below (product_type i fs) h =
         let e = (entry_of w.symbols (w.tuples (count_forms fs))).symbol in
         let l : e.vars ≤ count_forms fs = sc.tuples (count_forms fs) in
         let ts = forms_below fs h in
         inst_below e.vars (length w.vars) (types_at w fs) (λ j b. found_at (types_at w fs) ts j (TyVar j) (omega (arith, l, b, count_types fs))) 0 (result_or_int e.result) (result_below e (symbol_scoped (w.tuples (count_forms fs))))
 
-    pub forms_below : (fs : Forms) → forms_fault w false fs ≡ None → AreBelow (length w.vars) (types_at w fs)
-    forms_below no_forms h = tt
-    forms_below (more_forms f fs) h = let p = none_both (form_fault w false f) (forms_fault w false fs) h in (form_below f p.0, forms_below fs p.1)
+    pub forms_below : (fs : TypeExpressions) → forms_fault w false fs ≡ None → AreBelow (length w.vars) (types_at w fs)
+    forms_below no_types h = tt
+    forms_below (more_types f fs) h = let p = none_both (form_fault w false f) (forms_fault w false fs) h in (form_below f p.0, forms_below fs p.1)
 
   untyped_below : (n m : ℕ) (xs : List Word) → n + length xs ≤ m → LocalsBelow m (untyped n xs)
   untyped_below n m [] l = tt
   untyped_below n m (x ∷ xs) l = (omega arith, untyped_below (suc n) m xs (omega arith))
 
-  typed_below : (m : ℕ) (t : Tree) (xs : List Word) → TyVarsBelow m t → LocalsBelow m (typed t xs)
+  typed_below : (m : ℕ) (t : Tree) (xs : List Word) → TyVarsBelow m t → LocalsBelow m (locals_of_type t xs)
   typed_below m t [] h = tt
   typed_below m t (x ∷ xs) h = (h, typed_below m t xs h)
 
-  binder_below : (n m : ℕ) (xs : List Word) (f : Option Form) → length w.vars ≤ n → n + binder_vars xs f ≤ m → type_fault w false f ≡ None → LocalsBelow m (binder_locals w n xs f)
+  binder_below : (n m : ℕ) (xs : List Word) (f : Option TypeExpression) → length w.vars ≤ n → n + binder_vars xs f ≤ m → type_fault w false f ≡ None → LocalsBelow m (binder_locals w n xs f)
   binder_below n m xs None o l h = untyped_below n m xs l
   binder_below n m xs (Some f) o l h = typed_below m (type_at w f) xs (below_more (type_at w f) (length w.vars) m (omega arith) (form_below f h))
 
-  pub bound_below : (n m : ℕ) (bs : List Binder) → length w.vars ≤ n → n + binders_vars bs ≤ m → binders_fault w false bs ≡ None → LocalsBelow m (bound w n bs)
+  pub bound_below : (n m : ℕ) (bs : List BoundNames) → length w.vars ≤ n → n + binders_vars bs ≤ m → binders_fault w false bs ≡ None → LocalsBelow m (bound w n bs)
   bound_below n m [] o l h = tt
   bound_below n m (b ∷ bs) o l h =
       let p = none_both (type_fault w false b.of_type) (binders_fault w false bs) h in

@@ -5,12 +5,12 @@ use Rattle.trees.specs.Tree.{Tree, Leaf, Two, HCell, HEnd}
 use Rattle.trees.specs.Facts.{TyVarsBelow}
 use Rattle.tasks.specs.Equations.{type_variables}
 use Rattle.syntax_why.specs.Lexeme.{Word}
-use Rattle.elab_names.specs.Abstract.{Pattern, Patterns, wild, bound, constructed, tupled, aliased, no_patterns, more_patterns, Alternatives, no_alternatives, more_alternatives, Expression, Expressions, Branches, apply, infixed, literal, truth, falsity, tuple, cast, negation, joined, equated, choice, binding, cases, quantified, none, more, no_branches, more_branches, count_patterns, count}
+use Rattle.elab_names.specs.Abstract.{Pattern, Patterns, wildcard_pattern, variable_pattern, constructor_pattern, tuple_pattern, alias_pattern, no_patterns, more_patterns, Alternatives, no_alternatives, more_alternatives, Expression, Expressions, MatchBranches, applied_expression, infix_expression, integer_expression, true_expression, false_expression, tuple_expression, cast_expression, not_expression, connected_expression, equality_expression, if_expression, let_expression, match_expression, quantified_expression, no_expressions, more_expressions, no_branches, more_branches, count_patterns, count_expressions}
 use Rattle.elab_names.specs.declared.NamingFault.TheVariants.{WrongKind}
 use Rattle.elab_names.specs.Faults.{first_of, fault_if, form_fault, name_fault, binders_fault, bound_names, alternatives_fault, alternatives_names, fault, faults, triggers_fault, branches_fault}
 use Rattle.elab_names.specs.Where.{Where}
-use Rattle.elab_walk.specs.Patterns.{nothing, follow, taken, LocalTree, local, first_or_int, rest_of, Entry, entry_of, Matched, part_types, constructed_by, pattern_piece, patterns_piece, later_pieces, alternatives_pieces, all_notes, first_variables, places_among, later_arms, arms}
-use Rattle.elab_walk.specs.Pieces.{type_at, Piece, past, unknown, before, piece, pieces, triggers_notes, branches_arms, Arms, Use, Local', Symbol', named, tuple_use, used, use_vars, parameters, equality, binders_vars, quantify, names}
+use Rattle.elab_walk.specs.Patterns.{no_notes, follow, taken, LocalTree, local, first_or_int, rest_of, NumberedEntry, entry_of, Matched, part_types, constructed_by, pattern_piece, patterns_piece, later_pieces, alternatives_pieces, all_notes, first_variables, places_among, later_arms, arms}
+use Rattle.elab_walk.specs.Pieces.{type_at, NotedTree, unknown_after, unknown, noted_before, piece, pieces, triggers_notes, branches_arms, Arms, Use, Local', Symbol', use_of_name, tuple_use, used_piece, use_vars, parameters, equality, binders_vars, quantify, names}
 use Rattle.elab_walk.specs.Pieces as pieces_of
 use Rattle.elab_walk.specs.Scoped.{IsScoped}
 use Rattle.elab_walk.proofs.Below.{below_more, AreBelow, LocalsBelow, locals_more, wanted_more, list_more, both_all, reversed, reordered_below, variables_all, cells_below, first_below, rest_below, UseBelow, parameters_of, typed_use, quantified_below, symbol_scoped, use_below, form_below, bound_below}
@@ -18,12 +18,12 @@ use Rattle.elab_walk.proofs.Noting.{count_replicate}
 use Rattle.elab_walk.proofs.Walking.{none_both}
 use Rattle.elab_walk.proofs.Branching.{in_cases}
 
-abbrev pub IsBelow : ℕ → Piece → Type 0
-IsBelow n p = TyVarsBelow (past n p) p.tree
+abbrev pub IsBelow : ℕ → NotedTree → Type 0
+IsBelow n p = TyVarsBelow (unknown_after n p) p.tree
 
--- two parts, the second behind the first
-two_below : (n m : ℕ) (p q : Piece) → past (past n p) q ≤ m → IsBelow n p → IsBelow (past n p) q → TyVarsBelow m p.tree × TyVarsBelow m q.tree
-two_below n m p q l a b = (below_more p.tree (past n p) m (omega arith) a, below_more q.tree (past (past n p) q) m l b)
+-- two parts, the second after the first
+two_below : (n m : ℕ) (p q : NotedTree) → unknown_after (unknown_after n p) q ≤ m → IsBelow n p → IsBelow (unknown_after n p) q → TyVarsBelow m p.tree × TyVarsBelow m q.tree
+two_below n m p q l a b = (below_more p.tree (unknown_after n p) m (omega arith) a, below_more q.tree (unknown_after (unknown_after n p) q) m l b)
 
 -- ---- patterns
 record MatchedBelow (n : ℕ) (m : Matched) : Type 0 where
@@ -31,7 +31,7 @@ record MatchedBelow (n : ℕ) (m : Matched) : Type 0 where
   variables : LocalsBelow (n + taken m.notes) m.variables
 
 module _ (w : Where) (sc : IsScoped w) where
-  constructed_below : (n i : ℕ) (t : Tree) (c : Entry) (parts : Matched) → TyVarsBelow n t → MatchedBelow (n + c.symbol.vars) parts → MatchedBelow n (constructed_by n i t c parts)
+  constructed_below : (n i : ℕ) (t : Tree) (c : NumberedEntry) (parts : Matched) → TyVarsBelow n t → MatchedBelow (n + c.symbol.vars) parts → MatchedBelow n (constructed_by n i t c parts)
   constructed_below n i t c parts h p =
       let m = n + length (replicate c.symbol.vars i ++ parts.notes.takers) in
       let l : m ≡ n + c.symbol.vars + taken parts.notes = omega (arith, length-append (replicate c.symbol.vars i) parts.notes.takers, count_replicate c.symbol.vars i) in
@@ -42,15 +42,15 @@ module _ (w : Where) (sc : IsScoped w) where
 
   mutual
     pattern_below : (p : Pattern) (first : Option (List LocalTree)) (n : ℕ) (t : Tree) → TyVarsBelow n t → MatchedBelow n (pattern_piece w first n t p)
-    pattern_below (wild i) first n t h = let l : n ≤ n + 0 = omega arith in record { tree = below_more t n (n + 0) l h; variables = tt }
-    pattern_below (bound i x) first n t h = let l : n ≤ n + 0 = omega arith in record { tree = below_more t n (n + 0) l h; variables = (below_more t n (n + 0) l h, tt) }
-    pattern_below (constructed i qs x ps) first n t h =
+    pattern_below (wildcard_pattern i) first n t h = let l : n ≤ n + 0 = omega arith in record { tree = below_more t n (n + 0) l h; variables = tt }
+    pattern_below (variable_pattern i x) first n t h = let l : n ≤ n + 0 = omega arith in record { tree = below_more t n (n + 0) l h; variables = (below_more t n (n + 0) l h, tt) }
+    pattern_below (constructor_pattern i qs x ps) first n t h =
         let c = entry_of w.symbols (w.names qs x) in
         constructed_below n i t c (patterns_piece w first (n + c.symbol.vars) (part_types n c) ps) h (patterns_below ps first (n + c.symbol.vars) (part_types n c) (parameters_of n (Symbol' c) (symbol_scoped w sc (w.names qs x))))
-    pattern_below (tupled i ps) first n t h =
+    pattern_below (tuple_pattern i ps) first n t h =
         let c = entry_of w.symbols (w.tuples (count_patterns ps)) in
         constructed_below n i t c (patterns_piece w first (n + c.symbol.vars) (part_types n c) ps) h (patterns_below ps first (n + c.symbol.vars) (part_types n c) (parameters_of n (Symbol' c) (symbol_scoped w sc (w.tuples (count_patterns ps)))))
-    pattern_below (aliased p i x) first n t h =
+    pattern_below (alias_pattern p i x) first n t h =
         let inner = pattern_piece w first n t p in
         let b = pattern_below p first n t h in
         let m = n + length (inner.notes.takers ++ []) in
@@ -128,7 +128,7 @@ module _ (w : Where) (sc : IsScoped w) where
   equality_below m false a b h = h
 
   -- ---- terms and formulas
-  used_below : (n : ℕ) (t : Option Tree) (i : ℕ) (u : Use) (a : Piece) → UseBelow n u → IfSome t (TyVarsBelow n) → IsBelow (n + use_vars u) a → IsBelow n (used n t i u a)
+  used_below : (n : ℕ) (t : Option Tree) (i : ℕ) (u : Use) (a : NotedTree) → UseBelow n u → IfSome t (TyVarsBelow n) → IsBelow (n + use_vars u) a → IsBelow n (used_piece n t i u a)
   used_below n t i (Local' p ty) a h o b = below_more ty n (n + 0) (omega arith) h
   used_below n t i (Symbol' e) a h o b =
       let m = n + length (replicate e.symbol.vars i ++ a.notes.takers) in
@@ -140,90 +140,90 @@ module _ (w : Where) (sc : IsScoped w) where
 
   mutual
     pub bounded : (e : Expression) (ls : List LocalTree) (n : ℕ) (t : Option Tree) (ns : List Word) (due : Bool) → LocalsBelow n ls → IfSome t (TyVarsBelow n) → length w.vars ≤ n → fault w false ns due e ≡ None → IsBelow n (piece w ls n t e)
-    bounded (apply i qs x es) ls n t ns due h k o f =
-        let p = none_both (name_fault w ns due i qs x (count es)) (faults w false ns es) f in
-        let u = named w ls qs x in
+    bounded (applied_expression i qs x es) ls n t ns due h k o f =
+        let p = none_both (name_fault w ns due i qs x (count_expressions es)) (faults w false ns es) f in
+        let u = use_of_name w ls qs x in
         let b = use_below w sc n ls qs x h in
         let l : n ≤ n + use_vars u = omega arith in
         used_below n t i u (pieces w ls (n + use_vars u) (parameters n u) es) b k (all_bounded es ls (n + use_vars u) (parameters n u) ns (locals_more ls n (n + use_vars u) l h) (parameters_of n u b) (omega (arith, o)) p.1)
-    bounded (infixed i x a b) ls n t ns due h k o f =
+    bounded (infix_expression i x a b) ls n t ns due h k o f =
         let p = none_both (fault w false ns false a) (first_of (name_fault w ns due i [] x 2) (fault w false ns false b)) f in
         let q = none_both (name_fault w ns due i [] x 2) (fault w false ns false b) p.1 in
-        let u = named w ls [] x in
+        let u = use_of_name w ls [] x in
         let ub = use_below w sc n ls [] x h in
         let m = n + use_vars u in
         let ts = parameters n u in
         let pb = parameters_of n u ub in
         let left = piece w ls m (Some (first_or_int ts)) a in
-        let right = piece w ls (past m left) (Some (first_or_int (rest_of ts))) b in
+        let right = piece w ls (unknown_after m left) (Some (first_or_int (rest_of ts))) b in
         let lb = bounded a ls m (Some (first_or_int ts)) ns false (locals_more ls n m (omega arith) h) (first_below m ts pb) (omega (arith, o)) p.0 in
-        let rb = bounded b ls (past m left) (Some (first_or_int (rest_of ts))) ns false (locals_more ls n (past m left) (omega arith) h) (below_more (first_or_int (rest_of ts)) m (past m left) (omega arith) (first_below m (rest_of ts) (rest_below m ts pb))) (omega (arith, o)) q.1 in
+        let rb = bounded b ls (unknown_after m left) (Some (first_or_int (rest_of ts))) ns false (locals_more ls n (unknown_after m left) (omega arith) h) (below_more (first_or_int (rest_of ts)) m (unknown_after m left) (omega arith) (first_below m (rest_of ts) (rest_below m ts pb))) (omega (arith, o)) q.1 in
         let z = m + length (left.notes.takers ++ (right.notes.takers ++ [])) in
         let c = two_below m z left right (omega (arith, length-append left.notes.takers (right.notes.takers ++ []), length-append right.notes.takers [])) lb rb in
-        used_below n t i u (record { tree = Two HCell left.tree (Two HCell right.tree (Leaf HEnd)); notes = follow left.notes (follow right.notes nothing) }) ub k (c.0, (c.1, tt))
-    bounded (literal i z) ls n t ns due h k o f = tt
-    bounded (truth i) ls n t ns due h k o f = tt
-    bounded (falsity i) ls n t ns due h k o f = tt
-    bounded (tuple i es) ls n t ns due h k o f =
+        used_below n t i u (record { tree = Two HCell left.tree (Two HCell right.tree (Leaf HEnd)); notes = follow left.notes (follow right.notes no_notes) }) ub k (c.0, (c.1, tt))
+    bounded (integer_expression i z) ls n t ns due h k o f = tt
+    bounded (true_expression i) ls n t ns due h k o f = tt
+    bounded (false_expression i) ls n t ns due h k o f = tt
+    bounded (tuple_expression i es) ls n t ns due h k o f =
         let p = none_both (fault_if due (WrongKind i)) (faults w false ns es) f in
-        let u = tuple_use w (count es) in
-        let b = symbol_scoped w sc (w.tuples (count es)) in
+        let u = tuple_use w (count_expressions es) in
+        let b = symbol_scoped w sc (w.tuples (count_expressions es)) in
         let l : n ≤ n + use_vars u = omega arith in
         used_below n t i u (pieces w ls (n + use_vars u) (parameters n u) es) b k (all_bounded es ls (n + use_vars u) (parameters n u) ns (locals_more ls n (n + use_vars u) l h) (parameters_of n u b) (omega (arith, o)) p.1)
-    bounded (cast i e ty) ls n t ns due h k o f =
+    bounded (cast_expression i e ty) ls n t ns due h k o f =
         let p = none_both (fault_if due (WrongKind i)) (first_of (fault w false ns false e) (form_fault w false ty)) f in
         let q = none_both (fault w false ns false e) (form_fault w false ty) p.1 in
         bounded e ls n (Some (type_at w ty)) ns false h (below_more (type_at w ty) (length w.vars) n o (form_below w sc ty q.1)) o q.0
-    bounded (negation i e) ls n t ns due h k o f =
+    bounded (not_expression i e) ls n t ns due h k o f =
         let p = none_both (fault_if (not due) (WrongKind i)) (fault w false ns true e) f in
         bounded e ls n None ns true h tt o p.1
-    bounded (joined i a op b) ls n t ns due h k o f =
+    bounded (connected_expression i a op b) ls n t ns due h k o f =
         let p = none_both (fault w false ns true a) (first_of (fault_if (not due) (WrongKind i)) (fault w false ns true b)) f in
         let q = none_both (fault_if (not due) (WrongKind i)) (fault w false ns true b) p.1 in
         let x = piece w ls n None a in
-        let y = piece w ls (past n x) None b in
+        let y = piece w ls (unknown_after n x) None b in
         two_below n (n + length (x.notes.takers ++ y.notes.takers)) x y (omega (arith, length-append x.notes.takers y.notes.takers)) (bounded a ls n None ns true h tt o p.0)
-        (bounded b ls (past n x) None ns true (locals_more ls n (past n x) (omega arith) h) tt (omega (arith, o)) q.1)
-    bounded (equated i same a b) ls n t ns due h k o f =
+        (bounded b ls (unknown_after n x) None ns true (locals_more ls n (unknown_after n x) (omega arith) h) tt (omega (arith, o)) q.1)
+    bounded (equality_expression i same a b) ls n t ns due h k o f =
         let p = none_both (fault w false ns false a) (first_of (fault_if (not due) (WrongKind i)) (fault w false ns false b)) f in
         let q = none_both (fault_if (not due) (WrongKind i)) (fault w false ns false b) p.1 in
         let x = piece w ls (n + 1) (Some (unknown n)) a in
-        let j = past (n + 1) x in
+        let j = unknown_after (n + 1) x in
         let y = piece w ls j (Some (unknown n)) b in
         let m = n + length (i ∷ (x.notes.takers ++ y.notes.takers)) in
         equality_below m same x.tree y.tree (two_below (n + 1) m x y (omega (arith, length-append x.notes.takers y.notes.takers)) (bounded a ls (n + 1) (Some (unknown n)) ns false (locals_more ls n (n + 1) (omega arith) h) (omega arith) (omega (arith, o)) p.0)
         (bounded b ls j (Some (unknown n)) ns false (locals_more ls n j (omega arith) h) (omega arith) (omega (arith, o)) q.1))
-    bounded (choice i c a b) ls n t ns due h k o f =
+    bounded (if_expression i c a b) ls n t ns due h k o f =
         let p = none_both (fault w false ns true c) (first_of (fault w false ns due a) (fault w false ns due b)) f in
         let q = none_both (fault w false ns due a) (fault w false ns due b) p.1 in
         let x = piece w ls n None c in
-        let y = piece w ls (past n x) t a in
-        let j = past (past n x) y in
+        let y = piece w ls (unknown_after n x) t a in
+        let j = unknown_after (unknown_after n x) y in
         let z = piece w ls j t b in
         let m = n + length (x.notes.takers ++ (y.notes.takers ++ z.notes.takers)) in
-        let e : m ≡ past j z = omega (arith, length-append x.notes.takers (y.notes.takers ++ z.notes.takers), length-append y.notes.takers z.notes.takers) in
-        let r = two_below (past n x) m y z (omega (arith, e)) (bounded a ls (past n x) t ns due (locals_more ls n (past n x) (omega arith) h) (wanted_more t n (past n x) (omega arith) k) (omega (arith, o)) q.0)
+        let e : m ≡ unknown_after j z = omega (arith, length-append x.notes.takers (y.notes.takers ++ z.notes.takers), length-append y.notes.takers z.notes.takers) in
+        let r = two_below (unknown_after n x) m y z (omega (arith, e)) (bounded a ls (unknown_after n x) t ns due (locals_more ls n (unknown_after n x) (omega arith) h) (wanted_more t n (unknown_after n x) (omega arith) k) (omega (arith, o)) q.0)
         (bounded b ls j t ns due (locals_more ls n j (omega arith) h) (wanted_more t n j (omega arith) k) (omega (arith, o)) q.1) in
-        (below_more x.tree (past n x) m (omega (arith, e)) (bounded c ls n None ns true h tt o p.0), r.0, r.1)
-    bounded (binding i v a b) ls n t ns due h k o f =
+        (below_more x.tree (unknown_after n x) m (omega (arith, e)) (bounded c ls n None ns true h tt o p.0), r.0, r.1)
+    bounded (let_expression i v a b) ls n t ns due h k o f =
         let p = none_both (fault w false ns false a) (fault w false (v ∷ ns) due b) f in
         let x = piece w ls (n + 1) (Some (unknown n)) a in
-        let j = past (n + 1) x in
+        let j = unknown_after (n + 1) x in
         let inside = local v (unknown n) ∷ ls in
         let y = piece w inside j t b in
         two_below (n + 1) (n + length (i ∷ (x.notes.takers ++ y.notes.takers))) x y (omega (arith, length-append x.notes.takers y.notes.takers)) (bounded a ls (n + 1) (Some (unknown n)) ns false (locals_more ls n (n + 1) (omega arith) h) (omega arith) (omega (arith, o)) p.0)
         (bounded b inside j t (v ∷ ns) due (omega arith, locals_more ls n j (omega arith) h) (wanted_more t n j (omega arith) k) (omega (arith, o)) p.1)
-    bounded (cases i e bs) ls n t ns due h k o f =
+    bounded (match_expression i e bs) ls n t ns due h k o f =
         let p = in_cases w ns due i e bs f in
         let x = piece w ls (n + 1) (Some (unknown n)) e in
-        let j = past (n + 1) x in
+        let j = unknown_after (n + 1) x in
         let r = branches_arms w ls j (unknown n) t bs in
         let m = n + length (i ∷ (x.notes.takers ++ r.notes.takers)) in
         let l : m ≡ j + taken r.notes = omega (arith, length-append x.notes.takers r.notes.takers) in
         let a = bounded e ls (n + 1) (Some (unknown n)) ns false (locals_more ls n (n + 1) (omega arith) h) (omega arith) (omega (arith, o)) p.0 in
         let b = branches_bounded bs ls j (unknown n) t ns due (locals_more ls n j (omega arith) h) (omega arith) (wanted_more t n j (omega arith) k) (omega (arith, o)) p.2 in
         (below_more x.tree j m (omega (arith, l)) a, cells_below m r.trees (list_more r.trees (j + taken r.notes) m (omega (arith, l)) b))
-    bounded (quantified i all bs gs b) ls n t ns due h k o f =
+    bounded (quantified_expression i all bs gs b) ls n t ns due h k o f =
         let within = reverse (bound_names bs) ++ ns in
         let p = none_both (fault_if (not due) (WrongKind i)) (first_of (binders_fault w false bs) (first_of (triggers_fault w false within gs) (fault w false within true b))) f in
         let q = none_both (binders_fault w false bs) (first_of (triggers_fault w false within gs) (fault w false within true b)) p.1 in
@@ -235,21 +235,21 @@ module _ (w : Where) (sc : IsScoped w) where
         let z = j + taken g in
         let y = piece w inside z None b in
         let m = n + length (replicate (binders_vars bs) i ++ (g.takers ++ y.notes.takers)) in
-        let e : m ≡ past z y = omega (arith, length-append (replicate (binders_vars bs) i) (g.takers ++ y.notes.takers), length-append g.takers y.notes.takers, count_replicate (binders_vars bs) i) in
+        let e : m ≡ unknown_after z y = omega (arith, length-append (replicate (binders_vars bs) i) (g.takers ++ y.notes.takers), length-append g.takers y.notes.takers, count_replicate (binders_vars bs) i) in
         quantified_below m all vs y.tree (bound_below w sc n m bs o (omega (arith, e)) q.0)
-        (below_more y.tree (past z y) m (omega (arith, e)) (bounded b inside z None within true (both_all (λ (v : LocalTree). TyVarsBelow z v.type) (reverse vs) ls (reversed z vs (bound_below w sc n z bs o (omega arith) q.0)) (locals_more ls n z (omega arith) h)) tt (omega (arith, o)) r.1))
+        (below_more y.tree (unknown_after z y) m (omega (arith, e)) (bounded b inside z None within true (both_all (λ (v : LocalTree). TyVarsBelow z v.type) (reverse vs) ls (reversed z vs (bound_below w sc n z bs o (omega arith) q.0)) (locals_more ls n z (omega arith) h)) tt (omega (arith, o)) r.1))
 
     all_bounded : (es : Expressions) (ls : List LocalTree) (n : ℕ) (ts : List Tree) (ns : List Word) → LocalsBelow n ls → AreBelow n ts → length w.vars ≤ n → faults w false ns es ≡ None → IsBelow n (pieces w ls n ts es)
-    all_bounded none ls n ts ns h k o f = tt
-    all_bounded (more e es) ls n ts ns h k o f =
+    all_bounded no_expressions ls n ts ns h k o f = tt
+    all_bounded (more_expressions e es) ls n ts ns h k o f =
         let p = none_both (fault w false ns false e) (faults w false ns es) f in
         let x = piece w ls n (Some (first_or_int ts)) e in
-        let j = past n x in
+        let j = unknown_after n x in
         let y = pieces w ls j (rest_of ts) es in
         two_below n (n + length (x.notes.takers ++ y.notes.takers)) x y (omega (arith, length-append x.notes.takers y.notes.takers)) (bounded e ls n (Some (first_or_int ts)) ns false h (first_below n ts k) o p.0)
         (all_bounded es ls j (rest_of ts) ns (locals_more ls n j (omega arith) h) (list_more (rest_of ts) n j (omega arith) (rest_below n ts k)) (omega (arith, o)) p.1)
 
-    branches_bounded : (bs : Branches) (ls : List LocalTree) (n : ℕ) (subject : Tree) (t : Option Tree) (ns : List Word) (due : Bool) → LocalsBelow n ls → TyVarsBelow n subject → IfSome t (TyVarsBelow n) → length w.vars ≤ n → branches_fault w false ns due bs ≡ None
+    branches_bounded : (bs : MatchBranches) (ls : List LocalTree) (n : ℕ) (subject : Tree) (t : Option Tree) (ns : List Word) (due : Bool) → LocalsBelow n ls → TyVarsBelow n subject → IfSome t (TyVarsBelow n) → length w.vars ≤ n → branches_fault w false ns due bs ≡ None
         → ArmsBelow n (branches_arms w ls n subject t bs)
     branches_bounded no_branches ls n subject t ns due h s k o f = tt
     branches_bounded (more_branches ps b bs) ls n subject t ns due h s k o f =
@@ -261,7 +261,7 @@ module _ (w : Where) (sc : IsScoped w) where
         let j = n + taken (all_notes ms) in
         let inside = reverse (first_variables ms) ++ ls in
         let y = piece w inside j t b in
-        let z = past j y in
+        let z = unknown_after j y in
         let r = branches_arms w ls z subject t bs in
         let m = n + length (((all_notes ms).takers ++ y.notes.takers) ++ r.notes.takers) in
         let e : m ≡ z + taken r.notes = omega (arith, length-append ((all_notes ms).takers ++ y.notes.takers) r.notes.takers, length-append (all_notes ms).takers y.notes.takers) in

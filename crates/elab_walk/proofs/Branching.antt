@@ -18,7 +18,7 @@ use Rattle.elab_names.specs.Abstract as abstract
 use Rattle.syntax_why.specs.declared.patterns.Pat.{Pat}
 use Rattle.syntax_why.specs.Surface as code
 use Rattle.elab_names.proofs.Nodes.{patterns_are}
-use Rattle.elab_names.specs.Abstract.{first_form, side_by_side, grouped_patterns, patterns_of, Patterns, wild, bound, constructed, tupled, aliased, no_patterns, more_patterns, Alternatives, no_alternatives, more_alternatives, Expression, Branches, cases, no_branches, more_branches, count_patterns}
+use Rattle.elab_names.specs.Abstract.{first_form, side_by_side, grouped_patterns, patterns_of, Patterns, wildcard_pattern, variable_pattern, constructor_pattern, tuple_pattern, alias_pattern, no_patterns, more_patterns, Alternatives, no_alternatives, more_alternatives, Expression, MatchBranches, match_expression, no_branches, more_branches, count_patterns}
 use Rattle.elab_names.specs.declared.NamingFault.TheVariants.{WrongKind}
 use Rattle.elab_names.specs.declared.world.World.{World}
 use Rattle.elab_names.specs.Faults.{fault_if, fault, branches_fault, alternatives_fault, alternatives_names, pattern_names, patterns_names, has_alternative}
@@ -29,9 +29,9 @@ use Rattle.elab_walk.specs.declared.locals.Local.{Local}
 use Rattle.elab_walk.specs.declared.locals.Locals.{Locals}
 use Rattle.elab_walk.specs.declared.patterns.BranchPatterns.{BranchPatterns}
 use Rattle.elab_walk.specs.declared.patterns.LaterPattern.{LaterPattern}
-use Rattle.elab_walk.specs.Patterns.{Notes, nothing, noted, with_match, follow, taken, LocalTree, local, entry_of, Matched, pattern_piece, patterns_piece, part_types, first_or_int, rest_of, alternatives_pieces, later_pieces, first_variables, pattern_trees, places_among, arms, later_arms, reordered, onto}
-use Rattle.elab_walk.specs.Pieces.{Piece, past, piece, unknown, Arms, with_branch, branches_arms, names}
-use Rattle.elab_walk.specs.Drafts.{HoldsType, WorldHeld, HoldsPattern, LaterHeld, PatternsHeld, IsMade, IsNoted, IsMatched, IsWalked, IsSet, CanWalk, LocalsHeld, IsLater, AreLater, AreAlternatives, AreArms, later_at, later_of, later_arm, branch_trees, branch_arms, local_at, local_name, locals_at, names_of, is_due, due}
+use Rattle.elab_walk.specs.Patterns.{Notes, no_notes, noted, with_match, follow, taken, LocalTree, local, entry_of, Matched, pattern_piece, patterns_piece, part_types, first_or_int, rest_of, alternatives_pieces, later_pieces, first_variables, pattern_trees, places_among, arms, later_arms, reordered, cells_onto}
+use Rattle.elab_walk.specs.Pieces.{NotedTree, unknown_after, piece, unknown, Arms, with_branch, branches_arms, names}
+use Rattle.elab_walk.specs.Drafts.{HoldsType, WorldHeld, HoldsPattern, LaterHeld, PatternsHeld, IsMade, IsNoted, IsMatched, IsWalked, IsSet, CanWalk, LocalsHeld, IsLater, AreLater, AreDraftedAlternatives, AreArms, later_at, later_of, later_arm, branch_trees, branch_arms, local_at, local_name, locals_at, names_of_locals, is_due, due}
 use Rattle.elab_walk.proofs.Growing.{map_same, held_grows, world_stays, locals_stay, locals_grow, each_stays, type_stays, wanted_stays}
 use Rattle.elab_walk.proofs.Noting.{follow_nothing, more_noted, noted_as, noted_before, next, filled_noted}
 use Rattle.elab_walk.proofs.Walking.{none_both, must_be, as_begun}
@@ -45,11 +45,11 @@ names_both (x ∷ xs) ys = ap (λ (r : List Word). x.name ∷ r) (names_both xs 
 
 mutual
   pub pattern_variables : (w : Where) (first : Option (List LocalTree)) (n : ℕ) (t : Tree) (p : abstract.Pattern) → names (pattern_piece w first n t p).variables ≡ pattern_names p
-  pattern_variables w first n t (wild i) = refl
-  pattern_variables w first n t (bound i x) = refl
-  pattern_variables w first n t (constructed i qs x ps) = let c = entry_of w.symbols (w.names qs x) in patterns_variables w first (n + c.symbol.vars) (part_types n c) ps
-  pattern_variables w first n t (tupled i ps) = let c = entry_of w.symbols (w.tuples (count_patterns ps)) in patterns_variables w first (n + c.symbol.vars) (part_types n c) ps
-  pattern_variables w first n t (aliased p i x) = names_both (pattern_piece w first n t p).variables (local x t ∷ []) ∙ ap (λ (r : List Word). r ++ x ∷ []) (pattern_variables w first n t p)
+  pattern_variables w first n t (wildcard_pattern i) = refl
+  pattern_variables w first n t (variable_pattern i x) = refl
+  pattern_variables w first n t (constructor_pattern i qs x ps) = let c = entry_of w.symbols (w.names qs x) in patterns_variables w first (n + c.symbol.vars) (part_types n c) ps
+  pattern_variables w first n t (tuple_pattern i ps) = let c = entry_of w.symbols (w.tuples (count_patterns ps)) in patterns_variables w first (n + c.symbol.vars) (part_types n c) ps
+  pattern_variables w first n t (alias_pattern p i x) = names_both (pattern_piece w first n t p).variables (local x t ∷ []) ∙ ap (λ (r : List Word). r ++ x ∷ []) (pattern_variables w first n t p)
 
   patterns_variables : (w : Where) (first : Option (List LocalTree)) (n : ℕ) (ts : List Tree) (ps : Patterns) → names (patterns_piece w first n ts ps).variables ≡ patterns_names ps
   patterns_variables w first n ts no_patterns = refl
@@ -62,19 +62,19 @@ first_names w n t no_alternatives = refl
 first_names w n t (more_alternatives i p ps) = pattern_variables w None n t p
 
 -- ---- no fault in a whole, none in its parts
-pub in_cases : (w : Where) (ls : List Word) (b : Bool) (i : ℕ) (e : Expression) (bs : Branches) → fault w false ls b (cases i e bs) ≡ None → (fault w false ls false e ≡ None) × (has_alternative bs ≡ true) × (branches_fault w false ls b bs ≡ None)
+pub in_cases : (w : Where) (ls : List Word) (b : Bool) (i : ℕ) (e : Expression) (bs : MatchBranches) → fault w false ls b (match_expression i e bs) ≡ None → (fault w false ls false e ≡ None) × (has_alternative bs ≡ true) × (branches_fault w false ls b bs ≡ None)
 in_cases w ls b i e bs h =
     let p = none_both (fault w false ls false e) _ h in
     let q = none_both (fault_if (not (has_alternative bs)) (WrongKind i)) _ p.1 in
     (p.0, must_be (has_alternative bs) (WrongKind i) q.0, q.1)
 
-pub in_branches : (w : Where) (ls : List Word) (b : Bool) (ps : Alternatives) (e : Expression) (bs : Branches) → branches_fault w false ls b (more_branches ps e bs) ≡ None → (fault w false (reverse (alternatives_names ps) ++ ls) b e ≡ None) × (branches_fault w false ls b bs ≡ None)
+pub in_branches : (w : Where) (ls : List Word) (b : Bool) (ps : Alternatives) (e : Expression) (bs : MatchBranches) → branches_fault w false ls b (more_branches ps e bs) ≡ None → (fault w false (reverse (alternatives_names ps) ++ ls) b e ≡ None) × (branches_fault w false ls b bs ≡ None)
 in_branches w ls b ps e bs h =
     let p = none_both (alternatives_fault w ps) _ h in
     none_both (fault w false (reverse (alternatives_names ps) ++ ls) b e) _ p.1
 
 -- ---- lists of arms
-pub onto_cells : (xs ys : List Tree) (e : Tree) → e ≡ cells ys → onto xs e ≡ cells (xs ++ ys)
+pub onto_cells : (xs ys : List Tree) (e : Tree) → e ≡ cells ys → cells_onto xs e ≡ cells (xs ++ ys)
 onto_cells [] ys e h = h
 onto_cells (x ∷ xs) ys e h = ap (Two HCell x) (onto_cells xs ys e h)
 
@@ -107,7 +107,7 @@ pub branch_stays : (s s' : List Tree) → Grows s s' → (b : BranchPatterns) �
 branch_stays s s' g b h e e' q = cc (tree_at-grows s s' b.first g h.first.held, later_stay s s' g b.later h.later, q)
 
 -- ---- later alternatives
-pub later_none : (first : List LocalTree) {s : List Tree} {d : Draft} (ls : List LaterPattern) → All (LaterHeld s) ls → IsNoted s d s d nothing → AreLater [] first s d ls s d ls
+pub later_none : (first : List LocalTree) {s : List Tree} {d : Draft} (ls : List LaterPattern) → All (LaterHeld s) ls → IsNoted s d s d no_notes → AreLater [] first s d ls s d ls
 later_none first {s} ls h n = record { held = h; are = sym (append-nil (map (later_at s) ls)); noted = n }
 
 mapped_later : (s : List Tree) (ls : List LaterPattern) (l : LaterPattern) → map (later_at s) (ls ++ l ∷ []) ≡ map (later_at s) ls ++ later_at s l ∷ []
@@ -140,7 +140,7 @@ later_trees s (l ∷ ls) = ap (λ (r : List Tree). tree_at s l.pattern ∷ r) (l
 
 pub alternatives_made : {m : Matched} {ms : List Matched} {s s1 s2 : List Tree} {d d1 d2 : Draft} {id : TermId} {locals : List Local} {ls : List LaterPattern}
     → HoldsPattern s1 id → tree_at s1 id ≡ m.tree → All (λ (l : Local). HoldsType s1 l.ty) locals → map (local_at s1) locals ≡ m.variables → IsNoted s d s1 d1 m.notes
-    → Grows s1 s2 → AreLater ms m.variables s1 d1 [] s2 d2 ls → All (λ (l : Local). HoldsType s2 l.ty) locals → AreAlternatives (m ∷ ms) s d s2 d2 locals (record { first = id; later = ls })
+    → Grows s1 s2 → AreLater ms m.variables s1 d1 [] s2 d2 ls → All (λ (l : Local). HoldsType s2 l.ty) locals → AreDraftedAlternatives (m ∷ ms) s d s2 d2 locals (record { first = id; later = ls })
 alternatives_made {m} {ms} {s1 = s1} {s2 = s2} {id = id} {locals} {ls} p t h v n g a k =
     let tree : tree_at s2 id ≡ m.tree = tree_at-grows s1 s2 id g p.held ∙ t in
     record {
@@ -201,17 +201,17 @@ numbers_held {s} {s1} g ids b h p = All-append (Holds s1) ids _ (ids_grow s s1 g
     each (l ∷ ls) k = All-cons (Holds s1) l.pattern _ (let z = k 0 l (omega arith) in z.held) (each ls (λ j e i. k (suc j) e (omega (arith, i))))
 
 -- the arms of a branch before those of others
-pub branch_walked : {ms : List Matched} {p : Piece} {rest : Arms} {k : Sort} {s s1 s2 s3 s4 : List Tree} {d d1 d2 d3 : Draft} {locals : List Local} {b : BranchPatterns} {ids ids2 : List TermId} {body list id : TermId}
-    → All (Holds s) ids → Grows s s1 → AreAlternatives ms s d s1 d1 locals b → IsWalked p k s1 d1 s2 d2 body → Grows s1 s2
+pub branch_walked : {ms : List Matched} {p : NotedTree} {rest : Arms} {k : Sort} {s s1 s2 s3 s4 : List Tree} {d d1 d2 d3 : Draft} {locals : List Local} {b : BranchPatterns} {ids ids2 : List TermId} {body list id : TermId}
+    → All (Holds s) ids → Grows s s1 → AreDraftedAlternatives ms s d s1 d1 locals b → IsWalked p k s1 d1 s2 d2 body → Grows s1 s2
     → AreArms rest k s2 d2 (ids ++ b.first ∷ map (λ (l : LaterPattern). l.pattern) b.later) s3 d3 ids2 list → Grows s2 s3
-    → Holds s4 id → tree_at s4 id ≡ onto (branch_arms s3 b (tree_at s3 body)) (tree_at s3 list) → IsList Branch (tree_at s4 id) → yield (tree_at s3 body) ≡ k → Grows s3 s4
+    → Holds s4 id → tree_at s4 id ≡ cells_onto (branch_arms s3 b (tree_at s3 body)) (tree_at s3 list) → IsList Branch (tree_at s4 id) → yield (tree_at s3 body) ≡ k → Grows s3 s4
     → AreArms (with_branch ms p rest) k s d ids s4 d3 ids2 id
 branch_walked {ms} {p} {rest} {k} {s} {s1} {s2} {s3} {s4} {b = b} {ids} {ids2} {body} {list} {id} h g a w g1 r g2 held t l y g3 =
     let far : Grows s s2 = Grows_trans s s1 s2 g g1 in
     let deep : Grows s1 s3 = Grows_trans s1 s2 s3 g1 g2 in
     let inside : tree_at s3 body ≡ p.tree = tree_at-grows s2 s3 body g2 w.held ∙ w.tree in
     let own : branch_arms s3 b (tree_at s3 body) ≡ arms p.tree ms = branch_stays s1 s3 deep b a.patterns p.tree (tree_at s3 body) inside ∙ a.arms p.tree in
-    let whole : tree_at s4 id ≡ cells (arms p.tree ms ++ rest.trees) = t ∙ ap (λ (xs : List Tree). onto xs (tree_at s3 list)) own ∙ onto_cells (arms p.tree ms) rest.trees (tree_at s3 list) r.tree in
+    let whole : tree_at s4 id ≡ cells (arms p.tree ms ++ rest.trees) = t ∙ ap (λ (xs : List Tree). cells_onto xs (tree_at s3 list)) own ∙ onto_cells (arms p.tree ms) rest.trees (tree_at s3 list) r.tree in
     let numbers : List TermId = b.first ∷ map (λ (q : LaterPattern). q.pattern) b.later in
     let old : trees_at s2 ids ≡ trees_at s ids = ids_stay s s2 far ids h in
     let new : trees_at s2 numbers ≡ pattern_trees ms = branch_numbers s2 b ∙ (branch_again s1 s2 g1 b a.patterns ∙ a.trees) in
@@ -229,7 +229,7 @@ branch_walked {ms} {p} {rest} {k} {s} {s1} {s2} {s3} {s4} {b = b} {ids} {ids2} {
     branch_again s s' g b h = cc (tree_at-grows s s' b.first g h.first.held, map_same (λ (l : LaterPattern). tree_at s' l.pattern) (λ (l : LaterPattern). tree_at s l.pattern) b.later (λ k e l. tree_at-grows s s' (get_or b.later k e).pattern g (h.later k e l).held))
 
 -- ---- a `match`
-pub has_arm : (w : Where) (ls : List LocalTree) (subject : Tree) (t : Option Tree) (bs : Branches) (n : ℕ) → has_alternative bs ≡ true → head_of (cells (branches_arms w ls n subject t bs).trees) ≡ HCell
+pub has_arm : (w : Where) (ls : List LocalTree) (subject : Tree) (t : Option Tree) (bs : MatchBranches) (n : ℕ) → has_alternative bs ≡ true → head_of (cells (branches_arms w ls n subject t bs).trees) ≡ HCell
 has_arm w ls subject t no_branches n h = absurd (cc)
 has_arm w ls subject t (more_branches no_alternatives b bs) n h = has_arm w ls subject t bs _ h
 has_arm w ls subject t (more_branches (more_alternatives i p ps) b bs) n h = refl
@@ -238,7 +238,7 @@ pub case_fits : (a b : Tree) → sort_of a ≡ Term → IsList Branch b → head
 case_fits a b h l q = ((h, l), q)
 
 -- the arms of branches, told by what the whole began with
-pub as_arms : {s : List Tree} {d : Draft} {w : World} {ls : Locals} → IsSet s d w ls → {s1 : List Tree} → Grows s s1 → {d1 : Draft} (wanted' : Option TermId) (subject : TermId) (bs : Branches)
+pub as_arms : {s : List Tree} {d : Draft} {w : World} {ls : Locals} → IsSet s d w ls → {s1 : List Tree} → Grows s s1 → {d1 : Draft} (wanted' : Option TermId) (subject : TermId) (bs : MatchBranches)
     → (n : ℕ) (u : Tree) (t : Option Tree) → length d1.takers ≡ n → tree_at s1 subject ≡ u → option_map (tree_at s1) wanted' ≡ t → {k : Sort} {ps : List TermId} {s2 : List Tree} {d2 : Draft} {ps2 : List TermId} {x : TermId}
     → AreArms (branches_arms (where_at s1 w) (locals_at s1 ls) (length d1.takers) (tree_at s1 subject) (option_map (tree_at s1) wanted') bs) k s1 d1 ps s2 d2 ps2 x → AreArms (branches_arms (where_at s w) (locals_at s ls) n u t bs) k s1 d1 ps s2 d2 ps2 x
 as_arms {s} {w = w} {ls = ls} c {s1} g {d1} wanted' subject bs n u t l o q {k} {ps} {s2} {d2} {ps2} {x} h =
@@ -246,7 +246,7 @@ as_arms {s} {w = w} {ls = ls} c {s1} g {d1} wanted' subject bs n u t l o q {k} {
     subst (λ (a : Arms). AreArms a k s1 d1 ps s2 d2 ps2 x) same h
 
 -- a branch without alternatives makes no arm
-pub branch_dropped : {p : Piece} {rest : Arms} {k l : Sort} {s s1 s2 : List Tree} {d d1 d2 : Draft} {ids ids2 : List TermId} {body id : TermId}
+pub branch_dropped : {p : NotedTree} {rest : Arms} {k l : Sort} {s s1 s2 : List Tree} {d d1 d2 : Draft} {ids ids2 : List TermId} {body id : TermId}
     → All (Holds s) ids → IsWalked p l s d s1 d1 body → Grows s s1 → AreArms rest k s1 d1 ids s2 d2 ids2 id → AreArms (with_branch [] p rest) k s d ids s2 d2 ids2 id
 branch_dropped {rest = rest} {s = s} {s1 = s1} {ids = ids} h w g r = record {
   held = r.held;
@@ -258,7 +258,7 @@ branch_dropped {rest = rest} {s = s} {s1 = s1} {ids = ids} h w g r = record {
   noted = more_noted w.noted r.noted;
 }
 
-pub no_arms : {k : Sort} {s s1 : List Tree} {d : Draft} (ids : List TermId) {id : TermId} → Grows s s1 → All (Holds s) ids → IsMade s d s1 (Leaf HEnd) id → AreArms (record { trees = []; patterns = []; notes = nothing }) k s d ids s1 d ids id
+pub no_arms : {k : Sort} {s s1 : List Tree} {d : Draft} (ids : List TermId) {id : TermId} → Grows s s1 → All (Holds s) ids → IsMade s d s1 (Leaf HEnd) id → AreArms (record { trees = []; patterns = []; notes = no_notes }) k s d ids s1 d ids id
 no_arms {k} {s} {s1} {d} ids {id} g h m = record {
   held = m.held;
   tree = m.tree;
@@ -274,11 +274,11 @@ no_arms {k} {s} {s1} {d} ids {id} g h m = record {
 
 -- under the variables of the first alternative
 module _ {s s1 : List Tree} {d d1 : Draft} {w : World} {ls : Locals} {vs : List Local} {b : BranchPatterns} (n : ℕ) (t : Tree) (ps : Alternatives) (set : IsSet s d w ls) (g : Grows s s1)
-    (a : AreAlternatives (alternatives_pieces (where_at s w) n t ps) s d s1 d1 vs b) where
-  pub branch_names : reverse (map local_name vs) ++ names_of ls ≡ reverse (alternatives_names ps) ++ names_of ls
+    (a : AreDraftedAlternatives (alternatives_pieces (where_at s w) n t ps) s d s1 d1 vs b) where
+  pub branch_names : reverse (map local_name vs) ++ names_of_locals ls ≡ reverse (alternatives_names ps) ++ names_of_locals ls
   branch_names =
       let e : map local_name vs ≡ alternatives_names ps = sym (local_names s1 vs) ∙ ap names a.locals ∙ first_names (where_at s w) n t ps in
-      ap (λ (r : List Word). reverse r ++ names_of ls) e
+      ap (λ (r : List Word). reverse r ++ names_of_locals ls) e
 
   pub branch_held : All (λ (l : Local). HoldsType s1 l.ty) vs × LocalsHeld s1 ls
   branch_held = (a.held, locals_grow s s1 g ls set.locals)
@@ -286,32 +286,32 @@ module _ {s s1 : List Tree} {d d1 : Draft} {w : World} {ls : Locals} {vs : List 
   pub branch_locals : reverse (map (local_at s1) vs) ++ locals_at s1 ls ≡ reverse (first_variables (alternatives_pieces (where_at s w) n t ps)) ++ locals_at s ls
   branch_locals = cc (a.locals, locals_stay s s1 g ls set.locals)
 
-pub match_walked : {s : List Tree} {d : Draft} {w : World} {ls : Locals} {t : Option TermId} (i : ℕ) (e : Expression) (bs : Branches) → CanWalk s d w ls t (cases i e bs)
+pub match_walked : {s : List Tree} {d : Draft} {w : World} {ls : Locals} {t : Option TermId} (i : ℕ) (e : Expression) (bs : MatchBranches) → CanWalk s d w ls t (match_expression i e bs)
     → {s1 s2 s3 s4 : List Tree} {d1 d2 d3 d4 d5 : Draft} {ty x y id : TermId} {ids : List TermId} (place : ℕ) → place ≡ length d.matches → IsNoted s d s d1 (with_match i [])
     → tree_at s1 ty ≡ Leaf (HTyVar (length d1.takers)) → HoldsType s1 ty → IsNoted s d1 s1 d2 (noted [] (i ∷ [])) → Grows s s1
     → IsWalked (piece (where_at s1 w) (locals_at s1 ls) (length d2.takers) (Some (tree_at s1 ty)) e) Term s1 d2 s2 d3 x → Grows s1 s2
     → AreArms (branches_arms (where_at s2 w) (locals_at s2 ls) (length d3.takers) (tree_at s2 ty) (option_map (tree_at s2) t) bs) (due t) s2 d3 [] s3 d4 ids y → Grows s2 s3
     → d5.equations ≡ d4.equations → d5.takers ≡ d4.takers → d5.matches ≡ slice_set d4.matches place (record { token = i; patterns = ids })
     → IsMade s3 d5 s4 (Two HCase (tree_at s3 x) (tree_at s3 y)) id
-    → IsWalked (piece (where_at s w) (locals_at s ls) (length d.takers) (option_map (tree_at s) t) (cases i e bs)) (due t) s d s4 d5 id
+    → IsWalked (piece (where_at s w) (locals_at s ls) (length d.takers) (option_map (tree_at s) t) (match_expression i e bs)) (due t) s d s4 d5 id
 match_walked {s} {d} {w} {ls} {t} i e bs can {s1} {s2} {s3} {s4} {d1} {d2} {d3} {d4} {d5} {ty} {x} {y} {id} {ids} place p n1 u hu n2 g1 a g2 r g3 qe qt qm m =
     let n : ℕ = length d.takers in
     let len1 : length d1.takers ≡ n = next n1 ∙ (let z : n + 0 ≡ n = omega arith in z) in
     let len2 : length d2.takers ≡ n + 1 = next n2 ∙ ap (λ (j : ℕ). j + 1) len1 in
     let own : tree_at s1 ty ≡ unknown n = u ∙ ap unknown len1 in
-    let subject : Piece = piece (where_at s w) (locals_at s ls) (n + 1) (Some (unknown n)) e in
+    let subject : NotedTree = piece (where_at s w) (locals_at s ls) (n + 1) (Some (unknown n)) e in
     let sub : IsWalked subject Term s1 d2 s2 d3 x = as_begun can.set g1 (Some ty) e (n + 1) (Some (unknown n)) len2 (ap Some own) a in
     let far : Grows s s2 = Grows_trans s s1 s2 g1 g2 in
-    let len3 : length d3.takers ≡ past (n + 1) subject = next sub.noted ∙ ap (λ (j : ℕ). j + taken subject.notes) len2 in
+    let len3 : length d3.takers ≡ unknown_after (n + 1) subject = next sub.noted ∙ ap (λ (j : ℕ). j + taken subject.notes) len2 in
     let at2 : tree_at s2 ty ≡ unknown n = type_stays s1 s2 g2 ty hu ∙ own in
-    let whole : Arms = branches_arms (where_at s w) (locals_at s ls) (past (n + 1) subject) (unknown n) (option_map (tree_at s) t) bs in
-    let arm : AreArms whole (due t) s2 d3 [] s3 d4 ids y = as_arms can.set far t ty bs (past (n + 1) subject) (unknown n) (option_map (tree_at s) t) len3 at2 (wanted_stays s s2 far t can.wanted) r in
+    let whole : Arms = branches_arms (where_at s w) (locals_at s ls) (unknown_after (n + 1) subject) (unknown n) (option_map (tree_at s) t) bs in
+    let arm : AreArms whole (due t) s2 d3 [] s3 d4 ids y = as_arms can.set far t ty bs (unknown_after (n + 1) subject) (unknown n) (option_map (tree_at s) t) len3 at2 (wanted_stays s s2 far t can.wanted) r in
     let rest : Notes = follow (noted [] (i ∷ [])) (follow subject.notes whole.notes) in
     let noted4 : IsNoted s d s3 d4 (follow (with_match i []) rest) = more_noted n1 (more_noted n2 (more_noted sub.noted arm.noted)) in
     let noted5 : IsNoted s d s3 d5 (follow (with_match i (trees_at s3 ids)) rest) = filled_noted i place ids rest p noted4 arm.patterns qe qt qm in
     let done : IsNoted s d s3 d5 (follow (with_match i whole.patterns) rest) = noted_as noted5 (follow (with_match i whole.patterns) rest) (ap (λ (ts : List Tree). follow (with_match i ts) rest) arm.trees) in
     let inside : tree_at s3 x ≡ subject.tree = tree_at-grows s2 s3 x g3 sub.held ∙ sub.tree in
-    let cell : head_of (tree_at s3 y) ≡ HCell = ap head_of arm.tree ∙ has_arm (where_at s w) (locals_at s ls) (unknown n) (option_map (tree_at s) t) bs (past (n + 1) subject) (in_cases (where_at s w) (names_of ls) (is_due t) i e bs can.resolved).1 in
+    let cell : head_of (tree_at s3 y) ≡ HCell = ap head_of arm.tree ∙ has_arm (where_at s w) (locals_at s ls) (unknown n) (option_map (tree_at s) t) bs (unknown_after (n + 1) subject) (in_cases (where_at s w) (names_of_locals ls) (is_due t) i e bs can.resolved).1 in
     record {
       held = m.held;
       tree = m.tree ∙ cc (inside, arm.tree);

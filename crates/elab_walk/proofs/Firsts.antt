@@ -6,13 +6,13 @@ use Rattle.syntax_why.specs.declared.expressions.Expr.{Expr}
 use Rattle.syntax_why.specs.declared.expressions.ExprNode.TheOpen as ex
 use Rattle.syntax_why.specs.declared.expressions.ExprNode.TheOpen.{ExprNode-F}
 use Rattle.syntax_why.specs.declared.expressions.ExprNode.TheFolds.{fold_out-ExprNode}
-use Rattle.syntax_why.specs.Trees.{Tree}
+use Rattle.syntax_why.specs.Trees.{SyntaxTree}
 use Rattle.syntax_why.specs.Surface as code
 use Rattle.syntax_why.specs.Surface.{Arm, Terms, node_step, arm_step, whole_step, terms_step, tree_of_node}
 use Rattle.syntax_why.proofs.TreeLemmas.{tree_of-node}
 use Rattle.elab_names.specs.Abstract.{tree_place, first_tree}
 
-place_step : (x : ExprNode-F (At → Tree) Arm Tree Terms) (a : At) → tree_place (node_step x a) ≡ a
+place_step : (x : ExprNode-F (At → SyntaxTree) Arm SyntaxTree Terms) (a : At) → tree_place (node_step x a) ≡ a
 place_step (ex.Apply q xs) a = refl
 place_step (ex.Int n) a = refl
 place_step ex.True a = refl
@@ -29,7 +29,7 @@ place_step (ex.Quant all bs g e) a = refl
 
 tree_place_is : (e : Expr) → tree_place (code.tree_of e) ≡ e.at
 unfolding tree_of_node
-tree_place_is e = ap tree_place (tree_of-node e) ∙ ap (λ f. tree_place (f e.at)) (fold_out-ExprNode (At → Tree) Arm Tree Terms node_step arm_step whole_step terms_step e.node) ∙ place_step _ e.at
+tree_place_is e = ap tree_place (tree_of-node e) ∙ ap (λ f. tree_place (f e.at)) (fold_out-ExprNode (At → SyntaxTree) Arm SyntaxTree Terms node_step arm_step whole_step terms_step e.node) ∙ place_step _ e.at
 
 pub first_value : (es : List Expr) (e : Expr) → slice_get es 0 ≡ Some e → first_tree (code.trees (map code.tree_of es)) ≡ e.at.first
 first_value [] e h = absurd (cc)

@@ -12,29 +12,29 @@ use Rattle.trees.specs.Tree.{Tree}
 use Rattle.trees.specs.Node.{tree_at, Grows}
 use Rattle.tasks.specs.Meaning.{trees_at}
 use Rattle.syntax_why.specs.declared.types.TypeTree.{TypeTree}
-use Rattle.elab_names.specs.Abstract.{Forms, no_forms, more_forms, count_forms, grouped_forms, form_of, forms_of}
+use Rattle.elab_names.specs.Abstract.{TypeExpressions, no_types, more_types, count_forms, grouped_forms, type_expression_of, forms_of}
 use Rattle.elab_names.specs.Where.{Where}
-use Rattle.elab_walk.specs.Pieces.{type_at, types_at, applied, tuple_type, group_type}
+use Rattle.elab_walk.specs.Pieces.{type_at, types_at, applied_meaning, tuple_type, group_type}
 use Rattle.elab_walk.specs.Drafts.{HoldsType}
 use Rattle.elab_walk.proofs.Growing.{types_stay}
 use Rattle.elab_walk.proofs.Taking.{mapped_more}
 
 pub form_step : (s1 s2 : List Tree) → Grows s1 s2 → (w : Where) (ids : List TermId) (x : TermId) → All (HoldsType s1) ids → (list : List TypeTree) (i : ℕ) (d : TypeTree) → i < length list
-    → tree_at s2 x ≡ type_at w (form_of (get_or list i d)) → (whole : List Tree) → trees_at s1 ids ++ types_at w (forms_of (drop i list)) ≡ whole
+    → tree_at s2 x ≡ type_at w (type_expression_of (get_or list i d)) → (whole : List Tree) → trees_at s1 ids ++ types_at w (forms_of (drop i list)) ≡ whole
     → trees_at s2 (ids ++ x ∷ []) ++ types_at w (forms_of (drop (i + 1) list)) ≡ whole
 form_step s1 s2 g w ids x h list i d l t whole e =
     let step = at_drop_more (λ (xs : List TypeTree). trees_at s1 ids ++ types_at w (forms_of xs)) list i d l in
     rw (mapped_more s2 ids x, types_stay s1 s2 g ids h, t) (rw append_assoc (sym step ∙ e))
 
 -- one type in parentheses is itself
-pub group_of : (w : Where) (i : ℕ) (fs : Forms) → type_at w (grouped_forms i fs) ≡ group_type w (types_at w fs)
-group_of w i no_forms = refl
-group_of w i (more_forms f no_forms) = refl
-group_of w i (more_forms f (more_forms g gs)) = cc (counted w gs)
+pub group_of : (w : Where) (i : ℕ) (fs : TypeExpressions) → type_at w (grouped_forms i fs) ≡ group_type w (types_at w fs)
+group_of w i no_types = refl
+group_of w i (more_types f no_types) = refl
+group_of w i (more_types f (more_types g gs)) = cc (counted w gs)
   where
-    counted : (w : Where) (gs : Forms) → count_forms gs ≡ length (types_at w gs)
-    counted w no_forms = refl
-    counted w (more_forms h hs) = ap suc (counted w hs)
+    counted : (w : Where) (gs : TypeExpressions) → count_forms gs ≡ length (types_at w gs)
+    counted w no_types = refl
+    counted w (more_types h hs) = ap suc (counted w hs)
 
 pub group_one : (w : Where) (ts : List Tree) (d : Tree) → length ts ≡ 1 → get_or ts 0 d ≡ group_type w ts
 group_one w [] d h = absurd (cc)
@@ -56,6 +56,6 @@ hold_types s ids h = hold_each s ids (recursion_from_All (HoldsType s) ids h)
 
 -- what a name stands for, in other words
 pub named_same : (s s' : List Tree) (w : World) → where_at s' w ≡ where_at s w → {qs qs' : List Word} {x x' : Word} {ts ts' : List Tree} → qs ≡ qs' → x ≡ x' → ts ≡ ts'
-    → applied (option_map (meaning_at s') (type_named w.scope.now qs x)) ts ≡ applied ((where_at s w).types qs' x') ts'
+    → applied_meaning (option_map (meaning_at s') (type_named w.scope.now qs x)) ts ≡ applied_meaning ((where_at s w).types qs' x') ts'
 named_same s s' w e {qs} {qs'} {x} {x'} {ts} {ts'} a b d =
-    ap (λ (v : Where). applied (v.types qs x) ts) e ∙ (ap (λ (q : List Word). applied ((where_at s w).types q x) ts) a ∙ (ap (λ (y : Word). applied ((where_at s w).types qs' y) ts) b ∙ ap (applied ((where_at s w).types qs' x')) d))
+    ap (λ (v : Where). applied_meaning (v.types qs x) ts) e ∙ (ap (λ (q : List Word). applied_meaning ((where_at s w).types q x) ts) a ∙ (ap (λ (y : Word). applied_meaning ((where_at s w).types qs' y) ts) b ∙ ap (applied_meaning ((where_at s w).types qs' x')) d))

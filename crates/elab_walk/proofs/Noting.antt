@@ -1,4 +1,4 @@
--- Notes behind others.
+-- Notes after others.
 use Rattle.std.proofs.Common.{◌≡◌, ℕ, ◌+◌, suc, zero, List, [], ◌∷◌, ◌++◌, map, slice_set, replicate, length, refl, sym, ap, ◌∙◌, arith, append_assoc, append-nil, length-append}
 use Rattle.std.specs.List.{All}
 use Rattle.std.proofs.lemmas.List.{replicate-append-replicate, map-set, set_at, length-map}
@@ -11,7 +11,7 @@ use Rattle.unify_types.specs.declared.Equation.{Equation}
 use Rattle.unify_types.specs.Pairs.{HoldsEquation, equations_at}
 use Rattle.elab_walk.specs.declared.draft.Draft.{Draft}
 use Rattle.elab_walk.specs.declared.draft.MatchAt.{MatchAt}
-use Rattle.elab_walk.specs.Patterns.{Notes, noted, with_match, nothing, follow, taken}
+use Rattle.elab_walk.specs.Patterns.{Notes, noted, with_match, no_notes, follow, taken}
 use Rattle.elab_walk.specs.Drafts.{HoldsType, IsReady, IsMade, IsNoted, MatchHeld, match_at, notes_at}
 use Rattle.elab_walk.proofs.Growing.{ready_grows, notes_stay}
 
@@ -19,7 +19,7 @@ use Rattle.elab_walk.proofs.Growing.{ready_grows, notes_stay}
 pub follow_all : (a b c : Notes) → follow (follow a b) c ≡ follow a (follow b c)
 follow_all a b c = cc (append_assoc a.equations b.equations c.equations, append_assoc a.takers b.takers c.takers, append_assoc a.matches b.matches c.matches)
 
-pub follow_nothing : (a : Notes) → follow a nothing ≡ a
+pub follow_nothing : (a : Notes) → follow a no_notes ≡ a
 follow_nothing a = rw (append-nil a.equations, append-nil a.takers, append-nil a.matches) refl
 
 pub taken_both : (a b : Notes) → taken (follow a b) ≡ taken a + taken b
@@ -36,7 +36,7 @@ pub noted_both : (es fs : List (Tree × Tree)) (ts us : List ℕ) → follow (no
 noted_both es fs ts us = refl
 
 -- ---- of drafts
-pub nothing_noted : (s : List Tree) (d : Draft) → IsReady s d → IsNoted s d s d nothing
+pub nothing_noted : (s : List Tree) (d : Draft) → IsReady s d → IsNoted s d s d no_notes
 nothing_noted s d r = record { notes = sym (follow_nothing (notes_at s d)); ready = r }
 
 pub more_noted : {s s1 s2 : List Tree} {d d1 d2 : Draft} {a b : Notes} → IsNoted s d s1 d1 a → IsNoted s1 d1 s2 d2 b → IsNoted s d s2 d2 (follow a b)
@@ -46,14 +46,14 @@ more_noted {s} {d = d} {a = a} {b = b} x y = record { notes = y.notes ∙ ap (λ
 pub noted_after : {s s1 s2 : List Tree} {d d1 : Draft} {a : Notes} → Grows s s1 → IsReady s d → IsNoted s1 d s2 d1 a → IsNoted s d s2 d1 a
 noted_after {s} {s1} {d = d} {a = a} g r x = record { notes = x.notes ∙ ap (λ (n : Notes). follow n a) (notes_stay s s1 g d r); ready = x.ready }
 
--- where the store grows behind
+-- where the store grows after
 pub noted_before : {s s1 s2 : List Tree} {d d1 : Draft} {a : Notes} → IsNoted s d s1 d1 a → Grows s1 s2 → IsNoted s d s2 d1 a
 noted_before {s1 = s1} {s2 = s2} {d1 = d1} x g = record { notes = notes_stay s1 s2 g d1 x.ready ∙ x.notes; ready = ready_grows s1 s2 g d1 x.ready }
 
 pub noted_as : {s s1 : List Tree} {d d1 : Draft} {a : Notes} → IsNoted s d s1 d1 a → (b : Notes) → a ≡ b → IsNoted s d s1 d1 b
 noted_as {s} {d = d} x b e = record { notes = x.notes ∙ ap (follow (notes_at s d)) e; ready = x.ready }
 
--- the next unknown behind notes
+-- the next unknown after notes
 pub next : {s s1 : List Tree} {d d1 : Draft} {a : Notes} → IsNoted s d s1 d1 a → length d1.takers ≡ length d.takers + taken a
 next {s} {d = d} {a = a} x = ap taken x.notes ∙ taken_both (notes_at s d) a
 

@@ -4,12 +4,12 @@ use Rattle.syntax_why.specs.declared.names.Name.{Name}
 use Rattle.syntax_why.specs.declared.names.QName.{QName}
 use Rattle.syntax_why.specs.declared.patterns.Pat.{Pat}
 use Rattle.syntax_why.specs.declared.patterns.PatNode.TheVariants as pv
-use Rattle.syntax_why.specs.Forms.{Form, Forms, wild, variable, type_variable, composed, enclosed, aliased, no_forms, more_forms}
+use Rattle.syntax_why.specs.Forms.{SyntaxForm, SyntaxForms, wild, variable, type_variable, composed, enclosed, aliased, no_forms, more_forms}
 use Rattle.syntax_why.specs.Surface as code
 use Rattle.syntax_why.proofs.TreeLemmas.{pattern_is, pattern_of_node-Con, pattern_of_node-Group, pattern_of_node-Alias}
 
 abbrev mutual
-  pub form_size : Form → ℕ
+  pub form_size : SyntaxForm → ℕ
   form_size (wild a) = 1
   form_size (variable a n) = 1
   form_size (type_variable a w) = 1
@@ -17,7 +17,7 @@ abbrev mutual
   form_size (enclosed a fs) = suc (forms_size fs)
   form_size (aliased a f n) = suc (form_size f)
 
-  pub forms_size : Forms → ℕ
+  pub forms_size : SyntaxForms → ℕ
   forms_size no_forms = 0
   forms_size (more_forms f fs) = form_size f + forms_size fs
 
@@ -28,7 +28,7 @@ abbrev pub patterns_size : List Pat → ℕ
 patterns_size [] = 0
 patterns_size (p ∷ ps) = pattern_size p + patterns_size ps
 
-pub some_pattern : (f : Form) → 1 ≤ form_size f
+pub some_pattern : (f : SyntaxForm) → 1 ≤ form_size f
 some_pattern (wild a) = omega arith
 some_pattern (variable a n) = omega arith
 some_pattern (type_variable a w) = omega arith

@@ -8,7 +8,7 @@ use Rattle.tasks.specs.declared.signature.SymbolKind.TheVariants.{Kind, Function
 use Rattle.tasks.specs.Task.{SymbolTree, int_symbol}
 use Rattle.tasks.specs.Equations.{cells}
 use Rattle.syntax_why.specs.Lexeme.{Word}
-use Rattle.elab_names.specs.Abstract.{composed, no_forms, more_forms, Pattern, bound, tupled, no_patterns, more_patterns, no_alternatives, more_alternatives, Expression, apply, infixed, literal, truth, tuple, equated, binding, cases, quantified, none, more, no_branches, more_branches}
+use Rattle.elab_names.specs.Abstract.{composed_type, no_types, more_types, Pattern, variable_pattern, tuple_pattern, no_patterns, more_patterns, no_alternatives, more_alternatives, Expression, applied_expression, infix_expression, integer_expression, true_expression, tuple_expression, equality_expression, let_expression, match_expression, quantified_expression, no_expressions, more_expressions, no_branches, more_branches}
 use Rattle.elab_names.specs.Where.{Where, Stands, Abbreviates}
 use Rattle.elab_walk.specs.Patterns.{local, alternatives_pieces, all_notes, reordered}
 use Rattle.elab_walk.specs.Pieces.{piece, type_at}
@@ -51,48 +51,48 @@ here = record {
 }
 
 abbrev name : ℕ → Word → Expression
-name i x = apply i [] x none
+name i x = applied_expression i [] x no_expressions
 
 -- `c + d = 0`: the result of `+`, its two arguments, the literal
-sum_equations : (piece here [] 0 None (equated 3 true (infixed 1 (codes "+") (name 0 (codes "c")) (name 2 (codes "d"))) (literal 4 (pos 0)))).notes.equations
+sum_equations : (piece here [] 0 None (equality_expression 3 true (infix_expression 1 (codes "+") (name 0 (codes "c")) (name 2 (codes "d"))) (integer_expression 4 (pos 0)))).notes.equations
     ≡ (int_type, unknown 0) ∷ (t_type, int_type) ∷ (t_type, int_type) ∷ (int_type, unknown 0) ∷ []
 sum_equations = refl
 
 -- `Nil = Nil`: `=` takes the first unknown, so it is named where all are open
-nil_takers : (piece here [] 0 None (equated 10 true (name 9 (codes "Nil")) (name 11 (codes "Nil")))).notes.takers ≡ 10 ∷ 9 ∷ 11 ∷ []
+nil_takers : (piece here [] 0 None (equality_expression 10 true (name 9 (codes "Nil")) (name 11 (codes "Nil")))).notes.takers ≡ 10 ∷ 9 ∷ 11 ∷ []
 nil_takers = refl
 
-nil_equations : (piece here [] 0 None (equated 10 true (name 9 (codes "Nil")) (name 11 (codes "Nil")))).notes.equations ≡ (list_of (unknown 1), unknown 0) ∷ (list_of (unknown 2), unknown 0) ∷ []
+nil_equations : (piece here [] 0 None (equality_expression 10 true (name 9 (codes "Nil")) (name 11 (codes "Nil")))).notes.equations ≡ (list_of (unknown 1), unknown 0) ∷ (list_of (unknown 2), unknown 0) ∷ []
 nil_equations = refl
 
 -- `forall x: t. let y = x in y = c`: the innermost variable has the index 0
-bound_tree : (piece here [] 0 None (quantified 0 true (record { names = codes "x" ∷ []; of_type = Some (composed 3 [] (codes "t") no_forms) } ∷ []) none (binding 5 (codes "y") (name 8 (codes "x"))
-    (equated 11 true (name 10 (codes "y")) (name 8 (codes "x")))))).tree
+bound_tree : (piece here [] 0 None (quantified_expression 0 true (record { names = codes "x" ∷ []; of_type = Some (composed_type 3 [] (codes "t") no_types) } ∷ []) no_expressions (let_expression 5 (codes "y") (name 8 (codes "x"))
+    (equality_expression 11 true (name 10 (codes "y")) (name 8 (codes "x")))))).tree
     ≡ Two HForall t_type (Two HLet (One (HBound 0) t_type) (Two HEq (One (HBound 0) (unknown 0)) (One (HBound 1) t_type)))
 bound_tree = refl
 
 -- `forall x y. [p x] true`: each name takes an unknown at the quantifier, and the trigger is dropped
-trigger_notes : (piece here [] 0 None (quantified 0 true (record { names = codes "x" ∷ codes "y" ∷ []; of_type = None } ∷ []) (more (apply 5 [] (codes "p") (more (name 6 (codes "x")) none)) none) (truth 9))).notes.equations
+trigger_notes : (piece here [] 0 None (quantified_expression 0 true (record { names = codes "x" ∷ codes "y" ∷ []; of_type = None } ∷ []) (more_expressions (applied_expression 5 [] (codes "p") (more_expressions (name 6 (codes "x")) no_expressions)) no_expressions) (true_expression 9))).notes.equations
     ≡ (unknown 0, t_type) ∷ []
 trigger_notes = refl
 
 -- `(c, 1)`, of which a type is wanted
-pair_equations : (piece here [] 1 (Some (unknown 0)) (tuple 3 (more (name 4 (codes "c")) (more (literal 6 (pos 1)) none)))).notes.equations
+pair_equations : (piece here [] 1 (Some (unknown 0)) (tuple_expression 3 (more_expressions (name 4 (codes "c")) (more_expressions (integer_expression 6 (pos 1)) no_expressions)))).notes.equations
     ≡ (pair_of (unknown 1) (unknown 2), unknown 0) ∷ (t_type, unknown 1) ∷ (int_type, unknown 2) ∷ []
 pair_equations = refl
 
 -- an alias's type at its argument
-alias_type : type_at here (composed 0 [] (codes "pair") (more_forms (composed 1 [] (codes "t") no_forms) no_forms)) ≡ list_of (list_of t_type)
+alias_type : type_at here (composed_type 0 [] (codes "pair") (more_types (composed_type 1 [] (codes "t") no_types) no_types)) ≡ list_of (list_of t_type)
 alias_type = refl
 
--- `match c with x -> p x end`: the match with its pattern stands before those of its parts
-match_notes : (piece here [] 0 None (cases 2 (name 3 (codes "c")) (more_branches (more_alternatives 5 (bound 5 (codes "x")) no_alternatives) (apply 7 [] (codes "p") (more (name 8 (codes "x")) none)) no_branches))).notes.matches
+-- `match c with x -> p x end`: the match with its pattern is before those of its parts
+match_notes : (piece here [] 0 None (match_expression 2 (name 3 (codes "c")) (more_branches (more_alternatives 5 (variable_pattern 5 (codes "x")) no_alternatives) (applied_expression 7 [] (codes "p") (more_expressions (name 8 (codes "x")) no_expressions)) no_branches))).notes.matches
     ≡ (2, One HPatVar (unknown 0) ∷ []) ∷ []
 match_notes = refl
 
 -- `(x, y) | (y, x)`: each alternative takes its own unknowns, and the later one's variables bring their equations
 abbrev swapped : ℕ → Word → Word → Pattern
-swapped i x y = tupled i (more_patterns (bound i x) (more_patterns (bound i y) no_patterns))
+swapped i x y = tuple_pattern i (more_patterns (variable_pattern i x) (more_patterns (variable_pattern i y) no_patterns))
 
 later_equations : (all_notes (alternatives_pieces here 1 (unknown 0) (more_alternatives 2 (swapped 2 (codes "x") (codes "y")) (more_alternatives 7 (swapped 7 (codes "y") (codes "x")) no_alternatives)))).equations
     ≡ (pair_of (unknown 1) (unknown 2), unknown 0) ∷ (pair_of (unknown 3) (unknown 4), unknown 0) ∷ (unknown 2, unknown 3) ∷ (unknown 1, unknown 4) ∷ []

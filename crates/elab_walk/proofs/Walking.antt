@@ -12,7 +12,7 @@ use Rattle.trees.specs.Node.{tree_at, Holds, Grows}
 use Rattle.trees.specs.Sorts.{Fits, sort_of, yield, top_sort, IsExpression}
 use Rattle.trees.proofs.Nodes.{tree_at-grows, Grows_trans}
 use Rattle.syntax_why.specs.Lexeme.{Word}
-use Rattle.elab_names.specs.Abstract.{Form, Expression, Expressions, apply, infixed, cast, negation, joined, equated, choice, binding, tuple, none, more}
+use Rattle.elab_names.specs.Abstract.{TypeExpression, Expression, Expressions, applied_expression, infix_expression, cast_expression, not_expression, connected_expression, equality_expression, if_expression, let_expression, tuple_expression, no_expressions, more_expressions}
 use Rattle.elab_names.specs.declared.NamingFault.{NamingFault}
 use Rattle.elab_names.specs.declared.NamingFault.TheVariants.{WrongKind}
 use Rattle.elab_names.specs.declared.world.World.{World}
@@ -23,12 +23,12 @@ use Rattle.elab_walk.specs.declared.locals.Local.{Local}
 use Rattle.elab_walk.specs.declared.locals.Locals.{Locals}
 use Rattle.elab_walk.specs.declared.draft.Draft.{Draft}
 use Rattle.elab_walk.specs.Patterns.{Notes, LocalTree}
-use Rattle.elab_walk.specs.Pieces.{Piece, piece, bare, under, both, before}
-use Rattle.elab_walk.specs.Drafts.{HoldsType, IsReady, IsMade, IsNoted, IsWalked, IsSet, CanWalk, LocalsHeld, local_at, locals_at, names_of, is_due, due}
+use Rattle.elab_walk.specs.Pieces.{NotedTree, piece, bare_piece, piece_under, both_pieces, noted_before}
+use Rattle.elab_walk.specs.Drafts.{HoldsType, IsReady, IsMade, IsNoted, IsWalked, IsSet, CanWalk, LocalsHeld, local_at, locals_at, names_of_locals, is_due, due}
 use Rattle.elab_walk.proofs.Growing.{world_stays, world_grows, locals_stay, locals_grow}
 use Rattle.elab_walk.proofs.Noting.{more_noted, follow_nothing}
 
--- where no fault stands, none stands in either part
+-- where no fault stands, none is in either part
 pub none_both : (x y : Option NamingFault) → first_of x y ≡ None → (x ≡ None) × (y ≡ None)
 none_both None y h = (refl, h)
 none_both (Some f) y h = absurd (cc)
@@ -57,13 +57,13 @@ set_inside {s} {w = w} c {s'} inside g r h = record { world = world_grows s s' g
 -- of a part
 pub go_on : {s : List Tree} {d : Draft} {w : World} {ls : Locals} → IsSet s d w ls
     → {s' : List Tree} {d' : Draft} {wanted' : Option TermId} {e' : Expression} → Grows s s' → IsReady s' d' → IfSome wanted' (HoldsType s')
-    → fault (where_at s w) false (names_of ls) (is_due wanted') e' ≡ None → CanWalk s' d' w ls wanted' e'
+    → fault (where_at s w) false (names_of_locals ls) (is_due wanted') e' ≡ None → CanWalk s' d' w ls wanted' e'
 go_on {s} {w = w} c {s'} g r h f = record { set = set_on c g r; wanted = h; resolved = rw (world_stays s s' g w c.world) f }
 
 -- under further variables
 pub go_inside : {s : List Tree} {d : Draft} {w : World} {ls : Locals} → IsSet s d w ls
     → {s' : List Tree} {d' : Draft} {wanted' : Option TermId} (inside : Locals) {e' : Expression} → Grows s s' → IsReady s' d' → LocalsHeld s' inside → IfSome wanted' (HoldsType s')
-    → fault (where_at s w) false (names_of inside) (is_due wanted') e' ≡ None → CanWalk s' d' w inside wanted' e'
+    → fault (where_at s w) false (names_of_locals inside) (is_due wanted') e' ≡ None → CanWalk s' d' w inside wanted' e'
 go_inside {s} {w = w} c {s'} inside g r h k f = record { set = set_inside c inside g r h; wanted = k; resolved = rw (world_stays s s' g w c.world) f }
 
 -- the piece of a part, told by what the whole began with
@@ -74,7 +74,7 @@ pub as_begun : {s : List Tree} {d : Draft} {w : World} {ls : Locals} → IsSet s
     → IsWalked (piece (where_at s w) (locals_at s ls) n t e') k s1 d1 s2 d2 x
 as_begun {s} {w = w} {ls = ls} c {s1} g {d1} wanted' e' {k} {s2} {d2} {x} n t l q h =
     let same : piece (where_at s1 w) (locals_at s1 ls) (length d1.takers) (option_map (tree_at s1) wanted') e' ≡ piece (where_at s w) (locals_at s ls) n t e' = cc (world_stays s s1 g w c.world, locals_stay s s1 g ls c.locals, l, q) in
-    subst (λ (p : Piece). IsWalked p k s1 d1 s2 d2 x) same h
+    subst (λ (p : NotedTree). IsWalked p k s1 d1 s2 d2 x) same h
 
 pub as_inside : {s : List Tree} {d : Draft} {w : World} {ls : Locals} → IsSet s d w ls
     → {s1 : List Tree} → Grows s s1 → {d1 : Draft} (wanted' : Option TermId) (e' : Expression) {k : Sort} {s2 : List Tree} {d2 : Draft} {x : TermId}
@@ -83,7 +83,7 @@ pub as_inside : {s : List Tree} {d : Draft} {w : World} {ls : Locals} → IsSet 
     → IsWalked (piece (where_at s w) ls' n t e') k s1 d1 s2 d2 x
 as_inside {s} {w = w} c {s1} g {d1} wanted' e' {k} {s2} {d2} {x} inside ls' n t l q o h =
     let same : piece (where_at s1 w) inside (length d1.takers) (option_map (tree_at s1) wanted') e' ≡ piece (where_at s w) ls' n t e' = cc (world_stays s s1 g w c.world, l, q, o) in
-    subst (λ (p : Piece). IsWalked p k s1 d1 s2 d2 x) same h
+    subst (λ (p : NotedTree). IsWalked p k s1 d1 s2 d2 x) same h
 
 -- ---- variables
 pub one_held : (s : List Tree) (l : Local) → HoldsType s l.ty → All (λ (x : Local). HoldsType s x.ty) (l ∷ [])
@@ -95,7 +95,7 @@ one_inside s l x u old new a b c = cc
 
 -- ---- what the walks give
 -- no part
-pub walked_bare : {e : Tree} {k : Sort} {s s1 : List Tree} {d : Draft} {id : TermId} → IsMade s d s1 e id → sort_of e ≡ k → IsWalked (bare e) k s d s1 d id
+pub walked_bare : {e : Tree} {k : Sort} {s s1 : List Tree} {d : Draft} {id : TermId} → IsMade s d s1 e id → sort_of e ≡ k → IsWalked (bare_piece e) k s d s1 d id
 walked_bare m o = record {
   held = m.held;
   tree = m.tree;
@@ -104,8 +104,8 @@ walked_bare m o = record {
 }
 
 -- one part
-pub walked_under : (f : Tree → Tree) {p : Piece} {k k' : Sort} {s s1 s2 : List Tree} {d d1 : Draft} {x id : TermId}
-    → IsWalked p k s d s1 d1 x → IsMade s1 d1 s2 (f (tree_at s1 x)) id → sort_of (f (tree_at s1 x)) ≡ k' → IsWalked (under f p) k' s d s2 d1 id
+pub walked_under : (f : Tree → Tree) {p : NotedTree} {k k' : Sort} {s s1 s2 : List Tree} {d d1 : Draft} {x id : TermId}
+    → IsWalked p k s d s1 d1 x → IsMade s1 d1 s2 (f (tree_at s1 x)) id → sort_of (f (tree_at s1 x)) ≡ k' → IsWalked (piece_under f p) k' s d s2 d1 id
 walked_under f a m o = record {
   held = m.held;
   tree = m.tree ∙ ap f a.tree;
@@ -114,9 +114,9 @@ walked_under f a m o = record {
 }
 
 -- two parts
-pub walked_both : (f : Tree → Tree → Tree) {p q : Piece} {k l m : Sort} {s s1 s2 s3 : List Tree} {d d1 d2 : Draft} {x y id : TermId}
+pub walked_both : (f : Tree → Tree → Tree) {p q : NotedTree} {k l m : Sort} {s s1 s2 s3 : List Tree} {d d1 d2 : Draft} {x y id : TermId}
     → IsWalked p k s d s1 d1 x → IsWalked q l s1 d1 s2 d2 y → Grows s1 s2 → IsMade s2 d2 s3 (f (tree_at s2 x) (tree_at s2 y)) id
-    → sort_of (f (tree_at s2 x) (tree_at s2 y)) ≡ m → IsWalked (both f p q) m s d s3 d2 id
+    → sort_of (f (tree_at s2 x) (tree_at s2 y)) ≡ m → IsWalked (both_pieces f p q) m s d s3 d2 id
 walked_both f {s1 = s1} {s2 = s2} {x = x} a b g m o = record {
   held = m.held;
   tree = let e = tree_at-grows s1 s2 x g a.held in cc (m.tree, e, a.tree, b.tree);
@@ -125,10 +125,10 @@ walked_both f {s1 = s1} {s2 = s2} {x = x} a b g m o = record {
 }
 
 -- three parts
-pub walked_choice : {p q r : Piece} {k : Sort} {s s1 s2 s3 s4 : List Tree} {d d1 d2 d3 : Draft} {x y z id : TermId}
+pub walked_choice : {p q r : NotedTree} {k : Sort} {s s1 s2 s3 s4 : List Tree} {d d1 d2 d3 : Draft} {x y z id : TermId}
     → IsWalked p Formula s d s1 d1 x → IsWalked q k s1 d1 s2 d2 y → Grows s1 s2 → IsWalked r k s2 d2 s3 d3 z → Grows s2 s3
     → IsMade s3 d3 s4 (Three HIf (tree_at s3 x) (tree_at s3 y) (tree_at s3 z)) id → sort_of (Three HIf (tree_at s3 x) (tree_at s3 y) (tree_at s3 z)) ≡ k
-    → IsWalked (both (λ a b. b) p (both (λ a b. Three HIf p.tree a b) q r)) k s d s4 d3 id
+    → IsWalked (both_pieces (λ a b. b) p (both_pieces (λ a b. Three HIf p.tree a b) q r)) k s d s4 d3 id
 walked_choice {s1 = s1} {s2 = s2} {s3 = s3} {x = x} {y = y} a b g c h m o = record {
   held = m.held;
   tree = let e = tree_at-grows s1 s3 x (Grows_trans s1 s2 s3 g h) a.held in let f = tree_at-grows s2 s3 y h b.held in cc (m.tree, e, f, a.tree, b.tree, c.tree);
@@ -137,8 +137,8 @@ walked_choice {s1 = s1} {s2 = s2} {s3 = s3} {x = x} {y = y} a b g c h m o = reco
 }
 
 -- what a node notes before its parts
-pub walked_after : {p : Piece} {k : Sort} {s s1 s2 : List Tree} {d d1 d2 : Draft} {id : TermId} {n : Notes}
-    → IsNoted s d s1 d1 n → IsWalked p k s1 d1 s2 d2 id → IsWalked (before n p) k s d s2 d2 id
+pub walked_after : {p : NotedTree} {k : Sort} {s s1 s2 : List Tree} {d d1 d2 : Draft} {id : TermId} {n : Notes}
+    → IsNoted s d s1 d1 n → IsWalked p k s1 d1 s2 d2 id → IsWalked (noted_before n p) k s d s2 d2 id
 walked_after n a = record { held = a.held; tree = a.tree; sort = a.sort; noted = more_noted n a.noted }
 
 -- ---- what is due
@@ -152,41 +152,41 @@ term_due (Some w) h = refl
 
 -- no fault in a whole, none in its parts
 module _ (w : Where) (o : Bool) (ls : List Word) (b : Bool) (i : ℕ) where
-  pub in_cast : (e : Expression) (t : Form) → fault w o ls b (cast i e t) ≡ None → (b ≡ false) × (fault w o ls false e ≡ None) × (form_fault w o t ≡ None)
+  pub in_cast : (e : Expression) (t : TypeExpression) → fault w o ls b (cast_expression i e t) ≡ None → (b ≡ false) × (fault w o ls false e ≡ None) × (form_fault w o t ≡ None)
   in_cast e t h =
       let p = none_both (fault_if b (WrongKind i)) (first_of (fault w o ls false e) (form_fault w o t)) h in
       let q = none_both (fault w o ls false e) (form_fault w o t) p.1 in
       (not_if b (WrongKind i) p.0, q.0, q.1)
 
-  pub in_negation : (e : Expression) → fault w o ls b (negation i e) ≡ None → (b ≡ true) × (fault w o ls true e ≡ None)
+  pub in_negation : (e : Expression) → fault w o ls b (not_expression i e) ≡ None → (b ≡ true) × (fault w o ls true e ≡ None)
   in_negation e h = let p = none_both (fault_if (not b) (WrongKind i)) _ h in (must_be b _ p.0, p.1)
 
-  pub in_joined : (x y : Expression) (op : Op) → fault w o ls b (joined i x op y) ≡ None → (b ≡ true) × (fault w o ls true x ≡ None) × (fault w o ls true y ≡ None)
+  pub in_joined : (x y : Expression) (op : Op) → fault w o ls b (connected_expression i x op y) ≡ None → (b ≡ true) × (fault w o ls true x ≡ None) × (fault w o ls true y ≡ None)
   in_joined x y op h =
       let p = none_both (fault w o ls true x) _ h in
       let q = none_both (fault_if (not b) (WrongKind i)) _ p.1 in
       (must_be b _ q.0, p.0, q.1)
 
-  pub in_equated : (same : Bool) (x y : Expression) → fault w o ls b (equated i same x y) ≡ None → (b ≡ true) × (fault w o ls false x ≡ None) × (fault w o ls false y ≡ None)
+  pub in_equated : (same : Bool) (x y : Expression) → fault w o ls b (equality_expression i same x y) ≡ None → (b ≡ true) × (fault w o ls false x ≡ None) × (fault w o ls false y ≡ None)
   in_equated same x y h =
       let p = none_both (fault w o ls false x) _ h in
       let q = none_both (fault_if (not b) (WrongKind i)) _ p.1 in
       (must_be b _ q.0, p.0, q.1)
 
-  pub in_choice : (c x y : Expression) → fault w o ls b (choice i c x y) ≡ None → (fault w o ls true c ≡ None) × (fault w o ls b x ≡ None) × (fault w o ls b y ≡ None)
+  pub in_choice : (c x y : Expression) → fault w o ls b (if_expression i c x y) ≡ None → (fault w o ls true c ≡ None) × (fault w o ls b x ≡ None) × (fault w o ls b y ≡ None)
   in_choice c x y h =
       let p = none_both (fault w o ls true c) _ h in
       let q = none_both (fault w o ls b x) _ p.1 in
       (p.0, q.0, q.1)
 
-  pub in_binding : (v : Word) (x y : Expression) → fault w o ls b (binding i v x y) ≡ None → (fault w o ls false x ≡ None) × (fault w o (v ∷ ls) b y ≡ None)
+  pub in_binding : (v : Word) (x y : Expression) → fault w o ls b (let_expression i v x y) ≡ None → (fault w o ls false x ≡ None) × (fault w o (v ∷ ls) b y ≡ None)
   in_binding v x y h = none_both (fault w o ls false x) _ h
 
-  pub in_tuple : (es : Expressions) → fault w o ls b (tuple i es) ≡ None → (b ≡ false) × (faults w o ls es ≡ None)
+  pub in_tuple : (es : Expressions) → fault w o ls b (tuple_expression i es) ≡ None → (b ≡ false) × (faults w o ls es ≡ None)
   in_tuple es h = let p = none_both (fault_if b (WrongKind i)) _ h in (not_if b _ p.0, p.1)
 
   -- an operator between two is a name before them
-  pub in_infixed : (v : Word) (x y : Expression) → fault w o ls b (infixed i v x y) ≡ None → fault w o ls b (apply i [] v (more x (more y none))) ≡ None
+  pub in_infixed : (v : Word) (x y : Expression) → fault w o ls b (infix_expression i v x y) ≡ None → fault w o ls b (applied_expression i [] v (more_expressions x (more_expressions y no_expressions))) ≡ None
   in_infixed v x y h =
       let p = none_both (fault w o ls false x) _ h in
       let q = none_both (name_fault w ls b i [] v 2) _ p.1 in

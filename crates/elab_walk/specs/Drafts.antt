@@ -17,7 +17,7 @@ use Rattle.names_space.specs.declared.TypeName.{TypeName}
 use Rattle.names_space.specs.declared.TypeName.TheVariants as stands
 use Rattle.syntax_why.specs.Lexeme.{Word}
 use Rattle.elab_names.specs.declared.world.World.{World}
-use Rattle.elab_names.specs.Abstract.{Expression, Expressions, Branches, none, more, expression_of, expressions_of}
+use Rattle.elab_names.specs.Abstract.{Expression, Expressions, MatchBranches, no_expressions, more_expressions, expression_of, expressions_of}
 use Rattle.elab_names.specs.Faults.{fault, faults, triggers_fault, branches_fault}
 use Rattle.elab_names.specs.Naming.{where_at, type_named}
 use Rattle.elab_walk.specs.declared.draft.Draft.{Draft}
@@ -31,7 +31,7 @@ use Rattle.elab_walk.specs.declared.patterns.Alternative.TheVariants.{First, Lat
 use Rattle.elab_walk.specs.declared.patterns.LaterPattern.{LaterPattern}
 use Rattle.elab_walk.specs.declared.patterns.BranchPatterns.{BranchPatterns}
 use Rattle.elab_walk.specs.Patterns.{Notes, Matched, arms, pattern_trees, first_variables, all_notes, places_among, reordering, noted, follow, LocalTree, at_unknowns, result_or_int}
-use Rattle.elab_walk.specs.Pieces.{Piece, Arms, wanting}
+use Rattle.elab_walk.specs.Pieces.{NotedTree, Arms, wanting}
 use Rattle.elab_walk.specs.Sizes.{sizes_of}
 
 -- the number is held, of a type
@@ -73,17 +73,17 @@ abbrev pub local_name : Local → List ℕ
 local_name l = l.name.now
 
 -- the names of the variables, innermost first
-abbrev pub names_of : Locals → List (List ℕ)
-names_of Outside = []
-names_of (Inside' ls p outer) = reverse (map local_name ls.now) ++ names_of outer
+abbrev pub names_of_locals : Locals → List (List ℕ)
+names_of_locals Outside = []
+names_of_locals (Inside' ls p outer) = reverse (map local_name ls.now) ++ names_of_locals outer
 
-abbrev pub place_at : List Tree → ℕ × TermId → ℕ × Tree
-place_at s p = (p.0, tree_at s p.1)
+abbrev pub place_pair_at : List Tree → ℕ × TermId → ℕ × Tree
+place_pair_at s p = (p.0, tree_at s p.1)
 
 abbrev pub operands_at : Operands → Expressions
 operands_at (Many es) = expressions_of es.now
-operands_at (One e) = more (expression_of e.now) none
-operands_at (Two a b) = more (expression_of a.now) (more (expression_of b.now) none)
+operands_at (One e) = more_expressions (expression_of e.now) no_expressions
+operands_at (Two a b) = more_expressions (expression_of a.now) (more_expressions (expression_of b.now) no_expressions)
 
 abbrev pub operands_size : Operands → ℕ
 operands_size (Many es) = sizes_of es.now
@@ -122,7 +122,7 @@ pub record IsTaken (s : List Tree) (d : Draft) (s' : List Tree) (d' : Draft) (to
   pub trees : trees_at s' ids ≡ type_variables (length d.takers) count
   pub noted : IsNoted s d s' d' (noted [] (replicate count token))
 
--- variables behind others, so many of which take an unknown
+-- variables after others, so many of which take an unknown
 pub record IsBound (s : List Tree) (d : Draft) (ls : List Local) (s' : List Tree) (d' : Draft) (ls' : List Local) (token count : ℕ) (more : List LocalTree) : Type 0 where
   pub held : All (λ (l : Local). HoldsType s' l.ty) ls'
   pub locals : map (local_at s') ls' ≡ map (local_at s) ls ++ more
@@ -130,15 +130,15 @@ pub record IsBound (s : List Tree) (d : Draft) (ls : List Local) (s' : List Tree
 
 -- ---- patterns
 -- the variables of the first alternative, in a later one
-abbrev pub earlier_at : List Tree → Alternative → Option (List LocalTree)
-earlier_at s First = None
-earlier_at s (Later ls) = Some (map (local_at s) ls.now)
+abbrev pub earlier_variables : List Tree → Alternative → Option (List LocalTree)
+earlier_variables s First = None
+earlier_variables s (Later ls) = Some (map (local_at s) ls.now)
 
 abbrev pub EarlierHeld : List Tree → Alternative → Type 0
 EarlierHeld s First = Unit {0}
 EarlierHeld s (Later ls) = All (λ (l : Local). HoldsType s l.ty) ls.now
 
--- variables behind others, and notes
+-- variables after others, and notes
 pub record AreBound (s : List Tree) (d : Draft) (ls : List Local) (s' : List Tree) (d' : Draft) (ls' : List Local) (notes : Notes) (more : List LocalTree) : Type 0 where
   pub held : All (λ (l : Local). HoldsType s' l.ty) ls'
   pub locals : map (local_at s') ls' ≡ map (local_at s) ls ++ more
@@ -159,7 +159,7 @@ pub record CanMatchAll (s : List Tree) (d : Draft) (w : World) (ls : List Local)
   pub wanted : All (HoldsType s) ts
   pub earlier : EarlierHeld s a
 
--- the number of the pattern's tree; its notes and variables behind those that were there
+-- the number of the pattern's tree; its notes and variables after those that were there
 pub record IsMatched (m : Matched) (s : List Tree) (d : Draft) (ls : List Local) (s' : List Tree) (d' : Draft) (ls' : List Local) (id : TermId) : Type 0 where
   pub held : Holds s' id
   pub tree : tree_at s' id ≡ m.tree
@@ -173,7 +173,7 @@ pub record AreMatched (m : Matched) (s : List Tree) (d : Draft) (ls : List Local
   pub patterns : IsList Pattern (tree_at s' id)
   pub bound : AreBound s d ls s' d' ls' m.notes m.variables
 
--- a later alternative's pattern, and where the first one's variables stand in it
+-- a later alternative's pattern, and where the first one's variables are in it
 abbrev pub later_at : List Tree → LaterPattern → Tree × List ℕ
 later_at s l = (tree_at s l.pattern, l.places)
 
@@ -191,7 +191,7 @@ pub record HoldsPattern (s : List Tree) (id : TermId) : Type 0 where
 abbrev pub LaterHeld : List Tree → LaterPattern → Type 0
 LaterHeld s l = HoldsPattern s l.pattern
 
--- a later alternative, and later ones behind others, whose first one has these variables
+-- a later alternative, and later ones after others, whose first one has these variables
 pub record IsLater (m : Matched) (first : List LocalTree) (s : List Tree) (d : Draft) (s' : List Tree) (d' : Draft) (l : LaterPattern) : Type 0 where
   pub held : LaterHeld s' l
   pub is : later_at s' l ≡ later_of first m
@@ -214,7 +214,7 @@ abbrev pub branch_arms : List Tree → BranchPatterns → Tree → List Tree
 branch_arms s b body = Two HArm (tree_at s b.first) body ∷ map (later_arm body) (map (later_at s) b.later)
 
 -- alternatives; the variables of the first one stand by themselves
-pub record AreAlternatives (ms : List Matched) (s : List Tree) (d : Draft) (s' : List Tree) (d' : Draft) (ls : List Local) (b : BranchPatterns) : Type 0 where
+pub record AreDraftedAlternatives (ms : List Matched) (s : List Tree) (d : Draft) (s' : List Tree) (d' : Draft) (ls : List Local) (b : BranchPatterns) : Type 0 where
   pub patterns : PatternsHeld s' b
   pub trees : branch_trees s' b ≡ pattern_trees ms
   pub arms : (body : Tree) → branch_arms s' b body ≡ arms body ms
@@ -233,15 +233,15 @@ pub record IsBegun (s : List Tree) (d : Draft) (s' : List Tree) (d' : Draft) (to
   pub noted : IsNoted s d s' d' (noted (wanting (at_unknowns (length d.takers) e (result_or_int e.result)) t) (replicate e.vars token))
 
 -- ---- walks
--- the number of the piece's tree, and its notes behind those that were there
-pub record IsWalked (p : Piece) (k : Sort) (s : List Tree) (d : Draft) (s' : List Tree) (d' : Draft) (id : TermId) : Type 0 where
+-- the number of the piece's tree, and its notes after those that were there
+pub record IsWalked (p : NotedTree) (k : Sort) (s : List Tree) (d : Draft) (s' : List Tree) (d' : Draft) (id : TermId) : Type 0 where
   pub held : Holds s' id
   pub tree : tree_at s' id ≡ p.tree
   pub sort : sort_of (tree_at s' id) ≡ k
   pub noted : IsNoted s d s' d' p.notes
 
 -- the same of arguments
-pub record AreWalked (p : Piece) (s : List Tree) (d : Draft) (s' : List Tree) (d' : Draft) (id : TermId) : Type 0 where
+pub record AreWalked (p : NotedTree) (s : List Tree) (d : Draft) (s' : List Tree) (d' : Draft) (id : TermId) : Type 0 where
   pub walked : IsWalked p sorts.List s d s' d' id
   pub terms : IsList Term (tree_at s' id)
 
@@ -264,34 +264,34 @@ pub record IsSet (s : List Tree) (d : Draft) (w : World) (ls : Locals) : Type 0 
 pub record CanWalk (s : List Tree) (d : Draft) (w : World) (ls : Locals) (t : Option TermId) (e : Expression) : Type 0 where
   pub set : IsSet s d w ls
   pub wanted : IfSome t (HoldsType s)
-  pub resolved : fault (where_at s w) false (names_of ls) (is_due t) e ≡ None
+  pub resolved : fault (where_at s w) false (names_of_locals ls) (is_due t) e ≡ None
 
 -- what a walk of an entry's operands asks for
 pub record CanUse (s : List Tree) (d : Draft) (w : World) (ls : Locals) (t : Option TermId) (es : Expressions) : Type 0 where
   pub set : IsSet s d w ls
   pub wanted : IfSome t (HoldsType s)
-  pub resolved : faults (where_at s w) false (names_of ls) es ≡ None
+  pub resolved : faults (where_at s w) false (names_of_locals ls) es ≡ None
 
 -- what a walk of arguments asks for
 pub record CanWalkAll (s : List Tree) (d : Draft) (w : World) (ls : Locals) (ts : List TermId) (es : Expressions) : Type 0 where
   pub set : IsSet s d w ls
   pub wanted : All (HoldsType s) ts
-  pub resolved : faults (where_at s w) false (names_of ls) es ≡ None
+  pub resolved : faults (where_at s w) false (names_of_locals ls) es ≡ None
 
 -- what a walk of triggers asks for
 pub record CanWalkTriggers (s : List Tree) (d : Draft) (w : World) (ls : Locals) (es : Expressions) : Type 0 where
   pub set : IsSet s d w ls
-  pub resolved : triggers_fault (where_at s w) false (names_of ls) es ≡ None
+  pub resolved : triggers_fault (where_at s w) false (names_of_locals ls) es ≡ None
 
 -- what a walk of branches asks for, whose patterns have a type
-pub record CanWalkBranches (s : List Tree) (d : Draft) (w : World) (ls : Locals) (t : Option TermId) (id : TermId) (ps : List TermId) (bs : Branches) : Type 0 where
+pub record CanWalkBranches (s : List Tree) (d : Draft) (w : World) (ls : Locals) (t : Option TermId) (id : TermId) (ps : List TermId) (bs : MatchBranches) : Type 0 where
   pub set : IsSet s d w ls
   pub wanted : IfSome t (HoldsType s)
   pub subject : HoldsType s id
   pub patterns : All (Holds s) ps
-  pub resolved : branches_fault (where_at s w) false (names_of ls) (is_due t) bs ≡ None
+  pub resolved : branches_fault (where_at s w) false (names_of_locals ls) (is_due t) bs ≡ None
 
--- the number of the arms' list, whose bodies are of a sort; and the numbers of their patterns behind others
+-- the number of the arms' list, whose bodies are of a sort; and the numbers of their patterns after others
 pub record AreArms (a : Arms) (k : Sort) (s : List Tree) (d : Draft) (ps : List TermId) (s' : List Tree) (d' : Draft) (ps' : List TermId) (id : TermId) : Type 0 where
   pub held : Holds s' id
   pub tree : tree_at s' id ≡ cells a.trees

@@ -7,7 +7,7 @@ use Rattle.trees.specs.Binding.{Change, change, Bound, Param, TyVar, inst_types}
 use Rattle.tasks.specs.Task.{SymbolTree, symbol_or}
 use Rattle.tasks.specs.Equations.{cells, type_variables}
 use Rattle.syntax_why.specs.Lexeme.{Word}
-use Rattle.elab_names.specs.Abstract.{Pattern, Patterns, wild, bound, constructed, tupled, aliased, no_patterns, more_patterns, Alternatives, no_alternatives, more_alternatives, count_patterns}
+use Rattle.elab_names.specs.Abstract.{Pattern, Patterns, wildcard_pattern, variable_pattern, constructor_pattern, tuple_pattern, alias_pattern, no_patterns, more_patterns, Alternatives, no_alternatives, more_alternatives, count_patterns}
 use Rattle.elab_names.specs.Where.{Where}
 
 -- what is noted in preorder beside the tree: the type equations; for each unknown the token of the node that takes it; and the
@@ -20,8 +20,8 @@ pub record Notes : Type 0 where
 abbrev pub noted : List (Tree × Tree) → List ℕ → Notes
 noted es ts = record { equations = es; takers = ts; matches = [] }
 
-abbrev pub nothing : Notes
-nothing = noted [] []
+abbrev pub no_notes : Notes
+no_notes = noted [] []
 
 -- a match with its patterns
 abbrev pub with_match : ℕ → List Tree → Notes
@@ -60,11 +60,11 @@ rest_of [] = []
 rest_of (t ∷ ts) = ts
 
 -- an entry with its number
-pub record Entry : Type 0 where
+pub record NumberedEntry : Type 0 where
   pub number : ℕ
   pub symbol : SymbolTree
 
-abbrev pub entry_of : List SymbolTree → Option ℕ → Entry
+abbrev pub entry_of : List SymbolTree → Option ℕ → NumberedEntry
 entry_of symbols None = record { number = 0; symbol = symbol_or symbols 0 }
 entry_of symbols (Some k) = record { number = k; symbol = symbol_or symbols k }
 
@@ -74,51 +74,51 @@ pub record Matched : Type 0 where
   pub notes : Notes
   pub variables : List LocalTree
 
-abbrev pub matched : Tree → Notes → List LocalTree → Matched
-matched t n vs = record { tree = t; notes = n; variables = vs }
+abbrev pub matched_piece : Tree → Notes → List LocalTree → Matched
+matched_piece t n vs = record { tree = t; notes = n; variables = vs }
 
-abbrev pub type_in : Word → List LocalTree → Tree
-type_in x [] = int_type
-type_in x (l ∷ ls) = cond (bytes_eq l.name x) l.type (type_in x ls)
+abbrev pub local_type : Word → List LocalTree → Tree
+local_type x [] = int_type
+local_type x (l ∷ ls) = cond (bytes_eq l.name x) l.type (local_type x ls)
 
 -- a variable has the wanted type; in a later alternative its type is that of the first one's
-abbrev pub bind : Option (List LocalTree) → Word → Tree → List (Tree × Tree)
-bind None x t = []
-bind (Some first) x t = (type_in x first, t) ∷ []
+abbrev pub variable_equations : Option (List LocalTree) → Word → Tree → List (Tree × Tree)
+variable_equations None x t = []
+variable_equations (Some first) x t = (local_type x first, t) ∷ []
 
 -- a constructor that takes its types from n on, before its parts
-abbrev pub constructed_by : ℕ → ℕ → Tree → Entry → Matched → Matched
+abbrev pub constructed_by : ℕ → ℕ → Tree → NumberedEntry → Matched → Matched
 constructed_by n i t c parts =
-    matched (Three (HPatCon c.number) (cells (type_variables n c.symbol.vars)) parts.tree t)
+    matched_piece (Three (HPatCon c.number) (cells (type_variables n c.symbol.vars)) parts.tree t)
     (follow (noted ((at_unknowns n c.symbol (result_or_int c.symbol.result), t) ∷ []) (replicate c.symbol.vars i)) parts.notes) parts.variables
 
-abbrev pub part_types : ℕ → Entry → List Tree
+abbrev pub part_types : ℕ → NumberedEntry → List Tree
 part_types n c = map (at_unknowns n c.symbol) c.symbol.args
 
 -- Of a pattern that takes a type, with the next unknown n; `first` has the variables of the first alternative, in a later one.
 abbrev mutual
   pub pattern_piece : Where → Option (List LocalTree) → ℕ → Tree → Pattern → Matched
-  pattern_piece w first n t (wild i) = matched (One HPatAny t) nothing []
-  pattern_piece w first n t (bound i x) = matched (One HPatVar t) (noted (bind first x t) []) (local x t ∷ [])
-  pattern_piece w first n t (constructed i qs x ps) =
+  pattern_piece w first n t (wildcard_pattern i) = matched_piece (One HPatAny t) no_notes []
+  pattern_piece w first n t (variable_pattern i x) = matched_piece (One HPatVar t) (noted (variable_equations first x t) []) (local x t ∷ [])
+  pattern_piece w first n t (constructor_pattern i qs x ps) =
       let c = entry_of w.symbols (w.names qs x) in
       constructed_by n i t c (patterns_piece w first (n + c.symbol.vars) (part_types n c) ps)
-  pattern_piece w first n t (tupled i ps) =
+  pattern_piece w first n t (tuple_pattern i ps) =
       let c = entry_of w.symbols (w.tuples (count_patterns ps)) in
       constructed_by n i t c (patterns_piece w first (n + c.symbol.vars) (part_types n c) ps)
-  pattern_piece w first n t (aliased p i x) =
+  pattern_piece w first n t (alias_pattern p i x) =
       let inner = pattern_piece w first n t p in
-      matched (One HPatAlias inner.tree) (follow inner.notes (noted (bind first x t) [])) (inner.variables ++ local x t ∷ [])
+      matched_piece (One HPatAlias inner.tree) (follow inner.notes (noted (variable_equations first x t) [])) (inner.variables ++ local x t ∷ [])
 
   pub patterns_piece : Where → Option (List LocalTree) → ℕ → List Tree → Patterns → Matched
-  patterns_piece w first n ts no_patterns = matched (Leaf HEnd) nothing []
+  patterns_piece w first n ts no_patterns = matched_piece (Leaf HEnd) no_notes []
   patterns_piece w first n ts (more_patterns p ps) =
       let one = pattern_piece w first n (first_or_int ts) p in
       let rest = patterns_piece w first (n + taken one.notes) (rest_of ts) ps in
-      matched (Two HCell one.tree rest.tree) (follow one.notes rest.notes) (one.variables ++ rest.variables)
+      matched_piece (Two HCell one.tree rest.tree) (follow one.notes rest.notes) (one.variables ++ rest.variables)
 
 -- a constructor's entry before its parts
-abbrev pub constructor_piece : Where → Option (List LocalTree) → ℕ → Tree → ℕ → Entry → Patterns → Matched
+abbrev pub constructor_piece : Where → Option (List LocalTree) → ℕ → Tree → ℕ → NumberedEntry → Patterns → Matched
 constructor_piece w first n t i c ps = constructed_by n i t c (patterns_piece w first (n + c.symbol.vars) (part_types n c) ps)
 
 -- ---- alternatives
@@ -136,7 +136,7 @@ alternatives_pieces w n t (more_alternatives i p ps) =
     one ∷ later_pieces w one.variables (n + taken one.notes) t ps
 
 abbrev pub all_notes : List Matched → Notes
-all_notes [] = nothing
+all_notes [] = no_notes
 all_notes (m ∷ ms) = follow m.notes (all_notes ms)
 
 -- the variables of the first alternative, which the body is under
@@ -177,6 +177,6 @@ arms body [] = []
 arms body (m ∷ ms) = Two HArm m.tree body ∷ later_arms m.variables body ms
 
 -- a list's cells before another list
-abbrev pub onto : List Tree → Tree → Tree
-onto [] rest = rest
-onto (t ∷ ts) rest = Two HCell t (onto ts rest)
+abbrev pub cells_onto : List Tree → Tree → Tree
+cells_onto [] rest = rest
+cells_onto (t ∷ ts) rest = Two HCell t (cells_onto ts rest)

@@ -5,7 +5,7 @@ ghost use Rattle.trees.specs.Tree.{Two, HCell, HArm};
 ghost use Rattle.trees.specs.Node.{tree_at, Holds, Grows};
 ghost use Rattle.trees.specs.Sorts.{sort_of, IsExpression, IsList};
 ghost use Rattle.trees.specs.declared.Sort.TheVariants.{Branch};
-ghost use Rattle.elab_walk.specs.Patterns.{onto};
+ghost use Rattle.elab_walk.specs.Patterns.{cells_onto};
 ghost use Rattle.elab_walk.specs.Drafts.{HoldsPattern, LaterHeld, PatternsHeld, later_at, later_arm, branch_arms};
 
 use crate::patterns::{BranchPatterns, LaterPattern};
@@ -15,7 +15,7 @@ use std::alloc::{AllocError, Global};
 use term_store::{Grow, Store};
 use trees::{Node, TermId};
 
-// The numbers of later alternatives, behind those that are there.
+// The numbers of later alternatives, after those that are there.
 fn push_later_patterns(patterns: &mut Seq<TermId>, later: &[LaterPattern]) -> Result<(), AllocError>
     ensures { OnOk result (patterns.new ≡ patterns.old ++ map (λ l. l.pattern) later.now) }
 {
@@ -26,7 +26,7 @@ fn push_later_patterns(patterns: &mut Seq<TermId>, later: &[LaterPattern]) -> Re
     push_later_patterns(patterns, rest)
 }
 
-/// The numbers of a branch's patterns, behind those that are there.
+/// The numbers of a branch's patterns, after those that are there.
 pub fn push_patterns(patterns: &mut Seq<TermId>, branch: &BranchPatterns) -> Result<(), AllocError>
     ensures { OnOk result (patterns.new ≡ patterns.old ++ branch.now.first
         ∷ map (λ l. l.pattern) branch.now.later) }
@@ -71,7 +71,7 @@ fn push_later(
     requires list { Holds store.old list }
     requires branches { IsList Branch (tree_at store.old list) }
     ensures held { IfOk result (Holds store.new) }
-    ensures tree { IfOk result (λ id. tree_at store.new id ≡ onto (map (later_arm
+    ensures tree { IfOk result (λ id. tree_at store.new id ≡ cells_onto (map (later_arm
         (tree_at store.old body)) (map (later_at store.old) later.now)) (tree_at store.old list)) }
     ensures branches { IfOk result (λ id. IsList Branch (tree_at store.new id)) }
     ensures grows { Grows store.old store.new }
@@ -98,7 +98,8 @@ pub fn push_arms(
     requires list { Holds store.old list }
     requires branches { IsList Branch (tree_at store.old list) }
     ensures held { IfOk result (Holds store.new) }
-    ensures tree { IfOk result (λ id. tree_at store.new id ≡ onto (branch_arms store.old branch.now
+    ensures tree { IfOk result (λ id. tree_at store.new id
+        ≡ cells_onto (branch_arms store.old branch.now
         (tree_at store.old body)) (tree_at store.old list)) }
     ensures branches { IfOk result (λ id. IsList Branch (tree_at store.new id)) }
     ensures grows { Grows store.old store.new }

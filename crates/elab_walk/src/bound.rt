@@ -4,9 +4,9 @@ ghost use Rattle.std.specs.Prelude.{◌≡◌, IfOk, OnOk, length, map, All};
 ghost use Rattle.trees.specs.Node.{tree_at, Holds, Grows};
 ghost use Rattle.trees.specs.Sorts.{sort_of};
 ghost use Rattle.trees.specs.declared.Sort.TheVariants.{Formula};
-ghost use Rattle.elab_names.specs.Abstract.{texts, binder_of, binders_of};
+ghost use Rattle.elab_names.specs.Abstract.{texts_of_names, bound_names_of, binders_of};
 ghost use Rattle.elab_names.specs.Naming.{where_at};
-ghost use Rattle.elab_walk.specs.Pieces.{quantify, typed, untyped, binder_locals, binder_vars, binders_vars, bound};
+ghost use Rattle.elab_walk.specs.Pieces.{quantify, locals_of_type, untyped, binder_locals, binder_vars, binders_vars, bound};
 ghost use Rattle.elab_walk.specs.Drafts.{HoldsType, WorldHeld, IsReady, IsMade, IsBound, local_at};
 
 use crate::draft::{Draft, make, new_unknown};
@@ -46,7 +46,7 @@ pub fn quantify(
     }
 }
 
-/// Variables of one type, behind those that are there.
+/// Variables of one type, after those that are there.
 #[tactic(auto, using(crate::proofs::Binding::bound_none, crate::proofs::Binding::bound_first))]
 fn bind_typed<'a>(
     store: &Store,
@@ -59,7 +59,7 @@ fn bind_typed<'a>(
     requires ready { IsReady store.now draft.now }
     requires held { All (λ l. HoldsType store.now l.ty) locals.old.items }
     ensures { OnOk result (IsBound store.now draft.now locals.old.items store.now draft.now
-        locals.new.items 0 0 (typed (tree_at store.now ty) (texts names.now))) }
+        locals.new.items 0 0 (locals_of_type (tree_at store.now ty) (texts_of_names names.now))) }
 {
     let Some((first, rest)) = names.split_first() else {
         return Ok(());
@@ -82,7 +82,7 @@ fn bind_untyped<'a>(
     requires ready { IsReady store.old draft.old }
     requires held { All (λ l. HoldsType store.old l.ty) locals.old.items }
     ensures bound { OnOk result (IsBound store.old draft.old locals.old.items store.new draft.new
-        locals.new.items token (length names.now) (untyped (length draft.old.takers) (texts
+        locals.new.items token (length names.now) (untyped (length draft.old.takers) (texts_of_names
         names.now))) }
     ensures grows { Grows store.old store.new }
 {
@@ -111,9 +111,9 @@ fn bind_one<'a>(
     requires ready { IsReady store.old draft.old }
     requires held { All (λ l. HoldsType store.old l.ty) locals.old.items }
     ensures bound { OnOk result (IsBound store.old draft.old locals.old.items store.new draft.new
-        locals.new.items token (binder_vars (binder_of binder.now).names (binder_of
+        locals.new.items token (binder_vars (bound_names_of binder.now).names (bound_names_of
         binder.now).of_type) (binder_locals (where_at store.old world.now) (length draft.old.takers)
-        (binder_of binder.now).names (binder_of binder.now).of_type)) }
+        (bound_names_of binder.now).names (bound_names_of binder.now).of_type)) }
     ensures grows { Grows store.old store.new }
 {
     let names = binder.names.as_slice();
@@ -126,7 +126,7 @@ fn bind_one<'a>(
     }
 }
 
-/// The variables of binders, behind those that are there.
+/// The variables of binders, after those that are there.
 pub fn bind<'a>(
     alloc: Global,
     store: &mut Store,

@@ -5,8 +5,8 @@ ghost use Rattle.trees.specs.Node.{tree_at, Holds, Grows};
 ghost use Rattle.trees.specs.Sorts.{sort_of};
 ghost use Rattle.tasks.specs.Meaning.{trees_at};
 ghost use Rattle.trees.specs.declared.Sort.TheVariants.{Term, Formula};
-ghost use Rattle.syntax_why.specs.Surface.{value_of};
-ghost use Rattle.elab_names.specs.Abstract.{expression_of, expressions_of, grouped, apply, quantified, binders_of, triggers_of, number, cases, first_tree, more_branches, no_branches, more_alternatives, no_alternatives, first_form, side_by_side, alternatives_of, branches_of};
+ghost use Rattle.syntax_why.specs.Surface.{integer_word};
+ghost use Rattle.elab_names.specs.Abstract.{expression_of, expressions_of, grouped, applied_expression, quantified_expression, binders_of, triggers_of, integer_value, match_expression, first_tree, more_branches, no_branches, more_alternatives, no_alternatives, first_form, side_by_side, alternatives_of, branches_of};
 ghost use Rattle.syntax_why.specs.Surface as code;
 ghost use Rattle.elab_names.specs.Naming.{where_at};
 ghost use Rattle.elab_walk.specs.Patterns.{entry_of};
@@ -15,7 +15,7 @@ ghost use Rattle.elab_walk.specs.Drafts.{HoldsType, locals_at, due, is_due, oper
 
 use crate::arms::{push_arms, push_patterns};
 use crate::bound::{bind, quantify};
-use crate::draft::{Draft, equate, fill, make, reserve, new_unknown};
+use crate::draft::{Draft, equate, fill, make, new_unknown, reserve};
 use crate::locals::{Local, Locals, local_named};
 use crate::operands::{Operands, split_operands};
 use crate::patterns::walk_alternatives;
@@ -33,7 +33,7 @@ use trees::{Node, TermId};
 
 // The value of an integer, which in a source isn't below zero.
 fn literal_value(value: &i128) -> i128
-    ensures { result ≡ number (value_of value.now) }
+    ensures { result ≡ integer_value (integer_word value.now) }
 {
     if *value < 0 { 0 } else { *value }
 }
@@ -48,7 +48,8 @@ fn walk_literal(
     requires wanted { IfSome wanted (HoldsType store.old) }
     requires ready { IsReady store.old draft.old }
     requires term { is_due wanted ≡ false }
-    ensures walked { IfOk result (IsWalked (literal_piece (number (value_of value.now)) (option_map
+    ensures walked { IfOk result (IsWalked
+        (literal_piece (integer_value (integer_word value.now)) (option_map
         (tree_at store.old) wanted)) (due wanted) store.old draft.old store.new draft.new) }
     ensures grows { Grows store.old store.new }
 {
@@ -239,7 +240,7 @@ pub fn walk(
     }
 }
 
-// A name behind its scopes before its operands.
+// A name after its scopes before its operands.
 #[cycle(walking)]
 fn walk_use(
     alloc: Global,
@@ -253,11 +254,13 @@ fn walk_use(
     locals: &Locals<'_>,
     wanted: Option<TermId>,
 ) -> Result<TermId, AllocError>
-    requires { CanWalk store.old draft.old world.now locals.now wanted (apply token scopes.now
+    requires { CanWalk store.old draft.old world.now locals.now wanted
+        (applied_expression token scopes.now
         name.now (operands_at operands)) }
     ensures walked { IfOk result (IsWalked (piece (where_at store.old world.now) (locals_at
         store.old locals.now) (length draft.old.takers) (option_map (tree_at store.old) wanted)
-        (apply token scopes.now name.now (operands_at operands.entry))) (due wanted) store.old
+        (applied_expression token scopes.now name.now (operands_at operands.entry))) (due wanted)
+        store.old
         draft.old store.new draft.new) }
     ensures grows { Grows store.old store.new }
 {
@@ -387,10 +390,12 @@ fn walk_quantified(
     world: &World<'_>,
     locals: &Locals<'_>,
 ) -> Result<TermId, AllocError>
-    requires { CanWalk store.old draft.old world.now locals.now None (quantified token all
+    requires { CanWalk store.old draft.old world.now locals.now None
+        (quantified_expression token all
         (binders_of binders.now) (triggers_of triggers.now) (expression_of body.now)) }
     ensures walked { IfOk result (IsWalked (piece (where_at store.old world.now) (locals_at
-        store.old locals.now) (length draft.old.takers) None (quantified token all (binders_of
+        store.old locals.now) (length draft.old.takers) None
+        (quantified_expression token all (binders_of
         binders.now) (triggers_of triggers.now) (expression_of body.now))) Formula store.old
         draft.old store.new draft.new) }
     ensures grows { Grows store.old store.new }
@@ -471,12 +476,13 @@ fn walk_match(
     locals: &Locals<'_>,
     wanted: Option<TermId>,
 ) -> Result<TermId, AllocError>
-    requires { CanWalk store.old draft.old world.now locals.now wanted (cases token (grouped
+    requires { CanWalk store.old draft.old world.now locals.now wanted
+        (match_expression token (grouped
         (first_tree (code.trees (map code.tree_of values.now))) (expressions_of values.now))
         (branches_of branches.now)) }
     ensures walked { IfOk result (IsWalked (piece (where_at store.old world.now)
         (locals_at store.old locals.now) (length draft.old.takers)
-        (option_map (tree_at store.old) wanted) (cases token (grouped (first_tree
+        (option_map (tree_at store.old) wanted) (match_expression token (grouped (first_tree
         (code.trees (map code.tree_of values.now))) (expressions_of values.now))
         (branches_of branches.now))) (due wanted) store.old draft.old store.new draft.new) }
     ensures grows { Grows store.old store.new }
@@ -515,13 +521,13 @@ fn walk_matched(
     locals: &Locals<'_>,
     wanted: Option<TermId>,
 ) -> Result<TermId, AllocError>
-    requires { CanWalk store.old draft.old world.now locals.now wanted (cases token
+    requires { CanWalk store.old draft.old world.now locals.now wanted (match_expression token
         (expression_of value.now) (more_branches (more_alternatives (first_form
         (code.patterns pattern.now)) (side_by_side (code.patterns pattern.now)) no_alternatives)
         (expression_of body.now) no_branches)) }
     ensures walked { IfOk result (IsWalked (piece (where_at store.old world.now)
         (locals_at store.old locals.now) (length draft.old.takers)
-        (option_map (tree_at store.old) wanted) (cases token (expression_of value.now)
+        (option_map (tree_at store.old) wanted) (match_expression token (expression_of value.now)
         (more_branches (more_alternatives (first_form (code.patterns pattern.now)) (side_by_side
         (code.patterns pattern.now)) no_alternatives) (expression_of body.now) no_branches)))
         (due wanted) store.old draft.old store.new draft.new) }

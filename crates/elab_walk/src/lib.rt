@@ -1,5 +1,5 @@
 //! The walk of terms and formulas whose names are there: trees over unknowns, their type equations, and who takes each unknown.
-//! It stands on what names mean; what solves the equations stands on it.
+//! It depends on what names mean; what solves the equations depends on it.
 #![tactic(auto)]
 
 mod arms;

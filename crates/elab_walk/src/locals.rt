@@ -2,8 +2,8 @@
 // They depend on the numbers of types; the walk depends on them.
 ghost use Rattle.std.specs.Prelude.{◌≡◌, List, ◌++◌, map, reverse, IfSome, IfOk, All, option_map};
 ghost use Rattle.trees.specs.Tree.{Tree};
-ghost use Rattle.elab_walk.specs.Pieces.{variable_named, found};
-ghost use Rattle.elab_walk.specs.Drafts.{local_at, locals_at, place_at, HoldsType, LocalsHeld};
+ghost use Rattle.elab_walk.specs.Pieces.{variable_named, found_local};
+ghost use Rattle.elab_walk.specs.Drafts.{local_at, locals_at, place_pair_at, HoldsType, LocalsHeld};
 
 use outside::Text;
 use std::alloc::AllocError;
@@ -27,7 +27,7 @@ pub enum Locals<'a> {
 #[cycle(locals)]
 fn local_around(locals: &Locals<'_>, name: &[u8]) -> Result<Option<(usize, TermId)>, AllocError>
     ensures found { IfOk result (λ found'. (s : List Tree) → variable_named name.now (locals_at s
-        locals.now) ≡ option_map (place_at s) found') }
+        locals.now) ≡ option_map (place_pair_at s) found') }
     ensures held { IfOk result (λ found'. (s : List Tree) → LocalsHeld s locals.now → IfSome found'
         (λ p. HoldsType s p.1)) }
 {
@@ -44,7 +44,7 @@ fn local_among(
     name: &[u8],
 ) -> Result<Option<(usize, TermId)>, AllocError>
     ensures found { IfOk result (λ found'. (s : List Tree) → variable_named name.now (reverse (map
-        (local_at s) inner.now) ++ locals_at s outer.now) ≡ option_map (place_at s) found') }
+        (local_at s) inner.now) ++ locals_at s outer.now) ≡ option_map (place_pair_at s) found') }
     ensures held { IfOk result (λ found'. (s : List Tree) → All (λ l. HoldsType s l.ty) inner.now →
         LocalsHeld s outer.now → IfSome found' (λ p. HoldsType s p.1)) }
 {
@@ -63,14 +63,15 @@ fn local_among(
     }
 }
 
-/// The place of the variable for which a name behind scopes stands, and its type. Only a name without scopes is one.
+/// The place of the variable for which a name after scopes stands, and its type. Only a name without scopes is one.
 pub fn local_named(
     locals: &Locals<'_>,
     scopes: &[Text],
     name: &[u8],
 ) -> Result<Option<(usize, TermId)>, AllocError>
-    ensures found { IfOk result (λ found'. (s : List Tree) → found scopes.now name.now (locals_at s
-        locals.now) ≡ option_map (place_at s) found') }
+    ensures found { IfOk result (λ found'. (s : List Tree)
+        → found_local scopes.now name.now (locals_at s
+        locals.now) ≡ option_map (place_pair_at s) found') }
     ensures held { IfOk result (λ found'. (s : List Tree) → LocalsHeld s locals.now → IfSome found'
         (λ p. HoldsType s p.1)) }
 {

@@ -1,7 +1,7 @@
 // The operands of a use: arguments side by side, or those of an operator.
 // They depend on the surface trees alone; the walk of uses depends on them.
 ghost use Rattle.std.specs.Prelude.{◌≡◌, ◌+◌, MatchOption};
-ghost use Rattle.elab_names.specs.Abstract.{expression_of, none, more};
+ghost use Rattle.elab_names.specs.Abstract.{expression_of, no_expressions, more_expressions};
 ghost use Rattle.elab_walk.specs.Drafts.{operands_at, operands_size};
 ghost use Rattle.elab_walk.specs.Sizes.{size_of};
 
@@ -17,8 +17,9 @@ pub enum Operands<'a> {
 
 /// The first operand, and the others.
 pub fn split_operands(operands: Operands<'_>) -> Option<(&Expr, Operands<'_>)>
-    ensures operands { MatchOption result (operands_at operands.entry ≡ none) (λ p. operands_at
-        operands.entry ≡ more (expression_of p.0.now) (operands_at p.1)) }
+    ensures operands { MatchOption result (operands_at operands.entry ≡ no_expressions)
+        (λ p. operands_at
+        operands.entry ≡ more_expressions (expression_of p.0.now) (operands_at p.1)) }
     ensures size { MatchOption result (operands_size operands.entry ≡ 0) (λ p. operands_size
         operands.entry ≡ size_of p.0.now + operands_size p.1) }
 {

@@ -4,11 +4,11 @@ ghost use Rattle.std.specs.Prelude.{◌≡◌, ◌≤◌, ℕ, List, IfOk, OnOk,
 ghost use Rattle.trees.specs.Tree.{Tree};
 ghost use Rattle.trees.specs.Node.{tree_at, Grows};
 ghost use Rattle.tasks.specs.Meaning.{trees_at};
-ghost use Rattle.elab_names.specs.Abstract.{pattern_of, patterns_of, grouped_patterns, first_form, side_by_side, more_alternatives, alternatives_of};
+ghost use Rattle.elab_names.specs.Abstract.{abstract_pattern_of, patterns_of, grouped_patterns, first_form, side_by_side, more_alternatives, alternatives_of};
 ghost use Rattle.syntax_why.specs.Surface as code;
 ghost use Rattle.elab_names.specs.Naming.{where_at};
-ghost use Rattle.elab_walk.specs.Patterns.{local, bind, type_in, noted, entry_of, pattern_piece, patterns_piece, constructor_piece, place_among, places_among, later_pieces, alternatives_pieces};
-ghost use Rattle.elab_walk.specs.Drafts.{HoldsType, IsReady, IsNoted, AreBound, local_at, earlier_at, EarlierHeld, CanMatch, CanMatchAll, IsMatched, AreMatched, WorldHeld, LaterHeld, IsLater, AreLater, AreAlternatives};
+ghost use Rattle.elab_walk.specs.Patterns.{local, variable_equations, local_type, noted, entry_of, pattern_piece, patterns_piece, constructor_piece, place_among, places_among, later_pieces, alternatives_pieces};
+ghost use Rattle.elab_walk.specs.Drafts.{HoldsType, IsReady, IsNoted, AreBound, local_at, earlier_variables, EarlierHeld, CanMatch, CanMatchAll, IsMatched, AreMatched, WorldHeld, LaterHeld, IsLater, AreLater, AreDraftedAlternatives};
 
 use crate::draft::{Draft, equate, make};
 use crate::locals::Local;
@@ -33,7 +33,7 @@ fn type_among(store: &Store, locals: &[Local<'_>], name: &[u8]) -> TermId
     requires { All (λ l. HoldsType store.now l.ty) locals.now }
     ensures held { HoldsType store.now result }
     ensures tree { tree_at store.now result
-        ≡ type_in name.now (map (local_at store.now) locals.now) }
+        ≡ local_type name.now (map (local_at store.now) locals.now) }
 {
     match locals.split_first() {
         Some((first, rest)) => {
@@ -58,8 +58,9 @@ fn equate_variable(
     requires ty { HoldsType store.now ty }
     requires ready { IsReady store.now draft.old }
     requires earlier { EarlierHeld store.now alternative }
-    ensures noted { OnOk result (IsNoted store.now draft.old store.now draft.new (noted (bind
-        (earlier_at store.now alternative.entry) name.now (tree_at store.now ty)) [])) }
+    ensures noted { OnOk result (IsNoted store.now draft.old store.now draft.new
+        (noted (variable_equations
+        (earlier_variables store.now alternative.entry) name.now (tree_at store.now ty)) [])) }
 {
     match alternative {
         Alternative::First => Ok(()),
@@ -70,7 +71,7 @@ fn equate_variable(
     }
 }
 
-// A variable of a type behind those that are there.
+// A variable of a type after those that are there.
 fn bind_variable<'a>(
     store: &Store,
     draft: &mut Draft,
@@ -84,7 +85,8 @@ fn bind_variable<'a>(
     requires earlier { EarlierHeld store.now alternative }
     requires held { All (λ l. HoldsType store.now l.ty) locals.old.items }
     ensures { OnOk result (AreBound store.now draft.old locals.old.items store.now draft.new
-        locals.new.items (noted (bind (earlier_at store.now alternative.entry) name.now (tree_at
+        locals.new.items (noted (variable_equations (earlier_variables store.now alternative.entry)
+        name.now (tree_at
         store.now ty)) []) (local name.now (tree_at store.now ty) ∷ [])) }
 {
     equate_variable(store, draft, name, ty, alternative)?;
@@ -92,7 +94,7 @@ fn bind_variable<'a>(
     Ok(())
 }
 
-/// The tree of a pattern of a type, whose variables are put behind those that are there.
+/// The tree of a pattern of a type, whose variables are put after those that are there.
 #[cycle(matching)]
 pub fn walk_pattern<'a>(
     alloc: Global,
@@ -106,8 +108,9 @@ pub fn walk_pattern<'a>(
 ) -> Result<TermId, AllocError>
     requires { CanMatch store.old draft.old world.now locals.old.items ty alternative }
     ensures matched { IfOk result (IsMatched (pattern_piece (where_at store.old world.now)
-        (earlier_at store.old alternative.entry) (length draft.old.takers) (tree_at store.old ty)
-        (pattern_of p.now)) store.old draft.old locals.old.items store.new draft.new
+        (earlier_variables store.old alternative.entry) (length draft.old.takers)
+        (tree_at store.old ty)
+        (abstract_pattern_of p.now)) store.old draft.old locals.old.items store.new draft.new
         locals.new.items) }
     ensures grows { Grows store.old store.new }
 {
@@ -175,7 +178,8 @@ fn walk_constructor<'a>(
 ) -> Result<TermId, AllocError>
     requires { CanMatch store.old draft.old world.now locals.old.items ty alternative }
     ensures matched { IfOk result (IsMatched (constructor_piece (where_at store.old world.now)
-        (earlier_at store.old alternative.entry) (length draft.old.takers) (tree_at store.old ty)
+        (earlier_variables store.old alternative.entry) (length draft.old.takers)
+        (tree_at store.old ty)
         token (entry_of (where_at store.old world.now).symbols symbol) (patterns_of parts.now))
         store.old draft.old locals.old.items store.new draft.new locals.new.items) }
     ensures grows { Grows store.old store.new }
@@ -213,7 +217,8 @@ fn walk_patterns<'a>(
 ) -> Result<TermId, AllocError>
     requires { CanMatchAll store.old draft.old world.now locals.old.items wanted.now alternative }
     ensures matched { IfOk result (AreMatched (patterns_piece (where_at store.old world.now)
-        (earlier_at store.old alternative.entry) (length draft.old.takers) (trees_at store.old
+        (earlier_variables store.old alternative.entry) (length draft.old.takers)
+        (trees_at store.old
         wanted.now) (patterns_of list.now)) store.old draft.old locals.old.items store.new draft.new
         locals.new.items) }
     ensures grows { Grows store.old store.new }
@@ -252,7 +257,8 @@ pub fn walk_grouped<'a>(
 ) -> Result<TermId, AllocError>
     requires { CanMatch store.old draft.old world.now locals.old.items ty alternative }
     ensures matched { IfOk result (IsMatched (pattern_piece (where_at store.old world.now)
-        (earlier_at store.old alternative.entry) (length draft.old.takers) (tree_at store.old ty)
+        (earlier_variables store.old alternative.entry) (length draft.old.takers)
+        (tree_at store.old ty)
         (grouped_patterns token (patterns_of list.now))) store.old draft.old locals.old.items
         store.new draft.new locals.new.items) }
     ensures grows { Grows store.old store.new }
@@ -324,7 +330,7 @@ fn place_among(locals: &[Local<'_>], name: &[u8]) -> usize
     }
 }
 
-// The places of variables among others, the innermost first, behind those that are there.
+// The places of variables among others, the innermost first, after those that are there.
 fn push_places(
     places: &mut Seq<usize>,
     first: &[Local<'_>],
@@ -379,7 +385,7 @@ fn walk_one_later(
     Ok(LaterPattern { pattern, places })
 }
 
-// Later alternatives, behind those that are there.
+// Later alternatives, after those that are there.
 fn walk_later(
     alloc: Global,
     store: &mut Store,
@@ -424,7 +430,7 @@ pub fn walk_alternatives<'a>(
     requires world { WorldHeld store.old world.now }
     requires ready { IsReady store.old draft.old }
     requires wanted { HoldsType store.old ty }
-    ensures alternatives { (i : ℕ) → IfOk result (AreAlternatives
+    ensures alternatives { (i : ℕ) → IfOk result (AreDraftedAlternatives
         (alternatives_pieces (where_at store.old world.now) (length draft.old.takers)
         (tree_at store.old ty) (more_alternatives i (side_by_side (code.patterns first.now))
         (alternatives_of rest.now))) store.old draft.old store.new draft.new locals.new.items) }

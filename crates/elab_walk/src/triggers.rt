@@ -4,10 +4,10 @@ ghost use Rattle.std.specs.Prelude.{◌≡◌, List, IfOk, IfSome, OnOk, length,
 ghost use Rattle.trees.specs.Tree.{Tree};
 ghost use Rattle.trees.specs.Node.{tree_at, Grows};
 ghost use Rattle.elab_names.specs.Abstract.{expression_of};
-ghost use Rattle.elab_names.specs.Faults.{head_named, is_formula_head, is_formula_trigger};
+ghost use Rattle.elab_names.specs.Faults.{trigger_named, is_formula_head, is_formula_trigger};
 ghost use Rattle.elab_names.specs.Naming.{where_at, head_at};
 ghost use Rattle.elab_walk.specs.Pieces.{trigger_wanted, trigger_taken};
-ghost use Rattle.elab_walk.specs.Drafts.{HoldsType, locals_at, names_of, is_due, IsReady, IsNoted};
+ghost use Rattle.elab_walk.specs.Drafts.{HoldsType, locals_at, names_of_locals, is_due, IsReady, IsNoted};
 
 use crate::draft::{Draft, new_unknown};
 use crate::locals::{Locals, local_named};
@@ -26,7 +26,7 @@ fn is_formula_name(
     name: &[u8],
 ) -> Result<bool, AllocError>
     ensures { IfOk result (λ yes. (s : List Tree) → yes ≡ is_formula_head (where_at s world.now)
-        (names_of locals.now) (head_named scopes.now name.now)) }
+        (names_of_locals locals.now) (trigger_named scopes.now name.now)) }
 {
     match local_named(locals, scopes, name)? {
         Some(_) => Ok(false),
@@ -42,7 +42,7 @@ fn is_formula_head(
     locals: &Locals<'_>,
 ) -> Result<bool, AllocError>
     ensures { IfOk result (λ yes. (s : List Tree) → yes ≡ is_formula_head (where_at s world.now)
-        (names_of locals.now) (head_at head.entry)) }
+        (names_of_locals locals.now) (head_at head.entry)) }
 {
     match head {
         TriggerHead::Name(name) => {
@@ -70,7 +70,7 @@ pub fn trigger_type(
 ) -> Result<Option<TermId>, AllocError>
     requires ready { IsReady store.old draft.old }
     ensures due { IfOk result (λ wanted. is_due wanted ≡ is_formula_trigger (where_at store.old
-        world.now) (names_of locals.now) (expression_of e.now)) }
+        world.now) (names_of_locals locals.now) (expression_of e.now)) }
     ensures held { IfOk result (λ wanted. IfSome wanted (HoldsType store.new)) }
     ensures wanted { IfOk result (λ wanted. option_map (tree_at store.new) wanted ≡ trigger_wanted
         (where_at store.old world.now) (locals_at store.old locals.now) (length draft.old.takers)

@@ -8,12 +8,12 @@ ghost use Rattle.trees.specs.Binding.{inst_types};
 ghost use Rattle.trees.specs.declared.Sort.TheVariants.{Kind};
 ghost use Rattle.tasks.specs.Meaning.{trees_at};
 ghost use Rattle.tasks.specs.Equations.{cells};
-ghost use Rattle.elab_names.specs.Abstract.{form_of, forms_of};
+ghost use Rattle.elab_names.specs.Abstract.{type_expression_of, forms_of};
 ghost use Rattle.elab_names.specs.Where.{place_of};
 ghost use Rattle.elab_names.specs.Naming.{where_at, meaning_at, type_named};
 ghost use Rattle.tasks.specs.Task.{SymbolTree};
 ghost use Rattle.elab_walk.specs.Patterns.{result_or_int, entry_of};
-ghost use Rattle.elab_walk.specs.Pieces.{type_at, types_at, applied, variable_at, tuple_type, group_type};
+ghost use Rattle.elab_walk.specs.Pieces.{type_at, types_at, applied_meaning, variable_at, tuple_type, group_type};
 ghost use Rattle.elab_walk.specs.Drafts.{HoldsType, SymbolTyped, WorldHeld, MeaningHeld, symbol_got};
 
 use binders::inst_types;
@@ -70,7 +70,8 @@ fn apply_meaning(
     requires meaning { MeaningHeld store.old meaning }
     requires types { All (HoldsType store.old) types.now }
     ensures held { IfOk result (HoldsType store.new) }
-    ensures tree { IfOk result (λ id. tree_at store.new id ≡ applied (Some (meaning_at store.old
+    ensures tree { IfOk result (λ id. tree_at store.new id
+        ≡ applied_meaning (Some (meaning_at store.old
         meaning)) (trees_at store.old types.now)) }
     ensures grows { Grows store.old store.new }
 {
@@ -137,7 +138,7 @@ fn type_variable(store: &mut Store, world: &World<'_>, name: &[u8]) -> Result<Te
     }
 }
 
-// The type that a name behind its scopes stands for at types.
+// The type that a name after its scopes stands for at types.
 fn named_type(
     alloc: Global,
     store: &mut Store,
@@ -149,7 +150,7 @@ fn named_type(
     requires world { WorldHeld store.old world.now }
     requires types { All (HoldsType store.old) types.now }
     ensures held { IfOk result (HoldsType store.new) }
-    ensures tree { IfOk result (λ id. tree_at store.new id ≡ applied (option_map (meaning_at
+    ensures tree { IfOk result (λ id. tree_at store.new id ≡ applied_meaning (option_map (meaning_at
         store.old) (type_named world.now.scope.now scopes.now name.now)) (trees_at store.old
         types.now)) }
     ensures grows { Grows store.old store.new }
@@ -180,7 +181,7 @@ fn tuple_type(
     put_types(alloc, store, ty, types)
 }
 
-// The type of what stands in parentheses: one type is itself, any other number of them is a tuple.
+// The type of what is in parentheses: one type is itself, any other number of them is a tuple.
 fn group_type(
     alloc: Global,
     store: &mut Store,
@@ -212,7 +213,7 @@ pub fn type_of_form(
     requires { WorldHeld store.old world.now }
     ensures held { IfOk result (HoldsType store.new) }
     ensures tree { IfOk result (λ id. tree_at store.new id ≡ type_at (where_at store.old world.now)
-        (form_of ty.now)) }
+        (type_expression_of ty.now)) }
     ensures grows { Grows store.old store.new }
 {
     match &ty.node {

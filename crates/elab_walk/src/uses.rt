@@ -8,7 +8,7 @@ ghost use Rattle.trees.specs.Sorts.{IsList};
 ghost use Rattle.trees.specs.declared.Sort.TheVariants.{Term};
 ghost use Rattle.tasks.specs.Meaning.{trees_at};
 ghost use Rattle.elab_walk.specs.Patterns.{first_or_int, rest_of};
-ghost use Rattle.elab_walk.specs.Pieces.{local_piece, at_types};
+ghost use Rattle.elab_walk.specs.Pieces.{local_piece, symbol_at_types};
 ghost use Rattle.elab_walk.specs.Drafts.{HoldsType, SymbolTyped, due, is_due, IsReady, IsMade, IsWalked, IsBegun, instances, symbol_got};
 
 use crate::draft::{Draft, equate, make, unknowns};
@@ -124,7 +124,8 @@ pub fn finish_use(
     requires terms { IsList Term (tree_at store.old args) }
     requires wanted { IfSome wanted (HoldsType store.old) }
     requires ready { IsReady store.old draft.now }
-    ensures made { IfOk result (IsMade store.old draft.now store.new (at_types symbol (trees_at
+    ensures made { IfOk result (IsMade store.old draft.now store.new
+        (symbol_at_types symbol (trees_at
         store.old types.now) (option_map (tree_at store.old) wanted) (tree_at store.old args))) }
     ensures grows { Grows store.old store.new }
 {
@@ -147,7 +148,7 @@ pub fn first_type(store: &Store, types: &[TermId]) -> TermId
     }
 }
 
-/// The types behind the first.
+/// The types after the first.
 pub fn other_types(types: &[TermId]) -> &[TermId]
     ensures { result.now ≡ rest_of types.now }
 {

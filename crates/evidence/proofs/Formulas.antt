@@ -1,4 +1,4 @@
--- Formulas of a draft by their numbers, the places of a tail behind a front, and what a step that keeps formulas keeps.
+-- Formulas of a draft by their numbers, the places of a tail after a front, and what a step that keeps formulas keeps.
 use Rattle.std.proofs.Common.{◌≡◌, ℕ, ◌<◌, ◌+◌, ◌-◌, zero, suc, List, [], ◌∷◌, ◌++◌, Option, None, Some, IsSomeAnd, length, map, get_or, slice_get, All, refl, sym, ap, subst, ◌∙◌, append_assoc, arith}
 use Rattle.std.proofs.lemmas.List.{map-append, length-append, length-map, append-nil, get_or-map}
 use Rattle.std.proofs.lemmas.List.Elements.{All-append, All-cons, All-nil}
@@ -14,7 +14,7 @@ use Rattle.tasks.specs.Task.{TaskTree, neg, start}
 use Rattle.tasks.specs.Valid.{IsGroundFormula, IsTypeOver}
 use Rattle.tasks.specs.Meaning.{trees_at}
 use Rattle.tasks.proofs.Growth.{trees_later, all_held_later}
-use Rattle.rule_rows.specs.Trees.{RuleTree, RClash, RCut, RKeep, StepTree, no_step, step_or, trees_of, types_of}
+use Rattle.rule_rows.specs.Trees.{RuleTree, RClash, RCut, RKeep, StepTree, no_step, step_or, rule_trees, rule_types}
 use Rattle.rule_rows.specs.declared.rule.Step.{Step}
 use Rattle.rule_rows.specs.Forms.{negated, connected}
 use Rattle.rule_rows.specs.Rows.{Adds, where_true, where_false}
@@ -76,7 +76,7 @@ pub two_formulas : (d : DraftTree) (a b : TermId) → IsFormulaAt d a → IsForm
 two_formulas d a b f g = more_formulas d a (b ∷ []) f (one_formula d b g)
 
 -- ---- places
--- a place behind the front
+-- a place after the front
 pub behind : (front tail : List Tree) (k : ℕ) → slice_get (front ++ tail) (length front + k) ≡ slice_get tail k
 behind [] tail k = let e : 0 + k ≡ k = omega arith in ap (slice_get tail) e
 behind (a ∷ front) tail k = let e : length (a ∷ front) + k ≡ suc (length front + k) = omega arith in ap (slice_get (a ∷ (front ++ tail))) e ∙ behind front tail k
@@ -93,7 +93,7 @@ some_negated o P h = by_form o h
     by_form (Some (One HNot a)) x = (a, (refl, x))
     by_form _ x = absurd x
 
-names_none : (t : TaskTree) (r : RuleTree) → trees_of r ≡ [] → types_of r ≡ [] → NamesOwn t r
+names_none : (t : TaskTree) (r : RuleTree) → rule_trees r ≡ [] → rule_types r ≡ [] → NamesOwn t r
 names_none t r e f = record { trees = rw e tt; types = rw f (All-nil (IsTypeOver t 0)) }
 
 pub clash_names : (t : TaskTree) (i j : ℕ) → NamesOwn t (RClash i j)
@@ -163,7 +163,7 @@ module _ (d : DraftTree) (front tail : List TermId) where
       }
 
 -- ---- what a step keeps
--- the formulas behind a front, by their places
+-- the formulas after a front, by their places
 counted_at : (front ys rest : List Tree) → map (slice_get (front ++ (ys ++ rest))) (counted (length front) (length ys)) ≡ map Some ys
 counted_at front [] rest = refl
 counted_at front (y ∷ ys) rest =

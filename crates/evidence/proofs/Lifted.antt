@@ -16,8 +16,8 @@ use Rattle.tasks.specs.Valid.{IsValid, IsTypeOver, IsGroundFormula}
 use Rattle.tasks.specs.Meaning.{trees_at, task_at, tasks_at, TaskHeld, TasksHeld}
 use Rattle.tasks.proofs.Growth.{map_agree, task_later, task_held_later}
 use Rattle.rule_rows.specs.declared.rule.Step.{Step}
-use Rattle.rule_rows.specs.Trees.{RuleTree, StepTree, no_step, step_or, sequents, trees_of, types_of}
-use Rattle.rule_rows.specs.Rows.{Row}
+use Rattle.rule_rows.specs.Trees.{RuleTree, StepTree, no_step, step_or, sequents, rule_trees, rule_types}
+use Rattle.rule_rows.specs.Rows.{IsRuleRow}
 use Rattle.kernel.specs.Right.{IsRight, AreRight, Closes}
 use Rattle.rule_rows.specs.Meaning.{step_at, steps_at, StepsHeld}
 use Rattle.kernel.proofs.Growth.{steps_later, steps_held_later}
@@ -25,7 +25,7 @@ use Rattle.kernel.proofs.Places.{step_or-at}
 use Rattle.rule_rows.proofs.Sequents.{map_twice}
 use Rattle.evidence.specs.Drafts.{DraftTree, Extends, Refutes, IsFormulaAt, AreFormulas}
 use Rattle.evidence.specs.Facts.{citing, CitesNone}
-use Rattle.evidence.specs.Stages.{Equation, Gives, HaveSequents, StandFor, EndIn, HasSequents, KeepsDeclared, Keeps, IsAmong, IsOwn, InStage, Cites, PartsClose, PartsHeld, parts_at, part_or, task_or, no_task, sequent_of, start_of}
+use Rattle.evidence.specs.Stages.{TaskEquation, Gives, HaveSequents, StandFor, EndIn, HasSequents, KeepsDeclared, Keeps, IsAmong, IsOwnTask, InStage, Cites, PartsClose, PartsHeld, parts_at, part_or, task_or, no_task, sequent_of_step, start_of}
 use Rattle.evidence.proofs.Typed.{formulas_moved, trees_moved, types_moved}
 use Rattle.evidence.proofs.Moved.{row_other}
 use Rattle.evidence.proofs.Rules.{refutes_later, row_cited}
@@ -44,11 +44,11 @@ right_lifted d t before st numbers premises kept r n f p =
     let q : sequents d.steps premises ≡ sequents before st.premises = ap (sequents d.steps) p ∙ sequents_lifted d before numbers st.premises f r.earlier in
     let earlier : All (λ k. k < length d.steps) premises =
     rw p (All-map (λ k. k < length d.steps) (λ k. get_or numbers k 0) st.premises (λ i z h. (f.each _ (r.earlier i z h)).within)) in
-    let row : Row d.task st.sequent st.rule (sequents d.steps premises) = rw q (row_other t d.task kept st.sequent st.rule (sequents before st.premises) n r.trees r.row) in
+    let row : IsRuleRow d.task st.sequent st.rule (sequents d.steps premises) = rw q (row_other t d.task kept st.sequent st.rule (sequents before st.premises) n r.trees r.row) in
     record {
       formulas = formulas_moved t d.task kept st.sequent r.formulas;
-      trees = trees_moved t d.task kept (trees_of st.rule) r.trees;
-      types = types_moved t d.task kept (types_of st.rule) r.types;
+      trees = trees_moved t d.task kept (rule_trees st.rule) r.trees;
+      types = types_moved t d.task kept (rule_types st.rule) r.types;
       earlier = earlier;
       row = row;
     }
@@ -62,7 +62,7 @@ pub some_of : {X : Type 0} (o : Option X) (P : X → Type 0) → IsSomeAnd o P �
 some_of None P h = absurd h
 some_of (Some a) P h = (a, (refl, h))
 
-types_citing : (name : Fact) (types : List Tree) → types_of (citing name types) ≡ types
+types_citing : (name : Fact) (types : List Tree) → rule_types (citing name types) ≡ types
 types_citing (fact.Proposition k) types = refl
 types_citing (fact.Equation k) types = refl
 types_citing (fact.Clause k c) types = refl
@@ -73,14 +73,14 @@ pub cites : (d : DraftTree) (t : TaskTree) (before : List StepTree) (st : StepTr
     → IsRight t before st → st.rule ≡ citing name types → StandFor d numbers before → premises ≡ map (λ k. get_or numbers k 0) st.premises
     → (0 < length premises) × Cites d t st.sequent name types (get_or premises 0 0)
 cites d t before st name types numbers premises kept r e f p =
-    let row : Row t st.sequent (citing name types) (sequents before st.premises) = subst (λ (z : RuleTree). Row t st.sequent z (sequents before st.premises)) e r.row in
+    let row : IsRuleRow t st.sequent (citing name types) (sequents before st.premises) = subst (λ (z : RuleTree). IsRuleRow t st.sequent z (sequents before st.premises)) e r.row in
     let g = row_cited t st.sequent name types (sequents before st.premises) row in
     let o = one_premise before st.premises (st.sequent ++ g.formula ∷ []) g.premise in
     let n : get_or premises 0 0 ≡ get_or numbers o.0 0 = ap (λ (z : List ℕ). get_or z 0 0) (p ∙ ap (map (λ (z : ℕ). get_or numbers z 0)) o.1.0) in
     let one : length premises ≡ 1 = ap length (p ∙ ap (map (λ (z : ℕ). get_or numbers z 0)) o.1.0) in
     let early : o.0 < length before = All-head (λ z. z < length before) o.0 [] (subst (All (λ z. z < length before)) o.1.0 r.earlier) in
     let stands = f.each o.0 early in
-    let own : All (IsTypeOver t 0) types = subst (All (IsTypeOver t 0)) (ap types_of e ∙ types_citing name types) r.types in (
+    let own : All (IsTypeOver t 0) types = subst (All (IsTypeOver t 0)) (ap rule_types e ∙ types_citing name types) r.types in (
       omega arith,
       record {
         formula = g.formula;
@@ -89,7 +89,7 @@ cites d t before st name types numbers premises kept r e f p =
       },
     )
 
-pub among_keeps : (q : Equation) (from t : TaskTree) → IsValid from → ((ts : List TaskTree) → IsValid from → Gives q from ts → All (Keeps from) ts) → IsAmong (Gives q from) t → KeepsDeclared from t
+pub among_keeps : (q : TaskEquation) (from t : TaskTree) → IsValid from → ((ts : List TaskTree) → IsValid from → Gives q from ts → All (Keeps from) ts) → IsAmong (Gives q from) t → KeepsDeclared from t
 among_keeps q from t valid all a = (subst (Keeps from) a.there (all a.tasks valid a.is a.place no_task a.within)).declared
 
 -- the formulas of a step of a task, in a draft of the task that it was made from
@@ -118,7 +118,7 @@ pub lemma_later : (d d1 : DraftTree) (x : Extends d d1) (n a : TermId) (k : ℕ)
 lemma_later d d1 x n a k e r = rw e (refutes_later d d1 x k _ r)
 
 -- the draft's own task stays
-pub own_later : (d d1 : DraftTree) (from : Task) → Extends d d1 → IsOwn d from → IsOwn d1 from
+pub own_later : (d d1 : DraftTree) (from : Task) → Extends d d1 → IsOwnTask d from → IsOwnTask d1 from
 own_later d d1 from x o =
     let valid : IsValid d1.task = rw x.task o.valid in
     record {
@@ -128,7 +128,7 @@ own_later d d1 from x o =
     }
 
 -- what a task becomes stays
-pub in_stage_later : (q : Equation) (d d1 : DraftTree) (from to : Task) → Extends d d1 → InStage q d from to → InStage q d1 from to
+pub in_stage_later : (q : TaskEquation) (d d1 : DraftTree) (from to : Task) → Extends d d1 → InStage q d from to → InStage q d1 from to
 in_stage_later q d d1 from to x i =
     let f = task_later d.trees d1.trees x.trees to i.held in
     let among : IsAmong (Gives q d1.task) (task_at d1.trees to) = rw (x.task, f) i.among in
@@ -146,7 +146,7 @@ have_more d d1 ns q n k x u r = record {
   ];
 }
 
-stand_take : (d : DraftTree) (ns : List ℕ) (steps : List StepTree) (j : ℕ) → j ≤ length steps → HaveSequents d ns (sequent_of steps) j → StandFor d ns (take j steps)
+stand_take : (d : DraftTree) (ns : List ℕ) (steps : List StepTree) (j : ℕ) → j ≤ length steps → HaveSequents d ns (sequent_of_step steps) j → StandFor d ns (take j steps)
 stand_take d ns steps j h u =
     let l : length (take j steps) ≡ j = length-take-le j steps h in
     record {
@@ -170,24 +170,24 @@ module _ (d d1 : DraftTree) (part : List Step) (g : Extends d d1) (ph : StepsHel
       let e1 : task_at d1.trees to ≡ task_at d.trees to = task_later d.trees d1.trees g.trees to th in
       rw (e1, front_later j, step_moved j x l is) (a j (rw (length-map part (step_at d.trees)) l))
 
-  pub stand_part : (j : ℕ) (ns these : List ℕ) → j < length part → these ≡ ns → HaveSequents d1 ns (sequent_of (steps_at d.trees part)) j → StandFor d1 these (steps_at d1.trees (take j part))
+  pub stand_part : (j : ℕ) (ns these : List ℕ) → j < length part → these ≡ ns → HaveSequents d1 ns (sequent_of_step (steps_at d.trees part)) j → StandFor d1 these (steps_at d1.trees (take j part))
   stand_part j ns these l e u =
       let h : j ≤ length (steps_at d.trees part) = omega (arith, length-map part (step_at d.trees)) in
       rw (e, front_later j) (stand_take d1 ns (steps_at d.trees part) j h u)
 
-  pub step_sequent : (j : ℕ) (x : Step) → j < length part → x ≡ get_or part j x → trees_at d1.trees x.sequent ≡ sequent_of (steps_at d.trees part) j
+  pub step_sequent : (j : ℕ) (x : Step) → j < length part → x ≡ get_or part j x → trees_at d1.trees x.sequent ≡ sequent_of_step (steps_at d.trees part) j
   step_sequent j x l is = ap (λ (z : StepTree). z.sequent) (step_moved j x l is)
 
 pub have_none : (d : DraftTree) (q : ℕ → List Tree) → HaveSequents d [] q 0
 have_none d q = record { as_many = refl; each = λ i h. absurd (omega arith) }
 
-pub stand_all : (d : DraftTree) (ns : List ℕ) (steps : List StepTree) (j : ℕ) → j ≡ length steps → HaveSequents d ns (sequent_of steps) j → StandFor d ns steps
+pub stand_all : (d : DraftTree) (ns : List ℕ) (steps : List StepTree) (j : ℕ) → j ≡ length steps → HaveSequents d ns (sequent_of_step steps) j → StandFor d ns steps
 stand_all d ns steps j e u = record { as_many = u.as_many ∙ e; each = λ i m. u.each i (rw e m) }
 
 -- the last step of a derivation
 pub record Last (t : TaskTree) (steps : List StepTree) : Type 0 where
   pub some : 0 < length steps
-  pub starts : sequent_of steps (length steps - 1) ≡ start t
+  pub starts : sequent_of_step steps (length steps - 1) ≡ start t
 
 pub closes_last : (t : TaskTree) (steps : List StepTree) → Closes t steps → Last t steps
 closes_last t steps c =
@@ -197,7 +197,7 @@ closes_last t steps c =
     let l : n < length (map f steps) = slice_get_within (map f steps) n g.0 g.1.0 in
     let m : length (map f steps) ≡ length steps = length-map steps f in
     let e : get_or (map f steps) n [] ≡ g.0 = get_or_from_slice_get (map f steps) n g.0 [] g.1.0 in
-    let h : get_or (map f steps) n [] ≡ sequent_of steps n = get_or-map f steps n no_step [] (omega arith) in
+    let h : get_or (map f steps) n [] ≡ sequent_of_step steps n = get_or-map f steps n no_step [] (omega arith) in
     record { some = omega arith; starts = sym h ∙ e ∙ g.1.1 }
 
 pub has_later : (d d1 : DraftTree) (steps : List StepTree) → Extends d d1 → HasSequents d steps → HasSequents d1 steps
@@ -249,7 +249,7 @@ module _ (d d1 : DraftTree) (g : Extends d d1) where
       let r : EndIn d1 ns (tasks_at d.trees to) = record { as_many = u.as_many ∙ sym l; each = λ i h. u.each i (rw l at h) } in
       subst (λ (z : List TaskTree). EndIn d1 these z) (sym (tasks_later to th)) (subst (λ (z : List ℕ). EndIn d1 z (tasks_at d.trees to)) (sym f) r)
 
-pub in_stage_of : (q : Equation) (d : DraftTree) (from : Task) (to : List Task) (i : ℕ) (x : Task) → IsOwn d from
+pub in_stage_of : (q : TaskEquation) (d : DraftTree) (from : Task) (to : List Task) (i : ℕ) (x : Task) → IsOwnTask d from
     → TasksHeld d.trees to → Gives q d.task (tasks_at d.trees to) → i < length to → x ≡ get_or to i x → InStage q d from x
 in_stage_of q d from to i x own th p l is = record {
   own = own;

@@ -15,8 +15,8 @@ use Rattle.trees.specs.Binding.{inst, inst_types, Param}
 use Rattle.trees.specs.Sorts.{sort_of, type_of, int_type}
 use Rattle.tasks.specs.declared.facts.Fact.{Fact}
 use Rattle.tasks.specs.declared.facts.Fact.TheVariants as fact
-use Rattle.tasks.specs.Task.{TaskTree, ConTree, Proposition, props, symbol_or, neg}
-use Rattle.tasks.specs.Roles.{Algebraic, Projection, role, is_constructor}
+use Rattle.tasks.specs.Task.{TaskTree, ConstructorTree, PropositionTree, props, symbol_or, neg}
+use Rattle.tasks.specs.Roles.{AlgebraicRole, ProjectionRole, role, is_constructor}
 use Rattle.tasks.specs.Typing.{members}
 use Rattle.tasks.specs.Inversion.{inversion}
 use Rattle.tasks.specs.Meaning.{trees_at}
@@ -24,9 +24,9 @@ use Rattle.tasks.specs.Valid.{IsGroundFormula}
 use Rattle.linear_leaf.specs.Linear.{ClosesLinear}
 use Rattle.rule_rows.specs.declared.rule.Rule.{Rule}
 use Rattle.rule_rows.specs.Trees.{RuleTree, RFalse, RNotTrue, RClash, RIrrefl, RNotNot, RForall, RNotForall, RExists, RNotExists, RCut, RKeep, RRefl, RReplace, RLetDef, RIfDef, RMatchDef, RDistinct, RLinear, RCase, RInject, RProject, RTrichotomy, RBound, StepTree, no_step, step_or, sequents}
-use Rattle.rule_rows.specs.Forms.{negated, equal, alike, by_cases, compared}
+use Rattle.rule_rows.specs.Forms.{negated, equal, alike, by_cases, comparison}
 use Rattle.rule_rows.specs.Patterns.{test, bind, rebuilt}
-use Rattle.rule_rows.specs.Rows.{Row, Adds, Holding, Failing, IsNew, IsTemplate, unfolded, equation, clauses, equal_each, AreDeclared}
+use Rattle.rule_rows.specs.Rows.{IsRuleRow, Adds, Holding, Failing, IsNew, IsTemplate, unfolded, equation, clauses, equal_each, DeclaresInts}
 use Rattle.rule_rows.specs.Meaning.{rule_at}
 use Rattle.kernel.specs.Right.{IsRight}
 use Rattle.evidence.specs.Drafts.{DraftTree, Extends, Refutes, RefuteAll, AreFormulas}
@@ -62,7 +62,7 @@ right_by d s r ks formulas names a = record {
   trees = names.trees;
   types = names.types;
   earlier = all_earlier d ks a.sequents a.refuted;
-  row = subst (Row d.task s r) (sym (sequents_of d ks a.sequents a.refuted)) a.row;
+  row = subst (IsRuleRow d.task s r) (sym (sequents_of d ks a.sequents a.refuted)) a.row;
 }
 
 -- a step in code, with a front and a tail
@@ -88,23 +88,23 @@ some_map None P Q f h = h
 some_map (Some x) P Q f h = f x h
 
 module _ (t : TaskTree) (s : List Tree) where
-  pub false_row : (i : ℕ) → slice_get s i ≡ Some (Leaf HFalse) → Row t s (RFalse i) []
+  pub false_row : (i : ℕ) → slice_get s i ≡ Some (Leaf HFalse) → IsRuleRow t s (RFalse i) []
   false_row i e = (e, refl)
 
-  pub nottrue_row : (i : ℕ) → slice_get s i ≡ Some (neg (Leaf HTrue)) → Row t s (RNotTrue i) []
+  pub nottrue_row : (i : ℕ) → slice_get s i ≡ Some (neg (Leaf HTrue)) → IsRuleRow t s (RNotTrue i) []
   nottrue_row i e = (e, refl)
 
-  pub clash_row : (i j : ℕ) (a : Tree) → slice_get s i ≡ Some a → slice_get s j ≡ Some (neg a) → Row t s (RClash i j) []
+  pub clash_row : (i j : ℕ) (a : Tree) → slice_get s i ≡ Some a → slice_get s j ≡ Some (neg a) → IsRuleRow t s (RClash i j) []
   clash_row i j a e f = rw (e, f) (refl, refl)
 
-  pub irrefl_row : (i : ℕ) (a : Tree) → slice_get s i ≡ Some (neg (equal a a)) → Row t s (RIrrefl i) []
+  pub irrefl_row : (i : ℕ) (a : Tree) → slice_get s i ≡ Some (neg (equal a a)) → IsRuleRow t s (RIrrefl i) []
   irrefl_row i a e = rw e (refl, refl)
 
-  pub notnot_row : (i : ℕ) (a : Tree) → slice_get s i ≡ Some (neg (neg a)) → Row t s (RNotNot i) ((s ++ a ∷ []) ∷ [])
+  pub notnot_row : (i : ℕ) (a : Tree) → slice_get s i ≡ Some (neg (neg a)) → IsRuleRow t s (RNotNot i) ((s ++ a ∷ []) ∷ [])
   notnot_row i a e = rw e refl
 
   -- a connective, by what it is where it holds and where its negation holds: twelve rules
-  pub holding_row : (op : Op) (i : ℕ) (f : Option Tree) (ps : List (List Tree)) → slice_get s i ≡ f → Holding op s f ps → Row t s (holding_rule op i) ps
+  pub holding_row : (op : Op) (i : ℕ) (f : Option Tree) (ps : List (List Tree)) → slice_get s i ≡ f → Holding op s f ps → IsRuleRow t s (holding_rule op i) ps
   holding_row And i f ps e h = subst (λ (z : Option Tree). Holding And s z ps) (sym e) h
   holding_row AndThen i f ps e h = subst (λ (z : Option Tree). Holding AndThen s z ps) (sym e) h
   holding_row Or i f ps e h = subst (λ (z : Option Tree). Holding Or s z ps) (sym e) h
@@ -112,7 +112,7 @@ module _ (t : TaskTree) (s : List Tree) where
   holding_row Imp i f ps e h = subst (λ (z : Option Tree). Holding Imp s z ps) (sym e) h
   holding_row Iff i f ps e h = subst (λ (z : Option Tree). Holding Iff s z ps) (sym e) h
 
-  pub failing_row : (op : Op) (i : ℕ) (f : Option Tree) (ps : List (List Tree)) → slice_get s i ≡ f → Failing op s (negated f) ps → Row t s (failing_rule op i) ps
+  pub failing_row : (op : Op) (i : ℕ) (f : Option Tree) (ps : List (List Tree)) → slice_get s i ≡ f → Failing op s (negated f) ps → IsRuleRow t s (failing_rule op i) ps
   failing_row And i f ps e h = subst (λ (z : Option Tree). Failing And s (negated z) ps) (sym e) h
   failing_row AndThen i f ps e h = subst (λ (z : Option Tree). Failing AndThen s (negated z) ps) (sym e) h
   failing_row Or i f ps e h = subst (λ (z : Option Tree). Failing Or s (negated z) ps) (sym e) h
@@ -120,80 +120,80 @@ module _ (t : TaskTree) (s : List Tree) where
   failing_row Imp i f ps e h = subst (λ (z : Option Tree). Failing Imp s (negated z) ps) (sym e) h
   failing_row Iff i f ps e h = subst (λ (z : Option Tree). Failing Iff s (negated z) ps) (sym e) h
 
-  pub forall_row : (i : ℕ) (ty b u : Tree) → slice_get s i ≡ Some (Two HForall ty b) → type_of u ≡ Some ty → Row t s (RForall i u) ((s ++ inst b u ∷ []) ∷ [])
+  pub forall_row : (i : ℕ) (ty b u : Tree) → slice_get s i ≡ Some (Two HForall ty b) → type_of u ≡ Some ty → IsRuleRow t s (RForall i u) ((s ++ inst b u ∷ []) ∷ [])
   forall_row i ty b u e f = rw e (f, refl)
 
-  pub notforall_row : (i n : ℕ) (ty b : Tree) → slice_get s i ≡ Some (neg (Two HForall ty b)) → IsNew n s → Row t s (RNotForall i n) ((s ++ neg (inst b (Param n ty)) ∷ []) ∷ [])
+  pub notforall_row : (i n : ℕ) (ty b : Tree) → slice_get s i ≡ Some (neg (Two HForall ty b)) → IsNew n s → IsRuleRow t s (RNotForall i n) ((s ++ neg (inst b (Param n ty)) ∷ []) ∷ [])
   notforall_row i n ty b e f = rw e (f, refl)
 
-  pub exists_row : (i n : ℕ) (ty b : Tree) → slice_get s i ≡ Some (Two HExists ty b) → IsNew n s → Row t s (RExists i n) ((s ++ inst b (Param n ty) ∷ []) ∷ [])
+  pub exists_row : (i n : ℕ) (ty b : Tree) → slice_get s i ≡ Some (Two HExists ty b) → IsNew n s → IsRuleRow t s (RExists i n) ((s ++ inst b (Param n ty) ∷ []) ∷ [])
   exists_row i n ty b e f = rw e (f, refl)
 
-  pub notexists_row : (i : ℕ) (ty b u : Tree) → slice_get s i ≡ Some (neg (Two HExists ty b)) → type_of u ≡ Some ty → Row t s (RNotExists i u) ((s ++ neg (inst b u) ∷ []) ∷ [])
+  pub notexists_row : (i : ℕ) (ty b u : Tree) → slice_get s i ≡ Some (neg (Two HExists ty b)) → type_of u ≡ Some ty → IsRuleRow t s (RNotExists i u) ((s ++ neg (inst b u) ∷ []) ∷ [])
   notexists_row i ty b u e f = rw e (f, refl)
 
-  pub cut_row : (a : Tree) → sort_of a ≡ Formula → Row t s (RCut a) ((s ++ a ∷ []) ∷ (s ++ neg a ∷ []) ∷ [])
+  pub cut_row : (a : Tree) → sort_of a ≡ Formula → IsRuleRow t s (RCut a) ((s ++ a ∷ []) ∷ (s ++ neg a ∷ []) ∷ [])
   cut_row a e = (e, refl)
 
-  pub keep_row : (places : List ℕ) (q : List Tree) → map Some q ≡ map (slice_get s) places → Row t s (RKeep places) (q ∷ [])
+  pub keep_row : (places : List ℕ) (q : List Tree) → map Some q ≡ map (slice_get s) places → IsRuleRow t s (RKeep places) (q ∷ [])
   keep_row places q e = e
 
-  pub refl_row : (a : Tree) → sort_of a ≡ Term → Row t s (RRefl a) ((s ++ equal a a ∷ []) ∷ [])
+  pub refl_row : (a : Tree) → sort_of a ≡ Term → IsRuleRow t s (RRefl a) ((s ++ equal a a ∷ []) ∷ [])
   refl_row a e = (e, refl)
 
-  pub replace_row : (i j : ℕ) (a b e ty : Tree) → slice_get s i ≡ Some (equal a b) → type_of a ≡ Some ty → IsTemplate t ty e → slice_get s j ≡ Some (inst e a) → Row t s (RReplace i j e) ((s ++ inst e b ∷ []) ∷ [])
+  pub replace_row : (i j : ℕ) (a b e ty : Tree) → slice_get s i ≡ Some (equal a b) → type_of a ≡ Some ty → IsTemplate t ty e → slice_get s j ≡ Some (inst e a) → IsRuleRow t s (RReplace i j e) ((s ++ inst e b ∷ []) ∷ [])
   replace_row i j a b e ty p q r f = rw p (rw q r, f, refl)
 
-  pub letdef_row : (a b : Tree) → Row t s (RLetDef (Two HLet a b)) ((s ++ alike (Two HLet a b) (inst b a) ∷ []) ∷ [])
+  pub letdef_row : (a b : Tree) → IsRuleRow t s (RLetDef (Two HLet a b)) ((s ++ alike (Two HLet a b) (inst b a) ∷ []) ∷ [])
   letdef_row a b = refl
 
-  pub ifdef_row : (c a b : Tree) → Row t s (RIfDef (Three HIf c a b)) ((s ++ by_cases c (Three HIf c a b) a b ∷ []) ∷ [])
+  pub ifdef_row : (c a b : Tree) → IsRuleRow t s (RIfDef (Three HIf c a b)) ((s ++ by_cases c (Three HIf c a b) a b ∷ []) ∷ [])
   ifdef_row c a b = refl
 
   pub matchdef_row : (v p a rest : Tree)
-      → let e : Tree = Two HCase v (Two HCell (Two HArm p a) rest) in Row t s (RMatchDef e) ((s ++ unfolded (test t p v) (bind t p v) e v a rest ∷ []) ∷ [])
+      → let e : Tree = Two HCase v (Two HCell (Two HArm p a) rest) in IsRuleRow t s (RMatchDef e) ((s ++ unfolded (test t p v) (bind t p v) e v a rest ∷ []) ∷ [])
   matchdef_row v p a rest = refl
 
   -- constructors on arguments, told by the symbols in an equation
   pub distinct_row : (i c d : ℕ) (xs as' x ys bs y : Tree) → slice_get s i ≡ Some (equal (Three (HFun c) xs as' x) (Three (HFun d) ys bs y))
-      → IsTrue (is_constructor (role t c)) → IsTrue (is_constructor (role t d)) → c ≢ d → Row t s (RDistinct i) []
+      → IsTrue (is_constructor (role t c)) → IsTrue (is_constructor (role t d)) → c ≢ d → IsRuleRow t s (RDistinct i) []
   distinct_row i c d xs as' x ys bs y e f g n = rw e (f, g, n, refl)
 
   pub inject_row : (i c : ℕ) (xs as' x ys bs y : Tree) → slice_get s i ≡ Some (equal (Three (HFun c) xs as' x) (Three (HFun c) ys bs y))
-      → IsTrue (is_constructor (role t c)) → Row t s (RInject i) ((s ++ equal_each (members as') (members bs)) ∷ [])
+      → IsTrue (is_constructor (role t c)) → IsRuleRow t s (RInject i) ((s ++ equal_each (members as') (members bs)) ∷ [])
   inject_row i c xs as' x ys bs y e f = rw e (f, f, refl, refl)
 
-  pub project_row : (p j : ℕ) (con : ConTree) (xs rest x ys bs y a : Tree) → role t p ≡ Projection con j → slice_get (members bs) j ≡ Some a
-      → let e : Tree = Three (HFun p) xs (Two HCell (Three (HFun con.symbol) ys bs y) rest) x in Row t s (RProject e) ((s ++ equal e a ∷ []) ∷ [])
+  pub project_row : (p j : ℕ) (con : ConstructorTree) (xs rest x ys bs y a : Tree) → role t p ≡ ProjectionRole con j → slice_get (members bs) j ≡ Some a
+      → let e : Tree = Three (HFun p) xs (Two HCell (Three (HFun con.symbol) ys bs y) rest) x in IsRuleRow t s (RProject e) ((s ++ equal e a ∷ []) ∷ [])
   project_row p j con xs rest x ys bs y a e f = rw e (refl, rw f refl)
 
-  pub case_row : (u types : Tree) (k : ℕ) (cs : List ConTree) → type_of u ≡ Some (One (HTyApp k) types) → role t k ≡ Algebraic cs
-      → Row t s (RCase u) (map (λ x. s ++ x) (map (λ (c : ConTree). equal u (rebuilt t c.symbol c.projections types u) ∷ []) cs))
+  pub case_row : (u types : Tree) (k : ℕ) (cs : List ConstructorTree) → type_of u ≡ Some (One (HTyApp k) types) → role t k ≡ AlgebraicRole cs
+      → IsRuleRow t s (RCase u) (map (λ x. s ++ x) (map (λ (c : ConstructorTree). equal u (rebuilt t c.symbol c.projections types u) ∷ []) cs))
   case_row u types k cs e f = rw e (rw f refl)
 
   -- integers, where the task declares their eight symbols
-  module _ (z : Ints) (has : t.ints ≡ Some z) (all : AreDeclared t z) where
-    pub linear_row : (uses : List (ℕ × ℤ)) → ClosesLinear z s uses → Row t s (RLinear uses) []
+  module _ (z : Ints) (has : t.ints ≡ Some z) (all : DeclaresInts t z) where
+    pub linear_row : (uses : List (ℕ × ℤ)) → ClosesLinear z s uses → IsRuleRow t s (RLinear uses) []
     linear_row uses h = rw has (all, h, refl)
 
     pub trichotomy_row : (a b : Tree) → type_of a ≡ Some int_type → type_of b ≡ Some int_type
-        → Row t s (RTrichotomy a b) ((s ++ compared z.lt a b ∷ []) ∷ (s ++ equal a b ∷ []) ∷ (s ++ compared z.lt b a ∷ []) ∷ [])
+        → IsRuleRow t s (RTrichotomy a b) ((s ++ comparison z.lt a b ∷ []) ∷ (s ++ equal a b ∷ []) ∷ (s ++ comparison z.lt b a ∷ []) ∷ [])
     trichotomy_row a b e f = (e, f, rw has (all, refl))
 
     pub bound_row : (e : Tree) (n : ℤ) → type_of e ≡ Some int_type → n <ℤ pos (2 ^ 127 - 1)
-        → Row t s (RBound e n) ((s ++ compared z.le e (Leaf (HNum n)) ∷ []) ∷ (s ++ compared z.le (Leaf (HNum (n +ℤ pos 1))) e ∷ []) ∷ [])
+        → IsRuleRow t s (RBound e n) ((s ++ comparison z.le e (Leaf (HNum n)) ∷ []) ∷ (s ++ comparison z.le (Leaf (HNum (n +ℤ pos 1))) e ∷ []) ∷ [])
     bound_row e n f l = (f, l, rw has (all, refl))
 
   -- a fact at types: four rules
-  abbrev AddsAt : List Tree → List (List Tree) → Proposition → Type 0
+  abbrev AddsAt : List Tree → List (List Tree) → PropositionTree → Type 0
   AddsAt types ps p = (length types ≡ p.vars) × Adds s ps ((inst_types p.formula types ∷ []) ∷ [])
 
-  facts_some : (types : List Tree) (formula : Tree) (o : Option Proposition) → IsSomeAnd o (λ p. (length types ≡ p.vars) × (formula ≡ inst_types p.formula types)) → IsSomeAnd o (AddsAt types ((s ++ formula ∷ []) ∷ []))
+  facts_some : (types : List Tree) (formula : Tree) (o : Option PropositionTree) → IsSomeAnd o (λ p. (length types ≡ p.vars) × (formula ≡ inst_types p.formula types)) → IsSomeAnd o (AddsAt types ((s ++ formula ∷ []) ∷ []))
   facts_some types formula None h = h
   facts_some types formula (Some p) h = (h.0, ap (λ (z : Tree). (s ++ z ∷ []) ∷ []) h.1)
 
   pub fact_row : (name : Fact) (types : List Tree) (formula : Tree) → IsSomeAnd (fact_named t name) (λ p. (length types ≡ p.vars) × (formula ≡ inst_types p.formula types))
-      → Row t s (citing name types) ((s ++ formula ∷ []) ∷ [])
+      → IsRuleRow t s (citing name types) ((s ++ formula ∷ []) ∷ [])
   fact_row (fact.Proposition k) types formula h = facts_some types formula (slice_get (props t) k) h
   fact_row (fact.Equation k) types formula h =
       let o : Option Tree = equation (role t k) in
@@ -203,7 +203,7 @@ module _ (t : TaskTree) (s : List Tree) where
       some_mapped (at_symbol t k) o (AddsAt types ((s ++ formula ∷ []) ∷ [])) (facts_some types formula (option_map (at_symbol t k) o) h)
   fact_row (fact.Inversion k) types formula h =
       let o : Option (List Tree) = clauses (role t k) in
-      let f : List Tree → Proposition = λ cs. at_symbol t k (inversion k (symbol_or t.symbols k) cs) in
+      let f : List Tree → PropositionTree = λ cs. at_symbol t k (inversion k (symbol_or t.symbols k) cs) in
       some_mapped f o (AddsAt types ((s ++ formula ∷ []) ∷ [])) (facts_some types formula (option_map f o) h)
 
 -- what a step by such a rule cites
@@ -212,12 +212,12 @@ pub record Cited (t : TaskTree) (s : List Tree) (name : Fact) (types : List Tree
   pub said : IsSomeAnd (fact_named t name) (λ p. (length types ≡ p.vars) × (formula ≡ inst_types p.formula types))
   pub premise : ps ≡ (s ++ formula ∷ []) ∷ []
 
-cited_some : (t : TaskTree) (s : List Tree) (name : Fact) (types : List Tree) (ps : List (List Tree)) (o : Option Proposition) → fact_named t name ≡ o
+cited_some : (t : TaskTree) (s : List Tree) (name : Fact) (types : List Tree) (ps : List (List Tree)) (o : Option PropositionTree) → fact_named t name ≡ o
     → IsSomeAnd o (λ p. (length types ≡ p.vars) × Adds s ps ((inst_types p.formula types ∷ []) ∷ [])) → Cited t s name types ps
 cited_some t s name types ps None e h = absurd h
 cited_some t s name types ps (Some p) e h = record { formula = inst_types p.formula types; said = rw e (h.0, refl); premise = h.1 }
 
-pub row_cited : (t : TaskTree) (s : List Tree) (name : Fact) (types : List Tree) (ps : List (List Tree)) → Row t s (citing name types) ps → Cited t s name types ps
+pub row_cited : (t : TaskTree) (s : List Tree) (name : Fact) (types : List Tree) (ps : List (List Tree)) → IsRuleRow t s (citing name types) ps → Cited t s name types ps
 row_cited t s (fact.Proposition k) types ps h = cited_some t s (fact.Proposition k) types ps (slice_get (props t) k) refl h
 row_cited t s (fact.Equation k) types ps h =
     let o : Option Tree = equation (role t k) in
@@ -227,5 +227,5 @@ row_cited t s (fact.Clause k c) types ps h =
     cited_some t s (fact.Clause k c) types ps (option_map (at_symbol t k) o) refl (mapped_some (at_symbol t k) o (AddsAt t s types ps) h)
 row_cited t s (fact.Inversion k) types ps h =
     let o : Option (List Tree) = clauses (role t k) in
-    let f : List Tree → Proposition = λ cs. at_symbol t k (inversion k (symbol_or t.symbols k) cs) in
+    let f : List Tree → PropositionTree = λ cs. at_symbol t k (inversion k (symbol_or t.symbols k) cs) in
     cited_some t s (fact.Inversion k) types ps (option_map f o) refl (mapped_some f o (AddsAt t s types ps) h)

@@ -4,7 +4,7 @@ use Rattle.std.specs.List.{list_any}
 use Rattle.std.proofs.lemmas.List.Elements.{All-weaker}
 use Rattle.trees.specs.Tree.{Tree}
 use Rattle.tasks.specs.Task.{TaskTree, made, neg}
-use Rattle.tasks.specs.Roles.{RoleTree, Plain, Defined, Inductive, Algebraic, Constructor, Projection, role, is_constructor}
+use Rattle.tasks.specs.Roles.{RoleTree, PlainRole, DefinedRole, InductiveRole, AlgebraicRole, ConstructorRole, ProjectionRole, role, is_constructor}
 use Rattle.tasks.specs.Vocabulary.{of_task}
 use Rattle.tasks.specs.Valid.{IsGroundFormula, IsTypeOver}
 use Rattle.tasks.proofs.Declared.{contains_step, contains_cases, usable_made, made_usable}
@@ -15,12 +15,12 @@ use Rattle.kernel.specs.Right.{IsGroundExpression}
 use Rattle.evidence.specs.Stages.{IsGrouped, KeepsDeclared}
 
 pub constructor_grouped : (r : RoleTree) → IsTrue (is_constructor r) → IsGrouped r
-constructor_grouped (Constructor c) x = tt
-constructor_grouped (Inductive cs) x = tt
-constructor_grouped (Algebraic cs) x = tt
-constructor_grouped (Projection c j) x = tt
-constructor_grouped Plain x = absurd (cc)
-constructor_grouped (Defined e) x = absurd (cc)
+constructor_grouped (ConstructorRole c) x = tt
+constructor_grouped (InductiveRole cs) x = tt
+constructor_grouped (AlgebraicRole cs) x = tt
+constructor_grouped (ProjectionRole c j) x = tt
+constructor_grouped PlainRole x = absurd (cc)
+constructor_grouped (DefinedRole e) x = absurd (cc)
 
 module _ (t u : TaskTree) (h : KeepsDeclared u t) where
   -- a constructor of the one is one of the other

@@ -6,7 +6,7 @@ use Rattle.trees.specs.Tree.{Tree}
 use Rattle.trees.specs.Binding.{inst_types}
 use Rattle.tasks.specs.declared.facts.Fact.{Fact}
 use Rattle.tasks.specs.declared.facts.Fact.TheVariants as fact
-use Rattle.tasks.specs.Task.{TaskTree, Proposition, props, symbol_or}
+use Rattle.tasks.specs.Task.{TaskTree, PropositionTree, props, symbol_or}
 use Rattle.tasks.specs.Roles.{role}
 use Rattle.tasks.specs.Inversion.{inversion}
 use Rattle.tasks.specs.Valid.{IsTypeOver}
@@ -14,11 +14,11 @@ use Rattle.rule_rows.specs.Trees.{RuleTree, RFact, RDef, RClause, RInv}
 use Rattle.rule_rows.specs.Rows.{equation, clauses}
 
 -- a formula with as many type variables as a symbol has
-abbrev pub at_symbol : TaskTree → ℕ → Tree → Proposition
+abbrev pub at_symbol : TaskTree → ℕ → Tree → PropositionTree
 at_symbol t k e = record { vars = (symbol_or t.symbols k).vars; formula = e }
 
 -- the fact of a name, with the number of its type variables
-abbrev pub fact_named : TaskTree → Fact → Option Proposition
+abbrev pub fact_named : TaskTree → Fact → Option PropositionTree
 fact_named t (fact.Proposition k) = slice_get (props t) k
 fact_named t (fact.Equation k) = option_map (at_symbol t k) (equation (role t k))
 fact_named t (fact.Clause k c) = option_map (at_symbol t k) (option_and_then (λ cs. slice_get cs c) (clauses (role t k)))

@@ -6,22 +6,22 @@ use Rattle.trees.specs.Tree.{Tree}
 use Rattle.tasks.specs.Task.{TaskTree}
 use Rattle.tasks.specs.Valid.{IsTypeOver}
 use Rattle.linear_leaf.specs.Valuations.{Each}
-use Rattle.rule_rows.specs.Trees.{RuleTree, RAnd, RNotAnd, RAndThen, RNotAndThen, ROr, RNotOr, ROrElse, RNotOrElse, RImp, RNotImp, RIff, RNotIff, trees_of, types_of}
+use Rattle.rule_rows.specs.Trees.{RuleTree, RAnd, RNotAnd, RAndThen, RNotAndThen, ROr, RNotOr, ROrElse, RNotOrElse, RImp, RNotImp, RIff, RNotIff, rule_trees, rule_types}
 use Rattle.rule_rows.specs.Forms.{negated, connected}
-use Rattle.rule_rows.specs.Rows.{Row, where_true, where_false}
+use Rattle.rule_rows.specs.Rows.{IsRuleRow, where_true, where_false}
 use Rattle.kernel.specs.Right.{IsGroundExpression}
 use Rattle.evidence.specs.Drafts.{DraftTree, RefuteAll}
 
 -- the terms, formulas and types that a rule names are those of the task
 pub record NamesOwn (t : TaskTree) (r : RuleTree) : Type 0 where
-  pub trees : Each (IsGroundExpression t) (trees_of r)
-  pub types : All (IsTypeOver t 0) (types_of r)
+  pub trees : Each (IsGroundExpression t) (rule_trees r)
+  pub types : All (IsTypeOver t 0) (rule_types r)
 
 -- steps, by number, refute what a rule adds to a sequent
 pub record RefuteAdded (d : DraftTree) (sequent : List Tree) (r : RuleTree) (premises : List ℕ) : Type 0 where
   pub sequents : List (List Tree)
   pub refuted : RefuteAll d premises sequents
-  pub row : Row d.task sequent r sequents
+  pub row : IsRuleRow d.task sequent r sequents
 
 -- the rule that takes a connective apart, and the one that takes its negation apart
 abbrev pub holding_rule : Op → ℕ → RuleTree
@@ -40,7 +40,7 @@ failing_rule OrElse i = RNotOrElse i
 failing_rule Imp i = RNotImp i
 failing_rule Iff i = RNotIff i
 
--- steps refute a sequent with each list of formulas behind it
+-- steps refute a sequent with each list of formulas after it
 abbrev pub RefuteBehind : DraftTree → List Tree → List ℕ → List (List Tree) → Type 0
 RefuteBehind d sequent premises added = RefuteAll d premises (map (λ x. sequent ++ x) added)
 

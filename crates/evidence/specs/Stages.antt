@@ -4,7 +4,7 @@ use Rattle.trees.specs.Tree.{Tree, Leaf, HEnd}
 use Rattle.tasks.specs.declared.task.Task.{Task}
 use Rattle.tasks.specs.declared.facts.Fact.{Fact}
 use Rattle.tasks.specs.Task.{TaskTree, made, start}
-use Rattle.tasks.specs.Roles.{RoleTree, Inductive, Algebraic, Constructor, Projection, role}
+use Rattle.tasks.specs.Roles.{RoleTree, InductiveRole, AlgebraicRole, ConstructorRole, ProjectionRole, role}
 use Rattle.tasks.specs.Valid.{IsValid}
 use Rattle.tasks.specs.Meaning.{task_at, TaskHeld}
 use Rattle.rule_rows.specs.declared.rule.Step.{Step}
@@ -22,11 +22,11 @@ pub data Refusal : Type 0 where
   TooLarge : Refusal
 
 -- what a task becomes, or why it becomes nothing
-abbrev pub Equation : Type 0
-Equation = TaskTree → Result (List TaskTree) Refusal
+abbrev pub TaskEquation : Type 0
+TaskEquation = TaskTree → Result (List TaskTree) Refusal
 
 -- the equation gives these tasks
-abbrev pub Gives : Equation → TaskTree → List TaskTree → Type 0
+abbrev pub Gives : TaskEquation → TaskTree → List TaskTree → Type 0
 Gives equation t ts = equation t ≡ Ok ts
 
 -- want of memory, or what the equation says
@@ -43,10 +43,10 @@ task_or ts i = get_or ts i no_task
 
 -- an algebraic or inductive group makes it
 abbrev pub IsGrouped : RoleTree → Type 0
-IsGrouped (Inductive clauses) = Unit {0}
-IsGrouped (Algebraic cons) = Unit {0}
-IsGrouped (Constructor con) = Unit {0}
-IsGrouped (Projection con field) = Unit {0}
+IsGrouped (InductiveRole clauses) = Unit {0}
+IsGrouped (AlgebraicRole cons) = Unit {0}
+IsGrouped (ConstructorRole con) = Unit {0}
+IsGrouped (ProjectionRole con field) = Unit {0}
 IsGrouped _ = ⊥
 
 -- The task has the symbols of the other and declares the same ones; what an algebraic or inductive group of it makes, the other's
@@ -76,12 +76,12 @@ pub record HaveSequents (d : DraftTree) (numbers : List ℕ) (q : ℕ → List T
   pub as_many : length numbers ≡ n
   pub each : (i : ℕ) → i < n → Refutes d (get_or numbers i 0) (q i)
 
-abbrev pub sequent_of : List StepTree → ℕ → List Tree
-sequent_of steps i = (step_or steps i).sequent
+abbrev pub sequent_of_step : List StepTree → ℕ → List Tree
+sequent_of_step steps i = (step_or steps i).sequent
 
 -- steps of a draft, by number, have the sequents of a list of steps
 abbrev pub StandFor : DraftTree → List ℕ → List StepTree → Type 0
-StandFor d numbers steps = HaveSequents d numbers (sequent_of steps) (length steps)
+StandFor d numbers steps = HaveSequents d numbers (sequent_of_step steps) (length steps)
 
 abbrev pub start_of : List TaskTree → ℕ → List Tree
 start_of tasks i = start (task_or tasks i)
@@ -95,18 +95,18 @@ abbrev pub HasSequents : DraftTree → List StepTree → Type 0
 HasSequents d steps = (j : ℕ) → j < length steps → (k : ℕ) × Refutes d k (step_or steps j).sequent
 
 -- the task is that of the draft
-pub record IsOwn (d : DraftTree) (from : Task) : Type 0 where
+pub record IsOwnTask (d : DraftTree) (from : Task) : Type 0 where
   pub held : TaskHeld d.trees from
   pub is : task_at d.trees from ≡ d.task
   pub valid : IsValid d.task
 
 -- a task, and one that it becomes, in a draft of the first
-pub record InStage (equation : Equation) (d : DraftTree) (from to : Task) : Type 0 where
-  pub own : IsOwn d from
+pub record InStage (equation : TaskEquation) (d : DraftTree) (from to : Task) : Type 0 where
+  pub own : IsOwnTask d from
   pub held : TaskHeld d.trees to
   pub among : IsAmong (Gives equation d.task) (task_at d.trees to)
 
--- a step of a task cites a fact at types, and a step of the draft refutes its sequent with the fact behind
+-- a step of a task cites a fact at types, and a step of the draft refutes its sequent with the fact after
 pub record Cites (d : DraftTree) (t : TaskTree) (sequent : List Tree) (name : Fact) (types : List Tree) (premise : ℕ) : Type 0 where
   pub formula : Tree
   pub fact : IsFact d.task t name types formula

@@ -1,6 +1,6 @@
 // Steps by each rule, over steps that refute what the rule adds. A sequent is written in two parts: some formulas, the front,
-// and a tail behind them, in which the rule has its places.
-// They stand on drafts; lifting and the transformations put their steps by them.
+// and a tail after them, in which the rule has its places.
+// They depend on drafts; lifting and the transformations put their steps by them.
 ghost use Rattle.std.specs.Prelude.{◌≡◌, ◌+◌, ◌++◌, ◌<◌, ◌≤◌, List, [], ◌∷◌, length, slice_get, All, IfOk, OnOk};
 ghost use Rattle.trees.specs.Tree.{Tree};
 ghost use Rattle.trees.specs.Node.{tree_at, Holds};
@@ -22,8 +22,12 @@ use tasks::Fact;
 use term_store::Grow;
 use trees::{Node, Op, TermId};
 
-/// The tail behind the front.
-pub fn join_lists(alloc: Global, front: &[TermId], tail: &[TermId]) -> Result<Vec<TermId>, AllocError>
+/// The tail after the front.
+pub fn join_lists(
+    alloc: Global,
+    front: &[TermId],
+    tail: &[TermId],
+) -> Result<Vec<TermId>, AllocError>
     ensures { IfOk result (λ v. v.items ≡ front.now ++ tail.now) }
 {
     let mut all = Vec::from_slice(alloc, front)?;
@@ -181,7 +185,7 @@ pub fn by_failing(
     by_rule(draft, front, tail, rule, premises)
 }
 
-/// A cut: `yes` refutes the sequent with the formula behind it, `no` the sequent with the formula's negation.
+/// A cut: `yes` refutes the sequent with the formula after it, `no` the sequent with the formula's negation.
 pub fn by_cut(
     draft: &mut Draft,
     front: &[TermId],
@@ -263,7 +267,7 @@ fn citation(name: Fact, types: Seq<TermId>) -> Rule
     }
 }
 
-/// A fact of the draft's task at types, by its name: the premise refutes the sequent with the fact behind it.
+/// A fact of the draft's task at types, by its name: the premise refutes the sequent with the fact after it.
 pub fn by_fact(
     draft: &mut Draft,
     front: &[TermId],
@@ -311,7 +315,7 @@ pub fn fact_lemma(
     by_fact(draft, &[], &[no_fact], name, types, formula, clash)
 }
 
-/// Puts a step that keeps the whole sequent of this one, the task's start, behind the others, where it isn't the last one.
+/// Puts a step that keeps the whole sequent of this one, the task's start, after the others, where it isn't the last one.
 pub fn finish(draft: &mut Draft, number: usize) -> Result<(), AllocError>
     requires start { Refutes draft.old number (start draft.old.task) }
     ensures starts { IfOk result (λ _. last_starts draft.new.task draft.new.steps) }

@@ -1,5 +1,5 @@
 // Drafts: a store, a task, and steps that are right for it.
-// It stands on the kernel's right steps; the transformations and `lift_stage` push their steps here.
+// It depends on the kernel's right steps; the transformations and `lift_stage` push their steps here.
 ghost use Rattle.std.specs.Prelude.{◌≡◌, [], ◌∷◌, ◌++◌, length, All, IfOk, OnErr};
 ghost use Rattle.tasks.specs.Meaning.{trees_at, task_at, TaskHeld};
 ghost use Rattle.tasks.specs.Valid.{IsValid};

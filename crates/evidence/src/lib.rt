@@ -1,5 +1,5 @@
 //! Evidence: drafts of derivations, transformations with the laws by which refutations of what they make are brought back,
-//! and a whole stage brought back. It stands on the kernel; each transformation stands on it.
+//! and a whole stage brought back. It depends on the kernel; each transformation depends on it.
 #![tactic(auto)]
 
 mod by;

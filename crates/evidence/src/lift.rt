@@ -1,5 +1,5 @@
 // A stage brought back: from derivations of the tasks that a task became, a derivation of the task.
-// It stands on drafts and on the laws of a transformation; `lift` of the program stands on it.
+// It depends on drafts and on the laws of a transformation; `lift` of the program depends on it.
 ghost use Rattle.std.specs.Prelude.{◌≡◌, ◌<◌, ◌++◌, List, [], ◌∷◌, length, map, get_or, All, IfOk, IfSome, IfNone};
 ghost use Rattle.trees.specs.Tree.{Tree};
 ghost use Rattle.trees.specs.Node.{tree_at, Holds};
@@ -9,7 +9,7 @@ ghost use Rattle.kernel.specs.Right.{IsRight, AreRight, Closes};
 ghost use Rattle.rule_rows.specs.Meaning.{rule_at, RuleHeld, step_at, steps_at, StepHeld, StepsHeld};
 ghost use Rattle.evidence.specs.Drafts.{Extends, Refutes, IsFormulaAt, AreFormulas};
 ghost use Rattle.evidence.specs.Facts.{citing, CitesNone};
-ghost use Rattle.evidence.specs.Stages.{Gives, IsOwn, InStage, StandFor, HasSequents, Cites, parts_at, PartsHeld, PartsClose};
+ghost use Rattle.evidence.specs.Stages.{Gives, IsOwnTask, InStage, StandFor, HasSequents, Cites, parts_at, PartsHeld, PartsClose};
 
 use crate::by::{by_cut, keep_but, last_formula, negation};
 use crate::{Draft, Transform};
@@ -248,7 +248,7 @@ pub fn lift_stage<T: Transform>(
     parts: &[Seq<Step>],
     draft: &mut Draft,
 ) -> Result<usize, AllocError>
-    requires own { IsOwn draft.old from.now }
+    requires own { IsOwnTask draft.old from.now }
     requires to_held { TasksHeld draft.old.trees to.now.items }
     requires gives { Gives (T.equation stage.now) draft.old.task
         (tasks_at draft.old.trees to.now.items) }

@@ -1,5 +1,5 @@
 // Transformations, and the laws by which refutations of what they make are brought back.
-// They stand on drafts; each transformation's crate gives them once, and `lift_stage` is proved from them alone.
+// They depend on drafts; each transformation's crate gives them once, and `lift_stage` is proved from them alone.
 ghost use Rattle.std.specs.Prelude.{◌≡◌, List, [], ◌∷◌, All, IfOk, IfErr};
 ghost use Rattle.trees.specs.Node.{tree_at, Holds, Grows};
 ghost use Rattle.tasks.specs.Task.{TaskTree, neg, start};
@@ -8,7 +8,7 @@ ghost use Rattle.tasks.specs.Meaning.{trees_at, task_at, tasks_at, TaskHeld, Tas
 ghost use Rattle.evidence.specs.Drafts.{Extends, Refutes, IsFormulaAt};
 ghost use Rattle.evidence.specs.Facts.{IsFact};
 ghost use Rattle.evidence.specs.declared.stage.StageFault.{StageFault};
-ghost use Rattle.evidence.specs.Stages.{Equation, Gives, IsStageFault, Keeps, IsOwn, InStage, EndIn};
+ghost use Rattle.evidence.specs.Stages.{TaskEquation, Gives, IsStageFault, Keeps, IsOwnTask, InStage, EndIn};
 
 use crate::Draft;
 use std::alloc::{AllocError, Global};
@@ -37,7 +37,7 @@ impl From<AllocError> for StageFault {
 /// A transformation of tasks, with what brings refutations of its tasks back.
 pub trait Transform {
     /// Which tasks a task becomes, or why it becomes none.
-    ghost equation: { Self → Equation };
+    ghost equation: { Self → TaskEquation };
 
     /// What the equation says: its tasks, or a fault for which it gives none. Want of memory apart, it says nothing else.
     fn apply(&self, alloc: Global, store: &mut Store, task: &Task) -> Result<Vec<Task>, StageFault>
@@ -80,7 +80,7 @@ pub trait Transform {
         ends: &[usize],
         draft: &mut Draft,
     ) -> Result<usize, AllocError>
-        requires own { IsOwn draft.old from.now }
+        requires own { IsOwnTask draft.old from.now }
         requires to_held { TasksHeld draft.old.trees to.now.items }
         requires gives { Gives (equation self.now) draft.old.task
             (tasks_at draft.old.trees to.now.items) }

@@ -5,16 +5,16 @@ use Rattle.tokens_why.specs.declared.token.TokenKind.TheVariants as kind
 use Rattle.explain.specs.declared.table.Counts.TheVariants.{Tokens}
 use Rattle.explain.specs.declared.places.Spot.TheVariants.{Nowhere, Byte, Line}
 use Rattle.explain.specs.Table.{RowText}
-use Rattle.explain.specs.Places.{line, line_number, before, column_behind, byte_spot, token_byte}
+use Rattle.explain.specs.Places.{line_numbered, line_number, line_before, column_behind, byte_spot, token_byte}
 use Rattle.explain.specs.Message.{excerpt, row_for}
 
 second_line : line_number (codes "a\nb c") 3 ≡ 2
 second_line = refl
 
-its_text : line (codes "a\nb c") 2 ≡ codes "b c"
+its_text : line_numbered (codes "a\nb c") 2 ≡ codes "b c"
 its_text = refl
 
-its_front : before (codes "a\nb c") 3 ≡ codes "b"
+its_front : line_before (codes "a\nb c") 3 ≡ codes "b"
 its_front = refl
 
 -- the end of a text that ends at a line feed

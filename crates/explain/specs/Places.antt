@@ -1,4 +1,4 @@
--- Lines and columns of a file, and where a fault stands in it.
+-- Lines and columns of a file, and where a fault is in it.
 use Rattle.std.specs.Prelude.{ℕ, ◌+◌, ◌-◌, ◌==◌, ◌≡◌, ◌⊎◌, ◌≤◌, nat_lt, nat_le, Bool, ◌||◌, if◌then◌else◌, List, [], length, map, take, count_by, get_or, slice_get, Option, Some, None}
 use Rattle.std.specs.List.{slice_split}
 use Rattle.std.specs.Borrow.{Bor}
@@ -10,24 +10,24 @@ use Rattle.explain.specs.declared.places.Spot.{Spot}
 use Rattle.explain.specs.declared.places.Spot.TheVariants.{Nowhere, Byte, Line}
 
 -- what slices of bytes hold
-abbrev pub texts : List (Bor (List ℕ)) → List (List ℕ)
-texts parts = map (λ p. p.now) parts
+abbrev pub bytes_of_parts : List (Bor (List ℕ)) → List (List ℕ)
+bytes_of_parts parts = map (λ p. p.now) parts
 
 -- the lines of a text: the parts between line feeds
-abbrev pub lines : List ℕ → List (List ℕ)
-lines text = slice_split (λ c. c == 10) text
+abbrev pub text_lines : List ℕ → List (List ℕ)
+text_lines text = slice_split (λ c. c == 10) text
 
 -- a line by its number, from 1 on; nothing where there is none
-abbrev pub line : List ℕ → ℕ → List ℕ
-line text number = get_or (lines text) (number - 1) []
+abbrev pub line_numbered : List ℕ → ℕ → List ℕ
+line_numbered text number = get_or (text_lines text) (number - 1) []
 
 -- The line of a byte is the last one of the text before it.
 abbrev pub line_number : List ℕ → ℕ → ℕ
-line_number text byte = length (lines (take byte text))
+line_number text byte = length (text_lines (take byte text))
 
--- what stands before a byte in its line
-abbrev pub before : List ℕ → ℕ → List ℕ
-before text byte = line (take byte text) (line_number text byte)
+-- what is before a byte in its line
+abbrev pub line_before : List ℕ → ℕ → List ℕ
+line_before text byte = line_numbered (take byte text) (line_number text byte)
 
 -- A character begins at each byte but those that go on with one (UTF-8).
 abbrev pub begins_character : ℕ → Bool
@@ -42,10 +42,10 @@ abbrev pub byte_spot : List ℕ → ℕ → Spot
 byte_spot text byte = if nat_le byte (length text) then Byte byte else Nowhere
 
 -- A byte that is a place of the text or its end.
-abbrev pub IsPlace : List ℕ → Spot → Type 0
-IsPlace text (Byte byte) = byte ≤ length text
-IsPlace text Nowhere = Unit {0}
-IsPlace text (Line number) = Unit {0}
+abbrev pub IsSpot : List ℕ → Spot → Type 0
+IsSpot text (Byte byte) = byte ≤ length text
+IsSpot text Nowhere = Unit {0}
+IsSpot text (Line number) = Unit {0}
 
 abbrev pub end_of : Option Token → ℕ
 end_of None = 0

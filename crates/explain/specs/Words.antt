@@ -8,29 +8,29 @@ use Rattle.explain.specs.declared.words.ExplainFault.TheVariants.{Memory, Usage,
 use Rattle.explain.specs.Message.{row_for, Explains}
 
 -- the number of decimal digits that follow those of n, below 2^64
-abbrev pub number_from : ℕ → List ℕ → Option ℕ
-number_from n [] = Some n
-number_from n (c ∷ cs) =
-    if (nat_le 48 c && nat_le c 57) && nat_lt (n * 10 + (c - 48)) 18446744073709551616 then number_from (n * 10 + (c - 48)) cs else None
+abbrev pub number_after_digits : ℕ → List ℕ → Option ℕ
+number_after_digits n [] = Some n
+number_after_digits n (c ∷ cs) =
+    if (nat_le 48 c && nat_le c 57) && nat_lt (n * 10 + (c - 48)) 18446744073709551616 then number_after_digits (n * 10 + (c - 48)) cs else None
 
 -- the number that a word writes in decimal
-abbrev pub number : List ℕ → Option ℕ
-number [] = None
-number (c ∷ cs) = number_from 0 (c ∷ cs)
+abbrev pub decimal_value : List ℕ → Option ℕ
+decimal_value [] = None
+decimal_value (c ∷ cs) = number_after_digits 0 (c ∷ cs)
 
--- the numbers of words, behind earlier ones
+-- the numbers of words, after earlier ones
 abbrev pub numbers_from : List ℕ → List (List ℕ) → Option (List ℕ)
 numbers_from ns [] = Some ns
-numbers_from ns (w ∷ ws) = option_and_then (λ n. numbers_from (ns ++ n ∷ []) ws) (number w)
+numbers_from ns (w ∷ ws) = option_and_then (λ n. numbers_from (ns ++ n ∷ []) ws) (decimal_value w)
 
 -- the fault of the words
-abbrev pub fault_of : List (List ℕ) → Option (List ℕ)
-fault_of (program ∷ file ∷ numbers) = numbers_from [] numbers
-fault_of _ = None
+abbrev pub fault_in_words : List (List ℕ) → Option (List ℕ)
+fault_in_words (program ∷ file ∷ numbers) = numbers_from [] numbers
+fault_in_words _ = None
 
 -- the file of the words
-abbrev pub file_of : List (List ℕ) → List ℕ
-file_of words = get_or words 1 []
+abbrev pub file_in_words : List (List ℕ) → List ℕ
+file_in_words words = get_or words 1 []
 
 abbrev pub bytes_of : {E : Type 0} → Result (Vec ℕ Global) E → Result (List ℕ) E
 bytes_of (Ok bytes) = Ok bytes.items
@@ -55,5 +55,5 @@ GivesBy None name old new r = IsMisused r
 GivesBy (Some fault) name old new r = FileGives name fault old new r
 
 -- what the words come to
-abbrev pub Gives : List (List ℕ) → LibraryState → LibraryState → Result (List ℕ) ExplainFault → Type 0
-Gives words old new r = GivesBy (fault_of words) (file_of words) old new r
+abbrev pub GivesWords : List (List ℕ) → LibraryState → LibraryState → Result (List ℕ) ExplainFault → Type 0
+GivesWords words old new r = GivesBy (fault_in_words words) (file_in_words words) old new r

@@ -1,5 +1,5 @@
 //! What a refusal of `why3lift` says of a file, in words and with its place.
-//! It stands on the tokens; the program `why3lift_explain` stands on it.
+//! It depends on the tokens; the program `why3lift_explain` depends on it.
 #![tactic(auto)]
 
 mod message;

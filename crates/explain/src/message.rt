@@ -1,10 +1,10 @@
-// The message of a fault: where it stands, its words, its numbers, and the line with a caret.
-// It stands on the table and the places; the program's words stand on it.
+// The message of a fault: where it is, its words, its numbers, and the line with a caret.
+// It depends on the table and the places; the program's words depend on it.
 ghost use Rattle.std.specs.Prelude.{◌≡◌, ◌≤◌, ◌++◌, IfOk, OnOk, length, map, filter};
 ghost use Rattle.std.specs.Option.{option_map};
 ghost use Rattle.explain.specs.Message as spec;
-ghost use Rattle.explain.specs.Message.{spaced, row_for, Explains};
-ghost use Rattle.explain.specs.Places.{IsPlace};
+ghost use Rattle.explain.specs.Message.{spaced_words, row_for, Explains};
+ghost use Rattle.explain.specs.Places.{IsSpot};
 ghost use Rattle.explain.specs.Table.{row_text};
 
 use crate::places::{Spot, begins_character, column_behind, line_of, lines, place, spot_of};
@@ -14,7 +14,7 @@ use std::alloc::{AllocError, Global};
 const DELETE: u8 = 127;
 
 fn push_numbers(alloc: Global, text: &mut Vec<u8>, numbers: &[usize]) -> Result<(), AllocError>
-    ensures { OnOk result (text.new.items ≡ text.old.items ++ spaced numbers.now) }
+    ensures { OnOk result (text.new.items ≡ text.old.items ++ spaced_words numbers.now) }
 {
     for number in numbers {
         text.push(b' ')?;
@@ -37,7 +37,7 @@ fn shown_byte(byte: u8) -> u8
 }
 
 fn byte_under(byte: u8) -> u8
-    ensures { result ≡ spec.under byte }
+    ensures { result ≡ spec.under_character byte }
 {
     if byte == b'\t' { b'\t' } else { b' ' }
 }
@@ -76,7 +76,7 @@ fn caret_line(alloc: Global, before: &[u8]) -> Result<Vec<u8>, AllocError>
 }
 
 fn place_text(alloc: Global, text: &[u8], spot: Spot) -> Result<Vec<u8>, AllocError>
-    requires { IsPlace text.now spot }
+    requires { IsSpot text.now spot }
     ensures { IfOk result (λ v. v.items ≡ spec.place_text text.now spot) }
 {
     let mut out = Vec::new(alloc);
@@ -99,7 +99,7 @@ fn place_text(alloc: Global, text: &[u8], spot: Spot) -> Result<Vec<u8>, AllocEr
 }
 
 fn excerpt(alloc: Global, text: &[u8], spot: Spot) -> Result<Vec<u8>, AllocError>
-    requires { IsPlace text.now spot }
+    requires { IsSpot text.now spot }
     ensures { IfOk result (λ v. v.items ≡ spec.excerpt text.now spot) }
 {
     match spot {
@@ -147,7 +147,7 @@ fn message(
     row: Row,
     spot: Spot,
 ) -> Result<Vec<u8>, AllocError>
-    requires { IsPlace text.now spot }
+    requires { IsSpot text.now spot }
     ensures { IfOk result (λ v. v.items
         ≡ spec.message name.now text.now fault.now (row_text row) spot) }
 {
@@ -185,10 +185,10 @@ fn last_of(fault: &[usize]) -> usize
     }
 }
 
-/// The message of a fault in a file: where it stands, its words, its numbers, and the line with a
+/// The message of a fault in a file: where it is, its words, its numbers, and the line with a
 /// caret.
 ///
-/// `fault` is the code with the numbers behind it, as a line `refused:` has them. None exactly where
+/// `fault` is the code with the numbers after it, as a line `refused:` has them. None exactly where
 /// the table has no such code with so many numbers.
 pub fn explain(
     alloc: Global,
@@ -196,7 +196,8 @@ pub fn explain(
     text: &[u8],
     fault: &[usize],
 ) -> Result<Option<Vec<u8>>, AllocError>
-    ensures { IfOk result (λ o. Explains name.now text.now fault.now (option_map (λ v. v.items) o)) }
+    ensures { IfOk result (λ o. Explains name.now text.now fault.now
+        (option_map (λ v. v.items) o)) }
 {
     match row_for(fault) {
         None => Ok(None),

@@ -1,9 +1,9 @@
-// Lines and columns of a file, and where a fault stands in it.
-// They stand on the tokens; the messages stand on them.
+// Lines and columns of a file, and where a fault is in it.
+// They depend on the tokens; the messages depend on them.
 ghost use Rattle.std.specs.Prelude.{◌≡◌, ◌≤◌, ◌-◌, [], IfOk, length, get_or, map};
 ghost use Rattle.tokens_why.specs.declared.token.Token.{Token};
 ghost use Rattle.explain.specs.Places as spec;
-ghost use Rattle.explain.specs.Places.{texts, TokenStandsAt, StandsAt, IsPlace, spot_or, line_number, before, column_behind};
+ghost use Rattle.explain.specs.Places.{bytes_of_parts, TokenStandsAt, StandsAt, IsSpot, spot_or, line_number, line_before, column_behind};
 
 use crate::table::Counts;
 use std::alloc::{AllocError, Global};
@@ -20,14 +20,14 @@ pub enum Spot {
 
 /// The lines of a text, which end at line feeds.
 pub fn lines<'a>(alloc: Global, text: &'a [u8]) -> Result<Vec<&'a [u8]>, AllocError>
-    ensures { IfOk result (λ v. texts v.items ≡ spec.lines text.now) }
+    ensures { IfOk result (λ v. bytes_of_parts v.items ≡ spec.text_lines text.now) }
 {
     text.split(|b| *b == b'\n').collect(alloc)
 }
 
 /// A line by its number, or nothing where there is none.
 pub fn line_of<'a>(lines: &[&'a [u8]], number: usize) -> &'a [u8]
-    ensures { result.now ≡ get_or (texts lines.now) (number - 1) [] }
+    ensures { result.now ≡ get_or (bytes_of_parts lines.now) (number - 1) [] }
 {
     match lines.get(number.saturating_sub(1)) {
         Some(line) => *line,
@@ -35,7 +35,7 @@ pub fn line_of<'a>(lines: &[&'a [u8]], number: usize) -> &'a [u8]
     }
 }
 
-/// The number of a byte's line, and what stands before the byte in it.
+/// The number of a byte's line, and what is before the byte in it.
 pub fn place<'a>(
     alloc: Global,
     text: &'a [u8],
@@ -43,7 +43,7 @@ pub fn place<'a>(
 ) -> Result<(usize, &'a [u8]), AllocError>
     requires { byte ≤ length text.now }
     ensures { IfOk result (λ p. (p.0 ≡ line_number text.now byte)
-        × (p.1.now ≡ before text.now byte)) }
+        × (p.1.now ≡ line_before text.now byte)) }
 {
     let lines = lines(alloc, &text[..byte])?;
     Ok((lines.len(), line_of(&lines, lines.len())))
@@ -56,7 +56,7 @@ pub fn begins_character(byte: u8) -> bool
     byte < 128 || byte >= 192
 }
 
-/// The column behind these bytes of a line.
+/// The column after these bytes of a line.
 pub fn column_behind(bytes: &[u8]) -> usize
     ensures { result ≡ spec.column_behind bytes.now }
 {
@@ -65,7 +65,7 @@ pub fn column_behind(bytes: &[u8]) -> usize
 
 fn byte_spot(text: &[u8], byte: usize) -> Spot
     ensures spot { result ≡ spec.byte_spot text.now byte }
-    ensures place { IsPlace text.now result }
+    ensures place { IsSpot text.now result }
 {
     if byte <= text.len() {
         Spot::Byte(byte)
@@ -94,7 +94,7 @@ fn token_byte(tokens: &[Token], number: usize) -> Option<usize>
 
 fn spot_in(text: &[u8], tokens: &[Token], number: usize) -> Spot
     ensures spot { result ≡ spot_or text.now (spec.token_byte tokens.now number) }
-    ensures place { IsPlace text.now result }
+    ensures place { IsSpot text.now result }
 {
     match token_byte(tokens, number) {
         Some(byte) => byte_spot(text, byte),
@@ -104,7 +104,7 @@ fn spot_in(text: &[u8], tokens: &[Token], number: usize) -> Spot
 
 fn token_spot(alloc: Global, text: &[u8], number: usize) -> Result<Spot, AllocError>
     ensures spot { IfOk result (TokenStandsAt text.now number) }
-    ensures place { IfOk result (IsPlace text.now) }
+    ensures place { IfOk result (IsSpot text.now) }
 {
     match lex(alloc, text) {
         Ok(tokens) => Ok(spot_in(text, &tokens, number)),
@@ -122,7 +122,7 @@ pub fn spot_of(
     number: usize,
 ) -> Result<Spot, AllocError>
     ensures spot { IfOk result (StandsAt text.now counts number) }
-    ensures place { IfOk result (IsPlace text.now) }
+    ensures place { IfOk result (IsSpot text.now) }
 {
     match counts {
         Counts::Nothing => Ok(Spot::Nowhere),

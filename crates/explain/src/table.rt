@@ -1,5 +1,5 @@
-// The table of faults: what stands behind a code, and its words.
-// It stands on nothing; the messages stand on it.
+// The table of faults: what comes after a code, and its words.
+// It depends on nothing; the messages depend on it.
 ghost use Rattle.std.specs.Prelude.{◌≡◌};
 ghost use Rattle.std.specs.Option.{option_map};
 ghost use Rattle.explain.specs.Table.{row_of, row_text};

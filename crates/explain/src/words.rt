@@ -1,9 +1,9 @@
 // The words of the program: its name, a file, and a fault as its line has it.
-// They stand on the messages and on the library of files; the program `why3lift_explain` stands on them.
+// They depend on the messages and on the library of files; the program `why3lift_explain` depends on them.
 ghost use Rattle.std.specs.Prelude.{◌≡◌, ℕ, List, [], IfOk, map, string_bytes};
 ghost use Rattle.std.specs.Option.{option_map};
 ghost use Rattle.explain.specs.Words as spec;
-ghost use Rattle.explain.specs.Words.{number_from, numbers_from, Gives, FileGives, bytes_of};
+ghost use Rattle.explain.specs.Words.{number_after_digits, numbers_from, GivesWords, FileGives, bytes_of};
 ghost use Rattle.explain.specs.declared.words.ExplainFault.TheVariants.{Memory as NoMemory};
 
 use crate::message::{explain, row_for};
@@ -33,7 +33,7 @@ impl From<AllocError> for ExplainFault {
 
 // The number of decimal digits.
 fn digits(word: &[u8]) -> Option<usize>
-    ensures { result ≡ number_from 0 word.now }
+    ensures { result ≡ number_after_digits 0 word.now }
 {
     let mut number = 0u64;
     for c in word {
@@ -51,7 +51,7 @@ fn digits(word: &[u8]) -> Option<usize>
 
 // The number that a word writes.
 fn number(word: &[u8]) -> Option<usize>
-    ensures { result ≡ spec.number word.now }
+    ensures { result ≡ spec.decimal_value word.now }
 {
     match word {
         [] => None,
@@ -77,7 +77,7 @@ fn numbers(alloc: Global, words: &[String]) -> Result<Option<Vec<usize>>, AllocE
 // The fault of the words.
 fn fault_of(alloc: Global, words: &[String]) -> Result<Option<Vec<usize>>, AllocError>
     ensures { IfOk result (λ o. option_map (λ v. v.items) o
-        ≡ spec.fault_of (map string_bytes words.now)) }
+        ≡ spec.fault_in_words (map string_bytes words.now)) }
 {
     match words {
         [_, _, rest @ ..] => numbers(alloc, rest),
@@ -86,7 +86,7 @@ fn fault_of(alloc: Global, words: &[String]) -> Result<Option<Vec<usize>>, Alloc
 }
 
 fn file_of(words: &[String]) -> &str
-    ensures { result.now ≡ spec.file_of (map string_bytes words.now) }
+    ensures { result.now ≡ spec.file_in_words (map string_bytes words.now) }
 {
     match words.get(1) {
         Some(word) => word.as_str(),
@@ -118,7 +118,7 @@ fn explain_file<L: Library>(
     }
 }
 
-/// The message that the words ask for: behind the program's name stand the file's name, a code and
+/// The message that the words ask for: after the program's name stand the file's name, a code and
 /// its numbers.
 ///
 /// `Usage` exactly where they don't, or the table has no such code with so many numbers.
@@ -128,7 +128,7 @@ pub fn explain_words<L: Library>(
     words: &[String],
 ) -> Result<Vec<u8>, ExplainFault>
     ensures files { (L.state lib.new).files ≡ (L.state lib.old).files }
-    ensures gives { Gives (map string_bytes words.now) (L.state lib.old) (L.state lib.new)
+    ensures gives { GivesWords (map string_bytes words.now) (L.state lib.old) (L.state lib.new)
         (bytes_of result) }
 {
     match fault_of(alloc, words)? {

@@ -1,4 +1,4 @@
-//! Tests of the messages of faults. They stand on `explain`; nothing stands on them.
+//! Tests of the messages of faults. They depend on `explain`; nothing depends on them.
 #![tactic(auto)]
 
 #[cfg(test)]

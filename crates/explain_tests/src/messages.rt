@@ -1,5 +1,5 @@
 // The message of each code: expected texts are reasoned from the table of faults.
-// They stand on the messages; nothing stands on them.
+// They depend on the messages; nothing depends on them.
 use explain::explain;
 
 // The text of the file `f`, a fault in it, and the message; nothing where the numbers are no fault.
@@ -19,7 +19,7 @@ static MESSAGES: [(&str, &[usize], &str); 49] = [
         &[12, 3],
         "f:2:8: syntax error (refused: 12 3)\n  goal end\n       ^\n",
     ),
-    // behind the last token, where the text ends too early
+    // after the last token, where the text ends too early
     (
         "theory T\n\n",
         &[12, 2],
@@ -95,7 +95,7 @@ static MESSAGES: [(&str, &[usize], &str); 49] = [
         &[50, 1, 16],
         "f:1:17: syntax error (refused: 50 1 16)\nprinter \"smtv2\" foo\n                ^\n",
     ),
-    // the end of the file, and a byte behind it
+    // the end of the file, and a byte after it
     (
         "a\nb",
         &[50, 1, 3],

@@ -8,7 +8,7 @@ use Rattle.trees.specs.Tree.{Tree, Two, HEq, HCell, HJoin}
 use Rattle.trees.specs.Node.{tree_at}
 use Rattle.trees.specs.Binding.{Bound, inst_types}
 use Rattle.tasks.specs.Equations.{bound_variables}
-use Rattle.tasks.specs.Inversion.{argument_equations, and_then, given_by, given_by_any}
+use Rattle.tasks.specs.Inversion.{argument_equations, conjunction_with, given_by, given_by_any}
 use Rattle.tasks.specs.Meaning.{trees_at}
 use Rattle.fact_rows.proofs.Putting.{first_not, two_at, any_more}
 
@@ -24,8 +24,8 @@ module _ (s : List Tree) (n : ℕ) (args rest : List TermId) (ty list a more : T
   abbrev pub others : Option Tree
   others = argument_equations n (bound_variables (trees_at s rest)) (tree_at s more)
 
-  pub at_cell : argument_equations n (bound_variables (trees_at s args)) (tree_at s list) ≡ and_then first others
-  at_cell = rw (e, f) (ap (λ (k : ℕ). and_then (Two HEq (Bound (n + k) (tree_at s ty)) (tree_at s a)) others) (length-map rest (tree_at s)))
+  pub at_cell : argument_equations n (bound_variables (trees_at s args)) (tree_at s list) ≡ conjunction_with first others
+  at_cell = rw (e, f) (ap (λ (k : ℕ). conjunction_with (Two HEq (Bound (n + k) (tree_at s ty)) (tree_at s a)) others) (length-map rest (tree_at s)))
 
   pub no_first : (tys : List Tree) (m u v : Tree) → (others ≡ None → ⊥) → m ≡ Two (HJoin And) u v → (u ≡ inst_types first tys → ⊥)
       → Some m ≡ option_map (λ x. inst_types x tys) (argument_equations n (bound_variables (trees_at s args)) (tree_at s list)) → ⊥

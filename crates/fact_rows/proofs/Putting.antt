@@ -10,7 +10,7 @@ use Rattle.trees.specs.Node.{tree_at}
 use Rattle.trees.specs.Binding.{inst_types, TyVar}
 use Rattle.trees.proofs.Instances.{inst_two}
 use Rattle.tasks.specs.Equations.{cells, type_variables}
-use Rattle.tasks.specs.Inversion.{and_then, given_by, given_by_any}
+use Rattle.tasks.specs.Inversion.{conjunction_with, given_by, given_by_any}
 use Rattle.tasks.specs.Meaning.{trees_at}
 
 pub two_at : (tys : List Tree) (h : Head) (a b : Tree) → inst_types (Two h a b) tys ≡ Two h (inst_types a tys) (inst_types b tys)
@@ -30,13 +30,13 @@ types_from front (ty ∷ tys) =
 pub types_are : (tys : List Tree) → inst_types (cells (type_variables 0 (length tys))) tys ≡ cells tys
 types_are tys = types_from [] tys
 
--- a conjunction with what stands behind it, at types
+-- a conjunction with what comes after it, at types
 module _ (tys : List Tree) (m a : Tree) where
   abbrev pub put : Tree → Tree
   put e = inst_types e tys
 
   abbrev pub IsWhole : Option Tree → Type 0
-  IsWhole q = Some m ≡ option_map put (and_then a q)
+  IsWhole q = Some m ≡ option_map put (conjunction_with a q)
 
   whole : (q : Option Tree) → (q ≡ None → ⊥) → IsWhole q → (b : Tree) × ((m ≡ Two (HJoin And) (put a) (put b)) × (q ≡ Some b))
   whole None n h = absurd (n refl)

@@ -10,12 +10,12 @@ use Rattle.tasks.specs.Meaning.{trees_at}
 use Rattle.fact_rows.specs.declared.inversion.Inversion.{Inversion}
 
 -- the predicate on its variables
-abbrev pub use_of : ℕ → ℕ → List Tree → Tree
-use_of p vars args = Two (HPred p) (cells (type_variables 0 vars)) (cells (bound_variables args))
+abbrev pub predicate_use : ℕ → ℕ → List Tree → Tree
+predicate_use p vars args = Two (HPred p) (cells (type_variables 0 vars)) (cells (bound_variables args))
 
 -- under the quantifiers
 abbrev pub body_of : ℕ → ℕ → List Tree → List Tree → Tree
-body_of p vars args clauses = Two (HJoin Imp) (use_of p vars args) (given_by_any (bound_variables args) clauses)
+body_of p vars args clauses = Two (HJoin Imp) (predicate_use p vars args) (given_by_any (bound_variables args) clauses)
 
 abbrev pub formula_at : Inversion → List Tree → Tree
 formula_at v s =

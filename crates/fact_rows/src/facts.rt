@@ -1,5 +1,5 @@
 // The rows that cite a fact of the task at types: a proposition, an equation, a clause or an inversion formula.
-// They stand on what premises add and on the look-up; the checker of a step stands on them.
+// They depend on what premises add and on the look-up; the checker of a step depends on them.
 ghost use Rattle.std.specs.Prelude.{◌≡◌, ◌↔◌, slice_get, All, IsTrue, IfSome};
 ghost use Rattle.std.specs.Option.{option_map, option_and_then};
 ghost use Rattle.trees.specs.Node.{tree_at, Holds};
@@ -93,7 +93,7 @@ fn vars_of(x: &Tried<'_>, symbol: usize) -> usize
 
 // Whether there are as many types as a symbol has type variables.
 fn at_types(x: &Tried<'_>, symbol: usize, types: &[TermId]) -> bool
-    ensures { IsTrue result ↔ table.AtTypes (task_of x.now) symbol
+    ensures { IsTrue result ↔ table.IsAtTypes (task_of x.now) symbol
         (trees_at x.now.store.now types.now) }
 {
     types.len() == vars_of(x, symbol)

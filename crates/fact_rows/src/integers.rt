@@ -1,11 +1,11 @@
 // The rows of integers: `linear`, `trichotomy` and `bound`.
-// They stand on what premises add and on the linear leaf; the checker of a step stands on them.
+// They depend on what premises add and on the linear leaf; the checker of a step depends on them.
 ghost use Rattle.std.specs.Prelude.{◌↔◌, [], ◌∷◌, pos, ◌-◌, ◌^◌, ◌+ℤ◌, ◌<ℤ◌, IsTrue};
 ghost use Rattle.trees.specs.Tree.{Leaf, HNum};
 ghost use Rattle.trees.specs.Node.{tree_at, Holds};
 ghost use Rattle.rule_rows.specs.Trees.{RLinear, RTrichotomy, RBound};
-ghost use Rattle.rule_rows.specs.Forms.{compared};
-ghost use Rattle.rule_rows.specs.Rows.{Adds, DeclaresFour, AreDeclared};
+ghost use Rattle.rule_rows.specs.Forms.{comparison};
+ghost use Rattle.rule_rows.specs.Rows.{Adds, DeclaresFour, DeclaresInts};
 ghost use Rattle.rule_rows.specs.Meaning.{task_of, sequent_of, premises_of, TriedHeld, RowOf};
 
 use linear_leaf::closes_linear;
@@ -39,7 +39,7 @@ struct Compared<A, B> {
 }
 
 impl<A: Shape, B: Shape> Shape for Compared<A, B> {
-    ghost tree = { λ v s. compared v.symbol (A.tree v.left s) (B.tree v.right s) };
+    ghost tree = { λ v s. comparison v.symbol (A.tree v.left s) (B.tree v.right s) };
 
     ghost IsHeld = { λ v s. A.IsHeld v.left s × B.IsHeld v.right s };
 
@@ -78,7 +78,7 @@ fn declares_four(x: &Tried<'_>, a: usize, b: usize, c: usize, d: usize) -> bool
 // Whether the task declares the symbols of int.Int.
 fn are_declared(x: &Tried<'_>, ints: Ints) -> bool
     requires { TriedHeld x.now }
-    ensures { IsTrue result ↔ AreDeclared (task_of x.now) ints }
+    ensures { IsTrue result ↔ DeclaresInts (task_of x.now) ints }
 {
     declares_four(x, ints.neg, ints.add, ints.sub, ints.mul)
         && declares_four(x, ints.lt, ints.le, ints.gt, ints.ge)
@@ -97,7 +97,7 @@ pub fn linear(x: &Tried<'_>, uses: &[(usize, i128)]) -> bool
     }
 }
 
-// Whether there are three premises, each of which has one formula behind the sequent.
+// Whether there are three premises, each of which has one formula after the sequent.
 fn adds_three<A: Shape, B: Shape, C: Shape>(x: &Tried<'_>, a: &A, b: &B, c: &C) -> bool
     requires tried { TriedHeld x.now }
     requires a_held { A.IsHeld a.now x.now.store.now }
@@ -155,8 +155,8 @@ fn adds_bounds(x: &Tried<'_>, ints: Ints, t: TermId, n: i128) -> bool
     requires held { Holds x.now.store.now t }
     requires below { n <ℤ pos (2 ^ 127 - 1) }
     ensures { IsTrue result ↔ Adds (sequent_of x.now) (premises_of x.now)
-        ((compared ints.le (tree_at x.now.store.now t) (Leaf (HNum n)) ∷ [])
-        ∷ (compared ints.le (Leaf (HNum (n +ℤ pos 1))) (tree_at x.now.store.now t) ∷ []) ∷ []) }
+        ((comparison ints.le (tree_at x.now.store.now t) (Leaf (HNum n)) ∷ [])
+        ∷ (comparison ints.le (Leaf (HNum (n +ℤ pos 1))) (tree_at x.now.store.now t) ∷ []) ∷ []) }
 {
     adds_each(
         x,

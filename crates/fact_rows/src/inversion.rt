@@ -1,11 +1,11 @@
 // The inversion formula of a predicate at types, told without making it.
-// It stands on its parts; the row of `inv` stands on it.
+// It depends on its parts; the row of `inv` depends on it.
 ghost use Rattle.std.specs.Prelude.{◌≡◌, ◌↔◌, All, IsTrue, length};
 ghost use Rattle.trees.specs.Node.{tree_at, Holds};
 ghost use Rattle.trees.specs.Binding.{inst_types};
 ghost use Rattle.tasks.specs.Equations.{for_all};
 ghost use Rattle.tasks.specs.Meaning.{trees_at};
-ghost use Rattle.fact_rows.specs.Inversions.{use_of, body_of, formula_at, InversionHeld};
+ghost use Rattle.fact_rows.specs.Inversions.{predicate_use, body_of, formula_at, InversionHeld};
 
 use crate::parts::{are_own_types, are_variables, is_given_by_any};
 use rule_rows::Shape;
@@ -28,7 +28,7 @@ fn is_use(store: &Store, v: &Inversion<'_>, made: TermId) -> bool
     requires v_held { InversionHeld v.now store.now }
     requires held { Holds store.now made }
     ensures { IsTrue result ↔ (tree_at store.now made
-        ≡ inst_types (use_of v.now.symbol (length v.now.types.now)
+        ≡ inst_types (predicate_use v.now.symbol (length v.now.types.now)
         (trees_at store.now v.now.args.now)) (trees_at store.now v.now.types.now)) }
 {
     match store.node(made) {
@@ -39,7 +39,7 @@ fn is_use(store: &Store, v: &Inversion<'_>, made: TermId) -> bool
     }
 }
 
-// Whether a tree is what stands under the quantifiers.
+// Whether a tree is what is under the quantifiers.
 #[tactic(auto, using(crate::proofs::Putting::two_at))]
 fn is_body(store: &Store, v: &Inversion<'_>, made: TermId) -> bool
     requires v_held { InversionHeld v.now store.now }

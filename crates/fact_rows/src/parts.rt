@@ -1,6 +1,6 @@
 // The parts of an inversion formula at types, told without making them: a clause gives a disjunct, its premises and the equations
 // on its conclusion's arguments the conjuncts.
-// They stand on the store and on instances of types; the inversion formula stands on them.
+// They depend on the store and on instances of types; the inversion formula depends on them.
 ghost use Rattle.std.specs.Prelude.{◌≡◌, ◌↔◌, ◌+◌, ◌<◌, length, None, Some, All, IsTrue, IfSome, IfNone};
 ghost use Rattle.std.specs.Option.{option_map};
 ghost use Rattle.trees.specs.Tree.{Tree, Leaf, Two, HEq, HTrue, HJoin};

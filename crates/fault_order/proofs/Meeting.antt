@@ -2,8 +2,8 @@
 use Rattle.std.proofs.Common.{◌≡◌, ◌≤◌, ◌+◌, ◌∙◌, ℕ, List, Option, Some, None, Result, Ok, Err, true, false, IfSome, inl, inr, length, sym, ap, subst, arith, refl, ◌==◌}
 use Rattle.std.proofs.lemmas.Bool.Decides.{nat_tests}
 use Rattle.outside.specs.State.{Files, LibraryState, IsFront}
-use Rattle.fault_order.specs.Answers.{IsPartAnswer, Answers, IsWholeAnswer, Ends, Reaches, Still, OneAbsent, OneFault, StopsAt}
-use Rattle.fault_order.specs.Order.{Stop, refused, absent, unread, After, Meaning, reads, if_there, fetched, if_short, ShortFile}
+use Rattle.fault_order.specs.Answers.{IsPartAnswer, Answers, IsWholeAnswer, EndsAs, Reaches, Still, OneAbsent, OneFault, StopsAt}
+use Rattle.fault_order.specs.Order.{RunStop, refused, absent, unread, After, StageMeaning, reads, if_there, fetched, if_short, ShortFile}
 use Rattle.fault_order.specs.declared.faults.Fault.{Fault}
 use Rattle.fault_order.specs.declared.faults.Fault.TheVariants.{TooLong}
 use Rattle.fault_order.specs.declared.faults.RunFault.{RunFault}
@@ -52,11 +52,11 @@ if_short-long file bytes long = rw long refl
 
 -- one that is too long
 pub short_file-long : (file : ℕ) (name bytes : List ℕ) (files : Files) → IsFront (files name) 67108865 bytes
-    → (r : Result (List ℕ) Stop) → if_short file bytes ≡ r → ShortFile file name files None r
+    → (r : Result (List ℕ) RunStop) → if_short file bytes ≡ r → ShortFile file name files None r
 short_file-long file name bytes files front r is = inr (bytes, fetched-front file name bytes files None front tt, sym is)
 
 -- one that stops at once
-pub short_file-stop : (file : ℕ) (name : List ℕ) (files : Files) (limit : Option ℕ) (stop : Stop) → fetched file name 67108865 files limit ≡ Err stop → ShortFile file name files limit (Err stop)
+pub short_file-stop : (file : ℕ) (name : List ℕ) (files : Files) (limit : Option ℕ) (stop : RunStop) → fetched file name 67108865 files limit ≡ Err stop → ShortFile file name files limit (Err stop)
 short_file-stop file name files limit stop is = inl (stop, sym is, refl)
 
 pub still_twice : (s0 s1 s2 : LibraryState) → Still s0 s1 → Still s1 s2 → Still s0 s2
@@ -73,10 +73,10 @@ reaches_less None m n less reached = tt
 reaches_less (Some k) m n less reached = omega arith
 
 -- two parts, one after the other
-abbrev pub chained : {A B : Type 0} → Meaning A → (A → Meaning B) → Meaning B
+abbrev pub chained : {A B : Type 0} → StageMeaning A → (A → StageMeaning B) → StageMeaning B
 chained first second files limit = After (first files limit) (λ value. second value files limit)
 
-meets_then : {A B : Type 0} (first : Meaning A) (second : A → Meaning B) (start : ℕ) (between : A → ℕ) (next : B → ℕ) (s0 s1 s2 : LibraryState) (a : A) (r : Result B RunFault)
+meets_then : {A B : Type 0} (first : StageMeaning A) (second : A → StageMeaning B) (start : ℕ) (between : A → ℕ) (next : B → ℕ) (s0 s1 s2 : LibraryState) (a : A) (r : Result B RunFault)
     → s1.files ≡ s0.files → IsPartAnswer first start between s0 s1 (Ok a) → IsPartAnswer (second a) (between a) next s1 s2 r → IsPartAnswer (chained first second) start next s0 s2 r
 meets_then first second start between next s0 s1 s2 a (Ok b) same one two = (
   still_twice s0 s1 s2 one.0 two.0,
@@ -104,7 +104,7 @@ meets_then first second start between next s0 s1 s2 a (Err (run_fault.ReadFault 
       (subst (λ o. IfSome o (StopsAt (second a) file s2.refused_name)) same two.2),
 )
 
-meets_stop : {A B : Type 0} (first : Meaning A) (second : A → Meaning B) (start : ℕ) (between : A → ℕ) (next : B → ℕ) (s0 s1 : LibraryState) (e : RunFault)
+meets_stop : {A B : Type 0} (first : StageMeaning A) (second : A → StageMeaning B) (start : ℕ) (between : A → ℕ) (next : B → ℕ) (s0 s1 : LibraryState) (e : RunFault)
     → IsPartAnswer first start between s0 s1 (Err e) → IsPartAnswer (chained first second) start next s0 s1 (Err e)
 meets_stop first second start between next s0 s1 run_fault.Memory one = one
 meets_stop first second start between next s0 s1 (run_fault.Refused fault) one =
@@ -115,38 +115,38 @@ meets_stop first second start between next s0 s1 (run_fault.ReadFault file) one 
     (one.0, one.1, told s0.files _ _ (λ files p. (p.0, inl (unread file p.0, p.1, refl), p.2)) one.2)
 
 -- a step that fetches nothing
-meets_value : {A : Type 0} (meaning : Meaning A) (start : ℕ) (next : A → ℕ) (s : LibraryState) (a : A)
+meets_value : {A : Type 0} (meaning : StageMeaning A) (start : ℕ) (next : A → ℕ) (s : LibraryState) (a : A)
     → start ≤ next a → ((files : Files) (limit : Option ℕ) → meaning files limit (Ok a)) → IsPartAnswer meaning start next s s (Ok a)
 meets_value meaning start next s a less same =
     (record { faults = refl; absents = refl }, less, told_all s.files _ (λ files limit reached. same files limit))
 
-meets_refused : {A : Type 0} (meaning : Meaning A) (start : ℕ) (next : A → ℕ) (s : LibraryState) (fault : Fault)
+meets_refused : {A : Type 0} (meaning : StageMeaning A) (start : ℕ) (next : A → ℕ) (s : LibraryState) (fault : Fault)
     → ((files : Files) → meaning files None (Err (refused fault))) → IsPartAnswer meaning start next s s (Err (run_fault.Refused fault))
 meets_refused meaning start next s fault same =
     (record { faults = refl; absents = refl }, told_all s.files _ (λ files. same files))
 
-pub answers_then : {A B : Type 0} {first : Meaning A} (second : A → Meaning B) {start : ℕ} {between : A → ℕ} {next : B → ℕ} {s0 s1 s2 : LibraryState} {a : A} {r : Result B RunFault}
+pub answers_then : {A B : Type 0} {first : StageMeaning A} (second : A → StageMeaning B) {start : ℕ} {between : A → ℕ} {next : B → ℕ} {s0 s1 s2 : LibraryState} {a : A} {r : Result B RunFault}
     → Answers first start between s0 s1 (Ok a) → Answers (second a) (between a) next s1 s2 r → Answers (chained first second) start next s0 s2 r
 answers_then {first = first} second {start = start} {between = between} {next = next} {s0 = s0} {s1 = s1} {s2 = s2} {a = a} {r = r} one two =
     record { files = two.files ∙ one.files; meets = meets_then first second start between next s0 s1 s2 a r one.files one.meets two.meets }
 
-pub answers_stop : {A B : Type 0} {first : Meaning A} (second : A → Meaning B) {start : ℕ} {between : A → ℕ} (next : B → ℕ) {s0 s1 : LibraryState} {e : RunFault}
+pub answers_stop : {A B : Type 0} {first : StageMeaning A} (second : A → StageMeaning B) {start : ℕ} {between : A → ℕ} (next : B → ℕ) {s0 s1 : LibraryState} {e : RunFault}
     → Answers first start between s0 s1 (Err e) → Answers (chained first second) start next s0 s1 (Err e)
 answers_stop {first = first} second {start = start} {between = between} next {s0 = s0} {s1 = s1} {e = e} one = record { files = one.files; meets = meets_stop first second start between next s0 s1 e one.meets }
 
-pub answers_value : {A : Type 0} {meaning : Meaning A} {start : ℕ} {next : A → ℕ} {s : LibraryState} {a : A}
+pub answers_value : {A : Type 0} {meaning : StageMeaning A} {start : ℕ} {next : A → ℕ} {s : LibraryState} {a : A}
     → start ≤ next a → ((files : Files) (limit : Option ℕ) → meaning files limit (Ok a)) → Answers meaning start next s s (Ok a)
 answers_value {meaning = meaning} {start = start} {next = next} {s = s} {a = a} less same = record { files = refl; meets = meets_value meaning start next s a less same }
 
-pub answers_refused : {A : Type 0} {meaning : Meaning A} {start : ℕ} {next : A → ℕ} {s : LibraryState} {fault : Fault}
+pub answers_refused : {A : Type 0} {meaning : StageMeaning A} {start : ℕ} {next : A → ℕ} {s : LibraryState} {fault : Fault}
     → ((files : Files) → meaning files None (Err (refused fault))) → Answers meaning start next s s (Err (run_fault.Refused fault))
 answers_refused {meaning = meaning} {start = start} {next = next} {s = s} {fault = fault} same = record { files = refl; meets = meets_refused meaning start next s fault same }
 
 -- want of memory, where no fetch was made since
-pub answers_memory : {A : Type 0} {meaning : Meaning A} {start : ℕ} {next : A → ℕ} {s : LibraryState} → Answers meaning start next s s (Err run_fault.Memory)
+pub answers_memory : {A : Type 0} {meaning : StageMeaning A} {start : ℕ} {next : A → ℕ} {s : LibraryState} → Answers meaning start next s s (Err run_fault.Memory)
 answers_memory = record { files = refl; meets = record { faults = refl; absents = refl } }
 
-gives_from : {A : Type 0} (meaning : Meaning A) (start : ℕ) (next : A → ℕ) (s0 s1 : LibraryState) (r : Result A RunFault) → IsPartAnswer meaning start next s0 s1 r → IsWholeAnswer meaning s0 s1 r
+gives_from : {A : Type 0} (meaning : StageMeaning A) (start : ℕ) (next : A → ℕ) (s0 s1 : LibraryState) (r : Result A RunFault) → IsPartAnswer meaning start next s0 s1 r → IsWholeAnswer meaning s0 s1 r
 gives_from meaning start next s0 s1 (Ok a) one = (one.0, told s0.files _ _ (λ files p. p None tt) one.2)
 gives_from meaning start next s0 s1 (Err run_fault.Memory) one = one
 gives_from meaning start next s0 s1 (Err (run_fault.Refused fault)) one = one
@@ -154,5 +154,5 @@ gives_from meaning start next s0 s1 (Err (run_fault.Absent file)) one = one
 gives_from meaning start next s0 s1 (Err (run_fault.ReadFault file)) one = (one.0, one.2)
 
 -- a part that is whole
-pub ends : {A : Type 0} {meaning : Meaning A} {start : ℕ} {next : A → ℕ} {s0 s1 : LibraryState} {r : Result A RunFault} → Answers meaning start next s0 s1 r → Ends meaning s0 s1 r
+pub ends : {A : Type 0} {meaning : StageMeaning A} {start : ℕ} {next : A → ℕ} {s0 s1 : LibraryState} {r : Result A RunFault} → Answers meaning start next s0 s1 r → EndsAs meaning s0 s1 r
 ends {meaning = meaning} {start = start} {next = next} {s0 = s0} {s1 = s1} {r = r} one = record { files = one.files; gives = gives_from meaning start next s0 s1 r one.meets }

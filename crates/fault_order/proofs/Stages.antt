@@ -7,7 +7,7 @@ use Rattle.fault_order.specs.declared.faults.RunFault.{RunFault}
 use Rattle.fault_order.specs.declared.faults.RunFault.TheVariants as run_fault
 use Rattle.fault_order.proofs.Meeting.{answers_value, answers_refused, answers_memory}
 
--- behind a stage with a value
+-- after a stage with a value
 pub gives_then : {A B : Type 0} (first : Stage A) (second : A → Stage B) (a : A) (r : Result B RunFault) → first (Ok a) → IsStageAnswer (second a) r → IsStageAnswer (After first second) r
 gives_then first second a (Ok b) h g = inr (a, h, g)
 gives_then first second a (Err run_fault.Memory) h g = tt

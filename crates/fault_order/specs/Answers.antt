@@ -2,7 +2,7 @@
 use Rattle.std.specs.Prelude.{◌≡◌, ◌≤◌, ℕ, List, Option, Some, None, Result, Ok, Err, IfSome, Vec}
 use Rattle.std.specs.declared.alloc.Global.{Global}
 use Rattle.outside.specs.State.{Files, LibraryState, Rose}
-use Rattle.fault_order.specs.Order.{refused, absent, unread, Stage, Meaning}
+use Rattle.fault_order.specs.Order.{refused, absent, unread, Stage, StageMeaning}
 use Rattle.fault_order.specs.declared.faults.RunFault.{RunFault}
 use Rattle.fault_order.specs.declared.faults.RunFault.TheVariants as run_fault
 
@@ -12,9 +12,9 @@ Reaches None next = Unit {0}
 Reaches (Some n) next = next ≤ n
 
 -- the bytes of a result
-abbrev pub bytes_of : {E : Type 0} → Result (Vec ℕ Global) E → Result (List ℕ) E
-bytes_of (Ok bytes) = Ok bytes.items
-bytes_of (Err e) = Err e
+abbrev pub result_bytes : {E : Type 0} → Result (Vec ℕ Global) E → Result (List ℕ) E
+result_bytes (Ok bytes) = Ok bytes.items
+result_bytes (Err e) = Err e
 
 -- no count rose
 pub record Still (old new : LibraryState) : Type 0 where
@@ -34,12 +34,12 @@ pub record OneFault (old new : LibraryState) : Type 0 where
   pub rose : Rose old.faults new.faults
 
 -- the file with this number can't be read, and it is the one whose name the library refused
-abbrev pub StopsAt : {A : Type 0} → Meaning A → ℕ → Option (List ℕ) → Files → Type 0
+abbrev pub StopsAt : {A : Type 0} → StageMeaning A → ℕ → Option (List ℕ) → Files → Type 0
 StopsAt meaning file refused_name files =
     (name : List ℕ) × meaning files (Some file) (Err (unread file name)) × IfSome refused_name (λ its. its ≡ name)
 
 -- The answer of a part that fetches files from number `start` on, and after Ok has fetched those below `next`.
-abbrev pub IsPartAnswer : {A : Type 0} → Meaning A → ℕ → (A → ℕ) → LibraryState → LibraryState → Result A RunFault → Type 0
+abbrev pub IsPartAnswer : {A : Type 0} → StageMeaning A → ℕ → (A → ℕ) → LibraryState → LibraryState → Result A RunFault → Type 0
 IsPartAnswer meaning start next old new (Ok value) = Still old new × (start ≤ next value)
     × IfSome old.files (λ files. (limit : Option ℕ) → Reaches limit (next value) → meaning files limit (Ok value))
 IsPartAnswer meaning start next old new (Err run_fault.Memory) = Still old new
@@ -51,19 +51,19 @@ IsPartAnswer meaning start next old new (Err (run_fault.ReadFault file)) = OneFa
     × IfSome old.files (StopsAt meaning file new.refused_name)
 
 -- The files stay, and the answer meets the meaning.
-pub record Answers {A : Type 0} (meaning : Meaning A) (start : ℕ) (next : A → ℕ) (old new : LibraryState) (result : Result A RunFault) : Type 0 where
+pub record Answers {A : Type 0} (meaning : StageMeaning A) (start : ℕ) (next : A → ℕ) (old new : LibraryState) (result : Result A RunFault) : Type 0 where
   pub files : new.files ≡ old.files
   pub meets : IsPartAnswer meaning start next old new result
 
 -- The answer of a whole part: its value, or what stopped it.
-abbrev pub IsWholeAnswer : {A : Type 0} → Meaning A → LibraryState → LibraryState → Result A RunFault → Type 0
+abbrev pub IsWholeAnswer : {A : Type 0} → StageMeaning A → LibraryState → LibraryState → Result A RunFault → Type 0
 IsWholeAnswer meaning old new (Ok value) = Still old new × IfSome old.files (λ files. meaning files None (Ok value))
 IsWholeAnswer meaning old new (Err run_fault.Memory) = Still old new
 IsWholeAnswer meaning old new (Err (run_fault.Refused fault)) = Still old new × IfSome old.files (λ files. meaning files None (Err (refused fault)))
 IsWholeAnswer meaning old new (Err (run_fault.Absent file)) = OneAbsent old new × IfSome old.files (λ files. meaning files None (Err (absent file)))
 IsWholeAnswer meaning old new (Err (run_fault.ReadFault file)) = OneFault old new × IfSome old.files (StopsAt meaning file new.refused_name)
 
-pub record Ends {A : Type 0} (meaning : Meaning A) (old new : LibraryState) (result : Result A RunFault) : Type 0 where
+pub record EndsAs {A : Type 0} (meaning : StageMeaning A) (old new : LibraryState) (result : Result A RunFault) : Type 0 where
   pub files : new.files ≡ old.files
   pub gives : IsWholeAnswer meaning old new result
 

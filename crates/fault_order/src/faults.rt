@@ -39,7 +39,7 @@ pub enum Fault {
     NotExhaustive { decl: usize, token: usize },
     /// 33: a clause of another form.
     BadClause { decl: usize, clause: usize },
-    /// 34: a clause in which a predicate of its group stands in a place that isn't allowed.
+    /// 34: a clause in which a predicate of its group is in a place that isn't allowed.
     NotPositive { decl: usize, clause: usize },
     /// 35: no choice of argument positions descends.
     NotStructural { decl: usize },

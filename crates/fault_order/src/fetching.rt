@@ -1,7 +1,7 @@
 // The files that a run fetches, by their numbers.
 // It depends on the library; the files of all parts of a run go through it.
 ghost use Rattle.std.specs.Prelude.{◌+◌};
-ghost use Rattle.fault_order.specs.Answers.{Answers, bytes_of};
+ghost use Rattle.fault_order.specs.Answers.{Answers, result_bytes};
 ghost use Rattle.fault_order.specs.Order.{ShortFile, WholeFile};
 
 use crate::{Fault, RunFault};
@@ -13,7 +13,7 @@ const MOST: usize = 67_108_865;
 /// A file of at most 67,108,864 bytes, which is fetched with this number.
 pub fn fetch_short<L: Library>(lib: &mut L, file: usize, name: &str) -> Result<Vec<u8>, RunFault>
     ensures { Answers (ShortFile file name.now) file (λ _. file + 1) (L.state lib.old)
-        (L.state lib.new) (bytes_of result) }
+        (L.state lib.new) (result_bytes result) }
 {
     match lib.fetch(name, MOST) {
         Ok(bytes) => {
@@ -32,7 +32,7 @@ pub fn fetch_short<L: Library>(lib: &mut L, file: usize, name: &str) -> Result<V
 /// A whole file, which is fetched with this number.
 pub fn fetch_whole<L: Library>(lib: &mut L, file: usize, name: &str) -> Result<Vec<u8>, RunFault>
     ensures { Answers (WholeFile file name.now) file (λ _. file + 1) (L.state lib.old)
-        (L.state lib.new) (bytes_of result) }
+        (L.state lib.new) (result_bytes result) }
 {
     match lib.fetch(name, usize::MAX) {
         Ok(bytes) => Ok(bytes),

@@ -12,7 +12,7 @@ use Rattle.tasks.specs.declared.signature.SymbolInfo.{SymbolInfo}
 use Rattle.tasks.specs.Meaning.{symbol_at, symbols_at}
 use Rattle.elab_parts.specs.Entries.{builtin, projections, tuple_entries, tuple_in}
 use Rattle.named_symbols.specs.Named.{is_among}
-use Rattle.named_symbols.specs.Gathered.{Gains}
+use Rattle.named_symbols.specs.Gathered.{GainsSymbols}
 use Rattle.goal_tasks.specs.Tuples.{tuples_of, tuples_in, tuple_declaration}
 use Rattle.goal_tasks.specs.Meaning.{IsTupleAt, AreTuples}
 
@@ -81,7 +81,7 @@ same_over : (ks ns : List ℕ) → ((k : ℕ) → is_among ks k ≡ is_among ns 
 same_over ks ns e symbols [] = refl
 same_over ks ns e symbols (m ∷ ms) = ap (λ z. z ++ flat_map (λ m. tuples_of ks m (tuple_in symbols m)) ms) (same_of ks ns e m (tuple_in symbols m)) ∙ ap (λ z. tuples_of ns m (tuple_in symbols m) ++ z) (same_over ks ns e symbols ms)
 
-pub tuples_same : (symbols : List SymbolTree) (found ks : List ℕ) → Gains [] found ks → tuples_in symbols found ≡ tuples_in symbols ks
+pub tuples_same : (symbols : List SymbolTree) (found ks : List ℕ) → GainsSymbols [] found ks → tuples_in symbols found ≡ tuples_in symbols ks
 tuples_same symbols found ks g = same_over found ks g.each symbols (range_with_len 0 (length symbols))
 
 -- ---- the entries in code

@@ -9,7 +9,7 @@ use Rattle.elab_parts.specs.Entries.{tuple_in, tuple_entries}
 use Rattle.goal_tasks.specs.declared.theories.GoalAt.{GoalAt}
 use Rattle.goal_tasks.specs.declared.theories.Theory.{Theory}
 use Rattle.goal_tasks.specs.declared.theories.Theories.{Theories}
-use Rattle.goal_tasks.specs.Theories.{GoalTree, TheoryTree, TheoriesTree}
+use Rattle.goal_tasks.specs.Theories.{GoalTree, KnownTheoryTree, TheoriesTree}
 
 abbrev pub goal_at : List Tree → GoalAt → GoalTree
 goal_at s g = record { name = g.name; before = g.before; prop = tree_at s g.prop; rigid = g.rigid }
@@ -19,7 +19,7 @@ abbrev pub placed : List Decl → List ℕ → List Decl
 placed ds [] = []
 placed ds (k ∷ ks) = option_to_list (slice_get ds k) ++ placed ds ks
 
-abbrev pub theory_at : List Tree → List Decl → Theory → TheoryTree
+abbrev pub theory_at : List Tree → List Decl → Theory → KnownTheoryTree
 theory_at s ds t = record { path = t.path; decls = declarations_at s (placed ds t.visible); goals = map (goal_at s) t.goals }
 
 abbrev pub theories_at : List Tree → Theories → TheoriesTree
@@ -33,7 +33,7 @@ pub record TheoryHeld (s : List Tree) (decls : List Decl) (t : Theory) : Type 0 
   pub goals : All (GoalHeld s) t.goals
 
 -- the numbers in theories are held
-pub record AreHeld (s : List Tree) (all : Theories) : Type 0 where
+pub record AllTheoriesHeld (s : List Tree) (all : Theories) : Type 0 where
   pub symbols : All (SymbolHeld s) all.sig.value.symbols
   pub decls : All (DeclHeld s) all.decls
   pub theories : All (TheoryHeld s all.decls) all.list

@@ -3,22 +3,22 @@ use Rattle.std.specs.Prelude.{◌≡◌, ℕ, List, [], ◌++◌, take, IsSomeAn
 use Rattle.tasks.specs.Task.{DeclarationTree, TaskTree}
 use Rattle.named_symbols.specs.Named.{named, declarations_named}
 use Rattle.goal_tasks.specs.Tuples.{tuples_in}
-use Rattle.goal_tasks.specs.Theories.{GoalTree, TheoryTree, TheoriesTree, theory_named, goal_named}
+use Rattle.goal_tasks.specs.Theories.{GoalTree, KnownTheoryTree, TheoriesTree, theory_named, goal_named}
 
-abbrev pub before : TheoryTree → GoalTree → List DeclarationTree
-before t g = take g.before t.decls
+abbrev pub declarations_before : KnownTheoryTree → GoalTree → List DeclarationTree
+declarations_before t g = take g.before t.decls
 
--- the symbols that stand in a goal and the declarations before it
-abbrev pub task_named : TheoriesTree → TheoryTree → GoalTree → List ℕ
-task_named all t g = declarations_named all.symbols (before t g) ++ named g.prop
+-- the symbols that are in a goal and the declarations before it
+abbrev pub task_named : TheoriesTree → KnownTheoryTree → GoalTree → List ℕ
+task_named all t g = declarations_named all.symbols (declarations_before t g) ++ named g.prop
 
 -- without parameters and locals
-abbrev pub task_for : TheoriesTree → TheoryTree → GoalTree → TaskTree
+abbrev pub task_for : TheoriesTree → KnownTheoryTree → GoalTree → TaskTree
 task_for all t g = record {
   symbols = all.symbols;
   ints = all.ints;
   rigid = g.rigid;
-  decls = tuples_in all.symbols (task_named all t g) ++ before t g;
+  decls = tuples_in all.symbols (task_named all t g) ++ declarations_before t g;
   params = [];
   locals = [];
   goal = g.prop;

@@ -1,4 +1,4 @@
--- Theories with the declarations that stand in them, and the goals that can be named (Why3 manual, "theories").
+-- Theories with the declarations that are in them, and the goals that can be named (Why3 manual, "theories").
 use Rattle.std.specs.Prelude.{ℕ, Bool, List, drop, reverse, Option}
 use Rattle.std.specs.List.{find}
 use Rattle.std.specs.Str.{bytes_eq}
@@ -6,7 +6,7 @@ use Rattle.trees.specs.declared.ints.Ints.{Ints}
 use Rattle.trees.specs.Tree.{Tree}
 use Rattle.tasks.specs.Task.{SymbolTree, DeclarationTree}
 
--- a goal, or a lemma that can be named: its name after the names of its scopes, joined by dots; how many declarations stand before
+-- a goal, or a lemma that can be named: its name after the names of its scopes, joined by dots; how many declarations are before
 -- it; its proposition with the types of its own type variables, and the entries of these
 pub record GoalTree : Type 0 where
   pub name : List ℕ
@@ -15,7 +15,7 @@ pub record GoalTree : Type 0 where
   pub rigid : List ℕ
 
 -- the declarations that are visible at its end, goals left out
-pub record TheoryTree : Type 0 where
+pub record KnownTheoryTree : Type 0 where
   pub path : List ℕ
   pub decls : List DeclarationTree
   pub goals : List GoalTree
@@ -25,18 +25,18 @@ pub record TheoriesTree : Type 0 where
   pub symbols : List SymbolTree
   pub ints : Option Ints
   pub embedded : ℕ
-  pub list : List TheoryTree
+  pub list : List KnownTheoryTree
 
-abbrev pub has_path : List ℕ → TheoryTree → Bool
+abbrev pub has_path : List ℕ → KnownTheoryTree → Bool
 has_path path t = bytes_eq t.path path
 
 abbrev pub has_name : List ℕ → GoalTree → Bool
 has_name name g = bytes_eq g.name name
 
 -- a theory of the source
-abbrev pub theory_named : TheoriesTree → List ℕ → Option TheoryTree
+abbrev pub theory_named : TheoriesTree → List ℕ → Option KnownTheoryTree
 theory_named all path = find (has_path path) (drop all.embedded all.list)
 
 -- the last goal of a name
-abbrev pub goal_named : TheoryTree → List ℕ → Option GoalTree
+abbrev pub goal_named : KnownTheoryTree → List ℕ → Option GoalTree
 goal_named t name = find (has_name name) (reverse t.goals)

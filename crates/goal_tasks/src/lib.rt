@@ -1,4 +1,4 @@
-//! Theories with their goals, and the task of a goal: the declarations that stand before it, after those of tuples.
+//! Theories with their goals, and the task of a goal: the declarations that are before it, after those of tuples.
 //! It depends on the tasks and on the entries of tuples; the typing of sources makes theories.
 #![tactic(auto)]
 

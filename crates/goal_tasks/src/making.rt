@@ -1,13 +1,13 @@
 // The task of a goal.
-// It depends on the theories, the symbols that stand in declarations, and the declarations of tuples.
+// It depends on the theories, the symbols that are in declarations, and the declarations of tuples.
 ghost use Rattle.std.specs.Prelude.{◌≡◌, ◌++◌, ◌↔◌, take, slice_get, option_to_list, All, IfOk, OnOk, IsNone, IsSomeAnd};
 ghost use Rattle.trees.specs.Node.{tree_at, Holds};
 ghost use Rattle.tasks.specs.Meaning.{declarations_at, symbols_at, task_at, SymbolHeld, DeclHeld, TaskHeld};
 ghost use Rattle.named_symbols.specs.Named.{named, declarations_named};
 ghost use Rattle.goal_tasks.specs.Theories.{theory_named, goal_named};
 ghost use Rattle.goal_tasks.specs.Tuples.{tuples_in};
-ghost use Rattle.goal_tasks.specs.Tasks.{before, task_for, IsTaskOf};
-ghost use Rattle.goal_tasks.specs.Meaning.{goal_at, theory_at, theories_at, placed, GoalHeld, TheoryHeld, AreHeld, AreTuples};
+ghost use Rattle.goal_tasks.specs.Tasks.{declarations_before, task_for, IsTaskOf};
+ghost use Rattle.goal_tasks.specs.Meaning.{goal_at, theory_at, theories_at, placed, GoalHeld, TheoryHeld, AllTheoriesHeld, AreTuples};
 
 use crate::theories::{find_goal, find_theory};
 use crate::tuples::tuples_in;
@@ -61,7 +61,7 @@ fn declarations_at(
     Ok(out)
 }
 
-// The declarations that stand before a goal of a theory.
+// The declarations that are before a goal of a theory.
 fn decls_before(
     alloc: Global,
     store: &Store,
@@ -72,7 +72,8 @@ fn decls_before(
     requires decls_held { All (DeclHeld store.now) decls.now }
     requires theory_held { TheoryHeld store.now decls.now theory.now }
     ensures tree { IfOk result (λ v. declarations_at store.now v.items
-        ≡ before (theory_at store.now decls.now theory.now) (goal_at store.now goal.now)) }
+        ≡ declarations_before (theory_at store.now decls.now theory.now)
+        (goal_at store.now goal.now)) }
     ensures held { IfOk result (λ v. All (DeclHeld store.now) v.items) }
 {
     let _ = store;
@@ -113,7 +114,7 @@ fn make_task(
     theory: &Theory,
     goal: &GoalAt,
 ) -> Result<Task, AllocError>
-    requires held { AreHeld store.now all.now }
+    requires held { AllTheoriesHeld store.now all.now }
     requires tuples { AreTuples (symbols_at store.now all.now.sig.value.symbols) }
     requires theory_held { TheoryHeld store.now all.now.decls theory.now }
     requires goal_held { GoalHeld store.now goal.now }
@@ -134,7 +135,7 @@ fn make_task(
     })
 }
 
-/// The task of the goal with this name in the theory of the source with this path: the declarations that stand before it, after
+/// The task of the goal with this name in the theory of the source with this path: the declarations that are before it, after
 /// those of the tuples that occur in them or in the goal, in ascending width. Where several goals have the name, it is the last
 /// one. A theory of the embedded library is none of the source's.
 ///
@@ -147,7 +148,7 @@ pub fn task_of(
     theory: &str,
     goal: &str,
 ) -> Result<Task, TaskFault>
-    requires held { AreHeld store.now all.now }
+    requires held { AllTheoriesHeld store.now all.now }
     requires tuples { AreTuples (symbols_at store.now all.now.sig.value.symbols) }
     ensures task { IfOk result (λ t. IsTaskOf (theories_at store.now all.now) theory.now goal.now
         (task_at store.now t)) }

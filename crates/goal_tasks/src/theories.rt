@@ -1,4 +1,4 @@
-// Theories with the declarations that stand in them, and the goals that can be named.
+// Theories with the declarations that are in them, and the goals that can be named.
 // They depend on the tasks' declarations; the task of a goal is made from them.
 ghost use Rattle.std.specs.Prelude.{◌≡◌, length, map, drop, reverse, All, IfSome};
 ghost use Rattle.std.specs.List.{find};
@@ -17,7 +17,7 @@ use trees::TermId;
 pub struct GoalAt {
     /// Its name after the names of its scopes, joined by dots.
     pub name: Text,
-    /// The number of visible declarations that stand before it.
+    /// The number of visible declarations that are before it.
     pub before: usize,
     /// Its proposition with the types of its own type variables.
     pub prop: TermId,

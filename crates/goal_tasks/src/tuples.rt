@@ -6,7 +6,7 @@ ghost use Rattle.tasks.specs.Task.{symbol_or};
 ghost use Rattle.tasks.specs.Meaning.{symbol_at, symbols_at, con_at, algebraics_at, declaration_at, declarations_at, SymbolHeld, ConHeld, AlgebraicHeld, DeclHeld};
 ghost use Rattle.trees.specs.Tree.{Tree};
 ghost use Rattle.elab_names.specs.Naming.{tuple_in};
-ghost use Rattle.goal_tasks.specs.Tuples.{symbol_of_width, tuple_constructor, tuple_type, tuple_declaration, occurs, tuples_of, tuples_in};
+ghost use Rattle.goal_tasks.specs.Tuples.{symbol_of_width, tuple_constructor, tuple_algebraic, tuple_declaration, tuple_occurs, tuples_of, tuples_in};
 ghost use Rattle.goal_tasks.specs.Meaning.{IsTupleAt, AreTuples};
 
 use elab_names::is_tuple;
@@ -75,7 +75,7 @@ fn tuple_types(
     requires symbols_held { All (SymbolHeld store.now) sig.now.symbols }
     requires at { IsTupleAt (symbols_at store.now sig.now.symbols) width symbol }
     ensures tree { IfOk result (λ v. algebraics_at store.now v
-        ≡ tuple_type width (symbol - 1) ∷ []) }
+        ≡ tuple_algebraic width (symbol - 1) ∷ []) }
     ensures held { IfOk result (All (AlgebraicHeld store.now)) }
 {
     let con = tuple_con(alloc, store, sig, width, symbol)?;
@@ -151,7 +151,7 @@ fn tuple_named(names: &[TupleName], width: usize) -> Option<usize>
 // Whether the tuples with this constructor occur.
 fn occurs(found: &IndexSet<usize>, symbol: usize) -> bool
     requires { 0 < symbol }
-    ensures { result ≡ occurs found.now.keys symbol }
+    ensures { result ≡ tuple_occurs found.now.keys symbol }
 {
     let ty = symbol - 1;
     found.contains(&symbol) || found.contains(&ty)

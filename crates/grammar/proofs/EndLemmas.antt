@@ -1,5 +1,5 @@
 -- The longest token string, and what nothing completes.
-use Rattle.grammar.proofs.Common.{◌≡◌, ℕ, zero, suc, ◌+◌, ◌<◌, ◌≤◌, ◌⊎◌, inl, inr, Bool, true, false, ◌&&◌, cond, List, [], ◌∷◌, ◌++◌, length, take, drop, reverse, get_or, Option, Some, None, refl, sym, ap, ◌∙◌, subst, arith, add-one, drop-cons, reverse-append, take_all, Terminal, Symbol, optional, step, next, run, may_end, ends, accepts, is_safe, is_taken, complete, IsStep, IsLongest, Completes, TakesAll}
+use Rattle.grammar.proofs.Common.{◌≡◌, ℕ, zero, suc, ◌+◌, ◌<◌, ◌≤◌, ◌⊎◌, inl, inr, Bool, true, false, ◌&&◌, cond, List, [], ◌∷◌, ◌++◌, length, take, drop, reverse, get_or, Option, Some, None, refl, sym, ap, ◌∙◌, subst, arith, add-one, drop-cons, reverse-append, take_all, Terminal, Symbol, optional, step, next_stack, run, may_end, ends, accepts, is_safe, is_taken, complete, IsStep, IsLongest, Completes, TakesAll}
 use Rattle.grammar.proofs.Laws.{accepted_begins, begun_completes, run_append}
 use Rattle.grammar.proofs.Steps.{next_some}
 
@@ -35,7 +35,7 @@ run_none (suc n) zero xs k h e = absurd (omega arith)
 run_none (suc n) (suc m) [] k h e = cc
 run_none (suc n) (suc m) (x ∷ xs) k h e = by_step (step false k x) (λ j. run_none n m xs j (omega arith)) e
   where
-    by_step : (o : Option (List Symbol)) → ((j : List Symbol) → run j (take n xs) ≡ None → run j (take m xs) ≡ None) → next (λ j. run j (take n xs)) o ≡ None → next (λ j. run j (take m xs)) o ≡ None
+    by_step : (o : Option (List Symbol)) → ((j : List Symbol) → run j (take n xs) ≡ None → run j (take m xs) ≡ None) → next_stack (λ j. run j (take n xs)) o ≡ None → next_stack (λ j. run j (take m xs)) o ≡ None
     by_step None f e = refl
     by_step (Some j) f e = f j e
 
@@ -71,7 +71,7 @@ longest_stuck k xs i r h e g = by_best r g
 pub stuck_all : (k : List Symbol) (xs : List Terminal) (i : ℕ) → i < length xs → run k (take (i + 1) xs) ≡ None → run k xs ≡ None
 stuck_all k xs i h e = ap (run k) (sym (take_all (length xs) xs (omega arith))) ∙ run_none (i + 1) (length xs) xs k (omega arith) e
 
--- what isn't taken is completed by nothing, and what is taken is by the stack behind it
+-- what isn't taken is completed by nothing, and what is taken is by the stack after it
 pub never : (k : List Symbol) (xs : List Terminal) → run k xs ≡ None → Completes k xs None
 never k xs h ys = by_accepted (accepts k (xs ++ ys)) refl
   where
@@ -91,7 +91,7 @@ unaccepted k j xs n t h f = by_place (grind (arith, t.within))
     by_place (inr e) = ap ends (ap (run k) (sym (take_all n xs (omega (arith, e)))) ∙ h) ∙ f e
 
 pub step_behind : (k j : List Symbol) (xs : List Terminal) (y : Terminal) → run k xs ≡ Some j → run k (xs ++ y ∷ []) ≡ step false j y
-step_behind k j xs y h = run_append xs (y ∷ []) k ∙ ap (next (λ l. run l (y ∷ []))) h ∙ next_some (step false j y)
+step_behind k j xs y h = run_append xs (y ∷ []) k ∙ ap (next_stack (λ l. run l (y ∷ []))) h ∙ next_some (step false j y)
 
 pub whether : (t : Option (List Symbol)) (b : Bool) (l : List Symbol) → IsStep t b l → b ≡ is_taken t
 whether (Some k) b l p = p.0

@@ -1,5 +1,5 @@
 -- The laws of the machine: a stack is completed by its shortest strings.
-use Rattle.grammar.proofs.Common.{◌≡◌, ℕ, zero, suc, Bool, true, false, not, ◌&&◌, ◌||◌, nat_le, nat_eq, cond, List, [], ◌∷◌, ◌++◌, Option, Some, None, refl, sym, ap, ◌∙◌, subst, arith, append_assoc, Terminal, Symbol, number, same, operators, terminals, prec, need, right, Line, line, tail_of, open_rows, prim_rows, extend, rows, optional, shortest, leftovers, find, takes, is_seal, sealed, on_top, step, may_end, next, run, ends, accepts, complete, untaken, none_takes, may_follow, first_or, lead, is_safe}
+use Rattle.grammar.proofs.Common.{◌≡◌, ℕ, zero, suc, Bool, true, false, not, ◌&&◌, ◌||◌, nat_le, nat_eq, cond, List, [], ◌∷◌, ◌++◌, Option, Some, None, refl, sym, ap, ◌∙◌, subst, arith, append_assoc, Terminal, Symbol, terminal_number, same, operators, all_terminals, prec, need, right, Production, production, tail_of, open_productions, prim_productions, with_symbols_after, productions, optional, shortest, leftovers, find_production, takes, is_seal, sealed, on_top, step, may_end, next_stack, run, ends, accepts, complete, untaken, none_takes, may_follow, first_or, lead, is_safe}
 use Rattle.std.proofs.lemmas.Bool.Decides.{nat_tests}
 use Rattle.tokens_why.specs.declared.terminal.Terminal.TheVariants as t
 use Rattle.grammar.specs.declared.symbols.Symbol.TheVariants as s
@@ -19,7 +19,7 @@ pub and_both : (a b : Bool) → a ≡ true → b ≡ true → (a && b) ≡ true
 and_both true b h i = i
 and_both false b h i = absurd (no_false h)
 
--- The table is safe: what may stand behind a rule may stand behind each of its rows.
+-- The table is safe: what may come after a rule may come after each of its rows.
 abbrev all : (Terminal → Bool) → List Terminal → Bool
 all f [] = true
 all f (y ∷ ys) = f y && all f ys
@@ -28,9 +28,9 @@ abbrev fits : Symbol → List Symbol → Option Terminal → Bool
 fits s ss y = not (may_follow s y) || is_safe ss y
 
 abbrev line_fits : Symbol → List Symbol → Bool
-line_fits s ss = fits s ss None && all (λ y. fits s ss (Some y)) terminals
+line_fits s ss = fits s ss None && all (λ y. fits s ss (Some y)) all_terminals
 
-abbrev lines_fit : Symbol → List Line → Bool
+abbrev lines_fit : Symbol → List Production → Bool
 lines_fit s [] = true
 lines_fit s (r ∷ rs) = line_fits s r.behind && lines_fit s rs
 
@@ -38,15 +38,15 @@ tail_checked : (m u v w : ℕ) (os : List Terminal) → lines_fit (s.Tail m u) (
 tail_checked m u v w [] = refl
 tail_checked m u v w (o ∷ os) = by_test (nat_le v (prec o) && nat_le (need o) w) (tail_checked m u v w os)
   where
-    by_test : (b : Bool) → lines_fit (s.Tail m u) (tail_of v w os) ≡ true → lines_fit (s.Tail m u) (cond b (line o (s.Expr (right o) ∷ s.Tail v (prec o) ∷ []) ∷ tail_of v w os) (tail_of v w os)) ≡ true
+    by_test : (b : Bool) → lines_fit (s.Tail m u) (tail_of v w os) ≡ true → lines_fit (s.Tail m u) (cond b (production o (s.Expr (right o) ∷ s.Tail v (prec o) ∷ []) ∷ tail_of v w os) (tail_of v w os)) ≡ true
     by_test true h = h
     by_test false h = h
 
-expr_checked : (m : ℕ) (b : Bool) → lines_fit (s.Expr m) (cond b (line t.NotWord (s.Expr 3 ∷ s.Tail m 3 ∷ []) ∷ []) [] ++ ((line t.Minus (s.Expr 8 ∷ s.Tail m 8 ∷ []) ∷ line t.PrefixOperator (s.Expr 8 ∷ s.Tail m 8 ∷ []) ∷ []) ++ (open_rows ++ extend prim_rows (s.Tail m 9 ∷ [])))) ≡ true
+expr_checked : (m : ℕ) (b : Bool) → lines_fit (s.Expr m) (cond b (production t.NotWord (s.Expr 3 ∷ s.Tail m 3 ∷ []) ∷ []) [] ++ ((production t.Minus (s.Expr 8 ∷ s.Tail m 8 ∷ []) ∷ production t.PrefixOperator (s.Expr 8 ∷ s.Tail m 8 ∷ []) ∷ []) ++ (open_productions ++ with_symbols_after prim_productions (s.Tail m 9 ∷ [])))) ≡ true
 expr_checked m true = refl
 expr_checked m false = refl
 
-checked : (s : Symbol) → lines_fit s (rows s) ≡ true
+checked : (s : Symbol) → lines_fit s (productions s) ≡ true
 checked (s.Take x) = refl
 checked (s.Expr m) = expr_checked m (nat_le m 3)
 checked (s.Tail m u) = tail_checked m u m u operators
@@ -56,7 +56,7 @@ abbrev member : Terminal → List Terminal → Bool
 member y [] = false
 member y (x ∷ xs) = same x y || member y xs
 
-listed : (y : Terminal) → member y terminals ≡ true
+listed : (y : Terminal) → member y all_terminals ≡ true
 listed t.Lident = refl
 listed _ = refl
 
@@ -66,7 +66,7 @@ nth [] n = t.OtherWord
 nth (x ∷ xs) zero = x
 nth (x ∷ xs) (suc n) = nth xs n
 
-numbered : (y : Terminal) → nth terminals (number y) ≡ y
+numbered : (y : Terminal) → nth all_terminals (terminal_number y) ≡ y
 numbered t.Lident = refl
 numbered _ = refl
 
@@ -100,15 +100,15 @@ operators_only t.Operator3 h = cc
 operators_only t.Operator4 h = cc
 operators_only _ h = refl
 
-tail_silent : (m u : ℕ) (os : List Terminal) (y : Terminal) → differ os y ≡ true → find (tail_of m u os) y ≡ None
+tail_silent : (m u : ℕ) (os : List Terminal) (y : Terminal) → differ os y ≡ true → find_production (tail_of m u os) y ≡ None
 tail_silent m u [] y h = refl
 tail_silent m u (o ∷ os) y h = by_test (nat_le m (prec o) && nat_le (need o) u) (tail_silent m u os y (and_right (not (same o y)) (differ os y) h))
   where
-    by_same : (b : Bool) → not b ≡ true → find (tail_of m u os) y ≡ None → cond b (Some (s.Expr (right o) ∷ s.Tail m (prec o) ∷ [])) (find (tail_of m u os) y) ≡ None
+    by_same : (b : Bool) → not b ≡ true → find_production (tail_of m u os) y ≡ None → cond b (Some (s.Expr (right o) ∷ s.Tail m (prec o) ∷ [])) (find_production (tail_of m u os) y) ≡ None
     by_same true i j = absurd (no_false i)
     by_same false i j = j
 
-    by_test : (b : Bool) → find (tail_of m u os) y ≡ None → find (cond b (line o (s.Expr (right o) ∷ s.Tail m (prec o) ∷ []) ∷ tail_of m u os) (tail_of m u os)) y ≡ None
+    by_test : (b : Bool) → find_production (tail_of m u os) y ≡ None → find_production (cond b (production o (s.Expr (right o) ∷ s.Tail m (prec o) ∷ []) ∷ tail_of m u os) (tail_of m u os)) y ≡ None
     by_test true j = by_same (same o y) (and_left (not (same o y)) (differ os y) h) j
     by_test false j = j
 
@@ -136,7 +136,7 @@ silent s.Scoped y o h = first s.Scoped [] y h
 silent s.Args y o h = first s.Args (s.Scoped ∷ []) y h
 silent _ y o h = absurd (no_false o)
 
--- A shortest string begins with a terminal that its rule takes, and goes on with those of the symbols behind.
+-- A shortest string begins with a terminal that its rule takes, and goes on with those of the symbols after.
 data Starts (s : Symbol) : Type 0 where
   empty : optional s ≡ true → shortest s ≡ [] → Starts s
   due : (x : Terminal) (ss : List Symbol) → takes s x ≡ Some ss → shortest s ≡ x ∷ complete ss → optional s ≡ false → Starts s
@@ -145,9 +145,9 @@ pub same_refl : (n : ℕ) → nat_eq n n ≡ true
 same_refl n = search (arith)
 
 take_starts : (x : Terminal) → takes (s.Take x) x ≡ Some []
-take_starts x = ap (λ b. cond b (Some []) None) (same_refl (number x))
+take_starts x = ap (λ b. cond b (Some []) None) (same_refl (terminal_number x))
 
-expr_starts : (m : ℕ) (b : Bool) → find (cond b (line t.NotWord (s.Expr 3 ∷ s.Tail m 3 ∷ []) ∷ []) [] ++ ((line t.Minus (s.Expr 8 ∷ s.Tail m 8 ∷ []) ∷ line t.PrefixOperator (s.Expr 8 ∷ s.Tail m 8 ∷ []) ∷ []) ++ (open_rows ++ extend prim_rows (s.Tail m 9 ∷ [])))) t.StarName ≡ Some (s.Args ∷ s.Tail m 9 ∷ [])
+expr_starts : (m : ℕ) (b : Bool) → find_production (cond b (production t.NotWord (s.Expr 3 ∷ s.Tail m 3 ∷ []) ∷ []) [] ++ ((production t.Minus (s.Expr 8 ∷ s.Tail m 8 ∷ []) ∷ production t.PrefixOperator (s.Expr 8 ∷ s.Tail m 8 ∷ []) ∷ []) ++ (open_productions ++ with_symbols_after prim_productions (s.Tail m 9 ∷ [])))) t.StarName ≡ Some (s.Args ∷ s.Tail m 9 ∷ [])
 expr_starts m true = refl
 expr_starts m false = refl
 
@@ -214,7 +214,7 @@ nat_eq_true : (m n : ℕ) → nat_eq m n ≡ true → m ≡ n
 nat_eq_true m n h = grind (arith, nat_tests)
 
 pub same_true : (x y : Terminal) → same x y ≡ true → x ≡ y
-same_true x y h = sym (numbered x) ∙ ap (nth terminals) (nat_eq_true (number x) (number y) h) ∙ numbered y
+same_true x y h = sym (numbered x) ∙ ap (nth all_terminals) (nat_eq_true (terminal_number x) (terminal_number y) h) ∙ numbered y
 
 all_at : (f : Terminal → Bool) (ys : List Terminal) (y : Terminal) → all f ys ≡ true → member y ys ≡ true → f y ≡ true
 all_at f [] y h i = absurd (no_false i)
@@ -234,14 +234,14 @@ lead_complete (s ∷ k) = ap (first_or (shortest s)) (lead_complete k) ∙ joine
     joined (x ∷ xs) ys = refl
 
 follows : (s : Symbol) (ss : List Symbol) (y : Option Terminal) → line_fits s ss ≡ true → fits s ss y ≡ true
-follows s ss None h = and_left (fits s ss None) (all (λ y. fits s ss (Some y)) terminals) h
-follows s ss (Some y) h = all_at (λ z. fits s ss (Some z)) terminals y (and_right (fits s ss None) (all (λ z. fits s ss (Some z)) terminals) h) (listed y)
+follows s ss None h = and_left (fits s ss None) (all (λ y. fits s ss (Some y)) all_terminals) h
+follows s ss (Some y) h = all_at (λ z. fits s ss (Some z)) all_terminals y (and_right (fits s ss None) (all (λ z. fits s ss (Some z)) all_terminals) h) (listed y)
 
-lines_found : (s : Symbol) (rs : List Line) (x : Terminal) (ss : List Symbol) (y : Option Terminal) → lines_fit s rs ≡ true → find rs x ≡ Some ss → may_follow s y ≡ true → is_safe ss y ≡ true
+lines_found : (s : Symbol) (rs : List Production) (x : Terminal) (ss : List Symbol) (y : Option Terminal) → lines_fit s rs ≡ true → find_production rs x ≡ Some ss → may_follow s y ≡ true → is_safe ss y ≡ true
 lines_found s [] x ss y h i j = cc
 lines_found s (r ∷ rs) x ss y h i j = by_test (same r.first x) i (λ e. lines_found s rs x ss y (and_right (line_fits s r.behind) (lines_fit s rs) h) e j)
   where
-    by_test : (b : Bool) → cond b (Some r.behind) (find rs x) ≡ Some ss → (find rs x ≡ Some ss → is_safe ss y ≡ true) → is_safe ss y ≡ true
+    by_test : (b : Bool) → cond b (Some r.behind) (find_production rs x) ≡ Some ss → (find_production rs x ≡ Some ss → is_safe ss y ≡ true) → is_safe ss y ≡ true
     by_test true e f = let same_list : r.behind ≡ ss = cc in
         subst (λ v. is_safe v y ≡ true) same_list (implied (may_follow s y) (is_safe r.behind y) (follows s r.behind y (and_left (line_fits s r.behind) (lines_fit s rs) h)) j)
     by_test false e f = f e
@@ -249,7 +249,7 @@ lines_found s (r ∷ rs) x ss y h i j = by_test (same r.first x) i (λ e. lines_
 -- a symbol's row on top of a safe stack is safe
 row_safe : (s : Symbol) (k ss : List Symbol) (x : Terminal) → is_safe (s ∷ k) None ≡ true → takes s x ≡ Some ss → is_safe (ss ++ k) None ≡ true
 row_safe s k ss x h i = safe_append ss k None
-    (lines_found s (rows s) x ss (lead k None) (checked s) i (and_left (may_follow s (lead k None)) (is_safe k None) h))
+    (lines_found s (productions s) x ss (lead k None) (checked s) i (and_left (may_follow s (lead k None)) (is_safe k None) h))
     (and_right (may_follow s (lead k None)) (is_safe k None) h)
 
 tail_empty : (b : Bool) (s : Symbol) → sealed b s ≡ true → shortest s ≡ []
@@ -310,7 +310,7 @@ ends_empty (s ∷ k) h = by_starts (starts s) (λ e. ends_empty k e)
 pub completes : (xs : List Terminal) (k : List Symbol) → is_safe k None ≡ true → complete k ≡ xs → accepts k xs ≡ true
 completes [] k h i = ends_empty k i
 completes (x ∷ xs) k h i = let o = onward false k x xs h i in
-    ap (λ v. ends (next (λ j. run j xs) v)) o.steps ∙ completes xs o.stack o.safe o.rest
+    ap (λ v. ends (next_stack (λ j. run j xs) v)) o.steps ∙ completes xs o.stack o.safe o.rest
 
 -- A step leaves a safe stack safe.
 pub step_safe : (b : Bool) (k j : List Symbol) (x : Terminal) → is_safe k None ≡ true → step b k x ≡ Some j → is_safe j None ≡ true
@@ -330,25 +330,25 @@ pub run_safe : (xs : List Terminal) (k j : List Symbol) → is_safe k None ≡ t
 run_safe [] k j h i = let e : k ≡ j = cc in subst (λ l. is_safe l None ≡ true) e h
 run_safe (x ∷ xs) k j h i = by_option (step false k x) refl i (λ l p e. run_safe xs l j (step_safe false k l x h p) e)
   where
-    by_option : (t : Option (List Symbol)) → step false k x ≡ t → next (λ l. run l xs) t ≡ Some j → ((l : List Symbol) → step false k x ≡ Some l → run l xs ≡ Some j → is_safe j None ≡ true) → is_safe j None ≡ true
+    by_option : (t : Option (List Symbol)) → step false k x ≡ t → next_stack (λ l. run l xs) t ≡ Some j → ((l : List Symbol) → step false k x ≡ Some l → run l xs ≡ Some j → is_safe j None ≡ true) → is_safe j None ≡ true
     by_option (Some l) p e f = f l p e
     by_option None p e f = cc
 
-pub run_append : (xs ys : List Terminal) (k : List Symbol) → run k (xs ++ ys) ≡ next (λ j. run j ys) (run k xs)
+pub run_append : (xs ys : List Terminal) (k : List Symbol) → run k (xs ++ ys) ≡ next_stack (λ j. run j ys) (run k xs)
 run_append [] ys k = refl
 run_append (x ∷ xs) ys k = by_option (step false k x) (λ l. run_append xs ys l)
   where
-    by_option : (t : Option (List Symbol)) → ((l : List Symbol) → run l (xs ++ ys) ≡ next (λ j. run j ys) (run l xs)) → next (λ l. run l (xs ++ ys)) t ≡ next (λ j. run j ys) (next (λ l. run l xs) t)
+    by_option : (t : Option (List Symbol)) → ((l : List Symbol) → run l (xs ++ ys) ≡ next_stack (λ j. run j ys) (run l xs)) → next_stack (λ l. run l (xs ++ ys)) t ≡ next_stack (λ j. run j ys) (next_stack (λ l. run l xs) t)
     by_option (Some l) f = f l
     by_option None f = refl
 
 -- What isn't stuck is completed, and what begins an accepted string isn't stuck.
 pub begun_completes : (k j : List Symbol) (xs : List Terminal) → is_safe k None ≡ true → run k xs ≡ Some j → accepts k (xs ++ complete j) ≡ true
-begun_completes k j xs h i = ap ends (run_append xs (complete j) k) ∙ ap (λ v. ends (next (λ l. run l (complete j)) v)) i ∙ completes (complete j) j (run_safe xs k j h i) refl
+begun_completes k j xs h i = ap ends (run_append xs (complete j) k) ∙ ap (λ v. ends (next_stack (λ l. run l (complete j)) v)) i ∙ completes (complete j) j (run_safe xs k j h i) refl
 
 pub accepted_begins : (k : List Symbol) (xs ys : List Terminal) → accepts k (xs ++ ys) ≡ true → (j : List Symbol) × run k xs ≡ Some j
 accepted_begins k xs ys h = by_option (run k xs) refl (sym (ap ends (run_append xs ys k)) ∙ h)
   where
-    by_option : (t : Option (List Symbol)) → run k xs ≡ t → ends (next (λ j. run j ys) t) ≡ true → (j : List Symbol) × run k xs ≡ Some j
+    by_option : (t : Option (List Symbol)) → run k xs ≡ t → ends (next_stack (λ j. run j ys) t) ≡ true → (j : List Symbol) × run k xs ≡ Some j
     by_option (Some j) e i = (j, e)
     by_option None e i = absurd (no_false i)

@@ -1,5 +1,5 @@
 -- A step in code, symbol by symbol.
-use Rattle.grammar.proofs.Common.{◌≡◌, ℕ, Bool, true, false, cond, List, [], ◌∷◌, ◌++◌, reverse, Option, Some, None, refl, sym, ap, ◌∙◌, subst, ◌+◌, ◌<◌, length, take, get_or, arith, reverse-append, length-reverse, length-append, take_more, Terminal, Symbol, optional, takes, is_seal, sealed, on_top, step, next, run, IsPut, IsStep}
+use Rattle.grammar.proofs.Common.{◌≡◌, ℕ, Bool, true, false, cond, List, [], ◌∷◌, ◌++◌, reverse, Option, Some, None, refl, sym, ap, ◌∙◌, subst, ◌+◌, ◌<◌, length, take, get_or, arith, reverse-append, length-reverse, length-append, take_more, Terminal, Symbol, optional, takes, is_seal, sealed, on_top, step, next_stack, run, IsPut, IsStep}
 use Rattle.grammar.proofs.Laws.{run_append}
 
 pub popped : (xs ys : List Symbol) (s : Symbol) → xs ≡ ys ++ s ∷ [] → reverse xs ≡ s ∷ reverse ys
@@ -39,13 +39,13 @@ shorter xs ys zs s h e = let a : length zs ≡ length ys = sym (length-reverse z
     let b : length xs ≡ length (ys ++ s ∷ []) = ap length h in
     let d : length (ys ++ s ∷ []) ≡ length ys + 1 = length-append ys (s ∷ []) in omega arith
 
-pub next_some : (o : Option (List Symbol)) → next (λ l. Some l) o ≡ o
+pub next_some : (o : Option (List Symbol)) → next_stack (λ l. Some l) o ≡ o
 next_some (Some l) = refl
 next_some None = refl
 
 -- one more token
 pub after : (xs : List Terminal) (i : ℕ) (d : Terminal) (k j : List Symbol) → i < length xs → run k (take i xs) ≡ Some j → run k (take (i + 1) xs) ≡ step false j (get_or xs i d)
-after xs i d k j h e = ap (run k) (take_more xs i d h) ∙ run_append (take i xs) (get_or xs i d ∷ []) k ∙ ap (next (λ l. run l (get_or xs i d ∷ []))) e ∙ next_some (step false j (get_or xs i d))
+after xs i d k j h e = ap (run k) (take_more xs i d h) ∙ run_append (take i xs) (get_or xs i d ∷ []) k ∙ ap (next_stack (λ l. run l (get_or xs i d ∷ []))) e ∙ next_some (step false j (get_or xs i d))
 
 pub stepped : (t : Option (List Symbol)) (l : List Symbol) → IsStep t true l → t ≡ Some l
 stepped (Some k) l p = ap Some (sym p.1)

@@ -22,7 +22,7 @@ Completes k xs None = (ys : List Terminal) → accepts k (xs ++ ys) ≡ false
 Completes k xs (Some ys) = accepts k (xs ++ ys) ≡ true
 
 -- The terminals are no token string. The first n of them begin one, and with the next one they begin none; whether another
--- terminal could stand in its place.
+-- terminal could be in its place.
 pub record IsFault (k : List Symbol) (xs : List Terminal) (other : Terminal) (n : ℕ) (stands : Bool) : Type 0 where
   pub takes : TakesAll k xs n
   pub none : accepts k xs ≡ false

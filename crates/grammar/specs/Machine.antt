@@ -3,15 +3,15 @@ use Rattle.std.specs.Prelude.{Bool, true, false, ◌&&◌, if◌then◌else◌, 
 use Rattle.grammar.specs.Common.{Terminal, Symbol}
 use Rattle.grammar.specs.declared.symbols.Symbol.TheVariants as s
 use Rattle.tokens_why.specs.Alphabet.{same}
-use Rattle.grammar.specs.Table.{Line, rows, optional, shortest, leftovers}
+use Rattle.grammar.specs.Table.{Production, productions, optional, shortest, leftovers}
 
-abbrev pub find : List Line → Terminal → Option (List Symbol)
-find [] x = None
-find (r ∷ rs) x = if same r.first x then Some r.behind else find rs x
+abbrev pub find_production : List Production → Terminal → Option (List Symbol)
+find_production [] x = None
+find_production (r ∷ rs) x = if same r.first x then Some r.behind else find_production rs x
 
--- what stands behind a terminal where a symbol begins with it
+-- what comes after a terminal where a symbol begins with it
 abbrev pub takes : Symbol → Terminal → Option (List Symbol)
-takes s x = find (rows s) x
+takes s x = find_production (productions s) x
 
 abbrev pub is_tail : Symbol → Bool
 is_tail (s.Tail m u) = true
@@ -21,7 +21,7 @@ abbrev pub is_seal : Symbol → Bool
 is_seal s.Seal = true
 is_seal _ = false
 
--- Behind a seal the tails directly under it are silent.
+-- After a seal the tails directly under it are silent.
 abbrev pub sealed : Bool → Symbol → Bool
 sealed b s = b && is_tail s
 
@@ -38,13 +38,13 @@ abbrev pub may_end : List Symbol → Bool
 may_end [] = true
 may_end (s ∷ k) = optional s && may_end k
 
-abbrev pub next : (List Symbol → Option (List Symbol)) → Option (List Symbol) → Option (List Symbol)
-next f (Some k) = f k
-next f None = None
+abbrev pub next_stack : (List Symbol → Option (List Symbol)) → Option (List Symbol) → Option (List Symbol)
+next_stack f (Some k) = f k
+next_stack f None = None
 
 abbrev pub run : List Symbol → List Terminal → Option (List Symbol)
 run k [] = Some k
-run k (x ∷ xs) = next (λ j. run j xs) (step false k x)
+run k (x ∷ xs) = next_stack (λ j. run j xs) (step false k x)
 
 abbrev pub is_taken : Option (List Symbol) → Bool
 is_taken (Some k) = true
@@ -65,7 +65,7 @@ abbrev pub untaken : Option (List Symbol) → Bool
 untaken None = true
 untaken (Some k) = false
 
--- what may stand behind a symbol: nothing that is left of it takes it
+-- what may come after a symbol: nothing that is left of it takes it
 abbrev pub none_takes : List Symbol → Terminal → Bool
 none_takes [] y = true
 none_takes (s ∷ ss) y = untaken (takes s y) && none_takes ss y
@@ -82,7 +82,7 @@ abbrev pub lead : List Symbol → Option Terminal → Option Terminal
 lead [] y = y
 lead (s ∷ k) y = first_or (shortest s) (lead k y)
 
--- each symbol may be followed by the first terminal of the shortest string behind it
+-- each symbol may be followed by the first terminal of the shortest string after it
 abbrev pub is_safe : List Symbol → Option Terminal → Bool
 is_safe [] y = true
 is_safe (s ∷ k) y = may_follow s (lead k y) && is_safe k y

@@ -3,18 +3,18 @@ use Rattle.std.specs.Prelude.{ℕ, Bool, true, false, List, ◌++◌, [], ◌∷
 use Rattle.grammar.specs.Common.{prec, need, right, is_infix, Terminal, Symbol}
 use Rattle.std.specs.Borrow.{Bor}
 use Rattle.grammar.specs.declared.symbols.Symbol.TheVariants as s
-use Rattle.grammar.specs.Table.{Line, rows, open_rows, prim_rows, shortest}
-use Rattle.grammar.specs.Machine.{find, step}
+use Rattle.grammar.specs.Table.{Production, productions, open_productions, prim_productions, shortest}
+use Rattle.grammar.specs.Machine.{find_production, step}
 
-abbrev pub line_of : Terminal × Bor (List Symbol) → Line
-line_of r = record { first = r.0; behind = r.1.now }
+abbrev pub production_of : Terminal × Bor (List Symbol) → Production
+production_of r = record { first = r.0; behind = r.1.now }
 
-abbrev pub HasRows : Symbol → List Line → Type 0
+abbrev pub HasRows : Symbol → List Production → Type 0
 HasRows (s.Take x) rs = Unit {0}
 HasRows (s.Expr m) rs = Unit {0}
 HasRows (s.Tail m u) rs = Unit {0}
 HasRows s.Seal rs = Unit {0}
-HasRows s rs = rs ≡ rows s
+HasRows s rs = rs ≡ productions s
 
 -- symbols were put on a stack where there are some
 abbrev pub IsPut : Option (List Symbol) → Bool → List Symbol → List Symbol → Type 0
@@ -22,10 +22,10 @@ IsPut (Some ss) b k l = (b ≡ true) × (l ≡ ss ++ k)
 IsPut None b k l = (b ≡ false) × (l ≡ k)
 
 -- the same, of stacks with the top one last
-abbrev pub Puts : Option (List Symbol) → List Symbol → List Symbol → Bool → Type 0
-Puts t old new b = IsPut t b (reverse old) (reverse new)
+abbrev pub PutsSymbols : Option (List Symbol) → List Symbol → List Symbol → Bool → Type 0
+PutsSymbols t old new b = IsPut t b (reverse old) (reverse new)
 
--- the stack behind a step, where there is one
+-- the stack after a step, where there is one
 abbrev pub IsStep : Option (List Symbol) → Bool → List Symbol → Type 0
 IsStep (Some k) b l = (b ≡ true) × (l ≡ k)
 IsStep None b l = b ≡ false
@@ -34,13 +34,13 @@ IsStep None b l = b ≡ false
 abbrev pub Takes : Terminal → List Symbol → List Symbol → Bool → Type 0
 Takes x old new b = IsStep (step false (reverse old) x) b (reverse new)
 
-abbrev pub or_else : Option (List Symbol) → Option (List Symbol) → Option (List Symbol)
-or_else (Some ss) o = Some ss
-or_else None o = o
+abbrev pub stack_or_else : Option (List Symbol) → Option (List Symbol) → Option (List Symbol)
+stack_or_else (Some ss) o = Some ss
+stack_or_else None o = o
 
--- what stands behind a token with which an operand other than `not` and a prefix form begins
+-- what comes after a token with which an operand other than `not` and a prefix form begins
 abbrev pub operand_takes : ℕ → Terminal → Option (List Symbol)
-operand_takes m x = or_else (find open_rows x) (option_map (λ ss. ss ++ s.Tail m 9 ∷ []) (find prim_rows x))
+operand_takes m x = stack_or_else (find_production open_productions x) (option_map (λ ss. ss ++ s.Tail m 9 ∷ []) (find_production prim_productions x))
 
 abbrev pub tail_takes : ℕ → ℕ → Terminal → Option (List Symbol)
 tail_takes m u x = if is_infix x && (nat_le m (prec x) && nat_le (need x) u) then Some (s.Expr (right x) ∷ s.Tail m (prec x) ∷ []) else None

@@ -5,139 +5,139 @@ use Rattle.tokens_why.specs.declared.terminal.Terminal.TheVariants as t
 use Rattle.grammar.specs.declared.symbols.Symbol.TheVariants as s
 use Rattle.tokens_why.specs.Alphabet.{operators}
 
-pub record Line : Type 0 where
+pub record Production : Type 0 where
   pub first : Terminal
   pub behind : List Symbol
 
-abbrev pub line : Terminal → List Symbol → Line
-line x ss = record { first = x; behind = ss }
+abbrev pub production : Terminal → List Symbol → Production
+production x ss = record { first = x; behind = ss }
 
--- the same with symbols behind
-abbrev pub extend : List Line → List Symbol → List Line
-extend [] ss = []
-extend (r ∷ rs) ss = line r.first (r.behind ++ ss) ∷ extend rs ss
+-- the same with symbols after
+abbrev pub with_symbols_after : List Production → List Symbol → List Production
+with_symbols_after [] ss = []
+with_symbols_after (r ∷ rs) ss = production r.first (r.behind ++ ss) ∷ with_symbols_after rs ss
 
 -- the operators that a tail takes
-abbrev pub tail_of : ℕ → ℕ → List Terminal → List Line
+abbrev pub tail_of : ℕ → ℕ → List Terminal → List Production
 tail_of m u [] = []
-tail_of m u (o ∷ os) = if nat_le m (prec o) && nat_le (need o) u then line o (s.Expr (right o) ∷ s.Tail m (prec o) ∷ []) ∷ tail_of m u os else tail_of m u os
+tail_of m u (o ∷ os) = if nat_le m (prec o) && nat_le (need o) u then production o (s.Expr (right o) ∷ s.Tail m (prec o) ∷ []) ∷ tail_of m u os else tail_of m u os
 
-abbrev pub not_rows : ℕ → List Line
-not_rows m = if nat_le m 3 then line t.NotWord (s.Expr 3 ∷ s.Tail m 3 ∷ []) ∷ [] else []
+abbrev pub not_productions : ℕ → List Production
+not_productions m = if nat_le m 3 then production t.NotWord (s.Expr 3 ∷ s.Tail m 3 ∷ []) ∷ [] else []
 
-abbrev pub atype_rows : List Line
-atype_rows = line t.TyVar [] ∷ line t.Lident [] ∷ line t.Uident (s.Take t.Dot ∷ s.Qlid ∷ []) ∷ line t.LParen (s.Ttuple ∷ []) ∷ []
+abbrev pub atype_productions : List Production
+atype_productions = production t.TyVar [] ∷ production t.Lident [] ∷ production t.Uident (s.Take t.Dot ∷ s.Qlid ∷ []) ∷ production t.LParen (s.Ttuple ∷ []) ∷ []
 
-abbrev pub fields_rows : List Line
-fields_rows = (line t.Bar (s.Take t.Uident ∷ s.Fields ∷ []) ∷ line t.WithWord (s.Take t.Lident ∷ s.Algvars ∷ []) ∷ []) ++ extend atype_rows (s.Fields ∷ [])
+abbrev pub fields_productions : List Production
+fields_productions = (production t.Bar (s.Take t.Uident ∷ s.Fields ∷ []) ∷ production t.WithWord (s.Take t.Lident ∷ s.Algvars ∷ []) ∷ []) ++ with_symbols_after atype_productions (s.Fields ∷ [])
 
-abbrev pub op_rows : List Line
-op_rows = line t.Lident [] ∷ line t.StarName [] ∷ line t.LParen (s.Opname ∷ []) ∷ []
+abbrev pub op_productions : List Production
+op_productions = production t.Lident [] ∷ production t.StarName [] ∷ production t.LParen (s.Opname ∷ []) ∷ []
 
-abbrev pub type_rows : List Line
-type_rows = line t.TyVar [] ∷ line t.Lident (s.Targs ∷ []) ∷ line t.Uident (s.Take t.Dot ∷ s.Qlid ∷ s.Targs ∷ []) ∷ line t.LParen (s.Ttuple ∷ []) ∷ []
+abbrev pub type_productions : List Production
+type_productions = production t.TyVar [] ∷ production t.Lident (s.Targs ∷ []) ∷ production t.Uident (s.Take t.Dot ∷ s.Qlid ∷ s.Targs ∷ []) ∷ production t.LParen (s.Ttuple ∷ []) ∷ []
 
-abbrev pub ttuple_rows : List Line
-ttuple_rows = (line t.RParen [] ∷ []) ++ extend type_rows (s.Tmore ∷ [])
+abbrev pub ttuple_productions : List Production
+ttuple_productions = (production t.RParen [] ∷ []) ++ with_symbols_after type_productions (s.Tmore ∷ [])
 
-abbrev pub tmore_rows : List Line
-tmore_rows = line t.RParen [] ∷ line t.Comma (s.TypeOf ∷ s.Tmore ∷ []) ∷ []
+abbrev pub tmore_productions : List Production
+tmore_productions = production t.RParen [] ∷ production t.Comma (s.TypeOf ∷ s.Tmore ∷ []) ∷ []
 
-abbrev pub qid_rows : List Line
-qid_rows = line t.Lident [] ∷ line t.Uident (s.Qids ∷ []) ∷ []
+abbrev pub qid_productions : List Production
+qid_productions = production t.Lident [] ∷ production t.Uident (s.Qids ∷ []) ∷ []
 
-abbrev pub pat_rows : List Line
-pat_rows = line t.Wild (s.AsPart ∷ []) ∷ line t.Lident (s.AsPart ∷ []) ∷ line t.Uident (s.Quids ∷ s.Patoms ∷ s.AsPart ∷ []) ∷ line t.LParen (s.Ptuple ∷ s.AsPart ∷ []) ∷ []
+abbrev pub pat_productions : List Production
+pat_productions = production t.Wild (s.AsPart ∷ []) ∷ production t.Lident (s.AsPart ∷ []) ∷ production t.Uident (s.Quids ∷ s.Patoms ∷ s.AsPart ∷ []) ∷ production t.LParen (s.Ptuple ∷ s.AsPart ∷ []) ∷ []
 
-abbrev pub patom_rows : List Line
-patom_rows = line t.Wild [] ∷ line t.Lident [] ∷ line t.Uident (s.Quids ∷ []) ∷ line t.LParen (s.Ptuple ∷ []) ∷ []
+abbrev pub patom_productions : List Production
+patom_productions = production t.Wild [] ∷ production t.Lident [] ∷ production t.Uident (s.Quids ∷ []) ∷ production t.LParen (s.Ptuple ∷ []) ∷ []
 
-abbrev pub binders_rows : List Line
-binders_rows = line t.Comma (s.Take t.Lident ∷ s.Binder ∷ []) ∷ line t.LBrack (s.Expr 0 ∷ s.Trigger ∷ []) ∷ line t.Dot (s.Expr 0 ∷ s.Seal ∷ []) ∷ []
+abbrev pub binders_productions : List Production
+binders_productions = production t.Comma (s.Take t.Lident ∷ s.Binder ∷ []) ∷ production t.LBrack (s.Expr 0 ∷ s.Trigger ∷ []) ∷ production t.Dot (s.Expr 0 ∷ s.Seal ∷ []) ∷ []
 
-abbrev pub open_rows : List Line
-open_rows = line t.IfWord (s.Expr 0 ∷ s.Take t.ThenWord ∷ s.Expr 0 ∷ s.Take t.ElseWord ∷ s.Expr 0 ∷ s.Seal ∷ []) ∷ line t.LetWord (s.Pat ∷ s.Letpats ∷ []) ∷ line t.ForallWord (s.Take t.Lident ∷ s.Binder ∷ []) ∷ line t.ExistsWord (s.Take t.Lident ∷ s.Binder ∷ []) ∷ []
+abbrev pub open_productions : List Production
+open_productions = production t.IfWord (s.Expr 0 ∷ s.Take t.ThenWord ∷ s.Expr 0 ∷ s.Take t.ElseWord ∷ s.Expr 0 ∷ s.Seal ∷ []) ∷ production t.LetWord (s.Pat ∷ s.Letpats ∷ []) ∷ production t.ForallWord (s.Take t.Lident ∷ s.Binder ∷ []) ∷ production t.ExistsWord (s.Take t.Lident ∷ s.Binder ∷ []) ∷ []
 
-abbrev pub prim_rows : List Line
-prim_rows = line t.Lident (s.Args ∷ []) ∷ line t.Uident (s.Scoped ∷ s.Args ∷ []) ∷ line t.StarName (s.Args ∷ []) ∷ line t.LParen (s.Hparen ∷ []) ∷ line t.Int [] ∷ line t.TrueWord [] ∷ line t.FalseWord [] ∷ line t.MatchWord (s.Expr 0 ∷ s.Scrutinees ∷ []) ∷ []
+abbrev pub prim_productions : List Production
+prim_productions = production t.Lident (s.Args ∷ []) ∷ production t.Uident (s.Scoped ∷ s.Args ∷ []) ∷ production t.StarName (s.Args ∷ []) ∷ production t.LParen (s.Hparen ∷ []) ∷ production t.Int [] ∷ production t.TrueWord [] ∷ production t.FalseWord [] ∷ production t.MatchWord (s.Expr 0 ∷ s.Scrutinees ∷ []) ∷ []
 
-abbrev pub atom_rows : List Line
-atom_rows = line t.Lident [] ∷ line t.Uident (s.Scoped ∷ []) ∷ line t.StarName [] ∷ line t.LParen (s.Aparen ∷ []) ∷ line t.Int [] ∷ line t.TrueWord [] ∷ line t.FalseWord [] ∷ line t.MatchWord (s.Expr 0 ∷ s.Scrutinees ∷ []) ∷ []
+abbrev pub atom_productions : List Production
+atom_productions = production t.Lident [] ∷ production t.Uident (s.Scoped ∷ []) ∷ production t.StarName [] ∷ production t.LParen (s.Aparen ∷ []) ∷ production t.Int [] ∷ production t.TrueWord [] ∷ production t.FalseWord [] ∷ production t.MatchWord (s.Expr 0 ∷ s.Scrutinees ∷ []) ∷ []
 
-abbrev pub expr_rows : ℕ → List Line
-expr_rows m = not_rows m ++ ((line t.Minus (s.Expr 8 ∷ s.Tail m 8 ∷ []) ∷ line t.PrefixOperator (s.Expr 8 ∷ s.Tail m 8 ∷ []) ∷ []) ++ (open_rows ++ extend prim_rows (s.Tail m 9 ∷ [])))
+abbrev pub expr_productions : ℕ → List Production
+expr_productions m = not_productions m ++ ((production t.Minus (s.Expr 8 ∷ s.Tail m 8 ∷ []) ∷ production t.PrefixOperator (s.Expr 8 ∷ s.Tail m 8 ∷ []) ∷ []) ++ (open_productions ++ with_symbols_after prim_productions (s.Tail m 9 ∷ [])))
 
-abbrev pub rows : Symbol → List Line
-rows (s.Take x) = line x [] ∷ []
-rows (s.Expr m) = expr_rows m
-rows (s.Tail m u) = tail_of m u operators
-rows s.Seal = []
-rows s.File = line t.TheoryWord (s.Take t.Uident ∷ s.Decls ∷ s.File ∷ []) ∷ line t.ModuleWord (s.Take t.Uident ∷ s.Decls ∷ s.File ∷ []) ∷ []
-rows s.Decls = line t.EndWord [] ∷ line t.ScopeWord (s.Take t.Uident ∷ s.Decls ∷ s.Decls ∷ []) ∷ line t.TypeWord (s.Take t.Lident ∷ s.Tvars ∷ s.Decls ∷ []) ∷ line t.FunctionWord (s.Op ∷ s.Params ∷ s.Take t.Colon ∷ s.TypeOf ∷ s.Body ∷ s.Decls ∷ []) ∷ line t.PredicateWord (s.Op ∷ s.Params ∷ s.Body ∷ s.Decls ∷ []) ∷ line t.ConstantWord (s.Op ∷ s.Take t.Colon ∷ s.TypeOf ∷ s.Value ∷ s.Decls ∷ []) ∷ line t.InductiveWord (s.Op ∷ s.Params ∷ s.Take t.Equal ∷ s.Clause ∷ s.Decls ∷ []) ∷ line t.AxiomWord (s.Ident ∷ s.Take t.Colon ∷ s.Expr 0 ∷ s.Decls ∷ []) ∷ line t.LemmaWord (s.Ident ∷ s.Take t.Colon ∷ s.Expr 0 ∷ s.Decls ∷ []) ∷ line t.GoalWord (s.Ident ∷ s.Take t.Colon ∷ s.Expr 0 ∷ s.Decls ∷ []) ∷ line t.UseWord (s.Used ∷ s.Decls ∷ []) ∷ line t.CloneWord (s.Cloned ∷ s.Decls ∷ []) ∷ []
-rows s.Tvars = line t.TyVar (s.Tvars ∷ []) ∷ line t.Equal (s.Typedef ∷ []) ∷ []
-rows s.Typedef = line t.TyVar [] ∷ line t.Lident (s.Targs ∷ []) ∷ line t.LParen (s.Ttuple ∷ []) ∷ line t.Uident (s.Upper ∷ []) ∷ line t.Bar (s.Take t.Uident ∷ s.Fields ∷ []) ∷ []
-rows s.Upper = (line t.Dot (s.Qlid ∷ s.Targs ∷ []) ∷ []) ++ extend fields_rows []
-rows s.Algvars = line t.TyVar (s.Algvars ∷ []) ∷ line t.Equal (s.Con ∷ []) ∷ []
-rows s.Con = line t.Uident (s.Fields ∷ []) ∷ line t.Bar (s.Take t.Uident ∷ s.Fields ∷ []) ∷ []
-rows s.Op = op_rows
-rows s.Opname = line t.Equal (s.Opend ∷ []) ∷ line t.Minus (s.Opend ∷ []) ∷ line t.Operator1 (s.Opend ∷ []) ∷ line t.Operator2 (s.Opend ∷ []) ∷ line t.Operator3 (s.Opend ∷ []) ∷ line t.Operator4 (s.Opend ∷ []) ∷ line t.PrefixOperator (s.Opend ∷ []) ∷ []
-rows s.Opend = line t.RParen [] ∷ line t.Wild (s.Take t.RParen ∷ []) ∷ []
-rows s.Ident = line t.Lident [] ∷ line t.Uident [] ∷ []
-rows s.Params = (line t.LParen (s.Pparen ∷ s.Params ∷ []) ∷ []) ++ extend atype_rows (s.Params ∷ [])
-rows s.Pparen = (line t.Lident (s.Pname ∷ []) ∷ []) ++ extend ttuple_rows []
-rows s.Pname = ((line t.Colon (s.TypeOf ∷ s.Take t.RParen ∷ []) ∷ line t.Lident (s.Pname ∷ []) ∷ []) ++ extend atype_rows (s.Targs ∷ s.Tmore ∷ [])) ++ extend tmore_rows []
-rows s.Body = line t.Equal (s.Expr 0 ∷ s.Members ∷ []) ∷ []
-rows s.Members = line t.WithWord (s.Op ∷ s.Params ∷ s.Member ∷ []) ∷ []
-rows s.Member = line t.Equal (s.Expr 0 ∷ s.Members ∷ []) ∷ line t.Colon (s.TypeOf ∷ s.Take t.Equal ∷ s.Expr 0 ∷ s.Members ∷ []) ∷ []
-rows s.Value = line t.Equal (s.Expr 0 ∷ []) ∷ []
-rows s.Clause = line t.Lident (s.Take t.Colon ∷ s.Expr 0 ∷ s.Clauses ∷ []) ∷ line t.Uident (s.Take t.Colon ∷ s.Expr 0 ∷ s.Clauses ∷ []) ∷ line t.Bar (s.Ident ∷ s.Take t.Colon ∷ s.Expr 0 ∷ s.Clauses ∷ []) ∷ []
-rows s.Clauses = line t.Bar (s.Ident ∷ s.Take t.Colon ∷ s.Expr 0 ∷ s.Clauses ∷ []) ∷ line t.WithWord (s.Op ∷ s.Params ∷ s.Take t.Equal ∷ s.Clause ∷ []) ∷ []
-rows s.Used = line t.ExportWord (s.Path ∷ []) ∷ line t.ImportWord (s.Path ∷ s.Renamed ∷ []) ∷ line t.Lident (s.Take t.Dot ∷ s.Path ∷ s.Renamed ∷ []) ∷ line t.Uident (s.Renamed ∷ []) ∷ []
-rows s.Cloned = line t.ExportWord (s.Path ∷ s.Subst ∷ []) ∷ line t.ImportWord (s.Path ∷ s.Renamed ∷ s.Subst ∷ []) ∷ line t.Lident (s.Take t.Dot ∷ s.Path ∷ s.Renamed ∷ s.Subst ∷ []) ∷ line t.Uident (s.Renamed ∷ s.Subst ∷ []) ∷ []
-rows s.Path = line t.Lident (s.Take t.Dot ∷ s.Path ∷ []) ∷ line t.Uident [] ∷ []
-rows s.Renamed = line t.AsWord (s.Take t.Uident ∷ []) ∷ []
-rows s.Subst = line t.WithWord (s.Elem ∷ s.Elems ∷ []) ∷ []
-rows s.Elems = line t.Comma (s.Elem ∷ s.Elems ∷ []) ∷ []
-rows s.Elem = line t.TypeWord (s.Qlid ∷ s.Elvars ∷ []) ∷ line t.FunctionWord (s.Qop ∷ s.Take t.Equal ∷ s.Qop ∷ []) ∷ line t.ConstantWord (s.Qop ∷ s.Take t.Equal ∷ s.Qop ∷ []) ∷ line t.PredicateWord (s.Qop ∷ s.Take t.Equal ∷ s.Qop ∷ []) ∷ line t.LemmaWord (s.Qid ∷ []) ∷ line t.GoalWord (s.Qid ∷ []) ∷ line t.AxiomWord (s.Axioms ∷ []) ∷ []
-rows s.Axioms = (line t.Dot [] ∷ []) ++ extend qid_rows []
-rows s.Elvars = line t.TyVar (s.Elvars ∷ []) ∷ line t.Equal (s.TypeOf ∷ []) ∷ []
-rows s.Qlid = line t.Lident [] ∷ line t.Uident (s.Take t.Dot ∷ s.Qlid ∷ []) ∷ []
-rows s.Qop = (line t.Uident (s.Take t.Dot ∷ s.Qop ∷ []) ∷ []) ++ extend op_rows []
-rows s.Qid = qid_rows
-rows s.Qids = line t.Dot (s.Qid ∷ []) ∷ []
-rows s.TypeOf = type_rows
-rows s.Atype = atype_rows
-rows s.Targs = extend atype_rows (s.Targs ∷ [])
-rows s.Ttuple = ttuple_rows
-rows s.Tmore = tmore_rows
-rows s.Pat = pat_rows
-rows s.AsPart = line t.AsWord (s.Take t.Lident ∷ []) ∷ []
-rows s.Quids = line t.Dot (s.Take t.Uident ∷ s.Quids ∷ []) ∷ []
-rows s.Ptuple = (line t.RParen [] ∷ []) ++ extend pat_rows (s.Pmore ∷ [])
-rows s.Pmore = line t.RParen [] ∷ line t.Comma (s.Pat ∷ s.Pmore ∷ []) ∷ []
-rows s.Patoms = extend patom_rows (s.Patoms ∷ [])
-rows s.GroupRest = line t.RParen [] ∷ line t.Comma (s.Expr 0 ∷ s.More ∷ []) ∷ line t.Colon (s.TypeOf ∷ s.Take t.RParen ∷ []) ∷ []
-rows s.More = line t.RParen [] ∷ line t.Comma (s.Expr 0 ∷ s.More ∷ []) ∷ []
-rows s.Scrutinees = line t.Comma (s.Expr 0 ∷ s.Scrutinees ∷ []) ∷ line t.WithWord (s.Branch ∷ []) ∷ []
-rows s.Branch = (line t.Bar (s.Pat ∷ s.Arm ∷ []) ∷ []) ++ extend pat_rows (s.Arm ∷ [])
-rows s.Arm = line t.Comma (s.Pat ∷ s.Arm ∷ []) ∷ line t.Bar (s.Pat ∷ s.Arm ∷ []) ∷ line t.Arrow (s.Expr 0 ∷ s.Branches ∷ []) ∷ []
-rows s.Branches = line t.Bar (s.Pat ∷ s.Arm ∷ []) ∷ line t.EndWord [] ∷ []
-rows s.Letpats = line t.Comma (s.Pat ∷ s.Letpats ∷ []) ∷ line t.Equal (s.Expr 0 ∷ s.Take t.InWord ∷ s.Expr 0 ∷ s.Seal ∷ []) ∷ []
-rows s.Binder = (line t.Lident (s.Binder ∷ []) ∷ line t.Colon (s.TypeOf ∷ s.Binders ∷ []) ∷ []) ++ extend binders_rows []
-rows s.Binders = binders_rows
-rows s.Trigger = line t.Comma (s.Expr 0 ∷ s.Trigger ∷ []) ∷ line t.Bar (s.Expr 0 ∷ s.Trigger ∷ []) ∷ line t.RBrack (s.Take t.Dot ∷ s.Expr 0 ∷ s.Seal ∷ []) ∷ []
-rows s.OpenForm = open_rows
-rows s.Fields = fields_rows
-rows s.Patom = patom_rows
-rows s.Prim = prim_rows
-rows s.Scoped = line t.Dot (s.Qhead ∷ []) ∷ []
-rows s.Qhead = line t.Lident [] ∷ line t.Uident (s.Scoped ∷ []) ∷ line t.StarName [] ∷ line t.LParen (s.Opname ∷ []) ∷ []
-rows s.Args = extend atom_rows (s.Args ∷ [])
-rows s.Atom = atom_rows
-rows s.Hparen = (line t.RParen [] ∷ line t.Equal (s.Opend ∷ s.Args ∷ []) ∷ line t.Operator1 (s.Opend ∷ s.Args ∷ []) ∷ line t.Operator2 (s.Opend ∷ s.Args ∷ []) ∷ line t.Operator3 (s.Opend ∷ s.Args ∷ []) ∷ line t.Operator4 (s.Opend ∷ s.Args ∷ []) ∷ line t.Minus (s.Hminus ∷ []) ∷ line t.PrefixOperator (s.Hminus ∷ []) ∷ []) ++ extend (expr_rows 0) (s.GroupRest ∷ [])
-rows s.Hminus = (line t.RParen (s.Args ∷ []) ∷ line t.Wild (s.Take t.RParen ∷ s.Args ∷ []) ∷ []) ++ extend (expr_rows 8) (s.Tail 0 8 ∷ s.GroupRest ∷ [])
-rows s.Aparen = (line t.RParen [] ∷ line t.Equal (s.Opend ∷ []) ∷ line t.Operator1 (s.Opend ∷ []) ∷ line t.Operator2 (s.Opend ∷ []) ∷ line t.Operator3 (s.Opend ∷ []) ∷ line t.Operator4 (s.Opend ∷ []) ∷ line t.Minus (s.Aminus ∷ []) ∷ line t.PrefixOperator (s.Aminus ∷ []) ∷ []) ++ extend (expr_rows 0) (s.GroupRest ∷ [])
-rows s.Aminus = (line t.RParen [] ∷ line t.Wild (s.Take t.RParen ∷ []) ∷ []) ++ extend (expr_rows 8) (s.Tail 0 8 ∷ s.GroupRest ∷ [])
+abbrev pub productions : Symbol → List Production
+productions (s.Take x) = production x [] ∷ []
+productions (s.Expr m) = expr_productions m
+productions (s.Tail m u) = tail_of m u operators
+productions s.Seal = []
+productions s.File = production t.TheoryWord (s.Take t.Uident ∷ s.Decls ∷ s.File ∷ []) ∷ production t.ModuleWord (s.Take t.Uident ∷ s.Decls ∷ s.File ∷ []) ∷ []
+productions s.Decls = production t.EndWord [] ∷ production t.ScopeWord (s.Take t.Uident ∷ s.Decls ∷ s.Decls ∷ []) ∷ production t.TypeWord (s.Take t.Lident ∷ s.Tvars ∷ s.Decls ∷ []) ∷ production t.FunctionWord (s.Op ∷ s.Params ∷ s.Take t.Colon ∷ s.TypeOf ∷ s.Body ∷ s.Decls ∷ []) ∷ production t.PredicateWord (s.Op ∷ s.Params ∷ s.Body ∷ s.Decls ∷ []) ∷ production t.ConstantWord (s.Op ∷ s.Take t.Colon ∷ s.TypeOf ∷ s.Value ∷ s.Decls ∷ []) ∷ production t.InductiveWord (s.Op ∷ s.Params ∷ s.Take t.Equal ∷ s.Clause ∷ s.Decls ∷ []) ∷ production t.AxiomWord (s.Ident ∷ s.Take t.Colon ∷ s.Expr 0 ∷ s.Decls ∷ []) ∷ production t.LemmaWord (s.Ident ∷ s.Take t.Colon ∷ s.Expr 0 ∷ s.Decls ∷ []) ∷ production t.GoalWord (s.Ident ∷ s.Take t.Colon ∷ s.Expr 0 ∷ s.Decls ∷ []) ∷ production t.UseWord (s.Used ∷ s.Decls ∷ []) ∷ production t.CloneWord (s.Cloned ∷ s.Decls ∷ []) ∷ []
+productions s.Tvars = production t.TyVar (s.Tvars ∷ []) ∷ production t.Equal (s.Typedef ∷ []) ∷ []
+productions s.Typedef = production t.TyVar [] ∷ production t.Lident (s.Targs ∷ []) ∷ production t.LParen (s.Ttuple ∷ []) ∷ production t.Uident (s.Upper ∷ []) ∷ production t.Bar (s.Take t.Uident ∷ s.Fields ∷ []) ∷ []
+productions s.Upper = (production t.Dot (s.Qlid ∷ s.Targs ∷ []) ∷ []) ++ with_symbols_after fields_productions []
+productions s.Algvars = production t.TyVar (s.Algvars ∷ []) ∷ production t.Equal (s.Con ∷ []) ∷ []
+productions s.Con = production t.Uident (s.Fields ∷ []) ∷ production t.Bar (s.Take t.Uident ∷ s.Fields ∷ []) ∷ []
+productions s.Op = op_productions
+productions s.Opname = production t.Equal (s.Opend ∷ []) ∷ production t.Minus (s.Opend ∷ []) ∷ production t.Operator1 (s.Opend ∷ []) ∷ production t.Operator2 (s.Opend ∷ []) ∷ production t.Operator3 (s.Opend ∷ []) ∷ production t.Operator4 (s.Opend ∷ []) ∷ production t.PrefixOperator (s.Opend ∷ []) ∷ []
+productions s.Opend = production t.RParen [] ∷ production t.Wild (s.Take t.RParen ∷ []) ∷ []
+productions s.Ident = production t.Lident [] ∷ production t.Uident [] ∷ []
+productions s.Params = (production t.LParen (s.Pparen ∷ s.Params ∷ []) ∷ []) ++ with_symbols_after atype_productions (s.Params ∷ [])
+productions s.Pparen = (production t.Lident (s.Pname ∷ []) ∷ []) ++ with_symbols_after ttuple_productions []
+productions s.Pname = ((production t.Colon (s.TypeOf ∷ s.Take t.RParen ∷ []) ∷ production t.Lident (s.Pname ∷ []) ∷ []) ++ with_symbols_after atype_productions (s.Targs ∷ s.Tmore ∷ [])) ++ with_symbols_after tmore_productions []
+productions s.Body = production t.Equal (s.Expr 0 ∷ s.Members ∷ []) ∷ []
+productions s.Members = production t.WithWord (s.Op ∷ s.Params ∷ s.Member ∷ []) ∷ []
+productions s.Member = production t.Equal (s.Expr 0 ∷ s.Members ∷ []) ∷ production t.Colon (s.TypeOf ∷ s.Take t.Equal ∷ s.Expr 0 ∷ s.Members ∷ []) ∷ []
+productions s.Value = production t.Equal (s.Expr 0 ∷ []) ∷ []
+productions s.Clause = production t.Lident (s.Take t.Colon ∷ s.Expr 0 ∷ s.Clauses ∷ []) ∷ production t.Uident (s.Take t.Colon ∷ s.Expr 0 ∷ s.Clauses ∷ []) ∷ production t.Bar (s.Ident ∷ s.Take t.Colon ∷ s.Expr 0 ∷ s.Clauses ∷ []) ∷ []
+productions s.Clauses = production t.Bar (s.Ident ∷ s.Take t.Colon ∷ s.Expr 0 ∷ s.Clauses ∷ []) ∷ production t.WithWord (s.Op ∷ s.Params ∷ s.Take t.Equal ∷ s.Clause ∷ []) ∷ []
+productions s.Used = production t.ExportWord (s.Path ∷ []) ∷ production t.ImportWord (s.Path ∷ s.Renamed ∷ []) ∷ production t.Lident (s.Take t.Dot ∷ s.Path ∷ s.Renamed ∷ []) ∷ production t.Uident (s.Renamed ∷ []) ∷ []
+productions s.Cloned = production t.ExportWord (s.Path ∷ s.Subst ∷ []) ∷ production t.ImportWord (s.Path ∷ s.Renamed ∷ s.Subst ∷ []) ∷ production t.Lident (s.Take t.Dot ∷ s.Path ∷ s.Renamed ∷ s.Subst ∷ []) ∷ production t.Uident (s.Renamed ∷ s.Subst ∷ []) ∷ []
+productions s.Path = production t.Lident (s.Take t.Dot ∷ s.Path ∷ []) ∷ production t.Uident [] ∷ []
+productions s.Renamed = production t.AsWord (s.Take t.Uident ∷ []) ∷ []
+productions s.Subst = production t.WithWord (s.Elem ∷ s.Elems ∷ []) ∷ []
+productions s.Elems = production t.Comma (s.Elem ∷ s.Elems ∷ []) ∷ []
+productions s.Elem = production t.TypeWord (s.Qlid ∷ s.Elvars ∷ []) ∷ production t.FunctionWord (s.Qop ∷ s.Take t.Equal ∷ s.Qop ∷ []) ∷ production t.ConstantWord (s.Qop ∷ s.Take t.Equal ∷ s.Qop ∷ []) ∷ production t.PredicateWord (s.Qop ∷ s.Take t.Equal ∷ s.Qop ∷ []) ∷ production t.LemmaWord (s.Qid ∷ []) ∷ production t.GoalWord (s.Qid ∷ []) ∷ production t.AxiomWord (s.Axioms ∷ []) ∷ []
+productions s.Axioms = (production t.Dot [] ∷ []) ++ with_symbols_after qid_productions []
+productions s.Elvars = production t.TyVar (s.Elvars ∷ []) ∷ production t.Equal (s.TypeOf ∷ []) ∷ []
+productions s.Qlid = production t.Lident [] ∷ production t.Uident (s.Take t.Dot ∷ s.Qlid ∷ []) ∷ []
+productions s.Qop = (production t.Uident (s.Take t.Dot ∷ s.Qop ∷ []) ∷ []) ++ with_symbols_after op_productions []
+productions s.Qid = qid_productions
+productions s.Qids = production t.Dot (s.Qid ∷ []) ∷ []
+productions s.TypeOf = type_productions
+productions s.Atype = atype_productions
+productions s.Targs = with_symbols_after atype_productions (s.Targs ∷ [])
+productions s.Ttuple = ttuple_productions
+productions s.Tmore = tmore_productions
+productions s.Pat = pat_productions
+productions s.AsPart = production t.AsWord (s.Take t.Lident ∷ []) ∷ []
+productions s.Quids = production t.Dot (s.Take t.Uident ∷ s.Quids ∷ []) ∷ []
+productions s.Ptuple = (production t.RParen [] ∷ []) ++ with_symbols_after pat_productions (s.Pmore ∷ [])
+productions s.Pmore = production t.RParen [] ∷ production t.Comma (s.Pat ∷ s.Pmore ∷ []) ∷ []
+productions s.Patoms = with_symbols_after patom_productions (s.Patoms ∷ [])
+productions s.GroupRest = production t.RParen [] ∷ production t.Comma (s.Expr 0 ∷ s.More ∷ []) ∷ production t.Colon (s.TypeOf ∷ s.Take t.RParen ∷ []) ∷ []
+productions s.More = production t.RParen [] ∷ production t.Comma (s.Expr 0 ∷ s.More ∷ []) ∷ []
+productions s.Scrutinees = production t.Comma (s.Expr 0 ∷ s.Scrutinees ∷ []) ∷ production t.WithWord (s.Branch ∷ []) ∷ []
+productions s.Branch = (production t.Bar (s.Pat ∷ s.Arm ∷ []) ∷ []) ++ with_symbols_after pat_productions (s.Arm ∷ [])
+productions s.Arm = production t.Comma (s.Pat ∷ s.Arm ∷ []) ∷ production t.Bar (s.Pat ∷ s.Arm ∷ []) ∷ production t.Arrow (s.Expr 0 ∷ s.Branches ∷ []) ∷ []
+productions s.Branches = production t.Bar (s.Pat ∷ s.Arm ∷ []) ∷ production t.EndWord [] ∷ []
+productions s.Letpats = production t.Comma (s.Pat ∷ s.Letpats ∷ []) ∷ production t.Equal (s.Expr 0 ∷ s.Take t.InWord ∷ s.Expr 0 ∷ s.Seal ∷ []) ∷ []
+productions s.Binder = (production t.Lident (s.Binder ∷ []) ∷ production t.Colon (s.TypeOf ∷ s.Binders ∷ []) ∷ []) ++ with_symbols_after binders_productions []
+productions s.Binders = binders_productions
+productions s.Trigger = production t.Comma (s.Expr 0 ∷ s.Trigger ∷ []) ∷ production t.Bar (s.Expr 0 ∷ s.Trigger ∷ []) ∷ production t.RBrack (s.Take t.Dot ∷ s.Expr 0 ∷ s.Seal ∷ []) ∷ []
+productions s.OpenForm = open_productions
+productions s.Fields = fields_productions
+productions s.Patom = patom_productions
+productions s.Prim = prim_productions
+productions s.Scoped = production t.Dot (s.Qhead ∷ []) ∷ []
+productions s.Qhead = production t.Lident [] ∷ production t.Uident (s.Scoped ∷ []) ∷ production t.StarName [] ∷ production t.LParen (s.Opname ∷ []) ∷ []
+productions s.Args = with_symbols_after atom_productions (s.Args ∷ [])
+productions s.Atom = atom_productions
+productions s.Hparen = (production t.RParen [] ∷ production t.Equal (s.Opend ∷ s.Args ∷ []) ∷ production t.Operator1 (s.Opend ∷ s.Args ∷ []) ∷ production t.Operator2 (s.Opend ∷ s.Args ∷ []) ∷ production t.Operator3 (s.Opend ∷ s.Args ∷ []) ∷ production t.Operator4 (s.Opend ∷ s.Args ∷ []) ∷ production t.Minus (s.Hminus ∷ []) ∷ production t.PrefixOperator (s.Hminus ∷ []) ∷ []) ++ with_symbols_after (expr_productions 0) (s.GroupRest ∷ [])
+productions s.Hminus = (production t.RParen (s.Args ∷ []) ∷ production t.Wild (s.Take t.RParen ∷ s.Args ∷ []) ∷ []) ++ with_symbols_after (expr_productions 8) (s.Tail 0 8 ∷ s.GroupRest ∷ [])
+productions s.Aparen = (production t.RParen [] ∷ production t.Equal (s.Opend ∷ []) ∷ production t.Operator1 (s.Opend ∷ []) ∷ production t.Operator2 (s.Opend ∷ []) ∷ production t.Operator3 (s.Opend ∷ []) ∷ production t.Operator4 (s.Opend ∷ []) ∷ production t.Minus (s.Aminus ∷ []) ∷ production t.PrefixOperator (s.Aminus ∷ []) ∷ []) ++ with_symbols_after (expr_productions 0) (s.GroupRest ∷ [])
+productions s.Aminus = (production t.RParen [] ∷ production t.Wild (s.Take t.RParen ∷ []) ∷ []) ++ with_symbols_after (expr_productions 8) (s.Tail 0 8 ∷ s.GroupRest ∷ [])
 
 -- a shortest string
 abbrev pub shortest : Symbol → List Terminal
@@ -192,13 +192,13 @@ shortest s.Aparen = t.RParen ∷ []
 shortest s.Aminus = t.RParen ∷ []
 shortest _ = []
 
-abbrev pub is_empty : List Terminal → Bool
-is_empty [] = true
-is_empty _ = false
+abbrev pub has_no_terminal : List Terminal → Bool
+has_no_terminal [] = true
+has_no_terminal _ = false
 
 -- a rule may be empty where its shortest string is
 abbrev pub optional : Symbol → Bool
-optional s = is_empty (shortest s)
+optional s = has_no_terminal (shortest s)
 
 -- what may be left of a rule on the stack when its tokens are taken
 abbrev pub leftovers : Symbol → List Symbol

@@ -1,8 +1,8 @@
 // The machine in code: a stack of symbols, the top one last, that takes one token after another.
 ghost use Rattle.std.specs.Prelude.{◌≡◌, ◌++◌, [], ◌∷◌, IfOk, map, option_map, reverse};
-ghost use Rattle.tokens_why.specs.Alphabet.{number, same};
-ghost use Rattle.grammar.specs.Machine.{find, is_seal, sealed, takes};
-ghost use Rattle.grammar.specs.Rows.{Puts, Takes, line_of, operand_takes, tail_takes};
+ghost use Rattle.tokens_why.specs.Alphabet.{terminal_number, same};
+ghost use Rattle.grammar.specs.Machine.{find_production, is_seal, sealed, takes};
+ghost use Rattle.grammar.specs.Rows.{PutsSymbols, Takes, production_of, operand_takes, tail_takes};
 ghost use Rattle.grammar.specs.Ends.{TakesAll};
 ghost use Rattle.grammar.specs.declared.symbols.Symbol.TheVariants.{Expr};
 ghost use Rattle.grammar.specs.Table.{optional};
@@ -15,7 +15,7 @@ use tokens_why::Terminal;
 
 /// The number of a terminal in their order.
 fn number_of(x: Terminal) -> u8
-    ensures { result ≡ number x }
+    ensures { result ≡ terminal_number x }
 {
     x as u8
 }
@@ -27,9 +27,9 @@ pub fn is_same(a: Terminal, b: Terminal) -> bool
     number_of(a) == number_of(b)
 }
 
-/// What stands behind a token among rows.
+/// What comes after a token among rows.
 fn symbols_after(rows: &'static [Row], x: Terminal) -> Option<&'static [Symbol]>
-    ensures { option_map (λ r. r.now) result ≡ find (map line_of rows.now) x }
+    ensures { option_map (λ r. r.now) result ≡ find_production (map production_of rows.now) x }
 {
     for row in rows {
         if is_same(row.0, x) {
@@ -52,7 +52,8 @@ fn push_all(stack: &mut Vec<Symbol>, symbols: &[Symbol]) -> Result<(), AllocErro
 }
 
 fn put_row(stack: &mut Vec<Symbol>, rows: &'static [Row], x: Terminal) -> Result<bool, AllocError>
-    ensures { IfOk result (Puts (find (map line_of rows.now) x) stack.old.items stack.new.items) }
+    ensures { IfOk result (PutsSymbols (find_production (map production_of rows.now) x)
+        stack.old.items stack.new.items) }
 {
     match symbols_after(rows, x) {
         None => Ok(false),
@@ -94,7 +95,7 @@ pub fn may_be_empty(symbol: Symbol) -> bool
 }
 
 fn put_tail(stack: &mut Vec<Symbol>, m: u8, u: u8, x: Terminal) -> Result<bool, AllocError>
-    ensures { IfOk result (Puts (tail_takes m u x) stack.old.items stack.new.items) }
+    ensures { IfOk result (PutsSymbols (tail_takes m u x) stack.old.items stack.new.items) }
 {
     if is_infix(x) && m <= prec_of(x) && need_of(x) <= u {
         stack.push(Symbol::Tail(m, prec_of(x)))?;
@@ -107,7 +108,7 @@ fn put_tail(stack: &mut Vec<Symbol>, m: u8, u: u8, x: Terminal) -> Result<bool, 
 
 /// A prefix operator or an open form, where the terminal begins one, or else an application or an atom.
 fn put_operand(stack: &mut Vec<Symbol>, m: u8, x: Terminal) -> Result<bool, AllocError>
-    ensures { IfOk result (Puts (operand_takes m x) stack.old.items stack.new.items) }
+    ensures { IfOk result (PutsSymbols (operand_takes m x) stack.old.items stack.new.items) }
 {
     if put_row(stack, &OPEN, x)? {
         return Ok(true);
@@ -121,7 +122,7 @@ fn put_operand(stack: &mut Vec<Symbol>, m: u8, x: Terminal) -> Result<bool, Allo
 }
 
 fn put_expr(stack: &mut Vec<Symbol>, m: u8, x: Terminal) -> Result<bool, AllocError>
-    ensures { IfOk result (Puts (takes (Expr m) x) stack.old.items stack.new.items) }
+    ensures { IfOk result (PutsSymbols (takes (Expr m) x) stack.old.items stack.new.items) }
 {
     match x {
         Terminal::NotWord => {
@@ -140,9 +141,9 @@ fn put_expr(stack: &mut Vec<Symbol>, m: u8, x: Terminal) -> Result<bool, AllocEr
     }
 }
 
-/// What stands behind a token is put on the stack, where the symbol begins with it.
+/// What comes after a token is put on the stack, where the symbol begins with it.
 fn put(stack: &mut Vec<Symbol>, symbol: Symbol, x: Terminal) -> Result<bool, AllocError>
-    ensures { IfOk result (Puts (takes symbol x) stack.old.items stack.new.items) }
+    ensures { IfOk result (PutsSymbols (takes symbol x) stack.old.items stack.new.items) }
 {
     match symbol {
         Symbol::Take(t) => Ok(is_same(t, x)),

@@ -12,7 +12,7 @@ use tokens_why::Terminal;
 /// Where tokens that are no token string of a symbol go wrong.
 ///
 /// The first `place` of them begin one, and with the next token, where there is one, they begin none. `other_stands` says
-/// whether the other terminal that was asked for could stand behind the first `place`.
+/// whether the other terminal that was asked for could come after the first `place`.
 #[derive(Clone, Copy)]
 pub struct Fault {
     pub place: usize,
@@ -57,7 +57,7 @@ pub fn longest_length(
     Ok(best)
 }
 
-/// What stands on the stack behind tokens that begin a token string of a symbol, or none where they begin none.
+/// What is on the stack after tokens that begin a token string of a symbol, or none where they begin none.
 fn stack_behind(
     alloc: Global,
     start: Symbol,
@@ -93,7 +93,7 @@ pub fn complete_tokens(
     }
 }
 
-/// The least place at which tokens are no token string of a symbol, and whether another terminal could stand there; none
+/// The least place at which tokens are no token string of a symbol, and whether another terminal could be there; none
 /// where they are one.
 pub fn first_fault(
     alloc: Global,

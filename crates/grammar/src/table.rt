@@ -1,14 +1,14 @@
 // The grammar in code: the rows of each rule but those of an expression and of operators.
 ghost use Rattle.std.specs.Prelude.{map};
-ghost use Rattle.grammar.specs.Rows.{HasRows, line_of};
+ghost use Rattle.grammar.specs.Rows.{HasRows, production_of};
 
 use crate::symbols::Symbol::{self, *};
 use tokens_why::Terminal as T;
 
-/// A token with which a rule begins, and what stands behind it.
+/// A token with which a rule begins, and what comes after it.
 pub type Row = (T, &'static [Symbol]);
 
-// Tokens that stand in many rows, and an expression of any level.
+// Tokens that are in many rows, and an expression of any level.
 const COLON: Symbol = Take(T::Colon);
 
 const EQUAL: Symbol = Take(T::Equal);
@@ -238,7 +238,7 @@ const TRIGGER: [Row; 3] = [
     (T::RBrack, &[Take(T::Dot), ANY, Seal]),
 ];
 
-/// The rows of the expressions that end only where what stands around them ends: `if`, `let` and quantifiers.
+/// The rows of the expressions that end only where what is around them ends: `if`, `let` and quantifiers.
 pub const OPEN: [Row; 4] = [
     (T::IfWord, &[ANY, THEN, ANY, ELSE, ANY, Seal]),
     (T::LetWord, &[Pat, Letpats]),
@@ -431,7 +431,7 @@ const AMINUS: [Row; 16] = [
 
 /// The rows of a rule other than an expression and its tail.
 pub fn rows_of(rule: Symbol) -> &'static [Row]
-    ensures { HasRows rule (map line_of result.now) }
+    ensures { HasRows rule (map production_of result.now) }
 {
     match rule {
         Take(_) | Expr(_) | Tail(_, _) | Seal => &[],

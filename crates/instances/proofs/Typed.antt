@@ -13,7 +13,7 @@ use Rattle.trees.proofs.Laws.{shift_closed}
 use Rattle.trees.proofs.Many.{many_below, many_at, many_above, cases_many, inst_is_many}
 use Rattle.tasks.specs.Task.{SymbolTree}
 use Rattle.tasks.specs.Vocabulary.{Vocabulary}
-use Rattle.tasks.specs.Typing.{members, entry, IsTypeSymbol, IsUse, Gives, option_list, three_pattern, pattern_types, bound_types, BranchesFit, first_body, OneTyped, TwoTyped, ThreeTyped, TypedUnder}
+use Rattle.tasks.specs.Typing.{members, entry, IsTypeSymbol, IsUse, HasResult, option_list, three_pattern, pattern_types, bound_types, BranchesFit, first_body, OneTyped, TwoTyped, ThreeTyped, TypedUnder}
 use Rattle.tasks.proofs.Closing.{typed_sorted, typed_closed}
 use Rattle.tasks.proofs.Counts.{bound_count}
 use Rattle.instances.specs.Instances.{IsTermOf, AreFor}
@@ -192,7 +192,7 @@ module _ (v : Vocabulary) (types env : List Tree) (good : AreFor v types env) wh
   put_at bs d i a n x =
       subst (λ (z : Tree). IsPut v bs a ((instantiating_many env).bound d i z)) (sym (kinds_at d (bs ++ types) a x.2 (inl x.0.0))) (bound_put bs d i a n x)
 
-  -- what stands under the binders of an operator
+  -- what is under the binders of an operator
   deeper : (bs : List Tree) (h : Head) (a b : Tree) → TypedUnder v (bs ++ types) (Two h a b) → TypedUnder v ((bound_types h a ++ bs) ++ types) b
   deeper bs h a b x = rw (append_assoc (bound_types h a) bs types) x.3
 
@@ -312,12 +312,12 @@ module _ (v : Vocabulary) (types env : List Tree) (good : AreFor v types env) wh
   three_typed bs d (HFun k) a b c n x =
       let q : at d c ≡ c = kinds_at d (bs ++ types) c x.4 (inl x.0.2) in
       let r : at d a ≡ a = kinds_at d (bs ++ types) a x.2 (inr x.0.0) in
-      (x.1.0, some_kept (entry v k) _ _ (λ e y. (y.0, use_at bs d d e a b n x.2 x.0.0 x.3 y.1, subst (λ (z : Tree). Gives e z (at d c)) (sym r) (subst (λ (z : Tree). Gives e a z) (sym q) y.2))) x.1.1)
+      (x.1.0, some_kept (entry v k) _ _ (λ e y. (y.0, use_at bs d d e a b n x.2 x.0.0 x.3 y.1, subst (λ (z : Tree). HasResult e z (at d c)) (sym r) (subst (λ (z : Tree). HasResult e a z) (sym q) y.2))) x.1.1)
   three_typed bs d HIf a b c n x = types_at bs d b n x.3 ∙ x.1 ∙ sym (types_at bs d c n x.4)
   three_typed bs d (HPatCon k) a b c n x =
       let q : at d c ≡ c = kinds_at d (bs ++ types) c x.4 (inl x.0.2) in
       let r : at d a ≡ a = kinds_at d (bs ++ types) a x.2 (inr x.0.0) in
-      (x.1.0, some_kept (entry v k) _ _ (λ e y. (y.0, use_at bs d d e a b n x.2 x.0.0 x.3 y.1, subst (λ (z : Tree). Gives e z (at d c)) (sym r) (subst (λ (z : Tree). Gives e a z) (sym q) y.2))) x.1.1)
+      (x.1.0, some_kept (entry v k) _ _ (λ e y. (y.0, use_at bs d d e a b n x.2 x.0.0 x.3 y.1, subst (λ (z : Tree). HasResult e z (at d c)) (sym r) (subst (λ (z : Tree). HasResult e a z) (sym q) y.2))) x.1.1)
   three_typed bs d _ a b c n x = tt
 
   typed_at : (bs : List Tree) (d : ℕ) (e : Tree) → d ≡ length bs → TypedUnder v (bs ++ types) e → TypedUnder v bs (at d e)

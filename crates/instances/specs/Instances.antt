@@ -1,5 +1,5 @@
 -- Instances of open trees: closed terms are put in for the open variables.
-use Rattle.std.specs.Prelude.{◌≡◌, ℕ, ◌+◌, ◌≤◌, List, [], ◌∷◌, length, get_or, slice_get, Some}
+use Rattle.std.specs.Prelude.{◌≡◌, ℕ, ◌+◌, ◌≤◌, List, [], ◌∷◌, length, get_or, slice_get, Some, All}
 use Rattle.trees.specs.declared.Sort.TheVariants.{Term}
 use Rattle.trees.specs.Tree.{Tree, loose, above_params}
 use Rattle.trees.specs.Sorts.{sort_of, type_of}
@@ -32,3 +32,8 @@ pub record IsInstance (body t made : Tree) : Type 0 where
   pub variables : (n : ℕ) → VariablesBelow n t → VariablesBelow n body → VariablesBelow n made
   pub parameters : (types : List Tree) → ParametersOf types t → ParametersOf types body → ParametersOf types made
   pub above : (m : ℕ) → above_params t ≤ m → above_params body ≤ m → above_params made ≤ m
+
+-- each parameter of the formulas and of the goal is below this number
+pub record AreParamsBelow (number : ℕ) (es : List Tree) (e : Tree) : Type 0 where
+  pub front : All (λ a. above_params a ≤ number) es
+  pub goal : above_params e ≤ number

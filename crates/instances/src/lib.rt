@@ -1,5 +1,5 @@
 //! Instances of open trees: closed terms put in for the open variables, and what stays of a tree there.
-//! They stand on `binders` and on what tasks call typed; the transformations and what they bring back stand on them.
+//! They depend on `binders` and on what tasks call typed; the transformations and what they bring back depend on them.
 #![tactic(auto)]
 
 ghost use Rattle.std.specs.Prelude.{◌≡◌, IfOk};

@@ -1,11 +1,11 @@
--- What may stand in a step: its sort, and that it is well typed and free of schematic types.
+-- What may be in a step: its sort, and that it is well typed and free of schematic types.
 use Rattle.std.proofs.lemmas.List.Elements.{All-nil}
 use Rattle.trees.specs.Node.{Holds}
 use Rattle.rule_rows.specs.declared.rule.Step.{Step}
 use Rattle.rule_rows.specs.declared.rule.Rule.{Rule}
 use Rattle.rule_rows.specs.declared.rule.Rule.TheVariants.{Fact, Def, Clause, Inv}
-use Rattle.rule_rows.specs.Trees.{RuleTree, RReplace, StepTree, trees_of, types_of, sequents}
-use Rattle.rule_rows.specs.Rows.{Row}
+use Rattle.rule_rows.specs.Trees.{RuleTree, RReplace, StepTree, rule_trees, rule_types, sequents}
+use Rattle.rule_rows.specs.Rows.{IsRuleRow}
 use Rattle.kernel.specs.Right.{IsRight}
 use Rattle.rule_rows.specs.Meaning.{rule_at, RuleHeld, step_at}
 use Rattle.std.proofs.Common.{◌≡◌, ◌↔◌, ◌⊎◌, ◌==◌, ℕ, ◌<◌, Bool, true, IsTrue, refl, sym, ◌∙◌, List, [], ◌∷◌, length, get_or, slice_get, All, Option, Some, None, arith}
@@ -13,7 +13,7 @@ use Rattle.std.proofs.lemmas.Bool.Decides.{nat_tests}
 use Rattle.std.specs.Prelude.{IsSomeAnd}
 use Rattle.trees.specs.Binding.{inst}
 use Rattle.trees.specs.Sorts.{type_of}
-use Rattle.rule_rows.specs.Forms.{equated}
+use Rattle.rule_rows.specs.Forms.{equation_sides}
 use Rattle.rule_rows.specs.Rows.{IsTemplate, Adds}
 use Rattle.trees.specs.declared.TermId.{TermId}
 use Rattle.trees.specs.Node.{tree_at}
@@ -63,7 +63,7 @@ all_closed t s ids h =
     let g : All (λ a. IsGroundFormula t (tree_at s a)) ids = All-unmap (IsGroundFormula t) (tree_at s) ids h in
     λ k d l. let x = typed_closed (of_task t) [] (tree_at s (get_or ids k d)) (g k d l).typed in omega (arith, x)
 
-pub types_named : (s : List Tree) (r : Rule) → types_of (rule_at s r) ≡ trees_at s (types_in r)
+pub types_named : (s : List Tree) (r : Rule) → rule_types (rule_at s r) ≡ trees_at s (types_in r)
 types_named s (Fact k types) = refl
 types_named s (Def k types) = refl
 types_named s (Clause k c types) = refl
@@ -79,10 +79,10 @@ types_held s _ h = All-nil (Holds s)
 
 -- a step is right where its parts are
 pub step_right : (t : TaskTree) (steps : List StepTree) (s : List Tree) (st : Step) (q types : List TermId) (ps : List ℕ) (r : Bool) → q ≡ st.sequent → types ≡ types_in st.rule → ps ≡ st.premises
-    → All (IsGroundFormula t) (trees_at s q) → Each (IsGroundExpression t) (trees_of (rule_at s st.rule)) → All (IsTypeOver t 0) (trees_at s types) → All (λ k. k < length steps) ps
-    → IsTrue r ↔ Row t (trees_at s q) (rule_at s st.rule) (sequents steps ps) → IsTrue r ↔ IsRight t steps (step_at s st)
+    → All (IsGroundFormula t) (trees_at s q) → Each (IsGroundExpression t) (rule_trees (rule_at s st.rule)) → All (IsTypeOver t 0) (trees_at s types) → All (λ k. k < length steps) ps
+    → IsTrue r ↔ IsRuleRow t (trees_at s q) (rule_at s st.rule) (sequents steps ps) → IsTrue r ↔ IsRight t steps (step_at s st)
 step_right t steps s st q types ps r a b c formulas trees named earlier row =
-    let n : All (IsTypeOver t 0) (types_of (rule_at s st.rule)) = rw types_named (rw b at named) in
+    let n : All (IsTypeOver t 0) (rule_types (rule_at s st.rule)) = rw types_named (rw b at named) in
     (λ h. record { formulas = rw a at formulas; trees = trees; types = n; earlier = rw c at earlier; row = rw (a, c) at (row.0 h) }, λ x. row.1 (rw (a, c) x.row))
 
 some_template : (t : TaskTree) (o : Option (Tree × Tree)) (e : Tree) (P Q : Tree × Tree → Type 0) → IsSomeAnd o (λ p. IsSomeAnd (type_of p.0) (λ ty. IsTemplate t ty e) × P p × Q p) → OpenIn t e
@@ -93,13 +93,13 @@ some_template t (Some p) e P Q h = by_type (type_of p.0) h.0
     by_type None k = absurd k
     by_type (Some ty) k = typed_open (of_task t) (ty ∷ []) e k.typed
 
--- the trees of a right step are typed as far as they stand
+-- the trees of a right step are typed as far as they go
 each_open : (t : TaskTree) (es : List Tree) → Each (IsGroundExpression t) es → Each (OpenIn t) es
 each_open t [] h = tt
 each_open t (e ∷ es) h = (typed_open (of_task t) [] e h.0.typed, each_open t es h.1)
 
-template_open : (t : TaskTree) (q : List Tree) (r : RuleTree) (ps : List (List Tree)) → Row t q r ps → TemplateIsOpen t r
-template_open t q (RReplace i j e) ps h = some_template t (equated (slice_get q i)) e (λ p. slice_get q j ≡ Some (inst e p.0)) (λ p. Adds q ps ((inst e p.1 ∷ []) ∷ [])) h
+template_open : (t : TaskTree) (q : List Tree) (r : RuleTree) (ps : List (List Tree)) → IsRuleRow t q r ps → TemplateIsOpen t r
+template_open t q (RReplace i j e) ps h = some_template t (equation_sides (slice_get q i)) e (λ p. slice_get q j ≡ Some (inst e p.0)) (λ p. Adds q ps ((inst e p.1 ∷ []) ∷ [])) h
 template_open t q _ ps h = tt
 
 pub right_open : (t : TaskTree) (steps : List StepTree) (s : List Tree) (st : Step) → IsRight t steps (step_at s st) → StepIsOpen t s st
@@ -107,7 +107,7 @@ right_open t steps s st x = record {
   sequent =
       let a : All (λ i. IsGroundFormula t (tree_at s i)) st.sequent = All-unmap (IsGroundFormula t) (tree_at s) st.sequent x.formulas in
       λ k d l. typed_open (of_task t) [] (tree_at s (get_or st.sequent k d)) (a k d l).typed;
-  trees = each_open t (trees_of (rule_at s st.rule)) x.trees;
+  trees = each_open t (rule_trees (rule_at s st.rule)) x.trees;
   template = template_open t (trees_at s st.sequent) (rule_at s st.rule) (sequents steps st.premises) x.row;
   types =
       let n : All (IsTypeOver t 0) (trees_at s (types_in st.rule)) = rw types_named at x.types in

@@ -1,4 +1,4 @@
--- A step whose trees are typed as far as they stand. A line of a step file makes such a tree from earlier ones, and where no
+-- A step whose trees are typed as far as they go. A line of a step file makes such a tree from earlier ones, and where no
 -- variable is open it is well typed.
 use Rattle.std.specs.Prelude.{◌≡◌, List, [], ◌∷◌, All}
 use Rattle.trees.specs.declared.TermId.{TermId}
@@ -12,11 +12,11 @@ use Rattle.tasks.specs.Open.{OpenTyped}
 use Rattle.rule_rows.specs.declared.rule.Step.{Step}
 use Rattle.rule_rows.specs.declared.rule.Rule.{Rule}
 use Rattle.rule_rows.specs.declared.rule.Rule.TheVariants.{Fact, Def, Clause, Inv}
-use Rattle.rule_rows.specs.Trees.{RuleTree, RReplace, trees_of}
+use Rattle.rule_rows.specs.Trees.{RuleTree, RReplace, rule_trees}
 use Rattle.rule_rows.specs.Meaning.{rule_at}
 use Rattle.linear_leaf.specs.Valuations.{Each}
 
--- a tree is typed as far as it stands; the tree of a number is
+-- a tree is typed as far as it goes; the tree of a number is
 abbrev pub OpenIn : TaskTree → Tree → Type 0
 OpenIn t e = OpenTyped (of_task t) e
 
@@ -39,7 +39,7 @@ types_in _ = []
 -- so are all trees of a step
 pub record StepIsOpen (t : TaskTree) (s : List Tree) (step : Step) : Type 0 where
   pub sequent : All (IsOpen t s) step.sequent
-  pub trees : Each (OpenIn t) (trees_of (rule_at s step.rule))
+  pub trees : Each (OpenIn t) (rule_trees (rule_at s step.rule))
   pub template : TemplateIsOpen t (rule_at s step.rule)
   pub types : All (IsOpen t s) (types_in step.rule)
 

@@ -7,10 +7,10 @@ use Rattle.tasks.specs.Task.{TaskTree, start}
 use Rattle.tasks.specs.Typing.{IsTyped}
 use Rattle.tasks.specs.Valid.{IsGround, IsGroundFormula, IsTypeOver}
 use Rattle.linear_leaf.specs.Valuations.{Each}
-use Rattle.rule_rows.specs.Trees.{StepTree, trees_of, types_of, step_or, sequents}
-use Rattle.rule_rows.specs.Rows.{Row}
+use Rattle.rule_rows.specs.Trees.{StepTree, rule_trees, rule_types, step_or, sequents}
+use Rattle.rule_rows.specs.Rows.{IsRuleRow}
 
--- a term or formula of the task: closed, typed in it and free of schematic types; parameters of any type may stand in it
+-- a term or formula of the task: closed, typed in it and free of schematic types; parameters of any type may be in it
 pub record IsGroundExpression (t : TaskTree) (e : Tree) : Type 0 where
   pub sort : (sort_of e ≡ Term) ⊎ (sort_of e ≡ Formula)
   pub typed : IsTyped t e
@@ -20,10 +20,10 @@ pub record IsGroundExpression (t : TaskTree) (e : Tree) : Type 0 where
 pub record IsRight (t : TaskTree) (before : List StepTree) (step : StepTree) : Type 0 where
   pub formulas : All (IsGroundFormula t) step.sequent
   -- the terms and formulas that the rule names, and its types
-  pub trees : Each (IsGroundExpression t) (trees_of step.rule)
-  pub types : All (IsTypeOver t 0) (types_of step.rule)
+  pub trees : Each (IsGroundExpression t) (rule_trees step.rule)
+  pub types : All (IsTypeOver t 0) (rule_types step.rule)
   pub earlier : All (λ k. k < length before) step.premises
-  pub row : Row t step.sequent step.rule (sequents before step.premises)
+  pub row : IsRuleRow t step.sequent step.rule (sequents before step.premises)
 
 -- each step is right over those before it
 abbrev pub AreRight : TaskTree → List StepTree → Type 0

@@ -1,5 +1,5 @@
 //! The checker: which steps of a refutation are right, and which steps derive a task.
-//! It stands on the rows of the table of rules, makes no trees and takes no memory; evidence and step files stand on it.
+//! It depends on the rows of the table of rules, makes no trees and takes no memory; evidence and step files depend on it.
 #![tactic(auto)]
 
 mod rows;

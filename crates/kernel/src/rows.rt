@@ -1,14 +1,15 @@
 // The table of rules: whether a rule's row holds.
-// It stands on the rows; the checker of a step stands on it.
+// It depends on the rows; the checker of a step depends on it.
 ghost use Rattle.std.specs.Prelude.{◌↔◌, IsTrue};
-ghost use Rattle.rule_rows.specs.Trees.{trees_of};
+ghost use Rattle.rule_rows.specs.Trees.{rule_trees};
 ghost use Rattle.rule_rows.specs.Meaning.{task_of, rule_at, RuleHeld, TriedHeld, RowOf};
 ghost use Rattle.kernel.specs.Open.{EachClosed, TemplateIsOpen};
 
 use fact_rows::{bound, clause, def, fact, inv, linear, trichotomy};
 use rule_rows::{
-    Rule, Tried, at_new, at_term, clash, cut, existential_parts, connective_fails, formula_at, connective_holds, if_def,
-    irrefl, is_false, keep, let_def, negated_formula, not_not, not_true, refl, replace, universal_parts,
+    Rule, Tried, at_new, at_term, clash, connective_fails, connective_holds, cut,
+    existential_parts, formula_at, if_def, irrefl, is_false, keep, let_def, negated_formula,
+    not_not, not_true, refl, replace, universal_parts,
 };
 use term_rows::{case, distinct, inject, match_def, project};
 use trees::Op;
@@ -17,7 +18,7 @@ use trees::Op;
 pub(crate) fn row_holds<'a>(x: &'a Tried<'a>, rule: &'a Rule) -> bool
     requires tried { TriedHeld x.now }
     requires held { RuleHeld x.now.store.now rule.now }
-    requires closed { EachClosed (trees_of (rule_at x.now.store.now rule.now)) }
+    requires closed { EachClosed (rule_trees (rule_at x.now.store.now rule.now)) }
     requires template { TemplateIsOpen (task_of x.now) (rule_at x.now.store.now rule.now) }
     ensures { IsTrue result ↔ RowOf x.now (rule_at x.now.store.now rule.now) }
 {
@@ -56,7 +57,11 @@ pub(crate) fn row_holds<'a>(x: &'a Tried<'a>, rule: &'a Rule) -> bool
             negated_formula(x.store, formula_at(x, *i)),
         ),
         Rule::Iff(i) => connective_holds(x, Op::Iff, formula_at(x, *i)),
-        Rule::NotIff(i) => connective_fails(x, Op::Iff, negated_formula(x.store, formula_at(x, *i))),
+        Rule::NotIff(i) => connective_fails(
+            x,
+            Op::Iff,
+            negated_formula(x.store, formula_at(x, *i)),
+        ),
         Rule::Forall(i, t) => at_term(x, universal_parts(x.store, formula_at(x, *i)), *t, true),
         Rule::NotForall(i, n) => at_new(
             x,

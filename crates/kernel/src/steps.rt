@@ -1,5 +1,5 @@
 // Which steps are right, and which steps derive a task.
-// It stands on the table of rules; drafts, step files and the program stand on it.
+// It depends on the table of rules; drafts, step files and the program depend on it.
 ghost use Rattle.std.specs.Prelude.{◌≡◌, ◌↔◌, ◌<◌, length, take, All, IsTrue, IfSome, IfNone};
 ghost use Rattle.trees.specs.Node.{Holds};
 ghost use Rattle.tasks.specs.Task.{start};
@@ -29,7 +29,7 @@ fn all_earlier(premises: &[usize], count: usize) -> bool
     true
 }
 
-/// Whether a step is right for a task, over the steps before it, where its trees are known to be typed as far as they stand.
+/// Whether a step is right for a task, over the steps before it, where its trees are known to be typed as far as they go.
 #[tactic(auto, using(crate::proofs::Complete::each_closed, crate::proofs::Complete::types_named))]
 pub fn right_typed_step(store: &Store, look: &Lookup<'_>, before: &[Step], step: &Step) -> bool
     requires look_held { LookupHeld store.now look.now }

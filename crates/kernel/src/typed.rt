@@ -1,12 +1,12 @@
-// Whether the trees of a step are typed as far as they stand, and whether such trees are formulas, terms and types of the task.
-// It stands on typing; the checker of a step stands on it.
+// Whether the trees of a step are typed as far as they go, and whether such trees are formulas, terms and types of the task.
+// It depends on typing; the checker of a step depends on it.
 ghost use Rattle.std.specs.Prelude.{◌≡◌, ◌↔◌, ◌⊎◌, All, IsTrue};
 ghost use Rattle.trees.specs.Node.{tree_at, Holds};
 ghost use Rattle.tasks.specs.Meaning.{task_at, trees_at, TaskHeld};
 ghost use Rattle.tasks.specs.Open.{OpenTyped};
 ghost use Rattle.tasks.specs.Valid.{IsGroundFormula, IsTypeOver};
 ghost use Rattle.typing.specs.Named.{vocabulary_at, VocabularyHeld};
-ghost use Rattle.rule_rows.specs.Trees.{trees_of};
+ghost use Rattle.rule_rows.specs.Trees.{rule_trees};
 ghost use Rattle.rule_rows.specs.Meaning.{rule_at, RuleHeld, StepHeld};
 ghost use Rattle.linear_leaf.specs.Valuations.{Each};
 ghost use Rattle.kernel.specs.Right.{IsGroundExpression};
@@ -18,7 +18,7 @@ use term_store::Store;
 use trees::{Parts, Sort, TermId};
 use typing::{Vocabulary, is_ground, is_open_typed};
 
-// Whether a tree is typed as far as it stands.
+// Whether a tree is typed as far as it goes.
 fn is_open(store: &Store, v: &Vocabulary<'_>, e: TermId) -> bool
     requires v_held { VocabularyHeld store.now v.now }
     requires held { Holds store.now e }
@@ -66,7 +66,7 @@ fn names_open(store: &Store, task: &Task, rule: &Rule) -> bool
     requires task_held { TaskHeld store.now task.now }
     requires held { RuleHeld store.now rule.now }
     ensures { IsTrue result ↔ Each (OpenIn (task_at store.now task.now))
-        (trees_of (rule_at store.now rule.now)) }
+        (rule_trees (rule_at store.now rule.now)) }
 {
     match rule {
         Rule::Forall(_, e) | Rule::NotExists(_, e) => is_open_in(store, task, *e),
@@ -93,7 +93,7 @@ fn template_is_open(store: &Store, task: &Task, rule: &Rule) -> bool
     }
 }
 
-// Whether all trees of a step are typed as far as they stand.
+// Whether all trees of a step are typed as far as they go.
 #[tactic(auto, using(crate::proofs::Complete::types_held))]
 pub(crate) fn step_is_open(store: &Store, task: &Task, step: &Step) -> bool
     requires task_held { TaskHeld store.now task.now }
@@ -125,7 +125,7 @@ pub(crate) fn types_in(rule: &Rule) -> &[TermId]
     }
 }
 
-// Whether a tree that is typed as far as it stands is well typed and free of schematic types.
+// Whether a tree that is typed as far as it goes is well typed and free of schematic types.
 #[tactic(auto, using(crate::proofs::Complete::open_closed))]
 fn is_complete(store: &Store, task: &Task, e: TermId) -> bool
     requires held { Holds store.now e }
@@ -136,7 +136,7 @@ fn is_complete(store: &Store, task: &Task, e: TermId) -> bool
     store.loose(e) == 0 && is_ground(store, e)
 }
 
-// Whether it is a formula that may stand in a sequent.
+// Whether it is a formula that may be in a sequent.
 #[tactic(auto, using(crate::proofs::Complete::sentence))]
 fn is_sentence(store: &Store, task: &Task, e: TermId) -> bool
     requires held { Holds store.now e }
@@ -177,7 +177,7 @@ fn is_expression(store: &Store, task: &Task, e: TermId) -> bool
     is_value(store.sort(e)) && is_complete(store, task, e)
 }
 
-// Whether each formula of a sequent may stand there.
+// Whether each formula of a sequent may be there.
 pub(crate) fn are_sentences(store: &Store, task: &Task, sequent: &[TermId]) -> bool
     requires held { All (Holds store.now) sequent.now }
     requires open { All (IsOpen (task_at store.now task.now) store.now) sequent.now }
@@ -211,9 +211,9 @@ pub(crate) fn are_types(store: &Store, task: &Task, types: &[TermId]) -> bool
 pub(crate) fn names_right(store: &Store, task: &Task, rule: &Rule) -> bool
     requires held { RuleHeld store.now rule.now }
     requires trees { Each (OpenIn (task_at store.now task.now))
-        (trees_of (rule_at store.now rule.now)) }
+        (rule_trees (rule_at store.now rule.now)) }
     ensures { IsTrue result ↔ Each (IsGroundExpression (task_at store.now task.now))
-        (trees_of (rule_at store.now rule.now)) }
+        (rule_trees (rule_at store.now rule.now)) }
 {
     match rule {
         Rule::Forall(_, e) | Rule::NotExists(_, e) => is_expression(store, task, *e),

@@ -1,5 +1,5 @@
 //! Tests of the checker: random steps against a plain check, and steps that no step file can write.
-//! It stands on the kernel; nothing stands on it.
+//! It depends on the kernel; nothing depends on it.
 #![tactic(auto)]
 
 #[cfg(test)]

@@ -1,5 +1,5 @@
 // Random small sequents and steps, right ones and changed ones, against a plain check that makes what each premise adds.
-// It stands on the small task and on the checker; nothing stands on it.
+// It depends on the small task and on the checker; nothing depends on it.
 ghost use Rattle.std.specs.Prelude.{◌<◌};
 ghost use Rattle.rule_rows.specs.Meaning.{RuleHeld};
 
@@ -117,7 +117,7 @@ struct Choice {
     tree: TermId,
 }
 
-// How many premises there are, and what the first and the second one have behind the sequent; END is none.
+// How many premises there are, and what the first and the second one have after the sequent; END is none.
 #[derive(Clone, Copy)]
 struct Premises {
     count: usize,
@@ -516,8 +516,14 @@ fn are_asked(asked: Option<Premises>, p: Premises) -> bool {
     }
 }
 
-// A sequent with formulas behind it.
-fn with_formulas(rt: &impl Abort, alloc: Global, sequent: &[TermId], a: TermId, b: TermId) -> Vec<TermId> {
+// A sequent with formulas after it.
+fn with_formulas(
+    rt: &impl Abort,
+    alloc: Global,
+    sequent: &[TermId],
+    a: TermId,
+    b: TermId,
+) -> Vec<TermId> {
     let mut all = Vec::from_slice(alloc, sequent).expect(rt, MEMORY);
     for formula in &[a, b] {
         if *formula != END {

@@ -1,5 +1,5 @@
 // Steps for the random ones, and what no step file can write: integers whose symbols the task doesn't declare, and a formula with
-// a schematic type. They stand on the small task and on the checker.
+// a schematic type. They depend on the small task and on the checker.
 ghost use Rattle.rule_rows.specs.Meaning.{RuleHeld, StepHeld, StepsHeld};
 
 use crate::nodes::NODES;

@@ -4,7 +4,7 @@ use Rattle.std.proofs.Math.IntN.{ℤ, pos, negsuc, ◌+ℤ◌, ◌-ℤ◌, ◌*�
 use Rattle.std.proofs.lemmas.Int.{ints}
 use Rattle.trees.specs.Tree.{Tree, Leaf, One, Two, Three, HEnd, HNum, HCell, HFun}
 use Rattle.trees.specs.declared.ints.Ints.{Ints}
-use Rattle.linear_leaf.specs.Linear.{Sum, number, with_one, with_two, product_by, both, sum, negation, atom, reading, Operation, Add, Subtract, Multiply, Other, operation}
+use Rattle.linear_leaf.specs.Linear.{Sum, constant_sum, negated_or_same, with_two, product_by, both_have, sum, negated_sum, atom, reading, SumOperation, Add, Subtract, Multiply, Other, sum_operation}
 use Rattle.linear_leaf.specs.Valuations.{Each}
 use Rattle.linear_leaf.proofs.Integers.{mul-add, mul-sub, mul-swap}
 use Rattle.linear_leaf.proofs.Same.{Same, same, both_same}
@@ -39,7 +39,7 @@ pub all_right : (P : Tree → Type 0) (xs ys : List Tree) → Each P (xs ++ ys) 
 all_right P [] ys h = h
 all_right P (x ∷ xs) ys h = all_right P xs ys h.1
 
-one_empty : (xs ys : List Tree) → both xs ys ≡ false → (xs ≡ []) ⊎ (ys ≡ [])
+one_empty : (xs ys : List Tree) → both_have xs ys ≡ false → (xs ≡ []) ⊎ (ys ≡ [])
 one_empty [] ys h = inl refl
 one_empty (x ∷ xs) [] h = inr refl
 one_empty (x ∷ xs) (y ∷ ys) h = absurd (cc h)
@@ -58,8 +58,8 @@ module _ (u w i o : Tree → ℤ) (k : ℤ) where
   abbrev Fours : Sum → Sum → Sum → Sum → Type 0
   Fours = Four k Lies
 
-  one_line : (c : Bool) (e : Tree) (a b c' d : Sum) → Fours a b c' d → Each Lies (with_one o c e d).atoms
-      → Line k (with_one u c e a).value (with_one w c e b).value (with_one i c e c').value (with_one o c e d).value
+  one_line : (c : Bool) (e : Tree) (a b c' d : Sum) → Fours a b c' d → Each Lies (negated_or_same o c e d).atoms
+      → Line k (negated_or_same u c e a).value (negated_or_same w c e b).value (negated_or_same i c e c').value (negated_or_same o c e d).value
   one_line true e a b c' d h l = line_neg k _ _ _ _ (h.line l)
   one_line false e a b c' d h l = l.0
 
@@ -71,7 +71,7 @@ module _ (u w i o : Tree → ℤ) (k : ℤ) where
       → Line k (a.value *ℤ x.value) (b.value *ℤ y.value) (c.value *ℤ z.value) (d.value *ℤ t.value)
   flat_right a b c d x y z t h g n l = rw (← g.same_u.fixed n, ← g.same_w.fixed n, ← g.same_i.fixed n) (line_of t.value k _ _ _ _ (h.line l))
 
-  product_line : (m : Bool) (e : Tree) (a b c d x y z t : Sum) → Fours a b c d → Fours x y z t → both d.atoms t.atoms ≡ m → Each Lies (product_by o m e d t).atoms
+  product_line : (m : Bool) (e : Tree) (a b c d x y z t : Sum) → Fours a b c d → Fours x y z t → both_have d.atoms t.atoms ≡ m → Each Lies (product_by o m e d t).atoms
       → Line k (product_by u m e a x).value (product_by w m e b y).value (product_by i m e c z).value (product_by o m e d t).value
   product_line true e a b c d x y z t h g n l = l.0
   product_line false e a b c d x y z t h g n l = elim (one_empty d.atoms t.atoms n) [
@@ -79,16 +79,16 @@ module _ (u w i o : Tree → ℤ) (k : ℤ) where
     | inr p ↦ flat_right a b c d x y z t h g p (all_left Lies d.atoms t.atoms l)
   ]
 
-  products_line : (m mu mw mi : Bool) → m ≡ mu → m ≡ mw → m ≡ mi → (e : Tree) (a b c d x y z t : Sum) → Fours a b c d → Fours x y z t → both d.atoms t.atoms ≡ m → Each Lies (product_by o m e d t).atoms
+  products_line : (m mu mw mi : Bool) → m ≡ mu → m ≡ mw → m ≡ mi → (e : Tree) (a b c d x y z t : Sum) → Fours a b c d → Fours x y z t → both_have d.atoms t.atoms ≡ m → Each Lies (product_by o m e d t).atoms
       → Line k (product_by u mu e a x).value (product_by w mw e b y).value (product_by i mi e c z).value (product_by o m e d t).value
   products_line m mu mw mi pu pw pi e a b c d x y z t h g n l = rw (← pu, ← pw, ← pi) (product_line m e a b c d x y z t h g n l)
 
-  two_line : (op : Operation) (e : Tree) (a b c d x y z t : Sum) → Fours a b c d → Fours x y z t → Each Lies (with_two o op e d t).atoms
+  two_line : (op : SumOperation) (e : Tree) (a b c d x y z t : Sum) → Fours a b c d → Fours x y z t → Each Lies (with_two o op e d t).atoms
       → Line k (with_two u op e a x).value (with_two w op e b y).value (with_two i op e c z).value (with_two o op e d t).value
   two_line Add e a b c d x y z t h g l = line_add k _ _ _ _ _ _ _ _ (h.line (all_left Lies d.atoms t.atoms l)) (g.line (all_right Lies d.atoms t.atoms l))
   two_line Subtract e a b c d x y z t h g l = line_add k _ _ _ _ _ _ _ _ (h.line (all_left Lies d.atoms t.atoms l)) (line_neg k _ _ _ _ (g.line (all_right Lies d.atoms t.atoms l)))
   two_line Multiply e a b c d x y z t h g l =
-      products_line (both d.atoms t.atoms) (both a.atoms x.atoms) (both b.atoms y.atoms) (both c.atoms z.atoms) (both_same d a t x h.same_u g.same_u) (both_same d b t y h.same_w g.same_w) (both_same d c t z h.same_i g.same_i)
+      products_line (both_have d.atoms t.atoms) (both_have a.atoms x.atoms) (both_have b.atoms y.atoms) (both_have c.atoms z.atoms) (both_same d a t x h.same_u g.same_u) (both_same d b t y h.same_w g.same_w) (both_same d c t z h.same_i g.same_i)
       e a b c d x y z t h g refl l
   two_line Other e a b c d x y z t h g l = l.0
 

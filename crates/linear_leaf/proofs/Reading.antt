@@ -3,14 +3,14 @@ use Rattle.std.proofs.Common.{◌≡◌, ℕ, Bool, true, false, ◌||◌, List,
 use Rattle.std.proofs.Math.IntN.{ℤ}
 use Rattle.trees.specs.Tree.{Tree, Leaf, One, Two, Three, HEnd, HNum, HCell, HFun}
 use Rattle.trees.specs.declared.ints.Ints.{Ints}
-use Rattle.linear_leaf.specs.Linear.{Sum, with_one, with_two, atom, has_any, reading, Operation, Add, Subtract, Multiply, Other, operation}
+use Rattle.linear_leaf.specs.Linear.{Sum, negated_or_same, with_two, atom, has_any, reading, SumOperation, Add, Subtract, Multiply, Other, sum_operation}
 use Rattle.linear_leaf.specs.Views.{Top, one_top, two_top, top_of, read_top}
 
-one_read : (z : Ints) (v : Tree → ℤ) (c : Bool) (e a : Tree) → with_one v c e (reading z v a) ≡ read_top z v e (one_top c a)
+one_read : (z : Ints) (v : Tree → ℤ) (c : Bool) (e a : Tree) → negated_or_same v c e (reading z v a) ≡ read_top z v e (one_top c a)
 one_read z v true e a = refl
 one_read z v false e a = refl
 
-two_read : (z : Ints) (v : Tree → ℤ) (op : Operation) (e a b : Tree) → with_two v op e (reading z v a) (reading z v b) ≡ read_top z v e (two_top op a b)
+two_read : (z : Ints) (v : Tree → ℤ) (op : SumOperation) (e a b : Tree) → with_two v op e (reading z v a) (reading z v b) ≡ read_top z v e (two_top op a b)
 two_read z v Add e a b = refl
 two_read z v Subtract e a b = refl
 two_read z v Multiply e a b = refl

@@ -3,7 +3,7 @@ use Rattle.std.proofs.Common.{◌≡◌, ℕ, ◌+◌, ◌*◌, Bool, true, fals
 use Rattle.std.proofs.Math.IntN.{ℤ, pos, ◌+ℤ◌, ◌*ℤ◌, neg_ℤ}
 use Rattle.trees.specs.Tree.{Tree, Leaf, One, Two, Three, HEnd, HNum, HCell, HFun}
 use Rattle.trees.specs.declared.ints.Ints.{Ints}
-use Rattle.linear_leaf.specs.Linear.{Sum, with_one, with_two, product_by, both, sum, negation, atom, reading, Operation, Add, Subtract, Multiply, Other, operation}
+use Rattle.linear_leaf.specs.Linear.{Sum, negated_or_same, with_two, product_by, both_have, sum, negated_sum, atom, reading, SumOperation, Add, Subtract, Multiply, Other, sum_operation}
 
 pub record Same (a b : Sum) : Type 0 where
   pub weight : a.weight ≡ b.weight
@@ -18,14 +18,14 @@ pub right_empty : (xs ys : List Tree) → xs ++ ys ≡ [] → ys ≡ []
 right_empty [] ys h = h
 right_empty (x ∷ xs) ys h = absurd (cc h)
 
-pub both_same : (a b x y : Sum) → Same a b → Same x y → both a.atoms x.atoms ≡ both b.atoms y.atoms
+pub both_same : (a b x y : Sum) → Same a b → Same x y → both_have a.atoms x.atoms ≡ both_have b.atoms y.atoms
 both_same a b x y h k = let p = h.atoms in let q = k.atoms in cc
 
 module _ (v w : Tree → ℤ) where
   atom_same : (e : Tree) → Same (atom v e) (atom w e)
   atom_same e = record { weight = refl; atoms = refl; fixed = λ h. absurd (cc h) }
 
-  one_same : (c : Bool) (e : Tree) (a b : Sum) → Same a b → Same (with_one v c e a) (with_one w c e b)
+  one_same : (c : Bool) (e : Tree) (a b : Sum) → Same a b → Same (negated_or_same v c e a) (negated_or_same w c e b)
   one_same true e a b h = record { weight = h.weight; atoms = h.atoms; fixed = λ n. ap neg_ℤ (h.fixed n) }
   one_same false e a b h = atom_same e
 
@@ -37,7 +37,7 @@ module _ (v w : Tree → ℤ) where
     fixed = λ n. let p = h.fixed (left_empty a.atoms x.atoms n) in let q = k.fixed (right_empty a.atoms x.atoms n) in cc;
   }
 
-  two_same : (op : Operation) (e : Tree) (a b x y : Sum) → Same a b → Same x y → Same (with_two v op e a x) (with_two w op e b y)
+  two_same : (op : SumOperation) (e : Tree) (a b x y : Sum) → Same a b → Same x y → Same (with_two v op e a x) (with_two w op e b y)
   two_same Add e a b x y h k = record {
     weight = let p = h.weight in let q = k.weight in cc;
     atoms = let p = h.atoms in let q = k.atoms in cc;
@@ -49,7 +49,7 @@ module _ (v w : Tree → ℤ) where
     fixed = λ n. let p = h.fixed (left_empty a.atoms x.atoms n) in let q = k.fixed (right_empty a.atoms x.atoms n) in cc;
   }
   two_same Multiply e a b x y h k =
-      subst (λ (c : Bool). Same (product_by v (both a.atoms x.atoms) e a x) (product_by w c e b y)) (both_same a b x y h k) (product_same (both a.atoms x.atoms) e a b x y h k)
+      subst (λ (c : Bool). Same (product_by v (both_have a.atoms x.atoms) e a x) (product_by w c e b y)) (both_same a b x y h k) (product_same (both_have a.atoms x.atoms) e a b x y h k)
   two_same Other e a b x y h k = atom_same e
 
 pub same : (z : Ints) (v w : Tree → ℤ) (e : Tree) → Same (reading z v e) (reading z w e)

@@ -4,7 +4,7 @@ use Rattle.std.proofs.Math.IntN.{ℤ, pos, ◌+ℤ◌, ◌*ℤ◌, neg_ℤ, nat_
 use Rattle.std.proofs.lemmas.Int.{ints, unsigned_abs-mul}
 use Rattle.trees.specs.Tree.{Tree, Leaf, One, Two, Three, HEnd, HNum, HCell, HFun}
 use Rattle.trees.specs.declared.ints.Ints.{Ints}
-use Rattle.linear_leaf.specs.Linear.{Sum, number, with_one, with_two, product_by, both, sum, negation, atom, reading, Operation, Add, Subtract, Multiply, Other, operation}
+use Rattle.linear_leaf.specs.Linear.{Sum, constant_sum, negated_or_same, with_two, product_by, both_have, sum, negated_sum, atom, reading, SumOperation, Add, Subtract, Multiply, Other, sum_operation}
 use Rattle.linear_leaf.proofs.Integers.{nat_abs-add, nat_abs-neg, mul_le, one-mul-le}
 
 pub record Small (a : Sum) : Type 0 where
@@ -18,10 +18,10 @@ module _ (v : Tree → ℤ) (u : IsUnit v) where
   atom_small : (e : Tree) → Small (atom v e)
   atom_small e = record { above = omega arith; within = u e }
 
-  number_small : (n : ℤ) → Small (number n)
+  number_small : (n : ℤ) → Small (constant_sum n)
   number_small n = record { above = omega arith; within = omega arith }
 
-  one_small : (c : Bool) (e : Tree) (a : Sum) → Small a → Small (with_one v c e a)
+  one_small : (c : Bool) (e : Tree) (a : Sum) → Small a → Small (negated_or_same v c e a)
   one_small true e a h = record { above = h.above; within = let p = nat_abs-neg a.value in omega (arith, h.within) }
   one_small false e a h = atom_small e
 
@@ -32,7 +32,7 @@ module _ (v : Tree → ℤ) (u : IsUnit v) where
     within = let p = unsigned_abs-mul a.value b.value in let q = mul_le (nat_abs a.value) a.weight (nat_abs b.value) b.weight h.within k.within in omega arith;
   }
 
-  two_small : (op : Operation) (e : Tree) (a b : Sum) → Small a → Small b → Small (with_two v op e a b)
+  two_small : (op : SumOperation) (e : Tree) (a b : Sum) → Small a → Small b → Small (with_two v op e a b)
   two_small Add e a b h k = record { above = omega (arith, h.above); within = let p = nat_abs-add a.value b.value in omega (arith, h.within, k.within) }
   two_small Subtract e a b h k = record { above = omega (arith, h.above); within = let p = nat_abs-add a.value (neg_ℤ b.value) in let q = nat_abs-neg b.value in omega (arith, h.within, k.within) }
   two_small Multiply e a b h k = product_small _ e a b h k

@@ -6,19 +6,19 @@ use Rattle.trees.specs.Node.{tree_at}
 use Rattle.trees.specs.declared.ints.Ints.{Ints}
 use Rattle.linear_leaf.specs.declared.terms.Summand.{Summand}
 use Rattle.linear_leaf.specs.declared.terms.Summand.TheVariants as code
-use Rattle.linear_leaf.specs.Linear.{Sum, number, with_one, with_two, atom, reading, Operation, Add, Subtract, Multiply, Other, operation}
+use Rattle.linear_leaf.specs.Linear.{Sum, constant_sum, negated_or_same, with_two, atom, reading, SumOperation, Add, Subtract, Multiply, Other, sum_operation}
 
 pub data Top : Type 0 where
   Number : ℤ → Top
   Negated : Tree → Top
-  Applied : Operation → Tree → Tree → Top
+  Applied : SumOperation → Tree → Tree → Top
   Atom : Top
 
 abbrev pub one_top : Bool → Tree → Top
 one_top true a = Negated a
 one_top false a = Atom
 
-abbrev pub two_top : Operation → Tree → Tree → Top
+abbrev pub two_top : SumOperation → Tree → Tree → Top
 two_top Add a b = Applied Add a b
 two_top Subtract a b = Applied Subtract a b
 two_top Multiply a b = Applied Multiply a b
@@ -27,7 +27,7 @@ two_top Other a b = Atom
 abbrev pub top_of : Ints → Tree → Top
 top_of z (Leaf (HNum n)) = Number n
 top_of z (Three (HFun f) types (Two HCell a (Leaf HEnd)) ty) = one_top (f == z.neg) a
-top_of z (Three (HFun f) types (Two HCell a (Two HCell b (Leaf HEnd))) ty) = two_top (operation z f) a b
+top_of z (Three (HFun f) types (Two HCell a (Two HCell b (Leaf HEnd))) ty) = two_top (sum_operation z f) a b
 top_of z e = Atom
 
 abbrev pub top_at : List Tree → Summand → Top
@@ -48,7 +48,7 @@ PartsBelow k (code.Times a b) = (a.0 < k) × (b.0 < k)
 PartsBelow k code.Atom = Unit {0}
 
 abbrev pub read_top : Ints → (Tree → ℤ) → Tree → Top → Sum
-read_top z v e (Number n) = number n
-read_top z v e (Negated a) = with_one v true e (reading z v a)
+read_top z v e (Number n) = constant_sum n
+read_top z v e (Negated a) = negated_or_same v true e (reading z v a)
 read_top z v e (Applied op a b) = with_two v op e (reading z v a) (reading z v b)
 read_top z v e Atom = atom v e

@@ -1,5 +1,5 @@
 //! The linear leaf: whether a weighted sum of formulas over the integers can't hold (Farkas), found without memory.
-//! It stands on the store's queries alone; the checker's rule `linear` stands on it.
+//! It depends on the store's queries alone; the checker's rule `linear` depends on it.
 #![tactic(auto)]
 
 mod terms;

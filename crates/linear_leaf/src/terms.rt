@@ -1,11 +1,11 @@
 // Terms as sums: what a term is at its top, its weight, its value where one atom is 1 and the others are 0, and whether it has an atom.
-// They stand on the store; the weighted sum stands on them.
+// They depend on the store; the weighted sum depends on them.
 ghost use Rattle.std.specs.Prelude.{◌≡◌, ℕ, ℤ, ◌+◌, ◌*◌, ◌+ℤ◌, ◌*ℤ◌, neg_ℤ, nat_abs, ◌<◌, ◌≤◌, ◌^◌, min, List, IfSome};
 ghost use Rattle.std.specs.Option.{option_map};
 ghost use Rattle.trees.specs.Tree.{Tree};
 ghost use Rattle.trees.specs.Node.{tree_at, Holds};
 ghost use Rattle.linear_leaf.specs.Views.{top_of, top_at, PartsBelow, two_top, read_top};
-ghost use Rattle.linear_leaf.specs.Linear.{operation, reading, zeros, has_any};
+ghost use Rattle.linear_leaf.specs.Linear.{sum_operation, reading, zeros, has_any};
 ghost use Rattle.linear_leaf.specs.Valuations.{one_at};
 
 use term_store::Store;
@@ -25,7 +25,7 @@ pub(crate) enum Summand {
 // A function on two arguments.
 fn on_two(ints: &Ints, f: usize, a: TermId, b: TermId) -> Summand
     ensures tree { (s : List Tree) → top_at s result
-        ≡ two_top (operation ints.now f) (tree_at s a) (tree_at s b) }
+        ≡ two_top (sum_operation ints.now f) (tree_at s a) (tree_at s b) }
     ensures below { (k : ℕ) → a.0 < k → b.0 < k → PartsBelow k result }
 {
     if f == ints.add {

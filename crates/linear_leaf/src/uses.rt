@@ -1,12 +1,12 @@
-// The weighted sum: what formulas may stand in it, its weight, its value where one atom is 1, and whether its atoms cancel.
-// They stand on terms as sums.
+// The weighted sum: what formulas may be in it, its weight, its value where one atom is 1, and whether its atoms cancel.
+// They depend on terms as sums.
 ghost use Rattle.std.specs.Prelude.{◌≡◌, ◌↔◌, ℕ, ℤ, ◌≤◌, ◌^◌, min, map, nat_abs, List, All, Some, true, false, IsTrue, IfSome};
 ghost use Rattle.std.specs.Option.{option_map};
 ghost use Rattle.trees.specs.Tree.{Tree};
 ghost use Rattle.trees.specs.Node.{tree_at, Holds};
-ghost use Rattle.linear_leaf.specs.Linear.{compared, uncompared, addend, pair_of, bounded, bounded_at, reading, difference, heft, zeros, IsUse, AreUses, part, total, weight_of, weight, ClosesLinear};
+ghost use Rattle.linear_leaf.specs.Linear.{comparison_bound, uncompared, addend, pair_of, bounded, bounded_at, reading, difference, heft, zeros, IsRightMultiplier, AreUses, part, total, weight_of, weight, ClosesLinear};
 ghost use Rattle.linear_leaf.specs.Valuations.{one_at, Each, Cancels, part_atoms, use_atoms};
-ghost use Rattle.linear_leaf.specs.Uses.{bound_at, BoundHeld, sequent_of, LeafHeld, IsLight, constant_of, CancelsIn, pair_at};
+ghost use Rattle.linear_leaf.specs.Uses.{bound_at, BoundHeld, leaf_sequent, LeafHeld, IsLight, constant_of, CancelsIn, pair_at};
 
 use crate::terms::{Summand, has_atom, minus, plus, times, top_of, value, weigh};
 use term_store::Store;
@@ -55,7 +55,7 @@ fn at_most(a: TermId, b: TermId) -> Bound
 // A comparison.
 fn comparison_bound(ints: &Ints, p: usize, a: TermId, b: TermId) -> Option<Bound>
     ensures tree { (s : List Tree) → option_map (bound_at s) result
-        ≡ compared ints.now p (tree_at s a) (tree_at s b) }
+        ≡ comparison_bound ints.now p (tree_at s a) (tree_at s b) }
     ensures held { (s : List Tree) → Holds s a → Holds s b → IfSome result (BoundHeld s) }
 {
     if p == ints.lt {
@@ -108,7 +108,7 @@ fn pair(store: &Store, list: TermId) -> Option<(TermId, TermId)>
     }
 }
 
-// A formula that may stand in the sum.
+// A formula that may be in the sum.
 fn formula_bound(store: &Store, ints: &Ints, f: TermId) -> Option<Bound>
     requires { Holds store.now f }
     ensures tree { option_map (bound_at store.now) result ≡ bounded ints.now (tree_at store.now f) }
@@ -136,11 +136,11 @@ fn formula_bound(store: &Store, ints: &Ints, f: TermId) -> Option<Bound>
     }
 }
 
-// The formula at a place, where it may stand in the sum.
+// The formula at a place, where it may be in the sum.
 fn bounded_at(x: &Leaf<'_>, place: usize) -> Option<Bound>
     requires { LeafHeld x.now }
     ensures tree { option_map (bound_at x.now.store.now) result
-        ≡ bounded_at x.now.ints.now (sequent_of x.now) place }
+        ≡ bounded_at x.now.ints.now (leaf_sequent x.now) place }
     ensures held { IfSome result (BoundHeld x.now.store.now) }
 {
     match x.sequent.get(place) {
@@ -152,7 +152,7 @@ fn bounded_at(x: &Leaf<'_>, place: usize) -> Option<Bound>
 // Whether a formula may have a multiplier.
 fn is_use(store: &Store, d: Bound, multiplier: i128) -> bool
     requires { BoundHeld store.now d }
-    ensures { IsTrue result ↔ IsUse (bound_at store.now d) multiplier }
+    ensures { IsTrue result ↔ IsRightMultiplier (bound_at store.now d) multiplier }
 {
     if d.equation {
         match store.ty(d.left) {
@@ -164,10 +164,10 @@ fn is_use(store: &Store, d: Bound, multiplier: i128) -> bool
     }
 }
 
-// Whether each place has a formula that may stand in the sum.
+// Whether each place has a formula that may be in the sum.
 fn are_uses(x: &Leaf<'_>, uses: &[(usize, i128)]) -> bool
     requires { LeafHeld x.now }
-    ensures { IsTrue result ↔ AreUses x.now.ints.now (sequent_of x.now) uses.now }
+    ensures { IsTrue result ↔ AreUses x.now.ints.now (leaf_sequent x.now) uses.now }
 {
     match uses.split_first() {
         Some((first, more)) => match bounded_at(x, first.0) {
@@ -202,7 +202,7 @@ fn weigh_part(x: &Leaf<'_>, d: Bound, multiplier: i128) -> u128
 // The weight of the sum, or the greatest number.
 fn weigh_all(x: &Leaf<'_>, uses: &[(usize, i128)]) -> u128
     requires { LeafHeld x.now }
-    ensures { result ≡ min (weight x.now.ints.now (sequent_of x.now) uses.now) u128.MAX }
+    ensures { result ≡ min (weight x.now.ints.now (leaf_sequent x.now) uses.now) u128.MAX }
 {
     match uses.split_first() {
         Some((first, more)) => match bounded_at(x, first.0) {
@@ -278,8 +278,8 @@ fn part(x: &Leaf<'_>, d: Option<Bound>, multiplier: i128, one: Option<TermId>) -
 fn total(x: &Leaf<'_>, uses: &[(usize, i128)], one: Option<TermId>) -> i128
     requires held { LeafHeld x.now }
     requires one { IfSome one (Holds x.now.store.now) }
-    requires light { weight x.now.ints.now (sequent_of x.now) uses.now ≤ 2 ^ 126 }
-    ensures value { result ≡ total x.now.ints.now (sequent_of x.now)
+    requires light { weight x.now.ints.now (leaf_sequent x.now) uses.now ≤ 2 ^ 126 }
+    ensures value { result ≡ total x.now.ints.now (leaf_sequent x.now)
         (one_at (option_map (tree_at x.now.store.now) one)) uses.now }
 {
     match uses.split_first() {
@@ -335,7 +335,7 @@ fn uses_cancel(x: &Leaf<'_>, uses: &[(usize, i128)], constant: i128) -> bool
     requires light { IsLight x.now }
     requires constant { constant ≡ constant_of x.now }
     ensures { IsTrue result ↔ Each (CancelsIn x.now)
-        (use_atoms x.now.ints.now (sequent_of x.now) uses.now) }
+        (use_atoms x.now.ints.now (leaf_sequent x.now) uses.now) }
 {
     match uses.split_first() {
         Some((first, more)) => match bounded_at(x, first.0) {

@@ -1,5 +1,5 @@
 //! Tests of the linear leaf: sequents with their multipliers, row by row.
-//! It stands on the linear leaf and the store; nothing stands on it.
+//! It depends on the linear leaf and the store; nothing depends on it.
 #![tactic(auto)]
 
 #[cfg(test)]

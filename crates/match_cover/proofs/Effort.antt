@@ -6,8 +6,8 @@ use Rattle.trees.specs.Tree.{Tree, One, Two, Three, HCell, HPatAny, HPatVar, HPa
 use Rattle.trees.specs.Binding.{inst_types}
 use Rattle.tasks.specs.Task.{SymbolTree, symbol_or}
 use Rattle.tasks.specs.Typing.{members}
-use Rattle.match_cover.specs.Shapes.{arguments, fields, bare}
-use Rattle.match_cover.specs.Tables.{BareFits, RowFits, TableFits, opened_if, opened, specialized, tails, symbol_of_type, told, or_told, column_told, constructors, row_constructors, table_constructors, all_fields, width, effort}
+use Rattle.match_cover.specs.Shapes.{type_arguments, field_types, without_aliases}
+use Rattle.match_cover.specs.Tables.{BareFits, RowFits, TableFits, opened_if, opened, specialized, tails, symbol_of_type, told, or_told, column_told, constructor_count, row_constructors, table_constructors, all_fields, width, effort}
 
 row_append : (ps qs : List Tree) → row_constructors (ps ++ qs) ≡ row_constructors ps + row_constructors qs
 row_append [] qs = omega arith
@@ -17,15 +17,15 @@ table_append : (xs ys : List (List Tree)) → table_constructors (xs ++ ys) ≡ 
 table_append [] ys = omega arith
 table_append (x ∷ xs) ys = omega (arith, table_append xs ys)
 
-same_constructors : (p : Tree) → constructors (bare p) ≡ constructors p
+same_constructors : (p : Tree) → constructor_count (without_aliases p) ≡ constructor_count p
 same_constructors (One HPatAlias p) = same_constructors p
 same_constructors _ = refl
 
-members_constructors : (parts : Tree) → row_constructors (members parts) ≤ constructors parts
+members_constructors : (parts : Tree) → row_constructors (members parts) ≤ constructor_count parts
 members_constructors (Two HCell a b) = omega (arith, members_constructors b)
 members_constructors _ = omega arith
 
-none_repeated : (n : ℕ) (p : Tree) → constructors p ≡ 0 → row_constructors (replicate n p) ≡ 0
+none_repeated : (n : ℕ) (p : Tree) → constructor_count p ≡ 0 → row_constructors (replicate n p) ≡ 0
 none_repeated zero p e = refl
 none_repeated (suc n) p e = omega (arith, none_repeated n p e, e)
 
@@ -43,7 +43,7 @@ one_at_most (Some t) = omega arith
 
 -- a pattern that tells a type loses a constructor
 opened_less : (symbols : List SymbolTree) (t : Tree) (k n : ℕ) (b : Tree) (row : List Tree) → BareFits symbols t b
-    → table_constructors (opened k n b row) + one_or_none (told b) ≤ constructors b + row_constructors row
+    → table_constructors (opened k n b row) + one_or_none (told b) ≤ constructor_count b + row_constructors row
 opened_less symbols t k n (Three (HPatCon c) types parts type) row x =
     omega (arith, if_small (c == k) (members parts ++ row), row_append (members parts) row, members_constructors parts, one_at_most (symbol_of_type type))
 opened_less symbols t k n (One HPatAny a) row x = omega (arith, row_append (replicate n (One HPatAny a)) row, none_repeated n (One HPatAny a) refl)
@@ -61,11 +61,11 @@ split_less symbols t ts k n ([] ∷ rows) x = absurd x.0
 split_less symbols t ts k n ((p ∷ row) ∷ rows) x =
     omega (
       arith,
-      opened_less symbols t k n (bare p) row x.0.0,
+      opened_less symbols t k n (without_aliases p) row x.0.0,
       same_constructors p,
       split_less symbols t ts k n rows x.1,
-      told_once (told (bare p)) (column_told rows),
-      table_append (opened k n (bare p) row) (specialized k n rows),
+      told_once (told (without_aliases p)) (column_told rows),
+      table_append (opened k n (without_aliases p) row) (specialized k n rows),
     )
 
 tails_less : (rows : List (List Tree)) → table_constructors (tails rows) ≤ table_constructors rows
@@ -101,12 +101,12 @@ tails_effort symbols t ts ((p ∷ row) ∷ rows) x n =
     omega (arith, m)
 
 pub split_effort : (symbols : List SymbolTree) (t : Tree) (ts : List Tree) (k h : ℕ) (rows : List (List Tree)) → TableFits symbols (t ∷ ts) rows → rows ≢ [] → column_told rows ≡ Some h
-    → TableFits symbols (fields symbols t k ++ ts) (specialized k (length (fields symbols t k)) rows) → effort symbols (specialized k (length (fields symbols t k)) rows) < effort symbols rows
+    → TableFits symbols (field_types symbols t k ++ ts) (specialized k (length (field_types symbols t k)) rows) → effort symbols (specialized k (length (field_types symbols t k)) rows) < effort symbols rows
 split_effort symbols t ts k h [] x n e f = absurd (n refl)
 split_effort symbols t ts k h (r ∷ rows) x n e f =
-    let rs = specialized k (length (fields symbols t k)) (r ∷ rows) in
+    let rs = specialized k (length (field_types symbols t k)) (r ∷ rows) in
     let one : one_or_none (column_told (r ∷ rows)) ≡ 1 = ap one_or_none e in
-    let less : table_constructors rs + 1 ≤ table_constructors (r ∷ rows) = omega (arith, split_less symbols t ts k (length (fields symbols t k)) (r ∷ rows) x, one) in
-    let wide : width rs ≤ length (fields symbols t k ++ ts) = table_width symbols (fields symbols t k ++ ts) rs f in
+    let less : table_constructors rs + 1 ≤ table_constructors (r ∷ rows) = omega (arith, split_less symbols t ts k (length (field_types symbols t k)) (r ∷ rows) x, one) in
+    let wide : width rs ≤ length (field_types symbols t k ++ ts) = table_width symbols (field_types symbols t k ++ ts) rs f in
     weighs (table_constructors rs) (table_constructors (r ∷ rows)) (all_fields symbols) (width rs) (length r) less
-    (omega (arith, wide, length-append (fields symbols t k) ts, length-map (symbol_or symbols k).args (λ a. inst_types a (arguments t)), fields_within symbols k, row_width symbols (t ∷ ts) r x.0))
+    (omega (arith, wide, length-append (field_types symbols t k) ts, length-map (symbol_or symbols k).args (λ a. inst_types a (type_arguments t)), fields_within symbols k, row_width symbols (t ∷ ts) r x.0))

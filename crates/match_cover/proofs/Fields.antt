@@ -11,8 +11,8 @@ use Rattle.tasks.specs.Task.{SymbolTree, int_symbol}
 use Rattle.tasks.specs.Equations.{cells, type_variables}
 use Rattle.tasks.specs.Valid.{own_type}
 use Rattle.tasks.specs.Vocabulary.{Vocabulary, of_signature}
-use Rattle.tasks.specs.Typing.{members, IsUse, Gives, TypedUnder}
-use Rattle.match_cover.specs.Shapes.{arguments, fields, Builds, bare}
+use Rattle.tasks.specs.Typing.{members, IsUse, HasResult, TypedUnder}
+use Rattle.match_cover.specs.Shapes.{type_arguments, field_types, Builds, without_aliases}
 use Rattle.match_cover.specs.Tables.{BareFits, RowFits}
 
 -- ---- what is of the sort of patterns is a pattern
@@ -95,7 +95,7 @@ pattern_sort HCell s e = absurd (cc)
 pattern_sort HArm s e = absurd (cc)
 pattern_sort _ s e = e
 
-pub pattern_fits : (symbols : List SymbolTree) (t p : Tree) → sort_of p ≡ Pattern → TypedUnder (of_signature symbols) [] p → type_of p ≡ Some t → BareFits symbols t (bare p)
+pub pattern_fits : (symbols : List SymbolTree) (t p : Tree) → sort_of p ≡ Pattern → TypedUnder (of_signature symbols) [] p → type_of p ≡ Some t → BareFits symbols t (without_aliases p)
 pattern_fits symbols t (Leaf (HNum z)) k x e = absurd (cc)
 pattern_fits symbols t (Leaf HTrue) k x e = absurd (cc)
 pattern_fits symbols t (Leaf HFalse) k x e = absurd (cc)
@@ -130,7 +130,7 @@ put_in tys (suc n) from e =
 -- the arguments of the type that a constructor builds are the types at which it is used
 own_arguments : (h vars : ℕ) (types type a : Tree) → length (members types) ≡ vars → type ≡ One (HTyApp h) a → inst_types (own_type h vars) (members types) ≡ type → members a ≡ members types
 own_arguments h vars types type a long is made =
-    sym (ap arguments (made ∙ is)) ∙ put_in (members types) vars 0 (omega (arith, long))
+    sym (ap type_arguments (made ∙ is)) ∙ put_in (members types) vars 0 (omega (arith, long))
 
 row_from : (symbols : List SymbolTree) (tys : List Tree) (parts : Tree) (args : List Tree) → IsListOf Pattern (sort_of parts) (first_sort parts) → TypedUnder (of_signature symbols) [] parts
     → map type_of (members parts) ≡ map (λ x. Some (inst_types x tys)) args → RowFits symbols (map (λ x. inst_types x tys) args) (members parts)
@@ -144,8 +144,8 @@ row_from symbols tys _ [] l x e = tt
 row_from symbols tys _ (a ∷ args) l x e = absurd (cc)
 
 fields_known : (symbols : List SymbolTree) (h : ℕ) (a : Tree) (k : ℕ) (e : SymbolTree) (types parts type : Tree) → slice_get symbols k ≡ Some e → e.result ≡ Some (own_type h e.vars)
-    → IsUse e types parts → Gives e types type → type ≡ One (HTyApp h) a → IsListOf Pattern (sort_of parts) (first_sort parts) → TypedUnder (of_signature symbols) [] parts
-    → RowFits symbols (fields symbols (One (HTyApp h) a) k) (members parts)
+    → IsUse e types parts → HasResult e types type → type ≡ One (HTyApp h) a → IsListOf Pattern (sort_of parts) (first_sort parts) → TypedUnder (of_signature symbols) [] parts
+    → RowFits symbols (field_types symbols (One (HTyApp h) a) k) (members parts)
 fields_known symbols h a k e types parts type is res used gives same l x =
     let tys = members types in
     let made : Some (inst_types (own_type h e.vars) tys) ≡ Some type = subst (λ r. option_map (λ y. inst_types y tys) r ≡ Some type) res gives in
@@ -155,7 +155,7 @@ fields_known symbols h a k e types parts type is res used gives same l x =
     subst (λ (f : SymbolTree). RowFits symbols (map (λ y. inst_types y (members a)) f.args) (members parts)) (sym (get_or_from_slice_get symbols k e int_symbol is)) at
 
 pub fields_fit : (symbols : List SymbolTree) (t : Tree) (k c : ℕ) (types parts type : Tree) → BareFits symbols t (Three (HPatCon c) types parts type) → c ≡ k → Builds symbols t k
-    → RowFits symbols (fields symbols t k) (members parts)
+    → RowFits symbols (field_types symbols t k) (members parts)
 fields_fit symbols (One (HTyApp h) a) k c types parts type x same b =
     let p = some_parts (slice_get symbols c) _ x.1.1.1 in
     let q = some_parts (slice_get symbols k) _ b in

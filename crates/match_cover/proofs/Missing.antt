@@ -8,9 +8,9 @@ use Rattle.trees.specs.Node.{Holds}
 use Rattle.tasks.specs.Task.{SymbolTree, symbol_or}
 use Rattle.tasks.specs.Meaning.{trees_at}
 use Rattle.match_cover.specs.declared.shape.Shape.{Shape as StoredShape}
-use Rattle.match_cover.specs.Shapes.{Shape, unspecified, built, Shapes, none, more, Meets, IsPattern, HaveOneType, AreExhaustive, Escapes}
+use Rattle.match_cover.specs.Shapes.{ShapeTree, unspecified, built, Shapes, no_shapes, more_shapes, Meets, IsPattern, HaveOneType, AreExhaustive, Escapes}
 use Rattle.match_cover.specs.Tables.{IsTable, Answered, unknowns, specialized, tails, Splits, effort}
-use Rattle.match_cover.specs.Meaning.{shape_of, shapes_of, front, behind, table_at, TableHeld, single}
+use Rattle.match_cover.specs.Meaning.{shape_of, shapes_of, first_shapes, shapes_after, table_at, TableHeld, single_pattern}
 use Rattle.match_cover.proofs.Shapes.{count_shapes, only_shape, some_shape}
 use Rattle.match_cover.proofs.Tables.{tails_at, table_some, table_none, table_alone, alone_held}
 use Rattle.match_cover.proofs.Answering.{answered_empty, answered_narrow, answered_plain, answered_covered, answered_missed, PartCovers, is_split, tails_table, tails_smaller, part_table, part_smaller, part_long, alone, alone_table, covers_exhaustive, cover_left, escapes_not}
@@ -45,7 +45,7 @@ module _ (symbols : List SymbolTree) (s : List Tree) (at : ℕ) (rows : List (Li
   pub next_smaller : 0 < w → rows ≢ [] → IsTable symbols w table → effort symbols (table_at s (at + 1) rows) < effort symbols table
   next_smaller l n x = subst (λ t. effort symbols t < effort symbols table) (sym (tails_at s at rows)) (tails_smaller symbols w table l x (table_some s at rows n))
 
-  pub answer_plain : (ks : List ℕ) (o p : Option Shapes) → 0 < w → ks ≡ [] → Splits symbols table ks → Answered symbols (w - 1) (table_at s (at + 1) rows) o → p ≡ option_map (more unspecified) o → Answered symbols w table p
+  pub answer_plain : (ks : List ℕ) (o p : Option Shapes) → 0 < w → ks ≡ [] → Splits symbols table ks → Answered symbols (w - 1) (table_at s (at + 1) rows) o → p ≡ option_map (more_shapes unspecified) o → Answered symbols w table p
   answer_plain ks o p l z d h e =
       let t : Answered symbols (w - 1) (tails table) o = subst (λ y. Answered symbols (w - 1) y o) (tails_at s at rows) h in
       subst (Answered symbols w table) (sym e) (answered_plain symbols w table ks o l z d t)
@@ -80,11 +80,11 @@ module _ (symbols : List SymbolTree) (s : List Tree) (at : ℕ) (rows : List (Li
         omega (arith, part_long symbols (w - 1) n (table_at s 0 left) (shapes_of xs) y g, count_shapes xs)
 
     pub answer_missed : (xs ys : List StoredShape) → 0 < w → Splits symbols table ks → Contains ks k → Answered symbols m (table_at s 0 left) (Some (shapes_of xs))
-        → shapes_of ys ≡ more (built k (front n (shapes_of xs))) (behind n (shapes_of xs)) → Answered symbols w table (Some (shapes_of ys))
+        → shapes_of ys ≡ more_shapes (built k (first_shapes n (shapes_of xs))) (shapes_after n (shapes_of xs)) → Answered symbols w table (Some (shapes_of ys))
     answer_missed xs ys l d c h e =
         let a = answered_missed symbols w table ks k (shapes_of xs) l d c (part_answer (Some (shapes_of xs)) h) in
-        let f : shapes_of ys ≡ more (built k (front (length (symbol_or symbols k).args) (shapes_of xs))) (behind (length (symbol_or symbols k).args) (shapes_of xs)) =
-        subst (λ j. shapes_of ys ≡ more (built k (front j (shapes_of xs))) (behind j (shapes_of xs))) long e in
+        let f : shapes_of ys ≡ more_shapes (built k (first_shapes (length (symbol_or symbols k).args) (shapes_of xs))) (shapes_after (length (symbol_or symbols k).args) (shapes_of xs)) =
+        subst (λ j. shapes_of ys ≡ more_shapes (built k (first_shapes j (shapes_of xs))) (shapes_after j (shapes_of xs))) long e in
         subst (λ y. Answered symbols w table (Some y)) (sym f) a
 
     pub parts_more : (i : ℕ) → i < length ks → k ≡ get_or ks i k → Answered symbols m (table_at s 0 left) None → All (PartCovers symbols w table) (take i ks) → All (PartCovers symbols w table) (take (i + 1) ks)
@@ -109,10 +109,10 @@ empty_escapes symbols ps h e = record {
   unmet = subst (All (λ p. Meets unspecified p → ⊥)) (sym e) (All-nil (λ p. Meets unspecified p → ⊥));
 }
 
-pub some_iff : {X : Type 0} (symbols : List SymbolTree) (ps : List Tree) (s : Shape) (x : X) → Escapes symbols ps s → (◌≡◌ {A = Option X} (Some x) None) ↔ AreExhaustive symbols ps
+pub some_iff : {X : Type 0} (symbols : List SymbolTree) (ps : List Tree) (s : ShapeTree) (x : X) → Escapes symbols ps s → (◌≡◌ {A = Option X} (Some x) None) ↔ AreExhaustive symbols ps
 some_iff symbols ps s x w = (λ e. absurd (cc), λ h. absurd (escapes_not symbols ps s w h))
 
-module _ (symbols : List SymbolTree) (s : List Tree) (ps : List TermId) (rows : List (List TermId)) (are : rows ≡ map single ps) where
+module _ (symbols : List SymbolTree) (s : List Tree) (ps : List TermId) (rows : List (List TermId)) (are : rows ≡ map single_pattern ps) where
   rows_are : table_at s 0 rows ≡ alone (trees_at s ps)
   rows_are = ap (table_at s 0) are ∙ table_alone s ps
 
@@ -126,7 +126,7 @@ module _ (symbols : List SymbolTree) (s : List Tree) (ps : List TermId) (rows : 
   none_exhaustive a h = covers_exhaustive symbols (trees_at s ps) a (subst (λ t. Answered symbols 1 t None) rows_are h)
 
   module _ (a : All (IsPattern symbols) (trees_at s ps)) (h : HaveOneType (trees_at s ps)) (all : List StoredShape) (g : Answered symbols 1 (table_at s 0 rows) (Some (shapes_of all))) where
-    left : (x : Shape) × (shapes_of all ≡ more x none) × Escapes symbols (trees_at s ps) x
+    left : (x : ShapeTree) × (shapes_of all ≡ more_shapes x no_shapes) × Escapes symbols (trees_at s ps) x
     left = cover_left symbols (trees_at s ps) (shapes_of all) a h (subst (λ t. Answered symbols 1 t (Some (shapes_of all))) rows_are g)
 
     pub escapes_last : (rest : List StoredShape) (last : StoredShape) → all ≡ rest ++ last ∷ [] → Escapes symbols (trees_at s ps) (shape_of last)

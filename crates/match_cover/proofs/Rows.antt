@@ -7,7 +7,7 @@ use Rattle.tasks.specs.declared.signature.SymbolKind.TheVariants.{Kind, Construc
 use Rattle.tasks.specs.Task.{SymbolTree, int_symbol}
 use Rattle.tasks.specs.Equations.{cells}
 use Rattle.tasks.specs.Valid.{own_type}
-use Rattle.match_cover.specs.Shapes.{Shape, unspecified, built, Shapes, none, more, IsShape, Builds, fields, Meets, AreExhaustive, Escapes}
+use Rattle.match_cover.specs.Shapes.{ShapeTree, unspecified, built, Shapes, no_shapes, more_shapes, IsShape, Builds, field_types, Meets, AreExhaustive, Escapes}
 
 abbrev entry : ℕ → List Tree → Option Tree → SymbolTree
 entry vars args result = record { theory = codes "T"; name = codes "s"; kind = Constructor; vars = vars; args = args; result = result }
@@ -31,19 +31,19 @@ abbrev con : ℕ → List Tree → Tree → Tree
 con k parts ty = Three (HPatCon k) (Leaf HEnd) (cells parts) ty
 
 -- the fields of `Cons` at lists of t
-fields-row : fields symbols (list_of t) 6 ≡ t ∷ list_of t ∷ []
+fields-row : field_types symbols (list_of t) 6 ≡ t ∷ list_of t ∷ []
 fields-row = refl
 
 -- the pattern A alone leaves B, as it does under a name
-escapes-row : Escapes symbols (con 2 [] t ∷ []) (built 3 none)
+escapes-row : Escapes symbols (con 2 [] t ∷ []) (built 3 no_shapes)
 escapes-row = record {
   type = t;
   have = All-cons (λ p. type_of p ≡ Some t) (con 2 [] t) [] refl (All-nil (λ p. type_of p ≡ Some t));
   is = ((refl, refl), tt);
-  unmet = All-cons (λ p. Meets (built 3 none) p → ⊥) (con 2 [] t) [] (λ h. (let e : 2 ≡ 3 = h.0 in omega (arith, e))) (All-nil (λ p. Meets (built 3 none) p → ⊥));
+  unmet = All-cons (λ p. Meets (built 3 no_shapes) p → ⊥) (con 2 [] t) [] (λ h. (let e : 2 ≡ 3 = h.0 in omega (arith, e))) (All-nil (λ p. Meets (built 3 no_shapes) p → ⊥));
 }
 
-alias-row : Meets (built 3 none) (One HPatAlias (con 2 [] t)) → ⊥
+alias-row : Meets (built 3 no_shapes) (One HPatAlias (con 2 [] t)) → ⊥
 alias-row h = let e : 2 ≡ 3 = h.0 in omega (arith, e)
 
 -- the empty list leaves the unspecified shape
@@ -51,12 +51,12 @@ empty-row : Escapes symbols [] unspecified
 empty-row = record { type = t; have = All-nil (λ p. type_of p ≡ Some t); is = tt; unmet = All-nil (λ p. Meets unspecified p → ⊥) }
 
 -- `Cons _ Nil` meets the list of one member, and not a longer one
-one-row : Meets (built 6 (more unspecified (more (built 5 none) none))) (con 6 (One HPatAny t ∷ con 5 [] (list_of t) ∷ []) (list_of t))
+one-row : Meets (built 6 (more_shapes unspecified (more_shapes (built 5 no_shapes) no_shapes))) (con 6 (One HPatAny t ∷ con 5 [] (list_of t) ∷ []) (list_of t))
 one-row = (refl, (tt, ((refl, tt), tt)))
 
-longer-row : Meets (built 6 (more unspecified (more (built 6 (more unspecified (more unspecified none))) none))) (con 6 (One HPatAny t ∷ con 5 [] (list_of t) ∷ []) (list_of t)) → ⊥
+longer-row : Meets (built 6 (more_shapes unspecified (more_shapes (built 6 (more_shapes unspecified (more_shapes unspecified no_shapes))) no_shapes))) (con 6 (One HPatAny t ∷ con 5 [] (list_of t) ∷ []) (list_of t)) → ⊥
 longer-row h = let e : 5 ≡ 6 = h.1.1.0.0 in omega (arith, e)
 
 -- an unspecified tail is met by each pattern
-tail-row : Meets (built 6 (more unspecified (more unspecified none))) (con 6 (One HPatAny t ∷ con 5 [] (list_of t) ∷ []) (list_of t))
+tail-row : Meets (built 6 (more_shapes unspecified (more_shapes unspecified no_shapes))) (con 6 (One HPatAny t ∷ con 5 [] (list_of t) ∷ []) (list_of t))
 tail-row = (refl, (tt, (tt, tt)))

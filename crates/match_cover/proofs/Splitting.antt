@@ -5,41 +5,41 @@ use Rattle.trees.specs.Tree.{Tree, One, Three, HPatAny, HPatVar, HPatCon}
 use Rattle.tasks.specs.Task.{SymbolTree}
 use Rattle.tasks.specs.Typing.{members}
 use Rattle.match_cover.proofs.Fields.{fields_fit}
-use Rattle.match_cover.specs.Shapes.{Shape, unspecified, built, Shapes, none, more, IsShape, AreShapes, Builds, fields, bare, Meets, AreMet, MeetsBuilt}
-use Rattle.match_cover.specs.Tables.{BareFits, RowFits, TableFits, AnyMet, NoneMet, Covers, Misses, unknowns, count, join, opened_if, opened, specialized, tails}
+use Rattle.match_cover.specs.Shapes.{ShapeTree, unspecified, built, Shapes, no_shapes, more_shapes, IsShape, AreShapes, Builds, field_types, without_aliases, Meets, AreMet, MeetsBuilt}
+use Rattle.match_cover.specs.Tables.{BareFits, RowFits, TableFits, AnyMet, NoneMet, Covers, Misses, unknowns, number_of_shapes, append_shapes, opened_if, opened, specialized, tails}
 
 -- ---- shapes one after another
-pub are_joined : (symbols : List SymbolTree) (ss us : Shapes) (ts rs : List Tree) → AreShapes symbols ss ts → AreShapes symbols us rs → AreShapes symbols (join ss us) (ts ++ rs)
-are_joined symbols none us [] rs x y = y
-are_joined symbols none us (t ∷ ts) rs x y = absurd x
-are_joined symbols (more s ss) us [] rs x y = absurd x
-are_joined symbols (more s ss) us (t ∷ ts) rs x y = (x.0, are_joined symbols ss us ts rs x.1 y)
+pub are_joined : (symbols : List SymbolTree) (ss us : Shapes) (ts rs : List Tree) → AreShapes symbols ss ts → AreShapes symbols us rs → AreShapes symbols (append_shapes ss us) (ts ++ rs)
+are_joined symbols no_shapes us [] rs x y = y
+are_joined symbols no_shapes us (t ∷ ts) rs x y = absurd x
+are_joined symbols (more_shapes s ss) us [] rs x y = absurd x
+are_joined symbols (more_shapes s ss) us (t ∷ ts) rs x y = (x.0, are_joined symbols ss us ts rs x.1 y)
 
-pub counted : (symbols : List SymbolTree) (ss : Shapes) (ts : List Tree) → AreShapes symbols ss ts → count ss ≡ length ts
-counted symbols none [] x = refl
-counted symbols none (t ∷ ts) x = absurd x
-counted symbols (more s ss) [] x = absurd x
-counted symbols (more s ss) (t ∷ ts) x = omega (arith, counted symbols ss ts x.1)
+pub counted : (symbols : List SymbolTree) (ss : Shapes) (ts : List Tree) → AreShapes symbols ss ts → number_of_shapes ss ≡ length ts
+counted symbols no_shapes [] x = refl
+counted symbols no_shapes (t ∷ ts) x = absurd x
+counted symbols (more_shapes s ss) [] x = absurd x
+counted symbols (more_shapes s ss) (t ∷ ts) x = omega (arith, counted symbols ss ts x.1)
 
 pub are_unknown : (symbols : List SymbolTree) (ts : List Tree) → AreShapes symbols (unknowns (length ts)) ts
 are_unknown symbols [] = tt
 are_unknown symbols (t ∷ ts) = (tt, are_unknown symbols ts)
 
-met_joined : (ss us : Shapes) (ps qs : List Tree) → AreMet ss ps → AreMet us qs → AreMet (join ss us) (ps ++ qs)
-met_joined none us [] qs x y = y
-met_joined none us (p ∷ ps) qs x y = absurd x
-met_joined (more s ss) us [] qs x y = absurd x
-met_joined (more s ss) us (p ∷ ps) qs x y = (x.0, met_joined ss us ps qs x.1 y)
+met_joined : (ss us : Shapes) (ps qs : List Tree) → AreMet ss ps → AreMet us qs → AreMet (append_shapes ss us) (ps ++ qs)
+met_joined no_shapes us [] qs x y = y
+met_joined no_shapes us (p ∷ ps) qs x y = absurd x
+met_joined (more_shapes s ss) us [] qs x y = absurd x
+met_joined (more_shapes s ss) us (p ∷ ps) qs x y = (x.0, met_joined ss us ps qs x.1 y)
 
-met_parts : (ss us : Shapes) (ps qs : List Tree) → count ss ≡ length ps → AreMet (join ss us) (ps ++ qs) → AreMet ss ps × AreMet us qs
-met_parts none us [] qs e x = (tt, x)
-met_parts none us (p ∷ ps) qs e x = absurd (omega (arith, e))
-met_parts (more s ss) us [] qs e x = absurd (omega (arith, e))
-met_parts (more s ss) us (p ∷ ps) qs e x = let r = met_parts ss us ps qs (omega (arith, e)) x.1 in ((x.0, r.0), r.1)
+met_parts : (ss us : Shapes) (ps qs : List Tree) → number_of_shapes ss ≡ length ps → AreMet (append_shapes ss us) (ps ++ qs) → AreMet ss ps × AreMet us qs
+met_parts no_shapes us [] qs e x = (tt, x)
+met_parts no_shapes us (p ∷ ps) qs e x = absurd (omega (arith, e))
+met_parts (more_shapes s ss) us [] qs e x = absurd (omega (arith, e))
+met_parts (more_shapes s ss) us (p ∷ ps) qs e x = let r = met_parts ss us ps qs (omega (arith, e)) x.1 in ((x.0, r.0), r.1)
 
 -- a wildcard or a variable meets every shape
 abbrev pub IsWild : Tree → Type 0
-IsWild p = (s : Shape) → Meets s p
+IsWild p = (s : ShapeTree) → Meets s p
 
 any_wild : (a : Tree) → IsWild (One HPatAny a)
 any_wild a unspecified = tt
@@ -49,17 +49,17 @@ var_wild : (a : Tree) → IsWild (One HPatVar a)
 var_wild a unspecified = tt
 var_wild a (built k ss) = tt
 
-wild_met : (p : Tree) → IsWild p → (ss us : Shapes) (n : ℕ) (qs : List Tree) → count ss ≡ n → AreMet us qs → AreMet (join ss us) (replicate n p ++ qs)
-wild_met p w none us zero qs e y = y
-wild_met p w none us (suc n) qs e y = absurd (omega (arith, e))
-wild_met p w (more s ss) us zero qs e y = absurd (omega (arith, e))
-wild_met p w (more s ss) us (suc n) qs e y = (w s, wild_met p w ss us n qs (omega (arith, e)) y)
+wild_met : (p : Tree) → IsWild p → (ss us : Shapes) (n : ℕ) (qs : List Tree) → number_of_shapes ss ≡ n → AreMet us qs → AreMet (append_shapes ss us) (replicate n p ++ qs)
+wild_met p w no_shapes us zero qs e y = y
+wild_met p w no_shapes us (suc n) qs e y = absurd (omega (arith, e))
+wild_met p w (more_shapes s ss) us zero qs e y = absurd (omega (arith, e))
+wild_met p w (more_shapes s ss) us (suc n) qs e y = (w s, wild_met p w ss us n qs (omega (arith, e)) y)
 
-wild_parts : (p : Tree) (ss us : Shapes) (n : ℕ) (qs : List Tree) → count ss ≡ n → AreMet (join ss us) (replicate n p ++ qs) → AreMet us qs
-wild_parts p none us zero qs e y = y
-wild_parts p none us (suc n) qs e y = absurd (omega (arith, e))
-wild_parts p (more s ss) us zero qs e y = absurd (omega (arith, e))
-wild_parts p (more s ss) us (suc n) qs e y = wild_parts p ss us n qs (omega (arith, e)) y.1
+wild_parts : (p : Tree) (ss us : Shapes) (n : ℕ) (qs : List Tree) → number_of_shapes ss ≡ n → AreMet (append_shapes ss us) (replicate n p ++ qs) → AreMet us qs
+wild_parts p no_shapes us zero qs e y = y
+wild_parts p no_shapes us (suc n) qs e y = absurd (omega (arith, e))
+wild_parts p (more_shapes s ss) us zero qs e y = absurd (omega (arith, e))
+wild_parts p (more_shapes s ss) us (suc n) qs e y = wild_parts p ss us n qs (omega (arith, e)) y.1
 
 -- ---- a row that is taken apart
 abbrev pub HasParts : ℕ → ℕ → Tree → Type 0
@@ -75,10 +75,10 @@ opened_if_met : (b : Bool) (row : List Tree) (ss : Shapes) → b ≡ true → Ar
 opened_if_met true row ss e x = inl x
 opened_if_met false row ss e x = absurd (cc)
 
-module _ (symbols : List SymbolTree) (t : Tree) (k n : ℕ) (ws vs : Shapes) (long : count ws ≡ n) where
-  pub met_of_opened : (b : Tree) (row : List Tree) → BareFits symbols t b → HasParts k n b → AnyMet (join ws vs) (opened k n b row) → MeetsBuilt k (AreMet ws) b × AreMet vs row
+module _ (symbols : List SymbolTree) (t : Tree) (k n : ℕ) (ws vs : Shapes) (long : number_of_shapes ws ≡ n) where
+  pub met_of_opened : (b : Tree) (row : List Tree) → BareFits symbols t b → HasParts k n b → AnyMet (append_shapes ws vs) (opened k n b row) → MeetsBuilt k (AreMet ws) b × AreMet vs row
   met_of_opened (Three (HPatCon c) types parts type) row f h x =
-      let r = if_opened (c == k) (members parts ++ row) (join ws vs) x in
+      let r = if_opened (c == k) (members parts ++ row) (append_shapes ws vs) x in
       let e : c ≡ k = eqb-true c k r.0 in
       let q = met_parts ws vs (members parts) row (long ∙ sym (h e)) r.1 in
       ((e, q.0), q.1)
@@ -88,8 +88,8 @@ module _ (symbols : List SymbolTree) (t : Tree) (k n : ℕ) (ws vs : Shapes) (lo
   met_of_opened (One HPatVar a) row f h (inr x) = absurd x
   met_of_opened _ row f h x = absurd f
 
-  pub opened_met : (b : Tree) (row : List Tree) → BareFits symbols t b → MeetsBuilt k (AreMet ws) b → AreMet vs row → AnyMet (join ws vs) (opened k n b row)
-  opened_met (Three (HPatCon c) types parts type) row f m x = opened_if_met (c == k) (members parts ++ row) (join ws vs) (eq-eqb c k m.0) (met_joined ws vs (members parts) row m.1 x)
+  pub opened_met : (b : Tree) (row : List Tree) → BareFits symbols t b → MeetsBuilt k (AreMet ws) b → AreMet vs row → AnyMet (append_shapes ws vs) (opened k n b row)
+  opened_met (Three (HPatCon c) types parts type) row f m x = opened_if_met (c == k) (members parts ++ row) (append_shapes ws vs) (eq-eqb c k m.0) (met_joined ws vs (members parts) row m.1 x)
   opened_met (One HPatAny a) row f m x = inl (wild_met (One HPatAny a) (any_wild a) ws vs n row long x)
   opened_met (One HPatVar a) row f m x = inl (wild_met (One HPatVar a) (var_wild a) ws vs n row long x)
   opened_met _ row f m x = absurd f
@@ -124,24 +124,24 @@ var_fit symbols [] a = tt
 var_fit symbols (t ∷ ts) a = (tt, var_fit symbols ts a)
 
 module _ (symbols : List SymbolTree) (t : Tree) (ts : List Tree) (k : ℕ) (b : Builds symbols t k) where
-  parts_here : (p : Tree) → BareFits symbols t p → HasParts k (length (fields symbols t k)) p
-  parts_here (Three (HPatCon c) types parts type) x = λ e. sym (row_long symbols (fields symbols t k) (members parts) (fields_fit symbols t k c types parts type x e b))
+  parts_here : (p : Tree) → BareFits symbols t p → HasParts k (length (field_types symbols t k)) p
+  parts_here (Three (HPatCon c) types parts type) x = λ e. sym (row_long symbols (field_types symbols t k) (members parts) (fields_fit symbols t k c types parts type x e b))
   parts_here _ x = tt
 
-  opened_fits : (p : Tree) (row : List Tree) → BareFits symbols t p → RowFits symbols ts row → TableFits symbols (fields symbols t k ++ ts) (opened k (length (fields symbols t k)) p row)
+  opened_fits : (p : Tree) (row : List Tree) → BareFits symbols t p → RowFits symbols ts row → TableFits symbols (field_types symbols t k ++ ts) (opened k (length (field_types symbols t k)) p row)
   opened_fits (Three (HPatCon c) types parts type) row x y =
-      if_fits symbols (fields symbols t k ++ ts) (members parts ++ row) (c == k)
-      (λ e. row_joined symbols (fields symbols t k) ts (members parts) row (fields_fit symbols t k c types parts type x (eqb-true c k e) b) y)
-  opened_fits (One HPatAny a) row x y = (row_joined symbols (fields symbols t k) ts _ row (any_fit symbols (fields symbols t k) a) y, tt)
-  opened_fits (One HPatVar a) row x y = (row_joined symbols (fields symbols t k) ts _ row (var_fit symbols (fields symbols t k) a) y, tt)
+      if_fits symbols (field_types symbols t k ++ ts) (members parts ++ row) (c == k)
+      (λ e. row_joined symbols (field_types symbols t k) ts (members parts) row (fields_fit symbols t k c types parts type x (eqb-true c k e) b) y)
+  opened_fits (One HPatAny a) row x y = (row_joined symbols (field_types symbols t k) ts _ row (any_fit symbols (field_types symbols t k) a) y, tt)
+  opened_fits (One HPatVar a) row x y = (row_joined symbols (field_types symbols t k) ts _ row (var_fit symbols (field_types symbols t k) a) y, tt)
   opened_fits _ row x y = absurd x
 
-  pub specialized_fits : (rows : List (List Tree)) → TableFits symbols (t ∷ ts) rows → TableFits symbols (fields symbols t k ++ ts) (specialized k (length (fields symbols t k)) rows)
+  pub specialized_fits : (rows : List (List Tree)) → TableFits symbols (t ∷ ts) rows → TableFits symbols (field_types symbols t k ++ ts) (specialized k (length (field_types symbols t k)) rows)
   specialized_fits [] x = tt
   specialized_fits ([] ∷ rows) x = absurd x.0
   specialized_fits ((p ∷ row) ∷ rows) x =
-      table_joined symbols (fields symbols t k ++ ts) (opened k (length (fields symbols t k)) (bare p) row) (specialized k (length (fields symbols t k)) rows)
-      (opened_fits (bare p) row x.0.0 x.0.1) (specialized_fits rows x.1)
+      table_joined symbols (field_types symbols t k ++ ts) (opened k (length (field_types symbols t k)) (without_aliases p) row) (specialized k (length (field_types symbols t k)) rows)
+      (opened_fits (without_aliases p) row x.0.0 x.0.1) (specialized_fits rows x.1)
 
 -- ---- a table is met where its parts are
 any_first : (ss : Shapes) (xs ys : List (List Tree)) → AnyMet ss (xs ++ ys) → AnyMet ss xs ⊎ AnyMet ss ys
@@ -158,68 +158,68 @@ not_any ss [] x y = y
 not_any ss (r ∷ rs) x (inl y) = x.0 y
 not_any ss (r ∷ rs) x (inr y) = not_any ss rs x.1 y
 
-module _ (symbols : List SymbolTree) (t : Tree) (ts : List Tree) (k : ℕ) (b : Builds symbols t k) (ws vs : Shapes) (long : count ws ≡ length (fields symbols t k)) where
-  any_specialized : (rows : List (List Tree)) → TableFits symbols (t ∷ ts) rows → AnyMet (join ws vs) (specialized k (length (fields symbols t k)) rows) → AnyMet (more (built k ws) vs) rows
+module _ (symbols : List SymbolTree) (t : Tree) (ts : List Tree) (k : ℕ) (b : Builds symbols t k) (ws vs : Shapes) (long : number_of_shapes ws ≡ length (field_types symbols t k)) where
+  any_specialized : (rows : List (List Tree)) → TableFits symbols (t ∷ ts) rows → AnyMet (append_shapes ws vs) (specialized k (length (field_types symbols t k)) rows) → AnyMet (more_shapes (built k ws) vs) rows
   any_specialized [] x m = m
   any_specialized ([] ∷ rows) x m = absurd x.0
   any_specialized ((p ∷ row) ∷ rows) x m =
-      elim (any_first (join ws vs) (opened k (length (fields symbols t k)) (bare p) row) (specialized k (length (fields symbols t k)) rows) m) [
-        | inl h ↦ inl (met_of_opened symbols t k (length (fields symbols t k)) ws vs long (bare p) row x.0.0 (parts_here symbols t ts k b (bare p) x.0.0) h)
+      elim (any_first (append_shapes ws vs) (opened k (length (field_types symbols t k)) (without_aliases p) row) (specialized k (length (field_types symbols t k)) rows) m) [
+        | inl h ↦ inl (met_of_opened symbols t k (length (field_types symbols t k)) ws vs long (without_aliases p) row x.0.0 (parts_here symbols t ts k b (without_aliases p) x.0.0) h)
         | inr h ↦ inr (any_specialized rows x.1 h)
       ]
 
-  none_specialized : (rows : List (List Tree)) → TableFits symbols (t ∷ ts) rows → NoneMet (join ws vs) (specialized k (length (fields symbols t k)) rows) → NoneMet (more (built k ws) vs) rows
+  none_specialized : (rows : List (List Tree)) → TableFits symbols (t ∷ ts) rows → NoneMet (append_shapes ws vs) (specialized k (length (field_types symbols t k)) rows) → NoneMet (more_shapes (built k ws) vs) rows
   none_specialized [] x m = tt
   none_specialized ([] ∷ rows) x m = absurd x.0
   none_specialized ((p ∷ row) ∷ rows) x m =
-      let q = none_both (join ws vs) (opened k (length (fields symbols t k)) (bare p) row) (specialized k (length (fields symbols t k)) rows) m in (
-        λ h. not_any (join ws vs) (opened k (length (fields symbols t k)) (bare p) row) q.0 (opened_met symbols t k (length (fields symbols t k)) ws vs long (bare p) row x.0.0 h.0 h.1),
+      let q = none_both (append_shapes ws vs) (opened k (length (field_types symbols t k)) (without_aliases p) row) (specialized k (length (field_types symbols t k)) rows) m in (
+        λ h. not_any (append_shapes ws vs) (opened k (length (field_types symbols t k)) (without_aliases p) row) q.0 (opened_met symbols t k (length (field_types symbols t k)) ws vs long (without_aliases p) row x.0.0 h.0 h.1),
         none_specialized rows x.1 q.1,
       )
 
-any_unspecified : (s : Shape) (vs : Shapes) (rows : List (List Tree)) → AnyMet (more s vs) rows → AnyMet (more unspecified vs) rows
+any_unspecified : (s : ShapeTree) (vs : Shapes) (rows : List (List Tree)) → AnyMet (more_shapes s vs) rows → AnyMet (more_shapes unspecified vs) rows
 any_unspecified s vs [] x = x
 any_unspecified s vs ([] ∷ rows) (inl x) = absurd x
 any_unspecified s vs ([] ∷ rows) (inr x) = inr (any_unspecified s vs rows x)
 any_unspecified s vs ((p ∷ row) ∷ rows) (inl x) = inl (tt, x.1)
 any_unspecified s vs ((p ∷ row) ∷ rows) (inr x) = inr (any_unspecified s vs rows x)
 
-count_unknowns : (n : ℕ) → count (unknowns n) ≡ n
+count_unknowns : (n : ℕ) → number_of_shapes (unknowns n) ≡ n
 count_unknowns zero = refl
 count_unknowns (suc n) = omega (arith, count_unknowns n)
 
-are_parts : (symbols : List SymbolTree) (ss us : Shapes) (ts rs : List Tree) → count ss ≡ length ts → AreShapes symbols (join ss us) (ts ++ rs) → AreShapes symbols ss ts × AreShapes symbols us rs
-are_parts symbols none us [] rs e x = (tt, x)
-are_parts symbols none us (t ∷ ts) rs e x = absurd (omega (arith, e))
-are_parts symbols (more s ss) us [] rs e x = absurd (omega (arith, e))
-are_parts symbols (more s ss) us (t ∷ ts) rs e x = let r = are_parts symbols ss us ts rs (omega (arith, e)) x.1 in ((x.0, r.0), r.1)
+are_parts : (symbols : List SymbolTree) (ss us : Shapes) (ts rs : List Tree) → number_of_shapes ss ≡ length ts → AreShapes symbols (append_shapes ss us) (ts ++ rs) → AreShapes symbols ss ts × AreShapes symbols us rs
+are_parts symbols no_shapes us [] rs e x = (tt, x)
+are_parts symbols no_shapes us (t ∷ ts) rs e x = absurd (omega (arith, e))
+are_parts symbols (more_shapes s ss) us [] rs e x = absurd (omega (arith, e))
+are_parts symbols (more_shapes s ss) us (t ∷ ts) rs e x = let r = are_parts symbols ss us ts rs (omega (arith, e)) x.1 in ((x.0, r.0), r.1)
 
 -- each constructor's part covers, and there is a constructor
 pub covers_split : (symbols : List SymbolTree) (t : Tree) (ts : List Tree) (rows : List (List Tree)) → TableFits symbols (t ∷ ts) rows → (j : ℕ) → Builds symbols t j
-    → ((k : ℕ) → Builds symbols t k → Covers symbols (fields symbols t k ++ ts) (specialized k (length (fields symbols t k)) rows)) → Covers symbols (t ∷ ts) rows
-covers_split symbols t ts rows x j b each none are = absurd are
-covers_split symbols t ts rows x j b each (more unspecified vs) are =
-    let fs = fields symbols t j in
-    let long : count (unknowns (length fs)) ≡ length fs = count_unknowns (length fs) in
-    let m = each j b (join (unknowns (length fs)) vs) (are_joined symbols (unknowns (length fs)) vs fs ts (are_unknown symbols fs) are.1) in
+    → ((k : ℕ) → Builds symbols t k → Covers symbols (field_types symbols t k ++ ts) (specialized k (length (field_types symbols t k)) rows)) → Covers symbols (t ∷ ts) rows
+covers_split symbols t ts rows x j b each no_shapes are = absurd are
+covers_split symbols t ts rows x j b each (more_shapes unspecified vs) are =
+    let fs = field_types symbols t j in
+    let long : number_of_shapes (unknowns (length fs)) ≡ length fs = count_unknowns (length fs) in
+    let m = each j b (append_shapes (unknowns (length fs)) vs) (are_joined symbols (unknowns (length fs)) vs fs ts (are_unknown symbols fs) are.1) in
     any_unspecified (built j (unknowns (length fs))) vs rows (any_specialized symbols t ts j b (unknowns (length fs)) vs long rows x m)
-covers_split symbols t ts rows x j b each (more (built k ws) vs) are =
-    let m = each k are.0.0 (join ws vs) (are_joined symbols ws vs (fields symbols t k) ts are.0.1 are.1) in
-    any_specialized symbols t ts k are.0.0 ws vs (counted symbols ws (fields symbols t k) are.0.1) rows x m
+covers_split symbols t ts rows x j b each (more_shapes (built k ws) vs) are =
+    let m = each k are.0.0 (append_shapes ws vs) (are_joined symbols ws vs (field_types symbols t k) ts are.0.1 are.1) in
+    any_specialized symbols t ts k are.0.0 ws vs (counted symbols ws (field_types symbols t k) are.0.1) rows x m
 
 -- what a constructor's part misses, the table misses
 pub misses_split : (symbols : List SymbolTree) (t : Tree) (ts : List Tree) (rows : List (List Tree)) → TableFits symbols (t ∷ ts) rows → (k : ℕ) → Builds symbols t k → (ws vs : Shapes)
-    → count ws ≡ length (fields symbols t k) → Misses symbols (fields symbols t k ++ ts) (specialized k (length (fields symbols t k)) rows) (join ws vs) → Misses symbols (t ∷ ts) rows (more (built k ws) vs)
+    → number_of_shapes ws ≡ length (field_types symbols t k) → Misses symbols (field_types symbols t k ++ ts) (specialized k (length (field_types symbols t k)) rows) (append_shapes ws vs) → Misses symbols (t ∷ ts) rows (more_shapes (built k ws) vs)
 misses_split symbols t ts rows x k b ws vs long m =
-    let r = are_parts symbols ws vs (fields symbols t k) ts long m.are in
+    let r = are_parts symbols ws vs (field_types symbols t k) ts long m.are in
     record { are = ((b, r.0), r.1); unmet = none_specialized symbols t ts k b ws vs long rows x m.unmet }
 
 -- no row is left
 pub misses_empty : (symbols : List SymbolTree) (t : Tree) (ts : List Tree) (rows : List (List Tree)) → TableFits symbols (t ∷ ts) rows → (k : ℕ) → Builds symbols t k
-    → specialized k (length (fields symbols t k)) rows ≡ [] → Misses symbols (t ∷ ts) rows (more (built k (unknowns (length (fields symbols t k)))) (unknowns (length ts)))
+    → specialized k (length (field_types symbols t k)) rows ≡ [] → Misses symbols (t ∷ ts) rows (more_shapes (built k (unknowns (length (field_types symbols t k)))) (unknowns (length ts)))
 misses_empty symbols t ts rows x k b e =
-    let fs = fields symbols t k in
-    let us = join (unknowns (length fs)) (unknowns (length ts)) in
+    let fs = field_types symbols t k in
+    let us = append_shapes (unknowns (length fs)) (unknowns (length ts)) in
     misses_split symbols t ts rows x k b (unknowns (length fs)) (unknowns (length ts)) (count_unknowns (length fs)) (record {
       are = are_joined symbols (unknowns (length fs)) (unknowns (length ts)) fs ts (are_unknown symbols fs) (are_unknown symbols ts);
       unmet = subst (NoneMet us) (sym e) tt;
@@ -233,10 +233,10 @@ MeetsAll symbols t b = (k : ℕ) (ss : Shapes) → IsShape symbols (built k ss) 
 abbrev pub PlainColumn : List SymbolTree → Tree → List (List Tree) → Type 0
 PlainColumn symbols t [] = Unit {0}
 PlainColumn symbols t ([] ∷ rows) = PlainColumn symbols t rows
-PlainColumn symbols t ((p ∷ row) ∷ rows) = MeetsAll symbols t (bare p) × PlainColumn symbols t rows
+PlainColumn symbols t ((p ∷ row) ∷ rows) = MeetsAll symbols t (without_aliases p) × PlainColumn symbols t rows
 
-any_plain : (symbols : List SymbolTree) (t : Tree) (ts : List Tree) (rows : List (List Tree)) (s : Shape) (vs : Shapes) → TableFits symbols (t ∷ ts) rows → PlainColumn symbols t rows
-    → IsShape symbols s t → AnyMet vs (tails rows) → AnyMet (more s vs) rows
+any_plain : (symbols : List SymbolTree) (t : Tree) (ts : List Tree) (rows : List (List Tree)) (s : ShapeTree) (vs : Shapes) → TableFits symbols (t ∷ ts) rows → PlainColumn symbols t rows
+    → IsShape symbols s t → AnyMet vs (tails rows) → AnyMet (more_shapes s vs) rows
 any_plain symbols t ts [] s vs x c i m = m
 any_plain symbols t ts ([] ∷ rows) s vs x c i m = absurd x.0
 any_plain symbols t ts ((p ∷ row) ∷ rows) unspecified vs x c i (inl m) = inl (tt, m)
@@ -245,15 +245,15 @@ any_plain symbols t ts ((p ∷ row) ∷ rows) s vs x c i (inr m) = inr (any_plai
 
 pub covers_plain : (symbols : List SymbolTree) (t : Tree) (ts : List Tree) (rows : List (List Tree)) → TableFits symbols (t ∷ ts) rows → PlainColumn symbols t rows
     → Covers symbols ts (tails rows) → Covers symbols (t ∷ ts) rows
-covers_plain symbols t ts rows x c h none are = absurd are
-covers_plain symbols t ts rows x c h (more s vs) are = any_plain symbols t ts rows s vs x c are.0 (h vs are.1)
+covers_plain symbols t ts rows x c h no_shapes are = absurd are
+covers_plain symbols t ts rows x c h (more_shapes s vs) are = any_plain symbols t ts rows s vs x c are.0 (h vs are.1)
 
-none_plain : (s : Shape) (vs : Shapes) (rows : List (List Tree)) → NoneMet vs (tails rows) → NoneMet (more s vs) rows
+none_plain : (s : ShapeTree) (vs : Shapes) (rows : List (List Tree)) → NoneMet vs (tails rows) → NoneMet (more_shapes s vs) rows
 none_plain s vs [] x = tt
 none_plain s vs ([] ∷ rows) x = (λ h. h, none_plain s vs rows x.1)
 none_plain s vs ((p ∷ row) ∷ rows) x = (λ h. x.0 h.1, none_plain s vs rows x.1)
 
-pub misses_plain : (symbols : List SymbolTree) (t : Tree) (ts : List Tree) (rows : List (List Tree)) (vs : Shapes) → Misses symbols ts (tails rows) vs → Misses symbols (t ∷ ts) rows (more unspecified vs)
+pub misses_plain : (symbols : List SymbolTree) (t : Tree) (ts : List Tree) (rows : List (List Tree)) (vs : Shapes) → Misses symbols ts (tails rows) vs → Misses symbols (t ∷ ts) rows (more_shapes unspecified vs)
 misses_plain symbols t ts rows vs m = record { are = (tt, m.are); unmet = none_plain unspecified vs rows m.unmet }
 
 pub tails_fit : (symbols : List SymbolTree) (t : Tree) (ts : List Tree) (rows : List (List Tree)) → TableFits symbols (t ∷ ts) rows → TableFits symbols ts (tails rows)

@@ -10,9 +10,9 @@ use Rattle.tasks.specs.Task.{SymbolTree, symbol_or}
 use Rattle.tasks.specs.Equations.{cells, type_variables}
 use Rattle.tasks.specs.Meaning.{trees_at, symbol_at, symbols_at}
 use Rattle.tasks.specs.declared.signature.SymbolInfo.{SymbolInfo}
-use Rattle.match_cover.specs.Shapes.{IsConstructorOf}
+use Rattle.match_cover.specs.Shapes.{IsConstructorEntryOf}
 use Rattle.match_cover.specs.Tables.{tail, tails, cell, apart, opened_by, opened, one_if}
-use Rattle.match_cover.specs.Meaning.{row_at, table_at, RowHeld, TableHeld, single}
+use Rattle.match_cover.specs.Meaning.{row_at, table_at, RowHeld, TableHeld, single_pattern}
 use Rattle.match_cover.proofs.Answering.{alone}
 
 -- ---- rows and columns
@@ -37,14 +37,14 @@ pub table_none : (s : List Tree) (at : ℕ) (rows : List (List TermId)) → rows
 table_none s at rows e = ap (table_at s at) e
 
 -- ---- rows of one pattern each
-pub table_alone : (s : List Tree) (ps : List TermId) → table_at s 0 (map single ps) ≡ alone (trees_at s ps)
+pub table_alone : (s : List Tree) (ps : List TermId) → table_at s 0 (map single_pattern ps) ≡ alone (trees_at s ps)
 table_alone s [] = refl
 table_alone s (p ∷ ps) = ap (λ y. (tree_at s p ∷ []) ∷ y) (table_alone s ps)
 
-pub alone_held : (s : List Tree) (ps : List TermId) → All (Holds s) ps → TableHeld s (map single ps)
+pub alone_held : (s : List Tree) (ps : List TermId) → All (Holds s) ps → TableHeld s (map single_pattern ps)
 alone_held s [] h = All-nil (RowHeld s)
 alone_held s (p ∷ ps) h =
-    All-cons (RowHeld s) (p ∷ []) (map single ps) (record { each = All-cons (Holds s) p [] (All-head (Holds s) p ps h) (All-nil (Holds s)) }) (alone_held s ps (All-tail (Holds s) p ps h))
+    All-cons (RowHeld s) (p ∷ []) (map single_pattern ps) (record { each = All-cons (Holds s) p [] (All-head (Holds s) p ps h) (All-nil (Holds s)) }) (alone_held s ps (All-tail (Holds s) p ps h))
 
 pub held_behind : (s : List Tree) (at : ℕ) (row : List TermId) → RowHeld s row → All (Holds s) (drop at row)
 held_behind s at row h = All-drop (Holds s) at row h.each
@@ -125,5 +125,5 @@ some_within [] Q (suc k) h = absurd h
 some_within (e ∷ es) Q zero h = omega arith
 some_within (e ∷ es) Q (suc k) h = omega (arith, some_within es Q k h)
 
-pub constructor_within : (s : List Tree) (is : List SymbolInfo) (t k n : ℕ) → n ≡ length is → IsConstructorOf (symbols_at s is) t k → k < n
+pub constructor_within : (s : List Tree) (is : List SymbolInfo) (t k n : ℕ) → n ≡ length is → IsConstructorEntryOf (symbols_at s is) t k → k < n
 constructor_within s is t k n e h = omega (arith, some_within (symbols_at s is) _ k h, length-map is (symbol_at s), e)

@@ -2,7 +2,7 @@
 use Rattle.std.proofs.Common.{◌≡◌, ℕ, List, [], ◌∷◌, Option, Some, None, refl, sym, ap, ◌∙◌, subst}
 use Rattle.trees.specs.Tree.{Tree, One, Three, HTyApp, HPatAny, HPatVar, HPatCon}
 use Rattle.tasks.specs.Task.{SymbolTree}
-use Rattle.match_cover.specs.Shapes.{Builds, bare}
+use Rattle.match_cover.specs.Shapes.{Builds, without_aliases}
 use Rattle.match_cover.specs.Tables.{BareFits, TableFits, symbol_of_type, told, or_told, column_told}
 use Rattle.match_cover.proofs.Splitting.{MeetsAll, PlainColumn}
 
@@ -27,7 +27,7 @@ pub column_is : (symbols : List SymbolTree) (h : ℕ) (t : Tree) (ts : List Tree
 column_is symbols h t ts [] x e = absurd (cc)
 column_is symbols h t ts ([] ∷ rows) x e = absurd x.0
 column_is symbols h t ts ((p ∷ row) ∷ rows) x e =
-    or_cases symbols h t (told (bare p)) (column_told rows) (bare_is symbols h t (bare p) x.0.0) (column_is symbols h t ts rows x.1) e
+    or_cases symbols h t (told (without_aliases p)) (column_told rows) (bare_is symbols h t (without_aliases p) x.0.0) (column_is symbols h t ts rows x.1) e
 
 no_symbol : (symbols : List SymbolTree) (t : Tree) (k : ℕ) → symbol_of_type t ≡ None → Builds symbols t k → ⊥
 no_symbol symbols (One (HTyApp h) a) k e b = cc
@@ -51,4 +51,4 @@ pub column_plain : (symbols : List SymbolTree) (t : Tree) (ts : List Tree) (rows
 column_plain symbols t ts [] x e = tt
 column_plain symbols t ts ([] ∷ rows) x e = absurd x.0
 column_plain symbols t ts ((p ∷ row) ∷ rows) x e =
-    (bare_plain symbols t (bare p) x.0.0 (first_none (told (bare p)) (column_told rows) e), column_plain symbols t ts rows x.1 (rest_none (told (bare p)) (column_told rows) e))
+    (bare_plain symbols t (without_aliases p) x.0.0 (first_none (told (without_aliases p)) (column_told rows) e), column_plain symbols t ts rows x.1 (rest_none (told (without_aliases p)) (column_told rows) e))

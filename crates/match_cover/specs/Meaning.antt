@@ -5,36 +5,36 @@ use Rattle.trees.specs.Tree.{Tree}
 use Rattle.trees.specs.Node.{Holds}
 use Rattle.tasks.specs.Meaning.{trees_at}
 use Rattle.match_cover.specs.declared.shape.Shape.{Shape as StoredShape, Shape-F, fold-Shape}
-use Rattle.match_cover.specs.Shapes.{Shape, unspecified, built, Shapes, none, more}
+use Rattle.match_cover.specs.Shapes.{ShapeTree, unspecified, built, Shapes, no_shapes, more_shapes}
 
-abbrev pub shapes : List Shape → Shapes
-shapes [] = none
-shapes (s ∷ ss) = more s (shapes ss)
+abbrev pub shapes : List ShapeTree → Shapes
+shapes [] = no_shapes
+shapes (s ∷ ss) = more_shapes s (shapes ss)
 
-abbrev pub known : Option ℕ → Shapes → Shape
+abbrev pub known : Option ℕ → Shapes → ShapeTree
 known None ss = unspecified
 known (Some k) ss = built k ss
 
-abbrev pub shape_step : Shape-F Shape → Shape
+abbrev pub shape_step : Shape-F ShapeTree → ShapeTree
 shape_step f = known f.con (shapes f.parts)
 
 -- the shape that a stored one stands for
-unfoldable pub shape_of : StoredShape → Shape
-shape_of = fold-Shape Shape shape_step
+unfoldable pub shape_of : StoredShape → ShapeTree
+shape_of = fold-Shape ShapeTree shape_step
 
 abbrev pub shapes_of : List StoredShape → Shapes
 shapes_of ss = shapes (map shape_of ss)
 
--- the first so many shapes, and those behind them
-abbrev pub front : ℕ → Shapes → Shapes
-front zero ss = none
-front (suc n) none = none
-front (suc n) (more s ss) = more s (front n ss)
+-- the first so many shapes, and those after them
+abbrev pub first_shapes : ℕ → Shapes → Shapes
+first_shapes zero ss = no_shapes
+first_shapes (suc n) no_shapes = no_shapes
+first_shapes (suc n) (more_shapes s ss) = more_shapes s (first_shapes n ss)
 
-abbrev pub behind : ℕ → Shapes → Shapes
-behind zero ss = ss
-behind (suc n) none = none
-behind (suc n) (more s ss) = behind n ss
+abbrev pub shapes_after : ℕ → Shapes → Shapes
+shapes_after zero ss = ss
+shapes_after (suc n) no_shapes = no_shapes
+shapes_after (suc n) (more_shapes s ss) = shapes_after n ss
 
 -- a row of patterns from a column on
 abbrev pub row_at : List Tree → ℕ → List TermId → List Tree
@@ -51,5 +51,5 @@ abbrev pub TableHeld : List Tree → List (List TermId) → Type 0
 TableHeld s rows = All (RowHeld s) rows
 
 -- a row of one pattern
-abbrev pub single : TermId → List TermId
-single p = p ∷ []
+abbrev pub single_pattern : TermId → List TermId
+single_pattern p = p ∷ []

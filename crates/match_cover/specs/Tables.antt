@@ -5,7 +5,7 @@ use Rattle.trees.specs.Tree.{Tree, Leaf, One, Two, Three, Head, HTyApp, HCell, H
 use Rattle.tasks.specs.Task.{SymbolTree}
 use Rattle.tasks.specs.Vocabulary.{of_signature}
 use Rattle.tasks.specs.Typing.{members, TypedUnder}
-use Rattle.match_cover.specs.Shapes.{unspecified, Shapes, none, more, IsConstructorOf, AreShapes, AreMet, bare}
+use Rattle.match_cover.specs.Shapes.{unspecified, Shapes, no_shapes, more_shapes, IsConstructorEntryOf, AreShapes, AreMet, without_aliases}
 
 -- a bare pattern for values of a type
 abbrev pub BareFits : List SymbolTree → Tree → Tree → Type 0
@@ -17,7 +17,7 @@ BareFits symbols type _ = ⊥
 -- patterns for values of as many types
 abbrev pub RowFits : List SymbolTree → List Tree → List Tree → Type 0
 RowFits symbols [] [] = Unit {0}
-RowFits symbols (t ∷ ts) (p ∷ ps) = BareFits symbols t (bare p) × RowFits symbols ts ps
+RowFits symbols (t ∷ ts) (p ∷ ps) = BareFits symbols t (without_aliases p) × RowFits symbols ts ps
 RowFits symbols _ _ = ⊥
 
 abbrev pub TableFits : List SymbolTree → List Tree → List (List Tree) → Type 0
@@ -54,18 +54,18 @@ Answered symbols columns rows o = (types : List Tree) → length types ≡ colum
 
 -- so many unspecified shapes
 abbrev pub unknowns : ℕ → Shapes
-unknowns zero = none
-unknowns (suc n) = more unspecified (unknowns n)
+unknowns zero = no_shapes
+unknowns (suc n) = more_shapes unspecified (unknowns n)
 
 -- the number of shapes
-abbrev pub count : Shapes → ℕ
-count none = 0
-count (more s ss) = count ss + 1
+abbrev pub number_of_shapes : Shapes → ℕ
+number_of_shapes no_shapes = 0
+number_of_shapes (more_shapes s ss) = number_of_shapes ss + 1
 
--- shapes behind others
-abbrev pub join : Shapes → Shapes → Shapes
-join none ts = ts
-join (more s ss) ts = more s (join ss ts)
+-- shapes after others
+abbrev pub append_shapes : Shapes → Shapes → Shapes
+append_shapes no_shapes ts = ts
+append_shapes (more_shapes s ss) ts = more_shapes s (append_shapes ss ts)
 
 abbrev pub opened_if : Bool → List Tree → List (List Tree)
 opened_if true row = row ∷ []
@@ -84,14 +84,14 @@ opened_by k n None p row = (replicate n p ++ row) ∷ []
 abbrev pub opened : ℕ → ℕ → Tree → List Tree → List (List Tree)
 opened k n p row = opened_by k n (apart p) p row
 
--- a row behind the parts of its first pattern, if they are there
+-- a row after the parts of its first pattern, if they are there
 abbrev pub behind_parts : Option (List Tree) → List Tree → List (List Tree)
 behind_parts None row = []
 behind_parts (Some parts) row = (parts ++ row) ∷ []
 
 abbrev pub opened_row : ℕ → ℕ → List Tree → List (List Tree)
 opened_row k n [] = []
-opened_row k n (p ∷ row) = opened k n (bare p) row
+opened_row k n (p ∷ row) = opened k n (without_aliases p) row
 
 abbrev pub specialized : ℕ → ℕ → List (List Tree) → List (List Tree)
 specialized k n [] = []
@@ -121,7 +121,7 @@ told _ = None
 
 abbrev pub row_told : List Tree → Option ℕ
 row_told [] = None
-row_told (p ∷ ps) = told (bare p)
+row_told (p ∷ ps) = told (without_aliases p)
 
 abbrev pub or_told : Option ℕ → Option ℕ → Option ℕ
 or_told (Some t) o = Some t
@@ -139,7 +139,7 @@ one_if false k = []
 
 -- by these constructors a table is split: all of the type that its first column tells
 abbrev pub Splits : List SymbolTree → List (List Tree) → List ℕ → Type 0
-Splits symbols rows ks = MatchOption (column_told rows) (ks ≡ []) (λ h. (k : ℕ) → Contains ks k ↔ IsConstructorOf symbols h k)
+Splits symbols rows ks = MatchOption (column_told rows) (ks ≡ []) (λ h. (k : ℕ) → Contains ks k ↔ IsConstructorEntryOf symbols h k)
 
 -- the constructors in a pattern or a list of patterns
 abbrev pub one_constructors : Head → ℕ → ℕ
@@ -150,15 +150,15 @@ abbrev pub three_constructors : Head → ℕ → ℕ
 three_constructors (HPatCon c) n = n + 1
 three_constructors _ n = 0
 
-abbrev pub constructors : Tree → ℕ
-constructors (Leaf h) = 0
-constructors (One h a) = one_constructors h (constructors a)
-constructors (Two h a b) = constructors a + constructors b
-constructors (Three h a b c) = three_constructors h (constructors b)
+abbrev pub constructor_count : Tree → ℕ
+constructor_count (Leaf h) = 0
+constructor_count (One h a) = one_constructors h (constructor_count a)
+constructor_count (Two h a b) = constructor_count a + constructor_count b
+constructor_count (Three h a b c) = three_constructors h (constructor_count b)
 
 abbrev pub row_constructors : List Tree → ℕ
 row_constructors [] = 0
-row_constructors (p ∷ ps) = constructors p + row_constructors ps
+row_constructors (p ∷ ps) = constructor_count p + row_constructors ps
 
 abbrev pub table_constructors : List (List Tree) → ℕ
 table_constructors [] = 0

@@ -1,5 +1,5 @@
 // The constructors of a type symbol: the entries of a signature whose result it is, at their own type variables.
-// They stand on tasks; the cover of patterns stands on them.
+// They depend on tasks; the cover of patterns depends on them.
 ghost use Rattle.std.specs.Prelude.{◌≡◌, ℕ, ◌+◌, ◌<◌, ◌≤◌, ◌↔◌, IsTrue, Some, ◌++◌, All, Contains, IfOk, IfSome, OnOk};
 ghost use Rattle.std.specs.Option.{option_map};
 ghost use Rattle.trees.specs.Tree.{Leaf, HEnd, HTyVar};
@@ -7,7 +7,7 @@ ghost use Rattle.trees.specs.Node.{tree_at, Holds};
 ghost use Rattle.tasks.specs.Equations.{cells, type_variables};
 ghost use Rattle.tasks.specs.Meaning.{symbol_at, symbols_at, SymbolHeld};
 ghost use Rattle.tasks.specs.Valid.{own_type};
-ghost use Rattle.match_cover.specs.Shapes.{IsConstructorOf};
+ghost use Rattle.match_cover.specs.Shapes.{IsConstructorEntryOf};
 ghost use Rattle.match_cover.specs.Tables.{cell, one_if};
 
 use std::alloc::{AllocError, Global};
@@ -90,7 +90,8 @@ fn is_own_type(store: &Store, ty: TermId, symbol: usize, vars: usize) -> bool
 // Whether an entry is a constructor of a type symbol.
 fn is_constructor_of(store: &Store, sig: &Signature, symbol: usize, entry: usize) -> bool
     requires { All (SymbolHeld store.now) sig.now.symbols }
-    ensures { IsTrue result ↔ IsConstructorOf (symbols_at store.now sig.now.symbols) symbol entry }
+    ensures { IsTrue result ↔ IsConstructorEntryOf (symbols_at store.now sig.now.symbols) symbol
+        entry }
 {
     match sig.symbols.get(entry) {
         Some(info) => match info.result {
@@ -102,7 +103,7 @@ fn is_constructor_of(store: &Store, sig: &Signature, symbol: usize, entry: usize
     }
 }
 
-// A number behind others, where a test is passed.
+// A number after others, where a test is passed.
 fn push_if(yes: bool, number: usize, out: &mut Vec<usize>) -> Result<(), AllocError>
     ensures { OnOk result (out.new.items ≡ out.old.items ++ one_if yes number) }
 {
@@ -121,7 +122,8 @@ pub(crate) fn constructors_of(
 ) -> Result<Vec<usize>, AllocError>
     requires { All (SymbolHeld store.now) sig.now.symbols }
     ensures { IfOk result (λ v. (k : ℕ)
-        → Contains v.items k ↔ IsConstructorOf (symbols_at store.now sig.now.symbols) symbol k) }
+        → Contains v.items k ↔ IsConstructorEntryOf (symbols_at store.now sig.now.symbols) symbol
+        k) }
 {
     let mut found = Vec::new(alloc);
     for entry in 0..sig.symbols.len() {

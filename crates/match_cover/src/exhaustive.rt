@@ -1,5 +1,5 @@
 // The cover of patterns: their table is split by the constructors of its first column until no column is left.
-// It stands on rows of patterns and the constructors of types.
+// It depends on rows of patterns and the constructors of types.
 ghost use Rattle.std.specs.Prelude.{◌≡◌, ◌+◌, ◌≤◌, ◌++◌, ◌↔◌, [], None, length, All, map, IfOk, IfSome, OnOk};
 ghost use Rattle.std.specs.Option.{option_map};
 ghost use Rattle.trees.specs.Node.{Holds};
@@ -7,7 +7,7 @@ ghost use Rattle.tasks.specs.Task.{symbol_or};
 ghost use Rattle.tasks.specs.Meaning.{trees_at, symbols_at, SymbolHeld};
 ghost use Rattle.match_cover.specs.Shapes.{unspecified, IsPattern, HaveOneType, AreExhaustive, Escapes};
 ghost use Rattle.match_cover.specs.Tables.{IsTable, Answered, Splits};
-ghost use Rattle.match_cover.specs.Meaning.{shape_of, shapes_of, table_at, TableHeld, single};
+ghost use Rattle.match_cover.specs.Meaning.{shape_of, shapes_of, table_at, TableHeld, single_pattern};
 
 use crate::Shape;
 use crate::constructors::constructors_of;
@@ -98,13 +98,13 @@ fn missed_shapes(
     Ok(None)
 }
 
-// A row of each pattern alone, behind others.
+// A row of each pattern alone, after others.
 fn push_alone(
     alloc: Global,
     patterns: &[TermId],
     out: &mut Vec<Seq<TermId>>,
 ) -> Result<(), AllocError>
-    ensures { OnOk result (out.new.items ≡ out.old.items ++ map single patterns.now) }
+    ensures { OnOk result (out.new.items ≡ out.old.items ++ map single_pattern patterns.now) }
 {
     match patterns.split_first() {
         Some((first, rest)) => {

@@ -1,12 +1,12 @@
 // Rows of patterns, and what is left of them where the first pattern is taken apart.
-// They stand on the store; the cover of patterns stands on them.
+// They depend on the store; the cover of patterns depends on them.
 ghost use Rattle.std.specs.Prelude.{◌≡◌, ◌++◌, drop, All, List, IfOk, IfSome, OnOk};
 ghost use Rattle.std.specs.Option.{option_map};
 ghost use Rattle.trees.specs.Tree.{Tree};
 ghost use Rattle.trees.specs.Node.{tree_at, Holds};
 ghost use Rattle.tasks.specs.Typing.{members};
 ghost use Rattle.tasks.specs.Meaning.{trees_at};
-ghost use Rattle.match_cover.specs.Shapes.{bare};
+ghost use Rattle.match_cover.specs.Shapes.{without_aliases};
 ghost use Rattle.match_cover.specs.Tables.{apart, opened, behind_parts, opened_row, specialized, symbol_of_type, told, row_told, column_told};
 ghost use Rattle.match_cover.specs.Meaning.{table_at, RowHeld, TableHeld};
 
@@ -18,7 +18,7 @@ use trees::{Node, TermId};
 // A pattern without the names that it gives to what it takes.
 fn bare_pattern(store: &Store, pattern: TermId) -> TermId
     requires { Holds store.now pattern }
-    ensures tree { tree_at store.now result ≡ bare (tree_at store.now pattern) }
+    ensures tree { tree_at store.now result ≡ without_aliases (tree_at store.now pattern) }
     ensures held { Holds store.now result }
 {
     match store.node(pattern) {
@@ -27,7 +27,7 @@ fn bare_pattern(store: &Store, pattern: TermId) -> TermId
     }
 }
 
-// The members of a list, behind others.
+// The members of a list, after others.
 fn push_members(store: &Store, list: TermId, out: &mut Vec<TermId>) -> Result<(), AllocError>
     requires { Holds store.now list }
     ensures tree { OnOk result (trees_at store.now out.new.items
@@ -69,7 +69,7 @@ fn parts(
     requires { Holds store.now pattern }
     ensures tree { IfOk result (λ o. (row : List Tree)
         → behind_parts (option_map (λ v. trees_at store.now v.items) o) row
-        ≡ opened con arity (bare (tree_at store.now pattern)) row) }
+        ≡ opened con arity (without_aliases (tree_at store.now pattern)) row) }
     ensures held { IfOk result (λ o. IfSome o (λ v. All (Holds store.now) v.items)) }
 {
     let inner = bare_pattern(store, pattern);
@@ -102,7 +102,7 @@ fn from_column<'a>(store: &Store, row: &'a Seq<TermId>, at: usize) -> &'a [TermI
     }
 }
 
-// Patterns and others behind them, as one row.
+// Patterns and others after them, as one row.
 fn join_row(store: &Store, parts: Vec<TermId>, rest: &[TermId]) -> Result<Seq<TermId>, AllocError>
     requires parts_held { All (Holds store.now) parts.items }
     requires rest_held { All (Holds store.now) rest.now }
@@ -116,7 +116,7 @@ fn join_row(store: &Store, parts: Vec<TermId>, rest: &[TermId]) -> Result<Seq<Te
     Ok(Seq::from_vec(all))
 }
 
-// A row whose first pattern is taken apart at a constructor, behind others; nothing where it is another constructor's.
+// A row whose first pattern is taken apart at a constructor, after others; nothing where it is another constructor's.
 fn push_opened(
     alloc: Global,
     store: &Store,
@@ -144,7 +144,7 @@ fn push_opened(
     }
 }
 
-// The rows that may take a constructor, from a column on, with the parts of the patterns in that column, behind others.
+// The rows that may take a constructor, from a column on, with the parts of the patterns in that column, after others.
 fn push_specialized(
     alloc: Global,
     store: &Store,

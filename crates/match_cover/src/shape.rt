@@ -1,10 +1,10 @@
 // How far a value is known.
-// It stands on std alone; the cover of patterns stands on it.
+// It depends on std alone; the cover of patterns depends on it.
 ghost use Rattle.std.specs.Prelude.{◌≡◌, ◌≤◌, ◌∷◌, IfOk, vec_len};
 ghost use Rattle.std.specs.Option.{option_map};
-ghost use Rattle.match_cover.specs.Shapes.{unspecified, built, more};
+ghost use Rattle.match_cover.specs.Shapes.{unspecified, built, more_shapes};
 ghost use Rattle.match_cover.specs.Tables.{unknowns};
-ghost use Rattle.match_cover.specs.Meaning.{shape_of, shapes_of, front, behind};
+ghost use Rattle.match_cover.specs.Meaning.{shape_of, shapes_of, first_shapes, shapes_after};
 
 use outside::Seq;
 use std::alloc::{AllocError, Global};
@@ -40,7 +40,7 @@ pub(crate) fn unknowns(alloc: Global, count: usize) -> Result<Vec<Shape>, AllocE
     Ok(shapes)
 }
 
-// Shapes behind another one.
+// Shapes after another one.
 fn with_first(alloc: Global, first: Shape, mut rest: Vec<Shape>) -> Result<Vec<Shape>, AllocError>
     ensures { IfOk result (λ v. v.items ≡ first ∷ rest.items) }
 {
@@ -50,13 +50,13 @@ fn with_first(alloc: Global, first: Shape, mut rest: Vec<Shape>) -> Result<Vec<S
     Ok(all)
 }
 
-// Shapes behind an unspecified one, if they are there.
+// Shapes after an unspecified one, if they are there.
 pub(crate) fn behind_unknown(
     alloc: Global,
     shapes: Option<Vec<Shape>>,
 ) -> Result<Option<Vec<Shape>>, AllocError>
     ensures { IfOk result (λ o. option_map (λ v. shapes_of v.items) o
-        ≡ option_map (more unspecified) (option_map (λ v. shapes_of v.items) shapes)) }
+        ≡ option_map (more_shapes unspecified) (option_map (λ v. shapes_of v.items) shapes)) }
 {
     match shapes {
         Some(rest) => {
@@ -77,7 +77,7 @@ fn build_shape(con: usize, parts: Vec<Shape>) -> Shape
     }
 }
 
-// Shapes behind a constructor on the first so many of them.
+// Shapes after a constructor on the first so many of them.
 #[tactic(auto, using(crate::proofs::Shapes::built_first))]
 pub(crate) fn with_built(
     alloc: Global,
@@ -87,8 +87,8 @@ pub(crate) fn with_built(
 ) -> Result<Vec<Shape>, AllocError>
     requires { arity ≤ vec_len shapes }
     ensures { IfOk result (λ v. shapes_of v.items
-        ≡ more (built con (front arity (shapes_of shapes.items)))
-        (behind arity (shapes_of shapes.items))) }
+        ≡ more_shapes (built con (first_shapes arity (shapes_of shapes.items)))
+        (shapes_after arity (shapes_of shapes.items))) }
 {
     let rest = shapes.split_off(arity)?;
     let all = with_first(alloc, build_shape(con, shapes), rest)?;

@@ -17,6 +17,6 @@ pub enum NameOf {
 pub struct NameEntry {
     pub name: Text,
     pub symbol: NameOf,
-    /// The places of the types at which the symbol stands; none where it stands whole.
+    /// The places of the types at which the symbol stands; none where it is whole.
     pub types: Seq<usize>,
 }

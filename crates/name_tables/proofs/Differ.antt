@@ -9,9 +9,9 @@ use Rattle.tasks.specs.Task.{TaskTree, symbol_or}
 use Rattle.name_entries.specs.declared.names.NameEntry.{NameEntry}
 use Rattle.name_tables.specs.Occurrences.{Occurrence}
 use Rattle.name_tables.specs.Spelling.{own_name, clean, name_at_place}
-use Rattle.name_tables.specs.Tables.{entry_of, entries_from, names_of, NamesDiffer}
+use Rattle.name_tables.specs.Tables.{entry_at_place, entries_from, names_of, NamesDiffer}
 
--- what stands behind the last `_`, or what was found before
+-- what comes after the last `_`, or what was found before
 abbrev after_last : List ℕ → List ℕ → List ℕ
 after_last found [] = found
 after_last found (c ∷ cs) = cond (c == 95) (after_last cs cs) (after_last found cs)

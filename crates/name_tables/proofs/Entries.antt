@@ -7,18 +7,18 @@ use Rattle.tasks.specs.Task.{SymbolTree, int_symbol, TaskTree, symbol_or}
 use Rattle.tasks.specs.Meaning.{symbol_at, symbols_at}
 use Rattle.name_entries.specs.declared.names.NameEntry.{NameEntry}
 use Rattle.name_tables.specs.Occurrences.{Occurrence}
-use Rattle.name_tables.specs.Tables.{entry_of, entries_from}
-use Rattle.name_tables.specs.Seen.{occurrence_at, seen_at}
+use Rattle.name_tables.specs.Tables.{entry_at_place, entries_from}
+use Rattle.name_tables.specs.Seen.{occurrence_at, seen_occurrences}
 
 -- the table when these have been added too
 abbrev pub WithEntries : TaskTree → List Occurrence → List Tree → List NameEntry → List (ℕ × ℕ) → List NameEntry
-WithEntries t all s names keys = names ++ entries_from t all (length names) (seen_at s keys)
+WithEntries t all s names keys = names ++ entries_from t all (length names) (seen_occurrences s keys)
 
 pub entry_step : (t : TaskTree) (all : List Occurrence) (s : List Tree) (names new whole : List NameEntry) (keys : List (ℕ × ℕ)) (i : ℕ) (key : ℕ × ℕ) → i < length keys → key ≡ get_or keys i key
-    → new ≡ names ++ entry_of t all (length names) (occurrence_at s key) ∷ [] → WithEntries t all s names (drop i keys) ≡ whole → WithEntries t all s new (drop (i + 1) keys) ≡ whole
+    → new ≡ names ++ entry_at_place t all (length names) (occurrence_at s key) ∷ [] → WithEntries t all s names (drop i keys) ≡ whole → WithEntries t all s new (drop (i + 1) keys) ≡ whole
 entry_step t all s names new whole keys i key h is e so =
-    let one = entry_of t all (length names) (occurrence_at s key) in
-    let rest = seen_at s (drop (i + 1) keys) in
+    let one = entry_at_place t all (length names) (occurrence_at s key) in
+    let rest = seen_occurrences s (drop (i + 1) keys) in
     let n : length new ≡ length names + 1 = ap length e ∙ length-append names (one ∷ []) in
     ap (λ z. z ++ entries_from t all (length new) rest) e ∙ append_assoc names (one ∷ []) (entries_from t all (length new) rest)
     ∙ ap (λ m. names ++ one ∷ entries_from t all m rest) n ∙ ap (WithEntries t all s names) (ap (λ (z : ℕ × ℕ). z ∷ drop (i + 1) keys) is ∙ sym (drop_more keys i key h)) ∙ so

@@ -8,7 +8,7 @@ use Rattle.linear_leaf.specs.Valuations.{same_tree}
 use Rattle.linear_leaf.proofs.SameTree.{and_left, and_right, same_is, same_refl}
 use Rattle.name_tables.specs.Occurrences.{Occurrence, occurrence, in_type}
 use Rattle.name_tables.specs.Tables.{is_same}
-use Rattle.name_tables.specs.Seen.{has, with_one, with_all, AreIn, TypesAreIn, IsClosed}
+use Rattle.name_tables.specs.Seen.{has, with_one, with_all, AreIn, TypesAreIn, HasTypeArguments}
 
 -- the test tells whether two are equal
 pub same_occurrence : (o p : Occurrence) → is_same o p ≡ true → o ≡ p
@@ -89,8 +89,8 @@ types_joined : (os xs ys : List Occurrence) → TypesAreIn os xs → TypesAreIn 
 types_joined os [] ys h k = k
 types_joined os (x ∷ xs) ys h k = (h.0, types_joined os xs ys h.1 k)
 
-pub closed_one : (os : List Occurrence) (p : Occurrence) → IsClosed os → AreIn os (in_type p.types) → IsClosed (with_one os p)
-closed_one os p h k = elim (has os p) as (λ b. with_one os p ≡ (if b then os else os ++ p ∷ []) → IsClosed (if b then os else os ++ p ∷ [])) [
+pub closed_one : (os : List Occurrence) (p : Occurrence) → HasTypeArguments os → AreIn os (in_type p.types) → HasTypeArguments (with_one os p)
+closed_one os p h k = elim (has os p) as (λ b. with_one os p ≡ (if b then os else os ++ p ∷ []) → HasTypeArguments (if b then os else os ++ p ∷ [])) [
   | true ↦ λ e. h
   | false ↦ λ e.
       let more : (qs : List Occurrence) → TypesAreIn os qs → TypesAreIn (os ++ p ∷ []) qs = λ qs t. subst (λ z. TypesAreIn z qs) e (types_later os (p ∷ []) qs t) in

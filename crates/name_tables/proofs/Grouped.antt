@@ -7,10 +7,10 @@ use Rattle.std.proofs.lemmas.List.{append-nil, take_more, get_or_append_left, ge
 use Rattle.std.proofs.lemmas.List.Elements.{filter-append, All-push, All-set}
 use Rattle.trees.specs.Tree.{Tree, above_ty_vars}
 use Rattle.tasks.specs.Task.{TaskTree, declared}
-use Rattle.name_tables.specs.Occurrences.{Occurrence, whole, task_occurrences}
-use Rattle.name_tables.specs.Tables.{is_same, is_interpreted, is_instance_of, instances, problem_things, task_things}
-use Rattle.name_tables.specs.Seen.{occurrence_at, seen_at, has, with_one, with_all, AreIn, KeyHeld, AreHeld, Gains}
-use Rattle.name_tables.specs.Groups.{in_group, IsFilled, IsPushed, AreGroups, AreGroupsOf, instances_in}
+use Rattle.name_tables.specs.Occurrences.{Occurrence, whole_occurrence, task_occurrences}
+use Rattle.name_tables.specs.Tables.{is_same, is_interpreted, is_instance_of, symbol_instances, problem_things, task_things}
+use Rattle.name_tables.specs.Seen.{occurrence_at, seen_occurrences, has, with_one, with_all, AreIn, KeyHeld, KeysHeld, GainsKeys}
+use Rattle.name_tables.specs.Groups.{in_group, IsFilled, IsKeyPushed, AreGroups, AreGroupsOf, instances_in}
 use Rattle.name_tables.proofs.Gathering.{same_occurrence, with_one_there, with_one_new, with_all-append, added_in}
 use Rattle.name_tables.proofs.Distinct.{distinct_is}
 
@@ -81,9 +81,9 @@ filled_more groups k = elim (cases_lt k (length groups)) [
 
 -- a key is put into the group of its symbol
 pub pushed_here : (s : List Tree) (groups : List (List (ℕ × ℕ))) (key : ℕ × ℕ) (group : List (ℕ × ℕ)) → key.0 < length groups → get_or groups key.0 [] ≡ group → is_instance_of key.0 (occurrence_at s key) ≡ true
-    → KeyHeld s key → IsPushed s groups (set groups key.0 (group ++ key ∷ [])) key
+    → KeyHeld s key → IsKeyPushed s groups (set groups key.0 (group ++ key ∷ [])) key
 pushed_here s groups key group h e ground held = record {
-  held = λ a. All-set (AreHeld s) groups key.0 (group ++ key ∷ []) (All-push (KeyHeld s) group key (subst (AreHeld s) e (a key.0 [] h)) held) a;
+  held = λ a. All-set (KeysHeld s) groups key.0 (group ++ key ∷ []) (All-push (KeyHeld s) group key (subst (KeysHeld s) e (a key.0 [] h)) held) a;
   each = λ k. at k (key.0 == k) refl;
 }
   where
@@ -97,8 +97,8 @@ pushed_here s groups key group h e ground held = record {
         let out : in_group s k (key ∷ []) ≡ [] = ap (λ c. cond (c && (above_ty_vars (occurrence_at s key).types == 0)) (key ∷ []) []) q in
         get_or-set_other groups key.0 k (group ++ key ∷ []) [] ne ∙ sym (append-nil (get_or groups k [])) ∙ ap (λ z. get_or groups k [] ++ z) (sym out)
 
--- behind what makes its group
-pub pushed_later : (s : List Tree) (old middle new : List (List (ℕ × ℕ))) (key : ℕ × ℕ) → IsFilled old middle key.0 → IsPushed s middle new key → IsPushed s old new key
+-- after what makes its group
+pub pushed_later : (s : List Tree) (old middle new : List (List (ℕ × ℕ))) (key : ℕ × ℕ) → IsFilled old middle key.0 → IsKeyPushed s middle new key → IsKeyPushed s old new key
 pushed_later s old middle new key f p = record { held = λ a. p.held (f.held s a); each = λ k. p.each k ∙ ap (λ z. z ++ in_group s k (key ∷ [])) (f.same k) }
 
 -- a key whose types are told to be ground is an instance of its symbol
@@ -110,7 +110,7 @@ told_ground key s told e z =
 
 -- one key more
 pub group_step : (s : List Tree) (keys : List (ℕ × ℕ)) (i : ℕ) (key : ℕ × ℕ) (old new : List (List (ℕ × ℕ))) → i < length keys → AreGroups s (take i keys) old
-    → IsPushed s old new (get_or keys i key) → AreGroups s (take (i + 1) keys) new
+    → IsKeyPushed s old new (get_or keys i key) → AreGroups s (take (i + 1) keys) new
 group_step s keys i key old new h a p = record {
   held = p.held a.held;
   each = λ k.
@@ -119,34 +119,34 @@ group_step s keys i key old new h a p = record {
 }
 
 -- the groups of what occurs in a task
-pub groups_of_task : (s : List Tree) (t : TaskTree) (keys : List (ℕ × ℕ)) (groups : List (List (ℕ × ℕ))) → Gains s [] (task_occurrences t) keys → AreGroups s keys groups → AreGroupsOf s t groups
+pub groups_of_task : (s : List Tree) (t : TaskTree) (keys : List (ℕ × ℕ)) (groups : List (List (ℕ × ℕ))) → GainsKeys s [] (task_occurrences t) keys → AreGroups s keys groups → AreGroupsOf s t groups
 groups_of_task s t keys groups g a = record {
   held = a.held;
-  each = λ k. ap (seen_at s) (a.each k) ∙ filter_of_map (is_instance_of k) (occurrence_at s) keys ∙ ap (filter (is_instance_of k)) g.is;
+  each = λ k. ap (seen_occurrences s) (a.each k) ∙ filter_of_map (is_instance_of k) (occurrence_at s) keys ∙ ap (filter (is_instance_of k)) g.is;
 }
 
 module _ (s : List Tree) (t : TaskTree) (groups : List (List (ℕ × ℕ))) (a : AreGroupsOf s t groups) where
-  same_instances : (acc : List Occurrence) (k : ℕ) → with_all acc (instances_in s t.ints groups k) ≡ with_all acc (instances t.ints (task_occurrences t) k)
-  same_instances acc k = elim (is_interpreted t.ints k) as (λ b. with_all acc (if b then whole k ∷ [] else seen_at s (get_or groups k [])) ≡ with_all acc (if b then whole k ∷ [] else filter (is_instance_of k) (task_occurrences t))) [
+  same_instances : (acc : List Occurrence) (k : ℕ) → with_all acc (instances_in s t.ints groups k) ≡ with_all acc (symbol_instances t.ints (task_occurrences t) k)
+  same_instances acc k = elim (is_interpreted t.ints k) as (λ b. with_all acc (if b then whole_occurrence k ∷ [] else seen_occurrences s (get_or groups k [])) ≡ with_all acc (if b then whole_occurrence k ∷ [] else filter (is_instance_of k) (task_occurrences t))) [
     | true ↦ refl
     | false ↦ ap (with_all acc) (a.each k) ∙ filter_gathered (is_instance_of k) acc [] (task_occurrences t)
   ]
 
-  all_instances : (acc : List Occurrence) (ks : List ℕ) → with_all acc (flat_map (instances_in s t.ints groups) ks) ≡ with_all acc (flat_map (instances t.ints (task_occurrences t)) ks)
+  all_instances : (acc : List Occurrence) (ks : List ℕ) → with_all acc (flat_map (instances_in s t.ints groups) ks) ≡ with_all acc (flat_map (symbol_instances t.ints (task_occurrences t)) ks)
   all_instances acc [] = refl
   all_instances acc (k ∷ ks) =
       with_all-append acc (instances_in s t.ints groups k) (flat_map (instances_in s t.ints groups) ks)
       ∙ ap (λ z. with_all z (flat_map (instances_in s t.ints groups) ks)) (same_instances acc k)
-      ∙ all_instances (with_all acc (instances t.ints (task_occurrences t) k)) ks
-      ∙ sym (with_all-append acc (instances t.ints (task_occurrences t) k) (flat_map (instances t.ints (task_occurrences t)) ks))
+      ∙ all_instances (with_all acc (symbol_instances t.ints (task_occurrences t) k)) ks
+      ∙ sym (with_all-append acc (symbol_instances t.ints (task_occurrences t) k) (flat_map (symbol_instances t.ints (task_occurrences t)) ks))
 
 -- what a problem's table has
 pub problem_gained : (s : List Tree) (t : TaskTree) (groups : List (List (ℕ × ℕ))) (ks : List ℕ) (keys : List (ℕ × ℕ)) → AreGroupsOf s t groups → ks ≡ declared t
-    → Gains s [] (flat_map (instances_in s t.ints groups) ks) keys → seen_at s keys ≡ problem_things t
+    → GainsKeys s [] (flat_map (instances_in s t.ints groups) ks) keys → seen_occurrences s keys ≡ problem_things t
 problem_gained s t groups ks keys a e g =
     g.is ∙ ap (λ z. with_all [] (flat_map (instances_in s t.ints groups) z)) e ∙ all_instances s t groups a [] (declared t)
-    ∙ distinct_is (flat_map (instances t.ints (task_occurrences t)) (declared t))
+    ∙ distinct_is (flat_map (symbol_instances t.ints (task_occurrences t)) (declared t))
 
 -- what a task's table has
-pub task_gained : (s : List Tree) (t : TaskTree) (ks : List ℕ) (keys : List (ℕ × ℕ)) → ks ≡ declared t → Gains s [] (map whole ks) keys → seen_at s keys ≡ task_things t
-task_gained s t ks keys e g = g.is ∙ ap (λ z. with_all [] (map whole z)) e ∙ distinct_is (map whole (declared t))
+pub task_gained : (s : List Tree) (t : TaskTree) (ks : List ℕ) (keys : List (ℕ × ℕ)) → ks ≡ declared t → GainsKeys s [] (map whole_occurrence ks) keys → seen_occurrences s keys ≡ task_things t
+task_gained s t ks keys e g = g.is ∙ ap (λ z. with_all [] (map whole_occurrence z)) e ∙ distinct_is (map whole_occurrence (declared t))

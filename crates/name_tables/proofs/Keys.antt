@@ -11,8 +11,8 @@ use Rattle.trees.specs.Node.{tree_at, Holds}
 use Rattle.linear_leaf.specs.Valuations.{same_tree}
 use Rattle.linear_leaf.proofs.SameTree.{same_is, same_refl}
 use Rattle.name_tables.specs.Occurrences.{Occurrence}
-use Rattle.name_tables.specs.Tables.{is_same, place_of}
-use Rattle.name_tables.specs.Seen.{occurrence_at, seen_at, has, with_one, with_all, KeyHeld, AreHeld, Gains}
+use Rattle.name_tables.specs.Tables.{is_same, occurrence_place}
+use Rattle.name_tables.specs.Seen.{occurrence_at, seen_occurrences, has, with_one, with_all, KeyHeld, KeysHeld, GainsKeys}
 
 abbrev pub same_key : ℕ × ℕ → ℕ × ℕ → Bool
 same_key x y = nat_eq x.0 y.0 && nat_eq x.1 y.1
@@ -39,28 +39,28 @@ module _ (s : List Tree) (apart : Apart s) where
   pub same_keys : (x y : ℕ × ℕ) → KeyHeld s x → KeyHeld s y → same_key x y ≡ is_same (occurrence_at s x) (occurrence_at s y)
   same_keys x y h k = ap (λ b. nat_eq x.0 y.0 && b) (same_number x.1 y.1 h k)
 
-  pub has_key : (keys : List (ℕ × ℕ)) (x : ℕ × ℕ) → KeyHeld s x → AreHeld s keys → list_any (same_key x) keys ≡ has (seen_at s keys) (occurrence_at s x)
+  pub has_key : (keys : List (ℕ × ℕ)) (x : ℕ × ℕ) → KeyHeld s x → KeysHeld s keys → list_any (same_key x) keys ≡ has (seen_occurrences s keys) (occurrence_at s x)
   has_key [] x h a = refl
   has_key (y ∷ ys) x h a =
       ap (λ b. b || list_any (same_key x) ys) (same_keys x y h (a 0 y (omega arith)))
       ∙ ap (λ b. is_same (occurrence_at s x) (occurrence_at s y) || b) (has_key ys x h (All-tail (KeyHeld s) y ys a))
 
   -- a key is added where it isn't there
-  pub key_added : (keys new : List (ℕ × ℕ)) (x : ℕ × ℕ) → KeyHeld s x → AreHeld s keys → new ≡ (if list_any (same_key x) keys then keys else keys ++ x ∷ [])
-      → Gains s keys (occurrence_at s x ∷ []) new
+  pub key_added : (keys new : List (ℕ × ℕ)) (x : ℕ × ℕ) → KeyHeld s x → KeysHeld s keys → new ≡ (if list_any (same_key x) keys then keys else keys ++ x ∷ [])
+      → GainsKeys s keys (occurrence_at s x ∷ []) new
   key_added keys new x h a e = rw e (by (list_any (same_key x) keys) (has_key keys x h a))
     where
-      by : (b : Bool) → b ≡ has (seen_at s keys) (occurrence_at s x) → Gains s keys (occurrence_at s x ∷ []) (if b then keys else keys ++ x ∷ [])
-      by true q = record { held = a; is = ap (λ b. if b then seen_at s keys else seen_at s keys ++ occurrence_at s x ∷ []) q }
+      by : (b : Bool) → b ≡ has (seen_occurrences s keys) (occurrence_at s x) → GainsKeys s keys (occurrence_at s x ∷ []) (if b then keys else keys ++ x ∷ [])
+      by true q = record { held = a; is = ap (λ b. if b then seen_occurrences s keys else seen_occurrences s keys ++ occurrence_at s x ∷ []) q }
       by false q = record {
         held = All-push (KeyHeld s) keys x a h;
-        is = map-append (occurrence_at s) keys (x ∷ []) ∙ ap (λ b. if b then seen_at s keys else seen_at s keys ++ occurrence_at s x ∷ []) q;
+        is = map-append (occurrence_at s) keys (x ∷ []) ∙ ap (λ b. if b then seen_occurrences s keys else seen_occurrences s keys ++ occurrence_at s x ∷ []) q;
       }
 
   step : (b c : Bool) (m n : ℕ) → b ≡ c → m ≡ n → cond (not b) (1 + m) 0 ≡ cond (not c) (1 + n) 0
   step b c m n e h = (λ i. cond (not (e i)) (1 + h i) 0)
 
-  pub key_place : (keys : List (ℕ × ℕ)) (x : ℕ × ℕ) → KeyHeld s x → AreHeld s keys → position_or_len (same_key x) keys ≡ place_of (seen_at s keys) (occurrence_at s x)
+  pub key_place : (keys : List (ℕ × ℕ)) (x : ℕ × ℕ) → KeyHeld s x → KeysHeld s keys → position_or_len (same_key x) keys ≡ occurrence_place (seen_occurrences s keys) (occurrence_at s x)
   key_place [] x h a = refl
   key_place (y ∷ ys) x h a = step _ _ _ _ (same_keys x y h (a 0 y (omega arith))) (key_place ys x h (All-tail (KeyHeld s) y ys a))
 

@@ -5,14 +5,14 @@ use Rattle.std.proofs.lemmas.List.{append-nil, append_assoc, map_more, take_more
 use Rattle.std.proofs.lemmas.List.Concat.{flat_map-append}
 use Rattle.trees.specs.Tree.{Tree}
 use Rattle.tasks.specs.declared.declaration.Decl.{Decl}
-use Rattle.tasks.specs.Task.{BodyTree, MakesType, Makes, Defines, Induces, Constructs, Says, DeclarationTree, Proposition, props_of, said_by}
+use Rattle.tasks.specs.Task.{BodyTree, MakesType, Makes, Defines, Induces, Constructs, Says, DeclarationTree, PropositionTree, props_of, said_by}
 use Rattle.trees.specs.declared.TermId.{TermId}
 use Rattle.trees.specs.Node.{tree_at}
 use Rattle.tasks.specs.declared.task.Task.{Task}
 use Rattle.tasks.specs.Meaning.{trees_at, declaration_at, declarations_at, task_at}
 use Rattle.name_tables.specs.Occurrences.{Occurrence, in_type, occurrences, in_proposition, task_occurrences}
-use Rattle.name_tables.specs.Own.{said}
-use Rattle.name_tables.specs.Seen.{seen_at, with_all, Sees, Walks, Gains}
+use Rattle.name_tables.specs.Own.{said_occurrences}
+use Rattle.name_tables.specs.Seen.{seen_occurrences, with_all, Sees, WalksTerms, GainsKeys}
 use Rattle.name_tables.proofs.Steps.{gains_then, sees_then, walks_then}
 
 pub flat_take : {X A : Type 0} (f : X → List A) (xs : List X) (i : ℕ) (d : X) → i < length xs → flat_map f (take (i + 1) xs) ≡ flat_map f (take i xs) ++ f (get_or xs i d)
@@ -25,7 +25,7 @@ flat_more f g xs i d h = ap (flat_map f) (map_more g xs i d h) ∙ flat_map-appe
 abbrev pub propositions : List DeclarationTree → List Occurrence
 propositions ds = flat_map in_proposition (props_of ds)
 
-said_first : (d : DeclarationTree) (b : BodyTree) (more : List Proposition) → flat_map in_proposition (said_by d b ++ more) ≡ said b ++ flat_map in_proposition more
+said_first : (d : DeclarationTree) (b : BodyTree) (more : List PropositionTree) → flat_map in_proposition (said_by d b ++ more) ≡ said_occurrences b ++ flat_map in_proposition more
 said_first d (Says e) more = refl
 said_first d (MakesType k) more = refl
 said_first d (Makes k) more = refl
@@ -33,29 +33,29 @@ said_first d (Defines ds) more = refl
 said_first d (Induces is) more = refl
 said_first d (Constructs ts) more = refl
 
-propositions_push : (ds : List DeclarationTree) (d : DeclarationTree) → propositions (ds ++ d ∷ []) ≡ propositions ds ++ said d.body
-propositions_push [] d = said_first d d.body [] ∙ append-nil (said d.body)
+propositions_push : (ds : List DeclarationTree) (d : DeclarationTree) → propositions (ds ++ d ∷ []) ≡ propositions ds ++ said_occurrences d.body
+propositions_push [] d = said_first d d.body [] ∙ append-nil (said_occurrences d.body)
 propositions_push (x ∷ xs) d =
-    said_first x x.body (props_of (xs ++ d ∷ [])) ∙ ap (λ z. said x.body ++ z) (propositions_push xs d) ∙ sym (append_assoc (said x.body) (propositions xs) (said d.body)) ∙ ap (λ z. z ++ said d.body) (sym (said_first x x.body (props_of xs)))
+    said_first x x.body (props_of (xs ++ d ∷ [])) ∙ ap (λ z. said_occurrences x.body ++ z) (propositions_push xs d) ∙ sym (append_assoc (said_occurrences x.body) (propositions xs) (said_occurrences d.body)) ∙ ap (λ z. z ++ said_occurrences d.body) (sym (said_first x x.body (props_of xs)))
 
-pub propositions_more : (s : List Tree) (ds : List Decl) (i : ℕ) (d : Decl) → i < length ds → propositions (declarations_at s (take (i + 1) ds)) ≡ propositions (declarations_at s (take i ds)) ++ said (declaration_at s (get_or ds i d)).body
+pub propositions_more : (s : List Tree) (ds : List Decl) (i : ℕ) (d : Decl) → i < length ds → propositions (declarations_at s (take (i + 1) ds)) ≡ propositions (declarations_at s (take i ds)) ++ said_occurrences (declaration_at s (get_or ds i d)).body
 propositions_more s ds i d h = ap propositions (map_more (declaration_at s) ds i d h) ∙ propositions_push (declarations_at s (take i ds)) (declaration_at s (get_or ds i d))
 
 module _ (s : List Tree) where
-  pub gains_step : (a b c : List (ℕ × ℕ)) (old one new : List Occurrence) → new ≡ old ++ one → Gains s a old b → Gains s b one c → Gains s a new c
+  pub gains_step : (a b c : List (ℕ × ℕ)) (old one new : List Occurrence) → new ≡ old ++ one → GainsKeys s a old b → GainsKeys s b one c → GainsKeys s a new c
   gains_step a b c old one new e h k = rw e (gains_then s a b c old one h k)
 
   pub sees_step : (a b c : List (ℕ × ℕ)) (old one new : List Occurrence) → new ≡ old ++ one → Sees s a old b → Sees s b one c → Sees s a new c
   sees_step a b c old one new e h k = rw e (sees_then s a b c old one h k)
 
-  pub walks_step : (a b c : List (ℕ × ℕ)) (d f : List ℕ) (old one new : List Occurrence) → new ≡ old ++ one → Walks s a old b d → Walks s b one c f → Walks s a new c f
+  pub walks_step : (a b c : List (ℕ × ℕ)) (d f : List ℕ) (old one new : List Occurrence) → new ≡ old ++ one → WalksTerms s a old b d → WalksTerms s b one c f → WalksTerms s a new c f
   walks_step a b c d f old one new e h k = rw e (walks_then s a b c d f old one h k)
 
 -- what was gathered part by part from a task
 pub task_gathered : (s : List Tree) (t : Task) (ds : List Decl) (ps ls : List TermId) (a b : List (ℕ × ℕ)) (ids : List ℕ) → a ≡ [] → ds ≡ t.decls → ps ≡ t.params → ls ≡ t.locals
-    → Walks s a (propositions (declarations_at s ds) ++ (flat_map in_type (trees_at s ps) ++ (flat_map occurrences (trees_at s ls) ++ occurrences (tree_at s t.goal)))) b ids
-    → Gains s [] (task_occurrences (task_at s t)) b
+    → WalksTerms s a (propositions (declarations_at s ds) ++ (flat_map in_type (trees_at s ps) ++ (flat_map occurrences (trees_at s ls) ++ occurrences (tree_at s t.goal)))) b ids
+    → GainsKeys s [] (task_occurrences (task_at s t)) b
 task_gathered s t ds ps ls a b ids none d p l w = record {
   held = w.walk.seen.held;
-  is = w.is ∙ (λ i. with_all (seen_at s (none i)) (propositions (declarations_at s (d i)) ++ (flat_map in_type (trees_at s (p i)) ++ (flat_map occurrences (trees_at s (l i)) ++ occurrences (tree_at s t.goal)))));
+  is = w.is ∙ (λ i. with_all (seen_occurrences s (none i)) (propositions (declarations_at s (d i)) ++ (flat_map in_type (trees_at s (p i)) ++ (flat_map occurrences (trees_at s (l i)) ++ occurrences (tree_at s t.goal)))));
 }

@@ -6,7 +6,7 @@ use Rattle.tasks.specs.Task.{SymbolTree, int_symbol, DeclarationTree, MakesType,
 use Rattle.name_entries.specs.declared.names.NameOf.TheVariants.{Int, Rigid, Symbol}
 use Rattle.name_entries.specs.declared.names.NameEntry.{NameEntry}
 use Rattle.name_tables.specs.Spelling.{own_name, clean, name_at_place}
-use Rattle.name_tables.specs.Occurrences.{Occurrence, occurrence, whole}
+use Rattle.name_tables.specs.Occurrences.{Occurrence, occurrence, whole_occurrence}
 use Rattle.name_tables.specs.Tables.{problem_things, task_things, problem_names}
 
 prefix_name : clean (codes "-_") ≡ codes "prefix_minus"
@@ -52,10 +52,10 @@ made_nil = record { theory = codes "T"; name = codes "S.Nil"; vars = 1; body = M
 abbrev task : TaskTree
 task = record { symbols = int_symbol ∷ variable ∷ list ∷ empty ∷ []; ints = None; rigid = 1 ∷ []; decls = made_list ∷ made_nil ∷ []; params = []; locals = []; goal = Two HEq nil nil }
 
-problem_has : problem_things task ≡ whole 0 ∷ whole 1 ∷ occurrence 2 (Two HCell mine (Leaf HEnd)) ∷ occurrence 3 (Two HCell mine (Leaf HEnd)) ∷ []
+problem_has : problem_things task ≡ whole_occurrence 0 ∷ whole_occurrence 1 ∷ occurrence 2 (Two HCell mine (Leaf HEnd)) ∷ occurrence 3 (Two HCell mine (Leaf HEnd)) ∷ []
 problem_has = refl
 
-task_has : task_things task ≡ whole 0 ∷ whole 1 ∷ whole 2 ∷ whole 3 ∷ []
+task_has : task_things task ≡ whole_occurrence 0 ∷ whole_occurrence 1 ∷ whole_occurrence 2 ∷ whole_occurrence 3 ∷ []
 task_has = refl
 
 problem_table : problem_names task ≡

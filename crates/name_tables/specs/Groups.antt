@@ -5,9 +5,9 @@ use Rattle.trees.specs.declared.ints.Ints.{Ints}
 use Rattle.tasks.specs.Task.{TaskTree, declared}
 use Rattle.tasks.specs.Meaning.{task_at}
 use Rattle.tasks.specs.declared.task.Task.{Task}
-use Rattle.name_tables.specs.Occurrences.{Occurrence, whole, task_occurrences}
+use Rattle.name_tables.specs.Occurrences.{Occurrence, whole_occurrence, task_occurrences}
 use Rattle.name_tables.specs.Tables.{is_interpreted, is_instance_of}
-use Rattle.name_tables.specs.Seen.{occurrence_at, seen_at, with_all, AreHeld}
+use Rattle.name_tables.specs.Seen.{occurrence_at, seen_occurrences, with_all, KeysHeld}
 
 abbrev pub in_group : List Tree → ℕ → List (ℕ × ℕ) → List (ℕ × ℕ)
 in_group s k keys = filter (λ (key : ℕ × ℕ). is_instance_of k (occurrence_at s key)) keys
@@ -15,28 +15,28 @@ in_group s k keys = filter (λ (key : ℕ × ℕ). is_instance_of k (occurrence_
 -- there are groups up to that of a symbol
 pub record IsFilled (old new : List (List (ℕ × ℕ))) (symbol : ℕ) : Type 0 where
   pub within : symbol < length new
-  pub held : (s : List Tree) → All (AreHeld s) old → All (AreHeld s) new
+  pub held : (s : List Tree) → All (KeysHeld s) old → All (KeysHeld s) new
   pub same : (k : ℕ) → get_or new k [] ≡ get_or old k []
 
 -- one key more, in the group of its symbol
-pub record IsPushed (s : List Tree) (old new : List (List (ℕ × ℕ))) (key : ℕ × ℕ) : Type 0 where
-  pub held : All (AreHeld s) old → All (AreHeld s) new
+pub record IsKeyPushed (s : List Tree) (old new : List (List (ℕ × ℕ))) (key : ℕ × ℕ) : Type 0 where
+  pub held : All (KeysHeld s) old → All (KeysHeld s) new
   pub each : (k : ℕ) → get_or new k [] ≡ get_or old k [] ++ in_group s k (key ∷ [])
 
 -- for each symbol its instances among these
 pub record AreGroups (s : List Tree) (keys : List (ℕ × ℕ)) (groups : List (List (ℕ × ℕ))) : Type 0 where
-  pub held : All (AreHeld s) groups
+  pub held : All (KeysHeld s) groups
   pub each : (k : ℕ) → get_or groups k [] ≡ in_group s k keys
 
 -- for each symbol its instances in a task, each once
 pub record AreGroupsOf (s : List Tree) (t : TaskTree) (groups : List (List (ℕ × ℕ))) : Type 0 where
-  pub held : All (AreHeld s) groups
-  pub each : (k : ℕ) → seen_at s (get_or groups k []) ≡ filter (is_instance_of k) (with_all [] (task_occurrences t))
+  pub held : All (KeysHeld s) groups
+  pub each : (k : ℕ) → seen_occurrences s (get_or groups k []) ≡ filter (is_instance_of k) (with_all [] (task_occurrences t))
 
 -- what is added of a symbol
 abbrev pub instances_in : List Tree → Option Ints → List (List (ℕ × ℕ)) → ℕ → List Occurrence
-instances_in s ints groups k = if is_interpreted ints k then whole k ∷ [] else seen_at s (get_or groups k [])
+instances_in s ints groups k = if is_interpreted ints k then whole_occurrence k ∷ [] else seen_occurrences s (get_or groups k [])
 
 -- they are the symbols of its tree, over any store
-abbrev pub AreDeclared : Task → List ℕ → Type 0
-AreDeclared t ks = (s : List Tree) → ks ≡ declared (task_at s t)
+abbrev pub AreDeclaredSymbols : Task → List ℕ → Type 0
+AreDeclaredSymbols t ks = (s : List Tree) → ks ≡ declared (task_at s t)

@@ -19,6 +19,6 @@ inner (Two h a b) = occurrences a ++ occurrences b
 inner (Three h a b c) = occurrences a ++ (occurrences b ++ occurrences c)
 
 -- what occurs in what a declaration says
-abbrev pub said : BodyTree → List Occurrence
-said (Says e) = occurrences e
-said _ = []
+abbrev pub said_occurrences : BodyTree → List Occurrence
+said_occurrences (Says e) = occurrences e
+said_occurrences _ = []

@@ -9,8 +9,8 @@ use Rattle.name_tables.specs.Tables.{is_same}
 abbrev pub occurrence_at : List Tree → ℕ × ℕ → Occurrence
 occurrence_at s key = occurrence key.0 (get_or s key.1 (Leaf HEnd))
 
-abbrev pub seen_at : List Tree → List (ℕ × ℕ) → List Occurrence
-seen_at s keys = map (occurrence_at s) keys
+abbrev pub seen_occurrences : List Tree → List (ℕ × ℕ) → List Occurrence
+seen_occurrences s keys = map (occurrence_at s) keys
 
 abbrev pub has : List Occurrence → Occurrence → Bool
 has os o = list_any (is_same o) os
@@ -33,41 +33,41 @@ TypesAreIn os [] = Unit {0}
 TypesAreIn os (p ∷ ps) = AreIn os (in_type p.types) × TypesAreIn os ps
 
 -- each type argument is there too
-abbrev pub IsClosed : List Occurrence → Type 0
-IsClosed os = TypesAreIn os os
+abbrev pub HasTypeArguments : List Occurrence → Type 0
+HasTypeArguments os = TypesAreIn os os
 
 abbrev pub KeyHeld : List Tree → ℕ × ℕ → Type 0
 KeyHeld s key = key.1 < length s
 
-abbrev pub AreHeld : List Tree → List (ℕ × ℕ) → Type 0
-AreHeld s keys = All (KeyHeld s) keys
+abbrev pub KeysHeld : List Tree → List (ℕ × ℕ) → Type 0
+KeysHeld s keys = All (KeyHeld s) keys
 
 -- what has been gathered
 pub record IsSeen (s : List Tree) (keys : List (ℕ × ℕ)) : Type 0 where
-  pub held : AreHeld s keys
-  pub closed : IsClosed (seen_at s keys)
+  pub held : KeysHeld s keys
+  pub closed : HasTypeArguments (seen_occurrences s keys)
 
 -- it has gained these
 pub record Sees (s : List Tree) (old : List (ℕ × ℕ)) (ps : List Occurrence) (new : List (ℕ × ℕ)) : Type 0 where
   pub seen : IsSeen s new
-  pub is : seen_at s new ≡ with_all (seen_at s old) ps
+  pub is : seen_occurrences s new ≡ with_all (seen_occurrences s old) ps
 
 -- all that occurs in these terms is there
-abbrev pub AreDone : List Tree → List Occurrence → List ℕ → Type 0
-AreDone s os [] = Unit {0}
-AreDone s os (id ∷ ids) = AreIn os (occurrences (get_or s id (Leaf HEnd))) × AreDone s os ids
+abbrev pub TermsAreIn : List Tree → List Occurrence → List ℕ → Type 0
+TermsAreIn s os [] = Unit {0}
+TermsAreIn s os (id ∷ ids) = AreIn os (occurrences (get_or s id (Leaf HEnd))) × TermsAreIn s os ids
 
 -- what a walk has gathered, and the terms that it has done
 pub record IsWalk (s : List Tree) (keys : List (ℕ × ℕ)) (ids : List ℕ) : Type 0 where
   pub seen : IsSeen s keys
-  pub done : AreDone s (seen_at s keys) ids
+  pub done : TermsAreIn s (seen_occurrences s keys) ids
 
 -- a walk has gained these
-pub record Walks (s : List Tree) (old : List (ℕ × ℕ)) (ps : List Occurrence) (new : List (ℕ × ℕ)) (ids : List ℕ) : Type 0 where
+pub record WalksTerms (s : List Tree) (old : List (ℕ × ℕ)) (ps : List Occurrence) (new : List (ℕ × ℕ)) (ids : List ℕ) : Type 0 where
   pub walk : IsWalk s new ids
-  pub is : seen_at s new ≡ with_all (seen_at s old) ps
+  pub is : seen_occurrences s new ≡ with_all (seen_occurrences s old) ps
 
 -- a set of things has gained these
-pub record Gains (s : List Tree) (old : List (ℕ × ℕ)) (ps : List Occurrence) (new : List (ℕ × ℕ)) : Type 0 where
-  pub held : AreHeld s new
-  pub is : seen_at s new ≡ with_all (seen_at s old) ps
+pub record GainsKeys (s : List Tree) (old : List (ℕ × ℕ)) (ps : List Occurrence) (new : List (ℕ × ℕ)) : Type 0 where
+  pub held : KeysHeld s new
+  pub is : seen_occurrences s new ≡ with_all (seen_occurrences s old) ps

@@ -3,7 +3,7 @@
 use Rattle.std.specs.Prelude.{ℕ, ◌+◌, ◌-◌, ◌&&◌, ◌==◌, nat_le, not, Bool, true, false, if◌then◌else◌, List, [], ◌∷◌, ◌++◌, map, length, get_or, decimal, codes}
 use Rattle.std.specs.List.{flat_map}
 
--- what stands behind the last dot, or what was found before
+-- what comes after the last dot, or what was found before
 abbrev pub behind_dots : List ℕ → List ℕ → List ℕ
 behind_dots found [] = found
 behind_dots found (c ∷ cs) = if c == 46 then behind_dots cs cs else behind_dots found cs
@@ -31,36 +31,36 @@ abbrev pub is_some_word : List ℕ → Bool
 is_some_word [] = false
 is_some_word _ = true
 
-abbrev pub is_operator_byte : ℕ → Bool
-is_operator_byte c = is_some_word (spelt c)
+abbrev pub is_spelt_byte : ℕ → Bool
+is_spelt_byte c = is_some_word (spelt c)
 
 -- the name of a prefix operator ends in `_`
-abbrev pub is_prefix : List ℕ → Bool
-is_prefix cs = get_or cs (length cs - 1) 0 == 95
+abbrev pub is_prefix_operator_name : List ℕ → Bool
+is_prefix_operator_name cs = get_or cs (length cs - 1) 0 == 95
 
 abbrev pub fixity : Bool → List ℕ
 fixity true = codes "prefix"
 fixity false = codes "infix"
 
 abbrev pub operator_name : List ℕ → List ℕ
-operator_name cs = fixity (is_prefix cs) ++ flat_map spelt cs
+operator_name cs = fixity (is_prefix_operator_name cs) ++ flat_map spelt cs
 
 -- an apostrophe becomes `q`
 abbrev pub clean_byte : ℕ → ℕ
 clean_byte c = if c == 39 then 113 else c
 
 -- a letter in lower case
-abbrev pub lower : ℕ → ℕ
-lower c = if nat_le 65 c && nat_le c 90 then c + 32 else c
+abbrev pub lower_case : ℕ → ℕ
+lower_case c = if nat_le 65 c && nat_le c 90 then c + 32 else c
 
 -- a first `_` becomes `u_`, and a first letter is in lower case
 abbrev pub clean_first : ℕ → List ℕ
-clean_first c = if c == 95 then codes "u_" else lower (clean_byte c) ∷ []
+clean_first c = if c == 95 then codes "u_" else lower_case (clean_byte c) ∷ []
 
 -- a name in letters, digits and `_`
 abbrev pub clean : List ℕ → List ℕ
 clean [] = []
-clean (c ∷ cs) = if is_operator_byte c then operator_name (c ∷ cs) else clean_first c ++ map clean_byte cs
+clean (c ∷ cs) = if is_spelt_byte c then operator_name (c ∷ cs) else clean_first c ++ map clean_byte cs
 
 abbrev pub name_at_place : List ℕ → ℕ → List ℕ
 name_at_place name place = clean (own_name name) ++ 95 ∷ decimal place

@@ -1,5 +1,5 @@
 -- Name tables. A problem's has `int`, then the goal's type variables that occur, then, in the order of the declarations, each symbol
--- at the ground types at which it occurs, by first appearance; the symbols of int.Int stand in it wherever they are declared. A
+-- at the ground types at which it occurs, by first appearance; the symbols of int.Int are in it wherever they are declared. A
 -- task's has all symbols, each whole.
 use Rattle.std.specs.Prelude.{◌≢◌, ℕ, ◌+◌, ◌&&◌, ◌||◌, ◌==◌, Bool, true, false, not, if◌then◌else◌, List, [], ◌∷◌, ◌++◌, map, filter, AllPairs, Option, Some, None}
 use Rattle.std.specs.List.{flat_map, list_any, position_or_len}
@@ -11,7 +11,7 @@ use Rattle.tasks.specs.Typing.{members}
 use Rattle.name_entries.specs.declared.names.NameOf.{NameOf}
 use Rattle.name_entries.specs.declared.names.NameOf.TheVariants.{Int, Rigid, Symbol}
 use Rattle.name_entries.specs.declared.names.NameEntry.{NameEntry}
-use Rattle.name_tables.specs.Occurrences.{Occurrence, occurrence, whole, task_occurrences}
+use Rattle.name_tables.specs.Occurrences.{Occurrence, occurrence, whole_occurrence, task_occurrences}
 use Rattle.name_tables.specs.Spelling.{name_at_place}
 
 abbrev pub is_same : Occurrence → Occurrence → Bool
@@ -41,51 +41,51 @@ abbrev pub is_instance_of : ℕ → Occurrence → Bool
 is_instance_of k o = (o.symbol == k) && (above_ty_vars o.types == 0)
 
 -- what a table has of a symbol, where these are the occurrences of its task
-abbrev pub instances : Option Ints → List Occurrence → ℕ → List Occurrence
-instances ints os k = if is_interpreted ints k then whole k ∷ [] else filter (is_instance_of k) os
+abbrev pub symbol_instances : Option Ints → List Occurrence → ℕ → List Occurrence
+symbol_instances ints os k = if is_interpreted ints k then whole_occurrence k ∷ [] else filter (is_instance_of k) os
 
 -- what the names of a problem's table stand for, in order
 abbrev pub problem_things : TaskTree → List Occurrence
-problem_things t = distinct (flat_map (instances t.ints (task_occurrences t)) (declared t))
+problem_things t = distinct (flat_map (symbol_instances t.ints (task_occurrences t)) (declared t))
 
 -- and of a task's
 abbrev pub task_things : TaskTree → List Occurrence
-task_things t = distinct (map whole (declared t))
+task_things t = distinct (map whole_occurrence (declared t))
 
 abbrev pub leaf_thing : Head → Occurrence
-leaf_thing (HTyRigid k) = whole k
-leaf_thing _ = whole 0
+leaf_thing (HTyRigid k) = whole_occurrence k
+leaf_thing _ = whole_occurrence 0
 
 abbrev pub one_thing : Head → Tree → Occurrence
 one_thing (HTyApp k) args = occurrence k args
-one_thing _ args = whole 0
+one_thing _ args = whole_occurrence 0
 
 -- what a type is among them
 abbrev pub thing_of : Tree → Occurrence
 thing_of (Leaf h) = leaf_thing h
 thing_of (One h a) = one_thing h a
-thing_of (Two h a b) = whole 0
-thing_of (Three h a b c) = whole 0
+thing_of (Two h a b) = whole_occurrence 0
+thing_of (Three h a b c) = whole_occurrence 0
 
 -- its place, or their number
-abbrev pub place_of : List Occurrence → Occurrence → ℕ
-place_of things o = position_or_len (is_same o) things
+abbrev pub occurrence_place : List Occurrence → Occurrence → ℕ
+occurrence_place things o = position_or_len (is_same o) things
 
-abbrev pub name_of : List ℕ → ℕ → NameOf
-name_of rigid k = if k == 0 then Int else (if is_in k rigid then Rigid k else Symbol k)
+abbrev pub named_thing : List ℕ → ℕ → NameOf
+named_thing rigid k = if k == 0 then Int else (if is_in k rigid then Rigid k else Symbol k)
 
--- the name of what stands at a place, with the places of its types
-abbrev pub entry_of : TaskTree → List Occurrence → ℕ → Occurrence → NameEntry
-entry_of t things place o = record {
+-- the name of what is at a place, with the places of its types
+abbrev pub entry_at_place : TaskTree → List Occurrence → ℕ → Occurrence → NameEntry
+entry_at_place t things place o = record {
   name = name_at_place (symbol_or t.symbols o.symbol).name place;
-  symbol = name_of t.rigid o.symbol;
-  types = map (λ type. place_of things (thing_of type)) (members o.types);
+  symbol = named_thing t.rigid o.symbol;
+  types = map (λ type. occurrence_place things (thing_of type)) (members o.types);
 }
 
 -- those of these, from a place on
 abbrev pub entries_from : TaskTree → List Occurrence → ℕ → List Occurrence → List NameEntry
 entries_from t things place [] = []
-entries_from t things place (o ∷ os) = entry_of t things place o ∷ entries_from t things (place + 1) os
+entries_from t things place (o ∷ os) = entry_at_place t things place o ∷ entries_from t things (place + 1) os
 
 abbrev pub names_of : TaskTree → List Occurrence → List NameEntry
 names_of t things = entries_from t things 0 things

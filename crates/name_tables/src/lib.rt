@@ -1,5 +1,5 @@
-//! Name tables: what stands in them, at which place, and under which name it is printed.
-//! It stands on the tasks; what makes problems of tasks and the printers stand on it.
+//! Name tables: what is in them, at which place, and under which name it is printed.
+//! It depends on the tasks; what makes problems of tasks and the printers depend on it.
 #![tactic(auto)]
 
 mod spelling;

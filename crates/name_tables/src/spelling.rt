@@ -1,8 +1,8 @@
 // Names as they are printed.
-// They stand on texts alone; the entries of a table stand on them.
+// They depend on texts alone; the entries of a table depend on them.
 ghost use Rattle.std.specs.Prelude.{◌≡◌, ◌++◌, map, IfOk, OnOk};
 ghost use Rattle.std.specs.List.{flat_map};
-ghost use Rattle.name_tables.specs.Spelling.{own_name, spelt, is_operator_byte, is_prefix, fixity, operator_name, clean_byte, lower, clean_first, clean, name_at_place};
+ghost use Rattle.name_tables.specs.Spelling.{own_name, spelt, is_spelt_byte, is_prefix_operator_name, fixity, operator_name, clean_byte, lower_case, clean_first, clean, name_at_place};
 
 use outside::Text;
 use std::alloc::{AllocError, Global};
@@ -47,7 +47,7 @@ fn character_word(byte: u8) -> &'static [u8]
 }
 
 fn is_operator_byte(byte: u8) -> bool
-    ensures { result ≡ is_operator_byte byte }
+    ensures { result ≡ is_spelt_byte byte }
 {
     match character_word(byte) {
         [] => false,
@@ -57,7 +57,7 @@ fn is_operator_byte(byte: u8) -> bool
 
 // Whether an operator's name is that of a prefix operator.
 fn is_prefix(name: &[u8]) -> bool
-    ensures { result ≡ is_prefix name.now }
+    ensures { result ≡ is_prefix_operator_name name.now }
 {
     match name.last() {
         Some(byte) => *byte == b'_',
@@ -97,7 +97,7 @@ fn clean_byte(byte: u8) -> u8
 
 // A letter in lower case.
 fn lower(byte: u8) -> u8
-    ensures { result ≡ lower byte }
+    ensures { result ≡ lower_case byte }
 {
     if b'A' <= byte && byte <= b'Z' {
         byte + 32
@@ -143,7 +143,7 @@ fn push_clean(made: &mut Vec<u8>, name: &[u8]) -> Result<(), AllocError>
     }
 }
 
-/// The name under which a symbol is printed that stands at a place.
+/// The name under which a symbol is printed that is at a place.
 pub fn name_at_place(alloc: Global, name: &[u8], place: usize) -> Result<Text, AllocError>
     ensures { IfOk result (λ v. v ≡ name_at_place name.now place) }
 {

@@ -1,12 +1,12 @@
 // The entries of a name table.
-// They stand on what stands in a table; the problems and the step files stand on them.
+// They depend on what is in a table; the problems and the step files depend on them.
 ghost use Rattle.std.specs.Prelude.{◌≡◌, ◌++◌, map, IfOk, OnOk};
 ghost use Rattle.trees.specs.Node.{tree_at, Holds};
 ghost use Rattle.tasks.specs.Typing.{members};
 ghost use Rattle.tasks.specs.Meaning.{task_at, TaskHeld};
 ghost use Rattle.name_tables.specs.Named.{IsNameOf};
-ghost use Rattle.name_tables.specs.Tables.{is_in, thing_of, place_of, name_of, entry_of, names_of, problem_names, task_names, NamesDiffer};
-ghost use Rattle.name_tables.specs.Seen.{occurrence_at, seen_at, KeyHeld, AreHeld};
+ghost use Rattle.name_tables.specs.Tables.{is_in, thing_of, occurrence_place, named_thing, entry_at_place, names_of, problem_names, task_names, NamesDiffer};
+ghost use Rattle.name_tables.specs.Seen.{occurrence_at, seen_occurrences, KeyHeld, KeysHeld};
 
 use crate::spelling::name_at_place;
 use crate::things::Things;
@@ -38,7 +38,7 @@ fn is_in(symbol: usize, symbols: &[usize]) -> bool
 
 // What a symbol of a table is.
 fn name_of(rigid: &[usize], symbol: usize) -> NameOf
-    ensures { result ≡ name_of rigid.now symbol }
+    ensures { result ≡ named_thing rigid.now symbol }
 {
     if symbol == 0 {
         return NameOf::Int;
@@ -57,10 +57,11 @@ fn push_places(
     types: TermId,
     places: &mut Vec<usize>,
 ) -> Result<(), AllocError>
-    requires things_held { AreHeld store.now things.now }
+    requires things_held { KeysHeld store.now things.now }
     requires held { Holds store.now types }
     ensures { OnOk result (places.new.items ≡ places.old.items
-        ++ map (λ type. place_of (seen_at store.now things.now) (thing_of type)) (members (tree_at
+        ++ map (λ type. occurrence_place (seen_occurrences store.now things.now) (thing_of type))
+        (members (tree_at
         store.now types))) }
 {
     match store.node(types) {
@@ -72,7 +73,7 @@ fn push_places(
     }
 }
 
-// The entry of what stands at a place.
+// The entry of what is at a place.
 fn entry_of(
     alloc: Global,
     store: &Store,
@@ -81,9 +82,10 @@ fn entry_of(
     place: usize,
     key: Key,
 ) -> Result<NameEntry, AllocError>
-    requires things_held { AreHeld store.now things.now }
+    requires things_held { KeysHeld store.now things.now }
     requires held { KeyHeld store.now key }
-    ensures { IfOk result (λ e. e ≡ entry_of (task_at store.now task.now) (seen_at store.now
+    ensures { IfOk result (λ e. e ≡ entry_at_place (task_at store.now task.now)
+        (seen_occurrences store.now
         things.now) place (occurrence_at store.now key)) }
 {
     let mut places = Vec::new(alloc);
@@ -96,15 +98,16 @@ fn entry_of(
     })
 }
 
-/// The names of what stands in a table, in order. They differ. Only want of memory refuses.
+/// The names of what is in a table, in order. They differ. Only want of memory refuses.
 pub fn names_of(
     alloc: Global,
     store: &Store,
     task: &Task,
     things: &Things,
 ) -> Result<Vec<NameEntry>, AllocError>
-    requires { AreHeld store.now things.now }
-    ensures names { IfOk result (λ v. v.items ≡ names_of (task_at store.now task.now) (seen_at
+    requires { KeysHeld store.now things.now }
+    ensures names { IfOk result (λ v. v.items
+        ≡ names_of (task_at store.now task.now) (seen_occurrences
         store.now things.now)) }
     ensures differ { IfOk result (λ v. NamesDiffer v.items) }
 {
@@ -134,7 +137,7 @@ pub fn problem_names(
 }
 
 /// The name table of a task: `int`, the goal's type variables by first appearance, then each symbol that a declaration makes, in
-/// the order of the declarations. Each stands whole, and the names differ. Only want of memory refuses.
+/// the order of the declarations. Each is whole, and the names differ. Only want of memory refuses.
 pub fn task_names(alloc: Global, store: &Store, task: &Task) -> Result<Vec<NameEntry>, AllocError>
     ensures names { IfOk result (λ v. v.items ≡ task_names (task_at store.now task.now)) }
     ensures differ { IfOk result (λ v. NamesDiffer v.items) }

@@ -1,13 +1,13 @@
-// What stands in a name table, each thing at its place, found without a walk.
-// It stands on what occurs in a task; the entries of a table and the printers stand on it.
+// What is in a name table, each thing at its place, found without a walk.
+// It depends on what occurs in a task; the entries of a table and the printers depend on it.
 ghost use Rattle.std.specs.Prelude.{◌≡◌, ◌∷◌, [], map, All, IfOk, OnOk};
 ghost use Rattle.std.specs.List.{flat_map};
 ghost use Rattle.trees.specs.Node.{tree_at, Holds};
 ghost use Rattle.tasks.specs.Meaning.{task_at, TaskHeld};
-ghost use Rattle.name_tables.specs.Occurrences.{occurrence, whole, in_type, occurrences};
-ghost use Rattle.name_tables.specs.Tables.{is_of_ints, is_interpreted, problem_things, task_things, thing_of, place_of, distinct};
-ghost use Rattle.name_tables.specs.Seen.{occurrence_at, seen_at, has, KeyHeld, AreHeld, Gains};
-ghost use Rattle.name_tables.specs.Groups.{AreGroups, AreGroupsOf, IsFilled, IsPushed, instances_in, AreDeclared};
+ghost use Rattle.name_tables.specs.Occurrences.{occurrence, whole_occurrence, in_type, occurrences};
+ghost use Rattle.name_tables.specs.Tables.{is_of_ints, is_interpreted, problem_things, task_things, thing_of, occurrence_place, distinct};
+ghost use Rattle.name_tables.specs.Seen.{occurrence_at, seen_occurrences, has, KeyHeld, KeysHeld, GainsKeys};
+ghost use Rattle.name_tables.specs.Groups.{AreGroups, AreGroupsOf, IsFilled, IsKeyPushed, instances_in, AreDeclaredSymbols};
 
 use crate::walk::{Key, add_key, empty_list, has_key, seen_in, seen_in_term, seen_in_type};
 use indexmap::IndexSet;
@@ -68,7 +68,7 @@ fn push_in_group(
     key: Key,
 ) -> Result<(), AllocError>
     requires held { KeyHeld store.now key }
-    ensures { OnOk result (IsPushed store.now groups.old.items groups.new.items key) }
+    ensures { OnOk result (IsKeyPushed store.now groups.old.items groups.new.items key) }
 {
     if store.above_type_variables(TermId(key.1)) != 0 {
         return Ok(());
@@ -80,7 +80,7 @@ fn push_in_group(
 
 // For each symbol its instances.
 fn groups_of(alloc: Global, store: &Store, seen: &[Key]) -> Result<Vec<Seq<Key>>, AllocError>
-    requires { AreHeld store.now seen.now }
+    requires { KeysHeld store.now seen.now }
     ensures { IfOk result (λ v. AreGroups store.now seen.now v.items) }
 {
     let mut groups = Vec::new(alloc);
@@ -92,7 +92,7 @@ fn groups_of(alloc: Global, store: &Store, seen: &[Key]) -> Result<Vec<Seq<Key>>
 
 // The symbols of a task: `int`, the goal's type variables, and those that the declarations make.
 fn declared_in(alloc: Global, task: &Task) -> Result<Vec<usize>, AllocError>
-    ensures { IfOk result (λ v. AreDeclared task.now v.items) }
+    ensures { IfOk result (λ v. AreDeclaredSymbols task.now v.items) }
 {
     let mut symbols = Vec::new(alloc);
     symbols.push(0)?;
@@ -106,9 +106,9 @@ fn declared_in(alloc: Global, task: &Task) -> Result<Vec<usize>, AllocError>
 
 // Adds symbols at types, each unless it is there.
 fn add_keys(store: &Store, keys: &mut IndexSet<Key>, more: &[Key]) -> Result<(), AllocError>
-    requires keys_held { AreHeld store.now keys.old.keys }
-    requires held { AreHeld store.now more.now }
-    ensures { OnOk result (Gains store.now keys.old.keys (seen_at store.now more.now)
+    requires keys_held { KeysHeld store.now keys.old.keys }
+    requires held { KeysHeld store.now more.now }
+    ensures { OnOk result (GainsKeys store.now keys.old.keys (seen_occurrences store.now more.now)
         keys.new.keys) }
 {
     for key in more {
@@ -119,8 +119,9 @@ fn add_keys(store: &Store, keys: &mut IndexSet<Key>, more: &[Key]) -> Result<(),
 
 // Adds a symbol at no types.
 fn add_whole(store: &Store, keys: &mut IndexSet<Key>, symbol: usize) -> Result<(), AllocError>
-    requires { AreHeld store.now keys.old.keys }
-    ensures { OnOk result (Gains store.now keys.old.keys (whole symbol ∷ []) keys.new.keys) }
+    requires { KeysHeld store.now keys.old.keys }
+    ensures { OnOk result (GainsKeys store.now keys.old.keys (whole_occurrence symbol ∷ [])
+        keys.new.keys) }
 {
     add_key(store, keys, (symbol, empty_list(store).0))
 }
@@ -133,9 +134,9 @@ fn add_instances(
     groups: &[Seq<Key>],
     symbol: usize,
 ) -> Result<(), AllocError>
-    requires keys_held { AreHeld store.now keys.old.keys }
-    requires groups_held { All (AreHeld store.now) groups.now }
-    ensures { OnOk result (Gains store.now keys.old.keys (instances_in store.now ints groups.now
+    requires keys_held { KeysHeld store.now keys.old.keys }
+    requires groups_held { All (KeysHeld store.now) groups.now }
+    ensures { OnOk result (GainsKeys store.now keys.old.keys (instances_in store.now ints groups.now
         symbol) keys.new.keys) }
 {
     if is_interpreted(ints, symbol) {
@@ -155,9 +156,9 @@ fn add_all_instances(
     groups: &[Seq<Key>],
     symbols: &[usize],
 ) -> Result<(), AllocError>
-    requires keys_held { AreHeld store.now keys.old.keys }
-    requires groups_held { All (AreHeld store.now) groups.now }
-    ensures { OnOk result (Gains store.now keys.old.keys (flat_map (instances_in store.now ints
+    requires keys_held { KeysHeld store.now keys.old.keys }
+    requires groups_held { All (KeysHeld store.now) groups.now }
+    ensures { OnOk result (GainsKeys store.now keys.old.keys (flat_map (instances_in store.now ints
         groups.now) symbols.now) keys.new.keys) }
 {
     for symbol in symbols {
@@ -168,8 +169,9 @@ fn add_all_instances(
 
 // Adds symbols at no types.
 fn add_wholes(store: &Store, keys: &mut IndexSet<Key>, symbols: &[usize]) -> Result<(), AllocError>
-    requires { AreHeld store.now keys.old.keys }
-    ensures { OnOk result (Gains store.now keys.old.keys (map whole symbols.now) keys.new.keys) }
+    requires { KeysHeld store.now keys.old.keys }
+    ensures { OnOk result (GainsKeys store.now keys.old.keys (map whole_occurrence symbols.now)
+        keys.new.keys) }
 {
     for symbol in symbols {
         add_whole(store, keys, *symbol)?;
@@ -187,11 +189,12 @@ fn groups_in(alloc: Global, store: &Store, task: &Task) -> Result<Vec<Seq<Key>>,
 }
 
 impl Things {
-    /// What stands in the table of a task's problem. Only want of memory refuses.
+    /// What is in the table of a task's problem. Only want of memory refuses.
     pub fn of_problem(alloc: Global, store: &Store, task: &Task) -> Result<Things, AllocError>
         requires { TaskHeld store.now task.now }
-        ensures held { IfOk result (AreHeld store.now) }
-        ensures things { IfOk result (λ v. seen_at store.now v ≡ problem_things (task_at store.now
+        ensures held { IfOk result (KeysHeld store.now) }
+        ensures things { IfOk result (λ v. seen_occurrences store.now v
+            ≡ problem_things (task_at store.now
             task.now)) }
     {
         let groups = groups_in(alloc, store, task)?;
@@ -207,10 +210,11 @@ impl Things {
         Ok(Things { keys })
     }
 
-    /// What stands in the table of a task: each of its symbols, whole. Only want of memory refuses.
+    /// What is in the table of a task: each of its symbols, whole. Only want of memory refuses.
     pub fn of_task(alloc: Global, store: &Store, task: &Task) -> Result<Things, AllocError>
-        ensures held { IfOk result (AreHeld store.now) }
-        ensures things { IfOk result (λ v. seen_at store.now v ≡ task_things (task_at store.now
+        ensures held { IfOk result (KeysHeld store.now) }
+        ensures things { IfOk result (λ v. seen_occurrences store.now v
+            ≡ task_things (task_at store.now
             task.now)) }
     {
         let symbols = declared_in(alloc, task)?;
@@ -222,19 +226,20 @@ impl Things {
     /// What occurs in a term or formula. Only want of memory refuses.
     pub fn of_term(alloc: Global, store: &Store, e: TermId) -> Result<Things, AllocError>
         requires { Holds store.now e }
-        ensures held { IfOk result (AreHeld store.now) }
-        ensures things { IfOk result (λ v. seen_at store.now v ≡ distinct (occurrences (tree_at
+        ensures held { IfOk result (KeysHeld store.now) }
+        ensures things { IfOk result (λ v. seen_occurrences store.now v
+            ≡ distinct (occurrences (tree_at
             store.now e))) }
     {
         let keys = seen_in_term(alloc, store, e)?;
         Ok(Things { keys })
     }
 
-    /// What stands in a type. Only want of memory refuses.
+    /// What is in a type. Only want of memory refuses.
     pub fn of_type(alloc: Global, store: &Store, ty: TermId) -> Result<Things, AllocError>
         requires { Holds store.now ty }
-        ensures held { IfOk result (AreHeld store.now) }
-        ensures things { IfOk result (λ v. seen_at store.now v ≡ distinct (in_type (tree_at
+        ensures held { IfOk result (KeysHeld store.now) }
+        ensures things { IfOk result (λ v. seen_occurrences store.now v ≡ distinct (in_type (tree_at
             store.now ty))) }
     {
         let keys = seen_in_type(alloc, store, ty)?;
@@ -243,9 +248,9 @@ impl Things {
 
     /// Whether it has a thing.
     pub fn contains(&self, store: &Store, key: (usize, usize)) -> bool
-        requires things_held { AreHeld store.now self.now }
+        requires things_held { KeysHeld store.now self.now }
         requires held { KeyHeld store.now key }
-        ensures { result ≡ has (seen_at store.now self.now) (occurrence_at store.now key) }
+        ensures { result ≡ has (seen_occurrences store.now self.now) (occurrence_at store.now key) }
     {
         has_key(store, &self.keys, key)
     }
@@ -259,9 +264,10 @@ impl Things {
 
     /// The place of a symbol at types, or the number of things where it is none of them.
     pub fn place_of(&self, store: &Store, symbol: usize, types: TermId) -> usize
-        requires things_held { AreHeld store.now self.now }
+        requires things_held { KeysHeld store.now self.now }
         requires held { Holds store.now types }
-        ensures { result ≡ place_of (seen_at store.now self.now) (occurrence symbol (tree_at
+        ensures { result ≡ occurrence_place (seen_occurrences store.now self.now)
+            (occurrence symbol (tree_at
             store.now types)) }
     {
         store.laws();
@@ -273,9 +279,10 @@ impl Things {
 
     /// The place of a type, or the number of things where it is none of them.
     pub fn place_of_type(&self, store: &Store, ty: TermId) -> usize
-        requires things_held { AreHeld store.now self.now }
+        requires things_held { KeysHeld store.now self.now }
         requires held { Holds store.now ty }
-        ensures { result ≡ place_of (seen_at store.now self.now) (thing_of (tree_at store.now ty)) }
+        ensures { result ≡ occurrence_place (seen_occurrences store.now self.now)
+            (thing_of (tree_at store.now ty)) }
     {
         match store.node(ty) {
             Node::TyApp(symbol, args) => self.place_of(store, symbol, args),

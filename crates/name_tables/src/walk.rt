@@ -1,5 +1,5 @@
 // Which symbols occur in a task, each at its types, once, by first appearance. A term that is shared is looked at once.
-// It stands on the store and the tasks; what stands in a table is made from it.
+// It depends on the store and the tasks; what is in a table is made from it.
 ghost use Rattle.std.specs.Prelude.{◌≡◌, ◌∷◌, [], ◌++◌, length, All, IfOk, OnOk};
 ghost use Rattle.std.specs.List.{flat_map};
 ghost use Rattle.trees.specs.Tree.{Leaf, HEnd};
@@ -7,9 +7,9 @@ ghost use Rattle.trees.specs.Node.{tree_at, node_tree, parts_of, Holds, AreBelow
 ghost use Rattle.trees.specs.Sorts.{type_of};
 ghost use Rattle.tasks.specs.Task.{props_of};
 ghost use Rattle.tasks.specs.Meaning.{trees_at, body_at, declarations_at, task_at, BodyHeld, DeclHeld, TaskHeld};
-ghost use Rattle.name_tables.specs.Occurrences.{in_type, in_option, in_types_of, at_types, in_proposition, occurrences, task_occurrences};
-ghost use Rattle.name_tables.specs.Seen.{occurrence_at, seen_at, has, with_all, AreIn, KeyHeld, AreHeld, IsSeen, Sees, IsWalk, Walks, Gains};
-ghost use Rattle.name_tables.specs.Own.{own, inner, said};
+ghost use Rattle.name_tables.specs.Occurrences.{in_type, in_option, in_types_of, occurrences_at, in_proposition, occurrences, task_occurrences};
+ghost use Rattle.name_tables.specs.Seen.{occurrence_at, seen_occurrences, has, with_all, AreIn, KeyHeld, KeysHeld, IsSeen, Sees, IsWalk, WalksTerms, GainsKeys};
+ghost use Rattle.name_tables.specs.Own.{own, inner, said_occurrences};
 
 use indexmap::IndexSet;
 use std::alloc::{AllocError, Global};
@@ -33,9 +33,9 @@ pub(crate) fn empty_list(store: &Store) -> TermId
 
 /// Adds a symbol at types, unless it is there.
 pub(crate) fn add_key(store: &Store, keys: &mut IndexSet<Key>, key: Key) -> Result<(), AllocError>
-    requires keys_held { AreHeld store.now keys.old.keys }
+    requires keys_held { KeysHeld store.now keys.old.keys }
     requires held { KeyHeld store.now key }
-    ensures { OnOk result (Gains store.now keys.old.keys (occurrence_at store.now key ∷ [])
+    ensures { OnOk result (GainsKeys store.now keys.old.keys (occurrence_at store.now key ∷ [])
         keys.new.keys) }
 {
     store.laws();
@@ -45,9 +45,10 @@ pub(crate) fn add_key(store: &Store, keys: &mut IndexSet<Key>, key: Key) -> Resu
 
 /// Whether a symbol at types is there.
 pub(crate) fn has_key(store: &Store, keys: &IndexSet<Key>, key: Key) -> bool
-    requires keys_held { AreHeld store.now keys.now.keys }
+    requires keys_held { KeysHeld store.now keys.now.keys }
     requires held { KeyHeld store.now key }
-    ensures { result ≡ has (seen_at store.now keys.now.keys) (occurrence_at store.now key) }
+    ensures { result ≡ has (seen_occurrences store.now keys.now.keys)
+        (occurrence_at store.now key) }
 {
     store.laws();
     keys.contains(&key)
@@ -57,7 +58,8 @@ pub(crate) fn has_key(store: &Store, keys: &IndexSet<Key>, key: Key) -> bool
 fn note(store: &Store, seen: &mut IndexSet<Key>, key: Key) -> Result<(), AllocError>
     requires seen { IsSeen store.now seen.old.keys }
     requires held { KeyHeld store.now key }
-    requires types { AreIn (seen_at store.now seen.old.keys) (in_type (occurrence_at store.now
+    requires types { AreIn (seen_occurrences store.now seen.old.keys)
+        (in_type (occurrence_at store.now
         key).types) }
     ensures { OnOk result (Sees store.now seen.old.keys (occurrence_at store.now key ∷ [])
         seen.new.keys) }
@@ -65,7 +67,7 @@ fn note(store: &Store, seen: &mut IndexSet<Key>, key: Key) -> Result<(), AllocEr
     add_key(store, seen, key)
 }
 
-// Notes what stands in a type or a list of types.
+// Notes what is in a type or a list of types.
 fn note_type(store: &Store, seen: &mut IndexSet<Key>, ty: TermId) -> Result<(), AllocError>
     requires seen { IsSeen store.now seen.old.keys }
     requires held { Holds store.now ty }
@@ -89,7 +91,7 @@ fn note_type(store: &Store, seen: &mut IndexSet<Key>, ty: TermId) -> Result<(), 
     }
 }
 
-// Notes what stands in the type of a term.
+// Notes what is in the type of a term.
 fn note_type_of(store: &Store, seen: &mut IndexSet<Key>, e: TermId) -> Result<(), AllocError>
     requires seen { IsSeen store.now seen.old.keys }
     requires held { Holds store.now e }
@@ -102,7 +104,7 @@ fn note_type_of(store: &Store, seen: &mut IndexSet<Key>, e: TermId) -> Result<()
     }
 }
 
-// Notes what stands in the types of the members of a list.
+// Notes what is in the types of the members of a list.
 fn note_types_of(store: &Store, seen: &mut IndexSet<Key>, args: TermId) -> Result<(), AllocError>
     requires seen { IsSeen store.now seen.old.keys }
     requires held { Holds store.now args }
@@ -118,7 +120,7 @@ fn note_types_of(store: &Store, seen: &mut IndexSet<Key>, args: TermId) -> Resul
     }
 }
 
-// Notes a symbol at types, and before it what stands in the types.
+// Notes a symbol at types, and before it what is in the types.
 fn note_at_types(
     store: &Store,
     seen: &mut IndexSet<Key>,
@@ -127,7 +129,8 @@ fn note_at_types(
 ) -> Result<(), AllocError>
     requires seen { IsSeen store.now seen.old.keys }
     requires held { Holds store.now types }
-    ensures { OnOk result (Sees store.now seen.old.keys (at_types symbol (tree_at store.now types))
+    ensures { OnOk result (Sees store.now seen.old.keys
+        (occurrences_at symbol (tree_at store.now types))
         seen.new.keys) }
 {
     note_type(store, seen, types)?;
@@ -148,7 +151,8 @@ fn note_function(
     requires args_held { Holds store.now args }
     requires result_held { Holds store.now result_type }
     ensures { OnOk result (Sees store.now seen.old.keys (in_types_of (tree_at store.now args)
-        ++ (in_type (tree_at store.now result_type) ++ at_types symbol (tree_at store.now types)))
+        ++ (in_type (tree_at store.now result_type)
+        ++ occurrences_at symbol (tree_at store.now types)))
         seen.new.keys) }
 {
     note_types_of(store, seen, args)?;
@@ -168,7 +172,7 @@ fn note_predicate(
     requires types_held { Holds store.now types }
     requires args_held { Holds store.now args }
     ensures { OnOk result (Sees store.now seen.old.keys (in_types_of (tree_at store.now args)
-        ++ at_types symbol (tree_at store.now types)) seen.new.keys) }
+        ++ occurrences_at symbol (tree_at store.now types)) seen.new.keys) }
 {
     note_types_of(store, seen, args)?;
     note_at_types(store, seen, symbol, types)
@@ -206,7 +210,7 @@ fn note_term(
 ) -> Result<(), AllocError>
     requires walk { IsWalk store.now seen.old.keys done.old.keys }
     requires held { Holds store.now e }
-    ensures { OnOk result (Walks store.now seen.old.keys (occurrences (tree_at store.now e))
+    ensures { OnOk result (WalksTerms store.now seen.old.keys (occurrences (tree_at store.now e))
         seen.new.keys done.new.keys) }
 {
     if done.contains(&e.0) {
@@ -228,7 +232,7 @@ fn note_parts(
 ) -> Result<(), AllocError>
     requires walk { IsWalk store.now seen.old.keys done.old.keys }
     requires held { Holds store.now e }
-    ensures { OnOk result (Walks store.now seen.old.keys (inner (tree_at store.now e))
+    ensures { OnOk result (WalksTerms store.now seen.old.keys (inner (tree_at store.now e))
         seen.new.keys done.new.keys) }
 {
     match store.node(e).parts() {
@@ -254,7 +258,8 @@ fn note_formulas(
 ) -> Result<(), AllocError>
     requires walk { IsWalk store.now seen.old.keys done.old.keys }
     requires held { All (Holds store.now) formulas.now }
-    ensures { OnOk result (Walks store.now seen.old.keys (flat_map occurrences (trees_at store.now
+    ensures { OnOk result (WalksTerms store.now seen.old.keys
+        (flat_map occurrences (trees_at store.now
         formulas.now)) seen.new.keys done.new.keys) }
 {
     for formula in formulas {
@@ -272,7 +277,8 @@ fn note_body(
 ) -> Result<(), AllocError>
     requires walk { IsWalk store.now seen.old.keys done.old.keys }
     requires held { BodyHeld store.now body.now }
-    ensures { OnOk result (Walks store.now seen.old.keys (said (body_at store.now body.now))
+    ensures { OnOk result (WalksTerms store.now seen.old.keys
+        (said_occurrences (body_at store.now body.now))
         seen.new.keys done.new.keys) }
 {
     match body {
@@ -289,7 +295,7 @@ fn note_propositions(
 ) -> Result<(), AllocError>
     requires walk { IsWalk store.now seen.old.keys done.old.keys }
     requires held { All (DeclHeld store.now) decls.now }
-    ensures { OnOk result (Walks store.now seen.old.keys (flat_map in_proposition (props_of
+    ensures { OnOk result (WalksTerms store.now seen.old.keys (flat_map in_proposition (props_of
         (declarations_at store.now decls.now))) seen.new.keys done.new.keys) }
 {
     for decl in decls {
@@ -298,7 +304,7 @@ fn note_propositions(
     Ok(())
 }
 
-// Notes what stands in types.
+// Notes what is in types.
 fn note_types(store: &Store, seen: &mut IndexSet<Key>, types: &[TermId]) -> Result<(), AllocError>
     requires seen { IsSeen store.now seen.old.keys }
     requires held { All (Holds store.now) types.now }
@@ -318,7 +324,8 @@ pub(crate) fn seen_in(
     task: &Task,
 ) -> Result<IndexSet<Key>, AllocError>
     requires { TaskHeld store.now task.now }
-    ensures { IfOk result (λ v. Gains store.now [] (task_occurrences (task_at store.now task.now))
+    ensures { IfOk result (λ v. GainsKeys store.now []
+        (task_occurrences (task_at store.now task.now))
         v.keys) }
 {
     let mut seen = IndexSet::new(alloc);
@@ -337,7 +344,7 @@ pub(crate) fn seen_in_term(
     e: TermId,
 ) -> Result<IndexSet<Key>, AllocError>
     requires { Holds store.now e }
-    ensures { IfOk result (λ v. Gains store.now [] (occurrences (tree_at store.now e)) v.keys) }
+    ensures { IfOk result (λ v. GainsKeys store.now [] (occurrences (tree_at store.now e)) v.keys) }
 {
     let mut seen = IndexSet::new(alloc);
     let mut done = IndexSet::new(alloc);
@@ -345,14 +352,14 @@ pub(crate) fn seen_in_term(
     Ok(seen)
 }
 
-/// What stands in a type.
+/// What is in a type.
 pub(crate) fn seen_in_type(
     alloc: Global,
     store: &Store,
     ty: TermId,
 ) -> Result<IndexSet<Key>, AllocError>
     requires { Holds store.now ty }
-    ensures { IfOk result (λ v. Gains store.now [] (in_type (tree_at store.now ty)) v.keys) }
+    ensures { IfOk result (λ v. GainsKeys store.now [] (in_type (tree_at store.now ty)) v.keys) }
 {
     let mut seen = IndexSet::new(alloc);
     note_type(store, &mut seen, ty)?;

@@ -9,7 +9,7 @@ use Rattle.trees.specs.declared.Node.{Node}
 use Rattle.trees.specs.declared.Parts.TheVariants as parts
 use Rattle.trees.specs.Node.{tree_at, node_tree, assemble, head_of_node, parts_of}
 use Rattle.named_symbols.specs.Named.{head_named, named, inner_named, is_among}
-use Rattle.named_symbols.specs.Gathered.{Gains, AreIn, AreDone, Walks}
+use Rattle.named_symbols.specs.Gathered.{GainsSymbols, AreAmong, AreGathered, Walks}
 
 or_none : (a : Bool) → a ≡ (a || false)
 or_none true = refl
@@ -37,51 +37,51 @@ or_cases true b h f g = f refl
 or_cases false b h f g = g h
 
 -- ---- what is gained
-pub gains_none : (a : List ℕ) → Gains a a []
+pub gains_none : (a : List ℕ) → GainsSymbols a a []
 gains_none a = record { each = λ k. or_none (is_among a k) }
 
-pub gains_then : (a b c xs ys : List ℕ) → Gains a b xs → Gains b c ys → Gains a c (xs ++ ys)
+pub gains_then : (a b c xs ys : List ℕ) → GainsSymbols a b xs → GainsSymbols b c ys → GainsSymbols a c (xs ++ ys)
 gains_then a b c xs ys g h = record { each = λ k. h.each k ∙ ap (λ z. z || is_among ys k) (g.each k) ∙ or_joined (is_among a k) (is_among xs k) (is_among ys k) ∙ ap (λ z. is_among a k || z) (sym (list_any-append (nat_eq k) xs ys)) }
 
 -- one more key, unless it is there
-pub gains_one : (a b : List ℕ) (j : ℕ) → b ≡ (if list_any (nat_eq j) a then a else a ++ j ∷ []) → Gains a b (j ∷ [])
+pub gains_one : (a b : List ℕ) (j : ℕ) → b ≡ (if list_any (nat_eq j) a then a else a ++ j ∷ []) → GainsSymbols a b (j ∷ [])
 gains_one a b j q = rw q (by (list_any (nat_eq j) a) refl)
   where
     same_key : (k : ℕ) → list_any (nat_eq j) a ≡ true → (nat_eq k j || false) ≡ true → is_among a k ≡ true
     same_key k there e = let q : k ≡ j = grind (arith, nat_tests) in subst (λ z. is_among a z ≡ true) (sym q) there
 
-    by : (t : Bool) → list_any (nat_eq j) a ≡ t → Gains a (if t then a else a ++ j ∷ []) (j ∷ [])
+    by : (t : Bool) → list_any (nat_eq j) a ≡ t → GainsSymbols a (if t then a else a ++ j ∷ []) (j ∷ [])
     by true e = record { each = λ k. or_there (is_among a k) (nat_eq k j || false) (same_key k e) }
     by false e = record { each = λ k. list_any-append (nat_eq k) a (j ∷ []) }
 
-pub gains_in : (a b ks : List ℕ) → Gains a b ks → AreIn b ks
+pub gains_in : (a b ks : List ℕ) → GainsSymbols a b ks → AreAmong b ks
 gains_in a b ks g = record { each = λ k e. g.each k ∙ or_right (is_among a k) (is_among ks k) e }
 
-in_later : (a b ks ns : List ℕ) → Gains a b ks → AreIn a ns → AreIn b ns
+in_later : (a b ks ns : List ℕ) → GainsSymbols a b ks → AreAmong a ns → AreAmong b ns
 in_later a b ks ns g h = record { each = λ k e. g.each k ∙ or_left (is_among a k) (is_among ks k) (h.each k e) }
 
-gains_there : (a ks : List ℕ) → AreIn a ks → Gains a a ks
+gains_there : (a ks : List ℕ) → AreAmong a ks → GainsSymbols a a ks
 gains_there a ks h = record { each = λ k. or_there (is_among a k) (is_among ks k) (h.each k) }
 
 module _ (s : List Tree) where
-  pub done_none : (a ids : List ℕ) → ids ≡ [] → AreDone s a ids
+  pub done_none : (a ids : List ℕ) → ids ≡ [] → AreGathered s a ids
   done_none a ids q = record { each = λ id e. let f : is_among [] id ≡ true = subst (λ (z : List ℕ). is_among z id ≡ true) q e in absurd (cc) }
 
-  done_later : (a b ks ids : List ℕ) → Gains a b ks → AreDone s a ids → AreDone s b ids
+  done_later : (a b ks ids : List ℕ) → GainsSymbols a b ks → AreGathered s a ids → AreGathered s b ids
   done_later a b ks ids g h = record { each = λ id e. in_later a b ks (named (tree_at s (record { 0 = id }))) g (h.each id e) }
 
-  pub walks_none : (a ids : List ℕ) → AreDone s a ids → Walks s a a ids []
+  pub walks_none : (a ids : List ℕ) → AreGathered s a ids → Walks s a a ids []
   walks_none a ids h = record { gains = gains_none a; is_done = h }
 
   pub walks_then : (a b c d e xs ys : List ℕ) → Walks s a b d xs → Walks s b c e ys → Walks s a c e (xs ++ ys)
   walks_then a b c d e xs ys h k = record { gains = gains_then a b c xs ys h.gains k.gains; is_done = k.is_done }
 
   -- what an operator names
-  pub walks_noted : (a b d ks : List ℕ) → AreDone s a d → Gains a b ks → Walks s a b d ks
+  pub walks_noted : (a b d ks : List ℕ) → AreGathered s a d → GainsSymbols a b ks → Walks s a b d ks
   walks_noted a b d ks h g = record { gains = g; is_done = done_later a b ks d g h }
 
   -- a tree that was done adds nothing
-  pub walks_done : (a d : List ℕ) (id : ℕ) → AreDone s a d → list_any (nat_eq id) d ≡ true → Walks s a a d (named (tree_at s (record { 0 = id })))
+  pub walks_done : (a d : List ℕ) (id : ℕ) → AreGathered s a d → list_any (nat_eq id) d ≡ true → Walks s a a d (named (tree_at s (record { 0 = id })))
   walks_done a d id h e = record { gains = gains_there a (named (tree_at s (record { 0 = id }))) (h.each id e); is_done = h }
 
   -- and one more is done
@@ -94,7 +94,7 @@ module _ (s : List Tree) where
         is_done = record {
           each = λ j t. or_cases (is_among d j) (nat_eq j id || false) (sym (more.each j) ∙ t)
               (λ old. h.is_done.each j old)
-              (λ new. let same : j ≡ id = grind (arith, nat_tests) in subst (λ (z : ℕ). AreIn b (named (tree_at s (record { 0 = z })))) (sym same) (gains_in a b ns h.gains));
+              (λ new. let same : j ≡ id = grind (arith, nat_tests) in subst (λ (z : ℕ). AreAmong b (named (tree_at s (record { 0 = z })))) (sym same) (gains_in a b ns h.gains));
         };
       }
 
@@ -110,5 +110,5 @@ pub head_of_tree : (s : List Tree) (n : Node) → head_of (node_tree s n) ≡ he
 head_of_tree s n = elim (parts_of n) as (λ p. head_of (assemble s (head_of_node n) p) ≡ head_of_node n) [ parts.None ↦ refl | parts.One a ↦ refl | parts.Two a b ↦ refl | parts.Three a b c ↦ refl ]
 
 -- from a set without members
-pub gains_from_none : (a b ks : List ℕ) → a ≡ [] → Gains a b ks → Gains [] b ks
-gains_from_none a b ks q g = subst (λ (z : List ℕ). Gains z b ks) q g
+pub gains_from_none : (a b ks : List ℕ) → a ≡ [] → GainsSymbols a b ks → GainsSymbols [] b ks
+gains_from_none a b ks q g = subst (λ (z : List ℕ). GainsSymbols z b ks) q g

@@ -1,4 +1,4 @@
--- The symbols that stand in trees and in declarations.
+-- The symbols that are in trees and in declarations.
 use Rattle.std.specs.Prelude.{ℕ, nat_eq, Bool, List, [], ◌∷◌, ◌++◌, map, Option, Some, None}
 use Rattle.std.specs.List.{list_any, flat_map}
 use Rattle.trees.specs.Tree.{Tree, Leaf, One, Two, Three, Head, HTyApp, HFun, HPred, HPatCon}

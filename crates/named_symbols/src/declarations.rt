@@ -1,11 +1,11 @@
-// The symbols that stand in declarations and formulas, each once. A tree that is shared is looked at once.
+// The symbols that are in declarations and formulas, each once. A tree that is shared is looked at once.
 // They depend on the store and the tasks.
 ghost use Rattle.std.specs.Prelude.{◌≡◌, [], ◌++◌, length, All, IfOk, OnOk};
 ghost use Rattle.trees.specs.Node.{tree_at, parts_of, head_of_node, Holds, AreBelow};
 ghost use Rattle.tasks.specs.Task.{Defines, Induces, symbol_or};
 ghost use Rattle.tasks.specs.Meaning.{trees_at, symbol_at, symbols_at, definitions_at, inductives_at, body_at, declarations_at, SymbolHeld, InductiveHeld, BodyHeld, DeclHeld};
 ghost use Rattle.named_symbols.specs.Named.{head_named, named, inner_named, all_named, signature_named, signatures_named, body_named, declarations_named, formulas_of};
-ghost use Rattle.named_symbols.specs.Gathered.{Gains, AreDone, Walks};
+ghost use Rattle.named_symbols.specs.Gathered.{GainsSymbols, AreGathered, Walks};
 
 use indexmap::IndexSet;
 use std::alloc::{AllocError, Global};
@@ -15,7 +15,8 @@ use trees::{Node, Parts, TermId};
 
 // Notes what the operator of a node names.
 fn note_head(found: &mut IndexSet<usize>, node: Node) -> Result<(), AllocError>
-    ensures { OnOk result (Gains found.old.keys found.new.keys (head_named (head_of_node node))) }
+    ensures { OnOk result (GainsSymbols found.old.keys found.new.keys
+        (head_named (head_of_node node))) }
 {
     match node {
         Node::TyApp(symbol, _)
@@ -29,7 +30,7 @@ fn note_head(found: &mut IndexSet<usize>, node: Node) -> Result<(), AllocError>
     }
 }
 
-// Notes what stands in a tree, unless that was done.
+// Notes what is in a tree, unless that was done.
 #[cycle(trees)]
 fn note_tree(
     store: &Store,
@@ -37,7 +38,7 @@ fn note_tree(
     done: &mut IndexSet<usize>,
     e: TermId,
 ) -> Result<(), AllocError>
-    requires walk { AreDone store.now found.old.keys done.old.keys }
+    requires walk { AreGathered store.now found.old.keys done.old.keys }
     requires held { Holds store.now e }
     ensures { OnOk result (Walks store.now found.old.keys found.new.keys done.new.keys
         (named (tree_at store.now e))) }
@@ -51,7 +52,7 @@ fn note_tree(
     Ok(())
 }
 
-// Notes what stands in the children of a tree.
+// Notes what is in the children of a tree.
 #[cycle(trees)]
 fn note_parts(
     store: &Store,
@@ -59,7 +60,7 @@ fn note_parts(
     done: &mut IndexSet<usize>,
     e: TermId,
 ) -> Result<(), AllocError>
-    requires walk { AreDone store.now found.old.keys done.old.keys }
+    requires walk { AreGathered store.now found.old.keys done.old.keys }
     requires held { Holds store.now e }
     ensures { OnOk result (Walks store.now found.old.keys found.new.keys done.new.keys
         (inner_named (tree_at store.now e))) }
@@ -79,14 +80,14 @@ fn note_parts(
     }
 }
 
-// Notes what stands in trees.
+// Notes what is in trees.
 fn note_trees(
     store: &Store,
     found: &mut IndexSet<usize>,
     done: &mut IndexSet<usize>,
     trees: &[TermId],
 ) -> Result<(), AllocError>
-    requires walk { AreDone store.now found.old.keys done.old.keys }
+    requires walk { AreGathered store.now found.old.keys done.old.keys }
     requires held { All (Holds store.now) trees.now }
     ensures { OnOk result (Walks store.now found.old.keys found.new.keys done.new.keys
         (all_named (trees_at store.now trees.now))) }
@@ -97,14 +98,14 @@ fn note_trees(
     Ok(())
 }
 
-// Notes what stands in the types of an entry.
+// Notes what is in the types of an entry.
 fn note_entry(
     store: &Store,
     found: &mut IndexSet<usize>,
     done: &mut IndexSet<usize>,
     info: &SymbolInfo,
 ) -> Result<(), AllocError>
-    requires walk { AreDone store.now found.old.keys done.old.keys }
+    requires walk { AreGathered store.now found.old.keys done.old.keys }
     requires held { SymbolHeld store.now info.now }
     ensures { OnOk result (Walks store.now found.old.keys found.new.keys done.new.keys
         (signature_named (symbol_at store.now info.now))) }
@@ -116,7 +117,7 @@ fn note_entry(
     }
 }
 
-// Notes what stands in the types of the symbol with this number, if there is one.
+// Notes what is in the types of the symbol with this number, if there is one.
 fn note_symbol(
     store: &Store,
     sig: &Signature,
@@ -124,7 +125,7 @@ fn note_symbol(
     done: &mut IndexSet<usize>,
     symbol: usize,
 ) -> Result<(), AllocError>
-    requires walk { AreDone store.now found.old.keys done.old.keys }
+    requires walk { AreGathered store.now found.old.keys done.old.keys }
     requires symbols_held { All (SymbolHeld store.now) sig.now.symbols }
     ensures { OnOk result (Walks store.now found.old.keys found.new.keys done.new.keys
         (signature_named (symbol_or (symbols_at store.now sig.now.symbols) symbol))) }
@@ -135,7 +136,7 @@ fn note_symbol(
     }
 }
 
-// Notes what stands in the types of symbols.
+// Notes what is in the types of symbols.
 fn note_symbols(
     store: &Store,
     sig: &Signature,
@@ -143,7 +144,7 @@ fn note_symbols(
     done: &mut IndexSet<usize>,
     symbols: &[usize],
 ) -> Result<(), AllocError>
-    requires walk { AreDone store.now found.old.keys done.old.keys }
+    requires walk { AreGathered store.now found.old.keys done.old.keys }
     requires symbols_held { All (SymbolHeld store.now) sig.now.symbols }
     ensures { OnOk result (Walks store.now found.old.keys found.new.keys done.new.keys
         (signatures_named (symbols_at store.now sig.now.symbols) symbols.now)) }
@@ -154,14 +155,14 @@ fn note_symbols(
     Ok(())
 }
 
-// Notes what stands in equations.
+// Notes what is in equations.
 fn note_equations(
     store: &Store,
     found: &mut IndexSet<usize>,
     done: &mut IndexSet<usize>,
     defs: &[Def],
 ) -> Result<(), AllocError>
-    requires walk { AreDone store.now found.old.keys done.old.keys }
+    requires walk { AreGathered store.now found.old.keys done.old.keys }
     requires held { All (λ (d : Def). Holds store.now d.equation) defs.now }
     ensures { OnOk result (Walks store.now found.old.keys found.new.keys done.new.keys
         (all_named (formulas_of (Defines (definitions_at store.now defs.now))))) }
@@ -172,14 +173,14 @@ fn note_equations(
     Ok(())
 }
 
-// Notes what stands in clauses.
+// Notes what is in clauses.
 fn note_clauses(
     store: &Store,
     found: &mut IndexSet<usize>,
     done: &mut IndexSet<usize>,
     inductives: &[Ind],
 ) -> Result<(), AllocError>
-    requires walk { AreDone store.now found.old.keys done.old.keys }
+    requires walk { AreGathered store.now found.old.keys done.old.keys }
     requires held { All (InductiveHeld store.now) inductives.now }
     ensures { OnOk result (Walks store.now found.old.keys found.new.keys done.new.keys
         (all_named (formulas_of (Induces (inductives_at store.now inductives.now))))) }
@@ -190,14 +191,14 @@ fn note_clauses(
     Ok(())
 }
 
-// Notes what stands in what a declaration says.
+// Notes what is in what a declaration says.
 fn note_said(
     store: &Store,
     found: &mut IndexSet<usize>,
     done: &mut IndexSet<usize>,
     body: &Body,
 ) -> Result<(), AllocError>
-    requires walk { AreDone store.now found.old.keys done.old.keys }
+    requires walk { AreGathered store.now found.old.keys done.old.keys }
     requires held { BodyHeld store.now body.now }
     ensures { OnOk result (Walks store.now found.old.keys found.new.keys done.new.keys
         (all_named (formulas_of (body_at store.now body.now)))) }
@@ -210,7 +211,7 @@ fn note_said(
     }
 }
 
-// Notes what stands in a declaration and in the types of what it makes.
+// Notes what is in a declaration and in the types of what it makes.
 fn note_declaration(
     alloc: Global,
     store: &Store,
@@ -219,7 +220,7 @@ fn note_declaration(
     done: &mut IndexSet<usize>,
     decl: &Decl,
 ) -> Result<(), AllocError>
-    requires walk { AreDone store.now found.old.keys done.old.keys }
+    requires walk { AreGathered store.now found.old.keys done.old.keys }
     requires symbols_held { All (SymbolHeld store.now) sig.now.symbols }
     requires held { DeclHeld store.now decl.now }
     ensures { OnOk result (Walks store.now found.old.keys found.new.keys done.new.keys
@@ -230,7 +231,7 @@ fn note_declaration(
     note_said(store, found, done, &decl.body)
 }
 
-// Notes what stands in declarations.
+// Notes what is in declarations.
 fn note_declarations(
     alloc: Global,
     store: &Store,
@@ -239,7 +240,7 @@ fn note_declarations(
     done: &mut IndexSet<usize>,
     decls: &[Decl],
 ) -> Result<(), AllocError>
-    requires walk { AreDone store.now found.old.keys done.old.keys }
+    requires walk { AreGathered store.now found.old.keys done.old.keys }
     requires symbols_held { All (SymbolHeld store.now) sig.now.symbols }
     requires held { All (DeclHeld store.now) decls.now }
     ensures { OnOk result (Walks store.now found.old.keys found.new.keys done.new.keys
@@ -252,7 +253,7 @@ fn note_declarations(
     Ok(())
 }
 
-/// The symbols that stand in declarations, in the types of what they make, and in a goal. Only want of memory refuses.
+/// The symbols that are in declarations, in the types of what they make, and in a goal. Only want of memory refuses.
 pub fn named_in(
     alloc: Global,
     store: &Store,
@@ -263,7 +264,7 @@ pub fn named_in(
     requires symbols_held { All (SymbolHeld store.now) sig.now.symbols }
     requires held { All (DeclHeld store.now) decls.now }
     requires goal_held { Holds store.now goal }
-    ensures { IfOk result (λ found. Gains [] found.keys
+    ensures { IfOk result (λ found. GainsSymbols [] found.keys
         (declarations_named (symbols_at store.now sig.now.symbols)
         (declarations_at store.now decls.now) ++ named (tree_at store.now goal))) }
 {

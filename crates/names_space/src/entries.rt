@@ -1,9 +1,9 @@
 // The entries of one scope: a list of them, and a map that finds what a name means without walking it.
-// It stands on a map of the standard library; scopes inside one another stand on it.
+// It depends on a map of the standard library; scopes inside one another depend on it.
 ghost use Rattle.std.specs.Prelude.{◌≡◌, ◌≤◌, ◌<◌, ◌++◌, ◌∷◌, [], List, length, map, drop, if◌then◌else◌, ◌||◌, IfOk, OnOk, OnErr};
 ghost use Rattle.names_space.specs.declared.Table.{Table};
-ghost use Rattle.names_space.specs.Kept.{was_declared, thing_of};
-ghost use Rattle.names_space.specs.Names.{Entry, latest, is_declared, imported, same_table};
+ghost use Rattle.names_space.specs.Kept.{was_declared, meaning_thing};
+ghost use Rattle.names_space.specs.Names.{ScopeEntry, latest, is_declared, imported, same_table};
 
 use crate::{Table, TypeName};
 use std::alloc::{AllocError, Global};
@@ -53,21 +53,21 @@ pub struct Entries {
 
 impl Model for Entries {
     ghost use Rattle.std.specs.Prelude.{List};
-    ghost use Rattle.names_space.specs.Names.{Entry};
+    ghost use Rattle.names_space.specs.Names.{ScopeEntry};
 
-    ghost Value = { List Entry };
+    ghost Value = { List ScopeEntry };
 
-    ghost use Rattle.names_space.specs.Kept.{latest_first, IsKept};
+    ghost use Rattle.names_space.specs.Kept.{latest_first, IsKeptMap};
 
     ghost view = { λ s. latest_first s.stored.items };
 
-    ghost invariant = { λ s. IsKept s.stored.items s.meanings };
+    ghost invariant = { λ s. IsKeptMap s.stored.items s.meanings };
 }
 
 impl Meanings {
     ghost use Rattle.names_space.specs.Kept.{meaning_in};
 
-    /// What a name that stands nowhere means.
+    /// What a name that is nowhere means.
     fn none() -> Meanings
         ensures { (table : Table) → meaning_in table result ≡ None }
     {
@@ -127,7 +127,7 @@ fn was_declared(meaning: Option<Meaning>) -> bool
 
 // What the name stands for.
 fn thing_of(meaning: Option<Meaning>) -> Option<TypeName>
-    ensures { result ≡ thing_of meaning }
+    ensures { result ≡ meaning_thing meaning }
 {
     match meaning {
         Some(meaning) => Some(meaning.thing),
@@ -146,7 +146,7 @@ fn meaning_after(before: Option<Meaning>, thing: TypeName, declared: bool) -> Me
 }
 
 impl Entries {
-    ghost use Rattle.names_space.specs.Kept.{brought_before, meaning, meaning_in};
+    ghost use Rattle.names_space.specs.Kept.{brought_before, latest_meaning, meaning_in};
 
     /// No entries. It takes no memory.
     pub fn new(alloc: Global) -> Entries
@@ -167,7 +167,8 @@ impl Entries {
 
     /// What a name means in each table.
     fn meanings_of(&self, name: &[u8]) -> Meanings
-        ensures { (table : Table) → meaning_in table result ≡ meaning table name.now self.now }
+        ensures { (table : Table) → meaning_in table result
+            ≡ latest_meaning table name.now self.now }
     {
         match self.meanings.get(name) {
             Some(known) => *known,
@@ -214,7 +215,10 @@ impl Entries {
             declared,
             before,
         })?;
-        match self.meanings.insert(key, known.with_meaning(table, Some(meaning))) {
+        match self
+            .meanings
+            .insert(key, known.with_meaning(table, Some(meaning)))
+        {
             Ok(_) => {}
             Err(_) => {
                 self.stored.truncate(count);
@@ -263,7 +267,7 @@ impl Entries {
 
     /// All entries, in the order in which they came.
     pub fn items(&self, alloc: Global) -> Result<Vec<Item>, AllocError>
-        ensures { IfOk result (λ items. (more : List Entry) → brought_before more items.items
+        ensures { IfOk result (λ items. (more : List ScopeEntry) → brought_before more items.items
             ≡ map imported self.now ++ more) }
     {
         let mut items = Vec::new(alloc);

@@ -1,5 +1,5 @@
 //! What a name means at a place: scopes inside one another, each with four tables of names.
-//! It stands under the elaboration of declarations and of theories.
+//! It is under the elaboration of declarations and of theories.
 #![tactic(auto)]
 
 ghost use Rattle.std.specs.Prelude.{◌≡◌};

@@ -1,7 +1,7 @@
 // Scopes inside one another, and the search for a name with its qualifiers.
-// They stand on the entries of one scope; who gives names their meaning stands on them.
+// They depend on the entries of one scope; who gives names their meaning depends on them.
 ghost use Rattle.std.specs.Prelude.{◌≡◌, ◌↔◌, ◌<◌, ◌≢◌, Some, List, [], ◌∷◌, ◌++◌, true, false, length, map, reverse, get_or, string_bytes, IsOk, IsTrue, IsNone, IfSome, IfOk, IfErr, OnOk, OnErr};
-ghost use Rattle.names_space.specs.Names.{start, find, find_name, find_within, first_found, latest, is_declared, imported, Entry, entries_of, innermost, with_entry, with_name, with_scope, with_import, closed};
+ghost use Rattle.names_space.specs.Names.{empty_names, find_number, find_name, find_within, first_found, latest, is_declared, imported, ScopeEntry, entries_of, innermost, with_entry, with_name, with_scope, with_import, closed};
 ghost use Rattle.names_space.specs.Kept.{brought_before};
 
 use crate::entries::{Entries, Item};
@@ -24,9 +24,9 @@ pub struct Scope {
 impl Model for Scope {
     ghost use Rattle.std.specs.Prelude.{reverse, length, ◌∷◌, ◌<◌};
     ghost use Rattle.std.specs.Prelude.{All};
-    ghost use Rattle.names_space.specs.Names.{Names};
+    ghost use Rattle.names_space.specs.Names.{ScopeNames};
 
-    ghost Value = { Names };
+    ghost Value = { ScopeNames };
 
     ghost view = { λ s. record {
       entries = s.scopes.items;
@@ -110,7 +110,7 @@ fn find_within<W: Word>(
 impl Scope {
     /// One open scope, which has no entries and can't be closed.
     pub fn new(alloc: Global) -> Result<Scope, AllocError>
-        ensures { IfOk result (λ s. s ≡ start) }
+        ensures { IfOk result (λ s. s ≡ empty_names) }
     {
         let mut scopes = Vec::new(alloc);
         scopes.push(Entries::new(alloc))?;
@@ -157,7 +157,7 @@ impl Scope {
     /// the scope's number, of an alias the type's. It is `None` exactly where no open scope has the first name, or a name
     /// that follows isn't in the scope found so far. No memory is taken.
     pub fn look(&self, table: Table, path: &[String]) -> Option<usize>
-        ensures { result ≡ find self.now table (map string_bytes path.now) }
+        ensures { result ≡ find_number self.now table (map string_bytes path.now) }
     {
         Some(self.find_path(table, path)?.number())
     }
@@ -169,14 +169,14 @@ impl Scope {
         self.find_path(Table::Types, path)
     }
 
-    /// As `look`, at the name with these bytes behind these names of scopes. No memory is taken.
+    /// As `look`, at the name with these bytes after these names of scopes. No memory is taken.
     pub fn look_at(&self, table: Table, scopes: &[Text], name: &[u8]) -> Option<usize>
-        ensures { result ≡ find self.now table (scopes.now ++ name.now ∷ []) }
+        ensures { result ≡ find_number self.now table (scopes.now ++ name.now ∷ []) }
     {
         Some(self.find(table, scopes, name)?.number())
     }
 
-    /// As `look_type`, at the name with these bytes behind these names of scopes. No memory is taken.
+    /// As `look_type`, at the name with these bytes after these names of scopes. No memory is taken.
     pub fn look_type_at(&self, scopes: &[Text], name: &[u8]) -> Option<TypeName>
         ensures { result ≡ find_name self.now Table.Types (scopes.now ++ name.now ∷ []) }
     {
@@ -374,7 +374,7 @@ impl Scope {
 
     // The entries of a scope, to be brought in.
     fn items(&self, number: usize) -> Result<Vec<Item>, AllocError>
-        ensures { IfOk result (λ items. (more : List Entry) → brought_before more items.items
+        ensures { IfOk result (λ items. (more : List ScopeEntry) → brought_before more items.items
             ≡ map imported (entries_of self.now number) ++ more) }
     {
         match self.scopes.get(number) {
@@ -386,10 +386,11 @@ impl Scope {
     /// The innermost scope gets all names of the scope at this path as imported ones: `Unknown` exactly where no scope is
     /// found there. After a refusal all stays.
     pub fn import_from(&mut self, path: &[String]) -> Result<(), NameFault>
-        ensures ok { OnOk result (IfSome (find self.old Table.Scopes (map string_bytes path.now))
+        ensures ok { OnOk result (IfSome
+            (find_number self.old Table.Scopes (map string_bytes path.now))
             (λ number. self.new ≡ with_import number self.old)) }
         ensures unknown { (result ≡ Err NameFault.Unknown)
-            ↔ IsNone (find self.old Table.Scopes (map string_bytes path.now)) }
+            ↔ IsNone (find_number self.old Table.Scopes (map string_bytes path.now)) }
         ensures never_duplicate { IfErr result (λ fault. fault ≢ NameFault.Duplicate) }
         ensures err { OnErr result (self.new ≡ self.old) }
     {

@@ -1,5 +1,5 @@
 //! Tests of what names mean in scopes.
-//! It stands on the scopes; nothing stands on it.
+//! It depends on the scopes; nothing depends on it.
 #![tactic(auto)]
 
 #[cfg(test)]

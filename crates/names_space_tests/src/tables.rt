@@ -1,6 +1,6 @@
 // What names mean after scopes are opened, closed, used and imported, with the answers of the rules of names: entries of
 // every table, aliases of types, and look-ups by strings and by bytes.
-// They stand on the calls of scopes; nothing stands on them.
+// They depend on the calls of scopes; nothing depends on them.
 use names_space::{NameFault, Scope, Table, TypeName};
 use outside::Text;
 use std::alloc::Global;

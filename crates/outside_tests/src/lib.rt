@@ -1,5 +1,5 @@
 //! Tests of the collections, the library and the sinks.
-//! It stands on them; nothing stands on it.
+//! It depends on them; nothing depends on it.
 #![tactic(auto)]
 
 #[cfg(test)]

@@ -1,12 +1,12 @@
 // Each call once with ample memory, and calls that fail by their numbers.
-// They stand on the library and the sinks; nothing stands on them.
+// They depend on the library and the sinks; nothing depends on them.
 use outside::{Boxed, FetchFault, Library, MemoryLibrary, MemorySink, PutFault, Seq, Sink, Text};
 use std::alloc::Global;
 use std::process::Abort;
 
 const MEMORY: &str = "out of memory";
 
-// Some numbers; those behind the first are put at the end together.
+// Some numbers; those after the first are put at the end together.
 fn numbers(rt: &impl Abort, alloc: Global, first: u32, more: &[u32]) -> Seq<u32> {
     let mut items = Seq::new(alloc);
     items.push(first).expect(rt, MEMORY);

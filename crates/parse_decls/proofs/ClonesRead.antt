@@ -1,5 +1,5 @@
 -- What follows where the theory of a use or a clone and the elements of a clone are read.
-use Rattle.parse_decls.proofs.Common.{◌≡◌, ℕ, ◌+◌, ◌<◌, ◌≤◌, Bool, true, false, zero, suc, List, [], ◌∷◌, ◌++◌, length, Some, None, refl, ap, ◌∙◌, subst, arith, append-nil, Terminal, Symbol, same, same_true, Name, Lexeme, Word, at, Form, called, lower, Element, all_axioms, clone_decl, more_decls, prop_element, symbol_element, type_element, use_decl, Dotted, Scoped, scope_own, VarsPart, prop_called, scope_called, axioms_of, axioms_own, cloned, used, rows, Vals, row, find, Begun, CanRead, IsRead, terminal_at, token_at, again, begins, done, expand, extended_due, many, missed, next, next_within, none_of, only, pass, start, take, unexpand, begins_symbol, prop_kind, symbol_word, IsNamed}
+use Rattle.parse_decls.proofs.Common.{◌≡◌, ℕ, ◌+◌, ◌<◌, ◌≤◌, Bool, true, false, zero, suc, List, [], ◌∷◌, ◌++◌, length, Some, None, refl, ap, ◌∙◌, subst, arith, append-nil, Terminal, Symbol, same, same_true, Name, Lexeme, Word, at, SyntaxForm, called, lower, Element, all_axioms, clone_decl, more_decls, prop_element, symbol_element, type_element, use_decl, Dotted, Scoped, scope_own, VarsPart, prop_called, scope_called, axioms_of, axioms_own, cloned, use_part, rows, Vals, row, find, Begun, CanRead, IsRead, terminal_at, token_at, again, begins, done, expand, extended_due, many, missed, next, next_within, none_of, only, pass, start, take, unexpand, begins_symbol, prop_kind, symbol_word_of, IsReadNames}
 use Rattle.tokens_why.specs.declared.terminal.Terminal.TheVariants as t
 use Rattle.grammar.specs.declared.symbols.Symbol.TheVariants as s
 use Rattle.reading.proofs.Common.{no_false}
@@ -42,22 +42,22 @@ module _ {xs : List Lexeme} {i : ℕ} (c : CanRead xs s.Renamed i) where
 -- the theory of a use
 module _ {xs : List Lexeme} {i : ℕ} (c : CanRead xs s.Used i) where
   module _ (e : same t.ExportWord (terminal_at xs i) ≡ true) where
-    pub exported : Begun xs 1 (λ k. s.Used ∷ k) i (λ k. s.Path ∷ k) (λ k us. (used lk.Export us.0 None, us.1)) (i + 1)
+    pub exported : Begun xs 1 (λ k. s.Used ∷ k) i (λ k. s.Path ∷ k) (λ k us. (use_part lk.Export us.0 None, us.1)) (i + 1)
     exported = expand (start c) t.ExportWord e refl refl
 
   module _ (e : same t.ImportWord (terminal_at xs i) ≡ true) where
-    pub imported : Begun xs 1 (λ k. s.Used ∷ k) i (λ k. s.Path ∷ s.Renamed ∷ k) (λ k us. (used lk.Import us.0 us.1.0, us.1.1)) (i + 1)
+    pub imported : Begun xs 1 (λ k. s.Used ∷ k) i (λ k. s.Path ∷ s.Renamed ∷ k) (λ k us. (use_part lk.Import us.0 us.1.0, us.1.1)) (i + 1)
     imported = expand (start c) t.ImportWord e refl refl
 
   module _ (x : same t.ExportWord (terminal_at xs i) ≡ false) (y : same t.ImportWord (terminal_at xs i) ≡ false) where
-    pub bare : Begun xs 0 (λ k. s.Used ∷ k) i (λ k. s.Path ∷ s.Renamed ∷ k) (λ k us. (used lk.Bare us.0 us.1.0, us.1.1)) i
+    pub bare : Begun xs 0 (λ k. s.Used ∷ k) i (λ k. s.Path ∷ s.Renamed ∷ k) (λ k us. (use_part lk.Bare us.0 us.1.0, us.1.1)) i
     bare = by_lower (same t.Lident (terminal_at xs i)) refl
       where
-        by_lower : (b : Bool) → same t.Lident (terminal_at xs i) ≡ b → Begun xs 0 (λ k. s.Used ∷ k) i (λ k. s.Path ∷ s.Renamed ∷ k) (λ k us. (used lk.Bare us.0 us.1.0, us.1.1)) i
-        by_lower true e = unexpand s.Path (λ k. s.Renamed ∷ k) (λ k us. (used lk.Bare us.0 us.1.0, us.1.1)) i t.Lident e refl refl (omega arith) (expand (start c) t.Lident e refl refl)
-        by_lower false e = let u = only (start c) t.Uident (t.ExportWord ∷ t.ImportWord ∷ t.Lident ∷ []) refl refl (x, (y, (e, tt))) in unexpand s.Path (λ k. s.Renamed ∷ k) (λ k us. (used lk.Bare us.0 us.1.0, us.1.1)) i t.Uident u refl refl (omega arith) (expand (start c) t.Uident u refl refl)
+        by_lower : (b : Bool) → same t.Lident (terminal_at xs i) ≡ b → Begun xs 0 (λ k. s.Used ∷ k) i (λ k. s.Path ∷ s.Renamed ∷ k) (λ k us. (use_part lk.Bare us.0 us.1.0, us.1.1)) i
+        by_lower true e = unexpand s.Path (λ k. s.Renamed ∷ k) (λ k us. (use_part lk.Bare us.0 us.1.0, us.1.1)) i t.Lident e refl refl (omega arith) (expand (start c) t.Lident e refl refl)
+        by_lower false e = let u = only (start c) t.Uident (t.ExportWord ∷ t.ImportWord ∷ t.Lident ∷ []) refl refl (x, (y, (e, tt))) in unexpand s.Path (λ k. s.Renamed ∷ k) (λ k us. (use_part lk.Bare us.0 us.1.0, us.1.1)) i t.Uident u refl refl (omega arith) (expand (start c) t.Uident u refl refl)
 
--- what stands behind `clone` is what stands behind `use`, and then elements
+-- what comes after `clone` is what comes after `use`, and then elements
 cloned_used : {xs : List Lexeme} {n : ℕ} {from : List Symbol → List Symbol} {i : ℕ} {K : List Symbol → List Symbol} {act : (k : List Symbol) → Vals (s.Cloned ∷ K k) → Vals (from k)} {j : ℕ} → Begun xs n from i (λ k. s.Cloned ∷ K k) act j → Begun xs 0 from i (λ k. s.Used ∷ s.Subst ∷ K k) (λ k us. act k (cloned us.0 us.1.0, us.1.1)) j
 cloned_used {xs} {n} {from} {i} {K} {act} {j} g = by_export (same t.ExportWord (terminal_at xs j)) refl
   where
@@ -76,7 +76,7 @@ cloned_used {xs} {n} {from} {i} {K} {act} {j} g = by_export (same t.ExportWord (
     by_export true e = unexpand s.Used (λ k. s.Subst ∷ K k) (λ k us. act k (cloned us.0 us.1.0, us.1.1)) j t.ExportWord e refl refl ahead_of (expand g t.ExportWord e refl refl)
     by_export false e = by_import (same t.ImportWord (terminal_at xs j)) e refl
 
--- Names behind scopes are read as names of terms.
+-- Names after scopes are read as names of terms.
 pub qop_head : {xs : List Lexeme} {m : ℕ} {from : List Symbol → List Symbol} {i : ℕ} {K : List Symbol → List Symbol} (n : ℕ) {act : (k : List Symbol) → Vals (s.Qop ∷ K k) → Vals (from k)} {j : ℕ} → length xs ≤ j + n → Begun xs m from i (λ k. s.Qop ∷ K k) act j → Begun xs 0 from i (λ k. s.Qhead ∷ K k) (λ k us. act k (called j us.0.scopes us.0.own, us.1)) j
 qop_head {xs} {m} {from} {i} {K} zero {act} {j} l g = let h = next_within g refl in absurd (omega arith)
 qop_head {xs} {m} {from} {i} {K} (suc n) {act} {j} l g = by_upper (same t.Uident (terminal_at xs j)) refl (λ u. qop_head {xs = xs} {m = 1} {from = from} {i = i} {K = K} n {act = λ k us. act k (scope_called j (token_at xs j).text us.0, us.1)} {j = j + 1 + 1} (omega (arith, l)) (take (dotted u)))
@@ -130,7 +130,7 @@ module _ {xs : List Lexeme} {i : ℕ} (c : CanRead xs s.Elem i) where
     pub type_start : Begun xs 1 (λ k. s.Elem ∷ k) i (λ k. s.Qlid ∷ s.Elvars ∷ k) (λ k us. (type_element i (called (i + 1) us.0.scopes (lower us.0.last)) us.1.0.vars us.1.0.type, us.1.1)) (i + 1)
     type_start = expand (start c) t.TypeWord e refl refl
 
-    module _ (d : Dotted) (j : ℕ) (r : IsRead xs s.Qlid (i + 1) d j) (ns : List Name) (m : ℕ) (h : IsNamed xs j ns m) where
+    module _ (d : Dotted) (j : ℕ) (r : IsRead xs s.Qlid (i + 1) d j) (ns : List Name) (m : ℕ) (h : IsReadNames xs j ns m) where
       type_vars : Begun xs 1 (λ k. s.Elem ∷ k) i (λ k. s.Elvars ∷ k) (λ k us. (type_element i (called (i + 1) d.scopes (lower d.last)) (many elvars_on ns us.0).vars (many elvars_on ns us.0).type, us.1)) m
       type_vars = variables_read s.Elvars elvars_on refl 1 refl ns h.names refl (next type_start r)
 
@@ -140,12 +140,12 @@ module _ {xs : List Lexeme} {i : ℕ} (c : CanRead xs s.Elem i) where
       pub type_equal : Begun xs 1 (λ k. s.Elem ∷ k) i (λ k. s.TypeOf ∷ k) (λ k us. (type_element i (called (i + 1) d.scopes (lower d.last)) ns us.0, us.1)) (m + 1)
       type_equal = again (expand type_vars t.Equal type_sign refl refl) 1 refl (λ k us. ap (λ v. (type_element i (called (i + 1) d.scopes (lower d.last)) v.vars v.type, us.1)) (elvars_many ns (no_vars us.0)) ∙ ap (λ v. (type_element i (called (i + 1) d.scopes (lower d.last)) v us.0, us.1)) (append-nil ns))
         where
-          no_vars : Form → VarsPart
+          no_vars : SyntaxForm → VarsPart
           no_vars f = record { vars = []; type = f }
 
   -- an element that is a symbol
   module _ (b : begins_symbol (terminal_at xs i) ≡ true) where
-    symbol_start : Begun xs 1 (λ k. s.Elem ∷ k) i (λ k. s.Qop ∷ s.Take t.Equal ∷ s.Qop ∷ k) (λ k us. (symbol_element i (symbol_word (terminal_at xs i)) us.0 us.1.1.0, us.1.1.1)) (i + 1)
+    symbol_start : Begun xs 1 (λ k. s.Elem ∷ k) i (λ k. s.Qop ∷ s.Take t.Equal ∷ s.Qop ∷ k) (λ k us. (symbol_element i (symbol_word_of (terminal_at xs i)) us.0 us.1.1.0, us.1.1.1)) (i + 1)
     symbol_start = by_function (same t.FunctionWord (terminal_at xs i)) refl
       where
         stands_so : (y : Terminal) → same y (terminal_at xs i) ≡ true → y ≡ terminal_at xs i
@@ -157,19 +157,19 @@ module _ {xs : List Lexeme} {i : ℕ} (c : CanRead xs s.Elem i) where
         left_one t.PredicateWord h f n = refl
         left_one _ h f n = absurd (no_false h)
 
-        by_constant : (a : Bool) → same t.FunctionWord (terminal_at xs i) ≡ false → same t.ConstantWord (terminal_at xs i) ≡ a → Begun xs 1 (λ k. s.Elem ∷ k) i (λ k. s.Qop ∷ s.Take t.Equal ∷ s.Qop ∷ k) (λ k us. (symbol_element i (symbol_word (terminal_at xs i)) us.0 us.1.1.0, us.1.1.1)) (i + 1)
-        by_constant true f e = again (expand (start c) t.ConstantWord e refl refl) 1 refl (λ k us. ap (λ v. (symbol_element i (symbol_word v) us.0 us.1.1.0, us.1.1.1)) (stands_so t.ConstantWord e))
-        by_constant false f e = let p = left_one (terminal_at xs i) b f e in again (expand (start c) t.PredicateWord p refl refl) 1 refl (λ k us. ap (λ v. (symbol_element i (symbol_word v) us.0 us.1.1.0, us.1.1.1)) (stands_so t.PredicateWord p))
+        by_constant : (a : Bool) → same t.FunctionWord (terminal_at xs i) ≡ false → same t.ConstantWord (terminal_at xs i) ≡ a → Begun xs 1 (λ k. s.Elem ∷ k) i (λ k. s.Qop ∷ s.Take t.Equal ∷ s.Qop ∷ k) (λ k us. (symbol_element i (symbol_word_of (terminal_at xs i)) us.0 us.1.1.0, us.1.1.1)) (i + 1)
+        by_constant true f e = again (expand (start c) t.ConstantWord e refl refl) 1 refl (λ k us. ap (λ v. (symbol_element i (symbol_word_of v) us.0 us.1.1.0, us.1.1.1)) (stands_so t.ConstantWord e))
+        by_constant false f e = let p = left_one (terminal_at xs i) b f e in again (expand (start c) t.PredicateWord p refl refl) 1 refl (λ k us. ap (λ v. (symbol_element i (symbol_word_of v) us.0 us.1.1.0, us.1.1.1)) (stands_so t.PredicateWord p))
 
-        by_function : (a : Bool) → same t.FunctionWord (terminal_at xs i) ≡ a → Begun xs 1 (λ k. s.Elem ∷ k) i (λ k. s.Qop ∷ s.Take t.Equal ∷ s.Qop ∷ k) (λ k us. (symbol_element i (symbol_word (terminal_at xs i)) us.0 us.1.1.0, us.1.1.1)) (i + 1)
-        by_function true e = again (expand (start c) t.FunctionWord e refl refl) 1 refl (λ k us. ap (λ v. (symbol_element i (symbol_word v) us.0 us.1.1.0, us.1.1.1)) (stands_so t.FunctionWord e))
+        by_function : (a : Bool) → same t.FunctionWord (terminal_at xs i) ≡ a → Begun xs 1 (λ k. s.Elem ∷ k) i (λ k. s.Qop ∷ s.Take t.Equal ∷ s.Qop ∷ k) (λ k us. (symbol_element i (symbol_word_of (terminal_at xs i)) us.0 us.1.1.0, us.1.1.1)) (i + 1)
+        by_function true e = again (expand (start c) t.FunctionWord e refl refl) 1 refl (λ k us. ap (λ v. (symbol_element i (symbol_word_of v) us.0 us.1.1.0, us.1.1.1)) (stands_so t.FunctionWord e))
         by_function false e = by_constant (same t.ConstantWord (terminal_at xs i)) e refl
 
-    pub replaced_start : Begun xs 0 (λ k. s.Elem ∷ k) i (λ k. s.Qhead ∷ s.Take t.Equal ∷ s.Qop ∷ k) (λ k us. (symbol_element i (symbol_word (terminal_at xs i)) (called (i + 1) us.0.scopes us.0.own) us.1.1.0, us.1.1.1)) (i + 1)
+    pub replaced_start : Begun xs 0 (λ k. s.Elem ∷ k) i (λ k. s.Qhead ∷ s.Take t.Equal ∷ s.Qop ∷ k) (λ k us. (symbol_element i (symbol_word_of (terminal_at xs i)) (called (i + 1) us.0.scopes us.0.own) us.1.1.0, us.1.1.1)) (i + 1)
     replaced_start = qop_head (length xs) (enough (length xs) (i + 1)) symbol_start
 
     module _ (d : Scoped) (j : ℕ) (r : IsRead xs s.Qhead (i + 1) d j) where
-      pub by_start : Begun xs 0 (λ k. s.Elem ∷ k) i (λ k. s.Qhead ∷ k) (λ k us. (symbol_element i (symbol_word (terminal_at xs i)) (called (i + 1) d.scopes d.own) (called (j + 1) us.0.scopes us.0.own), us.1)) (j + 1)
+      pub by_start : Begun xs 0 (λ k. s.Elem ∷ k) i (λ k. s.Qhead ∷ k) (λ k us. (symbol_element i (symbol_word_of (terminal_at xs i)) (called (i + 1) d.scopes d.own) (called (j + 1) us.0.scopes us.0.own), us.1)) (j + 1)
       by_start = qop_head (length xs) (enough (length xs) (j + 1)) (take (next replaced_start r))
 
   -- an element that is a proposition, or all axioms

@@ -1,5 +1,5 @@
 -- What follows where declarations of symbols and propositions are read.
-use Rattle.parse_decls.proofs.Common.{◌≡◌, ℕ, ◌+◌, true, false, List, ◌∷◌, ◌++◌, Option, refl, same, Lexeme, at, Called, Form, Tree, Inductive, Param, constant_decl, function_decl, inductive_decl, more_decls, predicate_decl, prop_decl, prop_word, new_inductive, Begun, CanRead, IsExpr, IsRead, terminal_at, again, expand, follow, next, next_expr, start, take, IsDecl, IsValue}
+use Rattle.parse_decls.proofs.Common.{◌≡◌, ℕ, ◌+◌, true, false, List, ◌∷◌, ◌++◌, Option, refl, same, Lexeme, at, Called, SyntaxForm, SyntaxTree, Inductive, ParamGroup, constant_decl, function_decl, inductive_decl, more_decls, predicate_decl, prop_decl, prop_word, new_inductive, Begun, CanRead, IsExpr, IsRead, terminal_at, again, expand, follow, next, next_expr, start, take, IsDecl, IsReadValue}
 use Rattle.tokens_why.specs.declared.terminal.Terminal.TheVariants as t
 use Rattle.grammar.specs.declared.symbols.Symbol.TheVariants as s
 use Rattle.syntax_why.specs.declared.declarations.PropKind.{PropKind}
@@ -14,11 +14,11 @@ module _ {xs : List Lexeme} {i : ℕ} (c : CanRead xs s.Decls i) (e : same t.Con
     pub constant_type : Begun xs 1 (λ k. s.Decls ∷ k) i (λ k. s.TypeOf ∷ s.Value ∷ s.Decls ∷ k) (λ k us. (more_decls (constant_decl (at i) n us.0 us.1.0) us.1.1.0, us.1.1.1)) (j + 1)
     constant_type = let p = take (next constant_start rn) in again p 1 refl (λ k us. refl)
 
-    module _ {f : Form} {m : ℕ} (rf : IsRead xs s.TypeOf (j + 1) f m) where
+    module _ {f : SyntaxForm} {m : ℕ} (rf : IsRead xs s.TypeOf (j + 1) f m) where
       pub constant_value : Begun xs 1 (λ k. s.Decls ∷ k) i (λ k. s.Value ∷ s.Decls ∷ k) (λ k us. (more_decls (constant_decl (at i) n f us.0) us.1.0, us.1.1)) m
       constant_value = let p = next constant_type rf in again p 1 refl (λ k us. refl)
 
-      pub constant_read : {v : Option Tree} {q : ℕ} → IsValue xs m v q → IsDecl xs i (constant_decl (at i) n f v) q
+      pub constant_read : {v : Option SyntaxTree} {q : ℕ} → IsReadValue xs m v q → IsDecl xs i (constant_decl (at i) n f v) q
       constant_read {v} {q} rv = let p = follow rv constant_value in again p 1 refl (λ k us. refl)
 
 -- functions
@@ -30,11 +30,11 @@ module _ {xs : List Lexeme} {i : ℕ} (c : CanRead xs s.Decls i) (e : same t.Fun
     pub function_params : Begun xs 1 (λ k. s.Decls ∷ k) i (λ k. s.Params ∷ s.Take t.Colon ∷ s.TypeOf ∷ s.Body ∷ s.Decls ∷ k) (λ k us. (more_decls (function_decl (at i) n us.0 us.1.1.0 us.1.1.1.0.definition us.1.1.1.0.members) us.1.1.1.1.0, us.1.1.1.1.1)) j
     function_params = let p = next function_start rn in again p 1 refl (λ k us. refl)
 
-    module _ {ps : List Param} {m : ℕ} (rp : IsRead xs s.Params j ps m) where
+    module _ {ps : List ParamGroup} {m : ℕ} (rp : IsRead xs s.Params j ps m) where
       pub function_type : Begun xs 1 (λ k. s.Decls ∷ k) i (λ k. s.TypeOf ∷ s.Body ∷ s.Decls ∷ k) (λ k us. (more_decls (function_decl (at i) n ps us.0 us.1.0.definition us.1.0.members) us.1.1.0, us.1.1.1)) (m + 1)
       function_type = let p = take (next function_params rp) in again p 1 refl (λ k us. refl)
 
-      module _ {f : Form} {q : ℕ} (rf : IsRead xs s.TypeOf (m + 1) f q) where
+      module _ {f : SyntaxForm} {q : ℕ} (rf : IsRead xs s.TypeOf (m + 1) f q) where
         pub function_body : Begun xs 1 (λ k. s.Decls ∷ k) i (λ k. s.Body ∷ s.Decls ∷ k) (λ k us. (more_decls (function_decl (at i) n ps f us.0.definition us.0.members) us.1.0, us.1.1)) q
         function_body = let p = next function_type rf in again p 1 refl (λ k us. refl)
 
@@ -47,7 +47,7 @@ module _ {xs : List Lexeme} {i : ℕ} (c : CanRead xs s.Decls i) (e : same t.Pre
     pub predicate_params : Begun xs 1 (λ k. s.Decls ∷ k) i (λ k. s.Params ∷ s.Body ∷ s.Decls ∷ k) (λ k us. (more_decls (predicate_decl (at i) n us.0 us.1.0.definition us.1.0.members) us.1.1.0, us.1.1.1)) j
     predicate_params = let p = next predicate_start rn in again p 1 refl (λ k us. refl)
 
-    module _ {ps : List Param} {m : ℕ} (rp : IsRead xs s.Params j ps m) where
+    module _ {ps : List ParamGroup} {m : ℕ} (rp : IsRead xs s.Params j ps m) where
       pub predicate_body : Begun xs 1 (λ k. s.Decls ∷ k) i (λ k. s.Body ∷ s.Decls ∷ k) (λ k us. (more_decls (predicate_decl (at i) n ps us.0.definition us.0.members) us.1.0, us.1.1)) m
       predicate_body = let p = next predicate_params rp in again p 1 refl (λ k us. refl)
 
@@ -78,5 +78,5 @@ module _ {xs : List Lexeme} {i : ℕ} (c : CanRead xs s.Decls i) (q : PropKind) 
     pub prop_expr : Begun xs 1 (λ k. s.Decls ∷ k) i (λ k. s.Expr 0 ∷ s.Decls ∷ k) (λ k us. (more_decls (prop_decl (at i) q n us.0) us.1.0, us.1.1)) (i + 1 + 1 + 1)
     prop_expr = let p = take (next prop_start rn) in again p 1 refl (λ k us. refl)
 
-    pub prop_read : {v : Tree} {m : ℕ} → IsExpr xs 0 (i + 1 + 1 + 1) v m → IsDecl xs i (prop_decl (at i) q n v) m
+    pub prop_read : {v : SyntaxTree} {m : ℕ} → IsExpr xs 0 (i + 1 + 1 + 1) v m → IsDecl xs i (prop_decl (at i) q n v) m
     prop_read {v} {m} r = let p = next_expr prop_expr refl r in again p 1 refl (λ k us. refl)

@@ -1,10 +1,10 @@
 -- What follows where declarations, theories and files are read.
-use Rattle.parse_decls.proofs.Common.{◌≡◌, ℕ, ◌+◌, ◌<◌, Bool, true, false, not, ◌||◌, List, [], ◌∷◌, ◌++◌, length, Some, refl, sym, ap, ◌∙◌, subst, arith, append-nil, Terminal, same, same_true, Name, Lexeme, at, Decl, Decls, Theory, more_decls, no_decls, prop_word, scope_decl, decls, read, Begun, CanRead, IsRead, terminal_at, again, done, expand, many, next_within, none_of, only, pass, start, prop_kind, IsFile, begins_theory}
+use Rattle.parse_decls.proofs.Common.{◌≡◌, ℕ, ◌+◌, ◌<◌, Bool, true, false, not, ◌||◌, List, [], ◌∷◌, ◌++◌, length, Some, refl, sym, ap, ◌∙◌, subst, arith, append-nil, Terminal, same, same_true, Name, Lexeme, at, SyntaxDeclaration, SyntaxDeclarations, SyntaxTheory, more_decls, no_decls, prop_word, scope_decl, decls, read, Begun, CanRead, IsRead, terminal_at, again, done, expand, many, next_within, none_of, only, pass, start, prop_kind, IsReadFile, begins_theory}
 use Rattle.tokens_why.specs.declared.terminal.Terminal.TheVariants as t
 use Rattle.grammar.specs.declared.symbols.Symbol.TheVariants as s
 use Rattle.parse_terms.proofs.ChoicesRead.{neither}
 
-pub decls_many : (ds : List Decl) → many more_decls ds no_decls ≡ decls ds
+pub decls_many : (ds : List SyntaxDeclaration) → many more_decls ds no_decls ≡ decls ds
 decls_many [] = refl
 decls_many (d ∷ ds) = ap (more_decls d) (decls_many ds)
 
@@ -16,7 +16,7 @@ pub is_end : (x : Terminal) (b : Bool) → b ≡ not (same t.EndWord x) → b �
 is_end x b e h = affirmed (same t.EndWord x) (sym e ∙ h)
 
 -- declarations up to their end
-abbrev pub Declared : List Lexeme → ℕ → List Decl → ℕ → Type 0
+abbrev pub Declared : List Lexeme → ℕ → List SyntaxDeclaration → ℕ → Type 0
 Declared xs i ds j = Begun xs 0 (λ k. s.Decls ∷ k) i (λ k. s.Decls ∷ k) (λ k us. (many more_decls ds us.0, us.1)) j
 
 -- a scope, and which word is left
@@ -40,7 +40,7 @@ module _ {xs : List Lexeme} {i : ℕ} (c : CanRead xs s.Decls i) where
       by_axiom false e = by_lemma (same t.LemmaWord (terminal_at xs i)) e refl
 
 -- theories
-abbrev pub theory_so : ℕ → Bool → Name → Decls → Theory
+abbrev pub theory_so : ℕ → Bool → Name → SyntaxDeclarations → SyntaxTheory
 theory_so i b n ds = record { at = at i; is_module = b; name = n; decls = ds }
 
 module _ {xs : List Lexeme} {i : ℕ} (c : CanRead xs s.File i) (b : begins_theory (terminal_at xs i) ≡ true) where
@@ -56,14 +56,14 @@ module _ {xs : List Lexeme} {i : ℕ} (c : CanRead xs s.File i) (b : begins_theo
       by_module true e = again (expand (start c) t.ModuleWord e refl refl) 1 refl (λ k us. ap (λ v. (theory_so i v us.0 us.1.0 ∷ us.1.1.0, us.1.1.1)) (sym e))
       by_module false e = again (expand (start c) t.TheoryWord (no_module (same t.TheoryWord (terminal_at xs i)) (same t.ModuleWord (terminal_at xs i)) b e) refl refl) 1 refl (λ k us. ap (λ v. (theory_so i v us.0 us.1.0 ∷ us.1.1.0, us.1.1.1)) (sym e))
 
-abbrev pub Theories : List Lexeme → List Theory → ℕ → Type 0
+abbrev pub Theories : List Lexeme → List SyntaxTheory → ℕ → Type 0
 Theories xs ts j = Begun xs 0 (λ k. s.File ∷ k) 0 (λ k. s.File ∷ k) (λ k us. (ts ++ us.0, us.1)) j
 
-pub can_file : {xs : List Lexeme} → IsFile xs → CanRead xs s.File 0
+pub can_file : {xs : List Lexeme} → IsReadFile xs → CanRead xs s.File 0
 can_file f = record { within = omega arith; behind = []; values = f.value; reads = f.reads }
 
-module _ (xs : List Lexeme) (ts : List Theory) (j : ℕ) (g : Theories xs ts j) where
-  pub theories_done : begins_theory (terminal_at xs j) ≡ false → IsFile xs → read xs 0 false (s.File ∷ []) ≡ Some (ts, tt)
+module _ (xs : List Lexeme) (ts : List SyntaxTheory) (j : ℕ) (g : Theories xs ts j) where
+  pub theories_done : begins_theory (terminal_at xs j) ≡ false → IsReadFile xs → read xs 0 false (s.File ∷ []) ≡ Some (ts, tt)
   theories_done n f = f.reads ∙ ap (λ v. Some (v, tt)) ((file_read n).reads [] f.value f.reads).0
     where
       file_read : begins_theory (terminal_at xs j) ≡ false → IsRead xs s.File 0 ts j

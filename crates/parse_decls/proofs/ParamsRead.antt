@@ -1,5 +1,5 @@
 -- What follows where parameters are read.
-use Rattle.parse_decls.proofs.Common.{◌≡◌, ℕ, zero, suc, ◌+◌, ◌<◌, ◌≤◌, ◌⊎◌, inl, inr, Bool, true, false, ◌&&◌, if◌then◌else◌, List, [], ◌∷◌, ◌++◌, length, Some, None, refl, sym, ap, ◌∙◌, subst, arith, get_or_past, Terminal, Symbol, same, same_true, Name, Lexeme, at, name, Form, Forms, called, composed, enclosed, lower, more_forms, no_forms, type_variable, Param, NamePart, ParamPart, behind_name, behind_paren, name_names, name_types, param, param_types, Row, Vals, row, then_row, params_own, pparen_own, rows, find, read, below_or, by_first, first_row, from_cons, from_end, stands_within, Begun, CanRead, CanRun, IsRead, begins_atype, from, nowhere, rest, terminal_at, token_at, again, and_cases, expand, extended, extended_due, many, many_more, missed, next, only, reread, stands, stands_by, start, unexpand, IsParam, begins_names, names_before_colon}
+use Rattle.parse_decls.proofs.Common.{◌≡◌, ℕ, zero, suc, ◌+◌, ◌<◌, ◌≤◌, ◌⊎◌, inl, inr, Bool, true, false, ◌&&◌, if◌then◌else◌, List, [], ◌∷◌, ◌++◌, length, Some, None, refl, sym, ap, ◌∙◌, subst, arith, get_or_past, Terminal, Symbol, same, same_true, Name, Lexeme, at, name, SyntaxForm, SyntaxForms, called, composed, enclosed, lower, more_forms, no_forms, type_variable, ParamGroup, NamePart, ParamPart, name_before, behind_paren, name_names, name_types, param, param_types, ReadingRow, Vals, row, then_row, params_own, pparen_own, rows, find, read, below_or, by_first, first_row, from_cons, from_end, stands_within, Begun, CanRead, CanRun, IsRead, begins_atype, from, nowhere, lexemes_from, terminal_at, token_at, again, and_cases, expand, extended, extended_due, many, many_more, missed, next, only, reread, stands, stands_by, start, unexpand, IsParam, begins_names, names_before_colon}
 use Rattle.tokens_why.specs.declared.terminal.Terminal.TheVariants as t
 use Rattle.grammar.specs.declared.symbols.Symbol.TheVariants as s
 use Rattle.reading.proofs.Common.{no_false}
@@ -12,7 +12,7 @@ names_at xs j h = ap names_before_colon (from_cons xs j h)
 pub names_over : (xs : List Lexeme) (j : ℕ) → same t.Lident (terminal_at xs j) ≡ true → names_before_colon (from xs j) ≡ names_before_colon (from xs (j + 1))
 names_over xs j e = names_at xs j (stands xs j t.Lident e refl) ∙ ap (λ b. if b then names_before_colon (from xs (j + 1)) else same t.Colon (terminal_at xs j)) e
 
--- behind the names
+-- after the names
 pub names_end : (xs : List Lexeme) (j : ℕ) → same t.Lident (terminal_at xs j) ≡ false → names_before_colon (from xs j) ≡ same t.Colon (terminal_at xs j)
 names_end xs j n = by_length (below_or j (length xs))
   where
@@ -24,8 +24,8 @@ names_end xs j n = by_length (below_or j (length xs))
 skip_types : (x : Lexeme) (zs : List Lexeme) (j : ℕ) (k : List Symbol) (v : Vals (s.Tmore ∷ k)) → find (rows s.Targs) x.terminal ≡ None → read (x ∷ zs) j false (s.Tmore ∷ k) ≡ Some v → read (x ∷ zs) j false (s.Targs ∷ s.Tmore ∷ k) ≡ Some (no_forms, v)
 skip_types x zs j k v n e = rw (n, e) refl
 
--- What is read behind a parenthesis and a name, where no colon stands behind the names, is types.
-pname_types : (n : ℕ) (xs : List Lexeme) (j : ℕ) → length xs ≤ j + n → names_before_colon (from xs j) ≡ false → (k : List Symbol) (vs : NamePart × Vals k) → read (rest xs j) j false (s.Pname ∷ k) ≡ Some vs → (us : Forms × (Forms × Vals k)) × (read (rest xs j) j false (s.Targs ∷ s.Tmore ∷ k) ≡ Some us) × ((name_types us.0 us.1.0, us.1.1) ≡ vs)
+-- What is read after a parenthesis and a name, where no colon comes after the names, is types.
+pname_types : (n : ℕ) (xs : List Lexeme) (j : ℕ) → length xs ≤ j + n → names_before_colon (from xs j) ≡ false → (k : List Symbol) (vs : NamePart × Vals k) → read (lexemes_from xs j) j false (s.Pname ∷ k) ≡ Some vs → (us : SyntaxForms × (SyntaxForms × Vals k)) × (read (lexemes_from xs j) j false (s.Targs ∷ s.Tmore ∷ k) ≡ Some us) × ((name_types us.0 us.1.0, us.1.1) ≡ vs)
 pname_types zero xs j l c k vs g = let h = stands_within xs s.Pname j k vs refl g in absurd (omega arith)
 pname_types (suc n) xs j l c k vs g = by_name (same t.Lident (terminal_at xs j)) refl (pname_types n xs (j + 1) (further n j (length xs) l))
   where
@@ -38,35 +38,35 @@ pname_types (suc n) xs j l c k vs g = by_name (same t.Lident (terminal_at xs j))
     runs : CanRun xs (λ k. s.Pname ∷ k) j
     runs = let l = h in record { within = omega arith; behind = k; values = vs; reads = g }
 
-    by_row : (y : Terminal) → same y (terminal_at xs j) ≡ true → (ra : Row s.Atype) → find (rows s.Pname) y ≡ Some (then_row s.Pname s.Atype (s.Targs ∷ s.Tmore ∷ []) (λ v vs. name_types (more_forms v vs.0) vs.1.0) ra) → find (rows s.Targs) y ≡ Some (then_row s.Targs s.Atype (s.Targs ∷ []) (λ v vs. more_forms v vs.0) ra) → (us : Forms × (Forms × Vals k)) × (read (rest xs j) j false (s.Targs ∷ s.Tmore ∷ k) ≡ Some us) × ((name_types us.0 us.1.0, us.1.1) ≡ vs)
+    by_row : (y : Terminal) → same y (terminal_at xs j) ≡ true → (ra : ReadingRow s.Atype) → find (rows s.Pname) y ≡ Some (then_row s.Pname s.Atype (s.Targs ∷ s.Tmore ∷ []) (λ v vs. name_types (more_forms v vs.0) vs.1.0) ra) → find (rows s.Targs) y ≡ Some (then_row s.Targs s.Atype (s.Targs ∷ []) (λ v vs. more_forms v vs.0) ra) → (us : SyntaxForms × (SyntaxForms × Vals k)) × (read (lexemes_from xs j) j false (s.Targs ∷ s.Tmore ∷ k) ≡ Some us) × ((name_types us.0 us.1.0, us.1.1) ≡ vs)
     by_row y e ra f a = let p = first_row xs j s.Pname (then_row s.Pname s.Atype (s.Targs ∷ s.Tmore ∷ []) (λ v vs. name_types (more_forms v vs.0) vs.1.0) ra) k vs h (ap (find (rows s.Pname)) (sym (same_true y (terminal_at xs j) e)) ∙ f) g in (
       (then_row s.Targs s.Atype (s.Targs ∷ []) (λ v vs. more_forms v vs.0) ra).act (s.Tmore ∷ k) j (token_at xs j).text p.0,
       by_first xs j s.Targs (then_row s.Targs s.Atype (s.Targs ∷ []) (λ v vs. more_forms v vs.0) ra) (s.Tmore ∷ k) p.0 h (ap (find (rows s.Targs)) (sym (same_true y (terminal_at xs j) e)) ∙ a) p.1,
       p.2,
     )
 
-    by_end : (y : Terminal) → same y (terminal_at xs j) ≡ true → (rt : Row s.Tmore) → find (rows s.Pname) y ≡ Some (then_row s.Pname s.Tmore [] (λ v vs. name_types no_forms v) rt) → find (rows s.Tmore) y ≡ Some rt → find (rows s.Targs) y ≡ None → (us : Forms × (Forms × Vals k)) × (read (rest xs j) j false (s.Targs ∷ s.Tmore ∷ k) ≡ Some us) × ((name_types us.0 us.1.0, us.1.1) ≡ vs)
+    by_end : (y : Terminal) → same y (terminal_at xs j) ≡ true → (rt : ReadingRow s.Tmore) → find (rows s.Pname) y ≡ Some (then_row s.Pname s.Tmore [] (λ v vs. name_types no_forms v) rt) → find (rows s.Tmore) y ≡ Some rt → find (rows s.Targs) y ≡ None → (us : SyntaxForms × (SyntaxForms × Vals k)) × (read (lexemes_from xs j) j false (s.Targs ∷ s.Tmore ∷ k) ≡ Some us) × ((name_types us.0 us.1.0, us.1.1) ≡ vs)
     by_end y e rt f a b = let p = first_row xs j s.Pname (then_row s.Pname s.Tmore [] (λ v vs. name_types no_forms v) rt) k vs h (ap (find (rows s.Pname)) (sym (same_true y (terminal_at xs j) e)) ∙ f) g in
         let q = by_first xs j s.Tmore rt k p.0 h (ap (find (rows s.Tmore)) (sym (same_true y (terminal_at xs j) e)) ∙ a) p.1 in (
           (no_forms, rt.act k j (token_at xs j).text p.0),
-          ap (λ zs. read zs j false (s.Targs ∷ s.Tmore ∷ k)) (from_cons xs j h) ∙ skip_types (token_at xs j) (rest xs (j + 1)) j k (rt.act k j (token_at xs j).text p.0) (ap (find (rows s.Targs)) (sym (same_true y (terminal_at xs j) e)) ∙ b) (sym (ap (λ zs. read zs j false (s.Tmore ∷ k)) (from_cons xs j h)) ∙ q),
+          ap (λ zs. read zs j false (s.Targs ∷ s.Tmore ∷ k)) (from_cons xs j h) ∙ skip_types (token_at xs j) (lexemes_from xs (j + 1)) j k (rt.act k j (token_at xs j).text p.0) (ap (find (rows s.Targs)) (sym (same_true y (terminal_at xs j) e)) ∙ b) (sym (ap (λ zs. read zs j false (s.Tmore ∷ k)) (from_cons xs j h)) ∙ q),
           p.2,
         )
 
-    others : same t.Lident (terminal_at xs j) ≡ false → same t.Colon (terminal_at xs j) ≡ false → (a b d e : Bool) → same t.TyVar (terminal_at xs j) ≡ a → same t.Uident (terminal_at xs j) ≡ b → same t.LParen (terminal_at xs j) ≡ d → same t.Comma (terminal_at xs j) ≡ e → (us : Forms × (Forms × Vals k)) × (read (rest xs j) j false (s.Targs ∷ s.Tmore ∷ k) ≡ Some us) × ((name_types us.0 us.1.0, us.1.1) ≡ vs)
+    others : same t.Lident (terminal_at xs j) ≡ false → same t.Colon (terminal_at xs j) ≡ false → (a b d e : Bool) → same t.TyVar (terminal_at xs j) ≡ a → same t.Uident (terminal_at xs j) ≡ b → same t.LParen (terminal_at xs j) ≡ d → same t.Comma (terminal_at xs j) ≡ e → (us : SyntaxForms × (SyntaxForms × Vals k)) × (read (lexemes_from xs j) j false (s.Targs ∷ s.Tmore ∷ k) ≡ Some us) × ((name_types us.0 us.1.0, us.1.1) ≡ vs)
     others m o true b d e p q r u = by_row t.TyVar p (row s.Atype t.TyVar [] (λ i w vs. type_variable (at i) w)) refl refl
     others m o false true d e p q r u = by_row t.Uident q (row s.Atype t.Uident (s.Take t.Dot ∷ s.Qlid ∷ []) (λ i w vs. composed (at i) (called i (w ∷ vs.1.0.scopes) (lower vs.1.0.last)) no_forms)) refl refl
     others m o false false true e p q r u = by_row t.LParen r (row s.Atype t.LParen (s.Ttuple ∷ []) (λ i w vs. enclosed (at i) vs.0)) refl refl
     others m o false false false true p q r u = by_end t.Comma u (row s.Tmore t.Comma (s.TypeOf ∷ s.Tmore ∷ []) (λ i w vs. more_forms vs.0 vs.1.0)) refl refl refl
     others m o false false false false p q r u = by_end t.RParen (only (start runs) t.RParen (t.Lident ∷ t.Colon ∷ t.TyVar ∷ t.Uident ∷ t.LParen ∷ t.Comma ∷ []) refl refl (m, (o, (p, (q, (r, (u, tt))))))) (row s.Tmore t.RParen [] (λ i w vs. no_forms)) refl refl refl
 
-    by_name : (b : Bool) → same t.Lident (terminal_at xs j) ≡ b → (names_before_colon (from xs (j + 1)) ≡ false → (k : List Symbol) (vs : NamePart × Vals k) → read (rest xs (j + 1)) (j + 1) false (s.Pname ∷ k) ≡ Some vs → (us : Forms × (Forms × Vals k)) × (read (rest xs (j + 1)) (j + 1) false (s.Targs ∷ s.Tmore ∷ k) ≡ Some us) × ((name_types us.0 us.1.0, us.1.1) ≡ vs)) → (us : Forms × (Forms × Vals k)) × (read (rest xs j) j false (s.Targs ∷ s.Tmore ∷ k) ≡ Some us) × ((name_types us.0 us.1.0, us.1.1) ≡ vs)
-    by_name true e ih = let p = first_row xs j s.Pname (row s.Pname t.Lident (s.Pname ∷ []) (λ i w vs. behind_name i w vs.0)) k vs h (ap (find (rows s.Pname)) (sym (same_true t.Lident (terminal_at xs j) e))) g in
+    by_name : (b : Bool) → same t.Lident (terminal_at xs j) ≡ b → (names_before_colon (from xs (j + 1)) ≡ false → (k : List Symbol) (vs : NamePart × Vals k) → read (lexemes_from xs (j + 1)) (j + 1) false (s.Pname ∷ k) ≡ Some vs → (us : SyntaxForms × (SyntaxForms × Vals k)) × (read (lexemes_from xs (j + 1)) (j + 1) false (s.Targs ∷ s.Tmore ∷ k) ≡ Some us) × ((name_types us.0 us.1.0, us.1.1) ≡ vs)) → (us : SyntaxForms × (SyntaxForms × Vals k)) × (read (lexemes_from xs j) j false (s.Targs ∷ s.Tmore ∷ k) ≡ Some us) × ((name_types us.0 us.1.0, us.1.1) ≡ vs)
+    by_name true e ih = let p = first_row xs j s.Pname (row s.Pname t.Lident (s.Pname ∷ []) (λ i w vs. name_before i w vs.0)) k vs h (ap (find (rows s.Pname)) (sym (same_true t.Lident (terminal_at xs j) e))) g in
         let q = ih (sym (names_over xs j e) ∙ c) k p.0 p.1 in
         let ra = then_row s.Targs s.Atype (s.Targs ∷ []) (λ v vs. more_forms v vs.0) (row s.Atype t.Lident [] (λ i w vs. composed (at i) (called i [] (lower w)) no_forms)) in (
           ra.act (s.Tmore ∷ k) j (token_at xs j).text q.0,
           by_first xs j s.Targs ra (s.Tmore ∷ k) q.0 h (ap (find (rows s.Targs)) (sym (same_true t.Lident (terminal_at xs j) e))) q.1,
-          ap (λ v. (behind_name j (token_at xs j).text v.0, v.1)) q.2 ∙ p.2,
+          ap (λ v. (name_before j (token_at xs j).text v.0, v.1)) q.2 ∙ p.2,
         )
     by_name false e ih = others e (sym (names_end xs j e) ∙ c) (same t.TyVar (terminal_at xs j)) (same t.Uident (terminal_at xs j)) (same t.LParen (terminal_at xs j)) (same t.Comma (terminal_at xs j)) refl refl refl refl
 
@@ -83,9 +83,9 @@ module _ {xs : List Lexeme} {i : ℕ} (c : CanRead xs s.Pparen i) where
 
 -- names of a parameter
 abbrev pub behind_each : Name → NamePart → NamePart
-behind_each n p = behind_name n.at n.text p
+behind_each n p = name_before n.at n.text p
 
-pub named_all : (ns : List Name) (f : Form) → many behind_each ns (name_names [] f) ≡ name_names ns f
+pub named_all : (ns : List Name) (f : SyntaxForm) → many behind_each ns (name_names [] f) ≡ name_names ns f
 named_all [] f = refl
 named_all (n ∷ ns) f = ap (behind_each n) (named_all ns f)
 
@@ -140,7 +140,7 @@ module _ {xs : List Lexeme} {i : ℕ} (c : CanRead xs s.Params i) where
       params_some t.LParen h e = cc
       params_some _ h e = no_false h
 
-abbrev pub Params : List Lexeme → ℕ → List Param → ℕ → Type 0
+abbrev pub Params : List Lexeme → ℕ → List ParamGroup → ℕ → Type 0
 Params xs i ps j = Begun xs 0 (λ k. s.Params ∷ k) i (λ k. s.Params ∷ k) (λ k us. (ps ++ us.0, us.1)) j
 
 pub params_none : (x : Terminal) → begins_atype x ≡ false → find (rows s.Params) x ≡ None

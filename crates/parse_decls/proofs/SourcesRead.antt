@@ -1,18 +1,18 @@
 -- The tokens of a source are read as its file.
-use Rattle.parse_decls.proofs.Common.{◌≡◌, ◌∙◌, ℕ, false, List, [], ◌∷◌, map, Option, Some, None, ap, sym, subst, lexeme, Theory, read, IsFile}
+use Rattle.parse_decls.proofs.Common.{◌≡◌, ◌∙◌, ℕ, false, List, [], ◌∷◌, map, Option, Some, None, ap, sym, subst, lexeme, SyntaxTheory, read, IsReadFile}
 use Rattle.tokens_why.specs.declared.token.Token.{Token}
 use Rattle.grammar.specs.declared.symbols.Symbol.TheVariants as s
 use Rattle.syntax_why.specs.Lexeme.{rest}
 use Rattle.recognise_why.specs.Sources.{IsOnlyFile, IsSource}
 
 -- the file, if there is one
-abbrev value_or : List Theory → Option (List Theory × Unit {0}) → List Theory
+abbrev value_or : List SyntaxTheory → Option (List SyntaxTheory × Unit {0}) → List SyntaxTheory
 value_or g None = g
 value_or g (Some v) = v.0
 
 module _ (text : List ℕ) (ts : List Token) (h : IsSource (rest text ts 0)) where
-  pub is_file : IsFile (map (lexeme text) ts)
+  pub is_file : IsReadFile (map (lexeme text) ts)
   is_file = record { value = (h.file, tt); reads = h.reads }
 
-  pub only_file : (f : List Theory) → read (map (lexeme text) ts) 0 false (s.File ∷ []) ≡ Some (f, tt) → IsOnlyFile (rest text ts 0) f
+  pub only_file : (f : List SyntaxTheory) → read (map (lexeme text) ts) 0 false (s.File ∷ []) ≡ Some (f, tt) → IsOnlyFile (rest text ts 0) f
   only_file f e = subst (IsOnlyFile (rest text ts 0)) (ap (value_or f) (sym h.reads ∙ e)) h.only

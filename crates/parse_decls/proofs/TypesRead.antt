@@ -1,5 +1,5 @@
 -- What follows where type variables, constructors and algebraic types are read.
-use Rattle.parse_decls.proofs.Common.{◌≡◌, ℕ, ◌+◌, ◌<◌, ◌≤◌, ◌⊎◌, inl, inr, Bool, true, false, not, ◌&&◌, ◌||◌, nat_le, List, [], ◌∷◌, ◌++◌, length, Option, Some, None, option_map, refl, sym, ap, ◌∙◌, subst, arith, append_assoc, append-nil, get_or_past, Terminal, Symbol, same, Name, Lexeme, at, name, Form, Forms, called, composed, lower, more_forms, no_forms, forms, Algebraic, Constructor, algebraic_decl, more_decls, type_decl, AlgPart, FieldsPart, TvarsPart, VarsPart, fields_of, is_algebraic, is_alias, new_algebraic, scope_of, typed_as, upper_type, with_constructor, fields_own, fields_rows, upper_own, rows, Row, Val, Vals, extend, row, then_row, blank, find, read, below_or, from_cons, from_end, Begun, CanRead, CanRun, begins_atype, nowhere, rest, terminal_at, token_at, again, expand, extended, follow, many, missed, only, pass, stands_by, start, take, unexpand, IsDecl, IsAlgebraic, IsCon, IsConstructor, IsConstructors, IsNamed, Named, alg_part, begins_constructor, con_part, constructor_at, fields_part}
+use Rattle.parse_decls.proofs.Common.{◌≡◌, ℕ, ◌+◌, ◌<◌, ◌≤◌, ◌⊎◌, inl, inr, Bool, true, false, not, ◌&&◌, ◌||◌, nat_le, List, [], ◌∷◌, ◌++◌, length, Option, Some, None, option_map, refl, sym, ap, ◌∙◌, subst, arith, append_assoc, append-nil, get_or_past, Terminal, Symbol, same, Name, Lexeme, at, name, SyntaxForm, SyntaxForms, called, composed, lower, more_forms, no_forms, forms, Algebraic, Constructor, algebraic_decl, more_decls, type_decl, AlgPart, FieldsPart, TvarsPart, VarsPart, fields_of, is_algebraic, is_alias, new_algebraic, scope_of, typed_as, upper_type, with_constructor, fields_own, fields_rows, upper_own, rows, ReadingRow, Val, Vals, extend, row, then_row, blank, find, read, below_or, from_cons, from_end, Begun, CanRead, CanRun, begins_atype, nowhere, lexemes_from, terminal_at, token_at, again, expand, extended, follow, many, missed, only, pass, stands_by, start, take, unexpand, IsDecl, IsReadAlgebraic, IsCon, IsConstructor, IsConstructors, IsReadNames, AreTypeVariablesAt, alg_part, begins_constructor, con_part, constructor_at, fields_part}
 use Rattle.tokens_why.specs.declared.terminal.Terminal.TheVariants as t
 use Rattle.grammar.specs.declared.symbols.Symbol.TheVariants as s
 use Rattle.grammar.specs.Machine.{is_seal}
@@ -18,10 +18,10 @@ zero_le n = search (arith)
 pub run_of : {xs : List Lexeme} {n : ℕ} {from : List Symbol → List Symbol} {i : ℕ} (to K : List Symbol → List Symbol) {act : (k : List Symbol) → Vals (to (K k)) → Vals (from k)} {j : ℕ} → Begun xs n from i (λ k. to (K k)) act j → CanRun xs to j
 run_of {xs} {n} {from} {i} to K {act} {j} g = let q = g.reads g.can.behind g.can.values g.can.reads in record { within = g.within; behind = K g.can.behind; values = q.0; reads = q.1 }
 
-passed_at : (xs : List Lexeme) (j : ℕ) (a : Symbol) (v : Val a) (k : List Symbol) (us : Vals k) → blank a ≡ Some v → is_seal a ≡ false → find (rows a) (terminal_at xs j) ≡ None → read (rest xs j) j false k ≡ Some us → read (rest xs j) j false (a ∷ k) ≡ Some (v, us)
-passed_at xs j a v k us b l f h = passed a v k (rest xs j) j us b l (by_length (below_or j (length xs))) h
+passed_at : (xs : List Lexeme) (j : ℕ) (a : Symbol) (v : Val a) (k : List Symbol) (us : Vals k) → blank a ≡ Some v → is_seal a ≡ false → find (rows a) (terminal_at xs j) ≡ None → read (lexemes_from xs j) j false k ≡ Some us → read (lexemes_from xs j) j false (a ∷ k) ≡ Some (v, us)
+passed_at xs j a v k us b l f h = passed a v k (lexemes_from xs j) j us b l (by_length (below_or j (length xs))) h
   where
-    by_length : (j < length xs) ⊎ (length xs ≤ j) → Stops a (rest xs j)
+    by_length : (j < length xs) ⊎ (length xs ≤ j) → Stops a (lexemes_from xs j)
     by_length (inl q) = subst (Stops a) (sym (from_cons xs j q)) f
     by_length (inr q) = subst (Stops a) (sym (from_end xs j q)) tt
 
@@ -35,13 +35,13 @@ unpass {xs} {n} {from} {i} a v K by {j} b l f g = record {
 }
 
 -- type variables
-pub named_more : (xs : List Lexeme) (i : ℕ) (ns : List Name) (j : ℕ) (n : Name) → same t.TyVar (terminal_at xs j) ≡ true → n ≡ name j (token_at xs j).text → Named xs i ns j → Named xs i (ns ++ n ∷ []) (j + 1)
+pub named_more : (xs : List Lexeme) (i : ℕ) (ns : List Name) (j : ℕ) (n : Name) → same t.TyVar (terminal_at xs j) ≡ true → n ≡ name j (token_at xs j).text → AreTypeVariablesAt xs i ns j → AreTypeVariablesAt xs i (ns ++ n ∷ []) (j + 1)
 named_more xs i [] j n e h p = (subst (λ q. same t.TyVar (terminal_at xs q) ≡ true) (sym p) e, subst (λ q. n ≡ name q (token_at xs q).text) (sym p) h, ap (λ q. q + 1) p)
 named_more xs i (v ∷ ns) j n e h p = (p.0, p.1, named_more xs (i + 1) ns j n e h p.2)
 
 -- A rule that reads a type variable and then itself reads them all.
 module _ (a : Symbol) (f : Name → Val a → Val a) (is : find (rows a) t.TyVar ≡ Some (row a t.TyVar (a ∷ []) (λ i w vs. f (name i w) vs.0))) (e : ℕ) (one : nat_le e 1 ≡ true) where
-  pub variables_read : {xs : List Lexeme} {n : ℕ} {from : List Symbol → List Symbol} {i : ℕ} {K : List Symbol → List Symbol} {act : (k : List Symbol) → Vals (a ∷ K k) → Vals (from k)} {j m : ℕ} (ns : List Name) → Named xs j ns m → nat_le e n ≡ true → Begun xs n from i (λ k. a ∷ K k) act j → Begun xs e from i (λ k. a ∷ K k) (λ k us. act k (many f ns us.0, us.1)) m
+  pub variables_read : {xs : List Lexeme} {n : ℕ} {from : List Symbol → List Symbol} {i : ℕ} {K : List Symbol → List Symbol} {act : (k : List Symbol) → Vals (a ∷ K k) → Vals (from k)} {j m : ℕ} (ns : List Name) → AreTypeVariablesAt xs j ns m → nat_le e n ≡ true → Begun xs n from i (λ k. a ∷ K k) act j → Begun xs e from i (λ k. a ∷ K k) (λ k us. act k (many f ns us.0, us.1)) m
   variables_read {xs} {n} {from} {i} {K} {act} {j} {m} [] p l g = subst (λ q. Begun xs e from i (λ k. a ∷ K k) (λ k us. act k (us.0, us.1)) q) p (again g e l (λ k us. refl))
   variables_read {xs} {n} {from} {i} {K} {act} {j} {m} (v ∷ ns) p l g = let q = expand g t.TyVar p.0 refl is in
       again (variables_read {xs = xs} {n = 1} {from = from} {i = i} {K = K} {act = λ k us. act k (f (name j (token_at xs j).text) us.0, us.1)} {j = j + 1} {m = m} ns p.2 one q) e (le_self e) (λ k us. ap (λ u. act k (f u (many f ns us.0), us.1)) (sym p.1))
@@ -68,10 +68,10 @@ elvars_many [] v = refl
 elvars_many (n ∷ ns) v = ap (elvars_on n) (elvars_many ns v)
 
 -- the fields of a constructor
-abbrev pub field_on : Form → FieldsPart → FieldsPart
+abbrev pub field_on : SyntaxForm → FieldsPart → FieldsPart
 field_on f v = fields_part (more_forms f v.fields) v.constructors v.others
 
-pub field_many : (fs : List Form) (v : FieldsPart) → many field_on fs v ≡ fields_part (many more_forms fs v.fields) v.constructors v.others
+pub field_many : (fs : List SyntaxForm) (v : FieldsPart) → many field_on fs v ≡ fields_part (many more_forms fs v.fields) v.constructors v.others
 field_many [] v = refl
 field_many (f ∷ fs) v = ap (field_on f) (field_many fs v)
 
@@ -85,14 +85,14 @@ fields_some t.Uident h e = cc
 fields_some t.LParen h e = cc
 fields_some _ h e = no_false h
 
--- where no type, no bar and no `with` stands, nothing stands behind fields
+-- where no type, no bar and no `with` stands, nothing comes after fields
 fields_none : (x : Terminal) → begins_atype x ≡ false → same t.Bar x ≡ false → same t.WithWord x ≡ false → find (rows s.Fields) x ≡ None
 fields_none x h b w = none_of s.Fields (t.Bar ∷ t.WithWord ∷ t.TyVar ∷ t.Lident ∷ t.Uident ∷ t.LParen ∷ []) x refl (b, (w, all_apart begins_atype (t.TyVar ∷ t.Lident ∷ t.Uident ∷ t.LParen ∷ []) x refl h))
 
-abbrev pub Fields : List Lexeme → ℕ → List Form → ℕ → Type 0
+abbrev pub Fields : List Lexeme → ℕ → List SyntaxForm → ℕ → Type 0
 Fields xs i fs j = Begun xs 0 (λ k. s.Fields ∷ k) i (λ k. s.Fields ∷ k) (λ k us. (many field_on fs us.0, us.1)) j
 
--- Where no field stands there are no more of them.
+-- Where no field is there are no more of them.
 module _ {xs : List Lexeme} {n : ℕ} {from : List Symbol → List Symbol} {i : ℕ} {K : List Symbol → List Symbol} {act : (k : List Symbol) → Vals (s.Fields ∷ K k) → Vals (from k)} {j : ℕ} (g : Begun xs n from i (λ k. s.Fields ∷ K k) act j) (o : begins_atype (terminal_at xs j) ≡ false) where
   abbrev NoFields : Type 0
   NoFields = Begun xs 0 from i (λ k. s.Fields ∷ K k) (λ k us. act k (fields_part no_forms us.0.constructors us.0.others, us.1)) j
@@ -125,11 +125,11 @@ module _ {xs : List Lexeme} {n : ℕ} {from : List Symbol → List Symbol} {i : 
   pub no_others : same t.Bar (terminal_at xs j) ≡ false → same t.WithWord (terminal_at xs j) ≡ false → Begun xs n from i K (λ k us. act k (fields_part no_forms [] [], us)) j
   no_others h w = pass g refl refl (fields_none (terminal_at xs j) o h w)
 
-module _ (xs : List Lexeme) (i : ℕ) (fs : List Form) (j : ℕ) (g : Fields xs i fs j) where
+module _ (xs : List Lexeme) (i : ℕ) (fs : List SyntaxForm) (j : ℕ) (g : Fields xs i fs j) where
   pub field_item : begins_atype (terminal_at xs j) ≡ true → Begun xs 0 (λ k. s.Fields ∷ k) i (λ k. s.Atype ∷ s.Fields ∷ k) (λ k us. (many field_on fs (field_on us.0 us.1.0), us.1.1)) j
   field_item e = extended g s.Atype (s.Fields ∷ []) (λ v vs. field_on v vs.0) fields_own refl (stands_by begins_atype xs j refl e) (fields_apart (terminal_at xs j) e) (fields_some (terminal_at xs j) e)
 
-pub constructor_done : (xs : List Lexeme) (i : ℕ) (n : Name) (fs : List Form) (j : ℕ) → n ≡ name i (token_at xs i).text → begins_atype (terminal_at xs j) ≡ false → Fields xs (i + 1) fs j → IsConstructor xs i (record { name = n; fields = forms fs }) j
+pub constructor_done : (xs : List Lexeme) (i : ℕ) (n : Name) (fs : List SyntaxForm) (j : ℕ) → n ≡ name i (token_at xs i).text → begins_atype (terminal_at xs j) ≡ false → Fields xs (i + 1) fs j → IsConstructor xs i (record { name = n; fields = forms fs }) j
 constructor_done xs i n fs j e o g = record {
   fields = forms fs;
   spelled = ap (λ v. called_so v (forms fs)) (sym e);
@@ -137,12 +137,12 @@ constructor_done xs i n fs j e o g = record {
   is = again (no_fields g o) 0 refl (λ k us. ap (λ v. (v, us.1)) (field_many fs (fields_part no_forms us.0.constructors us.0.others) ∙ ap (λ v. fields_part v us.0.constructors us.0.others) (forms_many fs)));
 }
   where
-    called_so : Name → Forms → Constructor
+    called_so : Name → SyntaxForms → Constructor
     called_so v gs = record { name = v; fields = gs }
 
 -- constructors with bars between them
 pub record Constructors (xs : List Lexeme) (i : ℕ) (cs : List Constructor) (j : ℕ) : Type 0 where
-  pub fields : Forms
+  pub fields : SyntaxForms
   pub others : List Constructor
   pub spelled : constructor_at xs i fields ∷ others ≡ cs
   pub ends : begins_atype (terminal_at xs j) ≡ false
@@ -175,7 +175,7 @@ module _ (xs : List Lexeme) (i : ℕ) (cs : List Constructor) (j : ℕ) (g : Con
     is = again (no_constructors g.is g.ends e) 0 refl (λ k us. ap (λ v. (fields_part g.fields v us.0.others, us.1)) (append-nil g.others));
   }
 
--- constructors behind an equality sign
+-- constructors after an equality sign
 module _ {xs : List Lexeme} {i : ℕ} (c : CanRead xs s.Con i) where
   module _ (e : same t.Bar (terminal_at xs i) ≡ true) where
     pub barred : Begun xs 1 (λ k. s.Con ∷ k) i (λ k. s.Take t.Uident ∷ s.Fields ∷ k) (λ k us. (with_constructor true us.0 us.1.0, us.1.1)) (i + 1)
@@ -196,7 +196,7 @@ module _ {xs : List Lexeme} {i : ℕ} (c : CanRead xs s.Con i) where
 
 -- an algebraic type
 module _ {xs : List Lexeme} {i : ℕ} (c : CanRun xs (λ k. s.Take t.Lident ∷ s.Algvars ∷ k) i) where
-  module _ (ns : List Name) (j : ℕ) (h : IsNamed xs (i + 1) ns j) where
+  module _ (ns : List Name) (j : ℕ) (h : IsReadNames xs (i + 1) ns j) where
     algebraic_vars : Begun xs 1 (λ k. s.Take t.Lident ∷ s.Algvars ∷ k) i (λ k. s.Algvars ∷ k) (λ k us. (name i (token_at xs i).text, (many algvars_on ns us.0, us.1))) j
     algebraic_vars = variables_read s.Algvars algvars_on refl 1 refl ns h.names refl (take (start c))
 
@@ -207,11 +207,11 @@ module _ {xs : List Lexeme} {i : ℕ} (c : CanRun xs (λ k. s.Take t.Lident ∷ 
     algebraic_equal = let p = expand algebraic_vars t.Equal algebraic_sign refl refl in
         again p 1 refl (λ k us. ap (λ v. (name i (token_at xs i).text, (v, us.1))) (algvars_many ns (alg_part [] us.0) ∙ ap (λ v. alg_part v us.0) (append-nil ns)))
 
-    pub algebraic_done : (n : Name) (b : Bool) (cs : List Constructor) (m : ℕ) → n ≡ name i (token_at xs i).text → IsCon xs (j + 1) b cs m → IsAlgebraic xs i (record { name = n; vars = ns; bar = b; constructors = cs }) m
+    pub algebraic_done : (n : Name) (b : Bool) (cs : List Constructor) (m : ℕ) → n ≡ name i (token_at xs i).text → IsCon xs (j + 1) b cs m → IsReadAlgebraic xs i (record { name = n; vars = ns; bar = b; constructors = cs }) m
     algebraic_done n b cs m e r = record { ends = r.ends; last = r.last; is = again (follow {K = λ k. k} r.is algebraic_equal) 1 refl (λ k us. ap (λ v. (v, (alg_part ns (con_part b cs us.0.others), us.1))) (sym e)) }
 
--- behind an equality sign
-found_within : (xs : List Lexeme) (j : ℕ) (r : Row s.Fields) → find (rows s.Fields) (terminal_at xs j) ≡ Some r → j < length xs
+-- after an equality sign
+found_within : (xs : List Lexeme) (j : ℕ) (r : ReadingRow s.Fields) → find (rows s.Fields) (terminal_at xs j) ≡ Some r → j < length xs
 found_within xs j r f = by_length (below_or j (length xs))
   where
     by_length : (j < length xs) ⊎ (length xs ≤ j) → j < length xs
@@ -228,13 +228,13 @@ module _ {xs : List Lexeme} {n : ℕ} {from : List Symbol → List Symbol} {i : 
   upper_none : (x : Terminal) → same t.Dot x ≡ false → find (rows s.Fields) x ≡ None → find (rows s.Upper) x ≡ None
   upper_none x d e = find_apart upper_own (extend s.Upper s.Fields [] (λ v vs. fields_of v) fields_rows) x (missed (row s.Upper t.Dot (s.Qlid ∷ s.Targs ∷ []) (λ i w vs. scope_of vs.0 vs.1.0)) [] x d refl) ∙ find_extend s.Upper s.Fields [] (λ v vs. fields_of v) fields_rows x ∙ ap (option_map (then_row s.Upper s.Fields [] (λ v vs. fields_of v))) e
 
-  upper_some : (x : Terminal) (r : Row s.Fields) → same t.Dot x ≡ false → find (rows s.Fields) x ≡ Some r → find (rows s.Upper) x ≡ None → ⊥
+  upper_some : (x : Terminal) (r : ReadingRow s.Fields) → same t.Dot x ≡ false → find (rows s.Fields) x ≡ Some r → find (rows s.Upper) x ≡ None → ⊥
   upper_some x r d e f = let h = sym f ∙ find_apart upper_own (extend s.Upper s.Fields [] (λ v vs. fields_of v) fields_rows) x (missed (row s.Upper t.Dot (s.Qlid ∷ s.Targs ∷ []) (λ i w vs. scope_of vs.0 vs.1.0)) [] x d refl) ∙ find_extend s.Upper s.Fields [] (λ v vs. fields_of v) fields_rows x ∙ ap (option_map (then_row s.Upper s.Fields [] (λ v vs. fields_of v))) e in cc
 
   fields_found : same t.Uident (terminal_at xs j) ≡ true → same t.Dot (terminal_at xs (j + 1)) ≡ false → Begun xs 1 from i (λ k. s.Fields ∷ K k) (λ k us. act k (upper_type j (token_at xs j).text (fields_of us.0), us.1)) (j + 1)
   fields_found e d = by_found (find (rows s.Fields) (terminal_at xs (j + 1))) refl
     where
-      by_found : (o : Option (Row s.Fields)) → find (rows s.Fields) (terminal_at xs (j + 1)) ≡ o → Begun xs 1 from i (λ k. s.Fields ∷ K k) (λ k us. act k (upper_type j (token_at xs j).text (fields_of us.0), us.1)) (j + 1)
+      by_found : (o : Option (ReadingRow s.Fields)) → find (rows s.Fields) (terminal_at xs (j + 1)) ≡ o → Begun xs 1 from i (λ k. s.Fields ∷ K k) (λ k us. act k (upper_type j (token_at xs j).text (fields_of us.0), us.1)) (j + 1)
       by_found (Some r) f = extended (upper_found e) s.Fields [] (λ v vs. fields_of v) upper_own refl (found_within xs (j + 1) r f) (missed (row s.Upper t.Dot (s.Qlid ∷ s.Targs ∷ []) (λ i w vs. scope_of vs.0 vs.1.0)) [] (terminal_at xs (j + 1)) d refl) (upper_some (terminal_at xs (j + 1)) r d f)
       by_found None f = unpass s.Fields (fields_part no_forms [] []) K (λ k us. act k (upper_type j (token_at xs j).text (fields_of us.0), us.1)) refl refl f (pass (upper_found e) refl refl (upper_none (terminal_at xs (j + 1)) d f))
 
@@ -294,7 +294,7 @@ module _ {xs : List Lexeme} {i : ℕ} (c : CanRead xs s.Decls i) (e : same t.Typ
   pub type_name : same t.Lident (terminal_at xs (i + 1)) ≡ true
   type_name = only type_start t.Lident [] refl refl tt
 
-  pub typed : (ns : List Name) (j : ℕ) → IsNamed xs (i + 1 + 1) ns j → Typed xs i ns j
+  pub typed : (ns : List Name) (j : ℕ) → IsReadNames xs (i + 1 + 1) ns j → Typed xs i ns j
   typed ns j h = again (variables_read s.Tvars tvars_on refl 1 refl ns h.names refl (take type_start)) 1 refl (λ k us. ap (λ v. (more_decls (typed_as (at i) (name (i + 1) (token_at xs (i + 1)).text) v.vars v.equation) us.1.0, us.1.1)) (tvars_many ns us.0))
 
 module _ (xs : List Lexeme) (i : ℕ) (n : Name) (ns : List Name) (j : ℕ) (g : Typed xs i ns j) (named : n ≡ name (i + 1) (token_at xs (i + 1)).text) where
@@ -321,7 +321,7 @@ module _ (xs : List Lexeme) (i : ℕ) (as_ : List Algebraic) (j : ℕ) (g : Alge
   pub with_read : same t.WithWord (terminal_at xs j) ≡ true → Begun xs 1 (λ k. s.Decls ∷ k) i (λ k. s.Take t.Lident ∷ s.Algvars ∷ s.Decls ∷ k) (λ k us. (more_decls (algebraic_decl (at i) (as_ ++ (new_algebraic us.0 us.1.0.vars us.1.0.con ∷ us.1.0.con.others))) us.1.1.0, us.1.1.1)) (j + 1)
   with_read e = expand g.is t.WithWord e refl refl
 
-  pub algebraics_more : (a : Algebraic) (m : ℕ) → same t.WithWord (terminal_at xs j) ≡ true → IsAlgebraic xs (j + 1) a m → Algebraics xs i (as_ ++ a ∷ []) m
+  pub algebraics_more : (a : Algebraic) (m : ℕ) → same t.WithWord (terminal_at xs j) ≡ true → IsReadAlgebraic xs (j + 1) a m → Algebraics xs i (as_ ++ a ∷ []) m
   algebraics_more a m e r = record { ends = r.ends; last = r.last; is = again (follow {K = λ k. s.Decls ∷ k} r.is (with_read e)) 1 refl (λ k us. ap (λ v. (more_decls (algebraic_decl (at i) v) us.1.0, us.1.1)) (sym (append_assoc as_ (a ∷ []) us.0.others))) }
 
   pub algebraics_done : same t.WithWord (terminal_at xs j) ≡ false → IsDecl xs i (algebraic_decl (at i) as_) j

@@ -17,7 +17,7 @@ begins_symbol t.ConstantWord = true
 begins_symbol t.PredicateWord = true
 begins_symbol _ = false
 
-abbrev pub symbol_word : Terminal → SymbolWord
-symbol_word t.FunctionWord = sw.Function
-symbol_word t.ConstantWord = sw.Constant
-symbol_word _ = sw.Predicate
+abbrev pub symbol_word_of : Terminal → SymbolWord
+symbol_word_of t.FunctionWord = sw.Function
+symbol_word_of t.ConstantWord = sw.Constant
+symbol_word_of _ = sw.Predicate

@@ -3,7 +3,7 @@ ghost use Rattle.std.specs.Prelude.{◌+◌, ◌∷◌, IfOk, map, option_map};
 ghost use Rattle.parse_decls.specs.Common.{member_of, CanRead, CanRun, IsRead, lexemes};
 ghost use Rattle.grammar.specs.declared.symbols.Symbol.TheVariants as rule;
 ghost use Rattle.syntax_why.specs.Surface.{form_of, tree_of};
-ghost use Rattle.parse_decls.specs.Bodies.{IsMember, IsResult, IsValue, body_part};
+ghost use Rattle.parse_decls.specs.Bodies.{IsReadMember, IsResult, IsReadValue, body_part};
 
 use crate::declared::declared_name;
 use crate::parameters::params;
@@ -13,11 +13,11 @@ use std::alloc::{AllocError, Global};
 use syntax_why::{Expr, MemberTree, TypeTree};
 use tokens_why::Terminal;
 
-/// The value of a constant, if it has one, and the token behind it. Only want of memory refuses.
+/// The value of a constant, if it has one, and the token after it. Only want of memory refuses.
 pub fn value(alloc: Global, source: Source, i: usize) -> Result<(Option<Expr>, usize), AllocError>
     requires { CanRun (lexemes source) (λ k. rule.Value ∷ rule.Decls ∷ k) i }
     ensures { IfOk result
-        (λ r. IsValue (lexemes source.entry) i (option_map tree_of r.0) r.1) }
+        (λ r. IsReadValue (lexemes source.entry) i (option_map tree_of r.0) r.1) }
 {
     let is_given = is_at(source, i, Terminal::Equal);
     if is_given {
@@ -45,10 +45,10 @@ fn member_result(
     Ok((None, i))
 }
 
-/// A member behind `with`, and the token behind it.
+/// A member after `with`, and the token after it.
 fn member(alloc: Global, source: Source, i: usize) -> Result<(MemberTree, usize), AllocError>
     requires { CanRun (lexemes source) (λ k. rule.Op ∷ rule.Params ∷ rule.Member ∷ k) i }
-    ensures { IfOk result (λ r. IsMember (lexemes source.entry) i (member_of r.0) r.1) }
+    ensures { IfOk result (λ r. IsReadMember (lexemes source.entry) i (member_of r.0) r.1) }
 {
     let (name, j) = declared_name(alloc, source, i)?;
     let (params, n) = params(alloc, source, j)?;
@@ -63,7 +63,7 @@ fn member(alloc: Global, source: Source, i: usize) -> Result<(MemberTree, usize)
     Ok((member, body.end))
 }
 
-/// The members, each behind `with`, and the token behind them.
+/// The members, each after `with`, and the token after them.
 fn members(alloc: Global, source: Source, i: usize) -> Result<(Seq<MemberTree>, usize), AllocError>
     requires { CanRead (lexemes source) rule.Members i }
     ensures { IfOk result

@@ -3,7 +3,7 @@ ghost use Rattle.std.specs.Prelude.{◌+◌, ◌∷◌, IfOk, map};
 ghost use Rattle.parse_decls.specs.Common.{clause_of, inductive_of, CanRead, CanRun, lexemes};
 ghost use Rattle.grammar.specs.declared.symbols.Symbol.TheVariants as rule;
 ghost use Rattle.tokens_why.specs.declared.terminal.Terminal.TheVariants.{Colon, Equal};
-ghost use Rattle.parse_decls.specs.Clauses.{IsClause, IsClauses, IsInductive};
+ghost use Rattle.parse_decls.specs.Clauses.{IsClause, IsClauses, IsReadInductive};
 
 use crate::declared::{declared_name, prop_name};
 use crate::parameters::params;
@@ -13,7 +13,7 @@ use std::alloc::{AllocError, Global};
 use syntax_why::{ClauseTree, IndTree};
 use tokens_why::Terminal;
 
-/// A clause, and the token behind it.
+/// A clause, and the token after it.
 fn clause(alloc: Global, source: Source, i: usize) -> Result<(ClauseTree, usize), AllocError>
     requires { CanRun (lexemes source)
         (λ k. rule.Ident ∷ rule.Take Colon ∷ rule.Expr 0 ∷ rule.Clauses ∷ k) i }
@@ -28,7 +28,7 @@ fn clause(alloc: Global, source: Source, i: usize) -> Result<(ClauseTree, usize)
     Ok((clause, prop.end))
 }
 
-/// The clauses of a predicate, whether a bar stands before the first, and the token behind them.
+/// The clauses of a predicate, whether a bar is before the first, and the token after them.
 #[derive(Drop)]
 struct ReadClauses {
     bar: bool,
@@ -57,7 +57,7 @@ fn clauses(alloc: Global, source: Source, i: usize) -> Result<ReadClauses, Alloc
     })
 }
 
-/// An inductive predicate with its clauses, and the token behind it. Only want of memory refuses.
+/// An inductive predicate with its clauses, and the token after it. Only want of memory refuses.
 pub fn inductive_predicate(
     alloc: Global,
     source: Source,
@@ -65,7 +65,7 @@ pub fn inductive_predicate(
 ) -> Result<(IndTree, usize), AllocError>
     requires { CanRun (lexemes source)
         (λ k. rule.Op ∷ rule.Params ∷ rule.Take Equal ∷ rule.Clause ∷ k) i }
-    ensures { IfOk result (λ r. IsInductive (lexemes source.entry) i (inductive_of r.0) r.1) }
+    ensures { IfOk result (λ r. IsReadInductive (lexemes source.entry) i (inductive_of r.0) r.1) }
 {
     let (name, j) = declared_name(alloc, source, i)?;
     let (params, equal) = params(alloc, source, j)?;

@@ -1,11 +1,11 @@
-// The declarations `use` and `clone`, where they are known to stand: each call reads one, and says where it ends.
+// The declarations `use` and `clone`, where they are known to be there: each call reads one, and says where it ends.
 ghost use Rattle.std.specs.Prelude.{false, true, ◌≡◌, ◌+◌, IfOk, map};
 ghost use Rattle.parse_decls.specs.Common.{same, decl_of, element_of, CanRead, IsRead, terminal_at, lexemes};
 ghost use Rattle.grammar.specs.declared.symbols.Symbol.TheVariants as rule;
 ghost use Rattle.tokens_why.specs.declared.terminal.Terminal.TheVariants as t;
-ghost use Rattle.reading.specs.Rows.{used as used_part};
+ghost use Rattle.reading.specs.Rows.{use_part as used_part};
 ghost use Rattle.parse_decls.specs.Bodies.{IsDecl};
-ghost use Rattle.parse_decls.specs.Clones.{begins_symbol, prop_kind as prop_kind_of, symbol_word as symbol_word_of};
+ghost use Rattle.parse_decls.specs.Clones.{begins_symbol, prop_kind as prop_kind_of, symbol_word_of as symbol_word_of};
 
 use crate::types::variables;
 use outside::{Seq, Text};
@@ -16,7 +16,7 @@ use std::alloc::{AllocError, Global};
 use syntax_why::{DeclNode, DeclTree, ElemNode, ElemTree, Link, Name, Path, PropKind, SymbolWord};
 use tokens_why::Terminal;
 
-/// The theory that is used or cloned, and the token behind it.
+/// The theory that is used or cloned, and the token after it.
 #[derive(Drop)]
 struct UsedTheory {
     link: Link,
@@ -64,7 +64,7 @@ fn name_after_as(
     Ok((None, i))
 }
 
-/// What stands behind `use`, or behind `clone` up to its elements.
+/// What comes after `use`, or after `clone` up to its elements.
 fn used_theory(alloc: Global, source: Source, i: usize) -> Result<UsedTheory, AllocError>
     requires { CanRead (lexemes source) rule.Used i }
     ensures { IfOk result (λ r. IsRead (lexemes source.entry) rule.Used i
@@ -211,7 +211,7 @@ fn element(alloc: Global, source: Source, i: usize) -> Result<(ElemTree, usize),
     Ok((prop, end))
 }
 
-/// The elements of a clone behind `with`, or none.
+/// The elements of a clone after `with`, or none.
 fn substitution(
     alloc: Global,
     source: Source,
@@ -236,7 +236,7 @@ fn substitution(
     Ok((Seq::from_vec(elements), i))
 }
 
-/// A `use`, and the token behind it. Only want of memory refuses.
+/// A `use`, and the token after it. Only want of memory refuses.
 pub fn use_declaration(
     alloc: Global,
     source: Source,
@@ -255,7 +255,7 @@ pub fn use_declaration(
     Ok((tree, theory.end))
 }
 
-/// A `clone` with its elements, and the token behind it. Only want of memory refuses.
+/// A `clone` with its elements, and the token after it. Only want of memory refuses.
 pub fn clone_declaration(
     alloc: Global,
     source: Source,

@@ -10,7 +10,7 @@ use std::alloc::{AllocError, Global};
 use syntax_why::{Name, OpName, Style};
 use tokens_why::Terminal;
 
-/// The name of a symbol, and the token behind it. Only want of memory refuses.
+/// The name of a symbol, and the token after it. Only want of memory refuses.
 pub fn declared_name(alloc: Global, source: Source, i: usize) -> Result<(OpName, usize), AllocError>
     requires { CanRead (lexemes source) rule.Op i }
     ensures { IfOk result

@@ -15,7 +15,7 @@ use std::alloc::{AllocError, Global};
 use syntax_why::{DeclNode, DeclTree, IndTree, PropKind};
 use tokens_why::Terminal;
 
-/// A constant, and the token behind it. Only want of memory refuses.
+/// A constant, and the token after it. Only want of memory refuses.
 pub fn constant_declaration(
     alloc: Global,
     source: Source,
@@ -33,7 +33,7 @@ pub fn constant_declaration(
     Ok((tree, end))
 }
 
-/// A function with its members, and the token behind it. Only want of memory refuses.
+/// A function with its members, and the token after it. Only want of memory refuses.
 pub fn function_declaration(
     alloc: Global,
     source: Source,
@@ -55,7 +55,7 @@ pub fn function_declaration(
     Ok((tree, read.end))
 }
 
-/// A predicate with its members, and the token behind it. Only want of memory refuses.
+/// A predicate with its members, and the token after it. Only want of memory refuses.
 pub fn predicate_declaration(
     alloc: Global,
     source: Source,
@@ -76,7 +76,7 @@ pub fn predicate_declaration(
     Ok((tree, read.end))
 }
 
-/// Inductive predicates, and the token behind them. Only want of memory refuses.
+/// Inductive predicates, and the token after them. Only want of memory refuses.
 pub fn inductive_declaration(
     alloc: Global,
     source: Source,
@@ -99,7 +99,7 @@ pub fn inductive_declaration(
     Ok((tree, j))
 }
 
-/// An axiom, a lemma or a goal, and the token behind it. Only want of memory refuses.
+/// An axiom, a lemma or a goal, and the token after it. Only want of memory refuses.
 pub fn prop_declaration(
     alloc: Global,
     source: Source,

@@ -1,11 +1,11 @@
-// Declarations, theories and files, where they are known to stand: each call reads one, and says where it ends.
+// Declarations, theories and files, where they are known to be there: each call reads one, and says where it ends.
 ghost use Rattle.std.specs.Prelude.{false, true, not, ◌≡◌, ◌+◌, ◌∷◌, [], IfOk, Some, map};
 ghost use Rattle.parse_decls.specs.Common.{same, read, decl_of, file_of, theory_of, CanRead, IsRead, terminal_at, lexemes};
 ghost use Rattle.grammar.specs.declared.symbols.Symbol.TheVariants as rule;
 ghost use Rattle.tokens_why.specs.declared.terminal.Terminal.TheVariants as t;
 ghost use Rattle.syntax_why.specs.SurfaceDeclarations.{decls as decls_of};
 ghost use Rattle.parse_decls.specs.Bodies.{IsDecl};
-ghost use Rattle.parse_decls.specs.Files.{IsFile, IsTheory, begins_theory};
+ghost use Rattle.parse_decls.specs.Files.{IsReadFile, IsTheory, begins_theory};
 
 use crate::clones::{clone_declaration, prop_kind, use_declaration};
 use crate::declaring::{
@@ -94,7 +94,7 @@ fn goes_on(source: Source, i: usize) -> bool
     !is_at(source, i, Terminal::EndWord)
 }
 
-/// A declaration, and the token behind it.
+/// A declaration, and the token after it.
 #[cycle(declarations)]
 fn declaration(alloc: Global, source: Source, i: usize) -> Result<(DeclTree, usize), AllocError>
     requires can { CanRead (lexemes source) rule.Decls i }
@@ -124,7 +124,7 @@ fn scope(alloc: Global, source: Source, i: usize) -> Result<(DeclTree, usize), A
     Ok((tree, end))
 }
 
-/// Declarations up to their `end`, and the token behind it. Only want of memory refuses.
+/// Declarations up to their `end`, and the token after it. Only want of memory refuses.
 #[cycle(declarations)]
 pub fn declarations(
     alloc: Global,
@@ -151,7 +151,7 @@ fn at_theory(source: Source, i: usize) -> bool
     is_at(source, i, Terminal::TheoryWord) || is_at(source, i, Terminal::ModuleWord)
 }
 
-/// A theory or module, and the token behind it.
+/// A theory or module, and the token after it.
 fn theory(alloc: Global, source: Source, i: usize) -> Result<(TheoryTree, usize), AllocError>
     requires can { CanRead (lexemes source) rule.File i }
     requires word { begins_theory (terminal_at (lexemes source) i) ≡ true }
@@ -174,7 +174,7 @@ fn theory(alloc: Global, source: Source, i: usize) -> Result<(TheoryTree, usize)
 ///
 /// Its places are the numbers of its tokens.
 pub fn whole_file(alloc: Global, source: Source) -> Result<File, AllocError>
-    requires { IsFile (lexemes source) }
+    requires { IsReadFile (lexemes source) }
     ensures { IfOk result (λ f.
         read (lexemes source.entry) 0 false (rule.File ∷ []) ≡ Some (file_of f, tt)) }
 {

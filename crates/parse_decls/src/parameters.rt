@@ -26,7 +26,7 @@ fn at_names(source: Source, i: usize) -> bool
     false
 }
 
-/// A parameter with names, behind its parenthesis.
+/// A parameter with names, after its parenthesis.
 fn named_param(alloc: Global, source: Source, i: usize) -> Result<(ParamTree, usize), AllocError>
     requires can { CanRead (lexemes source) rule.Pparen i }
     requires names { begins_names (lexemes source) i ≡ true }
@@ -49,7 +49,7 @@ fn named_param(alloc: Global, source: Source, i: usize) -> Result<(ParamTree, us
     Ok((param, end + 1))
 }
 
-/// A parameter, and the token behind it. Only want of memory refuses.
+/// A parameter, and the token after it. Only want of memory refuses.
 fn param(alloc: Global, source: Source, i: usize) -> Result<(ParamTree, usize), AllocError>
     requires can { CanRead (lexemes source) rule.Params i }
     requires begins { begins_atype (terminal_at (lexemes source) i) ≡ true }
@@ -80,7 +80,7 @@ fn param(alloc: Global, source: Source, i: usize) -> Result<(ParamTree, usize), 
     Ok((single, behind))
 }
 
-/// Parameters side by side, and the token behind them. Only want of memory refuses.
+/// Parameters side by side, and the token after them. Only want of memory refuses.
 pub fn params(
     alloc: Global,
     source: Source,

@@ -2,7 +2,7 @@
 ghost use Rattle.parse_decls.specs.Common.{IfOk, IfErr, rest, terminals, file_of};
 ghost use Rattle.tokens_why.specs.Tokens.{AreTokens};
 ghost use Rattle.recognise_why.specs.Depth.{IsShallow};
-ghost use Rattle.recognise_why.specs.Sources.{IsOnlyFile, IsRefusal, IsSource};
+ghost use Rattle.recognise_why.specs.Sources.{IsOnlyFile, IsSyntaxRefusal, IsSource};
 
 use crate::files::whole_file;
 use parse_terms::Source;
@@ -26,13 +26,13 @@ fn file_of_source(alloc: Global, tokens: &[Token], text: &[u8]) -> Result<File, 
 ///
 /// `tokens` are those of `text`. A refusal is `Memory`; else `TooDeep` at the first token that is nested deeper than 200; else
 /// `Syntax` at the least token such that no source begins with the tokens up to that one (the number of tokens, where they end
-/// too early), or in its place `ProgramDecl`, where that token begins a declaration of a program and a scope could stand there
+/// too early), or in its place `ProgramDecl`, where that token begins a declaration of a program and a scope could be there
 /// (Why3 manual, "Syntax": theories and declarations).
 pub fn parse(alloc: Global, tokens: &[Token], text: &[u8]) -> Result<File, SyntaxFault>
     requires { AreTokens text.now tokens.now }
     ensures file { IfOk result (λ f. IsOnlyFile (rest text.now tokens.now 0) (file_of f)) }
     ensures shallow { IfOk result (λ f. IsShallow (terminals (rest text.now tokens.now 0))) }
-    ensures refused { IfErr result (IsRefusal (rest text.now tokens.now 0)) }
+    ensures refused { IfErr result (IsSyntaxRefusal (rest text.now tokens.now 0)) }
 {
     match check_source(alloc, tokens) {
         Ok(()) => {

@@ -1,10 +1,10 @@
-// Declarations of types, where they are known to stand: each call reads one, and says where it ends.
+// Declarations of types, where they are known to be there: each call reads one, and says where it ends.
 ghost use Rattle.std.specs.Prelude.{true, ◌≡◌, ◌+◌, ◌∷◌, IfOk, map};
 ghost use Rattle.parse_decls.specs.Common.{same, algebraic_of, constructor_of, decl_of, CanRead, CanRun, terminal_at, lexemes};
 ghost use Rattle.grammar.specs.declared.symbols.Symbol.TheVariants as rule;
 ghost use Rattle.tokens_why.specs.declared.terminal.Terminal.TheVariants as t;
 ghost use Rattle.parse_decls.specs.Bodies.{IsDecl};
-ghost use Rattle.parse_decls.specs.Types.{IsAlgebraic, IsCon, IsConstructor, IsConstructors, IsNamed, begins_constructor};
+ghost use Rattle.parse_decls.specs.Types.{IsReadAlgebraic, IsCon, IsConstructor, IsConstructors, IsReadNames, begins_constructor};
 
 use outside::Seq;
 use parse_terms::{Source, argument, at_type, is_at, name_at, place, type_tree};
@@ -12,9 +12,9 @@ use std::alloc::{AllocError, Global};
 use syntax_why::{AlgTree, ConTree, DeclNode, DeclTree, Name, TypeTree};
 use tokens_why::Terminal;
 
-/// The type variables that stand side by side, and the token behind them. Only want of memory refuses.
+/// The type variables that stand side by side, and the token after them. Only want of memory refuses.
 pub fn variables(alloc: Global, source: Source, i: usize) -> Result<(Seq<Name>, usize), AllocError>
-    ensures { IfOk result (λ r. IsNamed (lexemes source.entry) i r.0 r.1) }
+    ensures { IfOk result (λ r. IsReadNames (lexemes source.entry) i r.0 r.1) }
 {
     let mut names: Vec<Name> = Vec::new(alloc);
     let mut j = i;
@@ -76,7 +76,7 @@ fn constructors(
     Ok((Seq::from_vec(cons), j))
 }
 
-/// Constructors behind an equality sign, whether a bar stands before them, and the token behind.
+/// Constructors after an equality sign, whether a bar is before them, and the token after.
 fn alternatives(
     alloc: Global,
     source: Source,
@@ -98,7 +98,7 @@ fn alternatives(
 /// An algebraic type from its name on.
 fn algebraic_type(alloc: Global, source: Source, i: usize) -> Result<(AlgTree, usize), AllocError>
     requires { CanRun (lexemes source) (λ k. rule.Take t.Lident ∷ rule.Algvars ∷ k) i }
-    ensures { IfOk result (λ r. IsAlgebraic (lexemes source.entry) i (algebraic_of r.0) r.1) }
+    ensures { IfOk result (λ r. IsReadAlgebraic (lexemes source.entry) i (algebraic_of r.0) r.1) }
 {
     let name = name_at(alloc, source, i)?;
     let (vars, j) = variables(alloc, source, i + 1)?;
@@ -112,7 +112,7 @@ fn algebraic_type(alloc: Global, source: Source, i: usize) -> Result<(AlgTree, u
     Ok((tree, end))
 }
 
-/// A declaration of a type, or of algebraic types, and the token behind it.
+/// A declaration of a type, or of algebraic types, and the token after it.
 /// Only want of memory refuses.
 pub fn type_declaration(
     alloc: Global,

@@ -1,5 +1,5 @@
 -- What follows where atoms, arguments and trees in parentheses are read.
-use Rattle.parse_terms.proofs.Common.{◌≡◌, ℕ, ◌+◌, ◌≤◌, Bool, true, false, List, [], ◌∷◌, None, refl, sym, ap, arith, Terminal, same, same_true, no_false, Lexeme, at, called, Tree, Trees, apply, group, more, none, Scoped, closing, paren, rows, find, Begun, CanRead, IsClosed, IsRead, begins_atom, is_name, names, terminal_at}
+use Rattle.parse_terms.proofs.Common.{◌≡◌, ℕ, ◌+◌, ◌≤◌, Bool, true, false, List, [], ◌∷◌, None, refl, sym, ap, arith, Terminal, same, same_true, no_false, Lexeme, at, called, SyntaxTree, SyntaxTrees, apply, group, more, none, Scoped, closed_group, paren, rows, find, Begun, CanRead, IsReadClosed, IsRead, begins_atom, is_name, is_name_at, terminal_at}
 use Rattle.tokens_why.specs.declared.terminal.Terminal.TheVariants as t
 use Rattle.grammar.specs.declared.symbols.Symbol.TheVariants as s
 use Rattle.parse_terms.proofs.Steps.{SideBySide, again, apart, done, expand, many, next, none_where, only, reread, start, unexpand}
@@ -7,10 +7,10 @@ use Rattle.parse_terms.proofs.TermSteps.{sure}
 use Rattle.parse_terms.proofs.HeadsRead.{atom_inner, head_atom_start, head_start, no_name}
 
 -- applications
-pub application_read : {xs : List Lexeme} {i : ℕ} (c : CanRead xs s.Prim i) (d : Scoped) (j : ℕ) (ts : Trees) (m : ℕ) → names xs i ≡ true → IsRead xs s.Qhead i d j → IsRead xs s.Args j ts m → IsClosed xs s.Prim i (apply (at i) (called i d.scopes d.own) ts) (apply (at i) (called i d.scopes d.own) ts) m
+pub application_read : {xs : List Lexeme} {i : ℕ} (c : CanRead xs s.Prim i) (d : Scoped) (j : ℕ) (ts : SyntaxTrees) (m : ℕ) → is_name_at xs i ≡ true → IsRead xs s.Qhead i d j → IsRead xs s.Args j ts m → IsReadClosed xs s.Prim i (apply (at i) (called i d.scopes d.own) ts) (apply (at i) (called i d.scopes d.own) ts) m
 application_read {xs} {i} c d j ts m n q r = let p = next (next (head_start c n) q) r in record { first = refl; closed = refl; is = done p (apply (at i) (called i d.scopes d.own) ts) refl (λ k us. refl) }
 
-pub name_read : {xs : List Lexeme} {i : ℕ} (c : CanRead xs s.Atom i) (d : Scoped) (j : ℕ) → names xs i ≡ true → IsRead xs s.Qhead i d j → IsClosed xs s.Atom i (apply (at i) (called i d.scopes d.own) none) (apply (at i) (called i d.scopes d.own) none) j
+pub name_read : {xs : List Lexeme} {i : ℕ} (c : CanRead xs s.Atom i) (d : Scoped) (j : ℕ) → is_name_at xs i ≡ true → IsRead xs s.Qhead i d j → IsReadClosed xs s.Atom i (apply (at i) (called i d.scopes d.own) none) (apply (at i) (called i d.scopes d.own) none) j
 name_read {xs} {i} c d j n q = let p = next (head_atom_start c n) q in record { first = refl; closed = refl; is = done p (apply (at i) (called i d.scopes d.own) none) refl (λ k us. refl) }
 
 -- arguments
@@ -28,7 +28,7 @@ atom_some _ h e = no_false h
 pub atom_none : (x : Terminal) → begins_atom x ≡ false → find (rows s.Atom) x ≡ None
 atom_none x h = none_where (rows s.Atom) begins_atom (t.Lident ∷ t.Uident ∷ t.StarName ∷ t.LParen ∷ t.Int ∷ t.TrueWord ∷ t.FalseWord ∷ t.MatchWord ∷ []) x refl refl h
 
-abbrev pub Arguments : List Lexeme → ℕ → List Tree → ℕ → Type 0
+abbrev pub Arguments : List Lexeme → ℕ → List SyntaxTree → ℕ → Type 0
 Arguments xs i es j = SideBySide s.Args s.Atom more none refl xs i es j
 
 -- atoms of one token
@@ -36,7 +36,7 @@ module _ {xs : List Lexeme} {i : ℕ} (c : CanRead xs s.Atom i) where
   named_apart : (x o d : Terminal) → is_name x o d ≡ false → (same t.Lident x ≡ false) × (same t.Uident x ≡ false) × (same t.StarName x ≡ false)
   named_apart x o d n = (apart (λ y. is_name y o d) t.Lident x refl n, apart (λ y. is_name y o d) t.Uident x refl n, apart (λ y. is_name y o d) t.StarName x refl n)
 
-  pub only_paren : names xs i ≡ false → same t.Int (terminal_at xs i) ≡ false → same t.TrueWord (terminal_at xs i) ≡ false → same t.FalseWord (terminal_at xs i) ≡ false → same t.MatchWord (terminal_at xs i) ≡ false → same t.LParen (terminal_at xs i) ≡ true
+  pub only_paren : is_name_at xs i ≡ false → same t.Int (terminal_at xs i) ≡ false → same t.TrueWord (terminal_at xs i) ≡ false → same t.FalseWord (terminal_at xs i) ≡ false → same t.MatchWord (terminal_at xs i) ≡ false → same t.LParen (terminal_at xs i) ≡ true
   only_paren n a b d f = let q = named_apart (terminal_at xs i) (terminal_at xs (i + 1)) (terminal_at xs (i + 1 + 1)) n in
       only (start c) t.LParen (t.Lident ∷ t.Uident ∷ t.StarName ∷ t.Int ∷ t.TrueWord ∷ t.FalseWord ∷ t.MatchWord ∷ []) refl refl (q.0, (q.1, (q.2, (a, (b, (d, (f, tt)))))))
 
@@ -47,19 +47,19 @@ module _ {xs : List Lexeme} {i : ℕ} (c : CanRead xs s.Atom i) where
     lparen : (x : Terminal) → same t.LParen x ≡ true → x ≡ t.LParen
     lparen x h = sym (same_true t.LParen x h)
 
-    pub inner_start : names xs i ≡ false → same t.RParen (terminal_at xs (i + 1)) ≡ false → Begun xs 1 (λ k. s.Atom ∷ k) i (λ k. s.Expr 0 ∷ s.GroupRest ∷ k) (λ k us. (closing i us.0 us.1.0, us.1.1)) (i + 1)
-    inner_start n o = reread paren_start (λ k. s.Expr 0 ∷ s.GroupRest ∷ k) (λ k us. (closing i us.0 us.1.0, us.1.1))
+    pub inner_start : is_name_at xs i ≡ false → same t.RParen (terminal_at xs (i + 1)) ≡ false → Begun xs 1 (λ k. s.Atom ∷ k) i (λ k. s.Expr 0 ∷ s.GroupRest ∷ k) (λ k us. (closed_group i us.0 us.1.0, us.1.1)) (i + 1)
+    inner_start n o = reread paren_start (λ k. s.Expr 0 ∷ s.GroupRest ∷ k) (λ k us. (closed_group i us.0 us.1.0, us.1.1))
         (λ k us e. (let q = atom_inner xs (i + 1) k us o (no_name (terminal_at xs i) (terminal_at xs (i + 1)) (terminal_at xs (i + 1 + 1)) (lparen (terminal_at xs i) l) n) e in (q.0, q.1, ap (λ m. (paren i m.0, m.1)) q.2)))
 
--- The first tree in parentheses was read, and what stands behind it.
-abbrev pub Inner : List Lexeme → ℕ → Tree → ℕ → Type 0
-Inner xs i e j = Begun xs 1 (λ k. s.Atom ∷ k) i (λ k. s.GroupRest ∷ k) (λ k us. (closing i e us.0, us.1)) j
+-- The first tree in parentheses was read, and what comes after it.
+abbrev pub Inner : List Lexeme → ℕ → SyntaxTree → ℕ → Type 0
+Inner xs i e j = Begun xs 1 (λ k. s.Atom ∷ k) i (λ k. s.GroupRest ∷ k) (λ k us. (closed_group i e us.0, us.1)) j
 
--- Trees in parentheses were read, and what stands behind them.
-abbrev pub Members : List Lexeme → ℕ → List Tree → ℕ → Type 0
+-- Trees in parentheses were read, and what comes after them.
+abbrev pub Members : List Lexeme → ℕ → List SyntaxTree → ℕ → Type 0
 Members xs i es j = Begun xs 1 (λ k. s.Atom ∷ k) i (λ k. s.More ∷ k) (λ k us. (group (at i) (many more es us.0), us.1)) j
 
-module _ (xs : List Lexeme) (i : ℕ) (e : Tree) (j : ℕ) (g : Inner xs i e j) where
+module _ (xs : List Lexeme) (i : ℕ) (e : SyntaxTree) (j : ℕ) (g : Inner xs i e j) where
   pub members_start : same t.Colon (terminal_at xs j) ≡ false → Members xs i (e ∷ []) j
   members_start n = by_test (same t.Comma (terminal_at xs j)) refl
     where

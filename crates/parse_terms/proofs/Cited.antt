@@ -2,7 +2,7 @@
 pub use Rattle.parse_terms.proofs.AtomsRead.{Members, Arguments, atom_some, inner_start, members_start, name_read, paren_start, atom_none, only_paren, application_read}
 pub use Rattle.parse_terms.proofs.ChoicesRead.{quantifier_there, separator_start, neither, Named, branching_start}
 pub use Rattle.parse_terms.proofs.ClimbRead.{prefix_start, operator_within, right_can, prim_read, climb_done, climb_more, not_start, prim_start}
-pub use Rattle.parse_terms.proofs.Common.{◌<◌, choice, binds, None, Trees, pattern_of_node-Var, Climb, IsBinder, right, lower, ◌+◌, form_of, of_z, pattern_of_node-Con, binding, rules, form_of_node-Group, Forms, pos, IsTrigger, scoped_of, lexemes, greatest, called_of, ℕ, refl, Tree, prefixed, ◌≤◌, token_at, more_forms, begins_patom, negation, patterns, subst, variable, tree_of_node-Apply, tree_of_node-Binary, tree_of_node-Cast, tree_of_node-If, tree_of_node-Let, wild, composed, quantified, more, takes_infix, append_assoc, own_of, not, begins_atom, tree_of_node-Match, tree_of_node-True, IsExpr, ◌≡◌, trees, terminal_at, alternatives, CanRead, enclosed, IsAlternative, called, value_of, ◌*◌, prec, begins_atype, branches, map, arm_of, none, truth, pattern_of_node-Wild, IsClosed, option_map, name, trigger, forms, tree_of_node-False, ◌++◌, tree_of, tree_of_node-Group, falsity, cast, to_z, Lexeme, ◌∷◌, terms_of, ends_open, triggered, op_of, IsBranch, ap, sym, Terms, op, IsRead, same, upper_called, pattern_of_node-Group, ◌&&◌, Arm, literal, group, literal_value, arith, apply, cases, length, ◌-◌, true, Bool, binary, no_forms, [], IsUpperName, ◌∙◌, form_of_node-Named, types, Some, binder_of, pattern_of, aliased, at, map-append, List, false}
+pub use Rattle.parse_terms.proofs.Common.{◌<◌, choice, binds, None, SyntaxTrees, pattern_of_node-Var, Climb, IsBinder, right, lower, ◌+◌, form_of, of_z, pattern_of_node-Con, binding, rules, form_of_node-Group, SyntaxForms, pos, IsReadTrigger, scoped_of, lexemes, greatest, called_of, ℕ, refl, SyntaxTree, prefixed, ◌≤◌, token_at, more_forms, begins_patom, negation, patterns, subst, variable, tree_of_node-Apply, tree_of_node-Binary, tree_of_node-Cast, tree_of_node-If, tree_of_node-Let, wild, composed, quantified, more, takes_infix, append_assoc, own_of, not, begins_atom, tree_of_node-Match, tree_of_node-True, IsExpr, ◌≡◌, trees, terminal_at, alternatives, CanRead, enclosed, IsAlternative, called, integer_word, ◌*◌, prec, begins_atype, branches, map, arm_of, none, truth, pattern_of_node-Wild, IsReadClosed, option_map, name, trigger, forms, tree_of_node-False, ◌++◌, tree_of, tree_of_node-Group, falsity, cast, to_z, Lexeme, ◌∷◌, terms_of, ends_open, triggered, op_of, IsBranch, ap, sym, Terms, op, IsRead, same, upper_called, pattern_of_node-Group, ◌&&◌, Arm, literal, group, literal_value, arith, apply, cases, length, ◌-◌, true, Bool, binary, no_forms, [], IsUpperName, ◌∙◌, form_of_node-Named, types, Some, binder_of, pattern_of, aliased, at, map-append, List, false}
 pub use Rattle.parse_terms.proofs.FormsRead.{group_part_start, atom_start, atype_some, forms_many, constructor_start, Types, Patterns, PatternList, first_pattern_start, patom_some, patom_none, TypeList, named_start, first_type_start, pattern_group_start, named_part_start, atype_none, constant_start, group_start}
 pub use Rattle.parse_terms.proofs.HeadsRead.{plain_start}
 pub use Rattle.parse_terms.proofs.MatchRead.{Branched, Matched, patterned_more, alternative_done, Alternatives}

@@ -1,5 +1,5 @@
 -- What follows where operators are read.
-use Rattle.parse_terms.proofs.Common.{◌≡◌, ℕ, ◌+◌, ◌<◌, ◌⊎◌, inl, inr, Bool, true, false, not, ◌&&◌, nat_le, List, [], ◌∷◌, ◌++◌, length, Some, None, refl, sym, ap, ◌∙◌, subst, arith, Terminal, is_infix, is_prefix, prec, right, Symbol, operators, same, same_true, Lexeme, at, Tree, ends_open, negation, op, prefixed, Chain, attach, link, stop, joined, Vals, extend, expr_own, link_row, prim_rows, takes_op, rows, find, read, first_row, is_other, passes, stands, expr_not, expr_prefix, Begun, CanRead, Climb, IsClosed, IsExpr, rest, takes_infix, terminal_at, token_at}
+use Rattle.parse_terms.proofs.Common.{◌≡◌, ℕ, ◌+◌, ◌<◌, ◌⊎◌, inl, inr, Bool, true, false, not, ◌&&◌, nat_le, List, [], ◌∷◌, ◌++◌, length, Some, None, refl, sym, ap, ◌∙◌, subst, arith, Terminal, is_infix, is_prefix, prec, right, Symbol, operators, same, same_true, Lexeme, at, SyntaxTree, ends_open, negation, op, prefixed, Chain, attach, link, stop, joined_trees, Vals, extend, expr_own, link_row, prim_rows, takes_op, rows, find, read, first_row, is_other, passes, stands, expr_not, expr_prefix, Begun, CanRead, Climb, IsReadClosed, IsExpr, lexemes_from, takes_infix, terminal_at, token_at}
 use Rattle.tokens_why.specs.declared.terminal.Terminal.TheVariants as t
 use Rattle.grammar.specs.declared.symbols.Symbol.TheVariants as s
 use Rattle.reading.proofs.Operators.{tail_found, tail_none}
@@ -40,13 +40,13 @@ module _ {xs : List Lexeme} {m i : ℕ} (c : CanRead xs (s.Expr m) i) where
     pub prim_start : Begun xs 0 (λ k. s.Expr m ∷ k) i (λ k. s.Prim ∷ s.Tail m 9 ∷ k) (λ k us. (attach us.0 us.1.0, us.1.1)) i
     prim_start = extended_due (start c) s.Prim (s.Tail m 9 ∷ []) (λ v vs. attach v vs.0) (expr_own m (nat_le m 3)) refl refl (own_none m (nat_le m 3) (terminal_at xs i) n p f l a x)
 
-    pub prim_read : (e : Tree) (j : ℕ) → IsClosed xs s.Prim i e e j → Climb xs m i e 9 j
+    pub prim_read : (e : SyntaxTree) (j : ℕ) → IsReadClosed xs s.Prim i e e j → Climb xs m i e 9 j
     prim_read e j w = let g = next prim_start w.is in let h = g.ahead in record {
       ahead = omega arith;
       within = g.within;
       first = w.first;
-      can = (let q = g.reads g.can.behind g.can.values g.can.reads in (g.can.behind, q.0, subst (λ b. read (rest xs j) j b (s.Tail m 9 ∷ g.can.behind) ≡ Some q.0) (sym w.closed) q.1));
-      reads = λ k vs y. (let q = g.reads k vs y in (q.0.0, ap (λ v. v.0) (sym q.2), subst (λ b. read (rest xs j) j b (s.Tail m 9 ∷ k) ≡ Some (q.0.0, vs.1)) (sym w.closed) (q.1 ∙ ap (λ v. Some (q.0.0, v.1)) q.2)));
+      can = (let q = g.reads g.can.behind g.can.values g.can.reads in (g.can.behind, q.0, subst (λ b. read (lexemes_from xs j) j b (s.Tail m 9 ∷ g.can.behind) ≡ Some q.0) (sym w.closed) q.1));
+      reads = λ k vs y. (let q = g.reads k vs y in (q.0.0, ap (λ v. v.0) (sym q.2), subst (λ b. read (lexemes_from xs j) j b (s.Tail m 9 ∷ k) ≡ Some (q.0.0, vs.1)) (sym w.closed) (q.1 ∙ ap (λ v. Some (q.0.0, v.1)) q.2)));
     }
 
 pub unopen : (a : Bool) → not a ≡ true → a ≡ false
@@ -65,13 +65,13 @@ either : (o t : Bool) → (not o && t) ≡ false → (o ≡ true) ⊎ ((o ≡ fa
 either true t h = inl refl
 either false t h = inr (refl, h)
 
-module _ (xs : List Lexeme) (m i : ℕ) (e : Tree) (u j : ℕ) (g : Climb xs m i e u j) where
+module _ (xs : List Lexeme) (m i : ℕ) (e : SyntaxTree) (u j : ℕ) (g : Climb xs m i e u j) where
   module _ (h : (not (ends_open e) && takes_infix m u (terminal_at xs j)) ≡ true) where
     follows : (ends_open e ≡ false) × (is_infix (terminal_at xs j) ≡ true) × (takes_op m u (terminal_at xs j) ≡ true)
     follows = let a = and_cases (not (ends_open e)) (takes_infix m u (terminal_at xs j)) h in let b = and_cases (is_infix (terminal_at xs j)) (takes_op m u (terminal_at xs j)) a.1 in (unopen (ends_open e) a.0, b.0, b.1)
 
-    pub link_split : (k : List Symbol) (vs : Chain × Vals k) → read (rest xs j) j (ends_open e) (s.Tail m u ∷ k) ≡ Some vs → (us : Tree × (Chain × Vals k)) × (read (rest xs (j + 1)) (j + 1) false (s.Expr (right (terminal_at xs j)) ∷ s.Tail m (prec (terminal_at xs j)) ∷ k) ≡ Some us) × ((link (op j (terminal_at xs j) (token_at xs j).text) us.0 us.1.0, us.1.1) ≡ vs)
-    link_split k vs q = let f = follows in first_row xs j (s.Tail m u) (link_row m u (terminal_at xs j)) k vs (stands xs j (terminal_at xs j) refl (infix_some (terminal_at xs j) f.1)) (tail_found m u operators (terminal_at xs j) (infix_among (terminal_at xs j) f.1) f.2) (subst (λ b. read (rest xs j) j b (s.Tail m u ∷ k) ≡ Some vs) f.0 q)
+    pub link_split : (k : List Symbol) (vs : Chain × Vals k) → read (lexemes_from xs j) j (ends_open e) (s.Tail m u ∷ k) ≡ Some vs → (us : SyntaxTree × (Chain × Vals k)) × (read (lexemes_from xs (j + 1)) (j + 1) false (s.Expr (right (terminal_at xs j)) ∷ s.Tail m (prec (terminal_at xs j)) ∷ k) ≡ Some us) × ((link (op j (terminal_at xs j) (token_at xs j).text) us.0 us.1.0, us.1.1) ≡ vs)
+    link_split k vs q = let f = follows in first_row xs j (s.Tail m u) (link_row m u (terminal_at xs j)) k vs (stands xs j (terminal_at xs j) refl (infix_some (terminal_at xs j) f.1)) (tail_found m u operators (terminal_at xs j) (infix_among (terminal_at xs j) f.1) f.2) (subst (λ b. read (lexemes_from xs j) j b (s.Tail m u ∷ k) ≡ Some vs) f.0 q)
 
     pub operator_within : j < length xs
     operator_within = stands xs j (terminal_at xs j) refl (infix_some (terminal_at xs j) follows.1)
@@ -79,7 +79,7 @@ module _ (xs : List Lexeme) (m i : ℕ) (e : Tree) (u j : ℕ) (g : Climb xs m i
     pub right_can : CanRead xs (s.Expr (right (terminal_at xs j))) (j + 1)
     right_can = let q = link_split g.can.0 g.can.1 g.can.2 in let w = operator_within in record { within = omega arith; behind = s.Tail m (prec (terminal_at xs j)) ∷ g.can.0; values = q.0; reads = q.1 }
 
-    pub climb_more : (f : Tree) (n : ℕ) → IsExpr xs (right (terminal_at xs j)) (j + 1) f n → Climb xs m i (joined e (op j (terminal_at xs j) (token_at xs j).text) f) (prec (terminal_at xs j)) n
+    pub climb_more : (f : SyntaxTree) (n : ℕ) → IsExpr xs (right (terminal_at xs j)) (j + 1) f n → Climb xs m i (joined_trees e (op j (terminal_at xs j) (token_at xs j).text) f) (prec (terminal_at xs j)) n
     climb_more f n r = let a = g.ahead in let b = r.ahead in record {
       ahead = omega arith;
       within = r.within;
@@ -92,6 +92,6 @@ module _ (xs : List Lexeme) (m i : ℕ) (e : Tree) (u j : ℕ) (g : Climb xs m i
   pub climb_done : (not (ends_open e) && takes_infix m u (terminal_at xs j)) ≡ false → IsExpr xs m i e j
   climb_done h = record { ahead = g.ahead; within = g.within; reads = λ k vs y. (let p = g.reads k vs y in let q = passed_over (either (ends_open e) (takes_infix m u (terminal_at xs j)) h) k (p.0, vs.1) p.2 in (p.1 ∙ ap (attach e) q.0, q.1)) }
     where
-      passed_over : (ends_open e ≡ true) ⊎ ((ends_open e ≡ false) × (takes_infix m u (terminal_at xs j) ≡ false)) → (k : List Symbol) (vs : Chain × Vals k) → read (rest xs j) j (ends_open e) (s.Tail m u ∷ k) ≡ Some vs → (vs.0 ≡ stop) × (read (rest xs j) j (ends_open e) k ≡ Some vs.1)
-      passed_over (inl o) k vs q = let z = silent (rest xs j) j m u k vs (subst (λ b. read (rest xs j) j b (s.Tail m u ∷ k) ≡ Some vs) o q) in (z.0, subst (λ b. read (rest xs j) j b k ≡ Some vs.1) (sym o) z.1)
-      passed_over (inr o) k vs q = let z = passes xs j (s.Tail m u) stop k vs refl refl (tail_none m u operators (terminal_at xs j) refl (no_takes (is_infix (terminal_at xs j)) (takes_op m u (terminal_at xs j)) o.1)) (subst (λ b. read (rest xs j) j b (s.Tail m u ∷ k) ≡ Some vs) o.0 q) in (z.0, subst (λ b. read (rest xs j) j b k ≡ Some vs.1) (sym o.0) z.1)
+      passed_over : (ends_open e ≡ true) ⊎ ((ends_open e ≡ false) × (takes_infix m u (terminal_at xs j) ≡ false)) → (k : List Symbol) (vs : Chain × Vals k) → read (lexemes_from xs j) j (ends_open e) (s.Tail m u ∷ k) ≡ Some vs → (vs.0 ≡ stop) × (read (lexemes_from xs j) j (ends_open e) k ≡ Some vs.1)
+      passed_over (inl o) k vs q = let z = silent (lexemes_from xs j) j m u k vs (subst (λ b. read (lexemes_from xs j) j b (s.Tail m u ∷ k) ≡ Some vs) o q) in (z.0, subst (λ b. read (lexemes_from xs j) j b k ≡ Some vs.1) (sym o) z.1)
+      passed_over (inr o) k vs q = let z = passes xs j (s.Tail m u) stop k vs refl refl (tail_none m u operators (terminal_at xs j) refl (no_takes (is_infix (terminal_at xs j)) (takes_op m u (terminal_at xs j)) o.1)) (subst (λ b. read (lexemes_from xs j) j b (s.Tail m u ∷ k) ≡ Some vs) o.0 q) in (z.0, subst (λ b. read (lexemes_from xs j) j b k ≡ Some vs.1) (sym o.0) z.1)

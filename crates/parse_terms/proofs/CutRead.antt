@@ -1,9 +1,9 @@
 -- The tokens of a text up to a place, as a source.
-use Rattle.parse_terms.proofs.Common.{◌≡◌, ℕ, ◌+◌, zero, suc, false, List, [], ◌∷◌, length, map, take, drop, slice_get, Option, Some, None, refl, sym, ap, ◌∙◌, subst, arith, length-map, length-take, Token, AreTokens, Reads, whole, Lexeme, lexeme, Tree, read, rest}
+use Rattle.parse_terms.proofs.Common.{◌≡◌, ℕ, ◌+◌, zero, suc, false, List, [], ◌∷◌, length, map, take, drop, slice_get, Option, Some, None, refl, sym, ap, ◌∙◌, subst, arith, length-map, length-take, Token, AreTokens, Reads, whole, Lexeme, lexeme, SyntaxTree, read, lexemes_from}
 use Rattle.std.specs.List.{take-map}
 use Rattle.grammar.specs.declared.symbols.Symbol.TheVariants as s
-use Rattle.recognise_why.specs.Expressions.{EndsAt, IsLongestAt}
-use Rattle.parse_terms.specs.Whole.{IsExpression}
+use Rattle.recognise_why.specs.Expressions.{EndsAt, IsLongestTreeAt}
+use Rattle.parse_terms.specs.Whole.{IsReadExpression}
 use Rattle.parse_terms.specs.Texts.{HasText, HasTexts}
 
 texts_from : (text : List ℕ) (at : ℕ) (ts : List Token) → Reads text whole at ts → HasTexts text ts
@@ -26,7 +26,7 @@ taken (suc n) (t ∷ ts) (suc i) k e = taken n ts i k e
 pub front_texts : (text : List ℕ) (ts : List Token) (n : ℕ) → AreTokens text ts → HasTexts text (take n ts)
 front_texts text ts n r i k e = has_texts text ts r i k (taken n ts i k e)
 
--- what stands behind a place of the tokens before another
+-- what comes after a place of the tokens before another
 front : (f : Token → Lexeme) (i n : ℕ) (ts : List Token) → drop i (map f (take (i + n) ts)) ≡ take n (map f (drop i ts))
 front f zero n ts = let e : zero + n ≡ n = omega arith in ap (λ v. map f (take v ts)) e ∙ sym (take-map f n ts)
 front f (suc i) n [] = let e : suc i + n ≡ suc (i + n) = omega arith in ap (λ v. drop (suc i) (map f (take v []))) e ∙ nothing n
@@ -36,7 +36,7 @@ front f (suc i) n [] = let e : suc i + n ≡ suc (i + n) = omega arith in ap (λ
     nothing (suc n) = refl
 front f (suc i) n (t ∷ ts) = let e : suc i + n ≡ suc (i + n) = omega arith in ap (λ v. drop (suc i) (map f (take v (t ∷ ts)))) e ∙ front f i n ts
 
-abbrev value_or : Tree → Option (Tree × Unit {0}) → Tree
+abbrev value_or : SyntaxTree → Option (SyntaxTree × Unit {0}) → SyntaxTree
 value_or e None = e
 value_or e (Some v) = v.0
 
@@ -44,15 +44,15 @@ module _ (text : List ℕ) (ts : List Token) (from to : ℕ) (h : EndsAt text ts
   abbrev pub cut : List Lexeme
   cut = map (lexeme text) (take to ts)
 
-  reads_cut : read (rest cut from) from false (s.Expr 0 ∷ []) ≡ Some (h.tree, tt)
-  reads_cut = ap (λ v. read (rest (map (lexeme text) (take v ts)) from) from false (s.Expr 0 ∷ [])) h.longest.end ∙ ap (λ v. read v from false (s.Expr 0 ∷ [])) (front (lexeme text) from h.longest.count ts) ∙ h.reads
+  reads_cut : read (lexemes_from cut from) from false (s.Expr 0 ∷ []) ≡ Some (h.tree, tt)
+  reads_cut = ap (λ v. read (lexemes_from (map (lexeme text) (take v ts)) from) from false (s.Expr 0 ∷ [])) h.longest.end ∙ ap (λ v. read v from false (s.Expr 0 ∷ [])) (front (lexeme text) from h.longest.count ts) ∙ h.reads
 
-  pub is_cut : IsExpression cut from
+  pub is_cut : IsReadExpression cut from
   is_cut = record {
     within = (let n : length cut ≡ length (take to ts) = length-map (take to ts) (lexeme text) in let m = length-take to ts in let w = h.within in let e = h.longest.end in omega (arith, n, m, w, e));
     value = (h.tree, tt);
     reads = reads_cut;
   }
 
-  pub longest_cut : (e : Tree) → read (rest cut from) from false (s.Expr 0 ∷ []) ≡ Some (e, tt) → IsLongestAt text ts from e to
-  longest_cut e x = subst (λ v. IsLongestAt text ts from v to) (ap (value_or e) (sym reads_cut ∙ x)) h.longest
+  pub longest_cut : (e : SyntaxTree) → read (lexemes_from cut from) from false (s.Expr 0 ∷ []) ≡ Some (e, tt) → IsLongestTreeAt text ts from e to
+  longest_cut e x = subst (λ v. IsLongestTreeAt text ts from v to) (ap (value_or e) (sym reads_cut ∙ x)) h.longest

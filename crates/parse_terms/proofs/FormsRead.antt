@@ -1,10 +1,10 @@
 -- What follows where types and patterns are read.
-use Rattle.parse_terms.proofs.Common.{◌≡◌, ℕ, ◌+◌, Bool, true, false, List, [], ◌∷◌, None, refl, ap, arith, Terminal, same, no_false, Lexeme, at, Form, called, composed, enclosed, lower, more_forms, no_forms, forms, named_at, upper_called, row, rows, find, Begun, CanRead, begins_atype, begins_patom, terminal_at, token_at}
+use Rattle.parse_terms.proofs.Common.{◌≡◌, ℕ, ◌+◌, Bool, true, false, List, [], ◌∷◌, None, refl, ap, arith, Terminal, same, no_false, Lexeme, at, SyntaxForm, called, composed, enclosed, lower, more_forms, no_forms, forms, named_at, upper_called, row, rows, find, Begun, CanRead, begins_atype, begins_patom, terminal_at, token_at}
 use Rattle.tokens_why.specs.declared.terminal.Terminal.TheVariants as t
 use Rattle.grammar.specs.declared.symbols.Symbol.TheVariants as s
 use Rattle.parse_terms.proofs.Steps.{SideBySide, again, expand, extended_due, many, missed, none_where, only, start, unexpand}
 
-pub forms_many : (fs : List Form) → many more_forms fs no_forms ≡ forms fs
+pub forms_many : (fs : List SyntaxForm) → many more_forms fs no_forms ≡ forms fs
 forms_many [] = refl
 forms_many (f ∷ fs) = ap (more_forms f) (forms_many fs)
 
@@ -46,11 +46,11 @@ atype_some _ h e = no_false h
 pub atype_none : (x : Terminal) → begins_atype x ≡ false → find (rows s.Atype) x ≡ None
 atype_none x h = none_where (rows s.Atype) begins_atype (t.TyVar ∷ t.Lident ∷ t.Uident ∷ t.LParen ∷ []) x refl refl h
 
-abbrev pub Types : List Lexeme → ℕ → List Form → ℕ → Type 0
+abbrev pub Types : List Lexeme → ℕ → List SyntaxForm → ℕ → Type 0
 Types xs i fs j = SideBySide s.Targs s.Atype more_forms no_forms refl xs i fs j
 
 -- types in parentheses
-abbrev pub TypeList : List Lexeme → ℕ → List Form → ℕ → Type 0
+abbrev pub TypeList : List Lexeme → ℕ → List SyntaxForm → ℕ → Type 0
 TypeList xs i fs j = Begun xs 1 (λ k. s.Ttuple ∷ k) i (λ k. s.Tmore ∷ k) (λ k us. (many more_forms fs us.0, us.1)) j
 
 module _ {xs : List Lexeme} {i : ℕ} (c : CanRead xs s.Ttuple i) where
@@ -91,11 +91,11 @@ patom_some _ h e = no_false h
 pub patom_none : (x : Terminal) → begins_patom x ≡ false → find (rows s.Patom) x ≡ None
 patom_none x h = none_where (rows s.Patom) begins_patom (t.Wild ∷ t.Lident ∷ t.Uident ∷ t.LParen ∷ []) x refl refl h
 
-abbrev pub Patterns : List Lexeme → ℕ → List Form → ℕ → Type 0
+abbrev pub Patterns : List Lexeme → ℕ → List SyntaxForm → ℕ → Type 0
 Patterns xs i fs j = SideBySide s.Patoms s.Patom more_forms no_forms refl xs i fs j
 
 -- patterns in parentheses
-abbrev pub PatternList : List Lexeme → ℕ → List Form → ℕ → Type 0
+abbrev pub PatternList : List Lexeme → ℕ → List SyntaxForm → ℕ → Type 0
 PatternList xs i fs j = Begun xs 1 (λ k. s.Ptuple ∷ k) i (λ k. s.Pmore ∷ k) (λ k us. (many more_forms fs us.0, us.1)) j
 
 module _ {xs : List Lexeme} {i : ℕ} (c : CanRead xs s.Ptuple i) where

@@ -70,7 +70,7 @@ module _ (xs : List Lexeme) (i : ℕ) (qs : List Word) (j : ℕ) (g : TypeScopes
       scoped : List Word → Word → Dotted
       scoped vs w = record { scopes = vs; last = w }
 
--- names of constructors in patterns, behind their first word
+-- names of constructors in patterns, after their first word
 beyond_more : (ws : List Word) (w : Word) (d : Option Dotted) → beyond ws (Some (scope_on w d)) ≡ beyond (ws ++ w ∷ []) d
 beyond_more [] w d = refl
 beyond_more (v ∷ ws) w d = ap (λ u. Some (scope_on v u)) (beyond_more ws w d)

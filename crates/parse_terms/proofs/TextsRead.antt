@@ -63,7 +63,7 @@ pub value_there : (z : Source) (i : ℕ) (k : Token) → i < length z.tokens.now
 value_there z i k h e n = let l = lexeme_at z i k h e in let x : terminal_of k.kind ≡ t.Int = ap (λ v. v.terminal) (sym l) ∙ sym (same_true t.Int (terminal_at (lexemes z) i) n) in
     ((z.texts i k e).fits (int_kind k.kind x), sym (ap (λ y. said y (text_of z.text.now k)) x) ∙ ap (λ v. v.text) (sym l))
 
--- what a text that stands at a token names
+-- what a text that is at a token names
 module _ {xs : List Lexeme} {i : ℕ} {w : Word} (h : IsTextAt xs i w) where
   at_terminal : (x : Terminal) → same x (terminal_at xs i) ≡ true → string_terminal w ≡ x
   at_terminal x e = h.terminal ∙ sym (same_true x (terminal_at xs i) e)

@@ -2,14 +2,14 @@
 pub use Rattle.std.specs.Prelude.{IfErr, IfOk}
 pub use Rattle.tokens_why.specs.Alphabet.{same}
 pub use Rattle.grammar.specs.declared.symbols.Symbol.TheVariants.{Opname, TypeOf, Qlid, Atype, Ttuple, Qhead, Targs, Quids}
-pub use Rattle.reading.specs.Parts.{Chain, OpName, Dotted, named_at, scope_on, first_of, Scoped, own_op, attach, upper_called}
+pub use Rattle.reading.specs.Parts.{Chain, OperatorName, Dotted, named_at, scope_on, first_token, Scoped, own_op, attach, upper_called}
 pub use Rattle.reading.specs.Reads.{from}
 pub use Rattle.reading.specs.Values.{read, blank}
-pub use Rattle.syntax_why.specs.Forms.{Forms, Form, called, lower, more_forms, Own, Called}
+pub use Rattle.syntax_why.specs.Forms.{SyntaxForms, SyntaxForm, called, lower, more_forms, Own, Called}
 pub use Rattle.syntax_why.specs.Lexeme.{Word, said, name, Lexeme, lexeme}
-pub use Rattle.syntax_why.specs.Surface.{arm_of, own_of, terms_of, binder_of, form_of, types, pattern_of, tree_of, patterns, called_of, forms, value_of, op_of, trees, Arm}
-pub use Rattle.syntax_why.specs.Trees.{binds, Binder, Trigger, literal, ends_open, op, Tree}
+pub use Rattle.syntax_why.specs.Surface.{arm_of, own_of, terms_of, binder_of, form_of, types, pattern_of, tree_of, patterns, called_of, forms, integer_word, op_of, trees, Arm}
+pub use Rattle.syntax_why.specs.Trees.{binds, TypedBinder, SyntaxTrigger, literal, ends_open, op, SyntaxTree}
 pub use Rattle.syntax_why.specs.declared.names.Name.{Name}
 pub use Rattle.tokens_why.specs.Operators.{is_operator, is_prefix, is_infix}
-pub use Rattle.tokens_why.specs.Tokens.{Fits, AreTokens, text_of}
+pub use Rattle.tokens_why.specs.Tokens.{LiteralFits, AreTokens, text_of}
 pub use Rattle.tokens_why.specs.declared.terminal.Terminal.TheVariants.{Dot, Int, Lident, Uident}

@@ -1,6 +1,6 @@
 -- What is read as a name.
 use Rattle.std.specs.Prelude.{ℕ, ◌+◌, ◌≡◌, List, Option}
-use Rattle.parse_terms.specs.Common.{Lexeme, Called, Own, own_of, Dotted, OpName, Scoped, own_op, upper_called}
+use Rattle.parse_terms.specs.Common.{Lexeme, Called, Own, own_of, Dotted, OperatorName, Scoped, own_op, upper_called}
 use Rattle.grammar.specs.declared.symbols.Symbol.TheVariants as s
 use Rattle.syntax_why.specs.declared.names.QName.{QName}
 use Rattle.parse_terms.specs.Reading.{IsRead, token_at}
@@ -8,13 +8,13 @@ use Rattle.parse_terms.specs.Reading.{IsRead, token_at}
 abbrev pub scoped_of : QName → Scoped
 scoped_of q = record { scopes = q.scopes; own = own_of q.style q.text }
 
--- What is read behind a parenthesis as an operator's name is this own name.
+-- What is read after a parenthesis as an operator's name is this own name.
 pub record IsOperatorName (xs : List Lexeme) (i : ℕ) (o : Own) (j : ℕ) : Type 0 where
-  pub name : OpName
+  pub name : OperatorName
   pub named : own_op name.prefix name.op ≡ o
   pub is : IsRead xs s.Opname i name j
 
--- What is read behind a name's first word makes it this name.
+-- What is read after a name's first word makes it this name.
 pub record IsUpperName (xs : List Lexeme) (i : ℕ) (c : Called) (j : ℕ) : Type 0 where
   pub behind : Option Dotted
   pub named : upper_called i (token_at xs i).text behind ≡ c

@@ -1,6 +1,6 @@
 -- What is read where in a list of tokens.
 use Rattle.std.specs.Prelude.{ℕ, ◌+◌, ◌≡◌, ◌≤◌, ◌<◌, Bool, true, false, ◌&&◌, List, [], ◌∷◌, length, Option, Some, None}
-use Rattle.parse_terms.specs.Common.{Lexeme, Word, is_infix, is_operator, Tree, ends_open, Chain, Dotted, attach, first_of, scope_on, blank, read}
+use Rattle.parse_terms.specs.Common.{Lexeme, Word, is_infix, is_operator, SyntaxTree, ends_open, Chain, Dotted, attach, first_token, scope_on, blank, read}
 use Rattle.tokens_why.specs.declared.terminal.Terminal.{Terminal}
 use Rattle.tokens_why.specs.declared.terminal.Terminal.TheVariants as t
 use Rattle.grammar.specs.declared.symbols.Symbol.{Symbol}
@@ -9,8 +9,8 @@ use Rattle.reading.specs.Row.{Val, Vals}
 use Rattle.reading.specs.Rows.{takes_op}
 pub use Rattle.reading.specs.Reads.{from, nowhere, terminal_at, token_at}
 
-abbrev pub rest : List Lexeme → ℕ → List Lexeme
-rest xs i = from xs i
+abbrev pub lexemes_from : List Lexeme → ℕ → List Lexeme
+lexemes_from xs i = from xs i
 
 -- the least number of tokens that are read as a symbol, if it is not more than one
 abbrev pub least_of : {A : Type 0} → Option A → ℕ
@@ -20,12 +20,12 @@ least_of None = 1
 abbrev pub least : Symbol → ℕ
 least s = least_of (blank s)
 
--- Something stands at a token that is read as these symbols, and then as others.
+-- Something is at a token that is read as these symbols, and then as others.
 pub record CanRun (xs : List Lexeme) (from : List Symbol → List Symbol) (i : ℕ) : Type 0 where
   pub within : i ≤ length xs
   pub behind : List Symbol
   pub values : Vals (from behind)
-  pub reads : read (rest xs i) i false (from behind) ≡ Some values
+  pub reads : read (lexemes_from xs i) i false (from behind) ≡ Some values
 
 abbrev pub CanRead : List Lexeme → Symbol → ℕ → Type 0
 CanRead xs s i = CanRun xs (λ k. s ∷ k) i
@@ -34,39 +34,39 @@ CanRead xs s i = CanRun xs (λ k. s ∷ k) i
 pub record IsRead (xs : List Lexeme) (s : Symbol) (i : ℕ) (v : Val s) (j : ℕ) : Type 0 where
   pub ahead : i + least s ≤ j
   pub within : j ≤ length xs
-  pub reads : (k : List Symbol) (vs : Val s × Vals k) → read (rest xs i) i false (s ∷ k) ≡ Some vs → (vs.0 ≡ v) × (read (rest xs j) j false k ≡ Some vs.1)
+  pub reads : (k : List Symbol) (vs : Val s × Vals k) → read (lexemes_from xs i) i false (s ∷ k) ≡ Some vs → (vs.0 ≡ v) × (read (lexemes_from xs j) j false k ≡ Some vs.1)
 
 -- What is read as symbols goes on, at least n tokens further, as others, whose values make theirs.
 pub record Begun (xs : List Lexeme) (n : ℕ) (from : List Symbol → List Symbol) (i : ℕ) (to : List Symbol → List Symbol) (act : (k : List Symbol) → Vals (to k) → Vals (from k)) (j : ℕ) : Type 0 where
   pub ahead : i + n ≤ j
   pub within : j ≤ length xs
   pub can : CanRun xs from i
-  pub reads : (k : List Symbol) (vs : Vals (from k)) → read (rest xs i) i false (from k) ≡ Some vs → (us : Vals (to k)) × (read (rest xs j) j false (to k) ≡ Some us) × (act k us ≡ vs)
+  pub reads : (k : List Symbol) (vs : Vals (from k)) → read (lexemes_from xs i) i false (from k) ≡ Some vs → (us : Vals (to k)) × (read (lexemes_from xs j) j false (to k) ≡ Some us) × (act k us ≡ vs)
 
--- What is read as an expression is the tree, and goes on at a further token; behind a tree that ends open the tails are silent.
-pub record IsExpr (xs : List Lexeme) (m i : ℕ) (e : Tree) (j : ℕ) : Type 0 where
+-- What is read as an expression is the tree, and goes on at a further token; after a tree that ends open the tails are silent.
+pub record IsExpr (xs : List Lexeme) (m i : ℕ) (e : SyntaxTree) (j : ℕ) : Type 0 where
   pub ahead : i < j
   pub within : j ≤ length xs
-  pub reads : (k : List Symbol) (vs : Tree × Vals k) → read (rest xs i) i false (s.Expr m ∷ k) ≡ Some vs → (vs.0 ≡ e) × (read (rest xs j) j (ends_open e) k ≡ Some vs.1)
+  pub reads : (k : List Symbol) (vs : SyntaxTree × Vals k) → read (lexemes_from xs i) i false (s.Expr m ∷ k) ≡ Some vs → (vs.0 ≡ e) × (read (lexemes_from xs j) j (ends_open e) k ≡ Some vs.1)
 
--- The same of a tree behind which operators may follow, the tree binding so tightly.
-pub record Climb (xs : List Lexeme) (m i : ℕ) (e : Tree) (u j : ℕ) : Type 0 where
+-- The same of a tree after which operators may follow, the tree binding so tightly.
+pub record Climb (xs : List Lexeme) (m i : ℕ) (e : SyntaxTree) (u j : ℕ) : Type 0 where
   pub ahead : i < j
   pub within : j ≤ length xs
-  pub first : first_of e ≡ i
-  pub can : (k : List Symbol) × (vs : Chain × Vals k) × (read (rest xs j) j (ends_open e) (s.Tail m u ∷ k) ≡ Some vs)
-  pub reads : (k : List Symbol) (vs : Tree × Vals k) → read (rest xs i) i false (s.Expr m ∷ k) ≡ Some vs → (c : Chain) × (vs.0 ≡ attach e c) × (read (rest xs j) j (ends_open e) (s.Tail m u ∷ k) ≡ Some (c, vs.1))
+  pub first : first_token e ≡ i
+  pub can : (k : List Symbol) × (vs : Chain × Vals k) × (read (lexemes_from xs j) j (ends_open e) (s.Tail m u ∷ k) ≡ Some vs)
+  pub reads : (k : List Symbol) (vs : SyntaxTree × Vals k) → read (lexemes_from xs i) i false (s.Expr m ∷ k) ≡ Some vs → (c : Chain) × (vs.0 ≡ attach e c) × (read (lexemes_from xs j) j (ends_open e) (s.Tail m u ∷ k) ≡ Some (c, vs.1))
 
--- What is read as an application or an atom is the tree, which stands there and does not end open.
-pub record IsClosed (xs : List Lexeme) (s : Symbol) (i : ℕ) (v : Val s) (e : Tree) (j : ℕ) : Type 0 where
-  pub first : first_of e ≡ i
+-- What is read as an application or an atom is the tree, which is there and does not end open.
+pub record IsReadClosed (xs : List Lexeme) (s : Symbol) (i : ℕ) (v : Val s) (e : SyntaxTree) (j : ℕ) : Type 0 where
+  pub first : first_token e ≡ i
   pub closed : ends_open e ≡ false
   pub is : IsRead xs s i v j
 
 abbrev pub takes_infix : ℕ → ℕ → Terminal → Bool
 takes_infix m u o = is_infix o && takes_op m u o
 
--- the words of a name behind its first one
+-- the words of a name after its first one
 abbrev pub beyond : List Word → Option Dotted → Option Dotted
 beyond [] d = d
 beyond (w ∷ ws) d = Some (scope_on w (beyond ws d))
@@ -109,5 +109,5 @@ is_name t.StarName o c = true
 is_name t.LParen o c = is_operator o && ends_name c
 is_name _ o c = false
 
-abbrev pub names : List Lexeme → ℕ → Bool
-names xs i = is_name (terminal_at xs i) (terminal_at xs (i + 1)) (terminal_at xs (i + 1 + 1))
+abbrev pub is_name_at : List Lexeme → ℕ → Bool
+is_name_at xs i = is_name (terminal_at xs i) (terminal_at xs (i + 1)) (terminal_at xs (i + 1 + 1))

@@ -1,10 +1,10 @@
 -- Tokens that are one term or formula.
 use Rattle.std.specs.Prelude.{ℕ, ◌≡◌, ◌≤◌, false, List, [], ◌∷◌, Some, length}
-use Rattle.parse_terms.specs.Common.{Lexeme, Tree, from, read}
+use Rattle.parse_terms.specs.Common.{Lexeme, SyntaxTree, from, read}
 use Rattle.grammar.specs.declared.symbols.Symbol.TheVariants as s
 
 -- The tokens from a place on are read as one expression.
-pub record IsExpression (xs : List Lexeme) (i : ℕ) : Type 0 where
+pub record IsReadExpression (xs : List Lexeme) (i : ℕ) : Type 0 where
   pub within : i ≤ length xs
-  pub value : Tree × Unit {0}
+  pub value : SyntaxTree × Unit {0}
   pub reads : read (from xs i) i false (s.Expr 0 ∷ []) ≡ Some value

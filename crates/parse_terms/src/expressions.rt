@@ -1,12 +1,12 @@
-// Terms and formulas, where they are known to stand: each call reads one, and says where it ends.
+// Terms and formulas, where they are known to be there: each call reads one, and says where it ends.
 ghost use Rattle.std.specs.Prelude.{false, true, ◌&&◌, ◌||◌, ◌≡◌, ◌<◌, ◌∷◌, IfOk, map, not, option_map};
 ghost use Rattle.parse_terms.specs.Common.{same, is_prefix, arm_of, terms_of, tree_of, trees, ends_open};
 ghost use Rattle.grammar.specs.declared.symbols.Symbol.TheVariants as rule;
 ghost use Rattle.tokens_why.specs.declared.terminal.Terminal.TheVariants as t;
 ghost use Rattle.syntax_why.specs.Surface.{trigger as trigger_of};
-ghost use Rattle.parse_terms.specs.Reading.{CanRead, CanRun, Climb, IsClosed, IsExpr, IsRead, names, takes_infix, terminal_at};
+ghost use Rattle.parse_terms.specs.Reading.{CanRead, CanRun, Climb, IsReadClosed, IsExpr, IsRead, is_name_at, takes_infix, terminal_at};
 ghost use Rattle.parse_terms.specs.Sources.{lexemes};
-ghost use Rattle.parse_terms.specs.Terms.{IsBranch, IsTrigger};
+ghost use Rattle.parse_terms.specs.Terms.{IsBranch, IsReadTrigger};
 
 use crate::names::head_name;
 use crate::operators::{
@@ -23,7 +23,7 @@ use std::alloc::{AllocError, Global};
 use syntax_why::{At, BinderTree, BranchTree, Expr, ExprNode, Pat, TriggerTree};
 use tokens_why::Terminal;
 
-/// A term or formula, whether it ends in an open form, and the token behind it.
+/// A term or formula, whether it ends in an open form, and the token after it.
 #[derive(Drop)]
 pub struct ReadExpression {
     pub tree: Expr,
@@ -31,7 +31,7 @@ pub struct ReadExpression {
     pub end: usize,
 }
 
-/// A tree behind which operators may follow, and how tightly it binds.
+/// A tree after which operators may follow, and how tightly it binds.
 #[derive(Drop)]
 struct ReadOperand {
     tree: Expr,
@@ -70,7 +70,7 @@ pub fn expression(
     })
 }
 
-/// A term or formula of any level, and the token behind it.
+/// A term or formula of any level, and the token after it.
 #[cycle(descent)]
 fn any_expression(alloc: Global, source: Source, i: usize) -> Result<(Expr, usize), AllocError>
     requires { CanRead (lexemes source) (rule.Expr 0) i }
@@ -137,7 +137,7 @@ fn operation(
     })
 }
 
-/// What stands before the first operator of a level.
+/// What is before the first operator of a level.
 #[cycle(descent)]
 fn operand(alloc: Global, source: Source, m: u8, i: usize) -> Result<ReadOperand, AllocError>
     requires { CanRead (lexemes source) (rule.Expr m) i }
@@ -300,7 +300,7 @@ fn trigger(
 ) -> Result<(Option<TriggerTree>, usize), AllocError>
     requires can { CanRead (lexemes source) rule.Binders i }
     requires last { same t.Comma (terminal_at (lexemes source) i) ≡ false }
-    ensures { IfOk result (λ r. IsTrigger (lexemes source.entry) i
+    ensures { IfOk result (λ r. IsReadTrigger (lexemes source.entry) i
         (trigger_of (option_map terms_of r.0)) r.1) }
 {
     let is_given = is_at(source, i, Terminal::LBrack);
@@ -327,7 +327,7 @@ fn trigger(
 fn primary(alloc: Global, source: Source, i: usize) -> Result<(Expr, usize), AllocError>
     requires { CanRead (lexemes source) rule.Prim i }
     ensures { IfOk result
-        (λ r. IsClosed (lexemes source.entry) rule.Prim i (tree_of r.0) (tree_of r.0) r.1) }
+        (λ r. IsReadClosed (lexemes source.entry) rule.Prim i (tree_of r.0) (tree_of r.0) r.1) }
 {
     if at_name(source, i) {
         let (name, j) = head_name(alloc, source, i)?;
@@ -343,7 +343,7 @@ fn primary(alloc: Global, source: Source, i: usize) -> Result<(Expr, usize), All
 fn atom(alloc: Global, source: Source, i: usize) -> Result<(Expr, usize), AllocError>
     requires { CanRead (lexemes source) rule.Atom i }
     ensures { IfOk result
-        (λ r. IsClosed (lexemes source.entry) rule.Atom i (tree_of r.0) (tree_of r.0) r.1) }
+        (λ r. IsReadClosed (lexemes source.entry) rule.Atom i (tree_of r.0) (tree_of r.0) r.1) }
 {
     if at_name(source, i) {
         let (name, end) = head_name(alloc, source, i)?;
@@ -377,9 +377,9 @@ fn arguments(alloc: Global, source: Source, i: usize) -> Result<(Seq<Expr>, usiz
 #[cycle(descent)]
 fn plain_atom(alloc: Global, source: Source, i: usize) -> Result<(Expr, usize), AllocError>
     requires can { CanRead (lexemes source) rule.Atom i }
-    requires unnamed { names (lexemes source) i ≡ false }
+    requires unnamed { is_name_at (lexemes source) i ≡ false }
     ensures { IfOk result
-        (λ r. IsClosed (lexemes source.entry) rule.Atom i (tree_of r.0) (tree_of r.0) r.1) }
+        (λ r. IsReadClosed (lexemes source.entry) rule.Atom i (tree_of r.0) (tree_of r.0) r.1) }
 {
     let here = place(i);
     let is_integer = is_at(source, i, Terminal::Int);
@@ -434,7 +434,7 @@ fn cases(alloc: Global, source: Source, i: usize) -> Result<(Expr, usize), Alloc
     requires can { CanRead (lexemes source) rule.Atom i }
     requires word { same t.MatchWord (terminal_at (lexemes source) i) ≡ true }
     ensures { IfOk result
-        (λ r. IsClosed (lexemes source.entry) rule.Atom i (tree_of r.0) (tree_of r.0) r.1) }
+        (λ r. IsReadClosed (lexemes source.entry) rule.Atom i (tree_of r.0) (tree_of r.0) r.1) }
 {
     let mut scrutinees: Vec<Expr> = Vec::new(alloc);
     let (first, mut j) = any_expression(alloc, source, i + 1)?;

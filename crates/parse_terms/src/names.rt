@@ -1,4 +1,4 @@
-// Names: behind scopes, of operators in parentheses, of types and of constructors.
+// Names: after scopes, of operators in parentheses, of types and of constructors.
 ghost use Rattle.std.specs.Prelude.{false, true, ◌≡◌, ◌+◌, ◌&&◌, [], IfOk};
 ghost use Rattle.parse_terms.specs.Common.{same, Opname, Qhead, Qlid, Quids, Dot, Uident, called, lower, called_of, own_of};
 ghost use Rattle.parse_terms.specs.Names.{IsOperatorName, IsUpperName, scoped_of};
@@ -12,7 +12,7 @@ use std::alloc::{AllocError, Global};
 use syntax_why::{QName, Style};
 use tokens_why::Terminal;
 
-/// A name without scopes, and the token behind it.
+/// A name without scopes, and the token after it.
 #[derive(Drop)]
 pub struct OwnName {
     pub style: Style,
@@ -20,7 +20,7 @@ pub struct OwnName {
     pub end: usize,
 }
 
-/// The operator that is named behind a parenthesis. Only want of memory refuses.
+/// The operator that is named after a parenthesis. Only want of memory refuses.
 pub fn operator_name(alloc: Global, source: Source, i: usize) -> Result<OwnName, AllocError>
     requires { CanRead (lexemes source) Opname i }
     ensures { IfOk result
@@ -90,7 +90,7 @@ fn own_name(alloc: Global, source: Source, i: usize) -> Result<OwnName, AllocErr
     Ok(name)
 }
 
-/// A name of a term behind its scopes, and the token behind it. Only want of memory refuses.
+/// A name of a term after its scopes, and the token after it. Only want of memory refuses.
 pub fn head_name(alloc: Global, source: Source, i: usize) -> Result<(QName, usize), AllocError>
     requires { CanRead (lexemes source) Qhead i }
     ensures read { IfOk result (λ r. IsRead (lexemes source.entry) Qhead i (scoped_of r.0) r.1) }
@@ -113,7 +113,7 @@ pub fn head_name(alloc: Global, source: Source, i: usize) -> Result<(QName, usiz
     Ok((name, own.end))
 }
 
-/// A name of a type behind its scopes, and the token behind it. Only want of memory refuses.
+/// A name of a type after its scopes, and the token after it. Only want of memory refuses.
 pub fn lower_name(alloc: Global, source: Source, i: usize) -> Result<(QName, usize), AllocError>
     requires { CanRead (lexemes source) Qlid i }
     ensures read { IfOk result (λ r. IsRead (lexemes source.entry) Qlid i
@@ -137,7 +137,7 @@ pub fn lower_name(alloc: Global, source: Source, i: usize) -> Result<(QName, usi
     Ok((name, j + 1))
 }
 
-/// A name of a constructor behind its scopes, and the token behind it. Only want of memory refuses.
+/// A name of a constructor after its scopes, and the token after it. Only want of memory refuses.
 pub fn upper_name(alloc: Global, source: Source, i: usize) -> Result<(QName, usize), AllocError>
     requires first { same Uident (terminal_at (lexemes source) i) ≡ true }
     requires can { CanRead (lexemes source) Quids (i + 1) }

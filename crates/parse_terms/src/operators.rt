@@ -3,7 +3,7 @@ ghost use Rattle.std.specs.Prelude.{◌&&◌, ◌||◌, ◌≡◌, ◌<◌, ◌+
 ghost use Rattle.parse_terms.specs.Common.{same, is_operator, is_prefix, op_of, tree_of, literal, op};
 ghost use Rattle.tokens_why.specs.declared.terminal.Terminal.TheVariants as t;
 ghost use Rattle.syntax_why.specs.Lexeme.{at as place_at};
-ghost use Rattle.parse_terms.specs.Reading.{ends_name, names, takes_infix, terminal_at, token_at};
+ghost use Rattle.parse_terms.specs.Reading.{ends_name, is_name_at, takes_infix, terminal_at, token_at};
 ghost use Rattle.parse_terms.specs.Sources.{lexemes};
 
 use crate::source::Source;
@@ -37,7 +37,7 @@ fn closes_name(source: Source, i: usize) -> bool
 /// Whether a name of a term begins.
 pub fn at_name(source: Source, i: usize) -> bool
     requires { i < length source.tokens.now }
-    ensures { result ≡ names (lexemes source.entry) i }
+    ensures { result ≡ is_name_at (lexemes source.entry) i }
 {
     match terminal(source, i) {
         Terminal::Lident | Terminal::Uident | Terminal::StarName => true,
@@ -46,7 +46,7 @@ pub fn at_name(source: Source, i: usize) -> bool
     }
 }
 
-/// Whether an operator may follow at this level, behind a tree that binds so tightly.
+/// Whether an operator may follow at this level, after a tree that binds so tightly.
 pub fn at_operator(source: Source, m: u8, tight: u8, i: usize) -> bool
     ensures { result ≡ takes_infix m tight (terminal_at (lexemes source.entry) i) }
 {
@@ -54,7 +54,7 @@ pub fn at_operator(source: Source, m: u8, tight: u8, i: usize) -> bool
     is_infix(x) && m <= prec_of(x) && need_of(x) <= tight
 }
 
-/// Whether a prefix operator stands at a token.
+/// Whether a prefix operator is at a token.
 pub fn at_prefix(source: Source, i: usize) -> bool
     ensures { result ≡ is_prefix (terminal_at (lexemes source.entry) i) }
 {
@@ -64,7 +64,7 @@ pub fn at_prefix(source: Source, i: usize) -> bool
     )
 }
 
-/// Whether a quantifier stands at a token.
+/// Whether a quantifier is at a token.
 pub fn at_quantifier(source: Source, i: usize) -> bool
     ensures { result ≡ (same t.ForallWord (terminal_at (lexemes source.entry) i)
         || same t.ExistsWord (terminal_at (lexemes source.entry) i)) }
@@ -94,7 +94,7 @@ pub fn operator(alloc: Global, source: Source, i: usize) -> Result<OpName, Alloc
     })
 }
 
-/// Whether a bar stands before the first of several parts, and where that part begins.
+/// Whether a bar is before the first of several parts, and where that part begins.
 pub fn past_bar(source: Source, i: usize) -> (bool, usize)
     requires { i < length source.tokens.now }
     ensures bar { result.0 ≡ same t.Bar (terminal_at (lexemes source.entry) i) }

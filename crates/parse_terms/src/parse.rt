@@ -1,6 +1,6 @@
 // The longest expression from a place, or where none stands any more.
 ghost use Rattle.parse_terms.specs.Common.{IfOk, IfErr, AreTokens, tree_of};
-ghost use Rattle.recognise_why.specs.Expressions.{EndsAt, IsExpressionRefusal, IsLongestAt};
+ghost use Rattle.recognise_why.specs.Expressions.{EndsAt, IsExpressionRefusal, IsLongestTreeAt};
 
 use crate::source::Source;
 use crate::whole::whole_expression;
@@ -19,7 +19,7 @@ fn expression_to(
 ) -> Result<Expr, AllocError>
     requires tokens { AreTokens text.now tokens.now }
     requires ends { EndsAt text.now tokens.now from to }
-    ensures { IfOk result (λ e. IsLongestAt text.now tokens.now from (tree_of e) to) }
+    ensures { IfOk result (λ e. IsLongestTreeAt text.now tokens.now from (tree_of e) to) }
 {
     let source = Source {
         tokens: &tokens[..to],
@@ -32,7 +32,7 @@ fn expression_to(
 /// The longest expression from a place, with the places of its parts, and where it ends.
 ///
 /// `tokens` are those of `text`. A refusal is `Memory`, or `Syntax` at the least token such that no expression begins with
-/// the tokens from the place up to that one (the one behind the last, where they end too early). `TooDeep` and `ProgramDecl`
+/// the tokens from the place up to that one (the one after the last, where they end too early). `TooDeep` and `ProgramDecl`
 /// never come. The work is linear in the tokens; it calls itself as deep as the tree, whose every level has a token of its own
 /// (Why3 manual, "Syntax").
 pub fn parse_expr(
@@ -42,7 +42,8 @@ pub fn parse_expr(
     from: usize,
 ) -> Result<(Expr, usize), SyntaxFault>
     requires { AreTokens text.now tokens.now }
-    ensures longest { IfOk result (λ p. IsLongestAt text.now tokens.now from (tree_of p.0) p.1) }
+    ensures longest { IfOk result (λ p. IsLongestTreeAt text.now tokens.now from (tree_of p.0)
+        p.1) }
     ensures refused { IfErr result (IsExpressionRefusal text.now tokens.now from) }
 {
     match expression_end(alloc, tokens, from) {

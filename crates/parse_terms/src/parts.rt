@@ -1,4 +1,4 @@
-// Lists of patterns and names, as they stand in branches and binders.
+// Lists of patterns and names, as they are in branches and binders.
 ghost use Rattle.std.specs.Prelude.{◌∷◌, IfOk};
 ghost use Rattle.parse_terms.specs.Common.{Lident, binder_of, patterns};
 ghost use Rattle.grammar.specs.declared.symbols.Symbol.TheVariants as rule;
@@ -16,7 +16,7 @@ use std::alloc::{AllocError, Global};
 use syntax_why::{BinderTree, Name, Pat};
 use tokens_why::Terminal;
 
-/// The patterns of an alternative, and the token behind them. Only want of memory refuses.
+/// The patterns of an alternative, and the token after them. Only want of memory refuses.
 pub fn alternative(alloc: Global, source: Source, i: usize) -> Result<(Seq<Pat>, usize), AllocError>
     requires { CanRun (lexemes source) (λ k. rule.Pat ∷ rule.Arm ∷ k) i }
     ensures { IfOk result (λ r. IsAlternative (lexemes source.entry) i (patterns r.0) r.1) }
@@ -32,7 +32,7 @@ pub fn alternative(alloc: Global, source: Source, i: usize) -> Result<(Seq<Pat>,
     Ok((Seq::from_vec(parts), j))
 }
 
-/// The names that are bound together, and the token behind the last one. Only want of memory refuses.
+/// The names that are bound together, and the token after the last one. Only want of memory refuses.
 fn bound_names(alloc: Global, source: Source, i: usize) -> Result<(Seq<Name>, usize), AllocError>
     requires { CanRun (lexemes source) (λ k. rule.Take Lident ∷ rule.Binder ∷ k) i }
     ensures { IfOk result (λ r. IsNaming (lexemes source.entry) i r.0 r.1) }
@@ -49,7 +49,7 @@ fn bound_names(alloc: Global, source: Source, i: usize) -> Result<(Seq<Name>, us
     Ok((Seq::from_vec(names), j))
 }
 
-/// Names that are bound and their type, and the token behind them. Only want of memory refuses.
+/// Names that are bound and their type, and the token after them. Only want of memory refuses.
 pub fn binder(alloc: Global, source: Source, i: usize) -> Result<(BinderTree, usize), AllocError>
     requires { CanRun (lexemes source) (λ k. rule.Take Lident ∷ rule.Binder ∷ k) i }
     ensures { IfOk result (λ r. IsBinder (lexemes source.entry) i (binder_of r.0) r.1) }

@@ -1,4 +1,4 @@
-// Patterns, where they are known to stand: each call reads one, and says where it ends.
+// Patterns, where they are known to be there: each call reads one, and says where it ends.
 ghost use Rattle.std.specs.Prelude.{◌<◌, IfOk};
 ghost use Rattle.parse_terms.specs.Common.{pattern_of, patterns};
 ghost use Rattle.grammar.specs.declared.symbols.Symbol.TheVariants as rule;
@@ -14,7 +14,7 @@ use std::alloc::{AllocError, Global};
 use syntax_why::{Pat, PatNode};
 use tokens_why::Terminal;
 
-/// A pattern, and the token behind it. Only want of memory refuses.
+/// A pattern, and the token after it. Only want of memory refuses.
 #[cycle(pattern_descent)]
 pub fn pattern(alloc: Global, source: Source, i: usize) -> Result<(Pat, usize), AllocError>
     requires { CanRead (lexemes source) rule.Pat i }
@@ -90,7 +90,7 @@ fn pattern_parts(alloc: Global, source: Source, i: usize) -> Result<(Seq<Pat>, u
     Ok((Seq::from_vec(parts), j))
 }
 
-/// Patterns in parentheses behind the first one.
+/// Patterns in parentheses after the first one.
 #[cycle(pattern_descent)]
 fn pattern_list(alloc: Global, source: Source, i: usize) -> Result<(Seq<Pat>, usize), AllocError>
     requires { CanRead (lexemes source) rule.Ptuple i }

@@ -1,6 +1,6 @@
 // Tokens by their numbers: what each is to the grammar, and its text.
 ghost use Rattle.std.specs.Prelude.{true, ◌≡◌, ◌<◌, length, Some, slice_get, IfOk};
-ghost use Rattle.parse_terms.specs.Common.{same, name, value_of, Int, text_of};
+ghost use Rattle.parse_terms.specs.Common.{same, name, integer_word, Int, text_of};
 ghost use Rattle.syntax_why.specs.Lexeme.{at as place_at};
 ghost use Rattle.parse_terms.specs.Reading.{begins_atom, begins_atype, begins_patom, terminal_at, token_at};
 ghost use Rattle.parse_terms.specs.Texts.{HasText};
@@ -24,7 +24,7 @@ pub fn terminal(source: Source, i: usize) -> Terminal
     }
 }
 
-/// Whether a terminal stands at a token.
+/// Whether a terminal is at a token.
 pub fn is_at(source: Source, i: usize, sought: Terminal) -> bool
     ensures { result ≡ same sought (terminal_at (lexemes source.entry) i) }
 {
@@ -66,7 +66,7 @@ pub fn text(alloc: Global, source: Source, i: usize) -> Result<Text, AllocError>
 pub fn integer(source: Source, i: usize) -> i128
     requires within { i < length source.tokens.now }
     requires integer { same Int (terminal_at (lexemes source) i) ≡ true }
-    ensures { value_of result ≡ (token_at (lexemes source.entry) i).text }
+    ensures { integer_word result ≡ (token_at (lexemes source.entry) i).text }
 {
     let found = token(source, i);
     match literal_value(bytes(source.text, found)) {

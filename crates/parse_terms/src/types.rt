@@ -1,4 +1,4 @@
-// Types, where they are known to stand: each call reads one, and says where it ends.
+// Types, where they are known to be there: each call reads one, and says where it ends.
 ghost use Rattle.std.specs.Prelude.{◌<◌, IfOk};
 ghost use Rattle.parse_terms.specs.Common.{Atype, Targs, Ttuple, TypeOf, form_of, types};
 ghost use Rattle.parse_terms.specs.Reading.{CanRead, IsRead};
@@ -12,7 +12,7 @@ use std::alloc::{AllocError, Global};
 use syntax_why::{TypeNode, TypeTree};
 use tokens_why::Terminal;
 
-/// A type, and the token behind it. Only want of memory refuses.
+/// A type, and the token after it. Only want of memory refuses.
 #[cycle(type_descent)]
 pub fn type_tree(alloc: Global, source: Source, i: usize) -> Result<(TypeTree, usize), AllocError>
     requires { CanRead (lexemes source) TypeOf i }
@@ -34,7 +34,7 @@ pub fn type_tree(alloc: Global, source: Source, i: usize) -> Result<(TypeTree, u
     Ok((TypeTree::new(here, TypeNode::Named(name, arguments)), end))
 }
 
-/// A type that stands as an argument, and the token behind it. Only want of memory refuses.
+/// A type that stands as an argument, and the token after it. Only want of memory refuses.
 #[cycle(type_descent)]
 pub fn argument(alloc: Global, source: Source, i: usize) -> Result<(TypeTree, usize), AllocError>
     requires { CanRead (lexemes source) Atype i }
@@ -58,7 +58,7 @@ pub fn argument(alloc: Global, source: Source, i: usize) -> Result<(TypeTree, us
     ))
 }
 
-/// Types side by side, and the token behind them. Only want of memory refuses.
+/// Types side by side, and the token after them. Only want of memory refuses.
 #[cycle(type_descent)]
 pub fn type_arguments(
     alloc: Global,
@@ -78,7 +78,7 @@ pub fn type_arguments(
     Ok((Seq::from_vec(arguments), j))
 }
 
-/// Types in parentheses behind the first one, and the token behind them. Only want of memory refuses.
+/// Types in parentheses after the first one, and the token after them. Only want of memory refuses.
 #[cycle(type_descent)]
 pub fn type_list(
     alloc: Global,

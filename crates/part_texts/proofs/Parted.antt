@@ -17,7 +17,7 @@ use Rattle.printed_problems.specs.Problems.{ProblemTree, problem_of}
 use Rattle.printed_problems.specs.Made.{IsProblem, ProblemHeld, problem_at}
 use Rattle.part_texts.specs.declared.fault.PartFault.{PartFault}
 use Rattle.part_texts.specs.declared.fault.PartFault.TheVariants as part_fault
-use Rattle.part_texts.specs.Problems.{fault_at, or_later, first_fault, IsPartFault, AreProblems}
+use Rattle.part_texts.specs.Problems.{part_fault_at, or_later, first_fault, IsPartFault, AreProblems}
 use Rattle.part_texts.specs.Texts.{part_text, texts_from}
 use Rattle.part_texts.specs.Names.{name_text, names_from}
 
@@ -90,8 +90,8 @@ pub fault_step : (s : List Tree) (d : Driver) (tasks : List Task) (i : ℕ) (t :
     → first_fault d (i + 1) (tasks_at s (drop i tasks)) ≡ all → first_fault d (i + 1 + 1) (tasks_at s (drop (i + 1) tasks)) ≡ all
 fault_step s d tasks i t all is l none so =
     let rest = first_fault d (i + 1 + 1) (tasks_at s (drop (i + 1) tasks)) in
-    let here : first_fault d (i + 1) (tasks_at s (drop i tasks)) ≡ or_later (fault_at (i + 1) (print_fault d (task_at s t))) rest = ap (λ (ts : List Task). first_fault d (i + 1) (tasks_at s ts)) (left_at tasks i t is l) in
-    sym (here ∙ ap (λ (f : Option PrintFault). or_later (fault_at (i + 1) f) rest) none) ∙ so
+    let here : first_fault d (i + 1) (tasks_at s (drop i tasks)) ≡ or_later (part_fault_at (i + 1) (print_fault d (task_at s t))) rest = ap (λ (ts : List Task). first_fault d (i + 1) (tasks_at s ts)) (left_at tasks i t is l) in
+    sym (here ∙ ap (λ (f : Option PrintFault). or_later (part_fault_at (i + 1) f) rest) none) ∙ so
 
 pub fault_first : (due later : Option PartFault) (e : PartFault) → IsPartFault due e → IsPartFault (or_later due later) e
 fault_first None later part_fault.Memory h = tt
@@ -101,11 +101,11 @@ fault_first None later (part_fault.NoSyntax part symbol) h = absurd (cc)
 fault_first (Some f) later e h = h
 
 pub fault_here : (s : List Tree) (d : Driver) (tasks : List Task) (i : ℕ) (t : Task) (all : Option PartFault) (e : PartFault) → t ≡ get_or tasks i t → i < length tasks
-    → IsPartFault (fault_at (i + 1) (print_fault d (task_at s t))) e → first_fault d (i + 1) (tasks_at s (drop i tasks)) ≡ all → IsPartFault all e
+    → IsPartFault (part_fault_at (i + 1) (print_fault d (task_at s t))) e → first_fault d (i + 1) (tasks_at s (drop i tasks)) ≡ all → IsPartFault all e
 fault_here s d tasks i t all e is l f so =
     let rest = first_fault d (i + 1 + 1) (tasks_at s (drop (i + 1) tasks)) in
-    let here : first_fault d (i + 1) (tasks_at s (drop i tasks)) ≡ or_later (fault_at (i + 1) (print_fault d (task_at s t))) rest = ap (λ (ts : List Task). first_fault d (i + 1) (tasks_at s ts)) (left_at tasks i t is l) in
-    subst (λ (o : Option PartFault). IsPartFault o e) (sym here ∙ so) (fault_first (fault_at (i + 1) (print_fault d (task_at s t))) rest e f)
+    let here : first_fault d (i + 1) (tasks_at s (drop i tasks)) ≡ or_later (part_fault_at (i + 1) (print_fault d (task_at s t))) rest = ap (λ (ts : List Task). first_fault d (i + 1) (tasks_at s ts)) (left_at tasks i t is l) in
+    subst (λ (o : Option PartFault). IsPartFault o e) (sym here ∙ so) (fault_first (part_fault_at (i + 1) (print_fault d (task_at s t))) rest e f)
 
 -- the symbol of an entry
 pub symbol_there : (s : List Tree) (infos : List SymbolInfo) (k : ℕ) (x : SymbolInfo) → x ≡ get_or infos k x → k < length infos → symbol_or (symbols_at s infos) k ≡ symbol_at s x

@@ -7,17 +7,17 @@ use Rattle.tasks.specs.Task.{SymbolTree, TaskTree, symbol_or}
 use Rattle.name_entries.specs.declared.names.NameOf.{NameOf}
 use Rattle.name_entries.specs.declared.names.NameOf.TheVariants.{Int, Rigid, Symbol}
 use Rattle.name_entries.specs.declared.names.NameEntry.{NameEntry}
-use Rattle.name_tables.specs.Spelling.{own_name, is_operator_byte}
+use Rattle.name_tables.specs.Spelling.{own_name, is_spelt_byte}
 use Rattle.name_tables.specs.Tables.{problem_names}
 
 -- a name without scopes that begins with an operator's character is an operator's
-abbrev pub is_operator : List ℕ → Bool
-is_operator [] = false
-is_operator (c ∷ cs) = is_operator_byte c
+abbrev pub is_operator_name : List ℕ → Bool
+is_operator_name [] = false
+is_operator_name (c ∷ cs) = is_spelt_byte c
 
--- an operator stands in parentheses
+-- an operator is in parentheses
 abbrev pub shown_own : List ℕ → List ℕ
-shown_own own = if is_operator own then 40 ∷ own ++ 41 ∷ [] else own
+shown_own own = if is_operator_name own then 40 ∷ own ++ 41 ∷ [] else own
 
 -- a name with those of its scopes
 abbrev pub shown_name : List ℕ → List ℕ

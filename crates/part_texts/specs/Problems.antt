@@ -19,9 +19,9 @@ fault_of part (print_fault.Polymorphic decl) = part_fault.Polymorphic part decl
 fault_of part (print_fault.Unprintable decl) = part_fault.Unprintable part decl
 fault_of part (print_fault.NoSyntax symbol) = part_fault.NoSyntax part symbol
 
-abbrev pub fault_at : ℕ → Option PrintFault → Option PartFault
-fault_at part None = None
-fault_at part (Some fault) = Some (fault_of part fault)
+abbrev pub part_fault_at : ℕ → Option PrintFault → Option PartFault
+part_fault_at part None = None
+part_fault_at part (Some fault) = Some (fault_of part fault)
 
 abbrev pub or_later : Option PartFault → Option PartFault → Option PartFault
 or_later None later = later
@@ -30,7 +30,7 @@ or_later (Some fault) later = Some fault
 -- the first fault of parts, the first of which has this number
 abbrev pub first_fault : Driver → ℕ → List TaskTree → Option PartFault
 first_fault d part [] = None
-first_fault d part (t ∷ ts) = or_later (fault_at part (print_fault d t)) (first_fault d (part + 1) ts)
+first_fault d part (t ∷ ts) = or_later (part_fault_at part (print_fault d t)) (first_fault d (part + 1) ts)
 
 -- want of memory, or the fault that is due
 abbrev pub IsPartFault : Option PartFault → PartFault → Type 0

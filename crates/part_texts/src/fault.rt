@@ -12,7 +12,7 @@ use std::alloc::{AllocError, AllocFailed};
 #[derive(Clone, Copy)]
 pub enum PartFault {
     Memory,
-    /// A schematic type variable stands in this declaration.
+    /// A schematic type variable is in this declaration.
     Polymorphic { part: usize, decl: usize },
     /// The printer lacks the kind or a form of this declaration.
     Unprintable { part: usize, decl: usize },

@@ -5,7 +5,7 @@ ghost use Rattle.tasks.specs.Meaning.{task_at, tasks_at, TaskHeld, TasksHeld};
 ghost use Rattle.printed_problems.specs.Faults.{print_fault};
 ghost use Rattle.printed_problems.specs.Problems.{problem_of};
 ghost use Rattle.printed_problems.specs.Made.{IsProblem};
-ghost use Rattle.part_texts.specs.Problems.{AreProblems, IsPartFault, fault_at, first_fault};
+ghost use Rattle.part_texts.specs.Problems.{AreProblems, IsPartFault, part_fault_at, first_fault};
 
 use crate::fault::{PartFault, fault_of};
 use driver_parts::Driver;
@@ -26,7 +26,7 @@ fn problem_at(
     ensures problem { IfOk result (IsProblem store.now (problem_of driver.now
         (task_at store.now task.now))) }
     ensures none { IfOk result (λ _. print_fault driver.now (task_at store.now task.now) ≡ None) }
-    ensures fault { IfErr result (IsPartFault (fault_at part (print_fault driver.now
+    ensures fault { IfErr result (IsPartFault (part_fault_at part (print_fault driver.now
         (task_at store.now task.now)))) }
 {
     match problem(alloc, store, task, driver) {

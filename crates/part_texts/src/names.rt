@@ -7,7 +7,7 @@ ghost use Rattle.tasks.specs.Task.{symbol_or};
 ghost use Rattle.tasks.specs.Meaning.{symbol_at, symbols_at, task_at, tasks_at, TasksHeld};
 ghost use Rattle.name_tables.specs.Spelling.{own_name};
 ghost use Rattle.part_texts.specs.Problems.{AreProblems};
-ghost use Rattle.part_texts.specs.Names.{entry_line, entry_words, is_operator, kind_word, name_text, name_texts, part_head, shown_name, shown_own, symbol_words, type_words};
+ghost use Rattle.part_texts.specs.Names.{entry_line, entry_words, is_operator_name, kind_word, name_text, name_texts, part_head, shown_name, shown_own, symbol_words, type_words};
 
 use driver_parts::Driver;
 use name_entries::{NameEntry, NameOf};
@@ -18,7 +18,7 @@ use term_store::Store;
 
 // Whether a name without scopes is an operator's.
 fn is_operator(name: &[u8]) -> bool
-    ensures { result ≡ is_operator name.now }
+    ensures { result ≡ is_operator_name name.now }
 {
     match name {
         [] => false,

@@ -6,7 +6,7 @@ use Rattle.std.specs.Str.{bytes_eq}
 use Rattle.std.proofs.lemmas.List.{append-nil, map_more, drop_more, drop_all}
 use Rattle.trees.specs.Tree.{Tree}
 use Rattle.tasks.specs.declared.declaration.Decl.{Decl}
-use Rattle.tasks.specs.Task.{BodyTree, MakesType, Makes, Defines, Induces, Constructs, Says, DeclarationTree, Proposition, props_of, said_by}
+use Rattle.tasks.specs.Task.{BodyTree, MakesType, Makes, Defines, Induces, Constructs, Says, DeclarationTree, PropositionTree, props_of, said_by}
 use Rattle.tasks.specs.Meaning.{declaration_at, declarations_at}
 use Rattle.driver_items.specs.declared.kinds.Piece.{Piece}
 use Rattle.printed_problems.specs.Templates.{bytes_alone, template_in}
@@ -16,7 +16,7 @@ use Rattle.printed_problems.specs.Made.{text_if, said_formulas}
 abbrev pub formulas : List DeclarationTree → List Tree
 formulas ds = map formula_of (props_of ds)
 
-formula_first : (d : DeclarationTree) (b : BodyTree) (more : List Proposition) → map formula_of (said_by d b ++ more) ≡ said_formulas b ++ map formula_of more
+formula_first : (d : DeclarationTree) (b : BodyTree) (more : List PropositionTree) → map formula_of (said_by d b ++ more) ≡ said_formulas b ++ map formula_of more
 formula_first d (Says e) more = refl
 formula_first d (MakesType k) more = refl
 formula_first d (Makes k) more = refl

@@ -5,7 +5,7 @@ use Rattle.std.proofs.lemmas.List.Elements.{All-nil, All-cons, All-weaker}
 use Rattle.tasks.specs.Meaning.{task_at}
 use Rattle.name_tables.specs.Occurrences.{Occurrence}
 use Rattle.name_tables.specs.Tables.{is_same, distinct, problem_things}
-use Rattle.name_tables.specs.Seen.{occurrence_at, seen_at, has, with_one, with_all}
+use Rattle.name_tables.specs.Seen.{occurrence_at, seen_occurrences, has, with_one, with_all}
 use Rattle.name_tables.proofs.Gathering.{same_occurrence, has_push, with_one_there, with_one_new}
 use Rattle.name_tables.proofs.Distinct.{distinct_is}
 use Rattle.printed_problems.specs.declared.checks.Checker.{Checker}
@@ -75,9 +75,9 @@ bare_within c can =
     let s = c.store.now in
     let d = c.driver.now in
     let t = task_at s c.task.now in
-    let n : length (seen_at s c.things.now) ≡ length c.things.now = length-map c.things.now (occurrence_at s) in
+    let n : length (seen_occurrences s c.things.now) ≡ length c.things.now = length-map c.things.now (occurrence_at s) in
     subst (λ (z : List ℕ). All (λ p. p < length c.things.now) z) (sym can.bare)
-    (All-weaker (λ p. p < 0 + length (seen_at s c.things.now)) (λ p. p < length c.things.now) (λ p l. omega (arith, n)) _ (places_within (is_bare d t) 0 (seen_at s c.things.now)))
+    (All-weaker (λ p. p < 0 + length (seen_occurrences s c.things.now)) (λ p. p < length c.things.now) (λ p l. omega (arith, n)) _ (places_within (is_bare d t) 0 (seen_occurrences s c.things.now)))
 
 found_bare : (c : Checker) → CanCheck c → (os : List Occurrence) → first_where (is_seen c.store.now c.things.now os) c.bare.now ≡ place_where (is_bare_in c.driver.now (the_task c) os) 0 (problem_things (the_task c))
 found_bare c can os =
@@ -85,19 +85,19 @@ found_bare c can os =
     let keys = c.things.now in
     let b = is_bare c.driver.now (the_task c) in
     let no_key : ℕ × ℕ = (0, 0) in
-    let n : length (seen_at s keys) ≡ length keys = length-map keys (occurrence_at s) in
+    let n : length (seen_occurrences s keys) ≡ length keys = length-map keys (occurrence_at s) in
     ap (first_where (is_seen s keys os)) can.bare
-    ∙ first_of_places b (has os) (is_seen s keys os) 0 (seen_at s keys)
+    ∙ first_of_places b (has os) (is_seen s keys os) 0 (seen_occurrences s keys)
     (λ i o l. let e : 0 + i ≡ i = omega arith in ap (is_seen s keys os) e ∙ ap (has os) (sym (get_or-map (occurrence_at s) keys i no_key o (omega (arith, n)))))
     ∙ ap (place_where (is_bare_in c.driver.now (the_task c) os) 0) can.things
 
 -- what is looked for among what occurs
-pub syntax_is : (c : Checker) → CanCheck c → (seen : List (ℕ × ℕ)) (os : List Occurrence) → seen_at c.store.now seen ≡ distinct os → bare_fault c seen ≡ syntax_fault c.driver.now (the_task c) os
+pub syntax_is : (c : Checker) → CanCheck c → (seen : List (ℕ × ℕ)) (os : List Occurrence) → seen_occurrences c.store.now seen ≡ distinct os → bare_fault c seen ≡ syntax_fault c.driver.now (the_task c) os
 syntax_is c can seen os e =
     let d = c.driver.now in
     let t = the_task c in
-    let same : (o : Occurrence) → is_bare_in d t (seen_at c.store.now seen) o ≡ is_bare_in d t os o = λ o. ap (λ b. is_bare d t o && b) (ap (λ z. has z o) e ∙ has_distinct os o) in
-    ap at_place (found_bare c can (seen_at c.store.now seen) ∙ place_agree (is_bare_in d t (seen_at c.store.now seen)) (is_bare_in d t os) same 0 (problem_things t))
+    let same : (o : Occurrence) → is_bare_in d t (seen_occurrences c.store.now seen) o ≡ is_bare_in d t os o = λ o. ap (λ b. is_bare d t o && b) (ap (λ z. has z o) e ∙ has_distinct os o) in
+    ap at_place (found_bare c can (seen_occurrences c.store.now seen) ∙ place_agree (is_bare_in d t (seen_occurrences c.store.now seen)) (is_bare_in d t os) same 0 (problem_things t))
 
 -- where none is bare there is no fault
 pub syntax_none : (c : Checker) → CanCheck c → (os : List Occurrence) → c.bare.now ≡ [] → syntax_fault c.driver.now (the_task c) os ≡ None

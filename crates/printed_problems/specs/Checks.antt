@@ -6,21 +6,21 @@ use Rattle.tasks.specs.Task.{TaskTree}
 use Rattle.name_tables.specs.Tables.{problem_things}
 use Rattle.tasks.specs.Meaning.{task_at, TaskHeld}
 use Rattle.name_tables.specs.Occurrences.{Occurrence}
-use Rattle.name_tables.specs.Seen.{occurrence_at, seen_at, has, AreHeld}
+use Rattle.name_tables.specs.Seen.{occurrence_at, seen_occurrences, has, KeysHeld}
 use Rattle.printed_problems.specs.declared.checks.Checker.{Checker}
 use Rattle.printed_problems.specs.declared.fault.PrintFault.{PrintFault}
 use Rattle.printed_problems.specs.declared.fault.PrintFault.TheVariants.{Memory}
 use Rattle.printed_problems.specs.Problems.{places_from}
 use Rattle.printed_problems.specs.Faults.{has_forms, is_bare, at_place}
 
-abbrev pub IsFault : PrintFault → Option PrintFault → Type 0
-IsFault Memory due = Unit {0}
-IsFault f due = due ≡ Some f
+abbrev pub IsDueFault : PrintFault → Option PrintFault → Type 0
+IsDueFault Memory due = Unit {0}
+IsDueFault f due = due ≡ Some f
 
 -- Ok where no fault is due, and else that one; want of memory is free
-abbrev pub Meets : {X : Type 0} → Result X PrintFault → Option PrintFault → Type 0
-Meets (Ok x) due = due ≡ None
-Meets (Err f) due = IsFault f due
+abbrev pub MeetsFault : {X : Type 0} → Result X PrintFault → Option PrintFault → Type 0
+MeetsFault (Ok x) due = due ≡ None
+MeetsFault (Err f) due = IsDueFault f due
 
 -- the printer has all forms of these terms
 abbrev pub HaveForms : Printer → List Tree → List ℕ → Type 0
@@ -42,9 +42,9 @@ parts_have_forms p (Three h a b c) = has_forms p a && (has_forms p b && has_form
 -- what a look for faults is given: a task whose numbers are held, the things of its problem's table, and the places of the bare ones
 pub record CanCheck (c : Checker) : Type 0 where
   pub task_held : TaskHeld c.store.now c.task.now
-  pub things_held : AreHeld c.store.now c.things.now
-  pub things : seen_at c.store.now c.things.now ≡ problem_things (task_at c.store.now c.task.now)
-  pub bare : c.bare.now ≡ places_from (is_bare c.driver.now (task_at c.store.now c.task.now)) 0 (seen_at c.store.now c.things.now)
+  pub things_held : KeysHeld c.store.now c.things.now
+  pub things : seen_occurrences c.store.now c.things.now ≡ problem_things (task_at c.store.now c.task.now)
+  pub bare : c.bare.now ≡ places_from (is_bare c.driver.now (task_at c.store.now c.task.now)) 0 (seen_occurrences c.store.now c.things.now)
 
 -- whether the thing at a place is among these
 abbrev pub is_seen : List Tree → List (ℕ × ℕ) → List Occurrence → ℕ → Bool
@@ -56,7 +56,7 @@ first_where test (p ∷ ps) = if test p then Some p else first_where test ps
 
 -- the least bare place among what occurs
 abbrev pub bare_fault : Checker → List (ℕ × ℕ) → Option PrintFault
-bare_fault c seen = at_place (first_where (is_seen c.store.now c.things.now (seen_at c.store.now seen)) c.bare.now)
+bare_fault c seen = at_place (first_where (is_seen c.store.now c.things.now (seen_occurrences c.store.now seen)) c.bare.now)
 
 abbrev pub the_task : Checker → TaskTree
 the_task c = task_at c.store.now c.task.now

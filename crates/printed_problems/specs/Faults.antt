@@ -50,38 +50,38 @@ at_place (Some place) = Some (NoSyntax place)
 abbrev pub syntax_fault : Driver → TaskTree → List Occurrence → Option PrintFault
 syntax_fault d t os = at_place (place_where (is_bare_in d t os) 0 (problem_things t))
 
--- of a formula that is the declaration of a number, or a local or the goal behind all of them
+-- of a formula that is the declaration of a number, or a local or the goal after all of them
 abbrev pub formula_fault : Driver → TaskTree → ℕ → Tree → Option PrintFault
 formula_fault d t n e =
     if not (has_forms d.printer e) then Some (Unprintable n)
     else (if not (above_ty_vars e == 0) then Some (Polymorphic n) else syntax_fault d t (occurrences e))
 
 -- what defines symbols or makes algebraic types has no text
-abbrev pub body_fault : Driver → TaskTree → ℕ → BodyTree → Option PrintFault
-body_fault d t n (MakesType k) = None
-body_fault d t n (Makes k) = None
-body_fault d t n (Defines ds) = Some (Unprintable n)
-body_fault d t n (Induces is) = Some (Unprintable n)
-body_fault d t n (Constructs ts) = Some (Unprintable n)
-body_fault d t n (Says e) = formula_fault d t n e
+abbrev pub printed_body_fault : Driver → TaskTree → ℕ → BodyTree → Option PrintFault
+printed_body_fault d t n (MakesType k) = None
+printed_body_fault d t n (Makes k) = None
+printed_body_fault d t n (Defines ds) = Some (Unprintable n)
+printed_body_fault d t n (Induces is) = Some (Unprintable n)
+printed_body_fault d t n (Constructs ts) = Some (Unprintable n)
+printed_body_fault d t n (Says e) = formula_fault d t n e
 
-abbrev pub or_else : Option PrintFault → Option PrintFault → Option PrintFault
-or_else None g = g
-or_else (Some f) g = Some f
+abbrev pub print_fault_or_else : Option PrintFault → Option PrintFault → Option PrintFault
+print_fault_or_else None g = g
+print_fault_or_else (Some f) g = Some f
 
-abbrev pub first_fault : List (Option PrintFault) → Option PrintFault
-first_fault [] = None
-first_fault (f ∷ fs) = or_else f (first_fault fs)
+abbrev pub first_print_fault : List (Option PrintFault) → Option PrintFault
+first_print_fault [] = None
+first_print_fault (f ∷ fs) = print_fault_or_else f (first_print_fault fs)
 
 -- those of declarations, which are counted from a number on
 abbrev pub declaration_faults : Driver → TaskTree → ℕ → List DeclarationTree → List (Option PrintFault)
 declaration_faults d t n [] = []
-declaration_faults d t n (x ∷ xs) = body_fault d t n x.body ∷ declaration_faults d t (n + 1) xs
+declaration_faults d t n (x ∷ xs) = printed_body_fault d t n x.body ∷ declaration_faults d t (n + 1) xs
 
-abbrev pub type_fault : Driver → TaskTree → Tree → Option PrintFault
-type_fault d t type = syntax_fault d t (in_type type)
+abbrev pub printed_type_fault : Driver → TaskTree → Tree → Option PrintFault
+printed_type_fault d t type = syntax_fault d t (in_type type)
 
 -- the first fault of a task
 abbrev pub print_fault : Driver → TaskTree → Option PrintFault
 print_fault d t =
-    first_fault (declaration_faults d t 0 t.decls ++ (map (type_fault d t) t.params ++ map (formula_fault d t (length t.decls)) (t.locals ++ t.goal ∷ [])))
+    first_print_fault (declaration_faults d t 0 t.decls ++ (map (printed_type_fault d t) t.params ++ map (formula_fault d t (length t.decls)) (t.locals ++ t.goal ∷ [])))

@@ -32,7 +32,7 @@ abbrev pub said_formulas : BodyTree → List Tree
 said_formulas (Says e) = e ∷ []
 said_formulas _ = []
 
-pub record AreFacts (s : List Tree) (ds : List Decl) (ids : List TermId) : Type 0 where
+pub record AreNumberedFacts (s : List Tree) (ds : List Decl) (ids : List TermId) : Type 0 where
   pub held : All (Holds s) ids
   pub are : trees_at s ids ≡ map formula_of (props_of (declarations_at s ds))
 

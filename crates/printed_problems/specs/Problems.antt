@@ -5,7 +5,7 @@ use Rattle.std.specs.Str.{bytes_eq}
 use Rattle.trees.specs.Tree.{Tree}
 use Rattle.tasks.specs.declared.signature.SymbolKind.{SymbolKind}
 use Rattle.tasks.specs.declared.signature.SymbolKind.TheVariants.{Kind}
-use Rattle.tasks.specs.Task.{TaskTree, Proposition, DeclarationTree, symbol_or, props}
+use Rattle.tasks.specs.Task.{TaskTree, PropositionTree, DeclarationTree, symbol_or, props}
 use Rattle.driver_parts.specs.declared.driver.Driver.{Driver}
 use Rattle.name_entries.specs.declared.names.NameEntry.{NameEntry}
 use Rattle.name_tables.specs.Occurrences.{Occurrence}
@@ -21,8 +21,8 @@ abbrev pub is_sort : Driver → TaskTree → Occurrence → Bool
 is_sort d t o = is_kind (symbol_or t.symbols o.symbol).kind && not ((o.symbol == 0) || has_template d o.symbol)
 
 -- a function or predicate that is declared: one without a template that is used, and so no symbol of int.Int
-abbrev pub is_declared : Driver → TaskTree → Occurrence → Bool
-is_declared d t o = not (is_kind (symbol_or t.symbols o.symbol).kind || (is_interpreted t.ints o.symbol || has_template d o.symbol))
+abbrev pub is_declared_symbol : Driver → TaskTree → Occurrence → Bool
+is_declared_symbol d t o = not (is_kind (symbol_or t.symbols o.symbol).kind || (is_interpreted t.ints o.symbol || has_template d o.symbol))
 
 -- the places of those that pass a test, counted from a place on
 abbrev pub places_from : (Occurrence → Bool) → ℕ → List Occurrence → List ℕ
@@ -49,7 +49,7 @@ texts_where test (p ∷ ps) = if test p.0 then p.1 ∷ texts_where test ps else 
 abbrev pub preludes : Driver → TaskTree → List (List ℕ)
 preludes d t = texts_where general d.preludes ++ texts_where (of_theories t.decls) d.preludes
 
-abbrev pub formula_of : Proposition → Tree
+abbrev pub formula_of : PropositionTree → Tree
 formula_of p = p.formula
 
 -- a problem: its name table, the places of the types and of the symbols that are declared, and its formulas
@@ -67,7 +67,7 @@ problem_of d t = record {
   names = problem_names t;
   preludes = preludes d t;
   sorts = places_from (is_sort d t) 0 (problem_things t);
-  symbols = places_from (is_declared d t) 0 (problem_things t);
+  symbols = places_from (is_declared_symbol d t) 0 (problem_things t);
   facts = map formula_of (props t);
   locals = t.locals;
   goal = t.goal;

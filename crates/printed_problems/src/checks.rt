@@ -3,9 +3,9 @@ ghost use Rattle.std.specs.Prelude.{◌≡◌, ◌<◌, length, map, All, OnOk};
 ghost use Rattle.trees.specs.Node.{tree_at, Holds};
 ghost use Rattle.tasks.specs.Meaning.{trees_at, body_at, declarations_at, BodyHeld, DeclHeld};
 ghost use Rattle.name_tables.specs.Occurrences.{occurrences};
-ghost use Rattle.name_tables.specs.Seen.{seen_at, AreHeld};
-ghost use Rattle.printed_problems.specs.Faults.{formula_fault, body_fault, type_fault, declaration_faults, first_fault, print_fault, syntax_fault};
-ghost use Rattle.printed_problems.specs.Checks.{Meets, HaveForms, CanCheck, is_seen, bare_fault, the_task};
+ghost use Rattle.name_tables.specs.Seen.{seen_occurrences, KeysHeld};
+ghost use Rattle.printed_problems.specs.Faults.{formula_fault, printed_body_fault, printed_type_fault, declaration_faults, first_print_fault, print_fault, syntax_fault};
+ghost use Rattle.printed_problems.specs.Checks.{MeetsFault, HaveForms, CanCheck, is_seen, bare_fault, the_task};
 
 use crate::fault::PrintFault;
 use crate::forms::has_forms;
@@ -17,7 +17,7 @@ use tasks::{Body, Decl, Task};
 use term_store::Store;
 use trees::TermId;
 
-/// What a look for faults is given: a task in a store, its driver, what stands in its problem's table, and the places of the
+/// What a look for faults is given: a task in a store, its driver, what is in its problem's table, and the places of the
 /// interpreted symbols without a template.
 #[derive(Clone, Copy)]
 pub struct Checker<'a> {
@@ -31,9 +31,10 @@ pub struct Checker<'a> {
 // Whether the thing at a place is among what occurs.
 fn is_seen(c: &Checker<'_>, seen: &Things, place: usize) -> bool
     requires can { CanCheck c.now }
-    requires seen_held { AreHeld c.now.store.now seen.now }
+    requires seen_held { KeysHeld c.now.store.now seen.now }
     requires within { place < length c.now.things.now }
-    ensures { result ≡ is_seen c.now.store.now c.now.things.now (seen_at c.now.store.now seen.now)
+    ensures { result ≡ is_seen c.now.store.now c.now.things.now
+        (seen_occurrences c.now.store.now seen.now)
         place }
 {
     let keys = c.things.as_slice();
@@ -43,8 +44,8 @@ fn is_seen(c: &Checker<'_>, seen: &Things, place: usize) -> bool
 // Whether a bare symbol is among what occurs; the one at the least place is told.
 fn check_bare(c: &Checker<'_>, seen: &Things) -> Result<(), PrintFault>
     requires can { CanCheck c.now }
-    requires seen_held { AreHeld c.now.store.now seen.now }
-    ensures { Meets result (bare_fault c.now seen.now) }
+    requires seen_held { KeysHeld c.now.store.now seen.now }
+    ensures { MeetsFault result (bare_fault c.now seen.now) }
 {
     for place in c.bare {
         if is_seen(c, seen, *place) {
@@ -54,11 +55,12 @@ fn check_bare(c: &Checker<'_>, seen: &Things) -> Result<(), PrintFault>
     Ok(())
 }
 
-// Whether a bare symbol stands in a type.
+// Whether a bare symbol is in a type.
 fn check_type(alloc: Global, c: &Checker<'_>, ty: TermId) -> Result<(), PrintFault>
     requires can { CanCheck c.now }
     requires held { Holds c.now.store.now ty }
-    ensures { Meets result (type_fault c.now.driver.now (the_task c.now) (tree_at c.now.store.now
+    ensures { MeetsFault result (printed_type_fault c.now.driver.now (the_task c.now)
+        (tree_at c.now.store.now
         ty)) }
 {
     if c.bare.is_empty() {
@@ -72,7 +74,8 @@ fn check_type(alloc: Global, c: &Checker<'_>, ty: TermId) -> Result<(), PrintFau
 fn check_syntax(alloc: Global, c: &Checker<'_>, e: TermId) -> Result<(), PrintFault>
     requires can { CanCheck c.now }
     requires held { Holds c.now.store.now e }
-    ensures { Meets result (syntax_fault c.now.driver.now (the_task c.now) (occurrences (tree_at
+    ensures { MeetsFault result (syntax_fault c.now.driver.now (the_task c.now)
+        (occurrences (tree_at
         c.now.store.now e))) }
 {
     if c.bare.is_empty() {
@@ -93,7 +96,7 @@ fn check_formula(
     requires can { CanCheck c.now }
     requires done { HaveForms c.now.driver.now.printer c.now.store.now done.old.keys }
     requires held { Holds c.now.store.now e }
-    ensures due { Meets result (formula_fault c.now.driver.now (the_task c.now) number (tree_at
+    ensures due { MeetsFault result (formula_fault c.now.driver.now (the_task c.now) number (tree_at
         c.now.store.now e)) }
     ensures done { OnOk result (HaveForms c.now.driver.now.printer c.now.store.now done.new.keys) }
 {
@@ -117,7 +120,8 @@ fn check_body(
     requires can { CanCheck c.now }
     requires done { HaveForms c.now.driver.now.printer c.now.store.now done.old.keys }
     requires held { BodyHeld c.now.store.now body.now }
-    ensures due { Meets result (body_fault c.now.driver.now (the_task c.now) number (body_at
+    ensures due { MeetsFault result (printed_body_fault c.now.driver.now (the_task c.now) number
+        (body_at
         c.now.store.now body.now)) }
     ensures done { OnOk result (HaveForms c.now.driver.now.printer c.now.store.now done.new.keys) }
 {
@@ -141,7 +145,8 @@ fn check_declarations(
     requires can { CanCheck c.now }
     requires done { HaveForms c.now.driver.now.printer c.now.store.now done.old.keys }
     requires held { All (DeclHeld c.now.store.now) decls.now }
-    ensures due { Meets result (first_fault (declaration_faults c.now.driver.now (the_task c.now) 0
+    ensures due { MeetsFault result (first_print_fault
+        (declaration_faults c.now.driver.now (the_task c.now) 0
         (declarations_at c.now.store.now decls.now))) }
     ensures done { OnOk result (HaveForms c.now.driver.now.printer c.now.store.now done.new.keys) }
 {
@@ -155,7 +160,8 @@ fn check_declarations(
 fn check_types(alloc: Global, c: &Checker<'_>, types: &[TermId]) -> Result<(), PrintFault>
     requires can { CanCheck c.now }
     requires held { All (Holds c.now.store.now) types.now }
-    ensures { Meets result (first_fault (map (type_fault c.now.driver.now (the_task c.now))
+    ensures { MeetsFault result (first_print_fault
+        (map (printed_type_fault c.now.driver.now (the_task c.now))
         (trees_at c.now.store.now types.now))) }
 {
     for ty in types {
@@ -164,7 +170,7 @@ fn check_types(alloc: Global, c: &Checker<'_>, types: &[TermId]) -> Result<(), P
     Ok(())
 }
 
-// The first fault of formulas that stand behind so many declarations.
+// The first fault of formulas that come after so many declarations.
 fn check_formulas(
     alloc: Global,
     c: &Checker<'_>,
@@ -175,7 +181,8 @@ fn check_formulas(
     requires can { CanCheck c.now }
     requires done { HaveForms c.now.driver.now.printer c.now.store.now done.old.keys }
     requires held { All (Holds c.now.store.now) formulas.now }
-    ensures due { Meets result (first_fault (map (formula_fault c.now.driver.now (the_task c.now)
+    ensures due { MeetsFault result (first_print_fault
+        (map (formula_fault c.now.driver.now (the_task c.now)
         number) (trees_at c.now.store.now formulas.now))) }
     ensures done { OnOk result (HaveForms c.now.driver.now.printer c.now.store.now done.new.keys) }
 {
@@ -188,7 +195,7 @@ fn check_formulas(
 /// The first fault of a task.
 pub(crate) fn check_task(alloc: Global, c: &Checker<'_>) -> Result<(), PrintFault>
     requires { CanCheck c.now }
-    ensures { Meets result (print_fault c.now.driver.now (the_task c.now)) }
+    ensures { MeetsFault result (print_fault c.now.driver.now (the_task c.now)) }
 {
     let mut done = IndexSet::new(alloc);
     let decls = c.task.decls.as_slice();

@@ -7,7 +7,7 @@ use std::alloc::{AllocError, AllocFailed};
 /// Why a task has no text. Declarations count from 0, and locals and the goal have the number of declarations.
 ///
 /// - `Memory`: memory ran out.
-/// - `Polymorphic`: a schematic type variable stands in this declaration.
+/// - `Polymorphic`: a schematic type variable is in this declaration.
 /// - `Unprintable`: this declaration is of a kind, or has a form, that the printer lacks.
 /// - `NoSyntax`: `int` or a symbol of int.Int is used and has no template; the symbol is its place in the name table.
 #[derive(Clone, Copy)]

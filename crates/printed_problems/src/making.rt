@@ -4,11 +4,11 @@ ghost use Rattle.std.specs.Str.{bytes_eq};
 ghost use Rattle.trees.specs.Node.{Holds};
 ghost use Rattle.tasks.specs.Meaning.{trees_at, body_at, task_at, BodyHeld, DeclHeld, TaskHeld};
 ghost use Rattle.name_tables.specs.Tables.{problem_things};
-ghost use Rattle.name_tables.specs.Seen.{seen_at, AreHeld};
+ghost use Rattle.name_tables.specs.Seen.{seen_occurrences, KeysHeld};
 ghost use Rattle.printed_problems.specs.Problems.{general, texts_where, problem_of};
 ghost use Rattle.printed_problems.specs.Faults.{print_fault};
-ghost use Rattle.printed_problems.specs.Checks.{Meets};
-ghost use Rattle.printed_problems.specs.Made.{problem_at, ProblemHeld, HasTheory, text_if, IsSpecial, PushesSpecial, ArePreludes, AreFacts, said_formulas, IsProblem};
+ghost use Rattle.printed_problems.specs.Checks.{MeetsFault};
+ghost use Rattle.printed_problems.specs.Made.{problem_at, ProblemHeld, HasTheory, text_if, IsSpecial, PushesSpecial, ArePreludes, AreNumberedFacts, said_formulas, IsProblem};
 
 use crate::checks::{Checker, check_task};
 use crate::fault::PrintFault;
@@ -109,7 +109,7 @@ fn preludes_of(alloc: Global, driver: &Driver, task: &Task) -> Result<Seq<Text>,
 // The propositions of declarations.
 fn facts_of(alloc: Global, store: &Store, decls: &[Decl]) -> Result<Seq<TermId>, AllocError>
     requires { All (DeclHeld store.now) decls.now }
-    ensures { IfOk result (AreFacts store.now decls.now) }
+    ensures { IfOk result (AreNumberedFacts store.now decls.now) }
 {
     let _ = store;
     let mut facts = Seq::new(alloc);
@@ -143,8 +143,9 @@ fn problem_by(
     things: &Things,
 ) -> Result<Problem, AllocError>
     requires held { TaskHeld store.now task.now }
-    requires things_held { AreHeld store.now things.now }
-    requires things { seen_at store.now things.now ≡ problem_things (task_at store.now task.now) }
+    requires things_held { KeysHeld store.now things.now }
+    requires things { seen_occurrences store.now things.now
+        ≡ problem_things (task_at store.now task.now) }
     ensures { IfOk result (IsProblem store.now
         (problem_of driver.now (task_at store.now task.now))) }
 {
@@ -174,9 +175,10 @@ fn check(
     things: &Things,
 ) -> Result<(), PrintFault>
     requires held { TaskHeld store.now task.now }
-    requires things_held { AreHeld store.now things.now }
-    requires things { seen_at store.now things.now ≡ problem_things (task_at store.now task.now) }
-    ensures { Meets result (print_fault driver.now (task_at store.now task.now)) }
+    requires things_held { KeysHeld store.now things.now }
+    requires things { seen_occurrences store.now things.now
+        ≡ problem_things (task_at store.now task.now) }
+    ensures { MeetsFault result (print_fault driver.now (task_at store.now task.now)) }
 {
     let bare = places_of(alloc, driver, task, things, Question::IsBare)?;
     let checker = Checker {
@@ -202,7 +204,7 @@ pub fn problem(
     ensures problem { IfOk result (λ p. problem_at store.now p ≡ problem_of driver.now (task_at
         store.now task.now)) }
     ensures held { IfOk result (ProblemHeld store.now) }
-    ensures due { Meets result (print_fault driver.now (task_at store.now task.now)) }
+    ensures due { MeetsFault result (print_fault driver.now (task_at store.now task.now)) }
 {
     let things = Things::of_problem(alloc, store, task)?;
     check(alloc, store, task, driver, &things)?;

@@ -1,6 +1,6 @@
 // Which things of a table are asked for, by place.
 ghost use Rattle.std.specs.Prelude.{◌≡◌, IfOk, OnOk};
-ghost use Rattle.printed_problems.specs.Tests.{IsKindOf, IsTold, PushesIf, ArePlaces};
+ghost use Rattle.printed_problems.specs.Tests.{IsKindOf, IsQuestionAnswered, PushesIf, ArePlaces};
 
 use crate::templates::has_template;
 use driver_parts::Driver;
@@ -33,7 +33,7 @@ fn is_kind(task: &Task, symbol: usize) -> bool
 
 // The answer for a symbol.
 fn asks(driver: &Driver, task: &Task, question: Question, symbol: usize) -> bool
-    ensures { IsTold question driver.now task.now symbol result }
+    ensures { IsQuestionAnswered question driver.now task.now symbol result }
 {
     let interpreted = is_interpreted(task.sig.ints, symbol);
     let printed = has_template(driver, symbol);
@@ -45,7 +45,7 @@ fn asks(driver: &Driver, task: &Task, question: Question, symbol: usize) -> bool
     }
 }
 
-// Appends a place, if the answer for the symbol that stands there is yes.
+// Appends a place, if the answer for the symbol that is there is yes.
 fn push_if(
     driver: &Driver,
     task: &Task,

@@ -14,14 +14,14 @@ use Rattle.printed_terms.specs.declared.ranks.Rank.{Rank}
 use Rattle.printed_terms.specs.Texts.{Printing, sort_by, printed_sort}
 
 -- the entry in the signature of what a name stands for
-abbrev pub symbol_of : NameOf → ℕ
-symbol_of Int = 0
-symbol_of (Rigid k) = k
-symbol_of (Symbol k) = k
+abbrev pub entry_number : NameOf → ℕ
+entry_number Int = 0
+entry_number (Rigid k) = k
+entry_number (Symbol k) = k
 
 -- whether a name stands for a symbol at the types of these places
 abbrev pub is_for : ℕ → List ℕ → NameEntry → Bool
-is_for k types e = (symbol_of e.symbol == k) && bytes_eq e.types types
+is_for k types e = (entry_number e.symbol == k) && bytes_eq e.types types
 
 -- its place, or their number
 abbrev pub place_for : List NameEntry → ℕ → List ℕ → ℕ
@@ -67,7 +67,7 @@ rank_in names types e = rank_by names types e.args e.result
 
 -- that of what a name stands for, under the entries of a signature
 abbrev pub rank_of : List NameEntry → List SymbolTree → NameEntry → Rank
-rank_of names symbols e = rank_in names e.types (symbol_or symbols (symbol_of e.symbol))
+rank_of names symbols e = rank_in names e.types (symbol_or symbols (entry_number e.symbol))
 
 -- the sorts at places
 abbrev pub sorts_at : Printing → List ℕ → List (List ℕ)

@@ -9,13 +9,13 @@ use Rattle.printed_terms.specs.declared.words.Form.TheVariants.{Negation, Connec
 use Rattle.printed_terms.specs.declared.words.Binder.{Binder}
 use Rattle.printed_terms.specs.declared.words.Binder.TheVariants.{ForAll, ThereIs, LetIn}
 
-abbrev pub truth : Printer → Bool → List ℕ
-truth Smt true = codes "true"
-truth Smt false = codes "false"
-truth Tff true = codes "$true"
-truth Tff false = codes "$false"
+abbrev pub truth_text : Printer → Bool → List ℕ
+truth_text Smt true = codes "true"
+truth_text Smt false = codes "false"
+truth_text Tff true = codes "$true"
+truth_text Tff false = codes "$false"
 
--- what stands before the parts of a form; behind them stands `)`
+-- what is before the parts of a form; after them stands `)`
 abbrev pub opening : Printer → Form → List ℕ
 opening Smt Negation = codes "(not "
 opening Smt (Connected And) = codes "(and "
@@ -29,19 +29,19 @@ opening Smt Conditional = codes "(ite "
 opening Tff Negation = codes "(~ "
 opening Tff _ = codes "("
 
--- what stands between two parts of a form
-abbrev pub between : Printer → Form → List ℕ
-between Smt _ = codes " "
-between Tff (Connected And) = codes " & "
-between Tff (Connected AndThen) = codes " & "
-between Tff (Connected Or) = codes " | "
-between Tff (Connected OrElse) = codes " | "
-between Tff (Connected Imp) = codes " => "
-between Tff (Connected Iff) = codes " <=> "
-between Tff Equality = codes " = "
-between Tff _ = []
+-- what is between two parts of a form
+abbrev pub part_separator : Printer → Form → List ℕ
+part_separator Smt _ = codes " "
+part_separator Tff (Connected And) = codes " & "
+part_separator Tff (Connected AndThen) = codes " & "
+part_separator Tff (Connected Or) = codes " | "
+part_separator Tff (Connected OrElse) = codes " | "
+part_separator Tff (Connected Imp) = codes " => "
+part_separator Tff (Connected Iff) = codes " <=> "
+part_separator Tff Equality = codes " = "
+part_separator Tff _ = []
 
--- what stands before a binder's variable, between it and its sort or value, and before its body
+-- what is before a binder's variable, between it and its sort or value, and before its body
 abbrev pub binder_opening : Printer → Binder → List ℕ
 binder_opening Smt ForAll = codes "(forall (("
 binder_opening Smt ThereIs = codes "(exists (("
@@ -59,18 +59,18 @@ before_body Smt = codes ")) "
 before_body Tff = codes "] : "
 
 -- a bound variable's letter
-abbrev pub letter : Printer → List ℕ
-letter Smt = codes "x"
-letter Tff = codes "X"
+abbrev pub variable_letter : Printer → List ℕ
+variable_letter Smt = codes "x"
+variable_letter Tff = codes "X"
 
--- what stands before and behind the name of a symbol with arguments, and between these
+-- what is before and after the name of a symbol with arguments, and between these
 abbrev pub before_name : Printer → List ℕ
 before_name Smt = codes "("
 before_name Tff = []
 
-abbrev pub behind_name : Printer → List ℕ
-behind_name Smt = codes " "
-behind_name Tff = codes "("
+abbrev pub after_name : Printer → List ℕ
+after_name Smt = codes " "
+after_name Tff = codes "("
 
 abbrev pub between_arguments : Printer → List ℕ
 between_arguments Smt = codes " "

@@ -4,7 +4,7 @@ ghost use Rattle.trees.specs.declared.TermId.{TermId};
 ghost use Rattle.trees.specs.Node.{tree_at, Holds};
 ghost use Rattle.tasks.specs.Typing.{members};
 ghost use Rattle.tasks.specs.Meaning.{trees_at};
-ghost use Rattle.printed_terms.specs.Meaning.{AreMembers};
+ghost use Rattle.printed_terms.specs.Meaning.{AreListMembers};
 
 use std::alloc::{AllocError, Global};
 use term_store::Store;
@@ -36,7 +36,7 @@ fn push_members(
 /// The members of a list.
 pub(crate) fn members(alloc: Global, store: &Store, list: TermId) -> Result<Vec<TermId>, AllocError>
     requires { Holds store.now list }
-    ensures { IfOk result (λ v. AreMembers store.now list v.items) }
+    ensures { IfOk result (λ v. AreListMembers store.now list v.items) }
 {
     let mut made = Vec::new(alloc);
     push_members(store, list, &mut made, list.0)?;

@@ -3,7 +3,7 @@ ghost use Rattle.std.specs.Prelude.{◌≡◌, ◌∷◌, [], ◌==◌, OnOk, No
 ghost use Rattle.std.specs.Fmt.{decimal};
 ghost use Rattle.trees.specs.Node.{tree_at, Holds};
 ghost use Rattle.name_tables.specs.Occurrences.{occurrence};
-ghost use Rattle.printed_terms.specs.Texts.{name_at, name_of, variable, parameter};
+ghost use Rattle.printed_terms.specs.Texts.{name_at, printed_name, variable_text, parameter};
 ghost use Rattle.printed_terms.specs.Meaning.{printing, CanPrint, Appends};
 ghost use Rattle.printed_problems.specs.Templates.{template_in};
 
@@ -17,7 +17,7 @@ use std::alloc::{AllocError, Global};
 use term_store::Store;
 use trees::TermId;
 
-/// What types, terms and formulas are printed with: the store that has them, the driver with its templates, what stands in the
+/// What types, terms and formulas are printed with: the store that has them, the driver with its templates, what is in the
 /// table of names, and the names.
 #[derive(Clone, Copy)]
 pub struct TermPrinter<'a> {
@@ -47,7 +47,7 @@ pub(crate) fn push_name(
 ) -> Result<(), AllocError>
     requires can { CanPrint c.now }
     requires held { Holds c.now.store.now types }
-    ensures { OnOk result (Appends out.old.items (name_of (printing c.now) (occurrence symbol
+    ensures { OnOk result (Appends out.old.items (printed_name (printing c.now) (occurrence symbol
         (tree_at c.now.store.now types))) out.new.items) }
 {
     push_name_at(c, out, c.things.place_of(c.store, symbol, types))
@@ -81,7 +81,7 @@ pub(crate) fn push_variable(
     syntax: Printer,
     depth: usize,
 ) -> Result<(), AllocError>
-    ensures { OnOk result (Appends out.old.items (variable syntax depth) out.new.items) }
+    ensures { OnOk result (Appends out.old.items (variable_text syntax depth) out.new.items) }
 {
     out.extend_from_slice(letter(syntax))?;
     push_number(alloc, out, depth)

@@ -5,7 +5,7 @@ ghost use Rattle.std.specs.List.{flat_map};
 ghost use Rattle.trees.specs.Node.{tree_at, Holds};
 ghost use Rattle.tasks.specs.Meaning.{trees_at, symbols_at, SymbolHeld};
 ghost use Rattle.printed_terms.specs.Texts.{each_behind, joined};
-ghost use Rattle.printed_terms.specs.Ranks.{symbol_of, is_for, place_for, type_places, rank_by, rank_of, sorts_at};
+ghost use Rattle.printed_terms.specs.Ranks.{entry_number, is_for, place_for, type_places, rank_by, rank_of, sorts_at};
 ghost use Rattle.printed_terms.specs.Meaning.{printing, CanPrint, Appends};
 
 use crate::printer::TermPrinter;
@@ -26,7 +26,7 @@ pub struct Rank {
 
 // The entry in the signature of what a name stands for.
 fn entry_symbol(name: NameOf) -> usize
-    ensures { result ≡ symbol_of name }
+    ensures { result ≡ entry_number name }
 {
     match name {
         NameOf::Int => 0,
@@ -192,7 +192,7 @@ pub fn rank_of(
     )
 }
 
-// Appends the sorts at places, each behind a text.
+// Appends the sorts at places, each after a text.
 fn push_each_sort(
     c: &TermPrinter<'_>,
     out: &mut Vec<u8>,

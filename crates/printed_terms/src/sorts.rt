@@ -37,7 +37,7 @@ pub fn push_sort(c: &TermPrinter<'_>, out: &mut Vec<u8>, ty: TermId) -> Result<(
     }
 }
 
-// Appends the sort of a type symbol that stands at a place of the table, with arguments that are below a number.
+// Appends the sort of a type symbol that is at a place of the table, with arguments that are below a number.
 #[cycle(sorts)]
 fn push_sort_by(
     c: &TermPrinter<'_>,
@@ -93,7 +93,7 @@ fn push_sort_pieces(
     Ok(())
 }
 
-// Appends the sort of a thing that stands at a place of the table.
+// Appends the sort of a thing that is at a place of the table.
 fn push_sort_of_thing(
     c: &TermPrinter<'_>,
     out: &mut Vec<u8>,
@@ -110,7 +110,7 @@ fn push_sort_of_thing(
     push_sort_by(c, out, key.0, place, args.as_slice(), types)
 }
 
-/// Appends the sort of what stands at a place of the table.
+/// Appends the sort of what is at a place of the table.
 pub fn push_sort_at(c: &TermPrinter<'_>, out: &mut Vec<u8>, place: usize) -> Result<(), AllocError>
     requires { CanPrint c.now }
     ensures { OnOk result (Appends out.old.items (sort_at (printing c.now) place) out.new.items) }

@@ -5,7 +5,7 @@ ghost use Rattle.trees.specs.Node.{tree_at, Holds};
 ghost use Rattle.tasks.specs.Meaning.{trees_at};
 ghost use Rattle.name_tables.specs.Occurrences.{occurrence};
 ghost use Rattle.printed_problems.specs.Templates.{by_pieces};
-ghost use Rattle.printed_terms.specs.Texts.{each_behind, joined, enclosed, applied, name_of, symbol_text, equality_text, bound_text, sort_text, printed, term_text, formula_text};
+ghost use Rattle.printed_terms.specs.Texts.{each_behind, joined, form_text, application_text, printed_name, symbol_text, equality_text, bound_text, sort_text, printed, term_text, formula_text};
 ghost use Rattle.printed_terms.specs.declared.words.Binder.TheVariants.{LetIn};
 ghost use Rattle.printed_terms.specs.Meaning.{printing, CanPrint, Appends};
 
@@ -13,8 +13,8 @@ use crate::lists::members;
 use crate::printer::{TermPrinter, push_name, push_parameter, push_variable, template_in};
 use crate::sorts::push_sort;
 use crate::words::{
-    Binder, Form, before_body, before_bound, before_name, behind_name, separator, between_arguments,
-    binder_opening, opening, truth,
+    Binder, Form, before_body, before_bound, before_name, behind_name, between_arguments,
+    binder_opening, opening, separator, truth,
 };
 use driver_items::Piece;
 use std::alloc::AllocError;
@@ -61,7 +61,7 @@ fn push_term(
     }
 }
 
-// Appends terms, each behind a text. They are below a number.
+// Appends terms, each after a text. They are below a number.
 #[cycle(terms)]
 fn push_each(
     c: &TermPrinter<'_>,
@@ -125,7 +125,7 @@ fn push_enclosed(
     requires held { Holds c.now.store.now below }
     requires deep { depth + below.0 ≤ usize.MAX }
     requires below { All (λ (id : TermId). id.0 < below.0) args.now }
-    ensures { OnOk result (Appends out.old.items (enclosed c.now.driver.now.printer form
+    ensures { OnOk result (Appends out.old.items (form_text c.now.driver.now.printer form
         (map (term_text (printing c.now) depth) (trees_at c.now.store.now args.now)))
         out.new.items) }
 {
@@ -204,8 +204,8 @@ fn push_applied(
     requires held { Holds c.now.store.now below }
     requires deep { depth + below.0 ≤ usize.MAX }
     requires below { All (λ (id : TermId). id.0 < below.0) args.now }
-    ensures { OnOk result (Appends out.old.items (applied c.now.driver.now.printer
-        (name_of (printing c.now) (occurrence symbol (tree_at c.now.store.now types)))
+    ensures { OnOk result (Appends out.old.items (application_text c.now.driver.now.printer
+        (printed_name (printing c.now) (occurrence symbol (tree_at c.now.store.now types)))
         (map (term_text (printing c.now) depth) (trees_at c.now.store.now args.now)))
         out.new.items) }
 {

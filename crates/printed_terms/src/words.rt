@@ -2,7 +2,7 @@
 ghost use Rattle.std.specs.Prelude.{◌≡◌};
 ghost use Rattle.driver_items.specs.declared.kinds.Printer.TheVariants.{Smt, Tff};
 ghost use Rattle.printed_terms.specs.declared.words.Form.TheVariants.{Connected};
-ghost use Rattle.printed_terms.specs.Words.{truth, opening, between, binder_opening, before_bound, before_body, letter, before_name, behind_name, between_arguments};
+ghost use Rattle.printed_terms.specs.Words.{truth_text, opening, part_separator, binder_opening, before_bound, before_body, variable_letter, before_name, after_name, between_arguments};
 
 use driver_items::Printer;
 use trees::Op;
@@ -25,7 +25,7 @@ pub enum Binder {
 }
 
 pub(crate) fn truth(syntax: Printer, value: bool) -> &'static [u8]
-    ensures { result.now ≡ truth syntax value }
+    ensures { result.now ≡ truth_text syntax value }
 {
     match (syntax, value) {
         (Printer::Smt, true) => b"true",
@@ -35,7 +35,7 @@ pub(crate) fn truth(syntax: Printer, value: bool) -> &'static [u8]
     }
 }
 
-// What stands before two connected formulas in SMT-LIB.
+// What is before two connected formulas in SMT-LIB.
 fn op_opening(op: Op) -> &'static [u8]
     ensures { result.now ≡ opening Smt (Connected op) }
 {
@@ -49,7 +49,7 @@ fn op_opening(op: Op) -> &'static [u8]
     }
 }
 
-// What stands before the parts of a form in SMT-LIB.
+// What is before the parts of a form in SMT-LIB.
 fn smt_opening(form: Form) -> &'static [u8]
     ensures { result.now ≡ opening Smt form }
 {
@@ -61,7 +61,7 @@ fn smt_opening(form: Form) -> &'static [u8]
     }
 }
 
-/// What stands before the parts of a form.
+/// What is before the parts of a form.
 pub(crate) fn opening(syntax: Printer, form: Form) -> &'static [u8]
     ensures { result.now ≡ opening syntax form }
 {
@@ -72,9 +72,9 @@ pub(crate) fn opening(syntax: Printer, form: Form) -> &'static [u8]
     }
 }
 
-// What stands between two connected formulas in TFF0.
+// What is between two connected formulas in TFF0.
 fn op_between(op: Op) -> &'static [u8]
-    ensures { result.now ≡ between Tff (Connected op) }
+    ensures { result.now ≡ part_separator Tff (Connected op) }
 {
     match op {
         Op::And => b" & ",
@@ -86,9 +86,9 @@ fn op_between(op: Op) -> &'static [u8]
     }
 }
 
-/// What stands between two parts of a form.
+/// What is between two parts of a form.
 pub(crate) fn separator(syntax: Printer, form: Form) -> &'static [u8]
-    ensures { result.now ≡ between syntax form }
+    ensures { result.now ≡ part_separator syntax form }
 {
     match (syntax, form) {
         (Printer::Smt, _) => b" ",
@@ -98,7 +98,7 @@ pub(crate) fn separator(syntax: Printer, form: Form) -> &'static [u8]
     }
 }
 
-/// What stands before a binder's variable.
+/// What is before a binder's variable.
 pub(crate) fn binder_opening(syntax: Printer, binder: Binder) -> &'static [u8]
     ensures { result.now ≡ binder_opening syntax binder }
 {
@@ -112,7 +112,7 @@ pub(crate) fn binder_opening(syntax: Printer, binder: Binder) -> &'static [u8]
     }
 }
 
-/// What stands between a binder's variable and its sort or value.
+/// What is between a binder's variable and its sort or value.
 pub(crate) fn before_bound(syntax: Printer) -> &'static [u8]
     ensures { result.now ≡ before_bound syntax }
 {
@@ -122,7 +122,7 @@ pub(crate) fn before_bound(syntax: Printer) -> &'static [u8]
     }
 }
 
-/// What stands before a binder's body.
+/// What is before a binder's body.
 pub(crate) fn before_body(syntax: Printer) -> &'static [u8]
     ensures { result.now ≡ before_body syntax }
 {
@@ -134,7 +134,7 @@ pub(crate) fn before_body(syntax: Printer) -> &'static [u8]
 
 /// The letter of a bound variable.
 pub(crate) fn letter(syntax: Printer) -> &'static [u8]
-    ensures { result.now ≡ letter syntax }
+    ensures { result.now ≡ variable_letter syntax }
 {
     match syntax {
         Printer::Smt => b"x",
@@ -142,7 +142,7 @@ pub(crate) fn letter(syntax: Printer) -> &'static [u8]
     }
 }
 
-/// What stands before the name of a symbol with arguments.
+/// What is before the name of a symbol with arguments.
 pub(crate) fn before_name(syntax: Printer) -> &'static [u8]
     ensures { result.now ≡ before_name syntax }
 {
@@ -152,9 +152,9 @@ pub(crate) fn before_name(syntax: Printer) -> &'static [u8]
     }
 }
 
-/// What stands between a name and its arguments.
+/// What is between a name and its arguments.
 pub(crate) fn behind_name(syntax: Printer) -> &'static [u8]
-    ensures { result.now ≡ behind_name syntax }
+    ensures { result.now ≡ after_name syntax }
 {
     match syntax {
         Printer::Smt => b" ",
@@ -162,7 +162,7 @@ pub(crate) fn behind_name(syntax: Printer) -> &'static [u8]
     }
 }
 
-/// What stands between two arguments.
+/// What is between two arguments.
 pub(crate) fn between_arguments(syntax: Printer) -> &'static [u8]
     ensures { result.now ≡ between_arguments syntax }
 {

@@ -119,7 +119,7 @@ fn put_asked(
     put_problem(alloc, out, &terms, &one, given.driver.as_slice(), counts)
 }
 
-/// The answer to a line; what is given stays for the lines behind it.
+/// The answer to a line; what is given stays for the lines after it.
 pub(crate) fn answer(alloc: Global, given: &mut Given, line: &str) -> Result<String, AllocError> {
     let mut out = String::new(alloc);
     let Some((letter, rest)) = line.as_bytes().split_first() else {

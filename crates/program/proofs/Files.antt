@@ -18,8 +18,8 @@ use Rattle.kernel.proofs.Growth.{steps_later, steps_held_later}
 use Rattle.evidence.specs.Stages.{task_or, no_task, parts_at, part_or, PartsHeld, PartsClose}
 use Rattle.kernel.specs.Right.{Closes}
 use Rattle.fault_order.specs.Answers.{Answers}
-use Rattle.fault_order.specs.Order.{Meaning, Answer, After}
-use Rattle.program.specs.Order.{PartFile, FirstFiles, name_or}
+use Rattle.fault_order.specs.Order.{StageMeaning, Answer, After}
+use Rattle.program.specs.Order.{PartFile, FirstFiles, name_with_number}
 use Rattle.fault_order.specs.declared.faults.RunFault.{RunFault}
 use Rattle.fault_order.specs.declared.faults.RunFault.TheVariants as run_fault
 use Rattle.fault_order.proofs.Meeting.{answers_then, answers_stop, answers_value, still_twice}
@@ -72,21 +72,21 @@ pub close_all : (parts : List TaskTree) (handed : List (List StepTree)) (n : ℕ
 close_all parts handed n e a = record { as_many = a.as_many ∙ e; each = λ i l. a.each i (omega arith) }
 
 -- a name, as the code has it
-pub name_at : (names : List (String Global)) (i : ℕ) (x : String Global) (name : List ℕ) → x ≡ get_or names i x → i < length names → name ≡ string_bytes x → name ≡ name_or (map string_bytes names) i
+pub name_at : (names : List (String Global)) (i : ℕ) (x : String Global) (name : List ℕ) → x ≡ get_or names i x → i < length names → name ≡ string_bytes x → name ≡ name_with_number (map string_bytes names) i
 name_at names i x name is l e = e ∙ ap string_bytes is ∙ sym (get_or-map string_bytes names i x [] l)
 
 module _ (first : ℕ) (parts : List TaskTree) (names : List (List ℕ)) where
   -- what is left after the first k files
-  abbrev next_file : ℕ → List (List StepTree) → Meaning (List (List StepTree))
-  next_file k handed files limit = After (PartFile first k (task_or parts k) (name_or names k) files limit) (λ steps. Answer (Ok (handed ++ steps ∷ [])))
+  abbrev next_file : ℕ → List (List StepTree) → StageMeaning (List (List StepTree))
+  next_file k handed files limit = After (PartFile first k (task_or parts k) (name_with_number names k) files limit) (λ steps. Answer (Ok (handed ++ steps ∷ [])))
 
-  abbrev added : List (List StepTree) → List StepTree → Meaning (List (List StepTree))
+  abbrev added : List (List StepTree) → List StepTree → StageMeaning (List (List StepTree))
   added handed steps files limit = Answer (Ok (handed ++ steps ∷ []))
 
 module _ (first : ℕ) (parts : List TaskTree) (names : List (List ℕ)) {s0 s1 s2 : LibraryState} where
   -- one file more
   pub files_more : (k : ℕ) (handed : List (List StepTree)) (steps : List StepTree) → Answers (FirstFiles first parts names k) first (λ _. k + first) s0 s1 (Ok handed)
-      → Answers (PartFile first k (task_or parts k) (name_or names k)) (k + first) (λ _. k + first + 1) s1 s2 (Ok steps)
+      → Answers (PartFile first k (task_or parts k) (name_with_number names k)) (k + first) (λ _. k + first + 1) s1 s2 (Ok steps)
       → Answers (FirstFiles first parts names (k + 1)) first (λ _. k + 1 + first) s0 s2 (Ok (handed ++ steps ∷ []))
   files_more k handed steps one two =
       let e : k + first + 1 ≡ k + 1 + first = omega arith in
@@ -109,7 +109,7 @@ module _ (first : ℕ) (parts : List TaskTree) (names : List (List ℕ)) {s0 s1 
 
 -- a file stops
 pub files_stop : (first : ℕ) (parts : List TaskTree) (names : List (List ℕ)) {s0 s1 s2 : LibraryState} {e : RunFault} (k n : ℕ) (handed : List (List StepTree)) → k < n → Answers (FirstFiles first parts names k) first (λ _. k + first) s0 s1 (Ok handed)
-    → Answers (PartFile first k (task_or parts k) (name_or names k)) (k + first) (λ _. k + first + 1) s1 s2 (Err e)
+    → Answers (PartFile first k (task_or parts k) (name_with_number names k)) (k + first) (λ _. k + first + 1) s1 s2 (Err e)
     → Answers (FirstFiles first parts names n) first (λ _. n + first) s0 s2 (Err e)
 files_stop first parts names {s0 = s0} {s1 = s1} {s2 = s2} {e = e} k n handed l one two =
     let whole : Answers (FirstFiles first parts names (suc k)) first (λ _. n + first) s0 s2 (Err e) =
@@ -117,6 +117,6 @@ files_stop first parts names {s0 = s0} {s1 = s1} {s2 = s2} {e = e} k n handed l 
     stop_later first parts names (suc k) n (λ _. n + first) (omega arith) whole
 
 -- want of memory after what was read
-pub lost_after : {A B C : Type 0} {first : Meaning A} {second : Meaning B} (whole : Meaning C) {start two three : ℕ} {f : A → ℕ} {h : B → ℕ} (next : C → ℕ) {s0 s1 s2 : LibraryState} {a : A} {b : B}
+pub lost_after : {A B C : Type 0} {first : StageMeaning A} {second : StageMeaning B} (whole : StageMeaning C) {start two three : ℕ} {f : A → ℕ} {h : B → ℕ} (next : C → ℕ) {s0 s1 s2 : LibraryState} {a : A} {b : B}
     → Answers first start f s0 s1 (Ok a) → Answers second two h s1 s2 (Ok b) → Answers whole three next s0 s2 (Err run_fault.Memory)
 lost_after whole next {s0 = s0} {s1 = s1} {s2 = s2} x y = record { files = y.files ∙ x.files; meets = still_twice s0 s1 s2 x.meets.0 y.meets.0 }

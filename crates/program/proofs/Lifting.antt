@@ -6,12 +6,12 @@ use Rattle.tasks.specs.Task.{TaskTree}
 use Rattle.rule_rows.specs.Trees.{StepTree}
 use Rattle.name_tables.specs.Tables.{task_names}
 use Rattle.step_files.specs.Lines.{StepsOf}
-use Rattle.stages.specs.Lifted.{HasSequents}
+use Rattle.stages.specs.Lifted.{HandedHasSequents}
 use Rattle.program.specs.Lifted.{IsLifted}
 use Rattle.fault_order.specs.Answers.{Answers, IsStageAnswer}
-use Rattle.fault_order.specs.Order.{Stop, refused, Meaning, Answer}
-use Rattle.source_goals.specs.Order.{Setting}
-use Rattle.program.specs.Order.{if_counted, FirstFiles, Lifts, Handed, Parts, Reading, Lifting}
+use Rattle.fault_order.specs.Order.{RunStop, refused, StageMeaning, Answer}
+use Rattle.source_goals.specs.Order.{GoalSettingTree}
+use Rattle.program.specs.Order.{if_counted, FirstFiles, Lifts, Handed, PrintableParts, RefutationsRead, Lifting}
 use Rattle.fault_order.specs.declared.faults.Fault.TheVariants.{PartCount}
 use Rattle.fault_order.specs.declared.faults.RunFault.{RunFault}
 use Rattle.fault_order.specs.declared.faults.RunFault.TheVariants as run_fault
@@ -33,13 +33,13 @@ module _ (first : ℕ) (names : List (List ℕ)) (parts : List TaskTree) where
   pub count_refused : {s : LibraryState} (next : List (List StepTree) → ℕ) (want have : ℕ) → want ≡ length parts → have ≡ length names → want ≢ have
       → Answers (Handed first names parts) first next s s (Err (run_fault.Refused (PartCount want have)))
   count_refused {s = s} next want have w h n =
-      let stop : Stop = refused (PartCount want have) in
+      let stop : RunStop = refused (PartCount want have) in
       let unlike : length parts ≢ length names = λ e. n (w ∙ e ∙ sym h) in
       let is : Err stop ≡ if_counted parts (length names) =
       ap (λ (z : ℕ). Err (refused (PartCount z have))) w ∙ ap (λ (z : ℕ). Err (refused (PartCount (length parts) z))) h ∙ counted_not parts (length names) unlike in
       answers_refused {meaning = Handed first names parts} {start = first} {next = next} {s = s} {fault = PartCount want have} (λ files. inl (stop, is, refl))
 
-  abbrev reading : List TaskTree → Meaning (List (List StepTree))
+  abbrev reading : List TaskTree → StageMeaning (List (List StepTree))
   reading counted files limit = FirstFiles first counted names (length names) files limit
 
   -- as many files as parts, which are read
@@ -51,28 +51,28 @@ module _ (first : ℕ) (names : List (List ℕ)) (parts : List TaskTree) where
       answers_value {start = first} {next = λ _. first} (omega arith) (λ files limit. counted_all parts (length names) (l ∙ e)) in
       answers_then reading counts here
 
-module _ (names : List (List ℕ)) (g : Setting) where
-  abbrev handing : List TaskTree → Meaning (List (List StepTree))
+module _ (names : List (List ℕ)) (g : GoalSettingTree) where
+  abbrev handing : List TaskTree → StageMeaning (List (List StepTree))
   handing parts = Handed g.driver.next_file names parts
 
   -- the parts, and then their refutations
-  pub read_after : {s0 s1 : LibraryState} {r : Result (List (List StepTree)) RunFault} (next : List (List StepTree) → ℕ) (parts : List TaskTree) → IsStageAnswer (Parts g) (Ok parts)
-      → Answers (Handed g.driver.next_file names parts) g.driver.next_file next s0 s1 r → Answers (Reading names g) g.driver.next_file next s0 s1 r
-  read_after {s0 = s0} next parts h one = answers_then handing (answers_stage (Parts g) g.driver.next_file s0 (Ok parts) h) one
+  pub read_after : {s0 s1 : LibraryState} {r : Result (List (List StepTree)) RunFault} (next : List (List StepTree) → ℕ) (parts : List TaskTree) → IsStageAnswer (PrintableParts g) (Ok parts)
+      → Answers (Handed g.driver.next_file names parts) g.driver.next_file next s0 s1 r → Answers (RefutationsRead names g) g.driver.next_file next s0 s1 r
+  read_after {s0 = s0} next parts h one = answers_then handing (answers_stage (PrintableParts g) g.driver.next_file s0 (Ok parts) h) one
 
-  pub read_stop : {s : LibraryState} (next : List (List StepTree) → ℕ) (e : RunFault) → IsStageAnswer (Parts g) (Err e) → Answers (Reading names g) g.driver.next_file next s s (Err e)
-  read_stop {s = s} next e h = answers_stop handing next (answers_stage (Parts g) g.driver.next_file s (Err e) h)
+  pub read_stop : {s : LibraryState} (next : List (List StepTree) → ℕ) (e : RunFault) → IsStageAnswer (PrintableParts g) (Err e) → Answers (RefutationsRead names g) g.driver.next_file next s s (Err e)
+  read_stop {s = s} next e h = answers_stop handing next (answers_stage (PrintableParts g) g.driver.next_file s (Err e) h)
 
-  abbrev ending : List (List StepTree) → Meaning (List ℕ)
+  abbrev ending : List (List StepTree) → StageMeaning (List ℕ)
   ending handed files limit = Lifts g.task handed
 
-  pub lifted_answers : {s0 s1 : LibraryState} (n : ℕ) (handed : List (List StepTree)) (text : List ℕ) → Answers (Reading names g) g.driver.next_file (λ _. n + g.driver.next_file) s0 s1 (Ok handed) → IsLifted g.task handed text
+  pub lifted_answers : {s0 s1 : LibraryState} (n : ℕ) (handed : List (List StepTree)) (text : List ℕ) → Answers (RefutationsRead names g) g.driver.next_file (λ _. n + g.driver.next_file) s0 s1 (Ok handed) → IsLifted g.task handed text
       → Answers (Lifting names g) g.driver.next_file (λ _. n + g.driver.next_file) s0 s1 (Ok text)
   lifted_answers n handed text one lifted = answers_then ending one (answers_value {next = λ _. n + g.driver.next_file} (omega arith) (λ files limit. lifted))
 
-  pub lifting_stop : {s0 s1 : LibraryState} {e : RunFault} (n : ℕ) → Answers (Reading names g) g.driver.next_file (λ _. n + g.driver.next_file) s0 s1 (Err e)
+  pub lifting_stop : {s0 s1 : LibraryState} {e : RunFault} (n : ℕ) → Answers (RefutationsRead names g) g.driver.next_file (λ _. n + g.driver.next_file) s0 s1 (Err e)
       → Answers (Lifting names g) g.driver.next_file (λ _. n + g.driver.next_file) s0 s1 (Err e)
   lifting_stop n one = answers_stop ending (λ _. n + g.driver.next_file) one
 
-pub lifted_of : (t at : TaskTree) (steps : List StepTree) (handed : List (List StepTree)) (text : List ℕ) → at ≡ t → HasSequents steps handed → StepsOf at (task_names at) None text steps → IsLifted t handed text
+pub lifted_of : (t at : TaskTree) (steps : List StepTree) (handed : List (List StepTree)) (text : List ℕ) → at ≡ t → HandedHasSequents steps handed → StepsOf at (task_names at) None text steps → IsLifted t handed text
 lifted_of t at steps handed text e h s = record { steps = steps; derives = subst (λ (z : TaskTree). StepsOf z (task_names z) None text steps) e s; sequents = h }

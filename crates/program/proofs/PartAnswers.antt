@@ -15,9 +15,9 @@ use Rattle.part_texts.specs.declared.fault.PartFault.{PartFault}
 use Rattle.part_texts.specs.declared.fault.PartFault.TheVariants as of_part
 use Rattle.part_texts.specs.Problems.{IsPartFault, first_fault}
 use Rattle.fault_order.specs.Answers.{IsStageAnswer}
-use Rattle.fault_order.specs.Order.{Stop, Stage, Answer}
-use Rattle.source_goals.specs.Order.{Setting}
-use Rattle.program.specs.Order.{or_not_built, or_refused, unless_fault, Carried, Printable, Parts}
+use Rattle.fault_order.specs.Order.{RunStop, Stage, Answer}
+use Rattle.source_goals.specs.Order.{GoalSettingTree}
+use Rattle.program.specs.Order.{or_not_built, or_stage_refused, unless_fault, Carried, Printable, PrintableParts}
 use Rattle.program.specs.Lifted.{AreRefutedUnder}
 use Rattle.program.specs.Values.{carry_fault, part_fault}
 use Rattle.fault_order.proofs.Stages.{gives_then, gives_stop}
@@ -28,11 +28,11 @@ list_stopped said (of_carry.NotBuilt stage) h = sym (ap or_not_built h)
 list_stopped said (of_carry.Misplaced stage decl) h = absurd h
 list_stopped said (of_carry.TooLarge stage) h = absurd h
 
-carry_stopped : (said : Result (List TaskTree) StageRefusal) (e : CarryFault) → IsCarryFault said e → IsStageAnswer (Answer (or_refused said)) (Err (carry_fault e))
+carry_stopped : (said : Result (List TaskTree) StageRefusal) (e : CarryFault) → IsCarryFault said e → IsStageAnswer (Answer (or_stage_refused said)) (Err (carry_fault e))
 carry_stopped said of_carry.Memory h = tt
 carry_stopped said (of_carry.NotBuilt stage) h = absurd h
-carry_stopped said (of_carry.Misplaced stage decl) h = sym (ap or_refused h)
-carry_stopped said (of_carry.TooLarge stage) h = sym (ap or_refused h)
+carry_stopped said (of_carry.Misplaced stage decl) h = sym (ap or_stage_refused h)
+carry_stopped said (of_carry.TooLarge stage) h = sym (ap or_stage_refused h)
 
 part_stopped : (due : Option PartFault) (ts : List TaskTree) (e : PartFault) → IsPartFault due e → IsStageAnswer (Answer (unless_fault due ts)) (Err (part_fault e))
 part_stopped due ts of_part.Memory h = tt
@@ -40,9 +40,9 @@ part_stopped due ts (of_part.Polymorphic part decl) h = sym (ap (λ (o : Option 
 part_stopped due ts (of_part.Unprintable part decl) h = sym (ap (λ (o : Option PartFault). unless_fault o ts) h)
 part_stopped due ts (of_part.NoSyntax part symbol) h = sym (ap (λ (o : Option PartFault). unless_fault o ts) h)
 
-module _ (g : Setting) where
+module _ (g : GoalSettingTree) where
   abbrev carrying : List Transformation → Stage (List TaskTree)
-  carrying stages = Answer (or_refused (carried_task (map equation_of stages) g.task))
+  carrying stages = Answer (or_stage_refused (carried_task (map equation_of stages) g.task))
 
   abbrev listing : Stage (List Transformation)
   listing = Answer (or_not_built (stages_of g.driver g.task))
@@ -51,7 +51,7 @@ module _ (g : Setting) where
   not_built e h = gives_stop listing carrying (carry_fault e) (list_stopped (stages_of g.driver g.task) e h)
 
   pub carried_ok : (stages : List Transformation) (ts : List TaskTree) → stages_of g.driver g.task ≡ Ok stages → carried_task (map equation_of stages) g.task ≡ Ok ts → IsStageAnswer (Carried g) (Ok ts)
-  carried_ok stages ts e f = gives_then listing carrying stages (Ok ts) (sym (ap or_not_built e)) (sym (ap or_refused f))
+  carried_ok stages ts e f = gives_then listing carrying stages (Ok ts) (sym (ap or_not_built e)) (sym (ap or_stage_refused f))
 
   pub carried_err : (stages : List Transformation) (e : CarryFault) → stages_of g.driver g.task ≡ Ok stages → IsCarryFault (carried_task (map equation_of stages) g.task) e → IsStageAnswer (Carried g) (Err (carry_fault e))
   carried_err stages e f h = gives_then listing carrying stages (Err (carry_fault e)) (sym (ap or_not_built f)) (carry_stopped (carried_task (map equation_of stages) g.task) e h)
@@ -67,7 +67,7 @@ built_back : (said : Result (List Transformation) ℕ) (stages : List Transforma
 built_back (Ok x) stages e = let same : stages ≡ x = cc in ap (λ (z : List Transformation). Ok z) (sym same)
 built_back (Err n) stages e = absurd (cc)
 
-carried_back : (said : Result (List TaskTree) StageRefusal) (ts : List TaskTree) → Ok ts ≡ or_refused said → said ≡ Ok ts
+carried_back : (said : Result (List TaskTree) StageRefusal) (ts : List TaskTree) → Ok ts ≡ or_stage_refused said → said ≡ Ok ts
 carried_back (Ok x) ts e = let same : ts ≡ x = cc in ap (λ (z : List TaskTree). Ok z) (sym same)
 carried_back (Err r) ts e = absurd (cc)
 
@@ -75,10 +75,10 @@ printed_back : (due : Option PartFault) (us ts : List TaskTree) → Ok ts ≡ un
 printed_back None us ts e = cc
 printed_back (Some fault) us ts e = absurd (cc)
 
-module _ (g : Setting) (ts : List TaskTree) (handed : List (List StepTree)) (close : PartsClose ts handed) where
+module _ (g : GoalSettingTree) (ts : List TaskTree) (handed : List (List StepTree)) (close : PartsClose ts handed) where
   carried_refuted : (us : List TaskTree) → ts ≡ us
-      → ((stop : Stop) × Answer (or_not_built (stages_of g.driver g.task)) (Err stop) × (Ok us ≡ Err stop))
-      ⊎ ((stages : List Transformation) × Answer (or_not_built (stages_of g.driver g.task)) (Ok stages) × Answer (or_refused (carried_task (map equation_of stages) g.task)) (Ok us))
+      → ((stop : RunStop) × Answer (or_not_built (stages_of g.driver g.task)) (Err stop) × (Ok us ≡ Err stop))
+      ⊎ ((stages : List Transformation) × Answer (or_not_built (stages_of g.driver g.task)) (Ok stages) × Answer (or_stage_refused (carried_task (map equation_of stages) g.task)) (Ok us))
       → AreRefutedUnder g.driver g.task handed
   carried_refuted us same (inl x) = absurd (cc)
   carried_refuted us same (inr x) = record {
@@ -92,9 +92,9 @@ module _ (g : Setting) (ts : List TaskTree) (handed : List (List StepTree)) (clo
   }
 
   -- refutations of the parts are those of the task under its driver
-  parts_refuted : ((stop : Stop) × Carried g (Err stop) × (Ok ts ≡ Err stop)) ⊎ ((us : List TaskTree) × Carried g (Ok us) × Printable g.driver us (Ok ts)) → AreRefutedUnder g.driver g.task handed
+  parts_refuted : ((stop : RunStop) × Carried g (Err stop) × (Ok ts ≡ Err stop)) ⊎ ((us : List TaskTree) × Carried g (Ok us) × Printable g.driver us (Ok ts)) → AreRefutedUnder g.driver g.task handed
   parts_refuted (inl x) = absurd (cc)
   parts_refuted (inr x) = carried_refuted x.0 (printed_back (first_fault g.driver 1 x.0) x.0 ts x.2) x.1
 
-  pub refuted_under : IsStageAnswer (Parts g) (Ok ts) → AreRefutedUnder g.driver g.task handed
+  pub refuted_under : IsStageAnswer (PrintableParts g) (Ok ts) → AreRefutedUnder g.driver g.task handed
   refuted_under h = parts_refuted h

@@ -7,13 +7,13 @@ use Rattle.step_files.specs.Lines.{StepsOf}
 use Rattle.driver_parts.specs.declared.driver.Driver.{Driver}
 use Rattle.stages.specs.declared.transformation.Transformation.{Transformation}
 use Rattle.stages.specs.Listing.{stages_of}
-use Rattle.stages.specs.Lifted.{AreRefuted, HasSequents}
+use Rattle.stages.specs.Lifted.{AreRefuted, HandedHasSequents}
 
--- The text is a file of steps that derive the task, and each handed step has its sequent among theirs.
+-- The text is a file of steps that derive the task, and each given step has its sequent among theirs.
 pub record IsLifted (t : TaskTree) (handed : List (List StepTree)) (text : List ℕ) : Type 0 where
   pub steps : List StepTree
   pub derives : StepsOf t (task_names t) None text steps
-  pub sequents : HasSequents steps handed
+  pub sequents : HandedHasSequents steps handed
 
 -- refutations of the parts of a task, which is carried through the stages of a driver
 pub record AreRefutedUnder (d : Driver) (t : TaskTree) (handed : List (List StepTree)) : Type 0 where

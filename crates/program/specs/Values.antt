@@ -16,7 +16,7 @@ use Rattle.part_texts.specs.declared.fault.PartFault.TheVariants as of_part
 use Rattle.fault_order.specs.declared.faults.Fault.TheVariants as fault
 use Rattle.fault_order.specs.declared.faults.RunFault.{RunFault}
 use Rattle.fault_order.specs.declared.faults.RunFault.TheVariants as run_fault
-use Rattle.source_goals.specs.Order.{Setting, setting_of}
+use Rattle.source_goals.specs.Order.{GoalSettingTree, setting_of}
 use Rattle.source_goals.specs.declared.setting.GoalSetting.{GoalSetting}
 use Rattle.program.specs.declared.parts.PartProblems.{PartProblems}
 
@@ -33,7 +33,7 @@ tasks_in s (Ok tasks) = Ok (tasks_at s tasks.items)
 tasks_in s (Err e) = Err e
 
 -- a goal's task with its driver
-abbrev pub setting_at : List Tree → GoalSetting → Setting
+abbrev pub setting_at : List Tree → GoalSetting → GoalSettingTree
 setting_at s g = setting_of g.driver (task_at s g.task)
 
 abbrev pub parts_in : {E : Type 0} → List Tree → Result PartProblems E → Result (List TaskTree) E

@@ -1,7 +1,7 @@
 // The command `check`: whether a file derives a goal from the goal's own theory.
 // It depends on the goal's task and on the checker; the top call depends on it.
 ghost use Rattle.tasks.specs.Meaning.{task_at, TaskHeld};
-ghost use Rattle.fault_order.specs.Answers.{Answers, Ends, IsStageAnswer, bytes_of};
+ghost use Rattle.fault_order.specs.Answers.{Answers, EndsAs, IsStageAnswer, result_bytes};
 ghost use Rattle.program.specs.Order.{CheckText, Checks, Derivation};
 
 use fault_order::{Fault, RunFault, fetch_whole};
@@ -21,7 +21,7 @@ fn check_steps(
     bytes: &[u8],
 ) -> Result<Vec<u8>, RunFault>
     requires held { TaskHeld store.old task.now }
-    ensures { IsStageAnswer (Checks (task_at store.old task.now) bytes.now) (bytes_of result) }
+    ensures { IsStageAnswer (Checks (task_at store.old task.now) bytes.now) (result_bytes result) }
 {
     let names = task_names(alloc, store, task)?;
     let mut reader = StepReader::new(alloc, None);
@@ -47,7 +47,7 @@ fn check_file<L: Library>(
 ) -> Result<Vec<u8>, RunFault>
     requires held { TaskHeld store task.now }
     ensures { Answers (Derivation der.now (task_at store task.now)) 1 (λ _. 2) (L.state lib.old)
-        (L.state lib.new) (bytes_of result) }
+        (L.state lib.new) (result_bytes result) }
 {
     let bytes = fetch_whole(lib, 1, der)?;
     check_steps(alloc, &mut store, task, &bytes)
@@ -65,8 +65,8 @@ pub fn check_goal<L: Library>(
     goal: &str,
     der: &str,
 ) -> Result<Vec<u8>, RunFault>
-    ensures { Ends (CheckText src.now theory.now goal.now der.now) (L.state lib.old)
-        (L.state lib.new) (bytes_of result) }
+    ensures { EndsAs (CheckText src.now theory.now goal.now der.now) (L.state lib.old)
+        (L.state lib.new) (result_bytes result) }
 {
     let mut store = Store::new(alloc)?;
     let task = find_task(alloc, lib, &mut store, src, theory, goal)?;

@@ -6,8 +6,8 @@ ghost use Rattle.tasks.specs.Meaning.{task_at, tasks_at, TaskHeld, TasksHeld};
 ghost use Rattle.tasks.specs.Valid.{IsValid};
 ghost use Rattle.evidence.specs.Stages.{PartsClose, PartsHeld, parts_at};
 ghost use Rattle.written_files.specs.Named.{NamesAreWords};
-ghost use Rattle.fault_order.specs.Answers.{Answers, Ends, bytes_of};
-ghost use Rattle.program.specs.Order.{Handed, Lifting, LiftText, Reading};
+ghost use Rattle.fault_order.specs.Answers.{Answers, EndsAs, result_bytes};
+ghost use Rattle.program.specs.Order.{Handed, Lifting, LiftText, RefutationsRead};
 ghost use Rattle.program.specs.Lifted.{AreRefutedUnder};
 ghost use Rattle.program.specs.Values.{handed_in, setting_at};
 
@@ -70,7 +70,7 @@ fn read_handed<L: Library>(
 ) -> Result<Vec<Seq<Step>>, RunFault>
     requires held { TaskHeld store.old setting.now.task }
     requires valid { IsValid (task_at store.old setting.now.task) }
-    ensures answers { Answers (Reading (map string_bytes refs.now) (setting_at store.old
+    ensures answers { Answers (RefutationsRead (map string_bytes refs.now) (setting_at store.old
         setting.now)) setting.now.driver.next_file
         (λ _. length refs.now + setting.now.driver.next_file) (L.state lib.old)
         (L.state lib.new) (handed_in store.new result) }
@@ -103,7 +103,7 @@ fn lift_task<L: Library>(
     requires names { NamesAreWords (task_at store setting.now.task) }
     ensures { Answers (Lifting (map string_bytes refs.now) (setting_at store setting.now))
         setting.now.driver.next_file (λ _. length refs.now + setting.now.driver.next_file)
-        (L.state lib.old) (L.state lib.new) (bytes_of result) }
+        (L.state lib.old) (L.state lib.new) (result_bytes result) }
 {
     let handed = read_handed(alloc, lib, &mut store, setting, refs)?;
     let text = lifted_text(alloc, store, setting, handed)?;
@@ -124,8 +124,8 @@ pub fn lift_goal<L: Library>(
     goal: &str,
     refs: &[String],
 ) -> Result<Vec<u8>, RunFault>
-    ensures { Ends (LiftText src.now drv.now theory.now goal.now (map string_bytes refs.now))
-        (L.state lib.old) (L.state lib.new) (bytes_of result) }
+    ensures { EndsAs (LiftText src.now drv.now theory.now goal.now (map string_bytes refs.now))
+        (L.state lib.old) (L.state lib.new) (result_bytes result) }
 {
     let mut store = Store::new(alloc)?;
     let found = valid_setting(alloc, lib, &mut store, src, drv, theory, goal)?;

@@ -6,7 +6,7 @@ ghost use Rattle.tasks.specs.Meaning.{task_at, tasks_at, TaskHeld, TasksHeld};
 ghost use Rattle.tasks.specs.Valid.{IsValid};
 ghost use Rattle.part_texts.specs.Problems.{AreProblems};
 ghost use Rattle.fault_order.specs.Answers.{IsStageAnswer};
-ghost use Rattle.program.specs.Order.{Carried, Parts, Printable};
+ghost use Rattle.program.specs.Order.{Carried, PrintableParts, Printable};
 ghost use Rattle.program.specs.Values.{carry_fault, part_fault, parts_in, setting_at, tasks_in};
 
 use driver_parts::Driver;
@@ -59,7 +59,11 @@ fn part_fault(fault: PartFault) -> RunFault
 }
 
 // The task carried through the stages of the driver.
-fn carry_task(alloc: Global, store: &mut Store, setting: &GoalSetting) -> Result<Vec<Task>, RunFault>
+fn carry_task(
+    alloc: Global,
+    store: &mut Store,
+    setting: &GoalSetting,
+) -> Result<Vec<Task>, RunFault>
     requires held { TaskHeld store.old setting.now.task }
     requires valid { IsValid (task_at store.old setting.now.task) }
     ensures carried { IsStageAnswer (Carried (setting_at store.old setting.now)) (tasks_in store.new
@@ -105,7 +109,8 @@ pub fn find_parts(
 ) -> Result<PartProblems, RunFault>
     requires held { TaskHeld store.old setting.now.task }
     requires valid { IsValid (task_at store.old setting.now.task) }
-    ensures parts { IsStageAnswer (Parts (setting_at store.old setting.now)) (parts_in store.new
+    ensures parts { IsStageAnswer (PrintableParts (setting_at store.old setting.now))
+        (parts_in store.new
         result) }
     ensures held { IfOk result (λ p. TasksHeld store.new p.tasks.items) }
     ensures problems { IfOk result (λ p. AreProblems store.new setting.now.driver

@@ -2,8 +2,8 @@
 // They depend on the parts of the goal's task and on their texts; the top call depends on them.
 ghost use Rattle.tasks.specs.Meaning.{task_at, TaskHeld};
 ghost use Rattle.tasks.specs.Valid.{IsValid};
-ghost use Rattle.fault_order.specs.Answers.{Ends, IsStageAnswer, bytes_of};
-ghost use Rattle.program.specs.Order.{NamesText, Named, PrintText, Printed};
+ghost use Rattle.fault_order.specs.Answers.{EndsAs, IsStageAnswer, result_bytes};
+ghost use Rattle.program.specs.Order.{NamesText, ProblemTables, PrintText, ProblemTexts};
 ghost use Rattle.program.specs.Values.{setting_at};
 
 use crate::parts::find_parts;
@@ -19,7 +19,8 @@ use term_store::Store;
 fn print_task(alloc: Global, store: &mut Store, setting: &GoalSetting) -> Result<Vec<u8>, RunFault>
     requires held { TaskHeld store.old setting.now.task }
     requires valid { IsValid (task_at store.old setting.now.task) }
-    ensures { IsStageAnswer (Printed (setting_at store.old setting.now)) (bytes_of result) }
+    ensures { IsStageAnswer (ProblemTexts (setting_at store.old setting.now))
+        (result_bytes result) }
 {
     let parts = find_parts(alloc, store, setting)?;
     let text = part_texts(alloc, store, &setting.driver, &parts.tasks, &parts.problems)?;
@@ -30,7 +31,8 @@ fn print_task(alloc: Global, store: &mut Store, setting: &GoalSetting) -> Result
 fn name_task(alloc: Global, store: &mut Store, setting: &GoalSetting) -> Result<Vec<u8>, RunFault>
     requires held { TaskHeld store.old setting.now.task }
     requires valid { IsValid (task_at store.old setting.now.task) }
-    ensures { IsStageAnswer (Named (setting_at store.old setting.now)) (bytes_of result) }
+    ensures { IsStageAnswer (ProblemTables (setting_at store.old setting.now))
+        (result_bytes result) }
 {
     let parts = find_parts(alloc, store, setting)?;
     let text = name_texts(alloc, store, &setting.driver, &parts.tasks, &parts.problems)?;
@@ -50,8 +52,8 @@ pub fn print_goal<L: Library>(
     theory: &str,
     goal: &str,
 ) -> Result<Vec<u8>, RunFault>
-    ensures { Ends (PrintText src.now drv.now theory.now goal.now) (L.state lib.old)
-        (L.state lib.new) (bytes_of result) }
+    ensures { EndsAs (PrintText src.now drv.now theory.now goal.now) (L.state lib.old)
+        (L.state lib.new) (result_bytes result) }
 {
     let mut store = Store::new(alloc)?;
     let found = valid_setting(alloc, lib, &mut store, src, drv, theory, goal)?;
@@ -67,8 +69,8 @@ pub fn names_goal<L: Library>(
     theory: &str,
     goal: &str,
 ) -> Result<Vec<u8>, RunFault>
-    ensures { Ends (NamesText src.now drv.now theory.now goal.now) (L.state lib.old)
-        (L.state lib.new) (bytes_of result) }
+    ensures { EndsAs (NamesText src.now drv.now theory.now goal.now) (L.state lib.old)
+        (L.state lib.new) (result_bytes result) }
 {
     let mut store = Store::new(alloc)?;
     let found = valid_setting(alloc, lib, &mut store, src, drv, theory, goal)?;

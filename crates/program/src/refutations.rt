@@ -1,4 +1,4 @@
-// The refutations that are handed in, one file for each part of a goal, read in turn.
+// The refutations that are given, one file for each part of a goal, read in turn.
 // They depend on the fetched files and the reader of steps; `lift` depends on them.
 ghost use Rattle.std.specs.Prelude.{◌≡◌, ◌+◌, ◌<◌, length, map, IfOk, string_bytes};
 ghost use Rattle.trees.specs.Node.{Grows};
@@ -6,7 +6,7 @@ ghost use Rattle.tasks.specs.Meaning.{task_at, tasks_at, TaskHeld, TasksHeld};
 ghost use Rattle.rule_rows.specs.Meaning.{steps_at, StepsHeld};
 ghost use Rattle.evidence.specs.Stages.{parts_at, PartsHeld};
 ghost use Rattle.fault_order.specs.Answers.{Answers, IsStageAnswer};
-ghost use Rattle.program.specs.Order.{Refutes, PartFile, FirstFiles};
+ghost use Rattle.program.specs.Order.{RefutesPart, PartFile, FirstFiles};
 ghost use Rattle.kernel.specs.Right.{Closes};
 ghost use Rattle.evidence.specs.Stages.{PartsClose};
 ghost use Rattle.program.specs.Values.{steps_in, handed_in};
@@ -32,7 +32,7 @@ fn read_refutation(
     bytes: &[u8],
 ) -> Result<Vec<Step>, RunFault>
     requires held { TaskHeld store.old part.now }
-    ensures steps { IsStageAnswer (Refutes number (task_at store.old part.now) bytes.now)
+    ensures steps { IsStageAnswer (RefutesPart number (task_at store.old part.now) bytes.now)
         (steps_in store.new result) }
     ensures held { IfOk result (λ v. StepsHeld store.new v.items) }
     ensures refutes { IfOk result (λ v. Closes (task_at store.old part.now)

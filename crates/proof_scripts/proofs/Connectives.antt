@@ -15,7 +15,7 @@ use Rattle.evidence.specs.Drafts.{DraftTree, AreFormulas, IsFormulaAt}
 use Rattle.evidence.specs.Rules.{holding_rule, failing_rule}
 use Rattle.evidence.proofs.Rules.{holding_row, failing_row, cut_row}
 use Rattle.evidence.proofs.Formulas.{behind, holding_names, failing_names, cut_names}
-use Rattle.proof_scripts.specs.Scripts.{LineTree, HoldingLine, FailingLine, CutLine, under, IsByRule, Follows}
+use Rattle.proof_scripts.specs.Scripts.{LineTree, HoldingLine, FailingLine, CutLine, sequents_under, IsByRule, Follows}
 use Rattle.proof_scripts.specs.Derived.{Consumes}
 
 -- ---- places
@@ -62,30 +62,30 @@ module _ (t : TaskTree) (F T : List Tree) (n i : ℕ) (len : length F ≡ n) whe
   place a e = subst (λ (m : ℕ). slice_get (F ++ T) (m + i) ≡ Some a) len (behind F T i ∙ e)
 
   pub holding_by : (op : Op) (x y : Tree) → slice_get T i ≡ Some (join op x y) → IsByRule t (F ++ T) (holding_rule op (n + i)) (where_true op x y)
-  holding_by op x y e = record { names = holding_names t op (n + i); row = holding_row t (F ++ T) op (n + i) (Some (join op x y)) (under (F ++ T) (where_true op x y)) (place (join op x y) e) (refl, refl) }
+  holding_by op x y e = record { names = holding_names t op (n + i); row = holding_row t (F ++ T) op (n + i) (Some (join op x y)) (sequents_under (F ++ T) (where_true op x y)) (place (join op x y) e) (refl, refl) }
 
   pub failing_by : (op : Op) (x y : Tree) → slice_get T i ≡ Some (neg (join op x y)) → IsByRule t (F ++ T) (failing_rule op (n + i)) (where_false op x y)
-  failing_by op x y e = record { names = failing_names t op (n + i); row = failing_row t (F ++ T) op (n + i) (Some (neg (join op x y))) (under (F ++ T) (where_false op x y)) (place (neg (join op x y)) e) (refl, refl) }
+  failing_by op x y e = record { names = failing_names t op (n + i); row = failing_row t (F ++ T) op (n + i) (Some (neg (join op x y))) (sequents_under (F ++ T) (where_false op x y)) (place (neg (join op x y)) e) (refl, refl) }
 
 pub cut_by : (d : DraftTree) (a : TermId) (s : List Tree) → IsFormulaAt d a → IsByRule d.task s (RCut (tree_at d.trees a)) ((tree_at d.trees a ∷ []) ∷ (neg (tree_at d.trees a) ∷ []) ∷ [])
 cut_by d a s f = record { names = cut_names d a f; row = cut_row d.task s (tree_at d.trees a) f.ground.sort }
 
 -- ---- what is left
 module _ (F T : List Tree) (L : List LineTree) (i : ℕ) (op op' : Op) (x y : Tree) where
-  pub holding_left : (d : DraftTree) (r : List (List Tree)) → slice_get T i ≡ Some (join op' x y) → Follows d F (HoldingLine op i ∷ L) (T ∷ r) → (op' ≡ op) × Follows d F L (under T (where_true op x y) ++ r)
-  holding_left d r e h = some_at (slice_get T i) op' x y (λ p. (p.0 ≡ op) × Follows d F L (under T (where_true op p.1 p.2) ++ r)) e h
+  pub holding_left : (d : DraftTree) (r : List (List Tree)) → slice_get T i ≡ Some (join op' x y) → Follows d F (HoldingLine op i ∷ L) (T ∷ r) → (op' ≡ op) × Follows d F L (sequents_under T (where_true op x y) ++ r)
+  holding_left d r e h = some_at (slice_get T i) op' x y (λ p. (p.0 ≡ op) × Follows d F L (sequents_under T (where_true op p.1 p.2) ++ r)) e h
 
-  pub holding_consumes : (m : ℕ) → slice_get T i ≡ Some (join op' x y) → Consumes F L (under T (where_true op x y)) m → Consumes F (HoldingLine op i ∷ L) (T ∷ []) (suc m)
+  pub holding_consumes : (m : ℕ) → slice_get T i ≡ Some (join op' x y) → Consumes F L (sequents_under T (where_true op x y)) m → Consumes F (HoldingLine op i ∷ L) (T ∷ []) (suc m)
   holding_consumes m e c = record { left = λ d r h. c.left d r (holding_left d r e h).1 }
 
-  pub failing_left : (d : DraftTree) (r : List (List Tree)) → slice_get T i ≡ Some (neg (join op' x y)) → Follows d F (FailingLine op i ∷ L) (T ∷ r) → (op' ≡ op) × Follows d F L (under T (where_false op x y) ++ r)
-  failing_left d r e h = some_at (negated (slice_get T i)) op' x y (λ p. (p.0 ≡ op) × Follows d F L (under T (where_false op p.1 p.2) ++ r)) (ap negated e) h
+  pub failing_left : (d : DraftTree) (r : List (List Tree)) → slice_get T i ≡ Some (neg (join op' x y)) → Follows d F (FailingLine op i ∷ L) (T ∷ r) → (op' ≡ op) × Follows d F L (sequents_under T (where_false op x y) ++ r)
+  failing_left d r e h = some_at (negated (slice_get T i)) op' x y (λ p. (p.0 ≡ op) × Follows d F L (sequents_under T (where_false op p.1 p.2) ++ r)) (ap negated e) h
 
-  pub failing_consumes : (m : ℕ) → slice_get T i ≡ Some (neg (join op' x y)) → Consumes F L (under T (where_false op x y)) m → Consumes F (FailingLine op i ∷ L) (T ∷ []) (suc m)
+  pub failing_consumes : (m : ℕ) → slice_get T i ≡ Some (neg (join op' x y)) → Consumes F L (sequents_under T (where_false op x y)) m → Consumes F (FailingLine op i ∷ L) (T ∷ []) (suc m)
   failing_consumes m e c = record { left = λ d r h. c.left d r (failing_left d r e h).1 }
 
-pub cut_consumes : (F T : List Tree) (L : List LineTree) (a : Tree) (m : ℕ) → Consumes F L (under T ((a ∷ []) ∷ (neg a ∷ []) ∷ [])) m → Consumes F (CutLine a ∷ L) (T ∷ []) (suc m)
+pub cut_consumes : (F T : List Tree) (L : List LineTree) (a : Tree) (m : ℕ) → Consumes F L (sequents_under T ((a ∷ []) ∷ (neg a ∷ []) ∷ [])) m → Consumes F (CutLine a ∷ L) (T ∷ []) (suc m)
 cut_consumes F T L a m c = record { left = λ d r h. c.left d r h }
 
-pub under_both : (T : List Tree) (a b c : List (List Tree)) → a ++ b ≡ c → under T a ++ under T b ≡ under T c
-under_both T a b c e = sym (map-append (λ x. T ++ x) a b) ∙ ap (under T) e
+pub under_both : (T : List Tree) (a b c : List (List Tree)) → a ++ b ≡ c → sequents_under T a ++ sequents_under T b ≡ sequents_under T c
+under_both T a b c e = sym (map-append (λ x. T ++ x) a b) ∙ ap (sequents_under T) e

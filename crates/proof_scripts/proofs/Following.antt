@@ -10,7 +10,7 @@ use Rattle.tasks.specs.Task.{TaskTree, neg}
 use Rattle.tasks.specs.Meaning.{trees_at}
 use Rattle.rule_rows.specs.Trees.{RuleTree, RCut, RForall, RLetDef, RIfDef}
 use Rattle.rule_rows.specs.Forms.{negated, connected}
-use Rattle.rule_rows.specs.Rows.{Row, where_true, where_false}
+use Rattle.rule_rows.specs.Rows.{IsRuleRow, where_true, where_false}
 use Rattle.evidence.specs.Drafts.{DraftTree, Extends, Refutes, RefuteAll, AreFormulas}
 use Rattle.evidence.specs.Rules.{RefuteAdded}
 use Rattle.evidence.proofs.Rules.{refutes_later, some_map}
@@ -20,7 +20,7 @@ use Rattle.proof_scripts.specs.declared.line.Word.TheVariants as word
 use Rattle.proof_scripts.specs.declared.line.Formulas.{Formulas}
 use Rattle.proof_scripts.specs.declared.line.Line.{Line}
 use Rattle.proof_scripts.specs.declared.line.Line.TheVariants as line
-use Rattle.proof_scripts.specs.Scripts.{LineTree, GivenLine, RuleLine, HoldingLine, FailingLine, CutLine, word_rule, WordHeld, ids_of, added_ids, added_at, line_at, lines_at, LineHeld, LinesHeld, under, IsGiven, IsByRule, Follows, CanFollow}
+use Rattle.proof_scripts.specs.Scripts.{LineTree, GivenLine, RuleLine, HoldingLine, FailingLine, CutLine, word_rule, WordHeld, ids_of, added_ids, added_at, script_line_at, lines_at, LineHeld, LinesHeld, sequents_under, IsGiven, IsByRule, Follows, CanFollow}
 use Rattle.proof_scripts.specs.Derived.{Consumes, RefuteUnder}
 
 abbrev cut_line : Tree → LineTree
@@ -72,7 +72,7 @@ take_drop (suc n) [] = refl
 take_drop (suc n) (x ∷ xs) = ap (λ z. x ∷ z) (take_drop n xs)
 
 lines_dropped : (s : List Tree) (ls behind : List Line) (m : ℕ) → behind ≡ drop m ls → drop m (lines_at s ls) ≡ lines_at s behind
-lines_dropped s ls behind m q = sym (map_drop (line_at s) m ls) ∙ ap (lines_at s) (sym q)
+lines_dropped s ls behind m q = sym (map_drop (script_line_at s) m ls) ∙ ap (lines_at s) (sym q)
 
 -- ---- over a draft that has grown
 module _ (d d1 : DraftTree) (x : Extends d d1) where
@@ -91,12 +91,12 @@ module _ (d d1 : DraftTree) (x : Extends d d1) where
   follows_later f (FailingLine op i ∷ ls) [] h = h
   follows_later f (CutLine a ∷ ls) [] h = h
   follows_later f (GivenLine k n ∷ ls) (t ∷ ts) h = (given_later f t k n h.0, follows_later f ls ts h.1)
-  follows_later f (RuleLine r a b ∷ ls) (t ∷ ts) h = (by_rule_later (f ++ t) r (a ++ b) h.0, follows_later f ls (under t a ++ (under t b ++ ts)) h.1)
+  follows_later f (RuleLine r a b ∷ ls) (t ∷ ts) h = (by_rule_later (f ++ t) r (a ++ b) h.0, follows_later f ls (sequents_under t a ++ (sequents_under t b ++ ts)) h.1)
   follows_later f (HoldingLine op i ∷ ls) (t ∷ ts) h =
-      some_map (connected (slice_get t i)) _ _ (λ p z. (z.0, follows_later f ls (under t (where_true op p.1 p.2) ++ ts) z.1)) h
+      some_map (connected (slice_get t i)) _ _ (λ p z. (z.0, follows_later f ls (sequents_under t (where_true op p.1 p.2) ++ ts) z.1)) h
   follows_later f (FailingLine op i ∷ ls) (t ∷ ts) h =
-      some_map (connected (negated (slice_get t i))) _ _ (λ p z. (z.0, follows_later f ls (under t (where_false op p.1 p.2) ++ ts) z.1)) h
-  follows_later f (CutLine a ∷ ls) (t ∷ ts) h = follows_later f ls (under t ((a ∷ []) ∷ (neg a ∷ []) ∷ []) ++ ts) h
+      some_map (connected (negated (slice_get t i))) _ _ (λ p z. (z.0, follows_later f ls (sequents_under t (where_false op p.1 p.2) ++ ts) z.1)) h
+  follows_later f (CutLine a ∷ ls) (t ∷ ts) h = follows_later f ls (sequents_under t ((a ∷ []) ∷ (neg a ∷ []) ∷ []) ++ ts) h
 
   held_later : (id : TermId) → Holds d.trees id → Holds d1.trees id
   held_later id h = omega (arith, h, x.trees.longer)
@@ -138,7 +138,7 @@ module _ (d d1 : DraftTree) (x : Extends d d1) where
   line_later (line.Cut a) h = formula_later d d1 x a h
   line_later (line.By w a b) h = (word_later w h.0, added_later a h.1, added_later b h.2)
 
-  line_same : (l : Line) → LineHeld d l → line_at d1.trees l ≡ line_at d.trees l
+  line_same : (l : Line) → LineHeld d l → script_line_at d1.trees l ≡ script_line_at d.trees l
   line_same (line.Given k n) h = refl
   line_same (line.Holding op i) h = refl
   line_same (line.Failing op i) h = refl
@@ -160,20 +160,20 @@ module _ (d d1 : DraftTree) (x : Extends d d1) where
 
 -- ---- the first line
 module _ (d : DraftTree) (f t : List Tree) (ts : List (List Tree)) (s : List Tree) (ls rest : List Line) (l : Line) (q : ls ≡ l ∷ rest) where
-  opened : Follows d f (lines_at s ls) (t ∷ ts) → Follows d f (line_at s l ∷ lines_at s rest) (t ∷ ts)
+  opened : Follows d f (lines_at s ls) (t ∷ ts) → Follows d f (script_line_at s l ∷ lines_at s rest) (t ∷ ts)
   opened h = subst (λ (z : List Line). Follows d f (lines_at s z) (t ∷ ts)) q h
 
-  pub line_here : (m : Line) → l ≡ m → Follows d f (lines_at s ls) (t ∷ ts) → Follows d f (line_at s m ∷ lines_at s rest) (t ∷ ts)
-  line_here m e h = subst (λ (z : Line). Follows d f (line_at s z ∷ lines_at s rest) (t ∷ ts)) e (opened h)
+  pub line_here : (m : Line) → l ≡ m → Follows d f (lines_at s ls) (t ∷ ts) → Follows d f (script_line_at s m ∷ lines_at s rest) (t ∷ ts)
+  line_here m e h = subst (λ (z : Line). Follows d f (script_line_at s z ∷ lines_at s rest) (t ∷ ts)) e (opened h)
 
   pub given_here : (k n : ℕ) → l ≡ line.Given k n → Follows d f (lines_at s ls) (t ∷ ts) → IsGiven d f t k n × Follows d f (lines_at s rest) ts
-  given_here k n e h = subst (λ (z : Line). Follows d f (line_at s z ∷ lines_at s rest) (t ∷ ts)) e (opened h)
+  given_here k n e h = subst (λ (z : Line). Follows d f (script_line_at s z ∷ lines_at s rest) (t ∷ ts)) e (opened h)
 
   pub rule_here : (w : Word) (a b : Option Formulas) → l ≡ line.By w a b → Follows d f (lines_at s ls) (t ∷ ts)
-      → IsByRule d.task (f ++ t) (word_rule s w) (added_at s a ++ added_at s b) × Follows d f (lines_at s rest) ((under t (added_at s a) ++ under t (added_at s b)) ++ ts)
+      → IsByRule d.task (f ++ t) (word_rule s w) (added_at s a ++ added_at s b) × Follows d f (lines_at s rest) ((sequents_under t (added_at s a) ++ sequents_under t (added_at s b)) ++ ts)
   rule_here w a b e h =
-      let o : Follows d f (RuleLine (word_rule s w) (added_at s a) (added_at s b) ∷ lines_at s rest) (t ∷ ts) = subst (λ (z : Line). Follows d f (line_at s z ∷ lines_at s rest) (t ∷ ts)) e (opened h) in
-      (o.0, subst (Follows d f (lines_at s rest)) (sym (append_assoc (under t (added_at s a)) (under t (added_at s b)) ts)) o.1)
+      let o : Follows d f (RuleLine (word_rule s w) (added_at s a) (added_at s b) ∷ lines_at s rest) (t ∷ ts) = subst (λ (z : Line). Follows d f (script_line_at s z ∷ lines_at s rest) (t ∷ ts)) e (opened h) in
+      (o.0, subst (Follows d f (lines_at s rest)) (sym (append_assoc (sequents_under t (added_at s a)) (sequents_under t (added_at s b)) ts)) o.1)
 
   pub first_held : LinesHeld d ls → LineHeld d l
   first_held h = subst (LinesHeld d) q h 0 l (omega arith)
@@ -243,21 +243,21 @@ refute_both d [] js (p ∷ ps) qs r s = absurd r
 refute_both d (k ∷ ks) js [] qs r s = absurd r
 refute_both d (k ∷ ks) js (p ∷ ps) qs r s = (r.0, refute_both d ks js ps qs r.1 s)
 
-behind_front : (f t : List Tree) (added : List (List Tree)) → map (λ x. f ++ x) (under t added) ≡ under (f ++ t) added
+behind_front : (f t : List Tree) (added : List (List Tree)) → map (λ x. f ++ x) (sequents_under t added) ≡ sequents_under (f ++ t) added
 behind_front f t [] = refl
 behind_front f t (a ∷ added) = let e : f ++ (t ++ a) ≡ (f ++ t) ++ a = sym (append_assoc f t a) in cc (e, behind_front f t added)
 
 pub rule_added : (d d1 d2 : DraftTree) (x : Extends d1 d2) (f t : List Tree) (r : RuleTree) (a b : List (List Tree)) (none one two : List ℕ) → d2.task ≡ d.task → none ≡ [] → IsByRule d.task (f ++ t) r (a ++ b)
-    → RefuteUnder d1 none one f (under t a) → RefuteUnder d2 one two f (under t b) → RefuteAdded d2 (f ++ t) r two
+    → RefuteUnder d1 none one f (sequents_under t a) → RefuteUnder d2 one two f (sequents_under t b) → RefuteAdded d2 (f ++ t) r two
 rule_added d d1 d2 x f t r a b none one two k n g u v =
     let all : two ≡ u.more ++ v.more = v.is ∙ ap (λ z. z ++ v.more) (u.is ∙ ap (λ z. z ++ u.more) n) in
-    let first : RefuteAll d2 u.more (under (f ++ t) a) = subst (RefuteAll d2 u.more) (behind_front f t a) (refute_later d1 d2 x u.more _ u.refute) in
-    let second : RefuteAll d2 v.more (under (f ++ t) b) = subst (RefuteAll d2 v.more) (behind_front f t b) v.refute in
-    let both : under (f ++ t) a ++ under (f ++ t) b ≡ under (f ++ t) (a ++ b) = sym (map-append (λ x. (f ++ t) ++ x) a b) in
+    let first : RefuteAll d2 u.more (sequents_under (f ++ t) a) = subst (RefuteAll d2 u.more) (behind_front f t a) (refute_later d1 d2 x u.more _ u.refute) in
+    let second : RefuteAll d2 v.more (sequents_under (f ++ t) b) = subst (RefuteAll d2 v.more) (behind_front f t b) v.refute in
+    let both : sequents_under (f ++ t) a ++ sequents_under (f ++ t) b ≡ sequents_under (f ++ t) (a ++ b) = sym (map-append (λ x. (f ++ t) ++ x) a b) in
     record {
-      sequents = under (f ++ t) (a ++ b);
-      refuted = subst (λ (ks : List ℕ). RefuteAll d2 ks (under (f ++ t) (a ++ b))) (sym all) (subst (RefuteAll d2 (u.more ++ v.more)) both (refute_both d2 u.more v.more _ _ first second));
-      row = subst (λ (z : TaskTree). Row z (f ++ t) r (under (f ++ t) (a ++ b))) (sym k) g.row;
+      sequents = sequents_under (f ++ t) (a ++ b);
+      refuted = subst (λ (ks : List ℕ). RefuteAll d2 ks (sequents_under (f ++ t) (a ++ b))) (sym all) (subst (RefuteAll d2 (u.more ++ v.more)) both (refute_both d2 u.more v.more _ _ first second));
+      row = subst (λ (z : TaskTree). IsRuleRow z (f ++ t) r (sequents_under (f ++ t) (a ++ b))) (sym k) g.row;
     }
 
 -- ---- the end of the tail

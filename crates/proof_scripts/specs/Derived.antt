@@ -8,7 +8,7 @@ use Rattle.proof_scripts.specs.Scripts.{LineTree, Follows}
 pub record Consumes (f : List Tree) (ls : List LineTree) (ts : List (List Tree)) (n : ℕ) : Type 0 where
   pub left : (d : DraftTree) (rest : List (List Tree)) → Follows d f ls (ts ++ rest) → Follows d f (drop n ls) rest
 
--- the same, where one line more stands before them
+-- the same, where one line more is before them
 pub record ConsumesBehind (f : List Tree) (ls : List LineTree) (ts : List (List Tree)) (n : ℕ) : Type 0 where
   pub behind : ℕ
   pub is : n ≡ suc behind

@@ -9,7 +9,7 @@ use Rattle.tasks.specs.Task.{TaskTree, neg}
 use Rattle.tasks.specs.Meaning.{trees_at}
 use Rattle.rule_rows.specs.Trees.{RuleTree, RNotTrue, RClash, RCut, RForall, RNotForall, RLetDef, RIfDef}
 use Rattle.rule_rows.specs.Forms.{negated, connected}
-use Rattle.rule_rows.specs.Rows.{Row, where_true, where_false}
+use Rattle.rule_rows.specs.Rows.{IsRuleRow, where_true, where_false}
 use Rattle.evidence.specs.Drafts.{DraftTree, Refutes, AreFormulas, IsFormulaAt}
 use Rattle.evidence.specs.Rules.{NamesOwn, holding_rule, failing_rule}
 use Rattle.proof_scripts.specs.declared.line.Word.{Word}
@@ -59,15 +59,15 @@ added_ids (Some fs) = ids_of fs ∷ []
 abbrev pub added_at : List Tree → Option Formulas → List (List Tree)
 added_at s fs = map (trees_at s) (added_ids fs)
 
-abbrev pub line_at : List Tree → Line → LineTree
-line_at s (line.Given k n) = GivenLine k n
-line_at s (line.By w a b) = RuleLine (word_rule s w) (added_at s a) (added_at s b)
-line_at s (line.Holding op i) = HoldingLine op i
-line_at s (line.Failing op i) = FailingLine op i
-line_at s (line.Cut a) = CutLine (tree_at s a)
+abbrev pub script_line_at : List Tree → Line → LineTree
+script_line_at s (line.Given k n) = GivenLine k n
+script_line_at s (line.By w a b) = RuleLine (word_rule s w) (added_at s a) (added_at s b)
+script_line_at s (line.Holding op i) = HoldingLine op i
+script_line_at s (line.Failing op i) = FailingLine op i
+script_line_at s (line.Cut a) = CutLine (tree_at s a)
 
 abbrev pub lines_at : List Tree → List Line → List LineTree
-lines_at s ls = map (line_at s) ls
+lines_at s ls = map (script_line_at s) ls
 
 -- the numbers of a line are those of formulas and trees of the draft
 abbrev pub LineHeld : DraftTree → Line → Type 0
@@ -81,8 +81,8 @@ abbrev pub LinesHeld : DraftTree → List Line → Type 0
 LinesHeld d ls = All (LineHeld d) ls
 
 -- a sequent with the formulas of each premise after it
-abbrev pub under : List Tree → List (List Tree) → List (List Tree)
-under t added = map (λ x. t ++ x) added
+abbrev pub sequents_under : List Tree → List (List Tree) → List (List Tree)
+sequents_under t added = map (λ x. t ++ x) added
 
 -- the step refutes the front and so many formulas at the end of the tail
 pub record IsGiven (d : DraftTree) (f t : List Tree) (k n : ℕ) : Type 0 where
@@ -95,7 +95,7 @@ pub record IsGiven (d : DraftTree) (f t : List Tree) (k n : ℕ) : Type 0 where
 -- the rule refutes the sequent where each premise with these formulas is refuted
 pub record IsByRule (t : TaskTree) (s : List Tree) (r : RuleTree) (added : List (List Tree)) : Type 0 where
   pub names : NamesOwn t r
-  pub row : Row t s r (under s added)
+  pub row : IsRuleRow t s r (sequents_under s added)
 
 -- The lines refute the front with each of these tails, one after the other.
 abbrev pub Follows : DraftTree → List Tree → List LineTree → List (List Tree) → Type 0
@@ -103,10 +103,10 @@ Follows d f [] [] = Unit {0}
 Follows d f [] (t ∷ ts) = ⊥
 Follows d f (l ∷ ls) [] = ⊥
 Follows d f (GivenLine k n ∷ ls) (t ∷ ts) = IsGiven d f t k n × Follows d f ls ts
-Follows d f (RuleLine r a b ∷ ls) (t ∷ ts) = IsByRule d.task (f ++ t) r (a ++ b) × Follows d f ls (under t a ++ (under t b ++ ts))
-Follows d f (HoldingLine op i ∷ ls) (t ∷ ts) = IsSomeAnd (connected (slice_get t i)) (λ p. (p.0 ≡ op) × Follows d f ls (under t (where_true op p.1 p.2) ++ ts))
-Follows d f (FailingLine op i ∷ ls) (t ∷ ts) = IsSomeAnd (connected (negated (slice_get t i))) (λ p. (p.0 ≡ op) × Follows d f ls (under t (where_false op p.1 p.2) ++ ts))
-Follows d f (CutLine a ∷ ls) (t ∷ ts) = Follows d f ls (under t ((a ∷ []) ∷ (neg a ∷ []) ∷ []) ++ ts)
+Follows d f (RuleLine r a b ∷ ls) (t ∷ ts) = IsByRule d.task (f ++ t) r (a ++ b) × Follows d f ls (sequents_under t a ++ (sequents_under t b ++ ts))
+Follows d f (HoldingLine op i ∷ ls) (t ∷ ts) = IsSomeAnd (connected (slice_get t i)) (λ p. (p.0 ≡ op) × Follows d f ls (sequents_under t (where_true op p.1 p.2) ++ ts))
+Follows d f (FailingLine op i ∷ ls) (t ∷ ts) = IsSomeAnd (connected (negated (slice_get t i))) (λ p. (p.0 ≡ op) × Follows d f ls (sequents_under t (where_false op p.1 p.2) ++ ts))
+Follows d f (CutLine a ∷ ls) (t ∷ ts) = Follows d f ls (sequents_under t ((a ∷ []) ∷ (neg a ∷ []) ∷ []) ++ ts)
 
 -- they refute these, and others after them
 pub record CanFollow (d : DraftTree) (f : List Tree) (ls : List LineTree) (ts : List (List Tree)) : Type 0 where

@@ -1,5 +1,5 @@
 //! Derivations by scripts: lines, in the order in which the sequents open, that say by what rule each is refuted.
-//! They stand on the steps by rules of evidence; what transformations bring back is derived by them.
+//! They depend on the steps by rules of evidence; what transformations bring back is derived by them.
 #![tactic(auto)]
 
 mod line;

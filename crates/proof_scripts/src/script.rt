@@ -5,7 +5,7 @@ ghost use Rattle.trees.specs.Node.{tree_at};
 ghost use Rattle.tasks.specs.Task.{neg};
 ghost use Rattle.tasks.specs.Meaning.{trees_at};
 ghost use Rattle.evidence.specs.Drafts.{Extends, Refutes, RefuteAll, AreFormulas, IsFormulaAt};
-ghost use Rattle.proof_scripts.specs.Scripts.{word_rule, WordHeld, added_ids, added_at, under, lines_at, LinesHeld, IsByRule, IsGiven, Follows, CanFollow, HoldingLine, FailingLine, CutLine};
+ghost use Rattle.proof_scripts.specs.Scripts.{word_rule, WordHeld, added_ids, added_at, sequents_under, lines_at, LinesHeld, IsByRule, IsGiven, Follows, CanFollow, HoldingLine, FailingLine, CutLine};
 ghost use Rattle.proof_scripts.specs.Derived.{Consumes, ConsumesBehind, RefuteUnder};
 
 use crate::line::{Formulas, Line, Word, rule_of, tail_with};
@@ -105,14 +105,15 @@ fn by_word(
         (added_at draft.old.trees first ++ added_at draft.old.trees second) }
     requires follow { CanFollow draft.old (trees_at draft.old.trees front.now)
         (lines_at draft.old.trees lines.now)
-        (under (trees_at draft.old.trees tail.now) (added_at draft.old.trees first)
-        ++ under (trees_at draft.old.trees tail.now) (added_at draft.old.trees second)) }
+        (sequents_under (trees_at draft.old.trees tail.now) (added_at draft.old.trees first)
+        ++ sequents_under (trees_at draft.old.trees tail.now) (added_at draft.old.trees second)) }
     ensures refutes { IfOk result (λ r. Refutes draft.new r.step
         (trees_at draft.old.trees front.now ++ trees_at draft.old.trees tail.now)) }
     ensures used { IfOk result (λ r. ConsumesBehind
         (trees_at draft.old.trees front.now) (lines_at draft.old.trees lines.now)
-        (under (trees_at draft.old.trees tail.now) (added_at draft.old.trees first)
-        ++ under (trees_at draft.old.trees tail.now) (added_at draft.old.trees second)) r.used) }
+        (sequents_under (trees_at draft.old.trees tail.now) (added_at draft.old.trees first)
+        ++ sequents_under (trees_at draft.old.trees tail.now) (added_at draft.old.trees second))
+        r.used) }
     ensures within { IfOk result (λ r. r.used ≤ length lines.now + 1) }
     ensures grows { Extends draft.old draft.new }
 {
@@ -278,13 +279,13 @@ fn premise(
     requires lines { LinesHeld draft.old lines.now }
     requires follow { CanFollow draft.old (trees_at draft.old.trees front.now)
         (lines_at draft.old.trees lines.now)
-        (under (trees_at draft.old.trees tail.now) (added_at draft.old.trees added)) }
+        (sequents_under (trees_at draft.old.trees tail.now) (added_at draft.old.trees added)) }
     ensures refute { IfOk result (λ _. RefuteUnder draft.new premises.old.items premises.new.items
         (trees_at draft.old.trees front.now)
-        (under (trees_at draft.old.trees tail.now) (added_at draft.old.trees added))) }
+        (sequents_under (trees_at draft.old.trees tail.now) (added_at draft.old.trees added))) }
     ensures used { IfOk result (λ n. Consumes (trees_at draft.old.trees front.now)
         (lines_at draft.old.trees lines.now)
-        (under (trees_at draft.old.trees tail.now) (added_at draft.old.trees added)) n) }
+        (sequents_under (trees_at draft.old.trees tail.now) (added_at draft.old.trees added)) n) }
     ensures within { IfOk result (λ n. n ≤ length lines.now) }
     ensures grows { Extends draft.old draft.new }
 {

@@ -1,4 +1,4 @@
-// The answer to a line: what stands behind its first letter, read as that letter says.
+// The answer to a line: what comes after its first letter, read as that letter says.
 use crate::lines::bytes_of;
 use crate::readings::{put_expression, put_library, put_source};
 use crate::tokens::{put_place, put_tokens, put_value};

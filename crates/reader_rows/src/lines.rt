@@ -13,7 +13,7 @@ fn escaped_byte(letter: u8) -> u8 {
     }
 }
 
-/// The bytes of a line. `\n`, `\t`, `\r`, `\f` and `\x` (the byte 255) stand for one byte each; `\2` doubles all bytes behind
+/// The bytes of a line. `\n`, `\t`, `\r`, `\f` and `\x` (the byte 255) stand for one byte each; `\2` doubles all bytes after
 /// the last `\(`, which stands for none; a backslash before another byte stands for that byte.
 pub(crate) fn bytes_of(alloc: Global, line: &[u8]) -> Result<Vec<u8>, AllocError> {
     let mut out = Vec::new(alloc);

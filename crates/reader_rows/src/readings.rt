@@ -1,7 +1,7 @@
 // What is read of texts: sources, expressions, and the theories of the embedded library.
 ghost use Rattle.tokens_why.specs.Tokens.{AreTokens};
 ghost use Rattle.syntax_why.specs.Lexeme.{rest};
-ghost use Rattle.recognise_why.specs.Sources.{IsRefusal};
+ghost use Rattle.recognise_why.specs.Sources.{IsSyntaxRefusal};
 
 use crate::tokens::put_lex_fault;
 use parse_decls::{SyntaxFault, complete, parse};
@@ -50,7 +50,7 @@ fn put_fault(
     fault: SyntaxFault,
 ) -> Result<(), AllocError>
     requires tokens { AreTokens text.now tokens.now }
-    requires refused { IsRefusal (rest text.now tokens.now 0) fault }
+    requires refused { IsSyntaxRefusal (rest text.now tokens.now 0) fault }
 {
     match fault {
         SyntaxFault::Memory => Err(AllocError),

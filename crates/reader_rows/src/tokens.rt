@@ -60,7 +60,7 @@ pub(crate) fn put_tokens(alloc: Global, out: &mut String, text: &[u8]) -> Result
     }
 }
 
-/// The place of a word in a table of four words, and the word that stands there.
+/// The place of a word in a table of four words, and the word that is there.
 pub(crate) fn put_place(alloc: Global, out: &mut String, word: &[u8]) -> Result<(), AllocError> {
     let table: WordTable<4> = WordTable::new(&["a", "ab", "b", "zz"]);
     match table.find(word) {

@@ -1,5 +1,5 @@
 -- The tokens of types' declarations, members, clauses, links and substitutions are read as them.
-use Rattle.reading.proofs.Common.{◌≡◌, ℕ, ◌+◌, Bool, true, false, cond, List, [], ◌∷◌, ◌++◌, Option, Some, None, option_map, refl, sym, ap, ◌∙◌, subst, append_assoc, same, is_tail, same_true, no_false, Symbol, Name, Lexeme, Word, at, lx, mark, name, Form, Forms, IsForm, IsHead, IsPlaced, Own, aliased, called, composed, enclosed, form_row, lower, no_forms, past, scoped, type_variable, types, upper, variable, wild, write_called, write_form, write_own, HasSome, IsLevel, IsPlacedTree, IsTypePart, PlacedNames, PlacedPart, Tree, bar_before, type_part, write, Algebraic, Clause, Constructor, Inductive, Member, clause_list, clause_tail, constructor_list, constructor_tail, definition, inductive_tail, other_members, param_row, variable_row, write_inductive, write_member, AreClauses, AreConstructors, AreInductive, AreMembers, AreParams, IsDefined, IsDefinition, IsNewSymbol, IsProp, PlacedClauses, PlacedConstructors, PlacedDefinition, PlacedInductive, PlacedInductives, PlacedMembers, ClausesPart, FieldsPart, TypePart, UpperPart, fields_of, is_algebraic, is_alias, scope_of, with_clause, Row, Vals, extend, row, then_row, upper_own, rows, blank, by_row, find, over, read, with_blank}
+use Rattle.reading.proofs.Common.{◌≡◌, ℕ, ◌+◌, Bool, true, false, cond, List, [], ◌∷◌, ◌++◌, Option, Some, None, option_map, refl, sym, ap, ◌∙◌, subst, append_assoc, same, is_tail, same_true, no_false, Symbol, Name, Lexeme, Word, at, lx, mark, name, SyntaxForm, SyntaxForms, IsForm, IsHead, IsPlaced, Own, aliased, called, composed, enclosed, form_row, lower, no_forms, past, scoped, type_variable, type_forms, upper, variable, wild, write_called, write_form, write_own, HasSome, IsLevel, IsPlacedTree, IsTypePart, PlacedNames, PlacedPart, SyntaxTree, bar_before, type_part, write, Algebraic, Clause, Constructor, Inductive, Member, clause_list, clause_tail, constructor_list, constructor_tail, definition, inductive_tail, other_members, param_row, variable_row, write_inductive, write_member, AreClauses, AreConstructors, AreInductive, AreMembers, AreParams, IsDefined, IsOptionalDefinition, IsNewSymbol, IsProp, PlacedClauses, PlacedConstructors, PlacedDefinition, PlacedInductive, PlacedInductives, PlacedMembers, ClausesPart, FieldsPart, TypePart, UpperPart, fields_of, is_algebraic, is_alias, scope_of, with_clause, ReadingRow, Vals, extend, row, then_row, upper_own, rows, blank, by_row, find, values_over, read, with_blank}
 use Rattle.tokens_why.specs.declared.terminal.Terminal.TheVariants as t
 use Rattle.grammar.specs.declared.symbols.Symbol.TheVariants as s
 use Rattle.reading.proofs.Reading.{Reads, Stops, find_apart, find_extend, fused, passed, past-append}
@@ -12,7 +12,7 @@ use Rattle.reading.proofs.Ends.{Ends}
 use Rattle.reading.proofs.PartsRead.{con_tail, reads_fields, reads_id, reads_op, reads_params}
 
 -- a whole expression before what is no operator
-pub expr_then : (e : Tree) (zs : List Lexeme) (i : ℕ) (top : Symbol) (k : List Symbol) (vs : Vals (top ∷ k)) → is_tail top ≡ false → IsLevel e → IsPlacedTree i e → Follow 0 zs → Reads (top ∷ k) zs (past i (write e)) vs → Reads (s.Expr 0 ∷ top ∷ k) (write e ++ zs) i (e, vs)
+pub expr_then : (e : SyntaxTree) (zs : List Lexeme) (i : ℕ) (top : Symbol) (k : List Symbol) (vs : Vals (top ∷ k)) → is_tail top ≡ false → IsLevel e → IsPlacedTree i e → Follow 0 zs → Reads (top ∷ k) zs (past i (write e)) vs → Reads (s.Expr 0 ∷ top ∷ k) (write e ++ zs) i (e, vs)
 expr_then e zs i top k vs t l p f h = whole_by e zs i top k vs (λ m zs j q c us. reads_expr e m zs j q c us) t l p f h
 
 -- A constructor's fields, where its name may as well have been a scope.
@@ -27,11 +27,11 @@ upper_fields (x ∷ xs) i k vs h = by_dot (same t.Dot x.terminal) refl
     found_by : find upper_own x.terminal ≡ None → find (rows s.Upper) x.terminal ≡ option_map (then_row s.Upper s.Fields [] (λ v vs. fields_of v)) (find (rows s.Fields) x.terminal)
     found_by n = find_apart upper_own (extend s.Upper s.Fields [] (λ v vs. fields_of v) (rows s.Fields)) x.terminal n ∙ find_extend s.Upper s.Fields [] (λ v vs. fields_of v) (rows s.Fields) x.terminal
 
-    by_found : (o : Option (Row s.Fields)) → find (rows s.Fields) x.terminal ≡ o → find upper_own x.terminal ≡ None → by_row s.Fields (s.Decls ∷ k) (λ k'. read xs (i + 1) false k') i x.text o (with_blank s.Fields (s.Decls ∷ k) (blank s.Fields) (over (λ k'. read xs (i + 1) false k') i x false (s.Decls ∷ k))) ≡ Some vs → Reads (s.Upper ∷ s.Decls ∷ k) (x ∷ xs) i (fields_of vs.0, vs.1)
-    by_found (Some r) e n g = ap (λ o. by_row s.Upper (s.Decls ∷ k) (λ k'. read xs (i + 1) false k') i x.text o (with_blank s.Upper (s.Decls ∷ k) (blank s.Upper) (over (λ k'. read xs (i + 1) false k') i x false (s.Decls ∷ k)))) (found_by n ∙ ap (option_map (then_row s.Upper s.Fields [] (λ v vs. fields_of v))) e)
+    by_found : (o : Option (ReadingRow s.Fields)) → find (rows s.Fields) x.terminal ≡ o → find upper_own x.terminal ≡ None → by_row s.Fields (s.Decls ∷ k) (λ k'. read xs (i + 1) false k') i x.text o (with_blank s.Fields (s.Decls ∷ k) (blank s.Fields) (values_over (λ k'. read xs (i + 1) false k') i x false (s.Decls ∷ k))) ≡ Some vs → Reads (s.Upper ∷ s.Decls ∷ k) (x ∷ xs) i (fields_of vs.0, vs.1)
+    by_found (Some r) e n g = ap (λ o. by_row s.Upper (s.Decls ∷ k) (λ k'. read xs (i + 1) false k') i x.text o (with_blank s.Upper (s.Decls ∷ k) (blank s.Upper) (values_over (λ k'. read xs (i + 1) false k') i x false (s.Decls ∷ k)))) (found_by n ∙ ap (option_map (then_row s.Upper s.Fields [] (λ v vs. fields_of v))) e)
         ∙ fused {C = UpperPart × Vals (s.Decls ∷ k)} (λ u. (fields_of u.0, u.1)) (λ u. r.act (s.Decls ∷ k) i x.text u) (read xs (i + 1) false (r.behind (s.Decls ∷ k)))
         ∙ ap (option_map {U = UpperPart × Vals (s.Decls ∷ k)} (λ u. (fields_of u.0, u.1))) g
-    by_found None e n g = ap (λ o. by_row s.Upper (s.Decls ∷ k) (λ k'. read xs (i + 1) false k') i x.text o (with_blank s.Upper (s.Decls ∷ k) (blank s.Upper) (over (λ k'. read xs (i + 1) false k') i x false (s.Decls ∷ k)))) (found_by n ∙ ap (option_map (then_row s.Upper s.Fields [] (λ v vs. fields_of v))) e) ∙ by_blank (over (λ k'. read xs (i + 1) false k') i x false (s.Decls ∷ k)) g
+    by_found None e n g = ap (λ o. by_row s.Upper (s.Decls ∷ k) (λ k'. read xs (i + 1) false k') i x.text o (with_blank s.Upper (s.Decls ∷ k) (blank s.Upper) (values_over (λ k'. read xs (i + 1) false k') i x false (s.Decls ∷ k)))) (found_by n ∙ ap (option_map (then_row s.Upper s.Fields [] (λ v vs. fields_of v))) e) ∙ by_blank (values_over (λ k'. read xs (i + 1) false k') i x false (s.Decls ∷ k)) g
 
     no_dot : (w : Word) → Reads (s.Fields ∷ s.Decls ∷ k) (lx t.Dot w ∷ xs) i vs → ⊥
     no_dot w h = cc
@@ -41,12 +41,12 @@ upper_fields (x ∷ xs) i k vs h = by_dot (same t.Dot x.terminal) refl
     by_dot false e = by_found (find (rows s.Fields) x.terminal) refl (ap (λ b. cond b (Some (row s.Upper t.Dot (s.Qlid ∷ s.Targs ∷ []) (λ i w vs. scope_of vs.0 vs.1.0))) None) e) h
 
 -- what a type is declared to be
-pub typedef_headed : (qs : List Word) (o : Own) (ts : Forms) (zs : List Lexeme) (i : ℕ) (k : List Symbol) (vs : Vals k) → IsHead types o → Reads (s.Targs ∷ k) zs (past i (scoped qs ++ write_own o)) (ts, vs) → Reads (s.Typedef ∷ k) ((scoped qs ++ write_own o) ++ zs) i (is_alias (composed (at i) (called i qs o) ts), vs)
+pub typedef_headed : (qs : List Word) (o : Own) (ts : SyntaxForms) (zs : List Lexeme) (i : ℕ) (k : List Symbol) (vs : Vals k) → IsHead type_forms o → Reads (s.Targs ∷ k) zs (past i (scoped qs ++ write_own o)) (ts, vs) → Reads (s.Typedef ∷ k) ((scoped qs ++ write_own o) ++ zs) i (is_alias (composed (at i) (called i qs o) ts), vs)
 typedef_headed [] (lower w) ts zs i k vs l h = rw h refl
 typedef_headed (q ∷ qs) (lower w) ts zs i k vs l h = rw (reads_qlid qs w zs (i + 1 + 1) (s.Targs ∷ k) (ts, vs) h) refl
 typedef_headed qs _ ts zs i k vs l h = elim l [ ]
 
-pub typedef_alias : (f : Form) (zs : List Lexeme) (i : ℕ) (k : List Symbol) (vs : Vals k) → IsForm types f → IsPlaced i f → Stops s.Targs zs → Reads k zs (past i (write_form f)) vs → Reads (s.Typedef ∷ k) (write_form f ++ zs) i (is_alias f, vs)
+pub typedef_alias : (f : SyntaxForm) (zs : List Lexeme) (i : ℕ) (k : List Symbol) (vs : Vals k) → IsForm type_forms f → IsPlaced i f → Stops s.Targs zs → Reads k zs (past i (write_form f)) vs → Reads (s.Typedef ∷ k) (write_form f ++ zs) i (is_alias f, vs)
 typedef_alias (type_variable a w) zs i k vs l p n h = rw (h, p) refl
 typedef_alias (composed a c ts) zs i k vs l p n h = rw (append_assoc (write_called c) (form_row ts) zs, p.0, p.1) (typedef_headed c.scopes c.own ts (form_row ts ++ zs) i k vs l.0 (reads_row ts zs (past i (write_called c)) k vs l.1 p.2 n (rw past-append at h)))
 typedef_alias (enclosed a ts) zs i k vs l p n h = rw (p.0, reads_tuple ts zs (i + 1) k vs l p.1 h) refl
@@ -68,11 +68,11 @@ pub members_follow : (ms : List Member) (zs : List Lexeme) → Ends zs → Follo
 members_follow [] zs n = n.follow
 members_follow (d ∷ ms) zs n = record { args = refl; scope = refl; ops = λ i. absurd (no_false i) }
 
-part_stop : (ty : Option Form) (zs : List Lexeme) → Stops s.Params (type_part ty ++ (mark t.Equal ∷ zs))
+part_stop : (ty : Option SyntaxForm) (zs : List Lexeme) → Stops s.Params (type_part ty ++ (mark t.Equal ∷ zs))
 part_stop None zs = refl
 part_stop (Some f) zs = refl
 
-member_read : (ty : Option Form) (e : Tree) (ms : List Member) (zs : List Lexeme) (i : ℕ) (k : List Symbol) (vs : Vals k) → IsTypePart ty → PlacedPart i ty → IsLevel e → IsPlacedTree (past i (type_part ty) + 1) e → Follow 0 zs → Reads (s.Members ∷ k) zs (past (past i (type_part ty) + 1) (write e)) (ms, vs) → Reads (s.Member ∷ k) (type_part ty ++ (mark t.Equal ∷ (write e ++ zs))) i (record { result = ty; body = e; others = ms }, vs)
+member_read : (ty : Option SyntaxForm) (e : SyntaxTree) (ms : List Member) (zs : List Lexeme) (i : ℕ) (k : List Symbol) (vs : Vals k) → IsTypePart ty → PlacedPart i ty → IsLevel e → IsPlacedTree (past i (type_part ty) + 1) e → Follow 0 zs → Reads (s.Members ∷ k) zs (past (past i (type_part ty) + 1) (write e)) (ms, vs) → Reads (s.Member ∷ k) (type_part ty ++ (mark t.Equal ∷ (write e ++ zs))) i (record { result = ty; body = e; others = ms }, vs)
 member_read None e ms zs i k vs l p m q f h = rw (expr_then e zs (i + 1) s.Members k (ms, vs) refl m q f h) refl
 member_read (Some g) e ms zs i k vs l p m q f h = rw (reads_type g (mark t.Equal ∷ (write e ++ zs)) (i + 1) (s.Take t.Equal ∷ s.Expr 0 ∷ s.Members ∷ k) (name (past (i + 1) (write_form g)) [], (e, (ms, vs))) l p refl (reads_mark t.Equal (write e ++ zs) (past (i + 1) (write_form g)) (s.Expr 0 ∷ s.Members ∷ k) (e, (ms, vs)) (expr_then e zs (past (i + 1) (write_form g) + 1) s.Members k (ms, vs) refl m q f h))) refl
 
@@ -90,12 +90,12 @@ reads_members (d ∷ ms) zs i k vs l p n h = rw (
       (subst (λ j. Reads k zs j vs) (past-append (write_member d) (other_members ms) (i + 1) ∙ ap (λ j. past j (other_members ms)) (member_past (write_called d.name) (param_row d.params) (type_part d.result) (write d.body) (mark t.Equal) (i + 1))) h)))),
 ) refl
 
-pub reads_body : (e : Option Tree) (ms : List Member) (zs : List Lexeme) (i : ℕ) (k : List Symbol) (vs : Vals k) → IsDefined e ms → PlacedDefinition i e → PlacedMembers (past i (definition e)) ms → Ends zs → Reads k zs (past (past i (definition e)) (other_members ms)) vs → Reads (s.Body ∷ k) (definition e ++ (other_members ms ++ zs)) i (record { definition = e; members = ms }, vs)
+pub reads_body : (e : Option SyntaxTree) (ms : List Member) (zs : List Lexeme) (i : ℕ) (k : List Symbol) (vs : Vals k) → IsDefined e ms → PlacedDefinition i e → PlacedMembers (past i (definition e)) ms → Ends zs → Reads k zs (past (past i (definition e)) (other_members ms)) vs → Reads (s.Body ∷ k) (definition e ++ (other_members ms ++ zs)) i (record { definition = e; members = ms }, vs)
 reads_body None [] zs i k vs l p q n h = passed s.Body (record { definition = None; members = [] }) k zs i vs refl refl n.no_body h
 reads_body None (d ∷ ms) zs i k vs l p q n h = elim l [ ]
 reads_body (Some e) ms zs i k vs l p q n h = rw (expr_then e (other_members ms ++ zs) (i + 1) s.Members k (ms, vs) refl l.0 p (members_follow ms zs n) (reads_members ms zs (past (i + 1) (write e)) k vs l.1 q n h)) refl
 
-pub reads_value : (e : Option Tree) (zs : List Lexeme) (i : ℕ) (k : List Symbol) (vs : Vals (s.Decls ∷ k)) → IsDefinition e → PlacedDefinition i e → Ends zs → Reads (s.Decls ∷ k) zs (past i (definition e)) vs → Reads (s.Value ∷ s.Decls ∷ k) (definition e ++ zs) i (e, vs)
+pub reads_value : (e : Option SyntaxTree) (zs : List Lexeme) (i : ℕ) (k : List Symbol) (vs : Vals (s.Decls ∷ k)) → IsOptionalDefinition e → PlacedDefinition i e → Ends zs → Reads (s.Decls ∷ k) zs (past i (definition e)) vs → Reads (s.Value ∷ s.Decls ∷ k) (definition e ++ zs) i (e, vs)
 reads_value None zs i k vs l p n h = passed s.Value None (s.Decls ∷ k) zs i vs refl refl n.no_value h
 reads_value (Some e) zs i k vs l p n h = rw (expr_then e zs (i + 1) s.Decls k vs refl l p n.follow h) refl
 
@@ -120,7 +120,7 @@ reads_clause_tail (c ∷ cs) is zs i k vs l p n h = rw (
       (reads_clause_tail cs is zs (past (past (i + 1) (write_called c.name) + 1) (write c.prop)) k vs l.2 (rw past-append at p.2) n (subst (λ j. Reads (s.Clauses ∷ k) zs j (record { clauses = []; others = is }, vs)) (clause_ends (write_called c.name) (write c.prop) (clause_tail cs) (i + 1)) h)))),
 ) refl
 
-clause_named : (qs : List Word) (o : Own) (e : Tree) (p : ClausesPart) (n : Name) (zs : List Lexeme) (i : ℕ) (k : List Symbol) (vs : Vals k) → qs ≡ [] → IsProp o → Reads (s.Take t.Colon ∷ s.Expr 0 ∷ s.Clauses ∷ k) zs (past i (scoped qs ++ write_own o)) (n, (e, (p, vs))) → Reads (s.Clause ∷ k) ((scoped qs ++ write_own o) ++ zs) i (record { bar = false; rest = with_clause (called i qs o) e p }, vs)
+clause_named : (qs : List Word) (o : Own) (e : SyntaxTree) (p : ClausesPart) (n : Name) (zs : List Lexeme) (i : ℕ) (k : List Symbol) (vs : Vals k) → qs ≡ [] → IsProp o → Reads (s.Take t.Colon ∷ s.Expr 0 ∷ s.Clauses ∷ k) zs (past i (scoped qs ++ write_own o)) (n, (e, (p, vs))) → Reads (s.Clause ∷ k) ((scoped qs ++ write_own o) ++ zs) i (record { bar = false; rest = with_clause (called i qs o) e p }, vs)
 clause_named [] (lower w) e p n zs i k vs q l h = rw h refl
 clause_named [] (upper w) e p n zs i k vs q l h = rw h refl
 clause_named [] _ e p n zs i k vs q l h = elim l [ ]
@@ -148,7 +148,7 @@ ind_follow (d ∷ is) zs n = record { args = refl; scope = refl; ops = λ i. abs
 pub ind_tokens_of : (a b c d e ys : List Lexeme) → ((a ++ (b ++ (mark t.Equal ∷ (c ++ d)))) ++ e) ++ ys ≡ a ++ (b ++ (mark t.Equal ∷ (c ++ (d ++ (e ++ ys)))))
 ind_tokens_of a b c d e ys = simp append_assoc
 
--- one predicate, and what stands behind it
+-- one predicate, and what comes after it
 pub reads_inductive : (d : Inductive) (is : List Inductive) (zs : List Lexeme) (i : ℕ) (k : List Symbol) (vs : Vals k) → IsNewSymbol d.name → AreParams d.params → HasSome d.clauses → AreClauses d.clauses → PlacedInductive i d → Follow 0 zs → Reads (s.Clauses ∷ k) zs (past (past (past (past (past i (write_called d.name)) (param_row d.params) + 1) (bar_before d.bar)) (clause_list d.clauses)) []) (record { clauses = []; others = is }, vs) → Reads (s.Op ∷ s.Params ∷ s.Take t.Equal ∷ s.Clause ∷ k) (write_called d.name ++ (param_row d.params ++ (mark t.Equal ∷ (bar_before d.bar ++ (clause_list d.clauses ++ zs))))) i (d.name, (d.params, (name (past (past i (write_called d.name)) (param_row d.params)) [], (record { bar = d.bar; rest = record { clauses = d.clauses; others = is } }, vs))))
 reads_inductive d is zs i k vs l m e o p n h = reads_op d.name (param_row d.params ++ (mark t.Equal ∷ (bar_before d.bar ++ (clause_list d.clauses ++ zs)))) i (s.Params ∷ s.Take t.Equal ∷ s.Clause ∷ k) (d.params, (name (past (past i (write_called d.name)) (param_row d.params)) [], (record { bar = d.bar; rest = record { clauses = d.clauses; others = is } }, vs))) l p.0
     (reads_params d.params (mark t.Equal ∷ (bar_before d.bar ++ (clause_list d.clauses ++ zs))) (past i (write_called d.name)) (s.Take t.Equal ∷ s.Clause ∷ k) (name (past (past i (write_called d.name)) (param_row d.params)) [], (record { bar = d.bar; rest = record { clauses = d.clauses; others = is } }, vs)) m p.1 refl

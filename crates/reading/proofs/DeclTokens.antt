@@ -9,7 +9,7 @@ begins x w xs ys p e = ap (λ v. lx x v ∷ xs) p ∙ ap (λ v. mark x ∷ v) e
 pub two_tokens : (a b xs ys zs : List Lexeme) → xs ≡ a ++ ys → ys ≡ b ++ zs → xs ≡ (a ++ b) ++ zs
 two_tokens a b xs ys zs e d = e ∙ ap (λ v. a ++ v) d ∙ sym (append_assoc a b zs)
 
--- behind a token that is written as a mark
+-- after a token that is written as a mark
 pub marked_tokens : (x : Terminal) (w : Word) (xs ys zs : List Lexeme) → xs ≡ lx x w ∷ ys → w ≡ [] → ys ≡ zs → xs ≡ mark x ∷ zs
 marked_tokens x w xs ys zs e p d = e ∙ begins x w ys zs p d
 

@@ -1,5 +1,5 @@
 -- What is read as clauses, links, substitutions, declarations and files is right.
-use Rattle.reading.proofs.Common.{◌≡◌, ℕ, ◌+◌, Bool, true, false, List, [], ◌∷◌, ◌++◌, Option, Some, None, refl, sym, ap, ◌∙◌, subst, append_assoc, append-nil, Symbol, Name, Lexeme, Word, at, lx, mark, Called, called, lower, past, scoped, upper, write_called, write_form, IsLevel, IsPlacedTree, Tree, bar_before, write, PropKind, Decl, Decls, Element, Param, clause_list, clause_tail, clone_decl, constant_decl, definition, element_tail, function_decl, heading, inductive_decl, inductive_tail, link_words, more_decls, param_row, predicate_decl, prop_decl, prop_word, renamed, scope_decl, substitution, symbol_word, use_decl, write_decl, write_decls, write_element, write_file, write_inductive, write_path, AreInductive, AreLevelDecls, AreParams, IsElement, IsLevelDecl, IsNewProp, IsNewSymbol, PlacedClauses, PlacedDecl, PlacedDecls, PlacedElement, PlacedInductives, PlacedParams, PlacedRenamed, ClausePart, ClausesPart, TypePart, UsedPart, is_algebraic, is_alias, new_inductive, path_on, typed_as, with_clause, Vals, axioms_of, cloned, file_row, last_part, prop_row, symbol_row, used, rows}
+use Rattle.reading.proofs.Common.{◌≡◌, ℕ, ◌+◌, Bool, true, false, List, [], ◌∷◌, ◌++◌, Option, Some, None, refl, sym, ap, ◌∙◌, subst, append_assoc, append-nil, Symbol, Name, Lexeme, Word, at, lx, mark, Called, called, lower, past, scoped, upper, write_called, write_form, IsLevel, IsPlacedTree, SyntaxTree, bar_before, write, PropKind, SyntaxDeclaration, SyntaxDeclarations, Element, ParamGroup, clause_list, clause_tail, clone_decl, constant_decl, definition, element_tail, function_decl, heading, inductive_decl, inductive_tail, link_words, more_decls, param_row, predicate_decl, prop_decl, prop_word, renamed, scope_decl, substitution, symbol_word, use_decl, write_decl, write_decls, write_element, write_file, write_inductive, write_path, AreInductive, AreLevelDecls, AreParams, IsElement, IsLevelDecl, IsNewProp, IsNewSymbol, PlacedClauses, PlacedDecl, PlacedDecls, PlacedElement, PlacedInductives, PlacedParams, PlacedRenamed, ClausePart, ClausesPart, TypePart, UsedPart, is_algebraic, is_alias, new_inductive, path_on, typed_as, with_clause, Vals, axioms_of, cloned, file_row, path_end, prop_row, symbol_row, use_part, rows}
 use Rattle.tokens_why.specs.declared.terminal.Terminal.TheVariants as t
 use Rattle.grammar.specs.declared.symbols.Symbol.TheVariants as s
 use Rattle.syntax_why.specs.declared.declarations.SymbolWord.{SymbolWord}
@@ -15,28 +15,28 @@ use Rattle.reading.proofs.DeclTokens.{begins, clause_row, clone_row, constant_pa
 use Rattle.reading.proofs.PartsBuilt.{alg_levels, alg_tokens}
 
 -- clauses, from a name on
-pub clause_levels : (i : ℕ) (c : Called) (e : Tree) (p : ClausesPart) → c.at ≡ i → IsNewProp c → IsLevel e → IsPlacedTree (past i (write_called c) + 1) e → IsClauses (past (past i (write_called c) + 1) (write e)) p → IsClauseRest i (with_clause c e p)
+pub clause_levels : (i : ℕ) (c : Called) (e : SyntaxTree) (p : ClausesPart) → c.at ≡ i → IsNewProp c → IsLevel e → IsPlacedTree (past i (write_called c) + 1) e → IsClauses (past (past i (write_called c) + 1) (write e)) p → IsClauseRest i (with_clause c e p)
 clause_levels i c e p a m l q n = (tt, (m, l, n.0), (a, q, subst (λ j. PlacedClauses (j + 1) p.clauses) (sym (past-append (write_called c) (mark t.Colon ∷ write e) i)) n.1), subst (λ j. ArePredicates j p.others) (sym (past-append (write_called c ++ (mark t.Colon ∷ write e)) (clause_tail p.clauses) i ∙ ap (λ j. past j (clause_tail p.clauses)) (past-append (write_called c) (mark t.Colon ∷ write e) i))) n.2)
 
-pub clause_whole : (c : Called) (e : Tree) (p : ClausesPart) → write_called c ++ (mark t.Colon ∷ (write e ++ write_clauses p)) ≡ clause_list (with_clause c e p).clauses ++ inductive_tail p.others
+pub clause_whole : (c : Called) (e : SyntaxTree) (p : ClausesPart) → write_called c ++ (mark t.Colon ∷ (write e ++ write_clauses p)) ≡ clause_list (with_clause c e p).clauses ++ inductive_tail p.others
 clause_whole c e p = clause_row (write_called c) (write e) (clause_tail p.clauses) (inductive_tail p.others) (mark t.Colon)
 
-pub clause_tokens : (c : Called) (e : Tree) (p : ClausesPart) (w : Word) (xs y1 y2 zs : List Lexeme) → xs ≡ lx t.Colon w ∷ y1 → w ≡ [] → y1 ≡ write e ++ y2 → y2 ≡ write_clauses p ++ zs → write_called c ++ xs ≡ (clause_list (with_clause c e p).clauses ++ inductive_tail p.others) ++ zs
+pub clause_tokens : (c : Called) (e : SyntaxTree) (p : ClausesPart) (w : Word) (xs y1 y2 zs : List Lexeme) → xs ≡ lx t.Colon w ∷ y1 → w ≡ [] → y1 ≡ write e ++ y2 → y2 ≡ write_clauses p ++ zs → write_called c ++ xs ≡ (clause_list (with_clause c e p).clauses ++ inductive_tail p.others) ++ zs
 clause_tokens c e p w xs y1 y2 zs e1 n e2 e3 = ap (λ v. write_called c ++ v) (marked_tokens t.Colon w xs y1 ((write e ++ write_clauses p) ++ zs) e1 n (two_tokens (write e) (write_clauses p) y1 y2 zs e2 e3)) ∙ sym (append_assoc (write_called c) (mark t.Colon ∷ (write e ++ write_clauses p)) zs) ∙ ap (λ v. v ++ zs) (clause_whole c e p)
 
-pub clause_past : (c : Called) (e : Tree) (p : ClausesPart) (i : ℕ) → past (past (past i (write_called c) + 1) (write e)) (write_clauses p) ≡ past i (clause_list (with_clause c e p).clauses ++ inductive_tail p.others)
+pub clause_past : (c : Called) (e : SyntaxTree) (p : ClausesPart) (i : ℕ) → past (past (past i (write_called c) + 1) (write e)) (write_clauses p) ≡ past i (clause_list (with_clause c e p).clauses ++ inductive_tail p.others)
 clause_past c e p i = sym (past-append (write_called c) (mark t.Colon ∷ (write e ++ write_clauses p)) i ∙ past-append (write e) (write_clauses p) (past i (write_called c) + 1)) ∙ ap (past i) (clause_whole c e p)
 
-pub ind_levels : (i : ℕ) (c : Called) (ps : List Param) (p : ClausePart) → c.at ≡ i → IsNewSymbol c → AreParams ps → PlacedParams (past i (write_called c)) ps → IsClausePart (past (past i (write_called c)) (param_row ps) + 1) p → AreInductive (new_inductive c ps p ∷ p.rest.others) × PlacedInductives i (new_inductive c ps p ∷ p.rest.others)
+pub ind_levels : (i : ℕ) (c : Called) (ps : List ParamGroup) (p : ClausePart) → c.at ≡ i → IsNewSymbol c → AreParams ps → PlacedParams (past i (write_called c)) ps → IsClausePart (past (past i (write_called c)) (param_row ps) + 1) p → AreInductive (new_inductive c ps p ∷ p.rest.others) × PlacedInductives i (new_inductive c ps p ∷ p.rest.others)
 ind_levels i c ps p a m n np q = ((m, n, q.0, q.1, q.3.0), ((a, np, q.2), subst (λ j. PlacedInductives (j + 1) p.rest.others) (sym (function_past (write_called c) (param_row ps) (bar_before p.bar) (clause_list p.rest.clauses) (mark t.Equal) i)) q.3.1))
 
-pub ind_row : (c : Called) (ps : List Param) (p : ClausePart) → write_called c ++ (param_row ps ++ (mark t.Equal ∷ write_clause_part p)) ≡ write_inductive (new_inductive c ps p) ++ inductive_tail p.rest.others
+pub ind_row : (c : Called) (ps : List ParamGroup) (p : ClausePart) → write_called c ++ (param_row ps ++ (mark t.Equal ∷ write_clause_part p)) ≡ write_inductive (new_inductive c ps p) ++ inductive_tail p.rest.others
 ind_row c ps p = function_row (write_called c) (param_row ps) (bar_before p.bar) (clause_list p.rest.clauses) (inductive_tail p.rest.others) (mark t.Equal)
 
-pub ind_tokens : (c : Called) (ps : List Param) (p : ClausePart) (w : Word) (xs y1 y2 y3 zs : List Lexeme) → xs ≡ write_called c ++ y1 → y1 ≡ param_row ps ++ y2 → y2 ≡ lx t.Equal w ∷ y3 → w ≡ [] → y3 ≡ write_clause_part p ++ zs → xs ≡ (write_inductive (new_inductive c ps p) ++ inductive_tail p.rest.others) ++ zs
+pub ind_tokens : (c : Called) (ps : List ParamGroup) (p : ClausePart) (w : Word) (xs y1 y2 y3 zs : List Lexeme) → xs ≡ write_called c ++ y1 → y1 ≡ param_row ps ++ y2 → y2 ≡ lx t.Equal w ∷ y3 → w ≡ [] → y3 ≡ write_clause_part p ++ zs → xs ≡ (write_inductive (new_inductive c ps p) ++ inductive_tail p.rest.others) ++ zs
 ind_tokens c ps p w xs y1 y2 y3 zs e1 e2 e3 n e4 = two_tokens (write_called c) (param_row ps ++ (mark t.Equal ∷ write_clause_part p)) xs y1 zs e1 (two_tokens (param_row ps) (mark t.Equal ∷ write_clause_part p) y1 y2 zs e2 (marked_tokens t.Equal w y2 y3 (write_clause_part p ++ zs) e3 n e4)) ∙ ap (λ v. v ++ zs) (ind_row c ps p)
 
-pub ind_past : (c : Called) (ps : List Param) (p : ClausePart) (i : ℕ) → past (past (past i (write_called c)) (param_row ps) + 1) (write_clause_part p) ≡ past i (write_inductive (new_inductive c ps p) ++ inductive_tail p.rest.others)
+pub ind_past : (c : Called) (ps : List ParamGroup) (p : ClausePart) (i : ℕ) → past (past (past i (write_called c)) (param_row ps) + 1) (write_clause_part p) ≡ past i (write_inductive (new_inductive c ps p) ++ inductive_tail p.rest.others)
 ind_past c ps p i = sym (three_row (write_called c) (param_row ps) (mark t.Equal ∷ write_clause_part p) i) ∙ ap (past i) (ind_row c ps p)
 
 pub clause_ok : AllRows s.Clause (rows s.Clause)
@@ -76,11 +76,11 @@ pub cloned_by : (k : List Symbol) (i : ℕ) (xs ys zs : List Lexeme) (u : UsedPa
 cloned_by k i xs ys zs u es vs m n e d g = (zs, (m, subst (λ j. IsSubst j es) (three_row (link_words u.link) (write_path u.path.parts) (renamed u.name) i) n), two_tokens (write_used u) (substitution es) xs ys zs e d, subst (λ j. Good false k j zs vs) (sym (past-append (write_used u) (substitution es) i)) g)
 
 pub cloned_ok : AllRows s.Cloned (rows s.Cloned)
-cloned_ok = (λ k i w xs vs p (ys, m, e, (zs, n, d, g)). cloned_by k i (lx t.ExportWord w ∷ xs) ys zs (used lk.Export vs.0 None) vs.1.0 vs.1.1 (m.1, tt, m.0, tt) (subst (λ v. IsSubst (past (i + 1) v) vs.1.0) (sym (append-nil (write_path vs.0.parts))) n) (begins t.ExportWord w xs ((write_path vs.0.parts ++ []) ++ ys) p (e ∙ ap (λ v. v ++ ys) (sym (append-nil (write_path vs.0.parts))))) d (subst (λ v. Good false k (past (past (i + 1) v) (substitution vs.1.0)) zs vs.1.1) (sym (append-nil (write_path vs.0.parts))) g))
-    ▸ (λ k i w xs vs p (y1, m, e1, (y2, n, e2, (zs, o, e3, g))). cloned_by k i (lx t.ImportWord w ∷ xs) y2 zs (used lk.Import vs.0 vs.1.0) vs.1.1.0 vs.1.1.1 (m.1, tt, m.0, n) (subst (λ j. IsSubst j vs.1.1.0) (sym (past-append (write_path vs.0.parts) (renamed vs.1.0) (i + 1))) o) (begins t.ImportWord w xs ((write_path vs.0.parts ++ renamed vs.1.0) ++ y2) p (two_tokens (write_path vs.0.parts) (renamed vs.1.0) xs y1 y2 e1 e2)) e3 (subst (λ j. Good false k (past j (substitution vs.1.1.0)) zs vs.1.1.1) (sym (past-append (write_path vs.0.parts) (renamed vs.1.0) (i + 1))) g))
-    ▸ (λ k i w xs vs p (y1, m, e1, (y2, n, e2, (y3, o, e3, (zs, q, e4, g)))). (let r = sym (ap (past i) (ap (λ v. v ++ renamed vs.1.1.0) (path_row w vs.1.0.parts n.1)) ∙ past-append (write_path vs.1.0.parts) (renamed vs.1.1.0) (i + 1 + 1)) in cloned_by k i (lx t.Lident w ∷ xs) y3 zs (used lk.Bare (path_on i w vs.1.0) vs.1.1.0) vs.1.1.1.0 vs.1.1.1.1 (tt, tt, refl, subst (λ v. PlacedRenamed (past i v) vs.1.1.0) (sym (path_row w vs.1.0.parts n.1)) o) (subst (λ j. IsSubst j vs.1.1.1.0) r q)
+cloned_ok = (λ k i w xs vs p (ys, m, e, (zs, n, d, g)). cloned_by k i (lx t.ExportWord w ∷ xs) ys zs (use_part lk.Export vs.0 None) vs.1.0 vs.1.1 (m.1, tt, m.0, tt) (subst (λ v. IsSubst (past (i + 1) v) vs.1.0) (sym (append-nil (write_path vs.0.parts))) n) (begins t.ExportWord w xs ((write_path vs.0.parts ++ []) ++ ys) p (e ∙ ap (λ v. v ++ ys) (sym (append-nil (write_path vs.0.parts))))) d (subst (λ v. Good false k (past (past (i + 1) v) (substitution vs.1.0)) zs vs.1.1) (sym (append-nil (write_path vs.0.parts))) g))
+    ▸ (λ k i w xs vs p (y1, m, e1, (y2, n, e2, (zs, o, e3, g))). cloned_by k i (lx t.ImportWord w ∷ xs) y2 zs (use_part lk.Import vs.0 vs.1.0) vs.1.1.0 vs.1.1.1 (m.1, tt, m.0, n) (subst (λ j. IsSubst j vs.1.1.0) (sym (past-append (write_path vs.0.parts) (renamed vs.1.0) (i + 1))) o) (begins t.ImportWord w xs ((write_path vs.0.parts ++ renamed vs.1.0) ++ y2) p (two_tokens (write_path vs.0.parts) (renamed vs.1.0) xs y1 y2 e1 e2)) e3 (subst (λ j. Good false k (past j (substitution vs.1.1.0)) zs vs.1.1.1) (sym (past-append (write_path vs.0.parts) (renamed vs.1.0) (i + 1))) g))
+    ▸ (λ k i w xs vs p (y1, m, e1, (y2, n, e2, (y3, o, e3, (zs, q, e4, g)))). (let r = sym (ap (past i) (ap (λ v. v ++ renamed vs.1.1.0) (path_row w vs.1.0.parts n.1)) ∙ past-append (write_path vs.1.0.parts) (renamed vs.1.1.0) (i + 1 + 1)) in cloned_by k i (lx t.Lident w ∷ xs) y3 zs (use_part lk.Bare (path_on i w vs.1.0) vs.1.1.0) vs.1.1.1.0 vs.1.1.1.1 (tt, tt, refl, subst (λ v. PlacedRenamed (past i v) vs.1.1.0) (sym (path_row w vs.1.0.parts n.1)) o) (subst (λ j. IsSubst j vs.1.1.1.0) r q)
     (ap (λ v. lx t.Lident w ∷ v) (marked_tokens t.Dot vs.0.text xs y1 ((write_path vs.1.0.parts ++ renamed vs.1.1.0) ++ y3) e1 m.1 (two_tokens (write_path vs.1.0.parts) (renamed vs.1.1.0) y1 y2 y3 e2 e3)) ∙ ap (λ v. (v ++ renamed vs.1.1.0) ++ y3) (sym (path_row w vs.1.0.parts n.1))) e4 (subst (λ j. Good false k (past j (substitution vs.1.1.1.0)) zs vs.1.1.1.1) r g)))
-    ▸ (λ k i w xs vs p (ys, n, e, (zs, o, d, g)). cloned_by k i (lx t.Uident w ∷ xs) ys zs (used lk.Bare (last_part i w) vs.0) vs.1.0 vs.1.1 (tt, tt, refl, n) o (ap (λ v. lx t.Uident w ∷ v) e) d g)
+    ▸ (λ k i w xs vs p (ys, n, e, (zs, o, d, g)). cloned_by k i (lx t.Uident w ∷ xs) ys zs (use_part lk.Bare (path_end i w) vs.0) vs.1.0 vs.1.1 (tt, tt, refl, n) o (ap (λ v. lx t.Uident w ∷ v) e) d g)
     ▸ tt
 
 -- substitutions
@@ -117,8 +117,8 @@ elem_ok = (λ k i w xs vs p (ys, m, e, (zs, n, d, g)). (zs, ((tt, n.1.0), (refl,
     symbol_ok : (q : SymbolWord) → RowOk s.Elem (symbol_row (symbol_word q) q)
     symbol_ok q k i w xs vs p (y1, m, e1, (y2, n, e2, (zs, o, e3, g))) = (zs, ((m.1, o.1), (refl, m.0, o.0)), begins (symbol_word q) w xs ((write_called vs.0 ++ (mark t.Equal ∷ write_called vs.1.1.0)) ++ zs) (bare q p) (two_tokens (write_called vs.0) (mark t.Equal ∷ write_called vs.1.1.0) xs y1 zs e1 (marked_tokens t.Equal vs.1.0.text y1 y2 (write_called vs.1.1.0 ++ zs) e2 n.1 e3)), subst (λ j. Good false k j zs vs.1.1.1) (sym (past_op (write_called vs.0) (mark t.Equal) (write_called vs.1.1.0) (i + 1))) g)
 
--- A declaration and others behind it.
-pub decl_good : (k : List Symbol) (i j : ℕ) (d : Decl) (ds : Decls) (xs ys zs : List Lexeme) (vs : Vals k) → IsLevelDecl d → PlacedDecl i d → past i (write_decl d) ≡ j → xs ≡ write_decl d ++ ys → AreLevelDecls ds × PlacedDecls j ds → ys ≡ (write_decls ds ++ (mark t.EndWord ∷ [])) ++ zs → Good false k (past j (write_decls ds ++ (mark t.EndWord ∷ []))) zs vs → Good false (s.Decls ∷ k) i xs (more_decls d ds, vs)
+-- A declaration and others after it.
+pub decl_good : (k : List Symbol) (i j : ℕ) (d : SyntaxDeclaration) (ds : SyntaxDeclarations) (xs ys zs : List Lexeme) (vs : Vals k) → IsLevelDecl d → PlacedDecl i d → past i (write_decl d) ≡ j → xs ≡ write_decl d ++ ys → AreLevelDecls ds × PlacedDecls j ds → ys ≡ (write_decls ds ++ (mark t.EndWord ∷ [])) ++ zs → Good false k (past j (write_decls ds ++ (mark t.EndWord ∷ []))) zs vs → Good false (s.Decls ∷ k) i xs (more_decls d ds, vs)
 decl_good k i j d ds xs ys zs vs l p a e n h g = (zs, ((l, n.0), (p, subst (λ m. PlacedDecls m ds) (sym a) n.1)), e ∙ ap (λ v. write_decl d ++ v) h ∙ list_tokens (write_decl d) (write_decls ds) (mark t.EndWord ∷ []) zs, subst (λ m. Good false k m zs vs) (sym (list_past (write_decl d) (write_decls ds) (mark t.EndWord ∷ []) i ∙ ap (λ m. past m (write_decls ds ++ (mark t.EndWord ∷ []))) a)) g)
 
 -- what a type is declared to be

@@ -1,5 +1,5 @@
 -- The tokens of links, substitutions, declarations and files are read as them.
-use Rattle.reading.proofs.Common.{◌≡◌, ℕ, ◌+◌, Bool, true, false, List, [], ◌∷◌, ◌++◌, Option, Some, None, refl, sym, ap, ◌∙◌, subst, append_assoc, Terminal, Symbol, Name, Lexeme, Word, at, lx, mark, name, Called, Form, IsForm, IsHead, IsPlaced, Own, called, lower, past, scoped, types, write_called, write_form, write_own, HasSome, IsLevel, IsPlacedTree, IsTypePart, PlacedNames, PlacedPart, Tree, bar_before, write, Link, Decl, Decls, Element, Member, Theory, algebraic_decl, algebraic_tail, all_axioms, clause_list, clone_decl, constant_decl, constructor_list, definition, element_tail, function_decl, heading, inductive_decl, inductive_tail, link_words, more_decls, no_decls, other_members, param_row, path_from, predicate_decl, prop_decl, prop_element, renamed, scope_decl, substitution, symbol_element, type_decl, type_element, type_equation, use_decl, variable_row, write_decl, write_decls, write_element, write_file, write_inductive, write_path, AreElements, AreLevelDecls, IsElement, IsLevelDecl, IsLevelFile, IsLink, IsNewProp, IsSymbol, PlacedDecl, PlacedDecls, PlacedElement, PlacedElements, PlacedFile, PlacedInductives, PlacedRenamed, is_algebraic, is_alias, Row, Vals, axioms_own, cloned, used, rows, find, read}
+use Rattle.reading.proofs.Common.{◌≡◌, ℕ, ◌+◌, Bool, true, false, List, [], ◌∷◌, ◌++◌, Option, Some, None, refl, sym, ap, ◌∙◌, subst, append_assoc, Terminal, Symbol, Name, Lexeme, Word, at, lx, mark, name, Called, SyntaxForm, IsForm, IsHead, IsPlaced, Own, called, lower, past, scoped, type_forms, write_called, write_form, write_own, HasSome, IsLevel, IsPlacedTree, IsTypePart, PlacedNames, PlacedPart, SyntaxTree, bar_before, write, Link, SyntaxDeclaration, SyntaxDeclarations, Element, Member, SyntaxTheory, algebraic_decl, algebraic_tail, all_axioms, clause_list, clone_decl, constant_decl, constructor_list, definition, element_tail, function_decl, heading, inductive_decl, inductive_tail, link_words, more_decls, no_decls, other_members, param_row, path_from, predicate_decl, prop_decl, prop_element, renamed, scope_decl, substitution, symbol_element, type_decl, type_element, type_equation, use_decl, variable_row, write_decl, write_decls, write_element, write_file, write_inductive, write_path, AreElements, AreLevelDecls, IsElement, IsLevelDecl, IsLevelFile, IsLink, IsNewProp, IsSymbolName, PlacedDecl, PlacedDecls, PlacedElement, PlacedElements, PlacedFile, PlacedInductives, PlacedRenamed, is_algebraic, is_alias, ReadingRow, Vals, axioms_own, cloned, use_part, rows, find, read}
 use Rattle.tokens_why.specs.declared.terminal.Terminal.TheVariants as t
 use Rattle.grammar.specs.declared.symbols.Symbol.TheVariants as s
 use Rattle.syntax_why.specs.declared.declarations.PropKind.TheVariants as pk
@@ -15,14 +15,14 @@ use Rattle.reading.proofs.PartsRead.{alg_tail, elem_vars, reads_id, reads_op, re
 use Rattle.reading.proofs.BodiesRead.{expr_then, ind_follow, ind_tail, ind_tokens_of, reads_body, reads_inductive, reads_tvars, reads_value, typedef_alias, typedef_con}
 
 -- links
-used_named : (l : Link) (w : Word) (ws : List Word) (n : Option Name) (zs : List Lexeme) (i : ℕ) (k : List Symbol) (vs : Vals k) → IsLink l n → PlacedRenamed (past (past i (link_words l)) (path_from w ws)) n → Stops s.Renamed zs → Reads k zs (past (past (past i (link_words l)) (path_from w ws)) (renamed n)) vs → Reads (s.Used ∷ k) (link_words l ++ (path_from w ws ++ (renamed n ++ zs))) i (used l (record { at = past i (link_words l); parts = w ∷ ws }) n, vs)
+used_named : (l : Link) (w : Word) (ws : List Word) (n : Option Name) (zs : List Lexeme) (i : ℕ) (k : List Symbol) (vs : Vals k) → IsLink l n → PlacedRenamed (past (past i (link_words l)) (path_from w ws)) n → Stops s.Renamed zs → Reads k zs (past (past (past i (link_words l)) (path_from w ws)) (renamed n)) vs → Reads (s.Used ∷ k) (link_words l ++ (path_from w ws ++ (renamed n ++ zs))) i (use_part l (record { at = past i (link_words l); parts = w ∷ ws }) n, vs)
 used_named lk.Export w ws None zs i k vs l p m h = rw (reads_path w ws zs (i + 1) k vs h) refl
 used_named lk.Export w ws (Some n) zs i k vs l p m h = elim l [ ]
 used_named lk.Import w ws n zs i k vs l p m h = rw (reads_path w ws (renamed n ++ zs) (i + 1) (s.Renamed ∷ k) (n, vs) (reads_renamed n zs (past (i + 1) (path_from w ws)) k vs p m h)) refl
 used_named lk.Bare w [] n zs i k vs l p m h = rw (reads_renamed n zs (i + 1) k vs p m h) refl
 used_named lk.Bare w (v ∷ ws) n zs i k vs l p m h = rw (reads_path v ws (renamed n ++ zs) (i + 1 + 1) (s.Renamed ∷ k) (n, vs) (reads_renamed n zs (past (i + 1 + 1) (path_from v ws)) k vs p m h)) refl
 
-cloned_named : (l : Link) (w : Word) (ws : List Word) (n : Option Name) (es : List Element) (zs : List Lexeme) (i : ℕ) (k : List Symbol) (vs : Vals k) → IsLink l n → PlacedRenamed (past (past i (link_words l)) (path_from w ws)) n → Stops s.Renamed zs → Reads (s.Subst ∷ k) zs (past (past (past i (link_words l)) (path_from w ws)) (renamed n)) (es, vs) → Reads (s.Cloned ∷ k) (link_words l ++ (path_from w ws ++ (renamed n ++ zs))) i (cloned (used l (record { at = past i (link_words l); parts = w ∷ ws }) n) es, vs)
+cloned_named : (l : Link) (w : Word) (ws : List Word) (n : Option Name) (es : List Element) (zs : List Lexeme) (i : ℕ) (k : List Symbol) (vs : Vals k) → IsLink l n → PlacedRenamed (past (past i (link_words l)) (path_from w ws)) n → Stops s.Renamed zs → Reads (s.Subst ∷ k) zs (past (past (past i (link_words l)) (path_from w ws)) (renamed n)) (es, vs) → Reads (s.Cloned ∷ k) (link_words l ++ (path_from w ws ++ (renamed n ++ zs))) i (cloned (use_part l (record { at = past i (link_words l); parts = w ∷ ws }) n) es, vs)
 cloned_named lk.Export w ws None es zs i k vs l p m h = rw (reads_path w ws zs (i + 1) (s.Subst ∷ k) (es, vs) h) refl
 cloned_named lk.Export w ws (Some n) es zs i k vs l p m h = elim l [ ]
 cloned_named lk.Import w ws n es zs i k vs l p m h = rw (reads_path w ws (renamed n ++ zs) (i + 1) (s.Renamed ∷ s.Subst ∷ k) (n, (es, vs)) (reads_renamed n zs (past (i + 1) (path_from w ws)) (s.Subst ∷ k) (es, vs) p m h)) refl
@@ -30,18 +30,18 @@ cloned_named lk.Bare w [] n es zs i k vs l p m h = rw (reads_renamed n zs (i + 1
 cloned_named lk.Bare w (v ∷ ws) n es zs i k vs l p m h = rw (reads_path v ws (renamed n ++ zs) (i + 1 + 1) (s.Renamed ∷ s.Subst ∷ k) (n, (es, vs)) (reads_renamed n zs (past (i + 1 + 1) (path_from v ws)) (s.Subst ∷ k) (es, vs) p m h)) refl
 
 -- substitutions
-elem_typed : (qs : List Word) (o : Own) (ns : List Name) (f : Form) (zs : List Lexeme) (i : ℕ) (k : List Symbol) (vs : Vals k) → IsHead types o → PlacedNames (past (i + 1) (scoped qs ++ write_own o)) ns → IsForm types f → IsPlaced (past (past (i + 1) (scoped qs ++ write_own o)) (variable_row ns) + 1) f → Stops s.Targs zs → Reads k zs (past (past (past (i + 1) (scoped qs ++ write_own o)) (variable_row ns) + 1) (write_form f)) vs → Reads (s.Elem ∷ k) (mark t.TypeWord ∷ ((scoped qs ++ write_own o) ++ (variable_row ns ++ (mark t.Equal ∷ (write_form f ++ zs))))) i (type_element i (called (i + 1) qs o) ns f, vs)
+elem_typed : (qs : List Word) (o : Own) (ns : List Name) (f : SyntaxForm) (zs : List Lexeme) (i : ℕ) (k : List Symbol) (vs : Vals k) → IsHead type_forms o → PlacedNames (past (i + 1) (scoped qs ++ write_own o)) ns → IsForm type_forms f → IsPlaced (past (past (i + 1) (scoped qs ++ write_own o)) (variable_row ns) + 1) f → Stops s.Targs zs → Reads k zs (past (past (past (i + 1) (scoped qs ++ write_own o)) (variable_row ns) + 1) (write_form f)) vs → Reads (s.Elem ∷ k) (mark t.TypeWord ∷ ((scoped qs ++ write_own o) ++ (variable_row ns ++ (mark t.Equal ∷ (write_form f ++ zs))))) i (type_element i (called (i + 1) qs o) ns f, vs)
 elem_typed qs (lower w) ns f zs i k vs l p m q n h = rw (reads_qlid qs w (variable_row ns ++ (mark t.Equal ∷ (write_form f ++ zs))) (i + 1) (s.Elvars ∷ k) (record { vars = ns; type = f }, vs) (elem_vars ns f zs (past (i + 1) (scoped qs ++ (lx t.Lident w ∷ []))) k vs p m q n h)) refl
 elem_typed qs _ ns f zs i k vs l p m q n h = elim l [ ]
 
-axioms_apart : (x : Terminal) (r : Row s.Qid) → find (rows s.Qid) x ≡ Some r → find axioms_own x ≡ None
+axioms_apart : (x : Terminal) (r : ReadingRow s.Qid) → find (rows s.Qid) x ≡ Some r → find axioms_own x ≡ None
 axioms_apart t.Dot r h = cc
 axioms_apart _ r h = refl
 
 axioms_extend : Extends s.Axioms s.Qid [] (λ v vs. Some v) axioms_own
 axioms_extend = record { is = refl; due = refl; apart = axioms_apart }
 
-two_names : (c d : Called) (zs : List Lexeme) (i : ℕ) (k : List Symbol) (vs : Vals k) → IsSymbol c.own → IsSymbol d.own → c.at ≡ i → d.at ≡ past i (write_called c) + 1 → Reads k zs (past (past i (write_called c) + 1) (write_called d)) vs → Reads (s.Qop ∷ s.Take t.Equal ∷ s.Qop ∷ k) (write_called c ++ (mark t.Equal ∷ (write_called d ++ zs))) i (c, (name (past i (write_called c)) [], (d, vs)))
+two_names : (c d : Called) (zs : List Lexeme) (i : ℕ) (k : List Symbol) (vs : Vals k) → IsSymbolName c.own → IsSymbolName d.own → c.at ≡ i → d.at ≡ past i (write_called c) + 1 → Reads k zs (past (past i (write_called c) + 1) (write_called d)) vs → Reads (s.Qop ∷ s.Take t.Equal ∷ s.Qop ∷ k) (write_called c ++ (mark t.Equal ∷ (write_called d ++ zs))) i (c, (name (past i (write_called c)) [], (d, vs)))
 two_names c d zs i k vs l m a b h = reads_qop c (mark t.Equal ∷ (write_called d ++ zs)) i (s.Take t.Equal ∷ s.Qop ∷ k) (name (past i (write_called c)) [], (d, vs)) l a (reads_mark t.Equal (write_called d ++ zs) (past i (write_called c)) (s.Qop ∷ k) (d, vs) (reads_qop d zs (past i (write_called c) + 1) k vs m b h))
 
 pub reads_elem : (e : Element) (zs : List Lexeme) (i : ℕ) (k : List Symbol) (vs : Vals k) → IsElement e → PlacedElement i e → Stops s.Targs zs → Stops s.Qids zs → Reads k zs (past i (write_element e)) vs → Reads (s.Elem ∷ k) (write_element e ++ zs) i (e, vs)
@@ -78,17 +78,17 @@ subst_stop [] zs n = n.no_renamed
 subst_stop (e ∷ es) zs n = refl
 
 -- declarations
-body_targs : (e : Option Tree) (ms : List Member) (zs : List Lexeme) → Ends zs → Stops s.Targs (definition e ++ (other_members ms ++ zs))
+body_targs : (e : Option SyntaxTree) (ms : List Member) (zs : List Lexeme) → Ends zs → Stops s.Targs (definition e ++ (other_members ms ++ zs))
 body_targs None [] zs n = n.no_targs
 body_targs None (d ∷ ms) zs n = refl
 body_targs (Some e) ms zs n = refl
 
-body_params : (e : Option Tree) (ms : List Member) (zs : List Lexeme) → Ends zs → Stops s.Params (definition e ++ (other_members ms ++ zs))
+body_params : (e : Option SyntaxTree) (ms : List Member) (zs : List Lexeme) → Ends zs → Stops s.Params (definition e ++ (other_members ms ++ zs))
 body_params None [] zs n = n.no_params
 body_params None (d ∷ ms) zs n = refl
 body_params (Some e) ms zs n = refl
 
-value_targs : (e : Option Tree) (zs : List Lexeme) → Ends zs → Stops s.Targs (definition e ++ zs)
+value_targs : (e : Option SyntaxTree) (zs : List Lexeme) → Ends zs → Stops s.Targs (definition e ++ zs)
 value_targs None zs n = n.no_targs
 value_targs (Some e) zs n = refl
 
@@ -101,23 +101,23 @@ predicate_tokens a b c d ys = simp append_assoc
 constant_tokens : (a b c ys : List Lexeme) → (a ++ (mark t.Colon ∷ (b ++ c))) ++ ys ≡ a ++ (mark t.Colon ∷ (b ++ (c ++ ys)))
 constant_tokens a b c ys = simp append_assoc
 
-pub decl_equation : (n : Name) (ns : List Name) (f : Option Form) (zs : List Lexeme) (i : ℕ) (k : List Symbol) (vs : Vals (s.Decls ∷ k)) → IsTypePart f → n.at ≡ i + 1 → PlacedNames (i + 1 + 1) ns → PlacedPart (past (i + 1 + 1) (variable_row ns)) f → Ends zs → Reads (s.Decls ∷ k) zs (past (past (i + 1 + 1) (variable_row ns)) (type_equation f)) vs → Reads (s.Decls ∷ k) (mark t.TypeWord ∷ lx t.Lident n.text ∷ (variable_row ns ++ (type_equation f ++ zs))) i (more_decls (type_decl (at i) n ns f) vs.0, vs.1)
+pub decl_equation : (n : Name) (ns : List Name) (f : Option SyntaxForm) (zs : List Lexeme) (i : ℕ) (k : List Symbol) (vs : Vals (s.Decls ∷ k)) → IsTypePart f → n.at ≡ i + 1 → PlacedNames (i + 1 + 1) ns → PlacedPart (past (i + 1 + 1) (variable_row ns)) f → Ends zs → Reads (s.Decls ∷ k) zs (past (past (i + 1 + 1) (variable_row ns)) (type_equation f)) vs → Reads (s.Decls ∷ k) (mark t.TypeWord ∷ lx t.Lident n.text ∷ (variable_row ns ++ (type_equation f ++ zs))) i (more_decls (type_decl (at i) n ns f) vs.0, vs.1)
 decl_equation n ns None zs i k vs l a p q m h = rw (reads_tvars ns None zs (i + 1 + 1) (s.Decls ∷ k) vs p (passed s.Tvars (record { vars = []; equation = None }) (s.Decls ∷ k) zs (past (i + 1 + 1) (variable_row ns)) vs refl refl m.no_tvars h)) (ap (λ v. Some (more_decls (type_decl (at i) (name v n.text) ns None) vs.0, vs.1)) (sym a))
 decl_equation n ns (Some f) zs i k vs l a p q m h = rw (reads_tvars ns (Some (is_alias f)) (mark t.Equal ∷ (write_form f ++ zs)) (i + 1 + 1) (s.Decls ∷ k) vs p (rw (typedef_alias f zs (past (i + 1 + 1) (variable_row ns) + 1) (s.Decls ∷ k) vs l q m.no_targs h) refl)) (ap (λ v. Some (more_decls (type_decl (at i) (name v n.text) ns (Some f)) vs.0, vs.1)) (sym a))
 
-used_path : (l : Link) (ps : List Word) (n : Option Name) (zs : List Lexeme) (i : ℕ) (k : List Symbol) (vs : Vals k) → HasSome ps → IsLink l n → PlacedRenamed (past (past i (link_words l)) (write_path ps)) n → Stops s.Renamed zs → Reads k zs (past (past (past i (link_words l)) (write_path ps)) (renamed n)) vs → Reads (s.Used ∷ k) (link_words l ++ (write_path ps ++ (renamed n ++ zs))) i (used l (record { at = past i (link_words l); parts = ps }) n, vs)
+used_path : (l : Link) (ps : List Word) (n : Option Name) (zs : List Lexeme) (i : ℕ) (k : List Symbol) (vs : Vals k) → HasSome ps → IsLink l n → PlacedRenamed (past (past i (link_words l)) (write_path ps)) n → Stops s.Renamed zs → Reads k zs (past (past (past i (link_words l)) (write_path ps)) (renamed n)) vs → Reads (s.Used ∷ k) (link_words l ++ (write_path ps ++ (renamed n ++ zs))) i (use_part l (record { at = past i (link_words l); parts = ps }) n, vs)
 used_path l [] n zs i k vs e q p m h = elim e [ ]
 used_path l (w ∷ ws) n zs i k vs e q p m h = used_named l w ws n zs i k vs q p m h
 
-cloned_path : (l : Link) (ps : List Word) (n : Option Name) (es : List Element) (zs : List Lexeme) (i : ℕ) (k : List Symbol) (vs : Vals k) → HasSome ps → IsLink l n → PlacedRenamed (past (past i (link_words l)) (write_path ps)) n → Stops s.Renamed zs → Reads (s.Subst ∷ k) zs (past (past (past i (link_words l)) (write_path ps)) (renamed n)) (es, vs) → Reads (s.Cloned ∷ k) (link_words l ++ (write_path ps ++ (renamed n ++ zs))) i (cloned (used l (record { at = past i (link_words l); parts = ps }) n) es, vs)
+cloned_path : (l : Link) (ps : List Word) (n : Option Name) (es : List Element) (zs : List Lexeme) (i : ℕ) (k : List Symbol) (vs : Vals k) → HasSome ps → IsLink l n → PlacedRenamed (past (past i (link_words l)) (write_path ps)) n → Stops s.Renamed zs → Reads (s.Subst ∷ k) zs (past (past (past i (link_words l)) (write_path ps)) (renamed n)) (es, vs) → Reads (s.Cloned ∷ k) (link_words l ++ (write_path ps ++ (renamed n ++ zs))) i (cloned (use_part l (record { at = past i (link_words l); parts = ps }) n) es, vs)
 cloned_path l [] n es zs i k vs e q p m h = elim e [ ]
 cloned_path l (w ∷ ws) n es zs i k vs e q p m h = cloned_named l w ws n es zs i k vs q p m h
 
-prop_rest : (c : Called) (e : Tree) (ds : Decls) (zs : List Lexeme) (i : ℕ) (k : List Symbol) (vs : Vals k) → IsNewProp c → IsLevel e → c.at ≡ i + 1 → IsPlacedTree (past (i + 1) (write_called c) + 1) e → Ends zs → Reads (s.Decls ∷ k) zs (past (past (i + 1) (write_called c) + 1) (write e)) (ds, vs) → Reads (s.Ident ∷ s.Take t.Colon ∷ s.Expr 0 ∷ s.Decls ∷ k) (write_called c ++ (mark t.Colon ∷ (write e ++ zs))) (i + 1) (c, (name (past (i + 1) (write_called c)) [], (e, (ds, vs))))
+prop_rest : (c : Called) (e : SyntaxTree) (ds : SyntaxDeclarations) (zs : List Lexeme) (i : ℕ) (k : List Symbol) (vs : Vals k) → IsNewProp c → IsLevel e → c.at ≡ i + 1 → IsPlacedTree (past (i + 1) (write_called c) + 1) e → Ends zs → Reads (s.Decls ∷ k) zs (past (past (i + 1) (write_called c) + 1) (write e)) (ds, vs) → Reads (s.Ident ∷ s.Take t.Colon ∷ s.Expr 0 ∷ s.Decls ∷ k) (write_called c ++ (mark t.Colon ∷ (write e ++ zs))) (i + 1) (c, (name (past (i + 1) (write_called c)) [], (e, (ds, vs))))
 prop_rest c e ds zs i k vs l m a p n h = reads_id c (mark t.Colon ∷ (write e ++ zs)) (i + 1) (s.Take t.Colon ∷ s.Expr 0 ∷ s.Decls ∷ k) (name (past (i + 1) (write_called c)) [], (e, (ds, vs))) l a (reads_mark t.Colon (write e ++ zs) (past (i + 1) (write_called c)) (s.Expr 0 ∷ s.Decls ∷ k) (e, (ds, vs)) (expr_then e zs (past (i + 1) (write_called c) + 1) s.Decls k (ds, vs) refl m p n.follow h))
 
 mutual
-  pub reads_decl : (d : Decl) (ds : Decls) (zs : List Lexeme) (i : ℕ) (k : List Symbol) (vs : Vals k) → IsLevelDecl d → PlacedDecl i d → Ends zs → Reads (s.Decls ∷ k) zs (past i (write_decl d)) (ds, vs) → Reads (s.Decls ∷ k) (write_decl d ++ zs) i (more_decls d ds, vs)
+  pub reads_decl : (d : SyntaxDeclaration) (ds : SyntaxDeclarations) (zs : List Lexeme) (i : ℕ) (k : List Symbol) (vs : Vals k) → IsLevelDecl d → PlacedDecl i d → Ends zs → Reads (s.Decls ∷ k) zs (past i (write_decl d)) (ds, vs) → Reads (s.Decls ∷ k) (write_decl d ++ zs) i (more_decls d ds, vs)
   reads_decl (type_decl a n ns f) ds zs i k vs l p m h = rw (append_assoc (variable_row ns) (type_equation f) zs, p.0) (decl_equation n ns f zs i k (ds, vs) l p.1 p.2 p.3 m (rw past-append at h))
   reads_decl (algebraic_decl a []) ds zs i k vs l p m h = elim l.0 [ ]
   reads_decl (algebraic_decl a (b ∷ as_)) ds zs i k vs l p m h = rw (
@@ -168,18 +168,18 @@ mutual
   reads_decl (clone_decl a l p n es) ds zs i k vs q u m h = rw (predicate_tokens (link_words l) (write_path p.parts) (renamed n) (substitution es) zs, u.0, cloned_path l p.parts n es (substitution es ++ zs) (i + 1) (s.Decls ∷ k) (ds, vs) q.0 q.1 u.2 (subst_stop es zs m) (reads_subst es zs (past (past (past (i + 1) (link_words l)) (write_path p.parts)) (renamed n)) (s.Decls ∷ k) (ds, vs) q.2 u.3 m (subst (λ j. Reads (s.Decls ∷ k) zs j (ds, vs)) (three_row (link_words l) (write_path p.parts) (renamed n ++ substitution es) (i + 1) ∙ past-append (renamed n) (substitution es) (past (past (i + 1) (link_words l)) (write_path p.parts))) h))) (ap (λ v. Some (more_decls (clone_decl (at i) l (record { at = v; parts = p.parts }) n es) ds, vs)) (sym u.1))
   reads_decl (scope_decl a n es) ds zs i k vs l p m h = rw (p.0, reads_decls es zs (i + 1 + 1) (s.Decls ∷ k) (ds, vs) l p.2 h) (ap (λ v. Some (more_decls (scope_decl (at i) (name v n.text) es) ds, vs)) (sym p.1))
 
-  pub reads_decls : (ds : Decls) (ys : List Lexeme) (i : ℕ) (k : List Symbol) (vs : Vals k) → AreLevelDecls ds → PlacedDecls i ds → Reads k ys (past i (write_decls ds ++ (mark t.EndWord ∷ []))) vs → Reads (s.Decls ∷ k) ((write_decls ds ++ (mark t.EndWord ∷ [])) ++ ys) i (ds, vs)
+  pub reads_decls : (ds : SyntaxDeclarations) (ys : List Lexeme) (i : ℕ) (k : List Symbol) (vs : Vals k) → AreLevelDecls ds → PlacedDecls i ds → Reads k ys (past i (write_decls ds ++ (mark t.EndWord ∷ []))) vs → Reads (s.Decls ∷ k) ((write_decls ds ++ (mark t.EndWord ∷ [])) ++ ys) i (ds, vs)
   reads_decls no_decls ys i k vs l p h = rw h refl
   reads_decls (more_decls d ds) ys i k vs l p h = rw (regroup (write_decl d) (write_decls ds) (mark t.EndWord ∷ []) ys) (reads_decl d ds ((write_decls ds ++ (mark t.EndWord ∷ [])) ++ ys) i k vs l.0 p.0 (next_ends ds ys) (reads_decls ds ys (past i (write_decl d)) k vs l.1 p.1 (subst (λ j. Reads k ys j vs) (list_past (write_decl d) (write_decls ds) (mark t.EndWord ∷ []) i) h)))
 
-pub reads_file : (hs : List Theory) (i : ℕ) → IsLevelFile hs → PlacedFile i hs → Reads (s.File ∷ []) (write_file hs) i (hs, tt)
+pub reads_file : (hs : List SyntaxTheory) (i : ℕ) → IsLevelFile hs → PlacedFile i hs → Reads (s.File ∷ []) (write_file hs) i (hs, tt)
 reads_file [] i l p = refl
 reads_file (h ∷ hs) i l p = by_heading h.is_module refl (reads_file hs (past (i + 1 + 1) (write_decls h.decls ++ (mark t.EndWord ∷ []))) l.1 p.3)
   where
     rest_read : Reads (s.File ∷ []) (write_file hs) (past (i + 1 + 1) (write_decls h.decls ++ (mark t.EndWord ∷ []))) (hs, tt) → Reads (s.Decls ∷ s.File ∷ []) ((write_decls h.decls ++ (mark t.EndWord ∷ [])) ++ write_file hs) (i + 1 + 1) (h.decls, (hs, tt))
     rest_read g = reads_decls h.decls (write_file hs) (i + 1 + 1) (s.File ∷ []) (hs, tt) l.0 p.2 g
 
-    theory_is : (b : Bool) → h.is_module ≡ b → ◌≡◌ {A = Option (List Theory × Unit {0})} (Some (record { at = at i; is_module = b; name = name (i + 1) h.name.text; decls = h.decls } ∷ hs, tt)) (Some (h ∷ hs, tt))
+    theory_is : (b : Bool) → h.is_module ≡ b → ◌≡◌ {A = Option (List SyntaxTheory × Unit {0})} (Some (record { at = at i; is_module = b; name = name (i + 1) h.name.text; decls = h.decls } ∷ hs, tt)) (Some (h ∷ hs, tt))
     theory_is b e = ap (λ v. Some (record { at = v; is_module = b; name = name (i + 1) h.name.text; decls = h.decls } ∷ hs, tt)) (sym p.0) ∙ ap (λ v. Some (record { at = h.at; is_module = v; name = name (i + 1) h.name.text; decls = h.decls } ∷ hs, tt)) (sym e) ∙ ap (λ v. Some (record { at = h.at; is_module = h.is_module; name = name v h.name.text; decls = h.decls } ∷ hs, tt)) (sym p.1)
 
     by_heading : (b : Bool) → h.is_module ≡ b → Reads (s.File ∷ []) (write_file hs) (past (i + 1 + 1) (write_decls h.decls ++ (mark t.EndWord ∷ []))) (hs, tt) → Reads (s.File ∷ []) (write_file (h ∷ hs)) i (h ∷ hs, tt)

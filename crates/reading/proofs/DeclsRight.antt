@@ -1,5 +1,5 @@
 -- What the rules of declarations may be read as, and the tokens of that.
-use Rattle.reading.proofs.Common.{◌≡◌, ℕ, ◌+◌, Bool, false, List, [], ◌∷◌, ◌++◌, Option, Some, None, ⊤, Name, Lexeme, lx, mark, AreForms, AreParts, Called, Form, Forms, IsForm, IsPlaced, PlacedList, PlacedRow, form_list, form_row, form_tail, past, scoped, types, write_called, write_form, HasSome, IsLevel, IsPlacedTree, IsTypePart, PlacedNames, PlacedPart, Tree, bar_before, ends_open, name_row, type_part, write, Algebraic, Constructor, Element, Inductive, Member, algebraic_tail, clause_list, clause_tail, constructor_list, constructor_tail, definition, inductive_tail, link_words, other_members, renamed, substitution, variable_row, write_path, AreAlgebraic, AreClauses, AreConstructors, AreElements, AreInductive, AreMembers, IsDefined, IsLink, IsProp, PlacedAlgebraics, PlacedClauses, PlacedConstructors, PlacedDefinition, PlacedElements, PlacedInductives, PlacedMembers, PlacedRenamed, AlgPart, BodyPart, ClausePart, ClausesPart, ClonedPart, ConPart, FieldsPart, MemberPart, NamePart, ParamPart, TvarsPart, TypePart, UpperPart, UsedPart, VarsPart, fields_of, is_algebraic, is_alias, name_names, name_types, param_names, param_types, scope_of}
+use Rattle.reading.proofs.Common.{◌≡◌, ℕ, ◌+◌, Bool, false, List, [], ◌∷◌, ◌++◌, Option, Some, None, ⊤, Name, Lexeme, lx, mark, AreForms, AreParts, Called, SyntaxForm, SyntaxForms, IsForm, IsPlaced, PlacedList, PlacedRow, form_list, form_row, form_tail, past, scoped, type_forms, write_called, write_form, HasSome, IsLevel, IsPlacedTree, IsTypePart, PlacedNames, PlacedPart, SyntaxTree, bar_before, ends_open, name_row, type_part, write, Algebraic, Constructor, Element, Inductive, Member, algebraic_tail, clause_list, clause_tail, constructor_list, constructor_tail, definition, inductive_tail, link_words, other_members, renamed, substitution, variable_row, write_path, AreAlgebraic, AreClauses, AreConstructors, AreElements, AreInductive, AreMembers, IsDefined, IsLink, IsProp, PlacedAlgebraics, PlacedClauses, PlacedConstructors, PlacedDefinition, PlacedElements, PlacedInductives, PlacedMembers, PlacedRenamed, AlgPart, BodyPart, ClausePart, ClausesPart, ClonedPart, ConPart, FieldsPart, MemberPart, NamePart, ParamPart, TvarsPart, TypePart, UpperPart, UsedPart, VarsPart, fields_of, is_algebraic, is_alias, name_names, name_types, param_names, param_types, scope_of}
 use Rattle.tokens_why.specs.declared.terminal.Terminal.TheVariants as t
 
 abbrev pub write_fields : FieldsPart → List Lexeme
@@ -26,7 +26,7 @@ write_equation (Some d) = mark t.Equal ∷ write_type d
 abbrev pub write_tvars : TvarsPart → List Lexeme
 write_tvars v = variable_row v.vars ++ write_equation v.equation
 
-abbrev pub write_typed : List Name → Form → List Lexeme
+abbrev pub write_typed : List Name → SyntaxForm → List Lexeme
 write_typed ns f = name_row ns ++ (mark t.Colon ∷ (write_form f ++ (mark t.RParen ∷ [])))
 
 abbrev pub write_pparen : ParamPart → List Lexeme
@@ -73,7 +73,7 @@ abbrev pub IsFieldsRest : ℕ → List Constructor → List Algebraic → Type 0
 IsFieldsRest i cs as_ = AreConstructors cs × PlacedConstructors (i + 1) cs × AreOthers (past i (constructor_tail cs)) as_
 
 abbrev pub IsFields : ℕ → FieldsPart → Type 0
-IsFields i p = AreParts types p.fields × PlacedRow i p.fields × IsFieldsRest (past i (form_row p.fields)) p.constructors p.others
+IsFields i p = AreParts type_forms p.fields × PlacedRow i p.fields × IsFieldsRest (past i (form_row p.fields)) p.constructors p.others
 
 abbrev pub IsConRest : ℕ → List Constructor → List Algebraic → Type 0
 IsConRest i cs as_ = HasSome cs × AreConstructors cs × PlacedConstructors i cs × AreOthers (past i (constructor_list cs)) as_
@@ -85,11 +85,11 @@ abbrev pub IsAlg : ℕ → AlgPart → Type 0
 IsAlg i a = PlacedNames i a.vars × IsCon (past i (variable_row a.vars) + 1) a.con
 
 abbrev pub IsUpper : ℕ → UpperPart → Type 0
-IsUpper i (scope_of d ts) = AreParts types ts × PlacedRow (past (i + 1) (scoped d.scopes ++ (lx t.Lident d.last ∷ []))) ts
+IsUpper i (scope_of d ts) = AreParts type_forms ts × PlacedRow (past (i + 1) (scoped d.scopes ++ (lx t.Lident d.last ∷ []))) ts
 IsUpper i (fields_of p) = IsFields i p
 
 abbrev pub IsType : ℕ → TypePart → Type 0
-IsType i (is_alias f) = IsForm types f × IsPlaced i f
+IsType i (is_alias f) = IsForm type_forms f × IsPlaced i f
 IsType i (is_algebraic c) = IsCon i c
 
 abbrev pub IsEquation : ℕ → Option TypePart → Type 0
@@ -99,24 +99,24 @@ IsEquation i (Some d) = IsType (i + 1) d
 abbrev pub IsTvars : ℕ → TvarsPart → Type 0
 IsTvars i v = PlacedNames i v.vars × IsEquation (past i (variable_row v.vars)) v.equation
 
-abbrev pub IsColon : ℕ → Form → Type 0
-IsColon i f = IsForm types f × IsPlaced (i + 1) f
+abbrev pub IsColon : ℕ → SyntaxForm → Type 0
+IsColon i f = IsForm type_forms f × IsPlaced (i + 1) f
 
 abbrev pub IsPparen : ℕ → ParamPart → Type 0
 IsPparen i (param_names ns f) = HasSome ns × PlacedNames i ns × IsColon (past i (name_row ns)) f
-IsPparen i (param_types fs) = AreForms types fs × PlacedList i fs
+IsPparen i (param_types fs) = AreForms type_forms fs × PlacedList i fs
 
-abbrev pub IsNameRest : ℕ → Forms → Type 0
-IsNameRest i fs = AreForms types fs × PlacedList (i + 1) fs
+abbrev pub IsNameRest : ℕ → SyntaxForms → Type 0
+IsNameRest i fs = AreForms type_forms fs × PlacedList (i + 1) fs
 
 abbrev pub IsPname : ℕ → NamePart → Type 0
 IsPname i (name_names ns f) = PlacedNames i ns × IsColon (past i (name_row ns)) f
-IsPname i (name_types ts fs) = AreParts types ts × PlacedRow i ts × IsNameRest (past i (form_row ts)) fs
+IsPname i (name_types ts fs) = AreParts type_forms ts × PlacedRow i ts × IsNameRest (past i (form_row ts)) fs
 
 abbrev pub IsBody : ℕ → BodyPart → Type 0
 IsBody i b = IsDefined b.definition b.members × PlacedDefinition i b.definition × PlacedMembers (past i (definition b.definition)) b.members
 
-abbrev pub IsMemberRest : ℕ → Tree → List Member → Type 0
+abbrev pub IsMemberRest : ℕ → SyntaxTree → List Member → Type 0
 IsMemberRest i e ds = IsLevel e × IsPlacedTree (i + 1) e × AreMembers ds × PlacedMembers (past (i + 1) (write e)) ds
 
 abbrev pub IsMemberPart : ℕ → MemberPart → Type 0
@@ -157,6 +157,6 @@ IsQids i (Some c) = IsPropAt (i + 1) c
 abbrev pub IsVars : ℕ → VarsPart → Type 0
 IsVars i v = PlacedNames i v.vars × IsColon (past i (variable_row v.vars)) v.type
 
-abbrev pub value_open : Option Tree → Bool
+abbrev pub value_open : Option SyntaxTree → Bool
 value_open None = false
 value_open (Some e) = ends_open e

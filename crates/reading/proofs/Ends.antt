@@ -1,5 +1,5 @@
--- What stands behind a declaration, and what no part of the declaration takes.
-use Rattle.reading.proofs.Common.{same, ◌≡◌, Bool, true, false, List, [], ◌∷◌, ◌++◌, refl, no_false, Terminal, Lexeme, lx, mark, write_called, write_form, write, PropKind, Decls, algebraic_decl, algebraic_list, clone_decl, constant_decl, definition, function_decl, inductive_decl, inductive_list, link_words, more_decls, no_decls, other_members, param_row, predicate_decl, prop_decl, prop_word, renamed, scope_decl, substitution, type_decl, type_equation, use_decl, variable_row, write_decls, write_path}
+-- What comes after a declaration, and what no part of the declaration takes.
+use Rattle.reading.proofs.Common.{same, ◌≡◌, Bool, true, false, List, [], ◌∷◌, ◌++◌, refl, no_false, Terminal, Lexeme, lx, mark, write_called, write_form, write, PropKind, SyntaxDeclarations, algebraic_decl, algebraic_list, clone_decl, constant_decl, definition, function_decl, inductive_decl, inductive_list, link_words, more_decls, no_decls, other_members, param_row, predicate_decl, prop_decl, prop_word, renamed, scope_decl, substitution, type_decl, type_equation, use_decl, variable_row, write_decls, write_path}
 use Rattle.std.specs.List.{list_any}
 use Rattle.tokens_why.specs.declared.terminal.Terminal.TheVariants as t
 use Rattle.grammar.specs.declared.symbols.Symbol.TheVariants as s
@@ -41,7 +41,7 @@ ends_at t.UseWord zs h = record { follow = record { args = refl; scope = refl; o
 ends_at t.CloneWord zs h = record { follow = record { args = refl; scope = refl; ops = λ i. absurd (no_false i) }; no_targs = refl; no_fields = refl; no_tvars = refl; no_upper = refl; no_params = refl; no_body = refl; no_members = refl; no_value = refl; no_clauses = refl; no_renamed = refl; no_subst = refl; no_elems = refl; no_qids = refl }
 ends_at _ zs h = absurd (no_false h)
 
-pub next_ends : (ds : Decls) (zs : List Lexeme) → Ends ((write_decls ds ++ (mark t.EndWord ∷ [])) ++ zs)
+pub next_ends : (ds : SyntaxDeclarations) (zs : List Lexeme) → Ends ((write_decls ds ++ (mark t.EndWord ∷ [])) ++ zs)
 next_ends no_decls zs = ends_at t.EndWord zs refl
 next_ends (more_decls (type_decl a n vs f) ds) zs = ends_at t.TypeWord (lx t.Lident n.text ∷ ((((variable_row vs ++ type_equation f) ++ write_decls ds) ++ (mark t.EndWord ∷ [])) ++ zs)) refl
 next_ends (more_decls (algebraic_decl a as_) ds) zs = ends_at t.TypeWord (((algebraic_list as_ ++ write_decls ds) ++ (mark t.EndWord ∷ [])) ++ zs) refl

@@ -3,10 +3,10 @@ use Rattle.reading.proofs.Common.{◌≡◌, ℕ, Bool, true, false, cond, List,
 use Rattle.tokens_why.specs.declared.terminal.Terminal.TheVariants as t
 use Rattle.grammar.specs.declared.symbols.Symbol.TheVariants as s
 use Rattle.grammar.specs.Table as table
-use Rattle.grammar.specs.Table.{line}
+use Rattle.grammar.specs.Table.{production}
 use Rattle.reading.proofs.Erasure.{Erases, erased, has, lines_of}
 
-expr_lines : (m : ℕ) (b : Bool) → lines_of (expr_own m b ++ extend (s.Expr m) s.Prim (s.Tail m 9 ∷ []) (λ v vs. attach v vs.0) prim_rows) ≡ cond b (line t.NotWord (s.Expr 3 ∷ s.Tail m 3 ∷ []) ∷ []) [] ++ ((line t.Minus (s.Expr 8 ∷ s.Tail m 8 ∷ []) ∷ line t.PrefixOperator (s.Expr 8 ∷ s.Tail m 8 ∷ []) ∷ []) ++ (table.open_rows ++ table.extend table.prim_rows (s.Tail m 9 ∷ [])))
+expr_lines : (m : ℕ) (b : Bool) → lines_of (expr_own m b ++ extend (s.Expr m) s.Prim (s.Tail m 9 ∷ []) (λ v vs. attach v vs.0) prim_rows) ≡ cond b (production t.NotWord (s.Expr 3 ∷ s.Tail m 3 ∷ []) ∷ []) [] ++ ((production t.Minus (s.Expr 8 ∷ s.Tail m 8 ∷ []) ∷ production t.PrefixOperator (s.Expr 8 ∷ s.Tail m 8 ∷ []) ∷ []) ++ (table.open_productions ++ table.with_symbols_after table.prim_productions (s.Tail m 9 ∷ [])))
 expr_lines m true = refl
 expr_lines m false = refl
 
@@ -14,8 +14,8 @@ tail_lines : (m u : ℕ) (os : List Terminal) → lines_of (tail_rows m u os) �
 tail_lines m u [] = refl
 tail_lines m u (o ∷ os) = by_test (takes_op m u o) (tail_lines m u os)
   where
-    by_test : (b : Bool) → lines_of (tail_rows m u os) ≡ table.tail_of m u os → lines_of (cond b (link_row m u o ∷ tail_rows m u os) (tail_rows m u os)) ≡ cond b (line o (s.Expr (right o) ∷ s.Tail m (prec o) ∷ []) ∷ table.tail_of m u os) (table.tail_of m u os)
-    by_test true h = ap (λ l. line o (s.Expr (right o) ∷ s.Tail m (prec o) ∷ []) ∷ l) h
+    by_test : (b : Bool) → lines_of (tail_rows m u os) ≡ table.tail_of m u os → lines_of (cond b (link_row m u o ∷ tail_rows m u os) (tail_rows m u os)) ≡ cond b (production o (s.Expr (right o) ∷ s.Tail m (prec o) ∷ []) ∷ table.tail_of m u os) (table.tail_of m u os)
+    by_test true h = ap (λ l. production o (s.Expr (right o) ∷ s.Tail m (prec o) ∷ []) ∷ l) h
     by_test false h = h
 
 pub erases : (top : Symbol) → Erases top

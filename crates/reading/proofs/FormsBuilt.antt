@@ -1,5 +1,5 @@
 -- What is read as a type or a pattern is right.
-use Rattle.reading.proofs.Common.{◌≡◌, ℕ, false, List, [], ◌∷◌, ◌++◌, Option, Some, None, refl, sym, ap, ◌∙◌, append_assoc, append-nil, Symbol, Name, Lexeme, Word, at, lx, mark, name, Form, IsForm, IsPlaced, IsUnnamed, composed, enclosed, form_row, form_tail, more_forms, past, patterns, scoped, variable, wild, write_called, write_form, Dotted, named_at, scope_on, upper_called, Vals, rows}
+use Rattle.reading.proofs.Common.{◌≡◌, ℕ, false, List, [], ◌∷◌, ◌++◌, Option, Some, None, refl, sym, ap, ◌∙◌, append_assoc, append-nil, Symbol, Name, Lexeme, Word, at, lx, mark, name, SyntaxForm, IsForm, IsPlaced, IsUnnamed, composed, enclosed, form_row, form_tail, more_forms, past, pattern_forms, scoped, variable, wild, write_called, write_form, Dotted, named_at, scope_on, upper_called, Vals, rows}
 use Rattle.tokens_why.specs.declared.terminal.Terminal.TheVariants as t
 use Rattle.grammar.specs.declared.symbols.Symbol.TheVariants as s
 use Rattle.reading.proofs.Reading.{past-append}
@@ -58,8 +58,8 @@ patom_ok = (λ k i w xs vs p g. (xs, (tt, tt, refl), rw p refl, g))
     ▸ (λ k i w xs vs p (ys, m, e, g). (ys, (tt, m.0, (refl, m.1)), rw (p, e) refl, g))
     ▸ tt
 
--- a pattern with the name behind it
-pub named_ok : (k : List Symbol) (i : ℕ) (f : Form) (m : Option Name) (xs ys : List Lexeme) (vs : Vals k) → IsUnnamed f → IsForm patterns f → IsPlaced i f → NamedAt (past i (write_form f)) m → xs ≡ write_form f ++ (as_part m ++ ys) → Good false k (past (past i (write_form f)) (as_part m)) ys vs → Good false (s.Pat ∷ k) i xs (named_at i f m, vs)
+-- a pattern with the name after it
+pub named_ok : (k : List Symbol) (i : ℕ) (f : SyntaxForm) (m : Option Name) (xs ys : List Lexeme) (vs : Vals k) → IsUnnamed f → IsForm pattern_forms f → IsPlaced i f → NamedAt (past i (write_form f)) m → xs ≡ write_form f ++ (as_part m ++ ys) → Good false k (past (past i (write_form f)) (as_part m)) ys vs → Good false (s.Pat ∷ k) i xs (named_at i f m, vs)
 named_ok k i f None xs ys vs u l p n e g = (ys, (l, p), e, g)
 named_ok k i f (Some x) xs ys vs u l p n e g = (ys, ((tt, u, l), (refl, p, n)), e ∙ sym (append_assoc (write_form f) (as_part (Some x)) ys), rw past-append g)
 

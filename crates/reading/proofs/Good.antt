@@ -1,5 +1,5 @@
 -- Values that are right, with their places and tokens.
-use Rattle.reading.proofs.Common.{◌≡◌, ℕ, ◌+◌, Bool, true, false, ◌&&◌, List, [], ◌∷◌, ◌++◌, Option, Some, None, ◌≤◌, ⊤, Terminal, Symbol, is_tail, Name, Lexeme, Word, lx, mark, AreForms, AreParts, IsForm, IsPart, IsPlaced, PlacedList, PlacedRow, form_list, form_row, form_tail, past, patterns, scoped, types, write_called, write_form, write_own, is_infix, is_operator, prec, need, right, AreAtoms, AreBranches, AreLevel, HasSome, IsAtom, IsLevel, IsOwn, IsPlacedTree, MayBeMarked, Op, PlacedBranches, PlacedCommas, PlacedTrees, ends_open, none, tight, write, write_op, write_others, write_row, write_tail, definition, element_tail, other_members, param_row, renamed, substitution, write_decls, write_element, write_file, write_path, AreLevelDecls, AreMembers, AreParams, IsDefinition, IsElement, IsLevelFile, IsNewProp, IsNewSymbol, IsSymbol, PlacedDecls, PlacedDefinition, PlacedElement, PlacedFile, PlacedMembers, PlacedParams, PlacedRenamed, Chain, Closing, Dotted, Minus, Paren, Scoped, cast_to, closed, holds, link, named, named_by, nothing, operand, stop, Row, Val, Vals, back, extend, front, blank}
+use Rattle.reading.proofs.Common.{◌≡◌, ℕ, ◌+◌, Bool, true, false, ◌&&◌, List, [], ◌∷◌, ◌++◌, Option, Some, None, ◌≤◌, ⊤, Terminal, Symbol, is_tail, Name, Lexeme, Word, lx, mark, AreForms, AreParts, IsForm, IsFormPart, IsPlaced, PlacedList, PlacedRow, form_list, form_row, form_tail, past, pattern_forms, scoped, type_forms, write_called, write_form, write_own, is_infix, is_operator, prec, need, right, AreAtoms, AreBranches, AreLevel, HasSome, IsAtom, IsLevel, IsOwn, IsPlacedTree, MayBeMarked, OperatorToken, PlacedBranches, PlacedCommas, PlacedTrees, ends_open, none, tight, write, write_op, write_others, write_row, write_tail, definition, element_tail, other_members, param_row, renamed, substitution, write_decls, write_element, write_file, write_path, AreLevelDecls, AreMembers, AreParams, IsOptionalDefinition, IsElement, IsLevelFile, IsNewProp, IsNewSymbol, IsSymbolName, PlacedDecls, PlacedDefinition, PlacedElement, PlacedFile, PlacedMembers, PlacedParams, PlacedRenamed, Chain, Closing, Dotted, Minus, Paren, Scoped, cast_to, closes_group, holds, link, named_operator, named_by, nothing, operand, stop, ReadingRow, Val, Vals, back, extend, front, blank}
 use Rattle.tokens_why.specs.declared.terminal.Terminal.TheVariants as t
 use Rattle.grammar.specs.declared.symbols.Symbol.TheVariants as s
 use Rattle.reading.proofs.TermsRight.{IsArm, IsBound, IsBranch, IsCases, IsLet, IsNames, IsTerms, write_arm, write_bound, write_branch, write_cases, write_let, write_names, write_terms_part}
@@ -47,12 +47,12 @@ opend false = mark t.RParen ∷ []
 opend true = mark t.Wild ∷ mark t.RParen ∷ []
 
 abbrev pub write_closing : Closing → List Lexeme
-write_closing (closed es) = write_tail es ++ (mark t.RParen ∷ [])
+write_closing (closes_group es) = write_tail es ++ (mark t.RParen ∷ [])
 write_closing (cast_to f) = mark t.Colon ∷ (write_form f ++ (mark t.RParen ∷ []))
 
 abbrev pub write_paren : Paren → List Lexeme
 write_paren nothing = mark t.RParen ∷ []
-write_paren (named o b ts) = write_op o ∷ (opend b ++ write_row ts)
+write_paren (named_operator o b ts) = write_op o ∷ (opend b ++ write_row ts)
 write_paren (holds e z) = write e ++ write_closing z
 
 abbrev pub write_minus : Minus → List Lexeme
@@ -141,7 +141,7 @@ chain_open stop = false
 chain_open (link o f stop) = ends_open f
 chain_open (link o f c) = chain_open c
 
--- Operators that may stand behind a tree that binds as tightly as u, each with its operand.
+-- Operators that may come after a tree that binds as tightly as u, each with its operand.
 abbrev pub IsLast : Bool → Chain → Type 0 → Type 0
 IsLast true c p = c ≡ stop
 IsLast false c p = p
@@ -158,20 +158,20 @@ abbrev pub IsScoped : Option Scoped → Type 0
 IsScoped None = ⊤
 IsScoped (Some d) = IsOwn d.own
 
-abbrev pub IsNamer : ℕ → Op → Type 0
+abbrev pub IsNamer : ℕ → OperatorToken → Type 0
 IsNamer i o = (o.at ≡ i) × (is_operator o.terminal ≡ true) × MayBeMarked o.terminal o.text
 
 abbrev pub IsClosing : ℕ → Closing → Type 0
-IsClosing i (closed es) = AreLevel es × PlacedCommas (i + 1) es
-IsClosing i (cast_to f) = IsForm types f × IsPlaced (i + 1) f
+IsClosing i (closes_group es) = AreLevel es × PlacedCommas (i + 1) es
+IsClosing i (cast_to f) = IsForm type_forms f × IsPlaced (i + 1) f
 
 abbrev pub IsParen : ℕ → Paren → Type 0
 IsParen i nothing = ⊤
-IsParen i (named o b ts) = IsNamer i o × AreAtoms ts × PlacedTrees (past (i + 1) (opend b)) ts
+IsParen i (named_operator o b ts) = IsNamer i o × AreAtoms ts × PlacedTrees (past (i + 1) (opend b)) ts
 IsParen i (holds e z) = IsLevel e × IsPlacedTree i e × IsClosing (past i (write e)) z
 
 abbrev pub HasNoArgs : Paren → Type 0
-HasNoArgs (named o b ts) = ts ≡ none
+HasNoArgs (named_operator o b ts) = ts ≡ none
 HasNoArgs _ = ⊤
 
 abbrev pub IsMinus : ℕ → Minus → Type 0
@@ -185,16 +185,16 @@ HasNoneBy _ = ⊤
 -- the values that a symbol has where it begins at token i
 abbrev pub Is : (s : Symbol) → ℕ → Val s → Type 0
 Is (s.Take x) i n = (n.at ≡ i) × Proper x n.text
-Is s.TypeOf i f = IsForm types f × IsPlaced i f
-Is s.Atype i f = IsPart f × IsForm types f × IsPlaced i f
-Is s.Targs i ts = AreParts types ts × PlacedRow i ts
-Is s.Ttuple i ts = AreForms types ts × PlacedList i ts
-Is s.Tmore i ts = AreForms types ts × PlacedList (i + 1) ts
-Is s.Pat i f = IsForm patterns f × IsPlaced i f
-Is s.Patom i f = IsPart f × IsForm patterns f × IsPlaced i f
-Is s.Patoms i ts = AreParts patterns ts × PlacedRow i ts
-Is s.Ptuple i ts = AreForms patterns ts × PlacedList i ts
-Is s.Pmore i ts = AreForms patterns ts × PlacedList (i + 1) ts
+Is s.TypeOf i f = IsForm type_forms f × IsPlaced i f
+Is s.Atype i f = IsFormPart f × IsForm type_forms f × IsPlaced i f
+Is s.Targs i ts = AreParts type_forms ts × PlacedRow i ts
+Is s.Ttuple i ts = AreForms type_forms ts × PlacedList i ts
+Is s.Tmore i ts = AreForms type_forms ts × PlacedList (i + 1) ts
+Is s.Pat i f = IsForm pattern_forms f × IsPlaced i f
+Is s.Patom i f = IsFormPart f × IsForm pattern_forms f × IsPlaced i f
+Is s.Patoms i ts = AreParts pattern_forms ts × PlacedRow i ts
+Is s.Ptuple i ts = AreForms pattern_forms ts × PlacedList i ts
+Is s.Pmore i ts = AreForms pattern_forms ts × PlacedList (i + 1) ts
 Is s.AsPart i m = NamedAt i m
 Is (s.Expr m) i e = IsLevel e × IsPlacedTree i e × (m ≤ 8 → m ≤ tight e)
 Is (s.Tail m u) i c = IsChain m u i c
@@ -235,7 +235,7 @@ Is s.Pname i p = IsPname i p
 Is s.Body i b = IsBody i b
 Is s.Members i ds = AreMembers ds × PlacedMembers i ds
 Is s.Member i p = IsMemberPart i p
-Is s.Value i v = IsDefinition v × PlacedDefinition i v
+Is s.Value i v = IsOptionalDefinition v × PlacedDefinition i v
 Is s.Clause i p = IsClausePart i p
 Is s.Clauses i p = IsClauses i p
 Is s.Used i u = IsUsed i u
@@ -247,7 +247,7 @@ Is s.Elems i es = IsSubst i es
 Is s.Elem i e = IsElement e × PlacedElement i e
 Is s.Axioms i c = IsAxioms i c
 Is s.Elvars i v = IsVars i v
-Is s.Qop i c = (c.at ≡ i) × IsSymbol c.own
+Is s.Qop i c = (c.at ≡ i) × IsSymbolName c.own
 Is s.Qid i c = IsPropAt i c
 Is s.Qids i c = IsQids i c
 Is _ i v = ⊤
@@ -269,7 +269,7 @@ abbrev pub Piece : Bool → (s : Symbol) → (Bool → ℕ → List Lexeme → T
 Piece true s next i xs v = (blank s ≡ Some v) × next true i xs
 Piece false s next i xs v = (ys : List Lexeme) × Is s i v × (xs ≡ writes s v ++ ys) × next (flag s v) (past i (writes s v)) ys
 
--- Behind a seal tails are silent. (`sealed`, and it computes where the symbol is no tail.)
+-- After a seal tails are silent. (`sealed`, and it computes where the symbol is no tail.)
 abbrev pub hushed : Bool → Symbol → Bool
 hushed b s = is_tail s && b
 
@@ -278,10 +278,10 @@ abbrev pub Good : Bool → (k : List Symbol) → ℕ → List Lexeme → Vals k 
 Good b [] i xs vs = xs ≡ []
 Good b (s ∷ k) i xs vs = Piece (hushed b s) s (λ c j ys. Good c k j ys vs.1) i xs vs.0
 
-abbrev pub RowOk : (s : Symbol) → Row s → Type 0
+abbrev pub RowOk : (s : Symbol) → ReadingRow s → Type 0
 RowOk s r = (k : List Symbol) (i : ℕ) (w : Word) (xs : List Lexeme) (vs : Vals (r.behind k)) → Proper r.first w → Good false (r.behind k) (i + 1) xs vs → Good false (s ∷ k) i (lx r.first w ∷ xs) (r.act k i w vs)
 
-abbrev pub AllRows : (s : Symbol) → List (Row s) → Type 0
+abbrev pub AllRows : (s : Symbol) → List (ReadingRow s) → Type 0
 AllRows s [] = ⊤
 AllRows s (r ∷ rs) = RowOk s r × AllRows s rs
 
@@ -289,6 +289,6 @@ AllRows s (r ∷ rs) = RowOk s r × AllRows s rs
 abbrev pub ◌▸◌ : {A B : Type 0} → A → B → A × B
 ◌▸◌ a b = (a, b)
 
-pub extend_ok : (s a : Symbol) (ss : List Symbol) (f : Val a → Vals ss → Val s) (rs : List (Row a)) → ((k : List Symbol) (i : ℕ) (xs : List Lexeme) (v : Val a) (vs : Vals (ss ++ k)) → Good false (a ∷ (ss ++ k)) i xs (v, vs) → Good false (s ∷ k) i xs (f v (front ss k vs), back ss k vs)) → AllRows a rs → AllRows s (extend s a ss f rs)
+pub extend_ok : (s a : Symbol) (ss : List Symbol) (f : Val a → Vals ss → Val s) (rs : List (ReadingRow a)) → ((k : List Symbol) (i : ℕ) (xs : List Lexeme) (v : Val a) (vs : Vals (ss ++ k)) → Good false (a ∷ (ss ++ k)) i xs (v, vs) → Good false (s ∷ k) i xs (f v (front ss k vs), back ss k vs)) → AllRows a rs → AllRows s (extend s a ss f rs)
 extend_ok s a ss f [] j h = tt
 extend_ok s a ss f (r ∷ rs) j h = (λ k i w xs vs p g. j k i (lx r.first w ∷ xs) (r.act (ss ++ k) i w vs).0 (r.act (ss ++ k) i w vs).1 (h.0 (ss ++ k) i w xs vs p g), extend_ok s a ss f rs j h.1)

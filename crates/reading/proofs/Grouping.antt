@@ -1,5 +1,5 @@
 -- How the tokens of branches, `let` and quantifiers are grouped.
-use Rattle.reading.proofs.Common.{◌≡◌, ℕ, ◌+◌, List, [], ◌∷◌, ◌++◌, refl, ap, ◌∙◌, append_assoc, Lexeme, mark, past, Trigger, triggered, untriggered, write_trigger}
+use Rattle.reading.proofs.Common.{◌≡◌, ℕ, ◌+◌, List, [], ◌∷◌, ◌++◌, refl, ap, ◌∙◌, append_assoc, Lexeme, mark, past, SyntaxTrigger, triggered, untriggered, write_trigger}
 use Rattle.tokens_why.specs.declared.terminal.Terminal.TheVariants as t
 use Rattle.grammar.specs.declared.symbols.Symbol.TheVariants as s
 use Rattle.reading.proofs.Reading.{Stops, past-append}
@@ -31,6 +31,6 @@ branch_past a b c d i = ap (past i) (regrouped a b c d) ∙ past-append a (mark 
     regrouped : (a b c d : List Lexeme) → (a ++ (mark t.Arrow ∷ (b ++ c))) ++ d ≡ a ++ (mark t.Arrow ∷ (b ++ (c ++ d)))
     regrouped a b c d = simp append_assoc
 
-pub trigger_stop : (g : Trigger) (zs : List Lexeme) → Stops s.Targs (write_trigger g ++ (mark t.Dot ∷ zs))
+pub trigger_stop : (g : SyntaxTrigger) (zs : List Lexeme) → Stops s.Targs (write_trigger g ++ (mark t.Dot ∷ zs))
 trigger_stop untriggered zs = refl
 trigger_stop (triggered es bars) zs = refl

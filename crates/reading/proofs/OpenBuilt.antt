@@ -1,5 +1,5 @@
 -- What is read as an open form, as branches or as a quantifier's names is right.
-use Rattle.reading.proofs.Common.{◌≡◌, ℕ, ◌+◌, Bool, true, false, List, [], ◌∷◌, ◌++◌, None, refl, sym, ap, ◌∙◌, subst, append_assoc, arith, Symbol, Lexeme, Word, at, lx, mark, Form, IsForm, IsPlaced, form_tail, more_forms, past, patterns, write_form, AreBranches, IsLevel, IsPlacedTree, PlacedBranches, Tree, alternative_tail, binder_tail, binding, choice, ends_open, name_row, quantified, quantifier, separator, terms_tail, tight, type_part, write, write_branches, write_others, write_tail, write_trigger, ArmPart, CasesPart, binder_of, branch_of, next_term, Val, Vals, row, open_rows, rows}
+use Rattle.reading.proofs.Common.{◌≡◌, ℕ, ◌+◌, Bool, true, false, List, [], ◌∷◌, ◌++◌, None, refl, sym, ap, ◌∙◌, subst, append_assoc, arith, Symbol, Lexeme, Word, at, lx, mark, SyntaxForm, IsForm, IsPlaced, form_tail, more_forms, past, pattern_forms, write_form, AreBranches, IsLevel, IsPlacedTree, PlacedBranches, SyntaxTree, alternative_tail, binder_tail, binding, choice, ends_open, name_row, quantified, quantifier, separator, terms_tail, tight, type_part, write, write_branches, write_others, write_tail, write_trigger, ArmPart, CasesPart, binder_with, branch_of, next_term, Val, Vals, row, open_rows, rows}
 use Rattle.tokens_why.specs.declared.terminal.Terminal.TheVariants as t
 use Rattle.grammar.specs.declared.symbols.Symbol.TheVariants as s
 use Rattle.reading.proofs.Reading.{past-append}
@@ -28,8 +28,8 @@ pub list_past : (a b c : List Lexeme) (i : ℕ) → past i ((a ++ b) ++ c) ≡ p
 list_past a b c i = ap (past i) (append_assoc a b c) ∙ past-append a (b ++ c) i
 
 -- A symbol that is read as an open form, and is an expression.
-abbrev pub Opens : (top : Symbol) → (Tree → Val top) → Type 0
-Opens top f = (k : List Symbol) (i : ℕ) (e : Tree) (xs ys : List Lexeme) (vs : Vals k) → IsLevel e → IsPlacedTree i e → ends_open e ≡ true → tight e ≡ 9 → xs ≡ write e ++ ys → Good true k (past i (write e)) ys vs → Good false (top ∷ k) i xs (f e, vs)
+abbrev pub Opens : (top : Symbol) → (SyntaxTree → Val top) → Type 0
+Opens top f = (k : List Symbol) (i : ℕ) (e : SyntaxTree) (xs ys : List Lexeme) (vs : Vals k) → IsLevel e → IsPlacedTree i e → ends_open e ≡ true → tight e ≡ 9 → xs ≡ write e ++ ys → Good true k (past i (write e)) ys vs → Good false (top ∷ k) i xs (f e, vs)
 
 pub opens_expr : (m : ℕ) → Opens (s.Expr m) (λ e. e)
 opens_expr m k i e xs ys vs l p o u x g = (ys, (l, p, λ z. omega (arith, u)), x, subst (λ b. Good b k (past i (write e)) ys vs) (sym o) g)
@@ -37,7 +37,7 @@ opens_expr m k i e xs ys vs l p o u x g = (ys, (l, p, λ z. omega (arith, u)), x
 pub opens_form : Opens s.OpenForm (λ e. e)
 opens_form k i e xs ys vs l p o u x g = (ys, (l, p), x, subst (λ b. Good b k (past i (write e)) ys vs) (sym o) g)
 
-pub open_ok : (top : Symbol) (f : Tree → Val top) → Opens top f → AllRows top (open_rows top f)
+pub open_ok : (top : Symbol) (f : SyntaxTree → Val top) → Opens top f → AllRows top (open_rows top f)
 open_ok top f h = (λ k i w xs vs p (y1, q1, e1, (y2, q2, e2, (y3, q3, e3, (y4, q4, e4, (y5, q5, e5, (zs, q6, e6, g)))))). h k i (choice (at i) vs.0 vs.1.1.0 vs.1.1.1.1.0) (lx t.IfWord w ∷ xs) zs vs.1.1.1.1.1.1 (q1.0, q3.0, q5.0) (refl, q1.1, q3.1, q5.1) refl refl
     (ap (λ v. lx t.IfWord v ∷ xs) p ∙ ap (λ v. mark t.IfWord ∷ v) (choice_tokens (write vs.0) (write vs.1.1.0) (write vs.1.1.1.1.0) xs y1 y2 y3 y4 y5 zs vs.1.0.text vs.1.1.1.0.text e1 e2 q2.1 e3 e4 q4.1 e5 e6))
     (subst (λ n. Good true k n zs vs.1.1.1.1.1.1) (sym (choice_past (write vs.0) (write vs.1.1.0) (write vs.1.1.1.1.0) (i + 1))) g))
@@ -52,23 +52,23 @@ open_ok top f h = (λ k i w xs vs p (y1, q1, e1, (y2, q2, e2, (y3, q3, e3, (y4, 
     bare true p = p
     bare false p = p
 
-    quantifier_ok : (all : Bool) → RowOk top (row top (quantifier all) (s.Take t.Lident ∷ s.Binder ∷ []) (λ i w vs. f (quantified (at i) all (binder_of vs.0 vs.1.0 ∷ vs.1.0.bound.others) vs.1.0.bound.trigger vs.1.0.bound.body)))
-    quantifier_ok all k i w xs vs p (y1, q1, e1, (zs, q2, e2, g)) = h k i (quantified (at i) all (binder_of vs.0 vs.1.0 ∷ vs.1.0.bound.others) vs.1.0.bound.trigger vs.1.0.bound.body) (lx (quantifier all) w ∷ xs) zs vs.1.1
+    quantifier_ok : (all : Bool) → RowOk top (row top (quantifier all) (s.Take t.Lident ∷ s.Binder ∷ []) (λ i w vs. f (quantified (at i) all (binder_with vs.0 vs.1.0 ∷ vs.1.0.bound.others) vs.1.0.bound.trigger vs.1.0.bound.body)))
+    quantifier_ok all k i w xs vs p (y1, q1, e1, (zs, q2, e2, g)) = h k i (quantified (at i) all (binder_with vs.0 vs.1.0 ∷ vs.1.0.bound.others) vs.1.0.bound.trigger vs.1.0.bound.body) (lx (quantifier all) w ∷ xs) zs vs.1.1
         (tt, (tt, q2.1.0, q2.1.2.0), q2.1.2.2.0, q2.1.2.2.2) (refl, (((q1.0, q2.0), q2.1.1), rw past-append q2.1.2.1), rw (past-append, past-append) q2.1.2.2.1, rw (past-append, past-append) q2.1.2.2.3) refl refl
         (ap (λ v. lx (quantifier all) v ∷ xs) (bare all p) ∙ ap (λ v. mark (quantifier all) ∷ v) (e1 ∙ ap (λ v. lx t.Lident vs.0.text ∷ v) (e2 ∙ bound_tokens (name_row vs.1.0.names) (type_part vs.1.0.of_type) (binder_tail vs.1.0.bound.others) (write_trigger vs.1.0.bound.trigger ++ (mark t.Dot ∷ write vs.1.0.bound.body)) zs)))
         (subst (λ n. Good true k n zs vs.1.1) (ap (past (i + 1 + 1)) (bound_row (name_row vs.1.0.names) (type_part vs.1.0.of_type) (binder_tail vs.1.0.bound.others) (write_trigger vs.1.0.bound.trigger ++ (mark t.Dot ∷ write vs.1.0.bound.body)))) g)
 
 -- a branch, from its first pattern on
-pub arm_levels : (f : Form) (a : ArmPart) (i : ℕ) → IsForm patterns f × IsPlaced i f → IsArm (past i (write_form f)) a → AreBranches (branch_of f a) × PlacedBranches i (branch_of f a)
+pub arm_levels : (f : SyntaxForm) (a : ArmPart) (i : ℕ) → IsForm pattern_forms f × IsPlaced i f → IsArm (past i (write_form f)) a → AreBranches (branch_of f a) × PlacedBranches i (branch_of f a)
 arm_levels f a i m n = ((tt, (tt, (m.0, n.0), n.2.0), n.2.2.0, n.2.2.2), (((m.1, n.1), rw past-append n.2.1), rw (past-append, past-append) n.2.2.1, rw (past-append, past-append) n.2.2.3))
 
 pub arm_row : (a b c d e z : List Lexeme) → a ++ (b ++ (c ++ (mark t.Arrow ∷ (d ++ (e ++ z))))) ≡ (((a ++ b) ++ c) ++ (mark t.Arrow ∷ (d ++ e))) ++ z
 arm_row a b c d e z = sym (simp append_assoc)
 
-pub arm_tokens : (f : Form) (a : ArmPart) (xs ys zs : List Lexeme) → xs ≡ write_form f ++ ys → ys ≡ write_arm a ++ zs → xs ≡ (write_branches (branch_of f a) ++ (mark t.EndWord ∷ [])) ++ zs
+pub arm_tokens : (f : SyntaxForm) (a : ArmPart) (xs ys zs : List Lexeme) → xs ≡ write_form f ++ ys → ys ≡ write_arm a ++ zs → xs ≡ (write_branches (branch_of f a) ++ (mark t.EndWord ∷ [])) ++ zs
 arm_tokens f a xs ys zs e d = e ∙ ap (λ v. write_form f ++ v) d ∙ sym (append_assoc (write_form f) (write_arm a) zs) ∙ ap (λ v. v ++ zs) (arm_row (write_form f) (form_tail a.patterns) (alternative_tail a.alternatives) (write a.body) (write_others a.others) (mark t.EndWord ∷ []))
 
-pub arm_past : (f : Form) (a : ArmPart) (i : ℕ) → past (past i (write_form f)) (write_arm a) ≡ past i (write_branches (branch_of f a) ++ (mark t.EndWord ∷ []))
+pub arm_past : (f : SyntaxForm) (a : ArmPart) (i : ℕ) → past (past i (write_form f)) (write_arm a) ≡ past i (write_branches (branch_of f a) ++ (mark t.EndWord ∷ []))
 arm_past f a i = sym (past-append (write_form f) (write_arm a) i) ∙ ap (past i) (arm_row (write_form f) (form_tail a.patterns) (alternative_tail a.alternatives) (write a.body) (write_others a.others) (mark t.EndWord ∷ []))
 
 pub branches_ok : AllRows s.Branches (rows s.Branches)
@@ -108,10 +108,10 @@ scrutinees_ok = (λ k i w xs vs p (ys, m, e, (zs, n, d, g)). (
     ▸ tt
 
 -- the tree of a `match`
-pub cases_tokens : (e : Tree) (c : CasesPart) (xs ys zs : List Lexeme) → xs ≡ write e ++ ys → ys ≡ write_cases c ++ zs → xs ≡ ((write e ++ write_tail c.others) ++ (mark t.WithWord ∷ write_branch (record { bar = c.bar; branches = c.branches }))) ++ zs
+pub cases_tokens : (e : SyntaxTree) (c : CasesPart) (xs ys zs : List Lexeme) → xs ≡ write e ++ ys → ys ≡ write_cases c ++ zs → xs ≡ ((write e ++ write_tail c.others) ++ (mark t.WithWord ∷ write_branch (record { bar = c.bar; branches = c.branches }))) ++ zs
 cases_tokens e c xs ys zs h d = h ∙ ap (λ v. write e ++ v) d ∙ list_tokens (write e) (write_tail c.others) (mark t.WithWord ∷ write_branch (record { bar = c.bar; branches = c.branches })) zs
 
-pub cases_past : (e : Tree) (c : CasesPart) (i : ℕ) → past (past i (write e)) (write_cases c) ≡ past i ((write e ++ write_tail c.others) ++ (mark t.WithWord ∷ write_branch (record { bar = c.bar; branches = c.branches })))
+pub cases_past : (e : SyntaxTree) (c : CasesPart) (i : ℕ) → past (past i (write e)) (write_cases c) ≡ past i ((write e ++ write_tail c.others) ++ (mark t.WithWord ∷ write_branch (record { bar = c.bar; branches = c.branches })))
 cases_past e c i = sym (list_past (write e) (write_tail c.others) (mark t.WithWord ∷ write_branch (record { bar = c.bar; branches = c.branches })) i)
 
 pub letpats_ok : AllRows s.Letpats (rows s.Letpats)

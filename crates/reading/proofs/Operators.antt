@@ -1,5 +1,5 @@
--- How operators bind, and what may stand behind a tree.
-use Rattle.reading.proofs.Common.{◌≡◌, ℕ, ◌+◌, ◌≤◌, ◌<◌, ◌⊎◌, inl, inr, Bool, true, false, ◌&&◌, nat_le, cond, List, [], ◌∷◌, Some, None, refl, sym, ap, ◌∙◌, subst, arith, nat_tests, ⊤, Terminal, Symbol, number, same, operators, prec, need, right, is_infix, same_true, same_refl, no_false, Lexeme, Tree, ends_open, tight, Chain, stop, Row, Vals, link_row, tail_rows, takes_op, rows, find, read, all_infix, among}
+-- How operators bind, and what may come after a tree.
+use Rattle.reading.proofs.Common.{◌≡◌, ℕ, ◌+◌, ◌≤◌, ◌<◌, ◌⊎◌, inl, inr, Bool, true, false, ◌&&◌, nat_le, cond, List, [], ◌∷◌, Some, None, refl, sym, ap, ◌∙◌, subst, arith, nat_tests, ⊤, Terminal, Symbol, terminal_number, same, operators, prec, need, right, is_infix, same_true, same_refl, no_false, Lexeme, SyntaxTree, ends_open, tight, Chain, stop, ReadingRow, Vals, link_row, tail_rows, takes_op, rows, find, read, all_infix, among}
 use Rattle.tokens_why.specs.declared.terminal.Terminal.TheVariants as t
 use Rattle.grammar.specs.declared.symbols.Symbol.TheVariants as s
 use Rattle.reading.proofs.Reading.{Reads, Stops, passed}
@@ -11,7 +11,7 @@ pub le_false : (a b : ℕ) → b < a → nat_le a b ≡ false
 le_false a b h = grind (arith, nat_tests)
 
 -- A symbol's row takes a token.
-pub reads_by : (s : Symbol) (x : Lexeme) (r : Row s) (xs : List Lexeme) (i : ℕ) (k : List Symbol) (us : Vals (r.behind k)) → find (rows s) x.terminal ≡ Some r → Reads (r.behind k) xs (i + 1) us → Reads (s ∷ k) (x ∷ xs) i (r.act k i x.text us)
+pub reads_by : (s : Symbol) (x : Lexeme) (r : ReadingRow s) (xs : List Lexeme) (i : ℕ) (k : List Symbol) (us : Vals (r.behind k)) → find (rows s) x.terminal ≡ Some r → Reads (r.behind k) xs (i + 1) us → Reads (s ∷ k) (x ∷ xs) i (r.act k i x.text us)
 reads_by s x r xs i k us e h = rw (e, h) refl
 
 -- how operators bind
@@ -112,20 +112,20 @@ tail_found m u (o ∷ os) y a h = by_same (same o y) refl a (λ e. tail_found m 
     by_takes false e f = f
 
     by_same : (b : Bool) → same o y ≡ b → cond b true (among y os) ≡ true → (among y os ≡ true → find (tail_rows m u os) y ≡ Some (link_row m u y)) → find (tail_rows m u (o ∷ os)) y ≡ Some (link_row m u y)
-    by_same true e a f = subst (λ v. find (tail_rows m u (v ∷ os)) y ≡ Some (link_row m u y)) (sym (same_true o y e)) (rw h (ap (λ v. cond v (Some (link_row m u y)) (find (tail_rows m u os) y)) (same_refl (number y))))
+    by_same true e a f = subst (λ v. find (tail_rows m u (v ∷ os)) y ≡ Some (link_row m u y)) (sym (same_true o y e)) (rw h (ap (λ v. cond v (Some (link_row m u y)) (find (tail_rows m u os) y)) (same_refl (terminal_number y))))
     by_same false e a f = by_takes (takes_op m u o) e (f a)
 
 abbrev pub OpsBelow : ℕ → List Lexeme → Type 0
 OpsBelow n [] = ⊤
 OpsBelow n (y ∷ ys) = is_infix y.terminal ≡ true → need y.terminal ≤ n
 
--- what may stand behind a tree: no argument, no scope, and an operator only where the tree may be its left operand
+-- what may come after a tree: no argument, no scope, and an operator only where the tree may be its left operand
 pub record Follow (n : ℕ) (ys : List Lexeme) : Type 0 where
   pub args : Stops s.Args ys
   pub scope : Stops s.Scoped ys
   pub ops : OpsBelow n ys
 
-abbrev pub reach : Tree → ℕ
+abbrev pub reach : SyntaxTree → ℕ
 reach e = cond (ends_open e) 0 (tight e)
 
 abbrev pub LowAt : ℕ → List Lexeme → Type 0
@@ -136,7 +136,7 @@ pub tail_stops : (m u : ℕ) (ys : List Lexeme) → LowAt m ys → Stops (s.Tail
 tail_stops m u [] h = tt
 tail_stops m u (y ∷ ys) h = tail_none m u operators y.terminal refl (λ i. ap (λ b. b && nat_le (need y.terminal) u) (le_false m (prec y.terminal) (h i)))
 
--- behind an operator's right operand the tail of that operand takes nothing
+-- after an operator's right operand the tail of that operand takes nothing
 pub low_right : (o : Terminal) (ys : List Lexeme) → is_infix o ≡ true → OpsBelow (prec o) ys → LowAt (right o) ys
 low_right o [] i h = tt
 low_right o (y ∷ ys) i h = λ j. right_silent o y.terminal i j (h j)
@@ -157,12 +157,12 @@ pub ops_weaker : (n p : ℕ) (ys : List Lexeme) → n ≤ p → OpsBelow n ys �
 ops_weaker n p [] h o = tt
 ops_weaker n p (y ∷ ys) h o = λ i. let q : need y.terminal ≤ n = o i in omega arith
 
--- what stands behind a tree, its operators first; behind an open form the tails are silent
+-- what comes after a tree, its operators first; after an open form the tails are silent
 abbrev pub RestBy : Bool → ℕ → ℕ → List Lexeme → ℕ → (k : List Symbol) → Chain → Vals k → Type 0
 RestBy true m u ys j k c vs = (c ≡ stop) × (read ys j true k ≡ Some vs)
 RestBy false m u ys j k c vs = Reads (s.Tail m u ∷ k) ys j (c, vs)
 
-abbrev pub Rest : Tree → ℕ → List Lexeme → ℕ → (k : List Symbol) → Chain → Vals k → Type 0
+abbrev pub Rest : SyntaxTree → ℕ → List Lexeme → ℕ → (k : List Symbol) → Chain → Vals k → Type 0
 Rest e m ys j k c vs = RestBy (ends_open e) m (tight e) ys j k c vs
 
 -- an operand at the right end of another tree

@@ -1,12 +1,12 @@
 -- What is read as operators and their operands is right.
-use Rattle.reading.proofs.Common.{◌≡◌, ℕ, ◌+◌, Bool, true, false, List, ◌∷◌, ◌++◌, Option, Some, refl, sym, ap, ◌∙◌, subst, append_assoc, append-nil, ◌≤◌, nat_le, ◌||◌, arith, Terminal, Symbol, and_left, and_right, Lexeme, Word, at, lx, past, is_infix, is_prefix, prec, need, right, IsLevel, IsPlacedTree, MayBeMarked, Op, Tree, ends_open, negation, op, prefixed, tight, write, write_op, Chain, attach, joined, link, stop, Vals, link_row, not_rows, prefix_row, takes_op, nat_tests}
+use Rattle.reading.proofs.Common.{◌≡◌, ℕ, ◌+◌, Bool, true, false, List, ◌∷◌, ◌++◌, Option, Some, refl, sym, ap, ◌∙◌, subst, append_assoc, append-nil, ◌≤◌, nat_le, ◌||◌, arith, Terminal, Symbol, and_left, and_right, Lexeme, Word, at, lx, past, is_infix, is_prefix, prec, need, right, IsLevel, IsPlacedTree, MayBeMarked, OperatorToken, SyntaxTree, ends_open, negation, op, prefixed, tight, write, write_op, Chain, attach, joined_trees, link, stop, Vals, link_row, not_rows, prefix_row, takes_op, nat_tests}
 use Rattle.tokens_why.specs.declared.terminal.Terminal.TheVariants as t
 use Rattle.grammar.specs.declared.symbols.Symbol.TheVariants as s
 use Rattle.reading.proofs.Reading.{past-append}
 use Rattle.reading.proofs.Operands.{first_placed}
 use Rattle.reading.proofs.Good.{AllRows, ChainBehind, Good, IsChain, IsLast, Piece, Proper, RowOk, chain_open, hushed, write_chain}
 
--- what stands behind a tree: its operators, or nothing where it ends in an open form
+-- what comes after a tree: its operators, or nothing where it ends in an open form
 pub record TailPart (e : Bool) (m u i : ℕ) (c : Chain) (xs : List Lexeme) (next : Bool → ℕ → List Lexeme → Type 0) : Type 0 where
   pub others : List Lexeme
   pub chain : ChainBehind e m u i c
@@ -24,38 +24,38 @@ tail_part true m u i c xs next g = by_stop c (some_is g.0) g.1
     by_stop (link o f d) h g = cc
 tail_part false m u i c xs next (ys, p, w, g) = record { others = ys; chain = p; writes = w; behind = g }
 
--- A tree with the operators behind it.
-pub record Attached (m i : ℕ) (e : Tree) (c : Chain) : Type 0 where
+-- A tree with the operators after it.
+pub record Attached (m i : ℕ) (e : SyntaxTree) (c : Chain) : Type 0 where
   pub level : IsLevel (attach e c)
   pub placed : IsPlacedTree i (attach e c)
   pub least : m ≤ 8 → m ≤ tight (attach e c)
   pub writes : write (attach e c) ≡ write e ++ write_chain c
   pub opens : ends_open (attach e c) ≡ chain_open c
 
-pub chain_open_link : (o : Op) (f : Tree) (c : Chain) → ends_open f ≡ false → chain_open c ≡ chain_open (link o f c)
+pub chain_open_link : (o : OperatorToken) (f : SyntaxTree) (c : Chain) → ends_open f ≡ false → chain_open c ≡ chain_open (link o f c)
 chain_open_link o f stop h = sym h
 chain_open_link o f (link p g c) h = refl
 
-pub attach_ok : (c : Chain) (m u i : ℕ) (e : Tree) → IsLevel e → IsPlacedTree i e → ends_open e ≡ false → u ≤ tight e → (m ≤ 8 → m ≤ tight e) → IsChain m u (past i (write e)) c → Attached m i e c
+pub attach_ok : (c : Chain) (m u i : ℕ) (e : SyntaxTree) → IsLevel e → IsPlacedTree i e → ends_open e ≡ false → u ≤ tight e → (m ≤ 8 → m ≤ tight e) → IsChain m u (past i (write e)) c → Attached m i e c
 attach_ok stop m u i e l p o v w h = record { level = l; placed = p; least = w; writes = sym (append-nil (write e)); opens = o }
 attach_ok (link q f c) m u i e l p o v w h = by_open (ends_open f) refl h.8
-    (λ k y. attach_ok c m (prec q.terminal) i (joined e q f) (level_is (need_met h.3)) placed_is k (omega arith) (λ z. h.2) (rw past-append y))
+    (λ k y. attach_ok c m (prec q.terminal) i (joined_trees e q f) (level_is (need_met h.3)) placed_is k (omega arith) (λ z. h.2) (rw past-append y))
   where
     need_met : need q.terminal ≤ u → need q.terminal ≤ tight e
     need_met n = omega arith
 
-    level_is : need q.terminal ≤ tight e → IsLevel (joined e q f)
+    level_is : need q.terminal ≤ tight e → IsLevel (joined_trees e q f)
     level_is n = (h.0, h.1, o, n, h.7, l, h.5)
 
-    placed_is : IsPlacedTree i (joined e q f)
+    placed_is : IsPlacedTree i (joined_trees e q f)
     placed_is = (first_placed e i p, refl, h.4, p, h.6)
 
-    by_open : (b : Bool) → ends_open f ≡ b → IsLast b c (IsChain m (prec q.terminal) (past (past i (write e) + 1) (write f)) c) → (ends_open f ≡ false → IsChain m (prec q.terminal) (past (past i (write e) + 1) (write f)) c → Attached m i (joined e q f) c) → Attached m i e (link q f c)
+    by_open : (b : Bool) → ends_open f ≡ b → IsLast b c (IsChain m (prec q.terminal) (past (past i (write e) + 1) (write f)) c) → (ends_open f ≡ false → IsChain m (prec q.terminal) (past (past i (write e) + 1) (write f)) c → Attached m i (joined_trees e q f) c) → Attached m i e (link q f c)
     by_open true k y g = subst (λ d. Attached m i e (link q f d)) (sym y) (record { level = level_is (need_met h.3); placed = placed_is; least = λ z. h.2; writes = ap (λ v. write e ++ (write_op q ∷ v)) (sym (append-nil (write f))); opens = refl })
     by_open false k y g = let r = g k y in record { level = r.level; placed = r.placed; least = r.least; writes = r.writes ∙ append_assoc (write e) (write_op q ∷ write f) (write_chain c); opens = r.opens ∙ chain_open_link q f c k }
 
--- A tree with what stands behind it is an expression.
-pub attach_good : (m i u : ℕ) (k : List Symbol) (e : Tree) (c : Chain) (xs ys : List Lexeme) (vs : Vals k) → IsLevel e → IsPlacedTree i e → u ≤ tight e → (m ≤ 8 → m ≤ tight e) → xs ≡ write e ++ ys → TailPart (ends_open e) m u (past i (write e)) c ys (λ d j zs. Good d k j zs vs) → Good false (s.Expr m ∷ k) i xs (attach e c, vs)
+-- A tree with what comes after it is an expression.
+pub attach_good : (m i u : ℕ) (k : List Symbol) (e : SyntaxTree) (c : Chain) (xs ys : List Lexeme) (vs : Vals k) → IsLevel e → IsPlacedTree i e → u ≤ tight e → (m ≤ 8 → m ≤ tight e) → xs ≡ write e ++ ys → TailPart (ends_open e) m u (past i (write e)) c ys (λ d j zs. Good d k j zs vs) → Good false (s.Expr m ∷ k) i xs (attach e c, vs)
 attach_good m i u k e c xs ys vs l p v w x r = by_open (ends_open e) refl r.chain r.behind
   where
     by_open : (b : Bool) → ends_open e ≡ b → ChainBehind b m u (past i (write e)) c → Good (b || chain_open c) k (past (past i (write e)) (write_chain c)) r.others vs → Good false (s.Expr m ∷ k) i xs (attach e c, vs)

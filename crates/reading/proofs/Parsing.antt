@@ -1,6 +1,6 @@
 -- What the public calls of the readers need: which tokens begin a tree, where they go wrong, where the longest tree ends, that
 -- it is the only one, and what completes it; for files and for expressions at once.
-use Rattle.reading.proofs.Common.{zero, suc, ◌≡◌, ℕ, ◌+◌, ◌≤◌, Bool, true, false, ◌&&◌, List, [], ◌∷◌, ◌++◌, Option, Some, None, map, take, length, refl, sym, ap, ◌∙◌, subst, append-nil, Terminal, kind_by, terminal_of, Symbol, run, accepts, complete, is_safe, is_tail, is_taken, no_false, begun_completes, accepted_begins, Lexeme, Word, rest, said, terminals, IsLevel, IsPlacedTree, write, write_file, IsLevelFile, PlacedFile, Val, read, AllStand, Begins, IsLeastFault, IsLongest, IsNone, IsOnly}
+use Rattle.reading.proofs.Common.{zero, suc, ◌≡◌, ℕ, ◌+◌, ◌≤◌, Bool, true, false, ◌&&◌, List, [], ◌∷◌, ◌++◌, Option, Some, None, map, take, length, refl, sym, ap, ◌∙◌, subst, append-nil, Terminal, kind_by, terminal_of, Symbol, run, accepts, complete, is_safe, is_tail, is_taken, no_false, begun_completes, accepted_begins, Lexeme, Word, rest, said, terminals, IsLevel, IsPlacedTree, write, write_file, IsLevelFile, PlacedFile, Val, read, AllStand, Begins, IsLeastFault, IsLongestTree, IsNone, IsOnly}
 use Rattle.tokens_why.specs.declared.terminal.Terminal.TheVariants as t
 use Rattle.tokens_why.specs.declared.token.Token.{Token}
 use Rattle.tokens_why.proofs.KindLemmas.{terminal_of-kind_by}
@@ -146,7 +146,7 @@ module _ (a : Symbol) (i : ℕ) (is placed : Val a → Type 0) (write : Val a �
     stops = λ l. begins_not (take (n + 1) xs) (ap (run (a ∷ [])) (take_terminals (n + 1) xs) ∙ h.takes.stuck (rw (length_terminals xs) l));
   }
 
-  -- Whether one more token may stand at that place, as `scope` for a program's word.
+  -- Whether one more token may be at that place, as `scope` for a program's word.
   pub may_stand : (xs : List Lexeme) (other : Lexeme) (n : ℕ) (b : Bool) → AllProper xs → Proper other.terminal other.text → ends.IsFault (a ∷ []) (terminals xs) other.terminal n b → b ≡ true → Begins is write (take n xs ++ other ∷ [])
   may_stand xs other n b p q h e = let j = stack_of (run (a ∷ []) (take n (terminals xs) ++ other.terminal ∷ [])) (sym h.other_stands ∙ e) in
       taken_begins (take n xs ++ other ∷ []) j.0 (proper_one (take n xs) other (proper_take n xs p) q) (ap (run (a ∷ [])) (terminals_append (take n xs) (other ∷ []) ∙ ap (λ v. v ++ other.terminal ∷ []) (take_terminals n xs)) ∙ j.1)
@@ -159,7 +159,7 @@ module _ (a : Symbol) (i : ℕ) (is placed : Val a → Type 0) (write : Val a �
   not_taken xs n m e h l = none_accepted (take m xs) (ap (accepts (a ∷ [])) (take_terminals m xs) ∙ h m (subst (λ k. m ≤ k) (sym e) l))
 
   -- The longest tree ends where the stack may end for the last time.
-  pub longest_read : (xs : List Lexeme) (n : ℕ) → AllProper xs → ends.IsLongest (a ∷ []) (terminals xs) (length (terminals xs)) (Some n) → (v : Val a) × (read (take n xs) i false (a ∷ []) ≡ Some (v, tt)) × IsLongest is placed write xs v n
+  pub longest_read : (xs : List Lexeme) (n : ℕ) → AllProper xs → ends.IsLongest (a ∷ []) (terminals xs) (length (terminals xs)) (Some n) → (v : Val a) × (read (take n xs) i false (a ∷ []) ≡ Some (v, tt)) × IsLongestTree is placed write xs v n
   longest_read xs n p h = let r = read_accepted (take n xs) (ap (accepts (a ∷ [])) (take_terminals n xs) ∙ h.1) in (
     r.0,
     r.1,
@@ -170,7 +170,7 @@ module _ (a : Symbol) (i : ℕ) (is placed : Val a → Type 0) (write : Val a �
     },
   )
 
-  -- and no tree stands there where it never may end
+  -- and no tree is there where it never may end
   pub none_read : (xs : List Lexeme) → ends.IsLongest (a ∷ []) (terminals xs) (length (terminals xs)) None → (m : ℕ) → m ≤ length xs → IsNone is write (take m xs)
   none_read xs h m l = not_taken xs (length (terminals xs)) m (length_terminals xs) h l
 

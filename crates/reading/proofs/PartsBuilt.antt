@@ -1,5 +1,5 @@
 -- What is read as part of a declaration is right.
-use Rattle.reading.proofs.Common.{◌≡◌, ℕ, ◌+◌, Bool, true, false, List, [], ◌∷◌, ◌++◌, Option, Some, None, refl, sym, ap, ◌∙◌, subst, append_assoc, Name, Lexeme, Word, lx, mark, name, Called, form_list, form_row, form_tail, more_forms, no_forms, past, scoped, write_called, write_form, IsOwn, Op, bar_before, type_part, write, algebraic_tail, constructor_list, constructor_tail, other_members, param_row, variable_row, write_algebraic, write_member, write_param, AreAlgebraic, IsSymbol, IsTyped, PlacedAlgebraics, PlacedMembers, PlacedParams, PlacedTyped, own_op, AlgPart, FieldsPart, NamePart, ParamPart, UpperPart, behind_name, behind_paren, fields_of, name_names, name_types, new_algebraic, new_constructor, new_member, param, param_names, param_types, prop_called, scope_of, upper_type, extend, tmore_rows, pname_args, rows}
+use Rattle.reading.proofs.Common.{◌≡◌, ℕ, ◌+◌, Bool, true, false, List, [], ◌∷◌, ◌++◌, Option, Some, None, refl, sym, ap, ◌∙◌, subst, append_assoc, Name, Lexeme, Word, lx, mark, name, Called, form_list, form_row, form_tail, more_forms, no_forms, past, scoped, write_called, write_form, IsOwn, OperatorToken, bar_before, type_part, write, algebraic_tail, constructor_list, constructor_tail, other_members, param_row, variable_row, write_algebraic, write_member, write_param, AreAlgebraic, IsSymbolName, IsTypedParam, PlacedAlgebraics, PlacedMembers, PlacedParams, PlacedTyped, own_op, AlgPart, FieldsPart, NamePart, ParamPart, UpperPart, name_before, behind_paren, fields_of, name_names, name_types, new_algebraic, new_constructor, new_member, param, param_names, param_types, prop_called, scope_of, upper_type, extend, tmore_rows, pname_args, rows}
 use Rattle.tokens_why.specs.declared.terminal.Terminal.TheVariants as t
 use Rattle.grammar.specs.declared.symbols.Symbol.TheVariants as s
 use Rattle.reading.proofs.Reading.{past-append}
@@ -65,7 +65,7 @@ con_ok = (λ k i w xs vs p (ys, n, e, g). (ys, con_levels i (name i w) vs.0 refl
     ▸ tt
 
 -- names
-pub symbol_is : (b : Bool) (o : Op) → IsOwn (own_op b o) → IsSymbol (own_op b o)
+pub symbol_is : (b : Bool) (o : OperatorToken) → IsOwn (own_op b o) → IsSymbolName (own_op b o)
 symbol_is false o h = h
 symbol_is true o h = h
 
@@ -98,7 +98,7 @@ pub axioms_ok : AllRows s.Axioms (rows s.Axioms)
 axioms_ok = (λ k i w xs vs p g. (xs, tt, ap (λ v. lx t.Dot v ∷ xs) p, g), extend_ok s.Axioms s.Qid [] (λ v vs. Some v) (rows s.Qid) (λ k i xs v vs (ys, m, e, g). (ys, m, e, g)) qid_ok)
 
 -- parameters
-pub param_is : (i : ℕ) (q : ParamPart) → IsPparen (i + 1) q → IsTyped (param i q).names (param i q).of_type × PlacedTyped i (param i q).names (param i q).of_type × (write_param (param i q) ≡ mark t.LParen ∷ write_pparen q)
+pub param_is : (i : ℕ) (q : ParamPart) → IsPparen (i + 1) q → IsTypedParam (param i q).names (param i q).of_type × PlacedTyped i (param i q).names (param i q).of_type × (write_param (param i q) ≡ mark t.LParen ∷ write_pparen q)
 param_is i (param_names [] f) h = elim h.0 [ ]
 param_is i (param_names (n ∷ ns) f) h = (h.2.0, (h.1, h.2.1), refl)
 param_is i (param_types fs) h = ((tt, h.0), (refl, h.1), refl)
@@ -117,7 +117,7 @@ pub paren_is : (i : ℕ) (w : Word) (q : NamePart) → IsPname (i + 1) q → IsP
 paren_is i w (name_names ns f) h = ((tt, (refl, h.0), h.1), refl)
 paren_is i w (name_types ts fs) h = ((((tt, h.0), h.2.0), ((refl, refl, h.1), h.2.1)), ap (λ v. lx t.Lident w ∷ v) (append_assoc (form_row ts) (form_tail fs) (mark t.RParen ∷ [])))
 
-pub name_is : (i : ℕ) (w : Word) (q : NamePart) → IsPname (i + 1) q → IsPname i (behind_name i w q) × (write_pname (behind_name i w q) ≡ lx t.Lident w ∷ write_pname q)
+pub name_is : (i : ℕ) (w : Word) (q : NamePart) → IsPname (i + 1) q → IsPname i (name_before i w q) × (write_pname (name_before i w q) ≡ lx t.Lident w ∷ write_pname q)
 name_is i w (name_names ns f) h = (((refl, h.0), h.1), refl)
 name_is i w (name_types ts fs) h = (((tt, (tt, tt), h.0), ((refl, refl, tt), h.1), h.2), refl)
 

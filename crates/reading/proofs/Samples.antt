@@ -3,21 +3,21 @@ use Rattle.reading.proofs.Common.{◌≡◌, ℕ, ◌≤◌, List, [], ◌∷◌
 use Rattle.std.specs.Prelude.{codes}
 use Rattle.tokens_why.specs.declared.terminal.Terminal.TheVariants as t
 use Rattle.tokens_why.specs.declared.token.TokenKind.TheVariants as tk
-use Rattle.tokens_why.specs.Alphabet.{number}
+use Rattle.tokens_why.specs.Alphabet.{terminal_number}
 use Rattle.tokens_why.specs.Literal.{literal_value, greatest}
 use Rattle.tokens_why.specs.Reserved.{reserved_terminals, reserved_words}
 use Rattle.tokens_why.specs.Strings.{kind_of}
 use Rattle.tokens_why.specs.Terminals.{word_place}
 use Rattle.std.proofs.Common.{get_or}
 
--- in the order of the terminals; behind these stand the reserved words
+-- in the order of the terminals; after these stand the reserved words
 abbrev strings : List (List ℕ)
 strings = codes "x" ∷ codes "X" ∷ codes "_" ∷ codes "'a" ∷ codes "0" ∷ codes "(*)" ∷ codes "(" ∷ codes ")" ∷ codes "[" ∷ codes "]" ∷
     codes "{" ∷ codes "}" ∷ codes "," ∷ codes "." ∷ codes ":" ∷ codes ";" ∷ codes "|" ∷ codes "->" ∷ codes "<->" ∷ codes "/\\" ∷
     codes "&&" ∷ codes "\\/" ∷ codes "||" ∷ codes "=" ∷ codes "-" ∷ codes "<" ∷ codes "+" ∷ codes "*" ∷ codes "@" ∷ codes "!" ∷ []
 
 abbrev pub string : Terminal → List ℕ
-string x = get_or strings (number x) (get_or reserved_words (word_place reserved_terminals x) [])
+string x = get_or strings (terminal_number x) (get_or reserved_words (word_place reserved_terminals x) [])
 
 abbrev pub sample : Terminal → Lexeme
 sample x = lexeme_by (terminal_of (kind_by x)) (string x)

@@ -1,5 +1,5 @@
 -- What is read as a term is right.
-use Rattle.reading.proofs.Common.{◌≡◌, ℕ, ◌+◌, Bool, true, false, cond, List, [], ◌∷◌, ◌++◌, Option, Some, None, refl, sym, ap, ◌∙◌, subst, append_assoc, append-nil, nat_le, arith, Terminal, Symbol, and_left, and_right, Lexeme, Word, at, lx, mark, past, write_called, write_form, write_own, is_infix, is_operator, is_prefix, AreLevel, IsAtom, IsLevel, IsOwn, IsPlacedTree, MayBeMarked, Op, PlacedCommas, PlacedTrees, Tree, Trees, ends_open, more, none, op, prefixed, tight, write, write_op, write_row, write_tail, Chain, Closing, Minus, Paren, Scoped, attach, behind_minus, cast_to, closed, holds, name_of, named, named_by, nothing, operand, own_op, paren, scope_own, Row, Vals, extend, aminus_own, aminus_row, aop_row, aparen_own, atom_rows, expr_own, expr_rows, hminus_own, hminus_row, hop_row, hparen_own, link_row, not_rows, open_rows, opname_row, prefix_row, prim_rows, tail_rows, takes_op, rows, all_infix}
+use Rattle.reading.proofs.Common.{◌≡◌, ℕ, ◌+◌, Bool, true, false, cond, List, [], ◌∷◌, ◌++◌, Option, Some, None, refl, sym, ap, ◌∙◌, subst, append_assoc, append-nil, nat_le, arith, Terminal, Symbol, and_left, and_right, Lexeme, Word, at, lx, mark, past, write_called, write_form, write_own, is_infix, is_operator, is_prefix, AreLevel, IsAtom, IsLevel, IsOwn, IsPlacedTree, MayBeMarked, OperatorToken, PlacedCommas, PlacedTrees, SyntaxTree, SyntaxTrees, ends_open, more, none, op, prefixed, tight, write, write_op, write_row, write_tail, Chain, Closing, Minus, Paren, Scoped, attach, behind_minus, cast_to, closes_group, holds, dotted_name, named_operator, named_by, nothing, operand, own_op, paren, scope_own, ReadingRow, Vals, extend, aminus_own, aminus_row, aop_row, aparen_own, atom_rows, expr_own, expr_rows, hminus_own, hminus_row, hop_row, hparen_own, link_row, not_rows, open_rows, opname_row, prefix_row, prim_rows, tail_rows, takes_op, rows, all_infix}
 use Rattle.tokens_why.specs.declared.terminal.Terminal.TheVariants as t
 use Rattle.grammar.specs.declared.symbols.Symbol.TheVariants as s
 use Rattle.reading.proofs.Reading.{past-append}
@@ -13,19 +13,19 @@ pub own_is : (w : Word) (d : Option Scoped) → IsScoped d → IsOwn (scope_own 
 own_is w None h = tt
 own_is w (Some d) h = h
 
-pub own_writes : (i : ℕ) (w : Word) (d : Option Scoped) → write_called (name_of i (scope_own w d)) ≡ lx t.Uident w ∷ own_dots d
+pub own_writes : (i : ℕ) (w : Word) (d : Option Scoped) → write_called (dotted_name i (scope_own w d)) ≡ lx t.Uident w ∷ own_dots d
 own_writes i w None = refl
 own_writes i w (Some d) = refl
 
-pub op_own : (b : Bool) (o : Op) → (is_operator o.terminal ≡ true) × MayBeMarked o.terminal o.text → IsOwn (own_op b o)
+pub op_own : (b : Bool) (o : OperatorToken) → (is_operator o.terminal ≡ true) × MayBeMarked o.terminal o.text → IsOwn (own_op b o)
 op_own false o h = h
 op_own true o h = h
 
-pub op_writes : (b : Bool) (o : Op) → write_own (own_op b o) ≡ mark t.LParen ∷ write_op o ∷ opend b
+pub op_writes : (b : Bool) (o : OperatorToken) → write_own (own_op b o) ≡ mark t.LParen ∷ write_op o ∷ opend b
 op_writes false o = refl
 op_writes true o = refl
 
--- What stands in parentheses is a tree.
+-- What is in parentheses is a tree.
 pub record ParenTree (i : ℕ) (p : Paren) : Type 0 where
   pub level : IsLevel (paren i p)
   pub placed : IsPlacedTree i (paren i p)
@@ -35,21 +35,21 @@ pub record ParenTree (i : ℕ) (p : Paren) : Type 0 where
 
 pub paren_tree : (i : ℕ) (p : Paren) → IsParen (i + 1) p → ParenTree i p
 paren_tree i nothing h = record { level = tt; placed = (refl, tt); primary = refl; shut = refl; writes = refl }
-paren_tree i (named o b ts) h = record {
+paren_tree i (named_operator o b ts) h = record {
   level = (op_own b o (h.0.1, h.0.2), h.1);
   placed = (refl, refl, subst (λ n. PlacedTrees n ts) (sym (ap (past i) (op_writes b o))) h.2);
   primary = refl;
   shut = refl;
   writes = ap (λ v. v ++ write_row ts) (op_writes b o);
 }
-paren_tree i (holds e (closed es)) h = record { level = (h.0, h.2.0); placed = (refl, (h.1, h.2.1)); primary = refl; shut = refl; writes = ap (λ v. mark t.LParen ∷ v) (append_assoc (write e) (write_tail es) (mark t.RParen ∷ [])) }
+paren_tree i (holds e (closes_group es)) h = record { level = (h.0, h.2.0); placed = (refl, (h.1, h.2.1)); primary = refl; shut = refl; writes = ap (λ v. mark t.LParen ∷ v) (append_assoc (write e) (write_tail es) (mark t.RParen ∷ [])) }
 paren_tree i (holds e (cast_to f)) h = record { level = (h.0, h.2.0); placed = (refl, h.1, h.2.1); primary = refl; shut = refl; writes = refl }
 
 pub paren_atom : (i : ℕ) (p : Paren) → HasNoArgs p → IsAtom (paren i p)
 paren_atom i nothing h = tt
-paren_atom i (named o b none) h = tt
-paren_atom i (named o b (more e es)) h = cc
-paren_atom i (holds e (closed es)) h = tt
+paren_atom i (named_operator o b none) h = tt
+paren_atom i (named_operator o b (more e es)) h = cc
+paren_atom i (holds e (closes_group es)) h = tt
 paren_atom i (holds e (cast_to f)) h = tt
 
 pub prim_ok : AllRows s.Prim prim_rows
@@ -65,7 +65,7 @@ prim_ok = (λ k i w xs vs p (ys, q, e, g). (ys, ((tt, q.0), (refl, refl, q.1), r
 
 pub atom_ok : AllRows s.Atom atom_rows
 atom_ok = (λ k i w xs vs p g. (xs, (tt, (tt, tt), (refl, refl, tt)), refl, g))
-    ▸ (λ k i w xs vs p (ys, q, e, g). (ys, (tt, (own_is w vs.0 q, tt), (refl, refl, tt)), ap (λ v. lx t.Uident w ∷ v) e ∙ ap (λ v. v ++ ys) (sym (append-nil (write_called (name_of i (scope_own w vs.0))) ∙ own_writes i w vs.0)), subst (λ v. Good false k (past i v) ys vs.1) (sym (append-nil (write_called (name_of i (scope_own w vs.0))) ∙ own_writes i w vs.0)) g))
+    ▸ (λ k i w xs vs p (ys, q, e, g). (ys, (tt, (own_is w vs.0 q, tt), (refl, refl, tt)), ap (λ v. lx t.Uident w ∷ v) e ∙ ap (λ v. v ++ ys) (sym (append-nil (write_called (dotted_name i (scope_own w vs.0))) ∙ own_writes i w vs.0)), subst (λ v. Good false k (past i v) ys vs.1) (sym (append-nil (write_called (dotted_name i (scope_own w vs.0))) ∙ own_writes i w vs.0)) g))
     ▸ (λ k i w xs vs p g. (xs, (tt, (tt, tt), (refl, refl, tt)), ap (λ v. lx t.StarName v ∷ xs) p, g))
     ▸ (λ k i w xs vs p (ys, q, e, g). (let r = paren_tree i vs.0 q.0 in (ys, (paren_atom i vs.0 q.1, r.level, r.placed), ap (λ v. lx t.LParen v ∷ xs) p ∙ ap (λ v. mark t.LParen ∷ v) e ∙ ap (λ v. v ++ ys) (sym r.writes), subst (λ v. Good false k (past i v) ys vs.1) (sym r.writes) g)))
     ▸ (λ k i w xs vs p g. (xs, (tt, tt, refl), refl, g))
@@ -111,11 +111,11 @@ pub aop_ok : (o : Terminal) → is_operator o ≡ true → RowOk s.Aparen (aop_r
 aop_ok o h k i w xs vs p (ys, m, e, g) = (ys, (((refl, h, marked o w p), tt, tt), refl), ap (λ v. lx o w ∷ v) (e ∙ ap (λ v. v ++ ys) (sym (append-nil (opend vs.0)))), rw append-nil g)
 
 -- A prefix operator before what may be its operand or end its name.
-pub record MinusParen (i : ℕ) (o : Op) (n : Minus) : Type 0 where
+pub record MinusParen (i : ℕ) (o : OperatorToken) (n : Minus) : Type 0 where
   pub is : IsParen i (behind_minus o n)
   pub writes : write_paren (behind_minus o n) ≡ write_op o ∷ write_minus n
 
-pub minus_paren : (i : ℕ) (o : Op) (n : Minus) → is_prefix o.terminal ≡ true → is_operator o.terminal ≡ true → MayBeMarked o.terminal o.text → o.at ≡ i → IsMinus (i + 1) n → MinusParen i o n
+pub minus_paren : (i : ℕ) (o : OperatorToken) (n : Minus) → is_prefix o.terminal ≡ true → is_operator o.terminal ≡ true → MayBeMarked o.terminal o.text → o.at ≡ i → IsMinus (i + 1) n → MinusParen i o n
 minus_paren i o (named_by b ts) x y z a h = record { is = ((a, y, z), h.0, h.1); writes = refl }
 minus_paren i o (operand e c z) x y w a h = by_open (ends_open e) refl h.3
   where
@@ -135,14 +135,14 @@ minus_paren i o (operand e c z) x y w a h = by_open (ends_open e) refl h.3
 pub hminus_row_ok : (o : Terminal) → is_prefix o ≡ true → is_operator o ≡ true → RowOk s.Hparen (hminus_row o)
 hminus_row_ok o x y k i w xs vs p (ys, m, e, g) = let r = minus_paren i (op i o w) vs.0 x y (marked o w p) refl m in (ys, r.is, ap (λ v. lx o w ∷ v) e ∙ ap (λ v. v ++ ys) (sym r.writes), subst (λ v. Good false k (past i v) ys vs.1) (sym r.writes) g)
 
-pub no_args_of : (o : Op) (n : Minus) → HasNoneBy n → HasNoArgs (behind_minus o n)
+pub no_args_of : (o : OperatorToken) (n : Minus) → HasNoneBy n → HasNoArgs (behind_minus o n)
 no_args_of o (named_by b ts) h = h
 no_args_of o (operand e c z) h = tt
 
 pub aminus_row_ok : (o : Terminal) → is_prefix o ≡ true → is_operator o ≡ true → RowOk s.Aparen (aminus_row o)
 aminus_row_ok o x y k i w xs vs p (ys, m, e, g) = let r = minus_paren i (op i o w) vs.0 x y (marked o w p) refl m.0 in (ys, (r.is, no_args_of (op i o w) vs.0 m.1), ap (λ v. lx o w ∷ v) e ∙ ap (λ v. v ++ ys) (sym r.writes), subst (λ v. Good false k (past i v) ys vs.1) (sym r.writes) g)
 
-pub append_ok : (s : Symbol) (as_ bs : List (Row s)) → AllRows s as_ → AllRows s bs → AllRows s (as_ ++ bs)
+pub append_ok : (s : Symbol) (as_ bs : List (ReadingRow s)) → AllRows s as_ → AllRows s bs → AllRows s (as_ ++ bs)
 append_ok s [] bs h i = i
 append_ok s (a ∷ as_) bs h i = (h.0, append_ok s as_ bs h.1 i)
 
@@ -152,7 +152,7 @@ expr_ok m = append_ok (s.Expr m) (expr_own m (nat_le m 3)) (extend (s.Expr m) s.
     (extend_ok (s.Expr m) s.Prim (s.Tail m 9 ∷ []) (λ v vs. attach v vs.0) prim_rows
     (λ k i xs v vs (ys, q, e, g). attach_good m i 9 k v vs.0 xs ys vs.1 q.0 q.1 (omega (arith, q.2)) (λ z. omega (arith, q.2)) e (subst (λ b. TailPart b m 9 (past i (write v)) vs.0 ys (λ d j zs. Good d k j zs vs.1)) (sym q.3) (tail_part false m 9 (past i (write v)) vs.0 ys (λ d j zs. Good d k j zs vs.1) g))) prim_ok)
 
-pub holds_ok : (k : List Symbol) (i : ℕ) (xs : List Lexeme) (e : Tree) (vs : Closing × Vals k) → Good false (s.Expr 0 ∷ s.GroupRest ∷ k) i xs (e, vs) → Good false (s.Hparen ∷ k) i xs (holds e vs.0, vs.1)
+pub holds_ok : (k : List Symbol) (i : ℕ) (xs : List Lexeme) (e : SyntaxTree) (vs : Closing × Vals k) → Good false (s.Expr 0 ∷ s.GroupRest ∷ k) i xs (e, vs) → Good false (s.Hparen ∷ k) i xs (holds e vs.0, vs.1)
 holds_ok k i xs e vs (ys, q, x, g) = let r = g in (r.0, (q.0, q.1, r.1), x ∙ ap (λ v. write e ++ v) r.2 ∙ sym (append_assoc (write e) (write_closing vs.0) r.0), rw past-append r.3)
 
 pub hparen_ok : AllRows s.Hparen (rows s.Hparen)
@@ -165,7 +165,7 @@ aparen_ok = append_ok s.Aparen aparen_own (extend s.Aparen (s.Expr 0) (s.GroupRe
     (λ k i w xs vs p g. (xs, (tt, tt), ap (λ v. lx t.RParen v ∷ xs) p, g), (aop_ok t.Equal refl, (aop_ok t.Operator1 refl, (aop_ok t.Operator2 refl, (aop_ok t.Operator3 refl, (aop_ok t.Operator4 refl, (aminus_row_ok t.Minus refl refl, (aminus_row_ok t.PrefixOperator refl refl, tt))))))))
     (extend_ok s.Aparen (s.Expr 0) (s.GroupRest ∷ []) (λ v vs. holds v vs.0) (expr_rows 0) (λ k i xs v vs g. (let r = holds_ok k i xs v vs g in (r.0, (r.1, tt), r.2, r.3))) (expr_ok 0))
 
-pub operand_ok : (k : List Symbol) (i : ℕ) (xs : List Lexeme) (e : Tree) (vs : Chain × (Closing × Vals k)) → Good false (s.Expr 8 ∷ s.Tail 0 8 ∷ s.GroupRest ∷ k) i xs (e, vs) → Good false (s.Hminus ∷ k) i xs (operand e vs.0 vs.1.0, vs.1.1)
+pub operand_ok : (k : List Symbol) (i : ℕ) (xs : List Lexeme) (e : SyntaxTree) (vs : Chain × (Closing × Vals k)) → Good false (s.Expr 8 ∷ s.Tail 0 8 ∷ s.GroupRest ∷ k) i xs (e, vs) → Good false (s.Hminus ∷ k) i xs (operand e vs.0 vs.1.0, vs.1.1)
 operand_ok k i xs e vs (ys, q, x, g) = let r = tail_part (ends_open e) 0 8 (past i (write e)) vs.0 ys (λ d j zs. Good d (s.GroupRest ∷ k) j zs vs.1) g in
     let f = r.behind in (
       f.0,
@@ -184,7 +184,7 @@ aminus_ok = append_ok s.Aminus aminus_own (extend s.Aminus (s.Expr 8) (s.Tail 0 
     (λ k i w xs vs p g. (xs, ((tt, tt), refl), ap (λ v. lx t.RParen v ∷ xs) p, g), (λ k i w xs vs p (ys, m, e, g). (ys, ((tt, tt), refl), ap (λ v. lx t.Wild v ∷ xs) p ∙ ap (λ v. mark t.Wild ∷ v) (e ∙ ap (λ v. lx t.RParen v ∷ ys) m.1), g), tt))
     (extend_ok s.Aminus (s.Expr 8) (s.Tail 0 8 ∷ s.GroupRest ∷ []) (λ v vs. operand v vs.0 vs.1.0) (expr_rows 8) (λ k i xs v vs g. (let r = operand_ok k i xs v vs g in (r.0, (r.1, tt), r.2, r.3))) (expr_ok 8))
 
-pub listed_ok : (k : List Symbol) (i : ℕ) (xs : List Lexeme) (e : Tree) (vs : Trees × Vals k) → Good false (s.Expr 0 ∷ s.More ∷ k) (i + 1) xs (e, vs) → (zs : List Lexeme) × (AreLevel (more e vs.0) × PlacedCommas (i + 1) (more e vs.0)) × (mark t.Comma ∷ xs ≡ (write_tail (more e vs.0) ++ (mark t.RParen ∷ [])) ++ zs) × Good false k (past i (write_tail (more e vs.0) ++ (mark t.RParen ∷ []))) zs vs.1
+pub listed_ok : (k : List Symbol) (i : ℕ) (xs : List Lexeme) (e : SyntaxTree) (vs : SyntaxTrees × Vals k) → Good false (s.Expr 0 ∷ s.More ∷ k) (i + 1) xs (e, vs) → (zs : List Lexeme) × (AreLevel (more e vs.0) × PlacedCommas (i + 1) (more e vs.0)) × (mark t.Comma ∷ xs ≡ (write_tail (more e vs.0) ++ (mark t.RParen ∷ [])) ++ zs) × Good false k (past i (write_tail (more e vs.0) ++ (mark t.RParen ∷ []))) zs vs.1
 listed_ok k i xs e vs (ys, q, x, g) = let r = g in
     (r.0, ((q.0, r.1.0), (q.1, r.1.1)), ap (λ v. mark t.Comma ∷ v) (x ∙ ap (λ v. write e ++ v) r.2 ∙ sym (regroup (write e) (write_tail vs.0) (mark t.RParen ∷ []) r.0)), subst (λ n. Good false k n r.0 vs.1) (sym (ap (past (i + 1)) (append_assoc (write e) (write_tail vs.0) (mark t.RParen ∷ [])) ∙ past-append (write e) (write_tail vs.0 ++ (mark t.RParen ∷ [])) (i + 1))) r.3)
 

@@ -1,5 +1,5 @@
 -- What the rules of branches, `let` and quantifiers may be read as, and the tokens of that.
-use Rattle.reading.proofs.Common.{ℕ, ◌+◌, List, [], ◌∷◌, ◌++◌, Option, Lexeme, mark, AreForms, Form, Forms, PlacedList, form_tail, past, patterns, AreAlternatives, AreBinders, AreBranches, AreLevel, AreTerms, Branches, HasBranch, IsLevel, IsPlacedTree, IsTrigger, IsTypePart, PlacedAlternatives, PlacedBinders, PlacedBranches, PlacedCommas, PlacedNames, PlacedPart, PlacedTrigger, Tree, Trigger, alternative_tail, bar_before, binder_tail, name_row, terms_tail, type_part, write, write_branches, write_others, write_tail, write_trigger, ArmPart, BinderPart, BoundPart, BranchPart, CasesPart, LetPart, TermsPart}
+use Rattle.reading.proofs.Common.{ℕ, ◌+◌, List, [], ◌∷◌, ◌++◌, Option, Lexeme, mark, AreForms, SyntaxForm, SyntaxForms, PlacedList, form_tail, past, pattern_forms, AreAlternatives, AreBinders, AreBranches, AreLevel, AreTerms, Branches, HasBranch, IsLevel, IsPlacedTree, IsTrigger, IsTypePart, PlacedAlternatives, PlacedBinders, PlacedBranches, PlacedCommas, PlacedNames, PlacedPart, PlacedTrigger, SyntaxTree, SyntaxTrigger, alternative_tail, bar_before, binder_tail, name_row, terms_tail, type_part, write, write_branches, write_others, write_tail, write_trigger, ArmPart, BinderPart, BoundPart, BranchPart, CasesPart, LetPart, TermsPart}
 use Rattle.tokens_why.specs.declared.terminal.Terminal.TheVariants as t
 
 abbrev pub write_arm : ArmPart → List Lexeme
@@ -23,14 +23,14 @@ write_names b = name_row b.names ++ (type_part b.of_type ++ write_bound b.bound)
 abbrev pub write_terms_part : TermsPart → List Lexeme
 write_terms_part p = terms_tail p.terms p.bars ++ (mark t.RBrack ∷ mark t.Dot ∷ write p.body)
 
-abbrev pub IsArmBody : ℕ → Tree → Branches → Type 0
+abbrev pub IsArmBody : ℕ → SyntaxTree → Branches → Type 0
 IsArmBody i e bs = IsLevel e × IsPlacedTree (i + 1) e × AreBranches bs × PlacedBranches (past (i + 1) (write e) + 1) bs
 
-abbrev pub IsArmRest : ℕ → List Forms → Tree → Branches → Type 0
+abbrev pub IsArmRest : ℕ → List SyntaxForms → SyntaxTree → Branches → Type 0
 IsArmRest i pss e bs = AreAlternatives pss × PlacedAlternatives (i + 1) pss × IsArmBody (past i (alternative_tail pss)) e bs
 
 abbrev pub IsArm : ℕ → ArmPart → Type 0
-IsArm i a = AreForms patterns a.patterns × PlacedList (i + 1) a.patterns × IsArmRest (past i (form_tail a.patterns)) a.alternatives a.body a.others
+IsArm i a = AreForms pattern_forms a.patterns × PlacedList (i + 1) a.patterns × IsArmRest (past i (form_tail a.patterns)) a.alternatives a.body a.others
 
 abbrev pub IsBranch : ℕ → BranchPart → Type 0
 IsBranch i b = HasBranch b.branches × AreBranches b.branches × PlacedBranches (past i (bar_before b.bar)) b.branches
@@ -38,19 +38,19 @@ IsBranch i b = HasBranch b.branches × AreBranches b.branches × PlacedBranches 
 abbrev pub IsCases : ℕ → CasesPart → Type 0
 IsCases i c = AreLevel c.others × PlacedCommas (i + 1) c.others × IsBranch (past i (write_tail c.others) + 1) (record { bar = c.bar; branches = c.branches })
 
-abbrev pub IsLetRest : ℕ → Tree → Tree → Type 0
+abbrev pub IsLetRest : ℕ → SyntaxTree → SyntaxTree → Type 0
 IsLetRest i e f = IsLevel e × IsPlacedTree (i + 1) e × IsLevel f × IsPlacedTree (past (i + 1) (write e) + 1) f
 
 abbrev pub IsLet : ℕ → LetPart → Type 0
-IsLet i l = AreForms patterns l.patterns × PlacedList (i + 1) l.patterns × IsLetRest (past i (form_tail l.patterns)) l.value l.body
+IsLet i l = AreForms pattern_forms l.patterns × PlacedList (i + 1) l.patterns × IsLetRest (past i (form_tail l.patterns)) l.value l.body
 
-abbrev pub IsBoundRest : ℕ → Trigger → Tree → Type 0
+abbrev pub IsBoundRest : ℕ → SyntaxTrigger → SyntaxTree → Type 0
 IsBoundRest i g e = IsTrigger g × PlacedTrigger i g × IsLevel e × IsPlacedTree (past i (write_trigger g) + 1) e
 
 abbrev pub IsBound : ℕ → BoundPart → Type 0
 IsBound i b = AreBinders b.others × PlacedBinders (i + 1) b.others × IsBoundRest (past i (binder_tail b.others)) b.trigger b.body
 
-abbrev pub IsTyping : ℕ → Option Form → BoundPart → Type 0
+abbrev pub IsTyping : ℕ → Option SyntaxForm → BoundPart → Type 0
 IsTyping i ty b = IsTypePart ty × PlacedPart i ty × IsBound (past i (type_part ty)) b
 
 abbrev pub IsNames : ℕ → BinderPart → Type 0

@@ -1,5 +1,5 @@
 -- What is read has the tokens that it is read from.
-use Rattle.reading.proofs.Common.{◌≡◌, ℕ, ◌+◌, Bool, true, false, ◌&&◌, cond, List, [], ◌∷◌, ◌++◌, Option, Some, None, refl, sym, ap, ◌∙◌, subst, Terminal, Symbol, same, operators, is_seal, is_tail, sealed, same_true, Lexeme, lx, no_forms, none, stop, fields_of, Row, Val, Vals, rows, at_end, blank, by_row, find, over, read, with_blank}
+use Rattle.reading.proofs.Common.{◌≡◌, ℕ, ◌+◌, Bool, true, false, ◌&&◌, cond, List, [], ◌∷◌, ◌++◌, Option, Some, None, refl, sym, ap, ◌∙◌, subst, Terminal, Symbol, same, operators, is_seal, is_tail, sealed, same_true, Lexeme, lx, no_forms, none, stop, fields_of, ReadingRow, Val, Vals, rows, at_end, blank, by_row, find, values_over, read, with_blank}
 use Rattle.grammar.specs.declared.symbols.Symbol.TheVariants as s
 use Rattle.reading.proofs.Good.{AllProper, AllRows, Good, Is, Piece, Proper, RowOk, flag, hushed, writes}
 use Rattle.reading.proofs.FormsBuilt.{as_ok, atype_ok, pat_ok, patom_ok, patoms_ok, pmore_ok, ptuple_ok, qlid_ok, quids_ok, targs_ok, tmore_ok, ttuple_ok, type_ok}
@@ -140,11 +140,11 @@ end_good [] b i vs h = refl
 end_good (s ∷ k) b i vs h = let w = both s k (blank s) (at_end k) vs h in
     passed_good b s k i [] vs w.value (end_good k (cond (hushed b s) true (is_seal s)) i vs.1 w.others)
 
-pub record Found (s : Symbol) (r : Row s) (x : Terminal) : Type 0 where
+pub record Found (s : Symbol) (r : ReadingRow s) (x : Terminal) : Type 0 where
   pub first : r.first ≡ x
   pub ok : RowOk s r
 
-pub found : (s : Symbol) (rs : List (Row s)) (x : Terminal) (r : Row s) → AllRows s rs → find rs x ≡ Some r → Found s r x
+pub found : (s : Symbol) (rs : List (ReadingRow s)) (x : Terminal) (r : ReadingRow s) → AllRows s rs → find rs x ≡ Some r → Found s r x
 found s [] x r a h = cc
 found s (q ∷ rs) x r a h = by_test (same q.first x) refl h (λ e. found s rs x r a.1 e)
   where
@@ -152,22 +152,22 @@ found s (q ∷ rs) x r a h = by_test (same q.first x) refl h (λ e. found s rs x
     by_test true e g f = let i : q ≡ r = cc in subst (λ v. Found s v x) i (record { first = same_true q.first x e; ok = a.0 })
     by_test false e g f = f g
 
-pub over_good : (xs : List Lexeme) (x : Lexeme) (i : ℕ) → Proper x.terminal x.text → ((k : List Symbol) (us : Vals k) → read xs (i + 1) false k ≡ Some us → Good false k (i + 1) xs us) → (b : Bool) (k : List Symbol) (vs : Vals k) → over (λ k'. read xs (i + 1) false k') i x b k ≡ Some vs → Good b k i (x ∷ xs) vs
+pub over_good : (xs : List Lexeme) (x : Lexeme) (i : ℕ) → Proper x.terminal x.text → ((k : List Symbol) (us : Vals k) → read xs (i + 1) false k ≡ Some us → Good false k (i + 1) xs us) → (b : Bool) (k : List Symbol) (vs : Vals k) → values_over (λ k'. read xs (i + 1) false k') i x b k ≡ Some vs → Good b k i (x ∷ xs) vs
 over_good xs x i p f b [] vs h = cc
 over_good xs x i p f b (s ∷ k) vs h = by_seal (sealed b s) (hush b s) h (λ c us e. over_good xs x i p f c k us e)
   where
-    by_row_found : (o : Option (Row s)) → find (rows s) x.terminal ≡ o → hushed b s ≡ false → by_row s k (λ k'. read xs (i + 1) false k') i x.text o (with_blank s k (blank s) (over (λ k'. read xs (i + 1) false k') i x (is_seal s) k)) ≡ Some vs → ((c : Bool) (us : Vals k) → over (λ k'. read xs (i + 1) false k') i x c k ≡ Some us → Good c k i (x ∷ xs) us) → Good b (s ∷ k) i (x ∷ xs) vs
+    by_row_found : (o : Option (ReadingRow s)) → find (rows s) x.terminal ≡ o → hushed b s ≡ false → by_row s k (λ k'. read xs (i + 1) false k') i x.text o (with_blank s k (blank s) (values_over (λ k'. read xs (i + 1) false k') i x (is_seal s) k)) ≡ Some vs → ((c : Bool) (us : Vals k) → values_over (λ k'. read xs (i + 1) false k') i x c k ≡ Some us → Good c k i (x ∷ xs) us) → Good b (s ∷ k) i (x ∷ xs) vs
     by_row_found (Some r) e n g q = let m = unmapped (λ us. r.act k i x.text us) (read xs (i + 1) false (r.behind k)) vs g in
         let d = found s (rows s) x.terminal r (all_ok s) e in
         subst (λ v. Piece (hushed b s) s (λ c j ys. Good c k j ys v.1) i (x ∷ xs) v.0) m.2
         (subst (λ v. Piece v s (λ c j ys. Good c k j ys (r.act k i x.text m.0).1) i (x ∷ xs) (r.act k i x.text m.0).0) (hush false s ∙ sym n)
         (subst (λ y. Good false (s ∷ k) i (lx y x.text ∷ xs) (r.act k i x.text m.0)) d.first
         (d.ok k i x.text xs m.0 (subst (λ y. Proper y x.text) (sym d.first) p) (f (r.behind k) m.0 m.1))))
-    by_row_found None e n g q = let w = both s k (blank s) (over (λ k'. read xs (i + 1) false k') i x (is_seal s) k) vs g in
+    by_row_found None e n g q = let w = both s k (blank s) (values_over (λ k'. read xs (i + 1) false k') i x (is_seal s) k) vs g in
         passed_good b s k i (x ∷ xs) vs w.value (subst (λ v. Good (cond v true (is_seal s)) k i (x ∷ xs) vs.1) (sym n) (q (is_seal s) vs.1 w.others))
 
-    by_seal : (v : Bool) → hushed b s ≡ v → cond v (with_blank s k (blank s) (over (λ k'. read xs (i + 1) false k') i x true k)) (by_row s k (λ k'. read xs (i + 1) false k') i x.text (find (rows s) x.terminal) (with_blank s k (blank s) (over (λ k'. read xs (i + 1) false k') i x (is_seal s) k))) ≡ Some vs → ((c : Bool) (us : Vals k) → over (λ k'. read xs (i + 1) false k') i x c k ≡ Some us → Good c k i (x ∷ xs) us) → Good b (s ∷ k) i (x ∷ xs) vs
-    by_seal true e g q = let w = both s k (blank s) (over (λ k'. read xs (i + 1) false k') i x true k) vs g in
+    by_seal : (v : Bool) → hushed b s ≡ v → cond v (with_blank s k (blank s) (values_over (λ k'. read xs (i + 1) false k') i x true k)) (by_row s k (λ k'. read xs (i + 1) false k') i x.text (find (rows s) x.terminal) (with_blank s k (blank s) (values_over (λ k'. read xs (i + 1) false k') i x (is_seal s) k))) ≡ Some vs → ((c : Bool) (us : Vals k) → values_over (λ k'. read xs (i + 1) false k') i x c k ≡ Some us → Good c k i (x ∷ xs) us) → Good b (s ∷ k) i (x ∷ xs) vs
+    by_seal true e g q = let w = both s k (blank s) (values_over (λ k'. read xs (i + 1) false k') i x true k) vs g in
         passed_good b s k i (x ∷ xs) vs w.value (subst (λ v. Good (cond v true (is_seal s)) k i (x ∷ xs) vs.1) (sym e) (q true vs.1 w.others))
     by_seal false e g q = by_row_found (find (rows s) x.terminal) refl e g q
 

@@ -6,7 +6,7 @@ use Rattle.tokens_why.specs.declared.terminal.Terminal.TheVariants as t
 abbrev pub from : List Lexeme → ℕ → List Lexeme
 from xs i = drop i xs
 
--- what stands where no token does: a word with which no rule begins
+-- what is where no token does: a word with which no rule begins
 abbrev pub nowhere : Lexeme
 nowhere = mark t.OtherWord
 

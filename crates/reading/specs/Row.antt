@@ -1,43 +1,43 @@
 -- What each symbol is read as, and the rows that read it.
 use Rattle.std.specs.Prelude.{◌++◌}
-use Rattle.reading.specs.Common.{Bool, Option, refl, sym, ◌∙◌, append_assoc, Terminal, Symbol, Name, Word, Called, Form, Forms, Branches, Tree, Trees, Path, Decls, Element, Member, Param, Theory}
+use Rattle.reading.specs.Common.{Bool, Option, refl, sym, ◌∙◌, append_assoc, Terminal, Symbol, Name, Word, Called, SyntaxForm, SyntaxForms, Branches, SyntaxTree, SyntaxTrees, Path, SyntaxDeclarations, Element, Member, ParamGroup, SyntaxTheory}
 use Rattle.std.proofs.Common.{◌≡◌, ℕ, List, [], ◌∷◌}
 use Rattle.grammar.specs.declared.symbols.Symbol.TheVariants as s
-use Rattle.reading.specs.Parts.{ArmPart, BinderPart, BoundPart, BranchPart, CasesPart, Chain, Closing, Dotted, LetPart, Minus, OpName, Paren, Scoped, TermsPart}
+use Rattle.reading.specs.Parts.{ArmPart, BinderPart, BoundPart, BranchPart, CasesPart, Chain, Closing, Dotted, LetPart, Minus, OperatorName, Paren, Scoped, TermsPart}
 use Rattle.reading.specs.DeclParts.{AlgPart, BodyPart, ClausePart, ClausesPart, ClonedPart, ConPart, FieldsPart, MemberPart, NamePart, ParamPart, TvarsPart, TypePart, UpperPart, UsedPart, VarsPart}
 
 -- what a symbol is read as
 abbrev pub Val : Symbol → Type 0
 Val (s.Take x) = Name
 Val s.Qlid = Dotted
-Val s.TypeOf = Form
-Val s.Atype = Form
-Val s.Targs = Forms
-Val s.Ttuple = Forms
-Val s.Tmore = Forms
+Val s.TypeOf = SyntaxForm
+Val s.Atype = SyntaxForm
+Val s.Targs = SyntaxForms
+Val s.Ttuple = SyntaxForms
+Val s.Tmore = SyntaxForms
 Val s.Quids = Option Dotted
-Val s.Pat = Form
-Val s.Patom = Form
-Val s.Patoms = Forms
-Val s.Ptuple = Forms
-Val s.Pmore = Forms
+Val s.Pat = SyntaxForm
+Val s.Patom = SyntaxForm
+Val s.Patoms = SyntaxForms
+Val s.Ptuple = SyntaxForms
+Val s.Pmore = SyntaxForms
 Val s.AsPart = Option Name
-Val (s.Expr m) = Tree
+Val (s.Expr m) = SyntaxTree
 Val (s.Tail m u) = Chain
-Val s.Prim = Tree
-Val s.Atom = Tree
-Val s.Args = Trees
+Val s.Prim = SyntaxTree
+Val s.Atom = SyntaxTree
+Val s.Args = SyntaxTrees
 Val s.Scoped = Option Scoped
 Val s.Qhead = Scoped
-Val s.Opname = OpName
+Val s.Opname = OperatorName
 Val s.Opend = Bool
 Val s.Hparen = Paren
 Val s.Aparen = Paren
 Val s.Hminus = Minus
 Val s.Aminus = Minus
 Val s.GroupRest = Closing
-Val s.More = Trees
-Val s.OpenForm = Tree
+Val s.More = SyntaxTrees
+Val s.OpenForm = SyntaxTree
 Val s.Scrutinees = CasesPart
 Val s.Branch = BranchPart
 Val s.Arm = ArmPart
@@ -46,8 +46,8 @@ Val s.Letpats = LetPart
 Val s.Binder = BinderPart
 Val s.Binders = BoundPart
 Val s.Trigger = TermsPart
-Val s.File = List Theory
-Val s.Decls = Decls
+Val s.File = List SyntaxTheory
+Val s.Decls = SyntaxDeclarations
 Val s.Tvars = TvarsPart
 Val s.Typedef = TypePart
 Val s.Upper = UpperPart
@@ -56,13 +56,13 @@ Val s.Algvars = AlgPart
 Val s.Con = ConPart
 Val s.Op = Called
 Val s.Ident = Called
-Val s.Params = List Param
+Val s.Params = List ParamGroup
 Val s.Pparen = ParamPart
 Val s.Pname = NamePart
 Val s.Body = BodyPart
 Val s.Members = List Member
 Val s.Member = MemberPart
-Val s.Value = Option Tree
+Val s.Value = Option SyntaxTree
 Val s.Clause = ClausePart
 Val s.Clauses = ClausesPart
 Val s.Used = UsedPart
@@ -91,24 +91,24 @@ abbrev pub back : (ss k : List Symbol) → Vals (ss ++ k) → Vals k
 back [] k vs = vs
 back (s ∷ ss) k vs = back ss k vs.1
 
--- A row reads its token, number i, and the values of what stands behind it as a value of the rule.
-pub record Row (s : Symbol) : Type 0 where
+-- A row reads its token, number i, and the values of what comes after it as a value of the rule.
+pub record ReadingRow (s : Symbol) : Type 0 where
   pub first : Terminal
   pub behind : List Symbol → List Symbol
   pub symbols : List Symbol
   pub flat : (k : List Symbol) → behind k ≡ symbols ++ k
   pub act : (k : List Symbol) → ℕ → Word → Vals (behind k) → Val s × Vals k
 
-abbrev pub row : (s : Symbol) → Terminal → (ss : List Symbol) → (ℕ → Word → Vals ss → Val s) → Row s
+abbrev pub row : (s : Symbol) → Terminal → (ss : List Symbol) → (ℕ → Word → Vals ss → Val s) → ReadingRow s
 row s x ss f = record { first = x; behind = λ k. ss ++ k; symbols = ss; flat = λ k. refl; act = λ k i w vs. (f i w (front ss k vs), back ss k vs) }
 
--- What another rule reads, and symbols behind it.
-abbrev pub then_row : (s a : Symbol) (ss : List Symbol) → (Val a → Vals ss → Val s) → Row a → Row s
+-- What another rule reads, and symbols after it.
+abbrev pub then_row : (s a : Symbol) (ss : List Symbol) → (Val a → Vals ss → Val s) → ReadingRow a → ReadingRow s
 then_row s a ss f r = record { first = r.first; behind = λ k. r.behind (ss ++ k); symbols = r.symbols ++ ss; flat = λ k. r.flat (ss ++ k) ∙ sym (append_assoc r.symbols ss k); act = λ k i w vs. joined k (r.act (ss ++ k) i w vs) }
   where
     joined : (k : List Symbol) → Val a × Vals (ss ++ k) → Val s × Vals k
     joined k v = (f v.0 (front ss k v.1), back ss k v.1)
 
-abbrev pub extend : (s a : Symbol) (ss : List Symbol) → (Val a → Vals ss → Val s) → List (Row a) → List (Row s)
+abbrev pub extend : (s a : Symbol) (ss : List Symbol) → (Val a → Vals ss → Val s) → List (ReadingRow a) → List (ReadingRow s)
 extend s a ss f [] = []
 extend s a ss f (r ∷ rs) = then_row s a ss f r ∷ extend s a ss f rs

@@ -33,7 +33,7 @@ pub record IsOnly {V : Type 0} (is stands : V → Type 0) (write : V → List Le
   pub placed : stands v
   pub only : (w : V) → IsOf is write xs w → stands w → w ≡ v
 
--- The tokens of some right tree begin with these; behind them stand tokens that a text can have.
+-- The tokens of some right tree begin with these; after them stand tokens that a text can have.
 pub record Begins {V : Type 0} (is : V → Type 0) (write : V → List Lexeme) (xs : List Lexeme) : Type 0 where
   pub tree : V
   pub behind : List Lexeme
@@ -49,7 +49,7 @@ pub record IsLeastFault {V : Type 0} (is : V → Type 0) (write : V → List Lex
   pub stops : n < length xs → Begins is write (take (n + 1) xs) → ⊥
 
 -- the longest of the trees whose tokens these begin with
-pub record IsLongest {V : Type 0} (is stands : V → Type 0) (write : V → List Lexeme) (xs : List Lexeme) (v : V) (n : ℕ) : Type 0 where
+pub record IsLongestTree {V : Type 0} (is stands : V → Type 0) (write : V → List Lexeme) (xs : List Lexeme) (v : V) (n : ℕ) : Type 0 where
   pub high : n ≤ length xs
   pub only : IsOnly is stands write (take n xs) v
   pub longest : (m : ℕ) → n < m → m ≤ length xs → IsNone is write (take m xs)

@@ -3,7 +3,7 @@ use Rattle.std.specs.Prelude.{◌+◌}
 use Rattle.reading.specs.Common.{Bool, true, cond, Option, option_map, Terminal, Symbol, Word, Lexeme, no_forms, none, same}
 use Rattle.std.proofs.Common.{ℕ, false, List, [], ◌∷◌, Some, None}
 use Rattle.reading.specs.Parts.{nothing, stop}
-use Rattle.reading.specs.Row.{Row, Val, Vals}
+use Rattle.reading.specs.Row.{ReadingRow, Val, Vals}
 use Rattle.reading.specs.DeclParts.{fields_of}
 use Rattle.grammar.specs.Machine.{is_seal, sealed}
 use Rattle.reading.specs.Rows.{rows}
@@ -34,7 +34,7 @@ blank s.Elems = Some []
 blank s.Qids = Some None
 blank _ = None
 
-abbrev pub find : {s : Symbol} → List (Row s) → Terminal → Option (Row s)
+abbrev pub find : {s : Symbol} → List (ReadingRow s) → Terminal → Option (ReadingRow s)
 find [] x = None
 find (r ∷ rs) x = cond (same r.first x) (Some r) (find rs x)
 
@@ -43,13 +43,13 @@ with_blank s k (Some v) (Some vs) = Some (v, vs)
 with_blank s k None r = None
 with_blank s k (Some v) None = None
 
-abbrev pub by_row : (s : Symbol) (k : List Symbol) → ((k : List Symbol) → Option (Vals k)) → ℕ → Word → Option (Row s) → Option (Val s × Vals k) → Option (Val s × Vals k)
+abbrev pub by_row : (s : Symbol) (k : List Symbol) → ((k : List Symbol) → Option (Vals k)) → ℕ → Word → Option (ReadingRow s) → Option (Val s × Vals k) → Option (Val s × Vals k)
 by_row s k rest i w (Some r) other = option_map (λ vs. r.act k i w vs) (rest (r.behind k))
 by_row s k rest i w None other = other
 
-abbrev pub over : ((k : List Symbol) → Option (Vals k)) → ℕ → Lexeme → Bool → (k : List Symbol) → Option (Vals k)
-over rest i x b [] = None
-over rest i x b (s ∷ k) = cond (sealed b s) (with_blank s k (blank s) (over rest i x true k)) (by_row s k rest i x.text (find (rows s) x.terminal) (with_blank s k (blank s) (over rest i x (is_seal s) k)))
+abbrev pub values_over : ((k : List Symbol) → Option (Vals k)) → ℕ → Lexeme → Bool → (k : List Symbol) → Option (Vals k)
+values_over rest i x b [] = None
+values_over rest i x b (s ∷ k) = cond (sealed b s) (with_blank s k (blank s) (values_over rest i x true k)) (by_row s k rest i x.text (find (rows s) x.terminal) (with_blank s k (blank s) (values_over rest i x (is_seal s) k)))
 
 abbrev pub at_end : (k : List Symbol) → Option (Vals k)
 at_end [] = Some tt
@@ -57,4 +57,4 @@ at_end (s ∷ k) = with_blank s k (blank s) (at_end k)
 
 abbrev pub read : List Lexeme → ℕ → Bool → (k : List Symbol) → Option (Vals k)
 read [] i b k = at_end k
-read (x ∷ xs) i b k = over (λ k'. read xs (i + 1) false k') i x b k
+read (x ∷ xs) i b k = values_over (λ k'. read xs (i + 1) false k') i x b k

@@ -13,8 +13,8 @@ use Rattle.reading.proofs.Good.{AllProper}
 use Rattle.reading.proofs.Samples.{fits, is_token, string}
 use Rattle.recognise_why.specs.declared.fault.SyntaxFault.TheVariants as f
 use Rattle.recognise_why.specs.Expressions.{EndsAt, IsFaultAt}
-use Rattle.recognise_why.specs.Sources.{begins_program, IsProgramDecl, IsRefusal, IsSource}
-use Rattle.recognise_why.specs.Completions.{AreStrings, CompletesWith, spelled}
+use Rattle.recognise_why.specs.Sources.{begins_program, IsProgramDecl, IsSyntaxRefusal, IsSource}
+use Rattle.recognise_why.specs.Completions.{AreStrings, CompletesWith, spelled_lexemes}
 use Rattle.recognise_why.proofs.SpanLemmas.{rest_terminals}
 
 -- Two right trees of the same tokens, with their places, are one.
@@ -84,7 +84,7 @@ module _ (text : List ℕ) (ts : List Token) (found : List Terminal) (same : ter
     fault : ends.IsFault (s.File ∷ []) (terminals source) t.ScopeWord i b
     fault = subst (λ v. ends.IsFault (s.File ∷ []) v t.ScopeWord i b) (sym is_found) h
 
-    pub refusal_program : b ≡ true → i < length found → begins_program (get_or found i t.Lident) ≡ true → IsRefusal source (f.ProgramDecl i)
+    pub refusal_program : b ≡ true → i < length found → begins_program (get_or found i t.Lident) ≡ true → IsSyntaxRefusal source (f.ProgramDecl i)
     refusal_program e l p =
         let k = token_of source i t.Lident (subst (λ v. i < length v) (sym is_found) l) in (
           is_shallow shallow,
@@ -97,7 +97,7 @@ module _ (text : List ℕ) (ts : List Token) (found : List Terminal) (same : ter
           },
         )
 
-    pub refusal_syntax : (IsProgramDecl source i → ⊥) → IsRefusal source (f.Syntax i)
+    pub refusal_syntax : (IsProgramDecl source i → ⊥) → IsSyntaxRefusal source (f.Syntax i)
     refusal_syntax n = (is_shallow shallow, least_fault s.File 0 IsLevelFile (PlacedFile 0) write_file (whole_file 0) source t.ScopeWord i b (proper_rest text ts 0) fault, n)
 
     pub no_scope : b ≡ false → IsProgramDecl source i → ⊥
@@ -120,11 +120,11 @@ are_strings : (ys : List Terminal) → AreStrings (map kind_by ys) (map string y
 are_strings [] = tt
 are_strings (y ∷ ys) = (record { is = is_token y; fits = fits y }, are_strings ys)
 
-spelled_terminals : (ys : List Terminal) → terminals (spelled (map kind_by ys) (map string ys)) ≡ ys
+spelled_terminals : (ys : List Terminal) → terminals (spelled_lexemes (map kind_by ys) (map string ys)) ≡ ys
 spelled_terminals [] = refl
-spelled_terminals (y ∷ ys) = ap (λ v. v ∷ terminals (spelled (map kind_by ys) (map string ys))) (terminal_of-kind_by y) ∙ ap (λ v. y ∷ v) (spelled_terminals ys)
+spelled_terminals (y ∷ ys) = ap (λ v. v ∷ terminals (spelled_lexemes (map kind_by ys) (map string ys))) (terminal_of-kind_by y) ∙ ap (λ v. y ∷ v) (spelled_terminals ys)
 
-proper_spelled : (xs : List Lexeme) (ys : List Terminal) → AllProper xs → AllProper (xs ++ spelled (map kind_by ys) (map string ys))
+proper_spelled : (xs : List Lexeme) (ys : List Terminal) → AllProper xs → AllProper (xs ++ spelled_lexemes (map kind_by ys) (map string ys))
 proper_spelled [] [] h = tt
 proper_spelled [] (y ∷ ys) h = (proper_by (terminal_of (kind_by y)) (string y), proper_spelled [] ys tt)
 proper_spelled (x ∷ xs) ys h = (h.0, proper_spelled xs ys h.1)
@@ -132,7 +132,7 @@ proper_spelled (x ∷ xs) ys h = (h.0, proper_spelled xs ys h.1)
 module _ (a : Symbol) (i : ℕ) (is placed : Val a → Type 0) (write : Val a → List Lexeme) (w : Whole a i is placed write) (xs : List Lexeme) (found : List Terminal) (same : terminals xs ≡ found) where
   pub completed : AllProper xs → (ks : List TokenKind) (ys : List Terminal) → accepts (a ∷ []) (found ++ ys) ≡ true → ks ≡ map kind_by ys → CompletesWith is write xs ks
   completed p ks ys h e =
-      let more = spelled (map kind_by ys) (map string ys) in
+      let more = spelled_lexemes (map kind_by ys) (map string ys) in
       let r = read_accepted a i is placed write w (xs ++ more) (ap (accepts (a ∷ [])) (terminals_append xs more ∙ ap (λ v. v ++ terminals more) same ∙ ap (λ v. found ++ v) (spelled_terminals ys)) ∙ h) in
       subst (CompletesWith is write xs) (sym e) (record { strings = map string ys; are = are_strings ys; tree = r.0; of = (only_read a i is placed write w (xs ++ more) r.0 (proper_spelled xs ys p) r.1).of })
 

@@ -1,8 +1,8 @@
--- The counters of open brackets behind one token more.
+-- The counters of open brackets after one token more.
 use Rattle.recognise_why.proofs.Common.{◌≡◌, ℕ, zero, suc, ◌+◌, ◌<◌, ◌≤◌, ◌⊎◌, nat_lt, Bool, true, false, List, [], ◌∷◌, ◌++◌, length, take, get_or, inl, inr, refl, sym, ap, ◌∙◌, subst, arith, Terminal, nesting, nested, counters, depth, depth_at, most_nested, IsTooDeep}
 use Rattle.std.proofs.lemmas.Bool.Decides.{nat_tests}
 
--- the counters behind the tokens before a place, none of which is nested too deep
+-- the counters after the tokens before a place, none of which is nested too deep
 pub record Nested (xs : List Terminal) (i : ℕ) (ns : List ℕ) : Type 0 where
   pub counts : ns ≡ counters [] (take i xs)
   pub shallow : (j : ℕ) → j < i → depth_at xs j ≤ most_nested

@@ -9,13 +9,13 @@ AreStrings [] [] = ⊤
 AreStrings (k ∷ ks) (w ∷ ws) = IsString k w × AreStrings ks ws
 AreStrings _ _ = ⊥
 
-abbrev pub spelled : List TokenKind → List Word → List Lexeme
-spelled (k ∷ ks) (w ∷ ws) = lexeme_by (terminal_of k) w ∷ spelled ks ws
-spelled _ _ = []
+abbrev pub spelled_lexemes : List TokenKind → List Word → List Lexeme
+spelled_lexemes (k ∷ ks) (w ∷ ws) = lexeme_by (terminal_of k) w ∷ spelled_lexemes ks ws
+spelled_lexemes _ _ = []
 
--- Behind the tokens some of these kinds, as a text can have them, make a right tree.
+-- After the tokens some of these kinds, as a text can have them, make a right tree.
 pub record CompletesWith {V : Type 0} (is : V → Type 0) (write : V → List Lexeme) (xs : List Lexeme) (ks : List TokenKind) : Type 0 where
   pub strings : List Word
   pub are : AreStrings ks strings
   pub tree : V
-  pub of : IsOf is write (xs ++ spelled ks strings) tree
+  pub of : IsOf is write (xs ++ spelled_lexemes ks strings) tree

@@ -49,7 +49,7 @@ nesting t.WithWord = Restarts
 nesting t.Bar = Restarts
 nesting _ = Keeps
 
--- the counters of the open brackets, the innermost first, behind a token; outside of brackets nothing is counted
+-- the counters of the open brackets, the innermost first, after a token; outside of brackets nothing is counted
 abbrev pub nested : Nesting → List ℕ → List ℕ
 nested Opens ns = 0 ∷ ns
 nested Closes (n ∷ ns) = ns

@@ -1,24 +1,24 @@
--- The longest expression that stands at a token, or where none does any more.
+-- The longest expression that is at a token, or where none does any more.
 use Rattle.std.specs.Prelude.{ℕ, ◌+◌, ◌≡◌, ◌≤◌, ◌<◌, false, List, [], ◌∷◌, length, take, Some}
-use Rattle.recognise_why.specs.Common.{⊤, Token, rest, Tree, IsLevel, IsPlacedTree, write, read, Begins, IsLongest, IsNone, SyntaxFault}
+use Rattle.recognise_why.specs.Common.{⊤, Token, rest, SyntaxTree, IsLevel, IsPlacedTree, write, read, Begins, IsLongestTree, IsNone, SyntaxFault}
 use Rattle.grammar.specs.declared.symbols.Symbol.TheVariants as s
 use Rattle.recognise_why.specs.declared.fault.SyntaxFault.TheVariants as f
 
--- The longest expression from a token on, and the token behind it: the one right tree of its tokens that has their places. No
+-- The longest expression from a token on, and the token after it: the one right tree of its tokens that has their places. No
 -- right tree has more of them.
-pub record IsLongestAt (text : List ℕ) (ts : List Token) (from : ℕ) (t : Tree) (to : ℕ) : Type 0 where
+pub record IsLongestTreeAt (text : List ℕ) (ts : List Token) (from : ℕ) (t : SyntaxTree) (to : ℕ) : Type 0 where
   pub count : ℕ
   pub end : to ≡ from + count
-  pub is : IsLongest IsLevel (IsPlacedTree from) write (rest text ts from) t count
+  pub is : IsLongestTree IsLevel (IsPlacedTree from) write (rest text ts from) t count
 
 -- there is one, and it is read
 pub record EndsAt (text : List ℕ) (ts : List Token) (from to : ℕ) : Type 0 where
-  pub tree : Tree
+  pub tree : SyntaxTree
   pub within : to ≤ length ts
-  pub longest : IsLongestAt text ts from tree to
+  pub longest : IsLongestTreeAt text ts from tree to
   pub reads : read (take longest.count (rest text ts from)) from false (s.Expr 0 ∷ []) ≡ Some (tree, tt)
 
--- No expression stands there. The tokens up to a place begin one, and with the next token, if there is one, they begin none.
+-- No expression is there. The tokens up to a place begin one, and with the next token, if there is one, they begin none.
 pub record IsFaultAt (text : List ℕ) (ts : List Token) (from i : ℕ) : Type 0 where
   pub count : ℕ
   pub place : i ≡ from + count

@@ -1,18 +1,18 @@
 -- Tokens that are a source, or where they go wrong.
 use Rattle.std.specs.Prelude.{ℕ, ◌≡◌, Bool, true, false, List, [], ◌∷◌, ◌++◌, take, slice_get, Some}
-use Rattle.recognise_why.specs.Common.{⊤, Terminal, Lexeme, mark, terminals, Theory, write_file, IsLevelFile, PlacedFile, read, Begins, IsLeastFault, IsOnly, SyntaxFault}
+use Rattle.recognise_why.specs.Common.{⊤, Terminal, Lexeme, mark, terminals, SyntaxTheory, write_file, IsLevelFile, PlacedFile, read, Begins, IsLeastFault, IsOnly, SyntaxFault}
 use Rattle.tokens_why.specs.declared.terminal.Terminal.TheVariants as t
 use Rattle.grammar.specs.declared.symbols.Symbol.TheVariants as s
 use Rattle.recognise_why.specs.Depth.{IsTooDeep, IsShallow}
 use Rattle.recognise_why.specs.declared.fault.SyntaxFault.TheVariants as f
 
 -- the one right file of these tokens that has their places
-abbrev pub IsOnlyFile : List Lexeme → List Theory → Type 0
+abbrev pub IsOnlyFile : List Lexeme → List SyntaxTheory → Type 0
 IsOnlyFile xs f = IsOnly IsLevelFile (PlacedFile 0) write_file xs f
 
 -- there is one, and it is read
 pub record IsSource (xs : List Lexeme) : Type 0 where
-  pub file : List Theory
+  pub file : List SyntaxTheory
   pub only : IsOnlyFile xs file
   pub reads : read xs 0 false (s.File ∷ []) ≡ Some (file, tt)
 
@@ -35,8 +35,8 @@ pub record IsProgramDecl (xs : List Lexeme) (i : ℕ) : Type 0 where
 
 -- What a refusal says: want of memory; else the first token that is nested too deep; else the least place with which no source
 -- begins, which may be that of a declaration of a program.
-abbrev pub IsRefusal : List Lexeme → SyntaxFault → Type 0
-IsRefusal xs f.Memory = ⊤
-IsRefusal xs (f.TooDeep i) = IsTooDeep (terminals xs) i
-IsRefusal xs (f.Syntax i) = IsShallow (terminals xs) × IsFileFault xs i × (IsProgramDecl xs i → ⊥)
-IsRefusal xs (f.ProgramDecl i) = IsShallow (terminals xs) × IsFileFault xs i × IsProgramDecl xs i
+abbrev pub IsSyntaxRefusal : List Lexeme → SyntaxFault → Type 0
+IsSyntaxRefusal xs f.Memory = ⊤
+IsSyntaxRefusal xs (f.TooDeep i) = IsTooDeep (terminals xs) i
+IsSyntaxRefusal xs (f.Syntax i) = IsShallow (terminals xs) × IsFileFault xs i × (IsProgramDecl xs i → ⊥)
+IsSyntaxRefusal xs (f.ProgramDecl i) = IsShallow (terminals xs) × IsFileFault xs i × IsProgramDecl xs i

@@ -6,5 +6,5 @@ abbrev pub terminals_of : List Token → List Terminal
 terminals_of = map (λ k. terminal_of k.kind)
 
 -- from a place up to another
-abbrev pub between : List ℕ → List Token → ℕ → ℕ → List Lexeme
-between text ts from upto = take (upto - from) (rest text ts from)
+abbrev pub lexemes_between : List ℕ → List Token → ℕ → ℕ → List Lexeme
+lexemes_between text ts from upto = take (upto - from) (rest text ts from)

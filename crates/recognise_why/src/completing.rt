@@ -1,9 +1,9 @@
 // Kinds of tokens that complete an expression or a source, and the laws that tokens have one tree at most.
 ghost use Rattle.std.specs.Prelude.{◌≡◌, ◌≤◌, ◌∷◌, ◌++◌, [], true, List, ℕ, None, length, take, map, IfOk};
-ghost use Rattle.recognise_why.specs.Common.{accepts, is_safe, kind_by, AreTokens, Lexeme, rest, Tree, IsLevel, IsPlacedTree, write, Theory, write_file, IsLevelFile, PlacedFile, Begins, IsOf};
+ghost use Rattle.recognise_why.specs.Common.{accepts, is_safe, kind_by, AreTokens, Lexeme, rest, SyntaxTree, IsLevel, IsPlacedTree, write, SyntaxTheory, write_file, IsLevelFile, PlacedFile, Begins, IsOf};
 ghost use Rattle.grammar.specs.declared.symbols.Symbol.TheVariants.{Expr, File};
 ghost use Rattle.recognise_why.specs.Completions.{CompletesWith};
-ghost use Rattle.recognise_why.specs.Spans.{between, terminals_of};
+ghost use Rattle.recognise_why.specs.Spans.{lexemes_between, terminals_of};
 
 use crate::spans::terminals;
 use grammar::{Symbol, complete_tokens};
@@ -16,7 +16,8 @@ fn completion(alloc: Global, start: Symbol, tokens: &[Token]) -> Result<Vec<Toke
     requires some { (ys : List Terminal) × (accepts (start ∷ []) (terminals_of tokens.now ++ ys)
         ≡ true) }
     ensures { IfOk result (λ v. (ys : List Terminal) ×
-        (accepts (start ∷ []) (terminals_of tokens.now ++ ys) ≡ true) × (v.items ≡ map kind_by ys)) }
+        (accepts (start ∷ []) (terminals_of tokens.now ++ ys) ≡ true)
+        × (v.items ≡ map kind_by ys)) }
 {
     let found = terminals(alloc, tokens)?;
     match complete_tokens(alloc, start, &found)? {
@@ -25,7 +26,7 @@ fn completion(alloc: Global, start: Symbol, tokens: &[Token]) -> Result<Vec<Toke
     }
 }
 
-/// Kinds of tokens which, behind the tokens from a place up to another, make an expression.
+/// Kinds of tokens which, after the tokens from a place up to another, make an expression.
 ///
 /// `tokens` are those of `text`, and some expression begins with the tokens from `from` up to `upto`. Memory may run out.
 pub fn complete_expr(
@@ -38,16 +39,16 @@ pub fn complete_expr(
     requires tokens { AreTokens text.now tokens.now }
     requires low { from ≤ upto }
     requires high { upto ≤ length tokens.now }
-    requires begins { Begins IsLevel write (between text.now tokens.now from upto) }
+    requires begins { Begins IsLevel write (lexemes_between text.now tokens.now from upto) }
     ensures { IfOk result (λ v. CompletesWith IsLevel write
-        (between text.now tokens.now from upto) v.items) }
+        (lexemes_between text.now tokens.now from upto) v.items) }
 {
     let _ = text;
     let kinds = completion(alloc, Symbol::Expr(0), &tokens[from..upto])?;
     Ok(kinds)
 }
 
-/// Kinds of tokens which, behind the tokens before a place, make a source.
+/// Kinds of tokens which, after the tokens before a place, make a source.
 ///
 /// `tokens` are those of `text`, and some source begins with those before `upto`. Memory may run out.
 pub fn complete(
@@ -69,12 +70,14 @@ pub fn complete(
 
 /// A law: two right trees of the same tokens that have their places are equal.
 pub fn has_one_tree()
-    ensures { (i : ℕ) (xs : List Lexeme) (t u : Tree) → IsOf IsLevel write xs t → IsPlacedTree i t
+    ensures { (i : ℕ) (xs : List Lexeme) (t u : SyntaxTree) → IsOf IsLevel write xs t
+        → IsPlacedTree i t
         → IsOf IsLevel write xs u → IsPlacedTree i u → t ≡ u }
 {}
 
 /// A law: two right files of the same tokens that have their places are equal.
 pub fn has_one_file()
-    ensures { (i : ℕ) (xs : List Lexeme) (f g : List Theory) → IsOf IsLevelFile write_file xs f
+    ensures { (i : ℕ) (xs : List Lexeme) (f g : List SyntaxTheory)
+        → IsOf IsLevelFile write_file xs f
         → PlacedFile i f → IsOf IsLevelFile write_file xs g → PlacedFile i g → f ≡ g }
 {}

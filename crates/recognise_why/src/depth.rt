@@ -19,7 +19,7 @@ pub enum Nesting {
     Keeps,
 }
 
-/// The counters of the open brackets, the innermost on top, and how deep a token behind them is nested.
+/// The counters of the open brackets, the innermost on top, and how deep a token after them is nested.
 #[derive(Drop)]
 struct Counters {
     counts: Stack,
@@ -147,7 +147,7 @@ fn no_counters(alloc: Global) -> Counters
     }
 }
 
-/// The counters behind a token.
+/// The counters after a token.
 fn counters_after(alloc: Global, counters: Counters, by: Nesting) -> Result<Counters, AllocError>
     requires { counters.depth ≤ most_nested }
     ensures { IfOk result (λ c. c.counts ≡ nested by counters.counts) }

@@ -22,10 +22,10 @@ fn expression_fault(alloc: Global, terminals: &[Terminal]) -> Result<Fault, Allo
     }
 }
 
-/// The token behind the longest expression from a token on.
+/// The token after the longest expression from a token on.
 ///
 /// A refusal is `Memory`, or `Syntax` at the least token such that no expression begins with the tokens from `from` up to that
-/// one (the token behind the last one, where they end too early). The work is linear in the tokens.
+/// one (the token after the last one, where they end too early). The work is linear in the tokens.
 pub fn expression_end(alloc: Global, tokens: &[Token], from: usize) -> Result<usize, SyntaxFault>
     ensures ends { (text : List ℕ) → IfOk result (EndsAt text tokens.now from) }
     ensures refused { (text : List ℕ) → IfErr result (IsExpressionRefusal text tokens.now from) }

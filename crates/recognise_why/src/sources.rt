@@ -4,7 +4,7 @@ ghost use Rattle.recognise_why.specs.Common.{IsFault, ScopeWord, rest};
 ghost use Rattle.grammar.specs.declared.symbols.Symbol.TheVariants as symbol;
 ghost use Rattle.recognise_why.specs.Depth.{IsShallow};
 ghost use Rattle.recognise_why.specs.Sources as spec;
-ghost use Rattle.recognise_why.specs.Sources.{IsRefusal, IsSource};
+ghost use Rattle.recognise_why.specs.Sources.{IsSyntaxRefusal, IsSource};
 ghost use Rattle.recognise_why.specs.Spans.{terminals_of};
 
 use crate::depth::too_deep;
@@ -21,11 +21,11 @@ fn begins_program(terminal: Terminal) -> bool
     matches!(terminal, Terminal::LetWord | Terminal::ProgramWord)
 }
 
-/// The answer for a fault: that of a program's declaration, where a scope could stand in its place.
+/// The answer for a fault: that of a program's declaration, where a scope could be in its place.
 fn answer(found: &[Terminal], fault: Fault) -> SyntaxFault
     requires shallow { IsShallow found.now }
     requires fault { IsFault (symbol.File ∷ []) found.now ScopeWord fault.place fault.other_stands }
-    ensures { (text : List ℕ) (ts : List Token) → terminals_of ts ≡ found.now → IsRefusal
+    ensures { (text : List ℕ) (ts : List Token) → terminals_of ts ≡ found.now → IsSyntaxRefusal
         (rest text ts 0) result }
 {
     let token = fault.place;
@@ -40,12 +40,12 @@ fn answer(found: &[Terminal], fault: Fault) -> SyntaxFault
 ///
 /// A refusal is `Memory`; else `TooDeep` at the first token that is nested deeper than 200; else `Syntax` at the least token
 /// such that no source begins with the tokens up to that one (the number of tokens, where they end too early), or in its place
-/// `ProgramDecl`, where that token begins a declaration of programs and a scope could stand there (Why3 manual, "Syntax":
+/// `ProgramDecl`, where that token begins a declaration of programs and a scope could be there (Why3 manual, "Syntax":
 /// theories and declarations).
 pub fn check_source(alloc: Global, tokens: &[Token]) -> Result<(), SyntaxFault>
     ensures source { (text : List ℕ) → IfOk result (λ u. IsSource (rest text tokens.now 0)) }
     ensures shallow { IfOk result (λ u. IsShallow (terminals_of tokens.now)) }
-    ensures refused { (text : List ℕ) → IfErr result (IsRefusal (rest text tokens.now 0)) }
+    ensures refused { (text : List ℕ) → IfErr result (IsSyntaxRefusal (rest text tokens.now 0)) }
 {
     let found = terminals(alloc, tokens)?;
     if let Some(token) = too_deep(alloc, &found)? {

@@ -90,7 +90,7 @@ pub fn put_name(text: &mut String, name: &[u8]) -> Result<(), AllocError> {
     Ok(())
 }
 
-/// A symbol by its name in this signature behind a backquote, or by its number where the signature has none of that number.
+/// A symbol by its name in this signature after a backquote, or by its number where the signature has none of that number.
 pub fn put_symbol(
     alloc: Global,
     text: &mut String,

@@ -1,4 +1,4 @@
--- Formulas behind a sequent.
+-- Formulas after a sequent.
 use Rattle.std.proofs.Common.{◌≡◌, ℕ, ◌<◌, arith, zero, suc, List, [], ◌∷◌, ◌++◌, length, map, get_or, refl, sym, append_assoc}
 use Rattle.trees.specs.Tree.{Tree}
 

@@ -11,7 +11,8 @@ use Rattle.rule_rows.specs.declared.rule.Rule.{Rule}
 use Rattle.rule_rows.specs.declared.rule.Rule.TheVariants.{False, NotTrue, Clash, Irrefl, Distinct, Linear, NotNot, And, NotAnd, AndThen, NotAndThen, Or, NotOr, OrElse, NotOrElse, Imp, NotImp, Iff, NotIff, Forall, NotForall, Exists, NotExists, Cut, Keep, Refl, Replace, LetDef, IfDef, MatchDef, Fact, Def, Clause, Inv, Case, Inject, Project, Trichotomy, Bound}
 use Rattle.rule_rows.specs.declared.tried.Tried.{Tried}
 use Rattle.rule_rows.specs.Trees.{RuleTree, RFalse, RNotTrue, RClash, RIrrefl, RDistinct, RLinear, RNotNot, RAnd, RNotAnd, RAndThen, RNotAndThen, ROr, RNotOr, ROrElse, RNotOrElse, RImp, RNotImp, RIff, RNotIff, RForall, RNotForall, RExists, RNotExists, RCut, RKeep, RRefl, RReplace, RLetDef, RIfDef, RMatchDef, RFact, RDef, RClause, RInv, RCase, RInject, RProject, RTrichotomy, RBound, StepTree, sequents}
-use Rattle.rule_rows.specs.Rows.{Row}
+use Rattle.rule_rows.specs.Rows.{IsRuleRow}
+pub use Rattle.linear_leaf.specs.Uses.{pair_at}
 
 abbrev pub rule_at : List Tree → Rule → RuleTree
 rule_at s (False i) = RFalse i
@@ -100,7 +101,7 @@ task_of x = task_at x.store.now x.look.now.task.now
 
 -- the row of a rule holds there
 abbrev pub RowOf : Tried → RuleTree → Type 0
-RowOf x r = Row (task_of x) (sequent_of x) r (premises_of x)
+RowOf x r = IsRuleRow (task_of x) (sequent_of x) r (premises_of x)
 
 -- the numbers are held, the sequent is closed, and the premises are earlier steps
 pub record TriedHeld (x : Tried) : Type 0 where
@@ -112,9 +113,6 @@ pub record TriedHeld (x : Tried) : Type 0 where
 
 abbrev pub no_id : TermId
 no_id = record { 0 = 0 }
-
-abbrev pub pair_at : List Tree → TermId × TermId → Tree × Tree
-pair_at s p = (tree_at s p.0, tree_at s p.1)
 
 abbrev pub PairHeld : List Tree → TermId × TermId → Type 0
 PairHeld s p = Holds s p.0 × Holds s p.1

@@ -4,10 +4,10 @@ use Rattle.std.specs.Prelude.{ℕ, ◌==◌, if◌then◌else◌, List, [], ◌�
 use Rattle.trees.specs.Tree.{Tree, Leaf, One, Two, Three, Head, HEnd, HCell, HEq, HFun, HPatVar, HPatAlias, HPatCon, loose}
 use Rattle.trees.specs.Binding.{inst_types}
 use Rattle.tasks.specs.Task.{TaskTree, symbol_or}
-use Rattle.tasks.specs.Roles.{RoleTree, Constructor, role}
+use Rattle.tasks.specs.Roles.{RoleTree, ConstructorRole, role}
 use Rattle.tasks.specs.Typing.{members}
 use Rattle.tasks.specs.Equations.{cells}
-use Rattle.tasks.specs.Inversion.{and_then, or_true}
+use Rattle.tasks.specs.Inversion.{conjunction_with, or_true}
 
 -- the result type of an entry at a list of types; the empty list where it has none, or one that isn't closed, as each type is
 abbrev pub result_at : Option Tree → Tree → Tree
@@ -31,30 +31,30 @@ abbrev pub rebuilt : TaskTree → ℕ → List ℕ → Tree → Tree → Tree
 rebuilt t c projections types s = apply_list t c types (cells (fields t projections types s))
 
 abbrev pub projections_by : RoleTree → List ℕ
-projections_by (Constructor c) = c.projections
+projections_by (ConstructorRole c) = c.projections
 projections_by _ = []
 
 -- the projections of a constructor
-abbrev pub projections : TaskTree → ℕ → List ℕ
-projections t k = projections_by (role t k)
+abbrev pub constructor_projections : TaskTree → ℕ → List ℕ
+constructor_projections t k = projections_by (role t k)
 
 -- the first of a list of terms, and the others
 abbrev pub top : List Tree → Tree
 top [] = Leaf HEnd
 top (s ∷ ss) = s
 
-abbrev pub others : List Tree → List Tree
-others [] = []
-others (s ∷ ss) = ss
+abbrev pub other_terms : List Tree → List Tree
+other_terms [] = []
+other_terms (s ∷ ss) = ss
 
 -- what the parts of a constructor's pattern are asked of
 abbrev pub parts : TaskTree → Head → Tree → List Tree → List Tree
-parts t (HPatCon k) types ss = fields t (projections t k) types (top ss)
+parts t (HPatCon k) types ss = fields t (constructor_projections t k) types (top ss)
 parts t _ types ss = []
 
 -- that a term is a constructor on its own fields
 abbrev pub con_equation : TaskTree → ℕ → Tree → Tree → Tree
-con_equation t k types s = Two HEq s (rebuilt t k (projections t k) types s)
+con_equation t k types s = Two HEq s (rebuilt t k (constructor_projections t k) types s)
 
 abbrev pub one_tests : Head → Option Tree → Option Tree → Option Tree
 one_tests HPatAlias inner behind = inner
@@ -65,15 +65,15 @@ two_tests HCell first behind = first
 two_tests _ first behind = behind
 
 abbrev pub three_tests : TaskTree → Head → Tree → List Tree → Option Tree → Option Tree → Option Tree
-three_tests t (HPatCon k) types ss inner behind = and_then (con_equation t k types (top ss)) inner
+three_tests t (HPatCon k) types ss inner behind = conjunction_with (con_equation t k types (top ss)) inner
 three_tests t _ types ss inner behind = behind
 
 -- The equations that make a list of terms match a pattern, or a list of patterns, as a conjunction nested to the right with what
--- comes behind it: of each constructor's pattern, that the term is that constructor on its own fields.
+-- comes after it: of each constructor's pattern, that the term is that constructor on its own fields.
 abbrev pub tests : TaskTree → Tree → List Tree → Option Tree → Option Tree
 tests t (Leaf h) ss behind = behind
 tests t (One h p) ss behind = one_tests h (tests t p ss behind) behind
-tests t (Two h p q) ss behind = two_tests h (tests t p (top ss ∷ []) (tests t q (others ss) behind)) behind
+tests t (Two h p q) ss behind = two_tests h (tests t p (top ss ∷ []) (tests t q (other_terms ss) behind)) behind
 tests t (Three h a p c) ss behind = three_tests t h a ss (tests t p (parts t h a ss) behind) behind
 
 -- the test of a pattern: `true` where nothing is asked
@@ -94,11 +94,11 @@ three_binds (HPatCon k) inner = inner
 three_binds _ inner = []
 
 -- the terms for the variables of a pattern, or of a list of patterns, in reading order
-abbrev pub binds : TaskTree → Tree → List Tree → List Tree
-binds t (Leaf h) ss = []
-binds t (One h p) ss = one_binds h (binds t p ss) ss
-binds t (Two h p q) ss = two_binds h (binds t p (top ss ∷ [])) (binds t q (others ss))
-binds t (Three h a p c) ss = three_binds h (binds t p (parts t h a ss))
+abbrev pub pattern_terms : TaskTree → Tree → List Tree → List Tree
+pattern_terms t (Leaf h) ss = []
+pattern_terms t (One h p) ss = one_binds h (pattern_terms t p ss) ss
+pattern_terms t (Two h p q) ss = two_binds h (pattern_terms t p (top ss ∷ [])) (pattern_terms t q (other_terms ss))
+pattern_terms t (Three h a p c) ss = three_binds h (pattern_terms t p (parts t h a ss))
 
 abbrev pub bind : TaskTree → Tree → Tree → List Tree
-bind t p s = binds t p (s ∷ [])
+bind t p s = pattern_terms t p (s ∷ [])

@@ -45,27 +45,27 @@ pub data RuleTree : Type 0 where
   RBound : Tree → ℤ → RuleTree
 
 -- the terms and formulas that a rule names, but for the template of `replace`, which is open
-abbrev pub trees_of : RuleTree → List Tree
-trees_of (RForall i t) = t ∷ []
-trees_of (RNotExists i t) = t ∷ []
-trees_of (RCut a) = a ∷ []
-trees_of (RRefl t) = t ∷ []
-trees_of (RLetDef e) = e ∷ []
-trees_of (RIfDef e) = e ∷ []
-trees_of (RMatchDef e) = e ∷ []
-trees_of (RCase t) = t ∷ []
-trees_of (RProject e) = e ∷ []
-trees_of (RTrichotomy a b) = a ∷ b ∷ []
-trees_of (RBound t n) = t ∷ []
-trees_of _ = []
+abbrev pub rule_trees : RuleTree → List Tree
+rule_trees (RForall i t) = t ∷ []
+rule_trees (RNotExists i t) = t ∷ []
+rule_trees (RCut a) = a ∷ []
+rule_trees (RRefl t) = t ∷ []
+rule_trees (RLetDef e) = e ∷ []
+rule_trees (RIfDef e) = e ∷ []
+rule_trees (RMatchDef e) = e ∷ []
+rule_trees (RCase t) = t ∷ []
+rule_trees (RProject e) = e ∷ []
+rule_trees (RTrichotomy a b) = a ∷ b ∷ []
+rule_trees (RBound t n) = t ∷ []
+rule_trees _ = []
 
 -- the types that a rule names
-abbrev pub types_of : RuleTree → List Tree
-types_of (RFact k types) = types
-types_of (RDef k types) = types
-types_of (RClause k c types) = types
-types_of (RInv k types) = types
-types_of _ = []
+abbrev pub rule_types : RuleTree → List Tree
+rule_types (RFact k types) = types
+rule_types (RDef k types) = types
+rule_types (RClause k c types) = types
+rule_types (RInv k types) = types
+rule_types _ = []
 
 -- a sequent, the rule that refutes it, and the earlier steps that the rule takes
 pub record StepTree : Type 0 where
@@ -73,7 +73,7 @@ pub record StepTree : Type 0 where
   pub rule : RuleTree
   pub premises : List ℕ
 
--- stands where a list has no step
+-- is where a list has no step
 abbrev pub no_step : StepTree
 no_step = record { sequent = []; rule = RKeep []; premises = [] }
 

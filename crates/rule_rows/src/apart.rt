@@ -1,11 +1,11 @@
 // Trees taken apart, as the rows of the table name them.
-// They stand on the store; the rows of the table stand on them.
+// They depend on the store; the rows of the table depend on them.
 ghost use Rattle.std.specs.Prelude.{◌≡◌, ◌↔◌, Some, IsTrue, IfSome};
 ghost use Rattle.std.specs.Option.{option_map};
 ghost use Rattle.trees.specs.Tree.{Leaf, HEnd};
 ghost use Rattle.trees.specs.Node.{tree_at, Holds};
 ghost use Rattle.trees.specs.Sorts.{type_of};
-ghost use Rattle.rule_rows.specs.Forms.{negated, universal, existential, equated, applied};
+ghost use Rattle.rule_rows.specs.Forms.{negated, universal, existential, equation_sides, application_parts};
 ghost use Rattle.rule_rows.specs.Meaning.{pair_at, PairHeld, applied_at, AppliedHeld};
 
 use term_store::Store;
@@ -54,7 +54,7 @@ pub fn existential_parts(store: &Store, f: Option<TermId>) -> Option<(TermId, Te
 pub fn equation_sides(store: &Store, f: Option<TermId>) -> Option<(TermId, TermId)>
     requires { IfSome f (Holds store.now) }
     ensures tree { option_map (pair_at store.now) result
-        ≡ equated (option_map (tree_at store.now) f) }
+        ≡ equation_sides (option_map (tree_at store.now) f) }
     ensures held { IfSome result (PairHeld store.now) }
 {
     match store.node(f?) {
@@ -66,7 +66,8 @@ pub fn equation_sides(store: &Store, f: Option<TermId>) -> Option<(TermId, TermI
 /// A function's symbol, types and arguments.
 pub fn application_parts(store: &Store, e: TermId) -> Option<(usize, TermId, TermId)>
     requires { Holds store.now e }
-    ensures tree { option_map (applied_at store.now) result ≡ applied (tree_at store.now e) }
+    ensures tree { option_map (applied_at store.now) result
+        ≡ application_parts (tree_at store.now e) }
     ensures held { IfSome result (AppliedHeld store.now) }
 {
     match store.node(e) {

@@ -1,5 +1,5 @@
 // The rows of connectives.
-// They stand on what premises add; the checker of a step stands on them.
+// They depend on what premises add; the checker of a step depends on them.
 ghost use Rattle.std.specs.Prelude.{◌↔◌, IsTrue, IfSome};
 ghost use Rattle.std.specs.Option.{option_map};
 ghost use Rattle.trees.specs.Node.{tree_at, Holds};

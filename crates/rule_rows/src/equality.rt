@@ -1,5 +1,5 @@
 // The rows of equality: `refl`, `replace`, `letdef` and `ifdef`.
-// They stand on what premises add; the checker of a step stands on them.
+// They depend on what premises add; the checker of a step depends on them.
 ghost use Rattle.std.specs.Prelude.{◌≡◌, ◌↔◌, IsTrue, IsSomeAnd};
 ghost use Rattle.trees.specs.Tree.{loose};
 ghost use Rattle.trees.specs.Node.{tree_at, Holds};
@@ -91,7 +91,7 @@ fn fits_template(x: &Tried<'_>, term: TermId, template: TermId) -> bool
     }
 }
 
-// Whether a tree that is typed as far as it stands is a formula in which the variable 0 may be open, at a type.
+// Whether a tree that is typed as far as it goes is a formula in which the variable 0 may be open, at a type.
 fn is_template(x: &Tried<'_>, e: TermId, ty: TermId) -> bool
     requires e_held { Holds x.now.store.now e }
     requires ty_held { Holds x.now.store.now ty }

@@ -1,5 +1,5 @@
 // The rows that take no formula apart or one alone: those that close a sequent, `notnot`, `cut` and `keep`.
-// They stand on what premises add; the checker of a step stands on them.
+// They depend on what premises add; the checker of a step depends on them.
 ghost use Rattle.std.specs.Prelude.{◌≡◌, ◌↔◌, Some, slice_get, map, All, IsTrue};
 ghost use Rattle.trees.specs.Node.{tree_at, Holds};
 ghost use Rattle.tasks.specs.Meaning.{trees_at};
@@ -81,7 +81,7 @@ pub fn cut(x: &Tried<'_>, formula: TermId) -> bool
     x.store.sort(formula) == Sort::Formula && adds_each(x, &formula, &Not(formula))
 }
 
-// Whether a formula stands at a place.
+// Whether a formula is at a place.
 fn is_at(x: &Tried<'_>, place: usize, id: TermId) -> bool
     requires tried { TriedHeld x.now }
     requires held { Holds x.now.store.now id }

@@ -1,5 +1,5 @@
 //! The table of rules: what a rule asks of its places and trees, and what its premises add, told without making a tree.
-//! It stands on tasks, typing and the linear leaf; here are the rows of connectives, quantifiers and equality.
+//! It depends on tasks, typing and the linear leaf; here are the rows of connectives, quantifiers and equality.
 #![tactic(auto)]
 
 mod apart;
@@ -12,7 +12,10 @@ mod shape;
 mod term;
 mod tried;
 
-pub use apart::{application_parts, equation_sides, existential_parts, has_type, is_end, negated_formula, universal_parts};
+pub use apart::{
+    application_parts, equation_sides, existential_parts, has_type, is_end, negated_formula,
+    universal_parts,
+};
 pub use connectives::{connective_fails, connective_holds};
 pub use equality::{if_def, let_def, refl, replace};
 pub use leaves::{clash, cut, irrefl, is_false, keep, not_not, not_true};

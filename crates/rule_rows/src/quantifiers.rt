@@ -1,5 +1,5 @@
 // The rows of quantifiers.
-// They stand on what premises add; the checker of a step stands on them.
+// They depend on what premises add; the checker of a step depends on them.
 ghost use Rattle.std.specs.Prelude.{◌≡◌, ◌↔◌, [], ◌∷◌, IsTrue, IfSome, All, false};
 ghost use Rattle.std.specs.Option.{option_map};
 ghost use Rattle.trees.specs.Tree.{loose};

@@ -1,5 +1,5 @@
 // Rules and steps.
-// They stand on the terms' numbers; the checker, drafts and step files stand on them.
+// They depend on the terms' numbers; the checker, drafts and step files depend on them.
 use outside::Seq;
 use trees::TermId;
 

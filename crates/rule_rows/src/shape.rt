@@ -1,5 +1,5 @@
 // Shapes of the formulas that rules add: trees that the store need not hold, told without making them.
-// They stand on closed terms; the rows of the table stand on them.
+// They depend on closed terms; the rows of the table depend on them.
 ghost use Rattle.std.specs.Prelude.{◌≡◌, ◌↔◌, All, IsTrue, List};
 ghost use Rattle.trees.specs.Tree.{Tree};
 ghost use Rattle.trees.specs.Node.{tree_at, Holds};

@@ -1,5 +1,5 @@
 // Closed terms that the store need not hold, and a body with one for its variable 0.
-// They stand on the store and on the instance walk of binders; shapes stand on them.
+// They depend on the store and on the instance walk of binders; shapes depend on them.
 ghost use Rattle.std.specs.Prelude.{◌≡◌, ◌↔◌, IsTrue};
 ghost use Rattle.trees.specs.Node.{tree_at, Holds};
 ghost use Rattle.trees.specs.Binding.{Bound, instantiating};

@@ -1,5 +1,5 @@
-// A rule tried at a step: what its premises have behind the step's sequent.
-// It stands on shapes; the rows of the table stand on it.
+// A rule tried at a step: what its premises have after the step's sequent.
+// It depends on shapes; the rows of the table depend on it.
 ghost use Rattle.std.specs.Prelude.{◌≡◌, ◌↔◌, [], ◌∷◌, ◌++◌, ◌<◌, length, get_or, slice_get, All, IsTrue, IfSome};
 ghost use Rattle.std.specs.Option.{option_map};
 ghost use Rattle.trees.specs.Tree.{loose};
@@ -52,7 +52,7 @@ fn same_list(store: &Store, xs: &[TermId], ys: &[TermId]) -> bool
     true
 }
 
-/// Whether a sequent is another with one formula behind it.
+/// Whether a sequent is another with one formula after it.
 pub fn is_wider<A: Shape>(store: &Store, premise: &[TermId], sequent: &[TermId], a: &A) -> bool
     requires premise_held { All (Holds store.now) premise.now }
     requires sequent_held { All (Holds store.now) sequent.now }
@@ -66,7 +66,7 @@ pub fn is_wider<A: Shape>(store: &Store, premise: &[TermId], sequent: &[TermId],
     }
 }
 
-// Whether a sequent is another with two formulas behind it.
+// Whether a sequent is another with two formulas after it.
 fn is_wider_by_two<A: Shape, B: Shape>(
     store: &Store,
     premise: &[TermId],
@@ -105,7 +105,7 @@ pub fn premise<'a>(x: &Tried<'a>, i: usize) -> &'a [TermId]
     x.before[x.premises[i]].sequent.as_slice()
 }
 
-/// Whether there is one premise, which has this formula behind the sequent.
+/// Whether there is one premise, which has this formula after the sequent.
 pub fn adds_one<A: Shape>(x: &Tried<'_>, a: &A) -> bool
     requires tried { TriedHeld x.now }
     requires held { A.IsHeld a.now x.now.store.now }
@@ -115,7 +115,7 @@ pub fn adds_one<A: Shape>(x: &Tried<'_>, a: &A) -> bool
     x.premises.len() == 1 && is_wider(x.store, premise(x, 0), x.sequent, a)
 }
 
-/// Whether there is one premise, which has these two formulas behind the sequent.
+/// Whether there is one premise, which has these two formulas after the sequent.
 #[tactic(auto, using(crate::proofs::Behind::two_behind))]
 pub fn adds_both<A: Shape, B: Shape>(x: &Tried<'_>, a: &A, b: &B) -> bool
     requires tried { TriedHeld x.now }
@@ -127,7 +127,7 @@ pub fn adds_both<A: Shape, B: Shape>(x: &Tried<'_>, a: &A, b: &B) -> bool
     x.premises.len() == 1 && is_wider_by_two(x.store, premise(x, 0), x.sequent, a, b)
 }
 
-/// Whether there are two premises, each of which has one formula behind the sequent.
+/// Whether there are two premises, each of which has one formula after the sequent.
 pub fn adds_each<A: Shape, B: Shape>(x: &Tried<'_>, a: &A, b: &B) -> bool
     requires tried { TriedHeld x.now }
     requires a_held { A.IsHeld a.now x.now.store.now }
@@ -140,7 +140,7 @@ pub fn adds_each<A: Shape, B: Shape>(x: &Tried<'_>, a: &A, b: &B) -> bool
         && is_wider(x.store, premise(x, 1), x.sequent, b)
 }
 
-/// Whether there are two premises, each of which has two formulas behind the sequent.
+/// Whether there are two premises, each of which has two formulas after the sequent.
 #[tactic(auto, using(crate::proofs::Behind::two_behind))]
 pub fn adds_pairs<A: Shape, B: Shape, C: Shape, D: Shape>(
     x: &Tried<'_>,

@@ -5,10 +5,10 @@ use Rattle.trees.specs.Tree.{Tree}
 use Rattle.rule_rows.specs.Trees.{RuleTree}
 use Rattle.rule_words.specs.declared.argument.Argument.{Argument}
 use Rattle.rule_words.specs.Arguments.{ArgumentTree, argument_at, arguments_at, number_in, integer_in}
-use Rattle.rule_words.specs.Forms.{two, pairs_from}
+use Rattle.rule_words.specs.Forms.{two_arguments, pairs_from}
 
 -- two arguments make what their values make
-pub two_made : {A B : Type 0} (p : ArgumentTree → Option A) (q : ArgumentTree → Option B) (f : A → B → RuleTree) (s : List Tree) (args : List Argument) (d : Argument) (x : A) (y : B) → 2 ≤ length args → length args < 3 → Some x ≡ p (argument_at s (get_or args 0 d)) → Some y ≡ q (argument_at s (get_or args 1 d)) → Some (f x y) ≡ two p q f (arguments_at s args)
+pub two_made : {A B : Type 0} (p : ArgumentTree → Option A) (q : ArgumentTree → Option B) (f : A → B → RuleTree) (s : List Tree) (args : List Argument) (d : Argument) (x : A) (y : B) → 2 ≤ length args → length args < 3 → Some x ≡ p (argument_at s (get_or args 0 d)) → Some y ≡ q (argument_at s (get_or args 1 d)) → Some (f x y) ≡ two_arguments p q f (arguments_at s args)
 two_made p q f s [] d x y least below e g = absurd (omega arith)
 two_made p q f s (a ∷ []) d x y least below e g = absurd (omega arith)
 two_made p q f s (a ∷ b ∷ []) d x y least below e g = rw (sym e, sym g) refl

@@ -9,13 +9,13 @@ use Rattle.rule_words.specs.declared.argument.Argument.{Argument}
 use Rattle.rule_words.specs.declared.argument.Argument.TheVariants as made
 use Rattle.rule_words.specs.declared.argument.ArgumentKind.TheVariants as kind
 use Rattle.rule_words.specs.Arguments.{argument_at, arguments_at, ArgumentHeld, ArgumentsHeld, number_in, symbol_in, integer_in, expression_in, type_in, have_kinds}
-use Rattle.rule_words.specs.Forms.{each, each_from, pairs, pairs_from}
+use Rattle.rule_words.specs.Forms.{each_argument, each_from, argument_pairs, pairs_from}
 use Rattle.rule_rows.specs.declared.rule.Rule.{Rule}
 use Rattle.rule_rows.specs.declared.rule.Rule.TheVariants.{False, NotTrue, Clash, Irrefl, Distinct, Linear, NotNot, And, NotAnd, AndThen, NotAndThen, Or, NotOr, OrElse, NotOrElse, Imp, NotImp, Iff, NotIff, Forall, NotForall, Exists, NotExists, Cut, Keep, Refl, Replace, LetDef, IfDef, MatchDef, Fact, Def, Clause, Inv, Case, Inject, Project, Trichotomy, Bound}
 use Rattle.rule_rows.specs.Trees.{RuleTree, RKeep, RLinear, RFact, RDef, RClause, RInv}
 use Rattle.rule_rows.specs.Meaning.{rule_at, RuleHeld}
-use Rattle.rule_words.specs.Forms.{kinds, one_then_types, two_then_types}
-use Rattle.rule_words.specs.Rules.{row, rule_from}
+use Rattle.rule_words.specs.Forms.{argument_kinds, one_then_types, two_then_types}
+use Rattle.rule_words.specs.Rules.{rule_row, rule_from}
 use Rattle.rule_words.specs.Written.{arguments_of_pairs, name_and_arguments}
 use Rattle.rule_words.specs.declared.name.RuleName.{RuleName}
 
@@ -24,7 +24,7 @@ unfolding argument_at number_in
 numbers-onto s xs [] = ap Some (sym (append-nil xs))
 numbers-onto s xs (n ∷ ns) = numbers-onto s (xs ++ n ∷ []) ns ∙ ap Some (append_assoc xs (n ∷ []) ns)
 
-pub numbers-back : (s : List Tree) (ns : List ℕ) → each number_in (arguments_at s (map made.Number ns)) ≡ Some ns
+pub numbers-back : (s : List Tree) (ns : List ℕ) → each_argument number_in (arguments_at s (map made.Number ns)) ≡ Some ns
 numbers-back s ns = numbers-onto s [] ns
 
 types-onto : (s : List Tree) (xs : List Tree) (ys : List TermId) → each_from type_in xs (arguments_at s (map made.Type ys)) ≡ Some (xs ++ trees_at s ys)
@@ -32,7 +32,7 @@ unfolding argument_at type_in
 types-onto s xs [] = ap Some (sym (append-nil xs))
 types-onto s xs (y ∷ ys) = types-onto s (xs ++ tree_at s y ∷ []) ys ∙ ap Some (append_assoc xs (tree_at s y ∷ []) (trees_at s ys))
 
-pub types-back : (s : List Tree) (ys : List TermId) → each type_in (arguments_at s (map made.Type ys)) ≡ Some (trees_at s ys)
+pub types-back : (s : List Tree) (ys : List TermId) → each_argument type_in (arguments_at s (map made.Type ys)) ≡ Some (trees_at s ys)
 types-back s ys = types-onto s [] ys
 
 pairs-onto : (s : List Tree) (xs ps : List (ℕ × ℤ)) → pairs_from xs None (arguments_at s (arguments_of_pairs ps)) ≡ Some (xs ++ ps)
@@ -40,7 +40,7 @@ unfolding argument_at number_in integer_in
 pairs-onto s xs [] = ap Some (sym (append-nil xs))
 pairs-onto s xs (p ∷ ps) = pairs-onto s (xs ++ p ∷ []) ps ∙ ap Some (append_assoc xs (p ∷ []) ps)
 
-pub pairs-back : (s : List Tree) (ps : List (ℕ × ℤ)) → pairs (arguments_at s (arguments_of_pairs ps)) ≡ Some ps
+pub pairs-back : (s : List Tree) (ps : List (ℕ × ℤ)) → argument_pairs (arguments_at s (arguments_of_pairs ps)) ≡ Some ps
 pairs-back s ps = pairs-onto s [] ps
 
 pub numbers-kinds : (s : List Tree) (ns : List ℕ) → have_kinds [] (kind.Number ∷ []) (arguments_at s (map made.Number ns)) ≡ true
@@ -85,7 +85,7 @@ reads-back s (Inv k types) = types-after-symbol s k RInv types
 reads-back s _ = refl
 
 -- and its arguments have the kinds of its name
-pub has-kinds : (s : List Tree) (r : Rule) → have_kinds (kinds (row (name_and_arguments r).name).form).first (kinds (row (name_and_arguments r).name).form).repeated (arguments_at s (name_and_arguments r).arguments) ≡ true
+pub has-kinds : (s : List Tree) (r : Rule) → have_kinds (argument_kinds (rule_row (name_and_arguments r).name).form).first (argument_kinds (rule_row (name_and_arguments r).name).form).repeated (arguments_at s (name_and_arguments r).arguments) ≡ true
 unfolding argument_at
 has-kinds s (Keep places) = numbers-kinds s places
 has-kinds s (Linear uses) = pairs-kinds s uses
@@ -163,7 +163,7 @@ are-held s (Bound e n) h = (h, (tt, tt))
 pub written-back : (r : Rule) (n : RuleName) (args : List Argument) → n ≡ (name_and_arguments r).name → args ≡ (name_and_arguments r).arguments → (s : List Tree) → rule_from n (arguments_at s args) ≡ Some (rule_at s r)
 written-back r n args e f s = rw (e, f) (reads-back s r)
 
-pub written-kinds : (r : Rule) (n : RuleName) (args : List Argument) → n ≡ (name_and_arguments r).name → args ≡ (name_and_arguments r).arguments → (s : List Tree) → have_kinds (kinds (row n).form).first (kinds (row n).form).repeated (arguments_at s args) ≡ true
+pub written-kinds : (r : Rule) (n : RuleName) (args : List Argument) → n ≡ (name_and_arguments r).name → args ≡ (name_and_arguments r).arguments → (s : List Tree) → have_kinds (argument_kinds (rule_row n).form).first (argument_kinds (rule_row n).form).repeated (arguments_at s args) ≡ true
 written-kinds r n args e f s = rw (e, f) (has-kinds s r)
 
 pub written-held : (r : Rule) (args : List Argument) → args ≡ (name_and_arguments r).arguments → (s : List Tree) → RuleHeld s r → ArgumentsHeld s args

@@ -6,7 +6,7 @@ ghost use Rattle.trees.specs.Tree.{Tree};
 ghost use Rattle.trees.specs.Node.{tree_at, Holds};
 ghost use Rattle.rule_rows.specs.Trees.{RuleTree};
 ghost use Rattle.rule_words.specs.Arguments.{arguments_at, ArgumentHeld, expression_in, integer_in, number_in};
-ghost use Rattle.rule_words.specs.Forms.{one, two, three};
+ghost use Rattle.rule_words.specs.Forms.{one_argument, two_arguments, three_arguments};
 
 use crate::argument::{Argument, expression, integer, number};
 use term_store::Store;
@@ -14,7 +14,7 @@ use trees::TermId;
 
 pub(crate) fn one_number(store: &Store, args: &[Argument]) -> Option<usize>
     ensures { (f : ℕ → RuleTree) → option_map f result
-        ≡ one number_in f (arguments_at store.now args.now) }
+        ≡ one_argument number_in f (arguments_at store.now args.now) }
 {
     let _ = store;
     match args {
@@ -25,7 +25,7 @@ pub(crate) fn one_number(store: &Store, args: &[Argument]) -> Option<usize>
 
 pub(crate) fn two_numbers(store: &Store, args: &[Argument]) -> Option<(usize, usize)>
     ensures { (f : ℕ → ℕ → RuleTree) → option_map (λ p. f p.0 p.1) result
-        ≡ two number_in number_in f (arguments_at store.now args.now) }
+        ≡ two_arguments number_in number_in f (arguments_at store.now args.now) }
 {
     let _ = store;
     match args {
@@ -37,7 +37,7 @@ pub(crate) fn two_numbers(store: &Store, args: &[Argument]) -> Option<(usize, us
 pub(crate) fn one_expression(store: &Store, args: &[Argument]) -> Option<TermId>
     requires { All (ArgumentHeld store.now) args.now }
     ensures rule { (f : Tree → RuleTree) → option_map (λ e. f (tree_at store.now e)) result
-        ≡ one expression_in f (arguments_at store.now args.now) }
+        ≡ one_argument expression_in f (arguments_at store.now args.now) }
     ensures held { IfSome result (Holds store.now) }
 {
     let _ = store;
@@ -51,7 +51,7 @@ pub(crate) fn two_expressions(store: &Store, args: &[Argument]) -> Option<(TermI
     requires { All (ArgumentHeld store.now) args.now }
     ensures rule { (f : Tree → Tree → RuleTree)
         → option_map (λ p. f (tree_at store.now p.0) (tree_at store.now p.1)) result
-        ≡ two expression_in expression_in f (arguments_at store.now args.now) }
+        ≡ two_arguments expression_in expression_in f (arguments_at store.now args.now) }
     ensures first { IfSome result (λ p. Holds store.now p.0) }
     ensures second { IfSome result (λ p. Holds store.now p.1) }
 {
@@ -66,7 +66,7 @@ pub(crate) fn number_expression(store: &Store, args: &[Argument]) -> Option<(usi
     requires { All (ArgumentHeld store.now) args.now }
     ensures rule { (f : ℕ → Tree → RuleTree)
         → option_map (λ p. f p.0 (tree_at store.now p.1)) result
-        ≡ two number_in expression_in f (arguments_at store.now args.now) }
+        ≡ two_arguments number_in expression_in f (arguments_at store.now args.now) }
     ensures held { IfSome result (λ p. Holds store.now p.1) }
 {
     let _ = store;
@@ -80,7 +80,7 @@ pub(crate) fn numbers_expression(store: &Store, args: &[Argument]) -> Option<(us
     requires { All (ArgumentHeld store.now) args.now }
     ensures rule { (f : ℕ → ℕ → Tree → RuleTree)
         → option_map (λ p. f p.0 p.1 (tree_at store.now p.2)) result
-        ≡ three number_in number_in expression_in f (arguments_at store.now args.now) }
+        ≡ three_arguments number_in number_in expression_in f (arguments_at store.now args.now) }
     ensures held { IfSome result (λ p. Holds store.now p.2) }
 {
     let _ = store;
@@ -94,7 +94,7 @@ pub(crate) fn expression_integer(store: &Store, args: &[Argument]) -> Option<(Te
     requires { All (ArgumentHeld store.now) args.now }
     ensures rule { (f : Tree → ℤ → RuleTree)
         → option_map (λ p. f (tree_at store.now p.0) p.1) result
-        ≡ two expression_in integer_in f (arguments_at store.now args.now) }
+        ≡ two_arguments expression_in integer_in f (arguments_at store.now args.now) }
     ensures held { IfSome result (λ p. Holds store.now p.0) }
 {
     let _ = store;

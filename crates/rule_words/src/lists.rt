@@ -7,7 +7,7 @@ ghost use Rattle.trees.specs.Node.{Holds};
 ghost use Rattle.tasks.specs.Meaning.{trees_at};
 ghost use Rattle.rule_rows.specs.Trees.{RuleTree};
 ghost use Rattle.rule_words.specs.Arguments.{arguments_at, ArgumentHeld, number_in, symbol_in, type_in};
-ghost use Rattle.rule_words.specs.Forms.{each, pairs, one_then_types, two_then_types};
+ghost use Rattle.rule_words.specs.Forms.{each_argument, argument_pairs, one_then_types, two_then_types};
 ghost use Rattle.rule_words.specs.Written.{arguments_of_pairs};
 
 use crate::argument::{Argument, integer, number, symbol, ty};
@@ -21,7 +21,7 @@ pub(crate) fn any_numbers(
     store: &Store,
     args: &[Argument],
 ) -> Result<Option<Seq<usize>>, AllocError>
-    ensures { IfOk result (λ o. o ≡ each number_in (arguments_at store.now args.now)) }
+    ensures { IfOk result (λ o. o ≡ each_argument number_in (arguments_at store.now args.now)) }
 {
     let _ = store;
     let mut all = Vec::new(alloc);
@@ -39,7 +39,7 @@ pub(crate) fn any_pairs(
     store: &Store,
     args: &[Argument],
 ) -> Result<Option<Seq<(usize, i128)>>, AllocError>
-    ensures { IfOk result (λ o. o ≡ pairs (arguments_at store.now args.now)) }
+    ensures { IfOk result (λ o. o ≡ argument_pairs (arguments_at store.now args.now)) }
 {
     let _ = store;
     let mut all = Vec::new(alloc);
@@ -73,7 +73,7 @@ pub(crate) fn any_pairs(
 fn types(alloc: Global, store: &Store, args: &[Argument]) -> Result<Option<Seq<TermId>>, AllocError>
     requires { All (ArgumentHeld store.now) args.now }
     ensures types { IfOk result (λ o. option_map (trees_at store.now) o
-        ≡ each type_in (arguments_at store.now args.now)) }
+        ≡ each_argument type_in (arguments_at store.now args.now)) }
     ensures held { IfOk result (λ o. IfSome o (All (Holds store.now))) }
 {
     let _ = store;

@@ -5,8 +5,8 @@ ghost use Rattle.std.specs.Option.{option_map};
 ghost use Rattle.trees.specs.Tree.{Tree};
 ghost use Rattle.rule_rows.specs.Meaning.{rule_at, RuleHeld};
 ghost use Rattle.rule_words.specs.Arguments.{arguments_at, ArgumentHeld, ArgumentsHeld, have_kinds};
-ghost use Rattle.rule_words.specs.Forms.{kinds};
-ghost use Rattle.rule_words.specs.Rules.{row, name_by_word, rule_from};
+ghost use Rattle.rule_words.specs.Forms.{argument_kinds};
+ghost use Rattle.rule_words.specs.Rules.{rule_row, name_by_word, rule_from};
 ghost use Rattle.rule_words.specs.Written.{name_and_arguments};
 
 use crate::argument::{Argument, ArgumentKind, Kinds};
@@ -58,7 +58,7 @@ macro_rules! word_rows {
 
 /// The word of a rule. It names that rule and no other.
 pub fn word_of(name: RuleName) -> &'static str
-    ensures word { result.now ≡ (row name).word }
+    ensures word { result.now ≡ (rule_row name).word }
     ensures reads_back { name_by_word result.now ≡ Some name }
 {
     rule_table!(word_rows, name)
@@ -119,8 +119,8 @@ macro_rules! kinds_rows {
 
 /// The kinds of a rule's arguments.
 pub fn kinds_of(name: RuleName) -> Kinds
-    ensures first { result.first.now ≡ (kinds (row name).form).first }
-    ensures repeated { result.repeated.now ≡ (kinds (row name).form).repeated }
+    ensures first { result.first.now ≡ (argument_kinds (rule_row name).form).first }
+    ensures repeated { result.repeated.now ≡ (argument_kinds (rule_row name).form).repeated }
 {
     rule_table!(kinds_rows, name)
 }
@@ -253,7 +253,8 @@ fn arguments_of(alloc: Global, rule: &Rule) -> Result<Vec<Argument>, AllocError>
 pub fn written_rule(alloc: Global, rule: &Rule) -> Result<WrittenRule, AllocError>
     ensures reads_back { IfOk result (λ v. (s : List Tree)
         → rule_from v.name (arguments_at s v.arguments.items) ≡ Some (rule_at s rule.now)) }
-    ensures kinds { IfOk result (λ v. (s : List Tree) → let ks = kinds (row v.name).form in
+    ensures kinds { IfOk result (λ v. (s : List Tree)
+        → let ks = argument_kinds (rule_row v.name).form in
         IsTrue (have_kinds ks.first ks.repeated (arguments_at s v.arguments.items))) }
     ensures held { IfOk result (λ v. (s : List Tree) → RuleHeld s rule.now
         → ArgumentsHeld s v.arguments.items) }

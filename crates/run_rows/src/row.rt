@@ -69,7 +69,7 @@ fn push_field(alloc: Global, row: &mut Row, field: &str) -> Result<(), AllocErro
     }
 }
 
-// The words of a text behind the program's name; an empty text has none.
+// The words of a text after the program's name; an empty text has none.
 fn words_of(alloc: Global, text: &str) -> Result<Vec<String>, AllocError> {
     let mut words = Vec::new(alloc);
     words.push(String::from_str(alloc, "why3lift")?)?;

@@ -2,7 +2,7 @@
 use Rattle.std.proofs.Common.{◌≡◌, ℕ, ◌==◌, ◌||◌, Bool, true, false, List, [], ◌∷◌, ◌++◌, length, get_or, drop, refl, sym, ap, ◌∙◌, append_assoc, arith}
 use Rattle.std.specs.List.{list_any}
 use Rattle.std.proofs.lemmas.Bool.Decides.{nat_tests}
-use Rattle.s_expressions.specs.Sexps.{Sexp, Word, Group, Nothing, Then, written, breaks, IsWord, IsOne, AreMembers, Ends}
+use Rattle.s_expressions.specs.Sexps.{Sexp, SexpWord, Group, Nothing, Then, written_sexp, breaks, IsWord, IsOne, IsProperList, Ends}
 
 -- ---- the first byte and the rest
 first_byte : (c e : ℕ) (cs es : List ℕ) → c ∷ cs ≡ e ∷ es → c ≡ e
@@ -44,35 +44,35 @@ word_begins [] r c q p on h = let n = p.some in absurd (omega (arith, n))
 word_begins (x ∷ w) r c q p on h = one_byte c x (sym (first_byte x c (w ++ r) q h)) on (or_left (breaks x) (list_any breaks w) p.whole)
 
 -- nor does an expression begin with a blank or `)`
-one_begins : (s : Sexp) (r : List ℕ) (c : ℕ) (q : List ℕ) → IsOne s → breaks c ≡ true → (c == 40) ≡ false → (written s).text ++ r ≡ c ∷ q → ⊥
-one_begins (Word w) r c q p on off h = word_begins w r c q p on h
+one_begins : (s : Sexp) (r : List ℕ) (c : ℕ) (q : List ℕ) → IsOne s → breaks c ≡ true → (c == 40) ≡ false → (written_sexp s).text ++ r ≡ c ∷ q → ⊥
+one_begins (SexpWord w) r c q p on off h = word_begins w r c q p on h
 one_begins (Group s) r c q p on off h = let e : 40 ≡ c = ap (λ z. get_or z 0 0) h in absurd (grind (arith, nat_tests))
 one_begins Nothing r c q p on off h = absurd p
 one_begins (Then a b) r c q p on off h = absurd p
 
 -- ---- expressions, members after `(`, and members each after a blank
 pub record Told (s : Sexp) : Type 0 where
-  pub one : IsOne s → (u : Sexp) → IsOne u → (r q : List ℕ) → Ends r → Ends q → (written s).text ++ r ≡ (written u).text ++ q → (s ≡ u) × (r ≡ q)
-  pub first : AreMembers s → (u : Sexp) → AreMembers u → (r q : List ℕ) → (written s).first ++ 41 ∷ r ≡ (written u).first ++ 41 ∷ q → (s ≡ u) × (r ≡ q)
-  pub later : AreMembers s → (u : Sexp) → AreMembers u → (r q : List ℕ) → (written s).later ++ 41 ∷ r ≡ (written u).later ++ 41 ∷ q → (s ≡ u) × (r ≡ q)
+  pub one : IsOne s → (u : Sexp) → IsOne u → (r q : List ℕ) → Ends r → Ends q → (written_sexp s).text ++ r ≡ (written_sexp u).text ++ q → (s ≡ u) × (r ≡ q)
+  pub first : IsProperList s → (u : Sexp) → IsProperList u → (r q : List ℕ) → (written_sexp s).first ++ 41 ∷ r ≡ (written_sexp u).first ++ 41 ∷ q → (s ≡ u) × (r ≡ q)
+  pub later : IsProperList s → (u : Sexp) → IsProperList u → (r q : List ℕ) → (written_sexp s).later ++ 41 ∷ r ≡ (written_sexp u).later ++ 41 ∷ q → (s ≡ u) × (r ≡ q)
 
--- what stands after the first member ends it
-later_ends : (s : Sexp) (r : List ℕ) → AreMembers s → Ends ((written s).later ++ 41 ∷ r)
-later_ends (Word w) r p = absurd p
+-- what is after the first member ends it
+later_ends : (s : Sexp) (r : List ℕ) → IsProperList s → Ends ((written_sexp s).later ++ 41 ∷ r)
+later_ends (SexpWord w) r p = absurd p
 later_ends (Group s) r p = absurd p
 later_ends Nothing r p = refl
 later_ends (Then a b) r p = refl
 
-word_told : (w : List ℕ) → Told (Word w)
+word_told : (w : List ℕ) → Told (SexpWord w)
 word_told w = record {
   one = λ p u. at p u;
   first = λ p u k r q h. absurd p;
   later = λ p u k r q h. absurd p;
 }
   where
-    at : IsWord w → (u : Sexp) → IsOne u → (r q : List ℕ) → Ends r → Ends q → w ++ r ≡ (written u).text ++ q → (Word w ≡ u) × (r ≡ q)
-    at p (Word v) k r q e f h = let same = words_apart w v r q p.whole k.whole e f h in (ap Word same.0, same.1)
-    at p (Group s) k r q e f h = absurd (word_begins w r 40 ((written s).first ++ 41 ∷ [] ++ q) p refl h)
+    at : IsWord w → (u : Sexp) → IsOne u → (r q : List ℕ) → Ends r → Ends q → w ++ r ≡ (written_sexp u).text ++ q → (SexpWord w ≡ u) × (r ≡ q)
+    at p (SexpWord v) k r q e f h = let same = words_apart w v r q p.whole k.whole e f h in (ap SexpWord same.0, same.1)
+    at p (Group s) k r q e f h = absurd (word_begins w r 40 ((written_sexp s).first ++ 41 ∷ [] ++ q) p refl h)
     at p Nothing k r q e f h = absurd k
     at p (Then a b) k r q e f h = absurd k
 
@@ -83,11 +83,11 @@ group_told s t = record {
   later = λ p u k r q h. absurd p;
 }
   where
-    at : AreMembers s → (u : Sexp) → IsOne u → (r q : List ℕ) → Ends r → Ends q → 40 ∷ (written s).first ++ 41 ∷ [] ++ r ≡ (written u).text ++ q → (Group s ≡ u) × (r ≡ q)
-    at p (Word v) k r q e f h = absurd (word_begins v q 40 ((written s).first ++ 41 ∷ [] ++ r) k refl (sym h))
+    at : IsProperList s → (u : Sexp) → IsOne u → (r q : List ℕ) → Ends r → Ends q → 40 ∷ (written_sexp s).first ++ 41 ∷ [] ++ r ≡ (written_sexp u).text ++ q → (Group s ≡ u) × (r ≡ q)
+    at p (SexpWord v) k r q e f h = absurd (word_begins v q 40 ((written_sexp s).first ++ 41 ∷ [] ++ r) k refl (sym h))
     at p (Group u) k r q e f h =
-        let inner : (written s).first ++ 41 ∷ r ≡ (written u).first ++ 41 ∷ q =
-        sym (append_assoc (written s).first (41 ∷ []) r) ∙ ap (drop 1) h ∙ append_assoc (written u).first (41 ∷ []) q in
+        let inner : (written_sexp s).first ++ 41 ∷ r ≡ (written_sexp u).first ++ 41 ∷ q =
+        sym (append_assoc (written_sexp s).first (41 ∷ []) r) ∙ ap (drop 1) h ∙ append_assoc (written_sexp u).first (41 ∷ []) q in
         let same = t.first p u k r q inner in (ap Group same.0, same.1)
     at p Nothing k r q e f h = absurd k
     at p (Then a b) k r q e f h = absurd k
@@ -99,14 +99,14 @@ nothing_told = record {
   later = λ p u. at_later u;
 }
   where
-    at_first : (u : Sexp) → AreMembers u → (r q : List ℕ) → 41 ∷ r ≡ (written u).first ++ 41 ∷ q → (Nothing ≡ u) × (r ≡ q)
-    at_first (Word v) k r q h = absurd k
+    at_first : (u : Sexp) → IsProperList u → (r q : List ℕ) → 41 ∷ r ≡ (written_sexp u).first ++ 41 ∷ q → (Nothing ≡ u) × (r ≡ q)
+    at_first (SexpWord v) k r q h = absurd k
     at_first (Group s) k r q h = absurd k
     at_first Nothing k r q h = (refl, rest_of 41 41 r q h)
-    at_first (Then a b) k r q h = absurd (one_begins a ((written b).later ++ 41 ∷ q) 41 r k.0 refl refl (sym (h ∙ append_assoc (written a).text (written b).later (41 ∷ q))))
+    at_first (Then a b) k r q h = absurd (one_begins a ((written_sexp b).later ++ 41 ∷ q) 41 r k.0 refl refl (sym (h ∙ append_assoc (written_sexp a).text (written_sexp b).later (41 ∷ q))))
 
-    at_later : (u : Sexp) → AreMembers u → (r q : List ℕ) → 41 ∷ r ≡ (written u).later ++ 41 ∷ q → (Nothing ≡ u) × (r ≡ q)
-    at_later (Word v) k r q h = absurd k
+    at_later : (u : Sexp) → IsProperList u → (r q : List ℕ) → 41 ∷ r ≡ (written_sexp u).later ++ 41 ∷ q → (Nothing ≡ u) × (r ≡ q)
+    at_later (SexpWord v) k r q h = absurd k
     at_later (Group s) k r q h = absurd k
     at_later Nothing k r q h = (refl, rest_of 41 41 r q h)
     at_later (Then a b) k r q h = let e : 41 ≡ 32 = ap (λ z. get_or z 0 0) h in absurd (omega (arith, e))
@@ -118,32 +118,32 @@ then_told a b t s = record {
   later = λ p u. at_later p u;
 }
   where
-    both : AreMembers (Then a b) → (x y : Sexp) → AreMembers (Then x y) → (r q : List ℕ) → (written a).text ++ (written b).later ++ 41 ∷ r ≡ (written x).text ++ (written y).later ++ 41 ∷ q → (Then a b ≡ Then x y) × (r ≡ q)
+    both : IsProperList (Then a b) → (x y : Sexp) → IsProperList (Then x y) → (r q : List ℕ) → (written_sexp a).text ++ (written_sexp b).later ++ 41 ∷ r ≡ (written_sexp x).text ++ (written_sexp y).later ++ 41 ∷ q → (Then a b ≡ Then x y) × (r ≡ q)
     both p x y k r q h =
-        let apart : (written a).text ++ ((written b).later ++ 41 ∷ r) ≡ (written x).text ++ ((written y).later ++ 41 ∷ q) =
-        sym (append_assoc (written a).text (written b).later (41 ∷ r)) ∙ h ∙ append_assoc (written x).text (written y).later (41 ∷ q) in
-        let one = t.one p.0 x k.0 ((written b).later ++ 41 ∷ r) ((written y).later ++ 41 ∷ q) (later_ends b r p.1) (later_ends y q k.1) apart in
+        let apart : (written_sexp a).text ++ ((written_sexp b).later ++ 41 ∷ r) ≡ (written_sexp x).text ++ ((written_sexp y).later ++ 41 ∷ q) =
+        sym (append_assoc (written_sexp a).text (written_sexp b).later (41 ∷ r)) ∙ h ∙ append_assoc (written_sexp x).text (written_sexp y).later (41 ∷ q) in
+        let one = t.one p.0 x k.0 ((written_sexp b).later ++ 41 ∷ r) ((written_sexp y).later ++ 41 ∷ q) (later_ends b r p.1) (later_ends y q k.1) apart in
         let more = s.later p.1 y k.1 r q one.1 in
         ((λ i. Then (one.0 i) (more.0 i)), more.1)
 
-    at_first : AreMembers (Then a b) → (u : Sexp) → AreMembers u → (r q : List ℕ) → (written a).text ++ (written b).later ++ 41 ∷ r ≡ (written u).first ++ 41 ∷ q → (Then a b ≡ u) × (r ≡ q)
-    at_first p (Word v) k r q h = absurd k
+    at_first : IsProperList (Then a b) → (u : Sexp) → IsProperList u → (r q : List ℕ) → (written_sexp a).text ++ (written_sexp b).later ++ 41 ∷ r ≡ (written_sexp u).first ++ 41 ∷ q → (Then a b ≡ u) × (r ≡ q)
+    at_first p (SexpWord v) k r q h = absurd k
     at_first p (Group s) k r q h = absurd k
-    at_first p Nothing k r q h = absurd (one_begins a ((written b).later ++ 41 ∷ r) 41 q p.0 refl refl (sym (append_assoc (written a).text (written b).later (41 ∷ r)) ∙ h))
+    at_first p Nothing k r q h = absurd (one_begins a ((written_sexp b).later ++ 41 ∷ r) 41 q p.0 refl refl (sym (append_assoc (written_sexp a).text (written_sexp b).later (41 ∷ r)) ∙ h))
     at_first p (Then x y) k r q h = both p x y k r q h
 
-    at_later : AreMembers (Then a b) → (u : Sexp) → AreMembers u → (r q : List ℕ) → 32 ∷ (written a).text ++ (written b).later ++ 41 ∷ r ≡ (written u).later ++ 41 ∷ q → (Then a b ≡ u) × (r ≡ q)
-    at_later p (Word v) k r q h = absurd k
+    at_later : IsProperList (Then a b) → (u : Sexp) → IsProperList u → (r q : List ℕ) → 32 ∷ (written_sexp a).text ++ (written_sexp b).later ++ 41 ∷ r ≡ (written_sexp u).later ++ 41 ∷ q → (Then a b ≡ u) × (r ≡ q)
+    at_later p (SexpWord v) k r q h = absurd k
     at_later p (Group s) k r q h = absurd k
     at_later p Nothing k r q h = let e : 32 ≡ 41 = ap (λ z. get_or z 0 0) h in absurd (omega (arith, e))
     at_later p (Then x y) k r q h = both p x y k r q (ap (drop 1) h)
 
 pub told : (s : Sexp) → Told s
-told (Word w) = word_told w
+told (SexpWord w) = word_told w
 told (Group s) = group_told s (told s)
 told Nothing = nothing_told
 told (Then a b) = then_told a b (told a) (told b)
 
 -- two expressions with the same text are the same
-pub same_text : (s u : Sexp) → IsOne s → IsOne u → (r q : List ℕ) → Ends r → Ends q → (written s).text ++ r ≡ (written u).text ++ q → (s ≡ u) × (r ≡ q)
+pub same_text : (s u : Sexp) → IsOne s → IsOne u → (r q : List ℕ) → Ends r → Ends q → (written_sexp s).text ++ r ≡ (written_sexp u).text ++ q → (s ≡ u) × (r ≡ q)
 same_text s u p k r q e f h = (told s).one p u k r q e f h

@@ -4,25 +4,25 @@ use Rattle.std.specs.List.{list_any, flat_map}
 
 -- an expression, or the members of a list
 pub data Sexp : Type 0 where
-  Word : List ℕ → Sexp
+  SexpWord : List ℕ → Sexp
   Group : Sexp → Sexp
   Nothing : Sexp
   Then : Sexp → Sexp → Sexp
 
--- the text of an expression; that of members, the first of which stands after `(`, and that of members each after a blank
-pub record Written : Type 0 where
+-- the text of an expression; that of members, the first of which is after `(`, and that of members each after a blank
+pub record SexpText : Type 0 where
   pub text : List ℕ
   pub first : List ℕ
   pub later : List ℕ
 
-abbrev pub written : Sexp → Written
-written (Word w) = record { text = w; first = []; later = [] }
-written (Group s) = record { text = 40 ∷ (written s).first ++ 41 ∷ []; first = []; later = [] }
-written Nothing = record { text = []; first = []; later = [] }
-written (Then a rest) = record { text = []; first = (written a).text ++ (written rest).later; later = 32 ∷ (written a).text ++ (written rest).later }
+abbrev pub written_sexp : Sexp → SexpText
+written_sexp (SexpWord w) = record { text = w; first = []; later = [] }
+written_sexp (Group s) = record { text = 40 ∷ (written_sexp s).first ++ 41 ∷ []; first = []; later = [] }
+written_sexp Nothing = record { text = []; first = []; later = [] }
+written_sexp (Then a rest) = record { text = []; first = (written_sexp a).text ++ (written_sexp rest).later; later = 32 ∷ (written_sexp a).text ++ (written_sexp rest).later }
 
-abbrev pub write : Sexp → List ℕ
-write s = (written s).text
+abbrev pub write_sexp : Sexp → List ℕ
+write_sexp s = (written_sexp s).text
 
 -- a blank, a line feed or a parenthesis
 abbrev pub breaks : ℕ → Bool
@@ -39,7 +39,7 @@ pub record Proper : Type 1 where
   pub list : Type 0
 
 abbrev pub proper : Sexp → Proper
-proper (Word w) = record { one = IsWord w; list = ⊥ }
+proper (SexpWord w) = record { one = IsWord w; list = ⊥ }
 proper (Group s) = record { one = (proper s).list; list = ⊥ }
 proper Nothing = record { one = ⊥; list = Unit {0} }
 proper (Then a rest) = record { one = ⊥; list = (proper a).one × (proper rest).list }
@@ -47,17 +47,17 @@ proper (Then a rest) = record { one = ⊥; list = (proper a).one × (proper rest
 abbrev pub IsOne : Sexp → Type 0
 IsOne s = (proper s).one
 
-abbrev pub AreMembers : Sexp → Type 0
-AreMembers s = (proper s).list
+abbrev pub IsProperList : Sexp → Type 0
+IsProperList s = (proper s).list
 
--- what may stand after an expression
+-- what may be after an expression
 abbrev pub Ends : List ℕ → Type 0
 Ends [] = Unit {0}
 Ends (c ∷ cs) = breaks c ≡ true
 
 -- expressions, each on a line
 abbrev pub lines : List Sexp → List ℕ
-lines ss = flat_map (λ s. write s ++ 10 ∷ []) ss
+lines ss = flat_map (λ s. write_sexp s ++ 10 ∷ []) ss
 
 abbrev pub AllOne : List Sexp → Type 0
 AllOne [] = Unit {0}

@@ -3,7 +3,7 @@ use Rattle.std.proofs.Common.{◌≡◌, ℕ, List, [], ◌∷◌, ◌++◌, len
 use Rattle.trees.specs.Tree.{Tree}
 use Rattle.trees.specs.Node.{Grows}
 use Rattle.tasks.specs.Task.{DeclarationTree}
-use Rattle.names_space.specs.Names.{Names, find_name, number_of}
+use Rattle.names_space.specs.Names.{ScopeNames, find_name, number_of}
 use Rattle.names_space.specs.declared.Table.{Table}
 use Rattle.names_space.specs.declared.Table.TheVariants.{Types, Symbols, Propositions, Scopes}
 use Rattle.names_space.specs.declared.TypeName.{TypeName}
@@ -13,14 +13,14 @@ use Rattle.syntax_why.specs.Declarations as source
 use Rattle.syntax_why.specs.declared.declarations.PropKind.{PropKind}
 use Rattle.syntax_why.specs.declared.declarations.PropKind.TheVariants as kind
 use Rattle.elab_names.specs.Abstract.{Expression}
-use Rattle.elab_parts.specs.Declarations.{Declaration, declaration, Made, makes, binds, made_by}
+use Rattle.elab_parts.specs.Declarations.{Declaration, declaration, Made, makes, binds_names, made_names}
 use Rattle.elab_parts.specs.Outcomes.{Outcome}
 use Rattle.elab_terms.specs.Outcomes.{proposition_seen}
 use Rattle.goal_tasks.specs.Theories.{GoalTree}
 use Rattle.declared_names.specs.Made.{thing_named, brought_as, moves_made, moves_of, moves_declared}
 use Rattle.theory_states.specs.declared.states.AxiomAt.{AxiomAt}
 use Rattle.theory_states.specs.States.{StateTree, with_declaration, with_declarations}
-use Rattle.theory_declarations.specs.Declared.{formula_of, goals_said, with_goal, with_axiom, with_proposition, with_proposed, known_by, named_by}
+use Rattle.theory_declarations.specs.Declared.{known_formula, goals_said, with_declared_goal, with_axiom, with_proposition, with_proposed, known_by, with_named}
 use Rattle.same_states.specs.Same.{AreSameNames, IsSameFound, IsSameMove, AreSameMoves}
 use Rattle.same_states.proofs.Lists.{alike_append}
 use Rattle.same_states.proofs.Finding.{found_same}
@@ -29,7 +29,7 @@ use Rattle.same_states.specs.StateSame.{IsSameOpened, IsSameOver, IsSameState}
 use Rattle.same_states.proofs.Later.{state_later}
 
 -- ---- the names that a declaration made
-module _ (s t : List Tree) (n m : Names) (h : AreSameNames s t n m) where
+module _ (s t : List Tree) (n m : ScopeNames) (h : AreSameNames s t n m) where
   -- a number that was found
   numbered : Option TypeName → Option TypeName
   numbered o = option_map stands.Entry (option_map number_of o)
@@ -73,13 +73,13 @@ module _ (s t : List Tree) (n m : Names) (h : AreSameNames s t n m) where
   made_same (makes table c ∷ ms) =
       alike_append (IsSameMove s t) (brought_as table c.name (thing_named n table c.name)) (brought_as table c.name (thing_named m table c.name)) (moves_made n ms) (moves_made m ms)
       (move_same table c.name (thing_named n table c.name) (thing_named m table c.name) (thing_same table c.name)) (made_same ms)
-  made_same (binds cs ∷ ms) = made_same ms
+  made_same (binds_names cs ∷ ms) = made_same ms
 
   of_same : (o : Option Declaration) → AreSameMoves s t (moves_of n o) (moves_of m o)
   of_same None = tt
-  of_same (Some d) = made_same (made_by d)
+  of_same (Some d) = made_same (made_names d)
 
-  pub declared_moves_same : (d : source.Decl) → AreSameMoves s t (moves_declared n d) (moves_declared m d)
+  pub declared_moves_same : (d : source.SyntaxDeclaration) → AreSameMoves s t (moves_declared n d) (moves_declared m d)
   declared_moves_same d = of_same (declaration d)
 
 -- ---- what becomes known
@@ -143,17 +143,17 @@ module _ (s t : List Tree) where
     number = h.number;
   }
 
-  goal_same : (k : PropKind) (rigid : List ℕ) (x : DeclarationTree) (c d : StateTree) → IsSameOver s t c d → IsSameOver s t (with_goal k rigid x c) (with_goal k rigid x d)
+  goal_same : (k : PropKind) (rigid : List ℕ) (x : DeclarationTree) (c d : StateTree) → IsSameOver s t c d → IsSameOver s t (with_declared_goal k rigid x c) (with_declared_goal k rigid x d)
   goal_same k rigid x c d h =
-      goals_same (goals_said k (length c.opened.visible) rigid x.name (formula_of x.body)) (goals_said k (length d.opened.visible) rigid x.name (formula_of x.body)) c d
-      (ap (λ (ks : List ℕ). goals_said k (length ks) rigid x.name (formula_of x.body)) h.opened.visible) h
+      goals_same (goals_said k (length c.opened.visible) rigid x.name (known_formula x.body)) (goals_said k (length d.opened.visible) rigid x.name (known_formula x.body)) c d
+      (ap (λ (ks : List ℕ). goals_said k (length ks) rigid x.name (known_formula x.body)) h.opened.visible) h
 
   proposition_same : (k : PropKind) (vars : List Word) (rigid : List ℕ) (x : DeclarationTree) (c d : StateTree) → IsSameOver s t c d
       → IsSameOver s t (with_proposition k vars rigid x c) (with_proposition k vars rigid x d)
   proposition_same kind.Axiom vars rigid x c d h =
       axioms_same (record { decl = length c.decls; vars = vars }) (record { decl = length d.decls; vars = vars }) (with_declaration x c) (with_declaration x d)
       (ap (λ (ds : List DeclarationTree). let a : AxiomAt = record { decl = length ds; vars = vars } in a) h.decls) (declaration_same x x c d refl h)
-  proposition_same kind.Lemma vars rigid x c d h = declaration_same x x (with_goal kind.Lemma rigid x c) (with_goal kind.Lemma rigid x d) refl (goal_same kind.Lemma rigid x c d h)
+  proposition_same kind.Lemma vars rigid x c d h = declaration_same x x (with_declared_goal kind.Lemma rigid x c) (with_declared_goal kind.Lemma rigid x d) refl (goal_same kind.Lemma rigid x c d h)
   proposition_same kind.Goal vars rigid x c d h = goal_same kind.Goal rigid x c d h
 
   proposed_same : (k : PropKind) (vars : List Word) (rigid : List ℕ) (xs : List DeclarationTree) (c d : StateTree) → IsSameOver s t c d
@@ -171,7 +171,7 @@ module _ (s t : List Tree) where
   known_by_same q ks js xs ys c d e f h = subst₂ (λ (is : List ℕ) (zs : List DeclarationTree). IsSameOver s t (known_by q ks xs c) (known_by q is zs d)) e f (known_same q ks xs c d h)
 
 -- the entries and names of outcomes that are alike
-pub named_same : (x : source.Decl) (o p : Outcome) (s t : List Tree) (c d : StateTree) → Grows c.trees s → Grows d.trees t → IsSameState c d → IsSameOutcome s t o p → IsSameOver s t (named_by x o s c) (named_by x p t d)
+pub named_same : (x : source.SyntaxDeclaration) (o p : Outcome) (s t : List Tree) (c d : StateTree) → Grows c.trees s → Grows d.trees t → IsSameState c d → IsSameOutcome s t o p → IsSameOver s t (with_named x o s c) (with_named x p t d)
 named_same x o p s t c d g k h same =
     let later : IsSameOver s t c d = state_later c.trees d.trees s t g k c d h in
     record {

@@ -1,4 +1,4 @@
--- The elaboration of a declaration is determined by where it stands, up to the numbers of aliases.
+-- The elaboration of a declaration is determined by where it is, up to the numbers of aliases.
 use Rattle.std.proofs.Common.{◌≡◌, ◌≢◌, ℕ, List, Option, None, sym, ap, subst, ◌∙◌}
 use Rattle.trees.specs.Tree.{Tree}
 use Rattle.trees.specs.Node.{Grows}

@@ -1,11 +1,11 @@
 -- The same is found among names that mean the same.
 use Rattle.std.proofs.Common.{◌≡◌, ℕ, Bool, true, false, cond, ◌&&◌, List, [], ◌∷◌, get_or, Option, Some, None, refl, sym, ap, subst}
 use Rattle.trees.specs.Tree.{Tree}
-use Rattle.names_space.specs.Names.{Names, Entry, number_of, same_table, is_named, latest, is_declared, entries_of, innermost, first_or_zero, or_else, first_found, table_before, find_within, find_name}
+use Rattle.names_space.specs.Names.{ScopeNames, ScopeEntry, number_of, same_table, is_named, latest, is_declared, entries_of, innermost, first_or_zero, or_else, first_found, table_before, find_within, find_name}
 use Rattle.names_space.specs.declared.Table.{Table}
 use Rattle.names_space.specs.declared.TypeName.{TypeName}
 use Rattle.names_space.proofs.Listed.{same_table_is}
-use Rattle.same_states.specs.Same.{AreAlike, IsSameThing, IsSameFound, IsSameEntry, AreSameNames}
+use Rattle.same_states.specs.Same.{AreEachAlike, IsSameThing, IsSameFound, IsSameEntry, AreSameNames}
 use Rattle.same_states.proofs.Lists.{alike_get}
 
 first_true : (a b : Bool) → a && b ≡ true → a ≡ true
@@ -13,13 +13,13 @@ first_true true b e = refl
 first_true false b e = e
 
 module _ (s t : List Tree) where
-  abbrev AreSameEntries : List Entry → List Entry → Type 0
-  AreSameEntries es fs = AreAlike (IsSameEntry s t) es fs
+  abbrev AreSameEntries : List ScopeEntry → List ScopeEntry → Type 0
+  AreSameEntries es fs = AreEachAlike (IsSameEntry s t) es fs
 
-  named_same : (table : Table) (x : List ℕ) (e f : Entry) → IsSameEntry s t e f → is_named table x e ≡ is_named table x f
+  named_same : (table : Table) (x : List ℕ) (e f : ScopeEntry) → IsSameEntry s t e f → is_named table x e ≡ is_named table x f
   named_same table x e f h = cc (h.table, h.name)
 
-  latest_same : (table : Table) (x : List ℕ) (es fs : List Entry) → AreSameEntries es fs → IsSameFound s t table (latest table x es) (latest table x fs)
+  latest_same : (table : Table) (x : List ℕ) (es fs : List ScopeEntry) → AreSameEntries es fs → IsSameFound s t table (latest table x es) (latest table x fs)
   latest_same table x [] [] h = tt
   latest_same table x [] (f ∷ fs) h = absurd h
   latest_same table x (e ∷ es) [] h = absurd h
@@ -36,13 +36,13 @@ module _ (s t : List Tree) where
   or_else_same table (Some a) None c d h k = absurd h
   or_else_same table (Some a) (Some b) c d h k = h
 
-  first_found_same : (table : Table) (x : List ℕ) (es fs : List (List Entry)) (numbers : List ℕ) → AreAlike AreSameEntries es fs → IsSameFound s t table (first_found table x es numbers) (first_found table x fs numbers)
+  first_found_same : (table : Table) (x : List ℕ) (es fs : List (List ScopeEntry)) (numbers : List ℕ) → AreEachAlike AreSameEntries es fs → IsSameFound s t table (first_found table x es numbers) (first_found table x fs numbers)
   first_found_same table x es fs [] h = tt
   first_found_same table x es fs (k ∷ ks) h =
       or_else_same table (latest table x (get_or es k [])) (latest table x (get_or fs k [])) (first_found table x es ks) (first_found table x fs ks)
       (latest_same table x (get_or es k []) (get_or fs k []) (alike_get AreSameEntries es fs k [] [] h tt)) (first_found_same table x es fs ks h)
 
-  within_same : (table : Table) (es fs : List (List Entry)) (path : List (List ℕ)) (a b : Option TypeName) → AreAlike AreSameEntries es fs → IsSameFound s t (table_before table path) a b
+  within_same : (table : Table) (es fs : List (List ScopeEntry)) (path : List (List ℕ)) (a b : Option TypeName) → AreEachAlike AreSameEntries es fs → IsSameFound s t (table_before table path) a b
       → IsSameFound s t table (find_within es table a path) (find_within fs table b path)
   within_same table es fs [] a b h k = k
   within_same table es fs (x ∷ path) None None h k = tt
@@ -55,7 +55,7 @@ module _ (s t : List Tree) where
       subst (λ (c : TypeName). IsSameFound s t table (find_within es table (Some a) (x ∷ path)) (find_within fs table (Some c) (x ∷ path))) k
       (within_same table es fs path (latest before x (get_or es (number_of a) [])) (latest before x (get_or fs (number_of a) [])) h next)
 
-  pub found_same : (n m : Names) (table : Table) (path : List (List ℕ)) → AreSameNames s t n m → IsSameFound s t table (find_name n table path) (find_name m table path)
+  pub found_same : (n m : ScopeNames) (table : Table) (path : List (List ℕ)) → AreSameNames s t n m → IsSameFound s t table (find_name n table path) (find_name m table path)
   found_same n m table [] h = tt
   found_same n m table (x ∷ path) h =
       let before : Table = table_before table path in
@@ -63,7 +63,7 @@ module _ (s t : List Tree) where
       subst (λ (ks : List ℕ). IsSameFound s t before (first_found before x n.entries n.nested) (first_found before x m.entries ks)) h.nested (first_found_same before x n.entries m.entries n.nested h.entries) in
       within_same table n.entries m.entries path (first_found before x n.entries n.nested) (first_found before x m.entries m.nested) h.entries first
 
-  declared_in_same : (table : Table) (x : List ℕ) (es fs : List Entry) → AreSameEntries es fs → is_declared table x es ≡ is_declared table x fs
+  declared_in_same : (table : Table) (x : List ℕ) (es fs : List ScopeEntry) → AreSameEntries es fs → is_declared table x es ≡ is_declared table x fs
   declared_in_same table x [] [] h = refl
   declared_in_same table x [] (f ∷ fs) h = absurd h
   declared_in_same table x (e ∷ es) [] h = absurd h
@@ -73,7 +73,7 @@ module _ (s t : List Tree) where
       let declared : e.declared ≡ f.declared = h.0.declared in
       cc
 
-  pub declared_same : (n m : Names) (table : Table) (x : List ℕ) → AreSameNames s t n m → is_declared table x (entries_of n (innermost n)) ≡ is_declared table x (entries_of m (innermost m))
+  pub declared_same : (n m : ScopeNames) (table : Table) (x : List ℕ) → AreSameNames s t n m → is_declared table x (entries_of n (innermost n)) ≡ is_declared table x (entries_of m (innermost m))
   declared_same n m table x h =
       subst (λ (k : ℕ). is_declared table x (entries_of n (innermost n)) ≡ is_declared table x (entries_of m k)) (ap first_or_zero h.nested)
       (declared_in_same table x (entries_of n (innermost n)) (entries_of m (innermost n)) (alike_get AreSameEntries n.entries m.entries (innermost n) [] [] h.entries tt))

@@ -2,14 +2,14 @@
 use Rattle.std.proofs.Common.{ℕ, ◌<◌, ◌≤◌, List, length, sym, subst, ◌∙◌, arith}
 use Rattle.trees.specs.Tree.{Tree}
 use Rattle.trees.specs.Node.{Grows}
-use Rattle.names_space.specs.Names.{Names, Entry}
+use Rattle.names_space.specs.Names.{ScopeNames, ScopeEntry}
 use Rattle.names_space.specs.declared.Table.{Table}
 use Rattle.names_space.specs.declared.Table.TheVariants.{Types, Symbols, Propositions, Scopes}
 use Rattle.names_space.specs.declared.TypeName.{TypeName}
 use Rattle.names_space.specs.declared.TypeName.TheVariants as stands
 use Rattle.scope_moves.specs.declared.moves.Move.{Move}
 use Rattle.scope_moves.specs.declared.moves.Move.TheVariants.{Brings, Opens, Closes}
-use Rattle.same_states.specs.Same.{AreAlike, IsSameType, IsSameMeaning, IsSameThing, IsSameEntry, AreSameNames, IsSameMove, AreSameMoves}
+use Rattle.same_states.specs.Same.{AreEachAlike, IsSameType, IsSameMeaning, IsSameThing, IsSameEntry, AreSameNames, IsSameMove, AreSameMoves}
 use Rattle.same_states.proofs.Lists.{alike_as, alike_turned}
 
 module _ (s t u v : List Tree) (g : Grows s u) (h : Grows t v) where
@@ -33,12 +33,12 @@ module _ (s t u v : List Tree) (g : Grows s u) (h : Grows t v) where
   thing_later Propositions a b same = same
   thing_later Scopes a b same = same
 
-  entry_later : (e f : Entry) → IsSameEntry s t e f → IsSameEntry u v e f
+  entry_later : (e f : ScopeEntry) → IsSameEntry s t e f → IsSameEntry u v e f
   entry_later e f same = record { table = same.table; name = same.name; thing = thing_later e.table e.thing f.thing same.thing; declared = same.declared }
 
-  pub names_later : (n m : Names) → AreSameNames s t n m → AreSameNames u v n m
+  pub names_later : (n m : ScopeNames) → AreSameNames s t n m → AreSameNames u v n m
   names_later n m same = record {
-    entries = alike_as (AreAlike (IsSameEntry s t)) (AreAlike (IsSameEntry u v)) (alike_as (IsSameEntry s t) (IsSameEntry u v) entry_later) n.entries m.entries same.entries;
+    entries = alike_as (AreEachAlike (IsSameEntry s t)) (AreEachAlike (IsSameEntry u v)) (alike_as (IsSameEntry s t) (IsSameEntry u v) entry_later) n.entries m.entries same.entries;
     nested = same.nested;
   }
 
@@ -69,7 +69,7 @@ module _ (s t : List Tree) where
   thing_turned Propositions a b same = sym same
   thing_turned Scopes a b same = sym same
 
-  entry_turned : (e f : Entry) → IsSameEntry s t e f → IsSameEntry t s f e
+  entry_turned : (e f : ScopeEntry) → IsSameEntry s t e f → IsSameEntry t s f e
   entry_turned e f same = record {
     table = sym same.table;
     name = sym same.name;
@@ -77,9 +77,9 @@ module _ (s t : List Tree) where
     declared = sym same.declared;
   }
 
-  pub names_turned : (n m : Names) → AreSameNames s t n m → AreSameNames t s m n
+  pub names_turned : (n m : ScopeNames) → AreSameNames s t n m → AreSameNames t s m n
   names_turned n m same = record {
-    entries = alike_turned (AreAlike (IsSameEntry s t)) (AreAlike (IsSameEntry t s)) (alike_turned (IsSameEntry s t) (IsSameEntry t s) entry_turned) n.entries m.entries same.entries;
+    entries = alike_turned (AreEachAlike (IsSameEntry s t)) (AreEachAlike (IsSameEntry t s)) (alike_turned (IsSameEntry s t) (IsSameEntry t s) entry_turned) n.entries m.entries same.entries;
     nested = sym same.nested;
   }
 

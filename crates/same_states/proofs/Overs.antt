@@ -6,7 +6,7 @@ use Rattle.std.proofs.Math.Path.{fun_ext}
 use Rattle.trees.specs.Tree.{Tree}
 use Rattle.trees.specs.Node.{tree_at}
 use Rattle.tasks.specs.Task.{SymbolTree}
-use Rattle.names_space.specs.Names.{Names, number_of, find_name}
+use Rattle.names_space.specs.Names.{ScopeNames, number_of, find_name}
 use Rattle.names_space.specs.declared.Table.{Table}
 use Rattle.names_space.specs.declared.Table.TheVariants.{Types, Symbols}
 use Rattle.names_space.specs.declared.TypeName.{TypeName}
@@ -49,7 +49,7 @@ module _ (s t : List Tree) where
   or_int_same [] x (Some a) None h = absurd h
   or_int_same (q ∷ qs) x a b h = h
 
-  module _ (n m : Names) (same : AreSameNames s t n m) where
+  module _ (n m : ScopeNames) (same : AreSameNames s t n m) where
     types_are : (qs : List Word) (x : Word) → option_map (meaning_at s) (type_named n qs x) ≡ option_map (meaning_at t) (type_named m qs x)
     types_are qs x = meanings_same (type_named n qs x) (type_named m qs x)
         (or_int_same qs x (find_name n Types (qs ++ x ∷ [])) (find_name m Types (qs ++ x ∷ [])) (found_same s t n m Types (qs ++ x ∷ []) same))

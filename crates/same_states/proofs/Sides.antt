@@ -10,7 +10,7 @@ use Rattle.decl_checks.specs.declared.fault.CheckFault.{CheckFault}
 use Rattle.decl_checks.specs.declared.fault.CheckFault.TheVariants as check
 use Rattle.side_conditions.specs.declared.sides.SideFault.{SideFault}
 use Rattle.side_conditions.specs.declared.sides.SideFault.TheVariants as side
-use Rattle.side_conditions.specs.Sides.{IsCovered, IsFirstOpen, IsFirstFault, IsSideFault}
+use Rattle.side_conditions.specs.Sides.{IsCovered, IsFirstOpenMatch, IsFirstCheckFault, IsSideFault}
 use Rattle.same_states.proofs.StateLists.{without_or, one_without}
 
 -- ---- what is wrong with clauses, definitions and types
@@ -90,24 +90,24 @@ one_fault symbols (Says e) f g h k = absurd h
 
 -- ---- of all
 module _ (symbols : List SymbolTree) where
-  open_or : (ms : List (ℕ × List Tree)) (token : ℕ) → All (IsCovered symbols) ms → IsFirstOpen symbols ms token → ⊥
+  open_or : (ms : List (ℕ × List Tree)) (token : ℕ) → All (IsCovered symbols) ms → IsFirstOpenMatch symbols ms token → ⊥
   open_or [] token a h = h
   open_or (m ∷ ms) token a (inl h) = h.1 (All-head (IsCovered symbols) m ms a)
   open_or (m ∷ ms) token a (inr h) = open_or ms token (All-tail (IsCovered symbols) m ms a) h.1
 
-  one_open : (ms : List (ℕ × List Tree)) (i j : ℕ) → IsFirstOpen symbols ms i → IsFirstOpen symbols ms j → i ≡ j
+  one_open : (ms : List (ℕ × List Tree)) (i j : ℕ) → IsFirstOpenMatch symbols ms i → IsFirstOpenMatch symbols ms j → i ≡ j
   one_open [] i j h k = absurd h
   one_open (m ∷ ms) i j (inl h) (inl k) = sym h.0 ∙ k.0
   one_open (m ∷ ms) i j (inl h) (inr k) = absurd (h.1 k.0)
   one_open (m ∷ ms) i j (inr h) (inl k) = absurd (k.1 h.0)
   one_open (m ∷ ms) i j (inr h) (inr k) = one_open ms i j h.1 k.1
 
-  first_or : (bs : List BodyTree) (f : CheckFault) → All (HasNoFault symbols) bs → IsFirstFault symbols bs f → ⊥
+  first_or : (bs : List BodyTree) (f : CheckFault) → All (HasNoFault symbols) bs → IsFirstCheckFault symbols bs f → ⊥
   first_or [] f a h = h
   first_or (b ∷ bs) f a (inl h) = fault_or symbols b f (All-head (HasNoFault symbols) b bs a) h
   first_or (b ∷ bs) f a (inr h) = first_or bs f (All-tail (HasNoFault symbols) b bs a) h.1
 
-  one_first : (bs : List BodyTree) (f g : CheckFault) → IsFirstFault symbols bs f → IsFirstFault symbols bs g → f ≡ g
+  one_first : (bs : List BodyTree) (f g : CheckFault) → IsFirstCheckFault symbols bs f → IsFirstCheckFault symbols bs g → f ≡ g
   one_first [] f g h k = absurd h
   one_first (b ∷ bs) f g (inl h) (inl k) = one_fault symbols b f g h k
   one_first (b ∷ bs) f g (inl h) (inr k) = absurd (fault_or symbols b f k.0 h)

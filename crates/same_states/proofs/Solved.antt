@@ -5,7 +5,7 @@ use Rattle.std.proofs.lemmas.Option.{slice_get_within}
 use Rattle.trees.specs.Tree.{Tree}
 use Rattle.unify_types.specs.Pairs.{SolvesAll, IsSolution, IsSolvable, IsUnsolvable}
 use Rattle.elab_walk.specs.Patterns.{Notes}
-use Rattle.elab_walk.specs.Pieces.{Piece}
+use Rattle.elab_walk.specs.Pieces.{NotedTree}
 use Rattle.elab_parts.specs.declared.solution.TypingFault.{TypingFault}
 use Rattle.elab_parts.specs.declared.solution.TypingFault.TheVariants.{Memory, Clash, Undetermined}
 use Rattle.elab_parts.specs.Elaborated.{IsDetermined, AreMatches, IsSolved, IsTypingFault}
@@ -15,7 +15,7 @@ use Rattle.elab_groups.specs.Groups.{AreSolved}
 one_matches : (rigid : ℕ) (ns : Notes) (ms other : List (ℕ × List Tree)) → IsDetermined rigid ns → AreMatches rigid ns ms → AreMatches rigid ns other → ms ≡ other
 one_matches rigid ns ms other d a b = sym (a d.solvable.0 d.solvable.1) ∙ b d.solvable.0 d.solvable.1
 
-pub one_tree : (rigid : ℕ) (p : Piece) (e f : Tree) (ms other : List (ℕ × List Tree)) → IsSolved rigid p e ms → IsSolved rigid p f other → (e ≡ f) × (ms ≡ other)
+pub one_tree : (rigid : ℕ) (p : NotedTree) (e f : Tree) (ms other : List (ℕ × List Tree)) → IsSolved rigid p e ms → IsSolved rigid p f other → (e ≡ f) × (ms ≡ other)
 one_tree rigid p e f ms other a b =
     let d : IsDetermined rigid p.notes = a.determined in
     (sym (a.tree d.solvable.0 d.solvable.1) ∙ b.tree d.solvable.0 d.solvable.1, one_matches rigid p.notes ms other d a.matches b.matches)

@@ -2,7 +2,7 @@
 use Rattle.std.specs.Prelude.{◌≡◌, ℕ, List, [], ◌∷◌, Option, Some, None}
 use Rattle.trees.specs.Tree.{Tree}
 use Rattle.trees.specs.Node.{tree_at, Holds}
-use Rattle.names_space.specs.Names.{Names, Entry}
+use Rattle.names_space.specs.Names.{ScopeNames, ScopeEntry}
 use Rattle.names_space.specs.declared.Table.{Table}
 use Rattle.names_space.specs.declared.Table.TheVariants.{Types, Symbols, Propositions, Scopes}
 use Rattle.names_space.specs.declared.TypeName.{TypeName}
@@ -11,10 +11,10 @@ use Rattle.scope_moves.specs.declared.moves.Move.{Move}
 use Rattle.scope_moves.specs.declared.moves.Move.TheVariants.{Brings, Opens, Closes}
 
 -- two lists of one length, whose members are alike at each place
-abbrev pub AreAlike : {X : Type 0} → (X → X → Type 0) → List X → List X → Type 0
-AreAlike R [] [] = Unit {0}
-AreAlike R (x ∷ xs) (y ∷ ys) = R x y × AreAlike R xs ys
-AreAlike R _ _ = ⊥
+abbrev pub AreEachAlike : {X : Type 0} → (X → X → Type 0) → List X → List X → Type 0
+AreEachAlike R [] [] = Unit {0}
+AreEachAlike R (x ∷ xs) (y ∷ ys) = R x y × AreEachAlike R xs ys
+AreEachAlike R _ _ = ⊥
 
 -- two numbers of one tree, each held by its store
 pub record IsSameType (s t : List Tree) (i j : ℕ) : Type 0 where
@@ -41,14 +41,14 @@ IsSameFound s t table None None = Unit {0}
 IsSameFound s t table (Some a) (Some b) = IsSameThing s t table a b
 IsSameFound s t table _ _ = ⊥
 
-pub record IsSameEntry (s t : List Tree) (e f : Entry) : Type 0 where
+pub record IsSameEntry (s t : List Tree) (e f : ScopeEntry) : Type 0 where
   pub table : e.table ≡ f.table
   pub name : e.name ≡ f.name
   pub thing : IsSameThing s t e.table e.thing f.thing
   pub declared : e.declared ≡ f.declared
 
-pub record AreSameNames (s t : List Tree) (n m : Names) : Type 0 where
-  pub entries : AreAlike (AreAlike (IsSameEntry s t)) n.entries m.entries
+pub record AreSameNames (s t : List Tree) (n m : ScopeNames) : Type 0 where
+  pub entries : AreEachAlike (AreEachAlike (IsSameEntry s t)) n.entries m.entries
   pub nested : n.nested ≡ m.nested
 
 -- a name that is brought in
@@ -64,4 +64,4 @@ IsSameMove s t Closes Closes = Unit {0}
 IsSameMove s t _ _ = ⊥
 
 abbrev pub AreSameMoves : List Tree → List Tree → List Move → List Move → Type 0
-AreSameMoves s t ms ns = AreAlike (IsSameMove s t) ms ns
+AreSameMoves s t ms ns = AreEachAlike (IsSameMove s t) ms ns

@@ -1,7 +1,7 @@
 -- What is known while a source is typed, alike over two stores: all but the trees of the store and the numbers of aliases is one.
 use Rattle.std.specs.Prelude.{◌≡◌, List}
 use Rattle.trees.specs.Tree.{Tree}
-use Rattle.same_states.specs.Same.{AreAlike, AreSameNames, AreSameMoves}
+use Rattle.same_states.specs.Same.{AreEachAlike, AreSameNames, AreSameMoves}
 use Rattle.theory_states.specs.States.{KnownTree, OpenedTree, StateTree}
 
 pub record IsSameKnown (s t : List Tree) (k j : KnownTree) : Type 0 where
@@ -24,7 +24,7 @@ pub record IsSameOpened (s t : List Tree) (o p : OpenedTree) : Type 0 where
 pub record IsSameOver (s t : List Tree) (c d : StateTree) : Type 0 where
   pub symbols : c.symbols ≡ d.symbols
   pub decls : c.decls ≡ d.decls
-  pub known : AreAlike (IsSameKnown s t) c.known d.known
+  pub known : AreEachAlike (IsSameKnown s t) c.known d.known
   pub opened : IsSameOpened s t c.opened d.opened
   pub number : c.number ≡ d.number
 

@@ -1,4 +1,4 @@
-// The elaboration of a declaration is determined: where it stands alike over two stores, it has the same outcome, or the same first fault.
+// The elaboration of a declaration is determined: where it is alike over two stores, it has the same outcome, or the same first fault.
 ghost use Rattle.std.specs.Prelude.{◌≡◌, ◌≢◌, List, None};
 ghost use Rattle.trees.specs.Tree.{Tree};
 ghost use Rattle.trees.specs.Node.{Grows};

@@ -1,4 +1,4 @@
-//! The names that a theory hands on, and how they come into scopes.
+//! The names that a theory passes on, and how they come into scopes.
 //! It depends on scopes; the theories of a source depend on it.
 #![tactic(auto)]
 

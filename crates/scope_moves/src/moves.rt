@@ -32,7 +32,7 @@ impl Clone for Move {
     }
 }
 
-/// Leaves the innermost scope, if it stands in another one. No memory is taken.
+/// Leaves the innermost scope, if it is in another one. No memory is taken.
 pub fn leave(scope: &mut Scope)
     ensures { scope.new ≡ left scope.old }
 {
@@ -112,7 +112,7 @@ pub fn bring_theory(
     }
 }
 
-/// Puts the names that are handed on after others. Only want of memory refuses.
+/// Puts the names that are passed on after others. Only want of memory refuses.
 pub fn hand_on(link: Link, moves: &[Move], out: &mut Vec<Move>) -> Result<(), AllocError>
     ensures { OnOk result (out.new.items ≡ out.old.items ++ handed link moves.now) }
 {

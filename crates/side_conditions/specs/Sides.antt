@@ -17,19 +17,19 @@ abbrev pub IsCovered : List SymbolTree → ℕ × List Tree → Type 0
 IsCovered symbols m = AreExhaustive symbols m.1
 
 -- the first match that doesn't take all values has this token
-abbrev pub IsFirstOpen : List SymbolTree → List (ℕ × List Tree) → ℕ → Type 0
-IsFirstOpen symbols [] token = ⊥
-IsFirstOpen symbols (m ∷ ms) token = ((m.0 ≡ token) × (IsCovered symbols m → ⊥)) ⊎ (IsCovered symbols m × IsFirstOpen symbols ms token)
+abbrev pub IsFirstOpenMatch : List SymbolTree → List (ℕ × List Tree) → ℕ → Type 0
+IsFirstOpenMatch symbols [] token = ⊥
+IsFirstOpenMatch symbols (m ∷ ms) token = ((m.0 ≡ token) × (IsCovered symbols m → ⊥)) ⊎ (IsCovered symbols m × IsFirstOpenMatch symbols ms token)
 
 -- the first declaration with a fault has this one
-abbrev pub IsFirstFault : List SymbolTree → List BodyTree → CheckFault → Type 0
-IsFirstFault symbols [] f = ⊥
-IsFirstFault symbols (b ∷ bs) f = HasFault symbols b f ⊎ (HasNoFault symbols b × IsFirstFault symbols bs f)
+abbrev pub IsFirstCheckFault : List SymbolTree → List BodyTree → CheckFault → Type 0
+IsFirstCheckFault symbols [] f = ⊥
+IsFirstCheckFault symbols (b ∷ bs) f = HasFault symbols b f ⊎ (HasNoFault symbols b × IsFirstCheckFault symbols bs f)
 
 abbrev pub IsSideFault : List SymbolTree → List (ℕ × List Tree) → List BodyTree → SideFault → Type 0
 IsSideFault symbols ms bs Memory = Unit {0}
-IsSideFault symbols ms bs (NotExhaustive token) = IsFirstOpen symbols ms token
-IsSideFault symbols ms bs (Check f) = All (IsCovered symbols) ms × IsFirstFault symbols bs f
+IsSideFault symbols ms bs (NotExhaustive token) = IsFirstOpenMatch symbols ms token
+IsSideFault symbols ms bs (Check f) = All (IsCovered symbols) ms × IsFirstCheckFault symbols bs f
 
 -- the patterns of a match are held, well typed and of one type
 pub record IsMatch (s : List Tree) (symbols : List SymbolTree) (m : MatchAt) : Type 0 where
@@ -44,11 +44,11 @@ bodies ds = map (λ (d : DeclarationTree). d.body) ds
 abbrev pub MatchesAnswer : List SymbolTree → List (ℕ × List Tree) → Result Unit SideFault → Type 0
 MatchesAnswer symbols ms (Ok u) = All (IsCovered symbols) ms
 MatchesAnswer symbols ms (Err Memory) = Unit {0}
-MatchesAnswer symbols ms (Err (NotExhaustive token)) = IsFirstOpen symbols ms token
+MatchesAnswer symbols ms (Err (NotExhaustive token)) = IsFirstOpenMatch symbols ms token
 MatchesAnswer symbols ms (Err (Check f)) = ⊥
 
 abbrev pub ChecksAnswer : List SymbolTree → List BodyTree → Result Unit SideFault → Type 0
 ChecksAnswer symbols bs (Ok u) = All (HasNoFault symbols) bs
 ChecksAnswer symbols bs (Err Memory) = Unit {0}
 ChecksAnswer symbols bs (Err (NotExhaustive token)) = ⊥
-ChecksAnswer symbols bs (Err (Check f)) = IsFirstFault symbols bs f
+ChecksAnswer symbols bs (Err (Check f)) = IsFirstCheckFault symbols bs f

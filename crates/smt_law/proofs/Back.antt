@@ -17,12 +17,12 @@ use Rattle.linear_leaf.specs.Valuations.{same_tree}
 use Rattle.name_entries.specs.declared.names.NameOf.{NameOf}
 use Rattle.name_entries.specs.declared.names.NameOf.TheVariants.{Rigid}
 use Rattle.name_entries.specs.declared.names.NameEntry.{NameEntry}
-use Rattle.name_tables.specs.Occurrences.{Occurrence, whole}
-use Rattle.name_tables.specs.Tables.{place_of}
+use Rattle.name_tables.specs.Occurrences.{Occurrence, whole_occurrence}
+use Rattle.name_tables.specs.Tables.{occurrence_place}
 use Rattle.printed_problems.specs.Templates.{has_template}
-use Rattle.s_expressions.specs.Sexps.{Sexp, Word, Group, Nothing, Then}
-use Rattle.smt_law.specs.Plain.{begins_number, is_local, reserved, is_reserved, is_type, arity}
-use Rattle.smt_law.specs.Reading.{reading}
+use Rattle.s_expressions.specs.Sexps.{Sexp, SexpWord, Group, Nothing, Then}
+use Rattle.smt_law.specs.Plain.{begins_number, is_local, syntax_words, is_reserved, is_type, arity}
+use Rattle.smt_law.specs.Reading.{tree_as_read}
 use Rattle.smt_law.proofs.Forms.{Known, word_of}
 
 -- ---- words
@@ -33,7 +33,7 @@ pub data Role : Type 0 where
   Free : Role
 
 abbrev pub role : List ℕ → Role
-role w = if begins_number w then Number else (if is_local w then Local else (if is_reserved w then Syntax (position_or_len (bytes_eq w) reserved) else Free))
+role w = if begins_number w then Number else (if is_local w then Local else (if is_reserved w then Syntax (position_or_len (bytes_eq w) syntax_words) else Free))
 
 abbrev pub negative : ℕ → ℤ
 negative zero = pos 0
@@ -45,7 +45,7 @@ integer_of (b ∷ bs) = if b == 45 then negative (digits_value 10 bs) else pos (
 
 -- ---- the things of the table
 abbrev pub first_where : (Occurrence → Bool) → List Occurrence → Occurrence
-first_where test [] = whole 0
+first_where test [] = whole_occurrence 0
 first_where test (o ∷ os) = if test o then o else first_where test os
 
 -- where a template is for symbols without type variables, it is at no types
@@ -70,7 +70,7 @@ is_rigid_entry None = false
 is_rigid_entry (Some e) = is_rigid_name e.symbol
 
 abbrev pub is_rigid : Known → Occurrence → Bool
-is_rigid c o = is_rigid_entry (slice_get c.printing.names (place_of c.printing.things o))
+is_rigid c o = is_rigid_entry (slice_get c.printing.names (occurrence_place c.printing.things o))
 
 abbrev pub type_at : Known → Occurrence → Tree
 type_at c o = if is_rigid c o then Leaf (HTyRigid o.symbol) else One (HTyApp o.symbol) o.types
@@ -88,8 +88,8 @@ is_predicate _ = false
 
 abbrev pub made_by : SymbolTree → Occurrence → List Tree → Tree
 made_by e o args =
-    if is_predicate e.kind then Two (HPred o.symbol) (reading o.types) (cells args)
-    else Three (HFun o.symbol) (reading o.types) (cells args) (reading (or_end (option_map (λ r. inst_types r (members o.types)) e.result)))
+    if is_predicate e.kind then Two (HPred o.symbol) (tree_as_read o.types) (cells args)
+    else Three (HFun o.symbol) (tree_as_read o.types) (cells args) (tree_as_read (or_end (option_map (λ r. inst_types r (members o.types)) e.result)))
 
 abbrev pub made : Known → Occurrence → List Tree → Tree
 made c o args = made_by (symbol_or c.vocabulary.symbols o.symbol) o args
@@ -120,7 +120,7 @@ free_tree c w args = symbol_tree c w args
 abbrev pub local_tree : Known → List ℕ → List Tree → Tree
 local_tree c [] types = Leaf HEnd
 local_tree c (b ∷ bs) types =
-    if b == 99 then One (HParam (digits_value 10 bs)) (reading (get_or c.params (digits_value 10 bs) (Leaf HEnd)))
+    if b == 99 then One (HParam (digits_value 10 bs)) (tree_as_read (get_or c.params (digits_value 10 bs) (Leaf HEnd)))
     else One (HBound (length types - suc (digits_value 10 bs))) (get_or types (length types - suc (digits_value 10 bs)) (Leaf HEnd))
 
 abbrev pub word_tree : Known → List ℕ → List Tree → Role → Tree
@@ -140,7 +140,7 @@ nth es n = get_or es n (Leaf HEnd)
 
 -- the sort of a binder's variable
 abbrev pub bound_word : Sexp → List ℕ
-bound_word (Then head (Then (Group (Then (Group (Then x (Then (Word w) rest))) more)) body)) = w
+bound_word (Then head (Then (Group (Then (Group (Then x (Then (SexpWord w) rest))) more)) body)) = w
 bound_word _ = []
 
 abbrev pub let_tree : Tree → List Tree → (List Tree → List Tree) → Tree
@@ -154,8 +154,8 @@ syntax_tree c n s types inner =
     else (if n == 5 then Two (HJoin Imp) (nth (inner types) 1) (nth (inner types) 2)
     else (if n == 6 then Three HIf (nth (inner types) 1) (nth (inner types) 2) (nth (inner types) 3)
     else (if n == 7 then let_tree (nth (inner types) 1) types inner
-    else (if n == 8 then Two HForall (reading (type_called c (bound_word s))) (nth (inner (reading (type_called c (bound_word s)) ∷ types)) 2)
-    else Two HExists (reading (type_called c (bound_word s))) (nth (inner (reading (type_called c (bound_word s)) ∷ types)) 2)))))))
+    else (if n == 8 then Two HForall (tree_as_read (type_called c (bound_word s))) (nth (inner (tree_as_read (type_called c (bound_word s)) ∷ types)) 2)
+    else Two HExists (tree_as_read (type_called c (bound_word s))) (nth (inner (tree_as_read (type_called c (bound_word s)) ∷ types)) 2)))))))
 
 -- by the role of the first word; a binding is read as its value
 abbrev pub group_tree : Known → List ℕ → Sexp → List Tree → (List Tree → List Tree) → Role → Tree
@@ -166,11 +166,11 @@ group_tree c w s types inner Free = free_tree c w (drop 1 (inner types))
 
 -- a list of bindings is read as its first
 abbrev pub members_tree : Known → Sexp → List Tree → (List Tree → List Tree) → Tree
-members_tree c (Then (Word w) rest) types inner = group_tree c w (Then (Word w) rest) types inner (role w)
+members_tree c (Then (SexpWord w) rest) types inner = group_tree c w (Then (SexpWord w) rest) types inner (role w)
 members_tree c _ types inner = nth (inner types) 0
 
 abbrev pub back : Known → Sexp → Back
-back c (Word w) = record { one = λ types. word_tree c w types (role w); list = λ types. [] }
+back c (SexpWord w) = record { one = λ types. word_tree c w types (role w); list = λ types. [] }
 back c (Group s) = record { one = λ types. members_tree c s types (back c s).list; list = λ types. [] }
 back c Nothing = record { one = λ types. Leaf HEnd; list = λ types. [] }
 back c (Then a rest) = record { one = λ types. Leaf HEnd; list = λ types. (back c a).one types ∷ (back c rest).list types }

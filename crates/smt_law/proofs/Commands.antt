@@ -1,24 +1,24 @@
--- The commands of a problem that stand after what its table makes, as S-expressions, each on a line.
+-- The commands of a problem that are after what its table makes, as S-expressions, each on a line.
 use Rattle.std.proofs.Common.{◌≡◌, ℕ, ◌+◌, List, [], ◌∷◌, ◌++◌, codes, refl, sym, ap, ◌∙◌, append_assoc, append-nil}
 use Rattle.std.specs.Fmt.{decimal}
 use Rattle.trees.specs.Tree.{Tree}
 use Rattle.name_tables.specs.Tables.{thing_of}
 use Rattle.printed_terms.specs.Texts.{parameter}
-use Rattle.smt_texts.specs.Text.{parameter_line}
-use Rattle.s_expressions.specs.Sexps.{Sexp, Word, Group, Nothing, Then, write, lines}
+use Rattle.smt_texts.specs.Text.{smt_parameter_line}
+use Rattle.s_expressions.specs.Sexps.{Sexp, SexpWord, Group, Nothing, Then, write_sexp, lines}
 use Rattle.smt_law.proofs.Forms.{Known, word_of, read}
 
 abbrev pub command : List ℕ → Sexp → Sexp
-command word parts = Group (Then (Word word) parts)
+command word parts = Group (Then (SexpWord word) parts)
 
 abbrev pub parameter_command : ℕ → List ℕ → Sexp
-parameter_command n sort = command (codes "declare-fun") (Then (Word (parameter n)) (Then (Group Nothing) (Then (Word sort) Nothing)))
+parameter_command n sort = command (codes "declare-fun") (Then (SexpWord (parameter n)) (Then (Group Nothing) (Then (SexpWord sort) Nothing)))
 
 abbrev pub assertion : Sexp → Sexp
 assertion s = command (codes "assert") (Then s Nothing)
 
 abbrev pub negated : Sexp → Sexp
-negated s = Group (Then (Word (codes "not")) (Then s Nothing))
+negated s = Group (Then (SexpWord (codes "not")) (Then s Nothing))
 
 abbrev pub check : Sexp
 check = command (codes "check-sat") Nothing
@@ -47,7 +47,7 @@ commands c params premises goal = parameter_commands c 0 params ++ (assertions c
 -- ---- lines
 pub lines_join : (ss us : List Sexp) → lines (ss ++ us) ≡ lines ss ++ lines us
 lines_join [] us = refl
-lines_join (s ∷ ss) us = ap (λ z. (write s ++ 10 ∷ []) ++ z) (lines_join ss us) ∙ sym (append_assoc (write s ++ 10 ∷ []) (lines ss) (lines us))
+lines_join (s ∷ ss) us = ap (λ z. (write_sexp s ++ 10 ∷ []) ++ z) (lines_join ss us) ∙ sym (append_assoc (write_sexp s ++ 10 ∷ []) (lines ss) (lines us))
 
 parameter_parts : (v s : List ℕ) → ((v ++ (32 ∷ 40 ∷ 41 ∷ 32 ∷ [])) ++ s) ++ (41 ∷ 10 ∷ []) ≡ ((v ++ 32 ∷ 40 ∷ 41 ∷ 32 ∷ (s ++ [])) ++ (41 ∷ [])) ++ (10 ∷ [])
 parameter_parts v s =
@@ -55,19 +55,19 @@ parameter_parts v s =
     ∙ sym (append_assoc v (32 ∷ 40 ∷ 41 ∷ 32 ∷ s) (41 ∷ 10 ∷ [])) ∙ sym (append_assoc (v ++ 32 ∷ 40 ∷ 41 ∷ 32 ∷ s) (41 ∷ []) (10 ∷ []))
     ∙ ap (λ z. ((v ++ 32 ∷ 40 ∷ 41 ∷ 32 ∷ z) ++ (41 ∷ [])) ++ (10 ∷ [])) (sym (append-nil s))
 
-pub parameter_line_is : (n : ℕ) (w : List ℕ) → parameter_line n w ≡ write (parameter_command n w) ++ 10 ∷ []
+pub parameter_line_is : (n : ℕ) (w : List ℕ) → smt_parameter_line n w ≡ write_sexp (parameter_command n w) ++ 10 ∷ []
 parameter_line_is n w = ap (λ z. codes "(declare-fun c" ++ z) (parameter_parts (decimal n) w)
 
 formula_parts : (s : List ℕ) → s ++ (41 ∷ 10 ∷ []) ≡ ((s ++ []) ++ (41 ∷ [])) ++ (10 ∷ [])
 formula_parts s = sym (append_assoc s (41 ∷ []) (10 ∷ [])) ∙ ap (λ z. (z ++ (41 ∷ [])) ++ (10 ∷ [])) (sym (append-nil s))
 
-pub assertion_is : (s : Sexp) → codes "(assert " ++ write s ++ codes ")\n" ≡ write (assertion s) ++ 10 ∷ []
-assertion_is s = ap (λ z. codes "(assert " ++ z) (formula_parts (write s))
+pub assertion_is : (s : Sexp) → codes "(assert " ++ write_sexp s ++ codes ")\n" ≡ write_sexp (assertion s) ++ 10 ∷ []
+assertion_is s = ap (λ z. codes "(assert " ++ z) (formula_parts (write_sexp s))
 
 goal_parts : (s : List ℕ) → s ++ (41 ∷ 41 ∷ 10 ∷ []) ≡ ((((s ++ []) ++ (41 ∷ [])) ++ []) ++ (41 ∷ [])) ++ (10 ∷ [])
 goal_parts s =
     sym (append_assoc s (41 ∷ []) (41 ∷ 10 ∷ [])) ∙ sym (append_assoc (s ++ 41 ∷ []) (41 ∷ []) (10 ∷ []))
     ∙ (λ i. ((sym (append-nil (sym (append-nil s) i ++ (41 ∷ []))) i) ++ (41 ∷ [])) ++ (10 ∷ []))
 
-pub goal_is : (s : Sexp) → codes "(assert (not " ++ write s ++ codes "))\n" ≡ write (assertion (negated s)) ++ 10 ∷ []
-goal_is s = ap (λ z. codes "(assert (not " ++ z) (goal_parts (write s))
+pub goal_is : (s : Sexp) → codes "(assert (not " ++ write_sexp s ++ codes "))\n" ≡ write_sexp (assertion (negated s)) ++ 10 ∷ []
+goal_is s = ap (λ z. codes "(assert (not " ++ z) (goal_parts (write_sexp s))

@@ -14,7 +14,7 @@ use Rattle.trees.specs.Sorts.{yield, sort_of, type_of, IsExpression, IsList}
 use Rattle.trees.proofs.Types.{expression_yield}
 use Rattle.tasks.specs.declared.signature.SymbolKind.TheVariants as kinds
 use Rattle.tasks.specs.Task.{symbol_or}
-use Rattle.tasks.specs.Typing.{members, option_list, bound_types, IsUse, Gives, MakesTerms}
+use Rattle.tasks.specs.Typing.{members, option_list, bound_types, IsUse, HasResult, MakesTerms}
 use Rattle.tasks.specs.Equations.{cells}
 use Rattle.tasks.proofs.Closing.{typed_sorted}
 use Rattle.driver_items.specs.declared.kinds.Printer.{Printer}
@@ -22,14 +22,14 @@ use Rattle.driver_items.specs.declared.kinds.Printer.TheVariants.{Smt}
 use Rattle.name_tables.specs.Occurrences.{occurrence, in_type, in_types_of, occurrences, of_two}
 use Rattle.name_tables.specs.Tables.{thing_of}
 use Rattle.printed_problems.specs.Problems.{is_kind}
-use Rattle.printed_terms.specs.Words.{truth}
+use Rattle.printed_terms.specs.Words.{truth_text}
 use Rattle.printed_terms.specs.declared.words.Form.TheVariants.{Negation, Connected, Conditional}
 use Rattle.printed_terms.specs.declared.words.Binder.TheVariants.{ForAll, ThereIs, LetIn}
-use Rattle.printed_terms.specs.Texts.{symbol_text, equality_text, enclosed, bound_text, variable, parameter, leaf_text, one_text, two_text, three_text, printed, under}
+use Rattle.printed_terms.specs.Texts.{symbol_text, equality_text, form_text, bound_text, variable_text, parameter, leaf_text, one_text, two_text, three_text, printed, depth_under}
 use Rattle.printed_terms.proofs.Members.{printed_members}
-use Rattle.s_expressions.specs.Sexps.{Sexp, Word, Group, Nothing, Then, IsWord, IsOne, AreMembers}
+use Rattle.s_expressions.specs.Sexps.{Sexp, SexpWord, Group, Nothing, Then, IsWord, IsOne, IsProperList}
 use Rattle.smt_law.specs.Plain.{arity}
-use Rattle.smt_law.specs.Reading.{read_op, reading}
+use Rattle.smt_law.specs.Reading.{read_op, tree_as_read}
 use Rattle.smt_law.proofs.Forms.{Known, called, two_called, word_of, bound_read, op_word, leaf_read, one_read, two_read, three_read, read}
 use Rattle.smt_law.proofs.Back.{is_formula_sort, is_formula, equation, word_tree, group_tree, back}
 use Rattle.smt_law.proofs.Words.{number_word, variable_word, parameter_word, decimal_value, free_role, or_right, its_word}
@@ -66,11 +66,11 @@ first_term s (inr e) = cc
 -- ---- what is told of each
 pub record IsRead (c : Known) (types : List Tree) (e : Tree) (s : Sexp) : Type 0 where
   pub proper : IsOne s
-  pub back : (back c s).one (map reading types) ≡ reading e
+  pub back : (back c s).one (map tree_as_read types) ≡ tree_as_read e
 
 pub record AreRead (c : Known) (types : List Tree) (e : Tree) (s : Sexp) : Type 0 where
-  pub proper : AreMembers s
-  pub back : cells ((back c s).list (map reading types)) ≡ reading e
+  pub proper : IsProperList s
+  pub back : cells ((back c s).list (map tree_as_read types)) ≡ tree_as_read e
 
 pub record Told (c : Known) (d : ℕ) (types : List Tree) (e : Tree) : Type 0 where
   pub text : Writes (printed c.printing d e) (read c d e)
@@ -79,12 +79,12 @@ pub record Told (c : Known) (d : ℕ) (types : List Tree) (e : Tree) : Type 0 wh
 
 module _ (c : Known) (r : IsReader c) (d : ℕ) (types : List Tree) where
   abbrev bound : List Tree
-  bound = map reading types
+  bound = map tree_as_read types
 
   -- ---- leaves
   leaf_writes : (h : Head) → Writes (leaf_text c.printing h) (leaf_read h)
-  leaf_writes HTrue = record { text = ap (λ (x : Printer). truth x true) r.smt; members = refl }
-  leaf_writes HFalse = record { text = ap (λ (x : Printer). truth x false) r.smt; members = refl }
+  leaf_writes HTrue = record { text = ap (λ (x : Printer). truth_text x true) r.smt; members = refl }
+  leaf_writes HFalse = record { text = ap (λ (x : Printer). truth_text x false) r.smt; members = refl }
   leaf_writes (HNum z) = record { text = refl; members = refl }
   leaf_writes _ = record { text = refl; members = refl }
 
@@ -110,30 +110,30 @@ module _ (c : Known) (r : IsReader c) (d : ℕ) (types : List Tree) where
 
   -- ---- one child
   one_writes : (h : Head) (a : Tree) → Writes (printed c.printing d a) (read c d a) → Writes (one_text c.printing d h (printed c.printing d a)) (one_read d h (read c d a))
-  one_writes (HBound k) a t = record { text = ap (λ (x : Printer). variable x (d - suc k)) r.smt; members = refl }
+  one_writes (HBound k) a t = record { text = ap (λ (x : Printer). variable_text x (d - suc k)) r.smt; members = refl }
   one_writes (HParam n) a t = record { text = refl; members = refl }
-  one_writes HNot a t = record { text = (λ j. enclosed (r.smt j) Negation (t.text j ∷ [])) ∙ negation_is (read c d a).one; members = refl }
+  one_writes HNot a t = record { text = (λ j. form_text (r.smt j) Negation (t.text j ∷ [])) ∙ negation_is (read c d a).one; members = refl }
   one_writes _ a t = record { text = refl; members = refl }
 
-  type_read : (ts : List Tree) (k : ℕ) (a : Tree) → slice_get ts k ≡ Some a → get_or (map reading ts) k (Leaf HEnd) ≡ reading a
+  type_read : (ts : List Tree) (k : ℕ) (a : Tree) → slice_get ts k ≡ Some a → get_or (map tree_as_read ts) k (Leaf HEnd) ≡ tree_as_read a
   type_read [] k a e = absurd (cc)
-  type_read (t ∷ ts) zero a e = let s : t ≡ a = cc in ap reading s
+  type_read (t ∷ ts) zero a e = let s : t ≡ a = cc in ap tree_as_read s
   type_read (t ∷ ts) (suc k) a e = type_read ts k a e
 
-  variable_is : (k : ℕ) (a : Tree) → slice_get types k ≡ Some a → d ≡ length types → d < 2 ^ 64 → IsRead c types (One (HBound k) a) (Word (variable Smt (d - suc k)))
+  variable_is : (k : ℕ) (a : Tree) → slice_get types k ≡ Some a → d ≡ length types → d < 2 ^ 64 → IsRead c types (One (HBound k) a) (SexpWord (variable_text Smt (d - suc k)))
   variable_is k a e depth low =
       let within = slice_get_within types k a e in
       let n : ℕ = d - suc k in
       let w = variable_word n (omega arith) in
       let v = decimal_value n (omega arith) in
-      let many : length bound ≡ d = length-map types reading ∙ sym depth in
+      let many : length bound ≡ d = length-map types tree_as_read ∙ sym depth in
       let place : length bound - suc (digits_value 10 (decimal n)) ≡ k = omega (arith, many, v, within, depth) in
       record {
         proper = w.proper;
-        back = ap (word_tree c (variable Smt n) bound) w.told ∙ (λ j. One (HBound (place j)) (get_or bound (place j) (Leaf HEnd))) ∙ ap (One (HBound k)) (type_read types k a e);
+        back = ap (word_tree c (variable_text Smt n) bound) w.told ∙ (λ j. One (HBound (place j)) (get_or bound (place j) (Leaf HEnd))) ∙ ap (One (HBound k)) (type_read types k a e);
       }
 
-  parameter_is : (n : ℕ) (a : Tree) → slice_get c.params n ≡ Some a → IsRead c types (One (HParam n) a) (Word (parameter n))
+  parameter_is : (n : ℕ) (a : Tree) → slice_get c.params n ≡ Some a → IsRead c types (One (HParam n) a) (SexpWord (parameter n))
   parameter_is n a e =
       let within = slice_get_within c.params n a e in
       let few = r.params in
@@ -141,7 +141,7 @@ module _ (c : Known) (r : IsReader c) (d : ℕ) (types : List Tree) where
       let v = decimal_value n (omega arith) in
       record {
         proper = w.proper;
-        back = ap (word_tree c (parameter n) bound) w.told ∙ (λ j. One (HParam (v j)) (reading (get_or c.params (v j) (Leaf HEnd)))) ∙ ap (λ z. One (HParam n) (reading z)) (get_or_from_slice_get c.params n a (Leaf HEnd) e);
+        back = ap (word_tree c (parameter n) bound) w.told ∙ (λ j. One (HParam (v j)) (tree_as_read (get_or c.params (v j) (Leaf HEnd)))) ∙ ap (λ z. One (HParam n) (tree_as_read z)) (get_or_from_slice_get c.params n a (Leaf HEnd) e);
       }
 
   one_one : (h : Head) (a : Tree) → Input c d types (One h a) → Told c d types a → IsExpression (sort_of (One h a)) → IsRead c types (One h a) (one_read d h (read c d a)).one
@@ -173,14 +173,14 @@ module _ (c : Known) (r : IsReader c) (d : ℕ) (types : List Tree) where
   predicate_is_used : (k : ℕ) (ts args : Tree) → Input c d types (Two (HPred k) ts args) → IsUsed c k ts args
   predicate_is_used k ts args i = let u = predicate_used k ts args i in used_by c k ts args (ap is_kind u.0) u.1
 
-  function_used : (k : ℕ) (ts args type : Tree) → Input c d types (Three (HFun k) ts args type) → MakesTerms (symbol_or c.vocabulary.symbols k).kind × IsUse (symbol_or c.vocabulary.symbols k) ts args × Gives (symbol_or c.vocabulary.symbols k) ts type
-  function_used k ts args type i = entry_has c.vocabulary.symbols k (λ e. MakesTerms e.kind × IsUse e ts args × Gives e ts type) i.typed.1.1
+  function_used : (k : ℕ) (ts args type : Tree) → Input c d types (Three (HFun k) ts args type) → MakesTerms (symbol_or c.vocabulary.symbols k).kind × IsUse (symbol_or c.vocabulary.symbols k) ts args × HasResult (symbol_or c.vocabulary.symbols k) ts type
+  function_used k ts args type i = entry_has c.vocabulary.symbols k (λ e. MakesTerms e.kind × IsUse e ts args × HasResult e ts type) i.typed.1.1
 
   function_is_used : (k : ℕ) (ts args type : Tree) → Input c d types (Three (HFun k) ts args type) → IsUsed c k ts args
   function_is_used k ts args type i = let u = function_used k ts args type i in used_by c k ts args (term_no_type (symbol_or c.vocabulary.symbols k).kind u.0) u.1
 
   symbol_writes : (k : ℕ) (ts args : Tree) → IsUsed c k ts args → Writes (printed c.printing d args) (read c d args)
-      → symbol_text c.printing (occurrence k ts) (printed c.printing d args).members ≡ Rattle.s_expressions.specs.Sexps.write (called (word_of c (occurrence k ts)) (read c d args).members)
+      → symbol_text c.printing (occurrence k ts) (printed c.printing d args).members ≡ Rattle.s_expressions.specs.Sexps.write_sexp (called (word_of c (occurrence k ts)) (read c d args).members)
   symbol_writes k ts args u t =
       let n : length (texts_of (read c d args).members) ≡ arity c.vocabulary.symbols k =
       ap length (sym t.members) ∙ ap length (printed_members c.printing d args) ∙ length-map (members args) (λ e. (printed c.printing d e).text) ∙ u.fit in
@@ -203,18 +203,18 @@ module _ (c : Known) (r : IsReader c) (d : ℕ) (types : List Tree) where
       let left = input_left c d types h a b i in
       sort_is c r types a left.typed k left.ground (subst (λ z. Rattle.name_tables.specs.Seen.AreIn c.printing.things z) e own)
 
-  two_writes : (h : Head) (a b : Tree) → Input c d types (Two h a b) → Writes (printed c.printing d a) (read c d a) → Writes (printed c.printing (under h d) b) (read c (under h d) b)
-      → Writes (two_text c.printing d h a (printed c.printing d a) (printed c.printing (under h d) b)) (two_read c d h a (read c d a) (read c (under h d) b))
+  two_writes : (h : Head) (a b : Tree) → Input c d types (Two h a b) → Writes (printed c.printing d a) (read c d a) → Writes (printed c.printing (depth_under h d) b) (read c (depth_under h d) b)
+      → Writes (two_text c.printing d h a (printed c.printing d a) (printed c.printing (depth_under h d) b)) (two_read c d h a (read c d a) (read c (depth_under h d) b))
   two_writes HCell a b i s t = record { text = refl; members = (λ j. s.text j ∷ t.members j) }
   two_writes (HPred k) a b i s t = record { text = symbol_writes k a b (predicate_is_used k a b i) t; members = refl }
   two_writes HEq a b i s t = record { text = (λ j. equality_text c.printing.driver (s.text j ∷ t.text j ∷ [])) ∙ equality_is c r (read c d a).one (read c d b).one; members = refl }
-  two_writes (HJoin op) a b i s t = record { text = (λ j. enclosed (r.smt j) (Connected op) (s.text j ∷ t.text j ∷ [])) ∙ connected_is op (read c d a).one (read c d b).one; members = refl }
+  two_writes (HJoin op) a b i s t = record { text = (λ j. form_text (r.smt j) (Connected op) (s.text j ∷ t.text j ∷ [])) ∙ connected_is op (read c d a).one (read c d b).one; members = refl }
   two_writes HForall a b i s t =
       let k = sort_of_type HForall a b i.typed.0.0.0 refl i in
-      record { text = (λ j. bound_text (r.smt j) ForAll d (k.text j) (t.text j)) ∙ bound_is ForAll d (Word (word_of c (thing_of a))) (read c (d + 1) b).one; members = refl }
+      record { text = (λ j. bound_text (r.smt j) ForAll d (k.text j) (t.text j)) ∙ bound_is ForAll d (SexpWord (word_of c (thing_of a))) (read c (d + 1) b).one; members = refl }
   two_writes HExists a b i s t =
       let k = sort_of_type HExists a b i.typed.0.0.0 refl i in
-      record { text = (λ j. bound_text (r.smt j) ThereIs d (k.text j) (t.text j)) ∙ bound_is ThereIs d (Word (word_of c (thing_of a))) (read c (d + 1) b).one; members = refl }
+      record { text = (λ j. bound_text (r.smt j) ThereIs d (k.text j) (t.text j)) ∙ bound_is ThereIs d (SexpWord (word_of c (thing_of a))) (read c (d + 1) b).one; members = refl }
   two_writes HLet a b i s t = record { text = (λ j. bound_text (r.smt j) LetIn d (s.text j) (t.text j)) ∙ bound_is LetIn d (read c d a).one (read c (d + 1) b).one; members = refl }
   two_writes _ a b i s t = record { text = refl; members = refl }
 
@@ -235,38 +235,38 @@ module _ (c : Known) (r : IsReader c) (d : ℕ) (types : List Tree) where
   word_proper Imp = record { some = omega arith; whole = refl }
   word_proper Iff = record { some = omega arith; whole = refl }
 
-  formula_kept : (a : Tree) → sort_of a ≡ Formula → is_formula (reading a) ≡ true
+  formula_kept : (a : Tree) → sort_of a ≡ Formula → is_formula (tree_as_read a) ≡ true
   formula_kept a e = ap is_formula_sort (sort_kept a ∙ e)
 
-  term_kept : (a : Tree) → sort_of a ≡ Term → is_formula (reading a) ≡ false
+  term_kept : (a : Tree) → sort_of a ≡ Term → is_formula (tree_as_read a) ≡ false
   term_kept a e = ap is_formula_sort (sort_kept a ∙ e)
 
   equality_back : (s u : Sexp) (x y : Tree) → (back c s).one bound ≡ x → (back c u).one bound ≡ y → is_formula x ≡ false → (back c (two_called c.words.of_equality s u)).one bound ≡ Two HEq x y
   equality_back s u x y p q f =
       let w = c.words.of_equality in
-      let whole = Then (Word w) (Then s (Then u Nothing)) in
+      let whole = Then (SexpWord w) (Then s (Then u Nothing)) in
       ap (group_tree c w whole bound (back c whole).list) (free_role w (equality_free c r))
       ∙ ap (λ b. if b then equation ((back c s).one bound) ((back c u).one bound) else Rattle.smt_law.proofs.Back.symbol_tree c w ((back c s).one bound ∷ (back c u).one bound ∷ [])) (or_right (bytes_eq w (codes "=")) (bytes_eq w w) (its_word w))
       ∙ (λ j. equation (p j) (q j)) ∙ ap (λ b. if b then Two (HJoin Iff) x y else Two HEq x y) f
 
   -- the variable of a binder here
-  binder_word : d < 2 ^ 64 → IsWord (variable Smt d)
+  binder_word : d < 2 ^ 64 → IsWord (variable_text Smt d)
   binder_word low = (variable_word d (omega arith)).proper
 
-  list_read : (t : Option Tree) → option_list (option_map reading t) ++ map reading types ≡ map reading (option_list t ++ types)
+  list_read : (t : Option Tree) → option_list (option_map tree_as_read t) ++ map tree_as_read types ≡ map tree_as_read (option_list t ++ types)
   list_read None = refl
   list_read (Some t) = refl
 
-  let_back : (value body : Sexp) (a : Tree) → d < 2 ^ 64 → (back c value).one bound ≡ reading a → (back c (bound_read (codes "let") d value body)).one bound ≡ Two HLet (reading a) ((back c body).one (map reading (option_list (type_of a) ++ types)))
+  let_back : (value body : Sexp) (a : Tree) → d < 2 ^ 64 → (back c value).one bound ≡ tree_as_read a → (back c (bound_read (codes "let") d value body)).one bound ≡ Two HLet (tree_as_read a) ((back c body).one (map tree_as_read (option_list (type_of a) ++ types)))
   let_back value body a low p =
-      let x = variable Smt d in
-      let binding = Then (Word x) (Then value Nothing) in
-      let told : (back c (Group binding)).one bound ≡ reading a = ap (group_tree c x binding bound (back c binding).list) (variable_word d (omega arith)).told ∙ p in
+      let x = variable_text Smt d in
+      let binding = Then (SexpWord x) (Then value Nothing) in
+      let told : (back c (Group binding)).one bound ≡ tree_as_read a = ap (group_tree c x binding bound (back c binding).list) (variable_word d (omega arith)).told ∙ p in
       (λ j. Two HLet (told j) ((back c body).one (option_list (type_of (told j)) ++ bound)))
-      ∙ ap (λ z. Two HLet (reading a) ((back c body).one z)) (ap (λ t. option_list t ++ bound) (type_kept a) ∙ list_read (type_of a))
+      ∙ ap (λ z. Two HLet (tree_as_read a) ((back c body).one z)) (ap (λ t. option_list t ++ bound) (type_kept a) ∙ list_read (type_of a))
 
-  two_one : (h : Head) (a b : Tree) → Input c d types (Two h a b) → Told c d types a → Told c (under h d) (bound_types h a ++ types) b → IsExpression (sort_of (Two h a b))
-      → IsRead c types (Two h a b) (two_read c d h a (read c d a) (read c (under h d) b)).one
+  two_one : (h : Head) (a b : Tree) → Input c d types (Two h a b) → Told c d types a → Told c (depth_under h d) (bound_types h a ++ types) b → IsExpression (sort_of (Two h a b))
+      → IsRead c types (Two h a b) (two_read c d h a (read c d a) (read c (depth_under h d) b)).one
   two_one HCell a b i s t x = list_no x
   two_one (HPred k) a b i s t x =
       let u = predicate_used k a b i in
@@ -281,18 +281,18 @@ module _ (c : Known) (r : IsReader c) (d : ℕ) (types : List Tree) where
   two_one HEq a b i s t x =
       let p = s.one (inl i.typed.0.0.0) in
       let q = t.one (inl i.typed.0.0.1) in
-      record { proper = ((equality_free c r).proper, (p.proper, (q.proper, tt))); back = equality_back (read c d a).one (read c d b).one (reading a) (reading b) p.back q.back (term_kept a i.typed.0.0.0) }
+      record { proper = ((equality_free c r).proper, (p.proper, (q.proper, tt))); back = equality_back (read c d a).one (read c d b).one (tree_as_read a) (tree_as_read b) p.back q.back (term_kept a i.typed.0.0.0) }
   two_one (HJoin op) a b i s t x =
       let p = s.one (inr i.typed.0.0.0) in
       let q = t.one (inr i.typed.0.0.1) in
-      record { proper = (word_proper op, (p.proper, (q.proper, tt))); back = connected_back op (read c d a).one (read c d b).one (reading a) (reading b) p.back q.back (formula_kept a i.typed.0.0.0) }
+      record { proper = (word_proper op, (p.proper, (q.proper, tt))); back = connected_back op (read c d a).one (read c d b).one (tree_as_read a) (tree_as_read b) p.back q.back (formula_kept a i.typed.0.0.0) }
   two_one HForall a b i s t x =
       let k = sort_of_type HForall a b i.typed.0.0.0 refl i in
       let q = t.one (inr i.typed.0.0.1) in
       let low = i.low in
       record {
         proper = (record { some = omega arith; whole = refl }, (((binder_word (omega arith), (k.free.proper, tt)), tt), (q.proper, tt)));
-        back = (λ j. Two HForall (reading (k.told j)) ((back c (read c (d + 1) b).one).one (reading (k.told j) ∷ bound))) ∙ ap (Two HForall (reading a)) q.back;
+        back = (λ j. Two HForall (tree_as_read (k.told j)) ((back c (read c (d + 1) b).one).one (tree_as_read (k.told j) ∷ bound))) ∙ ap (Two HForall (tree_as_read a)) q.back;
       }
   two_one HExists a b i s t x =
       let k = sort_of_type HExists a b i.typed.0.0.0 refl i in
@@ -300,7 +300,7 @@ module _ (c : Known) (r : IsReader c) (d : ℕ) (types : List Tree) where
       let low = i.low in
       record {
         proper = (record { some = omega arith; whole = refl }, (((binder_word (omega arith), (k.free.proper, tt)), tt), (q.proper, tt)));
-        back = (λ j. Two HExists (reading (k.told j)) ((back c (read c (d + 1) b).one).one (reading (k.told j) ∷ bound))) ∙ ap (Two HExists (reading a)) q.back;
+        back = (λ j. Two HExists (tree_as_read (k.told j)) ((back c (read c (d + 1) b).one).one (tree_as_read (k.told j) ∷ bound))) ∙ ap (Two HExists (tree_as_read a)) q.back;
       }
   two_one HLet a b i s t x =
       let p = s.one (inl i.typed.0.0.0) in
@@ -308,14 +308,14 @@ module _ (c : Known) (r : IsReader c) (d : ℕ) (types : List Tree) where
       let low = i.low in
       record {
         proper = (record { some = omega arith; whole = refl }, (((binder_word (omega arith), (p.proper, tt)), tt), (q.proper, tt)));
-        back = let_back (read c d a).one (read c (d + 1) b).one a (omega arith) p.back ∙ ap (Two HLet (reading a)) q.back;
+        back = let_back (read c d a).one (read c (d + 1) b).one a (omega arith) p.back ∙ ap (Two HLet (tree_as_read a)) q.back;
       }
   two_one HCase a b i s t x = let f = i.forms in absurd (cc)
   two_one HArm a b i s t x = branch_no x
   two_one _ a b i s t x = absurd i.typed.0.0
 
-  two_list : (h : Head) (a b : Tree) → Input c d types (Two h a b) → Told c d types a → Told c (under h d) (bound_types h a ++ types) b → IsList Term (Two h a b)
-      → AreRead c types (Two h a b) (two_read c d h a (read c d a) (read c (under h d) b)).members
+  two_list : (h : Head) (a b : Tree) → Input c d types (Two h a b) → Told c d types a → Told c (depth_under h d) (bound_types h a ++ types) b → IsList Term (Two h a b)
+      → AreRead c types (Two h a b) (two_read c d h a (read c d a) (read c (depth_under h d) b)).members
   two_list HCell a b i s t l =
       let k = first_term (sort_of a) l.1 in
       let p = s.one (inl k) in
@@ -331,7 +331,7 @@ module _ (c : Known) (r : IsReader c) (d : ℕ) (types : List Tree) where
   two_list HArm a b i s t l = let e = l.0 in absurd (cc)
   two_list _ a b i s t l = absurd i.typed.0.0
 
-  two_told : (h : Head) (a b : Tree) → Input c d types (Two h a b) → Told c d types a → Told c (under h d) (bound_types h a ++ types) b → Told c d types (Two h a b)
+  two_told : (h : Head) (a b : Tree) → Input c d types (Two h a b) → Told c d types a → Told c (depth_under h d) (bound_types h a ++ types) b → Told c d types (Two h a b)
   two_told h a b i s t = record { text = two_writes h a b i s.text t.text; one = two_one h a b i s t; list = two_list h a b i s t }
 
   -- an arm of a match is no expression and no list
@@ -345,7 +345,7 @@ module _ (c : Known) (r : IsReader c) (d : ℕ) (types : List Tree) where
   three_writes : (h : Head) (x y z : Tree) → Input c d types (Three h x y z) → Writes (printed c.printing d x) (read c d x) → Writes (printed c.printing d y) (read c d y) → Writes (printed c.printing d z) (read c d z)
       → Writes (three_text c.printing h x (printed c.printing d x) (printed c.printing d y) (printed c.printing d z)) (three_read c h x (read c d x) (read c d y) (read c d z))
   three_writes (HFun k) x y z i p q s = record { text = symbol_writes k x y (function_is_used k x y z i) q; members = refl }
-  three_writes HIf x y z i p q s = record { text = (λ j. enclosed (r.smt j) Conditional (p.text j ∷ q.text j ∷ s.text j ∷ [])) ∙ conditional_is (read c d x).one (read c d y).one (read c d z).one; members = refl }
+  three_writes HIf x y z i p q s = record { text = (λ j. form_text (r.smt j) Conditional (p.text j ∷ q.text j ∷ s.text j ∷ [])) ∙ conditional_is (read c d x).one (read c d y).one (read c d z).one; members = refl }
   three_writes _ x y z i p q s = record { text = refl; members = refl }
 
   three_one : (h : Head) (x y z : Tree) → Input c d types (Three h x y z) → Told c d types x → Told c d types y → Told c d types z → IsExpression (sort_of (Three h x y z))
@@ -382,6 +382,6 @@ pub told : (c : Known) → IsReader c → (d : ℕ) (types : List Tree) (e : Tre
 told c r d types (Leaf h) i = leaf_told c r d types h i
 told c r d types (One h a) i = one_told c r d types h a i (told c r d types a (input_one c d types h a i))
 told c r d types (Two HArm a b) i = arm_told c r d types a b
-told c r d types (Two h a b) i = two_told c r d types h a b i (told c r d types a (input_left c d types h a b i)) (told c r (under h d) (bound_types h a ++ types) b (input_right c d types h a b refl i))
+told c r d types (Two h a b) i = two_told c r d types h a b i (told c r d types a (input_left c d types h a b i)) (told c r (depth_under h d) (bound_types h a ++ types) b (input_right c d types h a b refl i))
 told c r d types (Three h x y z) i =
     three_told c r d types h x y z i (told c r d types x (input_first c d types h x y z i)) (told c r d types y (input_second c d types h x y z i)) (told c r d types z (input_third c d types h x y z i))

@@ -17,15 +17,15 @@ use Rattle.linear_leaf.proofs.SameTree.{and_left, and_right, same_is}
 use Rattle.driver_items.specs.declared.kinds.Piece.{Piece}
 use Rattle.driver_items.specs.declared.kinds.Printer.TheVariants.{Smt}
 use Rattle.name_entries.specs.declared.names.NameEntry.{NameEntry}
-use Rattle.name_tables.specs.Occurrences.{Occurrence, occurrence, whole, in_type}
-use Rattle.name_tables.specs.Tables.{is_same, place_of, thing_of}
+use Rattle.name_tables.specs.Occurrences.{Occurrence, occurrence, whole_occurrence, in_type}
+use Rattle.name_tables.specs.Tables.{is_same, occurrence_place, thing_of}
 use Rattle.name_tables.specs.Seen.{has, AreIn}
 use Rattle.name_tables.proofs.Gathering.{same_occurrence, same_itself}
 use Rattle.printed_problems.specs.Templates.{template_of, has_template}
 use Rattle.printed_problems.specs.Problems.{is_kind}
-use Rattle.printed_terms.specs.Texts.{name_of, text_of_entry, sort_text, by_template, printed_sort, name_at}
+use Rattle.printed_terms.specs.Texts.{printed_name, text_of_entry, sort_text, by_template, printed_sort, name_at}
 use Rattle.printed_terms.proofs.Members.{sort_members}
-use Rattle.smt_law.specs.Plain.{IsFree, IsPlainWord, ArePlain, EqualityIsPlain, is_type, arity}
+use Rattle.smt_law.specs.Plain.{IsFreeWord, IsPlainWord, ArePlain, EqualityIsPlain, is_type, arity}
 use Rattle.smt_law.proofs.Forms.{Known, word_of}
 use Rattle.smt_law.proofs.Back.{first_where, at_none, is_called, is_type_called, is_symbol_called, is_rigid, type_at, type_called}
 use Rattle.smt_law.proofs.Words.{or_right, same_word, its_word, and_true, equals_free}
@@ -36,8 +36,8 @@ IsThere c o = has c.printing.things o ≡ true
 -- a thing of the table has a name there, which is free and not `=`
 pub record IsNamed (c : Known) (o : Occurrence) : Type 0 where
   pub named : NameEntry
-  pub stands : slice_get c.printing.names (place_of c.printing.things o) ≡ Some named
-  pub free : IsFree named.name
+  pub stands : slice_get c.printing.names (occurrence_place c.printing.things o) ≡ Some named
+  pub free : IsFreeWord named.name
   pub no_equals : named.name ≢ codes "="
 
 pub record IsReader (c : Known) : Type 0 where
@@ -45,8 +45,8 @@ pub record IsReader (c : Known) : Type 0 where
   pub plain : ArePlain c.printing.driver c.vocabulary.symbols c.printing.names c.words
   pub params : length c.params ≤ 2 ^ 64
   pub named : (o : Occurrence) → IsThere c o → IsNamed c o
-  pub apart : (o q : Occurrence) → IsThere c o → IsThere c q → name_of c.printing o ≡ name_of c.printing q → o ≡ q
-  pub rigid : (k : ℕ) → IsThere c (whole k) → IsTrue (c.vocabulary.rigid k) → is_rigid c (whole k) ≡ true
+  pub apart : (o q : Occurrence) → IsThere c o → IsThere c q → printed_name c.printing o ≡ printed_name c.printing q → o ≡ q
+  pub rigid : (k : ℕ) → IsThere c (whole_occurrence k) → IsTrue (c.vocabulary.rigid k) → is_rigid c (whole_occurrence k) ≡ true
   pub usable : (k : ℕ) (types : Tree) → IsThere c (occurrence k types) → IsTrue (c.vocabulary.usable k) → is_rigid c (occurrence k types) ≡ false
 
 -- ---- the first that passes
@@ -123,42 +123,42 @@ module _ (c : Known) (r : IsReader c) where
   has_plain k h = plain_by k (template_of c.printing.driver k) refl h
 
   -- ---- words
-  its_name : (o : Occurrence) (t : IsThere c o) → name_of c.printing o ≡ (r.named o t).named.name
+  its_name : (o : Occurrence) (t : IsThere c o) → printed_name c.printing o ≡ (r.named o t).named.name
   its_name o t = ap text_of_entry (r.named o t).stands
 
   pub record IsPlainThing (o : Occurrence) : Type 0 where
-    pub free : IsFree (word_of c o)
+    pub free : IsFreeWord (word_of c o)
     pub no_equals : word_of c o ≢ codes "="
 
   plain_thing_by : (o : Occurrence) → IsThere c o → (b : Bool) → has_template c.printing.driver o.symbol ≡ b
-      → IsFree (if b then c.words.of_symbol o.symbol else name_of c.printing o) × ((if b then c.words.of_symbol o.symbol else name_of c.printing o) ≢ codes "=")
+      → IsFreeWord (if b then c.words.of_symbol o.symbol else printed_name c.printing o) × ((if b then c.words.of_symbol o.symbol else printed_name c.printing o) ≢ codes "=")
   plain_thing_by o t true e = let p = has_plain o.symbol e in (p.word.free, p.no_equals)
-  plain_thing_by o t false e = let n = r.named o t in (subst IsFree (sym (its_name o t)) n.free, λ q. n.no_equals (sym (its_name o t) ∙ q))
+  plain_thing_by o t false e = let n = r.named o t in (subst IsFreeWord (sym (its_name o t)) n.free, λ q. n.no_equals (sym (its_name o t) ∙ q))
 
   pub plain_thing : (o : Occurrence) → IsThere c o → IsPlainThing o
   plain_thing o t = let p = plain_thing_by o t (has_template c.printing.driver o.symbol) refl in record { free = p.0; no_equals = p.1 }
 
   -- a name of the table is no word of a template
-  named_apart : (o : Occurrence) → IsThere c o → (w : List ℕ) → IsPlainWord c.printing.names w → w ≡ name_of c.printing o → ⊥
+  named_apart : (o : Occurrence) → IsThere c o → (w : List ℕ) → IsPlainWord c.printing.names w → w ≡ printed_name c.printing o → ⊥
   named_apart o t w p e =
       let n = r.named o t in
-      let i = place_of c.printing.things o in
+      let i = occurrence_place c.printing.things o in
       p.no_name i n.named (slice_get_within c.printing.names i n.named n.stands) (ap (λ (z : NameEntry). z.name) (get_or_from_slice_get c.printing.names i n.named n.named n.stands) ∙ sym (its_name o t) ∙ sym e)
 
   -- the word of equality
-  equality_by : (t : Option (List Piece)) → EqualityIsPlain c.printing.names c.words.of_equality t → IsFree c.words.of_equality
-  equality_by None e = subst IsFree (sym e) equals_free
+  equality_by : (t : Option (List Piece)) → EqualityIsPlain c.printing.names c.words.of_equality t → IsFreeWord c.words.of_equality
+  equality_by None e = subst IsFreeWord (sym e) equals_free
   equality_by (Some pieces) e = e.1.free
 
-  pub equality_free : IsFree c.words.of_equality
+  pub equality_free : IsFreeWord c.words.of_equality
   equality_free = equality_by c.printing.driver.eq_template r.plain.equality
 
-  name_no_equality : (o : Occurrence) → IsThere c o → (t : Option (List Piece)) → EqualityIsPlain c.printing.names c.words.of_equality t → name_of c.printing o ≢ c.words.of_equality
+  name_no_equality : (o : Occurrence) → IsThere c o → (t : Option (List Piece)) → EqualityIsPlain c.printing.names c.words.of_equality t → printed_name c.printing o ≢ c.words.of_equality
   name_no_equality o t None e q = (r.named o t).no_equals (sym (its_name o t) ∙ q ∙ e)
   name_no_equality o t (Some pieces) e q = named_apart o t c.words.of_equality e.1 (sym q)
 
   no_equality_by : (o : Occurrence) → IsThere c o → is_type c.vocabulary.symbols o.symbol ≡ false → arity c.vocabulary.symbols o.symbol ≡ 2 → (b : Bool) → has_template c.printing.driver o.symbol ≡ b
-      → (if b then c.words.of_symbol o.symbol else name_of c.printing o) ≢ c.words.of_equality
+      → (if b then c.words.of_symbol o.symbol else printed_name c.printing o) ≢ c.words.of_equality
   no_equality_by o t k n true e = r.plain.apart o.symbol e k n
   no_equality_by o t k n false e = name_no_equality o t c.printing.driver.eq_template r.plain.equality
 
@@ -174,7 +174,7 @@ module _ (c : Known) (r : IsReader c) where
       → is_type c.vocabulary.symbols y.symbol ≡ is_type c.vocabulary.symbols o.symbol
       → (has_template c.printing.driver y.symbol ≡ true → has_template c.printing.driver o.symbol ≡ true → arity c.vocabulary.symbols y.symbol ≡ arity c.vocabulary.symbols o.symbol)
       → (a b : Bool) → has_template c.printing.driver y.symbol ≡ a → has_template c.printing.driver o.symbol ≡ b
-      → (if a then c.words.of_symbol y.symbol else name_of c.printing y) ≡ (if b then c.words.of_symbol o.symbol else name_of c.printing o) → y ≡ o
+      → (if a then c.words.of_symbol y.symbol else printed_name c.printing y) ≡ (if b then c.words.of_symbol o.symbol else printed_name c.printing o) → y ≡ o
   one_word y o ty to ny mo k n true true e f w =
       let s = r.plain.differ y.symbol o.symbol e f k (n e f) w in
       let p = at_none_types y e ny ∙ sym (at_none_types o f mo) in
@@ -234,7 +234,7 @@ module _ (c : Known) (r : IsReader c) where
   -- a type as its sort: the word, and what a reader makes of it
   pub record IsSort (type : Tree) : Type 0 where
     pub text : sort_text c.printing type ≡ word_of c (thing_of type)
-    pub free : IsFree (word_of c (thing_of type))
+    pub free : IsFreeWord (word_of c (thing_of type))
     pub told : type_called c (word_of c (thing_of type)) ≡ type
 
   sort_by_is : (k place : ℕ) (args : List (List ℕ)) (t : Option (List Piece)) → template_of c.printing.driver k ≡ t → (is_some t ≡ true → length args ≡ 0) → is_type c.vocabulary.symbols k ≡ true
@@ -245,12 +245,12 @@ module _ (c : Known) (r : IsReader c) where
       p.shape [] (sym (no_arity k ty (ap is_some e)))
   sort_by_is k place (x ∷ xs) (Some pieces) e n ty = let m = n refl in absurd (omega (arith, m))
 
-  rigid_sort : (k : ℕ) → IsThere c (whole k) → IsTrue (c.vocabulary.rigid k) → is_type c.vocabulary.symbols k ≡ true → IsSort (Leaf (HTyRigid k))
+  rigid_sort : (k : ℕ) → IsThere c (whole_occurrence k) → IsTrue (c.vocabulary.rigid k) → is_type c.vocabulary.symbols k ≡ true → IsSort (Leaf (HTyRigid k))
   rigid_sort k t v ty =
-      let found = type_found (whole k) t ty (or_right (not (has_template c.printing.driver k)) true refl) in
+      let found = type_found (whole_occurrence k) t ty (or_right (not (has_template c.printing.driver k)) true refl) in
       record {
-        text = sort_by_is k (place_of c.printing.things (whole k)) [] (template_of c.printing.driver k) refl (λ _. refl) ty;
-        free = (plain_thing (whole k) t).free;
+        text = sort_by_is k (occurrence_place c.printing.things (whole_occurrence k)) [] (template_of c.printing.driver k) refl (λ _. refl) ty;
+        free = (plain_thing (whole_occurrence k) t).free;
         told = ap (type_at c) found ∙ ap (λ b. if b then Leaf (HTyRigid k) else One (HTyApp k) (Leaf HEnd)) (r.rigid k t v);
       }
 
@@ -260,7 +260,7 @@ module _ (c : Known) (r : IsReader c) where
       let found = type_found (occurrence k args) t ty (at_none_by k args w l n) in
       let texts : length (printed_sort c.printing args).members ≡ length (members args) = ap length (sort_members c.printing args) ∙ length-map (members args) (sort_text c.printing) in
       record {
-        text = sort_by_is k (place_of c.printing.things (occurrence k args)) (printed_sort c.printing args).members (template_of c.printing.driver k) refl (λ h. texts ∙ n ∙ (has_plain k h).vars) ty;
+        text = sort_by_is k (occurrence_place c.printing.things (occurrence k args)) (printed_sort c.printing args).members (template_of c.printing.driver k) refl (λ h. texts ∙ n ∙ (has_plain k h).vars) ty;
         free = (plain_thing (occurrence k args) t).free;
         told = ap (type_at c) found ∙ ap (λ b. if b then Leaf (HTyRigid k) else One (HTyApp k) args) (r.usable k args t u);
       }

@@ -11,7 +11,7 @@ use Rattle.driver_items.specs.declared.kinds.Printer.TheVariants.{Smt}
 use Rattle.name_tables.specs.Occurrences.{of_one, of_two, of_three, occurrences}
 use Rattle.name_tables.specs.Seen.{AreIn}
 use Rattle.printed_problems.specs.Faults.{has_head, has_forms}
-use Rattle.printed_terms.specs.Texts.{under}
+use Rattle.printed_terms.specs.Texts.{depth_under}
 use Rattle.smt_law.specs.Law.{LiteralsFit}
 use Rattle.smt_law.proofs.Forms.{Known}
 use Rattle.smt_law.proofs.Found.{in_first, in_rest}
@@ -30,14 +30,14 @@ abbrev pub is_arm : Head → Bool
 is_arm HArm = true
 is_arm _ = false
 
-under_depth : (h : Head) (a : Tree) (types : List Tree) (d : ℕ) → is_arm h ≡ false → d ≡ length types → length (bound_types h a) ≡ binders_over h a → under h d ≡ length (bound_types h a ++ types)
+under_depth : (h : Head) (a : Tree) (types : List Tree) (d : ℕ) → is_arm h ≡ false → d ≡ length types → length (bound_types h a) ≡ binders_over h a → depth_under h d ≡ length (bound_types h a ++ types)
 under_depth HArm a types d n e k = absurd (cc)
 under_depth HForall a types d n e k = omega (arith, e)
 under_depth HExists a types d n e k = omega (arith, e)
 under_depth HLet a types d n e k = omega (arith, e, k, length-append (bound_types HLet a) types)
 under_depth _ a types d n e k = e
 
-under_low : (h : Head) (d : ℕ) → under h d ≤ d + 1
+under_low : (h : Head) (d : ℕ) → depth_under h d ≤ d + 1
 under_low HForall d = omega arith
 under_low HExists d = omega arith
 under_low HLet d = omega arith
@@ -68,7 +68,7 @@ module _ (c : Known) (d : ℕ) (types : List Tree) where
     literals = i.literals.0;
   }
 
-  pub input_right : (h : Head) (a b : Tree) → is_arm h ≡ false → Input c d types (Two h a b) → Input c (under h d) (bound_types h a ++ types) b
+  pub input_right : (h : Head) (a b : Tree) → is_arm h ≡ false → Input c d types (Two h a b) → Input c (depth_under h d) (bound_types h a ++ types) b
   input_right h a b n i = record {
     depth = under_depth h a types d n i.depth (bound_count h a b i.typed.0 (typed_sorted c.vocabulary types a i.typed.2));
     typed = i.typed.3;

@@ -1,13 +1,13 @@
 -- Two problems with one text: the expressions that they assert, and the types of their parameters.
 use Rattle.std.proofs.Common.{◌≡◌, ℕ, ◌+◌, Bool, true, false, if◌then◌else◌, List, [], ◌∷◌, ◌++◌, map, length, drop, get_or, codes, bytes_eq, refl, sym, ap, ◌∙◌, length-append, arith}
 use Rattle.trees.specs.Tree.{Tree}
-use Rattle.s_expressions.specs.Sexps.{Sexp, Word, Group, Nothing, Then}
+use Rattle.s_expressions.specs.Sexps.{Sexp, SexpWord, Group, Nothing, Then}
 use Rattle.smt_law.proofs.Forms.{Known}
 use Rattle.smt_law.proofs.Commands.{assertion, negated, formula_read, type_word, parameter_command, parameter_commands, assertions, ending, commands}
 
 -- ---- the commands with a word
 abbrev is_command : List ℕ → Sexp → Bool
-is_command word (Group (Then (Word w) rest)) = bytes_eq w word
+is_command word (Group (Then (SexpWord w) rest)) = bytes_eq w word
 is_command word _ = false
 
 abbrev those : List ℕ → List Sexp → List Sexp
@@ -69,7 +69,7 @@ second_of (Group (Then a (Then s rest))) = s
 second_of _ = Nothing
 
 abbrev sort_in : Sexp → List ℕ
-sort_in (Group (Then a (Then b (Then g (Then (Word w) rest))))) = w
+sort_in (Group (Then a (Then b (Then g (Then (SexpWord w) rest))))) = w
 sort_in _ = []
 
 second_ones : (c : Known) (es : List Tree) → map second_of (assertions c es) ≡ map (formula_read c) es

@@ -19,8 +19,8 @@ use Rattle.name_tables.specs.Spelling.{own_name, clean}
 use Rattle.name_tables.specs.Tables.{entries_from, problem_things, problem_names}
 use Rattle.printed_problems.specs.Templates.{template_in, template_of, has_template, bytes_alone}
 use Rattle.s_expressions.specs.Sexps.{breaks}
-use Rattle.smt_law.specs.Plain.{begins_number, is_local, is_reserved, EqualityIsPlain, IsFree, HasWord, is_type, arity, arity_of, IsPlainTemplate, TemplatesDiffer, ArePlain}
-use Rattle.smt_law.specs.Shipped.{Row, rows, rows_of, pieces_of, template_row, HasShippedTemplates, word_in, shipped_words, ShippedArePlain}
+use Rattle.smt_law.specs.Plain.{begins_number, is_local, is_reserved, EqualityIsPlain, IsFreeWord, HasWord, is_type, arity, arity_of, IsPlainTemplate, TemplatesDiffer, ArePlain}
+use Rattle.smt_law.specs.Shipped.{ShippedRow, shipped_rows, rows_of, pieces_of, template_row, HasShippedTemplates, shipped_word, shipped_words, ShippedArePlain}
 use Rattle.smt_law.proofs.Words.{equals_free, has_underscore, name_underscore, underscore_differs}
 use Rattle.smt_law.proofs.Sound.{EachOf}
 
@@ -61,21 +61,21 @@ int_shape : HasWord (Literal (codes "Int") ∷ []) 0 (codes "Int")
 int_shape [] n = refl
 int_shape (a ∷ more) n = absurd (omega (arith, n))
 
-free : (w : List ℕ) → (0 < length w) → list_any breaks w ≡ false → begins_number w ≡ false → is_local w ≡ false → is_reserved w ≡ false → IsFree w
+free : (w : List ℕ) → (0 < length w) → list_any breaks w ≡ false → begins_number w ≡ false → is_local w ≡ false → is_reserved w ≡ false → IsFreeWord w
 free w s b n l r = record { proper = record { some = s; whole = b }; no_number = n; no_local = l; no_syntax = r }
 
 -- the row with a word and a number of arguments
-abbrev entry_by : List Row → ℕ → List ℕ → ℕ
+abbrev entry_by : List ShippedRow → ℕ → List ℕ → ℕ
 entry_by [] n w = 0
 entry_by (r ∷ rs) n w = if r.arity == n then (if bytes_eq r.word w then r.entry else entry_by rs n w) else entry_by rs n w
 
 -- ---- a row
-pub record IsGoodRow (t : TaskTree) (rs : List Row) (r : Row) : Type 0 where
+pub record IsGoodRow (t : TaskTree) (rs : List ShippedRow) (r : ShippedRow) : Type 0 where
   pub kind : is_type t.symbols r.entry ≡ false
   pub vars : (symbol_or t.symbols r.entry).vars ≡ 0
   pub fits : arity t.symbols r.entry ≡ r.arity
   pub shape : HasWord (pieces_of r.string r.arity) r.arity r.word
-  pub word : IsFree r.word
+  pub word : IsFreeWord r.word
   pub plain : has_underscore r.word ≡ false
   pub no_equals : r.word ≢ codes "="
   pub told : entry_by rs r.arity r.word ≡ r.entry
@@ -96,7 +96,7 @@ module _ (t : TaskTree) where
   other_word : (w v : List ℕ) → bytes_eq w v ≡ false → w ≢ v
   other_word w v h e = let q : true ≡ false = sym ((bytes_eq-Decides w v).1 e) ∙ h in absurd (cc)
 
-  good_rows : (z : Ints) → AreInts t.symbols z → EachOf (IsGoodRow t (rows z)) (rows z)
+  good_rows : (z : Ints) → AreInts t.symbols z → EachOf (IsGoodRow t (shipped_rows z)) (shipped_rows z)
   good_rows z a = (
     record { kind = kind_of z.neg _ a.neg false refl; vars = vars_of z.neg _ a.neg refl; fits = arity_is z.neg _ 1 a.neg refl; shape = one_word (codes "-"); word = free (codes "-") (omega arith) refl refl refl refl; plain = refl; no_equals = other_word (codes "-") (codes "=") refl; told = refl },
     (
@@ -128,12 +128,12 @@ module _ (t : TaskTree) where
   good_of (Some z) a = good_rows z a
 
   -- ---- a template
-  pub record IsGoodTemplate (rs : List Row) (k : ℕ) (w : List ℕ) (pieces : List Piece) : Type 0 where
+  pub record IsGoodTemplate (rs : List ShippedRow) (k : ℕ) (w : List ℕ) (pieces : List Piece) : Type 0 where
     pub kind : is_type t.symbols k ≡ false
     pub plain : IsPlainTemplate t.symbols (problem_names t) w k pieces
     pub told : entry_by rs (arity t.symbols k) w ≡ k
 
-  good_here : (all : List Row) (r : Row) (k : ℕ) (pieces : List Piece) → IsGoodRow t all r → r.entry ≡ k → Some (pieces_of r.string r.arity) ≡ Some pieces → IsGoodTemplate all k r.word pieces
+  good_here : (all : List ShippedRow) (r : ShippedRow) (k : ℕ) (pieces : List Piece) → IsGoodRow t all r → r.entry ≡ k → Some (pieces_of r.string r.arity) ≡ Some pieces → IsGoodTemplate all k r.word pieces
   good_here all r k pieces g e s =
       let same : pieces_of r.string r.arity ≡ pieces = cc in
       let many : r.arity ≡ arity t.symbols k = sym g.fits ∙ ap (arity t.symbols) e in
@@ -148,10 +148,10 @@ module _ (t : TaskTree) where
         told = ap (λ (n : ℕ). entry_by all n r.word) (sym many) ∙ g.told ∙ e;
       }
 
-  good_template : (all rs : List Row) (k : ℕ) (pieces : List Piece) → EachOf (IsGoodRow t all) rs → template_in (map template_row rs) k ≡ Some pieces → IsGoodTemplate all k (word_in rs k) pieces
+  good_template : (all rs : List ShippedRow) (k : ℕ) (pieces : List Piece) → EachOf (IsGoodRow t all) rs → template_in (map template_row rs) k ≡ Some pieces → IsGoodTemplate all k (shipped_word rs k) pieces
   good_template all [] k pieces g h = absurd (cc)
   good_template all (r ∷ rs) k pieces g h =
-      elim (r.entry == k) as (λ b. (r.entry == k) ≡ b → (if b then Some (pieces_of r.string r.arity) else template_in (map template_row rs) k) ≡ Some pieces → IsGoodTemplate all k (if b then r.word else word_in rs k) pieces) [
+      elim (r.entry == k) as (λ b. (r.entry == k) ≡ b → (if b then Some (pieces_of r.string r.arity) else template_in (map template_row rs) k) ≡ Some pieces → IsGoodTemplate all k (if b then r.word else shipped_word rs k) pieces) [
         | true ↦ λ e s. good_here all r k pieces g.0 ((Decides-eqb r.entry k).0 e) s
         | false ↦ λ e s. good_template all rs k pieces g.1 s
       ] refl h
@@ -172,12 +172,12 @@ module _ (t : TaskTree) where
           no_equality = other_word (codes "Int") (codes "=") refl;
         }
 
-    other : (k : ℕ) (pieces : List Piece) → template_in d.templates k ≡ Some pieces → IsGoodTemplate (rows_of t.ints) k (word_in (rows_of t.ints) k) pieces
+    other : (k : ℕ) (pieces : List Piece) → template_in d.templates k ≡ Some pieces → IsGoodTemplate (rows_of t.ints) k (shipped_word (rows_of t.ints) k) pieces
     other k pieces h = good_template (rows_of t.ints) (rows_of t.ints) k pieces (good_of t.ints valid.ints) (ap (λ (ts : List (ℕ × List Piece)). template_in ts k) (sym x.symbols) ∙ h)
 
     each : (k : ℕ) (pieces : List Piece) → template_of d k ≡ Some pieces → IsPlainTemplate t.symbols (problem_names t) (words_of k) k pieces
     each k pieces h =
-        elim (k == 0) as (λ b. (k == 0) ≡ b → (if b then bytes_alone d.int_template else template_in d.templates k) ≡ Some pieces → IsPlainTemplate t.symbols (problem_names t) (if b then codes "Int" else word_in (rows_of t.ints) k) k pieces) [
+        elim (k == 0) as (λ b. (k == 0) ≡ b → (if b then bytes_alone d.int_template else template_in d.templates k) ≡ Some pieces → IsPlainTemplate t.symbols (problem_names t) (if b then codes "Int" else shipped_word (rows_of t.ints) k) k pieces) [
           | true ↦ λ e s. subst (λ (j : ℕ). IsPlainTemplate t.symbols (problem_names t) (codes "Int") j pieces) (sym ((Decides-eqb k 0).0 e)) (int_plain pieces s)
           | false ↦ λ e s. (other k pieces s).plain
         ] refl h
@@ -188,7 +188,7 @@ module _ (t : TaskTree) where
     Found : ℕ → List ℕ → Type 0
     Found k w = (k ≡ 0) ⊎ ((is_type t.symbols k ≡ false) × (entry_by (rows_of t.ints) (arity t.symbols k) w ≡ k))
 
-    found_in : (k : ℕ) (o : Option (List Piece)) → template_in d.templates k ≡ o → is_some o ≡ true → Found k (word_in (rows_of t.ints) k)
+    found_in : (k : ℕ) (o : Option (List Piece)) → template_in d.templates k ≡ o → is_some o ≡ true → Found k (shipped_word (rows_of t.ints) k)
     unfolding Found
     found_in k None e h = absurd (cc)
     found_in k (Some pieces) e h = let g = other k pieces e in inr (g.kind, g.told)
@@ -196,7 +196,7 @@ module _ (t : TaskTree) where
     found : (k : ℕ) → has_template d k ≡ true → Found k (words_of k)
     unfolding Found
     found k h =
-        elim (k == 0) as (λ b. (k == 0) ≡ b → is_some (if b then bytes_alone d.int_template else template_in d.templates k) ≡ true → Found k (if b then codes "Int" else word_in (rows_of t.ints) k)) [
+        elim (k == 0) as (λ b. (k == 0) ≡ b → is_some (if b then bytes_alone d.int_template else template_in d.templates k) ≡ true → Found k (if b then codes "Int" else shipped_word (rows_of t.ints) k)) [
           | true ↦ λ e s. inl ((Decides-eqb k 0).0 e)
           | false ↦ λ e s. found_in k (template_in d.templates k) refl s
         ] refl h

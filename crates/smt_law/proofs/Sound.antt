@@ -7,7 +7,7 @@ use Rattle.trees.specs.Sorts.{sort_of}
 use Rattle.driver_items.specs.declared.kinds.Printer.{Printer}
 use Rattle.driver_items.specs.declared.kinds.Printer.TheVariants.{Smt}
 use Rattle.driver_parts.specs.declared.driver.Driver.{Driver}
-use Rattle.tasks.specs.Task.{TaskTree, DeclarationTree, BodyTree, MakesType, Makes, Defines, Induces, Constructs, Says, Proposition, said_by, props_of, props}
+use Rattle.tasks.specs.Task.{TaskTree, DeclarationTree, BodyTree, MakesType, Makes, Defines, Induces, Constructs, Says, PropositionTree, said_by, props_of, props}
 use Rattle.tasks.specs.Vocabulary.{of_task}
 use Rattle.tasks.specs.Typing.{TypedUnder}
 use Rattle.tasks.specs.Valid.{VariablesBelow, OneOf, ParametersOf, IsFormulaOver, IsFormula, IsTypeOver, IsValidBody, IsValidDecl, IsValid}
@@ -17,7 +17,7 @@ use Rattle.name_tables.specs.Seen.{AreIn}
 use Rattle.printed_problems.specs.declared.fault.PrintFault.{PrintFault}
 use Rattle.printed_problems.specs.declared.fault.PrintFault.TheVariants.{Unprintable, Polymorphic}
 use Rattle.printed_problems.specs.Problems.{formula_of, problem_of}
-use Rattle.printed_problems.specs.Faults.{has_forms, syntax_fault, formula_fault, body_fault, or_else, first_fault, declaration_faults, type_fault}
+use Rattle.printed_problems.specs.Faults.{has_forms, syntax_fault, formula_fault, printed_body_fault, print_fault_or_else, first_print_fault, declaration_faults, printed_type_fault}
 use Rattle.smt_law.specs.Plain.{Words}
 use Rattle.smt_law.specs.Law.{NumbersFit, IsPrinted}
 use Rattle.smt_law.proofs.Found.{in_first, in_rest}
@@ -74,13 +74,13 @@ module _ {X Y : Type 0} where
 
 -- ---- faults
 
-no_first : (f g : Option PrintFault) → or_else f g ≡ None → (f ≡ None) × (g ≡ None)
+no_first : (f g : Option PrintFault) → print_fault_or_else f g ≡ None → (f ≡ None) × (g ≡ None)
 no_first None g h = (refl, h)
 no_first (Some f) g h = absurd (cc)
 
-none_each : (fs : List (Option PrintFault)) → first_fault fs ≡ None → EachOf (λ f. f ≡ None) fs
+none_each : (fs : List (Option PrintFault)) → first_print_fault fs ≡ None → EachOf (λ f. f ≡ None) fs
 none_each [] h = tt
-none_each (f ∷ fs) h = let n = no_first f (first_fault fs) h in (n.0, none_each fs n.1)
+none_each (f ∷ fs) h = let n = no_first f (first_print_fault fs) h in (n.0, none_each fs n.1)
 
 -- ---- grounds
 ground_leaf : (h : Head) → VariablesBelow 0 (Leaf h) → above_ty_vars (Leaf h) ≡ 0
@@ -125,7 +125,7 @@ module _ (d : Driver) (words : Words) (t : TaskTree) (smt : d.printer ≡ Smt) (
       let told = forms_told n e (has_forms d.printer e) refl h in
       record { sort = f.sort; typed = f.typed; parameters = q; forms = told.0; ground = told.1 }
 
-  body_formed : (n : ℕ) (x : DeclarationTree) (b : BodyTree) → IsValidBody (of_task t) x.vars b → body_fault d t n b ≡ None → EachOf (λ (q : Proposition). IsFormed q.formula) (said_by x b)
+  body_formed : (n : ℕ) (x : DeclarationTree) (b : BodyTree) → IsValidBody (of_task t) x.vars b → printed_body_fault d t n b ≡ None → EachOf (λ (q : PropositionTree). IsFormed q.formula) (said_by x b)
   body_formed n x (Says e) v h = (formed n [] x.vars e v (let q = v.parameters in no_parameters t.params e q) h, tt)
   body_formed n x (MakesType k) v h = tt
   body_formed n x (Makes k) v h = tt
@@ -133,26 +133,26 @@ module _ (d : Driver) (words : Words) (t : TaskTree) (smt : d.printer ≡ Smt) (
   body_formed n x (Induces is) v h = tt
   body_formed n x (Constructs ts) v h = tt
 
-  decls_formed : (n : ℕ) (xs : List DeclarationTree) → EachOf (IsValidDecl (of_task t)) xs → EachOf (λ f. f ≡ None) (declaration_faults d t n xs) → EachOf (λ (q : Proposition). IsFormed q.formula) (props_of xs)
+  decls_formed : (n : ℕ) (xs : List DeclarationTree) → EachOf (IsValidDecl (of_task t)) xs → EachOf (λ f. f ≡ None) (declaration_faults d t n xs) → EachOf (λ (q : PropositionTree). IsFormed q.formula) (props_of xs)
   decls_formed n [] v h = tt
-  decls_formed n (x ∷ xs) v h = each_join (λ (q : Proposition). IsFormed q.formula) (said_by x x.body) (props_of xs) (body_formed n x x.body v.0 h.0) (decls_formed (n + 1) xs v.1 h.1)
+  decls_formed n (x ∷ xs) v h = each_join (λ (q : PropositionTree). IsFormed q.formula) (said_by x x.body) (props_of xs) (body_formed n x x.body v.0 h.0) (decls_formed (n + 1) xs v.1 h.1)
 
   abbrev last : ℕ
   last = length t.decls
 
-  faults : EachOf (λ f. f ≡ None) (declaration_faults d t 0 t.decls ++ (map (type_fault d t) t.params ++ map (formula_fault d t last) (t.locals ++ t.goal ∷ [])))
-  faults = none_each (declaration_faults d t 0 t.decls ++ (map (type_fault d t) t.params ++ map (formula_fault d t last) (t.locals ++ t.goal ∷ []))) p.printed
+  faults : EachOf (λ f. f ≡ None) (declaration_faults d t 0 t.decls ++ (map (printed_type_fault d t) t.params ++ map (formula_fault d t last) (t.locals ++ t.goal ∷ [])))
+  faults = none_each (declaration_faults d t 0 t.decls ++ (map (printed_type_fault d t) t.params ++ map (formula_fault d t last) (t.locals ++ t.goal ∷ []))) p.printed
 
-  props_formed : EachOf (λ (q : Proposition). IsFormed q.formula) (props t)
+  props_formed : EachOf (λ (q : PropositionTree). IsFormed q.formula) (props t)
   props_formed =
       decls_formed 0 t.decls (each_from_all (IsValidDecl (of_task t)) t.decls p.valid.decls)
-      (each_left (λ f. f ≡ None) (declaration_faults d t 0 t.decls) (map (type_fault d t) t.params ++ map (formula_fault d t last) (t.locals ++ t.goal ∷ [])) faults)
+      (each_left (λ f. f ≡ None) (declaration_faults d t 0 t.decls) (map (printed_type_fault d t) t.params ++ map (formula_fault d t last) (t.locals ++ t.goal ∷ [])) faults)
 
   ends : EachOf (λ e. formula_fault d t last e ≡ None) (t.locals ++ t.goal ∷ [])
   ends =
       map_each (λ f. f ≡ None) (formula_fault d t last) (t.locals ++ t.goal ∷ [])
-      (each_right (λ f. f ≡ None) (map (type_fault d t) t.params) (map (formula_fault d t last) (t.locals ++ t.goal ∷ []))
-      (each_right (λ f. f ≡ None) (declaration_faults d t 0 t.decls) (map (type_fault d t) t.params ++ map (formula_fault d t last) (t.locals ++ t.goal ∷ [])) faults))
+      (each_right (λ f. f ≡ None) (map (printed_type_fault d t) t.params) (map (formula_fault d t last) (t.locals ++ t.goal ∷ []))
+      (each_right (λ f. f ≡ None) (declaration_faults d t 0 t.decls) (map (printed_type_fault d t) t.params ++ map (formula_fault d t last) (t.locals ++ t.goal ∷ [])) faults))
 
   locals_formed : EachOf IsFormed t.locals
   locals_formed =
@@ -172,7 +172,7 @@ module _ (d : Driver) (words : Words) (t : TaskTree) (smt : d.printer ≡ Smt) (
   all_good : AreGood t p.valid (task_occurrences t)
   all_good =
       good_join t p.valid (flat_map in_proposition (props t)) (flat_map in_type t.params ++ (flat_map occurrences t.locals ++ occurrences t.goal))
-      (good_each t p.valid in_proposition (props t) (each_one (λ (q : Proposition). IsFormed q.formula) (λ (q : Proposition). AreGood t p.valid (in_proposition q)) (λ q f. formed_good q.formula f) (props t) props_formed))
+      (good_each t p.valid in_proposition (props t) (each_one (λ (q : PropositionTree). IsFormed q.formula) (λ (q : PropositionTree). AreGood t p.valid (in_proposition q)) (λ q f. formed_good q.formula f) (props t) props_formed))
       (good_join t p.valid (flat_map in_type t.params) (flat_map occurrences t.locals ++ occurrences t.goal)
       (good_each t p.valid in_type t.params (each_one (IsTypeOver t 0) (λ e. AreGood t p.valid (in_type e)) (λ e v. good_types t p.valid [] e v.typed (ground_by e v.variables)) t.params types_valid))
       (good_join t p.valid (flat_map occurrences t.locals) (occurrences t.goal)
@@ -214,8 +214,8 @@ module _ (d : Driver) (words : Words) (t : TaskTree) (smt : d.printer ≡ Smt) (
   pub facts_sound : EachOf IsSound (problem_of d t).facts
   facts_sound =
       each_of_map IsSound formula_of (props t)
-      (each_both (λ (q : Proposition). IsFormed q.formula × AreIn (problem_things t) (occurrences q.formula)) (λ (q : Proposition). NumbersFit q.formula) (λ (q : Proposition). IsSound q.formula) (λ q f n. input_of q.formula f.0 f.1 n) (props t)
-      (each_both (λ (q : Proposition). IsFormed q.formula) (λ (q : Proposition). AreIn (problem_things t) (occurrences q.formula)) (λ (q : Proposition). IsFormed q.formula × AreIn (problem_things t) (occurrences q.formula)) (λ q f i. (f, i)) (props t) props_formed
+      (each_both (λ (q : PropositionTree). IsFormed q.formula × AreIn (problem_things t) (occurrences q.formula)) (λ (q : PropositionTree). NumbersFit q.formula) (λ (q : PropositionTree). IsSound q.formula) (λ q f n. input_of q.formula f.0 f.1 n) (props t)
+      (each_both (λ (q : PropositionTree). IsFormed q.formula) (λ (q : PropositionTree). AreIn (problem_things t) (occurrences q.formula)) (λ (q : PropositionTree). IsFormed q.formula × AreIn (problem_things t) (occurrences q.formula)) (λ q f i. (f, i)) (props t) props_formed
       (in_each (problem_things t) in_proposition (props t) (in_first (problem_things t) (flat_map in_proposition (props t)) (flat_map in_type t.params ++ (flat_map occurrences t.locals ++ occurrences t.goal)) all_there)))
       (map_each NumbersFit formula_of (props t) (each_from_all NumbersFit (problem_of d t).facts p.facts)))
 

@@ -7,11 +7,11 @@ use Rattle.std.proofs.lemmas.List.Folds.{list_any-append}
 use Rattle.std.proofs.lemmas.Fmt.{decimal_is_IsNumeral_wide}
 use Rattle.tasks.specs.Task.{SymbolTree, int_symbol, TaskTree, symbol_or}
 use Rattle.name_tables.specs.Occurrences.{Occurrence}
-use Rattle.name_tables.specs.Spelling.{own_name, operator_words, word_in, spelt, is_operator_byte, is_prefix, fixity, operator_name, clean_byte, lower, clean_first, clean}
-use Rattle.name_tables.specs.Tables.{entry_of, entries_from, problem_things}
+use Rattle.name_tables.specs.Spelling.{own_name, operator_words, word_in, spelt, is_spelt_byte, is_prefix_operator_name, fixity, operator_name, clean_byte, lower_case, clean_first, clean}
+use Rattle.name_tables.specs.Tables.{entry_at_place, entries_from, problem_things}
 use Rattle.s_expressions.specs.Sexps.{breaks}
-use Rattle.smt_law.specs.Plain.{is_digit, begins_number}
-use Rattle.smt_law.specs.Law.{IsSpelt, begins_digit, IsOrdinary, NamesAreSpelt}
+use Rattle.smt_law.specs.Plain.{is_decimal_digit, begins_number}
+use Rattle.smt_law.specs.Law.{IsEntrySpelt, begins_digit, IsOrdinary, NamesAreSpelt}
 use Rattle.smt_law.proofs.Words.{or_false, digits_whole, letter_no_number}
 
 -- ---- no byte breaks a word
@@ -56,7 +56,7 @@ byte_whole c h = elim (c == 39) as (λ b. breaks (if b then 113 else c) ≡ fals
 lower_breaks : (c : ℕ) → (nat_le 65 c && nat_le c 90) ≡ true → breaks (c + 32) ≡ false
 lower_breaks c h = grind (arith, nat_tests)
 
-lower_whole : (c : ℕ) → breaks c ≡ false → breaks (lower c) ≡ false
+lower_whole : (c : ℕ) → breaks c ≡ false → breaks (lower_case c) ≡ false
 lower_whole c h = elim (nat_le 65 c && nat_le c 90) as (λ b. (nat_le 65 c && nat_le c 90) ≡ b → breaks (if b then c + 32 else c) ≡ false) [ true ↦ λ e. lower_breaks c e | false ↦ λ e. h ] refl
 
 bytes_whole : (cs : List ℕ) → whole cs ≡ false → whole (map clean_byte cs) ≡ false
@@ -67,12 +67,12 @@ one_whole : (c : ℕ) → breaks c ≡ false → whole (c ∷ []) ≡ false
 one_whole c h = or_false (breaks c) false h refl
 
 first_whole : (c : ℕ) → breaks c ≡ false → whole (clean_first c) ≡ false
-first_whole c h = elim (c == 95) as (λ b. whole (if b then 117 ∷ 95 ∷ [] else lower (clean_byte c) ∷ []) ≡ false) [ true ↦ refl | false ↦ one_whole (lower (clean_byte c)) (lower_whole (clean_byte c) (byte_whole c h)) ]
+first_whole c h = elim (c == 95) as (λ b. whole (if b then 117 ∷ 95 ∷ [] else lower_case (clean_byte c) ∷ []) ≡ false) [ true ↦ refl | false ↦ one_whole (lower_case (clean_byte c)) (lower_whole (clean_byte c) (byte_whole c h)) ]
 
 clean_whole : (x : List ℕ) → whole x ≡ false → whole (clean x) ≡ false
 clean_whole [] h = refl
-clean_whole (c ∷ cs) h = elim (is_operator_byte c) as (λ b. whole (if b then operator_name (c ∷ cs) else clean_first c ++ map clean_byte cs) ≡ false) [
-  | true ↦ joined (fixity (is_prefix (c ∷ cs))) (flat_map spelt (c ∷ cs)) (fixity_whole (is_prefix (c ∷ cs))) (all_spelt (c ∷ cs))
+clean_whole (c ∷ cs) h = elim (is_spelt_byte c) as (λ b. whole (if b then operator_name (c ∷ cs) else clean_first c ++ map clean_byte cs) ≡ false) [
+  | true ↦ joined (fixity (is_prefix_operator_name (c ∷ cs))) (flat_map spelt (c ∷ cs)) (fixity_whole (is_prefix_operator_name (c ∷ cs))) (all_spelt (c ∷ cs))
   | false ↦ joined (clean_first c) (map clean_byte cs) (first_whole c (first_false (breaks c) (whole cs) h)) (bytes_whole cs (rest_false (breaks c) (whole cs) h))
 ]
 
@@ -85,48 +85,48 @@ unfolding NoNumber
 fixity_start true cs ds = refl
 fixity_start false cs ds = refl
 
-no_minus : (c : ℕ) → is_operator_byte c ≡ false → (c == 45) ≡ false
+no_minus : (c : ℕ) → is_spelt_byte c ≡ false → (c == 45) ≡ false
 no_minus c h = elim (c == 45) as (λ b. (c == 45) ≡ b → b ≡ false) [
-  | true ↦ λ e. sym (ap is_operator_byte ((Decides-eqb c 45).0 e)) ∙ h
+  | true ↦ λ e. sym (ap is_spelt_byte ((Decides-eqb c 45).0 e)) ∙ h
   | false ↦ λ e. refl
 ] refl
 
-lower_start : (c : ℕ) → (nat_le 65 c && nat_le c 90) ≡ true → is_digit (c + 32) ≡ false
+lower_start : (c : ℕ) → (nat_le 65 c && nat_le c 90) ≡ true → is_decimal_digit (c + 32) ≡ false
 lower_start c h = grind (arith, nat_tests)
 
 lower_minus : (c : ℕ) → (nat_le 65 c && nat_le c 90) ≡ true → (c + 32 == 45) ≡ false
 lower_minus c h = grind (arith, nat_tests)
 
-lower_no_number : (c : ℕ) → is_digit c ≡ false → (c == 45) ≡ false → (is_digit (lower c) ≡ false) × ((lower c == 45) ≡ false)
-lower_no_number c h k = elim (nat_le 65 c && nat_le c 90) as (λ b. (nat_le 65 c && nat_le c 90) ≡ b → (is_digit (if b then c + 32 else c) ≡ false) × (((if b then c + 32 else c) == 45) ≡ false)) [
+lower_no_number : (c : ℕ) → is_decimal_digit c ≡ false → (c == 45) ≡ false → (is_decimal_digit (lower_case c) ≡ false) × ((lower_case c == 45) ≡ false)
+lower_no_number c h k = elim (nat_le 65 c && nat_le c 90) as (λ b. (nat_le 65 c && nat_le c 90) ≡ b → (is_decimal_digit (if b then c + 32 else c) ≡ false) × (((if b then c + 32 else c) == 45) ≡ false)) [
   | true ↦ λ e. (lower_start c e, lower_minus c e)
   | false ↦ λ e. (h, k)
 ] refl
 
-byte_no_number : (c : ℕ) → is_digit c ≡ false → (c == 45) ≡ false → (is_digit (clean_byte c) ≡ false) × ((clean_byte c == 45) ≡ false)
-byte_no_number c h k = elim (c == 39) as (λ b. (is_digit (if b then 113 else c) ≡ false) × (((if b then 113 else c) == 45) ≡ false)) [ true ↦ (refl, refl) | false ↦ (h, k) ]
+byte_no_number : (c : ℕ) → is_decimal_digit c ≡ false → (c == 45) ≡ false → (is_decimal_digit (clean_byte c) ≡ false) × ((clean_byte c == 45) ≡ false)
+byte_no_number c h k = elim (c == 39) as (λ b. (is_decimal_digit (if b then 113 else c) ≡ false) × (((if b then 113 else c) == 45) ≡ false)) [ true ↦ (refl, refl) | false ↦ (h, k) ]
 
-letter_start : (c : ℕ) (cs : List ℕ) → is_digit c ≡ false → (c == 45) ≡ false → NoNumber (c ∷ cs)
+letter_start : (c : ℕ) (cs : List ℕ) → is_decimal_digit c ≡ false → (c == 45) ≡ false → NoNumber (c ∷ cs)
 unfolding NoNumber
 letter_start c cs h k ds = letter_no_number c (cs ++ ds) h k
 
-first_start : (c : ℕ) (cs : List ℕ) → is_digit c ≡ false → (c == 45) ≡ false → NoNumber (clean_first c ++ cs)
+first_start : (c : ℕ) (cs : List ℕ) → is_decimal_digit c ≡ false → (c == 45) ≡ false → NoNumber (clean_first c ++ cs)
 unfolding NoNumber
 first_start c cs h k =
     let b = byte_no_number c h k in
     let l = lower_no_number (clean_byte c) b.0 b.1 in
-    elim (c == 95) as (λ b. NoNumber ((if b then 117 ∷ 95 ∷ [] else lower (clean_byte c) ∷ []) ++ cs)) [ true ↦ λ ds. refl | false ↦ letter_start (lower (clean_byte c)) cs l.0 l.1 ]
+    elim (c == 95) as (λ b. NoNumber ((if b then 117 ∷ 95 ∷ [] else lower_case (clean_byte c) ∷ []) ++ cs)) [ true ↦ λ ds. refl | false ↦ letter_start (lower_case (clean_byte c)) cs l.0 l.1 ]
 
 clean_start : (x ds : List ℕ) → begins_digit x ≡ false → begins_number (clean x ++ 95 ∷ ds) ≡ false
 unfolding NoNumber
 clean_start [] ds h = letter_no_number 95 ds refl refl
-clean_start (c ∷ cs) ds h = elim (is_operator_byte c) as (λ b. is_operator_byte c ≡ b → begins_number ((if b then operator_name (c ∷ cs) else clean_first c ++ map clean_byte cs) ++ 95 ∷ ds) ≡ false) [
-  | true ↦ λ e. fixity_start (is_prefix (c ∷ cs)) (flat_map spelt (c ∷ cs)) (95 ∷ ds)
+clean_start (c ∷ cs) ds h = elim (is_spelt_byte c) as (λ b. is_spelt_byte c ≡ b → begins_number ((if b then operator_name (c ∷ cs) else clean_first c ++ map clean_byte cs) ++ 95 ∷ ds) ≡ false) [
+  | true ↦ λ e. fixity_start (is_prefix_operator_name (c ∷ cs)) (flat_map spelt (c ∷ cs)) (95 ∷ ds)
   | false ↦ λ e. first_start c (map clean_byte cs) h (no_minus c e) (95 ∷ ds)
 ] refl
 
 -- ---- entries
-entry_spelt : (t : TaskTree) (all : List Occurrence) (place : ℕ) (o : Occurrence) → place < 10 ^ 64 → IsOrdinary (symbol_or t.symbols o.symbol) → IsSpelt (entry_of t all place o)
+entry_spelt : (t : TaskTree) (all : List Occurrence) (place : ℕ) (o : Occurrence) → place < 10 ^ 64 → IsOrdinary (symbol_or t.symbols o.symbol) → IsEntrySpelt (entry_at_place t all place o)
 entry_spelt t all place o l i =
     let x = own_name (symbol_or t.symbols o.symbol).name in
     let ds = decimal place in
@@ -143,7 +143,7 @@ symbol_ordinary [] k a = int_ordinary
 symbol_ordinary (e ∷ es) zero a = a 0 e (omega arith)
 symbol_ordinary (e ∷ es) (suc k) a = symbol_ordinary es k (λ i d l. a (suc i) d (omega arith))
 
-entries_spelt : (t : TaskTree) (all os : List Occurrence) (place : ℕ) → place + length os ≤ 2 ^ 64 → All IsOrdinary t.symbols → All IsSpelt (entries_from t all place os)
+entries_spelt : (t : TaskTree) (all os : List Occurrence) (place : ℕ) → place + length os ≤ 2 ^ 64 → All IsOrdinary t.symbols → All IsEntrySpelt (entries_from t all place os)
 entries_spelt t all [] place l a k d h = absurd (omega arith)
 entries_spelt t all (o ∷ os) place l a zero d h = entry_spelt t all place o (omega (arith, l)) (symbol_ordinary t.symbols o.symbol a)
 entries_spelt t all (o ∷ os) place l a (suc k) d h = entries_spelt t all os (place + 1) (omega (arith, l)) a k d (omega arith)

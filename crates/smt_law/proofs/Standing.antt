@@ -1,4 +1,4 @@
--- What occurs in a task that is printed stands in the table of its problem.
+-- What occurs in a task that is printed is in the table of its problem.
 use Rattle.std.proofs.Common.{◌≡◌, ℕ, ◌==◌, ◌||◌, Bool, true, false, cond, if◌then◌else◌, List, [], ◌∷◌, ◌++◌, length, slice_get, filter, flat_map, Contains, Option, Some, None, IfSome, IsTrue, refl, sym, ap, subst, ◌∙◌, arith, inl, inr, ◌⊎◌}
 use Rattle.std.proofs.lemmas.Bool.Decides.{Decides-eqb}
 use Rattle.std.proofs.lemmas.Option.{get_or_from_slice_get}
@@ -11,12 +11,12 @@ use Rattle.trees.specs.Sorts.{IsList, WellSorted, yield_type, top_type, type_of}
 use Rattle.tasks.specs.declared.signature.SymbolKind.TheVariants as kinds
 use Rattle.tasks.specs.Task.{SymbolTree, int_symbol, TaskTree, symbol_or, declared, made}
 use Rattle.tasks.specs.Vocabulary.{of_task}
-use Rattle.tasks.specs.Typing.{members, IsUse, Gives, MakesTerms, bound_types, TypedUnder}
+use Rattle.tasks.specs.Typing.{members, IsUse, HasResult, MakesTerms, bound_types, TypedUnder}
 use Rattle.tasks.specs.Valid.{AreInts, IsValid}
 use Rattle.tasks.proofs.Closing.{typed_sorted}
 use Rattle.tasks.proofs.Declared.{any_iff, usable_made, matched_made, contains_cases, contains_step}
-use Rattle.name_tables.specs.Occurrences.{Occurrence, occurrence, whole, in_type, in_option, in_types_of, at_types, of_leaf, of_one, of_two, of_three, occurrences, task_occurrences}
-use Rattle.name_tables.specs.Tables.{is_same, is_interpreted, is_of_ints, symbols_of_ints, is_in, is_instance_of, instances, distinct, problem_things}
+use Rattle.name_tables.specs.Occurrences.{Occurrence, occurrence, whole_occurrence, in_type, in_option, in_types_of, occurrences_at, of_leaf, of_one, of_two, of_three, occurrences, task_occurrences}
+use Rattle.name_tables.specs.Tables.{is_same, is_interpreted, is_of_ints, symbols_of_ints, is_in, is_instance_of, symbol_instances, distinct, problem_things}
 use Rattle.name_tables.specs.Seen.{has, AreIn}
 use Rattle.name_tables.proofs.Gathering.{same_occurrence, same_itself, added_in}
 use Rattle.name_tables.proofs.Distinct.{distinct_is}
@@ -65,7 +65,7 @@ itself_in (x ∷ xs) = (or_left (is_same x x) (has xs x) (same_itself x), furthe
     further o os (y ∷ ys) h = (or_right (is_same y o) (has os y) h.0, further o os ys h.1)
 
 module _ (t : TaskTree) (valid : IsValid t) where
-  -- ---- what may stand in the table: of a declared symbol, at ground types, and at none where it is interpreted
+  -- ---- what may be in the table: of a declared symbol, at ground types, and at none where it is interpreted
   pub record IsGood (o : Occurrence) : Type 0 where
     pub declared : is_in o.symbol (declared t) ≡ true
     pub none : is_interpreted t.ints o.symbol ≡ true → o.types ≡ Leaf HEnd
@@ -79,17 +79,17 @@ module _ (t : TaskTree) (valid : IsValid t) where
   good_join [] ys h k = k
   good_join (x ∷ xs) ys h k = (h.0, good_join xs ys h.1 k)
 
-  by_instances : (os : List Occurrence) (o : Occurrence) → IsGood o → has os o ≡ true → (b : Bool) → is_interpreted t.ints o.symbol ≡ b → has (if b then whole o.symbol ∷ [] else filter (is_instance_of o.symbol) os) o ≡ true
+  by_instances : (os : List Occurrence) (o : Occurrence) → IsGood o → has os o ≡ true → (b : Bool) → is_interpreted t.ints o.symbol ≡ b → has (if b then whole_occurrence o.symbol ∷ [] else filter (is_instance_of o.symbol) os) o ≡ true
   by_instances os o g h true e =
       let n = g.none e in
-      or_left (is_same o (whole o.symbol)) false (ap (λ (z : Tree). is_same o (occurrence o.symbol z)) (sym n) ∙ same_itself o)
+      or_left (is_same o (whole_occurrence o.symbol)) false (ap (λ (z : Tree). is_same o (occurrence o.symbol z)) (sym n) ∙ same_itself o)
   by_instances os o g h false e =
       in_filter (is_instance_of o.symbol) os o (and_true (o.symbol == o.symbol) (above_ty_vars o.types == 0) ((Decides-eqb o.symbol o.symbol).1 refl) ((Decides-eqb (above_ty_vars o.types) 0).1 g.ground)) h
 
   good_stands : (o : Occurrence) → IsGood o → has (task_occurrences t) o ≡ true → has (problem_things t) o ≡ true
   good_stands o g h =
       let os = task_occurrences t in
-      in_distinct (flat_map (instances t.ints os) (declared t)) o (in_one_of (instances t.ints os) (declared t) o.symbol o g.declared (by_instances os o g h (is_interpreted t.ints o.symbol) refl))
+      in_distinct (flat_map (symbol_instances t.ints os) (declared t)) o (in_one_of (symbol_instances t.ints os) (declared t) o.symbol o g.declared (by_instances os o g h (is_interpreted t.ints o.symbol) refl))
 
   all_stand : (xs : List Occurrence) → AreGood xs → AreIn (task_occurrences t) xs → AreIn (problem_things t) xs
   all_stand [] g h = tt
@@ -149,10 +149,10 @@ module _ (t : TaskTree) (valid : IsValid t) where
   good_at : (k : ℕ) (types : Tree) → is_in k (declared t) ≡ true → WellSorted types → IsList Kind types → length (members types) ≡ (symbol_or t.symbols k).vars → above_ty_vars types ≡ 0 → IsGood (occurrence k types)
   good_at k types d w l n g = record { declared = d; none = (λ h. empty_types types w l (n ∙ interpreted_vars k h)); ground = g }
 
-  good_whole : (k : ℕ) → is_in k (declared t) ≡ true → IsGood (whole k)
+  good_whole : (k : ℕ) → is_in k (declared t) ≡ true → IsGood (whole_occurrence k)
   good_whole k d = record { declared = d; none = (λ _. refl); ground = refl }
 
-  good_int : IsGood (whole 0)
+  good_int : IsGood (whole_occurrence 0)
   good_int = good_whole 0 (made_declared 0 (inl refl))
 
   -- ---- types
@@ -210,14 +210,14 @@ module _ (t : TaskTree) (valid : IsValid t) where
   good_one types (HParam n) a x g = good_types types a x.2 g
   good_one types _ a x g = tt
 
-  good_use : (types : List Tree) (k : ℕ) (ts : Tree) → is_in k (declared t) ≡ true → TypedUnder (of_task t) types ts → IsList Kind ts → length (members ts) ≡ (symbol_or t.symbols k).vars → above_ty_vars ts ≡ 0 → AreGood (at_types k ts)
+  good_use : (types : List Tree) (k : ℕ) (ts : Tree) → is_in k (declared t) ≡ true → TypedUnder (of_task t) types ts → IsList Kind ts → length (members ts) ≡ (symbol_or t.symbols k).vars → above_ty_vars ts ≡ 0 → AreGood (occurrences_at k ts)
   good_use types k ts d x l n g = good_join (in_type ts) (occurrence k ts ∷ []) (good_types types ts x g) (good_at k ts d (typed_sorted (of_task t) types ts x) l n g, tt)
 
   good_two : (types : List Tree) (h : Head) (a b : Tree) → TypedUnder (of_task t) types (Two h a b) → above_ty_vars a ≡ 0 → above_ty_vars b ≡ 0 → AreGood (of_two h a b)
   good_two types (HPred k) a b x g f =
       let e = entry_has t.symbols k (λ e. (e.kind ≡ kinds.Predicate) × IsUse e a b) x.1.1 in
       let u = e.1 in
-      good_join (in_types_of b) (at_types k a) (good_types_of types b x.3 f) (good_use types k a (usable_declared k x.1.0) x.2 x.0.0.0 u.as_many g)
+      good_join (in_types_of b) (occurrences_at k a) (good_types_of types b x.3 f) (good_use types k a (usable_declared k x.1.0) x.2 x.0.0.0 u.as_many g)
   good_two types HEq a b x g f = good_type_of types a x.2 g
   good_two types HForall a b x g f = good_types types a x.2 g
   good_two types HExists a b x g f = good_types types a x.2 g
@@ -225,15 +225,15 @@ module _ (t : TaskTree) (valid : IsValid t) where
 
   good_three : (types : List Tree) (h : Head) (a b c : Tree) → TypedUnder (of_task t) types (Three h a b c) → above_ty_vars a ≡ 0 → above_ty_vars b ≡ 0 → above_ty_vars c ≡ 0 → AreGood (of_three h a b c)
   good_three types (HFun k) a b c x g f i =
-      let e = entry_has t.symbols k (λ e. MakesTerms e.kind × IsUse e a b × Gives e a c) x.1.1 in
+      let e = entry_has t.symbols k (λ e. MakesTerms e.kind × IsUse e a b × HasResult e a c) x.1.1 in
       let u = e.1 in
-      good_join (in_types_of b) (in_type c ++ at_types k a) (good_types_of types b x.3 f)
-      (good_join (in_type c) (at_types k a) (good_types types c x.4 i) (good_use types k a (usable_declared k x.1.0) x.2 x.0.0 u.as_many g))
+      good_join (in_types_of b) (in_type c ++ occurrences_at k a) (good_types_of types b x.3 f)
+      (good_join (in_type c) (occurrences_at k a) (good_types types c x.4 i) (good_use types k a (usable_declared k x.1.0) x.2 x.0.0 u.as_many g))
   good_three types (HPatCon k) a b c x g f i =
-      let e = entry_has t.symbols k (λ e. (e.kind ≡ kinds.Constructor) × IsUse e a b × Gives e a c) x.1.1 in
+      let e = entry_has t.symbols k (λ e. (e.kind ≡ kinds.Constructor) × IsUse e a b × HasResult e a c) x.1.1 in
       let u = e.1 in
-      good_join (in_types_of b) (in_type c ++ at_types k a) (good_types_of types b x.3 f)
-      (good_join (in_type c) (at_types k a) (good_types types c x.4 i) (good_use types k a (matched_declared k x.1.0) x.2 x.0.0 u.as_many g))
+      good_join (in_types_of b) (in_type c ++ occurrences_at k a) (good_types_of types b x.3 f)
+      (good_join (in_type c) (occurrences_at k a) (good_types types c x.4 i) (good_use types k a (matched_declared k x.1.0) x.2 x.0.0 u.as_many g))
   good_three types _ a b c x g f i = tt
 
   pub good_occurrences : (types : List Tree) (e : Tree) → TypedUnder (of_task t) types e → above_ty_vars e ≡ 0 → AreGood (occurrences e)

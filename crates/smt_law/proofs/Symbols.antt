@@ -8,13 +8,13 @@ use Rattle.trees.specs.Binding.{inst_types}
 use Rattle.tasks.specs.declared.signature.SymbolKind.{SymbolKind}
 use Rattle.tasks.specs.declared.signature.SymbolKind.TheVariants as kinds
 use Rattle.tasks.specs.Task.{SymbolTree, symbol_or}
-use Rattle.tasks.specs.Typing.{members, IsUse, Gives, MakesTerms}
+use Rattle.tasks.specs.Typing.{members, IsUse, HasResult, MakesTerms}
 use Rattle.tasks.specs.Equations.{cells}
 use Rattle.name_tables.specs.Occurrences.{Occurrence, occurrence}
 use Rattle.printed_problems.specs.Problems.{is_kind}
-use Rattle.s_expressions.specs.Sexps.{Sexp, Word, Group, Nothing, Then, IsWord, IsOne, AreMembers}
+use Rattle.s_expressions.specs.Sexps.{Sexp, SexpWord, Group, Nothing, Then, IsWord, IsOne, IsProperList}
 use Rattle.smt_law.specs.Plain.{is_type, arity, arity_of}
-use Rattle.smt_law.specs.Reading.{reading}
+use Rattle.smt_law.specs.Reading.{tree_as_read}
 use Rattle.smt_law.proofs.Forms.{Known, called, word_of}
 use Rattle.smt_law.proofs.Back.{Free, role, is_predicate, or_end, made, symbol_tree, is_equality_word, equation, free_tree, word_tree, group_tree, back}
 use Rattle.smt_law.proofs.Words.{free_role, other_word, or_false}
@@ -45,18 +45,18 @@ term_no_predicate kinds.Predicate m = absurd m
 term_no_predicate _ m = refl
 
 -- a word alone or on arguments
-pub called_proper : (w : List ℕ) (s : Sexp) → IsWord w → AreMembers s → IsOne (called w s)
-called_proper w (Word v) p m = absurd m
+pub called_proper : (w : List ℕ) (s : Sexp) → IsWord w → IsProperList s → IsOne (called w s)
+called_proper w (SexpWord v) p m = absurd m
 called_proper w (Group s) p m = absurd m
 called_proper w Nothing p m = p
 called_proper w (Then a rest) p m = (p, m)
 
 module _ (c : Known) (types : List Tree) where
-  pub called_back : (w : List ℕ) (s : Sexp) → AreMembers s → role w ≡ Free → (back c (called w s)).one types ≡ free_tree c w ((back c s).list types)
-  called_back w (Word v) m f = absurd m
+  pub called_back : (w : List ℕ) (s : Sexp) → IsProperList s → role w ≡ Free → (back c (called w s)).one types ≡ free_tree c w ((back c s).list types)
+  called_back w (SexpWord v) m f = absurd m
   called_back w (Group s) m f = absurd m
   called_back w Nothing m f = ap (word_tree c w types) f
-  called_back w (Then a rest) m f = ap (group_tree c w (Then (Word w) (Then a rest)) types (back c (Then (Word w) (Then a rest))).list) f
+  called_back w (Then a rest) m f = ap (group_tree c w (Then (SexpWord w) (Then a rest)) types (back c (Then (SexpWord w) (Then a rest))).list) f
 
   no_equation : (w : List ℕ) (args : List Tree) → (length args ≡ 2 → is_equality_word c w ≡ false) → free_tree c w args ≡ symbol_tree c w args
   no_equation w [] h = refl
@@ -73,10 +73,10 @@ module _ (c : Known) (r : IsReader c) (k : ℕ) (types args : Tree) (there : IsT
       or_false (bytes_eq (word_of c thing) (codes "=")) (bytes_eq (word_of c thing) c.words.of_equality) (other_word (word_of c thing) (codes "=") (plain_thing c r thing there).no_equals)
       (other_word (word_of c thing) c.words.of_equality (no_equality c r thing there u.kind n))
 
-  as_many_read : (es : List Tree) → cells es ≡ reading args → length es ≡ arity c.vocabulary.symbols k
+  as_many_read : (es : List Tree) → cells es ≡ tree_as_read args → length es ≡ arity c.vocabulary.symbols k
   as_many_read es e = ap length (sym (members_cells es) ∙ ap members e) ∙ as_many_members args ∙ u.fit
 
-  symbol_back : (s : Sexp) (bound : List Tree) → AreMembers s → cells ((back c s).list bound) ≡ reading args → (back c (called (word_of c thing) s)).one bound ≡ made c thing ((back c s).list bound)
+  symbol_back : (s : Sexp) (bound : List Tree) → IsProperList s → cells ((back c s).list bound) ≡ tree_as_read args → (back c (called (word_of c thing) s)).one bound ≡ made c thing ((back c s).list bound)
   symbol_back s bound m e =
       let free = (plain_thing c r thing there).free in
       let n = as_many_read ((back c s).list bound) e in
@@ -84,23 +84,23 @@ module _ (c : Known) (r : IsReader c) (k : ℕ) (types args : Tree) (there : IsT
       ∙ no_equation c bound (word_of c thing) ((back c s).list bound) (λ two. no_equality_word (sym n ∙ two))
       ∙ ap (λ (o : Occurrence). made c o ((back c s).list bound)) (symbol_found c r thing (length ((back c s).list bound)) there u.kind (sym n) (at_none_by c r k types sorted kinds_alone u.as_many))
 
-  pub symbol_proper : (s : Sexp) → AreMembers s → IsOne (called (word_of c thing) s)
+  pub symbol_proper : (s : Sexp) → IsProperList s → IsOne (called (word_of c thing) s)
   symbol_proper s m = called_proper (word_of c thing) s (plain_thing c r thing there).free.proper m
 
-  pub predicate_back : (s : Sexp) (bound : List Tree) → AreMembers s → cells ((back c s).list bound) ≡ reading args → (symbol_or c.vocabulary.symbols k).kind ≡ kinds.Predicate
-      → (back c (called (word_of c thing) s)).one bound ≡ Two (HPred k) (reading types) (reading args)
+  pub predicate_back : (s : Sexp) (bound : List Tree) → IsProperList s → cells ((back c s).list bound) ≡ tree_as_read args → (symbol_or c.vocabulary.symbols k).kind ≡ kinds.Predicate
+      → (back c (called (word_of c thing) s)).one bound ≡ Two (HPred k) (tree_as_read types) (tree_as_read args)
   predicate_back s bound m e p =
       let es = (back c s).list bound in
       let entry = symbol_or c.vocabulary.symbols k in
       symbol_back s bound m e
-      ∙ ap (λ b. if b then Two (HPred k) (reading types) (cells es) else Three (HFun k) (reading types) (cells es) (reading (or_end (option_map (λ x. inst_types x (members types)) entry.result)))) (ap is_predicate p)
-      ∙ ap (Two (HPred k) (reading types)) e
+      ∙ ap (λ b. if b then Two (HPred k) (tree_as_read types) (cells es) else Three (HFun k) (tree_as_read types) (cells es) (tree_as_read (or_end (option_map (λ x. inst_types x (members types)) entry.result)))) (ap is_predicate p)
+      ∙ ap (Two (HPred k) (tree_as_read types)) e
 
-  pub function_back : (s : Sexp) (bound : List Tree) (type : Tree) → AreMembers s → cells ((back c s).list bound) ≡ reading args → MakesTerms (symbol_or c.vocabulary.symbols k).kind → Gives (symbol_or c.vocabulary.symbols k) types type
-      → (back c (called (word_of c thing) s)).one bound ≡ Three (HFun k) (reading types) (reading args) (reading type)
+  pub function_back : (s : Sexp) (bound : List Tree) (type : Tree) → IsProperList s → cells ((back c s).list bound) ≡ tree_as_read args → MakesTerms (symbol_or c.vocabulary.symbols k).kind → HasResult (symbol_or c.vocabulary.symbols k) types type
+      → (back c (called (word_of c thing) s)).one bound ≡ Three (HFun k) (tree_as_read types) (tree_as_read args) (tree_as_read type)
   function_back s bound type m e t g =
       let es = (back c s).list bound in
       let entry = symbol_or c.vocabulary.symbols k in
       symbol_back s bound m e
-      ∙ ap (λ b. if b then Two (HPred k) (reading types) (cells es) else Three (HFun k) (reading types) (cells es) (reading (or_end (option_map (λ x. inst_types x (members types)) entry.result)))) (term_no_predicate entry.kind t)
-      ∙ (λ i. Three (HFun k) (reading types) (e i) (reading (or_end (g i))))
+      ∙ ap (λ b. if b then Two (HPred k) (tree_as_read types) (cells es) else Three (HFun k) (tree_as_read types) (cells es) (tree_as_read (or_end (option_map (λ x. inst_types x (members types)) entry.result)))) (term_no_predicate entry.kind t)
+      ∙ (λ i. Three (HFun k) (tree_as_read types) (e i) (tree_as_read (or_end (g i))))

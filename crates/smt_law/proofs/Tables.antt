@@ -12,9 +12,9 @@ use Rattle.tasks.specs.Vocabulary.{of_task}
 use Rattle.tasks.proofs.Declared.{any_iff, usable_made, contains_cases, contains_step}
 use Rattle.name_entries.specs.declared.names.NameOf.TheVariants.{Int, Rigid, Symbol}
 use Rattle.name_entries.specs.declared.names.NameEntry.{NameEntry}
-use Rattle.name_tables.specs.Occurrences.{Occurrence, occurrence, whole}
+use Rattle.name_tables.specs.Occurrences.{Occurrence, occurrence, whole_occurrence}
 use Rattle.name_tables.specs.Spelling.{own_name, clean}
-use Rattle.name_tables.specs.Tables.{is_same, is_in, place_of, name_of, entry_of, entries_from, problem_things, problem_names}
+use Rattle.name_tables.specs.Tables.{is_same, is_in, occurrence_place, named_thing, entry_at_place, entries_from, problem_things, problem_names}
 use Rattle.name_tables.specs.Seen.{has}
 use Rattle.name_tables.proofs.Gathering.{same_occurrence}
 use Rattle.name_tables.proofs.Differ.{names_differ}
@@ -22,8 +22,8 @@ use Rattle.printed_problems.specs.Problems.{problem_of}
 use Rattle.printed_terms.specs.Texts.{text_of_entry}
 use Rattle.printed_terms.specs.Texts as texts
 use Rattle.printed_terms.specs.Problems.{printing_of}
-use Rattle.smt_law.specs.Plain.{IsFree, Words, ArePlain}
-use Rattle.smt_law.specs.Law.{IsSpelt, IsPrinted}
+use Rattle.smt_law.specs.Plain.{IsFreeWord, Words, ArePlain}
+use Rattle.smt_law.specs.Law.{IsEntrySpelt, IsPrinted}
 use Rattle.smt_law.proofs.Forms.{Known}
 use Rattle.smt_law.proofs.Back.{is_rigid_name, is_rigid_entry}
 use Rattle.smt_law.proofs.Words.{name_underscore, underscore_no_local, underscore_no_syntax, underscore_differs}
@@ -33,27 +33,27 @@ use Rattle.smt_law.proofs.Found.{IsNamed, IsReader}
 abbrev pub known : Driver → Words → TaskTree → Known
 known d words t = record { printing = printing_of d t (problem_of d t); words = words; vocabulary = of_task t; params = t.params }
 
--- ---- what stands at a place
-pub thing_at : (os : List Occurrence) (o : Occurrence) → has os o ≡ true → slice_get os (place_of os o) ≡ Some o
+-- ---- what is at a place
+pub thing_at : (os : List Occurrence) (o : Occurrence) → has os o ≡ true → slice_get os (occurrence_place os o) ≡ Some o
 thing_at [] o h = absurd (cc)
-thing_at (x ∷ xs) o h = elim (is_same o x) as (λ b. is_same o x ≡ b → (b || has xs o) ≡ true → slice_get (x ∷ xs) (cond (not b) (1 + place_of xs o) 0) ≡ Some o) [
+thing_at (x ∷ xs) o h = elim (is_same o x) as (λ b. is_same o x ≡ b → (b || has xs o) ≡ true → slice_get (x ∷ xs) (cond (not b) (1 + occurrence_place xs o) 0) ≡ Some o) [
   | true ↦ λ e _. ap (λ (z : Occurrence). Some z) (sym (same_occurrence o x e))
-  | false ↦ λ e k. let n : 1 + place_of xs o ≡ suc (place_of xs o) = omega arith in ap (slice_get (x ∷ xs)) n ∙ thing_at xs o k
+  | false ↦ λ e k. let n : 1 + occurrence_place xs o ≡ suc (occurrence_place xs o) = omega arith in ap (slice_get (x ∷ xs)) n ∙ thing_at xs o k
 ] refl h
 
-entry_at : (t : TaskTree) (all os : List Occurrence) (place : ℕ) (o : Occurrence) → has os o ≡ true → slice_get (entries_from t all place os) (place_of os o) ≡ Some (entry_of t all (place + place_of os o) o)
+entry_at : (t : TaskTree) (all os : List Occurrence) (place : ℕ) (o : Occurrence) → has os o ≡ true → slice_get (entries_from t all place os) (occurrence_place os o) ≡ Some (entry_at_place t all (place + occurrence_place os o) o)
 entry_at t all [] place o h = absurd (cc)
 entry_at t all (x ∷ xs) place o h = elim (is_same o x) as (λ b. is_same o x ≡ b → (b || has xs o) ≡ true
-    → slice_get (entries_from t all place (x ∷ xs)) (cond (not b) (1 + place_of xs o) 0) ≡ Some (entry_of t all (place + cond (not b) (1 + place_of xs o) 0) o)) [
-      | true ↦ λ e _. let n : place ≡ place + 0 = omega arith in let s = sym (same_occurrence o x e) in (λ i. Some (entry_of t all (n i) (s i)))
+    → slice_get (entries_from t all place (x ∷ xs)) (cond (not b) (1 + occurrence_place xs o) 0) ≡ Some (entry_at_place t all (place + cond (not b) (1 + occurrence_place xs o) 0) o)) [
+      | true ↦ λ e _. let n : place ≡ place + 0 = omega arith in let s = sym (same_occurrence o x e) in (λ i. Some (entry_at_place t all (n i) (s i)))
       | false ↦ λ e k.
-          let n : 1 + place_of xs o ≡ suc (place_of xs o) = omega arith in
-          let m : place + 1 + place_of xs o ≡ place + (1 + place_of xs o) = omega arith in
-          ap (slice_get (entries_from t all place (x ∷ xs))) n ∙ entry_at t all xs (place + 1) o k ∙ ap (λ j. Some (entry_of t all j o)) m
+          let n : 1 + occurrence_place xs o ≡ suc (occurrence_place xs o) = omega arith in
+          let m : place + 1 + occurrence_place xs o ≡ place + (1 + occurrence_place xs o) = omega arith in
+          ap (slice_get (entries_from t all place (x ∷ xs))) n ∙ entry_at t all xs (place + 1) o k ∙ ap (λ j. Some (entry_at_place t all j o)) m
     ] refl h
 
 -- ---- names
-its_name : (t : TaskTree) (all : List Occurrence) (place : ℕ) (o : Occurrence) → IsSpelt (entry_of t all place o) → IsFree (entry_of t all place o).name × ((entry_of t all place o).name ≢ codes "=")
+its_name : (t : TaskTree) (all : List Occurrence) (place : ℕ) (o : Occurrence) → IsEntrySpelt (entry_at_place t all place o) → IsFreeWord (entry_at_place t all place o).name × ((entry_at_place t all place o).name ≢ codes "=")
 its_name t all place o s =
     let x = clean (own_name (symbol_or t.symbols o.symbol).name) in
     let ds = decimal place in
@@ -87,14 +87,14 @@ not_in k ks h = elim (is_in k ks) as (λ b. is_in k ks ≡ b → b ≡ false) [
   | false ↦ λ e. refl
 ] refl
 
-rigid_is : (t : TaskTree) (k : ℕ) → AllPairs (λ i j. i ≢ j) (declared t) → is_in k t.rigid ≡ true → is_rigid_name (name_of t.rigid k) ≡ true
+rigid_is : (t : TaskTree) (k : ℕ) → AllPairs (λ i j. i ≢ j) (declared t) → is_in k t.rigid ≡ true → is_rigid_name (named_thing t.rigid k) ≡ true
 rigid_is t k once h =
     let c = (any_iff k t.rigid).0 h in
     let n : (k == 0) ≡ false = not_zero k (λ z. no_both (0 ∷ []) (t.rigid ++ made t.decls) k once (contains_step 0 k [] (inl z)) (Contains-append_left t.rigid (made t.decls) k c)) in
     (λ i. is_rigid_name (if n i then Int else (if h i then Rigid k else Symbol k)))
 
-made_is : (t : TaskTree) (k : ℕ) → AllPairs (λ i j. i ≢ j) (declared t) → (k ≡ 0) ⊎ Contains (made t.decls) k → is_rigid_name (name_of t.rigid k) ≡ false
-made_is t k once (inl z) = ap (λ (j : ℕ). is_rigid_name (name_of t.rigid j)) z
+made_is : (t : TaskTree) (k : ℕ) → AllPairs (λ i j. i ≢ j) (declared t) → (k ≡ 0) ⊎ Contains (made t.decls) k → is_rigid_name (named_thing t.rigid k) ≡ false
+made_is t k once (inl z) = ap (λ (j : ℕ). is_rigid_name (named_thing t.rigid j)) z
 made_is t k once (inr c) =
     let n : is_in k t.rigid ≡ false = not_in k t.rigid (λ q. no_both (0 ∷ t.rigid) (made t.decls) k once (contains_step 0 k t.rigid (inr q)) c) in
     elim (k == 0) as (λ b. is_rigid_name (if b then Int else (if is_in k t.rigid then Rigid k else Symbol k)) ≡ false) [
@@ -107,25 +107,25 @@ module _ (d : Driver) (words : Words) (t : TaskTree) (smt : d.printer ≡ Smt) (
   things = problem_things t
 
   abbrev place : Occurrence → ℕ
-  place o = place_of things o
+  place o = occurrence_place things o
 
   abbrev its_entry : Occurrence → NameEntry
-  its_entry o = entry_of t things (0 + place o) o
+  its_entry o = entry_at_place t things (0 + place o) o
 
   stands : (o : Occurrence) → has things o ≡ true → slice_get (problem_names t) (place o) ≡ Some (its_entry o)
   stands o h = entry_at t things things 0 o h
 
-  spelt : (o : Occurrence) → has things o ≡ true → IsSpelt (its_entry o)
+  spelt : (o : Occurrence) → has things o ≡ true → IsEntrySpelt (its_entry o)
   spelt o h =
       let e = stands o h in
-      subst IsSpelt (get_or_from_slice_get (problem_names t) (place o) (its_entry o) (its_entry o) e) (p.names (place o) (its_entry o) (slice_get_within (problem_names t) (place o) (its_entry o) e))
+      subst IsEntrySpelt (get_or_from_slice_get (problem_names t) (place o) (its_entry o) (its_entry o) e) (p.names (place o) (its_entry o) (slice_get_within (problem_names t) (place o) (its_entry o) e))
 
   named : (o : Occurrence) → has things o ≡ true → IsNamed (known d words t) o
   named o h =
       let n = its_name t things (0 + place o) o (spelt o h) in
       record { named = its_entry o; stands = stands o h; free = n.0; no_equals = n.1 }
 
-  name_at : (o : Occurrence) → has things o ≡ true → texts.name_of (known d words t).printing o ≡ (its_entry o).name
+  name_at : (o : Occurrence) → has things o ≡ true → texts.printed_name (known d words t).printing o ≡ (its_entry o).name
   name_at o h = ap text_of_entry (stands o h)
 
   entries_many : (os : List Occurrence) (n : ℕ) → length (entries_from t things n os) ≡ length os
@@ -135,7 +135,7 @@ module _ (d : Driver) (words : Words) (t : TaskTree) (smt : d.printer ≡ Smt) (
   few : length (problem_names t) ≤ 2 ^ 64
   few = let n = entries_many things 0 in let l = p.table in omega (arith, n, l)
 
-  -- two things with one name stand at one place
+  -- two things with one name are at one place
   no_less : (o q : Occurrence) → has things o ≡ true → has things q ≡ true → (its_entry o).name ≡ (its_entry q).name → place o < place q → ⊥
   no_less o q ho hq same l =
       let e = stands o ho in
@@ -152,7 +152,7 @@ module _ (d : Driver) (words : Words) (t : TaskTree) (smt : d.printer ≡ Smt) (
   same_thing : (o q : Occurrence) → Some o ≡ Some q → o ≡ q
   same_thing o q e = cc
 
-  apart : (o q : Occurrence) → has things o ≡ true → has things q ≡ true → texts.name_of (known d words t).printing o ≡ texts.name_of (known d words t).printing q → o ≡ q
+  apart : (o q : Occurrence) → has things o ≡ true → has things q ≡ true → texts.printed_name (known d words t).printing o ≡ texts.printed_name (known d words t).printing q → o ≡ q
   apart o q ho hq e =
       let same : (its_entry o).name ≡ (its_entry q).name = sym (name_at o ho) ∙ e ∙ name_at q hq in
       let one : place o ≡ place q = same_place (place o) (place q) (no_less o q ho hq same) (no_less q o hq ho (sym same)) in
@@ -165,6 +165,6 @@ module _ (d : Driver) (words : Words) (t : TaskTree) (smt : d.printer ≡ Smt) (
     params = p.params;
     named = named;
     apart = apart;
-    rigid = (λ k h v. ap is_rigid_entry (stands (whole k) h) ∙ rigid_is t k p.valid.once v);
+    rigid = (λ k h v. ap is_rigid_entry (stands (whole_occurrence k) h) ∙ rigid_is t k p.valid.once v);
     usable = (λ k types h u. ap is_rigid_entry (stands (occurrence k types) h) ∙ made_is t k p.valid.once (contains_cases 0 k (made t.decls) (usable_made t k u)));
   }

@@ -7,11 +7,11 @@ use Rattle.tasks.specs.Task.{TaskTree}
 use Rattle.name_tables.specs.Tables.{problem_names}
 use Rattle.printed_problems.specs.Problems.{problem_of}
 use Rattle.printed_terms.specs.Texts.{formula_text, sort_text}
-use Rattle.smt_texts.specs.Text.{parameter_line, parameter_lines, goal_line}
+use Rattle.smt_texts.specs.Text.{smt_parameter_line, smt_parameter_lines, smt_goal_line}
 use Rattle.smt_texts.specs.Text as text
-use Rattle.s_expressions.specs.Sexps.{Sexp, write, lines, IsWord, IsOne, AllOne}
+use Rattle.s_expressions.specs.Sexps.{Sexp, write_sexp, lines, IsWord, IsOne, AllOne}
 use Rattle.smt_law.specs.Plain.{Words, ArePlain}
-use Rattle.smt_law.specs.Reading.{reading}
+use Rattle.smt_law.specs.Reading.{tree_as_read}
 use Rattle.smt_law.specs.Law.{IsPrinted}
 use Rattle.smt_law.proofs.Forms.{Known}
 use Rattle.smt_law.proofs.Back.{type_called, back}
@@ -24,9 +24,9 @@ use Rattle.smt_law.proofs.Commands.{formula_read, type_word, parameter_commands,
 
 -- a formula that is read again, and a type whose sort is
 pub record IsTold (c : Known) (e : Tree) : Type 0 where
-  pub text : formula_text c.printing e ≡ write (formula_read c e)
+  pub text : formula_text c.printing e ≡ write_sexp (formula_read c e)
   pub proper : IsOne (formula_read c e)
-  pub back : (back c (formula_read c e)).one [] ≡ reading e
+  pub back : (back c (formula_read c e)).one [] ≡ tree_as_read e
 
 pub record IsToldType (c : Known) (e : Tree) : Type 0 where
   pub text : sort_text c.printing e ≡ type_word c e
@@ -35,17 +35,17 @@ pub record IsToldType (c : Known) (e : Tree) : Type 0 where
 
 module _ (c : Known) where
   -- ---- lines
-  pub parameter_lines_are : (n : ℕ) (es : List Tree) → EachOf (IsToldType c) es → parameter_lines c.printing n es ≡ lines (parameter_commands c n es)
+  pub parameter_lines_are : (n : ℕ) (es : List Tree) → EachOf (IsToldType c) es → smt_parameter_lines c.printing n es ≡ lines (parameter_commands c n es)
   parameter_lines_are n [] t = refl
   parameter_lines_are n (e ∷ es) t =
-      (λ i. parameter_line n (t.0.text i) ++ parameter_lines_are (n + 1) es t.1 i) ∙ ap (λ z. z ++ lines (parameter_commands c (n + 1) es)) (parameter_line_is n (type_word c e))
+      (λ i. smt_parameter_line n (t.0.text i) ++ parameter_lines_are (n + 1) es t.1 i) ∙ ap (λ z. z ++ lines (parameter_commands c (n + 1) es)) (parameter_line_is n (type_word c e))
 
   pub assertions_are : (es : List Tree) → EachOf (IsTold c) es → flat_map (text.assertion c.printing) es ≡ lines (assertions c es)
   assertions_are [] t = refl
   assertions_are (e ∷ es) t =
       (λ i. (codes "(assert " ++ t.0.text i ++ codes ")\n") ++ assertions_are es t.1 i) ∙ ap (λ z. z ++ lines (assertions c es)) (assertion_is (formula_read c e))
 
-  pub ending_is : (goal : Tree) → IsTold c goal → goal_line c.printing goal ++ codes "(check-sat)\n" ≡ lines (ending c goal)
+  pub ending_is : (goal : Tree) → IsTold c goal → smt_goal_line c.printing goal ++ codes "(check-sat)\n" ≡ lines (ending c goal)
   ending_is goal t = ap (λ z. (codes "(assert (not " ++ z ++ codes "))\n") ++ codes "(check-sat)\n") t.text ∙ ap (λ z. z ++ codes "(check-sat)\n") (goal_is (formula_read c goal))
 
   -- ---- each is an expression
@@ -74,7 +74,7 @@ module _ (c : Known) where
       (all_join (assertions c premises) (ending c goal) (assertions_proper premises b) (ending_proper goal g))
 
   -- ---- what is read again
-  pub premises_back : (es : List Tree) → EachOf (IsTold c) es → map (λ s. (back c s).one []) (map (formula_read c) es) ≡ map reading es
+  pub premises_back : (es : List Tree) → EachOf (IsTold c) es → map (λ s. (back c s).one []) (map (formula_read c) es) ≡ map tree_as_read es
   premises_back [] t = refl
   premises_back (e ∷ es) t = (λ i. t.0.back i ∷ premises_back es t.1 i)
 

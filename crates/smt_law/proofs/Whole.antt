@@ -10,10 +10,10 @@ use Rattle.tasks.specs.Vocabulary.{Vocabulary}
 use Rattle.name_entries.specs.declared.names.NameEntry.{NameEntry}
 use Rattle.name_tables.specs.Occurrences.{Occurrence}
 use Rattle.name_tables.specs.Tables.{problem_things, problem_names}
-use Rattle.printed_problems.specs.Problems.{is_sort, is_declared, places_from, preludes, problem_of}
+use Rattle.printed_problems.specs.Problems.{is_sort, is_declared_symbol, places_from, preludes, problem_of}
 use Rattle.printed_terms.specs.Texts.{Printing}
 use Rattle.printed_terms.specs.Problems.{line, printing_of}
-use Rattle.smt_texts.specs.Text.{head_line, sort_line, symbol_line, parameter_lines, goal_line, smt_text}
+use Rattle.smt_texts.specs.Text.{smt_head_line, smt_sort_line, smt_symbol_line, smt_parameter_lines, smt_goal_line, smt_text}
 use Rattle.smt_texts.specs.Text as text
 use Rattle.s_expressions.specs.Sexps.{Sexp, lines, AllOne}
 use Rattle.s_expressions.proofs.Lines.{same_lines}
@@ -36,7 +36,7 @@ regroup p a f o g k =
     append_assoc (((p ++ a) ++ f) ++ o) g k ∙ append_assoc ((p ++ a) ++ f) o (g ++ k) ∙ append_assoc (p ++ a) f (o ++ (g ++ k)) ∙ append_assoc p a (f ++ (o ++ (g ++ k)))
     ∙ ap (λ z. p ++ (a ++ z)) (sym (append_assoc f o (g ++ k)))
 
--- ---- what stands before the parameters depends on the table, the preludes and the part alone
+-- ---- what is before the parameters depends on the table, the preludes and the part alone
 abbrev task_like : List SymbolTree → Option Ints → TaskTree
 task_like symbols ints = record { symbols = symbols; ints = ints; rigid = []; decls = []; params = []; locals = []; goal = Leaf HEnd }
 
@@ -45,8 +45,8 @@ printing d things names = record { driver = d; things = things; names = names }
 
 abbrev front : Driver → ℕ → ℕ → List (List ℕ) → List Occurrence → List NameEntry → List SymbolTree → Option Ints → List ℕ
 front d k n texts things names symbols ints =
-    head_line k n ++ flat_map line texts ++ flat_map (sort_line (printing d things names)) (places_from (is_sort d (task_like symbols ints)) 0 things)
-    ++ flat_map (symbol_line (printing d things names) symbols) (places_from (is_declared d (task_like symbols ints)) 0 things)
+    smt_head_line k n ++ flat_map line texts ++ flat_map (smt_sort_line (printing d things names)) (places_from (is_sort d (task_like symbols ints)) 0 things)
+    ++ flat_map (smt_symbol_line (printing d things names) symbols) (places_from (is_declared_symbol d (task_like symbols ints)) 0 things)
 
 abbrev front_of : Driver → ℕ → ℕ → TaskTree → List ℕ
 front_of d k n t = front d k n (preludes d t) (problem_things t) (problem_names t) t.symbols t.ints
@@ -84,7 +84,7 @@ module _ (d : Driver) (words : Words) (t : TaskTree) (smt : d.printer ≡ Smt) (
       sym (flat_map-append (text.assertion prints) facts t.locals) ∙ assertions_are c (premises_of d t) (premises_told d words t smt plain p) in
       let all : lines (commands_of d words t) ≡ lines (parameter_commands c 0 t.params) ++ (lines (assertions c (premises_of d t)) ++ lines (ending c t.goal)) =
       lines_join (parameter_commands c 0 t.params) (assertions c (premises_of d t) ++ ending c t.goal) ∙ ap (λ z. lines (parameter_commands c 0 t.params) ++ z) (lines_join (assertions c (premises_of d t)) (ending c t.goal)) in
-      regroup (front_of d k n t) (parameter_lines prints 0 t.params) (flat_map (text.assertion prints) facts) (flat_map (text.assertion prints) t.locals) (goal_line prints t.goal) (codes "(check-sat)\n")
+      regroup (front_of d k n t) (smt_parameter_lines prints 0 t.params) (flat_map (text.assertion prints) facts) (flat_map (text.assertion prints) t.locals) (smt_goal_line prints t.goal) (codes "(check-sat)\n")
       ∙ (λ i. front_of d k n t ++ (parameter_lines_are c 0 t.params (types_told d words t smt plain p) i ++ (said i ++ ending_is c t.goal (goal_told d words t smt plain p) i)))
       ∙ ap (λ z. front_of d k n t ++ z) (sym all)
 

@@ -9,7 +9,7 @@ use Rattle.std.proofs.lemmas.Slice.Eq.{bytes_eq-Decides}
 use Rattle.std.proofs.lemmas.Fmt.{decimal_is_IsNumeral_wide}
 use Rattle.std.proofs.lemmas.Str.Parse.{digit_from_value}
 use Rattle.s_expressions.specs.Sexps.{IsWord, breaks}
-use Rattle.smt_law.specs.Plain.{is_digit, all_digits, begins_number, is_local, reserved, is_reserved, IsFree}
+use Rattle.smt_law.specs.Plain.{is_decimal_digit, all_digits, begins_number, is_local, syntax_words, is_reserved, IsFreeWord}
 use Rattle.smt_law.specs.Law.{integer_fits}
 use Rattle.smt_law.proofs.Back.{Number, Local, Syntax, Free, role, negative, integer_of}
 
@@ -34,22 +34,22 @@ and_second true b h = h
 and_second false b h = refl
 
 -- ---- roles
-pub free_role : (w : List ℕ) → IsFree w → role w ≡ Free
-free_role w p = λ i. if p.no_number i then Number else (if p.no_local i then Local else (if p.no_syntax i then Syntax (position_or_len (bytes_eq w) reserved) else Free))
+pub free_role : (w : List ℕ) → IsFreeWord w → role w ≡ Free
+free_role w p = λ i. if p.no_number i then Number else (if p.no_local i then Local else (if p.no_syntax i then Syntax (position_or_len (bytes_eq w) syntax_words) else Free))
 
 number_role : (w : List ℕ) → begins_number w ≡ true → role w ≡ Number
-number_role w p = λ i. if p i then Number else (if is_local w then Local else (if is_reserved w then Syntax (position_or_len (bytes_eq w) reserved) else Free))
+number_role w p = λ i. if p i then Number else (if is_local w then Local else (if is_reserved w then Syntax (position_or_len (bytes_eq w) syntax_words) else Free))
 
 local_role : (w : List ℕ) → begins_number w ≡ false → is_local w ≡ true → role w ≡ Local
-local_role w p q = λ i. if p i then Number else (if q i then Local else (if is_reserved w then Syntax (position_or_len (bytes_eq w) reserved) else Free))
+local_role w p q = λ i. if p i then Number else (if q i then Local else (if is_reserved w then Syntax (position_or_len (bytes_eq w) syntax_words) else Free))
 
 -- ---- digits
-digit : (c : ℕ) → 48 ≤ c → c ≤ 57 → is_digit c ≡ true
+digit : (c : ℕ) → 48 ≤ c → c ≤ 57 → is_decimal_digit c ≡ true
 digit c low high = grind (arith, nat_tests)
 
 digits : (ds : List ℕ) → AllDigits 10 ds → all_digits ds ≡ true
 digits [] d = refl
-digits (c ∷ cs) d = let k = digit_from_value c d.0 in and_true (is_digit c) (all_digits cs) (digit c (omega (arith, k)) (omega (arith, k))) (digits cs d.1)
+digits (c ∷ cs) d = let k = digit_from_value c d.0 in and_true (is_decimal_digit c) (all_digits cs) (digit c (omega (arith, k)) (omega (arith, k))) (digits cs d.1)
 
 digit_no_break : (c : ℕ) → 48 ≤ c → c ≤ 57 → breaks c ≡ false
 digit_no_break c low high = grind (arith, nat_tests)
@@ -61,7 +61,7 @@ digits_whole (c ∷ cs) d = let k = digit_from_value c d.0 in or_false (breaks c
 digits_begin : (ds : List ℕ) → AllDigits 10 ds → 0 < length ds → begins_number ds ≡ true
 digits_begin [] d some = absurd (omega arith)
 digits_begin (c ∷ []) d some = let k = digit_from_value c d.0 in digit c (omega (arith, k)) (omega (arith, k))
-digits_begin (c ∷ e ∷ cs) d some = let k = digit_from_value c d.0 in or_left (is_digit c) ((c == 45) && is_digit e) (digit c (omega (arith, k)) (omega (arith, k)))
+digits_begin (c ∷ e ∷ cs) d some = let k = digit_from_value c d.0 in or_left (is_decimal_digit c) ((c == 45) && is_decimal_digit e) (digit c (omega (arith, k)) (omega (arith, k)))
 
 minus_begins : (ds : List ℕ) → AllDigits 10 ds → 0 < length ds → begins_number (45 ∷ ds) ≡ true
 minus_begins [] d some = absurd (omega arith)
@@ -105,16 +105,16 @@ digits_local : (c : ℕ) (ds : List ℕ) → ((c == 99) || (c == 120)) ≡ true 
 digits_local c [] h d some = absurd (omega arith)
 digits_local c (e ∷ cs) h d some = and_true ((c == 99) || (c == 120)) (all_digits (e ∷ cs)) h (digits (e ∷ cs) d)
 
-pub letter_no_number : (c : ℕ) (ds : List ℕ) → is_digit c ≡ false → (c == 45) ≡ false → begins_number (c ∷ ds) ≡ false
+pub letter_no_number : (c : ℕ) (ds : List ℕ) → is_decimal_digit c ≡ false → (c == 45) ≡ false → begins_number (c ∷ ds) ≡ false
 letter_no_number c [] h k = h
-letter_no_number c (e ∷ cs) h k = λ i. h i || (k i && is_digit e)
+letter_no_number c (e ∷ cs) h k = λ i. h i || (k i && is_decimal_digit e)
 
 pub record IsLocalWord (letter n : ℕ) (w : List ℕ) : Type 0 where
   pub proper : IsWord w
   pub told : role w ≡ Local
   pub named : is_local w ≡ true
 
-letter_word : (c n : ℕ) → ((c == 99) || (c == 120)) ≡ true → breaks c ≡ false → is_digit c ≡ false → (c == 45) ≡ false → n < 10 ^ 64 → IsLocalWord c n (c ∷ decimal n)
+letter_word : (c n : ℕ) → ((c == 99) || (c == 120)) ≡ true → breaks c ≡ false → is_decimal_digit c ≡ false → (c == 45) ≡ false → n < 10 ^ 64 → IsLocalWord c n (c ∷ decimal n)
 letter_word c n is whole no_digit no_minus h =
     let d = decimal_is_IsNumeral_wide n h in
     let local = digits_local c (decimal n) is d.0.1 d.0.0 in record {
@@ -139,7 +139,7 @@ has_underscore w = list_any (λ c. c == 95) w
 pub name_underscore : (x ds : List ℕ) → has_underscore (x ++ 95 ∷ ds) ≡ true
 name_underscore x ds = list_any-append (λ c. c == 95) x (95 ∷ ds) ∙ or_right (has_underscore x) true refl
 
-underscore_no_digit : (c : ℕ) → (c == 95) ≡ true → is_digit c ≡ false
+underscore_no_digit : (c : ℕ) → (c == 95) ≡ true → is_decimal_digit c ≡ false
 underscore_no_digit c h = grind (arith, nat_tests)
 
 underscore_no_letter : (c : ℕ) → (c == 95) ≡ true → ((c == 99) || (c == 120)) ≡ false
@@ -147,9 +147,9 @@ underscore_no_letter c h = grind (arith, nat_tests)
 
 underscore_no_digits : (ds : List ℕ) → has_underscore ds ≡ true → all_digits ds ≡ false
 underscore_no_digits [] h = absurd (cc)
-underscore_no_digits (c ∷ cs) h = elim (c == 95) as (λ b. (c == 95) ≡ b → (b || has_underscore cs) ≡ true → (is_digit c && all_digits cs) ≡ false) [
+underscore_no_digits (c ∷ cs) h = elim (c == 95) as (λ b. (c == 95) ≡ b → (b || has_underscore cs) ≡ true → (is_decimal_digit c && all_digits cs) ≡ false) [
   | true ↦ λ e _. ap (λ b. b && all_digits cs) (underscore_no_digit c e)
-  | false ↦ λ e k. and_second (is_digit c) (all_digits cs) (underscore_no_digits cs k)
+  | false ↦ λ e k. and_second (is_decimal_digit c) (all_digits cs) (underscore_no_digits cs k)
 ] refl h
 
 pub underscore_no_local : (w : List ℕ) → has_underscore w ≡ true → is_local w ≡ false
@@ -183,8 +183,8 @@ none_of w (v ∷ vs) h k = elim (has_underscore v) as (λ b. has_underscore v �
 ] refl k
 
 pub underscore_no_syntax : (w : List ℕ) → has_underscore w ≡ true → is_reserved w ≡ false
-underscore_no_syntax w h = none_of w reserved h refl
+underscore_no_syntax w h = none_of w syntax_words h refl
 
 -- `=` is free
-pub equals_free : IsFree (codes "=")
+pub equals_free : IsFreeWord (codes "=")
 equals_free = record { proper = record { some = omega arith; whole = refl }; no_number = refl; no_local = refl; no_syntax = refl }

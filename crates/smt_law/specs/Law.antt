@@ -13,8 +13,8 @@ use Rattle.printed_problems.specs.Problems.{preludes, problem_of}
 use Rattle.printed_problems.specs.Faults.{print_fault}
 use Rattle.smt_texts.specs.Text.{smt_text}
 use Rattle.s_expressions.specs.Sexps.{breaks}
-use Rattle.smt_law.specs.Plain.{is_digit, begins_number, Words, ArePlain}
-use Rattle.smt_law.specs.Reading.{reading}
+use Rattle.smt_law.specs.Plain.{is_decimal_digit, begins_number, Words, ArePlain}
+use Rattle.smt_law.specs.Reading.{tree_as_read}
 
 abbrev pub integer_fits : ℤ → Type 0
 integer_fits (pos n) = n < 2 ^ 128
@@ -36,7 +36,7 @@ pub record NumbersFit (e : Tree) : Type 0 where
   pub literals : LiteralsFit e
 
 -- a name that doesn't begin as a number and has no blank, line feed or parenthesis in it
-pub record IsSpelt (e : NameEntry) : Type 0 where
+pub record IsEntrySpelt (e : NameEntry) : Type 0 where
   pub start : begins_number e.name ≡ false
   pub whole : list_any breaks e.name ≡ false
 
@@ -44,7 +44,7 @@ pub record IsSpelt (e : NameEntry) : Type 0 where
 pub record IsPrinted (d : Driver) (t : TaskTree) : Type 0 where
   pub valid : IsValid t
   pub printed : print_fault d t ≡ None
-  pub names : All IsSpelt (problem_names t)
+  pub names : All IsEntrySpelt (problem_names t)
   pub table : length (problem_things t) ≤ 2 ^ 64
   pub params : length t.params ≤ 2 ^ 64
   pub facts : All NumbersFit (problem_of d t).facts
@@ -61,8 +61,8 @@ pub record AreAlike (d : Driver) (t u : TaskTree) : Type 0 where
 
 -- the same facts and then locals, and the same goal
 pub record TellTheSame (d : Driver) (t u : TaskTree) : Type 0 where
-  pub premises : map reading ((problem_of d t).facts ++ (problem_of d t).locals) ≡ map reading ((problem_of d u).facts ++ (problem_of d u).locals)
-  pub goal : reading (problem_of d t).goal ≡ reading (problem_of d u).goal
+  pub premises : map tree_as_read ((problem_of d t).facts ++ (problem_of d t).locals) ≡ map tree_as_read ((problem_of d u).facts ++ (problem_of d u).locals)
+  pub goal : tree_as_read (problem_of d t).goal ≡ tree_as_read (problem_of d u).goal
 
 abbrev pub LawOfTexts : Type 0
 LawOfTexts =
@@ -71,7 +71,7 @@ LawOfTexts =
 
 abbrev pub begins_digit : List ℕ → Bool
 begins_digit [] = false
-begins_digit (c ∷ cs) = is_digit c
+begins_digit (c ∷ cs) = is_decimal_digit c
 
 -- a symbol whose own name, without those of its scopes, doesn't begin with a digit and has no blank, line feed or parenthesis in it
 pub record IsOrdinary (e : SymbolTree) : Type 0 where
@@ -80,4 +80,4 @@ pub record IsOrdinary (e : SymbolTree) : Type 0 where
 
 -- the names of a table are spelt where those of the symbols are ordinary
 abbrev pub NamesAreSpelt : Type 0
-NamesAreSpelt = (t : TaskTree) → length (problem_things t) ≤ 2 ^ 64 → All IsOrdinary t.symbols → All IsSpelt (problem_names t)
+NamesAreSpelt = (t : TaskTree) → length (problem_things t) ≤ 2 ^ 64 → All IsOrdinary t.symbols → All IsEntrySpelt (problem_names t)

@@ -8,26 +8,26 @@ use Rattle.tasks.specs.Task.{SymbolTree, symbol_or}
 use Rattle.name_entries.specs.declared.names.NameEntry.{NameEntry}
 use Rattle.printed_problems.specs.Templates.{by_pieces, template_of, has_template}
 use Rattle.printed_problems.specs.Problems.{is_kind}
-use Rattle.printed_terms.specs.Texts.{applied}
+use Rattle.printed_terms.specs.Texts.{application_text}
 use Rattle.s_expressions.specs.Sexps.{IsWord}
 
 -- a template with a number of arguments is one word, where there are none, and else `(`, the word, the arguments in order after
 -- one space each, and `)`
 abbrev pub HasWord : List Piece → ℕ → List ℕ → Type 0
-HasWord pieces n word = (args : List (List ℕ)) → length args ≡ n → by_pieces pieces args ≡ applied Smt word args
+HasWord pieces n word = (args : List (List ℕ)) → length args ≡ n → by_pieces pieces args ≡ application_text Smt word args
 
-abbrev pub is_digit : ℕ → Bool
-is_digit c = nat_le 48 c && nat_le c 57
+abbrev pub is_decimal_digit : ℕ → Bool
+is_decimal_digit c = nat_le 48 c && nat_le c 57
 
 abbrev pub all_digits : List ℕ → Bool
 all_digits [] = true
-all_digits (c ∷ cs) = is_digit c && all_digits cs
+all_digits (c ∷ cs) = is_decimal_digit c && all_digits cs
 
 -- it begins with a digit, or with `-` and a digit
 abbrev pub begins_number : List ℕ → Bool
 begins_number [] = false
-begins_number (c ∷ []) = is_digit c
-begins_number (c ∷ e ∷ cs) = is_digit c || ((c == 45) && is_digit e)
+begins_number (c ∷ []) = is_decimal_digit c
+begins_number (c ∷ e ∷ cs) = is_decimal_digit c || ((c == 45) && is_decimal_digit e)
 
 -- `c` or `x` followed by digits: the name of a parameter or of a variable
 abbrev pub is_local : List ℕ → Bool
@@ -36,14 +36,14 @@ is_local (c ∷ []) = false
 is_local (c ∷ e ∷ cs) = ((c == 99) || (c == 120)) && all_digits (e ∷ cs)
 
 -- the words of the syntax
-abbrev pub reserved : List (List ℕ)
-reserved = codes "true" ∷ codes "false" ∷ codes "not" ∷ codes "and" ∷ codes "or" ∷ codes "=>" ∷ codes "ite" ∷ codes "let" ∷ codes "forall" ∷ codes "exists" ∷ codes "Bool" ∷ []
+abbrev pub syntax_words : List (List ℕ)
+syntax_words = codes "true" ∷ codes "false" ∷ codes "not" ∷ codes "and" ∷ codes "or" ∷ codes "=>" ∷ codes "ite" ∷ codes "let" ∷ codes "forall" ∷ codes "exists" ∷ codes "Bool" ∷ []
 
 abbrev pub is_reserved : List ℕ → Bool
-is_reserved word = list_any (bytes_eq word) reserved
+is_reserved word = list_any (bytes_eq word) syntax_words
 
 -- a word that is no number, no name of a variable or parameter, and no word of the syntax
-pub record IsFree (word : List ℕ) : Type 0 where
+pub record IsFreeWord (word : List ℕ) : Type 0 where
   pub proper : IsWord word
   pub no_number : begins_number word ≡ false
   pub no_local : is_local word ≡ false
@@ -51,7 +51,7 @@ pub record IsFree (word : List ℕ) : Type 0 where
 
 -- and no name of a table
 pub record IsPlainWord (names : List NameEntry) (word : List ℕ) : Type 0 where
-  pub free : IsFree word
+  pub free : IsFreeWord word
   pub no_name : All (λ (e : NameEntry). e.name ≢ word) names
 
 -- the words of a driver's templates, by entries in the signature, and that of equality

@@ -12,8 +12,8 @@ abbrev pub read_head : Head → Head
 read_head (HJoin op) = HJoin (read_op op)
 read_head h = h
 
-abbrev pub reading : Tree → Tree
-reading (Leaf h) = Leaf h
-reading (One h a) = One h (reading a)
-reading (Two h a b) = Two (read_head h) (reading a) (reading b)
-reading (Three h a b c) = Three h (reading a) (reading b) (reading c)
+abbrev pub tree_as_read : Tree → Tree
+tree_as_read (Leaf h) = Leaf h
+tree_as_read (One h a) = One h (tree_as_read a)
+tree_as_read (Two h a b) = Two (read_head h) (tree_as_read a) (tree_as_read b)
+tree_as_read (Three h a b c) = Three h (tree_as_read a) (tree_as_read b) (tree_as_read c)

@@ -10,24 +10,24 @@ use Rattle.name_tables.specs.Tables.{problem_names}
 use Rattle.smt_law.specs.Plain.{Words, ArePlain}
 
 -- a symbol with a template: its entry, its number of arguments, its word, and the string in the file
-pub record Row : Type 0 where
+pub record ShippedRow : Type 0 where
   pub entry : ℕ
   pub arity : ℕ
   pub word : List ℕ
   pub string : List ℕ
 
-abbrev pub row : ℕ → ℕ → List ℕ → List ℕ → Row
-row k n word string = record { entry = k; arity = n; word = word; string = string }
+abbrev pub shipped_row : ℕ → ℕ → List ℕ → List ℕ → ShippedRow
+shipped_row k n word string = record { entry = k; arity = n; word = word; string = string }
 
-abbrev pub rows : Ints → List Row
-rows z =
-    row z.neg 1 (codes "-") (codes "(- %1)") ∷ row z.add 2 (codes "+") (codes "(+ %1 %2)") ∷ row z.sub 2 (codes "-") (codes "(- %1 %2)") ∷ row z.mul 2 (codes "*") (codes "(* %1 %2)")
-    ∷ row z.lt 2 (codes "<") (codes "(< %1 %2)") ∷ row z.le 2 (codes "<=") (codes "(<= %1 %2)") ∷ row z.gt 2 (codes ">") (codes "(> %1 %2)") ∷ row z.ge 2 (codes ">=") (codes "(>= %1 %2)") ∷ []
+abbrev pub shipped_rows : Ints → List ShippedRow
+shipped_rows z =
+    shipped_row z.neg 1 (codes "-") (codes "(- %1)") ∷ shipped_row z.add 2 (codes "+") (codes "(+ %1 %2)") ∷ shipped_row z.sub 2 (codes "-") (codes "(- %1 %2)") ∷ shipped_row z.mul 2 (codes "*") (codes "(* %1 %2)")
+    ∷ shipped_row z.lt 2 (codes "<") (codes "(< %1 %2)") ∷ shipped_row z.le 2 (codes "<=") (codes "(<= %1 %2)") ∷ shipped_row z.gt 2 (codes ">") (codes "(> %1 %2)") ∷ shipped_row z.ge 2 (codes ">=") (codes "(>= %1 %2)") ∷ []
 
 -- of the integers, where the signature has them
-abbrev pub rows_of : Option Ints → List Row
+abbrev pub rows_of : Option Ints → List ShippedRow
 rows_of None = []
-rows_of (Some z) = rows z
+rows_of (Some z) = shipped_rows z
 
 abbrev pub or_none : Option (List Piece) → List Piece
 or_none None = []
@@ -35,9 +35,9 @@ or_none (Some pieces) = pieces
 
 -- the pieces of a string for so many arguments
 abbrev pub pieces_of : List ℕ → ℕ → List Piece
-pieces_of string n = or_none (read.template_of string n)
+pieces_of string n = or_none (read.template_pieces string n)
 
-abbrev pub template_row : Row → ℕ × List Piece
+abbrev pub template_row : ShippedRow → ℕ × List Piece
 template_row r = (r.entry, pieces_of r.string r.arity)
 
 pub record HasShippedTemplates (d : Driver) (ints : Option Ints) : Type 0 where
@@ -45,12 +45,12 @@ pub record HasShippedTemplates (d : Driver) (ints : Option Ints) : Type 0 where
   pub equality : d.eq_template ≡ Some (pieces_of (codes "(= %1 %2)") 2)
   pub symbols : d.templates ≡ map template_row (rows_of ints)
 
-abbrev pub word_in : List Row → ℕ → List ℕ
-word_in [] k = []
-word_in (r ∷ rs) k = if r.entry == k then r.word else word_in rs k
+abbrev pub shipped_word : List ShippedRow → ℕ → List ℕ
+shipped_word [] k = []
+shipped_word (r ∷ rs) k = if r.entry == k then r.word else shipped_word rs k
 
 abbrev pub shipped_words : Option Ints → Words
-shipped_words ints = record { of_symbol = (λ k. if k == 0 then codes "Int" else word_in (rows_of ints) k); of_equality = codes "=" }
+shipped_words ints = record { of_symbol = (λ k. if k == 0 then codes "Int" else shipped_word (rows_of ints) k); of_equality = codes "=" }
 
 -- they are plain
 abbrev pub ShippedArePlain : Type 0

@@ -13,50 +13,50 @@ use Rattle.printed_terms.specs.Ranks.{sort_at, rank_of, sorts_at}
 use Rattle.printed_terms.specs.Problems.{printing_of, line}
 use Rattle.printed_terms.specs.declared.ranks.Rank.{Rank}
 
-abbrev pub head_line : ℕ → ℕ → List ℕ
-head_line k n = codes "; " ++ decimal k ++ codes " of " ++ decimal n ++ codes "\n"
+abbrev pub smt_head_line : ℕ → ℕ → List ℕ
+smt_head_line k n = codes "; " ++ decimal k ++ codes " of " ++ decimal n ++ codes "\n"
 
-abbrev pub sort_line : Printing → ℕ → List ℕ
-sort_line p place = codes "(declare-sort " ++ name_at p place ++ codes " 0)\n"
+abbrev pub smt_sort_line : Printing → ℕ → List ℕ
+smt_sort_line p place = codes "(declare-sort " ++ name_at p place ++ codes " 0)\n"
 
 abbrev pub function_line : List ℕ → List (List ℕ) → List ℕ → List ℕ
 function_line name args result = codes "(declare-fun " ++ name ++ codes " (" ++ joined (codes " ") args ++ codes ") " ++ result ++ codes ")\n"
 
 -- the sort of a result, which is `Bool` of a predicate
-abbrev pub result_text : Printing → Option ℕ → List ℕ
-result_text p None = codes "Bool"
-result_text p (Some place) = sort_at p place
+abbrev pub smt_result_text : Printing → Option ℕ → List ℕ
+smt_result_text p None = codes "Bool"
+smt_result_text p (Some place) = sort_at p place
 
-abbrev pub rank_line : Printing → List ℕ → Rank → List ℕ
-rank_line p name r = function_line name (sorts_at p r.args) (result_text p r.result)
+abbrev pub smt_rank_line : Printing → List ℕ → Rank → List ℕ
+smt_rank_line p name r = function_line name (sorts_at p r.args) (smt_result_text p r.result)
 
-abbrev pub entry_line : Printing → List SymbolTree → Option NameEntry → List ℕ
-entry_line p symbols None = []
-entry_line p symbols (Some e) = rank_line p e.name (rank_of p.names symbols e)
+abbrev pub smt_entry_line : Printing → List SymbolTree → Option NameEntry → List ℕ
+smt_entry_line p symbols None = []
+smt_entry_line p symbols (Some e) = smt_rank_line p e.name (rank_of p.names symbols e)
 
--- what stands at a place of the table
-abbrev pub symbol_line : Printing → List SymbolTree → ℕ → List ℕ
-symbol_line p symbols place = entry_line p symbols (slice_get p.names place)
+-- what is at a place of the table
+abbrev pub smt_symbol_line : Printing → List SymbolTree → ℕ → List ℕ
+smt_symbol_line p symbols place = smt_entry_line p symbols (slice_get p.names place)
 
-abbrev pub parameter_line : ℕ → List ℕ → List ℕ
-parameter_line n sort = codes "(declare-fun " ++ parameter n ++ codes " () " ++ sort ++ codes ")\n"
+abbrev pub smt_parameter_line : ℕ → List ℕ → List ℕ
+smt_parameter_line n sort = codes "(declare-fun " ++ parameter n ++ codes " () " ++ sort ++ codes ")\n"
 
 -- those of parameters, counted from a number on
-abbrev pub parameter_lines : Printing → ℕ → List Tree → List ℕ
-parameter_lines p n [] = []
-parameter_lines p n (type ∷ types) = parameter_line n (sort_text p type) ++ parameter_lines p (n + 1) types
+abbrev pub smt_parameter_lines : Printing → ℕ → List Tree → List ℕ
+smt_parameter_lines p n [] = []
+smt_parameter_lines p n (type ∷ types) = smt_parameter_line n (sort_text p type) ++ smt_parameter_lines p (n + 1) types
 
 abbrev pub assertion : Printing → Tree → List ℕ
 assertion p e = codes "(assert " ++ formula_text p e ++ codes ")\n"
 
-abbrev pub goal_line : Printing → Tree → List ℕ
-goal_line p e = codes "(assert (not " ++ formula_text p e ++ codes "))\n"
+abbrev pub smt_goal_line : Printing → Tree → List ℕ
+smt_goal_line p e = codes "(assert (not " ++ formula_text p e ++ codes "))\n"
 
-abbrev pub text_by : Printing → TaskTree → ProblemTree → ℕ → ℕ → List ℕ
-text_by p t q k n =
-    head_line k n ++ flat_map line q.preludes
-    ++ flat_map (sort_line p) q.sorts ++ flat_map (symbol_line p t.symbols) q.symbols ++ parameter_lines p 0 t.params
-    ++ flat_map (assertion p) q.facts ++ flat_map (assertion p) q.locals ++ goal_line p q.goal ++ codes "(check-sat)\n"
+abbrev pub smt_text_by : Printing → TaskTree → ProblemTree → ℕ → ℕ → List ℕ
+smt_text_by p t q k n =
+    smt_head_line k n ++ flat_map line q.preludes
+    ++ flat_map (smt_sort_line p) q.sorts ++ flat_map (smt_symbol_line p t.symbols) q.symbols ++ smt_parameter_lines p 0 t.params
+    ++ flat_map (assertion p) q.facts ++ flat_map (assertion p) q.locals ++ smt_goal_line p q.goal ++ codes "(check-sat)\n"
 
 abbrev pub smt_text : Driver → TaskTree → ProblemTree → ℕ → ℕ → List ℕ
-smt_text d t q k n = text_by (printing_of d t q) t q k n
+smt_text d t q k n = smt_text_by (printing_of d t q) t q k n

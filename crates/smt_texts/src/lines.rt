@@ -5,7 +5,7 @@ ghost use Rattle.trees.specs.Node.{tree_at, Holds};
 ghost use Rattle.tasks.specs.Meaning.{trees_at, symbols_at, SymbolHeld};
 ghost use Rattle.printed_terms.specs.Texts.{sort_text};
 ghost use Rattle.printed_terms.specs.Meaning.{printing, CanPrint, Appends};
-ghost use Rattle.smt_texts.specs.Text.{head_line, sort_line, parameter_line, result_text, rank_line, symbol_line, parameter_lines, assertion, goal_line};
+ghost use Rattle.smt_texts.specs.Text.{smt_head_line, smt_sort_line, smt_parameter_line, smt_result_text, smt_rank_line, smt_symbol_line, smt_parameter_lines, assertion, smt_goal_line};
 
 use printed_terms::{
     Rank, TermPrinter, push_formula, push_name_at, push_number, push_parameter, push_sort,
@@ -22,7 +22,7 @@ pub(crate) fn push_head(
     part: usize,
     parts: usize,
 ) -> Result<(), AllocError>
-    ensures { OnOk result (Appends out.old.items (head_line part parts) out.new.items) }
+    ensures { OnOk result (Appends out.old.items (smt_head_line part parts) out.new.items) }
 {
     out.extend_from_slice(b"; ")?;
     push_number(alloc, out, part)?;
@@ -33,7 +33,8 @@ pub(crate) fn push_head(
 
 // Appends the line that declares a type.
 fn push_sort_line(c: &TermPrinter<'_>, out: &mut Vec<u8>, place: usize) -> Result<(), AllocError>
-    ensures { OnOk result (Appends out.old.items (sort_line (printing c.now) place) out.new.items) }
+    ensures { OnOk result (Appends out.old.items (smt_sort_line (printing c.now) place)
+        out.new.items) }
 {
     out.extend_from_slice(b"(declare-sort ")?;
     push_name_at(c, out, place)?;
@@ -47,7 +48,8 @@ pub(crate) fn push_sort_lines(
     out: &mut Vec<u8>,
     places: &[usize],
 ) -> Result<(), AllocError>
-    ensures { OnOk result (Appends out.old.items (flat_map (sort_line (printing c.now)) places.now)
+    ensures { OnOk result (Appends out.old.items
+        (flat_map (smt_sort_line (printing c.now)) places.now)
         out.new.items) }
 {
     for place in places {
@@ -63,7 +65,7 @@ fn push_result(
     place: Option<usize>,
 ) -> Result<(), AllocError>
     requires { CanPrint c.now }
-    ensures { OnOk result (Appends out.old.items (result_text (printing c.now) place)
+    ensures { OnOk result (Appends out.old.items (smt_result_text (printing c.now) place)
         out.new.items) }
 {
     match place {
@@ -80,7 +82,7 @@ fn push_rank(
     rank: &Rank,
 ) -> Result<(), AllocError>
     requires { CanPrint c.now }
-    ensures { OnOk result (Appends out.old.items (rank_line (printing c.now) name.now rank.now)
+    ensures { OnOk result (Appends out.old.items (smt_rank_line (printing c.now) name.now rank.now)
         out.new.items) }
 {
     out.extend_from_slice(b"(declare-fun ")?;
@@ -93,7 +95,7 @@ fn push_rank(
     Ok(())
 }
 
-// Appends the line that declares what stands at a place of the table.
+// Appends the line that declares what is at a place of the table.
 fn push_symbol_line(
     c: &TermPrinter<'_>,
     out: &mut Vec<u8>,
@@ -102,7 +104,7 @@ fn push_symbol_line(
 ) -> Result<(), AllocError>
     requires can { CanPrint c.now }
     requires held { All (SymbolHeld c.now.store.now) symbols.now }
-    ensures { OnOk result (Appends out.old.items (symbol_line (printing c.now) (symbols_at
+    ensures { OnOk result (Appends out.old.items (smt_symbol_line (printing c.now) (symbols_at
         c.now.store.now symbols.now) place) out.new.items) }
 {
     match c.names.get(place) {
@@ -114,7 +116,7 @@ fn push_symbol_line(
     }
 }
 
-/// Appends the lines that declare what stands at places of the table.
+/// Appends the lines that declare what is at places of the table.
 pub(crate) fn push_symbol_lines(
     c: &TermPrinter<'_>,
     out: &mut Vec<u8>,
@@ -123,7 +125,7 @@ pub(crate) fn push_symbol_lines(
 ) -> Result<(), AllocError>
     requires can { CanPrint c.now }
     requires held { All (SymbolHeld c.now.store.now) symbols.now }
-    ensures { OnOk result (Appends out.old.items (flat_map (symbol_line (printing c.now)
+    ensures { OnOk result (Appends out.old.items (flat_map (smt_symbol_line (printing c.now)
         (symbols_at c.now.store.now symbols.now)) places.now) out.new.items) }
 {
     for place in places {
@@ -141,7 +143,7 @@ fn push_parameter_line(
 ) -> Result<(), AllocError>
     requires can { CanPrint c.now }
     requires held { Holds c.now.store.now ty }
-    ensures { OnOk result (Appends out.old.items (parameter_line number
+    ensures { OnOk result (Appends out.old.items (smt_parameter_line number
         (sort_text (printing c.now) (tree_at c.now.store.now ty))) out.new.items) }
 {
     out.extend_from_slice(b"(declare-fun ")?;
@@ -160,7 +162,7 @@ pub(crate) fn push_parameter_lines(
 ) -> Result<(), AllocError>
     requires can { CanPrint c.now }
     requires held { All (Holds c.now.store.now) types.now }
-    ensures { OnOk result (Appends out.old.items (parameter_lines (printing c.now) 0 (trees_at
+    ensures { OnOk result (Appends out.old.items (smt_parameter_lines (printing c.now) 0 (trees_at
         c.now.store.now types.now)) out.new.items) }
 {
     for number in 0..types.len() {
@@ -202,7 +204,7 @@ pub(crate) fn push_assertions(
 pub(crate) fn push_goal(c: &TermPrinter<'_>, out: &mut Vec<u8>, e: TermId) -> Result<(), AllocError>
     requires can { CanPrint c.now }
     requires held { Holds c.now.store.now e }
-    ensures { OnOk result (Appends out.old.items (goal_line (printing c.now) (tree_at
+    ensures { OnOk result (Appends out.old.items (smt_goal_line (printing c.now) (tree_at
         c.now.store.now e)) out.new.items) }
 {
     out.extend_from_slice(b"(assert (not ")?;

@@ -2,7 +2,7 @@
 ghost use Rattle.std.specs.Prelude.{◌≡◌, IfOk, OnOk};
 ghost use Rattle.tasks.specs.Meaning.{task_at, TaskHeld};
 ghost use Rattle.printed_problems.specs.Made.{problem_at, ProblemHeld};
-ghost use Rattle.smt_texts.specs.Text.{text_by, smt_text};
+ghost use Rattle.smt_texts.specs.Text.{smt_text_by, smt_text};
 ghost use Rattle.printed_terms.specs.Meaning.{printing, CanPrint, Appends};
 
 use crate::lines::{
@@ -28,7 +28,8 @@ fn push_problem(
     requires can { CanPrint c.now }
     requires held { TaskHeld c.now.store.now task.now }
     requires problem_held { ProblemHeld c.now.store.now problem.now }
-    ensures { OnOk result (Appends out.old.items (text_by (printing c.now) (task_at c.now.store.now
+    ensures { OnOk result (Appends out.old.items
+        (smt_text_by (printing c.now) (task_at c.now.store.now
         task.now) (problem_at c.now.store.now problem.now) part parts) out.new.items) }
 {
     push_head(c.alloc, out, part, parts)?;

@@ -19,7 +19,7 @@ use Rattle.valid_tasks.specs.Scopes.{is_projection_kind, IsTypedEntry, IsTypedSi
 use Rattle.valid_tasks.proofs.Words.{both_true, self_word}
 use Rattle.valid_tasks.proofs.Tuples.{variables_in, own_in, type_entry_typed, constructor_typed}
 use Rattle.valid_tasks.proofs.Signed.{some_at}
-use Rattle.names_space.specs.Names.{Entry}
+use Rattle.names_space.specs.Names.{ScopeEntry}
 use Rattle.sound_states.specs.Moves.{IsTypedMove}
 use Rattle.valid_tasks.specs.Lists.{is_built, after}
 use Rattle.goal_tasks.specs.Meaning.{IsTupleAt}
@@ -144,7 +144,7 @@ module _ (s : List Tree) (symbols : List SymbolTree) (decls : List DeclarationTr
     named = named;
     source = source;
     theory = empty_sound;
-    scopes = All-cons (λ (es : List Entry). All (λ (e : Entry). IsTypedThing (after symbols [] []) s e.table e.thing) es) [] [] (All-nil (λ (e : Entry). IsTypedThing (after symbols [] []) s e.table e.thing)) (All-nil (λ (es : List Entry). All (λ (e : Entry). IsTypedThing (after symbols [] []) s e.table e.thing) es));
+    scopes = All-cons (λ (es : List ScopeEntry). All (λ (e : ScopeEntry). IsTypedThing (after symbols [] []) s e.table e.thing) es) [] [] (All-nil (λ (e : ScopeEntry). IsTypedThing (after symbols [] []) s e.table e.thing)) (All-nil (λ (es : List ScopeEntry). All (λ (e : ScopeEntry). IsTypedThing (after symbols [] []) s e.table e.thing) es));
     own = λ k d q e. absurd (new d (slice_in decls k d q) e);
   }
 

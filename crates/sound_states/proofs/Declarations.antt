@@ -2,7 +2,7 @@
 use Rattle.std.proofs.Common.{◌≡◌, ℕ, ◌<◌, zero, suc, List, [], ◌∷◌, ◌++◌, map, length, get_or, slice_get, All, Contains, Option, Some, None, option_map, refl, sym, ap, subst, ◌∙◌, arith}
 use Rattle.std.proofs.lemmas.List.Elements.{All-map, All-nil, All-cons, All-head, All-tail}
 use Rattle.trees.specs.Tree.{Tree, One, HTyApp}
-use Rattle.tasks.specs.Task.{SymbolTree, symbol_or, DefinitionTree, InductiveTree, ConTree, AlgebraicTree, BodyTree, MakesType, Makes, Defines, Induces, Constructs, Says, DeclarationTree, made_by, made_by_cons, made_by_types}
+use Rattle.tasks.specs.Task.{SymbolTree, symbol_or, DefinitionTree, InductiveTree, ConstructorTree, AlgebraicTree, BodyTree, MakesType, Makes, Defines, Induces, Constructs, Says, DeclarationTree, made_by, made_by_cons, made_by_types}
 use Rattle.tasks.specs.Equations.{cells, type_variables}
 use Rattle.tasks.specs.Clauses.{IsClauseOf}
 use Rattle.tasks.specs.Vocabulary.{Vocabulary}
@@ -104,7 +104,7 @@ module _ (v w : Vocabulary) (m : Map) (morphism : IsMorphism v w m) (sound : Are
     projections_copied (f ∷ fs) [] c h = absurd h
     projections_copied (f ∷ fs) (k ∷ ks) c h = (projection_copied f k (All-head (IsCopied v w m) k ks c) h.0, projections_copied fs ks (All-tail (IsCopied v w m) k ks c) h.1)
 
-    constructor_copied : (c : ConTree) → All (IsCopied v w m) (c.symbol ∷ c.projections) → IsConstructorOf v type n c → IsConstructorOf w (m.symbols type) n (con_mapped m c)
+    constructor_copied : (c : ConstructorTree) → All (IsCopied v w m) (c.symbol ∷ c.projections) → IsConstructorOf v type n c → IsConstructorOf w (m.symbols type) n (con_mapped m c)
     constructor_copied c all h =
         let i : IsCopied v w m c.symbol = All-head (IsCopied v w m) c.symbol c.projections all in
         record {
@@ -116,7 +116,7 @@ module _ (v w : Vocabulary) (m : Map) (morphism : IsMorphism v w m) (sound : Are
           projections = projections_copied c.fields c.projections (All-tail (IsCopied v w m) c.symbol c.projections all) h.projections;
         }
 
-    constructors_copied : (cs : List ConTree) → All (IsCopied v w m) (made_by_cons cs) → All (IsConstructorOf v type n) cs → All (IsConstructorOf w (m.symbols type) n) (map (con_mapped m) cs)
+    constructors_copied : (cs : List ConstructorTree) → All (IsCopied v w m) (made_by_cons cs) → All (IsConstructorOf v type n) cs → All (IsConstructorOf w (m.symbols type) n) (map (con_mapped m) cs)
     constructors_copied [] all h = All-nil (IsConstructorOf w (m.symbols type) n)
     constructors_copied (c ∷ cs) all h =
         All-cons (IsConstructorOf w (m.symbols type) n) (con_mapped m c) (map (con_mapped m) cs)

@@ -11,7 +11,7 @@ use Rattle.tasks.specs.Vocabulary.{Vocabulary, is_empty}
 use Rattle.elab_parts.specs.Entries.{builtin}
 use Rattle.goal_tasks.specs.Theories.{GoalTree}
 use Rattle.scope_moves.specs.declared.moves.Move.{Move}
-use Rattle.valid_tasks.specs.Scopes.{IsPart, IsTypedSignature, AreTypedScopes}
+use Rattle.valid_tasks.specs.Scopes.{IsSubvocabulary, IsTypedSignature, AreTypedScopes}
 use Rattle.valid_tasks.proofs.Words.{same_word, self_word}
 use Rattle.sound_states.specs.Moves.{IsTypedMove, AreTypedMoves}
 use Rattle.sound_states.proofs.Scopes.{moves_more}
@@ -134,7 +134,7 @@ module _ (s s' : List Tree) (g : Grows s s') (all more : List SymbolTree) (built
   apart_further t apart h = still_apart t apart h.earlier h.theory
 
 -- ---- the open theory
-pub part_then : (u v w : Vocabulary) → IsPart u v → IsPart v w → IsPart u w
+pub part_then : (u v w : Vocabulary) → IsSubvocabulary u v → IsSubvocabulary v w → IsSubvocabulary u w
 part_then u v w a b = record {
   entries = λ k e q. b.entries k e (a.entries k e q);
   rigid = λ k e q h. b.rigid k e (a.entries k e q) (a.rigid k e q h);
@@ -199,7 +199,7 @@ module _ (s s' : List Tree) (g : Grows s s') (all more : List SymbolTree) (decls
   module _ (axioms : List AxiomAt) (goals : List GoalTree) (moves : List Move) (axioms_are : o'.axioms ≡ o.axioms ++ axioms) (assumed : All (IsSoundAxiom (decls ++ new)) axioms) (goals_are : o'.goals ≡ o.goals ++ goals) (moves_are : o'.moves ≡ o.moves ++ moves)
       (sound : AreSound (all ++ more) both) (signature : IsTypedSignature (after (all ++ more) [] both) (all ++ more)) (scopes : AreTypedScopes (after (all ++ more) [] both) s' o'.scope)
       (typed : AreTypedMoves (after (all ++ more) [] both) s' moves) (said : All (IsSoundAmong (all ++ more) both) goals) where
-    part : IsPart (after all [] ds) (after (all ++ more) [] both)
+    part : IsSubvocabulary (after all [] ds) (after (all ++ more) [] both)
     part = part_then (after all [] ds) (after (all ++ more) [] ds) (after (all ++ more) [] both) (more_part all more [] ds) (list_part (all ++ more) [] ds new)
 
     goal_still : (x : GoalTree) → IsSoundAmong all ds x → IsSoundAmong (all ++ more) both x

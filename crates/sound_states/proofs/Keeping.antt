@@ -6,7 +6,7 @@ use Rattle.std.proofs.lemmas.List.Elements.{All-nil, All-cons, All-append, All-p
 use Rattle.std.specs.List.{AllByRecursion}
 use Rattle.trees.specs.Tree.{Tree}
 use Rattle.tasks.specs.Vocabulary.{Vocabulary, is_empty, of_signature}
-use Rattle.names_space.specs.Names.{Entry, start}
+use Rattle.names_space.specs.Names.{ScopeEntry, empty_names}
 use Rattle.syntax_why.specs.declared.names.Name.{Name}
 use Rattle.syntax_why.specs.declared.names.Path.{Path}
 use Rattle.syntax_why.specs.declared.declarations.Link.{Link}
@@ -14,8 +14,8 @@ use Rattle.elab_parts.specs.Entries.{builtin}
 use Rattle.valid_tasks.specs.Scopes.{IsTypedThing, AreTypedScopes}
 use Rattle.sound_states.specs.Moves.{AreTypedMoves, IsTypedMove}
 use Rattle.sound_states.proofs.Scopes.{brought_typed, handed_typed}
-use Rattle.theory_states.specs.States.{KnownTree, OpenedTree, StateTree, has_path, known_as, opened_empty}
-use Rattle.theory_states.specs.Uses.{IsUsed, path_text, last_part, alias_text, used}
+use Rattle.theory_states.specs.States.{KnownTree, OpenedTree, StateTree, known_has_path, known_as, opened_empty}
+use Rattle.theory_states.specs.Uses.{IsTheoryUsed, path_text, last_part, alias_text, theory_used}
 use Rattle.sound_states.specs.Typed.{AreTypedTheories, IsTypedState}
 
 -- the signature and the theories before are the same
@@ -42,18 +42,18 @@ found_has : {X : Type 0} (P : X → Type 0) (test : X → Bool) (xs : List X) (x
 found_has P test [] x a e = absurd (cc)
 found_has P test (y ∷ ys) x a e = found_by P (test y) y x (find test ys) a.0 (λ k. found_has P test ys x a.1 k) e
 
-pub used_typed : (link : Link) (p : Path) (alias : Option Name) (c c' : StateTree) → IsUsed link p alias c c' → IsTypedState c → IsTypedState c'
+pub used_typed : (link : Link) (p : Path) (alias : Option Name) (c c' : StateTree) → IsTheoryUsed link p alias c c' → IsTypedState c → IsTypedState c'
 used_typed link p alias c c' u h =
     let v = of_signature c.symbols in
-    let ms : AreTypedMoves v c.trees u.theory.moves = found_has (λ (t : KnownTree). AreTypedMoves v c.trees t.moves) (has_path (path_text p.parts)) c.known u.theory (recursion_from_All (λ (t : KnownTree). AreTypedMoves v c.trees t.moves) c.known h.theories.known) u.found in
-    let o = used link (last_part p.parts) (alias_text alias) u.theory c.opened in
+    let ms : AreTypedMoves v c.trees u.theory.moves = found_has (λ (t : KnownTree). AreTypedMoves v c.trees t.moves) (known_has_path (path_text p.parts)) c.known u.theory (recursion_from_All (λ (t : KnownTree). AreTypedMoves v c.trees t.moves) c.known h.theories.known) u.found in
+    let o = theory_used link (last_part p.parts) (alias_text alias) u.theory c.opened in
     let scopes : AreTypedScopes v c.trees o.scope = brought_typed v c.trees link (last_part p.parts) (alias_text alias) u.theory.moves c.opened.scope ms h.scopes in
     let moves : AreTypedMoves v c.trees o.moves = All-append (IsTypedMove v c.trees) c.opened.moves _ h.moves (handed_typed v c.trees link u.theory.moves ms) in
     subst IsTypedState (sym u.is) (renamed_typed c o c.number refl scopes moves h)
 
 -- ---- a theory begins, and ends
-no_names : (v : Vocabulary) (s : List Tree) → AreTypedScopes v s start
-no_names v s = All-cons (λ (es : List Entry). All (λ (e : Entry). IsTypedThing v s e.table e.thing) es) [] [] (All-nil (λ (e : Entry). IsTypedThing v s e.table e.thing)) (All-nil (λ (es : List Entry). All (λ (e : Entry). IsTypedThing v s e.table e.thing) es))
+no_names : (v : Vocabulary) (s : List Tree) → AreTypedScopes v s empty_names
+no_names v s = All-cons (λ (es : List ScopeEntry). All (λ (e : ScopeEntry). IsTypedThing v s e.table e.thing) es) [] [] (All-nil (λ (e : ScopeEntry). IsTypedThing v s e.table e.thing)) (All-nil (λ (es : List ScopeEntry). All (λ (e : ScopeEntry). IsTypedThing v s e.table e.thing) es))
 
 pub begun_typed : (c : StateTree) (path : List ℕ) (n : ℕ) → is_empty path ≡ false → bytes_eq path builtin ≡ false → AreTypedTheories c → IsTypedState (record c { opened = opened_empty path; number = n })
 begun_typed c path n p q h = record {

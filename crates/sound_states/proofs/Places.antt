@@ -8,7 +8,7 @@ use Rattle.std.proofs.lemmas.List.Concat.{flat_map-append}
 use Rattle.std.proofs.lemmas.List.Elements.{All-head, All-tail, Contains-get_or, Contains-append_left, Contains-append_right, Contains-append_cases}
 use Rattle.tasks.specs.Task.{DeclarationTree}
 use Rattle.valid_tasks.proofs.Words.{same_word, self_word}
-use Rattle.theory_states.specs.States.{at_places, joined}
+use Rattle.theory_states.specs.States.{at_places, joined_places}
 use Rattle.valid_tasks.specs.Joined.{has_theory, fresh, Agree}
 use Rattle.valid_tasks.proofs.Distinct.{IsDistinct}
 use Rattle.sound_states.specs.Whole.{IsWhole}
@@ -54,7 +54,7 @@ in_any k (j ∷ ks) c = of (cases_of j k ks c) (λ h. in_any k ks h)
     of (inr h) f = right (nat_eq k j) (list_any (nat_eq k) ks) (f h)
 
 -- ---- places joined to others
-pub joined_cases : (ks more : List ℕ) (j : ℕ) → Contains (joined ks more) j → Contains ks j ⊎ Contains more j
+pub joined_cases : (ks more : List ℕ) (j : ℕ) → Contains (joined_places ks more) j → Contains ks j ⊎ Contains more j
 joined_cases ks [] j c = inl c
 joined_cases ks (k ∷ more) j c = of (list_any (nat_eq k) ks) c (λ h. joined_cases ks more j h) (λ h. joined_cases (ks ++ k ∷ []) more j h)
   where
@@ -74,25 +74,25 @@ joined_cases ks (k ∷ more) j c = of (list_any (nat_eq k) ks) c (λ h. joined_c
     after_old (inl h) = inl h
     after_old (inr h) = inr (later k j more h)
 
-    of : (b : Bool) → Contains (joined (cond b ks (ks ++ k ∷ [])) more) j → (Contains (joined ks more) j → Contains ks j ⊎ Contains more j) → (Contains (joined (ks ++ k ∷ []) more) j → Contains (ks ++ k ∷ []) j ⊎ Contains more j)
+    of : (b : Bool) → Contains (joined_places (cond b ks (ks ++ k ∷ [])) more) j → (Contains (joined_places ks more) j → Contains ks j ⊎ Contains more j) → (Contains (joined_places (ks ++ k ∷ []) more) j → Contains (ks ++ k ∷ []) j ⊎ Contains more j)
         → Contains ks j ⊎ Contains (k ∷ more) j
     of true h f g = after_old (f h)
     of false h f g = after_both (g h)
 
-pub joined_old : (ks more : List ℕ) (j : ℕ) → Contains ks j → Contains (joined ks more) j
+pub joined_old : (ks more : List ℕ) (j : ℕ) → Contains ks j → Contains (joined_places ks more) j
 joined_old ks [] j c = c
 joined_old ks (k ∷ more) j c = of (list_any (nat_eq k) ks) (joined_old ks more j c) (joined_old (ks ++ k ∷ []) more j (Contains-append_left ks (k ∷ []) j c))
   where
-    of : (b : Bool) → Contains (joined ks more) j → Contains (joined (ks ++ k ∷ []) more) j → Contains (joined (cond b ks (ks ++ k ∷ [])) more) j
+    of : (b : Bool) → Contains (joined_places ks more) j → Contains (joined_places (ks ++ k ∷ []) more) j → Contains (joined_places (cond b ks (ks ++ k ∷ [])) more) j
     of true x y = x
     of false x y = y
 
-pub joined_new : (ks more : List ℕ) (j : ℕ) → Contains more j → Contains (joined ks more) j
+pub joined_new : (ks more : List ℕ) (j : ℕ) → Contains more j → Contains (joined_places ks more) j
 joined_new ks [] j c = absurd (none_here j c)
 joined_new ks (k ∷ more) j c = of (list_any (nat_eq k) ks) refl (cases_of k j more c) (λ h. joined_new ks more j h) (λ h. joined_new (ks ++ k ∷ []) more j h)
   where
-    of : (b : Bool) → list_any (nat_eq k) ks ≡ b → (k ≡ j) ⊎ Contains more j → (Contains more j → Contains (joined ks more) j) → (Contains more j → Contains (joined (ks ++ k ∷ []) more) j)
-        → Contains (joined (cond b ks (ks ++ k ∷ [])) more) j
+    of : (b : Bool) → list_any (nat_eq k) ks ≡ b → (k ≡ j) ⊎ Contains more j → (Contains more j → Contains (joined_places ks more) j) → (Contains more j → Contains (joined_places (ks ++ k ∷ []) more) j)
+        → Contains (joined_places (cond b ks (ks ++ k ∷ [])) more) j
     of true q (inl e) f g = joined_old ks more j (subst (λ (i : ℕ). Contains ks i) e (any_in k ks q))
     of true q (inr h) f g = f h
     of false q (inl e) f g = joined_old (ks ++ k ∷ []) more j (Contains-append_right ks (k ∷ []) j (0, omega arith, e))
@@ -110,23 +110,23 @@ distinct_more (j ∷ ks) k d n = ((λ c. of (Contains-append_cases ks (k ∷ [])
         first (inl e) = n (0, omega arith, sym e)
         first (inr h) = none_here j h
 
-pub joined_distinct : (ks more : List ℕ) → IsDistinct ks → IsDistinct (joined ks more)
+pub joined_distinct : (ks more : List ℕ) → IsDistinct ks → IsDistinct (joined_places ks more)
 joined_distinct ks [] d = d
 joined_distinct ks (k ∷ more) d = of (list_any (nat_eq k) ks) refl (joined_distinct ks more d) (λ n. joined_distinct (ks ++ k ∷ []) more (distinct_more ks k d n))
   where
     absent : list_any (nat_eq k) ks ≡ false → Contains ks k → ⊥
     absent q c = let z : true ≡ false = sym (in_any k ks c) ∙ q in cc
 
-    of : (b : Bool) → list_any (nat_eq k) ks ≡ b → IsDistinct (joined ks more) → ((Contains ks k → ⊥) → IsDistinct (joined (ks ++ k ∷ []) more)) → IsDistinct (joined (cond b ks (ks ++ k ∷ [])) more)
+    of : (b : Bool) → list_any (nat_eq k) ks ≡ b → IsDistinct (joined_places ks more) → ((Contains ks k → ⊥) → IsDistinct (joined_places (ks ++ k ∷ []) more)) → IsDistinct (joined_places (cond b ks (ks ++ k ∷ [])) more)
     of true q x f = x
     of false q x f = f (absent q)
 
--- the places that were there stand in front
-pub joined_front : (ks more : List ℕ) → (rest : List ℕ) × (joined ks more ≡ ks ++ rest)
+-- the places that were there are in front
+pub joined_front : (ks more : List ℕ) → (rest : List ℕ) × (joined_places ks more ≡ ks ++ rest)
 joined_front ks [] = ([], sym (append-nil ks))
 joined_front ks (k ∷ more) = of (list_any (nat_eq k) ks) (joined_front ks more) (joined_front (ks ++ k ∷ []) more)
   where
-    of : (b : Bool) → (rest : List ℕ) × (joined ks more ≡ ks ++ rest) → (rest : List ℕ) × (joined (ks ++ k ∷ []) more ≡ (ks ++ k ∷ []) ++ rest) → (rest : List ℕ) × (joined (cond b ks (ks ++ k ∷ [])) more ≡ ks ++ rest)
+    of : (b : Bool) → (rest : List ℕ) × (joined_places ks more ≡ ks ++ rest) → (rest : List ℕ) × (joined_places (ks ++ k ∷ []) more ≡ (ks ++ k ∷ []) ++ rest) → (rest : List ℕ) × (joined_places (cond b ks (ks ++ k ∷ [])) more ≡ ks ++ rest)
     of true x z = x
     of false x z = (k ∷ z.0, z.1 ∙ append_assoc ks (k ∷ []) z.0)
 
@@ -223,7 +223,7 @@ module _ (ds : List DeclarationTree) where
 
     joins : (now more : List ℕ) → AreBelow (length ds) more → IsDistinct more
         → ((j : ℕ) → Contains more j → Contains now j → Contains ks j) → ((j : ℕ) → Contains ks j → Contains now j)
-        → at_places ds (joined now more) ≡ at_places ds now ++ filter p (at_places ds more)
+        → at_places ds (joined_places now more) ≡ at_places ds now ++ filter p (at_places ds more)
     joins now [] below d same old = sym (append-nil (at_places ds now))
     joins now (k ∷ more) below d same old =
         let x = there ds k (All-head (λ (i : ℕ). i < length ds) k more below) in
@@ -253,9 +253,9 @@ module _ (ds : List DeclarationTree) where
                 first (inr n) = absurd (none_here j n)
 
         of : (e : DeclarationTree) → slice_get ds k ≡ Some e → (b : Bool) → list_any (nat_eq k) now ≡ b
-            → at_places ds (joined now more) ≡ at_places ds now ++ filter p (at_places ds more)
-            → at_places ds (joined (now ++ k ∷ []) more) ≡ at_places ds (now ++ k ∷ []) ++ filter p (at_places ds more)
-            → at_places ds (joined (cond b now (now ++ k ∷ [])) more) ≡ at_places ds now ++ filter p (at_places ds (k ∷ more))
+            → at_places ds (joined_places now more) ≡ at_places ds now ++ filter p (at_places ds more)
+            → at_places ds (joined_places (now ++ k ∷ []) more) ≡ at_places ds (now ++ k ∷ []) ++ filter p (at_places ds more)
+            → at_places ds (joined_places (cond b now (now ++ k ∷ [])) more) ≡ at_places ds now ++ filter p (at_places ds (k ∷ more))
         of e q true n one two =
             let t = in_theory (at_places ds ks) e (in_places ks k e (same k (here k more) (any_in k now n)) q) in
             one ∙ ap (λ (xs : List DeclarationTree). at_places ds now ++ xs) (sym (out e (at_places ds more) t) ∙ ap (filter p) (sym (cell e q)))
@@ -268,13 +268,13 @@ module _ (ds : List DeclarationTree) where
             ∙ ap (λ (xs : List DeclarationTree). at_places ds now ++ xs) (sym (kept e (at_places ds more) t) ∙ ap (filter p) (sym (cell e q)))
 
     -- joined places have the declarations, and then those of theories that weren't there
-    pub places_joined : (more : List ℕ) → AreBelow (length ds) more → IsDistinct more → at_places ds (joined ks more) ≡ at_places ds ks ++ fresh (at_places ds ks) (at_places ds more)
+    pub places_joined : (more : List ℕ) → AreBelow (length ds) more → IsDistinct more → at_places ds (joined_places ks more) ≡ at_places ds ks ++ fresh (at_places ds ks) (at_places ds more)
     places_joined more below d = joins ks more below d (λ j c i. i) (λ j c. c)
 
-  pub joined_whole : (ks more : List ℕ) → IsWhole ds ks → IsWhole ds more → IsWhole ds (joined ks more)
+  pub joined_whole : (ks more : List ℕ) → IsWhole ds ks → IsWhole ds more → IsWhole ds (joined_places ks more)
   joined_whole ks more a b = λ j k d e q r c same. of j k d e q r same (joined_cases ks more k c)
     where
-      of : (j k : ℕ) (d e : DeclarationTree) → slice_get ds j ≡ Some d → slice_get ds k ≡ Some e → d.theory ≡ e.theory → Contains ks k ⊎ Contains more k → Contains (joined ks more) j
+      of : (j k : ℕ) (d e : DeclarationTree) → slice_get ds j ≡ Some d → slice_get ds k ≡ Some e → d.theory ≡ e.theory → Contains ks k ⊎ Contains more k → Contains (joined_places ks more) j
       of j k d e q r same (inl c) = joined_old ks more j (a j k d e q r c same)
       of j k d e q r same (inr c) = joined_new ks more j (b j k d e q r c same)
 

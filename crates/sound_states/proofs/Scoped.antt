@@ -8,7 +8,7 @@ use Rattle.tasks.specs.Valid.{AreInts, IsValid}
 use Rattle.syntax_why.specs.declared.names.Name.{Name}
 use Rattle.syntax_why.specs.declared.names.Path.{Path}
 use Rattle.syntax_why.specs.declared.declarations.Link.{Link}
-use Rattle.names_space.specs.Names.{Names}
+use Rattle.names_space.specs.Names.{ScopeNames}
 use Rattle.scope_moves.specs.declared.moves.Move.{Move}
 use Rattle.valid_tasks.specs.Scopes.{AreTypedScopes}
 use Rattle.sound_states.specs.Moves.{IsTypedMove, AreTypedMoves}
@@ -16,8 +16,8 @@ use Rattle.valid_tasks.specs.Lists.{after}
 use Rattle.goal_tasks.specs.Theories.{GoalTree, TheoriesTree}
 use Rattle.goal_tasks.specs.Tasks.{task_for}
 use Rattle.valid_tasks.proofs.TaskSound.{task_valid}
-use Rattle.theory_states.specs.States.{KnownTree, StateTree, at_places, visible_now, has_path, known_named}
-use Rattle.theory_states.specs.Uses.{path_text, last_part, alias_text, used, IsUsed}
+use Rattle.theory_states.specs.States.{KnownTree, StateTree, at_places, visible_now, known_has_path, known_named}
+use Rattle.theory_states.specs.Uses.{path_text, last_part, alias_text, theory_used, IsTheoryUsed}
 use Rattle.sound_states.specs.Sound.{IsSoundAmong, IsSoundTheory, IsSoundKnown, IsApart, IsSoundOpened, IsSoundState}
 use Rattle.sound_states.proofs.Places.{later}
 use Rattle.sound_states.proofs.Used.{used_sound}
@@ -25,15 +25,15 @@ use Rattle.sound_states.proofs.Used.{used_sound}
 -- ---- a use
 found_in : (ts : List KnownTree) (path : List ℕ) (t : KnownTree) → known_named ts path ≡ Some t → Contains ts t
 found_in [] path t q = absurd (cc)
-found_in (x ∷ ts) path t q = of (has_path path x) q (λ r. found_in ts path t r)
+found_in (x ∷ ts) path t q = of (known_has_path path x) q (λ r. found_in ts path t r)
   where
     of : (b : Bool) → cond b (Some x) (known_named ts path) ≡ Some t → (known_named ts path ≡ Some t → Contains ts t) → Contains (x ∷ ts) t
     of true r f = let e : x ≡ t = cc in (0, omega arith, e)
     of false r f = later x t ts (f r)
 
-use_kept : (c : StateTree) (t : KnownTree) (link : Link) (last : List ℕ) (alias : Option (List ℕ)) → IsSoundState c → IsSoundKnown c.trees c.symbols c.decls t → IsApart c.decls c.opened.path t → IsSoundState (record c { opened = used link last alias t c.opened })
+use_kept : (c : StateTree) (t : KnownTree) (link : Link) (last : List ℕ) (alias : Option (List ℕ)) → IsSoundState c → IsSoundKnown c.trees c.symbols c.decls t → IsApart c.decls c.opened.path t → IsSoundState (record c { opened = theory_used link last alias t c.opened })
 use_kept c t link last alias h k apart = record {
-  opened = subst (λ (es : List SymbolTree). IsSoundOpened c.trees es c.decls (used link last alias t c.opened)) (sym k.symbols)
+  opened = subst (λ (es : List SymbolTree). IsSoundOpened c.trees es c.decls (theory_used link last alias t c.opened)) (sym k.symbols)
       (used_sound c.trees k.earlier k.later c.decls c.opened (subst (λ (es : List SymbolTree). IsSoundOpened c.trees es c.decls c.opened) k.symbols h.opened) t
       (subst (λ (es : List SymbolTree). IsSoundTheory c.trees es k.earlier c.decls t.path t.visible t.axioms t.goals t.moves) k.symbols k.theory) apart link last alias);
   known = h.known;
@@ -41,14 +41,14 @@ use_kept c t link last alias h k apart = record {
   of = h.of;
 }
 
-pub uses_kept : (link : Link) (p : Path) (alias : Option Name) (c c' : StateTree) → IsSoundState c → IsUsed link p alias c c' → IsSoundState c'
+pub uses_kept : (link : Link) (p : Path) (alias : Option Name) (c c' : StateTree) → IsSoundState c → IsTheoryUsed link p alias c c' → IsSoundState c'
 uses_kept link p alias c c' h u =
     let found : Contains c.known u.theory = found_in c.known (path_text p.parts) u.theory u.found in
     subst IsSoundState (sym u.is)
     (use_kept c u.theory link (last_part p.parts) (alias_text alias) h (All-contains (IsSoundKnown c.trees c.symbols c.decls) c.known u.theory h.known found) (All-contains (IsApart c.decls c.opened.path) c.known u.theory h.apart found))
 
 -- ---- other scopes and moves
-pub scopes_kept : (c : StateTree) (within : List ℕ) (names : Names) (moves : List Move) (number : ℕ) → IsSoundState c → AreTypedScopes (after c.symbols [] (visible_now c)) c.trees names → AreTypedMoves (after c.symbols [] (visible_now c)) c.trees moves
+pub scopes_kept : (c : StateTree) (within : List ℕ) (names : ScopeNames) (moves : List Move) (number : ℕ) → IsSoundState c → AreTypedScopes (after c.symbols [] (visible_now c)) c.trees names → AreTypedMoves (after c.symbols [] (visible_now c)) c.trees moves
     → IsSoundState (record c { opened = record c.opened { within = within; scope = names; moves = c.opened.moves ++ moves }; number = number })
 scopes_kept c within names moves number h scopes typed = record {
   opened = record {

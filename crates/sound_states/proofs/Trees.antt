@@ -6,14 +6,14 @@ use Rattle.trees.specs.declared.Sort.TheVariants.{Kind}
 use Rattle.trees.specs.Tree.{Tree, Leaf, One, Two, Three, Head, HTyRigid, HTyApp, HCell, HBound, HParam, HNum, HFun, HPred, HEq, HForall, HExists, HLet, HIf, HCase, HArm, HPatCon, HPatAlias, head_of}
 use Rattle.trees.specs.Binding.{inst_types}
 use Rattle.trees.specs.Sorts.{sort_of, yield_type, type_of, top_type, two_type, three_type}
-use Rattle.unify_types.specs.Assigned.{IsTyped}
+use Rattle.unify_types.specs.Assigned.{IsTypeOrTypes}
 use Rattle.unify_types.proofs.SortedTypes.{kind_is_type}
 use Rattle.tasks.specs.declared.signature.SymbolKind.{SymbolKind}
 use Rattle.tasks.specs.declared.signature.SymbolKind.TheVariants.{Predicate, Constructor}
 use Rattle.tasks.specs.declared.signature.SymbolKind.TheVariants as kinds
 use Rattle.tasks.specs.Task.{SymbolTree}
 use Rattle.tasks.specs.Vocabulary.{Vocabulary}
-use Rattle.tasks.specs.Typing.{members, entry, IsUse, Gives, MakesTerms, option_list, two_pattern, three_pattern, pattern_types, bound_types, BranchFits, BranchesFit, first_body, LeafTyped, OneTyped, TwoTyped, ThreeTyped, TypedUnder}
+use Rattle.tasks.specs.Typing.{members, entry, IsUse, HasResult, MakesTerms, option_list, two_pattern, three_pattern, pattern_types, bound_types, BranchFits, BranchesFit, first_body, LeafTyped, OneTyped, TwoTyped, ThreeTyped, TypedUnder}
 use Rattle.tasks.specs.Valid.{VariablesBelow, ParametersOf, IsTypeIn, HasTypes, IsFormulaOver}
 use Rattle.tasks.proofs.Closing.{typed_sorted}
 use Rattle.symbol_maps.specs.Mapped.{Map, head_mapped, mapped}
@@ -87,17 +87,17 @@ module _ (m : Map) where
 
 -- a type holds no variable of terms
 module _ (v : Vocabulary) where
-  one_closed : (k : Bool) (types : List Tree) (h : Head) (a : Tree) → IsTyped k (One h a) → OneTyped v types h a → OneTyped v [] h a
+  one_closed : (k : Bool) (types : List Tree) (h : Head) (a : Tree) → IsTypeOrTypes k (One h a) → OneTyped v types h a → OneTyped v [] h a
   one_closed true types (HTyApp s) a t x = x
   one_closed true types _ a t x = absurd t.0
   one_closed false types _ a t x = absurd t.0
 
-  two_closed : (k : Bool) (types : List Tree) (h : Head) (a b : Tree) → IsTyped k (Two h a b) → TypedUnder v [] b → TypedUnder v (bound_types h a ++ []) b
+  two_closed : (k : Bool) (types : List Tree) (h : Head) (a b : Tree) → IsTypeOrTypes k (Two h a b) → TypedUnder v [] b → TypedUnder v (bound_types h a ++ []) b
   two_closed false types HCell a b t x = x
   two_closed false types _ a b t x = absurd t.0
   two_closed true types _ a b t x = absurd t.0
 
-  closed : (k : Bool) (types : List Tree) (e : Tree) → IsTyped k e → TypedUnder v types e → TypedUnder v [] e
+  closed : (k : Bool) (types : List Tree) (e : Tree) → IsTypeOrTypes k e → TypedUnder v types e → TypedUnder v [] e
   closed k types (Leaf h) t x = x
   closed k types (One h a) t x = (x.0, one_closed k types h a t x.1, closed false types a t.1 x.2)
   closed k types (Two h a b) t x = (x.0, x.1, closed true types a t.1 x.2, two_closed k types h a b t (closed false (bound_types h a ++ types) b t.2 x.3))
@@ -239,7 +239,7 @@ module _ (v w : Vocabulary) (m : Map) (morphism : IsMorphism v w m) where
   result_mapped None zs n c g q = absurd (cc)
   result_mapped (Some r) zs n c g q = ap (λ (e : Tree). Some e) (sym (inst_mapped v w m morphism.types zs true r (type_over v n r g))) ∙ ap (option_map (mapped m)) q
 
-  gives_mapped : (e j : SymbolTree) → HasMappedTypes m e j → IfSome e.result (IsTypeIn v e.vars) → (us : List Tree) (a c : Tree) → TypedUnder v us a → Gives e a c → Gives j (mapped m a) (mapped m c)
+  gives_mapped : (e j : SymbolTree) → HasMappedTypes m e j → IfSome e.result (IsTypeIn v e.vars) → (us : List Tree) (a c : Tree) → TypedUnder v us a → HasResult e a c → HasResult j (mapped m a) (mapped m c)
   gives_mapped e j h g us a c x y =
       ap (option_map (λ (r : Tree). inst_types r (members (mapped m a)))) h.result
       ∙ ap (λ (l : List Tree). option_map (λ (r : Tree). inst_types r l) (option_map (mapped m) e.result)) (members_mapped us a x)

@@ -11,7 +11,7 @@ use Rattle.tasks.specs.Vocabulary.{Vocabulary}
 use Rattle.syntax_why.specs.declared.declarations.Link.{Link}
 use Rattle.scope_moves.specs.Moves.{brought, handed}
 use Rattle.goal_tasks.specs.Theories.{GoalTree}
-use Rattle.valid_tasks.specs.Scopes.{IsPart, IsTypedSignature, AreTypedScopes}
+use Rattle.valid_tasks.specs.Scopes.{IsSubvocabulary, IsTypedSignature, AreTypedScopes}
 use Rattle.valid_tasks.proofs.Words.{same_word, self_word}
 use Rattle.valid_tasks.proofs.Extended.{scopes_part}
 use Rattle.sound_states.specs.Moves.{IsTypedMove, AreTypedMoves}
@@ -21,15 +21,15 @@ use Rattle.valid_tasks.specs.Joined.{has_theory, fresh, Agree}
 use Rattle.valid_tasks.specs.Tasks.{AreSound, IsSoundAfter}
 use Rattle.valid_tasks.proofs.Distinct.{distinct_pairs, pairs_distinct}
 use Rattle.valid_tasks.proofs.Joined.{later_sound, first_part, second_part, later_typed}
-use Rattle.theory_states.specs.States.{KnownTree, OpenedTree, at_places, joined}
-use Rattle.theory_states.specs.Uses.{used}
+use Rattle.theory_states.specs.States.{KnownTree, OpenedTree, at_places, joined_places}
+use Rattle.theory_states.specs.Uses.{theory_used}
 use Rattle.sound_states.specs.Sound.{is_other, others, IsSoundAmong, IsSoundTheory, IsSoundOpened}
 use Rattle.sound_states.proofs.Places.{cases_of, here, later, joined_cases, joined_old, joined_distinct, places_agree, places_joined, joined_whole}
 
 pub grows_itself : (s : List Tree) → Grows s s
 grows_itself s = record { longer = omega arith; same = λ k l. refl }
 
-pub is_part_itself : (v : Vocabulary) → IsPart v v
+pub is_part_itself : (v : Vocabulary) → IsSubvocabulary v v
 is_part_itself v = record { entries = λ k e q. q; rigid = λ k e q h. h; usable = λ k e q h. h; matched = λ k e q h. h }
 
 -- ---- declarations of other theories
@@ -126,7 +126,7 @@ module _ (s : List Tree) (xs ys : List SymbolTree) (decls : List DeclarationTree
   abbrev both : List DeclarationTree
   both = ds ++ fresh ds es
 
-  join : at_places decls (joined o.visible t.visible) ≡ both
+  join : at_places decls (joined_places o.visible t.visible) ≡ both
   join = places_joined decls o.visible h.theory.whole t.visible k.below (pairs_distinct t.visible k.once)
 
   agree : Agree ds es
@@ -135,10 +135,10 @@ module _ (s : List Tree) (xs ys : List SymbolTree) (decls : List DeclarationTree
   strange : (d : DeclarationTree) → Contains es d → d.theory ≢ o.path
   strange d c = All-contains (λ (e : DeclarationTree). e.theory ≢ o.path) es d apart c
 
-  first : IsPart (after all [] ds) (after all [] both)
+  first : IsSubvocabulary (after all [] ds) (after all [] both)
   first = first_part xs ys ds es h.theory.sound k.sound agree
 
-  second : IsPart (after xs [] es) (after all [] both)
+  second : IsSubvocabulary (after xs [] es) (after all [] both)
   second = second_part xs ys ds es h.theory.sound k.sound agree
 
   abbrev old_others : List DeclarationTree
@@ -150,14 +150,14 @@ module _ (s : List Tree) (xs ys : List SymbolTree) (decls : List DeclarationTree
   handed_on : (link : Link) → AreTypedMoves (after all [] both) s (handed link t.moves)
   handed_on link = handed_typed (after all [] both) s link t.moves (moves_more (after xs [] es) (after all [] both) second s s (grows_itself s) t.moves k.typed_moves)
 
-  below : All (λ (i : ℕ). i < length decls) (joined o.visible t.visible)
-  below = λ i d l. of (get_or (joined o.visible t.visible) i d) (joined_cases o.visible t.visible (get_or (joined o.visible t.visible) i d) (Contains-get_or (joined o.visible t.visible) i d l))
+  below : All (λ (i : ℕ). i < length decls) (joined_places o.visible t.visible)
+  below = λ i d l. of (get_or (joined_places o.visible t.visible) i d) (joined_cases o.visible t.visible (get_or (joined_places o.visible t.visible) i d) (Contains-get_or (joined_places o.visible t.visible) i d l))
     where
       of : (j : ℕ) → Contains o.visible j ⊎ Contains t.visible j → j < length decls
       of j (inl c) = All-contains (λ (i : ℕ). i < length decls) o.visible j h.theory.below c
       of j (inr c) = All-contains (λ (i : ℕ). i < length decls) t.visible j k.below c
 
-  used_theory : (link : Link) → IsSoundTheory s all all decls o.path (joined o.visible t.visible) o.axioms o.goals (o.moves ++ handed link t.moves)
+  used_theory : (link : Link) → IsSoundTheory s all all decls o.path (joined_places o.visible t.visible) o.axioms o.goals (o.moves ++ handed link t.moves)
   used_theory link = record {
     sound = subst (AreSound all) (sym join) (later_sound xs ys ds es h.theory.sound k.sound agree);
     others = subst (λ (zs : List DeclarationTree). AreSound all (others o.path zs)) (sym join) new_others;
@@ -167,11 +167,11 @@ module _ (s : List Tree) (xs ys : List SymbolTree) (decls : List DeclarationTree
     sound_goals = λ i g l. subst (λ (zs : List DeclarationTree). IsSoundAmong all zs (get_or o.goals i g)) (sym join) (among_more all ds (fresh ds es) (get_or o.goals i g) (h.theory.sound_goals i g l));
     sound_axioms = h.theory.sound_axioms;
     below = below;
-    once = distinct_pairs (joined o.visible t.visible) (joined_distinct o.visible t.visible (pairs_distinct o.visible h.theory.once));
+    once = distinct_pairs (joined_places o.visible t.visible) (joined_distinct o.visible t.visible (pairs_distinct o.visible h.theory.once));
     whole = joined_whole decls o.visible t.visible h.theory.whole k.whole;
   }
 
-  pub used_sound : (link : Link) (last : List ℕ) (alias : Option (List ℕ)) → IsSoundOpened s all decls (used link last alias t o)
+  pub used_sound : (link : Link) (last : List ℕ) (alias : Option (List ℕ)) → IsSoundOpened s all decls (theory_used link last alias t o)
   used_sound link last alias = record {
     named = h.named;
     source = h.source;

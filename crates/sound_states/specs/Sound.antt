@@ -1,4 +1,4 @@
--- When what is known while a source is typed is sound: declarations are valid where they stand, signature, scopes and moves are typed
+-- When what is known while a source is typed is sound: declarations are valid where they are, signature, scopes and moves are typed
 -- over what they make, and each goal is well formed after the declarations before it.
 use Rattle.std.specs.Prelude.{◌≡◌, ◌≢◌, ℕ, ◌<◌, ◌≤◌, not, Bool, false, List, [], ◌∷◌, ◌++◌, map, length, slice_get, take, All, AllPairs, Some}
 use Rattle.std.specs.List.{filter, Contains, range_with_len}

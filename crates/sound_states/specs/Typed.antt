@@ -10,10 +10,10 @@ use Rattle.valid_tasks.specs.Built.{IsBuiltRight}
 use Rattle.theory_states.specs.States.{KnownTree, StateTree}
 
 -- where a declaration stands
-abbrev pub setting : StateTree → Setting
-setting c = record { theory = c.opened.path; within = c.opened.within; decl = c.number; trees = c.trees; symbols = c.symbols; scope = c.opened.scope }
+abbrev pub state_setting : StateTree → Setting
+state_setting c = record { theory = c.opened.path; within = c.opened.within; decl = c.number; trees = c.trees; symbols = c.symbols; scope = c.opened.scope }
 
--- the signature is typed, and so are the names that the theories before hand on
+-- the signature is typed, and so are the names that the theories before pass on
 pub record AreTypedTheories (c : StateTree) : Type 0 where
   pub signature : IsTypedSignature (of_signature c.symbols) c.symbols
   pub built : IsBuiltRight c.symbols

@@ -6,7 +6,7 @@ ghost use Rattle.trees.specs.Tree.{Tree};
 ghost use Rattle.tasks.specs.Task.{SymbolTree, DeclarationTree, int_symbol};
 ghost use Rattle.tasks.specs.Vocabulary.{is_empty};
 ghost use Rattle.tasks.specs.Valid.{AreInts, IsValid};
-ghost use Rattle.names_space.specs.Names.{Names};
+ghost use Rattle.names_space.specs.Names.{ScopeNames};
 ghost use Rattle.syntax_why.specs.declared.names.Name.{Name};
 ghost use Rattle.syntax_why.specs.declared.names.Path.{Path};
 ghost use Rattle.syntax_why.specs.declared.declarations.Link.{Link};
@@ -19,8 +19,8 @@ ghost use Rattle.goal_tasks.specs.Theories.{GoalTree, TheoriesTree};
 ghost use Rattle.goal_tasks.specs.Tasks.{task_for};
 ghost use Rattle.valid_tasks.specs.Joined.{fresh, Agree};
 ghost use Rattle.theory_states.specs.declared.states.AxiomAt.{AxiomAt};
-ghost use Rattle.theory_states.specs.States.{KnownTree, StateTree, at_places, visible_now, joined, opened_empty, known_as, known_named};
-ghost use Rattle.theory_states.specs.Uses.{IsUsed};
+ghost use Rattle.theory_states.specs.States.{KnownTree, StateTree, at_places, visible_now, joined_places, opened_empty, known_as, known_named};
+ghost use Rattle.theory_states.specs.Uses.{IsTheoryUsed};
 ghost use Rattle.sound_states.specs.Whole.{IsWhole};
 ghost use Rattle.sound_states.specs.Sound.{IsSoundKnown, IsSoundState, AreSoundTheories, IsAfter, IsSoundAddition};
 
@@ -30,12 +30,12 @@ ghost use Rattle.sound_states.specs.Sound.{IsSoundKnown, IsSoundState, AreSoundT
 pub fn joins_whole()
     ensures joined { (ds : List DeclarationTree) (ks more : List ℕ) → IsWhole ds ks
         → All (λ (k : ℕ). k < length ds) more → AllPairs (λ (j k : ℕ). j ≢ k) more
-        → at_places ds (joined ks more) ≡ at_places ds ks
+        → at_places ds (joined_places ks more) ≡ at_places ds ks
         ++ fresh (at_places ds ks) (at_places ds more) }
     ensures agree { (ds : List DeclarationTree) (ks more : List ℕ) → IsWhole ds ks
         → Agree (at_places ds ks) (at_places ds more) }
     ensures whole { (ds : List DeclarationTree) (ks more : List ℕ) → IsWhole ds ks
-        → IsWhole ds more → IsWhole ds (joined ks more) }
+        → IsWhole ds more → IsWhole ds (joined_places ks more) }
     ensures first { (ds : List DeclarationTree) (n : ℕ) (ks : List ℕ)
         → All (λ (k : ℕ). k < length ds) ks
         → at_places ds (take n ks) ≡ take n (at_places ds ks) }
@@ -65,8 +65,8 @@ pub fn begins_sound()
 /// after what was visible.
 pub fn stays_sound()
     ensures used { (link : Link) (p : Path) (alias : Option Name) (c next : StateTree)
-        → IsSoundState c → IsUsed link p alias c next → IsSoundState next }
-    ensures scoped { (c : StateTree) (within : List ℕ) (names : Names) (moves : List Move)
+        → IsSoundState c → IsTheoryUsed link p alias c next → IsSoundState next }
+    ensures scoped { (c : StateTree) (within : List ℕ) (names : ScopeNames) (moves : List Move)
         (number : ℕ) → IsSoundState c
         → AreTypedScopes (after c.symbols [] (visible_now c)) c.trees names
         → AreTypedMoves (after c.symbols [] (visible_now c)) c.trees moves

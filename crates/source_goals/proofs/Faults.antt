@@ -4,11 +4,11 @@ use Rattle.trees.specs.Tree.{Tree}
 use Rattle.tokens_why.specs.Tokens.{LexicalAt, BigLiteralAt, UnlessMemory}
 use Rattle.tokens_why.specs.declared.fault.LexFault.{LexFault}
 use Rattle.tokens_why.specs.declared.fault.LexFault.TheVariants.{Lexical, BigLiteral}
-use Rattle.syntax_why.specs.Declarations.{Theory}
+use Rattle.syntax_why.specs.Declarations.{SyntaxTheory}
 use Rattle.theory_states.specs.declared.fault.SourceFault.{SourceFault}
 use Rattle.theory_states.specs.declared.fault.SourceFault.TheVariants as of_source
 use Rattle.theory_states.specs.Uses.{OrMemory}
-use Rattle.theories.specs.Files.{IsFirstFault}
+use Rattle.theories.specs.Files.{IsFirstSourceFault}
 use Rattle.fault_order.specs.Answers.{IsStageAnswer}
 use Rattle.source_goals.specs.Order.{Declares}
 use Rattle.source_goals.specs.Values.{source_fault}
@@ -30,7 +30,7 @@ pub big_literal_at : (V : Type 0) (bytes : List ℕ) (fault : LexFault) (byte : 
 big_literal_at V bytes fault byte is says = let at : SaysBig V bytes (BigLiteral byte) = subst (SaysBig V bytes) is says in (at byte).0 refl
 
 -- the first fault of a file's theories
-pub no_theories : (s : List Tree) (file : List Theory) (f : SourceFault) → OrMemory (IsFirstFault s file) f → IsStageAnswer (Declares file) (Err (source_fault f))
+pub no_theories : (s : List Tree) (file : List SyntaxTheory) (f : SourceFault) → OrMemory (IsFirstSourceFault s file) f → IsStageAnswer (Declares file) (Err (source_fault f))
 no_theories s file of_source.Memory h = tt
 no_theories s file (of_source.Unknown decl token) h = record { trees = s; its = of_source.Unknown decl token; told = λ e. cc; first = h; is = refl }
 no_theories s file (of_source.Duplicate decl token) h = record { trees = s; its = of_source.Duplicate decl token; told = λ e. cc; first = h; is = refl }

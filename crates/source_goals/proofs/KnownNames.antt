@@ -9,11 +9,11 @@ use Rattle.tasks.specs.declared.declaration.Body.TheVariants as body
 use Rattle.tasks.specs.declared.declaration.Decl.{Decl}
 use Rattle.tasks.specs.declared.signature.SymbolInfo.{SymbolInfo}
 use Rattle.tasks.specs.Meaning.{symbols_at, body_at, declaration_at, declarations_at}
-use Rattle.driver_items.specs.Symbols.{Theories as NamedTheories}
+use Rattle.driver_items.specs.Symbols.{NamedTheories as NamedTheories}
 use Rattle.goal_tasks.specs.declared.theories.Theories.{Theories}
 use Rattle.goal_tasks.specs.declared.theories.Theory.{Theory}
 use Rattle.goal_tasks.specs.Meaning.{placed, theory_at, theories_at}
-use Rattle.source_goals.specs.Known.{said_name, own_name, own_names, known_theory, known_of, named_bytes, AreKnown, said_in, own_in, own_at, names_in, theory_in}
+use Rattle.source_goals.specs.Known.{said_name, own_proposition_name, own_names, known_theory, known_of, named_bytes, IsKnownAs, said_names, own_in, own_names_at, names_in, theory_in}
 
 placed-append : (ds : List Decl) (xs ys : List ℕ) → placed ds (xs ++ ys) ≡ placed ds xs ++ placed ds ys
 placed-append ds [] ys = refl
@@ -25,19 +25,19 @@ placed_more ds ks i k h e =
     ∙ ap (λ (z : ℕ). placed ds (take i ks) ++ option_to_list (slice_get ds z)) (sym e)
 
 module _ (path : List ℕ) where
-  names_at : (o : Option Decl) → names_in path (option_to_list o) ≡ own_at path o
+  names_at : (o : Option Decl) → names_in path (option_to_list o) ≡ own_names_at path o
   names_at None = refl
   names_at (Some d) = append-nil (own_in path d)
 
   -- the names at one more place
   pub names_more : (ds : List Decl) (ks : List ℕ) (i k : ℕ) → i < length ks → k ≡ get_or ks i 0
-      → names_in path (placed ds (take (i + 1) ks)) ≡ names_in path (placed ds (take i ks)) ++ own_at path (slice_get ds k)
+      → names_in path (placed ds (take (i + 1) ks)) ≡ names_in path (placed ds (take i ks)) ++ own_names_at path (slice_get ds k)
   names_more ds ks i k h e =
       ap (names_in path) (placed_more ds ks i k h e) ∙ flat_map-append (own_in path) (placed ds (take i ks)) (option_to_list (slice_get ds k))
       ∙ ap (λ (z : List (List ℕ)). names_in path (placed ds (take i ks)) ++ z) (names_at (slice_get ds k))
 
 module _ (s : List Tree) where
-  said_same : (name : List ℕ) (b : Body) → said_in name b ≡ said_name name (body_at s b)
+  said_same : (name : List ℕ) (b : Body) → said_names name b ≡ said_name name (body_at s b)
   said_same name (body.TypeSymbol k) = refl
   said_same name (body.Symbol k) = refl
   said_same name (body.Defs ds) = refl
@@ -45,13 +45,13 @@ module _ (s : List Tree) where
   said_same name (body.Algebraics ts) = refl
   said_same name (body.Prop a) = refl
 
-  own_same : (path : List ℕ) (d : Decl) → own_in path d ≡ own_name path (declaration_at s d)
+  own_same : (path : List ℕ) (d : Decl) → own_in path d ≡ own_proposition_name path (declaration_at s d)
   own_same path d = ap (λ (z : List (List ℕ)). if bytes_eq d.theory path then z else []) (said_same d.name d.body)
 
   names_same : (path : List ℕ) (ds : List Decl) → names_in path ds ≡ own_names path (declarations_at s ds)
   names_same path [] = refl
   names_same path (d ∷ ds) =
-      ap (λ (z : List (List ℕ)). z ++ names_in path ds) (own_same path d) ∙ ap (λ (z : List (List ℕ)). own_name path (declaration_at s d) ++ z) (names_same path ds)
+      ap (λ (z : List (List ℕ)). z ++ names_in path ds) (own_same path d) ∙ ap (λ (z : List (List ℕ)). own_proposition_name path (declaration_at s d) ++ z) (names_same path ds)
 
   -- theories in code tell what their trees tell
   pub theories_same : (ds : List Decl) (ts : List Theory) → map (theory_in ds) ts ≡ map known_theory (map (theory_at s ds) ts)
@@ -62,7 +62,7 @@ module _ (s : List Tree) where
 
 -- what the signature and the theories in code tell is known
 pub are_known : (s : List Tree) (all : Theories) (infos : List SymbolInfo) (named : NamedTheories) → infos ≡ all.sig.value.symbols → map named_bytes named ≡ map (theory_in all.decls) all.list
-    → AreKnown (known_of (theories_at s all)) infos named
+    → IsKnownAs (known_of (theories_at s all)) infos named
 are_known s all infos named same told = record {
   store = s;
   symbols = ap (symbols_at s) same;

@@ -4,37 +4,37 @@ use Rattle.std.specs.Prelude.{IsSomeAnd, IsNone}
 use Rattle.tasks.specs.declared.task.Task.{Task}
 use Rattle.tasks.specs.Task.{TaskTree}
 use Rattle.goal_tasks.specs.declared.making.TaskFault.{TaskFault}
-use Rattle.goal_tasks.specs.Theories.{GoalTree, TheoryTree, TheoriesTree, theory_named, goal_named}
+use Rattle.goal_tasks.specs.Theories.{GoalTree, KnownTheoryTree, TheoriesTree, theory_named, goal_named}
 use Rattle.goal_tasks.specs.Tasks.{task_for, IsTaskOf}
 use Rattle.fault_order.specs.declared.faults.Fault.TheVariants.{NoTheory, NoGoal}
-use Rattle.fault_order.specs.Order.{Stop, refused, Meaning}
+use Rattle.fault_order.specs.Order.{RunStop, refused, StageMeaning}
 use Rattle.source_goals.specs.Order.{TaskOf, goal_task, theory_task}
 
 -- what is left after the source
-abbrev pub naming : (theory goal : List ℕ) → TheoriesTree → Meaning TaskTree
+abbrev pub naming : (theory goal : List ℕ) → TheoriesTree → StageMeaning TaskTree
 naming theory goal all files limit = TaskOf theory goal all
 
-abbrev made : TaskTree → Result TaskTree Stop
+abbrev made : TaskTree → Result TaskTree RunStop
 made k = Ok k
 
 module _ (all : TheoriesTree) (goal : List ℕ) where
-  goal_ok : (t : TheoryTree) (o : Option GoalTree) (k : TaskTree) → IsSomeAnd o (λ g. k ≡ task_for all t g) → made k ≡ goal_task all t o
+  goal_ok : (t : KnownTheoryTree) (o : Option GoalTree) (k : TaskTree) → IsSomeAnd o (λ g. k ≡ task_for all t g) → made k ≡ goal_task all t o
   goal_ok t None k h = absurd h
   goal_ok t (Some g) k h = ap made h
 
-  theory_ok : (o : Option TheoryTree) (k : TaskTree) → IsSomeAnd o (λ t. IsSomeAnd (goal_named t goal) (λ g. k ≡ task_for all t g)) → made k ≡ theory_task all goal o
+  theory_ok : (o : Option KnownTheoryTree) (k : TaskTree) → IsSomeAnd o (λ t. IsSomeAnd (goal_named t goal) (λ g. k ≡ task_for all t g)) → made k ≡ theory_task all goal o
   theory_ok None k h = absurd h
   theory_ok (Some t) k h = goal_ok t (goal_named t goal) k h
 
-  no_goal_in : (t : TheoryTree) (o : Option GoalTree) → IsNone o → Err (refused NoGoal) ≡ goal_task all t o
+  no_goal_in : (t : KnownTheoryTree) (o : Option GoalTree) → IsNone o → Err (refused NoGoal) ≡ goal_task all t o
   no_goal_in t None h = refl
   no_goal_in t (Some g) h = absurd (cc)
 
-  no_goal_by : (o : Option TheoryTree) → IsSomeAnd o (λ t. IsNone (goal_named t goal)) → Err (refused NoGoal) ≡ theory_task all goal o
+  no_goal_by : (o : Option KnownTheoryTree) → IsSomeAnd o (λ t. IsNone (goal_named t goal)) → Err (refused NoGoal) ≡ theory_task all goal o
   no_goal_by None h = absurd h
   no_goal_by (Some t) h = no_goal_in t (goal_named t goal) h
 
-  no_theory_by : (o : Option TheoryTree) → IsNone o → Err (refused NoTheory) ≡ theory_task all goal o
+  no_theory_by : (o : Option KnownTheoryTree) → IsNone o → Err (refused NoTheory) ≡ theory_task all goal o
   no_theory_by None h = refl
   no_theory_by (Some t) h = absurd (cc)
 

@@ -5,15 +5,15 @@ use Rattle.tasks.specs.Task.{TaskTree}
 use Rattle.driver_parts.specs.declared.driver.Driver.{Driver}
 use Rattle.goal_tasks.specs.Theories.{TheoriesTree}
 use Rattle.fault_order.specs.Answers.{Answers, IsStageAnswer}
-use Rattle.fault_order.specs.Order.{Stage, Meaning, Answer}
+use Rattle.fault_order.specs.Order.{Stage, StageMeaning, Answer}
 use Rattle.fault_order.specs.declared.faults.RunFault.{RunFault}
 use Rattle.fault_order.specs.declared.faults.RunFault.TheVariants as run_fault
 use Rattle.fault_order.proofs.Meeting.{answers_value, answers_refused, answers_memory}
 use Rattle.fault_order.proofs.Stages.{gives_then, gives_stop}
-use Rattle.source_goals.specs.Order.{TaskOf, Setting, setting_of, TaskUnder}
-use Rattle.source_goals.specs.Values.{next_of, next_in}
+use Rattle.source_goals.specs.Order.{TaskOf, GoalSettingTree, setting_of, TaskUnder}
+use Rattle.source_goals.specs.Values.{next_after_driver, next_in}
 
-abbrev pub with_driver : Driver → TaskTree → Stage Setting
+abbrev pub with_driver : Driver → TaskTree → Stage GoalSettingTree
 with_driver d t = Answer (Ok (setting_of d t))
 
 module _ (theory goal : List ℕ) (all : TheoriesTree) (d : Driver) where
@@ -23,19 +23,19 @@ module _ (theory goal : List ℕ) (all : TheoriesTree) (d : Driver) where
   pub under_err : (e : RunFault) → IsStageAnswer (TaskOf theory goal all) (Err e) → IsStageAnswer (TaskUnder theory goal all d) (Err e)
   under_err e h = gives_stop (TaskOf theory goal all) (with_driver d) e h
 
-  own : (g : Setting) → TaskUnder theory goal all d (Ok g) → g.driver ≡ d
+  own : (g : GoalSettingTree) → TaskUnder theory goal all d (Ok g) → g.driver ≡ d
   own g (inl x) = absurd (cc)
-  own g (inr x) = let e : g ≡ setting_of d x.0 = cc in ap (λ (z : Setting). z.driver) e
+  own g (inr x) = let e : g ≡ setting_of d x.0 = cc in ap (λ (z : GoalSettingTree). z.driver) e
 
-  abbrev pub under : Meaning Setting
+  abbrev pub under : StageMeaning GoalSettingTree
   under files limit = TaskUnder theory goal all d
 
   -- no file is fetched after those of the driver
-  pub under_answers : (s : LibraryState) (r : Result Setting RunFault) → IsStageAnswer (TaskUnder theory goal all d) r → Answers under (next_of d) next_in s s r
+  pub under_answers : (s : LibraryState) (r : Result GoalSettingTree RunFault) → IsStageAnswer (TaskUnder theory goal all d) r → Answers under (next_after_driver d) next_in s s r
   under_answers s (Ok g) h =
       let e : g.driver ≡ d = own g h in
-      let n : next_of d ≡ next_in g = ap next_of (sym e) in
-      answers_value {meaning = under} {start = next_of d} {next = next_in} {s = s} {a = g} (omega (arith, n)) (λ files limit. h)
+      let n : next_after_driver d ≡ next_in g = ap next_after_driver (sym e) in
+      answers_value {meaning = under} {start = next_after_driver d} {next = next_in} {s = s} {a = g} (omega (arith, n)) (λ files limit. h)
   under_answers s (Err run_fault.Memory) h = answers_memory
   under_answers s (Err (run_fault.Refused fault)) h = answers_refused (λ files. h)
   under_answers s (Err (run_fault.Absent file)) h = absurd h

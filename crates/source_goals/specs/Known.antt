@@ -10,13 +10,13 @@ use Rattle.tasks.specs.declared.declaration.Body.{Body}
 use Rattle.tasks.specs.declared.declaration.Body.TheVariants.{Prop}
 use Rattle.tasks.specs.declared.declaration.Decl.{Decl}
 use Rattle.tasks.specs.declared.signature.SymbolInfo.{SymbolInfo}
-use Rattle.driver_items.specs.Symbols.{Theories as NamedTheories, Theory as NamedTheory}
+use Rattle.driver_items.specs.Symbols.{NamedTheories as NamedTheories, NamedTheory as NamedTheory}
 use Rattle.goal_tasks.specs.declared.theories.Theory.{Theory}
-use Rattle.goal_tasks.specs.Theories.{TheoryTree, TheoriesTree}
+use Rattle.goal_tasks.specs.Theories.{KnownTheoryTree, TheoriesTree}
 use Rattle.goal_tasks.specs.Meaning.{placed}
 
 -- the symbols that a driver may name, and the known theories, each with the names of its propositions
-pub record Known : Type 0 where
+pub record KnownByDriver : Type 0 where
   pub symbols : List SymbolTree
   pub theories : List (List ℕ × List (List ℕ))
 
@@ -26,39 +26,39 @@ said_name name (Says a) = utf8_lossy name ∷ []
 said_name name _ = []
 
 -- the name of a proposition that the theory with this path itself declares
-abbrev pub own_name : List ℕ → DeclarationTree → List (List ℕ)
-own_name path d = if bytes_eq d.theory path then said_name d.name d.body else []
+abbrev pub own_proposition_name : List ℕ → DeclarationTree → List (List ℕ)
+own_proposition_name path d = if bytes_eq d.theory path then said_name d.name d.body else []
 
 abbrev pub own_names : List ℕ → List DeclarationTree → List (List ℕ)
-own_names path ds = flat_map (own_name path) ds
+own_names path ds = flat_map (own_proposition_name path) ds
 
-abbrev pub known_theory : TheoryTree → List ℕ × List (List ℕ)
+abbrev pub known_theory : KnownTheoryTree → List ℕ × List (List ℕ)
 known_theory t = (utf8_lossy t.path, own_names t.path t.decls)
 
 -- the theories of the source and those of the embedded library are known
-abbrev pub known_of : TheoriesTree → Known
+abbrev pub known_of : TheoriesTree → KnownByDriver
 known_of all = record { symbols = all.symbols; theories = map known_theory all.list }
 
 abbrev pub named_bytes : NamedTheory → List ℕ × List (List ℕ)
 named_bytes theory = (string_bytes theory.0, map string_bytes theory.1.items)
 
 -- a signature and named theories are what is known
-pub record AreKnown (known : Known) (infos : List SymbolInfo) (named : NamedTheories) : Type 0 where
+pub record IsKnownAs (known : KnownByDriver) (infos : List SymbolInfo) (named : NamedTheories) : Type 0 where
   pub store : List Tree
   pub symbols : symbols_at store infos ≡ known.symbols
   pub theories : map named_bytes named ≡ known.theories
 
 -- ---- of declarations in code
-abbrev pub said_in : List ℕ → Body → List (List ℕ)
-said_in name (Prop a) = utf8_lossy name ∷ []
-said_in name _ = []
+abbrev pub said_names : List ℕ → Body → List (List ℕ)
+said_names name (Prop a) = utf8_lossy name ∷ []
+said_names name _ = []
 
 abbrev pub own_in : List ℕ → Decl → List (List ℕ)
-own_in path d = if bytes_eq d.theory path then said_in d.name d.body else []
+own_in path d = if bytes_eq d.theory path then said_names d.name d.body else []
 
-abbrev pub own_at : List ℕ → Option Decl → List (List ℕ)
-own_at path None = []
-own_at path (Some d) = own_in path d
+abbrev pub own_names_at : List ℕ → Option Decl → List (List ℕ)
+own_names_at path None = []
+own_names_at path (Some d) = own_in path d
 
 abbrev pub names_in : List ℕ → List Decl → List (List ℕ)
 names_in path ds = flat_map (own_in path) ds

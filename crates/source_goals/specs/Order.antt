@@ -1,4 +1,4 @@
--- From a source's bytes to the task of a goal and the driver that it goes through, or what stands first in the way: the bytes'
+-- From a source's bytes to the task of a goal and the driver that it goes through, or what is first in the way: the bytes'
 -- tokens, their file, its theories; the driver; then the theory and the goal by their names.
 use Rattle.std.specs.Prelude.{◌≡◌, ◌≢◌, ℕ, List, Option, Some, None, Result, Ok, Err}
 use Rattle.trees.specs.Tree.{Tree}
@@ -7,27 +7,27 @@ use Rattle.tasks.specs.declared.signature.SymbolInfo.{SymbolInfo}
 use Rattle.tokens_why.specs.declared.token.Token.{Token}
 use Rattle.tokens_why.specs.Tokens.{AreTokens, LexicalAt, BigLiteralAt}
 use Rattle.syntax_why.specs.Lexeme.{Lexeme, rest, terminals}
-use Rattle.syntax_why.specs.Declarations.{Theory}
+use Rattle.syntax_why.specs.Declarations.{SyntaxTheory}
 use Rattle.recognise_why.specs.Depth.{IsTooDeep, IsShallow}
 use Rattle.recognise_why.specs.Sources.{IsFileFault, IsOnlyFile, IsProgramDecl}
-use Rattle.driver_items.specs.Symbols.{Theories as NamedTheories}
+use Rattle.driver_items.specs.Symbols.{NamedTheories as NamedTheories}
 use Rattle.driver_parts.specs.declared.driver.Driver.{Driver}
 use Rattle.driver_parts.specs.declared.fault.DriverFault.{DriverFault}
 use Rattle.driver_parts.specs.declared.fault.DriverFault.TheVariants as driver_fault
 use Rattle.driver_files.specs.Reading.{DriverStop, driver_named}
 use Rattle.driver_files.specs.Reading as driver
-use Rattle.goal_tasks.specs.Theories.{GoalTree, TheoryTree, TheoriesTree, theory_named, goal_named}
+use Rattle.goal_tasks.specs.Theories.{GoalTree, KnownTheoryTree, TheoriesTree, theory_named, goal_named}
 use Rattle.goal_tasks.specs.Tasks.{task_for}
 use Rattle.theory_states.specs.declared.fault.SourceFault.{SourceFault}
 use Rattle.theory_states.specs.declared.fault.SourceFault.TheVariants as source_fault
-use Rattle.theories.specs.Files.{TheoriesOf, IsFirstFault}
+use Rattle.theories.specs.Files.{TheoriesOf, IsFirstSourceFault}
 use Rattle.fault_order.specs.declared.faults.Fault.TheVariants as fault
-use Rattle.fault_order.specs.Order.{Stop, refused, absent, unread, misused, Stage, Answer, After, One, Meaning, ShortFile}
-use Rattle.source_goals.specs.Known.{Known, known_of, AreKnown}
+use Rattle.fault_order.specs.Order.{RunStop, refused, absent, unread, misused, Stage, Answer, After, HasOneAnswer, StageMeaning, ShortFile}
+use Rattle.source_goals.specs.Known.{KnownByDriver, known_of, IsKnownAs}
 
 -- ---- the theories of a source
 -- why bytes have no tokens: 10 or 11, at a byte
-abbrev pub HasNoTokens : List ℕ → Stop → Type 0
+abbrev pub HasNoTokens : List ℕ → RunStop → Type 0
 HasNoTokens text (refused (fault.Lexical byte)) = LexicalAt text byte
 HasNoTokens text (refused (fault.BigLiteral byte)) = BigLiteralAt text byte
 HasNoTokens text _ = ⊥
@@ -38,19 +38,19 @@ Lexes text (Ok tokens) = AreTokens text tokens
 Lexes text (Err stop) = HasNoTokens text stop
 
 -- why tokens are no source: 13 at the first one that is nested too deep, else 14 or 12 at the least with which none begins
-abbrev pub IsNoFile : List Lexeme → Stop → Type 0
+abbrev pub IsNoFile : List Lexeme → RunStop → Type 0
 IsNoFile xs (refused (fault.TooDeep token)) = IsTooDeep (terminals xs) token
 IsNoFile xs (refused (fault.ProgramDecl token)) = IsShallow (terminals xs) × IsFileFault xs token × IsProgramDecl xs token
 IsNoFile xs (refused (fault.Syntax token)) = IsShallow (terminals xs) × IsFileFault xs token × (IsProgramDecl xs token → ⊥)
 IsNoFile xs _ = ⊥
 
 -- the file of the tokens
-abbrev pub Parses : List Lexeme → Stage (List Theory)
+abbrev pub Parses : List Lexeme → Stage (List SyntaxTheory)
 Parses xs (Ok file) = IsShallow (terminals xs) × IsOnlyFile xs file
 Parses xs (Err stop) = IsNoFile xs stop
 
 -- 20 to 40, as faults of a run
-abbrev pub source_stop : SourceFault → Stop
+abbrev pub source_stop : SourceFault → RunStop
 source_stop source_fault.Memory = misused
 source_stop (source_fault.Unknown decl token) = refused (fault.Unknown decl token)
 source_stop (source_fault.Duplicate decl token) = refused (fault.Duplicate decl token)
@@ -67,21 +67,21 @@ source_stop (source_fault.Uninhabited decl) = refused (fault.Uninhabited decl)
 source_stop (source_fault.BadSubstitution decl token) = refused (fault.BadSubstitution decl token)
 
 -- the first fault of a file's theories, typed over some store
-pub record HasNoTheories (file : List Theory) (stop : Stop) : Type 0 where
+pub record HasNoTheories (file : List SyntaxTheory) (stop : RunStop) : Type 0 where
   pub trees : List Tree
   pub its : SourceFault
   pub told : its ≢ source_fault.Memory
-  pub first : IsFirstFault trees file its
+  pub first : IsFirstSourceFault trees file its
   pub is : stop ≡ source_stop its
 
 -- the theories of a file
-abbrev pub Declares : List Theory → Stage TheoriesTree
+abbrev pub Declares : List SyntaxTheory → Stage TheoriesTree
 Declares file (Ok all) = (trees : List Tree) × TheoriesOf trees file all
 Declares file (Err stop) = HasNoTheories file stop
 
 -- the theories of each file, or its first fault, are one
 abbrev pub AreDetermined : Type 0
-AreDetermined = (file : List Theory) → One (Declares file)
+AreDetermined = (file : List SyntaxTheory) → HasOneAnswer (Declares file)
 
 -- the theories of tokens
 abbrev pub FileTheories : List ℕ → List Token → Stage TheoriesTree
@@ -92,15 +92,15 @@ abbrev pub SourceTheories : List ℕ → Stage TheoriesTree
 SourceTheories text = After (Lexes text) (FileTheories text)
 
 -- the theories of a source, which is the first file
-abbrev pub Source : List ℕ → Meaning TheoriesTree
-Source src files limit = After (ShortFile 0 src files limit) SourceTheories
+abbrev pub SourceTheoriesOf : List ℕ → StageMeaning TheoriesTree
+SourceTheoriesOf src files limit = After (ShortFile 0 src files limit) SourceTheories
 
 -- ---- the task of a goal
-abbrev pub goal_task : TheoriesTree → TheoryTree → Option GoalTree → Result TaskTree Stop
+abbrev pub goal_task : TheoriesTree → KnownTheoryTree → Option GoalTree → Result TaskTree RunStop
 goal_task all t None = Err (refused fault.NoGoal)
 goal_task all t (Some g) = Ok (task_for all t g)
 
-abbrev pub theory_task : TheoriesTree → List ℕ → Option TheoryTree → Result TaskTree Stop
+abbrev pub theory_task : TheoriesTree → List ℕ → Option KnownTheoryTree → Result TaskTree RunStop
 theory_task all goal None = Err (refused fault.NoTheory)
 theory_task all goal (Some t) = goal_task all t (goal_named t goal)
 
@@ -109,12 +109,12 @@ abbrev pub TaskOf : List ℕ → List ℕ → TheoriesTree → Stage TaskTree
 TaskOf theory goal all = Answer (theory_task all goal (theory_named all theory))
 
 -- the goal's task
-abbrev pub Goal : List ℕ → List ℕ → List ℕ → Meaning TaskTree
-Goal src theory goal files limit = After (Source src files limit) (TaskOf theory goal)
+abbrev pub Goal : List ℕ → List ℕ → List ℕ → StageMeaning TaskTree
+Goal src theory goal files limit = After (SourceTheoriesOf src files limit) (TaskOf theory goal)
 
 -- ---- the driver
 -- 15 and 50 to 55, as faults of a run
-abbrev pub driver_refused : DriverFault → Stop
+abbrev pub driver_refused : DriverFault → RunStop
 driver_refused driver_fault.Memory = misused
 driver_refused (driver_fault.Absent file) = absent file
 driver_refused (driver_fault.ReadFault file) = misused
@@ -126,35 +126,35 @@ driver_refused (driver_fault.UnknownSymbol file byte) = refused (fault.UnknownSy
 driver_refused (driver_fault.ImportCycle file byte) = refused (fault.ImportCycle file byte)
 driver_refused (driver_fault.UnknownPrinter file byte) = refused (fault.UnknownPrinter file byte)
 
-abbrev pub driver_stop : DriverStop → Stop
-driver_stop (driver.refused its) = driver_refused its
-driver_stop (driver.absent file) = absent file
-driver_stop (driver.unread file name) = unread file name
+abbrev pub driver_stop : DriverStop → RunStop
+driver_stop (driver.file_refused its) = driver_refused its
+driver_stop (driver.file_absent file) = absent file
+driver_stop (driver.file_unread file name) = unread file name
 
-abbrev pub or_driver_stop : Result Driver DriverStop → Result Driver Stop
+abbrev pub or_driver_stop : Result Driver DriverStop → Result Driver RunStop
 or_driver_stop (Ok d) = Ok d
 or_driver_stop (Err stop) = Err (driver_stop stop)
 
 -- the driver of a file, whose number is 1, over what is known
-abbrev pub DriverOf : Known → List ℕ → Meaning Driver
+abbrev pub DriverOf : KnownByDriver → List ℕ → StageMeaning Driver
 DriverOf known drv files limit r =
-    (symbols : List SymbolInfo) × (theories : NamedTheories) × AreKnown known symbols theories × (r ≡ or_driver_stop (driver_named symbols theories drv files limit))
+    (symbols : List SymbolInfo) × (theories : NamedTheories) × IsKnownAs known symbols theories × (r ≡ or_driver_stop (driver_named symbols theories drv files limit))
 
 -- ---- a goal under a driver
 -- a goal's task, and the driver that it goes through
-pub record Setting : Type 0 where
+pub record GoalSettingTree : Type 0 where
   pub driver : Driver
   pub task : TaskTree
 
-abbrev pub setting_of : Driver → TaskTree → Setting
+abbrev pub setting_of : Driver → TaskTree → GoalSettingTree
 setting_of d t = record { driver = d; task = t }
 
 -- the task of the goal under a driver, which is read before the goal is looked for
-abbrev pub TaskUnder : List ℕ → List ℕ → TheoriesTree → Driver → Stage Setting
+abbrev pub TaskUnder : List ℕ → List ℕ → TheoriesTree → Driver → Stage GoalSettingTree
 TaskUnder theory goal all d = After (TaskOf theory goal all) (λ t. Answer (Ok (setting_of d t)))
 
-abbrev pub Driven : List ℕ → List ℕ → List ℕ → TheoriesTree → Meaning Setting
+abbrev pub Driven : List ℕ → List ℕ → List ℕ → TheoriesTree → StageMeaning GoalSettingTree
 Driven drv theory goal all files limit = After (DriverOf (known_of all) drv files limit) (TaskUnder theory goal all)
 
-abbrev pub GoalUnder : List ℕ → List ℕ → List ℕ → List ℕ → Meaning Setting
-GoalUnder src drv theory goal files limit = After (Source src files limit) (λ all. Driven drv theory goal all files limit)
+abbrev pub GoalUnder : List ℕ → List ℕ → List ℕ → List ℕ → StageMeaning GoalSettingTree
+GoalUnder src drv theory goal files limit = After (SourceTheoriesOf src files limit) (λ all. Driven drv theory goal all files limit)

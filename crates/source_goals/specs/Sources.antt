@@ -5,7 +5,7 @@ use Rattle.tasks.specs.Task.{TaskTree}
 use Rattle.tokens_why.specs.declared.token.Token.{Token}
 use Rattle.tokens_why.specs.Tokens.{AreTokens}
 use Rattle.syntax_why.specs.Lexeme.{rest}
-use Rattle.syntax_why.specs.Declarations.{Theory}
+use Rattle.syntax_why.specs.Declarations.{SyntaxTheory}
 use Rattle.recognise_why.specs.Sources.{IsOnlyFile}
 use Rattle.goal_tasks.specs.Theories.{TheoriesTree}
 use Rattle.goal_tasks.specs.Tasks.{IsTaskOf}
@@ -15,7 +15,7 @@ use Rattle.theories.specs.Sound.{SoundTheoriesOf}
 pub record AreSourceTheories (all : TheoriesTree) : Type 0 where
   pub text : List ℕ
   pub tokens : List Token
-  pub file : List Theory
+  pub file : List SyntaxTheory
   pub trees : List Tree
   pub lexes : AreTokens text tokens
   pub parses : IsOnlyFile (rest text tokens 0) file

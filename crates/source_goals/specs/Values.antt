@@ -7,7 +7,7 @@ use Rattle.tasks.specs.Task.{TaskTree}
 use Rattle.tasks.specs.Meaning.{task_at}
 use Rattle.tokens_why.specs.declared.token.Token.{Token}
 use Rattle.syntax_why.specs.declared.declarations.File.{File}
-use Rattle.syntax_why.specs.Declarations.{Theory as Surface}
+use Rattle.syntax_why.specs.Declarations.{SyntaxTheory as Surface}
 use Rattle.syntax_why.specs.SurfaceDeclarations.{file_of}
 use Rattle.driver_parts.specs.declared.driver.Driver.{Driver}
 use Rattle.driver_parts.specs.declared.fault.DriverFault.{DriverFault}
@@ -21,7 +21,7 @@ use Rattle.fault_order.specs.declared.faults.Fault.TheVariants as fault
 use Rattle.fault_order.specs.declared.faults.RunFault.{RunFault}
 use Rattle.fault_order.specs.declared.faults.RunFault.TheVariants as run_fault
 use Rattle.source_goals.specs.declared.setting.GoalSetting.{GoalSetting}
-use Rattle.source_goals.specs.Order.{Setting, setting_of}
+use Rattle.source_goals.specs.Order.{GoalSettingTree, setting_of}
 
 abbrev pub tokens_in : {E : Type 0} → Result (Vec Token Global) E → Result (List Token) E
 tokens_in (Ok tokens) = Ok tokens.items
@@ -39,15 +39,15 @@ abbrev pub task_in : {E : Type 0} → List Tree → Result Task E → Result Tas
 task_in s (Ok t) = Ok (task_at s t)
 task_in s (Err e) = Err e
 
-abbrev pub setting_in : {E : Type 0} → List Tree → Result GoalSetting E → Result Setting E
+abbrev pub setting_in : {E : Type 0} → List Tree → Result GoalSetting E → Result GoalSettingTree E
 setting_in s (Ok g) = Ok (setting_of g.driver (task_at s g.task))
 setting_in s (Err e) = Err e
 
 -- the number of the first file after those of a driver
-abbrev pub next_of : Driver → ℕ
-next_of d = d.next_file
+abbrev pub next_after_driver : Driver → ℕ
+next_after_driver d = d.next_file
 
-abbrev pub next_in : Setting → ℕ
+abbrev pub next_in : GoalSettingTree → ℕ
 next_in g = g.driver.next_file
 
 -- where a source has no theories

@@ -2,9 +2,9 @@
 // It depends on the reader of drivers; a goal under a driver depends on it.
 ghost use Rattle.std.specs.Prelude.{◌≡◌};
 ghost use Rattle.fault_order.specs.Answers.{Answers};
-ghost use Rattle.source_goals.specs.Known.{Known, AreKnown};
+ghost use Rattle.source_goals.specs.Known.{KnownByDriver, IsKnownAs};
 ghost use Rattle.source_goals.specs.Order.{DriverOf};
-ghost use Rattle.source_goals.specs.Values.{driver_fault, next_of};
+ghost use Rattle.source_goals.specs.Values.{driver_fault, next_after_driver};
 
 use driver_files::{Driver, DriverFault, read_driver};
 use fault_order::{Fault, RunFault};
@@ -50,8 +50,9 @@ pub fn fetch_driver<L: Library>(
     theories: &[(String, Vec<String>)],
     drv: &str,
 ) -> Result<Driver, RunFault>
-    ensures { (known : Known) → AreKnown known sig.now.symbols theories.now
-        → Answers (DriverOf known drv.now) 1 next_of (L.state lib.old) (L.state lib.new) result }
+    ensures { (known : KnownByDriver) → IsKnownAs known sig.now.symbols theories.now
+        → Answers (DriverOf known drv.now) 1 next_after_driver (L.state lib.old) (L.state lib.new)
+        result }
 {
     match read_driver(alloc, lib, sig, theories, drv) {
         Ok(driver) => Ok(driver),

@@ -2,9 +2,9 @@
 // It depends on the reader of sources; goals under a driver depend on it.
 ghost use Rattle.std.specs.Prelude.{IfOk};
 ghost use Rattle.tasks.specs.Meaning.{symbols_at, task_at, TaskHeld};
-ghost use Rattle.goal_tasks.specs.Meaning.{theories_at, AreHeld, AreTuples};
+ghost use Rattle.goal_tasks.specs.Meaning.{theories_at, AllTheoriesHeld, AreTuples};
 ghost use Rattle.fault_order.specs.Answers.{Answers, IsStageAnswer};
-ghost use Rattle.source_goals.specs.Order.{Source, Goal, TaskOf};
+ghost use Rattle.source_goals.specs.Order.{SourceTheoriesOf, Goal, TaskOf};
 ghost use Rattle.source_goals.specs.Sources.{AreSourceTheories, IsSourceTask};
 ghost use Rattle.source_goals.specs.Values.{theories_in, task_in};
 
@@ -23,9 +23,10 @@ pub fn fetch_theories<L: Library>(
     store: &mut Store,
     src: &str,
 ) -> Result<Theories, RunFault>
-    ensures answers { Answers (Source src.now) 0 (λ _. 1) (L.state lib.old) (L.state lib.new)
+    ensures answers { Answers (SourceTheoriesOf src.now) 0 (λ _. 1) (L.state lib.old)
+        (L.state lib.new)
         (theories_in store.new result) }
-    ensures held { IfOk result (AreHeld store.new) }
+    ensures held { IfOk result (AllTheoriesHeld store.new) }
     ensures tuples { IfOk result (λ all. AreTuples (symbols_at store.new all.sig.value.symbols)) }
     ensures source { IfOk result (λ all. AreSourceTheories (theories_at store.new all)) }
 {
@@ -41,7 +42,7 @@ pub fn task_in(
     theory: &str,
     goal: &str,
 ) -> Result<Task, RunFault>
-    requires held { AreHeld store.now all.now }
+    requires held { AllTheoriesHeld store.now all.now }
     requires tuples { AreTuples (symbols_at store.now all.now.sig.value.symbols) }
     requires source { AreSourceTheories (theories_at store.now all.now) }
     ensures answers { IsStageAnswer (TaskOf theory.now goal.now (theories_at store.now all.now))
@@ -59,7 +60,7 @@ pub fn task_in(
 
 /// The task of a goal of a source, by the names of its theory and of itself.
 ///
-/// The source is the first file, with the number 0. The first of these is answered, where one stands in the way: the file isn't
+/// The source is the first file, with the number 0. The first of these is answered, where one is in the way: the file isn't
 /// there, can't be read or is too long (15); what is wrong with its text (10 to 14) or with its theories (20 to 40); it has no such
 /// theory (60), or the theory no such goal (61). Else only want of memory refuses.
 pub fn find_task<L: Library>(

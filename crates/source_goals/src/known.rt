@@ -4,9 +4,9 @@ ghost use Rattle.std.specs.Prelude.{◌≡◌, ◌++◌, List, IfOk, OnOk, map, 
 ghost use Rattle.trees.specs.Tree.{Tree};
 ghost use Rattle.goal_tasks.specs.Meaning.{placed, theories_at};
 ghost use Rattle.fault_order.specs.Answers.{Answers};
-ghost use Rattle.source_goals.specs.Known.{said_in, own_in, own_at, names_in, theory_in, known_of, named_bytes};
+ghost use Rattle.source_goals.specs.Known.{said_names, own_in, own_names_at, names_in, theory_in, known_of, named_bytes};
 ghost use Rattle.source_goals.specs.Order.{DriverOf};
-ghost use Rattle.source_goals.specs.Values.{next_of};
+ghost use Rattle.source_goals.specs.Values.{next_after_driver};
 
 use crate::driver::fetch_driver;
 use driver_files::Driver;
@@ -19,7 +19,7 @@ use tasks::{Body, Decl};
 // Puts the name of a declaration after others, where it says a proposition.
 fn push_said(alloc: Global, names: &mut Vec<String>, decl: &Decl) -> Result<(), AllocError>
     ensures { OnOk result (map string_bytes names.new.items
-        ≡ map string_bytes names.old.items ++ said_in decl.now.name decl.now.body) }
+        ≡ map string_bytes names.old.items ++ said_names decl.now.name decl.now.body) }
 {
     match &decl.body {
         Body::Prop(_) => {
@@ -60,7 +60,7 @@ fn push_placed(
     place: usize,
 ) -> Result<(), AllocError>
     ensures { OnOk result (map string_bytes names.new.items
-        ≡ map string_bytes names.old.items ++ own_at path.now (slice_get decls.now place)) }
+        ≡ map string_bytes names.old.items ++ own_names_at path.now (slice_get decls.now place)) }
 {
     match decls.get(place) {
         Some(decl) => push_own(alloc, names, path, decl),
@@ -122,7 +122,7 @@ pub fn driver_over<L: Library>(
     drv: &str,
 ) -> Result<Driver, RunFault>
     ensures { (s : List Tree) → Answers (DriverOf (known_of (theories_at s all.now)) drv.now) 1
-        next_of (L.state lib.old) (L.state lib.new) result }
+        next_after_driver (L.state lib.old) (L.state lib.new) result }
 {
     let known = known_theories(alloc, &all.decls, all.list.as_slice())?;
     fetch_driver(alloc, lib, &all.sig, &known, drv)

@@ -2,7 +2,7 @@
 // It depends on the theories of a source and on the driver; `print`, `names` and `lift` depend on it.
 ghost use Rattle.std.specs.Prelude.{IfOk};
 ghost use Rattle.tasks.specs.Meaning.{symbols_at, task_at, TaskHeld};
-ghost use Rattle.goal_tasks.specs.Meaning.{theories_at, AreHeld, AreTuples};
+ghost use Rattle.goal_tasks.specs.Meaning.{theories_at, AllTheoriesHeld, AreTuples};
 ghost use Rattle.fault_order.specs.Answers.{Answers, IsStageAnswer};
 ghost use Rattle.source_goals.specs.Order.{Driven, GoalUnder, TaskUnder};
 ghost use Rattle.source_goals.specs.Sources.{AreSourceTheories, IsSourceTask};
@@ -34,7 +34,7 @@ fn task_under(
     theory: &str,
     goal: &str,
 ) -> Result<GoalSetting, RunFault>
-    requires held { AreHeld store.now all.now }
+    requires held { AllTheoriesHeld store.now all.now }
     requires tuples { AreTuples (symbols_at store.now all.now.sig.value.symbols) }
     requires source { AreSourceTheories (theories_at store.now all.now) }
     ensures answers { IsStageAnswer (TaskUnder theory.now goal.now (theories_at store.now all.now)
@@ -56,7 +56,7 @@ fn task_driven<L: Library>(
     theory: &str,
     goal: &str,
 ) -> Result<GoalSetting, RunFault>
-    requires held { AreHeld store.now all.now }
+    requires held { AllTheoriesHeld store.now all.now }
     requires tuples { AreTuples (symbols_at store.now all.now.sig.value.symbols) }
     requires source { AreSourceTheories (theories_at store.now all.now) }
     ensures answers { Answers (Driven drv.now theory.now goal.now (theories_at store.now all.now)) 1
@@ -71,7 +71,7 @@ fn task_driven<L: Library>(
 /// The task of a goal of a source, by the names of its theory and of itself, and the driver that it goes through.
 ///
 /// The source is the first file, with the number 0, and those of the driver have the numbers from 1 on. The first of these is
-/// answered, where one stands in the way: the source isn't there, can't be read or is too long (15); what is wrong with its text
+/// answered, where one is in the way: the source isn't there, can't be read or is too long (15); what is wrong with its text
 /// (10 to 14) or with its theories (20 to 40); what is wrong with the driver's files (absent, unread, 15, 50 to 55); the source has
 /// no such theory (60), or the theory no such goal (61). Else only want of memory refuses. A block of a driver for a theory that is
 /// neither in the source nor embedded is passed over.

@@ -6,7 +6,7 @@ ghost use Rattle.tokens_why.specs.Tokens.{AreTokens};
 ghost use Rattle.syntax_why.specs.Lexeme.{rest};
 ghost use Rattle.syntax_why.specs.SurfaceDeclarations.{file_of};
 ghost use Rattle.recognise_why.specs.Sources.{IsOnlyFile};
-ghost use Rattle.goal_tasks.specs.Meaning.{theories_at, AreHeld, AreTuples};
+ghost use Rattle.goal_tasks.specs.Meaning.{theories_at, AllTheoriesHeld, AreTuples};
 ghost use Rattle.theories.specs.Sound.{SoundTheoriesOf};
 ghost use Rattle.fault_order.specs.Answers.{IsStageAnswer};
 ghost use Rattle.source_goals.specs.Order.{Lexes, Parses, Declares, SourceTheories};
@@ -93,7 +93,7 @@ fn theories_of(alloc: Global, store: &mut Store, file: &File) -> Result<Theories
     ensures declares { IsStageAnswer (Declares (file_of file.now)) (theories_in store.new result) }
     ensures sound { IfOk result (λ all. SoundTheoriesOf store.old (file_of file.now)
         (theories_at store.new all)) }
-    ensures held { IfOk result (AreHeld store.new) }
+    ensures held { IfOk result (AllTheoriesHeld store.new) }
     ensures tuples { IfOk result (λ all. AreTuples (symbols_at store.new all.sig.value.symbols)) }
 {
     match type_file(alloc, store, file) {
@@ -109,7 +109,7 @@ fn theories_of(alloc: Global, store: &mut Store, file: &File) -> Result<Theories
 /// there); then, in each declaration in turn, what is wrong with its names, its types, or what is asked beside these (20 to 40).
 pub fn read_source(alloc: Global, store: &mut Store, text: &[u8]) -> Result<Theories, RunFault>
     ensures theories { IsStageAnswer (SourceTheories text.now) (theories_in store.new result) }
-    ensures held { IfOk result (AreHeld store.new) }
+    ensures held { IfOk result (AllTheoriesHeld store.new) }
     ensures tuples { IfOk result (λ all. AreTuples (symbols_at store.new all.sig.value.symbols)) }
     ensures source { IfOk result (λ all. AreSourceTheories (theories_at store.new all)) }
 {

@@ -14,7 +14,7 @@ use Rattle.syntax_why.specs.Declarations.{Element}
 use Rattle.scope_moves.specs.declared.moves.Move.{Move}
 use Rattle.scope_moves.specs.Moves.{brought, handed}
 use Rattle.elab_walk.specs.Scoped.{IsScopedEntry}
-use Rattle.valid_tasks.specs.Scopes.{IsPart}
+use Rattle.valid_tasks.specs.Scopes.{IsSubvocabulary}
 use Rattle.valid_tasks.proofs.Signed.{some_at}
 use Rattle.sound_states.specs.Moves.{AreTypedMoves}
 use Rattle.sound_states.proofs.Scopes.{moves_more}
@@ -28,20 +28,20 @@ use Rattle.theory_states.specs.Uses.{path_text, last_part, alias_text}
 use Rattle.sound_states.specs.Typed.{IsTypedState}
 use Rattle.sound_states.specs.Sound.{IsSoundAmong, IsSoundAxiom, IsSoundKnown, IsApart, IsSoundState}
 use Rattle.sound_states.proofs.Places.{later}
-use Rattle.cloned_states.specs.Steps.{Step, declarations_of, made_from}
+use Rattle.cloned_states.specs.Steps.{CopyStep, declarations_of, made_from}
 use Rattle.cloned_states.proofs.Steps.{clone_sound}
 use Rattle.cloned_states.specs.Cloned.{IsAfterClone, IsSoundClone}
 use Rattle.cloned_states.proofs.Cloned.{state_cloned}
 use Rattle.clone_elements.specs.Left.{no_declaration, decl_or}
 use Rattle.clone_elements.specs.Rights.{rights_tuples, rights_fault}
 use Rattle.clone_elements.specs.Plans.{fates_of, kept}
-use Rattle.clone_copies.specs.Origins.{Axioms, no_axioms, with_axioms, axioms_of, origin_of}
+use Rattle.clone_copies.specs.Origins.{Axioms, no_axioms, with_axioms, axioms_at, origin_of}
 use Rattle.clone_copies.specs.Entries.{entries_copied}
 use Rattle.clone_copies.specs.Moves.{AreMovesMapped}
 use Rattle.clone_copies.specs.Places.{Copying, with_places}
 use Rattle.cloned_states.specs.Placed.{ArePlaced}
-use Rattle.clone_theories.specs.Cloned.{symbols_tupled, sides_in, map_in, AreTold, within_of, copying_in, with_entries, with_names, IsCloned}
-use Rattle.cloned_states.specs.PlaceSteps.{steps_at}
+use Rattle.clone_theories.specs.Cloned.{symbols_tupled, sides_in, map_in, AreTold, within_of, copying_in, with_copied_entries, with_names, IsCloned}
+use Rattle.cloned_states.specs.PlaceSteps.{copy_steps_at}
 use Rattle.cloned_states.proofs.PlaceSteps.{places_made, cloned_places}
 use Rattle.cloned_states.proofs.Moves.{moves_become}
 use Rattle.source_laws.specs.Plain.{IsSaid, IsPlainAxiom, IsPlainTheory, IsPlainKnown, ArePlainTheories, IsPlainState}
@@ -87,7 +87,7 @@ formula_in (Defines ds) h = absurd h
 formula_in (Induces ds) h = absurd h
 formula_in (Constructs ds) h = absurd h
 
-said_at : (decls : List DeclarationTree) (as_ : List AxiomAt) → All (IsSoundAxiom decls) as_ → All (IsPlainAxiom decls) as_ → (p : ℕ) (vars : List Word) → axioms_of as_ p ≡ Some vars → IsSaidAt decls p vars
+said_at : (decls : List DeclarationTree) (as_ : List AxiomAt) → All (IsSoundAxiom decls) as_ → All (IsPlainAxiom decls) as_ → (p : ℕ) (vars : List Word) → axioms_at as_ p ≡ Some vars → IsSaidAt decls p vars
 said_at decls as_ sound plain p vars q = of (axiom_found as_ no_axioms p vars q)
   where
     by : (h : IsAxiomOf as_ p vars) → IsSaidAt decls h.found.decl h.found.vars
@@ -121,15 +121,15 @@ module _ (c : StateTree) (t : KnownTree) (es : List Element) (typed : IsTypedSta
   x = copying_in c t es within
 
   abbrev begin : StateTree
-  begin = with_entries c t es within
+  begin = with_copied_entries c t es within
 
   abbrev first : List DeclarationTree
   first = visible_now c
 
-  abbrev ss : List Step
-  ss = steps_at x c.decls t.visible
+  abbrev ss : List CopyStep
+  ss = copy_steps_at x c.decls t.visible
 
-  said : (p : ℕ) (vars : List Word) → axioms_of t.axioms p ≡ Some vars → IsSaidAt c.decls p vars
+  said : (p : ℕ) (vars : List Word) → axioms_at t.axioms p ≡ Some vars → IsSaidAt c.decls p vars
   said p vars q = said_at c.decls t.axioms known.theory.sound_axioms plain.axioms_said p vars q
 
   -- ---- places
@@ -143,11 +143,11 @@ module _ (c : StateTree) (t : KnownTree) (es : List Element) (typed : IsTypedSta
     distinct : IsDistinct done
     distinct = front_distinct done rest (subst IsDistinct (sym whole) (pairs_distinct t.visible known.theory.once))
 
-    counted : length (with_places x done begin).opened.visible ≡ length (first ++ made_from m path within first (steps_at x c.decls done))
+    counted : length (with_places x done begin).opened.visible ≡ length (first ++ made_from m path within first (copy_steps_at x c.decls done))
     counted =
         let s = with_places x done begin in
         let p = cloned_places x begin (record t { visible = done }) refl sound.opened.theory.whole sound.opened.theory.below once low distinct in
-        let made : visible_now s ≡ first ++ made_from m path within first (steps_at x c.decls done) = places_made x begin sound.opened.theory.whole sound.opened.theory.below once done low distinct in
+        let made : visible_now s ≡ first ++ made_from m path within first (copy_steps_at x c.decls done) = places_made x begin sound.opened.theory.whole sound.opened.theory.below once done low distinct in
         sym (count_places s.decls s.opened.visible p.below) ∙ ap length made
 
   abbrev end : StateTree
@@ -176,11 +176,11 @@ module _ (c : StateTree) (t : KnownTree) (es : List Element) (typed : IsTypedSta
     abbrev next : StateTree
     next = record (with_names l last alias ms end) { trees = s }
 
-    there_part : IsPart (after known.earlier [] (visible_in c t)) (after xs [] (declarations_of ss))
+    there_part : IsSubvocabulary (after known.earlier [] (visible_in c t)) (after xs [] (declarations_of ss))
     there_part =
         let e : xs ≡ known.earlier ++ (known.later ++ rights_tuples c.symbols es) = ap (λ (zs : List SymbolTree). zs ++ rights_tuples c.symbols es) known.symbols ∙ append_assoc known.earlier known.later (rights_tuples c.symbols es) in
-        subst (λ (ds : List DeclarationTree). IsPart (after known.earlier [] (visible_in c t)) (after xs [] ds)) (sym (steps_declarations x c.decls t.visible all_low))
-        (subst (λ (zs : List SymbolTree). IsPart (after known.earlier [] (visible_in c t)) (after zs [] (visible_in c t))) (sym e) (more_part known.earlier (known.later ++ rights_tuples c.symbols es) [] (visible_in c t)))
+        subst (λ (ds : List DeclarationTree). IsSubvocabulary (after known.earlier [] (visible_in c t)) (after xs [] ds)) (sym (steps_declarations x c.decls t.visible all_low))
+        (subst (λ (zs : List SymbolTree). IsSubvocabulary (after known.earlier [] (visible_in c t)) (after zs [] (visible_in c t))) (sym e) (more_part known.earlier (known.later ++ rights_tuples c.symbols es) [] (visible_in c t)))
 
     moves_typed : AreTypedMoves (after (xs ++ more) [] (first ++ made_from m path within first ss)) s ms
     moves_typed =

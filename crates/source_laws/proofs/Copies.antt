@@ -8,16 +8,16 @@ use Rattle.syntax_why.specs.declared.declarations.PropKind.{PropKind}
 use Rattle.syntax_why.specs.declared.declarations.PropKind.TheVariants as kind
 use Rattle.clones.specs.Copies.{declaration_copied}
 use Rattle.theory_states.specs.declared.states.AxiomAt.{AxiomAt}
-use Rattle.theory_states.specs.States.{StateTree, joined, with_declaration}
+use Rattle.theory_states.specs.States.{StateTree, joined_places, with_declaration}
 use Rattle.clone_elements.specs.Left.{decl_or}
 use Rattle.clone_elements.specs.Plans.{is_replaced, kind_or}
 use Rattle.clone_copies.specs.Origins.{is_own}
-use Rattle.clone_copies.specs.Places.{Copying, axiom_at, with_axiom, next_numbers, goal_of, goal_with, with_goal, with_kind, with_copy, copy_of, with_joined, with_own, with_place, with_places}
+use Rattle.clone_copies.specs.Places.{Copying, axiom_at, with_copied_axiom, next_numbers, goal_of, goal_with, with_copied_goal, with_kind, with_copy, copy_of, with_joined, with_own, with_place, with_places}
 use Rattle.same_states.specs.StateSame.{IsSameOver}
 use Rattle.same_states.proofs.Declared.{declaration_same, goals_same}
 
 module _ (s t : List Tree) where
-  axiom_same : (vars : List Word) (x y : DeclarationTree) (c d : StateTree) → x ≡ y → IsSameOver s t c d → IsSameOver s t (with_axiom vars x c) (with_axiom vars y d)
+  axiom_same : (vars : List Word) (x y : DeclarationTree) (c d : StateTree) → x ≡ y → IsSameOver s t c d → IsSameOver s t (with_copied_axiom vars x c) (with_copied_axiom vars y d)
   axiom_same vars x y c d e h =
       let next : IsSameOver s t (with_declaration x c) (with_declaration y d) = declaration_same s t x y c d e h in
       record {
@@ -56,7 +56,7 @@ module _ (s t : List Tree) where
 
   kind_same : (k : PropKind) (vars : List Word) (x : DeclarationTree) (c d : StateTree) → IsSameOver s t c d → IsSameOver s t (with_kind k vars x c) (with_kind k vars x d)
   kind_same kind.Axiom vars x c d h = axiom_same vars x x c d refl h
-  kind_same kind.Lemma vars x c d h = declaration_same s t x x (with_goal vars x c) (with_goal vars x d) refl (goal_with_same vars x.name x.body c d h)
+  kind_same kind.Lemma vars x c d h = declaration_same s t x x (with_copied_goal vars x c) (with_copied_goal vars x d) refl (goal_with_same vars x.name x.body c d h)
   kind_same kind.Goal vars x c d h = goal_with_same vars x.name x.body c d h
 
   module _ (x : Copying) where
@@ -88,7 +88,7 @@ module _ (s t : List Tree) where
         path = h.opened.path;
         within = h.opened.within;
         scope = h.opened.scope;
-        visible = ap (λ (ks : List ℕ). joined ks (k ∷ [])) h.opened.visible;
+        visible = ap (λ (ks : List ℕ). joined_places ks (k ∷ [])) h.opened.visible;
         axioms = h.opened.axioms;
         goals = h.opened.goals;
         moves = h.opened.moves;

@@ -18,7 +18,7 @@ use Rattle.syntax_why.specs.declared.declarations.PropKind.{PropKind}
 use Rattle.syntax_why.specs.declared.declarations.PropKind.TheVariants as kind
 use Rattle.clones.specs.Copies.{entry_copied}
 use Rattle.elab_parts.specs.Entries.{builtin}
-use Rattle.valid_tasks.specs.Scopes.{is_projection_kind, IsPart, IsSymbolNumber}
+use Rattle.valid_tasks.specs.Scopes.{is_projection_kind, IsSubvocabulary, IsSymbolNumber}
 use Rattle.valid_tasks.proofs.Signed.{some_at}
 use Rattle.valid_tasks.proofs.Extended.{further}
 use Rattle.valid_tasks.specs.Valid.{IsTypedSetting}
@@ -30,17 +30,17 @@ use Rattle.valid_tasks.specs.Tasks.{AreSound}
 use Rattle.valid_tasks.proofs.Grown.{more_part, sound_more}
 use Rattle.sound_states.specs.Morphisms.{TypeBecomes, KindBecomes, HasMappedTypes}
 use Rattle.theory_states.specs.States.{KnownTree, StateTree, visible_in, visible_now}
-use Rattle.sound_states.specs.Typed.{setting, IsTypedState}
+use Rattle.sound_states.specs.Typed.{state_setting, IsTypedState}
 use Rattle.sound_states.specs.Sound.{IsSoundKnown, IsApart, IsSoundState}
 use Rattle.sound_states.proofs.Places.{here, later, in_places}
-use Rattle.cloned_states.specs.Cloning.{IsImage, IsNew, IsFixed, KeepsBuilt}
+use Rattle.cloned_states.specs.Cloning.{IsImage, BecomesNew, IsFixed, KeepsBuilt}
 use Rattle.cloned_states.specs.Steps.{copies, leaves, joins, StepFits}
 use Rattle.cloned_states.proofs.Vocabularies.{slice_or, made_below}
 use Rattle.cloned_states.proofs.Trials.{signatures_agree}
 use Rattle.clone_elements.specs.Left.{Origin, no_declaration, decl_or, last_place}
 use Rattle.clone_elements.specs.Rights.{rights_tuples, rights_fault}
-use Rattle.clone_elements.specs.Plans.{Side, Fates, no_fates, fates_of, is_replaced, kind_or, has_all, types_replaced, symbols_replaced, kept}
-use Rattle.clone_copies.specs.Origins.{is_own, axioms_of, origin_of}
+use Rattle.clone_elements.specs.Plans.{SideTree, PlacedFates, no_fates, fates_of, is_replaced, kind_or, has_all, types_replaced, symbols_replaced, kept}
+use Rattle.clone_copies.specs.Origins.{is_own, axioms_at, origin_of}
 use Rattle.clone_copies.specs.Entries.{entries_copied}
 use Rattle.clone_copies.specs.Places.{Copying}
 use Rattle.cloned_states.specs.Placed.{ArePlaced}
@@ -48,7 +48,7 @@ use Rattle.cloned_states.specs.Sides.{IsTypedSide, with_rights}
 use Rattle.cloned_states.proofs.Rights.{all_typed, rights_typed, rights_built}
 use Rattle.cloned_states.proofs.Copies.{or_typed, tupled_placed}
 use Rattle.clone_theories.specs.Cloned.{symbols_tupled, sides_in, tried_in, map_in, AreTold, copying_in}
-use Rattle.cloned_states.specs.PlaceSteps.{step_as, step_of, step_at, steps_at}
+use Rattle.cloned_states.specs.PlaceSteps.{step_as, step_of, copy_step_at, copy_steps_at}
 use Rattle.source_laws.specs.Plain.{IsSaid}
 use Rattle.source_laws.proofs.Numbers.{IsReplacedBy, type_cases}
 use Rattle.source_laws.proofs.Lefts.{kinds_become, sides_read}
@@ -96,7 +96,7 @@ module _ (c : StateTree) (t : KnownTree) (es : List Element) (rest : List Symbol
   abbrev tuples : List SymbolTree
   tuples = rights_tuples c.symbols es
 
-  abbrev sides : List Side
+  abbrev sides : List SideTree
   sides = sides_in c t es
 
   abbrev m : Map
@@ -105,7 +105,7 @@ module _ (c : StateTree) (t : KnownTree) (es : List Element) (rest : List Symbol
   abbrev tried : Map
   tried = tried_in c t es
 
-  abbrev final : Fates
+  abbrev final : PlacedFates
   final = fates_of sides
 
   abbrev path : Word
@@ -150,29 +150,29 @@ module _ (c : StateTree) (t : KnownTree) (es : List Element) (rest : List Symbol
       let e : xs ≡ known.earlier ++ (known.later ++ tuples) = ap (λ (zs : List SymbolTree). zs ++ tuples) known.symbols ∙ append_assoc known.earlier known.later tuples in
       subst (λ (zs : List SymbolTree). AreSound zs (visible_in c t)) (sym e) (sound_more known.earlier (known.later ++ tuples) (visible_in c t) known.theory.sound (subst IsBuiltRight e tupled_built))
 
-  part : IsPart old w
-  part = subst (λ (zs : List SymbolTree). IsPart old (after zs [] first)) (sym grown) (more_part c.symbols (tuples ++ more) [] first)
+  part : IsSubvocabulary old w
+  part = subst (λ (zs : List SymbolTree). IsSubvocabulary old (after zs [] first)) (sym grown) (more_part c.symbols (tuples ++ more) [] first)
 
-  typed_setting : IsTypedSetting (of_signature c.symbols) (setting c)
+  typed_setting : IsTypedSetting (of_signature c.symbols) (state_setting c)
   typed_setting = record { theory = typed.theory; source = typed.source; signature = typed.theories.signature; scopes = typed.scopes }
 
-  pub tupled_setting : IsTypedSetting u (with_rights (setting c) es)
-  tupled_setting = all_typed es (setting c) typed_setting names
+  pub tupled_setting : IsTypedSetting u (with_rights (state_setting c) es)
+  tupled_setting = all_typed es (state_setting c) typed_setting names
 
-  setting_after : IsTypedSetting w (setting c)
+  setting_after : IsTypedSetting w (state_setting c)
   setting_after =
-      let h : IsTypedSetting old (setting c) = record { theory = typed.theory; source = typed.source; signature = sound.opened.theory.signature; scopes = sound.opened.scopes } in
-      subst (λ (zs : List SymbolTree). IsTypedSetting (after zs [] first) (setting c)) (sym grown) (agrees old (after (c.symbols ++ (tuples ++ more)) [] first) (setting c) (agree c.symbols (tuples ++ more) first) h)
+      let h : IsTypedSetting old (state_setting c) = record { theory = typed.theory; source = typed.source; signature = sound.opened.theory.signature; scopes = sound.opened.scopes } in
+      subst (λ (zs : List SymbolTree). IsTypedSetting (after zs [] first) (state_setting c)) (sym grown) (agrees old (after (c.symbols ++ (tuples ++ more)) [] first) (state_setting c) (agree c.symbols (tuples ++ more) first) h)
 
   -- ---- right sides
   abbrev places : Word → Option ℕ
   places = λ x. last_place c.symbols o x None o.own
 
   types_there : All (IsTypedSide w) sides
-  types_there = sides_after all first places es (setting c) more refl setting_after names
+  types_there = sides_after all first places es (state_setting c) more refl setting_after names
 
   types_tupled : All (IsTypedSide u) sides
-  types_tupled = rights_typed places es (setting c) typed_setting names
+  types_tupled = rights_typed places es (state_setting c) typed_setting names
 
   number : (q : ℕ × ℕ) → Contains (symbols_replaced o sides) q → IsSymbolNumber old q.1
   number q z = right_numbers old c.trees c.opened.scope sound.opened.scopes places o es c.symbols names q z
@@ -203,7 +203,7 @@ module _ (c : StateTree) (t : KnownTree) (es : List Element) (rest : List Symbol
 
   -- ---- copies
   module _ (p : ℕ) (own : Contains o.own p) (free : is_replaced (final p) ≡ false) where
-    new : (k : ℕ) → MakesAt p k → IsNew xs all m path within k × (Contains (made first) (m.symbols k) → ⊥)
+    new : (k : ℕ) → MakesAt p k → BecomesNew xs all m path within k × (Contains (made first) (m.symbols k) → ⊥)
     new k z =
         let read = sides_read c.symbols o c.trees c.opened.scope es c.symbols in
         let at = copied_at c.symbols xs c.decls t sides source_sound read told below p k own free z in
@@ -250,7 +250,7 @@ module _ (c : StateTree) (t : KnownTree) (es : List Element) (rest : List Symbol
       of (inr z) = absurd (let y : None ≡ Some e = sym z.1 ∙ q in cc)
 
   entry_types : (k : ℕ) → HasTypes u (symbol_or xs k)
-  entry_types k = (or_typed xs tupled_setting.signature (tupled_placed (setting c) o es path within placed) k).types
+  entry_types k = (or_typed xs tupled_setting.signature (tupled_placed (state_setting c) o es path within placed) k).types
 
   same_types : (k j : ℕ) → IsSymbolReplaced c.symbols xs o tried final k j → HasMappedTypes m (symbol_or xs k) (symbol_or xs j)
   same_types k j x =
@@ -324,7 +324,7 @@ module _ (c : StateTree) (t : KnownTree) (es : List Element) (rest : List Symbol
   abbrev x : Copying
   x = copying_in c t es within
 
-  step_fits : (p : ℕ) → Contains t.visible p → p < length c.decls → ((vars : List Word) → axioms_of t.axioms p ≡ Some vars → IsSaid (body_of p)) → StepFits xs m all path within first (step_at x c.decls p)
+  step_fits : (p : ℕ) → Contains t.visible p → p < length c.decls → ((vars : List Word) → axioms_at t.axioms p ≡ Some vars → IsSaid (body_of p)) → StepFits xs m all path within first (copy_step_at x c.decls p)
   step_fits p v l said = of (is_own c.decls t.path p) (is_replaced (final p)) refl refl
     where
       by_kind : (own : Contains o.own p) (free : is_replaced (final p) ≡ false) → IsSaid (body_of p) → (k : PropKind) → StepFits xs m all path within first (step_as k (decl_or c.decls p))
@@ -332,19 +332,19 @@ module _ (c : StateTree) (t : KnownTree) (es : List Element) (rest : List Symbol
       by_kind own free h kind.Axiom = fits_copies p own free
       by_kind own free h kind.Lemma = fits_copies p own free
 
-      by_axiom : (own : Contains o.own p) (free : is_replaced (final p) ≡ false) (a : Option (List Word)) → axioms_of t.axioms p ≡ a → StepFits xs m all path within first (step_of x p a (decl_or c.decls p))
+      by_axiom : (own : Contains o.own p) (free : is_replaced (final p) ≡ false) (a : Option (List Word)) → axioms_at t.axioms p ≡ a → StepFits xs m all path within first (step_of x p a (decl_or c.decls p))
       by_axiom own free None q = fits_copies p own free
       by_axiom own free (Some vars) q = by_kind own free (said vars q) (kind_or (final p) (has_all sides))
 
-      of : (a r : Bool) → is_own c.decls t.path p ≡ a → is_replaced (final p) ≡ r → StepFits xs m all path within first (if a then (if r then leaves (decl_or c.decls p) else step_of x p (axioms_of t.axioms p) (decl_or c.decls p)) else joins (decl_or c.decls p))
+      of : (a r : Bool) → is_own c.decls t.path p ≡ a → is_replaced (final p) ≡ r → StepFits xs m all path within first (if a then (if r then leaves (decl_or c.decls p) else step_of x p (axioms_at t.axioms p) (decl_or c.decls p)) else joins (decl_or c.decls p))
       of true true q z = fits_replaced p v z
-      of true false q z = by_axiom (own_there c.decls t.path t.visible p v q) z (axioms_of t.axioms p) refl
+      of true false q z = by_axiom (own_there c.decls t.path t.visible p v q) z (axioms_at t.axioms p) refl
       of false r q z = fits_joins p v l q
 
-  pub steps_fit : (ks : List ℕ) → ((p : ℕ) → Contains ks p → Contains t.visible p) → All (λ (p : ℕ). p < length c.decls) t.visible → ((p : ℕ) (vars : List Word) → axioms_of t.axioms p ≡ Some vars → IsSaid (body_of p)) → All (StepFits xs m all path within first) (steps_at x c.decls ks)
+  pub steps_fit : (ks : List ℕ) → ((p : ℕ) → Contains ks p → Contains t.visible p) → All (λ (p : ℕ). p < length c.decls) t.visible → ((p : ℕ) (vars : List Word) → axioms_at t.axioms p ≡ Some vars → IsSaid (body_of p)) → All (StepFits xs m all path within first) (copy_steps_at x c.decls ks)
   steps_fit [] sub low said = All-nil (StepFits xs m all path within first)
   steps_fit (p ∷ ks) sub low said =
       let v = sub p (here p ks) in
-      All-cons (StepFits xs m all path within first) (step_at x c.decls p) (steps_at x c.decls ks)
+      All-cons (StepFits xs m all path within first) (copy_step_at x c.decls p) (copy_steps_at x c.decls ks)
       (step_fits p v (All-contains (λ (i : ℕ). i < length c.decls) t.visible p low v) (said p))
       (steps_fit ks (λ i z. sub i (later p i ks z)) low said)

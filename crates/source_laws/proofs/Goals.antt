@@ -30,12 +30,12 @@ use Rattle.sound_states.proofs.Trees.{formula_mapped}
 use Rattle.goal_tasks.specs.Theories.{GoalTree}
 use Rattle.theory_states.specs.declared.states.AxiomAt.{AxiomAt}
 use Rattle.theory_states.specs.States.{KnownTree, StateTree, visible_in, visible_now, with_declaration}
-use Rattle.sound_states.specs.Typed.{setting, IsTypedState}
+use Rattle.sound_states.specs.Typed.{state_setting, IsTypedState}
 use Rattle.sound_states.specs.Sound.{is_other, others, IsSoundAmong, IsSoundAxiom, IsSoundKnown, IsApart, IsSoundState}
 use Rattle.sound_states.proofs.Places.{there, further, places_agree}
 use Rattle.sound_states.proofs.Used.{among_more}
 use Rattle.cloned_states.specs.Cloning.{AreMadeRight, IsCloning, IsMadeRight}
-use Rattle.cloned_states.specs.Steps.{Step, declaration_of, declarations_of, made_from, IsClone}
+use Rattle.cloned_states.specs.Steps.{CopyStep, declaration_of, declarations_of, made_from, IsClone}
 use Rattle.cloned_states.proofs.Vocabularies.{typed_list}
 use Rattle.cloned_states.proofs.Signatures.{made_right}
 use Rattle.cloned_states.proofs.Taken.{cloning_left}
@@ -46,13 +46,13 @@ use Rattle.cloned_states.proofs.Entries.{further_typed, variables_built}
 use Rattle.clone_elements.specs.Left.{Origin, decl_or}
 use Rattle.clone_elements.specs.Rights.{rights_tuples, rights_fault}
 use Rattle.clone_elements.specs.Plans.{fates_of, is_replaced, kind_or, kept}
-use Rattle.clone_copies.specs.Origins.{is_own, axioms_of, origin_of}
+use Rattle.clone_copies.specs.Origins.{is_own, axioms_at, origin_of}
 use Rattle.clone_copies.specs.Entries.{entries_copied}
-use Rattle.clone_copies.specs.Places.{Copying, axiom_at, with_axiom, next_numbers, goal_of, goal_with, with_kind, with_copy, copy_of, with_joined, with_place, with_places}
+use Rattle.clone_copies.specs.Places.{Copying, axiom_at, with_copied_axiom, next_numbers, goal_of, goal_with, with_kind, with_copy, copy_of, with_joined, with_place, with_places}
 use Rattle.cloned_states.specs.Placed.{ArePlaced}
 use Rattle.cloned_states.proofs.Copies.{all_copies_typed}
-use Rattle.clone_theories.specs.Cloned.{symbols_tupled, sides_in, map_in, AreTold, copying_in, with_entries}
-use Rattle.cloned_states.specs.PlaceSteps.{steps_at}
+use Rattle.clone_theories.specs.Cloned.{symbols_tupled, sides_in, map_in, AreTold, copying_in, with_copied_entries}
+use Rattle.cloned_states.specs.PlaceSteps.{copy_steps_at}
 use Rattle.source_laws.specs.Plain.{IsSaid, IsPlainAxiom}
 use Rattle.source_laws.proofs.Lists.{front_all, last_at, plain_more}
 use Rattle.source_laws.proofs.Steps.{step_is, steps_declarations, steps_taken, steps_both, right_after, made_both}
@@ -159,7 +159,7 @@ declared_grown d s = record {
   goals_are = sym (append-nil s.opened.goals);
 }
 
-axiom_added : (vars : List Word) (d : DeclarationTree) (s : StateTree) → IsGrown s (with_axiom vars d s) [] (d ∷ []) (axiom_at (length s.decls) vars ∷ []) []
+axiom_added : (vars : List Word) (d : DeclarationTree) (s : StateTree) → IsGrown s (with_copied_axiom vars d s) [] (d ∷ []) (axiom_at (length s.decls) vars ∷ []) []
 axiom_added vars d s = record {
   trees = refl;
   symbols = sym (append-nil s.symbols);
@@ -203,7 +203,7 @@ lemma_added vars d e s = record {
 }
 
 module _ (c : StateTree) (t : KnownTree) (es : List Element) (typed : IsTypedState c) (placed : ArePlaced c.symbols) (sound : IsSoundState c) (known : IsSoundKnown c.trees c.symbols c.decls t) (apart : IsApart c.decls c.opened.path t)
-    (names : rights_fault c.trees c.symbols c.opened.scope es ≡ None) (told : AreTold c t es None) (within : Word) (said : (p : ℕ) (vars : List Word) → axioms_of t.axioms p ≡ Some vars → IsSaidAt c.decls p vars) where
+    (names : rights_fault c.trees c.symbols c.opened.scope es ≡ None) (told : AreTold c t es None) (within : Word) (said : (p : ℕ) (vars : List Word) → axioms_at t.axioms p ≡ Some vars → IsSaidAt c.decls p vars) where
   abbrev o : Origin
   o = origin_of c.decls t
 
@@ -226,7 +226,7 @@ module _ (c : StateTree) (t : KnownTree) (es : List Element) (typed : IsTypedSta
   x = copying_in c t es within
 
   abbrev begin : StateTree
-  begin = with_entries c t es within
+  begin = with_copied_entries c t es within
 
   abbrev first : List DeclarationTree
   first = visible_now c
@@ -238,8 +238,8 @@ module _ (c : StateTree) (t : KnownTree) (es : List Element) (typed : IsTypedSta
   abbrev all_of : List Word → List SymbolTree
   all_of us = xs ++ more_of us
 
-  abbrev steps_of : List ℕ → List Step
-  steps_of done = steps_at x c.decls done
+  abbrev steps_of : List ℕ → List CopyStep
+  steps_of done = copy_steps_at x c.decls done
 
   -- after some places
   abbrev now_of : List ℕ → List DeclarationTree
@@ -253,7 +253,7 @@ module _ (c : StateTree) (t : KnownTree) (es : List Element) (typed : IsTypedSta
 
   now_both : (done more : List ℕ) → now_of (done ++ more) ≡ now_of done ++ made_from m path within first (steps_of more)
   now_both done more =
-      ap (λ (ss : List Step). first ++ made_from m path within first ss) (steps_both x c.decls done more)
+      ap (λ (ss : List CopyStep). first ++ made_from m path within first ss) (steps_both x c.decls done more)
       ∙ (ap (λ (ds : List DeclarationTree). first ++ ds) (made_both m path within first (steps_of done) (steps_of more))
       ∙ sym (append_assoc first (made_from m path within first (steps_of done)) (made_from m path within first (steps_of more))))
 
@@ -268,14 +268,14 @@ module _ (c : StateTree) (t : KnownTree) (es : List Element) (typed : IsTypedSta
   copies_scoped =
       let setting_now = tupled_setting c t es [] typed placed sound known apart names told within in
       let entries : All (IsTypedEntry (of_signature (xs ++ copies))) copies =
-      all_copies_typed (setting c) o es path within placed (record { theory = typed.theory; source = typed.source; signature = typed.theories.signature; scopes = typed.scopes }) names typed.theory in
+      all_copies_typed (state_setting c) o es path within placed (record { theory = typed.theory; source = typed.source; signature = typed.theories.signature; scopes = typed.scopes }) names typed.theory in
       (further_typed xs copies setting_now.signature entries (All-map IsGrounded (λ k. entry_copied m path within (symbol_or xs k)) ks (λ i d b q. typed.theory))).scoped
 
   pub scoped : (us : List Word) → All IsScopedEntry (all_of us)
   scoped us = subst (All IsScopedEntry) (append_assoc xs copies (map rigid_symbol us)) (All-append IsScopedEntry (xs ++ copies) (map rigid_symbol us) copies_scoped (rigids_scoped us))
 
   -- ---- the clone
-  is_said : (p : ℕ) (vars : List Word) → axioms_of t.axioms p ≡ Some vars → IsSaid (decl_or c.decls p).body
+  is_said : (p : ℕ) (vars : List Word) → axioms_at t.axioms p ≡ Some vars → IsSaid (decl_or c.decls p).body
   is_said p vars q = let z = said p vars q in said_is (decl_or c.decls p).body z.formula z.body
 
   grown : (us : List Word) → all_of us ≡ c.symbols ++ (rights_tuples c.symbols es ++ more_of us)
@@ -449,8 +449,8 @@ module _ (c : StateTree) (t : KnownTree) (es : List Element) (typed : IsTypedSta
         said = λ e q. subst (λ (y : DeclarationTree). IsSaid y.body) (last_at s.decls copy e q) (said_is copy.body formula copy_says);
       }
 
-      axiom_next : IsReached (done ++ k ∷ []) (with_axiom vars copy s)
-      axiom_next = reached_next done k s (with_axiom vars copy s) [] (copy ∷ []) (axiom_at (length s.decls) vars ∷ []) [] h (axiom_added vars copy s) one_of
+      axiom_next : IsReached (done ++ k ∷ []) (with_copied_axiom vars copy s)
+      axiom_next = reached_next done k s (with_copied_axiom vars copy s) [] (copy ∷ []) (axiom_at (length s.decls) vars ∷ []) [] h (axiom_added vars copy s) one_of
           (All-cons (IsSoundAxiom (s.decls ++ copy ∷ [])) (axiom_at (length s.decls) vars) [] axiom_sound (All-nil (IsSoundAxiom (s.decls ++ copy ∷ []))))
           (All-cons (IsPlainAxiom (s.decls ++ copy ∷ [])) (axiom_at (length s.decls) vars) [] axiom_plain (All-nil (IsPlainAxiom (s.decls ++ copy ∷ []))))
           (All-nil (IsSoundAmong (all_of (h.us ++ [])) (now_of (done ++ k ∷ []))))
@@ -497,16 +497,16 @@ module _ (c : StateTree) (t : KnownTree) (es : List Element) (typed : IsTypedSta
       by_kind kind.Lemma = subst (λ (b : BodyTree). IsReached (done ++ k ∷ []) (with_declaration copy (goal_with vars copy.name b s))) (sym copy_says) lemma_next
       by_kind kind.Goal = subst (λ (b : BodyTree). IsReached (done ++ k ∷ []) (goal_with vars copy.name b s)) (sym copy_says) goal_next
 
-    by_axiom : (a : Option (List Word)) → axioms_of t.axioms k ≡ a → IsReached (done ++ k ∷ []) (with_copy x k a copy s)
+    by_axiom : (a : Option (List Word)) → axioms_at t.axioms k ≡ a → IsReached (done ++ k ∷ []) (with_copy x k a copy s)
     by_axiom None q = copied_next
     by_axiom (Some vars) q = by_kind vars (said k vars q) (kind_or (x.fates k) x.all)
 
     place_next : IsReached (done ++ k ∷ []) (with_place x k s)
     place_next = of (is_own s.decls x.path k) (is_replaced (x.fates k))
       where
-        of : (a r : Bool) → IsReached (done ++ k ∷ []) (if a then (if r then s else with_copy x k (axioms_of t.axioms k) copy s) else with_joined k s)
+        of : (a r : Bool) → IsReached (done ++ k ∷ []) (if a then (if r then s else with_copy x k (axioms_at t.axioms k) copy s) else with_joined k s)
         of true true = nothing_added done k s s h (itself_grown s)
-        of true false = by_axiom (axioms_of t.axioms k) refl
+        of true false = by_axiom (axioms_at t.axioms k) refl
         of false r = nothing_added done k s (with_joined k s) h (joined_grown k s)
 
   -- ---- all places

@@ -6,7 +6,7 @@ use Rattle.tasks.specs.declared.signature.SymbolKind.{SymbolKind}
 use Rattle.tasks.specs.declared.signature.SymbolKind.TheVariants as symbol
 use Rattle.tasks.specs.Task.{SymbolTree, symbol_or, BodyTree, MakesType, Makes, Defines, Induces, Constructs, Says}
 use Rattle.tasks.specs.Typing.{MakesTerms}
-use Rattle.names_space.specs.Names.{Names}
+use Rattle.names_space.specs.Names.{ScopeNames}
 use Rattle.syntax_why.specs.Lexeme.{Word}
 use Rattle.syntax_why.specs.declared.declarations.SymbolWord.{SymbolWord}
 use Rattle.syntax_why.specs.declared.declarations.SymbolWord.TheVariants as word
@@ -16,21 +16,21 @@ use Rattle.sound_states.specs.Morphisms.{KindBecomes}
 use Rattle.sound_states.proofs.Places.{here, later}
 use Rattle.clone_elements.specs.declared.left.Abstract.{Abstract}
 use Rattle.clone_elements.specs.declared.left.Abstract.TheVariants as abstract
-use Rattle.clone_elements.specs.Left.{Origin, decl_or, called_text, kind_of_symbol, kind_of_word, kind_of_proposition, kind_of_body, letter, key, key_with, key_of, element_key, is_key, place_after, last_place, place_by}
-use Rattle.clone_elements.specs.Rights.{RightTree, is_type, is_symbol, is_nothing, right_made, right_tuples}
-use Rattle.clone_elements.specs.Plans.{Side, sides_made}
-use Rattle.clone_elements.specs.Elements.{is_kind}
+use Rattle.clone_elements.specs.Left.{Origin, decl_or, called_text, kind_of_symbol, kind_of_word, kind_of_proposition, kind_of_body, kind_letter, key, key_with, left_key, element_key, is_key, place_after, last_place, place_by}
+use Rattle.clone_elements.specs.Rights.{RightTree, type_right, symbol_right, no_right, right_made, right_tuples}
+use Rattle.clone_elements.specs.Plans.{SideTree, sides_made}
+use Rattle.clone_elements.specs.Elements.{is_kind_of_word}
 
 -- ---- the last declaration with a key
 pub record IsNamed (symbols : List SymbolTree) (o : Origin) (x : Word) (place : ℕ) : Type 0 where
   pub own : Contains o.own place
-  pub key : is_key x (key_of symbols (o.axioms place) (decl_or o.decls place)) ≡ true
+  pub key : is_key x (left_key symbols (o.axioms place) (decl_or o.decls place)) ≡ true
 
 module _ (symbols : List SymbolTree) (o : Origin) (x : Word) where
   after_named : (found : Option ℕ) (k : ℕ) → Contains o.own k → IfSome found (IsNamed symbols o x) → IfSome (place_after symbols o x found k) (IsNamed symbols o x)
-  after_named found k i h = of (is_key x (key_of symbols (o.axioms k) (decl_or o.decls k))) refl
+  after_named found k i h = of (is_key x (left_key symbols (o.axioms k) (decl_or o.decls k))) refl
     where
-      of : (b : Bool) → is_key x (key_of symbols (o.axioms k) (decl_or o.decls k)) ≡ b → IfSome (if b then Some k else found) (IsNamed symbols o x)
+      of : (b : Bool) → is_key x (left_key symbols (o.axioms k) (decl_or o.decls k)) ≡ b → IfSome (if b then Some k else found) (IsNamed symbols o x)
       of true q = record { own = i; key = q }
       of false q = h
 
@@ -45,20 +45,20 @@ module _ (symbols : List SymbolTree) (o : Origin) (x : Word) where
 pub record IsKindOf (w : SymbolWord) (k : SymbolKind) : Type 0 where
   pub kind : Abstract
   pub has : kind_of_symbol k ≡ Some kind
-  pub same : letter (kind_of_word w) ≡ letter kind
+  pub same : kind_letter (kind_of_word w) ≡ kind_letter kind
 
-keyed : (x y : Abstract) (name own : Word) → is_key (key x name) (key_with own (Some y)) ≡ true → letter x ≡ letter y
-keyed x y name own q = let same : letter y ∷ own ≡ letter x ∷ name = same_word (key y own) (key x name) q in cc
+keyed : (x y : Abstract) (name own : Word) → is_key (key x name) (key_with own (Some y)) ≡ true → kind_letter x ≡ kind_letter y
+keyed x y name own q = let same : kind_letter y ∷ own ≡ kind_letter x ∷ name = same_word (key y own) (key x name) q in cc
 
 no_key : {X : Type 0} → false ≡ true → X
 no_key q = absurd (cc)
 
-not_type : (w : SymbolWord) → letter (kind_of_word w) ≢ letter abstract.Type
+not_type : (w : SymbolWord) → kind_letter (kind_of_word w) ≢ kind_letter abstract.Type
 not_type word.Predicate q = absurd (omega (arith, q))
 not_type word.Function q = absurd (omega (arith, q))
 not_type word.Constant q = absurd (omega (arith, q))
 
-not_axiom : (w : SymbolWord) → letter (kind_of_word w) ≢ letter abstract.Axiom
+not_axiom : (w : SymbolWord) → kind_letter (kind_of_word w) ≢ kind_letter abstract.Axiom
 not_axiom word.Predicate q = absurd (omega (arith, q))
 not_axiom word.Function q = absurd (omega (arith, q))
 not_axiom word.Constant q = absurd (omega (arith, q))
@@ -110,41 +110,41 @@ module _ (symbols : List SymbolTree) (name own : Word) (assumed : Bool) where
     symbol_body (Constructs ds) q = no_key q
 
 -- ---- a symbol of another one's kind
-predicate_kind : (j : SymbolKind) → is_kind j word.Predicate ≡ true → j ≡ symbol.Predicate
+predicate_kind : (j : SymbolKind) → is_kind_of_word j word.Predicate ≡ true → j ≡ symbol.Predicate
 predicate_kind symbol.Kind q = no_key q
 predicate_kind symbol.Predicate q = refl
 predicate_kind symbol.Function q = no_key q
 predicate_kind symbol.Constructor q = no_key q
 predicate_kind symbol.Projection q = no_key q
 
-function_kind : (j : SymbolKind) → is_kind j word.Function ≡ true → MakesTerms j
+function_kind : (j : SymbolKind) → is_kind_of_word j word.Function ≡ true → MakesTerms j
 function_kind symbol.Kind q = no_key q
 function_kind symbol.Predicate q = no_key q
 function_kind symbol.Function q = tt
 function_kind symbol.Constructor q = tt
 function_kind symbol.Projection q = tt
 
-constant_kind : (j : SymbolKind) → is_kind j word.Constant ≡ true → MakesTerms j
+constant_kind : (j : SymbolKind) → is_kind_of_word j word.Constant ≡ true → MakesTerms j
 constant_kind symbol.Kind q = no_key q
 constant_kind symbol.Predicate q = no_key q
 constant_kind symbol.Function q = tt
 constant_kind symbol.Constructor q = tt
 constant_kind symbol.Projection q = tt
 
-terms_kind : (w : SymbolWord) (j : SymbolKind) → letter (kind_of_word w) ≡ letter abstract.Function → is_kind j w ≡ true → MakesTerms j
+terms_kind : (w : SymbolWord) (j : SymbolKind) → kind_letter (kind_of_word w) ≡ kind_letter abstract.Function → is_kind_of_word j w ≡ true → MakesTerms j
 terms_kind word.Predicate j e q = absurd (omega (arith, e))
 terms_kind word.Function j e q = function_kind j q
 terms_kind word.Constant j e q = constant_kind j q
 
-said_kind : (w : SymbolWord) (j : SymbolKind) → letter (kind_of_word w) ≡ letter abstract.Predicate → is_kind j w ≡ true → j ≡ symbol.Predicate
+said_kind : (w : SymbolWord) (j : SymbolKind) → kind_letter (kind_of_word w) ≡ kind_letter abstract.Predicate → is_kind_of_word j w ≡ true → j ≡ symbol.Predicate
 said_kind word.Predicate j e q = predicate_kind j q
 said_kind word.Function j e q = absurd (omega (arith, e))
 said_kind word.Constant j e q = absurd (omega (arith, e))
 
-of_letter : (w : SymbolWord) (x y : Abstract) → Some x ≡ Some y → letter (kind_of_word w) ≡ letter y → letter (kind_of_word w) ≡ letter x
-of_letter w x y z e = let same : y ≡ x = cc in e ∙ ap letter same
+of_letter : (w : SymbolWord) (x y : Abstract) → Some x ≡ Some y → kind_letter (kind_of_word w) ≡ kind_letter y → kind_letter (kind_of_word w) ≡ kind_letter x
+of_letter w x y z e = let same : y ≡ x = cc in e ∙ ap kind_letter same
 
-pub kinds_become : (k j : SymbolKind) (w : SymbolWord) → IsKindOf w k → is_kind j w ≡ true → KindBecomes k j
+pub kinds_become : (k j : SymbolKind) (w : SymbolWord) → IsKindOf w k → is_kind_of_word j w ≡ true → KindBecomes k j
 kinds_become symbol.Kind j w h q = absurd (let z : None ≡ Some h.kind = h.has in cc)
 kinds_become symbol.Predicate j w h q = said_kind w j (of_letter w abstract.Predicate h.kind h.has h.same) q
 kinds_become symbol.Function j w h q = terms_kind w j (of_letter w abstract.Function h.kind h.has h.same) q
@@ -171,13 +171,13 @@ IsLeft symbols o (all_axioms i) left = Unit {0}
 
 -- the form of the right side
 abbrev pub IsFormed : Element → RightTree → Type 0
-IsFormed (type_element i c vs f) (is_type t) = Unit {0}
-IsFormed (symbol_element i w c d) (is_symbol k) = Unit {0}
-IsFormed (prop_element i k c) is_nothing = Unit {0}
-IsFormed (all_axioms i) is_nothing = Unit {0}
+IsFormed (type_element i c vs f) (type_right t) = Unit {0}
+IsFormed (symbol_element i w c d) (symbol_right k) = Unit {0}
+IsFormed (prop_element i k c) no_right = Unit {0}
+IsFormed (all_axioms i) no_right = Unit {0}
 IsFormed e r = ⊥
 
-pub record IsRead (symbols : List SymbolTree) (o : Origin) (x : Side) : Type 0 where
+pub record IsRead (symbols : List SymbolTree) (o : Origin) (x : SideTree) : Type 0 where
   pub left : IsLeft symbols o x.element x.left
   pub formed : IsFormed x.element x.right
 
@@ -199,7 +199,7 @@ module _ (symbols : List SymbolTree) (o : Origin) where
   left_of (prop_element i k c) = tt
   left_of (all_axioms i) = tt
 
-  module _ (s : List Tree) (names : Names) where
+  module _ (s : List Tree) (names : ScopeNames) where
     formed : (now : List SymbolTree) (e : Element) → IsFormed e (right_made s now names e)
     formed now (type_element i c vs f) = tt
     formed now (symbol_element i w c d) = tt

@@ -5,11 +5,11 @@ use Rattle.tokens_why.specs.Tokens.{Reads, AreTokens}
 use Rattle.tokens_why.specs.Tokens as text
 use Rattle.tokens_why.proofs.TurnLemmas.{Turn, first, turn, Reading, stopped}
 use Rattle.syntax_why.specs.Lexeme.{rest}
-use Rattle.syntax_why.specs.Declarations.{Theory}
+use Rattle.syntax_why.specs.Declarations.{SyntaxTheory}
 use Rattle.syntax_why.specs.declared.declarations.File.{File}
 use Rattle.syntax_why.specs.SurfaceDeclarations.{file_of}
 use Rattle.recognise_why.specs.Sources.{IsOnlyFile}
-use Rattle.std_theories.specs.Library.{Entry, IsFileOfText, AreFilesOf}
+use Rattle.std_theories.specs.Library.{LibraryEntry, IsFileOfText, AreFilesOf}
 use Rattle.theory_states.specs.declared.fault.SourceFault.{SourceFault}
 use Rattle.theory_states.specs.States.{StateTree}
 use Rattle.theories.specs.Typing.{Steps}
@@ -36,7 +36,7 @@ AreSameFiles [] [] = Unit {0}
 AreSameFiles (f ∷ fs) (g ∷ gs) = (f.0 ≡ g.0) × (file_of f.1 ≡ file_of g.1) × AreSameFiles fs gs
 AreSameFiles _ _ = ⊥
 
-pub one_files : (es : List Entry) (fs gs : List (List ℕ × File)) → AreFilesOf es fs → AreFilesOf es gs → AreSameFiles fs gs
+pub one_files : (es : List LibraryEntry) (fs gs : List (List ℕ × File)) → AreFilesOf es fs → AreFilesOf es gs → AreSameFiles fs gs
 one_files [] [] [] a b = tt
 one_files [] [] (g ∷ gs) a b = absurd b
 one_files [] (f ∷ fs) gs a b = absurd a
@@ -49,10 +49,10 @@ abbrev IsEmbeddedFile : List ℕ × File → StateTree → StateTree → Type 0
 IsEmbeddedFile f = AreEmbeddedIn f.0 (file_of f.1)
 
 file_there : (f g : List ℕ × File) (c c' : StateTree) → f.0 ≡ g.0 → file_of f.1 ≡ file_of g.1 → IsEmbeddedFile f c c' → IsEmbeddedFile g c c'
-file_there f g c c' p q h = subst₂ (λ (path : List ℕ) (ts : List Theory). AreEmbeddedIn path ts c c') p q h
+file_there f g c c' p q h = subst₂ (λ (path : List ℕ) (ts : List SyntaxTheory). AreEmbeddedIn path ts c c') p q h
 
 fault_there : (f g : List ℕ × File) (c : StateTree) (x : SourceFault) → f.0 ≡ g.0 → file_of f.1 ≡ file_of g.1 → AreEmbeddedFaultyIn f.0 (file_of f.1) c x → AreEmbeddedFaultyIn g.0 (file_of g.1) c x
-fault_there f g c x p q h = subst₂ (λ (path : List ℕ) (ts : List Theory). AreEmbeddedFaultyIn path ts c x) p q h
+fault_there f g c x p q h = subst₂ (λ (path : List ℕ) (ts : List SyntaxTheory). AreEmbeddedFaultyIn path ts c x) p q h
 
 pub files_there : (fs gs : List (List ℕ × File)) (c c' : StateTree) → AreSameFiles fs gs → Steps IsEmbeddedFile fs c c' → Steps IsEmbeddedFile gs c c'
 files_there [] [] c c' h a = a

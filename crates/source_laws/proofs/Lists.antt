@@ -3,7 +3,7 @@ use Rattle.std.proofs.Common.{◌≡◌, ℕ, cond, Bool, true, false, List, [],
 use Rattle.std.proofs.lemmas.List.Elements.{All-nil, All-cons, All-head, All-tail}
 use Rattle.tasks.specs.Task.{DeclarationTree}
 use Rattle.theory_states.specs.declared.states.AxiomAt.{AxiomAt}
-use Rattle.theory_states.specs.States.{KnownTree, has_path, known_named}
+use Rattle.theory_states.specs.States.{KnownTree, known_has_path, known_named}
 use Rattle.sound_states.proofs.Places.{later, there, further}
 use Rattle.source_laws.specs.Plain.{IsPlainAxiom}
 
@@ -27,7 +27,7 @@ plain_more decls new a h = record {
 
 pub found_in : (ts : List KnownTree) (path : List ℕ) (t : KnownTree) → known_named ts path ≡ Some t → Contains ts t
 found_in [] path t q = absurd (cc)
-found_in (y ∷ ts) path t q = of (has_path path y) q (λ r. found_in ts path t r)
+found_in (y ∷ ts) path t q = of (known_has_path path y) q (λ r. found_in ts path t r)
   where
     of : (b : Bool) → cond b (Some y) (known_named ts path) ≡ Some t → (known_named ts path ≡ Some t → Contains ts t) → Contains (y ∷ ts) t
     of true r f = let e : y ≡ t = cc in (0, omega arith, e)

@@ -11,7 +11,7 @@ use Rattle.cloned_states.specs.Cloning.{IsFixed}
 use Rattle.cloned_states.specs.Trials.{AgreeOn}
 use Rattle.clone_elements.specs.declared.plans.Fate.TheVariants.{Replaced}
 use Rattle.clone_elements.specs.Left.{Origin, decl_or}
-use Rattle.clone_elements.specs.Plans.{Side, Fates, no_fates, fates_of, is_replaced, types_replaced, symbols_replaced, kept, clone_map, tried_map}
+use Rattle.clone_elements.specs.Plans.{SideTree, PlacedFates, no_fates, fates_of, is_replaced, types_replaced, symbols_replaced, kept, clone_map, tried_map}
 use Rattle.clone_elements.specs.Elements.{SidesTold}
 use Rattle.clone_copies.specs.Origins.{origin_of}
 use Rattle.source_laws.proofs.Numbers.{IsAt, contained, IsReplacedBy, IsOther, symbol_cases, type_cases, types_alike}
@@ -31,7 +31,7 @@ type_makes b k q = subst (λ (x : BodyTree). Contains (made_by x) k) (sym q) (he
 pub symbol_makes : (b : BodyTree) (k : ℕ) → b ≡ Makes k → Contains (made_by b) k
 symbol_makes b k q = subst (λ (x : BodyTree). Contains (made_by x) k) (sym q) (here k [])
 
-module _ (table xs : List SymbolTree) (ds : List DeclarationTree) (t : KnownTree) (sides : List Side) (sound : AreSound xs (at_places ds t.visible))
+module _ (table xs : List SymbolTree) (ds : List DeclarationTree) (t : KnownTree) (sides : List SideTree) (sound : AreSound xs (at_places ds t.visible))
     (read : All (IsRead table (origin_of ds t)) sides) (told : SidesTold xs (origin_of ds t) (tried_map xs (origin_of ds t) sides) no_fates sides None)
     (below : (q : ℕ × ℕ) → Contains (symbols_replaced (origin_of ds t) sides) q → q.1 < length xs) where
   abbrev o : Origin
@@ -43,7 +43,7 @@ module _ (table xs : List SymbolTree) (ds : List DeclarationTree) (t : KnownTree
   abbrev tried : Map
   tried = tried_map xs o sides
 
-  abbrev final : Fates
+  abbrev final : PlacedFates
   final = fates_of sides
 
   abbrev types : List (ℕ × Tree)
@@ -67,7 +67,7 @@ module _ (table xs : List SymbolTree) (ds : List DeclarationTree) (t : KnownTree
   symbol_own : (k j : ℕ) → Contains symbols (k, j) → IsMadeOwn o k
   symbol_own k j c = let x = symbol_from k j c in record { place = x.place; own = x.own; makes = symbol_makes (decl_or ds x.place).body k x.body }
 
-  kept_own : (fates : Fates) (k : ℕ) → Contains (kept o fates) k → IsMadeOwn o k
+  kept_own : (fates : PlacedFates) (k : ℕ) → Contains (kept o fates) k → IsMadeOwn o k
   kept_own fates k c = let x = kept_in o fates o.own k c in record { place = x.place; own = x.among; makes = x.makes }
 
   -- ---- what no own declaration makes stays

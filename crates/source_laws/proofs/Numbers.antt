@@ -5,7 +5,7 @@ use Rattle.std.proofs.lemmas.Bool.Decides.{nat_tests}
 use Rattle.trees.specs.Tree.{Tree}
 use Rattle.symbol_maps.specs.Mapped.{Map}
 use Rattle.sound_states.proofs.Places.{none_here, cases_of, here, later}
-use Rattle.clone_elements.specs.Plans.{same_map, with_symbol, with_type, with_numbers, with_symbols, with_types, map_of}
+use Rattle.clone_elements.specs.Plans.{same_map, with_symbol, with_type, with_numbers, with_symbols, with_mapped_types, map_of}
 
 pub same_number : (a b : ℕ) → (a == b) ≡ true → a ≡ b
 same_number a b q = grind (arith, nat_tests)
@@ -75,12 +75,12 @@ pub record IsReplacedBy (ps : List (ℕ × Tree)) (k : ℕ) (o : Option Tree) : 
 type_is : (p : ℕ × Tree) (k : ℕ) → p.0 ≡ k → p ≡ (k, p.1)
 type_is p k a = ap (λ (i : ℕ). (i, p.1)) a
 
-types_at : (ps : List (ℕ × Tree)) (m : Map) (k : ℕ) → IsReplacedBy ps k ((with_types ps m).types k) ⊎ (((t : Tree) → Contains ps (k, t) → ⊥) × ((with_types ps m).types k ≡ m.types k))
+types_at : (ps : List (ℕ × Tree)) (m : Map) (k : ℕ) → IsReplacedBy ps k ((with_mapped_types ps m).types k) ⊎ (((t : Tree) → Contains ps (k, t) → ⊥) × ((with_mapped_types ps m).types k ≡ m.types k))
 types_at [] m k = inr ((λ t c. none_here (k, t) c), refl)
 types_at (p ∷ ps) m k = of (types_at ps (with_type p.0 p.1 m) k)
   where
     now : Option Tree
-    now = (with_types ps (with_type p.0 p.1 m)).types k
+    now = (with_mapped_types ps (with_type p.0 p.1 m)).types k
 
     by : ((t : Tree) → Contains ps (k, t) → ⊥) → (b : Bool) → (p.0 == k) ≡ b → now ≡ (if b then Some p.1 else m.types k) → IsReplacedBy (p ∷ ps) k now ⊎ (((t : Tree) → Contains (p ∷ ps) (k, t) → ⊥) × (now ≡ m.types k))
     by out true q e = inl (record { type = p.1; is = e; there = subst (λ (z : ℕ × Tree). Contains (p ∷ ps) z) (type_is p k (same_number p.0 k q)) (here p ps) })
@@ -95,7 +95,7 @@ types_at (p ∷ ps) m k = of (types_at ps (with_type p.0 p.1 m) k)
     of (inr h) = by h.0 (p.0 == k) refl h.1
 
 -- ---- each leaves the others
-types_leave : (ps : List (ℕ × Tree)) (m : Map) (k : ℕ) → (with_types ps m).symbols k ≡ m.symbols k
+types_leave : (ps : List (ℕ × Tree)) (m : Map) (k : ℕ) → (with_mapped_types ps m).symbols k ≡ m.symbols k
 types_leave [] m k = refl
 types_leave (p ∷ ps) m k = types_leave ps (with_type p.0 p.1 m) k
 
@@ -107,7 +107,7 @@ numbers_leave : (n : ℕ) (ks : List ℕ) (m : Map) (k : ℕ) → (with_numbers 
 numbers_leave n [] m k = refl
 numbers_leave n (j ∷ ks) m k = numbers_leave (n + 1) ks (with_symbol j n m) k
 
-types_same : (ps : List (ℕ × Tree)) (a b : Map) (k : ℕ) → a.types k ≡ b.types k → (with_types ps a).types k ≡ (with_types ps b).types k
+types_same : (ps : List (ℕ × Tree)) (a b : Map) (k : ℕ) → a.types k ≡ b.types k → (with_mapped_types ps a).types k ≡ (with_mapped_types ps b).types k
 types_same [] a b k q = q
 types_same (p ∷ ps) a b k q = types_same ps (with_type p.0 p.1 a) (with_type p.0 p.1 b) k (ap (λ (o : Option Tree). if p.0 == k then Some p.1 else o) q)
 

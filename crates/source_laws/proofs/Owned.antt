@@ -4,7 +4,7 @@ use Rattle.std.proofs.lemmas.List.Elements.{All-contains, Contains-append_left, 
 use Rattle.tasks.specs.Task.{SymbolTree, DeclarationTree, made, made_by}
 use Rattle.syntax_why.specs.Lexeme.{Word}
 use Rattle.valid_tasks.proofs.Signed.{some_at}
-use Rattle.valid_tasks.specs.Tasks.{IsOwn, AreSound}
+use Rattle.valid_tasks.specs.Tasks.{IsOwnSymbol, AreSound}
 use Rattle.valid_tasks.proofs.Distinct.{IsDistinct, pairs_distinct}
 use Rattle.valid_tasks.proofs.TupleDecls.{made_both}
 use Rattle.theory_states.specs.States.{KnownTree, at_places}
@@ -12,7 +12,7 @@ use Rattle.sound_states.proofs.Places.{none_here, cases_of, here, later, in_plac
 use Rattle.cloned_states.proofs.Vocabularies.{made_below}
 use Rattle.cloned_states.proofs.Joining.{into_made, apart_from}
 use Rattle.clone_elements.specs.Left.{Origin, no_declaration, decl_or}
-use Rattle.clone_elements.specs.Plans.{Fates, is_replaced, kept_at, kept_of}
+use Rattle.clone_elements.specs.Plans.{PlacedFates, is_replaced, kept_at, kept_of}
 use Rattle.clone_copies.specs.Origins.{is_own, own_at, own_among, origin_of}
 
 -- ---- own places
@@ -41,13 +41,13 @@ module _ (ds : List DeclarationTree) (path : Word) where
       of (inr z) f = Contains-append_right (own_at ds path k) (own_among ds path ks) p (f z)
 
 -- ---- symbols that are kept
-pub record IsMadeAt (o : Origin) (fates : Fates) (ks : List ℕ) (k : ℕ) : Type 0 where
+pub record IsMadeAt (o : Origin) (fates : PlacedFates) (ks : List ℕ) (k : ℕ) : Type 0 where
   pub place : ℕ
   pub among : Contains ks place
   pub free : is_replaced (fates place) ≡ false
   pub makes : Contains (made_by (decl_or o.decls place).body) k
 
-module _ (o : Origin) (fates : Fates) where
+module _ (o : Origin) (fates : PlacedFates) where
   pub kept_in : (ks : List ℕ) (k : ℕ) → Contains (kept_of o fates ks) k → IsMadeAt o fates ks k
   kept_in [] k c = absurd (none_here k c)
   kept_in (p ∷ ks) k c = of (is_replaced (fates p)) refl (Contains-append_cases (kept_at o fates p) (kept_of o fates ks) k c) (λ z. kept_in ks k z)
@@ -121,8 +121,8 @@ module _ (xs : List SymbolTree) (ds : List DeclarationTree) (t : KnownTree) (sou
   pub one_place : (p q k : ℕ) → Contains t.visible p → Contains t.visible q → MakesAt p k → MakesAt q k → p ≡ q
   one_place p q k a b x y = same_place ds t.visible (pairs_distinct (made es) sound.once) p q k a b x y
 
-  pub makes_own : (p k : ℕ) → Contains t.visible p → MakesAt p k → IsOwn xs k
-  makes_own p k c z = All-contains (IsOwn xs) (made es) k sound.own (in_made ds t.visible p k c z)
+  pub makes_own : (p k : ℕ) → Contains t.visible p → MakesAt p k → IsOwnSymbol xs k
+  makes_own p k c z = All-contains (IsOwnSymbol xs) (made es) k sound.own (in_made ds t.visible p k c z)
 
   pub makes_below : (p k : ℕ) → Contains t.visible p → MakesAt p k → k < length xs
   makes_below p k c z = made_below xs es sound k (in_made ds t.visible p k c z)

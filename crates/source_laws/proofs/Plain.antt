@@ -3,7 +3,7 @@ use Rattle.std.proofs.Common.{◌≡◌, ℕ, ◌<◌, List, [], ◌∷◌, ◌+
 use Rattle.std.proofs.lemmas.List.Elements.{All-nil, All-cons, All-append, All-contains}
 use Rattle.trees.specs.Tree.{Tree}
 use Rattle.tasks.specs.Task.{SymbolTree, DeclarationTree}
-use Rattle.names_space.specs.Names.{Names, find, find_name}
+use Rattle.names_space.specs.Names.{ScopeNames, find_number, find_name}
 use Rattle.names_space.specs.declared.Table.{Table}
 use Rattle.names_space.specs.declared.Table.TheVariants.{Types, Symbols, Propositions, Scopes}
 use Rattle.names_space.specs.declared.TypeName.{TypeName}
@@ -21,15 +21,15 @@ use Rattle.syntax_why.specs.declared.declarations.PropKind.TheVariants as kind
 use Rattle.syntax_why.specs.Declarations as source
 use Rattle.symbol_maps.specs.Mapped.{Map}
 use Rattle.elab_names.specs.Abstract.{Expression, expression}
-use Rattle.elab_parts.specs.Declarations.{Declaration, proposition, declaration, symbol, Made, makes, binds, made_by}
+use Rattle.elab_parts.specs.Declarations.{Declaration, proposition_declaration, declaration, symbol, Made, makes, binds_names, made_names}
 use Rattle.elab_parts.specs.Outcomes.{Setting, Outcome}
 use Rattle.elab_terms.specs.Outcomes.{proposition_seen, IsOutcome}
 use Rattle.declared_names.specs.Made.{thing_named, brought_as, moves_made, moves_of, moves_declared}
 use Rattle.theory_states.specs.declared.states.AxiomAt.{AxiomAt}
 use Rattle.theory_states.specs.States.{KnownTree, StateTree, opened_empty, known_as, with_declaration, with_declarations}
-use Rattle.theory_states.specs.Uses.{path_text, IsUsed}
-use Rattle.sound_states.specs.Typed.{setting}
-use Rattle.theory_declarations.specs.Declared.{with_goal, with_axiom, with_proposition, proposition_in, known_by, named_by, IsDeclared}
+use Rattle.theory_states.specs.Uses.{path_text, IsTheoryUsed}
+use Rattle.sound_states.specs.Typed.{state_setting}
+use Rattle.theory_declarations.specs.Declared.{with_declared_goal, with_axiom, with_proposition, proposition_in, known_by, with_named, IsDeclared}
 use Rattle.clone_copies.specs.Moves.{IsThingMapped, IsMoveMapped, AreMovesMapped}
 use Rattle.cloned_states.specs.Moves.{IsPlainThing, IsPlainMove}
 use Rattle.source_laws.specs.Plain.{IsSaid, IsPlainAxiom, IsPlainTheory, IsPlainKnown, ArePlainTheories, IsPlainState}
@@ -77,11 +77,11 @@ pub ends_plain : (c : StateTree) → IsPlainState c → ArePlainTheories c.decls
 ends_plain c h = All-append (IsPlainKnown c.decls) c.known (known_as c.opened ∷ []) h.known (All-cons (IsPlainKnown c.decls) (known_as c.opened) [] h.opened (All-nil (IsPlainKnown c.decls)))
 
 -- ---- uses and scopes
-pub scopes_plain : (c : StateTree) (within : List ℕ) (names : Names) (moves : List Move) (number : ℕ) → IsPlainState c → All IsPlainMove moves
+pub scopes_plain : (c : StateTree) (within : List ℕ) (names : ScopeNames) (moves : List Move) (number : ℕ) → IsPlainState c → All IsPlainMove moves
     → IsPlainState (record c { opened = record c.opened { within = within; scope = names; moves = c.opened.moves ++ moves }; number = number })
 scopes_plain c within names moves number h p = record { known = h.known; opened = record { axioms_said = h.opened.axioms_said; plain_moves = All-append IsPlainMove c.opened.moves moves h.opened.plain_moves p } }
 
-pub uses_plain : (link : Link) (p : Path) (alias : Option Name) (c c' : StateTree) → IsPlainState c → IsUsed link p alias c c' → IsPlainState c'
+pub uses_plain : (link : Link) (p : Path) (alias : Option Name) (c c' : StateTree) → IsPlainState c → IsTheoryUsed link p alias c c' → IsPlainState c'
 uses_plain link p alias c c' h u =
     let t = u.theory in
     let i : Contains c.known t = found_in c.known (path_text p.parts) t u.found in
@@ -103,20 +103,20 @@ type_plain : (x : Word) (o : Option TypeName) → All IsPlainMove (brought_as Ty
 type_plain x None = All-nil IsPlainMove
 type_plain x (Some t) = All-cons IsPlainMove (Brings Types x t) [] tt (All-nil IsPlainMove)
 
-named_plain : (names : Names) (table : Table) (x : Word) → All IsPlainMove (brought_as table x (thing_named names table x))
+named_plain : (names : ScopeNames) (table : Table) (x : Word) → All IsPlainMove (brought_as table x (thing_named names table x))
 named_plain names Types x = type_plain x (find_name names Types (x ∷ []))
-named_plain names Symbols x = entry_plain Symbols x (find names Symbols (x ∷ []))
-named_plain names Propositions x = entry_plain Propositions x (find names Propositions (x ∷ []))
-named_plain names Scopes x = entry_plain Scopes x (find names Scopes (x ∷ []))
+named_plain names Symbols x = entry_plain Symbols x (find_number names Symbols (x ∷ []))
+named_plain names Propositions x = entry_plain Propositions x (find_number names Propositions (x ∷ []))
+named_plain names Scopes x = entry_plain Scopes x (find_number names Scopes (x ∷ []))
 
-made_plain : (names : Names) (ms : List Made) → All IsPlainMove (moves_made names ms)
+made_plain : (names : ScopeNames) (ms : List Made) → All IsPlainMove (moves_made names ms)
 made_plain names [] = All-nil IsPlainMove
 made_plain names (makes table c ∷ ms) = All-append IsPlainMove (brought_as table c.name (thing_named names table c.name)) (moves_made names ms) (named_plain names table c.name) (made_plain names ms)
-made_plain names (binds cs ∷ ms) = made_plain names ms
+made_plain names (binds_names cs ∷ ms) = made_plain names ms
 
-of_plain : (names : Names) (o : Option Declaration) → All IsPlainMove (moves_of names o)
+of_plain : (names : ScopeNames) (o : Option Declaration) → All IsPlainMove (moves_of names o)
 of_plain names None = All-nil IsPlainMove
-of_plain names (Some d) = made_plain names (made_by d)
+of_plain names (Some d) = made_plain names (made_names d)
 
 declaration_plain : (d : DeclarationTree) (c : StateTree) → IsPlainState c → IsPlainState (with_declaration d c)
 declaration_plain d c h = record {
@@ -128,7 +128,7 @@ declarations_plain : (ds : List DeclarationTree) (c : StateTree) → IsPlainStat
 declarations_plain [] c h = h
 declarations_plain (d ∷ ds) c h = declarations_plain ds (with_declaration d c) (declaration_plain d c h)
 
-goal_plain : (k : PropKind) (rigid : List ℕ) (d : DeclarationTree) (c : StateTree) → IsPlainState c → IsPlainState (with_goal k rigid d c)
+goal_plain : (k : PropKind) (rigid : List ℕ) (d : DeclarationTree) (c : StateTree) → IsPlainState c → IsPlainState (with_declared_goal k rigid d c)
 goal_plain k rigid d c h = record { known = h.known; opened = record { axioms_said = h.opened.axioms_said; plain_moves = h.opened.plain_moves } }
 
 axiom_plain : (vars : List Word) (d : DeclarationTree) (c : StateTree) → IsSaid d.body → IsPlainState c → IsPlainState (with_axiom (record { decl = length c.decls; vars = vars }) (with_declaration d c))
@@ -149,7 +149,7 @@ axiom_plain vars d c said h =
 
 proposition_plain : (k : PropKind) (vars : List Word) (rigid : List ℕ) (d : DeclarationTree) (c : StateTree) → IsSaid d.body → IsPlainState c → IsPlainState (with_proposition k vars rigid d c)
 proposition_plain kind.Axiom vars rigid d c said h = axiom_plain vars d c said h
-proposition_plain kind.Lemma vars rigid d c said h = declaration_plain d (with_goal kind.Lemma rigid d c) (goal_plain kind.Lemma rigid d c h)
+proposition_plain kind.Lemma vars rigid d c said h = declaration_plain d (with_declared_goal kind.Lemma rigid d c) (goal_plain kind.Lemma rigid d c h)
 proposition_plain kind.Goal vars rigid d c said h = goal_plain kind.Goal rigid d c h
 
 abbrev AreSaid : List DeclarationTree → Type 0
@@ -164,19 +164,19 @@ known_plain None rigid ds c s h = declarations_plain ds c h
 known_plain (Some p) rigid [] c s h = h
 known_plain (Some p) rigid (d ∷ ds) c s h = proposition_plain p.0 (proposition_seen p.1).vars rigid d c (s 0 d (omega arith)) h
 
-said_by : (d : source.Decl) (x : Declaration) (c : Setting) (s : List Tree) (o : Outcome) → declaration d ≡ Some x → IsOutcome c s x o → AreSaidBy (proposition_in d) o.decls
+said_by : (d : source.SyntaxDeclaration) (x : Declaration) (c : Setting) (s : List Tree) (o : Outcome) → declaration d ≡ Some x → IsOutcome c s x o → AreSaidBy (proposition_in d) o.decls
 said_by (source.prop_decl a k y e) x c s o q h =
-    let same : x ≡ proposition k (symbol y) (expression e) = cc in
+    let same : x ≡ proposition_declaration k (symbol y) (expression e) = cc in
     let z = subst (λ (i : Declaration). IsOutcome c s i o) same h in
     subst AreSaid (sym z.decls) (All-cons (λ (d : DeclarationTree). IsSaid d.body) _ [] tt (All-nil (λ (d : DeclarationTree). IsSaid d.body)))
 said_by _ x c s o q h = tt
 
-pub declared_plain : (d : source.Decl) (c c' : StateTree) → IsDeclared d c c' → IsPlainState c → IsPlainState c'
+pub declared_plain : (d : source.SyntaxDeclaration) (c c' : StateTree) → IsDeclared d c c' → IsPlainState c → IsPlainState c'
 declared_plain d c c' h p =
     let o = h.outcome in
-    let b = named_by d o c'.trees c in
+    let b = with_named d o c'.trees c in
     let named : IsPlainState b = record {
       known = p.known;
       opened = record { axioms_said = p.opened.axioms_said; plain_moves = All-append IsPlainMove c.opened.moves (moves_declared o.scope d) p.opened.plain_moves (of_plain o.scope (declaration d)) };
     } in
-    subst IsPlainState (sym h.known) (known_plain (proposition_in d) o.rigid o.decls b (said_by d h.parts (setting c) c'.trees o h.of h.is) named)
+    subst IsPlainState (sym h.known) (known_plain (proposition_in d) o.rigid o.decls b (said_by d h.parts (state_setting c) c'.trees o h.of h.is) named)

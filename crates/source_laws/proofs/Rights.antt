@@ -10,13 +10,13 @@ use Rattle.tasks.specs.Task.{SymbolTree, int_symbol, DeclarationTree}
 use Rattle.tasks.specs.Roles.{is_constructor, maker, role_by}
 use Rattle.tasks.specs.Vocabulary.{Vocabulary, passes, is_empty, is_constructor_kind}
 use Rattle.tasks.specs.Valid.{IsTypeIn}
-use Rattle.names_space.specs.Names.{Names, find_name, number_of}
+use Rattle.names_space.specs.Names.{ScopeNames, find_name, number_of}
 use Rattle.names_space.specs.declared.Table.TheVariants.{Symbols}
 use Rattle.names_space.specs.declared.TypeName.{TypeName}
 use Rattle.syntax_why.specs.Lexeme.{Word}
 use Rattle.syntax_why.specs.declared.names.Name.{Name}
 use Rattle.syntax_why.specs.Declarations.{Element, type_element, symbol_element, prop_element, all_axioms}
-use Rattle.elab_names.specs.Abstract.{texts, form, own_name}
+use Rattle.elab_names.specs.Abstract.{texts_of_names, type_expression, text_of_own}
 use Rattle.elab_names.specs.Faults.{first_of}
 use Rattle.elab_names.specs.declared.NamingFault.{NamingFault}
 use Rattle.elab_variables.specs.Seen.{form_seen}
@@ -25,7 +25,7 @@ use Rattle.elab_parts.specs.Elaborated.{unseen}
 use Rattle.elab_parts.specs.Entries.{builtin, wanting_tuples}
 use Rattle.elab_parts.specs.Outcomes.{Setting, over}
 use Rattle.valid_tasks.specs.Signature.{with_entries}
-use Rattle.valid_tasks.specs.Scopes.{is_projection_kind, IsNamedBy, NamesNew, IsPart, AgreeBelow, IsSymbolNumber, IsTypedThing, AreTypedScopes}
+use Rattle.valid_tasks.specs.Scopes.{is_projection_kind, IsNamedBy, NamesNew, IsSubvocabulary, AgreeBelow, IsSymbolNumber, IsTypedThing, AreTypedScopes}
 use Rattle.valid_tasks.proofs.Words.{self_word}
 use Rattle.valid_tasks.proofs.Signed.{some_at}
 use Rattle.valid_tasks.proofs.Scopes.{found_thing}
@@ -38,8 +38,8 @@ use Rattle.sound_states.proofs.Places.{none_here}
 use Rattle.cloned_states.proofs.Vocabularies.{left_of}
 use Rattle.cloned_states.proofs.CopiedRights.{right_typed}
 use Rattle.clone_elements.specs.Left.{Origin, symbol_at_place}
-use Rattle.clone_elements.specs.Rights.{RightTree, is_type, is_symbol, is_nothing, symbol_missing, called_symbol, right_made, right_fault, right_tuples, rights_tuples, rights_fault}
-use Rattle.clone_elements.specs.Plans.{Side, sides_made, symbol_for, symbols_replaced}
+use Rattle.clone_elements.specs.Rights.{RightTree, type_right, symbol_right, no_right, symbol_missing, called_symbol, right_made, right_fault, right_tuples, rights_tuples, rights_fault}
+use Rattle.clone_elements.specs.Plans.{SideTree, sides_made, symbol_for, symbols_replaced}
 use Rattle.cloned_states.specs.Sides.{IsTypedRight, IsTypedSide}
 use Rattle.source_laws.proofs.Elements.{only_here}
 
@@ -95,14 +95,14 @@ first_none : (a b : Option NamingFault) → first_of a b ≡ None → (a ≡ Non
 first_none None b q = (refl, q)
 first_none (Some f) b q = absurd (cc)
 
-texts_count : (vs : List Name) → length (texts vs) ≡ length vs
+texts_count : (vs : List Name) → length (texts_of_names vs) ≡ length vs
 texts_count [] = refl
 texts_count (v ∷ vs) = let h = texts_count vs in omega (arith, h)
 
-right_more : (v w : Vocabulary) → IsPart v w → (e : Element) (r : RightTree) → IsTypedRight v e r → IsTypedRight w e r
-right_more v w part (type_element i c vs f) (is_type ty) h = type_more v w part (length vs) ty h
-right_more v w part (type_element i c vs f) (is_symbol k) h = tt
-right_more v w part (type_element i c vs f) is_nothing h = tt
+right_more : (v w : Vocabulary) → IsSubvocabulary v w → (e : Element) (r : RightTree) → IsTypedRight v e r → IsTypedRight w e r
+right_more v w part (type_element i c vs f) (type_right ty) h = type_more v w part (length vs) ty h
+right_more v w part (type_element i c vs f) (symbol_right k) h = tt
+right_more v w part (type_element i c vs f) no_right h = tt
 right_more v w part (symbol_element i s c d) r h = tt
 right_more v w part (prop_element i k c) r h = tt
 right_more v w part (all_axioms i) r h = tt
@@ -120,12 +120,12 @@ module _ (all : List SymbolTree) (ds : List DeclarationTree) where
 
   element_typed : (c : Setting) (e : Element) (rest : List SymbolTree) → (c.symbols ++ right_tuples c.symbols e) ++ rest ≡ all → IsTypedSetting w c → right_fault c.trees c.symbols c.scope e ≡ None → IsTypedElement c e
   element_typed c (type_element i d vs f) rest whole h q =
-      let ys = wanting_tuples c.symbols (form_seen unseen (form f)).widths in
+      let ys = wanting_tuples c.symbols (form_seen unseen (type_expression f)).widths in
       let news : NamesNew w (length c.symbols) (c.symbols ++ ys) =
-      subst (λ (es : List SymbolTree). NamesNew (after es [] ds) (length c.symbols) (c.symbols ++ ys)) whole (tuples_named c.symbols ys rest ds (tuples_built c.symbols (form_seen unseen (form f)).widths)) in
-      let z = right_typed w c (texts vs) (form f) h q news in
+      subst (λ (es : List SymbolTree). NamesNew (after es [] ds) (length c.symbols) (c.symbols ++ ys)) whole (tuples_named c.symbols ys rest ds (tuples_built c.symbols (form_seen unseen (type_expression f)).widths)) in
+      let z = right_typed w c (texts_of_names vs) (type_expression f) h q news in
       record {
-        right = subst (λ (n : ℕ). IsTypeIn (with_entries w (c.symbols ++ ys)) n (type_at (over c.trees (c.symbols ++ ys) c.scope (texts vs)) (form f))) (texts_count vs) z.type;
+        right = subst (λ (n : ℕ). IsTypeIn (with_entries w (c.symbols ++ ys)) n (type_at (over c.trees (c.symbols ++ ys) c.scope (texts_of_names vs)) (type_expression f))) (texts_count vs) z.type;
         setting = record { theory = h.theory; source = h.source; signature = z.signature; scopes = z.scopes };
       }
   element_typed c (symbol_element i s d e) rest whole h q = record { right = tt; setting = without c h }
@@ -143,15 +143,15 @@ module _ (all : List SymbolTree) (ds : List DeclarationTree) where
       let same : (now ++ later) ++ rest ≡ all = ap (λ (zs : List SymbolTree). zs ++ rest) (append_assoc c.symbols more later) ∙ whole in
       let split : now ++ (later ++ rest) ≡ all = sym (append_assoc now later rest) ∙ same in
       let x = element_typed c e (later ++ rest) split h p.0 in
-      let part : IsPart (with_entries w now) w = subst (λ (zs : List SymbolTree). IsPart (with_entries w now) (with_entries w zs)) split (entries_part w now (later ++ rest)) in
+      let part : IsSubvocabulary (with_entries w now) w = subst (λ (zs : List SymbolTree). IsSubvocabulary (with_entries w now) (with_entries w zs)) split (entries_part w now (later ++ rest)) in
       All-cons (IsTypedSide w) _ (sides_made places c.trees now c.scope es)
       (right_more (with_entries w now) w part e (right_made c.trees c.symbols c.scope e) x.right)
       (sides_after places es (record c { symbols = now }) rest same x.setting p.1)
 
 -- ---- symbols on right sides
-module _ (v : Vocabulary) (s : List Tree) (names : Names) (scopes : AreTypedScopes v s names) where
+module _ (v : Vocabulary) (s : List Tree) (names : ScopeNames) (scopes : AreTypedScopes v s names) where
   abbrev RightSymbol : RightTree → Type 0
-  RightSymbol (is_symbol k) = IsSymbolNumber v k
+  RightSymbol (symbol_right k) = IsSymbolNumber v k
   RightSymbol r = Unit {0}
 
   numbered : (o : Option TypeName) → IfSome o (IsTypedThing v s Symbols) → IfSome (option_map number_of o) (IsSymbolNumber v)
@@ -164,11 +164,11 @@ module _ (v : Vocabulary) (s : List Tree) (names : Names) (scopes : AreTypedScop
 
   right_symbol : (symbols : List SymbolTree) (e : Element) → right_fault s symbols names e ≡ None → RightSymbol (right_made s symbols names e)
   right_symbol symbols (type_element i c vs f) q = tt
-  right_symbol symbols (symbol_element i w c d) q = named_symbol d.at (called_symbol names d) q (numbered (find_name names Symbols (d.scopes ++ own_name d.own ∷ [])) (found_thing (IsTypedThing v s) names scopes Symbols (d.scopes ++ own_name d.own ∷ [])))
+  right_symbol symbols (symbol_element i w c d) q = named_symbol d.at (called_symbol names d) q (numbered (find_name names Symbols (d.scopes ++ text_of_own d.own ∷ [])) (found_thing (IsTypedThing v s) names scopes Symbols (d.scopes ++ text_of_own d.own ∷ [])))
   right_symbol symbols (prop_element i k c) q = tt
   right_symbol symbols (all_axioms i) q = tt
 
-  abbrev SideSymbol : Side → Type 0
+  abbrev SideSymbol : SideTree → Type 0
   SideSymbol x = RightSymbol x.right
 
   sides_symbols : (places : Word → Option ℕ) (es : List Element) (symbols : List SymbolTree) → rights_fault s symbols names es ≡ None → All SideSymbol (sides_made places s symbols names es)
@@ -178,12 +178,12 @@ module _ (v : Vocabulary) (s : List Tree) (names : Names) (scopes : AreTypedScop
       All-cons SideSymbol _ (sides_made places s (symbols ++ right_tuples symbols e) names es) (right_symbol symbols e p.0) (sides_symbols places es (symbols ++ right_tuples symbols e) p.1)
 
   pair_symbol : (t : Origin) (left : Option ℕ) (r : RightTree) (p : ℕ × ℕ) → RightSymbol r → Contains (symbol_for t left r) p → IsSymbolNumber v p.1
-  pair_symbol t (Some place) (is_symbol k) p h c = let e : (symbol_at_place t.decls place, k) ≡ p = only_here _ p c in subst (λ (q : ℕ × ℕ). IsSymbolNumber v q.1) e h
-  pair_symbol t (Some place) (is_type ty) p h c = absurd (none_here p c)
-  pair_symbol t (Some place) is_nothing p h c = absurd (none_here p c)
+  pair_symbol t (Some place) (symbol_right k) p h c = let e : (symbol_at_place t.decls place, k) ≡ p = only_here _ p c in subst (λ (q : ℕ × ℕ). IsSymbolNumber v q.1) e h
+  pair_symbol t (Some place) (type_right ty) p h c = absurd (none_here p c)
+  pair_symbol t (Some place) no_right p h c = absurd (none_here p c)
   pair_symbol t None r p h c = absurd (none_here p c)
 
-  pairs_symbols : (t : Origin) (xs : List Side) → All SideSymbol xs → (p : ℕ × ℕ) → Contains (symbols_replaced t xs) p → IsSymbolNumber v p.1
+  pairs_symbols : (t : Origin) (xs : List SideTree) → All SideSymbol xs → (p : ℕ × ℕ) → Contains (symbols_replaced t xs) p → IsSymbolNumber v p.1
   pairs_symbols t [] h p c = absurd (none_here p c)
   pairs_symbols t (x ∷ xs) h p c = of (Contains-append_cases (symbol_for t x.left x.right) (symbols_replaced t xs) p c) (λ z. pairs_symbols t xs (All-tail SideSymbol x xs h) p z)
     where

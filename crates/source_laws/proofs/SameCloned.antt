@@ -17,13 +17,13 @@ use Rattle.theory_states.specs.States.{KnownTree, StateTree, known_named}
 use Rattle.theory_states.specs.Uses.{path_text, last_part, alias_text}
 use Rattle.clone_elements.specs.Left.{Origin, last_place}
 use Rattle.clone_elements.specs.Rights.{all_variables_fault, rights_fault, rights_tuples}
-use Rattle.clone_elements.specs.Plans.{Side, fates_of, has_all, no_fates, kept, clone_map, tried_map}
+use Rattle.clone_elements.specs.Plans.{SideTree, fates_of, has_all, no_fates, kept, clone_map, tried_map}
 use Rattle.clone_elements.specs.Elements.{SidesTold}
-use Rattle.clone_copies.specs.Origins.{axioms_of, origin_of}
+use Rattle.clone_copies.specs.Origins.{axioms_at, origin_of}
 use Rattle.clone_copies.specs.Entries.{entries_copied}
 use Rattle.clone_copies.specs.Places.{Copying, with_places}
 use Rattle.clone_copies.specs.Moves.{AreMovesMapped}
-use Rattle.clone_theories.specs.Cloned.{symbols_tupled, sides_over, sides_in, map_in, AreTold, within_of, copying_in, with_entries, with_names, cloned, IsCloned, naming, IsNamesFault, IsCloneFault, of_variables, of_path, of_names, of_elements}
+use Rattle.clone_theories.specs.Cloned.{symbols_tupled, sides_over, sides_in, map_in, AreTold, within_of, copying_in, with_copied_entries, with_names, state_cloned, IsCloned, naming, IsNamesFault, IsCloneFault, of_variables, of_path, of_clone_names, of_elements}
 use Rattle.same_states.specs.Same.{IsSameMove, AreSameMoves}
 use Rattle.same_states.proofs.Lists.{alike_append}
 use Rattle.same_states.proofs.Names.{same_brought, same_handed}
@@ -66,21 +66,21 @@ module _ (c d : StateTree) (h : IsSameState c d) (es : List Element) where
     told_there : (o : Option ℕ) → AreTold d j es o → AreTold c k es o
     told_there o told =
         subst (λ (us : List SymbolTree). SidesTold us (origin_of c.decls k) (tried_map us (origin_of c.decls k) (sides_in c k es)) no_fates (sides_in c k es) o) (sym tupled_same)
-        (subst₂ (λ (p : Origin) (xs : List Side). SidesTold (symbols_tupled d es) p (tried_map (symbols_tupled d es) p xs) no_fates xs o) (sym origin_same) (sym sides_are) told)
+        (subst₂ (λ (p : Origin) (xs : List SideTree). SidesTold (symbols_tupled d es) p (tried_map (symbols_tupled d es) p xs) no_fates xs o) (sym origin_same) (sym sides_are) told)
 
     copying_same : (v w : Word) → v ≡ w → copying_in c k es v ≡ copying_in d j es w
     copying_same v w e =
-        ap (λ (path : Word). let z : Copying = record { path = path; axioms = axioms_of k.axioms; fates = fates_of (sides_in c k es); all = has_all (sides_in c k es); mapping = map_in c k es; within = v } in z) known.path
-        ∙ ap (λ as_. let z : Copying = record { path = j.path; axioms = axioms_of as_; fates = fates_of (sides_in c k es); all = has_all (sides_in c k es); mapping = map_in c k es; within = v } in z) known.axioms
-        ∙ ap (λ (xs : List Side). let z : Copying = record { path = j.path; axioms = axioms_of j.axioms; fates = fates_of xs; all = has_all xs; mapping = map_in c k es; within = v } in z) sides_are
-        ∙ ap (λ (m : Map). let z : Copying = record { path = j.path; axioms = axioms_of j.axioms; fates = fates_of (sides_in d j es); all = has_all (sides_in d j es); mapping = m; within = v } in z) map_same
+        ap (λ (path : Word). let z : Copying = record { path = path; axioms = axioms_at k.axioms; fates = fates_of (sides_in c k es); all = has_all (sides_in c k es); mapping = map_in c k es; within = v } in z) known.path
+        ∙ ap (λ as_. let z : Copying = record { path = j.path; axioms = axioms_at as_; fates = fates_of (sides_in c k es); all = has_all (sides_in c k es); mapping = map_in c k es; within = v } in z) known.axioms
+        ∙ ap (λ (xs : List SideTree). let z : Copying = record { path = j.path; axioms = axioms_at j.axioms; fates = fates_of xs; all = has_all xs; mapping = map_in c k es; within = v } in z) sides_are
+        ∙ ap (λ (m : Map). let z : Copying = record { path = j.path; axioms = axioms_at j.axioms; fates = fates_of (sides_in d j es); all = has_all (sides_in d j es); mapping = m; within = v } in z) map_same
         ∙ ap (copying_in d j es) e
 
-    entries_same : (v w : Word) → v ≡ w → (with_entries c k es v).symbols ≡ (with_entries d j es w).symbols
+    entries_same : (v w : Word) → v ≡ w → (with_copied_entries c k es v).symbols ≡ (with_copied_entries d j es w).symbols
     entries_same v w e =
         ap (λ (us : List SymbolTree). us ++ entries_copied us (map_in c k es) c.opened.path v (kept (origin_of c.decls k) (fates_of (sides_in c k es)))) tupled_same
         ∙ ap (λ (m : Map). symbols_tupled d es ++ entries_copied (symbols_tupled d es) m c.opened.path v (kept (origin_of c.decls k) (fates_of (sides_in c k es)))) map_same
-        ∙ ap₂ (λ (o : Origin) (xs : List Side). symbols_tupled d es ++ entries_copied (symbols_tupled d es) (map_in d j es) c.opened.path v (kept o (fates_of xs))) origin_same sides_are
+        ∙ ap₂ (λ (o : Origin) (xs : List SideTree). symbols_tupled d es ++ entries_copied (symbols_tupled d es) (map_in d j es) c.opened.path v (kept o (fates_of xs))) origin_same sides_are
         ∙ ap₂ (λ (path within : Word). symbols_tupled d es ++ entries_copied (symbols_tupled d es) (map_in d j es) path within (kept (origin_of d.decls j) (fates_of (sides_in d j es)))) h.opened.path e
 
 -- ---- the clone
@@ -121,18 +121,18 @@ module _ (l : Link) (p : Path) (alias : Option Name) (es : List Element) where
       let v : Word = within_of l last (alias_text alias) c.opened.within in
       let w : Word = within_of l last (alias_text alias) d.opened.within in
       let within : v ≡ w = ap (within_of l last (alias_text alias)) h.opened.within in
-      let entries : IsSameOver s t (with_entries c k es v) (with_entries d j es w) = with_symbols s t c d (with_entries c k es v).symbols (with_entries d j es w).symbols (entries_same c d h es k j known v w within) later in
+      let entries : IsSameOver s t (with_copied_entries c k es v) (with_copied_entries d j es w) = with_symbols s t c d (with_copied_entries c k es v).symbols (with_copied_entries d j es w).symbols (entries_same c d h es k j known v w within) later in
       let x : Copying = copying_in c k es v in
-      let placed : IsSameOver s t (with_places x k.visible (with_entries c k es v)) (with_places (copying_in d j es w) j.visible (with_entries d j es w)) =
-      subst₂ (λ (z : Copying) (ks : List ℕ). IsSameOver s t (with_places x k.visible (with_entries c k es v)) (with_places z ks (with_entries d j es w))) (copying_same c d h es k j known v w within) known.visible
-      (places_same s t x k.visible (with_entries c k es v) (with_entries d j es w) entries) in
+      let placed : IsSameOver s t (with_places x k.visible (with_copied_entries c k es v)) (with_places (copying_in d j es w) j.visible (with_copied_entries d j es w)) =
+      subst₂ (λ (z : Copying) (ks : List ℕ). IsSameOver s t (with_places x k.visible (with_copied_entries c k es v)) (with_places z ks (with_copied_entries d j es w))) (copying_same c d h es k j known v w within) known.visible
+      (places_same s t x k.visible (with_copied_entries c k es v) (with_copied_entries d j es w) entries) in
       let there : AreMovesMapped t (symbols_tupled c es) (map_in c k es) j.moves b.moves =
       subst₂ (λ (us : List SymbolTree) (m : Map). AreMovesMapped t us m j.moves b.moves) (sym (tupled_same c d h es)) (sym (map_same c d h es k j known)) b.mapped in
       let moves : AreSameMoves s t a.moves b.moves =
       moves_one s t (symbols_tupled c es) (map_in c k es) k.moves j.moves a.moves b.moves (moves_later c.trees d.trees s t a.grows b.grows k.moves j.moves known.moves) a.mapped there in
-      let named : IsSameOver s t (cloned l last (alias_text alias) es k a.moves c) (cloned l last (alias_text alias) es j b.moves d) =
-      names_same s t l last (alias_text alias) a.moves b.moves (with_places x k.visible (with_entries c k es v)) (with_places (copying_in d j es w) j.visible (with_entries d j es w)) moves placed in
-      subst₂ (IsSameOver s t) (sym a.is) (sym b.is) (over_trees s t (cloned l last (alias_text alias) es k a.moves c) (cloned l last (alias_text alias) es j b.moves d) s t named)
+      let named : IsSameOver s t (state_cloned l last (alias_text alias) es k a.moves c) (state_cloned l last (alias_text alias) es j b.moves d) =
+      names_same s t l last (alias_text alias) a.moves b.moves (with_places x k.visible (with_copied_entries c k es v)) (with_places (copying_in d j es w) j.visible (with_copied_entries d j es w)) moves placed in
+      subst₂ (IsSameOver s t) (sym a.is) (sym b.is) (over_trees s t (state_cloned l last (alias_text alias) es k a.moves c) (state_cloned l last (alias_text alias) es j b.moves d) s t named)
 
 -- ---- its faults
 some_or : (o q : Option NamingFault) (f : NamingFault) → o ≡ q → o ≡ None → q ≡ Some f → ⊥
@@ -163,7 +163,7 @@ module _ (p : Path) (es : List Element) where
   clone_apart : (l : Link) (alias : Option Name) (c d c' : StateTree) (f : SourceFault) → IsSameState c d → IsCloned l p alias es c c' → IsCloneFault p es d f → ⊥
   clone_apart l alias c d c' f h a (of_variables x) = none_or (all_variables_fault es) x.fault a.variables x.first
   clone_apart l alias c d c' f h a (of_path none x) = theory_or c.trees d.trees c.known d.known (path_text p.parts) a.theory h.known a.found x.unknown
-  clone_apart l alias c d c' f h a (of_names t none found x) =
+  clone_apart l alias c d c' f h a (of_clone_names t none found x) =
       some_or (rights_fault c.trees c.symbols c.opened.scope es) (rights_fault d.trees d.symbols d.opened.scope es) x.fault (names_fault_same c d h es) a.names x.first
   clone_apart l alias c d c' f h a (of_elements t none found right x) =
       token_or None (Some x.token) x.token (elements_once c d h a.theory t a.found found None (Some x.token) a.right x.told) refl refl
@@ -181,20 +181,20 @@ module _ (p : Path) (es : List Element) where
   clone_one : (c d : StateTree) (f g : SourceFault) → IsSameState c d → IsCloneFault p es c f → IsCloneFault p es d g → f ≡ g
   clone_one c d f g h (of_variables x) (of_variables y) = one_name c.number d.number (all_variables_fault es) (all_variables_fault es) f g h.number refl x y
   clone_one c d f g h (of_variables x) (of_path none y) = absurd (none_or (all_variables_fault es) x.fault none x.first)
-  clone_one c d f g h (of_variables x) (of_names t none found y) = absurd (none_or (all_variables_fault es) x.fault none x.first)
+  clone_one c d f g h (of_variables x) (of_clone_names t none found y) = absurd (none_or (all_variables_fault es) x.fault none x.first)
   clone_one c d f g h (of_variables x) (of_elements t none found right y) = absurd (none_or (all_variables_fault es) x.fault none x.first)
   clone_one c d f g h (of_path none x) (of_variables y) = absurd (none_or (all_variables_fault es) y.fault none y.first)
   clone_one c d f g h (of_path none x) (of_path none' y) = x.is ∙ ap (λ (k : ℕ). fault.Unknown k p.at) h.number ∙ sym y.is
-  clone_one c d f g h (of_path none x) (of_names t none' found y) = absurd (known_or d c (turned c d h) t found x.unknown)
+  clone_one c d f g h (of_path none x) (of_clone_names t none' found y) = absurd (known_or d c (turned c d h) t found x.unknown)
   clone_one c d f g h (of_path none x) (of_elements t none' found right y) = absurd (known_or d c (turned c d h) t found x.unknown)
-  clone_one c d f g h (of_names t none found x) (of_variables y) = absurd (none_or (all_variables_fault es) y.fault none y.first)
-  clone_one c d f g h (of_names t none found x) (of_path none' y) = absurd (known_or c d h t found y.unknown)
-  clone_one c d f g h (of_names t none found x) (of_names t' none' found' y) =
+  clone_one c d f g h (of_clone_names t none found x) (of_variables y) = absurd (none_or (all_variables_fault es) y.fault none y.first)
+  clone_one c d f g h (of_clone_names t none found x) (of_path none' y) = absurd (known_or c d h t found y.unknown)
+  clone_one c d f g h (of_clone_names t none found x) (of_clone_names t' none' found' y) =
       one_name c.number d.number (rights_fault c.trees c.symbols c.opened.scope es) (rights_fault d.trees d.symbols d.opened.scope es) f g h.number (names_fault_same c d h es) x y
-  clone_one c d f g h (of_names t none found x) (of_elements t' none' found' right y) = absurd (named_or d c (turned c d h) x.fault right x.first)
+  clone_one c d f g h (of_clone_names t none found x) (of_elements t' none' found' right y) = absurd (named_or d c (turned c d h) x.fault right x.first)
   clone_one c d f g h (of_elements t none found right x) (of_variables y) = absurd (none_or (all_variables_fault es) y.fault none y.first)
   clone_one c d f g h (of_elements t none found right x) (of_path none' y) = absurd (known_or c d h t found y.unknown)
-  clone_one c d f g h (of_elements t none found right x) (of_names t' none' found' y) = absurd (named_or c d h y.fault right y.first)
+  clone_one c d f g h (of_elements t none found right x) (of_clone_names t' none' found' y) = absurd (named_or c d h y.fault right y.first)
   clone_one c d f g h (of_elements t none found right x) (of_elements t' none' found' right' y) =
       x.is ∙ ap₂ (λ (n i : ℕ). fault.BadSubstitution n i) h.number (of x.token y.token (elements_once c d h t t' found found' (Some x.token) (Some y.token) x.told y.told)) ∙ sym y.is
     where

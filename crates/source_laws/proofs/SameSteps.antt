@@ -3,7 +3,7 @@ use Rattle.std.proofs.Common.{◌≡◌, ◌≢◌, List, [], ◌∷◌, sym, su
 use Rattle.theory_states.specs.declared.fault.SourceFault.{SourceFault}
 use Rattle.theory_states.specs.declared.fault.SourceFault.TheVariants.{Memory}
 use Rattle.theory_states.specs.States.{StateTree}
-use Rattle.theories.specs.Typing.{Then, FaultThen, Steps, FirstFault}
+use Rattle.theories.specs.Typing.{ThenStep, FaultThen, Steps, FirstFault}
 use Rattle.same_states.specs.StateSame.{IsSameState}
 use Rattle.same_states.specs.Steps.{IsOneStep}
 use Rattle.same_states.proofs.Later.{state_turned}
@@ -20,11 +20,11 @@ pub same_by : (f : StateTree → StateTree) → ((c d : StateTree) → IsSameSta
 same_by f keeps c d c' d' h a b = subst₂ IsSameState (sym a) (sym b) (keeps c d h)
 
 module _ (R S : StateTree → StateTree → Type 0) where
-  pub same_then : KeepsSame R → KeepsSame S → KeepsSame (Then R S)
+  pub same_then : KeepsSame R → KeepsSame S → KeepsSame (ThenStep R S)
   same_then a b c d c' d' h x y = b x.between y.between c' d' (a c d x.between y.between h x.first y.first) x.second y.second
 
   -- the first step alone has a fault
-  pub first_one : (Is : StateTree → SourceFault → Type 0) → IsOneStep R Is → KeepsSame S → IsOneStep (Then R S) Is
+  pub first_one : (Is : StateTree → SourceFault → Type 0) → IsOneStep R Is → KeepsSame S → IsOneStep (ThenStep R S) Is
   first_one Is a b = record {
     same = same_then a.same b;
     apart = λ c d c' f h x y n. a.apart c d x.between f h x.first y n;
@@ -32,7 +32,7 @@ module _ (R S : StateTree → StateTree → Type 0) where
   }
 
   -- the second step alone has a fault
-  pub second_one : (Is : StateTree → SourceFault → Type 0) → KeepsSame R → IsOneStep S Is → IsOneStep (Then R S) (FaultThen R Is)
+  pub second_one : (Is : StateTree → SourceFault → Type 0) → KeepsSame R → IsOneStep S Is → IsOneStep (ThenStep R S) (FaultThen R Is)
   second_one Is a b = record {
     same = same_then a b.same;
     apart = λ c d c' f h x y n. b.apart x.between y.between c' f (a c d x.between y.between h x.first y.first) x.second y.fault n;
@@ -44,7 +44,7 @@ module _ (R S : StateTree → StateTree → Type 0) where
     abbrev IsEither : StateTree → SourceFault → Type 0
     IsEither c f = ◌⊎◌ (Is c f) (FaultThen R So c f)
 
-    either_apart : (c d c' : StateTree) (f : SourceFault) → IsSameState c d → Then R S c c' → IsEither d f → f ≢ Memory → ⊥
+    either_apart : (c d c' : StateTree) (f : SourceFault) → IsSameState c d → ThenStep R S c c' → IsEither d f → f ≢ Memory → ⊥
     either_apart c d c' f h x (inl y) n = a.apart c d x.between f h x.first y n
     either_apart c d c' f h x (inr y) n = b.apart x.between y.between c' f (a.same c d x.between y.between h x.first y.first) x.second y.fault n
 
@@ -54,7 +54,7 @@ module _ (R S : StateTree → StateTree → Type 0) where
     either_one c d f g h (inr x) (inl y) n m = absurd (a.apart c d x.between g h x.first y m)
     either_one c d f g h (inr x) (inr y) n m = b.one x.between y.between f g (a.same c d x.between y.between h x.first y.first) x.fault y.fault n m
 
-    pub either_step : IsOneStep (Then R S) IsEither
+    pub either_step : IsOneStep (ThenStep R S) IsEither
     either_step = record { same = same_then a.same b.same; apart = either_apart; one = either_one }
 
 -- ---- a step for each of a list

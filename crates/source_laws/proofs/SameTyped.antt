@@ -7,14 +7,14 @@ use Rattle.scope_moves.specs.Moves.{left}
 use Rattle.syntax_why.specs.declared.names.Name.{Name}
 use Rattle.syntax_why.specs.declared.names.Path.{Path}
 use Rattle.syntax_why.specs.declared.declarations.Link.{Link}
-use Rattle.syntax_why.specs.Declarations.{Decl, Decls, type_decl, algebraic_decl, function_decl, predicate_decl, constant_decl, inductive_decl, prop_decl, use_decl, clone_decl, scope_decl, no_decls, more_decls}
+use Rattle.syntax_why.specs.Declarations.{SyntaxDeclaration, SyntaxDeclarations, type_decl, algebraic_decl, function_decl, predicate_decl, constant_decl, inductive_decl, prop_decl, use_decl, clone_decl, scope_decl, no_decls, more_decls}
 use Rattle.theory_states.specs.declared.fault.SourceFault.{SourceFault}
 use Rattle.theory_states.specs.declared.fault.SourceFault.TheVariants.{Memory, Duplicate}
 use Rattle.theory_states.specs.States.{StateTree}
-use Rattle.theory_states.specs.Uses.{IsUsed, IsUnknownTheory}
+use Rattle.theory_states.specs.Uses.{IsTheoryUsed, IsUnknownTheory}
 use Rattle.theory_declarations.specs.Declared.{IsDeclared, IsDeclaredFault}
 use Rattle.clone_theories.specs.Cloned.{IsCloned, IsCloneFault}
-use Rattle.theories.specs.Typing.{Then, FaultThen, IsPassed, IsOpened, IsLeft, IsTwice, IsTyped, AreTyped, IsFault, AreFaulty}
+use Rattle.theories.specs.Typing.{ThenStep, FaultThen, IsPassed, IsOpened, IsLeft, IsTwice, IsDeclarationTyped, AreDeclarationsTyped, IsDeclarationFault, AreFaulty}
 use Rattle.same_states.specs.Same.{IsSameMove}
 use Rattle.same_states.proofs.Lists.{alike_append}
 use Rattle.same_states.proofs.Names.{same_opened, same_left}
@@ -90,7 +90,7 @@ twice_or n c d c' f h a b =
 -- a scope with declarations that are determined
 module _ (n : Name) (T : StateTree → StateTree → Type 0) (Is : StateTree → SourceFault → Type 0) (step : IsOneStep T Is) where
   abbrev IsScope : StateTree → StateTree → Type 0
-  IsScope c c' = Then (IsOpened n) (Then T (IsLeft c.opened.within)) c c'
+  IsScope c c' = ThenStep (IsOpened n) (ThenStep T (IsLeft c.opened.within)) c c'
 
   abbrev IsScopeFault : StateTree → SourceFault → Type 0
   IsScopeFault c f = ◌⊎◌ (IsTwice n c f) (FaultThen (IsOpened n) Is c f)
@@ -115,14 +115,14 @@ module _ (n : Name) (T : StateTree → StateTree → Type 0) (Is : StateTree →
   scope_step = record { same = scope_same; apart = scope_apart; one = scope_one }
 
 -- ---- declarations
-logical_step : (d : Decl) → IsOneStep (Then (IsDeclared d) IsPassed) (IsDeclaredFault d)
+logical_step : (d : SyntaxDeclaration) → IsOneStep (ThenStep (IsDeclared d) IsPassed) (IsDeclaredFault d)
 logical_step d = first_one (IsDeclared d) IsPassed (IsDeclaredFault d) (declared_step d) passed_same
 
-used_step : (l : Link) (p : Path) (alias : Option Name) → IsOneStep (Then (IsUsed l p alias) IsPassed) (λ (c : StateTree) (f : SourceFault). IsUnknownTheory p c.known c.number f)
-used_step l p alias = first_one (IsUsed l p alias) IsPassed (λ (c : StateTree) (f : SourceFault). IsUnknownTheory p c.known c.number f) (use_one l p alias) passed_same
+used_step : (l : Link) (p : Path) (alias : Option Name) → IsOneStep (ThenStep (IsTheoryUsed l p alias) IsPassed) (λ (c : StateTree) (f : SourceFault). IsUnknownTheory p c.known c.number f)
+used_step l p alias = first_one (IsTheoryUsed l p alias) IsPassed (λ (c : StateTree) (f : SourceFault). IsUnknownTheory p c.known c.number f) (use_one l p alias) passed_same
 
 mutual
-  pub decl_step : (d : Decl) → IsOneStep (IsTyped d) (IsFault d)
+  pub decl_step : (d : SyntaxDeclaration) → IsOneStep (IsDeclarationTyped d) (IsDeclarationFault d)
   decl_step (type_decl a n vs f) = logical_step (type_decl a n vs f)
   decl_step (algebraic_decl a ts) = logical_step (algebraic_decl a ts)
   decl_step (function_decl a x ps f e ms) = logical_step (function_decl a x ps f e ms)
@@ -132,12 +132,12 @@ mutual
   decl_step (prop_decl a k x e) = logical_step (prop_decl a k x e)
   decl_step (use_decl a l p n) = used_step l p n
   decl_step (clone_decl a l p n es) = first_one (IsCloned l p n es) IsPassed (IsCloneFault p es) (clone_step l p n es) passed_same
-  decl_step (scope_decl a n ds) = scope_step n (AreTyped ds) (AreFaulty ds) (decls_step ds)
+  decl_step (scope_decl a n ds) = scope_step n (AreDeclarationsTyped ds) (AreFaulty ds) (decls_step ds)
 
-  pub decls_step : (ds : Decls) → IsOneStep (AreTyped ds) (AreFaulty ds)
+  pub decls_step : (ds : SyntaxDeclarations) → IsOneStep (AreDeclarationsTyped ds) (AreFaulty ds)
   decls_step no_decls = record {
     same = λ c d c' d' h a b. subst₂ IsSameState a b h;
     apart = λ c d c' f h a b n. b;
     one = λ c d f g h a b n m. absurd a;
   }
-  decls_step (more_decls d ds) = either_step (IsTyped d) (AreTyped ds) (IsFault d) (AreFaulty ds) (decl_step d) (decls_step ds)
+  decls_step (more_decls d ds) = either_step (IsDeclarationTyped d) (AreDeclarationsTyped ds) (IsDeclarationFault d) (AreFaulty ds) (decl_step d) (decls_step ds)

@@ -10,7 +10,7 @@ use Rattle.syntax_why.specs.Lexeme.{Lexeme, mark, lx}
 use Rattle.syntax_why.specs.declared.names.Name.{Name}
 use Rattle.syntax_why.specs.declared.names.Path.{Path}
 use Rattle.syntax_why.specs.declared.declarations.Link.{Link}
-use Rattle.syntax_why.specs.Declarations.{Element, Decl, Decls, type_decl, algebraic_decl, function_decl, predicate_decl, constant_decl, inductive_decl, prop_decl, use_decl, clone_decl, scope_decl, no_decls, more_decls, write_decl, write_decls}
+use Rattle.syntax_why.specs.Declarations.{Element, SyntaxDeclaration, SyntaxDeclarations, type_decl, algebraic_decl, function_decl, predicate_decl, constant_decl, inductive_decl, prop_decl, use_decl, clone_decl, scope_decl, no_decls, more_decls, write_decl, write_decls}
 use Rattle.syntax_why.specs.DeclarationRules.{IsLevelDecl, AreLevelDecls}
 use Rattle.std.specs.Prelude.{Option, codes}
 use Rattle.valid_tasks.specs.Lists.{after}
@@ -20,7 +20,7 @@ use Rattle.valid_tasks.specs.Quoted.{IsQuotedLexeme}
 use Rattle.valid_tasks.proofs.Quoted.{whole_in}
 use Rattle.cloned_states.specs.Placed.{ArePlaced}
 use Rattle.theory_states.specs.States.{OpenedTree, StateTree, visible_now}
-use Rattle.theory_states.specs.Uses.{IsUsed}
+use Rattle.theory_states.specs.Uses.{IsTheoryUsed}
 use Rattle.cloned_states.specs.Moves.{IsPlainMove}
 use Rattle.sound_states.specs.Typed.{IsTypedState}
 use Rattle.sound_states.proofs.Keeping.{renamed_typed, used_typed}
@@ -31,7 +31,7 @@ use Rattle.clone_theories.proofs.TypedClone.{cloned_typed, cloned_placed}
 use Rattle.source_laws.specs.Plain.{IsPlainState}
 use Rattle.source_laws.proofs.Plain.{declared_plain, uses_plain, scopes_plain}
 use Rattle.source_laws.proofs.Cloned.{cloned_plain, cloned_sound}
-use Rattle.theories.specs.Typing.{Then, IsPassed, IsOpened, IsLeft}
+use Rattle.theories.specs.Typing.{ThenStep, IsPassed, IsOpened, IsLeft}
 use Rattle.theories.specs.Sound.{IsSoundlyDeclared, IsSoundlyTyped, AreSoundlyTyped}
 use Rattle.theories.proofs.Placing.{declared_placed}
 
@@ -65,7 +65,7 @@ passed_good c c' e h = subst IsGood (sym e) (record {
   sound = record { opened = h.sound.opened; known = h.sound.known; apart = h.sound.apart; of = h.sound.of };
 })
 
-used_good : (l : Link) (p : Path) (n : Option Name) (c c' : StateTree) → IsUsed l p n c c' → IsGood c → IsGood c'
+used_good : (l : Link) (p : Path) (n : Option Name) (c c' : StateTree) → IsTheoryUsed l p n c c' → IsGood c → IsGood c'
 used_good l p n c c' u h = record {
   typed = used_typed l p n c c' u h.typed;
   placed = subst (λ (z : StateTree). ArePlaced z.symbols) (sym u.is) h.placed;
@@ -81,7 +81,7 @@ cloned_good l p n es c c' u h = record {
   sound = cloned_sound l p n es c c' u h.typed h.placed h.plain h.sound;
 }
 
-declared_good : (d : Decl) (c c' : StateTree) → IsLevelDecl d → AreQuoted (write_decl d) → IsSoundlyDeclared d c c' → IsGood c → IsGood c'
+declared_good : (d : SyntaxDeclaration) (c c' : StateTree) → IsLevelDecl d → AreQuoted (write_decl d) → IsSoundlyDeclared d c c' → IsGood c → IsGood c'
 declared_good d c c' w q u h = record {
   typed = u.typed;
   placed = declared_placed d c c' h.typed.theory u.declared h.placed;
@@ -89,7 +89,7 @@ declared_good d c c' w q u h = record {
   sound = u.sound (whole_in d w) q h.sound;
 }
 
-logical_good : (d : Decl) (c c' : StateTree) → IsLevelDecl d → AreQuoted (write_decl d) → Then (IsSoundlyDeclared d) IsPassed c c' → IsGood c → IsGood c'
+logical_good : (d : SyntaxDeclaration) (c c' : StateTree) → IsLevelDecl d → AreQuoted (write_decl d) → ThenStep (IsSoundlyDeclared d) IsPassed c c' → IsGood c → IsGood c'
 logical_good d c c' w q u h = passed_good u.between c' u.second (declared_good d c u.between w q u.first h)
 
 -- ---- scopes
@@ -121,7 +121,7 @@ left_good outer c c' u h =
 
 -- ---- declarations
 mutual
-  pub decl_good : (d : Decl) (c c' : StateTree) → IsLevelDecl d → AreQuoted (write_decl d) → IsSoundlyTyped d c c' → IsGood c → IsGood c'
+  pub decl_good : (d : SyntaxDeclaration) (c c' : StateTree) → IsLevelDecl d → AreQuoted (write_decl d) → IsSoundlyTyped d c c' → IsGood c → IsGood c'
   decl_good (type_decl a n vs f) c c' w q u h = logical_good (type_decl a n vs f) c c' w q u h
   decl_good (algebraic_decl a ts) c c' w q u h = logical_good (algebraic_decl a ts) c c' w q u h
   decl_good (function_decl a x ps f e ms) c c' w q u h = logical_good (function_decl a x ps f e ms) c c' w q u h
@@ -136,7 +136,7 @@ mutual
       let r = front_of (write_decls ds) (mark t.EndWord ∷ []) (tail_of (lx t.Uident n.text) rest (tail_of (mark t.ScopeWord) (lx t.Uident n.text ∷ rest) q)) in
       left_good c.opened.within u.second.between c' u.second.second (decls_good ds u.between u.second.between w r u.second.first (opened_good n c u.between u.first h))
 
-  pub decls_good : (ds : Decls) (c c' : StateTree) → AreLevelDecls ds → AreQuoted (write_decls ds) → AreSoundlyTyped ds c c' → IsGood c → IsGood c'
+  pub decls_good : (ds : SyntaxDeclarations) (c c' : StateTree) → AreLevelDecls ds → AreQuoted (write_decls ds) → AreSoundlyTyped ds c c' → IsGood c → IsGood c'
   decls_good no_decls c c' w q u h = subst IsGood u h
   decls_good (more_decls d ds) c c' w q u h =
       decls_good ds u.between c' w.1 (back_of (write_decl d) (write_decls ds) q) u.second (decl_good d c u.between w.0 (front_of (write_decl d) (write_decls ds) q) u.first h)

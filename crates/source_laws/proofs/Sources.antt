@@ -10,12 +10,12 @@ use Rattle.tokens_why.specs.Tokens.{AreTokens}
 use Rattle.tokens_why.specs.declared.terminal.Terminal.TheVariants as t
 use Rattle.tasks.specs.Vocabulary.{is_empty}
 use Rattle.syntax_why.specs.Lexeme.{mark, lx, rest}
-use Rattle.syntax_why.specs.Declarations.{Decls, Theory, heading, write_decls, write_theory, write_file}
+use Rattle.syntax_why.specs.Declarations.{SyntaxDeclarations, SyntaxTheory, heading, write_decls, write_theory, write_file}
 use Rattle.syntax_why.specs.DeclarationRules.{AreLevelDecls, IsLevelFile}
 use Rattle.syntax_why.specs.declared.declarations.File.{File}
 use Rattle.syntax_why.specs.SurfaceDeclarations.{file_of}
 use Rattle.recognise_why.specs.Sources.{IsOnlyFile}
-use Rattle.std_theories.specs.Library.{Entry, AreFilesOf, library}
+use Rattle.std_theories.specs.Library.{LibraryEntry, AreFilesOf, library}
 use Rattle.elab_parts.specs.Entries.{builtin}
 use Rattle.valid_tasks.proofs.QuotedTokens.{tokens_quoted}
 use Rattle.goal_tasks.specs.Theories.{TheoriesTree}
@@ -27,7 +27,7 @@ use Rattle.sound_states.specs.Sound.{AreSoundTheories}
 use Rattle.sound_states.proofs.Begun.{begins, ends, nothing_sound}
 use Rattle.source_laws.specs.Plain.{IsPlainKnown, ArePlainTheories}
 use Rattle.source_laws.proofs.Plain.{begins_plain, ends_plain}
-use Rattle.theories.specs.Files.{IsBegun, IsEnded, is_taken, IsNewTheoryBy, AreTypedInBy, IsRestarted, AreEmbeddedInBy, AreEmbeddedBy, nothing_known}
+use Rattle.theories.specs.Files.{IsTheoryBegun, IsEnded, is_path_taken, IsNewTheoryBy, AreTypedInBy, IsRestarted, AreEmbeddedInBy, AreEmbeddedBy, nothing_known}
 use Rattle.theories.specs.Sound.{AreSoundlyTyped, SoundTheoriesOf}
 use Rattle.theories.proofs.Ending.{nothing_typed, int_placed}
 use Rattle.theories.proofs.Paths.{new_path}
@@ -50,10 +50,10 @@ right_false true b h = absurd (cc)
 right_false false b h = h
 
 -- no theory has a path that isn't taken
-not_known : (path : List ℕ) (known : List KnownTree) → is_taken path known ≡ false → known_named known path ≡ None
+not_known : (path : List ℕ) (known : List KnownTree) → is_path_taken path known ≡ false → known_named known path ≡ None
 not_known path known h = none_of (known_named known path) (right_false (bytes_eq path builtin) (is_some (known_named known path)) (right_false (is_empty path) (bytes_eq path builtin || is_some (known_named known path)) h))
 
-begun_good : (path : List ℕ) (c c' : StateTree) → is_taken path c.known ≡ false → IsBegun path c c' → AreGood c → IsGood c'
+begun_good : (path : List ℕ) (c c' : StateTree) → is_path_taken path c.known ≡ false → IsTheoryBegun path c c' → AreGood c → IsGood c'
 begun_good path c c' new e h =
     let p = new_path path c.known new in
     subst IsGood (sym e) (record {
@@ -71,7 +71,7 @@ ended_good c c' e h = subst AreGood (sym e) (record {
   sound = ends c h.sound;
 })
 
-new_good : (path : List ℕ) (ds : Decls) (c c' : StateTree) → AreLevelDecls ds → AreQuoted (write_decls ds) → IsNewTheoryBy AreSoundlyTyped path ds c c' → AreGood c → AreGood c'
+new_good : (path : List ℕ) (ds : SyntaxDeclarations) (c c' : StateTree) → AreLevelDecls ds → AreQuoted (write_decls ds) → IsNewTheoryBy AreSoundlyTyped path ds c c' → AreGood c → AreGood c'
 new_good path ds c c' w q u h =
     let x = u.typed in
     ended_good x.second.between c' x.second.second (decls_good ds x.between x.second.between w q x.second.first (begun_good path c x.between u.new x.first h))
@@ -80,28 +80,28 @@ restarted_good : (c c' : StateTree) → IsRestarted c c' → AreGood c → AreGo
 restarted_good c c' e h = subst AreGood (sym e) (record { typed = theories_same c c.opened 0 h.typed; placed = h.placed; plain = h.plain; sound = h.sound })
 
 -- ---- theories one after another
-inside : (x : Theory) → AreQuoted (write_theory x) → AreQuoted (write_decls x.decls)
+inside : (x : SyntaxTheory) → AreQuoted (write_theory x) → AreQuoted (write_decls x.decls)
 inside x q =
     let more = write_decls x.decls ++ (mark t.EndWord ∷ []) in
     front_of (write_decls x.decls) (mark t.EndWord ∷ []) (tail_of (lx t.Uident x.name.text) more (tail_of (mark (heading x.is_module)) (lx t.Uident x.name.text ∷ more) q))
 
-theories_good : (xs : List Theory) (c c' : StateTree) → IsLevelFile xs → AreQuoted (write_file xs) → AreTypedInBy AreSoundlyTyped xs c c' → AreGood c → AreGood c'
+theories_good : (xs : List SyntaxTheory) (c c' : StateTree) → IsLevelFile xs → AreQuoted (write_file xs) → AreTypedInBy AreSoundlyTyped xs c c' → AreGood c → AreGood c'
 theories_good [] c c' w q u h = subst AreGood u h
 theories_good (x ∷ xs) c c' w q u h =
     theories_good xs u.between c' w.1 (back_of (write_theory x) (write_file xs) q) u.second
     (new_good x.name.text x.decls c u.between w.0 (inside x (front_of (write_theory x) (write_file xs) q)) u.first h)
 
-embedded_good : (path : List ℕ) (xs : List Theory) (c c' : StateTree) → IsLevelFile xs → AreQuoted (write_file xs) → AreEmbeddedInBy AreSoundlyTyped path xs c c' → AreGood c → AreGood c'
+embedded_good : (path : List ℕ) (xs : List SyntaxTheory) (c c' : StateTree) → IsLevelFile xs → AreQuoted (write_file xs) → AreEmbeddedInBy AreSoundlyTyped path xs c c' → AreGood c → AreGood c'
 embedded_good path [] c c' w q u h = subst AreGood u h
 embedded_good path (x ∷ xs) c c' w q u h =
     embedded_good path xs u.between c' w.1 (back_of (write_theory x) (write_file xs) q) u.second
     (restarted_good u.first.between u.between u.first.second (new_good path x.decls c u.first.between w.0 (inside x (front_of (write_theory x) (write_file xs) q)) u.first.first h))
 
 -- ---- files
-quoted_file : (text : List ℕ) (ts : List Token) (xs : List Theory) → AreTokens text ts → IsOnlyFile (rest text ts 0) xs → AreQuoted (write_file xs)
+quoted_file : (text : List ℕ) (ts : List Token) (xs : List SyntaxTheory) → AreTokens text ts → IsOnlyFile (rest text ts 0) xs → AreQuoted (write_file xs)
 quoted_file text ts xs are only = subst AreQuoted (sym only.of.tokens) (tokens_quoted text ts 0 are)
 
-files_good : (es : List Entry) (fs : List (List ℕ × File)) (c c' : StateTree) → AreFilesOf es fs → AreEmbeddedBy AreSoundlyTyped fs c c' → AreGood c → AreGood c'
+files_good : (es : List LibraryEntry) (fs : List (List ℕ × File)) (c c' : StateTree) → AreFilesOf es fs → AreEmbeddedBy AreSoundlyTyped fs c c' → AreGood c → AreGood c'
 files_good [] [] c c' a u h = subst AreGood u h
 files_good [] (f ∷ fs) c c' a u h = absurd a
 files_good (e ∷ es) [] c c' a u h = absurd a
@@ -112,7 +112,7 @@ files_good (e ∷ es) (f ∷ fs) c c' a u h =
 nothing_good : (s : List Tree) → AreGood (nothing_known s)
 nothing_good s = record { typed = nothing_typed s; placed = int_placed; plain = All-nil (IsPlainKnown []); sound = nothing_sound s }
 
-pub source_sound : (text : List ℕ) (ts : List Token) (file : List Theory) (s : List Tree) (all : TheoriesTree) → AreTokens text ts → IsOnlyFile (rest text ts 0) file → SoundTheoriesOf s file all → AreSoundIn all
+pub source_sound : (text : List ℕ) (ts : List Token) (file : List SyntaxTheory) (s : List Tree) (all : TheoriesTree) → AreTokens text ts → IsOnlyFile (rest text ts 0) file → SoundTheoriesOf s file all → AreSoundIn all
 source_sound text ts file s all are only h =
     let b : AreGood h.before = files_good library h.library.files (nothing_known s) h.before h.library.are h.library.typed (nothing_good s) in
     let a : AreGood h.after = theories_good file h.before h.after only.of.right (quoted_file text ts file are only) h.typed b in

@@ -13,11 +13,11 @@ use Rattle.tokens_why.specs.declared.longest.Lead.{Lead}
 use Rattle.tokens_why.specs.declared.longest.Lead.TheVariants.{Letter, Quote, Digit, Sign, Mark}
 use Rattle.tokens_why.specs.Bytes.{is_digit, is_letter, is_lower, is_word_byte, is_operator_byte, is_one_of}
 use Rattle.tokens_why.specs.Literal.{is_literal}
-use Rattle.tokens_why.specs.Strings.{word_kind, run_kind, mark_kind, marks_kind, is_variable_name, only, lead_of, kind_by, kind_of}
+use Rattle.tokens_why.specs.Strings.{word_kind, run_kind, mark_kind, marks_kind, is_variable_name, only, lead_of, string_kind_by, kind_of}
 use Rattle.tokens_why.specs.Terminals.{terminal_of}
 use Rattle.tokens_why.specs.Tokens.{text_of, Stop, whole, Reads, AreTokens}
 use Rattle.syntax_why.specs.Lexeme.{Word, said, lexeme, rest}
-use Rattle.written_files.specs.Named.{IsPlain, IsWord}
+use Rattle.written_files.specs.Named.{IsPlainByte, IsLineWord}
 use Rattle.source_laws.specs.Lexemes.{SaysWord, IsWordLexeme, AreWordLexemes}
 use Rattle.source_laws.proofs.Words.{plain, both, above}
 
@@ -41,12 +41,12 @@ one_past (x ∷ xs) c h e =
 operator_past : (c : ℕ) → is_operator_byte c ≡ true → 32 < c
 operator_past c e = one_past (codes "!$&?@^#=<>~+-*/\\%") c refl e
 
-all_plain : (p : ℕ → Bool) → ((c : ℕ) → p c ≡ true → 32 < c) → (w : Word) → list_all p w ≡ true → IsWord w
-all_plain p h [] e = All-nil IsPlain
-all_plain p h (c ∷ cs) e = let b = both (p c) (list_all p cs) e in All-cons IsPlain c cs (plain c (h c b.0)) (all_plain p h cs b.1)
+all_plain : (p : ℕ → Bool) → ((c : ℕ) → p c ≡ true → 32 < c) → (w : Word) → list_all p w ≡ true → IsLineWord w
+all_plain p h [] e = All-nil IsPlainByte
+all_plain p h (c ∷ cs) e = let b = both (p c) (list_all p cs) e in All-cons IsPlainByte c cs (plain c (h c b.0)) (all_plain p h cs b.1)
 
 -- ---- what a terminal says of a word
-said_word : (x : Terminal) (w : Word) → IsWord w → SaysWord x (said x w)
+said_word : (x : Terminal) (w : Word) → IsLineWord w → SaysWord x (said x w)
 said_word t.Lident w h = h
 said_word t.Uident w h = h
 said_word t.TyVar w h = h
@@ -56,7 +56,7 @@ said_word t.Operator2 w h = h
 said_word t.Operator3 w h = h
 said_word t.Operator4 w h = h
 said_word t.PrefixOperator w h = h
-said_word _ w h = All-nil IsPlain
+said_word _ w h = All-nil IsPlainByte
 
 abbrev SaysIn : Option TokenKind → Type 0
 SaysIn None = Unit {0}
@@ -68,7 +68,7 @@ either false x y p q = q
 
 mark_says : (b : ℕ) → SaysIn (mark_kind b)
 mark_says b =
-    let no = All-nil IsPlain in
+    let no = All-nil IsPlainByte in
     either (nat_eq b 40) (Some k.LParen) _ (λ w. no) (either (nat_eq b 41) (Some k.RParen) _ (λ w. no) (either (nat_eq b 91) (Some k.LBrack) _ (λ w. no) (either (nat_eq b 93) (Some k.RBrack) _ (λ w. no)
     (either (nat_eq b 123) (Some k.LBrace) _ (λ w. no) (either (nat_eq b 125) (Some k.RBrace) _ (λ w. no) (either (nat_eq b 44) (Some k.Comma) _ (λ w. no) (either (nat_eq b 46) (Some k.Dot) _ (λ w. no)
     (either (nat_eq b 58) (Some k.Colon) _ (λ w. no) (either (nat_eq b 59) (Some k.Semi) _ (λ w. no) (either (nat_eq b 124) (Some k.Bar) None (λ w. no) tt))))))))))
@@ -76,8 +76,8 @@ mark_says b =
 marks_says : (bs : List ℕ) → SaysIn (marks_kind bs)
 marks_says [] = tt
 marks_says (a ∷ []) = mark_says a
-marks_says (a ∷ b ∷ []) = either (nat_eq a 124 && nat_eq b 124) (Some k.OrOr) None (λ w. All-nil IsPlain) tt
-marks_says (a ∷ b ∷ c ∷ []) = either ((nat_eq a 40 && nat_eq b 42) && nat_eq c 41) (Some k.StarName) None (λ w. All-nil IsPlain) tt
+marks_says (a ∷ b ∷ []) = either (nat_eq a 124 && nat_eq b 124) (Some k.OrOr) None (λ w. All-nil IsPlainByte) tt
+marks_says (a ∷ b ∷ c ∷ []) = either ((nat_eq a 40 && nat_eq b 42) && nat_eq c 41) (Some k.StarName) None (λ w. All-nil IsPlainByte) tt
 marks_says (a ∷ b ∷ c ∷ d ∷ bs) = tt
 
 some_says : (o : Option TokenKind) (x : TokenKind) → o ≡ Some x → SaysIn o → (w : Word) → SaysWord (terminal_of x) (said (terminal_of x) w)
@@ -116,27 +116,27 @@ lead_sign false false true e q = absurd (cc)
 lead_sign false false false true q = refl
 lead_sign false false false false q = absurd (cc)
 
-variable_word : (bs : List ℕ) → is_variable_name bs ≡ true → IsWord bs
-variable_word [] q = All-nil IsPlain
+variable_word : (bs : List ℕ) → is_variable_name bs ≡ true → IsLineWord bs
+variable_word [] q = All-nil IsPlainByte
 variable_word (a ∷ bs) q =
     let m = both (is_lower a && list_all is_word_byte bs) _ q in
     let n = both (is_lower a) (list_all is_word_byte bs) m.0 in
-    All-cons IsPlain a bs (plain a (lower_past a n.0)) (all_plain is_word_byte word_past bs n.1)
+    All-cons IsPlainByte a bs (plain a (lower_past a n.0)) (all_plain is_word_byte word_past bs n.1)
   where
     lower_past : (c : ℕ) → is_lower c ≡ true → 32 < c
     lower_past c e = grind (arith, nat_tests)
 
-lead_says : (l : Lead) (a : ℕ) (bs : List ℕ) (x : TokenKind) → lead_of a ≡ l → kind_by l a bs ≡ Some x → SaysWord (terminal_of x) (said (terminal_of x) (a ∷ bs))
+lead_says : (l : Lead) (a : ℕ) (bs : List ℕ) (x : TokenKind) → lead_of a ≡ l → string_kind_by l a bs ≡ Some x → SaysWord (terminal_of x) (said (terminal_of x) (a ∷ bs))
 lead_says Letter a bs x l q =
     let past = letter_past a (lead_letter (is_letter a) (nat_eq a 39) (is_digit a) (is_operator_byte a) l) in
-    said_word (terminal_of x) (a ∷ bs) (All-cons IsPlain a bs (plain a past) (all_plain is_word_byte word_past bs (only_true (list_all is_word_byte bs) (word_kind (a ∷ bs)) x q)))
+    said_word (terminal_of x) (a ∷ bs) (All-cons IsPlainByte a bs (plain a past) (all_plain is_word_byte word_past bs (only_true (list_all is_word_byte bs) (word_kind (a ∷ bs)) x q)))
 lead_says Quote a bs x l q =
     let i = eqb-true a 39 (lead_quote (is_letter a) (nat_eq a 39) (is_digit a) (is_operator_byte a) l) in
-    said_word (terminal_of x) (a ∷ bs) (All-cons IsPlain a bs (plain a (omega (arith, i))) (variable_word bs (only_true (is_variable_name bs) k.TyVar x q)))
+    said_word (terminal_of x) (a ∷ bs) (All-cons IsPlainByte a bs (plain a (omega (arith, i))) (variable_word bs (only_true (is_variable_name bs) k.TyVar x q)))
 lead_says Digit a bs x l q = subst (λ (y : TokenKind). SaysWord (terminal_of y) (said (terminal_of y) (a ∷ bs))) (only_kind (is_literal (a ∷ bs)) k.Int x q) tt
 lead_says Sign a bs x l q =
     let past = operator_past a (lead_sign (is_letter a) (nat_eq a 39) (is_digit a) (is_operator_byte a) l) in
-    said_word (terminal_of x) (a ∷ bs) (All-cons IsPlain a bs (plain a past) (all_plain is_operator_byte operator_past bs (only_true (list_all is_operator_byte bs) (run_kind (a ∷ bs)) x q)))
+    said_word (terminal_of x) (a ∷ bs) (All-cons IsPlainByte a bs (plain a past) (all_plain is_operator_byte operator_past bs (only_true (list_all is_operator_byte bs) (run_kind (a ∷ bs)) x q)))
 lead_says Mark a bs x l q = some_says (marks_kind (a ∷ bs)) x q (marks_says (a ∷ bs)) (a ∷ bs)
 
 kind_says : (w : Word) (x : TokenKind) → kind_of w ≡ Some x → SaysWord (terminal_of x) (said (terminal_of x) w)

@@ -9,23 +9,23 @@ use Rattle.tasks.specs.Equations.{type_variables}
 use Rattle.tasks.specs.Valid.{own_type}
 use Rattle.syntax_why.specs.Lexeme.{Word}
 use Rattle.elab_parts.specs.Entries.{builtin, type_entry, projection_name, projections, constructor_entries, tuple_entries, tuple_in, wanting_tuple, wanting_tuples}
-use Rattle.written_files.specs.Named.{IsWord}
+use Rattle.written_files.specs.Named.{IsLineWord}
 use Rattle.source_laws.specs.Names.{HaveWords}
 use Rattle.source_laws.proofs.Words.{past_space, joined, decimal_word}
 
 abbrev pub HasWord : SymbolTree → Type 0
-HasWord e = IsWord e.name
+HasWord e = IsLineWord e.name
 
-projection_word : (constructor : Word) (i : ℕ) → IsWord constructor → IsWord (projection_name constructor i)
+projection_word : (constructor : Word) (i : ℕ) → IsLineWord constructor → IsLineWord (projection_name constructor i)
 projection_word constructor i h = joined (constructor ++ codes "'") (decimal i) (joined constructor (codes "'") h (past_space (codes "'") refl)) (decimal_word i)
 
-projections_words : (theory constructor : Word) (vars : ℕ) (type : Tree) (i : ℕ) (fs : List Tree) → IsWord constructor → HaveWords (projections theory constructor vars type i fs)
+projections_words : (theory constructor : Word) (vars : ℕ) (type : Tree) (i : ℕ) (fs : List Tree) → IsLineWord constructor → HaveWords (projections theory constructor vars type i fs)
 projections_words theory constructor vars type i [] h = All-nil HasWord
 projections_words theory constructor vars type i (f ∷ fs) h =
     All-cons HasWord (record { theory = theory; name = projection_name constructor i; kind = Projection; vars = vars; args = type ∷ []; result = Some f }) (projections theory constructor vars type (suc i) fs)
     (projection_word constructor i h) (projections_words theory constructor vars type (suc i) fs h)
 
-pub constructor_words : (theory name : Word) (vars : ℕ) (type : Tree) (fields : List Tree) → IsWord name → HaveWords (constructor_entries theory name vars type fields)
+pub constructor_words : (theory name : Word) (vars : ℕ) (type : Tree) (fields : List Tree) → IsLineWord name → HaveWords (constructor_entries theory name vars type fields)
 constructor_words theory name vars type fields h =
     All-cons HasWord (record { theory = theory; name = name; kind = Constructor; vars = vars; args = fields; result = Some type }) (projections theory name vars type 1 fields) h (projections_words theory name vars type 1 fields h)
 
@@ -46,7 +46,7 @@ tuples_words (n ∷ ns) symbols =
     All-append HasWord more (wanting_tuples (symbols ++ more) ns) (wanting_words symbols n (tuple_in symbols n)) (tuples_words ns (symbols ++ more))
 
 -- an entry of a signature, or `int`
-pub symbol_word : (symbols : List SymbolTree) (k : ℕ) → HaveWords symbols → IsWord (symbol_or symbols k).name
+pub symbol_word : (symbols : List SymbolTree) (k : ℕ) → HaveWords symbols → IsLineWord (symbol_or symbols k).name
 symbol_word [] k h = past_space (codes "int") refl
 symbol_word (e ∷ es) zero h = h 0 e (omega arith)
 symbol_word (e ∷ es) (suc k) h = symbol_word es k (λ j d l. h (suc j) d (omega (arith, l)))

@@ -3,12 +3,12 @@ use Rattle.std.specs.Prelude.{List, All}
 use Rattle.tokens_why.specs.declared.terminal.Terminal.{Terminal}
 use Rattle.tokens_why.specs.declared.terminal.Terminal.TheVariants as t
 use Rattle.syntax_why.specs.Lexeme.{Word, Lexeme}
-use Rattle.written_files.specs.Named.{IsWord}
+use Rattle.written_files.specs.Named.{IsLineWord}
 
 -- the text of a name or an operator, and of what has none; that of an integer is its value, and no text
 abbrev pub SaysWord : Terminal → Word → Type 0
 SaysWord t.Int w = Unit {0}
-SaysWord _ w = IsWord w
+SaysWord _ w = IsLineWord w
 
 abbrev pub IsWordLexeme : Lexeme → Type 0
 IsWordLexeme l = SaysWord l.terminal l.text

@@ -15,7 +15,7 @@ pub record IsPlainAxiom (decls : List DeclarationTree) (a : AxiomAt) : Type 0 wh
   pub there : a.decl < length decls
   pub said : (d : DeclarationTree) → slice_get decls a.decl ≡ Some d → IsSaid d.body
 
--- a theory by its axioms and the names that it hands on
+-- a theory by its axioms and the names that it passes on
 pub record IsPlainTheory (decls : List DeclarationTree) (axioms : List AxiomAt) (moves : List Move) : Type 0 where
   pub axioms_said : All (IsPlainAxiom decls) axioms
   pub plain_moves : All IsPlainMove moves

@@ -2,14 +2,14 @@
 ghost use Rattle.std.specs.Prelude.{ℕ, List, [], ◌∷◌, ◌++◌, All, Option};
 ghost use Rattle.trees.specs.Tree.{Tree};
 ghost use Rattle.tasks.specs.Task.{SymbolTree, DeclarationTree};
-ghost use Rattle.names_space.specs.Names.{Names};
+ghost use Rattle.names_space.specs.Names.{ScopeNames};
 ghost use Rattle.scope_moves.specs.declared.moves.Move.{Move};
-ghost use Rattle.syntax_why.specs.Declarations.{Decl, Element};
+ghost use Rattle.syntax_why.specs.Declarations.{SyntaxDeclaration, Element};
 ghost use Rattle.syntax_why.specs.declared.names.Name.{Name};
 ghost use Rattle.syntax_why.specs.declared.names.Path.{Path};
 ghost use Rattle.syntax_why.specs.declared.declarations.Link.{Link};
 ghost use Rattle.theory_states.specs.States.{KnownTree, StateTree, opened_empty, known_as};
-ghost use Rattle.theory_states.specs.Uses.{IsUsed};
+ghost use Rattle.theory_states.specs.Uses.{IsTheoryUsed};
 ghost use Rattle.sound_states.specs.Typed.{IsTypedState};
 ghost use Rattle.sound_states.specs.Sound.{IsSoundState};
 ghost use Rattle.theory_declarations.specs.Declared.{IsDeclared};
@@ -46,8 +46,8 @@ pub fn stays_plain()
     ensures ends { (c : StateTree) → IsPlainState c
         → ArePlainTheories c.decls (c.known ++ known_as c.opened ∷ []) }
     ensures used { (link : Link) (p : Path) (alias : Option Name) (c next : StateTree)
-        → IsPlainState c → IsUsed link p alias c next → IsPlainState next }
-    ensures scoped { (c : StateTree) (within : List ℕ) (names : Names) (moves : List Move)
+        → IsPlainState c → IsTheoryUsed link p alias c next → IsPlainState next }
+    ensures scoped { (c : StateTree) (within : List ℕ) (names : ScopeNames) (moves : List Move)
         (number : ℕ) → IsPlainState c → All IsPlainMove moves
         → IsPlainState (record c {
           opened = record c.opened {
@@ -57,6 +57,7 @@ pub fn stays_plain()
           };
           number = number;
         }) }
-    ensures declared { (d : Decl) (c next : StateTree) → IsDeclared d c next → IsPlainState c
+    ensures declared { (d : SyntaxDeclaration) (c next : StateTree) → IsDeclared d c next
+        → IsPlainState c
         → IsPlainState next }
 {}

@@ -5,7 +5,7 @@ ghost use Rattle.tokens_why.specs.declared.token.Token.{Token};
 ghost use Rattle.tokens_why.specs.Tokens.{AreTokens};
 ghost use Rattle.tasks.specs.Task.{TaskTree};
 ghost use Rattle.syntax_why.specs.Lexeme.{rest};
-ghost use Rattle.syntax_why.specs.Declarations.{Theory};
+ghost use Rattle.syntax_why.specs.Declarations.{SyntaxTheory};
 ghost use Rattle.recognise_why.specs.Sources.{IsOnlyFile};
 ghost use Rattle.goal_tasks.specs.Theories.{TheoriesTree};
 ghost use Rattle.goal_tasks.specs.Tasks.{IsTaskOf};
@@ -14,7 +14,7 @@ ghost use Rattle.written_files.specs.Named.{NamesAreWords};
 
 /// A law: each name of a symbol in the task of a goal of a source is a word of a line.
 pub fn names_words()
-    ensures { (text : List ℕ) (ts : List Token) (file : List Theory) (s : List Tree)
+    ensures { (text : List ℕ) (ts : List Token) (file : List SyntaxTheory) (s : List Tree)
         (all : TheoriesTree) (theory goal : List ℕ) (t : TaskTree) → AreTokens text ts
         → IsOnlyFile (rest text ts 0) file → TheoriesOf s file all → IsTaskOf all theory goal t
         → NamesAreWords t }

@@ -9,7 +9,7 @@ use Rattle.tasks.specs.Meaning.{SymbolHeld}
 use Rattle.tasks.specs.declared.signature.SymbolInfo.{SymbolInfo}
 use Rattle.names_space.specs.declared.Table.TheVariants.{Scopes}
 use Rattle.names_space.specs.declared.TypeName.TheVariants as stands
-use Rattle.names_space.specs.Names.{Names, Entry, with_entry, with_scope}
+use Rattle.names_space.specs.Names.{ScopeNames, ScopeEntry, with_entry, with_scope}
 use Rattle.syntax_why.specs.Lexeme.{Word}
 use Rattle.elab_walk.specs.Drafts.{HoldsType, SymbolTyped}
 use Rattle.elab_parts.specs.Entries.{IsEntry, AreScopes}
@@ -28,8 +28,8 @@ symbol_held s i h = record {
 pub symbols_held : (s : List Tree) (is : List SymbolInfo) → All (SymbolTyped s) is → All (SymbolHeld s) is
 symbols_held s is h = All-weaker (SymbolTyped s) (SymbolHeld s) (symbol_held s) is h
 
-pub opened_scopes : (s : List Tree) (n : ℕ) (x : Word) (d : Bool) (names : Names) → AreScopes s n names → AreScopes s n (with_scope x d names)
+pub opened_scopes : (s : List Tree) (n : ℕ) (x : Word) (d : Bool) (names : ScopeNames) → AreScopes s n names → AreScopes s n (with_scope x d names)
 opened_scopes s n x d names h =
-    let P : List Entry → Type 0 = λ (es : List Entry). All (IsEntry s n) es in
+    let P : List ScopeEntry → Type 0 = λ (es : List ScopeEntry). All (IsEntry s n) es in
     let own = with_entry Scopes x (length names.entries) d names in
     All-append P own.entries ([] ∷ []) (scopes_more s n names Scopes x (stands.Entry (length names.entries)) d tt h) (All-cons P [] [] (All-nil (IsEntry s n)) (All-nil P))

@@ -1,6 +1,6 @@
 // The answer to a line: whether a source is right, its first fault by its code and numbers, or the task of one of its goals.
 ghost use Rattle.tasks.specs.Meaning.{symbols_at};
-ghost use Rattle.goal_tasks.specs.Meaning.{AreHeld, AreTuples};
+ghost use Rattle.goal_tasks.specs.Meaning.{AllTheoriesHeld, AreTuples};
 
 use goal_tasks::{TaskFault, Theories, task_of};
 use parse_decls::parse;
@@ -81,7 +81,7 @@ fn put_goal(
     theory: &str,
     goal: &str,
 ) -> Result<(), AllocError>
-    requires held { AreHeld store.now all.now }
+    requires held { AllTheoriesHeld store.now all.now }
     requires tuples { AreTuples (symbols_at store.now all.now.sig.value.symbols) }
 {
     match task_of(alloc, store, all, theory, goal) {
@@ -136,7 +136,7 @@ fn put_source(
     }
 }
 
-// A source behind the names of a theory and of a goal.
+// A source after the names of a theory and of a goal.
 fn put_asked(alloc: Global, text: &mut String, line: &str) -> Result<(), AllocError> {
     let Some((theory, rest)) = line.split_once(' ') else {
         return text.push_str("no theory");
@@ -147,7 +147,7 @@ fn put_asked(alloc: Global, text: &mut String, line: &str) -> Result<(), AllocEr
     }
 }
 
-/// The answer to a line: a source, before which `task`, a theory's path and a goal's name may stand.
+/// The answer to a line: a source, before which `task`, a theory's path and a goal's name may be there.
 pub(crate) fn describe(alloc: Global, line: &str) -> Result<String, AllocError> {
     let mut text = String::new(alloc);
     match line.strip_prefix("task ") {

@@ -237,7 +237,7 @@ fn split_asked(line: &str) -> (Asked, &str) {
     }
 }
 
-/// The answer to a line: a source, before which one of the words `covers`, `open` and `sides` may stand.
+/// The answer to a line: a source, before which one of the words `covers`, `open` and `sides` may be there.
 pub(crate) fn describe(alloc: Global, line: &str) -> Result<String, AllocError> {
     let mut text = String::new(alloc);
     let (asked, source) = split_asked(line);

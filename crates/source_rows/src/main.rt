@@ -12,7 +12,7 @@ mod sides;
 use std::alloc::{AllocError, Global};
 use std::io;
 
-// The answer to a line: behind `last` it is about the last declaration of a theory, else about a source.
+// The answer to a line: after `last` it is about the last declaration of a theory, else about a source.
 fn describe(alloc: Global, line: &str) -> Result<String, AllocError> {
     match line.strip_prefix("last ") {
         Some(rest) => declarations::describe(alloc, rest),

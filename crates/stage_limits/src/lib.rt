@@ -1,5 +1,5 @@
 //! How large the tasks of a stage may be, told by the sizes and heights that the store keeps.
-//! It stands on the laws of transformations; the transformations answer by it.
+//! It depends on the laws of transformations; the transformations answer by it.
 #![tactic(auto)]
 
 mod heights;

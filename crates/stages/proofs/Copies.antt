@@ -16,10 +16,10 @@ use Rattle.rule_rows.specs.Trees.{StepTree}
 use Rattle.kernel.specs.Right.{AreRight, Closes, last_starts}
 use Rattle.kernel.proofs.Growth.{steps_later, steps_held_later}
 use Rattle.evidence.specs.Drafts.{DraftTree, Extends}
-use Rattle.evidence.specs.Stages.{IsOwn, PartsHeld, parts_at}
+use Rattle.evidence.specs.Stages.{IsOwnTask, PartsHeld, parts_at}
 use Rattle.stages.specs.Steps.{IsCopy}
 use Rattle.stages.specs.declared.lifting.Derived.{Derived}
-use Rattle.stages.specs.Lifted.{HasSequents, IsDerived}
+use Rattle.stages.specs.Lifted.{HandedHasSequents, IsDerived}
 
 pub copy_moved : (t own copy : Task) → copy ≡ own → IsCopy t own → IsCopy t copy
 copy_moved t own copy e c = subst (IsCopy t) (sym e) c
@@ -33,7 +33,7 @@ begun_trees s copy d e = ap (λ (z : DraftTree). z.trees) e
 pub begun_task : (s : List Tree) (t own copy : Task) (d : DraftTree) → copy ≡ own → IsCopy t own → d ≡ record { trees = s; task = task_at s copy; steps = [] } → d.task ≡ task_at s t
 begun_task s t own copy d same c e = ap (λ (z : DraftTree). z.task) e ∙ (copy_moved t own copy same c).tree s
 
-pub begun_own : (s : List Tree) (t own copy seen : Task) (d : DraftTree) → copy ≡ own → seen ≡ own → IsCopy t own → d ≡ record { trees = s; task = task_at s copy; steps = [] } → TaskHeld s t → IsValid (task_at s t) → IsOwn d seen
+pub begun_own : (s : List Tree) (t own copy seen : Task) (d : DraftTree) → copy ≡ own → seen ≡ own → IsCopy t own → d ≡ record { trees = s; task = task_at s copy; steps = [] } → TaskHeld s t → IsValid (task_at s t) → IsOwnTask d seen
 begun_own s t own copy seen d same at c e held valid =
     let k = copy_moved t own seen at c in
     let trees : d.trees ≡ s = begun_trees s copy d e in
@@ -45,7 +45,7 @@ begun_own s t own copy seen d same at c e held valid =
     }
 
 pub derived_of : (s : List Tree) (t : TaskTree) (handed : List (List StepTree)) (d0 d : DraftTree) (store : List Tree) (steps list : List Step) → d0.trees ≡ s → d0.task ≡ t → Extends d0 d
-    → store ≡ d.trees → list ≡ steps → StepsHeld store steps → steps_at store steps ≡ d.steps → AreRight d.task d.steps → last_starts d.task d.steps → HasSequents d.steps handed
+    → store ≡ d.trees → list ≡ steps → StepsHeld store steps → steps_at store steps ≡ d.steps → AreRight d.task d.steps → last_starts d.task d.steps → HandedHasSequents d.steps handed
     → IsDerived s t handed (record { store = store; steps = list })
 derived_of s t handed d0 d store steps list trees task x into seq held are right starts sequents =
     let own : d.task ≡ t = x.task ∙ task in
@@ -56,7 +56,7 @@ derived_of s t handed d0 d store steps list trees task x into seq held are right
       grows = subst (Grows s) (sym into) g;
       held = subst (StepsHeld store) (sym seq) held;
       closes = subst (Closes t) (sym all) closes;
-      sequents = subst (λ (z : List StepTree). HasSequents z handed) (sym all) sequents;
+      sequents = subst (λ (z : List StepTree). HandedHasSequents z handed) (sym all) sequents;
     }
 
 module _ (s s' : List Tree) (g : Grows s s') where
@@ -72,10 +72,10 @@ module _ (s s' : List Tree) (g : Grows s s') where
     grows = Grows_trans s s' r.store g d.grows;
     held = d.held;
     closes = subst (λ (z : TaskTree). Closes z (steps_at r.store r.steps)) e d.closes;
-    sequents = subst (HasSequents (steps_at r.store r.steps)) f d.sequents;
+    sequents = subst (HandedHasSequents (steps_at r.store r.steps)) f d.sequents;
   }
 
-  -- the first of the handed lists
+  -- the first of the given lists
   pub front_later : (n : ℕ) (parts : List (List Step)) → PartsHeld s parts → parts_at s' (take n parts) ≡ take n (parts_at s parts)
   front_later n parts h = sym (take-map (steps_at s') n parts) ∙ ap (take n) (parts_later parts h)
 

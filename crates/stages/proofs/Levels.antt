@@ -7,21 +7,21 @@ use Rattle.std.proofs.Math.Seq.{get_or-append_seam}
 use Rattle.tasks.specs.Task.{TaskTree}
 use Rattle.rule_rows.specs.Trees.{StepTree}
 use Rattle.kernel.specs.Right.{Closes}
-use Rattle.evidence.specs.Stages.{Refusal, Equation, PartsClose, task_or, part_or, no_task}
+use Rattle.evidence.specs.Stages.{Refusal, TaskEquation, PartsClose, task_or, part_or, no_task}
 use Rattle.stage_limits.specs.Limits.{limited}
 use Rattle.stage_limits.specs.Laws.{limited_gives}
 use Rattle.stages.specs.Carried.{and_then, map_ok, all_tasks, carried_once}
-use Rattle.stages.specs.Lifted.{HasSequents, OneHasSequent, HaveSequents}
+use Rattle.stages.specs.Lifted.{HandedHasSequents, OneHasSequent, ListsHaveSequents}
 use Rattle.stages.specs.Levels.{AreRefutedOnce, AreRefutedFrom, IsFrontClosed, IsSoFar}
 use Rattle.stages.proofs.Sequents.{have_more}
 
 -- the tasks of a task, and of those after it
-record IsFirst (equation : Equation) (us vs : List TaskTree) (ts : List TaskTree) : Type 0 where
+record IsFirst (equation : TaskEquation) (us vs : List TaskTree) (ts : List TaskTree) : Type 0 where
   later : List TaskTree
   become : all_tasks equation ts ≡ Ok later
   joined : vs ≡ us ++ later
 
-first_of : (equation : Equation) (t : TaskTree) (ts us vs : List TaskTree) → equation t ≡ Ok us → all_tasks equation (t ∷ ts) ≡ Ok vs → IsFirst equation us vs ts
+first_of : (equation : TaskEquation) (t : TaskTree) (ts us vs : List TaskTree) → equation t ≡ Ok us → all_tasks equation (t ∷ ts) ≡ Ok vs → IsFirst equation us vs ts
 first_of equation t ts us vs e f = by (all_tasks equation ts) refl (rw e at f)
   where
     by : (r : Result (List TaskTree) Refusal) → all_tasks equation ts ≡ r → map_ok (λ ws. us ++ ws) r ≡ Ok vs → IsFirst equation us vs ts
@@ -54,19 +54,19 @@ later_closed us later handed c = record {
 }
 
 -- the refutations that come next refute what the next task becomes
-pub next_closed : (equation : Equation) (t : TaskTree) (ts us : List TaskTree) (handed : List (List StepTree)) → AreRefutedOnce equation (t ∷ ts) handed → equation t ≡ Ok us → IsFrontClosed us handed
+pub next_closed : (equation : TaskEquation) (t : TaskTree) (ts us : List TaskTree) (handed : List (List StepTree)) → AreRefutedOnce equation (t ∷ ts) handed → equation t ≡ Ok us → IsFrontClosed us handed
 next_closed equation t ts us handed r e =
     let f = first_of equation t ts us r.tasks e r.become in
     front_closed us f.later handed (subst (λ (z : List TaskTree). PartsClose z handed) f.joined r.close)
 
-next_left : (equation : Equation) (t : TaskTree) (ts us : List TaskTree) (handed : List (List StepTree)) → AreRefutedOnce equation (t ∷ ts) handed → equation t ≡ Ok us
+next_left : (equation : TaskEquation) (t : TaskTree) (ts us : List TaskTree) (handed : List (List StepTree)) → AreRefutedOnce equation (t ∷ ts) handed → equation t ≡ Ok us
     → AreRefutedOnce equation ts (drop (length us) handed)
 next_left equation t ts us handed r e =
     let f = first_of equation t ts us r.tasks e r.become in
     record { tasks = f.later; become = f.become; close = later_closed us f.later handed (subst (λ (z : List TaskTree). PartsClose z handed) f.joined r.close) }
 
 -- before the first task
-pub far_none : (equation : Equation) (ts : List TaskTree) (handed : List (List StepTree)) → AreRefutedOnce equation ts handed → IsSoFar equation ts handed 0 0 []
+pub far_none : (equation : TaskEquation) (ts : List TaskTree) (handed : List (List StepTree)) → AreRefutedOnce equation ts handed → IsSoFar equation ts handed 0 0 []
 far_none equation ts handed r = record { close = record { as_many = refl; each = λ i l. absurd (omega arith) }; within = omega arith; left = r; sequents = All-nil (λ part. All (OneHasSequent []) part) }
 
 closed_more : (ts : List TaskTree) (lists : List (List StepTree)) (t : TaskTree) (steps : List StepTree) → PartsClose ts lists → Closes t steps → PartsClose (ts ++ t ∷ []) (lists ++ steps ∷ [])
@@ -91,8 +91,8 @@ drop_twice (suc m) n [] = drop_all n [] (omega arith) ∙ sym (drop_all (suc m +
 drop_twice (suc m) n (x ∷ xs) = let e : suc (m + n) ≡ suc m + n = omega arith in drop_twice m n xs ∙ ap (λ (k : ℕ). drop k (x ∷ xs)) e
 
 -- one task more
-pub far_more : (equation : Equation) (ts : List TaskTree) (handed : List (List StepTree)) (i used : ℕ) (lists : List (List StepTree)) (t : TaskTree) (us : List TaskTree) (steps : List StepTree)
-    → IsSoFar equation ts handed i used lists → i < length ts → drop i ts ≡ t ∷ drop (i + 1) ts → equation t ≡ Ok us → Closes t steps → HasSequents steps (take (length us) (drop used handed))
+pub far_more : (equation : TaskEquation) (ts : List TaskTree) (handed : List (List StepTree)) (i used : ℕ) (lists : List (List StepTree)) (t : TaskTree) (us : List TaskTree) (steps : List StepTree)
+    → IsSoFar equation ts handed i used lists → i < length ts → drop i ts ≡ t ∷ drop (i + 1) ts → equation t ≡ Ok us → Closes t steps → HandedHasSequents steps (take (length us) (drop used handed))
     → IsSoFar equation ts handed (i + 1) (used + length us) (lists ++ steps ∷ [])
 far_more equation ts handed i used lists t us steps f l at e c h =
     let left : AreRefutedOnce equation (t ∷ drop (i + 1) ts) (drop used handed) = subst (λ (z : List TaskTree). AreRefutedOnce equation z (drop used handed)) at f.left in
@@ -109,30 +109,30 @@ far_more equation ts handed i used lists t us steps f l at e c h =
     by_head : drop i ts ≡ get_or ts i no_task ∷ drop (i + 1) ts → get_or ts i no_task ≡ t
     by_head d = cc
 
-none_left : (equation : Equation) (handed : List (List StepTree)) → AreRefutedOnce equation [] handed → length handed ≡ 0
+none_left : (equation : TaskEquation) (handed : List (List StepTree)) → AreRefutedOnce equation [] handed → length handed ≡ 0
 none_left equation handed r = let n : r.tasks ≡ [] = cc in r.close.as_many ∙ ap length n
 
 -- all tasks
-pub far_all : (equation : Equation) (ts : List TaskTree) (handed : List (List StepTree)) (i used : ℕ) (lists : List (List StepTree)) → IsSoFar equation ts handed i used lists → length ts ≤ i
-    → PartsClose ts lists × HaveSequents lists handed
+pub far_all : (equation : TaskEquation) (ts : List TaskTree) (handed : List (List StepTree)) (i used : ℕ) (lists : List (List StepTree)) → IsSoFar equation ts handed i used lists → length ts ≤ i
+    → PartsClose ts lists × ListsHaveSequents lists handed
 far_all equation ts handed i used lists f l =
     let n : length (drop used handed) ≡ 0 = none_left equation (drop used handed) (subst (λ (z : List TaskTree). AreRefutedOnce equation z (drop used handed)) (drop_all i ts l) f.left) in
     let m : length handed ≤ used = omega (arith, n, length-drop used handed) in
-    (subst (λ (z : List TaskTree). PartsClose z lists) (take_all i ts l) f.close, subst (λ (z : List (List StepTree)). HaveSequents lists z) (take_all used handed m) f.sequents)
+    (subst (λ (z : List TaskTree). PartsClose z lists) (take_all i ts l) f.close, subst (λ (z : List (List StepTree)). ListsHaveSequents lists z) (take_all used handed m) f.sequents)
 
 -- the tasks after the first stage, and what its tasks become all together
-pub record IsLater (equation : Equation) (equations : List Equation) (ts us : List TaskTree) (handed : List (List StepTree)) : Type 0 where
+pub record IsLater (equation : TaskEquation) (equations : List TaskEquation) (ts us : List TaskTree) (handed : List (List StepTree)) : Type 0 where
   pub once : all_tasks equation ts ≡ Ok us
   pub from : AreRefutedFrom equations us handed
 
-once_all : (equation : Equation) (ts us : List TaskTree) → carried_once equation ts ≡ Ok us → all_tasks equation ts ≡ Ok us
+once_all : (equation : TaskEquation) (ts us : List TaskTree) → carried_once equation ts ≡ Ok us → all_tasks equation ts ≡ Ok us
 once_all equation ts us e = by (all_tasks equation ts) refl e
   where
     by : (r : Result (List TaskTree) Refusal) → all_tasks equation ts ≡ r → and_then r limited ≡ Ok us → all_tasks equation ts ≡ Ok us
     by (Ok vs) is h = is ∙ ap (λ (z : List TaskTree). Ok z) (sym (limited_gives vs us h))
     by (Err q) is h = absurd (cc)
 
-pub later_of : (equation : Equation) (equations : List Equation) (ts us : List TaskTree) (handed : List (List StepTree)) → AreRefutedFrom (equation ∷ equations) ts handed → carried_once equation ts ≡ Ok us
+pub later_of : (equation : TaskEquation) (equations : List TaskEquation) (ts us : List TaskTree) (handed : List (List StepTree)) → AreRefutedFrom (equation ∷ equations) ts handed → carried_once equation ts ≡ Ok us
     → IsLater equation equations ts us handed
 later_of equation equations ts us handed r e = record {
   once = once_all equation ts us e;

@@ -10,23 +10,23 @@ use Rattle.tasks.specs.Meaning.{task_at, tasks_at, TasksHeld}
 use Rattle.rule_rows.specs.declared.rule.Step.{Step}
 use Rattle.rule_rows.specs.Meaning.{steps_at, StepsHeld}
 use Rattle.rule_rows.specs.Trees.{StepTree}
-use Rattle.evidence.specs.Stages.{Equation, Gives, PartsClose, PartsHeld, parts_at}
+use Rattle.evidence.specs.Stages.{TaskEquation, Gives, PartsClose, PartsHeld, parts_at}
 use Rattle.kernel.specs.Right.{Closes}
 use Rattle.stages.specs.declared.lifting.Derived.{Derived}
 use Rattle.stages.specs.declared.transformation.Transformation.{Transformation}
 use Rattle.stages.specs.Transformations.{equation_of}
-use Rattle.stages.specs.Lifted.{HasSequents, HaveSequents, IsDerived}
-use Rattle.stages.specs.Levels.{AreRefutedOnce, AreRefutedFrom, IsFrontClosed, IsNext, IsSoFar}
+use Rattle.stages.specs.Lifted.{HandedHasSequents, ListsHaveSequents, IsDerived}
+use Rattle.stages.specs.Levels.{AreRefutedOnce, AreRefutedFrom, IsFrontClosed, IsNextLevel, IsSoFar}
 use Rattle.stages.proofs.CarriedTasks.{rest_from}
 use Rattle.stages.proofs.Levels.{next_closed, far_more, from_none}
 use Rattle.stages.proofs.Sequents.{have_alone}
 use Rattle.stages.proofs.Copies.{parts_later, parts_held_later}
 
-module _ (equation : Equation) (s0 s : List Tree) (g : Grows s0 s) (tasks : List Task) (parts : List (List Step)) (i used : ℕ) (lists : List (List Step)) where
+module _ (equation : TaskEquation) (s0 s : List Tree) (g : Grows s0 s) (tasks : List Task) (parts : List (List Step)) (i used : ℕ) (lists : List (List Step)) where
   abbrev pub Far : Type 0
   Far = IsSoFar equation (tasks_at s0 tasks) (parts_at s0 parts) i used (parts_at s lists)
 
-  -- what is left of the handed lists, in the store so far
+  -- what is left of the given lists, in the store so far
   pub left_parts : PartsHeld s0 parts → parts_at s (drop used parts) ≡ drop used (parts_at s0 parts)
   left_parts h = sym (drop-map (steps_at s) used parts) ∙ ap (drop used) (parts_later s0 s g parts h)
 
@@ -44,21 +44,21 @@ module _ (equation : Equation) (s0 s : List Tree) (g : Grows s0 s) (tasks : List
 
   -- and are one derivation more
   pub far_next : (t : Task) (r : Derived × ℕ) → TasksHeld s0 tasks → PartsHeld s0 parts → PartsHeld s lists → t ≡ get_or tasks i t → i < length tasks → Far
-      → IsNext equation s (task_at s t) (parts_at s (drop used parts)) r
+      → IsNextLevel equation s (task_at s t) (parts_at s (drop used parts)) r
       → IsSoFar equation (tasks_at s0 tasks) (parts_at s0 parts) (i + 1) (used + r.1) (parts_at r.0.store (lists ++ r.0.steps ∷ []))
   far_next t r th ph lh is l f n =
       let here = rest_from s0 s g tasks i t th is l in
       let k : i < length (tasks_at s0 tasks) = omega (arith, length-map tasks (task_at s0), l) in
       let left : parts_at s (drop used parts) ≡ drop used (parts_at s0 parts) = left_parts ph in
-      let sequents : HasSequents (steps_at r.0.store r.0.steps) (take (length n.tasks) (drop used (parts_at s0 parts))) =
-      subst (λ (z : List (List StepTree)). HasSequents (steps_at r.0.store r.0.steps) (take (length n.tasks) z)) left (subst (λ (m : ℕ). HasSequents (steps_at r.0.store r.0.steps) (take m (parts_at s (drop used parts)))) n.count n.derived.sequents) in
+      let sequents : HandedHasSequents (steps_at r.0.store r.0.steps) (take (length n.tasks) (drop used (parts_at s0 parts))) =
+      subst (λ (z : List (List StepTree)). HandedHasSequents (steps_at r.0.store r.0.steps) (take (length n.tasks) z)) left (subst (λ (m : ℕ). HandedHasSequents (steps_at r.0.store r.0.steps) (take m (parts_at s (drop used parts)))) n.count n.derived.sequents) in
       let more = far_more equation (tasks_at s0 tasks) (parts_at s0 parts) i used (parts_at s lists) (task_at s t) n.tasks (steps_at r.0.store r.0.steps) f k here n.gives n.derived.closes sequents in
       let trees : parts_at r.0.store (lists ++ r.0.steps ∷ []) ≡ parts_at s lists ++ steps_at r.0.store r.0.steps ∷ [] =
       map-append (steps_at r.0.store) lists (r.0.steps ∷ []) ∙ ap (λ (z : List (List StepTree)). z ++ steps_at r.0.store r.0.steps ∷ []) (parts_later s r.0.store n.derived.grows lists lh) in
       subst (λ (m : ℕ). IsSoFar equation (tasks_at s0 tasks) (parts_at s0 parts) (i + 1) (used + m) (parts_at r.0.store (lists ++ r.0.steps ∷ []))) (sym n.count)
       (subst (λ (z : List (List StepTree)). IsSoFar equation (tasks_at s0 tasks) (parts_at s0 parts) (i + 1) (used + length n.tasks) z) (sym trees) more)
 
-  pub held_next : (r : Derived × ℕ) (t : TaskTree) (handed : List (List StepTree)) → PartsHeld s lists → IsNext equation s t handed r → PartsHeld r.0.store (lists ++ r.0.steps ∷ [])
+  pub held_next : (r : Derived × ℕ) (t : TaskTree) (handed : List (List StepTree)) → PartsHeld s lists → IsNextLevel equation s t handed r → PartsHeld r.0.store (lists ++ r.0.steps ∷ [])
   held_next r t handed lh n = All-push (StepsHeld r.0.store) lists r.0.steps (parts_held_later s r.0.store n.derived.grows lists lh) n.derived.held
 
 -- without stages
@@ -68,12 +68,12 @@ stages_none (x ∷ xs) ts handed l r = absurd (omega arith)
 
 -- one list alone
 pub alone_of : (s : List Tree) (t : TaskTree) (handed : List (List StepTree)) (store : List Tree) (lists : List (List Step)) (steps : List Step) → Grows s store → PartsHeld store lists
-    → PartsClose (t ∷ []) (parts_at store lists) → HaveSequents (parts_at store lists) handed → steps ≡ get_or lists 0 steps → IsDerived s t handed (record { store = store; steps = steps })
+    → PartsClose (t ∷ []) (parts_at store lists) → ListsHaveSequents (parts_at store lists) handed → steps ≡ get_or lists 0 steps → IsDerived s t handed (record { store = store; steps = steps })
 alone_of s t handed store [] steps g h c q e = let n = c.as_many in absurd (omega (arith, n))
 alone_of s t handed store (x ∷ []) steps g h c q e = record {
   grows = g;
   held = subst (StepsHeld store) (sym e) (h 0 x (omega arith));
   closes = subst (λ (z : List Step). Closes t (steps_at store z)) (sym e) (c.each 0 (omega arith));
-  sequents = subst (λ (z : List Step). HasSequents (steps_at store z) handed) (sym e) (have_alone (steps_at store x) handed q);
+  sequents = subst (λ (z : List Step). HandedHasSequents (steps_at store z) handed) (sym e) (have_alone (steps_at store x) handed q);
 }
 alone_of s t handed store (x ∷ y ∷ ys) steps g h c q e = let n = c.as_many in absurd (omega (arith, n))

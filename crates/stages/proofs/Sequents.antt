@@ -7,13 +7,13 @@ use Rattle.trees.specs.Tree.{Tree}
 use Rattle.rule_rows.specs.Trees.{StepTree, no_step, step_or}
 use Rattle.evidence.specs.Drafts.{DraftTree, Extends}
 use Rattle.evidence.specs.Stages.{part_or, HasSequents as DraftHasSequents}
-use Rattle.stages.specs.Lifted.{HasSequent, HasSequents, OneHasSequent, HaveSequents}
+use Rattle.stages.specs.Lifted.{HasSequent, HandedHasSequents, OneHasSequent, ListsHaveSequents}
 
 abbrev sequent_of_step : StepTree → List Tree
 sequent_of_step st = st.sequent
 
--- the sequents of the handed steps, in a draft that has grown
-pub sequents_kept : (d d' : DraftTree) (handed : List (List StepTree)) → Extends d d' → All (DraftHasSequents d) handed → HasSequents d'.steps handed
+-- the sequents of the given steps, in a draft that has grown
+pub sequents_kept : (d d' : DraftTree) (handed : List (List StepTree)) → Extends d d' → All (DraftHasSequents d) handed → HandedHasSequents d'.steps handed
 sequents_kept d d' handed x all = All-from_get_or (λ part. All (HasSequent d'.steps) part) handed [] (λ i l.
     All-from_get_or (HasSequent d'.steps) (part_or handed i) no_step (λ j m.
     let h = all i [] l j m in
@@ -21,7 +21,7 @@ sequents_kept d d' handed x all = All-from_get_or (λ part. All (HasSequent d'.s
     (h.0, omega (arith, ap length x.steps, length-append d.steps x.more, h.1.within), ap sequent_of_step e ∙ h.1.is)))
 
 -- lists have their own sequents
-pub have_own : (lists : List (List StepTree)) → HaveSequents lists lists
+pub have_own : (lists : List (List StepTree)) → ListsHaveSequents lists lists
 have_own lists = All-from_get_or (λ part. All (OneHasSequent lists) part) lists [] (λ i l.
     All-from_get_or (OneHasSequent lists) (part_or lists i) no_step (λ j m. (i, l, (j, m, refl))))
 
@@ -36,8 +36,8 @@ one_last lists steps st h =
     (length lists, omega (arith, length-append lists (steps ∷ [])), subst (λ (p : List StepTree). HasSequent p st) (sym e) h)
 
 -- one list more
-pub have_more : (lists handed : List (List StepTree)) (used count : ℕ) (steps : List StepTree) → HaveSequents lists (take used handed) → HasSequents steps (take count (drop used handed))
-    → HaveSequents (lists ++ steps ∷ []) (take (used + count) handed)
+pub have_more : (lists handed : List (List StepTree)) (used count : ℕ) (steps : List StepTree) → ListsHaveSequents lists (take used handed) → HandedHasSequents steps (take count (drop used handed))
+    → ListsHaveSequents (lists ++ steps ∷ []) (take (used + count) handed)
 have_more lists handed used count steps h g =
     let all = lists ++ steps ∷ [] in
     let P : List StepTree → Type 0 = λ part. All (OneHasSequent all) part in
@@ -45,13 +45,13 @@ have_more lists handed used count steps h g =
     let next : All P (take count (drop used handed)) = All-weaker (λ part. All (HasSequent steps) part) P (λ part a. All-weaker (HasSequent steps) (OneHasSequent all) (one_last lists steps) part a) (take count (drop used handed)) g in
     subst (All P) (sym (take-add used count handed)) (All-append P (take used handed) (take count (drop used handed)) before next)
 
-one_through : (lists between : List (List StepTree)) (st : StepTree) → HaveSequents lists between → OneHasSequent between st → OneHasSequent lists st
+one_through : (lists between : List (List StepTree)) (st : StepTree) → ListsHaveSequents lists between → OneHasSequent between st → OneHasSequent lists st
 one_through lists between st h o =
     let p = h o.0 [] o.1 o.2.0 no_step o.2.1 in
     (p.0, p.1, (p.2.0, p.2.1, p.2.2 ∙ o.2.2))
 
 -- lists that have the sequents of lists that have those of others
-pub have_through : (lists between handed : List (List StepTree)) → HaveSequents lists between → HaveSequents between handed → HaveSequents lists handed
+pub have_through : (lists between handed : List (List StepTree)) → ListsHaveSequents lists between → ListsHaveSequents between handed → ListsHaveSequents lists handed
 have_through lists between handed h g =
     All-weaker (λ part. All (OneHasSequent between) part) (λ part. All (OneHasSequent lists) part)
     (λ part a. All-weaker (OneHasSequent between) (OneHasSequent lists) (λ st o. one_through lists between st h o) part a) handed g
@@ -62,7 +62,7 @@ one_alone steps st o =
     subst (λ (i : ℕ). HasSequent (part_or (steps ∷ []) i) st) e o.2
 
 -- one list that has them
-pub have_alone : (steps : List StepTree) (handed : List (List StepTree)) → HaveSequents (steps ∷ []) handed → HasSequents steps handed
+pub have_alone : (steps : List StepTree) (handed : List (List StepTree)) → ListsHaveSequents (steps ∷ []) handed → HandedHasSequents steps handed
 have_alone steps handed h =
     All-weaker (λ part. All (OneHasSequent (steps ∷ [])) part) (λ part. All (HasSequent steps) part)
     (λ part a. All-weaker (OneHasSequent (steps ∷ [])) (HasSequent steps) (one_alone steps) part a) handed h

@@ -17,16 +17,16 @@ use Rattle.stages.specs.Carried.{carried_task}
 abbrev pub HasSequent : List StepTree → StepTree → Type 0
 HasSequent steps st = (k : ℕ) × (k < length steps) × ((step_or steps k).sequent ≡ st.sequent)
 
--- for each step of each handed list there is one with its sequent
-abbrev pub HasSequents : List StepTree → List (List StepTree) → Type 0
-HasSequents steps handed = All (λ part. All (HasSequent steps) part) handed
+-- for each step of each given list there is one with its sequent
+abbrev pub HandedHasSequents : List StepTree → List (List StepTree) → Type 0
+HandedHasSequents steps handed = All (λ part. All (HasSequent steps) part) handed
 
 -- one of the lists has a step with the sequent of this one
 abbrev pub OneHasSequent : List (List StepTree) → StepTree → Type 0
 OneHasSequent lists st = (i : ℕ) × (i < length lists) × HasSequent (part_or lists i) st
 
-abbrev pub HaveSequents : List (List StepTree) → List (List StepTree) → Type 0
-HaveSequents lists handed = All (λ part. All (OneHasSequent lists) part) handed
+abbrev pub ListsHaveSequents : List (List StepTree) → List (List StepTree) → Type 0
+ListsHaveSequents lists handed = All (λ part. All (OneHasSequent lists) part) handed
 
 -- the tasks that a task becomes by stages, each refuted by its steps
 pub record AreRefuted (stages : List Transformation) (t : TaskTree) (handed : List (List StepTree)) : Type 0 where
@@ -34,16 +34,16 @@ pub record AreRefuted (stages : List Transformation) (t : TaskTree) (handed : Li
   pub becomes : carried_task (map equation_of stages) t ≡ Ok tasks
   pub close : PartsClose tasks handed
 
--- in a store that has grown, steps derive a task, with the sequents of the handed steps
+-- in a store that has grown, steps derive a task, with the sequents of the given steps
 pub record IsDerived (s : List Tree) (t : TaskTree) (handed : List (List StepTree)) (d : Derived) : Type 0 where
   pub grows : Grows s d.store
   pub held : StepsHeld d.store d.steps
   pub closes : Closes t (steps_at d.store d.steps)
-  pub sequents : HasSequents (steps_at d.store d.steps) handed
+  pub sequents : HandedHasSequents (steps_at d.store d.steps) handed
 
 -- and so for tasks
 pub record AreDerived (s : List Tree) (ts : List TaskTree) (handed : List (List StepTree)) (p : Parts) : Type 0 where
   pub grows : Grows s p.store
   pub held : PartsHeld p.store p.lists.items
   pub close : PartsClose ts (parts_at p.store p.lists.items)
-  pub sequents : HaveSequents (parts_at p.store p.lists.items) handed
+  pub sequents : ListsHaveSequents (parts_at p.store p.lists.items) handed

@@ -13,10 +13,10 @@ use Rattle.stages.specs.declared.transformation.Transformation.{Transformation}
 use Rattle.stages.specs.declared.transformation.Transformation.TheVariants.{Remove, Split, Introduce}
 
 -- the transformation of a name, where it is built
-abbrev pub built : Trans → Option Transformation
-built SplitGoalRight = Some (Split (record {}))
-built IntroducePremises = Some (Introduce (record {}))
-built _ = None
+abbrev pub built_stage : Trans → Option Transformation
+built_stage SplitGoalRight = Some (Split (record {}))
+built_stage IntroducePremises = Some (Introduce (record {}))
+built_stage _ = None
 
 -- a proposition of one of these theories
 abbrev pub is_removed_of : List (List ℕ) → DeclarationTree → Bool
@@ -35,15 +35,15 @@ removed_of paths (d ∷ ds) = name_if paths d ++ removed_of paths ds
 abbrev pub removed_names : Driver → TaskTree → List (List ℕ × List ℕ)
 removed_names d t = d.removed ++ removed_of d.all_removed t.decls
 
-abbrev pub with_stage : ℕ → Option Transformation → Result (List Transformation) ℕ → Result (List Transformation) ℕ
-with_stage n None rest = Err n
-with_stage n (Some stage) (Ok rest) = Ok (stage ∷ rest)
-with_stage n (Some stage) (Err m) = Err m
+abbrev pub with_built_stage : ℕ → Option Transformation → Result (List Transformation) ℕ → Result (List Transformation) ℕ
+with_built_stage n None rest = Err n
+with_built_stage n (Some stage) (Ok rest) = Ok (stage ∷ rest)
+with_built_stage n (Some stage) (Err m) = Err m
 
 -- the transformations of names, the first of which is a stage with this number; or the number of the first that isn't built
 abbrev pub built_from : ℕ → List Trans → Result (List Transformation) ℕ
 built_from n [] = Ok []
-built_from n (x ∷ xs) = with_stage n (built x) (built_from (n + 1) xs)
+built_from n (x ∷ xs) = with_built_stage n (built_stage x) (built_from (n + 1) xs)
 
 abbrev pub after_stages : List Transformation → Result (List Transformation) ℕ → Result (List Transformation) ℕ
 after_stages before (Ok stages) = Ok (before ++ stages)
@@ -54,17 +54,17 @@ abbrev pub stages_of : Driver → TaskTree → Result (List Transformation) ℕ
 stages_of d t = after_stages (Remove (record { props = removed_names d t }) ∷ []) (built_from 1 d.stages)
 
 -- the transformations of names were put after others
-abbrev pub IsPushed : List Transformation → List Trans → List Transformation → Result Unit CarryFault → Type 0
-IsPushed old names new (Ok u) = after_stages old (built_from 1 names) ≡ Ok new
-IsPushed old names new (Err fault.Memory) = Unit {0}
-IsPushed old names new (Err (fault.NotBuilt stage)) = built_from 1 names ≡ Err stage
-IsPushed old names new (Err (fault.Misplaced stage decl)) = ⊥
-IsPushed old names new (Err (fault.TooLarge stage)) = ⊥
+abbrev pub AreStagesPushed : List Transformation → List Trans → List Transformation → Result Unit CarryFault → Type 0
+AreStagesPushed old names new (Ok u) = after_stages old (built_from 1 names) ≡ Ok new
+AreStagesPushed old names new (Err fault.Memory) = Unit {0}
+AreStagesPushed old names new (Err (fault.NotBuilt stage)) = built_from 1 names ≡ Err stage
+AreStagesPushed old names new (Err (fault.Misplaced stage decl)) = ⊥
+AreStagesPushed old names new (Err (fault.TooLarge stage)) = ⊥
 
 -- the transformation of a name was put after others, as the stage with this number
 abbrev pub IsPushedOne : List Transformation → Trans → ℕ → List Transformation → Result Unit CarryFault → Type 0
-IsPushedOne old name n new (Ok u) = (stage : Transformation) × (built name ≡ Some stage) × (new ≡ old ++ stage ∷ [])
+IsPushedOne old name n new (Ok u) = (stage : Transformation) × (built_stage name ≡ Some stage) × (new ≡ old ++ stage ∷ [])
 IsPushedOne old name n new (Err fault.Memory) = Unit {0}
-IsPushedOne old name n new (Err (fault.NotBuilt stage)) = (built name ≡ None) × (stage ≡ n)
+IsPushedOne old name n new (Err (fault.NotBuilt stage)) = (built_stage name ≡ None) × (stage ≡ n)
 IsPushedOne old name n new (Err (fault.Misplaced stage decl)) = ⊥
 IsPushedOne old name n new (Err (fault.TooLarge stage)) = ⊥

@@ -7,11 +7,11 @@ ghost use Rattle.tasks.specs.Meaning.{task_at, tasks_at, TaskHeld, TasksHeld};
 ghost use Rattle.tasks.specs.Valid.{IsValid};
 ghost use Rattle.kernel.specs.Right.{last_starts};
 ghost use Rattle.evidence.specs.Drafts.{Extends};
-ghost use Rattle.evidence.specs.Stages.{Gives, IsOwn, PartsClose, PartsHeld, parts_at};
+ghost use Rattle.evidence.specs.Stages.{Gives, IsOwnTask, PartsClose, PartsHeld, parts_at};
 ghost use Rattle.stages.specs.Transformations.{equation_of};
 ghost use Rattle.stages.specs.Steps.{AreTasks, IsCopy};
-ghost use Rattle.stages.specs.Lifted.{AreDerived, AreRefuted, HasSequents, IsDerived};
-ghost use Rattle.stages.specs.Levels.{AreRefutedFrom, AreRefutedOnce, IsFrontClosed, IsNext};
+ghost use Rattle.stages.specs.Lifted.{AreDerived, AreRefuted, HandedHasSequents, IsDerived};
+ghost use Rattle.stages.specs.Levels.{AreRefutedFrom, AreRefutedOnce, IsFrontClosed, IsNextLevel};
 
 use crate::carrying::carry_once;
 use crate::transformation::Transformation;
@@ -38,7 +38,7 @@ pub struct Parts {
     pub lists: Vec<Seq<Step>>,
 }
 
-// Makes an empty draft of a task one that ends in its start and has the sequents of the handed steps.
+// Makes an empty draft of a task one that ends in its start and has the sequents of the given steps.
 fn lift_draft(
     stage: &Transformation,
     task: &Task,
@@ -46,7 +46,7 @@ fn lift_draft(
     parts: &[Seq<Step>],
     draft: &mut Draft,
 ) -> Result<(), AllocError>
-    requires own { IsOwn draft.old task.now }
+    requires own { IsOwnTask draft.old task.now }
     requires to_held { TasksHeld draft.old.trees to.now.items }
     requires gives { Gives (equation_of stage.now) draft.old.task
         (tasks_at draft.old.trees to.now.items) }
@@ -54,7 +54,7 @@ fn lift_draft(
     requires close { PartsClose (tasks_at draft.old.trees to.now.items)
         (parts_at draft.old.trees parts.now) }
     ensures starts { IfOk result (λ _. last_starts draft.new.task draft.new.steps) }
-    ensures sequents { IfOk result (λ _. HasSequents draft.new.steps
+    ensures sequents { IfOk result (λ _. HandedHasSequents draft.new.steps
         (parts_at draft.old.trees parts.now)) }
     ensures grows { Extends draft.old draft.new }
 {
@@ -133,7 +133,7 @@ fn lift_next(
     requires close { (us : List TaskTree)
         → Gives (equation_of stage.now) (task_at store task.now) us
         → IsFrontClosed us (parts_at store rest.now) }
-    ensures { IfOk result (IsNext (equation_of stage.now) store (task_at store task.now)
+    ensures { IfOk result (IsNextLevel (equation_of stage.now) store (task_at store task.now)
         (parts_at store rest.now)) }
 {
     let mut store = store;

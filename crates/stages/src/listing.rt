@@ -5,7 +5,7 @@ ghost use Rattle.std.specs.Str.{bytes_eq};
 ghost use Rattle.std.specs.Prelude.{◌≡◌, ◌+◌, ◌++◌, List, Ok, Err, IfOk, MatchResult, OnOk};
 ghost use Rattle.trees.specs.Tree.{Tree};
 ghost use Rattle.tasks.specs.Meaning.{declaration_at, declarations_at, task_at};
-ghost use Rattle.stages.specs.Listing.{IsPushed, IsPushedOne, built, is_removed_of, name_if, removed_names, removed_of, stages_of};
+ghost use Rattle.stages.specs.Listing.{AreStagesPushed, IsPushedOne, built_stage, is_removed_of, name_if, removed_names, removed_of, stages_of};
 ghost use Rattle.stages.specs.Faults.{IsListFault};
 
 use crate::fault::CarryFault;
@@ -20,7 +20,7 @@ use tr_split_goals::Split;
 
 // The transformation of this name, if it is built.
 fn transformation_of(name: Trans) -> Option<Transformation>
-    ensures { result ≡ built name }
+    ensures { result ≡ built_stage name }
 {
     match name {
         Trans::SplitGoalRight => Some(Transformation::Split(Split)),
@@ -142,7 +142,7 @@ fn push_one(stages: &mut Vec<Transformation>, name: Trans, number: usize) -> Res
 
 // Puts the transformations of names after the others. The first that isn't built is refused, by its number.
 fn push_built(stages: &mut Vec<Transformation>, names: &[Trans]) -> Result<(), CarryFault>
-    ensures { IsPushed stages.old.items names.now stages.new.items result }
+    ensures { AreStagesPushed stages.old.items names.now stages.new.items result }
 {
     for (place, name) in names.iter().enumerate() {
         push_one(stages, *name, place + 1)?;

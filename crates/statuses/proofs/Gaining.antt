@@ -2,7 +2,7 @@
 use Rattle.std.proofs.Common.{◌≡◌, ◌≤◌, ◌-◌, ◌+◌, ◌++◌, ◌∙◌, ℕ, List, [], Option, Some, None, Err, min, length, take, drop, sym, ap, arith, subst, append_assoc}
 use Rattle.std.proofs.lemmas.List.{take-append-le, take_min, take-append-drop, append-nil}
 use Rattle.std.proofs.Math.Seq.{take-append-add, take-add}
-use Rattle.outside.specs.State.{SinkState, Gains, GainsPrefix, Put}
+use Rattle.outside.specs.State.{SinkState, Gains, GainsPrefix, PutsBytes}
 use Rattle.outside.specs.declared.traits.PutFault.{PutFault}
 use Rattle.outside.specs.declared.traits.PutFault.TheVariants as put_fault
 
@@ -33,7 +33,7 @@ front_to at end text less = let e : end ≡ at + (end - at) = omega arith in ap 
 
 -- a piece that is refused after others were taken
 pub put_later : (s0 s1 s2 : SinkState) (text : List ℕ) (at k : ℕ) (e : PutFault) → Gains s0.written (take at text) s1.written → s1.faults ≡ s0.faults
-    → Put s1 (take k (drop at text)) s2 (Err e) → Put s0 text s2 (Err e)
+    → PutsBytes s1 (take k (drop at text)) s2 (Err e) → PutsBytes s0 text s2 (Err e)
 put_later s0 s1 s2 text at k put_fault.Memory one same two =
     (prefix_more s0.written s1.written s2.written (take at text) (take k (drop at text)) (drop k (drop at text)) text (parted at k text) one two.0, two.1 ∙ same)
 put_later s0 s1 s2 text at k put_fault.Failed one same two =

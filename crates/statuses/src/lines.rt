@@ -1,7 +1,7 @@
 // The lines for the second sink, one for each status that asks for one.
 // They depend on the numbers of faults; what is put on the sinks depends on them.
 ghost use Rattle.std.specs.Prelude.{◌≡◌, ◌++◌, [], ◌∷◌, IfOk, OnOk};
-ghost use Rattle.statuses.specs.Lines.{spaced, line};
+ghost use Rattle.statuses.specs.Lines.{spaced_numbers, status_line};
 
 use crate::Status;
 use crate::numbers::push_fault;
@@ -13,7 +13,7 @@ const USAGE: &str =
 
 /// Appends numbers, a blank before each.
 pub fn push_numbers(alloc: Global, text: &mut Vec<u8>, numbers: &[usize]) -> Result<(), AllocError>
-    ensures { OnOk result (text.new.items ≡ text.old.items ++ spaced numbers.now) }
+    ensures { OnOk result (text.new.items ≡ text.old.items ++ spaced_numbers numbers.now) }
 {
     for number in numbers {
         text.push(b' ')?;
@@ -24,7 +24,7 @@ pub fn push_numbers(alloc: Global, text: &mut Vec<u8>, numbers: &[usize]) -> Res
 }
 
 fn numbered_line(alloc: Global, word: &str, numbers: &[usize]) -> Result<Vec<u8>, AllocError>
-    ensures { IfOk result (λ v. v.items ≡ word.now ++ spaced numbers.now ++ 10 ∷ []) }
+    ensures { IfOk result (λ v. v.items ≡ word.now ++ spaced_numbers numbers.now ++ 10 ∷ []) }
 {
     let mut text = Vec::from_slice(alloc, word.as_bytes())?;
     push_numbers(alloc, &mut text, numbers)?;
@@ -33,7 +33,7 @@ fn numbered_line(alloc: Global, word: &str, numbers: &[usize]) -> Result<Vec<u8>
 }
 
 fn refused_line(alloc: Global, fault: Fault) -> Result<Vec<u8>, AllocError>
-    ensures { IfOk result (λ v. v.items ≡ line (Status.Refused fault)) }
+    ensures { IfOk result (λ v. v.items ≡ status_line (Status.Refused fault)) }
 {
     let mut text = Vec::from_slice(alloc, b"refused:")?;
     push_fault(alloc, &mut text, fault)?;
@@ -43,7 +43,7 @@ fn refused_line(alloc: Global, fault: Fault) -> Result<Vec<u8>, AllocError>
 
 /// The line that a status asks for.
 pub fn line_of(alloc: Global, status: Status) -> Result<Vec<u8>, AllocError>
-    ensures { IfOk result (λ v. v.items ≡ line status) }
+    ensures { IfOk result (λ v. v.items ≡ status_line status) }
 {
     match status {
         Status::Refused(fault) => refused_line(alloc, fault),

@@ -2,7 +2,7 @@
 // They depend on the faults; the line of a refusal depends on them.
 ghost use Rattle.std.specs.Prelude.{◌≡◌, ◌++◌, OnOk};
 ghost use Rattle.statuses.specs.Faults.{numbers};
-ghost use Rattle.statuses.specs.Lines.{spaced};
+ghost use Rattle.statuses.specs.Lines.{spaced_numbers};
 
 use crate::lines::push_numbers;
 use fault_order::Fault;
@@ -10,7 +10,7 @@ use std::alloc::{AllocError, Global};
 
 /// Appends a fault's code and its fields in order, a blank before each.
 pub fn push_fault(alloc: Global, text: &mut Vec<u8>, fault: Fault) -> Result<(), AllocError>
-    ensures { OnOk result (text.new.items ≡ text.old.items ++ spaced (numbers fault)) }
+    ensures { OnOk result (text.new.items ≡ text.old.items ++ spaced_numbers (numbers fault)) }
 {
     match fault {
         Fault::Lexical { byte } => push_numbers(alloc, text, &[10, byte]),

@@ -1,8 +1,8 @@
 // What is put on the sinks, and the status with which a run ends.
 // It depends on the lines; the top call depends on it.
-ghost use Rattle.outside.specs.State.{Put};
-ghost use Rattle.fault_order.specs.Answers.{bytes_of};
-ghost use Rattle.statuses.specs.Putting.{Finishes, Puts, Reports};
+ghost use Rattle.outside.specs.State.{PutsBytes};
+ghost use Rattle.fault_order.specs.Answers.{result_bytes};
+ghost use Rattle.statuses.specs.Putting.{FinishesRun, PutsText, Reports};
 
 use crate::Status;
 use crate::lines::line_of;
@@ -14,7 +14,7 @@ const PIECE: usize = 65_536;
 
 // Puts a whole text on a sink, in pieces.
 fn put_all<W: Sink>(sink: &mut W, text: &[u8]) -> Result<(), PutFault>
-    ensures { Put (W.state sink.old) text.now (W.state sink.new) result }
+    ensures { PutsBytes (W.state sink.old) text.now (W.state sink.new) result }
 {
     let mut at = 0;
     while at < text.len() {
@@ -27,7 +27,7 @@ fn put_all<W: Sink>(sink: &mut W, text: &[u8]) -> Result<(), PutFault>
 
 // Puts a text on a sink. Then this status is due.
 fn put_text<W: Sink>(sink: &mut W, text: &[u8], due: Status) -> Status
-    ensures { Puts text.now due (W.state sink.old) (W.state sink.new) result }
+    ensures { PutsText text.now due (W.state sink.old) (W.state sink.new) result }
 {
     match put_all(sink, text) {
         Ok(()) => due,
@@ -53,7 +53,7 @@ pub fn finish<W: Sink, E: Sink>(
     out: &mut W,
     err: &mut E,
 ) -> Status
-    ensures { Finishes (bytes_of text) (W.state out.old) (W.state out.new) (E.state err.old)
+    ensures { FinishesRun (result_bytes text) (W.state out.old) (W.state out.new) (E.state err.old)
         (E.state err.new) result }
 {
     match text {

@@ -1,7 +1,7 @@
 // The words: the program's name, a command and its operands.
 // They depend on nothing; a run asks them first.
 ghost use Rattle.std.specs.Prelude.{◌≡◌, map, string_bytes};
-ghost use Rattle.statuses.specs.Words.{command_of, is_plain, all_plain, four_of, lift_of, named};
+ghost use Rattle.statuses.specs.Words.{command_of, is_plain_word, all_plain, four_of, lift_of, command_named};
 
 /// A command that is built.
 #[derive(Clone, Copy)]
@@ -18,7 +18,7 @@ pub enum Command {
 
 // Whether a word isn't empty and doesn't begin with `-`.
 fn is_plain(word: &str) -> bool
-    ensures { result ≡ is_plain word.now }
+    ensures { result ≡ is_plain_word word.now }
 {
     match word.as_bytes() {
         [] => false,
@@ -58,7 +58,7 @@ fn read_lift(operands: &[String]) -> Option<Command>
 }
 
 fn read_named(name: &str, operands: &[String]) -> Option<Command>
-    ensures { result ≡ named name.now (map string_bytes operands.now) }
+    ensures { result ≡ command_named name.now (map string_bytes operands.now) }
 {
     if name == "print" {
         read_four(Command::Print, operands)

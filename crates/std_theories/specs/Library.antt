@@ -9,8 +9,8 @@ use Rattle.syntax_why.specs.SurfaceDeclarations.{file_of}
 use Rattle.recognise_why.specs.Sources.{IsOnlyFile}
 
 -- a path, and the text of its file
-abbrev pub Entry : Type 0
-Entry = List ℕ × List ℕ
+abbrev pub LibraryEntry : Type 0
+LibraryEntry = List ℕ × List ℕ
 
 abbrev pub int_int : List ℕ
 int_int =
@@ -61,15 +61,15 @@ list_append =
     ++ codes "  lemma Append_l_nil: forall l: list 'a. l ++ Nil = l\nend\n"
 
 -- the library, in the order in which its theories are known
-abbrev pub library : List Entry
+abbrev pub library : List LibraryEntry
 library =
     (codes "int.Int", int_int) ∷ (codes "int.Abs", int_abs) ∷ (codes "int.MinMax", int_min_max)
     ∷ (codes "bool.Bool", bool_bool) ∷ (codes "option.Option", option_option) ∷ (codes "list.List", list_list)
     ∷ (codes "list.Length", list_length) ∷ (codes "list.Mem", list_mem) ∷ (codes "list.Append", list_append) ∷ []
 
 -- the entries of the code's table
-abbrev pub entry_of : Bor (List ℕ) × Bor (List ℕ) → Entry
-entry_of e = (e.0.now, e.1.now)
+abbrev pub library_entry : Bor (List ℕ) × Bor (List ℕ) → LibraryEntry
+library_entry e = (e.0.now, e.1.now)
 
 -- the file that a text writes, with the place of each part
 pub record IsFileOfText (text : List ℕ) (file : File) : Type 0 where
@@ -78,7 +78,7 @@ pub record IsFileOfText (text : List ℕ) (file : File) : Type 0 where
   pub only : IsOnlyFile (rest text tokens 0) (file_of file)
 
 -- the files of the entries, each with its path, in order
-abbrev pub AreFilesOf : List Entry → List (List ℕ × File) → Type 0
+abbrev pub AreFilesOf : List LibraryEntry → List (List ℕ × File) → Type 0
 AreFilesOf [] [] = Unit {0}
 AreFilesOf (e ∷ es) (f ∷ fs) = (f.0 ≡ e.0) × IsFileOfText e.1 f.1 × AreFilesOf es fs
 AreFilesOf _ _ = ⊥

@@ -2,7 +2,7 @@
 // They depend on the library's texts and the reader of sources; the tables of theories depend on them.
 ghost use Rattle.std.specs.Prelude.{◌≡◌, ◌++◌, ℕ, List, map, IfOk, OnOk};
 ghost use Rattle.syntax_why.specs.declared.declarations.File.{File as SurfaceFile};
-ghost use Rattle.std_theories.specs.Library.{AreFilesOf, IsFileOfText, entry_of, library};
+ghost use Rattle.std_theories.specs.Library.{AreFilesOf, IsFileOfText, library_entry, library};
 
 use crate::texts::{Entry, LIBRARY};
 use outside::Text;
@@ -24,14 +24,14 @@ fn file_of_text(alloc: Global, text: &[u8]) -> Result<File, AllocError>
     }
 }
 
-/// Puts the files of entries behind others.
+/// Puts the files of entries after others.
 fn push_files(
     alloc: Global,
     entries: &[Entry],
     out: &mut Vec<(Text, File)>,
 ) -> Result<(), AllocError>
     ensures { OnOk result ((fs : List (List ℕ × SurfaceFile))
-        × (out.new.items ≡ out.old.items ++ fs) × AreFilesOf (map entry_of entries.now) fs) }
+        × (out.new.items ≡ out.old.items ++ fs) × AreFilesOf (map library_entry entries.now) fs) }
 {
     match entries.split_first() {
         Some((first, rest)) => {

@@ -6,10 +6,10 @@ use Rattle.rule_rows.specs.Trees.{StepTree}
 use Rattle.name_entries.specs.declared.names.NameEntry.{NameEntry}
 use Rattle.step_files.specs.Words.{lines_of}
 use Rattle.step_lines.specs.Steps.{Thing}
-use Rattle.step_files.specs.Lines.{Reading, nothing_read, thing_of, IsGood, after, AreRead, IsWrongLine, StepsOf}
+use Rattle.step_files.specs.Lines.{Reading, nothing_read, line_thing, IsGood, reading_with, AreRead, IsWrongLine, StepsOf}
 use Rattle.step_files.specs.declared.fault.ReadFault.{ReadFault}
 use Rattle.step_files.specs.declared.fault.ReadFault.TheVariants.{Memory, WrongLine}
-use Rattle.step_files.specs.Reading.{IsFault}
+use Rattle.step_files.specs.Reading.{IsReadFault}
 
 first_of : (o : Option Thing) (P Q : Thing → Type 0) → IsSomeAnd o (λ x. P x × Q x) → IsSomeAnd o P
 first_of None P Q h = absurd h
@@ -23,22 +23,22 @@ both_of (Some x) P Q R h k = (x, h.1, k.1)
 module _ (t : TaskTree) (names : List NameEntry) (tallest : Option ℕ) where
   pub read_not_wrong : (lines : List (List ℕ)) (r : Reading) (steps : List StepTree) (k : ℕ) → AreRead t names tallest r lines steps → IsWrongLine t names tallest r lines k → ⊥
   read_not_wrong [] r steps k a w = w.1 a.1
-  read_not_wrong (line ∷ lines) r steps zero a w = w (first_of (thing_of t names r.earlier line) (IsGood t tallest r.steps) (λ x. AreRead t names tallest (after r x) lines steps) a)
+  read_not_wrong (line ∷ lines) r steps zero a w = w (first_of (line_thing t names r.earlier line) (IsGood t tallest r.steps) (λ x. AreRead t names tallest (reading_with r x) lines steps) a)
   read_not_wrong (line ∷ lines) r steps (suc k) a w =
-      let b = both_of (thing_of t names r.earlier line) (IsGood t tallest r.steps) (λ x. AreRead t names tallest (after r x) lines steps) (λ x. IsWrongLine t names tallest (after r x) lines k) a w in
-      read_not_wrong lines (after r b.0) steps k b.1 b.2
+      let b = both_of (line_thing t names r.earlier line) (IsGood t tallest r.steps) (λ x. AreRead t names tallest (reading_with r x) lines steps) (λ x. IsWrongLine t names tallest (reading_with r x) lines k) a w in
+      read_not_wrong lines (reading_with r b.0) steps k b.1 b.2
 
   pub one_wrong_line : (lines : List (List ℕ)) (r : Reading) (k j : ℕ) → IsWrongLine t names tallest r lines k → IsWrongLine t names tallest r lines j → k ≡ j
   one_wrong_line [] r k j v w = v.0 ∙ sym w.0
   one_wrong_line (line ∷ lines) r zero zero v w = refl
-  one_wrong_line (line ∷ lines) r zero (suc j) v w = absurd (v (first_of (thing_of t names r.earlier line) (IsGood t tallest r.steps) (λ x. IsWrongLine t names tallest (after r x) lines j) w))
-  one_wrong_line (line ∷ lines) r (suc k) zero v w = absurd (w (first_of (thing_of t names r.earlier line) (IsGood t tallest r.steps) (λ x. IsWrongLine t names tallest (after r x) lines k) v))
+  one_wrong_line (line ∷ lines) r zero (suc j) v w = absurd (v (first_of (line_thing t names r.earlier line) (IsGood t tallest r.steps) (λ x. IsWrongLine t names tallest (reading_with r x) lines j) w))
+  one_wrong_line (line ∷ lines) r (suc k) zero v w = absurd (w (first_of (line_thing t names r.earlier line) (IsGood t tallest r.steps) (λ x. IsWrongLine t names tallest (reading_with r x) lines k) v))
   one_wrong_line (line ∷ lines) r (suc k) (suc j) v w =
-      let b = both_of (thing_of t names r.earlier line) (IsGood t tallest r.steps) (λ x. IsWrongLine t names tallest (after r x) lines k) (λ x. IsWrongLine t names tallest (after r x) lines j) v w in
-      ap suc (one_wrong_line lines (after r b.0) k j b.1 b.2)
+      let b = both_of (line_thing t names r.earlier line) (IsGood t tallest r.steps) (λ x. IsWrongLine t names tallest (reading_with r x) lines k) (λ x. IsWrongLine t names tallest (reading_with r x) lines j) v w in
+      ap suc (one_wrong_line lines (reading_with r b.0) k j b.1 b.2)
 
   -- a refusal of a file whose steps derive the task is want of memory
-  pub refused_for_memory : {V : Type 0} (bytes : List ℕ) (r : Result V ReadFault) → IfErr r (IsFault t names tallest bytes)
+  pub refused_for_memory : {V : Type 0} (bytes : List ℕ) (r : Result V ReadFault) → IfErr r (IsReadFault t names tallest bytes)
       → IfErr r (λ e. (steps : List StepTree) → StepsOf t names tallest bytes steps → e ≡ Memory)
   refused_for_memory bytes (Ok v) h = tt
   refused_for_memory bytes (Err Memory) h = λ steps a. refl

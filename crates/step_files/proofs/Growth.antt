@@ -26,11 +26,11 @@ use Rattle.step_lines.specs.declared.thing.MadeThing.TheVariants as made
 use Rattle.step_lines.specs.Steps.{Thing, TypeOf, PatternOf, ExpressionOf, StepOf}
 use Rattle.step_lines.specs.Made.{ThingHeld, ThingFits, thing_at}
 use Rattle.step_files.specs.declared.read.Read.{Read}
-use Rattle.step_files.specs.Lines.{Reading, reading, IsGood, LineIsRight, thing_of, after}
-use Rattle.step_files.specs.Reading.{ReadHeld, reading_at, MakesGood, IsKept}
+use Rattle.step_files.specs.Lines.{Reading, reading_of, IsGood, LineIsRight, line_thing, reading_with}
+use Rattle.step_files.specs.Reading.{ReadHeld, reading_at, MakesGood, IsReadKept}
 use Rattle.step_files.proofs.Progress.{Stands, stands_next}
 
--- a tree that is typed as far as it stands is well sorted
+-- a tree that is typed as far as it goes is well sorted
 pub open_sorted : (v : Vocabulary) (e : Tree) → OpenTyped v e → WellSorted e
 open_sorted v (Leaf h) o = o.0
 open_sorted v (One h a) o = (o.0, open_sorted v a o.2)
@@ -44,8 +44,8 @@ good_fits t tallest before (ExpressionOf e) g = open_sorted (of_task t) e g.type
 good_fits t tallest before (StepOf st) g = tt
 
 -- a line that makes nothing that fits is wrong
-pub line_refused : (t : TaskTree) (names : List NameEntry) (tallest : Option ℕ) (r : Reading) (line : List ℕ) → ((x : Thing) → thing_of t names r.earlier line ≡ Some x → ThingFits x → ⊥) → LineIsRight t names tallest r line → ⊥
-line_refused t names tallest r line h = at (thing_of t names r.earlier line) h where
+pub line_refused : (t : TaskTree) (names : List NameEntry) (tallest : Option ℕ) (r : Reading) (line : List ℕ) → ((x : Thing) → line_thing t names r.earlier line ≡ Some x → ThingFits x → ⊥) → LineIsRight t names tallest r line → ⊥
+line_refused t names tallest r line h = at (line_thing t names r.earlier line) h where
   at : (o : Option Thing) → ((x : Thing) → o ≡ Some x → ThingFits x → ⊥) → IsSomeAnd o (IsGood t tallest r.steps) → ⊥
   at None k g = absurd g
   at (Some x) k g = k x refl (good_fits t tallest r.steps x g)
@@ -61,17 +61,17 @@ module _ (s s' : List Tree) (g : Grows s s') (r : Read) (h : ReadHeld s r) where
 
   pub reading_later : reading_at s' r ≡ reading_at s r
   reading_later =
-      ap (λ l. reading l (trees_at s' r.patterns.items) (trees_at s' r.expressions.items) (steps_at s' r.steps.items)) (trees_stay Kind s s' r.types.items g h.types)
-      ∙ ap (λ l. reading (trees_at s r.types.items) l (trees_at s' r.expressions.items) (steps_at s' r.steps.items)) (trees_later s s' g r.patterns.items h.patterns)
-      ∙ ap (λ l. reading (trees_at s r.types.items) (trees_at s r.patterns.items) l (steps_at s' r.steps.items)) (trees_later s s' g r.expressions.items h.expressions)
-      ∙ ap (reading (trees_at s r.types.items) (trees_at s r.patterns.items) (trees_at s r.expressions.items)) (steps_later s s' g r.steps.items h.steps)
+      ap (λ l. reading_of l (trees_at s' r.patterns.items) (trees_at s' r.expressions.items) (steps_at s' r.steps.items)) (trees_stay Kind s s' r.types.items g h.types)
+      ∙ ap (λ l. reading_of (trees_at s r.types.items) l (trees_at s' r.expressions.items) (steps_at s' r.steps.items)) (trees_later s s' g r.patterns.items h.patterns)
+      ∙ ap (λ l. reading_of (trees_at s r.types.items) (trees_at s r.patterns.items) l (steps_at s' r.steps.items)) (trees_later s s' g r.expressions.items h.expressions)
+      ∙ ap (reading_of (trees_at s r.types.items) (trees_at s r.patterns.items) (trees_at s r.expressions.items)) (steps_later s s' g r.steps.items h.steps)
 
 -- one thing more
 module _ (s : List Tree) (r r' : Read) (h : ReadHeld s r) where
   abbrev mk : List TermId → List TermId → List TermId → List Step → Reading
-  mk ts ps es steps = reading (trees_at s ts) (trees_at s ps) (trees_at s es) (steps_at s steps)
+  mk ts ps es steps = reading_of (trees_at s ts) (trees_at s ps) (trees_at s es) (steps_at s steps)
 
-  pub kept_held : (x : MadeThing) → IsKept x r r' → ThingHeld s x → ReadHeld s r'
+  pub kept_held : (x : MadeThing) → IsReadKept x r r' → ThingHeld s x → ReadHeld s r'
   kept_held (made.Type y) k t = record {
     types = subst (HoldTypes s) (sym k.0) (types_pushed s r.types.items y h.types t);
     patterns = subst (λ (l : List TermId). All (Holds s) l) (sym k.1) h.patterns;
@@ -101,26 +101,26 @@ module _ (s : List Tree) (r r' : Read) (h : ReadHeld s r) where
   four ts ps es steps a b c d =
       ap (λ l. mk l r'.patterns.items r'.expressions.items r'.steps.items) a ∙ ap (λ l. mk ts l r'.expressions.items r'.steps.items) b ∙ ap (λ l. mk ts ps l r'.steps.items) c ∙ ap (mk ts ps es) d
 
-  pub kept_after : (x : MadeThing) → IsKept x r r' → reading_at s r' ≡ after (reading_at s r) (thing_at s x)
-  kept_after (made.Type y) k = four (r.types.items ++ y ∷ []) r.patterns.items r.expressions.items r.steps.items k.0 k.1 k.2 k.3 ∙ ap (λ l. reading l (trees_at s r.patterns.items) (trees_at s r.expressions.items) (steps_at s r.steps.items)) (map-append (tree_at s) r.types.items (y ∷ []))
-  kept_after (made.Pattern p) k = four r.types.items (r.patterns.items ++ p ∷ []) r.expressions.items r.steps.items k.0 k.1 k.2 k.3 ∙ ap (λ l. reading (trees_at s r.types.items) l (trees_at s r.expressions.items) (steps_at s r.steps.items)) (map-append (tree_at s) r.patterns.items (p ∷ []))
-  kept_after (made.Expression e) k = four r.types.items r.patterns.items (r.expressions.items ++ e ∷ []) r.steps.items k.0 k.1 k.2 k.3 ∙ ap (λ l. reading (trees_at s r.types.items) (trees_at s r.patterns.items) l (steps_at s r.steps.items)) (map-append (tree_at s) r.expressions.items (e ∷ []))
-  kept_after (made.Derived st) k = four r.types.items r.patterns.items r.expressions.items (r.steps.items ++ st ∷ []) k.0 k.1 k.2 k.3 ∙ ap (reading (trees_at s r.types.items) (trees_at s r.patterns.items) (trees_at s r.expressions.items)) (map-append (step_at s) r.steps.items (st ∷ []))
+  pub kept_after : (x : MadeThing) → IsReadKept x r r' → reading_at s r' ≡ reading_with (reading_at s r) (thing_at s x)
+  kept_after (made.Type y) k = four (r.types.items ++ y ∷ []) r.patterns.items r.expressions.items r.steps.items k.0 k.1 k.2 k.3 ∙ ap (λ l. reading_of l (trees_at s r.patterns.items) (trees_at s r.expressions.items) (steps_at s r.steps.items)) (map-append (tree_at s) r.types.items (y ∷ []))
+  kept_after (made.Pattern p) k = four r.types.items (r.patterns.items ++ p ∷ []) r.expressions.items r.steps.items k.0 k.1 k.2 k.3 ∙ ap (λ l. reading_of (trees_at s r.types.items) l (trees_at s r.expressions.items) (steps_at s r.steps.items)) (map-append (tree_at s) r.patterns.items (p ∷ []))
+  kept_after (made.Expression e) k = four r.types.items r.patterns.items (r.expressions.items ++ e ∷ []) r.steps.items k.0 k.1 k.2 k.3 ∙ ap (λ l. reading_of (trees_at s r.types.items) (trees_at s r.patterns.items) l (steps_at s r.steps.items)) (map-append (tree_at s) r.expressions.items (e ∷ []))
+  kept_after (made.Derived st) k = four r.types.items r.patterns.items r.expressions.items (r.steps.items ++ st ∷ []) k.0 k.1 k.2 k.3 ∙ ap (reading_of (trees_at s r.types.items) (trees_at s r.patterns.items) (trees_at s r.expressions.items)) (map-append (step_at s) r.steps.items (st ∷ []))
 
 -- what was read, with one thing more, and what is known of the file then
 module _ (s s' : List Tree) (g : Grows s s') (t : TaskTree) (names : List NameEntry) (tallest : Option ℕ) (lines : List (List ℕ)) (i : ℕ) (r r' : Read) (h : ReadHeld s r)
-    (stands : Stands t names tallest lines (reading_at s r) i) (within : i < length lines) (x : MadeThing) (k : IsKept x r r') (held : ThingHeld s' x) (m : MakesGood t names tallest (reading_at s r) (get_or lines i []) (thing_at s' x)) where
+    (stands : Stands t names tallest lines (reading_at s r) i) (within : i < length lines) (x : MadeThing) (k : IsReadKept x r r') (held : ThingHeld s' x) (m : MakesGood t names tallest (reading_at s r) (get_or lines i []) (thing_at s' x)) where
   pub next_held : ReadHeld s' r'
   next_held = kept_held s' r r' (read_later s s' g r h) x k held
 
   pub next_stands : Stands t names tallest lines (reading_at s' r') (i + 1)
   next_stands =
-      let e : after (reading_at s r) (thing_at s' x) ≡ reading_at s' r' = ap (λ q. after q (thing_at s' x)) (sym (reading_later s s' g r h)) ∙ sym (kept_after s' r r' (read_later s s' g r h) x k) in
+      let e : reading_with (reading_at s r) (thing_at s' x) ≡ reading_at s' r' = ap (λ q. reading_with q (thing_at s' x)) (sym (reading_later s s' g r h)) ∙ sym (kept_after s' r r' (read_later s s' g r h) x k) in
       subst (λ q. Stands t names tallest lines q (i + 1)) e (stands_next t names tallest lines (reading_at s r) i stands within (thing_at s' x) m)
 
 -- a thing is good in the grown store exactly where it is in the old one
 module _ (s s' : List Tree) (g : Grows s s') (task : Task) (held : TaskHeld s task) (r : Read) (h : ReadHeld s r) (names : List NameEntry) (tallest : Option ℕ) (line : List ℕ) (x : Thing)
-    (made' : thing_of (task_at s task) names (reading_at s r).earlier line ≡ Some x) where
+    (made' : line_thing (task_at s task) names (reading_at s r).earlier line ≡ Some x) where
   pub good_made : IsGood (task_at s' task) tallest (steps_at s' r.steps.items) x → MakesGood (task_at s task) names tallest (reading_at s r) line x
   good_made k = record {
     made = made';

@@ -10,7 +10,7 @@ use Rattle.kernel.specs.Right.{AreRight, last_starts}
 use Rattle.kernel.proofs.Growth.{right_more}
 use Rattle.name_entries.specs.declared.names.NameEntry.{NameEntry}
 use Rattle.step_lines.specs.Steps.{Thing, TypeOf, PatternOf, ExpressionOf, StepOf}
-use Rattle.step_files.specs.Lines.{Reading, nothing_read, IsGood, LineIsRight, after, AreRead, IsWrongLine}
+use Rattle.step_files.specs.Lines.{Reading, nothing_read, IsGood, LineIsRight, reading_with, AreRead, IsWrongLine}
 use Rattle.step_files.specs.Reading.{MakesGood}
 
 pub texts_length : (ws : List (Bor (List ℕ))) → length (texts ws) ≡ length ws
@@ -34,7 +34,7 @@ module _ (t : TaskTree) (names : List NameEntry) (tallest : Option ℕ) (lines :
   pub stands_first : Stands nothing_read 0
   stands_first = record { right = λ k h. absurd (omega arith); read = λ out a. a; wrong = λ k w. subst (IsWrongLine t names tallest nothing_read lines) (omega arith) w }
 
-  still_right : (r : Reading) (x : Thing) → AreRight t r.steps → IsGood t tallest r.steps x → AreRight t (after r x).steps
+  still_right : (r : Reading) (x : Thing) → AreRight t r.steps → IsGood t tallest r.steps x → AreRight t (reading_with r x).steps
   still_right r (TypeOf a) h g = h
   still_right r (PatternOf a) h g = h
   still_right r (ExpressionOf a) h g = h
@@ -44,11 +44,11 @@ module _ (t : TaskTree) (names : List NameEntry) (tallest : Option ℕ) (lines :
     cut : drop i lines ≡ get_or lines i [] ∷ drop (i + 1) lines
     cut = drop_more lines i [] within
 
-    pub stands_next : (x : Thing) → MakesGood t names tallest r (get_or lines i []) x → Stands (after r x) (i + 1)
+    pub stands_next : (x : Thing) → MakesGood t names tallest r (get_or lines i []) x → Stands (reading_with r x) (i + 1)
     stands_next x m = record {
       right = still_right r x st.right m.good;
-      read = λ out a. st.read out (subst (λ ls. AreRead t names tallest r ls out) (sym cut) (subst (λ o. IsSomeAnd o (λ y. IsGood t tallest r.steps y × AreRead t names tallest (after r y) (drop (i + 1) lines) out)) (sym m.made) (m.good, a)));
-      wrong = λ k w. subst (IsWrongLine t names tallest nothing_read lines) (omega arith) (st.wrong (suc k) (subst (λ ls. IsWrongLine t names tallest r ls (suc k)) (sym cut) (subst (λ o. IsSomeAnd o (λ y. IsGood t tallest r.steps y × IsWrongLine t names tallest (after r y) (drop (i + 1) lines) k)) (sym m.made) (m.good, w))));
+      read = λ out a. st.read out (subst (λ ls. AreRead t names tallest r ls out) (sym cut) (subst (λ o. IsSomeAnd o (λ y. IsGood t tallest r.steps y × AreRead t names tallest (reading_with r y) (drop (i + 1) lines) out)) (sym m.made) (m.good, a)));
+      wrong = λ k w. subst (IsWrongLine t names tallest nothing_read lines) (omega arith) (st.wrong (suc k) (subst (λ ls. IsWrongLine t names tallest r ls (suc k)) (sym cut) (subst (λ o. IsSomeAnd o (λ y. IsGood t tallest r.steps y × IsWrongLine t names tallest (reading_with r y) (drop (i + 1) lines) k)) (sym m.made) (m.good, w))));
     }
 
     pub stands_wrong : (LineIsRight t names tallest r (get_or lines i []) → ⊥) → IsWrongLine t names tallest nothing_read lines i

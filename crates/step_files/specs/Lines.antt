@@ -9,24 +9,24 @@ use Rattle.kernel.specs.Open.{OpenIn}
 use Rattle.name_entries.specs.declared.names.NameEntry.{NameEntry}
 use Rattle.tree_lines.specs.Lines.{Earlier}
 use Rattle.step_lines.specs.Steps.{Thing, TypeOf, PatternOf, ExpressionOf, StepOf, line_made}
-use Rattle.step_files.specs.Words.{lines_of, words_of}
+use Rattle.step_files.specs.Words.{lines_of, words_in_line}
 
 -- what the lines so far have made
 pub record Reading : Type 0 where
   pub earlier : Earlier
   pub steps : List StepTree
 
-abbrev pub reading : List Tree → List Tree → List Tree → List StepTree → Reading
-reading types patterns expressions steps = record { earlier = record { types = types; patterns = patterns; expressions = expressions }; steps = steps }
+abbrev pub reading_of : List Tree → List Tree → List Tree → List StepTree → Reading
+reading_of types patterns expressions steps = record { earlier = record { types = types; patterns = patterns; expressions = expressions }; steps = steps }
 
 abbrev pub nothing_read : Reading
-nothing_read = reading [] [] [] []
+nothing_read = reading_of [] [] [] []
 
 -- what a line makes, where it has a form and what it refers to is there
-abbrev pub thing_of : TaskTree → List NameEntry → Earlier → List ℕ → Option Thing
-thing_of t names r line = line_made t names r (words_of line)
+abbrev pub line_thing : TaskTree → List NameEntry → Earlier → List ℕ → Option Thing
+line_thing t names r line = line_made t names r (words_in_line line)
 
--- a tree of a line is typed as far as it stands, and no taller than the tallest
+-- a tree of a line is typed as far as it goes, and no taller than the tallest
 pub record IsGoodTree (t : TaskTree) (tallest : Option ℕ) (e : Tree) : Type 0 where
   pub typed : OpenIn t e
   pub low : ForSome tallest (λ n. height e ≤ n)
@@ -38,28 +38,28 @@ IsGood t tallest before (PatternOf e) = IsGoodTree t tallest e
 IsGood t tallest before (ExpressionOf e) = IsGoodTree t tallest e
 IsGood t tallest before (StepOf st) = IsRight t before st
 
-abbrev pub after : Reading → Thing → Reading
-after r (TypeOf e) = reading (r.earlier.types ++ e ∷ []) r.earlier.patterns r.earlier.expressions r.steps
-after r (PatternOf e) = reading r.earlier.types (r.earlier.patterns ++ e ∷ []) r.earlier.expressions r.steps
-after r (ExpressionOf e) = reading r.earlier.types r.earlier.patterns (r.earlier.expressions ++ e ∷ []) r.steps
-after r (StepOf st) = reading r.earlier.types r.earlier.patterns r.earlier.expressions (r.steps ++ st ∷ [])
+abbrev pub reading_with : Reading → Thing → Reading
+reading_with r (TypeOf e) = reading_of (r.earlier.types ++ e ∷ []) r.earlier.patterns r.earlier.expressions r.steps
+reading_with r (PatternOf e) = reading_of r.earlier.types (r.earlier.patterns ++ e ∷ []) r.earlier.expressions r.steps
+reading_with r (ExpressionOf e) = reading_of r.earlier.types r.earlier.patterns (r.earlier.expressions ++ e ∷ []) r.steps
+reading_with r (StepOf st) = reading_of r.earlier.types r.earlier.patterns r.earlier.expressions (r.steps ++ st ∷ [])
 
 -- a right line
 abbrev pub LineIsRight : TaskTree → List NameEntry → Option ℕ → Reading → List ℕ → Type 0
-LineIsRight t names tallest r line = IsSomeAnd (thing_of t names r.earlier line) (IsGood t tallest r.steps)
+LineIsRight t names tallest r line = IsSomeAnd (line_thing t names r.earlier line) (IsGood t tallest r.steps)
 
 -- all lines are right and the last step has the task's start, and these are the steps
 abbrev pub AreRead : TaskTree → List NameEntry → Option ℕ → Reading → List (List ℕ) → List StepTree → Type 0
 AreRead t names tallest r [] steps = (steps ≡ r.steps) × last_starts t r.steps
 AreRead t names tallest r (line ∷ lines) steps =
-    IsSomeAnd (thing_of t names r.earlier line) (λ x. IsGood t tallest r.steps x × AreRead t names tallest (after r x) lines steps)
+    IsSomeAnd (line_thing t names r.earlier line) (λ x. IsGood t tallest r.steps x × AreRead t names tallest (reading_with r x) lines steps)
 
 -- the least wrong line, counted from 0, or the number of lines where all are right and the last step hasn't the start
 abbrev pub IsWrongLine : TaskTree → List NameEntry → Option ℕ → Reading → List (List ℕ) → ℕ → Type 0
 IsWrongLine t names tallest r [] k = (k ≡ 0) × (last_starts t r.steps → ⊥)
 IsWrongLine t names tallest r (line ∷ lines) zero = LineIsRight t names tallest r line → ⊥
 IsWrongLine t names tallest r (line ∷ lines) (suc k) =
-    IsSomeAnd (thing_of t names r.earlier line) (λ x. IsGood t tallest r.steps x × IsWrongLine t names tallest (after r x) lines k)
+    IsSomeAnd (line_thing t names r.earlier line) (λ x. IsGood t tallest r.steps x × IsWrongLine t names tallest (reading_with r x) lines k)
 
 -- a file whose steps derive the task
 abbrev pub StepsOf : TaskTree → List NameEntry → Option ℕ → List ℕ → List StepTree → Type 0

@@ -1,4 +1,4 @@
--- Trees that are known to be typed as far as they stand, by marks at their numbers.
+-- Trees that are known to be typed as far as they go, by marks at their numbers.
 use Rattle.std.specs.Prelude.{ℕ, ◌<◌, Bool, false, List, length, get_or, IsTrue}
 use Rattle.trees.specs.Tree.{Tree, Leaf, HEnd}
 use Rattle.tasks.specs.Task.{TaskTree}
@@ -9,9 +9,9 @@ pub record IsTypedAt (t : TaskTree) (s : List Tree) (k : ℕ) : Type 0 where
   pub held : k < length s
   pub typed : OpenIn t (get_or s k (Leaf HEnd))
 
-abbrev pub is_marked : List Bool → ℕ → Bool
-is_marked marks k = get_or marks k false
+abbrev pub has_mark : List Bool → ℕ → Bool
+has_mark marks k = get_or marks k false
 
 -- what is marked is
-abbrev pub AreTyped : TaskTree → List Tree → List Bool → Type 0
-AreTyped t s marks = (k : ℕ) → IsTrue (is_marked marks k) → IsTypedAt t s k
+abbrev pub AreMarkedTyped : TaskTree → List Tree → List Bool → Type 0
+AreMarkedTyped t s marks = (k : ℕ) → IsTrue (has_mark marks k) → IsTypedAt t s k

@@ -13,11 +13,11 @@ use Rattle.step_lines.specs.Steps.{Thing}
 use Rattle.step_files.specs.declared.fault.ReadFault.{ReadFault}
 use Rattle.step_files.specs.declared.fault.ReadFault.TheVariants.{Memory, WrongLine}
 use Rattle.step_files.specs.declared.read.Read.{Read}
-use Rattle.step_files.specs.Lines.{Reading, reading, thing_of, IsGood, FirstWrong}
+use Rattle.step_files.specs.Lines.{Reading, reading_of, line_thing, IsGood, FirstWrong}
 
 -- what was read so far stands for
 abbrev pub reading_at : List Tree → Read → Reading
-reading_at s r = reading (trees_at s r.types.items) (trees_at s r.patterns.items) (trees_at s r.expressions.items) (steps_at s r.steps.items)
+reading_at s r = reading_of (trees_at s r.types.items) (trees_at s r.patterns.items) (trees_at s r.expressions.items) (steps_at s r.steps.items)
 
 pub record ReadHeld (s : List Tree) (r : Read) : Type 0 where
   pub types : HoldTypes s r.types.items
@@ -27,17 +27,17 @@ pub record ReadHeld (s : List Tree) (r : Read) : Type 0 where
 
 -- a line makes this thing, and it is good
 pub record MakesGood (t : TaskTree) (names : List NameEntry) (tallest : Option ℕ) (r : Reading) (line : List ℕ) (x : Thing) : Type 0 where
-  pub made : thing_of t names r.earlier line ≡ Some x
+  pub made : line_thing t names r.earlier line ≡ Some x
   pub good : IsGood t tallest r.steps x
 
 -- What a refusal says: a wrong line is the first one. Want of memory says nothing.
-abbrev pub IsFault : TaskTree → List NameEntry → Option ℕ → List ℕ → ReadFault → Type 0
-IsFault t names tallest bytes Memory = Unit {0}
-IsFault t names tallest bytes (WrongLine line) = FirstWrong t names tallest bytes line
+abbrev pub IsReadFault : TaskTree → List NameEntry → Option ℕ → List ℕ → ReadFault → Type 0
+IsReadFault t names tallest bytes Memory = Unit {0}
+IsReadFault t names tallest bytes (WrongLine line) = FirstWrong t names tallest bytes line
 
 -- a thing comes after those of its kind, and the others stay
-abbrev pub IsKept : MadeThing → Read → Read → Type 0
-IsKept (made.Type y) r r' = (r'.types.items ≡ r.types.items ++ y ∷ []) × (r'.patterns.items ≡ r.patterns.items) × (r'.expressions.items ≡ r.expressions.items) × (r'.steps.items ≡ r.steps.items)
-IsKept (made.Pattern p) r r' = (r'.types.items ≡ r.types.items) × (r'.patterns.items ≡ r.patterns.items ++ p ∷ []) × (r'.expressions.items ≡ r.expressions.items) × (r'.steps.items ≡ r.steps.items)
-IsKept (made.Expression e) r r' = (r'.types.items ≡ r.types.items) × (r'.patterns.items ≡ r.patterns.items) × (r'.expressions.items ≡ r.expressions.items ++ e ∷ []) × (r'.steps.items ≡ r.steps.items)
-IsKept (made.Derived st) r r' = (r'.types.items ≡ r.types.items) × (r'.patterns.items ≡ r.patterns.items) × (r'.expressions.items ≡ r.expressions.items) × (r'.steps.items ≡ r.steps.items ++ st ∷ [])
+abbrev pub IsReadKept : MadeThing → Read → Read → Type 0
+IsReadKept (made.Type y) r r' = (r'.types.items ≡ r.types.items ++ y ∷ []) × (r'.patterns.items ≡ r.patterns.items) × (r'.expressions.items ≡ r.expressions.items) × (r'.steps.items ≡ r.steps.items)
+IsReadKept (made.Pattern p) r r' = (r'.types.items ≡ r.types.items) × (r'.patterns.items ≡ r.patterns.items ++ p ∷ []) × (r'.expressions.items ≡ r.expressions.items) × (r'.steps.items ≡ r.steps.items)
+IsReadKept (made.Expression e) r r' = (r'.types.items ≡ r.types.items) × (r'.patterns.items ≡ r.patterns.items) × (r'.expressions.items ≡ r.expressions.items ++ e ∷ []) × (r'.steps.items ≡ r.steps.items)
+IsReadKept (made.Derived st) r r' = (r'.types.items ≡ r.types.items) × (r'.patterns.items ≡ r.patterns.items) × (r'.expressions.items ≡ r.expressions.items) × (r'.steps.items ≡ r.steps.items ++ st ∷ [])

@@ -8,5 +8,5 @@ lines_of [] = []
 lines_of (c ∷ cs) = if c == 10 then [] ∷ lines_of cs else onto_first c (lines_of cs)
 
 -- the words between single spaces
-abbrev pub words_of : List ℕ → List (List ℕ)
-words_of line = slice_split (λ c. c == 32) line
+abbrev pub words_in_line : List ℕ → List (List ℕ)
+words_in_line line = slice_split (λ c. c == 32) line

@@ -7,7 +7,7 @@ ghost use Rattle.rule_rows.specs.Trees.{StepTree};
 ghost use Rattle.kernel.specs.Right.{Closes};
 ghost use Rattle.rule_rows.specs.Meaning.{steps_at, StepsHeld};
 ghost use Rattle.step_files.specs.Lines.{StepsOf};
-ghost use Rattle.step_files.specs.Reading.{IsFault};
+ghost use Rattle.step_files.specs.Reading.{IsReadFault};
 ghost use Rattle.step_files.specs.declared.fault.ReadFault.TheVariants.{Memory};
 
 use crate::fault::ReadFault;
@@ -96,7 +96,8 @@ impl StepReader {
             (steps_at store.new v.items)) }
         ensures held { IfOk result (λ v. StepsHeld store.new v.items) }
         ensures whole { OnOk result (self.lost ≡ false) }
-        ensures fault { IfErr result (IsFault (task_at store.old task.now) names.now self.tallest
+        ensures fault { IfErr result (IsReadFault (task_at store.old task.now) names.now
+            self.tallest
             self.bytes) }
         ensures complete { IfErr result (λ e. (steps : List StepTree)
             → StepsOf (task_at store.old task.now) names.now self.tallest self.bytes steps → e

@@ -7,14 +7,14 @@ ghost use Rattle.trees.specs.Node.{tree_at, Holds, Grows};
 ghost use Rattle.tasks.specs.Meaning.{task_at, TaskHeld};
 ghost use Rattle.tasks.specs.Looking.{IsIndexOf};
 ghost use Rattle.linear_leaf.specs.Valuations.{Each};
-ghost use Rattle.rule_rows.specs.Trees.{trees_of};
+ghost use Rattle.rule_rows.specs.Trees.{rule_trees};
 ghost use Rattle.rule_rows.specs.Meaning.{rule_at, step_at, steps_at, StepHeld, StepsHeld};
 ghost use Rattle.kernel.specs.Open.{OpenIn, StepIsOpen, TemplateIsOpen, types_in};
 ghost use Rattle.kernel.specs.Right.{IsRight};
 ghost use Rattle.tree_lines.specs.Made.{IsNamesOf};
 ghost use Rattle.step_lines.specs.Made.{IsMadeThing, ThingHeld, thing_at};
-ghost use Rattle.step_files.specs.Marks.{AreTyped};
-ghost use Rattle.step_files.specs.Lines.{IsGoodTree, IsGood, LineIsRight, thing_of};
+ghost use Rattle.step_files.specs.Marks.{AreMarkedTyped};
+ghost use Rattle.step_files.specs.Lines.{IsGoodTree, IsGood, LineIsRight, line_thing};
 ghost use Rattle.step_files.specs.Reading.{MakesGood, ReadHeld, reading_at};
 
 use crate::marks::{are_marked, has_mark, is_open};
@@ -67,7 +67,7 @@ fn is_low(store: &Store, tallest: Option<u64>, id: TermId) -> bool
     }
 }
 
-// Whether a tree is so, and typed as far as it stands.
+// Whether a tree is so, and typed as far as it goes.
 fn is_good_tree(
     store: &Store,
     task: &Task,
@@ -79,10 +79,11 @@ fn is_good_tree(
     requires task { TaskHeld store.now task.now }
     requires index { IsIndexOf index.now task.now }
     requires held { Holds store.now id }
-    requires marks { AreTyped (task_at store.now task.now) store.now marks.old.items }
+    requires marks { AreMarkedTyped (task_at store.now task.now) store.now marks.old.items }
     ensures good { IfOk result (λ b. IsTrue b
         ↔ IsGoodTree (task_at store.now task.now) tallest (tree_at store.now id)) }
-    ensures marks { OnOk result (AreTyped (task_at store.now task.now) store.now marks.new.items) }
+    ensures marks { OnOk result (AreMarkedTyped (task_at store.now task.now) store.now
+        marks.new.items) }
 {
     if !is_low(store, tallest, id) {
         return Ok(false);
@@ -92,9 +93,9 @@ fn is_good_tree(
 
 // Whether the terms and formulas that a rule names are marked.
 fn names_marked(store: &Store, task: &Task, marks: &[bool], rule: &Rule) -> bool
-    requires { AreTyped (task_at store.now task.now) store.now marks.now }
+    requires { AreMarkedTyped (task_at store.now task.now) store.now marks.now }
     ensures { IsTrue result → Each (OpenIn (task_at store.now task.now))
-        (trees_of (rule_at store.now rule.now)) }
+        (rule_trees (rule_at store.now rule.now)) }
 {
     match rule {
         Rule::Forall(_, e) | Rule::NotExists(_, e) => has_mark(store, task, marks, *e),
@@ -112,7 +113,7 @@ fn names_marked(store: &Store, task: &Task, marks: &[bool], rule: &Rule) -> bool
 
 // Whether the template of a replacement is marked.
 fn template_marked(store: &Store, task: &Task, marks: &[bool], rule: &Rule) -> bool
-    requires { AreTyped (task_at store.now task.now) store.now marks.now }
+    requires { AreMarkedTyped (task_at store.now task.now) store.now marks.now }
     ensures { IsTrue result → TemplateIsOpen (task_at store.now task.now)
         (rule_at store.now rule.now) }
 {
@@ -137,7 +138,7 @@ fn rule_types(rule: &Rule) -> &[TermId]
 
 // Whether all trees of a step are marked.
 fn step_marked(store: &Store, task: &Task, marks: &[bool], step: &Step) -> bool
-    requires { AreTyped (task_at store.now task.now) store.now marks.now }
+    requires { AreMarkedTyped (task_at store.now task.now) store.now marks.now }
     ensures { IsTrue result → StepIsOpen (task_at store.now task.now) store.now step.now }
 {
     are_marked(store, task, marks, step.sequent.as_slice())
@@ -157,7 +158,7 @@ fn is_right(
 ) -> bool
     requires task { TaskHeld store.now task.now }
     requires index { IsIndexOf index.now task.now }
-    requires marks { AreTyped (task_at store.now task.now) store.now marks.now }
+    requires marks { AreMarkedTyped (task_at store.now task.now) store.now marks.now }
     requires before_held { StepsHeld store.now before.now }
     requires step_held { StepHeld store.now step.now }
     ensures { IsTrue result ↔ IsRight (task_at store.now task.now)
@@ -182,12 +183,13 @@ fn is_good(
 ) -> Result<bool, AllocError>
     requires task { TaskHeld store.now task.now }
     requires index { IsIndexOf index.now task.now }
-    requires marks { AreTyped (task_at store.now task.now) store.now marks.old.items }
+    requires marks { AreMarkedTyped (task_at store.now task.now) store.now marks.old.items }
     requires before_held { StepsHeld store.now before.now }
     requires thing_held { ThingHeld store.now thing.now }
     ensures good { IfOk result (λ b. IsTrue b ↔ IsGood (task_at store.now task.now) tallest
         (steps_at store.now before.now) (thing_at store.now thing.now)) }
-    ensures marks { OnOk result (AreTyped (task_at store.now task.now) store.now marks.new.items) }
+    ensures marks { OnOk result (AreMarkedTyped (task_at store.now task.now) store.now
+        marks.new.items) }
 {
     match thing {
         MadeThing::Type(ty) => is_good_tree(store, task, index, marks, tallest, *ty),
@@ -211,7 +213,7 @@ fn line_thing(
     requires names { IsNamesOf names.now table.now }
     requires read { ReadHeld store.old read.now }
     ensures made { IfOk result (IsMadeThing store.new
-        (thing_of (task_at store.old task.now) table.now
+        (line_thing (task_at store.old task.now) table.now
         (reading_at store.old read.now).earlier line.now)) }
     ensures grows { Grows store.old store.new }
 {
@@ -244,7 +246,7 @@ pub(crate) fn right_thing(
     requires index { IsIndexOf index.now task.now }
     requires names { IsNamesOf names.now table.now }
     requires read { ReadHeld store.old read.now }
-    requires marks { AreTyped (task_at store.old task.now) store.old marks.old.items }
+    requires marks { AreMarkedTyped (task_at store.old task.now) store.old marks.old.items }
     ensures none { IfOk result (λ o. IfNone o
         (LineIsRight (task_at store.old task.now) table.now tallest (reading_at store.old read.now)
         line.now → ⊥)) }
@@ -253,7 +255,7 @@ pub(crate) fn right_thing(
         (reading_at store.old read.now) line.now (thing_at store.new x))) }
     ensures held { IfOk result (λ o. IfSome o (ThingHeld store.new)) }
     ensures marks { OnOk result
-        (AreTyped (task_at store.old task.now) store.new marks.new.items) }
+        (AreMarkedTyped (task_at store.old task.now) store.new marks.new.items) }
     ensures grows { Grows store.old store.new }
 {
     let Some(thing) = line_thing(alloc, store, task, table, names, read, line)? else {

@@ -1,4 +1,4 @@
-// Which trees of a file are known to be typed as far as they stand: each is asked about once.
+// Which trees of a file are known to be typed as far as they go: each is asked about once.
 // It depends on typing; the reader of lines depends on it.
 ghost use Rattle.std.specs.Prelude.{◌≡◌, ◌<◌, ◌⊎◌, ◌↔◌, ℕ, length, All, IsTrue, OnOk, IfOk};
 ghost use Rattle.trees.specs.Node.{tree_at, Holds};
@@ -7,7 +7,7 @@ ghost use Rattle.tasks.specs.Looking.{IsIndexOf};
 ghost use Rattle.tasks.specs.Open.{PartsAreOpen};
 ghost use Rattle.tasks.specs.Vocabulary.{of_task};
 ghost use Rattle.kernel.specs.Open.{OpenIn, IsOpen};
-ghost use Rattle.step_files.specs.Marks.{is_marked, AreTyped};
+ghost use Rattle.step_files.specs.Marks.{has_mark, AreMarkedTyped};
 
 use std::alloc::AllocError;
 use tasks::{Index, Lookup, Task};
@@ -15,10 +15,10 @@ use term_store::Store;
 use trees::{Parts, TermId};
 use typing::{Vocabulary, is_open_typed};
 
-/// Whether a tree is marked, and so typed as far as it stands.
+/// Whether a tree is marked, and so typed as far as it goes.
 #[tactic(auto, using(crate::proofs::Marking::marked_open))]
 pub(crate) fn has_mark(store: &Store, task: &Task, marks: &[bool], id: TermId) -> bool
-    requires { AreTyped (task_at store.now task.now) store.now marks.now }
+    requires { AreMarkedTyped (task_at store.now task.now) store.now marks.now }
     ensures { IsTrue result → IsOpen (task_at store.now task.now) store.now id }
 {
     let _ = store;
@@ -28,7 +28,7 @@ pub(crate) fn has_mark(store: &Store, task: &Task, marks: &[bool], id: TermId) -
 
 /// Whether all trees of a list are marked.
 pub(crate) fn are_marked(store: &Store, task: &Task, marks: &[bool], ids: &[TermId]) -> bool
-    requires { AreTyped (task_at store.now task.now) store.now marks.now }
+    requires { AreMarkedTyped (task_at store.now task.now) store.now marks.now }
     ensures { IsTrue result → All (IsOpen (task_at store.now task.now) store.now) ids.now }
 {
     for id in ids {
@@ -43,8 +43,8 @@ pub(crate) fn are_marked(store: &Store, task: &Task, marks: &[bool], ids: &[Term
 #[tactic(auto, using(crate::proofs::Marking::pushed_false))]
 fn widen(marks: &mut Vec<bool>, place: usize) -> Result<(), AllocError>
     ensures room { OnOk result (place < length marks.new.items) }
-    ensures same { OnOk result ((k : ℕ) → is_marked marks.new.items k
-        ≡ is_marked marks.old.items k) }
+    ensures same { OnOk result ((k : ℕ) → has_mark marks.new.items k
+        ≡ has_mark marks.old.items k) }
 {
     while marks.len() <= place {
         marks.push(false)?;
@@ -54,15 +54,15 @@ fn widen(marks: &mut Vec<bool>, place: usize) -> Result<(), AllocError>
 
 // Marks a tree.
 fn mark(marks: &mut Vec<bool>, id: TermId) -> Result<(), AllocError>
-    ensures { OnOk result ((k : ℕ) → IsTrue (is_marked marks.new.items k)
-        → IsTrue (is_marked marks.old.items k) ⊎ (k ≡ id.0)) }
+    ensures { OnOk result ((k : ℕ) → IsTrue (has_mark marks.new.items k)
+        → IsTrue (has_mark marks.old.items k) ⊎ (k ≡ id.0)) }
 {
     widen(marks, id.0)?;
     marks[id.0] = true;
     Ok(())
 }
 
-// Whether a tree is typed as far as it stands, as its parts are; if it is, it is marked.
+// Whether a tree is typed as far as it goes, as its parts are; if it is, it is marked.
 #[tactic(auto, using(crate::proofs::Marking::typed_more))]
 fn top_is_open(
     store: &Store,
@@ -74,11 +74,12 @@ fn top_is_open(
     requires task { TaskHeld store.now task.now }
     requires index { IsIndexOf index.now task.now }
     requires held { Holds store.now id }
-    requires marks { AreTyped (task_at store.now task.now) store.now marks.old.items }
+    requires marks { AreMarkedTyped (task_at store.now task.now) store.now marks.old.items }
     requires parts { PartsAreOpen (of_task (task_at store.now task.now)) (tree_at store.now id) }
     ensures open { IfOk result (λ b. IsTrue b
         ↔ OpenIn (task_at store.now task.now) (tree_at store.now id)) }
-    ensures marks { OnOk result (AreTyped (task_at store.now task.now) store.now marks.new.items) }
+    ensures marks { OnOk result (AreMarkedTyped (task_at store.now task.now) store.now
+        marks.new.items) }
 {
     let look = Lookup::with_index(task, index);
     if !is_open_typed(store, &Vocabulary::OfTask(&look), id) {
@@ -88,7 +89,7 @@ fn top_is_open(
     Ok(true)
 }
 
-/// Whether a tree is typed as far as it stands. Those of its parts that are marked aren't asked about again.
+/// Whether a tree is typed as far as it goes. Those of its parts that are marked aren't asked about again.
 #[cycle(opening)]
 pub(crate) fn is_open(
     store: &Store,
@@ -100,10 +101,11 @@ pub(crate) fn is_open(
     requires task { TaskHeld store.now task.now }
     requires index { IsIndexOf index.now task.now }
     requires held { Holds store.now id }
-    requires marks { AreTyped (task_at store.now task.now) store.now marks.old.items }
+    requires marks { AreMarkedTyped (task_at store.now task.now) store.now marks.old.items }
     ensures open { IfOk result (λ b. IsTrue b
         ↔ OpenIn (task_at store.now task.now) (tree_at store.now id)) }
-    ensures marks { OnOk result (AreTyped (task_at store.now task.now) store.now marks.new.items) }
+    ensures marks { OnOk result (AreMarkedTyped (task_at store.now task.now) store.now
+        marks.new.items) }
 {
     if has_mark(store, task, marks, id) {
         return Ok(true);
@@ -126,10 +128,11 @@ fn parts_are_open(
     requires task { TaskHeld store.now task.now }
     requires index { IsIndexOf index.now task.now }
     requires held { Holds store.now id }
-    requires marks { AreTyped (task_at store.now task.now) store.now marks.old.items }
+    requires marks { AreMarkedTyped (task_at store.now task.now) store.now marks.old.items }
     ensures open { IfOk result (λ b. IsTrue b
         ↔ PartsAreOpen (of_task (task_at store.now task.now)) (tree_at store.now id)) }
-    ensures marks { OnOk result (AreTyped (task_at store.now task.now) store.now marks.new.items) }
+    ensures marks { OnOk result (AreMarkedTyped (task_at store.now task.now) store.now
+        marks.new.items) }
 {
     match store.node(id).parts() {
         Parts::None => Ok(true),

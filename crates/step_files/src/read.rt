@@ -1,7 +1,7 @@
 // What the lines of a file have made so far.
 // It depends on steps; the reader of lines depends on it.
 ghost use Rattle.std.specs.Prelude.{◌≡◌, OnOk};
-ghost use Rattle.step_files.specs.Reading.{IsKept};
+ghost use Rattle.step_files.specs.Reading.{IsReadKept};
 
 use rule_rows::Step;
 use std::alloc::AllocError;
@@ -19,7 +19,7 @@ pub(crate) struct Read {
 
 /// Puts a thing after those of its kind.
 pub(crate) fn keep(read: &mut Read, thing: MadeThing) -> Result<(), AllocError>
-    ensures { OnOk result (IsKept thing read.old read.new) }
+    ensures { OnOk result (IsReadKept thing read.old read.new) }
 {
     match thing {
         MadeThing::Type(ty) => read.types.push(ty)?,

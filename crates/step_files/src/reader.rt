@@ -7,7 +7,7 @@ ghost use Rattle.kernel.specs.Right.{Closes};
 ghost use Rattle.rule_rows.specs.Meaning.{steps_at, StepsHeld};
 ghost use Rattle.tree_lines.specs.Words.{texts};
 ghost use Rattle.step_files.specs.Lines.{StepsOf};
-ghost use Rattle.step_files.specs.Reading.{IsFault};
+ghost use Rattle.step_files.specs.Reading.{IsReadFault};
 ghost use Rattle.step_files.specs.declared.fault.ReadFault.TheVariants.{WrongLine};
 
 use crate::fault::ReadFault;
@@ -55,7 +55,7 @@ pub(crate) fn read_whole(
     ensures closes { IfOk result (λ v. Closes (task_at store.old task.now)
         (steps_at store.new v.items)) }
     ensures held { IfOk result (λ v. StepsHeld store.new v.items) }
-    ensures fault { IfErr result (IsFault (task_at store.old task.now) table.now tallest
+    ensures fault { IfErr result (IsReadFault (task_at store.old task.now) table.now tallest
         bytes.now) }
     ensures grows { Grows store.old store.new }
 {

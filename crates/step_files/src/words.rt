@@ -3,13 +3,13 @@
 ghost use Rattle.std.specs.Prelude.{◌≡◌, IfOk, ◌==◌};
 ghost use Rattle.std.specs.List.{slice_split};
 ghost use Rattle.tree_lines.specs.Words.{texts};
-ghost use Rattle.step_files.specs.Words.{lines_of, words_of};
+ghost use Rattle.step_files.specs.Words.{lines_of, words_in_line};
 
 use std::alloc::{AllocError, Global};
 
 // The words between single spaces.
 pub(crate) fn split<'a>(alloc: Global, line: &'a [u8]) -> Result<Vec<&'a [u8]>, AllocError>
-    ensures { IfOk result (λ v. texts v.items ≡ words_of line.now) }
+    ensures { IfOk result (λ v. texts v.items ≡ words_in_line line.now) }
 {
     line.split(|b| *b == b' ').collect(alloc)
 }

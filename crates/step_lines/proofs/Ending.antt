@@ -15,17 +15,17 @@ use Rattle.rule_words.specs.declared.argument.ArgumentKind.{ArgumentKind}
 use Rattle.rule_words.specs.Arguments.{ArgumentTree, argument_at, arguments_at}
 use Rattle.rule_words.specs.Forms.{KindsOf}
 use Rattle.tree_lines.specs.declared.known.Known.{Known}
-use Rattle.tree_lines.specs.Words.{Word, texts, number, at_number, each}
+use Rattle.tree_lines.specs.Words.{LineWord, texts, number, at_number, each}
 use Rattle.tree_lines.specs.Lines.{Earlier}
 use Rattle.tree_lines.specs.Made.{KnownHeld, earlier_at}
 use Rattle.tree_lines.proofs.Making.{words_taken, words_left, slice_left, earlier_later}
 use Rattle.step_lines.specs.Steps.{arguments, own_types, rule_arguments, rule_of_words, step_ended, step_of_line, step_by, before_colon, after_colon}
 
-module _ (t : TaskTree) (names : List NameEntry) (r : Earlier) (ks : KindsOf) (ws : List (Bor Word)) (c : ℕ) (cut : c ≡ min (length ks.first) (length ws)) where
-  abbrev firsts : List Word → Option (List ArgumentTree)
+module _ (t : TaskTree) (names : List NameEntry) (r : Earlier) (ks : KindsOf) (ws : List (Bor LineWord)) (c : ℕ) (cut : c ≡ min (length ks.first) (length ws)) where
+  abbrev firsts : List LineWord → Option (List ArgumentTree)
   firsts l = arguments t names r ks.first [] l
 
-  abbrev rests : List Word → Option (List ArgumentTree)
+  abbrev rests : List LineWord → Option (List ArgumentTree)
   rests l = arguments t names r [] ks.repeated l
 
   abbrev whole : List ArgumentTree → List ArgumentTree → Option (List ArgumentTree)
@@ -54,16 +54,16 @@ three_lists s all first own rest e =
 
 -- what was known says the same in a grown store
 module _ (s s' : List Tree) (g : Grows s s') (x : Known) (h : KnownHeld s x) where
-  pub arguments_same : (ks again : List ArgumentKind) (ws : List Word) → arguments (task_at s' x.task.now) x.table.now (earlier_at s' x) ks again ws ≡ arguments (task_at s x.task.now) x.table.now (earlier_at s x) ks again ws
+  pub arguments_same : (ks again : List ArgumentKind) (ws : List LineWord) → arguments (task_at s' x.task.now) x.table.now (earlier_at s' x) ks again ws ≡ arguments (task_at s x.task.now) x.table.now (earlier_at s x) ks again ws
   arguments_same ks again ws =
       ap (λ t. arguments t x.table.now (earlier_at s' x) ks again ws) (task_later s s' g x.task.now h.task) ∙ ap (λ r. arguments (task_at s x.task.now) x.table.now r ks again ws) (earlier_later s s' g x h)
 
 -- a step by the words after its sequent's
-module _ (t : TaskTree) (names : List NameEntry) (r : Earlier) (ws front back : List Word) (cut : before_colon ws ≡ front) (left : after_colon ws ≡ Some back) where
-  abbrev by_rule : List Tree → List Word → RuleTree → Option StepTree
+module _ (t : TaskTree) (names : List NameEntry) (r : Earlier) (ws front back : List LineWord) (cut : before_colon ws ≡ front) (left : after_colon ws ≡ Some back) where
+  abbrev by_rule : List Tree → List LineWord → RuleTree → Option StepTree
   by_rule sequent last rule = option_map (step_by sequent rule) (each number last)
 
-  abbrev by_last : List Tree → List Word → List Word → Option StepTree
+  abbrev by_last : List Tree → List LineWord → List LineWord → Option StepTree
   by_last sequent before last = option_and_then (by_rule sequent last) (rule_of_words t names r before)
 
   ended : (sequent : List Tree) → by_last sequent front back ≡ step_ended t names r sequent ws
@@ -87,8 +87,8 @@ module _ (t : TaskTree) (names : List NameEntry) (r : Earlier) (ws front back : 
   no_sequent e =
       ap (option_and_then (λ q. step_ended t names r q back)) (e ∙ ap (each (at_number r.expressions)) (sym cut)) ∙ ap (option_and_then (λ rest. option_and_then (λ q. step_ended t names r q rest) (each (at_number r.expressions) (before_colon ws)))) (sym left)
 
-pub no_end : (t : TaskTree) (names : List NameEntry) (r : Earlier) (sequent : List Tree) (ws : List Word) → after_colon ws ≡ None → None ≡ step_ended t names r sequent ws
+pub no_end : (t : TaskTree) (names : List NameEntry) (r : Earlier) (sequent : List Tree) (ws : List LineWord) → after_colon ws ≡ None → None ≡ step_ended t names r sequent ws
 no_end t names r sequent ws e = rw e refl
 
-pub no_colon : (t : TaskTree) (names : List NameEntry) (r : Earlier) (ws : List Word) → after_colon ws ≡ None → None ≡ step_of_line t names r ws
+pub no_colon : (t : TaskTree) (names : List NameEntry) (r : Earlier) (ws : List LineWord) → after_colon ws ≡ None → None ≡ step_of_line t names r ws
 no_colon t names r ws e = rw e refl

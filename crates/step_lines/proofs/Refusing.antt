@@ -10,9 +10,9 @@ use Rattle.trees.specs.Tree.{Tree}
 use Rattle.trees.specs.Sorts.{WellSorted}
 use Rattle.tasks.specs.Task.{TaskTree}
 use Rattle.name_entries.specs.declared.names.NameEntry.{NameEntry}
-use Rattle.tree_lines.specs.Words.{Word, texts}
+use Rattle.tree_lines.specs.Words.{LineWord, texts}
 use Rattle.tree_lines.specs.Lines.{Earlier, pattern_of_line, expression_of_line}
-use Rattle.tree_lines.specs.Made.{IsMade}
+use Rattle.tree_lines.specs.Made.{IsTreeMade}
 use Rattle.tree_lines.proofs.Making.{slice_left}
 use Rattle.step_lines.specs.Steps.{Thing, PatternOf, ExpressionOf, line_made}
 use Rattle.step_lines.specs.Made.{ThingFits}
@@ -24,18 +24,18 @@ thing_refused f fits (Some a) h x e w =
     h a refl (fits a (subst ThingFits (sym k) w))
 
 module _ (t : TaskTree) (names : List NameEntry) (r : Earlier) (s : List Tree) (o : Option TermId) (none : o ≡ None) where
-  refused_rest : (f : List Word → Option Tree) (w : Bor Word) (ws : List (Bor Word)) → IsMade s (f (texts (take (length (w ∷ ws) - 1) (drop 1 (w ∷ ws))))) o → (e : Tree) → f (texts ws) ≡ Some e → WellSorted e → ⊥
-  refused_rest f w ws m = subst (IsMade s (f (texts ws))) none (subst (λ (l : List (Bor Word)). IsMade s (f (texts l)) o) (slice_left 1 (w ∷ ws)) m)
+  refused_rest : (f : List LineWord → Option Tree) (w : Bor LineWord) (ws : List (Bor LineWord)) → IsTreeMade s (f (texts (take (length (w ∷ ws) - 1) (drop 1 (w ∷ ws))))) o → (e : Tree) → f (texts ws) ≡ Some e → WellSorted e → ⊥
+  refused_rest f w ws m = subst (IsTreeMade s (f (texts ws))) none (subst (λ (l : List (Bor LineWord)). IsTreeMade s (f (texts l)) o) (slice_left 1 (w ∷ ws)) m)
 
-  pub pattern_refused : (ws : List (Bor Word)) (d : Bor Word) → 1 ≤ length ws → bytes_eq (get_or ws 0 d).now (codes "y") ≡ false → bytes_eq (get_or ws 0 d).now (codes "p") ≡ true
-      → IsMade s (pattern_of_line t names r (texts (take (length ws - 1) (drop 1 ws)))) o → (x : Thing) → line_made t names r (texts ws) ≡ Some x → ThingFits x → ⊥
+  pub pattern_refused : (ws : List (Bor LineWord)) (d : Bor LineWord) → 1 ≤ length ws → bytes_eq (get_or ws 0 d).now (codes "y") ≡ false → bytes_eq (get_or ws 0 d).now (codes "p") ≡ true
+      → IsTreeMade s (pattern_of_line t names r (texts (take (length ws - 1) (drop 1 ws)))) o → (x : Thing) → line_made t names r (texts ws) ≡ Some x → ThingFits x → ⊥
   pattern_refused [] d some y p m x e = absurd (omega arith)
   pattern_refused (w ∷ ws) d some y p m x e =
       let k = rw (y, p) at e in
       thing_refused PatternOf (λ a b. b) (pattern_of_line t names r (texts ws)) (refused_rest (pattern_of_line t names r) w ws m) x k
 
-  pub expression_refused : (ws : List (Bor Word)) (d : Bor Word) → 1 ≤ length ws → bytes_eq (get_or ws 0 d).now (codes "y") ≡ false → bytes_eq (get_or ws 0 d).now (codes "p") ≡ false → bytes_eq (get_or ws 0 d).now (codes "e") ≡ true
-      → IsMade s (expression_of_line t names r (texts (take (length ws - 1) (drop 1 ws)))) o → (x : Thing) → line_made t names r (texts ws) ≡ Some x → ThingFits x → ⊥
+  pub expression_refused : (ws : List (Bor LineWord)) (d : Bor LineWord) → 1 ≤ length ws → bytes_eq (get_or ws 0 d).now (codes "y") ≡ false → bytes_eq (get_or ws 0 d).now (codes "p") ≡ false → bytes_eq (get_or ws 0 d).now (codes "e") ≡ true
+      → IsTreeMade s (expression_of_line t names r (texts (take (length ws - 1) (drop 1 ws)))) o → (x : Thing) → line_made t names r (texts ws) ≡ Some x → ThingFits x → ⊥
   expression_refused [] d some y p e' m x e = absurd (omega arith)
   expression_refused (w ∷ ws) d some y p e' m x e =
       let k = rw (y, p, e') at e in

@@ -14,7 +14,7 @@ use Rattle.name_entries.specs.declared.names.NameEntry.{NameEntry}
 use Rattle.rule_words.specs.declared.argument.ArgumentKind.{ArgumentKind}
 use Rattle.rule_words.specs.declared.argument.ArgumentKind.TheVariants as kind
 use Rattle.rule_words.specs.Arguments.{ArgumentTree, AType, argument_at, arguments_at, ArgumentHeld}
-use Rattle.tree_lines.specs.Words.{Word, texts}
+use Rattle.tree_lines.specs.Words.{LineWord, texts}
 use Rattle.tree_lines.specs.Named.{meaning}
 use Rattle.tree_lines.specs.Lines.{Earlier}
 use Rattle.tree_lines.proofs.Making.{slice_left}
@@ -29,7 +29,7 @@ onto_pushed acc y None = refl
 onto_pushed acc y (Some ys) = ap Some (append_assoc acc (y ∷ []) ys)
 
 module _ (t : TaskTree) (names : List NameEntry) (r : Earlier) where
-  step : (left again : List ArgumentKind) (k : ArgumentKind) (others : List ArgumentKind) (w : Word) (ws : List Word) → next_kinds left again ≡ k ∷ others → arguments t names r left again (w ∷ ws) ≡ then_argument t names r k w (arguments t names r others again ws)
+  step : (left again : List ArgumentKind) (k : ArgumentKind) (others : List ArgumentKind) (w : LineWord) (ws : List LineWord) → next_kinds left again ≡ k ∷ others → arguments t names r left again (w ∷ ws) ≡ then_argument t names r k w (arguments t names r others again ws)
   step [] [] k others w ws h = cc
   step [] (j ∷ js) k others w ws h =
       let a : j ≡ k = cc in
@@ -40,14 +40,14 @@ module _ (t : TaskTree) (names : List NameEntry) (r : Earlier) where
       let b : js ≡ others = cc in
       ap (λ x. then_argument t names r x w (arguments t names r js again ws)) a ∙ ap (λ l. then_argument t names r k w (arguments t names r l again ws)) b
 
-  none_left : (left again : List ArgumentKind) (w : Word) (ws : List Word) → next_kinds left again ≡ [] → arguments t names r left again (w ∷ ws) ≡ None
+  none_left : (left again : List ArgumentKind) (w : LineWord) (ws : List LineWord) → next_kinds left again ≡ [] → arguments t names r left again (w ∷ ws) ≡ None
   none_left [] [] w ws h = refl
   none_left [] (j ∷ js) w ws h = cc
   none_left (j ∷ js) again w ws h = cc
 
-  module _ (left again found : List ArgumentKind) (d' : ArgumentKind) (next : found ≡ next_kinds left again) (ws : List (Bor Word)) (i : ℕ) (d : Bor Word) (acc : List ArgumentTree) (all : Option (List ArgumentTree)) (lt : i < length ws)
+  module _ (left again found : List ArgumentKind) (d' : ArgumentKind) (next : found ≡ next_kinds left again) (ws : List (Bor LineWord)) (i : ℕ) (d : Bor LineWord) (acc : List ArgumentTree) (all : Option (List ArgumentTree)) (lt : i < length ws)
       (h : option_map (λ ys. acc ++ ys) (arguments t names r left again (texts (drop i ws))) ≡ all) where
-    abbrev rest : List Word
+    abbrev rest : List LineWord
     rest = texts (drop (i + 1) ws)
 
     cut : option_map (λ ys. acc ++ ys) (arguments t names r left again ((get_or ws i d).now ∷ rest)) ≡ all
@@ -76,7 +76,7 @@ module _ (t : TaskTree) (names : List NameEntry) (r : Earlier) where
       empty (x ∷ xs) lt = absurd (omega arith)
 
   -- the end of the words
-  module _ (left again : List ArgumentKind) (ws : List (Bor Word)) (i : ℕ) (acc : List ArgumentTree) (all : Option (List ArgumentTree)) (le : length ws ≤ i)
+  module _ (left again : List ArgumentKind) (ws : List (Bor LineWord)) (i : ℕ) (acc : List ArgumentTree) (all : Option (List ArgumentTree)) (le : length ws ≤ i)
       (h : option_map (λ ys. acc ++ ys) (arguments t names r left again (texts (drop i ws))) ≡ all) where
     ended : option_map (λ ys. acc ++ ys) (arguments t names r left again []) ≡ all
     ended = let k = rw (drop_all i ws le) at h in k
@@ -94,7 +94,7 @@ module _ (t : TaskTree) (names : List NameEntry) (r : Earlier) where
       at (x ∷ xs) lt e = e
 
   -- the types of the name that a rule begins with
-  pub own_symbol : (ks : List ArgumentKind) (ws : List (Bor Word)) (d : ArgumentKind) (d' : Bor Word) → 1 ≤ length ks → 1 ≤ length ws → get_or ks 0 d ≡ kind.Symbol → types_named (meaning names (get_or ws 0 d').now) ≡ own_types t names r ks (texts ws)
+  pub own_symbol : (ks : List ArgumentKind) (ws : List (Bor LineWord)) (d : ArgumentKind) (d' : Bor LineWord) → 1 ≤ length ks → 1 ≤ length ws → get_or ks 0 d ≡ kind.Symbol → types_named (meaning names (get_or ws 0 d').now) ≡ own_types t names r ks (texts ws)
   own_symbol [] ws d d' h k e = absurd (omega arith)
   own_symbol (j ∷ js) [] d d' h k e = absurd (omega arith)
   own_symbol (kind.Symbol ∷ js) (w ∷ ws) d d' h k e = refl
@@ -103,11 +103,11 @@ module _ (t : TaskTree) (names : List NameEntry) (r : Earlier) where
   own_symbol (kind.Expression ∷ js) (w ∷ ws) d d' h k e = cc
   own_symbol (kind.Type ∷ js) (w ∷ ws) d d' h k e = cc
 
-  pub own_none : (ks : List ArgumentKind) (ws : List (Bor Word)) → length ks < 1 → [] ≡ own_types t names r ks (texts ws)
+  pub own_none : (ks : List ArgumentKind) (ws : List (Bor LineWord)) → length ks < 1 → [] ≡ own_types t names r ks (texts ws)
   own_none [] ws h = refl
   own_none (j ∷ js) ws h = absurd (omega arith)
 
-  pub own_no_word : (ks : List ArgumentKind) (ws : List (Bor Word)) → length ws < 1 → [] ≡ own_types t names r ks (texts ws)
+  pub own_no_word : (ks : List ArgumentKind) (ws : List (Bor LineWord)) → length ws < 1 → [] ≡ own_types t names r ks (texts ws)
   own_no_word [] ws h = refl
   own_no_word (kind.Symbol ∷ js) [] h = refl
   own_no_word (kind.Number ∷ js) [] h = refl
@@ -116,7 +116,7 @@ module _ (t : TaskTree) (names : List NameEntry) (r : Earlier) where
   own_no_word (kind.Type ∷ js) [] h = refl
   own_no_word (j ∷ js) (w ∷ ws) h = absurd (omega arith)
 
-  pub own_other : (ks : List ArgumentKind) (ws : List (Bor Word)) (d : ArgumentKind) → 1 ≤ length ks → (get_or ks 0 d ≡ kind.Symbol → ⊥) → [] ≡ own_types t names r ks (texts ws)
+  pub own_other : (ks : List ArgumentKind) (ws : List (Bor LineWord)) (d : ArgumentKind) → 1 ≤ length ks → (get_or ks 0 d ≡ kind.Symbol → ⊥) → [] ≡ own_types t names r ks (texts ws)
   own_other [] ws d h n = absurd (omega arith)
   own_other (kind.Symbol ∷ js) ws d h n = absurd (n refl)
   own_other (kind.Number ∷ js) ws d h n = refl

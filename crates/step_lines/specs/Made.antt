@@ -4,7 +4,7 @@ use Rattle.trees.specs.Tree.{Tree}
 use Rattle.trees.specs.Node.{tree_at, Holds}
 use Rattle.trees.specs.Sorts.{WellSorted}
 use Rattle.rule_rows.specs.Meaning.{step_at, StepHeld}
-use Rattle.tree_lines.specs.Made.{IsType}
+use Rattle.tree_lines.specs.Made.{IsTypeHeld}
 use Rattle.step_lines.specs.declared.thing.MadeThing.{MadeThing}
 use Rattle.step_lines.specs.declared.thing.MadeThing.TheVariants as made
 use Rattle.step_lines.specs.Steps.{Thing, TypeOf, PatternOf, ExpressionOf, StepOf}
@@ -17,7 +17,7 @@ thing_at s (made.Expression e) = ExpressionOf (tree_at s e)
 thing_at s (made.Derived st) = StepOf (step_at s st)
 
 abbrev pub ThingHeld : List Tree → MadeThing → Type 0
-ThingHeld s (made.Type y) = IsType s y
+ThingHeld s (made.Type y) = IsTypeHeld s y
 ThingHeld s (made.Pattern p) = Holds s p
 ThingHeld s (made.Expression e) = Holds s e
 ThingHeld s (made.Derived st) = StepHeld s st

@@ -11,11 +11,11 @@ use Rattle.rule_words.specs.declared.argument.ArgumentKind.{ArgumentKind}
 use Rattle.rule_words.specs.declared.argument.ArgumentKind.TheVariants as kind
 use Rattle.rule_words.specs.declared.name.RuleName.{RuleName}
 use Rattle.rule_words.specs.Arguments.{ArgumentTree, ANumber, ASymbol, AInteger, AExpression, AType}
-use Rattle.rule_words.specs.Forms.{KindsOf, kinds}
-use Rattle.rule_words.specs.Rules.{row, name_by_word, rule_from}
-use Rattle.tree_lines.specs.Words.{Word, number, at_number, each}
-use Rattle.tree_lines.specs.Named.{Meaning, entry_named, meaning}
-use Rattle.tree_lines.specs.Lines.{Earlier, symbol_of, type_of_line, pattern_of_line, expression_of_line}
+use Rattle.rule_words.specs.Forms.{KindsOf, argument_kinds}
+use Rattle.rule_words.specs.Rules.{rule_row, name_by_word, rule_from}
+use Rattle.tree_lines.specs.Words.{LineWord, number, at_number, each}
+use Rattle.tree_lines.specs.Named.{NameMeaning, entry_named, meaning}
+use Rattle.tree_lines.specs.Lines.{Earlier, symbol_number, type_of_line, pattern_of_line, expression_of_line}
 
 -- what a line makes
 pub data Thing : Type 0 where
@@ -25,14 +25,14 @@ pub data Thing : Type 0 where
   StepOf : StepTree → Thing
 
 -- the words before the first colon, and those after it where there is one
-abbrev pub is_colon : Word → Bool
+abbrev pub is_colon : LineWord → Bool
 is_colon w = bytes_eq w (codes ":")
 
-abbrev pub before_colon : List Word → List Word
+abbrev pub before_colon : List LineWord → List LineWord
 before_colon [] = []
 before_colon (w ∷ ws) = if is_colon w then [] else w ∷ before_colon ws
 
-abbrev pub after_colon : List Word → Option (List Word)
+abbrev pub after_colon : List LineWord → Option (List LineWord)
 after_colon [] = None
 after_colon (w ∷ ws) = if is_colon w then Some ws else after_colon ws
 
@@ -45,23 +45,23 @@ next_kinds [] again = again
 next_kinds (k ∷ ks) again = k ∷ ks
 
 -- the types at which a name stands
-abbrev pub types_named : Option Meaning → List ArgumentTree
+abbrev pub types_named : Option NameMeaning → List ArgumentTree
 types_named None = []
 types_named (Some n) = map AType n.types
 
 module _ (t : TaskTree) (names : List NameEntry) (r : Earlier) where
-  abbrev pub argument : ArgumentKind → Word → Option ArgumentTree
+  abbrev pub argument : ArgumentKind → LineWord → Option ArgumentTree
   argument kind.Number w = option_map ANumber (number w)
-  argument kind.Symbol w = option_map ASymbol (option_and_then (λ e. symbol_of e.symbol) (entry_named names w))
+  argument kind.Symbol w = option_map ASymbol (option_and_then (λ e. symbol_number e.symbol) (entry_named names w))
   argument kind.Integer w = option_map AInteger (integer w)
   argument kind.Expression w = option_map AExpression (at_number r.expressions w)
   argument kind.Type w = option_map AType (at_number r.types w)
 
-  abbrev pub then_argument : ArgumentKind → Word → Option (List ArgumentTree) → Option (List ArgumentTree)
+  abbrev pub then_argument : ArgumentKind → LineWord → Option (List ArgumentTree) → Option (List ArgumentTree)
   then_argument k w rest = option_and_then (λ a. option_map (λ args. a ∷ args) rest) (argument k w)
 
   -- arguments of these kinds, in order, and then of the repeated ones in turn, any number of times
-  abbrev pub arguments : List ArgumentKind → List ArgumentKind → List Word → Option (List ArgumentTree)
+  abbrev pub arguments : List ArgumentKind → List ArgumentKind → List LineWord → Option (List ArgumentTree)
   arguments [] again [] = Some []
   arguments (k ∷ ks) again [] = None
   arguments (k ∷ ks) again (w ∷ ws) = then_argument k w (arguments ks again ws)
@@ -69,33 +69,33 @@ module _ (t : TaskTree) (names : List NameEntry) (r : Earlier) where
   arguments [] (k ∷ ks) (w ∷ ws) = then_argument k w (arguments ks (k ∷ ks) ws)
 
   -- the types at which the name stands that a rule begins with
-  abbrev pub own_types : List ArgumentKind → List Word → List ArgumentTree
+  abbrev pub own_types : List ArgumentKind → List LineWord → List ArgumentTree
   own_types (kind.Symbol ∷ ks) (w ∷ ws) = types_named (meaning names w)
   own_types _ _ = []
 
   -- the arguments of a rule: the first ones, the types of a name among them, and the others
-  abbrev pub rule_arguments : KindsOf → List Word → Option (List ArgumentTree)
+  abbrev pub rule_arguments : KindsOf → List LineWord → Option (List ArgumentTree)
   rule_arguments ks ws =
       option_and_then (λ first. option_map (λ rest. first ++ (own_types ks.first ws ++ rest)) (arguments [] ks.repeated (drop (length ks.first) ws))) (arguments ks.first [] (take (length ks.first) ws))
 
   -- the rule of a name, by the words after it
-  abbrev pub rule_named : List Word → RuleName → Option RuleTree
-  rule_named ws n = option_and_then (rule_from n) (rule_arguments (kinds (row n).form) ws)
+  abbrev pub rule_named : List LineWord → RuleName → Option RuleTree
+  rule_named ws n = option_and_then (rule_from n) (rule_arguments (argument_kinds (rule_row n).form) ws)
 
-  abbrev pub rule_of_words : List Word → Option RuleTree
+  abbrev pub rule_of_words : List LineWord → Option RuleTree
   rule_of_words [] = None
   rule_of_words (w ∷ ws) = option_and_then (rule_named ws) (name_by_word w)
 
   -- the step of a sequent, by the words after the sequent's
-  abbrev pub step_ended : List Tree → List Word → Option StepTree
+  abbrev pub step_ended : List Tree → List LineWord → Option StepTree
   step_ended sequent ws = option_and_then (λ last. option_and_then (λ rule. option_map (step_by sequent rule) (each number last)) (rule_of_words (before_colon ws))) (after_colon ws)
 
   -- the step of a line `s`: its sequent, its rule and its premises
-  abbrev pub step_of_line : List Word → Option StepTree
+  abbrev pub step_of_line : List LineWord → Option StepTree
   step_of_line ws = option_and_then (λ rest. option_and_then (λ sequent. step_ended sequent rest) (each (at_number r.expressions) (before_colon ws))) (after_colon ws)
 
   -- what a line makes, where it has a form and what it refers to is there
-  abbrev pub line_made : List Word → Option Thing
+  abbrev pub line_made : List LineWord → Option Thing
   line_made [] = None
   line_made (w ∷ ws) =
       if bytes_eq w (codes "y") then option_map TypeOf (type_of_line t names r ws)

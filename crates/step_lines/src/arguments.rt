@@ -8,7 +8,7 @@ ghost use Rattle.tasks.specs.Meaning.{task_at, trees_at};
 ghost use Rattle.rule_words.specs.Arguments.{AType, argument_at, arguments_at, ArgumentHeld};
 ghost use Rattle.tree_lines.specs.Words.{texts};
 ghost use Rattle.tree_lines.specs.Named.{entry_named, meaning};
-ghost use Rattle.tree_lines.specs.Lines.{symbol_of};
+ghost use Rattle.tree_lines.specs.Lines.{symbol_number};
 ghost use Rattle.tree_lines.specs.Made.{KnownHeld, IsNamesOf, earlier_at};
 ghost use Rattle.step_lines.specs.Steps.{argument, arguments, next_kinds, types_named, own_types};
 
@@ -23,7 +23,7 @@ use trees::TermId;
 // The symbol that a name stands for.
 fn symbol_named(x: &Known<'_>, word: &[u8]) -> Option<usize>
     requires { IsNamesOf x.now.names.now x.now.table.now }
-    ensures { result ≡ option_and_then (λ e. symbol_of e.symbol)
+    ensures { result ≡ option_and_then (λ e. symbol_number e.symbol)
         (entry_named x.now.table.now word.now) }
 {
     match x.names.find_entry(x.table, word)?.symbol {

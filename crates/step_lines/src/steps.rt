@@ -6,8 +6,8 @@ ghost use Rattle.trees.specs.Node.{Holds, Grows};
 ghost use Rattle.tasks.specs.Meaning.{task_at, trees_at};
 ghost use Rattle.rule_rows.specs.Meaning.{rule_at, step_at, RuleHeld, StepHeld};
 ghost use Rattle.rule_words.specs.Arguments.{arguments_at, ArgumentHeld};
-ghost use Rattle.rule_words.specs.Forms.{kinds};
-ghost use Rattle.rule_words.specs.Rules.{row};
+ghost use Rattle.rule_words.specs.Forms.{argument_kinds};
+ghost use Rattle.rule_words.specs.Rules.{rule_row};
 ghost use Rattle.tree_lines.specs.Words.{texts};
 ghost use Rattle.tree_lines.specs.Made.{KnownHeld, earlier_at};
 ghost use Rattle.step_lines.specs.Steps.{rule_arguments, rule_named, rule_of_words, step_ended, step_of_line};
@@ -46,7 +46,7 @@ fn all_arguments(
     requires { KnownHeld store.old x.now }
     ensures trees { IfOk result (λ o. option_map (λ v. arguments_at store.new v.items) o
         ≡ rule_arguments (task_at store.old x.now.task.now) x.now.table.now
-        (earlier_at store.old x.now) (kinds (row name).form) (texts words.now)) }
+        (earlier_at store.old x.now) (argument_kinds (rule_row name).form) (texts words.now)) }
     ensures held { IfOk result (λ o. IfSome o (λ v. All (ArgumentHeld store.new) v.items)) }
     ensures grows { Grows store.old store.new }
 {

@@ -18,7 +18,7 @@ use Rattle.step_lines.specs.declared.thing.MadeThing.{MadeThing}
 use Rattle.step_lines.specs.declared.thing.MadeThing.TheVariants as made
 use Rattle.step_lines.specs.Made.{ThingHeld}
 use Rattle.step_rows.specs.declared.read.Read.{Read}
-use Rattle.step_rows.specs.Read.{ReadHeld, IsKept}
+use Rattle.step_rows.specs.Read.{RowReadHeld, IsThingKept}
 
 pub decls_more : (s s' : List Tree) → Grows s s' → (ds es : List Decl) → All (DeclHeld s) ds → All (DeclHeld s') es → All (DeclHeld s') (ds ++ es)
 decls_more s s' g ds es h k = All-append (DeclHeld s') ds es (All-weaker (DeclHeld s) (DeclHeld s') (decl_held_later s s' g) ds h) k
@@ -36,7 +36,7 @@ symbol_held s i h = record {
 pub symbols_held : (s : List Tree) (is : List SymbolInfo) → All (SymbolTyped s) is → All (SymbolHeld s) is
 symbols_held s is h = All-weaker (SymbolTyped s) (SymbolHeld s) (symbol_held s) is h
 
-pub read_later : (s s' : List Tree) → Grows s s' → (r : Read) → ReadHeld s r → ReadHeld s' r
+pub read_later : (s s' : List Tree) → Grows s s' → (r : Read) → RowReadHeld s r → RowReadHeld s' r
 read_later s s' g r h = record {
   types = typing_stays_ready s s' r.types.items g h.types;
   patterns = all_held_later s s' g r.patterns.items h.patterns;
@@ -50,7 +50,7 @@ on_ok (Ok x) P h = h
 on_ok (Err e) P h = tt
 
 -- one thing more
-pub kept_held : (s : List Tree) (r r' : Read) → ReadHeld s r → (x : MadeThing) → IsKept x r r' → ThingHeld s x → ReadHeld s r'
+pub kept_held : (s : List Tree) (r r' : Read) → RowReadHeld s r → (x : MadeThing) → IsThingKept x r r' → ThingHeld s x → RowReadHeld s r'
 kept_held s r r' h (made.Type y) k t = record {
   types = subst (HoldTypes s) (sym k.0) (types_pushed s r.types.items y h.types t);
   patterns = subst (λ (l : List TermId). All (Holds s) l) (sym k.1) h.patterns;

@@ -285,7 +285,7 @@ fn put_answers(
     Ok(())
 }
 
-/// Puts what is asked of each file; a line `f` stands before each.
+/// Puts what is asked of each file; a line `f` is before each.
 pub(crate) fn put_files(
     alloc: Global,
     text: &mut String,

@@ -6,7 +6,7 @@ ghost use Rattle.tasks.specs.Meaning.{TaskHeld};
 ghost use Rattle.rule_rows.specs.Meaning.{StepHeld, StepsHeld};
 ghost use Rattle.tree_lines.specs.Made.{IsNamesOf};
 ghost use Rattle.step_lines.specs.Made.{ThingHeld};
-ghost use Rattle.step_rows.specs.Read.{ReadHeld};
+ghost use Rattle.step_rows.specs.Read.{RowReadHeld};
 
 use crate::read::{Read, keep};
 use integer_words::integer_word;
@@ -141,7 +141,7 @@ fn made_by(
 ) -> Result<Option<MadeThing>, AllocError>
     requires task { TaskHeld store.old task.now }
     requires names { IsNamesOf names.now table.now }
-    requires read { ReadHeld store.old read.now }
+    requires read { RowReadHeld store.old read.now }
     ensures grows { Grows store.old store.new }
     ensures held { IfOk result (λ o. IfSome o (ThingHeld store.new)) }
 {
@@ -171,9 +171,9 @@ pub(crate) fn put_line(
 ) -> Result<(), AllocError>
     requires task { TaskHeld store.old task.now }
     requires names { IsNamesOf names.now table.now }
-    requires read { ReadHeld store.old read.old }
+    requires read { RowReadHeld store.old read.old }
     ensures grows { Grows store.old store.new }
-    ensures read { OnOk result (ReadHeld store.new read.new) }
+    ensures read { OnOk result (RowReadHeld store.new read.new) }
 {
     match made_by(alloc, store, task, table, names, read, line)? {
         Some(thing) => {

@@ -3,7 +3,7 @@ use Rattle.std.proofs.Common.{◌≡◌, ℕ, Option, refl, ap, ◌∙◌, sym, 
 use Rattle.trees.specs.declared.Sort.{Sort}
 use Rattle.trees.specs.declared.Sort.TheVariants.{Kind, List}
 use Rattle.trees.specs.Tree.{Tree, One, Two, Three, Head, HTyApp, HFun, HPred, HPatCon, HEnd, HCell, HArm, HCase, head_of}
-use Rattle.trees.specs.Sorts.{one_sort, two_sort, three_sort, yield, top_sort, sort_of, two_first, first_sort, OneFits, TwoFits, ThreeFits, Fits, HasBranch}
+use Rattle.trees.specs.Sorts.{one_sort, two_sort, three_sort, yield, top_sort, sort_of, two_first, first_sort, OneFits, TwoFits, ThreeFits, Fits, CaseHasBranch}
 use Rattle.trees.proofs.Sorts.{first_sort_none}
 use Rattle.symbol_maps.specs.Mapped.{head_mapped}
 use Rattle.symbol_maps.specs.Meaning.{IsAlike}
@@ -74,7 +74,7 @@ module _ (f : ℕ → ℕ) where
   three_fits_same (HPatCon k) a x b y c t = t
   three_fits_same _ a x b y c t = t
 
-  branch_same : (h : Head) (b y : Tree) → (head_of b ≡ HCell → head_of y ≡ HCell) → HasBranch h b → HasBranch (head_mapped f h) y
+  branch_same : (h : Head) (b y : Tree) → (head_of b ≡ HCell → head_of y ≡ HCell) → CaseHasBranch h b → CaseHasBranch (head_mapped f h) y
   branch_same HCase b y g t = g t
   branch_same (HTyApp k) b y g t = tt
   branch_same (HFun k) b y g t = tt

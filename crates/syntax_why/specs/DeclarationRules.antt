@@ -3,14 +3,14 @@ use Rattle.std.specs.Prelude.{ℕ, ◌+◌, ◌≡◌, List, [], ◌∷◌, Opti
 use Rattle.syntax_why.specs.Common.{⊤, Name, Link}
 use Rattle.syntax_why.specs.declared.declarations.Link.TheVariants as lk
 use Rattle.syntax_why.specs.Lexeme.{at}
-use Rattle.syntax_why.specs.Forms.{Own, lower, upper, Called, write_called, Form, write_form, types, IsForm, AreParts, IsPart, IsHead, past, IsPlaced, PlacedRow}
-use Rattle.syntax_why.specs.Trees.{Tree, name_row, type_part, bar_before, IsOwn, IsLevel, IsTypePart, HasSome, IsPlacedTree, PlacedNames, PlacedPart}
-use Rattle.syntax_why.specs.Declarations.{Param, Member, Constructor, Algebraic, Clause, Inductive, Element, type_element, symbol_element, prop_element, all_axioms, Decl, Decls, type_decl, algebraic_decl, function_decl, predicate_decl, constant_decl, inductive_decl, prop_decl, use_decl, clone_decl, scope_decl, no_decls, more_decls, Theory, variable_row, write_param, param_row, definition, write_member, write_constructor, write_algebraic, write_clause, write_inductive, link_words, write_path, renamed, write_element, write_decl, write_theory}
+use Rattle.syntax_why.specs.Forms.{Own, lower, upper, Called, write_called, SyntaxForm, write_form, type_forms, IsForm, AreParts, IsFormPart, IsHead, past, IsPlaced, PlacedRow}
+use Rattle.syntax_why.specs.Trees.{SyntaxTree, name_row, type_part, bar_before, IsOwn, IsLevel, IsTypePart, HasSome, IsPlacedTree, PlacedNames, PlacedPart}
+use Rattle.syntax_why.specs.Declarations.{ParamGroup, Member, Constructor, Algebraic, Clause, Inductive, Element, type_element, symbol_element, prop_element, all_axioms, SyntaxDeclaration, SyntaxDeclarations, type_decl, algebraic_decl, function_decl, predicate_decl, constant_decl, inductive_decl, prop_decl, use_decl, clone_decl, scope_decl, no_decls, more_decls, SyntaxTheory, variable_row, write_param, param_row, definition, write_member, write_constructor, write_algebraic, write_clause, write_inductive, link_words, write_path, renamed, write_element, write_decl, write_theory}
 
 -- the name of a symbol may be an operator, that of a proposition is of either case
-abbrev pub IsSymbol : Own → Type 0
-IsSymbol (upper w) = ⊥
-IsSymbol o = IsOwn o
+abbrev pub IsSymbolName : Own → Type 0
+IsSymbolName (upper w) = ⊥
+IsSymbolName o = IsOwn o
 
 abbrev pub IsProp : Own → Type 0
 IsProp (lower w) = ⊤
@@ -18,19 +18,19 @@ IsProp (upper w) = ⊤
 IsProp _ = ⊥
 
 abbrev pub IsNewSymbol : Called → Type 0
-IsNewSymbol c = (c.scopes ≡ []) × IsSymbol c.own
+IsNewSymbol c = (c.scopes ≡ []) × IsSymbolName c.own
 
 abbrev pub IsNewProp : Called → Type 0
 IsNewProp c = (c.scopes ≡ []) × IsProp c.own
 
--- the type of a parameter without names is one that may stand as an argument
-abbrev pub IsTyped : List Name → Form → Type 0
-IsTyped [] f = IsPart f × IsForm types f
-IsTyped (n ∷ ns) f = IsForm types f
+-- the type of a parameter without names is one that may be as an argument
+abbrev pub IsTypedParam : List Name → SyntaxForm → Type 0
+IsTypedParam [] f = IsFormPart f × IsForm type_forms f
+IsTypedParam (n ∷ ns) f = IsForm type_forms f
 
-abbrev pub AreParams : List Param → Type 0
+abbrev pub AreParams : List ParamGroup → Type 0
 AreParams [] = ⊤
-AreParams (p ∷ ps) = IsTyped p.names p.of_type × AreParams ps
+AreParams (p ∷ ps) = IsTypedParam p.names p.of_type × AreParams ps
 
 abbrev pub IsMember : Member → Type 0
 IsMember d = IsNewSymbol d.name × AreParams d.params × IsTypePart d.result × IsLevel d.body
@@ -39,19 +39,19 @@ abbrev pub AreMembers : List Member → Type 0
 AreMembers [] = ⊤
 AreMembers (d ∷ ds) = IsMember d × AreMembers ds
 
-abbrev pub IsDefinition : Option Tree → Type 0
-IsDefinition None = ⊤
-IsDefinition (Some e) = IsLevel e
+abbrev pub IsOptionalDefinition : Option SyntaxTree → Type 0
+IsOptionalDefinition None = ⊤
+IsOptionalDefinition (Some e) = IsLevel e
 
--- a definition, and the members behind it, of which there are none without it
-abbrev pub IsDefined : Option Tree → List Member → Type 0
+-- a definition, and the members after it, of which there are none without it
+abbrev pub IsDefined : Option SyntaxTree → List Member → Type 0
 IsDefined None [] = ⊤
 IsDefined None (d ∷ ds) = ⊥
 IsDefined (Some e) ds = IsLevel e × AreMembers ds
 
 abbrev pub AreConstructors : List Constructor → Type 0
 AreConstructors [] = ⊤
-AreConstructors (c ∷ cs) = AreParts types c.fields × AreConstructors cs
+AreConstructors (c ∷ cs) = AreParts type_forms c.fields × AreConstructors cs
 
 abbrev pub AreAlgebraic : List Algebraic → Type 0
 AreAlgebraic [] = ⊤
@@ -71,8 +71,8 @@ IsLink lk.Export (Some n) = ⊥
 IsLink _ _ = ⊤
 
 abbrev pub IsElement : Element → Type 0
-IsElement (type_element i c vs f) = IsHead types c.own × IsForm types f
-IsElement (symbol_element i s c d) = IsSymbol c.own × IsSymbol d.own
+IsElement (type_element i c vs f) = IsHead type_forms c.own × IsForm type_forms f
+IsElement (symbol_element i s c d) = IsSymbolName c.own × IsSymbolName d.own
 IsElement (prop_element i k c) = IsProp c.own
 IsElement (all_axioms i) = ⊤
 
@@ -81,44 +81,44 @@ AreElements [] = ⊤
 AreElements (e ∷ es) = IsElement e × AreElements es
 
 abbrev mutual
-  pub IsLevelDecl : Decl → Type 0
+  pub IsLevelDecl : SyntaxDeclaration → Type 0
   IsLevelDecl (type_decl a n vs f) = IsTypePart f
   IsLevelDecl (algebraic_decl a as_) = HasSome as_ × AreAlgebraic as_
-  IsLevelDecl (function_decl a c ps f e ds) = IsNewSymbol c × AreParams ps × IsForm types f × IsDefined e ds
+  IsLevelDecl (function_decl a c ps f e ds) = IsNewSymbol c × AreParams ps × IsForm type_forms f × IsDefined e ds
   IsLevelDecl (predicate_decl a c ps e ds) = IsNewSymbol c × AreParams ps × IsDefined e ds
-  IsLevelDecl (constant_decl a c f e) = IsNewSymbol c × IsForm types f × IsDefinition e
+  IsLevelDecl (constant_decl a c f e) = IsNewSymbol c × IsForm type_forms f × IsOptionalDefinition e
   IsLevelDecl (inductive_decl a ds) = HasSome ds × AreInductive ds
   IsLevelDecl (prop_decl a k c e) = IsNewProp c × IsLevel e
   IsLevelDecl (use_decl a l p n) = HasSome p.parts × IsLink l n
   IsLevelDecl (clone_decl a l p n es) = HasSome p.parts × IsLink l n × AreElements es
   IsLevelDecl (scope_decl a n ds) = AreLevelDecls ds
 
-  pub AreLevelDecls : Decls → Type 0
+  pub AreLevelDecls : SyntaxDeclarations → Type 0
   AreLevelDecls no_decls = ⊤
   AreLevelDecls (more_decls d ds) = IsLevelDecl d × AreLevelDecls ds
 
-abbrev pub IsLevelFile : List Theory → Type 0
+abbrev pub IsLevelFile : List SyntaxTheory → Type 0
 IsLevelFile [] = ⊤
 IsLevelFile (h ∷ hs) = AreLevelDecls h.decls × IsLevelFile hs
 
 -- names in parentheses with their type, or a type alone
-abbrev pub PlacedTyped : ℕ → List Name → Form → Type 0
+abbrev pub PlacedTyped : ℕ → List Name → SyntaxForm → Type 0
 PlacedTyped i [] f = IsPlaced i f
 PlacedTyped i (n ∷ ns) f = PlacedNames (i + 1) (n ∷ ns) × IsPlaced (past (i + 1) (name_row (n ∷ ns)) + 1) f
 
-abbrev pub PlacedParams : ℕ → List Param → Type 0
+abbrev pub PlacedParams : ℕ → List ParamGroup → Type 0
 PlacedParams i [] = ⊤
 PlacedParams i (p ∷ ps) = PlacedTyped i p.names p.of_type × PlacedParams (past i (write_param p)) ps
 
--- behind an equality sign
-abbrev pub PlacedDefinition : ℕ → Option Tree → Type 0
+-- after an equality sign
+abbrev pub PlacedDefinition : ℕ → Option SyntaxTree → Type 0
 PlacedDefinition i None = ⊤
 PlacedDefinition i (Some e) = IsPlacedTree (i + 1) e
 
 abbrev pub PlacedMember : ℕ → Member → Type 0
 PlacedMember i d = (d.name.at ≡ i) × PlacedParams (past i (write_called d.name)) d.params × PlacedPart (past (past i (write_called d.name)) (param_row d.params)) d.result × IsPlacedTree (past (past (past i (write_called d.name)) (param_row d.params)) (type_part d.result) + 1) d.body
 
--- each behind `with`
+-- each after `with`
 abbrev pub PlacedMembers : ℕ → List Member → Type 0
 PlacedMembers i [] = ⊤
 PlacedMembers i (d ∷ ds) = PlacedMember (i + 1) d × PlacedMembers (past (i + 1) (write_member d)) ds
@@ -156,14 +156,14 @@ abbrev pub PlacedElements : ℕ → List Element → Type 0
 PlacedElements i [] = ⊤
 PlacedElements i (e ∷ es) = PlacedElement i e × PlacedElements (past i (write_element e) + 1) es
 
--- a name behind `as`
+-- a name after `as`
 abbrev pub PlacedRenamed : ℕ → Option Name → Type 0
 PlacedRenamed i None = ⊤
 PlacedRenamed i (Some n) = n.at ≡ i + 1
 
 -- Token i is the first one.
 abbrev mutual
-  pub PlacedDecl : ℕ → Decl → Type 0
+  pub PlacedDecl : ℕ → SyntaxDeclaration → Type 0
   PlacedDecl i (type_decl a n vs f) = (a ≡ at i) × (n.at ≡ i + 1) × PlacedNames (i + 1 + 1) vs × PlacedPart (past (i + 1 + 1) (variable_row vs)) f
   PlacedDecl i (algebraic_decl a as_) = (a ≡ at i) × PlacedAlgebraics (i + 1) as_
   PlacedDecl i (function_decl a c ps f e ds) = (a ≡ at i) × (c.at ≡ i + 1) × PlacedParams (past (i + 1) (write_called c)) ps × IsPlaced (past (past (i + 1) (write_called c)) (param_row ps) + 1) f × PlacedDefinition (past (past (past (i + 1) (write_called c)) (param_row ps) + 1) (write_form f)) e × PlacedMembers (past (past (past (past (i + 1) (write_called c)) (param_row ps) + 1) (write_form f)) (definition e)) ds
@@ -176,10 +176,10 @@ abbrev mutual
   PlacedDecl i (scope_decl a n ds) = (a ≡ at i) × (n.at ≡ i + 1) × PlacedDecls (i + 1 + 1) ds
 
   -- one after another
-  pub PlacedDecls : ℕ → Decls → Type 0
+  pub PlacedDecls : ℕ → SyntaxDeclarations → Type 0
   PlacedDecls i no_decls = ⊤
   PlacedDecls i (more_decls d ds) = PlacedDecl i d × PlacedDecls (past i (write_decl d)) ds
 
-abbrev pub PlacedFile : ℕ → List Theory → Type 0
+abbrev pub PlacedFile : ℕ → List SyntaxTheory → Type 0
 PlacedFile i [] = ⊤
 PlacedFile i (h ∷ hs) = (h.at ≡ at i) × (h.name.at ≡ i + 1) × PlacedDecls (i + 1 + 1) h.decls × PlacedFile (past i (write_theory h)) hs

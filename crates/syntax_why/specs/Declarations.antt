@@ -9,24 +9,24 @@ use Rattle.syntax_why.specs.declared.declarations.Link.TheVariants as lk
 use Rattle.syntax_why.specs.declared.declarations.SymbolWord.{SymbolWord}
 use Rattle.syntax_why.specs.declared.declarations.SymbolWord.TheVariants as sw
 use Rattle.syntax_why.specs.Lexeme.{Word, Lexeme, lx, mark}
-use Rattle.syntax_why.specs.Forms.{Called, write_called, Form, Forms, write_form, form_row}
-use Rattle.syntax_why.specs.Trees.{Tree, write, name_row, type_part, bar_before}
+use Rattle.syntax_why.specs.Forms.{Called, write_called, SyntaxForm, SyntaxForms, write_form, form_row}
+use Rattle.syntax_why.specs.Trees.{SyntaxTree, write, name_row, type_part, bar_before}
 
 -- A parameter, with names or, as a type alone, without.
-pub record Param : Type 0 where
+pub record ParamGroup : Type 0 where
   pub names : List Name
-  pub of_type : Form
+  pub of_type : SyntaxForm
 
 -- a member after `with`: a function where it has a result type, else a predicate
 pub record Member : Type 0 where
   pub name : Called
-  pub params : List Param
-  pub result : Option Form
-  pub body : Tree
+  pub params : List ParamGroup
+  pub result : Option SyntaxForm
+  pub body : SyntaxTree
 
 pub record Constructor : Type 0 where
   pub name : Name
-  pub fields : Forms
+  pub fields : SyntaxForms
 
 pub record Algebraic : Type 0 where
   pub name : Name
@@ -36,69 +36,69 @@ pub record Algebraic : Type 0 where
 
 pub record Clause : Type 0 where
   pub name : Called
-  pub prop : Tree
+  pub prop : SyntaxTree
 
 pub record Inductive : Type 0 where
   pub name : Called
-  pub params : List Param
+  pub params : List ParamGroup
   pub bar : Bool
   pub clauses : List Clause
 
 -- an element of a clone's substitution
 pub data Element : Type 0 where
-  type_element : ℕ → Called → List Name → Form → Element
+  type_element : ℕ → Called → List Name → SyntaxForm → Element
   symbol_element : ℕ → SymbolWord → Called → Called → Element
   prop_element : ℕ → PropKind → Called → Element
   all_axioms : ℕ → Element
 
 mutual
-  pub data Decl : Type 0 where
-    type_decl : At → Name → List Name → Option Form → Decl
-    algebraic_decl : At → List Algebraic → Decl
-    function_decl : At → Called → List Param → Form → Option Tree → List Member → Decl
-    predicate_decl : At → Called → List Param → Option Tree → List Member → Decl
-    constant_decl : At → Called → Form → Option Tree → Decl
-    inductive_decl : At → List Inductive → Decl
-    prop_decl : At → PropKind → Called → Tree → Decl
-    use_decl : At → Link → Path → Option Name → Decl
-    clone_decl : At → Link → Path → Option Name → List Element → Decl
-    scope_decl : At → Name → Decls → Decl
+  pub data SyntaxDeclaration : Type 0 where
+    type_decl : At → Name → List Name → Option SyntaxForm → SyntaxDeclaration
+    algebraic_decl : At → List Algebraic → SyntaxDeclaration
+    function_decl : At → Called → List ParamGroup → SyntaxForm → Option SyntaxTree → List Member → SyntaxDeclaration
+    predicate_decl : At → Called → List ParamGroup → Option SyntaxTree → List Member → SyntaxDeclaration
+    constant_decl : At → Called → SyntaxForm → Option SyntaxTree → SyntaxDeclaration
+    inductive_decl : At → List Inductive → SyntaxDeclaration
+    prop_decl : At → PropKind → Called → SyntaxTree → SyntaxDeclaration
+    use_decl : At → Link → Path → Option Name → SyntaxDeclaration
+    clone_decl : At → Link → Path → Option Name → List Element → SyntaxDeclaration
+    scope_decl : At → Name → SyntaxDeclarations → SyntaxDeclaration
 
-  pub data Decls : Type 0 where
-    no_decls : Decls
-    more_decls : Decl → Decls → Decls
+  pub data SyntaxDeclarations : Type 0 where
+    no_decls : SyntaxDeclarations
+    more_decls : SyntaxDeclaration → SyntaxDeclarations → SyntaxDeclarations
 
-pub record Theory : Type 0 where
+pub record SyntaxTheory : Type 0 where
   pub at : At
   pub is_module : Bool
   pub name : Name
-  pub decls : Decls
+  pub decls : SyntaxDeclarations
 
 -- type variables side by side
 abbrev pub variable_row : List Name → List Lexeme
 variable_row [] = []
 variable_row (n ∷ ns) = lx t.TyVar n.text ∷ variable_row ns
 
-abbrev pub typed_names : List Name → Form → List Lexeme
+abbrev pub typed_names : List Name → SyntaxForm → List Lexeme
 typed_names [] f = write_form f
 typed_names (n ∷ ns) f = mark t.LParen ∷ (name_row (n ∷ ns) ++ (mark t.Colon ∷ (write_form f ++ (mark t.RParen ∷ []))))
 
-abbrev pub write_param : Param → List Lexeme
+abbrev pub write_param : ParamGroup → List Lexeme
 write_param p = typed_names p.names p.of_type
 
 -- parameters side by side
-abbrev pub param_row : List Param → List Lexeme
+abbrev pub param_row : List ParamGroup → List Lexeme
 param_row [] = []
 param_row (p ∷ ps) = write_param p ++ param_row ps
 
-abbrev pub definition : Option Tree → List Lexeme
+abbrev pub definition : Option SyntaxTree → List Lexeme
 definition None = []
 definition (Some e) = mark t.Equal ∷ write e
 
 abbrev pub write_member : Member → List Lexeme
 write_member d = write_called d.name ++ (param_row d.params ++ (type_part d.result ++ (mark t.Equal ∷ write d.body)))
 
--- each behind `with`
+-- each after `with`
 abbrev pub other_members : List Member → List Lexeme
 other_members [] = []
 other_members (d ∷ ds) = mark t.WithWord ∷ (write_member d ++ other_members ds)
@@ -166,7 +166,7 @@ abbrev pub write_path : List Word → List Lexeme
 write_path [] = []
 write_path (w ∷ ws) = path_from w ws
 
--- a theory's name behind `as`
+-- a theory's name after `as`
 abbrev pub renamed : Option Name → List Lexeme
 renamed None = []
 renamed (Some n) = mark t.AsWord ∷ lx t.Uident n.text ∷ []
@@ -186,17 +186,17 @@ abbrev pub element_tail : List Element → List Lexeme
 element_tail [] = []
 element_tail (e ∷ es) = mark t.Comma ∷ (write_element e ++ element_tail es)
 
--- the elements behind `with`, if there are any
+-- the elements after `with`, if there are any
 abbrev pub substitution : List Element → List Lexeme
 substitution [] = []
 substitution (e ∷ es) = mark t.WithWord ∷ (write_element e ++ element_tail es)
 
-abbrev pub type_equation : Option Form → List Lexeme
+abbrev pub type_equation : Option SyntaxForm → List Lexeme
 type_equation None = []
 type_equation (Some f) = mark t.Equal ∷ write_form f
 
 abbrev mutual
-  pub write_decl : Decl → List Lexeme
+  pub write_decl : SyntaxDeclaration → List Lexeme
   write_decl (type_decl a n vs f) = mark t.TypeWord ∷ lx t.Lident n.text ∷ (variable_row vs ++ type_equation f)
   write_decl (algebraic_decl a as_) = mark t.TypeWord ∷ algebraic_list as_
   write_decl (function_decl a c ps f e ds) = mark t.FunctionWord ∷ (write_called c ++ (param_row ps ++ (mark t.Colon ∷ (write_form f ++ (definition e ++ other_members ds)))))
@@ -209,7 +209,7 @@ abbrev mutual
   write_decl (scope_decl a n ds) = mark t.ScopeWord ∷ lx t.Uident n.text ∷ (write_decls ds ++ (mark t.EndWord ∷ []))
 
   -- one after another
-  pub write_decls : Decls → List Lexeme
+  pub write_decls : SyntaxDeclarations → List Lexeme
   write_decls no_decls = []
   write_decls (more_decls d ds) = write_decl d ++ write_decls ds
 
@@ -217,10 +217,10 @@ abbrev pub heading : Bool → Terminal
 heading true = t.ModuleWord
 heading false = t.TheoryWord
 
-abbrev pub write_theory : Theory → List Lexeme
+abbrev pub write_theory : SyntaxTheory → List Lexeme
 write_theory h = mark (heading h.is_module) ∷ lx t.Uident h.name.text ∷ (write_decls h.decls ++ (mark t.EndWord ∷ []))
 
 -- theories one after another
-abbrev pub write_file : List Theory → List Lexeme
+abbrev pub write_file : List SyntaxTheory → List Lexeme
 write_file [] = []
 write_file (h ∷ hs) = write_theory h ++ write_file hs

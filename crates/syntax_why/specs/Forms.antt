@@ -4,7 +4,7 @@ use Rattle.syntax_why.specs.Common.{⊤, Terminal, At, Name}
 use Rattle.tokens_why.specs.declared.terminal.Terminal.TheVariants as t
 use Rattle.syntax_why.specs.Lexeme.{Word, Lexeme, lx, mark, at}
 
--- a name behind its scopes
+-- a name after its scopes
 pub data Own : Type 0 where
   lower : Word → Own
   upper : Word → Own
@@ -21,17 +21,17 @@ abbrev pub called : ℕ → List Word → Own → Called
 called i qs o = record { at = i; scopes = qs; own = o }
 
 mutual
-  pub data Form : Type 0 where
-    wild : At → Form
-    variable : At → Name → Form
-    type_variable : At → Word → Form
-    composed : At → Called → Forms → Form
-    enclosed : At → Forms → Form
-    aliased : At → Form → Name → Form
+  pub data SyntaxForm : Type 0 where
+    wild : At → SyntaxForm
+    variable : At → Name → SyntaxForm
+    type_variable : At → Word → SyntaxForm
+    composed : At → Called → SyntaxForms → SyntaxForm
+    enclosed : At → SyntaxForms → SyntaxForm
+    aliased : At → SyntaxForm → Name → SyntaxForm
 
-  pub data Forms : Type 0 where
-    no_forms : Forms
-    more_forms : Form → Forms → Forms
+  pub data SyntaxForms : Type 0 where
+    no_forms : SyntaxForms
+    more_forms : SyntaxForm → SyntaxForms → SyntaxForms
 
 abbrev pub scoped : List Word → List Lexeme
 scoped [] = []
@@ -48,7 +48,7 @@ abbrev pub write_called : Called → List Lexeme
 write_called c = scoped c.scopes ++ write_own c.own
 
 abbrev mutual
-  pub write_form : Form → List Lexeme
+  pub write_form : SyntaxForm → List Lexeme
   write_form (wild a) = mark t.Wild ∷ []
   write_form (variable a n) = lx t.Lident n.text ∷ []
   write_form (type_variable a w) = lx t.TyVar w ∷ []
@@ -56,46 +56,46 @@ abbrev mutual
   write_form (enclosed a ts) = mark t.LParen ∷ (form_list ts ++ (mark t.RParen ∷ []))
   write_form (aliased a p n) = write_form p ++ (mark t.AsWord ∷ lx t.Lident n.text ∷ [])
 
-  pub form_row : Forms → List Lexeme
+  pub form_row : SyntaxForms → List Lexeme
   form_row no_forms = []
   form_row (more_forms p ps) = write_form p ++ form_row ps
 
-  pub form_list : Forms → List Lexeme
+  pub form_list : SyntaxForms → List Lexeme
   form_list no_forms = []
   form_list (more_forms p ps) = write_form p ++ form_tail ps
 
-  pub form_tail : Forms → List Lexeme
+  pub form_tail : SyntaxForms → List Lexeme
   form_tail no_forms = []
   form_tail (more_forms p ps) = mark t.Comma ∷ (write_form p ++ form_tail ps)
 
-pub data Sort : Type 0 where
-  types : Sort
-  patterns : Sort
+pub data FormKind : Type 0 where
+  type_forms : FormKind
+  pattern_forms : FormKind
 
-abbrev pub OfTypes : Sort → Type 0
-OfTypes types = ⊤
-OfTypes patterns = ⊥
+abbrev pub OfTypes : FormKind → Type 0
+OfTypes type_forms = ⊤
+OfTypes pattern_forms = ⊥
 
-abbrev pub OfPatterns : Sort → Type 0
-OfPatterns types = ⊥
-OfPatterns patterns = ⊤
+abbrev pub OfPatterns : FormKind → Type 0
+OfPatterns type_forms = ⊥
+OfPatterns pattern_forms = ⊤
 
-abbrev pub IsHead : Sort → Own → Type 0
-IsHead types (lower w) = ⊤
-IsHead patterns (upper w) = ⊤
+abbrev pub IsHead : FormKind → Own → Type 0
+IsHead type_forms (lower w) = ⊤
+IsHead pattern_forms (upper w) = ⊤
 IsHead _ _ = ⊥
 
-abbrev pub IsPart : Form → Type 0
-IsPart (composed a c (more_forms p ps)) = ⊥
-IsPart (aliased a p n) = ⊥
-IsPart _ = ⊤
+abbrev pub IsFormPart : SyntaxForm → Type 0
+IsFormPart (composed a c (more_forms p ps)) = ⊥
+IsFormPart (aliased a p n) = ⊥
+IsFormPart _ = ⊤
 
-abbrev pub IsUnnamed : Form → Type 0
+abbrev pub IsUnnamed : SyntaxForm → Type 0
 IsUnnamed (aliased a p n) = ⊥
 IsUnnamed _ = ⊤
 
 abbrev mutual
-  pub IsForm : Sort → Form → Type 0
+  pub IsForm : FormKind → SyntaxForm → Type 0
   IsForm s (wild a) = OfPatterns s
   IsForm s (variable a n) = OfPatterns s
   IsForm s (type_variable a w) = OfTypes s
@@ -103,22 +103,22 @@ abbrev mutual
   IsForm s (enclosed a ts) = AreForms s ts
   IsForm s (aliased a p n) = OfPatterns s × IsUnnamed p × IsForm s p
 
-  pub AreParts : Sort → Forms → Type 0
+  pub AreParts : FormKind → SyntaxForms → Type 0
   AreParts s no_forms = ⊤
-  AreParts s (more_forms p ps) = IsPart p × IsForm s p × AreParts s ps
+  AreParts s (more_forms p ps) = IsFormPart p × IsForm s p × AreParts s ps
 
-  pub AreForms : Sort → Forms → Type 0
+  pub AreForms : FormKind → SyntaxForms → Type 0
   AreForms s no_forms = ⊤
   AreForms s (more_forms p ps) = IsForm s p × AreForms s ps
 
--- the number of the token behind those that begin at i
+-- the number of the token after those that begin at i
 abbrev pub past : ℕ → List Lexeme → ℕ
 past i [] = i
 past i (x ∷ xs) = past (i + 1) xs
 
 -- Token i is the first one.
 abbrev mutual
-  pub IsPlaced : ℕ → Form → Type 0
+  pub IsPlaced : ℕ → SyntaxForm → Type 0
   IsPlaced i (wild a) = a ≡ at i
   IsPlaced i (variable a n) = (a ≡ at i) × (n.at ≡ i)
   IsPlaced i (type_variable a w) = a ≡ at i
@@ -127,11 +127,11 @@ abbrev mutual
   IsPlaced i (aliased a p n) = (a ≡ at i) × IsPlaced i p × (n.at ≡ past i (write_form p) + 1)
 
   -- side by side
-  pub PlacedRow : ℕ → Forms → Type 0
+  pub PlacedRow : ℕ → SyntaxForms → Type 0
   PlacedRow i no_forms = ⊤
   PlacedRow i (more_forms p ps) = IsPlaced i p × PlacedRow (past i (write_form p)) ps
 
   -- with a token between
-  pub PlacedList : ℕ → Forms → Type 0
+  pub PlacedList : ℕ → SyntaxForms → Type 0
   PlacedList i no_forms = ⊤
   PlacedList i (more_forms p ps) = IsPlaced i p × PlacedList (past i (write_form p) + 1) ps

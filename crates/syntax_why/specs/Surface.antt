@@ -24,24 +24,24 @@ use Rattle.syntax_why.specs.declared.expressions.ExprNode.TheOpen as ex
 use Rattle.syntax_why.specs.declared.expressions.ExprNode.TheOpen.{ExprNode-F}
 use Rattle.syntax_why.specs.declared.expressions.ExprNode.TheFolds.{fold-Expr, fold-ExprNode, fold-BranchTree, fold-TriggerTree}
 use Rattle.syntax_why.specs.Lexeme.{Word, said}
-use Rattle.syntax_why.specs.Forms.{Own, lower, upper, infix_op, prefix_op, star, Called, called, Form, Forms, wild, variable, type_variable, composed, enclosed, aliased, no_forms, more_forms}
-use Rattle.syntax_why.specs.Trees.{Op, op, Binder, binds, Tree, Trees, Branches, Trigger, apply, literal, truth, falsity, group, cast, prefixed, negation, binary, choice, cases, binding, quantified, none, more, no_branch, branch, untriggered, triggered}
+use Rattle.syntax_why.specs.Forms.{Own, lower, upper, infix_op, prefix_op, star, Called, called, SyntaxForm, SyntaxForms, wild, variable, type_variable, composed, enclosed, aliased, no_forms, more_forms}
+use Rattle.syntax_why.specs.Trees.{OperatorToken, op, TypedBinder, binds, SyntaxTree, SyntaxTrees, Branches, SyntaxTrigger, apply, literal, truth, falsity, group, cast, prefixed, negation, binary, choice, cases, binding, quantified, none, more, no_branch, branch, untriggered, triggered}
 
 -- a branch by itself
 pub record Arm : Type 0 where
-  pub alternatives : List Forms
-  pub body : Tree
+  pub alternatives : List SyntaxForms
+  pub body : SyntaxTree
 
 -- the terms of a trigger, and for each separator whether it is `|`
 pub record Terms : Type 0 where
-  pub terms : Trees
+  pub terms : SyntaxTrees
   pub bars : List Bool
 
-abbrev pub forms : List Form → Forms
+abbrev pub forms : List SyntaxForm → SyntaxForms
 forms [] = no_forms
 forms (f ∷ fs) = more_forms f (forms fs)
 
-abbrev pub trees : List Tree → Trees
+abbrev pub trees : List SyntaxTree → SyntaxTrees
 trees [] = none
 trees (e ∷ es) = more e (trees es)
 
@@ -49,7 +49,7 @@ abbrev pub branches : List Arm → Branches
 branches [] = no_branch
 branches (b ∷ bs) = branch b.alternatives b.body (branches bs)
 
-abbrev pub trigger : Option Terms → Trigger
+abbrev pub trigger : Option Terms → SyntaxTrigger
 trigger None = untriggered
 trigger (Some g) = triggered g.terms g.bars
 
@@ -62,7 +62,7 @@ plain_own t.Lident w = lower w
 plain_own t.Uident w = upper w
 plain_own _ w = no_own
 
--- the name behind its scopes that a text writes; `(*)` has the text `*`
+-- the name after its scopes that a text writes; `(*)` has the text `*`
 abbrev pub own_of : Style → Word → Own
 own_of style.Plain w = plain_own (string_terminal w) w
 own_of style.Infix w = infix_op (string_terminal w) (said (string_terminal w) w)
@@ -73,65 +73,65 @@ abbrev pub called_of : QName → Called
 called_of q = called q.at q.scopes (own_of q.style q.text)
 
 -- in an expression operators are plain
-abbrev pub op_by : Style → ℕ → Word → Op
+abbrev pub op_by : Style → ℕ → Word → OperatorToken
 op_by style.Plain i w = op i (string_terminal w) (said (string_terminal w) w)
 op_by _ i w = op i t.OtherWord []
 
-abbrev pub op_of : OpName → Op
+abbrev pub op_of : OpName → OperatorToken
 op_of o = op_by o.style o.at o.text
 
 -- One level of a type, with the trees of its parts in their place.
-abbrev pub type_step : TypeNode-F (At → Form) Form → At → Form
+abbrev pub type_step : TypeNode-F (At → SyntaxForm) SyntaxForm → At → SyntaxForm
 type_step (ty.Var w) a = type_variable a w
 type_step (ty.Named q xs) a = composed a (called_of q) (forms xs)
 type_step (ty.Group xs) a = enclosed a (forms xs)
 
-abbrev pub type_whole : TypeTree-F (At → Form) Form → Form
+abbrev pub type_whole : TypeTree-F (At → SyntaxForm) SyntaxForm → SyntaxForm
 type_whole t = t.node t.at
 
-unfoldable pub form_of : TypeTree → Form
-form_of = fold-TypeTree (At → Form) Form type_step type_whole
+unfoldable pub form_of : TypeTree → SyntaxForm
+form_of = fold-TypeTree (At → SyntaxForm) SyntaxForm type_step type_whole
 
-unfoldable pub form_of_node : TypeNode → At → Form
-form_of_node = fold-TypeNode (At → Form) Form type_step type_whole
+unfoldable pub form_of_node : TypeNode → At → SyntaxForm
+form_of_node = fold-TypeNode (At → SyntaxForm) SyntaxForm type_step type_whole
 
-abbrev pub pattern_step : PatNode-F (At → Form) Form → At → Form
+abbrev pub pattern_step : PatNode-F (At → SyntaxForm) SyntaxForm → At → SyntaxForm
 pattern_step pt.Wild a = wild a
 pattern_step (pt.Var n) a = variable a n
 pattern_step (pt.Con q xs) a = composed a (called_of q) (forms xs)
 pattern_step (pt.Group xs) a = enclosed a (forms xs)
 pattern_step (pt.Alias p n) a = aliased a p n
 
-abbrev pub pattern_whole : Pat-F (At → Form) Form → Form
+abbrev pub pattern_whole : Pat-F (At → SyntaxForm) SyntaxForm → SyntaxForm
 pattern_whole p = p.node p.at
 
-unfoldable pub pattern_of : Pat → Form
-pattern_of = fold-Pat (At → Form) Form pattern_step pattern_whole
+unfoldable pub pattern_of : Pat → SyntaxForm
+pattern_of = fold-Pat (At → SyntaxForm) SyntaxForm pattern_step pattern_whole
 
-unfoldable pub pattern_of_node : PatNode → At → Form
-pattern_of_node = fold-PatNode (At → Form) Form pattern_step pattern_whole
+unfoldable pub pattern_of_node : PatNode → At → SyntaxForm
+pattern_of_node = fold-PatNode (At → SyntaxForm) SyntaxForm pattern_step pattern_whole
 
-abbrev pub types : List TypeTree → Forms
+abbrev pub types : List TypeTree → SyntaxForms
 types ts = forms (map form_of ts)
 
-abbrev pub patterns : List Pat → Forms
+abbrev pub patterns : List Pat → SyntaxForms
 patterns ps = forms (map pattern_of ps)
 
-abbrev pub alternatives : List (List Pat) → List Forms
+abbrev pub alternatives : List (List Pat) → List SyntaxForms
 alternatives = map patterns
 
-abbrev pub binder_of : BinderTree → Binder
+abbrev pub binder_of : BinderTree → TypedBinder
 binder_of b = binds b.names (option_map form_of b.ty)
 
 -- an integer as the value of a token: none is below zero
-abbrev pub value_of : ℤ → Word
-value_of (pos n) = n ∷ []
-value_of (negsuc n) = []
+abbrev pub integer_word : ℤ → Word
+integer_word (pos n) = n ∷ []
+integer_word (negsuc n) = []
 
 -- One level of an expression, with the trees of its parts in their place.
-abbrev pub node_step : ExprNode-F (At → Tree) Arm Tree Terms → At → Tree
+abbrev pub node_step : ExprNode-F (At → SyntaxTree) Arm SyntaxTree Terms → At → SyntaxTree
 node_step (ex.Apply q xs) a = apply a (called_of q) (trees xs)
-node_step (ex.Int n) a = literal a (value_of n)
+node_step (ex.Int n) a = literal a (integer_word n)
 node_step ex.True a = truth a
 node_step ex.False a = falsity a
 node_step (ex.Group xs) a = group a (trees xs)
@@ -144,23 +144,23 @@ node_step (ex.If c e f) a = choice a c e f
 node_step (ex.Let ps e f) a = binding a (patterns ps) e f
 node_step (ex.Quant all bs g e) a = quantified a all (map binder_of bs) (trigger g) e
 
-abbrev pub arm_step : BranchTree-F (At → Tree) Arm Tree Terms → Arm
+abbrev pub arm_step : BranchTree-F (At → SyntaxTree) Arm SyntaxTree Terms → Arm
 arm_step b = record { alternatives = alternatives b.alternatives; body = b.body }
 
-abbrev pub terms_step : TriggerTree-F (At → Tree) Arm Tree Terms → Terms
+abbrev pub terms_step : TriggerTree-F (At → SyntaxTree) Arm SyntaxTree Terms → Terms
 terms_step g = record { terms = trees g.terms; bars = g.bars }
 
-abbrev pub whole_step : Expr-F (At → Tree) Arm Tree Terms → Tree
+abbrev pub whole_step : Expr-F (At → SyntaxTree) Arm SyntaxTree Terms → SyntaxTree
 whole_step e = e.node e.at
 
-unfoldable pub tree_of : Expr → Tree
-tree_of = fold-Expr (At → Tree) Arm Tree Terms node_step arm_step whole_step terms_step
+unfoldable pub tree_of : Expr → SyntaxTree
+tree_of = fold-Expr (At → SyntaxTree) Arm SyntaxTree Terms node_step arm_step whole_step terms_step
 
 unfoldable pub arm_of : BranchTree → Arm
-arm_of = fold-BranchTree (At → Tree) Arm Tree Terms node_step arm_step whole_step terms_step
+arm_of = fold-BranchTree (At → SyntaxTree) Arm SyntaxTree Terms node_step arm_step whole_step terms_step
 
 unfoldable pub terms_of : TriggerTree → Terms
-terms_of = fold-TriggerTree (At → Tree) Arm Tree Terms node_step arm_step whole_step terms_step
+terms_of = fold-TriggerTree (At → SyntaxTree) Arm SyntaxTree Terms node_step arm_step whole_step terms_step
 
-unfoldable pub tree_of_node : ExprNode → At → Tree
-tree_of_node = fold-ExprNode (At → Tree) Arm Tree Terms node_step arm_step whole_step terms_step
+unfoldable pub tree_of_node : ExprNode → At → SyntaxTree
+tree_of_node = fold-ExprNode (At → SyntaxTree) Arm SyntaxTree Terms node_step arm_step whole_step terms_step

@@ -19,10 +19,10 @@ use Rattle.syntax_why.specs.declared.declarations.DeclNode.TheFolds.{fold-DeclTr
 use Rattle.syntax_why.specs.declared.declarations.TheoryTree.{TheoryTree}
 use Rattle.syntax_why.specs.declared.declarations.File.{File}
 use Rattle.syntax_why.specs.Forms.{Called, called}
-use Rattle.syntax_why.specs.Declarations.{Param, Member, Constructor, Algebraic, Clause, Inductive, Element, Decl, Decls, Theory, type_element, symbol_element, prop_element, all_axioms, type_decl, algebraic_decl, function_decl, predicate_decl, constant_decl, inductive_decl, prop_decl, use_decl, clone_decl, scope_decl, no_decls, more_decls}
+use Rattle.syntax_why.specs.Declarations.{ParamGroup, Member, Constructor, Algebraic, Clause, Inductive, Element, SyntaxDeclaration, SyntaxDeclarations, SyntaxTheory, type_element, symbol_element, prop_element, all_axioms, type_decl, algebraic_decl, function_decl, predicate_decl, constant_decl, inductive_decl, prop_decl, use_decl, clone_decl, scope_decl, no_decls, more_decls}
 use Rattle.syntax_why.specs.Surface.{own_of, called_of, form_of, types, tree_of}
 
-abbrev pub decls : List Decl → Decls
+abbrev pub decls : List SyntaxDeclaration → SyntaxDeclarations
 decls [] = no_decls
 decls (d ∷ ds) = more_decls d (decls ds)
 
@@ -33,7 +33,7 @@ declared_name n = called n.at [] (own_of n.style n.text)
 abbrev pub plain_name : Name → Called
 plain_name n = called n.at [] (own_of Plain n.text)
 
-abbrev pub param_of : ParamTree → Param
+abbrev pub param_of : ParamTree → ParamGroup
 param_of p = record { names = p.names; of_type = form_of p.ty }
 
 abbrev pub member_of : MemberTree → Member
@@ -61,7 +61,7 @@ abbrev pub element_of : ElemTree → Element
 element_of e = element_by e.node e.at
 
 -- One level of a declaration, with the trees of its parts in their place.
-abbrev pub decl_step : DeclNode-F (At → Decl) Decl → At → Decl
+abbrev pub decl_step : DeclNode-F (At → SyntaxDeclaration) SyntaxDeclaration → At → SyntaxDeclaration
 decl_step (dn.TypeDecl n vs t) a = type_decl a n vs (option_map form_of t)
 decl_step (dn.Algebraic as_) a = algebraic_decl a (map algebraic_of as_)
 decl_step (dn.Function n ps t e ms) a = function_decl a (declared_name n) (map param_of ps) (form_of t) (option_map tree_of e) (map member_of ms)
@@ -73,17 +73,17 @@ decl_step (dn.UseTheory l p n) a = use_decl a l p n
 decl_step (dn.CloneTheory l p n es) a = clone_decl a l p n (map element_of es)
 decl_step (dn.ScopeDecl n ds) a = scope_decl a n (decls ds)
 
-abbrev pub decl_whole : DeclTree-F (At → Decl) Decl → Decl
+abbrev pub decl_whole : DeclTree-F (At → SyntaxDeclaration) SyntaxDeclaration → SyntaxDeclaration
 decl_whole d = d.node d.at
 
-unfoldable pub decl_of : DeclTree → Decl
-decl_of = fold-DeclTree (At → Decl) Decl decl_step decl_whole
+unfoldable pub decl_of : DeclTree → SyntaxDeclaration
+decl_of = fold-DeclTree (At → SyntaxDeclaration) SyntaxDeclaration decl_step decl_whole
 
-unfoldable pub decl_of_node : DeclNode → At → Decl
-decl_of_node = fold-DeclNode (At → Decl) Decl decl_step decl_whole
+unfoldable pub decl_of_node : DeclNode → At → SyntaxDeclaration
+decl_of_node = fold-DeclNode (At → SyntaxDeclaration) SyntaxDeclaration decl_step decl_whole
 
-abbrev pub theory_of : TheoryTree → Theory
+abbrev pub theory_of : TheoryTree → SyntaxTheory
 theory_of t = record { at = t.at; is_module = t.«module»; name = t.name; decls = decls (map decl_of t.decls) }
 
-abbrev pub file_of : File → List Theory
+abbrev pub file_of : File → List SyntaxTheory
 file_of f = map theory_of f.theories

@@ -19,7 +19,7 @@ pub enum PropKind {
     Goal,
 }
 
-/// The word behind `use` or `clone`.
+/// The word after `use` or `clone`.
 #[derive(Clone, Copy)]
 pub enum Link {
     Bare,
@@ -35,7 +35,7 @@ pub enum SymbolWord {
     Predicate,
 }
 
-/// A declaration and where it stands.
+/// A declaration and where it is.
 #[cycle(declaration_tree)]
 #[derive(Drop)]
 pub struct DeclTree {
@@ -59,7 +59,7 @@ pub enum DeclNode {
     ScopeDecl(Name, Seq<DeclTree>),
 }
 
-/// An algebraic type; `bar` says that a `|` stands before the first constructor.
+/// An algebraic type; `bar` says that a `|` is before the first constructor.
 #[derive(Drop)]
 pub struct AlgTree {
     pub name: Name,
@@ -84,7 +84,7 @@ pub struct MemberTree {
     pub body: Expr,
 }
 
-/// An inductive predicate; `bar` says that a `|` stands before the first clause.
+/// An inductive predicate; `bar` says that a `|` is before the first clause.
 #[derive(Drop)]
 pub struct IndTree {
     pub name: OpName,

@@ -4,7 +4,7 @@ use crate::patterns::Pat;
 use crate::types::TypeTree;
 use outside::{Boxed, Seq};
 
-/// A term or formula and where it stands.
+/// A term or formula and where it is.
 #[cycle(expression_tree)]
 #[derive(Drop)]
 pub struct Expr {
@@ -13,7 +13,7 @@ pub struct Expr {
 }
 
 /// The forms of terms and formulas.
-/// `Apply` without arguments is the atom. The truth value of `Match` says that a `|` stands before the first branch;
+/// `Apply` without arguments is the atom. The truth value of `Match` says that a `|` is before the first branch;
 /// that of `Quant` is true for `forall`.
 #[cycle(expression_tree)]
 #[derive(Drop)]

@@ -2,7 +2,7 @@
 use crate::names::{At, Name, QName};
 use outside::{Boxed, Seq};
 
-/// A pattern and where it stands.
+/// A pattern and where it is.
 #[cycle(pattern_tree)]
 #[derive(Drop)]
 pub struct Pat {

@@ -2,7 +2,7 @@
 use crate::names::{At, QName};
 use outside::{Seq, Text};
 
-/// A type and where it stands.
+/// A type and where it is.
 #[cycle(type_tree)]
 #[derive(Drop)]
 pub struct TypeTree {

@@ -1,4 +1,4 @@
--- What is typed as far as it stands is well typed under binders of the types that its open variables have, and the other way
+-- What is typed as far as it goes is well typed under binders of the types that its open variables have, and the other way
 -- round.
 use Rattle.std.proofs.Common.{◌≡◌, ◌↔◌, ℕ, zero, suc, ◌+◌, ◌<◌, ◌≤◌, List, [], ◌∷◌, ◌++◌, length, slice_get, Some, refl, sym, ap, ◌∙◌, subst, arith, append_assoc}
 use Rattle.std.proofs.lemmas.List.{length-append}
@@ -138,7 +138,7 @@ module _ (t : Vocabulary) where
   one_open types (HTyApp k) a x = x
   one_open types _ a x = tt
 
-  -- the converse: what is typed under binders is typed as far as it stands
+  -- the converse: what is typed under binders is typed as far as it goes
   pub typed_open : (types : List Tree) (e : Tree) → TypedUnder t types e → OpenTyped t e
   typed_open types (Leaf h) x = x
   typed_open types (One h a) x = (x.0, one_open types h a x.1, typed_open types a x.2)

@@ -2,7 +2,7 @@
 use Rattle.std.proofs.Common.{◌≡◌, ℕ, suc, inl, inr, List, [], ◌∷◌, ◌++◌, ◌<◌, map, length, get_or, All, Contains, subst, sym, arith}
 use Rattle.std.proofs.lemmas.List.Elements.{Contains-append_cases, All-contains_itself}
 use Rattle.trees.specs.Tree.{Tree}
-use Rattle.tasks.specs.Task.{SymbolTree, DefinitionTree, InductiveTree, ConTree, AlgebraicTree, BodyTree, MakesType, Makes, Defines, Induces, Constructs, Says, DeclarationTree, made, made_by, made_by_cons, made_by_types, symbol_or}
+use Rattle.tasks.specs.Task.{SymbolTree, DefinitionTree, InductiveTree, ConstructorTree, AlgebraicTree, BodyTree, MakesType, Makes, Defines, Induces, Constructs, Says, DeclarationTree, made, made_by, made_by_cons, made_by_types, symbol_or}
 use Rattle.tasks.specs.Vocabulary.{Vocabulary}
 use Rattle.tasks.specs.Valid.{HasTypes, IsTypeEntry, IsSignatureOf, IsDefinition, IsInductive, IsConstructorOf, AreProjections, IsAlgebraic, IsValidBody, IsValidDecl}
 use Rattle.tasks.proofs.Declared.{contains_cases, none_in}
@@ -45,7 +45,7 @@ module _ (v : Vocabulary) (k : ℕ) where
   projection_types type vars [] (j ∷ ks) a c = absurd a
   projection_types type vars (f ∷ fs) [] a c = absurd a
 
-  con_types : (type vars : ℕ) (cs : List ConTree) → All (IsConstructorOf v type vars) cs → Contains (made_by_cons cs) k → Has k
+  con_types : (type vars : ℕ) (cs : List ConstructorTree) → All (IsConstructorOf v type vars) cs → Contains (made_by_cons cs) k → Has k
   con_types type vars [] a c = nothing c
   con_types type vars (x ∷ cs) a c =
       let here : IsConstructorOf v type vars x = a 0 x (omega arith) in

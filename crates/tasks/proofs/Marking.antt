@@ -8,9 +8,9 @@ use Rattle.tasks.specs.declared.declaration.Decl.{Decl}
 use Rattle.tasks.specs.Task.{DeclarationTree}
 use Rattle.tasks.specs.Roles.{maker, is_made_by}
 use Rattle.tasks.specs.Meaning.{body_at, declaration_at, declarations_at}
-use Rattle.tasks.specs.Looking.{Marks, AreMadeBy}
+use Rattle.tasks.specs.Looking.{SetsWhere, AreMadeBy}
 
-pub marks_none : (a : List ℕ) (v : ℕ) → Marks a a (λ k. false) v
+pub marks_none : (a : List ℕ) (v : ℕ) → SetsWhere a a (λ k. false) v
 marks_none a v = record { as_long = refl; each = λ k d h. refl }
 
 either : (b c : Bool) (v x : ℕ) → cond c v (cond b v x) ≡ cond (b || c) v x
@@ -18,7 +18,7 @@ either true true v x = refl
 either true false v x = refl
 either false c v x = refl
 
-pub marks_then : {a b c : List ℕ} {f g : ℕ → Bool} {v : ℕ} → Marks a b f v → Marks b c g v → Marks a c (λ k. f k || g k) v
+pub marks_then : {a b c : List ℕ} {f g : ℕ → Bool} {v : ℕ} → SetsWhere a b f v → SetsWhere b c g v → SetsWhere a c (λ k. f k || g k) v
 marks_then {a = a} {f = f} {g = g} {v = v} one two = record {
   as_long = two.as_long ∙ one.as_long;
   each = λ k d h. two.each k d (omega (arith, one.as_long)) ∙ ap (λ x. cond (g k) v x) (one.each k d h) ∙ either (f k) (g k) v (get_or a k d);
@@ -36,7 +36,7 @@ choose true false p v x all d rest k e f g h = absurd (cc)
 choose false true p v x all d rest k e f g h = absurd (cc)
 
 pub makers_step : (ds : List Decl) (place : ℕ) (old new symbols : List ℕ) (d : Decl) → place < length ds → d ≡ get_or ds place d → AreMadeBy d.body symbols
-    → Marks old new (λ k. list_any (λ j. j == k) symbols) place → AreMakersFrom ds (place + 1) old → AreMakersFrom ds place new
+    → SetsWhere old new (λ k. list_any (λ j. j == k) symbols) place → AreMakersFrom ds (place + 1) old → AreMakersFrom ds place new
 makers_step ds place old new symbols d h e made m so s k l =
     let all = declarations_at s ds in
     let rest = declarations_at s (drop (place + 1) ds) in

@@ -9,8 +9,8 @@ use Rattle.trees.specs.declared.Op.TheVariants.{And, Or, Imp, Iff}
 use Rattle.tasks.specs.declared.signature.SymbolKind.TheVariants.{Predicate}
 use Rattle.tasks.specs.declared.facts.Fact.{Fact}
 use Rattle.tasks.specs.declared.facts.Fact.TheVariants.{Proposition, Equation, Clause, Inversion}
-use Rattle.tasks.specs.Task.{SymbolTree, int_symbol, DefinitionTree, InductiveTree, ConTree, AlgebraicTree, Defines, Induces, Constructs, Says, DeclarationTree, TaskTree, declared}
-use Rattle.tasks.specs.Roles.{Constructor, Projection, Algebraic, role_in}
+use Rattle.tasks.specs.Task.{SymbolTree, int_symbol, DefinitionTree, InductiveTree, ConstructorTree, AlgebraicTree, Defines, Induces, Constructs, Says, DeclarationTree, TaskTree, declared}
+use Rattle.tasks.specs.Roles.{ConstructorRole, ProjectionRole, AlgebraicRole, role_in}
 use Rattle.tasks.specs.Vocabulary.{of_task}
 use Rattle.tasks.specs.Typing.{TypedUnder, IsUse}
 use Rattle.tasks.specs.Equations.{cells, IsEquationOf}
@@ -35,7 +35,7 @@ number n = Leaf (HNum (pos n))
 instance-row : inst (Two HExists int_type (predicate 5 (bound 1 ∷ bound 0 ∷ []))) (bound 0) ≡ Two HExists int_type (predicate 5 (bound 1 ∷ bound 0 ∷ []))
 instance-row = refl
 
--- the pattern `C x y as z` binds three variables, and terms are put in behind them
+-- the pattern `C x y as z` binds three variables, and terms are put in after them
 abbrev pattern : Tree
 pattern = One HPatAlias (Three (HPatCon 6) (Leaf HEnd) (cells (One HPatVar int_type ∷ One HPatVar int_type ∷ [])) int_type)
 
@@ -74,24 +74,24 @@ facts-row : body_facts (int_symbol ∷ int_symbol ∷ int_symbol ∷ int_symbol 
     ≡ fact (Clause 9 0) even_zero ∷ fact (Clause 9 1) even_step ∷ fact (Inversion 9) even_inversion ∷ []
 facts-row = refl
 
--- a predicate of the group stands in the premises of a clause, and in the argument of none
+-- a predicate of the group is in the premises of a clause, and in the argument of none
 clause-row : IsClauseOf (9 ∷ []) 9 (Leaf HEnd) even_step
 clause-row = (((λ h. refl), (tt, tt, (tt, tt, tt))), (((λ h. refl), (tt, tt, tt)), (refl, (refl, (tt, (tt, (tt, tt, (tt, tt, tt)), tt), tt)))))
 
 -- `type list 'a = Nil | Cons 'a (list 'a)`: a constructor is told from its type, and a projection from both
-abbrev cons : ConTree
+abbrev cons : ConstructorTree
 cons = record { symbol = 3; fields = Leaf (HTyVar 0) ∷ []; projections = 4 ∷ [] }
 
 abbrev lists : AlgebraicTree
 lists = record { symbol = 1; cons = record { symbol = 2; fields = []; projections = [] } ∷ cons ∷ [] }
 
-constructor-row : role_in 3 (Constructs (lists ∷ [])) ≡ Constructor cons
+constructor-row : role_in 3 (Constructs (lists ∷ [])) ≡ ConstructorRole cons
 constructor-row = refl
 
-projection-row : role_in 4 (Constructs (lists ∷ [])) ≡ Projection cons 0
+projection-row : role_in 4 (Constructs (lists ∷ [])) ≡ ProjectionRole cons 0
 projection-row = refl
 
-type-row : role_in 1 (Constructs (lists ∷ [])) ≡ Algebraic lists.cons
+type-row : role_in 1 (Constructs (lists ∷ [])) ≡ AlgebraicRole lists.cons
 type-row = refl
 
 -- `predicate p = true goal g: p`

@@ -1,5 +1,5 @@
 -- The clauses of an inductive predicate (Why3 manual, "inductive predicates"): `forall ys. A1 -> .. -> An -> p ts`, in which the
--- predicates of the group stand in positive places only, each at the type variables of the clause's own predicate.
+-- predicates of the group are in positive places only, each at the type variables of the clause's own predicate.
 use Rattle.std.specs.Prelude.{◌≡◌, ℕ, List, Contains}
 use Rattle.trees.specs.Tree.{Tree, Leaf, One, Two, Three, Head, HPred, HJoin, HForall, HExists}
 use Rattle.trees.specs.declared.Op.TheVariants.{And, AndThen, Or, OrElse, Imp}
@@ -8,7 +8,7 @@ abbrev pub TwoFree : List ℕ → Head → Type 0
 TwoFree group (HPred p) = Contains group p → ⊥
 TwoFree group _ = Unit {0}
 
--- no predicate of the group stands in it
+-- no predicate of the group is in it
 abbrev pub IsFree : List ℕ → Tree → Type 0
 IsFree group (Leaf h) = Unit {0}
 IsFree group (One h a) = IsFree group a
@@ -19,7 +19,7 @@ IsFree group (Three h a b c) = IsFree group a × IsFree group b × IsFree group 
 abbrev pub IsPlainUse : List ℕ → Tree → ℕ → Tree → Tree → Type 0
 IsPlainUse group types p a b = (Contains group p → a ≡ types) × IsFree group b
 
--- what may stand as a premise
+-- what may be as a premise
 abbrev pub IsPremise : List ℕ → Tree → Tree → Type 0
 IsPremise group types (Two (HPred p) a b) = IsPlainUse group types p a b
 IsPremise group types (Two (HJoin And) a b) = IsPremise group types a × IsPremise group types b

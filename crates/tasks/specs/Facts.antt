@@ -29,7 +29,7 @@ abbrev pub inversion_fact : List SymbolTree → InductiveTree → FactTree
 inversion_fact symbols i =
     record { name = Inversion i.symbol; vars = (symbol_or symbols i.symbol).vars; formula = inversion i.symbol (symbol_or symbols i.symbol) i.clauses }
 
--- the facts of a declaration, where so many propositions stand before it
+-- the facts of a declaration, where so many propositions are before it
 abbrev pub body_facts : List SymbolTree → ℕ → ℕ → BodyTree → List FactTree
 body_facts symbols n vars (Defines ds) = map (equation_fact symbols) ds
 body_facts symbols n vars (Induces is) = all_clause_facts symbols is ++ map (inversion_fact symbols) is

@@ -7,10 +7,10 @@ use Rattle.trees.specs.declared.Op.TheVariants.{And, Imp, Or}
 use Rattle.tasks.specs.Task.{SymbolTree}
 use Rattle.tasks.specs.Equations.{cells, type_variables, bound_variables, for_all}
 
--- a conjunction with what stands behind it, if anything does
-abbrev pub and_then : Tree → Option Tree → Option Tree
-and_then a None = Some a
-and_then a (Some b) = Some (Two (HJoin And) a b)
+-- a conjunction with what comes after it, if anything does
+abbrev pub conjunction_with : Tree → Option Tree → Option Tree
+conjunction_with a None = Some a
+conjunction_with a (Some b) = Some (Two (HJoin And) a b)
 
 -- the conjunction of nothing is true
 abbrev pub or_true : Option Tree → Tree
@@ -20,12 +20,12 @@ or_true (Some a) = a
 -- each variable equals its argument, under so many binders more
 abbrev pub argument_equations : ℕ → List Tree → Tree → Option Tree
 argument_equations n [] args = None
-argument_equations n (One (HBound k) ty ∷ xs) (Two HCell t ts) = and_then (Two HEq (One (HBound (n + k)) ty) t) (argument_equations n xs ts)
+argument_equations n (One (HBound k) ty ∷ xs) (Two HCell t ts) = conjunction_with (Two HEq (One (HBound (n + k)) ty) t) (argument_equations n xs ts)
 argument_equations n _ args = None
 
 -- the premises of a clause and the equations on its conclusion's arguments, nested to the right
 abbrev pub clause_parts : ℕ → List Tree → Tree → Option Tree
-clause_parts n xs (Two (HJoin Imp) a b) = and_then a (clause_parts n xs b)
+clause_parts n xs (Two (HJoin Imp) a b) = conjunction_with a (clause_parts n xs b)
 clause_parts n xs (Two (HPred p) types args) = argument_equations n xs args
 clause_parts n xs _ = None
 

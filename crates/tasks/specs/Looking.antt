@@ -19,17 +19,17 @@ use Rattle.tasks.specs.declared.roles.Role.TheVariants as role
 use Rattle.tasks.specs.declared.lookup.Index.{Index}
 use Rattle.tasks.specs.declared.lookup.Lookup.{Lookup}
 use Rattle.tasks.specs.Task.{SymbolTree, made_by, props_of}
-use Rattle.tasks.specs.Roles.{RoleTree, maker, Plain, Defined, Inductive, Algebraic, Constructor, Projection}
+use Rattle.tasks.specs.Roles.{RoleTree, maker, PlainRole, DefinedRole, InductiveRole, AlgebraicRole, ConstructorRole, ProjectionRole}
 use Rattle.tasks.specs.Facts.{FactTree, facts_from}
 use Rattle.tasks.specs.Meaning.{trees_at, con_at, cons_at, body_at, declarations_at, proposition_at, ConHeld, TaskHeld}
 
 abbrev pub role_at : List Tree → Role → RoleTree
-role_at s role.Plain = Plain
-role_at s (role.Defined e) = Defined (tree_at s e)
-role_at s (role.Inductive cs) = Inductive (trees_at s cs.now)
-role_at s (role.Algebraic cs) = Algebraic (cons_at s cs.now)
-role_at s (role.Constructor c) = Constructor (con_at s c.now)
-role_at s (role.Projection c n) = Projection (con_at s c.now) n
+role_at s role.Plain = PlainRole
+role_at s (role.Defined e) = DefinedRole (tree_at s e)
+role_at s (role.Inductive cs) = InductiveRole (trees_at s cs.now)
+role_at s (role.Algebraic cs) = AlgebraicRole (cons_at s cs.now)
+role_at s (role.Constructor c) = ConstructorRole (con_at s c.now)
+role_at s (role.Projection c n) = ProjectionRole (con_at s c.now) n
 
 abbrev pub RoleHeld : List Tree → Role → Type 0
 RoleHeld s role.Plain = Unit {0}
@@ -61,7 +61,7 @@ abbrev pub AreMadeBy : Body → List ℕ → Type 0
 AreMadeBy b ks = (s : List Tree) → ks ≡ made_by (body_at s b)
 
 -- a list by number has this value at the numbers that pass a test, and stays elsewhere
-pub record Marks (old new : List ℕ) (also : ℕ → Bool) (value : ℕ) : Type 0 where
+pub record SetsWhere (old new : List ℕ) (also : ℕ → Bool) (value : ℕ) : Type 0 where
   pub as_long : length new ≡ length old
   pub each : (k d : ℕ) → k < length old → get_or new k d ≡ (if also k then value else get_or old k d)
 
@@ -70,13 +70,13 @@ abbrev pub AreMakers : List Decl → List ℕ → Type 0
 AreMakers ds makers = (s : List Tree) (k : ℕ) → k < length makers → slice_get (declarations_at s ds) (get_or makers k 0) ≡ maker (declarations_at s ds) k
 
 -- the names of facts of a stored body
-abbrev pub clause_names : ℕ → ℕ → List TermId → List Fact
-clause_names k n [] = []
-clause_names k n (c ∷ cs) = Clause k n ∷ clause_names k (n + 1) cs
+abbrev pub stored_clause_facts : ℕ → ℕ → List TermId → List Fact
+stored_clause_facts k n [] = []
+stored_clause_facts k n (c ∷ cs) = Clause k n ∷ stored_clause_facts k (n + 1) cs
 
 abbrev pub all_clause_names : List Ind → List Fact
 all_clause_names [] = []
-all_clause_names (i ∷ is) = clause_names i.symbol 0 i.clauses ++ all_clause_names is
+all_clause_names (i ∷ is) = stored_clause_facts i.symbol 0 i.clauses ++ all_clause_names is
 
 abbrev pub fact_names : ℕ → Body → List Fact
 fact_names n (Defs ds) = map (λ (d : Def). Equation d.symbol) ds
@@ -84,20 +84,20 @@ fact_names n (Inductives is) = all_clause_names is ++ map (λ (i : Ind). Inversi
 fact_names n (Prop a) = Proposition n ∷ []
 fact_names n _ = []
 
-abbrev pub name_of : FactTree → Fact
-name_of f = f.name
+abbrev pub fact_name : FactTree → Fact
+fact_name f = f.name
 
 -- the proposition that a stored declaration says, if it does
-abbrev pub said_in : Decl → Body → List StoredProposition
-said_in d (Prop a) = record { vars = d.vars; formula = a } ∷ []
-said_in d _ = []
+abbrev pub stored_said_in : Decl → Body → List StoredProposition
+stored_said_in d (Prop a) = record { vars = d.vars; formula = a } ∷ []
+stored_said_in d _ = []
 
 -- the propositions, and the names of the facts, whatever the store
 abbrev pub AreProps : List Decl → List StoredProposition → Type 0
 AreProps ds ps = (s : List Tree) → map (proposition_at s) ps ≡ props_of (declarations_at s ds)
 
 abbrev pub AreFacts : List Decl → List Fact → Type 0
-AreFacts ds fs = (s : List Tree) (symbols : List SymbolTree) → fs ≡ map name_of (facts_from symbols 0 (declarations_at s ds))
+AreFacts ds fs = (s : List Tree) (symbols : List SymbolTree) → fs ≡ map fact_name (facts_from symbols 0 (declarations_at s ds))
 
 -- an index of a task
 pub record IsIndexOf (i : Index) (t : Task) : Type 0 where

@@ -1,4 +1,4 @@
--- A tree that is typed as far as it stands: each operator's children fit, and each variable that a binder in it binds has the
+-- A tree that is typed as far as it goes: each operator's children fit, and each variable that a binder in it binds has the
 -- type that the binder gives it. It may have open variables; where it has none, it is well typed.
 use Rattle.std.specs.Prelude.{◌≡◌, ℕ, ◌+◌, List, [], ◌∷◌}
 use Rattle.trees.specs.Tree.{Tree, Leaf, One, Two, Three, Head, HBound, binders_over}

@@ -2,7 +2,7 @@
 // A step of a derivation cites a fact by its name; a transformation takes it by its place among all facts.
 ghost use Rattle.std.specs.Prelude.{◌≡◌, ◌+◌, ◌≤◌, ◌++◌, map, length, OnOk};
 ghost use Rattle.tasks.specs.declared.facts.Fact.TheVariants.{Equation as equation_name, Inversion as inversion_name};
-ghost use Rattle.tasks.specs.Looking.{clause_names, all_clause_names, fact_names};
+ghost use Rattle.tasks.specs.Looking.{stored_clause_facts, all_clause_names, fact_names};
 
 use crate::{Body, Def, Ind};
 use std::alloc::AllocError;
@@ -21,7 +21,7 @@ pub enum Fact {
     Inversion(usize),
 }
 
-// The equations of definitions, behind others.
+// The equations of definitions, after others.
 fn push_equations(defs: &[Def], facts: &mut Vec<Fact>) -> Result<(), AllocError>
     ensures { OnOk result (facts.new.items ≡ facts.old.items
         ++ map (λ d. equation_name d.symbol) defs.now) }
@@ -35,7 +35,7 @@ fn push_equations(defs: &[Def], facts: &mut Vec<Fact>) -> Result<(), AllocError>
     }
 }
 
-// The clauses of a predicate from a number on, behind others.
+// The clauses of a predicate from a number on, after others.
 fn push_clauses(
     symbol: usize,
     from: usize,
@@ -44,7 +44,7 @@ fn push_clauses(
 ) -> Result<(), AllocError>
     requires { from + length clauses.now ≤ usize.MAX }
     ensures { OnOk result (facts.new.items ≡ facts.old.items
-        ++ clause_names symbol from clauses.now) }
+        ++ stored_clause_facts symbol from clauses.now) }
 {
     match clauses.split_first() {
         Some((_, rest)) => {
@@ -55,7 +55,7 @@ fn push_clauses(
     }
 }
 
-// The clauses of predicates, behind others.
+// The clauses of predicates, after others.
 fn push_all_clauses(inductives: &[Ind], facts: &mut Vec<Fact>) -> Result<(), AllocError>
     ensures { OnOk result (facts.new.items ≡ facts.old.items ++ all_clause_names inductives.now) }
 {
@@ -68,7 +68,7 @@ fn push_all_clauses(inductives: &[Ind], facts: &mut Vec<Fact>) -> Result<(), All
     }
 }
 
-// The inversion formulas of predicates, behind others.
+// The inversion formulas of predicates, after others.
 fn push_inversions(inductives: &[Ind], facts: &mut Vec<Fact>) -> Result<(), AllocError>
     ensures { OnOk result (facts.new.items ≡ facts.old.items
         ++ map (λ i. inversion_name i.symbol) inductives.now) }
@@ -82,7 +82,7 @@ fn push_inversions(inductives: &[Ind], facts: &mut Vec<Fact>) -> Result<(), Allo
     }
 }
 
-// The facts of a declaration before which so many propositions stand, behind others.
+// The facts of a declaration before which so many propositions stand, after others.
 pub(crate) fn push_facts(body: &Body, said: usize, facts: &mut Vec<Fact>) -> Result<(), AllocError>
     ensures { OnOk result (facts.new.items ≡ facts.old.items ++ fact_names said body.now) }
 {

@@ -1,5 +1,5 @@
 // What a task declares, by an index that is made once, or by going through its declarations: the answers are the same.
-// It stands on roles and symbols; typing, the kernel and the evidence look a task up by it.
+// It depends on roles and symbols; typing, the kernel and the evidence look a task up by it.
 ghost use Rattle.std.specs.Prelude.{◌≡◌, ◌==◌, ◌++◌, List, slice_get, IsTrue, ◌↔◌, Contains, All, IfSome, OnOk, IfOk};
 ghost use Rattle.std.specs.List.{list_any};
 ghost use Rattle.std.specs.Option.{option_map, is_some};
@@ -8,7 +8,7 @@ ghost use Rattle.tasks.specs.Task.{declared, props};
 ghost use Rattle.tasks.specs.Roles.{maker, role};
 ghost use Rattle.tasks.specs.Facts.{facts};
 ghost use Rattle.tasks.specs.Meaning.{declaration_at, declarations_at, task_at, proposition_at, DeclHeld, TaskHeld};
-ghost use Rattle.tasks.specs.Looking.{Marks, AreMakers, said_in, AreProps, AreFacts, name_of, IsIndexOf, role_at, RoleHeld, LookupHeld};
+ghost use Rattle.tasks.specs.Looking.{SetsWhere, AreMakers, stored_said_in, AreProps, AreFacts, fact_name, IsIndexOf, role_at, RoleHeld, LookupHeld};
 
 use crate::facts::push_facts;
 use crate::roles::{makes, role_in};
@@ -35,7 +35,7 @@ pub struct Lookup<'a> {
 
 // Notes the place of a declaration at an entry, where there is room.
 fn mark_one(makers: &mut Vec<usize>, symbol: usize, place: usize)
-    ensures { Marks makers.old.items makers.new.items (λ k. symbol == k) place }
+    ensures { SetsWhere makers.old.items makers.new.items (λ k. symbol == k) place }
 {
     if symbol < makers.len() {
         makers[symbol] = place;
@@ -45,7 +45,7 @@ fn mark_one(makers: &mut Vec<usize>, symbol: usize, place: usize)
 // Notes the place of a declaration at these entries.
 #[tactic(auto, using(crate::proofs::Marking::marks_none, crate::proofs::Marking::marks_then))]
 fn mark(makers: &mut Vec<usize>, symbols: &[usize], place: usize)
-    ensures { Marks makers.old.items makers.new.items (λ k. list_any (λ j. j == k) symbols.now)
+    ensures { SetsWhere makers.old.items makers.new.items (λ k. list_any (λ j. j == k) symbols.now)
         place }
 {
     match symbols.split_first() {
@@ -72,9 +72,10 @@ fn makers_of(alloc: Global, task: &Task) -> Result<Vec<usize>, AllocError>
     Ok(makers)
 }
 
-// The proposition of a declaration, if it says one, behind others.
+// The proposition of a declaration, if it says one, after others.
 fn push_said(decl: &Decl, props: &mut Vec<Proposition>) -> Result<(), AllocError>
-    ensures { OnOk result (props.new.items ≡ props.old.items ++ said_in decl.now decl.now.body) }
+    ensures { OnOk result (props.new.items ≡ props.old.items
+        ++ stored_said_in decl.now decl.now.body) }
 {
     match decl.body {
         Body::Prop(formula) => {
@@ -89,7 +90,10 @@ fn push_said(decl: &Decl, props: &mut Vec<Proposition>) -> Result<(), AllocError
 }
 
 // The propositions, and the names of the facts.
-fn list_propositions(alloc: Global, decls: &[Decl]) -> Result<(Vec<Proposition>, Vec<Fact>), AllocError>
+fn list_propositions(
+    alloc: Global,
+    decls: &[Decl],
+) -> Result<(Vec<Proposition>, Vec<Fact>), AllocError>
     ensures props { IfOk result (λ p. AreProps decls.now p.0.items) }
     ensures facts { IfOk result (λ p. AreFacts decls.now p.1.items) }
 {
@@ -141,7 +145,7 @@ impl Index {
     /// The fact at a place, counted from 0; none where there are not so many.
     pub fn fact_at(&self, place: usize) -> Option<Fact>
         ensures { (s : List Tree) (t : Task) → IsIndexOf self.now t → result
-            ≡ option_map name_of (slice_get (facts (task_at s t)) place) }
+            ≡ option_map fact_name (slice_get (facts (task_at s t)) place) }
     {
         self.facts.get(place).copied()
     }

@@ -1,5 +1,5 @@
 // What a task's declarations make a symbol as.
-// They stand on the declarations; the rules of the kernel and typing read a task through them.
+// They depend on the declarations; the rules of the kernel and typing read a task through them.
 ghost use Rattle.std.specs.Prelude.{◌≡◌, ◌==◌, All};
 ghost use Rattle.std.specs.List.{position_from};
 ghost use Rattle.tasks.specs.Roles.{is_plain, is_constructor, defined_as, inductive_as, projected_as, constructed_as, algebraic_as, role_in, is_made_by};

@@ -1,12 +1,12 @@
 // The symbols that a declaration makes, in order.
-// They stand on the declarations; the index of a task and the name tables stand on them.
+// They depend on the declarations; the index of a task and the name tables depend on them.
 ghost use Rattle.std.specs.Prelude.{◌≡◌, ◌++◌, map, OnOk, IfOk};
 ghost use Rattle.tasks.specs.Looking.{made_cons, made_types, made_in, AreMadeBy};
 
 use crate::{Alg, Body, Con, Def, Ind};
 use std::alloc::{AllocError, Global};
 
-// The symbols of definitions, behind others.
+// The symbols of definitions, after others.
 fn push_defs(defs: &[Def], symbols: &mut Vec<usize>) -> Result<(), AllocError>
     ensures { OnOk result (symbols.new.items ≡ symbols.old.items ++ map (λ d. d.symbol) defs.now) }
 {
@@ -19,7 +19,7 @@ fn push_defs(defs: &[Def], symbols: &mut Vec<usize>) -> Result<(), AllocError>
     }
 }
 
-// The symbols of inductive predicates, behind others.
+// The symbols of inductive predicates, after others.
 fn push_inductives(inductives: &[Ind], symbols: &mut Vec<usize>) -> Result<(), AllocError>
     ensures { OnOk result (symbols.new.items ≡ symbols.old.items
         ++ map (λ i. i.symbol) inductives.now) }
@@ -33,7 +33,7 @@ fn push_inductives(inductives: &[Ind], symbols: &mut Vec<usize>) -> Result<(), A
     }
 }
 
-// The symbols of constructors, each before its projections, behind others.
+// The symbols of constructors, each before its projections, after others.
 fn push_cons(cons: &[Con], symbols: &mut Vec<usize>) -> Result<(), AllocError>
     ensures { OnOk result (symbols.new.items ≡ symbols.old.items ++ made_cons cons.now) }
 {
@@ -47,7 +47,7 @@ fn push_cons(cons: &[Con], symbols: &mut Vec<usize>) -> Result<(), AllocError>
     }
 }
 
-// The symbols of algebraic types, each before its constructors, behind others.
+// The symbols of algebraic types, each before its constructors, after others.
 fn push_types(types: &[Alg], symbols: &mut Vec<usize>) -> Result<(), AllocError>
     ensures { OnOk result (symbols.new.items ≡ symbols.old.items ++ made_types types.now) }
 {
@@ -61,7 +61,7 @@ fn push_types(types: &[Alg], symbols: &mut Vec<usize>) -> Result<(), AllocError>
     }
 }
 
-// The symbols that a declaration makes, behind others.
+// The symbols that a declaration makes, after others.
 fn push_made(body: &Body, symbols: &mut Vec<usize>) -> Result<(), AllocError>
     ensures { OnOk result (symbols.new.items ≡ symbols.old.items ++ made_in body.now) }
 {

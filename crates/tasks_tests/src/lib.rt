@@ -1,6 +1,6 @@
 //! Tests of tasks: what is well typed over one, row by row, each with a twin that is wrong in one place; what a task declares,
 //! with an index and without; its start, its nodes and its facts.
-//! It stands on tasks and typing; nothing stands on it.
+//! It depends on tasks and typing; nothing depends on it.
 #![tactic(auto)]
 
 #[cfg(test)]

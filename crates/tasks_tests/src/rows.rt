@@ -1,5 +1,5 @@
 // The rows: each is well typed, and its twin, which is wrong in one place, isn't.
-// They stand on the small task.
+// They depend on the small task.
 ghost use Rattle.trees.specs.Node.{Holds};
 ghost use Rattle.tasks.specs.Meaning.{TaskHeld};
 ghost use Rattle.tasks.specs.Looking.{LookupHeld};
@@ -116,7 +116,7 @@ fn a_look_up_is_the_same_with_an_index(rt: HostRuntime) {
     assert!(rt; is_indexed(&rt, rt.alloc(), &store, &task));
 }
 
-// The facts of the task, in order, and none behind them.
+// The facts of the task, in order, and none after them.
 static FACTS: [Option<Fact>; 6] = [
     Some(Fact::Proposition(0)),
     Some(Fact::Equation(9)),

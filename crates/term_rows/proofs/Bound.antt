@@ -9,7 +9,7 @@ use Rattle.std.proofs.lemmas.Bool.Decides.{nat_tests}
 use Rattle.trees.proofs.Many.{left_at, right_at, length_joined, many_at, many_above, default_at}
 use Rattle.tasks.specs.Task.{TaskTree, symbol_or}
 use Rattle.tasks.specs.Typing.{members}
-use Rattle.rule_rows.specs.Patterns.{result_at, field, fields, projections, parts, top, others, one_binds, two_binds, three_binds, binds}
+use Rattle.rule_rows.specs.Patterns.{result_at, field, fields, constructor_projections, parts, top, other_terms, one_binds, two_binds, three_binds, pattern_terms}
 use Rattle.term_rows.specs.Matches.{from_last}
 
 -- ---- as many as the pattern binds
@@ -26,11 +26,11 @@ three_count : (h : Head) (xs : List Tree) (n : ℕ) → length xs ≡ n → leng
 three_count (HPatCon k) xs n e = e
 three_count _ xs n e = refl
 
-pub binds_count : (t : TaskTree) (p : Tree) (ss : List Tree) → length (binds t p ss) ≡ pat_vars p
+pub binds_count : (t : TaskTree) (p : Tree) (ss : List Tree) → length (pattern_terms t p ss) ≡ pat_vars p
 binds_count t (Leaf h) ss = refl
-binds_count t (One h p) ss = one_count h (binds t p ss) ss (pat_vars p) (binds_count t p ss)
-binds_count t (Two h p q) ss = two_count h (binds t p (top ss ∷ [])) (binds t q (others ss)) (pat_vars p) (pat_vars q) (binds_count t p (top ss ∷ [])) (binds_count t q (others ss))
-binds_count t (Three h a p c) ss = three_count h (binds t p (parts t h a ss)) (pat_vars p) (binds_count t p (parts t h a ss))
+binds_count t (One h p) ss = one_count h (pattern_terms t p ss) ss (pat_vars p) (binds_count t p ss)
+binds_count t (Two h p q) ss = two_count h (pattern_terms t p (top ss ∷ [])) (pattern_terms t q (other_terms ss)) (pat_vars p) (pat_vars q) (binds_count t p (top ss ∷ [])) (binds_count t q (other_terms ss))
+binds_count t (Three h a p c) ss = three_count h (pattern_terms t p (parts t h a ss)) (pat_vars p) (binds_count t p (parts t h a ss))
 
 -- ---- each is closed
 abbrev pub AllClosed : List Tree → Type 0
@@ -50,7 +50,7 @@ closed_top : (ss : List Tree) → AllClosed ss → loose (top ss) ≡ 0
 closed_top [] a = refl
 closed_top (s ∷ ss) a = a.0
 
-closed_others : (ss : List Tree) → AllClosed ss → AllClosed (others ss)
+closed_others : (ss : List Tree) → AllClosed ss → AllClosed (other_terms ss)
 closed_others [] a = tt
 closed_others (s ∷ ss) a = a.1
 
@@ -90,7 +90,7 @@ fields_closed t [] types s o l = tt
 fields_closed t (j ∷ js) types s o l = (field_closed t j types s o l, fields_closed t js types s o l)
 
 parts_closed : (t : TaskTree) (h : Head) (types p c : Tree) (ss : List Tree) → Fits (Three h types p c) → WellSorted types → AllClosed ss → AllClosed (parts t h types ss)
-parts_closed t (HPatCon k) types p c ss f w a = fields_closed t (projections t k) types (top ss) (only_types types w (inr f.0)) (closed_top ss a)
+parts_closed t (HPatCon k) types p c ss f w a = fields_closed t (constructor_projections t k) types (top ss) (only_types types w (inr f.0)) (closed_top ss a)
 parts_closed t _ types p c ss f w a = tt
 
 one_closed : (h : Head) (inner ss : List Tree) → AllClosed inner → AllClosed ss → AllClosed (one_binds h inner ss)
@@ -106,12 +106,12 @@ three_closed : (h : Head) (xs : List Tree) → AllClosed xs → AllClosed (three
 three_closed (HPatCon k) xs a = a
 three_closed _ xs a = tt
 
-pub binds_closed : (t : TaskTree) (p : Tree) (ss : List Tree) → WellSorted p → AllClosed ss → AllClosed (binds t p ss)
+pub binds_closed : (t : TaskTree) (p : Tree) (ss : List Tree) → WellSorted p → AllClosed ss → AllClosed (pattern_terms t p ss)
 binds_closed t (Leaf h) ss w a = tt
-binds_closed t (One h p) ss w a = one_closed h (binds t p ss) ss (binds_closed t p ss w.1 a) a
+binds_closed t (One h p) ss w a = one_closed h (pattern_terms t p ss) ss (binds_closed t p ss w.1 a) a
 binds_closed t (Two h p q) ss w a =
-    two_closed h (binds t p (top ss ∷ [])) (binds t q (others ss)) (binds_closed t p (top ss ∷ []) w.1 (closed_top ss a, tt)) (binds_closed t q (others ss) w.2 (closed_others ss a))
-binds_closed t (Three h a p c) ss w l = three_closed h (binds t p (parts t h a ss)) (binds_closed t p (parts t h a ss) w.2 (parts_closed t h a p c ss w.0 w.1 l))
+    two_closed h (pattern_terms t p (top ss ∷ [])) (pattern_terms t q (other_terms ss)) (binds_closed t p (top ss ∷ []) w.1 (closed_top ss a, tt)) (binds_closed t q (other_terms ss) w.2 (closed_others ss a))
+binds_closed t (Three h a p c) ss w l = three_closed h (pattern_terms t p (parts t h a ss)) (binds_closed t p (parts t h a ss) w.2 (parts_closed t h a p c ss w.0 w.1 l))
 
 -- ---- told from the last one
 last_behind : (xs ys : List Tree) (back : ℕ) → back < length ys → from_last (xs ++ ys) back ≡ from_last ys back
@@ -124,37 +124,37 @@ last_before xs ys back l m =
     ap (λ k. get_or (xs ++ ys) k (Leaf HEnd)) q ∙ left_at xs ys (length xs - 1 - (back - length ys)) (Leaf HEnd) (omega (arith, l, m))
 
 module _ (t : TaskTree) (p : Tree) (ss : List Tree) where
-  pub of_variable : (a : Tree) (back : ℕ) → p ≡ One HPatVar a → back < pat_vars p → from_last (binds t p ss) back ≡ top ss
+  pub of_variable : (a : Tree) (back : ℕ) → p ≡ One HPatVar a → back < pat_vars p → from_last (pattern_terms t p ss) back ≡ top ss
   of_variable a back e l =
       let m : back < 1 = rw e at l in
       let z : back ≡ 0 = omega (arith, m) in
       rw (e, z) refl
 
-  pub of_alias : (a : Tree) → p ≡ One HPatAlias a → from_last (binds t p ss) 0 ≡ top ss
-  of_alias a e = rw e (last_behind (binds t a ss) (top ss ∷ []) 0 (omega arith))
+  pub of_alias : (a : Tree) → p ≡ One HPatAlias a → from_last (pattern_terms t p ss) 0 ≡ top ss
+  of_alias a e = rw e (last_behind (pattern_terms t a ss) (top ss ∷ []) 0 (omega arith))
 
-  pub in_alias : (a : Tree) (back : ℕ) → p ≡ One HPatAlias a → 0 < back → back < pat_vars p → from_last (binds t p ss) back ≡ from_last (binds t a ss) (back - 1)
+  pub in_alias : (a : Tree) (back : ℕ) → p ≡ One HPatAlias a → 0 < back → back < pat_vars p → from_last (pattern_terms t p ss) back ≡ from_last (pattern_terms t a ss) (back - 1)
   in_alias a back e z l =
       let m : back < pat_vars a + 1 = rw e at l in
-      rw e (last_before (binds t a ss) (top ss ∷ []) back (omega (arith, z)) (omega (arith, m, binds_count t a ss)))
+      rw e (last_before (pattern_terms t a ss) (top ss ∷ []) back (omega (arith, z)) (omega (arith, m, binds_count t a ss)))
 
-  pub in_rest : (a b : Tree) (back : ℕ) → p ≡ Two HCell a b → back < pat_vars b → from_last (binds t p ss) back ≡ from_last (binds t b (others ss)) back
-  in_rest a b back e l = rw e (last_behind (binds t a (top ss ∷ [])) (binds t b (others ss)) back (omega (arith, l, binds_count t b (others ss))))
+  pub in_rest : (a b : Tree) (back : ℕ) → p ≡ Two HCell a b → back < pat_vars b → from_last (pattern_terms t p ss) back ≡ from_last (pattern_terms t b (other_terms ss)) back
+  in_rest a b back e l = rw e (last_behind (pattern_terms t a (top ss ∷ [])) (pattern_terms t b (other_terms ss)) back (omega (arith, l, binds_count t b (other_terms ss))))
 
-  pub in_first : (a b : Tree) (back : ℕ) → p ≡ Two HCell a b → pat_vars b ≤ back → back < pat_vars p → from_last (binds t p ss) back ≡ from_last (binds t a (top ss ∷ [])) (back - pat_vars b)
+  pub in_first : (a b : Tree) (back : ℕ) → p ≡ Two HCell a b → pat_vars b ≤ back → back < pat_vars p → from_last (pattern_terms t p ss) back ≡ from_last (pattern_terms t a (top ss ∷ [])) (back - pat_vars b)
   in_first a b back e l m =
       let n : back < pat_vars a + pat_vars b = rw e at m in
-      let c = binds_count t b (others ss) in
+      let c = binds_count t b (other_terms ss) in
       let d = binds_count t a (top ss ∷ []) in
-      rw e (last_before (binds t a (top ss ∷ [])) (binds t b (others ss)) back (omega (arith, l, c)) (omega (arith, n, c, d)) ∙ ap (λ k. from_last (binds t a (top ss ∷ [])) (back - k)) c)
+      rw e (last_before (pattern_terms t a (top ss ∷ [])) (pattern_terms t b (other_terms ss)) back (omega (arith, l, c)) (omega (arith, n, c, d)) ∙ ap (λ k. from_last (pattern_terms t a (top ss ∷ [])) (back - k)) c)
 
-  pub in_parts : (k : ℕ) (types parts ty : Tree) → p ≡ Three (HPatCon k) types parts ty → binds t p ss ≡ binds t parts (fields t (projections t k) types (top ss))
+  pub in_parts : (k : ℕ) (types parts ty : Tree) → p ≡ Three (HPatCon k) types parts ty → pattern_terms t p ss ≡ pattern_terms t parts (fields t (constructor_projections t k) types (top ss))
   in_parts k types parts ty e = rw e refl
 
   -- what is put for a variable of the pattern
-  pub put_bound : (d i : ℕ) (ty : Tree) → WellSorted p → AllClosed ss → d ≤ i → i - d < pat_vars p → (instantiating_many (binds t p ss)).bound d i ty ≡ from_last (binds t p ss) (i - d)
+  pub put_bound : (d i : ℕ) (ty : Tree) → WellSorted p → AllClosed ss → d ≤ i → i - d < pat_vars p → (instantiating_many (pattern_terms t p ss)).bound d i ty ≡ from_last (pattern_terms t p ss) (i - d)
   put_bound d i ty w a l m =
-      let ts = binds t p ss in
+      let ts = pattern_terms t p ss in
       let n = binds_count t p ss in
       let k = length ts - 1 - (i - d) in
       let small : k < length ts = omega (arith, m, n) in
@@ -162,7 +162,7 @@ module _ (t : TaskTree) (p : Tree) (ss : List Tree) where
       let z = closed_at ts k ty (binds_closed t p ss w a) small in
       many_at ts d i k ty l (omega (arith, l, m, n)) ∙ shift_closed (get_or ts k ty) d 0 (omega (arith, z)) ∙ same
 
-  pub put_above : (d i : ℕ) (ty : Tree) → d ≤ i → pat_vars p ≤ i - d → (instantiating_many (binds t p ss)).bound d i ty ≡ Bound (i - pat_vars p) ty
+  pub put_above : (d i : ℕ) (ty : Tree) → d ≤ i → pat_vars p ≤ i - d → (instantiating_many (pattern_terms t p ss)).bound d i ty ≡ Bound (i - pat_vars p) ty
   put_above d i ty l m =
       let n = binds_count t p ss in
-      many_above (binds t p ss) d i ty (omega (arith, l, m, n)) ∙ ap (λ k. Bound (i - k) ty) n
+      many_above (pattern_terms t p ss) d i ty (omega (arith, l, m, n)) ∙ ap (λ k. Bound (i - k) ty) n

@@ -2,8 +2,8 @@
 use Rattle.std.proofs.Common.{◌≡◌, ◌↔◌, ℕ, List, true, Option, Some, None, IfSome, refl, sym, ap, ◌∙◌}
 use Rattle.trees.specs.Tree.{Tree, Leaf, Three, HTrue, HPatCon}
 use Rattle.tasks.specs.Task.{TaskTree}
-use Rattle.tasks.specs.Inversion.{and_then, or_true}
-use Rattle.rule_rows.specs.Patterns.{tests, top, projections, fields, con_equation}
+use Rattle.tasks.specs.Inversion.{conjunction_with, or_true}
+use Rattle.rule_rows.specs.Patterns.{tests, top, constructor_projections, fields, con_equation}
 
 pub if_some : {X : Type 0} (o : Option X) (P Q : X → Type 0) → ((x : X) → P x → Q x) → IfSome o P → IfSome o Q
 if_some None P Q f h = tt
@@ -12,17 +12,17 @@ if_some (Some x) P Q f h = f x h
 pub un_some : {X : Type 0} (a b : X) → Some a ≡ Some b → a ≡ b
 un_some a b h = cc
 
-module _ (t : TaskTree) (k : ℕ) (types parts ty p a : Tree) (ss : List Tree) (js : List ℕ) (e : p ≡ Three (HPatCon k) types parts ty) (q : a ≡ top ss) (j : js ≡ projections t k) where
+module _ (t : TaskTree) (k : ℕ) (types parts ty p a : Tree) (ss : List Tree) (js : List ℕ) (e : p ≡ Three (HPatCon k) types parts ty) (q : a ≡ top ss) (j : js ≡ constructor_projections t k) where
   abbrev pub inner : Option Tree → Option Tree
   inner behind = tests t parts (fields t js types a) behind
 
-  pub tests_here : (behind : Option Tree) → tests t p ss behind ≡ and_then (con_equation t k types a) (inner behind)
+  pub tests_here : (behind : Option Tree) → tests t p ss behind ≡ conjunction_with (con_equation t k types a) (inner behind)
   tests_here behind = rw (e, q, j) refl
 
-  pub is_here : (m n behind : Option Tree) → m ≡ and_then (con_equation t k types a) n → n ≡ inner behind → m ≡ tests t p ss behind
-  is_here m n behind h i = h ∙ ap (and_then (con_equation t k types a)) i ∙ sym (tests_here behind)
+  pub is_here : (m n behind : Option Tree) → m ≡ conjunction_with (con_equation t k types a) n → n ≡ inner behind → m ≡ tests t p ss behind
+  is_here m n behind h i = h ∙ ap (conjunction_with (con_equation t k types a)) i ∙ sym (tests_here behind)
 
-  pub from_here : (m behind : Option Tree) → m ≡ tests t p ss behind → m ≡ and_then (con_equation t k types a) (inner behind)
+  pub from_here : (m behind : Option Tree) → m ≡ tests t p ss behind → m ≡ conjunction_with (con_equation t k types a) (inner behind)
   from_here m behind h = h ∙ tests_here behind
 
 -- a tree is the test where it is the conjunction, or is `true` and nothing is asked

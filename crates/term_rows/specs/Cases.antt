@@ -4,7 +4,7 @@ use Rattle.trees.specs.declared.TermId.{TermId}
 use Rattle.trees.specs.Tree.{Tree}
 use Rattle.trees.specs.Node.{tree_at, Holds}
 use Rattle.tasks.specs.declared.declaration.Con.{Con}
-use Rattle.tasks.specs.Task.{ConTree}
+use Rattle.tasks.specs.Task.{ConstructorTree}
 use Rattle.tasks.specs.Meaning.{con_at}
 use Rattle.rule_rows.specs.declared.tried.Tried.{Tried}
 use Rattle.rule_rows.specs.Forms.{equal}
@@ -19,7 +19,7 @@ pub record IsRebuiltHeld (v : Rebuilt) (s : List Tree) : Type 0 where
   pub term : Holds s v.term
 
 -- that a term is a constructor on its own fields
-abbrev pub case_by : Tried → TermId → TermId → ConTree → List Tree
+abbrev pub case_by : Tried → TermId → TermId → ConstructorTree → List Tree
 case_by x types term c = equal (tree_at x.store.now term) (rebuilt (task_of x) c.symbol c.projections (tree_at x.store.now types) (tree_at x.store.now term)) ∷ []
 
 abbrev pub case_of : Tried → TermId → TermId → Con → List Tree

@@ -1,10 +1,10 @@
 // Terms that a pattern is asked of, told without making them: a term, or projections of one.
-// They stand on the store and the signature; the test and the variables of a pattern stand on them.
+// They depend on the store and the signature; the test and the variables of a pattern depend on them.
 ghost use Rattle.std.specs.Prelude.{◌≡◌, ◌↔◌, Some, IsTrue};
 ghost use Rattle.trees.specs.Node.{tree_at, Holds};
 ghost use Rattle.tasks.specs.Task.{symbol_or};
 ghost use Rattle.tasks.specs.Equations.{cells};
-ghost use Rattle.rule_rows.specs.Patterns.{result_at, fields, rebuilt, projections, top, others};
+ghost use Rattle.rule_rows.specs.Patterns.{result_at, fields, rebuilt, constructor_projections, top, other_terms};
 ghost use Rattle.rule_rows.specs.Meaning.{task_of, TriedHeld};
 ghost use Rattle.term_rows.specs.Asked.{asked_at, AskedHeld, list_at, ListHeld};
 
@@ -111,7 +111,7 @@ pub(crate) fn other_asked<'a>(x: &Tried<'_>, list: AskedList<'a>) -> AskedList<'
     requires list { ListHeld x.now.store.now list }
     ensures held { ListHeld x.now.store.now result }
     ensures trees { list_at (task_of x.now) x.now.store.now result
-        ≡ others (list_at (task_of x.now) x.now.store.now list.entry) }
+        ≡ other_terms (list_at (task_of x.now) x.now.store.now list.entry) }
 {
     match list {
         AskedList::One(a) => AskedList::Fields(&[], TermId(0), a),
@@ -125,7 +125,7 @@ pub(crate) fn other_asked<'a>(x: &Tried<'_>, list: AskedList<'a>) -> AskedList<'
 // The projections of a constructor.
 pub(crate) fn projections<'a>(x: &Tried<'a>, constructor: usize) -> &'a [usize]
     requires { TriedHeld x.now }
-    ensures { result.now ≡ projections (task_of x.now) constructor }
+    ensures { result.now ≡ constructor_projections (task_of x.now) constructor }
 {
     match x.look.role(x.store, constructor) {
         Role::Constructor(con) => con.projections.as_slice(),

@@ -1,13 +1,13 @@
 // The terms for the variables of a pattern, put into the body of a branch, told without making them.
-// They stand on asked terms and on the instance walk of binders; the row of `matchdef` stands on them.
+// They depend on asked terms and on the instance walk of binders; the row of `matchdef` depends on them.
 ghost use Rattle.std.specs.Prelude.{◌≡◌, ◌↔◌, ◌<◌, ◌≤◌, IsTrue};
 ghost use Rattle.trees.specs.Tree.{pat_vars, loose};
 ghost use Rattle.trees.specs.Node.{tree_at, Holds};
 ghost use Rattle.trees.specs.Binding.{Bound, instantiating_many};
-ghost use Rattle.rule_rows.specs.Patterns.{binds, bind};
+ghost use Rattle.rule_rows.specs.Patterns.{pattern_terms, bind};
 ghost use Rattle.rule_rows.specs.Meaning.{task_of, TriedHeld};
 ghost use Rattle.term_rows.specs.Asked.{list_at, ListHeld};
-ghost use Rattle.term_rows.specs.Matches.{from_last, IsReady};
+ghost use Rattle.term_rows.specs.Matches.{from_last, IsTriedReady};
 
 use crate::asked::{Asked, AskedList, first_asked, is_asked, other_asked, projections};
 use binders::Put;
@@ -30,7 +30,7 @@ fn is_bound<'a>(
     requires within { back < pat_vars (tree_at x.now.store.now pattern) }
     requires small { back < 18446744073709551615 }
     ensures { IsTrue result ↔ (tree_at x.now.store.now made
-        ≡ from_last (binds (task_of x.now) (tree_at x.now.store.now pattern)
+        ≡ from_last (pattern_terms (task_of x.now) (tree_at x.now.store.now pattern)
         (list_at (task_of x.now) x.now.store.now list.entry)) back) }
 {
     match x.store.node(pattern) {
@@ -117,7 +117,7 @@ impl<'a> Put for Bindings<'a> {
     ghost change_over = { λ v s. instantiating_many (bind (task_of v.x.now)
         (tree_at s v.pattern) (tree_at s v.term)) };
 
-    ghost Ready = { λ v s. IsReady v.x.now v.pattern v.term s };
+    ghost Ready = { λ v s. IsTriedReady v.x.now v.pattern v.term s };
 
     fn is_put(&self, s: &Store, e: TermId, depth: usize, made: TermId) -> Option<bool> {
         if s.loose(e) <= depth {

@@ -1,5 +1,5 @@
 // The row of `case`.
-// It stands on asked terms; the checker of a step stands on it.
+// It depends on asked terms; the checker of a step depends on it.
 ghost use Rattle.std.specs.Prelude.{◌≡◌, ◌↔◌, map, IsTrue};
 ghost use Rattle.std.specs.Option.{option_map};
 ghost use Rattle.trees.specs.Node.{tree_at, Holds};

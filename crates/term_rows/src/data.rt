@@ -1,5 +1,5 @@
 // The rows of constructors and projections: `distinct`, `inject` and `project`.
-// They stand on what premises add; the checker of a step stands on them.
+// They depend on what premises add; the checker of a step depends on them.
 ghost use Rattle.std.specs.Prelude.{◌≡◌, ◌↔◌, [], ◌∷◌, ◌++◌, ◌<◌, slice_get, All, None, IsTrue, IfSome};
 ghost use Rattle.std.specs.Option.{option_map};
 ghost use Rattle.trees.specs.Node.{tree_at, Holds};
@@ -10,7 +10,10 @@ ghost use Rattle.rule_rows.specs.Trees.{RDistinct, RInject, RProject};
 ghost use Rattle.rule_rows.specs.Rows.{equal_each, projected};
 ghost use Rattle.rule_rows.specs.Meaning.{task_of, TriedHeld, RowOf};
 
-use rule_rows::{Equal, Shape, Tried, adds_none, adds_one, application_parts, equation_sides, formula_at, premise};
+use rule_rows::{
+    Equal, Shape, Tried, adds_none, adds_one, application_parts, equation_sides, formula_at,
+    premise,
+};
 use tasks::{Role, is_constructor};
 use term_store::Store;
 use trees::{Node, TermId};
@@ -87,7 +90,7 @@ fn are_equations(store: &Store, formulas: &[TermId], ts: TermId, us: TermId) -> 
     }
 }
 
-// Whether a sequent is another with those equations behind it.
+// Whether a sequent is another with those equations after it.
 fn adds_equations(
     store: &Store,
     premise: &[TermId],

@@ -1,5 +1,5 @@
 //! The rows of terms of algebraic types: `matchdef`, `case`, `distinct`, `inject` and `project`.
-//! They stand on the table of rules and read a task through its look-up; the checker of a step stands on them.
+//! They depend on the table of rules and read a task through its look-up; the checker of a step depends on them.
 #![tactic(auto)]
 
 mod asked;

@@ -1,5 +1,5 @@
 // The row of `matchdef`.
-// It stands on the test and the variables of a pattern; the checker of a step stands on it.
+// It depends on the test and the variables of a pattern; the checker of a step depends on it.
 ghost use Rattle.std.specs.Prelude.{◌≡◌, ◌↔◌, [], ◌∷◌, IsTrue, IfSome};
 ghost use Rattle.std.specs.Option.{option_map};
 ghost use Rattle.trees.specs.Tree.{Two, HCase, loose};
@@ -10,7 +10,7 @@ ghost use Rattle.rule_rows.specs.Forms.{match_of};
 ghost use Rattle.rule_rows.specs.Patterns.{bind, test};
 ghost use Rattle.rule_rows.specs.Rows.{unfolded, Adds};
 ghost use Rattle.rule_rows.specs.Meaning.{task_of, sequent_of, premises_of, TriedHeld, RowOf};
-ghost use Rattle.term_rows.specs.Matches.{IsReady, parts_at, PartsHeld};
+ghost use Rattle.term_rows.specs.Matches.{IsTriedReady, match_parts_at, MatchPartsHeld};
 
 use crate::binds::Bindings;
 use crate::pattern_tests::is_test;
@@ -32,7 +32,7 @@ impl<'a> Shape for Branch<'a> {
     ghost tree = { λ v s. inst_many (tree_at s v.body) (bind (task_of v.x.now) (tree_at s v.pattern)
         (tree_at s v.term)) };
 
-    ghost IsHeld = { λ v s. IsReady v.x.now v.pattern v.term s × Holds s v.body };
+    ghost IsHeld = { λ v s. IsTriedReady v.x.now v.pattern v.term s × Holds s v.body };
 
     fn is(&self, store: &Store, id: TermId) -> bool {
         let bindings = Bindings {
@@ -55,7 +55,7 @@ struct Test<'a> {
 impl<'a> Shape for Test<'a> {
     ghost tree = { λ v s. test (task_of v.x.now) (tree_at s v.pattern) (tree_at s v.term) };
 
-    ghost IsHeld = { λ v s. IsReady v.x.now v.pattern v.term s };
+    ghost IsHeld = { λ v s. IsTriedReady v.x.now v.pattern v.term s };
 
     fn is(&self, store: &Store, id: TermId) -> bool {
         let _ = store;
@@ -86,8 +86,8 @@ impl Shape for Match {
 // The scrutinee of a `match`, its first pattern and body, and the list of the other branches.
 fn match_parts(store: &Store, e: TermId) -> Option<(TermId, TermId, TermId, TermId)>
     requires { Holds store.now e }
-    ensures tree { option_map (parts_at store.now) result ≡ match_of (tree_at store.now e) }
-    ensures held { IfSome result (PartsHeld store.now) }
+    ensures tree { option_map (match_parts_at store.now) result ≡ match_of (tree_at store.now e) }
+    ensures held { IfSome result (MatchPartsHeld store.now) }
 {
     match store.node(e) {
         Node::Case(term, branches) => match store.node(branches) {
@@ -112,7 +112,7 @@ fn adds_unfolded<'a>(
 ) -> bool
     requires tried { TriedHeld x.now }
     requires held { Holds x.now.store.now e }
-    requires ready { IsReady x.now pattern term x.now.store.now }
+    requires ready { IsTriedReady x.now pattern term x.now.store.now }
     requires body_held { Holds x.now.store.now body }
     requires rest_held { Holds x.now.store.now rest }
     ensures { IsTrue result ↔ Adds (sequent_of x.now) (premises_of x.now) ((unfolded

@@ -1,10 +1,10 @@
-// The test of a pattern, told without making it: what is left of a conjunction behind a pattern's tests.
-// It stands on asked terms; the row of `matchdef` stands on it.
+// The test of a pattern, told without making it: what is left of a conjunction after a pattern's tests.
+// It depends on asked terms; the row of `matchdef` depends on it.
 ghost use Rattle.std.specs.Prelude.{◌≡◌, ◌↔◌, ◌∷◌, [], Option, Some, None, IsTrue, IfSome};
 ghost use Rattle.std.specs.Option.{option_map};
 ghost use Rattle.trees.specs.Tree.{Tree};
 ghost use Rattle.trees.specs.Node.{tree_at, Holds};
-ghost use Rattle.tasks.specs.Inversion.{and_then};
+ghost use Rattle.tasks.specs.Inversion.{conjunction_with};
 ghost use Rattle.rule_rows.specs.Patterns.{tests, test, con_equation};
 ghost use Rattle.rule_rows.specs.Meaning.{task_of, TriedHeld};
 ghost use Rattle.term_rows.specs.Asked.{asked_at, AskedHeld, list_at, ListHeld};
@@ -35,7 +35,7 @@ fn is_equation<'a>(
     }
 }
 
-// What is left of a conjunction behind that equation.
+// What is left of a conjunction after that equation.
 fn after_equation<'a>(
     x: &Tried<'_>,
     constructor: usize,
@@ -48,11 +48,11 @@ fn after_equation<'a>(
     requires term { AskedHeld x.now.store.now term.now }
     requires held { Holds x.now.store.now id }
     ensures is { IfSome result (λ r. Some (tree_at x.now.store.now id)
-        ≡ and_then (con_equation (task_of x.now) constructor (tree_at x.now.store.now types)
+        ≡ conjunction_with (con_equation (task_of x.now) constructor (tree_at x.now.store.now types)
         (asked_at (task_of x.now) x.now.store.now term.now))
         (option_map (tree_at x.now.store.now) r)) }
     ensures can { (inner : Option Tree) → Some (tree_at x.now.store.now id)
-        ≡ and_then (con_equation (task_of x.now) constructor (tree_at x.now.store.now types)
+        ≡ conjunction_with (con_equation (task_of x.now) constructor (tree_at x.now.store.now types)
         (asked_at (task_of x.now) x.now.store.now term.now)) inner
         → option_map (λ r. option_map (tree_at x.now.store.now) r) result ≡ Some inner }
     ensures held { IfSome result (λ r. IfSome r (Holds x.now.store.now)) }
@@ -75,7 +75,7 @@ fn after_equation<'a>(
     }
 }
 
-// What is left of a conjunction behind the tests of a pattern, or of a list of patterns.
+// What is left of a conjunction after the tests of a pattern, or of a list of patterns.
 fn after_tests(
     x: &Tried<'_>,
     pattern: TermId,

@@ -1,5 +1,5 @@
 // Random nodes of each kind over the numbers so far, and the store beside its reference on those that fit.
-// They go through the calls of `term_store`; nothing stands on them.
+// They go through the calls of `term_store`; nothing depends on them.
 ghost use Rattle.trees.specs.Node.{Holds};
 
 use std::process::Abort;

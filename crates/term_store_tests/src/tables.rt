@@ -1,5 +1,5 @@
 // Nodes added to a store, and what each query answers of them.
-// They go through the calls of `term_store`; nothing stands on them.
+// They go through the calls of `term_store`; nothing depends on them.
 use std::process::Abort;
 use term_store::{Grow, Store};
 use trees::{Node, Op, Sort, TermId};

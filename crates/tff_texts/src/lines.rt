@@ -6,7 +6,7 @@ ghost use Rattle.tasks.specs.Meaning.{trees_at, symbols_at, SymbolHeld};
 ghost use Rattle.printed_terms.specs.Texts.{sort_text};
 ghost use Rattle.printed_terms.specs.Ranks.{sorts_at};
 ghost use Rattle.printed_terms.specs.Meaning.{printing, CanPrint, Appends};
-ghost use Rattle.tff_texts.specs.Text.{head_line, typed, sort_line, arguments_text, result_text, rank_line, symbol_line, parameter_line, parameter_lines, axiom_line, axiom_lines, goal_line};
+ghost use Rattle.tff_texts.specs.Text.{tff_head_line, tff_typed, tff_sort_line, arguments_text, tff_result_text, tff_rank_line, tff_symbol_line, tff_parameter_line, tff_parameter_lines, axiom_line, axiom_lines, tff_goal_line};
 
 use printed_terms::{
     Rank, TermPrinter, push_formula, push_name_at, push_number, push_parameter, push_sort,
@@ -23,7 +23,7 @@ pub(crate) fn push_head(
     part: usize,
     parts: usize,
 ) -> Result<(), AllocError>
-    ensures { OnOk result (Appends out.old.items (head_line part parts) out.new.items) }
+    ensures { OnOk result (Appends out.old.items (tff_head_line part parts) out.new.items) }
 {
     out.extend_from_slice(b"% ")?;
     push_number(alloc, out, part)?;
@@ -34,7 +34,7 @@ pub(crate) fn push_head(
 
 // Appends the begin of the line that tells the type of a name.
 fn push_typed(out: &mut Vec<u8>, name: &[u8]) -> Result<(), AllocError>
-    ensures { OnOk result (Appends out.old.items (typed name.now) out.new.items) }
+    ensures { OnOk result (Appends out.old.items (tff_typed name.now) out.new.items) }
 {
     out.extend_from_slice(b"tff(")?;
     out.extend_from_slice(name)?;
@@ -46,7 +46,8 @@ fn push_typed(out: &mut Vec<u8>, name: &[u8]) -> Result<(), AllocError>
 
 // Appends the line that declares a type.
 fn push_sort_line(c: &TermPrinter<'_>, out: &mut Vec<u8>, place: usize) -> Result<(), AllocError>
-    ensures { OnOk result (Appends out.old.items (sort_line (printing c.now) place) out.new.items) }
+    ensures { OnOk result (Appends out.old.items (tff_sort_line (printing c.now) place)
+        out.new.items) }
 {
     let mut name = Vec::new(c.alloc);
     push_name_at(c, &mut name, place)?;
@@ -61,7 +62,8 @@ pub(crate) fn push_sort_lines(
     out: &mut Vec<u8>,
     places: &[usize],
 ) -> Result<(), AllocError>
-    ensures { OnOk result (Appends out.old.items (flat_map (sort_line (printing c.now)) places.now)
+    ensures { OnOk result (Appends out.old.items
+        (flat_map (tff_sort_line (printing c.now)) places.now)
         out.new.items) }
 {
     for place in places {
@@ -70,7 +72,7 @@ pub(crate) fn push_sort_lines(
     Ok(())
 }
 
-// Appends the types of arguments, with the arrow to the result's behind them.
+// Appends the types of arguments, with the arrow to the result's after them.
 fn push_arguments(
     c: &TermPrinter<'_>,
     out: &mut Vec<u8>,
@@ -101,7 +103,7 @@ fn push_result(
     place: Option<usize>,
 ) -> Result<(), AllocError>
     requires { CanPrint c.now }
-    ensures { OnOk result (Appends out.old.items (result_text (printing c.now) place)
+    ensures { OnOk result (Appends out.old.items (tff_result_text (printing c.now) place)
         out.new.items) }
 {
     match place {
@@ -118,7 +120,7 @@ fn push_rank(
     rank: &Rank,
 ) -> Result<(), AllocError>
     requires { CanPrint c.now }
-    ensures { OnOk result (Appends out.old.items (rank_line (printing c.now) name.now rank.now)
+    ensures { OnOk result (Appends out.old.items (tff_rank_line (printing c.now) name.now rank.now)
         out.new.items) }
 {
     push_typed(out, name)?;
@@ -128,7 +130,7 @@ fn push_rank(
     Ok(())
 }
 
-// Appends the line that declares what stands at a place of the table.
+// Appends the line that declares what is at a place of the table.
 fn push_symbol_line(
     c: &TermPrinter<'_>,
     out: &mut Vec<u8>,
@@ -137,7 +139,7 @@ fn push_symbol_line(
 ) -> Result<(), AllocError>
     requires can { CanPrint c.now }
     requires held { All (SymbolHeld c.now.store.now) symbols.now }
-    ensures { OnOk result (Appends out.old.items (symbol_line (printing c.now) (symbols_at
+    ensures { OnOk result (Appends out.old.items (tff_symbol_line (printing c.now) (symbols_at
         c.now.store.now symbols.now) place) out.new.items) }
 {
     match c.names.get(place) {
@@ -149,7 +151,7 @@ fn push_symbol_line(
     }
 }
 
-/// Appends the lines that declare what stands at places of the table.
+/// Appends the lines that declare what is at places of the table.
 pub(crate) fn push_symbol_lines(
     c: &TermPrinter<'_>,
     out: &mut Vec<u8>,
@@ -158,7 +160,7 @@ pub(crate) fn push_symbol_lines(
 ) -> Result<(), AllocError>
     requires can { CanPrint c.now }
     requires held { All (SymbolHeld c.now.store.now) symbols.now }
-    ensures { OnOk result (Appends out.old.items (flat_map (symbol_line (printing c.now)
+    ensures { OnOk result (Appends out.old.items (flat_map (tff_symbol_line (printing c.now)
         (symbols_at c.now.store.now symbols.now)) places.now) out.new.items) }
 {
     for place in places {
@@ -176,7 +178,7 @@ fn push_parameter_line(
 ) -> Result<(), AllocError>
     requires can { CanPrint c.now }
     requires held { Holds c.now.store.now ty }
-    ensures { OnOk result (Appends out.old.items (parameter_line number (sort_text
+    ensures { OnOk result (Appends out.old.items (tff_parameter_line number (sort_text
         (printing c.now) (tree_at c.now.store.now ty))) out.new.items) }
 {
     let mut name = Vec::new(c.alloc);
@@ -195,7 +197,7 @@ pub(crate) fn push_parameter_lines(
 ) -> Result<(), AllocError>
     requires can { CanPrint c.now }
     requires held { All (Holds c.now.store.now) types.now }
-    ensures { OnOk result (Appends out.old.items (parameter_lines (printing c.now) 0 (trees_at
+    ensures { OnOk result (Appends out.old.items (tff_parameter_lines (printing c.now) 0 (trees_at
         c.now.store.now types.now)) out.new.items) }
 {
     for number in 0..types.len() {
@@ -245,7 +247,7 @@ pub(crate) fn push_axioms(
 pub(crate) fn push_goal(c: &TermPrinter<'_>, out: &mut Vec<u8>, e: TermId) -> Result<(), AllocError>
     requires can { CanPrint c.now }
     requires held { Holds c.now.store.now e }
-    ensures { OnOk result (Appends out.old.items (goal_line (printing c.now) (tree_at
+    ensures { OnOk result (Appends out.old.items (tff_goal_line (printing c.now) (tree_at
         c.now.store.now e)) out.new.items) }
 {
     out.extend_from_slice(b"tff(goal, conjecture, ")?;

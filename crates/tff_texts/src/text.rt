@@ -2,7 +2,7 @@
 ghost use Rattle.std.specs.Prelude.{◌≡◌, ◌++◌, IfOk, OnOk};
 ghost use Rattle.tasks.specs.Meaning.{trees_at, task_at, TaskHeld};
 ghost use Rattle.printed_problems.specs.Made.{problem_at, ProblemHeld};
-ghost use Rattle.tff_texts.specs.Text.{axiom_lines, text_by, tff_text};
+ghost use Rattle.tff_texts.specs.Text.{axiom_lines, tff_text_by, tff_text};
 ghost use Rattle.printed_terms.specs.Meaning.{printing, CanPrint, Appends};
 
 use crate::lines::{
@@ -46,7 +46,8 @@ fn push_problem(
     requires can { CanPrint c.now }
     requires held { TaskHeld c.now.store.now task.now }
     requires problem_held { ProblemHeld c.now.store.now problem.now }
-    ensures { OnOk result (Appends out.old.items (text_by (printing c.now) (task_at c.now.store.now
+    ensures { OnOk result (Appends out.old.items
+        (tff_text_by (printing c.now) (task_at c.now.store.now
         task.now) (problem_at c.now.store.now problem.now) part parts) out.new.items) }
 {
     push_head(c.alloc, out, part, parts)?;

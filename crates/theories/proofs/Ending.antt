@@ -8,7 +8,7 @@ use Rattle.trees.specs.Tree.{Tree}
 use Rattle.tasks.specs.declared.declaration.Decl.{Decl}
 use Rattle.tasks.specs.Task.{SymbolTree, DeclarationTree, int_symbol}
 use Rattle.tasks.specs.Vocabulary.{of_signature}
-use Rattle.names_space.specs.Names.{start}
+use Rattle.names_space.specs.Names.{empty_names}
 use Rattle.elab_parts.specs.Entries.{IsSignature}
 use Rattle.elab_parts.specs.Outcomes.{Setting}
 use Rattle.valid_tasks.proofs.Begin.{begins}
@@ -19,7 +19,7 @@ use Rattle.trees.specs.declared.TermId.{TermId}
 use Rattle.trees.specs.Node.{Holds}
 use Rattle.tasks.specs.declared.signature.SymbolInfo.{SymbolInfo}
 use Rattle.elab_walk.specs.Drafts.{HoldsType, SymbolTyped}
-use Rattle.goal_tasks.specs.Theories.{TheoryTree, TheoriesTree}
+use Rattle.goal_tasks.specs.Theories.{KnownTheoryTree, TheoriesTree}
 use Rattle.goal_tasks.specs.declared.theories.Theory.{Theory}
 use Rattle.tasks.specs.declared.signature.Signature.{Signature}
 use Rattle.goal_tasks.specs.Meaning.{placed, goal_at, theory_at, TheoryHeld}
@@ -27,20 +27,20 @@ use Rattle.theory_states.specs.declared.states.Known.{Known}
 use Rattle.theory_states.specs.declared.states.Opened.{Opened}
 use Rattle.theory_states.specs.declared.states.Typed.{Typed}
 use Rattle.theory_states.specs.States.{KnownTree, OpenedTree, StateTree, at_places, known_as, opened_empty}
-use Rattle.theory_states.specs.Meaning.{known_at, opened_at, state_at, KnownHeld, OpenedHeld, TypedHeld}
+use Rattle.theory_states.specs.Meaning.{known_at, opened_at, state_at, KnownTheoryHeld, OpenedHeld, TypedHeld}
 use Rattle.cloned_states.specs.Placed.{IsPlacedEntry, ArePlaced}
 use Rattle.sound_states.specs.Typed.{AreTypedTheories, IsTypedState}
 use Rattle.sound_states.proofs.Keeping.{begun_typed, ended_typed}
-use Rattle.theories.specs.Files.{IsBegun, IsEnded, theory_of, theories_of, nothing_known}
+use Rattle.theories.specs.Files.{IsTheoryBegun, IsEnded, visible_theory, theories_of, nothing_known}
 use Rattle.theories.specs.Ints.{int_entries}
-use Rattle.theories.specs.Right.{IsRight, AreRight, IsPath, between_at}
+use Rattle.theories.specs.Right.{IsStateRight, AreTheoriesRight, IsPath, between_at}
 
 -- a theory begins
-pub begun_is : (s : List Tree) (t : Typed) (path : List ℕ) (n : ℕ) (o : Opened) → opened_at s o ≡ opened_empty path → o.count ≡ n + 1 → IsBegun path (between_at s t n) (state_at s t o)
+pub begun_is : (s : List Tree) (t : Typed) (path : List ℕ) (n : ℕ) (o : Opened) → opened_at s o ≡ opened_empty path → o.count ≡ n + 1 → IsTheoryBegun path (between_at s t n) (state_at s t o)
 begun_is s t path n o e q =
     ap (λ (x : OpenedTree). let it : StateTree = record (between_at s t n) { opened = x; number = o.count } in it) e ∙ ap (λ (k : ℕ). let it : StateTree = record (between_at s t n) { opened = opened_empty path; number = k } in it) q
 
-pub begun_right : (s : List Tree) (t : Typed) (path : List ℕ) (n : ℕ) (o : Opened) → opened_at s o ≡ opened_empty path → o.count ≡ n + 1 → OpenedHeld s (length t.decls) o → IsPath path → AreRight s t → IsRight s t o
+pub begun_right : (s : List Tree) (t : Typed) (path : List ℕ) (n : ℕ) (o : Opened) → opened_at s o ≡ opened_empty path → o.count ≡ n + 1 → OpenedHeld s (length t.decls) o → IsPath path → AreTheoriesRight s t → IsStateRight s t o
 begun_right s t path n o e q held p h = record {
   held = record { typed = h.held; opened = held };
   typed = subst IsTypedState (sym (begun_is s t path n o e q)) (begun_typed (between_at s t 0) path (n + 1) p.named p.other h.typed);
@@ -57,14 +57,14 @@ module _ (s : List Tree) (t t' : Typed) (o : Opened) (k : Known) (e : t' ≡ rec
   pub ended_is : (n : ℕ) → n ≡ o.count → IsEnded (state_at s t o) (between_at s t' n)
   ended_is n c = known_more n ∙ ap (λ (m : ℕ). let it : StateTree = record (between_at s t m) { known = map (known_at s) t.known ++ known_as (opened_at s o) ∷ [] } in it) c
 
-  pub ended_right : KnownHeld s (length t.decls) k → IsRight s t o → AreRight s t'
+  pub ended_right : KnownTheoryHeld s (length t.decls) k → IsStateRight s t o → AreTheoriesRight s t'
   ended_right one h =
       let typed : AreTypedTheories (record (state_at s t o) { known = map (known_at s) t.known ++ known_as (opened_at s o) ∷ []; opened = opened_empty []; number = 0 }) = ended_typed (state_at s t o) (opened_empty []) 0 h.typed in
       record {
         held = subst (TypedHeld s) (sym e) (record {
           signature = h.held.typed.signature;
           decls = h.held.typed.decls;
-          known = All-push (KnownHeld s (length t.decls)) t.known k h.held.typed.known one;
+          known = All-push (KnownTheoryHeld s (length t.decls)) t.known k h.held.typed.known one;
         });
         typed = subst AreTypedTheories (sym (known_more 0)) typed;
         placed = subst (λ (x : Typed). ArePlaced (symbols_at s x.sig.symbols)) (sym e) h.placed;
@@ -85,11 +85,11 @@ placed_are s ds (k ∷ ks) =
     one (e ∷ es) (suc j) = one es j
 
 theory_is : (s : List Tree) (ds : List Decl) (k : Known) → theory_at s ds k.theory ≡ record { path = k.theory.path; decls = at_places (declarations_at s ds) k.theory.visible; goals = map (goal_at s) k.theory.goals }
-theory_is s ds k = ap (λ (xs : List DeclarationTree). let it : TheoryTree = record { path = k.theory.path; decls = xs; goals = map (goal_at s) k.theory.goals } in it) (placed_are s ds k.theory.visible)
+theory_is s ds k = ap (λ (xs : List DeclarationTree). let it : KnownTheoryTree = record { path = k.theory.path; decls = xs; goals = map (goal_at s) k.theory.goals } in it) (placed_are s ds k.theory.visible)
 
-pub theories_are : (s : List Tree) (t : Typed) (n : ℕ) (ks : List Known) → map (theory_at s t.decls) (map (λ (k : Known). k.theory) ks) ≡ map (theory_of (between_at s t n)) (map (known_at s) ks)
+pub theories_are : (s : List Tree) (t : Typed) (n : ℕ) (ks : List Known) → map (theory_at s t.decls) (map (λ (k : Known). k.theory) ks) ≡ map (visible_theory (between_at s t n)) (map (known_at s) ks)
 theories_are s t n [] = refl
-theories_are s t n (k ∷ ks) = ap (λ (x : TheoryTree). x ∷ map (theory_at s t.decls) (map (λ (j : Known). j.theory) ks)) (theory_is s t.decls k) ∙ ap (λ (xs : List TheoryTree). theory_of (between_at s t n) (known_at s k) ∷ xs) (theories_are s t n ks)
+theories_are s t n (k ∷ ks) = ap (λ (x : KnownTheoryTree). x ∷ map (theory_at s t.decls) (map (λ (j : Known). j.theory) ks)) (theory_is s t.decls k) ∙ ap (λ (xs : List KnownTheoryTree). visible_theory (between_at s t n) (known_at s k) ∷ xs) (theories_are s t n ks)
 
 option_held : (s : List Tree) (o : Option TermId) → IfSome o (HoldsType s) → IfSome o (Holds s)
 option_held s None h = tt
@@ -98,7 +98,7 @@ option_held s (Some x) h = h.held
 pub symbols_held : (s : List Tree) (is : List SymbolInfo) → All (SymbolTyped s) is → All (SymbolHeld s) is
 symbols_held s is a = λ k d l. let one = a k d l in record { args = λ i x h. (one.args i x h).held; result = option_held s (get_or is k d).result one.result }
 
-pub theories_held : (s : List Tree) (ds : List Decl) (ks : List Known) → All (KnownHeld s (length ds)) ks → AllByRecursion (TheoryHeld s ds) (map (λ (k : Known). k.theory) ks)
+pub theories_held : (s : List Tree) (ds : List Decl) (ks : List Known) → All (KnownTheoryHeld s (length ds)) ks → AllByRecursion (TheoryHeld s ds) (map (λ (k : Known). k.theory) ks)
 theories_held s ds [] a = tt
 theories_held s ds (k ∷ ks) a = (let one = a 0 k (omega arith) in record { visible = one.visible; goals = one.goals }, theories_held s ds ks (λ i x h. a (suc i) x (omega arith)))
 
@@ -106,7 +106,7 @@ theories_held s ds (k ∷ ks) a = (let one = a 0 k (omega arith) in record { vis
 pub nothing_typed : (s : List Tree) → AreTypedTheories (nothing_known s)
 nothing_typed s =
     let symbols : List SymbolTree = int_symbol ∷ [] in
-    let c : Setting = record { theory = 1 ∷ []; within = []; decl = 0; trees = s; symbols = symbols; scope = start } in
+    let c : Setting = record { theory = 1 ∷ []; within = []; decl = 0; trees = s; symbols = symbols; scope = empty_names } in
     record {
       signature = (begins (of_signature symbols) refl c refl refl refl refl).signature;
       built = begins_built;
@@ -123,12 +123,12 @@ begin_is s t p q r =
 pub int_placed : ArePlaced (int_symbol ∷ [])
 int_placed = All-push IsPlacedEntry [] int_symbol (All-nil IsPlacedEntry) (λ e. absurd (cc))
 
-pub begin_right : (s : List Tree) (t : Typed) → IsSignature s t.sig.symbols → symbols_at s t.sig.symbols ≡ int_symbol ∷ [] → t.decls ≡ [] → t.known ≡ [] → AreRight s t
+pub begin_right : (s : List Tree) (t : Typed) → IsSignature s t.sig.symbols → symbols_at s t.sig.symbols ≡ int_symbol ∷ [] → t.decls ≡ [] → t.known ≡ [] → AreTheoriesRight s t
 begin_right s t sig p q r = record {
   held = record {
     signature = sig;
     decls = subst (All (DeclHeld s)) (sym q) (All-nil (DeclHeld s));
-    known = subst (All (KnownHeld s (length t.decls))) (sym r) (All-nil (KnownHeld s (length t.decls)));
+    known = subst (All (KnownTheoryHeld s (length t.decls))) (sym r) (All-nil (KnownTheoryHeld s (length t.decls)));
   };
   typed = subst AreTypedTheories (sym (begin_is s t p q r)) (nothing_typed s);
   placed = subst ArePlaced (sym p) int_placed;
@@ -139,7 +139,7 @@ pub collected_is : (s : List Tree) (t : Typed) (g : Signature) (list : List Theo
     → (let it : TheoriesTree = record { symbols = symbols_at s g.symbols; ints = g.ints; embedded = embedded; list = map (theory_at s t.decls) list } in it) ≡ theories_of embedded (between_at s t n)
 collected_is s t g list embedded n p q =
     ap (λ (x : Signature). let it : TheoriesTree = record { symbols = symbols_at s x.symbols; ints = x.ints; embedded = embedded; list = map (theory_at s t.decls) list } in it) p
-    ∙ ap (λ (ts : List TheoryTree). let it : TheoriesTree = record { symbols = symbols_at s t.sig.symbols; ints = Some int_entries; embedded = embedded; list = ts } in it) (ap (map (theory_at s t.decls)) q ∙ theories_are s t n t.known)
+    ∙ ap (λ (ts : List KnownTheoryTree). let it : TheoriesTree = record { symbols = symbols_at s t.sig.symbols; ints = Some int_entries; embedded = embedded; list = ts } in it) (ap (map (theory_at s t.decls)) q ∙ theories_are s t n t.known)
 
 pub collected_held : (s : List Tree) (t : Typed) (list : List Theory) → list ≡ map (λ (k : Known). k.theory) t.known → TypedHeld s t → All (TheoryHeld s t.decls) list
 collected_held s t list q h = subst (All (TheoryHeld s t.decls)) (sym q) (All-from_recursion (TheoryHeld s t.decls) (map (λ (k : Known). k.theory) t.known) (theories_held s t.decls t.known h.known))

@@ -1,18 +1,18 @@
 -- What is typed soundly is typed.
 use Rattle.std.proofs.Common.{ℕ, List, [], ◌∷◌, inl, inr}
 use Rattle.trees.specs.Tree.{Tree}
-use Rattle.syntax_why.specs.Declarations.{Decl, Decls, Theory, type_decl, algebraic_decl, function_decl, predicate_decl, constant_decl, inductive_decl, prop_decl, use_decl, clone_decl, scope_decl, no_decls, more_decls}
+use Rattle.syntax_why.specs.Declarations.{SyntaxDeclaration, SyntaxDeclarations, SyntaxTheory, type_decl, algebraic_decl, function_decl, predicate_decl, constant_decl, inductive_decl, prop_decl, use_decl, clone_decl, scope_decl, no_decls, more_decls}
 use Rattle.syntax_why.specs.declared.declarations.File.{File}
 use Rattle.syntax_why.specs.SurfaceDeclarations.{file_of}
 use Rattle.goal_tasks.specs.Theories.{TheoriesTree}
 use Rattle.theory_states.specs.declared.fault.SourceFault.{SourceFault}
 use Rattle.theory_states.specs.States.{StateTree}
-use Rattle.theories.specs.Typing.{Steps, FirstFault, IsTyped, AreTyped}
+use Rattle.theories.specs.Typing.{Steps, FirstFault, IsDeclarationTyped, AreDeclarationsTyped}
 use Rattle.theories.specs.Files.{IsNewTheoryBy, IsNewTheory, AreTypedInBy, AreTypedIn, IsEmbeddedBy, IsEmbedded, AreEmbeddedInBy, AreEmbeddedIn, nothing_known, IsLibraryTypedBy, IsLibraryTyped, TheoriesOf}
 use Rattle.theories.specs.Sound.{IsSoundlyTyped, AreSoundlyTyped, SoundTheoriesOf}
 
 mutual
-  pub decl_forgotten : (d : Decl) (c c' : StateTree) → IsSoundlyTyped d c c' → IsTyped d c c'
+  pub decl_forgotten : (d : SyntaxDeclaration) (c c' : StateTree) → IsSoundlyTyped d c c' → IsDeclarationTyped d c c'
   decl_forgotten (type_decl a n vs f) c c' h = record { between = h.between; first = h.first.declared; second = h.second }
   decl_forgotten (algebraic_decl a ts) c c' h = record { between = h.between; first = h.first.declared; second = h.second }
   decl_forgotten (function_decl a x ps f e ms) c c' h = record { between = h.between; first = h.first.declared; second = h.second }
@@ -28,7 +28,7 @@ mutual
     second = record { between = h.second.between; first = decls_forgotten ds h.between h.second.between h.second.first; second = h.second.second };
   }
 
-  pub decls_forgotten : (ds : Decls) (c c' : StateTree) → AreSoundlyTyped ds c c' → AreTyped ds c c'
+  pub decls_forgotten : (ds : SyntaxDeclarations) (c c' : StateTree) → AreSoundlyTyped ds c c' → AreDeclarationsTyped ds c c'
   decls_forgotten no_decls c c' h = h
   decls_forgotten (more_decls d ds) c c' h = record { between = h.between; first = decl_forgotten d c h.between h.first; second = decls_forgotten ds h.between c' h.second }
 
@@ -43,7 +43,7 @@ module _ {X : Type 0} (R Q : X → StateTree → StateTree → Type 0) (k : (x :
   first_so F (x ∷ xs) c f h = elim h [ inl i ↦ inl i | inr i ↦ inr (record { between = i.between; first = k x c i.between i.first; fault = first_so F xs i.between f i.fault }) ]
 
 -- ---- theories
-pub new_forgotten : (path : List ℕ) (ds : Decls) (c c' : StateTree) → IsNewTheoryBy AreSoundlyTyped path ds c c' → IsNewTheory path ds c c'
+pub new_forgotten : (path : List ℕ) (ds : SyntaxDeclarations) (c c' : StateTree) → IsNewTheoryBy AreSoundlyTyped path ds c c' → IsNewTheory path ds c c'
 new_forgotten path ds c c' h =
     let t = h.typed in
     record {
@@ -55,10 +55,10 @@ new_forgotten path ds c c' h =
       };
     }
 
-pub source_forgotten : (ts : List Theory) (c c' : StateTree) → AreTypedInBy AreSoundlyTyped ts c c' → AreTypedIn ts c c'
-source_forgotten ts c c' h = steps_so (λ (t : Theory). IsNewTheoryBy AreSoundlyTyped t.name.text t.decls) (λ (t : Theory). IsNewTheory t.name.text t.decls) (λ (t : Theory). new_forgotten t.name.text t.decls) ts c c' h
+pub source_forgotten : (ts : List SyntaxTheory) (c c' : StateTree) → AreTypedInBy AreSoundlyTyped ts c c' → AreTypedIn ts c c'
+source_forgotten ts c c' h = steps_so (λ (t : SyntaxTheory). IsNewTheoryBy AreSoundlyTyped t.name.text t.decls) (λ (t : SyntaxTheory). IsNewTheory t.name.text t.decls) (λ (t : SyntaxTheory). new_forgotten t.name.text t.decls) ts c c' h
 
-pub embedded_forgotten : (path : List ℕ) (t : Theory) (c c' : StateTree) → IsEmbeddedBy AreSoundlyTyped path t c c' → IsEmbedded path t c c'
+pub embedded_forgotten : (path : List ℕ) (t : SyntaxTheory) (c c' : StateTree) → IsEmbeddedBy AreSoundlyTyped path t c c' → IsEmbedded path t c c'
 embedded_forgotten path t c c' h = record { between = h.between; first = new_forgotten path t.decls c h.between h.first; second = h.second }
 
 pub file_forgotten : (f : List ℕ × File) (c c' : StateTree) → AreEmbeddedInBy AreSoundlyTyped f.0 (file_of f.1) c c' → AreEmbeddedIn f.0 (file_of f.1) c c'
@@ -71,7 +71,7 @@ library_forgotten s c h = record {
   typed = steps_so (λ (f : List ℕ × File). AreEmbeddedInBy AreSoundlyTyped f.0 (file_of f.1)) (λ (f : List ℕ × File). AreEmbeddedIn f.0 (file_of f.1)) file_forgotten h.files (nothing_known s) c h.typed;
 }
 
-pub forgotten : (s : List Tree) (source : List Theory) (all : TheoriesTree) → SoundTheoriesOf s source all → TheoriesOf s source all
+pub forgotten : (s : List Tree) (source : List SyntaxTheory) (all : TheoriesTree) → SoundTheoriesOf s source all → TheoriesOf s source all
 forgotten s source all h = record {
   before = h.before;
   library = library_forgotten s h.before h.library;

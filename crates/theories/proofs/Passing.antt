@@ -17,11 +17,11 @@ use Rattle.theory_states.specs.declared.states.Typed.{Typed}
 use Rattle.theory_states.specs.Meaning.{opened_at, state_at}
 use Rattle.sound_states.proofs.Keeping.{renamed_typed}
 use Rattle.theories.specs.Typing.{IsPassed}
-use Rattle.theories.specs.Right.{IsRight}
+use Rattle.theories.specs.Right.{IsStateRight}
 
 -- the open theory but for its number
-pub passed_right : (s : List Tree) (t : Typed) (o o' : Opened) (n : ℕ) → o' ≡ record o { count = n } → IsRight s t o → IsRight s t o'
-passed_right s t o o' n e h = subst (IsRight s t) (sym e) (record {
+pub passed_right : (s : List Tree) (t : Typed) (o o' : Opened) (n : ℕ) → o' ≡ record o { count = n } → IsStateRight s t o → IsStateRight s t o'
+passed_right s t o o' n e h = subst (IsStateRight s t) (sym e) (record {
   held = record { typed = h.held.typed; opened = record { visible = h.held.opened.visible; goals = h.held.opened.goals } };
   typed = renamed_typed (state_at s t o) (opened_at s o) n refl h.typed.scopes h.typed.moves h.typed;
   placed = h.placed;
@@ -33,16 +33,16 @@ passed_is s t o o' e = ap (state_at s t) e
 -- other scopes, moves and names of scopes
 pub scoped_right : (s : List Tree) (t : Typed) (o o' : Opened) → o' ≡ record o { within = o'.within; scope = o'.scope; moves = o'.moves; count = o'.count }
     → AreTypedScopes (of_signature (symbols_at s t.sig.symbols)) s o'.scope → AreTypedMoves (of_signature (symbols_at s t.sig.symbols)) s o'.moves.items
-    → IsRight s t o → IsRight s t o'
+    → IsStateRight s t o → IsStateRight s t o'
 scoped_right s t o o' e scopes moves h =
     let o1 : Opened = record o { within = o'.within; scope = o'.scope; moves = o'.moves; count = o'.count } in
-    subst (IsRight s t) (sym e) (record {
+    subst (IsStateRight s t) (sym e) (record {
       held = record { typed = h.held.typed; opened = record { visible = h.held.opened.visible; goals = h.held.opened.goals } };
       typed = renamed_typed (state_at s t o) (opened_at s o1) o'.count refl scopes moves h.typed;
       placed = h.placed;
     })
 
-module _ (s : List Tree) (t : Typed) (o : Opened) (h : IsRight s t o) where
+module _ (s : List Tree) (t : Typed) (o : Opened) (h : IsStateRight s t o) where
   pub opened_scopes : (x : List ℕ) → AreTypedScopes (of_signature (symbols_at s t.sig.symbols)) s (with_scope x true o.scope)
   opened_scopes x = opened_typed (of_signature (symbols_at s t.sig.symbols)) s x true o.scope h.typed.scopes
 

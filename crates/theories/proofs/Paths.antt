@@ -6,7 +6,7 @@ use Rattle.std.specs.Option.{is_some}
 use Rattle.tasks.specs.Vocabulary.{is_empty}
 use Rattle.elab_parts.specs.Entries.{builtin}
 use Rattle.theory_states.specs.States.{KnownTree, known_named}
-use Rattle.theories.specs.Files.{is_taken}
+use Rattle.theories.specs.Files.{is_path_taken}
 use Rattle.theories.specs.Right.{IsPath}
 
 or_left : (a b : Bool) → (a || b) ≡ false → a ≡ false
@@ -17,7 +17,7 @@ or_right : (a b : Bool) → (a || b) ≡ false → b ≡ false
 or_right true b h = absurd (cc)
 or_right false b h = h
 
-pub new_path : (path : List ℕ) (known : List KnownTree) → is_taken path known ≡ false → IsPath path
+pub new_path : (path : List ℕ) (known : List KnownTree) → is_path_taken path known ≡ false → IsPath path
 new_path path known h = record {
   named = or_left (is_empty path) (bytes_eq path builtin || is_some (known_named known path)) h;
   other = or_left (bytes_eq path builtin) (is_some (known_named known path)) (or_right (is_empty path) (bytes_eq path builtin || is_some (known_named known path)) h);

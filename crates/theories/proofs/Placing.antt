@@ -4,15 +4,15 @@ use Rattle.std.proofs.lemmas.List.Elements.{All-append}
 use Rattle.tasks.specs.Task.{DeclarationTree}
 use Rattle.tasks.specs.Vocabulary.{is_empty}
 use Rattle.syntax_why.specs.Lexeme.{Word}
-use Rattle.syntax_why.specs.Declarations.{Decl}
+use Rattle.syntax_why.specs.Declarations.{SyntaxDeclaration}
 use Rattle.syntax_why.specs.declared.declarations.PropKind.{PropKind}
 use Rattle.syntax_why.specs.declared.declarations.PropKind.TheVariants as kind
 use Rattle.elab_names.specs.Abstract.{Expression}
 use Rattle.cloned_states.specs.Placed.{IsPlacedEntry, ArePlaced}
 use Rattle.cloned_states.proofs.Outcomes.{outcome_placed}
 use Rattle.theory_states.specs.States.{StateTree, with_declaration, with_declarations}
-use Rattle.sound_states.specs.Typed.{setting}
-use Rattle.theory_declarations.specs.Declared.{with_proposed, proposition_in, known_by, named_by, IsDeclared}
+use Rattle.sound_states.specs.Typed.{state_setting}
+use Rattle.theory_declarations.specs.Declared.{with_proposed, proposition_in, known_by, with_named, IsDeclared}
 
 declarations_keep : (ds : List DeclarationTree) (c : StateTree) → (with_declarations ds c).symbols ≡ c.symbols
 declarations_keep [] c = refl
@@ -28,7 +28,7 @@ known_keeps : (p : Option (PropKind × Expression)) (rigid : List ℕ) (ds : Lis
 known_keeps None rigid ds c = declarations_keep ds c
 known_keeps (Some p) rigid ds c = proposed_keeps p.0 _ rigid ds c
 
-pub declared_placed : (d : Decl) (c c' : StateTree) → is_empty c.opened.path ≡ false → IsDeclared d c c' → ArePlaced c.symbols → ArePlaced c'.symbols
+pub declared_placed : (d : SyntaxDeclaration) (c c' : StateTree) → is_empty c.opened.path ≡ false → IsDeclared d c c' → ArePlaced c.symbols → ArePlaced c'.symbols
 declared_placed d c c' n h p =
-    let e : c'.symbols ≡ c.symbols ++ h.outcome.symbols = ap (λ (z : StateTree). z.symbols) h.known ∙ known_keeps (proposition_in d) h.outcome.rigid h.outcome.decls (named_by d h.outcome c'.trees c) in
-    subst ArePlaced (sym e) (All-append IsPlacedEntry c.symbols h.outcome.symbols p (outcome_placed (setting c) c'.trees n h.parts h.outcome h.is))
+    let e : c'.symbols ≡ c.symbols ++ h.outcome.symbols = ap (λ (z : StateTree). z.symbols) h.known ∙ known_keeps (proposition_in d) h.outcome.rigid h.outcome.decls (with_named d h.outcome c'.trees c) in
+    subst ArePlaced (sym e) (All-append IsPlacedEntry c.symbols h.outcome.symbols p (outcome_placed (state_setting c) c'.trees n h.parts h.outcome h.is))

@@ -10,5 +10,5 @@ abbrev pub int_entries : Ints
 int_entries = record { neg = 1; add = 2; sub = 3; mul = 4; lt = 5; le = 6; gt = 7; ge = 8 }
 
 -- an entry of it with so many integers as arguments
-abbrev pub int_entry : List ℕ → SymbolKind → ℕ → Option Tree → SymbolTree
-int_entry name kind count result = record { theory = codes "int.Int"; name = name; kind = kind; vars = 0; args = replicate count int_type; result = result }
+abbrev pub library_int_entry : List ℕ → SymbolKind → ℕ → Option Tree → SymbolTree
+library_int_entry name kind count result = record { theory = codes "int.Int"; name = name; kind = kind; vars = 0; args = replicate count int_type; result = result }

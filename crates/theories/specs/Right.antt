@@ -12,7 +12,7 @@ use Rattle.theory_states.specs.Meaning.{known_at, state_at, TypedHeld, StateHeld
 use Rattle.cloned_states.specs.Placed.{ArePlaced}
 use Rattle.sound_states.specs.Typed.{AreTypedTheories, IsTypedState}
 
-pub record IsRight (s : List Tree) (t : Typed) (o : Opened) : Type 0 where
+pub record IsStateRight (s : List Tree) (t : Typed) (o : Opened) : Type 0 where
   pub held : StateHeld s t o
   pub typed : IsTypedState (state_at s t o)
   pub placed : ArePlaced (symbols_at s t.sig.symbols)
@@ -21,7 +21,7 @@ pub record IsRight (s : List Tree) (t : Typed) (o : Opened) : Type 0 where
 abbrev pub between_at : List Tree → Typed → ℕ → StateTree
 between_at s t n = record { trees = s; symbols = symbols_at s t.sig.symbols; decls = declarations_at s t.decls; known = map (known_at s) t.known; opened = opened_empty []; number = n }
 
-pub record AreRight (s : List Tree) (t : Typed) : Type 0 where
+pub record AreTheoriesRight (s : List Tree) (t : Typed) : Type 0 where
   pub held : TypedHeld s t
   pub typed : AreTypedTheories (between_at s t 0)
   pub placed : ArePlaced (symbols_at s t.sig.symbols)

@@ -1,7 +1,7 @@
 -- The theories of a source, typed so that what is known stays sound: for the laws, which know of one declaration what its typing ensures.
 use Rattle.std.specs.Prelude.{List, All}
 use Rattle.trees.specs.Tree.{Tree}
-use Rattle.syntax_why.specs.Declarations.{Decl, Decls, Theory, write_decl}
+use Rattle.syntax_why.specs.Declarations.{SyntaxDeclaration, SyntaxDeclarations, SyntaxTheory, write_decl}
 use Rattle.valid_tasks.specs.Lists.{IsGroupWhole}
 use Rattle.valid_tasks.specs.Quoted.{IsQuotedLexeme}
 use Rattle.goal_tasks.specs.Theories.{TheoriesTree}
@@ -13,16 +13,16 @@ use Rattle.theories.specs.Typing.{IsTypedBy, AreTypedBy}
 use Rattle.theories.specs.Files.{TheoriesBy}
 
 -- a declaration that is no use, clone or scope: what is known then is typed, and sound where it was and the declaration is one of a text
-pub record IsSoundlyDeclared (d : Decl) (c c' : StateTree) : Type 0 where
+pub record IsSoundlyDeclared (d : SyntaxDeclaration) (c c' : StateTree) : Type 0 where
   pub declared : IsDeclared d c c'
   pub typed : IsTypedState c'
   pub sound : IsGroupWhole d → All IsQuotedLexeme (write_decl d) → IsSoundState c → IsSoundState c'
 
-abbrev pub IsSoundlyTyped : Decl → StateTree → StateTree → Type 0
+abbrev pub IsSoundlyTyped : SyntaxDeclaration → StateTree → StateTree → Type 0
 IsSoundlyTyped = IsTypedBy IsSoundlyDeclared
 
-abbrev pub AreSoundlyTyped : Decls → StateTree → StateTree → Type 0
+abbrev pub AreSoundlyTyped : SyntaxDeclarations → StateTree → StateTree → Type 0
 AreSoundlyTyped = AreTypedBy IsSoundlyDeclared
 
-abbrev pub SoundTheoriesOf : List Tree → List Theory → TheoriesTree → Type 0
+abbrev pub SoundTheoriesOf : List Tree → List SyntaxTheory → TheoriesTree → Type 0
 SoundTheoriesOf = TheoriesBy AreSoundlyTyped

@@ -5,16 +5,16 @@ use Rattle.names_space.specs.declared.Table.TheVariants.{Scopes}
 use Rattle.scope_moves.specs.declared.moves.Move.TheVariants.{Opens, Closes}
 use Rattle.scope_moves.specs.Moves.{left}
 use Rattle.syntax_why.specs.declared.names.Name.{Name}
-use Rattle.syntax_why.specs.Declarations.{Decl, Decls, use_decl, clone_decl, scope_decl, no_decls, more_decls}
+use Rattle.syntax_why.specs.Declarations.{SyntaxDeclaration, SyntaxDeclarations, use_decl, clone_decl, scope_decl, no_decls, more_decls}
 use Rattle.theory_states.specs.declared.fault.SourceFault.{SourceFault}
 use Rattle.theory_states.specs.declared.fault.SourceFault.TheVariants.{Duplicate}
 use Rattle.theory_states.specs.States.{StateTree}
-use Rattle.theory_states.specs.Uses.{IsUsed, IsUnknownTheory}
+use Rattle.theory_states.specs.Uses.{IsTheoryUsed, IsUnknownTheory}
 use Rattle.theory_declarations.specs.Declared.{IsDeclared, IsDeclaredFault}
 use Rattle.clone_theories.specs.Cloned.{IsCloned, IsCloneFault}
 
 -- one step after another, and a fault after a step
-pub record Then (R S : StateTree → StateTree → Type 0) (c c' : StateTree) : Type 0 where
+pub record ThenStep (R S : StateTree → StateTree → Type 0) (c c' : StateTree) : Type 0 where
   pub between : StateTree
   pub first : R c between
   pub second : S between c'
@@ -27,7 +27,7 @@ pub record FaultThen (R : StateTree → StateTree → Type 0) (Is : StateTree �
 -- a step for each of a list, in order, and the first fault of these
 abbrev pub Steps : {X : Type 0} → (X → StateTree → StateTree → Type 0) → List X → StateTree → StateTree → Type 0
 Steps R [] c c' = c ≡ c'
-Steps R (x ∷ xs) c c' = Then (R x) (Steps R xs) c c'
+Steps R (x ∷ xs) c c' = ThenStep (R x) (Steps R xs) c c'
 
 abbrev pub FirstFault : {X : Type 0} → (X → StateTree → StateTree → Type 0) → (X → StateTree → SourceFault → Type 0) → List X → StateTree → SourceFault → Type 0
 FirstFault R Is [] c f = ⊥
@@ -67,30 +67,30 @@ pub record IsTwice (n : Name) (c : StateTree) (f : SourceFault) : Type 0 where
 -- ---- declarations
 -- a declaration, typed so where it is no use, clone or scope; a use or a clone; or a scope with its declarations
 abbrev mutual
-  pub IsTypedBy : (Decl → StateTree → StateTree → Type 0) → Decl → StateTree → StateTree → Type 0
-  IsTypedBy D (use_decl a l p n) c c' = Then (IsUsed l p n) IsPassed c c'
-  IsTypedBy D (clone_decl a l p n es) c c' = Then (IsCloned l p n es) IsPassed c c'
-  IsTypedBy D (scope_decl a n ds) c c' = Then (IsOpened n) (Then (AreTypedBy D ds) (IsLeft c.opened.within)) c c'
-  IsTypedBy D d c c' = Then (D d) IsPassed c c'
+  pub IsTypedBy : (SyntaxDeclaration → StateTree → StateTree → Type 0) → SyntaxDeclaration → StateTree → StateTree → Type 0
+  IsTypedBy D (use_decl a l p n) c c' = ThenStep (IsTheoryUsed l p n) IsPassed c c'
+  IsTypedBy D (clone_decl a l p n es) c c' = ThenStep (IsCloned l p n es) IsPassed c c'
+  IsTypedBy D (scope_decl a n ds) c c' = ThenStep (IsOpened n) (ThenStep (AreTypedBy D ds) (IsLeft c.opened.within)) c c'
+  IsTypedBy D d c c' = ThenStep (D d) IsPassed c c'
 
-  pub AreTypedBy : (Decl → StateTree → StateTree → Type 0) → Decls → StateTree → StateTree → Type 0
+  pub AreTypedBy : (SyntaxDeclaration → StateTree → StateTree → Type 0) → SyntaxDeclarations → StateTree → StateTree → Type 0
   AreTypedBy D no_decls c c' = c ≡ c'
-  AreTypedBy D (more_decls d ds) c c' = Then (IsTypedBy D d) (AreTypedBy D ds) c c'
+  AreTypedBy D (more_decls d ds) c c' = ThenStep (IsTypedBy D d) (AreTypedBy D ds) c c'
 
-abbrev pub IsTyped : Decl → StateTree → StateTree → Type 0
-IsTyped = IsTypedBy IsDeclared
+abbrev pub IsDeclarationTyped : SyntaxDeclaration → StateTree → StateTree → Type 0
+IsDeclarationTyped = IsTypedBy IsDeclared
 
-abbrev pub AreTyped : Decls → StateTree → StateTree → Type 0
-AreTyped = AreTypedBy IsDeclared
+abbrev pub AreDeclarationsTyped : SyntaxDeclarations → StateTree → StateTree → Type 0
+AreDeclarationsTyped = AreTypedBy IsDeclared
 
 -- the fault of a declaration, and the first fault of declarations
 abbrev mutual
-  pub IsFault : Decl → StateTree → SourceFault → Type 0
-  IsFault (use_decl a l p n) c f = IsUnknownTheory p c.known c.number f
-  IsFault (clone_decl a l p n es) c f = IsCloneFault p es c f
-  IsFault (scope_decl a n ds) c f = IsTwice n c f ⊎ FaultThen (IsOpened n) (AreFaulty ds) c f
-  IsFault d c f = IsDeclaredFault d c f
+  pub IsDeclarationFault : SyntaxDeclaration → StateTree → SourceFault → Type 0
+  IsDeclarationFault (use_decl a l p n) c f = IsUnknownTheory p c.known c.number f
+  IsDeclarationFault (clone_decl a l p n es) c f = IsCloneFault p es c f
+  IsDeclarationFault (scope_decl a n ds) c f = IsTwice n c f ⊎ FaultThen (IsOpened n) (AreFaulty ds) c f
+  IsDeclarationFault d c f = IsDeclaredFault d c f
 
-  pub AreFaulty : Decls → StateTree → SourceFault → Type 0
+  pub AreFaulty : SyntaxDeclarations → StateTree → SourceFault → Type 0
   AreFaulty no_decls c f = ⊥
-  AreFaulty (more_decls d ds) c f = IsFault d c f ⊎ FaultThen (IsTyped d) (AreFaulty ds) c f
+  AreFaulty (more_decls d ds) c f = IsDeclarationFault d c f ⊎ FaultThen (IsDeclarationTyped d) (AreFaulty ds) c f

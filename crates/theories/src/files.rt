@@ -5,13 +5,13 @@ ghost use Rattle.trees.specs.Tree.{Tree};
 ghost use Rattle.trees.specs.Node.{Grows};
 ghost use Rattle.tasks.specs.Meaning.{symbols_at};
 ghost use Rattle.syntax_why.specs.SurfaceDeclarations.{theory_of as source_of, file_of};
-ghost use Rattle.goal_tasks.specs.Meaning.{theories_at, AreHeld, AreTuples};
+ghost use Rattle.goal_tasks.specs.Meaning.{theories_at, AllTheoriesHeld, AreTuples};
 ghost use Rattle.theory_states.specs.declared.states.Known.{Known as KnownCode};
 ghost use Rattle.theory_states.specs.Meaning.{known_at, state_at};
 ghost use Rattle.theory_states.specs.Uses.{OrMemory};
-ghost use Rattle.theories.specs.Files.{IsBegun, IsEnded, IsTypedTheoryBy, IsTheoryFault, is_taken, IsNewTheoryBy, IsNewFault, AreTypedInBy, AreFaultyIn, AreEmbeddedInBy, AreEmbeddedFaultyIn, AreEmbeddedBy, AreEmbeddedFaulty, nothing_known, IsLibraryTypedBy, IsLibraryFault, theories_of, TheoriesOf, IsFirstFault};
+ghost use Rattle.theories.specs.Files.{IsTheoryBegun, IsEnded, IsTypedTheoryBy, IsTheoryFault, is_path_taken, IsNewTheoryBy, IsNewFault, AreTypedInBy, AreFaultyIn, AreEmbeddedInBy, AreEmbeddedFaultyIn, AreEmbeddedBy, AreEmbeddedFaulty, nothing_known, IsLibraryTypedBy, IsLibraryFault, theories_of, TheoriesOf, IsFirstSourceFault};
 ghost use Rattle.theories.specs.Sound.{AreSoundlyTyped, SoundTheoriesOf};
-ghost use Rattle.theories.specs.Right.{IsRight, between_at, AreRight, IsPath};
+ghost use Rattle.theories.specs.Right.{IsStateRight, between_at, AreTheoriesRight, IsPath};
 
 use crate::ints::{are_ints, int_entries};
 use crate::typing::type_decls;
@@ -34,11 +34,11 @@ fn begin_theory(
     path: Text,
     count: usize,
 ) -> Result<Opened, AllocError>
-    requires right { AreRight store.now typed.now }
+    requires right { AreTheoriesRight store.now typed.now }
     requires path { IsPath path }
-    ensures ok { IfOk result (λ o. IsBegun path (between_at store.now typed.now count)
+    ensures ok { IfOk result (λ o. IsTheoryBegun path (between_at store.now typed.now count)
         (state_at store.now typed.now o)) }
-    ensures right { IfOk result (IsRight store.now typed.now) }
+    ensures right { IfOk result (IsStateRight store.now typed.now) }
 {
     let _ = store;
     let _ = typed;
@@ -55,10 +55,10 @@ fn end_theory(
     typed: &mut Typed,
     ended: Opened,
 ) -> Result<usize, AllocError>
-    requires { IsRight store.now typed.old ended }
+    requires { IsStateRight store.now typed.old ended }
     ensures ok { IfOk result (λ n. IsEnded (state_at store.now typed.old ended)
         (between_at store.now typed.new n)) }
-    ensures right { OnOk result (AreRight store.now typed.new) }
+    ensures right { OnOk result (AreTheoriesRight store.now typed.new) }
 {
     let _ = store;
     let Opened {
@@ -92,12 +92,12 @@ fn type_theory(
     theory: &TheoryTree,
     count: usize,
 ) -> Result<usize, SourceFault>
-    requires right { AreRight store.old typed.old }
+    requires right { AreTheoriesRight store.old typed.old }
     requires path { IsPath path }
     ensures ok { IfOk result (λ n. IsTypedTheoryBy AreSoundlyTyped path
         (source_of theory.now).decls (between_at store.old typed.old count)
         (between_at store.new typed.new n)) }
-    ensures right { OnOk result (AreRight store.new typed.new) }
+    ensures right { OnOk result (AreTheoriesRight store.new typed.new) }
     ensures err { IfErr result (OrMemory (IsTheoryFault path (source_of theory.now).decls
         (between_at store.old typed.old count))) }
     ensures grows { Grows store.old store.new }
@@ -109,7 +109,7 @@ fn type_theory(
 
 // Whether a path is that of a theory, or of what is built in.
 fn is_taken(store: &Store, typed: &Typed, path: &[u8]) -> bool
-    ensures { result ≡ is_taken path.now (map (known_at store.now) typed.now.known) }
+    ensures { result ≡ is_path_taken path.now (map (known_at store.now) typed.now.known) }
 {
     let _ = store;
     path.is_empty() || path == b"BuiltIn".as_slice() || typed.theory_place(path).is_some()
@@ -124,11 +124,11 @@ fn type_new(
     theory: &TheoryTree,
     count: usize,
 ) -> Result<usize, SourceFault>
-    requires { AreRight store.old typed.old }
+    requires { AreTheoriesRight store.old typed.old }
     ensures ok { IfOk result (λ n. IsNewTheoryBy AreSoundlyTyped path
         (source_of theory.now).decls (between_at store.old typed.old count)
         (between_at store.new typed.new n)) }
-    ensures right { OnOk result (AreRight store.new typed.new) }
+    ensures right { OnOk result (AreTheoriesRight store.new typed.new) }
     ensures err { IfErr result (OrMemory (IsNewFault path theory.now.name.at
         (source_of theory.now).decls (between_at store.old typed.old count))) }
     ensures grows { Grows store.old store.new }
@@ -150,11 +150,11 @@ fn type_embedded(
     path: &Text,
     theories: &[TheoryTree],
 ) -> Result<(), SourceFault>
-    requires { AreRight store.old typed.old }
+    requires { AreTheoriesRight store.old typed.old }
     ensures ok { OnOk result (AreEmbeddedInBy AreSoundlyTyped path.now
         (map source_of theories.now) (between_at store.old typed.old 0)
         (between_at store.new typed.new 0)) }
-    ensures right { OnOk result (AreRight store.new typed.new) }
+    ensures right { OnOk result (AreTheoriesRight store.new typed.new) }
     ensures err { IfErr result (OrMemory (AreEmbeddedFaultyIn path.now
         (map source_of theories.now) (between_at store.old typed.old 0))) }
     ensures grows { Grows store.old store.new }
@@ -168,7 +168,7 @@ fn type_embedded(
 // Nothing is known but `int`.
 fn begin_typed(alloc: Global) -> Result<Typed, AllocError>
     ensures ok { IfOk result (λ t. (s : List Tree) → between_at s t 0 ≡ nothing_known s) }
-    ensures right { IfOk result (λ t. (s : List Tree) → AreRight s t) }
+    ensures right { IfOk result (λ t. (s : List Tree) → AreTheoriesRight s t) }
 {
     let sig = begin(alloc)?;
     Ok(Typed {
@@ -185,10 +185,10 @@ fn type_files(
     typed: &mut Typed,
     files: &[(Text, File)],
 ) -> Result<(), SourceFault>
-    requires { AreRight store.old typed.old }
+    requires { AreTheoriesRight store.old typed.old }
     ensures ok { OnOk result (AreEmbeddedBy AreSoundlyTyped files.now
         (between_at store.old typed.old 0) (between_at store.new typed.new 0)) }
-    ensures right { OnOk result (AreRight store.new typed.new) }
+    ensures right { OnOk result (AreTheoriesRight store.new typed.new) }
     ensures err { IfErr result (OrMemory (AreEmbeddedFaulty files.now
         (between_at store.old typed.old 0))) }
     ensures grows { Grows store.old store.new }
@@ -202,10 +202,10 @@ fn type_files(
 // The theories of the library.
 fn type_library(alloc: Global, store: &mut Store, typed: &mut Typed) -> Result<(), SourceFault>
     requires nothing { between_at store.old typed.old 0 ≡ nothing_known store.old }
-    requires right { AreRight store.old typed.old }
+    requires right { AreTheoriesRight store.old typed.old }
     ensures ok { OnOk result (IsLibraryTypedBy AreSoundlyTyped store.old
         (between_at store.new typed.new 0)) }
-    ensures right { OnOk result (AreRight store.new typed.new) }
+    ensures right { OnOk result (AreTheoriesRight store.new typed.new) }
     ensures err { IfErr result (OrMemory (IsLibraryFault store.old)) }
     ensures grows { Grows store.old store.new }
 {
@@ -222,10 +222,10 @@ fn type_theories(
     typed: &mut Typed,
     theories: &[TheoryTree],
 ) -> Result<(), SourceFault>
-    requires { AreRight store.old typed.old }
+    requires { AreTheoriesRight store.old typed.old }
     ensures ok { OnOk result ((n : ℕ) × AreTypedInBy AreSoundlyTyped (map source_of theories.now)
         (between_at store.old typed.old 0) (between_at store.new typed.new n)) }
-    ensures right { OnOk result (AreRight store.new typed.new) }
+    ensures right { OnOk result (AreTheoriesRight store.new typed.new) }
     ensures err { IfErr result (OrMemory (AreFaultyIn (map source_of theories.now)
         (between_at store.old typed.old 0))) }
     ensures grows { Grows store.old store.new }
@@ -238,7 +238,7 @@ fn type_theories(
     Ok(())
 }
 
-// The theories without the names that they hand on.
+// The theories without the names that they pass on.
 fn theories_alone(alloc: Global, known: Vec<Known>) -> Result<Seq<Theory>, AllocError>
     ensures { IfOk result (λ list. list ≡ map (λ (k : KnownCode). k.theory) known.items) }
 {
@@ -257,10 +257,10 @@ fn collect(
     typed: Typed,
     embedded: usize,
 ) -> Result<Theories, AllocError>
-    requires { AreRight store.now typed }
+    requires { AreTheoriesRight store.now typed }
     ensures ok { IfOk result (λ all. (n : ℕ) → theories_at store.now all ≡ theories_of embedded
         (between_at store.now typed n)) }
-    ensures held { IfOk result (AreHeld store.now) }
+    ensures held { IfOk result (AllTheoriesHeld store.now) }
     ensures tuples { IfOk result (λ all. AreTuples (symbols_at store.now all.sig.value.symbols)) }
 {
     let _ = store;
@@ -286,9 +286,9 @@ pub fn type_file(alloc: Global, store: &mut Store, file: &File) -> Result<Theori
         (theories_at store.new all)) }
     ensures sound { IfOk result (λ all. SoundTheoriesOf store.old (file_of file.now)
         (theories_at store.new all)) }
-    ensures held { IfOk result (AreHeld store.new) }
+    ensures held { IfOk result (AllTheoriesHeld store.new) }
     ensures tuples { IfOk result (λ all. AreTuples (symbols_at store.new all.sig.value.symbols)) }
-    ensures err { IfErr result (OrMemory (IsFirstFault store.old (file_of file.now))) }
+    ensures err { IfErr result (OrMemory (IsFirstSourceFault store.old (file_of file.now))) }
     ensures grows { Grows store.old store.new }
 {
     let mut typed = begin_typed(alloc)?;

@@ -6,7 +6,7 @@ ghost use Rattle.trees.specs.Node.{tree_at};
 ghost use Rattle.trees.specs.Sorts.{int_type};
 ghost use Rattle.tasks.specs.Meaning.{symbol_at, symbols_at, trees_at};
 ghost use Rattle.tasks.specs.Valid.{int_function, int_predicate, AreInts};
-ghost use Rattle.theories.specs.Ints.{int_entries, int_entry};
+ghost use Rattle.theories.specs.Ints.{int_entries, library_int_entry};
 
 use tasks::{SymbolInfo, SymbolKind};
 use term_store::Store;
@@ -31,7 +31,7 @@ fn is_int_entry(
     count: usize,
 ) -> bool
     ensures { IsTrue result → symbol_at store.now info.now
-        ≡ int_entry name.now kind count (option_map (tree_at store.now) info.now.result) }
+        ≡ library_int_entry name.now kind count (option_map (tree_at store.now) info.now.result) }
 {
     info.theory.as_slice() == b"int.Int".as_slice()
         && info.name.as_slice() == name

@@ -5,12 +5,12 @@ ghost use Rattle.trees.specs.Node.{Grows};
 ghost use Rattle.syntax_why.specs.SurfaceDeclarations.{decl_of, decls, element_of};
 ghost use Rattle.elab_terms.specs.Outcomes.{IsLogical};
 ghost use Rattle.theory_states.specs.Meaning.{known_at, state_at};
-ghost use Rattle.theory_states.specs.Uses.{OrMemory, IsUsed, IsUnknownTheory};
+ghost use Rattle.theory_states.specs.Uses.{OrMemory, IsTheoryUsed, IsUnknownTheory};
 ghost use Rattle.theory_declarations.specs.Declared.{IsDeclaredFault};
 ghost use Rattle.clone_theories.specs.Cloned.{IsCloned, IsCloneFault};
-ghost use Rattle.theories.specs.Typing.{Then, IsPassed, IsOpened, IsTwice, IsLeft, IsFault, AreFaulty};
+ghost use Rattle.theories.specs.Typing.{ThenStep, IsPassed, IsOpened, IsTwice, IsLeft, IsDeclarationFault, AreFaulty};
 ghost use Rattle.theories.specs.Sound.{IsSoundlyDeclared, IsSoundlyTyped, AreSoundlyTyped};
-ghost use Rattle.theories.specs.Right.{IsRight};
+ghost use Rattle.theories.specs.Right.{IsStateRight};
 
 use clone_theories::clone_theory;
 use elab_terms::is_logical;
@@ -43,11 +43,11 @@ fn type_logical(
     open: &mut Opened,
     decl: &DeclTree,
 ) -> Result<(), SourceFault>
-    requires right { IsRight store.old typed.old open.old }
+    requires right { IsStateRight store.old typed.old open.old }
     requires logical { IsLogical (decl_of decl.now) }
-    ensures ok { OnOk result (Then (IsSoundlyDeclared (decl_of decl.now)) IsPassed
+    ensures ok { OnOk result (ThenStep (IsSoundlyDeclared (decl_of decl.now)) IsPassed
         (state_at store.old typed.old open.old) (state_at store.new typed.new open.new)) }
-    ensures right { OnOk result (IsRight store.new typed.new open.new) }
+    ensures right { OnOk result (IsStateRight store.new typed.new open.new) }
     ensures err { IfErr result (OrMemory (IsDeclaredFault (decl_of decl.now)
         (state_at store.old typed.old open.old))) }
     ensures grows { Grows store.old store.new }
@@ -67,10 +67,10 @@ fn type_use(
     path: &Path,
     alias: &Option<Name>,
 ) -> Result<(), SourceFault>
-    requires { IsRight store.now typed.now open.old }
-    ensures ok { OnOk result (Then (IsUsed link path.now alias.now) IsPassed
+    requires { IsStateRight store.now typed.now open.old }
+    ensures ok { OnOk result (ThenStep (IsTheoryUsed link path.now alias.now) IsPassed
         (state_at store.now typed.now open.old) (state_at store.now typed.now open.new)) }
-    ensures right { OnOk result (IsRight store.now typed.now open.new) }
+    ensures right { OnOk result (IsStateRight store.now typed.now open.new) }
     ensures err { IfErr result (OrMemory (IsUnknownTheory path.now
         (map (known_at store.now) typed.now.known) open.old.count)) }
 {
@@ -91,11 +91,12 @@ fn type_clone(
     alias: &Option<Name>,
     elements: &[ElemTree],
 ) -> Result<(), SourceFault>
-    requires { IsRight store.old typed.old open.old }
-    ensures ok { OnOk result (Then (IsCloned link path.now alias.now (map element_of elements.now))
+    requires { IsStateRight store.old typed.old open.old }
+    ensures ok { OnOk result (ThenStep (IsCloned link path.now alias.now
+        (map element_of elements.now))
         IsPassed (state_at store.old typed.old open.old)
         (state_at store.new typed.new open.new)) }
-    ensures right { OnOk result (IsRight store.new typed.new open.new) }
+    ensures right { OnOk result (IsStateRight store.new typed.new open.new) }
     ensures err { IfErr result (OrMemory (IsCloneFault path.now
         (map element_of elements.now) (state_at store.old typed.old open.old))) }
     ensures grows { Grows store.old store.new }
@@ -112,10 +113,10 @@ fn enter_scope(
     open: &mut Opened,
     name: &Name,
 ) -> Result<(), SourceFault>
-    requires { IsRight store.now typed.now open.old }
+    requires { IsStateRight store.now typed.now open.old }
     ensures ok { OnOk result (IsOpened name.now (state_at store.now typed.now open.old)
         (state_at store.now typed.now open.new)) }
-    ensures right { OnOk result (IsRight store.now typed.now open.new) }
+    ensures right { OnOk result (IsStateRight store.now typed.now open.new) }
     ensures err { IfErr result (OrMemory (IsTwice name.now
         (state_at store.now typed.now open.old))) }
 {
@@ -145,10 +146,10 @@ fn leave_scope(
     open: &mut Opened,
     outer: Vec<u8>,
 ) -> Result<(), AllocError>
-    requires { IsRight store.now typed.now open.old }
+    requires { IsStateRight store.now typed.now open.old }
     ensures ok { OnOk result (IsLeft outer.items (state_at store.now typed.now open.old)
         (state_at store.now typed.now open.new)) }
-    ensures right { OnOk result (IsRight store.now typed.now open.new) }
+    ensures right { OnOk result (IsStateRight store.now typed.now open.new) }
 {
     let _ = store;
     let _ = typed;
@@ -167,11 +168,11 @@ fn type_decl(
     open: &mut Opened,
     decl: &DeclTree,
 ) -> Result<(), SourceFault>
-    requires { IsRight store.old typed.old open.old }
+    requires { IsStateRight store.old typed.old open.old }
     ensures ok { OnOk result (IsSoundlyTyped (decl_of decl.now)
         (state_at store.old typed.old open.old) (state_at store.new typed.new open.new)) }
-    ensures right { OnOk result (IsRight store.new typed.new open.new) }
-    ensures err { IfErr result (OrMemory (IsFault (decl_of decl.now)
+    ensures right { OnOk result (IsStateRight store.new typed.new open.new) }
+    ensures err { IfErr result (OrMemory (IsDeclarationFault (decl_of decl.now)
         (state_at store.old typed.old open.old))) }
     ensures grows { Grows store.old store.new }
 {
@@ -207,10 +208,10 @@ pub(crate) fn type_decls(
     open: &mut Opened,
     within: &[DeclTree],
 ) -> Result<(), SourceFault>
-    requires { IsRight store.old typed.old open.old }
+    requires { IsStateRight store.old typed.old open.old }
     ensures ok { OnOk result (AreSoundlyTyped (decls (map decl_of within.now))
         (state_at store.old typed.old open.old) (state_at store.new typed.new open.new)) }
-    ensures right { OnOk result (IsRight store.new typed.new open.new) }
+    ensures right { OnOk result (IsStateRight store.new typed.new open.new) }
     ensures err { IfErr result (OrMemory (AreFaulty (decls (map decl_of within.now))
         (state_at store.old typed.old open.old))) }
     ensures grows { Grows store.old store.new }

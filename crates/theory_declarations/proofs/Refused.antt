@@ -14,7 +14,7 @@ use Rattle.theory_states.specs.declared.fault.SourceFault.{SourceFault}
 use Rattle.theory_states.specs.declared.fault.SourceFault.TheVariants.{Memory}
 use Rattle.theory_states.specs.States.{StateTree}
 use Rattle.theory_states.specs.Uses.{OrMemory}
-use Rattle.sound_states.specs.Typed.{setting}
+use Rattle.sound_states.specs.Typed.{state_setting}
 use Rattle.theory_declarations.specs.Declared.{IsDeclaredFault, of_elaboration}
 use Rattle.theory_declarations.specs.Steps.{IsRefusedBy}
 
@@ -23,7 +23,7 @@ or_memory Is Memory h = tt
 or_memory Is f h = h
 
 -- a declaration that is no use, clone or scope has parts
-pub logical_parts : (d : source.Decl) → IsLogical d → (x : Declaration) × (declaration d ≡ Some x)
+pub logical_parts : (d : source.SyntaxDeclaration) → IsLogical d → (x : Declaration) × (declaration d ≡ Some x)
 logical_parts (source.type_decl a n vs None) l = (_, refl)
 logical_parts (source.type_decl a n vs (Some f)) l = (_, refl)
 logical_parts (source.algebraic_decl a ts) l = (_, refl)
@@ -40,13 +40,13 @@ pub some_weaker : {X : Type 0} (o : Option X) (P Q : X → Type 0) → ((x : X) 
 some_weaker None P Q f h = tt
 some_weaker (Some x) P Q f h = f x h
 
-pub told : (P : Declaration → Type 0) (d : source.Decl) (x : Declaration) → declaration d ≡ Some x → IfSome (declaration d) P → P x
+pub told : (P : Declaration → Type 0) (d : source.SyntaxDeclaration) (x : Declaration) → declaration d ≡ Some x → IfSome (declaration d) P → P x
 told P d x q h = let Q : Option Declaration → Type 0 = λ o. IfSome o P in subst Q q h
 
-pub refused_by : (d : source.Decl) (c : StateTree) (f : SourceFault) → IsLogical d → IfSome (declaration d) (λ x. IsRefusedBy (setting c) x f) → OrMemory (IsDeclaredFault d c) f
+pub refused_by : (d : source.SyntaxDeclaration) (c : StateTree) (f : SourceFault) → IsLogical d → IfSome (declaration d) (λ x. IsRefusedBy (state_setting c) x f) → OrMemory (IsDeclaredFault d c) f
 refused_by d c f l h =
     let p = logical_parts d l in
-    let r = told (λ x. IsRefusedBy (setting c) x f) d p.0 p.1 h in
+    let r = told (λ x. IsRefusedBy (state_setting c) x f) d p.0 p.1 h in
     or_memory (IsDeclaredFault d c) f (of_elaboration p.0 r.0 p.1 r.1 r.2)
 
 -- the matches of what is elaborated can be tested

@@ -1,4 +1,4 @@
--- What is known stays sound as a declaration becomes known: it is valid where it stands, and so is a goal.
+-- What is known stays sound as a declaration becomes known: it is valid where it is, and so is a goal.
 use Rattle.std.proofs.Common.{◌≡◌, ℕ, ◌+◌, ◌≤◌, zero, suc, List, [], ◌∷◌, ◌++◌, map, take, length, get_or, slice_get, All, Option, Some, None, refl, sym, ap, subst, ◌∙◌, arith, append-nil, length-append}
 use Rattle.std.specs.List.{range_with_len}
 use Rattle.std.proofs.lemmas.List.Elements.{All-nil, All-cons}
@@ -15,13 +15,13 @@ use Rattle.scope_moves.specs.declared.moves.Move.{Move}
 use Rattle.syntax_why.specs.Lexeme.{Word}
 use Rattle.syntax_why.specs.declared.names.At.{At}
 use Rattle.syntax_why.specs.Forms as surface
-use Rattle.syntax_why.specs.Trees.{Tree as SourceTree}
+use Rattle.syntax_why.specs.Trees.{SyntaxTree as SourceTree}
 use Rattle.syntax_why.specs.Declarations as source
 use Rattle.syntax_why.specs.declared.declarations.PropKind.{PropKind}
 use Rattle.syntax_why.specs.declared.declarations.PropKind.TheVariants as kind
 use Rattle.elab_names.specs.Abstract.{Expression, expression}
 use Rattle.elab_parts.specs.declared.made.Elaborated.{Elaborated}
-use Rattle.elab_parts.specs.Declarations.{Called, Member, Inductive, Declaration, abstract_type, alias, algebraic, members, inductive, proposition, declaration, symbol}
+use Rattle.elab_parts.specs.Declarations.{TokenName, GroupMember, InductivePredicate, Declaration, abstract_type, alias, algebraic, member_group, inductive, proposition_declaration, declaration, symbol}
 use Rattle.elab_parts.specs.Outcomes.{Setting, Outcome, full_name}
 use Rattle.elab_members.specs.Members.{SignatureTree}
 use Rattle.elab_groups.specs.Groups.{group_decls}
@@ -45,12 +45,12 @@ use Rattle.theory_states.specs.declared.states.Opened.{Opened}
 use Rattle.theory_states.specs.declared.states.Typed.{Typed}
 use Rattle.theory_states.specs.States.{StateTree, visible_now}
 use Rattle.theory_states.specs.Meaning.{state_at}
-use Rattle.sound_states.specs.Typed.{setting}
+use Rattle.sound_states.specs.Typed.{state_setting}
 use Rattle.sound_states.specs.Sound.{IsSoundAmong, IsSoundAxiom, IsSoundState, IsAfter, IsSoundAddition}
 use Rattle.sound_states.proofs.Places.{places_count}
 use Rattle.sound_states.proofs.Further.{state_further}
-use Rattle.theory_declarations.specs.Declared.{to_prove, proposition_in, known_by, named_by}
-use Rattle.theory_declarations.specs.Steps.{IsNext, AreQuoted}
+use Rattle.theory_declarations.specs.Declared.{to_prove, proposition_in, known_by, with_named}
+use Rattle.theory_declarations.specs.Steps.{IsNextState, AreQuoted}
 use Rattle.theory_declarations.proofs.Typed.{declared_typed, same_part}
 use Rattle.theory_declarations.proofs.Named.{bodies_pass}
 
@@ -89,7 +89,7 @@ axiom_last xs x vs q h = record {
 }
 
 -- ---- a source's declaration and its proposition
-no_goal : (d : source.Decl) → proposition_in d ≡ None → IsNoGoal d
+no_goal : (d : source.SyntaxDeclaration) → proposition_in d ≡ None → IsNoGoal d
 no_goal (source.prop_decl a k c e) q = absurd (cc)
 no_goal (source.type_decl a n vs f) q = tt
 no_goal (source.algebraic_decl a ts) q = tt
@@ -106,15 +106,15 @@ IsNotGoal kind.Goal = ⊥
 IsNotGoal _ = Unit {0}
 
 -- what a proposition is called, with what is asked of one that is no goal
-abbrev IsSaid : source.Decl → PropKind → Expression → Type 0
-IsSaid d k x = (y : Called) × (declaration d ≡ Some (proposition k y x)) × (IsNotGoal k → IsNoGoal d)
+abbrev IsSaid : source.SyntaxDeclaration → PropKind → Expression → Type 0
+IsSaid d k x = (y : TokenName) × (declaration d ≡ Some (proposition_declaration k y x)) × (IsNotGoal k → IsNoGoal d)
 
 kind_said : (a : At) (c : surface.Called) (e : SourceTree) (k : PropKind) → IsNotGoal k → IsNoGoal (source.prop_decl a k c e)
 kind_said a c e kind.Axiom n = tt
 kind_said a c e kind.Lemma n = tt
 kind_said a c e kind.Goal n = absurd n
 
-said : (d : source.Decl) (k : PropKind) (x : Expression) → proposition_in d ≡ Some (k, x) → IsSaid d k x
+said : (d : source.SyntaxDeclaration) (k : PropKind) (x : Expression) → proposition_in d ≡ Some (k, x) → IsSaid d k x
 said (source.prop_decl a j c e) k x q =
     let same : let p : PropKind × Expression = (j, expression e) in p ≡ (k, x) = cc in
     let kinds : j ≡ k = ap (λ (p : PropKind × Expression). p.0) same in
@@ -131,12 +131,12 @@ said (source.clone_decl a i p n es) k x q = absurd (cc)
 said (source.scope_decl a n ds) k x q = absurd (cc)
 
 -- ---- at most one declaration is made
-group_single : (theory within : Word) (ms : List Member) (k : ℕ) (gs : List SignatureTree) (bs : List Tree) → length (group_decls theory within ms k gs bs) ≤ 1
+group_single : (theory within : Word) (ms : List GroupMember) (k : ℕ) (gs : List SignatureTree) (bs : List Tree) → length (group_decls theory within ms k gs bs) ≤ 1
 group_single theory within [] k gs bs = omega arith
 group_single theory within (m ∷ ms) k [] bs = omega arith
 group_single theory within (m ∷ ms) k (g ∷ gs) bs = omega arith
 
-inductive_single : (theory within : Word) (ds : List Inductive) (k : ℕ) (bs : List Tree) → length (inductive_decls theory within ds k bs) ≤ 1
+inductive_single : (theory within : Word) (ds : List InductivePredicate) (k : ℕ) (bs : List Tree) → length (inductive_decls theory within ds k bs) ≤ 1
 inductive_single theory within [] k bs = omega arith
 inductive_single theory within (d ∷ ds) k bs = omega arith
 
@@ -144,18 +144,18 @@ single_of : (c : Setting) (s : List Tree) (x : Declaration) (o : Outcome) → Is
 single_of c s (abstract_type x vs) o h = let q = ap (λ (i : Outcome). length i.decls) h in omega (arith, q)
 single_of c s (alias x vs f) o h = let q = ap length h.decls in omega (arith, q)
 single_of c s (algebraic ts) o h = let q = ap (λ (i : Outcome). length i.decls) h in omega (arith, q)
-single_of c s (members ms) o h = rw h.decls (group_single c.theory c.within ms _ _ h.bodies)
+single_of c s (member_group ms) o h = rw h.decls (group_single c.theory c.within ms _ _ h.bodies)
 single_of c s (inductive ds) o h = rw h.decls (inductive_single c.theory c.within ds _ h.clauses)
-single_of c s (proposition k x e) o h = let q = ap length h.decls in omega (arith, q)
+single_of c s (proposition_declaration k x e) o h = let q = ap length h.decls in omega (arith, q)
 
 -- ---- a state after a declaration
-module _ (s : List Tree) (t : Typed) (o : Opened) (d : source.Decl) (s' : List Tree) (t' : Typed) (o1 : Opened) (it : Elaborated) (g : Grows s s') (n : IsNext s t o d s' t' o1 it) (sorted : (id : TermId) → Holds s' id → WellSorted (tree_at s' id)) (s3 : List Tree) (later : Grows s' s3)
+module _ (s : List Tree) (t : Typed) (o : Opened) (d : source.SyntaxDeclaration) (s' : List Tree) (t' : Typed) (o1 : Opened) (it : Elaborated) (g : Grows s s') (n : IsNextState s t o d s' t' o1 it) (sorted : (id : TermId) → Holds s' id → WellSorted (tree_at s' id)) (s3 : List Tree) (later : Grows s' s3)
     (whole : IsGroupWhole d) (quoted : AreQuoted d) (sound : IsSoundState (state_at s t o)) where
   abbrev c : StateTree
   c = state_at s t o
 
   abbrev st : Setting
-  st = setting c
+  st = state_setting c
 
   abbrev ds : List DeclarationTree
   ds = visible_now c
@@ -173,7 +173,7 @@ module _ (s : List Tree) (t : Typed) (o : Opened) (d : source.Decl) (s' : List T
   ms = moves_declared out.scope d
 
   abbrev N : StateTree
-  N = named_by d out s3 c
+  N = with_named d out s3 c
 
   typed : IsTypedSetting (after c.symbols [] ds) st
   typed = record { theory = sound.opened.named; source = sound.opened.source; signature = sound.opened.theory.signature; scopes = sound.opened.scopes }
@@ -246,11 +246,11 @@ module _ (s : List Tree) (t : Typed) (o : Opened) (d : source.Decl) (s' : List T
   plain_sound (x ∷ y ∷ xs) q l p = absurd (omega arith)
 
   -- ---- a proposition
-  module _ (k : PropKind) (x : Expression) (y : Called) (r : declaration d ≡ Some (proposition k y x)) where
-    same : n.parts ≡ proposition k y x
-    same = let q : Some n.parts ≡ Some (proposition k y x) = sym n.of ∙ r in cc
+  module _ (k : PropKind) (x : Expression) (y : TokenName) (r : declaration d ≡ Some (proposition_declaration k y x)) where
+    same : n.parts ≡ proposition_declaration k y x
+    same = let q : Some n.parts ≡ Some (proposition_declaration k y x) = sym n.of ∙ r in cc
 
-    abbrev E : IsElaborated st (proposition k y x) t.sig s' t'.sig o1.scope it
+    abbrev E : IsElaborated st (proposition_declaration k y x) t.sig s' t'.sig o1.scope it
     E = record {
       outcome = out;
       is = subst (λ (z : Declaration). IsOutcome st s' z out) same n.elaborated.is;
@@ -294,7 +294,7 @@ module _ (s : List Tree) (t : Typed) (o : Opened) (d : source.Decl) (s' : List T
   own_one : (x : DeclarationTree) → out.decls ≡ x ∷ [] → All (λ (z : DeclarationTree). z.theory ≡ c.opened.path) (x ∷ [])
   own_one x q = subst (All (λ (z : DeclarationTree). z.theory ≡ c.opened.path)) q of_theory
 
-  axiom_sound : (x : Expression) (y : Called) (r : declaration d ≡ Some (proposition kind.Axiom y x)) → IsNoGoal d → IsSoundState (known_by (Some (kind.Axiom, x)) out.rigid out.decls N)
+  axiom_sound : (x : Expression) (y : TokenName) (r : declaration d ≡ Some (proposition_declaration kind.Axiom y x)) → IsNoGoal d → IsSoundState (known_by (Some (kind.Axiom, x)) out.rigid out.decls N)
   axiom_sound x y r p =
       let d1 = one kind.Axiom x y r in
       let q : out.decls ≡ d1 ∷ [] = are kind.Axiom x y r in
@@ -306,7 +306,7 @@ module _ (s : List Tree) (t : Typed) (o : Opened) (d : source.Decl) (s' : List T
       (All-cons (IsSoundAxiom (c.decls ++ d1 ∷ [])) ax [] assumed (All-nil (IsSoundAxiom (c.decls ++ d1 ∷ [])))) (sym (append-nil c.opened.goals)) h in
       subst (λ (xs : List DeclarationTree). IsSoundState (known_by (Some (kind.Axiom, x)) out.rigid xs N)) (sym q) z
 
-  lemma_sound : (x : Expression) (y : Called) (r : declaration d ≡ Some (proposition kind.Lemma y x)) → IsNoGoal d → IsSoundState (known_by (Some (kind.Lemma, x)) out.rigid out.decls N)
+  lemma_sound : (x : Expression) (y : TokenName) (r : declaration d ≡ Some (proposition_declaration kind.Lemma y x)) → IsNoGoal d → IsSoundState (known_by (Some (kind.Lemma, x)) out.rigid out.decls N)
   lemma_sound x y r p =
       let d1 = one kind.Lemma x y r in
       let q : out.decls ≡ d1 ∷ [] = are kind.Lemma x y r in
@@ -317,7 +317,7 @@ module _ (s : List Tree) (t : Typed) (o : Opened) (d : source.Decl) (s' : List T
       let z = plain (c.decls ++ d1 ∷ []) (c.opened.visible ++ length c.decls ∷ []) (c.opened.goals ++ own' ∷ []) (d1 ∷ []) (own' ∷ []) refl (own_one d1 q) refl refl h in
       subst (λ (xs : List DeclarationTree). IsSoundState (known_by (Some (kind.Lemma, x)) out.rigid xs N)) (sym q) z
 
-  goal_sound : (x : Expression) (y : Called) (r : declaration d ≡ Some (proposition kind.Goal y x)) → IsSoundState (known_by (Some (kind.Goal, x)) out.rigid out.decls N)
+  goal_sound : (x : Expression) (y : TokenName) (r : declaration d ≡ Some (proposition_declaration kind.Goal y x)) → IsSoundState (known_by (Some (kind.Goal, x)) out.rigid out.decls N)
   goal_sound x y r =
       let e = n.elaborated in
       let d1 = one kind.Goal x y r in

@@ -5,7 +5,7 @@ use Rattle.trees.specs.Tree.{Tree}
 use Rattle.trees.specs.Node.{Grows}
 use Rattle.tasks.specs.Task.{SymbolTree, DeclarationTree}
 use Rattle.tasks.specs.Vocabulary.{Vocabulary, of_signature}
-use Rattle.names_space.specs.Names.{Names, find_name, number_of}
+use Rattle.names_space.specs.Names.{ScopeNames, find_name, number_of}
 use Rattle.names_space.specs.declared.Table.{Table}
 use Rattle.names_space.specs.declared.Table.TheVariants.{Types, Symbols, Propositions, Scopes}
 use Rattle.names_space.specs.declared.TypeName.{TypeName}
@@ -16,9 +16,9 @@ use Rattle.syntax_why.specs.declared.declarations.PropKind.{PropKind}
 use Rattle.syntax_why.specs.declared.declarations.PropKind.TheVariants as kind
 use Rattle.scope_moves.specs.declared.moves.Move.TheVariants.{Brings}
 use Rattle.elab_names.specs.Abstract.{Expression}
-use Rattle.elab_parts.specs.Declarations.{Declaration, declaration, Made, makes, binds, made_by}
+use Rattle.elab_parts.specs.Declarations.{Declaration, declaration, Made, makes, binds_names, made_names}
 use Rattle.elab_terms.specs.Outcomes.{proposition_seen}
-use Rattle.valid_tasks.specs.Scopes.{IsPart, IsTypedThing, AreTypedScopes}
+use Rattle.valid_tasks.specs.Scopes.{IsSubvocabulary, IsTypedThing, AreTypedScopes}
 use Rattle.valid_tasks.proofs.Extended.{further, scopes_part}
 use Rattle.valid_tasks.proofs.Scopes.{found_thing}
 use Rattle.valid_tasks.specs.Valid.{IsTypedSetting}
@@ -28,11 +28,11 @@ use Rattle.sound_states.proofs.Scopes.{moves_more}
 use Rattle.declared_names.specs.Made.{thing_named, brought_as, moves_made, moves_of, moves_declared}
 use Rattle.theory_states.specs.declared.states.AxiomAt.{AxiomAt}
 use Rattle.theory_states.specs.States.{StateTree, with_declaration, with_declarations}
-use Rattle.sound_states.specs.Typed.{setting, IsTypedState}
-use Rattle.theory_declarations.specs.Declared.{with_goal, with_proposition, with_proposed, known_by}
+use Rattle.sound_states.specs.Typed.{state_setting, IsTypedState}
+use Rattle.theory_declarations.specs.Declared.{with_declared_goal, with_proposition, with_proposed, known_by}
 
 -- ---- moves of names of a typed scope
-module _ (v : Vocabulary) (s : List Tree) (names : Names) (h : AreTypedScopes v s names) where
+module _ (v : Vocabulary) (s : List Tree) (names : ScopeNames) (h : AreTypedScopes v s names) where
   number_typed : (table : Table) (o : Option TypeName) → ((t : TypeName) → IsTypedThing v s table t → IsTypedThing v s table (stands.Entry (number_of t))) → IfSome o (IsTypedThing v s table) → IfSome (option_map stands.Entry (option_map number_of o)) (IsTypedThing v s table)
   number_typed table None f x = tt
   number_typed table (Some t) f x = f t x
@@ -50,17 +50,17 @@ module _ (v : Vocabulary) (s : List Tree) (names : Names) (h : AreTypedScopes v 
   made_typed : (ms : List Made) → AreTypedMoves v s (moves_made names ms)
   made_typed [] = All-nil (IsTypedMove v s)
   made_typed (makes table c ∷ ms) = All-append (IsTypedMove v s) (brought_as table c.name (thing_named names table c.name)) (moves_made names ms) (brought_typed table c.name (thing_named names table c.name) (thing_typed table c.name)) (made_typed ms)
-  made_typed (binds cs ∷ ms) = made_typed ms
+  made_typed (binds_names cs ∷ ms) = made_typed ms
 
   of_typed : (o : Option Declaration) → AreTypedMoves v s (moves_of names o)
   of_typed None = All-nil (IsTypedMove v s)
-  of_typed (Some d) = made_typed (made_by d)
+  of_typed (Some d) = made_typed (made_names d)
 
-  pub declared_typed : (d : source.Decl) → AreTypedMoves v s (moves_declared names d)
+  pub declared_typed : (d : source.SyntaxDeclaration) → AreTypedMoves v s (moves_declared names d)
   declared_typed d = of_typed (declaration d)
 
 -- ---- more entries
-pub signature_part : (xs ys : List SymbolTree) → IsPart (of_signature xs) (of_signature (xs ++ ys))
+pub signature_part : (xs ys : List SymbolTree) → IsSubvocabulary (of_signature xs) (of_signature (xs ++ ys))
 signature_part xs ys = record {
   entries = λ k e q. further xs ys k e q;
   rigid = λ k e q h. let z = further xs ys k e q in rw z (rw q at h);
@@ -69,10 +69,10 @@ signature_part xs ys = record {
 }
 
 -- ---- states
-pub setting_typed : (c : StateTree) → IsTypedState c → IsTypedSetting (of_signature c.symbols) (setting c)
+pub setting_typed : (c : StateTree) → IsTypedState c → IsTypedSetting (of_signature c.symbols) (state_setting c)
 setting_typed c h = record { theory = h.theory; source = h.source; signature = h.theories.signature; scopes = h.scopes }
 
-pub same_part : (v : Vocabulary) → IsPart v v
+pub same_part : (v : Vocabulary) → IsSubvocabulary v v
 same_part v = record { entries = λ k e q. q; rigid = λ k e q h. h; usable = λ k e q h. h; matched = λ k e q h. h }
 
 -- over a store that has grown
@@ -109,14 +109,14 @@ declarations_typed : (ds : List DeclarationTree) (c : StateTree) → IsTypedStat
 declarations_typed [] c h = h
 declarations_typed (d ∷ ds) c h = declarations_typed ds (with_declaration d c) (declaration_typed d c h)
 
-goal_typed : (k : PropKind) (rigid : List ℕ) (d : DeclarationTree) (c : StateTree) → IsTypedState c → IsTypedState (with_goal k rigid d c)
-goal_typed k rigid d c h = let e = with_goal k rigid d c in others_typed c e.decls e.opened.visible e.opened.axioms e.opened.goals h
+goal_typed : (k : PropKind) (rigid : List ℕ) (d : DeclarationTree) (c : StateTree) → IsTypedState c → IsTypedState (with_declared_goal k rigid d c)
+goal_typed k rigid d c h = let e = with_declared_goal k rigid d c in others_typed c e.decls e.opened.visible e.opened.axioms e.opened.goals h
 
 proposition_typed : (k : PropKind) (vars : List Word) (rigid : List ℕ) (d : DeclarationTree) (c : StateTree) → IsTypedState c → IsTypedState (with_proposition k vars rigid d c)
 proposition_typed kind.Axiom vars rigid d c h =
     let e = with_proposition kind.Axiom vars rigid d c in
     others_typed c e.decls e.opened.visible e.opened.axioms e.opened.goals h
-proposition_typed kind.Lemma vars rigid d c h = declaration_typed d (with_goal kind.Lemma rigid d c) (goal_typed kind.Lemma rigid d c h)
+proposition_typed kind.Lemma vars rigid d c h = declaration_typed d (with_declared_goal kind.Lemma rigid d c) (goal_typed kind.Lemma rigid d c h)
 proposition_typed kind.Goal vars rigid d c h = goal_typed kind.Goal rigid d c h
 
 proposed_typed : (k : PropKind) (vars : List Word) (rigid : List ℕ) (ds : List DeclarationTree) (c : StateTree) → IsTypedState c → IsTypedState (with_proposed k vars rigid ds c)

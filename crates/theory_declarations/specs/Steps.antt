@@ -11,7 +11,7 @@ use Rattle.elab_walk.specs.Drafts.{match_at}
 use Rattle.elab_parts.specs.declared.ElabFault.{ElabFault}
 use Rattle.elab_parts.specs.declared.made.Elaborated.{Elaborated}
 use Rattle.elab_names.specs.Abstract.{Expression}
-use Rattle.elab_parts.specs.Declarations.{Called, Declaration, proposition, declaration}
+use Rattle.elab_parts.specs.Declarations.{TokenName, Declaration, proposition_declaration, declaration}
 use Rattle.elab_parts.specs.Outcomes.{Setting, IsKept}
 use Rattle.elab_terms.specs.Outcomes.{proposition_seen, IsElaborated, IsRefusal}
 use Rattle.side_conditions.specs.declared.sides.SideFault.{SideFault}
@@ -20,7 +20,7 @@ use Rattle.theory_states.specs.declared.fault.SourceFault.{SourceFault}
 use Rattle.theory_states.specs.declared.states.Opened.{Opened}
 use Rattle.theory_states.specs.declared.states.Typed.{Typed}
 use Rattle.theory_states.specs.Meaning.{state_at}
-use Rattle.sound_states.specs.Typed.{setting}
+use Rattle.sound_states.specs.Typed.{state_setting}
 use Rattle.theory_declarations.specs.Faults.{elaboration_fault, side_fault}
 
 -- for its names or its types
@@ -32,10 +32,10 @@ abbrev pub IsRefusedFor : ℕ → List SymbolTree → List (ℕ × List Tree) �
 IsRefusedFor n symbols ms bs f = (g : SideFault) × IsSideFault symbols ms bs g × (f ≡ side_fault n g)
 
 -- what is made is right, and its names are in the scope of the open theory
-pub record IsNext (s : List Tree) (t : Typed) (o : Opened) (d : source.Decl) (s' : List Tree) (t' : Typed) (o' : Opened) (made : Elaborated) : Type 0 where
+pub record IsNextState (s : List Tree) (t : Typed) (o : Opened) (d : source.SyntaxDeclaration) (s' : List Tree) (t' : Typed) (o' : Opened) (made : Elaborated) : Type 0 where
   pub parts : Declaration
   pub of : declaration d ≡ Some parts
-  pub elaborated : IsElaborated (setting (state_at s t o)) parts t.sig s' t'.sig o'.scope made
+  pub elaborated : IsElaborated (state_setting (state_at s t o)) parts t.sig s' t'.sig o'.scope made
   pub kept : IsKept s' t'.sig o'.scope made
   pub covered : All (IsCovered (symbols_at s' t'.sig.symbols)) (map (match_at s') made.matches)
   pub checked : All (HasNoFault (symbols_at s' t'.sig.symbols)) (bodies (declarations_at s' made.decls))
@@ -43,5 +43,5 @@ pub record IsNext (s : List Tree) (t : Typed) (o : Opened) (d : source.Decl) (s'
   pub opened : o' ≡ record o { scope = o'.scope }
 
 -- the type variables of a proposition have names with a quote, as those of the tokens of a text
-abbrev pub AreQuoted : source.Decl → Type 0
-AreQuoted d = (k : PropKind) (y : Called) (x : Expression) → declaration d ≡ Some (proposition k y x) → All IsQuoted (proposition_seen x).vars
+abbrev pub AreQuoted : source.SyntaxDeclaration → Type 0
+AreQuoted d = (k : PropKind) (y : TokenName) (x : Expression) → declaration d ≡ Some (proposition_declaration k y x) → All IsQuoted (proposition_seen x).vars

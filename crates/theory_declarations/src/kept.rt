@@ -1,4 +1,4 @@
-// What a declaration leaves behind: declarations that are known, axioms and goals.
+// What a declaration leaves after: declarations that are known, axioms and goals.
 // They depend on what is known of theories.
 ghost use Rattle.std.specs.Prelude.{◌≡◌, option_map, All, IsSome, OnOk};
 ghost use Rattle.trees.specs.Node.{Grows};
@@ -89,7 +89,7 @@ fn push_proposed(
     push_proposition(alloc, store, typed, open, kind, e, first, rigid)
 }
 
-/// What a declaration leaves behind that is elaborated. Only want of memory refuses.
+/// What a declaration leaves after that is elaborated. Only want of memory refuses.
 pub(crate) fn push_made(
     alloc: Global,
     store: &mut Store,

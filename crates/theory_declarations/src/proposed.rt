@@ -8,7 +8,7 @@ ghost use Rattle.syntax_why.specs.declared.declarations.PropKind.TheVariants.{Ax
 ghost use Rattle.elab_names.specs.Abstract.{expression_of};
 ghost use Rattle.elab_terms.specs.Outcomes.{proposition_seen};
 ghost use Rattle.theory_states.specs.Meaning.{state_at, StateHeld};
-ghost use Rattle.theory_declarations.specs.Declared.{formula_of, to_prove, with_goal, with_proposition, with_proposed};
+ghost use Rattle.theory_declarations.specs.Declared.{known_formula, to_prove, with_declared_goal, with_proposition, with_proposed};
 
 use elab_terms::say;
 use elab_variables::{Seen, enter_variables};
@@ -38,7 +38,7 @@ fn variables_of(alloc: Global, e: &Expr) -> Result<Seq<Text>, AllocError>
 fn formula_of(store: &Store, decl: &Decl) -> Option<TermId>
     requires { DeclHeld store.now decl.now }
     ensures tree { option_map (tree_at store.now) result
-        ≡ formula_of (declaration_at store.now decl.now).body }
+        ≡ known_formula (declaration_at store.now decl.now).body }
     ensures held { IfSome result (Holds store.now) }
 {
     let _ = store;
@@ -114,7 +114,8 @@ fn push_goal(
 ) -> Result<(), AllocError>
     requires decl { DeclHeld store.old decl.now }
     requires state { StateHeld store.old typed.now open.old }
-    ensures state { OnOk result (state_at store.new typed.now open.new ≡ with_goal kind rigid
+    ensures state { OnOk result (state_at store.new typed.now open.new
+        ≡ with_declared_goal kind rigid
         (declaration_at store.old decl.now) (record (state_at store.old typed.now open.old)
         { trees = store.new })) }
     ensures held { OnOk result (StateHeld store.new typed.now open.new) }

@@ -9,17 +9,17 @@ ghost use Rattle.decl_checks.specs.Checks.{HasNoFault};
 ghost use Rattle.elab_walk.specs.Drafts.{match_at};
 ghost use Rattle.elab_parts.specs.Declarations.{declaration};
 ghost use Rattle.elab_parts.specs.Entries.{IsSignature, AreScopes};
-ghost use Rattle.elab_parts.specs.Outcomes.{standing, IsKept};
+ghost use Rattle.elab_parts.specs.Outcomes.{setting_where, IsKept};
 ghost use Rattle.elab_terms.specs.Outcomes.{IsLogical, IsElaborated, IsRefusal};
 ghost use Rattle.valid_tasks.specs.Lists.{IsGroupWhole};
 ghost use Rattle.side_conditions.specs.Sides.{IsCovered, IsMatch, IsSideFault, bodies};
 ghost use Rattle.theory_states.specs.Meaning.{state_at, StateHeld};
 ghost use Rattle.theory_states.specs.Uses.{OrMemory};
-ghost use Rattle.sound_states.specs.Typed.{setting, IsTypedState};
+ghost use Rattle.sound_states.specs.Typed.{state_setting, IsTypedState};
 ghost use Rattle.valid_tasks.specs.Quoted.{IsQuotedLexeme};
 ghost use Rattle.sound_states.specs.Sound.{IsSoundState};
 ghost use Rattle.theory_declarations.specs.Declared.{IsDeclared, IsDeclaredFault};
-ghost use Rattle.theory_declarations.specs.Steps.{IsRefusedBy, IsRefusedFor, IsNext};
+ghost use Rattle.theory_declarations.specs.Steps.{IsRefusedBy, IsRefusedFor, IsNextState};
 
 use crate::faults::{elaboration_fault, side_fault};
 use crate::kept::push_made;
@@ -45,11 +45,11 @@ fn elaborate_next(
     requires scopes { AreScopes store.old (length sig.old.symbols) open.old.scope }
     requires logical { IsLogical (decl_of decl.now) }
     ensures ok { IfOk result (λ made. IfSome (declaration (decl_of decl.now)) (λ d. IsElaborated
-        (standing open.old.path open.old.within.items open.old.count store.old sig.old
+        (setting_where open.old.path open.old.within.items open.old.count store.old sig.old
         open.old.scope) d sig.old store.new sig.new open.new.scope made)) }
     ensures kept { IfOk result (IsKept store.new sig.new open.new.scope) }
     ensures err { IfErr result (λ f. IfSome (declaration (decl_of decl.now)) (λ d. IsRefusedBy
-        (standing open.old.path open.old.within.items open.old.count store.old sig.old
+        (setting_where open.old.path open.old.within.items open.old.count store.old sig.old
         open.old.scope) d f)) }
     ensures opened { open.new ≡ record open.old { scope = open.new.scope } }
     ensures grows { Grows store.old store.new }
@@ -114,7 +114,7 @@ fn elaborate_checked(
     requires state { StateHeld store.old typed.old open.old }
     requires typed { IsTypedState (state_at store.old typed.old open.old) }
     requires logical { IsLogical (decl_of decl.now) }
-    ensures ok { IfOk result (IsNext store.old typed.old open.old (decl_of decl.now) store.new
+    ensures ok { IfOk result (IsNextState store.old typed.old open.old (decl_of decl.now) store.new
         typed.new open.new) }
     ensures err { IfErr result (OrMemory (IsDeclaredFault (decl_of decl.now)
         (state_at store.old typed.old open.old))) }

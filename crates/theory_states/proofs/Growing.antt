@@ -13,7 +13,7 @@ use Rattle.theory_states.specs.declared.states.Known.{Known}
 use Rattle.theory_states.specs.declared.states.Opened.{Opened}
 use Rattle.theory_states.specs.declared.states.Typed.{Typed}
 use Rattle.theory_states.specs.States.{KnownTree, OpenedTree, StateTree}
-use Rattle.theory_states.specs.Meaning.{known_at, opened_at, state_at, KnownHeld, OpenedHeld, TypedHeld, StateHeld}
+use Rattle.theory_states.specs.Meaning.{known_at, opened_at, state_at, KnownTheoryHeld, OpenedHeld, TypedHeld, StateHeld}
 
 module _ (s s' : List Tree) (g : Grows s s') where
   goal_stays : (x : GoalAt) → GoalHeld s x → goal_at s' x ≡ goal_at s x
@@ -25,10 +25,10 @@ module _ (s s' : List Tree) (g : Grows s s') where
   goals_held : (xs : List GoalAt) → All (GoalHeld s) xs → All (GoalHeld s') xs
   goals_held xs a = λ k d h. held_later s s' g (get_or xs k d).prop (a k d h)
 
-  known_stays : (n : ℕ) (k : Known) → KnownHeld s n k → known_at s' k ≡ known_at s k
+  known_stays : (n : ℕ) (k : Known) → KnownTheoryHeld s n k → known_at s' k ≡ known_at s k
   known_stays n k h = ap (λ (gs : List GoalTree). let it : KnownTree = record { path = k.theory.path; visible = k.theory.visible; axioms = k.axioms; goals = gs; moves = k.moves } in it) (goals_stay k.theory.goals h.goals)
 
-  pub all_known_stay : (n : ℕ) (ks : List Known) → All (KnownHeld s n) ks → map (known_at s') ks ≡ map (known_at s) ks
+  pub all_known_stay : (n : ℕ) (ks : List Known) → All (KnownTheoryHeld s n) ks → map (known_at s') ks ≡ map (known_at s) ks
   all_known_stay n ks a = map_agree (known_at s') (known_at s) ks (λ k d h. known_stays n (get_or ks k d) (a k d h))
 
   opened_stays : (n : ℕ) (o : Opened) → OpenedHeld s n o → opened_at s' o ≡ opened_at s o

@@ -12,8 +12,8 @@ use Rattle.elab_parts.specs.Entries.{IsSignature}
 use Rattle.theory_states.specs.declared.states.Known.{Known}
 use Rattle.theory_states.specs.declared.states.Opened.{Opened}
 use Rattle.theory_states.specs.declared.states.Typed.{Typed}
-use Rattle.theory_states.specs.States.{StateTree, with_declaration, joined}
-use Rattle.theory_states.specs.Meaning.{known_at, opened_at, state_at, KnownHeld, StateHeld}
+use Rattle.theory_states.specs.States.{StateTree, with_declaration, joined_places}
+use Rattle.theory_states.specs.Meaning.{known_at, opened_at, state_at, KnownTheoryHeld, StateHeld}
 use Rattle.theory_states.proofs.Lists.{place_last, joined_below}
 
 -- what follows from the places of the visible ones
@@ -41,7 +41,7 @@ module _ (t : Typed) (o : Opened) (d : Decl) (ks : List ℕ) (below : All (λ (k
         typed = record {
           signature = subst (λ (x : Typed). IsSignature s x.sig.symbols) (sym p) a.typed.signature;
           decls = subst (All (DeclHeld s)) (sym decls') (All-push (DeclHeld s) t.decls d a.typed.decls h);
-          known = subst (λ (x : Typed). All (KnownHeld s (length x.decls)) x.known) (sym p) (λ i x l. let one = a.typed.known i x l in record { visible = below_more _ one.visible; goals = one.goals });
+          known = subst (λ (x : Typed). All (KnownTheoryHeld s (length x.decls)) x.known) (sym p) (λ i x l. let one = a.typed.known i x l in record { visible = below_more _ one.visible; goals = one.goals });
         };
         opened = record {
           visible = subst (λ (xs : List ℕ). All (λ (k : ℕ). k < length t'.decls) xs) (sym (r ∙ last)) (subst (λ (n : ℕ). All (λ (k : ℕ). k < n) (o.visible.keys ++ length t.decls ∷ [])) (sym count) (All-push (λ (k : ℕ). k < length t.decls + 1) o.visible.keys (length t.decls) (λ i x l. omega (arith, below i x l)) (omega arith)));
@@ -58,10 +58,10 @@ module _ (t : Typed) (o : Opened) (d : Decl) (ks : List ℕ) (below : All (λ (k
       ∙ ap (mk (declarations_at s t.decls ++ declaration_at s d ∷ [])) (r ∙ visible_pushed s)
 
 -- places of a theory before are joined, and names are brought in
-pub joined_held : (s : List Tree) (t : Typed) (o o1 o2 : Opened) (k : Known) (place : ℕ) → place < length t.known → k ≡ get_or t.known place k → o1 ≡ record o { visible = o1.visible } → o1.visible.keys ≡ joined o.visible.keys k.theory.visible → o2 ≡ record o1 { scope = o2.scope; moves = o2.moves } → StateHeld s t o → StateHeld s t o2
+pub joined_held : (s : List Tree) (t : Typed) (o o1 o2 : Opened) (k : Known) (place : ℕ) → place < length t.known → k ≡ get_or t.known place k → o1 ≡ record o { visible = o1.visible } → o1.visible.keys ≡ joined_places o.visible.keys k.theory.visible → o2 ≡ record o1 { scope = o2.scope; moves = o2.moves } → StateHeld s t o → StateHeld s t o2
 joined_held s t o o1 o2 k place l q e v f h =
-    let one : KnownHeld s (length t.decls) k = subst (KnownHeld s (length t.decls)) (sym q) (h.typed.known place k l) in
-    let keys : o2.visible.keys ≡ joined o.visible.keys k.theory.visible = ap (λ (x : Opened). x.visible.keys) f ∙ v in
+    let one : KnownTheoryHeld s (length t.decls) k = subst (KnownTheoryHeld s (length t.decls)) (sym q) (h.typed.known place k l) in
+    let keys : o2.visible.keys ≡ joined_places o.visible.keys k.theory.visible = ap (λ (x : Opened). x.visible.keys) f ∙ v in
     let goals : o2.goals ≡ o.goals = ap (λ (x : Opened). x.goals) f ∙ ap (λ (x : Opened). x.goals) e in
     record {
       typed = h.typed;

@@ -19,7 +19,7 @@ abbrev pub state_at : List Tree → Typed → Opened → StateTree
 state_at s t o = record { trees = s; symbols = symbols_at s t.sig.symbols; decls = declarations_at s t.decls; known = map (known_at s) t.known; opened = opened_at s o; number = o.count }
 
 -- the numbers in a theory are held, over so many declarations
-pub record KnownHeld (s : List Tree) (count : ℕ) (k : Known) : Type 0 where
+pub record KnownTheoryHeld (s : List Tree) (count : ℕ) (k : Known) : Type 0 where
   pub visible : All (λ (p : ℕ). p < count) k.theory.visible
   pub goals : All (GoalHeld s) k.theory.goals
 
@@ -30,7 +30,7 @@ pub record OpenedHeld (s : List Tree) (count : ℕ) (o : Opened) : Type 0 where
 pub record TypedHeld (s : List Tree) (t : Typed) : Type 0 where
   pub signature : IsSignature s t.sig.symbols
   pub decls : All (DeclHeld s) t.decls
-  pub known : All (KnownHeld s (length t.decls)) t.known
+  pub known : All (KnownTheoryHeld s (length t.decls)) t.known
 
 -- all numbers are held
 pub record StateHeld (s : List Tree) (t : Typed) (o : Opened) : Type 0 where

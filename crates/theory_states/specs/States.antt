@@ -5,13 +5,13 @@ use Rattle.std.specs.Str.{bytes_eq}
 use Rattle.indexmap.specs.IndexSet.{insert_all}
 use Rattle.trees.specs.Tree.{Tree}
 use Rattle.tasks.specs.Task.{SymbolTree, DeclarationTree}
-use Rattle.names_space.specs.Names.{Names, start}
+use Rattle.names_space.specs.Names.{ScopeNames, empty_names}
 use Rattle.scope_moves.specs.declared.moves.Move.{Move}
 use Rattle.goal_tasks.specs.Theories.{GoalTree}
 use Rattle.theory_states.specs.declared.states.AxiomAt.{AxiomAt}
 
 -- a theory: the places of the declarations that are visible at its end, goals left out; its axioms; its goals, and its lemmas that
--- can be named; and the names that it hands on
+-- can be named; and the names that it passes on
 pub record KnownTree : Type 0 where
   pub path : List ℕ
   pub visible : List ℕ
@@ -23,7 +23,7 @@ pub record KnownTree : Type 0 where
 pub record OpenedTree : Type 0 where
   pub path : List ℕ
   pub within : List ℕ
-  pub scope : Names
+  pub scope : ScopeNames
   pub visible : List ℕ
   pub axioms : List AxiomAt
   pub goals : List GoalTree
@@ -51,18 +51,18 @@ abbrev pub visible_now : StateTree → List DeclarationTree
 visible_now c = at_places c.decls c.opened.visible
 
 -- places after others, each once, at its first place
-abbrev pub joined : List ℕ → List ℕ → List ℕ
-joined ks more = insert_all nat_eq ks more
+abbrev pub joined_places : List ℕ → List ℕ → List ℕ
+joined_places ks more = insert_all nat_eq ks more
 
-abbrev pub has_path : List ℕ → KnownTree → Bool
-has_path path t = bytes_eq t.path path
+abbrev pub known_has_path : List ℕ → KnownTree → Bool
+known_has_path path t = bytes_eq t.path path
 
 abbrev pub known_named : List KnownTree → List ℕ → Option KnownTree
-known_named ts path = find (has_path path) ts
+known_named ts path = find (known_has_path path) ts
 
 -- a theory without declarations
 abbrev pub opened_empty : List ℕ → OpenedTree
-opened_empty path = record { path = path; within = []; scope = start; visible = []; axioms = []; goals = []; moves = [] }
+opened_empty path = record { path = path; within = []; scope = empty_names; visible = []; axioms = []; goals = []; moves = [] }
 
 -- a further declaration, which is visible
 abbrev pub with_declaration : DeclarationTree → StateTree → StateTree

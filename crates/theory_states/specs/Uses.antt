@@ -6,7 +6,7 @@ use Rattle.syntax_why.specs.declared.names.Path.{Path}
 use Rattle.syntax_why.specs.declared.declarations.Link.{Link}
 use Rattle.theory_states.specs.declared.fault.SourceFault.{SourceFault}
 use Rattle.theory_states.specs.declared.fault.SourceFault.TheVariants.{Memory, Unknown}
-use Rattle.theory_states.specs.States.{KnownTree, OpenedTree, StateTree, joined, known_named}
+use Rattle.theory_states.specs.States.{KnownTree, OpenedTree, StateTree, joined_places, known_named}
 
 -- the parts of a path, joined by dots, and the last one
 abbrev pub parts_after : List (List ℕ) → List ℕ
@@ -29,18 +29,18 @@ abbrev pub OrMemory : (SourceFault → Type 0) → SourceFault → Type 0
 OrMemory Is Memory = Unit {0}
 OrMemory Is f = Is f
 
-abbrev pub used : Link → List ℕ → Option (List ℕ) → KnownTree → OpenedTree → OpenedTree
-used link last alias t o = record o {
+abbrev pub theory_used : Link → List ℕ → Option (List ℕ) → KnownTree → OpenedTree → OpenedTree
+theory_used link last alias t o = record o {
   scope = brought link last alias t.moves o.scope;
   moves = o.moves ++ handed link t.moves;
-  visible = joined o.visible t.visible;
+  visible = joined_places o.visible t.visible;
 }
 
 -- the theory of a path is used
-pub record IsUsed (link : Link) (p : Path) (alias : Option Name) (c c' : StateTree) : Type 0 where
+pub record IsTheoryUsed (link : Link) (p : Path) (alias : Option Name) (c c' : StateTree) : Type 0 where
   pub theory : KnownTree
   pub found : known_named c.known (path_text p.parts) ≡ Some theory
-  pub is : c' ≡ record c { opened = used link (last_part p.parts) (alias_text alias) theory c.opened }
+  pub is : c' ≡ record c { opened = theory_used link (last_part p.parts) (alias_text alias) theory c.opened }
 
 -- no theory before has the path
 pub record IsUnknownTheory (p : Path) (known : List KnownTree) (number : ℕ) (f : SourceFault) : Type 0 where

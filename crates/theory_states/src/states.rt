@@ -3,7 +3,7 @@
 ghost use Rattle.std.specs.Prelude.{◌≡◌, ◌<◌, ◌+◌, ℕ, List, None, slice_get, length, map, All, IfNone, IfOk, IfSome, OnOk};
 ghost use Rattle.trees.specs.Tree.{Tree};
 ghost use Rattle.tasks.specs.Meaning.{declaration_at, DeclHeld};
-ghost use Rattle.theory_states.specs.States.{has_path, known_named, opened_empty, joined, with_declaration};
+ghost use Rattle.theory_states.specs.States.{known_has_path, known_named, opened_empty, joined_places, with_declaration};
 ghost use Rattle.theory_states.specs.Meaning.{known_at, opened_at, state_at, OpenedHeld, StateHeld};
 
 use goal_tasks::{GoalAt, Theory};
@@ -21,7 +21,7 @@ pub struct AxiomAt {
     pub vars: Seq<Text>,
 }
 
-/// A theory that is typed, with its axioms and the names that it hands on.
+/// A theory that is typed, with its axioms and the names that it passes on.
 #[derive(Drop)]
 pub struct Known {
     pub theory: Theory,
@@ -55,7 +55,7 @@ pub struct Opened {
 
 // Whether a theory has this path.
 fn has_path(known: &Known, path: &[u8]) -> bool
-    ensures { (s : List Tree) → result ≡ has_path path.now (known_at s known.now) }
+    ensures { (s : List Tree) → result ≡ known_has_path path.now (known_at s known.now) }
 {
     known.theory.path.as_slice() == path
 }
@@ -115,7 +115,7 @@ impl Opened {
     /// Puts places after the visible ones, each unless it is there. Only want of memory refuses.
     pub fn join(&mut self, places: &[usize]) -> Result<(), AllocError>
         ensures visible { OnOk result (self.new.visible.keys
-            ≡ joined self.old.visible.keys places.now) }
+            ≡ joined_places self.old.visible.keys places.now) }
         ensures others { self.new ≡ record self.old { visible = self.new.visible } }
     {
         for place in places {

@@ -6,7 +6,7 @@ ghost use Rattle.trees.specs.Tree.{Tree};
 ghost use Rattle.scope_moves.specs.Moves.{brought, handed};
 ghost use Rattle.theory_states.specs.States.{known_named};
 ghost use Rattle.theory_states.specs.Meaning.{known_at, state_at, StateHeld};
-ghost use Rattle.theory_states.specs.Uses.{path_text, last_part, alias_text, OrMemory, IsUsed, IsUnknownTheory};
+ghost use Rattle.theory_states.specs.Uses.{path_text, last_part, alias_text, OrMemory, IsTheoryUsed, IsUnknownTheory};
 
 use crate::fault::SourceFault;
 use crate::states::{Opened, Typed};
@@ -51,7 +51,7 @@ pub fn alias_text(alias: &Option<Name>) -> Option<&[u8]>
 }
 
 /// Brings names into the open theory: into a scope of their own, into the current one, or into both. Names that are exported are
-/// handed on. Only want of memory refuses.
+/// passed on. Only want of memory refuses.
 pub fn bring_names(
     open: &mut Opened,
     moves: &[Move],
@@ -102,7 +102,7 @@ pub fn use_theory(
     path: &Path,
     alias: &Option<Name>,
 ) -> Result<(), SourceFault>
-    ensures ok { OnOk result ((s : List Tree) → IsUsed link path.now alias.now
+    ensures ok { OnOk result ((s : List Tree) → IsTheoryUsed link path.now alias.now
         (state_at s typed.now open.old) (state_at s typed.now open.new)) }
     ensures held { OnOk result ((s : List Tree) → StateHeld s typed.now open.old
         → StateHeld s typed.now open.new) }

@@ -1,7 +1,7 @@
--- Steps over what stands between tokens, at a place of a text.
-use Rattle.tokens_why.proofs.Common.{◌≡◌, ℕ, zero, suc, ◌+◌, ◌-◌, ◌<◌, ◌≤◌, Bool, true, false, ◌&&◌, nat_eq, List, [], ◌∷◌, length, drop, Option, Some, None, refl, sym, ap, ◌∙◌, arith, length-drop, nat_tests, get_or-drop, drop-drop, byte_in, has_pair, has_star_name, comment, one_more, at_from, piece, gap, next}
+-- Steps over what is between tokens, at a place of a text.
+use Rattle.tokens_why.proofs.Common.{◌≡◌, ℕ, zero, suc, ◌+◌, ◌-◌, ◌<◌, ◌≤◌, Bool, true, false, ◌&&◌, nat_eq, List, [], ◌∷◌, length, drop, Option, Some, None, refl, sym, ap, ◌∙◌, arith, length-drop, nat_tests, get_or-drop, drop-drop, byte_in, has_pair, has_star_name, comment, one_more, at_from, gap_piece, gap, next}
 
--- behind the end there is no byte
+-- after the end there is no byte
 pub past : (text : List ℕ) (i : ℕ) → length text ≤ i → byte_in text i ≡ 256
 past [] i le = refl
 past (a ∷ text) zero le = absurd (omega arith)
@@ -132,11 +132,11 @@ gap-pass bs zero le = omega arith
 gap-pass [] (suc p) le = absurd (omega arith)
 gap-pass (a ∷ bs) (suc p) le = let ih = gap-pass bs p (omega arith) in omega arith
 
-gap-step : (bs : List ℕ) (n : ℕ) → piece bs ≡ suc n → suc n ≤ length bs → gap bs 0 ≡ suc n + gap (drop (suc n) bs) 0
+gap-step : (bs : List ℕ) (n : ℕ) → gap_piece bs ≡ suc n → suc n ≤ length bs → gap bs 0 ≡ suc n + gap (drop (suc n) bs) 0
 gap-step [] n e le = cc
 gap-step (a ∷ bs) n e le = let ih = gap-pass bs n (omega arith) in rw (gap, e) (omega (arith, ih))
 
-pub next-step : (text : List ℕ) (at n : ℕ) → piece (drop at text) ≡ n → 0 < n → at + n ≤ length text → next text at ≡ next text (at + n)
+pub next-step : (text : List ℕ) (at n : ℕ) → gap_piece (drop at text) ≡ n → 0 < n → at + n ≤ length text → next text at ≡ next text (at + n)
 next-step text at zero e lt le = absurd (omega arith)
 next-step text at (suc n) e lt le =
     let g = gap-step (drop at text) n e (omega (arith, length-drop at text)) in

@@ -1,5 +1,5 @@
 -- The longest token at the front of a text, by its first byte.
-use Rattle.tokens_why.proofs.Common.{◌≡◌, ℕ, zero, suc, ◌+◌, ◌-◌, ◌<◌, ◌≤◌, ◌≢◌, ◌⊎◌, inl, inr, Bool, true, false, ◌&&◌, ◌||◌, nat_eq, nat_lt, if◌then◌else◌, List, [], ◌∷◌, length, take, drop, slice_range, None, refl, sym, ap, ◌∙◌, subst, arith, list_all, prefix_len, nat_tests, eqb-true, drop_more, same, is_lower, is_digit, is_word_byte, byte_in, has_star_name, has_pair, is_digit_of, is_digit_or_line, radix_of, is_literal, is_based, digit_value, IsLongest, HasNone, based_radix, kind_of, only, is_variable_name, marks_kind, TokenKind}
+use Rattle.tokens_why.proofs.Common.{◌≡◌, ℕ, zero, suc, ◌+◌, ◌-◌, ◌<◌, ◌≤◌, ◌≢◌, ◌⊎◌, inl, inr, Bool, true, false, ◌&&◌, ◌||◌, nat_eq, nat_lt, if◌then◌else◌, List, [], ◌∷◌, length, take, drop, slice_range, None, refl, sym, ap, ◌∙◌, subst, arith, list_all, prefix_len, nat_tests, eqb-true, drop_more, is_same_word, is_lower, is_digit, is_word_byte, byte_in, has_star_name, has_pair, is_digit_of, is_digit_or_line, radix_of, is_literal, is_based, digit_value, IsLongestToken, HasNone, based_radix, kind_of, only, is_variable_name, marks_kind, TokenKind}
 use Rattle.std.proofs.lemmas.List.Sums.{prefix_len-le-length}
 
 bool-cases : (b : Bool) → (b ≡ true) ⊎ (b ≡ false)
@@ -44,7 +44,7 @@ class-span p bs = record {
   longer = λ m lt le. all-long p bs m lt le;
 }
 
-lift : (a : ℕ) (bs : List ℕ) (s : List ℕ → Bool) (k : List ℕ → TokenKind) (n : ℕ) → ((cs : List ℕ) → kind_of (a ∷ cs) ≡ only (s cs) (k (a ∷ cs))) → IsSpan s bs n → IsLongest (a ∷ bs) (suc n) (k (a ∷ take n bs))
+lift : (a : ℕ) (bs : List ℕ) (s : List ℕ → Bool) (k : List ℕ → TokenKind) (n : ℕ) → ((cs : List ℕ) → kind_of (a ∷ cs) ≡ only (s cs) (k (a ∷ cs))) → IsSpan s bs n → IsLongestToken (a ∷ bs) (suc n) (k (a ∷ take n bs))
 lift a bs s k n is h = record {
   some = omega arith;
   within = omega (arith, h.within);
@@ -60,15 +60,15 @@ lift-none : (a : ℕ) (bs : List ℕ) (s : List ℕ → Bool) (k : List ℕ → 
 lift-none a bs s k is h zero le = refl
 lift-none a bs s k is h (suc m) le = is (take m bs) ∙ ap (λ b. only b (k (a ∷ take m bs))) (h m (omega arith))
 
-pub moved : (bs cs : List ℕ) (n m : ℕ) (k l : TokenKind) → bs ≡ cs → n ≡ m → k ≡ l → IsLongest bs n k → IsLongest cs m l
-moved bs cs n m k l e f g h = subst (λ v. IsLongest v m l) e (subst (λ v. IsLongest bs v l) f (subst (λ v. IsLongest bs n v) g h))
+pub moved : (bs cs : List ℕ) (n m : ℕ) (k l : TokenKind) → bs ≡ cs → n ≡ m → k ≡ l → IsLongestToken bs n k → IsLongestToken cs m l
+moved bs cs n m k l e f g h = subst (λ v. IsLongestToken v m l) e (subst (λ v. IsLongestToken bs v l) f (subst (λ v. IsLongestToken bs n v) g h))
 
 -- the rest of a text from a place on
 pub head-at : (text : List ℕ) (start : ℕ) → start < length text → drop start text ≡ byte_in text start ∷ drop (start + 1) text
 head-at text start lt = drop_more text start 256 lt
 
 -- at a place of a text
-pub span-at : (text : List ℕ) (start end n : ℕ) (s : List ℕ → Bool) (k : List ℕ → TokenKind) (kind : TokenKind) → start < length text → end ≡ start + 1 + n → ((cs : List ℕ) → kind_of (byte_in text start ∷ cs) ≡ only (s cs) (k (byte_in text start ∷ cs))) → IsSpan s (drop (start + 1) text) n → kind ≡ k (slice_range text start end) → IsLongest (drop start text) (end - start) kind
+pub span-at : (text : List ℕ) (start end n : ℕ) (s : List ℕ → Bool) (k : List ℕ → TokenKind) (kind : TokenKind) → start < length text → end ≡ start + 1 + n → ((cs : List ℕ) → kind_of (byte_in text start ∷ cs) ≡ only (s cs) (k (byte_in text start ∷ cs))) → IsSpan s (drop (start + 1) text) n → kind ≡ k (slice_range text start end) → IsLongestToken (drop start text) (end - start) kind
 span-at text start end n s k kind lt e is h kind_is =
     let size : end - start ≡ suc n = omega arith in
     let front : take (end - start) (drop start text) ≡ byte_in text start ∷ take n (drop (start + 1) text) = ap (λ v. take v (drop start text)) size ∙ ap (take (suc n)) (head-at text start lt) in
@@ -92,7 +92,7 @@ name-line b bs zero e none le = refl
 name-line b bs (suc zero) e none le = ap (λ v. is_variable_name (v ∷ [])) e
 name-line b bs (suc (suc m)) e none le = rw (all-long is_word_byte bs (suc m) (omega arith) (omega arith), and-false) refl
 
-not-line : (b : ℕ) (bs : List ℕ) (n : ℕ) → n ≤ length bs → (b ≡ 95 → 0 < n) → same (b ∷ take n bs) (95 ∷ []) ≡ false
+not-line : (b : ℕ) (bs : List ℕ) (n : ℕ) → n ≤ length bs → (b ≡ 95 → 0 < n) → is_same_word (b ∷ take n bs) (95 ∷ []) ≡ false
 not-line b bs zero le more = elim (bool-cases (nat_eq b 95)) [
   | inl t ↦ let lt = more (eqb-true b 95 t) in absurd (omega arith)
   | inr f ↦ rw f refl

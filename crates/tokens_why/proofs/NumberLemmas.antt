@@ -1,5 +1,5 @@
 -- The number that digits write.
-use Rattle.tokens_why.proofs.Common.{◌≡◌, ℕ, ◌+◌, ◌*◌, ◌<◌, ◌≤◌, ◌≢◌, Bool, true, false, nat_eq, if◌then◌else◌, List, [], ◌∷◌, length, drop, get_or, ap, ◌∙◌, arith, nat_tests, drop_more, number, digit_value}
+use Rattle.tokens_why.proofs.Common.{◌≡◌, ℕ, ◌+◌, ◌*◌, ◌<◌, ◌≤◌, ◌≢◌, Bool, true, false, nat_eq, if◌then◌else◌, List, [], ◌∷◌, length, drop, get_or, ap, ◌∙◌, arith, nat_tests, drop_more, digits_value, digit_value}
 use Rattle.std.proofs.Math.Nat.{mul-le-mul_left}
 
 abbrev joined : Bool → ℕ → ℕ → ℕ → ℕ
@@ -10,7 +10,7 @@ join-grows true radix n d lt = omega arith
 join-grows false radix n d lt = let one : 1 ≤ radix = omega arith in let more : n * 1 ≤ n * radix = mul-le-mul_left n one in omega arith
 
 -- more digits make no number smaller
-pub number-grows : (radix n : ℕ) (bs : List ℕ) → 0 < radix → n ≤ number radix n bs
+pub number-grows : (radix n : ℕ) (bs : List ℕ) → 0 < radix → n ≤ digits_value radix n bs
 number-grows radix n [] lt = omega arith
 number-grows radix n (b ∷ bs) lt =
     let g = join-grows (nat_eq b 95) radix n (digit_value b) lt in
@@ -18,13 +18,13 @@ number-grows radix n (b ∷ bs) lt =
     omega arith
 
 -- with one digit more of those from a place on
-pub next-digit : (radix n i : ℕ) (bs : List ℕ) → 0 < radix → i < length bs → get_or bs i 0 ≢ 95 → n * radix + digit_value (get_or bs i 0) ≤ number radix n (drop i bs)
+pub next-digit : (radix n i : ℕ) (bs : List ℕ) → 0 < radix → i < length bs → get_or bs i 0 ≢ 95 → n * radix + digit_value (get_or bs i 0) ≤ digits_value radix n (drop i bs)
 next-digit radix n i bs lt within other =
     let b = get_or bs i 0 in
     let e = drop_more bs i 0 within in
     let f : nat_eq b 95 ≡ false = not-same b 95 other in
     let g = number-grows radix (n * radix + digit_value b) (drop (i + 1) bs) lt in
-    let h : number radix n (drop i bs) ≡ number radix (n * radix + digit_value b) (drop (i + 1) bs) = ap (number radix n) e ∙ ap (λ v. number radix (joined v radix n (digit_value b)) (drop (i + 1) bs)) f in
+    let h : digits_value radix n (drop i bs) ≡ digits_value radix (n * radix + digit_value b) (drop (i + 1) bs) = ap (digits_value radix n) e ∙ ap (λ v. digits_value radix (joined v radix n (digit_value b)) (drop (i + 1) bs)) f in
     omega (arith, g, h)
   where
     not-same : (a b : ℕ) → a ≢ b → nat_eq a b ≡ false

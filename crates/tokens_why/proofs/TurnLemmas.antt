@@ -1,5 +1,5 @@
 -- How the reading of a text goes on: what has been found is the beginning of every reading.
-use Rattle.tokens_why.proofs.Common.{◌≡◌, ℕ, ◌-◌, ◌<◌, List, [], ◌∷◌, ◌++◌, slice_range, Some, None, refl, sym, ap, ◌∙◌, subst, arith, append_assoc, append-nil, next, kind_of, IsToken, Begins, Fits, Exceeds, Stop, whole, lexical, big, Stops, Reads, Token, TokenKind}
+use Rattle.tokens_why.proofs.Common.{◌≡◌, ℕ, ◌-◌, ◌<◌, List, [], ◌∷◌, ◌++◌, slice_range, Some, None, refl, sym, ap, ◌∙◌, subst, arith, append_assoc, append-nil, next, kind_of, IsToken, TokenBegins, LiteralFits, Exceeds, Stop, whole, lexical, big, Stops, Reads, Token, TokenKind}
 
 -- one token begins at a byte
 same-end : (text : List ℕ) (t u : Token) → t.start ≡ u.start → IsToken text t → IsToken text u → t.end < u.end → ⊥
@@ -23,7 +23,7 @@ one-token text t u e it iu =
     ap p k ∙ ap q e ∙ ap r ends
 
 -- no token that fits begins where a reading stops
-no-more : (text : List ℕ) (stop : Stop) (at : ℕ) (t : Token) → Stops text stop at → t.start ≡ at → IsToken text t → Fits text t → ⊥
+no-more : (text : List ℕ) (stop : Stop) (at : ℕ) (t : Token) → Stops text stop at → t.start ≡ at → IsToken text t → LiteralFits text t → ⊥
 no-more text whole at t s e is fits = let some = is.some in let within = is.within in let n : ⊥ = omega (arith, s) in n
 no-more text (lexical b) at t s e is fits = s.none t (e ∙ s.here, is)
 no-more text (big b) at t s e is fits =
@@ -53,13 +53,13 @@ pub record Turn (text : List ℕ) (at : ℕ) (found : List Token) : Type 0 where
 pub first : (text : List ℕ) → Turn text 0 []
 first text = record { made = λ stop more r. r; only = λ stop all r. (all, refl, r) }
 
-only-more : (text : List ℕ) (at : ℕ) (t : Token) (stop : Stop) → Begins text (next text at) t → Fits text t → (more : List Token) → Reads text stop at more → (rest : List Token) × (more ≡ t ∷ rest) × Reads text stop t.end rest
+only-more : (text : List ℕ) (at : ℕ) (t : Token) (stop : Stop) → TokenBegins text (next text at) t → LiteralFits text t → (more : List Token) → Reads text stop at more → (rest : List Token) × (more ≡ t ∷ rest) × Reads text stop t.end rest
 only-more text at t stop b fits [] r = absurd (no-more text stop (next text at) t r b.0 b.1 fits)
 only-more text at t stop b fits (u ∷ us) r =
     let same : u ≡ t = one-token text u t (r.0 ∙ sym b.0) r.1 b.1 in
     (us, ap (λ v. v ∷ us) same, subst (λ v. Reads text stop v.end us) same r.3)
 
-pub turn : (text : List ℕ) (at : ℕ) (t : Token) (found found' : List Token) → Begins text (next text at) t → Fits text t → found' ≡ found ++ (t ∷ []) → Turn text at found → Turn text t.end found'
+pub turn : (text : List ℕ) (at : ℕ) (t : Token) (found found' : List Token) → TokenBegins text (next text at) t → LiteralFits text t → found' ≡ found ++ (t ∷ []) → Turn text at found → Turn text t.end found'
 turn text at t found found' b fits is h = record {
   made = λ stop more r.
       subst (Reads text stop 0) (sym (ap (λ v. v ++ more) is ∙ append_assoc found (t ∷ []) more)) (h.made stop (t ∷ more) (b.0, b.1, fits, r));

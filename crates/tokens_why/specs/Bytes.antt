@@ -34,6 +34,6 @@ is_one_of cs b = list_any (nat_eq b) cs
 abbrev pub is_operator_byte : ℕ → Bool
 is_operator_byte b = is_one_of (codes "!$&?@^#=<>~+-*/\\%") b
 
--- what may stand in an attribute: no `]`
+-- what may be in an attribute: no `]`
 abbrev pub is_no_bracket : ℕ → Bool
 is_no_bracket b = not (nat_eq b 93)

@@ -7,4 +7,4 @@ pub use Rattle.tokens_why.specs.declared.terminal.Terminal.{Terminal}
 pub use Rattle.tokens_why.specs.declared.token.Token.{Token}
 pub use Rattle.tokens_why.specs.declared.token.TokenKind.{TokenKind}
 pub use Rattle.tokens_why.specs.declared.token.TokenKind.TheVariants.{Bar, Wild, Dot, Arrow, Lident, Colon, LParen, RBrack, RParen, Comma, Conj, RBrace, Uident, TyVar, LBrack, Operator, Semi, StarName, LBrace, Equiv, Minus, Equal, Reserved, AndAnd, OrOr, Disj, Int}
-pub use Rattle.word_tables.specs.Words.{same, place_of}
+pub use Rattle.word_tables.specs.Words.{is_same_word, place_in_words}

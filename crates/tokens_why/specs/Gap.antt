@@ -1,20 +1,20 @@
--- What may stand between tokens: blanks, comments and attributes.
+-- What may be between tokens: blanks, comments and attributes.
 use Rattle.std.specs.Prelude.{ℕ, zero, suc, ◌+◌, Bool, not, ◌&&◌, nat_eq, nat_lt, List, [], ◌∷◌, length, drop, Option, Some, None, option_map, unwrap_or, if◌then◌else◌}
 use Rattle.tokens_why.specs.Common.{get_or, prefix_len}
 use Rattle.tokens_why.specs.Bytes.{is_blank, is_no_bracket}
 
--- the byte at a place, and no byte behind the end
+-- the byte at a place, and no byte after the end
 abbrev pub byte_in : List ℕ → ℕ → ℕ
 byte_in bs i = get_or bs i 256
 
 abbrev pub has_pair : ℕ → ℕ → List ℕ → Bool
 has_pair x y bs = nat_eq (byte_in bs 0) x && nat_eq (byte_in bs 1) y
 
--- `(*)` stands in front
+-- `(*)` is in front
 abbrev pub has_star_name : List ℕ → Bool
 has_star_name bs = has_pair 40 42 bs && nat_eq (byte_in bs 2) 41
 
--- `(*` without `)` behind it
+-- `(*` without `)` after it
 abbrev pub opens_comment : List ℕ → Bool
 opens_comment bs = has_pair 40 42 bs && not (nat_eq (byte_in bs 2) 41)
 
@@ -42,17 +42,17 @@ abbrev pub attribute : List ℕ → ℕ
 attribute bs = let inside = prefix_len is_no_bracket bs in if nat_lt inside (length bs) then inside + 1 else 0
 
 -- How many bytes the blank, comment or attribute in front takes. 0: there is none, or one that isn't closed.
-abbrev pub piece : List ℕ → ℕ
-piece [] = 0
-piece (a ∷ bs) = if is_blank a then 1
+abbrev pub gap_piece : List ℕ → ℕ
+gap_piece [] = 0
+gap_piece (a ∷ bs) = if is_blank a then 1
     else (if opens_comment (a ∷ bs) then unwrap_or (comment (a ∷ bs) 1 2) 0
     else (if opens_attribute (a ∷ bs) then attribute (a ∷ bs) else 0))
 
--- how many bytes all that stand in front take, after so many bytes of one of them
+-- how many bytes all that are in front take, after so many bytes of one of them
 abbrev pub gap : List ℕ → ℕ → ℕ
 gap [] p = 0
 gap (a ∷ bs) (suc p) = 1 + gap bs p
-gap (a ∷ bs) zero = elim (piece (a ∷ bs)) [ zero ↦ 0 | suc n ↦ 1 + gap bs n ]
+gap (a ∷ bs) zero = elim (gap_piece (a ∷ bs)) [ zero ↦ 0 | suc n ↦ 1 + gap bs n ]
 
 -- a number of bytes from a place on
 abbrev pub at_from : ℕ → Option ℕ → Option ℕ

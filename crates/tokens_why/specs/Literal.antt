@@ -1,4 +1,4 @@
--- Integer literals, decimal or behind `0x`, `0o`, `0b`, and their values.
+-- Integer literals, decimal or after `0x`, `0o`, `0b`, and their values.
 use Rattle.std.specs.Prelude.{ℕ, ◌+◌, ◌-◌, ◌*◌, ◌^◌, Bool, false, ◌&&◌, ◌||◌, nat_eq, nat_lt, if◌then◌else◌, List, [], ◌∷◌, drop}
 use Rattle.tokens_why.specs.Common.{get_or, list_all}
 use Rattle.tokens_why.specs.Bytes.{is_between, is_digit}
@@ -10,11 +10,11 @@ digit_value b = if is_digit b then b - 48 else (if is_between 97 122 b then b - 
 abbrev pub is_digit_of : ℕ → ℕ → Bool
 is_digit_of radix b = nat_lt (digit_value b) radix
 
--- a byte behind the first digit: a digit or `_`
+-- a byte after the first digit: a digit or `_`
 abbrev pub is_digit_or_line : ℕ → ℕ → Bool
 is_digit_or_line radix b = is_digit_of radix b || nat_eq b 95
 
--- the radix that a letter behind `0` names, or 0, which has no digits
+-- the radix that a letter after `0` names, or 0, which has no digits
 abbrev pub radix_of : ℕ → ℕ
 radix_of b = if nat_eq b 120 || nat_eq b 88 then 16 else (if nat_eq b 111 || nat_eq b 79 then 8 else (if nat_eq b 98 || nat_eq b 66 then 2 else 0))
 
@@ -30,14 +30,14 @@ is_based _ = false
 abbrev pub is_literal : List ℕ → Bool
 is_literal bs = is_decimal bs || is_based bs
 
--- the number that digits write behind a number; `_` counts for nothing
-abbrev pub number : ℕ → ℕ → List ℕ → ℕ
-number radix n [] = n
-number radix n (b ∷ bs) = number radix (if nat_eq b 95 then n else n * radix + digit_value b) bs
+-- the number that digits write after a number; `_` counts for nothing
+abbrev pub digits_value : ℕ → ℕ → List ℕ → ℕ
+digits_value radix n [] = n
+digits_value radix n (b ∷ bs) = digits_value radix (if nat_eq b 95 then n else n * radix + digit_value b) bs
 
--- the value of a literal: a radix letter can only stand behind a first `0`
+-- the value of a literal: a radix letter can only come after a first `0`
 abbrev pub literal_value : List ℕ → ℕ
-literal_value bs = let radix = radix_of (get_or bs 1 0) in if nat_eq radix 0 then number 10 0 bs else number radix 0 (drop 2 bs)
+literal_value bs = let radix = radix_of (get_or bs 1 0) in if nat_eq radix 0 then digits_value 10 0 bs else digits_value radix 0 (drop 2 bs)
 
 -- the greatest value that a literal may have
 abbrev pub greatest : ℕ

@@ -1,5 +1,5 @@
 -- The operators among the terminals, and how tightly they bind (Why3 manual, "Syntax", the table of precedences).
-use Rattle.tokens_why.specs.Common.{ℕ, Bool, true, false, List, codes, same, Terminal}
+use Rattle.tokens_why.specs.Common.{ℕ, Bool, true, false, List, codes, is_same_word, Terminal}
 use Rattle.tokens_why.specs.declared.terminal.Terminal.TheVariants as t
 
 -- how tightly an operator binds, and what it needs on its left and on its right
@@ -60,4 +60,4 @@ is_operator _ = false
 
 -- the characters of the operator that `(*)` names
 abbrev pub is_star : List ℕ → Bool
-is_star w = same w (codes "*")
+is_star w = is_same_word w (codes "*")

@@ -1,6 +1,6 @@
 -- The strings of each kind of token (Why3 manual, "Lexical conventions").
 use Rattle.std.specs.Prelude.{ℕ, Bool, true, false, not, ◌&&◌, nat_eq, if◌then◌else◌, List, [], ◌∷◌, Option, Some, None, codes}
-use Rattle.tokens_why.specs.Common.{list_any, list_all, place_of, same, TokenKind, Lident, Uident, Wild, TyVar, Int, StarName, LParen, RParen, LBrack, RBrack, LBrace, RBrace, Comma, Dot, Colon, Semi, Bar, Arrow, Equiv, Conj, AndAnd, Disj, OrOr, Equal, Minus, Operator, Reserved}
+use Rattle.tokens_why.specs.Common.{list_any, list_all, place_in_words, is_same_word, TokenKind, Lident, Uident, Wild, TyVar, Int, StarName, LParen, RParen, LBrack, RBrack, LBrace, RBrace, Comma, Dot, Colon, Semi, Bar, Arrow, Equiv, Conj, AndAnd, Disj, OrOr, Equal, Minus, Operator, Reserved}
 use Rattle.tokens_why.specs.Bytes.{is_digit, is_upper, is_lower, is_letter, is_word_byte, is_one_of, is_operator_byte}
 use Rattle.tokens_why.specs.Literal.{is_literal}
 use Rattle.tokens_why.specs.Reserved.{reserved_words}
@@ -10,19 +10,19 @@ use Rattle.tokens_why.specs.declared.longest.Lead.TheVariants.{Letter, Quote, Di
 -- a word: `_` alone, a reserved word, or an identifier
 abbrev pub letters_kind : List ℕ → TokenKind
 letters_kind [] = Wild
-letters_kind (a ∷ bs) = if is_upper a then Uident else (if same (a ∷ bs) (codes "_") then Wild else Lident)
+letters_kind (a ∷ bs) = if is_upper a then Uident else (if is_same_word (a ∷ bs) (codes "_") then Wild else Lident)
 
 abbrev pub placed_kind : Option ℕ → List ℕ → TokenKind
 placed_kind (Some i) bs = Reserved i
 placed_kind None bs = letters_kind bs
 
 abbrev pub word_kind : List ℕ → TokenKind
-word_kind bs = placed_kind (place_of bs reserved_words) bs
+word_kind bs = placed_kind (place_in_words bs reserved_words) bs
 
--- the name of a type variable, behind its quote: reserved words too, and not `_`
+-- the name of a type variable, after its quote: reserved words too, and not `_`
 abbrev pub is_variable_name : List ℕ → Bool
 is_variable_name [] = false
-is_variable_name (a ∷ bs) = is_lower a && list_all is_word_byte bs && not (same (a ∷ bs) (codes "_"))
+is_variable_name (a ∷ bs) = is_lower a && list_all is_word_byte bs && not (is_same_word (a ∷ bs) (codes "_"))
 
 abbrev pub is_relation : ℕ → Bool
 is_relation = is_one_of (codes "=<>~")
@@ -37,20 +37,20 @@ is_product = is_one_of (codes "*/\\%")
 abbrev pub level : List ℕ → ℕ
 level bs = if list_any is_relation bs then 1 else (if list_any is_sum bs then 2 else (if list_any is_product bs then 3 else 4))
 
-abbrev pub is_prefix : List ℕ → Bool
-is_prefix [] = false
-is_prefix (a ∷ bs) = nat_eq (level (a ∷ bs)) 4 && is_one_of (codes "!?") a
+abbrev pub is_prefix_word : List ℕ → Bool
+is_prefix_word [] = false
+is_prefix_word (a ∷ bs) = nat_eq (level (a ∷ bs)) 4 && is_one_of (codes "!?") a
 
 -- a run of operator characters: a connective, `=`, `-` or another operator
 abbrev pub run_kind : List ℕ → TokenKind
-run_kind bs = if same bs (codes "->") then Arrow
-    else (if same bs (codes "<->") then Equiv
-    else (if same bs (codes "/\\") then Conj
-    else (if same bs (codes "\\/") then Disj
-    else (if same bs (codes "&&") then AndAnd
-    else (if same bs (codes "=") then Equal
-    else (if same bs (codes "-") then Minus
-    else Operator (level bs) (is_prefix bs)))))))
+run_kind bs = if is_same_word bs (codes "->") then Arrow
+    else (if is_same_word bs (codes "<->") then Equiv
+    else (if is_same_word bs (codes "/\\") then Conj
+    else (if is_same_word bs (codes "\\/") then Disj
+    else (if is_same_word bs (codes "&&") then AndAnd
+    else (if is_same_word bs (codes "=") then Equal
+    else (if is_same_word bs (codes "-") then Minus
+    else Operator (level bs) (is_prefix_word bs)))))))
 
 abbrev pub mark_kind : ℕ → Option TokenKind
 mark_kind b = if nat_eq b 40 then Some LParen
@@ -83,14 +83,14 @@ lead_of b = if is_letter b then Letter
     else (if is_digit b then Digit
     else (if is_operator_byte b then Sign else Mark)))
 
-abbrev pub kind_by : Lead → ℕ → List ℕ → Option TokenKind
-kind_by Letter a bs = only (list_all is_word_byte bs) (word_kind (a ∷ bs))
-kind_by Quote a bs = only (is_variable_name bs) TyVar
-kind_by Digit a bs = only (is_literal (a ∷ bs)) Int
-kind_by Sign a bs = only (list_all is_operator_byte bs) (run_kind (a ∷ bs))
-kind_by Mark a bs = marks_kind (a ∷ bs)
+abbrev pub string_kind_by : Lead → ℕ → List ℕ → Option TokenKind
+string_kind_by Letter a bs = only (list_all is_word_byte bs) (word_kind (a ∷ bs))
+string_kind_by Quote a bs = only (is_variable_name bs) TyVar
+string_kind_by Digit a bs = only (is_literal (a ∷ bs)) Int
+string_kind_by Sign a bs = only (list_all is_operator_byte bs) (run_kind (a ∷ bs))
+string_kind_by Mark a bs = marks_kind (a ∷ bs)
 
 -- the kind of the token that a whole string is, if it is one
 abbrev pub kind_of : List ℕ → Option TokenKind
 kind_of [] = None
-kind_of (a ∷ bs) = kind_by (lead_of a) a bs
+kind_of (a ∷ bs) = string_kind_by (lead_of a) a bs

@@ -27,19 +27,19 @@ pub record IsString (kind : TokenKind) (w : List ℕ) : Type 0 where
   pub fits : kind ≡ tk.Int → literal_value w ≤ greatest
 
 -- no literal exceeds the greatest value
-abbrev pub Fits : List ℕ → Token → Type 0
-Fits text t = t.kind ≡ tk.Int → literal_value (text_of text t) ≤ greatest
+abbrev pub LiteralFits : List ℕ → Token → Type 0
+LiteralFits text t = t.kind ≡ tk.Int → literal_value (text_of text t) ≤ greatest
 
 -- a literal that exceeds it
 abbrev pub Exceeds : List ℕ → Token → Type 0
 Exceeds text t = (t.kind ≡ tk.Int) × (greatest < literal_value (text_of text t))
 
 -- a token begins at a byte, or none does
-abbrev pub Begins : List ℕ → ℕ → Token → Type 0
-Begins text start t = (t.start ≡ start) × IsToken text t
+abbrev pub TokenBegins : List ℕ → ℕ → Token → Type 0
+TokenBegins text start t = (t.start ≡ start) × IsToken text t
 
 abbrev pub NoneBegins : List ℕ → ℕ → Type 0
-NoneBegins text start = (t : Token) → Begins text start t → ⊥
+NoneBegins text start = (t : Token) → TokenBegins text start t → ⊥
 
 -- nothing begins at a byte: no token, no blank, and no comment or attribute that is closed
 pub record IsLexical (text : List ℕ) (b at : ℕ) : Type 0 where
@@ -51,7 +51,7 @@ pub record IsLexical (text : List ℕ) (b at : ℕ) : Type 0 where
 pub record IsBig (text : List ℕ) (b at : ℕ) : Type 0 where
   pub here : at ≡ b
   pub token : Token
-  pub begins : Begins text b token
+  pub begins : TokenBegins text b token
   pub exceeds : Exceeds text token
 
 -- how the reading of a text stops: at its end, or at a byte with a fault
@@ -65,10 +65,10 @@ Stops text whole at = at ≡ length text
 Stops text (lexical b) at = IsLexical text b at
 Stops text (big b) at = IsBig text b at
 
--- From a byte on: a gap, a token, a gap, a token and so on, and a last gap, behind which the reading stops.
+-- From a byte on: a gap, a token, a gap, a token and so on, and a last gap, after which the reading stops.
 abbrev pub Reads : List ℕ → Stop → ℕ → List Token → Type 0
 Reads text stop at [] = Stops text stop (next text at)
-Reads text stop at (t ∷ ts) = (t.start ≡ next text at) × IsToken text t × Fits text t × Reads text stop t.end ts
+Reads text stop at (t ∷ ts) = (t.start ≡ next text at) × IsToken text t × LiteralFits text t × Reads text stop t.end ts
 
 -- the tokens of a whole text
 abbrev pub AreTokens : List ℕ → List Token → Type 0

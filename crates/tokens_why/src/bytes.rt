@@ -2,7 +2,7 @@
 ghost use Rattle.std.specs.Prelude.{◌≡◌, ◌+◌, ◌<◌, ◌≤◌, ◌&&◌, nat_eq, length, drop};
 ghost use Rattle.tokens_why.specs.Common.{prefix_len};
 ghost use Rattle.tokens_why.specs.Bytes as spec;
-ghost use Rattle.tokens_why.specs.Classes.{is_in};
+ghost use Rattle.tokens_why.specs.Classes.{is_in_class};
 ghost use Rattle.tokens_why.specs.Gap.{byte_in, has_pair};
 ghost use Rattle.tokens_why.specs.Literal as literal;
 
@@ -50,14 +50,14 @@ pub fn is_letter(byte: u8) -> bool
     is_lower(byte) || is_upper(byte)
 }
 
-/// Whether a byte may stand in a word behind its first one.
+/// Whether a byte may be in a word after its first one.
 pub fn is_word_byte(byte: u8) -> bool
     ensures { result ≡ spec.is_word_byte byte }
 {
     is_letter(byte) || is_digit(byte) || byte == b'\''
 }
 
-/// Whether a byte may stand in an operator.
+/// Whether a byte may be in an operator.
 pub fn is_operator_byte(byte: u8) -> bool
     ensures { result ≡ spec.is_operator_byte byte }
 {
@@ -94,7 +94,7 @@ pub fn digit_value(byte: u8) -> u8
     }
 }
 
-/// The radix that a letter behind `0` names, or 0.
+/// The radix that a letter after `0` names, or 0.
 pub fn radix_of(byte: u8) -> u8
     ensures { result ≡ literal.radix_of byte }
 {
@@ -107,7 +107,7 @@ pub fn radix_of(byte: u8) -> u8
 }
 
 fn is_in(class: Class, byte: u8) -> bool
-    ensures { result ≡ is_in class byte }
+    ensures { result ≡ is_in_class class byte }
 {
     match class {
         Class::Word => is_word_byte(byte),
@@ -120,7 +120,7 @@ fn is_in(class: Class, byte: u8) -> bool
 /// Where the bytes of a class that stand from a place on end.
 pub fn class_end(text: &[u8], from: usize, class: Class) -> usize
     requires { from ≤ length text.now }
-    ensures place { result ≡ from + prefix_len (is_in class) (drop from text.now) }
+    ensures place { result ≡ from + prefix_len (is_in_class class) (drop from text.now) }
     ensures within { result ≤ length text.now }
 {
     let mut at = from;
@@ -130,7 +130,7 @@ pub fn class_end(text: &[u8], from: usize, class: Class) -> usize
     at
 }
 
-/// Whether this byte stands at a place.
+/// Whether this byte is at a place.
 pub fn is_byte(text: &[u8], at: usize, byte: u8) -> bool
     ensures { result ≡ nat_eq (byte_in text.now at) byte }
 {
@@ -141,7 +141,7 @@ pub fn is_byte(text: &[u8], at: usize, byte: u8) -> bool
     }
 }
 
-/// Whether these two bytes stand at a place.
+/// Whether these two bytes are at a place.
 pub fn is_pair(text: &[u8], at: usize, first: u8, second: u8) -> bool
     requires { at < length text.now }
     ensures { result ≡ has_pair first second (drop at text.now) }

@@ -1,11 +1,11 @@
-// What stands between tokens: blanks, comments and attributes.
+// What is between tokens: blanks, comments and attributes.
 ghost use Rattle.std.specs.Prelude.{◌≡◌, ◌+◌, ◌≤◌, ◌<◌, length, drop, IfSome};
 ghost use Rattle.tokens_why.specs.Gap as spec;
 ghost use Rattle.tokens_why.specs.Gap.{at_from, comment, attribute, has_star_name, next};
 
-use crate::bytes::{Class, is_blank, is_byte, is_pair, class_end};
+use crate::bytes::{Class, class_end, is_blank, is_byte, is_pair};
 
-/// Whether a comment opens at a place: `(*` without `)` behind it.
+/// Whether a comment opens at a place: `(*` without `)` after it.
 pub fn opens_comment(text: &[u8], at: usize) -> bool
     requires { at < length text.now }
     ensures { result ≡ spec.opens_comment (drop at text.now) }
@@ -16,7 +16,7 @@ pub fn opens_comment(text: &[u8], at: usize) -> bool
     !is_byte(text, at + 2, b')')
 }
 
-/// Whether `(*)` stands at a place.
+/// Whether `(*)` is at a place.
 pub fn is_star_name(text: &[u8], at: usize) -> bool
     requires { at < length text.now }
     ensures { result ≡ has_star_name (drop at text.now) }
@@ -78,7 +78,7 @@ fn attribute_length(text: &[u8], from: usize) -> usize
 /// How many bytes the blank, comment or attribute at a place takes, or 0 if there is none that is closed.
 fn piece_length(text: &[u8], at: usize) -> usize
     requires { at < length text.now }
-    ensures place { result ≡ spec.piece (drop at text.now) }
+    ensures place { result ≡ spec.gap_piece (drop at text.now) }
     ensures within { at + result ≤ length text.now }
 {
     if is_blank(text[at]) {

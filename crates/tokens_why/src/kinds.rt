@@ -89,7 +89,7 @@ fn level(run: &[u8]) -> usize
 /// Whether an operator is a prefix one.
 fn is_prefix(run: &[u8]) -> bool
     requires { 0 < length run.now }
-    ensures { result ≡ spec.is_prefix run.now }
+    ensures { result ≡ spec.is_prefix_word run.now }
 {
     if level(run) != 4 {
         return false;

@@ -2,7 +2,7 @@
 ghost use Rattle.std.specs.Prelude.{◌≡◌, ◌<◌, ◌≤◌, ◌↔◌, ℕ, List, Err, length, MatchOption, MatchBool, IsOkAnd};
 ghost use Rattle.tokens_why.specs.Common.{Token, Lexical, BigLiteral};
 ghost use Rattle.tokens_why.specs.Reserved.{reserved_words};
-ghost use Rattle.tokens_why.specs.Tokens.{AreTokens, BigLiteralAt, Begins, Exceeds, Fits, LexicalAt, NoneBegins, UnlessMemory};
+ghost use Rattle.tokens_why.specs.Tokens.{AreTokens, BigLiteralAt, TokenBegins, Exceeds, LiteralFits, LexicalAt, NoneBegins, UnlessMemory};
 
 use crate::fault::LexFault;
 use crate::gaps::{opens_attribute, opens_comment, skip};
@@ -16,7 +16,7 @@ use std::alloc::Global;
 fn token_at(words: &ReservedWords, text: &[u8], start: usize) -> Option<Token>
     requires within { start < length text.now }
     requires words { words.now ≡ reserved_words }
-    ensures { MatchOption result (NoneBegins text.now start) (Begins text.now start) }
+    ensures { MatchOption result (NoneBegins text.now start) (TokenBegins text.now start) }
 {
     if opens_comment(text, start) {
         return None;
@@ -31,7 +31,7 @@ fn token_at(words: &ReservedWords, text: &[u8], start: usize) -> Option<Token>
 fn is_too_big(text: &[u8], token: Token) -> bool
     requires ordered { token.start ≤ token.end }
     requires within { token.end ≤ length text.now }
-    ensures { MatchBool result (Exceeds text.now token) (Fits text.now token) }
+    ensures { MatchBool result (Exceeds text.now token) (LiteralFits text.now token) }
 {
     match token.kind {
         TokenKind::Int => literal_value(&text[token.start..token.end]).is_none(),

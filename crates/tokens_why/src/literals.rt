@@ -21,8 +21,8 @@ fn with_digit(number: u128, radix: u8, digit: u8) -> Option<u128>
 /// The number that digits write, if it isn't too big; `_` counts for nothing.
 fn number(digits: &[u8], radix: u8) -> Option<u128>
     requires { 0 < radix }
-    ensures { SomeIff result (spec.number radix 0 digits.now ≤ greatest)
-        (spec.number radix 0 digits.now) }
+    ensures { SomeIff result (spec.digits_value radix 0 digits.now ≤ greatest)
+        (spec.digits_value radix 0 digits.now) }
 {
     let mut number = 0;
     for byte in digits {
@@ -53,7 +53,7 @@ fn magnitude(literal: &[u8]) -> Option<u128>
 
 /// The value of an integer literal, unless it exceeds 2^127 - 1.
 ///
-/// A literal is decimal, or has `0x`, `0o` or `0b` in front, letters of either case; `_` may stand behind the first digit.
+/// A literal is decimal, or has `0x`, `0o` or `0b` in front, letters of either case; `_` may come after the first digit.
 pub fn literal_value(literal: &[u8]) -> Option<i128>
     ensures { SomeIff result (spec.literal_value literal.now ≤ greatest)
         (pos (spec.literal_value literal.now)) }

@@ -1,13 +1,14 @@
 // The longest token at a place.
 ghost use Rattle.std.specs.Prelude.{◌≡◌, ◌<◌, ◌≤◌, ◌+◌, length, drop, MatchOption};
 ghost use Rattle.tokens_why.specs.Gap.{byte_in};
-ghost use Rattle.tokens_why.specs.Longest.{IsLongestAt, HasNone};
+ghost use Rattle.tokens_why.specs.Longest.{IsLongestTokenAt, HasNone};
 ghost use Rattle.tokens_why.specs.Longest as spec;
 ghost use Rattle.tokens_why.specs.Strings.{lead_of, mark_kind};
 ghost use Rattle.tokens_why.specs.Reserved.{reserved_words};
 
 use crate::bytes::{
-    Class, digit_value, is_digit, is_letter, is_lower, is_operator_byte, is_pair, radix_of, class_end,
+    Class, class_end, digit_value, is_digit, is_letter, is_lower, is_operator_byte, is_pair,
+    radix_of,
 };
 use crate::gaps::is_star_name;
 use crate::kinds::{run_kind, word_kind};
@@ -45,7 +46,7 @@ fn word(words: &ReservedWords, text: &[u8], start: usize) -> Token
     requires within { start < length text.now }
     requires lead { lead_of (byte_in text.now start) ≡ Lead.Letter }
     requires words { words.now ≡ reserved_words }
-    ensures { IsLongestAt text.now start result }
+    ensures { IsLongestTokenAt text.now start result }
 {
     let end = class_end(text, start + 1, Class::Word);
     let kind = word_kind(words, &text[start..end]);
@@ -56,7 +57,7 @@ fn word(words: &ReservedWords, text: &[u8], start: usize) -> Token
 fn variable(text: &[u8], start: usize) -> Option<Token>
     requires within { start < length text.now }
     requires lead { lead_of (byte_in text.now start) ≡ Lead.Quote }
-    ensures { MatchOption result (HasNone (drop start text.now)) (IsLongestAt text.now start) }
+    ensures { MatchOption result (HasNone (drop start text.now)) (IsLongestTokenAt text.now start) }
 {
     if start + 1 >= text.len() {
         return None;
@@ -78,7 +79,7 @@ fn variable(text: &[u8], start: usize) -> Option<Token>
     })
 }
 
-/// The radix of a literal that stands at a place with a radix letter, or 0.
+/// The radix of a literal that is at a place with a radix letter, or 0.
 fn based_radix(text: &[u8], start: usize) -> u8
     requires { start < length text.now }
     ensures value { result ≡ spec.based_radix (drop start text.now) }
@@ -102,7 +103,7 @@ fn based_radix(text: &[u8], start: usize) -> u8
 fn literal(text: &[u8], start: usize) -> Token
     requires within { start < length text.now }
     requires lead { lead_of (byte_in text.now start) ≡ Lead.Digit }
-    ensures { IsLongestAt text.now start result }
+    ensures { IsLongestTokenAt text.now start result }
 {
     let kind = TokenKind::Int;
     let radix = based_radix(text, start);
@@ -119,7 +120,7 @@ fn literal(text: &[u8], start: usize) -> Token
 fn run(text: &[u8], start: usize) -> Token
     requires within { start < length text.now }
     requires lead { lead_of (byte_in text.now start) ≡ Lead.Sign }
-    ensures { IsLongestAt text.now start result }
+    ensures { IsLongestTokenAt text.now start result }
 {
     let end = class_end(text, start + 1, Class::Operator);
     let kind = run_kind(&text[start..end]);
@@ -150,7 +151,7 @@ fn mark_kind(byte: u8) -> Option<TokenKind>
 fn marks(text: &[u8], start: usize) -> Option<Token>
     requires within { start < length text.now }
     requires lead { lead_of (byte_in text.now start) ≡ Lead.Mark }
-    ensures { MatchOption result (HasNone (drop start text.now)) (IsLongestAt text.now start) }
+    ensures { MatchOption result (HasNone (drop start text.now)) (IsLongestTokenAt text.now start) }
 {
     if is_star_name(text, start) {
         let kind = TokenKind::StarName;
@@ -173,7 +174,7 @@ fn marks(text: &[u8], start: usize) -> Option<Token>
 pub fn longest_token(words: &ReservedWords, text: &[u8], start: usize) -> Option<Token>
     requires within { start < length text.now }
     requires words { words.now ≡ reserved_words }
-    ensures { MatchOption result (HasNone (drop start text.now)) (IsLongestAt text.now start) }
+    ensures { MatchOption result (HasNone (drop start text.now)) (IsLongestTokenAt text.now start) }
 {
     match lead_of(text[start]) {
         Lead::Letter => Some(word(words, text, start)),

@@ -23,8 +23,8 @@ use Rattle.evidence.proofs.Rules.{notforall_row, refutes_later}
 use Rattle.evidence.proofs.Formulas.{same, behind_ids}
 use Rattle.instances.specs.Instances.{IsInstance}
 use Rattle.instances.proofs.Laws.{param_term}
-use Rattle.tr_introduce.specs.Introduce.{Judgement, introduced, sequent_of, prefix}
-use Rattle.tr_introduce.specs.Steps.{AreBelow, EndsAt, NegatesOpened}
+use Rattle.tr_introduce.specs.Introduce.{Judgement, introduced, judgement_sequent, prefix}
+use Rattle.tr_introduce.specs.Steps.{AreParamsBelow, EndsDraftAt, NegatesOpened}
 use Rattle.tr_introduce.proofs.Introduced.{of_universal, of_implication, of_neither}
 
 pub not_forall_added : (d : DraftTree) (front : List TermId) (no_goal : TermId) (number premise : ℕ) → IsNew number (trees_at d.trees front ++ tree_at d.trees no_goal ∷ [])
@@ -42,7 +42,7 @@ not_forall_added d front no_goal number premise new o =
     }
 
 -- a number above all parameters is new
-pub new_below : (number : ℕ) (front : List Tree) (goal : Tree) → AreBelow number front goal → IsNew number (front ++ neg goal ∷ [])
+pub new_below : (number : ℕ) (front : List Tree) (goal : Tree) → AreParamsBelow number front goal → IsNew number (front ++ neg goal ∷ [])
 new_below number front goal b =
     All-push (λ a. has_param a number ≡ false) front (neg goal) (All-weaker (λ a. above_params a ≤ number) (λ a. has_param a number ≡ false) (λ a l. no_param_above a number l) front b.front)
     (no_param_above goal number b.goal)
@@ -64,7 +64,7 @@ module _ (d : DraftTree) (goal ty body : TermId) (f : IsFormulaAt d goal) (is : 
       } in
       record { held = h; ground = subst (λ (u : TaskTree). IsGroundFormula u (tree_at d1.trees id)) (sym t) g }
 
-  pub opened_below : (front : List Tree) (number : ℕ) (e : Tree) → AreBelow number front (tree_at d.trees goal) → IsInstance (tree_at d.trees body) (Param number (tree_at d.trees ty)) e → AreBelow (number + 1) front e
+  pub opened_below : (front : List Tree) (number : ℕ) (e : Tree) → AreParamsBelow number front (tree_at d.trees goal) → IsInstance (tree_at d.trees body) (Param number (tree_at d.trees ty)) e → AreParamsBelow (number + 1) front e
   opened_below front number e b i =
       let l : above_params (Two HForall (tree_at d.trees ty) (tree_at d.trees body)) ≤ number = subst (λ (z : Tree). above_params z ≤ number) is b.goal in
       record {
@@ -72,8 +72,8 @@ module _ (d : DraftTree) (goal ty body : TermId) (f : IsFormulaAt d goal) (is : 
         goal = i.above (number + 1) (omega arith) (omega arith);
       }
 
-  pub opened_ends : (d1 : DraftTree) (front : List TermId) (number end : ℕ) (e : Tree) → Extends d d1 → AreFormulas d front → EndsAt d end (trees_at d.trees front) (tree_at d.trees goal) number
-      → e ≡ inst (tree_at d.trees body) (Param number (tree_at d.trees ty)) → EndsAt d1 end (trees_at d1.trees front) e (number + 1)
+  pub opened_ends : (d1 : DraftTree) (front : List TermId) (number end : ℕ) (e : Tree) → Extends d d1 → AreFormulas d front → EndsDraftAt d end (trees_at d.trees front) (tree_at d.trees goal) number
+      → e ≡ inst (tree_at d.trees body) (Param number (tree_at d.trees ty)) → EndsDraftAt d1 end (trees_at d1.trees front) e (number + 1)
   opened_ends d1 front number end e x a u o =
       let n : length (u.params ++ tree_at d.trees ty ∷ []) ≡ number + 1 = length-append u.params (tree_at d.trees ty ∷ []) ∙ omega (arith, u.as_many) in
       let q : introduced (record { params = u.params; locals = trees_at d.trees front; goal = tree_at d.trees goal })
@@ -84,7 +84,7 @@ module _ (d : DraftTree) (goal ty body : TermId) (f : IsFormulaAt d goal) (is : 
       record {
         params = u.params ++ tree_at d.trees ty ∷ [];
         as_many = n;
-        refutes = subst (λ (j : Judgement). Refutes d1 end (sequent_of j)) q (refutes_later d d1 x end _ u.refutes);
+        refutes = subst (λ (j : Judgement). Refutes d1 end (judgement_sequent j)) q (refutes_later d d1 x end _ u.refutes);
       }
 
 -- ---- the goal after its premise
@@ -101,7 +101,7 @@ module _ (d : DraftTree) (front wider : List TermId) (goal a b : TermId) (f : Is
   pub wider_trees : trees_at d.trees wider ≡ trees_at d.trees front ++ tree_at d.trees a ∷ []
   wider_trees = ap (trees_at d.trees) e ∙ map-append (tree_at d.trees) front (a ∷ [])
 
-  pub wider_below : (number : ℕ) → AreBelow number (trees_at d.trees front) (tree_at d.trees goal) → AreBelow number (trees_at d.trees wider) (tree_at d.trees b)
+  pub wider_below : (number : ℕ) → AreParamsBelow number (trees_at d.trees front) (tree_at d.trees goal) → AreParamsBelow number (trees_at d.trees wider) (tree_at d.trees b)
   wider_below number k =
       let l : above_params (Two (HJoin Imp) (tree_at d.trees a) (tree_at d.trees b)) ≤ number = subst (λ (z : Tree). above_params z ≤ number) is k.goal in
       record {
@@ -109,14 +109,14 @@ module _ (d : DraftTree) (front wider : List TermId) (goal a b : TermId) (f : Is
         goal = omega arith;
       }
 
-  pub wider_ends : (number end : ℕ) → EndsAt d end (trees_at d.trees front) (tree_at d.trees goal) number → EndsAt d end (trees_at d.trees wider) (tree_at d.trees b) number
+  pub wider_ends : (number end : ℕ) → EndsDraftAt d end (trees_at d.trees front) (tree_at d.trees goal) number → EndsDraftAt d end (trees_at d.trees wider) (tree_at d.trees b) number
   wider_ends number end u =
       let q : introduced (record { params = u.params; locals = trees_at d.trees front; goal = tree_at d.trees goal })
       ≡ introduced (record { params = u.params; locals = trees_at d.trees wider; goal = tree_at d.trees b }) =
       of_implication u.params (trees_at d.trees front) (tree_at d.trees goal) (tree_at d.trees a) (tree_at d.trees b) is
       ∙ ap (λ (ls : List Tree). introduced (record { params = u.params; locals = ls; goal = tree_at d.trees b })) (sym wider_trees) in
-      record { params = u.params; as_many = u.as_many; refutes = subst (λ (j : Judgement). Refutes d end (sequent_of j)) q u.refutes }
+      record { params = u.params; as_many = u.as_many; refutes = subst (λ (j : Judgement). Refutes d end (judgement_sequent j)) q u.refutes }
 
 -- a goal from which nothing is introduced
-pub ends_here : (d : DraftTree) (front : List Tree) (goal : Tree) (number end : ℕ) → prefix goal ≡ 0 → EndsAt d end front goal number → Refutes d end (front ++ neg goal ∷ [])
-ends_here d front goal number end n u = subst (λ (j : Judgement). Refutes d end (sequent_of j)) (of_neither u.params front goal n) u.refutes
+pub ends_here : (d : DraftTree) (front : List Tree) (goal : Tree) (number end : ℕ) → prefix goal ≡ 0 → EndsDraftAt d end front goal number → Refutes d end (front ++ neg goal ∷ [])
+ends_here d front goal number end n u = subst (λ (j : Judgement). Refutes d end (judgement_sequent j)) (of_neither u.params front goal n) u.refutes

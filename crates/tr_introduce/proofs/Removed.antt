@@ -4,11 +4,11 @@ use Rattle.std.specs.List.{list_any}
 use Rattle.std.proofs.lemmas.List.{append-nil, at_drop_more, at_drop_all}
 use Rattle.trees.specs.Tree.{Tree}
 use Rattle.tasks.specs.declared.declaration.Decl.{Decl}
-use Rattle.tasks.specs.Task.{DeclarationTree, BodyTree, MakesType, Makes, Defines, Induces, Constructs, Says, Proposition, said_by, props_of}
+use Rattle.tasks.specs.Task.{DeclarationTree, BodyTree, MakesType, Makes, Defines, Induces, Constructs, Says, PropositionTree, said_by, props_of}
 use Rattle.tasks.specs.Meaning.{declaration_at, declarations_at}
-use Rattle.tr_introduce.specs.Remove.{is_proposition, is_named, is_removed, kept_decls}
+use Rattle.tr_introduce.specs.Remove.{is_proposition, is_declaration_named, is_removed, kept_decls}
 use Rattle.tr_introduce.specs.declared.removal.Seek.{Seek}
-use Rattle.tr_introduce.specs.Sought.{Found, Passes}
+use Rattle.tr_introduce.specs.Sought.{Found, PassesDeclaration}
 
 -- whether a test holds of some member, one member more
 pub any_here : {A : Type 0} (f : A → Bool) (xs : List A) (i : ℕ) (x : A) → i < length xs → x ≡ get_or xs i x → f x ≡ true → list_any f (drop i xs) ≡ true
@@ -41,7 +41,7 @@ kept_all s props decls i old l h =
     sym (append-nil old) ∙ ap (λ (z : List DeclarationTree). old ++ z) (sym e) ∙ h
 
 -- ---- a proposition that is looked for
-says : (d : DeclarationTree) (b : BodyTree) → is_proposition b ≡ true → (p : Proposition) × (said_by d b ≡ p ∷ [])
+says : (d : DeclarationTree) (b : BodyTree) → is_proposition b ≡ true → (p : PropositionTree) × (said_by d b ≡ p ∷ [])
 says d (Says a) e = (record { vars = d.vars; formula = a }, refl)
 says d (MakesType k) e = absurd (cc)
 says d (Makes k) e = absurd (cc)
@@ -62,30 +62,30 @@ module _ (props : List (List ℕ × List ℕ)) (d : DeclarationTree) where
   kept_by r e ds = ap (λ (b : Bool). if b then kept_decls props ds else d ∷ kept_decls props ds) e
 
   -- a declaration that says nothing
-  pub passes_other : (seek : Seek) → is_proposition d.body ≡ false → Passes props d seek seek
+  pub passes_other : (seek : Seek) → is_proposition d.body ≡ false → PassesDeclaration props d seek seek
   passes_other seek e =
       let none : said_by d d.body ≡ [] = says_none d d.body e in
-      let r : is_removed props d ≡ false = ap (λ (b : Bool). b && list_any (is_named d) props) e in
+      let r : is_removed props d ≡ false = ap (λ (b : Bool). b && list_any (is_declaration_named d) props) e in
       record {
-        kept = λ ds. ap (λ (z : List DeclarationTree). slice_get (props_of z) seek.left) (kept_by false r ds) ∙ ap (λ (z : List Proposition). slice_get (z ++ props_of (kept_decls props ds)) seek.left) none;
-        old = λ ds j. ap (slice_get (said_by d d.body ++ props_of ds)) (let n : seek.place - seek.place + j ≡ j = omega arith in n) ∙ ap (λ (z : List Proposition). slice_get (z ++ props_of ds) j) none;
+        kept = λ ds. ap (λ (z : List DeclarationTree). slice_get (props_of z) seek.left) (kept_by false r ds) ∙ ap (λ (z : List PropositionTree). slice_get (z ++ props_of (kept_decls props ds)) seek.left) none;
+        old = λ ds j. ap (slice_get (said_by d d.body ++ props_of ds)) (let n : seek.place - seek.place + j ≡ j = omega arith in n) ∙ ap (λ (z : List PropositionTree). slice_get (z ++ props_of ds) j) none;
         more = omega arith;
         one = omega arith;
       }
 
   module _ (e : is_proposition d.body ≡ true) where
-    said : (p : Proposition) × (said_by d d.body ≡ p ∷ [])
+    said : (p : PropositionTree) × (said_by d d.body ≡ p ∷ [])
     said = says d d.body e
 
     later : (ds : List DeclarationTree) (m n j : ℕ) → m ≡ n + 1 → slice_get (props_of (d ∷ ds)) (m - n + j) ≡ slice_get (props_of ds) j
     later ds m n j q =
         let i : m - n + j ≡ suc j = omega arith in
-        ap (slice_get (said_by d d.body ++ props_of ds)) i ∙ ap (λ (z : List Proposition). slice_get (z ++ props_of ds) (suc j)) said.1
+        ap (slice_get (said_by d d.body ++ props_of ds)) i ∙ ap (λ (z : List PropositionTree). slice_get (z ++ props_of ds) (suc j)) said.1
 
     -- a proposition that is removed
-    pub passes_removed : (seek next : Seek) → list_any (is_named d) props ≡ true → next.left ≡ seek.left → next.place ≡ seek.place + 1 → Passes props d seek next
+    pub passes_removed : (seek next : Seek) → list_any (is_declaration_named d) props ≡ true → next.left ≡ seek.left → next.place ≡ seek.place + 1 → PassesDeclaration props d seek next
     passes_removed seek next a l p =
-        let r : is_removed props d ≡ true = ap (λ (b : Bool). b && list_any (is_named d) props) e ∙ a in
+        let r : is_removed props d ≡ true = ap (λ (b : Bool). b && list_any (is_declaration_named d) props) e ∙ a in
         record {
           kept = λ ds. ap (λ (z : List DeclarationTree). slice_get (props_of z) seek.left) (kept_by true r ds) ∙ ap (slice_get (props_of (kept_decls props ds))) (sym l);
           old = λ ds j. later ds next.place seek.place j p;
@@ -93,13 +93,13 @@ module _ (props : List (List ℕ × List ℕ)) (d : DeclarationTree) where
           one = omega (arith, p);
         }
 
-    kept_one : list_any (is_named d) props ≡ false → is_removed props d ≡ false
-    kept_one a = ap (λ (b : Bool). b && list_any (is_named d) props) e ∙ a
+    kept_one : list_any (is_declaration_named d) props ≡ false → is_removed props d ≡ false
+    kept_one a = ap (λ (b : Bool). b && list_any (is_declaration_named d) props) e ∙ a
 
     -- one that is kept, before the one that is looked for
-    pub passes_kept : (seek next : Seek) → list_any (is_named d) props ≡ false → seek.left ≡ suc next.left → next.place ≡ seek.place + 1 → Passes props d seek next
+    pub passes_kept : (seek next : Seek) → list_any (is_declaration_named d) props ≡ false → seek.left ≡ suc next.left → next.place ≡ seek.place + 1 → PassesDeclaration props d seek next
     passes_kept seek next a l p = record {
-      kept = λ ds. ap (λ (z : List DeclarationTree). slice_get (props_of z) seek.left) (kept_by false (kept_one a) ds) ∙ ap (λ (z : List Proposition). slice_get (z ++ props_of (kept_decls props ds)) seek.left) said.1
+      kept = λ ds. ap (λ (z : List DeclarationTree). slice_get (props_of z) seek.left) (kept_by false (kept_one a) ds) ∙ ap (λ (z : List PropositionTree). slice_get (z ++ props_of (kept_decls props ds)) seek.left) said.1
           ∙ ap (slice_get (said.0 ∷ props_of (kept_decls props ds))) l;
       old = λ ds j. later ds next.place seek.place j p;
       more = omega (arith, p);
@@ -107,10 +107,10 @@ module _ (props : List (List ℕ × List ℕ)) (d : DeclarationTree) where
     }
 
     -- the one that is looked for
-    pub found_here : (seek : Seek) → list_any (is_named d) props ≡ false → seek.left ≡ 0 → Found props d seek
+    pub found_here : (seek : Seek) → list_any (is_declaration_named d) props ≡ false → seek.left ≡ 0 → Found props d seek
     found_here seek a l = record {
-      here = λ ds. ap (λ (z : List DeclarationTree). slice_get (props_of z) seek.left) (kept_by false (kept_one a) ds) ∙ ap (λ (z : List Proposition). slice_get (z ++ props_of (kept_decls props ds)) seek.left) said.1
-          ∙ ap (slice_get (said.0 ∷ props_of (kept_decls props ds))) l ∙ sym (ap (λ (z : List Proposition). slice_get (z ++ props_of ds) 0) said.1);
+      here = λ ds. ap (λ (z : List DeclarationTree). slice_get (props_of z) seek.left) (kept_by false (kept_one a) ds) ∙ ap (λ (z : List PropositionTree). slice_get (z ++ props_of (kept_decls props ds)) seek.left) said.1
+          ∙ ap (slice_get (said.0 ∷ props_of (kept_decls props ds))) l ∙ sym (ap (λ (z : List PropositionTree). slice_get (z ++ props_of ds) 0) said.1);
     }
 
 -- what is known before the i-th declaration
@@ -125,7 +125,7 @@ module _ (s : List Tree) (props : List (List ℕ × List ℕ)) (decls : List Dec
   opened : declarations_at s (drop i decls) ≡ declaration_at s decl ∷ rest
   opened = at_drop_more (λ (ds : List Decl). declarations_at s ds) decls i decl l ∙ ap (λ (x : Decl). declarations_at s (x ∷ drop (i + 1) decls)) (sym q)
 
-  pub sought_more : (next : Seek) → Passes props (declaration_at s decl) seek next → Sought s props decls k (i + 1) next
+  pub sought_more : (next : Seek) → PassesDeclaration props (declaration_at s decl) seek next → Sought s props decls k (i + 1) next
   sought_more next p = record {
     kept = u.kept ∙ ap (λ (z : List DeclarationTree). slice_get (props_of (kept_decls props z)) seek.left) opened ∙ p.kept rest;
     old = λ j.

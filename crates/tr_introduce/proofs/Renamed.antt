@@ -7,21 +7,21 @@ use Rattle.trees.specs.Binding.{inst_types}
 use Rattle.tasks.specs.declared.task.Task.{Task}
 use Rattle.tasks.specs.declared.facts.Fact.{Fact}
 use Rattle.tasks.specs.declared.facts.Fact.TheVariants as fact
-use Rattle.tasks.specs.Task.{TaskTree, DeclarationTree, Proposition, props_of, symbol_or, start}
+use Rattle.tasks.specs.Task.{TaskTree, DeclarationTree, PropositionTree, props_of, symbol_or, start}
 use Rattle.tasks.specs.Roles.{RoleTree}
 use Rattle.tasks.specs.Inversion.{inversion}
 use Rattle.tasks.specs.Meaning.{declarations_at}
 use Rattle.rule_rows.specs.Rows.{equation, clauses}
 use Rattle.evidence.specs.Drafts.{DraftTree, Refutes}
 use Rattle.evidence.specs.Facts.{at_symbol, fact_named, IsFact}
-use Rattle.evidence.specs.Stages.{Gives, IsAmong, IsOwn, EndIn, start_of}
+use Rattle.evidence.specs.Stages.{Gives, IsAmong, IsOwnTask, EndIn, start_of}
 use Rattle.stage_limits.specs.Laws.{limited_gives}
 use Rattle.tr_introduce.specs.Remove.{kept_decls, removed_task, remove_equation}
 use Rattle.tr_introduce.specs.KeptDecls.{same_role}
 use Rattle.tr_introduce.proofs.Tasks.{among_one}
 
 module _ (names : List (List ℕ × List ℕ)) where
-  pub old_proposition : (d : DraftTree) (from : Task) (place k : ℕ) → IsOwn d from
+  pub old_proposition : (d : DraftTree) (from : Task) (place k : ℕ) → IsOwnTask d from
       → slice_get (props_of (declarations_at d.trees from.decls)) place ≡ slice_get (props_of (kept_decls names (declarations_at d.trees from.decls))) k
       → fact_named d.task (fact.Proposition place) ≡ fact_named (removed_task names d.task) (fact.Proposition k)
   old_proposition d from place k o q =
@@ -45,7 +45,7 @@ module _ (names : List (List ℕ × List ℕ)) where
       → IsFact from t name types formula → IsFact from from old types formula
   fact_left from t name old types formula a q =
       among_one (λ z. IsFact from z name types formula → IsFact from from old types formula) a.tasks (removed_task names from) t a.place (one_left from a.tasks a.is) a.within a.there (λ f. record {
-        said = subst (λ (o : Option Proposition). IsSomeAnd o (λ p. (length types ≡ p.vars) × (formula ≡ inst_types p.formula types))) (sym q) f.said;
+        said = subst (λ (o : Option PropositionTree). IsSomeAnd o (λ p. (length types ≡ p.vars) × (formula ≡ inst_types p.formula types))) (sym q) f.said;
         ground = f.ground;
       })
 

@@ -58,5 +58,5 @@ abbrev pub judgement_at : List Tree → List TermId → List TermId → TermId �
 judgement_at s params locals goal = record { params = trees_at s params; locals = trees_at s locals; goal = tree_at s goal }
 
 -- what is to be refuted for a judgement: the locals, then the negation of the goal
-abbrev pub sequent_of : Judgement → List Tree
-sequent_of j = j.locals ++ neg j.goal ∷ []
+abbrev pub judgement_sequent : Judgement → List Tree
+judgement_sequent j = j.locals ++ neg j.goal ∷ []

@@ -11,12 +11,12 @@ is_proposition (Says a) = true
 is_proposition _ = false
 
 -- a declaration of this theory and name
-abbrev pub is_named : DeclarationTree → List ℕ × List ℕ → Bool
-is_named d p = bytes_eq d.theory p.0 && bytes_eq d.name p.1
+abbrev pub is_declaration_named : DeclarationTree → List ℕ × List ℕ → Bool
+is_declaration_named d p = bytes_eq d.theory p.0 && bytes_eq d.name p.1
 
 -- a proposition whose theory and name are among these
 abbrev pub is_removed : List (List ℕ × List ℕ) → DeclarationTree → Bool
-is_removed props d = is_proposition d.body && list_any (is_named d) props
+is_removed props d = is_proposition d.body && list_any (is_declaration_named d) props
 
 abbrev pub kept_decls : List (List ℕ × List ℕ) → List DeclarationTree → List DeclarationTree
 kept_decls props [] = []

@@ -17,8 +17,8 @@ pub record IsWithDecls (task : Task) (ds : List Decl) (copy : Task) : Type 0 whe
 pub record Found (props : List (List ℕ × List ℕ)) (d : DeclarationTree) (seek : Seek) : Type 0 where
   pub here : (ds : List DeclarationTree) → slice_get (props_of (kept_decls props (d ∷ ds))) seek.left ≡ slice_get (props_of (d ∷ ds)) 0
 
--- it stands after this declaration
-pub record Passes (props : List (List ℕ × List ℕ)) (d : DeclarationTree) (seek next : Seek) : Type 0 where
+-- it is after this declaration
+pub record PassesDeclaration (props : List (List ℕ × List ℕ)) (d : DeclarationTree) (seek next : Seek) : Type 0 where
   pub kept : (ds : List DeclarationTree) → slice_get (props_of (kept_decls props (d ∷ ds))) seek.left ≡ slice_get (props_of (kept_decls props ds)) next.left
   pub old : (ds : List DeclarationTree) (j : ℕ) → slice_get (props_of (d ∷ ds)) (next.place - seek.place + j) ≡ slice_get (props_of ds) j
   pub more : seek.place ≤ next.place

@@ -11,18 +11,14 @@ use Rattle.tasks.specs.Task.{neg}
 use Rattle.evidence.specs.Drafts.{DraftTree, Refutes}
 use Rattle.tr_introduce.specs.declared.openings.Beginning.{Beginning}
 use Rattle.tr_introduce.specs.declared.openings.Beginning.TheVariants as begins
-use Rattle.tr_introduce.specs.Introduce.{introduced, sequent_of, prefix}
-
--- each parameter of the formulas and of the goal is below this number
-pub record AreBelow (number : ℕ) (es : List Tree) (e : Tree) : Type 0 where
-  pub front : All (λ a. above_params a ≤ number) es
-  pub goal : above_params e ≤ number
+use Rattle.tr_introduce.specs.Introduce.{introduced, judgement_sequent, prefix}
+pub use Rattle.instances.specs.Instances.{AreParamsBelow}
 
 -- a step refutes what is introduced from the goal over these locals, where parameters count from this number
-pub record EndsAt (d : DraftTree) (end : ℕ) (front : List Tree) (goal : Tree) (number : ℕ) : Type 0 where
+pub record EndsDraftAt (d : DraftTree) (end : ℕ) (front : List Tree) (goal : Tree) (number : ℕ) : Type 0 where
   pub params : List Tree
   pub as_many : length params ≡ number
-  pub refutes : Refutes d end (sequent_of (introduced (record { params = params; locals = front; goal = goal })))
+  pub refutes : Refutes d end (judgement_sequent (introduced (record { params = params; locals = front; goal = goal })))
 
 -- a step refutes the formulas and the negation of a quantifier's body at the parameter of this number
 pub record RefutesOpened (d : DraftTree) (step : ℕ) (front : List Tree) (goal : Tree) (number : ℕ) : Type 0 where

@@ -5,7 +5,7 @@ ghost use Rattle.trees.specs.Node.{tree_at, Holds};
 ghost use Rattle.tasks.specs.Task.{neg};
 ghost use Rattle.tasks.specs.Meaning.{trees_at};
 ghost use Rattle.evidence.specs.Drafts.{Extends, Refutes, IsFormulaAt, AreFormulas};
-ghost use Rattle.tr_introduce.specs.Steps.{AreBelow, EndsAt};
+ghost use Rattle.tr_introduce.specs.Steps.{AreParamsBelow, EndsDraftAt};
 
 use crate::introduction::open_body;
 use crate::openings::{Beginning, beginning_of};
@@ -27,9 +27,9 @@ pub(crate) fn glue_goal(
 ) -> Result<usize, AllocError>
     requires front { AreFormulas draft.old front.now }
     requires goal { IsFormulaAt draft.old goal }
-    requires below { AreBelow number (trees_at draft.old.trees front.now)
+    requires below { AreParamsBelow number (trees_at draft.old.trees front.now)
         (tree_at draft.old.trees goal) }
-    requires end { EndsAt draft.old end (trees_at draft.old.trees front.now)
+    requires end { EndsDraftAt draft.old end (trees_at draft.old.trees front.now)
         (tree_at draft.old.trees goal) number }
     ensures refutes { IfOk result (λ k. Refutes draft.new k
         (trees_at draft.old.trees front.now ++ neg (tree_at draft.old.trees goal) ∷ [])) }
@@ -63,9 +63,9 @@ fn glue_universal(
         ≡ Two HForall (tree_at draft.old.trees ty) (tree_at draft.old.trees body) }
     requires ty_held { Holds draft.old.trees ty }
     requires body_held { Holds draft.old.trees body }
-    requires below { AreBelow number (trees_at draft.old.trees front.now)
+    requires below { AreParamsBelow number (trees_at draft.old.trees front.now)
         (tree_at draft.old.trees goal) }
-    requires end { EndsAt draft.old end (trees_at draft.old.trees front.now)
+    requires end { EndsDraftAt draft.old end (trees_at draft.old.trees front.now)
         (tree_at draft.old.trees goal) number }
     ensures refutes { IfOk result (λ k. Refutes draft.new k
         (trees_at draft.old.trees front.now ++ neg (tree_at draft.old.trees goal) ∷ [])) }
@@ -94,12 +94,13 @@ fn glue_implication(
     requires front { AreFormulas draft.old front.now }
     requires goal { IsFormulaAt draft.old goal }
     requires tree { tree_at draft.old.trees goal
-        ≡ Two (HJoin Op.Imp) (tree_at draft.old.trees premise) (tree_at draft.old.trees conclusion) }
+        ≡ Two (HJoin Op.Imp) (tree_at draft.old.trees premise)
+        (tree_at draft.old.trees conclusion) }
     requires premise_held { Holds draft.old.trees premise }
     requires conclusion_held { Holds draft.old.trees conclusion }
-    requires below { AreBelow number (trees_at draft.old.trees front.now)
+    requires below { AreParamsBelow number (trees_at draft.old.trees front.now)
         (tree_at draft.old.trees goal) }
-    requires end { EndsAt draft.old end (trees_at draft.old.trees front.now)
+    requires end { EndsDraftAt draft.old end (trees_at draft.old.trees front.now)
         (tree_at draft.old.trees goal) number }
     ensures refutes { IfOk result (λ k. Refutes draft.new k
         (trees_at draft.old.trees front.now ++ neg (tree_at draft.old.trees goal) ∷ [])) }

@@ -1,5 +1,5 @@
 //! Introduces the premises and variables of a goal (Why3 manual, "introduce_premises"), and removes propositions by name.
-//! It stands on the transformations of evidence.
+//! It depends on the transformations of evidence.
 #![tactic(auto)]
 
 mod gluing;

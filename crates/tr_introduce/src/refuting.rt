@@ -5,7 +5,7 @@ ghost use Rattle.tasks.specs.Task.{neg};
 ghost use Rattle.tasks.specs.Meaning.{trees_at};
 ghost use Rattle.rule_rows.specs.Rows.{IsNew};
 ghost use Rattle.evidence.specs.Drafts.{Extends, Refutes, IsFormulaAt, AreFormulas};
-ghost use Rattle.tr_introduce.specs.Steps.{AreBelow, NegatesOpened, RefutesOpened, RefutesFollowing};
+ghost use Rattle.tr_introduce.specs.Steps.{AreParamsBelow, NegatesOpened, RefutesOpened, RefutesFollowing};
 
 use evidence::{Draft, by_failing, by_rule, keep_but, last_formula, negation};
 use rule_rows::Rule;
@@ -51,7 +51,7 @@ pub(crate) fn refute_universal(
 ) -> Result<usize, AllocError>
     requires front { AreFormulas draft.old front.now }
     requires goal { IsFormulaAt draft.old goal }
-    requires below { AreBelow number (trees_at draft.old.trees front.now)
+    requires below { AreParamsBelow number (trees_at draft.old.trees front.now)
         (tree_at draft.old.trees goal) }
     requires opened { RefutesOpened draft.old step (trees_at draft.old.trees front.now)
         (tree_at draft.old.trees goal) number }

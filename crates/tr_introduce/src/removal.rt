@@ -4,8 +4,8 @@ ghost use Rattle.std.specs.List.{list_any};
 ghost use Rattle.trees.specs.Tree.{Tree};
 ghost use Rattle.tasks.specs.Task.{props_of};
 ghost use Rattle.tasks.specs.Meaning.{body_at, declaration_at, declarations_at, task_at, DeclHeld, TaskHeld};
-ghost use Rattle.tr_introduce.specs.Remove.{is_proposition, is_named, is_removed, kept_decls, removed_task};
-ghost use Rattle.tr_introduce.specs.Sought.{IsWithDecls, Passes, Found};
+ghost use Rattle.tr_introduce.specs.Remove.{is_proposition, is_declaration_named, is_removed, kept_decls, removed_task};
+ghost use Rattle.tr_introduce.specs.Sought.{IsWithDecls, PassesDeclaration, Found};
 
 use outside::{Seq, Text};
 use std::alloc::{AllocError, Global};
@@ -14,7 +14,7 @@ use term_store::Store;
 
 // Whether a declaration has this theory and name.
 fn is_named(decl: &Decl, name: &(Text, Text)) -> bool
-    ensures { (s : List Tree) → result ≡ is_named (declaration_at s decl.now) name.now }
+    ensures { (s : List Tree) → result ≡ is_declaration_named (declaration_at s decl.now) name.now }
 {
     decl.theory.as_slice() == name.0.as_slice() && decl.name.as_slice() == name.1.as_slice()
 }
@@ -22,7 +22,7 @@ fn is_named(decl: &Decl, name: &(Text, Text)) -> bool
 // Whether a declaration has one of these theories and names.
 fn is_among(props: &[(Text, Text)], decl: &Decl) -> bool
     ensures { (s : List Tree) → result
-        ≡ list_any (is_named (declaration_at s decl.now)) props.now }
+        ≡ list_any (is_declaration_named (declaration_at s decl.now)) props.now }
 {
     for name in props {
         if is_named(decl, name) {
@@ -113,7 +113,7 @@ fn with_decls(alloc: Global, task: &Task, decls: Vec<Decl>) -> Result<Task, Allo
     })
 }
 
-// A proposition that is looked for: how many that are kept stand before it from here on, and how many stand before here.
+// A proposition that is looked for: how many that are kept are before it from here on, and how many are before here.
 #[derive(Clone, Copy)]
 pub(crate) struct Seek {
     left: usize,
@@ -125,7 +125,7 @@ fn seek_after(seek: Seek, props: &[(Text, Text)], decl: &Decl) -> Option<Seek>
     requires { seek.place < usize.MAX }
     ensures { (s : List Tree) → MatchOption result
         (Found props.now (declaration_at s decl.now) seek)
-        (Passes props.now (declaration_at s decl.now) seek) }
+        (PassesDeclaration props.now (declaration_at s decl.now) seek) }
 {
     if !is_proposition(decl) {
         return Some(seek);

@@ -3,7 +3,7 @@ ghost use Rattle.std.specs.Prelude.{◌≡◌, [], ◌∷◌, List, IfOk};
 ghost use Rattle.trees.specs.Tree.{Tree};
 ghost use Rattle.tasks.specs.Meaning.{task_at, tasks_at, TaskHeld, TasksHeld};
 ghost use Rattle.evidence.specs.Facts.{fact_named};
-ghost use Rattle.evidence.specs.Stages.{IsOwn};
+ghost use Rattle.evidence.specs.Stages.{IsOwnTask};
 ghost use Rattle.tr_introduce.specs.Remove.{removed_task, remove_equation};
 ghost use Rattle.tr_introduce.specs.KeptDecls.{remove_keeps};
 
@@ -87,7 +87,7 @@ fn removed_tasks(
 
 // The name that a fact of the new task has in the old one, the draft's.
 fn old_name(draft: &Draft, props: &[(Text, Text)], from: &Task, name: Fact) -> Fact
-    requires { IsOwn draft.now from.now }
+    requires { IsOwnTask draft.now from.now }
     ensures { fact_named draft.now.task result
         ≡ fact_named (removed_task props.now draft.now.task) name }
 {

@@ -1,5 +1,5 @@
 //! Tests of the transformations that introduce and remove, and of the bounds on the tasks of a stage.
-//! They stand on these crates; nothing stands on them.
+//! They depend on these crates; nothing depends on them.
 #![tactic(auto)]
 
 #[cfg(test)]

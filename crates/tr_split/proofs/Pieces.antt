@@ -17,7 +17,7 @@ use Rattle.evidence.proofs.Formulas.{same}
 use Rattle.trees.specs.declared.Op.{Op}
 use Rattle.tr_split.specs.Parts.{Joins}
 use Rattle.tr_split.specs.Split.{imp}
-use Rattle.tr_split.specs.Glue.{Ends}
+use Rattle.tr_split.specs.Glue.{EndsOfParts}
 
 pub regroup : (d : DraftTree) (k : ℕ) (f t x : List Tree) → Refutes d k (f ++ (t ++ x)) → Refutes d k ((f ++ t) ++ x)
 regroup d k f t x r = record { within = r.within; is = r.is ∙ sym (append_assoc f t x) }
@@ -66,7 +66,7 @@ under_later d d1 x front f k h n a g r e =
 
 -- an end of an implication's parts, over a draft that has grown
 pub part_under : (d d1 : DraftTree) (x : Extends d d1) (front : List TermId) (f : AreFormulas d front) (h : TermId) (g : IsFormulaAt d h) (ends : List ℕ) (parts : List Tree) (i : ℕ)
-    → Ends d ends (trees_at d.trees front) (map (imp (tree_at d.trees h)) parts) → i < length ends
+    → EndsOfParts d ends (trees_at d.trees front) (map (imp (tree_at d.trees h)) parts) → i < length ends
     → Refutes d1 (get_or ends i 0) (trees_at d1.trees front ++ neg (imp (tree_at d1.trees h) (get_or parts i (Leaf HEnd))) ∷ [])
 part_under d d1 x front f h g ends parts i u l =
     let H : Tree = tree_at d.trees h in
@@ -95,14 +95,14 @@ sides_of d id op a b j f =
       right = record { held = omega (arith, f.held); ground = record { sort = j.right; typed = g.typed.3; ground = g.ground.1 } };
     }
 
-pub ends_later : (d d1 : DraftTree) (x : Extends d d1) (front : List TermId) (f : AreFormulas d front) (ends : List ℕ) (parts : List Tree) → Ends d ends (trees_at d.trees front) parts → Ends d1 ends (trees_at d1.trees front) parts
+pub ends_later : (d d1 : DraftTree) (x : Extends d d1) (front : List TermId) (f : AreFormulas d front) (ends : List ℕ) (parts : List Tree) → EndsOfParts d ends (trees_at d.trees front) parts → EndsOfParts d1 ends (trees_at d1.trees front) parts
 ends_later d d1 x front f ends parts u = record {
   as_many = u.as_many;
   each = λ i h. let q = refutes_later d d1 x (get_or ends i 0) _ (u.each i h) in
       record { within = q.within; is = q.is ∙ ap (λ (z : List Tree). z ++ neg (get_or parts i (Leaf HEnd)) ∷ []) (sym (same d d1 x front f)) };
 }
 
-pub ends_right : (d : DraftTree) (ends second : List ℕ) (front xs ys : List Tree) (n : ℕ) → Ends d ends front (xs ++ ys) → second ≡ drop n ends → n ≡ length xs → Ends d second front ys
+pub ends_right : (d : DraftTree) (ends second : List ℕ) (front xs ys : List Tree) (n : ℕ) → EndsOfParts d ends front (xs ++ ys) → second ≡ drop n ends → n ≡ length xs → EndsOfParts d second front ys
 ends_right d ends second front xs ys n u e l =
     let m : length ends ≡ length xs + length ys = u.as_many ∙ length-append xs ys in
     let k : length (drop n ends) ≡ length ends - n = length-drop n ends in

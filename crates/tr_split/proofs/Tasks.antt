@@ -10,7 +10,7 @@ use Rattle.tasks.specs.Meaning.{trees_at, task_at, tasks_at, TaskHeld}
 use Rattle.tasks.specs.Copying.{with_goal, IsWithGoal}
 use Rattle.tasks.proofs.Growth.{task_later}
 use Rattle.tr_split.specs.Split.{split, split_task}
-use Rattle.tr_split.specs.Parts.{Gains}
+use Rattle.tr_split.specs.Parts.{GainsFormulas}
 
 module _ (s : List Tree) (from : Task) where
   pub tasks_more : (ts us : List Task) (ids : List TermId) (i : ℕ) (id : TermId) (t : Task) → i < length ids → us ≡ ts ++ t ∷ [] → IsWithGoal from (get_or ids i id) t
@@ -25,7 +25,7 @@ module _ (s : List Tree) (from : Task) where
 
 -- the tasks of a list that has gained the parts of the goal
 pub tasks_split : (s s' : List Tree) (from : Task) (empty goals ds : List TermId) (ts : List Task) → Grows s s' → TaskHeld s from → empty ≡ [] → ds ≡ goals
-    → Gains s s' empty goals (split (tree_at s from.goal)) → tasks_at s' ts ≡ map (with_goal (task_at s' from)) (trees_at s' ds) → tasks_at s' ts ≡ split_task (task_at s from)
+    → GainsFormulas s s' empty goals (split (tree_at s from.goal)) → tasks_at s' ts ≡ map (with_goal (task_at s' from)) (trees_at s' ds) → tasks_at s' ts ≡ split_task (task_at s from)
 tasks_split s s' from empty goals ds ts g h none e m t =
     let all : trees_at s' ds ≡ split (tree_at s from.goal) = ap (trees_at s') e ∙ m.trees ∙ ap (λ (z : List TermId). trees_at s z ++ split (tree_at s from.goal)) none in
     t ∙ ap (λ (z : TaskTree). map (with_goal z) (trees_at s' ds)) (task_later s s' g from h) ∙ ap (map (with_goal (task_at s from))) all

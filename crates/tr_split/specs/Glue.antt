@@ -7,18 +7,18 @@ use Rattle.evidence.specs.Drafts.{DraftTree}
 use Rattle.evidence.specs.Stages.{HaveSequents}
 
 -- the formulas, and then the negation of a part
-abbrev pub end_of : List Tree → List Tree → ℕ → List Tree
-end_of front parts i = front ++ neg (get_or parts i (Leaf HEnd)) ∷ []
+abbrev pub sequent_of_part : List Tree → List Tree → ℕ → List Tree
+sequent_of_part front parts i = front ++ neg (get_or parts i (Leaf HEnd)) ∷ []
 
 -- steps, by number, that refute each part
-abbrev pub Ends : DraftTree → List ℕ → List Tree → List Tree → Type 0
-Ends d ends front parts = HaveSequents d ends (end_of front parts) (length parts)
+abbrev pub EndsOfParts : DraftTree → List ℕ → List Tree → List Tree → Type 0
+EndsOfParts d ends front parts = HaveSequents d ends (sequent_of_part front parts) (length parts)
 
 abbrev pub conj : Tree → Tree → Tree
 conj a b = Two (HJoin And) a b
 
 -- the negations of a conjunction and of its sides
-pub record AreSides (no_whole no_left no_right : Tree) : Type 0 where
+pub record AreNegatedSides (no_whole no_left no_right : Tree) : Type 0 where
   pub left : Tree
   pub right : Tree
   pub whole : no_whole ≡ neg (conj left right)

@@ -62,7 +62,7 @@ record IsPart (v : Vocabulary) (params : List Tree) (vars : ℕ) (types : List T
   pub variables : VariablesBelow vars e
 
 module _ (v : Vocabulary) (params : List Tree) (vars : ℕ) where
-  -- what a part stands under
+  -- what a part is under
   record IsFirst (types : List Tree) (h : Head) (a : Tree) : Type 0 where
     pub wraps : Wraps h a
     pub fits : (x : Tree) → TwoTyped v h a x
@@ -143,9 +143,9 @@ with_part t e valid f = record {
 }
 
 -- the tasks that the equation gives
-pub parts_of : (t : TaskTree) (ts : List TaskTree) → Gives (λ from. Ok (split_task from)) t ts → ts ≡ split_task t
-parts_of t ts e = cc
+pub parts_are_split : (t : TaskTree) (ts : List TaskTree) → Gives (λ from. Ok (split_task from)) t ts → ts ≡ split_task t
+parts_are_split t ts e = cc
 
 pub keeps : (t : TaskTree) (ts : List TaskTree) → IsValid t → Gives (λ from. Ok (split_task from)) t ts → All (Keeps t) ts
 keeps t ts valid e =
-    subst (All (Keeps t)) (sym (parts_of t ts e)) (All-map (Keeps t) (with_goal t) (split t.goal) (λ k z l. with_part t _ valid (goals t valid k z l)))
+    subst (All (Keeps t)) (sym (parts_are_split t ts e)) (All-map (Keeps t) (with_goal t) (split t.goal) (λ k z l. with_part t _ valid (goals t valid k z l)))

@@ -1,11 +1,11 @@
 // The parts of a formula, gathered in one list.
-// They stand on the store; the transformation makes its tasks from them.
+// They depend on the store; the transformation makes its tasks from them.
 ghost use Rattle.std.specs.Prelude.{◌≡◌, [], ◌∷◌, ◌++◌, map, All, IfOk};
 ghost use Rattle.trees.specs.Tree.{Two};
 ghost use Rattle.trees.specs.Node.{tree_at, head_of_node, Holds, Grows};
 ghost use Rattle.tasks.specs.Meaning.{trees_at};
 ghost use Rattle.tasks.specs.Task.{neg};
-ghost use Rattle.tr_split.specs.Parts.{IsSentence, Gains, HasTwo, Joins, Wraps};
+ghost use Rattle.tr_split.specs.Parts.{IsSentence, GainsFormulas, HasTwo, Joins, Wraps};
 ghost use Rattle.tr_split.specs.Split.{imp, split};
 
 use std::alloc::{AllocError, Global};
@@ -23,7 +23,8 @@ pub(crate) fn add_parts(
     requires formula_held { Holds store.old formula }
     requires sentence { IsSentence (tree_at store.old formula) }
     requires held { All (Holds store.old) parts.old.items }
-    ensures gains { IfOk result (λ _. Gains store.old store.new parts.old.items parts.new.items
+    ensures gains { IfOk result (λ _. GainsFormulas store.old store.new parts.old.items
+        parts.new.items
         (split (tree_at store.old formula))) }
     ensures grows { Grows store.old store.new }
 {
@@ -55,7 +56,8 @@ fn add_joined(
     requires formula_held { Holds store.old formula }
     requires joins { Joins store.old formula op a b }
     requires held { All (Holds store.old) parts.old.items }
-    ensures gains { IfOk result (λ _. Gains store.old store.new parts.old.items parts.new.items
+    ensures gains { IfOk result (λ _. GainsFormulas store.old store.new parts.old.items
+        parts.new.items
         (split (tree_at store.old formula))) }
     ensures grows { Grows store.old store.new }
 {
@@ -93,7 +95,8 @@ fn add_parts_under(
     requires first_held { Holds store.old first }
     requires node { HasTwo node }
     requires wraps { Wraps (head_of_node node) (tree_at store.old first) }
-    ensures gains { IfOk result (λ _. Gains store.old store.new parts.old.items parts.new.items
+    ensures gains { IfOk result (λ _. GainsFormulas store.old store.new parts.old.items
+        parts.new.items
         (map (Two (head_of_node node) (tree_at store.old first))
         (split (tree_at store.old formula)))) }
     ensures grows { Grows store.old store.new }
@@ -120,7 +123,8 @@ fn add_branches(
     requires other_held { Holds store.old other }
     requires other { IsSentence (tree_at store.old other) }
     requires held { All (Holds store.old) parts.old.items }
-    ensures gains { IfOk result (λ _. Gains store.old store.new parts.old.items parts.new.items
+    ensures gains { IfOk result (λ _. GainsFormulas store.old store.new parts.old.items
+        parts.new.items
         (map (imp (tree_at store.old test)) (split (tree_at store.old then)) ++ map
         (imp (neg (tree_at store.old test))) (split (tree_at store.old other)))) }
     ensures grows { Grows store.old store.new }
@@ -156,7 +160,8 @@ fn add_both_ways(
     requires b_held { Holds store.old b }
     requires b { IsSentence (tree_at store.old b) }
     requires held { All (Holds store.old) parts.old.items }
-    ensures gains { IfOk result (λ _. Gains store.old store.new parts.old.items parts.new.items
+    ensures gains { IfOk result (λ _. GainsFormulas store.old store.new parts.old.items
+        parts.new.items
         (imp (tree_at store.old a) (tree_at store.old b) ∷ imp (tree_at store.old b)
         (tree_at store.old a) ∷ [])) }
     ensures grows { Grows store.old store.new }
@@ -182,7 +187,8 @@ fn add_wrapped(
     requires first_held { Holds store.old first }
     requires node { HasTwo node }
     requires wraps { Wraps (head_of_node node) (tree_at store.old first) }
-    ensures gains { IfOk result (λ _. Gains store.old store.new parts.old.items parts.new.items
+    ensures gains { IfOk result (λ _. GainsFormulas store.old store.new parts.old.items
+        parts.new.items
         (map (Two (head_of_node node) (tree_at store.old first))
         (trees_at store.old formulas.now))) }
     ensures grows { Grows store.old store.new }

@@ -1,4 +1,4 @@
--- What stands inside a part's formula, and the end of the part alone.
+-- What is inside a part's formula, and the end of the part alone.
 use Rattle.std.proofs.Common.{◌≡◌, ◌++◌, [], ◌∷◌, Option, sym, subst, ◌∙◌}
 use Rattle.trees.specs.declared.TermId.{TermId}
 use Rattle.trees.specs.Tree.{Tree, Two, HForall, HLet}

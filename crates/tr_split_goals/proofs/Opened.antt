@@ -16,10 +16,10 @@ use Rattle.evidence.specs.Drafts.{DraftTree, Extends, IsFormulaAt, AreFormulas}
 use Rattle.instances.specs.Instances.{IsTermOf, IsClosedTerm, IsInstance}
 use Rattle.instances.proofs.Laws.{param_term}
 use Rattle.tr_split.specs.Split.{split}
-use Rattle.tr_split.specs.Glue.{Ends}
+use Rattle.tr_split.specs.Glue.{EndsOfParts}
 use Rattle.tr_split.specs.Kept.{let_sentence}
 use Rattle.tr_split.proofs.Pieces.{ends_later}
-use Rattle.tr_split_goals.specs.Goals.{AreBelow}
+use Rattle.tr_split_goals.specs.Goals.{AreParamsBelow}
 use Rattle.tr_split_goals.specs.Over.{IsTermAt}
 use Rattle.tr_split_goals.proofs.Instances.{split_inst}
 
@@ -39,7 +39,7 @@ module _ (d : DraftTree) (goal ty body : TermId) (f : IsFormulaAt d goal) (is : 
     variables = subst (VariablesBelow 0) (sym e) whole.ground.0;
   }
 
-  pub opened_below : (front : List Tree) (number : ℕ) (e : Tree) → AreBelow number front (tree_at d.trees goal) → IsInstance (tree_at d.trees body) (Param number (tree_at d.trees ty)) e → AreBelow (number + 1) front e
+  pub opened_below : (front : List Tree) (number : ℕ) (e : Tree) → AreParamsBelow number front (tree_at d.trees goal) → IsInstance (tree_at d.trees body) (Param number (tree_at d.trees ty)) e → AreParamsBelow (number + 1) front e
   opened_below front number e b i =
       let l : above_params (Two HForall (tree_at d.trees ty) (tree_at d.trees body)) ≤ number = subst (λ (z : Tree). above_params z ≤ number) is b.goal in
       record {
@@ -55,7 +55,7 @@ module _ (d : DraftTree) (goal value body : TermId) (f : IsFormulaAt d goal) (is
   valued : IsGroundFormula d.task (Two HLet (tree_at d.trees value) (tree_at d.trees body))
   valued = subst (IsGroundFormula d.task) is f.ground
 
-  pub valued_below : (front : List Tree) (number : ℕ) (e : Tree) → AreBelow number front (tree_at d.trees goal) → IsInstance (tree_at d.trees body) (tree_at d.trees value) e → AreBelow number front e
+  pub valued_below : (front : List Tree) (number : ℕ) (e : Tree) → AreParamsBelow number front (tree_at d.trees goal) → IsInstance (tree_at d.trees body) (tree_at d.trees value) e → AreParamsBelow number front e
   valued_below front number e b i =
       let l : above_params (Two HLet (tree_at d.trees value) (tree_at d.trees body)) ≤ number = subst (λ (z : Tree). above_params z ≤ number) is b.goal in
       record { front = b.front; goal = i.above number (omega arith) (omega arith) }
@@ -66,9 +66,9 @@ module _ (d : DraftTree) (goal value body : TermId) (f : IsFormulaAt d goal) (is
       (let_sentence (tree_at d.trees value) (tree_at d.trees body) valued.typed.0 valued.sort)
 
 -- the ends of the parts of a goal that binds, over a draft that has grown
-pub wholes_ends : (d d1 : DraftTree) (x : Extends d d1) (front : List TermId) (f : AreFormulas d front) (goal : TermId) (ends : List ℕ) (parts : List Tree) → split (tree_at d.trees goal) ≡ parts → Ends d ends (trees_at d.trees front) (split (tree_at d.trees goal)) → Ends d1 ends (trees_at d1.trees front) parts
-wholes_ends d d1 x front f goal ends parts q e = ends_later d d1 x front f ends parts (subst (Ends d ends (trees_at d.trees front)) q e)
+pub wholes_ends : (d d1 : DraftTree) (x : Extends d d1) (front : List TermId) (f : AreFormulas d front) (goal : TermId) (ends : List ℕ) (parts : List Tree) → split (tree_at d.trees goal) ≡ parts → EndsOfParts d ends (trees_at d.trees front) (split (tree_at d.trees goal)) → EndsOfParts d1 ends (trees_at d1.trees front) parts
+wholes_ends d d1 x front f goal ends parts q e = ends_later d d1 x front f ends parts (subst (EndsOfParts d ends (trees_at d.trees front)) q e)
 
 -- the ends of the parts alone are those of the goal that is opened
-pub inner_ends : (d d1 : DraftTree) (ends : List ℕ) (front front1 parts parts1 : List Tree) → front1 ≡ front → parts1 ≡ parts → Ends d1 ends (front1 ++ []) parts1 → Ends d1 ends front parts
-inner_ends d d1 ends front front1 parts parts1 p q e = subst (λ (z : List Tree). Ends d1 ends z parts) (append-nil front1 ∙ p) (subst (Ends d1 ends (front1 ++ [])) q e)
+pub inner_ends : (d d1 : DraftTree) (ends : List ℕ) (front front1 parts parts1 : List Tree) → front1 ≡ front → parts1 ≡ parts → EndsOfParts d1 ends (front1 ++ []) parts1 → EndsOfParts d1 ends front parts
+inner_ends d d1 ends front front1 parts parts1 p q e = subst (λ (z : List Tree). EndsOfParts d1 ends z parts) (append-nil front1 ∙ p) (subst (EndsOfParts d1 ends (front1 ++ [])) q e)

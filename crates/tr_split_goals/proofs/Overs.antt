@@ -1,4 +1,4 @@
--- What parts stand under, over drafts that have grown, and the ends of all the parts.
+-- What parts are under, over drafts that have grown, and the ends of all the parts.
 use Rattle.std.proofs.Common.{◌≡◌, ℕ, ◌<◌, ◌≤◌, List, [], ◌∷◌, ◌++◌, length, map, get_or, refl, sym, ap, subst, ◌∙◌, arith}
 use Rattle.std.proofs.lemmas.List.{length-map, get_or-map}
 use Rattle.trees.specs.declared.TermId.{TermId}
@@ -15,7 +15,7 @@ use Rattle.evidence.proofs.Rules.{refutes_later}
 use Rattle.evidence.proofs.Formulas.{same, formula_later}
 use Rattle.instances.specs.Instances.{IsTermOf, IsClosedTerm}
 use Rattle.tr_split.specs.Split.{imp}
-use Rattle.tr_split.specs.Glue.{Ends, end_of}
+use Rattle.tr_split.specs.Glue.{EndsOfParts, sequent_of_part}
 use Rattle.tr_split_goals.specs.declared.over.Over.{Over}
 use Rattle.tr_split_goals.specs.declared.over.Over.TheVariants as stands
 use Rattle.tr_split_goals.specs.Over.{IsTermAt, OverHeld, whole_of, inner_of, extra_of}
@@ -54,7 +54,7 @@ module _ (d d1 : DraftTree) (x : Extends d d1) where
   extra_later (stands.Value v) f = refl
 
   -- the end of a part, over the draft that has grown
-  pub whole_end : (front : List TermId) (f : AreFormulas d front) (o : Over) (g : OverHeld d o) (ends : List ℕ) (parts : List Tree) (i : ℕ) → Ends d ends (trees_at d.trees front) (map (whole_of d.trees o) parts) → i < length ends
+  pub whole_end : (front : List TermId) (f : AreFormulas d front) (o : Over) (g : OverHeld d o) (ends : List ℕ) (parts : List Tree) (i : ℕ) → EndsOfParts d ends (trees_at d.trees front) (map (whole_of d.trees o) parts) → i < length ends
       → Refutes d1 (get_or ends i 0) (trees_at d1.trees front ++ neg (whole_of d1.trees o (get_or parts i (Leaf HEnd))) ∷ [])
   whole_end front f o g ends parts i u l =
       let W = whole_of d.trees o in
@@ -71,7 +71,7 @@ module _ (d d1 : DraftTree) (x : Extends d d1) where
   -- the end of the part alone, over what is assumed in the earlier draft
   pub inner_end : (d2 : DraftTree) (front : List TermId) (f : AreFormulas d front) (o : Over) (g : OverHeld d o) (k : ℕ) (parts : List Tree) (i : ℕ) → i < length parts
       → Refutes d2 k ((trees_at d1.trees front ++ extra_of d1.trees o) ++ neg (inner_of d1.trees o (get_or parts i (Leaf HEnd))) ∷ [])
-      → Refutes d2 k (end_of (trees_at d.trees front ++ extra_of d.trees o) (map (inner_of d.trees o) parts) i)
+      → Refutes d2 k (sequent_of_part (trees_at d.trees front ++ extra_of d.trees o) (map (inner_of d.trees o) parts) i)
   inner_end d2 front f o g k parts i l r =
       let I = inner_of d.trees o in
       let p : Tree = get_or parts i (Leaf HEnd) in
@@ -81,7 +81,7 @@ module _ (d d1 : DraftTree) (x : Extends d d1) where
       let c : neg (inner_of d1.trees o p) ≡ neg (get_or (map I parts) i (Leaf HEnd)) = ap neg (inner_later o g p ∙ sym e) in
       record { within = r.within; is = r.is ∙ cc (a, b, c) }
 
-pub all_ends : (d : DraftTree) (ns ends : List ℕ) (front parts : List Tree) (w i : Tree → Tree) (n : ℕ) → HaveSequents d ns (end_of front (map i parts)) n → length ends ≡ length (map w parts) → length ends ≤ n → n ≤ length ends → Ends d ns front (map i parts)
+pub all_ends : (d : DraftTree) (ns ends : List ℕ) (front parts : List Tree) (w i : Tree → Tree) (n : ℕ) → HaveSequents d ns (sequent_of_part front (map i parts)) n → length ends ≡ length (map w parts) → length ends ≤ n → n ≤ length ends → EndsOfParts d ns front (map i parts)
 all_ends d ns ends front parts w i n u e l m =
     let k : n ≡ length (map i parts) = omega (arith, e, length-map parts w, length-map parts i) in
     record { as_many = u.as_many ∙ k; each = λ j q. u.each j (omega arith) }

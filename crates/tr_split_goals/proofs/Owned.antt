@@ -9,12 +9,12 @@ use Rattle.tasks.specs.Task.{TaskTree}
 use Rattle.tasks.specs.Valid.{IsFormula}
 use Rattle.tasks.specs.Meaning.{trees_at}
 use Rattle.evidence.specs.Drafts.{DraftTree}
-use Rattle.evidence.specs.Stages.{IsOwn}
+use Rattle.evidence.specs.Stages.{IsOwnTask}
 use Rattle.instances.proofs.Kept.{parameters_within}
-use Rattle.tr_split_goals.specs.Goals.{AreBelow}
+use Rattle.tr_split_goals.specs.Goals.{AreParamsBelow}
 
 -- the parameters of a valid task are below their number
-pub own_below : (d : DraftTree) (from : Task) (n : ℕ) → n ≡ length from.params → IsOwn d from → AreBelow n (trees_at d.trees from.locals) (tree_at d.trees from.goal)
+pub own_below : (d : DraftTree) (from : Task) (n : ℕ) → n ≡ length from.params → IsOwnTask d from → AreParamsBelow n (trees_at d.trees from.locals) (tree_at d.trees from.goal)
 own_below d from n q o =
     let k : length d.task.params ≡ n = sym (ap (λ (t : TaskTree). length t.params) o.is) ∙ length-map from.params (tree_at d.trees) ∙ sym q in
     let l : All (λ e. above_params e ≤ n) d.task.locals = All-weaker (IsFormula d.task d.task.params 0) (λ e. above_params e ≤ n) (λ e f. omega (arith, k, parameters_within d.task.params e f.parameters)) d.task.locals o.valid.locals in

@@ -11,7 +11,7 @@ use Rattle.tasks.specs.Task.{neg}
 use Rattle.tasks.specs.Valid.{IsTypeOver}
 use Rattle.rule_rows.specs.Trees.{RNotTrue, RClash, RForall, RNotForall, RLetDef, RIfDef}
 use Rattle.rule_rows.specs.Forms.{join, alike_by}
-use Rattle.rule_rows.specs.Rows.{Row, IsNew}
+use Rattle.rule_rows.specs.Rows.{IsRuleRow, IsNew}
 use Rattle.kernel.specs.Right.{IsGroundExpression}
 use Rattle.evidence.specs.Drafts.{DraftTree, Refutes}
 use Rattle.evidence.proofs.Rules.{nottrue_row, clash_row, forall_row, notforall_row, letdef_row, ifdef_row}
@@ -53,7 +53,7 @@ module _ (d : DraftTree) (F : List Tree) (n : ℕ) (len : length F ≡ n) where
   let_by : (s : List Tree) (v b : Tree) → IsGroundExpression d.task (Two HLet v b) → sort_of (Two HLet v b) ≡ Formula → IsByRule d.task s (RLetDef (Two HLet v b)) ((join Iff (Two HLet v b) (inst b v) ∷ []) ∷ [])
   let_by s v b g q = record {
     names = record { trees = (g, tt); types = All-nil (IsTypeOver d.task 0) };
-    row = subst (λ (k : Sort). Row d.task s (RLetDef (Two HLet v b)) ((s ++ alike_by k (Two HLet v b) (inst b v) ∷ []) ∷ [])) q (letdef_row d.task s v b);
+    row = subst (λ (k : Sort). IsRuleRow d.task s (RLetDef (Two HLet v b)) ((s ++ alike_by k (Two HLet v b) (inst b v) ∷ []) ∷ [])) q (letdef_row d.task s v b);
   }
 
   abbrev defined_if : Sort → Tree → Tree → Tree → Tree
@@ -62,7 +62,7 @@ module _ (d : DraftTree) (F : List Tree) (n : ℕ) (len : length F ≡ n) where
   if_by : (s : List Tree) (c a b : Tree) → IsGroundExpression d.task (Three HIf c a b) → sort_of (Three HIf c a b) ≡ Formula → IsByRule d.task s (RIfDef (Three HIf c a b)) ((defined_if Formula c a b ∷ []) ∷ [])
   if_by s c a b g q = record {
     names = record { trees = (g, tt); types = All-nil (IsTypeOver d.task 0) };
-    row = subst (λ (k : Sort). Row d.task s (RIfDef (Three HIf c a b)) ((s ++ defined_if k c a b ∷ []) ∷ [])) q (ifdef_row d.task s c a b);
+    row = subst (λ (k : Sort). IsRuleRow d.task s (RIfDef (Three HIf c a b)) ((s ++ defined_if k c a b ∷ []) ∷ [])) q (ifdef_row d.task s c a b);
   }
 
   -- ---- goals

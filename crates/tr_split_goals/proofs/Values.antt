@@ -1,4 +1,4 @@
--- What stands inside a `let`, a quantifier and an `if`.
+-- What is inside a `let`, a quantifier and an `if`.
 use Rattle.std.proofs.Common.{◌≡◌, ℕ, ◌≤◌, ◌++◌, List, [], ◌∷◌, Some, map, false, refl, sym, ap, subst, arith}
 use Rattle.std.proofs.lemmas.List.Elements.{All-push, All-weaker}
 use Rattle.trees.specs.declared.TermId.{TermId}
@@ -22,7 +22,7 @@ use Rattle.trees.specs.Facts.{has_param}
 use Rattle.trees.proofs.Above.{no_param_above}
 use Rattle.rule_rows.specs.Rows.{IsNew}
 use Rattle.tasks.specs.Task.{neg}
-use Rattle.tr_split_goals.specs.Goals.{AreBelow, splits}
+use Rattle.tr_split_goals.specs.Goals.{AreParamsBelow, splits}
 use Rattle.tr_split_goals.proofs.Instances.{splits_inst}
 use Rattle.tr_split_goals.specs.declared.over.Over.TheVariants as stands
 use Rattle.tr_split_goals.specs.Over.{IsTypedTermAt, inner_of}
@@ -88,22 +88,22 @@ module _ (d : DraftTree) (goal cond a b : TermId) (f : IsFormulaAt d goal) (is :
   else_formula h = record { held = h; ground = record { sort = else_sentence (tree_at d.trees cond) (tree_at d.trees a) (tree_at d.trees b) ground.typed.0 ground.sort; typed = ground.typed.4; ground = ground.ground.2 } }
 
 -- ---- numbers above the parameters
-pub left_below : (number : ℕ) (es : List Tree) (op : Op) (a b : Tree) → AreBelow number es (Two (HJoin op) a b) → AreBelow number es a
+pub left_below : (number : ℕ) (es : List Tree) (op : Op) (a b : Tree) → AreParamsBelow number es (Two (HJoin op) a b) → AreParamsBelow number es a
 left_below number es op a b l = let m : above_params (Two (HJoin op) a b) ≤ number = l.goal in record { front = l.front; goal = omega arith }
 
-pub right_below : (number : ℕ) (es : List Tree) (op : Op) (a b : Tree) → AreBelow number es (Two (HJoin op) a b) → AreBelow number es b
+pub right_below : (number : ℕ) (es : List Tree) (op : Op) (a b : Tree) → AreParamsBelow number es (Two (HJoin op) a b) → AreParamsBelow number es b
 right_below number es op a b l = let m : above_params (Two (HJoin op) a b) ≤ number = l.goal in record { front = l.front; goal = omega arith }
 
-pub joined_below : (number : ℕ) (es : List Tree) (op op' : Op) (a b : Tree) → AreBelow number es (Two (HJoin op) a b) → AreBelow number es (Two (HJoin op') a b)
+pub joined_below : (number : ℕ) (es : List Tree) (op op' : Op) (a b : Tree) → AreParamsBelow number es (Two (HJoin op) a b) → AreParamsBelow number es (Two (HJoin op') a b)
 joined_below number es op op' a b l = let m : above_params (Two (HJoin op) a b) ≤ number = l.goal in record { front = l.front; goal = omega arith }
 
-pub premise_below : (number : ℕ) (es : List Tree) (op : Op) (a b : Tree) → AreBelow number es (Two (HJoin op) a b) → AreBelow number (es ++ a ∷ []) b
+pub premise_below : (number : ℕ) (es : List Tree) (op : Op) (a b : Tree) → AreParamsBelow number es (Two (HJoin op) a b) → AreParamsBelow number (es ++ a ∷ []) b
 premise_below number es op a b l =
     let m : above_params (Two (HJoin op) a b) ≤ number = l.goal in
     record { front = All-push (λ e. above_params e ≤ number) es a l.front (omega arith); goal = omega arith }
 
-pub below_later : (d d1 : DraftTree) (x : Extends d d1) (front : List TermId) (f : AreFormulas d front) (number : ℕ) (e e1 : Tree) → e1 ≡ e → AreBelow number (trees_at d.trees front) e → AreBelow number (trees_at d1.trees front) e1
-below_later d d1 x front f number e e1 q l = subst (λ (z : List Tree). AreBelow number z e1) (sym (same d d1 x front f)) (subst (AreBelow number (trees_at d.trees front)) (sym q) l)
+pub below_later : (d d1 : DraftTree) (x : Extends d d1) (front : List TermId) (f : AreFormulas d front) (number : ℕ) (e e1 : Tree) → e1 ≡ e → AreParamsBelow number (trees_at d.trees front) e → AreParamsBelow number (trees_at d1.trees front) e1
+below_later d d1 x front f number e e1 q l = subst (λ (z : List Tree). AreParamsBelow number z e1) (sym (same d d1 x front f)) (subst (AreParamsBelow number (trees_at d.trees front)) (sym q) l)
 
 -- under a hypothesis the parts alone are the parts
 pub same_parts : (s : List Tree) (h : TermId) (xs : List Tree) → map (inner_of s (stands.Hypothesis h)) xs ≡ xs
@@ -122,13 +122,13 @@ valued_splits d goal value body f is t =
     splits_inst (tree_at d.trees body) t (typed_sorted (of_task d.task) (bound_types HLet (tree_at d.trees value) ++ []) (tree_at d.trees body) w.typed.3) (let_sentence (tree_at d.trees value) (tree_at d.trees body) w.typed.0 w.sort)
 
 -- a number above all parameters is new
-pub new_below : (number : ℕ) (front : List Tree) (goal : Tree) → AreBelow number front goal → IsNew number (front ++ neg goal ∷ [])
+pub new_below : (number : ℕ) (front : List Tree) (goal : Tree) → AreParamsBelow number front goal → IsNew number (front ++ neg goal ∷ [])
 new_below number front goal b =
     All-push (λ a. has_param a number ≡ false) front (neg goal) (All-weaker (λ a. above_params a ≤ number) (λ a. has_param a number ≡ false) (λ a l. no_param_above a number l) front b.front)
     (no_param_above goal number b.goal)
 
-pub then_below : (number : ℕ) (es : List Tree) (c a b : Tree) → AreBelow number es (Three HIf c a b) → AreBelow number es (Two (HJoin Imp) c a)
+pub then_below : (number : ℕ) (es : List Tree) (c a b : Tree) → AreParamsBelow number es (Three HIf c a b) → AreParamsBelow number es (Two (HJoin Imp) c a)
 then_below number es c a b l = let m : above_params (Three HIf c a b) ≤ number = l.goal in record { front = l.front; goal = omega arith }
 
-pub else_below : (number : ℕ) (es : List Tree) (c a b : Tree) → AreBelow number es (Three HIf c a b) → AreBelow number es (Two (HJoin Imp) (neg c) b)
+pub else_below : (number : ℕ) (es : List Tree) (c a b : Tree) → AreParamsBelow number es (Three HIf c a b) → AreParamsBelow number es (Two (HJoin Imp) (neg c) b)
 else_below number es c a b l = let m : above_params (Three HIf c a b) ≤ number = l.goal in record { front = l.front; goal = omega arith }

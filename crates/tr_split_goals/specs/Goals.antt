@@ -6,6 +6,7 @@ use Rattle.tasks.specs.Task.{TaskTree}
 use Rattle.evidence.specs.Stages.{Refusal}
 use Rattle.stage_limits.specs.Limits.{limited}
 use Rattle.tr_split.specs.Split.{split_task}
+pub use Rattle.instances.specs.Instances.{AreParamsBelow}
 
 -- a task for each part of the goal, where they aren't too large
 abbrev pub split_equation : TaskTree → Result (List TaskTree) Refusal
@@ -20,8 +21,3 @@ splits (Two HForall ty a) = suc (splits a)
 splits (Two HLet t a) = suc (splits a)
 splits (Three HIf c a b) = suc (suc (suc (splits a + splits b)))
 splits _ = 0
-
--- each parameter of the formulas and of the goal is below this number
-pub record AreBelow (number : ℕ) (es : List Tree) (e : Tree) : Type 0 where
-  pub front : All (λ a. above_params a ≤ number) es
-  pub goal : above_params e ≤ number

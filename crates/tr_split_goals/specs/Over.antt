@@ -1,4 +1,4 @@
--- What a part stands under, and what its end gives.
+-- What a part is under, and what its end gives.
 use Rattle.std.specs.Prelude.{ℕ, List, [], ◌∷◌, ◌++◌, map}
 use Rattle.trees.specs.declared.TermId.{TermId}
 use Rattle.trees.specs.Tree.{Tree, Two, HForall, HLet}
@@ -36,7 +36,7 @@ IsBinding (Two HForall a b) = Unit {0}
 IsBinding (Two HLet a b) = Unit {0}
 IsBinding _ = ⊥
 
--- ---- what a part stands under
+-- ---- what a part is under
 abbrev pub whole_of : List Tree → Over → Tree → Tree
 whole_of s (stands.Hypothesis h) a = imp (tree_at s h) a
 whole_of s (stands.Universal ty t) a = Two HForall (tree_at s ty) a
@@ -59,7 +59,7 @@ OverHeld d (stands.Hypothesis h) = IsFormulaAt d h
 OverHeld d (stands.Universal ty t) = Holds d.trees ty × IsTermAt d (tree_at d.trees ty) t
 OverHeld d (stands.Value v) = IsTypedTermAt d v
 
--- the parts of a formula under what they stand under, and alone
+-- the parts of a formula under what they are under, and alone
 abbrev pub wholes : List Tree → Over → Tree → List Tree
 wholes s o a = map (whole_of s o) (split a)
 

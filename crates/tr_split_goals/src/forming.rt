@@ -14,12 +14,7 @@ use term_store::Grow;
 use trees::{Node, Op, TermId};
 
 // Two formulas joined.
-pub(crate) fn connect(
-    draft: &mut Draft,
-    op: Op,
-    a: TermId,
-    b: TermId,
-) -> Result<TermId, AllocError>
+pub(crate) fn connect(draft: &mut Draft, op: Op, a: TermId, b: TermId) -> Result<TermId, AllocError>
     requires a { IsFormulaAt draft.old a }
     requires b { IsFormulaAt draft.old b }
     ensures formula { IfOk result (IsFormulaAt draft.new) }
@@ -87,7 +82,7 @@ pub(crate) fn right_side(draft: &Draft, id: TermId) -> TermId
     }
 }
 
-// What stands under a quantifier or a `let`.
+// What is under a quantifier or a `let`.
 pub(crate) fn under_binder(draft: &Draft, id: TermId) -> TermId
     requires formula { IsFormulaAt draft.now id }
     requires binding { IsBinding (tree_at draft.now.trees id) }

@@ -6,9 +6,9 @@ ghost use Rattle.tasks.specs.Task.{neg};
 ghost use Rattle.tasks.specs.Meaning.{trees_at};
 ghost use Rattle.evidence.specs.Drafts.{Extends, Refutes, IsFormulaAt, AreFormulas};
 ghost use Rattle.tr_split.specs.Split.{split};
-ghost use Rattle.tr_split.specs.Glue.{Ends};
+ghost use Rattle.tr_split.specs.Glue.{EndsOfParts};
 ghost use Rattle.tr_split.specs.Parts.{Joins};
-ghost use Rattle.tr_split_goals.specs.Goals.{AreBelow};
+ghost use Rattle.tr_split_goals.specs.Goals.{AreParamsBelow};
 
 use crate::forming::{connect, if_equation};
 use crate::opening::{open_universal, open_valued};
@@ -62,9 +62,9 @@ pub(crate) fn glue_goal(
 ) -> Result<usize, AllocError>
     requires front { AreFormulas draft.old front.now }
     requires goal { IsFormulaAt draft.old goal }
-    requires below { AreBelow number (trees_at draft.old.trees front.now)
+    requires below { AreParamsBelow number (trees_at draft.old.trees front.now)
         (tree_at draft.old.trees goal) }
-    requires ends { Ends draft.old ends.now (trees_at draft.old.trees front.now)
+    requires ends { EndsOfParts draft.old ends.now (trees_at draft.old.trees front.now)
         (split (tree_at draft.old.trees goal)) }
     ensures refutes { IfOk result (λ k. Refutes draft.new k
         (trees_at draft.old.trees front.now ++ neg (tree_at draft.old.trees goal) ∷ [])) }
@@ -95,9 +95,9 @@ fn glue_joined(
     requires front { AreFormulas draft.old front.now }
     requires goal { IsFormulaAt draft.old goal }
     requires joins { Joins draft.old.trees goal op a b }
-    requires below { AreBelow number (trees_at draft.old.trees front.now)
+    requires below { AreParamsBelow number (trees_at draft.old.trees front.now)
         (tree_at draft.old.trees goal) }
-    requires ends { Ends draft.old ends.now (trees_at draft.old.trees front.now)
+    requires ends { EndsOfParts draft.old ends.now (trees_at draft.old.trees front.now)
         (split (tree_at draft.old.trees goal)) }
     ensures refutes { IfOk result (λ k. Refutes draft.new k
         (trees_at draft.old.trees front.now ++ neg (tree_at draft.old.trees goal) ∷ [])) }
@@ -125,11 +125,11 @@ fn glue_two(
     requires front { AreFormulas draft.old front.now }
     requires a { IsFormulaAt draft.old a }
     requires b { IsFormulaAt draft.old b }
-    requires below_a { AreBelow number (trees_at draft.old.trees front.now)
+    requires below_a { AreParamsBelow number (trees_at draft.old.trees front.now)
         (tree_at draft.old.trees a) }
-    requires below_b { AreBelow number (trees_at draft.old.trees front.now)
+    requires below_b { AreParamsBelow number (trees_at draft.old.trees front.now)
         (tree_at draft.old.trees b) }
-    requires ends { Ends draft.old ends.now (trees_at draft.old.trees front.now)
+    requires ends { EndsOfParts draft.old ends.now (trees_at draft.old.trees front.now)
         (split (tree_at draft.old.trees a) ++ split (tree_at draft.old.trees b)) }
     ensures left { IfOk result (λ r. Refutes draft.new r.0
         (trees_at draft.old.trees front.now ++ neg (tree_at draft.old.trees a) ∷ [])) }
@@ -158,9 +158,9 @@ fn glue_and(
     requires front { AreFormulas draft.old front.now }
     requires goal { IsFormulaAt draft.old goal }
     requires joins { Joins draft.old.trees goal Op.And a b }
-    requires below { AreBelow number (trees_at draft.old.trees front.now)
+    requires below { AreParamsBelow number (trees_at draft.old.trees front.now)
         (tree_at draft.old.trees goal) }
-    requires ends { Ends draft.old ends.now (trees_at draft.old.trees front.now)
+    requires ends { EndsOfParts draft.old ends.now (trees_at draft.old.trees front.now)
         (split (tree_at draft.old.trees goal)) }
     ensures refutes { IfOk result (λ k. Refutes draft.new k
         (trees_at draft.old.trees front.now ++ neg (tree_at draft.old.trees goal) ∷ [])) }
@@ -184,9 +184,9 @@ fn glue_and_then(
     requires front { AreFormulas draft.old front.now }
     requires goal { IsFormulaAt draft.old goal }
     requires joins { Joins draft.old.trees goal Op.AndThen a b }
-    requires below { AreBelow number (trees_at draft.old.trees front.now)
+    requires below { AreParamsBelow number (trees_at draft.old.trees front.now)
         (tree_at draft.old.trees goal) }
-    requires ends { Ends draft.old ends.now (trees_at draft.old.trees front.now)
+    requires ends { EndsOfParts draft.old ends.now (trees_at draft.old.trees front.now)
         (split (tree_at draft.old.trees goal)) }
     ensures refutes { IfOk result (λ k. Refutes draft.new k
         (trees_at draft.old.trees front.now ++ neg (tree_at draft.old.trees goal) ∷ [])) }
@@ -211,9 +211,9 @@ fn glue_imp(
     requires front { AreFormulas draft.old front.now }
     requires goal { IsFormulaAt draft.old goal }
     requires joins { Joins draft.old.trees goal Op.Imp a b }
-    requires below { AreBelow number (trees_at draft.old.trees front.now)
+    requires below { AreParamsBelow number (trees_at draft.old.trees front.now)
         (tree_at draft.old.trees goal) }
-    requires ends { Ends draft.old ends.now (trees_at draft.old.trees front.now)
+    requires ends { EndsOfParts draft.old ends.now (trees_at draft.old.trees front.now)
         (split (tree_at draft.old.trees goal)) }
     ensures refutes { IfOk result (λ k. Refutes draft.new k
         (trees_at draft.old.trees front.now ++ neg (tree_at draft.old.trees goal) ∷ [])) }
@@ -237,7 +237,7 @@ fn glue_iff(
     requires front { AreFormulas draft.old front.now }
     requires goal { IsFormulaAt draft.old goal }
     requires joins { Joins draft.old.trees goal Op.Iff a b }
-    requires ends { Ends draft.old ends.now (trees_at draft.old.trees front.now)
+    requires ends { EndsOfParts draft.old ends.now (trees_at draft.old.trees front.now)
         (split (tree_at draft.old.trees goal)) }
     ensures refutes { IfOk result (λ k. Refutes draft.new k
         (trees_at draft.old.trees front.now ++ neg (tree_at draft.old.trees goal) ∷ [])) }
@@ -265,9 +265,9 @@ fn glue_forall(
         ≡ Two HForall (tree_at draft.old.trees ty) (tree_at draft.old.trees body) }
     requires ty_held { Holds draft.old.trees ty }
     requires body_held { Holds draft.old.trees body }
-    requires below { AreBelow number (trees_at draft.old.trees front.now)
+    requires below { AreParamsBelow number (trees_at draft.old.trees front.now)
         (tree_at draft.old.trees goal) }
-    requires ends { Ends draft.old ends.now (trees_at draft.old.trees front.now)
+    requires ends { EndsOfParts draft.old ends.now (trees_at draft.old.trees front.now)
         (split (tree_at draft.old.trees goal)) }
     ensures refutes { IfOk result (λ k. Refutes draft.new k
         (trees_at draft.old.trees front.now ++ neg (tree_at draft.old.trees goal) ∷ [])) }
@@ -299,9 +299,9 @@ fn glue_let(
         ≡ Two HLet (tree_at draft.old.trees value) (tree_at draft.old.trees body) }
     requires value_held { Holds draft.old.trees value }
     requires body_held { Holds draft.old.trees body }
-    requires below { AreBelow number (trees_at draft.old.trees front.now)
+    requires below { AreParamsBelow number (trees_at draft.old.trees front.now)
         (tree_at draft.old.trees goal) }
-    requires ends { Ends draft.old ends.now (trees_at draft.old.trees front.now)
+    requires ends { EndsOfParts draft.old ends.now (trees_at draft.old.trees front.now)
         (split (tree_at draft.old.trees goal)) }
     ensures refutes { IfOk result (λ k. Refutes draft.new k
         (trees_at draft.old.trees front.now ++ neg (tree_at draft.old.trees goal) ∷ [])) }
@@ -333,9 +333,9 @@ fn glue_if(
     requires cond { IsFormulaAt draft.old cond }
     requires a { IsFormulaAt draft.old a }
     requires b { IsFormulaAt draft.old b }
-    requires below { AreBelow number (trees_at draft.old.trees front.now)
+    requires below { AreParamsBelow number (trees_at draft.old.trees front.now)
         (tree_at draft.old.trees goal) }
-    requires ends { Ends draft.old ends.now (trees_at draft.old.trees front.now)
+    requires ends { EndsOfParts draft.old ends.now (trees_at draft.old.trees front.now)
         (split (tree_at draft.old.trees goal)) }
     ensures refutes { IfOk result (λ k. Refutes draft.new k
         (trees_at draft.old.trees front.now ++ neg (tree_at draft.old.trees goal) ∷ [])) }

@@ -6,8 +6,8 @@ ghost use Rattle.trees.specs.Binding.{inst, Param};
 ghost use Rattle.tasks.specs.Meaning.{trees_at};
 ghost use Rattle.evidence.specs.Drafts.{Extends, IsFormulaAt, AreFormulas};
 ghost use Rattle.tr_split.specs.Split.{split};
-ghost use Rattle.tr_split.specs.Glue.{Ends};
-ghost use Rattle.tr_split_goals.specs.Goals.{AreBelow};
+ghost use Rattle.tr_split.specs.Glue.{EndsOfParts};
+ghost use Rattle.tr_split_goals.specs.Goals.{AreParamsBelow};
 
 use crate::over::{Over, ends_over};
 use evidence::Draft;
@@ -31,16 +31,17 @@ pub(crate) fn open_universal(
         ≡ Two HForall (tree_at draft.old.trees ty) (tree_at draft.old.trees body) }
     requires ty_held { Holds draft.old.trees ty }
     requires body_held { Holds draft.old.trees body }
-    requires below { AreBelow number (trees_at draft.old.trees front.now)
+    requires below { AreParamsBelow number (trees_at draft.old.trees front.now)
         (tree_at draft.old.trees goal) }
-    requires ends { Ends draft.old ends.now (trees_at draft.old.trees front.now)
+    requires ends { EndsOfParts draft.old ends.now (trees_at draft.old.trees front.now)
         (split (tree_at draft.old.trees goal)) }
     ensures formula { IfOk result (λ r. IsFormulaAt draft.new r.0) }
     ensures is { IfOk result (λ r. tree_at draft.new.trees r.0
         ≡ inst (tree_at draft.old.trees body) (Param number (tree_at draft.old.trees ty))) }
-    ensures below { IfOk result (λ r. AreBelow (number + 1) (trees_at draft.old.trees front.now)
+    ensures below { IfOk result (λ r. AreParamsBelow (number + 1)
+        (trees_at draft.old.trees front.now)
         (tree_at draft.new.trees r.0)) }
-    ensures ends { IfOk result (λ r. Ends draft.new r.1.items
+    ensures ends { IfOk result (λ r. EndsOfParts draft.new r.1.items
         (trees_at draft.old.trees front.now) (split (tree_at draft.new.trees r.0))) }
     ensures grows { Extends draft.old draft.new }
 {
@@ -67,16 +68,16 @@ pub(crate) fn open_valued(
         ≡ Two HLet (tree_at draft.old.trees value) (tree_at draft.old.trees body) }
     requires value_held { Holds draft.old.trees value }
     requires body_held { Holds draft.old.trees body }
-    requires below { AreBelow number (trees_at draft.old.trees front.now)
+    requires below { AreParamsBelow number (trees_at draft.old.trees front.now)
         (tree_at draft.old.trees goal) }
-    requires ends { Ends draft.old ends.now (trees_at draft.old.trees front.now)
+    requires ends { EndsOfParts draft.old ends.now (trees_at draft.old.trees front.now)
         (split (tree_at draft.old.trees goal)) }
     ensures formula { IfOk result (λ r. IsFormulaAt draft.new r.0) }
     ensures is { IfOk result (λ r. tree_at draft.new.trees r.0
         ≡ inst (tree_at draft.old.trees body) (tree_at draft.old.trees value)) }
-    ensures below { IfOk result (λ r. AreBelow number (trees_at draft.old.trees front.now)
+    ensures below { IfOk result (λ r. AreParamsBelow number (trees_at draft.old.trees front.now)
         (tree_at draft.new.trees r.0)) }
-    ensures ends { IfOk result (λ r. Ends draft.new r.1.items
+    ensures ends { IfOk result (λ r. EndsOfParts draft.new r.1.items
         (trees_at draft.old.trees front.now) (split (tree_at draft.new.trees r.0))) }
     ensures grows { Extends draft.old draft.new }
 {

@@ -7,7 +7,7 @@ ghost use Rattle.tasks.specs.Task.{neg};
 ghost use Rattle.tasks.specs.Meaning.{trees_at};
 ghost use Rattle.evidence.specs.Drafts.{Extends, Refutes, IsFormulaAt, AreFormulas};
 ghost use Rattle.tr_split.specs.Split.{imp};
-ghost use Rattle.tr_split.specs.Glue.{Ends};
+ghost use Rattle.tr_split.specs.Glue.{EndsOfParts};
 ghost use Rattle.tr_split_goals.specs.Over.{PartOf, IsTermAt, IsTypedTermAt, whole_of, inner_of, extra_of, wholes, inners, OverHeld};
 
 use crate::ends::{end_opened, end_under, end_valued};
@@ -140,9 +140,9 @@ pub(crate) fn ends_over(
 ) -> Result<Vec<usize>, AllocError>
     requires front { AreFormulas draft.old front.now }
     requires over { OverHeld draft.old over }
-    requires ends { Ends draft.old ends.now (trees_at draft.old.trees front.now)
+    requires ends { EndsOfParts draft.old ends.now (trees_at draft.old.trees front.now)
         (wholes draft.old.trees over (tree_at draft.old.trees formula)) }
-    ensures ends { IfOk result (λ v. Ends draft.new v.items
+    ensures ends { IfOk result (λ v. EndsOfParts draft.new v.items
         (trees_at draft.old.trees front.now ++ extra_of draft.old.trees over)
         (inners draft.old.trees over (tree_at draft.old.trees formula))) }
     ensures grows { Extends draft.old draft.new }

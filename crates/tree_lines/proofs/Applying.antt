@@ -16,23 +16,23 @@ use Rattle.tasks.specs.Meaning.{trees_at}
 use Rattle.tasks.proofs.Growth.{held_later, tree_later, all_held_later, trees_later}
 use Rattle.name_entries.specs.declared.names.NameOf.TheVariants.{Symbol}
 use Rattle.name_entries.specs.declared.names.NameEntry.{NameEntry}
-use Rattle.tree_lines.specs.Words.{Word, texts, each}
-use Rattle.tree_lines.specs.Named.{Meaning, cells}
-use Rattle.tree_lines.specs.Lines.{Earlier, SymbolUse, use_by, types_of, use_of, named_use, symbol_of}
-use Rattle.tree_lines.specs.Made.{IsMade, AreTrees}
+use Rattle.tree_lines.specs.Words.{LineWord, texts, each}
+use Rattle.tree_lines.specs.Named.{NameMeaning, cells}
+use Rattle.tree_lines.specs.Lines.{Earlier, SymbolUse, use_by, meaning_types, use_of, named_use, symbol_number}
+use Rattle.tree_lines.specs.Made.{IsTreeMade, AreTrees}
 use Rattle.tree_lines.proofs.Making.{words_taken, words_left}
 
 -- a list of types, and then one of parts
 module _ (s0 s1 s2 : List Tree) (g1 : Grows s0 s1) (g2 : Grows s1 s2) (tys ps : List TermId) (types : TermId) (o : Option TermId) (parts_held : All (Holds s0) ps)
-    (there : Holds s1 types) (tree : tree_at s1 types ≡ cells (trees_at s0 tys)) (made : IsMade s2 (Some (cells (trees_at s1 ps))) o) where
+    (there : Holds s1 types) (tree : tree_at s1 types ≡ cells (trees_at s0 tys)) (made : IsTreeMade s2 (Some (cells (trees_at s1 ps))) o) where
   pub types_tree : tree_at s2 types ≡ cells (trees_at s0 tys)
   types_tree = tree_later s1 s2 g2 types there ∙ tree
 
   parts_same : cells (trees_at s1 ps) ≡ cells (trees_at s0 ps)
   parts_same = ap cells (trees_later s0 s1 g1 ps parts_held)
 
-  parts_some : (a : TermId) → o ≡ Some a → IsMade s2 (Some (cells (trees_at s1 ps))) (Some a)
-  parts_some a is = subst (IsMade s2 (Some (cells (trees_at s1 ps)))) is made
+  parts_some : (a : TermId) → o ≡ Some a → IsTreeMade s2 (Some (cells (trees_at s1 ps))) (Some a)
+  parts_some a is = subst (IsTreeMade s2 (Some (cells (trees_at s1 ps)))) is made
 
   pub parts_there : (a : TermId) → o ≡ Some a → Holds s2 a
   parts_there a is = (parts_some a is).1
@@ -45,7 +45,7 @@ module _ (s0 s1 s2 : List Tree) (g1 : Grows s0 s1) (g2 : Grows s1 s2) (tys ps : 
 
   pub parts_refused : o ≡ None → WellSorted (cells (trees_at s0 ps)) → ⊥
   parts_refused none w =
-      let n : IsMade s2 (Some (cells (trees_at s1 ps))) None = subst (IsMade s2 (Some (cells (trees_at s1 ps)))) none made in
+      let n : IsTreeMade s2 (Some (cells (trees_at s1 ps))) None = subst (IsTreeMade s2 (Some (cells (trees_at s1 ps)))) none made in
       n (cells (trees_at s1 ps)) refl (subst WellSorted (sym parts_same) w)
 
   pub formula_made : (k : ℕ) (a : TermId) → o ≡ Some a → Some (node_tree s2 (node.Pred k types a)) ≡ Some (Two (HPred k) (cells (trees_at s0 tys)) (cells (trees_at s0 ps)))
@@ -62,7 +62,7 @@ use_by_result s tys ps result = option_map (λ ty. (cells (trees_at s tys), cell
 -- the result first, then the lists
 module _ (s0 s1 s2 s3 : List Tree) (g1 : Grows s0 s1) (g2 : Grows s1 s2) (g3 : Grows s2 s3) (tys ps : List TermId) (result : Option TermId) (r ty types : TermId) (o : Option TermId)
     (types_held : HoldTypes s0 tys) (parts_held : All (Holds s0) ps) (is : result ≡ Some r) (ty_there : Holds s1 ty) (ty_tree : tree_at s1 ty ≡ inst_types (tree_at s0 r) (trees_at s0 tys))
-    (there : Holds s2 types) (tree : tree_at s2 types ≡ cells (trees_at s1 tys)) (made : IsMade s3 (Some (cells (trees_at s2 ps))) o) where
+    (there : Holds s2 types) (tree : tree_at s2 types ≡ cells (trees_at s1 tys)) (made : IsTreeMade s3 (Some (cells (trees_at s2 ps))) o) where
   held1 : All (Holds s1) ps
   held1 = all_held_later s0 s1 g1 ps parts_held
 
@@ -93,29 +93,29 @@ module _ (s0 s1 s2 s3 : List Tree) (g1 : Grows s0 s1) (g2 : Grows s1 s2) (g3 : G
         second_same a b c t h = ap (or_leaf b) h
 
 -- a symbol's use by the words after its name
-module _ (t : TaskTree) (names : List NameEntry) (r : Earlier) (part : Word → Option Tree) (n : Meaning) (ws : List (Bor Word)) (k : ℕ) (e : SymbolTree) (c : ℕ) (cut : c ≡ min (e.vars - length n.types) (length ws)) where
+module _ (t : TaskTree) (names : List NameEntry) (r : Earlier) (part : LineWord → Option Tree) (n : NameMeaning) (ws : List (Bor LineWord)) (k : ℕ) (e : SymbolTree) (c : ℕ) (cut : c ≡ min (e.vars - length n.types) (length ws)) where
   abbrev lacking : ℕ
   lacking = e.vars - length n.types
 
   abbrev with_parts : List Tree → Option SymbolUse
   with_parts types = option_map (use_by k e types) (each part (drop lacking (texts ws)))
 
-  pub uses_no_types : None ≡ types_of t names r n (texts (take c ws)) → None ≡ use_of t names r part n (texts ws) k e
-  uses_no_types h = ap (option_and_then with_parts) (h ∙ ap (types_of t names r n) (words_taken lacking ws c cut))
+  pub uses_no_types : None ≡ meaning_types t names r n (texts (take c ws)) → None ≡ use_of t names r part n (texts ws) k e
+  uses_no_types h = ap (option_and_then with_parts) (h ∙ ap (meaning_types t names r n) (words_taken lacking ws c cut))
 
-  pub uses_made : (types parts : List Tree) → Some types ≡ types_of t names r n (texts (take c ws)) → Some parts ≡ each part (texts (drop c ws)) → Some (use_by k e types parts) ≡ use_of t names r part n (texts ws) k e
+  pub uses_made : (types parts : List Tree) → Some types ≡ meaning_types t names r n (texts (take c ws)) → Some parts ≡ each part (texts (drop c ws)) → Some (use_by k e types parts) ≡ use_of t names r part n (texts ws) k e
   uses_made types parts h p =
-      ap (option_map (use_by k e types)) (p ∙ ap (each part) (words_left lacking ws c cut)) ∙ ap (option_and_then with_parts) (h ∙ ap (types_of t names r n) (words_taken lacking ws c cut))
+      ap (option_map (use_by k e types)) (p ∙ ap (each part) (words_left lacking ws c cut)) ∙ ap (option_and_then with_parts) (h ∙ ap (meaning_types t names r n) (words_taken lacking ws c cut))
 
-  pub uses_no_parts : (types : List Tree) → Some types ≡ types_of t names r n (texts (take c ws)) → None ≡ each part (texts (drop c ws)) → None ≡ use_of t names r part n (texts ws) k e
+  pub uses_no_parts : (types : List Tree) → Some types ≡ meaning_types t names r n (texts (take c ws)) → None ≡ each part (texts (drop c ws)) → None ≡ use_of t names r part n (texts ws) k e
   uses_no_parts types h p =
-      ap (option_map (use_by k e types)) (p ∙ ap (each part) (words_left lacking ws c cut)) ∙ ap (option_and_then with_parts) (h ∙ ap (types_of t names r n) (words_taken lacking ws c cut))
+      ap (option_map (use_by k e types)) (p ∙ ap (each part) (words_left lacking ws c cut)) ∙ ap (option_and_then with_parts) (h ∙ ap (meaning_types t names r n) (words_taken lacking ws c cut))
 
 -- what a name stands for, where it is a symbol
-pub meaning_used : (t : TaskTree) (names : List NameEntry) (r : Earlier) (part : Word → Option Tree) (ws : List Word) (n : Meaning) (k : ℕ) (e : SymbolTree) → n.symbol ≡ Symbol k → Some e ≡ slice_get t.symbols k → use_of t names r part n ws k e ≡ named_use t names r part ws n
+pub meaning_used : (t : TaskTree) (names : List NameEntry) (r : Earlier) (part : LineWord → Option Tree) (ws : List LineWord) (n : NameMeaning) (k : ℕ) (e : SymbolTree) → n.symbol ≡ Symbol k → Some e ≡ slice_get t.symbols k → use_of t names r part n ws k e ≡ named_use t names r part ws n
 meaning_used t names r part ws n k e is there =
-    ap (option_and_then (use_of t names r part n ws k)) there ∙ ap (λ o. option_and_then (λ j. option_and_then (use_of t names r part n ws j) (slice_get t.symbols j)) (symbol_of o)) (sym is)
+    ap (option_and_then (use_of t names r part n ws k)) there ∙ ap (λ o. option_and_then (λ j. option_and_then (use_of t names r part n ws j) (slice_get t.symbols j)) (symbol_number o)) (sym is)
 
-pub meaning_unused : (t : TaskTree) (names : List NameEntry) (r : Earlier) (part : Word → Option Tree) (ws : List Word) (n : Meaning) (k : ℕ) → n.symbol ≡ Symbol k → None ≡ slice_get t.symbols k → None ≡ named_use t names r part ws n
+pub meaning_unused : (t : TaskTree) (names : List NameEntry) (r : Earlier) (part : LineWord → Option Tree) (ws : List LineWord) (n : NameMeaning) (k : ℕ) → n.symbol ≡ Symbol k → None ≡ slice_get t.symbols k → None ≡ named_use t names r part ws n
 meaning_unused t names r part ws n k is there =
-    ap (option_and_then (use_of t names r part n ws k)) there ∙ ap (λ o. option_and_then (λ j. option_and_then (use_of t names r part n ws j) (slice_get t.symbols j)) (symbol_of o)) (sym is)
+    ap (option_and_then (use_of t names r part n ws k)) there ∙ ap (λ o. option_and_then (λ j. option_and_then (use_of t names r part n ws j) (slice_get t.symbols j)) (symbol_number o)) (sym is)

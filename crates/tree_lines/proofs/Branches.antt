@@ -12,10 +12,10 @@ use Rattle.tasks.specs.Task.{TaskTree}
 use Rattle.tasks.specs.Meaning.{trees_at}
 use Rattle.name_entries.specs.declared.names.NameEntry.{NameEntry}
 use Rattle.tasks.proofs.Growth.{tree_later}
-use Rattle.tree_lines.specs.Words.{Word, texts, at_number, pairs}
+use Rattle.tree_lines.specs.Words.{LineWord, texts, at_number, pairs}
 use Rattle.tree_lines.specs.Named.{cells}
-use Rattle.tree_lines.specs.Lines.{Earlier, arm_list, match_tree, match_of}
-use Rattle.tree_lines.specs.Made.{IsMade, PairsHeld, pairs_in, branch_at}
+use Rattle.tree_lines.specs.Lines.{Earlier, arm_list, match_tree, match_by_words}
+use Rattle.tree_lines.specs.Made.{IsTreeMade, PairsHeld, pairs_in, branch_at}
 use Rattle.tree_lines.proofs.Making.{at_trees, at_held}
 
 arms_same : (s : List Tree) (ps : List (TermId × TermId)) → cells (map (branch_at s) ps) ≡ arm_list (pairs_in s ps)
@@ -24,9 +24,9 @@ arms_same s (p ∷ ps) = ap (λ (l : Tree). cells_onto (branch_at s p) l) (arms_
   cells_onto : Tree → Tree → Tree
   cells_onto e l = Two HCell e l
 
-module _ (s0 s : List Tree) (g : Grows s0 s) (e : TermId) (ps : List (TermId × TermId)) (o : Option TermId) (made : IsMade s (Some (cells (map (branch_at s0) ps))) o) where
-  pub case_list : (l : TermId) → o ≡ Some l → IsMade s (Some (cells (map (branch_at s0) ps))) (Some l)
-  case_list l is = subst (IsMade s (Some (cells (map (branch_at s0) ps)))) is made
+module _ (s0 s : List Tree) (g : Grows s0 s) (e : TermId) (ps : List (TermId × TermId)) (o : Option TermId) (made : IsTreeMade s (Some (cells (map (branch_at s0) ps))) o) where
+  pub case_list : (l : TermId) → o ≡ Some l → IsTreeMade s (Some (cells (map (branch_at s0) ps))) (Some l)
+  case_list l is = subst (IsTreeMade s (Some (cells (map (branch_at s0) ps)))) is made
 
   pub case_made : Holds s0 e → (l : TermId) → o ≡ Some l → Some (node_tree s (node.Case e l)) ≡ Some (match_tree (tree_at s0 e) (pairs_in s0 ps))
   case_made h l is =
@@ -37,7 +37,7 @@ module _ (s0 s : List Tree) (g : Grows s0 s) (e : TermId) (ps : List (TermId × 
   pub case_refused : o ≡ None → (x : Tree) → Some (match_tree (tree_at s0 e) (pairs_in s0 ps)) ≡ Some x → WellSorted x → ⊥
   case_refused none x is w =
       let whole : match_tree (tree_at s0 e) (pairs_in s0 ps) ≡ x = cc in
-      let n : IsMade s (Some (cells (map (branch_at s0) ps))) None = subst (IsMade s (Some (cells (map (branch_at s0) ps)))) none made in
+      let n : IsTreeMade s (Some (cells (map (branch_at s0) ps))) None = subst (IsTreeMade s (Some (cells (map (branch_at s0) ps)))) none made in
       n _ refl (subst WellSorted (sym (arms_same s0 ps)) (subst WellSorted (sym whole) w).2)
 
 module _ (s : List Tree) (ps es : List TermId) where
@@ -50,7 +50,7 @@ module _ (s : List Tree) (ps es : List TermId) where
   both_trees (Some x) (Some y) None = refl
   both_trees (Some x) (Some y) (Some l) = refl
 
-  pub pairs_trees : (ws : List Word) → pairs (at_number (trees_at s ps)) (at_number (trees_at s es)) ws ≡ option_map (pairs_in s) (pairs (at_number ps) (at_number es) ws)
+  pub pairs_trees : (ws : List LineWord) → pairs (at_number (trees_at s ps)) (at_number (trees_at s es)) ws ≡ option_map (pairs_in s) (pairs (at_number ps) (at_number es) ws)
   pairs_trees [] = refl
   pairs_trees (w ∷ []) = refl
   pairs_trees (w ∷ v ∷ ws) = rw (at_trees s ps w, at_trees s es v, pairs_trees ws) (both_trees (at_number ps w) (at_number es v) (pairs (at_number ps) (at_number es) ws))
@@ -61,17 +61,17 @@ module _ (s : List Tree) (ps es : List TermId) where
   both_held (Some x) (Some y) None h k r = tt
   both_held (Some x) (Some y) (Some l) h k r = All-cons (λ p. Holds s p.0 × Holds s p.1) (x, y) l (h, k) r
 
-  pub pairs_held : All (Holds s) ps → All (Holds s) es → (ws : List Word) → IfSome (pairs (at_number ps) (at_number es) ws) (PairsHeld s)
+  pub pairs_held : All (Holds s) ps → All (Holds s) es → (ws : List LineWord) → IfSome (pairs (at_number ps) (at_number es) ws) (PairsHeld s)
   pairs_held h k [] = All-nil (λ p. Holds s p.0 × Holds s p.1)
   pairs_held h k (w ∷ []) = tt
   pairs_held h k (w ∷ v ∷ ws) = both_held (at_number ps w) (at_number es v) (pairs (at_number ps) (at_number es) ws) (at_held s ps w h) (at_held s es v k) (pairs_held h k ws)
 
 -- the words of a match: its term, and its branches
 module _ (t : TaskTree) (names : List NameEntry) (r : Earlier) where
-  pub match_made : (ws : List (Bor Word)) (d : Bor Word) (e : Tree) (bs : List (Tree × Tree)) → 1 ≤ length ws → Some e ≡ at_number r.expressions (get_or ws 0 d).now → Some bs ≡ pairs (at_number r.patterns) (at_number r.expressions) (texts (drop 1 ws)) → Some (match_tree e bs) ≡ match_of t names r (texts ws)
+  pub match_made : (ws : List (Bor LineWord)) (d : Bor LineWord) (e : Tree) (bs : List (Tree × Tree)) → 1 ≤ length ws → Some e ≡ at_number r.expressions (get_or ws 0 d).now → Some bs ≡ pairs (at_number r.patterns) (at_number r.expressions) (texts (drop 1 ws)) → Some (match_tree e bs) ≡ match_by_words t names r (texts ws)
   match_made [] d e bs some h k = absurd (omega arith)
   match_made (w ∷ ws) d e bs some h k = rw (sym h, sym k) refl
 
-  pub match_missing : (ws : List (Bor Word)) (d : Bor Word) (e : Tree) → 1 ≤ length ws → Some e ≡ at_number r.expressions (get_or ws 0 d).now → None ≡ pairs (at_number r.patterns) (at_number r.expressions) (texts (drop 1 ws)) → None ≡ match_of t names r (texts ws)
+  pub match_missing : (ws : List (Bor LineWord)) (d : Bor LineWord) (e : Tree) → 1 ≤ length ws → Some e ≡ at_number r.expressions (get_or ws 0 d).now → None ≡ pairs (at_number r.patterns) (at_number r.expressions) (texts (drop 1 ws)) → None ≡ match_by_words t names r (texts ws)
   match_missing [] d e some h k = absurd (omega arith)
   match_missing (w ∷ ws) d e some h k = rw (sym h, sym k) refl

@@ -10,25 +10,25 @@ use Rattle.binders.specs.Visits.{HoldTypes, typing_stays_ready, trees_stay}
 use Rattle.tasks.specs.Meaning.{trees_at}
 use Rattle.name_entries.specs.declared.names.NameEntry.{NameEntry}
 use Rattle.tree_lines.specs.Words.{each}
-use Rattle.tree_lines.specs.Named.{type_at, entry_type}
-use Rattle.tree_lines.specs.Made.{IsType}
+use Rattle.tree_lines.specs.Named.{named_type_at, entry_type}
+use Rattle.tree_lines.specs.Made.{IsTypeHeld}
 use Rattle.tree_lines.proofs.Growing.{types_pushed}
 use Rattle.tree_lines.proofs.Lists.{each_more}
 
-entry_unfold : (names : List NameEntry) (most place : ℕ) (e : NameEntry) → 0 < most → Some e ≡ slice_get names place → entry_type most names place ≡ option_and_then (type_at e.symbol) (each (λ k. entry_type (most - 1) names k) e.types)
+entry_unfold : (names : List NameEntry) (most place : ℕ) (e : NameEntry) → 0 < most → Some e ≡ slice_get names place → entry_type most names place ≡ option_and_then (named_type_at e.symbol) (each (λ k. entry_type (most - 1) names k) e.types)
 entry_unfold names zero place e h s = absurd (omega (arith, h))
 entry_unfold names (suc n) place e h s = let m : suc n - 1 ≡ n = omega arith in rw (sym s, m) refl
 
-pub entry_done : (names : List NameEntry) (most place : ℕ) (e : NameEntry) → 0 < most → Some e ≡ slice_get names place → (places : List ℕ) → places ≡ e.types → (acc : List Tree) → Some acc ≡ each (λ k. entry_type (most - 1) names k) places → type_at e.symbol acc ≡ entry_type most names place
-entry_done names most place e h s places is acc a = ap (option_and_then (type_at e.symbol)) (a ∙ ap (each (λ k. entry_type (most - 1) names k)) is) ∙ sym (entry_unfold names most place e h s)
+pub entry_done : (names : List NameEntry) (most place : ℕ) (e : NameEntry) → 0 < most → Some e ≡ slice_get names place → (places : List ℕ) → places ≡ e.types → (acc : List Tree) → Some acc ≡ each (λ k. entry_type (most - 1) names k) places → named_type_at e.symbol acc ≡ entry_type most names place
+entry_done names most place e h s places is acc a = ap (option_and_then (named_type_at e.symbol)) (a ∙ ap (each (λ k. entry_type (most - 1) names k)) is) ∙ sym (entry_unfold names most place e h s)
 
 pub entry_missing : (names : List NameEntry) (most place : ℕ) (e : NameEntry) → 0 < most → Some e ≡ slice_get names place → (places : List ℕ) → places ≡ e.types → None ≡ each (λ k. entry_type (most - 1) names k) places → None ≡ entry_type most names place
-entry_missing names most place e h s places is a = ap (option_and_then (type_at e.symbol)) (a ∙ ap (each (λ k. entry_type (most - 1) names k)) is) ∙ sym (entry_unfold names most place e h s)
+entry_missing names most place e h s places is a = ap (option_and_then (named_type_at e.symbol)) (a ∙ ap (each (λ k. entry_type (most - 1) names k)) is) ∙ sym (entry_unfold names most place e h s)
 
 -- one type more
 module _ (s s' : List Tree) (g : Grows s s') (types : List TermId) (ty : TermId) (o : Option TermId) (is : o ≡ Some ty) (held : HoldTypes s types) where
-  pub types_more : IfSome o (IsType s') → HoldTypes s' (types ++ ty ∷ [])
-  types_more h = types_pushed s' types ty (typing_stays_ready s s' types g held) (subst (λ x. IfSome x (IsType s')) is h)
+  pub types_more : IfSome o (IsTypeHeld s') → HoldTypes s' (types ++ ty ∷ [])
+  types_more h = types_pushed s' types ty (typing_stays_ready s s' types g held) (subst (λ x. IfSome x (IsTypeHeld s')) is h)
 
   pub entries_more : (F : ℕ → Option Tree) (places : List ℕ) (i d : ℕ) (all : Option (List Tree)) → i < length places → option_map (tree_at s') o ≡ F (get_or places i d) → option_map (λ ys. trees_at s types ++ ys) (each F (drop i places)) ≡ all
       → option_map (λ ys. trees_at s' (types ++ ty ∷ []) ++ ys) (each F (drop (i + 1) places)) ≡ all

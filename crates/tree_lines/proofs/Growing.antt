@@ -12,9 +12,9 @@ use Rattle.binders.specs.Visits.{HoldTypes}
 use Rattle.tasks.specs.Meaning.{trees_at}
 use Rattle.tasks.proofs.Growth.{held_later, tree_later}
 use Rattle.tree_lines.specs.Named.{cells}
-use Rattle.tree_lines.specs.Made.{IsMade, IsType, PairsHeld, branch_at}
+use Rattle.tree_lines.specs.Made.{IsTreeMade, IsTypeHeld, PairsHeld, branch_at}
 
-pub type_there : (s : List Tree) (ids : List TermId) (i : ℕ) (d : TermId) → i < length ids → HoldTypes s ids → IsType s (get_or ids i d)
+pub type_there : (s : List Tree) (ids : List TermId) (i : ℕ) (d : TermId) → i < length ids → HoldTypes s ids → IsTypeHeld s (get_or ids i d)
 type_there s [] i d lt h = absurd (omega arith)
 type_there s (id ∷ ids) zero d lt h = h.0
 type_there s (id ∷ ids) (suc i) d lt h = type_there s ids i d (omega arith) h.1
@@ -22,7 +22,7 @@ type_there s (id ∷ ids) (suc i) d lt h = type_there s ids i d (omega arith) h.
 pub types_held : (s : List Tree) (ids : List TermId) → HoldTypes s ids → All (Holds s) ids
 types_held s ids h i d lt = (type_there s ids i d lt h).0
 
-pub types_pushed : (s : List Tree) (ids : List TermId) (id : TermId) → HoldTypes s ids → IsType s id → HoldTypes s (ids ++ id ∷ [])
+pub types_pushed : (s : List Tree) (ids : List TermId) (id : TermId) → HoldTypes s ids → IsTypeHeld s id → HoldTypes s (ids ++ id ∷ [])
 types_pushed s [] id h t = (t, tt)
 types_pushed s (x ∷ xs) id h t = (h.0, types_pushed s xs id h.1 t)
 
@@ -48,7 +48,7 @@ type_fits a list e l =
 module _ (s0 s : List Tree) (g : Grows s0 s) (ids : List TermId) (i : ℕ) (d list : TermId) (some : 0 < i) (le : i ≤ length ids)
     (tree : tree_at s list ≡ cells (trees_at s0 (drop i ids))) where
   -- a type more in a list of types
-  pub type_held : HoldTypes s0 ids → IsType s (get_or ids (i - 1) d)
+  pub type_held : HoldTypes s0 ids → IsTypeHeld s (get_or ids (i - 1) d)
   type_held h =
       let lt : i - 1 < length ids = omega arith in
       let t = type_there s0 ids (i - 1) d lt h in
@@ -67,14 +67,14 @@ cells_part s [] (suc i) w = w
 cells_part s (x ∷ xs) (suc i) w = cells_part s xs i w.2
 
 -- where a list can't be made longer, the whole list doesn't fit
-pub cells_refused : (s0 s s' : List Tree) → Grows s0 s → (ids : List TermId) (i : ℕ) (d list : TermId) → 0 < i → i ≤ length ids → All (Holds s0) ids → tree_at s list ≡ cells (trees_at s0 (drop i ids)) → (o : Option TermId) → o ≡ None → IsMade s' (Some (node_tree s (node.Cell (get_or ids (i - 1) d) list))) o
+pub cells_refused : (s0 s s' : List Tree) → Grows s0 s → (ids : List TermId) (i : ℕ) (d list : TermId) → 0 < i → i ≤ length ids → All (Holds s0) ids → tree_at s list ≡ cells (trees_at s0 (drop i ids)) → (o : Option TermId) → o ≡ None → IsTreeMade s' (Some (node_tree s (node.Cell (get_or ids (i - 1) d) list))) o
     → (e : Tree) → Some (cells (trees_at s0 ids)) ≡ Some e → WellSorted e → ⊥
 cells_refused s0 s s' g ids i d list some le held tree o none m e is w =
     let lt : i - 1 < length ids = omega arith in
     let cut : Two HCell (tree_at s (get_or ids (i - 1) d)) (tree_at s list) ≡ cells (trees_at s0 (drop (i - 1) ids)) = ap (λ t. Two HCell t (tree_at s list)) (tree_later s0 s g _ (held (i - 1) d lt)) ∙ ap (Two HCell (tree_at s0 (get_or ids (i - 1) d))) tree ∙ sym (cells_more s0 ids i d some le) in
     let whole : cells (trees_at s0 ids) ≡ e = cc in
     let part = cells_part s0 ids (i - 1) (subst WellSorted (sym whole) w) in
-    let n : IsMade s' (Some (Two HCell (tree_at s (get_or ids (i - 1) d)) (tree_at s list))) None = subst (IsMade s' (Some (Two HCell (tree_at s (get_or ids (i - 1) d)) (tree_at s list)))) none m in
+    let n : IsTreeMade s' (Some (Two HCell (tree_at s (get_or ids (i - 1) d)) (tree_at s list))) None = subst (IsTreeMade s' (Some (Two HCell (tree_at s (get_or ids (i - 1) d)) (tree_at s list)))) none m in
     n (Two HCell (tree_at s (get_or ids (i - 1) d)) (tree_at s list)) refl (subst WellSorted (sym cut) part)
 
 -- the same of lists of branches
@@ -107,17 +107,17 @@ branches_part s ps zero w = w
 branches_part s [] (suc i) w = w
 branches_part s (p ∷ ps) (suc i) w = branches_part s ps i w.2
 
-pub branches_refused : (s0 s s' : List Tree) → Grows s0 s → (ps : List (TermId × TermId)) (i : ℕ) (d : TermId × TermId) (list : TermId) → 0 < i → i ≤ length ps → PairsHeld s0 ps → tree_at s list ≡ cells (map (branch_at s0) (drop i ps)) → (o : Option TermId) → o ≡ None → IsMade s' (Some (Two HCell (branch_at s (get_or ps (i - 1) d)) (tree_at s list))) o
+pub branches_refused : (s0 s s' : List Tree) → Grows s0 s → (ps : List (TermId × TermId)) (i : ℕ) (d : TermId × TermId) (list : TermId) → 0 < i → i ≤ length ps → PairsHeld s0 ps → tree_at s list ≡ cells (map (branch_at s0) (drop i ps)) → (o : Option TermId) → o ≡ None → IsTreeMade s' (Some (Two HCell (branch_at s (get_or ps (i - 1) d)) (tree_at s list))) o
     → (e : Tree) → Some (cells (map (branch_at s0) ps)) ≡ Some e → WellSorted e → ⊥
 branches_refused s0 s s' g ps i d list some le held tree o none m e is w =
     let whole : cells (map (branch_at s0) ps) ≡ e = cc in
     let part = branches_part s0 ps (i - 1) (subst WellSorted (sym whole) w) in
-    let n : IsMade s' (Some (Two HCell (branch_at s (get_or ps (i - 1) d)) (tree_at s list))) None = subst (IsMade s' (Some (Two HCell (branch_at s (get_or ps (i - 1) d)) (tree_at s list)))) none m in
+    let n : IsTreeMade s' (Some (Two HCell (branch_at s (get_or ps (i - 1) d)) (tree_at s list))) None = subst (IsTreeMade s' (Some (Two HCell (branch_at s (get_or ps (i - 1) d)) (tree_at s list)))) none m in
     n _ refl (subst WellSorted (sym (branch_more s0 s g ps i d list some le held tree)) part)
 
 -- a branch that doesn't fit, and a list that doesn't with it
-pub branch_refused : (s s' : List Tree) (p : TermId × TermId) (list : TermId) (o : Option TermId) → o ≡ None → IsMade s' (Some (branch_at s p)) o → (e : Tree) → Some (Two HCell (branch_at s p) (tree_at s list)) ≡ Some e → WellSorted e → ⊥
+pub branch_refused : (s s' : List Tree) (p : TermId × TermId) (list : TermId) (o : Option TermId) → o ≡ None → IsTreeMade s' (Some (branch_at s p)) o → (e : Tree) → Some (Two HCell (branch_at s p) (tree_at s list)) ≡ Some e → WellSorted e → ⊥
 branch_refused s s' p list o none m e is w =
     let whole : Two HCell (branch_at s p) (tree_at s list) ≡ e = cc in
-    let n : IsMade s' (Some (branch_at s p)) None = subst (IsMade s' (Some (branch_at s p))) none m in
+    let n : IsTreeMade s' (Some (branch_at s p)) None = subst (IsTreeMade s' (Some (branch_at s p))) none m in
     n (branch_at s p) refl (subst WellSorted (sym whole) w).1

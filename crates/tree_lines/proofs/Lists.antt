@@ -3,7 +3,7 @@ use Rattle.std.proofs.Common.{◌≡◌, ℕ, ◌+◌, ◌<◌, ◌≤◌, List,
 use Rattle.std.proofs.lemmas.List.{drop_more, drop_all}
 use Rattle.std.specs.Option.{option_map, option_and_then}
 use Rattle.std.specs.Borrow.{Bor}
-use Rattle.tree_lines.specs.Words.{Word, texts, each, pairs}
+use Rattle.tree_lines.specs.Words.{LineWord, texts, each, pairs}
 
 onto_pushed : {B : Type 0} (acc : List B) (y : B) (o : Option (List B)) → option_map (λ ys. (acc ++ y ∷ []) ++ ys) o ≡ option_map (λ ys. acc ++ ys) (option_map (λ ys. y ∷ ys) o)
 onto_pushed acc y None = refl
@@ -35,7 +35,7 @@ each_map f g [] = refl
 each_map f g (x ∷ xs) = ap (λ o. option_and_then (λ y. option_map (λ ys. y ∷ ys) o) (f (g x))) (each_map f g xs)
 
 -- the same of words
-module _ {B : Type 0} (f : Word → Option B) (ws : List (Bor Word)) (i : ℕ) (d : Bor Word) (acc : List B) (all : Option (List B)) where
+module _ {B : Type 0} (f : LineWord → Option B) (ws : List (Bor LineWord)) (i : ℕ) (d : Bor LineWord) (acc : List B) (all : Option (List B)) where
   pub each_word_more : (y : B) → i < length ws → Some y ≡ f (get_or ws i d).now → option_map (λ ys. acc ++ ys) (each f (texts (drop i ws))) ≡ all
       → option_map (λ ys. (acc ++ y ∷ []) ++ ys) (each f (texts (drop (i + 1) ws))) ≡ all
   each_word_more y lt e h = onto_pushed acc y (each f (texts (drop (i + 1) ws))) ∙ (let k = rw (drop_more ws i d lt, sym e) at h in k)
@@ -43,15 +43,15 @@ module _ {B : Type 0} (f : Word → Option B) (ws : List (Bor Word)) (i : ℕ) (
   pub each_word_missing : i < length ws → None ≡ f (get_or ws i d).now → option_map (λ ys. acc ++ ys) (each f (texts (drop i ws))) ≡ all → None ≡ all
   each_word_missing lt e h = let k = rw (drop_more ws i d lt, sym e) at h in k
 
-module _ {A B : Type 0} (p : Word → Option A) (q : Word → Option B) where
-  first_missing : (w : Word) (ws : List Word) → None ≡ p w → None ≡ pairs p q (w ∷ ws)
+module _ {A B : Type 0} (p : LineWord → Option A) (q : LineWord → Option B) where
+  first_missing : (w : LineWord) (ws : List LineWord) → None ≡ p w → None ≡ pairs p q (w ∷ ws)
   first_missing w [] e = refl
   first_missing w (v ∷ ws) e = rw (sym e) refl
 
-  second_missing : (w v : Word) (ws : List Word) (x : A) → Some x ≡ p w → None ≡ q v → None ≡ pairs p q (w ∷ v ∷ ws)
+  second_missing : (w v : LineWord) (ws : List LineWord) (x : A) → Some x ≡ p w → None ≡ q v → None ≡ pairs p q (w ∷ v ∷ ws)
   second_missing w v ws x e e' = rw (sym e, sym e') refl
 
-  module _ (ws : List (Bor Word)) (i : ℕ) (d : Bor Word) (acc : List (A × B)) (all : Option (List (A × B))) (h : option_map (λ ps. acc ++ ps) (pairs p q (texts (drop i ws))) ≡ all) where
+  module _ (ws : List (Bor LineWord)) (i : ℕ) (d : Bor LineWord) (acc : List (A × B)) (all : Option (List (A × B))) (h : option_map (λ ps. acc ++ ps) (pairs p q (texts (drop i ws))) ≡ all) where
     one_left : i < length ws → drop i ws ≡ get_or ws i d ∷ drop (i + 1) ws
     one_left lt = drop_more ws i d lt
 

@@ -15,13 +15,13 @@ use Rattle.tasks.specs.Meaning.{trees_at, task_at}
 use Rattle.tasks.proofs.Growth.{all_held_later, trees_later, task_held_later, task_later}
 use Rattle.name_entries.specs.declared.names.NameEntry.{NameEntry}
 use Rattle.tree_lines.specs.declared.known.Known.{Known}
-use Rattle.tree_lines.specs.Words.{Word, texts, number, at_number, each}
-use Rattle.tree_lines.specs.Named.{Meaning, meaning, type_at}
-use Rattle.tree_lines.specs.Lines.{Earlier, types_of, named_use, used_on, type_of_line}
-use Rattle.tree_lines.specs.Made.{IsType, KnownHeld, earlier_at}
+use Rattle.tree_lines.specs.Words.{LineWord, texts, number, at_number, each}
+use Rattle.tree_lines.specs.Named.{NameMeaning, meaning, named_type_at}
+use Rattle.tree_lines.specs.Lines.{Earlier, meaning_types, named_use, used_on, type_of_line}
+use Rattle.tree_lines.specs.Made.{IsTypeHeld, KnownHeld, earlier_at}
 
 module _ (s : List Tree) where
-  pub at_trees : (xs : List TermId) (w : Word) → at_number (trees_at s xs) w ≡ option_map (tree_at s) (at_number xs w)
+  pub at_trees : (xs : List TermId) (w : LineWord) → at_number (trees_at s xs) w ≡ option_map (tree_at s) (at_number xs w)
   at_trees xs w = at (number w) where
     at : (o : Option ℕ) → option_and_then (slice_get (trees_at s xs)) o ≡ option_map (tree_at s) (option_and_then (slice_get xs) o)
     at None = refl
@@ -32,30 +32,30 @@ module _ (s : List Tree) where
   both_trees (Some y) None = refl
   both_trees (Some y) (Some ys) = refl
 
-  pub each_trees : (xs : List TermId) (ws : List Word) → each (at_number (trees_at s xs)) ws ≡ option_map (trees_at s) (each (at_number xs) ws)
+  pub each_trees : (xs : List TermId) (ws : List LineWord) → each (at_number (trees_at s xs)) ws ≡ option_map (trees_at s) (each (at_number xs) ws)
   each_trees xs [] = refl
   each_trees xs (w ∷ ws) =
       ap (option_and_then (λ y. option_map (λ ys. y ∷ ys) (each (at_number (trees_at s xs)) ws))) (at_trees xs w)
       ∙ ap (λ o'. option_and_then (λ y. option_map (λ ys. y ∷ ys) o') (option_map (tree_at s) (at_number xs w))) (each_trees xs ws)
       ∙ both_trees (at_number xs w) (each (at_number xs) ws)
 
-  slice_type : (xs : List TermId) (k : ℕ) → HoldTypes s xs → IfSome (slice_get xs k) (IsType s)
+  slice_type : (xs : List TermId) (k : ℕ) → HoldTypes s xs → IfSome (slice_get xs k) (IsTypeHeld s)
   slice_type [] k h = tt
   slice_type (x ∷ xs) zero h = h.0
   slice_type (x ∷ xs) (suc k) h = slice_type xs k h.1
 
-  pub at_type : (xs : List TermId) (w : Word) → HoldTypes s xs → IfSome (at_number xs w) (IsType s)
+  pub at_type : (xs : List TermId) (w : LineWord) → HoldTypes s xs → IfSome (at_number xs w) (IsTypeHeld s)
   at_type xs w h = at (number w) where
-    at : (o : Option ℕ) → IfSome (option_and_then (slice_get xs) o) (IsType s)
+    at : (o : Option ℕ) → IfSome (option_and_then (slice_get xs) o) (IsTypeHeld s)
     at None = tt
     at (Some k) = slice_type xs k h
 
-  both_types : (o : Option TermId) (o' : Option (List TermId)) → IfSome o (IsType s) → IfSome o' (HoldTypes s) → IfSome (option_and_then (λ y. option_map (λ ys. y ∷ ys) o') o) (HoldTypes s)
+  both_types : (o : Option TermId) (o' : Option (List TermId)) → IfSome o (IsTypeHeld s) → IfSome o' (HoldTypes s) → IfSome (option_and_then (λ y. option_map (λ ys. y ∷ ys) o') o) (HoldTypes s)
   both_types None o' a b = tt
   both_types (Some y) None a b = tt
   both_types (Some y) (Some ys) a b = (a, b)
 
-  pub each_types : (xs : List TermId) (ws : List Word) → HoldTypes s xs → IfSome (each (at_number xs) ws) (HoldTypes s)
+  pub each_types : (xs : List TermId) (ws : List LineWord) → HoldTypes s xs → IfSome (each (at_number xs) ws) (HoldTypes s)
   each_types xs [] h = tt
   each_types xs (w ∷ ws) h = both_types (at_number xs w) (each (at_number xs) ws) (at_type xs w h) (each_types xs ws h)
 
@@ -64,7 +64,7 @@ module _ (s : List Tree) where
   slice_held (x ∷ xs) zero h = h 0 x (omega arith)
   slice_held (x ∷ xs) (suc k) h = slice_held xs k (λ i d lt. h (suc i) d (omega arith))
 
-  pub at_held : (xs : List TermId) (w : Word) → All (Holds s) xs → IfSome (at_number xs w) (Holds s)
+  pub at_held : (xs : List TermId) (w : LineWord) → All (Holds s) xs → IfSome (at_number xs w) (Holds s)
   at_held xs w h = at (number w) where
     at : (o : Option ℕ) → IfSome (option_and_then (slice_get xs) o) (Holds s)
     at None = tt
@@ -75,23 +75,23 @@ module _ (s : List Tree) where
   both_held (Some y) None a b = tt
   both_held (Some y) (Some ys) a b = All-cons (Holds s) y ys a b
 
-  pub each_held : (xs : List TermId) (ws : List Word) → All (Holds s) xs → IfSome (each (at_number xs) ws) (λ ids. All (Holds s) ids)
+  pub each_held : (xs : List TermId) (ws : List LineWord) → All (Holds s) xs → IfSome (each (at_number xs) ws) (λ ids. All (Holds s) ids)
   each_held xs [] h = All-nil (Holds s)
   each_held xs (w ∷ ws) h = both_held (at_number xs w) (each (at_number xs) ws) (at_held xs w h) (each_held xs ws h)
 
   -- the types at which a name stands, and those that words refer to
-  pub types_made : (xs : List TermId) (ws : List Word) (front more all : List TermId) → Some more ≡ each (at_number xs) ws → all ≡ front ++ more → Some (trees_at s all) ≡ option_map (λ types. trees_at s front ++ types) (each (at_number (trees_at s xs)) ws)
+  pub types_made : (xs : List TermId) (ws : List LineWord) (front more all : List TermId) → Some more ≡ each (at_number xs) ws → all ≡ front ++ more → Some (trees_at s all) ≡ option_map (λ types. trees_at s front ++ types) (each (at_number (trees_at s xs)) ws)
   types_made xs ws front more all e is = ap (λ l. Some (trees_at s l)) is ∙ ap Some (map-append (tree_at s) front more) ∙ ap (option_map (λ types. trees_at s front ++ types)) (ap (option_map (trees_at s)) e ∙ sym (each_trees xs ws))
 
-  pub types_missing : (xs : List TermId) (ws : List Word) (front : List TermId) → None ≡ each (at_number xs) ws → None ≡ option_map (λ types. trees_at s front ++ types) (each (at_number (trees_at s xs)) ws)
+  pub types_missing : (xs : List TermId) (ws : List LineWord) (front : List TermId) → None ≡ each (at_number xs) ws → None ≡ option_map (λ types. trees_at s front ++ types) (each (at_number (trees_at s xs)) ws)
   types_missing xs ws front e = ap (option_map (λ types. trees_at s front ++ types)) (ap (option_map (trees_at s)) e ∙ sym (each_trees xs ws))
 
 -- the words for types, and those for parts
-pub words_taken : (n : ℕ) (ws : List (Bor Word)) (c : ℕ) → c ≡ min n (length ws) → texts (take c ws) ≡ take n (texts ws)
-words_taken n ws c e = ap (λ k. texts (take k ws)) e ∙ ap texts (take_min n ws) ∙ sym (take-map (λ (w : Bor Word). w.now) n ws)
+pub words_taken : (n : ℕ) (ws : List (Bor LineWord)) (c : ℕ) → c ≡ min n (length ws) → texts (take c ws) ≡ take n (texts ws)
+words_taken n ws c e = ap (λ k. texts (take k ws)) e ∙ ap texts (take_min n ws) ∙ sym (take-map (λ (w : Bor LineWord). w.now) n ws)
 
-pub words_left : (n : ℕ) (ws : List (Bor Word)) (c : ℕ) → c ≡ min n (length ws) → texts (drop c ws) ≡ drop n (texts ws)
-words_left n ws c e = ap (λ k. texts (drop k ws)) e ∙ ap texts (drop_min n ws) ∙ sym (drop-map (λ (w : Bor Word). w.now) n ws)
+pub words_left : (n : ℕ) (ws : List (Bor LineWord)) (c : ℕ) → c ≡ min n (length ws) → texts (drop c ws) ≡ drop n (texts ws)
+words_left n ws c e = ap (λ k. texts (drop k ws)) e ∙ ap texts (drop_min n ws) ∙ sym (drop-map (λ (w : Bor LineWord). w.now) n ws)
 
 -- what is left of a slice from a place on
 pub slice_left : {A : Type 0} (c : ℕ) (ws : List A) → take (length ws - c) (drop c ws) ≡ drop c ws
@@ -120,11 +120,11 @@ module _ (s s' : List Tree) (g : Grows s s') (x : Known) (h : KnownHeld s x) whe
   pub known_same : (P : TaskTree → Earlier → Type 0) → P (task_at s' x.task.now) (earlier_at s' x) → P (task_at s x.task.now) (earlier_at s x)
   known_same P p = subst (P (task_at s x.task.now)) earlier_later (subst (λ t. P t (earlier_at s' x)) (task_later s s' g x.task.now h.task) p)
 
-  pub types_same : (n : Meaning) (ws : List Word) → types_of (task_at s' x.task.now) x.table.now (earlier_at s' x) n ws ≡ types_of (task_at s x.task.now) x.table.now (earlier_at s x) n ws
+  pub types_same : (n : NameMeaning) (ws : List LineWord) → meaning_types (task_at s' x.task.now) x.table.now (earlier_at s' x) n ws ≡ meaning_types (task_at s x.task.now) x.table.now (earlier_at s x) n ws
   types_same n ws =
-      ap (λ t. types_of t x.table.now (earlier_at s' x) n ws) (task_later s s' g x.task.now h.task) ∙ ap (λ r. types_of (task_at s x.task.now) x.table.now r n ws) earlier_later
+      ap (λ t. meaning_types t x.table.now (earlier_at s' x) n ws) (task_later s s' g x.task.now h.task) ∙ ap (λ r. meaning_types (task_at s x.task.now) x.table.now r n ws) earlier_later
 
-  pub uses_same : (parts : List TermId) → All (Holds s) parts → (ws : List Word) (n : Meaning) → named_use (task_at s' x.task.now) x.table.now (earlier_at s' x) (at_number (trees_at s' parts)) ws n ≡ named_use (task_at s x.task.now) x.table.now (earlier_at s x) (at_number (trees_at s parts)) ws n
+  pub uses_same : (parts : List TermId) → All (Holds s) parts → (ws : List LineWord) (n : NameMeaning) → named_use (task_at s' x.task.now) x.table.now (earlier_at s' x) (at_number (trees_at s' parts)) ws n ≡ named_use (task_at s x.task.now) x.table.now (earlier_at s x) (at_number (trees_at s parts)) ws n
   uses_same parts held ws n =
       ap (λ t. named_use t x.table.now (earlier_at s' x) (at_number (trees_at s' parts)) ws n) (task_later s s' g x.task.now h.task)
       ∙ ap (λ r. named_use (task_at s x.task.now) x.table.now r (at_number (trees_at s' parts)) ws n) earlier_later
@@ -132,13 +132,13 @@ module _ (s s' : List Tree) (g : Grows s s') (x : Known) (h : KnownHeld s x) whe
 
 -- a name, and the words after it
 module _ (t : TaskTree) (names : List NameEntry) (r : Earlier) where
-  pub words_used : (part : Word → Option Tree) (ws : List (Bor Word)) (d : Bor Word) (n : Meaning) → 1 ≤ length ws → Some n ≡ meaning names (get_or ws 0 d).now → named_use t names r part (texts (take (length ws - 1) (drop 1 ws))) n ≡ used_on t names r part (texts ws)
+  pub words_used : (part : LineWord → Option Tree) (ws : List (Bor LineWord)) (d : Bor LineWord) (n : NameMeaning) → 1 ≤ length ws → Some n ≡ meaning names (get_or ws 0 d).now → named_use t names r part (texts (take (length ws - 1) (drop 1 ws))) n ≡ used_on t names r part (texts ws)
   words_used part [] d n some e = absurd (omega arith)
   words_used part (w ∷ ws) d n some e = ap (λ l. named_use t names r part (texts l) n) (slice_left 1 (w ∷ ws)) ∙ ap (option_and_then (named_use t names r part (texts ws))) e
 
-  abbrev typed : List Word → Meaning → Option Tree
-  typed ws n = option_and_then (type_at n.symbol) (types_of t names r n ws)
+  abbrev typed : List LineWord → NameMeaning → Option Tree
+  typed ws n = option_and_then (named_type_at n.symbol) (meaning_types t names r n ws)
 
-  pub words_typed : (ws : List (Bor Word)) (d : Bor Word) (n : Meaning) → 1 ≤ length ws → Some n ≡ meaning names (get_or ws 0 d).now → typed (texts (take (length ws - 1) (drop 1 ws))) n ≡ type_of_line t names r (texts ws)
+  pub words_typed : (ws : List (Bor LineWord)) (d : Bor LineWord) (n : NameMeaning) → 1 ≤ length ws → Some n ≡ meaning names (get_or ws 0 d).now → typed (texts (take (length ws - 1) (drop 1 ws))) n ≡ type_of_line t names r (texts ws)
   words_typed [] d n some e = absurd (omega arith)
   words_typed (w ∷ ws) d n some e = ap (λ l. typed (texts l) n) (slice_left 1 (w ∷ ws)) ∙ ap (option_and_then (typed (texts ws))) e

@@ -15,25 +15,25 @@ use Rattle.tree_lines.specs.declared.names.Names.{Names}
 use Rattle.tree_lines.specs.declared.names.Named.{Named}
 use Rattle.tree_lines.specs.declared.known.Known.{Known}
 use Rattle.tree_lines.specs.declared.uses.Applied.{Applied}
-use Rattle.tree_lines.specs.Named.{Meaning, entry_named}
+use Rattle.tree_lines.specs.Named.{NameMeaning, entry_named}
 use Rattle.tree_lines.specs.Lines.{Earlier, SymbolUse}
 
 -- The number of the tree that words make. None is answered only where they make no tree, or one whose parts don't fit.
-abbrev pub IsMade : List Tree → Option Tree → Option TermId → Type 0
-IsMade s made (Some id) = (made ≡ Some (tree_at s id)) × Holds s id
-IsMade s made None = (e : Tree) → made ≡ Some e → WellSorted e → ⊥
+abbrev pub IsTreeMade : List Tree → Option Tree → Option TermId → Type 0
+IsTreeMade s made (Some id) = (made ≡ Some (tree_at s id)) × Holds s id
+IsTreeMade s made None = (e : Tree) → made ≡ Some e → WellSorted e → ⊥
 
 -- the number of a type
-abbrev pub IsType : List Tree → TermId → Type 0
-IsType s id = Holds s id × (sort_of (tree_at s id) ≡ Kind)
+abbrev pub IsTypeHeld : List Tree → TermId → Type 0
+IsTypeHeld s id = Holds s id × (sort_of (tree_at s id) ≡ Kind)
 
 -- the places of the entries by their names
 abbrev pub IsNamesOf : Names → List NameEntry → Type 0
 IsNamesOf n table = (name : List ℕ) → option_and_then (slice_get table) (get_by (λ k. bytes_eq name k.items) n.places) ≡ entry_named table name
 
 -- what a name stands for
-abbrev pub meaning_at : List Tree → Named → Meaning
-meaning_at s n = record { symbol = n.symbol; types = trees_at s n.types.items }
+abbrev pub named_meaning : List Tree → Named → NameMeaning
+named_meaning s n = record { symbol = n.symbol; types = trees_at s n.types.items }
 
 abbrev pub earlier_at : List Tree → Known → Earlier
 earlier_at s x = record { types = trees_at s x.types.now; patterns = trees_at s x.patterns.now; expressions = trees_at s x.expressions.now }

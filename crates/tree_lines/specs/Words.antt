@@ -3,20 +3,17 @@ use Rattle.std.specs.Prelude.{ℕ, List, [], ◌∷◌, map, Option, Some, None,
 use Rattle.std.specs.Option.{option_and_then, option_map}
 use Rattle.std.specs.Borrow.{Bor}
 use Rattle.integer_words.specs.Integers.{number_below}
+pub use Rattle.word_tables.specs.Words.{texts}
 
-abbrev pub Word : Type 0
-Word = List ℕ
-
--- what slices of bytes hold
-abbrev pub texts : List (Bor (List ℕ)) → List Word
-texts ws = map (λ w. w.now) ws
+abbrev pub LineWord : Type 0
+LineWord = List ℕ
 
 -- a number of 64 bits in decimal, without leading zeros
-abbrev pub number : Word → Option ℕ
+abbrev pub number : LineWord → Option ℕ
 number w = number_below 18446744073709551616 w
 
 -- the thing of a number
-abbrev pub at_number : {A : Type 0} → List A → Word → Option A
+abbrev pub at_number : {A : Type 0} → List A → LineWord → Option A
 at_number things w = option_and_then (slice_get things) (number w)
 
 -- what each is, where none is missing
@@ -25,25 +22,25 @@ each f [] = Some []
 each f (x ∷ xs) = option_and_then (λ y. option_map (λ ys. y ∷ ys) (each f xs)) (f x)
 
 -- what words two by two are
-abbrev pub pairs : {A B : Type 0} → (Word → Option A) → (Word → Option B) → List Word → Option (List (A × B))
+abbrev pub pairs : {A B : Type 0} → (LineWord → Option A) → (LineWord → Option B) → List LineWord → Option (List (A × B))
 pairs p q [] = Some []
 pairs p q (w ∷ []) = None
 pairs p q (w ∷ v ∷ ws) = option_and_then (λ x. option_and_then (λ y. option_map (λ ps. (x, y) ∷ ps) (pairs p q ws)) (q v)) (p w)
 
 -- what the only word makes, or the only two or three
-abbrev pub one : {A C : Type 0} → (Word → Option A) → (A → C) → List Word → Option C
+abbrev pub one : {A C : Type 0} → (LineWord → Option A) → (A → C) → List LineWord → Option C
 one p f (w ∷ []) = option_map f (p w)
 one p f _ = None
 
-abbrev pub two : {A B C : Type 0} → (Word → Option A) → (Word → Option B) → (A → B → C) → List Word → Option C
+abbrev pub two : {A B C : Type 0} → (LineWord → Option A) → (LineWord → Option B) → (A → B → C) → List LineWord → Option C
 two p q f (w ∷ v ∷ []) = option_and_then (λ x. option_map (f x) (q v)) (p w)
 two p q f _ = None
 
-abbrev pub three : {A B C D : Type 0} → (Word → Option A) → (Word → Option B) → (Word → Option C) → (A → B → C → D) → List Word → Option D
+abbrev pub three : {A B C D : Type 0} → (LineWord → Option A) → (LineWord → Option B) → (LineWord → Option C) → (A → B → C → D) → List LineWord → Option D
 three p q r f (w ∷ v ∷ u ∷ []) = option_and_then (λ x. option_and_then (λ y. option_map (f x y) (r u)) (q v)) (p w)
 three p q r f _ = None
 
 -- what no word makes
-abbrev pub alone : {C : Type 0} → C → List Word → Option C
+abbrev pub alone : {C : Type 0} → C → List LineWord → Option C
 alone e [] = Some e
 alone e _ = None

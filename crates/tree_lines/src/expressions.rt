@@ -7,9 +7,9 @@ ghost use Rattle.trees.specs.Node.{tree_at, node_tree, parts_of, Holds, AreBelow
 ghost use Rattle.tasks.specs.Meaning.{task_at};
 ghost use Rattle.tree_lines.specs.Words.{texts};
 ghost use Rattle.tree_lines.specs.Named.{cells};
-ghost use Rattle.tree_lines.specs.Lines.{match_tree, match_of, plain_by, expression_by, expression_of_line};
+ghost use Rattle.tree_lines.specs.Lines.{match_tree, match_by_words, plain_by, expression_by, expression_of_line};
 ghost use Rattle.tree_lines.specs.declared.kinds.NodeWord.TheVariants.{Sym};
-ghost use Rattle.tree_lines.specs.Made.{IsMade, KnownHeld, branch_at, earlier_at, pairs_in, PairsHeld};
+ghost use Rattle.tree_lines.specs.Made.{IsTreeMade, KnownHeld, branch_at, earlier_at, pairs_in, PairsHeld};
 
 use crate::forms::{if_node, integer_node, lone_node, one_node, two_node, variable_node};
 use crate::kinds::{NodeWord, find_expression_word};
@@ -29,7 +29,7 @@ fn add_branch(
     requires pattern { Holds store.old branch.0 }
     requires body { Holds store.old branch.1 }
     requires list { Holds store.old list }
-    ensures made { IfOk result (IsMade store.new
+    ensures made { IfOk result (IsTreeMade store.new
         (Some (Two HCell (branch_at store.old branch) (tree_at store.old list)))) }
     ensures grows { Grows store.old store.new }
 {
@@ -45,7 +45,7 @@ fn branch_list(
     branches: &[(TermId, TermId)],
 ) -> Result<Option<TermId>, AllocError>
     requires { PairsHeld store.old branches.now }
-    ensures made { IfOk result (IsMade store.new
+    ensures made { IfOk result (IsTreeMade store.new
         (Some (cells (map (branch_at store.old) branches.now)))) }
     ensures grows { Grows store.old store.new }
 {
@@ -69,7 +69,7 @@ fn case_of_branches(
 ) -> Result<Option<TermId>, AllocError>
     requires scrutinee { Holds store.old scrutinee }
     requires branches { PairsHeld store.old branches.now }
-    ensures made { IfOk result (IsMade store.new
+    ensures made { IfOk result (IsTreeMade store.new
         (Some (match_tree (tree_at store.old scrutinee) (pairs_in store.old branches.now)))) }
     ensures grows { Grows store.old store.new }
 {
@@ -87,8 +87,8 @@ fn match_of_words(
     words: &[&[u8]],
 ) -> Result<Option<TermId>, AllocError>
     requires { KnownHeld store.old x.now }
-    ensures made { IfOk result (IsMade store.new
-        (match_of (task_at store.old x.now.task.now) x.now.table.now
+    ensures made { IfOk result (IsTreeMade store.new
+        (match_by_words (task_at store.old x.now.task.now) x.now.table.now
         (earlier_at store.old x.now) (texts words.now))) }
     ensures grows { Grows store.old store.new }
 {
@@ -112,7 +112,7 @@ fn expression_of_symbol(
     words: &[&[u8]],
 ) -> Result<Option<TermId>, AllocError>
     requires { KnownHeld store.old x.now }
-    ensures made { IfOk result (IsMade store.new
+    ensures made { IfOk result (IsTreeMade store.new
         (expression_by (task_at store.old x.now.task.now) x.now.table.now
         (earlier_at store.old x.now) Sym (texts words.now))) }
     ensures grows { Grows store.old store.new }
@@ -153,7 +153,7 @@ fn plain_expression(
     words: &[&[u8]],
 ) -> Result<Option<TermId>, AllocError>
     requires { KnownHeld store.old x.now }
-    ensures made { IfOk result (IsMade store.new
+    ensures made { IfOk result (IsTreeMade store.new
         (plain_by (task_at store.old x.now.task.now) x.now.table.now
         (earlier_at store.old x.now) word (texts words.now))) }
     ensures grows { Grows store.old store.new }
@@ -171,7 +171,7 @@ fn expression_of_word(
     words: &[&[u8]],
 ) -> Result<Option<TermId>, AllocError>
     requires { KnownHeld store.old x.now }
-    ensures made { IfOk result (IsMade store.new
+    ensures made { IfOk result (IsTreeMade store.new
         (expression_by (task_at store.old x.now.task.now) x.now.table.now
         (earlier_at store.old x.now) word (texts words.now))) }
     ensures grows { Grows store.old store.new }
@@ -192,7 +192,7 @@ pub fn line_expression(
     words: &[&[u8]],
 ) -> Result<Option<TermId>, AllocError>
     requires { KnownHeld store.old x.now }
-    ensures made { IfOk result (IsMade store.new
+    ensures made { IfOk result (IsTreeMade store.new
         (expression_of_line (task_at store.old x.now.task.now) x.now.table.now
         (earlier_at store.old x.now) (texts words.now))) }
     ensures grows { Grows store.old store.new }

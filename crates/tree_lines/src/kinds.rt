@@ -1,7 +1,7 @@
 // The words of the lines of patterns, terms and formulas.
 // They depend on the tables of words; the lines of each kind depend on them.
 ghost use Rattle.std.specs.Prelude.{◌≡◌, slice_get};
-ghost use Rattle.tree_lines.specs.Lines.{pattern_names, expression_names, pattern_words, expression_words, pattern_word, expression_word};
+ghost use Rattle.tree_lines.specs.Lines.{pattern_node_words, expression_names, pattern_words, expression_words, pattern_word, expression_word};
 
 use word_tables::WordTable;
 

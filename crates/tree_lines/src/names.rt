@@ -7,8 +7,8 @@ ghost use Rattle.trees.specs.Node.{tree_at, Grows};
 ghost use Rattle.binders.specs.Visits.{HoldTypes};
 ghost use Rattle.tasks.specs.Meaning.{trees_at};
 ghost use Rattle.name_entries.specs.declared.names.NameOf.TheVariants.{Rigid};
-ghost use Rattle.tree_lines.specs.Named.{cells, entry_type, entry_types, entry_named, meaning, type_at};
-ghost use Rattle.tree_lines.specs.Made.{IsNamesOf, IsType, meaning_at};
+ghost use Rattle.tree_lines.specs.Named.{cells, entry_type, entry_types, entry_named, meaning, named_type_at};
+ghost use Rattle.tree_lines.specs.Made.{IsNamesOf, IsTypeHeld, named_meaning};
 
 use crate::nodes::type_list;
 use name_entries::{NameEntry, NameOf};
@@ -17,7 +17,7 @@ use std::collections::HashMap;
 use term_store::{Grow, Store};
 use trees::{Node, TermId};
 
-/// What a name stands for: a symbol, and the types at which it stands; none where it stands whole.
+/// What a name stands for: a symbol, and the types at which it is there; none where it is whole.
 #[derive(Drop)]
 pub struct Named {
     pub symbol: NameOf,
@@ -66,7 +66,7 @@ fn applied_type(
     requires { HoldTypes store.old types.now }
     ensures tree { IfOk result (λ o. option_map (tree_at store.new) o
         ≡ Some (One (HTyApp symbol) (cells (trees_at store.old types.now)))) }
-    ensures held { IfOk result (λ o. IfSome o (IsType store.new)) }
+    ensures held { IfOk result (λ o. IfSome o (IsTypeHeld store.new)) }
     ensures grows { Grows store.old store.new }
 {
     let list = type_list(store, types)?;
@@ -80,8 +80,8 @@ fn rigid_type(
     types: &[TermId],
 ) -> Result<Option<TermId>, AllocError>
     ensures tree { IfOk result (λ o. option_map (tree_at store.new) o
-        ≡ type_at (Rigid symbol) (trees_at store.old types.now)) }
-    ensures held { IfOk result (λ o. IfSome o (IsType store.new)) }
+        ≡ named_type_at (Rigid symbol) (trees_at store.old types.now)) }
+    ensures held { IfOk result (λ o. IfSome o (IsTypeHeld store.new)) }
     ensures grows { Grows store.old store.new }
 {
     match types {
@@ -98,8 +98,8 @@ pub(crate) fn type_of_symbol(
 ) -> Result<Option<TermId>, AllocError>
     requires { HoldTypes store.old types.now }
     ensures tree { IfOk result (λ o. option_map (tree_at store.new) o
-        ≡ type_at symbol (trees_at store.old types.now)) }
-    ensures held { IfOk result (λ o. IfSome o (IsType store.new)) }
+        ≡ named_type_at symbol (trees_at store.old types.now)) }
+    ensures held { IfOk result (λ o. IfSome o (IsTypeHeld store.new)) }
     ensures grows { Grows store.old store.new }
 {
     match symbol {
@@ -126,7 +126,7 @@ fn type_of_entry(
 ) -> Result<Option<TermId>, AllocError>
     ensures tree { IfOk result (λ o. option_map (tree_at store.new) o
         ≡ entry_type most table.now place) }
-    ensures held { IfOk result (λ o. IfSome o (IsType store.new)) }
+    ensures held { IfOk result (λ o. IfSome o (IsTypeHeld store.new)) }
     ensures grows { Grows store.old store.new }
 {
     if most == 0 {
@@ -176,7 +176,7 @@ pub fn meaning_of(
     name: &[u8],
 ) -> Result<Option<Named>, AllocError>
     requires { IsNamesOf names.now table.now }
-    ensures meaning { IfOk result (λ o. option_map (meaning_at store.new) o
+    ensures meaning { IfOk result (λ o. option_map (named_meaning store.new) o
         ≡ meaning table.now name.now) }
     ensures held { IfOk result (λ o. IfSome o (λ n. HoldTypes store.new n.types.items)) }
     ensures grows { Grows store.old store.new }

@@ -8,7 +8,7 @@ ghost use Rattle.trees.specs.declared.Sort.TheVariants.{Kind};
 ghost use Rattle.binders.specs.Visits.{HoldTypes};
 ghost use Rattle.tasks.specs.Meaning.{trees_at};
 ghost use Rattle.tree_lines.specs.Named.{cells};
-ghost use Rattle.tree_lines.specs.Made.{IsMade};
+ghost use Rattle.tree_lines.specs.Made.{IsTreeMade};
 
 use std::alloc::AllocError;
 use term_store::{Grow, Store};
@@ -17,7 +17,7 @@ use trees::{Node, TermId};
 /// The tree of a node; none where its children don't fit.
 pub(crate) fn add_node(store: &mut Store, node: Node) -> Result<Option<TermId>, AllocError>
     requires { AreBelow (length store.old) (parts_of node) }
-    ensures made { IfOk result (IsMade store.new (Some (node_tree store.old node))) }
+    ensures made { IfOk result (IsTreeMade store.new (Some (node_tree store.old node))) }
     ensures grows { Grows store.old store.new }
 {
     if store.accepts(node) {
@@ -30,7 +30,7 @@ pub(crate) fn add_node(store: &mut Store, node: Node) -> Result<Option<TermId>, 
 /// The tree of a node, where there is one and its children fit.
 pub(crate) fn tree_of(store: &mut Store, node: Option<Node>) -> Result<Option<TermId>, AllocError>
     requires { IfSome node (λ n. AreBelow (length store.old) (parts_of n)) }
-    ensures made { IfOk result (IsMade store.new (option_map (node_tree store.old) node)) }
+    ensures made { IfOk result (IsTreeMade store.new (option_map (node_tree store.old) node)) }
     ensures grows { Grows store.old store.new }
 {
     match node {
@@ -59,7 +59,8 @@ pub(crate) fn type_list(store: &mut Store, types: &[TermId]) -> Result<TermId, A
 /// The list of trees; none where they don't fit.
 pub(crate) fn cell_list(store: &mut Store, items: &[TermId]) -> Result<Option<TermId>, AllocError>
     requires { All (Holds store.old) items.now }
-    ensures made { IfOk result (IsMade store.new (Some (cells (trees_at store.old items.now)))) }
+    ensures made { IfOk result (IsTreeMade store.new
+        (Some (cells (trees_at store.old items.now)))) }
     ensures grows { Grows store.old store.new }
 {
     let mut list = store.add(Node::End)?;

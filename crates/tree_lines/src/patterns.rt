@@ -7,7 +7,7 @@ ghost use Rattle.tasks.specs.Meaning.{task_at, trees_at};
 ghost use Rattle.tree_lines.specs.Words.{at_number, one, texts};
 ghost use Rattle.tree_lines.specs.Lines.{one_tree, type_of_line, pattern_by, pattern_of_line};
 ghost use Rattle.tree_lines.specs.declared.kinds.NodeWord.TheVariants.{Con};
-ghost use Rattle.tree_lines.specs.Made.{IsMade, IsType, KnownHeld, earlier_at};
+ghost use Rattle.tree_lines.specs.Made.{IsTreeMade, IsTypeHeld, KnownHeld, earlier_at};
 
 use crate::forms::one_node;
 use crate::kinds::{NodeWord, find_pattern_word};
@@ -30,7 +30,7 @@ pub fn line_type(
     ensures tree { IfOk result (λ o. option_map (tree_at store.new) o
         ≡ type_of_line (task_at store.old x.now.task.now) x.now.table.now
         (earlier_at store.old x.now) (texts words.now)) }
-    ensures held { IfOk result (λ o. IfSome o (IsType store.new)) }
+    ensures held { IfOk result (λ o. IfSome o (IsTypeHeld store.new)) }
     ensures grows { Grows store.old store.new }
 {
     let [name, rest @ ..] = words else {
@@ -54,7 +54,7 @@ fn pattern_of_symbol(
     words: &[&[u8]],
 ) -> Result<Option<TermId>, AllocError>
     requires { KnownHeld store.old x.now }
-    ensures made { IfOk result (IsMade store.new
+    ensures made { IfOk result (IsTreeMade store.new
         (pattern_by (task_at store.old x.now.task.now) x.now.table.now
         (earlier_at store.old x.now) Con (texts words.now))) }
     ensures grows { Grows store.old store.new }
@@ -73,7 +73,7 @@ fn pattern_of_one(
     words: &[&[u8]],
 ) -> Result<Option<TermId>, AllocError>
     requires { All (Holds store.old) things.now }
-    ensures made { IfOk result (IsMade store.new
+    ensures made { IfOk result (IsTreeMade store.new
         (one (at_number (trees_at store.old things.now)) (one_tree word) (texts words.now))) }
     ensures grows { Grows store.old store.new }
 {
@@ -90,7 +90,7 @@ fn pattern_of_word(
     words: &[&[u8]],
 ) -> Result<Option<TermId>, AllocError>
     requires { KnownHeld store.old x.now }
-    ensures made { IfOk result (IsMade store.new
+    ensures made { IfOk result (IsTreeMade store.new
         (pattern_by (task_at store.old x.now.task.now) x.now.table.now
         (earlier_at store.old x.now) word (texts words.now))) }
     ensures grows { Grows store.old store.new }
@@ -111,7 +111,7 @@ pub fn line_pattern(
     words: &[&[u8]],
 ) -> Result<Option<TermId>, AllocError>
     requires { KnownHeld store.old x.now }
-    ensures made { IfOk result (IsMade store.new
+    ensures made { IfOk result (IsTreeMade store.new
         (pattern_of_line (task_at store.old x.now.task.now) x.now.table.now
         (earlier_at store.old x.now) (texts words.now))) }
     ensures grows { Grows store.old store.new }

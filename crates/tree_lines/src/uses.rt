@@ -8,8 +8,8 @@ ghost use Rattle.binders.specs.Visits.{HoldTypes};
 ghost use Rattle.tasks.specs.Meaning.{trees_at, symbol_at, task_at, SymbolHeld};
 ghost use Rattle.tree_lines.specs.Words.{at_number, texts};
 ghost use Rattle.tree_lines.specs.Named.{cells};
-ghost use Rattle.tree_lines.specs.Lines.{types_of, use_of, named_use, used_on, use_trees, term_of, applied, matched};
-ghost use Rattle.tree_lines.specs.Made.{IsMade, KnownHeld, UseHeld, AreTrees, earlier_at, meaning_at, use_at};
+ghost use Rattle.tree_lines.specs.Lines.{meaning_types, use_of, named_use, used_on, use_trees, term_of, application_tree, constructor_pattern_tree};
+ghost use Rattle.tree_lines.specs.Made.{IsTreeMade, KnownHeld, UseHeld, AreTrees, earlier_at, named_meaning, use_at};
 
 use crate::known::{Known, things_at};
 use crate::names::{Named, meaning_of};
@@ -41,8 +41,9 @@ pub(crate) fn all_types(
     requires known { KnownHeld store.now x.now }
     requires named { HoldTypes store.now named.types.items }
     ensures trees { IfOk result (λ o. option_map (λ v. trees_at store.now v.items) o
-        ≡ types_of (task_at store.now x.now.task.now) x.now.table.now (earlier_at store.now x.now)
-        (meaning_at store.now named) (texts words.now)) }
+        ≡ meaning_types (task_at store.now x.now.task.now) x.now.table.now
+        (earlier_at store.now x.now)
+        (named_meaning store.now named) (texts words.now)) }
     ensures held { IfOk result (λ o. IfSome o (λ v. HoldTypes store.now v.items)) }
 {
     let Some(more) = things_at(alloc, store, x.types, words)? else {
@@ -70,7 +71,7 @@ fn use_of_symbol<'a>(
     requires info { SymbolHeld store.now info.now }
     ensures uses { IfOk result (λ o. option_map (use_at store.now) o
         ≡ use_of (task_at store.now x.now.task.now) x.now.table.now (earlier_at store.now x.now)
-        (at_number (trees_at store.now parts.now)) (meaning_at store.now named) (texts words.now)
+        (at_number (trees_at store.now parts.now)) (named_meaning store.now named) (texts words.now)
         symbol (symbol_at store.now info.now)) }
     ensures held { IfOk result (λ o. IfSome o (UseHeld store.now)) }
 {
@@ -114,7 +115,8 @@ fn use_of_meaning<'a>(
     requires named { HoldTypes store.now named.types.items }
     ensures uses { IfOk result (λ o. option_map (use_at store.now) o
         ≡ named_use (task_at store.now x.now.task.now) x.now.table.now (earlier_at store.now x.now)
-        (at_number (trees_at store.now parts.now)) (texts words.now) (meaning_at store.now named)) }
+        (at_number (trees_at store.now parts.now)) (texts words.now)
+        (named_meaning store.now named)) }
     ensures held { IfOk result (λ o. IfSome o (UseHeld store.now)) }
 {
     let NameOf::Symbol(symbol) = named.symbol else {
@@ -179,7 +181,7 @@ fn term_of_use(
     used: &Applied<'_>,
 ) -> Result<Option<TermId>, AllocError>
     requires { UseHeld store.old used.now }
-    ensures made { IfOk result (IsMade store.new (term_of (use_at store.old used.now))) }
+    ensures made { IfOk result (IsTreeMade store.new (term_of (use_at store.old used.now))) }
     ensures grows { Grows store.old store.new }
 {
     match trees_of_use(alloc, store, used)? {
@@ -191,7 +193,7 @@ fn term_of_use(
 // The formula of a use.
 fn formula_of_use(store: &mut Store, used: &Applied<'_>) -> Result<Option<TermId>, AllocError>
     requires { UseHeld store.old used.now }
-    ensures made { IfOk result (IsMade store.new (let u = use_at store.old used.now in
+    ensures made { IfOk result (IsTreeMade store.new (let u = use_at store.old used.now in
         Some (Two (HPred u.symbol) (cells u.types) (cells u.parts)))) }
     ensures grows { Grows store.old store.new }
 {
@@ -209,7 +211,8 @@ pub(crate) fn tree_of_use(
     used: &Applied<'_>,
 ) -> Result<Option<TermId>, AllocError>
     requires { UseHeld store.old used.now }
-    ensures made { IfOk result (IsMade store.new (applied (use_at store.old used.now))) }
+    ensures made { IfOk result (IsTreeMade store.new
+        (application_tree (use_at store.old used.now))) }
     ensures grows { Grows store.old store.new }
 {
     match used.info.kind {
@@ -228,7 +231,8 @@ pub(crate) fn pattern_of_use(
     used: &Applied<'_>,
 ) -> Result<Option<TermId>, AllocError>
     requires { UseHeld store.old used.now }
-    ensures made { IfOk result (IsMade store.new (matched (use_at store.old used.now))) }
+    ensures made { IfOk result (IsTreeMade store.new
+        (constructor_pattern_tree (use_at store.old used.now))) }
     ensures grows { Grows store.old store.new }
 {
     match trees_of_use(alloc, store, used)? {

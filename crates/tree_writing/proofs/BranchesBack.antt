@@ -6,7 +6,7 @@ use Rattle.trees.specs.declared.Node.{Node}
 use Rattle.trees.specs.declared.Node.TheVariants.{Arm, Cell}
 use Rattle.trees.specs.Tree.{Tree, Leaf, One, Two, Three, Head, HEnd, HCell, HArm, HCase, HLet, HIf, HNum, HTrue, HFalse, HBound, HParam, HNot, HPatAny, HPatVar, HPatAlias}
 use Rattle.trees.specs.Node.{node_tree}
-use Rattle.tree_lines.specs.Words.{Word, pairs, at_number}
+use Rattle.tree_lines.specs.Words.{LineWord, pairs, at_number}
 use Rattle.tree_lines.specs.Lines.{Earlier}
 use Rattle.trees.specs.declared.Sort.{Sort}
 use Rattle.trees.specs.declared.Sort.TheVariants.{Branch, Term}
@@ -17,7 +17,7 @@ use Rattle.tree_lines.specs.Named.{cells}
 use Rattle.tree_lines.specs.Lines.{arm_list, match_tree, expression_of_line}
 use Rattle.tree_writing.specs.Referring.{AreLines, Refers, PushesNumbers}
 use Rattle.tree_writing.specs.Plain.{IsOneWord, ReadsBack}
-use Rattle.tree_writing.specs.Branches.{branches, IsArm, PushesBranches, BranchLines}
+use Rattle.tree_writing.specs.Branches.{branch_list, IsArm, PushesBranches, BranchLines}
 use Rattle.tree_writing.proofs.Cells.{is_cells}
 use Rattle.tree_writing.proofs.Partly.{rest_list}
 use Rattle.tree_writing.proofs.PlainBack.{two_numbers, word_refers, of_pattern, of_expression, of_term}
@@ -26,21 +26,21 @@ pub no_arm : (s : List Tree) (n : Node) → ((a b : TermId) → n ≡ Arm a b �
 no_arm s (Arm a b) h k = h a b refl
 no_arm s _ h k = k
 
-no_branch_head : (h : Head) (a b rest : Tree) → (IsArm (Two h a b) → ⊥) → branches (Two HCell (Two h a b) rest) ≡ []
+no_branch_head : (h : Head) (a b rest : Tree) → (IsArm (Two h a b) → ⊥) → branch_list (Two HCell (Two h a b) rest) ≡ []
 no_branch_head HArm a b rest h = absurd (h tt)
 no_branch_head _ a b rest h = refl
 
-pub no_branch : (a rest : Tree) → (IsArm a → ⊥) → branches (Two HCell a rest) ≡ []
+pub no_branch : (a rest : Tree) → (IsArm a → ⊥) → branch_list (Two HCell a rest) ≡ []
 no_branch (Leaf h) rest k = refl
 no_branch (One h a) rest k = refl
 no_branch (Two h a b) rest k = no_branch_head h a b rest k
 no_branch (Three h a b c) rest k = refl
 
-pub no_branches : (s : List Tree) (n : Node) → ((a b : TermId) → n ≡ Cell a b → ⊥) → branches (node_tree s n) ≡ []
+pub no_branches : (s : List Tree) (n : Node) → ((a b : TermId) → n ≡ Cell a b → ⊥) → branch_list (node_tree s n) ≡ []
 no_branches s (Cell a b) h = absurd (h a b refl)
 no_branches s _ h = refl
 
-pub pairs_end : {A B : Type 0} (p : Word → Option A) (q : Word → Option B) (ws : List Word) (w v : Word) (ps : List (A × B)) (a : A) (b : B) → pairs p q ws ≡ Some ps → p w ≡ Some a → q v ≡ Some b → pairs p q (ws ++ w ∷ v ∷ []) ≡ Some (ps ++ (a, b) ∷ [])
+pub pairs_end : {A B : Type 0} (p : LineWord → Option A) (q : LineWord → Option B) (ws : List LineWord) (w v : LineWord) (ps : List (A × B)) (a : A) (b : B) → pairs p q ws ≡ Some ps → p w ≡ Some a → q v ≡ Some b → pairs p q (ws ++ w ∷ v ∷ []) ≡ Some (ps ++ (a, b) ∷ [])
 pairs_end {A} {B} p q [] w v ps a b e k l =
     let none : [] ≡ ps = cc in
     ap (option_and_then (λ x. option_and_then (λ y. option_map {U = List (A × B)} (λ zs. (x, y) ∷ zs) (Some [])) (q v))) k
@@ -59,17 +59,17 @@ pairs_end {A} {B} p q (x ∷ y ∷ ws) w v ps a b e k l = at (p x) (q y) (pairs 
       ap (option_map {U = List (A × B)} (λ us. (i, j) ∷ us)) (more zs is) ∙ ap (λ (us : List (A × B)). Some (us ++ (a, b) ∷ [])) same
 
 -- the branches of a list so far
-pub record BranchesSoFar (s : List Tree) (lines : List (Option ℕ)) (list rest : Tree) (old new : List Word) : Type 0 where
+pub record BranchesSoFar (s : List Tree) (lines : List (Option ℕ)) (list rest : Tree) (old new : List LineWord) : Type 0 where
   pub done : List (Tree × Tree)
-  pub more : List Word
-  pub all : branches list ≡ done ++ branches rest
+  pub more : List LineWord
+  pub all : branch_list list ≡ done ++ branch_list rest
   pub is : new ≡ old ++ more
   pub refer : (r : Earlier) → AreLines s lines r → pairs (at_number r.patterns) (at_number r.expressions) more ≡ Some done
 
-pub branches_start : (s : List Tree) (lines : List (Option ℕ)) (list : Tree) (old : List Word) → BranchesSoFar s lines list list old old
+pub branches_start : (s : List Tree) (lines : List (Option ℕ)) (list : Tree) (old : List LineWord) → BranchesSoFar s lines list list old old
 branches_start s lines list old = record { done = []; more = []; all = refl; is = sym (append-nil old); refer = λ r are. refl }
 
-pub branches_more : (s : List Tree) (lines : List (Option ℕ)) (list rest p b others : Tree) (old between new : List Word) (n m : ℕ) → WellSorted rest → rest ≡ Two HCell (Two HArm p b) others → Refers s lines (sort_of p) n p → Refers s lines (sort_of b) m b
+pub branches_more : (s : List Tree) (lines : List (Option ℕ)) (list rest p b others : Tree) (old between new : List LineWord) (n m : ℕ) → WellSorted rest → rest ≡ Two HCell (Two HArm p b) others → Refers s lines (sort_of p) n p → Refers s lines (sort_of b) m b
     → PushesNumbers between new (n ∷ m ∷ []) → BranchesSoFar s lines list rest old between → BranchesSoFar s lines list others old new
 branches_more s lines list rest p b others old between new n m w e first second h k =
     let v = subst WellSorted e w in
@@ -78,14 +78,14 @@ branches_more s lines list rest p b others old between new n m w e first second 
     record {
       done = k.done ++ (p, b) ∷ [];
       more = k.more ++ t.first ∷ t.second ∷ [];
-      all = k.all ∙ ap (λ (x : Tree). k.done ++ branches x) e ∙ sym (append_assoc k.done ((p, b) ∷ []) (branches others));
-      is = h.is ∙ ap (λ (l : List Word). l ++ h.more) k.is ∙ append_assoc old k.more h.more ∙ ap (λ (l : List Word). old ++ (k.more ++ l)) t.is;
+      all = k.all ∙ ap (λ (x : Tree). k.done ++ branch_list x) e ∙ sym (append_assoc k.done ((p, b) ∷ []) (branch_list others));
+      is = h.is ∙ ap (λ (l : List LineWord). l ++ h.more) k.is ∙ append_assoc old k.more h.more ∙ ap (λ (l : List LineWord). old ++ (k.more ++ l)) t.is;
       refer = λ r are. pairs_end (at_number r.patterns) (at_number r.expressions) k.more t.first t.second k.done p b (k.refer r are)
           (of_pattern s lines r t.first p are f.0 (word_refers s lines t.first n p t.n_there first))
           (of_expression s lines r t.second b are f.1 (word_refers s lines t.second m b t.m_there second));
     }
 
-pub branches_all : (s : List Tree) (lines : List (Option ℕ)) (list rest : Tree) (old new : List Word) → branches rest ≡ [] → BranchesSoFar s lines list rest old new → PushesBranches s lines list old new
+pub branches_all : (s : List Tree) (lines : List (Option ℕ)) (list rest : Tree) (old new : List LineWord) → branch_list rest ≡ [] → BranchesSoFar s lines list rest old new → PushesBranches s lines list old new
 branches_all s lines list rest old new none k = record {
   more = k.more;
   is = k.is;
@@ -158,30 +158,30 @@ three_arm HArm a b c w e = w.0
 three_arm HIf a b c w e = no_yield b e
 three_arm _ a b c w e = absurd (cc)
 
-cell_arms : (a rest : Tree) → WellSorted a → sort_of a ≡ Branch → map (λ (b : Tree × Tree). Two HArm b.0 b.1) (branches rest) ≡ members rest → map (λ (b : Tree × Tree). Two HArm b.0 b.1) (branches (Two HCell a rest)) ≡ a ∷ members rest
+cell_arms : (a rest : Tree) → WellSorted a → sort_of a ≡ Branch → map (λ (b : Tree × Tree). Two HArm b.0 b.1) (branch_list rest) ≡ members rest → map (λ (b : Tree × Tree). Two HArm b.0 b.1) (branch_list (Two HCell a rest)) ≡ a ∷ members rest
 cell_arms (Leaf h) rest w e k = absurd (leaf_arm h w e)
 cell_arms (One h a) rest w e k = absurd (one_arm h a w e)
 cell_arms (Two h a b) rest w e k =
     let is : h ≡ HArm = two_is_arm h a b w e in
-    subst (λ (x : Head). map (λ (b : Tree × Tree). Two HArm b.0 b.1) (branches (Two HCell (Two x a b) rest)) ≡ Two x a b ∷ members rest) (sym is) (ap (λ l. Two HArm a b ∷ l) k)
+    subst (λ (x : Head). map (λ (b : Tree × Tree). Two HArm b.0 b.1) (branch_list (Two HCell (Two x a b) rest)) ≡ Two x a b ∷ members rest) (sym is) (ap (λ l. Two HArm a b ∷ l) k)
 cell_arms (Three h a b c) rest w e k = absurd (three_arm h a b c w e)
 
-two_arms : (h : Head) (a b : Tree) → WellSorted (Two h a b) → IsList Branch (Two h a b) → (IsList Branch b → map (λ (b : Tree × Tree). Two HArm b.0 b.1) (branches b) ≡ members b) → map (λ (b : Tree × Tree). Two HArm b.0 b.1) (branches (Two h a b)) ≡ members (Two h a b)
+two_arms : (h : Head) (a b : Tree) → WellSorted (Two h a b) → IsList Branch (Two h a b) → (IsList Branch b → map (λ (b : Tree × Tree). Two HArm b.0 b.1) (branch_list b) ≡ members b) → map (λ (b : Tree × Tree). Two HArm b.0 b.1) (branch_list (Two h a b)) ≡ members (Two h a b)
 two_arms HCell a b w l k = let p = rest_list Branch a b w l in cell_arms a b w.1 p.0 (k p.1)
 two_arms _ a b w l k = refl
 
-arms : (e : Tree) → WellSorted e → IsList Branch e → map (λ (b : Tree × Tree). Two HArm b.0 b.1) (branches e) ≡ members e
+arms : (e : Tree) → WellSorted e → IsList Branch e → map (λ (b : Tree × Tree). Two HArm b.0 b.1) (branch_list e) ≡ members e
 arms (Leaf h) w l = refl
 arms (One h a) w l = refl
 arms (Two h a b) w l = two_arms h a b w l (λ k. arms b w.2 k)
 arms (Three h a b c) w l = refl
 
-pub arm_list_back : (e : Tree) → WellSorted e → IsList Branch e → arm_list (branches e) ≡ e
+pub arm_list_back : (e : Tree) → WellSorted e → IsList Branch e → arm_list (branch_list e) ≡ e
 arm_list_back e w l = ap cells (arms e w l) ∙ sym (is_cells e w l.0)
 
-pub match_back : (s : List Tree) (table : List NameEntry) (lines : List (Option ℕ)) (e list : Tree) (between ws : List Word) → sort_of e ≡ Term → WellSorted list → IsList Branch list → IsOneWord s lines (codes "match") e between → PushesBranches s lines list between ws → ReadsBack s table lines (Two HCase e list) ws
+pub match_back : (s : List Tree) (table : List NameEntry) (lines : List (Option ℕ)) (e list : Tree) (between ws : List LineWord) → sort_of e ≡ Term → WellSorted list → IsList Branch list → IsOneWord s lines (codes "match") e between → PushesBranches s lines list between ws → ReadsBack s table lines (Two HCase e list) ws
 match_back s table lines e list between ws k w l h p t r are =
-    ap (expression_of_line t table r) (p.is ∙ ap (λ (x : List Word). x ++ p.more) h.is)
+    ap (expression_of_line t table r) (p.is ∙ ap (λ (x : List LineWord). x ++ p.more) h.is)
     ∙ ap (option_and_then (λ (x : Tree). option_map (match_tree x) (pairs (at_number r.patterns) (at_number r.expressions) p.more))) (of_term s lines r h.first e are k h.a_there)
     ∙ ap (option_map (match_tree e)) (p.refer r are)
     ∙ ap (λ (x : Tree). Some (Two HCase e x)) (arm_list_back list w l)

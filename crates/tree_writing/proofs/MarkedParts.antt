@@ -1,4 +1,4 @@
--- Marks by number: of trees, of their children, and of all that stand in them.
+-- Marks by number: of trees, of their children, and of all that are in them.
 use Rattle.std.proofs.Common.{◌≡◌, ◌⊎◌, ℕ, ◌+◌, ◌<◌, ◌≤◌, zero, suc, Bool, true, false, IsTrue, List, [], ◌∷◌, ◌++◌, length, get_or, take, All, inl, inr, refl, sym, ap, subst, ◌∙◌, arith}
 use Rattle.std.proofs.Math.ListN.{set}
 use Rattle.std.proofs.lemmas.List.{take_more, take_all, get_or-map, length-map}
@@ -9,7 +9,7 @@ use Rattle.trees.specs.declared.Parts.TheVariants as parts
 use Rattle.trees.specs.Tree.{Tree, Leaf, One, Two, Three, Head, HEnd}
 use Rattle.trees.specs.Node.{tree_at, Holds, AreBelow, assemble}
 use Rattle.tasks.specs.Meaning.{trees_at}
-use Rattle.tree_writing.specs.Parts.{IsPart, StandsIn, is_marked, IsMarked, Marks, IsOneOf, PartsMarked, MarksParts, HasMark, ChildrenMarked, RootsMarked, AreMarked}
+use Rattle.tree_writing.specs.Parts.{IsSubtree, StandsIn, is_marked, IsMarked, Marks, IsOneOf, PartsMarked, MarksParts, HasMark, ChildrenMarked, RootsMarked, AreMarked}
 
 pub pushed_false : (ms : List Bool) (k : ℕ) → is_marked (ms ++ false ∷ []) k ≡ is_marked ms k
 pushed_false [] zero = refl
@@ -70,21 +70,21 @@ three_marked old one two new a b c h k l = record {
   ];
 }
 
--- a tree stands in itself, and what stands in a part stands in the whole
-pub self_part : (e : Tree) → IsPart e e
+-- a tree is in itself, and what is in a part is in the whole
+pub self_part : (e : Tree) → IsSubtree e e
 self_part (Leaf h) = refl
 self_part (One h a) = inl refl
 self_part (Two h a b) = inl refl
 self_part (Three h a b c) = inl refl
 
-pub part_of_part : (x y z : Tree) → IsPart x y → IsPart y z → IsPart x z
-part_of_part x y (Leaf h) p e = subst (IsPart x) e p
-part_of_part x y (One h a) p (inl e) = subst (IsPart x) e p
+pub part_of_part : (x y z : Tree) → IsSubtree x y → IsSubtree y z → IsSubtree x z
+part_of_part x y (Leaf h) p e = subst (IsSubtree x) e p
+part_of_part x y (One h a) p (inl e) = subst (IsSubtree x) e p
 part_of_part x y (One h a) p (inr q) = inr (part_of_part x y a p q)
-part_of_part x y (Two h a b) p (inl e) = subst (IsPart x) e p
+part_of_part x y (Two h a b) p (inl e) = subst (IsSubtree x) e p
 part_of_part x y (Two h a b) p (inr (inl q)) = inr (inl (part_of_part x y a p q))
 part_of_part x y (Two h a b) p (inr (inr q)) = inr (inr (part_of_part x y b p q))
-part_of_part x y (Three h a b c) p (inl e) = subst (IsPart x) e p
+part_of_part x y (Three h a b c) p (inl e) = subst (IsSubtree x) e p
 part_of_part x y (Three h a b c) p (inr (inl q)) = inr (inl (part_of_part x y a p q))
 part_of_part x y (Three h a b c) p (inr (inr (inl q))) = inr (inr (inl (part_of_part x y b p q)))
 part_of_part x y (Three h a b c) p (inr (inr (inr q))) = inr (inr (inr (part_of_part x y c p q)))
@@ -93,15 +93,15 @@ module _ (s : List Tree) where
   at : ℕ → Tree
   at k = get_or s k (Leaf HEnd)
 
-  -- the tree of a child stands in that of the node
-  child_part : (h : Head) (p : Parts) (k : ℕ) → IsOneOf k p → IsPart (get_or s k (Leaf HEnd)) (assemble s h p)
+  -- the tree of a child is in that of the node
+  child_part : (h : Head) (p : Parts) (k : ℕ) → IsOneOf k p → IsSubtree (get_or s k (Leaf HEnd)) (assemble s h p)
   child_part h parts.None k o = absurd o
-  child_part h (parts.One a) k e = inr (subst (λ (j : ℕ). IsPart (get_or s j (Leaf HEnd)) (tree_at s a)) (sym e) (self_part (tree_at s a)))
-  child_part h (parts.Two a b) k (inl e) = inr (inl (subst (λ (j : ℕ). IsPart (get_or s j (Leaf HEnd)) (tree_at s a)) (sym e) (self_part (tree_at s a))))
-  child_part h (parts.Two a b) k (inr e) = inr (inr (subst (λ (j : ℕ). IsPart (get_or s j (Leaf HEnd)) (tree_at s b)) (sym e) (self_part (tree_at s b))))
-  child_part h (parts.Three a b c) k (inl e) = inr (inl (subst (λ (j : ℕ). IsPart (get_or s j (Leaf HEnd)) (tree_at s a)) (sym e) (self_part (tree_at s a))))
-  child_part h (parts.Three a b c) k (inr (inl e)) = inr (inr (inl (subst (λ (j : ℕ). IsPart (get_or s j (Leaf HEnd)) (tree_at s b)) (sym e) (self_part (tree_at s b)))))
-  child_part h (parts.Three a b c) k (inr (inr e)) = inr (inr (inr (subst (λ (j : ℕ). IsPart (get_or s j (Leaf HEnd)) (tree_at s c)) (sym e) (self_part (tree_at s c)))))
+  child_part h (parts.One a) k e = inr (subst (λ (j : ℕ). IsSubtree (get_or s j (Leaf HEnd)) (tree_at s a)) (sym e) (self_part (tree_at s a)))
+  child_part h (parts.Two a b) k (inl e) = inr (inl (subst (λ (j : ℕ). IsSubtree (get_or s j (Leaf HEnd)) (tree_at s a)) (sym e) (self_part (tree_at s a))))
+  child_part h (parts.Two a b) k (inr e) = inr (inr (subst (λ (j : ℕ). IsSubtree (get_or s j (Leaf HEnd)) (tree_at s b)) (sym e) (self_part (tree_at s b))))
+  child_part h (parts.Three a b c) k (inl e) = inr (inl (subst (λ (j : ℕ). IsSubtree (get_or s j (Leaf HEnd)) (tree_at s a)) (sym e) (self_part (tree_at s a))))
+  child_part h (parts.Three a b c) k (inr (inl e)) = inr (inr (inl (subst (λ (j : ℕ). IsSubtree (get_or s j (Leaf HEnd)) (tree_at s b)) (sym e) (self_part (tree_at s b)))))
+  child_part h (parts.Three a b c) k (inr (inr e)) = inr (inr (inr (subst (λ (j : ℕ). IsSubtree (get_or s j (Leaf HEnd)) (tree_at s c)) (sym e) (self_part (tree_at s c)))))
 
   child_below : (i : ℕ) (p : Parts) (k : ℕ) → AreBelow i p → IsOneOf k p → k < i
   child_below i parts.None k b o = absurd o
@@ -173,7 +173,7 @@ module _ (s : List Tree) where
     child_stands k o q = record {
       place = q.place;
       within = q.within;
-      part = part_of_part (get_or s k (Leaf HEnd)) (get_or s i (Leaf HEnd)) (get_or (trees_at s roots) q.place (Leaf HEnd)) (subst (IsPart (get_or s k (Leaf HEnd))) (sym is) (child_part h p k o)) q.part;
+      part = part_of_part (get_or s k (Leaf HEnd)) (get_or s i (Leaf HEnd)) (get_or (trees_at s roots) q.place (Leaf HEnd)) (subst (IsSubtree (get_or s k (Leaf HEnd))) (sym is) (child_part h p k o)) q.part;
     }
 
     own : ChildrenMarked s new i (get_or s i (Leaf HEnd))
@@ -213,7 +213,7 @@ module _ (s : List Tree) (roots : List TermId) where
     own = record {
       place = i;
       within = omega (arith, lt, length_trees);
-      part = subst (IsPart (tree_at s (get_or roots i d))) (sym (get_or-map (tree_at s) roots i d (Leaf HEnd) lt)) (self_part (tree_at s (get_or roots i d)));
+      part = subst (IsSubtree (tree_at s (get_or roots i d))) (sym (get_or-map (tree_at s) roots i d (Leaf HEnd) lt)) (self_part (tree_at s (get_or roots i d)));
     } where
       length_trees : length (trees_at s roots) ≡ length roots
       length_trees = length-map roots (tree_at s)

@@ -11,9 +11,9 @@ use Rattle.tasks.proofs.Growth.{held_later, tree_later}
 use Rattle.name_entries.specs.declared.names.NameOf.{NameOf}
 use Rattle.name_entries.specs.declared.names.NameOf.TheVariants.{Int, Rigid, Symbol}
 use Rattle.name_entries.specs.declared.names.NameEntry.{NameEntry}
-use Rattle.tree_lines.specs.Named.{Meaning, meaning, meaning_by, entry_meaning, entry_named, cells}
+use Rattle.tree_lines.specs.Named.{NameMeaning, meaning, meaning_by, entry_meaning, entry_named, cells}
 use Rattle.tree_writing.specs.declared.spelling.Spelling.{Spelling}
-use Rattle.tree_writing.specs.Spelt.{Key, key_of, same_key, IsNoted, IsReached, AreNoted, IsSpelt, Spells}
+use Rattle.tree_writing.specs.Spelt.{Key, key_of, same_key, IsPlaceNoted, IsReached, AreNoted, IsSpelt, Spells}
 
 same_key_is : (p q : Key) → same_key p q ≡ true → (p.0 ≡ q.0) × (p.1 ≡ q.1) × (p.2 ≡ q.2)
 same_key_is p q h = (grind arith, grind arith, grind arith)
@@ -54,7 +54,7 @@ some_place i j e = cc
 some_entry : (i j : NameEntry) → Some i ≡ Some j → i ≡ j
 some_entry i j e = cc
 
-some_meaning : (i j : Meaning) → Some i ≡ Some j → i ≡ j
+some_meaning : (i j : NameMeaning) → Some i ≡ Some j → i ≡ j
 some_meaning i j e = cc
 
 module _ {S : Type 0} (table : List NameEntry) where
@@ -90,7 +90,7 @@ module _ {S : Type 0} (table : List NameEntry) where
     sound = h.sound;
     reached = λ i e m lt there means. at i e m lt there means;
   } where
-    at : (i : ℕ) (e : NameEntry) (m : Meaning) → i < n + 1 → slice_get table i ≡ Some e → meaning table e.name ≡ Some m → IsReached s table places m
+    at : (i : ℕ) (e : NameEntry) (m : NameMeaning) → i < n + 1 → slice_get table i ≡ Some e → meaning table e.name ≡ Some m → IsReached s table places m
     at i e m lt there means = by (grind arith) where
       by : (i < n) ⊎ (i ≡ n) → IsReached s table places m
       by (inl below) = h.reached i e m below there means
@@ -99,10 +99,10 @@ module _ {S : Type 0} (table : List NameEntry) where
           absurd (let k : None ≡ Some m = sym none ∙ ap (λ (y : NameEntry). meaning table y.name) same ∙ means in cc)
 
   -- an entry more
-  module _ (s : List Tree) (old new : HashMap Key ℕ S) (n : ℕ) (x : NameEntry) (m : Meaning) (list : TermId)
+  module _ (s : List Tree) (old new : HashMap Key ℕ S) (n : ℕ) (x : NameEntry) (m : NameMeaning) (list : TermId)
       (is : slice_get table n ≡ Some x) (means : meaning table x.name ≡ Some m) (held : Holds s list) (types : tree_at s list ≡ cells m.types)
       (updates : (q : Key) → get same_key new q ≡ cond (same_key (key_of m.symbol list.0) q) (Some n) (get same_key old q)) where
-    note : (q : Key) → same_key (key_of m.symbol list.0) q ≡ true → IsNoted s table new q n
+    note : (q : Key) → same_key (key_of m.symbol list.0) q ≡ true → IsPlaceNoted s table new q n
     note q same = record {
       entry = x;
       there = is;
@@ -114,10 +114,10 @@ module _ {S : Type 0} (table : List NameEntry) where
       key = sym (whole_key (key_of m.symbol list.0) q (same_key_is (key_of m.symbol list.0) q same));
     }
 
-    sound_more : AreNoted s table old n → (q : Key) (place : ℕ) → get same_key new q ≡ Some place → IsNoted s table new q place
+    sound_more : AreNoted s table old n → (q : Key) (place : ℕ) → get same_key new q ≡ Some place → IsPlaceNoted s table new q place
     sound_more h q place e = at (same_key (key_of m.symbol list.0) q) refl (sym (updates q) ∙ e) where
-      at : (b : Bool) → same_key (key_of m.symbol list.0) q ≡ b → cond b (Some n) (get same_key old q) ≡ Some place → IsNoted s table new q place
-      at true same there = subst (IsNoted s table new q) (some_place n place there) (note q same)
+      at : (b : Bool) → same_key (key_of m.symbol list.0) q ≡ b → cond b (Some n) (get same_key old q) ≡ Some place → IsPlaceNoted s table new q place
+      at true same there = subst (IsPlaceNoted s table new q) (some_place n place there) (note q same)
       at false same there = let k = h.sound q place there in record {
         entry = k.entry;
         there = k.there;
@@ -146,7 +146,7 @@ module _ {S : Type 0} (table : List NameEntry) where
       sound = sound_more h;
       reached = at;
     } where
-      at : (i : ℕ) (e : NameEntry) (u : Meaning) → i < n + 1 → slice_get table i ≡ Some e → meaning table e.name ≡ Some u → IsReached s table new u
+      at : (i : ℕ) (e : NameEntry) (u : NameMeaning) → i < n + 1 → slice_get table i ≡ Some e → meaning table e.name ≡ Some u → IsReached s table new u
       at i e u lt there known = by (grind arith) where
         by : (i < n) ⊎ (i ≡ n) → IsReached s table new u
         by (inl below) = let k = h.reached i e u below there known in record { list = k.list; held = k.held; types = k.types; found = still (key_of u.symbol k.list.0) k.found }
@@ -163,7 +163,7 @@ named_place (n ∷ ns) name e h = at (λ k. named_place ns name e k) (bytes_eq n
   at rest true same k = (zero, omega arith, k, ap (λ (y : NameEntry). y.name) (sym (some_entry n e k)) ∙ (bytes_eq-Decides n.name name).0 same)
   at rest false differs k = let p = rest k in (suc p.0, omega (arith, p.1), p.2, p.3)
 
-spelt_meaning : (table : List NameEntry) (name : List ℕ) (m : Meaning) → meaning table name ≡ Some m → (e : NameEntry) × (entry_named table name ≡ Some e)
+spelt_meaning : (table : List NameEntry) (name : List ℕ) (m : NameMeaning) → meaning table name ≡ Some m → (e : NameEntry) × (entry_named table name ≡ Some e)
 spelt_meaning table name m h = at (entry_named table name) refl h where
   at : (o : Option NameEntry) → entry_named table name ≡ o → option_and_then (entry_meaning table) o ≡ Some m → (e : NameEntry) × (entry_named table name ≡ Some e)
   at None is k = absurd (cc)
@@ -173,7 +173,7 @@ module _ {S : Type 0} (s : List Tree) (table : List NameEntry) (places : HashMap
   -- what is found for a symbol and a list
   pub found_means : (symbol : NameOf) (list : TermId) (place : ℕ) (types : List Tree) (e : NameEntry) → get same_key places (key_of symbol list.0) ≡ Some place → tree_at s list ≡ cells types → slice_get table place ≡ Some e → meaning table e.name ≡ Some (meaning_by symbol types)
   found_means symbol list place types e found is there =
-      let k : IsNoted s table places (key_of symbol list.0) place = noted.sound (key_of symbol list.0) place found in
+      let k : IsPlaceNoted s table places (key_of symbol list.0) place = noted.sound (key_of symbol list.0) place found in
       let parts = key_parts symbol k.stands_for.symbol list.0 k.list.0 k.key in
       let one : k.entry ≡ e = some_entry k.entry e (sym k.there ∙ there) in
       let tree : cells k.stands_for.types ≡ cells types = sym k.types ∙ ap (λ (i : ℕ). get_or s i (Leaf HEnd)) (sym parts.1) ∙ is in
@@ -181,7 +181,7 @@ module _ {S : Type 0} (s : List Tree) (table : List NameEntry) (places : HashMap
       ∙ ap (λ (a : NameOf). Some (meaning_by a k.stands_for.types)) (sym parts.0) ∙ ap (λ (ts : List Tree). Some (meaning_by symbol ts)) (cells_parts k.stands_for.types types tree)
 
   pub found_there : (symbol : NameOf) (list : TermId) (place : ℕ) → get same_key places (key_of symbol list.0) ≡ Some place → IsSome (slice_get table place)
-  found_there symbol list place found = let k : IsNoted s table places (key_of symbol list.0) place = noted.sound (key_of symbol list.0) place found in subst IsSome (sym k.there) refl
+  found_there symbol list place found = let k : IsPlaceNoted s table places (key_of symbol list.0) place = noted.sound (key_of symbol list.0) place found in subst IsSome (sym k.there) refl
 
   -- a name is found where there is one
   module _ (apart : (a b : TermId) → Holds s a → Holds s b → tree_at s a ≡ tree_at s b → a ≡ b) where

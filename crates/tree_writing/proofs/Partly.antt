@@ -10,7 +10,7 @@ use Rattle.trees.specs.Tree.{Tree, Two, HCell}
 use Rattle.trees.specs.Node.{node_tree}
 use Rattle.trees.specs.Sorts.{WellSorted, IsList, sort_of}
 use Rattle.tasks.specs.Typing.{members}
-use Rattle.tree_lines.specs.Words.{Word, number, each}
+use Rattle.tree_lines.specs.Words.{LineWord, number, each}
 use Rattle.tree_writing.specs.Referring.{words_of, PushesNumbers, trees_of_sort, Refers, ReferAll}
 
 pub no_cell : (s : List Tree) (n : Node) → ((a b : TermId) → n ≡ Cell a b → ⊥) → members (node_tree s n) ≡ []
@@ -38,11 +38,11 @@ pub words_end : {Y : Type 0} (ws : List (Vec ℕ Y)) (w : Vec ℕ Y) → words_o
 words_end [] w = refl
 words_end (v ∷ ws) w = ap (λ l. v.items ∷ l) (words_end ws w)
 
-pub pushes_start : (old : List Word) → PushesNumbers old old []
+pub pushes_start : (old : List LineWord) → PushesNumbers old old []
 pushes_start old = record { more = []; is = sym (append-nil old); numbers = refl }
 
 -- the word of one number more
-pub pushes_more : {Y : Type 0} (old : List Word) (ws new : List (Vec ℕ Y)) (w : Vec ℕ Y) (ns : List ℕ) (i n d : ℕ) → i < length ns → n ≡ get_or ns i d → number w.items ≡ Some n → new ≡ ws ++ w ∷ [] → PushesNumbers old (words_of ws) (take i ns)
+pub pushes_more : {Y : Type 0} (old : List LineWord) (ws new : List (Vec ℕ Y)) (w : Vec ℕ Y) (ns : List ℕ) (i n d : ℕ) → i < length ns → n ≡ get_or ns i d → number w.items ≡ Some n → new ≡ ws ++ w ∷ [] → PushesNumbers old (words_of ws) (take i ns)
     → PushesNumbers old (words_of new) (take (i + 1) ns)
 pushes_more old ws new w ns i n d lt is reads e p = record {
   more = p.more ++ w.items ∷ [];

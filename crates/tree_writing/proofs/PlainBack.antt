@@ -13,19 +13,19 @@ use Rattle.trees.specs.Tree.{Tree, Leaf, One, Two, Three, HNum, HTrue, HFalse, H
 use Rattle.trees.specs.Sorts.{sort_of, IsExpression}
 use Rattle.tasks.specs.Task.{TaskTree}
 use Rattle.name_entries.specs.declared.names.NameEntry.{NameEntry}
-use Rattle.tree_lines.specs.Words.{Word, number, each, at_number, two, three}
+use Rattle.tree_lines.specs.Words.{LineWord, number, each, at_number, two, three}
 use Rattle.tree_lines.specs.Lines.{Earlier, expression_of_line}
 use Rattle.tree_writing.specs.Referring.{AreLines, Refers, PushesNumbers, trees_of_sort}
 use Rattle.tree_writing.specs.Plain.{op_word, WordRefers, IsOneWord, AreVariableWords, AreTwoWords, AreThreeWords, IsIntegerWord, IsPlain, ReadsBack}
 
-pub record TwoNumbers (ws : List Word) (n m : ℕ) : Type 0 where
-  pub first : Word
-  pub second : Word
+pub record TwoNumbers (ws : List LineWord) (n m : ℕ) : Type 0 where
+  pub first : LineWord
+  pub second : LineWord
   pub is : ws ≡ first ∷ second ∷ []
   pub n_there : number first ≡ Some n
   pub m_there : number second ≡ Some m
 
-pub no_more : (ws : List Word) → each number ws ≡ Some [] → ws ≡ []
+pub no_more : (ws : List LineWord) → each number ws ≡ Some [] → ws ≡ []
 no_more [] e = refl
 no_more (w ∷ ws) e = at (number w) (each number ws) e where
   at : (o : Option ℕ) (rest : Option (List ℕ)) → option_and_then (λ y. option_map (λ ys. y ∷ ys) rest) o ≡ Some [] → w ∷ ws ≡ []
@@ -33,14 +33,14 @@ no_more (w ∷ ws) e = at (number w) (each number ws) e where
   at (Some y) None k = absurd (cc)
   at (Some y) (Some ys) k = absurd (cc)
 
-pub record OneMore (ws : List Word) (n : ℕ) (ns : List ℕ) : Type 0 where
-  pub first : Word
-  pub rest : List Word
+pub record OneMore (ws : List LineWord) (n : ℕ) (ns : List ℕ) : Type 0 where
+  pub first : LineWord
+  pub rest : List LineWord
   pub is : ws ≡ first ∷ rest
   pub there : number first ≡ Some n
   pub others : each number rest ≡ Some ns
 
-pub one_more : (ws : List Word) (n : ℕ) (ns : List ℕ) → each number ws ≡ Some (n ∷ ns) → OneMore ws n ns
+pub one_more : (ws : List LineWord) (n : ℕ) (ns : List ℕ) → each number ws ≡ Some (n ∷ ns) → OneMore ws n ns
 one_more [] n ns e = absurd (cc)
 one_more (w ∷ ws) n ns e = at (number w) (each number ws) refl refl e where
   at : (o : Option ℕ) (rest : Option (List ℕ)) → number w ≡ o → each number ws ≡ rest → option_and_then (λ y. option_map (λ ys. y ∷ ys) rest) o ≡ Some (n ∷ ns) → OneMore (w ∷ ws) n ns
@@ -48,7 +48,7 @@ one_more (w ∷ ws) n ns e = at (number w) (each number ws) refl refl e where
   at (Some y) None a b k = absurd (cc)
   at (Some y) (Some ys) a b k = record { first = w; rest = ws; is = refl; there = a ∙ (let j : Some y ≡ Some n = cc in j); others = b ∙ (let j : Some ys ≡ Some ns = cc in j) }
 
-pub two_numbers : (ws : List Word) (n m : ℕ) → each number ws ≡ Some (n ∷ m ∷ []) → TwoNumbers ws n m
+pub two_numbers : (ws : List LineWord) (n m : ℕ) → each number ws ≡ Some (n ∷ m ∷ []) → TwoNumbers ws n m
 two_numbers ws n m e =
     let p = one_more ws n (m ∷ []) e in
     let q = one_more p.rest m [] p.others in
@@ -60,11 +60,11 @@ two_numbers ws n m e =
       m_there = q.there;
     }
 
--- a word that writes a number refers to what stands there
-pub word_refers : (s : List Tree) (lines : List (Option ℕ)) (w : Word) (n : ℕ) (e : Tree) → number w ≡ Some n → Refers s lines (sort_of e) n e → WordRefers s lines w e
+-- a word that writes a number refers to what is there
+pub word_refers : (s : List Tree) (lines : List (Option ℕ)) (w : LineWord) (n : ℕ) (e : Tree) → number w ≡ Some n → Refers s lines (sort_of e) n e → WordRefers s lines w e
 word_refers s lines w n e is refers r are = ap (option_and_then (slice_get (trees_of_sort (sort_of e) r))) is ∙ refers r are
 
-pub are_two_words : (s : List Tree) (lines : List (Option ℕ)) (word : Word) (a b : Tree) (n m : ℕ) (ws : List Word) → Refers s lines (sort_of a) n a → Refers s lines (sort_of b) m b → PushesNumbers (word ∷ []) ws (n ∷ m ∷ []) → AreTwoWords s lines word a b ws
+pub are_two_words : (s : List Tree) (lines : List (Option ℕ)) (word : LineWord) (a b : Tree) (n m : ℕ) (ws : List LineWord) → Refers s lines (sort_of a) n a → Refers s lines (sort_of b) m b → PushesNumbers (word ∷ []) ws (n ∷ m ∷ []) → AreTwoWords s lines word a b ws
 are_two_words s lines word a b n m ws p q h =
     let t = two_numbers h.more n m h.numbers in
     record {
@@ -76,22 +76,22 @@ are_two_words s lines word a b n m ws p q h =
     }
 
 -- what a word refers to, of a sort
-pub of_kind : (s : List Tree) (lines : List (Option ℕ)) (r : Earlier) (w : Word) (e : Tree) → AreLines s lines r → sort_of e ≡ Kind → WordRefers s lines w e → at_number r.types w ≡ Some e
+pub of_kind : (s : List Tree) (lines : List (Option ℕ)) (r : Earlier) (w : LineWord) (e : Tree) → AreLines s lines r → sort_of e ≡ Kind → WordRefers s lines w e → at_number r.types w ≡ Some e
 of_kind s lines r w e are k h = subst (λ (x : Sort). at_number (trees_of_sort x r) w ≡ Some e) k (h r are)
 
-pub of_pattern : (s : List Tree) (lines : List (Option ℕ)) (r : Earlier) (w : Word) (e : Tree) → AreLines s lines r → sort_of e ≡ Pattern → WordRefers s lines w e → at_number r.patterns w ≡ Some e
+pub of_pattern : (s : List Tree) (lines : List (Option ℕ)) (r : Earlier) (w : LineWord) (e : Tree) → AreLines s lines r → sort_of e ≡ Pattern → WordRefers s lines w e → at_number r.patterns w ≡ Some e
 of_pattern s lines r w e are k h = subst (λ (x : Sort). at_number (trees_of_sort x r) w ≡ Some e) k (h r are)
 
-pub of_term : (s : List Tree) (lines : List (Option ℕ)) (r : Earlier) (w : Word) (e : Tree) → AreLines s lines r → sort_of e ≡ Term → WordRefers s lines w e → at_number r.expressions w ≡ Some e
+pub of_term : (s : List Tree) (lines : List (Option ℕ)) (r : Earlier) (w : LineWord) (e : Tree) → AreLines s lines r → sort_of e ≡ Term → WordRefers s lines w e → at_number r.expressions w ≡ Some e
 of_term s lines r w e are k h = subst (λ (x : Sort). at_number (trees_of_sort x r) w ≡ Some e) k (h r are)
 
-of_formula : (s : List Tree) (lines : List (Option ℕ)) (r : Earlier) (w : Word) (e : Tree) → AreLines s lines r → sort_of e ≡ Formula → WordRefers s lines w e → at_number r.expressions w ≡ Some e
+of_formula : (s : List Tree) (lines : List (Option ℕ)) (r : Earlier) (w : LineWord) (e : Tree) → AreLines s lines r → sort_of e ≡ Formula → WordRefers s lines w e → at_number r.expressions w ≡ Some e
 of_formula s lines r w e are k h = subst (λ (x : Sort). at_number (trees_of_sort x r) w ≡ Some e) k (h r are)
 
-two_back : {A B C : Type 0} (p : Word → Option A) (q : Word → Option B) (f : A → B → C) (w v : Word) (a : A) (b : B) → p w ≡ Some a → q v ≡ Some b → two p q f (w ∷ v ∷ []) ≡ Some (f a b)
+two_back : {A B C : Type 0} (p : LineWord → Option A) (q : LineWord → Option B) (f : A → B → C) (w v : LineWord) (a : A) (b : B) → p w ≡ Some a → q v ≡ Some b → two p q f (w ∷ v ∷ []) ≡ Some (f a b)
 two_back p q f w v a b e k = ap (option_and_then (λ x. option_map (f x) (q v))) e ∙ ap (option_map (f a)) k
 
-pub is_one_word : (s : List Tree) (lines : List (Option ℕ)) (word : Word) (a : Tree) (n : ℕ) (ws : List Word) → Refers s lines (sort_of a) n a → PushesNumbers (word ∷ []) ws (n ∷ []) → IsOneWord s lines word a ws
+pub is_one_word : (s : List Tree) (lines : List (Option ℕ)) (word : LineWord) (a : Tree) (n : ℕ) (ws : List LineWord) → Refers s lines (sort_of a) n a → PushesNumbers (word ∷ []) ws (n ∷ []) → IsOneWord s lines word a ws
 is_one_word s lines word a n ws p h =
     let q = one_more h.more n [] h.numbers in
     record {
@@ -100,7 +100,7 @@ is_one_word s lines word a n ws p h =
       a_there = word_refers s lines q.first n a q.there p;
     }
 
-pub are_variable_words : (s : List Tree) (lines : List (Option ℕ)) (word : Word) (n : ℕ) (a : Tree) (m : ℕ) (ws : List Word) → Refers s lines (sort_of a) m a → PushesNumbers (word ∷ []) ws (n ∷ m ∷ []) → AreVariableWords s lines word n a ws
+pub are_variable_words : (s : List Tree) (lines : List (Option ℕ)) (word : LineWord) (n : ℕ) (a : Tree) (m : ℕ) (ws : List LineWord) → Refers s lines (sort_of a) m a → PushesNumbers (word ∷ []) ws (n ∷ m ∷ []) → AreVariableWords s lines word n a ws
 are_variable_words s lines word n a m ws q h =
     let t = two_numbers h.more n m h.numbers in
     record {
@@ -111,7 +111,7 @@ are_variable_words s lines word n a m ws q h =
       a_there = word_refers s lines t.second m a t.m_there q;
     }
 
-pub are_three_words : (s : List Tree) (lines : List (Option ℕ)) (word : Word) (a b c : Tree) (n m k : ℕ) (ws : List Word) → Refers s lines (sort_of a) n a → Refers s lines (sort_of b) m b → Refers s lines (sort_of c) k c → PushesNumbers (word ∷ []) ws (n ∷ m ∷ k ∷ []) → AreThreeWords s lines word a b c ws
+pub are_three_words : (s : List Tree) (lines : List (Option ℕ)) (word : LineWord) (a b c : Tree) (n m k : ℕ) (ws : List LineWord) → Refers s lines (sort_of a) n a → Refers s lines (sort_of b) m b → Refers s lines (sort_of c) k c → PushesNumbers (word ∷ []) ws (n ∷ m ∷ k ∷ []) → AreThreeWords s lines word a b c ws
 are_three_words s lines word a b c n m k ws p q o h =
     let f = one_more h.more n (m ∷ k ∷ []) h.numbers in
     let t = two_numbers f.rest m k f.others in
@@ -126,20 +126,20 @@ are_three_words s lines word a b c n m k ws p q o h =
     }
 
 -- what a word refers to, of a term or a formula
-pub of_expression : (s : List Tree) (lines : List (Option ℕ)) (r : Earlier) (w : Word) (e : Tree) → AreLines s lines r → IsExpression (sort_of e) → WordRefers s lines w e → at_number r.expressions w ≡ Some e
+pub of_expression : (s : List Tree) (lines : List (Option ℕ)) (r : Earlier) (w : LineWord) (e : Tree) → AreLines s lines r → IsExpression (sort_of e) → WordRefers s lines w e → at_number r.expressions w ≡ Some e
 of_expression s lines r w e are (inl k) h = of_term s lines r w e are k h
 of_expression s lines r w e are (inr k) h = of_formula s lines r w e are k h
 
-three_back : {A B C D : Type 0} (p : Word → Option A) (q : Word → Option B) (o : Word → Option C) (f : A → B → C → D) (w v u : Word) (a : A) (b : B) (c : C) → p w ≡ Some a → q v ≡ Some b → o u ≡ Some c → three p q o f (w ∷ v ∷ u ∷ []) ≡ Some (f a b c)
+three_back : {A B C D : Type 0} (p : LineWord → Option A) (q : LineWord → Option B) (o : LineWord → Option C) (f : A → B → C → D) (w v u : LineWord) (a : A) (b : B) (c : C) → p w ≡ Some a → q v ≡ Some b → o u ≡ Some c → three p q o f (w ∷ v ∷ u ∷ []) ≡ Some (f a b c)
 three_back p q o f w v u a b c e k l = ap (option_and_then (λ x. option_and_then (λ y. option_map (f x y) (o u)) (q v))) e ∙ ap (option_and_then (λ y. option_map (f a y) (o u))) k ∙ ap (option_map (f a b)) l
 
-pub integer_back : (s : List Tree) (table : List NameEntry) (lines : List (Option ℕ)) (n : ℤ) (ws : List Word) → IsIntegerWord n ws → ReadsBack s table lines (Leaf (HNum n)) ws
+pub integer_back : (s : List Tree) (table : List NameEntry) (lines : List (Option ℕ)) (n : ℤ) (ws : List LineWord) → IsIntegerWord n ws → ReadsBack s table lines (Leaf (HNum n)) ws
 integer_back s table lines n ws h t r are = ap (expression_of_line t table r) h.is ∙ ap (option_map (λ z. Leaf (HNum z))) h.there
 
-pub true_back : (s : List Tree) (table : List NameEntry) (lines : List (Option ℕ)) (ws : List Word) → PushesNumbers (codes "true" ∷ []) ws [] → ReadsBack s table lines (Leaf HTrue) ws
+pub true_back : (s : List Tree) (table : List NameEntry) (lines : List (Option ℕ)) (ws : List LineWord) → PushesNumbers (codes "true" ∷ []) ws [] → ReadsBack s table lines (Leaf HTrue) ws
 true_back s table lines ws h t r are = ap (expression_of_line t table r) (h.is ∙ ap (λ l. codes "true" ∷ l) (no_more h.more h.numbers))
 
-pub false_back : (s : List Tree) (table : List NameEntry) (lines : List (Option ℕ)) (ws : List Word) → PushesNumbers (codes "false" ∷ []) ws [] → ReadsBack s table lines (Leaf HFalse) ws
+pub false_back : (s : List Tree) (table : List NameEntry) (lines : List (Option ℕ)) (ws : List LineWord) → PushesNumbers (codes "false" ∷ []) ws [] → ReadsBack s table lines (Leaf HFalse) ws
 false_back s table lines ws h t r are = ap (expression_of_line t table r) (h.is ∙ ap (λ l. codes "false" ∷ l) (no_more h.more h.numbers))
 
 pub no_other_plain : (s : List Tree) (n : Node) → IsPlain (node_tree s n) → ((i : ℕ) (a : TermId) → n ≡ node.Bound i a → ⊥) → ((i : ℕ) (a : TermId) → n ≡ node.Param i a → ⊥) → ((z : ℤ) → n ≡ node.Num z → ⊥) → (n ≡ node.True → ⊥) → (n ≡ node.False → ⊥) → ((a : TermId) → n ≡ node.Not a → ⊥)
@@ -158,7 +158,7 @@ no_other_plain s (node.Let a b) h n1 n2 n3 n4 n5 n6 n7 n8 n9 n10 n11 n12 = n11 a
 no_other_plain s (node.If a b c) h n1 n2 n3 n4 n5 n6 n7 n8 n9 n10 n11 n12 = n12 a b c refl
 no_other_plain s _ h n1 n2 n3 n4 n5 n6 n7 n8 n9 n10 n11 n12 = h
 
-module _ (s : List Tree) (lines : List (Option ℕ)) (a b : Tree) (ws : List Word) (t : TaskTree) (table : List NameEntry) (r : Earlier) (are : AreLines s lines r) where
+module _ (s : List Tree) (lines : List (Option ℕ)) (a b : Tree) (ws : List LineWord) (t : TaskTree) (table : List NameEntry) (r : Earlier) (are : AreLines s lines r) where
   pub join_back : (op : Op) → sort_of a ≡ Formula → sort_of b ≡ Formula → AreTwoWords s lines (op_word op) a b ws → expression_of_line t table r ws ≡ Some (Two (HJoin op) a b)
   join_back And f g h = ap (expression_of_line t table r) h.is ∙ two_back (at_number r.expressions) (at_number r.expressions) (λ x y. Two (HJoin And) x y) h.first h.second a b (of_formula s lines r h.first a are f h.a_there) (of_formula s lines r h.second b are g h.b_there)
   join_back AndThen f g h = ap (expression_of_line t table r) h.is ∙ two_back (at_number r.expressions) (at_number r.expressions) (λ x y. Two (HJoin AndThen) x y) h.first h.second a b (of_formula s lines r h.first a are f h.a_there) (of_formula s lines r h.second b are g h.b_there)

@@ -13,7 +13,7 @@ use Rattle.tree_writing.specs.declared.writer.LineKind.TheVariants as kind
 use Rattle.tree_writing.specs.Referring.{HasLine}
 use Rattle.tree_writing.specs.Naming.{TypeSpelt, TypeLines}
 use Rattle.tree_writing.specs.Branches.{BranchLines}
-use Rattle.tree_writing.specs.Used.{IsNamed, IsPattern, IsWritable, NodeLines}
+use Rattle.tree_writing.specs.Used.{IsNamed, HasPatternForm, IsWritable, NodeLines}
 use Rattle.tree_writing.specs.Parts.{IsMarked, HasMark, ChildrenMarked}
 use Rattle.tree_writing.specs.Whole.{kind_of_sort, IsOfKind, TopNamed, KindLines}
 use Rattle.tree_writing.proofs.Partly.{rest_list}
@@ -129,7 +129,7 @@ leaf_pattern HTrue e = absurd (cc)
 leaf_pattern HFalse e = absurd (cc)
 leaf_pattern _ e = absurd (cc)
 
-one_pattern : (h : Head) (a : Tree) → sort_of (One h a) ≡ sort.Pattern → IsPattern (One h a)
+one_pattern : (h : Head) (a : Tree) → sort_of (One h a) ≡ sort.Pattern → HasPatternForm (One h a)
 one_pattern HPatAny a e = tt
 one_pattern HPatVar a e = tt
 one_pattern HPatAlias a e = tt
@@ -141,13 +141,13 @@ one_pattern (HParam k) a e = absurd (cc)
 one_pattern HNot a e = absurd (cc)
 one_pattern _ a e = absurd (cc)
 
-three_pattern : (h : Head) (a b c : Tree) → WellSorted (Three h a b c) → sort_of (Three h a b c) ≡ sort.Pattern → IsPattern (Three h a b c)
+three_pattern : (h : Head) (a b c : Tree) → WellSorted (Three h a b c) → sort_of (Three h a b c) ≡ sort.Pattern → HasPatternForm (Three h a b c)
 three_pattern (HPatCon k) a b c w e = tt
 three_pattern (HFun k) a b c w e = absurd (cc)
 three_pattern HIf a b c w e = absurd ((sorted_yield (yield b) (expression_yield b w.0.1)).1 e)
 three_pattern _ a b c w e = absurd w.0
 
-pub is_pattern : (e : Tree) → WellSorted e → sort_of e ≡ sort.Pattern → IsPattern e
+pub is_pattern : (e : Tree) → WellSorted e → sort_of e ≡ sort.Pattern → HasPatternForm e
 is_pattern (Leaf h) w e = absurd (leaf_pattern h e)
 is_pattern (One h a) w e = one_pattern h a e
 is_pattern (Two h a b) w e = absurd ((two_other h a b w).1 e)

@@ -13,22 +13,22 @@ use Rattle.trees.specs.Sorts.{IsList, sort_of, WellSorted}
 use Rattle.tasks.specs.declared.signature.SymbolKind.{SymbolKind}
 use Rattle.tasks.specs.declared.signature.SymbolKind.TheVariants as kind
 use Rattle.tasks.specs.Task.{TaskTree, SymbolTree}
-use Rattle.tasks.specs.Typing.{members, MakesTerms, Gives}
+use Rattle.tasks.specs.Typing.{members, MakesTerms, HasResult}
 use Rattle.name_entries.specs.declared.names.NameOf.TheVariants.{Symbol}
 use Rattle.name_entries.specs.declared.names.NameEntry.{NameEntry}
-use Rattle.tree_lines.specs.Words.{Word, each, at_number}
+use Rattle.tree_lines.specs.Words.{LineWord, each, at_number}
 use Rattle.tree_lines.specs.Named.{cells, meaning, meaning_by}
-use Rattle.tree_lines.specs.Lines.{Earlier, use_by, use_of, used_on, named_use, types_of, pattern_of_line, expression_of_line, applied, applied_as, term_of, matched, use_trees}
+use Rattle.tree_lines.specs.Lines.{Earlier, use_by, use_of, used_on, named_use, meaning_types, pattern_of_line, expression_of_line, application_tree, applied_as, term_of, constructor_pattern_tree, use_trees}
 use Rattle.tree_writing.specs.Spelt.{types_under}
 use Rattle.tree_writing.specs.Referring.{AreLines, trees_of_sort}
 use Rattle.tree_writing.specs.Naming.{types_after, PushesSymbol}
 use Rattle.tree_writing.specs.Plain.{IsOneWord}
-use Rattle.tree_writing.specs.Used.{PushesParts, AreUseWords, IsPattern, IsApplied}
+use Rattle.tree_writing.specs.Used.{PushesParts, AreUseWords, HasPatternForm, IsApplied}
 use Rattle.tree_writing.proofs.Cells.{is_cells}
 use Rattle.tree_writing.proofs.Reading.{each_through, types_back}
 use Rattle.tree_writing.proofs.PlainBack.{of_kind, of_pattern}
 
-pub are_use_words : (s : List Tree) (table : List NameEntry) (lines : List (Option ℕ)) (word : Word) (k : ℕ) (types parts : Tree) (between ws : List Word) → PushesSymbol s table lines (Symbol k) (members types) (word ∷ []) between → PushesParts s lines parts between ws → AreUseWords s table lines word k types parts ws
+pub are_use_words : (s : List Tree) (table : List NameEntry) (lines : List (Option ℕ)) (word : LineWord) (k : ℕ) (types parts : Tree) (between ws : List LineWord) → PushesSymbol s table lines (Symbol k) (members types) (word ∷ []) between → PushesParts s lines parts between ws → AreUseWords s table lines word k types parts ws
 are_use_words s table lines word k types parts between ws p q = record {
   name = p.name;
   whole = p.whole;
@@ -67,29 +67,29 @@ follow : (whole : Bool) (types : List Tree) (vars : ℕ) → length types ≡ va
 follow true types vars h = omega arith
 follow false types vars h = omega arith
 
-module _ (t : TaskTree) (table : List NameEntry) (r : Earlier) (part : Word → Option Tree) where
+module _ (t : TaskTree) (table : List NameEntry) (r : Earlier) (part : LineWord → Option Tree) where
   -- a symbol's use is read back
-  pub use_back : (name : Word) (whole : Bool) (types parts : List Tree) (more last : List Word) (k : ℕ) (e : SymbolTree) → meaning table name ≡ Some (meaning_by (Symbol k) (types_under whole types)) → slice_get t.symbols k ≡ Some e → length types ≡ e.vars
+  pub use_back : (name : LineWord) (whole : Bool) (types parts : List Tree) (more last : List LineWord) (k : ℕ) (e : SymbolTree) → meaning table name ≡ Some (meaning_by (Symbol k) (types_under whole types)) → slice_get t.symbols k ≡ Some e → length types ≡ e.vars
       → each (at_number r.types) more ≡ Some (types_after whole types) → each part last ≡ Some parts → used_on t table r part (name ∷ more ++ last) ≡ Some (use_by k e types parts)
   use_back name whole types parts more last k e means there many first second =
       let n = meaning_by (Symbol k) (types_under whole types) in
       let count : e.vars - length (types_under whole types) ≡ length more = follow whole types e.vars many ∙ sym (each_length (at_number r.types) more (types_after whole types) first) in
       ap (option_and_then (named_use t table r part (more ++ last))) means
       ∙ ap (option_and_then (use_of t table r part n (more ++ last) k)) there
-      ∙ ap (λ (c : ℕ). option_and_then (λ ts. option_map (use_by k e ts) (each part (drop c (more ++ last)))) (types_of t table r n (take c (more ++ last)))) count
-      ∙ ap (λ l. option_and_then (λ ts. option_map (use_by k e ts) (each part (drop (length more) (more ++ last)))) (types_of t table r n l)) (take_front more last)
-      ∙ ap (λ l. option_and_then (λ ts. option_map (use_by k e ts) (each part l)) (types_of t table r n more)) (drop_front more last)
+      ∙ ap (λ (c : ℕ). option_and_then (λ ts. option_map (use_by k e ts) (each part (drop c (more ++ last)))) (meaning_types t table r n (take c (more ++ last)))) count
+      ∙ ap (λ l. option_and_then (λ ts. option_map (use_by k e ts) (each part (drop (length more) (more ++ last)))) (meaning_types t table r n l)) (take_front more last)
+      ∙ ap (λ l. option_and_then (λ ts. option_map (use_by k e ts) (each part l)) (meaning_types t table r n more)) (drop_front more last)
       ∙ ap (option_and_then (λ ts. option_map (use_by k e ts) (each part last))) (types_back t table r (Symbol k) whole types more first)
       ∙ ap (option_map (use_by k e types)) second
 
-module _ (s : List Tree) (table : List NameEntry) (lines : List (Option ℕ)) (t : TaskTree) (r : Earlier) (are : AreLines s lines r) (word : Word) (k : ℕ) (a b : Tree) (ws : List Word) (e : SymbolTree)
+module _ (s : List Tree) (table : List NameEntry) (lines : List (Option ℕ)) (t : TaskTree) (r : Earlier) (are : AreLines s lines r) (word : LineWord) (k : ℕ) (a b : Tree) (ws : List LineWord) (e : SymbolTree)
     (there : slice_get t.symbols k ≡ Some e) (many : length (members a) ≡ e.vars) (h : AreUseWords s table lines word k a b ws) where
   used_back : (sort : Sort) → IsList sort b → used_on t table r (at_number (trees_of_sort sort r)) (h.name ∷ h.more ++ h.last) ≡ Some (use_by k e (members a) (members b))
   used_back sort l = use_back t table r (at_number (trees_of_sort sort r)) h.name h.whole (members a) (members b) h.more h.last k e h.spells there many
       (each_through r.types h.more h.ns (types_after h.whole (members a)) h.numbers (h.refer r are))
       (each_through (trees_of_sort sort r) h.last h.ms (members b) h.last_numbers (h.last_refer sort l r are))
 
-  gives_trees : (c : Tree) → Gives e a c → use_trees (use_by k e (members a) (members b)) ≡ Some (cells (members a), cells (members b), c)
+  gives_trees : (c : Tree) → HasResult e a c → use_trees (use_by k e (members a) (members b)) ≡ Some (cells (members a), cells (members b), c)
   gives_trees c g = at e.result g where
     at : (o : Option Tree) → option_map (λ x. inst_types x (members a)) o ≡ Some c → option_map {U = Tree × Tree × Tree} (λ ty. (cells (members a), cells (members b), inst_types ty (members a))) o ≡ Some (cells (members a), cells (members b), c)
     at None g = absurd (cc)
@@ -98,10 +98,10 @@ module _ (s : List Tree) (table : List NameEntry) (lines : List (Option ℕ)) (t
         ap (λ (x : Tree). Some (cells (members a), cells (members b), x)) same
 
   module _ (wa : WellSorted a) (la : IsList Kind a) (wb : WellSorted b) where
-    pub con_back : (c : Tree) → IsList Pattern b → word ≡ codes "con" → Gives e a c → pattern_of_line t table r ws ≡ Some (Three (HPatCon k) a b c)
+    pub con_back : (c : Tree) → IsList Pattern b → word ≡ codes "con" → HasResult e a c → pattern_of_line t table r ws ≡ Some (Three (HPatCon k) a b c)
     con_back c l is g =
         ap (pattern_of_line t table r) (h.is ∙ ap (λ w. w ∷ h.name ∷ h.more ++ h.last) is)
-        ∙ ap (option_and_then matched) (used_back Pattern l)
+        ∙ ap (option_and_then constructor_pattern_tree) (used_back Pattern l)
         ∙ ap (option_map (λ (p : Tree × Tree × Tree). Three (HPatCon k) p.0 p.1 p.2)) (gives_trees c g)
         ∙ ap (λ (x : Tree). Some (Three (HPatCon k) x (cells (members b)) c)) (sym (is_cells a wa la.0))
         ∙ ap (λ (x : Tree). Some (Three (HPatCon k) a x c)) (sym (is_cells b wb l.0))
@@ -109,17 +109,17 @@ module _ (s : List Tree) (table : List NameEntry) (lines : List (Option ℕ)) (t
     pub pred_back : IsList Term b → word ≡ codes "sym" → e.kind ≡ kind.Predicate → expression_of_line t table r ws ≡ Some (Two (HPred k) a b)
     pred_back l is predicate =
         ap (expression_of_line t table r) (h.is ∙ ap (λ w. w ∷ h.name ∷ h.more ++ h.last) is)
-        ∙ ap (option_and_then applied) (used_back Term l)
+        ∙ ap (option_and_then application_tree) (used_back Term l)
         ∙ at e.kind predicate
         ∙ ap (λ (x : Tree). Some (Two (HPred k) x (cells (members b)))) (sym (is_cells a wa la.0))
         ∙ ap (λ (x : Tree). Some (Two (HPred k) a x)) (sym (is_cells b wb l.0)) where
           at : (x : SymbolKind) → x ≡ kind.Predicate → applied_as x (use_by k e (members a) (members b)) ≡ Some (Two (HPred k) (cells (members a)) (cells (members b)))
           at x p = ap (λ (y : SymbolKind). applied_as y (use_by k e (members a) (members b))) p
 
-    pub fun_back : (c : Tree) → IsList Term b → word ≡ codes "sym" → MakesTerms e.kind → Gives e a c → expression_of_line t table r ws ≡ Some (Three (HFun k) a b c)
+    pub fun_back : (c : Tree) → IsList Term b → word ≡ codes "sym" → MakesTerms e.kind → HasResult e a c → expression_of_line t table r ws ≡ Some (Three (HFun k) a b c)
     fun_back c l is makes g =
         ap (expression_of_line t table r) (h.is ∙ ap (λ w. w ∷ h.name ∷ h.more ++ h.last) is)
-        ∙ ap (option_and_then applied) (used_back Term l)
+        ∙ ap (option_and_then application_tree) (used_back Term l)
         ∙ at e.kind makes
         ∙ ap (option_map (λ (p : Tree × Tree × Tree). Three (HFun k) p.0 p.1 p.2)) (gives_trees c g)
         ∙ ap (λ (x : Tree). Some (Three (HFun k) x (cells (members b)) c)) (sym (is_cells a wa la.0))
@@ -136,7 +136,7 @@ some_and None P h = absurd h
 some_and (Some x) P h = (x, refl, h)
 
 -- patterns of one part
-module _ (s : List Tree) (lines : List (Option ℕ)) (t : TaskTree) (table : List NameEntry) (r : Earlier) (are : AreLines s lines r) (a : Tree) (ws : List Word) where
+module _ (s : List Tree) (lines : List (Option ℕ)) (t : TaskTree) (table : List NameEntry) (r : Earlier) (are : AreLines s lines r) (a : Tree) (ws : List LineWord) where
   pub any_back : sort_of a ≡ Kind → IsOneWord s lines (codes "any") a ws → pattern_of_line t table r ws ≡ Some (One HPatAny a)
   any_back f h = ap (pattern_of_line t table r) h.is ∙ ap (option_map (λ x. One HPatAny x)) (of_kind s lines r h.first a are f h.a_there)
 
@@ -146,7 +146,7 @@ module _ (s : List Tree) (lines : List (Option ℕ)) (t : TaskTree) (table : Lis
   pub alias_back : sort_of a ≡ Pattern → IsOneWord s lines (codes "as") a ws → pattern_of_line t table r ws ≡ Some (One HPatAlias a)
   alias_back f h = ap (pattern_of_line t table r) h.is ∙ ap (option_map (λ x. One HPatAlias x)) (of_pattern s lines r h.first a are f h.a_there)
 
-pub no_other_pattern : (s : List Tree) (n : Node) → IsPattern (node_tree s n) → ((a : TermId) → n ≡ node.PatAny a → ⊥) → ((a : TermId) → n ≡ node.PatVar a → ⊥) → ((k : ℕ) (a b c : TermId) → n ≡ node.PatCon k a b c → ⊥) → ((a : TermId) → n ≡ node.PatAlias a → ⊥) → ⊥
+pub no_other_pattern : (s : List Tree) (n : Node) → HasPatternForm (node_tree s n) → ((a : TermId) → n ≡ node.PatAny a → ⊥) → ((a : TermId) → n ≡ node.PatVar a → ⊥) → ((k : ℕ) (a b c : TermId) → n ≡ node.PatCon k a b c → ⊥) → ((a : TermId) → n ≡ node.PatAlias a → ⊥) → ⊥
 no_other_pattern s (node.PatAny a) h n1 n2 n3 n4 = n1 a refl
 no_other_pattern s (node.PatVar a) h n1 n2 n3 n4 = n2 a refl
 no_other_pattern s (node.PatCon k a b c) h n1 n2 n3 n4 = n3 k a b c refl

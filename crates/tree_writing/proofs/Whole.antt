@@ -14,7 +14,7 @@ use Rattle.trees.specs.Sorts.{sort_of}
 use Rattle.tasks.specs.Task.{TaskTree}
 use Rattle.tasks.specs.Meaning.{trees_at}
 use Rattle.name_entries.specs.declared.names.NameEntry.{NameEntry}
-use Rattle.tree_lines.specs.Words.{Word}
+use Rattle.tree_lines.specs.Words.{LineWord}
 use Rattle.tree_lines.specs.Lines.{Earlier}
 use Rattle.tree_lines.specs.Named.{cells}
 use Rattle.name_entries.specs.declared.names.NameOf.{NameOf}
@@ -28,8 +28,8 @@ use Rattle.tree_writing.specs.declared.writer.Writing.{Writing}
 use Rattle.tree_writing.specs.declared.writer.Trees.{Trees}
 use Rattle.tree_writing.specs.Referring.{AreLines, line_at, trees_of_sort}
 use Rattle.tree_writing.specs.Parts.{StandsIn, IsMarked}
-use Rattle.tree_writing.specs.Text.{spaced, line_text, whole}
-use Rattle.tree_writing.specs.Whole.{kind_of_sort, IsOfKind, letter, LineBack, tree_by, with_tree, nothing_before, TreeLine, line_bytes, ReadTrees, HaveLines, count_of, AreCounted, Counts, TreesHeld, IsNext, next_tree, IsWritingOf}
+use Rattle.tree_writing.specs.Text.{spaced, line_text, whole_text}
+use Rattle.tree_writing.specs.Whole.{kind_of_sort, IsOfKind, letter, LineBack, tree_by, with_tree, nothing_before, TreeLine, line_bytes, ReadTrees, HaveLines, count_of, AreCounted, CountsLine, TreesHeld, IsNextLine, next_tree, IsWritingOf}
 
 further : {X : Type 0} (xs ys : List X) (i : ℕ) (a : X) → slice_get xs i ≡ Some a → slice_get (xs ++ ys) i ≡ Some a
 further [] ys i a h = absurd (cc)
@@ -123,14 +123,14 @@ reads_more : (t : TaskTree) (table : List NameEntry) (roots : List Tree) (r : Ea
 reads_more t table roots r [] end l e h m p = (e, subst (λ (x : Earlier). tree_by t table x l.kind l.words ≡ Some e) (sym h) m, p, ap (λ (x : Earlier). with_tree l.kind x e) h)
 reads_more t table roots r (k ∷ ls) end l e h m p = (h.0, h.1, h.2, reads_more t table roots (with_tree k.kind r h.0) ls end l e h.3 m p)
 
-pub whole_more : (ls : List (List ℕ)) (l : List ℕ) → whole (ls ++ l ∷ []) ≡ whole ls ++ (l ++ (10 ∷ []))
+pub whole_more : (ls : List (List ℕ)) (l : List ℕ) → whole_text (ls ++ l ∷ []) ≡ whole_text ls ++ (l ++ (10 ∷ []))
 whole_more [] l = refl
-whole_more (m ∷ ms) l = ap (λ (z : List ℕ). m ++ (10 ∷ z)) (whole_more ms l) ∙ sym (append_assoc m (10 ∷ whole ms) (l ++ (10 ∷ [])))
+whole_more (m ∷ ms) l = ap (λ (z : List ℕ). m ++ (10 ∷ z)) (whole_more ms l) ∙ sym (append_assoc m (10 ∷ whole_text ms) (l ++ (10 ∷ [])))
 
-abbrev line_of : LineKind → List Word → TreeLine
+abbrev line_of : LineKind → List LineWord → TreeLine
 line_of k ws = record { kind = k; words = ws }
 
-counted_more : (k : LineKind) (r : Earlier) (e : Tree) (old new : Writing) → Counts k old new → AreCounted r old → (length (with_tree k r e).types ≡ new.types) × (length (with_tree k r e).patterns ≡ new.patterns) × (length (with_tree k r e).expressions ≡ new.expressions)
+counted_more : (k : LineKind) (r : Earlier) (e : Tree) (old new : Writing) → CountsLine k old new → AreCounted r old → (length (with_tree k r e).types ≡ new.types) × (length (with_tree k r e).patterns ≡ new.patterns) × (length (with_tree k r e).expressions ≡ new.expressions)
 counted_more kind.Type r e old new c h = (
   length-append r.types (e ∷ []) ∙ ap (λ (n : ℕ). n + 1) h.types ∙ sym c.own,
   h.patterns ∙ sym (c.others kind.Pattern (λ (f : kind.Pattern ≡ kind.Type). absurd (cc))),
@@ -198,7 +198,7 @@ below_or (suc i) (suc n) l = elim (below_or i n (omega arith)) [ inl h ↦ inl (
 
 -- the next tree has no line
 pub writing_past : (x : Trees) (old new : Writing) → new.text.items ≡ old.text.items → new.numbers.items ≡ old.numbers.items ++ None ∷ [] → new.types ≡ old.types → new.patterns ≡ old.patterns → new.expressions ≡ old.expressions
-    → ((k : LineKind) → IsNext x (length old.numbers.items) k → ⊥) → IsWritingOf x old → IsWritingOf x new
+    → ((k : LineKind) → IsNextLine x (length old.numbers.items) k → ⊥) → IsWritingOf x old → IsWritingOf x new
 writing_past x old new text numbers a b c none h = record {
   written = record {
     lines = h.written.lines;
@@ -213,18 +213,18 @@ writing_past x old new text numbers a b c none h = record {
   long : length new.numbers.items ≡ length old.numbers.items + 1
   long = ap (λ (l : List (Option ℕ)). length l) numbers ∙ length-append old.numbers.items (None ∷ [])
 
-  at : (i : ℕ) (k : LineKind) → IsNext x i k → (i < length old.numbers.items) ⊎ (i ≡ length old.numbers.items) → (n : ℕ) × (slice_get new.numbers.items i ≡ Some (Some n))
+  at : (i : ℕ) (k : LineKind) → IsNextLine x i k → (i < length old.numbers.items) ⊎ (i ≡ length old.numbers.items) → (n : ℕ) × (slice_get new.numbers.items i ≡ Some (Some n))
   at i k next (inl l) = let p = h.there i k l next in (p.0, ap (λ (z : List (Option ℕ)). slice_get z i) numbers ∙ further old.numbers.items (None ∷ []) i (Some p.0) p.1)
-  at i k next (inr e) = absurd (none k (subst (λ (j : ℕ). IsNext x j k) e next))
+  at i k next (inr e) = absurd (none k (subst (λ (j : ℕ). IsNextLine x j k) e next))
 
 -- the line of the next tree has been written
-pub writing_more : (x : Trees) (old mid new : Writing) (k : LineKind) (m : ℕ) (words : List Word) → TreesHeld x → IsNext x (length old.numbers.items) k → m ≡ count_of k old → mid.text.items ≡ old.text.items ++ line_text (letter k) words → mid.numbers.items ≡ old.numbers.items ++ Some m ∷ []
-    → mid.types ≡ old.types → mid.patterns ≡ old.patterns → mid.expressions ≡ old.expressions → Counts k mid new → LineBack x.store.now x.table.now old.numbers.items k (next_tree x old) words → IsWritingOf x old → IsWritingOf x new
+pub writing_more : (x : Trees) (old mid new : Writing) (k : LineKind) (m : ℕ) (words : List LineWord) → TreesHeld x → IsNextLine x (length old.numbers.items) k → m ≡ count_of k old → mid.text.items ≡ old.text.items ++ line_text (letter k) words → mid.numbers.items ≡ old.numbers.items ++ Some m ∷ []
+    → mid.types ≡ old.types → mid.patterns ≡ old.patterns → mid.expressions ≡ old.expressions → CountsLine k mid new → LineBack x.store.now x.table.now old.numbers.items k (next_tree x old) words → IsWritingOf x old → IsWritingOf x new
 writing_more x old mid new k m words held next count text numbers a b c counts back h = record {
   written = record {
     lines = h.written.lines ++ line_of k words ∷ [];
     earlier = with_tree k h.written.earlier (next_tree x old);
-    is = counts.text ∙ text ∙ ap (λ (l : List ℕ). l ++ line_text (letter k) words) h.written.is ∙ sym (ap whole (map_push line_bytes h.written.lines (line_of k words)) ∙ whole_more (map line_bytes h.written.lines) (line_bytes (line_of k words)));
+    is = counts.text ∙ text ∙ ap (λ (l : List ℕ). l ++ line_text (letter k) words) h.written.is ∙ sym (ap whole_text (map_push line_bytes h.written.lines (line_of k words)) ∙ whole_more (map line_bytes h.written.lines) (line_bytes (line_of k words)));
     numbered = subst (λ (l : List (Option ℕ)). AreLines x.store.now l (with_tree k h.written.earlier (next_tree x old))) (sym all)
         (lines_more x.store.now old.numbers.items h.written.earlier k m (count ∙ kind_count k h.written.earlier old h.counted) next.kind h.written.numbered);
     back = λ t u. reads_more t x.table.now (trees_at x.store.now x.roots.now) nothing_before h.written.lines h.written.earlier (line_of k words) (next_tree x old) (h.written.back t u) (back t h.written.earlier (u (next_tree x old) stands) h.written.numbered) stands;
@@ -252,7 +252,7 @@ writing_more x old mid new k m words held next count text numbers a b c counts b
   stands : StandsIn (trees_at x.store.now x.roots.now) (next_tree x old)
   stands = held.marks.first.parts (length old.numbers.items) next.mark
 
-  at : (i : ℕ) (j : LineKind) → IsNext x i j → (i < length old.numbers.items) ⊎ (i ≡ length old.numbers.items) → (n : ℕ) × (slice_get new.numbers.items i ≡ Some (Some n))
+  at : (i : ℕ) (j : LineKind) → IsNextLine x i j → (i < length old.numbers.items) ⊎ (i ≡ length old.numbers.items) → (n : ℕ) × (slice_get new.numbers.items i ≡ Some (Some n))
   at i j n (inl l) = let p = h.there i j l n in (p.0, ap (λ (z : List (Option ℕ)). slice_get z i) all ∙ further old.numbers.items (Some m ∷ []) i (Some p.0) p.1)
   at i j n (inr e) = (m, ap (λ (z : List (Option ℕ)). slice_get z i) all ∙ last old.numbers.items (Some m) i e)
 
@@ -281,7 +281,7 @@ found_iff table symbol types list None b e is spells found = (λ t. let f : fals
 found_iff table symbol types list (Some w) b e is spells found = (λ t. record { name = w.name.now; whole = w.whole; spells = spells types is }, λ h. e)
 
 -- one word more
-spaced_end : (vs : List Word) (w : Word) → spaced (vs ++ w ∷ []) ≡ spaced vs ++ (32 ∷ w)
+spaced_end : (vs : List LineWord) (w : LineWord) → spaced (vs ++ w ∷ []) ≡ spaced vs ++ (32 ∷ w)
 spaced_end [] w = ap (λ (l : List ℕ). 32 ∷ l) (append-nil w)
 spaced_end (v ∷ vs) w = ap (λ (l : List ℕ). 32 ∷ (v ++ l)) (spaced_end vs w) ∙ ap (λ (l : List ℕ). 32 ∷ l) (sym (append_assoc v (spaced vs) (32 ∷ w)))
 

@@ -1,20 +1,20 @@
 -- Lines of matches: a term, and a pattern and a body for each branch.
 use Rattle.std.specs.Prelude.{◌≡◌, ℕ, List, [], ◌∷◌, ◌++◌, Option, Some}
 use Rattle.trees.specs.Tree.{Tree, Two, Head, HCell, HArm}
-use Rattle.tree_lines.specs.Words.{Word, pairs, at_number}
+use Rattle.tree_lines.specs.Words.{LineWord, pairs, at_number}
 use Rattle.tree_lines.specs.Lines.{Earlier}
 use Rattle.tree_writing.specs.Referring.{AreLines, HasLine}
 
 -- the pattern and the body of each branch of a list
-abbrev pub branches : Tree → List (Tree × Tree)
-branches (Two HCell (Two HArm p b) rest) = (p, b) ∷ branches rest
-branches _ = []
+abbrev pub branch_list : Tree → List (Tree × Tree)
+branch_list (Two HCell (Two HArm p b) rest) = (p, b) ∷ branch_list rest
+branch_list _ = []
 
 -- the words of a list's branches come at the end
-pub record PushesBranches (s : List Tree) (lines : List (Option ℕ)) (list : Tree) (old new : List Word) : Type 0 where
-  pub more : List Word
+pub record PushesBranches (s : List Tree) (lines : List (Option ℕ)) (list : Tree) (old new : List LineWord) : Type 0 where
+  pub more : List LineWord
   pub is : new ≡ old ++ more
-  pub refer : (r : Earlier) → AreLines s lines r → pairs (at_number r.patterns) (at_number r.expressions) more ≡ Some (branches list)
+  pub refer : (r : Earlier) → AreLines s lines r → pairs (at_number r.patterns) (at_number r.expressions) more ≡ Some (branch_list list)
 
 -- the patterns and bodies of a list's branches have lines
 abbrev pub BranchLines : List Tree → List (Option ℕ) → Tree → Type 0
@@ -31,6 +31,6 @@ IsArm (Two h a b) = two_arm h
 IsArm _ = ⊥
 
 -- a list whose members up to its end are branches
-abbrev pub AreBranches : Tree → Type 0
-AreBranches (Two HCell a b) = IsArm a × AreBranches b
-AreBranches _ = Unit {0}
+abbrev pub IsBranchList : Tree → Type 0
+IsBranchList (Two HCell a b) = IsArm a × IsBranchList b
+IsBranchList _ = Unit {0}

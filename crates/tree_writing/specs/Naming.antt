@@ -1,4 +1,4 @@
--- A symbol written by its name, with the numbers of the types at which the name doesn't stand; and which types can be written.
+-- A symbol written by its name, with the numbers of the types at which the name isn't; and which types can be written.
 use Rattle.std.specs.Prelude.{◌≡◌, ℕ, zero, suc, Bool, true, false, List, [], ◌∷◌, ◌++◌, All, Option, Some}
 use Rattle.trees.specs.declared.Sort.TheVariants.{Kind}
 use Rattle.trees.specs.Tree.{Tree, Leaf, One, Head, HTyRigid, HTyApp}
@@ -6,21 +6,21 @@ use Rattle.tasks.specs.Typing.{members}
 use Rattle.name_entries.specs.declared.names.NameOf.{NameOf}
 use Rattle.name_entries.specs.declared.names.NameOf.TheVariants.{Int, Rigid, Symbol}
 use Rattle.name_entries.specs.declared.names.NameEntry.{NameEntry}
-use Rattle.tree_lines.specs.Words.{Word, number, each}
+use Rattle.tree_lines.specs.Words.{LineWord, number, each}
 use Rattle.tree_writing.specs.declared.naming.Source.{Source}
 use Rattle.tree_writing.specs.Spelt.{Spells, IsSpelt, AreNamesOf}
 use Rattle.tree_writing.specs.Referring.{HasLine, ReferAll}
 
--- the types whose numbers follow a name: all where the symbol stands whole under it
+-- the types whose numbers follow a name: all where the symbol is whole under it
 abbrev pub types_after : Bool → List Tree → List Tree
 types_after true types = types
 types_after false types = []
 
--- a symbol's name comes at the end, with the words that refer to the types at which the name doesn't stand
-pub record PushesSymbol (s : List Tree) (table : List NameEntry) (lines : List (Option ℕ)) (symbol : NameOf) (types : List Tree) (old new : List Word) : Type 0 where
-  pub name : Word
+-- a symbol's name comes at the end, with the words that refer to the types at which the name isn't
+pub record PushesSymbol (s : List Tree) (table : List NameEntry) (lines : List (Option ℕ)) (symbol : NameOf) (types : List Tree) (old new : List LineWord) : Type 0 where
+  pub name : LineWord
   pub whole : Bool
-  pub more : List Word
+  pub more : List LineWord
   pub ns : List ℕ
   pub is : new ≡ old ++ name ∷ more
   pub spells : Spells table symbol types name whole

@@ -7,18 +7,18 @@ use Rattle.trees.specs.Tree.{Tree, Leaf, One, Two, Three, HEnd}
 use Rattle.trees.specs.Node.{tree_at}
 use Rattle.tasks.specs.Meaning.{trees_at}
 
--- a tree stands in another, or is that one
-abbrev pub IsPart : Tree → Tree → Type 0
-IsPart e (Leaf h) = e ≡ Leaf h
-IsPart e (One h a) = (e ≡ One h a) ⊎ IsPart e a
-IsPart e (Two h a b) = (e ≡ Two h a b) ⊎ (IsPart e a ⊎ IsPart e b)
-IsPart e (Three h a b c) = (e ≡ Three h a b c) ⊎ (IsPart e a ⊎ (IsPart e b ⊎ IsPart e c))
+-- a tree is in another, or is that one
+abbrev pub IsSubtree : Tree → Tree → Type 0
+IsSubtree e (Leaf h) = e ≡ Leaf h
+IsSubtree e (One h a) = (e ≡ One h a) ⊎ IsSubtree e a
+IsSubtree e (Two h a b) = (e ≡ Two h a b) ⊎ (IsSubtree e a ⊎ IsSubtree e b)
+IsSubtree e (Three h a b c) = (e ≡ Three h a b c) ⊎ (IsSubtree e a ⊎ (IsSubtree e b ⊎ IsSubtree e c))
 
--- it stands in one of these
+-- it is in one of these
 pub record StandsIn (roots : List Tree) (e : Tree) : Type 0 where
   pub place : ℕ
   pub within : place < length roots
-  pub part : IsPart e (get_or roots place (Leaf HEnd))
+  pub part : IsSubtree e (get_or roots place (Leaf HEnd))
 
 abbrev pub is_marked : List Bool → ℕ → Bool
 is_marked marks k = get_or marks k false
@@ -66,13 +66,13 @@ ChildrenMarked s marks k (One h a) = HasMark s marks k a
 ChildrenMarked s marks k (Two h a b) = HasMark s marks k a × HasMark s marks k b
 ChildrenMarked s marks k (Three h a b c) = HasMark s marks k a × HasMark s marks k b × HasMark s marks k c
 
--- these trees are marked, and of those that are marked each is held and stands in one of these
+-- these trees are marked, and of those that are marked each is held and is in one of these
 pub record RootsMarked (s : List Tree) (roots : List TermId) (marks : List Bool) : Type 0 where
   pub own : All (λ (r : TermId). IsMarked marks r.0) roots
   pub held : (k : ℕ) → IsMarked marks k → k < length s
   pub parts : (k : ℕ) → IsMarked marks k → StandsIn (trees_at s roots) (get_or s k (Leaf HEnd))
 
--- so are all that stand in them
+-- so are all that are in them
 pub record AreMarked (s : List Tree) (roots : List TermId) (marks : List Bool) : Type 0 where
   pub first : RootsMarked s roots marks
   pub children : (k : ℕ) → IsMarked marks k → ChildrenMarked s marks k (get_or s k (Leaf HEnd))

@@ -7,11 +7,11 @@ use Rattle.trees.specs.Sorts.{sort_of}
 use Rattle.tasks.specs.Task.{TaskTree}
 use Rattle.name_entries.specs.declared.names.NameEntry.{NameEntry}
 use Rattle.integer_words.specs.Integers.{integer}
-use Rattle.tree_lines.specs.Words.{Word, number, at_number}
+use Rattle.tree_lines.specs.Words.{LineWord, number, at_number}
 use Rattle.tree_lines.specs.Lines.{Earlier, expression_of_line}
 use Rattle.tree_writing.specs.Referring.{AreLines, HasLine, trees_of_sort}
 
-abbrev pub op_word : Op → Word
+abbrev pub op_word : Op → LineWord
 op_word And = codes "and"
 op_word AndThen = codes "andthen"
 op_word Or = codes "or"
@@ -20,44 +20,44 @@ op_word Imp = codes "imp"
 op_word Iff = codes "iff"
 
 -- a word refers to a tree wherever the trees of lines are those
-abbrev pub WordRefers : List Tree → List (Option ℕ) → Word → Tree → Type 0
+abbrev pub WordRefers : List Tree → List (Option ℕ) → LineWord → Tree → Type 0
 WordRefers s lines w e = (r : Earlier) → AreLines s lines r → at_number (trees_of_sort (sort_of e) r) w ≡ Some e
 
 -- a word, and two that refer to these trees
-pub record AreTwoWords (s : List Tree) (lines : List (Option ℕ)) (word : Word) (a b : Tree) (ws : List Word) : Type 0 where
-  pub first : Word
-  pub second : Word
+pub record AreTwoWords (s : List Tree) (lines : List (Option ℕ)) (word : LineWord) (a b : Tree) (ws : List LineWord) : Type 0 where
+  pub first : LineWord
+  pub second : LineWord
   pub is : ws ≡ word ∷ first ∷ second ∷ []
   pub a_there : WordRefers s lines first a
   pub b_there : WordRefers s lines second b
 
 -- a word, and one that refers to this tree
-pub record IsOneWord (s : List Tree) (lines : List (Option ℕ)) (word : Word) (a : Tree) (ws : List Word) : Type 0 where
-  pub first : Word
+pub record IsOneWord (s : List Tree) (lines : List (Option ℕ)) (word : LineWord) (a : Tree) (ws : List LineWord) : Type 0 where
+  pub first : LineWord
   pub is : ws ≡ word ∷ first ∷ []
   pub a_there : WordRefers s lines first a
 
 -- a word, one that writes this number, and one that refers to this tree
-pub record AreVariableWords (s : List Tree) (lines : List (Option ℕ)) (word : Word) (n : ℕ) (a : Tree) (ws : List Word) : Type 0 where
-  pub first : Word
-  pub second : Word
+pub record AreVariableWords (s : List Tree) (lines : List (Option ℕ)) (word : LineWord) (n : ℕ) (a : Tree) (ws : List LineWord) : Type 0 where
+  pub first : LineWord
+  pub second : LineWord
   pub is : ws ≡ word ∷ first ∷ second ∷ []
   pub n_there : number first ≡ Some n
   pub a_there : WordRefers s lines second a
 
 -- a word, and three that refer to these trees
-pub record AreThreeWords (s : List Tree) (lines : List (Option ℕ)) (word : Word) (a b c : Tree) (ws : List Word) : Type 0 where
-  pub first : Word
-  pub second : Word
-  pub third : Word
+pub record AreThreeWords (s : List Tree) (lines : List (Option ℕ)) (word : LineWord) (a b c : Tree) (ws : List LineWord) : Type 0 where
+  pub first : LineWord
+  pub second : LineWord
+  pub third : LineWord
   pub is : ws ≡ word ∷ first ∷ second ∷ third ∷ []
   pub a_there : WordRefers s lines first a
   pub b_there : WordRefers s lines second b
   pub c_there : WordRefers s lines third c
 
 -- the word of integers, and one that writes this integer
-pub record IsIntegerWord (n : ℤ) (ws : List Word) : Type 0 where
-  pub first : Word
+pub record IsIntegerWord (n : ℤ) (ws : List LineWord) : Type 0 where
+  pub first : LineWord
   pub is : ws ≡ codes "num" ∷ first ∷ []
   pub there : integer first ≡ Some n
 
@@ -100,5 +100,5 @@ PartLines s lines (Two h a b) = HasLine s lines a × HasLine s lines b
 PartLines s lines (Three h a b c) = HasLine s lines a × HasLine s lines b × HasLine s lines c
 
 -- words are read back as a term or a formula wherever the trees of lines are those
-abbrev pub ReadsBack : List Tree → List NameEntry → List (Option ℕ) → Tree → List Word → Type 0
+abbrev pub ReadsBack : List Tree → List NameEntry → List (Option ℕ) → Tree → List LineWord → Type 0
 ReadsBack s table lines e ws = (t : TaskTree) (r : Earlier) → AreLines s lines r → expression_of_line t table r ws ≡ Some e

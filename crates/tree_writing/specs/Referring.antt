@@ -1,4 +1,4 @@
--- What the words of a line refer to: trees that stand at numbers among those of the lines before.
+-- What the words of a line refer to: trees that are at numbers among those of the lines before.
 use Rattle.std.specs.Prelude.{◌≡◌, ℕ, ◌++◌, List, map, Option, Some, Vec, slice_get}
 use Rattle.std.specs.Option.{option_and_then}
 use Rattle.trees.specs.declared.TermId.{TermId}
@@ -7,15 +7,15 @@ use Rattle.trees.specs.declared.Sort.TheVariants.{Kind, Pattern}
 use Rattle.trees.specs.Tree.{Tree}
 use Rattle.trees.specs.Node.{tree_at, Holds}
 use Rattle.trees.specs.Sorts.{sort_of}
-use Rattle.tree_lines.specs.Words.{Word, number, each}
+use Rattle.tree_lines.specs.Words.{LineWord, number, each}
 use Rattle.tree_lines.specs.Lines.{Earlier}
 
-abbrev pub words_of : {Y : Type 0} → List (Vec ℕ Y) → List Word
+abbrev pub words_of : {Y : Type 0} → List (Vec ℕ Y) → List LineWord
 words_of ws = map (λ w. w.items) ws
 
 -- words that write these numbers come at the end
-pub record PushesNumbers (old new : List Word) (ns : List ℕ) : Type 0 where
-  pub more : List Word
+pub record PushesNumbers (old new : List LineWord) (ns : List ℕ) : Type 0 where
+  pub more : List LineWord
   pub is : new ≡ old ++ more
   pub numbers : each number more ≡ Some ns
 
@@ -29,7 +29,7 @@ trees_of_sort _ r = r.expressions
 abbrev pub line_at : List (Option ℕ) → TermId → Option ℕ
 line_at lines id = option_and_then (λ o. o) (slice_get lines id.0)
 
--- each tree with a line stands at the number of that line
+-- each tree with a line is at the number of that line
 abbrev pub AreLines : List Tree → List (Option ℕ) → Earlier → Type 0
 AreLines s lines r = (id : TermId) (n : ℕ) → line_at lines id ≡ Some n → slice_get (trees_of_sort (sort_of (tree_at s id)) r) n ≡ Some (tree_at s id)
 

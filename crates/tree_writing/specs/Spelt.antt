@@ -7,10 +7,10 @@ use Rattle.trees.specs.Node.{tree_at, Holds}
 use Rattle.name_entries.specs.declared.names.NameOf.{NameOf}
 use Rattle.name_entries.specs.declared.names.NameOf.TheVariants.{Int, Rigid, Symbol}
 use Rattle.name_entries.specs.declared.names.NameEntry.{NameEntry}
-use Rattle.tree_lines.specs.Named.{Meaning, meaning, meaning_by, cells}
+use Rattle.tree_lines.specs.Named.{NameMeaning, meaning, meaning_by, cells}
 use Rattle.tree_writing.specs.declared.spelling.SymbolNames.{SymbolNames}
 
--- the types at which a name stands: none where it stands whole
+-- the types at which a name stands: none where it is whole
 abbrev pub types_under : Bool → List Tree → List Tree
 types_under true types = []
 types_under false types = types
@@ -39,10 +39,10 @@ same_key p q = (nat_eq p.0 q.0 && nat_eq p.1 q.1) && nat_eq p.2 q.2
 
 module _ {S : Type 0} (s : List Tree) (table : List NameEntry) (places : HashMap Key ℕ S) where
   -- what a place is noted for: its entry's name stands for a symbol at the types of a list
-  pub record IsNoted (q : Key) (place : ℕ) : Type 0 where
+  pub record IsPlaceNoted (q : Key) (place : ℕ) : Type 0 where
     pub entry : NameEntry
     pub there : slice_get table place ≡ Some entry
-    pub stands_for : Meaning
+    pub stands_for : NameMeaning
     pub means : meaning table entry.name ≡ Some stands_for
     pub list : TermId
     pub held : Holds s list
@@ -50,7 +50,7 @@ module _ {S : Type 0} (s : List Tree) (table : List NameEntry) (places : HashMap
     pub key : q ≡ key_of stands_for.symbol list.0
 
   -- some place is noted for a symbol at types
-  pub record IsReached (m : Meaning) : Type 0 where
+  pub record IsReached (m : NameMeaning) : Type 0 where
     pub list : TermId
     pub held : Holds s list
     pub types : tree_at s list ≡ cells m.types
@@ -58,8 +58,8 @@ module _ {S : Type 0} (s : List Tree) (table : List NameEntry) (places : HashMap
 
   -- so many entries are noted
   pub record AreNoted (n : ℕ) : Type 0 where
-    pub sound : (q : Key) (place : ℕ) → get same_key places q ≡ Some place → IsNoted q place
-    pub reached : (i : ℕ) (e : NameEntry) (m : Meaning) → i < n → slice_get table i ≡ Some e → meaning table e.name ≡ Some m → IsReached m
+    pub sound : (q : Key) (place : ℕ) → get same_key places q ≡ Some place → IsPlaceNoted q place
+    pub reached : (i : ℕ) (e : NameEntry) (m : NameMeaning) → i < n → slice_get table i ≡ Some e → meaning table e.name ≡ Some m → IsReached m
 
 -- the names of a table, by symbols and lists of types
 pub record AreNamesOf (s : List Tree) (table : List NameEntry) (n : SymbolNames) : Type 0 where

@@ -6,10 +6,10 @@ use Rattle.trees.specs.Tree.{Tree, Leaf, One, Two, Three, Head, HCase, HFun, HPr
 use Rattle.trees.specs.Sorts.{IsList}
 use Rattle.tasks.specs.declared.signature.SymbolKind.TheVariants.{Predicate}
 use Rattle.tasks.specs.Task.{TaskTree}
-use Rattle.tasks.specs.Typing.{members, MakesTerms, Gives}
+use Rattle.tasks.specs.Typing.{members, MakesTerms, HasResult}
 use Rattle.name_entries.specs.declared.names.NameOf.TheVariants.{Symbol}
 use Rattle.name_entries.specs.declared.names.NameEntry.{NameEntry}
-use Rattle.tree_lines.specs.Words.{Word, number, each}
+use Rattle.tree_lines.specs.Words.{LineWord, number, each}
 use Rattle.tree_lines.specs.Lines.{Earlier, pattern_of_line, expression_of_line}
 use Rattle.tree_writing.specs.Spelt.{Spells, IsSpelt}
 use Rattle.tree_writing.specs.Referring.{AreLines, HasLine, ReferAll}
@@ -18,20 +18,20 @@ use Rattle.tree_writing.specs.Branches.{BranchLines}
 use Rattle.tree_writing.specs.Plain.{leaf_plain, one_plain, two_plain, three_plain}
 
 -- the words of a list's members come at the end
-pub record PushesParts (s : List Tree) (lines : List (Option ℕ)) (list : Tree) (old new : List Word) : Type 0 where
-  pub more : List Word
+pub record PushesParts (s : List Tree) (lines : List (Option ℕ)) (list : Tree) (old new : List LineWord) : Type 0 where
+  pub more : List LineWord
   pub ns : List ℕ
   pub is : new ≡ old ++ more
   pub numbers : each number more ≡ Some ns
   pub refer : (sort : Sort) → IsList sort list → ReferAll s lines sort ns (members list)
 
--- a word, a symbol's name, the types at which it doesn't stand, and the parts
-pub record AreUseWords (s : List Tree) (table : List NameEntry) (lines : List (Option ℕ)) (word : Word) (k : ℕ) (types parts : Tree) (ws : List Word) : Type 0 where
-  pub name : Word
+-- a word, a symbol's name, the types at which it isn't, and the parts
+pub record AreUseWords (s : List Tree) (table : List NameEntry) (lines : List (Option ℕ)) (word : LineWord) (k : ℕ) (types parts : Tree) (ws : List LineWord) : Type 0 where
+  pub name : LineWord
   pub whole : Bool
-  pub more : List Word
+  pub more : List LineWord
   pub ns : List ℕ
-  pub last : List Word
+  pub last : List LineWord
   pub ms : List ℕ
   pub is : ws ≡ word ∷ name ∷ more ++ last
   pub spells : Spells table (Symbol k) (members types) name whole
@@ -46,8 +46,8 @@ two_used t (HPred k) a = IsSomeAnd (slice_get t.symbols k) (λ e. (e.kind ≡ Pr
 two_used t _ a = Unit {0}
 
 abbrev pub three_used : TaskTree → Head → Tree → Tree → Type 0
-three_used t (HFun k) a c = IsSomeAnd (slice_get t.symbols k) (λ e. MakesTerms e.kind × (length (members a) ≡ e.vars) × Gives e a c)
-three_used t (HPatCon k) a c = IsSomeAnd (slice_get t.symbols k) (λ e. (length (members a) ≡ e.vars) × Gives e a c)
+three_used t (HFun k) a c = IsSomeAnd (slice_get t.symbols k) (λ e. MakesTerms e.kind × (length (members a) ≡ e.vars) × HasResult e a c)
+three_used t (HPatCon k) a c = IsSomeAnd (slice_get t.symbols k) (λ e. (length (members a) ≡ e.vars) × HasResult e a c)
 three_used t _ a c = Unit {0}
 
 abbrev pub IsUsed : TaskTree → Tree → Type 0
@@ -88,10 +88,10 @@ NodeLines s lines (Two h a b) = two_lines s lines h a b
 NodeLines s lines (Three h a b c) = three_lines s lines h a b c
 
 -- words are read back, in a task that has the symbol so, wherever the trees of lines are those
-abbrev pub PatternBack : List Tree → List NameEntry → List (Option ℕ) → Tree → List Word → Type 0
+abbrev pub PatternBack : List Tree → List NameEntry → List (Option ℕ) → Tree → List LineWord → Type 0
 PatternBack s table lines e ws = (t : TaskTree) (r : Earlier) → IsUsed t e → AreLines s lines r → pattern_of_line t table r ws ≡ Some e
 
-abbrev pub ExpressionBack : List Tree → List NameEntry → List (Option ℕ) → Tree → List Word → Type 0
+abbrev pub ExpressionBack : List Tree → List NameEntry → List (Option ℕ) → Tree → List LineWord → Type 0
 ExpressionBack s table lines e ws = (t : TaskTree) (r : Earlier) → IsUsed t e → AreLines s lines r → expression_of_line t table r ws ≡ Some e
 
 -- a pattern
@@ -105,10 +105,10 @@ abbrev pub three_is_pattern : Head → Type 0
 three_is_pattern (HPatCon k) = Unit {0}
 three_is_pattern _ = ⊥
 
-abbrev pub IsPattern : Tree → Type 0
-IsPattern (One h a) = one_is_pattern h
-IsPattern (Three h a b c) = three_is_pattern h
-IsPattern _ = ⊥
+abbrev pub HasPatternForm : Tree → Type 0
+HasPatternForm (One h a) = one_is_pattern h
+HasPatternForm (Three h a b c) = three_is_pattern h
+HasPatternForm _ = ⊥
 
 -- a symbol on terms
 abbrev pub two_is_applied : Head → Type 0

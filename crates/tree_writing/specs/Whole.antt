@@ -9,7 +9,7 @@ use Rattle.tasks.specs.Typing.{members}
 use Rattle.tasks.specs.Meaning.{trees_at}
 use Rattle.name_entries.specs.declared.names.NameOf.TheVariants.{Rigid, Symbol}
 use Rattle.name_entries.specs.declared.names.NameEntry.{NameEntry}
-use Rattle.tree_lines.specs.Words.{Word}
+use Rattle.tree_lines.specs.Words.{LineWord}
 use Rattle.tree_lines.specs.Lines.{Earlier, type_of_line, pattern_of_line, expression_of_line}
 use Rattle.tree_writing.specs.declared.writer.LineKind.{LineKind}
 use Rattle.tree_writing.specs.declared.writer.LineKind.TheVariants as kind
@@ -20,7 +20,7 @@ use Rattle.tree_writing.specs.Referring.{AreLines, HasLine}
 use Rattle.tree_writing.specs.Naming.{type_name, TypeLines}
 use Rattle.tree_writing.specs.Used.{IsUsed, NodeLines}
 use Rattle.tree_writing.specs.Parts.{StandsIn, IsMarked, AreMarked}
-use Rattle.tree_writing.specs.Text.{spaced, whole}
+use Rattle.tree_writing.specs.Text.{spaced, whole_text}
 
 -- what the line of a tree makes; lists and branches have none
 abbrev pub kind_of_sort : Sort → Option LineKind
@@ -34,7 +34,7 @@ kind_of_sort sort.Branch = None
 abbrev pub IsOfKind : LineKind → Tree → Type 0
 IsOfKind k e = kind_of_sort (sort_of e) ≡ Some k
 
-abbrev pub letter : LineKind → Word
+abbrev pub letter : LineKind → LineWord
 letter kind.Type = codes "y"
 letter kind.Pattern = codes "p"
 letter kind.Expression = codes "e"
@@ -45,13 +45,13 @@ leaf_top table (HTyVar j) = ⊥
 leaf_top table (HTyRigid k) = IsSpelt table (Rigid k) []
 leaf_top table _ = Unit {0}
 
-abbrev pub one_top : List NameEntry → Head → Tree → Type 0
-one_top table (HTyApp k) a = IsSpelt table (type_name k) (members a)
-one_top table _ a = Unit {0}
+abbrev pub IsOneTop : List NameEntry → Head → Tree → Type 0
+IsOneTop table (HTyApp k) a = IsSpelt table (type_name k) (members a)
+IsOneTop table _ a = Unit {0}
 
-abbrev pub two_top : List NameEntry → Head → Tree → Type 0
-two_top table (HPred k) a = IsSpelt table (Symbol k) (members a)
-two_top table _ a = Unit {0}
+abbrev pub IsTwoTop : List NameEntry → Head → Tree → Type 0
+IsTwoTop table (HPred k) a = IsSpelt table (Symbol k) (members a)
+IsTwoTop table _ a = Unit {0}
 
 abbrev pub three_top : List NameEntry → Head → Tree → Type 0
 three_top table (HFun k) a = IsSpelt table (Symbol k) (members a)
@@ -60,8 +60,8 @@ three_top table _ a = Unit {0}
 
 abbrev pub TopNamed : List NameEntry → Tree → Type 0
 TopNamed table (Leaf h) = leaf_top table h
-TopNamed table (One h a) = one_top table h a
-TopNamed table (Two h a b) = two_top table h a
+TopNamed table (One h a) = IsOneTop table h a
+TopNamed table (Two h a b) = IsTwoTop table h a
 TopNamed table (Three h a b c) = three_top table h a
 
 -- each part that a tree's line refers to has a line
@@ -69,13 +69,13 @@ abbrev pub KindLines : List Tree → List (Option ℕ) → LineKind → Tree →
 KindLines s lines kind.Type e = TypeLines s lines e
 KindLines s lines _ e = NodeLines s lines e
 
-abbrev pub tree_by : TaskTree → List NameEntry → Earlier → LineKind → List Word → Option Tree
+abbrev pub tree_by : TaskTree → List NameEntry → Earlier → LineKind → List LineWord → Option Tree
 tree_by t table r kind.Type ws = type_of_line t table r ws
 tree_by t table r kind.Pattern ws = pattern_of_line t table r ws
 tree_by t table r kind.Expression ws = expression_of_line t table r ws
 
 -- words are read back as a tree, in a task that has the symbol so, wherever the trees of lines are those
-abbrev pub LineBack : List Tree → List NameEntry → List (Option ℕ) → LineKind → Tree → List Word → Type 0
+abbrev pub LineBack : List Tree → List NameEntry → List (Option ℕ) → LineKind → Tree → List LineWord → Type 0
 LineBack s table lines k e ws = (t : TaskTree) (r : Earlier) → IsUsed t e → AreLines s lines r → tree_by t table r k ws ≡ Some e
 
 -- a tree more
@@ -90,22 +90,22 @@ nothing_before = record { types = []; patterns = []; expressions = [] }
 -- a line of a tree: what it makes, and its words after the letter
 pub record TreeLine : Type 0 where
   pub kind : LineKind
-  pub words : List Word
+  pub words : List LineWord
 
 abbrev pub line_bytes : TreeLine → List ℕ
 line_bytes l = letter l.kind ++ spaced l.words
 
--- lines make trees that stand in these, one after another
+-- lines make trees that are in these, one after another
 abbrev pub ReadTrees : TaskTree → List NameEntry → List Tree → Earlier → List TreeLine → Earlier → Type 0
 ReadTrees t table roots r [] end = r ≡ end
 ReadTrees t table roots r (l ∷ ls) end = (e : Tree) × (tree_by t table r l.kind l.words ≡ Some e) × StandsIn roots e × ReadTrees t table roots (with_tree l.kind r e) ls end
 
--- A text of lines, which are read back as trees that stand in these, in a task that has the symbols of these so; and each tree
--- that has a line stands at its number.
+-- A text of lines, which are read back as trees that are in these, in a task that has the symbols of these so; and each tree
+-- that has a line is at its number.
 pub record IsWritten (s : List Tree) (table : List NameEntry) (roots : List Tree) (text : List ℕ) (numbers : List (Option ℕ)) : Type 0 where
   pub lines : List TreeLine
   pub earlier : Earlier
-  pub is : text ≡ whole (map line_bytes lines)
+  pub is : text ≡ whole_text (map line_bytes lines)
   pub numbered : AreLines s numbers earlier
   pub back : (t : TaskTree) → ((e : Tree) → StandsIn roots e → IsUsed t e) → ReadTrees t table roots nothing_before lines earlier
 
@@ -113,7 +113,7 @@ pub record IsWritten (s : List Tree) (table : List NameEntry) (roots : List Tree
 abbrev pub HaveLines : List Tree → List (Option ℕ) → List Tree → Type 0
 HaveLines s numbers roots = All (λ (e : Tree). (k : LineKind) → IsOfKind k e → HasLine s numbers e) roots
 
--- some tree that stands in these has no name at its top
+-- some tree that is in these has no name at its top
 abbrev pub LacksName : List NameEntry → List Tree → Type 0
 LacksName table roots = ((e : Tree) → StandsIn roots e → TopNamed table e) → ⊥
 
@@ -130,7 +130,7 @@ pub record AreCounted (earlier : Earlier) (w : Writing) : Type 0 where
   pub few : (k : LineKind) → count_of k w ≤ length w.numbers.items
 
 -- a line of a kind is counted
-pub record Counts (k : LineKind) (old new : Writing) : Type 0 where
+pub record CountsLine (k : LineKind) (old new : Writing) : Type 0 where
   pub text : new.text.items ≡ old.text.items
   pub numbers : new.numbers.items ≡ old.numbers.items
   pub own : count_of k new ≡ count_of k old + 1
@@ -143,7 +143,7 @@ pub record TreesHeld (x : Trees) : Type 0 where
   pub marks : AreMarked x.store.now x.roots.now x.marks.now
 
 -- the tree of a number is marked, and its line is of this kind
-pub record IsNext (x : Trees) (i : ℕ) (k : LineKind) : Type 0 where
+pub record IsNextLine (x : Trees) (i : ℕ) (k : LineKind) : Type 0 where
   pub mark : IsMarked x.marks.now i
   pub kind : IsOfKind k (get_or x.store.now i (Leaf HEnd))
 
@@ -154,4 +154,4 @@ next_tree x w = get_or x.store.now (length w.numbers.items) (Leaf HEnd)
 pub record IsWritingOf (x : Trees) (w : Writing) : Type 0 where
   pub written : IsWritten x.store.now x.table.now (trees_at x.store.now x.roots.now) w.text.items w.numbers.items
   pub counted : AreCounted written.earlier w
-  pub there : (i : ℕ) (k : LineKind) → i < length w.numbers.items → IsNext x i k → (n : ℕ) × (slice_get w.numbers.items i ≡ Some (Some n))
+  pub there : (i : ℕ) (k : LineKind) → i < length w.numbers.items → IsNextLine x i k → (n : ℕ) × (slice_get w.numbers.items i ≡ Some (Some n))

@@ -7,7 +7,7 @@ ghost use Rattle.trees.specs.Sorts.{IsList, sort_of};
 ghost use Rattle.trees.specs.declared.Sort.TheVariants.{Branch, Term};
 ghost use Rattle.tree_writing.specs.Referring.{words_of, HasLine};
 ghost use Rattle.tree_writing.specs.Plain.{ReadsBack};
-ghost use Rattle.tree_writing.specs.Branches.{branches, PushesBranches, BranchLines, IsArm};
+ghost use Rattle.tree_writing.specs.Branches.{branch_list, PushesBranches, BranchLines, IsArm};
 
 use crate::naming::Source;
 use crate::plain::one_word;
@@ -36,7 +36,7 @@ fn first_branch(store: &Store, list: TermId) -> Option<(TermId, TermId, TermId)>
     ensures branch { IfSome result (λ p. tree_at store.now list ≡ Two HCell
         (Two HArm (tree_at store.now p.0) (tree_at store.now p.1)) (tree_at store.now p.2)) }
     ensures below { IfSome result (λ p. (p.0.0 < list.0) × (p.1.0 < list.0) × (p.2.0 < list.0)) }
-    ensures none { result ≡ None → branches (tree_at store.now list) ≡ [] }
+    ensures none { result ≡ None → branch_list (tree_at store.now list) ≡ [] }
 {
     match store.node(list) {
         Node::Cell(first, others) => match arm_of(store, first) {

@@ -1,4 +1,4 @@
-// The trees that stand in given ones, marked by their numbers in the store.
+// The trees that are in given ones, marked by their numbers in the store.
 // They depend on the store; the writer of lines depends on them.
 ghost use Rattle.std.specs.Prelude.{◌≡◌, ◌<◌, ℕ, length, All, OnOk, IfOk};
 ghost use Rattle.trees.specs.Node.{Holds, AreBelow};
@@ -64,7 +64,7 @@ fn root_marks(alloc: Global, store: &Store, roots: &[TermId]) -> Result<Vec<bool
     Ok(marks)
 }
 
-/// Trees and all that stand in them, marked.
+/// Trees and all that are in them, marked.
 pub(crate) fn mark_trees(
     alloc: Global,
     store: &Store,

@@ -6,7 +6,7 @@ ghost use Rattle.trees.specs.Sorts.{IsList};
 ghost use Rattle.trees.specs.declared.Sort.TheVariants.{Kind};
 ghost use Rattle.tasks.specs.Typing.{members};
 ghost use Rattle.tasks.specs.Task.{TaskTree};
-ghost use Rattle.tree_lines.specs.Named.{type_at};
+ghost use Rattle.tree_lines.specs.Named.{named_type_at};
 ghost use Rattle.tree_lines.specs.Lines.{Earlier, type_of_line};
 ghost use Rattle.tree_writing.specs.Spelt.{IsSpelt};
 ghost use Rattle.tree_writing.specs.Referring.{words_of, HasLine, AreLines, ReferAll};
@@ -50,7 +50,7 @@ fn type_numbers(
     }
 }
 
-/// Appends a symbol's name, and the words of the types at which the name doesn't stand.
+/// Appends a symbol's name, and the words of the types at which the name isn't.
 pub(crate) fn push_symbol(
     alloc: Global,
     x: &Source<'_>,
@@ -100,7 +100,7 @@ fn type_parts(x: &Source<'_>, ty: TermId) -> (NameOf, TermId)
         (members (tree_at x.now.store.now result.1)) }
     ensures types { IsList Kind (tree_at x.now.store.now result.1) }
     ensures spelt { IsSpelt x.now.table.now result.0 (members (tree_at x.now.store.now result.1)) }
-    ensures same { type_at result.0 (members (tree_at x.now.store.now result.1))
+    ensures same { named_type_at result.0 (members (tree_at x.now.store.now result.1))
         ≡ Some (tree_at x.now.store.now ty) }
 {
     x.store.laws();

@@ -1,4 +1,4 @@
-// The names of a table, found by a symbol and the types at which it stands.
+// The names of a table, found by a symbol and the types at which it is there.
 // They depend on names by their bytes; the words of a node depend on them.
 ghost use Rattle.std.specs.Prelude.{◌≡◌, ◌+◌, ◌<◌, List, length, IfOk, OnOk, IfSome, IsSome, slice_get};
 ghost use Rattle.std.specs.Option.{option_map};
@@ -17,14 +17,14 @@ use term_store::{Grow, Store};
 use tree_lines::{Names, meaning_of};
 use trees::{Node, TermId};
 
-/// A name of a symbol, and whether the symbol stands whole under it.
+/// A name of a symbol, and whether the symbol is whole under it.
 #[derive(Clone, Copy)]
 pub struct Spelling<'a> {
     pub name: &'a [u8],
     pub whole: bool,
 }
 
-/// The places of the names of a table, by symbols and by lists of types: that of none for a symbol that stands whole.
+/// The places of the names of a table, by symbols and by lists of types: that of none for a symbol that is whole.
 #[derive(Drop)]
 pub struct SymbolNames {
     pub places: HashMap<(usize, usize, usize), usize>,
@@ -58,7 +58,7 @@ fn type_list(store: &mut Store, types: &[TermId]) -> Result<TermId, AllocError>
     Ok(list)
 }
 
-// Adds the name at a place, where it stands for something.
+// Adds the name at a place, where it is for something.
 fn add_name(
     alloc: Global,
     store: &mut Store,
@@ -101,7 +101,7 @@ impl SymbolNames {
         Ok(SymbolNames { places, end })
     }
 
-    /// A name of a symbol: one under which it stands whole, else one at the types of a list.
+    /// A name of a symbol: one under which it is whole, else one at the types of a list.
     pub fn find_spelling<'a>(
         &self,
         store: &Store,

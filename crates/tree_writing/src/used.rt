@@ -9,7 +9,7 @@ ghost use Rattle.name_entries.specs.declared.names.NameOf.TheVariants.{Symbol};
 ghost use Rattle.tree_writing.specs.Spelt.{IsSpelt};
 ghost use Rattle.tree_writing.specs.Referring.{words_of, HasLine};
 ghost use Rattle.tree_writing.specs.Naming.{SourceHeld};
-ghost use Rattle.tree_writing.specs.Used.{PushesParts, AreUseWords, IsNamed, NodeLines, IsPattern, IsApplied, PatternBack, ExpressionBack};
+ghost use Rattle.tree_writing.specs.Used.{PushesParts, AreUseWords, IsNamed, NodeLines, HasPatternForm, IsApplied, PatternBack, ExpressionBack};
 
 use crate::naming::{Source, push_symbol};
 use crate::plain::one_word;
@@ -74,7 +74,7 @@ pub(crate) fn pattern_words(
 ) -> Result<Vec<Vec<u8>>, AllocError>
     requires source { SourceHeld x.now }
     requires held { Holds x.now.store.now id }
-    requires pattern { IsPattern (tree_at x.now.store.now id) }
+    requires pattern { HasPatternForm (tree_at x.now.store.now id) }
     requires named { IsNamed x.now.table.now (tree_at x.now.store.now id) }
     requires lines { NodeLines x.now.store.now x.now.lines.now (tree_at x.now.store.now id) }
     ensures { IfOk result (λ v. PatternBack x.now.store.now x.now.table.now x.now.lines.now

@@ -8,7 +8,7 @@ ghost use Rattle.tree_writing.specs.Spelt.{AreNamesOf};
 ghost use Rattle.tree_writing.specs.Referring.{words_of};
 ghost use Rattle.tree_writing.specs.Naming.{SourceHeld};
 ghost use Rattle.tree_writing.specs.Text.{line_text};
-ghost use Rattle.tree_writing.specs.Whole.{kind_of_sort, IsOfKind, letter, TopNamed, KindLines, LineBack, count_of, Counts, IsWritten, HaveLines, LacksName, TreesHeld, IsWritingOf, IsNext, next_tree};
+ghost use Rattle.tree_writing.specs.Whole.{kind_of_sort, IsOfKind, letter, TopNamed, KindLines, LineBack, count_of, CountsLine, IsWritten, HaveLines, LacksName, TreesHeld, IsWritingOf, IsNextLine, next_tree};
 ghost use Rattle.tree_writing.specs.declared.writer.LineKind.{LineKind};
 
 use crate::expressions::expression_words;
@@ -36,7 +36,7 @@ pub struct Written {
     pub numbers: Vec<Option<usize>>,
 }
 
-// What is written: the trees that stand in these, as they are marked, by the names of a table.
+// What is written: the trees that are in these, as they are marked, by the names of a table.
 #[derive(Clone, Copy)]
 pub(crate) struct Trees<'a> {
     store: &'a Store,
@@ -81,10 +81,18 @@ fn has_name(store: &Store, names: &SymbolNames, table: &[NameEntry], id: TermId)
         Node::TyRigid(k) => names
             .find_spelling(store, table, NameOf::Rigid(k), names.end)
             .is_some(),
-        Node::TyApp(k, list) => names.find_spelling(store, table, table_symbol(k), list).is_some(),
-        Node::Fun(k, list, _, _) => names.find_spelling(store, table, NameOf::Symbol(k), list).is_some(),
-        Node::Pred(k, list, _) => names.find_spelling(store, table, NameOf::Symbol(k), list).is_some(),
-        Node::PatCon(k, list, _, _) => names.find_spelling(store, table, NameOf::Symbol(k), list).is_some(),
+        Node::TyApp(k, list) => names
+            .find_spelling(store, table, table_symbol(k), list)
+            .is_some(),
+        Node::Fun(k, list, _, _) => names
+            .find_spelling(store, table, NameOf::Symbol(k), list)
+            .is_some(),
+        Node::Pred(k, list, _) => names
+            .find_spelling(store, table, NameOf::Symbol(k), list)
+            .is_some(),
+        Node::PatCon(k, list, _, _) => names
+            .find_spelling(store, table, NameOf::Symbol(k), list)
+            .is_some(),
         _ => true,
     }
 }
@@ -151,7 +159,7 @@ fn count(w: &Writing, kind: LineKind) -> usize
 // Counts a line of a kind.
 fn add_one(w: &mut Writing, kind: LineKind)
     requires { count_of kind w.old < length w.old.numbers.items }
-    ensures { Counts kind w.old w.new }
+    ensures { CountsLine kind w.old w.new }
 {
     match kind {
         LineKind::Type => w.types += 1,
@@ -169,7 +177,7 @@ fn write_tree(
 ) -> Result<(), AllocError>
     requires trees { TreesHeld x.now }
     requires writing { IsWritingOf x.now w.old }
-    requires next { IsNext x.now (length w.old.numbers.items) kind }
+    requires next { IsNextLine x.now (length w.old.numbers.items) kind }
     requires named { TopNamed x.now.table.now (next_tree x.now w.old) }
     ensures writing { OnOk result (IsWritingOf x.now w.new) }
     ensures longer { OnOk result (length w.new.numbers.items ≡ length w.old.numbers.items + 1) }
@@ -193,7 +201,7 @@ fn write_tree(
 // Passes over the next tree, which has no line.
 fn skip(x: &Trees<'_>, w: &mut Writing) -> Result<(), AllocError>
     requires writing { IsWritingOf x.now w.old }
-    requires none { (k : LineKind) → IsNext x.now (length w.old.numbers.items) k → ⊥ }
+    requires none { (k : LineKind) → IsNextLine x.now (length w.old.numbers.items) k → ⊥ }
     ensures writing { OnOk result (IsWritingOf x.now w.new) }
     ensures longer { OnOk result (length w.new.numbers.items ≡ length w.old.numbers.items + 1) }
 {
@@ -206,8 +214,8 @@ fn skip(x: &Trees<'_>, w: &mut Writing) -> Result<(), AllocError>
 fn next_kind(x: &Trees<'_>, i: usize) -> Option<LineKind>
     requires trees { TreesHeld x.now }
     requires within { i < length x.now.marks.now }
-    ensures some { IfSome result (IsNext x.now i) }
-    ensures none { IfNone result ((k : LineKind) → IsNext x.now i k → ⊥) }
+    ensures some { IfSome result (IsNextLine x.now i) }
+    ensures none { IfNone result ((k : LineKind) → IsNextLine x.now i k → ⊥) }
 {
     if x.marks[i] {
         kind_of(x.store, TermId(i))

@@ -39,7 +39,7 @@ static NAMES: [(&str, NameOf, &[usize]); 9] = [
     ("p_8", NameOf::Symbol(7), &[]),
 ];
 
-// A symbol, the number of the list of its types, and its name, with whether it stands whole under it.
+// A symbol, the number of the list of its types, and its name, with whether it is whole under it.
 static FOUND: [(NameOf, usize, &str, bool); 8] = [
     (NameOf::Int, 0, "int_0", true),
     (NameOf::Symbol(1), 2, "list_1", true),
@@ -111,7 +111,11 @@ fn each_is_missing(rt: &impl Abort, alloc: Global, rows: &[(NameOf, usize)]) {
     for (symbol, list) in rows {
         let list = TermId(*list);
         assert!(rt; store.holds(list));
-        assert!(rt; symbols.find_spelling(&store, &table, *symbol, list).is_none());
+        assert!(rt;
+            symbols
+                .find_spelling(&store, &table, *symbol, list)
+                .is_none()
+        );
     }
 }
 

@@ -1,4 +1,4 @@
--- The least numbers above the type variables and the parameters of a tree: what lies below them, and what a change leaves there.
+-- The least numbers above the type variables and the parameters of a tree: what is below them, and what a change leaves there.
 use Rattle.std.proofs.Common.{◌≡◌, ℕ, ◌+◌, ◌<◌, ◌≤◌, false, inl, List, refl, ap, ◌∙◌, arith}
 use Rattle.std.proofs.lemmas.Bool.Decides.{nat_tests}
 use Rattle.trees.specs.declared.Sort.TheVariants.{Kind}

@@ -23,7 +23,7 @@ abbrev pub BindersHeld : List Tree → Binders → Type 0
 BindersHeld s Outside = Unit {0}
 BindersHeld s (Inside' binder first p outer) = Holds s first × BindersHeld s outer
 
--- what stands at a place of a list of types, or how far the place is past its end
+-- what is at a place of a list of types, or how far the place is past its end
 abbrev pub IsPlace : List Tree → List Tree → ℕ → Place → Type 0
 IsPlace s types place (Found t) = (slice_get types place ≡ Some (tree_at s t)) × Holds s t
 IsPlace s types place (Past left) = length types + left ≡ place

@@ -10,13 +10,13 @@ use Rattle.tasks.specs.Meaning.{trees_at}
 use Rattle.tasks.specs.Typing.{members}
 
 -- the type of a term or pattern, if it has one
-abbrev pub type_at : List Tree → Option TermId → Option Tree
-type_at s ty = option_map (tree_at s) ty
+abbrev pub optional_type_at : List Tree → Option TermId → Option Tree
+optional_type_at s ty = option_map (tree_at s) ty
 
 -- types in order
-abbrev pub types_at : List Tree → Types → List Tree
-types_at s (Listed a) = members (tree_at s a)
-types_at s (Given as') = trees_at s as'.now
+abbrev pub listed_types_at : List Tree → Types → List Tree
+listed_types_at s (Listed a) = members (tree_at s a)
+listed_types_at s (Given as') = trees_at s as'.now
 
 abbrev pub TypesHeld : List Tree → Types → Type 0
 TypesHeld s (Listed a) = Holds s a

@@ -1,5 +1,5 @@
 // The binders around a tree, and the types of their variables, without memory.
-// They stand on the types of terms; what is well typed stands on them.
+// They depend on the types of terms; what is well typed depends on them.
 ghost use Rattle.std.specs.Prelude.{◌≡◌, slice_get, IfSome};
 ghost use Rattle.std.specs.Option.{option_map};
 ghost use Rattle.trees.specs.Node.{tree_at, Holds};
@@ -25,7 +25,7 @@ pub(crate) enum Binders<'a> {
     Inside(Binder, TermId, &'a Binders<'a>),
 }
 
-// What stands at a place of a list of types, or how far the place is past its end.
+// What is at a place of a list of types, or how far the place is past its end.
 #[derive(Clone, Copy)]
 enum Place {
     Found(TermId),

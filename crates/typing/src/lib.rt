@@ -1,5 +1,5 @@
 //! What is well typed over a task or a signature (Why3 manual, rank-1 polymorphism), without memory.
-//! It stands on `tasks` and the term store; the kernel and the readers of steps stand on it.
+//! It depends on `tasks` and the term store; the kernel and the readers of steps depend on it.
 #![tactic(auto)]
 
 mod enclosing;

@@ -1,5 +1,5 @@
-// What is typed as far as it stands, told of a tree by its children.
-// It stands on typing; a reader of steps asks it of each line once, and where no variable is open the tree is well typed.
+// What is typed as far as it goes, told of a tree by its children.
+// It depends on typing; a reader of steps asks it of each line once, and where no variable is open the tree is well typed.
 ghost use Rattle.std.specs.Prelude.{◌≡◌, ◌↔◌, IsTrue, length};
 ghost use Rattle.trees.specs.Node.{tree_at, node_tree, parts_of, head_of_node, Holds, AreBelow};
 ghost use Rattle.binders.specs.Depth.{IsUnder};
@@ -22,7 +22,7 @@ fn depth_under(store: &Store, node: Node, first: TermId, depth: usize) -> usize
     depth.saturating_add(store.binders(node, first))
 }
 
-// Whether the variable of so many binders up has a type wherever it stands. It goes down the open parts alone.
+// Whether the variable of so many binders up has a type wherever it is there. It goes down the open parts alone.
 #[tactic(auto, using(crate::proofs::Variables::closed_at, crate::proofs::Variables::bound_at, crate::proofs::Variables::bound_can, crate::proofs::Variables::two_at, crate::proofs::Variables::two_can))]
 fn variable_has(store: &Store, e: TermId, depth: usize, ty: TermId) -> bool
     requires e_held { Holds store.now e }
@@ -50,7 +50,7 @@ fn variable_has(store: &Store, e: TermId, depth: usize, ty: TermId) -> bool
     }
 }
 
-/// Whether the innermost open variable of a tree has a type wherever it stands.
+/// Whether the innermost open variable of a tree has a type wherever it is there.
 #[tactic(auto, using(crate::proofs::Variables::at_zero, crate::proofs::Variables::can_zero))]
 pub fn variable_has_type(store: &Store, e: TermId, ty: TermId) -> bool
     requires e_held { Holds store.now e }
@@ -101,7 +101,7 @@ fn binder_fits(store: &Store, node: Node) -> bool
     }
 }
 
-/// Whether a tree whose children are typed as far as they stand is so itself. It looks at the top, and at a binder down
+/// Whether a tree whose children are typed as far as they go is so itself. It looks at the top, and at a binder down
 /// the open part of its body.
 pub fn is_open_typed(store: &Store, v: &Vocabulary<'_>, e: TermId) -> bool
     requires v_held { VocabularyHeld store.now v.now }

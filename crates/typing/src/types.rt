@@ -1,12 +1,12 @@
 // The types of terms and patterns, and instances of types, without memory.
-// They stand on the store; binders and what is well typed stand on them.
+// They depend on the store; binders and what is well typed depend on them.
 ghost use Rattle.std.specs.Prelude.{◌≡◌, ◌↔◌, IsTrue, IfSome, length, slice_get};
 ghost use Rattle.std.specs.Option.{option_map};
 ghost use Rattle.trees.specs.Node.{tree_at, Holds};
 ghost use Rattle.trees.specs.Sorts.{type_of};
 ghost use Rattle.trees.specs.Binding.{typing, inst_types};
 ghost use Rattle.tasks.specs.Typing.{members};
-ghost use Rattle.typing.specs.Types.{types_at, TypesHeld};
+ghost use Rattle.typing.specs.Types.{listed_types_at, TypesHeld};
 
 use binders::{Put, is_changed};
 use term_store::Store;
@@ -32,7 +32,8 @@ pub(crate) fn type_of(store: &Store, e: TermId) -> Option<TermId>
 pub(crate) fn same_types(store: &Store, a: Option<TermId>, b: Option<TermId>) -> bool
     requires a_held { IfSome a (Holds store.now) }
     requires b_held { IfSome b (Holds store.now) }
-    ensures { IsTrue result ↔ (option_map (tree_at store.now) a ≡ option_map (tree_at store.now) b) }
+    ensures { IsTrue result ↔ (option_map (tree_at store.now) a
+        ≡ option_map (tree_at store.now) b) }
 {
     match (a, b) {
         (Some(a), Some(b)) => store.same(a, b),
@@ -75,7 +76,7 @@ fn member(store: &Store, list: TermId, place: usize) -> Option<TermId>
 fn type_at_place(store: &Store, types: Types<'_>, place: usize) -> Option<TermId>
     requires { TypesHeld store.now types }
     ensures tree { option_map (tree_at store.now) result
-        ≡ slice_get (types_at store.now types.entry) place }
+        ≡ slice_get (listed_types_at store.now types.entry) place }
     ensures held { IfSome result (Holds store.now) }
 {
     match types {
@@ -85,7 +86,7 @@ fn type_at_place(store: &Store, types: Types<'_>, place: usize) -> Option<TermId
 }
 
 impl Put for Types<'_> {
-    ghost change_over = { λ v s. typing (types_at s v) };
+    ghost change_over = { λ v s. typing (listed_types_at s v) };
 
     ghost Ready = { λ v s. TypesHeld s v };
 
@@ -109,7 +110,7 @@ pub fn is_instance(store: &Store, e: TermId, types: Types<'_>, made: TermId) -> 
     requires types_held { TypesHeld store.now types }
     requires made_held { Holds store.now made }
     ensures { IsTrue result ↔ (tree_at store.now made
-        ≡ inst_types (tree_at store.now e) (types_at store.now types.entry)) }
+        ≡ inst_types (tree_at store.now e) (listed_types_at store.now types.entry)) }
 {
     is_changed(store, &types, e, made)
 }

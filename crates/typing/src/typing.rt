@@ -1,5 +1,5 @@
 // What is well typed over a vocabulary, without memory.
-// It stands on types and binders; the kernel asks it of each formula of a sequent.
+// It depends on types and binders; the kernel asks it of each formula of a sequent.
 ghost use Rattle.std.specs.Prelude.{◌≡◌, ◌↔◌, [], IsTrue, IfSome, Some, All, length, map};
 ghost use Rattle.std.specs.Option.{option_map};
 ghost use Rattle.trees.specs.Tree.{HPred, HFun, HPatCon};
@@ -321,7 +321,7 @@ pub fn well_typed(store: &Store, task: &Task, e: TermId) -> bool
     is_typed_over(store, &Vocabulary::OfTask(&look), e)
 }
 
-/// Whether no schematic type variable stands in a tree.
+/// Whether no schematic type variable is in a tree.
 pub fn is_ground(store: &Store, e: TermId) -> bool
     requires { Holds store.now e }
     ensures { IsTrue result ↔ IsGround (tree_at store.now e) }
@@ -338,7 +338,7 @@ pub fn is_ground(store: &Store, e: TermId) -> bool
     }
 }
 
-/// Whether a tree is a formula that may stand in a sequent: closed, typed in the task and free of schematic types.
+/// Whether a tree is a formula that may be in a sequent: closed, typed in the task and free of schematic types.
 pub fn is_ground_formula(store: &Store, task: &Task, e: TermId) -> bool
     requires task_held { TaskHeld store.now task.now }
     requires held { Holds store.now e }

@@ -1,5 +1,5 @@
 // What typing may name: the symbols of a task, by a look-up, or those of a signature.
-// It stands on look-ups; all that is typed is typed over it.
+// It depends on look-ups; all that is typed is typed over it.
 ghost use Rattle.std.specs.Prelude.{◌≡◌, IsTrue, ◌↔◌, IfSome};
 ghost use Rattle.std.specs.Option.{option_map};
 ghost use Rattle.tasks.specs.Typing.{entry};

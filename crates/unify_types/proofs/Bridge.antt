@@ -10,7 +10,7 @@ use Rattle.unify_types.specs.declared.Equation.{Equation}
 use Rattle.unify_types.specs.declared.UnifyFault.{UnifyFault}
 use Rattle.unify_types.specs.declared.UnifyFault.TheVariants.{Memory, Clash}
 use Rattle.unify_types.specs.Assigned.{assign, Solves}
-use Rattle.unify_types.specs.Solution.{IsEquation, AreEquations, HasSolution, HasNoSolution, HasMostGeneral, IsOpen, IsValue, IsLeastClash}
+use Rattle.unify_types.specs.Solution.{IsEquation, AreEquations, HasSolution, HasNoSolution, HasMostGeneral, IsOpenUnknown, IsValue, IsLeastClash}
 use Rattle.unify_types.specs.Pairs.{HoldsEquation, HoldEquations, equations_at, SolvesAll, IsSolvable, IsUnsolvable, HasPrincipal, IsLeftOpen, IsFixedAs, IsLeastPrefix}
 use Rattle.unify_types.proofs.SortedTypes.{kind_is_type, type_is_kind}
 
@@ -61,7 +61,7 @@ principal r s es g = record {
   general = λ f h j l. g.general f (pairs_solve r f s es h) j l;
 }
 
-open_at : (r : ℕ) (s : List Tree) (es : List Equation) (u : ℕ) → IsOpen r s es u → IsLeftOpen r (equations_at s es) u
+open_at : (r : ℕ) (s : List Tree) (es : List Equation) (u : ℕ) → IsOpenUnknown r s es u → IsLeftOpen r (equations_at s es) u
 open_at r s es u o = record {
   first = o.first;
   second = o.second;

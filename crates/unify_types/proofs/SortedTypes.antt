@@ -6,7 +6,7 @@ use Rattle.trees.specs.declared.Sort.TheVariants.{Kind}
 use Rattle.trees.specs.declared.Sort.TheVariants as sort
 use Rattle.trees.specs.Sorts.{sort_of, first_sort, WellSorted, IsList, IsListOf, LeafFits, Fits}
 use Rattle.trees.proofs.Types.{OnlyTypes, only_types}
-use Rattle.unify_types.specs.Assigned.{IsType, IsTyped, leaf_typed}
+use Rattle.unify_types.specs.Assigned.{IsType, IsTypeOrTypes, leaf_typed}
 use Rattle.unify_types.specs.Pairs.{IsKind}
 
 -- a leaf that is a type; one that is a list of types
@@ -28,11 +28,11 @@ leaf_list HTrue f e = absurd (cc (e.0))
 leaf_list HFalse f e = absurd (cc (e.0))
 leaf_list _ f e = absurd f
 
-one_type : (h : Head) (a : Tree) → WellSorted (One h a) → OnlyTypes (One h a) → (IsList Kind a → IsTyped false a) → sort_of (One h a) ≡ Kind → IsTyped true (One h a)
+one_type : (h : Head) (a : Tree) → WellSorted (One h a) → OnlyTypes (One h a) → (IsList Kind a → IsTypeOrTypes false a) → sort_of (One h a) ≡ Kind → IsTypeOrTypes true (One h a)
 one_type (HTyApp k) a w o f e = (tt, f w.0)
 one_type _ a w o f e = let q = o.0.1 in absurd (cc)
 
-one_list : (h : Head) (a : Tree) → OnlyTypes (One h a) → IsList Kind (One h a) → IsTyped false (One h a)
+one_list : (h : Head) (a : Tree) → OnlyTypes (One h a) → IsList Kind (One h a) → IsTypeOrTypes false (One h a)
 one_list (HTyApp k) a o e = absurd (cc (e.0))
 one_list _ a o e = let q = o.0.1 in absurd (cc)
 
@@ -50,13 +50,13 @@ cell_kinds HCell a b f o p = let k : sort_of a ≡ Kind = kind_first (sort_of a)
 cell_kinds _ a b f o p = let q = o.0 in absurd (cc)
 
 mutual
-  sorted_type : (e : Tree) → WellSorted e → OnlyTypes e → sort_of e ≡ Kind → IsTyped true e
+  sorted_type : (e : Tree) → WellSorted e → OnlyTypes e → sort_of e ≡ Kind → IsTypeOrTypes true e
   sorted_type (Leaf h) w o e = leaf_type h w e
   sorted_type (One h a) w o e = one_type h a w o (λ l. sorted_list a w.1 o.1 l) e
   sorted_type (Two h a b) w o e = absurd (pair_no_type h a b o e)
   sorted_type (Three h a b c) w o e = absurd o
 
-  sorted_list : (e : Tree) → WellSorted e → OnlyTypes e → IsList Kind e → IsTyped false e
+  sorted_list : (e : Tree) → WellSorted e → OnlyTypes e → IsList Kind e → IsTypeOrTypes false e
   sorted_list (Leaf h) w o e = leaf_list h w e
   sorted_list (One h a) w o e = one_list h a o e
   sorted_list (Two h a b) w o e =
@@ -69,7 +69,7 @@ kind_is_type e w k = sorted_type e w (only_types e w (inl k)) k
 
 -- and the other way round
 mutual
-  type_kind : (e : Tree) → IsTyped true e → WellSorted e × (sort_of e ≡ Kind)
+  type_kind : (e : Tree) → IsTypeOrTypes true e → WellSorted e × (sort_of e ≡ Kind)
   type_kind (Leaf (HTyVar j)) t = (tt, refl)
   type_kind (Leaf (HTyRigid k)) t = (tt, refl)
   type_kind (Leaf _) t = absurd t
@@ -78,7 +78,7 @@ mutual
   type_kind (Two h a b) t = absurd t.0
   type_kind (Three h a b c) t = absurd t
 
-  list_kind : (e : Tree) → IsTyped false e → WellSorted e × IsList Kind e
+  list_kind : (e : Tree) → IsTypeOrTypes false e → WellSorted e × IsList Kind e
   list_kind (Leaf HEnd) t = (tt, (refl, inl refl))
   list_kind (Leaf _) t = absurd t
   list_kind (One h a) t = absurd t.0

@@ -15,7 +15,7 @@ use crate::writing::Written;
 use syntax_why::{BranchTree, Expr, ExprNode, Pat, QName, TriggerTree, TypeTree};
 use tokens_why::Terminal;
 
-/// Puts an expression's tokens behind others.
+/// Puts an expression's tokens after others.
 #[cycle(writing)]
 pub fn push_expr(e: &Expr, out: &mut Written)
     ensures { Puts out.old out.new (terminals (write (tree_of e.now))) }
@@ -57,7 +57,7 @@ pub fn push_expr(e: &Expr, out: &mut Written)
     }
 }
 
-/// An expression behind a token.
+/// An expression after a token.
 #[cycle(writing)]
 fn push_behind(terminal: Terminal, e: &Expr, out: &mut Written)
     ensures { Puts out.old out.new (terminal ∷ terminals

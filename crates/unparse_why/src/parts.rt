@@ -23,7 +23,7 @@ pub fn operator_terminal(operator: &OpName) -> Terminal
     }
 }
 
-/// Puts a terminal behind others.
+/// Puts a terminal after others.
 pub fn push_terminal(terminal: Terminal, out: &mut Written)
     ensures { Puts out.old out.new (terminal ∷ []) }
 {
@@ -83,7 +83,7 @@ pub fn push_own(style: Style, text: &[u8], out: &mut Written)
     }
 }
 
-/// Puts a name's tokens, with those of its scopes, behind others.
+/// Puts a name's tokens, with those of its scopes, after others.
 pub fn push_called(name: &QName, out: &mut Written)
     ensures { Puts out.old out.new (terminals
         (write_called (called_of name.now))) }
@@ -92,7 +92,7 @@ pub fn push_called(name: &QName, out: &mut Written)
     push_own(name.style, name.text.as_slice(), out)
 }
 
-/// Puts a type's tokens behind others.
+/// Puts a type's tokens after others.
 #[cycle(type_writing)]
 pub fn push_type(t: &TypeTree, out: &mut Written)
     ensures { Puts out.old out.new (terminals (write_form (form_of t.now))) }
@@ -111,7 +111,7 @@ pub fn push_type(t: &TypeTree, out: &mut Written)
     }
 }
 
-/// Puts the tokens of types that stand side by side behind others.
+/// Puts the tokens of types that stand side by side after others.
 #[cycle(type_writing)]
 pub fn push_types(of: &[TypeTree], out: &mut Written)
     ensures { Puts out.old out.new (terminals
@@ -171,7 +171,7 @@ fn push_parts(of: &[Pat], out: &mut Written)
     }
 }
 
-/// Puts the tokens of patterns with commas between behind others.
+/// Puts the tokens of patterns with commas between after others.
 #[cycle(pattern_writing)]
 pub fn push_patterns(of: &[Pat], out: &mut Written)
     ensures { Puts out.old out.new (terminals
@@ -186,7 +186,7 @@ pub fn push_patterns(of: &[Pat], out: &mut Written)
     }
 }
 
-/// Puts the tokens of alternatives with bars between behind others.
+/// Puts the tokens of alternatives with bars between after others.
 pub fn push_alternatives(of: &[Seq<Pat>], out: &mut Written)
     ensures { Puts out.old out.new (terminals
         (alternative_list (alternatives of.now))) }
@@ -200,7 +200,7 @@ pub fn push_alternatives(of: &[Seq<Pat>], out: &mut Written)
     }
 }
 
-/// Puts the tokens of names in lower case that stand side by side behind others.
+/// Puts the tokens of names in lower case that stand side by side after others.
 pub fn push_names(names: &[Name], out: &mut Written)
     ensures { Puts out.old out.new (terminals (name_row names.now)) }
 {
@@ -209,7 +209,7 @@ pub fn push_names(names: &[Name], out: &mut Written)
     }
 }
 
-/// Puts the tokens of a colon and a type, where there is one, behind others.
+/// Puts the tokens of a colon and a type, where there is one, after others.
 pub fn push_type_part(ty: &Option<TypeTree>, out: &mut Written)
     ensures { Puts out.old out.new (terminals
         (type_part (option_map form_of ty.now))) }
@@ -231,7 +231,7 @@ fn push_binder(b: &BinderTree, out: &mut Written)
     push_type_part(&b.ty, out)
 }
 
-/// Puts the tokens of groups of bound names with commas between behind others.
+/// Puts the tokens of groups of bound names with commas between after others.
 pub fn push_binders(of: &[BinderTree], out: &mut Written)
     ensures { Puts out.old out.new (terminals
         (binder_list (map binder_of of.now))) }
@@ -263,7 +263,7 @@ pub fn quantifier_terminal(forall: bool) -> Terminal
     }
 }
 
-/// Puts a `|`, where there is one, behind others.
+/// Puts a `|`, where there is one, after others.
 pub fn push_bar(bar: bool, out: &mut Written)
     ensures { Puts out.old out.new (terminals (bar_before bar)) }
 {

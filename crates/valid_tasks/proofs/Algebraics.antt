@@ -1,23 +1,23 @@
--- Algebraic types are valid: their entries stand at the numbers that their declaration names.
+-- Algebraic types are valid: their entries are at the numbers that their declaration names.
 use Rattle.std.proofs.Common.{◌≡◌, ℕ, ◌+◌, ◌<◌, ◌≤◌, zero, suc, true, false, List, [], ◌∷◌, ◌++◌, length, slice_get, All, Some, refl, sym, ap, subst, ◌∙◌, arith, length-append, append_assoc}
 use Rattle.std.proofs.lemmas.List.Elements.{All-nil, All-cons, All-append}
 use Rattle.trees.specs.Tree.{Tree}
 use Rattle.tasks.specs.declared.signature.SymbolKind.TheVariants.{Kind, Constructor, Projection}
-use Rattle.tasks.specs.Task.{SymbolTree, symbol_or, ConTree, AlgebraicTree}
+use Rattle.tasks.specs.Task.{SymbolTree, symbol_or, ConstructorTree, AlgebraicTree}
 use Rattle.tasks.specs.Vocabulary.{Vocabulary, is_empty}
 use Rattle.tasks.specs.Typing.{IsTypeSymbol}
 use Rattle.tasks.specs.Valid.{IsTypeIn, own_type, AreProjections, IsConstructorOf, IsAlgebraic}
-use Rattle.names_space.specs.Names.{Names, Entry}
+use Rattle.names_space.specs.Names.{ScopeNames, ScopeEntry}
 use Rattle.names_space.specs.declared.Table.TheVariants.{Types, Symbols}
 use Rattle.names_space.specs.declared.TypeName.TheVariants as stands
 use Rattle.syntax_why.specs.Lexeme.{Word}
-use Rattle.elab_names.specs.Abstract.{Forms, no_forms, more_forms, count_forms}
+use Rattle.elab_names.specs.Abstract.{TypeExpressions, no_types, more_types, count_forms}
 use Rattle.elab_names.specs.Where.{Where}
 use Rattle.elab_walk.specs.Pieces.{types_at}
-use Rattle.elab_parts.specs.Declarations.{Constructor as ConstructorOf, Algebraic, words, with_vars}
+use Rattle.elab_parts.specs.Declarations.{AlgebraicConstructor as ConstructorOf, AlgebraicType, words, with_vars}
 use Rattle.std.specs.Str.{bytes_eq}
 use Rattle.elab_parts.specs.Entries.{builtin, type_entry, projections, constructor_entries}
-use Rattle.elab_types.specs.Algebraics.{entry_count, numbers_from, with_constructors, with_types, type_entries, constructor_trees, algebraic_trees, constructors_entries, group_entries}
+use Rattle.elab_types.specs.Algebraics.{entry_count, numbering_from, with_constructors, with_types, type_entries, constructor_trees, algebraic_trees, constructors_entries, group_entries}
 use Rattle.valid_tasks.specs.Signature.{with_entries}
 use Rattle.valid_tasks.specs.Scopes.{IsNamedBy, NamesNew, IsTypedEntry, IsTypedSignature, IsTypeNumber, IsSymbolNumber, IsTypedThing, AreTypedScopes}
 use Rattle.valid_tasks.proofs.Scopes.{scopes_more, typed_entry, OnTypes}
@@ -57,9 +57,9 @@ got (x ∷ xs) zero e q = (omega arith, cc)
 got (x ∷ xs) (suc k) e q = let r = got xs k e q in (omega (arith, r.0), r.1)
 
 -- ---- how many
-pub types_length : (w : Where) (fs : Forms) → length (types_at w fs) ≡ count_forms fs
-types_length w no_forms = refl
-types_length w (more_forms f fs) = ap suc (types_length w fs)
+pub types_length : (w : Where) (fs : TypeExpressions) → length (types_at w fs) ≡ count_forms fs
+types_length w no_types = refl
+types_length w (more_types f fs) = ap suc (types_length w fs)
 
 count_projections : (theory name : Word) (vars : ℕ) (t : Tree) (i : ℕ) (fs : List Tree) → length (projections theory name vars t i fs) ≡ length fs
 count_projections theory name vars t i [] = refl
@@ -83,7 +83,7 @@ module _ (theory within : Word) (named : is_empty theory ≡ false) where
     type_there : (name : Word) (vars i : ℕ) → IsThere base all i (type_entry theory name vars) → IsTypeNumber v i
     type_there name vars i h = let g = got all i (type_entry theory name vars) h.at in record { there = g.0; usable = h.named.usable (rw named refl); kind = ap (λ (e : SymbolTree). e.kind) g.1 }
 
-    projections_valid : (name : Word) (type vars i : ℕ) (fs : List Tree) (n : ℕ) → EntriesAt base all n (projections theory name vars (own_type type vars) i fs) → AreProjections v type vars fs (numbers_from n fs)
+    projections_valid : (name : Word) (type vars i : ℕ) (fs : List Tree) (n : ℕ) → EntriesAt base all n (projections theory name vars (own_type type vars) i fs) → AreProjections v type vars fs (numbering_from n fs)
     projections_valid name type vars i [] n h = tt
     projections_valid name type vars i (f ∷ fs) n h =
         let g = got all n _ h.0.at in
@@ -98,7 +98,7 @@ module _ (theory within : Word) (named : is_empty theory ≡ false) where
           projections_valid name type vars (suc i) fs (n + 1) h.1,
         )
 
-    constructor_valid : (name : Word) (type vars n : ℕ) (fs : List Tree) → EntriesAt base all n (constructor_entries theory name vars (own_type type vars) fs) → IsConstructorOf v type vars (record { symbol = n; fields = fs; projections = numbers_from (n + 1) fs })
+    constructor_valid : (name : Word) (type vars n : ℕ) (fs : List Tree) → EntriesAt base all n (constructor_entries theory name vars (own_type type vars) fs) → IsConstructorOf v type vars (record { symbol = n; fields = fs; projections = numbering_from (n + 1) fs })
     constructor_valid name type vars n fs h =
         let g = got all n _ h.0.at in
         let kind : (symbol_or all n).kind ≡ Constructor = ap (λ (e : SymbolTree). e.kind) g.1 in
@@ -133,7 +133,7 @@ module _ (theory within : Word) (named : is_empty theory ≡ false) where
         All-cons (IsConstructorOf v type vars) _ (constructor_trees w (n + (count_forms k.fields + 1)) ks) (constructor_valid (within ++ k.called.name) type vars n (types_at w k.fields) e.0) (constructors_valid type vars w ks (n + (count_forms k.fields + 1)) e.1)
 
     -- the first type's entries, and those of the others
-    group_split : (w : Where) (a : Algebraic) (ts : List Algebraic) (i n : ℕ) → EntriesAt base all n (group_entries theory within (a ∷ ts) (algebraic_trees w i n (a ∷ ts)))
+    group_split : (w : Where) (a : AlgebraicType) (ts : List AlgebraicType) (i n : ℕ) → EntriesAt base all n (group_entries theory within (a ∷ ts) (algebraic_trees w i n (a ∷ ts)))
         → EntriesAt base all n (constructors_entries theory within (length a.vars) (own_type i (length a.vars)) a.constructors (constructor_trees (with_vars w (words a.vars)) n a.constructors))
         × EntriesAt base all (n + entry_count a.constructors) (group_entries theory within ts (algebraic_trees w (i + 1) (n + entry_count a.constructors) ts))
     group_split w a ts i n h =
@@ -142,7 +142,7 @@ module _ (theory within : Word) (named : is_empty theory ≡ false) where
         entries_split base all (constructors_entries theory within (length a.vars) t a.constructors (constructor_trees wa n a.constructors)) (group_entries theory within ts (algebraic_trees w (i + 1) (n + entry_count a.constructors) ts)) n (n + entry_count a.constructors)
         (omega (arith, count_cons theory within (length a.vars) t wa n a.constructors)) h
 
-    pub groups_valid : (w : Where) (ts : List Algebraic) (i n : ℕ) → EntriesAt base all i (type_entries theory within ts) → EntriesAt base all n (group_entries theory within ts (algebraic_trees w i n ts)) → All (IsAlgebraic v) (algebraic_trees w i n ts)
+    pub groups_valid : (w : Where) (ts : List AlgebraicType) (i n : ℕ) → EntriesAt base all i (type_entries theory within ts) → EntriesAt base all n (group_entries theory within ts (algebraic_trees w i n ts)) → All (IsAlgebraic v) (algebraic_trees w i n ts)
     groups_valid w [] i n g h = All-nil (IsAlgebraic v)
     groups_valid w (a ∷ ts) i n g h =
         let e = group_split w a ts i n h in
@@ -156,13 +156,13 @@ module _ (theory within : Word) (named : is_empty theory ≡ false) where
 
     -- ---- names
     module _ (s : List Tree) where
-      constructors_scoped : (vars : ℕ) (t : Tree) (w : Where) (ks : List ConstructorOf) (n : ℕ) (names : Names) → EntriesAt base all n (constructors_entries theory within vars t ks (constructor_trees w n ks)) → AreTypedScopes v s names → AreTypedScopes v s (with_constructors n ks names)
+      constructors_scoped : (vars : ℕ) (t : Tree) (w : Where) (ks : List ConstructorOf) (n : ℕ) (names : ScopeNames) → EntriesAt base all n (constructors_entries theory within vars t ks (constructor_trees w n ks)) → AreTypedScopes v s names → AreTypedScopes v s (with_constructors n ks names)
       constructors_scoped vars t w [] n names h k = k
       constructors_scoped vars t w (c ∷ ks) n names h k =
           let e = first_entries vars n t w c ks h in
           constructors_scoped vars t w ks (n + (count_forms c.fields + 1)) _ e.1 (scopes_more (IsTypedThing v s) names Symbols c.called.name (stands.Entry n) true (symbol_there (within ++ c.called.name) vars n t (types_at w c.fields) e.0) k)
 
-      pub types_scoped : (w : Where) (ts : List Algebraic) (i n : ℕ) (names : Names) → EntriesAt base all i (type_entries theory within ts) → EntriesAt base all n (group_entries theory within ts (algebraic_trees w i n ts)) → AreTypedScopes v s names → AreTypedScopes v s (with_types i n ts names)
+      pub types_scoped : (w : Where) (ts : List AlgebraicType) (i n : ℕ) (names : ScopeNames) → EntriesAt base all i (type_entries theory within ts) → EntriesAt base all n (group_entries theory within ts (algebraic_trees w i n ts)) → AreTypedScopes v s names → AreTypedScopes v s (with_types i n ts names)
       types_scoped w [] i n names g h k = k
       types_scoped w (a ∷ ts) i n names g h k =
           let e = group_split w a ts i n h in
@@ -170,14 +170,14 @@ module _ (theory within : Word) (named : is_empty theory ≡ false) where
           types_scoped w ts (i + 1) (n + entry_count a.constructors) _ g.1 e.1 (constructors_scoped (length a.vars) (own_type i (length a.vars)) (with_vars w (words a.vars)) a.constructors n _ e.0 one)
 
       -- of types alone
-      abbrev pub TypesOn : Names → Type 0
-      TypesOn names = All (λ (es : List Entry). All (λ (e : Entry). OnTypes v s e.table e.thing) es) names.entries
+      abbrev pub TypesOn : ScopeNames → Type 0
+      TypesOn names = All (λ (es : List ScopeEntry). All (λ (e : ScopeEntry). OnTypes v s e.table e.thing) es) names.entries
 
-      constructors_on : (ks : List ConstructorOf) (n : ℕ) (names : Names) → TypesOn names → TypesOn (with_constructors n ks names)
+      constructors_on : (ks : List ConstructorOf) (n : ℕ) (names : ScopeNames) → TypesOn names → TypesOn (with_constructors n ks names)
       constructors_on [] n names k = k
       constructors_on (c ∷ ks) n names k = constructors_on ks (n + (count_forms c.fields + 1)) _ (scopes_more (OnTypes v s) names Symbols c.called.name (stands.Entry n) true tt k)
 
-      pub types_on : (ts : List Algebraic) (i n : ℕ) (names : Names) → EntriesAt base all i (type_entries theory within ts) → TypesOn names → TypesOn (with_types i n ts names)
+      pub types_on : (ts : List AlgebraicType) (i n : ℕ) (names : ScopeNames) → EntriesAt base all i (type_entries theory within ts) → TypesOn names → TypesOn (with_types i n ts names)
       types_on [] i n names g k = k
       types_on (a ∷ ts) i n names g k =
           types_on ts (i + 1) (n + entry_count a.constructors) _ g.1 (constructors_on a.constructors n _ (scopes_more (OnTypes v s) names Types a.called.name (stands.Entry i) true (type_there (within ++ a.called.name) (length a.vars) i g.0) k))
@@ -185,22 +185,22 @@ module _ (theory within : Word) (named : is_empty theory ≡ false) where
   -- ---- entries of types over a signature that has the types
   module _ (v : Vocabulary) where
     -- fields of types over the signature
-    abbrev pub ConsIn : ℕ → List ConTree → Type 0
+    abbrev pub ConsIn : ℕ → List ConstructorTree → Type 0
     ConsIn n [] = Unit {0}
     ConsIn n (c ∷ cs) = All (IsTypeIn v n) c.fields × ConsIn n cs
 
-    abbrev pub GroupIn : List Algebraic → List AlgebraicTree → Type 0
+    abbrev pub GroupIn : List AlgebraicType → List AlgebraicTree → Type 0
     GroupIn [] ys = Unit {0}
     GroupIn (a ∷ ts) [] = Unit {0}
     GroupIn (a ∷ ts) (y ∷ ys) = (IsTypeSymbol v y.symbol (length a.vars) × ConsIn (length a.vars) y.cons) × GroupIn ts ys
 
-    cons_typed : (vars : ℕ) (t : Tree) (ks : List ConstructorOf) (cs : List ConTree) → IsTypeIn v vars t → ConsIn vars cs → All (IsTypedEntry v) (constructors_entries theory within vars t ks cs)
+    cons_typed : (vars : ℕ) (t : Tree) (ks : List ConstructorOf) (cs : List ConstructorTree) → IsTypeIn v vars t → ConsIn vars cs → All (IsTypedEntry v) (constructors_entries theory within vars t ks cs)
     cons_typed vars t [] cs h k = All-nil (IsTypedEntry v)
     cons_typed vars t (x ∷ ks) [] h k = All-nil (IsTypedEntry v)
     cons_typed vars t (x ∷ ks) (c ∷ cs) h k =
         All-append (IsTypedEntry v) (constructor_entries theory (within ++ x.called.name) vars t c.fields) (constructors_entries theory within vars t ks cs) (constructor_typed v theory (within ++ x.called.name) vars t c.fields h k.0) (cons_typed vars t ks cs h k.1)
 
-    pub group_typed : (ts : List Algebraic) (ys : List AlgebraicTree) → GroupIn ts ys → All (IsTypedEntry v) (group_entries theory within ts ys)
+    pub group_typed : (ts : List AlgebraicType) (ys : List AlgebraicTree) → GroupIn ts ys → All (IsTypedEntry v) (group_entries theory within ts ys)
     group_typed [] ys h = All-nil (IsTypedEntry v)
     group_typed (a ∷ ts) [] h = All-nil (IsTypedEntry v)
     group_typed (a ∷ ts) (y ∷ ys) h =

@@ -12,17 +12,17 @@ use Rattle.unify_types.specs.Assigned.{assign}
 use Rattle.unify_types.specs.Pairs.{SolvesAll}
 use Rattle.syntax_why.specs.Lexeme.{Word}
 use Rattle.tasks.specs.Vocabulary.{Vocabulary}
-use Rattle.elab_names.specs.Abstract.{Pattern, Patterns, wild, bound, constructed, tupled, aliased, no_patterns, more_patterns, Alternatives, no_alternatives, more_alternatives, count_patterns}
+use Rattle.elab_names.specs.Abstract.{Pattern, Patterns, wildcard_pattern, variable_pattern, constructor_pattern, tuple_pattern, alias_pattern, no_patterns, more_patterns, Alternatives, no_alternatives, more_alternatives, count_patterns}
 use Rattle.elab_names.specs.declared.NamingFault.TheVariants.{WrongKind}
 use Rattle.elab_names.specs.Faults.{first_of, fault_if, pattern_names, pattern_fault, all_among, same_names, later_fault, alternatives_fault}
 use Rattle.elab_names.specs.Where.{Where, place_of}
-use Rattle.elab_walk.specs.Patterns.{LocalTree, local, taken, first_or_int, rest_of, entry_of, part_types, Matched, type_in, bind, pattern_piece, patterns_piece, later_pieces, alternatives_pieces, all_notes, pattern_trees, first_variables, place_among, places_among, reordered, later_arms, arms}
+use Rattle.elab_walk.specs.Patterns.{LocalTree, local, taken, first_or_int, rest_of, entry_of, part_types, Matched, local_type, variable_equations, pattern_piece, patterns_piece, later_pieces, alternatives_pieces, all_notes, pattern_trees, first_variables, place_among, places_among, reordered, later_arms, arms}
 use Rattle.elab_walk.specs.Pieces.{names}
 use Rattle.elab_walk.proofs.Walking.{none_both, must_be}
 use Rattle.elab_walk.proofs.Below.{both_all}
 use Rattle.elab_walk.proofs.Branching.{pattern_variables}
 use Rattle.valid_tasks.specs.Signature.{IsWellFormed, AlternativesTuples}
-use Rattle.valid_tasks.specs.Typed.{types_at}
+use Rattle.valid_tasks.specs.Typed.{assigned_types}
 use Rattle.valid_tasks.proofs.Words.{same_word, self_word, is_in, is_in_reverse, AreNew, pattern_new, both_true, among_count}
 use Rattle.valid_tasks.proofs.Over.{IsOver, IsGood}
 use Rattle.valid_tasks.proofs.Forms.{TypedAs}
@@ -46,42 +46,42 @@ names_reverse [] = refl
 names_reverse (x ∷ xs) = rw (reverse-cons x xs, reverse-cons x.name (names xs)) (names_both (reverse xs) (x ∷ []) ∙ ap (λ (r : List Word). r ++ x.name ∷ []) (names_reverse xs))
 
 -- ---- the type of a name among variables
-skip : (x : Word) (front rest : List LocalTree) → is_in x (names front) ≡ false → type_in x (front ++ rest) ≡ type_in x rest
+skip : (x : Word) (front rest : List LocalTree) → is_in x (names front) ≡ false → local_type x (front ++ rest) ≡ local_type x rest
 skip x [] rest h = refl
 skip x (l ∷ ls) rest h = of (bytes_eq l.name x) (place_of x (names ls)) h (λ k. skip x ls rest k)
   where
-    of : (b : Bool) (o : Option ℕ) → is_some (cond b (Some 0) (option_map suc o)) ≡ false → (is_some o ≡ false → type_in x (ls ++ rest) ≡ type_in x rest) → cond b l.type (type_in x (ls ++ rest)) ≡ type_in x rest
+    of : (b : Bool) (o : Option ℕ) → is_some (cond b (Some 0) (option_map suc o)) ≡ false → (is_some o ≡ false → local_type x (ls ++ rest) ≡ local_type x rest) → cond b l.type (local_type x (ls ++ rest)) ≡ local_type x rest
     of true o k f = absurd (cc)
     of false None k f = f refl
     of false (Some n) k f = absurd (cc)
 
-first_here : (x : LocalTree) (rest : List LocalTree) → type_in x.name (x ∷ rest) ≡ x.type
-first_here x rest = ap (λ (b : Bool). cond b x.type (type_in x.name rest)) (self_word x.name)
+first_here : (x : LocalTree) (rest : List LocalTree) → local_type x.name (x ∷ rest) ≡ x.type
+first_here x rest = ap (λ (b : Bool). cond b x.type (local_type x.name rest)) (self_word x.name)
 
-own_types : (front rest : List LocalTree) → AreNew (names front) (names rest) → AllByRecursion (λ (x : LocalTree). type_in x.name (front ++ rest) ≡ x.type) rest
+own_types : (front rest : List LocalTree) → AreNew (names front) (names rest) → AllByRecursion (λ (x : LocalTree). local_type x.name (front ++ rest) ≡ x.type) rest
 own_types front [] h = tt
 own_types front (x ∷ rest) h =
     let k : AreNew (names (front ++ x ∷ [])) (names rest) = rw (names_both front (x ∷ [])) h.1 in
-    (skip x.name front (x ∷ rest) h.0 ∙ first_here x rest, subst (λ (z : List LocalTree). AllByRecursion (λ (y : LocalTree). type_in y.name z ≡ y.type) rest) (append_assoc front (x ∷ []) rest) (own_types (front ++ x ∷ []) rest k))
+    (skip x.name front (x ∷ rest) h.0 ∙ first_here x rest, subst (λ (z : List LocalTree). AllByRecursion (λ (y : LocalTree). local_type y.name z ≡ y.type) rest) (append_assoc front (x ∷ []) rest) (own_types (front ++ x ∷ []) rest k))
 
 -- ---- variables at their places
 module _ (r : ℕ) (f : ℕ → Tree) (first : List LocalTree) where
   -- a variable's type is that of its name among those of the first alternative
   abbrev pub HasFirst : LocalTree → Type 0
-  HasFirst l = assign r f (type_in l.name first) ≡ assign r f l.type
+  HasFirst l = assign r f (local_type l.name first) ≡ assign r f l.type
 
-  found_place : (x : Word) (others : List LocalTree) → AllByRecursion HasFirst others → is_in x (names others) ≡ true → slice_get (types_at r f others) (place_among x others) ≡ Some (assign r f (type_in x first))
+  found_place : (x : Word) (others : List LocalTree) → AllByRecursion HasFirst others → is_in x (names others) ≡ true → slice_get (assigned_types r f others) (place_among x others) ≡ Some (assign r f (local_type x first))
   found_place x [] h k = absurd (cc)
   found_place x (l ∷ ls) h k = of (bytes_eq l.name x) refl (place_of x (names ls)) k (λ z. found_place x ls h.1 z)
     where
       of : (b : Bool) → bytes_eq l.name x ≡ b → (o : Option ℕ) → is_some (cond b (Some 0) (option_map suc o)) ≡ true
-          → (is_some o ≡ true → slice_get (types_at r f ls) (place_among x ls) ≡ Some (assign r f (type_in x first))) → slice_get (types_at r f (l ∷ ls)) (cond b 0 (suc (place_among x ls))) ≡ Some (assign r f (type_in x first))
-      of true q o z g = ap (λ (t : Tree). Some t) (sym h.0 ∙ ap (λ (y : Word). assign r f (type_in y first)) (same_word l.name x q))
+          → (is_some o ≡ true → slice_get (assigned_types r f ls) (place_among x ls) ≡ Some (assign r f (local_type x first))) → slice_get (assigned_types r f (l ∷ ls)) (cond b 0 (suc (place_among x ls))) ≡ Some (assign r f (local_type x first))
+      of true q o z g = ap (λ (t : Tree). Some t) (sym h.0 ∙ ap (λ (y : Word). assign r f (local_type y first)) (same_word l.name x q))
       of false q None z g = absurd (cc)
       of false q (Some n) z g = g refl
 
-  pub same_place : (vs others : List LocalTree) → AllByRecursion (λ (x : LocalTree). type_in x.name first ≡ x.type) vs → AllByRecursion (λ (x : LocalTree). is_in x.name (names others) ≡ true) vs → AllByRecursion HasFirst others
-      → (i : ℕ) (a : Tree) → slice_get (types_at r f vs) i ≡ Some a → slice_get (types_at r f others) (get_or (places_among vs others) i 0) ≡ Some a
+  pub same_place : (vs others : List LocalTree) → AllByRecursion (λ (x : LocalTree). local_type x.name first ≡ x.type) vs → AllByRecursion (λ (x : LocalTree). is_in x.name (names others) ≡ true) vs → AllByRecursion HasFirst others
+      → (i : ℕ) (a : Tree) → slice_get (assigned_types r f vs) i ≡ Some a → slice_get (assigned_types r f others) (get_or (places_among vs others) i 0) ≡ Some a
   same_place [] others h k g i a q = absurd (cc)
   same_place (x ∷ vs) others h k g zero a q = found_place x.name others g k.0 ∙ ap (λ (t : Tree). Some (assign r f t)) h.0 ∙ q
   same_place (x ∷ vs) others h k g (suc i) a q = same_place vs others h.1 k.1 g i a q
@@ -98,13 +98,13 @@ each_among (x ∷ vs) ys h = let p = both_true (is_in x.name ys) (all_among (nam
 module _ (w : Where) (r : ℕ) (f : ℕ → Tree) (first : List LocalTree) where
   mutual
     pub pattern_binds : (p : Pattern) (n : ℕ) (t : Tree) → SolvesAll r f (pattern_piece w (Some first) n t p).notes.equations → AllByRecursion (HasFirst r f first) (pattern_piece w (Some first) n t p).variables
-    pattern_binds (wild i) n t s = tt
-    pattern_binds (bound i x) n t s = (s.0, tt)
-    pattern_binds (constructed i qs x ps) n t s = let c = entry_of w.symbols (w.names qs x) in patterns_bind ps (n + c.symbol.vars) (part_types n c) s.1
-    pattern_binds (tupled i ps) n t s = let c = entry_of w.symbols (w.tuples (count_patterns ps)) in patterns_bind ps (n + c.symbol.vars) (part_types n c) s.1
-    pattern_binds (aliased p i x) n t s =
+    pattern_binds (wildcard_pattern i) n t s = tt
+    pattern_binds (variable_pattern i x) n t s = (s.0, tt)
+    pattern_binds (constructor_pattern i qs x ps) n t s = let c = entry_of w.symbols (w.names qs x) in patterns_bind ps (n + c.symbol.vars) (part_types n c) s.1
+    pattern_binds (tuple_pattern i ps) n t s = let c = entry_of w.symbols (w.tuples (count_patterns ps)) in patterns_bind ps (n + c.symbol.vars) (part_types n c) s.1
+    pattern_binds (alias_pattern p i x) n t s =
         let inner = pattern_piece w (Some first) n t p in
-        let b = bind (Some first) x t in
+        let b = variable_equations (Some first) x t in
         both_all (HasFirst r f first) inner.variables (local x t ∷ []) (pattern_binds p n t (first_solved r f inner.notes.equations b s)) ((rest_solved r f inner.notes.equations b s).0, tt)
 
     patterns_bind : (ps : Patterns) (n : ℕ) (ts : List Tree) → SolvesAll r f (patterns_piece w (Some first) n ts ps).notes.equations → AllByRecursion (HasFirst r f first) (patterns_piece w (Some first) n ts ps).variables
@@ -154,20 +154,20 @@ module _ (base : Vocabulary) (w : Where) (good : IsWellFormed base w) (rigid : �
 
   -- the body under the variables of a later alternative
   reordered_typed : (f : ℕ → Tree) (first : List LocalTree) (ls : List LocalTree) (s : Tree) (t : Option Tree) (m : Matched) (body : Tree) → ((j : ℕ) → IsOver (sig base w) true (f j)) → AreNew [] (names first) → IsLater first s m → SolvesAll rigid f m.notes.equations
-      → TypedAs (sig base w) (inner_types rigid f first ++ types_at rigid f ls) t (assign rigid f body) → IndicesFit (assign rigid f (reordered first m.variables body))
-      → TypedAs (sig base w) (inner_types rigid f m.variables ++ types_at rigid f ls) t (assign rigid f (reordered first m.variables body))
+      → TypedAs (sig base w) (inner_types rigid f first ++ assigned_types rigid f ls) t (assign rigid f body) → IndicesFit (assign rigid f (reordered first m.variables body))
+      → TypedAs (sig base w) (inner_types rigid f m.variables ++ assigned_types rigid f ls) t (assign rigid f (reordered first m.variables body))
   reordered_typed f first ls s t m body o new it solves x i =
       let r = rigid in
       let places = places_among (reverse first) (reverse m.variables) in
       let q : assign r f (reordered first m.variables body) ≡ order.at places 0 (assign r f body) = order_assigned (sig base w) r f o places 0 body in
       let xs = inner_types r f first in
       let ys = inner_types r f m.variables in
-      let zs = types_at r f ls in
+      let zs = assigned_types r f ls in
       let a : length places ≡ length xs = count_places (reverse first) (reverse m.variables) ∙ sym (length-map (reverse first) (λ (l : LocalTree). assign r f l.type)) in
       let le = among_count [] (names first) (names m.variables) new it.among in
       let ge = among_count [] (names m.variables) (names first) it.new it.back in
       let b : length ys ≡ length xs = omega (arith, le, ge, count_inner f first, count_inner f m.variables, count_names first, count_names m.variables) in
-      let own = reversed_all (λ (l : LocalTree). type_in l.name first ≡ l.type) first (own_types [] first new) in
+      let own = reversed_all (λ (l : LocalTree). local_type l.name first ≡ l.type) first (own_types [] first new) in
       let e : names (reverse m.variables) ≡ reverse (names m.variables) = names_reverse m.variables in
       let there = reversed_all (λ (l : LocalTree). is_in l.name (names (reverse m.variables)) ≡ true) first (inside e first (each_among first (names m.variables) it.among)) in
       let bound = reversed_all (HasFirst r f first) m.variables (it.binds f solves) in
@@ -182,15 +182,15 @@ module _ (base : Vocabulary) (w : Where) (good : IsWellFormed base w) (rigid : �
       inside e (v ∷ vs) h = (ap (is_in v.name) e ∙ is_in_reverse v.name (names m.variables) ∙ h.0, inside e vs h.1)
 
   later_typed : (f : ℕ → Tree) (first : List LocalTree) (ls : List LocalTree) (s : Tree) (t : Option Tree) (body : Tree) (ms : List Matched) → ((j : ℕ) → IsOver (sig base w) true (f j)) → AreNew [] (names first) → AreLater first s ms
-      → SolvesAll rigid f (all_notes ms).equations → TypedAs (sig base w) (inner_types rigid f first ++ types_at rigid f ls) t (assign rigid f body)
-      → AllByRecursion IndicesFit (map (assign rigid f) (later_arms first body ms)) → AreArms (sig base w) (types_at rigid f ls) (assign rigid f s) t (map (assign rigid f) (later_arms first body ms))
+      → SolvesAll rigid f (all_notes ms).equations → TypedAs (sig base w) (inner_types rigid f first ++ assigned_types rigid f ls) t (assign rigid f body)
+      → AllByRecursion IndicesFit (map (assign rigid f) (later_arms first body ms)) → AreArms (sig base w) (assigned_types rigid f ls) (assign rigid f s) t (map (assign rigid f) (later_arms first body ms))
   later_typed f first ls s t body [] o new its solves x i = tt
   later_typed f first ls s t body (m ∷ ms) o new its solves x i =
       let r = rigid in
       let mine = first_solved r f m.notes.equations (all_notes ms).equations solves in
-      let p = its.0.matched.typed f o mine (types_at r f ls) in
+      let p = its.0.matched.typed f o mine (assigned_types r f ls) in
       let b = reordered_typed f first ls s t m body o new its.0 mine x i.0.1 in (
-        arm_typed (sig base w) (types_at r f ls) (assign r f s) t (inner_types r f m.variables) (assign r f m.tree) (assign r f (reordered first m.variables body)) p b,
+        arm_typed (sig base w) (assigned_types r f ls) (assign r f s) t (inner_types r f m.variables) (assign r f m.tree) (assign r f (reordered first m.variables body)) p b,
         later_typed f first ls s t body ms o new its.1 (rest_solved r f m.notes.equations (all_notes ms).equations solves) x i.1,
       )
 
@@ -211,8 +211,8 @@ module _ (base : Vocabulary) (w : Where) (good : IsWellFormed base w) (rigid : �
     pub patterns : (f : ℕ → Tree) → ((j : ℕ) → IsOver (sig base w) true (f j)) → SolvesAll rigid f (all_notes ms).equations → AllByRecursion (IsPatternAt base w rigid (assign rigid f s)) (map (assign rigid f) (pattern_trees ms))
     pub variables : LocalsOver (sig base w) (first_variables ms)
     pub typed : (f : ℕ → Tree) → ((j : ℕ) → IsOver (sig base w) true (f j)) → SolvesAll rigid f (all_notes ms).equations → (ls : List LocalTree) (t : Option Tree) (body : Tree)
-        → (IndicesFit (assign rigid f body) → TypedAs (sig base w) (types_at rigid f (reverse (first_variables ms) ++ ls)) t (assign rigid f body))
-        → AllByRecursion IndicesFit (map (assign rigid f) (arms body ms)) → AreArms (sig base w) (types_at rigid f ls) (assign rigid f s) t (map (assign rigid f) (arms body ms))
+        → (IndicesFit (assign rigid f body) → TypedAs (sig base w) (assigned_types rigid f (reverse (first_variables ms) ++ ls)) t (assign rigid f body))
+        → AllByRecursion IndicesFit (map (assign rigid f) (arms body ms)) → AreArms (sig base w) (assigned_types rigid f ls) (assign rigid f s) t (map (assign rigid f) (arms body ms))
 
   pub alternatives_sound : (ps : Alternatives) (n : ℕ) (s : Tree) → IsOver (sig base w) true s → AlternativesTuples base w ps → alternatives_fault w ps ≡ None → IsBranch s (alternatives_pieces w n s ps)
   alternatives_sound no_alternatives n s o u q = record { notes = none_noted base w rigid; patterns = λ f g z. tt; variables = tt; typed = λ f g z ls t body x i. tt }
@@ -232,10 +232,10 @@ module _ (base : Vocabulary) (w : Where) (good : IsWellFormed base w) (rigid : �
         variables = x.variables;
         typed = λ f g z ls t body b j.
             let r = rigid in
-            let m : types_at r f (reverse one.variables ++ ls) ≡ inner_types r f one.variables ++ types_at r f ls = map-append (λ (l : LocalTree). assign r f l.type) (reverse one.variables) ls in
-            let c : TypedAs (sig base w) (inner_types r f one.variables ++ types_at r f ls) t (assign r f body) = rw (sym m) (b j.0.1) in (
-              arm_typed (sig base w) (types_at r f ls) (assign r f s) t (inner_types r f one.variables) (assign r f one.tree) (assign r f body)
-                  (x.typed f g (first_solved r f one.notes.equations (all_notes ms).equations z) (types_at r f ls)) c,
+            let m : assigned_types r f (reverse one.variables ++ ls) ≡ inner_types r f one.variables ++ assigned_types r f ls = map-append (λ (l : LocalTree). assign r f l.type) (reverse one.variables) ls in
+            let c : TypedAs (sig base w) (inner_types r f one.variables ++ assigned_types r f ls) t (assign r f body) = rw (sym m) (b j.0.1) in (
+              arm_typed (sig base w) (assigned_types r f ls) (assign r f s) t (inner_types r f one.variables) (assign r f one.tree) (assign r f body)
+                  (x.typed f g (first_solved r f one.notes.equations (all_notes ms).equations z) (assigned_types r f ls)) c,
               later_typed f one.variables ls s t body ms g new y (rest_solved r f one.notes.equations (all_notes ms).equations z) c j.1,
             );
       }

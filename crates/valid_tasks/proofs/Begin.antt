@@ -7,7 +7,7 @@ use Rattle.tasks.specs.declared.signature.SymbolKind.TheVariants.{Constructor}
 use Rattle.tasks.specs.Task.{SymbolTree, int_symbol}
 use Rattle.tasks.specs.Vocabulary.{Vocabulary, is_empty}
 use Rattle.tasks.specs.Valid.{IsTypeIn}
-use Rattle.names_space.specs.Names.{Entry, start}
+use Rattle.names_space.specs.Names.{ScopeEntry, empty_names}
 use Rattle.elab_parts.specs.Outcomes.{Setting}
 use Rattle.elab_walk.specs.Scoped.{IsScopedEntry}
 use Rattle.std.specs.Str.{bytes_eq}
@@ -43,12 +43,12 @@ module _ (base : Vocabulary) (may : IsTrue (base.usable 0)) where
     tuples = λ n k e q t. absurd (int_alone (λ (i : SymbolTree). is_tuple n i ≡ true → ⊥) (λ z. cc) k e q t);
   }
 
-  pub begins : (c : Setting) → is_empty c.theory ≡ false → bytes_eq c.theory builtin ≡ false → c.symbols ≡ int_symbol ∷ [] → c.scope ≡ start → IsTypedSetting base c
+  pub begins : (c : Setting) → is_empty c.theory ≡ false → bytes_eq c.theory builtin ≡ false → c.symbols ≡ int_symbol ∷ [] → c.scope ≡ empty_names → IsTypedSetting base c
   begins c q z p r = record {
     theory = q;
     source = z;
     signature = rw p int_typed;
-    scopes = rw (p, r) (All-cons (λ (es : List Entry). All (λ (e : Entry). IsTypedThing v c.trees e.table e.thing) es) [] [] (All-nil (λ (e : Entry). IsTypedThing v c.trees e.table e.thing)) (All-nil (λ (es : List Entry). All (λ (e : Entry). IsTypedThing v c.trees e.table e.thing) es)));
+    scopes = rw (p, r) (All-cons (λ (es : List ScopeEntry). All (λ (e : ScopeEntry). IsTypedThing v c.trees e.table e.thing) es) [] [] (All-nil (λ (e : ScopeEntry). IsTypedThing v c.trees e.table e.thing)) (All-nil (λ (es : List ScopeEntry). All (λ (e : ScopeEntry). IsTypedThing v c.trees e.table e.thing) es)));
   }
 
 -- over a vocabulary that may name the same entries

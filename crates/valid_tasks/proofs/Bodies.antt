@@ -14,25 +14,25 @@ use Rattle.tasks.proofs.Closing.{typed_sorted}
 use Rattle.unify_types.specs.Assigned.{Variable, assign}
 use Rattle.unify_types.specs.Pairs.{IsKind, SolvesAll}
 use Rattle.unify_types.proofs.Assigning.{assign-rigid, assign-unknown}
-use Rattle.names_space.specs.Names.{Names}
+use Rattle.names_space.specs.Names.{ScopeNames}
 use Rattle.syntax_why.specs.Lexeme.{Word}
 use Rattle.elab_names.specs.Abstract.{Expression}
 use Rattle.elab_names.specs.Faults.{fault}
 use Rattle.elab_names.specs.Where.{Where}
-use Rattle.elab_variables.specs.Seen.{Seen, has_width, type_seen}
+use Rattle.elab_variables.specs.Seen.{SeenTree, has_width, type_seen}
 use Rattle.elab_walk.specs.Patterns.{LocalTree}
-use Rattle.elab_walk.specs.Pieces.{piece, past, names}
+use Rattle.elab_walk.specs.Pieces.{piece, unknown_after, names}
 use Rattle.elab_walk.specs.Scoped.{IsScoped}
 use Rattle.elab_walk.proofs.Below.{below_more}
 use Rattle.elab_parts.specs.Elaborated.{matches_assigned}
 use Rattle.elab_parts.specs.Entries.{tuple_in}
-use Rattle.elab_parts.specs.Declarations.{Parameter, Member, params_seen}
+use Rattle.elab_parts.specs.Declarations.{Parameter, GroupMember, params_seen}
 use Rattle.elab_parts.specs.Outcomes.{over}
-use Rattle.elab_members.specs.Members.{SignatureTree, words_of, body_seen, members_seen, body_fault}
+use Rattle.elab_members.specs.Members.{SignatureTree, words_of_parameters, body_seen, members_seen, body_fault}
 use Rattle.elab_members.specs.Sources.{AreResolved}
 use Rattle.elab_groups.specs.Bodies.{AreDefined}
 use Rattle.elab_groups.specs.Groups.{typed_locals, body_piece, member_piece, member_pieces, most_variables, pieces_notes, pieces_trees, BodiesSolved}
-use Rattle.valid_tasks.specs.Typed.{IsTypedIn, IsPatternOf, ArePatterns, types_of, types_at}
+use Rattle.valid_tasks.specs.Typed.{IsTypedIn, IsPatternOf, ArePatterns, local_types, assigned_types}
 use Rattle.valid_tasks.specs.Signature.{with_entries, IsWellFormed, HasTuple}
 use Rattle.valid_tasks.specs.Scopes.{IsTypedSignature, AreTypedScopes}
 use Rattle.valid_tasks.proofs.Over.{IsOver, type_over, over_good, over_assigned}
@@ -50,25 +50,25 @@ use Rattle.valid_tasks.proofs.Settings.{below_of, of_below, over_scoped}
 use Rattle.valid_tasks.proofs.Owned.{leaf_in, VariablesIn, LocalsIn, EquationsIn, Takes, PieceIn, below_in, reversed_in, owned}
 
 -- ---- what is seen stays
-pub params_grow : (ps : List Parameter) (s : Seen) → IsWithin s (params_seen s ps)
+pub params_grow : (ps : List Parameter) (s : SeenTree) → IsWithin s (params_seen s ps)
 params_grow [] s = λ n z. z
 params_grow (p ∷ ps) s = λ n z. params_grow ps _ n (form_grows p.of_type s n z)
 
-pub body_grows : (b : Option Expression) (s : Seen) → IsWithin s (body_seen s b)
+pub body_grows : (b : Option Expression) (s : SeenTree) → IsWithin s (body_seen s b)
 body_grows None s = λ n z. z
 body_grows (Some e) s = grows e s
 
-pub members_grow : (ms : List Member) (s : Seen) → IsWithin s (members_seen s ms)
+pub members_grow : (ms : List GroupMember) (s : SeenTree) → IsWithin s (members_seen s ms)
 members_grow [] s = λ n z. z
 members_grow (m ∷ ms) s = λ n z.
     members_grow ms _ n (body_grows m.body (type_seen (params_seen s m.params) m.result) n (type_grows m.result (params_seen s m.params) n (params_grow m.params s n z)))
 
 -- each body is among what is seen
-abbrev pub BodiesSeen : Seen → List Member → Type 0
+abbrev pub BodiesSeen : SeenTree → List GroupMember → Type 0
 BodiesSeen all [] = Unit {0}
-BodiesSeen all (m ∷ ms) = ((u : Seen) × IsWithin (body_seen u m.body) all) × BodiesSeen all ms
+BodiesSeen all (m ∷ ms) = ((u : SeenTree) × IsWithin (body_seen u m.body) all) × BodiesSeen all ms
 
-pub bodies_seen : (all : Seen) (ms : List Member) (u : Seen) → IsWithin (members_seen u ms) all → BodiesSeen all ms
+pub bodies_seen : (all : SeenTree) (ms : List GroupMember) (u : SeenTree) → IsWithin (members_seen u ms) all → BodiesSeen all ms
 bodies_seen all [] u g = tt
 bodies_seen all (m ∷ ms) u g =
     let one = type_seen (params_seen u m.params) m.result in
@@ -81,19 +81,19 @@ locals_names [] ts q = refl
 locals_names (x ∷ xs) [] q = absurd (cc)
 locals_names (x ∷ xs) (t ∷ ts) q = ap (λ (r : List Word). x ∷ r) (locals_names xs ts (omega (arith, q)))
 
-locals_types : (xs : List Word) (ts : List Tree) → length ts ≡ length xs → types_of (typed_locals xs ts) ≡ ts
+locals_types : (xs : List Word) (ts : List Tree) → length ts ≡ length xs → local_types (typed_locals xs ts) ≡ ts
 locals_types [] [] q = refl
 locals_types [] (t ∷ ts) q = absurd (cc)
 locals_types (x ∷ xs) [] q = absurd (cc)
 locals_types (x ∷ xs) (t ∷ ts) q = ap (λ (r : List Tree). t ∷ r) (locals_types xs ts (omega (arith, q)))
 
-types_both : (xs ys : List LocalTree) → types_of (xs ++ ys) ≡ types_of xs ++ types_of ys
+types_both : (xs ys : List LocalTree) → local_types (xs ++ ys) ≡ local_types xs ++ local_types ys
 types_both [] ys = refl
 types_both (x ∷ xs) ys = ap (λ (r : List Tree). x.type ∷ r) (types_both xs ys)
 
-types_reverse : (xs : List LocalTree) → types_of (reverse xs) ≡ reverse (types_of xs)
+types_reverse : (xs : List LocalTree) → local_types (reverse xs) ≡ reverse (local_types xs)
 types_reverse [] = refl
-types_reverse (x ∷ xs) = rw (reverse-cons x xs, reverse-cons x.type (types_of xs)) (types_both (reverse xs) (x ∷ []) ∙ ap (λ (r : List Tree). r ++ x.type ∷ []) (types_reverse xs))
+types_reverse (x ∷ xs) = rw (reverse-cons x xs, reverse-cons x.type (local_types xs)) (types_both (reverse xs) (x ∷ []) ∙ ap (λ (r : List Tree). r ++ x.type ∷ []) (types_reverse xs))
 
 params_over : (v : Vocabulary) (n : ℕ) (xs : List Word) (ts : List Tree) → All (IsTypeIn v n) ts → LocalsOver v (typed_locals xs ts)
 params_over v n [] ts a = tt
@@ -104,30 +104,30 @@ result_over : (v : Vocabulary) (n : ℕ) (r : Option Tree) → IfSome r (IsTypeI
 result_over v n None x = tt
 result_over v n (Some t) x = type_over v n t x
 
-locals_kept : (r : ℕ) (f : ℕ → Tree) (v : Vocabulary) (xs : List Word) (ts : List Tree) → All (IsTypeIn v r) ts → types_at r f (typed_locals xs ts) ≡ types_of (typed_locals xs ts)
+locals_kept : (r : ℕ) (f : ℕ → Tree) (v : Vocabulary) (xs : List Word) (ts : List Tree) → All (IsTypeIn v r) ts → assigned_types r f (typed_locals xs ts) ≡ local_types (typed_locals xs ts)
 locals_kept r f v [] ts a = refl
 locals_kept r f v (x ∷ xs) [] a = refl
 locals_kept r f v (x ∷ xs) (t ∷ ts) a = let y : IsTypeIn v r t = a 0 t (omega arith) in cc (own_same r f t y.variables, locals_kept r f v xs ts (λ k d l. a (suc k) d (omega arith)))
 
-at_both : (r : ℕ) (f : ℕ → Tree) (xs ys : List LocalTree) → types_at r f (xs ++ ys) ≡ types_at r f xs ++ types_at r f ys
+at_both : (r : ℕ) (f : ℕ → Tree) (xs ys : List LocalTree) → assigned_types r f (xs ++ ys) ≡ assigned_types r f xs ++ assigned_types r f ys
 at_both r f [] ys = refl
 at_both r f (x ∷ xs) ys = ap (λ (l : List Tree). assign r f x.type ∷ l) (at_both r f xs ys)
 
-at_reverse : (r : ℕ) (f : ℕ → Tree) (xs : List LocalTree) → types_at r f (reverse xs) ≡ reverse (types_at r f xs)
+at_reverse : (r : ℕ) (f : ℕ → Tree) (xs : List LocalTree) → assigned_types r f (reverse xs) ≡ reverse (assigned_types r f xs)
 at_reverse r f [] = refl
-at_reverse r f (x ∷ xs) = rw (reverse-cons x xs, reverse-cons (assign r f x.type) (types_at r f xs)) (at_both r f (reverse xs) (x ∷ []) ∙ ap (λ (l : List Tree). l ++ assign r f x.type ∷ []) (at_reverse r f xs))
+at_reverse r f (x ∷ xs) = rw (reverse-cons x xs, reverse-cons (assign r f x.type) (assigned_types r f xs)) (at_both r f (reverse xs) (x ∷ []) ∙ ap (λ (l : List Tree). l ++ assign r f x.type ∷ []) (at_reverse r f xs))
 
 result_kept : (r : ℕ) (f : ℕ → Tree) (v : Vocabulary) (t : Option Tree) → IfSome t (IsTypeIn v r) → option_map (assign r f) t ≡ t
 result_kept r f v None x = refl
 result_kept r f v (Some t) x = ap (λ (z : Tree). Some z) (own_same r f t x.variables)
 
 -- ---- entries of members with their signatures
-pub record IsSigned (v : Vocabulary) (m : Member) (g : SignatureTree) : Type 0 where
+pub record IsSigned (v : Vocabulary) (m : GroupMember) (g : SignatureTree) : Type 0 where
   pub args : All (IsTypeIn v (length g.vars)) g.args
   pub result : IfSome g.result (IsTypeIn v (length g.vars))
   pub kind : is_none m.result ≡ is_none g.result
 
-abbrev pub AreSigned : Vocabulary → List Member → List SignatureTree → Type 0
+abbrev pub AreSigned : Vocabulary → List GroupMember → List SignatureTree → Type 0
 AreSigned v (m ∷ ms) (g ∷ gs) = IsSigned v m g × AreSigned v ms gs
 AreSigned v _ _ = Unit {0}
 
@@ -135,7 +135,7 @@ some_more : (v w : Vocabulary) (n : ℕ) (r : Option Tree) → ((t : Tree) → I
 some_more v w n None f x = tt
 some_more v w n (Some t) f x = f t x
 
-pub signed_more : (v w : Vocabulary) → ((n : ℕ) (t : Tree) → IsTypeIn v n t → IsTypeIn w n t) → (ms : List Member) (gs : List SignatureTree) → AreSigned v ms gs → AreSigned w ms gs
+pub signed_more : (v w : Vocabulary) → ((n : ℕ) (t : Tree) → IsTypeIn v n t → IsTypeIn w n t) → (ms : List GroupMember) (gs : List SignatureTree) → AreSigned v ms gs → AreSigned w ms gs
 signed_more v w f [] gs h = tt
 signed_more v w f (m ∷ ms) [] h = tt
 signed_more v w f (m ∷ ms) (g ∷ gs) h =
@@ -220,7 +220,7 @@ test_le : (a b : ℕ) → b ≤ a → nat_lt a b ≡ false
 test_le a b l = grind arith
 
 -- ---- where the entries and names of a group are there
-module _ (base : Vocabulary) (s : List Tree) (whole : List SymbolTree) (typed : IsTypedSignature base whole) (names' : Names) (scopes : AreTypedScopes (with_entries base whole) s names') (all_seen : Seen)
+module _ (base : Vocabulary) (s : List Tree) (whole : List SymbolTree) (typed : IsTypedSignature base whole) (names' : ScopeNames) (scopes : AreTypedScopes (with_entries base whole) s names') (all_seen : SeenTree)
     (tuples : (n : ℕ) → has_width n all_seen.widths ≡ true → is_some (tuple_in whole n) ≡ true) where
   abbrev pub inner : List Word → Where
   inner vars = over s whole names' vars
@@ -238,42 +238,42 @@ module _ (base : Vocabulary) (s : List Tree) (whole : List SymbolTree) (typed : 
   widths vars n z = tuple_of base whole typed n (tuples n z)
 
   module _ (rigid : ℕ) where
-    abbrev params : Member → SignatureTree → List LocalTree
-    params m g = reverse (typed_locals (words_of m.params) g.args)
+    abbrev params : GroupMember → SignatureTree → List LocalTree
+    params m g = reverse (typed_locals (words_of_parameters m.params) g.args)
 
-    abbrev BodySound : Member → SignatureTree → ℕ → Option Expression → Type 0
+    abbrev BodySound : GroupMember → SignatureTree → ℕ → Option Expression → Type 0
     BodySound m g n None = Unit {0}
     BodySound m g n (Some e) = IsSound base (inner g.vars) (good g.vars) rigid (params m g) g.result (piece (inner g.vars) (params m g) n g.result e)
 
-    body_sound : (m : Member) (g : SignatureTree) (n : ℕ) (u : Seen) (b : Option Expression) → IsSigned v m g → length g.args ≡ length (words_of m.params) → body_fault (inner []) m g.vars b ≡ None → IsWithin (body_seen u b) all_seen → BodySound m g n b
+    body_sound : (m : GroupMember) (g : SignatureTree) (n : ℕ) (u : SeenTree) (b : Option Expression) → IsSigned v m g → length g.args ≡ length (words_of_parameters m.params) → body_fault (inner []) m g.vars b ≡ None → IsWithin (body_seen u b) all_seen → BodySound m g n b
     body_sound m g n u None s l r i = tt
     body_sound m g n u (Some e) s l r i =
-        let xs = words_of m.params in
+        let xs = words_of_parameters m.params in
         let same : names (params m g) ≡ reverse xs = names_reverse (typed_locals xs g.args) ∙ ap reverse (locals_names xs g.args l) in
         let right : fault (inner g.vars) false (names (params m g)) (is_none g.result) e ≡ None = rw (same, sym s.kind) r in
         sound base (inner g.vars) (good g.vars) rigid e (params m g) n g.result (reversed_over base (inner g.vars) (good g.vars) rigid (typed_locals xs g.args) (params_over v (length g.vars) xs g.args s.args)) (result_over v (length g.vars) g.result s.result)
         (tuples_seen base (inner g.vars) e u (λ k z. widths g.vars k (i k z))) right
 
     -- its equations are over the signature, and the patterns of each match are of one type
-    body_noted : (m : Member) (g : SignatureTree) (n : ℕ) (b : Option Expression) → BodySound m g n b → AreNoted base (inner []) rigid (body_piece (inner g.vars) (params m g) n g.result b).notes
+    body_noted : (m : GroupMember) (g : SignatureTree) (n : ℕ) (b : Option Expression) → BodySound m g n b → AreNoted base (inner []) rigid (body_piece (inner g.vars) (params m g) n g.result b).notes
     body_noted m g n None x = none_noted base (inner []) rigid
     body_noted m g n (Some e) x = record { equations = x.notes.equations; matches = x.notes.matches }
 
-    abbrev PiecesSound : List Member → List SignatureTree → ℕ → Type 0
-    PiecesSound (m ∷ ks) (g ∷ hs) n = BodySound m g n m.body × PiecesSound ks hs (past n (member_piece (inner []) n m g))
+    abbrev PiecesSound : List GroupMember → List SignatureTree → ℕ → Type 0
+    PiecesSound (m ∷ ks) (g ∷ hs) n = BodySound m g n m.body × PiecesSound ks hs (unknown_after n (member_piece (inner []) n m g))
     PiecesSound _ _ n = Unit {0}
 
-    pieces_sound : (ks : List Member) (hs : List SignatureTree) (n : ℕ) → AreSigned v ks hs → AreResolved (inner []) ks hs → BodiesSeen all_seen ks → PiecesSound ks hs n
+    pieces_sound : (ks : List GroupMember) (hs : List SignatureTree) (n : ℕ) → AreSigned v ks hs → AreResolved (inner []) ks hs → BodiesSeen all_seen ks → PiecesSound ks hs n
     pieces_sound [] hs n s r i = tt
     pieces_sound (m ∷ ks) [] n s r i = tt
-    pieces_sound (m ∷ ks) (g ∷ hs) n s r i = (body_sound m g n i.0.0 m.body s.0 r.0.count r.0.right i.0.1, pieces_sound ks hs (past n (member_piece (inner []) n m g)) s.1 r.1 i.1)
+    pieces_sound (m ∷ ks) (g ∷ hs) n s r i = (body_sound m g n i.0.0 m.body s.0 r.0.count r.0.right i.0.1, pieces_sound ks hs (unknown_after n (member_piece (inner []) n m g)) s.1 r.1 i.1)
 
-    pieces_noted : (ks : List Member) (hs : List SignatureTree) (n : ℕ) → PiecesSound ks hs n → AreNoted base (inner []) rigid (pieces_notes (member_pieces (inner []) n ks hs))
+    pieces_noted : (ks : List GroupMember) (hs : List SignatureTree) (n : ℕ) → PiecesSound ks hs n → AreNoted base (inner []) rigid (pieces_notes (member_pieces (inner []) n ks hs))
     pieces_noted [] hs n x = none_noted base (inner []) rigid
     pieces_noted (m ∷ ks) [] n x = none_noted base (inner []) rigid
     pieces_noted (m ∷ ks) (g ∷ hs) n x =
         let p = member_piece (inner []) n m g in
-        both_noted base (inner []) rigid p.notes (pieces_notes (member_pieces (inner []) (past n p) ks hs)) (body_noted m g n m.body x.0) (pieces_noted ks hs (past n p) x.1)
+        both_noted base (inner []) rigid p.notes (pieces_notes (member_pieces (inner []) (unknown_after n p) ks hs)) (body_noted m g n m.body x.0) (pieces_noted ks hs (unknown_after n p) x.1)
 
     -- ---- type variables
     module _ (P : ℕ → Type 0) where
@@ -288,34 +288,34 @@ module _ (base : Vocabulary) (s : List Tree) (whole : List SymbolTree) (typed : 
       result_owned n None x o = tt
       result_owned n (Some t) x o = below_in P n t o (below_of n t x.variables)
 
-      body_owned : (m : Member) (g : SignatureTree) (n : ℕ) (b : Option Expression) → IsSigned v m g → body_fault (inner []) m g.vars b ≡ None → ((j : ℕ) → j < length g.vars → P j)
-          → Takes P n (past n (body_piece (inner g.vars) (params m g) n g.result b)) → PieceIn P (body_piece (inner g.vars) (params m g) n g.result b)
+      body_owned : (m : GroupMember) (g : SignatureTree) (n : ℕ) (b : Option Expression) → IsSigned v m g → body_fault (inner []) m g.vars b ≡ None → ((j : ℕ) → j < length g.vars → P j)
+          → Takes P n (unknown_after n (body_piece (inner g.vars) (params m g) n g.result b)) → PieceIn P (body_piece (inner g.vars) (params m g) n g.result b)
       body_owned m g n None s q o f = record { tree = tt; equations = tt }
       body_owned m g n (Some e) s q o f =
-          let xs = words_of m.params in
+          let xs = words_of_parameters m.params in
           owned P (inner g.vars) (scoped g.vars) o e (params m g) n g.result (reverse xs) (is_none m.result)
           (reversed_in P (typed_locals xs g.args) (params_owned (length g.vars) xs g.args s.args o)) (result_owned (length g.vars) g.result s.result o) q f
 
     -- the type variables of the member that takes an unknown
-    owner : List Member → List SignatureTree → ℕ → ℕ → ℕ
+    owner : List GroupMember → List SignatureTree → ℕ → ℕ → ℕ
     owner [] hs n j = 0
     owner (m ∷ ks) [] n j = 0
-    owner (m ∷ ks) (g ∷ hs) n j = cond (nat_lt j (past n (member_piece (inner []) n m g))) (length g.vars) (owner ks hs (past n (member_piece (inner []) n m g)) j)
+    owner (m ∷ ks) (g ∷ hs) n j = cond (nat_lt j (unknown_after n (member_piece (inner []) n m g))) (length g.vars) (owner ks hs (unknown_after n (member_piece (inner []) n m g)) j)
 
-    owner_here : (m : Member) (g : SignatureTree) (ks : List Member) (hs : List SignatureTree) (n j : ℕ) → j < past n (member_piece (inner []) n m g) → owner (m ∷ ks) (g ∷ hs) n j ≡ length g.vars
+    owner_here : (m : GroupMember) (g : SignatureTree) (ks : List GroupMember) (hs : List SignatureTree) (n j : ℕ) → j < unknown_after n (member_piece (inner []) n m g) → owner (m ∷ ks) (g ∷ hs) n j ≡ length g.vars
     unfolding owner
     owner_here m g ks hs n j l =
-        let p = past n (member_piece (inner []) n m g) in
+        let p = unknown_after n (member_piece (inner []) n m g) in
         ap (λ (b : Bool). cond b (length g.vars) (owner ks hs p j)) (test_lt j p l)
 
-    owner_past : (m : Member) (g : SignatureTree) (ks : List Member) (hs : List SignatureTree) (n j : ℕ) → past n (member_piece (inner []) n m g) ≤ j → owner (m ∷ ks) (g ∷ hs) n j ≡ owner ks hs (past n (member_piece (inner []) n m g)) j
+    owner_past : (m : GroupMember) (g : SignatureTree) (ks : List GroupMember) (hs : List SignatureTree) (n j : ℕ) → unknown_after n (member_piece (inner []) n m g) ≤ j → owner (m ∷ ks) (g ∷ hs) n j ≡ owner ks hs (unknown_after n (member_piece (inner []) n m g)) j
     unfolding owner
     owner_past m g ks hs n j l =
-        let p = past n (member_piece (inner []) n m g) in
+        let p = unknown_after n (member_piece (inner []) n m g) in
         ap (λ (b : Bool). cond b (length g.vars) (owner ks hs p j)) (test_le j p l)
 
     -- at a solution by types over the signature
-    module _ (f : ℕ → Tree) (over' : (j : ℕ) → IsOver v true (f j)) (all_ks : List Member) (all_hs : List SignatureTree) where
+    module _ (f : ℕ → Tree) (over' : (j : ℕ) → IsOver v true (f j)) (all_ks : List GroupMember) (all_hs : List SignatureTree) where
       narrowed : ℕ → Tree
       narrowed j = narrow (owner all_ks all_hs rigid j) (f j)
 
@@ -331,44 +331,44 @@ module _ (base : Vocabulary) (s : List Tree) (whole : List SymbolTree) (typed : 
       narrowed_is j o q = ap (λ (i : ℕ). narrow i (f j)) q
 
       -- the bodies of members after others
-      abbrev Follows : List Member → List SignatureTree → ℕ → Type 0
+      abbrev Follows : List GroupMember → List SignatureTree → ℕ → Type 0
       Follows ks hs n = (j : ℕ) → n ≤ j → owner all_ks all_hs rigid j ≡ owner ks hs n j
 
-      here_owned : (m : Member) (g : SignatureTree) (ks : List Member) (hs : List SignatureTree) (n : ℕ) → rigid ≤ n → Follows (m ∷ ks) (g ∷ hs) n → length g.vars ≤ rigid → IsSigned v m g → body_fault (inner []) m g.vars m.body ≡ None
+      here_owned : (m : GroupMember) (g : SignatureTree) (ks : List GroupMember) (hs : List SignatureTree) (n : ℕ) → rigid ≤ n → Follows (m ∷ ks) (g ∷ hs) n → length g.vars ≤ rigid → IsSigned v m g → body_fault (inner []) m g.vars m.body ≡ None
           → PieceIn (Narrows rigid (length g.vars) f narrowed) (member_piece (inner []) n m g)
       here_owned m g ks hs n l o few' s q =
           let own = length g.vars in
           body_owned (Narrows rigid own f narrowed) m g n m.body s q (λ j k. own_narrows rigid own f narrowed few' j k)
           (λ j a b. unknown_narrows rigid own f narrowed j (omega arith) (narrowed_is j own (o j a ∙ owner_here m g ks hs n j b)))
 
-      next_follows : (m : Member) (g : SignatureTree) (ks : List Member) (hs : List SignatureTree) (n : ℕ) → Follows (m ∷ ks) (g ∷ hs) n → Follows ks hs (past n (member_piece (inner []) n m g))
+      next_follows : (m : GroupMember) (g : SignatureTree) (ks : List GroupMember) (hs : List SignatureTree) (n : ℕ) → Follows (m ∷ ks) (g ∷ hs) n → Follows ks hs (unknown_after n (member_piece (inner []) n m g))
       next_follows m g ks hs n o = λ j a. o j (omega arith) ∙ owner_past m g ks hs n j a
 
-      all_solved : (ks : List Member) (hs : List SignatureTree) (n : ℕ) → rigid ≤ n → Follows ks hs n → AreFew rigid hs → AreSigned v ks hs → AreResolved (inner []) ks hs
+      all_solved : (ks : List GroupMember) (hs : List SignatureTree) (n : ℕ) → rigid ≤ n → Follows ks hs n → AreFew rigid hs → AreSigned v ks hs → AreResolved (inner []) ks hs
           → SolvesAll rigid f (pieces_notes (member_pieces (inner []) n ks hs)).equations → SolvesAll rigid narrowed (pieces_notes (member_pieces (inner []) n ks hs)).equations
       all_solved [] hs n l o few' s r z = tt
       all_solved (m ∷ ks) [] n l o few' s r z = tt
       all_solved (m ∷ ks) (g ∷ hs) n l o few' s r z =
           let p = member_piece (inner []) n m g in
-          let rest = pieces_notes (member_pieces (inner []) (past n p) ks hs) in
+          let rest = pieces_notes (member_pieces (inner []) (unknown_after n p) ks hs) in
           both_solved rigid narrowed p.notes.equations rest.equations
           (solved_narrowed rigid (length g.vars) f narrowed p.notes.equations (here_owned m g ks hs n l o few'.0 s.0 r.0.right).equations (first_solved rigid f p.notes.equations rest.equations z))
-          (all_solved ks hs (past n p) (omega arith) (next_follows m g ks hs n o) few'.1 s.1 r.1 (rest_solved rigid f p.notes.equations rest.equations z))
+          (all_solved ks hs (unknown_after n p) (omega arith) (next_follows m g ks hs n o) few'.1 s.1 r.1 (rest_solved rigid f p.notes.equations rest.equations z))
 
-      body_typed : (m : Member) (g : SignatureTree) (n : ℕ) (b : Option Expression) → is_some b ≡ true → IsSigned v m g → length g.args ≡ length (words_of m.params) → length g.vars ≤ rigid → BodySound m g n b
+      body_typed : (m : GroupMember) (g : SignatureTree) (n : ℕ) (b : Option Expression) → is_some b ≡ true → IsSigned v m g → length g.args ≡ length (words_of_parameters m.params) → length g.vars ≤ rigid → BodySound m g n b
           → VariablesBelow (length g.vars) (assign rigid narrowed (body_piece (inner g.vars) (params m g) n g.result b).tree)
           → SolvesAll rigid narrowed (body_piece (inner g.vars) (params m g) n g.result b).notes.equations → IndicesFit (assign rigid narrowed (body_piece (inner g.vars) (params m g) n g.result b).tree)
           → IsTypedIn v (length g.vars) (reverse g.args) g.result (assign rigid narrowed (body_piece (inner g.vars) (params m g) n g.result b).tree)
       body_typed m g n None d s l e x own z i = absurd (cc)
       body_typed m g n (Some b) d s l e x own z i =
-          let xs = words_of m.params in
+          let xs = words_of_parameters m.params in
           let p = piece (inner g.vars) (params m g) n g.result b in
           let args : All (IsTypeIn v rigid) g.args = λ j c k. type_wider v (length g.vars) rigid (get_or g.args j c) e (s.args j c k) in
-          let types : types_at rigid narrowed (params m g) ≡ reverse g.args = at_reverse rigid narrowed (typed_locals xs g.args) ∙ ap reverse (locals_kept rigid narrowed v xs g.args args ∙ locals_types xs g.args l) in
-          typed_as v (types_at rigid narrowed (params m g)) (reverse g.args) (option_map (assign rigid narrowed) g.result) g.result (assign rigid narrowed p.tree) (length g.vars) types
+          let types : assigned_types rigid narrowed (params m g) ≡ reverse g.args = at_reverse rigid narrowed (typed_locals xs g.args) ∙ ap reverse (locals_kept rigid narrowed v xs g.args args ∙ locals_types xs g.args l) in
+          typed_as v (assigned_types rigid narrowed (params m g)) (reverse g.args) (option_map (assign rigid narrowed) g.result) g.result (assign rigid narrowed p.tree) (length g.vars) types
           (result_kept rigid narrowed v g.result (result_wider v (length g.vars) rigid g.result e s.result)) (x.typed narrowed narrowed_over z i) own
 
-      bodies_typed : (ks : List Member) (hs : List SignatureTree) (n : ℕ) → rigid ≤ n → Follows ks hs n → AreFew rigid hs → AreDefined ks → AreSigned v ks hs → AreResolved (inner []) ks hs → PiecesSound ks hs n
+      bodies_typed : (ks : List GroupMember) (hs : List SignatureTree) (n : ℕ) → rigid ≤ n → Follows ks hs n → AreFew rigid hs → AreDefined ks → AreSigned v ks hs → AreResolved (inner []) ks hs → PiecesSound ks hs n
           → SolvesAll rigid narrowed (pieces_notes (member_pieces (inner []) n ks hs)).equations → AreBodied v hs (map (assign rigid narrowed) (pieces_trees (member_pieces (inner []) n ks hs)))
       bodies_typed [] [] n l o few' d s r x z = tt
       bodies_typed [] (g ∷ hs) n l o few' d s r x z = tt
@@ -376,14 +376,14 @@ module _ (base : Vocabulary) (s : List Tree) (whole : List SymbolTree) (typed : 
       bodies_typed (m ∷ ks) (g ∷ hs) n l o few' d s r x z =
           let p = member_piece (inner []) n m g in
           let own = length g.vars in
-          let rest = pieces_notes (member_pieces (inner []) (past n p) ks hs) in
+          let rest = pieces_notes (member_pieces (inner []) (unknown_after n p) ks hs) in
           let below : VariablesBelow own (assign rigid narrowed p.tree) =
           subst (VariablesBelow own) (sym (tree_narrowed rigid own f narrowed p.tree (here_owned m g ks hs n l o few'.0 s.0 r.0.right).tree)) (narrow_below own (assign rigid f p.tree)) in (
             (λ i. body_typed m g n m.body d.0 s.0 r.0.count few'.0 x.0 below (first_solved rigid narrowed p.notes.equations rest.equations z) i),
-            bodies_typed ks hs (past n p) (omega arith) (next_follows m g ks hs n o) few'.1 d.1 s.1 r.1 x.1 (rest_solved rigid narrowed p.notes.equations rest.equations z),
+            bodies_typed ks hs (unknown_after n p) (omega arith) (next_follows m g ks hs n o) few'.1 d.1 s.1 r.1 x.1 (rest_solved rigid narrowed p.notes.equations rest.equations z),
           )
 
-  pub bodies_valid : (ks : List Member) (hs : List SignatureTree) (bodies : List Tree) (matches : List (ℕ × List Tree)) → AreDefined ks → AreSigned v ks hs → AreResolved (inner []) ks hs → BodiesSeen all_seen ks
+  pub bodies_valid : (ks : List GroupMember) (hs : List SignatureTree) (bodies : List Tree) (matches : List (ℕ × List Tree)) → AreDefined ks → AreSigned v ks hs → AreResolved (inner []) ks hs → BodiesSeen all_seen ks
       → BodiesSolved (inner []) ks hs bodies matches → AreBodied v hs bodies
   bodies_valid ks hs bodies matches d s r i it =
       let rigid = most_variables hs in
@@ -414,7 +414,7 @@ module _ (base : Vocabulary) (s : List Tree) (whole : List SymbolTree) (typed : 
         All-cons (λ (i : ℕ × List Tree). ArePatterns v i.1) (m.0, map (assign r f) m.1) (matches_assigned r f ms)
         (record { type = h.0.0; over = record { sort = x.1; typed = x.0.0 }; patterns = as_patterns h.0.0 (map (assign r f) m.1) h.0.2 }) (as_matches ms h.1)
 
-  pub bodies_patterns : (ks : List Member) (hs : List SignatureTree) (bodies : List Tree) (matches : List (ℕ × List Tree)) → AreSigned v ks hs → AreResolved (inner []) ks hs → BodiesSeen all_seen ks
+  pub bodies_patterns : (ks : List GroupMember) (hs : List SignatureTree) (bodies : List Tree) (matches : List (ℕ × List Tree)) → AreSigned v ks hs → AreResolved (inner []) ks hs → BodiesSeen all_seen ks
       → BodiesSolved (inner []) ks hs bodies matches → All (λ (m : ℕ × List Tree). ArePatterns v m.1) matches
   bodies_patterns ks hs bodies matches s r i it =
       let rigid = most_variables hs in

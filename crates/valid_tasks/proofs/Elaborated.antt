@@ -15,14 +15,14 @@ use Rattle.tasks.specs.declared.declaration.Decl.{Decl}
 use Rattle.tasks.specs.Task.{DeclarationTree, DefinitionTree, InductiveTree}
 use Rattle.tasks.specs.Meaning.{symbols_at, trees_at, declarations_at, definitions_at, inductives_at, body_at, InductiveHeld, BodyHeld, DeclHeld}
 use Rattle.tasks.specs.declared.signature.Signature.{Signature}
-use Rattle.names_space.specs.Names.{Names}
+use Rattle.names_space.specs.Names.{ScopeNames}
 use Rattle.syntax_why.specs.Declarations as source
 use Rattle.elab_walk.specs.Drafts.{match_at}
 use Rattle.elab_walk.proofs.Walking.{none_both}
 use Rattle.elab_parts.specs.declared.made.Elaborated.{Elaborated}
-use Rattle.elab_parts.specs.Declarations.{Declaration, abstract_type, alias, algebraic, members, inductive, proposition, member, declaration, made_by, made_fault}
+use Rattle.elab_parts.specs.Declarations.{Declaration, abstract_type, alias, algebraic, member_group, inductive, proposition_declaration, group_member, declaration, made_names, made_fault}
 use Rattle.elab_parts.specs.Outcomes.{Setting, Outcome, declared_in}
-use Rattle.elab_groups.specs.Bodies.{AreDefined, IsWhole}
+use Rattle.elab_groups.specs.Bodies.{AreDefined, AllHaveBodies}
 use Rattle.elab_terms.specs.Outcomes.{IsOutcome, used_fault, IsElaborated}
 use Rattle.tasks.specs.Vocabulary.{Vocabulary}
 use Rattle.valid_tasks.specs.Signature.{with_entries}
@@ -62,14 +62,14 @@ declarations_fit s f (d ∷ ds) h = All-cons (λ (i : DeclarationTree). BodyFits
 
 -- ---- declarations of a source: where the first member of a group has a body, so has each
 abbrev IsSource : Declaration → Type 0
-IsSource (members ms) = IsWhole ms
+IsSource (member_group ms) = AllHaveBodies ms
 IsSource _ = Unit {0}
 
-others_defined : (ms : List source.Member) → AreDefined (map member ms)
+others_defined : (ms : List source.Member) → AreDefined (map group_member ms)
 others_defined [] = tt
 others_defined (m ∷ ms) = (refl, others_defined ms)
 
-from_source : (d : source.Decl) → IfSome (declaration d) IsSource
+from_source : (d : source.SyntaxDeclaration) → IfSome (declaration d) IsSource
 from_source (source.type_decl a n vs None) = tt
 from_source (source.type_decl a n vs (Some f)) = tt
 from_source (source.algebraic_decl a ts) = tt
@@ -80,23 +80,23 @@ from_source (source.inductive_decl a ds) = tt
 from_source (source.prop_decl a k c e) = tt
 from_source _ = tt
 
-is_source : (d : source.Decl) (x : Declaration) → declaration d ≡ Some x → IsSource x
+is_source : (d : source.SyntaxDeclaration) (x : Declaration) → declaration d ≡ Some x → IsSource x
 is_source d x q = let P : Option Declaration → Type 0 = λ o. IfSome o IsSource in subst P q (from_source d)
 
 module _ (base : Vocabulary) (c : Setting) (h : IsTypedSetting base c) (s : List Tree) (r : Grows c.trees s) where
   outcome_valid : (d : Declaration) (o : Outcome) → used_fault c d ≡ None → IsSource d → IsOutcome c s d o → DeclsFit o.decls → HaveNoFault (c.symbols ++ o.symbols) o.decls → NamesNew base (length c.symbols) (c.symbols ++ o.symbols) → MayNameRigid base d o.rigid → IsValidOutcome base c s o
   outcome_valid (abstract_type x vs) o q w e fits passes news may = rw e (type_valid base c h s r x _ (rw e at news))
   outcome_valid (alias x vs f) o q w e fits passes news may = alias_valid base c h s r x vs f o q e news
-  outcome_valid (proposition k x e) o q w p fits passes news may = proposition_valid base c h s r k x e o q p news fits may
+  outcome_valid (proposition_declaration k x e) o q w p fits passes news may = proposition_valid base c h s r k x e o q p news fits may
   outcome_valid (algebraic ts) o q w e fits passes news may = rw e (group_valid base c h s r ts q (rw e at news))
-  outcome_valid (members ms) o q w e fits passes news may = members_valid base c h s r ms q o e news w fits
+  outcome_valid (member_group ms) o q w e fits passes news may = members_valid base c h s r ms q o e news w fits
   outcome_valid (inductive ds) o q w e fits passes news may = inductives_valid base c h s r ds q o e news fits passes
 
-  pub elaborated_valid : (d : source.Decl) (x : Declaration) (g g' : Signature) (names : Names) (made : Elaborated) → declaration d ≡ Some x → IsElaborated c x g s g' names made → ((id : TermId) → Holds s id → WellSorted (tree_at s id)) → All (DeclHeld s) made.decls
+  pub elaborated_valid : (d : source.SyntaxDeclaration) (x : Declaration) (g g' : Signature) (names : ScopeNames) (made : Elaborated) → declaration d ≡ Some x → IsElaborated c x g s g' names made → ((id : TermId) → Holds s id → WellSorted (tree_at s id)) → All (DeclHeld s) made.decls
       → HaveNoFault (symbols_at s g'.symbols) (declarations_at s made.decls) → NamesNew base (length c.symbols) (symbols_at s g'.symbols) → MayNameRigid base x made.rigid → IsValidElaborated base s g' names made
   elaborated_valid d x g g' names made w e sorted held passes news may =
       let fits = declarations_fit s sorted made.decls held in
-      let q = none_both (made_fault (declared_in c.scope) [] (made_by x)) (used_fault c x) e.named in
+      let q = none_both (made_fault (declared_in c.scope) [] (made_names x)) (used_fault c x) e.named in
       let y = outcome_valid x e.outcome q.1 (is_source d x w) e.is (rw e.decls at fits) (rw (e.symbols_are, e.decls) at passes) (rw e.symbols_are at news) (rw e.rigid at may) in
       record {
         signature = rw e.symbols_are y.signature;
@@ -111,13 +111,13 @@ module _ (base : Vocabulary) (c : Setting) (h : IsTypedSetting base c) (s : List
   outcome_patterns : (d : Declaration) (o : Outcome) → used_fault c d ≡ None → IsOutcome c s d o → NamesNew base (length c.symbols) (c.symbols ++ o.symbols) → All (λ (m : ℕ × List Tree). ArePatterns (with_entries base (c.symbols ++ o.symbols)) m.1) o.matches
   outcome_patterns (abstract_type x vs) o q e news = no_patterns _ o.matches (ap (λ (i : Outcome). i.matches) e)
   outcome_patterns (alias x vs f) o q e news = no_patterns _ o.matches e.matches
-  outcome_patterns (proposition k x e) o q p news = proposition_patterns base c h s r k x e o q p news
+  outcome_patterns (proposition_declaration k x e) o q p news = proposition_patterns base c h s r k x e o q p news
   outcome_patterns (algebraic ts) o q e news = no_patterns _ o.matches (ap (λ (i : Outcome). i.matches) e)
-  outcome_patterns (members ms) o q e news = members_patterns base c h s r ms q o e news
+  outcome_patterns (member_group ms) o q e news = members_patterns base c h s r ms q o e news
   outcome_patterns (inductive ds) o q e news = inductives_patterns base c h s r ds q o e news
 
-  pub elaborated_patterns : (x : Declaration) (g g' : Signature) (names : Names) (made : Elaborated) → IsElaborated c x g s g' names made → NamesNew base (length c.symbols) (symbols_at s g'.symbols)
+  pub elaborated_patterns : (x : Declaration) (g g' : Signature) (names : ScopeNames) (made : Elaborated) → IsElaborated c x g s g' names made → NamesNew base (length c.symbols) (symbols_at s g'.symbols)
       → All (λ (m : ℕ × List Tree). ArePatterns (with_entries base (symbols_at s g'.symbols)) m.1) (map (match_at s) made.matches)
   elaborated_patterns x g g' names made e news =
-      let q = none_both (made_fault (declared_in c.scope) [] (made_by x)) (used_fault c x) e.named in
+      let q = none_both (made_fault (declared_in c.scope) [] (made_names x)) (used_fault c x) e.named in
       rw (e.symbols_are, e.matches) (outcome_patterns x e.outcome q.1 e.is (rw e.symbols_are at news))

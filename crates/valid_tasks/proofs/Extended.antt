@@ -11,7 +11,7 @@ use Rattle.tasks.specs.declared.signature.SymbolKind.TheVariants.{Constructor}
 use Rattle.tasks.specs.Vocabulary.{Vocabulary, is_constructor_kind}
 use Rattle.tasks.specs.Typing.{entry, LeafTyped, OneTyped, TwoTyped, ThreeTyped, TypedUnder, bound_types}
 use Rattle.tasks.specs.Valid.{IsTypeIn, HasTypes}
-use Rattle.names_space.specs.Names.{Names, number_of}
+use Rattle.names_space.specs.Names.{ScopeNames, number_of}
 use Rattle.names_space.specs.declared.Table.{Table}
 use Rattle.names_space.specs.declared.Table.TheVariants.{Types, Symbols, Propositions, Scopes}
 use Rattle.names_space.specs.declared.TypeName.{TypeName}
@@ -21,9 +21,9 @@ use Rattle.elab_parts.specs.Entries.{builtin, is_tuple}
 use Rattle.valid_tasks.specs.Signature.{with_entries}
 use Rattle.valid_tasks.proofs.Words.{same_word, both_true}
 use Rattle.valid_tasks.proofs.Signed.{some_at, entry_scoped}
-use Rattle.valid_tasks.specs.Scopes.{is_projection_kind, may_stand, NamesNew, IsPart, AgreeBelow, IsTypedEntry, IsTypedSignature, IsTypeNumber, IsSymbolNumber, IsAliased, IsTypedThing, AreTypedScopes}
+use Rattle.valid_tasks.specs.Scopes.{is_projection_kind, is_nameable, NamesNew, IsSubvocabulary, AgreeBelow, IsTypedEntry, IsTypedSignature, IsTypeNumber, IsSymbolNumber, IsAliased, IsTypedThing, AreTypedScopes}
 
-module _ (v w : Vocabulary) (h : IsPart v w) where
+module _ (v w : Vocabulary) (h : IsSubvocabulary v w) where
   some_more : (k : ℕ) (o : Option SymbolTree) (P : SymbolTree → Type 0) → entry v k ≡ o → IsSomeAnd o P → IsSomeAnd (entry w k) P
   some_more k None P q x = absurd x
   some_more k (Some e) P q x = rw (h.entries k e q) x
@@ -74,7 +74,7 @@ further [] ys k e h = absurd (cc)
 further (x ∷ xs) ys zero e h = h
 further (x ∷ xs) ys (suc k) e h = further xs ys k e h
 
-pub entries_part : (base : Vocabulary) (xs ys : List SymbolTree) → IsPart (with_entries base xs) (with_entries base (xs ++ ys))
+pub entries_part : (base : Vocabulary) (xs ys : List SymbolTree) → IsSubvocabulary (with_entries base xs) (with_entries base (xs ++ ys))
 entries_part base xs ys = record { entries = λ k e h. further xs ys k e h; rigid = λ k e q h. h; usable = λ k e q h. h; matched = λ k e q h. h }
 
 -- an entry of two lists is one of the first or of the second
@@ -105,7 +105,7 @@ pub news_later : (base : Vocabulary) (n m : ℕ) (xs : List SymbolTree) → n �
 news_later base n m xs o h = λ k e l q. h k e (omega arith) q
 
 -- a tuple's constructor has the theory of what is built in
-tuple_builtin : (n : ℕ) (e : SymbolTree) → is_tuple n e ≡ true → IsTrue (may_stand e)
+tuple_builtin : (n : ℕ) (e : SymbolTree) → is_tuple n e ≡ true → IsTrue (is_nameable e)
 tuple_builtin n e q =
     let a = both_true (is_constructor_kind e.kind) (bytes_eq e.theory builtin && (e.vars == n && length e.args == n)) q in
     let b = both_true (bytes_eq e.theory builtin) (e.vars == n && length e.args == n) a.1 in
@@ -153,7 +153,7 @@ module _ (v w : Vocabulary) (symbols : List SymbolTree) (a : AgreeBelow v w (len
   along : (x y : Bool) → x ≡ y → IsTrue x → IsTrue y
   along x y q h = subst (λ (b : Bool). IsTrue b) q h
 
-  pub agrees_part : IsPart (with_entries v symbols) (with_entries w symbols)
+  pub agrees_part : IsSubvocabulary (with_entries v symbols) (with_entries w symbols)
   agrees_part = record {
     entries = λ k e q. q;
     rigid = λ k e q h. along (v.rigid k) (w.rigid k) (a.rigid k (slice_below symbols k e q)) h;
@@ -176,7 +176,7 @@ module _ (v w : Vocabulary) (symbols : List SymbolTree) (a : AgreeBelow v w (len
       back k e q u = along (w.usable k) (v.usable k) (sym (a.usable k (slice_below symbols k e q))) u
 
 -- ---- scopes
-module _ (v w : Vocabulary) (part : IsPart v w) (s s' : List Tree) (g : Grows s s') where
+module _ (v w : Vocabulary) (part : IsSubvocabulary v w) (s s' : List Tree) (g : Grows s s') where
   found : (k : ℕ) → k < length v.symbols → (k < length w.symbols) × (symbol_or w.symbols k ≡ symbol_or v.symbols k)
   found k l =
       let q = part.entries k (symbol_or v.symbols k) (some_at v.symbols k int_symbol l) in
@@ -209,8 +209,8 @@ module _ (v w : Vocabulary) (part : IsPart v w) (s s' : List Tree) (g : Grows s 
   thing_more Propositions t h = tt
   thing_more Scopes t h = tt
 
-  pub scopes_part : (names : Names) → AreTypedScopes v s names → AreTypedScopes w s' names
+  pub scopes_part : (names : ScopeNames) → AreTypedScopes v s names → AreTypedScopes w s' names
   scopes_part names h = λ k es i. λ j e x. thing_more (get_or (get_or names.entries k es) j e).table (get_or (get_or names.entries k es) j e).thing (h k es i j e x)
 
-pub scopes_extended : (base : Vocabulary) (s s' : List Tree) → Grows s s' → (xs ys : List SymbolTree) (names : Names) → AreTypedScopes (with_entries base xs) s names → AreTypedScopes (with_entries base (xs ++ ys)) s' names
+pub scopes_extended : (base : Vocabulary) (s s' : List Tree) → Grows s s' → (xs ys : List SymbolTree) (names : ScopeNames) → AreTypedScopes (with_entries base xs) s names → AreTypedScopes (with_entries base (xs ++ ys)) s' names
 scopes_extended base s s' g xs ys names h = scopes_part (with_entries base xs) (with_entries base (xs ++ ys)) (entries_part base xs ys) s s' g names h

@@ -10,7 +10,7 @@ use Rattle.tasks.specs.Task.{SymbolTree}
 use Rattle.tasks.specs.Vocabulary.{Vocabulary, passes}
 use Rattle.tasks.specs.Typing.{members, entry, IsRigid, IsTypeSymbol}
 use Rattle.tasks.specs.Valid.{VariablesBelow}
-use Rattle.unify_types.specs.Assigned.{Variable, assign, IsTyped, leaf_typed, one_typed, two_typed}
+use Rattle.unify_types.specs.Assigned.{Variable, assign, IsTypeOrTypes, leaf_typed, one_typed, two_typed}
 use Rattle.valid_tasks.proofs.Over.{IsOver, leaf_over, one_over, two_over, members_assigned}
 
 -- ---- tests
@@ -94,7 +94,7 @@ module _ (v : Vocabulary) where
   two_members HCell a b t q = ap suc q
   two_members _ a b t q = absurd t
 
-  members_fixed : (e : Tree) → IsTyped false e → length (members (fixed e)) ≡ length (members e)
+  members_fixed : (e : Tree) → IsTypeOrTypes false e → length (members (fixed e)) ≡ length (members e)
   members_fixed (Leaf h) t = leaf_members h t
   members_fixed (One h a) t = absurd t.0
   members_fixed (Two h a b) t = two_members h a b t.0 (members_fixed b t.2)
@@ -113,7 +113,7 @@ module _ (v : Vocabulary) where
     leaf_fixed_over true _ t = absurd t
     leaf_fixed_over false _ t = absurd t
 
-    one_fixed_over : (k : Bool) (h : Head) (a : Tree) → one_typed k h → IsTyped false a → IsOver v false (fixed a) → IsOver v k (fixed (One h a))
+    one_fixed_over : (k : Bool) (h : Head) (a : Tree) → one_typed k h → IsTypeOrTypes false a → IsOver v false (fixed a) → IsOver v k (fixed (One h a))
     one_fixed_over true (HTyApp s) a t x o = of (is_symbol s (length (members a))) refl
       where
         of : (b : Bool) → is_symbol s (length (members a)) ≡ b → IsOver v true (cond b (One (HTyApp s) (fixed a)) int_type)
@@ -127,7 +127,7 @@ module _ (v : Vocabulary) where
     two_fixed_over false _ t = absurd t
     two_fixed_over true _ t = absurd t
 
-    pub fixed_over : (k : Bool) (e : Tree) → IsTyped k e → IsOver v k (fixed e)
+    pub fixed_over : (k : Bool) (e : Tree) → IsTypeOrTypes k e → IsOver v k (fixed e)
     fixed_over k (Leaf h) t = leaf_fixed_over k h t
     fixed_over k (One h a) t = one_fixed_over k h a t.0 t.1 (fixed_over false a t.1)
     fixed_over k (Two h a b) t = (two_fixed_over k h t.0, fixed_over true a t.1, fixed_over false b t.2)

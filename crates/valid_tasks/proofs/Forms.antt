@@ -11,19 +11,19 @@ use Rattle.tasks.specs.declared.signature.SymbolKind.TheVariants.{Predicate, Con
 use Rattle.tasks.specs.Equations.{cells}
 use Rattle.tasks.specs.Task.{SymbolTree}
 use Rattle.tasks.specs.Vocabulary.{Vocabulary}
-use Rattle.tasks.specs.Typing.{pattern_types, members, entry, MakesTerms, IsUse, Gives, TwoTyped, option_list, bound_types}
-use Rattle.valid_tasks.specs.Typed.{due}
+use Rattle.tasks.specs.Typing.{pattern_types, members, entry, MakesTerms, IsUse, HasResult, TwoTyped, option_list, bound_types}
+use Rattle.valid_tasks.specs.Typed.{due_sort}
 use Rattle.valid_tasks.proofs.Over.{IsOver, IsGood, AreOver, over_good, cells_over, members_cells}
 
 abbrev pub IsWanted : Option Tree → Tree → Type 0
-IsWanted t e = (sort_of e ≡ due t) × (type_of e ≡ t)
+IsWanted t e = (sort_of e ≡ due_sort t) × (type_of e ≡ t)
 
-pub due_expression : (t : Option Tree) (s : Sort) → s ≡ due t → IsExpression s
+pub due_expression : (t : Option Tree) (s : Sort) → s ≡ due_sort t → IsExpression s
 due_expression None s q = inr q
 due_expression (Some x) s q = inl q
 
 -- what a term or a formula yields is its own
-top_same : (h : Head) (s : Sort) (o t : Option Tree) → top_sort h s ≡ due t → (top_sort h s ≡ s) × (top_type h o ≡ o)
+top_same : (h : Head) (s : Sort) (o t : Option Tree) → top_sort h s ≡ due_sort t → (top_sort h s ≡ s) × (top_type h o ≡ o)
 top_same HCell s o None q = absurd (cc)
 top_same HCell s o (Some t) q = absurd (cc)
 top_same HEnd s o None q = absurd (cc)
@@ -32,7 +32,7 @@ top_same HArm s o None q = absurd (cc)
 top_same HArm s o (Some t) q = absurd (cc)
 top_same _ s o t q = (refl, refl)
 
-pub yields : (t : Option Tree) (e : Tree) → IsWanted t e → (yield e ≡ due t) × (yield_type e ≡ t)
+pub yields : (t : Option Tree) (e : Tree) → IsWanted t e → (yield e ≡ due_sort t) × (yield_type e ≡ t)
 yields t e w =
     let p = top_same (head_of e) (yield e) (yield_type e) t w.0 in
     (sym p.0 ∙ w.0, sym p.1 ∙ w.1)
@@ -128,7 +128,7 @@ module _ (v : Vocabulary) where
         fit = given.2 ∙ somes ts e.args ∙ sym (ap (λ (l : List Tree). map (λ a. Some (inst_types a l)) e.args) (members_cells ts));
       }
 
-      gives : (r c : Tree) → e.result ≡ Some r → inst_types r ts ≡ c → Gives e (cells ts) c
+      gives : (r c : Tree) → e.result ≡ Some r → inst_types r ts ≡ c → HasResult e (cells ts) c
       gives r c p q = ap (λ (o : Option Tree). option_map (λ x. inst_types x (members (cells ts))) o) p ∙ ap (λ (l : List Tree). Some (inst_types r l)) (members_cells ts) ∙ ap (λ (t : Tree). Some t) q
 
     pub predicate_typed : (k : ℕ) (e : SymbolTree) (ts : List Tree) (args : Tree) → IsTrue (v.usable k) → entry v k ≡ Some e → e.kind ≡ Predicate → length ts ≡ e.vars → AreOver v ts

@@ -15,14 +15,14 @@ use Rattle.tasks.specs.Task.{SymbolTree, DeclarationTree, made}
 use Rattle.tasks.specs.Meaning.{symbols_at, declarations_at, DeclHeld}
 use Rattle.tasks.specs.Roles.{maker}
 use Rattle.tasks.proofs.Declared.{contains_step, any_iff, maker_made}
-use Rattle.names_space.specs.Names.{Names}
+use Rattle.names_space.specs.Names.{ScopeNames}
 use Rattle.syntax_why.specs.Lexeme.{Word}
 use Rattle.syntax_why.specs.declared.declarations.PropKind.TheVariants as kind
 use Rattle.syntax_why.specs.Declarations as source
 use Rattle.elab_names.specs.Abstract.{Expression}
 use Rattle.elab_walk.proofs.Walking.{none_both}
 use Rattle.elab_parts.specs.declared.made.Elaborated.{Elaborated}
-use Rattle.elab_parts.specs.Declarations.{Called, proposition, declaration, made_by, made_fault}
+use Rattle.elab_parts.specs.Declarations.{TokenName, proposition_declaration, declaration, made_names, made_fault}
 use Rattle.elab_parts.specs.Outcomes.{Setting, declared_in, tuples_wanting}
 use Rattle.elab_terms.specs.Outcomes.{proposition_seen, rigid_names, entry_numbers, used_fault, IsProposition, IsElaborated}
 use Rattle.valid_tasks.specs.Signature.{with_entries}
@@ -77,11 +77,11 @@ module _ (symbols : List SymbolTree) (own : List ℕ) (ds new : List Declaration
     matched = λ k l. let q = maker_same k in cc;
   }
 
-pub next_goal : (c : Setting) (ds : List DeclarationTree) (d : source.Decl) (x : Called) (y : Expression) (g : Signature) (s : List Tree) (g' : Signature) (names : Names) (it : Elaborated) → IsTypedSetting (after c.symbols [] ds) c → MakesBelow (length c.symbols) ds → Grows c.trees s
-    → declaration d ≡ Some (proposition kind.Goal x y) → IsElaborated c (proposition kind.Goal x y) g s g' names it → ((id : TermId) → Holds s id → WellSorted (tree_at s id)) → All (DeclHeld s) it.decls → HaveNoFault (symbols_at s g'.symbols) (declarations_at s it.decls)
+pub next_goal : (c : Setting) (ds : List DeclarationTree) (d : source.SyntaxDeclaration) (x : TokenName) (y : Expression) (g : Signature) (s : List Tree) (g' : Signature) (names : ScopeNames) (it : Elaborated) → IsTypedSetting (after c.symbols [] ds) c → MakesBelow (length c.symbols) ds → Grows c.trees s
+    → declaration d ≡ Some (proposition_declaration kind.Goal x y) → IsElaborated c (proposition_declaration kind.Goal x y) g s g' names it → ((id : TermId) → Holds s id → WellSorted (tree_at s id)) → All (DeclHeld s) it.decls → HaveNoFault (symbols_at s g'.symbols) (declarations_at s it.decls)
     → IsNextGoal s (symbols_at s g'.symbols) names ds it.rigid (declarations_at s it.decls)
 next_goal c ds d x y g s g' names it h below r q e sorted held passes =
-    let goal = proposition kind.Goal x y in
+    let goal = proposition_declaration kind.Goal x y in
     let n = length c.symbols in
     let all = symbols_at s g'.symbols in
     let new = declarations_at s it.decls in
@@ -95,11 +95,11 @@ next_goal c ds d x y g s g' names it h below r q e sorted held passes =
     let none : made new ≡ [] = ap made e.decls ∙ ap made p.decls in
     let valid' : IsValidElaborated v s g' names it = elaborated_valid v c (setting c ds goal g s g' names it h below r tt e own far) s r d goal g g' names it q e sorted held passes (news c ds goal g s g' names it h below r tt e own) (all_among own own (λ k z. z)) in
     let v0 = after all [] (ds ++ new) in
-    let named = none_both (made_fault (declared_in c.scope) [] (made_by goal)) (used_fault c goal) e.named in
+    let named = none_both (made_fault (declared_in c.scope) [] (made_names goal)) (used_fault c goal) e.named in
     let typed : IsTypedOutcome v0 c s e.outcome = proposition_typed v0 c (setting c ds goal g s g' names it h below r tt e [] (λ k l. refl)) s r kind.Goal x y e.outcome named.1 p (subst (λ (es : List SymbolTree). NamesNew v0 n es) e.symbols_are (news c ds goal g s g' names it h below r tt e [])) in
     let signature' : IsTypedSignature v0 all = subst (λ (es : List SymbolTree). IsTypedSignature v0 es) (sym e.symbols_are) typed.signature in
     let scopes' : AreTypedScopes (with_entries v0 all) s names =
-    subst (λ (es : List SymbolTree). AreTypedScopes (with_entries v0 es) s names) (sym e.symbols_are) (subst (λ (m : Names). AreTypedScopes (with_entries v0 (c.symbols ++ e.outcome.symbols)) s m) (sym e.scope) typed.scopes) in
+    subst (λ (es : List SymbolTree). AreTypedScopes (with_entries v0 es) s names) (sym e.symbols_are) (subst (λ (m : ScopeNames). AreTypedScopes (with_entries v0 (c.symbols ++ e.outcome.symbols)) s m) (sym e.scope) typed.scopes) in
     let part = agrees_part v (after all own ds) all (nothing_more all own ds new none) in
     let part0 = agrees_part v0 (after all [] ds) all (nothing_more all [] ds new none) in
     let long = longer c ds goal g s g' names it h below r tt e in

@@ -10,17 +10,17 @@ use Rattle.tasks.specs.Vocabulary.{Vocabulary, is_empty}
 use Rattle.tasks.specs.Typing.{IsTypeSymbol}
 use Rattle.tasks.specs.Valid.{IsTypeIn, IsAlgebraic, IsValidDecl}
 use Rattle.syntax_why.specs.Lexeme.{Word}
-use Rattle.elab_names.specs.Abstract.{Forms, count_forms}
+use Rattle.elab_names.specs.Abstract.{TypeExpressions, count_forms}
 use Rattle.elab_names.specs.Faults.{forms_fault}
 use Rattle.elab_names.specs.Where.{Where}
-use Rattle.elab_variables.specs.Seen.{Seen, has_width, forms_seen}
+use Rattle.elab_variables.specs.Seen.{SeenTree, has_width, forms_seen}
 use Rattle.elab_walk.specs.Scoped.{IsScoped}
 use Rattle.elab_walk.specs.Pieces.{types_at}
 use Rattle.elab_walk.proofs.Below.{AreBelow, forms_below}
 use Rattle.elab_walk.proofs.Walking.{none_both}
 use Rattle.elab_parts.specs.Elaborated.{unseen}
 use Rattle.elab_parts.specs.Entries.{tuple_in}
-use Rattle.elab_parts.specs.Declarations.{Called, Constructor, Algebraic, words, with_vars, constructors_fault, types_fault}
+use Rattle.elab_parts.specs.Declarations.{TokenName, AlgebraicConstructor, AlgebraicType, words, with_vars, constructors_fault, types_fault}
 use Rattle.elab_parts.specs.Outcomes.{Setting, tuples_wanting}
 use Rattle.elab_parts.proofs.Scopes.{tuples_below}
 use Rattle.elab_types.specs.Algebraics.{constructors_seen, types_seen, group_seen, entry_count, first_type, first_constructor, group_names, type_entries, constructor_trees, algebraic_trees, group_trees, group_entries, group_outcome}
@@ -38,21 +38,21 @@ use Rattle.valid_tasks.proofs.Settings.{inside, inside_typed, of_below, meaning_
 use Rattle.valid_tasks.proofs.Algebraics.{EntriesAt, entries_at, groups_valid, types_scoped, TypesOn, types_on, ConsIn, GroupIn, group_typed}
 
 -- ---- widths
-constructors_grow : (ks : List Constructor) (s : Seen) → IsWithin s (constructors_seen s ks)
+constructors_grow : (ks : List AlgebraicConstructor) (s : SeenTree) → IsWithin s (constructors_seen s ks)
 constructors_grow [] s = λ n h. h
 constructors_grow (k ∷ ks) s = λ n h. constructors_grow ks (forms_seen s k.fields) n (forms_grow k.fields s n h)
 
-types_grow : (ts : List Algebraic) (s : Seen) → IsWithin s (types_seen s ts)
+types_grow : (ts : List AlgebraicType) (s : SeenTree) → IsWithin s (types_seen s ts)
 types_grow [] s = λ n h. h
 types_grow (a ∷ ts) s = λ n h. types_grow ts (constructors_seen s a.constructors) n (constructors_grow a.constructors s n h)
 
 -- ---- entries of types
 module _ (theory within : Word) where
-  count_types : (ts : List Algebraic) → length (type_entries theory within ts) ≡ length ts
+  count_types : (ts : List AlgebraicType) → length (type_entries theory within ts) ≡ length ts
   count_types [] = refl
   count_types (a ∷ ts) = ap suc (count_types ts)
 
-  types_typed : (v : Vocabulary) (ts : List Algebraic) → All (IsTypedEntry v) (type_entries theory within ts)
+  types_typed : (v : Vocabulary) (ts : List AlgebraicType) → All (IsTypedEntry v) (type_entries theory within ts)
   types_typed v [] = All-nil (IsTypedEntry v)
   types_typed v (a ∷ ts) = All-cons (IsTypedEntry v) _ (type_entries theory within ts) (type_entry_typed v theory (within ++ a.called.name) (length a.vars)) (types_typed v ts)
 
@@ -61,7 +61,7 @@ module _ (base : Vocabulary) (w : Where) (sig : IsTypedSignature base w.symbols)
   abbrev v : Vocabulary
   v = with_entries base w.symbols
 
-  abbrev HaveAll : Seen → Type 0
+  abbrev HaveAll : SeenTree → Type 0
   HaveAll s = (n : ℕ) → has_width n s.widths ≡ true → HasTuple base w n
 
   scoped : (vs : List Word) → IsScoped (with_vars w vs)
@@ -75,15 +75,15 @@ module _ (base : Vocabulary) (w : Where) (sig : IsTypedSignature base w.symbols)
   each_in n [] o b = All-nil (IsTypeIn v n)
   each_in n (t ∷ ts) o b = let g = over_good v true [] t o.0 in All-cons (IsTypeIn v n) t ts (record { sort = g.1; typed = g.0.0; variables = of_below n t b.0 }) (each_in n ts o.1 b.1)
 
-  fields_in : (a : Algebraic) (fs : Forms) (s : Seen) → HaveAll (forms_seen s fs) → forms_fault (with_vars w (words a.vars)) false fs ≡ None → All (IsTypeIn v (length a.vars)) (types_at (with_vars w (words a.vars)) fs)
+  fields_in : (a : AlgebraicType) (fs : TypeExpressions) (s : SeenTree) → HaveAll (forms_seen s fs) → forms_fault (with_vars w (words a.vars)) false fs ≡ None → All (IsTypeIn v (length a.vars)) (types_at (with_vars w (words a.vars)) fs)
   fields_in a fs s g q =
       let wa = with_vars w (words a.vars) in
-      let n : length (words a.vars) ≡ length a.vars = length-map a.vars (λ (i : Called). i.name) in
+      let n : length (words a.vars) ≡ length a.vars = length-map a.vars (λ (i : TokenName). i.name) in
       subst (λ (m : ℕ). All (IsTypeIn v m) (types_at wa fs)) n (each_in (length (words a.vars)) (types_at wa fs) (forms_by base wa sig.int sig.int_usable types fs q (forms_tuples base wa fs s g)) (forms_below wa (scoped (words a.vars)) fs q))
 
   -- over a signature with further entries
   module _ (u : Vocabulary) (more : (n : ℕ) (t : Tree) → IsTypeIn v n t → IsTypeIn u n t) where
-    cons_in : (theory within : Word) (named : is_empty theory ≡ false) (a : Algebraic) (ks : List Constructor) (n : ℕ) (s : Seen) → HaveAll (constructors_seen s ks) → constructors_fault (with_vars w (words a.vars)) ks ≡ None → ConsIn theory within named u (length a.vars) (constructor_trees (with_vars w (words a.vars)) n ks)
+    cons_in : (theory within : Word) (named : is_empty theory ≡ false) (a : AlgebraicType) (ks : List AlgebraicConstructor) (n : ℕ) (s : SeenTree) → HaveAll (constructors_seen s ks) → constructors_fault (with_vars w (words a.vars)) ks ≡ None → ConsIn theory within named u (length a.vars) (constructor_trees (with_vars w (words a.vars)) n ks)
     cons_in theory within named a [] n s g q = tt
     cons_in theory within named a (k ∷ ks) n s g q =
         let wa = with_vars w (words a.vars) in
@@ -92,7 +92,7 @@ module _ (base : Vocabulary) (w : Where) (sig : IsTypedSignature base w.symbols)
         let fs = fields_in a k.fields s (λ m h. g m (constructors_grow ks t m h)) p.0 in
         ((λ j d l. more (length a.vars) (get_or (types_at wa k.fields) j d) (fs j d l)), cons_in theory within named a ks (n + (count_forms k.fields + 1)) t g p.1)
 
-    group_in : (theory within : Word) (all : List SymbolTree) → u ≡ with_entries base all → (named : is_empty theory ≡ false) (ts : List Algebraic) (i n : ℕ) (s : Seen) → EntriesAt base all i (type_entries theory within ts) → HaveAll (types_seen s ts) → types_fault w ts ≡ None
+    group_in : (theory within : Word) (all : List SymbolTree) → u ≡ with_entries base all → (named : is_empty theory ≡ false) (ts : List AlgebraicType) (i n : ℕ) (s : SeenTree) → EntriesAt base all i (type_entries theory within ts) → HaveAll (types_seen s ts) → types_fault w ts ≡ None
         → GroupIn theory within named u ts (algebraic_trees w i n ts)
     group_in theory within all e named [] i n s h g q = tt
     group_in theory within all e named (a ∷ ts) i n s h g q =
@@ -102,13 +102,13 @@ module _ (base : Vocabulary) (w : Where) (sig : IsTypedSignature base w.symbols)
         ((subst (λ (x : Vocabulary). IsTypeSymbol x i (length a.vars)) (sym e) symbol, cons_in theory within named a a.constructors n s (λ m z. g m (types_grow ts t m z)) p.0), group_in theory within all e named ts (i + 1) (n + entry_count a.constructors) t h.1 g p.1)
 
 module _ (base : Vocabulary) (c : Setting) (h : IsTypedSetting base c) (s : List Tree) (g : Grows c.trees s) where
-  pub group_valid : (ts : List Algebraic) → types_fault (group.inside c ts) ts ≡ None → NamesNew base (length c.symbols) (c.symbols ++ (group_outcome c ts).symbols) → IsValidOutcome base c s (group_outcome c ts)
+  pub group_valid : (ts : List AlgebraicType) → types_fault (group.inside_types c ts) ts ≡ None → NamesNew base (length c.symbols) (c.symbols ++ (group_outcome c ts).symbols) → IsValidOutcome base c s (group_outcome c ts)
   group_valid ts q all_news =
       let seen = group_seen ts in
       let tuples = tuples_wanting c seen in
       let front = inside base c h seen in
       let T = type_entries c.theory c.within ts in
-      let w = group.inside c ts in
+      let w = group.inside_types c ts in
       let S = c.symbols ++ (tuples ++ T) in
       let i = first_type c ts in
       let n = first_constructor c ts in

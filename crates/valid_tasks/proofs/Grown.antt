@@ -1,4 +1,4 @@
--- Declarations that are valid where they stand stay so over a longer signature, one list after another, and in front of others.
+-- Declarations that are valid where they are stay so over a longer signature, one list after another, and in front of others.
 use Rattle.std.proofs.Common.{◌≡◌, ◌⊎◌, inl, inr, ℕ, ◌<◌, ◌≤◌, ◌||◌, ◌&&◌, zero, suc, Bool, true, false, List, [], ◌∷◌, ◌++◌, length, get_or, slice_get, All, Option, Some, IsTrue, refl, sym, ap, subst, ◌∙◌, arith, append_assoc, append-nil}
 use Rattle.std.specs.List.{Contains}
 use Rattle.std.specs.Option.{is_some}
@@ -10,20 +10,20 @@ use Rattle.tasks.specs.Task.{SymbolTree, symbol_or, int_symbol, DeclarationTree,
 use Rattle.tasks.specs.Roles.{is_constructor, maker, role_by}
 use Rattle.tasks.specs.Vocabulary.{passes, is_empty, is_constructor_kind}
 use Rattle.elab_parts.specs.Entries.{builtin}
-use Rattle.valid_tasks.specs.Scopes.{IsPart}
+use Rattle.valid_tasks.specs.Scopes.{IsSubvocabulary}
 use Rattle.valid_tasks.proofs.Extended.{further}
 use Rattle.valid_tasks.specs.Lists.{is_built, after, AreValidAfter}
 use Rattle.valid_tasks.proofs.Propositions.{formula_more}
 use Rattle.valid_tasks.proofs.Stays.{declaration_stays}
 use Rattle.goal_tasks.specs.Theories.{GoalTree}
 use Rattle.valid_tasks.specs.Built.{IsBuiltRight}
-use Rattle.valid_tasks.specs.Tasks.{IsOwn, IsOfTheory, AreSound, IsQuotedAt, IsSoundGoal, IsSoundAfter}
+use Rattle.valid_tasks.specs.Tasks.{IsOwnSymbol, IsOfTheory, AreSound, IsQuotedAt, IsSoundGoal, IsSoundAfter}
 use Rattle.valid_tasks.proofs.Distinct.{IsDistinct, distinct_pairs, pairs_distinct}
 use Rattle.valid_tasks.proofs.TupleDecls.{made_both}
 use Rattle.valid_tasks.proofs.TaskSound.{each_made}
 
 pub none_sound : (symbols : List SymbolTree) → IsBuiltRight symbols → AreSound symbols []
-none_sound symbols b = record { built = b; valid = tt; once = distinct_pairs [] tt; own = All-nil (IsOwn symbols); theories = All-nil (IsOfTheory symbols) }
+none_sound symbols b = record { built = b; valid = tt; once = distinct_pairs [] tt; own = All-nil (IsOwnSymbol symbols); theories = All-nil (IsOfTheory symbols) }
 
 -- ---- more entries
 module _ (xs ys : List SymbolTree) where
@@ -32,7 +32,7 @@ module _ (xs ys : List SymbolTree) where
       let z : slice_get (xs ++ ys) k ≡ slice_get xs k = further xs ys k e q ∙ sym q in
       subst (λ (o : Option SymbolTree). IsTrue (passes test o || b)) (sym z) h
 
-  pub more_part : (r : List ℕ) (ds : List DeclarationTree) → IsPart (after xs r ds) (after (xs ++ ys) r ds)
+  pub more_part : (r : List ℕ) (ds : List DeclarationTree) → IsSubvocabulary (after xs r ds) (after (xs ++ ys) r ds)
   more_part r ds = record {
     entries = λ k e q. further xs ys k e q;
     rigid = λ k e q h. h;
@@ -44,7 +44,7 @@ module _ (xs ys : List SymbolTree) where
   more_valid before [] h = tt
   more_valid before (d ∷ ds) h = (declaration_stays (after xs [] (before ++ d ∷ [])) (after (xs ++ ys) [] (before ++ d ∷ [])) (more_part [] (before ++ d ∷ [])) d h.0, more_valid (before ++ d ∷ []) ds h.1)
 
-  pub own_below : (k : ℕ) → IsOwn xs k → k < length xs
+  pub own_below : (k : ℕ) → IsOwnSymbol xs k → k < length xs
   own_below k o = of (cases_lt k (length xs))
     where
       of : (k < length xs) ⊎ (length xs ≤ k) → k < length xs
@@ -56,7 +56,7 @@ module _ (xs ys : List SymbolTree) where
           past (e ∷ es) zero l = absurd (omega (arith, l))
           past (e ∷ es) (suc k) l = past es k (omega (arith, l))
 
-  own_more : (k : ℕ) → IsOwn xs k → IsOwn (xs ++ ys) k
+  own_more : (k : ℕ) → IsOwnSymbol xs k → IsOwnSymbol (xs ++ ys) k
   own_more k o =
       let q : symbol_or (xs ++ ys) k ≡ symbol_or xs k = get_or_append_left xs ys int_symbol k (own_below k o) in
       record { stands = ap (λ (e : SymbolTree). is_empty e.theory) q ∙ o.stands; other = ap (λ (e : SymbolTree). bytes_eq e.theory builtin) q ∙ o.other }
@@ -67,7 +67,7 @@ module _ (xs ys : List SymbolTree) where
       let n = get_or (made_by x.body) j k in
       let q : (symbol_or xs n).theory ≡ x.theory = h.theories i d l j k m in
       let c : Contains (made ds) n = each_made ds i d l n (Contains-get_or (made_by x.body) j k m) in
-      let z : symbol_or (xs ++ ys) n ≡ symbol_or xs n = get_or_append_left xs ys int_symbol n (own_below n (All-contains (IsOwn xs) (made ds) n h.own c)) in
+      let z : symbol_or (xs ++ ys) n ≡ symbol_or xs n = get_or_append_left xs ys int_symbol n (own_below n (All-contains (IsOwnSymbol xs) (made ds) n h.own c)) in
       ap (λ (e : SymbolTree). e.theory) z ∙ q
 
   pub sound_more : (ds : List DeclarationTree) → AreSound xs ds → IsBuiltRight (xs ++ ys) → AreSound (xs ++ ys) ds
@@ -114,6 +114,6 @@ front_sound symbols xs ys h =
       once = distinct_pairs (made xs) (front_distinct (made xs) (made ys) (subst IsDistinct e (pairs_distinct (made (xs ++ ys)) h.once)));
       own = λ k i l.
           let c : Contains (made (xs ++ ys)) (get_or (made xs) k i) = subst (λ (ns : List ℕ). Contains ns (get_or (made xs) k i)) (sym e) (Contains-append_left (made xs) (made ys) (get_or (made xs) k i) (Contains-get_or (made xs) k i l)) in
-          All-contains (IsOwn symbols) (made (xs ++ ys)) (get_or (made xs) k i) h.own c;
+          All-contains (IsOwnSymbol symbols) (made (xs ++ ys)) (get_or (made xs) k i) h.own c;
       theories = front_all (IsOfTheory symbols) xs ys h.theories;
     }

@@ -11,17 +11,17 @@ use Rattle.tasks.specs.Equations.{cells, type_variables}
 use Rattle.tasks.specs.Task.{SymbolTree, symbol_or, InductiveTree, Induces, DeclarationTree}
 use Rattle.tasks.specs.Vocabulary.{Vocabulary, is_empty}
 use Rattle.tasks.specs.Valid.{IsTypeIn, IsFormulaOver, IsInductive, IsValidDecl}
-use Rattle.names_space.specs.Names.{Names, with_name}
+use Rattle.names_space.specs.Names.{ScopeNames, with_name}
 use Rattle.names_space.specs.declared.Table.TheVariants.{Symbols, Propositions}
 use Rattle.names_space.specs.declared.TypeName.TheVariants as stands
 use Rattle.syntax_why.specs.Lexeme.{Word}
 use Rattle.elab_names.specs.Naming.{type_named}
-use Rattle.elab_variables.specs.Seen.{Seen, seen}
-use Rattle.elab_parts.specs.Declarations.{Called, Clause, Inductive, Member, params_seen, signature_variables}
+use Rattle.elab_variables.specs.Seen.{SeenTree, seen}
+use Rattle.elab_parts.specs.Declarations.{TokenName, InductiveClause, InductivePredicate, GroupMember, params_seen, signature_variables}
 use Rattle.elab_parts.specs.Elaborated.{unseen}
 use Rattle.elab_parts.specs.Outcomes.{Setting, Outcome, tuples_wanting}
 use Rattle.elab_members.specs.Members.{SignatureTree, signed_entries, signature_trees, members_fault}
-use Rattle.elab_inductives.specs.Inductives.{clauses_seen, inductives_seen, as_member, as_members, formula, formulas, clause_signature, clause_signatures, with_clauses, with_inductives, before_inductives, induced, inductive_decls, IsInductiveGroup, inductives_used, within_inductives}
+use Rattle.elab_inductives.specs.Inductives.{clauses_seen, inductives_seen, as_member, as_members, formula, formula_members, clause_signature, clause_signatures, with_clauses, with_inductives, before_inductives, induced, inductive_decls, IsInductiveGroup, inductives_used, within_inductives}
 use Rattle.elab_inductives.proofs.InductivesNamed.{inductives_types}
 use Rattle.elab_inductives.proofs.ClausesResolved.{members_right, formulas_resolved, formulas_defined}
 use Rattle.decl_checks.specs.Checks.{group_of, OwnClause, own_clauses, all_clauses, ClauseHasForm, ClauseIsPositive, HasNoFault}
@@ -38,40 +38,40 @@ use Rattle.valid_tasks.proofs.Bodies.{params_grow, BodiesSeen, AreSigned, AreBod
 use Rattle.valid_tasks.proofs.Standing.{entry_of, number_of_member, signature_at, AreSeen, whole, own_entries, outer, inner, whole_typed, entries_here, old_scopes, seen_tuples, count_signed}
 
 -- ---- what is seen
-clauses_grow : (cs : List Clause) (s : Seen) → IsWithin s (clauses_seen s cs)
+clauses_grow : (cs : List InductiveClause) (s : SeenTree) → IsWithin s (clauses_seen s cs)
 clauses_grow [] s = λ n z. z
 clauses_grow (c ∷ cs) s = λ n z. clauses_grow cs (seen s c.prop) n (grows c.prop s n z)
 
-inductives_grow : (ds : List Inductive) (s : Seen) → IsWithin s (inductives_seen s ds)
+inductives_grow : (ds : List InductivePredicate) (s : SeenTree) → IsWithin s (inductives_seen s ds)
 inductives_grow [] s = λ n z. z
 inductives_grow (d ∷ ds) s = λ n z. inductives_grow ds (clauses_seen (params_seen s d.params) d.clauses) n (clauses_grow d.clauses (params_seen s d.params) n (params_grow d.params s n z))
 
-predicates_seen : (all : Seen) (ds : List Inductive) (u : Seen) → IsWithin (inductives_seen u ds) all → AreSeen all (as_members ds)
+predicates_seen : (all : SeenTree) (ds : List InductivePredicate) (u : SeenTree) → IsWithin (inductives_seen u ds) all → AreSeen all (as_members ds)
 predicates_seen all [] u g = tt
 predicates_seen all (d ∷ ds) u g =
     let one = params_seen u d.params in
     let two = clauses_seen one d.clauses in
     ((u, λ n z. g n (inductives_grow ds two n (clauses_grow d.clauses one n z))), predicates_seen all ds two g)
 
-clauses_seen_in : (all : Seen) (p : Called) (cs : List Clause) (rest : List Member) (u : Seen) → IsWithin (clauses_seen u cs) all → BodiesSeen all rest → BodiesSeen all (map (formula p) cs ++ rest)
+clauses_seen_in : (all : SeenTree) (p : TokenName) (cs : List InductiveClause) (rest : List GroupMember) (u : SeenTree) → IsWithin (clauses_seen u cs) all → BodiesSeen all rest → BodiesSeen all (map (formula p) cs ++ rest)
 clauses_seen_in all p [] rest u g k = k
 clauses_seen_in all p (c ∷ cs) rest u g k = ((u, λ n z. g n (clauses_grow cs (seen u c.prop) n z)), clauses_seen_in all p cs rest (seen u c.prop) g k)
 
-formulas_seen : (all : Seen) (ds : List Inductive) (u : Seen) → IsWithin (inductives_seen u ds) all → BodiesSeen all (formulas ds)
+formulas_seen : (all : SeenTree) (ds : List InductivePredicate) (u : SeenTree) → IsWithin (inductives_seen u ds) all → BodiesSeen all (formula_members ds)
 formulas_seen all [] u g = tt
 formulas_seen all (d ∷ ds) u g =
     let one = params_seen u d.params in
     let two = clauses_seen one d.clauses in
-    clauses_seen_in all d.called d.clauses (formulas ds) one (λ n z. g n (inductives_grow ds two n z)) (formulas_seen all ds two g)
+    clauses_seen_in all d.called d.clauses (formula_members ds) one (λ n z. g n (inductives_grow ds two n z)) (formulas_seen all ds two g)
 
 -- ---- formulas have no parameters and no result
-clauses_signed : (v : Vocabulary) (d : Inductive) (cs : List Clause) (ms : List Member) (gs : List SignatureTree) → AreSigned v ms gs → AreSigned v (map (formula d.called) cs ++ ms) (map (clause_signature d) cs ++ gs)
+clauses_signed : (v : Vocabulary) (d : InductivePredicate) (cs : List InductiveClause) (ms : List GroupMember) (gs : List SignatureTree) → AreSigned v ms gs → AreSigned v (map (formula d.called) cs ++ ms) (map (clause_signature d) cs ++ gs)
 clauses_signed v d [] ms gs h = h
 clauses_signed v d (c ∷ cs) ms gs h = (record { args = All-nil (IsTypeIn v (length (clause_signature d c).vars)); result = tt; kind = refl }, clauses_signed v d cs ms gs h)
 
-formulas_signed : (v : Vocabulary) (ds : List Inductive) → AreSigned v (formulas ds) (clause_signatures ds)
+formulas_signed : (v : Vocabulary) (ds : List InductivePredicate) → AreSigned v (formula_members ds) (clause_signatures ds)
 formulas_signed v [] = tt
-formulas_signed v (d ∷ ds) = clauses_signed v d d.clauses (formulas ds) (clause_signatures ds) (formulas_signed v ds)
+formulas_signed v (d ∷ ds) = clauses_signed v d d.clauses (formula_members ds) (clause_signatures ds) (formulas_signed v ds)
 
 -- ---- the clauses of one predicate
 abbrev AreTyped : Vocabulary → List Tree → Type 0
@@ -81,7 +81,7 @@ none_bodied : (v : Vocabulary) (gs : List SignatureTree) → AreBodied v gs []
 none_bodied v [] = tt
 none_bodied v (g ∷ gs) = tt
 
-clauses_typed : (v : Vocabulary) (d : Inductive) (cs : List Clause) (gs : List SignatureTree) (bs : List Tree) → AreBodied v (map (clause_signature d) cs ++ gs) bs → AreTyped v (take (length cs) bs) × AreBodied v gs (drop (length cs) bs)
+clauses_typed : (v : Vocabulary) (d : InductivePredicate) (cs : List InductiveClause) (gs : List SignatureTree) (bs : List Tree) → AreBodied v (map (clause_signature d) cs ++ gs) bs → AreTyped v (take (length cs) bs) × AreBodied v gs (drop (length cs) bs)
 clauses_typed v d [] gs bs h = (tt, h)
 clauses_typed v d (c ∷ cs) gs [] h = (tt, none_bodied v gs)
 clauses_typed v d (c ∷ cs) gs (b ∷ bs) h = let r = clauses_typed v d cs gs bs h.1 in (((λ i. (h.0 i).typed), r.0), r.1)
@@ -114,11 +114,11 @@ module _ (theory within : Word) (named : is_empty theory ≡ false) (base : Voca
   v' = with_entries base all
 
   -- their names, and those of their clauses
-  clauses_scoped : (s : List Tree) (n : ℕ) (cs : List Clause) (names : Names) → AreTypedScopes v' s names → AreTypedScopes v' s (with_clauses n cs names)
+  clauses_scoped : (s : List Tree) (n : ℕ) (cs : List InductiveClause) (names : ScopeNames) → AreTypedScopes v' s names → AreTypedScopes v' s (with_clauses n cs names)
   clauses_scoped s n [] names x = x
   clauses_scoped s n (c ∷ cs) names x = clauses_scoped s n cs (with_name Propositions c.called.name (stands.Entry n) true names) (scopes_more (IsTypedThing v' s) names Propositions c.called.name (stands.Entry n) true tt x)
 
-  predicates_scoped : (s : List Tree) (n : ℕ) (ds : List Inductive) (gs : List SignatureTree) (k : ℕ) (names : Names) → length gs ≡ length ds → EntriesAt base all k (signed_entries theory within (as_members ds) gs) → AreTypedScopes v' s names
+  predicates_scoped : (s : List Tree) (n : ℕ) (ds : List InductivePredicate) (gs : List SignatureTree) (k : ℕ) (names : ScopeNames) → length gs ≡ length ds → EntriesAt base all k (signed_entries theory within (as_members ds) gs) → AreTypedScopes v' s names
       → AreTypedScopes v' s (with_inductives n k ds names)
   predicates_scoped s n [] gs k names l h x = x
   predicates_scoped s n (d ∷ ds) [] k names l h x = absurd (cc)
@@ -130,7 +130,7 @@ module _ (theory within : Word) (named : is_empty theory ≡ false) (base : Voca
       (clauses_scoped s n d.clauses own (scopes_more (IsTypedThing v' s) names Symbols d.called.name (stands.Entry k) true (number_of_member theory within named base all typed (as_member d) g k h.0) x))
 
   -- the predicates of a group, whose clauses pass the checks
-  predicates_valid : (group : List ℕ) (ds : List Inductive) (gs : List SignatureTree) (bs : List Tree) (k : ℕ) → length gs ≡ length ds → EntriesAt base all k (signed_entries theory within (as_members ds) gs) → AreBodied v' (clause_signatures ds) bs
+  predicates_valid : (group : List ℕ) (ds : List InductivePredicate) (gs : List SignatureTree) (bs : List Tree) (k : ℕ) → length gs ≡ length ds → EntriesAt base all k (signed_entries theory within (as_members ds) gs) → AreBodied v' (clause_signatures ds) bs
       → All (λ (i : InductiveTree). All IndicesFit i.clauses) (induced k ds bs) → AllByRecursion (ClauseHasForm all group) (all_clauses (induced k ds bs)) → AllByRecursion (ClauseIsPositive group) (all_clauses (induced k ds bs))
       → All (IsInductive v' group) (induced k ds bs)
   predicates_valid group [] gs bs k l h t i f p = All-nil (IsInductive v' group)
@@ -157,19 +157,19 @@ module _ (theory within : Word) (named : is_empty theory ≡ false) (base : Voca
       })
       (predicates_valid group ds gs more (suc k) (omega (arith, l)) next typed'.1 (λ j e z. i (suc j) e (omega arith)) forms.1 places.1)
 
-count_members : (ds : List Inductive) → length (as_members ds) ≡ length ds
+count_members : (ds : List InductivePredicate) → length (as_members ds) ≡ length ds
 count_members [] = refl
 count_members (d ∷ ds) = ap suc (count_members ds)
 
--- ---- a group where it stands
-module _ (base : Vocabulary) (c : Setting) (h : IsTypedSetting base c) (s : List Tree) (g : Grows c.trees s) (ds : List Inductive) (q : inductives_used c ds ≡ None) where
-  abbrev all_seen : Seen
+-- ---- a group where it is
+module _ (base : Vocabulary) (c : Setting) (h : IsTypedSetting base c) (s : List Tree) (g : Grows c.trees s) (ds : List InductivePredicate) (q : inductives_used c ds ≡ None) where
+  abbrev all_seen : SeenTree
   all_seen = inductives_seen unseen ds
 
-  abbrev ms : List Member
+  abbrev ms : List GroupMember
   ms = as_members ds
 
-  abbrev names' : Names
+  abbrev names' : ScopeNames
   names' = with_inductives c.decl (length (inside base c h all_seen)) ds c.scope
 
   same_types : (qs : List Word) (x : Word) → type_named names' qs x ≡ type_named c.scope qs x
@@ -200,7 +200,7 @@ module _ (base : Vocabulary) (c : Setting) (h : IsTypedSetting base c) (s : List
     scopes : (t : List Tree) → Grows c.trees t → AreTypedScopes (with_entries base A) t names'
     scopes t r = predicates_scoped c.theory c.within h.theory base A typed t c.decl ds gs (length (inside base c h all_seen)) c.scope count here (old_scopes base c h ms all_seen names' same_types news sees right t r)
 
-    decls_valid : (ks : List Inductive) (hs : List SignatureTree) (bs : List Tree) (k : ℕ) → length hs ≡ length ks → EntriesAt base A k (signed_entries c.theory c.within (as_members ks) hs) → AreBodied (with_entries base A) (clause_signatures ks) bs
+    decls_valid : (ks : List InductivePredicate) (hs : List SignatureTree) (bs : List Tree) (k : ℕ) → length hs ≡ length ks → EntriesAt base A k (signed_entries c.theory c.within (as_members ks) hs) → AreBodied (with_entries base A) (clause_signatures ks) bs
         → DeclsFit (inductive_decls c.theory c.within ks k bs) → HaveNoFault A (inductive_decls c.theory c.within ks k bs) → All (IsValidDecl (with_entries base A)) (inductive_decls c.theory c.within ks k bs)
     decls_valid [] hs bs k l e t fits right' = All-nil (IsValidDecl (with_entries base A))
     decls_valid (d ∷ ks) hs bs k l e t fits right' =
@@ -224,7 +224,7 @@ module _ (base : Vocabulary) (c : Setting) (h : IsTypedSetting base c) (s : List
         let v = with_entries base A in
         let w = inner base c h ms all_seen names' same_types [] in
         let bodied : AreBodied v (clause_signatures ds) it.clauses =
-        bodies_valid base c.trees A (typed news) names' (scopes news c.trees (Grows_refl c.trees)) all_seen (seen_tuples base c h ms all_seen names' same_types news sees right) (formulas ds) (clause_signatures ds) it.clauses o.matches (formulas_defined ds) (formulas_signed v ds) (formulas_resolved w ds q)
+        bodies_valid base c.trees A (typed news) names' (scopes news c.trees (Grows_refl c.trees)) all_seen (seen_tuples base c h ms all_seen names' same_types news sees right) (formula_members ds) (clause_signatures ds) it.clauses o.matches (formulas_defined ds) (formulas_signed v ds) (formulas_resolved w ds q)
         (formulas_seen all_seen ds unseen (λ n z. z)) it.solved in
         let scopes' : AreTypedScopes v s o.scope = rw it.scope (scopes news s g) in
         let passes' : HaveNoFault A o.decls = subst (λ (es : List SymbolTree). HaveNoFault es o.decls) split passes in
@@ -238,5 +238,5 @@ module _ (base : Vocabulary) (c : Setting) (h : IsTypedSetting base c) (s : List
         let v = with_entries base A in
         let w = inner base c h ms all_seen names' same_types [] in
         let z = split in
-        rw z (bodies_patterns base c.trees A (typed news) names' (scopes news c.trees (Grows_refl c.trees)) all_seen (seen_tuples base c h ms all_seen names' same_types news sees right) (formulas ds) (clause_signatures ds) it.clauses o.matches (formulas_signed v ds) (formulas_resolved w ds q)
+        rw z (bodies_patterns base c.trees A (typed news) names' (scopes news c.trees (Grows_refl c.trees)) all_seen (seen_tuples base c h ms all_seen names' same_types news sees right) (formula_members ds) (clause_signatures ds) it.clauses o.matches (formulas_signed v ds) (formulas_resolved w ds q)
         (formulas_seen all_seen ds unseen (λ n z. z)) it.solved)

@@ -10,7 +10,7 @@ use Rattle.tasks.specs.Roles.{is_constructor, is_made_by, maker, role_by}
 use Rattle.tasks.specs.Vocabulary.{passes, is_constructor_kind}
 use Rattle.tasks.specs.Valid.{IsValidDecl}
 use Rattle.tasks.proofs.Declared.{none_in, any_iff, maker_made, made_maker}
-use Rattle.valid_tasks.specs.Scopes.{IsPart, IsTypedEntry, IsTypedSignature}
+use Rattle.valid_tasks.specs.Scopes.{IsSubvocabulary, IsTypedEntry, IsTypedSignature}
 use Rattle.valid_tasks.proofs.Extended.{further, entry_more}
 use Rattle.valid_tasks.proofs.Signed.{some_at}
 use Rattle.valid_tasks.proofs.Words.{self_word}
@@ -18,7 +18,7 @@ use Rattle.valid_tasks.specs.Lists.{is_built, after, AreValidAfter}
 use Rattle.valid_tasks.proofs.Lists.{or_more, list_part}
 use Rattle.valid_tasks.proofs.Stays.{declaration_stays}
 use Rattle.valid_tasks.specs.Joined.{has_theory, fresh, Agree}
-use Rattle.valid_tasks.specs.Tasks.{IsOwn, IsOfTheory, AreSound}
+use Rattle.valid_tasks.specs.Tasks.{IsOwnSymbol, IsOfTheory, AreSound}
 use Rattle.valid_tasks.proofs.Distinct.{IsDistinct, distinct_pairs, pairs_distinct, distinct_both}
 use Rattle.valid_tasks.proofs.TupleDecls.{made_both}
 use Rattle.valid_tasks.proofs.TaskSound.{each_made, maker_all}
@@ -145,7 +145,7 @@ module _ (symbols : List SymbolTree) (ds es : List DeclarationTree) (first : Are
   distinct : IsDistinct (made (ds ++ new))
   distinct = subst IsDistinct (sym (made_both ds new)) (distinct_both (made ds) (made new) (pairs_distinct (made ds) first.once) (filter_distinct p es (pairs_distinct (made es) second.once)) apart)
 
-  -- a declaration of the second list stands in a part of both that has those before it
+  -- a declaration of the second list is in a part of both that has those before it
   stands : (e b : DeclarationTree) (pre : List DeclarationTree) → Contains es b → p e ≡ true → Contains (pre ++ e ∷ []) b → Contains ((ds ++ filter p pre) ++ e ∷ []) b
   stands e b pre i q h = of (has_theory ds b.theory) refl (Contains-append_cases pre (e ∷ []) b h)
     where
@@ -187,7 +187,7 @@ module _ (symbols : List SymbolTree) (ds es : List DeclarationTree) (first : Are
     role_more k None z h = absurd (let u : true ≡ false = sym h in cc)
     role_more k (Some b) z h = let y = maker_same k b z in rw y h
 
-    joined_part : IsPart (after symbols [] old) (after symbols [] both)
+    joined_part : IsSubvocabulary (after symbols [] old) (after symbols [] both)
     joined_part = record {
       entries = λ k i z. z;
       rigid = λ k i z h. h;
@@ -217,12 +217,12 @@ module _ (symbols : List SymbolTree) (ds es : List DeclarationTree) (first : Are
     built = first.built;
     valid = then_valid symbols [] ds new first.valid (subst (λ (xs : List DeclarationTree). AreValidAfter symbols xs new) (append-nil ds) (joined_from [] es refl second.valid));
     once = distinct_pairs (made (ds ++ new)) distinct;
-    own = subst (All (IsOwn symbols)) (sym (made_both ds new)) (All-append (IsOwn symbols) (made ds) (made new) first.own (λ k i l. All-contains (IsOwn symbols) (made es) (get_or (made new) k i) second.own (filter_made p es (get_or (made new) k i) (Contains-get_or (made new) k i l))));
+    own = subst (All (IsOwnSymbol symbols)) (sym (made_both ds new)) (All-append (IsOwnSymbol symbols) (made ds) (made new) first.own (λ k i l. All-contains (IsOwnSymbol symbols) (made es) (get_or (made new) k i) second.own (filter_made p es (get_or (made new) k i) (Contains-get_or (made new) k i l))));
     theories = All-append (IsOfTheory symbols) ds new first.theories (All-filter p (IsOfTheory symbols) es second.theories);
   }
 
   -- what the second list makes may be named as before
-  whole_part : IsPart (after symbols [] es) (after symbols [] (ds ++ new))
+  whole_part : IsSubvocabulary (after symbols [] es) (after symbols [] (ds ++ new))
   whole_part = record {
     entries = λ k i z. z;
     rigid = λ k i z h. h;
@@ -277,10 +277,10 @@ module _ (xs ys : List SymbolTree) (ds es : List DeclarationTree) (first : AreSo
   pub later_sound : AreSound all joined
   later_sound = joined_sound all ds es first again agree
 
-  pub first_part : IsPart (after all [] ds) (after all [] joined)
+  pub first_part : IsSubvocabulary (after all [] ds) (after all [] joined)
   first_part = list_part all [] ds (fresh ds es)
 
-  pub second_part : IsPart (after xs [] es) (after all [] joined)
+  pub second_part : IsSubvocabulary (after xs [] es) (after all [] joined)
   second_part =
       let a = more_part xs ys [] es in
       let b = whole_part all ds es first again agree in
@@ -304,7 +304,7 @@ module _ (xs ys : List SymbolTree) (ds es : List DeclarationTree) (first : AreSo
 
         made_in : Contains (made es) k → IsFrom k e
         made_in c =
-            let l : k < length xs = own_below xs ys k (All-contains (IsOwn xs) (made es) k second.own c) in
+            let l : k < length xs = own_below xs ys k (All-contains (IsOwnSymbol xs) (made es) k second.own c) in
             let z : slice_get xs k ≡ Some (symbol_or xs k) = some_at xs k int_symbol l in
             let y : Some (symbol_or xs k) ≡ Some e = sym (further xs ys k (symbol_or xs k) z) ∙ q in
             inr (z ∙ y, right (passes is_built (slice_get xs k)) (is_some (maker es k)) (made_maker k es c))

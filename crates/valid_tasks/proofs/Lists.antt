@@ -1,4 +1,4 @@
--- Declarations that are valid where they stand are valid over what all of them make.
+-- Declarations that are valid where they are are valid over what all of them make.
 use Rattle.std.proofs.Common.{◌≡◌, ℕ, ◌||◌, Bool, true, false, List, [], ◌∷◌, ◌++◌, All, Option, Some, None, IsTrue, refl, sym, subst, append_assoc}
 use Rattle.std.specs.Option.{is_some, option_or}
 use Rattle.std.proofs.lemmas.List.Elements.{All-nil, All-cons}
@@ -6,7 +6,7 @@ use Rattle.std.proofs.lemmas.List.Folds.{find-append}
 use Rattle.tasks.specs.Task.{SymbolTree, DeclarationTree}
 use Rattle.tasks.specs.Roles.{is_constructor, is_made_by, maker, role_by}
 use Rattle.tasks.specs.Valid.{IsValidDecl}
-use Rattle.valid_tasks.specs.Scopes.{IsPart}
+use Rattle.valid_tasks.specs.Scopes.{IsSubvocabulary}
 use Rattle.valid_tasks.specs.Lists.{after, AreValidAfter}
 use Rattle.valid_tasks.proofs.Stays.{declaration_stays}
 
@@ -33,7 +33,7 @@ module _ (symbols : List SymbolTree) where
   role_more : (xs ys : List DeclarationTree) (k : ℕ) → IsTrue (is_constructor (role_by k (maker xs k))) → IsTrue (is_constructor (role_by k (maker (xs ++ ys) k)))
   role_more xs ys k h = let e = maker_both xs ys k in rw e (role_first k (maker xs k) (maker ys k) h)
 
-  pub list_part : (r : List ℕ) (xs ys : List DeclarationTree) → IsPart (after symbols r xs) (after symbols r (xs ++ ys))
+  pub list_part : (r : List ℕ) (xs ys : List DeclarationTree) → IsSubvocabulary (after symbols r xs) (after symbols r (xs ++ ys))
   list_part r xs ys = record {
     entries = λ k e q. q;
     rigid = λ k e q h. h;

@@ -11,10 +11,10 @@ use Rattle.tasks.specs.Task.{SymbolTree, DefinitionTree, InductiveTree, Declarat
 use Rattle.tasks.specs.Roles.{is_constructor, maker, role_by}
 use Rattle.tasks.proofs.Declared.{contains_step}
 use Rattle.syntax_why.specs.Lexeme.{Word}
-use Rattle.elab_names.specs.Abstract.{Form}
+use Rattle.elab_names.specs.Abstract.{TypeExpression}
 use Rattle.elab_parts.specs.Entries.{type_entry, projections, constructor_entries, builtin, tuple_in, wanting_tuple, wanting_tuples}
-use Rattle.elab_parts.specs.Declarations.{Member, Inductive}
-use Rattle.elab_members.specs.Members.{SignatureTree, signed_entries, kind_of}
+use Rattle.elab_parts.specs.Declarations.{GroupMember, InductivePredicate}
+use Rattle.elab_members.specs.Members.{SignatureTree, signed_entries, symbol_kind_of}
 use Rattle.elab_groups.specs.Groups.{definitions}
 use Rattle.elab_inductives.specs.Inductives.{induced}
 use Rattle.valid_tasks.proofs.Extended.{in_either, slice_all, slice_below}
@@ -90,22 +90,22 @@ from_step k ks m h zero l = contains_step k (k + 0) ks (inl (omega arith))
 from_step k ks m h (suc j) l = contains_step k (k + suc j) ks (inr (let q : suc k + j ≡ k + suc j = omega arith in subst (λ (i : ℕ). Contains ks i) q (h j (omega arith))))
 
 -- ---- functions and predicates, which are no constructors
-no_constructor : (f : Option Form) → kind_of f ≢ Constructor
+no_constructor : (f : Option TypeExpression) → symbol_kind_of f ≢ Constructor
 no_constructor None = λ q. cc
 no_constructor (Some f) = λ q. cc
 
-signed_kinds : (theory within : Word) (ms : List Member) (gs : List SignatureTree) → All (λ (e : SymbolTree). e.kind ≢ Constructor) (signed_entries theory within ms gs)
+signed_kinds : (theory within : Word) (ms : List GroupMember) (gs : List SignatureTree) → All (λ (e : SymbolTree). e.kind ≢ Constructor) (signed_entries theory within ms gs)
 signed_kinds theory within [] gs = All-nil (λ (e : SymbolTree). e.kind ≢ Constructor)
 signed_kinds theory within (m ∷ ms) [] = All-nil (λ (e : SymbolTree). e.kind ≢ Constructor)
 signed_kinds theory within (m ∷ ms) (g ∷ gs) = All-cons (λ (e : SymbolTree). e.kind ≢ Constructor) _ (signed_entries theory within ms gs) (no_constructor m.result) (signed_kinds theory within ms gs)
 
-pub signed_length : (theory within : Word) (ms : List Member) (gs : List SignatureTree) → length gs ≡ length ms → length (signed_entries theory within ms gs) ≡ length gs
+pub signed_length : (theory within : Word) (ms : List GroupMember) (gs : List SignatureTree) → length gs ≡ length ms → length (signed_entries theory within ms gs) ≡ length gs
 signed_length theory within [] [] q = refl
 signed_length theory within [] (g ∷ gs) q = absurd (cc)
 signed_length theory within (m ∷ ms) [] q = absurd (cc)
 signed_length theory within (m ∷ ms) (g ∷ gs) q = ap suc (signed_length theory within ms gs (omega (arith, q)))
 
-pub signed_new : (ds : List DeclarationTree) (n : ℕ) (theory within : Word) (ms : List Member) (gs : List SignatureTree) → HasFrom (made ds) n (length (signed_entries theory within ms gs)) → AreNew ds n (signed_entries theory within ms gs)
+pub signed_new : (ds : List DeclarationTree) (n : ℕ) (theory within : Word) (ms : List GroupMember) (gs : List SignatureTree) → HasFrom (made ds) n (length (signed_entries theory within ms gs)) → AreNew ds n (signed_entries theory within ms gs)
 signed_new ds n theory within ms gs h = λ j e z.
     let es = signed_entries theory within ms gs in
     inr (inr (record { made = h j (slice_below es j e z); constructor = λ q. absurd (slice_all (λ (i : SymbolTree). i.kind ≢ Constructor) es (signed_kinds theory within ms gs) j e z q) }))
@@ -116,7 +116,7 @@ defined_from k [] bs q = λ j l. absurd (omega arith)
 defined_from k (g ∷ gs) [] q = absurd (cc)
 defined_from k (g ∷ gs) (b ∷ bs) q = from_step k (map (λ (d : DefinitionTree). d.symbol) (definitions (suc k) gs bs)) (length gs) (defined_from (suc k) gs bs (omega (arith, q)))
 
-pub induced_from : (k : ℕ) (is : List Inductive) (bs : List Tree) → HasFrom (map (λ (i : InductiveTree). i.symbol) (induced k is bs)) k (length is)
+pub induced_from : (k : ℕ) (is : List InductivePredicate) (bs : List Tree) → HasFrom (map (λ (i : InductiveTree). i.symbol) (induced k is bs)) k (length is)
 induced_from k [] bs = λ j l. absurd (omega arith)
 induced_from k (d ∷ is) bs = from_step k (map (λ (i : InductiveTree). i.symbol) (induced (suc k) is (drop (length d.clauses) bs))) (length is) (induced_from (suc k) is (drop (length d.clauses) bs))
 
@@ -140,7 +140,7 @@ defined_between k m (g ∷ gs) (b ∷ bs) l =
     let ks = map (λ (d : DefinitionTree). d.symbol) (definitions (suc k) gs bs) in
     one_between k k m ks (omega arith) (omega arith) (wider (suc k) k m m ks (omega arith) (omega arith) (defined_between (suc k) m gs bs (omega arith)))
 
-pub induced_between : (k m : ℕ) (is : List Inductive) (bs : List Tree) → k + length is ≤ m → AreBetween k m (map (λ (i : InductiveTree). i.symbol) (induced k is bs))
+pub induced_between : (k m : ℕ) (is : List InductivePredicate) (bs : List Tree) → k + length is ≤ m → AreBetween k m (map (λ (i : InductiveTree). i.symbol) (induced k is bs))
 induced_between k m [] bs l = no_numbers k m
 induced_between k m (d ∷ is) bs l =
     let ks = map (λ (i : InductiveTree). i.symbol) (induced (suc k) is (drop (length d.clauses) bs)) in

@@ -6,8 +6,8 @@ use Rattle.std.proofs.lemmas.Bool.Decides.{nat_tests}
 use Rattle.std.proofs.lemmas.List.Elements.{All-nil, All-cons, All-append, Contains-append_left, Contains-append_right}
 use Rattle.trees.specs.Tree.{Tree}
 use Rattle.tasks.specs.declared.signature.SymbolKind.TheVariants.{Constructor}
-use Rattle.tasks.specs.Task.{SymbolTree, ConTree, Constructs, DeclarationTree, made, made_by, made_by_cons, made_by_types}
-use Rattle.tasks.specs.Roles.{RoleTree, Plain, or_role, projected_as, constructed_as, algebraic_as, is_constructor, is_made_by, maker, role_by}
+use Rattle.tasks.specs.Task.{SymbolTree, ConstructorTree, Constructs, DeclarationTree, made, made_by, made_by_cons, made_by_types}
+use Rattle.tasks.specs.Roles.{RoleTree, PlainRole, or_role, projected_as, constructed_as, algebraic_as, is_constructor, is_made_by, maker, role_by}
 use Rattle.tasks.specs.Roles as roles
 use Rattle.tasks.specs.Valid.{own_type}
 use Rattle.tasks.proofs.Declared.{contains_step, any_iff}
@@ -15,9 +15,9 @@ use Rattle.syntax_why.specs.Lexeme.{Word}
 use Rattle.elab_names.specs.Abstract.{count_forms}
 use Rattle.elab_names.specs.Where.{Where}
 use Rattle.elab_walk.specs.Pieces.{types_at}
-use Rattle.elab_parts.specs.Declarations.{Constructor as ConstructorOf, Algebraic, words, with_vars}
+use Rattle.elab_parts.specs.Declarations.{AlgebraicConstructor as ConstructorOf, AlgebraicType, words, with_vars}
 use Rattle.elab_parts.specs.Entries.{projections}
-use Rattle.elab_types.specs.Algebraics.{entry_count, group_count, numbers_from, type_entries, constructor_trees, algebraic_trees, constructors_entries, group_entries}
+use Rattle.elab_types.specs.Algebraics.{entry_count, group_count, numbering_from, type_entries, constructor_trees, algebraic_trees, constructors_entries, group_entries}
 use Rattle.valid_tasks.proofs.Extended.{in_either, slice_all, slice_below}
 use Rattle.valid_tasks.proofs.Algebraics.{types_length, count_cons}
 use Rattle.valid_tasks.proofs.Made.{HasFrom, from_step, AreBetween, wider, one_between, no_numbers, AreNew}
@@ -35,24 +35,24 @@ both_from xs ys n m a b q h k = λ j l. of j l (cases_lt j a)
 with_one : (x : ℕ) (xs : List ℕ) (n m : ℕ) → HasFrom xs n m → HasFrom (x ∷ xs) n m
 with_one x xs n m h = λ j l. contains_step x (n + j) xs (inr (h j l))
 
-numbers_has : (n : ℕ) (ts : List Tree) → HasFrom (numbers_from n ts) n (length ts)
+numbers_has : (n : ℕ) (ts : List Tree) → HasFrom (numbering_from n ts) n (length ts)
 numbers_has n [] = λ j l. absurd (omega arith)
 numbers_has n (t ∷ ts) =
     let next : n + 1 ≡ suc n = omega arith in
-    from_step n (numbers_from (n + 1) ts) (length ts) (subst (λ (i : ℕ). HasFrom (numbers_from (n + 1) ts) i (length ts)) next (numbers_has (n + 1) ts))
+    from_step n (numbering_from (n + 1) ts) (length ts) (subst (λ (i : ℕ). HasFrom (numbering_from (n + 1) ts) i (length ts)) next (numbers_has (n + 1) ts))
 
 cons_has : (w : Where) (n : ℕ) (ks : List ConstructorOf) → HasFrom (made_by_cons (constructor_trees w n ks)) n (entry_count ks)
 cons_has w n [] = λ j l. absurd (omega arith)
 cons_has w n (k ∷ ks) =
     let fs = types_at w k.fields in
     let c = count_forms k.fields + 1 in
-    let own = numbers_from (n + 1) fs in
+    let own = numbering_from (n + 1) fs in
     let next : n + 1 ≡ suc n = omega arith in
     let count : suc (length fs) ≡ c = let q = types_length w k.fields in omega (arith, q) in
     let one : HasFrom (n ∷ own) n (suc (length fs)) = from_step n own (length fs) (subst (λ (i : ℕ). HasFrom own i (length fs)) next (numbers_has (n + 1) fs)) in
     both_from (n ∷ own) (made_by_cons (constructor_trees w (n + c) ks)) n (n + c) c (entry_count ks) refl (subst (λ (m : ℕ). HasFrom (n ∷ own) n m) count one) (cons_has w (n + c) ks)
 
-group_has : (w : Where) (i n : ℕ) (ts : List Algebraic) → HasFrom (made_by_types (algebraic_trees w i n ts)) n (group_count ts)
+group_has : (w : Where) (i n : ℕ) (ts : List AlgebraicType) → HasFrom (made_by_types (algebraic_trees w i n ts)) n (group_count ts)
 group_has w i n [] = λ j l. absurd (omega arith)
 group_has w i n (a ∷ ts) =
     let wa = with_vars w (words a.vars) in
@@ -64,7 +64,7 @@ first_then : (i : ℕ) (own rest : List ℕ) (m : ℕ) → HasFrom rest (suc i) 
 first_then i own rest m h zero l = Contains-append_left (i ∷ own) rest (i + 0) (contains_step i (i + 0) own (inl (omega arith)))
 first_then i own rest m h (suc j) l = Contains-append_right (i ∷ own) rest (i + suc j) (let q : suc i + j ≡ i + suc j = omega arith in subst (λ (k : ℕ). Contains rest k) q (h j (omega arith)))
 
-types_has : (w : Where) (i n : ℕ) (ts : List Algebraic) → HasFrom (made_by_types (algebraic_trees w i n ts)) i (length ts)
+types_has : (w : Where) (i n : ℕ) (ts : List AlgebraicType) → HasFrom (made_by_types (algebraic_trees w i n ts)) i (length ts)
 types_has w i n [] = λ j l. absurd (omega arith)
 types_has w i n (a ∷ ts) =
     let own = made_by_cons (constructor_trees (with_vars w (words a.vars)) n a.constructors) in
@@ -74,9 +74,9 @@ types_has w i n (a ∷ ts) =
     first_then i own rest (length ts) (subst (λ (k : ℕ). HasFrom rest k (length ts)) next (types_has w (i + 1) (n + c) ts))
 
 -- ---- they are between the first type and the last entry
-pub numbers_between : (n m : ℕ) (ts : List Tree) → n + length ts ≤ m → AreBetween n m (numbers_from n ts)
+pub numbers_between : (n m : ℕ) (ts : List Tree) → n + length ts ≤ m → AreBetween n m (numbering_from n ts)
 numbers_between n m [] l = no_numbers n m
-numbers_between n m (t ∷ ts) l = one_between n n m (numbers_from (n + 1) ts) (omega arith) (omega arith) (wider (n + 1) n m m (numbers_from (n + 1) ts) (omega arith) (omega arith) (numbers_between (n + 1) m ts (omega arith)))
+numbers_between n m (t ∷ ts) l = one_between n n m (numbering_from (n + 1) ts) (omega arith) (omega arith) (wider (n + 1) n m m (numbering_from (n + 1) ts) (omega arith) (omega arith) (numbers_between (n + 1) m ts (omega arith)))
 
 both_between : (n m : ℕ) (xs ys : List ℕ) → AreBetween n m xs → AreBetween n m ys → AreBetween n m (xs ++ ys)
 both_between n m xs ys h k = All-append (λ (i : ℕ). (n ≤ i) × (i < m)) xs ys h k
@@ -88,11 +88,11 @@ cons_between w n m (k ∷ ks) l =
     let c = count_forms k.fields + 1 in
     let q = types_length w k.fields in
     let rest = made_by_cons (constructor_trees w (n + c) ks) in
-    both_between n m (n ∷ numbers_from (n + 1) fs) rest
-    (one_between n n m (numbers_from (n + 1) fs) (omega arith) (omega (arith, l)) (wider (n + 1) n m m (numbers_from (n + 1) fs) (omega arith) (omega arith) (numbers_between (n + 1) m fs (omega (arith, q, l)))))
+    both_between n m (n ∷ numbering_from (n + 1) fs) rest
+    (one_between n n m (numbering_from (n + 1) fs) (omega arith) (omega (arith, l)) (wider (n + 1) n m m (numbering_from (n + 1) fs) (omega arith) (omega arith) (numbers_between (n + 1) m fs (omega (arith, q, l)))))
     (wider (n + c) n m m rest (omega arith) (omega arith) (cons_between w (n + c) m ks (omega (arith, l))))
 
-pub group_between : (w : Where) (b i n m : ℕ) (ts : List Algebraic) → b ≤ i → b ≤ n → i + length ts ≤ m → n + group_count ts ≤ m → AreBetween b m (made_by_types (algebraic_trees w i n ts))
+pub group_between : (w : Where) (b i n m : ℕ) (ts : List AlgebraicType) → b ≤ i → b ≤ n → i + length ts ≤ m → n + group_count ts ≤ m → AreBetween b m (made_by_types (algebraic_trees w i n ts))
 group_between w b i n m [] l o p q = no_numbers b m
 group_between w b i n m (a ∷ ts) l o p q =
     let wa = with_vars w (words a.vars) in
@@ -109,20 +109,20 @@ differ a k l = grind (arith, nat_tests)
 equal : (a k : ℕ) → a ≡ k → (a == k) ≡ true
 equal a k q = grind (arith, nat_tests)
 
-no_position : (n i k : ℕ) (ts : List Tree) → n + length ts ≤ k → position_from (λ j. j == k) i (numbers_from n ts) ≡ None
+no_position : (n i k : ℕ) (ts : List Tree) → n + length ts ≤ k → position_from (λ j. j == k) i (numbering_from n ts) ≡ None
 no_position n i k [] l = refl
 no_position n i k (t ∷ ts) l = let q = differ n k (omega arith) in rw q (no_position (n + 1) (i + 1) k ts (omega arith))
 
-not_projected : (n k : ℕ) (fs : List Tree) (c : ConTree) → c.projections ≡ numbers_from (n + 1) fs → n + 1 + length fs ≤ k → projected_as k c ≡ Plain
+not_projected : (n k : ℕ) (fs : List Tree) (c : ConstructorTree) → c.projections ≡ numbering_from (n + 1) fs → n + 1 + length fs ≤ k → projected_as k c ≡ PlainRole
 not_projected n k fs c q l = let z = no_position (n + 1) 0 k fs l in rw (q, z) refl
 
-cons_plain : (w : Where) (n k : ℕ) (ks : List ConstructorOf) → n + entry_count ks ≤ k → constructed_as k (constructor_trees w n ks) ≡ Plain
+cons_plain : (w : Where) (n k : ℕ) (ks : List ConstructorOf) → n + entry_count ks ≤ k → constructed_as k (constructor_trees w n ks) ≡ PlainRole
 cons_plain w n k [] l = refl
 cons_plain w n k (x ∷ ks) l =
     let fs = types_at w x.fields in
     let c = count_forms x.fields + 1 in
     let q = types_length w x.fields in
-    let tree : ConTree = record { symbol = n; fields = fs; projections = numbers_from (n + 1) fs } in
+    let tree : ConstructorTree = record { symbol = n; fields = fs; projections = numbering_from (n + 1) fs } in
     let a = differ n k (omega (arith, l)) in
     let b = not_projected n k fs tree refl (omega (arith, q, l)) in
     rw (a, b) (cons_plain w (n + c) k ks (omega (arith, l)))
@@ -156,7 +156,7 @@ module _ (theory within : Word) where
     cons_step j e q (inr y) f =
         let count = count_projections theory (within ++ k.called.name) vars t 1 fields in
         let long = types_length w k.fields in
-        let tree : ConTree = record { symbol = n; fields = fields; projections = numbers_from (n + 1) fields } in
+        let tree : ConstructorTree = record { symbol = n; fields = fields; projections = numbering_from (n + 1) fields } in
         let a = differ n (n + suc j) (omega arith) in
         let b = not_projected n (n + suc j) fields tree refl (omega (arith, count, y.0)) in
         let s : next + (j - length own) ≡ n + suc j = omega (arith, count, long, y.0) in
@@ -170,15 +170,15 @@ module _ (theory within : Word) where
       cons_step vars t w n k ks j e q (in_either (own vars t w n k ks) (rest vars t w n k ks) j e z) (λ i y. cons_role vars t w (next vars t w n k ks) ks i e y q)
 
   keeps_role : (r s : RoleTree) → IsTrue (is_constructor r) → IsTrue (is_constructor (or_role r s))
-  keeps_role (roles.Constructor x) s h = refl
-  keeps_role Plain s h = absurd (let e : true ≡ false = sym h in cc)
-  keeps_role (roles.Defined x) s h = absurd (let e : true ≡ false = sym h in cc)
-  keeps_role (roles.Inductive x) s h = absurd (let e : true ≡ false = sym h in cc)
-  keeps_role (roles.Algebraic x) s h = absurd (let e : true ≡ false = sym h in cc)
-  keeps_role (roles.Projection x y) s h = absurd (let e : true ≡ false = sym h in cc)
+  keeps_role (roles.ConstructorRole x) s h = refl
+  keeps_role PlainRole s h = absurd (let e : true ≡ false = sym h in cc)
+  keeps_role (roles.DefinedRole x) s h = absurd (let e : true ≡ false = sym h in cc)
+  keeps_role (roles.InductiveRole x) s h = absurd (let e : true ≡ false = sym h in cc)
+  keeps_role (roles.AlgebraicRole x) s h = absurd (let e : true ≡ false = sym h in cc)
+  keeps_role (roles.ProjectionRole x y) s h = absurd (let e : true ≡ false = sym h in cc)
 
   -- past the first type
-  module _ (w : Where) (i n : ℕ) (a : Algebraic) (ts : List Algebraic) where
+  module _ (w : Where) (i n : ℕ) (a : AlgebraicType) (ts : List AlgebraicType) where
     abbrev inside : Where
     inside = with_vars w (words a.vars)
 
@@ -188,7 +188,7 @@ module _ (theory within : Word) where
     abbrev type : Tree
     type = own_type i (length a.vars)
 
-    abbrev cons : List ConTree
+    abbrev cons : List ConstructorTree
     cons = constructor_trees inside n a.constructors
 
     abbrev first : List SymbolTree
@@ -209,13 +209,13 @@ module _ (theory within : Word) where
         let s : later + (j - length first) ≡ n + j = omega (arith, count, y.0) in
         rw (d, b) (subst (λ (k : ℕ). IsTrue (is_constructor (algebraic_as k (algebraic_trees w (i + 1) later ts)))) s (f (j - length first) y.1))
 
-  group_role : (w : Where) (i n : ℕ) (ts : List Algebraic) (j : ℕ) (e : SymbolTree) → i + length ts ≤ n → slice_get (group_entries theory within ts (algebraic_trees w i n ts)) j ≡ Some e → e.kind ≡ Constructor
+  group_role : (w : Where) (i n : ℕ) (ts : List AlgebraicType) (j : ℕ) (e : SymbolTree) → i + length ts ≤ n → slice_get (group_entries theory within ts (algebraic_trees w i n ts)) j ≡ Some e → e.kind ≡ Constructor
       → IsTrue (is_constructor (algebraic_as (n + j) (algebraic_trees w i n ts)))
   group_role w i n [] j e l z q = absurd (cc)
   group_role w i n (a ∷ ts) j e l z q =
       group_step w i n a ts j e (omega arith) q (in_either (first w i n a ts) (others w i n a ts) j e z) (λ k y. group_role w (i + 1) (later w i n a ts) ts k e (omega arith) y q)
 
-  pub group_length : (w : Where) (i n : ℕ) (ts : List Algebraic) → length (group_entries theory within ts (algebraic_trees w i n ts)) ≡ group_count ts
+  pub group_length : (w : Where) (i n : ℕ) (ts : List AlgebraicType) → length (group_entries theory within ts (algebraic_trees w i n ts)) ≡ group_count ts
   group_length w i n [] = refl
   group_length w i n (a ∷ ts) =
       let c = entry_count a.constructors in
@@ -223,16 +223,16 @@ module _ (theory within : Word) where
       let own = constructors_entries theory within (length a.vars) (own_type i (length a.vars)) a.constructors (constructor_trees wa n a.constructors) in
       omega (arith, length-append own (group_entries theory within ts (algebraic_trees w (i + 1) (n + c) ts)), count_cons theory within (length a.vars) (own_type i (length a.vars)) wa n a.constructors, group_length w (i + 1) (n + c) ts)
 
-  type_kinds : (ts : List Algebraic) → All (λ (e : SymbolTree). e.kind ≡ Constructor → ⊥) (type_entries theory within ts)
+  type_kinds : (ts : List AlgebraicType) → All (λ (e : SymbolTree). e.kind ≡ Constructor → ⊥) (type_entries theory within ts)
   type_kinds [] = All-nil (λ (e : SymbolTree). e.kind ≡ Constructor → ⊥)
   type_kinds (a ∷ ts) = All-cons (λ (e : SymbolTree). e.kind ≡ Constructor → ⊥) _ (type_entries theory within ts) (λ q. cc) (type_kinds ts)
 
-  pub count_types : (ts : List Algebraic) → length (type_entries theory within ts) ≡ length ts
+  pub count_types : (ts : List AlgebraicType) → length (type_entries theory within ts) ≡ length ts
   count_types [] = refl
   count_types (a ∷ ts) = ap suc (count_types ts)
 
   -- ---- the entries of a group, where it is the only declaration
-  module _ (w : Where) (i n : ℕ) (ts : List Algebraic) (d : DeclarationTree) (is : d.body ≡ Constructs (algebraic_trees w i n ts)) where
+  module _ (w : Where) (i n : ℕ) (ts : List AlgebraicType) (d : DeclarationTree) (is : d.body ≡ Constructs (algebraic_trees w i n ts)) where
     made_are : made (d ∷ []) ≡ made_by_types (algebraic_trees w i n ts)
     made_are = let nil = append-nil (made_by_types (algebraic_trees w i n ts)) in rw is nil
 

@@ -10,19 +10,19 @@ use Rattle.tasks.specs.Equations.{cells, type_variables, bound_variables, for_al
 use Rattle.tasks.specs.Task.{SymbolTree, symbol_or, DefinitionTree, DeclarationTree}
 use Rattle.tasks.specs.Vocabulary.{Vocabulary, is_empty}
 use Rattle.tasks.specs.Valid.{IsDefinition, IsValidBody, IsValidDecl}
-use Rattle.names_space.specs.Names.{Names}
+use Rattle.names_space.specs.Names.{ScopeNames}
 use Rattle.syntax_why.specs.Lexeme.{Word}
-use Rattle.elab_names.specs.Abstract.{Form, Expression}
+use Rattle.elab_names.specs.Abstract.{TypeExpression, Expression}
 use Rattle.elab_names.specs.Naming.{type_named}
-use Rattle.elab_variables.specs.Seen.{Seen, type_seen}
+use Rattle.elab_variables.specs.Seen.{SeenTree, type_seen}
 use Rattle.elab_parts.specs.Elaborated.{unseen}
-use Rattle.elab_parts.specs.Declarations.{Member, params_seen}
+use Rattle.elab_parts.specs.Declarations.{GroupMember, params_seen}
 use Rattle.elab_parts.specs.Outcomes.{Setting, Outcome}
-use Rattle.elab_members.specs.Members.{SignatureTree, signed_entries, with_members, kind_of, body_seen, members_seen}
+use Rattle.elab_members.specs.Members.{SignatureTree, signed_entries, with_members, symbol_kind_of, body_seen, members_seen}
 use Rattle.elab_members.specs.Sources.{AreResolved}
 use Rattle.elab_members.proofs.MembersNamed.{members_types}
 use Rattle.elab_members.proofs.MembersScoped.{members_resolved}
-use Rattle.elab_groups.specs.Bodies.{AreDefined, IsWhole}
+use Rattle.elab_groups.specs.Bodies.{AreDefined, AllHaveBodies}
 use Rattle.elab_groups.specs.Groups.{inner_equation, definitions, group_body, group_decls, group_tuples, group_signatures, group_used, IsGroup}
 use Rattle.valid_tasks.specs.Typed.{IsTypedIn, ArePatterns}
 use Rattle.valid_tasks.specs.Signature.{with_entries}
@@ -45,7 +45,7 @@ body_fits k g None b i = (body_inside g.args (inner_equation k g None b) i).1
 body_fits k g (Some t) b i = (body_inside g.args (inner_equation k g (Some t) b) i).1
 
 -- the kind of an entry is that of its result
-equation_is : (k : ℕ) (g : SignatureTree) (f : Option Form) (r : Option Tree) (b : Tree) → is_none f ≡ is_none r → equated (kind_of f) k (cells (type_variables 0 (length g.vars))) (cells (bound_variables g.args)) r b ≡ Some (inner_equation k g r b)
+equation_is : (k : ℕ) (g : SignatureTree) (f : Option TypeExpression) (r : Option Tree) (b : Tree) → is_none f ≡ is_none r → equated (symbol_kind_of f) k (cells (type_variables 0 (length g.vars))) (cells (bound_variables g.args)) r b ≡ Some (inner_equation k g r b)
 equation_is k g None None b q = refl
 equation_is k g None (Some t) b q = absurd (cc)
 equation_is k g (Some x) None b q = absurd (cc)
@@ -55,7 +55,7 @@ module _ (theory within : Word) (named : is_empty theory ≡ false) (base : Voca
   abbrev v : Vocabulary
   v = with_entries base all
 
-  definitions_valid : (ms : List Member) (gs : List SignatureTree) (bs : List Tree) (k : ℕ) → length gs ≡ length ms → AreSigned v ms gs → EntriesAt base all k (signed_entries theory within ms gs) → AreBodied v gs bs
+  definitions_valid : (ms : List GroupMember) (gs : List SignatureTree) (bs : List Tree) (k : ℕ) → length gs ≡ length ms → AreSigned v ms gs → EntriesAt base all k (signed_entries theory within ms gs) → AreBodied v gs bs
       → All (λ (d : DefinitionTree). IndicesFit d.equation) (definitions k gs bs) → All (IsDefinition v) (definitions k gs bs)
   definitions_valid ms [] bs k n q h x fits = All-nil (IsDefinition v)
   definitions_valid ms (g ∷ gs) [] k n q h x fits = All-nil (IsDefinition v)
@@ -79,18 +79,18 @@ module _ (theory within : Word) (named : is_empty theory ≡ false) (base : Voca
       (definitions_valid ms gs bs (suc k) (omega (arith, n)) q.1 next x.1 (λ i j l. fits (suc i) j (omega arith)))
 
 -- ---- declarations of a group
-defined_of : (m : Member) (ks : List Member) (e : Expression) → m.body ≡ Some e → IsWhole (m ∷ ks) → (is_some m.body ≡ true) × AreDefined ks
+defined_of : (m : GroupMember) (ks : List GroupMember) (e : Expression) → m.body ≡ Some e → AllHaveBodies (m ∷ ks) → (is_some m.body ≡ true) × AreDefined ks
 defined_of m ks e q w = let p = ap is_some q in (p, w p)
 
 module _ (base : Vocabulary) (c : Setting) (h : IsTypedSetting base c) (s : List Tree) (g : Grows c.trees s) where
   module _ (all : List SymbolTree) (typed : IsTypedSignature base all) where
-    body_valid : (m : Member) (ms : List Member) (x : SignatureTree) (hs : List SignatureTree) (bs : List Tree) (k : ℕ) (o : Option Expression) → m.body ≡ o → length (x ∷ hs) ≡ length (m ∷ ms) → AreSigned (with_entries base all) (m ∷ ms) (x ∷ hs)
-        → EntriesAt base all k (signed_entries c.theory c.within (m ∷ ms) (x ∷ hs)) → IsWhole (m ∷ ms) → (AreDefined (m ∷ ms) → AreBodied (with_entries base all) (x ∷ hs) bs) → BodyFits (group_body o k (x ∷ hs) bs)
+    body_valid : (m : GroupMember) (ms : List GroupMember) (x : SignatureTree) (hs : List SignatureTree) (bs : List Tree) (k : ℕ) (o : Option Expression) → m.body ≡ o → length (x ∷ hs) ≡ length (m ∷ ms) → AreSigned (with_entries base all) (m ∷ ms) (x ∷ hs)
+        → EntriesAt base all k (signed_entries c.theory c.within (m ∷ ms) (x ∷ hs)) → AllHaveBodies (m ∷ ms) → (AreDefined (m ∷ ms) → AreBodied (with_entries base all) (x ∷ hs) bs) → BodyFits (group_body o k (x ∷ hs) bs)
         → IsValidBody (with_entries base all) (length x.vars) (group_body o k (x ∷ hs) bs)
     body_valid m ms x hs bs k None z n q e w b f = signature_at c.theory c.within h.theory base all typed m x k e.0
     body_valid m ms x hs bs k (Some i) z n q e w b f = definitions_valid c.theory c.within h.theory base all typed (m ∷ ms) (x ∷ hs) bs k n q e (b (defined_of m ms i z w)) f
 
-    decls_valid : (ms : List Member) (gs : List SignatureTree) (bs : List Tree) (k : ℕ) → length gs ≡ length ms → AreSigned (with_entries base all) ms gs → EntriesAt base all k (signed_entries c.theory c.within ms gs) → IsWhole ms
+    decls_valid : (ms : List GroupMember) (gs : List SignatureTree) (bs : List Tree) (k : ℕ) → length gs ≡ length ms → AreSigned (with_entries base all) ms gs → EntriesAt base all k (signed_entries c.theory c.within ms gs) → AllHaveBodies ms
         → (AreDefined ms → AreBodied (with_entries base all) gs bs)
         → All (λ (d : DeclarationTree). BodyFits d.body) (group_decls c.theory c.within ms k gs bs) → All (IsValidDecl (with_entries base all)) (group_decls c.theory c.within ms k gs bs)
     decls_valid [] gs bs k n q e w b fits = All-nil (IsValidDecl (with_entries base all))
@@ -99,17 +99,17 @@ module _ (base : Vocabulary) (c : Setting) (h : IsTypedSetting base c) (s : List
         let d : DeclarationTree = record { theory = c.theory; name = c.within ++ m.called.name; vars = length x.vars; body = group_body m.body k (x ∷ gs) bs } in
         All-cons (IsValidDecl (with_entries base all)) d [] (body_valid m ms x gs bs k m.body refl n q e w b (fits 0 d (omega arith))) (All-nil (IsValidDecl (with_entries base all)))
 
-  module _ (ms : List Member) (q : group_used c ms ≡ None) where
-    abbrev all_seen : Seen
+  module _ (ms : List GroupMember) (q : group_used c ms ≡ None) where
+    abbrev all_seen : SeenTree
     all_seen = members_seen unseen ms
 
-    abbrev names' : Names
+    abbrev names' : ScopeNames
     names' = with_members (length (inside base c h all_seen)) ms c.scope
 
     same_types : (qs : List Word) (x : Word) → type_named names' qs x ≡ type_named c.scope qs x
     same_types qs x = members_types (length (inside base c h all_seen)) ms c.scope qs x
 
-    are_seen : (ks : List Member) (u : Seen) → IsWithin (members_seen u ks) all_seen → AreSeen all_seen ks
+    are_seen : (ks : List GroupMember) (u : SeenTree) → IsWithin (members_seen u ks) all_seen → AreSeen all_seen ks
     are_seen [] u g = tt
     are_seen (m ∷ ks) u g =
         let one = type_seen (params_seen u m.params) m.result in
@@ -152,7 +152,7 @@ module _ (base : Vocabulary) (c : Setting) (h : IsTypedSetting base c) (s : List
           members_resolved c.trees before (own_entries base c h ms all_seen names' same_types) c.scope names' (scopes_of base before c.trees c.scope old) (some_entry before old_typed.int)
           same_types (λ vars. over_scoped base c.trees before c.scope vars old_typed (formed base c h all_seen first vars)) ms q
 
-      pub members_valid : IsWhole ms → All (λ (d : DeclarationTree). BodyFits d.body) o.decls → IsValidOutcome base c s o
+      pub members_valid : AllHaveBodies ms → All (λ (d : DeclarationTree). BodyFits d.body) o.decls → IsValidOutcome base c s o
       members_valid w fits =
           let gs = group_signatures c ms in
           let v = with_entries base A in

@@ -1,7 +1,7 @@
 -- A declaration that is valid over a vocabulary is valid over another one with the same entries, which may name all of it.
 use Rattle.std.proofs.Common.{◌≡◌, ℕ, ◌<◌, suc, List, [], ◌∷◌, ◌++◌, map, length, get_or, slice_get, All, Option, Some, None, IfSome, IsSomeAnd, sym, ap, subst, ◌∙◌, arith}
 use Rattle.trees.specs.Tree.{Tree, Leaf, One, Two, Three, Head, HTyRigid, HTyApp, HPred, HFun, HPatCon}
-use Rattle.tasks.specs.Task.{SymbolTree, symbol_or, DefinitionTree, InductiveTree, ConTree, AlgebraicTree, BodyTree, MakesType, Makes, Defines, Induces, Constructs, Says, DeclarationTree}
+use Rattle.tasks.specs.Task.{SymbolTree, symbol_or, DefinitionTree, InductiveTree, ConstructorTree, AlgebraicTree, BodyTree, MakesType, Makes, Defines, Induces, Constructs, Says, DeclarationTree}
 use Rattle.tasks.specs.Equations.{cells, type_variables, IsEquationOf}
 use Rattle.tasks.specs.Clauses.{IsClauseOf}
 use Rattle.tasks.specs.Vocabulary.{Vocabulary}
@@ -101,7 +101,7 @@ module _ (v w : Vocabulary) (same : v.symbols ≡ w.symbols) where
   projections_moved type vars (f ∷ fs) [] n h = absurd h
   projections_moved type vars (f ∷ fs) (k ∷ ks) n h = (projection_moved type vars f k (n 0 k (omega arith)) h.0, projections_moved type vars fs ks (λ i d l. n (suc i) d (omega arith)) h.1)
 
-  constructor_moved : (type vars : ℕ) (c : ConTree) → ConNames w v.symbols c → IsConstructorOf v type vars c → IsConstructorOf w type vars c
+  constructor_moved : (type vars : ℕ) (c : ConstructorTree) → ConNames w v.symbols c → IsConstructorOf v type vars c → IsConstructorOf w type vars c
   constructor_moved type vars c n h =
       let q = symbol_same c.symbol in
       record {

@@ -1,11 +1,11 @@
--- What is valid over a vocabulary names what that may name: so it is valid over one that may name all that stands in it.
+-- What is valid over a vocabulary names what that may name: so it is valid over one that may name all that is in it.
 use Rattle.std.proofs.Common.{◌≡◌, ℕ, ◌||◌, nat_eq, suc, Bool, true, false, List, [], ◌∷◌, ◌++◌, map, All, Option, Some, None, IfSome, IsTrue, refl, sym, subst, arith}
 use Rattle.std.specs.List.{flat_map}
 use Rattle.std.proofs.lemmas.List.Elements.{All-nil, All-cons}
 use Rattle.std.proofs.lemmas.List.Folds.{list_any-append}
 use Rattle.std.proofs.lemmas.List.Concat.{flat_map-append}
 use Rattle.trees.specs.Tree.{Tree, Leaf, One, Two, Three, Head, HTyRigid, HTyApp, HPred, HFun, HPatCon}
-use Rattle.tasks.specs.Task.{SymbolTree, symbol_or, DefinitionTree, InductiveTree, ConTree, AlgebraicTree, BodyTree, MakesType, Makes, Defines, Induces, Constructs, Says, DeclarationTree, made_by, made_by_cons, made_by_types}
+use Rattle.tasks.specs.Task.{SymbolTree, symbol_or, DefinitionTree, InductiveTree, ConstructorTree, AlgebraicTree, BodyTree, MakesType, Makes, Defines, Induces, Constructs, Says, DeclarationTree, made_by, made_by_cons, made_by_types}
 use Rattle.tasks.specs.Vocabulary.{Vocabulary}
 use Rattle.tasks.specs.Typing.{LeafTyped, OneTyped, TwoTyped, ThreeTyped, TypedUnder, bound_types}
 use Rattle.tasks.specs.Valid.{IsTypeIn, HasTypes, IsFormulaOver, IsDefinition, IsInductive, AreProjections, IsConstructorOf, IsAlgebraic, IsValidBody, IsValidDecl}
@@ -141,7 +141,7 @@ module _ (ks : List ℕ) where
     projections_names type vars (f ∷ fs) [] i h = absurd h
     projections_names type vars (f ∷ fs) (p ∷ ps) i h = All-cons Number p ps (number_names p ps i h.0.signature.types) (projections_names type vars fs ps (more_numbers p ps i) h.1)
 
-    cons_names : (type vars : ℕ) (cs : List ConTree) → Within (signatures_named S (made_by_cons cs)) → All (IsConstructorOf v type vars) cs → All (ConNames w S) cs
+    cons_names : (type vars : ℕ) (cs : List ConstructorTree) → Within (signatures_named S (made_by_cons cs)) → All (IsConstructorOf v type vars) cs → All (ConNames w S) cs
     cons_names type vars [] i h = All-nil (ConNames w S)
     cons_names type vars (c ∷ cs) i h =
         let x : IsConstructorOf v type vars c = h 0 c (omega arith) in

@@ -1,4 +1,4 @@
--- What is elaborated keeps declarations sound: the next declaration stands after them, and a goal is a sound one.
+-- What is elaborated keeps declarations sound: the next declaration is after them, and a goal is a sound one.
 use Rattle.std.proofs.Common.{◌≡◌, ℕ, ◌<◌, List, [], ◌++◌, length, get_or, All, Some, sym, ap, subst, ◌∙◌, arith}
 use Rattle.std.specs.List.{Contains}
 use Rattle.std.proofs.lemmas.List.Elements.{All-append, All-contains, Contains-get_or}
@@ -9,7 +9,7 @@ use Rattle.trees.specs.declared.TermId.{TermId}
 use Rattle.tasks.specs.Task.{SymbolTree, symbol_or, DeclarationTree, made, made_by}
 use Rattle.tasks.specs.Meaning.{symbols_at, declarations_at, DeclHeld}
 use Rattle.tasks.specs.declared.signature.Signature.{Signature}
-use Rattle.names_space.specs.Names.{Names}
+use Rattle.names_space.specs.Names.{ScopeNames}
 use Rattle.syntax_why.specs.Declarations as source
 use Rattle.elab_parts.specs.declared.made.Elaborated.{Elaborated}
 use Rattle.elab_parts.specs.Declarations.{Declaration, declaration}
@@ -19,7 +19,7 @@ use Rattle.valid_tasks.specs.Valid.{IsTypedSetting, HaveNoFault}
 use Rattle.valid_tasks.specs.Lists.{after, AreValidAfter, IsNoGoal, MakesBelow, IsGroupWhole}
 use Rattle.valid_tasks.proofs.Steps.{next_declaration}
 use Rattle.valid_tasks.specs.Built.{IsBuiltRight}
-use Rattle.valid_tasks.specs.Tasks.{IsOwn, IsOfTheory, AreSound}
+use Rattle.valid_tasks.specs.Tasks.{IsOwnSymbol, IsOfTheory, AreSound}
 use Rattle.valid_tasks.proofs.Distinct.{IsDistinct, distinct_pairs, pairs_distinct, distinct_both}
 use Rattle.valid_tasks.proofs.TupleDecls.{made_both}
 use Rattle.valid_tasks.proofs.TaskSound.{each_made}
@@ -27,7 +27,7 @@ use Rattle.valid_tasks.proofs.TaskOutcomes.{elaborated_kept}
 use Rattle.valid_tasks.proofs.Once.{IsOnce, outcome_once}
 use Rattle.valid_tasks.proofs.Grown.{sound_more, then_valid}
 
-module _ (c : Setting) (ds : List DeclarationTree) (x : Declaration) (g : Signature) (s : List Tree) (h : Signature) (names : Names) (it : Elaborated) (typed : IsTypedSetting (after c.symbols [] ds) c) (below : MakesBelow (length c.symbols) ds) (e : IsElaborated c x g s h names it)
+module _ (c : Setting) (ds : List DeclarationTree) (x : Declaration) (g : Signature) (s : List Tree) (h : Signature) (names : ScopeNames) (it : Elaborated) (typed : IsTypedSetting (after c.symbols [] ds) c) (below : MakesBelow (length c.symbols) ds) (e : IsElaborated c x g s h names it)
     (sound : AreSound c.symbols ds) where
   abbrev all : List SymbolTree
   all = symbols_at s h.symbols
@@ -41,7 +41,7 @@ module _ (c : Setting) (ds : List DeclarationTree) (x : Declaration) (g : Signat
   pub front_kept : AreSound all ds
   front_kept = subst (λ (es : List SymbolTree). AreSound es ds) (sym e.symbols_are) (sound_more c.symbols e.outcome.symbols ds sound (subst IsBuiltRight e.symbols_are (elaborated_kept c x g s h names it typed.source e sound.built)))
 
-  own_new : (k : ℕ) → Contains (made new) k → IsOwn all k
+  own_new : (k : ℕ) → Contains (made new) k → IsOwnSymbol all k
   own_new k i =
       let q : (symbol_or all k).theory ≡ c.theory = ap (λ (es : List SymbolTree). (symbol_or es k).theory) e.symbols_are ∙ once.theory k (subst (λ (xs : List DeclarationTree). Contains (made xs) k) e.decls i) in
       record { stands = rw q typed.theory; other = rw q typed.source }
@@ -63,7 +63,7 @@ module _ (c : Setting) (ds : List DeclarationTree) (x : Declaration) (g : Signat
         built = front_kept.built;
         valid = then_valid all [] ds new front_kept.valid valid;
         once = distinct_pairs (made (ds ++ new)) (subst IsDistinct (sym q) (distinct_both (made ds) (made new) (pairs_distinct (made ds) sound.once) (subst (λ (xs : List DeclarationTree). IsDistinct (made xs)) (sym e.decls) once.distinct) apart));
-        own = subst (All (IsOwn all)) (sym q) (All-append (IsOwn all) (made ds) (made new) front_kept.own (λ k i l. own_new (get_or (made new) k i) (Contains-get_or (made new) k i l)));
+        own = subst (All (IsOwnSymbol all)) (sym q) (All-append (IsOwnSymbol all) (made ds) (made new) front_kept.own (λ k i l. own_new (get_or (made new) k i) (Contains-get_or (made new) k i l)));
         theories = All-append (IsOfTheory all) ds new front_kept.theories theory_new;
       }
     where
@@ -73,7 +73,7 @@ module _ (c : Setting) (ds : List DeclarationTree) (x : Declaration) (g : Signat
           let m = once.later k (subst (λ (xs : List DeclarationTree). Contains (made xs) k) e.decls b) in
           omega (arith, l, m)
 
-pub next_sound : (c : Setting) (ds : List DeclarationTree) (d : source.Decl) (x : Declaration) (g : Signature) (s : List Tree) (h : Signature) (names : Names) (it : Elaborated) → IsTypedSetting (after c.symbols [] ds) c → MakesBelow (length c.symbols) ds → Grows c.trees s
+pub next_sound : (c : Setting) (ds : List DeclarationTree) (d : source.SyntaxDeclaration) (x : Declaration) (g : Signature) (s : List Tree) (h : Signature) (names : ScopeNames) (it : Elaborated) → IsTypedSetting (after c.symbols [] ds) c → MakesBelow (length c.symbols) ds → Grows c.trees s
     → declaration d ≡ Some x → IsGroupWhole d → IsNoGoal d → IsElaborated c x g s h names it → ((id : TermId) → Holds s id → WellSorted (tree_at s id)) → All (DeclHeld s) it.decls → HaveNoFault (symbols_at s h.symbols) (declarations_at s it.decls)
     → AreSound c.symbols ds → AreSound (symbols_at s h.symbols) (ds ++ declarations_at s it.decls)
 next_sound c ds d x g s h names it typed below r q w p e sorted held passes sound =

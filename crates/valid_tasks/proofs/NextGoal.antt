@@ -14,17 +14,17 @@ use Rattle.tasks.specs.Meaning.{symbols_at, declarations_at, DeclHeld}
 use Rattle.tasks.specs.Vocabulary.{Vocabulary}
 use Rattle.tasks.specs.Typing.{IsRigid}
 use Rattle.tasks.specs.Valid.{LeafBelow, VariablesBelow, IsFormulaOver, IsTypeIn, IsValidBody, IsValidDecl, IsQuoted}
-use Rattle.names_space.specs.Names.{Names}
+use Rattle.names_space.specs.Names.{ScopeNames}
 use Rattle.syntax_why.specs.Lexeme.{Word}
 use Rattle.syntax_why.specs.declared.declarations.PropKind.{PropKind}
 use Rattle.syntax_why.specs.declared.declarations.PropKind.TheVariants as kind
 use Rattle.syntax_why.specs.Declarations as source
 use Rattle.elab_names.specs.Abstract.{Expression}
 use Rattle.elab_parts.specs.declared.made.Elaborated.{Elaborated}
-use Rattle.elab_parts.specs.Declarations.{Called, proposition, declaration}
+use Rattle.elab_parts.specs.Declarations.{TokenName, proposition_declaration, declaration}
 use Rattle.elab_parts.specs.Outcomes.{Setting, tuples_wanting}
 use Rattle.elab_terms.specs.Outcomes.{proposition_seen, entry_numbers, rigid_types, IsProposition, IsElaborated}
-use Rattle.valid_tasks.specs.Scopes.{IsPart, IsTypedSignature}
+use Rattle.valid_tasks.specs.Scopes.{IsSubvocabulary, IsTypedSignature}
 use Rattle.valid_tasks.proofs.Extended.{entry_more, agrees_part, signature_agrees}
 use Rattle.valid_tasks.specs.Valid.{IsTypedSetting, HaveNoFault, IsValidElaborated}
 use Rattle.valid_tasks.specs.Lists.{after, MakesBelow, IsNextGoal}
@@ -85,7 +85,7 @@ module _ (symbols : List SymbolTree) (ds : List DeclarationTree) (own : List ℕ
   abbrev v : Vocabulary
   v = after symbols own ds
 
-  own_part : IsPart (after symbols [] ds) v
+  own_part : IsSubvocabulary (after symbols [] ds) v
   own_part = record {
     entries = λ k e q. q;
     rigid = λ k e q h. absurd (let z : true ≡ false = sym h in cc);
@@ -126,7 +126,7 @@ module _ (symbols : List SymbolTree) (ds : List DeclarationTree) (own : List ℕ
       subst (IsValidBody v n) same f
 
 -- ---- the goal
-module _ (c : Setting) (ds : List DeclarationTree) (d : source.Decl) (x : Called) (y : Expression) (g : Signature) (s : List Tree) (h : Signature) (names : Names) (it : Elaborated) (typed : IsTypedSetting (after c.symbols [] ds) c) (below : MakesBelow (length c.symbols) ds) (r : Grows c.trees s)
+module _ (c : Setting) (ds : List DeclarationTree) (d : source.SyntaxDeclaration) (x : TokenName) (y : Expression) (g : Signature) (s : List Tree) (h : Signature) (names : ScopeNames) (it : Elaborated) (typed : IsTypedSetting (after c.symbols [] ds) c) (below : MakesBelow (length c.symbols) ds) (r : Grows c.trees s)
     (sorted : (id : TermId) → Holds s id → WellSorted (tree_at s id)) (held : All (DeclHeld s) it.decls) (passes : HaveNoFault (symbols_at s h.symbols) (declarations_at s it.decls)) (quoted : All IsQuoted (proposition_seen y).vars) (sound : AreSound c.symbols ds) (goal : GoalTree)
     (said : IsGoalSaid (declarations_at s it.decls) it.rigid goal) where
   abbrev all : List SymbolTree
@@ -163,7 +163,7 @@ module _ (c : Setting) (ds : List DeclarationTree) (d : source.Decl) (x : Called
   count_at : own ≡ entry_numbers (length first) vs → length (rigid_types own) ≡ length vs
   count_at o = ap (λ (ks : List ℕ). length (rigid_types ks)) o ∙ count_types (length first) vs
 
-  goal_kept : declaration d ≡ Some (proposition kind.Goal x y) → IsElaborated c (proposition kind.Goal x y) g s h names it → IsSoundAfter all ds goal
+  goal_kept : declaration d ≡ Some (proposition_declaration kind.Goal x y) → IsElaborated c (proposition_declaration kind.Goal x y) g s h names it → IsSoundAfter all ds goal
   goal_kept q e =
       let p : IsProposition c kind.Goal x y e.outcome = e.is in
       let z : IsNextGoal s all names ds own new = next_goal c ds d x y g s h names it typed below r q e sorted held passes in
@@ -171,18 +171,18 @@ module _ (c : Setting) (ds : List DeclarationTree) (d : source.Decl) (x : Called
       let o : own ≡ entry_numbers (length first) vs = e.rigid ∙ p.rigid in
       let at = entries_at split o in
       let f = of_said all ds own new 0 _ _ _ (e.decls ∙ p.decls) z.valid said.formula said.says in
-      finish (front_kept c ds (proposition kind.Goal x y) g s h names it typed below e sound) at (distinct_at o)
+      finish (front_kept c ds (proposition_declaration kind.Goal x y) g s h names it typed below e sound) at (distinct_at o)
       (at_types all ds own (length vs) said.formula z.signature at (count_at o) (more_formula (after all own ds) (length vs) said.formula f))
 
-  lemma_kept : declaration d ≡ Some (proposition kind.Lemma x y) → IsElaborated c (proposition kind.Lemma x y) g s h names it → IsSoundAfter all ds goal
+  lemma_kept : declaration d ≡ Some (proposition_declaration kind.Lemma x y) → IsElaborated c (proposition_declaration kind.Lemma x y) g s h names it → IsSoundAfter all ds goal
   lemma_kept q e =
-      let lemma = proposition kind.Lemma x y in
+      let lemma = proposition_declaration kind.Lemma x y in
       let p : IsProposition c kind.Lemma x y e.outcome = e.is in
       let v0 = after all [] (ds ++ new) in
       let none : made new ≡ [] = ap made e.decls ∙ ap made p.decls in
       let z : IsValidElaborated v0 s h names it = elaborated_valid v0 c (setting c ds lemma g s h names it typed below r tt e [] (λ k l. refl)) s r d lemma g h names it q e sorted held passes (news c ds lemma g s h names it typed below r tt e []) tt in
       let agree = nothing_more all [] ds new none in
-      let part : IsPart v0 (after all [] ds) = agrees_part v0 (after all [] ds) all agree in
+      let part : IsSubvocabulary v0 (after all [] ds) = agrees_part v0 (after all [] ds) all agree in
       let sig : IsTypedSignature (after all [] ds) all = signature_agrees v0 (after all [] ds) all agree z.signature in
       let valid : All (IsValidDecl (after all own ds)) new = λ i a l. declaration_stays (after all [] ds) (after all own ds) (own_part all ds own) (get_or new i a) (declaration_stays v0 (after all [] ds) part (get_or new i a) (z.decls i a l)) in
       let split : all ≡ first ++ map rigid_symbol vs = e.symbols_are ∙ (ap (λ (es : List SymbolTree). c.symbols ++ es) p.symbols ∙ sym (append_assoc c.symbols (tuples_wanting c (proposition_seen y)) (map rigid_symbol vs))) in
@@ -191,7 +191,7 @@ module _ (c : Setting) (ds : List DeclarationTree) (d : source.Decl) (x : Called
       let f = of_said all ds own new (length vs) _ _ _ (e.decls ∙ p.decls) valid said.formula said.says in
       finish (front_kept c ds lemma g s h names it typed below e sound) at (distinct_at o) (at_types all ds own (length vs) said.formula sig at (count_at o) f)
 
-  pub proved_kept : (k : PropKind) → IsToProve k → declaration d ≡ Some (proposition k x y) → IsElaborated c (proposition k x y) g s h names it → IsSoundAfter all ds goal
+  pub proved_kept : (k : PropKind) → IsToProve k → declaration d ≡ Some (proposition_declaration k x y) → IsElaborated c (proposition_declaration k x y) g s h names it → IsSoundAfter all ds goal
   proved_kept kind.Goal t q e = goal_kept q e
   proved_kept kind.Lemma t q e = lemma_kept q e
   proved_kept kind.Axiom t q e = absurd t

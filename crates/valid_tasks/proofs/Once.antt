@@ -1,4 +1,4 @@
--- What a declaration makes is made once, after what was there, and has the theory in which it stands.
+-- What a declaration makes is made once, after what was there, and has the theory in which it is there.
 use Rattle.std.proofs.Common.{◌≡◌, ◌⊎◌, inl, inr, ℕ, ◌+◌, ◌-◌, ◌<◌, ◌≤◌, suc, List, [], ◌∷◌, ◌++◌, map, length, get_or, All, Option, Some, None, refl, sym, ap, subst, ◌∙◌, arith, length-append, append_assoc, append-nil}
 use Rattle.std.specs.List.{Contains}
 use Rattle.std.proofs.Math.ListN.{length-map}
@@ -11,13 +11,13 @@ use Rattle.elab_names.specs.Abstract.{Expression, count_forms}
 use Rattle.elab_names.specs.Where.{Where}
 use Rattle.elab_walk.specs.Pieces.{types_at}
 use Rattle.elab_parts.specs.Entries.{type_entry}
-use Rattle.elab_parts.specs.Declarations.{Called, Constructor, Member, Algebraic, Inductive, Declaration, abstract_type, alias, algebraic, members, inductive, proposition, words, with_vars}
+use Rattle.elab_parts.specs.Declarations.{TokenName, AlgebraicConstructor, GroupMember, AlgebraicType, InductivePredicate, Declaration, abstract_type, alias, algebraic, member_group, inductive, proposition_declaration, words, with_vars}
 use Rattle.elab_parts.specs.Outcomes.{Setting, Outcome, over, full_name, tuples_wanting}
 use Rattle.elab_parts.specs.Elaborated.{unseen}
 use Rattle.elab_members.specs.Members.{SignatureTree, signed_entries, signature_trees}
 use Rattle.elab_groups.specs.Groups.{definitions, group_body, group_tuples, before_group, group_signatures, IsGroup}
 use Rattle.elab_inductives.specs.Inductives.{as_member, as_members, inductives_seen, before_inductives, induced, IsInductiveGroup}
-use Rattle.elab_types.specs.Algebraics.{entry_count, group_seen, first_type, first_constructor, numbers_from, type_entries, constructor_trees, algebraic_trees, group_trees, group_entries, group_outcome}
+use Rattle.elab_types.specs.Algebraics.{entry_count, group_seen, first_type, first_constructor, numbering_from, type_entries, constructor_trees, algebraic_trees, group_trees, group_entries, group_outcome}
 use Rattle.elab_types.specs.Algebraics as group
 use Rattle.elab_terms.specs.Outcomes.{type_outcome, IsOutcome}
 use Rattle.valid_tasks.proofs.Algebraics.{types_length}
@@ -39,24 +39,24 @@ defined_distinct k [] bs = tt
 defined_distinct k (g ∷ gs) [] = tt
 defined_distinct k (g ∷ gs) (b ∷ bs) = distinct_step k (suc k + length gs) (map (λ (d : DefinitionTree). d.symbol) (definitions (suc k) gs bs)) (defined_between (suc k) (suc k + length gs) gs bs (omega arith)) (defined_distinct (suc k) gs bs)
 
-induced_distinct : (k : ℕ) (is : List Inductive) (bs : List Tree) → IsDistinct (map (λ (i : InductiveTree). i.symbol) (induced k is bs))
+induced_distinct : (k : ℕ) (is : List InductivePredicate) (bs : List Tree) → IsDistinct (map (λ (i : InductiveTree). i.symbol) (induced k is bs))
 induced_distinct k [] bs = tt
 induced_distinct k (d ∷ is) bs = distinct_step k (suc k + length is) (map (λ (i : InductiveTree). i.symbol) (induced (suc k) is _)) (induced_between (suc k) (suc k + length is) is _ (omega arith)) (induced_distinct (suc k) is _)
 
 -- ---- algebraic types
-numbers_distinct : (n : ℕ) (ts : List Tree) → IsDistinct (numbers_from n ts)
+numbers_distinct : (n : ℕ) (ts : List Tree) → IsDistinct (numbering_from n ts)
 numbers_distinct n [] = tt
 numbers_distinct n (t ∷ ts) =
     let next : n + 1 ≡ suc n = omega arith in
-    distinct_step n (n + 1 + length ts) (numbers_from (n + 1) ts) (subst (λ (i : ℕ). AreBetween i (n + 1 + length ts) (numbers_from (n + 1) ts)) next (numbers_between (n + 1) (n + 1 + length ts) ts (omega arith))) (numbers_distinct (n + 1) ts)
+    distinct_step n (n + 1 + length ts) (numbering_from (n + 1) ts) (subst (λ (i : ℕ). AreBetween i (n + 1 + length ts) (numbering_from (n + 1) ts)) next (numbers_between (n + 1) (n + 1 + length ts) ts (omega arith))) (numbers_distinct (n + 1) ts)
 
-cons_distinct : (w : Where) (n : ℕ) (ks : List Constructor) → IsDistinct (made_by_cons (constructor_trees w n ks))
+cons_distinct : (w : Where) (n : ℕ) (ks : List AlgebraicConstructor) → IsDistinct (made_by_cons (constructor_trees w n ks))
 cons_distinct w n [] = tt
 cons_distinct w n (k ∷ ks) =
     let fs = types_at w k.fields in
     let c = count_forms k.fields + 1 in
     let q = types_length w k.fields in
-    let own = numbers_from (n + 1) fs in
+    let own = numbering_from (n + 1) fs in
     let rest = made_by_cons (constructor_trees w (n + c) ks) in
     let next : n + 1 ≡ suc n = omega arith in
     let inner : AreBetween (n + 1) (n + c) own = numbers_between (n + 1) (n + c) fs (omega (arith, q)) in
@@ -66,7 +66,7 @@ cons_distinct w n (k ∷ ks) =
     (λ j a b. let x = between_at n (n + c) (n ∷ own) j first a in let y = between_at (n + c) (n + c + entry_count ks) rest j later b in omega (arith, x.1, y.0))
 
 -- a type, or a symbol of one
-in_group : (w : Where) (i n : ℕ) (ts : List Algebraic) (k : ℕ) → Contains (made_by_types (algebraic_trees w i n ts)) k → ((i ≤ k) × (k < i + length ts)) ⊎ (n ≤ k)
+in_group : (w : Where) (i n : ℕ) (ts : List AlgebraicType) (k : ℕ) → Contains (made_by_types (algebraic_trees w i n ts)) k → ((i ≤ k) × (k < i + length ts)) ⊎ (n ≤ k)
 in_group w i n [] k h = absurd (none_in k h)
 in_group w i n (a ∷ ts) k h =
     let wa = with_vars w (words a.vars) in
@@ -87,7 +87,7 @@ in_group w i n (a ∷ ts) k h =
         two (inl y) = inl (let a = y.0 in omega (arith, a), let b = y.1 in omega (arith, b))
         two (inr y) = inr (omega (arith, y))
 
-group_distinct : (w : Where) (i n : ℕ) (ts : List Algebraic) → i + length ts ≤ n → IsDistinct (made_by_types (algebraic_trees w i n ts))
+group_distinct : (w : Where) (i n : ℕ) (ts : List AlgebraicType) → i + length ts ≤ n → IsDistinct (made_by_types (algebraic_trees w i n ts))
 group_distinct w i n [] l = tt
 group_distinct w i n (a ∷ ts) l =
     let wa = with_vars w (words a.vars) in
@@ -149,18 +149,18 @@ module _ (c : Setting) (o : Outcome) (tuples own : List SymbolTree) (symbols : o
       place : (k : ℕ) → Contains (made o.decls) k → (n ≤ k) × (k < n + length own)
       place k h = between_at n (n + length own) ks k b (subst (λ (xs : List ℕ). Contains xs k) are h)
 
-type_once : (c : Setting) (x : Called) (n : ℕ) (o : Outcome) → o ≡ type_outcome c x n → IsOnce c o
+type_once : (c : Setting) (x : TokenName) (n : ℕ) (o : Outcome) → o ≡ type_outcome c x n → IsOnce c o
 type_once c x n o q =
     let k = length c.symbols in
     let e = type_entry c.theory (full_name c x) n in
     once_of c o [] (e ∷ []) (ap (λ (i : Outcome). i.symbols) q) (All-cons (OfTheory c.theory) e [] refl (All-nil (OfTheory c.theory))) k (omega arith) (k ∷ []) (ap (λ (i : Outcome). made i.decls) q) (there_one c o.decls _ (ap (λ (i : Outcome). i.decls) q) refl)
     (one_between k k (k + 1) [] (omega arith) (omega arith) (no_numbers k (k + 1))) ((λ h. none_in k h), tt)
 
-group_once : (c : Setting) (ts : List Algebraic) (o : Outcome) → o ≡ group_outcome c ts → IsOnce c o
+group_once : (c : Setting) (ts : List AlgebraicType) (o : Outcome) → o ≡ group_outcome c ts → IsOnce c o
 group_once c ts o q =
     let tuples = tuples_wanting c (group_seen ts) in
     let T = type_entries c.theory c.within ts in
-    let w = group.inside c ts in
+    let w = group.inside_types c ts in
     let i = first_type c ts in
     let m = first_constructor c ts in
     let G = group_entries c.theory c.within ts (group_trees c ts) in
@@ -172,7 +172,7 @@ group_once c ts o q =
     (group_between w i i m (i + length (T ++ G)) ts (omega arith) (omega arith) (omega (arith, all, many, long)) (omega (arith, all, many, long)))
     (group_distinct w i m ts (omega arith))
 
-body_between : (m : Member) (ks : List Member) (gs : List SignatureTree) (bs : List Tree) (k : ℕ) (b : Option Expression) → length gs ≡ length (m ∷ ks) → AreBetween k (k + length gs) (made_by (group_body b k gs bs))
+body_between : (m : GroupMember) (ks : List GroupMember) (gs : List SignatureTree) (bs : List Tree) (k : ℕ) (b : Option Expression) → length gs ≡ length (m ∷ ks) → AreBetween k (k + length gs) (made_by (group_body b k gs bs))
 body_between m ks gs bs k None q = one_between k k (k + length gs) [] (omega arith) (omega (arith, q)) (no_numbers k (k + length gs))
 body_between m ks gs bs k (Some e) q = defined_between k (k + length gs) gs bs (omega arith)
 
@@ -180,7 +180,7 @@ body_distinct : (gs : List SignatureTree) (bs : List Tree) (k : ℕ) (b : Option
 body_distinct gs bs k None = ((λ h. none_in k h), tt)
 body_distinct gs bs k (Some e) = defined_distinct k gs bs
 
-members_once : (c : Setting) (ms : List Member) (o : Outcome) → IsGroup c ms o → IsOnce c o
+members_once : (c : Setting) (ms : List GroupMember) (o : Outcome) → IsGroup c ms o → IsOnce c o
 members_once c [] o it = none_once c o (ap made it.decls) (there_none c o.decls it.decls)
 members_once c (m ∷ ks) o it =
     let ms = m ∷ ks in
@@ -195,7 +195,7 @@ members_once c (m ∷ ks) o it =
     once_of c o tuples own it.symbols (signed_of c.theory c.within ms gs) k (length-append c.symbols tuples) list (ap made it.decls ∙ append-nil list) (there_one c o.decls _ it.decls refl)
     (subst (λ (n : ℕ). AreBetween k (k + n) list) (sym long) (body_between m ks gs bs k m.body count)) (body_distinct gs bs k m.body)
 
-inductives_once : (c : Setting) (ds : List Inductive) (o : Outcome) → IsInductiveGroup c ds o → IsOnce c o
+inductives_once : (c : Setting) (ds : List InductivePredicate) (o : Outcome) → IsInductiveGroup c ds o → IsOnce c o
 inductives_once c [] o it = none_once c o (ap made it.decls) (there_none c o.decls it.decls)
 inductives_once c (d ∷ is) o it =
     let ds = d ∷ is in
@@ -215,7 +215,7 @@ inductives_once c (d ∷ is) o it =
 pub outcome_once : (c : Setting) (s : List Tree) (d : Declaration) (o : Outcome) → IsOutcome c s d o → IsOnce c o
 outcome_once c s (abstract_type x vs) o e = type_once c x (length vs) o e
 outcome_once c s (alias x vs f) o e = none_once c o (ap made e.decls) (there_none c o.decls e.decls)
-outcome_once c s (proposition k x y) o e = none_once c o (ap made e.decls) (there_one c o.decls _ e.decls refl)
+outcome_once c s (proposition_declaration k x y) o e = none_once c o (ap made e.decls) (there_one c o.decls _ e.decls refl)
 outcome_once c s (algebraic ts) o e = group_once c ts o e
-outcome_once c s (members ms) o e = members_once c ms o e
+outcome_once c s (member_group ms) o e = members_once c ms o e
 outcome_once c s (inductive ds) o e = inductives_once c ds o e

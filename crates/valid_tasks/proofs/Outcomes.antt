@@ -7,11 +7,11 @@ use Rattle.tasks.specs.Task.{SymbolTree, InductiveTree, Constructs, DeclarationT
 use Rattle.unify_types.specs.Assigned.{assign}
 use Rattle.syntax_why.specs.Lexeme.{Word}
 use Rattle.syntax_why.specs.declared.declarations.PropKind.{PropKind}
-use Rattle.elab_names.specs.Abstract.{Form, Expression}
+use Rattle.elab_names.specs.Abstract.{TypeExpression, Expression}
 use Rattle.elab_names.specs.Where.{Where}
-use Rattle.elab_walk.specs.Pieces.{past}
+use Rattle.elab_walk.specs.Pieces.{unknown_after}
 use Rattle.elab_parts.specs.Entries.{type_entry}
-use Rattle.elab_parts.specs.Declarations.{Called, Member, Algebraic, Inductive, Declaration, abstract_type, alias, algebraic, members, inductive, proposition}
+use Rattle.elab_parts.specs.Declarations.{TokenName, GroupMember, AlgebraicType, InductivePredicate, Declaration, abstract_type, alias, algebraic, member_group, inductive, proposition_declaration}
 use Rattle.elab_parts.specs.Outcomes.{Setting, Outcome, over, full_name, tuples_wanting}
 use Rattle.elab_parts.specs.Elaborated.{unseen}
 use Rattle.elab_members.specs.Members.{SignatureTree, signed_entries, signature_trees, members_seen}
@@ -32,10 +32,10 @@ pub record IsMade (c : Setting) (o : Outcome) : Type 0 where
 
 -- where the first member of a group has no definition, it is the only one
 abbrev pub IsAlone : Declaration → Type 0
-IsAlone (members (m ∷ ms)) = m.body ≡ None → ms ≡ []
+IsAlone (member_group (m ∷ ms)) = m.body ≡ None → ms ≡ []
 IsAlone _ = Unit {0}
 
-type_made : (c : Setting) (x : Called) (n : ℕ) → IsMade c (type_outcome c x n)
+type_made : (c : Setting) (x : TokenName) (n : ℕ) → IsMade c (type_outcome c x n)
 type_made c x n =
     let k = length c.symbols in
     let e = type_entry c.theory (full_name c x) n in
@@ -51,14 +51,14 @@ type_made c x n =
         inr (inr (record { made = (0, omega arith, omega arith); constructor = λ q. absurd (let y : (type_entry c.theory (full_name c x) n).kind ≡ i.kind = ap (λ (g : SymbolTree). g.kind) s in cc) }))
     of k e (suc j) i z = absurd (cc)
 
-alias_made : (c : Setting) (s : List Tree) (x : Called) (vs : List Called) (f : Form) (o : Outcome) → IsAlias c s x vs f o → IsMade c o
+alias_made : (c : Setting) (s : List Tree) (x : TokenName) (vs : List TokenName) (f : TypeExpression) (o : Outcome) → IsAlias c s x vs f o → IsMade c o
 alias_made c s x vs f o a = record {
   new = rw (a.symbols, a.decls) (tuples_new [] (length c.symbols) c.symbols (alias_seen f).widths);
   between = rw a.decls (no_numbers (length c.symbols) (length (c.symbols ++ o.symbols)));
   single = let q = ap length a.decls in omega (arith, q);
 }
 
-proposition_made : (c : Setting) (k : PropKind) (x : Called) (e : Expression) (o : Outcome) → IsProposition c k x e o → IsMade c o
+proposition_made : (c : Setting) (k : PropKind) (x : TokenName) (e : Expression) (o : Outcome) → IsProposition c k x e o → IsMade c o
 proposition_made c k x e o p =
     let n = length c.symbols in
     let seen = proposition_seen e in
@@ -70,13 +70,13 @@ proposition_made c k x e o p =
       single = let q = ap length p.decls in omega (arith, q);
     }
 
-group_made : (c : Setting) (ts : List Algebraic) → IsMade c (group_outcome c ts)
+group_made : (c : Setting) (ts : List AlgebraicType) → IsMade c (group_outcome c ts)
 group_made c ts =
     let o = group_outcome c ts in
     let n = length c.symbols in
     let tuples = tuples_wanting c (group_seen ts) in
     let T = type_entries c.theory c.within ts in
-    let w = group.inside c ts in
+    let w = group.inside_types c ts in
     let i = first_type c ts in
     let m = first_constructor c ts in
     let G = group_entries c.theory c.within ts (group_trees c ts) in
@@ -95,13 +95,13 @@ group_made c ts =
     }
 
 -- ---- groups with bodies
-pieces_count : (w : Where) (n : ℕ) (ms : List Member) (gs : List SignatureTree) → length gs ≡ length ms → length (pieces_trees (member_pieces w n ms gs)) ≡ length gs
+pieces_count : (w : Where) (n : ℕ) (ms : List GroupMember) (gs : List SignatureTree) → length gs ≡ length ms → length (pieces_trees (member_pieces w n ms gs)) ≡ length gs
 pieces_count w n [] [] q = refl
 pieces_count w n [] (g ∷ gs) q = absurd (cc)
 pieces_count w n (m ∷ ms) [] q = absurd (cc)
-pieces_count w n (m ∷ ms) (g ∷ gs) q = ap suc (pieces_count w (past n (member_piece w n m g)) ms gs (omega (arith, q)))
+pieces_count w n (m ∷ ms) (g ∷ gs) q = ap suc (pieces_count w (unknown_after n (member_piece w n m g)) ms gs (omega (arith, q)))
 
-bodies_count : (w : Where) (ms : List Member) (gs : List SignatureTree) (bodies : List Tree) (matches : List (ℕ × List Tree)) → length gs ≡ length ms → BodiesSolved w ms gs bodies matches → length bodies ≡ length gs
+bodies_count : (w : Where) (ms : List GroupMember) (gs : List SignatureTree) (bodies : List Tree) (matches : List (ℕ × List Tree)) → length gs ≡ length ms → BodiesSolved w ms gs bodies matches → length bodies ≡ length gs
 bodies_count w ms gs bodies matches q it =
     let r = most_variables gs in
     let f = it.determined.solvable.0 in
@@ -110,17 +110,17 @@ bodies_count w ms gs bodies matches q it =
     ap length (sym are) ∙ (length-map trees (assign r f) ∙ pieces_count w r ms gs q)
 
 -- the symbols of a group with or without bodies
-body_from : (m : Member) (ks : List Member) (gs : List SignatureTree) (bs : List Tree) (k : ℕ) (b : Option Expression) → m.body ≡ b → (m.body ≡ None → ks ≡ []) → length gs ≡ length (m ∷ ks) → length bs ≡ length gs → HasFrom (made_by (group_body b k gs bs)) k (length gs)
+body_from : (m : GroupMember) (ks : List GroupMember) (gs : List SignatureTree) (bs : List Tree) (k : ℕ) (b : Option Expression) → m.body ≡ b → (m.body ≡ None → ks ≡ []) → length gs ≡ length (m ∷ ks) → length bs ≡ length gs → HasFrom (made_by (group_body b k gs bs)) k (length gs)
 body_from m ks gs bs k None z a q l =
     let alone = ap length (a z) in
     λ j h. (0, omega arith, omega (arith, alone, q, h))
 body_from m ks gs bs k (Some e) z a q l = defined_from k gs bs l
 
-body_between : (m : Member) (ks : List Member) (gs : List SignatureTree) (bs : List Tree) (k : ℕ) (b : Option Expression) → length gs ≡ length (m ∷ ks) → AreBetween k (k + length gs) (made_by (group_body b k gs bs))
+body_between : (m : GroupMember) (ks : List GroupMember) (gs : List SignatureTree) (bs : List Tree) (k : ℕ) (b : Option Expression) → length gs ≡ length (m ∷ ks) → AreBetween k (k + length gs) (made_by (group_body b k gs bs))
 body_between m ks gs bs k None q = one_between k k (k + length gs) [] (omega arith) (omega (arith, q)) (no_numbers k (k + length gs))
 body_between m ks gs bs k (Some e) q = defined_between k (k + length gs) gs bs (omega arith)
 
-module _ (c : Setting) (tuples : List SymbolTree) (theory within : Word) (ms : List Member) (gs : List SignatureTree) (count : length gs ≡ length ms) (o : Outcome) (symbols : o.symbols ≡ tuples ++ signed_entries theory within ms gs)
+module _ (c : Setting) (tuples : List SymbolTree) (theory within : Word) (ms : List GroupMember) (gs : List SignatureTree) (count : length gs ≡ length ms) (o : Outcome) (symbols : o.symbols ≡ tuples ++ signed_entries theory within ms gs)
     (built : AreNew o.decls (length c.symbols) tuples) (ks : List ℕ) (are : made o.decls ≡ ks) (one : length o.decls ≤ 1) (k : ℕ) (at : k ≡ length c.symbols + length tuples) where
   own_made : HasFrom ks k (length gs) → AreBetween k (k + length gs) ks → IsMade c o
   own_made h b =
@@ -135,7 +135,7 @@ module _ (c : Setting) (tuples : List SymbolTree) (theory within : Word) (ms : L
         single = one;
       }
 
-members_made : (c : Setting) (ms : List Member) (o : Outcome) → IsAlone (members ms) → IsGroup c ms o → IsMade c o
+members_made : (c : Setting) (ms : List GroupMember) (o : Outcome) → IsAlone (member_group ms) → IsGroup c ms o → IsMade c o
 members_made c [] o a it =
     let n = length c.symbols in
     let tuples = group_tuples c [] in
@@ -158,7 +158,7 @@ members_made c (m ∷ ks) o a it =
     own_made c tuples c.theory c.within ms gs count o it.symbols (tuples_new o.decls n c.symbols (members_seen unseen ms).widths) list are (let q = ap length it.decls in omega (arith, q)) k (length-append c.symbols tuples)
     (body_from m ks gs bs k m.body refl a count bodies) (body_between m ks gs bs k m.body count)
 
-inductives_made : (c : Setting) (ds : List Inductive) (o : Outcome) → IsInductiveGroup c ds o → IsMade c o
+inductives_made : (c : Setting) (ds : List InductivePredicate) (o : Outcome) → IsInductiveGroup c ds o → IsMade c o
 inductives_made c [] o it =
     let n = length c.symbols in
     let tuples = tuples_wanting c (inductives_seen unseen []) in
@@ -185,7 +185,7 @@ inductives_made c (d ∷ is) o it =
 pub outcome_made : (c : Setting) (s : List Tree) (d : Declaration) (o : Outcome) → IsAlone d → IsOutcome c s d o → IsMade c o
 outcome_made c s (abstract_type x vs) o a e = rw e (type_made c x _)
 outcome_made c s (alias x vs f) o a e = alias_made c s x vs f o e
-outcome_made c s (proposition k x e) o a p = proposition_made c k x e o p
+outcome_made c s (proposition_declaration k x e) o a p = proposition_made c k x e o p
 outcome_made c s (algebraic ts) o a e = rw e (group_made c ts)
-outcome_made c s (members ms) o a e = members_made c ms o a e
+outcome_made c s (member_group ms) o a e = members_made c ms o a e
 outcome_made c s (inductive ds) o a e = inductives_made c ds o e

@@ -10,7 +10,7 @@ use Rattle.tasks.specs.Vocabulary.{Vocabulary}
 use Rattle.tasks.specs.Typing.{members, IsRigid, IsTypeSymbol, bound_types, TypedUnder}
 use Rattle.tasks.specs.Valid.{IsTypeIn, ParametersOf}
 use Rattle.tasks.proofs.Closing.{typed_sorted}
-use Rattle.unify_types.specs.Assigned.{Variable, assign, IsTyped}
+use Rattle.unify_types.specs.Assigned.{Variable, assign, IsTypeOrTypes}
 use Rattle.unify_types.proofs.SortedTypes.{kind_is_type}
 
 abbrev pub leaf_over : Vocabulary → Bool → Head → Type 0
@@ -40,7 +40,7 @@ IsGood v types e = TypedUnder v types e × ParametersOf [] e
 
 -- ---- from typing and back
 module _ (v : Vocabulary) where
-  leaf_typed_over : (k : Bool) (types : List Tree) (h : Head) → IsTyped k (Leaf h) → TypedUnder v types (Leaf h) → leaf_over v k h
+  leaf_typed_over : (k : Bool) (types : List Tree) (h : Head) → IsTypeOrTypes k (Leaf h) → TypedUnder v types (Leaf h) → leaf_over v k h
   leaf_typed_over true types (HTyVar j) t x = tt
   leaf_typed_over false types (HTyVar j) t x = absurd t
   leaf_typed_over true types (HTyRigid k) t x = x.1
@@ -50,17 +50,17 @@ module _ (v : Vocabulary) where
   leaf_typed_over true types _ t x = absurd t
   leaf_typed_over false types _ t x = absurd t
 
-  one_typed_over : (k : Bool) (types : List Tree) (h : Head) (a : Tree) → IsTyped k (One h a) → TypedUnder v types (One h a) → one_over v k h (length (members a))
+  one_typed_over : (k : Bool) (types : List Tree) (h : Head) (a : Tree) → IsTypeOrTypes k (One h a) → TypedUnder v types (One h a) → one_over v k h (length (members a))
   one_typed_over true types (HTyApp s) a t x = x.1
   one_typed_over true types _ a t x = absurd t.0
   one_typed_over false types _ a t x = absurd t.0
 
-  two_typed_over : (k : Bool) (h : Head) (a b : Tree) → IsTyped k (Two h a b) → two_over k h
+  two_typed_over : (k : Bool) (h : Head) (a b : Tree) → IsTypeOrTypes k (Two h a b) → two_over k h
   two_typed_over false HCell a b t = tt
   two_typed_over false _ a b t = absurd t.0
   two_typed_over true _ a b t = absurd t.0
 
-  typed_over : (k : Bool) (types : List Tree) (e : Tree) → IsTyped k e → TypedUnder v types e → IsOver v k e
+  typed_over : (k : Bool) (types : List Tree) (e : Tree) → IsTypeOrTypes k e → TypedUnder v types e → IsOver v k e
   typed_over k types (Leaf h) t x = leaf_typed_over k types h t x
   typed_over k types (One h a) t x = (one_typed_over k types h a t x, typed_over false types a t.1 x.2)
   typed_over k types (Two h a b) t x = (two_typed_over k h a b t, typed_over true types a t.1 x.2, typed_over false (bound_types h a ++ types) b t.2 x.3)

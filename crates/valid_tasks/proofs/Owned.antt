@@ -11,12 +11,12 @@ use Rattle.trees.specs.Facts.{TyVarsBelow, leaf_below}
 use Rattle.tasks.specs.Task.{SymbolTree}
 use Rattle.tasks.specs.Equations.{cells, type_variables}
 use Rattle.syntax_why.specs.Lexeme.{Word}
-use Rattle.elab_names.specs.Abstract.{Form, Pattern, Patterns, wild, bound, constructed, tupled, aliased, no_patterns, more_patterns, Alternatives, no_alternatives, more_alternatives, Binder, Expression, Expressions, Branches, apply, infixed, literal, truth, falsity, tuple, cast, negation, joined, equated, choice, binding, cases, quantified, none, more, no_branches, more_branches, count_patterns, count}
+use Rattle.elab_names.specs.Abstract.{TypeExpression, Pattern, Patterns, wildcard_pattern, variable_pattern, constructor_pattern, tuple_pattern, alias_pattern, no_patterns, more_patterns, Alternatives, no_alternatives, more_alternatives, BoundNames, Expression, Expressions, MatchBranches, applied_expression, infix_expression, integer_expression, true_expression, false_expression, tuple_expression, cast_expression, not_expression, connected_expression, equality_expression, if_expression, let_expression, match_expression, quantified_expression, no_expressions, more_expressions, no_branches, more_branches, count_patterns, count_expressions}
 use Rattle.elab_names.specs.declared.NamingFault.TheVariants.{WrongKind}
 use Rattle.elab_names.specs.Faults.{first_of, fault_if, form_fault, type_fault, name_fault, binders_fault, bound_names, alternatives_fault, alternatives_names, is_formula_trigger, token, fault, faults, triggers_fault, branches_fault}
 use Rattle.elab_names.specs.Where.{Where}
-use Rattle.elab_walk.specs.Patterns.{noted, nothing, follow, taken, LocalTree, local, type_in, bind, at_unknowns, result_or_int, first_or_int, rest_of, Entry, entry_of, Matched, part_types, constructed_by, pattern_piece, patterns_piece, later_pieces, alternatives_pieces, all_notes, first_variables, reordering, places_among, later_arms, arms}
-use Rattle.elab_walk.specs.Pieces.{type_at, Piece, past, unknown, before, wanting, piece, pieces, triggers_notes, branches_arms, Arms, Use, Local', Symbol', variable_named, found, use_of, named, tuple_use, at_types, used, use_vars, parameters, equality, untyped, typed, binder_locals, binder_vars, binders_vars, quantify, names}
+use Rattle.elab_walk.specs.Patterns.{noted, no_notes, follow, taken, LocalTree, local, local_type, variable_equations, at_unknowns, result_or_int, first_or_int, rest_of, NumberedEntry, entry_of, Matched, part_types, constructed_by, pattern_piece, patterns_piece, later_pieces, alternatives_pieces, all_notes, first_variables, reordering, places_among, later_arms, arms}
+use Rattle.elab_walk.specs.Pieces.{type_at, NotedTree, unknown_after, unknown, noted_before, wanting, piece, pieces, triggers_notes, branches_arms, Arms, Use, Local', Symbol', variable_named, found_local, use_or, use_of_name, tuple_use, symbol_at_types, used_piece, use_vars, parameters, equality, untyped, locals_of_type, binder_locals, binder_vars, binders_vars, quantify, names}
 use Rattle.elab_walk.specs.Pieces as pieces_of
 use Rattle.elab_walk.specs.Scoped.{IsScoped, IsScopedEntry}
 use Rattle.elab_walk.proofs.Below.{both_all, symbol_scoped, form_below}
@@ -49,7 +49,7 @@ module _ (P : ℕ → Type 0) where
   abbrev pub Takes : ℕ → ℕ → Type 0
   Takes a b = (j : ℕ) → a ≤ j → j < b → P j
 
-  pub record PieceIn (p : Piece) : Type 0 where
+  pub record PieceIn (p : NotedTree) : Type 0 where
     pub tree : VariablesIn p.tree
     pub equations : EquationsIn p.notes.equations
 
@@ -190,19 +190,19 @@ module _ (P : ℕ → Type 0) where
       of false None k = tt
       of false (Some p) k = k
 
-  found_in : (qs : List Word) (c : Word) (ls : List LocalTree) → LocalsIn ls → IfSome (found qs c ls) (λ (p : ℕ × Tree). VariablesIn p.1)
+  found_in : (qs : List Word) (c : Word) (ls : List LocalTree) → LocalsIn ls → IfSome (found_local qs c ls) (λ (p : ℕ × Tree). VariablesIn p.1)
   found_in [] c ls h = variable_found c ls h
   found_in (q ∷ qs) c ls h = tt
 
-  type_named : (x : Word) (ls : List LocalTree) → LocalsIn ls → VariablesIn (type_in x ls)
+  type_named : (x : Word) (ls : List LocalTree) → LocalsIn ls → VariablesIn (local_type x ls)
   type_named x [] h = tt
   type_named x (l ∷ ls) h = of (bytes_eq l.name x) (type_named x ls h.1)
     where
-      of : (b : Bool) → VariablesIn (type_in x ls) → VariablesIn (cond b l.type (type_in x ls))
+      of : (b : Bool) → VariablesIn (local_type x ls) → VariablesIn (cond b l.type (local_type x ls))
       of true k = h.0
       of false k = k
 
-  bind_in : (before : Option (List LocalTree)) (x : Word) (t : Tree) → IfSome before LocalsIn → VariablesIn t → EquationsIn (bind before x t)
+  bind_in : (before : Option (List LocalTree)) (x : Word) (t : Tree) → IfSome before LocalsIn → VariablesIn t → EquationsIn (variable_equations before x t)
   bind_in None x t h k = tt
   bind_in (Some ls) x t h k = ((type_named x ls h, k), tt)
 
@@ -214,13 +214,13 @@ module _ (P : ℕ → Type 0) where
   parameters_in n (Local' i ty) h f = tt
   parameters_in n (Symbol' e) h f = args_in n e.symbol h f
 
-  typed_in : (k : ℕ) (ts : List Tree) (t : Option Tree) (a : Tree) → AllIn ts → IfSome t VariablesIn → VariablesIn a → VariablesIn (at_types k ts t a)
+  typed_in : (k : ℕ) (ts : List Tree) (t : Option Tree) (a : Tree) → AllIn ts → IfSome t VariablesIn → VariablesIn a → VariablesIn (symbol_at_types k ts t a)
   typed_in k ts None a h o b = (cells_in ts h, b)
   typed_in k ts (Some x) a h o b = (cells_in ts h, b, o)
 
   -- a use, whose arguments are of use where it is one of a symbol
-  used_in : (n : ℕ) (t : Option Tree) (i : ℕ) (u : Use) (a : Piece) → UseIn u → IfSome t VariablesIn → Takes n (past n (used n t i u a))
-      → (Takes n (n + use_vars u) → Takes (n + use_vars u) (past (n + use_vars u) a) → PieceIn a) → PieceIn (used n t i u a)
+  used_in : (n : ℕ) (t : Option Tree) (i : ℕ) (u : Use) (a : NotedTree) → UseIn u → IfSome t VariablesIn → Takes n (unknown_after n (used_piece n t i u a))
+      → (Takes n (n + use_vars u) → Takes (n + use_vars u) (unknown_after (n + use_vars u) a) → PieceIn a) → PieceIn (used_piece n t i u a)
   used_in n t i (Local' p ty) a h o f g = record { tree = h; equations = both_equations (wanting ty t) [] (wanting_in ty t h o) tt }
   used_in n t i (Symbol' e) a h o f g =
       let k = e.symbol.vars in
@@ -243,12 +243,12 @@ module _ (P : ℕ → Type 0) where
   quantified_in false (l ∷ ls) e h k = (h.0, quantified_in false ls e h.1 k)
 
   -- one of two pieces
-  either_in : (b : Bool) (x y : Piece) (n : ℕ) → Takes n (past n (cond b x y)) → (Takes n (past n x) → EquationsIn x.notes.equations) → (Takes n (past n y) → EquationsIn y.notes.equations) → EquationsIn (cond b x y).notes.equations
+  either_in : (b : Bool) (x y : NotedTree) (n : ℕ) → Takes n (unknown_after n (cond b x y)) → (Takes n (unknown_after n x) → EquationsIn x.notes.equations) → (Takes n (unknown_after n y) → EquationsIn y.notes.equations) → EquationsIn (cond b x y).notes.equations
   either_in true x y n f a b = a f
   either_in false x y n f a b = b f
 
   -- ---- patterns
-  constructed_in : (n i : ℕ) (t : Tree) (c : Entry) (parts : Matched) → VariablesIn t → IsScopedEntry c.symbol → Takes n (n + taken (constructed_by n i t c parts).notes)
+  constructed_in : (n i : ℕ) (t : Tree) (c : NumberedEntry) (parts : Matched) → VariablesIn t → IsScopedEntry c.symbol → Takes n (n + taken (constructed_by n i t c parts).notes)
       → (Takes n (n + c.symbol.vars) → Takes (n + c.symbol.vars) (n + c.symbol.vars + taken parts.notes) → MatchedIn parts) → MatchedIn (constructed_by n i t c parts)
   constructed_in n i t c parts h s f g =
       let k = c.symbol.vars in
@@ -281,13 +281,13 @@ module _ (P : ℕ → Type 0) where
   arms_in body (x ∷ xs) h k = ((k.0, h), later_arms_in x.variables body xs h k.1)
 
   module _ (w : Where) (sc : IsScoped w) (own : (j : ℕ) → j < length w.vars → P j) where
-    form_in : (f : Form) → form_fault w false f ≡ None → VariablesIn (type_at w f)
+    form_in : (f : TypeExpression) → form_fault w false f ≡ None → VariablesIn (type_at w f)
     form_in f q = below_in (length w.vars) (type_at w f) own (form_below w sc f q)
 
-    use_in : (ls : List LocalTree) (qs : List Word) (c : Word) → LocalsIn ls → UseIn (named w ls qs c)
-    use_in ls qs c h = of (found qs c ls) (found_in qs c ls h)
+    use_in : (ls : List LocalTree) (qs : List Word) (c : Word) → LocalsIn ls → UseIn (use_of_name w ls qs c)
+    use_in ls qs c h = of (found_local qs c ls) (found_in qs c ls h)
       where
-        of : (x : Option (ℕ × Tree)) → IfSome x (λ (p : ℕ × Tree). VariablesIn p.1) → UseIn (use_of x (Symbol' (entry_of w.symbols (w.names qs c))))
+        of : (x : Option (ℕ × Tree)) → IfSome x (λ (p : ℕ × Tree). VariablesIn p.1) → UseIn (use_or x (Symbol' (entry_of w.symbols (w.names qs c))))
         of None k = symbol_scoped w sc (w.names qs c)
         of (Some p) k = k
 
@@ -296,15 +296,15 @@ module _ (P : ℕ → Type 0) where
     untyped_in n [] f = tt
     untyped_in n (x ∷ xs) f = (f n (omega arith) (omega arith), untyped_in (suc n) xs (λ j a b. f j (omega arith) (omega arith)))
 
-    all_typed : (t : Tree) (xs : List Word) → VariablesIn t → LocalsIn (typed t xs)
+    all_typed : (t : Tree) (xs : List Word) → VariablesIn t → LocalsIn (locals_of_type t xs)
     all_typed t [] h = tt
     all_typed t (x ∷ xs) h = (h, all_typed t xs h)
 
-    binder_in : (n : ℕ) (xs : List Word) (f : Option Form) → type_fault w false f ≡ None → Takes n (n + binder_vars xs f) → LocalsIn (binder_locals w n xs f)
+    binder_in : (n : ℕ) (xs : List Word) (f : Option TypeExpression) → type_fault w false f ≡ None → Takes n (n + binder_vars xs f) → LocalsIn (binder_locals w n xs f)
     binder_in n xs None q f = untyped_in n xs f
     binder_in n xs (Some t) q f = all_typed (type_at w t) xs (form_in t q)
 
-    bound_in : (n : ℕ) (bs : List Binder) → binders_fault w false bs ≡ None → Takes n (n + binders_vars bs) → LocalsIn (pieces_of.bound w n bs)
+    bound_in : (n : ℕ) (bs : List BoundNames) → binders_fault w false bs ≡ None → Takes n (n + binders_vars bs) → LocalsIn (pieces_of.bound w n bs)
     bound_in n [] q f = tt
     bound_in n (b ∷ bs) q f =
         let p = none_both (type_fault w false b.of_type) (binders_fault w false bs) q in
@@ -315,22 +315,22 @@ module _ (P : ℕ → Type 0) where
     -- ---- patterns
     mutual
       pattern_in : (p : Pattern) (before : Option (List LocalTree)) (n : ℕ) (t : Tree) → IfSome before LocalsIn → VariablesIn t → Takes n (n + taken (pattern_piece w before n t p).notes) → MatchedIn (pattern_piece w before n t p)
-      pattern_in (wild i) before n t o h f = record { tree = h; equations = tt; variables = tt }
-      pattern_in (bound i x) before n t o h f = record { tree = h; equations = bind_in before x t o h; variables = (h, tt) }
-      pattern_in (constructed i qs x ps) before n t o h f =
+      pattern_in (wildcard_pattern i) before n t o h f = record { tree = h; equations = tt; variables = tt }
+      pattern_in (variable_pattern i x) before n t o h f = record { tree = h; equations = bind_in before x t o h; variables = (h, tt) }
+      pattern_in (constructor_pattern i qs x ps) before n t o h f =
           let c = entry_of w.symbols (w.names qs x) in
           let s = symbol_scoped w sc (w.names qs x) in
           constructed_in n i t c (patterns_piece w before (n + c.symbol.vars) (part_types n c) ps) h s f (λ a b. patterns_in ps before (n + c.symbol.vars) (part_types n c) o (args_in n c.symbol s a) b)
-      pattern_in (tupled i ps) before n t o h f =
+      pattern_in (tuple_pattern i ps) before n t o h f =
           let c = entry_of w.symbols (w.tuples (count_patterns ps)) in
           let s = symbol_scoped w sc (w.tuples (count_patterns ps)) in
           constructed_in n i t c (patterns_piece w before (n + c.symbol.vars) (part_types n c) ps) h s f (λ a b. patterns_in ps before (n + c.symbol.vars) (part_types n c) o (args_in n c.symbol s a) b)
-      pattern_in (aliased p i x) before n t o h f =
+      pattern_in (alias_pattern p i x) before n t o h f =
           let inner = pattern_piece w before n t p in
           let r = pattern_in p before n t o h (no_more n inner.notes.takers f) in
           record {
             tree = r.tree;
-            equations = both_equations inner.notes.equations (bind before x t) r.equations (bind_in before x t o h);
+            equations = both_equations inner.notes.equations (variable_equations before x t) r.equations (bind_in before x t o h);
             variables = both_all (λ (v : LocalTree). VariablesIn v.type) inner.variables (local x t ∷ []) r.variables (h, tt);
           }
 
@@ -370,100 +370,100 @@ module _ (P : ℕ → Type 0) where
 
     -- ---- terms and formulas
     mutual
-      pub owned : (e : Expression) (ls : List LocalTree) (n : ℕ) (t : Option Tree) (ns : List Word) (due : Bool) → LocalsIn ls → IfSome t VariablesIn → fault w false ns due e ≡ None → Takes n (past n (piece w ls n t e)) → PieceIn (piece w ls n t e)
-      owned (apply i qs x es) ls n t ns due h k q f =
-          let p = none_both (name_fault w ns due i qs x (count es)) (faults w false ns es) q in
-          let u = named w ls qs x in
+      pub owned : (e : Expression) (ls : List LocalTree) (n : ℕ) (t : Option Tree) (ns : List Word) (due : Bool) → LocalsIn ls → IfSome t VariablesIn → fault w false ns due e ≡ None → Takes n (unknown_after n (piece w ls n t e)) → PieceIn (piece w ls n t e)
+      owned (applied_expression i qs x es) ls n t ns due h k q f =
+          let p = none_both (name_fault w ns due i qs x (count_expressions es)) (faults w false ns es) q in
+          let u = use_of_name w ls qs x in
           let z = use_in ls qs x h in
           used_in n t i u (pieces w ls (n + use_vars u) (parameters n u) es) z k f (λ a b. all_owned es ls (n + use_vars u) (parameters n u) ns h (parameters_in n u z a) p.1 b)
-      owned (infixed i x a b) ls n t ns due h k q f =
+      owned (infix_expression i x a b) ls n t ns due h k q f =
           let p = none_both (fault w false ns false a) (first_of (name_fault w ns due i [] x 2) (fault w false ns false b)) q in
           let r = none_both (name_fault w ns due i [] x 2) (fault w false ns false b) p.1 in
-          let u = named w ls [] x in
+          let u = use_of_name w ls [] x in
           let z = use_in ls [] x h in
           let m = n + use_vars u in
           let ts = parameters n u in
           let left = piece w ls m (Some (first_or_int ts)) a in
-          let right = piece w ls (past m left) (Some (first_or_int (rest_of ts))) b in
-          let args : Piece = record { tree = Two HCell left.tree (Two HCell right.tree (Leaf HEnd)); notes = follow left.notes (follow right.notes nothing) } in
+          let right = piece w ls (unknown_after m left) (Some (first_or_int (rest_of ts))) b in
+          let args : NotedTree = record { tree = Two HCell left.tree (Two HCell right.tree (Leaf HEnd)); notes = follow left.notes (follow right.notes no_notes) } in
           used_in n t i u args z k f (λ c d.
           let o = parameters_in n u z c in
           let l = owned a ls m (Some (first_or_int ts)) ns false h (first_in ts o) p.0 (front m left.notes.takers (right.notes.takers ++ []) d) in
-          let s = owned b ls (past m left) (Some (first_or_int (rest_of ts))) ns false h (first_in (rest_of ts) (rest_in ts o)) r.1 (no_more (past m left) right.notes.takers (back m left.notes.takers (right.notes.takers ++ []) d)) in
+          let s = owned b ls (unknown_after m left) (Some (first_or_int (rest_of ts))) ns false h (first_in (rest_of ts) (rest_in ts o)) r.1 (no_more (unknown_after m left) right.notes.takers (back m left.notes.takers (right.notes.takers ++ []) d)) in
           record {
             tree = (l.tree, (s.tree, tt));
             equations = both_equations left.notes.equations (right.notes.equations ++ []) l.equations (both_equations right.notes.equations [] s.equations tt);
           })
-      owned (literal i z) ls n t ns due h k q f = record { tree = tt; equations = both_equations (wanting _ t) [] (wanting_in _ t tt k) tt }
-      owned (truth i) ls n t ns due h k q f = record { tree = tt; equations = tt }
-      owned (falsity i) ls n t ns due h k q f = record { tree = tt; equations = tt }
-      owned (tuple i es) ls n t ns due h k q f =
+      owned (integer_expression i z) ls n t ns due h k q f = record { tree = tt; equations = both_equations (wanting _ t) [] (wanting_in _ t tt k) tt }
+      owned (true_expression i) ls n t ns due h k q f = record { tree = tt; equations = tt }
+      owned (false_expression i) ls n t ns due h k q f = record { tree = tt; equations = tt }
+      owned (tuple_expression i es) ls n t ns due h k q f =
           let p = none_both (fault_if due (WrongKind i)) (faults w false ns es) q in
-          let u = tuple_use w (count es) in
-          let z = symbol_scoped w sc (w.tuples (count es)) in
+          let u = tuple_use w (count_expressions es) in
+          let z = symbol_scoped w sc (w.tuples (count_expressions es)) in
           used_in n t i u (pieces w ls (n + use_vars u) (parameters n u) es) z k f (λ a b. all_owned es ls (n + use_vars u) (parameters n u) ns h (parameters_in n u z a) p.1 b)
-      owned (cast i e ty) ls n t ns due h k q f =
+      owned (cast_expression i e ty) ls n t ns due h k q f =
           let p = none_both (fault_if due (WrongKind i)) (first_of (fault w false ns false e) (form_fault w false ty)) q in
           let r = none_both (fault w false ns false e) (form_fault w false ty) p.1 in
           let o = form_in ty r.1 in
           let x = owned e ls n (Some (type_at w ty)) ns false h o r.0 f in
           record { tree = x.tree; equations = both_equations (wanting (type_at w ty) t) (piece w ls n (Some (type_at w ty)) e).notes.equations (wanting_in (type_at w ty) t o k) x.equations }
-      owned (negation i e) ls n t ns due h k q f =
+      owned (not_expression i e) ls n t ns due h k q f =
           let p = none_both (fault_if (not due) (WrongKind i)) (fault w false ns true e) q in
           let x = owned e ls n None ns true h tt p.1 f in
           record { tree = x.tree; equations = x.equations }
-      owned (joined i a op b) ls n t ns due h k q f =
+      owned (connected_expression i a op b) ls n t ns due h k q f =
           let p = none_both (fault w false ns true a) (first_of (fault_if (not due) (WrongKind i)) (fault w false ns true b)) q in
           let r = none_both (fault_if (not due) (WrongKind i)) (fault w false ns true b) p.1 in
           let x = piece w ls n None a in
-          let y = piece w ls (past n x) None b in
+          let y = piece w ls (unknown_after n x) None b in
           let c = owned a ls n None ns true h tt p.0 (front n x.notes.takers y.notes.takers f) in
-          let d = owned b ls (past n x) None ns true h tt r.1 (back n x.notes.takers y.notes.takers f) in
+          let d = owned b ls (unknown_after n x) None ns true h tt r.1 (back n x.notes.takers y.notes.takers f) in
           record { tree = (c.tree, d.tree); equations = both_equations x.notes.equations y.notes.equations c.equations d.equations }
-      owned (equated i same a b) ls n t ns due h k q f =
+      owned (equality_expression i same a b) ls n t ns due h k q f =
           let p = none_both (fault w false ns false a) (first_of (fault_if (not due) (WrongKind i)) (fault w false ns false b)) q in
           let r = none_both (fault_if (not due) (WrongKind i)) (fault w false ns false b) p.1 in
           let x = piece w ls (n + 1) (Some (unknown n)) a in
-          let y = piece w ls (past (n + 1) x) (Some (unknown n)) b in
+          let y = piece w ls (unknown_after (n + 1) x) (Some (unknown n)) b in
           let o : P n = first n i (x.notes.takers ++ y.notes.takers) f in
           let g = others n i (x.notes.takers ++ y.notes.takers) f in
           let c = owned a ls (n + 1) (Some (unknown n)) ns false h o p.0 (front (n + 1) x.notes.takers y.notes.takers g) in
-          let d = owned b ls (past (n + 1) x) (Some (unknown n)) ns false h o r.1 (back (n + 1) x.notes.takers y.notes.takers g) in
+          let d = owned b ls (unknown_after (n + 1) x) (Some (unknown n)) ns false h o r.1 (back (n + 1) x.notes.takers y.notes.takers g) in
           record { tree = equality_in same x.tree y.tree (c.tree, d.tree); equations = both_equations x.notes.equations y.notes.equations c.equations d.equations }
-      owned (choice i c a b) ls n t ns due h k q f =
+      owned (if_expression i c a b) ls n t ns due h k q f =
           let p = none_both (fault w false ns true c) (first_of (fault w false ns due a) (fault w false ns due b)) q in
           let r = none_both (fault w false ns due a) (fault w false ns due b) p.1 in
           let x = piece w ls n None c in
-          let y = piece w ls (past n x) t a in
-          let z = piece w ls (past (past n x) y) t b in
+          let y = piece w ls (unknown_after n x) t a in
+          let z = piece w ls (unknown_after (unknown_after n x) y) t b in
           let g = back n x.notes.takers (y.notes.takers ++ z.notes.takers) f in
           let d = owned c ls n None ns true h tt p.0 (front n x.notes.takers (y.notes.takers ++ z.notes.takers) f) in
-          let e = owned a ls (past n x) t ns due h k r.0 (front (past n x) y.notes.takers z.notes.takers g) in
-          let s = owned b ls (past (past n x) y) t ns due h k r.1 (back (past n x) y.notes.takers z.notes.takers g) in
+          let e = owned a ls (unknown_after n x) t ns due h k r.0 (front (unknown_after n x) y.notes.takers z.notes.takers g) in
+          let s = owned b ls (unknown_after (unknown_after n x) y) t ns due h k r.1 (back (unknown_after n x) y.notes.takers z.notes.takers g) in
           record {
             tree = (d.tree, e.tree, s.tree);
             equations = both_equations x.notes.equations (y.notes.equations ++ z.notes.equations) d.equations (both_equations y.notes.equations z.notes.equations e.equations s.equations);
           }
-      owned (binding i v a b) ls n t ns due h k q f =
+      owned (let_expression i v a b) ls n t ns due h k q f =
           let p = none_both (fault w false ns false a) (fault w false (v ∷ ns) due b) q in
           let x = piece w ls (n + 1) (Some (unknown n)) a in
           let inside = local v (unknown n) ∷ ls in
-          let y = piece w inside (past (n + 1) x) t b in
+          let y = piece w inside (unknown_after (n + 1) x) t b in
           let o : P n = first n i (x.notes.takers ++ y.notes.takers) f in
           let g = others n i (x.notes.takers ++ y.notes.takers) f in
           let c = owned a ls (n + 1) (Some (unknown n)) ns false h o p.0 (front (n + 1) x.notes.takers y.notes.takers g) in
-          let d = owned b inside (past (n + 1) x) t (v ∷ ns) due (o, h) k p.1 (back (n + 1) x.notes.takers y.notes.takers g) in
+          let d = owned b inside (unknown_after (n + 1) x) t (v ∷ ns) due (o, h) k p.1 (back (n + 1) x.notes.takers y.notes.takers g) in
           record { tree = (c.tree, d.tree); equations = both_equations x.notes.equations y.notes.equations c.equations d.equations }
-      owned (cases i e bs) ls n t ns due h k q f =
+      owned (match_expression i e bs) ls n t ns due h k q f =
           let p = in_cases w ns due i e bs q in
           let x = piece w ls (n + 1) (Some (unknown n)) e in
-          let r = branches_arms w ls (past (n + 1) x) (unknown n) t bs in
+          let r = branches_arms w ls (unknown_after (n + 1) x) (unknown n) t bs in
           let o : P n = first n i (x.notes.takers ++ r.notes.takers) f in
           let g = others n i (x.notes.takers ++ r.notes.takers) f in
           let a = owned e ls (n + 1) (Some (unknown n)) ns false h o p.0 (front (n + 1) x.notes.takers r.notes.takers g) in
-          let b = branches_owned bs ls (past (n + 1) x) (unknown n) t ns due h o k p.2 (back (n + 1) x.notes.takers r.notes.takers g) in
+          let b = branches_owned bs ls (unknown_after (n + 1) x) (unknown n) t ns due h o k p.2 (back (n + 1) x.notes.takers r.notes.takers g) in
           record { tree = (a.tree, cells_in r.trees b.trees); equations = both_equations x.notes.equations r.notes.equations a.equations b.equations }
-      owned (quantified i all bs gs b) ls n t ns due h k q f =
+      owned (quantified_expression i all bs gs b) ls n t ns due h k q f =
           let within = reverse (bound_names bs) ++ ns in
           let p = none_both (fault_if (not due) (WrongKind i)) (first_of (binders_fault w false bs) (first_of (triggers_fault w false within gs) (fault w false within true b))) q in
           let r = none_both (binders_fault w false bs) (first_of (triggers_fault w false within gs) (fault w false within true b)) p.1 in
@@ -481,33 +481,33 @@ module _ (P : ℕ → Type 0) where
           let d = owned b inside z None within true h' tt s.1 (back (n + j) g.takers y.notes.takers rest) in
           record { tree = quantified_in all vs y.tree bound' d.tree; equations = both_equations g.equations y.notes.equations c d.equations }
 
-      all_owned : (es : Expressions) (ls : List LocalTree) (n : ℕ) (ts : List Tree) (ns : List Word) → LocalsIn ls → AllIn ts → faults w false ns es ≡ None → Takes n (past n (pieces w ls n ts es)) → PieceIn (pieces w ls n ts es)
-      all_owned none ls n ts ns h k q f = record { tree = tt; equations = tt }
-      all_owned (more e es) ls n ts ns h k q f =
+      all_owned : (es : Expressions) (ls : List LocalTree) (n : ℕ) (ts : List Tree) (ns : List Word) → LocalsIn ls → AllIn ts → faults w false ns es ≡ None → Takes n (unknown_after n (pieces w ls n ts es)) → PieceIn (pieces w ls n ts es)
+      all_owned no_expressions ls n ts ns h k q f = record { tree = tt; equations = tt }
+      all_owned (more_expressions e es) ls n ts ns h k q f =
           let p = none_both (fault w false ns false e) (faults w false ns es) q in
           let x = piece w ls n (Some (first_or_int ts)) e in
-          let y = pieces w ls (past n x) (rest_of ts) es in
+          let y = pieces w ls (unknown_after n x) (rest_of ts) es in
           let a = owned e ls n (Some (first_or_int ts)) ns false h (first_in ts k) p.0 (front n x.notes.takers y.notes.takers f) in
-          let b = all_owned es ls (past n x) (rest_of ts) ns h (rest_in ts k) p.1 (back n x.notes.takers y.notes.takers f) in
+          let b = all_owned es ls (unknown_after n x) (rest_of ts) ns h (rest_in ts k) p.1 (back n x.notes.takers y.notes.takers f) in
           record { tree = (a.tree, b.tree); equations = both_equations x.notes.equations y.notes.equations a.equations b.equations }
 
       triggers_owned : (gs : Expressions) (ls : List LocalTree) (n : ℕ) (ns : List Word) → LocalsIn ls → triggers_fault w false ns gs ≡ None → Takes n (n + taken (triggers_notes w ls n gs)) → EquationsIn (triggers_notes w ls n gs).equations
-      triggers_owned none ls n ns h q f = tt
-      triggers_owned (more e es) ls n ns h q f =
+      triggers_owned no_expressions ls n ns h q f = tt
+      triggers_owned (more_expressions e es) ls n ns h q f =
           let due = is_formula_trigger w ns e in
           let p = none_both (fault w false ns due e) (triggers_fault w false ns es) q in
           let b = is_formula_trigger w (names ls) e in
           let x = piece w ls n None e in
           let z = piece w ls (n + 1) (Some (unknown n)) e in
-          let y = before (noted [] (token e ∷ [])) z in
+          let y = noted_before (noted [] (token e ∷ [])) z in
           let one = cond b x y in
-          let rest = triggers_notes w ls (past n one) es in
+          let rest = triggers_notes w ls (unknown_after n one) es in
           both_equations one.notes.equations rest.equations
           (either_in b x y n (front n one.notes.takers rest.takers f) (λ g. (owned e ls n None ns due h tt p.0 g).equations)
           (λ g. (owned e ls (n + 1) (Some (unknown n)) ns due h (first n (token e) z.notes.takers g) p.0 (others n (token e) z.notes.takers g)).equations))
-          (triggers_owned es ls (past n one) ns h p.1 (back n one.notes.takers rest.takers f))
+          (triggers_owned es ls (unknown_after n one) ns h p.1 (back n one.notes.takers rest.takers f))
 
-      branches_owned : (bs : Branches) (ls : List LocalTree) (n : ℕ) (subject : Tree) (t : Option Tree) (ns : List Word) (due : Bool) → LocalsIn ls → VariablesIn subject → IfSome t VariablesIn → branches_fault w false ns due bs ≡ None
+      branches_owned : (bs : MatchBranches) (ls : List LocalTree) (n : ℕ) (subject : Tree) (t : Option Tree) (ns : List Word) (due : Bool) → LocalsIn ls → VariablesIn subject → IfSome t VariablesIn → branches_fault w false ns due bs ≡ None
           → Takes n (n + taken (branches_arms w ls n subject t bs).notes) → ArmsIn (branches_arms w ls n subject t bs)
       branches_owned no_branches ls n subject t ns due h s k q f = record { trees = tt; equations = tt }
       branches_owned (more_branches ps b bs) ls n subject t ns due h s k q f =
@@ -520,12 +520,12 @@ module _ (P : ℕ → Type 0) where
           let inside = reverse vs ++ ls in
           let y = piece w inside j t b in
           let one = (all_notes ms).takers ++ y.notes.takers in
-          let rest = branches_arms w ls (past j y) subject t bs in
+          let rest = branches_arms w ls (unknown_after j y) subject t bs in
           let g = front n one rest.notes.takers f in
-          let l : n + length one ≡ past j y = omega (arith, length-append (all_notes ms).takers y.notes.takers) in
+          let l : n + length one ≡ unknown_after j y = omega (arith, length-append (all_notes ms).takers y.notes.takers) in
           let a = alternatives_in ps n subject s (front n (all_notes ms).takers y.notes.takers g) in
           let c = owned b inside j t within due (inside_in vs ls a.variables h) k r.0 (back n (all_notes ms).takers y.notes.takers g) in
-          let d = branches_owned bs ls (past j y) subject t ns due h s k r.1 (λ i u v. back n one rest.notes.takers f i (omega arith) (omega arith)) in
+          let d = branches_owned bs ls (unknown_after j y) subject t ns due h s k r.1 (λ i u v. back n one rest.notes.takers f i (omega arith) (omega arith)) in
           record {
             trees = both_all VariablesIn (arms y.tree ms) rest.trees (arms_in y.tree ms c.tree a.trees) d.trees;
             equations = both_equations ((all_notes ms).equations ++ y.notes.equations) rest.notes.equations (both_equations (all_notes ms).equations y.notes.equations a.equations c.equations) d.equations;

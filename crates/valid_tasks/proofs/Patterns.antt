@@ -17,14 +17,14 @@ use Rattle.tasks.specs.Typing.{MakesTerms}
 use Rattle.unify_types.specs.Assigned.{assign}
 use Rattle.unify_types.specs.Pairs.{SolvesAll}
 use Rattle.syntax_why.specs.Lexeme.{Word}
-use Rattle.elab_names.specs.Abstract.{Pattern, Patterns, wild, bound, constructed, tupled, aliased, no_patterns, more_patterns, count_patterns}
+use Rattle.elab_names.specs.Abstract.{Pattern, Patterns, wildcard_pattern, variable_pattern, constructor_pattern, tuple_pattern, alias_pattern, no_patterns, more_patterns, count_patterns}
 use Rattle.elab_names.specs.declared.NamingFault.TheVariants.{WrongKind, Arity, Duplicate}
 use Rattle.elab_names.specs.Faults.{fault_if, pattern_names, constructor_fault, pattern_fault, patterns_fault}
 use Rattle.elab_names.specs.Where.{Where, place_of}
-use Rattle.elab_walk.specs.Patterns.{noted, LocalTree, local, taken, at_unknowns, result_or_int, Entry, entry_of, Matched, type_in, bind, constructed_by, part_types, pattern_piece, patterns_piece}
+use Rattle.elab_walk.specs.Patterns.{noted, LocalTree, local, taken, at_unknowns, result_or_int, NumberedEntry, entry_of, Matched, local_type, variable_equations, constructed_by, part_types, pattern_piece, patterns_piece}
 use Rattle.elab_walk.proofs.Walking.{none_both, must_be}
 use Rattle.valid_tasks.specs.Signature.{IsSymbol, IsTuple, IsWellFormed, PatternTuples, PatternsTuples}
-use Rattle.valid_tasks.specs.Typed.{types_at}
+use Rattle.valid_tasks.specs.Typed.{assigned_types}
 use Rattle.valid_tasks.proofs.Over.{IsOver, AreOver, type_over, over_assigned}
 use Rattle.valid_tasks.proofs.Instances.{inst_over, variables_over, cells_assigned, all_assigned_over}
 use Rattle.valid_tasks.proofs.Forms.{PatternTyped, PartsTyped, wild_typed, bound_typed, alias_typed, no_parts, more_parts, constructor_typed}
@@ -33,23 +33,23 @@ use Rattle.valid_tasks.proofs.Sound.{AreNoted, noted_sound, both_noted, none_not
 
 -- the types of variables, innermost first
 abbrev pub inner_types : ℕ → (ℕ → Tree) → List LocalTree → List Tree
-inner_types r f vs = types_at r f (reverse vs)
+inner_types r f vs = assigned_types r f (reverse vs)
 
 inner_both : (r : ℕ) (f : ℕ → Tree) (xs ys : List LocalTree) → inner_types r f (xs ++ ys) ≡ inner_types r f ys ++ inner_types r f xs
-inner_both r f xs ys = ap (types_at r f) (reverse-append xs ys) ∙ map-append (λ (l : LocalTree). assign r f l.type) (reverse ys) (reverse xs)
+inner_both r f xs ys = ap (assigned_types r f) (reverse-append xs ys) ∙ map-append (λ (l : LocalTree). assign r f l.type) (reverse ys) (reverse xs)
 
-type_in_over : (v : Vocabulary) (x : Word) (ls : List LocalTree) → IsOver v true int_type → LocalsOver v ls → IsOver v true (type_in x ls)
+type_in_over : (v : Vocabulary) (x : Word) (ls : List LocalTree) → IsOver v true int_type → LocalsOver v ls → IsOver v true (local_type x ls)
 type_in_over v x [] i h = i
 type_in_over v x (l ∷ ls) i h = of (bytes_eq l.name x) (type_in_over v x ls i h.1)
   where
-    of : (b : Bool) → IsOver v true (type_in x ls) → IsOver v true (cond b l.type (type_in x ls))
+    of : (b : Bool) → IsOver v true (local_type x ls) → IsOver v true (cond b l.type (local_type x ls))
     of true k = h.0
     of false k = k
 
 abbrev pub FirstOver : Vocabulary → Option (List LocalTree) → Type 0
 FirstOver v first = IfSome first (LocalsOver v)
 
-bind_over : (v : Vocabulary) (first : Option (List LocalTree)) (x : Word) (t : Tree) → IsOver v true int_type → FirstOver v first → IsOver v true t → EquationsOver v (bind first x t)
+bind_over : (v : Vocabulary) (first : Option (List LocalTree)) (x : Word) (t : Tree) → IsOver v true int_type → FirstOver v first → IsOver v true t → EquationsOver v (variable_equations first x t)
 bind_over v None x t i h o = tt
 bind_over v (Some ls) x t i h o = ((type_in_over v x ls i h, o), tt)
 
@@ -78,7 +78,7 @@ module _ (base : Vocabulary) (w : Where) (good : IsWellFormed base w) (rigid : �
         → PartsTyped v types (map (assign r f) ts) (inner_types r f m.variables) (assign r f m.tree)
 
   -- a constructor with as many parts
-  abbrev IsConstructor : ℕ → Entry → Type 0
+  abbrev IsConstructor : ℕ → NumberedEntry → Type 0
   IsConstructor n c = IsEntry v c × (c.symbol.kind ≡ Constructor) × IsTrue (v.matched c.number) × (length c.symbol.args ≡ n)
 
   constructor_named : (i n : ℕ) (m : Option ℕ) → IfSome m (IsSymbol v) → constructor_fault w i n m ≡ None → IsConstructor n (entry_of w.symbols m)
@@ -93,7 +93,7 @@ module _ (base : Vocabulary) (w : Where) (good : IsWellFormed base w) (rigid : �
   constructor_tuple n None s = absurd s
   constructor_tuple n (Some k) s = (named_symbol v k s.symbol, s.kind, named_matched base w good k s.symbol s.kind, s.args)
 
-  constructed_sound : (n i k : ℕ) (t : Tree) (c : Entry) (m : Matched) → IsConstructor k c → IsOver v true t → AreMatched (part_types n c) m → IsMatched t (constructed_by n i t c m)
+  constructed_sound : (n i k : ℕ) (t : Tree) (c : NumberedEntry) (m : Matched) → IsConstructor k c → IsOver v true t → AreMatched (part_types n c) m → IsMatched t (constructed_by n i t c m)
   constructed_sound n i k t c m it o a =
       let e = c.symbol in
       let named = it.0 in
@@ -116,37 +116,37 @@ module _ (base : Vocabulary) (w : Where) (good : IsWellFormed base w) (rigid : �
             (all_assigned_over v r f g (type_variables n e.vars) (variables_over v n e.vars)) parts x.1 same (over_assigned v r f g true t o));
       }
 
-  parts_count : (n k : ℕ) (c : Entry) → IsConstructor k c → length (part_types n c) ≡ k
+  parts_count : (n k : ℕ) (c : NumberedEntry) → IsConstructor k c → length (part_types n c) ≡ k
   parts_count n k c it = length-map c.symbol.args (at_unknowns n c.symbol) ∙ it.3
 
   mutual
     pub pattern_sound : (p : Pattern) (first : Option (List LocalTree)) (n : ℕ) (t : Tree) (seen : List Word) → FirstOver v first → IsOver v true t → PatternTuples base w p → pattern_fault w seen p ≡ None → IsMatched t (pattern_piece w first n t p)
-    pattern_sound (wild i) first n t seen h o u q = record { notes = none_noted base w rigid; variables = tt; typed = λ f g s types. wild_typed v types (assign r f t) (over_assigned v r f g true t o) }
-    pattern_sound (bound i x) first n t seen h o u q = record {
-      notes = noted_sound base w rigid (bind first x t) [] (bind_over v first x t (int_over base w good) h o);
+    pattern_sound (wildcard_pattern i) first n t seen h o u q = record { notes = none_noted base w rigid; variables = tt; typed = λ f g s types. wild_typed v types (assign r f t) (over_assigned v r f g true t o) }
+    pattern_sound (variable_pattern i x) first n t seen h o u q = record {
+      notes = noted_sound base w rigid (variable_equations first x t) [] (bind_over v first x t (int_over base w good) h o);
       variables = (o, tt);
       typed = λ f g s types. bound_typed v types (assign r f t) (over_assigned v r f g true t o);
     }
-    pattern_sound (constructed i qs x ps) first n t seen h o u q =
+    pattern_sound (constructor_pattern i qs x ps) first n t seen h o u q =
         let p = none_both (constructor_fault w i (count_patterns ps) (w.names qs x)) (patterns_fault w seen ps) q in
         let c = entry_of w.symbols (w.names qs x) in
         let it = constructor_named i (count_patterns ps) (w.names qs x) (good.names qs x) p.0 in
         constructed_sound n i (count_patterns ps) t c (patterns_piece w first (n + c.symbol.vars) (part_types n c) ps) it o
         (patterns_sound ps first (n + c.symbol.vars) (part_types n c) seen (parts_count n (count_patterns ps) c it) h (parameters_over v c.symbol it.0.types n) u p.1)
-    pattern_sound (tupled i ps) first n t seen h o u q =
+    pattern_sound (tuple_pattern i ps) first n t seen h o u q =
         let c = entry_of w.symbols (w.tuples (count_patterns ps)) in
         let it = constructor_tuple (count_patterns ps) (w.tuples (count_patterns ps)) u.0 in
         constructed_sound n i (count_patterns ps) t c (patterns_piece w first (n + c.symbol.vars) (part_types n c) ps) it o
         (patterns_sound ps first (n + c.symbol.vars) (part_types n c) seen (parts_count n (count_patterns ps) c it) h (parameters_over v c.symbol it.0.types n) u.1 q)
-    pattern_sound (aliased p i x) first n t seen h o u q =
+    pattern_sound (alias_pattern p i x) first n t seen h o u q =
         let k = none_both (pattern_fault w seen p) (fault_if (is_some (place_of x (seen ++ pattern_names p))) (Duplicate i)) q in
         let inner = pattern_piece w first n t p in
         let y = pattern_sound p first n t seen h o u k.0 in
         record {
-          notes = both_noted base w rigid inner.notes (noted (bind first x t) []) y.notes (noted_sound base w rigid (bind first x t) [] (bind_over v first x t (int_over base w good) h o));
+          notes = both_noted base w rigid inner.notes (noted (variable_equations first x t) []) y.notes (noted_sound base w rigid (variable_equations first x t) [] (bind_over v first x t (int_over base w good) h o));
           variables = both_locals v inner.variables (local x t ∷ []) y.variables (o, tt);
           typed = λ f g s types. rw (inner_both r f inner.variables (local x t ∷ []))
-              (alias_typed v types (assign r f t) (inner_types r f inner.variables) (assign r f inner.tree) (y.typed f g (first_solved r f inner.notes.equations (bind first x t) s) types));
+              (alias_typed v types (assign r f t) (inner_types r f inner.variables) (assign r f inner.tree) (y.typed f g (first_solved r f inner.notes.equations (variable_equations first x t) s) types));
         }
 
     patterns_sound : (ps : Patterns) (first : Option (List LocalTree)) (n : ℕ) (ts : List Tree) (seen : List Word) → length ts ≡ count_patterns ps → FirstOver v first → AreOver v ts → PatternsTuples base w ps → patterns_fault w seen ps ≡ None

@@ -23,15 +23,15 @@ use Rattle.elab_names.specs.Abstract.{Expression}
 use Rattle.elab_names.specs.Faults.{fault}
 use Rattle.elab_variables.proofs.Closing.{closed}
 use Rattle.elab_parts.specs.Elaborated.{unseen}
-use Rattle.elab_parts.specs.Declarations.{Called, proposition}
-use Rattle.elab_variables.specs.Seen.{Seen}
+use Rattle.elab_parts.specs.Declarations.{TokenName, proposition_declaration}
+use Rattle.elab_variables.specs.Seen.{SeenTree}
 use Rattle.elab_walk.specs.Patterns.{LocalTree}
 use Rattle.elab_parts.specs.Outcomes.{Setting, Outcome, around, tuples_wanting, full_name}
 use Rattle.elab_parts.proofs.Alike.{alike}
 use Rattle.elab_terms.specs.Outcomes.{proposition_seen, rigid_names, entry_numbers, rigid_types, said_as, schematic, IsProposition}
 use Rattle.valid_tasks.specs.Signature.{with_entries}
 use Rattle.valid_tasks.specs.Typed.{IsTypeOf, IsPatternOf, ArePatterns}
-use Rattle.valid_tasks.specs.Scopes.{IsPart, NamesNew, IsTypedEntry, IsTypedSignature, IsTypedThing, AreTypedScopes}
+use Rattle.valid_tasks.specs.Scopes.{IsSubvocabulary, NamesNew, IsTypedEntry, IsTypedSignature, IsTypedThing, AreTypedScopes}
 use Rattle.valid_tasks.proofs.Widths.{tuples_seen}
 use Rattle.valid_tasks.proofs.Solutions.{matches_typed, solved_formula}
 use Rattle.valid_tasks.proofs.Scopes.{scopes_more}
@@ -144,14 +144,14 @@ module _ (base : Vocabulary) (symbols : List SymbolTree) (sig : IsTypedSignature
         variables = ground_after tys (λ j l. rigid_at (VariablesBelow 0) (λ k. tt) ks j (TyVar j) l) 0 e (subst (λ (m : ℕ). VariablesBelow m e) (sym q) f.variables);
       }
 
-patterns_more : (v w : Vocabulary) → IsPart v w → (es : List Tree) → ArePatterns v es → ArePatterns w es
+patterns_more : (v w : Vocabulary) → IsSubvocabulary v w → (es : List Tree) → ArePatterns v es → ArePatterns w es
 patterns_more v w part es x = record {
   type = x.type;
   over = record { sort = x.over.sort; typed = typed_more v w part [] x.type x.over.typed };
   patterns = λ k d l. let p : IsPatternOf v x.type (get_or es k d) = x.patterns k d l in record { typed = typed_more v w part [] (get_or es k d) p.typed; sort = p.sort; type = p.type; parameters = p.parameters };
 }
 
-pub formula_more : (v w : Vocabulary) → IsPart v w → (n : ℕ) (e : Tree) → IsFormulaOver v [] n e → IsFormulaOver w [] n e
+pub formula_more : (v w : Vocabulary) → IsSubvocabulary v w → (n : ℕ) (e : Tree) → IsFormulaOver v [] n e → IsFormulaOver w [] n e
 formula_more v w part n e f = record { sort = f.sort; typed = typed_more v w part [] e f.typed; parameters = f.parameters; variables = f.variables }
 
 -- ---- what is said
@@ -175,8 +175,8 @@ module _ (base : Vocabulary) (xs : List SymbolTree) where
       (formula_more (with_entries base xs) (with_entries base (xs ++ ys)) (entries_part base xs ys) (length vs) e f)
 
 module _ (base : Vocabulary) (c : Setting) (h : IsTypedSetting base c) (s : List Tree) (g : Grows c.trees s) where
-  module _ (k : PropKind) (x : Called) (e : Expression) (o : Outcome) (q : fault (around c []) true [] true e ≡ None) (p : IsProposition c k x e o) (all_news : NamesNew base (length c.symbols) (c.symbols ++ o.symbols)) where
-    abbrev seen' : Seen
+  module _ (k : PropKind) (x : TokenName) (e : Expression) (o : Outcome) (q : fault (around c []) true [] true e ≡ None) (p : IsProposition c k x e o) (all_news : NamesNew base (length c.symbols) (c.symbols ++ o.symbols)) where
+    abbrev seen' : SeenTree
     seen' = proposition_seen e
 
     abbrev vs : List Word
@@ -213,7 +213,7 @@ module _ (base : Vocabulary) (c : Setting) (h : IsTypedSetting base c) (s : List
         let z = split in
         record { signature = rw z sig; scopes = rw z scopes }
 
-    pub proposition_valid : DeclsFit o.decls → MayNameRigid base (proposition k x e) o.rigid → IsValidOutcome base c s o
+    pub proposition_valid : DeclsFit o.decls → MayNameRigid base (proposition_declaration k x e) o.rigid → IsValidOutcome base c s o
     proposition_valid fits may =
         let w = world base c h seen' vs in
         let good = formed base c h seen' news vs in
@@ -229,7 +229,7 @@ module _ (base : Vocabulary) (c : Setting) (h : IsTypedSetting base c) (s : List
         let z = split in
         record { signature = proposition_typed.signature; scopes = proposition_typed.scopes; decls = rw z decls }
       where
-        goal_may : (j : PropKind) (ks ns : List ℕ) → ks ≡ ns → MayNameRigid base (proposition j x e) ks → GoalMay base xs j ns
+        goal_may : (j : PropKind) (ks ns : List ℕ) → ks ≡ ns → MayNameRigid base (proposition_declaration j x e) ks → GoalMay base xs j ns
         goal_may kind.Goal ks ns z m = rw (sym z) m
         goal_may kind.Axiom ks ns z m = tt
         goal_may kind.Lemma ks ns z m = tt

@@ -12,7 +12,7 @@ use Rattle.syntax_why.specs.Declarations.{write_decl, prop_word}
 use Rattle.syntax_why.specs.Declarations as source
 use Rattle.syntax_why.specs.DeclarationRules.{IsLevelDecl}
 use Rattle.syntax_why.specs.declared.declarations.PropKind.{PropKind}
-use Rattle.elab_parts.specs.Declarations.{Called, proposition, declaration}
+use Rattle.elab_parts.specs.Declarations.{TokenName, proposition_declaration, declaration}
 use Rattle.elab_terms.specs.Outcomes.{proposition_seen}
 use Rattle.valid_tasks.specs.Lists.{IsGroupWhole}
 use Rattle.elab_names.specs.Abstract.{Expression, expression}
@@ -23,11 +23,11 @@ variable_quoted : (x : Terminal) (w : Word) → QuotedAs x w → VariableAs IsQu
 variable_quoted t.TyVar w h = h
 variable_quoted _ w h = tt
 
-proposition_quoted : (e : tree.Tree) → All IsQuotedLexeme (write e) → All IsQuoted (proposition_seen (expression e)).vars
+proposition_quoted : (e : tree.SyntaxTree) → All IsQuotedLexeme (write e) → All IsQuoted (proposition_seen (expression e)).vars
 proposition_quoted e q = variables_told IsQuoted e (All-weaker IsQuotedLexeme (IsVariable IsQuoted) (λ l h. variable_quoted l.terminal l.text h) (write e) q)
 
 -- ---- declarations
-pub quoted_in : (d : source.Decl) (k : PropKind) (x : Called) (e : Expression) → declaration d ≡ Some (proposition k x e) → All IsQuotedLexeme (write_decl d) → All IsQuoted (proposition_seen e).vars
+pub quoted_in : (d : source.SyntaxDeclaration) (k : PropKind) (x : TokenName) (e : Expression) → declaration d ≡ Some (proposition_declaration k x e) → All IsQuotedLexeme (write_decl d) → All IsQuoted (proposition_seen e).vars
 quoted_in (source.prop_decl a k' c y) k x e d q =
     let same : expression y ≡ e = cc in
     let own = tail_of IsQuotedLexeme (mark (prop_word k')) (write_called c ++ (mark t.Colon ∷ write y)) q in
@@ -44,7 +44,7 @@ quoted_in (source.use_decl a l p n) k x e d q = absurd (cc)
 quoted_in (source.clone_decl a l p n es) k x e d q = absurd (cc)
 quoted_in (source.scope_decl a n ds) k x e d q = absurd (cc)
 
-pub whole_in : (d : source.Decl) → IsLevelDecl d → IsGroupWhole d
+pub whole_in : (d : source.SyntaxDeclaration) → IsLevelDecl d → IsGroupWhole d
 whole_in (source.function_decl a c ps f None []) h = refl
 whole_in (source.function_decl a c ps f None (m ∷ ms)) h = absurd h.3
 whole_in (source.function_decl a c ps f (Some y) ms) h = tt

@@ -3,13 +3,13 @@ use Rattle.std.proofs.Common.{◌≡◌, ℕ, ◌&&◌, ◌||◌, nat_eq, zero, 
 use Rattle.std.specs.List.{list_any, list_all}
 use Rattle.std.proofs.lemmas.Bool.{eqb-true}
 use Rattle.std.proofs.lemmas.List.Elements.{All-nil, All-cons, All-map, All-drop}
-use Rattle.tokens_why.specs.Common.{same, place_of}
+use Rattle.tokens_why.specs.Common.{is_same_word, place_in_words}
 use Rattle.tokens_why.specs.declared.token.Token.{Token}
 use Rattle.tokens_why.specs.declared.token.TokenKind.{TokenKind}
 use Rattle.tokens_why.specs.Bytes.{is_digit, is_upper, is_letter, is_word_byte, is_operator_byte}
 use Rattle.tokens_why.specs.Literal.{is_literal}
 use Rattle.tokens_why.specs.Reserved.{reserved_words, reserved_terminals}
-use Rattle.tokens_why.specs.Strings.{letters_kind, placed_kind, word_kind, level, is_prefix, run_kind, mark_kind, marks_kind, only, lead_of, kind_by, kind_of}
+use Rattle.tokens_why.specs.Strings.{letters_kind, placed_kind, word_kind, level, is_prefix_word, run_kind, mark_kind, marks_kind, only, lead_of, string_kind_by, kind_of}
 use Rattle.tokens_why.specs.Terminals.{terminal_of, level_terminal}
 use Rattle.tokens_why.specs.Tokens.{text_of, Stop, whole, Reads, AreTokens}
 use Rattle.tokens_why.specs.declared.token.TokenKind.TheVariants as k
@@ -47,7 +47,7 @@ only_no false x p = refl
 
 letters_no : (bs : List ℕ) → is_var (letters_kind bs) ≡ false
 letters_no [] = refl
-letters_no (a ∷ bs) = either (is_upper a) k.Uident _ refl (either (same (a ∷ bs) (codes "_")) k.Wild k.Lident refl refl)
+letters_no (a ∷ bs) = either (is_upper a) k.Uident _ refl (either (is_same_word (a ∷ bs) (codes "_")) k.Wild k.Lident refl refl)
 
 placed_no : (o : Option ℕ) (bs : List ℕ) → is_var (placed_kind o bs) ≡ false
 placed_no (Some i) bs = refl
@@ -55,8 +55,8 @@ placed_no None bs = letters_no bs
 
 run_no : (bs : List ℕ) → is_var (run_kind bs) ≡ false
 run_no bs =
-    either (same bs (codes "->")) k.Arrow _ refl (either (same bs (codes "<->")) k.Equiv _ refl (either (same bs (codes "/\\")) k.Conj _ refl (either (same bs (codes "\\/")) k.Disj _ refl
-    (either (same bs (codes "&&")) k.AndAnd _ refl (either (same bs (codes "=")) k.Equal _ refl (either (same bs (codes "-")) k.Minus (k.Operator (level bs) (is_prefix bs)) refl refl))))))
+    either (is_same_word bs (codes "->")) k.Arrow _ refl (either (is_same_word bs (codes "<->")) k.Equiv _ refl (either (is_same_word bs (codes "/\\")) k.Conj _ refl (either (is_same_word bs (codes "\\/")) k.Disj _ refl
+    (either (is_same_word bs (codes "&&")) k.AndAnd _ refl (either (is_same_word bs (codes "=")) k.Equal _ refl (either (is_same_word bs (codes "-")) k.Minus (k.Operator (level bs) (is_prefix_word bs)) refl refl))))))
 
 mark_no : (b : ℕ) → No (mark_kind b)
 mark_no b =
@@ -85,12 +85,12 @@ lead_quote a q = one (is_letter a) (nat_eq a 39) (is_digit a) (is_operator_byte 
     one false false false true z h = absurd (cc)
     one false false false false z h = absurd (cc)
 
-lead_var : (l : Lead) (a : ℕ) (bs : List ℕ) → lead_of a ≡ l → kind_by l a bs ≡ Some k.TyVar → a ≡ 39
-lead_var Letter a bs l q = absurd (none_var (kind_by Letter a bs) (only_no (list_all is_word_byte bs) (word_kind (a ∷ bs)) (placed_no (place_of (a ∷ bs) reserved_words) (a ∷ bs))) q)
+lead_var : (l : Lead) (a : ℕ) (bs : List ℕ) → lead_of a ≡ l → string_kind_by l a bs ≡ Some k.TyVar → a ≡ 39
+lead_var Letter a bs l q = absurd (none_var (string_kind_by Letter a bs) (only_no (list_all is_word_byte bs) (word_kind (a ∷ bs)) (placed_no (place_in_words (a ∷ bs) reserved_words) (a ∷ bs))) q)
 lead_var Quote a bs l q = lead_quote a l
-lead_var Digit a bs l q = absurd (none_var (kind_by Digit a bs) (only_no (is_literal (a ∷ bs)) k.Int refl) q)
-lead_var Sign a bs l q = absurd (none_var (kind_by Sign a bs) (only_no (list_all is_operator_byte bs) (run_kind (a ∷ bs)) (run_no (a ∷ bs))) q)
-lead_var Mark a bs l q = absurd (none_var (kind_by Mark a bs) (marks_no (a ∷ bs)) q)
+lead_var Digit a bs l q = absurd (none_var (string_kind_by Digit a bs) (only_no (is_literal (a ∷ bs)) k.Int refl) q)
+lead_var Sign a bs l q = absurd (none_var (string_kind_by Sign a bs) (only_no (list_all is_operator_byte bs) (run_kind (a ∷ bs)) (run_no (a ∷ bs))) q)
+lead_var Mark a bs l q = absurd (none_var (string_kind_by Mark a bs) (marks_no (a ∷ bs)) q)
 
 word_quoted : (w : Word) → kind_of w ≡ Some k.TyVar → IsQuoted w
 word_quoted [] q = absurd (cc)

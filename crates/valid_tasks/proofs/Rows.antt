@@ -7,12 +7,12 @@ use Rattle.tasks.specs.declared.signature.SymbolKind.TheVariants.{Function}
 use Rattle.tasks.specs.Task.{SymbolTree, int_symbol}
 use Rattle.tasks.specs.Vocabulary.{Vocabulary, of_signature}
 use Rattle.tasks.specs.Valid.{IsTypeIn, HasTypes, IsFormulaOver}
-use Rattle.elab_names.specs.Abstract.{Expression, apply, literal, equated, none}
+use Rattle.elab_names.specs.Abstract.{Expression, applied_expression, integer_expression, equality_expression, no_expressions}
 use Rattle.elab_names.specs.Where.{Where, Stands}
 use Rattle.elab_walk.specs.Pieces.{piece}
-use Rattle.elab_parts.specs.Elaborated.{IsSolved, IsFixed}
+use Rattle.elab_parts.specs.Elaborated.{IsSolved, IsFixedUnknown}
 use Rattle.valid_tasks.specs.Signature.{IsSymbol, IsWellFormed}
-use Rattle.valid_tasks.specs.Typed.{IsNamed}
+use Rattle.valid_tasks.specs.Typed.{IsNamedExpression}
 use Rattle.valid_tasks.proofs.Signed.{some_at}
 use Rattle.valid_tasks.proofs.Solutions.{solved_formula}
 
@@ -44,12 +44,12 @@ well_formed = record {
 }
 
 abbrev source : Expression
-source = equated 1 true (apply 0 [] (codes "c") none) (literal 2 (pos 0))
+source = equality_expression 1 true (applied_expression 0 [] (codes "c") no_expressions) (integer_expression 2 (pos 0))
 
 abbrev formula : Tree
 formula = Two HEq (Three (HFun 1) (Leaf HEnd) (Leaf HEnd) int_type) (Leaf (HNum (pos 0)))
 
-named : IsNamed signature here [] None source
+named : IsNamedExpression signature here [] None source
 named = record { signature = well_formed; tuples = (tt, tt); named = refl }
 
 solved : IsSolved 0 (piece here [] 0 None source) formula []
@@ -59,7 +59,7 @@ solved = record {
   matches = λ f s. refl;
 }
   where
-    fixed : (i : ℕ) → i < 1 → IsFixed 0 (piece here [] 0 None source).notes.equations (0 + i)
+    fixed : (i : ℕ) → i < 1 → IsFixedUnknown 0 (piece here [] 0 None source).notes.equations (0 + i)
     fixed zero l = λ f g s t. sym s.solves.0 ∙ t.solves.0
     fixed (suc i) l = absurd (omega arith)
 

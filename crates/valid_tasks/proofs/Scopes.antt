@@ -10,7 +10,7 @@ use Rattle.names_space.specs.declared.Table.{Table}
 use Rattle.names_space.specs.declared.Table.TheVariants.{Types, Symbols, Propositions, Scopes}
 use Rattle.names_space.specs.declared.TypeName.{TypeName}
 use Rattle.names_space.specs.declared.TypeName.TheVariants as stands
-use Rattle.names_space.specs.Names.{Names, Entry, number_of, same_table, is_named, latest, entries_of, or_else, first_found, table_before, find_within, find_name, innermost, with_name}
+use Rattle.names_space.specs.Names.{ScopeNames, ScopeEntry, number_of, same_table, is_named, latest, entries_of, or_else, first_found, table_before, find_within, find_name, innermost, with_name}
 use Rattle.syntax_why.specs.Lexeme.{Word}
 use Rattle.elab_names.specs.Naming.{or_int, type_named, meaning_at}
 use Rattle.elab_parts.specs.Outcomes.{over}
@@ -28,23 +28,23 @@ same_is _ _ h = absurd (cc)
 
 -- ---- what is found is the thing of an entry
 module _ (P : Table → TypeName → Type 0) where
-  abbrev IsEntry : Entry → Type 0
+  abbrev IsEntry : ScopeEntry → Type 0
   IsEntry e = P e.table e.thing
 
-  latest_step : (table : Table) (x : Word) (e : Entry) (m : Option TypeName) (b : Bool) → is_named table x e ≡ b → IsEntry e → IfSome m (P table) → IfSome (cond b (Some e.thing) m) (P table)
+  latest_step : (table : Table) (x : Word) (e : ScopeEntry) (m : Option TypeName) (b : Bool) → is_named table x e ≡ b → IsEntry e → IfSome m (P table) → IfSome (cond b (Some e.thing) m) (P table)
   latest_step table x e m true q h k = subst (λ (t : Table). P t e.thing) (sym (same_is table e.table (both_true (same_table table e.table) (bytes_eq e.name x) q).0)) h
   latest_step table x e m false q h k = k
 
-  latest_thing : (table : Table) (x : Word) (es : List Entry) → AllByRecursion IsEntry es → IfSome (latest table x es) (P table)
+  latest_thing : (table : Table) (x : Word) (es : List ScopeEntry) → AllByRecursion IsEntry es → IfSome (latest table x es) (P table)
   latest_thing table x [] h = tt
   latest_thing table x (e ∷ es) h = latest_step table x e (latest table x es) (is_named table x e) refl h.0 (latest_thing table x es h.1)
 
-  pub at_scope : (ess : List (List Entry)) → AllByRecursion (λ (es : List Entry). All IsEntry es) ess → (k : ℕ) → AllByRecursion IsEntry (get_or ess k [])
+  pub at_scope : (ess : List (List ScopeEntry)) → AllByRecursion (λ (es : List ScopeEntry). All IsEntry es) ess → (k : ℕ) → AllByRecursion IsEntry (get_or ess k [])
   at_scope [] h k = tt
   at_scope (es ∷ ess) h zero = recursion_from_All IsEntry es h.0
   at_scope (es ∷ ess) h (suc k) = at_scope ess h.1 k
 
-  module _ (ess : List (List Entry)) (h : AllByRecursion (λ (es : List Entry). All IsEntry es) ess) where
+  module _ (ess : List (List ScopeEntry)) (h : AllByRecursion (λ (es : List ScopeEntry). All IsEntry es) ess) where
     within_thing : (table : Table) (names : List Word) (found : Option TypeName) → IfSome found (P (table_before table names)) → IfSome (find_within ess table found names) (P table)
     within_thing table [] found k = k
     within_thing table (x ∷ names) None k = tt
@@ -58,18 +58,18 @@ module _ (P : Table → TypeName → Type 0) where
     first_thing table x [] = tt
     first_thing table x (k ∷ ks) = or_thing table (latest table x (get_or ess k [])) (first_found table x ess ks) (latest_thing table x (get_or ess k []) (at_scope ess h k)) (first_thing table x ks)
 
-  pub found_thing : (names : Names) → All (λ (es : List Entry). All IsEntry es) names.entries → (table : Table) (path : List Word) → IfSome (find_name names table path) (P table)
+  pub found_thing : (names : ScopeNames) → All (λ (es : List ScopeEntry). All IsEntry es) names.entries → (table : Table) (path : List Word) → IfSome (find_name names table path) (P table)
   found_thing names h table [] = tt
   found_thing names h table (x ∷ path) =
-      let k = recursion_from_All (λ (es : List Entry). All IsEntry es) names.entries h in
+      let k = recursion_from_All (λ (es : List ScopeEntry). All IsEntry es) names.entries h in
       within_thing names.entries k table path (first_found (table_before table path) x names.entries names.nested) (first_thing names.entries k (table_before table path) x names.nested)
 
   -- a further name
-  pub scopes_more : (names : Names) (table : Table) (x : Word) (t : TypeName) (d : Bool) → P table t → All (λ (es : List Entry). All IsEntry es) names.entries → All (λ (es : List Entry). All IsEntry es) (with_name table x t d names).entries
+  pub scopes_more : (names : ScopeNames) (table : Table) (x : Word) (t : TypeName) (d : Bool) → P table t → All (λ (es : List ScopeEntry). All IsEntry es) names.entries → All (λ (es : List ScopeEntry). All IsEntry es) (with_name table x t d names).entries
   scopes_more names table x t d h k =
-      let old = at_scope names.entries (recursion_from_All (λ (es : List Entry). All IsEntry es) names.entries k) (innermost names) in
-      let e : Entry = record { table = table; name = x; thing = t; declared = d } in
-      All-set (λ (es : List Entry). All IsEntry es) names.entries (innermost names) (e ∷ entries_of names (innermost names)) (All-cons IsEntry e (entries_of names (innermost names)) h (All-from_recursion IsEntry (entries_of names (innermost names)) old)) k
+      let old = at_scope names.entries (recursion_from_All (λ (es : List ScopeEntry). All IsEntry es) names.entries k) (innermost names) in
+      let e : ScopeEntry = record { table = table; name = x; thing = t; declared = d } in
+      All-set (λ (es : List ScopeEntry). All IsEntry es) names.entries (innermost names) (e ∷ entries_of names (innermost names)) (All-cons IsEntry e (entries_of names (innermost names)) h (All-from_recursion IsEntry (entries_of names (innermost names)) old)) k
 
 -- ---- names of types
 abbrev pub OnTypes : Vocabulary → List Tree → Table → TypeName → Type 0
@@ -80,7 +80,7 @@ on_types : (v : Vocabulary) (s : List Tree) (table : Table) (t : TypeName) → I
 on_types v s Types t h = h
 on_types v s _ t h = tt
 
-pub types_alone : (v : Vocabulary) (s : List Tree) (names : Names) → AreTypedScopes v s names → All (λ (es : List Entry). All (λ (e : Entry). OnTypes v s e.table e.thing) es) names.entries
+pub types_alone : (v : Vocabulary) (s : List Tree) (names : ScopeNames) → AreTypedScopes v s names → All (λ (es : List ScopeEntry). All (λ (e : ScopeEntry). OnTypes v s e.table e.thing) es) names.entries
 types_alone v s names h = λ k es i. λ j e x. on_types v s (get_or (get_or names.entries k es) j e).table (get_or (get_or names.entries k es) j e).thing (h k es i j e x)
 
 -- ---- over a typed signature
@@ -125,10 +125,10 @@ module _ (base : Vocabulary) (symbols : List SymbolTree) (sig : IsTypedSignature
     symbol (Some t) h = number_symbol (number_of t) h
 
     -- where the names of types alone are typed
-    pub types_meant : (names : Names) → All (λ (es : List Entry). All (λ (e : Entry). OnTypes v s e.table e.thing) es) names.entries → (qs : List Word) (x : Word) → IfSome (option_map (meaning_at s) (type_named names qs x)) (IsMeaning v)
+    pub types_meant : (names : ScopeNames) → All (λ (es : List ScopeEntry). All (λ (e : ScopeEntry). OnTypes v s e.table e.thing) es) names.entries → (qs : List Word) (x : Word) → IfSome (option_map (meaning_at s) (type_named names qs x)) (IsMeaning v)
     types_meant names h qs x = meaning (type_named names qs x) (or_int_name qs x (find_name names Types (qs ++ x ∷ [])) (found_thing (OnTypes v s) names h Types (qs ++ x ∷ [])))
 
-    pub over_well_formed : (names : Names) → AreTypedScopes v s names → (vars : List Word) → IsWellFormed base (over s symbols names vars)
+    pub over_well_formed : (names : ScopeNames) → AreTypedScopes v s names → (vars : List Word) → IsWellFormed base (over s symbols names vars)
     over_well_formed names scopes vars = record {
       int = sig.int;
       int_usable = sig.int_usable;

@@ -7,20 +7,20 @@ use Rattle.trees.proofs.Nodes.{Grows_refl}
 use Rattle.tasks.specs.Task.{SymbolTree, int_symbol}
 use Rattle.tasks.specs.Vocabulary.{Vocabulary}
 use Rattle.tasks.specs.Valid.{VariablesBelow, LeafBelow, IsTypeIn}
-use Rattle.names_space.specs.Names.{Names}
+use Rattle.names_space.specs.Names.{ScopeNames}
 use Rattle.names_space.specs.declared.Table.{Table}
 use Rattle.names_space.specs.declared.Table.TheVariants.{Types, Symbols, Propositions, Scopes}
 use Rattle.names_space.specs.declared.TypeName.{TypeName}
 use Rattle.names_space.specs.declared.TypeName.TheVariants as stands
 use Rattle.syntax_why.specs.Lexeme.{Word}
-use Rattle.elab_names.specs.Abstract.{Form}
+use Rattle.elab_names.specs.Abstract.{TypeExpression}
 use Rattle.elab_names.specs.Faults.{form_fault}
 use Rattle.elab_names.specs.Where.{Where, MeaningTree, Stands, Abbreviates}
-use Rattle.elab_variables.specs.Seen.{Seen, has_width}
+use Rattle.elab_variables.specs.Seen.{SeenTree, has_width}
 use Rattle.elab_walk.specs.Scoped.{IsScoped, IsScopedMeaning}
 use Rattle.elab_walk.specs.Pieces.{type_at}
 use Rattle.elab_walk.proofs.Below.{form_below}
-use Rattle.elab_parts.specs.Alike.{Alike}
+use Rattle.elab_parts.specs.Alike.{AreScopesAlike}
 use Rattle.elab_parts.specs.Entries.{IsThing, AreScopes}
 use Rattle.elab_parts.specs.Outcomes.{Setting, over, tuples_wanting}
 use Rattle.elab_parts.proofs.Scopes.{alike_more, tuples_below}
@@ -63,7 +63,7 @@ module _ (base : Vocabulary) (symbols : List SymbolTree) (s : List Tree) where
   thing_of Propositions t h = tt
   thing_of Scopes t h = tt
 
-  pub scopes_of : (names : Names) → AreTypedScopes (with_entries base symbols) s names → AreScopes s (length symbols) names
+  pub scopes_of : (names : ScopeNames) → AreTypedScopes (with_entries base symbols) s names → AreScopes s (length symbols) names
   scopes_of names h = λ k es i. λ j e x. thing_of (get_or (get_or names.entries k es) j e).table (get_or (get_or names.entries k es) j e).thing (h k es i j e x)
 
 -- ---- what is scoped
@@ -73,7 +73,7 @@ module _ (v : Vocabulary) where
   meaning_scoped (Some (Stands k)) h = tt
   meaning_scoped (Some (Abbreviates vars t)) h = below_of vars t h.variables
 
-pub over_scoped : (base : Vocabulary) (s : List Tree) (symbols : List SymbolTree) (names : Names) (vars : List Word) → IsTypedSignature base symbols → IsWellFormed base (over s symbols names vars) → IsScoped (over s symbols names vars)
+pub over_scoped : (base : Vocabulary) (s : List Tree) (symbols : List SymbolTree) (names : ScopeNames) (vars : List Word) → IsTypedSignature base symbols → IsWellFormed base (over s symbols names vars) → IsScoped (over s symbols names vars)
 over_scoped base s symbols names vars sig good = record {
   symbols = sig.scoped;
   types = λ qs x. meaning_scoped (with_entries base symbols) _ (good.types qs x);
@@ -81,7 +81,7 @@ over_scoped base s symbols names vars sig good = record {
 }
 
 -- ---- with the entries of tuples
-module _ (base : Vocabulary) (c : Setting) (h : IsTypedSetting base c) (seen : Seen) where
+module _ (base : Vocabulary) (c : Setting) (h : IsTypedSetting base c) (seen : SeenTree) where
   abbrev pub inside : List SymbolTree
   inside = c.symbols ++ tuples_wanting c seen
 
@@ -95,7 +95,7 @@ module _ (base : Vocabulary) (c : Setting) (h : IsTypedSetting base c) (seen : S
   abbrev pub world : List Word → Where
   world vars = over c.trees inside c.scope vars
 
-  pub same_names : (vars : List Word) → Alike (over c.trees c.symbols c.scope vars) (world vars)
+  pub same_names : (vars : List Word) → AreScopesAlike (over c.trees c.symbols c.scope vars) (world vars)
   same_names vars = alike_more c.trees c.trees c.symbols (tuples_wanting c seen) c.scope c.scope vars (scopes_of base c.symbols c.trees c.scope h.scopes) (some_entry c.symbols h.signature.int) (λ qs x. refl) (λ qs x. refl)
 
   -- what is new may be named
@@ -110,7 +110,7 @@ module _ (base : Vocabulary) (c : Setting) (h : IsTypedSetting base c) (seen : S
     tuples vars n q = tuple_of base inside inside_typed n (tuples_there c.symbols seen.widths n q)
 
     -- a type of the source
-    pub form_in : (vars : List Word) (f : Form) → form_fault (world vars) false f ≡ None → FormTuples base (world vars) f → IsTypeIn (with_entries base inside) (length vars) (type_at (world vars) f)
+    pub form_in : (vars : List Word) (f : TypeExpression) → form_fault (world vars) false f ≡ None → FormTuples base (world vars) f → IsTypeIn (with_entries base inside) (length vars) (type_at (world vars) f)
     form_in vars f q u =
         let w = world vars in
         let g = over_good (with_entries base inside) true [] (type_at w f) (form_over base w (formed vars) f q u) in

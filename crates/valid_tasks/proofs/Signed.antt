@@ -14,13 +14,13 @@ use Rattle.tasks.specs.Typing.{entry, members, MakesTerms}
 use Rattle.tasks.specs.Valid.{VariablesBelow, LeafBelow, IsTypeIn, HasTypes}
 use Rattle.unify_types.specs.Assigned.{assign}
 use Rattle.syntax_why.specs.Lexeme.{Word}
-use Rattle.elab_names.specs.Abstract.{Form, Forms, variable, composed, product, no_forms, more_forms, count_forms}
+use Rattle.elab_names.specs.Abstract.{TypeExpression, TypeExpressions, variable_type, composed_type, product_type, no_types, more_types, count_forms}
 use Rattle.elab_names.specs.declared.NamingFault.TheVariants.{Arity}
 use Rattle.elab_names.specs.Faults.{meaning_fault, form_fault, forms_fault, is_predicate}
 use Rattle.elab_names.specs.Where.{Where, MeaningTree, Stands, Abbreviates, place_of}
-use Rattle.elab_walk.specs.Patterns.{at_unknowns, result_or_int, Entry, entry_of}
+use Rattle.elab_walk.specs.Patterns.{at_unknowns, result_or_int, NumberedEntry, entry_of}
 use Rattle.elab_walk.specs.Scoped.{IsScopedEntry}
-use Rattle.elab_walk.specs.Pieces.{type_at, types_at, applied, variable_at}
+use Rattle.elab_walk.specs.Pieces.{type_at, types_at, applied_meaning, variable_at}
 use Rattle.elab_walk.proofs.Walking.{none_both, must_be}
 use Rattle.valid_tasks.specs.Signature.{with_entries, IsSymbol, IsTuple, IsMeaning, IsWellFormed, FormTuples, FormsTuples}
 use Rattle.valid_tasks.proofs.Over.{IsOver, AreOver, type_over, cells_over, members_cells}
@@ -58,12 +58,12 @@ makes_terms Kind n q = n refl
 makes_terms Predicate n q = absurd (cc)
 makes_terms _ n q = tt
 
-count_types : (w : Where) (fs : Forms) → length (types_at w fs) ≡ count_forms fs
-count_types w no_forms = refl
-count_types w (more_forms f fs) = ap suc (count_types w fs)
+count_types : (w : Where) (fs : TypeExpressions) → length (types_at w fs) ≡ count_forms fs
+count_types w no_types = refl
+count_types w (more_types f fs) = ap suc (count_types w fs)
 
 -- an entry, by its number, of types over the vocabulary
-pub record IsEntry (v : Vocabulary) (e : Entry) : Type 0 where
+pub record IsEntry (v : Vocabulary) (e : NumberedEntry) : Type 0 where
   pub usable : IsTrue (v.usable e.number)
   pub entry : entry v e.number ≡ Some e.symbol
   pub types : HasTypes v e.symbol
@@ -119,7 +119,7 @@ module _ (base : Vocabulary) (w : Where) (int : slice_get w.symbols 0 ≡ Some i
   variable_over None = int_in
   variable_over (Some j) = tt
 
-  applied_over : (m : Option MeaningTree) (i n : ℕ) (ts : List Tree) → meaning_fault w i n m ≡ None → length ts ≡ n → IfSome m (IsMeaning v) → AreOver v ts → IsOver v true (applied m ts)
+  applied_over : (m : Option MeaningTree) (i n : ℕ) (ts : List Tree) → meaning_fault w i n m ≡ None → length ts ≡ n → IfSome m (IsMeaning v) → AreOver v ts → IsOver v true (applied_meaning m ts)
   applied_over None i n ts q l s o = absurd (cc)
   applied_over (Some (Stands k)) i n ts q l s o =
       let same : (symbol_or w.symbols k).vars ≡ n = eqb-true (symbol_or w.symbols k).vars n (must_be ((symbol_or w.symbols k).vars == n) (Arity i) q) in
@@ -136,16 +136,16 @@ module _ (base : Vocabulary) (w : Where) (int : slice_get w.symbols 0 ≡ Some i
       of (Some t) x = type_over v (symbol_or w.symbols k).vars t x
 
   mutual
-    pub form_by : (f : Form) → form_fault w false f ≡ None → FormTuples base w f → IsOver v true (type_at w f)
-    form_by (variable i x) h u = variable_over (place_of x w.vars)
-    form_by (composed i qs x fs) h u =
+    pub form_by : (f : TypeExpression) → form_fault w false f ≡ None → FormTuples base w f → IsOver v true (type_at w f)
+    form_by (variable_type i x) h u = variable_over (place_of x w.vars)
+    form_by (composed_type i qs x fs) h u =
         let p = none_both (meaning_fault w i (count_forms fs) (w.types qs x)) (forms_fault w false fs) h in
         applied_over (w.types qs x) i (count_forms fs) (types_at w fs) p.0 (count_types w fs) (types qs x) (forms_by fs p.1 u)
-    form_by (product i fs) h u = tuple_over (count_forms fs) (w.tuples (count_forms fs)) (types_at w fs) u.0 (forms_by fs h u.1)
+    form_by (product_type i fs) h u = tuple_over (count_forms fs) (w.tuples (count_forms fs)) (types_at w fs) u.0 (forms_by fs h u.1)
 
-    pub forms_by : (fs : Forms) → forms_fault w false fs ≡ None → FormsTuples base w fs → AreOver v (types_at w fs)
-    forms_by no_forms h u = tt
-    forms_by (more_forms f fs) h u = let p = none_both (form_fault w false f) (forms_fault w false fs) h in (form_by f p.0 u.0, forms_by fs p.1 u.1)
+    pub forms_by : (fs : TypeExpressions) → forms_fault w false fs ≡ None → FormsTuples base w fs → AreOver v (types_at w fs)
+    forms_by no_types h u = tt
+    forms_by (more_types f fs) h u = let p = none_both (form_fault w false f) (forms_fault w false fs) h in (form_by f p.0 u.0, forms_by fs p.1 u.1)
 
 module _ (base : Vocabulary) (w : Where) (good : IsWellFormed base w) where
   pub int_over : IsOver (with_entries base w.symbols) true int_type
@@ -154,5 +154,5 @@ module _ (base : Vocabulary) (w : Where) (good : IsWellFormed base w) where
   pub named_matched : (k : ℕ) → IsSymbol (with_entries base w.symbols) k → (symbol_or w.symbols k).kind ≡ Constructor → IsTrue (base.matched k)
   named_matched k s q = good.constructors k s q
 
-  pub form_over : (f : Form) → form_fault w false f ≡ None → FormTuples base w f → IsOver (with_entries base w.symbols) true (type_at w f)
+  pub form_over : (f : TypeExpression) → form_fault w false f ≡ None → FormTuples base w f → IsOver (with_entries base w.symbols) true (type_at w f)
   form_over f h u = form_by base w good.int good.int_usable good.types f h u

@@ -18,7 +18,7 @@ use Rattle.elab_walk.specs.Patterns.{LocalTree}
 use Rattle.elab_walk.specs.Pieces.{piece}
 use Rattle.elab_parts.specs.Elaborated.{IsSolved, matches_assigned}
 use Rattle.valid_tasks.specs.Signature.{with_entries, IsWellFormed}
-use Rattle.valid_tasks.specs.Typed.{types_at, IsTypeOf, IsTypedAs, IsNamed, types_of, AreTypes, AreTypesIn, IsTypedIn, IsPatternOf, ArePatterns}
+use Rattle.valid_tasks.specs.Typed.{assigned_types, IsTypeOf, IsTypedAs, IsNamedExpression, local_types, AreTypedLocals, AreTypesIn, IsTypedIn, IsPatternOf, ArePatterns}
 use Rattle.valid_tasks.proofs.Over.{IsOver, sorted_over, over_good, over_assigned}
 use Rattle.valid_tasks.proofs.Fixed.{fixed, fixed_over, fixed_assigned, closed}
 use Rattle.valid_tasks.proofs.Forms.{TypedAs}
@@ -87,11 +87,11 @@ module _ (base : Vocabulary) (w : Where) (good : IsWellFormed base w) (r : ℕ) 
   typed_as types t e x = record { typed = x.0.0; sort = x.1.0; type = x.1.1; parameters = x.0.1 }
 
   -- ---- the law at each solution by types over the signature
-  pub typed_at_solution : (ls : List LocalTree) (n : ℕ) (t : Option Tree) (e : Expression) (f : ℕ → Tree) → IsNamed base w ls t e → AreTypes v ls t → ((j : ℕ) → IsTypeOf v (f j))
-      → SolvesAll r f (piece w ls n t e).notes.equations → IndicesFit (assign r f (piece w ls n t e).tree) → IsTypedAs v (types_at r f ls) (option_map (assign r f) t) (assign r f (piece w ls n t e).tree)
+  pub typed_at_solution : (ls : List LocalTree) (n : ℕ) (t : Option Tree) (e : Expression) (f : ℕ → Tree) → IsNamedExpression base w ls t e → AreTypedLocals v ls t → ((j : ℕ) → IsTypeOf v (f j))
+      → SolvesAll r f (piece w ls n t e).notes.equations → IndicesFit (assign r f (piece w ls n t e).tree) → IsTypedAs v (assigned_types r f ls) (option_map (assign r f) t) (assign r f (piece w ls n t e).tree)
   typed_at_solution ls n t e f h a o s i =
       let p = piece w ls n t e in
-      typed_as (types_at r f ls) (option_map (assign r f) t) (assign r f p.tree)
+      typed_as (assigned_types r f ls) (option_map (assign r f) t) (assign r f p.tree)
       ((sound base w good r e ls n t (locals_over ls a.variables) (wanted_over t a.wanted) h.tuples h.named).typed f (λ j. over_of (f j) (o j)) s i)
 
   -- ---- what the declaration's own type variables tell
@@ -102,7 +102,7 @@ module _ (base : Vocabulary) (w : Where) (good : IsWellFormed base w) (r : ℕ) 
   own_wanted None x = tt
   own_wanted (Some t) x = of_over t x
 
-  locals_same : (f : ℕ → Tree) (ls : List LocalTree) → All (λ (l : LocalTree). IsTypeIn v r l.type) ls → types_at r f ls ≡ types_of ls
+  locals_same : (f : ℕ → Tree) (ls : List LocalTree) → All (λ (l : LocalTree). IsTypeIn v r l.type) ls → assigned_types r f ls ≡ local_types ls
   locals_same f [] a = refl
   locals_same f (l ∷ ls) a = let x : IsTypeIn v r l.type = a 0 l (omega arith) in cc (own_same r f l.type x.variables, locals_same f ls (λ k d m. a (suc k) d (omega arith)))
 
@@ -111,7 +111,7 @@ module _ (base : Vocabulary) (w : Where) (good : IsWellFormed base w) (r : ℕ) 
   wanted_same f (Some t) x = ap (λ (z : Tree). Some z) (own_same r f t x.variables)
 
   -- the law of what is solved
-  pub solved_typed : (ls : List LocalTree) (n : ℕ) (t : Option Tree) (e : Expression) (tree : Tree) (ms : List (ℕ × List Tree)) → IsNamed base w ls t e → AreTypesIn v r ls t → IsSolved r (piece w ls n t e) tree ms → IndicesFit tree → IsTypedIn v r (types_of ls) t tree
+  pub solved_typed : (ls : List LocalTree) (n : ℕ) (t : Option Tree) (e : Expression) (tree : Tree) (ms : List (ℕ × List Tree)) → IsNamedExpression base w ls t e → AreTypesIn v r ls t → IsSolved r (piece w ls n t e) tree ms → IndicesFit tree → IsTypedIn v r (local_types ls) t tree
   solved_typed ls n t e tree ms h a s i =
       let p = piece w ls n t e in
       let x = sound base w good r e ls n t (locals_over ls (own_variables ls a.variables)) (wanted_over t (own_wanted t a.wanted)) h.tuples h.named in
@@ -120,9 +120,9 @@ module _ (base : Vocabulary) (w : Where) (good : IsWellFormed base w) (r : ℕ) 
       let g = kept f solution.types in
       let solves = kept_solves f solution.types p.notes.equations x.notes.equations solution.solves in
       let same : assign r g p.tree ≡ tree = s.tree g (record { types = kept_kind f solution.types; solves = solves }) in
-      let y : TypedAs v (types_at r g ls) (option_map (assign r g) t) (assign r g p.tree) = x.typed g (kept_over f solution.types) solves (rw same i) in
-      let z : TypedAs v (types_of ls) t tree = rw (sym (locals_same g ls a.variables), sym (wanted_same g t a.wanted), sym same) y in
-      record { typed = typed_as (types_of ls) t tree z; variables = subst (VariablesBelow r) same (closed r g (kept_closed f solution.types) p.tree) }
+      let y : TypedAs v (assigned_types r g ls) (option_map (assign r g) t) (assign r g p.tree) = x.typed g (kept_over f solution.types) solves (rw same i) in
+      let z : TypedAs v (local_types ls) t tree = rw (sym (locals_same g ls a.variables), sym (wanted_same g t a.wanted), sym same) y in
+      record { typed = typed_as (local_types ls) t tree z; variables = subst (VariablesBelow r) same (closed r g (kept_closed f solution.types) p.tree) }
 
   -- ---- the law of matches
   as_patterns : (t : Tree) (es : List Tree) → AllByRecursion (IsPatternAt base w r t) es → All (IsPatternOf v t) es
@@ -136,7 +136,7 @@ module _ (base : Vocabulary) (w : Where) (good : IsWellFormed base w) (r : ℕ) 
       All-cons (λ (m : ℕ × List Tree). ArePatterns v m.1) (m.0, map (assign r f) m.1) (matches_assigned r f ms)
       (record { type = h.0.0; over = record { sort = x.1; typed = x.0.0 }; patterns = as_patterns h.0.0 (map (assign r f) m.1) h.0.2 }) (as_matches f ms h.1)
 
-  pub matches_typed : (ls : List LocalTree) (n : ℕ) (t : Option Tree) (e : Expression) (tree : Tree) (ms : List (ℕ × List Tree)) → IsNamed base w ls t e → AreTypes v ls t → IsSolved r (piece w ls n t e) tree ms → All (λ (m : ℕ × List Tree). ArePatterns v m.1) ms
+  pub matches_typed : (ls : List LocalTree) (n : ℕ) (t : Option Tree) (e : Expression) (tree : Tree) (ms : List (ℕ × List Tree)) → IsNamedExpression base w ls t e → AreTypedLocals v ls t → IsSolved r (piece w ls n t e) tree ms → All (λ (m : ℕ × List Tree). ArePatterns v m.1) ms
   matches_typed ls n t e tree ms h a s =
       let p = piece w ls n t e in
       let x = sound base w good r e ls n t (locals_over ls a.variables) (wanted_over t a.wanted) h.tuples h.named in
@@ -148,7 +148,7 @@ module _ (base : Vocabulary) (w : Where) (good : IsWellFormed base w) (r : ℕ) 
       (as_matches g p.notes.matches (x.notes.matches g (kept_over f solution.types) solves))
 
   -- of a proposition
-  pub solved_formula : (n : ℕ) (e : Expression) (tree : Tree) (ms : List (ℕ × List Tree)) → IsNamed base w [] None e → IsSolved r (piece w [] n None e) tree ms → IndicesFit tree → IsFormulaOver v [] r tree
+  pub solved_formula : (n : ℕ) (e : Expression) (tree : Tree) (ms : List (ℕ × List Tree)) → IsNamedExpression base w [] None e → IsSolved r (piece w [] n None e) tree ms → IndicesFit tree → IsFormulaOver v [] r tree
   solved_formula n e tree ms h s i =
       let x = solved_typed [] n None e tree ms h (record { variables = λ k d l. absurd (omega arith); wanted = tt }) s i in
       record { sort = x.typed.sort; typed = x.typed.typed; parameters = x.typed.parameters; variables = x.variables }

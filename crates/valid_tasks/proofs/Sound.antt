@@ -23,12 +23,12 @@ use Rattle.syntax_why.specs.Lexeme.{Word}
 use Rattle.elab_names.specs.declared.NamingFault.TheVariants.{WrongKind, Arity}
 use Rattle.elab_names.specs.Faults.{fault_if, name_fault, local_fault, symbol_fault, is_variable, is_predicate, differ}
 use Rattle.elab_names.specs.Where.{Where, place_of}
-use Rattle.elab_walk.specs.Patterns.{Notes, noted, nothing, follow, LocalTree, at_unknowns, result_or_int, first_or_int, rest_of, Entry, entry_of}
-use Rattle.elab_walk.specs.Pieces.{Piece, bare, both, Use, Local', Symbol', variable_named, found, use_of, named, tuple_use, parameters, used, names}
+use Rattle.elab_walk.specs.Patterns.{Notes, noted, no_notes, follow, LocalTree, at_unknowns, result_or_int, first_or_int, rest_of, NumberedEntry, entry_of}
+use Rattle.elab_walk.specs.Pieces.{NotedTree, bare_piece, both_pieces, Use, Local', Symbol', variable_named, found_local, use_or, use_of_name, tuple_use, parameters, used_piece, names}
 use Rattle.elab_walk.proofs.Below.{both_all}
 use Rattle.elab_walk.proofs.Walking.{none_both, not_if, must_be}
 use Rattle.valid_tasks.specs.Signature.{with_entries, IsSymbol, IsTuple, IsWellFormed, HasTuple}
-use Rattle.valid_tasks.specs.Typed.{types_at}
+use Rattle.valid_tasks.specs.Typed.{assigned_types}
 use Rattle.valid_tasks.proofs.Over.{IsGood, IsOver, AreOver, type_over, over_assigned}
 use Rattle.valid_tasks.proofs.Instances.{inst_over, variables_over, count_variables, cells_assigned, all_assigned_over}
 use Rattle.valid_tasks.proofs.Forms.{TypedAs, ListTyped, variable_typed, predicate_typed, function_typed, end_typed, cell_typed}
@@ -65,7 +65,7 @@ both_locals v (x ∷ xs) ys h k = (h.0, both_locals v xs ys h.1 k)
 
 -- a variable by its name, or none
 abbrev IsFound : Vocabulary → List LocalTree → Option (ℕ × Tree) → Type 0
-IsFound v ls o = IfSome o (λ (p : ℕ × Tree). IsOver v true p.1 × ((r : ℕ) (f : ℕ → Tree) → slice_get (types_at r f ls) p.0 ≡ Some (assign r f p.1)))
+IsFound v ls o = IfSome o (λ (p : ℕ × Tree). IsOver v true p.1 × ((r : ℕ) (f : ℕ → Tree) → slice_get (assigned_types r f ls) p.0 ≡ Some (assign r f p.1)))
 
 variable_found : (v : Vocabulary) (x : Word) (ls : List LocalTree) → LocalsOver v ls → IsFound v ls (variable_named x ls)
 variable_found v x [] h = tt
@@ -76,7 +76,7 @@ variable_found v x (l ∷ ls) h = of (bytes_eq l.name x) (variable_named x ls) (
     of false None k = tt
     of false (Some p) k = (k.0, λ r f. k.1 r f)
 
-is_found : (v : Vocabulary) (qs : List Word) (x : Word) (ls : List LocalTree) → LocalsOver v ls → IsFound v ls (found qs x ls)
+is_found : (v : Vocabulary) (qs : List Word) (x : Word) (ls : List LocalTree) → LocalsOver v ls → IsFound v ls (found_local qs x ls)
 is_found v [] x ls h = variable_found v x ls h
 is_found v (q ∷ qs) x ls h = tt
 
@@ -91,7 +91,7 @@ variable_name : (c : Word) (xs : List LocalTree) → is_some (place_of c (names 
 variable_name c [] = refl
 variable_name c (x ∷ xs) = either_way (bytes_eq x.name c) (0, x.type) (place_of c (names xs)) (variable_named c xs) (variable_name c xs)
 
-found_name : (qs : List Word) (c : Word) (xs : List LocalTree) → is_variable qs c (names xs) ≡ is_some (found qs c xs)
+found_name : (qs : List Word) (c : Word) (xs : List LocalTree) → is_variable qs c (names xs) ≡ is_some (found_local qs c xs)
 found_name [] c xs = variable_name c xs
 found_name (q ∷ qs) c xs = refl
 
@@ -110,7 +110,7 @@ kind_fits false k h = h
 
 -- a use with so many arguments
 abbrev pub IsUsable : Vocabulary → List LocalTree → Bool → ℕ → Use → Type 0
-IsUsable v ls due n (Local' p ty) = (due ≡ false) × (n ≡ 0) × IsOver v true ty × ((r : ℕ) (f : ℕ → Tree) → slice_get (types_at r f ls) p ≡ Some (assign r f ty))
+IsUsable v ls due n (Local' p ty) = (due ≡ false) × (n ≡ 0) × IsOver v true ty × ((r : ℕ) (f : ℕ → Tree) → slice_get (assigned_types r f ls) p ≡ Some (assign r f ty))
 IsUsable v ls due n (Symbol' e) = IsEntry v e × KindFits due e.symbol.kind × (length e.symbol.args ≡ n)
 
 abbrev pub WantedOver : Vocabulary → Option Tree → Type 0
@@ -159,7 +159,7 @@ module _ (base : Vocabulary) (w : Where) (rigid : ℕ) where
     matches = λ f o s. both_all (λ (m : ℕ × List Tree). ArePatternsAt f m.1) a.matches b.matches (x.matches f o (first_solved rigid f a.equations b.equations s)) (y.matches f o (rest_solved rigid f a.equations b.equations s));
   }
 
-  pub none_noted : AreNoted nothing
+  pub none_noted : AreNoted no_notes
   none_noted = noted_sound [] [] tt
 
 module _ (base : Vocabulary) (w : Where) (good : IsWellFormed base w) (rigid : ℕ) where
@@ -171,10 +171,10 @@ module _ (base : Vocabulary) (w : Where) (good : IsWellFormed base w) (rigid : �
       let p = none_both (fault_if (differ due (is_predicate e.kind)) (WrongKind i)) (fault_if (not (length e.args == n)) (Arity i)) h in
       (named_symbol (sig base w) k s, kind_fits due e.kind (not_if (differ due (is_predicate e.kind)) (WrongKind i) p.0), eqb-true (length e.args) n (must_be (length e.args == n) (Arity i) p.1))
 
-  pub named_usable : (ls : List LocalTree) (due : Bool) (i n : ℕ) (qs : List Word) (x : Word) → LocalsOver (sig base w) ls → name_fault w (names ls) due i qs x n ≡ None → IsUsable (sig base w) ls due n (named w ls qs x)
-  named_usable ls due i n qs x h q = of (found qs x ls) (is_found (sig base w) qs x ls h) (ap (λ (b : Bool). cond b (local_fault due i n) (symbol_fault w due i n (w.names qs x))) (sym (found_name qs x ls)) ∙ q)
+  pub named_usable : (ls : List LocalTree) (due : Bool) (i n : ℕ) (qs : List Word) (x : Word) → LocalsOver (sig base w) ls → name_fault w (names ls) due i qs x n ≡ None → IsUsable (sig base w) ls due n (use_of_name w ls qs x)
+  named_usable ls due i n qs x h q = of (found_local qs x ls) (is_found (sig base w) qs x ls h) (ap (λ (b : Bool). cond b (local_fault due i n) (symbol_fault w due i n (w.names qs x))) (sym (found_name qs x ls)) ∙ q)
     where
-      of : (o : Option (ℕ × Tree)) → IsFound (sig base w) ls o → cond (is_some o) (local_fault due i n) (symbol_fault w due i n (w.names qs x)) ≡ None → IsUsable (sig base w) ls due n (use_of o (Symbol' (entry_of w.symbols (w.names qs x))))
+      of : (o : Option (ℕ × Tree)) → IsFound (sig base w) ls o → cond (is_some o) (local_fault due i n) (symbol_fault w due i n (w.names qs x)) ≡ None → IsUsable (sig base w) ls due n (use_or o (Symbol' (entry_of w.symbols (w.names qs x))))
       of None k z = symbol_usable ls due i n (w.names qs x) (good.names qs x) z
       of (Some p) k z =
           let l = none_both (fault_if due (WrongKind i)) (fault_if (not (n == 0)) (Arity i)) z in
@@ -188,46 +188,46 @@ module _ (base : Vocabulary) (w : Where) (good : IsWellFormed base w) (rigid : �
       of (Some k) x = (named_symbol (sig base w) k x.symbol, ap is_predicate x.kind, x.args)
 
   -- ---- pieces
-  pub record IsSound (ls : List LocalTree) (t : Option Tree) (p : Piece) : Type 0 where
+  pub record IsSound (ls : List LocalTree) (t : Option Tree) (p : NotedTree) : Type 0 where
     pub notes : AreNoted base w rigid p.notes
     pub typed : (f : ℕ → Tree) → ((j : ℕ) → IsOver (sig base w) true (f j)) → SolvesAll rigid f p.notes.equations → IndicesFit (assign rigid f p.tree)
-        → TypedAs (sig base w) (types_at rigid f ls) (option_map (assign rigid f) t) (assign rigid f p.tree)
+        → TypedAs (sig base w) (assigned_types rigid f ls) (option_map (assign rigid f) t) (assign rigid f p.tree)
 
   -- arguments, of which these types are wanted
-  pub record AreSound (ls : List LocalTree) (ts : List Tree) (p : Piece) : Type 0 where
+  pub record AreSound (ls : List LocalTree) (ts : List Tree) (p : NotedTree) : Type 0 where
     pub notes : AreNoted base w rigid p.notes
     pub typed : (f : ℕ → Tree) → ((j : ℕ) → IsOver (sig base w) true (f j)) → SolvesAll rigid f p.notes.equations → IndicesFit (assign rigid f p.tree)
-        → ListTyped (sig base w) Term (types_at rigid f ls) (map (assign rigid f) ts) (assign rigid f p.tree)
+        → ListTyped (sig base w) Term (assigned_types rigid f ls) (map (assign rigid f) ts) (assign rigid f p.tree)
 
-  pub no_arguments : (ls : List LocalTree) → AreSound ls [] (bare (Leaf HEnd))
-  no_arguments ls = record { notes = none_noted base w rigid; typed = λ f o s i. end_typed (sig base w) (types_at rigid f ls) Term }
+  pub no_arguments : (ls : List LocalTree) → AreSound ls [] (bare_piece (Leaf HEnd))
+  no_arguments ls = record { notes = none_noted base w rigid; typed = λ f o s i. end_typed (sig base w) (assigned_types rigid f ls) Term }
 
-  pub more_arguments : (ls : List LocalTree) (t : Tree) (ts : List Tree) (p q : Piece) → IsSound ls (Some t) p → AreSound ls ts q → AreSound ls (t ∷ ts) (both (Two HCell) p q)
+  pub more_arguments : (ls : List LocalTree) (t : Tree) (ts : List Tree) (p q : NotedTree) → IsSound ls (Some t) p → AreSound ls ts q → AreSound ls (t ∷ ts) (both_pieces (Two HCell) p q)
   more_arguments ls t ts p q x y = record {
     notes = both_noted base w rigid p.notes q.notes x.notes y.notes;
     typed = λ f o s i.
         let a = x.typed f o (first_solved rigid f p.notes.equations q.notes.equations s) i.0 in
         let b = y.typed f o (rest_solved rigid f p.notes.equations q.notes.equations s) i.1 in
-        cell_typed (sig base w) (types_at rigid f ls) Term (assign rigid f t) (map (assign rigid f) ts) (assign rigid f p.tree) (assign rigid f q.tree) (λ e. cc) a.0 a.1.0 a.1.1 b;
+        cell_typed (sig base w) (assigned_types rigid f ls) Term (assign rigid f t) (map (assign rigid f) ts) (assign rigid f p.tree) (assign rigid f q.tree) (λ e. cc) a.0 a.1.0 a.1.1 b;
   }
 
   -- two operands
-  pub two_arguments : (ls : List LocalTree) (ts : List Tree) (p q : Piece) → length ts ≡ 2 → IsSound ls (Some (first_or_int ts)) p → IsSound ls (Some (first_or_int (rest_of ts))) q → AreSound ls ts (both (Two HCell) p (both (Two HCell) q (bare (Leaf HEnd))))
+  pub two_arguments : (ls : List LocalTree) (ts : List Tree) (p q : NotedTree) → length ts ≡ 2 → IsSound ls (Some (first_or_int ts)) p → IsSound ls (Some (first_or_int (rest_of ts))) q → AreSound ls ts (both_pieces (Two HCell) p (both_pieces (Two HCell) q (bare_piece (Leaf HEnd))))
   two_arguments ls [] p q n x y = absurd (cc)
   two_arguments ls (t ∷ []) p q n x y = absurd (cc)
   two_arguments ls (t ∷ u ∷ []) p q n x y = more_arguments ls t (u ∷ []) p _ x (more_arguments ls u [] q _ y (no_arguments ls))
   two_arguments ls (t ∷ u ∷ z ∷ zs) p q n x y = absurd (cc)
 
   -- ---- uses
-  local_sound : (ls : List LocalTree) (n : ℕ) (t : Option Tree) (i c p : ℕ) (ty : Tree) (args : Piece) → WantedOver (sig base w) t → IsUsable (sig base w) ls (is_none t) c (Local' p ty) → IsSound ls t (used n t i (Local' p ty) args)
+  local_sound : (ls : List LocalTree) (n : ℕ) (t : Option Tree) (i c p : ℕ) (ty : Tree) (args : NotedTree) → WantedOver (sig base w) t → IsUsable (sig base w) ls (is_none t) c (Local' p ty) → IsSound ls t (used_piece n t i (Local' p ty) args)
   local_sound ls n None i c p ty args k u = absurd (cc (u.0))
   local_sound ls n (Some t) i c p ty args k u = record {
-    notes = both_noted base w rigid (noted ((ty, t) ∷ []) []) nothing (noted_sound base w rigid ((ty, t) ∷ []) [] ((u.2, k), tt)) (none_noted base w rigid);
-    typed = λ f o s x. subst (λ (z : Tree). TypedAs (sig base w) (types_at rigid f ls) (Some z) (One (HBound p) (assign rigid f ty))) s.0
-        (variable_typed (sig base w) (types_at rigid f ls) p (assign rigid f ty) x.0 (u.3 rigid f) (over_assigned (sig base w) rigid f o true ty u.2));
+    notes = both_noted base w rigid (noted ((ty, t) ∷ []) []) no_notes (noted_sound base w rigid ((ty, t) ∷ []) [] ((u.2, k), tt)) (none_noted base w rigid);
+    typed = λ f o s x. subst (λ (z : Tree). TypedAs (sig base w) (assigned_types rigid f ls) (Some z) (One (HBound p) (assign rigid f ty))) s.0
+        (variable_typed (sig base w) (assigned_types rigid f ls) p (assign rigid f ty) x.0 (u.3 rigid f) (over_assigned (sig base w) rigid f o true ty u.2));
   }
 
-  module _ (e : Entry) (it : IsEntry (sig base w) e) where
+  module _ (e : NumberedEntry) (it : IsEntry (sig base w) e) where
     pub result_is : MakesTerms e.symbol.kind → (r : Tree) × (e.symbol.result ≡ Some r)
     result_is m = of e.symbol.result (it.result m)
       where
@@ -241,21 +241,21 @@ module _ (base : Vocabulary) (w : Where) (good : IsWellFormed base w) (rigid : �
     pub count_at : (n : ℕ) (f : ℕ → Tree) → length (instance_at (sig base w) e.symbol it.types n rigid f) ≡ e.symbol.vars
     count_at n f = length-map (type_variables n e.symbol.vars) (assign rigid f) ∙ count_variables n e.symbol.vars
 
-    given_at : (ls : List LocalTree) (n : ℕ) (f : ℕ → Tree) (a : Tree) → ListTyped (sig base w) Term (types_at rigid f ls) (map (assign rigid f) (map (at_unknowns n e.symbol) e.symbol.args)) a
-        → ListTyped (sig base w) Term (types_at rigid f ls) (map (λ x. inst_types x (instance_at (sig base w) e.symbol it.types n rigid f)) e.symbol.args) a
-    given_at ls n f a h = subst (λ (ts : List Tree). ListTyped (sig base w) Term (types_at rigid f ls) ts a) (parameters_assigned (sig base w) e.symbol it.types n rigid f) h
+    given_at : (ls : List LocalTree) (n : ℕ) (f : ℕ → Tree) (a : Tree) → ListTyped (sig base w) Term (assigned_types rigid f ls) (map (assign rigid f) (map (at_unknowns n e.symbol) e.symbol.args)) a
+        → ListTyped (sig base w) Term (assigned_types rigid f ls) (map (λ x. inst_types x (instance_at (sig base w) e.symbol it.types n rigid f)) e.symbol.args) a
+    given_at ls n f a h = subst (λ (ts : List Tree). ListTyped (sig base w) Term (assigned_types rigid f ls) ts a) (parameters_assigned (sig base w) e.symbol it.types n rigid f) h
 
-    predicate_sound : (ls : List LocalTree) (n i : ℕ) (args : Piece) → e.symbol.kind ≡ Predicate → AreSound ls (map (at_unknowns n e.symbol) e.symbol.args) args → IsSound ls None (used n None i (Symbol' e) args)
+    predicate_sound : (ls : List LocalTree) (n i : ℕ) (args : NotedTree) → e.symbol.kind ≡ Predicate → AreSound ls (map (at_unknowns n e.symbol) e.symbol.args) args → IsSound ls None (used_piece n None i (Symbol' e) args)
     predicate_sound ls n i args q a = record {
       notes = both_noted base w rigid (noted [] (replicate e.symbol.vars i)) args.notes (noted_sound base w rigid [] (replicate e.symbol.vars i) tt) a.notes;
       typed = λ f o s x.
           let ts = instance_at (sig base w) e.symbol it.types n rigid f in
           let g = given_at ls n f (assign rigid f args.tree) (a.typed f o s x.1) in
-          rw (cells_assigned rigid f (type_variables n e.symbol.vars)) (predicate_typed (sig base w) (types_at rigid f ls) e.number e.symbol ts (assign rigid f args.tree) it.usable it.entry q (count_at n f)
+          rw (cells_assigned rigid f (type_variables n e.symbol.vars)) (predicate_typed (sig base w) (assigned_types rigid f ls) e.number e.symbol ts (assign rigid f args.tree) it.usable it.entry q (count_at n f)
           (all_assigned_over (sig base w) rigid f o (type_variables n e.symbol.vars) (variables_over (sig base w) n e.symbol.vars)) g);
     }
 
-    function_sound : (ls : List LocalTree) (n i : ℕ) (t : Tree) (args : Piece) → is_predicate e.symbol.kind ≡ false → IsOver (sig base w) true t → AreSound ls (map (at_unknowns n e.symbol) e.symbol.args) args → IsSound ls (Some t) (used n (Some t) i (Symbol' e) args)
+    function_sound : (ls : List LocalTree) (n i : ℕ) (t : Tree) (args : NotedTree) → is_predicate e.symbol.kind ≡ false → IsOver (sig base w) true t → AreSound ls (map (at_unknowns n e.symbol) e.symbol.args) args → IsSound ls (Some t) (used_piece n (Some t) i (Symbol' e) args)
     function_sound ls n i t args q k a =
         let m = makes_terms e.symbol.kind it.kind q in
         let r = result_is m in
@@ -270,12 +270,12 @@ module _ (base : Vocabulary) (w : Where) (good : IsWellFormed base w) (rigid : �
               let ts = instance_at (sig base w) e.symbol it.types n rigid f in
               let g = given_at ls n f (assign rigid f args.tree) (a.typed f o s.1 x.1) in
               let same : inst_types r.0 ts ≡ assign rigid f t = sym (at_assigned (sig base w) e.symbol it.types n rigid f r.0 z) ∙ ap (assign rigid f) (sym u) ∙ s.0 in
-              rw (cells_assigned rigid f (type_variables n e.symbol.vars)) (function_typed (sig base w) (types_at rigid f ls) e.number e.symbol ts (assign rigid f args.tree) r.0 (assign rigid f t) it.usable it.entry m (count_at n f)
+              rw (cells_assigned rigid f (type_variables n e.symbol.vars)) (function_typed (sig base w) (assigned_types rigid f ls) e.number e.symbol ts (assign rigid f args.tree) r.0 (assign rigid f t) it.usable it.entry m (count_at n f)
               (all_assigned_over (sig base w) rigid f o (type_variables n e.symbol.vars) (variables_over (sig base w) n e.symbol.vars)) g r.1 same (over_assigned (sig base w) rigid f o true t k));
         }
 
   -- a use, of which a type or a formula is wanted
-  pub used_sound : (ls : List LocalTree) (n : ℕ) (t : Option Tree) (i c : ℕ) (u : Use) (args : Piece) → WantedOver (sig base w) t → IsUsable (sig base w) ls (is_none t) c u → AreSound ls (parameters n u) args → IsSound ls t (used n t i u args)
+  pub used_sound : (ls : List LocalTree) (n : ℕ) (t : Option Tree) (i c : ℕ) (u : Use) (args : NotedTree) → WantedOver (sig base w) t → IsUsable (sig base w) ls (is_none t) c u → AreSound ls (parameters n u) args → IsSound ls t (used_piece n t i u args)
   used_sound ls n t i c (Local' p ty) args k h a = local_sound ls n t i c p ty args k h
   used_sound ls n None i c (Symbol' e) args k h a = predicate_sound e h.0 ls n i args h.1 a
   used_sound ls n (Some t) i c (Symbol' e) args k h a = function_sound e h.0 ls n i t args h.1 k a

@@ -9,28 +9,28 @@ use Rattle.tasks.specs.Task.{SymbolTree, int_symbol}
 use Rattle.tasks.specs.Vocabulary.{Vocabulary, is_empty}
 use Rattle.tasks.specs.Typing.{MakesTerms}
 use Rattle.tasks.specs.Valid.{IsSignatureOf}
-use Rattle.names_space.specs.Names.{Names, with_name}
+use Rattle.names_space.specs.Names.{ScopeNames, with_name}
 use Rattle.names_space.specs.declared.Table.TheVariants.{Symbols}
 use Rattle.names_space.specs.declared.TypeName.{TypeName}
 use Rattle.names_space.specs.declared.TypeName.TheVariants as stands
 use Rattle.syntax_why.specs.Lexeme.{Word}
-use Rattle.elab_names.specs.Abstract.{Form}
+use Rattle.elab_names.specs.Abstract.{TypeExpression}
 use Rattle.elab_names.specs.Faults.{first_of, type_fault, binders_fault}
 use Rattle.elab_names.specs.Naming.{meaning_at, type_named}
 use Rattle.elab_names.specs.Where.{Where}
-use Rattle.elab_variables.specs.Seen.{Seen, has_width, type_seen}
+use Rattle.elab_variables.specs.Seen.{SeenTree, has_width, type_seen}
 use Rattle.elab_walk.specs.Pieces.{type_at, names}
 use Rattle.elab_walk.proofs.Walking.{none_both, both_none}
-use Rattle.elab_parts.specs.Alike.{arity, TypesAlike}
+use Rattle.elab_parts.specs.Alike.{meaning_arity, TypesAlike}
 use Rattle.elab_parts.specs.Entries.{tuple_in}
-use Rattle.elab_parts.specs.Declarations.{Member, own_variables, params_seen, params_fault}
+use Rattle.elab_parts.specs.Declarations.{GroupMember, own_variables, params_seen, params_fault}
 use Rattle.elab_parts.specs.Outcomes.{Setting, over, tuples_wanting}
 use Rattle.elab_parts.proofs.Alike.{binders_alike}
 use Rattle.elab_parts.proofs.Scopes.{type_thing, arity_kept}
-use Rattle.elab_members.specs.Members.{SignatureTree, signature_of, signed_entries, with_members, kind_of, body_fault, member_fault, members_fault}
+use Rattle.elab_members.specs.Members.{SignatureTree, signature_of, signed_entries, with_members, symbol_kind_of, body_fault, member_fault, members_fault}
 use Rattle.elab_members.proofs.ParamsClosed.{as_binders, signature_closed}
 use Rattle.valid_tasks.specs.Signature.{with_entries}
-use Rattle.valid_tasks.specs.Scopes.{is_projection_kind, may_stand, NamesNew, IsTypedEntry, IsTypedSignature, IsSymbolNumber, IsTypedThing, AreTypedScopes}
+use Rattle.valid_tasks.specs.Scopes.{is_projection_kind, is_nameable, NamesNew, IsTypedEntry, IsTypedSignature, IsSymbolNumber, IsTypedThing, AreTypedScopes}
 use Rattle.valid_tasks.proofs.Widths.{IsWithin}
 use Rattle.valid_tasks.proofs.Scopes.{scopes_more, typed_entry}
 use Rattle.valid_tasks.proofs.Extended.{entries_part, news_front, news_later, type_more, signature_more, scopes_extended}
@@ -41,29 +41,29 @@ use Rattle.valid_tasks.proofs.Signatures.{SignatureIn, signature_in}
 use Rattle.valid_tasks.proofs.Algebraics.{IsThere, EntriesAt, entries_at, got}
 use Rattle.valid_tasks.proofs.Bodies.{AreSigned, signed_more}
 
-no_kind : (f : Option Form) → kind_of f ≢ Kind
+no_kind : (f : Option TypeExpression) → symbol_kind_of f ≢ Kind
 no_kind None = λ q. cc
 no_kind (Some f) = λ q. cc
 
-result_there : (f : Option Form) (r : Option Tree) → is_none f ≡ is_none r → MakesTerms (kind_of f) → IsSomeAnd r (λ t. Unit {0})
+result_there : (f : Option TypeExpression) (r : Option Tree) → is_none f ≡ is_none r → MakesTerms (symbol_kind_of f) → IsSomeAnd r (λ t. Unit {0})
 result_there None r q m = absurd m
 result_there (Some f) None q m = absurd (cc)
 result_there (Some f) (Some t) q m = tt
 
 -- ---- entries of members with their signatures
 module _ (theory within : Word) (named : is_empty theory ≡ false) where
-  abbrev pub entry_of : Member → SignatureTree → SymbolTree
-  entry_of m g = record { theory = theory; name = within ++ m.called.name; kind = kind_of m.result; vars = length g.vars; args = g.args; result = g.result }
+  abbrev pub entry_of : GroupMember → SignatureTree → SymbolTree
+  entry_of m g = record { theory = theory; name = within ++ m.called.name; kind = symbol_kind_of m.result; vars = length g.vars; args = g.args; result = g.result }
 
   -- it may be named
-  stands_here : (m : Member) (g : SignatureTree) → IsTrue (may_stand (entry_of m g))
+  stands_here : (m : GroupMember) (g : SignatureTree) → IsTrue (is_nameable (entry_of m g))
   stands_here m g = rw (named, no_projection m.result) refl
     where
-      no_projection : (f : Option Form) → is_projection_kind (kind_of f) ≡ false
+      no_projection : (f : Option TypeExpression) → is_projection_kind (symbol_kind_of f) ≡ false
       no_projection None = refl
       no_projection (Some f) = refl
 
-  pub entries_typed : (v : Vocabulary) (ms : List Member) (gs : List SignatureTree) → AreSigned v ms gs → All (IsTypedEntry v) (signed_entries theory within ms gs)
+  pub entries_typed : (v : Vocabulary) (ms : List GroupMember) (gs : List SignatureTree) → AreSigned v ms gs → All (IsTypedEntry v) (signed_entries theory within ms gs)
   entries_typed v [] gs h = All-nil (IsTypedEntry v)
   entries_typed v (m ∷ ms) [] h = All-nil (IsTypedEntry v)
   entries_typed v (m ∷ ms) (g ∷ gs) h =
@@ -73,29 +73,29 @@ module _ (theory within : Word) (named : is_empty theory ≡ false) where
     abbrev v : Vocabulary
     v = with_entries base all
 
-    pub number_of_member : (m : Member) (g : SignatureTree) (k : ℕ) → IsThere base all k (entry_of m g) → IsSymbolNumber v k
+    pub number_of_member : (m : GroupMember) (g : SignatureTree) (k : ℕ) → IsThere base all k (entry_of m g) → IsSymbolNumber v k
     number_of_member m g k h =
         let there = got all k (entry_of m g) h.at in
         record { there = there.0; usable = h.named.usable (stands_here m g); kind = λ q. no_kind m.result (sym (ap (λ (e : SymbolTree). e.kind) there.1) ∙ q) }
 
-    pub signature_at : (m : Member) (g : SignatureTree) (k : ℕ) → IsThere base all k (entry_of m g) → IsSignatureOf v k
+    pub signature_at : (m : GroupMember) (g : SignatureTree) (k : ℕ) → IsThere base all k (entry_of m g) → IsSignatureOf v k
     signature_at m g k h =
         let there = got all k (entry_of m g) h.at in
         record { entry = there.0; kind = λ q. no_kind m.result (sym (ap (λ (e : SymbolTree). e.kind) there.1) ∙ q); types = (typed_entry base all whole k there.0 (h.named.usable (stands_here m g))).types }
 
-    pub members_scoped : (s : List Tree) (ms : List Member) (gs : List SignatureTree) (k : ℕ) (names : Names) → length gs ≡ length ms → EntriesAt base all k (signed_entries theory within ms gs) → AreTypedScopes v s names → AreTypedScopes v s (with_members k ms names)
+    pub members_scoped : (s : List Tree) (ms : List GroupMember) (gs : List SignatureTree) (k : ℕ) (names : ScopeNames) → length gs ≡ length ms → EntriesAt base all k (signed_entries theory within ms gs) → AreTypedScopes v s names → AreTypedScopes v s (with_members k ms names)
     members_scoped s [] gs k names n h x = x
     members_scoped s (m ∷ ms) [] k names n h x = absurd (cc)
     members_scoped s (m ∷ ms) (g ∷ gs) k names n h x =
         let next : EntriesAt base all (suc k) (signed_entries theory within ms gs) = subst (λ (i : ℕ). EntriesAt base all i (signed_entries theory within ms gs)) (let q : k + 1 ≡ suc k = omega arith in q) h.1 in
         members_scoped s ms gs (suc k) (with_name Symbols m.called.name (stands.Entry k) true names) (omega (arith, n)) next (scopes_more (IsTypedThing v s) names Symbols m.called.name (stands.Entry k) true (number_of_member m g k h.0) x)
 
--- ---- a group where it stands
-same_kind : (w : Where) (r : Option Form) → is_none r ≡ is_none (option_map (type_at w) r)
+-- ---- a group where it is
+same_kind : (w : Where) (r : Option TypeExpression) → is_none r ≡ is_none (option_map (type_at w) r)
 same_kind w None = refl
 same_kind w (Some f) = refl
 
-pub count_signed : (w : Where) (ms : List Member) → length (map (signature_of w) ms) ≡ length ms
+pub count_signed : (w : Where) (ms : List GroupMember) → length (map (signature_of w) ms) ≡ length ms
 count_signed w [] = refl
 count_signed w (m ∷ ms) = ap suc (count_signed w ms)
 
@@ -104,12 +104,12 @@ some_entry [] q = absurd (cc)
 some_entry (e ∷ es) q = omega arith
 
 -- each signature is among what is seen
-abbrev pub AreSeen : Seen → List Member → Type 0
+abbrev pub AreSeen : SeenTree → List GroupMember → Type 0
 AreSeen all [] = Unit {0}
-AreSeen all (m ∷ ms) = ((u : Seen) × IsWithin (type_seen (params_seen u m.params) m.result) all) × AreSeen all ms
+AreSeen all (m ∷ ms) = ((u : SeenTree) × IsWithin (type_seen (params_seen u m.params) m.result) all) × AreSeen all ms
 
 -- where the members' names, after those of a scope, hide no type
-module _ (base : Vocabulary) (c : Setting) (h : IsTypedSetting base c) (ms : List Member) (all_seen : Seen) (names' : Names) (same_types : (qs : List Word) (x : Word) → type_named names' qs x ≡ type_named c.scope qs x) where
+module _ (base : Vocabulary) (c : Setting) (h : IsTypedSetting base c) (ms : List GroupMember) (all_seen : SeenTree) (names' : ScopeNames) (same_types : (qs : List Word) (x : Word) → type_named names' qs x ≡ type_named c.scope qs x) where
   abbrev pub front : List SymbolTree
   front = inside base c h all_seen
 
@@ -136,11 +136,11 @@ module _ (base : Vocabulary) (c : Setting) (h : IsTypedSetting base c) (ms : Lis
     types_alike : (vars : List Word) → TypesAlike (outer vars) (inner vars)
     types_alike vars = record {
       types = λ qs x. arity_kept c.trees c.trees front own_entries (type_named c.scope qs x) (type_thing c.trees (length front) c.scope (scopes_of base front c.trees c.scope (inside_scopes base c h all_seen)) (some_entry front (inside_typed base c h all_seen front_news).int) qs x)
-          ∙ ap (λ (m : Option TypeName). option_map (arity whole) (option_map (meaning_at c.trees) m)) (sym (same_types qs x));
+          ∙ ap (λ (m : Option TypeName). option_map (meaning_arity whole) (option_map (meaning_at c.trees) m)) (sym (same_types qs x));
       vars = refl;
     }
 
-    closed_signature : (m : Member) → member_fault (inner []) m ≡ None → binders_fault (outer (own_variables m)) false (as_binders m.params m.result) ≡ None
+    closed_signature : (m : GroupMember) → member_fault (inner []) m ≡ None → binders_fault (outer (own_variables m)) false (as_binders m.params m.result) ≡ None
     closed_signature m q =
         let vs = own_variables m in
         let p = none_both (params_fault (inner []) m.params) (first_of (type_fault (inner []) true m.result) (body_fault (inner []) m vs m.body)) q in
@@ -148,7 +148,7 @@ module _ (base : Vocabulary) (c : Setting) (h : IsTypedSetting base c) (ms : Lis
         binders_alike (outer vs) (inner vs) (types_alike vs) false (as_binders m.params m.result)
         ∙ signature_closed (inner []) m.params m.result (both_none (params_fault (inner []) m.params) (type_fault (inner []) true m.result) p.0 r.0)
 
-    signed : (ks : List Member) → AreSeen all_seen ks → members_fault (inner []) ks ≡ None → AreSigned (with_entries base front) ks (map (signature_of (outer [])) ks)
+    signed : (ks : List GroupMember) → AreSeen all_seen ks → members_fault (inner []) ks ≡ None → AreSigned (with_entries base front) ks (map (signature_of (outer [])) ks)
     signed [] g q = tt
     signed (m ∷ ks) g q =
         let p = none_both (member_fault (inner []) m) (members_fault (inner []) ks) q in

@@ -1,18 +1,18 @@
 -- A declaration that is valid over a vocabulary is valid over one of which that is a part.
 use Rattle.std.proofs.Common.{◌≡◌, ℕ, ◌<◌, List, [], ◌∷◌, map, length, get_or, All, sym, ap, subst, ◌∙◌}
 use Rattle.trees.specs.Tree.{Tree}
-use Rattle.tasks.specs.Task.{SymbolTree, symbol_or, int_symbol, DefinitionTree, InductiveTree, ConTree, AlgebraicTree, BodyTree, MakesType, Makes, Defines, Induces, Constructs, Says, DeclarationTree}
+use Rattle.tasks.specs.Task.{SymbolTree, symbol_or, int_symbol, DefinitionTree, InductiveTree, ConstructorTree, AlgebraicTree, BodyTree, MakesType, Makes, Defines, Induces, Constructs, Says, DeclarationTree}
 use Rattle.tasks.specs.Equations.{cells, type_variables, IsEquationOf}
 use Rattle.tasks.specs.Clauses.{IsClauseOf}
 use Rattle.tasks.specs.Vocabulary.{Vocabulary}
 use Rattle.tasks.specs.Valid.{HasTypes, IsFormulaOver, IsTypeEntry, IsSignatureOf, IsDefinition, IsInductive, IsProjectionOf, AreProjections, IsConstructorOf, IsAlgebraic, IsValidBody, IsValidDecl}
-use Rattle.valid_tasks.specs.Scopes.{IsPart}
+use Rattle.valid_tasks.specs.Scopes.{IsSubvocabulary}
 use Rattle.valid_tasks.proofs.Signed.{some_at}
 use Rattle.valid_tasks.proofs.Extended.{types_more}
 use Rattle.valid_tasks.proofs.Algebraics.{got}
 use Rattle.valid_tasks.proofs.Propositions.{formula_more}
 
-module _ (v w : Vocabulary) (part : IsPart v w) where
+module _ (v w : Vocabulary) (part : IsSubvocabulary v w) where
   abbrev xs : List SymbolTree
   xs = v.symbols
 
@@ -73,7 +73,7 @@ module _ (v w : Vocabulary) (part : IsPart v w) where
   projections_kept type vars (f ∷ fs) [] h = absurd h
   projections_kept type vars (f ∷ fs) (k ∷ ks) h = (projection_kept type vars f k h.0, projections_kept type vars fs ks h.1)
 
-  constructor_kept : (type vars : ℕ) (c : ConTree) → IsConstructorOf v type vars c → IsConstructorOf w type vars c
+  constructor_kept : (type vars : ℕ) (c : ConstructorTree) → IsConstructorOf v type vars c → IsConstructorOf w type vars c
   constructor_kept type vars c h =
       let q = same c.symbol h.signature.entry in
       record {

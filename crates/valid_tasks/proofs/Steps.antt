@@ -1,4 +1,4 @@
--- One more declaration after others: signature and scopes stay typed over what all make, and it is valid where it stands.
+-- One more declaration after others: signature and scopes stay typed over what all make, and it is valid where it is.
 use Rattle.std.proofs.Common.{◌≡◌, ◌⊎◌, inl, inr, ℕ, ◌+◌, ◌-◌, ◌<◌, ◌≤◌, ◌==◌, ◌&&◌, ◌||◌, not, Bool, true, false, List, [], ◌∷◌, ◌++◌, map, length, get_or, slice_get, All, Option, Some, None, IfSome, IsTrue, refl, sym, ap, subst, ◌∙◌, arith, length-append, append_assoc}
 use Rattle.std.specs.Option.{is_some, option_or}
 use Rattle.std.specs.List.{list_any}
@@ -15,12 +15,12 @@ use Rattle.tasks.specs.Roles.{is_constructor, maker, role_by}
 use Rattle.tasks.specs.Vocabulary.{Vocabulary, passes, is_constructor_kind}
 use Rattle.tasks.specs.Valid.{IsValidDecl}
 use Rattle.tasks.proofs.Declared.{maker_made, made_maker}
-use Rattle.names_space.specs.Names.{Names}
+use Rattle.names_space.specs.Names.{ScopeNames}
 use Rattle.syntax_why.specs.declared.declarations.PropKind.TheVariants as kind
 use Rattle.syntax_why.specs.Declarations as source
 use Rattle.elab_parts.specs.declared.made.Elaborated.{Elaborated}
 use Rattle.elab_parts.specs.Entries.{builtin}
-use Rattle.elab_parts.specs.Declarations.{Declaration, member, declaration}
+use Rattle.elab_parts.specs.Declarations.{Declaration, group_member, declaration}
 use Rattle.elab_parts.specs.Outcomes.{Setting, Outcome}
 use Rattle.elab_terms.specs.Outcomes.{IsElaborated}
 use Rattle.valid_tasks.specs.Scopes.{is_projection_kind, IsNamedBy, NamesNew, AgreeBelow}
@@ -166,26 +166,26 @@ valid_single symbols ds (d ∷ []) l h = (h 0 d (omega arith), tt)
 valid_single symbols ds (d ∷ e ∷ es) l h = absurd (omega arith)
 
 -- ---- what is told of a source's declaration
-is_alone : (d : source.Decl) → IsGroupWhole d → IfSome (declaration d) IsAlone
+is_alone : (d : source.SyntaxDeclaration) → IsGroupWhole d → IfSome (declaration d) IsAlone
 is_alone (source.type_decl a n vs None) w = tt
 is_alone (source.type_decl a n vs (Some f)) w = tt
 is_alone (source.algebraic_decl a ts) w = tt
-is_alone (source.function_decl a c ps f None ms) w = λ z. ap (map member) w
+is_alone (source.function_decl a c ps f None ms) w = λ z. ap (map group_member) w
 is_alone (source.function_decl a c ps f (Some e) ms) w = λ z. absurd (cc)
-is_alone (source.predicate_decl a c ps None ms) w = λ z. ap (map member) w
+is_alone (source.predicate_decl a c ps None ms) w = λ z. ap (map group_member) w
 is_alone (source.predicate_decl a c ps (Some e) ms) w = λ z. absurd (cc)
 is_alone (source.constant_decl a c f e) w = λ z. refl
 is_alone (source.inductive_decl a ds) w = tt
 is_alone (source.prop_decl a k c e) w = tt
 is_alone _ w = tt
 
-alone : (d : source.Decl) (x : Declaration) → IsGroupWhole d → declaration d ≡ Some x → IsAlone x
+alone : (d : source.SyntaxDeclaration) (x : Declaration) → IsGroupWhole d → declaration d ≡ Some x → IsAlone x
 alone d x w q = let P : Option Declaration → Type 0 = λ o. IfSome o IsAlone in subst P q (is_alone d w)
 
 abbrev NeedsNoRigid : Declaration → Type 0
 NeedsNoRigid x = (v : Vocabulary) (ks : List ℕ) → MayNameRigid v x ks
 
-no_goal : (d : source.Decl) → IsNoGoal d → IfSome (declaration d) NeedsNoRigid
+no_goal : (d : source.SyntaxDeclaration) → IsNoGoal d → IfSome (declaration d) NeedsNoRigid
 no_goal (source.type_decl a n vs None) w = λ v ks. tt
 no_goal (source.type_decl a n vs (Some f)) w = λ v ks. tt
 no_goal (source.algebraic_decl a ts) w = λ v ks. tt
@@ -198,7 +198,7 @@ no_goal (source.prop_decl a kind.Lemma c e) w = λ v ks. tt
 no_goal (source.prop_decl a kind.Goal c e) w = absurd w
 no_goal _ w = tt
 
-needs_none : (d : source.Decl) (x : Declaration) → IsNoGoal d → declaration d ≡ Some x → NeedsNoRigid x
+needs_none : (d : source.SyntaxDeclaration) (x : Declaration) → IsNoGoal d → declaration d ≡ Some x → NeedsNoRigid x
 needs_none d x w q = let P : Option Declaration → Type 0 = λ o. IfSome o NeedsNoRigid in subst P q (no_goal d w)
 
 pub makes_all : (n m : ℕ) (ds new : List DeclarationTree) → n ≤ m → MakesBelow n ds → All (λ (k : ℕ). (n ≤ k) × (k < m)) (made new) → MakesBelow m (ds ++ new)
@@ -208,7 +208,7 @@ makes_all n m ds new longer below between =
     let z = made_both ds new in
     rw z b
 
-module _ (c : Setting) (ds : List DeclarationTree) (x : Declaration) (g : Signature) (s : List Tree) (g' : Signature) (names : Names) (it : Elaborated) (h : IsTypedSetting (after c.symbols [] ds) c) (below : MakesBelow (length c.symbols) ds) (r : Grows c.trees s) (w : IsAlone x)
+module _ (c : Setting) (ds : List DeclarationTree) (x : Declaration) (g : Signature) (s : List Tree) (g' : Signature) (names : ScopeNames) (it : Elaborated) (h : IsTypedSetting (after c.symbols [] ds) c) (below : MakesBelow (length c.symbols) ds) (r : Grows c.trees s) (w : IsAlone x)
     (e : IsElaborated c x g s g' names it) where
   abbrev pub n : ℕ
   n = length c.symbols
@@ -236,7 +236,7 @@ module _ (c : Setting) (ds : List DeclarationTree) (x : Declaration) (g : Signat
   pub between : All (λ (k : ℕ). (n ≤ k) × (k < length all)) (made new)
   between = rw (e.symbols_are, e.decls) made'.between
 
-pub next_declaration : (c : Setting) (ds : List DeclarationTree) (d : source.Decl) (x : Declaration) (g : Signature) (s : List Tree) (g' : Signature) (names : Names) (it : Elaborated) → IsTypedSetting (after c.symbols [] ds) c → MakesBelow (length c.symbols) ds → Grows c.trees s
+pub next_declaration : (c : Setting) (ds : List DeclarationTree) (d : source.SyntaxDeclaration) (x : Declaration) (g : Signature) (s : List Tree) (g' : Signature) (names : ScopeNames) (it : Elaborated) → IsTypedSetting (after c.symbols [] ds) c → MakesBelow (length c.symbols) ds → Grows c.trees s
     → declaration d ≡ Some x → IsGroupWhole d → IsNoGoal d → IsElaborated c x g s g' names it → ((id : TermId) → Holds s id → WellSorted (tree_at s id)) → All (DeclHeld s) it.decls → HaveNoFault (symbols_at s g'.symbols) (declarations_at s it.decls)
     → IsNextDeclaration s (symbols_at s g'.symbols) names ds (declarations_at s it.decls)
 next_declaration c ds d x g s g' names it h below r q w p e sorted held passes =

@@ -6,14 +6,14 @@ use Rattle.trees.specs.Tree.{Tree}
 use Rattle.tasks.specs.Rigid.{rigid_symbol}
 use Rattle.tasks.specs.Meaning.{symbols_at}
 use Rattle.tasks.specs.declared.signature.Signature.{Signature}
-use Rattle.names_space.specs.Names.{Names}
+use Rattle.names_space.specs.Names.{ScopeNames}
 use Rattle.elab_parts.specs.declared.made.Elaborated.{Elaborated}
-use Rattle.tasks.specs.Task.{SymbolTree, int_symbol, ConTree, AlgebraicTree}
+use Rattle.tasks.specs.Task.{SymbolTree, int_symbol, ConstructorTree, AlgebraicTree}
 use Rattle.tasks.specs.Valid.{own_type}
 use Rattle.syntax_why.specs.Lexeme.{Word}
 use Rattle.elab_parts.specs.Elaborated.{unseen}
 use Rattle.elab_parts.specs.Entries.{tuple_in, type_entry, projections, constructor_entries, builtin, wanting_tuples}
-use Rattle.elab_parts.specs.Declarations.{Constructor, Algebraic, Member, Declaration, abstract_type, alias, algebraic, members, inductive, proposition}
+use Rattle.elab_parts.specs.Declarations.{AlgebraicConstructor, AlgebraicType, GroupMember, Declaration, abstract_type, alias, algebraic, member_group, inductive, proposition_declaration}
 use Rattle.elab_parts.specs.Outcomes.{Setting, Outcome, full_name}
 use Rattle.elab_members.specs.Members.{SignatureTree, signed_entries, signature_trees, members_seen}
 use Rattle.elab_groups.specs.Groups.{group_signatures}
@@ -35,12 +35,12 @@ module _ (theory : Word) where
   abbrev Of : SymbolTree → Type 0
   Of = OfTheory theory
 
-  pub signed_of : (within : Word) (ms : List Member) (gs : List SignatureTree) → All Of (signed_entries theory within ms gs)
+  pub signed_of : (within : Word) (ms : List GroupMember) (gs : List SignatureTree) → All Of (signed_entries theory within ms gs)
   signed_of within [] gs = All-nil Of
   signed_of within (m ∷ ms) [] = All-nil Of
   signed_of within (m ∷ ms) (g ∷ gs) = All-cons Of _ (signed_entries theory within ms gs) refl (signed_of within ms gs)
 
-  pub types_of : (within : Word) (ts : List Algebraic) → All Of (type_entries theory within ts)
+  pub types_of : (within : Word) (ts : List AlgebraicType) → All Of (type_entries theory within ts)
   types_of within [] = All-nil Of
   types_of within (a ∷ ts) = All-cons Of (type_entry theory (within ++ a.called.name) (length a.vars)) (type_entries theory within ts) refl (types_of within ts)
 
@@ -51,13 +51,13 @@ module _ (theory : Word) where
   constructor_of : (name : Word) (n : ℕ) (t : Tree) (fs : List Tree) → All Of (constructor_entries theory name n t fs)
   constructor_of name n t fs = All-cons Of _ (projections theory name n t 1 fs) refl (projections_of name n t 1 fs)
 
-  constructors_of : (within : Word) (n : ℕ) (t : Tree) (ks : List Constructor) (cs : List ConTree) → All Of (constructors_entries theory within n t ks cs)
+  constructors_of : (within : Word) (n : ℕ) (t : Tree) (ks : List AlgebraicConstructor) (cs : List ConstructorTree) → All Of (constructors_entries theory within n t ks cs)
   constructors_of within n t [] cs = All-nil Of
   constructors_of within n t (k ∷ ks) [] = All-nil Of
   constructors_of within n t (k ∷ ks) (c ∷ cs) =
       All-append Of (constructor_entries theory (within ++ k.called.name) n t c.fields) (constructors_entries theory within n t ks cs) (constructor_of (within ++ k.called.name) n t c.fields) (constructors_of within n t ks cs)
 
-  pub group_of : (within : Word) (ts : List Algebraic) (ys : List AlgebraicTree) → All Of (group_entries theory within ts ys)
+  pub group_of : (within : Word) (ts : List AlgebraicType) (ys : List AlgebraicTree) → All Of (group_entries theory within ts ys)
   group_of within [] ys = All-nil Of
   group_of within (a ∷ ts) [] = All-nil Of
   group_of within (a ∷ ts) (y ∷ ys) =
@@ -76,17 +76,17 @@ module _ (c : Setting) (s : List Tree) (source : bytes_eq c.theory builtin ≡ f
       let t = type_entry c.theory (full_name c x) (length vs) in
       split_kept o [] (t ∷ []) (ap (λ (i : Outcome). i.symbols) e) (All-cons IsOfSource t [] source (All-nil IsOfSource))
   outcome_kept (alias x vs f) o e = let tuples = wanting_tuples c.symbols (alias_seen f).widths in split_kept o (alias_seen f).widths [] (e.symbols ∙ sym (append-nil tuples)) (All-nil IsOfSource)
-  outcome_kept (proposition k x y) o e = split_kept o (proposition_seen y).widths (map rigid_symbol (rigid_names k (proposition_seen y).vars)) e.symbols (rigids_of (rigid_names k (proposition_seen y).vars))
+  outcome_kept (proposition_declaration k x y) o e = split_kept o (proposition_seen y).widths (map rigid_symbol (rigid_names k (proposition_seen y).vars)) e.symbols (rigids_of (rigid_names k (proposition_seen y).vars))
   outcome_kept (algebraic ts) o e =
       let T = type_entries c.theory c.within ts in
       let G = group_entries c.theory c.within ts (group_trees c ts) in
       split_kept o (group_seen ts).widths (T ++ G) (ap (λ (i : Outcome). i.symbols) e) (All-append IsOfSource T G (sourced T (types_of c.theory c.within ts)) (sourced G (group_of c.theory c.within ts (group_trees c ts))))
-  outcome_kept (members ms) o e = split_kept o (members_seen unseen ms).widths (signed_entries c.theory c.within ms (group_signatures c ms)) e.symbols (sourced (signed_entries c.theory c.within ms (group_signatures c ms)) (signed_of c.theory c.within ms (group_signatures c ms)))
+  outcome_kept (member_group ms) o e = split_kept o (members_seen unseen ms).widths (signed_entries c.theory c.within ms (group_signatures c ms)) e.symbols (sourced (signed_entries c.theory c.within ms (group_signatures c ms)) (signed_of c.theory c.within ms (group_signatures c ms)))
   outcome_kept (inductive ds) o e =
       let gs = signature_trees c (before_inductives c ds) (as_members ds) in
       split_kept o (inductives_seen unseen ds).widths (signed_entries c.theory c.within (as_members ds) gs) e.symbols (sourced (signed_entries c.theory c.within (as_members ds) gs) (signed_of c.theory c.within (as_members ds) gs))
 
-pub elaborated_kept : (c : Setting) (d : Declaration) (g : Signature) (s : List Tree) (g' : Signature) (names : Names) (made : Elaborated) → bytes_eq c.theory builtin ≡ false → IsElaborated c d g s g' names made → IsBuiltRight c.symbols → IsBuiltRight (symbols_at s g'.symbols)
+pub elaborated_kept : (c : Setting) (d : Declaration) (g : Signature) (s : List Tree) (g' : Signature) (names : ScopeNames) (made : Elaborated) → bytes_eq c.theory builtin ≡ false → IsElaborated c d g s g' names made → IsBuiltRight c.symbols → IsBuiltRight (symbols_at s g'.symbols)
 elaborated_kept c d g s g' names made q e h = rw e.symbols_are (outcome_kept c s q h d e.outcome e.is)
 
 -- ---- at the beginning

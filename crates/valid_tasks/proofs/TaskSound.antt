@@ -1,4 +1,4 @@
--- The task of a goal after declarations that are valid where they stand is valid.
+-- The task of a goal after declarations that are valid where they are is valid.
 use Rattle.std.proofs.Common.{◌≡◌, ◌≢◌, ◌⊎◌, inl, inr, ℕ, ◌-◌, ◌<◌, ◌&&◌, ◌||◌, zero, suc, Bool, true, false, if◌then◌else◌, List, [], ◌∷◌, ◌++◌, length, get_or, slice_get, All, Option, Some, None, IfSome, IsTrue, refl, sym, ap, subst, ◌∙◌, arith, append-nil}
 use Rattle.std.specs.List.{Contains}
 use Rattle.std.specs.Option.{is_some, option_or}
@@ -17,11 +17,11 @@ use Rattle.elab_parts.specs.Entries.{builtin}
 use Rattle.valid_tasks.specs.Lists.{is_built, after}
 use Rattle.valid_tasks.proofs.Algebraics.{got}
 use Rattle.valid_tasks.proofs.Lists.{maker_both, list_valid}
-use Rattle.goal_tasks.specs.Tuples.{tuple_declaration, occurs, tuples_in}
-use Rattle.goal_tasks.specs.Theories.{GoalTree, TheoryTree, TheoriesTree}
-use Rattle.goal_tasks.specs.Tasks.{before, task_named, task_for}
+use Rattle.goal_tasks.specs.Tuples.{tuple_declaration, tuple_occurs, tuples_in}
+use Rattle.goal_tasks.specs.Theories.{GoalTree, KnownTheoryTree, TheoriesTree}
+use Rattle.goal_tasks.specs.Tasks.{declarations_before, task_named, task_for}
 use Rattle.valid_tasks.specs.Built.{IsOfTuple}
-use Rattle.valid_tasks.specs.Tasks.{IsOwn, AreSound, IsQuotedAt, IsSoundGoal}
+use Rattle.valid_tasks.specs.Tasks.{IsOwnSymbol, AreSound, IsQuotedAt, IsSoundGoal}
 use Rattle.valid_tasks.proofs.Names.{or_left, or_right, Within, left_in, right_in, declaration_named, formula_named}
 use Rattle.valid_tasks.proofs.Distinct.{IsDistinct, distinct_pairs, pairs_distinct, distinct_both}
 use Rattle.valid_tasks.proofs.TupleDecls.{made_both, made_are, tuple_valid}
@@ -64,12 +64,12 @@ tuple_role : (n c k : ℕ) → 0 < c → k ≡ c → IsTrue (is_constructor (rol
 tuple_role n zero k l q = absurd (omega (arith, l))
 tuple_role n (suc c) k l q = grind arith
 
-module _ (all : TheoriesTree) (t : TheoryTree) (g : GoalTree) (sound : AreSound all.symbols (before t g)) (goal : IsSoundGoal all.symbols (before t g) g) where
+module _ (all : TheoriesTree) (t : KnownTheoryTree) (g : GoalTree) (sound : AreSound all.symbols (declarations_before t g)) (goal : IsSoundGoal all.symbols (declarations_before t g) g) where
   abbrev symbols : List SymbolTree
   symbols = all.symbols
 
   abbrev ds : List DeclarationTree
-  ds = before t g
+  ds = declarations_before t g
 
   abbrev ks : List ℕ
   ks = task_named all t g
@@ -101,8 +101,8 @@ module _ (all : TheoriesTree) (t : TheoryTree) (g : GoalTree) (sound : AreSound 
       let p = maker_all (IsTupleDecl symbols) Ts k s.0 (tuples_are symbols sound.built ks) s.1 in
       tuple_made s.0 p.0 k p.1
 
-  own_entry : (k : ℕ) → Contains (made ds) k → IsOwn symbols k
-  own_entry k h = All-contains (IsOwn symbols) (made ds) k sound.own h
+  own_entry : (k : ℕ) → Contains (made ds) k → IsOwnSymbol symbols k
+  own_entry k h = All-contains (IsOwnSymbol symbols) (made ds) k sound.own h
 
   clash : (k : ℕ) → Contains (made Ts) k → Contains (made ds) k → ⊥
   clash k a b =
@@ -115,7 +115,7 @@ module _ (all : TheoriesTree) (t : TheoryTree) (g : GoalTree) (sound : AreSound 
   of_tuple_made : (k : ℕ) → IsTrue (is_among ks k) → IsOfTuple symbols k → Contains (made Ts) k
   of_tuple_made k i o = occurring_made symbols sound.built ks o.width o.constructor k o.found (of o.is) o.is
     where
-      of : (k ≡ o.constructor) ⊎ (suc k ≡ o.constructor) → IsTrue (occurs ks o.constructor)
+      of : (k ≡ o.constructor) ⊎ (suc k ≡ o.constructor) → IsTrue (tuple_occurs ks o.constructor)
       of (inl q) = or_left (is_among ks o.constructor) (is_among ks (o.constructor - 1)) (subst (λ (j : ℕ). IsTrue (is_among ks j)) q i)
       of (inr q) = let z : k ≡ o.constructor - 1 = omega (arith, q) in or_right (is_among ks o.constructor) (is_among ks (o.constructor - 1)) (subst (λ (j : ℕ). IsTrue (is_among ks j)) z i)
 

@@ -17,7 +17,7 @@ use Rattle.elab_parts.specs.Entries.{type_entry, projections, builtin, tuple_ent
 use Rattle.valid_tasks.proofs.Signed.{some_at}
 use Rattle.valid_tasks.proofs.Instances.{count_variables}
 use Rattle.valid_tasks.proofs.Tuples.{own_in, variables_in}
-use Rattle.goal_tasks.specs.Tuples.{tuple_constructor, tuple_type, tuple_declaration}
+use Rattle.goal_tasks.specs.Tuples.{tuple_constructor, tuple_algebraic, tuple_declaration}
 use Rattle.goal_tasks.specs.Meaning.{IsTupleAt}
 use Rattle.valid_tasks.proofs.Kept.{within}
 
@@ -136,11 +136,11 @@ module _ (symbols : List SymbolTree) (n c : ℕ) (at : IsTupleAt symbols n c) wh
           result = ap (λ (e : SymbolTree). e.result) q;
           projections = subst (λ (m : ℕ). AreProjections w k n fields (range_with_len (k + 2) m)) count p;
         } in
-        let one : IsAlgebraic w (tuple_type n k) = record {
+        let one : IsAlgebraic w (tuple_algebraic n k) = record {
           entry = record { entry = there k (omega (arith, long)); kind = ap (λ (e : SymbolTree). e.kind) t; types = rw t (record { args = All-nil (IsTypeIn w n); result = tt }) };
           cons = subst (λ (m : ℕ). All (IsConstructorOf w k m) (tuple_constructor n k ∷ [])) (sym vars) (All-cons (IsConstructorOf w k n) (tuple_constructor n k) [] con (All-nil (IsConstructorOf w k n)));
         } in
-        All-cons (IsAlgebraic w) (tuple_type n k) [] one (All-nil (IsAlgebraic w))
+        All-cons (IsAlgebraic w) (tuple_algebraic n k) [] one (All-nil (IsAlgebraic w))
 
   -- ---- what its symbols are
   pub made_cases : (j : ℕ) → Contains (made (tuple_declaration n k ∷ [])) j → (j ≡ k) ⊎ ((j ≡ c) ⊎ ((i : ℕ) × (i < n) × (j ≡ k + 2 + i)))

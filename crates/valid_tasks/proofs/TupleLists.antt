@@ -12,7 +12,7 @@ use Rattle.syntax_why.specs.Lexeme.{Word}
 use Rattle.elab_parts.specs.Entries.{type_entry, projections, builtin, tuple_in}
 use Rattle.valid_tasks.proofs.Instances.{count_variables}
 use Rattle.valid_tasks.proofs.Algebraics.{got}
-use Rattle.goal_tasks.specs.Tuples.{tuple_declaration, occurs, tuples_of, tuples_in}
+use Rattle.goal_tasks.specs.Tuples.{tuple_declaration, tuple_occurs, tuples_of, tuples_in}
 use Rattle.goal_tasks.specs.Meaning.{IsTupleAt}
 use Rattle.valid_tasks.specs.Built.{IsBuiltRight}
 use Rattle.valid_tasks.proofs.Kept.{within}
@@ -112,7 +112,7 @@ module _ (symbols : List SymbolTree) (built : IsBuiltRight symbols) where
 
     width_are : (n : ℕ) (o : Option ℕ) → tuple_in symbols n ≡ o → All (IsTupleDecl symbols) (tuples_of ks n o)
     width_are n None q = All-nil (IsTupleDecl symbols)
-    width_are n (Some c) q = of (occurs ks c)
+    width_are n (Some c) q = of (tuple_occurs ks c)
       where
         of : (b : Bool) → All (IsTupleDecl symbols) (if b then tuple_declaration n (c - 1) ∷ [] else [])
         of true = All-cons (IsTupleDecl symbols) (tuple_declaration n (c - 1)) [] (record { width = n; constructor = c; found = q; is = refl }) (All-nil (IsTupleDecl symbols))
@@ -126,7 +126,7 @@ module _ (symbols : List SymbolTree) (built : IsBuiltRight symbols) where
     tuples_are = widths_are (range_with_len 0 (length symbols))
 
     -- a width that occurs is there
-    pub occurring_made : (n c k : ℕ) → tuple_in symbols n ≡ Some c → IsTrue (occurs ks c) → (k ≡ c) ⊎ (suc k ≡ c) → Contains (made (tuples_in symbols ks)) k
+    pub occurring_made : (n c k : ℕ) → tuple_in symbols n ≡ Some c → IsTrue (tuple_occurs ks c) → (k ≡ c) ⊎ (suc k ≡ c) → Contains (made (tuples_in symbols ks)) k
     occurring_made n c k q o is =
         let at = built.tuples n c q in
         let l = within symbols n c at in
@@ -139,7 +139,7 @@ module _ (symbols : List SymbolTree) (built : IsBuiltRight symbols) where
     -- ---- no symbol is made twice
     width_vars : (n : ℕ) (o : Option ℕ) → tuple_in symbols n ≡ o → (k : ℕ) → Contains (made (tuples_of ks n o)) k → (symbol_or symbols k).vars ≡ n
     width_vars n None q k h = absurd (none_in k h)
-    width_vars n (Some c) q k h = of (occurs ks c) h
+    width_vars n (Some c) q k h = of (tuple_occurs ks c) h
       where
         of : (b : Bool) → Contains (made (if b then tuple_declaration n (c - 1) ∷ [] else [])) k → (symbol_or symbols k).vars ≡ n
         of true h = (entry_is n c (built.tuples n c q) k h).vars
@@ -147,7 +147,7 @@ module _ (symbols : List SymbolTree) (built : IsBuiltRight symbols) where
 
     width_distinct : (n : ℕ) (o : Option ℕ) → tuple_in symbols n ≡ o → IsDistinct (made (tuples_of ks n o))
     width_distinct n None q = tt
-    width_distinct n (Some c) q = of (occurs ks c)
+    width_distinct n (Some c) q = of (tuple_occurs ks c)
       where
         of : (b : Bool) → IsDistinct (made (if b then tuple_declaration n (c - 1) ∷ [] else []))
         of true = one_distinct n c (built.tuples n c q)

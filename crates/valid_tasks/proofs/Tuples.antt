@@ -54,7 +54,7 @@ module _ (v : Vocabulary) where
   constructor_typed theory name n t fs h k =
       All-cons (IsTypedEntry v) _ (projections theory name n t 1 fs) (record { types = record { args = k; result = h }; result = λ m. tt }) (projections_typed theory name n t 1 fs h k)
 
--- an entry behind others
+-- an entry after others
 at_end : (xs : List SymbolTree) (e : SymbolTree) (ys : List SymbolTree) → slice_get (xs ++ e ∷ ys) (length xs) ≡ Some e
 at_end [] e ys = refl
 at_end (x ∷ xs) e ys = at_end xs e ys

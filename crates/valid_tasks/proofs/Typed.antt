@@ -13,7 +13,7 @@ use Rattle.tasks.specs.Rigid.{rigid_symbol}
 use Rattle.tasks.specs.Task.{SymbolTree, int_symbol}
 use Rattle.tasks.specs.Meaning.{symbols_at, declarations_at, DeclHeld}
 use Rattle.tasks.specs.Vocabulary.{Vocabulary, of_signature, passes, is_empty, is_constructor_kind}
-use Rattle.names_space.specs.Names.{Names}
+use Rattle.names_space.specs.Names.{ScopeNames}
 use Rattle.syntax_why.specs.Lexeme.{Word}
 use Rattle.syntax_why.specs.declared.declarations.PropKind.TheVariants as kind
 use Rattle.syntax_why.specs.Declarations as source
@@ -21,7 +21,7 @@ use Rattle.elab_walk.specs.Drafts.{match_at}
 use Rattle.elab_parts.specs.declared.made.Elaborated.{Elaborated}
 use Rattle.elab_parts.specs.Elaborated.{unseen}
 use Rattle.elab_parts.specs.Entries.{builtin, type_entry, wanting_tuples}
-use Rattle.elab_parts.specs.Declarations.{Declaration, abstract_type, alias, algebraic, members, inductive, proposition, declaration}
+use Rattle.elab_parts.specs.Declarations.{Declaration, abstract_type, alias, algebraic, member_group, inductive, proposition_declaration, declaration}
 use Rattle.elab_parts.specs.Outcomes.{Setting, Outcome, full_name, tuples_wanting}
 use Rattle.elab_members.specs.Members.{signed_entries, signature_trees, members_seen}
 use Rattle.elab_groups.specs.Groups.{group_signatures}
@@ -64,12 +64,12 @@ module _ (c : Setting) (s : List Tree) (named : is_empty c.theory ≡ false) whe
       let t = type_entry c.theory (full_name c x) (length vs) in
       tuples_then o [] (t ∷ []) (ap (λ (i : Outcome). i.symbols) e) (own_placed (t ∷ []) (All-cons (OfTheory c.theory) t [] refl (All-nil (OfTheory c.theory))))
   outcome_placed (alias x vs f) o e = rw e.symbols (of_theory builtin refl (wanting_tuples c.symbols (alias_seen f).widths) (tuples_built c.symbols (alias_seen f).widths))
-  outcome_placed (proposition k x y) o e = tuples_then o (proposition_seen y).widths (map rigid_symbol (rigid_names k (proposition_seen y).vars)) e.symbols (rigid_placed (rigid_names k (proposition_seen y).vars))
+  outcome_placed (proposition_declaration k x y) o e = tuples_then o (proposition_seen y).widths (map rigid_symbol (rigid_names k (proposition_seen y).vars)) e.symbols (rigid_placed (rigid_names k (proposition_seen y).vars))
   outcome_placed (algebraic ts) o e =
       let T = type_entries c.theory c.within ts in
       let G = group_entries c.theory c.within ts (group_trees c ts) in
       tuples_then o (group_seen ts).widths (T ++ G) (ap (λ (i : Outcome). i.symbols) e) (All-append IsPlaced T G (own_placed T (types_of c.theory c.within ts)) (own_placed G (group_of c.theory c.within ts (group_trees c ts))))
-  outcome_placed (members ms) o e =
+  outcome_placed (member_group ms) o e =
       let es = signed_entries c.theory c.within ms (group_signatures c ms) in
       tuples_then o (members_seen unseen ms).widths es e.symbols (own_placed es (signed_of c.theory c.within ms (group_signatures c ms)))
   outcome_placed (inductive ds) o e =
@@ -123,7 +123,7 @@ module _ (xs ys : List SymbolTree) where
 rigid_named : (symbols : List SymbolTree) (ks : List ℕ) → All (IsRigidAt symbols) ks → All (λ (k : ℕ). IsTrue ((of_signature symbols).rigid k)) ks
 rigid_named symbols ks h = λ i d l. let x : IsRigidAt symbols (get_or ks i d) = h i d l in let q = x.entry in rw q refl
 
-module _ (c : Setting) (x : Declaration) (g : Signature) (s : List Tree) (h : Signature) (names : Names) (it : Elaborated) (typed : IsTypedSetting (of_signature c.symbols) c) (r : Grows c.trees s) (e : IsElaborated c x g s h names it) where
+module _ (c : Setting) (x : Declaration) (g : Signature) (s : List Tree) (h : Signature) (names : ScopeNames) (it : Elaborated) (typed : IsTypedSetting (of_signature c.symbols) c) (r : Grows c.trees s) (e : IsElaborated c x g s h names it) where
   abbrev symbols : List SymbolTree
   symbols = symbols_at s h.symbols
 
@@ -147,21 +147,21 @@ module _ (c : Setting) (x : Declaration) (g : Signature) (s : List Tree) (h : Si
 
   -- the type variables of a goal
   goal_named : (y : Declaration) (o : Outcome) → IsOutcome c s y o → symbols ≡ c.symbols ++ o.symbols → MayNameRigid v y o.rigid
-  goal_named (proposition kind.Goal z y) o p q =
+  goal_named (proposition_declaration kind.Goal z y) o p q =
       let i : IsProposition c kind.Goal z y o = p in
       let tuples = tuples_wanting c (proposition_seen y) in
       let vs = (proposition_seen y).vars in
       let split : symbols ≡ (c.symbols ++ tuples) ++ map rigid_symbol vs = q ∙ (ap (λ (es : List SymbolTree). c.symbols ++ es) i.symbols ∙ sym (append_assoc c.symbols tuples (map rigid_symbol vs))) in
       rigid_named symbols o.rigid (subst (All (IsRigidAt symbols)) (sym i.rigid) (subst (λ (es : List SymbolTree). All (IsRigidAt es) (entry_numbers (length (c.symbols ++ tuples)) vs)) (sym split) (rigid_entries (c.symbols ++ tuples) vs (length (c.symbols ++ tuples)) refl)))
-  goal_named (proposition kind.Axiom z y) o p q = tt
-  goal_named (proposition kind.Lemma z y) o p q = tt
+  goal_named (proposition_declaration kind.Axiom z y) o p q = tt
+  goal_named (proposition_declaration kind.Lemma z y) o p q = tt
   goal_named (abstract_type z vs) o p q = tt
   goal_named (alias z vs f) o p q = tt
   goal_named (algebraic ts) o p q = tt
-  goal_named (members ms) o p q = tt
+  goal_named (member_group ms) o p q = tt
   goal_named (inductive ds) o p q = tt
 
-  pub setting_kept : (d : source.Decl) → declaration d ≡ Some x → ((id : TermId) → Holds s id → WellSorted (tree_at s id)) → All (DeclHeld s) it.decls → HaveNoFault symbols (declarations_at s it.decls) → IsTypedOver s symbols names
+  pub setting_kept : (d : source.SyntaxDeclaration) → declaration d ≡ Some x → ((id : TermId) → Holds s id → WellSorted (tree_at s id)) → All (DeclHeld s) it.decls → HaveNoFault symbols (declarations_at s it.decls) → IsTypedOver s symbols names
   setting_kept d q sorted held passes =
       let may : MayNameRigid v x it.rigid = subst (MayNameRigid v x) (sym e.rigid) (goal_named x e.outcome e.is e.symbols_are) in
       let y = elaborated_valid v c stands s r d x g h names it q e sorted held passes news may in

@@ -10,12 +10,12 @@ use Rattle.tasks.specs.Vocabulary.{Vocabulary}
 use Rattle.tasks.specs.Valid.{IsTypeIn, IsValidDecl}
 use Rattle.names_space.specs.declared.Table.TheVariants.{Types}
 use Rattle.names_space.specs.declared.TypeName.TheVariants as stands
-use Rattle.elab_names.specs.Abstract.{Form}
+use Rattle.elab_names.specs.Abstract.{TypeExpression}
 use Rattle.elab_names.specs.Faults.{form_fault}
 use Rattle.elab_walk.specs.Pieces.{type_at}
 use Rattle.elab_parts.specs.Elaborated.{unseen}
 use Rattle.elab_parts.specs.Entries.{type_entry}
-use Rattle.elab_parts.specs.Declarations.{Called, words}
+use Rattle.elab_parts.specs.Declarations.{TokenName, words}
 use Rattle.elab_parts.specs.Outcomes.{Setting, Outcome, around, tuples_wanting, full_name}
 use Rattle.elab_parts.proofs.Alike.{form_alike}
 use Rattle.elab_terms.specs.Outcomes.{type_outcome, alias_seen, IsAlias}
@@ -42,7 +42,7 @@ last_there xs e = omega (arith, length-append xs (e ∷ []))
 
 -- ---- a type symbol
 module _ (base : Vocabulary) (c : Setting) (h : IsTypedSetting base c) (s : List Tree) (g : Grows c.trees s) where
-  pub type_valid : (x : Called) (n : ℕ) → NamesNew base (length c.symbols) (c.symbols ++ (type_outcome c x n).symbols) → IsValidOutcome base c s (type_outcome c x n)
+  pub type_valid : (x : TokenName) (n : ℕ) → NamesNew base (length c.symbols) (c.symbols ++ (type_outcome c x n).symbols) → IsValidOutcome base c s (type_outcome c x n)
   type_valid x n news =
       let e = type_entry c.theory (full_name c x) n in
       let k = length c.symbols in
@@ -58,7 +58,7 @@ module _ (base : Vocabulary) (c : Setting) (h : IsTypedSetting base c) (s : List
       }
 
   -- ---- an alias
-  pub alias_valid : (x : Called) (vs : List Called) (f : Form) (o : Outcome) → form_fault (around c (words vs)) false f ≡ None → IsAlias c s x vs f o → NamesNew base (length c.symbols) (c.symbols ++ o.symbols) → IsValidOutcome base c s o
+  pub alias_valid : (x : TokenName) (vs : List TokenName) (f : TypeExpression) (o : Outcome) → form_fault (around c (words vs)) false f ≡ None → IsAlias c s x vs f o → NamesNew base (length c.symbols) (c.symbols ++ o.symbols) → IsValidOutcome base c s o
   alias_valid x vs f o q a more_news =
       let seen = alias_seen f in
       let more = tuples_wanting c seen in
@@ -67,7 +67,7 @@ module _ (base : Vocabulary) (c : Setting) (h : IsTypedSetting base c) (s : List
       let news : NamesNew base (length c.symbols) (inside base c h seen) = rw a.symbols at more_news in
       let resolved : form_fault w false f ≡ None = sym (form_alike (around c (words vs)) w (same_names base c h seen (words vs)).forms false f) ∙ q in
       let t : IsTypeIn v (length (words vs)) (type_at w f) = form_in base c h seen news (words vs) f resolved (form_tuples base w f unseen (tuples base c h seen news (words vs))) in
-      let n : length (words vs) ≡ length vs = length-map vs (λ (i : Called). i.name) in
+      let n : length (words vs) ≡ length vs = length-map vs (λ (i : TokenName). i.name) in
       let type : IsTypeIn v (length vs) (tree_at s (record { 0 = a.type })) = rw (a.tree, sym n) t in
       let named : AreTypedScopes v s o.scope = rw a.scope (scopes_more (IsTypedThing v s) c.scope Types x.name (stands.Alias (length vs) a.type) true (record { held = a.held.held; type = type }) (scopes_extended base c.trees s g c.symbols more c.scope h.scopes)) in
       record {

@@ -6,7 +6,7 @@ use Rattle.std.specs.List.{AllByRecursion}
 use Rattle.std.proofs.lemmas.Slice.Eq.{bytes_eq-Decides}
 use mathlib.Core.List.{reverse-cons}
 use Rattle.syntax_why.specs.Lexeme.{Word}
-use Rattle.elab_names.specs.Abstract.{Pattern, Patterns, wild, bound, constructed, tupled, aliased, no_patterns, more_patterns, count_patterns}
+use Rattle.elab_names.specs.Abstract.{Pattern, Patterns, wildcard_pattern, variable_pattern, constructor_pattern, tuple_pattern, alias_pattern, no_patterns, more_patterns, count_patterns}
 use Rattle.elab_names.specs.declared.NamingFault.TheVariants.{Duplicate}
 use Rattle.elab_names.specs.Faults.{fault_if, pattern_names, patterns_names, constructor_fault, pattern_fault, patterns_fault, all_among}
 use Rattle.elab_names.specs.Where.{Where, place_of}
@@ -54,7 +54,7 @@ neither true b h = absurd (cc)
 neither false b h = (refl, h)
 
 -- ---- new names
--- each is new behind those that are seen and the earlier ones
+-- each is new after those that are seen and the earlier ones
 abbrev pub AreNew : List Word → List Word → Type 0
 AreNew seen [] = Unit {0}
 AreNew seen (x ∷ xs) = (is_in x seen ≡ false) × AreNew (seen ++ x ∷ []) xs
@@ -66,11 +66,11 @@ new_both seen (x ∷ xs) ys h k = (h.0, new_both (seen ++ x ∷ []) xs ys h.1 (s
 module _ (w : Where) where
   mutual
     pub pattern_new : (p : Pattern) (seen : List Word) → pattern_fault w seen p ≡ None → AreNew seen (pattern_names p)
-    pattern_new (wild i) seen h = tt
-    pattern_new (bound i x) seen h = (not_if (is_in x seen) (Duplicate i) h, tt)
-    pattern_new (constructed i qs x ps) seen h = patterns_new ps seen (none_both (constructor_fault w i (count_patterns ps) (w.names qs x)) (patterns_fault w seen ps) h).1
-    pattern_new (tupled i ps) seen h = patterns_new ps seen h
-    pattern_new (aliased p i x) seen h =
+    pattern_new (wildcard_pattern i) seen h = tt
+    pattern_new (variable_pattern i x) seen h = (not_if (is_in x seen) (Duplicate i) h, tt)
+    pattern_new (constructor_pattern i qs x ps) seen h = patterns_new ps seen (none_both (constructor_fault w i (count_patterns ps) (w.names qs x)) (patterns_fault w seen ps) h).1
+    pattern_new (tuple_pattern i ps) seen h = patterns_new ps seen h
+    pattern_new (alias_pattern p i x) seen h =
         let n = none_both (pattern_fault w seen p) (fault_if (is_in x (seen ++ pattern_names p)) (Duplicate i)) h in
         new_both seen (pattern_names p) (x ∷ []) (pattern_new p seen n.0) (not_if (is_in x (seen ++ pattern_names p)) (Duplicate i) n.1, tt)
 

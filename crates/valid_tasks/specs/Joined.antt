@@ -3,7 +3,7 @@ use Rattle.std.specs.Prelude.{ℕ, not, Bool, List, [], ◌++◌, All, IsTrue}
 use Rattle.std.specs.List.{list_any, filter, Contains}
 use Rattle.std.specs.Str.{bytes_eq}
 use Rattle.tasks.specs.Task.{SymbolTree, DeclarationTree}
-use Rattle.valid_tasks.specs.Scopes.{IsPart, IsTypedSignature}
+use Rattle.valid_tasks.specs.Scopes.{IsSubvocabulary, IsTypedSignature}
 use Rattle.valid_tasks.specs.Lists.{after}
 use Rattle.valid_tasks.specs.Tasks.{AreSound}
 
@@ -22,6 +22,6 @@ Agree ds es = All (λ (e : DeclarationTree). IsTrue (has_theory ds e.theory) →
 -- a theory's declarations over a signature are joined to others over a later one
 pub record AreJoined (earlier symbols : List SymbolTree) (ds es : List DeclarationTree) : Type 0 where
   pub sound : AreSound symbols (ds ++ fresh ds es)
-  pub first : IsPart (after symbols [] ds) (after symbols [] (ds ++ fresh ds es))
-  pub second : IsPart (after earlier [] es) (after symbols [] (ds ++ fresh ds es))
+  pub first : IsSubvocabulary (after symbols [] ds) (after symbols [] (ds ++ fresh ds es))
+  pub second : IsSubvocabulary (after earlier [] es) (after symbols [] (ds ++ fresh ds es))
   pub typed : IsTypedSignature (after symbols [] ds) symbols → IsTypedSignature (after earlier [] es) earlier → IsTypedSignature (after symbols [] (ds ++ fresh ds es)) symbols

@@ -1,4 +1,4 @@
--- Declarations in the order in which they stand: what may be named after them, and when each is valid where it stands.
+-- Declarations in the order in which they stand: what may be named after them, and when each is valid where it is.
 use Rattle.std.specs.Prelude.{◌≡◌, ℕ, ◌<◌, ◌==◌, not, ◌&&◌, ◌||◌, Bool, List, [], ◌∷◌, ◌++◌, length, slice_get, All, Some, None}
 use Rattle.std.specs.List.{list_any}
 use Rattle.std.specs.Option.{is_some}
@@ -9,9 +9,9 @@ use Rattle.tasks.specs.Roles.{is_constructor, maker, role_by}
 use Rattle.tasks.specs.Rigid.{rigid_symbol}
 use Rattle.tasks.specs.Vocabulary.{Vocabulary, passes, is_constructor_kind}
 use Rattle.tasks.specs.Valid.{IsValidDecl}
-use Rattle.names_space.specs.Names.{Names}
+use Rattle.names_space.specs.Names.{ScopeNames}
 use Rattle.syntax_why.specs.declared.declarations.PropKind.TheVariants.{Goal}
-use Rattle.syntax_why.specs.Declarations.{Decl, function_decl, predicate_decl, prop_decl}
+use Rattle.syntax_why.specs.Declarations.{SyntaxDeclaration, function_decl, predicate_decl, prop_decl}
 use Rattle.elab_parts.specs.Entries.{builtin}
 use Rattle.valid_tasks.specs.Scopes.{is_projection_kind, IsTypedSignature, AreTypedScopes}
 
@@ -28,28 +28,28 @@ after symbols rigid ds = record {
   matched = λ k. passes (λ e. is_built e && is_constructor_kind e.kind) (slice_get symbols k) || is_constructor (role_by k (maker ds k));
 }
 
--- each declaration after others is valid where it stands: over what it makes itself and what those before it make
+-- each declaration after others is valid where it is: over what it makes itself and what those before it make
 abbrev pub AreValidAfter : List SymbolTree → List DeclarationTree → List DeclarationTree → Type 0
 AreValidAfter symbols before [] = Unit {0}
 AreValidAfter symbols before (d ∷ ds) = IsValidDecl (after symbols [] (before ++ d ∷ [])) d × AreValidAfter symbols (before ++ d ∷ []) ds
 
 -- a declaration that is no goal
-abbrev pub IsNoGoal : Decl → Type 0
+abbrev pub IsNoGoal : SyntaxDeclaration → Type 0
 IsNoGoal (prop_decl a Goal c e) = ⊥
 IsNoGoal _ = Unit {0}
 
--- what declarations make stands in a signature
+-- what declarations make is in a signature
 abbrev pub MakesBelow : ℕ → List DeclarationTree → Type 0
 MakesBelow n ds = All (λ (k : ℕ). k < n) (made ds)
 
 -- where the first of a group of functions or predicates has no definition, there is no other
-abbrev pub IsGroupWhole : Decl → Type 0
+abbrev pub IsGroupWhole : SyntaxDeclaration → Type 0
 IsGroupWhole (function_decl a c ps f None ms) = ms ≡ []
 IsGroupWhole (predicate_decl a c ps None ms) = ms ≡ []
 IsGroupWhole _ = Unit {0}
 
--- one more declaration stands after others, over a store
-pub record IsNextDeclaration (s : List Tree) (symbols : List SymbolTree) (names : Names) (ds new : List DeclarationTree) : Type 0 where
+-- one more declaration is after others, over a store
+pub record IsNextDeclaration (s : List Tree) (symbols : List SymbolTree) (names : ScopeNames) (ds new : List DeclarationTree) : Type 0 where
   pub signature : IsTypedSignature (after symbols [] (ds ++ new)) symbols
   pub scopes : AreTypedScopes (after symbols [] (ds ++ new)) s names
   pub valid : AreValidAfter symbols ds new
@@ -60,8 +60,8 @@ pub record IsRigidAt (symbols : List SymbolTree) (k : ℕ) : Type 0 where
   pub name : List ℕ
   pub entry : slice_get symbols k ≡ Some (rigid_symbol name)
 
--- a goal stands after declarations, over a store: it makes nothing, and its type variables may be named in it alone
-pub record IsNextGoal (s : List Tree) (symbols : List SymbolTree) (names : Names) (ds : List DeclarationTree) (own : List ℕ) (said : List DeclarationTree) : Type 0 where
+-- a goal is after declarations, over a store: it makes nothing, and its type variables may be named in it alone
+pub record IsNextGoal (s : List Tree) (symbols : List SymbolTree) (names : ScopeNames) (ds : List DeclarationTree) (own : List ℕ) (said : List DeclarationTree) : Type 0 where
   pub signature : IsTypedSignature (after symbols [] ds) symbols
   pub scopes : AreTypedScopes (after symbols [] ds) s names
   pub valid : All (IsValidDecl (after symbols own ds)) said

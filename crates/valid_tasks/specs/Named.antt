@@ -1,7 +1,7 @@
 -- What a declaration names: where a vocabulary may name all of it.
 use Rattle.std.specs.Prelude.{ℕ, List, All, IfSome, IsTrue}
 use Rattle.trees.specs.Tree.{Tree, Leaf, One, Two, Three, Head, HTyRigid, HTyApp, HPred, HFun, HPatCon}
-use Rattle.tasks.specs.Task.{SymbolTree, symbol_or, DefinitionTree, InductiveTree, ConTree, AlgebraicTree, BodyTree, MakesType, Makes, Defines, Induces, Constructs, Says, DeclarationTree}
+use Rattle.tasks.specs.Task.{SymbolTree, symbol_or, DefinitionTree, InductiveTree, ConstructorTree, AlgebraicTree, BodyTree, MakesType, Makes, Defines, Induces, Constructs, Says, DeclarationTree}
 use Rattle.tasks.specs.Vocabulary.{Vocabulary}
 
 abbrev pub LeafNames : Vocabulary → Head → Type 0
@@ -21,7 +21,7 @@ ThreeNames v (HFun k) = IsTrue (v.usable k)
 ThreeNames v (HPatCon k) = IsTrue (v.matched k)
 ThreeNames v _ = Unit {0}
 
--- all that stands in a tree may be named
+-- all that is in a tree may be named
 abbrev pub TreeNames : Vocabulary → Tree → Type 0
 TreeNames v (Leaf h) = LeafNames v h
 TreeNames v (One h a) = OneNames v h × TreeNames v a
@@ -44,7 +44,7 @@ pub record InductiveNames (v : Vocabulary) (symbols : List SymbolTree) (i : Indu
   pub signature : NumberNames v symbols i.symbol
   pub clauses : All (TreeNames v) i.clauses
 
-pub record ConNames (v : Vocabulary) (symbols : List SymbolTree) (c : ConTree) : Type 0 where
+pub record ConNames (v : Vocabulary) (symbols : List SymbolTree) (c : ConstructorTree) : Type 0 where
   pub signature : NumberNames v symbols c.symbol
   pub projections : All (NumberNames v symbols) c.projections
 

@@ -1,4 +1,4 @@
--- Names of type variables as they stand in a source.
+-- Names of type variables as they are in a source.
 use Rattle.tasks.specs.Valid.{IsQuoted}
 use Rattle.tokens_why.specs.declared.terminal.Terminal.{Terminal}
 use Rattle.tokens_why.specs.declared.terminal.Terminal.TheVariants as t

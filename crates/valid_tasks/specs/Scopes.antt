@@ -9,7 +9,7 @@ use Rattle.tasks.specs.Task.{SymbolTree, int_symbol, symbol_or}
 use Rattle.tasks.specs.Vocabulary.{Vocabulary, is_empty}
 use Rattle.tasks.specs.Typing.{entry, MakesTerms}
 use Rattle.tasks.specs.Valid.{IsTypeIn, HasTypes}
-use Rattle.names_space.specs.Names.{Names, Entry, number_of}
+use Rattle.names_space.specs.Names.{ScopeNames, ScopeEntry, number_of}
 use Rattle.names_space.specs.declared.Table.{Table}
 use Rattle.names_space.specs.declared.Table.TheVariants.{Types, Symbols}
 use Rattle.names_space.specs.declared.TypeName.{TypeName}
@@ -39,12 +39,12 @@ is_projection_kind Projection = true
 is_projection_kind _ = false
 
 -- what a source may name: an entry with a theory, but for the projections of tuples
-abbrev pub may_stand : SymbolTree → Bool
-may_stand e = not (is_empty e.theory) && not (is_projection_kind e.kind && bytes_eq e.theory builtin)
+abbrev pub is_nameable : SymbolTree → Bool
+is_nameable e = not (is_empty e.theory) && not (is_projection_kind e.kind && bytes_eq e.theory builtin)
 
 -- it may be named, in a pattern if it is a constructor
 pub record IsNamedBy (base : Vocabulary) (k : ℕ) (e : SymbolTree) : Type 0 where
-  pub usable : IsTrue (may_stand e) → IsTrue (base.usable k)
+  pub usable : IsTrue (is_nameable e) → IsTrue (base.usable k)
   pub matched : e.kind ≡ Constructor → IsTrue (base.matched k)
   pub pattern : IsTrue (base.matched k) → IsTrue (base.usable k)
 
@@ -53,7 +53,7 @@ abbrev pub NamesNew : Vocabulary → ℕ → List SymbolTree → Type 0
 NamesNew base n symbols = (k : ℕ) (e : SymbolTree) → n ≤ k → slice_get symbols k ≡ Some e → IsNamedBy base k e
 
 -- it has the other's entries, and may name what the other may name of them
-pub record IsPart (v w : Vocabulary) : Type 0 where
+pub record IsSubvocabulary (v w : Vocabulary) : Type 0 where
   pub entries : (k : ℕ) (e : SymbolTree) → entry v k ≡ Some e → entry w k ≡ Some e
   pub rigid : (k : ℕ) (e : SymbolTree) → entry v k ≡ Some e → IsTrue (v.rigid k) → IsTrue (w.rigid k)
   pub usable : (k : ℕ) (e : SymbolTree) → entry v k ≡ Some e → IsTrue (v.usable k) → IsTrue (w.usable k)
@@ -93,5 +93,5 @@ IsTypedThing v s Types thing = IsTypeName v s thing
 IsTypedThing v s Symbols thing = IsSymbolNumber v (number_of thing)
 IsTypedThing v s _ thing = Unit {0}
 
-abbrev pub AreTypedScopes : Vocabulary → List Tree → Names → Type 0
-AreTypedScopes v s names = All (λ (es : List Entry). All (λ (e : Entry). IsTypedThing v s e.table e.thing) es) names.entries
+abbrev pub AreTypedScopes : Vocabulary → List Tree → ScopeNames → Type 0
+AreTypedScopes v s names = All (λ (es : List ScopeEntry). All (λ (e : ScopeEntry). IsTypedThing v s e.table e.thing) es) names.entries

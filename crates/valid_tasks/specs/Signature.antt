@@ -6,7 +6,7 @@ use Rattle.tasks.specs.Task.{SymbolTree, int_symbol, symbol_or}
 use Rattle.tasks.specs.Vocabulary.{Vocabulary}
 use Rattle.tasks.specs.Typing.{MakesTerms}
 use Rattle.tasks.specs.Valid.{IsTypeIn, IsTypeEntry, IsSignatureOf}
-use Rattle.elab_names.specs.Abstract.{Form, Forms, variable, composed, product, no_forms, more_forms, Pattern, Patterns, wild, bound, constructed, tupled, aliased, no_patterns, more_patterns, Alternatives, no_alternatives, more_alternatives, Binder, Expression, Expressions, Branches, apply, infixed, literal, truth, falsity, tuple, cast, negation, joined, equated, choice, binding, cases, quantified, none, more, no_branches, more_branches, count_forms, count_patterns, count}
+use Rattle.elab_names.specs.Abstract.{TypeExpression, TypeExpressions, variable_type, composed_type, product_type, no_types, more_types, Pattern, Patterns, wildcard_pattern, variable_pattern, constructor_pattern, tuple_pattern, alias_pattern, no_patterns, more_patterns, Alternatives, no_alternatives, more_alternatives, BoundNames, Expression, Expressions, MatchBranches, applied_expression, infix_expression, integer_expression, true_expression, false_expression, tuple_expression, cast_expression, not_expression, connected_expression, equality_expression, if_expression, let_expression, match_expression, quantified_expression, no_expressions, more_expressions, no_branches, more_branches, count_forms, count_patterns, count_expressions}
 use Rattle.elab_names.specs.Where.{Where, MeaningTree, Stands, Abbreviates}
 
 -- what may be named stays, over these entries
@@ -43,28 +43,28 @@ pub record IsWellFormed (base : Vocabulary) (w : Where) : Type 0 where
 abbrev pub HasTuple : Vocabulary → Where → ℕ → Type 0
 HasTuple base w n = IsSomeAnd (w.tuples n) (IsTuple (with_entries base w.symbols) n)
 
--- ---- each tuple that stands in it has a constructor of its width
+-- ---- each tuple that is in it has a constructor of its width
 abbrev mutual
-  pub FormTuples : Vocabulary → Where → Form → Type 0
-  FormTuples base w (variable i x) = Unit {0}
-  FormTuples base w (composed i qs x fs) = FormsTuples base w fs
-  FormTuples base w (product i fs) = HasTuple base w (count_forms fs) × FormsTuples base w fs
+  pub FormTuples : Vocabulary → Where → TypeExpression → Type 0
+  FormTuples base w (variable_type i x) = Unit {0}
+  FormTuples base w (composed_type i qs x fs) = FormsTuples base w fs
+  FormTuples base w (product_type i fs) = HasTuple base w (count_forms fs) × FormsTuples base w fs
 
-  pub FormsTuples : Vocabulary → Where → Forms → Type 0
-  FormsTuples base w no_forms = Unit {0}
-  FormsTuples base w (more_forms f fs) = FormTuples base w f × FormsTuples base w fs
+  pub FormsTuples : Vocabulary → Where → TypeExpressions → Type 0
+  FormsTuples base w no_types = Unit {0}
+  FormsTuples base w (more_types f fs) = FormTuples base w f × FormsTuples base w fs
 
-abbrev pub BindersTuples : Vocabulary → Where → List Binder → Type 0
+abbrev pub BindersTuples : Vocabulary → Where → List BoundNames → Type 0
 BindersTuples base w [] = Unit {0}
 BindersTuples base w (b ∷ bs) = IfSome b.of_type (FormTuples base w) × BindersTuples base w bs
 
 abbrev mutual
   pub PatternTuples : Vocabulary → Where → Pattern → Type 0
-  PatternTuples base w (wild i) = Unit {0}
-  PatternTuples base w (bound i x) = Unit {0}
-  PatternTuples base w (constructed i qs x ps) = PatternsTuples base w ps
-  PatternTuples base w (tupled i ps) = HasTuple base w (count_patterns ps) × PatternsTuples base w ps
-  PatternTuples base w (aliased p i x) = PatternTuples base w p
+  PatternTuples base w (wildcard_pattern i) = Unit {0}
+  PatternTuples base w (variable_pattern i x) = Unit {0}
+  PatternTuples base w (constructor_pattern i qs x ps) = PatternsTuples base w ps
+  PatternTuples base w (tuple_pattern i ps) = HasTuple base w (count_patterns ps) × PatternsTuples base w ps
+  PatternTuples base w (alias_pattern p i x) = PatternTuples base w p
 
   pub PatternsTuples : Vocabulary → Where → Patterns → Type 0
   PatternsTuples base w no_patterns = Unit {0}
@@ -76,25 +76,25 @@ AlternativesTuples base w (more_alternatives i p ps) = PatternTuples base w p ×
 
 abbrev mutual
   pub HasTuples : Vocabulary → Where → Expression → Type 0
-  HasTuples base w (apply i qs x es) = HaveTuples base w es
-  HasTuples base w (infixed i x a b) = HasTuples base w a × HasTuples base w b
-  HasTuples base w (literal i z) = Unit {0}
-  HasTuples base w (truth i) = Unit {0}
-  HasTuples base w (falsity i) = Unit {0}
-  HasTuples base w (tuple i es) = HasTuple base w (count es) × HaveTuples base w es
-  HasTuples base w (cast i e f) = HasTuples base w e × FormTuples base w f
-  HasTuples base w (negation i e) = HasTuples base w e
-  HasTuples base w (joined i a o b) = HasTuples base w a × HasTuples base w b
-  HasTuples base w (equated i same a b) = HasTuples base w a × HasTuples base w b
-  HasTuples base w (choice i c a b) = HasTuples base w c × HasTuples base w a × HasTuples base w b
-  HasTuples base w (binding i x a b) = HasTuples base w a × HasTuples base w b
-  HasTuples base w (cases i e bs) = HasTuples base w e × BranchesTuples base w bs
-  HasTuples base w (quantified i all bs gs b) = BindersTuples base w bs × HaveTuples base w gs × HasTuples base w b
+  HasTuples base w (applied_expression i qs x es) = HaveTuples base w es
+  HasTuples base w (infix_expression i x a b) = HasTuples base w a × HasTuples base w b
+  HasTuples base w (integer_expression i z) = Unit {0}
+  HasTuples base w (true_expression i) = Unit {0}
+  HasTuples base w (false_expression i) = Unit {0}
+  HasTuples base w (tuple_expression i es) = HasTuple base w (count_expressions es) × HaveTuples base w es
+  HasTuples base w (cast_expression i e f) = HasTuples base w e × FormTuples base w f
+  HasTuples base w (not_expression i e) = HasTuples base w e
+  HasTuples base w (connected_expression i a o b) = HasTuples base w a × HasTuples base w b
+  HasTuples base w (equality_expression i same a b) = HasTuples base w a × HasTuples base w b
+  HasTuples base w (if_expression i c a b) = HasTuples base w c × HasTuples base w a × HasTuples base w b
+  HasTuples base w (let_expression i x a b) = HasTuples base w a × HasTuples base w b
+  HasTuples base w (match_expression i e bs) = HasTuples base w e × BranchesTuples base w bs
+  HasTuples base w (quantified_expression i all bs gs b) = BindersTuples base w bs × HaveTuples base w gs × HasTuples base w b
 
   pub HaveTuples : Vocabulary → Where → Expressions → Type 0
-  HaveTuples base w none = Unit {0}
-  HaveTuples base w (more e es) = HasTuples base w e × HaveTuples base w es
+  HaveTuples base w no_expressions = Unit {0}
+  HaveTuples base w (more_expressions e es) = HasTuples base w e × HaveTuples base w es
 
-  pub BranchesTuples : Vocabulary → Where → Branches → Type 0
+  pub BranchesTuples : Vocabulary → Where → MatchBranches → Type 0
   BranchesTuples base w no_branches = Unit {0}
   BranchesTuples base w (more_branches ps b bs) = AlternativesTuples base w ps × HasTuples base w b × BranchesTuples base w bs

@@ -4,7 +4,7 @@ use Rattle.trees.specs.Tree.{Tree}
 use Rattle.tasks.specs.Task.{SymbolTree}
 use Rattle.tasks.specs.Vocabulary.{of_signature}
 use Rattle.match_cover.specs.Shapes.{IsPattern, HaveOneType}
-use Rattle.names_space.specs.Names.{Names}
+use Rattle.names_space.specs.Names.{ScopeNames}
 use Rattle.valid_tasks.specs.Scopes.{IsTypedSignature, AreTypedScopes}
 
 -- a match, by its token: its patterns are well typed, and of one type
@@ -13,6 +13,6 @@ pub record IsFitMatch (symbols : List SymbolTree) (m : ℕ × List Tree) : Type 
   pub one_type : HaveOneType m.1
 
 -- the signature and scopes are typed, over a store
-pub record IsTypedOver (s : List Tree) (symbols : List SymbolTree) (names : Names) : Type 0 where
+pub record IsTypedOver (s : List Tree) (symbols : List SymbolTree) (names : ScopeNames) : Type 0 where
   pub signature : IsTypedSignature (of_signature symbols) symbols
   pub scopes : AreTypedScopes (of_signature symbols) s names

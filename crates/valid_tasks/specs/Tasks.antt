@@ -1,4 +1,4 @@
--- What stands before a goal, and the goal, so that its task is valid.
+-- What is before a goal, and the goal, so that its task is valid.
 use Rattle.std.specs.Prelude.{◌≡◌, ◌≢◌, ℕ, false, List, [], ◌∷◌, map, All, AllPairs, slice_get, Some}
 use Rattle.std.specs.Str.{bytes_eq}
 use Rattle.trees.specs.Tree.{Tree}
@@ -16,7 +16,7 @@ use Rattle.goal_tasks.specs.Theories.{GoalTree}
 use Rattle.valid_tasks.specs.Built.{IsBuiltRight}
 
 -- an entry of a theory of a source or of a library
-pub record IsOwn (symbols : List SymbolTree) (k : ℕ) : Type 0 where
+pub record IsOwnSymbol (symbols : List SymbolTree) (k : ℕ) : Type 0 where
   pub stands : is_empty (symbol_or symbols k).theory ≡ false
   pub other : bytes_eq (symbol_or symbols k).theory builtin ≡ false
 
@@ -24,12 +24,12 @@ pub record IsOwn (symbols : List SymbolTree) (k : ℕ) : Type 0 where
 abbrev pub IsOfTheory : List SymbolTree → DeclarationTree → Type 0
 IsOfTheory symbols d = All (λ (k : ℕ). (symbol_or symbols k).theory ≡ d.theory) (made_by d.body)
 
--- declarations are valid where they stand; no symbol is made twice, and none that is built in
+-- declarations are valid where they are; no symbol is made twice, and none that is built in
 pub record AreSound (symbols : List SymbolTree) (ds : List DeclarationTree) : Type 0 where
   pub built : IsBuiltRight symbols
   pub valid : AreValidAfter symbols [] ds
   pub once : AllPairs (λ j k. j ≢ k) (made ds)
-  pub own : All (IsOwn symbols) (made ds)
+  pub own : All (IsOwnSymbol symbols) (made ds)
   pub theories : All (IsOfTheory symbols) ds
 
 -- the entry of a type variable of a goal, whose name has a quote
@@ -56,7 +56,7 @@ pub record IsGoalSaid (said : List DeclarationTree) (own : List ℕ) (g : GoalTr
   pub prop : g.prop ≡ inst_types formula (rigid_types own)
   pub rigid : g.rigid ≡ own
 
--- a goal stands after sound declarations, and is well formed
+-- a goal is after sound declarations, and is well formed
 pub record IsSoundAfter (symbols : List SymbolTree) (ds : List DeclarationTree) (g : GoalTree) : Type 0 where
   pub before : AreSound symbols ds
   pub goal : IsSoundGoal symbols ds g

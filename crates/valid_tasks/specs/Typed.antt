@@ -17,9 +17,9 @@ use Rattle.elab_walk.specs.Pieces.{names}
 use Rattle.valid_tasks.specs.Signature.{IsWellFormed, HasTuples}
 
 -- a formula is due, or a term of a type
-abbrev pub due : Option Tree → Sort
-due None = Formula
-due (Some t) = Term
+abbrev pub due_sort : Option Tree → Sort
+due_sort None = Formula
+due_sort (Some t) = Term
 
 -- a type over the signature, at whatever type variables
 pub record IsTypeOf (v : Vocabulary) (t : Tree) : Type 0 where
@@ -29,26 +29,26 @@ pub record IsTypeOf (v : Vocabulary) (t : Tree) : Type 0 where
 -- a term of this type, or a formula, under variables of these types
 pub record IsTypedAs (v : Vocabulary) (types : List Tree) (t : Option Tree) (e : Tree) : Type 0 where
   pub typed : TypedUnder v types e
-  pub sort : sort_of e ≡ due t
+  pub sort : sort_of e ≡ due_sort t
   pub type : type_of e ≡ t
   pub parameters : ParametersOf [] e
 
 -- an expression whose names are there, under these variables, where a term of a type or a formula is due
-pub record IsNamed (base : Vocabulary) (w : Where) (ls : List LocalTree) (t : Option Tree) (e : Expression) : Type 0 where
+pub record IsNamedExpression (base : Vocabulary) (w : Where) (ls : List LocalTree) (t : Option Tree) (e : Expression) : Type 0 where
   pub signature : IsWellFormed base w
   pub tuples : HasTuples base w e
   pub named : fault w false (names ls) (is_none t) e ≡ None
 
 -- the types of variables
-abbrev pub types_of : List LocalTree → List Tree
-types_of ls = map (λ (l : LocalTree). l.type) ls
+abbrev pub local_types : List LocalTree → List Tree
+local_types ls = map (λ (l : LocalTree). l.type) ls
 
 -- at assigned unknowns
-abbrev pub types_at : ℕ → (ℕ → Tree) → List LocalTree → List Tree
-types_at rigid f ls = map (λ (l : LocalTree). assign rigid f l.type) ls
+abbrev pub assigned_types : ℕ → (ℕ → Tree) → List LocalTree → List Tree
+assigned_types rigid f ls = map (λ (l : LocalTree). assign rigid f l.type) ls
 
 -- variables and a wanted type of types over the signature
-pub record AreTypes (v : Vocabulary) (ls : List LocalTree) (t : Option Tree) : Type 0 where
+pub record AreTypedLocals (v : Vocabulary) (ls : List LocalTree) (t : Option Tree) : Type 0 where
   pub variables : All (λ (l : LocalTree). IsTypeOf v l.type) ls
   pub wanted : IfSome t (IsTypeOf v)
 

@@ -9,11 +9,11 @@ use Rattle.tasks.specs.Meaning.{symbols_at, declarations_at}
 use Rattle.tasks.specs.declared.signature.Signature.{Signature}
 use Rattle.tasks.specs.Vocabulary.{Vocabulary, is_empty}
 use Rattle.tasks.specs.Valid.{IsSignatureOf, IsValidDecl}
-use Rattle.names_space.specs.Names.{Names}
+use Rattle.names_space.specs.Names.{ScopeNames}
 use Rattle.elab_parts.specs.declared.made.Elaborated.{Elaborated}
 use Rattle.elab_parts.specs.Entries.{builtin}
 use Rattle.syntax_why.specs.declared.declarations.PropKind.TheVariants.{Goal}
-use Rattle.elab_parts.specs.Declarations.{Declaration, proposition}
+use Rattle.elab_parts.specs.Declarations.{Declaration, proposition_declaration}
 use Rattle.elab_parts.specs.Outcomes.{Setting, Outcome}
 use Rattle.decl_checks.specs.Checks.{HasNoFault}
 use Rattle.valid_tasks.specs.Signature.{with_entries}
@@ -53,7 +53,7 @@ pub record IsTypedOutcome (base : Vocabulary) (c : Setting) (s : List Tree) (o :
 
 -- the type variables of a goal may be named
 abbrev pub MayNameRigid : Vocabulary → Declaration → List ℕ → Type 0
-MayNameRigid base (proposition Goal x e) ks = All (λ (k : ℕ). IsTrue (base.rigid k)) ks
+MayNameRigid base (proposition_declaration Goal x e) ks = All (λ (k : ℕ). IsTrue (base.rigid k)) ks
 MayNameRigid base _ ks = Unit {0}
 
 -- over a store
@@ -74,7 +74,7 @@ abbrev pub definition_by : Vocabulary → ℕ → Tree → DefinitionTree
 definition_by v k inner = record { symbol = k; equation = for_all (symbol_or v.symbols k).args inner }
 
 -- what is elaborated is valid over the signature afterwards
-pub record IsValidElaborated (base : Vocabulary) (s : List Tree) (g : Signature) (names : Names) (made : Elaborated) : Type 0 where
+pub record IsValidElaborated (base : Vocabulary) (s : List Tree) (g : Signature) (names : ScopeNames) (made : Elaborated) : Type 0 where
   pub signature : IsTypedSignature base (symbols_at s g.symbols)
   pub scopes : AreTypedScopes (with_entries base (symbols_at s g.symbols)) s names
   pub decls : All (IsValidDecl (with_entries base (symbols_at s g.symbols))) (declarations_at s made.decls)

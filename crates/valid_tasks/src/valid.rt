@@ -9,25 +9,25 @@ ghost use Rattle.tasks.specs.Meaning.{symbols_at, declarations_at, DeclHeld};
 ghost use Rattle.tasks.specs.declared.signature.Signature.{Signature};
 ghost use Rattle.tasks.specs.Valid.{IsDefinition, IsValidDecl};
 ghost use Rattle.tasks.specs.Vocabulary.{Vocabulary, is_empty};
-ghost use Rattle.names_space.specs.Names.{Names, start};
-ghost use Rattle.syntax_why.specs.Declarations.{Decl};
+ghost use Rattle.names_space.specs.Names.{ScopeNames, empty_names};
+ghost use Rattle.syntax_why.specs.Declarations.{SyntaxDeclaration};
 ghost use Rattle.syntax_why.specs.declared.declarations.PropKind.{PropKind};
 ghost use Rattle.syntax_why.specs.declared.declarations.PropKind.TheVariants.{Goal};
-ghost use Rattle.elab_names.specs.Abstract.{Form, Expression};
+ghost use Rattle.elab_names.specs.Abstract.{TypeExpression, Expression};
 ghost use Rattle.elab_names.specs.Faults.{fault, form_fault};
 ghost use Rattle.elab_walk.specs.Drafts.{match_at};
 ghost use Rattle.elab_parts.specs.declared.made.Elaborated.{Elaborated};
-ghost use Rattle.elab_parts.specs.Declarations.{Declaration, proposition, declaration, Called, Member, Algebraic, Inductive, words, types_fault};
+ghost use Rattle.elab_parts.specs.Declarations.{Declaration, proposition_declaration, declaration, TokenName, GroupMember, AlgebraicType, InductivePredicate, words, types_fault};
 ghost use Rattle.std.specs.Str.{bytes_eq};
 ghost use Rattle.elab_parts.specs.Entries.{builtin};
 ghost use Rattle.elab_parts.specs.Outcomes.{Setting, Outcome, around};
-ghost use Rattle.elab_groups.specs.Bodies.{IsWhole};
+ghost use Rattle.elab_groups.specs.Bodies.{AllHaveBodies};
 ghost use Rattle.elab_groups.specs.Groups.{group_used, IsGroup};
-ghost use Rattle.elab_types.specs.Algebraics.{inside, group_outcome};
+ghost use Rattle.elab_types.specs.Algebraics.{inside_types, group_outcome};
 ghost use Rattle.elab_inductives.specs.Inductives.{inductives_used, IsInductiveGroup};
 ghost use Rattle.elab_terms.specs.Outcomes.{type_outcome, IsAlias, IsProposition, IsElaborated};
 ghost use Rattle.valid_tasks.specs.Signature.{with_entries};
-ghost use Rattle.valid_tasks.specs.Scopes.{NamesNew, IsPart, AgreeBelow};
+ghost use Rattle.valid_tasks.specs.Scopes.{NamesNew, IsSubvocabulary, AgreeBelow};
 ghost use Rattle.valid_tasks.specs.Typed.{ArePatterns};
 ghost use Rattle.valid_tasks.specs.Lists.{after, AreValidAfter, MakesBelow, IsGroupWhole, IsNoGoal, IsNextDeclaration, IsNextGoal};
 ghost use Rattle.valid_tasks.specs.Named.{DeclNames};
@@ -39,26 +39,28 @@ ghost use Rattle.valid_tasks.specs.Valid.{IsTypedSetting, MayName, MayNameRigid,
 /// axiom, lemma or goal give declarations that are valid over it with their entries; signature and
 /// scopes are typed again, over a store that grew.
 pub fn makes_valid()
-    ensures types { (v : Vocabulary) (c : Setting) (s : List Tree) (x : Called) (n : ℕ)
+    ensures types { (v : Vocabulary) (c : Setting) (s : List Tree) (x : TokenName) (n : ℕ)
         → IsTypedSetting v c → Grows c.trees s → MayName v c (type_outcome c x n)
         → IsValidOutcome v c s (type_outcome c x n) }
-    ensures aliases { (v : Vocabulary) (c : Setting) (s : List Tree) (x : Called)
-        (vs : List Called) (f : Form) (o : Outcome) → IsTypedSetting v c → Grows c.trees s
+    ensures aliases { (v : Vocabulary) (c : Setting) (s : List Tree) (x : TokenName)
+        (vs : List TokenName) (f : TypeExpression) (o : Outcome) → IsTypedSetting v c
+        → Grows c.trees s
         → form_fault (around c (words vs)) false f ≡ None → IsAlias c s x vs f o
         → MayName v c o → IsValidOutcome v c s o }
-    ensures members { (v : Vocabulary) (c : Setting) (s : List Tree) (ms : List Member)
+    ensures members { (v : Vocabulary) (c : Setting) (s : List Tree) (ms : List GroupMember)
         (o : Outcome) → IsTypedSetting v c → Grows c.trees s → group_used c ms ≡ None
-        → IsWhole ms → IsGroup c ms o → DeclsFit o.decls → MayName v c o
+        → AllHaveBodies ms → IsGroup c ms o → DeclsFit o.decls → MayName v c o
         → IsValidOutcome v c s o }
     ensures propositions { (v : Vocabulary) (c : Setting) (s : List Tree) (k : PropKind)
-        (x : Called) (e : Expression) (o : Outcome) → IsTypedSetting v c → Grows c.trees s
+        (x : TokenName) (e : Expression) (o : Outcome) → IsTypedSetting v c → Grows c.trees s
         → fault (around c []) true [] true e ≡ None → IsProposition c k x e o
-        → DeclsFit o.decls → MayName v c o → MayNameRigid v (proposition k x e) o.rigid
+        → DeclsFit o.decls → MayName v c o → MayNameRigid v (proposition_declaration k x e) o.rigid
         → IsValidOutcome v c s o }
-    ensures algebraics { (v : Vocabulary) (c : Setting) (s : List Tree) (ts : List Algebraic)
-        → IsTypedSetting v c → Grows c.trees s → types_fault (inside c ts) ts ≡ None
+    ensures algebraics { (v : Vocabulary) (c : Setting) (s : List Tree) (ts : List AlgebraicType)
+        → IsTypedSetting v c → Grows c.trees s → types_fault (inside_types c ts) ts ≡ None
         → MayName v c (group_outcome c ts) → IsValidOutcome v c s (group_outcome c ts) }
-    ensures inductives { (v : Vocabulary) (c : Setting) (s : List Tree) (ds : List Inductive)
+    ensures inductives { (v : Vocabulary) (c : Setting) (s : List Tree)
+        (ds : List InductivePredicate)
         (o : Outcome) → IsTypedSetting v c → Grows c.trees s → inductives_used c ds ≡ None
         → IsInductiveGroup c ds o → DeclsFit o.decls
         → HaveNoFault (c.symbols ++ o.symbols) o.decls → MayName v c o
@@ -70,8 +72,9 @@ pub fn makes_valid()
 /// that may name what is made, where the checks of declarations find no fault; that signature and
 /// the scopes are typed again.
 pub fn elaborates_valid()
-    ensures { (v : Vocabulary) (c : Setting) (d : Decl) (x : Declaration) (g : Signature)
-        (s : List Tree) (h : Signature) (names : Names) (made : Elaborated)
+    ensures { (v : Vocabulary) (c : Setting) (d : SyntaxDeclaration) (x : Declaration)
+        (g : Signature)
+        (s : List Tree) (h : Signature) (names : ScopeNames) (made : Elaborated)
         → IsTypedSetting v c → Grows c.trees s → declaration d ≡ Some x
         → IsElaborated c x g s h names made
         → ((id : TermId) → Holds s id → WellSorted (tree_at s id))
@@ -86,7 +89,7 @@ pub fn elaborates_valid()
 /// what is made, and of one type.
 pub fn elaborates_patterns()
     ensures { (v : Vocabulary) (c : Setting) (x : Declaration) (g : Signature) (s : List Tree)
-        (h : Signature) (names : Names) (made : Elaborated) → IsTypedSetting v c
+        (h : Signature) (names : ScopeNames) (made : Elaborated) → IsTypedSetting v c
         → Grows c.trees s → IsElaborated c x g s h names made
         → NamesNew v (length c.symbols) (symbols_at s h.symbols)
         → All (λ (m : ℕ × List Tree). ArePatterns (with_entries v (symbols_at s h.symbols)) m.1)
@@ -97,7 +100,7 @@ pub fn elaborates_patterns()
 /// name, which isn't that of what is built in, over a vocabulary that may name `int`.
 pub fn begins_typed()
     ensures { (v : Vocabulary) (c : Setting) → IsTrue (v.usable 0) → is_empty c.theory ≡ false
-        → bytes_eq c.theory builtin ≡ false → c.symbols ≡ int_symbol ∷ [] → c.scope ≡ start
+        → bytes_eq c.theory builtin ≡ false → c.symbols ≡ int_symbol ∷ [] → c.scope ≡ empty_names
         → IsTypedSetting v c }
 {}
 
@@ -109,12 +112,12 @@ pub fn agrees_typed()
 
 /// A law: a declaration that is valid over a vocabulary is valid over one of which that is a part.
 pub fn stays_valid()
-    ensures { (v w : Vocabulary) (d : DeclarationTree) → IsPart v w → IsValidDecl v d
+    ensures { (v w : Vocabulary) (d : DeclarationTree) → IsSubvocabulary v w → IsValidDecl v d
         → IsValidDecl w d }
 {}
 
 /// A law: a declaration that is valid over a vocabulary, as of a signature, is valid over another
-/// one with the same entries, as of a task, which may name all that stands in it.
+/// one with the same entries, as of a task, which may name all that is in it.
 pub fn moves_valid()
     ensures { (v w : Vocabulary) (d : DeclarationTree) → v.symbols ≡ w.symbols
         → DeclNames w v.symbols d → IsValidDecl v d → IsValidDecl w d }
@@ -127,7 +130,7 @@ pub fn defines_valid()
         → IsDefinition v (definition_by v k inner) }
 {}
 
-/// A law: declarations that are each valid where they stand, over what they make themselves and what
+/// A law: declarations that are each valid where they are, over what they make themselves and what
 /// those before them make, are valid over what all of them make.
 pub fn lists_valid()
     ensures { (symbols : List SymbolTree) (before ds : List DeclarationTree)
@@ -135,13 +138,13 @@ pub fn lists_valid()
         → All (IsValidDecl (after symbols [] (before ++ ds))) ds }
 {}
 
-/// A law: where signature and scopes are typed over what declarations make, of which each stands in
-/// the signature, what `elaborate` gives of the next one, which is no goal, is valid where it stands
+/// A law: where signature and scopes are typed over what declarations make, of which each is in
+/// the signature, what `elaborate` gives of the next one, which is no goal, is valid where it is
 /// if the checks of declarations find no fault, and signature and scopes are typed over what all of
 /// them make.
 pub fn next_valid()
-    ensures { (c : Setting) (ds : List DeclarationTree) (d : Decl) (x : Declaration)
-        (g : Signature) (s : List Tree) (h : Signature) (names : Names) (made : Elaborated)
+    ensures { (c : Setting) (ds : List DeclarationTree) (d : SyntaxDeclaration) (x : Declaration)
+        (g : Signature) (s : List Tree) (h : Signature) (names : ScopeNames) (made : Elaborated)
         → IsTypedSetting (after c.symbols [] ds) c → MakesBelow (length c.symbols) ds
         → Grows c.trees s → declaration d ≡ Some x → IsGroupWhole d → IsNoGoal d
         → IsElaborated c x g s h names made
@@ -154,11 +157,12 @@ pub fn next_valid()
 /// A law: of a goal after declarations the proposition is valid over what they make and its own type
 /// variables, whose entries these are; signature and scopes are typed over what they make.
 pub fn next_goal_valid()
-    ensures { (c : Setting) (ds : List DeclarationTree) (d : Decl) (x : Called) (e : Expression)
-        (g : Signature) (s : List Tree) (h : Signature) (names : Names) (made : Elaborated)
+    ensures { (c : Setting) (ds : List DeclarationTree) (d : SyntaxDeclaration) (x : TokenName)
+        (e : Expression)
+        (g : Signature) (s : List Tree) (h : Signature) (names : ScopeNames) (made : Elaborated)
         → IsTypedSetting (after c.symbols [] ds) c → MakesBelow (length c.symbols) ds
-        → Grows c.trees s → declaration d ≡ Some (proposition Goal x e)
-        → IsElaborated c (proposition Goal x e) g s h names made
+        → Grows c.trees s → declaration d ≡ Some (proposition_declaration Goal x e)
+        → IsElaborated c (proposition_declaration Goal x e) g s h names made
         → ((id : TermId) → Holds s id → WellSorted (tree_at s id))
         → All (DeclHeld s) made.decls
         → HaveNoFault (symbols_at s h.symbols) (declarations_at s made.decls)

@@ -1,4 +1,4 @@
-// The task of a goal after declarations that are valid where they stand is valid; what this asks of declarations, of goals and of the entries of tuples holds of what is elaborated, and of declarations joined to others.
+// The task of a goal after declarations that are valid where they are is valid; what this asks of declarations, of goals and of the entries of tuples holds of what is elaborated, and of declarations joined to others.
 ghost use Rattle.std.specs.Prelude.{◌≡◌, ℕ, false, List, [], ◌∷◌, ◌++◌, map, length, All, Some, IfSome};
 ghost use Rattle.std.specs.Str.{bytes_eq};
 ghost use Rattle.trees.specs.Tree.{Tree};
@@ -12,22 +12,22 @@ ghost use Rattle.tasks.specs.Meaning.{symbols_at, declarations_at, DeclHeld};
 ghost use Rattle.tasks.specs.declared.signature.Signature.{Signature};
 ghost use Rattle.tasks.specs.Vocabulary.{of_signature};
 ghost use Rattle.tasks.specs.Valid.{AreInts, IsQuoted, IsValid};
-ghost use Rattle.names_space.specs.Names.{Names};
+ghost use Rattle.names_space.specs.Names.{ScopeNames};
 ghost use Rattle.syntax_why.specs.Lexeme.{rest};
-ghost use Rattle.syntax_why.specs.Declarations.{Decl, write_decl};
+ghost use Rattle.syntax_why.specs.Declarations.{SyntaxDeclaration, write_decl};
 ghost use Rattle.syntax_why.specs.DeclarationRules.{IsLevelDecl};
 ghost use Rattle.syntax_why.specs.declared.declarations.PropKind.{PropKind};
 ghost use Rattle.elab_names.specs.Abstract.{Expression};
 ghost use Rattle.elab_walk.specs.Drafts.{match_at};
 ghost use Rattle.elab_parts.specs.declared.made.Elaborated.{Elaborated};
 ghost use Rattle.elab_parts.specs.Entries.{builtin};
-ghost use Rattle.elab_parts.specs.Declarations.{Called, Declaration, proposition, declaration};
+ghost use Rattle.elab_parts.specs.Declarations.{TokenName, Declaration, proposition_declaration, declaration};
 ghost use Rattle.elab_parts.specs.Outcomes.{Setting};
 ghost use Rattle.elab_terms.specs.Outcomes.{proposition_seen, IsElaborated};
 ghost use Rattle.valid_tasks.specs.Lists.{after, MakesBelow, IsGroupWhole, IsNoGoal};
 ghost use Rattle.valid_tasks.specs.Valid.{IsTypedSetting, HaveNoFault};
-ghost use Rattle.goal_tasks.specs.Theories.{GoalTree, TheoryTree, TheoriesTree};
-ghost use Rattle.goal_tasks.specs.Tasks.{before, task_for};
+ghost use Rattle.goal_tasks.specs.Theories.{GoalTree, KnownTheoryTree, TheoriesTree};
+ghost use Rattle.goal_tasks.specs.Tasks.{declarations_before, task_for};
 ghost use Rattle.valid_tasks.specs.Built.{IsBuiltRight};
 ghost use Rattle.valid_tasks.specs.Joined.{Agree, AreJoined};
 ghost use Rattle.valid_tasks.specs.TaskTyped.{IsFitMatch, IsTypedOver};
@@ -44,17 +44,18 @@ pub fn begins_built()
 /// built in but `int`.
 pub fn keeps_built()
     ensures { (c : Setting) (d : Declaration) (g : Signature) (s : List Tree) (h : Signature)
-        (names : Names) (made : Elaborated) → bytes_eq c.theory builtin ≡ false
+        (names : ScopeNames) (made : Elaborated) → bytes_eq c.theory builtin ≡ false
         → IsElaborated c d g s h names made → IsBuiltRight c.symbols
         → IsBuiltRight (symbols_at s h.symbols) }
 {}
 
-/// A law: where declarations are valid where they stand, make no symbol twice and none that is built
+/// A law: where declarations are valid where they are, make no symbol twice and none that is built
 /// in, and a goal after them is well formed over what they make and its own type variables, its task
 /// is valid, which has these declarations after those of the tuples that occur.
 pub fn tasks_valid()
-    ensures { (all : TheoriesTree) (t : TheoryTree) (g : GoalTree)
-        → AreSound all.symbols (before t g) → IsSoundGoal all.symbols (before t g) g
+    ensures { (all : TheoriesTree) (t : KnownTheoryTree) (g : GoalTree)
+        → AreSound all.symbols (declarations_before t g)
+        → IsSoundGoal all.symbols (declarations_before t g) g
         → IfSome all.ints (AreInts all.symbols) → IsValid (task_for all t g) }
 {}
 
@@ -63,8 +64,8 @@ pub fn tasks_valid()
 /// of a signature, and without the last ones.
 pub fn keeps_sound()
     ensures none { (symbols : List SymbolTree) → IsBuiltRight symbols → AreSound symbols [] }
-    ensures declarations { (c : Setting) (ds : List DeclarationTree) (d : Decl)
-        (x : Declaration) (g : Signature) (s : List Tree) (h : Signature) (names : Names)
+    ensures declarations { (c : Setting) (ds : List DeclarationTree) (d : SyntaxDeclaration)
+        (x : Declaration) (g : Signature) (s : List Tree) (h : Signature) (names : ScopeNames)
         (made : Elaborated) → IsTypedSetting (after c.symbols [] ds) c
         → MakesBelow (length c.symbols) ds → Grows c.trees s → declaration d ≡ Some x
         → IsGroupWhole d → IsNoGoal d → IsElaborated c x g s h names made
@@ -82,12 +83,12 @@ pub fn keeps_sound()
 /// A law: a goal or lemma that is elaborated after sound declarations gives a goal that is sound after
 /// them, where the names of its type variables have their quotes; it stays so with more entries.
 pub fn goals_sound()
-    ensures goals { (c : Setting) (ds : List DeclarationTree) (d : Decl) (k : PropKind)
-        (x : Called) (e : Expression) (g : Signature) (s : List Tree) (h : Signature)
-        (names : Names) (made : Elaborated) (goal : GoalTree)
+    ensures goals { (c : Setting) (ds : List DeclarationTree) (d : SyntaxDeclaration) (k : PropKind)
+        (x : TokenName) (e : Expression) (g : Signature) (s : List Tree) (h : Signature)
+        (names : ScopeNames) (made : Elaborated) (goal : GoalTree)
         → IsTypedSetting (after c.symbols [] ds) c → MakesBelow (length c.symbols) ds
-        → Grows c.trees s → IsToProve k → declaration d ≡ Some (proposition k x e)
-        → IsElaborated c (proposition k x e) g s h names made
+        → Grows c.trees s → IsToProve k → declaration d ≡ Some (proposition_declaration k x e)
+        → IsElaborated c (proposition_declaration k x e) g s h names made
         → ((id : TermId) → Holds s id → WellSorted (tree_at s id))
         → All (DeclHeld s) made.decls
         → HaveNoFault (symbols_at s h.symbols) (declarations_at s made.decls)
@@ -104,12 +105,13 @@ pub fn goals_sound()
 /// signature and the scopes are typed again.
 pub fn keeps_typed()
     ensures matches { (c : Setting) (x : Declaration) (g : Signature) (s : List Tree)
-        (h : Signature) (names : Names) (made : Elaborated)
+        (h : Signature) (names : ScopeNames) (made : Elaborated)
         → IsTypedSetting (of_signature c.symbols) c → Grows c.trees s
         → IsElaborated c x g s h names made
         → All (IsFitMatch (symbols_at s h.symbols)) (map (match_at s) made.matches) }
-    ensures setting { (c : Setting) (d : Decl) (x : Declaration) (g : Signature) (s : List Tree)
-        (h : Signature) (names : Names) (made : Elaborated)
+    ensures setting { (c : Setting) (d : SyntaxDeclaration) (x : Declaration) (g : Signature)
+        (s : List Tree)
+        (h : Signature) (names : ScopeNames) (made : Elaborated)
         → IsTypedSetting (of_signature c.symbols) c → Grows c.trees s → declaration d ≡ Some x
         → IsElaborated c x g s h names made
         → ((id : TermId) → Holds s id → WellSorted (tree_at s id))
@@ -130,9 +132,9 @@ pub fn joins_sound()
 /// of a group has no definition there is no other; the names of the type variables of a proposition
 /// have their quotes where those of the tokens have, as the tokens of each text.
 pub fn tokens_fit()
-    ensures wholes { (d : Decl) → IsLevelDecl d → IsGroupWhole d }
-    ensures names { (d : Decl) (k : PropKind) (x : Called) (e : Expression)
-        → declaration d ≡ Some (proposition k x e) → All IsQuotedLexeme (write_decl d)
+    ensures wholes { (d : SyntaxDeclaration) → IsLevelDecl d → IsGroupWhole d }
+    ensures names { (d : SyntaxDeclaration) (k : PropKind) (x : TokenName) (e : Expression)
+        → declaration d ≡ Some (proposition_declaration k x e) → All IsQuotedLexeme (write_decl d)
         → All IsQuoted (proposition_seen e).vars }
     ensures quotes { (text : List ℕ) (ts : List Token) (i : ℕ) → AreTokens text ts
         → All IsQuotedLexeme (rest text ts i) }

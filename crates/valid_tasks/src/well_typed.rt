@@ -8,11 +8,11 @@ ghost use Rattle.tasks.specs.Vocabulary.{Vocabulary};
 ghost use Rattle.tasks.specs.Valid.{IsFormulaOver};
 ghost use Rattle.unify_types.specs.Assigned.{assign};
 ghost use Rattle.unify_types.specs.Pairs.{SolvesAll};
-ghost use Rattle.names_space.specs.Names.{Names};
+ghost use Rattle.names_space.specs.Names.{ScopeNames};
 ghost use Rattle.syntax_why.specs.Lexeme.{Word};
 ghost use Rattle.elab_names.specs.Abstract.{Expression};
 ghost use Rattle.elab_names.specs.Where.{Where};
-ghost use Rattle.elab_variables.specs.Seen.{Seen, has_width, seen};
+ghost use Rattle.elab_variables.specs.Seen.{SeenTree, has_width, seen};
 ghost use Rattle.elab_walk.specs.Patterns.{LocalTree};
 ghost use Rattle.elab_walk.specs.Pieces.{piece};
 ghost use Rattle.elab_parts.specs.Elaborated.{IsSolved};
@@ -20,7 +20,7 @@ ghost use Rattle.elab_parts.specs.Entries.{wanting_tuples};
 ghost use Rattle.elab_parts.specs.Outcomes.{over};
 ghost use Rattle.valid_tasks.specs.Scopes.{IsTypedSignature, NamesNew, AreTypedScopes};
 ghost use Rattle.valid_tasks.specs.Signature.{with_entries, IsWellFormed, HasTuple, HasTuples};
-ghost use Rattle.valid_tasks.specs.Typed.{IsTypeOf, IsTypedAs, IsNamed, types_of, types_at, AreTypes, AreTypesIn, IsTypedIn, ArePatterns};
+ghost use Rattle.valid_tasks.specs.Typed.{IsTypeOf, IsTypedAs, IsNamedExpression, local_types, assigned_types, AreTypedLocals, AreTypesIn, IsTypedIn, ArePatterns};
 
 /// A law: at each solution of its equations by types over the signature, where so many type
 /// variables stand for themselves, the tree of a piece is well typed over the signature under its
@@ -28,12 +28,12 @@ ghost use Rattle.valid_tasks.specs.Typed.{IsTypeOf, IsTypedAs, IsNamed, types_of
 /// has the greatest index, as in a store.
 pub fn is_typed_at_solutions()
     ensures { (v : Vocabulary) (w : Where) (rigid : ℕ) (ls : List LocalTree) (n : ℕ)
-        (t : Option Tree) (e : Expression) (f : ℕ → Tree) → IsNamed v w ls t e
-        → AreTypes (with_entries v w.symbols) ls t
+        (t : Option Tree) (e : Expression) (f : ℕ → Tree) → IsNamedExpression v w ls t e
+        → AreTypedLocals (with_entries v w.symbols) ls t
         → ((j : ℕ) → IsTypeOf (with_entries v w.symbols) (f j))
         → SolvesAll rigid f (piece w ls n t e).notes.equations
         → IndicesFit (assign rigid f (piece w ls n t e).tree)
-        → IsTypedAs (with_entries v w.symbols) (types_at rigid f ls)
+        → IsTypedAs (with_entries v w.symbols) (assigned_types rigid f ls)
         (option_map (assign rigid f) t)
         (assign rigid f (piece w ls n t e).tree) }
 {}
@@ -44,17 +44,17 @@ pub fn is_typed_at_solutions()
 pub fn is_well_typed()
     ensures { (v : Vocabulary) (w : Where) (rigid : ℕ) (ls : List LocalTree) (n : ℕ)
         (t : Option Tree) (e : Expression) (tree : Tree) (ms : List (ℕ × List Tree))
-        → IsNamed v w ls t e
+        → IsNamedExpression v w ls t e
         → AreTypesIn (with_entries v w.symbols) rigid ls t
         → IsSolved rigid (piece w ls n t e) tree ms → IndicesFit tree
-        → IsTypedIn (with_entries v w.symbols) rigid (types_of ls) t tree }
+        → IsTypedIn (with_entries v w.symbols) rigid (local_types ls) t tree }
 {}
 
 /// A law: the tree of a proposition is a closed formula over the signature, with the
 /// rigid type variables. No variable has the greatest index, as in a store.
 pub fn is_formula()
     ensures { (v : Vocabulary) (w : Where) (rigid n : ℕ) (e : Expression) (tree : Tree)
-        (ms : List (ℕ × List Tree)) → IsNamed v w [] None e
+        (ms : List (ℕ × List Tree)) → IsNamedExpression v w [] None e
         → IsSolved rigid (piece w [] n None e) tree ms → IndicesFit tree
         → IsFormulaOver (with_entries v w.symbols) [] rigid tree }
 {}
@@ -64,16 +64,16 @@ pub fn is_formula()
 pub fn has_typed_matches()
     ensures { (v : Vocabulary) (w : Where) (rigid : ℕ) (ls : List LocalTree) (n : ℕ)
         (t : Option Tree) (e : Expression) (tree : Tree) (ms : List (ℕ × List Tree))
-        → IsNamed v w ls t e
-        → AreTypes (with_entries v w.symbols) ls t
+        → IsNamedExpression v w ls t e
+        → AreTypedLocals (with_entries v w.symbols) ls t
         → IsSolved rigid (piece w ls n t e) tree ms
         → All (λ (m : ℕ × List Tree). ArePatterns (with_entries v w.symbols) m.1) ms }
 {}
 
 /// A law: each tuple of an expression has a constructor of its width where each width that is
-/// seen in it, behind others, has one.
+/// seen in it, after others, has one.
 pub fn has_tuples()
-    ensures { (v : Vocabulary) (w : Where) (e : Expression) (s : Seen)
+    ensures { (v : Vocabulary) (w : Where) (e : Expression) (s : SeenTree)
         → ((n : ℕ) → has_width n (seen s e).widths ≡ true → HasTuple v w n)
         → HasTuples v w e }
 {}
@@ -86,16 +86,18 @@ pub fn is_well_formed()
         → NamesNew v (length symbols) (symbols ++ wanting_tuples symbols widths)
         → IsTypedSignature v symbols
         → IsTypedSignature v (symbols ++ wanting_tuples symbols widths) }
-    ensures formed { (v : Vocabulary) (symbols : List SymbolTree) (s : List Tree) (names : Names)
+    ensures formed { (v : Vocabulary) (symbols : List SymbolTree) (s : List Tree)
+        (names : ScopeNames)
         (vars : List Word) → IsTypedSignature v symbols
         → AreTypedScopes (with_entries v symbols) s names
         → IsWellFormed v (over s symbols names vars) }
-    ensures tuples { (v : Vocabulary) (symbols : List SymbolTree) (s : List Tree) (names : Names)
+    ensures tuples { (v : Vocabulary) (symbols : List SymbolTree) (s : List Tree)
+        (names : ScopeNames)
         (vars : List Word) (widths : List ℕ) (n : ℕ)
         → NamesNew v (length symbols) (symbols ++ wanting_tuples symbols widths)
         → IsTypedSignature v symbols → has_width n widths ≡ true
         → HasTuple v (over s (symbols ++ wanting_tuples symbols widths) names vars) n }
     ensures scopes { (v : Vocabulary) (symbols more : List SymbolTree) (s t : List Tree)
-        (names : Names) → Grows s t → AreTypedScopes (with_entries v symbols) s names
+        (names : ScopeNames) → Grows s t → AreTypedScopes (with_entries v symbols) s names
         → AreTypedScopes (with_entries v (symbols ++ more)) t names }
 {}

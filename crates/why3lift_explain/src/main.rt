@@ -1,5 +1,5 @@
 //! The program `why3lift-explain`: the message of a fault, over the host's files and streams.
-//! It stands on `explain`; it makes the host objects and ends with the code of what came of it.
+//! It depends on `explain`; it makes the host objects and ends with the code of what came of it.
 #![tactic(auto)]
 
 use explain::{ExplainFault, explain_words};

@@ -6,7 +6,7 @@ use Rattle.std.specs.Cmp.{IsTotalOrder}
 use Rattle.std.proofs.lemmas.Bool.Decides.{nat_tests}
 use Rattle.std.specs.List.{position_from}
 use Rattle.std.proofs.lemmas.Bool.{eqb-true, eq-eqb}
-use Rattle.word_tables.specs.Words.{ascends, texts, same, place_of, Finds}
+use Rattle.word_tables.specs.Words.{ascends, texts, is_same_word, place_in_words, Finds}
 
 -- the words from `low` up to `high` are those that may still be the one
 pub record Between (word : List ℕ) (words : List (List ℕ)) (low high : ℕ) : Type 0 where
@@ -58,19 +58,19 @@ bool-cases : (b : Bool) → (b ≡ true) ⊎ (b ≡ false)
 bool-cases true = inl refl
 bool-cases false = inr refl
 
-same-is : (v w : List ℕ) → same v w ≡ true → v ≡ w
+same-is : (v w : List ℕ) → is_same_word v w ≡ true → v ≡ w
 same-is [] [] e = refl
 same-is [] (y ∷ w) e = cc
 same-is (x ∷ v) [] e = cc
 same-is (x ∷ v) (y ∷ w) e =
-    let p = eqb-true x y (and-left (nat_eq x y) (same v w) e) in
-    let q = same-is v w (and-right (nat_eq x y) (same v w) e) in
+    let p = eqb-true x y (and-left (nat_eq x y) (is_same_word v w) e) in
+    let q = same-is v w (and-right (nat_eq x y) (is_same_word v w) e) in
     cc
 
-is-same : (v w : List ℕ) → v ≡ w → same v w ≡ true
-is-same v w e = ap (λ u. same v u) (sym e) ∙ self-same v
+is-same : (v w : List ℕ) → v ≡ w → is_same_word v w ≡ true
+is-same v w e = ap (λ u. is_same_word v u) (sym e) ∙ self-same v
   where
-    self-same : (v : List ℕ) → same v v ≡ true
+    self-same : (v : List ℕ) → is_same_word v v ≡ true
     self-same [] = refl
     self-same (x ∷ v) = rw (eq-eqb x x refl) (self-same v)
 
@@ -164,7 +164,7 @@ not-less x y e h = let s = self-equal x in let t : slice_cmp nat_cmp x y ≡ Equ
 not-greater : (x y : List ℕ) → x ≡ y → slice_cmp nat_cmp x y ≡ Greater → ⊥
 not-greater x y e h = not-less y x (sym e) (turn x y Greater h)
 
--- a word stands in one place
+-- a word is in one place
 one-place : (words : List (List ℕ)) (i j : ℕ) → ascends words ≡ true → i < length words → j < length words → get_or words i [] ≡ get_or words j [] → i ≡ j
 one-place words i j a li lj e = elim (compare-cases i j) [
   | inl same ↦ same
@@ -198,34 +198,34 @@ abbrev nothing : Option ℕ
 nothing = None
 
 -- what a search for the first place of a word gives
-place-some : (words : List (List ℕ)) (word : List ℕ) (k i : ℕ) → position_from (λ w. same w word) k words ≡ Some i → (j : ℕ) × (i ≡ k + j) × (slice_get words j ≡ Some word)
+place-some : (words : List (List ℕ)) (word : List ℕ) (k i : ℕ) → position_from (λ w. is_same_word w word) k words ≡ Some i → (j : ℕ) × (i ≡ k + j) × (slice_get words j ≡ Some word)
 place-some [] word k i e = cc
-place-some (w ∷ words) word k i e = elim (bool-cases (same w word)) [
-  | inl t ↦ let s : Some k ≡ Some i = sym (ap (λ b. cond b (Some k) (position_from (λ w. same w word) (k + 1) words)) t) ∙ e in
+place-some (w ∷ words) word k i e = elim (bool-cases (is_same_word w word)) [
+  | inl t ↦ let s : Some k ≡ Some i = sym (ap (λ b. cond b (Some k) (position_from (λ w. is_same_word w word) (k + 1) words)) t) ∙ e in
       let n : k ≡ i = cc in
       let same_word = same-is w word t in
       (0, omega arith, ap Some same_word)
-  | inr f ↦ let s = sym (ap (λ b. cond b (Some k) (position_from (λ w. same w word) (k + 1) words)) f) ∙ e in
+  | inr f ↦ let s = sym (ap (λ b. cond b (Some k) (position_from (λ w. is_same_word w word) (k + 1) words)) f) ∙ e in
       let r = place-some words word (k + 1) i s in
       (suc r.0, omega (arith, r.1), r.2)
 ]
 
-place-none : (words : List (List ℕ)) (word : List ℕ) (k : ℕ) → position_from (λ w. same w word) k words ≡ None → (j : ℕ) → slice_get words j ≡ Some word → ⊥
+place-none : (words : List (List ℕ)) (word : List ℕ) (k : ℕ) → position_from (λ w. is_same_word w word) k words ≡ None → (j : ℕ) → slice_get words j ≡ Some word → ⊥
 place-none [] word k e j h = cc
 place-none (w ∷ words) word k e zero h =
     let is : w ≡ word = cc in
-    let s : Some k ≡ nothing = sym (ap (λ b. cond b (Some k) (position_from (λ w. same w word) (k + 1) words)) (is-same w word is)) ∙ e in
+    let s : Some k ≡ nothing = sym (ap (λ b. cond b (Some k) (position_from (λ w. is_same_word w word) (k + 1) words)) (is-same w word is)) ∙ e in
     cc
-place-none (w ∷ words) word k e (suc j) h = elim (bool-cases (same w word)) [
-  | inl t ↦ let s : Some k ≡ nothing = sym (ap (λ b. cond b (Some k) (position_from (λ w. same w word) (k + 1) words)) t) ∙ e in let n : ⊥ = cc in n
-  | inr f ↦ place-none words word (k + 1) (sym (ap (λ b. cond b (Some k) (position_from (λ w. same w word) (k + 1) words)) f) ∙ e) j h
+place-none (w ∷ words) word k e (suc j) h = elim (bool-cases (is_same_word w word)) [
+  | inl t ↦ let s : Some k ≡ nothing = sym (ap (λ b. cond b (Some k) (position_from (λ w. is_same_word w word) (k + 1) words)) t) ∙ e in let n : ⊥ = cc in n
+  | inr f ↦ place-none words word (k + 1) (sym (ap (λ b. cond b (Some k) (position_from (λ w. is_same_word w word) (k + 1) words)) f) ∙ e) j h
 ]
 
 no-place : (words : List (List ℕ)) (word : List ℕ) (r : Option ℕ) → Finds words word r → ((j : ℕ) → slice_get words j ≡ Some word → ⊥) → r ≡ None
 no-place words word None h n = refl
 no-place words word (Some i) h n = absurd (n i ((h i).0 refl))
 
-place-by : (words : List (List ℕ)) (word : List ℕ) (r o : Option ℕ) → place_of word words ≡ o → Finds words word r → r ≡ o
+place-by : (words : List (List ℕ)) (word : List ℕ) (r o : Option ℕ) → place_in_words word words ≡ o → Finds words word r → r ≡ o
 place-by words word r None e h = no-place words word r h (place-none words word 0 e)
 place-by words word r (Some i) e h =
     let p = place-some words word 0 i e in
@@ -233,5 +233,5 @@ place-by words word r (Some i) e h =
     (h i).1 (ap (slice_get words) (sym same_place) ∙ p.2)
 
 -- a place that is named exactly where the word stands is the first one
-pub place-is : (words : List (List ℕ)) (word : List ℕ) (r : Option ℕ) → Finds words word r → r ≡ place_of word words
+pub place-is : (words : List (List ℕ)) (word : List ℕ) (r : Option ℕ) → Finds words word r → r ≡ place_in_words word words
 place-is words word r h = place-by words word r _ refl h

@@ -7,12 +7,12 @@ use Rattle.std.specs.Cmp.Lexicographic.{slice_cmp}
 use lib.Pointwise.{pointwise}
 
 -- whether two words are the same
-abbrev pub same : List ℕ → List ℕ → Bool
-same = pointwise nat_eq
+abbrev pub is_same_word : List ℕ → List ℕ → Bool
+is_same_word = pointwise nat_eq
 
 -- the first place of a word in a list of words
-abbrev pub place_of : List ℕ → List (List ℕ) → Option ℕ
-place_of word words = position_from (λ w. same w word) 0 words
+abbrev pub place_in_words : List ℕ → List (List ℕ) → Option ℕ
+place_in_words word words = position_from (λ w. is_same_word w word) 0 words
 
 -- each word is below the next, byte by byte
 abbrev pub ascends : List (List ℕ) → Bool
@@ -24,6 +24,6 @@ ascends (v ∷ w ∷ ws) = is_lt (slice_cmp nat_cmp v w) && ascends (w ∷ ws)
 abbrev pub texts : List (Bor (List ℕ)) → List (List ℕ)
 texts = map (λ r. r.now)
 
--- an answer names a place exactly where the word stands there
+-- an answer names a place exactly where the word is there
 abbrev pub Finds : List (List ℕ) → List ℕ → Option ℕ → Type 0
 Finds words word place = (i : ℕ) → (place ≡ Some i) ↔ (slice_get words i ≡ Some word)

@@ -1,6 +1,6 @@
 // A table of words.
 ghost use Rattle.std.specs.Prelude.{◌≡◌, ℕ, ◌<◌, length, slice_get, IsTrue};
-ghost use Rattle.word_tables.specs.Words.{ascends, texts, place_of, Finds};
+ghost use Rattle.word_tables.specs.Words.{ascends, texts, place_in_words, Finds};
 
 use std::cmp::Ordering;
 use std::marker::Model;
@@ -44,7 +44,7 @@ impl<const N: usize> WordTable<N> {
     /// The place of a word, and nothing where it isn't in the table: the inverse of `word`.
     pub fn find(&self, word: &[u8]) -> Option<usize>
         ensures inverse { Finds self.now word.now result }
-        ensures place { result ≡ place_of word.now self.now }
+        ensures place { result ≡ place_in_words word.now self.now }
     {
         search(self.words, word)
     }

@@ -5,7 +5,7 @@ use Rattle.trees.specs.Tree.{Tree}
 use Rattle.trees.specs.Sorts.{sort_of, IsExpression}
 use Rattle.name_entries.specs.declared.names.NameEntry.{NameEntry}
 use Rattle.rule_rows.specs.declared.rule.Step.{Step}
-use Rattle.rule_rows.specs.Trees.{StepTree, types_of}
+use Rattle.rule_rows.specs.Trees.{StepTree, rule_types}
 use Rattle.rule_rows.specs.Meaning.{steps_at}
 use Rattle.tree_writing.specs.declared.writer.LineKind.{LineKind}
 use Rattle.tree_writing.specs.declared.writer.LineKind.TheVariants as kind
@@ -15,11 +15,11 @@ use Rattle.tree_writing.specs.Whole.{kind_of_sort, IsOfKind, TopNamed, IsWritten
 use Rattle.written_files.specs.declared.words.Lines.{Lines}
 use Rattle.written_files.specs.Named.{AreWords, rule_expressions, step_trees, IsNamedTree, AreNamed, SymbolsNamed, AreSorted}
 use Rattle.written_files.specs.Words.{StepReady}
-use Rattle.written_files.specs.Written.{read_with, AddsSteps, ReadsBack}
+use Rattle.written_files.specs.Written.{read_with, AddsSteps, StepsReadBack}
 use Rattle.written_files.proofs.Texts.{trees_text, text_read}
 use Rattle.written_files.proofs.Rightness.{all_used, all_good, all_stand, flat_all, all_flat, front_all, back_all}
 
-pub finished : (x : Lines) (steps : List Step) (roots : List Tree) (start new : List ℕ) → roots ≡ flat_map step_trees (steps_at x.store.now steps) → IsWritten x.store.now x.table.now roots start x.numbers.now → AreWords x.table.now → AddsSteps x steps start new → ReadsBack x.table.now (steps_at x.store.now steps) new
+pub finished : (x : Lines) (steps : List Step) (roots : List Tree) (start new : List ℕ) → roots ≡ flat_map step_trees (steps_at x.store.now steps) → IsWritten x.store.now x.table.now roots start x.numbers.now → AreWords x.table.now → AddsSteps x steps start new → StepsReadBack x.table.now (steps_at x.store.now steps) new
 finished x steps roots start new are written words adds t tallest closes low =
     let s = x.store.now in
     let all = steps_at s steps in
@@ -43,14 +43,14 @@ steps_ready x steps roots are names lines sorted symbols k d l =
     let Has : Tree → Type 0 = λ e. (j : LineKind) → IsOfKind j e → HasLine s numbers e in
     let st = get_or steps k d in
     let a = all_flat Has step_trees steps (subst (All Has) are lines) k d l in
-    let rule = back_all Has st.sequent (rule_expressions st.rule ++ types_of st.rule) a in
+    let rule = back_all Has st.sequent (rule_expressions st.rule ++ rule_types st.rule) a in
     let o = sorted k d l in
     record {
       names = names;
-      sequent = λ i y m. record { sort = o.sequent i y m; line = front_all Has st.sequent (rule_expressions st.rule ++ types_of st.rule) a i y m kind.Expression (kind_expression (get_or st.sequent i y) (o.sequent i y m)) };
+      sequent = λ i y m. record { sort = o.sequent i y m; line = front_all Has st.sequent (rule_expressions st.rule ++ rule_types st.rule) a i y m kind.Expression (kind_expression (get_or st.sequent i y) (o.sequent i y m)) };
       rule = record {
-        expressions = λ i y m. record { sort = o.expressions i y m; line = front_all Has (rule_expressions st.rule) (types_of st.rule) rule i y m kind.Expression (kind_expression (get_or (rule_expressions st.rule) i y) (o.expressions i y m)) };
-        types = λ i y m. record { sort = o.types i y m; line = back_all Has (rule_expressions st.rule) (types_of st.rule) rule i y m kind.Type (ap kind_of_sort (o.types i y m)) };
+        expressions = λ i y m. record { sort = o.expressions i y m; line = front_all Has (rule_expressions st.rule) (rule_types st.rule) rule i y m kind.Expression (kind_expression (get_or (rule_expressions st.rule) i y) (o.expressions i y m)) };
+        types = λ i y m. record { sort = o.types i y m; line = back_all Has (rule_expressions st.rule) (rule_types st.rule) rule i y m kind.Type (ap kind_of_sort (o.types i y m)) };
         symbols = symbols k d l;
       };
     }

@@ -20,9 +20,9 @@ use Rattle.rule_words.specs.declared.argument.Argument.{Argument}
 use Rattle.rule_words.specs.declared.argument.Argument.TheVariants as made
 use Rattle.rule_words.specs.declared.name.RuleName.{RuleName}
 use Rattle.rule_words.specs.Arguments.{ArgumentTree, ANumber, ASymbol, AInteger, AExpression, AType, argument_at, arguments_at, ArgumentHeld, ArgumentsHeld, have_kinds}
-use Rattle.rule_words.specs.Forms.{kinds}
-use Rattle.rule_words.specs.Rules.{row, name_by_word, rule_from}
-use Rattle.tree_lines.specs.Words.{Word, number, at_number}
+use Rattle.rule_words.specs.Forms.{argument_kinds}
+use Rattle.rule_words.specs.Rules.{rule_row, name_by_word, rule_from}
+use Rattle.tree_lines.specs.Words.{LineWord, number, at_number}
 use Rattle.tree_lines.specs.Lines.{Earlier}
 use Rattle.step_lines.specs.Steps.{step_of_line}
 use Rattle.tree_writing.specs.Spelt.{IsSpelt, Spells}
@@ -31,72 +31,72 @@ use Rattle.tree_writing.proofs.Partly.{each_end}
 use Rattle.tree_writing.proofs.PlainBack.{one_more, no_more, word_refers, of_expression, of_kind}
 use Rattle.written_files.specs.declared.words.Lines.{Lines}
 use Rattle.written_files.specs.Named.{AreWords}
-use Rattle.written_files.specs.Words.{WritesArgument, WriteArguments, IsLineOf, IsTypeLine, IsReady, PushesArguments, NoColon, PushesReference, PushesSequent, PushesRule, RuleReady, StepBack}
+use Rattle.written_files.specs.Words.{WritesArgument, WriteArguments, IsLineOf, IsTypeLine, IsArgumentReady, PushesArguments, NoColon, PushesReference, PushesSequent, PushesRule, RuleReady, StepBack}
 use Rattle.written_files.proofs.RuleParts.{expressions_in, types_in, symbols_in, rule_parts}
 use Rattle.written_files.proofs.StepBack.{numbers_no_colon, arguments_no_colon, rule_back, word_no_colon, step_back}
 
 -- the word of one number
-pub reference_pushed : (x : Lines) (old new : List Word) (n : ℕ) (e : Tree) → PushesNumbers old new (n ∷ []) → Refers x.store.now x.numbers.now (sort_of e) n e → PushesReference x old new e
+pub reference_pushed : (x : Lines) (old new : List LineWord) (n : ℕ) (e : Tree) → PushesNumbers old new (n ∷ []) → Refers x.store.now x.numbers.now (sort_of e) n e → PushesReference x old new e
 reference_pushed x old new n e p refers =
     let q = one_more p.more n [] p.numbers in
     record {
       word = q.first;
       number = n;
-      is = p.is ∙ ap (λ (l : List Word). old ++ l) (q.is ∙ ap (λ (l : List Word). q.first ∷ l) (no_more q.rest q.others));
+      is = p.is ∙ ap (λ (l : List LineWord). old ++ l) (q.is ∙ ap (λ (l : List LineWord). q.first ∷ l) (no_more q.rest q.others));
       writes = q.there;
       refers = refers;
     }
 
 -- one argument
-one_pushed : (x : Lines) (old new : List Word) (w : Word) (a : ArgumentTree) → new ≡ old ++ w ∷ [] → ((r : Earlier) → AreLines x.store.now x.numbers.now r → WritesArgument x.table.now r a w) → PushesArguments x old new (a ∷ [])
+one_pushed : (x : Lines) (old new : List LineWord) (w : LineWord) (a : ArgumentTree) → new ≡ old ++ w ∷ [] → ((r : Earlier) → AreLines x.store.now x.numbers.now r → WritesArgument x.table.now r a w) → PushesArguments x old new (a ∷ [])
 one_pushed x old new w a e back = record { more = w ∷ []; is = e; back = λ r are. (back r are, tt) }
 
-pub number_pushed : (x : Lines) (old new : List Word) (n : ℕ) → PushesNumbers old new (n ∷ []) → PushesArguments x old new (ANumber n ∷ [])
+pub number_pushed : (x : Lines) (old new : List LineWord) (n : ℕ) → PushesNumbers old new (n ∷ []) → PushesArguments x old new (ANumber n ∷ [])
 number_pushed x old new n p =
     let q = one_more p.more n [] p.numbers in
-    one_pushed x old new q.first (ANumber n) (p.is ∙ ap (λ (l : List Word). old ++ l) (q.is ∙ ap (λ (l : List Word). q.first ∷ l) (no_more q.rest q.others))) (λ r are. q.there)
+    one_pushed x old new q.first (ANumber n) (p.is ∙ ap (λ (l : List LineWord). old ++ l) (q.is ∙ ap (λ (l : List LineWord). q.first ∷ l) (no_more q.rest q.others))) (λ r are. q.there)
 
-pub integer_pushed : (x : Lines) (old new : List Word) (w : Word) (z : ℤ) → new ≡ old ++ w ∷ [] → integer w ≡ Some z → PushesArguments x old new (AInteger z ∷ [])
+pub integer_pushed : (x : Lines) (old new : List LineWord) (w : LineWord) (z : ℤ) → new ≡ old ++ w ∷ [] → integer w ≡ Some z → PushesArguments x old new (AInteger z ∷ [])
 integer_pushed x old new w z e h = one_pushed x old new w (AInteger z) e (λ r are. h)
 
-pub symbol_pushed : (x : Lines) (old new : List Word) (w : Word) (k : ℕ) (whole : Bool) → new ≡ old ++ w ∷ [] → Spells x.table.now (Symbol k) [] w whole → PushesArguments x old new (ASymbol k ∷ [])
+pub symbol_pushed : (x : Lines) (old new : List LineWord) (w : LineWord) (k : ℕ) (whole : Bool) → new ≡ old ++ w ∷ [] → Spells x.table.now (Symbol k) [] w whole → PushesArguments x old new (ASymbol k ∷ [])
 symbol_pushed x old new w k true e h = one_pushed x old new w (ASymbol k) e (λ r are. h)
 symbol_pushed x old new w k false e h = one_pushed x old new w (ASymbol k) e (λ r are. h)
 
-pub expression_pushed : (x : Lines) (old new : List Word) (e : Tree) → IsExpression (sort_of e) → PushesReference x old new e → PushesArguments x old new (AExpression e ∷ [])
+pub expression_pushed : (x : Lines) (old new : List LineWord) (e : Tree) → IsExpression (sort_of e) → PushesReference x old new e → PushesArguments x old new (AExpression e ∷ [])
 expression_pushed x old new e k p = one_pushed x old new p.word (AExpression e) p.is (λ r are. of_expression x.store.now x.numbers.now r p.word e are k (word_refers x.store.now x.numbers.now p.word p.number e p.writes p.refers))
 
-pub type_pushed : (x : Lines) (old new : List Word) (e : Tree) → sort_of e ≡ Kind → PushesReference x old new e → PushesArguments x old new (AType e ∷ [])
+pub type_pushed : (x : Lines) (old new : List LineWord) (e : Tree) → sort_of e ≡ Kind → PushesReference x old new e → PushesArguments x old new (AType e ∷ [])
 type_pushed x old new e k p = one_pushed x old new p.word (AType e) p.is (λ r are. of_kind x.store.now x.numbers.now r p.word e are k (word_refers x.store.now x.numbers.now p.word p.number e p.writes p.refers))
 
 -- arguments one after another
-write_both : (table : List NameEntry) (r : Earlier) (xs ys : List ArgumentTree) (vs ws : List Word) → WriteArguments table r xs vs → WriteArguments table r ys ws → WriteArguments table r (xs ++ ys) (vs ++ ws)
+write_both : (table : List NameEntry) (r : Earlier) (xs ys : List ArgumentTree) (vs ws : List LineWord) → WriteArguments table r xs vs → WriteArguments table r ys ws → WriteArguments table r (xs ++ ys) (vs ++ ws)
 write_both table r [] ys [] ws h k = k
 write_both table r [] ys (v ∷ vs) ws h k = absurd h
 write_both table r (a ∷ xs) ys [] ws h k = absurd h
 write_both table r (a ∷ xs) ys (v ∷ vs) ws h k = (h.0, write_both table r xs ys vs ws h.1 k)
 
-pub arguments_none : (x : Lines) (old : List Word) → PushesArguments x old old []
+pub arguments_none : (x : Lines) (old : List LineWord) → PushesArguments x old old []
 arguments_none x old = record { more = []; is = sym (append-nil old); back = λ r are. tt }
 
-pub arguments_more : (x : Lines) (old between new : List Word) (args : List Argument) (i : ℕ) (d : Argument) → i < length args → PushesArguments x between new (argument_at x.store.now (get_or args i d) ∷ []) → PushesArguments x old between (arguments_at x.store.now (take i args)) → PushesArguments x old new (arguments_at x.store.now (take (i + 1) args))
+pub arguments_more : (x : Lines) (old between new : List LineWord) (args : List Argument) (i : ℕ) (d : Argument) → i < length args → PushesArguments x between new (argument_at x.store.now (get_or args i d) ∷ []) → PushesArguments x old between (arguments_at x.store.now (take i args)) → PushesArguments x old new (arguments_at x.store.now (take (i + 1) args))
 arguments_more x old between new args i d lt h p =
     let s = x.store.now in
     let all : arguments_at s (take (i + 1) args) ≡ arguments_at s (take i args) ++ argument_at s (get_or args i d) ∷ [] = ap (arguments_at s) (take_more args i d lt) ∙ map_push (argument_at s) (take i args) (get_or args i d) in
     subst (PushesArguments x old new) (sym all) (record {
       more = p.more ++ h.more;
-      is = h.is ∙ ap (λ (l : List Word). l ++ h.more) p.is ∙ append_assoc old p.more h.more;
+      is = h.is ∙ ap (λ (l : List LineWord). l ++ h.more) p.is ∙ append_assoc old p.more h.more;
       back = λ r are. write_both x.table.now r (arguments_at s (take i args)) (argument_at s (get_or args i d) ∷ []) p.more h.more (p.back r are) (h.back r are);
     })
 
-pub arguments_all : (x : Lines) (old new : List Word) (args : List Argument) (i : ℕ) → length args ≤ i → PushesArguments x old new (arguments_at x.store.now (take i args)) → PushesArguments x old new (arguments_at x.store.now args)
+pub arguments_all : (x : Lines) (old new : List LineWord) (args : List Argument) (i : ℕ) → length args ≤ i → PushesArguments x old new (arguments_at x.store.now (take i args)) → PushesArguments x old new (arguments_at x.store.now args)
 arguments_all x old new args i lt p = subst (λ (l : List Argument). PushesArguments x old new (arguments_at x.store.now l)) (take_all i args lt) p
 
 -- a sequent
-pub sequent_none : (x : Lines) (old : List Word) → PushesSequent x old old []
+pub sequent_none : (x : Lines) (old : List LineWord) → PushesSequent x old old []
 sequent_none x old = record { more = []; ns = []; is = sym (append-nil old); numbers = refl; back = λ r are. refl }
 
-pub sequent_more : (x : Lines) (old between new : List Word) (ids : List TermId) (i : ℕ) (d : TermId) → i < length ids → IsExpression (sort_of (tree_at x.store.now (get_or ids i d))) → PushesReference x between new (tree_at x.store.now (get_or ids i d)) → PushesSequent x old between (trees_at x.store.now (take i ids))
+pub sequent_more : (x : Lines) (old between new : List LineWord) (ids : List TermId) (i : ℕ) (d : TermId) → i < length ids → IsExpression (sort_of (tree_at x.store.now (get_or ids i d))) → PushesReference x between new (tree_at x.store.now (get_or ids i d)) → PushesSequent x old between (trees_at x.store.now (take i ids))
     → PushesSequent x old new (trees_at x.store.now (take (i + 1) ids))
 sequent_more x old between new ids i d lt k h p =
     let s = x.store.now in
@@ -105,36 +105,36 @@ sequent_more x old between new ids i d lt k h p =
     subst (PushesSequent x old new) (sym all) (record {
       more = p.more ++ h.word ∷ [];
       ns = p.ns ++ h.number ∷ [];
-      is = h.is ∙ ap (λ (l : List Word). l ++ h.word ∷ []) p.is ∙ append_assoc old p.more (h.word ∷ []);
+      is = h.is ∙ ap (λ (l : List LineWord). l ++ h.word ∷ []) p.is ∙ append_assoc old p.more (h.word ∷ []);
       numbers = each_end number p.more h.word p.ns h.number p.numbers h.writes;
       back = λ r are. each_end (at_number r.expressions) p.more h.word (trees_at s (take i ids)) e (p.back r are) (of_expression s x.numbers.now r h.word e are k (word_refers s x.numbers.now h.word h.number e h.writes h.refers));
     })
 
-pub sequent_all : (x : Lines) (old new : List Word) (ids : List TermId) (i : ℕ) → length ids ≤ i → PushesSequent x old new (trees_at x.store.now (take i ids)) → PushesSequent x old new (trees_at x.store.now ids)
+pub sequent_all : (x : Lines) (old new : List LineWord) (ids : List TermId) (i : ℕ) → length ids ≤ i → PushesSequent x old new (trees_at x.store.now (take i ids)) → PushesSequent x old new (trees_at x.store.now ids)
 sequent_all x old new ids i lt p = subst (λ (l : List TermId). PushesSequent x old new (trees_at x.store.now l)) (take_all i ids lt) p
 
 -- what the arguments of a rule refer to is there
-ready_each : (x : Lines) (args : List Argument) → ArgumentsHeld x.store.now args → All (IsLineOf x.store.now x.numbers.now) (expressions_in (arguments_at x.store.now args)) → All (IsTypeLine x.store.now x.numbers.now) (types_in (arguments_at x.store.now args)) → All (λ k. IsSpelt x.table.now (Symbol k) []) (symbols_in (arguments_at x.store.now args)) → All (IsReady x) args
+ready_each : (x : Lines) (args : List Argument) → ArgumentsHeld x.store.now args → All (IsLineOf x.store.now x.numbers.now) (expressions_in (arguments_at x.store.now args)) → All (IsTypeLine x.store.now x.numbers.now) (types_in (arguments_at x.store.now args)) → All (λ k. IsSpelt x.table.now (Symbol k) []) (symbols_in (arguments_at x.store.now args)) → All (IsArgumentReady x) args
 unfolding argument_at ArgumentHeld
-ready_each x [] h e y s = All-nil (IsReady x)
-ready_each x (made.Number n ∷ args) h e y s = All-cons (IsReady x) (made.Number n) args tt (ready_each x args h.1 e y s)
-ready_each x (made.Symbol k ∷ args) h e y s = All-cons (IsReady x) (made.Symbol k) args (s 0 k (omega arith)) (ready_each x args h.1 e y (λ i d l. s (suc i) d (omega (arith, l))))
-ready_each x (made.Integer n ∷ args) h e y s = All-cons (IsReady x) (made.Integer n) args tt (ready_each x args h.1 e y s)
-ready_each x (made.Expression a ∷ args) h e y s = All-cons (IsReady x) (made.Expression a) args (h.0, e 0 (tree_at x.store.now a) (omega arith)) (ready_each x args h.1 (λ i d l. e (suc i) d (omega (arith, l))) y s)
-ready_each x (made.Type a ∷ args) h e y s = All-cons (IsReady x) (made.Type a) args (h.0, y 0 (tree_at x.store.now a) (omega arith)) (ready_each x args h.1 e (λ i d l. y (suc i) d (omega (arith, l))) s)
+ready_each x [] h e y s = All-nil (IsArgumentReady x)
+ready_each x (made.Number n ∷ args) h e y s = All-cons (IsArgumentReady x) (made.Number n) args tt (ready_each x args h.1 e y s)
+ready_each x (made.Symbol k ∷ args) h e y s = All-cons (IsArgumentReady x) (made.Symbol k) args (s 0 k (omega arith)) (ready_each x args h.1 e y (λ i d l. s (suc i) d (omega (arith, l))))
+ready_each x (made.Integer n ∷ args) h e y s = All-cons (IsArgumentReady x) (made.Integer n) args tt (ready_each x args h.1 e y s)
+ready_each x (made.Expression a ∷ args) h e y s = All-cons (IsArgumentReady x) (made.Expression a) args (h.0, e 0 (tree_at x.store.now a) (omega arith)) (ready_each x args h.1 (λ i d l. e (suc i) d (omega (arith, l))) y s)
+ready_each x (made.Type a ∷ args) h e y s = All-cons (IsArgumentReady x) (made.Type a) args (h.0, y 0 (tree_at x.store.now a) (omega arith)) (ready_each x args h.1 e (λ i d l. y (suc i) d (omega (arith, l))) s)
 
-pub arguments_ready : (x : Lines) (name : RuleName) (args : List Argument) (rule : RuleTree) → ArgumentsHeld x.store.now args → rule_from name (arguments_at x.store.now args) ≡ Some rule → RuleReady x rule → All (IsReady x) args
+pub arguments_ready : (x : Lines) (name : RuleName) (args : List Argument) (rule : RuleTree) → ArgumentsHeld x.store.now args → rule_from name (arguments_at x.store.now args) ≡ Some rule → RuleReady x rule → All (IsArgumentReady x) args
 arguments_ready x name args rule h e r =
     let p = rule_parts name (arguments_at x.store.now args) rule e in
     ready_each x args h (subst (All (IsLineOf x.store.now x.numbers.now)) (sym p.expressions) r.expressions) (subst (All (IsTypeLine x.store.now x.numbers.now)) (sym p.types) r.types)
     (subst (All (λ k. IsSpelt x.table.now (Symbol k) [])) (sym p.symbols) r.symbols)
 
 -- a rule
-pub rule_pushed : (x : Lines) (old between new : List Word) (word : Word) (name : RuleName) (args : List ArgumentTree) (rule : RuleTree) → between ≡ old ++ word ∷ [] → name_by_word word ≡ Some name → IsTrue (have_kinds (kinds (row name).form).first (kinds (row name).form).repeated args) → rule_from name args ≡ Some rule
+pub rule_pushed : (x : Lines) (old between new : List LineWord) (word : LineWord) (name : RuleName) (args : List ArgumentTree) (rule : RuleTree) → between ≡ old ++ word ∷ [] → name_by_word word ≡ Some name → IsTrue (have_kinds (argument_kinds (rule_row name).form).first (argument_kinds (rule_row name).form).repeated args) → rule_from name args ≡ Some rule
     → PushesArguments x between new args → PushesRule x old new rule
 rule_pushed x old between new word name args rule e m k f p = record {
   more = word ∷ p.more;
-  is = p.is ∙ ap (λ (l : List Word). l ++ p.more) e ∙ append_assoc old (word ∷ []) p.more;
+  is = p.is ∙ ap (λ (l : List LineWord). l ++ p.more) e ∙ append_assoc old (word ∷ []) p.more;
   plain = plain;
   back = λ words t r are. rule_back t x.table.now r words word name rule args p.more m k (p.back r are) f;
 } where
@@ -142,10 +142,10 @@ rule_pushed x old between new word name args rule e m k f p = record {
   plain words t r are = (word_no_colon t x.table.now r words word name m, arguments_no_colon t x.table.now r words args p.more (p.back r are))
 
 -- a step
-pub step_pushed : (x : Lines) (st : Step) (one two three four five : List Word) → PushesSequent x [] one (trees_at x.store.now st.sequent) → two ≡ one ++ codes ":" ∷ [] → PushesRule x two three (rule_at x.store.now st.rule) → four ≡ three ++ codes ":" ∷ [] → PushesNumbers four five st.premises → StepBack x st five
+pub step_pushed : (x : Lines) (st : Step) (one two three four five : List LineWord) → PushesSequent x [] one (trees_at x.store.now st.sequent) → two ≡ one ++ codes ":" ∷ [] → PushesRule x two three (rule_at x.store.now st.rule) → four ≡ three ++ codes ":" ∷ [] → PushesNumbers four five st.premises → StepBack x st five
 step_pushed x st one two three four five q e u f n words t r are =
     let all : five ≡ q.more ++ (codes ":" ∷ (u.more ++ (codes ":" ∷ n.more))) =
-    n.is ∙ ap (λ (l : List Word). l ++ n.more) (f ∙ ap (λ (l : List Word). l ++ codes ":" ∷ []) (u.is ∙ ap (λ (l : List Word). l ++ u.more) (e ∙ ap (λ (l : List Word). l ++ codes ":" ∷ []) q.is)))
+    n.is ∙ ap (λ (l : List LineWord). l ++ n.more) (f ∙ ap (λ (l : List LineWord). l ++ codes ":" ∷ []) (u.is ∙ ap (λ (l : List LineWord). l ++ u.more) (e ∙ ap (λ (l : List LineWord). l ++ codes ":" ∷ []) q.is)))
     ∙ append_assoc ((q.more ++ codes ":" ∷ []) ++ u.more) (codes ":" ∷ []) n.more ∙ append_assoc (q.more ++ codes ":" ∷ []) u.more (codes ":" ∷ n.more) ∙ append_assoc q.more (codes ":" ∷ []) (u.more ++ (codes ":" ∷ n.more)) in
     ap (step_of_line t x.table.now r) all
     ∙ step_back t x.table.now r words (trees_at x.store.now st.sequent) (rule_at x.store.now st.rule) st.premises q.more u.more n.more (numbers_no_colon q.more q.ns q.numbers) (u.plain words t r are) (q.back r are) (u.back words t r are) n.numbers

@@ -1,4 +1,4 @@
--- What right steps give: their trees are typed as far as they stand, and so are the parts of these.
+-- What right steps give: their trees are typed as far as they go, and so are the parts of these.
 use Rattle.std.proofs.Common.{◌≡◌, ℕ, ◌≤◌, ◌<◌, zero, suc, List, [], ◌∷◌, ◌++◌, length, get_or, take, All, Option, Some, None, inl, inr, refl, sym, ap, subst, arith}
 use Rattle.std.specs.Prelude.{IsSomeAnd, slice_get, flat_map}
 use Rattle.std.proofs.lemmas.List.Elements.{All-cons, All-nil, All-append}
@@ -6,26 +6,26 @@ use Rattle.trees.specs.Tree.{Tree, Leaf, One, Two, Three, Head, HEnd, HPred, HFu
 use Rattle.trees.specs.Sorts.{sort_of, IsExpression}
 use Rattle.tasks.specs.declared.signature.SymbolKind.TheVariants.{Predicate, Constructor}
 use Rattle.tasks.specs.Task.{TaskTree, SymbolTree}
-use Rattle.tasks.specs.Typing.{members, MakesTerms, IsUse, Gives}
+use Rattle.tasks.specs.Typing.{members, MakesTerms, IsUse, HasResult}
 use Rattle.tasks.specs.Vocabulary.{Vocabulary, of_task}
 use Rattle.tasks.specs.Open.{OpenTyped}
 use Rattle.tasks.specs.Valid.{IsGround}
 use Rattle.tasks.proofs.Closing.{typed_open}
 use Rattle.linear_leaf.specs.Valuations.{Each}
-use Rattle.rule_rows.specs.Trees.{RuleTree, RReplace, StepTree, trees_of, types_of, step_or, sequents}
+use Rattle.rule_rows.specs.Trees.{RuleTree, RReplace, StepTree, rule_trees, rule_types, step_or, sequents}
 use Rattle.trees.specs.Binding.{inst}
-use Rattle.rule_rows.specs.Forms.{equated}
-use Rattle.rule_rows.specs.Rows.{Row, IsTemplate, Adds}
+use Rattle.rule_rows.specs.Forms.{equation_sides}
+use Rattle.rule_rows.specs.Rows.{IsRuleRow, IsTemplate, Adds}
 use Rattle.trees.specs.Sorts.{type_of}
 use Rattle.kernel.specs.Right.{IsGroundExpression, IsRight, AreRight}
 use Rattle.kernel.specs.Open.{OpenIn}
 use Rattle.step_files.specs.Lines.{IsGoodTree}
 use Rattle.tree_writing.specs.Used.{IsUsed}
-use Rattle.tree_writing.specs.Parts.{IsPart, StandsIn}
+use Rattle.tree_writing.specs.Parts.{IsSubtree, StandsIn}
 use Rattle.written_files.specs.Named.{rule_expressions, step_trees, IsSortedStep, AreSorted, IsLow, AreLow}
 
--- a part is typed as far as it stands
-pub part_open : (v : Vocabulary) (x e : Tree) → IsPart x e → OpenTyped v e → OpenTyped v x
+-- a part is typed as far as it goes
+pub part_open : (v : Vocabulary) (x e : Tree) → IsSubtree x e → OpenTyped v e → OpenTyped v x
 part_open v x (Leaf h) p o = subst (OpenTyped v) (sym p) o
 part_open v x (One h a) (inl q) o = subst (OpenTyped v) (sym q) o
 part_open v x (One h a) (inr p) o = part_open v x a p o.2
@@ -38,7 +38,7 @@ part_open v x (Three h a b c) (inr (inr (inl p))) o = part_open v x b p o.3
 part_open v x (Three h a b c) (inr (inr (inr p))) o = part_open v x c p o.4
 
 -- and free of schematic type variables
-pub part_ground : (x e : Tree) → IsPart x e → IsGround e → IsGround x
+pub part_ground : (x e : Tree) → IsSubtree x e → IsGround e → IsGround x
 part_ground x (Leaf h) p g = subst IsGround (sym p) g
 part_ground x (One h a) (inl q) g = subst IsGround (sym q) g
 part_ground x (One h a) (inr p) g = part_ground x a p g
@@ -51,7 +51,7 @@ part_ground x (Three h a b c) (inr (inr (inl p))) g = part_ground x b p g.1
 part_ground x (Three h a b c) (inr (inr (inr p))) g = part_ground x c p g.2
 
 -- and no taller
-part_low : (x e : Tree) → IsPart x e → height x ≤ height e
+part_low : (x e : Tree) → IsSubtree x e → height x ≤ height e
 part_low x (Leaf h) p = omega (arith, ap height p)
 part_low x (One h a) (inl q) = omega (arith, ap height q)
 part_low x (One h a) (inr p) = let k = part_low x a p in omega (arith, k)
@@ -73,8 +73,8 @@ two_used_open t (HPred k) a b o = entry_more (λ (e : SymbolTree). (e.kind ≡ P
 two_used_open t _ a b o = tt
 
 three_used_open : (t : TaskTree) (h : Head) (a b c : Tree) → OpenIn t (Three h a b c) → IsUsed t (Three h a b c)
-three_used_open t (HFun k) a b c o = entry_more (λ (e : SymbolTree). MakesTerms e.kind × IsUse e a b × Gives e a c) (λ (e : SymbolTree). MakesTerms e.kind × (length (members a) ≡ e.vars) × Gives e a c) (slice_get t.symbols k) (λ e p. (p.0, p.1.as_many, p.2)) o.1.1
-three_used_open t (HPatCon k) a b c o = entry_more (λ (e : SymbolTree). (e.kind ≡ Constructor) × IsUse e a b × Gives e a c) (λ (e : SymbolTree). (length (members a) ≡ e.vars) × Gives e a c) (slice_get t.symbols k) (λ e p. (p.1.as_many, p.2)) o.1.1
+three_used_open t (HFun k) a b c o = entry_more (λ (e : SymbolTree). MakesTerms e.kind × IsUse e a b × HasResult e a c) (λ (e : SymbolTree). MakesTerms e.kind × (length (members a) ≡ e.vars) × HasResult e a c) (slice_get t.symbols k) (λ e p. (p.0, p.1.as_many, p.2)) o.1.1
+three_used_open t (HPatCon k) a b c o = entry_more (λ (e : SymbolTree). (e.kind ≡ Constructor) × IsUse e a b × HasResult e a c) (λ (e : SymbolTree). (length (members a) ≡ e.vars) × HasResult e a c) (slice_get t.symbols k) (λ e p. (p.1.as_many, p.2)) o.1.1
 three_used_open t _ a b c o = tt
 
 used_open : (t : TaskTree) (e : Tree) → OpenIn t e → IsUsed t e
@@ -109,9 +109,9 @@ module _ (t : TaskTree) where
     at None k = absurd k
     at (Some ty) k = template_open ty e k
 
-  rule_open : (q : List Tree) (r : RuleTree) (ps : List (List Tree)) → Each (IsGroundExpression t) (trees_of r) → Row t q r ps → All IsOpenExpression (rule_expressions r)
-  rule_open q (RReplace i j e) ps h w = All-cons IsOpenExpression e [] (some_template (equated (slice_get q i)) e (λ p. slice_get q j ≡ Some (inst e p.0)) (λ p. Adds q ps ((inst e p.1 ∷ []) ∷ [])) w) (All-nil IsOpenExpression)
-  rule_open q r ps h w = each_all (IsGroundExpression t) IsOpenExpression (trees_of r) ground_open h
+  rule_open : (q : List Tree) (r : RuleTree) (ps : List (List Tree)) → Each (IsGroundExpression t) (rule_trees r) → IsRuleRow t q r ps → All IsOpenExpression (rule_expressions r)
+  rule_open q (RReplace i j e) ps h w = All-cons IsOpenExpression e [] (some_template (equation_sides (slice_get q i)) e (λ p. slice_get q j ≡ Some (inst e p.0)) (λ p. Adds q ps ((inst e p.1 ∷ []) ∷ [])) w) (All-nil IsOpenExpression)
+  rule_open q r ps h w = each_all (IsGroundExpression t) IsOpenExpression (rule_trees r) ground_open h
 
   pub step_sorted : (before : List StepTree) (st : StepTree) → IsRight t before st → IsSortedStep st
   step_sorted before st h = record {
@@ -125,13 +125,13 @@ module _ (t : TaskTree) where
 
   pub step_open : (before : List StepTree) (st : StepTree) → IsRight t before st → All (OpenIn t) (step_trees st)
   step_open before st h =
-      All-append (OpenIn t) st.sequent (rule_expressions st.rule ++ types_of st.rule) (λ k d l. typed_open (of_task t) [] (get_or st.sequent k d) (h.formulas k d l).typed)
-      (All-append (OpenIn t) (rule_expressions st.rule) (types_of st.rule) (λ k d l. (rule_open st.sequent st.rule (sequents before st.premises) h.trees h.row k d l).1) (λ k d l. typed_open (of_task t) [] (get_or (types_of st.rule) k d) (h.types k d l).typed))
+      All-append (OpenIn t) st.sequent (rule_expressions st.rule ++ rule_types st.rule) (λ k d l. typed_open (of_task t) [] (get_or st.sequent k d) (h.formulas k d l).typed)
+      (All-append (OpenIn t) (rule_expressions st.rule) (rule_types st.rule) (λ k d l. (rule_open st.sequent st.rule (sequents before st.premises) h.trees h.row k d l).1) (λ k d l. typed_open (of_task t) [] (get_or (rule_types st.rule) k d) (h.types k d l).typed))
 
   pub step_ground : (before : List StepTree) (st : StepTree) → IsRight t before st → All IsGround (step_trees st)
   step_ground before st h =
-      All-append IsGround st.sequent (rule_expressions st.rule ++ types_of st.rule) (λ k d l. (h.formulas k d l).ground)
-      (All-append IsGround (rule_expressions st.rule) (types_of st.rule) (λ k d l. (rule_open st.sequent st.rule (sequents before st.premises) h.trees h.row k d l).2) (λ k d l. (h.types k d l).variables))
+      All-append IsGround st.sequent (rule_expressions st.rule ++ rule_types st.rule) (λ k d l. (h.formulas k d l).ground)
+      (All-append IsGround (rule_expressions st.rule) (rule_types st.rule) (λ k d l. (rule_open st.sequent st.rule (sequents before st.premises) h.trees h.row k d l).2) (λ k d l. (h.types k d l).variables))
 
   pub steps_open : (steps : List StepTree) → AreRight t steps → All (λ (st : StepTree). All (OpenIn t) (step_trees st)) steps
   steps_open steps h k d l = subst (λ (st : StepTree). All (OpenIn t) (step_trees st)) (same_default steps k d l) (step_open (take k steps) (step_or steps k) (h k l))
@@ -159,8 +159,8 @@ pub all_flat : {X Y : Type 0} (P : Y → Type 0) (f : X → List Y) (xs : List X
 all_flat P f [] a = All-nil (λ x. All P (f x))
 all_flat P f (x ∷ xs) a = All-cons (λ x. All P (f x)) x xs (front_all P (f x) (flat_map f xs) a) (all_flat P f xs (back_all P (f x) (flat_map f xs) a))
 
--- what holds of each part of these holds of what stands in them
-pub all_stand : (Q : Tree → Type 0) (roots : List Tree) → All (λ (r : Tree). (x : Tree) → IsPart x r → Q x) roots → (e : Tree) → StandsIn roots e → Q e
+-- what holds of each part of these holds of what is in them
+pub all_stand : (Q : Tree → Type 0) (roots : List Tree) → All (λ (r : Tree). (x : Tree) → IsSubtree x r → Q x) roots → (e : Tree) → StandsIn roots e → Q e
 all_stand Q roots a e p = a p.place (Leaf HEnd) p.within e p.part
 
 pub all_used : (t : TaskTree) (steps : List StepTree) → AreRight t steps → (e : Tree) → StandsIn (flat_map step_trees steps) e → IsUsed t e

@@ -2,11 +2,11 @@
 use Rattle.std.proofs.Common.{◌≡◌, ℕ, ℤ, List, [], ◌∷◌, ◌++◌, map, Option, Some, None, sym, refl, ap, subst, ◌∙◌, append-nil, append_assoc}
 use Rattle.std.specs.Option.{option_and_then, option_map}
 use Rattle.trees.specs.Tree.{Tree}
-use Rattle.rule_rows.specs.Trees.{RuleTree, RAnd, RAndThen, RBound, RCase, RClash, RClause, RCut, RDef, RDistinct, RExists, RFact, RFalse, RForall, RIfDef, RIff, RImp, RInject, RInv, RIrrefl, RKeep, RLetDef, RLinear, RMatchDef, RNotAnd, RNotAndThen, RNotExists, RNotForall, RNotIff, RNotImp, RNotNot, RNotOr, RNotOrElse, RNotTrue, ROr, ROrElse, RProject, RRefl, RReplace, RTrichotomy, types_of}
+use Rattle.rule_rows.specs.Trees.{RuleTree, RAnd, RAndThen, RBound, RCase, RClash, RClause, RCut, RDef, RDistinct, RExists, RFact, RFalse, RForall, RIfDef, RIff, RImp, RInject, RInv, RIrrefl, RKeep, RLetDef, RLinear, RMatchDef, RNotAnd, RNotAndThen, RNotExists, RNotForall, RNotIff, RNotImp, RNotNot, RNotOr, RNotOrElse, RNotTrue, ROr, ROrElse, RProject, RRefl, RReplace, RTrichotomy, rule_types}
 use Rattle.rule_words.specs.declared.name.RuleName.{RuleName}
 use Rattle.rule_words.specs.declared.name.RuleName.TheVariants as name
 use Rattle.rule_words.specs.Arguments.{ArgumentTree, ANumber, ASymbol, AInteger, AExpression, AType, number_in, symbol_in, integer_in, expression_in, type_in}
-use Rattle.rule_words.specs.Forms.{one, two, three, each_from, each, pairs_from, pairs, one_then_types, two_then_types}
+use Rattle.rule_words.specs.Forms.{one_argument, two_arguments, three_arguments, each_from, each_argument, pairs_from, argument_pairs, one_then_types, two_then_types}
 use Rattle.rule_words.specs.Rules.{rule_from}
 use Rattle.written_files.specs.Named.{rule_expressions, rule_symbols, trees_in}
 
@@ -28,11 +28,11 @@ symbols_in (_ ∷ args) = symbols_in args
 
 pub record Parts (args : List ArgumentTree) (r : RuleTree) : Type 0 where
   pub expressions : expressions_in args ≡ rule_expressions r
-  pub types : types_in args ≡ types_of r
+  pub types : types_in args ≡ rule_types r
   pub symbols : symbols_in args ≡ rule_symbols r
-  pub trees : trees_in args ≡ rule_expressions r ++ types_of r
+  pub trees : trees_in args ≡ rule_expressions r ++ rule_types r
 
-parts : (args : List ArgumentTree) (r : RuleTree) → expressions_in args ≡ rule_expressions r → types_in args ≡ types_of r → symbols_in args ≡ rule_symbols r → trees_in args ≡ rule_expressions r ++ types_of r → Parts args r
+parts : (args : List ArgumentTree) (r : RuleTree) → expressions_in args ≡ rule_expressions r → types_in args ≡ rule_types r → symbols_in args ≡ rule_symbols r → trees_in args ≡ rule_expressions r ++ rule_types r → Parts args r
 parts args r e y s t = record { expressions = e; types = y; symbols = s; trees = t }
 
 number_is : (a : ArgumentTree) (i : ℕ) → number_in a ≡ Some i → a ≡ ANumber i
@@ -60,7 +60,7 @@ unfolding type_in
 type_is (AType n) i e = let k : n ≡ i = cc in ap AType k
 type_is _ i e = absurd (cc)
 
-one_parts : {A : Type 0} (p : ArgumentTree → Option A) (g : A → ArgumentTree) → ((a : ArgumentTree) (x : A) → p a ≡ Some x → a ≡ g x) → (f : A → RuleTree) → ((x : A) → Parts (g x ∷ []) (f x)) → (args : List ArgumentTree) (r : RuleTree) → one p f args ≡ Some r → Parts args r
+one_parts : {A : Type 0} (p : ArgumentTree → Option A) (g : A → ArgumentTree) → ((a : ArgumentTree) (x : A) → p a ≡ Some x → a ≡ g x) → (f : A → RuleTree) → ((x : A) → Parts (g x ∷ []) (f x)) → (args : List ArgumentTree) (r : RuleTree) → one_argument p f args ≡ Some r → Parts args r
 one_parts p g is f h [] r e = absurd (cc)
 one_parts {A} p g is f h (a ∷ []) r e = at (p a) refl e where
   at : (o : Option A) → p a ≡ o → option_map f o ≡ Some r → Parts (a ∷ []) r
@@ -69,11 +69,11 @@ one_parts {A} p g is f h (a ∷ []) r e = at (p a) refl e where
 one_parts p g is f h (a ∷ b ∷ rest) r e = absurd (cc)
 
 two_parts : {A B : Type 0} (p : ArgumentTree → Option A) (q : ArgumentTree → Option B) (g : A → ArgumentTree) (l : B → ArgumentTree) → ((a : ArgumentTree) (x : A) → p a ≡ Some x → a ≡ g x) → ((a : ArgumentTree) (x : B) → q a ≡ Some x → a ≡ l x)
-    → (f : A → B → RuleTree) → ((x : A) (y : B) → Parts (g x ∷ l y ∷ []) (f x y)) → (args : List ArgumentTree) (r : RuleTree) → two p q f args ≡ Some r → Parts args r
+    → (f : A → B → RuleTree) → ((x : A) (y : B) → Parts (g x ∷ l y ∷ []) (f x y)) → (args : List ArgumentTree) (r : RuleTree) → two_arguments p q f args ≡ Some r → Parts args r
 two_parts p q g l ip iq f h [] r e = absurd (cc)
 two_parts p q g l ip iq f h (a ∷ []) r e = absurd (cc)
 two_parts {A} {B} p q g l ip iq f h (a ∷ b ∷ []) r e = at (p a) (q b) refl refl e where
-  at : (o : Option A) (u : Option B) → p a ≡ o → q b ≡ u → two (λ (z : ArgumentTree). o) (λ (z : ArgumentTree). u) f (a ∷ b ∷ []) ≡ Some r → Parts (a ∷ b ∷ []) r
+  at : (o : Option A) (u : Option B) → p a ≡ o → q b ≡ u → two_arguments (λ (z : ArgumentTree). o) (λ (z : ArgumentTree). u) f (a ∷ b ∷ []) ≡ Some r → Parts (a ∷ b ∷ []) r
   at None None v w k = absurd (cc)
   at None (Some y) v w k = absurd (cc)
   at (Some x) None v w k = absurd (cc)
@@ -82,12 +82,12 @@ two_parts {A} {B} p q g l ip iq f h (a ∷ b ∷ []) r e = at (p a) (q b) refl r
       subst (λ (z : ArgumentTree). Parts (z ∷ b ∷ []) r) (sym (ip a x v)) (subst (λ (z : ArgumentTree). Parts (g x ∷ z ∷ []) r) (sym (iq b y w)) (subst (Parts (g x ∷ l y ∷ [])) m (h x y)))
 two_parts p q g l ip iq f h (a ∷ b ∷ c ∷ rest) r e = absurd (cc)
 
-replace_parts : (args : List ArgumentTree) (r : RuleTree) → three number_in number_in expression_in RReplace args ≡ Some r → Parts args r
+replace_parts : (args : List ArgumentTree) (r : RuleTree) → three_arguments number_in number_in expression_in RReplace args ≡ Some r → Parts args r
 replace_parts [] r e = absurd (cc)
 replace_parts (a ∷ []) r e = absurd (cc)
 replace_parts (a ∷ b ∷ []) r e = absurd (cc)
 replace_parts (a ∷ b ∷ c ∷ []) r e = at (number_in a) (number_in b) (expression_in c) refl refl refl e where
-  at : (o u : Option ℕ) (m : Option Tree) → number_in a ≡ o → number_in b ≡ u → expression_in c ≡ m → three (λ (z : ArgumentTree). o) (λ (z : ArgumentTree). u) (λ (z : ArgumentTree). m) RReplace (a ∷ b ∷ c ∷ []) ≡ Some r → Parts (a ∷ b ∷ c ∷ []) r
+  at : (o u : Option ℕ) (m : Option Tree) → number_in a ≡ o → number_in b ≡ u → expression_in c ≡ m → three_arguments (λ (z : ArgumentTree). o) (λ (z : ArgumentTree). u) (λ (z : ArgumentTree). m) RReplace (a ∷ b ∷ c ∷ []) ≡ Some r → Parts (a ∷ b ∷ c ∷ []) r
   at None u m v w x k = absurd (cc)
   at (Some i) None m v w x k = absurd (cc)
   at (Some i) (Some j) None v w x k = absurd (cc)
@@ -131,9 +131,9 @@ types_only : (ys : List Tree) → (expressions_in (map AType ys) ≡ []) × (typ
 types_only [] = (refl, refl, refl, refl)
 types_only (y ∷ ys) = let h = types_only ys in (h.0, ap (λ (l : List Tree). y ∷ l) h.1, h.2, ap (λ (l : List Tree). y ∷ l) h.3)
 
-keep_parts : (args : List ArgumentTree) (r : RuleTree) → option_map RKeep (each number_in args) ≡ Some r → Parts args r
-keep_parts args r e = at (each number_in args) refl e where
-  at : (o : Option (List ℕ)) → each number_in args ≡ o → option_map RKeep o ≡ Some r → Parts args r
+keep_parts : (args : List ArgumentTree) (r : RuleTree) → option_map RKeep (each_argument number_in args) ≡ Some r → Parts args r
+keep_parts args r e = at (each_argument number_in args) refl e where
+  at : (o : Option (List ℕ)) → each_argument number_in args ≡ o → option_map RKeep o ≡ Some r → Parts args r
   at None q k = absurd (cc)
   at (Some ns) q k =
       let m = each_is number_in ANumber number_is [] args ns q in
@@ -153,17 +153,17 @@ pairs_only ps (Some i) (a ∷ args) qs e = at (integer_in a) refl e (λ z k. pai
   at None q k more = absurd (cc)
   at (Some z) q k more = subst (λ (y : ArgumentTree). NoParts (y ∷ args)) (sym (integer_is a z q)) (integer_more z args (more z k))
 
-linear_parts : (args : List ArgumentTree) (r : RuleTree) → option_map RLinear (pairs args) ≡ Some r → Parts args r
-linear_parts args r e = at (pairs args) refl e where
-  at : (o : Option (List (ℕ × ℤ))) → pairs args ≡ o → option_map RLinear o ≡ Some r → Parts args r
+linear_parts : (args : List ArgumentTree) (r : RuleTree) → option_map RLinear (argument_pairs args) ≡ Some r → Parts args r
+linear_parts args r e = at (argument_pairs args) refl e where
+  at : (o : Option (List (ℕ × ℤ))) → argument_pairs args ≡ o → option_map RLinear o ≡ Some r → Parts args r
   at None q k = absurd (cc)
   at (Some ps) q k = let l : RLinear ps ≡ r = cc in let n = pairs_only [] None args ps q in subst (Parts args) l (parts args (RLinear ps) n.expressions n.types n.symbols n.trees)
 
 -- one argument, and then types
 then_types : (p : ArgumentTree → Option ℕ) (g : ℕ → ArgumentTree) → ((a : ArgumentTree) (x : ℕ) → p a ≡ Some x → a ≡ g x) → (f : ℕ → List Tree → RuleTree) → ((k : ℕ) (ys : List Tree) → Parts (g k ∷ map AType ys) (f k ys)) → (args : List ArgumentTree) (r : RuleTree) → one_then_types p f args ≡ Some r → Parts args r
 then_types p g is f h [] r e = absurd (cc)
-then_types p g is f h (a ∷ args) r e = at (p a) (each type_in args) refl refl e where
-  at : (o : Option ℕ) (u : Option (List Tree)) → p a ≡ o → each type_in args ≡ u → two (λ (z : ArgumentTree). o) (λ (z : ArgumentTree). u) f (a ∷ a ∷ []) ≡ Some r → Parts (a ∷ args) r
+then_types p g is f h (a ∷ args) r e = at (p a) (each_argument type_in args) refl refl e where
+  at : (o : Option ℕ) (u : Option (List Tree)) → p a ≡ o → each_argument type_in args ≡ u → two_arguments (λ (z : ArgumentTree). o) (λ (z : ArgumentTree). u) f (a ∷ a ∷ []) ≡ Some r → Parts (a ∷ args) r
   at None None v w k = absurd (cc)
   at None (Some y) v w k = absurd (cc)
   at (Some x) None v w k = absurd (cc)
@@ -176,8 +176,8 @@ then_types p g is f h (a ∷ args) r e = at (p a) (each type_in args) refl refl 
 clause_parts : (args : List ArgumentTree) (r : RuleTree) → two_then_types RClause args ≡ Some r → Parts args r
 clause_parts [] r e = absurd (cc)
 clause_parts (a ∷ []) r e = absurd (cc)
-clause_parts (a ∷ b ∷ args) r e = at (symbol_in a) (number_in b) (each type_in args) refl refl refl e where
-  at : (o u : Option ℕ) (m : Option (List Tree)) → symbol_in a ≡ o → number_in b ≡ u → each type_in args ≡ m → three (λ (z : ArgumentTree). o) (λ (z : ArgumentTree). u) (λ (z : ArgumentTree). m) RClause (a ∷ a ∷ a ∷ []) ≡ Some r → Parts (a ∷ b ∷ args) r
+clause_parts (a ∷ b ∷ args) r e = at (symbol_in a) (number_in b) (each_argument type_in args) refl refl refl e where
+  at : (o u : Option ℕ) (m : Option (List Tree)) → symbol_in a ≡ o → number_in b ≡ u → each_argument type_in args ≡ m → three_arguments (λ (z : ArgumentTree). o) (λ (z : ArgumentTree). u) (λ (z : ArgumentTree). m) RClause (a ∷ a ∷ a ∷ []) ≡ Some r → Parts (a ∷ b ∷ args) r
   at None u m v w x k = absurd (cc)
   at (Some i) None m v w x k = absurd (cc)
   at (Some i) (Some j) None v w x k = absurd (cc)
@@ -189,16 +189,16 @@ clause_parts (a ∷ b ∷ args) r e = at (symbol_in a) (number_in b) (each type_
       subst (λ (q : ArgumentTree). Parts (q ∷ b ∷ args) r) (sym (symbol_is a i v)) (subst (λ (q : ArgumentTree). Parts (ASymbol i ∷ q ∷ args) r) (sym (number_is b j w))
       (subst (λ (l : List ArgumentTree). Parts (ASymbol i ∷ ANumber j ∷ l) r) (sym same) (subst (Parts (ASymbol i ∷ ANumber j ∷ map AType ys)) z (parts (ASymbol i ∷ ANumber j ∷ map AType ys) (RClause i j ys) y.0 y.1 (ap (λ (l : List ℕ). i ∷ l) y.2) y.3))))
 
-number_rule : (f : ℕ → RuleTree) → ((i : ℕ) → Parts (ANumber i ∷ []) (f i)) → (args : List ArgumentTree) (r : RuleTree) → one number_in f args ≡ Some r → Parts args r
+number_rule : (f : ℕ → RuleTree) → ((i : ℕ) → Parts (ANumber i ∷ []) (f i)) → (args : List ArgumentTree) (r : RuleTree) → one_argument number_in f args ≡ Some r → Parts args r
 number_rule f h = one_parts number_in ANumber number_is f h
 
-numbers_rule : (f : ℕ → ℕ → RuleTree) → ((i j : ℕ) → Parts (ANumber i ∷ ANumber j ∷ []) (f i j)) → (args : List ArgumentTree) (r : RuleTree) → two number_in number_in f args ≡ Some r → Parts args r
+numbers_rule : (f : ℕ → ℕ → RuleTree) → ((i j : ℕ) → Parts (ANumber i ∷ ANumber j ∷ []) (f i j)) → (args : List ArgumentTree) (r : RuleTree) → two_arguments number_in number_in f args ≡ Some r → Parts args r
 numbers_rule f h = two_parts number_in number_in ANumber ANumber number_is number_is f h
 
-expression_rule : (f : Tree → RuleTree) → ((e : Tree) → Parts (AExpression e ∷ []) (f e)) → (args : List ArgumentTree) (r : RuleTree) → one expression_in f args ≡ Some r → Parts args r
+expression_rule : (f : Tree → RuleTree) → ((e : Tree) → Parts (AExpression e ∷ []) (f e)) → (args : List ArgumentTree) (r : RuleTree) → one_argument expression_in f args ≡ Some r → Parts args r
 expression_rule f h = one_parts expression_in AExpression expression_is f h
 
-placed_rule : (f : ℕ → Tree → RuleTree) → ((i : ℕ) (e : Tree) → Parts (ANumber i ∷ AExpression e ∷ []) (f i e)) → (args : List ArgumentTree) (r : RuleTree) → two number_in expression_in f args ≡ Some r → Parts args r
+placed_rule : (f : ℕ → Tree → RuleTree) → ((i : ℕ) (e : Tree) → Parts (ANumber i ∷ AExpression e ∷ []) (f i e)) → (args : List ArgumentTree) (r : RuleTree) → two_arguments number_in expression_in f args ≡ Some r → Parts args r
 placed_rule f h = two_parts number_in expression_in ANumber AExpression number_is expression_is f h
 
 pub rule_parts : (n : RuleName) (args : List ArgumentTree) (r : RuleTree) → rule_from n args ≡ Some r → Parts args r

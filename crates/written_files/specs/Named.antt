@@ -1,4 +1,4 @@
--- Steps that can be written: what names have to stand in a table.
+-- Steps that can be written: what names have to be in a table.
 use Rattle.std.specs.Prelude.{◌≡◌, ◌≢◌, ℕ, ◌≤◌, List, [], ◌∷◌, ◌++◌, All, Option, codes}
 use Rattle.std.specs.Option.{ForSome}
 use Rattle.trees.specs.Tree.{Tree, height}
@@ -6,24 +6,24 @@ use Rattle.trees.specs.Sorts.{sort_of, IsExpression}
 use Rattle.trees.specs.declared.Sort.TheVariants.{Kind}
 use Rattle.tasks.specs.Task.{TaskTree, SymbolTree}
 use Rattle.rule_words.specs.Arguments.{ArgumentTree, AExpression, AType}
-use Rattle.rule_rows.specs.Trees.{RuleTree, RForall, RNotExists, RCut, RRefl, RReplace, RLetDef, RIfDef, RMatchDef, RDef, RClause, RInv, RCase, RProject, RTrichotomy, RBound, StepTree, types_of}
+use Rattle.rule_rows.specs.Trees.{RuleTree, RForall, RNotExists, RCut, RRefl, RReplace, RLetDef, RIfDef, RMatchDef, RDef, RClause, RInv, RCase, RProject, RTrichotomy, RBound, StepTree, rule_types}
 use Rattle.name_entries.specs.declared.names.NameOf.TheVariants.{Symbol}
 use Rattle.name_entries.specs.declared.names.NameEntry.{NameEntry}
 use Rattle.tree_writing.specs.Spelt.{IsSpelt}
-use Rattle.tree_writing.specs.Parts.{IsPart}
+use Rattle.tree_writing.specs.Parts.{IsSubtree}
 use Rattle.tree_writing.specs.Whole.{TopNamed}
 
 -- no space and no line feed
-abbrev pub IsPlain : ℕ → Type 0
-IsPlain c = (c ≢ 32) × (c ≢ 10)
+abbrev pub IsPlainByte : ℕ → Type 0
+IsPlainByte c = (c ≢ 32) × (c ≢ 10)
 
--- a word of a line: such bytes stand in it
-abbrev pub IsWord : List ℕ → Type 0
-IsWord w = All IsPlain w
+-- a word of a line: such bytes are in it
+abbrev pub IsLineWord : List ℕ → Type 0
+IsLineWord w = All IsPlainByte w
 
 -- a word that isn't the colon of steps
 pub record IsName (w : List ℕ) : Type 0 where
-  pub word : IsWord w
+  pub word : IsLineWord w
   pub no_colon : w ≢ codes ":"
 
 -- the names of a table are such words
@@ -55,11 +55,11 @@ rule_symbols _ = []
 
 -- the trees that the line of a step refers to
 abbrev pub step_trees : StepTree → List Tree
-step_trees st = st.sequent ++ (rule_expressions st.rule ++ types_of st.rule)
+step_trees st = st.sequent ++ (rule_expressions st.rule ++ rule_types st.rule)
 
 -- each symbol in a tree has a name, whole or at its types; no schematic type variable has
 abbrev pub IsNamedTree : List NameEntry → Tree → Type 0
-IsNamedTree table e = (x : Tree) → IsPart x e → TopNamed table x
+IsNamedTree table e = (x : Tree) → IsSubtree x e → TopNamed table x
 
 -- the symbol that the rule of a step names has a name, whole
 abbrev pub SymbolsNamed : List NameEntry → StepTree → Type 0
@@ -91,11 +91,11 @@ trees_in (_ ∷ args) = trees_in args
 pub record IsSortedStep (st : StepTree) : Type 0 where
   pub sequent : All (λ (e : Tree). IsExpression (sort_of e)) st.sequent
   pub expressions : All (λ (e : Tree). IsExpression (sort_of e)) (rule_expressions st.rule)
-  pub types : All (λ (e : Tree). sort_of e ≡ Kind) (types_of st.rule)
+  pub types : All (λ (e : Tree). sort_of e ≡ Kind) (rule_types st.rule)
 
 abbrev pub AreSorted : List StepTree → Type 0
 AreSorted steps = All IsSortedStep steps
 
 -- the names of a task's symbols have no space and no line feed
 abbrev pub NamesAreWords : TaskTree → Type 0
-NamesAreWords t = All (λ (e : SymbolTree). IsWord e.name) t.symbols
+NamesAreWords t = All (λ (e : SymbolTree). IsLineWord e.name) t.symbols

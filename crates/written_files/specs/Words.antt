@@ -9,12 +9,12 @@ use Rattle.name_entries.specs.declared.names.NameOf.TheVariants.{Symbol}
 use Rattle.name_entries.specs.declared.names.NameEntry.{NameEntry}
 use Rattle.integer_words.specs.Integers.{integer}
 use Rattle.rule_rows.specs.declared.rule.Step.{Step}
-use Rattle.rule_rows.specs.Trees.{RuleTree, types_of, StepTree}
+use Rattle.rule_rows.specs.Trees.{RuleTree, rule_types, StepTree}
 use Rattle.rule_rows.specs.Meaning.{step_at}
 use Rattle.rule_words.specs.declared.argument.Argument.{Argument}
 use Rattle.rule_words.specs.declared.argument.Argument.TheVariants as made
 use Rattle.rule_words.specs.Arguments.{ArgumentTree, ANumber, ASymbol, AInteger, AExpression, AType}
-use Rattle.tree_lines.specs.Words.{Word, number as number_of, at_number, each}
+use Rattle.tree_lines.specs.Words.{LineWord, number as number_of, at_number, each}
 use Rattle.tree_lines.specs.Named.{meaning, meaning_by}
 use Rattle.tree_lines.specs.Lines.{Earlier}
 use Rattle.step_lines.specs.Steps.{is_colon, rule_of_words, step_of_line}
@@ -24,14 +24,14 @@ use Rattle.written_files.specs.declared.words.Lines.{Lines}
 use Rattle.written_files.specs.Named.{AreWords, rule_expressions, rule_symbols}
 
 -- a word writes an argument, where the trees of lines are these
-abbrev pub WritesArgument : List NameEntry → Earlier → ArgumentTree → Word → Type 0
+abbrev pub WritesArgument : List NameEntry → Earlier → ArgumentTree → LineWord → Type 0
 WritesArgument table r (ANumber n) w = number_of w ≡ Some n
 WritesArgument table r (ASymbol k) w = meaning table w ≡ Some (meaning_by (Symbol k) [])
 WritesArgument table r (AInteger z) w = integer w ≡ Some z
 WritesArgument table r (AExpression e) w = at_number r.expressions w ≡ Some e
 WritesArgument table r (AType y) w = at_number r.types w ≡ Some y
 
-abbrev pub WriteArguments : List NameEntry → Earlier → List ArgumentTree → List Word → Type 0
+abbrev pub WriteArguments : List NameEntry → Earlier → List ArgumentTree → List LineWord → Type 0
 WriteArguments table r [] [] = Unit {0}
 WriteArguments table r (a ∷ args) (w ∷ ws) = WritesArgument table r a w × WriteArguments table r args ws
 WriteArguments table r _ _ = ⊥
@@ -46,43 +46,43 @@ pub record IsTypeLine (s : List Tree) (numbers : List (Option ℕ)) (e : Tree) :
   pub line : HasLine s numbers e
 
 -- what an argument refers to is there
-abbrev pub IsReady : Lines → Argument → Type 0
-IsReady x (made.Number n) = Unit {0}
-IsReady x (made.Symbol k) = IsSpelt x.table.now (Symbol k) []
-IsReady x (made.Integer n) = Unit {0}
-IsReady x (made.Expression e) = Holds x.store.now e × IsLineOf x.store.now x.numbers.now (tree_at x.store.now e)
-IsReady x (made.Type y) = Holds x.store.now y × IsTypeLine x.store.now x.numbers.now (tree_at x.store.now y)
+abbrev pub IsArgumentReady : Lines → Argument → Type 0
+IsArgumentReady x (made.Number n) = Unit {0}
+IsArgumentReady x (made.Symbol k) = IsSpelt x.table.now (Symbol k) []
+IsArgumentReady x (made.Integer n) = Unit {0}
+IsArgumentReady x (made.Expression e) = Holds x.store.now e × IsLineOf x.store.now x.numbers.now (tree_at x.store.now e)
+IsArgumentReady x (made.Type y) = Holds x.store.now y × IsTypeLine x.store.now x.numbers.now (tree_at x.store.now y)
 
 -- the words of these arguments come at the end
-pub record PushesArguments (x : Lines) (old new : List Word) (args : List ArgumentTree) : Type 0 where
-  pub more : List Word
+pub record PushesArguments (x : Lines) (old new : List LineWord) (args : List ArgumentTree) : Type 0 where
+  pub more : List LineWord
   pub is : new ≡ old ++ more
   pub back : (r : Earlier) → AreLines x.store.now x.numbers.now r → WriteArguments x.table.now r args more
 
 -- none of these is a colon
-abbrev pub NoColon : List Word → Type 0
+abbrev pub NoColon : List LineWord → Type 0
 NoColon [] = Unit {0}
 NoColon (w ∷ ws) = (is_colon w ≡ false) × NoColon ws
 
 -- a word that refers to a tree comes at the end
-pub record PushesReference (x : Lines) (old new : List Word) (e : Tree) : Type 0 where
-  pub word : Word
+pub record PushesReference (x : Lines) (old new : List LineWord) (e : Tree) : Type 0 where
+  pub word : LineWord
   pub number : ℕ
   pub is : new ≡ old ++ word ∷ []
   pub writes : number_of word ≡ Some number
   pub refers : Refers x.store.now x.numbers.now (sort_of e) number e
 
 -- words that refer to these formulas come at the end
-pub record PushesSequent (x : Lines) (old new : List Word) (es : List Tree) : Type 0 where
-  pub more : List Word
+pub record PushesSequent (x : Lines) (old new : List LineWord) (es : List Tree) : Type 0 where
+  pub more : List LineWord
   pub ns : List ℕ
   pub is : new ≡ old ++ more
   pub numbers : each number_of more ≡ Some ns
   pub back : (r : Earlier) → AreLines x.store.now x.numbers.now r → each (at_number r.expressions) more ≡ Some es
 
 -- the words of a rule come at the end
-pub record PushesRule (x : Lines) (old new : List Word) (rule : RuleTree) : Type 0 where
-  pub more : List Word
+pub record PushesRule (x : Lines) (old new : List LineWord) (rule : RuleTree) : Type 0 where
+  pub more : List LineWord
   pub is : new ≡ old ++ more
   pub plain : AreWords x.table.now → (t : TaskTree) (r : Earlier) → AreLines x.store.now x.numbers.now r → NoColon more
   pub back : AreWords x.table.now → (t : TaskTree) (r : Earlier) → AreLines x.store.now x.numbers.now r → rule_of_words t x.table.now r more ≡ Some rule
@@ -90,7 +90,7 @@ pub record PushesRule (x : Lines) (old new : List Word) (rule : RuleTree) : Type
 -- what a rule refers to is there
 pub record RuleReady (x : Lines) (r : RuleTree) : Type 0 where
   pub expressions : All (IsLineOf x.store.now x.numbers.now) (rule_expressions r)
-  pub types : All (IsTypeLine x.store.now x.numbers.now) (types_of r)
+  pub types : All (IsTypeLine x.store.now x.numbers.now) (rule_types r)
   pub symbols : All (λ k. IsSpelt x.table.now (Symbol k) []) (rule_symbols r)
 
 -- what a step refers to is there
@@ -100,5 +100,5 @@ pub record StepReady (x : Lines) (st : StepTree) : Type 0 where
   pub rule : RuleReady x st.rule
 
 -- words are read back as a step, wherever the trees of lines are those
-abbrev pub StepBack : Lines → Step → List Word → Type 0
+abbrev pub StepBack : Lines → Step → List LineWord → Type 0
 StepBack x st ws = AreWords x.table.now → (t : TaskTree) (r : Earlier) → AreLines x.store.now x.numbers.now r → step_of_line t x.table.now r ws ≡ Some (step_at x.store.now st)

@@ -4,7 +4,7 @@ ghost use Rattle.std.specs.Prelude.{◌≡◌, ◌↔◌, [], All, IsTrue, codes
 ghost use Rattle.name_entries.specs.declared.names.NameOf.TheVariants.{Symbol};
 ghost use Rattle.rule_rows.specs.Meaning.{rule_at, steps_at};
 ghost use Rattle.tree_writing.specs.Spelt.{IsSpelt, AreNamesOf};
-ghost use Rattle.written_files.specs.Named.{IsPlain, IsWord, IsName, AreWords, rule_symbols, SymbolsNamed};
+ghost use Rattle.written_files.specs.Named.{IsPlainByte, IsLineWord, IsName, AreWords, rule_symbols, SymbolsNamed};
 
 use name_entries::{NameEntry, NameOf};
 use rule_rows::{Rule, Step};
@@ -13,14 +13,14 @@ use tree_writing::SymbolNames;
 
 // Whether a byte is no space and no line feed.
 fn is_plain(byte: u8) -> bool
-    ensures { IsTrue result ↔ IsPlain byte }
+    ensures { IsTrue result ↔ IsPlainByte byte }
 {
     byte != b' ' && byte != b'\n'
 }
 
-// Whether no space and no line feed stands in a name.
+// Whether no space and no line feed is in a name.
 fn is_word(name: &[u8]) -> bool
-    ensures { IsTrue result ↔ IsWord name.now }
+    ensures { IsTrue result ↔ IsLineWord name.now }
 {
     for byte in name {
         if !is_plain(*byte) {

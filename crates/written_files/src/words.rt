@@ -8,7 +8,7 @@ ghost use Rattle.rule_rows.specs.Meaning.{rule_at, step_at, RuleHeld, StepHeld};
 ghost use Rattle.rule_words.specs.Arguments.{ASymbol, argument_at, arguments_at};
 ghost use Rattle.tree_writing.specs.Spelt.{IsSpelt, AreNamesOf};
 ghost use Rattle.tree_writing.specs.Referring.{words_of, HasLine};
-ghost use Rattle.written_files.specs.Words.{IsLineOf, IsReady, PushesReference, PushesArguments, PushesSequent, PushesRule, RuleReady, StepReady, StepBack};
+ghost use Rattle.written_files.specs.Words.{IsLineOf, IsArgumentReady, PushesReference, PushesArguments, PushesSequent, PushesRule, RuleReady, StepReady, StepBack};
 
 use integer_words::integer_word;
 use name_entries::{NameEntry, NameOf};
@@ -83,7 +83,7 @@ fn push_argument(
     argument: Argument,
 ) -> Result<(), AllocError>
     requires names { AreNamesOf x.now.store.now x.now.table.now x.now.names.now }
-    requires ready { IsReady x.now argument }
+    requires ready { IsArgumentReady x.now argument }
     ensures { OnOk result (PushesArguments x.now (words_of words.old.items)
         (words_of words.new.items) (argument_at x.now.store.now argument ∷ [])) }
 {
@@ -104,7 +104,7 @@ fn push_arguments(
     arguments: &[Argument],
 ) -> Result<(), AllocError>
     requires names { AreNamesOf x.now.store.now x.now.table.now x.now.names.now }
-    requires ready { All (IsReady x.now) arguments.now }
+    requires ready { All (IsArgumentReady x.now) arguments.now }
     ensures { OnOk result (PushesArguments x.now (words_of words.old.items)
         (words_of words.new.items) (arguments_at x.now.store.now arguments.now)) }
 {

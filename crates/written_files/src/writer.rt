@@ -11,7 +11,7 @@ ghost use Rattle.name_tables.specs.Tables.{task_names};
 ghost use Rattle.step_files.specs.Lines.{StepsOf};
 ghost use Rattle.written_files.specs.Named.{AreWords, SymbolsNamed, AreNamed, AreLow, AreSorted, NamesAreWords};
 ghost use Rattle.written_files.specs.Words.{StepReady};
-ghost use Rattle.written_files.specs.Written.{AddsSteps, ReadsBack};
+ghost use Rattle.written_files.specs.Written.{AddsSteps, StepsReadBack};
 
 use crate::named::{are_words, name_symbols};
 use crate::roots::step_roots;
@@ -57,7 +57,7 @@ fn steps_text(
     requires words { AreWords table.now }
     requires sorted { AreSorted (steps_at store.now steps.now) }
     requires symbols { All (SymbolsNamed table.now) (steps_at store.now steps.now) }
-    ensures some { IfOk result (λ o. IfSome o (λ v. ReadsBack table.now
+    ensures some { IfOk result (λ o. IfSome o (λ v. StepsReadBack table.now
         (steps_at store.now steps.now) v.items)) }
     ensures none { IfOk result (λ o. IfNone o
         (AreNamed table.now (steps_at store.now steps.now) → ⊥)) }
@@ -89,7 +89,7 @@ pub fn written_steps(
 ) -> Result<Option<Vec<u8>>, AllocError>
     requires held { StepsHeld store.old steps.now }
     requires closes { Closes (task_at store.old task.now) (steps_at store.old steps.now) }
-    ensures some { IfOk result (λ o. IfSome o (λ v. ReadsBack table.now
+    ensures some { IfOk result (λ o. IfSome o (λ v. StepsReadBack table.now
         (steps_at store.old steps.now) v.items)) }
     ensures none { IfOk result (λ o. IfNone o (AreWords table.now
         → AreNamed table.now (steps_at store.old steps.now) → ⊥)) }

@@ -4,7 +4,7 @@ use Rattle.tasks.specs.Meaning.{declaration_at}
 use Rattle.tasks.proofs.Growth.{declaration_later, decl_held_later}
 use Rattle.syntax_why.specs.declared.declarations.PropKind.{PropKind}
 use Rattle.theory_states.specs.States.{with_declaration}
-use Rattle.clone_copies.specs.Places.{with_goal, with_kind}
+use Rattle.clone_copies.specs.Places.{with_copied_goal, with_kind}
 use Rattle.clone_copies.specs.Meaning.{bare_at}
 use Rattle.clone_copies.proofs.Bare.{declared_bare}
 use Rattle.clone_copies.proofs.Passed.{no_ok}
@@ -22,7 +22,7 @@ returns-in_ok-push_decl-in-Lemma-clause-state c =
     let d = declaration_at s copy in
     let vars = c.args.vars.now in
     let old = bare_at s c.args.typed.now c.args.open.now in
-    let there : bare_at s1 t2 o2 ≡ with_declaration d (with_goal vars d old) =
+    let there : bare_at s1 t2 o2 ≡ with_declaration d (with_copied_goal vars d old) =
     declared_bare s1 t1 t2 o1 o2 (declaration_at s1 copy) (c.in_ok-push_decl-in-Lemma.ensures.state s1)
     ∙ (ap (λ (z : DeclarationTree). with_declaration z (bare_at s1 t1 o1)) (declaration_later s s1 c.push_goal.ensures.grows copy c.requires.copy_held) ∙ ap (with_declaration d) c.in_ok-push_goal-in-Lemma.ensures.state) in
     subst (λ (k : PropKind). bare_at s1 t2 o2 ≡ with_kind k vars d old) (sym c.in-Lemma.is) there

@@ -8,7 +8,7 @@ use Rattle.symbol_maps.specs.Meaning.{map_at}
 use Rattle.symbol_maps.proofs.Steps.{map_held, map_stays, known_on}
 use Rattle.elab_parts.proofs.Entering.{entries_stay, signature_grows}
 use Rattle.clone_elements.specs.declared.plans.Side.{Side as CodeSide}
-use Rattle.clone_elements.specs.Plans.{Side, with_side, with_sides}
+use Rattle.clone_elements.specs.Plans.{SideTree, with_side, with_sides}
 use Rattle.clone_elements.specs.Elements.{SideTold}
 use Rattle.clone_elements.specs.Origins.{origin_at}
 use Rattle.clone_elements.specs.Meaning.{side_at, sides_at, SideHeld, fates_at}
@@ -64,4 +64,4 @@ returns-in_ok-enter_side-in-None-clause-fates t c =
     let first = c.in-Some.first.now in
     let rest = c.in-Some.rest.now in
     let held = tail_held s c.args.sides.now rest first c.in-Some.ensures.cases.0 c.requires.sides in
-    rw c.in-Some.ensures.cases.0 (IfOk-weaker c.check_sides.result _ _ (λ it g e. g e ∙ (ap (λ (z : List Side). with_sides z (fates_at c.enter_side.new.fates)) (sides_stay s s1 c.check_side.ensures.grows rest held) ∙ ap (with_sides (sides_at s rest)) (c.in_ok-enter_side-in-None.ensures s))) c.check_sides.ensures.fates)
+    rw c.in-Some.ensures.cases.0 (IfOk-weaker c.check_sides.result _ _ (λ it g e. g e ∙ (ap (λ (z : List SideTree). with_sides z (fates_at c.enter_side.new.fates)) (sides_stay s s1 c.check_side.ensures.grows rest held) ∙ ap (with_sides (sides_at s rest)) (c.in_ok-enter_side-in-None.ensures s))) c.check_sides.ensures.fates)

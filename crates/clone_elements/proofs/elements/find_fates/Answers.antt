@@ -7,7 +7,7 @@ use Rattle.tasks.specs.Meaning.{symbol_at, symbols_at}
 use Rattle.symbol_maps.specs.Mapped.{Map}
 use Rattle.symbol_maps.specs.Meaning.{map_at}
 use Rattle.clone_elements.specs.Left.{Origin}
-use Rattle.clone_elements.specs.Plans.{Side, no_fates, kept, map_of, tried_map, types_replaced}
+use Rattle.clone_elements.specs.Plans.{SideTree, no_fates, kept, map_of, tried_map, types_replaced}
 use Rattle.clone_elements.specs.Elements.{SidesTold}
 use Rattle.clone_elements.specs.Origins.{origin_at}
 use Rattle.clone_elements.specs.Meaning.{sides_at, IsElementRefused}
@@ -15,7 +15,7 @@ use Rattle.clone_elements.proofs.Compared.{no_ok, no_value}
 use Rattle.clone_elements.proofs.elements.find_fates.Goals as goal
 
 -- the map over these types is the one by which signatures are compared
-tried_is : (symbols : List SymbolTree) (o : Origin) (xs : List Side) (m : Map) (ts : List (ℕ × Tree)) (n : ℕ) → ts ≡ types_replaced symbols o xs → n ≡ length symbols → m ≡ map_of ts [] n (kept o no_fates) → m ≡ tried_map symbols o xs
+tried_is : (symbols : List SymbolTree) (o : Origin) (xs : List SideTree) (m : Map) (ts : List (ℕ × Tree)) (n : ℕ) → ts ≡ types_replaced symbols o xs → n ≡ length symbols → m ≡ map_of ts [] n (kept o no_fates) → m ≡ tried_map symbols o xs
 tried_is symbols o xs m ts n p q h = h ∙ (ap (λ (z : List (ℕ × Tree)). map_of z [] n (kept o no_fates)) p ∙ ap (λ (k : ℕ). map_of (types_replaced symbols o xs) [] k (kept o no_fates)) q)
 
 pub tried_map-requires : goal.tried_map-requires

@@ -3,7 +3,7 @@ use Rattle.tasks.specs.Meaning.{symbols_at}
 use Rattle.clone_elements.specs.declared.plans.TypeFor.{TypeFor}
 use Rattle.clone_elements.specs.Plans.{tried_map, symbols_replaced}
 use Rattle.clone_elements.specs.Origins.{origin_at}
-use Rattle.clone_elements.specs.Meaning.{sides_at, types_at, symbol_pairs, TypeForHeld, IsElementRefused}
+use Rattle.clone_elements.specs.Meaning.{sides_at, type_pairs_at, symbol_pairs, TypeForHeld, IsElementRefused}
 use Rattle.clone_elements.proofs.Compared.{err_passed}
 use Rattle.clone_elements.proofs.Growing.{types_for_stay, types_for_grow}
 use Rattle.clone_elements.proofs.Compared.{no_ok, no_value}
@@ -19,7 +19,7 @@ pub find_fates-requires-clause-held : goal.find_fates-requires-clause-held
 find_fates-requires-clause-held c = subst (λ (z : List TypeFor). All (TypeForHeld c.args.store.now) z) (sym c.as_slice.ensures.value) (c.in_ok-types.ensures.held c.args.store.now c.requires.sides)
 
 pub find_fates-requires-clause-types : goal.find_fates-requires-clause-types
-find_fates-requires-clause-types c = ap (types_at c.args.store.now) c.as_slice.ensures.value ∙ c.in_ok-types.ensures.types c.args.store.now
+find_fates-requires-clause-types c = ap (type_pairs_at c.args.store.now) c.as_slice.ensures.value ∙ c.in_ok-types.ensures.types c.args.store.now
 
 pub find_fates-requires-clause-sides : goal.find_fates-requires-clause-sides
 find_fates-requires-clause-sides c = c.requires.sides

@@ -2,7 +2,7 @@ use Rattle.std.proofs.Common.{◌≡◌, true, false, get_or, sym, ap, subst₂,
 use Rattle.tasks.specs.Task.{SymbolTree, symbol_or}
 use Rattle.tasks.specs.Meaning.{symbols_at}
 use Rattle.symbol_maps.specs.Meaning.{map_at}
-use Rattle.clone_elements.specs.Elements.{is_kind, IsSameSignature}
+use Rattle.clone_elements.specs.Elements.{is_kind_of_word, IsSameSignature}
 use Rattle.clone_elements.proofs.Looked.{typed_held}
 use Rattle.clone_elements.proofs.Compared.{no_ok, no_value}
 use Rattle.clone_elements.proofs.elements.replaces.Goals as goal
@@ -27,7 +27,7 @@ returns-then-kind-clause-same c =
     let int = c.requires.trial.signature.int in
     let old = c.entry_or-old.ensures.entry s int ∙ ap (symbol_or (symbols_at s x.sig.now.symbols)) (c.symbol_at_place-symbol.ensures s) in
     let new = c.entry_or-new.ensures.entry s int in
-    let kind = ap (λ (e : SymbolTree). is_kind e.kind c.args.word) (sym new) ∙ sym c.is_kind-kind.ensures ∙ c.if-kind.true in
+    let kind = ap (λ (e : SymbolTree). is_kind_of_word e.kind c.args.word) (sym new) ∙ sym c.is_kind-kind.ensures ∙ c.if-kind.true in
     (λ r. record { kind = kind; signature = subst₂ (IsSameSignature m) old new (c.in_ok-same.ensures.same.0 r) }, λ h. c.in_ok-same.ensures.same.1 (subst₂ (IsSameSignature m) (sym old) (sym new) h.signature))
 
 pub returns-then-kind-clause-known : goal.returns-then-kind-clause-known
@@ -40,7 +40,7 @@ pub returns-else-kind-clause-same : goal.returns-else-kind-clause-same
 returns-else-kind-clause-same c =
     let s = c.args.store.now in
     let new = c.entry_or-new.ensures.entry s c.requires.trial.signature.int in
-    (λ r. let e : false ≡ true = sym c.if-kind.false ∙ r in cc, λ h. c.is_kind-kind.ensures ∙ ap (λ (e : SymbolTree). is_kind e.kind c.args.word) new ∙ h.kind)
+    (λ r. let e : false ≡ true = sym c.if-kind.false ∙ r in cc, λ h. c.is_kind-kind.ensures ∙ ap (λ (e : SymbolTree). is_kind_of_word e.kind c.args.word) new ∙ h.kind)
 
 pub returns-else-kind-clause-known : goal.returns-else-kind-clause-known
 returns-else-kind-clause-known c = c.in_ok-same.ensures.known

@@ -3,9 +3,9 @@ use Rattle.std.proofs.lemmas.Result.{on_ok_weaker}
 use Rattle.trees.specs.Tree.{Tree}
 use Rattle.tasks.specs.Meaning.{symbols_at}
 use Rattle.syntax_why.specs.SurfaceDeclarations.{element_of}
-use Rattle.clone_elements.specs.Plans.{Fates, type_for, with_side, types_after}
+use Rattle.clone_elements.specs.Plans.{PlacedFates, type_for, with_side, replaced_types}
 use Rattle.clone_elements.specs.Origins.{origin_at}
-use Rattle.clone_elements.specs.Meaning.{right_at, side_at, sides_at, fates_at, types_at}
+use Rattle.clone_elements.specs.Meaning.{right_at, side_at, sides_at, fates_at, type_pairs_at}
 use Rattle.clone_elements.proofs.plans.+push_types.Goals as goal
 
 pub returns-clause-types : goal.returns-clause-types
@@ -16,10 +16,10 @@ returns-clause-types t c =
     rw c.in-Some.ensures.cases.0 (on_ok_weaker c.push_types.result (λ h s.
     let symbols = symbols_at s c.args.sig.now.symbols in
     let o = origin_at s c.args.source.now in
-    let old = types_at s c.args.types.now.items in
+    let old = type_pairs_at s c.args.types.now.items in
     let here = type_for symbols o (fates_at c.args.fates.now) (element_of x.element.now) x.left (right_at s x.right) in
-    let more = types_after symbols o (with_side (side_at s x) (fates_at c.args.fates.now)) (sides_at s xs) in
-    h s ∙ (ap (λ (f : Fates). types_at s ids ++ types_after symbols o f (sides_at s xs)) (c.in_ok-enter_side.ensures s)
+    let more = replaced_types symbols o (with_side (side_at s x) (fates_at c.args.fates.now)) (sides_at s xs) in
+    h s ∙ (ap (λ (f : PlacedFates). type_pairs_at s ids ++ replaced_types symbols o f (sides_at s xs)) (c.in_ok-enter_side.ensures s)
     ∙ (ap (λ (z : List (ℕ × Tree)). z ++ more) (c.in_ok-push_type.ensures.types s) ∙ append_assoc old here more))) c.push_types.ensures.types)
 
 pub returns-clause-held : goal.returns-clause-held

@@ -5,8 +5,8 @@ use Rattle.trees.specs.Node.{tree_at}
 use Rattle.symbol_maps.specs.Meaning.{map_at}
 use Rattle.elab_walk.specs.Drafts.{HoldsType}
 use Rattle.clone_elements.specs.declared.plans.TypeFor.{TypeFor}
-use Rattle.clone_elements.specs.Plans.{with_type, with_types}
-use Rattle.clone_elements.specs.Meaning.{types_at, TypeForHeld}
+use Rattle.clone_elements.specs.Plans.{with_type, with_mapped_types}
+use Rattle.clone_elements.specs.Meaning.{type_pairs_at, TypeForHeld}
 use Rattle.clone_elements.proofs.plans.+put_types.Goals as goal
 
 first_held : (s : List Tree) (ps qs : List TypeFor) (p : TypeFor) → ps ≡ p ∷ qs → All (TypeForHeld s) ps → HoldsType s p.ty
@@ -29,7 +29,7 @@ returns-clause-is t c =
     let s = c.args.store.now in
     let p = c.in-Some.first.now in
     let here : map_at s c.add_type.new.self ≡ with_type p.symbol (tree_at s p.ty) (map_at s c.args.morphism.now) = λ i. record { symbols = λ k. c.in_ok-add_type.ensures.symbols s k i; types = λ k. c.in_ok-add_type.ensures.types k i } in
-    rw c.in-Some.ensures.cases.0 (on_ok_weaker c.put_types.result (λ h. h ∙ ap (with_types (types_at s c.in-Some.rest.now)) here) c.put_types.ensures.is)
+    rw c.in-Some.ensures.cases.0 (on_ok_weaker c.put_types.result (λ h. h ∙ ap (with_mapped_types (type_pairs_at s c.in-Some.rest.now)) here) c.put_types.ensures.is)
 
 pub returns-clause-held : goal.returns-clause-held
 returns-clause-held t c = on_ok_weaker c.put_types.result (λ h m. h (c.in_ok-add_type.ensures.held m)) c.put_types.ensures.held

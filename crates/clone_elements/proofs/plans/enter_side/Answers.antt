@@ -1,7 +1,7 @@
 use Rattle.std.proofs.Common.{◌≡◌, ℕ, Option, Some, sym, subst, ◌∙◌}
 use Rattle.syntax_why.specs.SurfaceDeclarations.{element_of}
 use Rattle.clone_elements.specs.declared.plans.Fate.{Fate}
-use Rattle.clone_elements.specs.Plans.{said, with_fate}
+use Rattle.clone_elements.specs.Plans.{element_fate, with_fate}
 use Rattle.clone_elements.specs.Meaning.{fates_at}
 use Rattle.clone_elements.proofs.Compared.{no_ok}
 use Rattle.clone_elements.proofs.plans.enter_side.Goals as goal
@@ -12,9 +12,9 @@ returns c = λ s.
     let old = fates_at c.args.fates.now in
     let new = fates_at c.insert.new.self in
     let place = c.in-Some.place in
-    let says : Some c.in-Some-element_fate.fate ≡ said e = sym c.in-Some-element_fate.is ∙ c.element_fate.ensures c.args.side.now.element.now.at in
+    let says : Some c.in-Some-element_fate.fate ≡ element_fate e = sym c.in-Some-element_fate.is ∙ c.element_fate.ensures c.args.side.now.element.now.at in
     let there : new ≡ with_fate (Some place) (Some c.in-Some-element_fate.fate) old = λ i q. c.in_ok-insert.ensures.updates.0 q i in
-    subst (λ (l : Option ℕ). new ≡ with_fate l (said e) old) (sym c.in-Some.is) (subst (λ (f : Option Fate). new ≡ with_fate (Some place) f old) says there)
+    subst (λ (l : Option ℕ). new ≡ with_fate l (element_fate e) old) (sym c.in-Some.is) (subst (λ (f : Option Fate). new ≡ with_fate (Some place) f old) says there)
 
 pub returns-in_err-insert : goal.returns-in_err-insert
 returns-in_err-insert c = no_ok _ _ c.from_residual.result c.from_residual.ensures.1

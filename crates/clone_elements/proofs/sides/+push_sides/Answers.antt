@@ -14,7 +14,7 @@ use Rattle.elab_parts.proofs.Tupled.{scopes_extended}
 use Rattle.clone_elements.specs.declared.plans.Side.{Side as CodeSide}
 use Rattle.clone_elements.specs.Left.{place_by, element_key}
 use Rattle.clone_elements.specs.Rights.{right_tuples, right_made, right_fault, rights_fault}
-use Rattle.clone_elements.specs.Plans.{Side, sides_made}
+use Rattle.clone_elements.specs.Plans.{SideTree, sides_made}
 use Rattle.clone_elements.specs.Origins.{place_at}
 use Rattle.clone_elements.specs.Meaning.{side_at, sides_at, SideHeld}
 use Rattle.clone_elements.proofs.Growing.{sides_stay, sides_grow}
@@ -54,14 +54,14 @@ returns-clause-sides t c =
     let xs = c.args.sides.now.items in
     let ext = c.in_ok-right.ensures.entries first.now.at in
     let side : CodeSide = record { element = first; left = c.in_ok-left.left; right = c.in_ok-right.right } in
-    let made : Side = record { element = e; left = place_by places (element_key e); right = right_made s symbols names e } in
+    let made : SideTree = record { element = e; left = place_by places (element_key e); right = right_made s symbols names e } in
     let is : side_at s1 side ≡ made = λ i. record { element = e; left = c.in_ok-left.ensures first.now.at i; right = c.in_ok-right.ensures.made first.now.at i } in
     let old : sides_at s1 c.push.new.self.items ≡ sides_at s xs ++ made ∷ [] =
-    ap (sides_at s1) c.in_ok-push.ensures.items ∙ (map-append (side_at s1) xs (side ∷ []) ∙ (ap (λ (z : List Side). z ++ side_at s1 side ∷ []) (sides_stay s s1 w xs c.requires.held) ∙ ap (λ (z : Side). sides_at s xs ++ z ∷ []) is)) in
+    ap (sides_at s1) c.in_ok-push.ensures.items ∙ (map-append (side_at s1) xs (side ∷ []) ∙ (ap (λ (z : List SideTree). z ++ side_at s1 side ∷ []) (sides_stay s s1 w xs c.requires.held) ∙ ap (λ (z : SideTree). sides_at s xs ++ z ∷ []) is)) in
     let later : sides_made places s1 (symbols_at s1 c.right_side.new.sig.symbols) names es ≡ sides_made places s (symbols ++ right_tuples symbols e) names es =
     ap (λ (z : List SymbolTree). sides_made places s1 z names es) ext.symbols ∙ sides_made_stay s s1 w (length c.args.sig.now.symbols) names c.requires.scopes (some_entry s c.args.sig.now.symbols c.requires.signature) places (symbols ++ right_tuples symbols e) es in
     let more = sides_made places s (symbols ++ right_tuples symbols e) names es in
-    rw c.in-Some.ensures.cases.0 (on_ok_weaker c.push_sides.result (λ h. h ∙ (ap (λ (z : List Side). sides_at s1 c.push.new.self.items ++ z) later ∙ (ap (λ (z : List Side). z ++ more) old ∙ append_assoc (sides_at s xs) (made ∷ []) more))) c.push_sides.ensures.sides)
+    rw c.in-Some.ensures.cases.0 (on_ok_weaker c.push_sides.result (λ h. h ∙ (ap (λ (z : List SideTree). sides_at s1 c.push.new.self.items ++ z) later ∙ (ap (λ (z : List SideTree). z ++ more) old ∙ append_assoc (sides_at s xs) (made ∷ []) more))) c.push_sides.ensures.sides)
 
 pub returns-clause-told : goal.returns-clause-told
 returns-clause-told t c =

@@ -16,8 +16,8 @@ use Rattle.clone_elements.specs.Left.{Origin}
 use Rattle.clone_elements.specs.Origins.{origin_at}
 use Rattle.clone_copies.specs.Origins.{origin_of}
 use Rattle.clone_theories.specs.Cloned.{within_of, IsCloneFault}
-use Rattle.clone_theories.specs.Owned.{IsOwnOf, theory_at}
-use Rattle.clone_theories.specs.Planned.{IsReadFault}
+use Rattle.clone_theories.specs.Owned.{IsOwnOf, known_theory_at}
+use Rattle.clone_theories.specs.Planned.{IsElementsFault}
 use Rattle.clone_theories.proofs.Faults.{or_weaker, read_fault}
 use Rattle.clone_theories.proofs.Stages.{theory_is, origin_is}
 use Rattle.clone_theories.proofs.Begun.{ready, is_cloned}
@@ -41,12 +41,12 @@ copy_theory-requires c =
     let k = c.args.theory in
     let known = c.index-as_slice-theory.result in
     let got : known ≡ get_or t.known k known = c.index-as_slice-theory.is ∙ ap (λ (ks : List Known). get_or ks k known) c.as_slice.ensures in
-    let there : theory_at s t k ≡ known_at s known = theory_is s t k known c.requires.there got in
-    let is_own : IsOwnOf (declarations_at s t.decls) (theory_at s t k) c.in_ok-own.own =
-    subst (λ (ds : List Decl). IsOwnOf (declarations_at s ds) (theory_at s t k) c.in_ok-own.own) c.as_slice-2.ensures (subst (λ (z : KnownTree). IsOwnOf (declarations_at s c.as_slice-2.result.now) z c.in_ok-own.own) (sym there) (c.in_ok-own.ensures s)) in
+    let there : known_theory_at s t k ≡ known_at s known = theory_is s t k known c.requires.there got in
+    let is_own : IsOwnOf (declarations_at s t.decls) (known_theory_at s t k) c.in_ok-own.own =
+    subst (λ (ds : List Decl). IsOwnOf (declarations_at s ds) (known_theory_at s t k) c.in_ok-own.own) c.as_slice-2.ensures (subst (λ (z : KnownTree). IsOwnOf (declarations_at s c.as_slice-2.result.now) z c.in_ok-own.own) (sym there) (c.in_ok-own.ensures s)) in
     let decls_are : c.source_of-source.result.decls.now ≡ t.decls = c.source_of-source.ensures.decls ∙ c.as_slice-3.ensures in
-    let same : origin_at s c.source_of-source.result ≡ origin_of (declarations_at s t.decls) (theory_at s t k) =
-    origin_is s (theory_at s t k) c.in_ok-own.own c.source_of-source.result (declarations_at s t.decls) (ap (declarations_at s) decls_are) c.source_of-source.ensures.own c.source_of-source.ensures.axioms is_own in
+    let same : origin_at s c.source_of-source.result ≡ origin_of (declarations_at s t.decls) (known_theory_at s t k) =
+    origin_is s (known_theory_at s t k) c.in_ok-own.own c.source_of-source.result (declarations_at s t.decls) (ap (declarations_at s) decls_are) c.source_of-source.ensures.own c.source_of-source.ensures.axioms is_own in
     ready c.args.store.now c.plan_elements.new.store c.plan_elements.ensures.grows c.args.typed.now c.args.open.now c.requires.held c.requires.typed c.requires.placed c.args.theory c.requires.there c.in_ok-own.own is_own (map element_of c.args.elements.now) c.plan_elements.new.sig c.in_ok-plan.ensures.entries (origin_at s c.source_of-source.result) same c.in_ok-plan.plan c.in_ok-plan.ensures.read (within_of c.args.link c.last_part.result.now (option_copied c.alias_text.result) c.args.open.now.within.items)
 
 pub returns-clause-ok : goal.returns-clause-ok
@@ -56,12 +56,12 @@ returns-clause-ok c =
     let k = c.args.theory in
     let known = c.index-as_slice-theory.result in
     let got : known ≡ get_or t.known k known = c.index-as_slice-theory.is ∙ ap (λ (ks : List Known). get_or ks k known) c.as_slice.ensures in
-    let there : theory_at s t k ≡ known_at s known = theory_is s t k known c.requires.there got in
-    let is_own : IsOwnOf (declarations_at s t.decls) (theory_at s t k) c.in_ok-own.own =
-    subst (λ (ds : List Decl). IsOwnOf (declarations_at s ds) (theory_at s t k) c.in_ok-own.own) c.as_slice-2.ensures (subst (λ (z : KnownTree). IsOwnOf (declarations_at s c.as_slice-2.result.now) z c.in_ok-own.own) (sym there) (c.in_ok-own.ensures s)) in
+    let there : known_theory_at s t k ≡ known_at s known = theory_is s t k known c.requires.there got in
+    let is_own : IsOwnOf (declarations_at s t.decls) (known_theory_at s t k) c.in_ok-own.own =
+    subst (λ (ds : List Decl). IsOwnOf (declarations_at s ds) (known_theory_at s t k) c.in_ok-own.own) c.as_slice-2.ensures (subst (λ (z : KnownTree). IsOwnOf (declarations_at s c.as_slice-2.result.now) z c.in_ok-own.own) (sym there) (c.in_ok-own.ensures s)) in
     let decls_are : c.source_of-source.result.decls.now ≡ t.decls = c.source_of-source.ensures.decls ∙ c.as_slice-3.ensures in
-    let same : origin_at s c.source_of-source.result ≡ origin_of (declarations_at s t.decls) (theory_at s t k) =
-    origin_is s (theory_at s t k) c.in_ok-own.own c.source_of-source.result (declarations_at s t.decls) (ap (declarations_at s) decls_are) c.source_of-source.ensures.own c.source_of-source.ensures.axioms is_own in
+    let same : origin_at s c.source_of-source.result ≡ origin_of (declarations_at s t.decls) (known_theory_at s t k) =
+    origin_is s (known_theory_at s t k) c.in_ok-own.own c.source_of-source.result (declarations_at s t.decls) (ap (declarations_at s) decls_are) c.source_of-source.ensures.own c.source_of-source.ensures.axioms is_own in
     let x = c.copy_theory in
     is_cloned c.args.store.now c.plan_elements.new.store c.plan_elements.ensures.grows c.args.typed.now c.args.open.now c.requires.held c.requires.typed c.requires.placed c.args.theory c.requires.there c.in_ok-own.own is_own (map element_of c.args.elements.now) c.plan_elements.new.sig c.in_ok-plan.ensures.entries (origin_at s c.source_of-source.result) same c.in_ok-plan.plan c.in_ok-plan.ensures.read c.args.path.now c.args.alias.now c.requires.variables c.requires.found c.args.link c.last_part.result.now (option_copied c.alias_text.result) c.last_part.ensures c.alias_text.ensures
     (state_at x.new.store x.new.typed x.new.open) x.ensures.grows c.in_ok-copy_theory.ensures.copied
@@ -73,14 +73,14 @@ returns-in_err-plan-clause-err c =
     let k = c.args.theory in
     let known = c.index-as_slice-theory.result in
     let got : known ≡ get_or t.known k known = c.index-as_slice-theory.is ∙ ap (λ (ks : List Known). get_or ks k known) c.as_slice.ensures in
-    let there : theory_at s t k ≡ known_at s known = theory_is s t k known c.requires.there got in
-    let is_own : IsOwnOf (declarations_at s t.decls) (theory_at s t k) c.in_ok-own.own =
-    subst (λ (ds : List Decl). IsOwnOf (declarations_at s ds) (theory_at s t k) c.in_ok-own.own) c.as_slice-2.ensures (subst (λ (z : KnownTree). IsOwnOf (declarations_at s c.as_slice-2.result.now) z c.in_ok-own.own) (sym there) (c.in_ok-own.ensures s)) in
+    let there : known_theory_at s t k ≡ known_at s known = theory_is s t k known c.requires.there got in
+    let is_own : IsOwnOf (declarations_at s t.decls) (known_theory_at s t k) c.in_ok-own.own =
+    subst (λ (ds : List Decl). IsOwnOf (declarations_at s ds) (known_theory_at s t k) c.in_ok-own.own) c.as_slice-2.ensures (subst (λ (z : KnownTree). IsOwnOf (declarations_at s c.as_slice-2.result.now) z c.in_ok-own.own) (sym there) (c.in_ok-own.ensures s)) in
     let decls_are : c.source_of-source.result.decls.now ≡ t.decls = c.source_of-source.ensures.decls ∙ c.as_slice-3.ensures in
-    let same : origin_at s c.source_of-source.result ≡ origin_of (declarations_at s t.decls) (theory_at s t k) =
-    origin_is s (theory_at s t k) c.in_ok-own.own c.source_of-source.result (declarations_at s t.decls) (ap (declarations_at s) decls_are) c.source_of-source.ensures.own c.source_of-source.ensures.axioms is_own in
+    let same : origin_at s c.source_of-source.result ≡ origin_of (declarations_at s t.decls) (known_theory_at s t k) =
+    origin_is s (known_theory_at s t k) c.in_ok-own.own c.source_of-source.result (declarations_at s t.decls) (ap (declarations_at s) decls_are) c.source_of-source.ensures.own c.source_of-source.ensures.axioms is_own in
     let before = state_at s t c.args.open.now in
     let es = map element_of c.args.elements.now in
-    let told = or_weaker _ (IsCloneFault c.args.path.now es before) (read_fault c.args.path.now es before (theory_at s t k) c.requires.variables c.requires.found) c.in_err-plan.field-0.0
-    (subst (λ (o : Origin). OrMemory (IsReadFault before.number s before.symbols before.opened.scope o es) c.in_err-plan.field-0.0) same c.in_err-plan.ensures.err) in
+    let told = or_weaker _ (IsCloneFault c.args.path.now es before) (read_fault c.args.path.now es before (known_theory_at s t k) c.requires.variables c.requires.found) c.in_err-plan.field-0.0
+    (subst (λ (o : Origin). OrMemory (IsElementsFault before.number s before.symbols before.opened.scope o es) c.in_err-plan.field-0.0) same c.in_err-plan.ensures.err) in
     if_err c.from_residual-in_err-plan.result _ (OrMemory (IsCloneFault c.args.path.now es before)) c.from_residual-in_err-plan.ensures.1 (λ e h. rw h told)

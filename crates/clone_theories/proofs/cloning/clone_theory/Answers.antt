@@ -7,7 +7,7 @@ use Rattle.theory_states.specs.States.{StateTree}
 use Rattle.theory_states.specs.Meaning.{known_at, state_at}
 use Rattle.theory_states.specs.Uses.{last_part, alias_text, OrMemory, IsUnknownTheory}
 use Rattle.elab_parts.proofs.Solving.{if_err}
-use Rattle.clone_theories.specs.Cloned.{within_of, copying_in, with_entries, IsCloneFault, of_path}
+use Rattle.clone_theories.specs.Cloned.{within_of, copying_in, with_copied_entries, IsCloneFault, of_path}
 use Rattle.clone_theories.specs.Owned.{no_theory}
 use Rattle.clone_theories.proofs.Faults.{or_weaker}
 use Rattle.clone_theories.proofs.TypedClone.{cloned_typed, cloned_placed}
@@ -34,7 +34,7 @@ returns-clause-count c =
     let before = state_at c.args.store.now c.args.typed.now c.args.open.now in
     let es = map element_of c.args.elements.now in
     let within = within_of c.args.link (last_part c.args.path.now.parts) (alias_text c.args.alias.now) before.opened.within in
-    on_ok_weaker x.result (λ h. ap (λ (z : StateTree). z.number) h.is ∙ number_stays (copying_in before h.theory es within) h.theory.visible (with_entries before h.theory es within)) x.ensures.ok
+    on_ok_weaker x.result (λ h. ap (λ (z : StateTree). z.number) h.is ∙ number_stays (copying_in before h.theory es within) h.theory.visible (with_copied_entries before h.theory es within)) x.ensures.ok
 
 pub clone_known-requires-clause-found : goal.clone_known-requires-clause-found
 clone_known-requires-clause-found c =

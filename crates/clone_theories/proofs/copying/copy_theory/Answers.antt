@@ -5,9 +5,9 @@ use Rattle.syntax_why.specs.Lexeme.{Word}
 use Rattle.symbol_maps.proofs.Steps.{ok_any, ok_both}
 use Rattle.theory_states.specs.Meaning.{state_at}
 use Rattle.clone_theories.specs.Cloned.{within_of, with_names}
-use Rattle.clone_theories.specs.Owned.{theory_at}
+use Rattle.clone_theories.specs.Owned.{known_theory_at}
 use Rattle.clone_theories.specs.Planned.{planned}
-use Rattle.clone_theories.specs.Copied.{IsReady, AreContents}
+use Rattle.clone_theories.specs.Copied.{IsCopyReady, AreContents}
 use Rattle.clone_theories.proofs.Stages.{named_state, named_held, copied_by}
 use Rattle.clone_theories.proofs.copying.copy_theory.Goals as goal
 
@@ -15,7 +15,7 @@ pub copy_contents-requires : goal.copy_contents-requires
 copy_contents-requires c =
     let within = within_of c.args.link c.args.last.now (option_copied c.args.alias) c.args.open.now.within.items in
     let is : c.as_slice-2.result.now ≡ within = c.as_slice-2.ensures.value ∙ (c.in_ok-within.ensures ∙ ap (within_of c.args.link c.args.last.now (option_copied c.args.alias)) c.as_slice.ensures.value) in
-    subst (IsReady c.args.store.now c.args.typed.now c.args.open.now c.args.theory c.args.own.now c.args.plan.now) (sym is) c.requires
+    subst (IsCopyReady c.args.store.now c.args.typed.now c.args.open.now c.args.theory c.args.own.now c.args.plan.now) (sym is) c.requires
 
 pub returns-clause-copied : goal.returns-clause-copied
 returns-clause-copied c =
@@ -29,7 +29,7 @@ returns-clause-copied c =
     let alias = option_copied c.args.alias in
     let within = within_of c.args.link last alias c.args.open.now.within.items in
     let is : c.as_slice-2.result.now ≡ within = c.as_slice-2.ensures.value ∙ (c.in_ok-within.ensures ∙ ap (within_of c.args.link last alias) c.as_slice.ensures.value) in
-    let theory = theory_at s c.args.typed.now c.args.theory in
+    let theory = known_theory_at s c.args.typed.now c.args.theory in
     let after = state_at x.new.store x.new.typed o2 in
     let contents : AreContents theory (planned s before theory c.args.plan.now within) ms before after =
     subst (λ (v : Word). AreContents theory (planned s before theory c.args.plan.now v) ms before after) is c.in_ok-moves.ensures.copies in

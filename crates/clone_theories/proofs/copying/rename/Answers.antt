@@ -4,7 +4,7 @@ use Rattle.trees.specs.Tree.{Tree}
 use Rattle.tasks.specs.Meaning.{symbol_at, symbols_at}
 use Rattle.clone_elements.specs.Plans.{map_of}
 use Rattle.clone_elements.specs.Origins.{origin_at}
-use Rattle.clone_elements.specs.Meaning.{types_at, symbol_pairs}
+use Rattle.clone_elements.specs.Meaning.{type_pairs_at, symbol_pairs}
 use Rattle.clone_theories.specs.Planned.{planned_kept}
 use Rattle.clone_theories.proofs.copying.rename.Goals as goal
 
@@ -14,7 +14,7 @@ returns c =
     let is = c.args.sig.now.symbols in
     let symbols = symbols_at s is in
     let p = c.args.plan.now in
-    let types = types_at s p.types.items in
+    let types = type_pairs_at s p.types.items in
     let pairs = symbol_pairs p.symbols.items in
     let first = c.len-first.result in
     let all : c.in_ok-symbols.symbols.items ≡ planned_kept (origin_at s c.args.source.now) p = c.in_ok-symbols.ensures s in
@@ -22,7 +22,7 @@ returns c =
     let n : first ≡ length symbols = c.len-first.ensures ∙ sym (length-map is (symbol_at s)) in
     record {
       is = c.in_ok-morphism.ensures.is
-          ∙ (ap (λ (z : List (ℕ × Tree)). map_of z (symbol_pairs c.as_slice-2.result.now) first c.as_slice-3.result.now) (ap (types_at s) c.as_slice.ensures.value)
+          ∙ (ap (λ (z : List (ℕ × Tree)). map_of z (symbol_pairs c.as_slice-2.result.now) first c.as_slice-3.result.now) (ap (type_pairs_at s) c.as_slice.ensures.value)
           ∙ (ap (λ (z : List (ℕ × ℕ)). map_of types z first c.as_slice-3.result.now) (ap symbol_pairs c.as_slice-2.ensures.value)
           ∙ (ap (λ (k : ℕ). map_of types pairs k c.as_slice-3.result.now) n
           ∙ ap (map_of types pairs (length symbols)) ks)));

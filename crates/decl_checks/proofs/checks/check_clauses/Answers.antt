@@ -1,7 +1,7 @@
 use Rattle.std.proofs.Common.{◌≡◌, ◌++◌, ap, ◌∙◌}
 use Rattle.tasks.specs.Meaning.{symbols_at, inductives_at}
 use Rattle.decl_checks.specs.Checks.{group_of, all_clauses}
-use Rattle.decl_checks.specs.Meaning.{clauses_at}
+use Rattle.decl_checks.specs.Meaning.{own_clauses_at}
 use Rattle.decl_checks.proofs.Exact.{moved}
 use Rattle.decl_checks.proofs.checks.check_clauses.Goals as goal
 
@@ -10,6 +10,6 @@ returns c =
     let s = c.args.store.now in
     let is = inductives_at s c.args.inductives.now in
     let group : c.as_slice.result.now ≡ group_of is = c.as_slice.ensures.value ∙ c.in_ok-push_group.ensures ∙ ap (λ y. y ++ group_of is) c.new-group.ensures.items in
-    let clauses : clauses_at s c.as_slice-2.result.now ≡ all_clauses is =
-    ap (clauses_at s) c.as_slice-2.ensures.value ∙ c.in_ok-push_all.ensures.tree ∙ ap (λ y. clauses_at s y ++ all_clauses is) c.new-clauses.ensures.items in
-    moved (symbols_at s c.args.sig.now.symbols) c.as_slice.result.now (group_of is) (clauses_at s c.as_slice-2.result.now) (all_clauses is) c.check_listed.result group clauses c.check_listed.ensures
+    let clauses : own_clauses_at s c.as_slice-2.result.now ≡ all_clauses is =
+    ap (own_clauses_at s) c.as_slice-2.ensures.value ∙ c.in_ok-push_all.ensures.tree ∙ ap (λ y. own_clauses_at s y ++ all_clauses is) c.new-clauses.ensures.items in
+    moved (symbols_at s c.args.sig.now.symbols) c.as_slice.result.now (group_of is) (own_clauses_at s c.as_slice-2.result.now) (all_clauses is) c.check_listed.result group clauses c.check_listed.ensures

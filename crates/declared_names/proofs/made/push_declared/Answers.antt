@@ -4,7 +4,7 @@ use Rattle.syntax_why.specs.declared.declarations.DeclNode.TheVariants as dv
 use Rattle.syntax_why.specs.Surface.{form_of}
 use Rattle.syntax_why.specs.SurfaceDeclarations.{decl_of, declared_name, plain_name, param_of, member_of, algebraic_of, inductive_of}
 use Rattle.syntax_why.proofs.DeclLemmas.{decl_is, decl_of_node-TypeDecl, decl_of_node-Prop, decl_of_node-Algebraic, decl_of_node-Function, decl_of_node-Predicate, decl_of_node-Constant, decl_of_node-Inductive, decl_of_node-UseTheory, decl_of_node-CloneTheory, decl_of_node-ScopeDecl}
-use Rattle.elab_parts.specs.Declarations.{makes, word, symbol, parameter, names_of, member, algebraic_type, inductive_predicate, made_by_types, made_by_members, made_by_inductives}
+use Rattle.elab_parts.specs.Declarations.{makes, word, symbol, parameter_of, names_of_parameters, group_member, algebraic_type, inductive_predicate, made_type_names, made_by_members, made_by_inductives}
 use Rattle.declared_names.specs.Made.{moves_made, moves_declared}
 use Rattle.declared_names.proofs.Appended.{on_ok, name_then, type_moves}
 use Rattle.declared_names.proofs.made.push_declared.Goals as goal
@@ -24,7 +24,7 @@ returns-in-Algebraic c =
     let d = c.args.decl.now in
     let i = c.in-Algebraic in
     let e = decl_is d (dv.Algebraic i.types) i.is ∙ decl_of_node-Algebraic i.types d.at in
-    let z : moves_declared n (decl_of d) ≡ moves_made n (made_by_types (map algebraic_type (map algebraic_of i.types))) = ap (moves_declared n) e in
+    let z : moves_declared n (decl_of d) ≡ moves_made n (made_type_names (map algebraic_type (map algebraic_of i.types))) = ap (moves_declared n) e in
     rw z (rw c.as_slice.ensures at c.push_types.ensures)
 
 pub returns-in_ok-push_symbol-in-Function : goal.returns-in_ok-push_symbol-in-Function
@@ -35,7 +35,7 @@ returns-in_ok-push_symbol-in-Function c =
     let e = decl_is d (dv.Function i.name i.field-1 i.field-2 i.field-3 i.others) i.is ∙ decl_of_node-Function i.name i.field-1 i.field-2 i.field-3 i.others d.at in
     let z = ap (moves_declared n) e in
     let rest = rw c.as_slice-in-Function.ensures at c.push_members.ensures in
-    rw z (on_ok c.push_members.result _ _ (λ q. name_then n Symbols (symbol (declared_name i.name)) (names_of (map parameter (map param_of i.field-1))) (made_by_members (map member (map member_of i.others))) _ _ _ c.in_ok-push_symbol-in-Function.ensures q) rest)
+    rw z (on_ok c.push_members.result _ _ (λ q. name_then n Symbols (symbol (declared_name i.name)) (names_of_parameters (map parameter_of (map param_of i.field-1))) (made_by_members (map group_member (map member_of i.others))) _ _ _ c.in_ok-push_symbol-in-Function.ensures q) rest)
 
 pub returns-in_ok-push_symbol-in-Predicate : goal.returns-in_ok-push_symbol-in-Predicate
 returns-in_ok-push_symbol-in-Predicate c =
@@ -45,7 +45,7 @@ returns-in_ok-push_symbol-in-Predicate c =
     let e = decl_is d (dv.Predicate i.name i.field-1 i.field-2 i.others) i.is ∙ decl_of_node-Predicate i.name i.field-1 i.field-2 i.others d.at in
     let z = ap (moves_declared n) e in
     let rest = rw c.as_slice-in-Predicate.ensures at c.push_members-in-Predicate.ensures in
-    rw z (on_ok c.push_members-in-Predicate.result _ _ (λ q. name_then n Symbols (symbol (declared_name i.name)) (names_of (map parameter (map param_of i.field-1))) (made_by_members (map member (map member_of i.others))) _ _ _ c.in_ok-push_symbol-in-Predicate.ensures q) rest)
+    rw z (on_ok c.push_members-in-Predicate.result _ _ (λ q. name_then n Symbols (symbol (declared_name i.name)) (names_of_parameters (map parameter_of (map param_of i.field-1))) (made_by_members (map group_member (map member_of i.others))) _ _ _ c.in_ok-push_symbol-in-Predicate.ensures q) rest)
 
 pub returns-in-Constant : goal.returns-in-Constant
 returns-in-Constant c =

@@ -1,6 +1,6 @@
 use Rattle.std.proofs.Common.{◌≡◌, ◌+◌, ◌*◌, None, drop, map}
 use Rattle.driver_tokens.specs.File.{lines_in, line_in}
-use Rattle.driver_files.specs.Calls.{Lines, place}
+use Rattle.driver_files.specs.Calls.{LinesMeaning, place}
 use Rattle.driver_files.proofs.Answering.{Goes}
 use Rattle.driver_files.proofs.reading.+files.Given as goal
 
@@ -25,6 +25,6 @@ decreases-read_import g l = 6 * l.room
 -- the lines so far have come to what is left
 abbrev pub invariant-read_lines-loop-line : goal.invariant-read_lines-loop-line
 invariant-read_lines-loop-line g l = record {
-  goes : Goes (Lines l.symbols l.theories (place l.file l.name l.fn.opened l.room) None (lines_in l.text l.its) l.fn.progress) (Lines l.symbols l.theories (place l.file l.name l.fn.opened l.room) l.block (map (line_in l.text l.its.tokens.items) (drop l.line-index l.its.lines.items)) l.progress) l.fn.progress.next l.progress.next (g.L.Library.state l.fn.lib) (g.L.Library.state l.lib);
+  goes : Goes (LinesMeaning l.symbols l.theories (place l.file l.name l.fn.opened l.room) None (lines_in l.text l.its) l.fn.progress) (LinesMeaning l.symbols l.theories (place l.file l.name l.fn.opened l.room) l.block (map (line_in l.text l.its.tokens.items) (drop l.line-index l.its.lines.items)) l.progress) l.fn.progress.next l.progress.next (g.L.Library.state l.fn.lib) (g.L.Library.state l.lib);
   opened : l.opened ≡ l.fn.opened;
 }

@@ -1,14 +1,14 @@
 use Rattle.std.proofs.Common.{◌∙◌, ℕ, List, Some, map, sym, ap, arith}
 use Rattle.driver_tokens.specs.declared.token.DriverToken.{DriverToken}
 use Rattle.driver_tokens.specs.Tokens.{lexeme_in}
-use Rattle.driver_items.specs.Items.{name_of}
+use Rattle.driver_items.specs.Items.{written_name}
 use Rattle.driver_files.proofs.Blocks.{behind-theory, behind-other}
 use Rattle.driver_files.proofs.reading.block_behind.Goals as goal
 
 pub returns-then-is_theory : goal.returns-then-is_theory
 returns-then-is_theory c =
     let is = behind-theory c.args.block c.args.text.now c.args.line.now _ (omega arith) (sym c.is_theory.ensures ∙ c.if-is_theory.true) in
-    ap (λ (v : List ℕ). Some v) (c.in_ok-path.ensures ∙ ap (λ (v : List DriverToken). name_of (map (lexeme_in c.args.text.now) v)) c.part.ensures) ∙ is
+    ap (λ (v : List ℕ). Some v) (c.in_ok-path.ensures ∙ ap (λ (v : List DriverToken). written_name (map (lexeme_in c.args.text.now) v)) c.part.ensures) ∙ is
 
 pub returns : goal.returns
 returns c =

@@ -1,7 +1,7 @@
 use Rattle.std.proofs.Common.{◌≡◌, true, false, ◌&&◌, nat_eq, nat_le, [], ◌∷◌, ◌++◌, ap, ◌∙◌, arith}
 use Rattle.std.proofs.lemmas.Bool.Decides.{nat_tests}
 use Rattle.driver_items.specs.declared.kinds.Piece.TheVariants.{Argument}
-use Rattle.driver_items.specs.Templates.{literal}
+use Rattle.driver_items.specs.Templates.{literal_pieces}
 use Rattle.driver_items.proofs.Pieces.{digit-turn}
 use Rattle.driver_items.proofs.templates.take_escaped.Goals as goal
 
@@ -13,6 +13,6 @@ returns c =
     let p : nat_eq a 37 ≡ false = grind (arith, nat_tests) in
     let d : (nat_le 49 a && nat_le a 57) ≡ true = grind (arith, nat_tests) in
     let e = c.in_ok-push-2.ensures.ok
-    ∙ ap (λ v. v ++ Argument c.from.result ∷ []) (c.in_ok-put_literal.ensures ∙ ap (λ v. old ++ literal v) c.deref.ensures.value)
-    ∙ ap (λ v. (old ++ literal before) ++ Argument v ∷ []) c.from.ensures in
+    ∙ ap (λ v. v ++ Argument c.from.result ∷ []) (c.in_ok-put_literal.ensures ∙ ap (λ v. old ++ literal_pieces v) c.deref.ensures.value)
+    ∙ ap (λ v. (old ++ literal_pieces before) ++ Argument v ∷ []) c.from.ensures in
     digit-turn a old c.push-2.new.self before c.clear.new.self.items p d e c.clear.ensures.items

@@ -1,5 +1,5 @@
 use Rattle.std.proofs.Common.{sym, subst, arith}
-use Rattle.driver_parts.specs.Steps.{step, Meets}
+use Rattle.driver_parts.specs.Steps.{item_step, MeetsResult}
 use Rattle.driver_parts.proofs.Saying.{two-tokens, short-line}
 use Rattle.driver_parts.proofs.steps.take_line.Goals as goal
 
@@ -9,4 +9,4 @@ returns-then-line-lt2 c =
 
 pub returns : goal.returns
 returns c =
-    subst (λ v. Meets c.take_two.result c.take_two.new.parts (step c.args.symbols.now c.args.theories.now c.args.file c.args.block.now v c.args.parts.now)) (sym (two-tokens c.args.text.now c.args.line.now _ _ (omega arith))) c.take_two.ensures
+    subst (λ v. MeetsResult c.take_two.result c.take_two.new.parts (item_step c.args.symbols.now c.args.theories.now c.args.file c.args.block.now v c.args.parts.now)) (sym (two-tokens c.args.text.now c.args.line.now _ _ (omega arith))) c.take_two.ensures

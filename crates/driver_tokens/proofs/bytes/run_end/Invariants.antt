@@ -1,13 +1,13 @@
 use Rattle.std.proofs.Common.{◌≡◌, ◌≤◌, ◌+◌, ◌-◌, length, drop}
 use Rattle.std.specs.List.{prefix_len}
-use Rattle.driver_tokens.specs.Tokens.{is_in}
+use Rattle.driver_tokens.specs.Tokens.{is_in_run}
 use Rattle.driver_tokens.proofs.bytes.run_end.Given as goal
 
 abbrev pub invariant-loop-at : goal.invariant-loop-at
 invariant-loop-at l = record {
   low : l.fn.from ≤ l.at;
   high : l.at ≤ length l.text;
-  same : l.fn.from + prefix_len (is_in l.run) (drop l.fn.from l.text) ≡ l.at + prefix_len (is_in l.run) (drop l.at l.text);
+  same : l.fn.from + prefix_len (is_in_run l.run) (drop l.fn.from l.text) ≡ l.at + prefix_len (is_in_run l.run) (drop l.at l.text);
 }
 
 abbrev pub decreases-loop-at : goal.decreases-loop-at

@@ -1,18 +1,18 @@
 use Rattle.std.proofs.Common.{◌≡◌, Ok, Err, subst, length}
 use Rattle.driver_tokens.specs.Machine.{cut}
-use Rattle.driver_tokens.specs.File.{parts_of, Cuts}
+use Rattle.driver_tokens.specs.File.{tokens_of_lines, Cuts}
 use Rattle.driver_tokens.proofs.TextLines.{found_exact, found_lines, err_exact, err_refused}
 use Rattle.driver_tokens.proofs.file.read_lines.Goals as goal
 
 pub returns-in-Ok-clause-exact : goal.returns-in-Ok-clause-exact
 returns-in-Ok-clause-exact c =
     let lines = c.in-Ok.lines.items in
-    found_exact c.args.text.now c.in_ok-tokens.tokens.items lines c.in_ok-tokens.ensures (subst (λ v. cut (λ x. x.terminal) v ≡ Ok (parts_of v lines)) c.deref.ensures.value c.in-Ok.ensures)
+    found_exact c.args.text.now c.in_ok-tokens.tokens.items lines c.in_ok-tokens.ensures (subst (λ v. cut (λ x. x.terminal) v ≡ Ok (tokens_of_lines v lines)) c.deref.ensures.value c.in-Ok.ensures)
 
 pub returns-in-Ok-clause-lines : goal.returns-in-Ok-clause-lines
 returns-in-Ok-clause-lines c =
     let lines = c.in-Ok.lines.items in
-    found_lines c.args.text.now c.in_ok-tokens.tokens.items lines c.in_ok-tokens.ensures (subst (λ v. cut (λ x. x.terminal) v ≡ Ok (parts_of v lines)) c.deref.ensures.value c.in-Ok.ensures)
+    found_lines c.args.text.now c.in_ok-tokens.tokens.items lines c.in_ok-tokens.ensures (subst (λ v. cut (λ x. x.terminal) v ≡ Ok (tokens_of_lines v lines)) c.deref.ensures.value c.in-Ok.ensures)
 
 pub returns-in-Err-clause-exact : goal.returns-in-Err-clause-exact
 returns-in-Err-clause-exact c =

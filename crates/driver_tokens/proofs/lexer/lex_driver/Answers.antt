@@ -1,5 +1,5 @@
 use Rattle.std.proofs.Common.{◌++◌, ◌∷◌, [], map, slice_range, sym, ap, ◌∙◌, arith, append_assoc, drop}
-use Rattle.driver_tokens.specs.Tokens.{lexeme_in, lexeme, lexed}
+use Rattle.driver_tokens.specs.Tokens.{lexeme_in, driver_lexeme, lexed}
 use Rattle.driver_tokens.proofs.Lexing.{gap-turn, token-turn, none-turn, found-turn}
 use Rattle.driver_tokens.proofs.lexer.lex_driver.Goals as goal
 
@@ -32,7 +32,7 @@ loop-at-preserved c =
     record {
       high = end.ensures.within.1;
       same = ap (λ v. v ++ lexed (drop end.result text) end.result 0) more
-          ∙ append_assoc (map (lexeme_in text) c.loop-at.found.items) (lexeme at (slice_range text at end.result) ∷ []) (lexed (drop end.result text) end.result 0)
+          ∙ append_assoc (map (lexeme_in text) c.loop-at.found.items) (driver_lexeme at (slice_range text at end.result) ∷ []) (lexed (drop end.result text) end.result 0)
           ∙ ap (λ v. map (lexeme_in text) c.loop-at.found.items ++ v) (sym turn)
           ∙ c.loop-at.invariant.same;
     }

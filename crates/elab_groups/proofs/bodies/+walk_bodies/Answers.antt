@@ -3,7 +3,7 @@ use Rattle.std.proofs.lemmas.Result.{on_ok_weaker}
 use Rattle.trees.specs.declared.TermId.{TermId}
 use Rattle.elab_names.specs.Naming.{where_at}
 use Rattle.elab_names.specs.Where.{Where}
-use Rattle.elab_walk.specs.Pieces.{Piece, past}
+use Rattle.elab_walk.specs.Pieces.{NotedTree, unknown_after}
 use Rattle.elab_walk.proofs.Growing.{world_stays, world_grows}
 use Rattle.elab_walk.proofs.Noting.{next, no_elements}
 use Rattle.elab_parts.proofs.Putting.{all_first, all_rest, held_more}
@@ -74,12 +74,12 @@ returns-clause-walked t c =
     let w = where_at s c.args.world.now in
     let one = c.in_ok-id.ensures.walked in
     let rest = all_rest (SignedHeld s) c.args.signed.now first others c.in-Some-split_first.ensures.cases.0 c.requires.signed in
-    let p : Piece = member_piece w (length d.takers) m (signed_at s first) in
-    let same : member_pieces (where_at s1 c.args.world.now) (length d1.takers) ms (map (signed_at s1) others) ≡ member_pieces w (past (length d.takers) p) ms (map (signed_at s) others) =
-    pieces_same w (where_at s1 c.args.world.now) (past (length d.takers) p) (length d1.takers) ms (map (signed_at s) others) (map (signed_at s1) others)
+    let p : NotedTree = member_piece w (length d.takers) m (signed_at s first) in
+    let same : member_pieces (where_at s1 c.args.world.now) (length d1.takers) ms (map (signed_at s1) others) ≡ member_pieces w (unknown_after (length d.takers) p) ms (map (signed_at s) others) =
+    pieces_same w (where_at s1 c.args.world.now) (unknown_after (length d.takers) p) (length d1.takers) ms (map (signed_at s) others) (map (signed_at s1) others)
     (world_stays s s1 g c.args.world.now c.requires.world) (next one.noted) (all_signed_stay s s1 g others rest) in
     let ids = c.args.ids.now.items ++ c.in_ok-id.id ∷ [] in
     rw (c.in-Some.ensures.cases.0, c.in-Some-split_first.ensures.cases.0) (on_ok_weaker c.walk_bodies.result
     (λ h. walked_first {ids = c.args.ids.now.items} g c.requires.ids m ms first others one c.in_ok-id.ensures.sort
-    (subst (λ (ps : List Piece). AreBodiesWalked ps ms others s1 d1 ids s2 d2 c.walk_bodies.new.ids.items) same h))
+    (subst (λ (ps : List NotedTree). AreBodiesWalked ps ms others s1 d1 ids s2 d2 c.walk_bodies.new.ids.items) same h))
     (rw c.in_ok-push.ensures.items at c.walk_bodies.ensures.walked))

@@ -17,7 +17,7 @@ use Rattle.elab_walk.specs.declared.locals.Local.{Local}
 use Rattle.elab_walk.specs.Patterns.{LocalTree}
 use Rattle.elab_walk.specs.Drafts.{HoldsType, local_at, local_name, is_due, due}
 use Rattle.elab_parts.specs.Declarations.{with_vars}
-use Rattle.elab_members.specs.Members.{words_of}
+use Rattle.elab_members.specs.Members.{words_of_parameters}
 use Rattle.elab_members.specs.Sources.{member_at, signed_at}
 use Rattle.elab_groups.specs.Groups.{typed_locals, member_piece}
 use Rattle.elab_groups.specs.Bodies.{IsBodyWalked}
@@ -45,20 +45,20 @@ walk-requires c =
     let e = expression_of c.in-Some.e.now in
     let ls = c.push_locals.new.list.items in
     let some : m.body ≡ Some e = rw c.in-Some.is refl in
-    let given : c.push_param_names.new.list.items ≡ words_of m.params = rw c.new-names.ensures.items at c.in_ok-push_param_names.ensures in
-    let names : c.as_slice.result.now ≡ words_of m.params = c.as_slice.ensures.value ∙ given in
-    let locals : map (local_at s) ls ≡ typed_locals (words_of m.params) g.args = rw (c.new-list.ensures.items, c.as_slice-2.ensures, names) at (c.in_ok-push_locals.ensures.locals s) in
-    let are : map local_name ls ≡ words_of m.params = names_are s ls (words_of m.params) g.args locals c.requires.resolved.count in
+    let given : c.push_param_names.new.list.items ≡ words_of_parameters m.params = rw c.new-names.ensures.items at c.in_ok-push_param_names.ensures in
+    let names : c.as_slice.result.now ≡ words_of_parameters m.params = c.as_slice.ensures.value ∙ given in
+    let locals : map (local_at s) ls ≡ typed_locals (words_of_parameters m.params) g.args = rw (c.new-list.ensures.items, c.as_slice-2.ensures, names) at (c.in_ok-push_locals.ensures.locals s) in
+    let are : map local_name ls ≡ words_of_parameters m.params = names_are s ls (words_of_parameters m.params) g.args locals c.requires.resolved.count in
     let is : where_at s own ≡ with_vars w g.vars = c.over_vars-own.ensures.names s ∙ ap (with_vars w) c.as_slice-3.ensures in
     let none : All (λ (l : Local). HoldsType s l.ty) c.new-list.result.items = rw c.new-list.ensures.items (All-nil (λ (l : Local). HoldsType s l.ty)) in
     let held : All (λ (l : Local). HoldsType s l.ty) ls = c.in_ok-push_locals.ensures.held s (rw c.as_slice-2.ensures c.requires.signed.args) none in
     let bound : List Word = reverse (map local_name c.as_slice-4.result.now) ++ [] in
-    let bound_is : bound ≡ reverse (words_of m.params) = append-nil (reverse (map local_name c.as_slice-4.result.now)) ∙ ap reverse (ap (map local_name) c.as_slice-4.ensures.value ∙ are) in
+    let bound_is : bound ≡ reverse (words_of_parameters m.params) = append-nil (reverse (map local_name c.as_slice-4.result.now)) ∙ ap reverse (ap (map local_name) c.as_slice-4.ensures.value ∙ are) in
     let kind : is_due c.args.signed.now.result ≡ is_none m.result = due_kind s c.args.signed.now.result ∙ sym c.requires.resolved.kind in
     let right : fault (where_at s own) false bound (is_due c.args.signed.now.result) e ≡ None =
     ap (λ (v : Where). fault v false bound (is_due c.args.signed.now.result) e) is
     ∙ (ap (λ (xs : List Word). fault (with_vars w g.vars) false xs (is_due c.args.signed.now.result) e) bound_is
-    ∙ (ap (λ b. fault (with_vars w g.vars) false (reverse (words_of m.params)) b e) kind ∙ body_at w m g.vars e some c.requires.resolved.right)) in
+    ∙ (ap (λ b. fault (with_vars w g.vars) false (reverse (words_of_parameters m.params)) b e) kind ∙ body_at w m g.vars e some c.requires.resolved.right)) in
     record {
       set = record { world = c.over_vars-own.ensures.held s c.requires.world; locals = (rw c.as_slice-4.ensures.value held, tt); ready = c.requires.ready };
       wanted = c.requires.signed.result;
@@ -79,12 +79,12 @@ returns-clause-walked c =
     let e = expression_of c.in-Some.e.now in
     let ls = c.push_locals.new.list.items in
     let some : m.body ≡ Some e = rw c.in-Some.is refl in
-    let given : c.push_param_names.new.list.items ≡ words_of m.params = rw c.new-names.ensures.items at c.in_ok-push_param_names.ensures in
-    let names : c.as_slice.result.now ≡ words_of m.params = c.as_slice.ensures.value ∙ given in
-    let locals : map (local_at s) ls ≡ typed_locals (words_of m.params) g.args = rw (c.new-list.ensures.items, c.as_slice-2.ensures, names) at (c.in_ok-push_locals.ensures.locals s) in
+    let given : c.push_param_names.new.list.items ≡ words_of_parameters m.params = rw c.new-names.ensures.items at c.in_ok-push_param_names.ensures in
+    let names : c.as_slice.result.now ≡ words_of_parameters m.params = c.as_slice.ensures.value ∙ given in
+    let locals : map (local_at s) ls ≡ typed_locals (words_of_parameters m.params) g.args = rw (c.new-list.ensures.items, c.as_slice-2.ensures, names) at (c.in_ok-push_locals.ensures.locals s) in
     let is : where_at s own ≡ with_vars w g.vars = c.over_vars-own.ensures.names s ∙ ap (with_vars w) c.as_slice-3.ensures in
     let bound : List LocalTree = reverse (map (local_at s) c.as_slice-4.result.now) ++ [] in
-    let bound_is : bound ≡ reverse (typed_locals (words_of m.params) g.args) = append-nil (reverse (map (local_at s) c.as_slice-4.result.now)) ∙ ap reverse (ap (map (local_at s)) c.as_slice-4.ensures.value ∙ locals) in
+    let bound_is : bound ≡ reverse (typed_locals (words_of_parameters m.params) g.args) = append-nil (reverse (map (local_at s) c.as_slice-4.result.now)) ∙ ap reverse (ap (map (local_at s)) c.as_slice-4.ensures.value ∙ locals) in
     IfOk-weaker c.walk.result _ (IsBodyWalked (member_piece w n m g) s d s1 d1)
     (λ id h. walked_body w (where_at s own) n m g e bound (due c.args.signed.now.result) s s1 d d1 id some is bound_is h) c.walk.ensures.walked
 

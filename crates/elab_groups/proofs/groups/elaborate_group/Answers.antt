@@ -3,11 +3,11 @@ use Rattle.std.proofs.Math.ListN.{length-map}
 use Rattle.trees.specs.Tree.{Tree}
 use Rattle.tasks.specs.Meaning.{symbols_at}
 use Rattle.names_space.specs.declared.Table.TheVariants.{Symbols}
-use Rattle.names_space.specs.Names.{Names}
+use Rattle.names_space.specs.Names.{ScopeNames}
 use Rattle.syntax_why.specs.Lexeme.{Word}
 use Rattle.elab_names.specs.Naming.{where_at, Tells}
 use Rattle.elab_names.specs.Where.{Where}
-use Rattle.elab_variables.specs.Seen.{Seen}
+use Rattle.elab_variables.specs.Seen.{SeenTree}
 use Rattle.elab_parts.specs.Declarations.{made_by_members, made_fault}
 use Rattle.elab_parts.specs.Elaborated.{unseen, IsTypingFault}
 use Rattle.elab_parts.specs.Entries.{wanting_tuples, AreScopes}
@@ -33,14 +33,14 @@ type_group-requires-clause-world c =
     let it = c.in_ok-entered.entered in
     let grows = c.in_ok-entered.ensures.grows in
     let seen = rw (c.new.ensures, c.new-2.ensures) at c.in_ok-enter_members.ensures in
-    let widths : c.as_slice-widths.result.now ≡ (members_seen unseen ms).widths = c.as_slice-widths.ensures ∙ ap (λ (x : Seen). x.widths) seen in
+    let widths : c.as_slice-widths.result.now ≡ (members_seen unseen ms).widths = c.as_slice-widths.ensures ∙ ap (λ (x : SeenTree). x.widths) seen in
     let e : IsEntered st (before_group st ms) ms g s1 g1 it = subst (λ (ws : List ℕ). IsEntered st (symbols_at s g.symbols ++ wanting_tuples (symbols_at s g.symbols) ws) ms g s1 g1 it) widths c.in_ok-entered.ensures.entered in
     let after : c.declare_members.new.scope ≡ with_members it.number ms names = c.in-Ok.ensures.ok in
     let scopes : AreScopes s1 (length g1.symbols) c.declare_members.new.scope = subst (AreScopes s1 (length g1.symbols)) (sym after) (scopes_after p s s1 grows g g1 names ms it c.requires.signature c.requires.scopes e) in
     let free : made_fault (declared_in names) [] (made_by_members ms) ≡ None = made_told names ms ∙ (rw c.new-before.ensures.items at c.in-Ok.ensures.told) in
     let world = c.world_over-world.result in
     let is : where_at s1 world ≡ within_group st ms =
-    c.world_over-world.ensures.names s1 ∙ (ap (λ (ns : Names). over s1 (symbols_at s1 g1.symbols) ns []) after ∙ inside_is p s s1 grows g g1 names ms it c.requires.signature c.requires.scopes e) in
+    c.world_over-world.ensures.names s1 ∙ (ap (λ (ns : ScopeNames). over s1 (symbols_at s1 g1.symbols) ns []) after ∙ inside_is p s s1 grows g g1 names ms it c.requires.signature c.requires.scopes e) in
     let right : group_used st ms ≡ None = subst (λ (w : Where). members_fault w ms ≡ None) is (c.in-Ok-check_members.ensures s1) in
     let signature = signature_after p s s1 grows g g1 names ms it c.requires.signature c.requires.scopes e right in
     c.world_over-world.ensures.held s1 signature scopes
@@ -58,14 +58,14 @@ type_group-requires-clause-scoped c =
     let it = c.in_ok-entered.entered in
     let grows = c.in_ok-entered.ensures.grows in
     let seen = rw (c.new.ensures, c.new-2.ensures) at c.in_ok-enter_members.ensures in
-    let widths : c.as_slice-widths.result.now ≡ (members_seen unseen ms).widths = c.as_slice-widths.ensures ∙ ap (λ (x : Seen). x.widths) seen in
+    let widths : c.as_slice-widths.result.now ≡ (members_seen unseen ms).widths = c.as_slice-widths.ensures ∙ ap (λ (x : SeenTree). x.widths) seen in
     let e : IsEntered st (before_group st ms) ms g s1 g1 it = subst (λ (ws : List ℕ). IsEntered st (symbols_at s g.symbols ++ wanting_tuples (symbols_at s g.symbols) ws) ms g s1 g1 it) widths c.in_ok-entered.ensures.entered in
     let after : c.declare_members.new.scope ≡ with_members it.number ms names = c.in-Ok.ensures.ok in
     let scopes : AreScopes s1 (length g1.symbols) c.declare_members.new.scope = subst (AreScopes s1 (length g1.symbols)) (sym after) (scopes_after p s s1 grows g g1 names ms it c.requires.signature c.requires.scopes e) in
     let free : made_fault (declared_in names) [] (made_by_members ms) ≡ None = made_told names ms ∙ (rw c.new-before.ensures.items at c.in-Ok.ensures.told) in
     let world = c.world_over-world.result in
     let is : where_at s1 world ≡ within_group st ms =
-    c.world_over-world.ensures.names s1 ∙ (ap (λ (ns : Names). over s1 (symbols_at s1 g1.symbols) ns []) after ∙ inside_is p s s1 grows g g1 names ms it c.requires.signature c.requires.scopes e) in
+    c.world_over-world.ensures.names s1 ∙ (ap (λ (ns : ScopeNames). over s1 (symbols_at s1 g1.symbols) ns []) after ∙ inside_is p s s1 grows g g1 names ms it c.requires.signature c.requires.scopes e) in
     let right : group_used st ms ≡ None = subst (λ (w : Where). members_fault w ms ≡ None) is (c.in-Ok-check_members.ensures s1) in
     let signature = signature_after p s s1 grows g g1 names ms it c.requires.signature c.requires.scopes e right in
     c.world_over-world.ensures.scoped s1 signature scopes
@@ -86,14 +86,14 @@ type_group-requires-clause-own c =
     let it = c.in_ok-entered.entered in
     let grows = c.in_ok-entered.ensures.grows in
     let seen = rw (c.new.ensures, c.new-2.ensures) at c.in_ok-enter_members.ensures in
-    let widths : c.as_slice-widths.result.now ≡ (members_seen unseen ms).widths = c.as_slice-widths.ensures ∙ ap (λ (x : Seen). x.widths) seen in
+    let widths : c.as_slice-widths.result.now ≡ (members_seen unseen ms).widths = c.as_slice-widths.ensures ∙ ap (λ (x : SeenTree). x.widths) seen in
     let e : IsEntered st (before_group st ms) ms g s1 g1 it = subst (λ (ws : List ℕ). IsEntered st (symbols_at s g.symbols ++ wanting_tuples (symbols_at s g.symbols) ws) ms g s1 g1 it) widths c.in_ok-entered.ensures.entered in
     let after : c.declare_members.new.scope ≡ with_members it.number ms names = c.in-Ok.ensures.ok in
     let scopes : AreScopes s1 (length g1.symbols) c.declare_members.new.scope = subst (AreScopes s1 (length g1.symbols)) (sym after) (scopes_after p s s1 grows g g1 names ms it c.requires.signature c.requires.scopes e) in
     let free : made_fault (declared_in names) [] (made_by_members ms) ≡ None = made_told names ms ∙ (rw c.new-before.ensures.items at c.in-Ok.ensures.told) in
     let world = c.world_over-world.result in
     let is : where_at s1 world ≡ within_group st ms =
-    c.world_over-world.ensures.names s1 ∙ (ap (λ (ns : Names). over s1 (symbols_at s1 g1.symbols) ns []) after ∙ inside_is p s s1 grows g g1 names ms it c.requires.signature c.requires.scopes e) in
+    c.world_over-world.ensures.names s1 ∙ (ap (λ (ns : ScopeNames). over s1 (symbols_at s1 g1.symbols) ns []) after ∙ inside_is p s s1 grows g g1 names ms it c.requires.signature c.requires.scopes e) in
     let right : group_used st ms ≡ None = subst (λ (w : Where). members_fault w ms ≡ None) is (c.in-Ok-check_members.ensures s1) in
     let signature = signature_after p s s1 grows g g1 names ms it c.requires.signature c.requires.scopes e right in
     own_after p s s1 grows g g1 names ms it c.requires.signature c.requires.scopes e right
@@ -111,14 +111,14 @@ type_group-requires-clause-resolved c =
     let it = c.in_ok-entered.entered in
     let grows = c.in_ok-entered.ensures.grows in
     let seen = rw (c.new.ensures, c.new-2.ensures) at c.in_ok-enter_members.ensures in
-    let widths : c.as_slice-widths.result.now ≡ (members_seen unseen ms).widths = c.as_slice-widths.ensures ∙ ap (λ (x : Seen). x.widths) seen in
+    let widths : c.as_slice-widths.result.now ≡ (members_seen unseen ms).widths = c.as_slice-widths.ensures ∙ ap (λ (x : SeenTree). x.widths) seen in
     let e : IsEntered st (before_group st ms) ms g s1 g1 it = subst (λ (ws : List ℕ). IsEntered st (symbols_at s g.symbols ++ wanting_tuples (symbols_at s g.symbols) ws) ms g s1 g1 it) widths c.in_ok-entered.ensures.entered in
     let after : c.declare_members.new.scope ≡ with_members it.number ms names = c.in-Ok.ensures.ok in
     let scopes : AreScopes s1 (length g1.symbols) c.declare_members.new.scope = subst (AreScopes s1 (length g1.symbols)) (sym after) (scopes_after p s s1 grows g g1 names ms it c.requires.signature c.requires.scopes e) in
     let free : made_fault (declared_in names) [] (made_by_members ms) ≡ None = made_told names ms ∙ (rw c.new-before.ensures.items at c.in-Ok.ensures.told) in
     let world = c.world_over-world.result in
     let is : where_at s1 world ≡ within_group st ms =
-    c.world_over-world.ensures.names s1 ∙ (ap (λ (ns : Names). over s1 (symbols_at s1 g1.symbols) ns []) after ∙ inside_is p s s1 grows g g1 names ms it c.requires.signature c.requires.scopes e) in
+    c.world_over-world.ensures.names s1 ∙ (ap (λ (ns : ScopeNames). over s1 (symbols_at s1 g1.symbols) ns []) after ∙ inside_is p s s1 grows g g1 names ms it c.requires.signature c.requires.scopes e) in
     let right : group_used st ms ≡ None = subst (λ (w : Where). members_fault w ms ≡ None) is (c.in-Ok-check_members.ensures s1) in
     let signature = signature_after p s s1 grows g g1 names ms it c.requires.signature c.requires.scopes e right in
     resolved_after p s s1 grows g g1 names ms it c.requires.signature c.requires.scopes e right (where_at s1 world) is
@@ -136,14 +136,14 @@ type_group-requires-clause-each c =
     let it = c.in_ok-entered.entered in
     let grows = c.in_ok-entered.ensures.grows in
     let seen = rw (c.new.ensures, c.new-2.ensures) at c.in_ok-enter_members.ensures in
-    let widths : c.as_slice-widths.result.now ≡ (members_seen unseen ms).widths = c.as_slice-widths.ensures ∙ ap (λ (x : Seen). x.widths) seen in
+    let widths : c.as_slice-widths.result.now ≡ (members_seen unseen ms).widths = c.as_slice-widths.ensures ∙ ap (λ (x : SeenTree). x.widths) seen in
     let e : IsEntered st (before_group st ms) ms g s1 g1 it = subst (λ (ws : List ℕ). IsEntered st (symbols_at s g.symbols ++ wanting_tuples (symbols_at s g.symbols) ws) ms g s1 g1 it) widths c.in_ok-entered.ensures.entered in
     let after : c.declare_members.new.scope ≡ with_members it.number ms names = c.in-Ok.ensures.ok in
     let scopes : AreScopes s1 (length g1.symbols) c.declare_members.new.scope = subst (AreScopes s1 (length g1.symbols)) (sym after) (scopes_after p s s1 grows g g1 names ms it c.requires.signature c.requires.scopes e) in
     let free : made_fault (declared_in names) [] (made_by_members ms) ≡ None = made_told names ms ∙ (rw c.new-before.ensures.items at c.in-Ok.ensures.told) in
     let world = c.world_over-world.result in
     let is : where_at s1 world ≡ within_group st ms =
-    c.world_over-world.ensures.names s1 ∙ (ap (λ (ns : Names). over s1 (symbols_at s1 g1.symbols) ns []) after ∙ inside_is p s s1 grows g g1 names ms it c.requires.signature c.requires.scopes e) in
+    c.world_over-world.ensures.names s1 ∙ (ap (λ (ns : ScopeNames). over s1 (symbols_at s1 g1.symbols) ns []) after ∙ inside_is p s s1 grows g g1 names ms it c.requires.signature c.requires.scopes e) in
     each p s s1 grows g g1 names ms it c.requires.signature c.requires.scopes e ∙ length-map c.args.members.now member_at
 
 pub returns-in-Ok-type_group-clause-ok : goal.returns-in-Ok-type_group-clause-ok
@@ -159,19 +159,19 @@ returns-in-Ok-type_group-clause-ok c =
     let it = c.in_ok-entered.entered in
     let grows = c.in_ok-entered.ensures.grows in
     let seen = rw (c.new.ensures, c.new-2.ensures) at c.in_ok-enter_members.ensures in
-    let widths : c.as_slice-widths.result.now ≡ (members_seen unseen ms).widths = c.as_slice-widths.ensures ∙ ap (λ (x : Seen). x.widths) seen in
+    let widths : c.as_slice-widths.result.now ≡ (members_seen unseen ms).widths = c.as_slice-widths.ensures ∙ ap (λ (x : SeenTree). x.widths) seen in
     let e : IsEntered st (before_group st ms) ms g s1 g1 it = subst (λ (ws : List ℕ). IsEntered st (symbols_at s g.symbols ++ wanting_tuples (symbols_at s g.symbols) ws) ms g s1 g1 it) widths c.in_ok-entered.ensures.entered in
     let after : c.declare_members.new.scope ≡ with_members it.number ms names = c.in-Ok.ensures.ok in
     let scopes : AreScopes s1 (length g1.symbols) c.declare_members.new.scope = subst (AreScopes s1 (length g1.symbols)) (sym after) (scopes_after p s s1 grows g g1 names ms it c.requires.signature c.requires.scopes e) in
     let free : made_fault (declared_in names) [] (made_by_members ms) ≡ None = made_told names ms ∙ (rw c.new-before.ensures.items at c.in-Ok.ensures.told) in
     let world = c.world_over-world.result in
     let is : where_at s1 world ≡ within_group st ms =
-    c.world_over-world.ensures.names s1 ∙ (ap (λ (ns : Names). over s1 (symbols_at s1 g1.symbols) ns []) after ∙ inside_is p s s1 grows g g1 names ms it c.requires.signature c.requires.scopes e) in
+    c.world_over-world.ensures.names s1 ∙ (ap (λ (ns : ScopeNames). over s1 (symbols_at s1 g1.symbols) ns []) after ∙ inside_is p s s1 grows g g1 names ms it c.requires.signature c.requires.scopes e) in
     let right : group_used st ms ≡ None = subst (λ (w : Where). members_fault w ms ≡ None) is (c.in-Ok-check_members.ensures s1) in
     let signature = signature_after p s s1 grows g g1 names ms it c.requires.signature c.requires.scopes e right in
     let s2 = c.type_group.new.store in
     let made = c.in-Ok-type_group.made in
-    subst (λ (ns : Names). IsGroupElaborated st ms g s2 g1 ns made) (sym after)
+    subst (λ (ns : ScopeNames). IsGroupElaborated st ms g s2 g1 ns made) (sym after)
     (group_elaborated p s s1 grows g g1 names ms it c.requires.signature c.requires.scopes e right s2 c.in-Ok-type_group.ensures.grows (where_at s1 world) is made c.in-Ok-type_group.ensures.ok free)
 
 pub returns-in-Ok-type_group-clause-kept : goal.returns-in-Ok-type_group-clause-kept
@@ -187,19 +187,19 @@ returns-in-Ok-type_group-clause-kept c =
     let it = c.in_ok-entered.entered in
     let grows = c.in_ok-entered.ensures.grows in
     let seen = rw (c.new.ensures, c.new-2.ensures) at c.in_ok-enter_members.ensures in
-    let widths : c.as_slice-widths.result.now ≡ (members_seen unseen ms).widths = c.as_slice-widths.ensures ∙ ap (λ (x : Seen). x.widths) seen in
+    let widths : c.as_slice-widths.result.now ≡ (members_seen unseen ms).widths = c.as_slice-widths.ensures ∙ ap (λ (x : SeenTree). x.widths) seen in
     let e : IsEntered st (before_group st ms) ms g s1 g1 it = subst (λ (ws : List ℕ). IsEntered st (symbols_at s g.symbols ++ wanting_tuples (symbols_at s g.symbols) ws) ms g s1 g1 it) widths c.in_ok-entered.ensures.entered in
     let after : c.declare_members.new.scope ≡ with_members it.number ms names = c.in-Ok.ensures.ok in
     let scopes : AreScopes s1 (length g1.symbols) c.declare_members.new.scope = subst (AreScopes s1 (length g1.symbols)) (sym after) (scopes_after p s s1 grows g g1 names ms it c.requires.signature c.requires.scopes e) in
     let free : made_fault (declared_in names) [] (made_by_members ms) ≡ None = made_told names ms ∙ (rw c.new-before.ensures.items at c.in-Ok.ensures.told) in
     let world = c.world_over-world.result in
     let is : where_at s1 world ≡ within_group st ms =
-    c.world_over-world.ensures.names s1 ∙ (ap (λ (ns : Names). over s1 (symbols_at s1 g1.symbols) ns []) after ∙ inside_is p s s1 grows g g1 names ms it c.requires.signature c.requires.scopes e) in
+    c.world_over-world.ensures.names s1 ∙ (ap (λ (ns : ScopeNames). over s1 (symbols_at s1 g1.symbols) ns []) after ∙ inside_is p s s1 grows g g1 names ms it c.requires.signature c.requires.scopes e) in
     let right : group_used st ms ≡ None = subst (λ (w : Where). members_fault w ms ≡ None) is (c.in-Ok-check_members.ensures s1) in
     let signature = signature_after p s s1 grows g g1 names ms it c.requires.signature c.requires.scopes e right in
     let s2 = c.type_group.new.store in
     let made = c.in-Ok-type_group.made in
-    subst (λ (ns : Names). IsKept s2 g1 ns made) (sym after) (group_kept p s s1 grows g g1 names ms it c.requires.signature c.requires.scopes e right s2 c.in-Ok-type_group.ensures.grows (where_at s1 world) is made c.in-Ok-type_group.ensures.ok)
+    subst (λ (ns : ScopeNames). IsKept s2 g1 ns made) (sym after) (group_kept p s s1 grows g g1 names ms it c.requires.signature c.requires.scopes e right s2 c.in-Ok-type_group.ensures.grows (where_at s1 world) is made c.in-Ok-type_group.ensures.ok)
 
 pub returns-in-Ok-check_members-clause-err : goal.returns-in-Ok-check_members-clause-err
 returns-in-Ok-check_members-clause-err c =
@@ -214,14 +214,14 @@ returns-in-Ok-check_members-clause-err c =
     let it = c.in_ok-entered.entered in
     let grows = c.in_ok-entered.ensures.grows in
     let seen = rw (c.new.ensures, c.new-2.ensures) at c.in_ok-enter_members.ensures in
-    let widths : c.as_slice-widths.result.now ≡ (members_seen unseen ms).widths = c.as_slice-widths.ensures ∙ ap (λ (x : Seen). x.widths) seen in
+    let widths : c.as_slice-widths.result.now ≡ (members_seen unseen ms).widths = c.as_slice-widths.ensures ∙ ap (λ (x : SeenTree). x.widths) seen in
     let e : IsEntered st (before_group st ms) ms g s1 g1 it = subst (λ (ws : List ℕ). IsEntered st (symbols_at s g.symbols ++ wanting_tuples (symbols_at s g.symbols) ws) ms g s1 g1 it) widths c.in_ok-entered.ensures.entered in
     let after : c.declare_members.new.scope ≡ with_members it.number ms names = c.in-Ok.ensures.ok in
     let scopes : AreScopes s1 (length g1.symbols) c.declare_members.new.scope = subst (AreScopes s1 (length g1.symbols)) (sym after) (scopes_after p s s1 grows g g1 names ms it c.requires.signature c.requires.scopes e) in
     let free : made_fault (declared_in names) [] (made_by_members ms) ≡ None = made_told names ms ∙ (rw c.new-before.ensures.items at c.in-Ok.ensures.told) in
     let world = c.world_over-world.result in
     let is : where_at s1 world ≡ within_group st ms =
-    c.world_over-world.ensures.names s1 ∙ (ap (λ (ns : Names). over s1 (symbols_at s1 g1.symbols) ns []) after ∙ inside_is p s s1 grows g g1 names ms it c.requires.signature c.requires.scopes e) in
+    c.world_over-world.ensures.names s1 ∙ (ap (λ (ns : ScopeNames). over s1 (symbols_at s1 g1.symbols) ns []) after ∙ inside_is p s s1 grows g g1 names ms it c.requires.signature c.requires.scopes e) in
     let right : group_used st ms ≡ None = subst (λ (w : Where). members_fault w ms ≡ None) is (c.in-Ok-check_members.ensures s1) in
     let signature = signature_after p s s1 grows g g1 names ms it c.requires.signature c.requires.scopes e right in
     let f = c.in-Err-type_group.fault in
@@ -245,14 +245,14 @@ returns-in-Ok-clause-err c =
     let it = c.in_ok-entered.entered in
     let grows = c.in_ok-entered.ensures.grows in
     let seen = rw (c.new.ensures, c.new-2.ensures) at c.in_ok-enter_members.ensures in
-    let widths : c.as_slice-widths.result.now ≡ (members_seen unseen ms).widths = c.as_slice-widths.ensures ∙ ap (λ (x : Seen). x.widths) seen in
+    let widths : c.as_slice-widths.result.now ≡ (members_seen unseen ms).widths = c.as_slice-widths.ensures ∙ ap (λ (x : SeenTree). x.widths) seen in
     let e : IsEntered st (before_group st ms) ms g s1 g1 it = subst (λ (ws : List ℕ). IsEntered st (symbols_at s g.symbols ++ wanting_tuples (symbols_at s g.symbols) ws) ms g s1 g1 it) widths c.in_ok-entered.ensures.entered in
     let after : c.declare_members.new.scope ≡ with_members it.number ms names = c.in-Ok.ensures.ok in
     let scopes : AreScopes s1 (length g1.symbols) c.declare_members.new.scope = subst (AreScopes s1 (length g1.symbols)) (sym after) (scopes_after p s s1 grows g g1 names ms it c.requires.signature c.requires.scopes e) in
     let free : made_fault (declared_in names) [] (made_by_members ms) ≡ None = made_told names ms ∙ (rw c.new-before.ensures.items at c.in-Ok.ensures.told) in
     let world = c.world_over-world.result in
     let is : where_at s1 world ≡ within_group st ms =
-    c.world_over-world.ensures.names s1 ∙ (ap (λ (ns : Names). over s1 (symbols_at s1 g1.symbols) ns []) after ∙ inside_is p s s1 grows g g1 names ms it c.requires.signature c.requires.scopes e) in
+    c.world_over-world.ensures.names s1 ∙ (ap (λ (ns : ScopeNames). over s1 (symbols_at s1 g1.symbols) ns []) after ∙ inside_is p s s1 grows g g1 names ms it c.requires.signature c.requires.scopes e) in
     let f = c.in-Err-check_members.fault in
     let told : Tells (Err f) (group_used st ms) = subst (λ (w : Where). Tells (Err f) (members_fault w ms)) is (c.in-Err-check_members.ensures s1) in
     subst (IsGroupRefusal st ms) (sym c.naming_fault.ensures)

@@ -7,7 +7,7 @@ use Rattle.elab_members.specs.declared.sources.MemberSource.{MemberSource}
 use Rattle.elab_members.specs.declared.signing.Signed.{Signed}
 use Rattle.elab_members.specs.Sources.{member_at, members_at, signed_at}
 use Rattle.elab_groups.specs.Groups.{group_body, group_decls}
-use Rattle.elab_groups.specs.Bodies.{AreDefined, IsWhole}
+use Rattle.elab_groups.specs.Bodies.{AreDefined, AllHaveBodies}
 use Rattle.elab_groups.proofs.Defining.{whole_defined, one_held, one_made}
 use Rattle.elab_groups.proofs.groups.group_decls.Goals as goal
 
@@ -16,7 +16,7 @@ body_of_group-requires-clause-bodies c = λ h.
     let m = member_at c.in-Some.first.now in
     let ms = members_at c.in-Some.field-0-1.now in
     let e = c.in-Some.ensures.cases.0 in
-    let whole : IsWhole (m ∷ ms) = subst (λ (xs : List MemberSource). IsWhole (members_at xs)) e c.requires.whole in
+    let whole : AllHaveBodies (m ∷ ms) = subst (λ (xs : List MemberSource). AllHaveBodies (members_at xs)) e c.requires.whole in
     let defined : AreDefined (members_at c.args.members.now) = subst (λ (xs : List MemberSource). AreDefined (members_at xs)) (sym e) (whole_defined m ms whole h) in
     c.requires.bodies defined
 

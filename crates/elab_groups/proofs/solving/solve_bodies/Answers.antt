@@ -3,7 +3,7 @@ use Rattle.trees.specs.Tree.{Tree}
 use Rattle.trees.specs.Sorts.{sort_of}
 use Rattle.tasks.specs.Meaning.{trees_at}
 use Rattle.elab_walk.specs.Drafts.{match_at, notes_at, instances}
-use Rattle.elab_parts.specs.Values.{behind, match_instance}
+use Rattle.elab_parts.specs.Values.{notes_after, match_instance}
 use Rattle.elab_parts.proofs.Putting.{trees_stay}
 use Rattle.elab_groups.proofs.BodiesSolved.{group_solved, instances_sorts}
 use Rattle.elab_groups.proofs.solving.solve_bodies.Goals as goal
@@ -29,7 +29,7 @@ returns-clause-ok c =
     let s4 = c.put_matches.new.store in
     let r = c.args.rigid in
     let d = c.args.draft.now in
-    let ns = behind r (notes_at s d) in
+    let ns = notes_after r (notes_at s d) in
     let types = c.in_ok-types.types.items in
     let out = c.put_trees.new.them.items in
     let is : trees_at s3 out ≡ instances (trees_at s2 types) (trees_at s2 c.args.ids.now) = rw (c.new-trees.ensures.items, c.as_slice.ensures.value) at c.in_ok-put_trees.ensures.trees in

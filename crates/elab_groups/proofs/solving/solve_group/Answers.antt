@@ -6,10 +6,10 @@ use Rattle.trees.specs.Sorts.{sort_of}
 use Rattle.tasks.specs.Meaning.{trees_at}
 use Rattle.elab_names.specs.Naming.{where_at}
 use Rattle.elab_walk.specs.Patterns.{Notes}
-use Rattle.elab_walk.specs.Pieces.{Piece}
+use Rattle.elab_walk.specs.Pieces.{NotedTree}
 use Rattle.elab_walk.specs.Drafts.{match_at, notes_at}
 use Rattle.elab_parts.specs.Elaborated.{IsTypingFault}
-use Rattle.elab_parts.specs.Values.{behind}
+use Rattle.elab_parts.specs.Values.{notes_after}
 use Rattle.elab_parts.proofs.Solving.{begun_behind, begun_ready, few_takers}
 use Rattle.elab_members.specs.Members.{SignatureTree}
 use Rattle.elab_members.specs.Sources.{member_at, members_at, signed_at}
@@ -34,7 +34,7 @@ solve_bodies-requires-clause-ready c =
     let ms = members_at c.args.members.now in
     let its = c.args.signed.now in
     let gs : List SignatureTree = map (signed_at s) its in
-    let ps : List Piece = bodies_pieces w ms gs in
+    let ps : List NotedTree = bodies_pieces w ms gs in
     let k = c.most_variables-rigid.result in
     let rigid : k ≡ most_variables gs = c.most_variables-rigid.ensures s in
     let takers : length d0.takers ≡ most_variables gs = c.in_ok-draft.ensures.takers ∙ rigid in
@@ -52,7 +52,7 @@ solve_bodies-requires-clause-own c =
     let ms = members_at c.args.members.now in
     let its = c.args.signed.now in
     let gs : List SignatureTree = map (signed_at s) its in
-    let ps : List Piece = bodies_pieces w ms gs in
+    let ps : List NotedTree = bodies_pieces w ms gs in
     let k = c.most_variables-rigid.result in
     let rigid : k ≡ most_variables gs = c.most_variables-rigid.ensures s in
     let takers : length d0.takers ≡ most_variables gs = c.in_ok-draft.ensures.takers ∙ rigid in
@@ -70,7 +70,7 @@ solve_bodies-requires-clause-ids c =
     let ms = members_at c.args.members.now in
     let its = c.args.signed.now in
     let gs : List SignatureTree = map (signed_at s) its in
-    let ps : List Piece = bodies_pieces w ms gs in
+    let ps : List NotedTree = bodies_pieces w ms gs in
     let k = c.most_variables-rigid.result in
     let rigid : k ≡ most_variables gs = c.most_variables-rigid.ensures s in
     let takers : length d0.takers ≡ most_variables gs = c.in_ok-draft.ensures.takers ∙ rigid in
@@ -88,12 +88,12 @@ solve_bodies-requires-clause-bounded c =
     let ms = members_at c.args.members.now in
     let its = c.args.signed.now in
     let gs : List SignatureTree = map (signed_at s) its in
-    let ps : List Piece = bodies_pieces w ms gs in
+    let ps : List NotedTree = bodies_pieces w ms gs in
     let k = c.most_variables-rigid.result in
     let rigid : k ≡ most_variables gs = c.most_variables-rigid.ensures s in
     let takers : length d0.takers ≡ most_variables gs = c.in_ok-draft.ensures.takers ∙ rigid in
     let a : AreBodiesWalked ps ms its s d0 [] s1 d1 ids = rw (takers, c.new-ids.ensures.items) at c.in_ok-walk_bodies.ensures.walked in
-    let e : behind (most_variables gs) (notes_at s1 d1) ≡ pieces_notes ps = begun_behind (most_variables gs) c.in_ok-draft.ensures.equations takers c.in_ok-draft.ensures.matches a.noted in
+    let e : notes_after (most_variables gs) (notes_at s1 d1) ≡ pieces_notes ps = begun_behind (most_variables gs) c.in_ok-draft.ensures.equations takers c.in_ok-draft.ensures.matches a.noted in
     let trees : trees_at s1 c.as_slice.result.now ≡ pieces_trees ps = ap (trees_at s1) c.as_slice.ensures.value ∙ a.trees in
     bounded_moved k (most_variables gs) (notes_at s1 d1) (pieces_notes ps) (trees_at s1 c.as_slice.result.now) (pieces_trees ps) rigid e trees (bodies_bounded w c.requires.scoped ms gs c.requires.resolved c.requires.own)
 
@@ -108,7 +108,7 @@ returns-clause-bodies c =
     let ms = members_at c.args.members.now in
     let its = c.args.signed.now in
     let gs : List SignatureTree = map (signed_at s) its in
-    let ps : List Piece = bodies_pieces w ms gs in
+    let ps : List NotedTree = bodies_pieces w ms gs in
     let k = c.most_variables-rigid.result in
     let rigid : k ≡ most_variables gs = c.most_variables-rigid.ensures s in
     let takers : length d0.takers ≡ most_variables gs = c.in_ok-draft.ensures.takers ∙ rigid in
@@ -130,12 +130,12 @@ returns-clause-ok c =
     let ms = members_at c.args.members.now in
     let its = c.args.signed.now in
     let gs : List SignatureTree = map (signed_at s) its in
-    let ps : List Piece = bodies_pieces w ms gs in
+    let ps : List NotedTree = bodies_pieces w ms gs in
     let k = c.most_variables-rigid.result in
     let rigid : k ≡ most_variables gs = c.most_variables-rigid.ensures s in
     let takers : length d0.takers ≡ most_variables gs = c.in_ok-draft.ensures.takers ∙ rigid in
     let a : AreBodiesWalked ps ms its s d0 [] s1 d1 ids = rw (takers, c.new-ids.ensures.items) at c.in_ok-walk_bodies.ensures.walked in
-    let e : behind (most_variables gs) (notes_at s1 d1) ≡ pieces_notes ps = begun_behind (most_variables gs) c.in_ok-draft.ensures.equations takers c.in_ok-draft.ensures.matches a.noted in
+    let e : notes_after (most_variables gs) (notes_at s1 d1) ≡ pieces_notes ps = begun_behind (most_variables gs) c.in_ok-draft.ensures.equations takers c.in_ok-draft.ensures.matches a.noted in
     let trees : trees_at s1 c.as_slice.result.now ≡ pieces_trees ps = ap (trees_at s1) c.as_slice.ensures.value ∙ a.trees in
     let s2 = c.solve_bodies.new.store in
     IfOk-weaker c.solve_bodies.result _ (λ (it : Bodies). BodiesSolved w ms gs (trees_at s2 it.trees.items) (map (match_at s2) it.matches))
@@ -152,10 +152,10 @@ returns-clause-err c =
     let ms = members_at c.args.members.now in
     let its = c.args.signed.now in
     let gs : List SignatureTree = map (signed_at s) its in
-    let ps : List Piece = bodies_pieces w ms gs in
+    let ps : List NotedTree = bodies_pieces w ms gs in
     let k = c.most_variables-rigid.result in
     let rigid : k ≡ most_variables gs = c.most_variables-rigid.ensures s in
     let takers : length d0.takers ≡ most_variables gs = c.in_ok-draft.ensures.takers ∙ rigid in
     let a : AreBodiesWalked ps ms its s d0 [] s1 d1 ids = rw (takers, c.new-ids.ensures.items) at c.in_ok-walk_bodies.ensures.walked in
-    let e : behind (most_variables gs) (notes_at s1 d1) ≡ pieces_notes ps = begun_behind (most_variables gs) c.in_ok-draft.ensures.equations takers c.in_ok-draft.ensures.matches a.noted in
+    let e : notes_after (most_variables gs) (notes_at s1 d1) ≡ pieces_notes ps = begun_behind (most_variables gs) c.in_ok-draft.ensures.equations takers c.in_ok-draft.ensures.matches a.noted in
     IfErr-weaker c.solve_bodies.result _ (IsTypingFault (most_variables gs) (pieces_notes ps)) (λ f h. fault_moved k (most_variables gs) (notes_at s1 d1) (pieces_notes ps) f rigid e h) c.solve_bodies.ensures.err

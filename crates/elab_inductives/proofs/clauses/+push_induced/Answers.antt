@@ -9,7 +9,7 @@ use Rattle.tasks.specs.Meaning.{trees_at, inductives_at}
 use Rattle.syntax_why.specs.SurfaceDeclarations.{clause_of}
 use Rattle.syntax_why.specs.declared.declarations.IndTree.{IndTree}
 use Rattle.elab_parts.specs.Declarations.{clause}
-use Rattle.elab_inductives.specs.Inductives.{formulas, induced}
+use Rattle.elab_inductives.specs.Inductives.{formula_members, induced}
 use Rattle.elab_inductives.specs.Sources.{predicate_at, predicates_at}
 use Rattle.elab_inductives.proofs.ClausesSplit.{others_count, induced_step, induced_held, all_dropped}
 use Rattle.elab_inductives.proofs.clauses.+push_induced.Goals as goal
@@ -21,7 +21,7 @@ push_induced-requires t c =
     let ds = predicates_at c.in-Some.rest.now in
     let ids = c.args.bodies.now in
     let n : c.len-count.result ≡ length d.clauses = c.len-count.ensures ∙ sym (length-map (map clause_of first.clauses) clause ∙ length-map first.clauses clause_of) in
-    let all : length ids ≡ length (formulas (d ∷ ds)) = c.requires ∙ ap (λ (xs : List IndTree). length (formulas (predicates_at xs))) c.in-Some.ensures.cases.0 in
+    let all : length ids ≡ length (formula_members (d ∷ ds)) = c.requires ∙ ap (λ (xs : List IndTree). length (formula_members (predicates_at xs))) c.in-Some.ensures.cases.0 in
     (omega (arith, ap length c.in-Some.ensures.cases.0), ap length (take_rest ids c.len-count.result) ∙ (ap (λ (k : ℕ). length (drop k ids)) n ∙ others_count d ds ids all))
 
 pub returns-in-Some-checked_add-clause-held : goal.returns-in-Some-checked_add-clause-held

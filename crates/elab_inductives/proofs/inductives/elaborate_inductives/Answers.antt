@@ -1,6 +1,6 @@
 use Rattle.std.proofs.Common.{◌≡◌, [], None, Err, length, sym, ap, subst, ◌∙◌}
 use Rattle.tasks.specs.Meaning.{symbols_at}
-use Rattle.names_space.specs.Names.{Names}
+use Rattle.names_space.specs.Names.{ScopeNames}
 use Rattle.elab_names.specs.Naming.{where_at, Tells}
 use Rattle.elab_names.specs.Where.{Where}
 use Rattle.elab_parts.specs.Declarations.{made_by_inductives, made_fault, inductives_fault}
@@ -9,7 +9,7 @@ use Rattle.elab_parts.specs.Entries.{AreScopes}
 use Rattle.elab_parts.specs.Outcomes.{over, setting, declared_in, IsKept}
 use Rattle.elab_parts.proofs.Refused.{no_fault, made_refusal, used_refusal, typing_refusal}
 use Rattle.elab_groups.specs.Groups.{most_variables, bodies_pieces, pieces_notes}
-use Rattle.elab_inductives.specs.Inductives.{formulas, clause_signatures, with_inductives, within_inductives, inductives_used, inductive_group_fault, inductive_notes, IsInductiveElaborated, IsInductiveRefusal}
+use Rattle.elab_inductives.specs.Inductives.{formula_members, clause_signatures, with_inductives, within_inductives, inductives_used, inductive_group_fault, inductive_notes, IsInductiveElaborated, IsInductiveRefusal}
 use Rattle.elab_inductives.specs.Sources.{predicates_at}
 use Rattle.elab_inductives.proofs.InductivesMade.{inside_is, scopes_after, signature_after, resolved_after, inductives_elaborated, inductives_kept}
 use Rattle.elab_inductives.proofs.inductives.elaborate_inductives.Goals as goal
@@ -32,7 +32,7 @@ type_inductives-requires-clause-world c =
     let free : made_fault (declared_in names) [] (made_by_inductives ds) ≡ None = c.in-Ok.ensures.told in
     let world = c.world_over-world.result in
     let is : where_at s1 world ≡ within_inductives st ds =
-    c.world_over-world.ensures.names s1 ∙ (ap (λ (ns : Names). over s1 (symbols_at s1 g1.symbols) ns []) after ∙ inside_is p s s1 grows g g1 names ds it c.requires.signature c.requires.scopes e) in
+    c.world_over-world.ensures.names s1 ∙ (ap (λ (ns : ScopeNames). over s1 (symbols_at s1 g1.symbols) ns []) after ∙ inside_is p s s1 grows g g1 names ds it c.requires.signature c.requires.scopes e) in
     let right : inductives_used st ds ≡ None = subst (λ (w : Where). inductives_fault w ds ≡ None) is (c.in-Ok-check_inductives.ensures s1) in
     let signature = signature_after p s s1 grows g g1 names ds it c.requires.signature c.requires.scopes e right in
     c.world_over-world.ensures.held s1 signature scopes
@@ -55,7 +55,7 @@ type_inductives-requires-clause-scoped c =
     let free : made_fault (declared_in names) [] (made_by_inductives ds) ≡ None = c.in-Ok.ensures.told in
     let world = c.world_over-world.result in
     let is : where_at s1 world ≡ within_inductives st ds =
-    c.world_over-world.ensures.names s1 ∙ (ap (λ (ns : Names). over s1 (symbols_at s1 g1.symbols) ns []) after ∙ inside_is p s s1 grows g g1 names ds it c.requires.signature c.requires.scopes e) in
+    c.world_over-world.ensures.names s1 ∙ (ap (λ (ns : ScopeNames). over s1 (symbols_at s1 g1.symbols) ns []) after ∙ inside_is p s s1 grows g g1 names ds it c.requires.signature c.requires.scopes e) in
     let right : inductives_used st ds ≡ None = subst (λ (w : Where). inductives_fault w ds ≡ None) is (c.in-Ok-check_inductives.ensures s1) in
     let signature = signature_after p s s1 grows g g1 names ds it c.requires.signature c.requires.scopes e right in
     c.world_over-world.ensures.scoped s1 signature scopes
@@ -78,7 +78,7 @@ type_inductives-requires-clause-resolved c =
     let free : made_fault (declared_in names) [] (made_by_inductives ds) ≡ None = c.in-Ok.ensures.told in
     let world = c.world_over-world.result in
     let is : where_at s1 world ≡ within_inductives st ds =
-    c.world_over-world.ensures.names s1 ∙ (ap (λ (ns : Names). over s1 (symbols_at s1 g1.symbols) ns []) after ∙ inside_is p s s1 grows g g1 names ds it c.requires.signature c.requires.scopes e) in
+    c.world_over-world.ensures.names s1 ∙ (ap (λ (ns : ScopeNames). over s1 (symbols_at s1 g1.symbols) ns []) after ∙ inside_is p s s1 grows g g1 names ds it c.requires.signature c.requires.scopes e) in
     let right : inductives_used st ds ≡ None = subst (λ (w : Where). inductives_fault w ds ≡ None) is (c.in-Ok-check_inductives.ensures s1) in
     resolved_after p s s1 grows g g1 names ds it c.requires.signature c.requires.scopes e right (where_at s1 world) is
 
@@ -100,11 +100,11 @@ returns-in-Ok-type_inductives-clause-ok c =
     let free : made_fault (declared_in names) [] (made_by_inductives ds) ≡ None = c.in-Ok.ensures.told in
     let world = c.world_over-world.result in
     let is : where_at s1 world ≡ within_inductives st ds =
-    c.world_over-world.ensures.names s1 ∙ (ap (λ (ns : Names). over s1 (symbols_at s1 g1.symbols) ns []) after ∙ inside_is p s s1 grows g g1 names ds it c.requires.signature c.requires.scopes e) in
+    c.world_over-world.ensures.names s1 ∙ (ap (λ (ns : ScopeNames). over s1 (symbols_at s1 g1.symbols) ns []) after ∙ inside_is p s s1 grows g g1 names ds it c.requires.signature c.requires.scopes e) in
     let right : inductives_used st ds ≡ None = subst (λ (w : Where). inductives_fault w ds ≡ None) is (c.in-Ok-check_inductives.ensures s1) in
     let s2 = c.type_inductives.new.store in
     let made = c.in-Ok-type_inductives.made in
-    subst (λ (ns : Names). IsInductiveElaborated st ds g s2 g1 ns made) (sym after)
+    subst (λ (ns : ScopeNames). IsInductiveElaborated st ds g s2 g1 ns made) (sym after)
     (inductives_elaborated p s s1 grows g g1 names ds it c.requires.signature c.requires.scopes e right s2 c.in-Ok-type_inductives.ensures.grows (where_at s1 world) is made c.in-Ok-type_inductives.ensures.ok free)
 
 pub returns-in-Ok-type_inductives-clause-kept : goal.returns-in-Ok-type_inductives-clause-kept
@@ -125,11 +125,11 @@ returns-in-Ok-type_inductives-clause-kept c =
     let free : made_fault (declared_in names) [] (made_by_inductives ds) ≡ None = c.in-Ok.ensures.told in
     let world = c.world_over-world.result in
     let is : where_at s1 world ≡ within_inductives st ds =
-    c.world_over-world.ensures.names s1 ∙ (ap (λ (ns : Names). over s1 (symbols_at s1 g1.symbols) ns []) after ∙ inside_is p s s1 grows g g1 names ds it c.requires.signature c.requires.scopes e) in
+    c.world_over-world.ensures.names s1 ∙ (ap (λ (ns : ScopeNames). over s1 (symbols_at s1 g1.symbols) ns []) after ∙ inside_is p s s1 grows g g1 names ds it c.requires.signature c.requires.scopes e) in
     let right : inductives_used st ds ≡ None = subst (λ (w : Where). inductives_fault w ds ≡ None) is (c.in-Ok-check_inductives.ensures s1) in
     let s2 = c.type_inductives.new.store in
     let made = c.in-Ok-type_inductives.made in
-    subst (λ (ns : Names). IsKept s2 g1 ns made) (sym after) (inductives_kept p s s1 grows g g1 names ds it c.requires.signature c.requires.scopes e right s2 c.in-Ok-type_inductives.ensures.grows (where_at s1 world) is made c.in-Ok-type_inductives.ensures.ok)
+    subst (λ (ns : ScopeNames). IsKept s2 g1 ns made) (sym after) (inductives_kept p s s1 grows g g1 names ds it c.requires.signature c.requires.scopes e right s2 c.in-Ok-type_inductives.ensures.grows (where_at s1 world) is made c.in-Ok-type_inductives.ensures.ok)
 
 pub returns-in-Ok-check_inductives-clause-err : goal.returns-in-Ok-check_inductives-clause-err
 returns-in-Ok-check_inductives-clause-err c =
@@ -149,11 +149,11 @@ returns-in-Ok-check_inductives-clause-err c =
     let free : made_fault (declared_in names) [] (made_by_inductives ds) ≡ None = c.in-Ok.ensures.told in
     let world = c.world_over-world.result in
     let is : where_at s1 world ≡ within_inductives st ds =
-    c.world_over-world.ensures.names s1 ∙ (ap (λ (ns : Names). over s1 (symbols_at s1 g1.symbols) ns []) after ∙ inside_is p s s1 grows g g1 names ds it c.requires.signature c.requires.scopes e) in
+    c.world_over-world.ensures.names s1 ∙ (ap (λ (ns : ScopeNames). over s1 (symbols_at s1 g1.symbols) ns []) after ∙ inside_is p s s1 grows g g1 names ds it c.requires.signature c.requires.scopes e) in
     let right : inductives_used st ds ≡ None = subst (λ (w : Where). inductives_fault w ds ≡ None) is (c.in-Ok-check_inductives.ensures s1) in
     let f = c.in-Err-type_inductives.fault in
     let r = most_variables (clause_signatures ds) in
-    let fault : IsTypingFault r (inductive_notes st ds) f = subst (λ (w : Where). IsTypingFault r (pieces_notes (bodies_pieces w (formulas ds) (clause_signatures ds))) f) is c.in-Err-type_inductives.ensures.err in
+    let fault : IsTypingFault r (inductive_notes st ds) f = subst (λ (w : Where). IsTypingFault r (pieces_notes (bodies_pieces w (formula_members ds) (clause_signatures ds))) f) is c.in-Err-type_inductives.ensures.err in
     subst (IsInductiveRefusal st ds) (sym c.typing_fault.ensures)
     (typing_refusal p.decl r (inductive_notes st ds) (inductive_group_fault st ds) f (no_fault (made_fault (declared_in names) [] (made_by_inductives ds)) (inductives_used st ds) free right) fault)
 
@@ -175,7 +175,7 @@ returns-in-Ok-clause-err c =
     let free : made_fault (declared_in names) [] (made_by_inductives ds) ≡ None = c.in-Ok.ensures.told in
     let world = c.world_over-world.result in
     let is : where_at s1 world ≡ within_inductives st ds =
-    c.world_over-world.ensures.names s1 ∙ (ap (λ (ns : Names). over s1 (symbols_at s1 g1.symbols) ns []) after ∙ inside_is p s s1 grows g g1 names ds it c.requires.signature c.requires.scopes e) in
+    c.world_over-world.ensures.names s1 ∙ (ap (λ (ns : ScopeNames). over s1 (symbols_at s1 g1.symbols) ns []) after ∙ inside_is p s s1 grows g g1 names ds it c.requires.signature c.requires.scopes e) in
     let f = c.in-Err-check_inductives.fault in
     let told : Tells (Err f) (inductives_used st ds) = subst (λ (w : Where). Tells (Err f) (inductives_fault w ds)) is (c.in-Err-check_inductives.ensures s1) in
     subst (IsInductiveRefusal st ds) (sym c.naming_fault.ensures)

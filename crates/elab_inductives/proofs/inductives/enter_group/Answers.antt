@@ -1,7 +1,7 @@
 use Rattle.std.proofs.Common.{◌≡◌, ◌++◌, ℕ, List, IfOk, ap, subst, ◌∙◌}
 use Rattle.tasks.specs.Meaning.{symbols_at}
-use Rattle.elab_variables.specs.Seen.{Seen}
-use Rattle.elab_parts.specs.Declarations.{Member}
+use Rattle.elab_variables.specs.Seen.{SeenTree}
+use Rattle.elab_parts.specs.Declarations.{GroupMember}
 use Rattle.elab_parts.specs.Elaborated.{unseen}
 use Rattle.elab_parts.specs.Entries.{wanting_tuples}
 use Rattle.elab_parts.specs.Outcomes.{setting}
@@ -21,8 +21,8 @@ returns-clause-entered c =
     let r = c.push_group.result in
     let es = symbols_at s g.symbols in
     let seen = rw (c.new.ensures, c.new-2.ensures) at c.in_ok-enter_inductives.ensures in
-    let widths : c.as_slice-widths.result.now ≡ (inductives_seen unseen ds).widths = c.as_slice-widths.ensures ∙ ap (λ (x : Seen). x.widths) seen in
+    let widths : c.as_slice-widths.result.now ≡ (inductives_seen unseen ds).widths = c.as_slice-widths.ensures ∙ ap (λ (x : SeenTree). x.widths) seen in
     let pushed : members_at c.push_predicates.new.list.items ≡ as_members ds = rw c.new-members.ensures.items at c.in_ok-push_predicates.ensures in
     let members : members_at c.as_slice.result.now ≡ as_members ds = ap members_at c.as_slice.ensures.value ∙ pushed in
     subst (λ (ws : List ℕ). IfOk r (IsEntered st (es ++ wanting_tuples es ws) (as_members ds) g s1 g1)) widths
-    (subst (λ (ms : List Member). IfOk r (IsEntered st (es ++ wanting_tuples es c.as_slice-widths.result.now) ms g s1 g1)) members c.push_group.ensures.entered)
+    (subst (λ (ms : List GroupMember). IfOk r (IsEntered st (es ++ wanting_tuples es c.as_slice-widths.result.now) ms g s1 g1)) members c.push_group.ensures.entered)

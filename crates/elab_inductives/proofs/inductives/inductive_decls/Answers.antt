@@ -5,7 +5,7 @@ use Rattle.tasks.specs.Task.{DeclarationTree, Induces}
 use Rattle.tasks.specs.Meaning.{trees_at, declarations_at, InductiveHeld}
 use Rattle.syntax_why.specs.declared.declarations.IndTree.{IndTree}
 use Rattle.syntax_why.specs.Lexeme.{Word}
-use Rattle.elab_variables.specs.Seen.{Seen}
+use Rattle.elab_variables.specs.Seen.{SeenTree}
 use Rattle.elab_walk.proofs.Noting.{no_elements}
 use Rattle.elab_parts.specs.Declarations.{signature_variables}
 use Rattle.elab_groups.proofs.Defining.{one_held, one_made}
@@ -40,7 +40,7 @@ returns-clause-decls c =
     let body = ap Induces (clauses ∙ ap (λ (xs : List IndTree). induced c.args.number (predicates_at xs) bs) e) in
     let theory = c.in_ok-from_slice.ensures in
     let seen = rw c.as_slice.ensures at c.in_ok-vars.ensures in
-    let vars : c.len.result ≡ length (signature_variables d.params None) = c.len.ensures ∙ ap (λ (x : Seen). length x.vars) seen in
+    let vars : c.len.result ≡ length (signature_variables d.params None) = c.len.ensures ∙ ap (λ (x : SeenTree). length x.vars) seen in
     let x : DeclarationTree = record { theory = p.theory.now; name = p.within.now ++ d.called.name; vars = length (signature_variables d.params None); body = Induces (induced c.args.number (d ∷ ds) bs) } in
     rw c.in_ok-push.ensures.ok (one_made s c.new-decls.result _ x c.new-decls.ensures (cc (theory, name, vars, body))
     ∙ sym (ap (λ (xs : List IndTree). inductive_decls p.theory.now p.within.now (predicates_at xs) c.args.number bs) e))

@@ -8,7 +8,7 @@ use Rattle.trees.specs.Node.{tree_at}
 use Rattle.tasks.specs.Meaning.{trees_at}
 use Rattle.elab_names.specs.Naming.{where_at}
 use Rattle.elab_walk.specs.Drafts.{match_at, due}
-use Rattle.elab_parts.specs.Declarations.{Member}
+use Rattle.elab_parts.specs.Declarations.{GroupMember}
 use Rattle.elab_parts.specs.Elaborated.{IsTypingFault}
 use Rattle.elab_parts.proofs.Solving.{if_err}
 use Rattle.elab_members.specs.declared.signing.Signed.{Signed}
@@ -16,7 +16,7 @@ use Rattle.elab_members.specs.Members.{SignatureTree}
 use Rattle.elab_members.specs.Sources.{member_at, members_at, signed_at, SignedHeld, IsScopedSignature, AreResolved}
 use Rattle.elab_groups.specs.Groups.{most_variables, bodies_pieces, pieces_notes, BodiesSolved}
 use Rattle.elab_groups.specs.Bodies.{AreDefined, AreBodies}
-use Rattle.elab_inductives.specs.Inductives.{formulas, clause_signatures, inductive_decls}
+use Rattle.elab_inductives.specs.Inductives.{formula_members, clause_signatures, inductive_decls}
 use Rattle.elab_inductives.specs.Sources.{predicates_at}
 use Rattle.elab_inductives.proofs.ClausesResolved.{signatures_scoped, formulas_defined, signatures_each}
 use Rattle.elab_inductives.proofs.inductives.type_inductives.Goals as goal
@@ -39,15 +39,15 @@ solve_group-requires-clause-resolved c =
     let w = where_at s c.args.world.now in
     let ds = predicates_at c.args.inductives.now in
     let signed : map (signed_at s) c.as_slice-2.result.now ≡ clause_signatures ds = ap (map (signed_at s)) c.as_slice-2.ensures.value ∙ (rw c.new-signed.ensures.items at (c.in_ok-sign_inductives.ensures.signed s)) in
-    let members : members_at c.as_slice.result.now ≡ formulas ds = ap members_at c.as_slice.ensures.value ∙ (rw c.new-clauses.ensures.items at c.in_ok-push_formulas.ensures) in
-    subst (λ (ms : List Member). AreResolved w ms (map (signed_at s) c.as_slice-2.result.now)) (sym members) (subst (AreResolved w (formulas ds)) (sym signed) c.requires.resolved)
+    let members : members_at c.as_slice.result.now ≡ formula_members ds = ap members_at c.as_slice.ensures.value ∙ (rw c.new-clauses.ensures.items at c.in_ok-push_formulas.ensures) in
+    subst (λ (ms : List GroupMember). AreResolved w ms (map (signed_at s) c.as_slice-2.result.now)) (sym members) (subst (AreResolved w (formula_members ds)) (sym signed) c.requires.resolved)
 
 pub solve_group-requires-clause-each : goal.solve_group-requires-clause-each
 solve_group-requires-clause-each c =
     let s = c.args.store.now in
     let ds = predicates_at c.args.inductives.now in
     let signed : map (signed_at s) c.as_slice-2.result.now ≡ clause_signatures ds = ap (map (signed_at s)) c.as_slice-2.ensures.value ∙ (rw c.new-signed.ensures.items at (c.in_ok-sign_inductives.ensures.signed s)) in
-    let members : members_at c.as_slice.result.now ≡ formulas ds = ap members_at c.as_slice.ensures.value ∙ (rw c.new-clauses.ensures.items at c.in_ok-push_formulas.ensures) in
+    let members : members_at c.as_slice.result.now ≡ formula_members ds = ap members_at c.as_slice.ensures.value ∙ (rw c.new-clauses.ensures.items at c.in_ok-push_formulas.ensures) in
     sym (length-map c.as_slice-2.result.now (signed_at s)) ∙ (ap length signed ∙ (signatures_each ds ∙ (sym (ap length members) ∙ length-map c.as_slice.result.now member_at)))
 
 pub inductive_decls-requires-clause-held : goal.inductive_decls-requires-clause-held
@@ -60,7 +60,7 @@ inductive_decls-requires-clause-each c =
     let ds = predicates_at c.args.inductives.now in
     let its = c.as_slice-2.result.now in
     let signed : map (signed_at s) its ≡ clause_signatures ds = ap (map (signed_at s)) c.as_slice-2.ensures.value ∙ (rw c.new-signed.ensures.items at (c.in_ok-sign_inductives.ensures.signed s)) in
-    let members : members_at c.as_slice.result.now ≡ formulas ds = ap members_at c.as_slice.ensures.value ∙ (rw c.new-clauses.ensures.items at c.in_ok-push_formulas.ensures) in
+    let members : members_at c.as_slice.result.now ≡ formula_members ds = ap members_at c.as_slice.ensures.value ∙ (rw c.new-clauses.ensures.items at c.in_ok-push_formulas.ensures) in
     let bodies : AreBodies s1 its c.in_ok-it.it.trees.items = c.in_ok-it.ensures.bodies (subst AreDefined (sym members) (formulas_defined ds)) in
     let ids = c.in_ok-it.it.trees.items in
     ap length c.as_slice-bodies.ensures.value
@@ -73,10 +73,10 @@ returns-in_err-it-clause-err c =
     let w = where_at s c.args.world.now in
     let ds = predicates_at c.args.inductives.now in
     let signed : map (signed_at s) c.as_slice-2.result.now ≡ clause_signatures ds = ap (map (signed_at s)) c.as_slice-2.ensures.value ∙ (rw c.new-signed.ensures.items at (c.in_ok-sign_inductives.ensures.signed s)) in
-    let members : members_at c.as_slice.result.now ≡ formulas ds = ap members_at c.as_slice.ensures.value ∙ (rw c.new-clauses.ensures.items at c.in_ok-push_formulas.ensures) in
-    let k = subst (λ (gs : List SignatureTree). IsTypingFault (most_variables gs) (pieces_notes (bodies_pieces w (formulas ds) gs)) c.in_err-it.field-0.0) signed
-    (subst (λ (ms : List Member). IsTypingFault (most_variables (map (signed_at s) c.as_slice-2.result.now)) (pieces_notes (bodies_pieces w ms (map (signed_at s) c.as_slice-2.result.now))) c.in_err-it.field-0.0) members c.in_err-it.ensures.err) in
-    if_err c.from_residual-in_err-it.result _ (IsTypingFault (most_variables (clause_signatures ds)) (pieces_notes (bodies_pieces w (formulas ds) (clause_signatures ds)))) c.from_residual-in_err-it.ensures.1 (λ f h. rw h k)
+    let members : members_at c.as_slice.result.now ≡ formula_members ds = ap members_at c.as_slice.ensures.value ∙ (rw c.new-clauses.ensures.items at c.in_ok-push_formulas.ensures) in
+    let k = subst (λ (gs : List SignatureTree). IsTypingFault (most_variables gs) (pieces_notes (bodies_pieces w (formula_members ds) gs)) c.in_err-it.field-0.0) signed
+    (subst (λ (ms : List GroupMember). IsTypingFault (most_variables (map (signed_at s) c.as_slice-2.result.now)) (pieces_notes (bodies_pieces w ms (map (signed_at s) c.as_slice-2.result.now))) c.in_err-it.field-0.0) members c.in_err-it.ensures.err) in
+    if_err c.from_residual-in_err-it.result _ (IsTypingFault (most_variables (clause_signatures ds)) (pieces_notes (bodies_pieces w (formula_members ds) (clause_signatures ds)))) c.from_residual-in_err-it.ensures.1 (λ f h. rw h k)
 
 pub returns-clause-ok : goal.returns-clause-ok
 returns-clause-ok c =
@@ -89,9 +89,9 @@ returns-clause-ok c =
     let ms1 = map (match_at s1) it.matches in
     let clauses : List Tree = trees_at s1 it.trees.items in
     let signed : map (signed_at s) c.as_slice-2.result.now ≡ clause_signatures ds = ap (map (signed_at s)) c.as_slice-2.ensures.value ∙ (rw c.new-signed.ensures.items at (c.in_ok-sign_inductives.ensures.signed s)) in
-    let members : members_at c.as_slice.result.now ≡ formulas ds = ap members_at c.as_slice.ensures.value ∙ (rw c.new-clauses.ensures.items at c.in_ok-push_formulas.ensures) in
-    let solved : BodiesSolved w (formulas ds) (clause_signatures ds) clauses ms1 =
-    subst (λ (gs : List SignatureTree). BodiesSolved w (formulas ds) gs clauses ms1) signed (subst (λ (ms : List Member). BodiesSolved w ms (map (signed_at s) c.as_slice-2.result.now) clauses ms1) members c.in_ok-it.ensures.ok) in
+    let members : members_at c.as_slice.result.now ≡ formula_members ds = ap members_at c.as_slice.ensures.value ∙ (rw c.new-clauses.ensures.items at c.in_ok-push_formulas.ensures) in
+    let solved : BodiesSolved w (formula_members ds) (clause_signatures ds) clauses ms1 =
+    subst (λ (gs : List SignatureTree). BodiesSolved w (formula_members ds) gs clauses ms1) signed (subst (λ (ms : List GroupMember). BodiesSolved w ms (map (signed_at s) c.as_slice-2.result.now) clauses ms1) members c.in_ok-it.ensures.ok) in
     record {
       clauses = clauses;
       solved = solved;

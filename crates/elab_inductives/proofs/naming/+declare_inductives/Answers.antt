@@ -1,5 +1,5 @@
 use Rattle.std.proofs.Common.{◌≡◌, ◌++◌, ◌∷◌, [], List, ap, subst, ◌∙◌}
-use Rattle.names_space.specs.Names.{Names}
+use Rattle.names_space.specs.Names.{ScopeNames}
 use Rattle.names_space.specs.declared.Table.TheVariants.{Symbols, Propositions}
 use Rattle.syntax_why.specs.Lexeme.{Word}
 use Rattle.elab_names.specs.Naming.{Tells}
@@ -24,7 +24,7 @@ returns-in-Some-checked_add-clause-told t c =
     let ws1 = ws ++ i.called.name ∷ [] in
     let vs1 = vs ++ clause_names i.clauses in
     let moved : inductives_made (declared_in scope Symbols) (declared_in scope Propositions) us zs is ≡ inductives_made (declared_in names Symbols) (declared_in names Propositions) ws1 vs1 is =
-    ap (λ (ns : Names). inductives_made (declared_in ns Symbols) (declared_in ns Propositions) us zs is) c.in_ok-declare_inductive.ensures.ok
+    ap (λ (ns : ScopeNames). inductives_made (declared_in ns Symbols) (declared_in ns Propositions) us zs is) c.in_ok-declare_inductive.ensures.ok
     ∙ (ap (λ (xs : List Word). inductives_made (declared_in after Symbols) (declared_in after Propositions) xs zs is) c.in_ok-declare_inductive.ensures.before
     ∙ (ap (λ (xs : List Word). inductives_made (declared_in after Symbols) (declared_in after Propositions) ws1 xs is) c.in_ok-declare_inductive.ensures.named ∙ inductives_next names c.args.decl c.args.number i ws vs is)) in
     rw c.in-Some.ensures.cases.0 (of_rest c.declare_inductives.result (inductive_made (declared_in names Symbols) (declared_in names Propositions) ws vs i) (inductives_made (declared_in names Symbols) (declared_in names Propositions) ws1 vs1 is)

@@ -1,5 +1,5 @@
 use Rattle.std.proofs.Common.{◌≡◌, true, List, None, ap, subst, ◌∙◌}
-use Rattle.names_space.specs.Names.{Names, with_name}
+use Rattle.names_space.specs.Names.{ScopeNames, with_name}
 use Rattle.names_space.specs.declared.Table.TheVariants.{Symbols, Propositions}
 use Rattle.names_space.specs.declared.TypeName.TheVariants as stands
 use Rattle.syntax_why.specs.Lexeme.{Word}
@@ -24,7 +24,7 @@ returns-clause-told c =
     let none : member_made (declared_in names Symbols) ws i.called i.params ≡ None = rw (c.as_slice-2.ensures.value, c.as_slice-3.ensures, c.as_slice-params.ensures, own) at c.in_ok-declare_member.ensures.told in
     let scope : c.declare_member.new.scope ≡ after = c.in_ok-declare_member.ensures.ok ∙ ap (λ (y : Word). with_name Symbols y (stands.Entry c.args.number) true names) (c.as_slice-3.ensures ∙ own) in
     let moved : clauses_made (declared_in c.declare_member.new.scope Propositions) vs (clauses_at c.as_slice-clauses.result.now) ≡ clauses_made (declared_in names Propositions) vs i.clauses =
-    ap (λ (ns : Names). clauses_made (declared_in ns Propositions) vs (clauses_at c.as_slice-clauses.result.now)) scope
+    ap (λ (ns : ScopeNames). clauses_made (declared_in ns Propositions) vs (clauses_at c.as_slice-clauses.result.now)) scope
     ∙ (ap (λ (xs : List ClauseTree). clauses_made (declared_in after Propositions) vs (clauses_at xs)) c.as_slice-clauses.ensures ∙ clauses_after names c.args.decl c.args.number i vs i.clauses) in
     of_rest c.declare_clauses.result (member_made (declared_in names Symbols) ws i.called i.params) (clauses_made (declared_in names Propositions) vs i.clauses) none
     (subst (Tells c.declare_clauses.result) moved c.declare_clauses.ensures.told)

@@ -2,13 +2,13 @@ use Rattle.std.proofs.Common.{◌≡◌, ◌++◌, List, map, length, ap, ◌∙
 use Rattle.std.proofs.lemmas.Result.{on_ok_weaker}
 use Rattle.trees.specs.Tree.{Tree}
 use Rattle.tasks.specs.Meaning.{trees_at}
-use Rattle.elab_names.specs.Abstract.{form_of}
+use Rattle.elab_names.specs.Abstract.{type_expression_of}
 use Rattle.elab_names.specs.Naming.{where_at}
 use Rattle.elab_names.specs.Where.{Where}
 use Rattle.elab_walk.specs.Pieces.{type_at}
 use Rattle.elab_walk.proofs.Growing.{types_grow, types_stay, world_stays, world_grows}
 use Rattle.elab_parts.specs.Declarations.{word}
-use Rattle.elab_members.specs.Members.{parameter_types, copies}
+use Rattle.elab_members.specs.Members.{parameter_types, type_copies}
 use Rattle.elab_members.specs.Sources.{parameters_of}
 use Rattle.elab_members.proofs.params.+push_params.Goals as goal
 
@@ -28,7 +28,7 @@ returns-clause-types t c =
     let old = trees_at s c.args.types.now.items in
     let first = c.in-Some.first.now in
     let rest = parameters_of c.in-Some.rest.now in
-    let here = copies (type_at w (form_of first.ty)) (map word first.names) in
+    let here = type_copies (type_at w (type_expression_of first.ty)) (map word first.names) in
     let more : trees_at s1 c.push_copies.new.types.items ≡ old ++ here = rw (c.as_slice.ensures, types_stay s s1 g c.args.types.now.items c.requires.held, c.in_ok-ty.ensures.tree) at (c.in_ok-push_copies.ensures.trees s1) in
     let same : where_at s1 c.args.world.now ≡ w = world_stays s s1 g c.args.world.now c.requires.world in
     rw c.in-Some.ensures.cases.0 (on_ok_weaker c.push_params.result (λ h. h ∙ (ap (λ (v : Where). trees_at s1 c.push_copies.new.types.items ++ parameter_types v rest) same ∙ (ap (λ (ts : List Tree). ts ++ parameter_types w rest) more ∙ append_assoc old here (parameter_types w rest)))) c.push_params.ensures.types)

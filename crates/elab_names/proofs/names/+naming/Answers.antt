@@ -2,7 +2,7 @@ use Rattle.std.proofs.Common.{[], Err, refl, sym, ap, subst, ◌∙◌}
 use Rattle.syntax_why.specs.Lexeme.{Word}
 use Rattle.syntax_why.specs.Surface.{own_of}
 use Rattle.syntax_why.specs.Surface as code
-use Rattle.elab_names.specs.Abstract.{expression_of, expressions_of, more_alternatives, no_alternatives, first_form, side_by_side, connective, equality, symbol, own_name}
+use Rattle.elab_names.specs.Abstract.{expression_of, expressions_of, more_alternatives, no_alternatives, first_form, side_by_side, connective_operator, equality_operator, symbol_operator, text_of_own}
 use Rattle.elab_names.specs.Naming.{Tells, where_at, names_at, operation_at}
 use Rattle.elab_names.proofs.Nodes.{triggers_at-Some, expression_at-Match, expression_at-Apply, expression_at-Int, expression_at-True, expression_at-False, expression_at-Cast, expression_at-Not, expression_at-If, expression_at-Group, expression_at-Prefix, expression_at-Quant}
 use Rattle.elab_names.proofs.Operated.{operated_as, bound_as, matched_as}
@@ -13,7 +13,7 @@ pub check-returns-in_err-check_name-in-Apply : goal.check-returns-in_err-check_n
 check-returns-in_err-check_name-in-Apply t c s =
     let is = expression_at-Apply c.args.e.now c.in-Apply.name c.in-Apply.arguments c.in-Apply.is in
     let n = c.len.ensures ∙ sym (counted c.in-Apply.arguments) in
-    let own = c.as_slice-in-Apply.ensures ∙ c.in_ok-own-in-Apply.ensures ∙ ap (λ (x : Word). own_name (own_of c.in-Apply.name.style x)) c.as_slice.ensures in
+    let own = c.as_slice-in-Apply.ensures ∙ c.in_ok-own-in-Apply.ensures ∙ ap (λ (x : Word). text_of_own (own_of c.in-Apply.name.style x)) c.as_slice.ensures in
     let same = name_same (where_at s c.args.world.now) (names_at c.args.names.now) c.args.due c.args.e.now.at.main c.as_slice-scopes.ensures own n in
     let e = c.in_err-check_name-in-Apply.field-0.0 in
     passed c.from_residual-in_err-check_name-in-Apply.result e _ c.from_residual-in_err-check_name-in-Apply.ensures.1 (rw is (of_first e _ _ (subst (Tells (Err e)) same (c.in_err-check_name-in-Apply.ensures s))))
@@ -22,7 +22,7 @@ pub check-returns-in_ok-check_name-in-Apply : goal.check-returns-in_ok-check_nam
 check-returns-in_ok-check_name-in-Apply t c s =
     let is = expression_at-Apply c.args.e.now c.in-Apply.name c.in-Apply.arguments c.in-Apply.is in
     let n = c.len.ensures ∙ sym (counted c.in-Apply.arguments) in
-    let own = c.as_slice-in-Apply.ensures ∙ c.in_ok-own-in-Apply.ensures ∙ ap (λ (x : Word). own_name (own_of c.in-Apply.name.style x)) c.as_slice.ensures in
+    let own = c.as_slice-in-Apply.ensures ∙ c.in_ok-own-in-Apply.ensures ∙ ap (λ (x : Word). text_of_own (own_of c.in-Apply.name.style x)) c.as_slice.ensures in
     let same = name_same (where_at s c.args.world.now) (names_at c.args.names.now) c.args.due c.args.e.now.at.main c.as_slice-scopes.ensures own n in
     rw is (of_rest c.check_all.result _ _ (sym same ∙ c.in_ok-check_name-in-Apply.ensures s) (rw c.as_slice-in-Apply-2.ensures at c.check_all.ensures s))
 
@@ -81,47 +81,47 @@ check-returns-in_ok-check_name-in-Prefix t c s =
 
 pub check-returns-in_err-check-in-Connective : goal.check-returns-in_err-check-in-Connective
 check-returns-in_err-check-in-Connective t c s =
-    let is = operated_as c.args.e.now c.in-Binary.left c.in-Binary.op c.in-Binary.right c.in-Binary.is (connective c.in-Connective.field-0) (sym c.infix_operation.ensures ∙ ap operation_at c.in-Connective.is) in
+    let is = operated_as c.args.e.now c.in-Binary.left c.in-Binary.op c.in-Binary.right c.in-Binary.is (connective_operator c.in-Connective.field-0) (sym c.infix_operation.ensures ∙ ap operation_at c.in-Connective.is) in
     passed c.from_residual-in_err-check-in-Connective.result c.in_err-check-in-Connective.field-0.0 _ c.from_residual-in_err-check-in-Connective.ensures.1 (rw is (of_first c.in_err-check-in-Connective.field-0.0 _ _ (rw c.get-in-Connective.ensures at c.in_err-check-in-Connective.ensures s)))
 
 pub check-returns-in_err-refuse_if-in-Connective : goal.check-returns-in_err-refuse_if-in-Connective
 check-returns-in_err-refuse_if-in-Connective t c s =
-    let is = operated_as c.args.e.now c.in-Binary.left c.in-Binary.op c.in-Binary.right c.in-Binary.is (connective c.in-Connective.field-0) (sym c.infix_operation.ensures ∙ ap operation_at c.in-Connective.is) in
+    let is = operated_as c.args.e.now c.in-Binary.left c.in-Binary.op c.in-Binary.right c.in-Binary.is (connective_operator c.in-Connective.field-0) (sym c.infix_operation.ensures ∙ ap operation_at c.in-Connective.is) in
     passed c.from_residual-in_err-refuse_if-in-Connective.result c.in_err-refuse_if-in-Connective.field-0.0 _ c.from_residual-in_err-refuse_if-in-Connective.ensures.1 (rw is (of_rest (Err c.in_err-refuse_if-in-Connective.field-0.0) _ _ (rw c.get-in-Connective.ensures at c.in_ok-check-in-Connective.ensures s) (of_first c.in_err-refuse_if-in-Connective.field-0.0 _ _ (c.in_err-refuse_if-in-Connective.ensures))))
 
 pub check-returns-in_ok-refuse_if-in-Connective : goal.check-returns-in_ok-refuse_if-in-Connective
 check-returns-in_ok-refuse_if-in-Connective t c s =
-    let is = operated_as c.args.e.now c.in-Binary.left c.in-Binary.op c.in-Binary.right c.in-Binary.is (connective c.in-Connective.field-0) (sym c.infix_operation.ensures ∙ ap operation_at c.in-Connective.is) in
+    let is = operated_as c.args.e.now c.in-Binary.left c.in-Binary.op c.in-Binary.right c.in-Binary.is (connective_operator c.in-Connective.field-0) (sym c.infix_operation.ensures ∙ ap operation_at c.in-Connective.is) in
     rw is (of_rest c.check-in-Connective-2.result _ _ (rw c.get-in-Connective.ensures at c.in_ok-check-in-Connective.ensures s) (of_rest c.check-in-Connective-2.result _ _ (c.in_ok-refuse_if-in-Connective.ensures) (rw c.get-in-Connective-2.ensures at c.check-in-Connective-2.ensures s)))
 
 pub check-returns-in_err-check-in-Equality : goal.check-returns-in_err-check-in-Equality
 check-returns-in_err-check-in-Equality t c s =
-    let is = operated_as c.args.e.now c.in-Binary.left c.in-Binary.op c.in-Binary.right c.in-Binary.is (equality c.in-Equality.field-0) (sym c.infix_operation.ensures ∙ ap operation_at c.in-Equality.is) in
+    let is = operated_as c.args.e.now c.in-Binary.left c.in-Binary.op c.in-Binary.right c.in-Binary.is (equality_operator c.in-Equality.field-0) (sym c.infix_operation.ensures ∙ ap operation_at c.in-Equality.is) in
     passed c.from_residual-in_err-check-in-Equality.result c.in_err-check-in-Equality.field-0.0 _ c.from_residual-in_err-check-in-Equality.ensures.1 (rw is (of_first c.in_err-check-in-Equality.field-0.0 _ _ (rw c.get-in-Equality.ensures at c.in_err-check-in-Equality.ensures s)))
 
 pub check-returns-in_err-refuse_if-in-Equality : goal.check-returns-in_err-refuse_if-in-Equality
 check-returns-in_err-refuse_if-in-Equality t c s =
-    let is = operated_as c.args.e.now c.in-Binary.left c.in-Binary.op c.in-Binary.right c.in-Binary.is (equality c.in-Equality.field-0) (sym c.infix_operation.ensures ∙ ap operation_at c.in-Equality.is) in
+    let is = operated_as c.args.e.now c.in-Binary.left c.in-Binary.op c.in-Binary.right c.in-Binary.is (equality_operator c.in-Equality.field-0) (sym c.infix_operation.ensures ∙ ap operation_at c.in-Equality.is) in
     passed c.from_residual-in_err-refuse_if-in-Equality.result c.in_err-refuse_if-in-Equality.field-0.0 _ c.from_residual-in_err-refuse_if-in-Equality.ensures.1 (rw is (of_rest (Err c.in_err-refuse_if-in-Equality.field-0.0) _ _ (rw c.get-in-Equality.ensures at c.in_ok-check-in-Equality.ensures s) (of_first c.in_err-refuse_if-in-Equality.field-0.0 _ _ (c.in_err-refuse_if-in-Equality.ensures))))
 
 pub check-returns-in_ok-refuse_if-in-Equality : goal.check-returns-in_ok-refuse_if-in-Equality
 check-returns-in_ok-refuse_if-in-Equality t c s =
-    let is = operated_as c.args.e.now c.in-Binary.left c.in-Binary.op c.in-Binary.right c.in-Binary.is (equality c.in-Equality.field-0) (sym c.infix_operation.ensures ∙ ap operation_at c.in-Equality.is) in
+    let is = operated_as c.args.e.now c.in-Binary.left c.in-Binary.op c.in-Binary.right c.in-Binary.is (equality_operator c.in-Equality.field-0) (sym c.infix_operation.ensures ∙ ap operation_at c.in-Equality.is) in
     rw is (of_rest c.check-in-Equality-2.result _ _ (rw c.get-in-Equality.ensures at c.in_ok-check-in-Equality.ensures s) (of_rest c.check-in-Equality-2.result _ _ (c.in_ok-refuse_if-in-Equality.ensures) (rw c.get-in-Equality-2.ensures at c.check-in-Equality-2.ensures s)))
 
 pub check-returns-in_err-check-in-Symbol : goal.check-returns-in_err-check-in-Symbol
 check-returns-in_err-check-in-Symbol t c s =
-    let is = operated_as c.args.e.now c.in-Binary.left c.in-Binary.op c.in-Binary.right c.in-Binary.is (symbol c.in-Symbol.name.now) (sym c.infix_operation.ensures ∙ ap operation_at c.in-Symbol.is) in
+    let is = operated_as c.args.e.now c.in-Binary.left c.in-Binary.op c.in-Binary.right c.in-Binary.is (symbol_operator c.in-Symbol.name.now) (sym c.infix_operation.ensures ∙ ap operation_at c.in-Symbol.is) in
     passed c.from_residual-in_err-check-in-Symbol.result c.in_err-check-in-Symbol.field-0.0 _ c.from_residual-in_err-check-in-Symbol.ensures.1 (rw is (of_first c.in_err-check-in-Symbol.field-0.0 _ _ (rw c.get-in-Symbol.ensures at c.in_err-check-in-Symbol.ensures s)))
 
 pub check-returns-in_err-check_name-in-Symbol : goal.check-returns-in_err-check_name-in-Symbol
 check-returns-in_err-check_name-in-Symbol t c s =
-    let is = operated_as c.args.e.now c.in-Binary.left c.in-Binary.op c.in-Binary.right c.in-Binary.is (symbol c.in-Symbol.name.now) (sym c.infix_operation.ensures ∙ ap operation_at c.in-Symbol.is) in
+    let is = operated_as c.args.e.now c.in-Binary.left c.in-Binary.op c.in-Binary.right c.in-Binary.is (symbol_operator c.in-Symbol.name.now) (sym c.infix_operation.ensures ∙ ap operation_at c.in-Symbol.is) in
     passed c.from_residual-in_err-check_name-in-Symbol.result c.in_err-check_name-in-Symbol.field-0.0 _ c.from_residual-in_err-check_name-in-Symbol.ensures.1 (rw is (of_rest (Err c.in_err-check_name-in-Symbol.field-0.0) _ _ (rw c.get-in-Symbol.ensures at c.in_ok-check-in-Symbol.ensures s) (of_first c.in_err-check_name-in-Symbol.field-0.0 _ _ (c.in_err-check_name-in-Symbol.ensures s))))
 
 pub check-returns-in_ok-check_name-in-Symbol : goal.check-returns-in_ok-check_name-in-Symbol
 check-returns-in_ok-check_name-in-Symbol t c s =
-    let is = operated_as c.args.e.now c.in-Binary.left c.in-Binary.op c.in-Binary.right c.in-Binary.is (symbol c.in-Symbol.name.now) (sym c.infix_operation.ensures ∙ ap operation_at c.in-Symbol.is) in
+    let is = operated_as c.args.e.now c.in-Binary.left c.in-Binary.op c.in-Binary.right c.in-Binary.is (symbol_operator c.in-Symbol.name.now) (sym c.infix_operation.ensures ∙ ap operation_at c.in-Symbol.is) in
     rw is (of_rest c.check-in-Symbol-2.result _ _ (rw c.get-in-Symbol.ensures at c.in_ok-check-in-Symbol.ensures s) (of_rest c.check-in-Symbol-2.result _ _ (c.in_ok-check_name-in-Symbol.ensures s) (rw c.get-in-Symbol-2.ensures at c.check-in-Symbol-2.ensures s)))
 
 pub check-returns-in_err-check-in-Some : goal.check-returns-in_err-check-in-Some

@@ -1,5 +1,5 @@
 use Rattle.std.proofs.Common.{[], ◌∷◌, append_assoc, sym}
-use Rattle.elab_names.specs.Abstract.{pattern_of}
+use Rattle.elab_names.specs.Abstract.{abstract_pattern_of}
 use Rattle.elab_names.specs.Faults.{pattern_names}
 use mathlib.Core.List.{append-nil}
 use Rattle.elab_names.proofs.Nodes.{pattern_at-Wild, pattern_at-Var, pattern_at-Con, pattern_at-Group, pattern_at-Alias}
@@ -22,4 +22,4 @@ enter_names-returns-in-Group t c =
 pub enter_names-returns-in_ok-enter_names-in-Alias : goal.enter_names-returns-in_ok-enter_names-in-Alias
 enter_names-returns-in_ok-enter_names-in-Alias t c =
     let seen = rw c.get.ensures at c.in_ok-enter_names-in-Alias.ensures in
-    rw (pattern_at-Alias c.args.p.now c.in-Alias.inner c.in-Alias.name c.in-Alias.is) (rw (c.as_slice-in-Alias.ensures, seen, append_assoc c.args.names.now (pattern_names (pattern_of c.in-Alias.inner)) (c.in-Alias.name.text ∷ [])) at c.enter_name-in-Alias.ensures)
+    rw (pattern_at-Alias c.args.p.now c.in-Alias.inner c.in-Alias.name c.in-Alias.is) (rw (c.as_slice-in-Alias.ensures, seen, append_assoc c.args.names.now (pattern_names (abstract_pattern_of c.in-Alias.inner)) (c.in-Alias.name.text ∷ [])) at c.enter_name-in-Alias.ensures)

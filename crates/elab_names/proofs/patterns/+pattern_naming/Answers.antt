@@ -1,6 +1,6 @@
 use Rattle.std.proofs.Common.{[], ◌∷◌, append_assoc, refl, sym, subst, ◌∙◌}
 use mathlib.Core.List.{append-nil}
-use Rattle.elab_names.specs.Abstract.{pattern_of}
+use Rattle.elab_names.specs.Abstract.{abstract_pattern_of}
 use Rattle.elab_names.specs.Faults.{pattern_names}
 use Rattle.elab_names.specs.Naming.{Tells, where_at}
 use Rattle.elab_names.proofs.Nodes.{pattern_at-Wild, pattern_at-Var, pattern_at-Con, pattern_at-Group, pattern_at-Alias}
@@ -60,4 +60,4 @@ check_pattern-returns-in_ok-check_pattern-in-Alias-clause-fault t c s =
 pub check_pattern-returns-in_ok-check_pattern-in-Alias-clause-names : goal.check_pattern-returns-in_ok-check_pattern-in-Alias-clause-names
 check_pattern-returns-in_ok-check_pattern-in-Alias-clause-names t c =
     let seen = rw c.get.ensures at c.in_ok-check_pattern-in-Alias.ensures.names in
-    rw (pattern_at-Alias c.args.p.now c.in-Alias.inner c.in-Alias.name c.in-Alias.is) (rw (c.as_slice-in-Alias.ensures, seen, append_assoc c.args.names.now (pattern_names (pattern_of c.in-Alias.inner)) (c.in-Alias.name.text ∷ [])) at c.check_variable-in-Alias.ensures.names)
+    rw (pattern_at-Alias c.args.p.now c.in-Alias.inner c.in-Alias.name c.in-Alias.is) (rw (c.as_slice-in-Alias.ensures, seen, append_assoc c.args.names.now (pattern_names (abstract_pattern_of c.in-Alias.inner)) (c.in-Alias.name.text ∷ [])) at c.check_variable-in-Alias.ensures.names)

@@ -1,7 +1,7 @@
 use Rattle.std.proofs.Common.{refl, sym}
 use Rattle.syntax_why.specs.Surface as code
 use Rattle.syntax_why.specs.Surface.{op_of}
-use Rattle.elab_names.specs.Abstract.{operation, expression_of, let_name}
+use Rattle.elab_names.specs.Abstract.{operator_meaning, expression_of, let_name}
 use Rattle.elab_names.proofs.Nodes.{expression_at-Apply, expression_at-Int, expression_at-True, expression_at-False, expression_at-Group, expression_at-Cast, expression_at-Prefix, expression_at-Not, expression_at-Binary, expression_at-If, expression_at-Let, expression_at-Match, expression_at-Quant}
 use Rattle.elab_names.proofs.Told.{group_many, operated_head, operated_token, let_head, let_token}
 use Rattle.elab_names.proofs.triggers.+heads.Goals as goal
@@ -81,13 +81,13 @@ trigger_of-returns-in-Group-clause-token t c = let is = expression_at-Group c.ar
 pub trigger_of-returns-in-Binary-clause-head : goal.trigger_of-returns-in-Binary-clause-head
 trigger_of-returns-in-Binary-clause-head t c =
     let is = expression_at-Binary c.args.e.now c.in-Binary.field-0 c.in-Binary.op c.in-Binary.field-2 c.in-Binary.is in
-    let o = operated_head c.args.e.now.at.main (expression_of c.in-Binary.field-0) (operation (op_of c.in-Binary.op).terminal (op_of c.in-Binary.op).text) (expression_of c.in-Binary.field-2) in
+    let o = operated_head c.args.e.now.at.main (expression_of c.in-Binary.field-0) (operator_meaning (op_of c.in-Binary.op).terminal (op_of c.in-Binary.op).text) (expression_of c.in-Binary.field-2) in
     rw (is, o) c.infix_head.ensures
 
 pub trigger_of-returns-in-Binary-clause-token : goal.trigger_of-returns-in-Binary-clause-token
 trigger_of-returns-in-Binary-clause-token t c =
     let is = expression_at-Binary c.args.e.now c.in-Binary.field-0 c.in-Binary.op c.in-Binary.field-2 c.in-Binary.is in
-    rw is (sym (operated_token c.args.e.now.at.main (expression_of c.in-Binary.field-0) (operation (op_of c.in-Binary.op).terminal (op_of c.in-Binary.op).text) (expression_of c.in-Binary.field-2)))
+    rw is (sym (operated_token c.args.e.now.at.main (expression_of c.in-Binary.field-0) (operator_meaning (op_of c.in-Binary.op).terminal (op_of c.in-Binary.op).text) (expression_of c.in-Binary.field-2)))
 
 pub trigger_of-returns-in-Let-clause-head : goal.trigger_of-returns-in-Let-clause-head
 trigger_of-returns-in-Let-clause-head t c =

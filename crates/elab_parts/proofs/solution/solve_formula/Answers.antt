@@ -6,12 +6,12 @@ use Rattle.trees.specs.Node.{tree_at}
 use Rattle.elab_names.specs.Abstract.{expression_of}
 use Rattle.elab_names.specs.Naming.{where_at}
 use Rattle.elab_walk.specs.Patterns.{Notes, taken}
-use Rattle.elab_walk.specs.Pieces.{Piece, piece}
+use Rattle.elab_walk.specs.Pieces.{NotedTree, piece}
 use Rattle.elab_walk.specs.Drafts.{IsWalked, match_at, notes_at}
 use Rattle.elab_walk.proofs.Bounded.{bounded}
 use Rattle.tasks.specs.Meaning.{trees_at}
 use Rattle.elab_parts.specs.Elaborated.{IsTypingFault}
-use Rattle.elab_parts.specs.Values.{AreTypes, behind, match_instance}
+use Rattle.elab_parts.specs.Values.{AreSolvedTypes, notes_after, match_instance}
 use Rattle.elab_parts.proofs.MatchesBelow.{MatchesBelow, matches_bounded}
 use Rattle.elab_parts.proofs.Putting.{hold_types}
 use Rattle.elab_parts.proofs.Solving.{begun_behind, begun_ready, formula_solved, if_err}
@@ -27,9 +27,9 @@ walk-requires c = record {
 pub returns-in_err-types-clause-err : goal.returns-in_err-types-clause-err
 returns-in_err-types-clause-err c =
     let r = length c.args.world.now.vars.now in
-    let p : Piece = piece (where_at c.args.store.now c.args.world.now) [] r None (expression_of c.args.e.now) in
+    let p : NotedTree = piece (where_at c.args.store.now c.args.world.now) [] r None (expression_of c.args.e.now) in
     let a : IsWalked p Formula c.args.store.now c.in_ok-draft.draft c.walk.new.store c.walk.new.draft c.in_ok-tree.tree = rw c.in_ok-draft.ensures.takers at c.in_ok-tree.ensures.walked in
-    let e : behind r (notes_at c.walk.new.store c.walk.new.draft) ≡ p.notes = begun_behind r c.in_ok-draft.ensures.equations c.in_ok-draft.ensures.takers c.in_ok-draft.ensures.matches a.noted in
+    let e : notes_after r (notes_at c.walk.new.store c.walk.new.draft) ≡ p.notes = begun_behind r c.in_ok-draft.ensures.equations c.in_ok-draft.ensures.takers c.in_ok-draft.ensures.matches a.noted in
     let k = rw e at c.in_err-types.ensures.err in
     if_err c.from_residual-in_err-types.result _ (IsTypingFault r p.notes) c.from_residual-in_err-types.ensures.1 (λ f h. rw h k)
 
@@ -40,15 +40,15 @@ pub returns-clause-ok : goal.returns-clause-ok
 returns-clause-ok c =
     let r = length c.args.world.now.vars.now in
     let w = where_at c.args.store.now c.args.world.now in
-    let p : Piece = piece w [] r None (expression_of c.args.e.now) in
+    let p : NotedTree = piece w [] r None (expression_of c.args.e.now) in
     let s1 = c.walk.new.store in
     let s2 = c.solve_draft.new.store in
     let s3 = c.inst_types.new.g in
     let s4 = c.put_matches.new.store in
     let types = c.in_ok-types.types.items in
     let a : IsWalked p Formula c.args.store.now c.in_ok-draft.draft s1 c.walk.new.draft c.in_ok-tree.tree = rw c.in_ok-draft.ensures.takers at c.in_ok-tree.ensures.walked in
-    let e : behind r (notes_at s1 c.walk.new.draft) ≡ p.notes = begun_behind r c.in_ok-draft.ensures.equations c.in_ok-draft.ensures.takers c.in_ok-draft.ensures.matches a.noted in
-    let t : AreTypes s2 r p.notes types = subst (λ (ns : Notes). AreTypes s2 r ns types) e c.in_ok-types.ensures.ok in
+    let e : notes_after r (notes_at s1 c.walk.new.draft) ≡ p.notes = begun_behind r c.in_ok-draft.ensures.equations c.in_ok-draft.ensures.takers c.in_ok-draft.ensures.matches a.noted in
+    let t : AreSolvedTypes s2 r p.notes types = subst (λ (ns : Notes). AreSolvedTypes s2 r ns types) e c.in_ok-types.ensures.ok in
     let below : TyVarsBelow (r + taken p.notes) p.tree = bounded w c.requires.scoped (expression_of c.args.e.now) [] r None [] true tt tt (omega arith) c.requires.resolved in
     let within : MatchesBelow (r + taken p.notes) p.notes.matches = matches_bounded w c.requires.scoped (expression_of c.args.e.now) [] r None in
     let ms : map (match_at s1) c.walk.new.draft.matches ≡ p.notes.matches = ap (λ (ns : Notes). ns.matches) e in

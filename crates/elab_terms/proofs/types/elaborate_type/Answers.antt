@@ -4,9 +4,9 @@ use Rattle.tasks.specs.Task.{MakesType}
 use Rattle.tasks.specs.Meaning.{declarations_at}
 use Rattle.names_space.specs.declared.Table.TheVariants.{Types}
 use Rattle.names_space.specs.declared.TypeName.TheVariants as stands
-use Rattle.names_space.specs.Names.{Names, with_name}
-use Rattle.elab_walk.specs.Patterns.{nothing}
-use Rattle.elab_parts.specs.Declarations.{word, abstract_type, made_by, made_fault}
+use Rattle.names_space.specs.Names.{ScopeNames, with_name}
+use Rattle.elab_walk.specs.Patterns.{no_notes}
+use Rattle.elab_parts.specs.Declarations.{word, abstract_type, made_names, made_fault}
 use Rattle.elab_parts.specs.Entries.{type_entry, IsExtended}
 use Rattle.elab_parts.specs.Outcomes.{setting, declared_in, IsKept}
 use Rattle.elab_parts.proofs.Refused.{made_refusal}
@@ -28,7 +28,7 @@ returns-in_ok-made-in-Ok-clause-ok c =
     let ext : IsExtended s g s g1 (type_entry p.theory.now (p.within.now ++ x.name) (length vs) ∷ []) = rw (c.as_slice.ensures, n) at c.in_ok-made-in-Ok.ensures.entry in
     let decls : declarations_at s made.decls ≡ record { theory = p.theory.now; name = p.within.now ++ x.name; vars = length vs; body = MakesType (length g.symbols) } ∷ [] = rw (c.as_slice.ensures, n) at c.in_ok-made-in-Ok.ensures.decls in
     let scope : c.declare_type.new.scope ≡ with_name Types x.name (stands.Entry (length g.symbols)) true names = c.in-Ok.ensures.ok ∙ ap (λ (k : ℕ). with_name Types x.name (stands.Entry k) true names) c.len.ensures in
-    subst (λ (ns : Names). IsElaborated (setting p s g names) (abstract_type x vs) g s g1 ns made) (sym scope)
+    subst (λ (ns : ScopeNames). IsElaborated (setting p s g names) (abstract_type x vs) g s g1 ns made) (sym scope)
     (type_elaborated p s g g1 names x vs made c.in-Ok.ensures.told ext decls c.in_ok-made-in-Ok.ensures.rigid c.in_ok-made-in-Ok.ensures.matches)
 
 pub returns-in_ok-made-in-Ok-clause-kept : goal.returns-in_ok-made-in-Ok-clause-kept
@@ -44,7 +44,7 @@ returns-in_ok-made-in-Ok-clause-kept c =
     let n : length c.args.vars.now ≡ length vs = sym (length-map c.args.vars.now word) in
     let ext : IsExtended s g s g1 (type_entry p.theory.now (p.within.now ++ x.name) (length vs) ∷ []) = rw (c.as_slice.ensures, n) at c.in_ok-made-in-Ok.ensures.entry in
     let scope : c.declare_type.new.scope ≡ with_name Types x.name (stands.Entry (length g.symbols)) true names = c.in-Ok.ensures.ok ∙ ap (λ (k : ℕ). with_name Types x.name (stands.Entry k) true names) c.len.ensures in
-    subst (λ (ns : Names). IsKept s g1 ns made) (sym scope)
+    subst (λ (ns : ScopeNames). IsKept s g1 ns made) (sym scope)
     (type_kept p s g g1 names x vs made ext c.requires.scopes c.in_ok-made-in-Ok.ensures.matches (types_held s made.decls _ _ _ _ c.in_ok-made-in-Ok.ensures.decls))
 
 pub returns-in-Err-clause-err : goal.returns-in-Err-clause-err
@@ -56,4 +56,4 @@ returns-in-Err-clause-err c =
     let x = word c.args.name.now in
     let vs = map word c.args.vars.now in
     subst (IsRefusal (setting p s g names) (abstract_type x vs)) (sym c.naming_fault.ensures)
-    (made_refusal p.decl 0 nothing (made_fault (declared_in names) [] (made_by (abstract_type x vs))) None c.in-Err.fault c.in-Err.ensures.told)
+    (made_refusal p.decl 0 no_notes (made_fault (declared_in names) [] (made_names (abstract_type x vs))) None c.in-Err.fault c.in-Err.ensures.told)

@@ -3,10 +3,10 @@ use Rattle.std.proofs.lemmas.Result.{IfOk-weaker}
 use Rattle.trees.specs.Facts.{TyVarsBelow}
 use Rattle.tasks.specs.Task.{SymbolTree}
 use Rattle.tasks.specs.Meaning.{symbols_at}
-use Rattle.elab_names.specs.Abstract.{form_of}
+use Rattle.elab_names.specs.Abstract.{type_expression_of}
 use Rattle.elab_names.specs.Naming.{where_at}
 use Rattle.elab_names.specs.Where.{Where}
-use Rattle.elab_variables.specs.Seen.{Seen}
+use Rattle.elab_variables.specs.Seen.{SeenTree}
 use Rattle.elab_variables.specs.Entered.{seen_at}
 use Rattle.elab_walk.specs.Pieces.{type_at}
 use Rattle.elab_parts.specs.Entries.{wanting_tuples, IsExtended}
@@ -21,9 +21,9 @@ pub returns-clause-entries : goal.returns-clause-entries
 returns-clause-entries c =
     let s = c.args.store.now in
     let g = c.args.sig.now in
-    let f = form_of c.args.ty.now in
+    let f = type_expression_of c.args.ty.now in
     let q : seen_at c.enter_form.new.seen ≡ alias_seen f = rw (c.new.ensures, c.new-2.ensures) at c.in_ok-enter_form.ensures in
-    let ext = subst (λ (ws : List ℕ). IsExtended s g c.push_tuples.new.store c.push_tuples.new.sig (wanting_tuples (symbols_at s g.symbols) ws)) (c.as_slice.ensures ∙ ap (λ (v : Seen). v.widths) q) c.in_ok-push_tuples.ensures.entries in
+    let ext = subst (λ (ws : List ℕ). IsExtended s g c.push_tuples.new.store c.push_tuples.new.sig (wanting_tuples (symbols_at s g.symbols) ws)) (c.as_slice.ensures ∙ ap (λ (v : SeenTree). v.widths) q) c.in_ok-push_tuples.ensures.entries in
     always c.type_of_form.result (extended_grows (wanting_tuples (symbols_at s g.symbols) (alias_seen f).widths) c.type_of_form.ensures.grows ext)
 
 pub returns-clause-tree : goal.returns-clause-tree
@@ -34,10 +34,10 @@ returns-clause-tree c =
     let g1 = c.push_tuples.new.sig in
     let names = c.args.scope.now in
     let vars = c.args.vars.now in
-    let f = form_of c.args.ty.now in
+    let f = type_expression_of c.args.ty.now in
     let more : List SymbolTree = wanting_tuples (symbols_at s g.symbols) (alias_seen f).widths in
     let q : seen_at c.enter_form.new.seen ≡ alias_seen f = rw (c.new.ensures, c.new-2.ensures) at c.in_ok-enter_form.ensures in
-    let ext : IsExtended s g s1 g1 more = subst (λ (ws : List ℕ). IsExtended s g s1 g1 (wanting_tuples (symbols_at s g.symbols) ws)) (c.as_slice.ensures ∙ ap (λ (v : Seen). v.widths) q) c.in_ok-push_tuples.ensures.entries in
+    let ext : IsExtended s g s1 g1 more = subst (λ (ws : List ℕ). IsExtended s g s1 g1 (wanting_tuples (symbols_at s g.symbols) ws)) (c.as_slice.ensures ∙ ap (λ (v : SeenTree). v.widths) q) c.in_ok-push_tuples.ensures.entries in
     let is : where_at s1 c.world_over-world.result ≡ over s (symbols_at s g.symbols ++ more) names vars = c.world_over-world.ensures.names s1 ∙ over_extended s s1 c.push_tuples.ensures.grows g g1 more names c.requires.signature c.requires.scopes ext vars in
     IfOk-weaker c.type_of_form.result _ _ (λ id h. h ∙ ap (λ (v : Where). type_at v f) is) c.type_of_form.ensures.tree
 
@@ -49,9 +49,9 @@ returns-clause-below c =
     let g1 = c.push_tuples.new.sig in
     let names = c.args.scope.now in
     let vars = c.args.vars.now in
-    let f = form_of c.args.ty.now in
+    let f = type_expression_of c.args.ty.now in
     let more : List SymbolTree = wanting_tuples (symbols_at s g.symbols) (alias_seen f).widths in
     let q : seen_at c.enter_form.new.seen ≡ alias_seen f = rw (c.new.ensures, c.new-2.ensures) at c.in_ok-enter_form.ensures in
-    let ext : IsExtended s g s1 g1 more = subst (λ (ws : List ℕ). IsExtended s g s1 g1 (wanting_tuples (symbols_at s g.symbols) ws)) (c.as_slice.ensures ∙ ap (λ (v : Seen). v.widths) q) c.in_ok-push_tuples.ensures.entries in
+    let ext : IsExtended s g s1 g1 more = subst (λ (ws : List ℕ). IsExtended s g s1 g1 (wanting_tuples (symbols_at s g.symbols) ws)) (c.as_slice.ensures ∙ ap (λ (v : SeenTree). v.widths) q) c.in_ok-push_tuples.ensures.entries in
     let is : where_at s1 c.world_over-world.result ≡ over s (symbols_at s g.symbols ++ more) names vars = c.world_over-world.ensures.names s1 ∙ over_extended s s1 c.push_tuples.ensures.grows g g1 more names c.requires.signature c.requires.scopes ext vars in
     IfOk-weaker c.type_of_form.result _ _ (λ id h right. subst (TyVarsBelow (length vars)) (sym (h ∙ ap (λ (v : Where). type_at v f) is)) (form_within s s1 c.push_tuples.ensures.grows g g1 more names c.requires.signature c.requires.scopes ext vars f right)) c.type_of_form.ensures.tree

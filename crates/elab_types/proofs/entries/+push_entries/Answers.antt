@@ -12,7 +12,7 @@ use Rattle.elab_parts.specs.Declarations.{word}
 use Rattle.elab_parts.specs.Entries.{IsExtended}
 use Rattle.elab_parts.proofs.Entering.{signature_grows, own_below, extended_both}
 use Rattle.elab_parts.proofs.Putting.{all_first, all_rest}
-use Rattle.elab_types.specs.Algebraics.{constructors_of, types_of, constructors_entries, group_entries}
+use Rattle.elab_types.specs.Algebraics.{constructors_of, algebraics_of, constructors_entries, group_entries}
 use Rattle.elab_types.specs.Held.{AlgTyped, AreConsWithin, AreWithin}
 use Rattle.elab_types.proofs.Placed.{extended_over}
 use Rattle.elab_types.proofs.Typed.{cons_grow, cons_stay, algs_grow, algs_stay}
@@ -53,8 +53,8 @@ push_entries-requires t c =
     let others = c.in-Some-split_first.others.now in
     let typed = all_rest (AlgTyped s) c.args.types.now alg others c.in-Some-split_first.ensures.cases.0 c.requires.typed in
     let below = rw (c.in-Some.ensures.cases.0, c.in-Some-split_first.ensures.cases.0) at c.requires.below in
-    let rest : AreWithin (types_of c.in-Some.rest.now) (algebraics_at s others) = below.1 in
-    (omega (arith, ap length c.in-Some.ensures.cases.0), (c.in_ok-push_constructor_entries.ensures.signature, (algs_grow s s1 g others typed, subst (AreWithin (types_of c.in-Some.rest.now)) (sym (algs_stay s s1 g others typed)) rest)))
+    let rest : AreWithin (algebraics_of c.in-Some.rest.now) (algebraics_at s others) = below.1 in
+    (omega (arith, ap length c.in-Some.ensures.cases.0), (c.in_ok-push_constructor_entries.ensures.signature, (algs_grow s s1 g others typed, subst (AreWithin (algebraics_of c.in-Some.rest.now)) (sym (algs_stay s s1 g others typed)) rest)))
 
 pub returns-clause-entries : goal.returns-clause-entries
 returns-clause-entries t c =
@@ -84,6 +84,6 @@ returns-clause-entries t c =
     let here : List SymbolTree = constructors_entries theory within v (own_type alg.symbol v) ks ys in
     let k : IsExtended s1 a s1 b here = subst (IsExtended s1 a s1 b) entries c.in_ok-push_constructor_entries.ensures in
     let k0 : IsExtended s a s1 b here = extended_over s s1 g a b here c.requires.signature k in
-    let rest : List SymbolTree = group_entries theory within (types_of c.in-Some.rest.now) (algebraics_at s others) in
-    let e : group_entries theory within (types_of c.in-Some.rest.now) (algebraics_at s1 others) ≡ rest = ap (group_entries theory within (types_of c.in-Some.rest.now)) (algs_stay s s1 g others typeds) in
+    let rest : List SymbolTree = group_entries theory within (algebraics_of c.in-Some.rest.now) (algebraics_at s others) in
+    let e : group_entries theory within (algebraics_of c.in-Some.rest.now) (algebraics_at s1 others) ≡ rest = ap (group_entries theory within (algebraics_of c.in-Some.rest.now)) (algs_stay s s1 g others typeds) in
     rw (c.in-Some.ensures.cases.0, c.in-Some-split_first.ensures.cases.0) (on_ok_weaker c.push_entries.result (λ h. extended_both here rest k0 (subst (IsExtended s1 b c.push_entries.new.store c.push_entries.new.sig) e h)) c.push_entries.ensures.entries)

@@ -1,6 +1,6 @@
 use Rattle.std.proofs.Common.{◌≡◌, ℕ, ◌+◌, ◌++◌, ◌∷◌, [], None, List, length, false, sym, ap, subst, ◌∙◌, arith, append_assoc}
 use Rattle.std.proofs.lemmas.Result.{on_ok_weaker}
-use Rattle.tasks.specs.Task.{ConTree}
+use Rattle.tasks.specs.Task.{ConstructorTree}
 use Rattle.tasks.specs.Meaning.{con_at, cons_at}
 use Rattle.syntax_why.specs.declared.types.TypeTree.{TypeTree}
 use Rattle.elab_names.specs.Abstract.{count_forms}
@@ -11,7 +11,7 @@ use Rattle.elab_names.proofs.Told.{of_rest}
 use Rattle.elab_walk.specs.Pieces.{types_at}
 use Rattle.elab_walk.proofs.Growing.{world_stays, world_grows}
 use Rattle.elab_parts.specs.Declarations.{constructors_fault}
-use Rattle.elab_types.specs.Algebraics.{fields_of, constructors_of, numbers_from, constructor_trees}
+use Rattle.elab_types.specs.Algebraics.{field_expressions, constructors_of, numbering_from, constructor_trees}
 use Rattle.elab_types.proofs.Counted.{counted_fields}
 use Rattle.elab_types.proofs.Typed.{cons_more, cons_are}
 use Rattle.elab_types.proofs.fields.+push_constructors.Goals as goal
@@ -20,14 +20,14 @@ pub make_constructor-requires-clause-fits : goal.make_constructor-requires-claus
 make_constructor-requires-clause-fits t c =
     let first = c.in-Some.first.now in
     let f = rw c.in-Some.ensures.cases.0 at c.requires.fits in
-    let l : length c.as_slice.result.now ≡ count_forms (fields_of first.fields) = ap length c.as_slice.ensures ∙ sym (counted_fields first.fields) in
+    let l : length c.as_slice.result.now ≡ count_forms (field_expressions first.fields) = ap length c.as_slice.ensures ∙ sym (counted_fields first.fields) in
     omega (arith, f, l)
 
 pub overflow_add-number-2 : goal.overflow_add-number-2
 overflow_add-number-2 t c =
     let first = c.in-Some.first.now in
     let f = rw c.in-Some.ensures.cases.0 at c.requires.fits in
-    let l : c.len.result ≡ count_forms (fields_of first.fields) = c.len.ensures ∙ sym (counted_fields first.fields) in
+    let l : c.len.result ≡ count_forms (field_expressions first.fields) = c.len.ensures ∙ sym (counted_fields first.fields) in
     omega (arith, f, l)
 
 pub push_constructors-requires : goal.push_constructors-requires
@@ -37,7 +37,7 @@ push_constructors-requires t c =
     let g = c.make_constructor.ensures.grows in
     let first = c.in-Some.first.now in
     let f = rw c.in-Some.ensures.cases.0 at c.requires.fits in
-    let l : c.len.result ≡ count_forms (fields_of first.fields) = c.len.ensures ∙ sym (counted_fields first.fields) in (
+    let l : c.len.result ≡ count_forms (field_expressions first.fields) = c.len.ensures ∙ sym (counted_fields first.fields) in (
       omega (arith, ap length c.in-Some.ensures.cases.0),
       (
         world_grows s s1 g c.args.world.now c.requires.world,
@@ -54,21 +54,21 @@ returns-clause-cons t c =
     let n = c.args.number.now in
     let first = c.in-Some.first.now in
     let ks = constructors_of c.in-Some.rest.now in
-    let m = count_forms (fields_of first.fields) + 1 in
+    let m = count_forms (field_expressions first.fields) + 1 in
     let old = cons_at s c.args.made.now in
     let made = cons_at s1 c.push.new.self in
-    let here : ConTree = record { symbol = n; fields = types_at w (fields_of first.fields); projections = numbers_from (n + 1) (types_at w (fields_of first.fields)) } in
+    let here : ConstructorTree = record { symbol = n; fields = types_at w (field_expressions first.fields); projections = numbering_from (n + 1) (types_at w (field_expressions first.fields)) } in
     let next : n + (c.len.result + 1) ≡ n + m = ap (λ (k : ℕ). n + (k + 1)) (c.len.ensures ∙ sym (counted_fields first.fields)) in
-    let one : con_at s1 c.in_ok-con.con ≡ here = c.in_ok-con.ensures.con ∙ ap (λ (ts : List TypeTree). record { symbol = n; fields = types_at w (fields_of ts); projections = numbers_from (n + 1) (types_at w (fields_of ts)) }) c.as_slice.ensures in
-    let more : made ≡ old ++ here ∷ [] = ap (cons_at s1) c.in_ok-push.ensures.ok ∙ (cons_are s s1 g c.args.made.now c.in_ok-con.con c.requires.made ∙ ap (λ (x : ConTree). old ++ x ∷ []) one) in
+    let one : con_at s1 c.in_ok-con.con ≡ here = c.in_ok-con.ensures.con ∙ ap (λ (ts : List TypeTree). record { symbol = n; fields = types_at w (field_expressions ts); projections = numbering_from (n + 1) (types_at w (field_expressions ts)) }) c.as_slice.ensures in
+    let more : made ≡ old ++ here ∷ [] = ap (cons_at s1) c.in_ok-push.ensures.ok ∙ (cons_are s s1 g c.args.made.now c.in_ok-con.con c.requires.made ∙ ap (λ (x : ConstructorTree). old ++ x ∷ []) one) in
     let same : where_at s1 c.args.world.now ≡ w = world_stays s s1 g c.args.world.now c.requires.world in
     let rest = constructor_trees w (n + m) ks in
-    rw c.in-Some.ensures.cases.0 (on_ok_weaker c.push_constructors.result (λ h. h ∙ (ap (λ (v : Where). made ++ constructor_trees v (n + (c.len.result + 1)) ks) same ∙ (ap (λ (k : ℕ). made ++ constructor_trees w k ks) next ∙ (ap (λ (ts : List ConTree). ts ++ rest) more ∙ append_assoc old (here ∷ []) rest)))) c.push_constructors.ensures.cons)
+    rw c.in-Some.ensures.cases.0 (on_ok_weaker c.push_constructors.result (λ h. h ∙ (ap (λ (v : Where). made ++ constructor_trees v (n + (c.len.result + 1)) ks) same ∙ (ap (λ (k : ℕ). made ++ constructor_trees w k ks) next ∙ (ap (λ (ts : List ConstructorTree). ts ++ rest) more ∙ append_assoc old (here ∷ []) rest)))) c.push_constructors.ensures.cons)
 
 pub returns-clause-number : goal.returns-clause-number
 returns-clause-number t c =
     let first = c.in-Some.first.now in
-    let l : c.len.result ≡ count_forms (fields_of first.fields) = c.len.ensures ∙ sym (counted_fields first.fields) in
+    let l : c.len.result ≡ count_forms (field_expressions first.fields) = c.len.ensures ∙ sym (counted_fields first.fields) in
     rw c.in-Some.ensures.cases.0 (on_ok_weaker c.push_constructors.result (λ h. omega (arith, h, l)) c.push_constructors.ensures.number)
 
 pub returns-clause-told : goal.returns-clause-told
@@ -79,6 +79,6 @@ returns-clause-told t c =
     let first = c.in-Some.first.now in
     let ks = constructors_of c.in-Some.rest.now in
     let same : where_at s1 c.args.world.now ≡ w = world_stays s s1 c.make_constructor.ensures.grows c.args.world.now c.requires.world in
-    let none : forms_fault w false (fields_of first.fields) ≡ None = ap (λ (ts : List TypeTree). forms_fault w false (fields_of ts)) (sym c.as_slice.ensures) ∙ c.in_ok-con.ensures.free in
+    let none : forms_fault w false (field_expressions first.fields) ≡ None = ap (λ (ts : List TypeTree). forms_fault w false (field_expressions ts)) (sym c.as_slice.ensures) ∙ c.in_ok-con.ensures.free in
     let told = subst (λ (v : Where). Tells c.push_constructors.result (constructors_fault v ks)) same c.push_constructors.ensures.told in
-    rw c.in-Some.ensures.cases.0 (of_rest c.push_constructors.result (forms_fault w false (fields_of first.fields)) (constructors_fault w ks) none told)
+    rw c.in-Some.ensures.cases.0 (of_rest c.push_constructors.result (forms_fault w false (field_expressions first.fields)) (constructors_fault w ks) none told)

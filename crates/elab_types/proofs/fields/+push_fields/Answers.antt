@@ -3,7 +3,7 @@ use Rattle.std.proofs.lemmas.Result.{on_ok_weaker}
 use Rattle.trees.specs.Tree.{Tree}
 use Rattle.trees.specs.Node.{tree_at}
 use Rattle.tasks.specs.Meaning.{trees_at}
-use Rattle.elab_names.specs.Abstract.{form_of}
+use Rattle.elab_names.specs.Abstract.{type_expression_of}
 use Rattle.elab_names.specs.Faults.{form_fault, forms_fault}
 use Rattle.elab_names.specs.Naming.{where_at, Tells}
 use Rattle.elab_names.specs.Where.{Where}
@@ -11,7 +11,7 @@ use Rattle.elab_names.proofs.Told.{of_rest}
 use Rattle.elab_walk.specs.Pieces.{type_at, types_at}
 use Rattle.elab_walk.proofs.Growing.{types_more, types_stay, world_stays, world_grows}
 use Rattle.elab_walk.proofs.Taking.{mapped_more}
-use Rattle.elab_types.specs.Algebraics.{fields_of}
+use Rattle.elab_types.specs.Algebraics.{field_expressions}
 use Rattle.elab_types.proofs.fields.+push_fields.Goals as goal
 
 pub push_fields-requires : goal.push_fields-requires
@@ -29,8 +29,8 @@ returns-clause-trees t c =
     let w = where_at s c.args.world.now in
     let ids = c.args.types.now.items in
     let old = trees_at s ids in
-    let here = type_at w (form_of c.in-Some.first.now) in
-    let fs = fields_of c.in-Some.rest.now in
+    let here = type_at w (type_expression_of c.in-Some.first.now) in
+    let fs = field_expressions c.in-Some.rest.now in
     let more : trees_at s1 c.push.new.self.items ≡ old ++ here ∷ [] =
     ap (trees_at s1) c.in_ok-push.ensures.items ∙ (mapped_more s1 ids c.in_ok-ty.ty ∙ (ap (λ (ts : List Tree). ts ++ tree_at s1 c.in_ok-ty.ty ∷ []) (types_stay s s1 g ids c.requires.held) ∙ ap (λ (x : Tree). old ++ x ∷ []) c.in_ok-ty.ensures.tree)) in
     let same : where_at s1 c.args.world.now ≡ w = world_stays s s1 g c.args.world.now c.requires.world in
@@ -41,8 +41,8 @@ returns-clause-told t c =
     let s = c.args.store.now in
     let s1 = c.type_of_form.new.store in
     let w = where_at s c.args.world.now in
-    let fs = fields_of c.in-Some.rest.now in
+    let fs = field_expressions c.in-Some.rest.now in
     let same : where_at s1 c.args.world.now ≡ w = world_stays s s1 c.type_of_form.ensures.grows c.args.world.now c.requires.world in
-    let first : form_fault w false (form_of c.in-Some.first.now) ≡ None = rw c.requires.closed at (c.in_ok-check_form.ensures s) in
+    let first : form_fault w false (type_expression_of c.in-Some.first.now) ≡ None = rw c.requires.closed at (c.in_ok-check_form.ensures s) in
     let told = subst (λ (v : Where). Tells c.push_fields.result (forms_fault v false fs)) same c.push_fields.ensures.told in
-    rw c.in-Some.ensures.cases.0 (of_rest c.push_fields.result (form_fault w false (form_of c.in-Some.first.now)) (forms_fault w false fs) first told)
+    rw c.in-Some.ensures.cases.0 (of_rest c.push_fields.result (form_fault w false (type_expression_of c.in-Some.first.now)) (forms_fault w false fs) first told)

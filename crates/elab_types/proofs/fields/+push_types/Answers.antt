@@ -1,6 +1,6 @@
 use Rattle.std.proofs.Common.{◌≡◌, ℕ, ◌+◌, ◌++◌, ◌∷◌, [], List, length, ap, subst, ◌∙◌, arith, append_assoc}
 use Rattle.std.proofs.lemmas.Result.{on_ok_weaker}
-use Rattle.tasks.specs.Task.{ConTree, AlgebraicTree}
+use Rattle.tasks.specs.Task.{ConstructorTree, AlgebraicTree}
 use Rattle.tasks.specs.Meaning.{symbols_at, algebraic_at, algebraics_at}
 use Rattle.tasks.specs.declared.declaration.Alg.{Alg}
 use Rattle.syntax_why.specs.SurfaceDeclarations.{algebraic_of}
@@ -10,7 +10,7 @@ use Rattle.elab_names.proofs.Told.{of_rest}
 use Rattle.elab_parts.specs.Declarations.{algebraic_type, words, with_vars, constructors_fault, types_fault}
 use Rattle.elab_parts.specs.Outcomes.{over}
 use Rattle.elab_parts.proofs.Entering.{signature_grows}
-use Rattle.elab_types.specs.Algebraics.{types_of, entry_count, constructor_trees, algebraic_trees}
+use Rattle.elab_types.specs.Algebraics.{algebraics_of, entry_count, constructor_trees, algebraic_trees}
 use Rattle.elab_types.proofs.Placed.{things_grow, over_grows}
 use Rattle.elab_types.proofs.Typed.{algs_more, algs_are}
 use Rattle.elab_types.proofs.fields.+push_types.Goals as goal
@@ -44,12 +44,12 @@ returns-clause-types t c =
     let i = c.args.symbol in
     let n = c.args.number.now in
     let a = algebraic_type (algebraic_of c.in-Some.first.now) in
-    let ts = types_of c.in-Some.rest.now in
+    let ts = algebraics_of c.in-Some.rest.now in
     let alg : Alg = record { symbol = i; cons = c.in_ok-cons.cons } in
     let old = algebraics_at s c.args.made.now in
     let made = algebraics_at s1 c.push.new.self in
     let here : AlgebraicTree = record { symbol = i; cons = constructor_trees (with_vars w (words a.vars)) n a.constructors } in
-    let one : algebraic_at s1 alg ≡ here = ap (λ (cs : List ConTree). record { symbol = i; cons = cs }) c.in_ok-cons.ensures.cons in
+    let one : algebraic_at s1 alg ≡ here = ap (λ (cs : List ConstructorTree). record { symbol = i; cons = cs }) c.in_ok-cons.ensures.cons in
     let more : made ≡ old ++ here ∷ [] = ap (algebraics_at s1) c.in_ok-push.ensures.ok ∙ (algs_are s s1 g c.args.made.now alg c.requires.made ∙ ap (λ (x : AlgebraicTree). old ++ x ∷ []) one) in
     let same : over s1 (symbols_at s1 is) names [] ≡ w = over_grows s s1 g is names [] c.requires.signature c.requires.scopes in
     let rest = algebraic_trees w (i + 1) (n + entry_count a.constructors) ts in
@@ -63,7 +63,7 @@ returns-clause-told t c =
     let names = c.args.scope.now in
     let w = over s (symbols_at s is) names [] in
     let a = algebraic_type (algebraic_of c.in-Some.first.now) in
-    let ts = types_of c.in-Some.rest.now in
+    let ts = algebraics_of c.in-Some.rest.now in
     let same : over s1 (symbols_at s1 is) names [] ≡ w = over_grows s s1 c.make_constructors.ensures.grows is names [] c.requires.signature c.requires.scopes in
     let told = subst (λ (v : Where). Tells c.push_types.result (types_fault v ts)) same c.push_types.ensures.told in
     rw c.in-Some.ensures.cases.0 (of_rest c.push_types.result (constructors_fault (with_vars w (words a.vars)) a.constructors) (types_fault w ts) c.in_ok-cons.ensures.free told)

@@ -2,12 +2,12 @@ use Rattle.std.proofs.Common.{◌≡◌, ℕ, ◌+◌, length, sym, ap, subst, �
 use Rattle.trees.specs.Node.{Grows}
 use Rattle.trees.proofs.Nodes.{Grows_trans}
 use Rattle.tasks.specs.Meaning.{algebraics_at}
-use Rattle.elab_walk.specs.Patterns.{nothing}
+use Rattle.elab_walk.specs.Patterns.{no_notes}
 use Rattle.elab_parts.specs.Declarations.{types_fault}
 use Rattle.elab_parts.specs.Outcomes.{setting}
 use Rattle.elab_parts.proofs.Entering.{signature_grows}
 use Rattle.elab_parts.proofs.Refused.{made_refusal}
-use Rattle.elab_types.specs.Algebraics.{types_of, group_count, inside, group_made, IsGroupRefusal}
+use Rattle.elab_types.specs.Algebraics.{algebraics_of, group_count, inside_types, group_made, IsTypesRefusal}
 use Rattle.elab_types.proofs.Counted.{types_counted}
 use Rattle.elab_types.proofs.Made.{all_scopes, group_refused, group_elaborated, group_kept}
 use Rattle.elab_types.proofs.group.elaborate_algebraic.Goals as goal
@@ -21,7 +21,7 @@ make_types-requires-clause-scopes c =
     let g1 = c.push_symbols.new.sig in
     let names = c.args.scope.now in
     let after = c.declare_group.new.scope in
-    let ts = types_of c.args.types.now in
+    let ts = algebraics_of c.args.types.now in
     let symbol = c.in_ok-symbol.symbol in
     let number = c.len-number.result in
     let grows = c.push_symbols.ensures.grows in
@@ -40,7 +40,7 @@ returns-in_ok-elaborated-in-Ok-make_types-clause-ok c =
     let g1 = c.push_symbols.new.sig in
     let names = c.args.scope.now in
     let after = c.declare_group.new.scope in
-    let ts = types_of c.args.types.now in
+    let ts = algebraics_of c.args.types.now in
     let symbol = c.in_ok-symbol.symbol in
     let number = c.len-number.result in
     let grows = c.push_symbols.ensures.grows in
@@ -62,7 +62,7 @@ returns-in_ok-elaborated-in-Ok-make_types-clause-kept c =
     let g1 = c.push_symbols.new.sig in
     let names = c.args.scope.now in
     let after = c.declare_group.new.scope in
-    let ts = types_of c.args.types.now in
+    let ts = algebraics_of c.args.types.now in
     let symbol = c.in_ok-symbol.symbol in
     let number = c.len-number.result in
     let grows = c.push_symbols.ensures.grows in
@@ -85,12 +85,12 @@ returns-in-Err-make_types-clause-err c =
     let g1 = c.push_symbols.new.sig in
     let names = c.args.scope.now in
     let after = c.declare_group.new.scope in
-    let ts = types_of c.args.types.now in
+    let ts = algebraics_of c.args.types.now in
     let symbol = c.in_ok-symbol.symbol in
     let number = c.len-number.result in
     let grows = c.push_symbols.ensures.grows in
     let behind : length g1.symbols ≡ symbol + length ts = c.in_ok-symbol.ensures.behind ∙ ap (λ (n : ℕ). symbol + n) (sym (types_counted c.args.types.now)) in
-    subst (IsGroupRefusal (setting p s g names) ts) (sym c.naming_fault.ensures) (group_refused p s s1 grows g g1 names after ts symbol number c.requires.scopes c.in_ok-symbol.ensures.entries c.in_ok-symbol.ensures.first behind c.len-number.ensures c.in-Ok.ensures.scope c.in-Err-make_types.fault c.in-Ok.ensures.told c.in-Err-make_types.ensures.err)
+    subst (IsTypesRefusal (setting p s g names) ts) (sym c.naming_fault.ensures) (group_refused p s s1 grows g g1 names after ts symbol number c.requires.scopes c.in_ok-symbol.ensures.entries c.in_ok-symbol.ensures.first behind c.len-number.ensures c.in-Ok.ensures.scope c.in-Err-make_types.fault c.in-Ok.ensures.told c.in-Err-make_types.ensures.err)
 
 pub returns-in-Err-clause-err : goal.returns-in-Err-clause-err
 returns-in-Err-clause-err c =
@@ -98,6 +98,6 @@ returns-in-Err-clause-err c =
     let s = c.args.store.now in
     let g = c.args.sig.now in
     let names = c.args.scope.now in
-    let ts = types_of c.args.types.now in
-    subst (IsGroupRefusal (setting p s g names) ts) (sym c.naming_fault-in-Err.ensures)
-    (made_refusal p.decl 0 nothing (group_made names ts) (types_fault (inside (setting p s g names) ts) ts) c.in-Err.fault c.in-Err.ensures.told)
+    let ts = algebraics_of c.args.types.now in
+    subst (IsTypesRefusal (setting p s g names) ts) (sym c.naming_fault-in-Err.ensures)
+    (made_refusal p.decl 0 no_notes (group_made names ts) (types_fault (inside_types (setting p s g names) ts) ts) c.in-Err.fault c.in-Err.ensures.told)

@@ -1,6 +1,6 @@
 use Rattle.std.proofs.Common.{◌≡◌, ◌++◌, ◌∷◌, [], List, map, true, None, sym, ap, subst, ◌∙◌, Option, Err}
 use Rattle.names_space.specs.declared.Table.TheVariants.{Types, Symbols}
-use Rattle.names_space.specs.Names.{Names, with_entry}
+use Rattle.names_space.specs.Names.{ScopeNames, with_entry}
 use Rattle.syntax_why.specs.Lexeme.{Word}
 use Rattle.syntax_why.specs.SurfaceDeclarations.{algebraic_of}
 use Rattle.syntax_why.specs.declared.declarations.ConTree.{ConTree}
@@ -10,7 +10,7 @@ use Rattle.elab_names.specs.declared.NamingFault.{NamingFault}
 use Rattle.elab_names.proofs.Told.{of_first, of_rest, passed}
 use Rattle.elab_parts.specs.Declarations.{word, algebraic_type, list_fault}
 use Rattle.elab_parts.specs.Outcomes.{declared_in}
-use Rattle.elab_types.specs.Algebraics.{constructors_of, types_of, with_constructors, constructors_made, constructor_words, types_made}
+use Rattle.elab_types.specs.Algebraics.{constructors_of, algebraics_of, with_constructors, constructors_made, constructor_words, types_made}
 use Rattle.elab_types.proofs.Declared.{first_constructors, rest_types}
 use Rattle.elab_types.proofs.naming.+declare_types.Goals as goal
 
@@ -24,7 +24,7 @@ returns-in_err-declare_constructors-clause-told t c =
     let named = with_entry Types a.called.name c.args.symbol true names in
     let list : list_fault [] a.vars ≡ None = ap (λ (ns : List Name). list_fault [] (map word ns)) (sym c.as_slice.ensures) ∙ c.in_ok-check_variables.ensures in
     let same : constructors_made (declared_in c.declare_name.new.scope Symbols) vs (constructors_of c.as_slice-cons.result.now) ≡ constructors_made (declared_in names Symbols) vs a.constructors =
-    ap (λ (ns : Names). constructors_made (declared_in ns Symbols) vs (constructors_of c.as_slice-cons.result.now)) c.in_ok-declare_name.ensures.scope
+    ap (λ (ns : ScopeNames). constructors_made (declared_in ns Symbols) vs (constructors_of c.as_slice-cons.result.now)) c.in_ok-declare_name.ensures.scope
     ∙ (ap (λ (ks : List ConTree). constructors_made (declared_in named Symbols) vs (constructors_of ks)) c.as_slice-cons.ensures ∙ first_constructors names us vs a c.args.symbol 0) in
     let told = subst (λ (g : Option NamingFault). Tells (Err f) g) same c.in_err-declare_constructors.ensures.told in
     rw c.in-Some.ensures.cases.0 (passed c.from_residual-in_err-declare_constructors.result f _ c.from_residual-in_err-declare_constructors.ensures.1 (of_rest (Err f) _ _ c.in_ok-declare_name.ensures.told (of_rest (Err f) _ _ list (of_first f _ _ told))))
@@ -32,7 +32,7 @@ returns-in_err-declare_constructors-clause-told t c =
 pub returns-clause-told : goal.returns-clause-told
 returns-clause-told t c =
     let a = algebraic_type (algebraic_of c.in-Some.first.now) in
-    let ts = types_of c.in-Some.rest.now in
+    let ts = algebraics_of c.in-Some.rest.now in
     let names = c.args.scope.now in
     let i = c.args.symbol in
     let n = c.args.number.now in
@@ -45,13 +45,13 @@ returns-clause-told t c =
     let list : list_fault [] a.vars ≡ None = ap (λ (ns : List Name). list_fault [] (map word ns)) (sym c.as_slice.ensures) ∙ c.in_ok-check_variables.ensures in
     let cons : constructors_of c.as_slice-cons.result.now ≡ a.constructors = ap constructors_of c.as_slice-cons.ensures in
     let same : constructors_made (declared_in c.declare_name.new.scope Symbols) vs (constructors_of c.as_slice-cons.result.now) ≡ constructors_made (declared_in names Symbols) vs a.constructors =
-    ap (λ (ns : Names). constructors_made (declared_in ns Symbols) vs (constructors_of c.as_slice-cons.result.now)) c.in_ok-declare_name.ensures.scope
+    ap (λ (ns : ScopeNames). constructors_made (declared_in ns Symbols) vs (constructors_of c.as_slice-cons.result.now)) c.in_ok-declare_name.ensures.scope
     ∙ (ap (λ ks. constructors_made (declared_in named Symbols) vs ks) cons ∙ first_constructors names us vs a i n) in
     let made : constructors_made (declared_in names Symbols) vs a.constructors ≡ None = sym same ∙ c.in_ok-declare_constructors.ensures.told in
     let scope : c.declare_constructors.new.scope ≡ after = c.in_ok-declare_constructors.ensures.scope ∙ (ap (λ ks. with_constructors n ks c.declare_name.new.scope) cons ∙ ap (with_constructors n a.constructors) c.in_ok-declare_name.ensures.scope) in
     let words : c.declare_constructors.new.before.items ≡ vs' = c.in_ok-declare_constructors.ensures.before ∙ ap (λ ks. vs ++ constructor_words ks) cons in
     let rest : types_made (declared_in c.declare_constructors.new.scope) c.declare_name.new.before.items c.declare_constructors.new.before.items ts ≡ types_made (declared_in names) us' vs' ts =
-    ap (λ (ns : Names). types_made (declared_in ns) c.declare_name.new.before.items c.declare_constructors.new.before.items ts) scope
+    ap (λ (ns : ScopeNames). types_made (declared_in ns) c.declare_name.new.before.items c.declare_constructors.new.before.items ts) scope
     ∙ (ap (λ (ws : List Word). types_made (declared_in after) ws c.declare_constructors.new.before.items ts) c.in_ok-declare_name.ensures.before
     ∙ (ap (λ (ws : List Word). types_made (declared_in after) us' ws ts) words ∙ rest_types names us vs a i n ts)) in
     let told = subst (λ (g : Option NamingFault). Tells c.declare_types.result g) rest c.declare_types.ensures.told in

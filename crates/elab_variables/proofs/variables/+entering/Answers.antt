@@ -1,7 +1,7 @@
 use Rattle.std.proofs.Common.{map, refl}
 use Rattle.syntax_why.specs.Surface as code
 use Rattle.syntax_why.specs.Surface.{op_of}
-use Rattle.elab_names.specs.Abstract.{first_tree, operation, expression_of}
+use Rattle.elab_names.specs.Abstract.{first_tree, operator_meaning, expression_of}
 use Rattle.elab_variables.specs.Entered.{seen_at}
 use Rattle.elab_names.proofs.Nodes.{triggers_at-Some, expression_at-Apply, expression_at-Int, expression_at-True, expression_at-False, expression_at-Group, expression_at-Cast, expression_at-Prefix, expression_at-Not, expression_at-Binary, expression_at-If, expression_at-Quant, expression_at-Match}
 use Rattle.elab_variables.proofs.Widened.{expressions_widened, operated_seen}
@@ -45,7 +45,7 @@ pub enter_variables-returns-in_ok-enter_variables-in-Binary : goal.enter_variabl
 enter_variables-returns-in_ok-enter_variables-in-Binary t c =
     let is = expression_at-Binary c.args.e.now c.in-Binary.left c.in-Binary.field-1 c.in-Binary.right c.in-Binary.is in
     let a = rw c.get-in-Binary.ensures at c.in_ok-enter_variables-in-Binary.ensures in
-    let o = operated_seen c.args.e.now.at.main (expression_of c.in-Binary.left) (operation (op_of c.in-Binary.field-1).terminal (op_of c.in-Binary.field-1).text) (expression_of c.in-Binary.right) (seen_at c.args.seen.now) in
+    let o = operated_seen c.args.e.now.at.main (expression_of c.in-Binary.left) (operator_meaning (op_of c.in-Binary.field-1).terminal (op_of c.in-Binary.field-1).text) (expression_of c.in-Binary.right) (seen_at c.args.seen.now) in
     rw (is, o) (rw (c.get-in-Binary-2.ensures, a) at c.enter_variables-in-Binary-2.ensures)
 
 pub enter_variables-returns-in_ok-enter_variables-in-If-2 : goal.enter_variables-returns-in_ok-enter_variables-in-If-2

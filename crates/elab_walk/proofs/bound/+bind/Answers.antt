@@ -1,6 +1,6 @@
 use Rattle.std.proofs.Common.{◌≡◌, ℕ, ◌+◌, List, length, ap, subst, ◌∙◌}
 use Rattle.std.proofs.lemmas.Result.{on_ok_weaker}
-use Rattle.elab_names.specs.Abstract.{binder_of, binders_of}
+use Rattle.elab_names.specs.Abstract.{bound_names_of, binders_of}
 use Rattle.elab_names.specs.Naming.{where_at}
 use Rattle.elab_walk.specs.Patterns.{LocalTree}
 use Rattle.elab_walk.specs.Pieces.{binder_vars, binders_vars, bound}
@@ -13,7 +13,7 @@ use Rattle.elab_walk.proofs.bound.+bind.Goals as goal
 pub returns-clause-bound : goal.returns-clause-bound
 returns-clause-bound t c =
     let n : ℕ = length c.args.draft.now.takers in
-    let one = binder_of c.in-Some.first.now in
+    let one = bound_names_of c.in-Some.first.now in
     let rest = binders_of c.in-Some.rest.now in
     let a = c.in_ok-bind_one.ensures.bound in
     let k : length c.bind_one.new.draft.takers ≡ n + binder_vars one.names one.of_type = next a.noted ∙ ap (λ (m : ℕ). n + m) (count_replicate (binder_vars one.names one.of_type) c.args.token) in

@@ -14,17 +14,17 @@ use Rattle.syntax_why.specs.declared.expressions.BranchTree.{BranchTree}
 use Rattle.syntax_why.specs.declared.expressions.Expr.{Expr}
 use Rattle.syntax_why.specs.declared.patterns.Pat.{Pat}
 use Rattle.elab_names.specs.declared.NamingFault.TheVariants.{WrongKind}
-use Rattle.elab_names.specs.Abstract.{Expression, Branches, cases, own_name, apply, grouped, connective, equality, symbol, more, none, form_of, expression_of, expressions_of, binders_of, triggers_of, branches_of, no_alternatives, more_alternatives, more_branches, no_branches, first_tree, first_form, side_by_side, alternatives_of}
+use Rattle.elab_names.specs.Abstract.{Expression, MatchBranches, match_expression, text_of_own, applied_expression, grouped, connective_operator, equality_operator, symbol_operator, more_expressions, no_expressions, type_expression_of, expression_of, expressions_of, binders_of, triggers_of, branches_of, no_alternatives, more_alternatives, more_branches, no_branches, first_tree, first_form, side_by_side, alternatives_of}
 use Rattle.elab_names.specs.Faults.{fault}
 use Rattle.elab_names.specs.Naming.{where_at, operation_at}
 use Rattle.elab_names.proofs.Nodes.{triggers_at-Some, expression_at-Apply, expression_at-Int, expression_at-True, expression_at-False, expression_at-Cast, expression_at-Not, expression_at-If, expression_at-Group, expression_at-Prefix, expression_at-Quant, expression_at-Match}
 use Rattle.elab_names.proofs.Operated.{operated_as, bound_as, matched_as}
 use Rattle.elab_names.proofs.Told.{counted, group_one, group_many}
 use Rattle.elab_walk.specs.Patterns.{noted, taken, local, first_or_int, alternatives_pieces, all_notes, first_variables}
-use Rattle.elab_walk.specs.Pieces.{piece, branches_arms, past, unknown, type_at, triggers_notes, bound, binders_vars, wanting}
+use Rattle.elab_walk.specs.Pieces.{piece, branches_arms, unknown_after, unknown, type_at, triggers_notes, bound, binders_vars, wanting}
 use Rattle.elab_walk.specs.Pieces as of
 use Rattle.elab_walk.specs.Sizes.{size_of, sizes_of, branches_size}
-use Rattle.elab_walk.specs.Drafts.{SymbolTyped, symbol_got, IsWalked, AreArms, due, names_of, local_at, locals_at, operands_at, is_due}
+use Rattle.elab_walk.specs.Drafts.{SymbolTyped, symbol_got, IsWalked, AreArms, due, names_of_locals, local_at, locals_at, operands_at, is_due}
 use Rattle.elab_walk.proofs.Growing.{ready_grows, type_stays, types_stay, types_grow, wanted_stays, wanted_grows, type_grows, world_stays, locals_stay, locals_grow, each_stays, each_grows}
 use Rattle.elab_walk.proofs.Noting.{next, matches_more, no_elements, nothing_noted, noted_after, noted_as}
 use Rattle.elab_walk.proofs.Walking.{must_be, not_if, set_on, set_inside, go_on, go_inside, as_begun, as_inside, one_held, one_inside, walked_bare, walked_under, walked_both, walked_choice, walked_after, formula_due, term_due, in_cast, in_negation, in_joined, in_equated, in_choice, in_binding, choice_fits, choice_sort, let_fits, let_sort, grown_sort, yields_due, is_expression}
@@ -39,44 +39,44 @@ use Rattle.elab_walk.proofs.expression.+walking.Goals as goal
 pub walk-walk_use-requires : goal.walk-walk_use-requires
 walk-walk_use-requires t c =
     let is = expression_at-Apply c.args.e.now c.in-Apply.name c.in-Apply.arguments c.in-Apply.is in
-    let own = c.as_slice-in-Apply-2.ensures ∙ c.in_ok-own-in-Apply.ensures ∙ ap (λ (x : Word). own_name (own_of c.in-Apply.name.style x)) c.as_slice.ensures in
+    let own = c.as_slice-in-Apply-2.ensures ∙ c.in_ok-own-in-Apply.ensures ∙ ap (λ (x : Word). text_of_own (own_of c.in-Apply.name.style x)) c.as_slice.ensures in
     let same = apply_same c.args.e.now.at.main c.as_slice-scopes.ensures own (ap expressions_of c.as_slice-in-Apply.ensures) in
     (omega (arith, size_at-Apply c.args.e.now c.in-Apply.name c.in-Apply.arguments c.in-Apply.is, ap sizes_of c.as_slice-in-Apply.ensures), can_as (is ∙ sym same) c.requires)
 
 pub walk-returns-in_ok-own-in-Apply-clause-walked : goal.walk-returns-in_ok-own-in-Apply-clause-walked
 walk-returns-in_ok-own-in-Apply-clause-walked t c =
     let is = expression_at-Apply c.args.e.now c.in-Apply.name c.in-Apply.arguments c.in-Apply.is in
-    let own = c.as_slice-in-Apply-2.ensures ∙ c.in_ok-own-in-Apply.ensures ∙ ap (λ (x : Word). own_name (own_of c.in-Apply.name.style x)) c.as_slice.ensures in
+    let own = c.as_slice-in-Apply-2.ensures ∙ c.in_ok-own-in-Apply.ensures ∙ ap (λ (x : Word). text_of_own (own_of c.in-Apply.name.style x)) c.as_slice.ensures in
     let same = apply_same c.args.e.now.at.main c.as_slice-scopes.ensures own (ap expressions_of c.as_slice-in-Apply.ensures) in
     rw (is ∙ sym same) c.walk_use.ensures.walked
 
 pub walk-walk_use-requires-in-Prefix : goal.walk-walk_use-requires-in-Prefix
 walk-walk_use-requires-in-Prefix t c =
     let is = expression_at-Prefix c.args.e.now c.in-Prefix.op c.in-Prefix.inner c.in-Prefix.is in
-    let same = apply_same c.args.e.now.at.main {qs = []} {qs' = []} refl (c.as_slice-in-Prefix.ensures ∙ c.in_ok-own-in-Prefix.ensures) (ap (λ (x : Expr). more (expression_of x) none) c.get-in-Prefix.ensures) in
+    let same = apply_same c.args.e.now.at.main {qs = []} {qs' = []} refl (c.as_slice-in-Prefix.ensures ∙ c.in_ok-own-in-Prefix.ensures) (ap (λ (x : Expr). more_expressions (expression_of x) no_expressions) c.get-in-Prefix.ensures) in
     (omega (arith, size_at-Prefix c.args.e.now c.in-Prefix.op c.in-Prefix.inner c.in-Prefix.is, ap size_of c.get-in-Prefix.ensures), can_as (is ∙ sym same) c.requires)
 
 pub walk-returns-in_ok-own-in-Prefix-clause-walked : goal.walk-returns-in_ok-own-in-Prefix-clause-walked
 walk-returns-in_ok-own-in-Prefix-clause-walked t c =
     let is = expression_at-Prefix c.args.e.now c.in-Prefix.op c.in-Prefix.inner c.in-Prefix.is in
-    let same = apply_same c.args.e.now.at.main {qs = []} {qs' = []} refl (c.as_slice-in-Prefix.ensures ∙ c.in_ok-own-in-Prefix.ensures) (ap (λ (x : Expr). more (expression_of x) none) c.get-in-Prefix.ensures) in
+    let same = apply_same c.args.e.now.at.main {qs = []} {qs' = []} refl (c.as_slice-in-Prefix.ensures ∙ c.in_ok-own-in-Prefix.ensures) (ap (λ (x : Expr). more_expressions (expression_of x) no_expressions) c.get-in-Prefix.ensures) in
     rw (is ∙ sym same) c.walk_use-in-Prefix.ensures.walked
 
 -- an operator between two
-two_operands : {a a' b b' : Expr} → a ≡ a' → b ≡ b' → more (expression_of a) (more (expression_of b) none) ≡ more (expression_of a') (more (expression_of b') none)
+two_operands : {a a' b b' : Expr} → a ≡ a' → b ≡ b' → more_expressions (expression_of a) (more_expressions (expression_of b) no_expressions) ≡ more_expressions (expression_of a') (more_expressions (expression_of b') no_expressions)
 two_operands p q = cc
 
 pub walk-walk_use-requires-in-Symbol : goal.walk-walk_use-requires-in-Symbol
 walk-walk_use-requires-in-Symbol t c =
-    let is = operated_as c.args.e.now c.in-Binary.left c.in-Binary.op c.in-Binary.right c.in-Binary.is (symbol c.in-Symbol.name.now) (sym c.infix_operation.ensures ∙ ap operation_at c.in-Symbol.is) in
+    let is = operated_as c.args.e.now c.in-Binary.left c.in-Binary.op c.in-Binary.right c.in-Binary.is (symbol_operator c.in-Symbol.name.now) (sym c.infix_operation.ensures ∙ ap operation_at c.in-Symbol.is) in
     let same = two_operands c.get-in-Symbol.ensures c.get-in-Symbol-2.ensures in (
       omega (arith, size_at-Binary c.args.e.now c.in-Binary.left c.in-Binary.op c.in-Binary.right c.in-Binary.is, ap size_of c.get-in-Symbol.ensures, ap size_of c.get-in-Symbol-2.ensures),
-      can_as (sym (ap (apply c.args.e.now.at.main [] c.in-Symbol.name.now) same)) (can_infix c.args.e.now.at.main c.in-Symbol.name.now (expression_of c.in-Binary.left) (expression_of c.in-Binary.right) (can_as is c.requires)),
+      can_as (sym (ap (applied_expression c.args.e.now.at.main [] c.in-Symbol.name.now) same)) (can_infix c.args.e.now.at.main c.in-Symbol.name.now (expression_of c.in-Binary.left) (expression_of c.in-Binary.right) (can_as is c.requires)),
     )
 
 pub walk-returns-in-Symbol-clause-walked : goal.walk-returns-in-Symbol-clause-walked
 walk-returns-in-Symbol-clause-walked t c =
-    let is = operated_as c.args.e.now c.in-Binary.left c.in-Binary.op c.in-Binary.right c.in-Binary.is (symbol c.in-Symbol.name.now) (sym c.infix_operation.ensures ∙ ap operation_at c.in-Symbol.is) in
+    let is = operated_as c.args.e.now c.in-Binary.left c.in-Binary.op c.in-Binary.right c.in-Binary.is (symbol_operator c.in-Symbol.name.now) (sym c.infix_operation.ensures ∙ ap operation_at c.in-Symbol.is) in
     rw is (rw (c.get-in-Symbol.ensures, c.get-in-Symbol-2.ensures) at c.walk_use-in-Symbol.ensures.walked)
 
 -- ---- constants
@@ -118,7 +118,7 @@ walk-equate-requires-clause-wanted t c = wanted_grows _ _ c.type_of_form.ensures
 pub walk-walk-requires : goal.walk-walk-requires
 walk-walk-requires t c =
     let is = expression_at-Cast c.args.e.now c.in-Cast.inner c.in-Cast.ty c.in-Cast.is in
-    let h = in_cast (where_at c.args.store.now c.args.world.now) false (names_of c.args.locals.now) (is_due c.args.wanted) c.args.e.now.at.main (expression_of c.in-Cast.inner) (form_of c.in-Cast.ty) (rw is at c.requires.resolved) in
+    let h = in_cast (where_at c.args.store.now c.args.world.now) false (names_of_locals c.args.locals.now) (is_due c.args.wanted) c.args.e.now.at.main (expression_of c.in-Cast.inner) (type_expression_of c.in-Cast.ty) (rw is at c.requires.resolved) in
     (omega (arith, size_at-Cast c.args.e.now c.in-Cast.inner c.in-Cast.ty c.in-Cast.is, ap size_of c.get.ensures), go_on c.requires.set c.type_of_form.ensures.grows c.in_ok-equate-in-Cast.ensures.noted.ready c.in_ok-own-in-Cast.ensures.held (rw c.get.ensures h.1))
 
 pub walk-returns-in_ok-equate-in-Cast-clause-walked : goal.walk-returns-in_ok-equate-in-Cast-clause-walked
@@ -126,10 +126,10 @@ walk-returns-in_ok-equate-in-Cast-clause-walked t c =
     let s = c.args.store.now in
     let n : ℕ = length c.args.draft.now.takers in
     let is = expression_at-Cast c.args.e.now c.in-Cast.inner c.in-Cast.ty c.in-Cast.is in
-    let h = in_cast (where_at s c.args.world.now) false (names_of c.args.locals.now) (is_due c.args.wanted) c.args.e.now.at.main (expression_of c.in-Cast.inner) (form_of c.in-Cast.ty) (rw is at c.requires.resolved) in
+    let h = in_cast (where_at s c.args.world.now) false (names_of_locals c.args.locals.now) (is_due c.args.wanted) c.args.e.now.at.main (expression_of c.in-Cast.inner) (type_expression_of c.in-Cast.ty) (rw is at c.requires.resolved) in
     let g = c.type_of_form.ensures.grows in
     let own = c.in_ok-own-in-Cast.ensures.tree in
-    let ty : Tree = type_at (where_at s c.args.world.now) (form_of c.in-Cast.ty) in
+    let ty : Tree = type_at (where_at s c.args.world.now) (type_expression_of c.in-Cast.ty) in
     let eq = noted_after g c.requires.set.ready c.in_ok-equate-in-Cast.ensures.noted in
     let want = wanted_stays _ _ g c.args.wanted c.requires.wanted in
     let notes = noted_as eq (noted (wanting ty (option_map (tree_at s) c.args.wanted)) []) (cc (own, want)) in
@@ -140,55 +140,55 @@ walk-returns-in_ok-equate-in-Cast-clause-walked t c =
 pub walk-walk-requires-in-Not : goal.walk-walk-requires-in-Not
 walk-walk-requires-in-Not t c =
     let is = expression_at-Not c.args.e.now c.in-Not.inner c.in-Not.is in
-    let h = in_negation (where_at c.args.store.now c.args.world.now) false (names_of c.args.locals.now) (is_due c.args.wanted) c.args.e.now.at.main (expression_of c.in-Not.inner) (rw is at c.requires.resolved) in
+    let h = in_negation (where_at c.args.store.now c.args.world.now) false (names_of_locals c.args.locals.now) (is_due c.args.wanted) c.args.e.now.at.main (expression_of c.in-Not.inner) (rw is at c.requires.resolved) in
     (omega (arith, size_at-Not c.args.e.now c.in-Not.inner c.in-Not.is, ap size_of c.get-in-Not.ensures), go_on c.requires.set (Grows_refl _) c.requires.set.ready tt (rw c.get-in-Not.ensures h.1))
 
 pub walk-returns-in_ok-a-in-Not-clause-walked : goal.walk-returns-in_ok-a-in-Not-clause-walked
 walk-returns-in_ok-a-in-Not-clause-walked t c =
     let is = expression_at-Not c.args.e.now c.in-Not.inner c.in-Not.is in
-    let h = in_negation (where_at c.args.store.now c.args.world.now) false (names_of c.args.locals.now) (is_due c.args.wanted) c.args.e.now.at.main (expression_of c.in-Not.inner) (rw is at c.requires.resolved) in
+    let h = in_negation (where_at c.args.store.now c.args.world.now) false (names_of_locals c.args.locals.now) (is_due c.args.wanted) c.args.e.now.at.main (expression_of c.in-Not.inner) (rw is at c.requires.resolved) in
     let a = rw c.get-in-Not.ensures at c.in_ok-a-in-Not.ensures.walked in
     rw (is, formula_due c.args.wanted h.0) (IfOk-weaker c.make-in-Not.result _ _ (λ id m. walked_under (One HNot) a m refl) c.make-in-Not.ensures.made)
 
 -- ---- a connective
 pub walk-walk-requires-in-Connective : goal.walk-walk-requires-in-Connective
 walk-walk-requires-in-Connective t c =
-    let is = operated_as c.args.e.now c.in-Binary.left c.in-Binary.op c.in-Binary.right c.in-Binary.is (connective c.in-Connective.op) (sym c.infix_operation.ensures ∙ ap operation_at c.in-Connective.is) in
-    let h = in_joined (where_at c.args.store.now c.args.world.now) false (names_of c.args.locals.now) (is_due c.args.wanted) c.args.e.now.at.main (expression_of c.in-Binary.left) (expression_of c.in-Binary.right) c.in-Connective.op (rw is at c.requires.resolved) in
+    let is = operated_as c.args.e.now c.in-Binary.left c.in-Binary.op c.in-Binary.right c.in-Binary.is (connective_operator c.in-Connective.op) (sym c.infix_operation.ensures ∙ ap operation_at c.in-Connective.is) in
+    let h = in_joined (where_at c.args.store.now c.args.world.now) false (names_of_locals c.args.locals.now) (is_due c.args.wanted) c.args.e.now.at.main (expression_of c.in-Binary.left) (expression_of c.in-Binary.right) c.in-Connective.op (rw is at c.requires.resolved) in
     (omega (arith, size_at-Binary c.args.e.now c.in-Binary.left c.in-Binary.op c.in-Binary.right c.in-Binary.is, ap size_of c.get-in-Connective.ensures), go_on c.requires.set (Grows_refl _) c.requires.set.ready tt (rw c.get-in-Connective.ensures h.1))
 
 pub walk-walk-requires-in-Connective-2 : goal.walk-walk-requires-in-Connective-2
 walk-walk-requires-in-Connective-2 t c =
-    let is = operated_as c.args.e.now c.in-Binary.left c.in-Binary.op c.in-Binary.right c.in-Binary.is (connective c.in-Connective.op) (sym c.infix_operation.ensures ∙ ap operation_at c.in-Connective.is) in
-    let h = in_joined (where_at c.args.store.now c.args.world.now) false (names_of c.args.locals.now) (is_due c.args.wanted) c.args.e.now.at.main (expression_of c.in-Binary.left) (expression_of c.in-Binary.right) c.in-Connective.op (rw is at c.requires.resolved) in
+    let is = operated_as c.args.e.now c.in-Binary.left c.in-Binary.op c.in-Binary.right c.in-Binary.is (connective_operator c.in-Connective.op) (sym c.infix_operation.ensures ∙ ap operation_at c.in-Connective.is) in
+    let h = in_joined (where_at c.args.store.now c.args.world.now) false (names_of_locals c.args.locals.now) (is_due c.args.wanted) c.args.e.now.at.main (expression_of c.in-Binary.left) (expression_of c.in-Binary.right) c.in-Connective.op (rw is at c.requires.resolved) in
     (omega (arith, size_at-Binary c.args.e.now c.in-Binary.left c.in-Binary.op c.in-Binary.right c.in-Binary.is, ap size_of c.get-in-Connective-2.ensures), go_on c.requires.set c.walk-in-Connective.ensures.grows c.in_ok-a-in-Connective.ensures.walked.noted.ready tt (rw c.get-in-Connective-2.ensures h.2))
 
 pub walk-returns-in_ok-b-in-Connective-clause-walked : goal.walk-returns-in_ok-b-in-Connective-clause-walked
 walk-returns-in_ok-b-in-Connective-clause-walked t c =
-    let is = operated_as c.args.e.now c.in-Binary.left c.in-Binary.op c.in-Binary.right c.in-Binary.is (connective c.in-Connective.op) (sym c.infix_operation.ensures ∙ ap operation_at c.in-Connective.is) in
-    let h = in_joined (where_at c.args.store.now c.args.world.now) false (names_of c.args.locals.now) (is_due c.args.wanted) c.args.e.now.at.main (expression_of c.in-Binary.left) (expression_of c.in-Binary.right) c.in-Connective.op (rw is at c.requires.resolved) in
+    let is = operated_as c.args.e.now c.in-Binary.left c.in-Binary.op c.in-Binary.right c.in-Binary.is (connective_operator c.in-Connective.op) (sym c.infix_operation.ensures ∙ ap operation_at c.in-Connective.is) in
+    let h = in_joined (where_at c.args.store.now c.args.world.now) false (names_of_locals c.args.locals.now) (is_due c.args.wanted) c.args.e.now.at.main (expression_of c.in-Binary.left) (expression_of c.in-Binary.right) c.in-Connective.op (rw is at c.requires.resolved) in
     let a = rw c.get-in-Connective.ensures at c.in_ok-a-in-Connective.ensures.walked in
     let p = piece (where_at c.args.store.now c.args.world.now) (locals_at c.args.store.now c.args.locals.now) (length c.args.draft.now.takers) None (expression_of c.in-Binary.left) in
-    let b = as_begun c.requires.set c.walk-in-Connective.ensures.grows None (expression_of c.in-Binary.right) (past (length c.args.draft.now.takers) p) None (next a.noted) refl (rw c.get-in-Connective-2.ensures at c.in_ok-b-in-Connective.ensures.walked) in
+    let b = as_begun c.requires.set c.walk-in-Connective.ensures.grows None (expression_of c.in-Binary.right) (unknown_after (length c.args.draft.now.takers) p) None (next a.noted) refl (rw c.get-in-Connective-2.ensures at c.in_ok-b-in-Connective.ensures.walked) in
     rw (is, formula_due c.args.wanted h.0) (IfOk-weaker c.make-in-Connective.result _ _ (λ id m. walked_both (Two (HJoin c.in-Connective.op)) a b c.walk-in-Connective-2.ensures.grows m refl) c.make-in-Connective.ensures.made)
 
 -- ---- an equality
 pub walk-walk-requires-in-Equality : goal.walk-walk-requires-in-Equality
 walk-walk-requires-in-Equality t c =
-    let is = operated_as c.args.e.now c.in-Binary.left c.in-Binary.op c.in-Binary.right c.in-Binary.is (equality c.in-Equality.same) (sym c.infix_operation.ensures ∙ ap operation_at c.in-Equality.is) in
-    let h = in_equated (where_at c.args.store.now c.args.world.now) false (names_of c.args.locals.now) (is_due c.args.wanted) c.args.e.now.at.main c.in-Equality.same (expression_of c.in-Binary.left) (expression_of c.in-Binary.right) (rw is at c.requires.resolved) in
+    let is = operated_as c.args.e.now c.in-Binary.left c.in-Binary.op c.in-Binary.right c.in-Binary.is (equality_operator c.in-Equality.same) (sym c.infix_operation.ensures ∙ ap operation_at c.in-Equality.is) in
+    let h = in_equated (where_at c.args.store.now c.args.world.now) false (names_of_locals c.args.locals.now) (is_due c.args.wanted) c.args.e.now.at.main c.in-Equality.same (expression_of c.in-Binary.left) (expression_of c.in-Binary.right) (rw is at c.requires.resolved) in
     (omega (arith, size_at-Binary c.args.e.now c.in-Binary.left c.in-Binary.op c.in-Binary.right c.in-Binary.is, ap size_of c.get-in-Equality.ensures), go_on c.requires.set c.new_unknown.ensures.grows c.in_ok-ty-in-Equality.ensures.noted.ready c.in_ok-ty-in-Equality.ensures.held (rw c.get-in-Equality.ensures h.1))
 
 pub walk-walk-requires-in-Equality-2 : goal.walk-walk-requires-in-Equality-2
 walk-walk-requires-in-Equality-2 t c =
-    let is = operated_as c.args.e.now c.in-Binary.left c.in-Binary.op c.in-Binary.right c.in-Binary.is (equality c.in-Equality.same) (sym c.infix_operation.ensures ∙ ap operation_at c.in-Equality.is) in
-    let h = in_equated (where_at c.args.store.now c.args.world.now) false (names_of c.args.locals.now) (is_due c.args.wanted) c.args.e.now.at.main c.in-Equality.same (expression_of c.in-Binary.left) (expression_of c.in-Binary.right) (rw is at c.requires.resolved) in
+    let is = operated_as c.args.e.now c.in-Binary.left c.in-Binary.op c.in-Binary.right c.in-Binary.is (equality_operator c.in-Equality.same) (sym c.infix_operation.ensures ∙ ap operation_at c.in-Equality.is) in
+    let h = in_equated (where_at c.args.store.now c.args.world.now) false (names_of_locals c.args.locals.now) (is_due c.args.wanted) c.args.e.now.at.main c.in-Equality.same (expression_of c.in-Binary.left) (expression_of c.in-Binary.right) (rw is at c.requires.resolved) in
     (omega (arith, size_at-Binary c.args.e.now c.in-Binary.left c.in-Binary.op c.in-Binary.right c.in-Binary.is, ap size_of c.get-in-Equality-2.ensures), go_on c.requires.set (Grows_trans _ _ _ c.new_unknown.ensures.grows c.walk-in-Equality.ensures.grows) c.in_ok-a-in-Equality.ensures.walked.noted.ready (type_grows _ _ c.walk-in-Equality.ensures.grows c.in_ok-ty-in-Equality.ty c.in_ok-ty-in-Equality.ensures.held) (rw c.get-in-Equality-2.ensures h.2))
 
 pub walk-returns-in_ok-b-in-Equality-clause-walked : goal.walk-returns-in_ok-b-in-Equality-clause-walked
 walk-returns-in_ok-b-in-Equality-clause-walked t c =
-    let is = operated_as c.args.e.now c.in-Binary.left c.in-Binary.op c.in-Binary.right c.in-Binary.is (equality c.in-Equality.same) (sym c.infix_operation.ensures ∙ ap operation_at c.in-Equality.is) in
-    let h = in_equated (where_at c.args.store.now c.args.world.now) false (names_of c.args.locals.now) (is_due c.args.wanted) c.args.e.now.at.main c.in-Equality.same (expression_of c.in-Binary.left) (expression_of c.in-Binary.right) (rw is at c.requires.resolved) in
+    let is = operated_as c.args.e.now c.in-Binary.left c.in-Binary.op c.in-Binary.right c.in-Binary.is (equality_operator c.in-Equality.same) (sym c.infix_operation.ensures ∙ ap operation_at c.in-Equality.is) in
+    let h = in_equated (where_at c.args.store.now c.args.world.now) false (names_of_locals c.args.locals.now) (is_due c.args.wanted) c.args.e.now.at.main c.in-Equality.same (expression_of c.in-Binary.left) (expression_of c.in-Binary.right) (rw is at c.requires.resolved) in
     let n : ℕ = length c.args.draft.now.takers in
     let u = c.in_ok-ty-in-Equality.ensures in
     let ty = c.in_ok-ty-in-Equality.ty in
@@ -197,27 +197,27 @@ walk-returns-in_ok-b-in-Equality-clause-walked t c =
     let far = Grows_trans _ _ _ c.new_unknown.ensures.grows c.walk-in-Equality.ensures.grows in
     let l = next a.noted ∙ ap (λ (m : ℕ). m + taken p.notes) (next u.noted) in
     let own = type_stays _ _ c.walk-in-Equality.ensures.grows ty u.held ∙ u.tree in
-    let b = as_begun c.requires.set far (Some ty) (expression_of c.in-Binary.right) (past (n + 1) p) (Some (unknown n)) l (ap Some own) (rw c.get-in-Equality-2.ensures at c.in_ok-b-in-Equality.ensures.walked) in
+    let b = as_begun c.requires.set far (Some ty) (expression_of c.in-Binary.right) (unknown_after (n + 1) p) (Some (unknown n)) l (ap Some own) (rw c.get-in-Equality-2.ensures at c.in_ok-b-in-Equality.ensures.walked) in
     rw (is, formula_due c.args.wanted h.0) (IfOk-weaker c.make_equality.result _ _ (λ id m. walked_after u.noted (walked_both (of.equality c.in-Equality.same) a b c.walk-in-Equality-2.ensures.grows m (equality_sort c.in-Equality.same (tree_at c.walk-in-Equality-2.new.store c.in_ok-a-in-Equality.a) (tree_at c.walk-in-Equality-2.new.store c.in_ok-b-in-Equality.b)))) c.make_equality.ensures.made)
 
 -- ---- a choice
 pub walk-walk-requires-in-If : goal.walk-walk-requires-in-If
 walk-walk-requires-in-If t c =
     let is = expression_at-If c.args.e.now c.in-If.test c.in-If.left c.in-If.right c.in-If.is in
-    let h = in_choice (where_at c.args.store.now c.args.world.now) false (names_of c.args.locals.now) (is_due c.args.wanted) c.args.e.now.at.main (expression_of c.in-If.test) (expression_of c.in-If.left) (expression_of c.in-If.right) (rw is at c.requires.resolved) in
+    let h = in_choice (where_at c.args.store.now c.args.world.now) false (names_of_locals c.args.locals.now) (is_due c.args.wanted) c.args.e.now.at.main (expression_of c.in-If.test) (expression_of c.in-If.left) (expression_of c.in-If.right) (rw is at c.requires.resolved) in
     (omega (arith, size_at-If c.args.e.now c.in-If.test c.in-If.left c.in-If.right c.in-If.is, ap size_of c.get-in-If.ensures), go_on c.requires.set (Grows_refl _) c.requires.set.ready tt (rw c.get-in-If.ensures h.0))
 
 pub walk-walk-requires-in-If-2 : goal.walk-walk-requires-in-If-2
 walk-walk-requires-in-If-2 t c =
     let is = expression_at-If c.args.e.now c.in-If.test c.in-If.left c.in-If.right c.in-If.is in
-    let h = in_choice (where_at c.args.store.now c.args.world.now) false (names_of c.args.locals.now) (is_due c.args.wanted) c.args.e.now.at.main (expression_of c.in-If.test) (expression_of c.in-If.left) (expression_of c.in-If.right) (rw is at c.requires.resolved) in
+    let h = in_choice (where_at c.args.store.now c.args.world.now) false (names_of_locals c.args.locals.now) (is_due c.args.wanted) c.args.e.now.at.main (expression_of c.in-If.test) (expression_of c.in-If.left) (expression_of c.in-If.right) (rw is at c.requires.resolved) in
     let g = c.walk-in-If.ensures.grows in
     (omega (arith, size_at-If c.args.e.now c.in-If.test c.in-If.left c.in-If.right c.in-If.is, ap size_of c.get-in-If-2.ensures), go_on c.requires.set g c.in_ok-c-in-If.ensures.walked.noted.ready (wanted_grows _ _ g c.args.wanted c.requires.wanted) (rw c.get-in-If-2.ensures h.1))
 
 pub walk-walk-requires-in-If-3 : goal.walk-walk-requires-in-If-3
 walk-walk-requires-in-If-3 t c =
     let is = expression_at-If c.args.e.now c.in-If.test c.in-If.left c.in-If.right c.in-If.is in
-    let h = in_choice (where_at c.args.store.now c.args.world.now) false (names_of c.args.locals.now) (is_due c.args.wanted) c.args.e.now.at.main (expression_of c.in-If.test) (expression_of c.in-If.left) (expression_of c.in-If.right) (rw is at c.requires.resolved) in
+    let h = in_choice (where_at c.args.store.now c.args.world.now) false (names_of_locals c.args.locals.now) (is_due c.args.wanted) c.args.e.now.at.main (expression_of c.in-If.test) (expression_of c.in-If.left) (expression_of c.in-If.right) (rw is at c.requires.resolved) in
     let g = Grows_trans _ _ _ c.walk-in-If.ensures.grows c.walk-in-If-2.ensures.grows in
     (omega (arith, size_at-If c.args.e.now c.in-If.test c.in-If.left c.in-If.right c.in-If.is, ap size_of c.get-in-If-3.ensures), go_on c.requires.set g c.in_ok-a-in-If.ensures.walked.noted.ready (wanted_grows _ _ g c.args.wanted c.requires.wanted) (rw c.get-in-If-3.ensures h.2))
 
@@ -237,11 +237,11 @@ walk-returns-in_ok-b-in-If-clause-walked t c =
     let x = rw c.get-in-If.ensures at c.in_ok-c-in-If.ensures.walked in
     let p = piece (where_at s c.args.world.now) (locals_at s c.args.locals.now) n None (expression_of c.in-If.test) in
     let g1 = c.walk-in-If.ensures.grows in
-    let y = as_begun c.requires.set g1 c.args.wanted (expression_of c.in-If.left) (past n p) want (next x.noted) (wanted_stays _ _ g1 c.args.wanted c.requires.wanted) (rw c.get-in-If-2.ensures at c.in_ok-a-in-If.ensures.walked) in
-    let q = piece (where_at s c.args.world.now) (locals_at s c.args.locals.now) (past n p) want (expression_of c.in-If.left) in
+    let y = as_begun c.requires.set g1 c.args.wanted (expression_of c.in-If.left) (unknown_after n p) want (next x.noted) (wanted_stays _ _ g1 c.args.wanted c.requires.wanted) (rw c.get-in-If-2.ensures at c.in_ok-a-in-If.ensures.walked) in
+    let q = piece (where_at s c.args.world.now) (locals_at s c.args.locals.now) (unknown_after n p) want (expression_of c.in-If.left) in
     let g2 = Grows_trans _ _ _ g1 c.walk-in-If-2.ensures.grows in
     let l = next y.noted ∙ ap (λ (m : ℕ). m + taken q.notes) (next x.noted) in
-    let z = as_begun c.requires.set g2 c.args.wanted (expression_of c.in-If.right) (past (past n p) q) want l (wanted_stays _ _ g2 c.args.wanted c.requires.wanted) (rw c.get-in-If-3.ensures at c.in_ok-b-in-If.ensures.walked) in
+    let z = as_begun c.requires.set g2 c.args.wanted (expression_of c.in-If.right) (unknown_after (unknown_after n p) q) want l (wanted_stays _ _ g2 c.args.wanted c.requires.wanted) (rw c.get-in-If-3.ensures at c.in_ok-b-in-If.ensures.walked) in
     let o = choice_sort (tree_at c.walk-in-If-3.new.store c.in_ok-c-in-If.c) (tree_at c.walk-in-If-3.new.store c.in_ok-a-in-If.a) (tree_at c.walk-in-If-3.new.store c.in_ok-b-in-If.b) c.args.wanted (grown_sort _ _ c.walk-in-If-3.ensures.grows y.held y.sort) in
     rw is (IfOk-weaker c.make-in-If.result _ _ (λ id m. walked_choice x y c.walk-in-If-2.ensures.grows z c.walk-in-If-3.ensures.grows m o) c.make-in-If.ensures.made)
 
@@ -249,13 +249,13 @@ walk-returns-in_ok-b-in-If-clause-walked t c =
 pub walk-walk-requires-in-Some : goal.walk-walk-requires-in-Some
 walk-walk-requires-in-Some t c =
     let is = bound_as c.args.e.now c.in-Let.patterns c.in-Let.value c.in-Let.body c.in-Let.is c.in-Some.name.now.text (rw (c.as_slice-in-Let.ensures, c.in-Some.is) at c.let_name.ensures) in
-    let h = in_binding (where_at c.args.store.now c.args.world.now) false (names_of c.args.locals.now) (is_due c.args.wanted) c.args.e.now.at.main c.in-Some.name.now.text (expression_of c.in-Let.value) (expression_of c.in-Let.body) (rw is at c.requires.resolved) in
+    let h = in_binding (where_at c.args.store.now c.args.world.now) false (names_of_locals c.args.locals.now) (is_due c.args.wanted) c.args.e.now.at.main c.in-Some.name.now.text (expression_of c.in-Let.value) (expression_of c.in-Let.body) (rw is at c.requires.resolved) in
     (omega (arith, size_at-Let c.args.e.now c.in-Let.patterns c.in-Let.value c.in-Let.body c.in-Let.is, ap size_of c.get-in-Some.ensures), go_on c.requires.set c.new_unknown-in-Some.ensures.grows c.in_ok-ty-in-Some.ensures.noted.ready c.in_ok-ty-in-Some.ensures.held (rw c.get-in-Some.ensures h.0))
 
 pub walk-walk-requires-in-Some-2 : goal.walk-walk-requires-in-Some-2
 walk-walk-requires-in-Some-2 t c =
     let is = bound_as c.args.e.now c.in-Let.patterns c.in-Let.value c.in-Let.body c.in-Let.is c.in-Some.name.now.text (rw (c.as_slice-in-Let.ensures, c.in-Some.is) at c.let_name.ensures) in
-    let h = in_binding (where_at c.args.store.now c.args.world.now) false (names_of c.args.locals.now) (is_due c.args.wanted) c.args.e.now.at.main c.in-Some.name.now.text (expression_of c.in-Let.value) (expression_of c.in-Let.body) (rw is at c.requires.resolved) in
+    let h = in_binding (where_at c.args.store.now c.args.world.now) false (names_of_locals c.args.locals.now) (is_due c.args.wanted) c.args.e.now.at.main c.in-Some.name.now.text (expression_of c.in-Let.value) (expression_of c.in-Let.body) (rw is at c.requires.resolved) in
     let g = Grows_trans _ _ _ c.new_unknown-in-Some.ensures.grows c.walk-in-Some.ensures.grows in
     let own = type_grows _ _ c.walk-in-Some.ensures.grows c.in_ok-ty-in-Some.ty c.in_ok-ty-in-Some.ensures.held in (
       omega (arith, size_at-Let c.args.e.now c.in-Let.patterns c.in-Let.value c.in-Let.body c.in-Let.is, ap size_of c.get-in-Some-2.ensures),
@@ -282,7 +282,7 @@ walk-returns-in_ok-b-in-Some-clause-walked t c =
     let l = next a.noted ∙ ap (λ (m : ℕ). m + taken p.notes) (next u.noted) in
     let own = type_stays _ _ c.walk-in-Some.ensures.grows ty u.held ∙ u.tree in
     let within = one_inside c.walk-in-Some.new.store (record { name = c.as_slice-in-Some.result; ty = ty }) c.in-Some.name.now.text (unknown n) (locals_at s c.args.locals.now) (locals_at c.walk-in-Some.new.store c.args.locals.now) c.as_slice-in-Some.ensures own (locals_stay _ _ g c.args.locals.now c.requires.set.locals) in
-    let b = as_inside c.requires.set g c.args.wanted (expression_of c.in-Let.body) _ (local c.in-Some.name.now.text (unknown n) ∷ locals_at s c.args.locals.now) (past (n + 1) p) want l within (wanted_stays _ _ g c.args.wanted c.requires.wanted) (rw c.get-in-Some-2.ensures at c.in_ok-b-in-Some.ensures.walked) in
+    let b = as_inside c.requires.set g c.args.wanted (expression_of c.in-Let.body) _ (local c.in-Some.name.now.text (unknown n) ∷ locals_at s c.args.locals.now) (unknown_after (n + 1) p) want l within (wanted_stays _ _ g c.args.wanted c.requires.wanted) (rw c.get-in-Some-2.ensures at c.in_ok-b-in-Some.ensures.walked) in
     rw is (IfOk-weaker c.make-in-Some.result _ _ (λ id m. walked_after u.noted (walked_both (Two HLet) a b c.walk-in-Some-2.ensures.grows m (let_sort (tree_at c.walk-in-Some-2.new.store c.in_ok-a-in-Some.a) (tree_at c.walk-in-Some-2.new.store c.in_ok-b-in-Some.b) c.args.wanted b.sort))) c.make-in-Some.ensures.made)
 
 -- ---- a `let` of another pattern, and a `match`
@@ -295,7 +295,7 @@ pub walk-returns-in-None-clause-walked : goal.walk-returns-in-None-clause-walked
 walk-returns-in-None-clause-walked t c =
     let s = c.args.store.now in
     let is = matched_as c.args.e.now c.in-Let.patterns c.in-Let.value c.in-Let.body c.in-Let.is (rw (c.as_slice-in-Let.ensures, c.in-None.is) at c.let_name.ensures) in
-    let make : List Pat → Expr → Expr → Expression = λ ps a b. cases c.args.e.now.at.main (expression_of a) (more_branches (more_alternatives (first_form (code.patterns ps)) (side_by_side (code.patterns ps)) no_alternatives) (expression_of b) no_branches) in
+    let make : List Pat → Expr → Expr → Expression = λ ps a b. match_expression c.args.e.now.at.main (expression_of a) (more_branches (more_alternatives (first_form (code.patterns ps)) (side_by_side (code.patterns ps)) no_alternatives) (expression_of b) no_branches) in
     let same = is ∙ (ap (λ (ps : List Pat). make ps c.in-Let.value c.in-Let.body) (sym c.as_slice-patterns.ensures) ∙ (ap (λ (a : Expr). make c.as_slice-patterns.result.now a c.in-Let.body) (sym c.get-value.ensures) ∙ ap (λ (b : Expr). make c.as_slice-patterns.result.now c.get-value.result.now b) (sym c.get-body.ensures))) in
     subst (λ (x : Expression). IfOk c.walk_matched.result (IsWalked (piece (where_at s c.args.world.now) (locals_at s c.args.locals.now) (length c.args.draft.now.takers) (option_map (tree_at s) c.args.wanted) x) (due c.args.wanted) s c.args.draft.now c.walk_matched.new.store c.walk_matched.new.draft)) (sym same) c.walk_matched.ensures.walked
 
@@ -308,7 +308,7 @@ pub walk-returns-in-Match-clause-walked : goal.walk-returns-in-Match-clause-walk
 walk-returns-in-Match-clause-walked t c =
     let s = c.args.store.now in
     let is = expression_at-Match c.args.e.now c.in-Match.values c.in-Match.field-1 c.in-Match.branches c.in-Match.is in
-    let make : List Expr → List BranchTree → Expression = λ xs bs. cases c.args.e.now.at.main (grouped (first_tree (code.trees (map code.tree_of xs))) (expressions_of xs)) (branches_of bs) in
+    let make : List Expr → List BranchTree → Expression = λ xs bs. match_expression c.args.e.now.at.main (grouped (first_tree (code.trees (map code.tree_of xs))) (expressions_of xs)) (branches_of bs) in
     let same = is ∙ (ap (λ (xs : List Expr). make xs c.in-Match.branches) (sym c.as_slice-values.ensures) ∙ ap (λ (bs : List BranchTree). make c.as_slice-values.result.now bs) (sym c.as_slice-branches.ensures)) in
     subst (λ (x : Expression). IfOk c.walk_match.result (IsWalked (piece (where_at s c.args.world.now) (locals_at s c.args.locals.now) (length c.args.draft.now.takers) (option_map (tree_at s) c.args.wanted) x) (due c.args.wanted) s c.args.draft.now c.walk_match.new.store c.walk_match.new.draft)) (sym same) c.walk_match.ensures.walked
 
@@ -410,7 +410,7 @@ walk_all-returns-clause-walked t c =
     let can = rw c.in-Some.ensures.operands at c.requires in
     let p = piece (where_at s c.args.world.now) (locals_at s c.args.locals.now) n (Some (first_or_int (trees_at s c.args.wanted.now))) (expression_of c.in-Some.first.now) in
     let a = rw c.first_type-ty.ensures.tree at c.in_ok-a.ensures.walked in
-    let b = as_rest can c.walk.ensures.grows (past n p) (next a.noted) (rw c.other_types.ensures at c.in_ok-b.ensures.walked) in
+    let b = as_rest can c.walk.ensures.grows (unknown_after n p) (next a.noted) (rw c.other_types.ensures at c.in_ok-b.ensures.walked) in
     rw c.in-Some.ensures.operands (IfOk-weaker c.make-2.result _ _ (λ id m. walked_cell a b c.walk_all.ensures.grows m) c.make-2.ensures.made)
 
 -- ---- parentheses
@@ -444,7 +444,7 @@ walk_quantified-walk_triggers-requires t c =
     let set = c.requires.set in
     let g = c.bind.ensures.grows in
     let b = rw c.new-bound.ensures.items at c.in_ok-bind.ensures.bound in
-    let h = in_quantified (where_at c.args.store.now c.args.world.now) (names_of c.args.locals.now) true c.args.token c.args.all (binders_of c.args.binders.now) (triggers_of c.args.triggers.now) (expression_of c.args.body.now) c.requires.resolved in (
+    let h = in_quantified (where_at c.args.store.now c.args.world.now) (names_of_locals c.args.locals.now) true c.args.token c.args.all (binders_of c.args.binders.now) (triggers_of c.args.triggers.now) (expression_of c.args.body.now) c.requires.resolved in (
       omega arith,
       rw c.as_slice.ensures.value (record {
         set = set_inside set _ g b.noted.ready (inside_held (binders_of c.args.binders.now) set g b);
@@ -458,7 +458,7 @@ walk_quantified-walk-requires t c =
     let g1 = c.bind.ensures.grows in
     let g = Grows_trans _ _ _ g1 c.walk_triggers.ensures.grows in
     let b = rw c.new-bound.ensures.items at c.in_ok-bind.ensures.bound in
-    let h = in_quantified (where_at c.args.store.now c.args.world.now) (names_of c.args.locals.now) true c.args.token c.args.all (binders_of c.args.binders.now) (triggers_of c.args.triggers.now) (expression_of c.args.body.now) c.requires.resolved in
+    let h = in_quantified (where_at c.args.store.now c.args.world.now) (names_of_locals c.args.locals.now) true c.args.token c.args.all (binders_of c.args.binders.now) (triggers_of c.args.triggers.now) (expression_of c.args.body.now) c.requires.resolved in
     let held = inside_held (binders_of c.args.binders.now) set g1 b in (
       omega arith,
       rw c.as_slice.ensures.value (record {
@@ -515,13 +515,13 @@ walk_triggers-returns-in-None-clause-noted t c = rw c.in-None.is (nothing_noted 
 
 pub walk_terms-walk-requires : goal.walk_terms-walk-requires
 walk_terms-walk-requires t c =
-    let h = in_triggers (where_at c.args.store.now c.args.world.now) (names_of c.args.locals.now) (expression_of c.in-Some.first.now) (expressions_of c.in-Some.rest.now) (rw c.in-Some.ensures.cases.0 at c.requires.resolved) in
+    let h = in_triggers (where_at c.args.store.now c.args.world.now) (names_of_locals c.args.locals.now) (expression_of c.in-Some.first.now) (expressions_of c.in-Some.rest.now) (rw c.in-Some.ensures.cases.0 at c.requires.resolved) in
     (omega (arith, ap sizes_of c.in-Some.ensures.cases.0), go_on c.requires.set c.trigger_type.ensures.grows c.in_ok-ty.ensures.noted.ready c.in_ok-ty.ensures.held (rw c.in_ok-ty.ensures.due h.0))
 
 pub walk_terms-walk_terms-requires : goal.walk_terms-walk_terms-requires
 walk_terms-walk_terms-requires t c =
     let g = Grows_trans _ _ _ c.trigger_type.ensures.grows c.walk.ensures.grows in
-    let h = in_triggers (where_at c.args.store.now c.args.world.now) (names_of c.args.locals.now) (expression_of c.in-Some.first.now) (expressions_of c.in-Some.rest.now) (rw c.in-Some.ensures.cases.0 at c.requires.resolved) in
+    let h = in_triggers (where_at c.args.store.now c.args.world.now) (names_of_locals c.args.locals.now) (expression_of c.in-Some.first.now) (expressions_of c.in-Some.rest.now) (rw c.in-Some.ensures.cases.0 at c.requires.resolved) in
     (omega (arith, ap sizes_of c.in-Some.ensures.cases.0, some_size (code.tree_of c.in-Some.first.now)), record { set = set_on c.requires.set g c.in_ok-walk.ensures.walked.noted.ready; resolved = rw (world_stays _ _ g c.args.world.now c.requires.set.world) h.1 })
 
 pub walk_terms-returns-in_default-clause-noted : goal.walk_terms-returns-in_default-clause-noted
@@ -546,13 +546,13 @@ walk_terms-returns-clause-noted t c =
 pub walk_match-walk_group-requires : goal.walk_match-walk_group-requires
 walk_match-walk_group-requires t c =
     let w = where_at c.args.store.now c.args.world.now in
-    let h = in_cases w (names_of c.args.locals.now) (is_due c.args.wanted) c.args.token (grouped (first_tree (code.trees (map code.tree_of c.args.values.now))) (expressions_of c.args.values.now)) (branches_of c.args.branches.now) c.requires.resolved in
-    let none' = ap (λ (i : ℕ). fault w false (names_of c.args.locals.now) false (grouped i (expressions_of c.args.values.now))) c.first_token-first.ensures ∙ h.0 in
+    let h = in_cases w (names_of_locals c.args.locals.now) (is_due c.args.wanted) c.args.token (grouped (first_tree (code.trees (map code.tree_of c.args.values.now))) (expressions_of c.args.values.now)) (branches_of c.args.branches.now) c.requires.resolved in
+    let none' = ap (λ (i : ℕ). fault w false (names_of_locals c.args.locals.now) false (grouped i (expressions_of c.args.values.now))) c.first_token-first.ensures ∙ h.0 in
     (omega arith, go_on c.requires.set c.new_unknown.ensures.grows c.in_ok-ty.ensures.noted.ready c.in_ok-ty.ensures.held none')
 
 pub walk_match-walk_branches-requires : goal.walk_match-walk_branches-requires
 walk_match-walk_branches-requires t c =
-    let h = in_cases (where_at c.args.store.now c.args.world.now) (names_of c.args.locals.now) (is_due c.args.wanted) c.args.token (grouped (first_tree (code.trees (map code.tree_of c.args.values.now))) (expressions_of c.args.values.now)) (branches_of c.args.branches.now) c.requires.resolved in
+    let h = in_cases (where_at c.args.store.now c.args.world.now) (names_of_locals c.args.locals.now) (is_due c.args.wanted) c.args.token (grouped (first_tree (code.trees (map code.tree_of c.args.values.now))) (expressions_of c.args.values.now)) (branches_of c.args.branches.now) c.requires.resolved in
     let g = Grows_trans _ _ _ c.new_unknown.ensures.grows c.walk_group.ensures.grows in (
       omega arith,
       record {
@@ -578,7 +578,7 @@ walk_branch-walk-requires t c =
     let g = c.walk_alternatives.ensures.grows in
     let ps = more_alternatives (first_form (code.patterns c.args.first.now)) (side_by_side (code.patterns c.args.first.now)) (alternatives_of c.args.rest.now) in
     let a = c.in_ok-branch.ensures.alternatives (first_form (code.patterns c.args.first.now)) in
-    let h = in_branches (where_at s c.args.world.now) (names_of c.args.locals.now) (is_due c.args.wanted) ps (expression_of c.args.body.now) (branches_of c.args.others.now) c.requires.resolved in
+    let h = in_branches (where_at s c.args.world.now) (names_of_locals c.args.locals.now) (is_due c.args.wanted) ps (expression_of c.args.body.now) (branches_of c.args.others.now) c.requires.resolved in
     let n : ℕ = length c.args.draft.now.takers in
     let held = branch_held n (tree_at s c.args.subject) ps set g a in
     (omega arith, rw c.as_slice.ensures.value (go_inside set _ g a.noted.ready held (wanted_grows _ _ g c.args.wanted c.requires.wanted) (rw (branch_names n (tree_at s c.args.subject) ps set g a) h.0)))
@@ -591,7 +591,7 @@ walk_branch-walk_branches-requires t c =
     let g = Grows_trans _ _ _ g1 c.walk.ensures.grows in
     let ps = more_alternatives (first_form (code.patterns c.args.first.now)) (side_by_side (code.patterns c.args.first.now)) (alternatives_of c.args.rest.now) in
     let a = c.in_ok-branch.ensures.alternatives (first_form (code.patterns c.args.first.now)) in
-    let h = in_branches (where_at s c.args.world.now) (names_of c.args.locals.now) (is_due c.args.wanted) ps (expression_of c.args.body.now) (branches_of c.args.others.now) c.requires.resolved in (
+    let h = in_branches (where_at s c.args.world.now) (names_of_locals c.args.locals.now) (is_due c.args.wanted) ps (expression_of c.args.body.now) (branches_of c.args.others.now) c.requires.resolved in (
       omega (arith, some_size (code.tree_of c.args.body.now)),
       record {
         set = set_on set g c.in_ok-body.ensures.walked.noted.ready;
@@ -632,19 +632,19 @@ walk_branch-returns-clause-arms t c =
     let g = Grows_trans _ _ _ g1 c.walk.ensures.grows in
     let l = next body.noted ∙ ap (λ (j : ℕ). j + taken p.notes) (next a.noted) in
     let rest = rw c.in_ok-push_patterns.ensures at c.in_ok-list.ensures.arms in
-    let others = as_arms set g c.args.wanted c.args.subject (branches_of c.args.others.now) (past m p) u want l (type_stays _ _ g c.args.subject c.requires.subject) (wanted_stays _ _ g c.args.wanted c.requires.wanted) rest in
+    let others = as_arms set g c.args.wanted c.args.subject (branches_of c.args.others.now) (unknown_after m p) u want l (type_stays _ _ g c.args.subject c.requires.subject) (wanted_stays _ _ g c.args.wanted c.requires.wanted) rest in
     let inner = c.in_ok-body.ensures.walked in
     let y = yields_due c.args.wanted (tree_at c.walk_branches.new.store c.in_ok-body.body) (grown_sort _ _ c.walk_branches.ensures.grows inner.held inner.sort) in
     ifok_three c.push_arms.result (λ id held tree list. branch_walked c.requires.patterns g1 a body c.walk.ensures.grows others c.walk_branches.ensures.grows held tree list y c.push_arms.ensures.grows) c.push_arms.ensures.held c.push_arms.ensures.tree c.push_arms.ensures.branches
 
 pub walk_matched-walk-requires : goal.walk_matched-walk-requires
 walk_matched-walk-requires t c =
-    let h = in_cases (where_at c.args.store.now c.args.world.now) (names_of c.args.locals.now) (is_due c.args.wanted) c.args.token (expression_of c.args.value.now) (more_branches (more_alternatives (first_form (code.patterns c.args.pattern.now)) (side_by_side (code.patterns c.args.pattern.now)) no_alternatives) (expression_of c.args.body.now) no_branches) c.requires.resolved in
+    let h = in_cases (where_at c.args.store.now c.args.world.now) (names_of_locals c.args.locals.now) (is_due c.args.wanted) c.args.token (expression_of c.args.value.now) (more_branches (more_alternatives (first_form (code.patterns c.args.pattern.now)) (side_by_side (code.patterns c.args.pattern.now)) no_alternatives) (expression_of c.args.body.now) no_branches) c.requires.resolved in
     (omega arith, go_on c.requires.set c.new_unknown.ensures.grows c.in_ok-ty.ensures.noted.ready c.in_ok-ty.ensures.held h.0)
 
 pub walk_matched-walk_branch-requires : goal.walk_matched-walk_branch-requires
 walk_matched-walk_branch-requires t c =
-    let h = in_cases (where_at c.args.store.now c.args.world.now) (names_of c.args.locals.now) (is_due c.args.wanted) c.args.token (expression_of c.args.value.now) (more_branches (more_alternatives (first_form (code.patterns c.args.pattern.now)) (side_by_side (code.patterns c.args.pattern.now)) no_alternatives) (expression_of c.args.body.now) no_branches) c.requires.resolved in
+    let h = in_cases (where_at c.args.store.now c.args.world.now) (names_of_locals c.args.locals.now) (is_due c.args.wanted) c.args.token (expression_of c.args.value.now) (more_branches (more_alternatives (first_form (code.patterns c.args.pattern.now)) (side_by_side (code.patterns c.args.pattern.now)) no_alternatives) (expression_of c.args.body.now) no_branches) c.requires.resolved in
     let g = Grows_trans _ _ _ c.new_unknown.ensures.grows c.walk.ensures.grows in (
       omega arith,
       record {
@@ -679,19 +679,19 @@ walk_branches-returns-in-Some-split_first-clause-arms t c =
     let body = expression_of c.in-Some.branch.now.body in
     let rest = alternatives_of c.in-Some-split_first.rest.now in
     let same = ap branches_of c.in-Some.ensures.cases.0 ∙ (ap (λ (pss : List (List Pat)). more_branches (alternatives_of pss) body others) e ∙ ap (λ (ps : List Pat). more_branches (more_alternatives (first_form (code.patterns ps)) (side_by_side (code.patterns ps)) rest) body others) (sym c.as_slice-first.ensures)) in
-    subst (λ (x : Branches). IfOk c.walk_branch.result (AreArms (branches_arms (where_at s c.args.world.now) (locals_at s c.args.locals.now) (length c.args.draft.now.takers) (tree_at s c.args.subject) (option_map (tree_at s) c.args.wanted) x) (due c.args.wanted) s c.args.draft.now c.args.patterns.now c.walk_branch.new.store c.walk_branch.new.draft c.walk_branch.new.patterns)) (sym same) c.walk_branch.ensures.arms
+    subst (λ (x : MatchBranches). IfOk c.walk_branch.result (AreArms (branches_arms (where_at s c.args.world.now) (locals_at s c.args.locals.now) (length c.args.draft.now.takers) (tree_at s c.args.subject) (option_map (tree_at s) c.args.wanted) x) (due c.args.wanted) s c.args.draft.now c.args.patterns.now c.walk_branch.new.store c.walk_branch.new.draft c.walk_branch.new.patterns)) (sym same) c.walk_branch.ensures.arms
 
 pub walk_branches-walk-requires : goal.walk_branches-walk-requires
 walk_branches-walk-requires t c =
     let e = no_elements c.in-Some.branch.now.alternatives (ap length (sym c.as_slice.ensures) ∙ c.in-None.ensures.cases) in
-    let h = in_branches (where_at c.args.store.now c.args.world.now) (names_of c.args.locals.now) (is_due c.args.wanted) no_alternatives (expression_of c.in-Some.branch.now.body) (branches_of c.in-Some.others.now) (rw e at (rw c.in-Some.ensures.cases.0 at c.requires.resolved)) in
+    let h = in_branches (where_at c.args.store.now c.args.world.now) (names_of_locals c.args.locals.now) (is_due c.args.wanted) no_alternatives (expression_of c.in-Some.branch.now.body) (branches_of c.in-Some.others.now) (rw e at (rw c.in-Some.ensures.cases.0 at c.requires.resolved)) in
     (omega (arith, branches_split c.args.list.now c.in-Some.others.now c.in-Some.branch.now c.in-Some.ensures.cases.0), go_on c.requires.set (Grows_refl _) c.requires.set.ready c.requires.wanted h.0)
 
 pub walk_branches-walk_branches-requires : goal.walk_branches-walk_branches-requires
 walk_branches-walk_branches-requires t c =
     let g = c.walk.ensures.grows in
     let e = no_elements c.in-Some.branch.now.alternatives (ap length (sym c.as_slice.ensures) ∙ c.in-None.ensures.cases) in
-    let h = in_branches (where_at c.args.store.now c.args.world.now) (names_of c.args.locals.now) (is_due c.args.wanted) no_alternatives (expression_of c.in-Some.branch.now.body) (branches_of c.in-Some.others.now) (rw e at (rw c.in-Some.ensures.cases.0 at c.requires.resolved)) in (
+    let h = in_branches (where_at c.args.store.now c.args.world.now) (names_of_locals c.args.locals.now) (is_due c.args.wanted) no_alternatives (expression_of c.in-Some.branch.now.body) (branches_of c.in-Some.others.now) (rw e at (rw c.in-Some.ensures.cases.0 at c.requires.resolved)) in (
       omega (arith, branches_split c.args.list.now c.in-Some.others.now c.in-Some.branch.now c.in-Some.ensures.cases.0, some_size (code.tree_of c.in-Some.branch.now.body)),
       record {
         set = set_on c.requires.set g c.in_ok-walk-in-None.ensures.walked.noted.ready;
@@ -713,7 +713,7 @@ walk_branches-returns-in_ok-walk-in-None-clause-arms t c =
     let p = piece (where_at s c.args.world.now) (locals_at s c.args.locals.now) (n + 0) want (expression_of c.in-Some.branch.now.body) in
     let body = as_begun c.requires.set (Grows_refl s) c.args.wanted (expression_of c.in-Some.branch.now.body) (n + 0) want zero' refl c.in_ok-walk-in-None.ensures.walked in
     let l = next body.noted ∙ ap (λ (j : ℕ). j + taken p.notes) zero' in
-    rw (c.in-Some.ensures.cases.0, e) (IfOk-weaker c.walk_branches.result _ _ (λ id r. branch_dropped c.requires.patterns body g (as_arms c.requires.set g c.args.wanted c.args.subject (branches_of c.in-Some.others.now) (past (n + 0) p) (tree_at s c.args.subject) want l (type_stays _ _ g c.args.subject c.requires.subject) (wanted_stays _ _ g c.args.wanted c.requires.wanted) r)) c.walk_branches.ensures.arms)
+    rw (c.in-Some.ensures.cases.0, e) (IfOk-weaker c.walk_branches.result _ _ (λ id r. branch_dropped c.requires.patterns body g (as_arms c.requires.set g c.args.wanted c.args.subject (branches_of c.in-Some.others.now) (unknown_after (n + 0) p) (tree_at s c.args.subject) want l (type_stays _ _ g c.args.subject c.requires.subject) (wanted_stays _ _ g c.args.wanted c.requires.wanted) r)) c.walk_branches.ensures.arms)
 
 pub walk-returns-in-Int-clause-walked : goal.walk-returns-in-Int-clause-walked
 walk-returns-in-Int-clause-walked t c = rw (expression_at-Int c.args.e.now c.in-Int.value c.in-Int.is) c.walk_literal.ensures.walked
@@ -733,7 +733,7 @@ walk_match-make-requires-clause-fits t c =
     let subject = c.in_ok-subject.ensures.walked in
     let arms = c.in_ok-arms.ensures.arms in
     let bs = branches_of c.args.branches.now in
-    let h = in_cases (where_at c.args.store.now c.args.world.now) (names_of c.args.locals.now) (is_due c.args.wanted) c.args.token (grouped (first_tree (code.trees (map code.tree_of c.args.values.now))) (expressions_of c.args.values.now)) bs c.requires.resolved in
+    let h = in_cases (where_at c.args.store.now c.args.world.now) (names_of_locals c.args.locals.now) (is_due c.args.wanted) c.args.token (grouped (first_tree (code.trees (map code.tree_of c.args.values.now))) (expressions_of c.args.values.now)) bs c.requires.resolved in
     let cell = has_arm (where_at s2 c.args.world.now) (locals_at s2 c.args.locals.now) (tree_at s2 c.in_ok-ty.ty) (option_map (tree_at s2) c.args.wanted) bs (length c.walk_group.new.draft.takers) h.1 in
     case_fits (tree_at s3 c.in_ok-subject.subject) (tree_at s3 c.in_ok-arms.arms) (grown_sort s2 s3 c.walk_branches.ensures.grows subject.held subject.sort) arms.branches (ap head_of arms.tree ∙ cell)
 

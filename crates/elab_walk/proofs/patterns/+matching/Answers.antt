@@ -9,12 +9,12 @@ use Rattle.tasks.specs.declared.signature.SymbolInfo.{SymbolInfo}
 use Rattle.syntax_why.specs.Lexeme.{Word}
 use Rattle.syntax_why.specs.Surface.{own_of}
 use Rattle.syntax_why.specs.Surface as code
-use Rattle.elab_names.specs.Abstract.{own_name, pattern_of, patterns_of}
+use Rattle.elab_names.specs.Abstract.{text_of_own, abstract_pattern_of, patterns_of}
 use Rattle.elab_names.specs.Naming.{where_at}
 use Rattle.elab_names.proofs.Nodes.{pattern_at-Wild, pattern_at-Var, pattern_at-Con, pattern_at-Group, pattern_at-Alias}
 use Rattle.elab_names.proofs.Told.{counted_patterns}
 use Rattle.elab_walk.specs.Patterns.{taken, first_or_int, rest_of, pattern_piece}
-use Rattle.elab_walk.specs.Drafts.{HoldsType, SymbolTyped, symbol_got, earlier_at}
+use Rattle.elab_walk.specs.Drafts.{HoldsType, SymbolTyped, symbol_got, earlier_variables}
 use Rattle.elab_walk.proofs.Growing.{held_grows, each_grows, ready_grows, type_grows, type_stays, types_grow, types_stay}
 use Rattle.elab_walk.proofs.Noting.{next, nothing_noted, no_elements}
 use Rattle.elab_walk.proofs.Walking.{grown_sort}
@@ -40,7 +40,7 @@ walk_pattern-walk_constructor-requires t c =
 
 pub walk_pattern-returns-in_ok-own-in-Con-clause-matched : goal.walk_pattern-returns-in_ok-own-in-Con-clause-matched
 walk_pattern-returns-in_ok-own-in-Con-clause-matched t c =
-    let own = c.as_slice-in-Con-3.ensures ∙ c.in_ok-own-in-Con.ensures ∙ ap (λ (x : Word). own_name (own_of c.in-Con.name.style x)) c.as_slice-in-Con.ensures in
+    let own = c.as_slice-in-Con-3.ensures ∙ c.in_ok-own-in-Con.ensures ∙ ap (λ (x : Word). text_of_own (own_of c.in-Con.name.style x)) c.as_slice-in-Con.ensures in
     rw (pattern_at-Con c.args.p.now c.in-Con.name c.in-Con.parts c.in-Con.is) (rw (c.symbol_named-symbol.ensures, c.as_slice-in-Con-2.ensures, own, c.as_slice-parts.ensures) at c.walk_constructor.ensures.matched)
 
 pub walk_pattern-walk_grouped-requires : goal.walk_pattern-walk_grouped-requires
@@ -141,17 +141,17 @@ walk_patterns-returns-clause-matched t c =
     let ids = c.args.wanted.now in
     let g = c.walk_pattern.ensures.grows in
     let a = rw c.first_type-ty.ensures.tree at c.in_ok-a.ensures.matched in
-    let p = pattern_piece (where_at s c.args.world.now) (earlier_at s c.args.alternative) n (first_or_int (trees_at s ids)) (pattern_of c.in-Some.first.now) in
+    let p = pattern_piece (where_at s c.args.world.now) (earlier_variables s c.args.alternative) n (first_or_int (trees_at s ids)) (abstract_pattern_of c.in-Some.first.now) in
     let types = types_stay _ _ g (rest_of ids) (rest_all (HoldsType s) ids c.requires.wanted) ∙ rest_trees s ids in
     let b = as_all_matched c.args.alternative c.requires.world c.requires.earlier g (rest_of ids) (n + taken p.notes) (rest_of (trees_at s ids)) (patterns_of c.in-Some.rest.now) (next a.bound.noted) types (rw c.other_types-wanted.ensures at c.in_ok-b.ensures.matched) in
     rw c.in-Some.ensures.cases.0 (IfOk-weaker c.make-2.result _ _ (λ id m. matched_cell a b c.walk_patterns.ensures.grows c.make-2.ensures.grows m) c.make-2.ensures.made)
 
--- ---- what stands in parentheses
+-- ---- what is in parentheses
 pub walk_grouped-walk_pattern-requires : goal.walk_grouped-walk_pattern-requires
 walk_grouped-walk_pattern-requires t c = (omega (arith, first_pattern c.args.list.now c.index-list-0.result c.if-list-eq1.true, ap pattern_size c.index-list-0.is), c.requires)
 
 pub walk_grouped-returns-then-list-eq1-clause-matched : goal.walk_grouped-returns-then-list-eq1-clause-matched
-walk_grouped-returns-then-list-eq1-clause-matched t c = rw (grouped_one c.args.token c.args.list.now c.index-list-0.result c.if-list-eq1.true ∙ ap pattern_of (sym c.index-list-0.is)) c.walk_pattern.ensures.matched
+walk_grouped-returns-then-list-eq1-clause-matched t c = rw (grouped_one c.args.token c.args.list.now c.index-list-0.result c.if-list-eq1.true ∙ ap abstract_pattern_of (sym c.index-list-0.is)) c.walk_pattern.ensures.matched
 
 pub walk_grouped-walk_constructor-requires : goal.walk_grouped-walk_constructor-requires
 walk_grouped-walk_constructor-requires t c = (omega arith, c.requires)

@@ -1,18 +1,18 @@
 use Rattle.std.proofs.Common.{◌≡◌, [], true, false, refl, ap, ◌∙◌}
 use Rattle.std.specs.Option.{is_some}
 use Rattle.elab_names.specs.Faults.{is_variable}
-use Rattle.elab_walk.specs.Drafts.{names_of}
+use Rattle.elab_walk.specs.Drafts.{names_of_locals}
 use Rattle.elab_walk.proofs.Arguments.{is_found}
 use Rattle.elab_walk.proofs.triggers.is_formula_name.Goals as goal
 
 pub returns-in-Some : goal.returns-in-Some
 returns-in-Some c s =
     let f = rw c.in-Some.is at c.in_ok-local_named.ensures.found in
-    let v : is_variable c.args.scopes.now c.args.name.now (names_of c.args.locals.now) ≡ true = is_found s c.args.locals.now c.args.scopes.now c.args.name.now ∙ ap is_some (f s) in
+    let v : is_variable c.args.scopes.now c.args.name.now (names_of_locals c.args.locals.now) ≡ true = is_found s c.args.locals.now c.args.scopes.now c.args.name.now ∙ ap is_some (f s) in
     rw v refl
 
 pub returns-in-None : goal.returns-in-None
 returns-in-None c s =
     let f = rw c.in-None.is at c.in_ok-local_named.ensures.found in
-    let v : is_variable c.args.scopes.now c.args.name.now (names_of c.args.locals.now) ≡ false = is_found [] c.args.locals.now c.args.scopes.now c.args.name.now ∙ ap is_some (f []) in
+    let v : is_variable c.args.scopes.now c.args.name.now (names_of_locals c.args.locals.now) ≡ false = is_found [] c.args.locals.now c.args.scopes.now c.args.name.now ∙ ap is_some (f []) in
     rw v (c.names_predicate.ensures s)

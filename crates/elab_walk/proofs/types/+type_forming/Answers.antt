@@ -5,7 +5,7 @@ use Rattle.tasks.specs.Meaning.{trees_at}
 use Rattle.syntax_why.specs.Lexeme.{Word}
 use Rattle.syntax_why.specs.Surface.{own_of}
 use Rattle.syntax_why.specs.declared.types.TypeTree.{TypeTree}
-use Rattle.elab_names.specs.Abstract.{own_name, form_of, forms_of}
+use Rattle.elab_names.specs.Abstract.{text_of_own, type_expression_of, forms_of}
 use Rattle.elab_names.specs.Naming.{where_at}
 use Rattle.elab_names.specs.Where.{Where}
 use Rattle.elab_names.proofs.Nodes.{form_at-Var, form_at-Named, form_at-Group}
@@ -22,7 +22,7 @@ type_of_form-returns-in_ok-types-in-Named-clause-tree t c =
     let is = form_at-Named c.args.ty.now c.in-Named.name c.in-Named.args c.in-Named.is in
     let w = world_stays _ _ c.types_of_forms.ensures.grows c.args.world.now c.requires in
     let ts = rw c.as_slice-in-Named-2.ensures at c.in_ok-types-in-Named.ensures.trees in
-    let own = c.as_slice-in-Named-3.ensures ∙ c.in_ok-own-in-Named.ensures ∙ ap (λ (x : Word). own_name (own_of c.in-Named.name.style x)) c.as_slice-in-Named.ensures in
+    let own = c.as_slice-in-Named-3.ensures ∙ c.in_ok-own-in-Named.ensures ∙ ap (λ (x : Word). text_of_own (own_of c.in-Named.name.style x)) c.as_slice-in-Named.ensures in
     let h = rw c.as_slice-in-Named-4.ensures.value at c.named_type.ensures.tree in
     rw is (IfOk-weaker c.named_type.result _ _ (λ id e. e ∙ named_same c.args.store.now c.types_of_forms.new.store c.args.world.now w c.as_slice-scopes.ensures own ts) h)
 
@@ -45,5 +45,5 @@ types_of_forms-loop-ty-preserved t c =
       Grows_trans _ _ _ i.0 g,
       world_grows _ _ g c.args.world.now i.1,
       rw c.in_ok-push.ensures.items (types_more _ _ g c.loop-ty.types.items c.in_ok-id.id i.2 c.in_ok-id.ensures.held),
-      rw c.in_ok-push.ensures.items (form_step c.loop-ty.store c.type_of_form.new.store g (where_at c.args.store.now c.args.world.now) c.loop-ty.types.items c.in_ok-id.id i.2 c.args.list.now c.loop-ty.ty-index c.ty-item.result c.loop-ty-test.true (tree ∙ ap (λ (u : TypeTree). type_at (where_at c.args.store.now c.args.world.now) (form_of u)) item) _ i.3),
+      rw c.in_ok-push.ensures.items (form_step c.loop-ty.store c.type_of_form.new.store g (where_at c.args.store.now c.args.world.now) c.loop-ty.types.items c.in_ok-id.id i.2 c.args.list.now c.loop-ty.ty-index c.ty-item.result c.loop-ty-test.true (tree ∙ ap (λ (u : TypeTree). type_at (where_at c.args.store.now c.args.world.now) (type_expression_of u)) item) _ i.3),
     )

@@ -4,7 +4,7 @@ use Rattle.trees.specs.Binding.{inst_types}
 use Rattle.tasks.specs.Meaning.{trees_at}
 use Rattle.tasks.specs.Task.{SymbolTree}
 use Rattle.elab_names.specs.Naming.{where_at}
-use Rattle.elab_walk.specs.Patterns.{Entry, entry_of, result_or_int}
+use Rattle.elab_walk.specs.Patterns.{NumberedEntry, entry_of, result_or_int}
 use Rattle.elab_walk.specs.Drafts.{symbol_got}
 use Rattle.elab_walk.proofs.Arguments.{entry_got}
 use Rattle.elab_walk.proofs.types.tuple_type.Goals as goal
@@ -14,5 +14,5 @@ returns-clause-tree c =
     let s = c.args.store.now in
     let es = (where_at s c.args.world.now).symbols in
     let number = c.entry_number-symbol.ensures es ∙ ap (entry_of es) (c.tuple_named.ensures s) in
-    let e = ap (symbol_got s) c.entry_at-info.ensures ∙ (sym (entry_got s c.args.world.now.symbols.now c.entry_number-symbol.result) ∙ ap (λ (x : Entry). x.symbol) number) in
+    let e = ap (symbol_got s) c.entry_at-info.ensures ∙ (sym (entry_got s c.args.world.now.symbols.now c.entry_number-symbol.result) ∙ ap (λ (x : NumberedEntry). x.symbol) number) in
     IfOk-weaker c.put_types.result _ _ (λ id h. h ∙ ap (λ (x : SymbolTree). inst_types (result_or_int x.result) (trees_at s c.args.types.now)) e) (rw c.result_type-ty.ensures.tree at c.put_types.ensures.tree)

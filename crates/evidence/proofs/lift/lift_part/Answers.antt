@@ -2,7 +2,7 @@ use Rattle.std.proofs.Common.{subst, List}
 use Rattle.trees.specs.Tree.{Tree}
 use Rattle.rule_rows.specs.Meaning.{steps_at}
 use Rattle.evidence.specs.Drafts.{Refutes}
-use Rattle.evidence.specs.Stages.{sequent_of}
+use Rattle.evidence.specs.Stages.{sequent_of_step}
 use Rattle.evidence.specs.Laws.{Extends_trans}
 use Rattle.evidence.proofs.Lifted.{in_stage_later, part_right, stand_part, step_sequent, have_more}
 use Rattle.evidence.proofs.lift.lift_part.Goals as goal
@@ -34,6 +34,6 @@ loop-j-preserved g c =
     let e = step_sequent d d1 c.args.part.now c.loop-j.invariant.grows c.requires.held j x c.loop-j-test.true c.index-part-j.is in
     record {
       grows = Extends_trans _ _ _ c.loop-j.invariant.grows c.lift_step.ensures.grows;
-      numbers = rw c.in_ok-push.ensures.items (have_more d1 d2 c.loop-j.numbers.items (sequent_of (steps_at d.trees c.args.part.now)) j c.in_ok-number.number
+      numbers = rw c.in_ok-push.ensures.items (have_more d1 d2 c.loop-j.numbers.items (sequent_of_step (steps_at d.trees c.args.part.now)) j c.in_ok-number.number
           c.lift_step.ensures.grows c.loop-j.invariant.numbers (subst (λ (q : List Tree). Refutes d2 c.in_ok-number.number q) e c.in_ok-number.ensures.refutes));
     }

@@ -6,7 +6,7 @@ use Rattle.tasks.specs.declared.declaration.Decl.{Decl}
 use Rattle.tasks.specs.Task.{DeclarationTree}
 use Rattle.tasks.specs.Meaning.{symbols_at, declaration_at, declarations_at, DeclHeld}
 use Rattle.named_symbols.specs.Named.{named, declarations_named}
-use Rattle.named_symbols.specs.Gathered.{Gains}
+use Rattle.named_symbols.specs.Gathered.{GainsSymbols}
 use Rattle.goal_tasks.proofs.TuplesMade.{tuples_same}
 use Rattle.goal_tasks.proofs.Passed.{no_value}
 use Rattle.goal_tasks.proofs.making.with_tuples.Goals as goal
@@ -19,7 +19,7 @@ returns-clause-tree c =
     let own = c.args.own.items in
     let keys = c.in_ok-found.found.keys in
     let joined : c.append.new.self ≡ first ++ own = c.in_ok-append.ensures.ok ∙ ap (λ (z : List Decl). z ++ c.from_vec.result) c.from_vec-decls.ensures ∙ ap (λ (z : List Decl). first ++ z) c.from_vec.ensures in
-    let gains = subst (λ (z : List Decl). Gains [] keys (declarations_named symbols (declarations_at s z) ++ named (tree_at s c.args.goal))) c.as_slice.ensures.value c.in_ok-found.ensures in
+    let gains = subst (λ (z : List Decl). GainsSymbols [] keys (declarations_named symbols (declarations_at s z) ++ named (tree_at s c.args.goal))) c.as_slice.ensures.value c.in_ok-found.ensures in
     ap (declarations_at s) joined ∙ map-append (declaration_at s) first own
     ∙ ap (λ (z : List DeclarationTree). z ++ declarations_at s own) (c.in_ok-tuples_in.ensures.tree ∙ tuples_same symbols keys (declarations_named symbols (declarations_at s own) ++ named (tree_at s c.args.goal)) gains)
 

@@ -3,7 +3,7 @@ use Rattle.std.specs.Option.{option_map, option_to_list}
 use Rattle.tasks.specs.Meaning.{trees_at, symbols_at}
 use Rattle.match_cover.specs.Shapes.{Escapes}
 use Rattle.match_cover.specs.Tables.{Answered}
-use Rattle.match_cover.specs.Meaning.{shape_of, shapes_of, table_at, single}
+use Rattle.match_cover.specs.Meaning.{shape_of, shapes_of, table_at, single_pattern}
 use Rattle.match_cover.proofs.Missing.{empty_is, empty_escapes, some_iff, rows_held, rows_table, none_exhaustive, escapes_last, never_empty}
 use Rattle.match_cover.proofs.exhaustive.cover.Goals as goal
 
@@ -24,13 +24,13 @@ returns-then-is_empty-clause-escapes c =
 pub missed_shapes-requires-clause-held : goal.missed_shapes-requires-clause-held
 missed_shapes-requires-clause-held c =
     let ps = c.args.patterns.now in
-    let are : c.as_slice.result.now ≡ map single ps = c.as_slice.ensures.value ∙ c.in_ok-push_alone.ensures ∙ ap (λ y. y ++ map single ps) c.new-rows.ensures.items in
+    let are : c.as_slice.result.now ≡ map single_pattern ps = c.as_slice.ensures.value ∙ c.in_ok-push_alone.ensures ∙ ap (λ y. y ++ map single_pattern ps) c.new-rows.ensures.items in
     rows_held (symbols_at c.args.store.now c.args.sig.now.symbols) c.args.store.now ps c.as_slice.result.now are c.requires.held
 
 pub missed_shapes-requires-clause-table : goal.missed_shapes-requires-clause-table
 missed_shapes-requires-clause-table c =
     let ps = c.args.patterns.now in
-    let are : c.as_slice.result.now ≡ map single ps = c.as_slice.ensures.value ∙ c.in_ok-push_alone.ensures ∙ ap (λ y. y ++ map single ps) c.new-rows.ensures.items in
+    let are : c.as_slice.result.now ≡ map single_pattern ps = c.as_slice.ensures.value ∙ c.in_ok-push_alone.ensures ∙ ap (λ y. y ++ map single_pattern ps) c.new-rows.ensures.items in
     rows_table (symbols_at c.args.store.now c.args.sig.now.symbols) c.args.store.now ps c.as_slice.result.now are c.requires.patterns c.requires.one_type
 
 pub returns-in-Some-last-clause-exhaustive : goal.returns-in-Some-last-clause-exhaustive
@@ -38,7 +38,7 @@ returns-in-Some-last-clause-exhaustive c =
     let symbols = symbols_at c.args.store.now c.args.sig.now.symbols in
     let s = c.args.store.now in
     let ps = c.args.patterns.now in
-    let are : c.as_slice.result.now ≡ map single ps = c.as_slice.ensures.value ∙ c.in_ok-push_alone.ensures ∙ ap (λ y. y ++ map single ps) c.new-rows.ensures.items in
+    let are : c.as_slice.result.now ≡ map single_pattern ps = c.as_slice.ensures.value ∙ c.in_ok-push_alone.ensures ∙ ap (λ y. y ++ map single_pattern ps) c.new-rows.ensures.items in
     let answer : Answered symbols 1 (table_at s 0 c.as_slice.result.now) (Some (shapes_of c.in-Some.shapes.items)) =
     subst (λ o. Answered symbols 1 (table_at s 0 c.as_slice.result.now) (option_map (λ v. shapes_of v.items) o)) c.in-Some.is c.in_ok-found.ensures in
     let last : c.in-Some.shapes.items ≡ c.pop-last.new.self.items ++ c.in-Some-last.shape ∷ [] = subst (λ o. c.in-Some.shapes.items ≡ c.pop-last.new.self.items ++ option_to_list o) c.in-Some-last.is c.pop-last.ensures.items in
@@ -49,7 +49,7 @@ returns-in-Some-last-clause-escapes c =
     let symbols = symbols_at c.args.store.now c.args.sig.now.symbols in
     let s = c.args.store.now in
     let ps = c.args.patterns.now in
-    let are : c.as_slice.result.now ≡ map single ps = c.as_slice.ensures.value ∙ c.in_ok-push_alone.ensures ∙ ap (λ y. y ++ map single ps) c.new-rows.ensures.items in
+    let are : c.as_slice.result.now ≡ map single_pattern ps = c.as_slice.ensures.value ∙ c.in_ok-push_alone.ensures ∙ ap (λ y. y ++ map single_pattern ps) c.new-rows.ensures.items in
     let answer : Answered symbols 1 (table_at s 0 c.as_slice.result.now) (Some (shapes_of c.in-Some.shapes.items)) =
     subst (λ o. Answered symbols 1 (table_at s 0 c.as_slice.result.now) (option_map (λ v. shapes_of v.items) o)) c.in-Some.is c.in_ok-found.ensures in
     let last : c.in-Some.shapes.items ≡ c.pop-last.new.self.items ++ c.in-Some-last.shape ∷ [] = subst (λ o. c.in-Some.shapes.items ≡ c.pop-last.new.self.items ++ option_to_list o) c.in-Some-last.is c.pop-last.ensures.items in
@@ -60,7 +60,7 @@ unreachable-requires c =
     let symbols = symbols_at c.args.store.now c.args.sig.now.symbols in
     let s = c.args.store.now in
     let ps = c.args.patterns.now in
-    let are : c.as_slice.result.now ≡ map single ps = c.as_slice.ensures.value ∙ c.in_ok-push_alone.ensures ∙ ap (λ y. y ++ map single ps) c.new-rows.ensures.items in
+    let are : c.as_slice.result.now ≡ map single_pattern ps = c.as_slice.ensures.value ∙ c.in_ok-push_alone.ensures ∙ ap (λ y. y ++ map single_pattern ps) c.new-rows.ensures.items in
     let answer : Answered symbols 1 (table_at s 0 c.as_slice.result.now) (Some (shapes_of c.in-Some.shapes.items)) =
     subst (λ o. Answered symbols 1 (table_at s 0 c.as_slice.result.now) (option_map (λ v. shapes_of v.items) o)) c.in-Some.is c.in_ok-found.ensures in
     never_empty symbols s ps c.as_slice.result.now are c.requires.patterns c.requires.one_type c.in-Some.shapes.items answer (let z = c.in-None-last.ensures.cases.0 in omega (arith, z, c.in-Some.shapes.ok.0))
@@ -70,7 +70,7 @@ returns-clause-exhaustive c =
     let symbols = symbols_at c.args.store.now c.args.sig.now.symbols in
     let s = c.args.store.now in
     let ps = c.args.patterns.now in
-    let are : c.as_slice.result.now ≡ map single ps = c.as_slice.ensures.value ∙ c.in_ok-push_alone.ensures ∙ ap (λ y. y ++ map single ps) c.new-rows.ensures.items in
+    let are : c.as_slice.result.now ≡ map single_pattern ps = c.as_slice.ensures.value ∙ c.in_ok-push_alone.ensures ∙ ap (λ y. y ++ map single_pattern ps) c.new-rows.ensures.items in
     let answer : Answered symbols 1 (table_at s 0 c.as_slice.result.now) None =
     subst (λ o. Answered symbols 1 (table_at s 0 c.as_slice.result.now) (option_map (λ v. shapes_of v.items) o)) c.in-None.is c.in_ok-found.ensures in
     (λ _. none_exhaustive symbols s ps c.as_slice.result.now are c.requires.patterns answer, λ _. refl)

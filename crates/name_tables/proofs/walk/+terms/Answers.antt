@@ -4,7 +4,7 @@ use Rattle.trees.specs.Tree.{Two, Three}
 use Rattle.trees.specs.Node.{tree_at, assemble, head_of_node}
 use Rattle.name_tables.specs.Occurrences.{Occurrence}
 use Rattle.name_tables.specs.Own.{own, inner}
-use Rattle.name_tables.specs.Seen.{IsWalk, Walks, Sees}
+use Rattle.name_tables.specs.Seen.{IsWalk, WalksTerms, Sees}
 use Rattle.name_tables.proofs.Steps.{walks_then, walks_seen, walks_done, walks_marked, parts_of_term}
 use Rattle.name_tables.proofs.walk.+terms.Goals as goal
 
@@ -37,6 +37,6 @@ note_term-returns t c =
     let e = tree_at s c.args.e in
     let node = c.node.ensures.tree in
     let own_is : Sees s c.args.seen.now.keys (own e) c.note_node.new.seen.keys = rw node c.in_ok-note_node.ensures in
-    let both : Walks s c.args.seen.now.keys (own e ++ inner e) c.note_parts.new.seen.keys c.note_parts.new.done.keys =
+    let both : WalksTerms s c.args.seen.now.keys (own e ++ inner e) c.note_parts.new.seen.keys c.note_parts.new.done.keys =
     walks_then s _ _ _ _ _ _ _ (walks_seen s _ _ _ _ c.requires.walk own_is) c.in_ok-note_parts.ensures in
-    walks_marked s _ _ _ _ c.args.e.0 (subst (λ (ps : List Occurrence). Walks s c.args.seen.now.keys ps c.note_parts.new.seen.keys c.note_parts.new.done.keys) (parts_of_term e) both) c.in_ok-insert.ensures.keys
+    walks_marked s _ _ _ _ c.args.e.0 (subst (λ (ps : List Occurrence). WalksTerms s c.args.seen.now.keys ps c.note_parts.new.seen.keys c.note_parts.new.done.keys) (parts_of_term e) both) c.in_ok-insert.ensures.keys

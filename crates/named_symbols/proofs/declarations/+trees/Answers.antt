@@ -3,7 +3,7 @@ use Rattle.std.proofs.lemmas.Result.{on_ok_weaker}
 use Rattle.trees.specs.Tree.{Two, Three, head_of}
 use Rattle.trees.specs.Node.{tree_at, assemble, head_of_node}
 use Rattle.named_symbols.specs.Named.{inner_named, head_named}
-use Rattle.named_symbols.specs.Gathered.{Walks, Gains, AreDone}
+use Rattle.named_symbols.specs.Gathered.{Walks, GainsSymbols, AreGathered}
 use Rattle.named_symbols.proofs.Steps.{walks_then, walks_noted, walks_done, walks_marked, parts_of_tree, head_of_tree}
 use Rattle.named_symbols.proofs.declarations.+trees.Goals as goal
 
@@ -27,7 +27,7 @@ note_tree-returns-then-contains t c = walks_done c.args.store.now c.args.found.n
 pub note_tree-note_parts-requires : goal.note_tree-note_parts-requires
 note_tree-note_parts-requires t c =
     let s = c.args.store.now in
-    let walk : AreDone s c.note_head.new.found.keys c.args.done.now.keys = (walks_noted s _ _ _ _ c.requires.walk c.in_ok-note_head.ensures).is_done in
+    let walk : AreGathered s c.note_head.new.found.keys c.args.done.now.keys = (walks_noted s _ _ _ _ c.requires.walk c.in_ok-note_head.ensures).is_done in
     search rules
 
 pub note_tree-returns : goal.note_tree-returns
@@ -35,7 +35,7 @@ note_tree-returns t c =
     let s = c.args.store.now in
     let e = tree_at s c.args.e in
     let same : head_named (head_of_node c.node.result) ≡ head_named (head_of e) = ap head_named (sym (head_of_tree s c.node.result)) ∙ ap (λ z. head_named (head_of z)) (sym c.node.ensures.tree) in
-    let own_is : Gains c.args.found.now.keys c.note_head.new.found.keys (head_named (head_of e)) = subst (λ (z : List ℕ). Gains c.args.found.now.keys c.note_head.new.found.keys z) same c.in_ok-note_head.ensures in
+    let own_is : GainsSymbols c.args.found.now.keys c.note_head.new.found.keys (head_named (head_of e)) = subst (λ (z : List ℕ). GainsSymbols c.args.found.now.keys c.note_head.new.found.keys z) same c.in_ok-note_head.ensures in
     let both : Walks s c.args.found.now.keys c.note_parts.new.found.keys c.note_parts.new.done.keys (head_named (head_of e) ++ inner_named e) =
     walks_then s _ _ _ _ _ _ _ (walks_noted s _ _ _ _ c.requires.walk own_is) c.in_ok-note_parts.ensures in
     walks_marked s _ _ _ _ c.args.e.0 (subst (λ (ps : List ℕ). Walks s c.args.found.now.keys c.note_parts.new.found.keys c.note_parts.new.done.keys ps) (parts_of_tree e) both) c.in_ok-insert.ensures.keys

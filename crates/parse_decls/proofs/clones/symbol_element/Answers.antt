@@ -1,4 +1,4 @@
-use Rattle.parse_decls.proofs.Cited.{rules, ◌+◌, sym, ap, ◌∙◌, subst, refl, called_of, called, symbol_element, scoped_of, symbol_word, IsRead, terminal_at, lexemes, can_next, next, next_within, done, inside, by_start, replaced_start, upto}
+use Rattle.parse_decls.proofs.Cited.{rules, ◌+◌, sym, ap, ◌∙◌, subst, refl, called_of, called, symbol_element, scoped_of, symbol_word_of, IsRead, terminal_at, lexemes, can_next, next, next_within, done, inside, by_start, replaced_start, upto}
 use Rattle.grammar.specs.declared.symbols.Symbol.TheVariants as s
 use Rattle.parse_decls.proofs.clones.symbol_element.Goals as goal
 
@@ -12,9 +12,9 @@ pub head_name-requires-2 : goal.head_name-requires-2
 head_name-requires-2 c = can_next (by_start c.requires.can c.requires.word (scoped_of c.in_ok-replaced.replaced) c.in_ok-replaced.j c.in_ok-replaced.ensures.read)
 
 pub returns : goal.returns
-returns c = subst (λ w. IsRead (lexemes c.args.source) s.Elem c.args.i (symbol_element c.args.i w (called_of c.in_ok-replaced.replaced) (called_of c.in_ok-by.by)) c.in_ok-by.end) (sym (c.symbol_word-word.ensures ∙ ap symbol_word c.terminal.ensures))
-    (subst (λ p. IsRead (lexemes c.args.source) s.Elem c.args.i (symbol_element c.args.i (symbol_word (terminal_at (lexemes c.args.source) c.args.i)) (called p c.in_ok-replaced.replaced.scopes (scoped_of c.in_ok-replaced.replaced).own) (called_of c.in_ok-by.by)) c.in_ok-by.end) (sym c.in_ok-replaced.ensures.place)
-    (subst (λ p. IsRead (lexemes c.args.source) s.Elem c.args.i (symbol_element c.args.i (symbol_word (terminal_at (lexemes c.args.source) c.args.i)) (called (c.args.i + 1) c.in_ok-replaced.replaced.scopes (scoped_of c.in_ok-replaced.replaced).own) (called p c.in_ok-by.by.scopes (scoped_of c.in_ok-by.by).own)) c.in_ok-by.end) (sym c.in_ok-by.ensures.place)
+returns c = subst (λ w. IsRead (lexemes c.args.source) s.Elem c.args.i (symbol_element c.args.i w (called_of c.in_ok-replaced.replaced) (called_of c.in_ok-by.by)) c.in_ok-by.end) (sym (c.symbol_word-word.ensures ∙ ap symbol_word_of c.terminal.ensures))
+    (subst (λ p. IsRead (lexemes c.args.source) s.Elem c.args.i (symbol_element c.args.i (symbol_word_of (terminal_at (lexemes c.args.source) c.args.i)) (called p c.in_ok-replaced.replaced.scopes (scoped_of c.in_ok-replaced.replaced).own) (called_of c.in_ok-by.by)) c.in_ok-by.end) (sym c.in_ok-replaced.ensures.place)
+    (subst (λ p. IsRead (lexemes c.args.source) s.Elem c.args.i (symbol_element c.args.i (symbol_word_of (terminal_at (lexemes c.args.source) c.args.i)) (called (c.args.i + 1) c.in_ok-replaced.replaced.scopes (scoped_of c.in_ok-replaced.replaced).own) (called p c.in_ok-by.by.scopes (scoped_of c.in_ok-by.by).own)) c.in_ok-by.end) (sym c.in_ok-by.ensures.place)
     (done (next (by_start c.requires.can c.requires.word (scoped_of c.in_ok-replaced.replaced) c.in_ok-replaced.j c.in_ok-replaced.ensures.read) c.in_ok-by.ensures.read) _ refl (λ k us. refl))))
 
 -- the numbers of tokens, which are at most that of all tokens

@@ -1,4 +1,4 @@
-use Rattle.parse_decls.proofs.Cited.{List, sym, ap, ◌∙◌, subst, refl, Name, at, Form, enclosed, Param, form_of, types, param_of, param_names, param_types, lexemes, can_next, done, next, again, IsParam, form_of_node-Group, listed_start, paren_param, paren_start, single_start, rules, upto}
+use Rattle.parse_decls.proofs.Cited.{List, sym, ap, ◌∙◌, subst, refl, Name, at, SyntaxForm, enclosed, ParamGroup, form_of, types, param_of, param_names, param_types, lexemes, can_next, done, next, again, IsParam, form_of_node-Group, listed_start, paren_param, paren_start, single_start, rules, upto}
 use Rattle.parse_decls.proofs.parameters.param.Goals as goal
 
 pub named_param-requires : goal.named_param-requires
@@ -14,7 +14,7 @@ pub returns-then-is_paren : goal.returns-then-is_paren
 returns-then-is_paren c = subst (λ f. IsParam (lexemes c.args.source) c.args.i (single f c.new.result) c.in_ok-parts.close) (sym (c.new-group.ensures ∙ form_of_node-Group _ _ ∙ ap (λ a. enclosed a (types c.in_ok-parts.parts)) c.place-here.ensures)) (subst (λ ns. IsParam (lexemes c.args.source) c.args.i (single (enclosed (at c.args.i) (types c.in_ok-parts.parts)) ns) c.in_ok-parts.close) (sym c.new.ensures)
     (paren_param c.requires.can (param_types (types c.in_ok-parts.parts)) c.in_ok-parts.close (sym c.is_at-is_paren.ensures ∙ c.if-is_paren.true) (done (next (listed_start (can_next (paren_start c.requires.can (sym c.is_at-is_paren.ensures ∙ c.if-is_paren.true))) (sym c.at_names-is_named.ensures ∙ c.if-is_named.false)) c.in_ok-parts.ensures) _ refl (λ k us. refl))))
   where
-    single : Form → List Name → Param
+    single : SyntaxForm → List Name → ParamGroup
     single f ns = record { names = ns; of_type = f }
 
 pub argument-requires : goal.argument-requires
@@ -24,7 +24,7 @@ pub returns : goal.returns
 returns c = subst (λ ns. IsParam (lexemes c.args.source) c.args.i (single (form_of c.in_ok-one.one) ns) c.in_ok-one.behind) (sym c.new-2.ensures)
     (again (next (single_start c.requires.can c.requires.begins (sym c.is_at-is_paren.ensures ∙ c.if-is_paren.false)) c.in_ok-one.ensures) 1 refl (λ k us. refl))
   where
-    single : Form → List Name → Param
+    single : SyntaxForm → List Name → ParamGroup
     single f ns = record { names = ns; of_type = f }
 
 -- the numbers of tokens, which are at most that of all tokens

@@ -1,4 +1,4 @@
-use Rattle.parse_terms.proofs.Cited.{arith, ◌<◌, rules, ℕ, ◌≡◌, ◌≤◌, ◌+◌, Bool, not, ◌&&◌, List, [], ◌∷◌, ◌++◌, option_map, map, sym, ap, ◌∙◌, subst, refl, append_assoc, map-append, prec, right, same, Lexeme, at, Forms, called, more_forms, Tree, Trees, apply, binary, binding, cases, cast, choice, ends_open, falsity, group, negation, op, prefixed, quantified, triggered, truth, more, none, literal, Arm, Terms, alternatives, arm_of, binder_of, branches, called_of, form_of, own_of, patterns, pattern_of, op_of, terms_of, tree_of, trees, trigger, forms, tree_of_node-Apply, tree_of_node-Binary, tree_of_node-Cast, tree_of_node-If, tree_of_node-Let, tree_of_node-False, tree_of_node-Group, tree_of_node-Match, tree_of_node-True, scoped_of, CanRead, Climb, IsClosed, IsExpr, IsRead, takes_infix, terminal_at, token_at, begins_atom, lexemes, IsBranch, IsTrigger, trees_many, under, plain_start, can_next, can_run, next, next_expr, next_within, stands_due, done, side_start, side_item, stands_by, side_more, side_done, expand, start, take, again, many_more, only, follow, Arguments, Members, application_read, atom_none, atom_some, inner_start, members_start, name_read, only_paren, paren_start, climb_done, climb_more, not_start, operator_within, prefix_start, prim_read, prim_start, right_can, Bound, Quantified, Triggering, body_start, else_start, if_read, if_start, let_read, let_start, quantified_body, quantified_read, quantified_start, then_start, trigger_done, trigger_start, triggering_more, value_start, branching_start, neither, quantifier_there, separator_start, inside, upto}
+use Rattle.parse_terms.proofs.Cited.{arith, ◌<◌, rules, ℕ, ◌≡◌, ◌≤◌, ◌+◌, Bool, not, ◌&&◌, List, [], ◌∷◌, ◌++◌, option_map, map, sym, ap, ◌∙◌, subst, refl, append_assoc, map-append, prec, right, same, Lexeme, at, SyntaxForms, called, more_forms, SyntaxTree, SyntaxTrees, apply, binary, binding, cases, cast, choice, ends_open, falsity, group, negation, op, prefixed, quantified, triggered, truth, more, none, literal, Arm, Terms, alternatives, arm_of, binder_of, branches, called_of, form_of, own_of, patterns, pattern_of, op_of, terms_of, tree_of, trees, trigger, forms, tree_of_node-Apply, tree_of_node-Binary, tree_of_node-Cast, tree_of_node-If, tree_of_node-Let, tree_of_node-False, tree_of_node-Group, tree_of_node-Match, tree_of_node-True, scoped_of, CanRead, Climb, IsReadClosed, IsExpr, IsRead, takes_infix, terminal_at, token_at, begins_atom, lexemes, IsBranch, IsReadTrigger, trees_many, under, plain_start, can_next, can_run, next, next_expr, next_within, stands_due, done, side_start, side_item, stands_by, side_more, side_done, expand, start, take, again, many_more, only, follow, Arguments, Members, application_read, atom_none, atom_some, inner_start, members_start, name_read, only_paren, paren_start, climb_done, climb_more, not_start, operator_within, prefix_start, prim_read, prim_start, right_can, Bound, Quantified, Triggering, body_start, else_start, if_read, if_start, let_read, let_start, quantified_body, quantified_read, quantified_start, then_start, trigger_done, trigger_start, triggering_more, value_start, branching_start, neither, quantifier_there, separator_start, inside, upto}
 use Rattle.tokens_why.specs.declared.terminal.Terminal.TheVariants as t
 use Rattle.grammar.specs.declared.symbols.Symbol.TheVariants as s
 use Rattle.parse_terms.proofs.HeadsRead as H
@@ -137,7 +137,7 @@ quantification-returns-clause-is_open m c = sym (ap ends_open c.in_ok-tree.ensur
 pub trigger-any_expression-requires : goal.trigger-any_expression-requires
 trigger-any_expression-requires m c = let h = inside c.args.source c.args.i (stands_due c.requires.can refl) in (search rules, can_next (trigger_start c.requires.can (sym c.is_at-is_given.ensures ∙ c.if-is_given.true)))
 
-retriggered : (xs : List Lexeme) (i : ℕ) (ts us : List Tree) (bs cs : List Bool) (j : ℕ) → us ≡ ts → cs ≡ bs → Triggering xs i ts bs j → Triggering xs i us cs j
+retriggered : (xs : List Lexeme) (i : ℕ) (ts us : List SyntaxTree) (bs cs : List Bool) (j : ℕ) → us ≡ ts → cs ≡ bs → Triggering xs i ts bs j → Triggering xs i us cs j
 retriggered xs i ts us bs cs j e f g = subst (λ v. Triggering xs i us v j) (sym f) (subst (λ v. Triggering xs i v bs j) (sym e) g)
 
 pub trigger-terms-init : goal.trigger-terms-init
@@ -152,10 +152,10 @@ trigger-terms-preserved m c = retriggered (lexemes c.args.source) c.args.i (map 
     (triggering_more (lexemes c.args.source) c.args.i (map tree_of c.terms.terms.items) c.terms.bars.items c.terms.j c.terms.invariant c.is_at-bar.result (tree_of c.in_ok-next.next) c.in_ok-next.end (separator_start (lexemes c.args.source) c.args.i (map tree_of c.terms.terms.items) c.terms.bars.items c.terms.j c.terms.invariant c.is_at-bar.result c.is_at-bar.ensures (sym c.at_separator.ensures ∙ c.terms-test.true)) c.in_ok-next.ensures)
 
 pub trigger-returns-then-is_given : goal.trigger-returns-then-is_given
-trigger-returns-then-is_given m c = subst (λ g. IsTrigger (lexemes c.args.source) c.args.i (triggered g.terms g.bars) (c.terms.j + 1 + 1)) (sym (c.new-tree.ensures ∙ ap (λ ts. made (trees (map tree_of ts)) c.from_vec-then-is_given.result) c.from_vec.ensures ∙ ap (made (trees (map tree_of c.terms.terms.items))) c.from_vec-then-is_given.ensures))
+trigger-returns-then-is_given m c = subst (λ g. IsReadTrigger (lexemes c.args.source) c.args.i (triggered g.terms g.bars) (c.terms.j + 1 + 1)) (sym (c.new-tree.ensures ∙ ap (λ ts. made (trees (map tree_of ts)) c.from_vec-then-is_given.result) c.from_vec.ensures ∙ ap (made (trees (map tree_of c.terms.terms.items))) c.from_vec-then-is_given.ensures))
     (trigger_done (lexemes c.args.source) c.args.i (map tree_of c.terms.terms.items) c.terms.bars.items c.terms.j c.terms.invariant (neither (same t.Comma (terminal_at (lexemes c.args.source) c.terms.j)) (same t.Bar (terminal_at (lexemes c.args.source) c.terms.j)) (sym c.at_separator.ensures ∙ c.terms-test.false)).0 (neither (same t.Comma (terminal_at (lexemes c.args.source) c.terms.j)) (same t.Bar (terminal_at (lexemes c.args.source) c.terms.j)) (sym c.at_separator.ensures ∙ c.terms-test.false)).1)
   where
-    made : Trees → List Bool → Terms
+    made : SyntaxTrees → List Bool → Terms
     made ts bs = record { terms = ts; bars = bs }
 
 pub trigger-returns : goal.trigger-returns
@@ -177,7 +177,7 @@ pub primary-arguments-requires : goal.primary-arguments-requires
 primary-arguments-requires m c = let a : c.args.i + 1 ≤ c.in_ok-name.j = c.in_ok-name.ensures.read.ahead in let w = upto c.args.source c.in_ok-name.j c.in_ok-name.ensures.read.within in (search rules, can_next (next (H.head_start c.requires (sym c.at_name.ensures ∙ c.if-at_name.true)) c.in_ok-name.ensures.read))
 
 pub primary-returns-then-at_name : goal.primary-returns-then-at_name
-primary-returns-then-at_name m c = subst (λ e. IsClosed (lexemes c.args.source) s.Prim c.args.i e e c.in_ok-parts.end) (sym (c.new.ensures ∙ tree_of_node-Apply _ _ _ ∙ ap (λ a. apply a (called_of c.in_ok-name.name) (trees (map tree_of c.in_ok-parts.parts))) c.place.ensures ∙ ap (λ n. apply (at c.args.i) (called n c.in_ok-name.name.scopes (own_of c.in_ok-name.name.style c.in_ok-name.name.text)) (trees (map tree_of c.in_ok-parts.parts))) c.in_ok-name.ensures.place))
+primary-returns-then-at_name m c = subst (λ e. IsReadClosed (lexemes c.args.source) s.Prim c.args.i e e c.in_ok-parts.end) (sym (c.new.ensures ∙ tree_of_node-Apply _ _ _ ∙ ap (λ a. apply a (called_of c.in_ok-name.name) (trees (map tree_of c.in_ok-parts.parts))) c.place.ensures ∙ ap (λ n. apply (at c.args.i) (called n c.in_ok-name.name.scopes (own_of c.in_ok-name.name.style c.in_ok-name.name.text)) (trees (map tree_of c.in_ok-parts.parts))) c.in_ok-name.ensures.place))
     (application_read c.requires (scoped_of c.in_ok-name.name) c.in_ok-name.j (trees (map tree_of c.in_ok-parts.parts)) c.in_ok-parts.end (sym c.at_name.ensures ∙ c.if-at_name.true) c.in_ok-name.ensures.read c.in_ok-parts.ensures)
 
 pub primary-plain_atom-requires : goal.primary-plain_atom-requires
@@ -187,7 +187,7 @@ pub primary-returns : goal.primary-returns
 primary-returns m c = record { first = c.in_ok-tree.ensures.first; closed = c.in_ok-tree.ensures.closed; is = done (next (plain_start c.requires (sym c.at_name.ensures ∙ c.if-at_name.false)) c.in_ok-tree.ensures.is) (tree_of c.in_ok-tree.tree) refl (λ k us. refl) }
 
 pub atom-returns-then-at_name : goal.atom-returns-then-at_name
-atom-returns-then-at_name m c = subst (λ e. IsClosed (lexemes c.args.source) s.Atom c.args.i e e c.in_ok-name.end) (sym (c.new-then-at_name.ensures ∙ tree_of_node-Apply _ _ _ ∙ ap (λ a. apply a (called_of c.in_ok-name.name) (trees (map tree_of c.new.result))) c.place.ensures ∙ ap (λ n. apply (at c.args.i) (called n c.in_ok-name.name.scopes (own_of c.in_ok-name.name.style c.in_ok-name.name.text)) (trees (map tree_of c.new.result))) c.in_ok-name.ensures.place ∙ ap (λ ts. apply (at c.args.i) (called c.args.i c.in_ok-name.name.scopes (own_of c.in_ok-name.name.style c.in_ok-name.name.text)) (trees (map tree_of ts))) c.new.ensures))
+atom-returns-then-at_name m c = subst (λ e. IsReadClosed (lexemes c.args.source) s.Atom c.args.i e e c.in_ok-name.end) (sym (c.new-then-at_name.ensures ∙ tree_of_node-Apply _ _ _ ∙ ap (λ a. apply a (called_of c.in_ok-name.name) (trees (map tree_of c.new.result))) c.place.ensures ∙ ap (λ n. apply (at c.args.i) (called n c.in_ok-name.name.scopes (own_of c.in_ok-name.name.style c.in_ok-name.name.text)) (trees (map tree_of c.new.result))) c.in_ok-name.ensures.place ∙ ap (λ ts. apply (at c.args.i) (called c.args.i c.in_ok-name.name.scopes (own_of c.in_ok-name.name.style c.in_ok-name.name.text)) (trees (map tree_of ts))) c.new.ensures))
     (name_read c.requires (scoped_of c.in_ok-name.name) c.in_ok-name.end (sym c.at_name.ensures ∙ c.if-at_name.true) c.in_ok-name.ensures.read)
 
 pub atom-plain_atom-requires : goal.atom-plain_atom-requires
@@ -213,19 +213,19 @@ pub plain_atom-integer_tree-requires : goal.plain_atom-integer_tree-requires
 plain_atom-integer_tree-requires m c = record { within = inside c.args.source c.args.i (stands_due c.requires.can refl); integer = (sym c.is_at-is_integer.ensures ∙ c.if-is_integer.true) }
 
 pub plain_atom-returns-then-is_integer : goal.plain_atom-returns-then-is_integer
-plain_atom-returns-then-is_integer m c = subst (λ e. IsClosed (lexemes c.args.source) s.Atom c.args.i e e (c.args.i + 1)) (sym c.integer_tree.ensures) (record { first = refl; closed = refl; is = done (expand (start c.requires.can) t.Int (sym c.is_at-is_integer.ensures ∙ c.if-is_integer.true) refl refl) (literal (at c.args.i) (token_at (lexemes c.args.source) c.args.i).text) refl (λ k us. refl) })
+plain_atom-returns-then-is_integer m c = subst (λ e. IsReadClosed (lexemes c.args.source) s.Atom c.args.i e e (c.args.i + 1)) (sym c.integer_tree.ensures) (record { first = refl; closed = refl; is = done (expand (start c.requires.can) t.Int (sym c.is_at-is_integer.ensures ∙ c.if-is_integer.true) refl refl) (literal (at c.args.i) (token_at (lexemes c.args.source) c.args.i).text) refl (λ k us. refl) })
 
 pub plain_atom-returns-then-is_true : goal.plain_atom-returns-then-is_true
-plain_atom-returns-then-is_true m c = subst (λ e. IsClosed (lexemes c.args.source) s.Atom c.args.i e e (c.args.i + 1)) (sym (c.new.ensures ∙ tree_of_node-True _ ∙ ap truth c.place-here.ensures)) (record { first = refl; closed = refl; is = done (expand (start c.requires.can) t.TrueWord (sym c.is_at-is_true.ensures ∙ c.if-is_true.true) refl refl) (truth (at c.args.i)) refl (λ k us. refl) })
+plain_atom-returns-then-is_true m c = subst (λ e. IsReadClosed (lexemes c.args.source) s.Atom c.args.i e e (c.args.i + 1)) (sym (c.new.ensures ∙ tree_of_node-True _ ∙ ap truth c.place-here.ensures)) (record { first = refl; closed = refl; is = done (expand (start c.requires.can) t.TrueWord (sym c.is_at-is_true.ensures ∙ c.if-is_true.true) refl refl) (truth (at c.args.i)) refl (λ k us. refl) })
 
 pub plain_atom-returns-then-is_false : goal.plain_atom-returns-then-is_false
-plain_atom-returns-then-is_false m c = subst (λ e. IsClosed (lexemes c.args.source) s.Atom c.args.i e e (c.args.i + 1)) (sym (c.new-then-is_false.ensures ∙ tree_of_node-False _ ∙ ap falsity c.place-here.ensures)) (record { first = refl; closed = refl; is = done (expand (start c.requires.can) t.FalseWord (sym c.is_at-is_false.ensures ∙ c.if-is_false.true) refl refl) (falsity (at c.args.i)) refl (λ k us. refl) })
+plain_atom-returns-then-is_false m c = subst (λ e. IsReadClosed (lexemes c.args.source) s.Atom c.args.i e e (c.args.i + 1)) (sym (c.new-then-is_false.ensures ∙ tree_of_node-False _ ∙ ap falsity c.place-here.ensures)) (record { first = refl; closed = refl; is = done (expand (start c.requires.can) t.FalseWord (sym c.is_at-is_false.ensures ∙ c.if-is_false.true) refl refl) (falsity (at c.args.i)) refl (λ k us. refl) })
 
 pub plain_atom-cases-requires : goal.plain_atom-cases-requires
 plain_atom-cases-requires m c = (search rules, (c.requires.can, (sym c.is_at-is_match.ensures ∙ c.if-is_match.true)))
 
 pub plain_atom-returns-then-is_empty : goal.plain_atom-returns-then-is_empty
-plain_atom-returns-then-is_empty m c = subst (λ e. IsClosed (lexemes c.args.source) s.Atom c.args.i e e (c.args.i + 1 + 1)) (sym (c.new-then-is_empty-2.ensures ∙ tree_of_node-Group _ _ ∙ ap (λ a. group a (trees (map tree_of c.new-then-is_empty.result))) c.place-here.ensures ∙ ap (λ ts. group (at c.args.i) (trees (map tree_of ts))) c.new-then-is_empty.ensures)) (record { first = refl; closed = refl; is = done (expand (paren_start c.requires.can (only_paren c.requires.can c.requires.unnamed (sym c.is_at-is_integer.ensures ∙ c.if-is_integer.false) (sym c.is_at-is_true.ensures ∙ c.if-is_true.false) (sym c.is_at-is_false.ensures ∙ c.if-is_false.false) (sym c.is_at-is_match.ensures ∙ c.if-is_match.false))) t.RParen (sym c.is_at-is_empty.ensures ∙ c.if-is_empty.true) refl refl) (group (at c.args.i) none) refl (λ k us. refl) })
+plain_atom-returns-then-is_empty m c = subst (λ e. IsReadClosed (lexemes c.args.source) s.Atom c.args.i e e (c.args.i + 1 + 1)) (sym (c.new-then-is_empty-2.ensures ∙ tree_of_node-Group _ _ ∙ ap (λ a. group a (trees (map tree_of c.new-then-is_empty.result))) c.place-here.ensures ∙ ap (λ ts. group (at c.args.i) (trees (map tree_of ts))) c.new-then-is_empty.ensures)) (record { first = refl; closed = refl; is = done (expand (paren_start c.requires.can (only_paren c.requires.can c.requires.unnamed (sym c.is_at-is_integer.ensures ∙ c.if-is_integer.false) (sym c.is_at-is_true.ensures ∙ c.if-is_true.false) (sym c.is_at-is_false.ensures ∙ c.if-is_false.false) (sym c.is_at-is_match.ensures ∙ c.if-is_match.false))) t.RParen (sym c.is_at-is_empty.ensures ∙ c.if-is_empty.true) refl refl) (group (at c.args.i) none) refl (λ k us. refl) })
 
 pub plain_atom-any_expression-requires : goal.plain_atom-any_expression-requires
 plain_atom-any_expression-requires m c = let h = inside c.args.source c.args.i (stands_due c.requires.can refl) in (search rules, can_next (inner_start c.requires.can (only_paren c.requires.can c.requires.unnamed (sym c.is_at-is_integer.ensures ∙ c.if-is_integer.false) (sym c.is_at-is_true.ensures ∙ c.if-is_true.false) (sym c.is_at-is_false.ensures ∙ c.if-is_false.false) (sym c.is_at-is_match.ensures ∙ c.if-is_match.false)) c.requires.unnamed (sym c.is_at-is_empty.ensures ∙ c.if-is_empty.false)))
@@ -234,7 +234,7 @@ pub plain_atom-type_tree-requires : goal.plain_atom-type_tree-requires
 plain_atom-type_tree-requires m c = can_next (expand (next_expr (inner_start c.requires.can (only_paren c.requires.can c.requires.unnamed (sym c.is_at-is_integer.ensures ∙ c.if-is_integer.false) (sym c.is_at-is_true.ensures ∙ c.if-is_true.false) (sym c.is_at-is_false.ensures ∙ c.if-is_false.false) (sym c.is_at-is_match.ensures ∙ c.if-is_match.false)) c.requires.unnamed (sym c.is_at-is_empty.ensures ∙ c.if-is_empty.false)) refl c.in_ok-first.ensures) t.Colon (sym c.is_at-is_cast.ensures ∙ c.if-is_cast.true) refl refl)
 
 pub plain_atom-returns-then-is_cast : goal.plain_atom-returns-then-is_cast
-plain_atom-returns-then-is_cast m c = subst (λ e. IsClosed (lexemes c.args.source) s.Atom c.args.i e e (c.in_ok-ty.end + 1)) (sym (c.new-tree.ensures ∙ tree_of_node-Cast _ _ _ ∙ ap (λ a. cast a (tree_of c.in_ok-held.held) (form_of c.in_ok-ty.ty)) c.place-here.ensures ∙ ap (λ e. cast (at c.args.i) (tree_of e) (form_of c.in_ok-ty.ty)) c.in_ok-held.ensures))
+plain_atom-returns-then-is_cast m c = subst (λ e. IsReadClosed (lexemes c.args.source) s.Atom c.args.i e e (c.in_ok-ty.end + 1)) (sym (c.new-tree.ensures ∙ tree_of_node-Cast _ _ _ ∙ ap (λ a. cast a (tree_of c.in_ok-held.held) (form_of c.in_ok-ty.ty)) c.place-here.ensures ∙ ap (λ e. cast (at c.args.i) (tree_of e) (form_of c.in_ok-ty.ty)) c.in_ok-held.ensures))
     (record { first = refl; closed = refl; is = done (take (next (expand (next_expr (inner_start c.requires.can (only_paren c.requires.can c.requires.unnamed (sym c.is_at-is_integer.ensures ∙ c.if-is_integer.false) (sym c.is_at-is_true.ensures ∙ c.if-is_true.false) (sym c.is_at-is_false.ensures ∙ c.if-is_false.false) (sym c.is_at-is_match.ensures ∙ c.if-is_match.false)) c.requires.unnamed (sym c.is_at-is_empty.ensures ∙ c.if-is_empty.false)) refl c.in_ok-first.ensures) t.Colon (sym c.is_at-is_cast.ensures ∙ c.if-is_cast.true) refl refl) c.in_ok-ty.ensures)) (cast (at c.args.i) (tree_of c.in_ok-first.first) (form_of c.in_ok-ty.ty)) refl (λ k us. refl) })
 
 pub plain_atom-members-init : goal.plain_atom-members-init
@@ -249,7 +249,7 @@ plain_atom-members-preserved m c = subst (λ ts. Members (lexemes c.args.source)
     (again (next_expr (expand c.members.invariant t.Comma (sym c.is_at.ensures ∙ c.members-test.true) refl refl) refl c.in_ok-next.ensures) 1 refl (λ k us. ap (λ w. (group (at c.args.i) w, us.1)) (many_more more (map tree_of c.members.parts.items) (tree_of c.in_ok-next.next) us.0)))
 
 pub plain_atom-returns : goal.plain_atom-returns
-plain_atom-returns m c = subst (λ e. IsClosed (lexemes c.args.source) s.Atom c.args.i e e (c.members.j + 1)) (sym (c.new-2.ensures ∙ tree_of_node-Group _ _ ∙ ap (λ a. group a (trees (map tree_of c.from_vec.result))) c.place-here.ensures ∙ ap (λ ts. group (at c.args.i) (trees (map tree_of ts))) c.from_vec.ensures)) (record { first = refl; closed = refl; is = done (expand c.members.invariant t.RParen (only c.members.invariant t.RParen (t.Comma ∷ []) refl refl ((sym c.is_at.ensures ∙ c.members-test.false), tt)) refl refl) (group (at c.args.i) (trees (map tree_of c.members.parts.items))) refl (λ k us. ap (λ w. (group (at c.args.i) w, us)) (trees_many (map tree_of c.members.parts.items))) })
+plain_atom-returns m c = subst (λ e. IsReadClosed (lexemes c.args.source) s.Atom c.args.i e e (c.members.j + 1)) (sym (c.new-2.ensures ∙ tree_of_node-Group _ _ ∙ ap (λ a. group a (trees (map tree_of c.from_vec.result))) c.place-here.ensures ∙ ap (λ ts. group (at c.args.i) (trees (map tree_of ts))) c.from_vec.ensures)) (record { first = refl; closed = refl; is = done (expand c.members.invariant t.RParen (only c.members.invariant t.RParen (t.Comma ∷ []) refl refl ((sym c.is_at.ensures ∙ c.members-test.false), tt)) refl refl) (group (at c.args.i) (trees (map tree_of c.members.parts.items))) refl (λ k us. ap (λ w. (group (at c.args.i) w, us)) (trees_many (map tree_of c.members.parts.items))) })
 
 pub cases-any_expression-requires : goal.cases-any_expression-requires
 cases-any_expression-requires m c = let h = inside c.args.source c.args.i (stands_due c.requires.can refl) in (search rules, can_next (M.match_start c.requires.can c.requires.word))
@@ -283,7 +283,7 @@ cases-arms-preserved m c = subst (λ bs. M.Branched (lexemes c.args.source) c.ar
     (M.branched_more (lexemes c.args.source) c.args.i (map tree_of c.scrutinees.scrutinees.items) c.past_bar-bar.result.0 (map arm_of c.arms.arms.items) (c.arms.n + 1) (arm_of c.in_ok-more.more) c.in_ok-more.end (M.branch_start (lexemes c.args.source) c.args.i (map tree_of c.scrutinees.scrutinees.items) c.past_bar-bar.result.0 (map arm_of c.arms.arms.items) c.arms.n c.arms.invariant (sym c.is_at-in-arms.ensures ∙ c.arms-test.true)) c.in_ok-more.ensures)
 
 pub cases-returns : goal.cases-returns
-cases-returns m c = subst (λ e. IsClosed (lexemes c.args.source) s.Atom c.args.i e e (c.arms.n + 1)) (sym (c.new-tree.ensures ∙ tree_of_node-Match _ _ _ _ ∙ ap (λ a. cases a (trees (map tree_of c.from_vec.result)) c.past_bar-bar.result.0 (branches (map arm_of c.from_vec-2.result))) c.place-here.ensures ∙ ap (λ ts. cases (at c.args.i) (trees (map tree_of ts)) c.past_bar-bar.result.0 (branches (map arm_of c.from_vec-2.result))) c.from_vec.ensures ∙ ap (λ bs. cases (at c.args.i) (trees (map tree_of c.scrutinees.scrutinees.items)) c.past_bar-bar.result.0 (branches (map arm_of bs))) c.from_vec-2.ensures)) (record { first = refl; closed = refl; is = done (expand c.arms.invariant t.EndWord (only c.arms.invariant t.EndWord (t.Bar ∷ []) refl refl ((sym c.is_at-in-arms.ensures ∙ c.arms-test.false), tt)) refl refl) (cases (at c.args.i) (trees (map tree_of c.scrutinees.scrutinees.items)) c.past_bar-bar.result.0 (branches (map arm_of c.arms.arms.items))) refl (λ k us. ap (λ v. (cases (at c.args.i) (trees (map tree_of c.scrutinees.scrutinees.items)) c.past_bar-bar.result.0 v, us)) (M.branches_many (map arm_of c.arms.arms.items))) })
+cases-returns m c = subst (λ e. IsReadClosed (lexemes c.args.source) s.Atom c.args.i e e (c.arms.n + 1)) (sym (c.new-tree.ensures ∙ tree_of_node-Match _ _ _ _ ∙ ap (λ a. cases a (trees (map tree_of c.from_vec.result)) c.past_bar-bar.result.0 (branches (map arm_of c.from_vec-2.result))) c.place-here.ensures ∙ ap (λ ts. cases (at c.args.i) (trees (map tree_of ts)) c.past_bar-bar.result.0 (branches (map arm_of c.from_vec-2.result))) c.from_vec.ensures ∙ ap (λ bs. cases (at c.args.i) (trees (map tree_of c.scrutinees.scrutinees.items)) c.past_bar-bar.result.0 (branches (map arm_of bs))) c.from_vec-2.ensures)) (record { first = refl; closed = refl; is = done (expand c.arms.invariant t.EndWord (only c.arms.invariant t.EndWord (t.Bar ∷ []) refl refl ((sym c.is_at-in-arms.ensures ∙ c.arms-test.false), tt)) refl refl) (cases (at c.args.i) (trees (map tree_of c.scrutinees.scrutinees.items)) c.past_bar-bar.result.0 (branches (map arm_of c.arms.arms.items))) refl (λ k us. ap (λ v. (cases (at c.args.i) (trees (map tree_of c.scrutinees.scrutinees.items)) c.past_bar-bar.result.0 v, us)) (M.branches_many (map arm_of c.arms.arms.items))) })
 
 pub branch-alternative-requires : goal.branch-alternative-requires
 branch-alternative-requires m c = c.requires
@@ -309,7 +309,7 @@ pub branch-returns : goal.branch-returns
 branch-returns m c = subst (λ b. IsBranch (lexemes c.args.source) c.args.i b c.in_ok-body.last) (sym (c.new-tree.ensures ∙ ap (λ ts. armed (alternatives ts) (tree_of c.in_ok-body.body)) c.from_vec.ensures))
     (record { first = c.alternatives.invariant.first; patterns = c.alternatives.invariant.patterns; others = c.alternatives.invariant.others; spelled = c.alternatives.invariant.spelled; is = again (next_expr (M.body_start (lexemes c.args.source) c.args.i (map patterns c.alternatives.alternatives.items) c.alternatives.j c.alternatives.invariant (sym c.is_at.ensures ∙ c.alternatives-test.false)) refl c.in_ok-body.ensures) 1 refl (λ k us. refl) })
   where
-    armed : List Forms → Tree → Arm
+    armed : List SyntaxForms → SyntaxTree → Arm
     armed ps e = record { alternatives = ps; body = e }
 
 -- the numbers of tokens, which are at most that of all tokens

@@ -1,4 +1,4 @@
-use Rattle.parse_terms.proofs.Cited.{ℕ, ◌≡◌, ◌≤◌, ◌∷◌, [], pos, to_z, of_z, sym, subst, ap, ◌∙◌, arith, value_of, greatest, literal_value, value_there}
+use Rattle.parse_terms.proofs.Cited.{ℕ, ◌≡◌, ◌≤◌, ◌∷◌, [], pos, to_z, of_z, sym, subst, ap, ◌∙◌, arith, integer_word, greatest, literal_value, value_there}
 use Rattle.std.specs.Int.{w128}
 use Rattle.std.proofs.lemmas.Int.{to_z-of_z, fits_signed_from_abs}
 use Rattle.parse_terms.proofs.tokens.integer.Goals as goal
@@ -14,4 +14,4 @@ kept n h = to_z-of_z w128 (pos n) (fits_signed_from_abs w128 (pos n) (omega arit
 
 pub returns : goal.returns
 returns c = let h = c.in-Some.ensures in let e = (value_there c.args.source c.args.i c.token-found.result c.requires.within c.token-found.ensures c.requires.integer).1 in
-    ap (λ z. value_of (to_z w128 (of_z w128 z))) h.1 ∙ ap value_of (kept (literal_value c.bytes.result.now) h.0) ∙ ap (λ b. literal_value b ∷ []) c.bytes.ensures ∙ e
+    ap (λ z. integer_word (to_z w128 (of_z w128 z))) h.1 ∙ ap integer_word (kept (literal_value c.bytes.result.now) h.0) ∙ ap (λ b. literal_value b ∷ []) c.bytes.ensures ∙ e

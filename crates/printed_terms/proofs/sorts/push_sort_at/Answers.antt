@@ -1,5 +1,5 @@
 use Rattle.std.proofs.Common.{◌<◌, ℕ, List, length, slice_get, OnOk, sym, ap, subst, ◌∙◌, arith}
-use Rattle.name_tables.specs.Seen.{occurrence_at, seen_at}
+use Rattle.name_tables.specs.Seen.{occurrence_at, seen_occurrences}
 use Rattle.printed_terms.specs.Ranks.{sort_of_thing}
 use Rattle.printed_terms.specs.Meaning.{printing, Appends}
 use Rattle.printed_terms.proofs.Pieces.{get_mapped}
@@ -11,4 +11,4 @@ returns c =
     let keys = c.as_slice-keys.result.now in
     let h : c.args.place < length keys = omega (arith, c.if-place-keys.false) in
     subst (λ z. OnOk c.push_sort_of_thing.result (Appends c.args.out.now.items z c.push_sort_of_thing.new.out.items))
-    (ap (sort_of_thing (printing c.args.c.now) c.args.place) (sym (get_mapped (occurrence_at s) keys c.args.place _ h) ∙ ap (λ (ks : List (ℕ × ℕ)). slice_get (seen_at s ks) c.args.place) c.as_slice-keys.ensures)) c.push_sort_of_thing.ensures
+    (ap (sort_of_thing (printing c.args.c.now) c.args.place) (sym (get_mapped (occurrence_at s) keys c.args.place _ h) ∙ ap (λ (ks : List (ℕ × ℕ)). slice_get (seen_occurrences s ks) c.args.place) c.as_slice-keys.ensures)) c.push_sort_of_thing.ensures

@@ -1,6 +1,6 @@
 use Rattle.std.proofs.Common.{rules, List, ℕ, subst}
 use Rattle.tasks.specs.Meaning.{task_at}
-use Rattle.fault_order.specs.Answers.{IsStageAnswer, bytes_of}
+use Rattle.fault_order.specs.Answers.{IsStageAnswer, result_bytes}
 use Rattle.fault_order.proofs.Meeting.{answers_then, answers_stop}
 use Rattle.fault_order.proofs.Stages.{answers_stage}
 use Rattle.program.specs.Order.{Checks}
@@ -9,7 +9,7 @@ use Rattle.program.proofs.check.check_file.Goals as goal
 pub returns : goal.returns
 returns g c =
     let t = task_at c.args.store c.args.task.now in
-    let r = bytes_of c.check_steps.result in
+    let r = result_bytes c.check_steps.result in
     let checked = subst (λ (bytes : List ℕ). IsStageAnswer (Checks t bytes) r) c.deref.ensures.value c.check_steps.ensures in
     answers_then (λ bytes files limit. Checks t bytes) c.in_ok-bytes.ensures (answers_stage (Checks t c.in_ok-bytes.bytes.items) 2 _ r checked)
 

@@ -8,7 +8,7 @@ use Rattle.rule_rows.specs.declared.rule.Step.{Step}
 use Rattle.rule_rows.specs.Meaning.{steps_at, StepsHeld}
 use Rattle.kernel.specs.Right.{Closes}
 use Rattle.evidence.specs.Stages.{parts_at}
-use Rattle.stages.specs.Lifted.{HasSequents}
+use Rattle.stages.specs.Lifted.{HandedHasSequents}
 use Rattle.written_files.specs.Named.{NamesAreWords}
 use Rattle.program.proofs.Lifting.{lifted_of}
 use Rattle.program.proofs.derivation.lifted_text.Goals as goal
@@ -37,5 +37,5 @@ returns c =
     let t = task_at c.args.store c.args.setting.now.task in
     let handed = parts_at c.args.store c.args.handed.items in
     let same = task_later c.args.store s1 c.in_ok-derived.ensures.grows c.args.setting.now.task c.requires.held in
-    let sequents = subst (λ (z : List Step). HasSequents (steps_at s1 z) handed) (sym c.as_slice.ensures) c.in_ok-derived.ensures.sequents in
+    let sequents = subst (λ (z : List Step). HandedHasSequents (steps_at s1 z) handed) (sym c.as_slice.ensures) c.in_ok-derived.ensures.sequents in
     IfOk-weaker c.write_derivation.result _ _ (λ v s. lifted_of t (task_at s1 c.args.setting.now.task) (steps_at s1 c.as_slice.result.now) handed v.items same sequents s) c.write_derivation.ensures.reads_back

@@ -1,7 +1,7 @@
 use Rattle.tasks.specs.Meaning.{task_at}
-use Rattle.fault_order.specs.Answers.{bytes_of}
+use Rattle.fault_order.specs.Answers.{result_bytes}
 use Rattle.source_goals.specs.Order.{setting_of}
-use Rattle.program.specs.Order.{Named}
+use Rattle.program.specs.Order.{ProblemTables}
 use Rattle.fault_order.proofs.Meeting.{answers_then, ends}
 use Rattle.fault_order.proofs.Stages.{answers_stage}
 use Rattle.program.proofs.print.names_goal.Goals as goal
@@ -10,4 +10,4 @@ pub returns : goal.returns
 returns g c =
     let f = c.in_ok-found.found in
     let x = setting_of f.driver (task_at c.valid_setting.new.store f.task) in
-    ends (answers_then (λ g files limit. Named g) c.in_ok-found.ensures.answers (answers_stage (Named x) f.driver.next_file _ (bytes_of c.name_task.result) c.name_task.ensures))
+    ends (answers_then (λ g files limit. ProblemTables g) c.in_ok-found.ensures.answers (answers_stage (ProblemTables x) f.driver.next_file _ (result_bytes c.name_task.result) c.name_task.ensures))

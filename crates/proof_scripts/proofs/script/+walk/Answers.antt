@@ -3,7 +3,7 @@ use Rattle.tasks.specs.Meaning.{trees_at}
 use Rattle.evidence.specs.Drafts.{AreFormulas}
 use Rattle.evidence.specs.Laws.{Extends_trans}
 use Rattle.evidence.proofs.Formulas.{same, formulas_later, back}
-use Rattle.proof_scripts.specs.Scripts.{LineHeld, word_rule, ids_of, added_ids, added_at, lines_at, under, CanFollow}
+use Rattle.proof_scripts.specs.Scripts.{LineHeld, word_rule, ids_of, added_ids, added_at, lines_at, sequents_under, CanFollow}
 use Rattle.proof_scripts.specs.Derived.{Consumes, RefuteUnder}
 use Rattle.proof_scripts.specs.declared.line.Formulas.{Formulas}
 use Rattle.proof_scripts.proofs.Following.{follows_later, word_later, word_same, added_later, added_same, lines_later, lines_same, rule_here, first_held, rest_held, consumes_both, second_follows, behind_held, wider_formulas, wider_follows, rule_added}
@@ -56,7 +56,7 @@ premise-walk-requires t c =
     let fs = c.in-Some.formulas in
     let e : w ≡ c.args.tail.now ++ ids_of fs = c.deref.ensures.value ∙ c.in_ok-all-in-Some.ensures in
     let a : All (AreFormulas d) (added_ids (Some fs)) = subst (λ (z : Option Formulas). All (AreFormulas d) (added_ids z)) c.in-Some.is c.requires.added in
-    let f : CanFollow d F (lines_at s c.args.lines.now) (under T (added_at s (Some fs))) = subst (λ (z : Option Formulas). CanFollow d F (lines_at s c.args.lines.now) (under T (added_at s z))) c.in-Some.is c.requires.follow in
+    let f : CanFollow d F (lines_at s c.args.lines.now) (sequents_under T (added_at s (Some fs))) = subst (λ (z : Option Formulas). CanFollow d F (lines_at s c.args.lines.now) (sequents_under T (added_at s z))) c.in-Some.is c.requires.follow in
     (omega arith, (c.requires.front, (wider_formulas d [] c.args.tail.now w (ids_of fs) e c.requires.tail (a 0 [] (omega arith)), (c.requires.lines, wider_follows d [] c.args.tail.now w (ids_of fs) e F (lines_at s c.args.lines.now) f))))
 
 pub by_word-premise-requires-2 : goal.by_word-premise-requires-2
@@ -68,7 +68,7 @@ by_word-premise-requires-2 t c =
     let F = trees_at s c.args.front.now in
     let T = trees_at s c.args.tail.now in
     let b = c.split_at.result.1.now in
-    let g = follows_later d d1 x F (lines_at s b) _ (second_follows d F s c.args.lines.now b (under T (added_at s c.args.first)) (under T (added_at s c.args.second)) c.in_ok-one.one c.split_at.ensures.back c.in_ok-one.ensures.used c.requires.follow) in
+    let g = follows_later d d1 x F (lines_at s b) _ (second_follows d F s c.args.lines.now b (sequents_under T (added_at s c.args.first)) (sequents_under T (added_at s c.args.second)) c.in_ok-one.one c.split_at.ensures.back c.in_ok-one.ensures.used c.requires.follow) in
     let held = behind_held d c.args.lines.now b c.in_ok-one.one c.split_at.ensures.back c.requires.lines in (
       omega (arith, c.split_at.ensures.back_len),
       (
@@ -121,7 +121,7 @@ by_word-by_rule-requires-clause-added t c =
     let s = d.trees in
     let F = c.args.front.now in
     let T = c.args.tail.now in
-    let v : RefuteUnder d2 c.premise.new.premises.items c.premise-2.new.premises.items (trees_at s F) (under (trees_at s T) (added_at s c.args.second)) =
+    let v : RefuteUnder d2 c.premise.new.premises.items c.premise-2.new.premises.items (trees_at s F) (sequents_under (trees_at s T) (added_at s c.args.second)) =
     rw (same d d1 x1 F c.requires.front, same d d1 x1 T c.requires.tail, added_same d d1 x1 c.args.second c.requires.second) at c.in_ok-two.ensures.refute in
     let r = rule_added d d1 d2 x2 (trees_at s F) (trees_at s T) (word_rule s c.args.word) (added_at s c.args.first) (added_at s c.args.second) c.new-premises.result.items c.premise.new.premises.items c.premise-2.new.premises.items x.task c.new-premises.ensures.items c.requires.rule c.in_ok-one.ensures.refute v in
     rw (same d d2 x F c.requires.front, same d d2 x T c.requires.tail, c.rule_of.ensures.tree d2.trees, word_same d d2 x c.args.word c.requires.word, c.deref.ensures.value) r
@@ -149,12 +149,12 @@ by_word-returns-clause-used t c =
     let T = c.args.tail.now in
     let b = c.split_at.result.1.now in
     let held = behind_held d c.args.lines.now b c.in_ok-one.one c.split_at.ensures.back c.requires.lines in
-    let v : Consumes (trees_at s F) (lines_at s b) (under (trees_at s T) (added_at s c.args.second)) c.in_ok-two.two =
+    let v : Consumes (trees_at s F) (lines_at s b) (sequents_under (trees_at s T) (added_at s c.args.second)) c.in_ok-two.two =
     rw (same d d1 x1 F c.requires.front, same d d1 x1 T c.requires.tail, added_same d d1 x1 c.args.second c.requires.second, lines_same d d1 x1 b held) at c.in_ok-two.ensures.used in
     record {
       behind = c.in_ok-one.one + c.in_ok-two.two;
       is = omega arith;
-      consumes = consumes_both (trees_at s F) s c.args.lines.now b (under (trees_at s T) (added_at s c.args.first)) (under (trees_at s T) (added_at s c.args.second)) c.in_ok-one.one c.in_ok-two.two c.split_at.ensures.back c.in_ok-one.ensures.used v;
+      consumes = consumes_both (trees_at s F) s c.args.lines.now b (sequents_under (trees_at s T) (added_at s c.args.first)) (sequents_under (trees_at s T) (added_at s c.args.second)) c.in_ok-one.one c.in_ok-two.two c.split_at.ensures.back c.in_ok-one.ensures.used v;
     }
 
 pub by_holding-by_word-requires : goal.by_holding-by_word-requires

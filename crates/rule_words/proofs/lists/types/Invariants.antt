@@ -2,10 +2,10 @@ use Rattle.std.proofs.Common.{◌≡◌, All, drop}
 use Rattle.trees.specs.Node.{Holds}
 use Rattle.tasks.specs.Meaning.{trees_at}
 use Rattle.rule_words.specs.Arguments.{arguments_at, type_in}
-use Rattle.rule_words.specs.Forms.{each, each_from}
+use Rattle.rule_words.specs.Forms.{each_argument, each_from}
 use Rattle.rule_words.proofs.lists.types.Given as goal
 
 abbrev pub invariant-loop-argument : goal.invariant-loop-argument
 invariant-loop-argument l =
-    (each_from type_in (trees_at l.store l.all.items) (arguments_at l.store (drop l.argument-index l.args)) ≡ each type_in (arguments_at l.store l.args))
+    (each_from type_in (trees_at l.store l.all.items) (arguments_at l.store (drop l.argument-index l.args)) ≡ each_argument type_in (arguments_at l.store l.args))
     × All (Holds l.store) l.all.items

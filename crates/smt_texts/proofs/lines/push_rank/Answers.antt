@@ -2,7 +2,7 @@ use Rattle.std.proofs.Common.{ℕ, List, ◌++◌, codes, ap, ◌∙◌}
 use Rattle.printed_terms.specs.Texts.{joined}
 use Rattle.printed_terms.specs.Ranks.{sorts_at}
 use Rattle.printed_terms.specs.Meaning.{printing}
-use Rattle.smt_texts.specs.Text.{result_text}
+use Rattle.smt_texts.specs.Text.{smt_result_text}
 use Rattle.smt_texts.proofs.Joins.{then_piece}
 use Rattle.smt_texts.proofs.lines.push_rank.Goals as goal
 
@@ -13,7 +13,7 @@ returns c =
     let start = codes "(declare-fun " in
     let name = c.args.name.now in
     let sorts = joined (codes " ") (sorts_at p c.args.rank.now.args) in
-    let result = result_text p c.args.rank.now.result in
+    let result = smt_result_text p c.args.rank.now.result in
     then_piece o _ _ (start ++ name ++ codes " (" ++ sorts ++ codes ") " ++ result) (codes ")\n")
     (then_piece o _ _ (start ++ name ++ codes " (" ++ sorts ++ codes ") ") result
     (then_piece o _ _ (start ++ name ++ codes " (" ++ sorts) (codes ") ")

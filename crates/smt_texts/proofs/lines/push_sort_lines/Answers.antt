@@ -1,8 +1,8 @@
 use Rattle.printed_terms.specs.Meaning.{printing}
-use Rattle.smt_texts.specs.Text.{sort_line}
+use Rattle.smt_texts.specs.Text.{smt_sort_line}
 use Rattle.smt_texts.proofs.Joins.{lines_step}
 use Rattle.smt_texts.proofs.lines.push_sort_lines.Goals as goal
 
 pub loop-place-preserved : goal.loop-place-preserved
 loop-place-preserved c =
-    lines_step (sort_line (printing c.args.c.now)) c.args.places.now c.loop-place.place-index _ c.loop-place.out.items _ _ c.loop-place-test.true c.in_ok-push_sort_line.ensures c.loop-place.invariant
+    lines_step (smt_sort_line (printing c.args.c.now)) c.args.places.now c.loop-place.place-index _ c.loop-place.out.items _ _ c.loop-place-test.true c.in_ok-push_sort_line.ensures c.loop-place.invariant

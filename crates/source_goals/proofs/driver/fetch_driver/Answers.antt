@@ -2,7 +2,7 @@ use Rattle.std.proofs.Common.{Ok, Err, Result, sym, subst}
 use Rattle.driver_parts.specs.declared.driver.Driver.{Driver}
 use Rattle.fault_order.specs.Answers.{Answers}
 use Rattle.source_goals.specs.Order.{DriverOf}
-use Rattle.source_goals.specs.Values.{next_of}
+use Rattle.source_goals.specs.Values.{next_after_driver}
 use Rattle.fault_order.specs.declared.faults.RunFault.{RunFault}
 use Rattle.source_goals.proofs.Driving.{driver_answers}
 use Rattle.source_goals.proofs.driver.fetch_driver.Goals as goal
@@ -15,4 +15,4 @@ pub returns-in-Err : goal.returns-in-Err
 returns-in-Err g c = λ known k.
     let due = driver_answers known c.args.sig.now.symbols c.args.theories.now c.args.drv.now k (g.L.Library.state c.args.lib.now) (g.L.Library.state c.read_driver.new.lib) (Err c.in-Err.fault) c.in-Err.ensures in
     let r : RunFault → Result Driver RunFault = λ e. Err e in
-    subst (λ (e : RunFault). Answers (DriverOf known c.args.drv.now) 1 next_of (g.L.Library.state c.args.lib.now) (g.L.Library.state c.read_driver.new.lib) (r e)) (sym c.driver_fault.ensures) due
+    subst (λ (e : RunFault). Answers (DriverOf known c.args.drv.now) 1 next_after_driver (g.L.Library.state c.args.lib.now) (g.L.Library.state c.read_driver.new.lib) (r e)) (sym c.driver_fault.ensures) due

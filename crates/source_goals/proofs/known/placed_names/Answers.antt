@@ -1,5 +1,5 @@
 use Rattle.std.proofs.Common.{◌<◌, ◌++◌, ◌∙◌, ℕ, List, length, get_or, slice_get, refl, sym, ap, arith}
-use Rattle.source_goals.specs.Known.{own_at}
+use Rattle.source_goals.specs.Known.{own_names_at}
 use Rattle.source_goals.proofs.KnownNames.{names_more}
 use Rattle.source_goals.proofs.known.placed_names.Goals as goal
 
@@ -10,4 +10,4 @@ loop-at-preserved c =
     let path = c.args.path.now in
     let i = c.loop-at.at in
     let within : i < length ks = omega (arith, c.loop-at-test.true) in
-    c.in_ok-push_placed.ensures ∙ ap (λ (z : List (List ℕ)). z ++ own_at path (slice_get ds (get_or ks i 0))) c.loop-at.invariant ∙ sym (names_more path ds ks i (get_or ks i 0) within refl)
+    c.in_ok-push_placed.ensures ∙ ap (λ (z : List (List ℕ)). z ++ own_names_at path (slice_get ds (get_or ks i 0))) c.loop-at.invariant ∙ sym (names_more path ds ks i (get_or ks i 0) within refl)

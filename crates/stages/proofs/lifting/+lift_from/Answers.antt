@@ -12,7 +12,7 @@ use Rattle.stages.specs.declared.transformation.Transformation.{Transformation}
 use Rattle.stages.specs.Transformations.{equation_of}
 use Rattle.stages.specs.Carried.{all_tasks}
 use Rattle.stages.specs.Steps.{AreTasks}
-use Rattle.stages.specs.Lifted.{HaveSequents}
+use Rattle.stages.specs.Lifted.{ListsHaveSequents}
 use Rattle.stages.specs.Levels.{AreRefutedFrom}
 use Rattle.stages.proofs.CarriedTasks.{tasks_kept}
 use Rattle.stages.proofs.Sequents.{have_own, have_through}
@@ -92,11 +92,11 @@ returns-in_ok-lifted-in-Ok t c =
     let same : tasks_at above.store c.args.tasks.now ≡ tasks_at s c.args.tasks.now = tasks_later s above.store g c.args.tasks.now c.requires.tasks.held in
     let lists : c.deref-in-Ok.result.now ≡ above.lists.items = c.deref-in-Ok.ensures.value in
     let handed : parts_at s1 c.args.parts.items ≡ parts_at s c.args.parts.items = parts_later s s1 c.carry_once.ensures.grows c.args.parts.items c.requires.parts_held in
-    let between = subst (λ (z : List (List StepTree)). HaveSequents (parts_at above.store above.lists.items) z) handed c.in_ok-lifted-in-Ok.ensures.sequents in
+    let between = subst (λ (z : List (List StepTree)). ListsHaveSequents (parts_at above.store above.lists.items) z) handed c.in_ok-lifted-in-Ok.ensures.sequents in
     IfOk-weaker c.lift_level.result _ _ (λ p d. record {
       grows = Grows_trans s above.store p.store g d.grows;
       held = d.held;
       close = subst (λ (z : List TaskTree). PartsClose z (parts_at p.store p.lists.items)) same d.close;
       sequents = have_through (parts_at p.store p.lists.items) (parts_at above.store above.lists.items) (parts_at s c.args.parts.items)
-          (subst (λ (z : List (List Step)). HaveSequents (parts_at p.store p.lists.items) (parts_at above.store z)) lists d.sequents) between;
+          (subst (λ (z : List (List Step)). ListsHaveSequents (parts_at p.store p.lists.items) (parts_at above.store z)) lists d.sequents) between;
     }) c.lift_level.ensures

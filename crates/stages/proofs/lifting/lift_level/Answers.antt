@@ -8,7 +8,7 @@ use Rattle.rule_rows.specs.declared.rule.Step.{Step}
 use Rattle.rule_rows.specs.Meaning.{steps_at, StepsHeld}
 use Rattle.evidence.specs.Stages.{PartsHeld, parts_at}
 use Rattle.stages.specs.Transformations.{equation_of}
-use Rattle.stages.specs.Levels.{IsFrontClosed, IsNext, IsSoFar}
+use Rattle.stages.specs.Levels.{IsFrontClosed, IsNextLevel, IsSoFar}
 use Rattle.stages.proofs.CarriedTasks.{task_there_held, task_there_valid}
 use Rattle.stages.proofs.Copies.{parts_held_later}
 use Rattle.stages.proofs.Levels.{far_all}
@@ -51,7 +51,7 @@ loop-i-preserved c =
     let t = c.index-tasks-i.result in
     let d = c.in_ok-derived.derived in
     let r : Derived × ℕ = (d, c.in_ok-derived.count) in
-    let n = subst (λ (z : List (List Step)). IsNext e s (task_at s t) (parts_at s z) r) (take_rest parts used) c.in_ok-derived.ensures in
+    let n = subst (λ (z : List (List Step)). IsNextLevel e s (task_at s t) (parts_at s z) r) (take_rest parts used) c.in_ok-derived.ensures in
     let items : c.push.new.self.items ≡ lists ++ d.steps ∷ [] = c.in_ok-push.ensures.items in
     record {
       grows = Grows_trans s0 s d.store g n.derived.grows;
@@ -67,7 +67,7 @@ overflow_add-used c =
     let s = c.loop-i.store in
     let parts = c.args.parts.now in
     let r : Derived × ℕ = (c.in_ok-derived.derived, c.in_ok-derived.count) in
-    let n = subst (λ (z : List (List Step)). IsNext e s (task_at s c.index-tasks-i.result) (parts_at s z) r) (take_rest parts c.loop-i.used) c.in_ok-derived.ensures in
+    let n = subst (λ (z : List (List Step)). IsNextLevel e s (task_at s c.index-tasks-i.result) (parts_at s z) r) (take_rest parts c.loop-i.used) c.in_ok-derived.ensures in
     let w = (far_next e s0 s c.loop-i.invariant.grows c.args.tasks.now parts c.loop-i.i c.loop-i.used c.loop-i.lists.items c.index-tasks-i.result r
     c.requires.tasks.held c.requires.parts_held c.loop-i.invariant.held c.index-tasks-i.is c.loop-i-test.true c.loop-i.invariant.so_far n).within in
     let fits : c.loop-i.used + c.in_ok-derived.count ≤ length parts = omega (arith, w, length-map parts (steps_at s0)) in

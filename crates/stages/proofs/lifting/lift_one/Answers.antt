@@ -5,7 +5,7 @@ use Rattle.tasks.specs.Meaning.{task_at, tasks_at}
 use Rattle.tasks.specs.Valid.{IsValid}
 use Rattle.evidence.specs.Stages.{Gives, parts_at}
 use Rattle.stages.specs.Transformations.{equation_of}
-use Rattle.stages.specs.Lifted.{HasSequents}
+use Rattle.stages.specs.Lifted.{HandedHasSequents}
 use Rattle.stages.proofs.Copies.{copy_moved, begun_own, begun_task, begun_trees, derived_of}
 use Rattle.stages.proofs.lifting.lift_one.Goals as goal
 
@@ -43,4 +43,4 @@ returns c =
     let seq : c.from_vec.result ≡ c.into_parts-store.result.1.items = c.from_vec.ensures in
     derived_of c.args.store (task_at c.args.store c.args.task.now) (parts_at c.args.store c.args.parts.now) c.new-draft.result d c.into_parts-store.result.0 c.into_parts-store.result.1.items c.from_vec.result s t
     c.lift_draft.ensures.grows into seq c.into_parts-store.ensures.held c.into_parts-store.ensures.steps c.into_parts-store.ensures.right c.in_ok-lift_draft.ensures.starts
-    (subst (λ (z : List Tree). HasSequents d.steps (parts_at z c.args.parts.now)) s c.in_ok-lift_draft.ensures.sequents)
+    (subst (λ (z : List Tree). HandedHasSequents d.steps (parts_at z c.args.parts.now)) s c.in_ok-lift_draft.ensures.sequents)

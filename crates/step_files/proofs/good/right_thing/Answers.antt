@@ -6,8 +6,8 @@ use Rattle.tasks.proofs.Growth.{task_held_later, task_later}
 use Rattle.rule_rows.specs.declared.rule.Step.{Step}
 use Rattle.rule_rows.specs.Meaning.{steps_at}
 use Rattle.step_lines.specs.Made.{IsMadeThing, thing_at}
-use Rattle.step_files.specs.Marks.{AreTyped}
-use Rattle.step_files.specs.Lines.{IsGood, thing_of}
+use Rattle.step_files.specs.Marks.{AreMarkedTyped}
+use Rattle.step_files.specs.Lines.{IsGood, line_thing}
 use Rattle.step_files.specs.Reading.{reading_at}
 use Rattle.step_files.proofs.Progress.{no_true}
 use Rattle.step_files.proofs.Marking.{typed_later}
@@ -19,7 +19,7 @@ returns-in_default-clause-none c =
     let s = c.args.store.now in
     let t = task_at s c.args.task.now in
     let r = reading_at s c.args.read.now in
-    let m = subst (IsMadeThing c.line_thing.new.store (thing_of t c.args.table.now r.earlier c.args.line.now)) c.in_default.is c.in_ok-thing.ensures.made in
+    let m = subst (IsMadeThing c.line_thing.new.store (line_thing t c.args.table.now r.earlier c.args.line.now)) c.in_default.is c.in_ok-thing.ensures.made in
     line_refused t c.args.table.now c.args.tallest r c.args.line.now m
 
 pub is_good-requires-clause-task : goal.is_good-requires-clause-task
@@ -40,14 +40,14 @@ returns-then-branch-clause-some c =
     let t = task_at s c.args.task.now in
     let r = reading_at s c.args.read.now in
     let x = thing_at s' c.in-Some.thing in
-    let m = subst (IsMadeThing s' (thing_of t c.args.table.now r.earlier c.args.line.now)) c.in-Some.is c.in_ok-thing.ensures.made in
+    let m = subst (IsMadeThing s' (line_thing t c.args.table.now r.earlier c.args.line.now)) c.in-Some.is c.in_ok-thing.ensures.made in
     let k = subst (λ (l : List Step). IsGood (task_at s' c.args.task.now) c.args.tallest (steps_at s' l) x) c.deref.ensures.value (c.in_ok-is_good.ensures.good.0 c.if-branch.true) in
     good_made s s' g c.args.task.now c.requires.task c.args.read.now c.requires.read c.args.table.now c.args.tallest c.args.line.now x m.0 k
 
 pub returns-then-branch-clause-marks : goal.returns-then-branch-clause-marks
 returns-then-branch-clause-marks c =
     let s' = c.line_thing.new.store in
-    subst (λ (u : TaskTree). AreTyped u s' c.is_good.new.marks.items) (task_later c.args.store.now s' c.in_ok-thing.ensures.grows c.args.task.now c.requires.task) c.in_ok-is_good.ensures.marks
+    subst (λ (u : TaskTree). AreMarkedTyped u s' c.is_good.new.marks.items) (task_later c.args.store.now s' c.in_ok-thing.ensures.grows c.args.task.now c.requires.task) c.in_ok-is_good.ensures.marks
 
 pub returns-else-branch-clause-none : goal.returns-else-branch-clause-none
 returns-else-branch-clause-none c =
@@ -57,11 +57,11 @@ returns-else-branch-clause-none c =
     let t = task_at s c.args.task.now in
     let r = reading_at s c.args.read.now in
     let x = thing_at s' c.in-Some.thing in
-    let m = subst (IsMadeThing s' (thing_of t c.args.table.now r.earlier c.args.line.now)) c.in-Some.is c.in_ok-thing.ensures.made in
+    let m = subst (IsMadeThing s' (line_thing t c.args.table.now r.earlier c.args.line.now)) c.in-Some.is c.in_ok-thing.ensures.made in
     wrong_made s s' g c.args.task.now c.requires.task c.args.read.now c.requires.read c.args.table.now c.args.tallest c.args.line.now x m.0
     (λ k. no_true (subst (λ (b : Bool). IsTrue b) c.if-branch.false (c.in_ok-is_good.ensures.good.1 (subst (λ (l : List Step). IsGood (task_at s' c.args.task.now) c.args.tallest (steps_at s' l) x) (sym c.deref.ensures.value) k))))
 
 pub returns-else-branch-clause-marks : goal.returns-else-branch-clause-marks
 returns-else-branch-clause-marks c =
     let s' = c.line_thing.new.store in
-    subst (λ (u : TaskTree). AreTyped u s' c.is_good.new.marks.items) (task_later c.args.store.now s' c.in_ok-thing.ensures.grows c.args.task.now c.requires.task) c.in_ok-is_good.ensures.marks
+    subst (λ (u : TaskTree). AreMarkedTyped u s' c.is_good.new.marks.items) (task_later c.args.store.now s' c.in_ok-thing.ensures.grows c.args.task.now c.requires.task) c.in_ok-is_good.ensures.marks

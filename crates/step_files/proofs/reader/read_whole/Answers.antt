@@ -9,9 +9,9 @@ use Rattle.rule_rows.specs.declared.rule.Step.{Step}
 use Rattle.rule_rows.specs.Meaning.{steps_at}
 use Rattle.tree_lines.specs.Words.{texts}
 use Rattle.step_lines.specs.Made.{ThingHeld, thing_at}
-use Rattle.step_files.specs.Marks.{AreTyped}
+use Rattle.step_files.specs.Marks.{AreMarkedTyped}
 use Rattle.step_files.specs.Lines.{nothing_read, AreRead, IsWrongLine, LineIsRight, StepsOf}
-use Rattle.step_files.specs.Reading.{IsFault, reading_at, MakesGood}
+use Rattle.step_files.specs.Reading.{IsReadFault, reading_at, MakesGood}
 use Rattle.step_files.proofs.Progress.{stands_wrong, stands_read, stands_unfinished, texts_length, no_true}
 use Rattle.step_files.proofs.Growth.{next_held, next_stands, moved}
 use Rattle.step_files.proofs.reader.read_whole.Goals as goal
@@ -22,7 +22,7 @@ right_thing-requires-clause-task c = task_held_later c.args.store.now c.loop-i.s
 pub right_thing-requires-clause-marks : goal.right_thing-requires-clause-marks
 right_thing-requires-clause-marks c =
     let s = c.loop-i.store in
-    subst (λ (u : TaskTree). AreTyped u s c.loop-i.marks.items) (sym (task_later c.args.store.now s c.loop-i.invariant.grows c.args.task.now c.requires)) c.loop-i.invariant.marks
+    subst (λ (u : TaskTree). AreMarkedTyped u s c.loop-i.marks.items) (sym (task_later c.args.store.now s c.loop-i.invariant.grows c.args.task.now c.requires)) c.loop-i.invariant.marks
 
 pub ends_in_start-requires-clause-task_held : goal.ends_in_start-requires-clause-task_held
 ends_in_start-requires-clause-task_held c = task_held_later c.args.store.now c.loop-i.store c.loop-i.invariant.grows c.args.task.now c.requires
@@ -41,7 +41,7 @@ returns-in_default-clause-fault c =
     let not : TaskTree → List ℕ → Type 0 = λ u line. LineIsRight u names c.args.tallest r line → ⊥ in
     let n0 : not (task_at s c.args.task.now) c.line_at-line.result.now = subst (λ o. IfNone o (not (task_at s c.args.task.now) c.line_at-line.result.now)) c.in_default.is c.in_ok-made.ensures.none in
     let n : not t (get_or ls i []) = moved not _ _ _ _ e (c.line_at-line.ensures ∙ ap (λ a. get_or (texts a) i []) c.deref.ensures.value) n0 in
-    subst (IsFault t names c.args.tallest c.args.bytes.now) (sym c.wrong_after.ensures)
+    subst (IsReadFault t names c.args.tallest c.args.bytes.now) (sym c.wrong_after.ensures)
     (i, refl, subst (λ l. IsWrongLine t names c.args.tallest nothing_read l i) c.in_ok-all.ensures (stands_wrong t names c.args.tallest ls r i c.loop-i.invariant.stands within n))
 
 pub loop-i-preserved : goal.loop-i-preserved
@@ -65,7 +65,7 @@ loop-i-preserved c =
     record {
       grows = Grows_trans c.args.store.now s s' c.loop-i.invariant.grows g;
       read = next_held s s' g t names c.args.tallest ls i c.loop-i.read c.keep.new.read c.loop-i.invariant.read c.loop-i.invariant.stands within x c.in_ok-keep.ensures held m;
-      marks = subst (λ (u : TaskTree). AreTyped u s' c.right_thing.new.marks.items) e c.in_ok-made.ensures.marks;
+      marks = subst (λ (u : TaskTree). AreMarkedTyped u s' c.right_thing.new.marks.items) e c.in_ok-made.ensures.marks;
       stands = next_stands s s' g t names c.args.tallest ls i c.loop-i.read c.keep.new.read c.loop-i.invariant.read c.loop-i.invariant.stands within x c.in_ok-keep.ensures held m;
     }
 
@@ -109,4 +109,4 @@ returns-clause-fault c =
     let n : last_starts t r.steps → ⊥ = λ starts. no_true (c.if-ends_in_start.ensures.1 (subst (λ l. last_starts (task_at s c.args.task.now) (steps_at s l)) (sym c.deref-2.ensures.value)
     (subst (λ x. last_starts x r.steps) (sym e) starts))) in
     let w = subst (λ l. IsWrongLine t names c.args.tallest nothing_read l i) c.in_ok-all.ensures (stands_unfinished t names c.args.tallest ls r i c.loop-i.invariant.stands past n) in
-    subst (IsFault t names c.args.tallest c.args.bytes.now) (sym c.wrong_after-else-ends_in_start.ensures) (c.len.result, refl, subst (IsWrongLine t names c.args.tallest nothing_read _) same w)
+    subst (IsReadFault t names c.args.tallest c.args.bytes.now) (sym c.wrong_after-else-ends_in_start.ensures) (c.len.result, refl, subst (IsWrongLine t names c.args.tallest nothing_read _) same w)

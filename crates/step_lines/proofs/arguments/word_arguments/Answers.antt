@@ -6,13 +6,13 @@ use Rattle.std.specs.Borrow.{Bor}
 use Rattle.tasks.specs.Meaning.{task_at}
 use Rattle.rule_words.specs.declared.argument.ArgumentKind.TheVariants as kind
 use Rattle.rule_words.specs.Arguments.{ArgumentTree, argument_at, arguments_at, ArgumentHeld}
-use Rattle.tree_lines.specs.Words.{Word, texts}
+use Rattle.tree_lines.specs.Words.{LineWord, texts}
 use Rattle.tree_lines.specs.Made.{earlier_at}
 use Rattle.step_lines.specs.Steps.{arguments}
 use Rattle.step_lines.proofs.Taking.{arguments_more, arguments_too_many}
 use Rattle.step_lines.proofs.arguments.word_arguments.Goals as goal
 
-abbrev no_word : Bor Word
+abbrev no_word : Bor LineWord
 no_word = record { ref_ptr = (0, 0); now = [] }
 
 pub loop-word-preserved : goal.loop-word-preserved

@@ -4,8 +4,8 @@ use Rattle.tasks.specs.Meaning.{task_at}
 use Rattle.rule_words.specs.declared.argument.Argument.{Argument}
 use Rattle.rule_words.specs.declared.argument.ArgumentKind.{ArgumentKind}
 use Rattle.rule_words.specs.Arguments.{arguments_at, ArgumentHeld}
-use Rattle.rule_words.specs.Forms.{kinds}
-use Rattle.rule_words.specs.Rules.{row}
+use Rattle.rule_words.specs.Forms.{argument_kinds}
+use Rattle.rule_words.specs.Rules.{rule_row}
 use Rattle.tree_lines.specs.Words.{texts}
 use Rattle.tree_lines.specs.Made.{earlier_at}
 use Rattle.tree_lines.proofs.Making.{known_later}
@@ -28,7 +28,7 @@ returns-in_default-clause-trees c =
     let r = earlier_at s x in
     let words = c.args.words.now in
     let g = c.in_ok-own.ensures.grows in
-    let ks = kinds (row c.args.name).form in
+    let ks = argument_kinds (rule_row c.args.name).form in
     let base : c.min-count.result ≡ min (length c.kinds_of-kinds.result.first.now) (length words) = search rules in
     let cut = base ∙ ap (λ (l : List ArgumentKind). min (length l) (length words)) c.kinds_of-kinds.ensures.first in
     let front = texts (take c.min-count.result words) in
@@ -44,7 +44,7 @@ returns-in-Some-2-clause-trees c =
     let r = earlier_at s x in
     let words = c.args.words.now in
     let g = c.in_ok-own.ensures.grows in
-    let ks = kinds (row c.args.name).form in
+    let ks = argument_kinds (rule_row c.args.name).form in
     let base : c.min-count.result ≡ min (length c.kinds_of-kinds.result.first.now) (length words) = search rules in
     let cut = base ∙ ap (λ (l : List ArgumentKind). min (length l) (length words)) c.kinds_of-kinds.ensures.first in
     let front = texts (take c.min-count.result words) in
@@ -74,7 +74,7 @@ returns-clause-trees c =
     let r = earlier_at s x in
     let words = c.args.words.now in
     let g = c.in_ok-own.ensures.grows in
-    let ks = kinds (row c.args.name).form in
+    let ks = argument_kinds (rule_row c.args.name).form in
     let base : c.min-count.result ≡ min (length c.kinds_of-kinds.result.first.now) (length words) = search rules in
     let cut = base ∙ ap (λ (l : List ArgumentKind). min (length l) (length words)) c.kinds_of-kinds.ensures.first in
     let front = texts (take c.min-count.result words) in

@@ -5,7 +5,7 @@ use Rattle.tasks.specs.Meaning.{task_at, trees_at}
 use Rattle.tasks.proofs.Growth.{trees_later}
 use Rattle.rule_rows.specs.Trees.{StepTree}
 use Rattle.rule_rows.specs.Meaning.{rule_at}
-use Rattle.tree_lines.specs.Words.{Word, texts, number, each}
+use Rattle.tree_lines.specs.Words.{LineWord, texts, number, each}
 use Rattle.tree_lines.specs.Made.{earlier_at}
 use Rattle.tree_lines.proofs.Making.{slice_left}
 use Rattle.step_lines.specs.Steps.{step_by}
@@ -21,7 +21,7 @@ returns-in-Some-3-clause-step c =
     let at = c.in-Some.at in
     let ids = c.args.sequent.items in
     let rule = rw c.in-Some-2.is at c.in_ok-rule.ensures.rule in
-    let premises = (rw c.in-Some-3.is at c.in_ok-premises.ensures) ∙ ap (λ (l : List (Bor Word)). each number (texts l)) (slice_left (at + 1) words) in
+    let premises = (rw c.in-Some-3.is at c.in_ok-premises.ensures) ∙ ap (λ (l : List (Bor LineWord)). each number (texts l)) (slice_left (at + 1) words) in
     let mk : List Tree → List ℕ → Option StepTree = λ q p. Some (step_by q (rule_at s' c.in-Some-2.rule) p) in
     ap (λ (q : List Tree). mk q c.from_vec-in-Some-3.result) (ap (trees_at s') c.from_vec.ensures ∙ trees_later s s' c.in_ok-rule.ensures.grows ids c.requires.sequent)
     ∙ ap (mk (trees_at s ids)) c.from_vec-in-Some-3.ensures

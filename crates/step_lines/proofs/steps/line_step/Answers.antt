@@ -6,7 +6,7 @@ use Rattle.trees.specs.Node.{Holds}
 use Rattle.tasks.specs.Meaning.{task_at, trees_at}
 use Rattle.rule_rows.specs.Trees.{StepTree}
 use Rattle.rule_rows.specs.Meaning.{step_at}
-use Rattle.tree_lines.specs.Words.{Word, texts}
+use Rattle.tree_lines.specs.Words.{LineWord, texts}
 use Rattle.tree_lines.specs.Made.{earlier_at}
 use Rattle.tree_lines.proofs.Making.{slice_left, each_trees, each_held}
 use Rattle.step_lines.specs.Steps.{step_ended}
@@ -30,7 +30,7 @@ returns-in-Some-2-clause-step c =
     let q = trees_at s c.in-Some-2.sequent.items in
     let ids = rw c.in-Some-2.is at c.in_ok-sequent.ensures in
     let trees = ap (option_map (trees_at s)) ids ∙ sym (each_trees s x.expressions.now (texts (take at words))) in
-    let e = ap (λ (l : List (Bor Word)). step_ended t x.table.now r q (texts l)) (slice_left (at + 1) words)
+    let e = ap (λ (l : List (Bor LineWord)). step_ended t x.table.now r q (texts l)) (slice_left (at + 1) words)
     ∙ sequent_made t x.table.now r (texts words) (texts (take at words)) (texts (drop (at + 1) words)) c.in-Some.ensures.1 c.in-Some.ensures.2 q trees in
     subst (λ (m : Option StepTree). IfOk c.end_step.result (λ o. option_map (step_at c.end_step.new.store) o ≡ m)) e c.end_step.ensures.step
 

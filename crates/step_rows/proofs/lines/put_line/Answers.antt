@@ -2,7 +2,7 @@ use Rattle.std.proofs.Common.{subst}
 use Rattle.std.specs.Prelude.{IfSome}
 use Rattle.tasks.proofs.Growth.{task_held_later}
 use Rattle.step_lines.specs.Made.{ThingHeld}
-use Rattle.step_rows.specs.Read.{ReadHeld}
+use Rattle.step_rows.specs.Read.{RowReadHeld}
 use Rattle.step_rows.proofs.Growth.{read_later, kept_held, on_ok}
 use Rattle.step_rows.proofs.lines.put_line.Goals as goal
 
@@ -15,9 +15,9 @@ returns-in_ok-keep-in-Some-clause-read c =
     let r = c.args.read.now in
     let before = read_later c.args.store.now s' c.in_ok-thing.ensures.grows r c.requires.read in
     let held = subst (λ o. IfSome o (ThingHeld s')) c.in-Some.is c.in_ok-thing.ensures.held in
-    on_ok c.push_str.result (ReadHeld s' c.keep.new.read) (kept_held s' r c.keep.new.read before c.in-Some.thing c.in_ok-keep-in-Some.ensures held)
+    on_ok c.push_str.result (RowReadHeld s' c.keep.new.read) (kept_held s' r c.keep.new.read before c.in-Some.thing c.in_ok-keep-in-Some.ensures held)
 
 pub returns-in-None-clause-read : goal.returns-in-None-clause-read
 returns-in-None-clause-read c =
     let s' = c.made_by.new.store in
-    on_ok c.push_str-in-None.result (ReadHeld s' c.args.read.now) (read_later c.args.store.now s' c.in_ok-thing.ensures.grows c.args.read.now c.requires.read)
+    on_ok c.push_str-in-None.result (RowReadHeld s' c.args.read.now) (read_later c.args.store.now s' c.in_ok-thing.ensures.grows c.args.read.now c.requires.read)

@@ -2,7 +2,7 @@ use Rattle.std.proofs.Common.{◌≡◌, Some, None, refl, sym, ap, ◌∙◌}
 use Rattle.std.specs.Option.{option_map}
 use Rattle.trees.specs.Node.{tree_at}
 use Rattle.rule_rows.specs.Meaning.{task_of}
-use Rattle.rule_rows.specs.Patterns.{projections}
+use Rattle.rule_rows.specs.Patterns.{constructor_projections}
 use Rattle.term_rows.specs.Asked.{list_at}
 use Rattle.term_rows.specs.Asked as asked
 use Rattle.term_rows.proofs.TestLemmas.{if_some, un_some, inner, is_here, from_here}
@@ -44,9 +44,9 @@ returns-in-None-after_equation-clause-can t c behind h =
     let q = c.in-PatCon in
     let a = asked.asked_at g s c.first_asked-asked-in-Some-made.result in
     let made = ap (option_map (tree_at s)) c.in-Some-made.is in
-    let rest = inner g q.constructor (tree_at s q.types) (tree_at s q.parts) (tree_at s q.field-3) (tree_at s c.args.pattern) a (list_at g s c.args.list) (projections g q.constructor)
+    let rest = inner g q.constructor (tree_at s q.types) (tree_at s q.parts) (tree_at s q.field-3) (tree_at s c.args.pattern) a (list_at g s c.args.list) (constructor_projections g q.constructor)
     q.ensures.tree c.first_asked-asked-in-Some-made.ensures.tree refl behind in
-    let there = from_here g q.constructor (tree_at s q.types) (tree_at s q.parts) (tree_at s q.field-3) (tree_at s c.args.pattern) a (list_at g s c.args.list) (projections g q.constructor)
+    let there = from_here g q.constructor (tree_at s q.types) (tree_at s q.parts) (tree_at s q.field-3) (tree_at s c.args.pattern) a (list_at g s c.args.list) (constructor_projections g q.constructor)
     q.ensures.tree c.first_asked-asked-in-Some-made.ensures.tree refl _ behind h in
     let found : None ≡ Some rest = c.in-None-after_equation.ensures.can rest (sym made ∙ there) in
     absurd (cc found)

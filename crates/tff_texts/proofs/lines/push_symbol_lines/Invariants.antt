@@ -2,9 +2,9 @@ use Rattle.std.proofs.Common.{◌≡◌, ◌++◌, drop}
 use Rattle.std.specs.List.{flat_map}
 use Rattle.tasks.specs.Meaning.{symbols_at}
 use Rattle.printed_terms.specs.Meaning.{printing}
-use Rattle.tff_texts.specs.Text.{symbol_line}
+use Rattle.tff_texts.specs.Text.{tff_symbol_line}
 use Rattle.tff_texts.proofs.lines.push_symbol_lines.Given as goal
 
 abbrev pub invariant-loop-place : goal.invariant-loop-place
 invariant-loop-place l =
-    l.out.items ++ flat_map (symbol_line (printing l.c) (symbols_at l.c.store.now l.symbols)) (drop l.place-index l.places) ≡ l.initial.out.items ++ flat_map (symbol_line (printing l.c) (symbols_at l.c.store.now l.symbols)) l.places
+    l.out.items ++ flat_map (tff_symbol_line (printing l.c) (symbols_at l.c.store.now l.symbols)) (drop l.place-index l.places) ≡ l.initial.out.items ++ flat_map (tff_symbol_line (printing l.c) (symbols_at l.c.store.now l.symbols)) l.places

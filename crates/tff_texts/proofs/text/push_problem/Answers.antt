@@ -6,7 +6,7 @@ use Rattle.tasks.specs.declared.signature.Signature.{Signature}
 use Rattle.tasks.specs.Meaning.{trees_at, symbols_at}
 use Rattle.printed_terms.specs.Problems.{line}
 use Rattle.printed_terms.specs.Meaning.{printing}
-use Rattle.tff_texts.specs.Text.{head_line, sort_line, symbol_line, parameter_lines, axiom_lines, goal_line}
+use Rattle.tff_texts.specs.Text.{tff_head_line, tff_sort_line, tff_symbol_line, tff_parameter_lines, axiom_lines, tff_goal_line}
 use Rattle.tff_texts.proofs.Joins.{then_piece}
 use Rattle.tff_texts.proofs.text.push_problem.Goals as goal
 
@@ -19,12 +19,12 @@ returns c =
     let symbols = symbols_at s task.sig.value.symbols in
     let symbols_are = c.as_slice-3.ensures ∙ ap (λ (z : Signature). z.symbols) c.deref.ensures in
     let preludes = flat_map line problem.preludes in
-    let sorts = flat_map (sort_line p) problem.sorts in
-    let lines = flat_map (symbol_line p symbols) problem.symbols in
-    let params = parameter_lines p 0 (trees_at s task.params) in
+    let sorts = flat_map (tff_sort_line p) problem.sorts in
+    let lines = flat_map (tff_symbol_line p symbols) problem.symbols in
+    let params = tff_parameter_lines p 0 (trees_at s task.params) in
     let premises = axiom_lines p 0 (trees_at s problem.facts ++ trees_at s problem.locals) in
-    let told = goal_line p (tree_at s problem.goal) in
-    let head = head_line c.args.part c.args.parts in
+    let told = tff_goal_line p (tree_at s problem.goal) in
+    let head = tff_head_line c.args.part c.args.parts in
     let o = c.args.out.now.items in
     then_piece o _ _ (head ++ preludes ++ sorts ++ lines ++ params ++ premises) told
     (then_piece o _ _ (head ++ preludes ++ sorts ++ lines ++ params) premises
@@ -33,8 +33,8 @@ returns c =
     (then_piece o _ _ (head ++ preludes) sorts
     (then_piece o _ _ head preludes c.in_ok-push_head.ensures
     (c.in_ok-push_preludes.ensures ∙ ap (λ (z : List (List ℕ)). c.push_head.new.out.items ++ flat_map line z) c.as_slice.ensures))
-    (c.in_ok-push_sort_lines.ensures ∙ ap (λ (z : List ℕ). c.push_preludes.new.out.items ++ flat_map (sort_line p) z) c.as_slice-2.ensures))
-    (c.in_ok-push_symbol_lines.ensures ∙ (λ i. c.push_sort_lines.new.out.items ++ flat_map (symbol_line p (symbols_at s (symbols_are i))) (c.as_slice-4.ensures i))))
-    (c.in_ok-push_parameter_lines.ensures ∙ ap (λ (z : List TermId). c.push_symbol_lines.new.out.items ++ parameter_lines p 0 (trees_at s z)) c.as_slice-5.ensures))
+    (c.in_ok-push_sort_lines.ensures ∙ ap (λ (z : List ℕ). c.push_preludes.new.out.items ++ flat_map (tff_sort_line p) z) c.as_slice-2.ensures))
+    (c.in_ok-push_symbol_lines.ensures ∙ (λ i. c.push_sort_lines.new.out.items ++ flat_map (tff_symbol_line p (symbols_at s (symbols_are i))) (c.as_slice-4.ensures i))))
+    (c.in_ok-push_parameter_lines.ensures ∙ ap (λ (z : List TermId). c.push_symbol_lines.new.out.items ++ tff_parameter_lines p 0 (trees_at s z)) c.as_slice-5.ensures))
     c.in_ok-push_premises.ensures)
     c.in_ok-push_goal.ensures

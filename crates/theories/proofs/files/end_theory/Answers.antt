@@ -4,7 +4,7 @@ use Rattle.goal_tasks.specs.Meaning.{goal_at}
 use Rattle.theory_states.specs.declared.states.Known.{Known}
 use Rattle.theory_states.specs.declared.states.Typed.{Typed}
 use Rattle.theory_states.specs.States.{KnownTree, known_as}
-use Rattle.theory_states.specs.Meaning.{known_at, opened_at, KnownHeld}
+use Rattle.theory_states.specs.Meaning.{known_at, opened_at, KnownTheoryHeld}
 use Rattle.theories.proofs.Ending.{ended_right}
 use Rattle.theories.proofs.Passed.{no_ok, no_value}
 use Rattle.theories.proofs.files.end_theory.Goals as goal
@@ -18,7 +18,7 @@ returns-clause-right c =
     let vis : c.in_ok-from_slice.field-0 ≡ o.visible.keys = c.in_ok-from_slice.ensures ∙ c.as_slice.ensures.keys in
     let mk : List ℕ → List Move → KnownTree = λ vs ms. record { path = o.path; visible = vs; axioms = o.axioms; goals = map (goal_at s) o.goals; moves = ms } in
     let q : known_at s k ≡ known_as (opened_at s o) = ap (λ (vs : List ℕ). mk vs c.from_vec.result) vis ∙ ap (mk o.visible.keys) c.from_vec.ensures in
-    let one : KnownHeld s (length t.decls) k = record { visible = subst (All (λ (p : ℕ). p < length t.decls)) (sym vis) c.requires.held.opened.visible; goals = c.requires.held.opened.goals } in
+    let one : KnownTheoryHeld s (length t.decls) k = record { visible = subst (All (λ (p : ℕ). p < length t.decls)) (sym vis) c.requires.held.opened.visible; goals = c.requires.held.opened.goals } in
     ended_right s t (record t { known = c.push.new.self }) o k (ap (λ (ks : List Known). let it : Typed = record t { known = ks } in it) c.in_ok-push.ensures.ok) q one c.requires
 
 pub returns-in_err-from_slice-clause-ok : goal.returns-in_err-from_slice-clause-ok

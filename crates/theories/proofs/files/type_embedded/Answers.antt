@@ -2,7 +2,7 @@ use Rattle.std.proofs.Common.{ℕ, List, map, refl, subst}
 use Rattle.std.proofs.lemmas.Result.{err_from_is_err_and}
 use Rattle.trees.proofs.Nodes.{Grows_trans}
 use Rattle.syntax_why.specs.declared.declarations.TheoryTree.{TheoryTree}
-use Rattle.syntax_why.specs.Declarations.{Theory}
+use Rattle.syntax_why.specs.Declarations.{SyntaxTheory}
 use Rattle.syntax_why.specs.SurfaceDeclarations.{theory_of}
 use Rattle.theory_states.specs.declared.fault.SourceFault.{SourceFault}
 use Rattle.theory_states.specs.States.{StateTree}
@@ -23,7 +23,7 @@ returns-clause-ok c =
     let b = between_at c.loop-theory.store c.loop-theory.typed 0 in
     let R : TheoryTree → StateTree → StateTree → Type 0 = λ t. IsEmbeddedBy AreSoundlyTyped path (theory_of t) in
     let F : TheoryTree → StateTree → SourceFault → Type 0 = λ t. IsNewFault path (theory_of t).name.at (theory_of t).decls in
-    steps_map theory_of (IsEmbeddedBy AreSoundlyTyped path) (λ (t : Theory). IsNewFault path t.name.at t.decls) c.args.theories.now a b (list_ends R F a b c.args.theories.now c.loop-theory.theory-index c.loop-theory-test.false c.loop-theory.invariant.walk)
+    steps_map theory_of (IsEmbeddedBy AreSoundlyTyped path) (λ (t : SyntaxTheory). IsNewFault path t.name.at t.decls) c.args.theories.now a b (list_ends R F a b c.args.theories.now c.loop-theory.theory-index c.loop-theory-test.false c.loop-theory.invariant.walk)
 
 pub returns-in_err-type_new-clause-err : goal.returns-in_err-type_new-clause-err
 returns-in_err-type_new-clause-err c =
@@ -34,7 +34,7 @@ returns-in_err-type_new-clause-err c =
     let xs = c.args.theories.now in
     let R : TheoryTree → StateTree → StateTree → Type 0 = λ t. IsEmbeddedBy AreSoundlyTyped path (theory_of t) in
     let F : TheoryTree → StateTree → SourceFault → Type 0 = λ t. IsNewFault path (theory_of t).name.at (theory_of t).decls in
-    let G : Theory → StateTree → SourceFault → Type 0 = λ t. IsNewFault path t.name.at t.decls in
+    let G : SyntaxTheory → StateTree → SourceFault → Type 0 = λ t. IsNewFault path t.name.at t.decls in
     let x = theory_of c.theory-item.result in
     let k : (f : SourceFault) → IsNewFault path x.name.at x.decls b f → AreEmbeddedFaultyIn path (map theory_of xs) a f =
     λ f h. first_so (IsEmbeddedBy AreSoundlyTyped path) (IsEmbedded path) (embedded_forgotten path) G (map theory_of xs) a f (fault_map theory_of (IsEmbeddedBy AreSoundlyTyped path) G xs a f (list_fails R F a b xs c.loop-theory.theory-index c.theory-item.result c.loop-theory-test.true c.theory-item.is c.loop-theory.invariant.walk f h)) in

@@ -8,7 +8,7 @@ use Rattle.syntax_why.specs.SurfaceDeclarations.{file_of}
 use Rattle.theory_states.specs.declared.fault.SourceFault.{SourceFault}
 use Rattle.theory_states.specs.Meaning.{known_at}
 use Rattle.theories.specs.Ints.{int_entries}
-use Rattle.theories.specs.Files.{AreFaultyIn, theories_of, IsFirstFault}
+use Rattle.theories.specs.Files.{AreFaultyIn, theories_of, IsFirstSourceFault}
 use Rattle.theories.specs.Right.{between_at}
 use Rattle.theories.proofs.Forgetting.{library_forgotten, forgotten}
 use Rattle.theories.proofs.Walking.{fault_so}
@@ -45,7 +45,7 @@ returns-in_err-type_theories-clause-err c =
     let s = c.args.store.now in
     let source = file_of c.args.file.now in
     let before = between_at c.type_library.new.store c.type_library.new.typed 0 in
-    let k : (f : SourceFault) → AreFaultyIn source before f → IsFirstFault s source f = λ f h. inr (record { before = before; library = library_forgotten s before c.in_ok-type_library.ensures.ok; fault = h }) in
+    let k : (f : SourceFault) → AreFaultyIn source before f → IsFirstSourceFault s source f = λ f h. inr (record { before = before; library = library_forgotten s before c.in_ok-type_library.ensures.ok; fault = h }) in
     rw (p.1, p.2) (fault_so k c.in_err-type_theories.field-0.0 (rw c.as_slice.ensures at c.in_err-type_theories.ensures.err))
 
 pub returns-in_err-typed-clause-ok : goal.returns-in_err-typed-clause-ok

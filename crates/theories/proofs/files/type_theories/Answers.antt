@@ -2,7 +2,7 @@ use Rattle.std.proofs.Common.{ℕ, List, map, subst}
 use Rattle.std.proofs.lemmas.Result.{err_from_is_err_and}
 use Rattle.trees.proofs.Nodes.{Grows_trans}
 use Rattle.syntax_why.specs.declared.declarations.TheoryTree.{TheoryTree}
-use Rattle.syntax_why.specs.Declarations.{Theory}
+use Rattle.syntax_why.specs.Declarations.{SyntaxTheory}
 use Rattle.syntax_why.specs.SurfaceDeclarations.{theory_of}
 use Rattle.theory_states.specs.declared.fault.SourceFault.{SourceFault}
 use Rattle.theory_states.specs.States.{StateTree}
@@ -16,10 +16,10 @@ use Rattle.theories.proofs.Lists.{list_next, list_fails, list_ends, steps_map, f
 use Rattle.theories.proofs.Passed.{no_ok}
 use Rattle.theories.proofs.files.type_theories.Goals as goal
 
-abbrev N : Theory → StateTree → StateTree → Type 0
+abbrev N : SyntaxTheory → StateTree → StateTree → Type 0
 N t = IsNewTheoryBy AreSoundlyTyped t.name.text t.decls
 
-abbrev G : Theory → StateTree → SourceFault → Type 0
+abbrev G : SyntaxTheory → StateTree → SourceFault → Type 0
 G t = IsNewFault t.name.text t.name.at t.decls
 
 abbrev R : TheoryTree → StateTree → StateTree → Type 0
@@ -41,7 +41,7 @@ returns-in_err-count-clause-err c =
     let b = between_at c.loop-theory.store c.loop-theory.typed c.loop-theory.count in
     let x = theory_of c.theory-item.result in
     let xs = c.args.theories.now in
-    let Q : Theory → StateTree → StateTree → Type 0 = λ t. IsNewTheory t.name.text t.decls in
+    let Q : SyntaxTheory → StateTree → StateTree → Type 0 = λ t. IsNewTheory t.name.text t.decls in
     let k : (f : SourceFault) → IsNewFault x.name.text x.name.at x.decls b f → AreFaultyIn (map theory_of xs) a f =
     λ f h. first_so N Q (λ t. new_forgotten t.name.text t.decls) G (map theory_of xs) a f (fault_map theory_of N G xs a f (list_fails R F a b xs c.loop-theory.theory-index c.theory-item.result c.loop-theory-test.true c.theory-item.is c.loop-theory.invariant.walk f h)) in
     rw (p.1, p.2) (fault_so k c.in_err-count.field-0.0 (subst (λ (q : List ℕ). OrMemory (IsNewFault q x.name.at x.decls b) c.in_err-count.field-0.0) c.in_ok-path.ensures.cases c.in_err-count.ensures.err))

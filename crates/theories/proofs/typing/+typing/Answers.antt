@@ -11,7 +11,7 @@ use Rattle.theory_states.specs.Meaning.{state_at}
 use Rattle.theory_states.specs.Uses.{IsUnknownTheory}
 use Rattle.theory_declarations.specs.Declared.{IsDeclaredFault}
 use Rattle.clone_theories.specs.Cloned.{IsCloneFault}
-use Rattle.theories.specs.Typing.{IsTwice, IsLeft, AreFaulty, IsFault}
+use Rattle.theories.specs.Typing.{IsTwice, IsLeft, AreFaulty, IsDeclarationFault}
 use Rattle.theories.specs.Sound.{AreSoundlyTyped}
 use Rattle.theories.proofs.Walking.{walk_begins, walk_next, walk_fails, walk_ends, logical_typed, logical_fault, fault_so, answer_so}
 use Rattle.theories.proofs.typing.+typing.Goals as goal
@@ -21,7 +21,7 @@ type_decl-returns-in_err-enter_scope-in-ScopeDecl-clause-err t c =
     let e = decl_is c.args.decl.now (dv.ScopeDecl c.in-ScopeDecl.name c.in-ScopeDecl.within) c.in-ScopeDecl.is ∙ decl_of_node-ScopeDecl c.in-ScopeDecl.name c.in-ScopeDecl.within c.args.decl.now.at in
     let p = err_from_is_err_and c.from_residual-in_err-enter_scope-in-ScopeDecl.result c.from_residual-in_err-enter_scope-in-ScopeDecl.ensures.1 in
     let a = state_at c.args.store.now c.args.typed.now c.args.open.now in
-    let k : (f : SourceFault) → IsTwice c.in-ScopeDecl.name a f → IsFault (scope_decl c.args.decl.now.at c.in-ScopeDecl.name (decls (map decl_of c.in-ScopeDecl.within))) a f = λ f h. inl h in
+    let k : (f : SourceFault) → IsTwice c.in-ScopeDecl.name a f → IsDeclarationFault (scope_decl c.args.decl.now.at c.in-ScopeDecl.name (decls (map decl_of c.in-ScopeDecl.within))) a f = λ f h. inl h in
     rw (p.1, p.2, e) (fault_so k c.in_err-enter_scope-in-ScopeDecl.field-0.0 c.in_err-enter_scope-in-ScopeDecl.ensures.err)
 
 pub type_decl-returns-in_err-type_decls-in-ScopeDecl-clause-err : goal.type_decl-returns-in_err-type_decls-in-ScopeDecl-clause-err
@@ -30,7 +30,7 @@ type_decl-returns-in_err-type_decls-in-ScopeDecl-clause-err t c =
     let p = err_from_is_err_and c.from_residual-in_err-type_decls-in-ScopeDecl.result c.from_residual-in_err-type_decls-in-ScopeDecl.ensures.1 in
     let a = state_at c.args.store.now c.args.typed.now c.args.open.now in
     let b = state_at c.args.store.now c.args.typed.now c.enter_scope.new.open in
-    let k : (f : SourceFault) → AreFaulty (decls (map decl_of c.in-ScopeDecl.within)) b f → IsFault (scope_decl c.args.decl.now.at c.in-ScopeDecl.name (decls (map decl_of c.in-ScopeDecl.within))) a f =
+    let k : (f : SourceFault) → AreFaulty (decls (map decl_of c.in-ScopeDecl.within)) b f → IsDeclarationFault (scope_decl c.args.decl.now.at c.in-ScopeDecl.name (decls (map decl_of c.in-ScopeDecl.within))) a f =
     λ f h. inr (record { between = b; first = c.in_ok-enter_scope-in-ScopeDecl.ensures.ok; fault = h }) in
     rw (p.1, p.2, e) (fault_so k c.in_err-type_decls-in-ScopeDecl.field-0.0 (rw c.as_slice-in-ScopeDecl.ensures at c.in_err-type_decls-in-ScopeDecl.ensures.err))
 
@@ -59,7 +59,7 @@ pub type_decl-returns-in-UseTheory-clause-err : goal.type_decl-returns-in-UseThe
 type_decl-returns-in-UseTheory-clause-err t c =
     let e = decl_is c.args.decl.now (dv.UseTheory c.in-UseTheory.link c.in-UseTheory.path c.in-UseTheory.alias) c.in-UseTheory.is ∙ decl_of_node-UseTheory c.in-UseTheory.link c.in-UseTheory.path c.in-UseTheory.alias c.args.decl.now.at in
     let a = state_at c.args.store.now c.args.typed.now c.args.open.now in
-    rw e (answer_so (IsUnknownTheory c.in-UseTheory.path a.known a.number) (IsFault (use_decl c.args.decl.now.at c.in-UseTheory.link c.in-UseTheory.path c.in-UseTheory.alias) a) (λ f h. h) c.type_use.result c.type_use.ensures.err)
+    rw e (answer_so (IsUnknownTheory c.in-UseTheory.path a.known a.number) (IsDeclarationFault (use_decl c.args.decl.now.at c.in-UseTheory.link c.in-UseTheory.path c.in-UseTheory.alias) a) (λ f h. h) c.type_use.result c.type_use.ensures.err)
 
 pub type_decl-returns-in-CloneTheory-clause-ok : goal.type_decl-returns-in-CloneTheory-clause-ok
 type_decl-returns-in-CloneTheory-clause-ok t c =
@@ -71,14 +71,14 @@ type_decl-returns-in-CloneTheory-clause-err t c =
     let e = decl_is c.args.decl.now (dv.CloneTheory c.in-CloneTheory.link c.in-CloneTheory.path c.in-CloneTheory.alias c.in-CloneTheory.elements) c.in-CloneTheory.is ∙ decl_of_node-CloneTheory c.in-CloneTheory.link c.in-CloneTheory.path c.in-CloneTheory.alias c.in-CloneTheory.elements c.args.decl.now.at in
     let a = state_at c.args.store.now c.args.typed.now c.args.open.now in
     let es = map element_of c.in-CloneTheory.elements in
-    rw e (answer_so (IsCloneFault c.in-CloneTheory.path es a) (IsFault (clone_decl c.args.decl.now.at c.in-CloneTheory.link c.in-CloneTheory.path c.in-CloneTheory.alias es) a) (λ f h. h) c.type_clone.result (rw c.as_slice-elements.ensures at c.type_clone.ensures.err))
+    rw e (answer_so (IsCloneFault c.in-CloneTheory.path es a) (IsDeclarationFault (clone_decl c.args.decl.now.at c.in-CloneTheory.link c.in-CloneTheory.path c.in-CloneTheory.alias es) a) (λ f h. h) c.type_clone.result (rw c.as_slice-elements.ensures at c.type_clone.ensures.err))
 
 pub type_decls-returns-in_err-type_decl-clause-err : goal.type_decls-returns-in_err-type_decl-clause-err
 type_decls-returns-in_err-type_decl-clause-err t c =
     let p = err_from_is_err_and c.from_residual.result c.from_residual.ensures.1 in
     let a = state_at c.args.store.now c.args.typed.now c.args.open.now in
     let b = state_at c.loop-decl.store c.loop-decl.typed c.loop-decl.open in
-    let k : (f : SourceFault) → IsFault (decl_of c.decl-item.result) b f → AreFaulty (decls (map decl_of c.args.within.now)) a f = λ f h. walk_fails a b c.args.within.now c.loop-decl.decl-index c.decl-item.result c.loop-decl-test.true c.decl-item.is c.loop-decl.invariant.walk f h in
+    let k : (f : SourceFault) → IsDeclarationFault (decl_of c.decl-item.result) b f → AreFaulty (decls (map decl_of c.args.within.now)) a f = λ f h. walk_fails a b c.args.within.now c.loop-decl.decl-index c.decl-item.result c.loop-decl-test.true c.decl-item.is c.loop-decl.invariant.walk f h in
     rw (p.1, p.2) (fault_so k c.in_err-type_decl.field-0.0 c.in_err-type_decl.ensures.err)
 
 pub type_decls-loop-decl-preserved : goal.type_decls-loop-decl-preserved
@@ -110,7 +110,7 @@ pub type_decl-returns-then-is_logical-clause-err : goal.type_decl-returns-then-i
 type_decl-returns-then-is_logical-clause-err t c =
     let d = decl_of c.args.decl.now in
     let a = state_at c.args.store.now c.args.typed.now c.args.open.now in
-    answer_so (IsDeclaredFault d a) (IsFault d a) (logical_fault d (c.is_logical.ensures.0 c.if-is_logical.true) a) c.type_logical.result c.type_logical.ensures.err
+    answer_so (IsDeclaredFault d a) (IsDeclarationFault d a) (logical_fault d (c.is_logical.ensures.0 c.if-is_logical.true) a) c.type_logical.result c.type_logical.ensures.err
 
 pub type_decl-returns-then-is_logical-clause-grows : goal.type_decl-returns-then-is_logical-clause-grows
 type_decl-returns-then-is_logical-clause-grows t c = c.type_logical.ensures.grows

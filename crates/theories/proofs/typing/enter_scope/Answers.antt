@@ -3,7 +3,7 @@ use Rattle.tasks.specs.Vocabulary.{of_signature}
 use Rattle.tasks.specs.Meaning.{symbols_at}
 use Rattle.valid_tasks.specs.Scopes.{AreTypedScopes}
 use Rattle.theory_states.specs.declared.states.Opened.{Opened}
-use Rattle.theories.specs.Right.{IsRight}
+use Rattle.theories.specs.Right.{IsStateRight}
 use Rattle.theories.proofs.Passing.{scoped_right, opened_scopes, opens_moves}
 use Rattle.theories.proofs.Passed.{no_ok}
 use Rattle.theories.proofs.typing.enter_scope.Goals as goal
@@ -16,7 +16,7 @@ returns-clause-right c =
     let o' : Opened = record o { within = c.push.new.self; scope = c.open_name.new.self; moves = c.push-2.new.self; count = o.count + 1 } in
     let scopes = subst (AreTypedScopes (of_signature (symbols_at s t.sig.symbols)) s) (sym c.in-Ok.ensures.ok) (opened_scopes s t o c.requires c.as_slice.result.now) in
     let moves = opens_moves s t o c.requires c.in_ok-clone.field-0 c.push-2.new.self.items c.in_ok-push-2.ensures.items in
-    subst (IsRight s t) (sym c.in_ok-pass.ensures) (scoped_right s t o o' refl scopes moves c.requires)
+    subst (IsStateRight s t) (sym c.in_ok-pass.ensures) (scoped_right s t o o' refl scopes moves c.requires)
 
 pub returns-in_err-extend_from_slice-clause-ok : goal.returns-in_err-extend_from_slice-clause-ok
 returns-in_err-extend_from_slice-clause-ok c = no_ok _ _ c.from_residual.result c.from_residual.ensures.1

@@ -13,7 +13,7 @@ use Rattle.side_conditions.specs.Sides.{IsSideFault, bodies}
 use Rattle.theory_states.specs.declared.states.Opened.{Opened}
 use Rattle.theory_states.specs.Meaning.{state_at}
 use Rattle.theory_states.specs.Uses.{OrMemory}
-use Rattle.sound_states.specs.Typed.{setting}
+use Rattle.sound_states.specs.Typed.{state_setting}
 use Rattle.theory_declarations.specs.Declared.{IsDeclaredFault, of_sides}
 use Rattle.theory_declarations.specs.Faults.{side_fault}
 use Rattle.theory_declarations.proofs.Typed.{setting_typed}
@@ -46,8 +46,8 @@ check_made-requires-clause-matches c =
     let names = c.elaborate_next.new.open.scope in
     let made = c.in_ok-made.made in
     let p = logical_parts d c.requires.logical in
-    let e : IsElaborated (setting before) p.0 sig s1 sig1 names made = told (λ (x : Declaration). IsElaborated (setting before) x sig s1 sig1 names made) d p.0 p.1 c.in_ok-made.ensures.ok in
-    matches_are s1 (symbols_at s1 sig1.symbols) made.matches c.in_ok-made.ensures.kept.matches (matches_fitting (setting before) p.0 sig s1 sig1 names made (setting_typed before c.requires.typed) c.elaborate_next.ensures.grows e)
+    let e : IsElaborated (state_setting before) p.0 sig s1 sig1 names made = told (λ (x : Declaration). IsElaborated (state_setting before) x sig s1 sig1 names made) d p.0 p.1 c.in_ok-made.ensures.ok in
+    matches_are s1 (symbols_at s1 sig1.symbols) made.matches c.in_ok-made.ensures.kept.matches (matches_fitting (state_setting before) p.0 sig s1 sig1 names made (setting_typed before c.requires.typed) c.elaborate_next.ensures.grows e)
 
 pub returns-in_err-check_made-clause-err : goal.returns-in_err-check_made-clause-err
 returns-in_err-check_made-clause-err c =
@@ -59,7 +59,7 @@ returns-in_err-check_made-clause-err c =
     let names = c.elaborate_next.new.open.scope in
     let made = c.in_ok-made.made in
     let p = logical_parts d c.requires.logical in
-    let e : IsElaborated (setting before) p.0 sig s1 sig1 names made = told (λ (x : Declaration). IsElaborated (setting before) x sig s1 sig1 names made) d p.0 p.1 c.in_ok-made.ensures.ok in
+    let e : IsElaborated (state_setting before) p.0 sig s1 sig1 names made = told (λ (x : Declaration). IsElaborated (state_setting before) x sig s1 sig1 names made) d p.0 p.1 c.in_ok-made.ensures.ok in
     let o = e.outcome in
     let x = c.in_err-check_made.ensures.refused in
     let side : IsSideFault (before.symbols ++ o.symbols) o.matches (bodies o.decls) x.0 = rw (e.symbols_are, e.matches, e.decls) at x.1 in

@@ -1,6 +1,6 @@
 use Rattle.std.proofs.Common.{◌≡◌, true, false, get_or, sym, ap, ◌∙◌}
 use Rattle.theory_states.specs.declared.states.Known.{Known}
-use Rattle.theory_states.specs.States.{has_path}
+use Rattle.theory_states.specs.States.{known_has_path}
 use Rattle.theory_states.specs.Meaning.{known_at}
 use Rattle.theory_states.proofs.Lists.{passed, found, none_left}
 use Rattle.theory_states.proofs.states.place_of.Goals as goal
@@ -8,7 +8,7 @@ use Rattle.theory_states.proofs.states.place_of.Goals as goal
 pub returns-then-has_path-clause-found : goal.returns-then-has_path-clause-found
 returns-then-has_path-clause-found c = λ s.
     let f = known_at s in
-    let p = has_path c.args.path.now in
+    let p = known_has_path c.args.path.now in
     let xs = c.args.list.now in
     let i = c.loop-at.at in
     let d = c.index-list-at.result in
@@ -18,7 +18,7 @@ returns-then-has_path-clause-found c = λ s.
 pub loop-at-preserved : goal.loop-at-preserved
 loop-at-preserved c = λ s.
     let f = known_at s in
-    let p = has_path c.args.path.now in
+    let p = known_has_path c.args.path.now in
     let xs = c.args.list.now in
     let i = c.loop-at.at in
     let d = c.index-list-at.result in
@@ -26,4 +26,4 @@ loop-at-preserved c = λ s.
     sym (passed p f xs i d c.loop-at-test.true past) ∙ c.loop-at.invariant s
 
 pub returns-clause-none : goal.returns-clause-none
-returns-clause-none c = λ s. sym (c.loop-at.invariant s) ∙ none_left (has_path c.args.path.now) (known_at s) c.args.list.now c.loop-at.at c.loop-at-test.false
+returns-clause-none c = λ s. sym (c.loop-at.invariant s) ∙ none_left (known_has_path c.args.path.now) (known_at s) c.args.list.now c.loop-at.at c.loop-at-test.false

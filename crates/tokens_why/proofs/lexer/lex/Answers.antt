@@ -1,4 +1,4 @@
-use Rattle.tokens_why.proofs.Common.{◌≡◌, length, refl, sym, subst, arith, next, Begins, NoneBegins, Fits, Exceeds, Stops, whole, lexical, big}
+use Rattle.tokens_why.proofs.Common.{◌≡◌, length, refl, sym, subst, arith, next, TokenBegins, NoneBegins, LiteralFits, Exceeds, Stops, whole, lexical, big}
 use Rattle.tokens_why.proofs.TurnLemmas.{Turn, first, turn, stopped, Reading}
 use Rattle.tokens_why.proofs.ClauseLemmas.{tokens-whole, tokens-lexical, tokens-big, lexical-whole, big-whole, lexical-lexical, big-lexical, lexical-big, big-big}
 use Rattle.tokens_why.proofs.lexer.lex.Goals as goal
@@ -30,7 +30,7 @@ returns-then-is_too_big c =
     let found = c.tokens.found.items in
     let start = c.skip-start.result in
     let token = c.in-Some.token in
-    let begins : Begins text start token = c.in-Some.ensures in
+    let begins : TokenBegins text start token = c.in-Some.ensures in
     let exceeds : Exceeds text token = c.if-is_too_big.ensures in
     let stops : Stops text (big start) (next text c.tokens.at) = record { here = sym c.skip-start.ensures.place; token = token; begins = begins; exceeds = exceeds } in
     let r : Reading text (big start) found = stopped text c.tokens.at (big start) found stops c.tokens.invariant.turn in
@@ -40,9 +40,9 @@ pub tokens-preserved : goal.tokens-preserved
 tokens-preserved c =
     let text = c.args.text.now in
     let token = c.in-Some.token in
-    let begins : Begins text c.skip-start.result token = c.in-Some.ensures in
-    let fits : Fits text token = c.if-is_too_big.ensures in
-    let here : Begins text (next text c.tokens.at) token = subst (λ v. Begins text v token) c.skip-start.ensures.place begins in
+    let begins : TokenBegins text c.skip-start.result token = c.in-Some.ensures in
+    let fits : LiteralFits text token = c.if-is_too_big.ensures in
+    let here : TokenBegins text (next text c.tokens.at) token = subst (λ v. TokenBegins text v token) c.skip-start.ensures.place begins in
     record {
       high = begins.1.within;
       turn = turn text c.tokens.at token c.tokens.found.items c.push.new.self.items here fits c.in_ok-push.ensures.items c.tokens.invariant.turn;

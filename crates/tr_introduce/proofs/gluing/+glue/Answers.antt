@@ -10,7 +10,7 @@ use Rattle.evidence.specs.Drafts.{Refutes}
 use Rattle.evidence.specs.Laws.{Extends_trans, AddsTrees_extends}
 use Rattle.evidence.proofs.Formulas.{same, formulas_later, formula_later}
 use Rattle.tr_introduce.specs.Introduce.{prefix}
-use Rattle.tr_introduce.specs.Steps.{AreBelow}
+use Rattle.tr_introduce.specs.Steps.{AreParamsBelow}
 use Rattle.tr_introduce.proofs.Introduced.{prefix_inst}
 use Rattle.tr_introduce.proofs.Moving.{wider_formulas, neg_back}
 use Rattle.tr_introduce.proofs.Opening.{opened_formula, opened_below, opened_ends, premise_formula, conclusion_formula, wider_trees, wider_below, wider_ends}
@@ -35,7 +35,7 @@ glue_universal-glue_goal-requires t c =
         (
           opened_formula d c.args.goal c.args.ty c.args.body f is d1 id c.args.number x.task o.held o.keeps,
           (
-            subst (λ (es : List Tree). AreBelow (c.args.number + 1) es (tree_at d1.trees id)) (sym (same d d1 x F c.requires.front)) b,
+            subst (λ (es : List Tree). AreParamsBelow (c.args.number + 1) es (tree_at d1.trees id)) (sym (same d d1 x F c.requires.front)) b,
             opened_ends d c.args.goal c.args.ty c.args.body f is d1 F c.args.number c.args.end (tree_at d1.trees id) x c.requires.front c.requires.end o.tree,
           ),
         ),
@@ -54,7 +54,7 @@ glue_universal-refute_universal-requires-clause-below t c =
     let d2 = c.glue_goal.new.draft in
     let x = Extends_trans d c.open_body.new.g d2 (AddsTrees_extends _ _ c.in_ok-goal_at.ensures.grows) c.in_ok-step.ensures.grows in
     let e : tree_at d2.trees c.args.goal ≡ tree_at d.trees c.args.goal = x.trees.same c.args.goal.0 c.requires.goal.held in
-    subst (λ (es : List Tree). AreBelow c.args.number es (tree_at d2.trees c.args.goal)) (sym (same d d2 x c.args.front.now c.requires.front)) (subst (AreBelow c.args.number (trees_at d.trees c.args.front.now)) (sym e) c.requires.below)
+    subst (λ (es : List Tree). AreParamsBelow c.args.number es (tree_at d2.trees c.args.goal)) (sym (same d d2 x c.args.front.now c.requires.front)) (subst (AreParamsBelow c.args.number (trees_at d.trees c.args.front.now)) (sym e) c.requires.below)
 
 pub glue_universal-refute_universal-requires-clause-opened : goal.glue_universal-refute_universal-requires-clause-opened
 glue_universal-refute_universal-requires-clause-opened t c =

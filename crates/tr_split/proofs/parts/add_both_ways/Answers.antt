@@ -1,7 +1,7 @@
 use Rattle.std.proofs.Common.{◌≡◌, ◌++◌, ◌∷◌, [], List, refl, sym, subst, ap, ◌∙◌}
 use Rattle.trees.specs.declared.TermId.{TermId}
 use Rattle.trees.specs.Node.{tree_at}
-use Rattle.tr_split.specs.Parts.{Gains}
+use Rattle.tr_split.specs.Parts.{GainsFormulas}
 use Rattle.tr_split.specs.Split.{imp}
 use Rattle.tr_split.proofs.Gained.{gains_one, gains_both}
 use Rattle.tr_split.proofs.parts.add_both_ways.Goals as goal
@@ -23,5 +23,5 @@ returns-clause-gains c =
     let one = gains_one s s1 p x (imp (tree_at s a) (tree_at s b)) g c.requires.held c.in_ok-right.ensures.held c.in_ok-right.ensures.tree refl in
     let two = gains_one s1 s2 (p ++ x ∷ []) y (imp (tree_at s b) (tree_at s a)) c.in_ok-left.ensures.grows one.held c.in_ok-left.ensures.held t refl in
     let e : c.push-2.new.self.items ≡ (p ++ x ∷ []) ++ y ∷ [] = c.in_ok-push-2.ensures.items ∙ ap (λ (z : List TermId). z ++ y ∷ []) c.in_ok-push.ensures.items in
-    let both : Gains s s2 p ((p ++ x ∷ []) ++ y ∷ []) (imp (tree_at s a) (tree_at s b) ∷ imp (tree_at s b) (tree_at s a) ∷ []) = gains_both s s1 s2 p (p ++ x ∷ []) ((p ++ x ∷ []) ++ y ∷ []) _ _ one two in
-    subst (λ (z : List TermId). Gains s s2 p z (imp (tree_at s a) (tree_at s b) ∷ imp (tree_at s b) (tree_at s a) ∷ [])) (sym e) both
+    let both : GainsFormulas s s2 p ((p ++ x ∷ []) ++ y ∷ []) (imp (tree_at s a) (tree_at s b) ∷ imp (tree_at s b) (tree_at s a) ∷ []) = gains_both s s1 s2 p (p ++ x ∷ []) ((p ++ x ∷ []) ++ y ∷ []) _ _ one two in
+    subst (λ (z : List TermId). GainsFormulas s s2 p z (imp (tree_at s a) (tree_at s b) ∷ imp (tree_at s b) (tree_at s a) ∷ [])) (sym e) both

@@ -10,10 +10,10 @@ use Rattle.tasks.specs.Meaning.{trees_at}
 use Rattle.evidence.specs.Laws.{Extends_trans, AddsTrees_extends}
 use Rattle.evidence.proofs.Formulas.{same, formulas_later, formula_later}
 use Rattle.tr_split.specs.Split.{imp, split}
-use Rattle.tr_split.specs.Glue.{Ends}
+use Rattle.tr_split.specs.Glue.{EndsOfParts}
 use Rattle.tr_split.proofs.Gained.{split_later}
 use Rattle.tr_split.proofs.Pieces.{sides_of, ends_later, ends_right, count_is, neg_moved, neg_back, wider_formulas, wider_is}
-use Rattle.tr_split_goals.specs.Goals.{AreBelow, splits}
+use Rattle.tr_split_goals.specs.Goals.{AreParamsBelow, splits}
 use Rattle.evidence.specs.Drafts.{Extends}
 use Rattle.evidence.proofs.Rules.{refutes_later}
 use Rattle.tr_split_goals.proofs.Values.{left_below, joined_below, premise_below, below_later, same_parts, opened_splits, valued_splits, new_below, then_below, else_below}
@@ -62,8 +62,8 @@ glue_two-glue_goal-requires-2 t c =
     let second = ends_right d c.args.ends.now c.split_at.result.1.now (trees_at d.trees F) xs ys c.part_count-count.result c.requires.ends c.split_at.ensures.back n in
     let later = ends_later d d1 x F c.requires.front c.split_at.result.1.now ys second in
     let f : trees_at d1.trees F ≡ trees_at d.trees F = same d d1 x F c.requires.front in
-    let below : AreBelow c.args.number (trees_at d1.trees F) (tree_at d1.trees b) =
-    subst (λ (z : List Tree). AreBelow c.args.number z (tree_at d1.trees b)) (sym f) (subst (AreBelow c.args.number (trees_at d.trees F)) (sym e) c.requires.below_b) in (
+    let below : AreParamsBelow c.args.number (trees_at d1.trees F) (tree_at d1.trees b) =
+    subst (λ (z : List Tree). AreParamsBelow c.args.number z (tree_at d1.trees b)) (sym f) (subst (AreParamsBelow c.args.number (trees_at d.trees F)) (sym e) c.requires.below_b) in (
       omega (arith, m),
       (
         formulas_later d d1 x F c.requires.front,
@@ -71,7 +71,7 @@ glue_two-glue_goal-requires-2 t c =
           formula_later d d1 x b c.requires.b,
           (
             below,
-            subst (Ends d1 c.split_at.result.1.now (trees_at d1.trees F)) (sym (split_later d.trees d1.trees b x.trees c.requires.b.held)) later,
+            subst (EndsOfParts d1 c.split_at.result.1.now (trees_at d1.trees F)) (sym (split_later d.trees d1.trees b x.trees c.requires.b.held)) later,
           ),
         ),
       ),
@@ -103,8 +103,8 @@ glue_and_then-glue_two-requires t c =
     let ma : splits (tree_at d1.trees c.args.a) ≡ splits A = ap splits ea in
     let mi : splits (tree_at d1.trees c.in_ok-implied.implied) ≡ suc (splits B) = ap splits ei in
     let mg : splits (tree_at d.trees c.args.goal) ≡ suc (suc (splits A + splits B)) = ap splits j.tree in
-    let l : AreBelow c.args.number (trees_at d.trees F) (Two (HJoin AndThen) A B) = subst (AreBelow c.args.number (trees_at d.trees F)) j.tree c.requires.below in
-    let e : Ends d c.args.ends.now (trees_at d.trees F) (split A ++ map (imp A) (split B)) = subst (Ends d c.args.ends.now (trees_at d.trees F)) (ap split j.tree) c.requires.ends in
+    let l : AreParamsBelow c.args.number (trees_at d.trees F) (Two (HJoin AndThen) A B) = subst (AreParamsBelow c.args.number (trees_at d.trees F)) j.tree c.requires.below in
+    let e : EndsOfParts d c.args.ends.now (trees_at d.trees F) (split A ++ map (imp A) (split B)) = subst (EndsOfParts d c.args.ends.now (trees_at d.trees F)) (ap split j.tree) c.requires.ends in
     let sa : split (tree_at d1.trees c.args.a) ≡ split A = ap split ea in
     let si : split (tree_at d1.trees c.in_ok-implied.implied) ≡ map (imp A) (split B) = ap split ei in
     let q : split A ++ map (imp A) (split B) ≡ split (tree_at d1.trees c.args.a) ++ split (tree_at d1.trees c.in_ok-implied.implied) = cc (sa, si) in (
@@ -119,7 +119,7 @@ glue_and_then-glue_two-requires t c =
               below_later d d1 x F c.requires.front c.args.number A (tree_at d1.trees c.args.a) ea (left_below c.args.number (trees_at d.trees F) AndThen A B l),
               (
                 below_later d d1 x F c.requires.front c.args.number (Two (HJoin Imp) A B) (tree_at d1.trees c.in_ok-implied.implied) ei (joined_below c.args.number (trees_at d.trees F) AndThen Imp A B l),
-                subst (Ends d1 c.args.ends.now (trees_at d1.trees F)) q (ends_later d d1 x F c.requires.front c.args.ends.now (split A ++ map (imp A) (split B)) e),
+                subst (EndsOfParts d1 c.args.ends.now (trees_at d1.trees F)) q (ends_later d d1 x F c.requires.front c.args.ends.now (split A ++ map (imp A) (split B)) e),
               ),
             ),
           ),
@@ -205,17 +205,17 @@ glue_imp-glue_goal-requires t c =
     let e1 : trees_at d1.trees c.deref.result.now ≡ trees_at d.trees F ++ A ∷ [] = wider_is d d1 x F c.deref.result.now a w c.requires.front s.left in
     let m : splits (tree_at d1.trees b) ≡ splits B = ap splits b1 in
     let mg : splits (tree_at d.trees c.args.goal) ≡ suc (splits B) = ap splits j.tree in
-    let l : AreBelow c.args.number (trees_at d.trees F) (Two (HJoin Imp) A B) = subst (AreBelow c.args.number (trees_at d.trees F)) j.tree c.requires.below in
-    let k : AreBelow c.args.number (trees_at d.trees F ++ A ∷ []) B = premise_below c.args.number (trees_at d.trees F) Imp A B l in
-    let below : AreBelow c.args.number (trees_at d1.trees c.deref.result.now) (tree_at d1.trees b) = subst (λ (z : List Tree). AreBelow c.args.number z (tree_at d1.trees b)) (sym e1) (subst (AreBelow c.args.number (trees_at d.trees F ++ A ∷ [])) (sym b1) k) in
-    let made = subst (λ (z : List ℕ). Ends d1 z (trees_at d.trees F ++ A ∷ []) (map (λ (y : Tree). y) (split B))) (sym c.deref-2.ensures.value) c.in_ok-made.ensures.ends in
+    let l : AreParamsBelow c.args.number (trees_at d.trees F) (Two (HJoin Imp) A B) = subst (AreParamsBelow c.args.number (trees_at d.trees F)) j.tree c.requires.below in
+    let k : AreParamsBelow c.args.number (trees_at d.trees F ++ A ∷ []) B = premise_below c.args.number (trees_at d.trees F) Imp A B l in
+    let below : AreParamsBelow c.args.number (trees_at d1.trees c.deref.result.now) (tree_at d1.trees b) = subst (λ (z : List Tree). AreParamsBelow c.args.number z (tree_at d1.trees b)) (sym e1) (subst (AreParamsBelow c.args.number (trees_at d.trees F ++ A ∷ [])) (sym b1) k) in
+    let made = subst (λ (z : List ℕ). EndsOfParts d1 z (trees_at d.trees F ++ A ∷ []) (map (λ (y : Tree). y) (split B))) (sym c.deref-2.ensures.value) c.in_ok-made.ensures.ends in
     let p : map (λ (y : Tree). y) (split B) ≡ split (tree_at d1.trees b) = same_parts d.trees a (split B) ∙ sym (ap split b1) in (
       omega (arith, m, mg),
       (
         wider_formulas d1 F c.deref.result.now a w (formulas_later d d1 x F c.requires.front) (formula_later d d1 x a s.left),
         (
           formula_later d d1 x b s.right,
-          (below, subst (λ (z : List Tree). Ends d1 c.deref-2.result.now z (split (tree_at d1.trees b))) (sym e1) (subst (Ends d1 c.deref-2.result.now (trees_at d.trees F ++ A ∷ [])) p made)),
+          (below, subst (λ (z : List Tree). EndsOfParts d1 c.deref-2.result.now z (split (tree_at d1.trees b))) (sym e1) (subst (EndsOfParts d1 c.deref-2.result.now (trees_at d.trees F ++ A ∷ [])) p made)),
         ),
       ),
     )
@@ -325,9 +325,9 @@ glue_forall-glue_goal-requires t c =
     let m : splits (tree_at d1.trees id) ≡ splits B = ap splits c.in_ok-inner.ensures.is ∙ opened_splits d c.args.goal c.args.ty c.args.body c.requires.goal c.requires.tree (Param c.args.number X) in
     let mg : splits (tree_at d.trees c.args.goal) ≡ suc (splits B) = ap splits c.requires.tree in
     let f : trees_at d1.trees F ≡ trees_at d.trees F = same d d1 x F c.requires.front in
-    let below = subst (λ (z : List Tree). AreBelow (c.args.number + 1) z (tree_at d1.trees id)) (sym f) c.in_ok-inner.ensures.below in
-    let made = subst (λ (z : List ℕ). Ends d1 z (trees_at d.trees F) (split (tree_at d1.trees id))) (sym c.deref.ensures.value) c.in_ok-inner.ensures.ends in
-    let ends = subst (λ (z : List Tree). Ends d1 c.deref.result.now z (split (tree_at d1.trees id))) (sym f) made in
+    let below = subst (λ (z : List Tree). AreParamsBelow (c.args.number + 1) z (tree_at d1.trees id)) (sym f) c.in_ok-inner.ensures.below in
+    let made = subst (λ (z : List ℕ). EndsOfParts d1 z (trees_at d.trees F) (split (tree_at d1.trees id))) (sym c.deref.ensures.value) c.in_ok-inner.ensures.ends in
+    let ends = subst (λ (z : List Tree). EndsOfParts d1 c.deref.result.now z (split (tree_at d1.trees id))) (sym f) made in
     (omega (arith, m, mg), (formulas_later d d1 x F c.requires.front, (c.in_ok-inner.ensures.formula, (below, ends))))
 
 pub glue_forall-returns-in_err-step-clause-grows : goal.glue_forall-returns-in_err-step-clause-grows
@@ -443,9 +443,9 @@ glue_let-glue_goal-requires t c =
     let m : splits (tree_at d1.trees id) ≡ splits B = ap splits c.in_ok-inner.ensures.is ∙ valued_splits d c.args.goal c.args.value c.args.body c.requires.goal c.requires.tree (X) in
     let mg : splits (tree_at d.trees c.args.goal) ≡ suc (splits B) = ap splits c.requires.tree in
     let f : trees_at d1.trees F ≡ trees_at d.trees F = same d d1 x F c.requires.front in
-    let below = subst (λ (z : List Tree). AreBelow (c.args.number) z (tree_at d1.trees id)) (sym f) c.in_ok-inner.ensures.below in
-    let made = subst (λ (z : List ℕ). Ends d1 z (trees_at d.trees F) (split (tree_at d1.trees id))) (sym c.deref.ensures.value) c.in_ok-inner.ensures.ends in
-    let ends = subst (λ (z : List Tree). Ends d1 c.deref.result.now z (split (tree_at d1.trees id))) (sym f) made in
+    let below = subst (λ (z : List Tree). AreParamsBelow (c.args.number) z (tree_at d1.trees id)) (sym f) c.in_ok-inner.ensures.below in
+    let made = subst (λ (z : List ℕ). EndsOfParts d1 z (trees_at d.trees F) (split (tree_at d1.trees id))) (sym c.deref.ensures.value) c.in_ok-inner.ensures.ends in
+    let ends = subst (λ (z : List Tree). EndsOfParts d1 c.deref.result.now z (split (tree_at d1.trees id))) (sym f) made in
     (omega (arith, m, mg), (formulas_later d d1 x F c.requires.front, (c.in_ok-inner.ensures.formula, (below, ends))))
 
 pub glue_let-returns-in_err-step-clause-grows : goal.glue_let-returns-in_err-step-clause-grows
@@ -568,8 +568,8 @@ glue_if-glue_two-requires t c =
     let mt : splits (tree_at n4.trees there) ≡ suc (splits A) = ap splits et in
     let mw : splits (tree_at n4.trees away) ≡ suc (splits B) = ap splits ew in
     let mg : splits (tree_at d.trees c.args.goal) ≡ suc (suc (suc (splits A + splits B))) = ap splits c.requires.tree in
-    let l : AreBelow c.args.number (trees_at d.trees F) (Three HIf C A B) = subst (AreBelow c.args.number (trees_at d.trees F)) c.requires.tree c.requires.below in
-    let e : Ends d c.args.ends.now (trees_at d.trees F) (map (imp C) (split A) ++ map (imp (neg C)) (split B)) = subst (Ends d c.args.ends.now (trees_at d.trees F)) (ap split c.requires.tree) c.requires.ends in
+    let l : AreParamsBelow c.args.number (trees_at d.trees F) (Three HIf C A B) = subst (AreParamsBelow c.args.number (trees_at d.trees F)) c.requires.tree c.requires.below in
+    let e : EndsOfParts d c.args.ends.now (trees_at d.trees F) (map (imp C) (split A) ++ map (imp (neg C)) (split B)) = subst (EndsOfParts d c.args.ends.now (trees_at d.trees F)) (ap split c.requires.tree) c.requires.ends in
     let st : split (tree_at n4.trees there) ≡ map (imp C) (split A) = ap split et in
     let sw : split (tree_at n4.trees away) ≡ map (imp (neg C)) (split B) = ap split ew in
     let q : map (imp C) (split A) ++ map (imp (neg C)) (split B) ≡ split (tree_at n4.trees there) ++ split (tree_at n4.trees away) = cc (st, sw) in (
@@ -584,7 +584,7 @@ glue_if-glue_two-requires t c =
               below_later d n4 y F c.requires.front c.args.number (Two (HJoin Imp) C A) (tree_at n4.trees there) et (then_below c.args.number (trees_at d.trees F) C A B l),
               (
                 below_later d n4 y F c.requires.front c.args.number (Two (HJoin Imp) (neg C) B) (tree_at n4.trees away) ew (else_below c.args.number (trees_at d.trees F) C A B l),
-                subst (Ends n4 c.args.ends.now (trees_at n4.trees F)) q (ends_later d n4 y F c.requires.front c.args.ends.now (map (imp C) (split A) ++ map (imp (neg C)) (split B)) e),
+                subst (EndsOfParts n4 c.args.ends.now (trees_at n4.trees F)) q (ends_later d n4 y F c.requires.front c.args.ends.now (map (imp C) (split A) ++ map (imp (neg C)) (split B)) e),
               ),
             ),
           ),

@@ -9,7 +9,7 @@ use Rattle.evidence.specs.Drafts.{Extends}
 use Rattle.evidence.specs.Laws.{Extends_trans, AddsTrees_extends}
 use Rattle.evidence.proofs.Formulas.{formulas_later}
 use Rattle.tr_split.specs.Split.{imp, split}
-use Rattle.tr_split.specs.Glue.{Ends}
+use Rattle.tr_split.specs.Glue.{EndsOfParts}
 use Rattle.tr_split.proofs.Pieces.{sides_of, neg_back}
 use Rattle.tr_split_goals.proofs.Moving.{moved}
 use Rattle.tr_split_goals.proofs.gluing.glue_iff.Goals as goal
@@ -27,7 +27,7 @@ refute_iff-requires-clause-front c =
     let A = tree_at d.trees c.args.a in
     let B = tree_at d.trees c.args.b in
     let s = sides_of d c.args.goal Iff c.args.a c.args.b j c.requires.goal in
-    let e : Ends d c.args.ends.now (trees_at d.trees F) (imp A B ∷ imp B A ∷ []) = subst (Ends d c.args.ends.now (trees_at d.trees F)) (ap split j.tree) c.requires.ends in
+    let e : EndsOfParts d c.args.ends.now (trees_at d.trees F) (imp A B ∷ imp B A ∷ []) = subst (EndsOfParts d c.args.ends.now (trees_at d.trees F)) (ap split j.tree) c.requires.ends in
     formulas_later d d2 x F c.requires.front
 
 pub refute_iff-requires-clause-left : goal.refute_iff-requires-clause-left
@@ -43,7 +43,7 @@ refute_iff-requires-clause-left c =
     let A = tree_at d.trees c.args.a in
     let B = tree_at d.trees c.args.b in
     let s = sides_of d c.args.goal Iff c.args.a c.args.b j c.requires.goal in
-    let e : Ends d c.args.ends.now (trees_at d.trees F) (imp A B ∷ imp B A ∷ []) = subst (Ends d c.args.ends.now (trees_at d.trees F)) (ap split j.tree) c.requires.ends in
+    let e : EndsOfParts d c.args.ends.now (trees_at d.trees F) (imp A B ∷ imp B A ∷ []) = subst (EndsOfParts d c.args.ends.now (trees_at d.trees F)) (ap split j.tree) c.requires.ends in
     let q : imp A B ≡ tree_at d2.trees c.in_ok-there.there = sym (x2.trees.same c.in_ok-there.there.0 c.in_ok-there.ensures.formula.held ∙ c.in_ok-there.ensures.tree) in
     moved d d2 x F c.requires.front (get_or c.args.ends.now 0 0) (neg (imp A B) ∷ []) (neg (tree_at d2.trees c.in_ok-there.there) ∷ []) (ap (λ (z : Tree). neg z ∷ []) q) (e.each 0 (omega arith))
 
@@ -60,7 +60,7 @@ refute_iff-requires-clause-right c =
     let A = tree_at d.trees c.args.a in
     let B = tree_at d.trees c.args.b in
     let s = sides_of d c.args.goal Iff c.args.a c.args.b j c.requires.goal in
-    let e : Ends d c.args.ends.now (trees_at d.trees F) (imp A B ∷ imp B A ∷ []) = subst (Ends d c.args.ends.now (trees_at d.trees F)) (ap split j.tree) c.requires.ends in
+    let e : EndsOfParts d c.args.ends.now (trees_at d.trees F) (imp A B ∷ imp B A ∷ []) = subst (EndsOfParts d c.args.ends.now (trees_at d.trees F)) (ap split j.tree) c.requires.ends in
     let a1 : tree_at d1.trees c.args.a ≡ A = x1.trees.same c.args.a.0 s.left.held in
     let b1 : tree_at d1.trees c.args.b ≡ B = x1.trees.same c.args.b.0 s.right.held in
     let q : imp B A ≡ tree_at d2.trees c.in_ok-back.back = sym (c.in_ok-back.ensures.tree ∙ cc (a1, b1)) in
@@ -79,5 +79,5 @@ returns-clause-refutes c =
     let A = tree_at d.trees c.args.a in
     let B = tree_at d.trees c.args.b in
     let s = sides_of d c.args.goal Iff c.args.a c.args.b j c.requires.goal in
-    let e : Ends d c.args.ends.now (trees_at d.trees F) (imp A B ∷ imp B A ∷ []) = subst (Ends d c.args.ends.now (trees_at d.trees F)) (ap split j.tree) c.requires.ends in
+    let e : EndsOfParts d c.args.ends.now (trees_at d.trees F) (imp A B ∷ imp B A ∷ []) = subst (EndsOfParts d c.args.ends.now (trees_at d.trees F)) (ap split j.tree) c.requires.ends in
     IfOk-weaker c.refute_iff.result _ _ (λ k r. neg_back d d2 x F c.requires.front c.args.goal c.requires.goal c.refute_iff.new.draft k r) c.refute_iff.ensures.refutes

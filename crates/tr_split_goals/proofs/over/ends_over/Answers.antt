@@ -7,7 +7,7 @@ use Rattle.evidence.specs.Laws.{Extends_trans}
 use Rattle.evidence.proofs.Formulas.{formulas_later}
 use Rattle.evidence.proofs.Lifted.{have_more}
 use Rattle.tr_split.specs.Split.{split}
-use Rattle.tr_split.specs.Glue.{end_of}
+use Rattle.tr_split.specs.Glue.{sequent_of_part}
 use Rattle.tr_split_goals.specs.Over.{whole_of, inner_of, extra_of, inners}
 use Rattle.tr_split_goals.proofs.Overs.{over_later, whole_end, inner_end, all_ends}
 use Rattle.tr_split_goals.proofs.over.ends_over.Goals as goal
@@ -42,7 +42,7 @@ loop-end-preserved c =
     let m : i < length parts = omega (arith, l, c.requires.ends.as_many, length-map parts W) in
     let here = whole_end d d1 x F c.requires.front c.args.over c.requires.over c.args.ends.now parts i c.requires.ends l in
     let done = inner_end d d1 x d2 F c.requires.front c.args.over c.requires.over k parts i m (c.in_ok-step.ensures.refutes (get_or parts i (Leaf HEnd)) here) in
-    let q : ℕ → List Tree = end_of (trees_at d.trees F ++ extra_of d.trees c.args.over) (inners d.trees c.args.over (tree_at d.trees c.args.formula)) in
+    let q : ℕ → List Tree = sequent_of_part (trees_at d.trees F ++ extra_of d.trees c.args.over) (inners d.trees c.args.over (tree_at d.trees c.args.formula)) in
     record {
       grows = Extends_trans _ _ _ x c.part_end.ensures.grows;
       made = rw c.in_ok-push.ensures.items (have_more d1 d2 c.loop-end.made.items q i k c.part_end.ensures.grows c.loop-end.invariant.made done);

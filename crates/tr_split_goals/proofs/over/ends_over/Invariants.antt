@@ -3,12 +3,12 @@ use Rattle.trees.specs.Node.{tree_at}
 use Rattle.tasks.specs.Meaning.{trees_at}
 use Rattle.evidence.specs.Drafts.{Extends}
 use Rattle.evidence.specs.Stages.{HaveSequents}
-use Rattle.tr_split.specs.Glue.{end_of}
+use Rattle.tr_split.specs.Glue.{sequent_of_part}
 use Rattle.tr_split_goals.specs.Over.{extra_of, inners}
 use Rattle.tr_split_goals.proofs.over.ends_over.Given as goal
 
 abbrev pub invariant-loop-end : goal.invariant-loop-end
 invariant-loop-end l = record {
   grows : Extends l.initial.draft l.draft;
-  made : HaveSequents l.draft l.made.items (end_of (trees_at l.initial.draft.trees l.front ++ extra_of l.initial.draft.trees l.over) (inners l.initial.draft.trees l.over (tree_at l.initial.draft.trees l.fn.formula))) l.end-index;
+  made : HaveSequents l.draft l.made.items (sequent_of_part (trees_at l.initial.draft.trees l.front ++ extra_of l.initial.draft.trees l.over) (inners l.initial.draft.trees l.over (tree_at l.initial.draft.trees l.fn.formula))) l.end-index;
 }

@@ -3,16 +3,16 @@ use Rattle.trees.specs.declared.TermId.{TermId}
 use Rattle.trees.specs.Tree.{Tree, Two, HCell}
 use Rattle.trees.specs.Node.{tree_at}
 use Rattle.trees.proofs.Nodes.{Grows_trans}
-use Rattle.tree_lines.specs.Made.{IsMade, branch_at}
+use Rattle.tree_lines.specs.Made.{IsTreeMade, branch_at}
 use Rattle.tree_lines.proofs.Growing.{branch_more, branches_refused}
 use Rattle.tree_lines.proofs.expressions.branch_list.Goals as goal
 
 abbrev no_pair : TermId × TermId
 no_pair = (record { 0 = 0 }, record { 0 = 0 })
 
-made_is : (s' : List Tree) (e : Tree) (o : Option TermId) (l : TermId) → o ≡ Some l → IsMade s' (Some e) o → tree_at s' l ≡ e
+made_is : (s' : List Tree) (e : Tree) (o : Option TermId) (l : TermId) → o ≡ Some l → IsTreeMade s' (Some e) o → tree_at s' l ≡ e
 made_is s' e o l is m =
-    let k : IsMade s' (Some e) (Some l) = subst (IsMade s' (Some e)) is m in
+    let k : IsTreeMade s' (Some e) (Some l) = subst (IsTreeMade s' (Some e)) is m in
     let n : Some e ≡ Some (tree_at s' l) = k.0 in
     cc
 
@@ -22,7 +22,7 @@ loop-i-preserved c =
     let s = c.loop-i.store in
     let s' = c.add_branch.new.store in
     let some : 0 < c.loop-i.i = omega (arith, c.loop-i-test.true) in
-    let m : IsMade s' (Some (Two HCell (branch_at s (get_or c.args.branches.now (c.loop-i.i - 1) no_pair)) (tree_at s c.loop-i.list))) (Some c.in-Some.longer) = rw c.in-Some.is at c.in_ok-longer.ensures.made in
+    let m : IsTreeMade s' (Some (Two HCell (branch_at s (get_or c.args.branches.now (c.loop-i.i - 1) no_pair)) (tree_at s c.loop-i.list))) (Some c.in-Some.longer) = rw c.in-Some.is at c.in_ok-longer.ensures.made in
     record {
       within = omega (arith, i.within);
       grows = Grows_trans c.args.store.now s s' i.grows c.in_ok-longer.ensures.grows;

@@ -1,13 +1,13 @@
 use Rattle.std.proofs.Common.{Option, IfOk, subst}
 use Rattle.trees.specs.Tree.{Tree}
-use Rattle.tree_lines.specs.Made.{IsMade}
+use Rattle.tree_lines.specs.Made.{IsTreeMade}
 use Rattle.tree_lines.proofs.Branches.{case_made, case_refused}
 use Rattle.tree_lines.proofs.expressions.case_of_branches.Goals as goal
 
 pub returns-in-Some-clause-made : goal.returns-in-Some-clause-made
 returns-in-Some-clause-made c =
     let e = case_made c.args.store.now c.branch_list.new.store c.in_ok-list.ensures.grows c.args.scrutinee c.args.branches.now c.in_ok-list.field-0 c.in_ok-list.ensures.made c.requires.scrutinee c.in-Some.list c.in-Some.is in
-    subst (λ (m : Option Tree). IfOk c.add_node.result (IsMade c.add_node.new.store m)) e c.add_node.ensures.made
+    subst (λ (m : Option Tree). IfOk c.add_node.result (IsTreeMade c.add_node.new.store m)) e c.add_node.ensures.made
 
 pub returns-in-None-clause-made : goal.returns-in-None-clause-made
 returns-in-None-clause-made c =

@@ -7,16 +7,16 @@ use Rattle.trees.specs.declared.TermId.{TermId}
 use Rattle.trees.specs.Tree.{Tree}
 use Rattle.trees.specs.Node.{tree_at}
 use Rattle.tasks.specs.Meaning.{task_at}
-use Rattle.tree_lines.specs.Words.{Word, texts, at_number, pairs}
+use Rattle.tree_lines.specs.Words.{LineWord, texts, at_number, pairs}
 use Rattle.tree_lines.specs.Lines.{match_tree}
-use Rattle.tree_lines.specs.Made.{IsMade, PairsHeld, pairs_in, earlier_at}
+use Rattle.tree_lines.specs.Made.{IsTreeMade, PairsHeld, pairs_in, earlier_at}
 use Rattle.tree_lines.proofs.Branches.{pairs_trees, pairs_held, match_made, match_missing}
 use Rattle.tree_lines.proofs.expressions.match_of_words.Goals as goal
 
 pub case_of_branches-requires-clause-branches : goal.case_of_branches-requires-clause-branches
 case_of_branches-requires-clause-branches c =
     let s = c.args.store.now in
-    let ids = (rw c.in-Some-2.is at c.in_ok-branches.ensures) ∙ ap (λ (l : List (Bor Word)). pairs (at_number c.args.x.now.patterns.now) (at_number c.args.x.now.expressions.now) (texts l)) (slice_left 1 c.args.words.now) in
+    let ids = (rw c.in-Some-2.is at c.in_ok-branches.ensures) ∙ ap (λ (l : List (Bor LineWord)). pairs (at_number c.args.x.now.patterns.now) (at_number c.args.x.now.expressions.now) (texts l)) (slice_left 1 c.args.words.now) in
     let held : PairsHeld s c.in-Some-2.branches.items = subst (λ (o : Option (List (TermId × TermId))). IfSome o (PairsHeld s)) (sym ids) (pairs_held s c.args.x.now.patterns.now c.args.x.now.expressions.now c.requires.patterns c.requires.expressions (texts (drop 1 c.args.words.now))) in
     subst (PairsHeld s) (sym c.deref.ensures.value) held
 
@@ -24,16 +24,16 @@ pub returns-in-Some-2-clause-made : goal.returns-in-Some-2-clause-made
 returns-in-Some-2-clause-made c =
     let s = c.args.store.now in
     let x = c.args.x.now in
-    let ids = (rw c.in-Some-2.is at c.in_ok-branches.ensures) ∙ ap (λ (l : List (Bor Word)). pairs (at_number c.args.x.now.patterns.now) (at_number c.args.x.now.expressions.now) (texts l)) (slice_left 1 c.args.words.now) in
+    let ids = (rw c.in-Some-2.is at c.in_ok-branches.ensures) ∙ ap (λ (l : List (Bor LineWord)). pairs (at_number c.args.x.now.patterns.now) (at_number c.args.x.now.expressions.now) (texts l)) (slice_left 1 c.args.words.now) in
     let trees = ap (option_map (pairs_in s)) ids ∙ sym (pairs_trees s x.patterns.now x.expressions.now (texts (drop 1 c.args.words.now))) in
     let e = ap (λ (l : List (TermId × TermId)). Some (match_tree (tree_at s c.in-Some.scrutinee) (pairs_in s l))) c.deref.ensures.value
     ∙ match_made (task_at s x.task.now) x.table.now (earlier_at s x) c.args.words.now _ (tree_at s c.in-Some.scrutinee) (pairs_in s c.in-Some-2.branches.items) c.in-len1-up.len_at_least c.in-Some.ensures.tree trees in
-    subst (λ (m : Option Tree). IfOk c.case_of_branches.result (IsMade c.case_of_branches.new.store m)) e c.case_of_branches.ensures.made
+    subst (λ (m : Option Tree). IfOk c.case_of_branches.result (IsTreeMade c.case_of_branches.new.store m)) e c.case_of_branches.ensures.made
 
 pub returns-in-None-clause-made : goal.returns-in-None-clause-made
 returns-in-None-clause-made c = λ e is w.
     let s = c.args.store.now in
     let x = c.args.x.now in
-    let ids = (rw c.in-None.is at c.in_ok-branches.ensures) ∙ ap (λ (l : List (Bor Word)). pairs (at_number c.args.x.now.patterns.now) (at_number c.args.x.now.expressions.now) (texts l)) (slice_left 1 c.args.words.now) in
+    let ids = (rw c.in-None.is at c.in_ok-branches.ensures) ∙ ap (λ (l : List (Bor LineWord)). pairs (at_number c.args.x.now.patterns.now) (at_number c.args.x.now.expressions.now) (texts l)) (slice_left 1 c.args.words.now) in
     let trees = ap (option_map (pairs_in s)) ids ∙ sym (pairs_trees s x.patterns.now x.expressions.now (texts (drop 1 c.args.words.now))) in
     none-some e (match_missing (task_at s x.task.now) x.table.now (earlier_at s x) c.args.words.now _ (tree_at s c.in-Some.scrutinee) c.in-len1-up.len_at_least c.in-Some.ensures.tree trees ∙ is)

@@ -5,7 +5,7 @@ use Rattle.trees.specs.Tree.{Tree}
 use Rattle.trees.specs.Node.{tree_at}
 use Rattle.trees.proofs.Nodes.{Grows_trans}
 use Rattle.tasks.specs.Meaning.{trees_at}
-use Rattle.tree_lines.specs.Named.{type_at, entry_type}
+use Rattle.tree_lines.specs.Named.{named_type_at, entry_type}
 use Rattle.tree_lines.proofs.Lists.{each_missing, each_done}
 use Rattle.tree_lines.proofs.Entries.{entry_done, entry_missing, types_more, entries_more}
 use Rattle.tree_lines.proofs.names.+type_of_entry.Goals as goal
@@ -43,5 +43,5 @@ returns-clause-tree t c =
     let s = c.loop-under.store in
     let some : 0 < c.args.most = omega (arith, c.if-most-eq0.false) in
     let done = each_done F places c.loop-under.under-index (trees_at s c.loop-under.types.items) _ c.loop-under-test.false c.loop-under.invariant.trees in
-    let e = ap (λ (l : List TermId). type_at c.in-Some.entry.now.symbol (trees_at s l)) c.deref.ensures.value ∙ entry_done table c.args.most c.args.place c.in-Some.entry.now some c.in-Some.ensures places c.as_slice-under-items.ensures (trees_at s c.loop-under.types.items) done in
+    let e = ap (λ (l : List TermId). named_type_at c.in-Some.entry.now.symbol (trees_at s l)) c.deref.ensures.value ∙ entry_done table c.args.most c.args.place c.in-Some.entry.now some c.in-Some.ensures places c.as_slice-under-items.ensures (trees_at s c.loop-under.types.items) done in
     subst (λ (m : Option Tree). IfOk c.type_of_symbol.result (λ o. option_map (tree_at c.type_of_symbol.new.store) o ≡ m)) e c.type_of_symbol.ensures.tree

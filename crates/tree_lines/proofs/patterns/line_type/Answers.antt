@@ -5,8 +5,8 @@ use Rattle.trees.specs.Tree.{Tree}
 use Rattle.trees.specs.Node.{tree_at}
 use Rattle.tasks.specs.Meaning.{task_at, trees_at}
 use Rattle.tree_lines.specs.Words.{texts}
-use Rattle.tree_lines.specs.Named.{type_at}
-use Rattle.tree_lines.specs.Made.{earlier_at, meaning_at}
+use Rattle.tree_lines.specs.Named.{named_type_at}
+use Rattle.tree_lines.specs.Made.{earlier_at, named_meaning}
 use Rattle.tree_lines.proofs.Making.{known_later, types_same, words_typed}
 use Rattle.tree_lines.proofs.patterns.line_type.Goals as goal
 
@@ -18,12 +18,12 @@ returns-in-Some-2-clause-tree c =
     let s = c.args.store.now in
     let s' = c.meaning_of.new.store in
     let x = c.args.x.now in
-    let n = meaning_at s' c.in-Some.named in
+    let n = named_meaning s' c.in-Some.named in
     let words = c.args.words.now in
     let rest = texts (take (length words - 1) (drop 1 words)) in
     let said = rw c.in-Some.is at c.in_ok-named.ensures.meaning in
     let types = (rw c.in-Some-2.is at c.in_ok-types.ensures.trees) ∙ types_same s s' c.in_ok-named.ensures.grows x c.requires n rest in
-    let e = ap (λ (l : List TermId). type_at c.in-Some.named.symbol (trees_at s' l)) c.deref.ensures.value ∙ ap (option_and_then (type_at c.in-Some.named.symbol)) types
+    let e = ap (λ (l : List TermId). named_type_at c.in-Some.named.symbol (trees_at s' l)) c.deref.ensures.value ∙ ap (option_and_then (named_type_at c.in-Some.named.symbol)) types
     ∙ words_typed (task_at s x.task.now) x.table.now (earlier_at s x) words _ n c.in-len1-up.len_at_least said in
     subst (λ (m : Option Tree). IfOk c.type_of_symbol.result (λ o. option_map (tree_at c.type_of_symbol.new.store) o ≡ m)) e c.type_of_symbol.ensures.tree
 
@@ -32,9 +32,9 @@ returns-in-None-clause-tree c =
     let s = c.args.store.now in
     let s' = c.meaning_of.new.store in
     let x = c.args.x.now in
-    let n = meaning_at s' c.in-Some.named in
+    let n = named_meaning s' c.in-Some.named in
     let words = c.args.words.now in
     let rest = texts (take (length words - 1) (drop 1 words)) in
     let said = rw c.in-Some.is at c.in_ok-named.ensures.meaning in
     let types = (rw c.in-None.is at c.in_ok-types.ensures.trees) ∙ types_same s s' c.in_ok-named.ensures.grows x c.requires n rest in
-    ap (option_and_then (type_at c.in-Some.named.symbol)) types ∙ words_typed (task_at s x.task.now) x.table.now (earlier_at s x) words _ n c.in-len1-up.len_at_least said
+    ap (option_and_then (named_type_at c.in-Some.named.symbol)) types ∙ words_typed (task_at s x.task.now) x.table.now (earlier_at s x) words _ n c.in-len1-up.len_at_least said

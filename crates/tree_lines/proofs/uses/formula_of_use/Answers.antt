@@ -3,7 +3,7 @@ use Rattle.trees.specs.declared.TermId.{TermId}
 use Rattle.trees.specs.Tree.{Tree}
 use Rattle.tasks.specs.Meaning.{trees_at}
 use Rattle.tree_lines.specs.Named.{cells}
-use Rattle.tree_lines.specs.Made.{IsMade}
+use Rattle.tree_lines.specs.Made.{IsTreeMade}
 use Rattle.tree_lines.proofs.Applying.{formula_made, formula_refused}
 use Rattle.tree_lines.proofs.uses.formula_of_use.Goals as goal
 
@@ -13,9 +13,9 @@ returns-in-Some-clause-made c =
     let s1 = c.type_list.new.store in
     let s2 = c.cell_list.new.store in
     let tree = c.in_ok-types.ensures.tree ∙ ap (λ (l : List TermId). cells (trees_at s0 l)) c.deref.ensures.value in
-    let made = subst (λ (l : List TermId). IsMade s2 (Some (cells (trees_at s1 l))) c.in_ok-args.field-0) c.deref-2.ensures.value c.in_ok-args.ensures.made in
+    let made = subst (λ (l : List TermId). IsTreeMade s2 (Some (cells (trees_at s1 l))) c.in_ok-args.field-0) c.deref-2.ensures.value c.in_ok-args.ensures.made in
     let e = formula_made s0 s1 s2 c.in_ok-types.ensures.grows c.in_ok-args.ensures.grows c.args.used.now.types.items c.args.used.now.parts.items c.in_ok-types.types c.in_ok-args.field-0 c.requires.parts c.in_ok-types.ensures.held tree made c.args.used.now.symbol c.in-Some.args c.in-Some.is in
-    subst (λ (m : Option Tree). IfOk c.add_node.result (IsMade c.add_node.new.store m)) e c.add_node.ensures.made
+    subst (λ (m : Option Tree). IfOk c.add_node.result (IsTreeMade c.add_node.new.store m)) e c.add_node.ensures.made
 
 pub returns-in-None-clause-made : goal.returns-in-None-clause-made
 returns-in-None-clause-made c =
@@ -23,5 +23,5 @@ returns-in-None-clause-made c =
     let s1 = c.type_list.new.store in
     let s2 = c.cell_list.new.store in
     let tree = c.in_ok-types.ensures.tree ∙ ap (λ (l : List TermId). cells (trees_at s0 l)) c.deref.ensures.value in
-    let made = subst (λ (l : List TermId). IsMade s2 (Some (cells (trees_at s1 l))) c.in_ok-args.field-0) c.deref-2.ensures.value c.in_ok-args.ensures.made in
+    let made = subst (λ (l : List TermId). IsTreeMade s2 (Some (cells (trees_at s1 l))) c.in_ok-args.field-0) c.deref-2.ensures.value c.in_ok-args.ensures.made in
     formula_refused s0 s1 s2 c.in_ok-types.ensures.grows c.in_ok-args.ensures.grows c.args.used.now.types.items c.args.used.now.parts.items c.in_ok-types.types c.in_ok-args.field-0 c.requires.parts c.in_ok-types.ensures.held tree made c.args.used.now.symbol c.in-None.is

@@ -5,7 +5,7 @@ use Rattle.trees.specs.Binding.{inst_types}
 use Rattle.binders.specs.Visits.{HoldTypes, typing_stays_ready}
 use Rattle.tasks.specs.Meaning.{trees_at}
 use Rattle.tree_lines.specs.Named.{cells}
-use Rattle.tree_lines.specs.Made.{IsMade}
+use Rattle.tree_lines.specs.Made.{IsTreeMade}
 use Rattle.tree_lines.proofs.Applying.{use_made, use_refused}
 use Rattle.tree_lines.proofs.uses.trees_of_use.Goals as goal
 
@@ -20,7 +20,7 @@ returns-in-Some-2-clause-trees c =
     let s3 = c.cell_list.new.store in
     let ty = c.in_ok-ty.ensures.tree ∙ ap (λ (l : List TermId). inst_types (tree_at s0 c.in-Some.result) (trees_at s0 l)) c.deref.ensures.value in
     let tree = c.in_ok-types.ensures.tree ∙ ap (λ (l : List TermId). cells (trees_at s1 l)) c.deref-2.ensures.value in
-    let made = subst (λ (l : List TermId). IsMade s3 (Some (cells (trees_at s2 l))) c.in_ok-parts.field-0) c.deref-3.ensures.value c.in_ok-parts.ensures.made in
+    let made = subst (λ (l : List TermId). IsTreeMade s3 (Some (cells (trees_at s2 l))) c.in_ok-parts.field-0) c.deref-3.ensures.value c.in_ok-parts.ensures.made in
     use_made s0 s1 s2 s3 c.in_ok-ty.ensures.grows c.in_ok-types.ensures.grows c.in_ok-parts.ensures.grows c.args.used.now.types.items c.args.used.now.parts.items c.args.used.now.info.now.result c.in-Some.result c.in_ok-ty.ty c.in_ok-types.types c.in_ok-parts.field-0
     c.requires.types c.requires.parts c.in-Some.is c.in_ok-ty.ensures.held ty c.in_ok-types.ensures.held tree made c.in-Some-2.parts c.in-Some-2.is
 
@@ -32,6 +32,6 @@ returns-in-None-clause-trees c =
     let s3 = c.cell_list.new.store in
     let ty = c.in_ok-ty.ensures.tree ∙ ap (λ (l : List TermId). inst_types (tree_at s0 c.in-Some.result) (trees_at s0 l)) c.deref.ensures.value in
     let tree = c.in_ok-types.ensures.tree ∙ ap (λ (l : List TermId). cells (trees_at s1 l)) c.deref-2.ensures.value in
-    let made = subst (λ (l : List TermId). IsMade s3 (Some (cells (trees_at s2 l))) c.in_ok-parts.field-0) c.deref-3.ensures.value c.in_ok-parts.ensures.made in
+    let made = subst (λ (l : List TermId). IsTreeMade s3 (Some (cells (trees_at s2 l))) c.in_ok-parts.field-0) c.deref-3.ensures.value c.in_ok-parts.ensures.made in
     use_refused s0 s1 s2 s3 c.in_ok-ty.ensures.grows c.in_ok-types.ensures.grows c.in_ok-parts.ensures.grows c.args.used.now.types.items c.args.used.now.parts.items c.args.used.now.info.now.result c.in-Some.result c.in_ok-ty.ty c.in_ok-types.types c.in_ok-parts.field-0
     c.requires.types c.requires.parts c.in-Some.is c.in_ok-ty.ensures.held ty c.in_ok-types.ensures.held tree made c.in-None.is

@@ -3,7 +3,7 @@ use Rattle.std.specs.Option.{option_map}
 use Rattle.tasks.specs.Meaning.{task_at, trees_at}
 use Rattle.tree_lines.specs.Words.{texts, at_number}
 use Rattle.tree_lines.specs.Lines.{SymbolUse}
-use Rattle.tree_lines.specs.Made.{earlier_at, meaning_at, use_at}
+use Rattle.tree_lines.specs.Made.{earlier_at, named_meaning, use_at}
 use Rattle.tree_lines.proofs.Making.{known_later, uses_same, words_used}
 use Rattle.tree_lines.proofs.uses.use_of_words.Goals as goal
 
@@ -15,7 +15,7 @@ returns-in-Some-clause-uses c =
     let s = c.args.store.now in
     let s' = c.meaning_of.new.store in
     let x = c.args.x.now in
-    let n = meaning_at s' c.in-Some.named in
+    let n = named_meaning s' c.in-Some.named in
     let words = c.args.words.now in
     let said = rw c.in-Some.is at c.in_ok-named.ensures.meaning in
     let e = uses_same s s' c.in_ok-named.ensures.grows x c.requires.known c.args.parts.now c.requires.parts (texts (take (length words - 1) (drop 1 words))) n

@@ -1,7 +1,7 @@
 use Rattle.std.proofs.Common.{List, subst, ap}
 use Rattle.trees.specs.Node.{tree_at}
 use Rattle.tasks.specs.Typing.{members}
-use Rattle.tree_lines.specs.Words.{Word}
+use Rattle.tree_lines.specs.Words.{LineWord}
 use Rattle.tree_writing.specs.Referring.{words_of}
 use Rattle.tree_writing.specs.Naming.{PushesSymbol}
 use Rattle.tree_writing.proofs.Reading.{type_back}
@@ -13,5 +13,5 @@ returns c t r are =
     let p = c.type_parts-symbol.result in
     let types = members (tree_at s p.1) in
     type_back s t c.args.x.now.table.now c.args.x.now.lines.now r p.0 types (tree_at s c.args.ty) (words_of c.push_symbol.new.words.items) are
-    (subst (λ (old : List Word). PushesSymbol s c.args.x.now.table.now c.args.x.now.lines.now p.0 types old (words_of c.push_symbol.new.words.items)) (ap words_of c.new-words.ensures.items) c.in_ok-push_symbol.ensures)
+    (subst (λ (old : List LineWord). PushesSymbol s c.args.x.now.table.now c.args.x.now.lines.now p.0 types old (words_of c.push_symbol.new.words.items)) (ap words_of c.new-words.ensures.items) c.in_ok-push_symbol.ensures)
     c.type_parts-symbol.ensures.same

@@ -1,7 +1,7 @@
 use Rattle.std.proofs.Common.{Some, sym, subst, ap, ◌∙◌}
 use Rattle.trees.specs.Node.{tree_at}
 use Rattle.trees.specs.Sorts.{Fits}
-use Rattle.tree_lines.specs.Words.{Word}
+use Rattle.tree_lines.specs.Words.{LineWord}
 use Rattle.tree_writing.specs.Referring.{words_of}
 use Rattle.tree_writing.specs.Plain.{AreTwoWords}
 use Rattle.tree_writing.proofs.PlainBack.{bound_back, param_back, not_back, eq_back, join_back, forall_back, exists_back, let_back, if_back}
@@ -46,7 +46,7 @@ returns-in-Join c =
     let e = c.in-Join.ensures.tree in
     let f = subst Fits e c.in-Join.ensures.fits in
     if_ok c.two_words-in-Join.result c.two_words-in-Join.ensures
-    (λ v h t r are. join_back s c.args.x.now.lines.now (tree_at s c.in-Join.a) (tree_at s c.in-Join.b) (words_of v.items) t c.args.x.now.table.now r are c.in-Join.op f.0.0 f.0.1 (subst (λ (w : Word). AreTwoWords s c.args.x.now.lines.now w (tree_at s c.in-Join.a) (tree_at s c.in-Join.b) (words_of v.items)) c.word_of_op.ensures h) ∙ ap Some (sym e))
+    (λ v h t r are. join_back s c.args.x.now.lines.now (tree_at s c.in-Join.a) (tree_at s c.in-Join.b) (words_of v.items) t c.args.x.now.table.now r are c.in-Join.op f.0.0 f.0.1 (subst (λ (w : LineWord). AreTwoWords s c.args.x.now.lines.now w (tree_at s c.in-Join.a) (tree_at s c.in-Join.b) (words_of v.items)) c.word_of_op.ensures h) ∙ ap Some (sym e))
 
 pub returns-in-Forall : goal.returns-in-Forall
 returns-in-Forall c =

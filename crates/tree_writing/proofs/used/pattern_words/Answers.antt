@@ -3,7 +3,7 @@ use Rattle.trees.specs.Tree.{Tree}
 use Rattle.trees.specs.Node.{tree_at}
 use Rattle.trees.specs.Sorts.{Fits}
 use Rattle.tree_writing.specs.Referring.{words_of}
-use Rattle.tree_writing.specs.Used.{IsUsed, IsPattern}
+use Rattle.tree_writing.specs.Used.{IsUsed, HasPatternForm}
 use Rattle.tree_writing.proofs.UsedBack.{any_back, var_back, alias_back, con_back, some_and, no_other_pattern}
 use Rattle.tree_writing.proofs.Reading.{if_ok}
 use Rattle.tree_writing.proofs.used.pattern_words.Goals as goal
@@ -11,7 +11,7 @@ use Rattle.tree_writing.proofs.used.pattern_words.Goals as goal
 pub unreachable-requires : goal.unreachable-requires
 unreachable-requires c =
     let s = c.args.x.now.store.now in
-    no_other_pattern s c.node.result (subst IsPattern c.node.ensures.tree c.requires.pattern) (λ a e. c.in_default.not-PatAny a e) (λ a e. c.in_default.not-PatVar a e) (λ k x y z e. c.in_default.not-PatCon k x y z e) (λ a e. c.in_default.not-PatAlias a e)
+    no_other_pattern s c.node.result (subst HasPatternForm c.node.ensures.tree c.requires.pattern) (λ a e. c.in_default.not-PatAny a e) (λ a e. c.in_default.not-PatVar a e) (λ k x y z e. c.in_default.not-PatCon k x y z e) (λ a e. c.in_default.not-PatAlias a e)
 
 pub returns-in-PatAny : goal.returns-in-PatAny
 returns-in-PatAny c =

@@ -1,6 +1,6 @@
 use Rattle.std.proofs.Common.{All, take}
-use Rattle.written_files.specs.Named.{IsPlain}
+use Rattle.written_files.specs.Named.{IsPlainByte}
 use Rattle.written_files.proofs.named.is_word.Given as goal
 
 abbrev pub invariant-loop-byte : goal.invariant-loop-byte
-invariant-loop-byte l = All IsPlain (take l.byte-index l.name)
+invariant-loop-byte l = All IsPlainByte (take l.byte-index l.name)

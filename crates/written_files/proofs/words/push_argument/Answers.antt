@@ -7,7 +7,7 @@ use Rattle.rule_words.specs.declared.argument.Argument.{Argument}
 use Rattle.rule_words.specs.Arguments.{argument_at}
 use Rattle.tree_writing.specs.Referring.{words_of}
 use Rattle.tree_writing.proofs.Reading.{on_ok}
-use Rattle.written_files.specs.Words.{IsReady, PushesArguments}
+use Rattle.written_files.specs.Words.{IsArgumentReady, PushesArguments}
 use Rattle.written_files.proofs.Pushing.{number_pushed, integer_pushed, expression_pushed, type_pushed}
 use Rattle.written_files.proofs.words.push_argument.Goals as goal
 
@@ -47,7 +47,7 @@ returns-in-Expression c =
     let x = c.args.x.now in
     let old = words_of c.args.words.now.items in
     let new = words_of c.push_line_number.new.words.items in
-    let ready = subst (IsReady x) c.in-Expression.is c.requires.ready in
+    let ready = subst (IsArgumentReady x) c.in-Expression.is c.requires.ready in
     on_ok c.push_line_number.result c.push_line_number.ensures
     (λ h. subst (λ (a : Argument). PushesArguments x old new (argument_at x.store.now a ∷ [])) (sym c.in-Expression.is) (expression_pushed x old new (tree_at x.store.now c.in-Expression.e) ready.1.sort h))
 
@@ -57,6 +57,6 @@ returns-in-Type c =
     let x = c.args.x.now in
     let old = words_of c.args.words.now.items in
     let new = words_of c.push_line_number-in-Type.new.words.items in
-    let ready = subst (IsReady x) c.in-Type.is c.requires.ready in
+    let ready = subst (IsArgumentReady x) c.in-Type.is c.requires.ready in
     on_ok c.push_line_number-in-Type.result c.push_line_number-in-Type.ensures
     (λ h. subst (λ (a : Argument). PushesArguments x old new (argument_at x.store.now a ∷ [])) (sym c.in-Type.is) (type_pushed x old new (tree_at x.store.now c.in-Type.y) ready.1.sort h))

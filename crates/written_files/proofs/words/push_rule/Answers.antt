@@ -5,7 +5,7 @@ use Rattle.rule_words.specs.Arguments.{arguments_at}
 use Rattle.rule_words.specs.Rules.{name_by_word}
 use Rattle.tree_writing.specs.Referring.{words_of}
 use Rattle.tree_writing.proofs.Reading.{on_ok}
-use Rattle.written_files.specs.Words.{IsReady, PushesArguments}
+use Rattle.written_files.specs.Words.{IsArgumentReady, PushesArguments}
 use Rattle.written_files.proofs.Pushing.{arguments_ready, rule_pushed}
 use Rattle.written_files.proofs.words.push_rule.Goals as goal
 
@@ -14,7 +14,7 @@ push_arguments-requires-clause-ready c =
     let x = c.args.x.now in
     let s = x.store.now in
     let written = c.in_ok-written.written in
-    subst (All (IsReady x)) (sym c.deref.ensures.value) (arguments_ready x written.name written.arguments.items (rule_at s c.args.rule.now) (c.in_ok-written.ensures.held s c.requires.held) (c.in_ok-written.ensures.reads_back s) c.requires.ready)
+    subst (All (IsArgumentReady x)) (sym c.deref.ensures.value) (arguments_ready x written.name written.arguments.items (rule_at s c.args.rule.now) (c.in_ok-written.ensures.held s c.requires.held) (c.in_ok-written.ensures.reads_back s) c.requires.ready)
 
 pub returns : goal.returns
 returns c =

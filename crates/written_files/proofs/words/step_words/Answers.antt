@@ -1,7 +1,7 @@
 use Rattle.std.proofs.Common.{List, ℕ, ap, subst}
 use Rattle.trees.specs.declared.TermId.{TermId}
 use Rattle.tasks.specs.Meaning.{trees_at}
-use Rattle.tree_lines.specs.Words.{Word}
+use Rattle.tree_lines.specs.Words.{LineWord}
 use Rattle.tree_writing.specs.Referring.{words_of, PushesNumbers}
 use Rattle.written_files.specs.Words.{PushesSequent}
 use Rattle.written_files.proofs.Pushing.{step_pushed}
@@ -17,6 +17,6 @@ returns c =
     let three = words_of c.push_rule.new.words.items in
     let four = words_of c.push_word-2.new.words.items in
     let five = words_of c.push_numbers.new.words.items in
-    let sequent = subst (λ (old : List Word). PushesSequent x old one (trees_at s st.sequent)) (ap words_of c.new-words.ensures.items) (subst (λ (ids : List TermId). PushesSequent x (words_of c.new-words.result.items) one (trees_at s ids)) c.as_slice.ensures c.in_ok-push_sequent.ensures) in
+    let sequent = subst (λ (old : List LineWord). PushesSequent x old one (trees_at s st.sequent)) (ap words_of c.new-words.ensures.items) (subst (λ (ids : List TermId). PushesSequent x (words_of c.new-words.result.items) one (trees_at s ids)) c.as_slice.ensures c.in_ok-push_sequent.ensures) in
     let premises = subst (λ (ns : List ℕ). PushesNumbers four five ns) c.as_slice-2.ensures c.in_ok-push_numbers.ensures in
     step_pushed x st one two three four five sequent c.in_ok-push_word.ensures c.in_ok-push_rule.ensures c.in_ok-push_word-2.ensures premises

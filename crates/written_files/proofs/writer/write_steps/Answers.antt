@@ -3,7 +3,7 @@ use Rattle.std.specs.Prelude.{IfSome, IfNone}
 use Rattle.rule_rows.specs.Meaning.{steps_at}
 use Rattle.tasks.specs.Meaning.{task_at}
 use Rattle.written_files.specs.Named.{AreWords, AreNamed}
-use Rattle.written_files.specs.Written.{ReadsBack}
+use Rattle.written_files.specs.Written.{StepsReadBack}
 use Rattle.written_files.proofs.Derivations.{no_low}
 use Rattle.written_files.proofs.writer.write_steps.Goals as goal
 
@@ -14,9 +14,9 @@ unreachable-requires c =
 pub returns-clause-reads_back : goal.returns-clause-reads_back
 returns-clause-reads_back c =
     let all = steps_at c.args.store.now c.args.steps.now in
-    (subst (λ o. IfSome o (λ v. ReadsBack c.args.table.now all v.items)) c.in-Some.is c.in_ok-found.ensures.some) (task_at c.args.store.now c.args.task.now) None c.requires.closes (no_low all)
+    (subst (λ o. IfSome o (λ v. StepsReadBack c.args.table.now all v.items)) c.in-Some.is c.in_ok-found.ensures.some) (task_at c.args.store.now c.args.task.now) None c.requires.closes (no_low all)
 
 pub returns-clause-low : goal.returns-clause-low
 returns-clause-low c =
     let all = steps_at c.args.store.now c.args.steps.now in
-    λ tallest low. (subst (λ o. IfSome o (λ v. ReadsBack c.args.table.now all v.items)) c.in-Some.is c.in_ok-found.ensures.some) (task_at c.args.store.now c.args.task.now) tallest c.requires.closes low
+    λ tallest low. (subst (λ o. IfSome o (λ v. StepsReadBack c.args.table.now all v.items)) c.in-Some.is c.in_ok-found.ensures.some) (task_at c.args.store.now c.args.task.now) tallest c.requires.closes low

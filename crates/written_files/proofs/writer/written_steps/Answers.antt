@@ -6,7 +6,7 @@ use Rattle.rule_rows.specs.Meaning.{steps_at}
 use Rattle.tasks.specs.Meaning.{task_at}
 use Rattle.tree_writing.proofs.Reading.{if_ok}
 use Rattle.written_files.specs.Named.{AreNamed, AreSorted}
-use Rattle.written_files.specs.Written.{ReadsBack}
+use Rattle.written_files.specs.Written.{StepsReadBack}
 use Rattle.written_files.proofs.Naming.{no_true}
 use Rattle.written_files.proofs.Rightness.{steps_sorted}
 use Rattle.written_files.proofs.writer.written_steps.Goals as goal
@@ -30,7 +30,7 @@ returns-clause-some c =
     let s = c.args.store.now in
     let later = c.new-2.new.store in
     let same = steps_later s later c.new-2.ensures.grows c.args.steps.now c.requires.held in
-    subst (λ (l : List StepTree). IfOk c.steps_text.result (λ o. IfSome o (λ v. ReadsBack c.args.table.now l v.items))) same c.steps_text.ensures.some
+    subst (λ (l : List StepTree). IfOk c.steps_text.result (λ o. IfSome o (λ v. StepsReadBack c.args.table.now l v.items))) same c.steps_text.ensures.some
 
 none_more : {A : Type 0} {P Q : Type 0} (o : Option A) → (P → Q) → IfNone o P → IfNone o Q
 none_more None f h = f h

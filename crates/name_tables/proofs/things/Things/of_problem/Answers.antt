@@ -3,7 +3,7 @@ use Rattle.std.specs.List.{flat_map}
 use Rattle.trees.specs.declared.ints.Ints.{Ints}
 use Rattle.tasks.specs.declared.signature.Signature.{Signature}
 use Rattle.tasks.specs.Meaning.{task_at}
-use Rattle.name_tables.specs.Seen.{Gains}
+use Rattle.name_tables.specs.Seen.{GainsKeys}
 use Rattle.name_tables.specs.Groups.{AreGroupsOf, instances_in}
 use Rattle.name_tables.proofs.Grouped.{problem_gained}
 use Rattle.name_tables.proofs.things.Things.of_problem.Goals as goal
@@ -16,8 +16,8 @@ returns-clause-things c =
     let ks = c.as_slice-2.result.now in
     let none : c.new-keys.result.keys ≡ [] = search rules in
     let of_task : AreGroupsOf s t groups = subst (AreGroupsOf s t) (sym c.as_slice.ensures.value) c.in_ok-groups.ensures in
-    let begun : Gains s [] (flat_map (instances_in s c.deref.result.now.ints groups) ks) c.add_all_instances.new.keys.keys =
-    subst (λ (z : List (ℕ × ℕ)). Gains s z (flat_map (instances_in s c.deref.result.now.ints groups) ks) c.add_all_instances.new.keys.keys) none c.in_ok-add_all_instances.ensures in
-    let gains : Gains s [] (flat_map (instances_in s t.ints groups) ks) c.add_all_instances.new.keys.keys =
-    subst (λ (z : Signature). Gains s [] (flat_map (instances_in s z.ints groups) ks) c.add_all_instances.new.keys.keys) c.deref.ensures begun in
+    let begun : GainsKeys s [] (flat_map (instances_in s c.deref.result.now.ints groups) ks) c.add_all_instances.new.keys.keys =
+    subst (λ (z : List (ℕ × ℕ)). GainsKeys s z (flat_map (instances_in s c.deref.result.now.ints groups) ks) c.add_all_instances.new.keys.keys) none c.in_ok-add_all_instances.ensures in
+    let gains : GainsKeys s [] (flat_map (instances_in s t.ints groups) ks) c.add_all_instances.new.keys.keys =
+    subst (λ (z : Signature). GainsKeys s [] (flat_map (instances_in s z.ints groups) ks) c.add_all_instances.new.keys.keys) c.deref.ensures begun in
     problem_gained s t groups ks c.add_all_instances.new.keys.keys of_task (c.as_slice-2.ensures.value ∙ c.in_ok-symbols.ensures s) gains

@@ -1,6 +1,6 @@
 use Rattle.std.proofs.Common.{◌∷◌, List, ap, ◌∙◌, sym, length, drop, arith, ◌-◌, ℕ}
-use Rattle.names_space.specs.Names.{Entry}
-use Rattle.names_space.specs.Kept.{brought}
+use Rattle.names_space.specs.Names.{ScopeEntry}
+use Rattle.names_space.specs.Kept.{brought_entry}
 use Rattle.names_space.proofs.Listed.{drop-brought_before, brought_before-snoc, length-brought_before}
 use Rattle.names_space.proofs.entries.Entries.bring_all.Goals as goal
 
@@ -15,10 +15,10 @@ returns-in-Err-clause-err c =
     c.remove_many.ensures
     ∙ ap (λ (n : ℕ). drop (n - c.len-before.result) c.add.new.self) c.len.ensures
     ∙ ap (λ (n : ℕ). drop (length c.add.new.self - n) c.add.new.self) c.len-before.ensures
-    ∙ ap (λ (es : List Entry). drop (length es - length c.args.self.now) es) now
+    ∙ ap (λ (es : List ScopeEntry). drop (length es - length c.args.self.now) es) now
     ∙ drop-brought_before c.args.self.now c.loop-item.yielded
 
 pub loop-item-preserved : goal.loop-item-preserved
 loop-item-preserved c =
-    let e : Entry = brought c.in-Some.item in
-    c.in_default.ensures.ok ∙ ap (λ (es : List Entry). e ∷ es) c.loop-item.invariant ∙ sym (brought_before-snoc c.args.self.now c.loop-item.yielded c.in-Some.item)
+    let e : ScopeEntry = brought_entry c.in-Some.item in
+    c.in_default.ensures.ok ∙ ap (λ (es : List ScopeEntry). e ∷ es) c.loop-item.invariant ∙ sym (brought_before-snoc c.args.self.now c.loop-item.yielded c.in-Some.item)

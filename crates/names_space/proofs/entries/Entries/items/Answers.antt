@@ -1,6 +1,6 @@
 use Rattle.std.proofs.Common.{◌≡◌, List, ℕ, ap, ◌∙◌, sym, take, ◌+◌, ◌++◌, ◌∷◌, [], false}
 use Rattle.std.proofs.lemmas.List.{take_more}
-use Rattle.names_space.specs.Names.{Entry}
+use Rattle.names_space.specs.Names.{ScopeEntry}
 use Rattle.names_space.specs.declared.entries.Stored.{Stored}
 use Rattle.names_space.specs.declared.entries.Item.{Item}
 use Rattle.names_space.proofs.Listed.{items_more}
@@ -15,5 +15,5 @@ loop-stored-preserved c =
     items_more (take (c.loop-stored.stored-index + 1) xs) (take c.loop-stored.stored-index xs) c.loop-stored.items.items c.push.new.self.items x it
     (take_more xs c.loop-stored.stored-index x c.loop-stored-test.true ∙ ap (λ (y : Stored). take c.loop-stored.stored-index xs ++ y ∷ []) (sym c.stored-item.is))
     c.in_ok-push.ensures.items
-    (ap (λ (n : List ℕ). let e : Entry = record { table = x.table; name = n; thing = x.thing; declared = false } in e) named)
+    (ap (λ (n : List ℕ). let e : ScopeEntry = record { table = x.table; name = n; thing = x.thing; declared = false } in e) named)
     c.loop-stored.invariant

@@ -6,7 +6,7 @@ use Rattle.trees.specs.Node.{tree_at}
 use Rattle.tasks.specs.Task.{neg, start}
 use Rattle.tasks.specs.Meaning.{trees_at}
 use Rattle.evidence.specs.Drafts.{Refutes, AreFormulas}
-use Rattle.tr_introduce.specs.Steps.{AreBelow}
+use Rattle.tr_introduce.specs.Steps.{AreParamsBelow}
 use Rattle.tr_introduce.proofs.Tasks.{own_locals, own_goal, own_below}
 use Rattle.tr_introduce.proofs.introducing.IntroduceTransform.glue.Goals as goal
 
@@ -20,7 +20,7 @@ pub glue_goal-requires-clause-below : goal.glue_goal-requires-clause-below
 glue_goal-requires-clause-below c =
     let d = c.args.draft.now in
     let from = c.args.from.now in
-    subst (λ (z : List TermId). AreBelow c.len-number.result (trees_at d.trees z) (tree_at d.trees from.goal)) (sym c.as_slice.ensures) (own_below d from c.len-number.result c.len-number.ensures c.requires.own)
+    subst (λ (z : List TermId). AreParamsBelow c.len-number.result (trees_at d.trees z) (tree_at d.trees from.goal)) (sym c.as_slice.ensures) (own_below d from c.len-number.result c.len-number.ensures c.requires.own)
 
 pub returns-clause-refutes : goal.returns-clause-refutes
 returns-clause-refutes c =

@@ -8,9 +8,9 @@ use Rattle.tasks.specs.Meaning.{trees_at, tasks_at}
 use Rattle.evidence.specs.Drafts.{Refutes, AreFormulas}
 use Rattle.stage_limits.specs.Laws.{limited_gives}
 use Rattle.tr_split.specs.Split.{split, split_task}
-use Rattle.tr_split.specs.Glue.{Ends}
+use Rattle.tr_split.specs.Glue.{EndsOfParts}
 use Rattle.tr_split.proofs.Glued.{own_locals, own_goal, own_ends}
-use Rattle.tr_split_goals.specs.Goals.{AreBelow}
+use Rattle.tr_split_goals.specs.Goals.{AreParamsBelow}
 use Rattle.tr_split_goals.proofs.Owned.{own_below}
 use Rattle.tr_split_goals.proofs.splitting.SplitTransform.glue.Goals as goal
 
@@ -24,7 +24,7 @@ pub glue_goal-requires-clause-below : goal.glue_goal-requires-clause-below
 glue_goal-requires-clause-below c =
     let d = c.args.draft.now in
     let from = c.args.from.now in
-    subst (λ (z : List TermId). AreBelow c.len-number.result (trees_at d.trees z) (tree_at d.trees from.goal)) (sym c.as_slice.ensures) (own_below d from c.len-number.result c.len-number.ensures c.requires.own)
+    subst (λ (z : List TermId). AreParamsBelow c.len-number.result (trees_at d.trees z) (tree_at d.trees from.goal)) (sym c.as_slice.ensures) (own_below d from c.len-number.result c.len-number.ensures c.requires.own)
 
 pub glue_goal-requires-clause-ends : goal.glue_goal-requires-clause-ends
 glue_goal-requires-clause-ends c =
@@ -32,7 +32,7 @@ glue_goal-requires-clause-ends c =
     let from = c.args.from.now in
     let is : tasks_at d.trees c.args.to.now.items ≡ split_task d.task = limited_gives (split_task d.task) (tasks_at d.trees c.args.to.now.items) c.requires.gives in
     let e = own_ends d from c.args.ends.now (tasks_at d.trees c.args.to.now.items) c.requires.own is c.requires.ends in
-    subst (λ (z : List TermId). Ends d c.args.ends.now (trees_at d.trees z) (split (tree_at d.trees from.goal))) (sym c.as_slice.ensures) e
+    subst (λ (z : List TermId). EndsOfParts d c.args.ends.now (trees_at d.trees z) (split (tree_at d.trees from.goal))) (sym c.as_slice.ensures) e
 
 pub returns-clause-refutes : goal.returns-clause-refutes
 returns-clause-refutes c =
