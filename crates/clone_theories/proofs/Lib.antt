@@ -7,3 +7,4 @@ mod Stages
 mod Contents
 mod Begun
 pub mod TypedClone
+mod Passed

@@ -21,6 +21,7 @@ use Rattle.clone_theories.specs.Planned.{IsElementsFault}
 use Rattle.clone_theories.proofs.Faults.{or_weaker, read_fault}
 use Rattle.clone_theories.proofs.Stages.{theory_is, origin_is}
 use Rattle.clone_theories.proofs.Begun.{ready, is_cloned}
+use Rattle.clone_theories.proofs.Passed.{no_ok}
 use Rattle.clone_theories.proofs.cloning.clone_known.Goals as goal
 
 pub plan_elements-requires-clause-scopes : goal.plan_elements-requires-clause-scopes
@@ -84,3 +85,21 @@ returns-in_err-plan-clause-err c =
     let told = or_weaker _ (IsCloneFault c.args.path.now es before) (read_fault c.args.path.now es before (known_theory_at s t k) c.requires.variables c.requires.found) c.in_err-plan.field-0.0
     (subst (λ (o : Origin). OrMemory (IsElementsFault before.number s before.symbols before.opened.scope o es) c.in_err-plan.field-0.0) same c.in_err-plan.ensures.err) in
     if_err c.from_residual-in_err-plan.result _ (OrMemory (IsCloneFault c.args.path.now es before)) c.from_residual-in_err-plan.ensures.1 (λ e h. rw h told)
+
+pub returns-in_err-own-clause-ok : goal.returns-in_err-own-clause-ok
+returns-in_err-own-clause-ok c = no_ok _ _ c.from_residual.result c.from_residual.ensures.1
+
+pub returns-in_err-own-clause-held : goal.returns-in_err-own-clause-held
+returns-in_err-own-clause-held c = no_ok _ _ c.from_residual.result c.from_residual.ensures.1
+
+pub returns-in_err-plan-clause-ok : goal.returns-in_err-plan-clause-ok
+returns-in_err-plan-clause-ok c = no_ok _ _ c.from_residual-in_err-plan.result c.from_residual-in_err-plan.ensures.1
+
+pub returns-in_err-plan-clause-held : goal.returns-in_err-plan-clause-held
+returns-in_err-plan-clause-held c = no_ok _ _ c.from_residual-in_err-plan.result c.from_residual-in_err-plan.ensures.1
+
+pub returns-in_err-copy_theory-clause-ok : goal.returns-in_err-copy_theory-clause-ok
+returns-in_err-copy_theory-clause-ok c = no_ok _ _ c.from_residual-in_err-copy_theory.result c.from_residual-in_err-copy_theory.ensures.1
+
+pub returns-in_err-copy_theory-clause-held : goal.returns-in_err-copy_theory-clause-held
+returns-in_err-copy_theory-clause-held c = no_ok _ _ c.from_residual-in_err-copy_theory.result c.from_residual-in_err-copy_theory.ensures.1

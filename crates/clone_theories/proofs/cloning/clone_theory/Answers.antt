@@ -12,6 +12,7 @@ use Rattle.clone_theories.specs.Owned.{no_theory}
 use Rattle.clone_theories.proofs.Faults.{or_weaker}
 use Rattle.clone_theories.proofs.TypedClone.{cloned_typed, cloned_placed}
 use Rattle.clone_theories.proofs.Putting.{number_stays}
+use Rattle.clone_theories.proofs.Passed.{no_ok}
 use Rattle.clone_theories.proofs.cloning.clone_theory.Goals as goal
 
 pub returns-clause-typed : goal.returns-clause-typed
@@ -52,3 +53,18 @@ returns-in_err-theory-clause-err c =
     let es = map element_of c.args.elements.now in
     let told = or_weaker (IsUnknownTheory p before.known before.number) (IsCloneFault p es before) (λ f h. of_path c.in-Ok.ensures h) c.in_err-theory.field-0.0 (c.in_err-theory.ensures.err s) in
     if_err c.from_residual.result _ (OrMemory (IsCloneFault p es before)) c.from_residual.ensures.1 (λ e h. rw h told)
+
+pub returns-in_err-theory-clause-ok : goal.returns-in_err-theory-clause-ok
+returns-in_err-theory-clause-ok c = no_ok _ _ c.from_residual.result c.from_residual.ensures.1
+
+pub returns-in_err-theory-clause-held : goal.returns-in_err-theory-clause-held
+returns-in_err-theory-clause-held c = no_ok _ _ c.from_residual.result c.from_residual.ensures.1
+
+pub returns-in_err-theory-clause-typed : goal.returns-in_err-theory-clause-typed
+returns-in_err-theory-clause-typed c = no_ok _ _ c.from_residual.result c.from_residual.ensures.1
+
+pub returns-in_err-theory-clause-placed : goal.returns-in_err-theory-clause-placed
+returns-in_err-theory-clause-placed c = no_ok _ _ c.from_residual.result c.from_residual.ensures.1
+
+pub returns-in_err-theory-clause-count : goal.returns-in_err-theory-clause-count
+returns-in_err-theory-clause-count c = no_ok _ _ c.from_residual.result c.from_residual.ensures.1

@@ -7,6 +7,7 @@ use Rattle.symbol_maps.proofs.Steps.{map_held, known_on}
 use Rattle.clone_copies.specs.Moves.{MoveHeld}
 use Rattle.clone_theories.proofs.Kept.{moves_held_later}
 use Rattle.clone_theories.proofs.Contents.{moves_are_held, visible_below, copies_kept, held_made, contents}
+use Rattle.clone_theories.proofs.Passed.{no_ok, no_value}
 use Rattle.clone_theories.proofs.copying.copy_contents.Goals as goal
 
 pub rename-requires : goal.rename-requires
@@ -52,3 +53,21 @@ returns-clause-held c = c.in_ok-copy_places.ensures.held
 
 pub returns-clause-grows : goal.returns-clause-grows
 returns-clause-grows c = Grows_trans c.args.store.now c.copy_symbols.new.store c.copy_places.new.store c.copy_symbols.ensures.grows c.copy_places.ensures.grows
+
+pub returns-in_err-made-clause-copies : goal.returns-in_err-made-clause-copies
+returns-in_err-made-clause-copies c = no_value _ _ c.from_residual.result c.from_residual.ensures.1
+
+pub returns-in_err-made-clause-held : goal.returns-in_err-made-clause-held
+returns-in_err-made-clause-held c = no_ok _ _ c.from_residual.result c.from_residual.ensures.1
+
+pub returns-in_err-moves-clause-copies : goal.returns-in_err-moves-clause-copies
+returns-in_err-moves-clause-copies c = no_value _ _ c.from_residual-in_err-moves.result c.from_residual-in_err-moves.ensures.1
+
+pub returns-in_err-moves-clause-held : goal.returns-in_err-moves-clause-held
+returns-in_err-moves-clause-held c = no_ok _ _ c.from_residual-in_err-moves.result c.from_residual-in_err-moves.ensures.1
+
+pub returns-in_err-copy_places-clause-copies : goal.returns-in_err-copy_places-clause-copies
+returns-in_err-copy_places-clause-copies c = no_value _ _ c.from_residual-in_err-copy_places.result c.from_residual-in_err-copy_places.ensures.1
+
+pub returns-in_err-copy_places-clause-held : goal.returns-in_err-copy_places-clause-held
+returns-in_err-copy_places-clause-held c = no_ok _ _ c.from_residual-in_err-copy_places.result c.from_residual-in_err-copy_places.ensures.1

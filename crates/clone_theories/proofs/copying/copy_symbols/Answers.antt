@@ -8,6 +8,7 @@ use Rattle.symbol_maps.proofs.Steps.{map_held, map_stays, known_on, known_back}
 use Rattle.elab_parts.proofs.Entering.{entries_stay, signature_grows}
 use Rattle.clone_copies.specs.Entries.{entries_copied}
 use Rattle.clone_theories.proofs.Kept.{all_held, signature_made, moves_held_later, moves_grow}
+use Rattle.clone_theories.proofs.Passed.{no_ok, no_value}
 use Rattle.clone_theories.proofs.copying.copy_symbols.Goals as goal
 
 pub push_entries-requires-clause-int : goal.push_entries-requires-clause-int
@@ -54,3 +55,21 @@ returns-clause-moves c =
 
 pub returns-clause-known : goal.returns-clause-known
 returns-clause-known c = known_back c.args.made.now.morphism c.args.store.now c.map_moves.new.store c.map_moves.ensures.grows c.requires.map_held c.push_entries.new.store c.push_entries.new.known c.in_ok-push_entries.ensures.known
+
+pub returns-in_err-mapped-clause-entries : goal.returns-in_err-mapped-clause-entries
+returns-in_err-mapped-clause-entries c = no_ok _ _ c.from_residual.result c.from_residual.ensures.1
+
+pub returns-in_err-mapped-clause-moves : goal.returns-in_err-mapped-clause-moves
+returns-in_err-mapped-clause-moves c = no_value _ _ c.from_residual.result c.from_residual.ensures.1
+
+pub returns-in_err-mapped-clause-known : goal.returns-in_err-mapped-clause-known
+returns-in_err-mapped-clause-known c = no_ok _ _ c.from_residual.result c.from_residual.ensures.1
+
+pub returns-in_err-push_entries-clause-entries : goal.returns-in_err-push_entries-clause-entries
+returns-in_err-push_entries-clause-entries c = no_ok _ _ c.from_residual-in_err-push_entries.result c.from_residual-in_err-push_entries.ensures.1
+
+pub returns-in_err-push_entries-clause-moves : goal.returns-in_err-push_entries-clause-moves
+returns-in_err-push_entries-clause-moves c = no_value _ _ c.from_residual-in_err-push_entries.result c.from_residual-in_err-push_entries.ensures.1
+
+pub returns-in_err-push_entries-clause-known : goal.returns-in_err-push_entries-clause-known
+returns-in_err-push_entries-clause-known c = no_ok _ _ c.from_residual-in_err-push_entries.result c.from_residual-in_err-push_entries.ensures.1

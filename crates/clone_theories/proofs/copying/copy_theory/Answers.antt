@@ -9,6 +9,7 @@ use Rattle.clone_theories.specs.Owned.{known_theory_at}
 use Rattle.clone_theories.specs.Planned.{planned}
 use Rattle.clone_theories.specs.Copied.{IsCopyReady, AreContents}
 use Rattle.clone_theories.proofs.Stages.{named_state, named_held, copied_by}
+use Rattle.clone_theories.proofs.Passed.{no_ok}
 use Rattle.clone_theories.proofs.copying.copy_theory.Goals as goal
 
 pub copy_contents-requires : goal.copy_contents-requires
@@ -40,3 +41,15 @@ returns-clause-copied c =
 
 pub returns-clause-held : goal.returns-clause-held
 returns-clause-held c = ok_any c.bring_names.result (named_held c.copy_contents.new.store c.copy_contents.new.typed c.copy_contents.new.open c.bring_names.new.open c.bring_names.ensures.others c.in_ok-moves.ensures.held)
+
+pub returns-in_err-within-clause-copied : goal.returns-in_err-within-clause-copied
+returns-in_err-within-clause-copied c = no_ok _ _ c.from_residual.result c.from_residual.ensures.1
+
+pub returns-in_err-within-clause-held : goal.returns-in_err-within-clause-held
+returns-in_err-within-clause-held c = no_ok _ _ c.from_residual.result c.from_residual.ensures.1
+
+pub returns-in_err-moves-clause-copied : goal.returns-in_err-moves-clause-copied
+returns-in_err-moves-clause-copied c = no_ok _ _ c.from_residual-in_err-moves.result c.from_residual-in_err-moves.ensures.1
+
+pub returns-in_err-moves-clause-held : goal.returns-in_err-moves-clause-held
+returns-in_err-moves-clause-held c = no_ok _ _ c.from_residual-in_err-moves.result c.from_residual-in_err-moves.ensures.1

@@ -6,6 +6,7 @@ use Rattle.clone_elements.specs.Plans.{map_of}
 use Rattle.clone_elements.specs.Origins.{origin_at}
 use Rattle.clone_elements.specs.Meaning.{type_pairs_at, symbol_pairs}
 use Rattle.clone_theories.specs.Planned.{planned_kept}
+use Rattle.clone_theories.proofs.Passed.{no_value}
 use Rattle.clone_theories.proofs.copying.rename.Goals as goal
 
 pub returns : goal.returns
@@ -29,3 +30,9 @@ returns c =
       held = c.in_ok-morphism.ensures.held;
       symbols = all;
     }
+
+pub returns-in_err-symbols : goal.returns-in_err-symbols
+returns-in_err-symbols c = no_value _ _ c.from_residual.result c.from_residual.ensures.1
+
+pub returns-in_err-morphism : goal.returns-in_err-morphism
+returns-in_err-morphism c = no_value _ _ c.from_residual-in_err-morphism.result c.from_residual-in_err-morphism.ensures.1

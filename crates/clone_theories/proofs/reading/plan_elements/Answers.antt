@@ -12,6 +12,7 @@ use Rattle.clone_elements.specs.Origins.{origin_at}
 use Rattle.clone_elements.specs.Meaning.{sides_at}
 use Rattle.clone_theories.proofs.Faults.{or_weaker}
 use Rattle.clone_theories.proofs.Told.{is_read, is_read_fault}
+use Rattle.clone_theories.proofs.Passed.{no_ok, no_value}
 use Rattle.clone_theories.proofs.reading.plan_elements.Goals as goal
 
 pub plan_of-requires-clause-decls : goal.plan_of-requires-clause-decls
@@ -41,3 +42,9 @@ returns-clause-err c =
     let told = is_read_fault s (symbols_at s c.args.sig.now.symbols) c.args.scope.now o (map element_of c.args.elements.now) c.in_ok-sides.ensures.free
     _ _ _ c.in_ok-sides.ensures.entries.symbols here (ap (sides_at s1) c.as_slice.ensures.value ∙ c.in_ok-sides.ensures.sides) c.args.number in
     MatchResult-weaker c.plan_of.result c.plan_of.ensures.err (λ x h. h) (or_weaker _ _ told)
+
+pub returns-in_err-sides-clause-entries : goal.returns-in_err-sides-clause-entries
+returns-in_err-sides-clause-entries c = no_ok _ _ c.from_residual.result c.from_residual.ensures.1
+
+pub returns-in_err-sides-clause-read : goal.returns-in_err-sides-clause-read
+returns-in_err-sides-clause-read c = no_value _ _ c.from_residual.result c.from_residual.ensures.1

@@ -9,6 +9,7 @@ use Rattle.clone_elements.specs.Plans.{sides_made}
 use Rattle.clone_elements.specs.Origins.{origin_at, place_at}
 use Rattle.clone_theories.specs.Cloned.{IsNamesFault}
 use Rattle.clone_theories.proofs.Faults.{names_fault}
+use Rattle.clone_theories.proofs.Passed.{no_ok, no_value}
 use Rattle.clone_theories.proofs.reading.read_sides.Goals as goal
 
 pub returns-in-Ok-clause-sides : goal.returns-in-Ok-clause-sides
@@ -24,3 +25,15 @@ returns-clause-err c =
     let s = c.args.store.now in
     let found = rights_fault s (symbols_at s c.args.sig.now.symbols) c.args.scope.now (map element_of c.args.elements.now) in
     subst (OrMemory (IsNamesFault c.args.number found)) (sym c.naming.ensures) (names_fault c.args.number c.in-Err.fault found c.in-Err.ensures.err)
+
+pub returns-in_err-names-clause-entries : goal.returns-in_err-names-clause-entries
+returns-in_err-names-clause-entries c = no_ok _ _ c.from_residual.result c.from_residual.ensures.1
+
+pub returns-in_err-names-clause-held : goal.returns-in_err-names-clause-held
+returns-in_err-names-clause-held c = no_value _ _ c.from_residual.result c.from_residual.ensures.1
+
+pub returns-in_err-names-clause-sides : goal.returns-in_err-names-clause-sides
+returns-in_err-names-clause-sides c = no_value _ _ c.from_residual.result c.from_residual.ensures.1
+
+pub returns-in_err-names-clause-free : goal.returns-in_err-names-clause-free
+returns-in_err-names-clause-free c = no_ok _ _ c.from_residual.result c.from_residual.ensures.1
