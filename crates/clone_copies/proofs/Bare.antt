@@ -24,9 +24,9 @@ use Rattle.theory_states.specs.declared.states.Typed.{Typed}
 use Rattle.theory_states.specs.States.{KnownTree, OpenedTree, StateTree, joined_places, with_declaration}
 use Rattle.theory_states.specs.Meaning.{known_at, opened_at, state_at, TypedHeld, OpenedHeld, StateHeld}
 use Rattle.theory_states.proofs.Growing.{state_grows, held_grows, typed_held_later, all_known_stay}
-use Rattle.symbol_maps.specs.Mapped.{Map}
-use Rattle.symbol_maps.specs.Meaning.{map_at, MapHeld}
-use Rattle.symbol_maps.proofs.Steps.{map_stays}
+use Rattle.clones.specs.Mapped.{Map}
+use Rattle.clones.specs.Meaning.{map_at, MapHeld}
+use Rattle.clones.proofs.Steps.{map_stays}
 use Rattle.clone_copies.specs.declared.places.Job.{Job}
 use Rattle.clone_copies.specs.Places.{Copying, axiom_at, with_copied_axiom, goal_of, goal_with, next_numbers, rigid_types, with_joined}
 use Rattle.clone_copies.specs.Meaning.{copying_at, bare_at}

@@ -2,7 +2,7 @@
 use Rattle.std.specs.Prelude.{ℕ, List, map}
 use Rattle.tasks.specs.Task.{SymbolTree, symbol_or}
 use Rattle.syntax_why.specs.Lexeme.{Word}
-use Rattle.symbol_maps.specs.Mapped.{Map}
+use Rattle.clones.specs.Mapped.{Map}
 use Rattle.clones.specs.Copies.{entry_copied}
 
 abbrev pub entries_copied : List SymbolTree → Map → Word → Word → List ℕ → List SymbolTree

@@ -2,7 +2,7 @@
 use Rattle.std.specs.Prelude.{◌≡◌, ℕ, ◌<◌, nat_eq, List, [], map, length, All}
 use Rattle.indexmap.specs.IndexMap.{IndexMap, get}
 use Rattle.trees.specs.Tree.{Tree}
-use Rattle.symbol_maps.specs.Meaning.{map_at, MapHeld}
+use Rattle.clones.specs.Meaning.{map_at, MapHeld}
 use Rattle.theory_states.specs.declared.states.Typed.{Typed}
 use Rattle.theory_states.specs.declared.states.Opened.{Opened}
 use Rattle.theory_states.specs.States.{StateTree}

@@ -7,9 +7,9 @@ use Rattle.names_space.specs.declared.Table.{Table}
 use Rattle.names_space.specs.declared.Table.TheVariants.{Types, Symbols, Propositions, Scopes}
 use Rattle.names_space.specs.declared.TypeName.{TypeName}
 use Rattle.names_space.specs.declared.TypeName.TheVariants as stands
-use Rattle.scope_moves.specs.declared.moves.Move.{Move}
-use Rattle.scope_moves.specs.declared.moves.Move.TheVariants.{Brings, Opens, Closes}
-use Rattle.symbol_maps.specs.Mapped.{Map, mapped}
+use Rattle.theory_states.specs.declared.moves.Move.{Move}
+use Rattle.theory_states.specs.declared.moves.Move.TheVariants.{Brings, Opens, Closes}
+use Rattle.clones.specs.Mapped.{Map, mapped}
 use Rattle.elab_walk.specs.Drafts.{HoldsType}
 
 -- it stands for this type at so many type variables

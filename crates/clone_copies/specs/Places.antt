@@ -7,7 +7,7 @@ use Rattle.tasks.specs.Rigid.{rigid_symbol}
 use Rattle.syntax_why.specs.Lexeme.{Word}
 use Rattle.syntax_why.specs.declared.declarations.PropKind.{PropKind}
 use Rattle.syntax_why.specs.declared.declarations.PropKind.TheVariants as kind
-use Rattle.symbol_maps.specs.Mapped.{Map}
+use Rattle.clones.specs.Mapped.{Map}
 use Rattle.clones.specs.Copies.{declaration_copied}
 use Rattle.goal_tasks.specs.Theories.{GoalTree}
 use Rattle.theory_states.specs.declared.states.AxiomAt.{AxiomAt}

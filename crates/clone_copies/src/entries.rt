@@ -5,14 +5,13 @@ ghost use Rattle.trees.specs.Tree.{Tree};
 ghost use Rattle.trees.specs.Node.{Grows};
 ghost use Rattle.tasks.specs.Task.{int_symbol};
 ghost use Rattle.tasks.specs.Meaning.{symbols_at, SymbolHeld};
-ghost use Rattle.symbol_maps.specs.Meaning.{map_at, MapHeld, AreKnown};
+ghost use Rattle.clones.specs.Meaning.{map_at, MapHeld, AreKnown};
 ghost use Rattle.clone_copies.specs.Entries.{entries_copied};
 
 use clone_elements::entry_or;
-use clones::copy_entry;
+use clones::{Known, SymbolMap, copy_entry};
 use outside::Seq;
 use std::alloc::{AllocError, Global};
-use symbol_maps::{Known, SymbolMap};
 use tasks::{Signature, SymbolInfo};
 use term_store::Store;
 

@@ -5,18 +5,18 @@ ghost use Rattle.trees.specs.Tree.{Tree};
 ghost use Rattle.trees.specs.Node.{tree_at, Grows};
 ghost use Rattle.names_space.specs.declared.TypeName.TheVariants.{Alias};
 ghost use Rattle.tasks.specs.Meaning.{symbols_at};
-ghost use Rattle.symbol_maps.specs.Mapped.{mapped};
-ghost use Rattle.symbol_maps.specs.Meaning.{map_at, MapHeld, AreKnown};
+ghost use Rattle.clones.specs.Mapped.{mapped};
+ghost use Rattle.clones.specs.Meaning.{map_at, MapHeld, AreKnown};
 ghost use Rattle.elab_walk.specs.Drafts.{HoldsType};
 ghost use Rattle.clone_copies.specs.Moves.{IsAliasOf, IsTypeMapped, IsThingMapped, IsMoveMapped, AreMovesMapped, IsThingHeld, MoveHeld};
 
 use clone_elements::vars_of;
+use clones::{Known, SymbolMap, map_symbol, map_tree};
 use names_space::{Table, TypeName};
-use scope_moves::Move;
 use std::alloc::{AllocError, Global};
-use symbol_maps::{Known, SymbolMap, map_symbol, map_tree};
 use tasks::Signature;
 use term_store::Store;
+use theory_states::Move;
 use trees::TermId;
 
 // The name of a type at so many type variables.

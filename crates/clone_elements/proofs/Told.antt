@@ -6,7 +6,7 @@ use Rattle.tasks.specs.Task.{SymbolTree, DeclarationTree}
 use Rattle.tasks.specs.Meaning.{DeclHeld}
 use Rattle.tasks.proofs.Growth.{declarations_later}
 use Rattle.std.proofs.Common.{All}
-use Rattle.symbol_maps.specs.Mapped.{Map}
+use Rattle.clones.specs.Mapped.{Map}
 use Rattle.clone_elements.specs.declared.left.Source.{Source}
 use Rattle.clone_elements.specs.Left.{Origin}
 use Rattle.clone_elements.specs.Plans.{SideTree, PlacedFates}

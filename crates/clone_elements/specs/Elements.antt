@@ -9,7 +9,7 @@ use Rattle.tasks.specs.Task.{SymbolTree, symbol_or}
 use Rattle.syntax_why.specs.declared.declarations.SymbolWord.{SymbolWord}
 use Rattle.syntax_why.specs.declared.declarations.SymbolWord.TheVariants as word
 use Rattle.syntax_why.specs.Declarations.{Element, type_element, symbol_element, prop_element, all_axioms}
-use Rattle.symbol_maps.specs.Mapped.{Map, mapped}
+use Rattle.clones.specs.Mapped.{Map, mapped}
 use Rattle.clone_elements.specs.Left.{Origin, symbol_at_place}
 use Rattle.clone_elements.specs.Rights.{RightTree, symbol_right}
 use Rattle.clone_elements.specs.Plans.{SideTree, PlacedFates, with_side}

@@ -18,8 +18,8 @@ use Rattle.clone_elements.specs.declared.elements.ElementFault.{ElementFault}
 use Rattle.clone_elements.specs.declared.elements.ElementFault.TheVariants as fault
 use Rattle.tasks.specs.Task.{SymbolTree}
 use Rattle.tasks.specs.Meaning.{DeclHeld}
-use Rattle.symbol_maps.specs.Mapped.{Map}
-use Rattle.symbol_maps.specs.Meaning.{MapHeld}
+use Rattle.clones.specs.Mapped.{Map}
+use Rattle.clones.specs.Meaning.{MapHeld}
 use Rattle.elab_parts.specs.Entries.{IsSignature}
 use Rattle.clone_elements.specs.Left.{Origin}
 use Rattle.clone_elements.specs.Elements.{SidesTold}

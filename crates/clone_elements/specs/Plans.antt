@@ -9,7 +9,7 @@ use Rattle.syntax_why.specs.declared.declarations.PropKind.TheVariants as kind
 use Rattle.syntax_why.specs.Declarations.{Element, type_element, symbol_element, prop_element, all_axioms}
 use Rattle.names_space.specs.Names.{ScopeNames}
 use Rattle.syntax_why.specs.Lexeme.{Word}
-use Rattle.symbol_maps.specs.Mapped.{Map}
+use Rattle.clones.specs.Mapped.{Map}
 use Rattle.clone_elements.specs.Left.{Origin, decl_or, symbol_at_place, element_key, place_by}
 use Rattle.clone_elements.specs.Rights.{RightTree, type_right, symbol_right, right_made, right_tuples}
 use Rattle.clone_elements.specs.declared.plans.Fate.{Fate}

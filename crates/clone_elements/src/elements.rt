@@ -6,8 +6,8 @@ ghost use Rattle.trees.specs.Node.{tree_at, Holds, Grows};
 ghost use Rattle.tasks.specs.Task.{symbol_or, int_symbol};
 ghost use Rattle.tasks.specs.Meaning.{symbols_at, symbol_at, trees_at, declarations_at, SymbolHeld, DeclHeld};
 ghost use Rattle.syntax_why.specs.SurfaceDeclarations.{element_of, element_by};
-ghost use Rattle.symbol_maps.specs.Mapped.{mapped};
-ghost use Rattle.symbol_maps.specs.Meaning.{map_at, MapHeld, AreKnown};
+ghost use Rattle.clones.specs.Mapped.{mapped};
+ghost use Rattle.clones.specs.Meaning.{map_at, MapHeld, AreKnown};
 ghost use Rattle.elab_parts.specs.Entries.{IsSignature};
 ghost use Rattle.clone_elements.specs.Left.{symbol_at_place};
 ghost use Rattle.clone_elements.specs.Plans.{with_sides, symbol_for, symbols_replaced, has_all, is_all, no_fates, kept, map_of, tried_map, fates_of, types_replaced};
@@ -21,9 +21,9 @@ use crate::plans::{
     types_replaced, vars_of,
 };
 use crate::rights::Right;
+use clones::{Known, SymbolMap, map_tree, no_trees};
 use indexmap::IndexMap;
 use std::alloc::{AllocError, AllocFailed, Global};
-use symbol_maps::{Known, SymbolMap, map_tree, no_trees};
 use syntax_why::{ElemNode, ElemTree, SymbolWord};
 use tasks::{Signature, SymbolInfo, SymbolKind};
 use term_store::Store;

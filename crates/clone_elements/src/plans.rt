@@ -7,7 +7,7 @@ ghost use Rattle.tasks.specs.Task.{symbol_or};
 ghost use Rattle.tasks.specs.Meaning.{symbols_at, body_at, declarations_at};
 ghost use Rattle.syntax_why.specs.SurfaceDeclarations.{element_of, element_by};
 ghost use Rattle.elab_walk.specs.Drafts.{HoldsType};
-ghost use Rattle.symbol_maps.specs.Meaning.{map_at, MapHeld};
+ghost use Rattle.clones.specs.Meaning.{map_at, MapHeld};
 ghost use Rattle.clone_elements.specs.Left.{abstract_symbol, symbol_at_place};
 ghost use Rattle.clone_elements.specs.Plans.{element_fate, with_side, is_replaced, type_with, type_for, replaced_types, types_replaced, with_symbol, with_type, with_numbers, with_symbols, with_mapped_types, map_of, kept_at, kept};
 ghost use Rattle.clone_elements.specs.Origins.{origin_at};
@@ -15,9 +15,9 @@ ghost use Rattle.clone_elements.specs.Meaning.{right_at, RightHeld, side_at, sid
 
 use crate::left::Source;
 use crate::rights::Right;
+use clones::SymbolMap;
 use indexmap::IndexMap;
 use std::alloc::{AllocError, Global};
-use symbol_maps::SymbolMap;
 use syntax_why::{ElemNode, ElemTree, PropKind};
 use tasks::{Body, Decl, Signature, made_by};
 use term_store::Store;

@@ -21,16 +21,16 @@ use Rattle.theory_states.specs.declared.states.Typed.{Typed}
 use Rattle.theory_states.specs.States.{KnownTree, StateTree, known_named}
 use Rattle.theory_states.specs.Meaning.{known_at, state_at, StateHeld}
 use Rattle.theory_states.specs.Uses.{path_text, last_part, alias_text}
-use Rattle.sound_states.specs.Typed.{state_setting, IsTypedState}
+use Rattle.valid_tasks.specs.TypedStates.{state_setting, IsTypedState}
 use Rattle.clone_elements.specs.declared.elements.Plan.{Plan}
 use Rattle.clone_elements.specs.Left.{Origin}
 use Rattle.clone_elements.specs.Rights.{all_variables_fault, rights_tuples}
 use Rattle.clone_copies.specs.Origins.{origin_of}
 use Rattle.clone_copies.specs.Places.{Copying}
 use Rattle.clone_copies.specs.Moves.{MoveHeld}
-use Rattle.cloned_states.specs.Placed.{ArePlaced}
-use Rattle.cloned_states.specs.Sides.{copies_made, with_copies as with_all_copies}
-use Rattle.cloned_states.proofs.Copies.{all_copies_typed}
+use Rattle.valid_tasks.specs.Placed.{ArePlaced}
+use Rattle.valid_tasks.specs.Sides.{copies_made, with_copies as with_all_copies}
+use Rattle.valid_tasks.proofs.Copies.{all_copies_typed}
 use Rattle.clone_theories.specs.declared.own.Own.{Own}
 use Rattle.clone_theories.specs.Cloned.{symbols_tupled, within_of, copying_in, IsCloned}
 use Rattle.clone_theories.specs.Owned.{IsOwnOf, no_theory, known_theory_at}

@@ -11,8 +11,8 @@ use Rattle.trees.specs.Sorts.{sort_of}
 use Rattle.tasks.specs.declared.signature.SymbolInfo.{SymbolInfo}
 use Rattle.tasks.specs.Task.{SymbolTree, int_symbol}
 use Rattle.tasks.specs.Meaning.{symbol_at, symbols_at, SymbolHeld}
-use Rattle.scope_moves.specs.declared.moves.Move.{Move}
-use Rattle.symbol_maps.specs.Mapped.{Map}
+use Rattle.theory_states.specs.declared.moves.Move.{Move}
+use Rattle.clones.specs.Mapped.{Map}
 use Rattle.elab_walk.specs.Drafts.{HoldsType, SymbolTyped}
 use Rattle.elab_walk.specs.Scoped.{IsScopedEntry}
 use Rattle.elab_parts.specs.Entries.{IsSignature}

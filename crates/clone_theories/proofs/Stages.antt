@@ -9,8 +9,8 @@ use Rattle.tasks.specs.declared.signature.Signature.{Signature}
 use Rattle.tasks.specs.Task.{SymbolTree, DeclarationTree}
 use Rattle.tasks.specs.Meaning.{symbols_at, declarations_at}
 use Rattle.names_space.specs.Names.{ScopeNames}
-use Rattle.scope_moves.specs.declared.moves.Move.{Move}
-use Rattle.scope_moves.specs.Moves.{brought, handed}
+use Rattle.theory_states.specs.declared.moves.Move.{Move}
+use Rattle.theory_states.specs.Moves.{brought, handed}
 use Rattle.syntax_why.specs.Lexeme.{Word}
 use Rattle.syntax_why.specs.declared.declarations.Link.{Link}
 use Rattle.syntax_why.specs.Declarations.{Element}

@@ -13,8 +13,8 @@ use Rattle.names_space.specs.declared.Table.{Table}
 use Rattle.names_space.specs.declared.Table.TheVariants.{Types, Symbols, Propositions, Scopes}
 use Rattle.names_space.specs.declared.TypeName.{TypeName}
 use Rattle.names_space.specs.declared.TypeName.TheVariants as stands
-use Rattle.scope_moves.specs.declared.moves.Move.{Move}
-use Rattle.scope_moves.specs.declared.moves.Move.TheVariants.{Brings, Opens, Closes}
+use Rattle.theory_states.specs.declared.moves.Move.{Move}
+use Rattle.theory_states.specs.declared.moves.Move.TheVariants.{Brings, Opens, Closes}
 use Rattle.syntax_why.specs.Lexeme.{Word}
 use Rattle.syntax_why.specs.declared.names.Name.{Name}
 use Rattle.syntax_why.specs.declared.names.Path.{Path}
@@ -22,7 +22,7 @@ use Rattle.syntax_why.specs.declared.declarations.Link.{Link}
 use Rattle.syntax_why.specs.declared.declarations.PropKind.{PropKind}
 use Rattle.syntax_why.specs.declared.declarations.PropKind.TheVariants as kind
 use Rattle.syntax_why.specs.Declarations.{Element, type_element, symbol_element, prop_element, all_axioms}
-use Rattle.symbol_maps.specs.Mapped.{Map}
+use Rattle.clones.specs.Mapped.{Map}
 use Rattle.clones.specs.Copies.{entry_copied}
 use Rattle.goal_tasks.specs.Theories.{GoalTree}
 use Rattle.elab_names.specs.Abstract.{text_of_own}
@@ -34,28 +34,28 @@ use Rattle.valid_tasks.proofs.Scopes.{found_thing}
 use Rattle.valid_tasks.specs.Valid.{IsTypedSetting}
 use Rattle.valid_tasks.specs.Built.{IsBuiltRight}
 use Rattle.valid_tasks.proofs.Kept.{IsOfSource, source_kept}
-use Rattle.sound_states.specs.Morphisms.{MapsTypes}
-use Rattle.cloned_states.specs.Entries.{IsGrounded}
-use Rattle.cloned_states.proofs.Entries.{further_typed, variables_typed, variables_built}
-use Rattle.cloned_states.proofs.Names.{type_kept, type_replaced, alias_mapped, symbol_there}
-use Rattle.sound_states.specs.Moves.{IsTypedMove, AreTypedMoves}
-use Rattle.sound_states.proofs.Scopes.{moves_more, brought_typed, handed_typed}
+use Rattle.valid_tasks.specs.Morphisms.{MapsTypes}
+use Rattle.valid_tasks.specs.Entries.{IsGrounded}
+use Rattle.valid_tasks.proofs.Entries.{further_typed, variables_typed, variables_built}
+use Rattle.valid_tasks.proofs.ClonedNames.{type_kept, type_replaced, alias_mapped, symbol_there}
+use Rattle.valid_tasks.specs.Moves.{IsTypedMove, AreTypedMoves}
+use Rattle.valid_tasks.proofs.MovedScopes.{moves_more, brought_typed, handed_typed}
 use Rattle.theory_states.specs.declared.states.AxiomAt.{AxiomAt}
 use Rattle.theory_states.specs.States.{KnownTree, StateTree, known_has_path, with_declaration}
 use Rattle.theory_states.specs.Uses.{path_text, last_part, alias_text}
-use Rattle.sound_states.specs.Typed.{state_setting, IsTypedState}
+use Rattle.valid_tasks.specs.TypedStates.{state_setting, IsTypedState}
 use Rattle.clone_elements.specs.Left.{Origin, symbol_at_place}
 use Rattle.clone_elements.specs.Rights.{RightTree, type_right, symbol_right, no_right, symbol_missing, called_symbol, right_made, right_fault, right_tuples, rights_fault}
 use Rattle.clone_elements.specs.Plans.{SideTree, sides_made, symbol_for, symbols_replaced, types_replaced, fates_of, kept, kind_or, is_replaced}
 use Rattle.clone_copies.specs.Origins.{origin_of, is_own}
 use Rattle.clone_copies.specs.Moves.{IsTypeMapped, IsThingMapped, IsMoveMapped, AreMovesMapped}
 use Rattle.clone_copies.specs.Places.{Copying, with_copied_axiom, goal_with, with_copied_goal, with_kind, with_copy, copy_of, with_joined, with_own, with_place, with_places}
-use Rattle.cloned_states.specs.Placed.{IsPlacedEntry, ArePlaced}
-use Rattle.cloned_states.specs.Sides.{with_rights, copies_made, with_copies}
-use Rattle.cloned_states.proofs.Numbers.{symbol_of}
-use Rattle.cloned_states.proofs.Rights.{all_typed, rights_built, entries_more}
-use Rattle.cloned_states.proofs.Mapped.{maps_types}
-use Rattle.cloned_states.proofs.Copies.{all_copies_typed, all_placed, rigids_placed}
+use Rattle.valid_tasks.specs.Placed.{IsPlacedEntry, ArePlaced}
+use Rattle.valid_tasks.specs.Sides.{with_rights, copies_made, with_copies}
+use Rattle.valid_tasks.proofs.Numbers.{symbol_of}
+use Rattle.valid_tasks.proofs.Rights.{all_typed, rights_built, entries_more}
+use Rattle.valid_tasks.proofs.Mapped.{maps_types}
+use Rattle.valid_tasks.proofs.Copies.{all_copies_typed, all_placed, rigids_placed}
 use Rattle.clone_theories.specs.Cloned.{symbols_tupled, sides_in, map_in, within_of, copying_in, with_copied_entries, with_names, IsCloned}
 
 -- ---- lists

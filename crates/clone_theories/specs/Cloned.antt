@@ -5,8 +5,8 @@ use Rattle.trees.specs.Tree.{Tree}
 use Rattle.trees.specs.Node.{Grows}
 use Rattle.tasks.specs.Task.{SymbolTree}
 use Rattle.names_space.specs.Names.{ScopeNames}
-use Rattle.scope_moves.specs.declared.moves.Move.{Move}
-use Rattle.scope_moves.specs.Moves.{brought, handed, name_or}
+use Rattle.theory_states.specs.declared.moves.Move.{Move}
+use Rattle.theory_states.specs.Moves.{brought, handed, name_or}
 use Rattle.syntax_why.specs.Lexeme.{Word}
 use Rattle.syntax_why.specs.Declarations.{Element}
 use Rattle.syntax_why.specs.declared.names.Name.{Name}
@@ -15,7 +15,7 @@ use Rattle.syntax_why.specs.declared.declarations.Link.{Link}
 use Rattle.syntax_why.specs.declared.declarations.Link.TheVariants as link
 use Rattle.elab_names.specs.declared.NamingFault.{NamingFault}
 use Rattle.elab_names.specs.declared.NamingFault.TheVariants as names
-use Rattle.symbol_maps.specs.Mapped.{Map}
+use Rattle.clones.specs.Mapped.{Map}
 use Rattle.theory_states.specs.declared.fault.SourceFault.{SourceFault}
 use Rattle.theory_states.specs.declared.fault.SourceFault.TheVariants as fault
 use Rattle.theory_states.specs.States.{KnownTree, StateTree, known_named}

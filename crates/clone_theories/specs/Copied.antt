@@ -5,11 +5,11 @@ use Rattle.trees.specs.Sorts.{sort_of}
 use Rattle.trees.specs.declared.Sort.TheVariants.{Kind}
 use Rattle.tasks.specs.Task.{SymbolTree}
 use Rattle.tasks.specs.Meaning.{declarations_at}
-use Rattle.scope_moves.specs.declared.moves.Move.{Move}
+use Rattle.theory_states.specs.declared.moves.Move.{Move}
 use Rattle.syntax_why.specs.Lexeme.{Word}
 use Rattle.syntax_why.specs.declared.declarations.Link.{Link}
-use Rattle.symbol_maps.specs.Mapped.{Map}
-use Rattle.symbol_maps.specs.Meaning.{map_at, MapHeld}
+use Rattle.clones.specs.Mapped.{Map}
+use Rattle.clones.specs.Meaning.{map_at, MapHeld}
 use Rattle.elab_walk.specs.Scoped.{IsScopedEntry}
 use Rattle.theory_states.specs.declared.states.Opened.{Opened}
 use Rattle.theory_states.specs.declared.states.Typed.{Typed}

@@ -5,7 +5,7 @@ use Rattle.tasks.specs.Task.{SymbolTree}
 use Rattle.names_space.specs.Names.{ScopeNames}
 use Rattle.syntax_why.specs.Lexeme.{Word}
 use Rattle.syntax_why.specs.Declarations.{Element}
-use Rattle.symbol_maps.specs.Mapped.{Map}
+use Rattle.clones.specs.Mapped.{Map}
 use Rattle.theory_states.specs.declared.fault.SourceFault.{SourceFault}
 use Rattle.theory_states.specs.States.{KnownTree, StateTree}
 use Rattle.clone_elements.specs.declared.elements.Plan.{Plan}

@@ -6,9 +6,9 @@ ghost use Rattle.syntax_why.specs.SurfaceDeclarations.{element_of};
 ghost use Rattle.theory_states.specs.States.{known_named};
 ghost use Rattle.theory_states.specs.Meaning.{known_at, state_at, StateHeld};
 ghost use Rattle.theory_states.specs.Uses.{OrMemory, path_text};
-ghost use Rattle.sound_states.specs.Typed.{IsTypedState};
+ghost use Rattle.valid_tasks.specs.TypedStates.{IsTypedState};
 ghost use Rattle.clone_elements.specs.Rights.{all_variables_fault};
-ghost use Rattle.cloned_states.specs.Placed.{ArePlaced};
+ghost use Rattle.valid_tasks.specs.Placed.{ArePlaced};
 ghost use Rattle.clone_theories.specs.Cloned.{IsCloned, IsCloneFault};
 ghost use Rattle.clone_theories.specs.Owned.{known_theory_at};
 

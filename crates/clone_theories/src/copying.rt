@@ -4,7 +4,7 @@ ghost use Rattle.std.specs.Prelude.{All, IfOk, OnOk};
 ghost use Rattle.std.specs.Option.{option_copied};
 ghost use Rattle.trees.specs.Node.{Grows};
 ghost use Rattle.tasks.specs.Meaning.{symbols_at};
-ghost use Rattle.symbol_maps.specs.Meaning.{map_at, MapHeld, AreKnown};
+ghost use Rattle.clones.specs.Meaning.{map_at, MapHeld, AreKnown};
 ghost use Rattle.elab_parts.specs.Entries.{IsSignature, IsExtended};
 ghost use Rattle.theory_states.specs.Meaning.{state_at, StateHeld};
 ghost use Rattle.clone_elements.specs.Origins.{origin_at};
@@ -19,13 +19,12 @@ ghost use Rattle.clone_theories.specs.Copied.{IsRenaming, IsKeptEntry, IsCopyRea
 use crate::own::{Own, source_of, within_of};
 use clone_copies::{Job, copy_places, map_moves, push_entries};
 use clone_elements::{Plan, Source, kept_symbols, map_of};
-use scope_moves::Move;
+use clones::{Known as Trees, SymbolMap, no_trees};
 use std::alloc::{AllocError, Global};
-use symbol_maps::{Known as Trees, SymbolMap, no_trees};
 use syntax_why::Link;
 use tasks::Signature;
 use term_store::Store;
-use theory_states::{Opened, Typed, bring_names};
+use theory_states::{Move, Opened, Typed, bring_names};
 
 /// The map of a clone, and the symbols that become new ones, in order.
 #[derive(Drop)]

@@ -1,2 +1,4 @@
 mod Stays
 mod Loops
+pub mod Alike
+pub mod Steps

@@ -8,10 +8,10 @@ use Rattle.trees.specs.Tree.{Tree}
 use Rattle.trees.specs.Node.{Grows}
 use Rattle.trees.proofs.Nodes.{Grows_refl, Grows_trans}
 use Rattle.tasks.proofs.Growth.{map_agree}
-use Rattle.symbol_maps.specs.declared.maps.SymbolMap.{SymbolMap}
-use Rattle.symbol_maps.specs.Mapped.{Map}
-use Rattle.symbol_maps.specs.Meaning.{map_at, MapHeld, AreKnown}
-use Rattle.symbol_maps.proofs.Steps.{map_stays, known_back}
+use Rattle.clones.specs.declared.maps.SymbolMap.{SymbolMap}
+use Rattle.clones.specs.Mapped.{Map}
+use Rattle.clones.specs.Meaning.{map_at, MapHeld, AreKnown}
+use Rattle.clones.proofs.Steps.{map_stays, known_back}
 
 -- the copies of these so far: by what a member stands for, what is held of it, and what its copy stands for
 pub record Copied {X Y S : Type 0} (at : List Tree → X → Y) (Held : List Tree → X → Type 0) (copy : Map → Y → Y) (m : SymbolMap) (s0 s : List Tree) (known : IndexMap ℕ TermId S) (xs out : List X) : Type 0 where

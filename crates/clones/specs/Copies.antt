@@ -6,7 +6,7 @@ use Rattle.trees.specs.Tree.{Tree}
 use Rattle.trees.specs.Node.{Holds}
 use Rattle.tasks.specs.declared.declaration.Def.{Def}
 use Rattle.tasks.specs.Task.{SymbolTree, DefinitionTree, InductiveTree, ConstructorTree, AlgebraicTree, BodyTree, MakesType, Makes, Defines, Induces, Constructs, Says, DeclarationTree}
-use Rattle.symbol_maps.specs.Mapped.{Map, mapped}
+use Rattle.clones.specs.Mapped.{Map, mapped}
 
 abbrev pub definition_mapped : Map → DefinitionTree → DefinitionTree
 definition_mapped m d = record { symbol = m.symbols d.symbol; equation = mapped m d.equation }

@@ -4,13 +4,13 @@ ghost use Rattle.std.specs.Prelude.{◌≡◌, ◌++◌, map, All, IfOk, IfSome,
 ghost use Rattle.std.specs.Option.{option_map};
 ghost use Rattle.trees.specs.Node.{tree_at, Holds, Grows};
 ghost use Rattle.tasks.specs.Meaning.{trees_at, symbol_at, definition_at, definitions_at, inductive_at, inductives_at, con_at, cons_at, algebraic_at, algebraics_at, body_at, declaration_at, SymbolHeld, InductiveHeld, ConHeld, AlgebraicHeld, BodyHeld, DeclHeld};
-ghost use Rattle.symbol_maps.specs.Mapped.{mapped};
-ghost use Rattle.symbol_maps.specs.Meaning.{map_at, MapHeld, AreKnown};
+ghost use Rattle.clones.specs.Mapped.{mapped};
+ghost use Rattle.clones.specs.Meaning.{map_at, MapHeld, AreKnown};
 ghost use Rattle.clones.specs.Copies.{DefHeld, definition_mapped, inductive_mapped, con_mapped, algebraic_mapped, body_mapped, declaration_copied, entry_copied};
 
+use crate::maps::{Known, SymbolMap, map_symbol, map_tree};
 use outside::{Seq, Text};
 use std::alloc::{AllocError, Global};
-use symbol_maps::{Known, SymbolMap, map_symbol, map_tree};
 use tasks::{Alg, Body, Con, Decl, Def, Ind, SymbolInfo};
 use term_store::Store;
 use trees::TermId;

@@ -2,3 +2,5 @@ mod Placed
 mod TuplesMade
 mod Passed
 mod TupleNames
+mod Steps
+mod Lists

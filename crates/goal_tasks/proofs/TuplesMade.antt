@@ -11,8 +11,8 @@ use Rattle.tasks.specs.Valid.{own_type}
 use Rattle.tasks.specs.declared.signature.SymbolInfo.{SymbolInfo}
 use Rattle.tasks.specs.Meaning.{symbol_at, symbols_at}
 use Rattle.elab_parts.specs.Entries.{builtin, projections, tuple_entries, tuple_in}
-use Rattle.named_symbols.specs.Named.{is_among}
-use Rattle.named_symbols.specs.Gathered.{GainsSymbols}
+use Rattle.goal_tasks.specs.Named.{is_among}
+use Rattle.goal_tasks.specs.Gathered.{GainsSymbols}
 use Rattle.goal_tasks.specs.Tuples.{tuples_of, tuples_in, tuple_declaration}
 use Rattle.goal_tasks.specs.Meaning.{IsTupleAt, AreTuples}
 

@@ -1,7 +1,7 @@
 -- The task of a goal: the declarations before it, after those of the tuples that occur (Why3 manual, "tasks").
 use Rattle.std.specs.Prelude.{◌≡◌, ℕ, List, [], ◌++◌, take, IsSomeAnd}
 use Rattle.tasks.specs.Task.{DeclarationTree, TaskTree}
-use Rattle.named_symbols.specs.Named.{named, declarations_named}
+use Rattle.goal_tasks.specs.Named.{named, declarations_named}
 use Rattle.goal_tasks.specs.Tuples.{tuples_in}
 use Rattle.goal_tasks.specs.Theories.{GoalTree, KnownTheoryTree, TheoriesTree, theory_named, goal_named}
 

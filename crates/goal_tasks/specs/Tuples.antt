@@ -5,7 +5,7 @@ use Rattle.std.specs.Fmt.{decimal}
 use Rattle.tasks.specs.Task.{SymbolTree, ConstructorTree, AlgebraicTree, Constructs, DeclarationTree}
 use Rattle.tasks.specs.Equations.{type_variables}
 use Rattle.elab_parts.specs.Entries.{builtin, tuple_in}
-use Rattle.named_symbols.specs.Named.{is_among}
+use Rattle.goal_tasks.specs.Named.{is_among}
 use Rattle.goal_tasks.specs.declared.tuples.TupleName.{TupleName}
 
 -- the tuples of a width, whose type has this number; the constructor has the next one, and the projections have those after it

@@ -3,16 +3,16 @@
 ghost use Rattle.std.specs.Prelude.{◌≡◌, ◌++◌, ◌↔◌, take, slice_get, option_to_list, All, IfOk, OnOk, IsNone, IsSomeAnd};
 ghost use Rattle.trees.specs.Node.{tree_at, Holds};
 ghost use Rattle.tasks.specs.Meaning.{declarations_at, symbols_at, task_at, SymbolHeld, DeclHeld, TaskHeld};
-ghost use Rattle.named_symbols.specs.Named.{named, declarations_named};
+ghost use Rattle.goal_tasks.specs.Named.{named, declarations_named};
 ghost use Rattle.goal_tasks.specs.Theories.{theory_named, goal_named};
 ghost use Rattle.goal_tasks.specs.Tuples.{tuples_in};
 ghost use Rattle.goal_tasks.specs.Tasks.{declarations_before, task_for, IsTaskOf};
 ghost use Rattle.goal_tasks.specs.Meaning.{goal_at, theory_at, theories_at, placed, GoalHeld, TheoryHeld, AllTheoriesHeld, AreTuples};
 
+use crate::declarations::named_in;
 use crate::theories::{find_goal, find_theory};
 use crate::tuples::tuples_in;
 use crate::{GoalAt, Theories, Theory};
-use named_symbols::named_in;
 use outside::Seq;
 use std::alloc::{AllocError, Global};
 use tasks::{Decl, Signature, Task};

@@ -3,9 +3,9 @@ use Rattle.tasks.specs.Task.{TaskTree}
 use Rattle.tasks.specs.Valid.{IsValid}
 use Rattle.written_files.specs.Named.{NamesAreWords}
 use Rattle.theories.proofs.Forgetting.{forgotten}
-use Rattle.source_laws.proofs.Sources.{source_sound}
-use Rattle.source_laws.proofs.SourceGoals.{task_valid}
-use Rattle.source_laws.proofs.WordSources.{names_words}
+use Rattle.theories.proofs.Sources.{source_sound}
+use Rattle.theories.proofs.SourceGoals.{task_valid}
+use Rattle.theories.proofs.WordSources.{names_words}
 use Rattle.source_goals.specs.Sources.{IsSourceTask}
 
 pub valid_task : (t : TaskTree) → IsSourceTask t → IsValid t

@@ -2,7 +2,7 @@
 use Rattle.std.proofs.Common.{Ok, Err, sym, ap, ◌∙◌}
 use Rattle.goal_tasks.specs.Theories.{TheoriesTree}
 use Rattle.fault_order.specs.Order.{RunStop}
-use Rattle.source_laws.proofs.SameSources.{one_theories, theories_apart, one_fault}
+use Rattle.theories.proofs.SameSources.{one_theories, theories_apart, one_fault}
 use Rattle.source_goals.specs.Order.{source_stop, AreDetermined}
 
 pub determined : AreDetermined

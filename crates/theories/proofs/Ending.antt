@@ -13,7 +13,7 @@ use Rattle.elab_parts.specs.Entries.{IsSignature}
 use Rattle.elab_parts.specs.Outcomes.{Setting}
 use Rattle.valid_tasks.proofs.Begin.{begins}
 use Rattle.valid_tasks.proofs.TaskOutcomes.{begins as begins_built}
-use Rattle.sound_states.specs.Moves.{AreTypedMoves}
+use Rattle.valid_tasks.specs.Moves.{AreTypedMoves}
 use Rattle.tasks.specs.Meaning.{symbols_at, declaration_at, declarations_at, SymbolHeld, DeclHeld}
 use Rattle.trees.specs.declared.TermId.{TermId}
 use Rattle.trees.specs.Node.{Holds}
@@ -28,9 +28,9 @@ use Rattle.theory_states.specs.declared.states.Opened.{Opened}
 use Rattle.theory_states.specs.declared.states.Typed.{Typed}
 use Rattle.theory_states.specs.States.{KnownTree, OpenedTree, StateTree, at_places, known_as, opened_empty}
 use Rattle.theory_states.specs.Meaning.{known_at, opened_at, state_at, KnownTheoryHeld, OpenedHeld, TypedHeld}
-use Rattle.cloned_states.specs.Placed.{IsPlacedEntry, ArePlaced}
-use Rattle.sound_states.specs.Typed.{AreTypedTheories, IsTypedState}
-use Rattle.sound_states.proofs.Keeping.{begun_typed, ended_typed}
+use Rattle.valid_tasks.specs.Placed.{IsPlacedEntry, ArePlaced}
+use Rattle.valid_tasks.specs.TypedStates.{AreTypedTheories, IsTypedState}
+use Rattle.valid_tasks.proofs.Keeping.{begun_typed, ended_typed}
 use Rattle.theories.specs.Files.{IsTheoryBegun, IsEnded, visible_theory, theories_of, nothing_known}
 use Rattle.theories.specs.Ints.{int_entries}
 use Rattle.theories.specs.Right.{IsStateRight, AreTheoriesRight, IsPath, between_at}

@@ -6,16 +6,16 @@ use Rattle.trees.specs.Tree.{Tree}
 use Rattle.tasks.specs.Vocabulary.{of_signature}
 use Rattle.tasks.specs.Meaning.{symbols_at}
 use Rattle.names_space.specs.Names.{with_scope}
-use Rattle.scope_moves.specs.declared.moves.Move.{Move}
-use Rattle.scope_moves.specs.declared.moves.Move.TheVariants.{Opens, Closes}
-use Rattle.scope_moves.specs.Moves.{left}
+use Rattle.theory_states.specs.declared.moves.Move.{Move}
+use Rattle.theory_states.specs.declared.moves.Move.TheVariants.{Opens, Closes}
+use Rattle.theory_states.specs.Moves.{left}
 use Rattle.valid_tasks.specs.Scopes.{AreTypedScopes}
-use Rattle.sound_states.specs.Moves.{AreTypedMoves, IsTypedMove}
-use Rattle.sound_states.proofs.Scopes.{opened_typed, left_typed}
+use Rattle.valid_tasks.specs.Moves.{AreTypedMoves, IsTypedMove}
+use Rattle.valid_tasks.proofs.MovedScopes.{opened_typed, left_typed}
 use Rattle.theory_states.specs.declared.states.Opened.{Opened}
 use Rattle.theory_states.specs.declared.states.Typed.{Typed}
 use Rattle.theory_states.specs.Meaning.{opened_at, state_at}
-use Rattle.sound_states.proofs.Keeping.{renamed_typed}
+use Rattle.valid_tasks.proofs.Keeping.{renamed_typed}
 use Rattle.theories.specs.Typing.{IsPassed}
 use Rattle.theories.specs.Right.{IsStateRight}
 

@@ -8,10 +8,10 @@ use Rattle.syntax_why.specs.Declarations.{SyntaxDeclaration}
 use Rattle.syntax_why.specs.declared.declarations.PropKind.{PropKind}
 use Rattle.syntax_why.specs.declared.declarations.PropKind.TheVariants as kind
 use Rattle.elab_names.specs.Abstract.{Expression}
-use Rattle.cloned_states.specs.Placed.{IsPlacedEntry, ArePlaced}
-use Rattle.cloned_states.proofs.Outcomes.{outcome_placed}
+use Rattle.valid_tasks.specs.Placed.{IsPlacedEntry, ArePlaced}
+use Rattle.valid_tasks.proofs.PlacedOutcomes.{outcome_placed}
 use Rattle.theory_states.specs.States.{StateTree, with_declaration, with_declarations}
-use Rattle.sound_states.specs.Typed.{state_setting}
+use Rattle.valid_tasks.specs.TypedStates.{state_setting}
 use Rattle.theory_declarations.specs.Declared.{with_proposed, proposition_in, known_by, with_named, IsDeclared}
 
 declarations_keep : (ds : List DeclarationTree) (c : StateTree) → (with_declarations ds c).symbols ≡ c.symbols

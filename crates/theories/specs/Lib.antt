@@ -3,3 +3,11 @@ pub mod Typing
 pub mod Files
 pub mod Sound
 pub mod Right
+pub mod Plain
+pub mod Sources
+pub mod Lexemes
+pub mod Names
+pub mod Same
+pub mod OutcomeSame
+pub mod StateSame
+pub mod Steps

@@ -9,8 +9,8 @@ use Rattle.theory_states.specs.declared.states.Opened.{Opened}
 use Rattle.theory_states.specs.declared.states.Typed.{Typed}
 use Rattle.theory_states.specs.States.{StateTree, opened_empty}
 use Rattle.theory_states.specs.Meaning.{known_at, state_at, TypedHeld, StateHeld}
-use Rattle.cloned_states.specs.Placed.{ArePlaced}
-use Rattle.sound_states.specs.Typed.{AreTypedTheories, IsTypedState}
+use Rattle.valid_tasks.specs.Placed.{ArePlaced}
+use Rattle.valid_tasks.specs.TypedStates.{AreTypedTheories, IsTypedState}
 
 pub record IsStateRight (s : List Tree) (t : Typed) (o : Opened) : Type 0 where
   pub held : StateHeld s t o

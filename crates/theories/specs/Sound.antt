@@ -6,8 +6,8 @@ use Rattle.valid_tasks.specs.Lists.{IsGroupWhole}
 use Rattle.valid_tasks.specs.Quoted.{IsQuotedLexeme}
 use Rattle.goal_tasks.specs.Theories.{TheoriesTree}
 use Rattle.theory_states.specs.States.{StateTree}
-use Rattle.sound_states.specs.Typed.{IsTypedState}
-use Rattle.sound_states.specs.Sound.{IsSoundState}
+use Rattle.valid_tasks.specs.TypedStates.{IsTypedState}
+use Rattle.valid_tasks.specs.Sound.{IsSoundState}
 use Rattle.theory_declarations.specs.Declared.{IsDeclared}
 use Rattle.theories.specs.Typing.{IsTypedBy, AreTypedBy}
 use Rattle.theories.specs.Files.{TheoriesBy}

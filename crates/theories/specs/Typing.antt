@@ -2,8 +2,8 @@
 use Rattle.std.specs.Prelude.{◌≡◌, ◌⊎◌, ℕ, ◌+◌, true, false, codes, List, [], ◌∷◌, ◌++◌}
 use Rattle.names_space.specs.Names.{with_scope, is_declared, entries_of, innermost}
 use Rattle.names_space.specs.declared.Table.TheVariants.{Scopes}
-use Rattle.scope_moves.specs.declared.moves.Move.TheVariants.{Opens, Closes}
-use Rattle.scope_moves.specs.Moves.{left}
+use Rattle.theory_states.specs.declared.moves.Move.TheVariants.{Opens, Closes}
+use Rattle.theory_states.specs.Moves.{left}
 use Rattle.syntax_why.specs.declared.names.Name.{Name}
 use Rattle.syntax_why.specs.Declarations.{SyntaxDeclaration, SyntaxDeclarations, use_decl, clone_decl, scope_decl, no_decls, more_decls}
 use Rattle.theory_states.specs.declared.fault.SourceFault.{SourceFault}

@@ -13,8 +13,8 @@ ghost use Rattle.theories.specs.Files.{IsTheoryBegun, IsEnded, IsTypedTheoryBy, 
 ghost use Rattle.theories.specs.Sound.{AreSoundlyTyped, SoundTheoriesOf};
 ghost use Rattle.theories.specs.Right.{IsStateRight, between_at, AreTheoriesRight, IsPath};
 
+use crate::declarations::type_decls;
 use crate::ints::{are_ints, int_entries};
-use crate::typing::type_decls;
 use elab_terms::begin;
 use goal_tasks::{Theories, Theory};
 use outside::{Seq, Text};

@@ -4,3 +4,4 @@ mod Refused
 mod Pushed
 mod Sound
 mod Passed
+mod Appended

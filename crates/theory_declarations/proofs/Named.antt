@@ -12,7 +12,7 @@ use Rattle.tasks.specs.Vocabulary.{of_signature}
 use Rattle.tasks.proofs.Growth.{tree_later}
 use Rattle.names_space.specs.Names.{ScopeNames}
 use Rattle.syntax_why.specs.Declarations as source
-use Rattle.scope_moves.specs.declared.moves.Move.{Move}
+use Rattle.theory_states.specs.declared.moves.Move.{Move}
 use Rattle.decl_checks.specs.Checks.{HasNoFault}
 use Rattle.elab_walk.proofs.Growing.{type_grows}
 use Rattle.elab_parts.specs.declared.made.Elaborated.{Elaborated}
@@ -22,19 +22,19 @@ use Rattle.elab_terms.specs.Outcomes.{IsOutcome}
 use Rattle.valid_tasks.specs.Scopes.{IsTypedSignature, AreTypedScopes}
 use Rattle.valid_tasks.specs.Valid.{HaveNoFault}
 use Rattle.side_conditions.specs.Sides.{bodies}
-use Rattle.sound_states.specs.Moves.{IsTypedMove}
-use Rattle.sound_states.proofs.Scopes.{moves_more}
+use Rattle.valid_tasks.specs.Moves.{IsTypedMove}
+use Rattle.valid_tasks.proofs.MovedScopes.{moves_more}
 use Rattle.valid_tasks.specs.Built.{IsBuiltRight}
 use Rattle.valid_tasks.specs.TaskTyped.{IsTypedOver}
 use Rattle.valid_tasks.proofs.TaskOutcomes.{elaborated_kept}
 use Rattle.valid_tasks.proofs.Typed.{setting_kept}
-use Rattle.declared_names.specs.Made.{moves_declared}
+use Rattle.theory_declarations.specs.Made.{moves_declared}
 use Rattle.theory_states.specs.declared.states.Opened.{Opened}
 use Rattle.theory_states.specs.declared.states.Typed.{Typed}
 use Rattle.theory_states.specs.States.{StateTree}
 use Rattle.theory_states.specs.Meaning.{state_at, OpenedHeld, TypedHeld, StateHeld}
 use Rattle.theory_states.proofs.Growing.{held_grows, state_grows}
-use Rattle.sound_states.specs.Typed.{state_setting, IsTypedState}
+use Rattle.valid_tasks.specs.TypedStates.{state_setting, IsTypedState}
 use Rattle.theory_declarations.specs.Declared.{proposition_in, known_by, with_named, IsDeclared}
 use Rattle.theory_declarations.specs.Steps.{IsNextState}
 use Rattle.theory_declarations.proofs.Typed.{declared_typed, signature_part, setting_typed, trees_typed, known_typed}

@@ -14,7 +14,7 @@ use Rattle.theory_states.specs.declared.fault.SourceFault.{SourceFault}
 use Rattle.theory_states.specs.declared.fault.SourceFault.TheVariants.{Memory}
 use Rattle.theory_states.specs.States.{StateTree}
 use Rattle.theory_states.specs.Uses.{OrMemory}
-use Rattle.sound_states.specs.Typed.{state_setting}
+use Rattle.valid_tasks.specs.TypedStates.{state_setting}
 use Rattle.theory_declarations.specs.Declared.{IsDeclaredFault, of_elaboration}
 use Rattle.theory_declarations.specs.Steps.{IsRefusedBy}
 

@@ -11,7 +11,7 @@ use Rattle.trees.proofs.Nodes.{Grows_trans}
 use Rattle.tasks.specs.Task.{SymbolTree, Says, DeclarationTree, made}
 use Rattle.tasks.specs.Meaning.{symbols_at, declarations_at}
 use Rattle.tasks.specs.Valid.{VariablesBelow, LeafBelow, IsFormulaOver, IsValidDecl, IsQuoted}
-use Rattle.scope_moves.specs.declared.moves.Move.{Move}
+use Rattle.theory_states.specs.declared.moves.Move.{Move}
 use Rattle.syntax_why.specs.Lexeme.{Word}
 use Rattle.syntax_why.specs.declared.names.At.{At}
 use Rattle.syntax_why.specs.Forms as surface
@@ -39,16 +39,16 @@ use Rattle.valid_tasks.proofs.Grown.{own_below}
 use Rattle.valid_tasks.proofs.Next.{next_sound}
 use Rattle.valid_tasks.proofs.NextGoal.{proved_kept}
 use Rattle.valid_tasks.proofs.Once.{outcome_once}
-use Rattle.declared_names.specs.Made.{moves_declared}
+use Rattle.theory_declarations.specs.Made.{moves_declared}
 use Rattle.theory_states.specs.declared.states.AxiomAt.{AxiomAt}
 use Rattle.theory_states.specs.declared.states.Opened.{Opened}
 use Rattle.theory_states.specs.declared.states.Typed.{Typed}
 use Rattle.theory_states.specs.States.{StateTree, visible_now}
 use Rattle.theory_states.specs.Meaning.{state_at}
-use Rattle.sound_states.specs.Typed.{state_setting}
-use Rattle.sound_states.specs.Sound.{IsSoundAmong, IsSoundAxiom, IsSoundState, IsAfter, IsSoundAddition}
-use Rattle.sound_states.proofs.Places.{places_count}
-use Rattle.sound_states.proofs.Further.{state_further}
+use Rattle.valid_tasks.specs.TypedStates.{state_setting}
+use Rattle.valid_tasks.specs.Sound.{IsSoundAmong, IsSoundAxiom, IsSoundState, IsAfter, IsSoundAddition}
+use Rattle.valid_tasks.proofs.Places.{places_count}
+use Rattle.valid_tasks.proofs.Further.{state_further}
 use Rattle.theory_declarations.specs.Declared.{to_prove, proposition_in, known_by, with_named}
 use Rattle.theory_declarations.specs.Steps.{IsNextState, AreQuoted}
 use Rattle.theory_declarations.proofs.Typed.{declared_typed, same_part}

@@ -14,7 +14,7 @@ use Rattle.syntax_why.specs.Lexeme.{Word}
 use Rattle.syntax_why.specs.Declarations as source
 use Rattle.syntax_why.specs.declared.declarations.PropKind.{PropKind}
 use Rattle.syntax_why.specs.declared.declarations.PropKind.TheVariants as kind
-use Rattle.scope_moves.specs.declared.moves.Move.TheVariants.{Brings}
+use Rattle.theory_states.specs.declared.moves.Move.TheVariants.{Brings}
 use Rattle.elab_names.specs.Abstract.{Expression}
 use Rattle.elab_parts.specs.Declarations.{Declaration, declaration, Made, makes, binds_names, made_names}
 use Rattle.elab_terms.specs.Outcomes.{proposition_seen}
@@ -23,12 +23,12 @@ use Rattle.valid_tasks.proofs.Extended.{further, scopes_part}
 use Rattle.valid_tasks.proofs.Scopes.{found_thing}
 use Rattle.valid_tasks.specs.Valid.{IsTypedSetting}
 use Rattle.goal_tasks.specs.Theories.{GoalTree}
-use Rattle.sound_states.specs.Moves.{IsTypedMove, AreTypedMoves}
-use Rattle.sound_states.proofs.Scopes.{moves_more}
-use Rattle.declared_names.specs.Made.{thing_named, brought_as, moves_made, moves_of, moves_declared}
+use Rattle.valid_tasks.specs.Moves.{IsTypedMove, AreTypedMoves}
+use Rattle.valid_tasks.proofs.MovedScopes.{moves_more}
+use Rattle.theory_declarations.specs.Made.{thing_named, brought_as, moves_made, moves_of, moves_declared}
 use Rattle.theory_states.specs.declared.states.AxiomAt.{AxiomAt}
 use Rattle.theory_states.specs.States.{StateTree, with_declaration, with_declarations}
-use Rattle.sound_states.specs.Typed.{state_setting, IsTypedState}
+use Rattle.valid_tasks.specs.TypedStates.{state_setting, IsTypedState}
 use Rattle.theory_declarations.specs.Declared.{with_declared_goal, with_proposition, with_proposed, known_by}
 
 -- ---- moves of names of a typed scope

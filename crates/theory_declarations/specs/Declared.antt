@@ -18,11 +18,11 @@ use Rattle.elab_terms.specs.Outcomes.{proposition_seen, rigid_types, IsOutcome, 
 use Rattle.side_conditions.specs.declared.sides.SideFault.{SideFault}
 use Rattle.side_conditions.specs.Sides.{IsCovered, IsSideFault, bodies}
 use Rattle.goal_tasks.specs.Theories.{GoalTree}
-use Rattle.declared_names.specs.Made.{moves_declared}
+use Rattle.theory_declarations.specs.Made.{moves_declared}
 use Rattle.theory_states.specs.declared.fault.SourceFault.{SourceFault}
 use Rattle.theory_states.specs.declared.states.AxiomAt.{AxiomAt}
 use Rattle.theory_states.specs.States.{StateTree, with_declaration, with_declarations}
-use Rattle.sound_states.specs.Typed.{state_setting}
+use Rattle.valid_tasks.specs.TypedStates.{state_setting}
 use Rattle.theory_declarations.specs.Faults.{elaboration_fault, side_fault}
 
 -- ---- what becomes known

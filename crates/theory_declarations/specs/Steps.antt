@@ -20,7 +20,7 @@ use Rattle.theory_states.specs.declared.fault.SourceFault.{SourceFault}
 use Rattle.theory_states.specs.declared.states.Opened.{Opened}
 use Rattle.theory_states.specs.declared.states.Typed.{Typed}
 use Rattle.theory_states.specs.Meaning.{state_at}
-use Rattle.sound_states.specs.Typed.{state_setting}
+use Rattle.valid_tasks.specs.TypedStates.{state_setting}
 use Rattle.theory_declarations.specs.Faults.{elaboration_fault, side_fault}
 
 -- for its names or its types

@@ -15,15 +15,15 @@ ghost use Rattle.valid_tasks.specs.Lists.{IsGroupWhole};
 ghost use Rattle.side_conditions.specs.Sides.{IsCovered, IsMatch, IsSideFault, bodies};
 ghost use Rattle.theory_states.specs.Meaning.{state_at, StateHeld};
 ghost use Rattle.theory_states.specs.Uses.{OrMemory};
-ghost use Rattle.sound_states.specs.Typed.{state_setting, IsTypedState};
+ghost use Rattle.valid_tasks.specs.TypedStates.{state_setting, IsTypedState};
 ghost use Rattle.valid_tasks.specs.Quoted.{IsQuotedLexeme};
-ghost use Rattle.sound_states.specs.Sound.{IsSoundState};
+ghost use Rattle.valid_tasks.specs.Sound.{IsSoundState};
 ghost use Rattle.theory_declarations.specs.Declared.{IsDeclared, IsDeclaredFault};
 ghost use Rattle.theory_declarations.specs.Steps.{IsRefusedBy, IsRefusedFor, IsNextState};
 
 use crate::faults::{elaboration_fault, side_fault};
 use crate::kept::push_made;
-use declared_names::push_declared;
+use crate::made::push_declared;
 use elab_parts::Elaborated;
 use elab_terms::elaborate;
 use side_conditions::check_sides;

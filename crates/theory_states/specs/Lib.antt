@@ -1,3 +1,4 @@
 pub mod States
 pub mod Uses
 pub mod Meaning
+pub mod Moves

@@ -6,7 +6,7 @@ use Rattle.indexmap.specs.IndexSet.{insert_all}
 use Rattle.trees.specs.Tree.{Tree}
 use Rattle.tasks.specs.Task.{SymbolTree, DeclarationTree}
 use Rattle.names_space.specs.Names.{ScopeNames, empty_names}
-use Rattle.scope_moves.specs.declared.moves.Move.{Move}
+use Rattle.theory_states.specs.declared.moves.Move.{Move}
 use Rattle.goal_tasks.specs.Theories.{GoalTree}
 use Rattle.theory_states.specs.declared.states.AxiomAt.{AxiomAt}
 

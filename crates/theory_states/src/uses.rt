@@ -3,15 +3,15 @@
 ghost use Rattle.std.specs.Prelude.{◌≡◌, ◌<◌, ◌++◌, List, length, map, slice_get, IfErr, IfOk, OnOk};
 ghost use Rattle.std.specs.Option.{option_copied};
 ghost use Rattle.trees.specs.Tree.{Tree};
-ghost use Rattle.scope_moves.specs.Moves.{brought, handed};
+ghost use Rattle.theory_states.specs.Moves.{brought, handed};
 ghost use Rattle.theory_states.specs.States.{known_named};
 ghost use Rattle.theory_states.specs.Meaning.{known_at, state_at, StateHeld};
 ghost use Rattle.theory_states.specs.Uses.{path_text, last_part, alias_text, OrMemory, IsTheoryUsed, IsUnknownTheory};
 
 use crate::fault::SourceFault;
+use crate::moves::{Move, bring_theory, hand_on};
 use crate::states::{Opened, Typed};
 use outside::Text;
-use scope_moves::{Move, bring_theory, hand_on};
 use std::alloc::{AllocError, Global};
 use syntax_why::{Link, Name, Path};
 

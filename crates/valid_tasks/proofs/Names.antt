@@ -9,7 +9,7 @@ use Rattle.tasks.specs.Task.{SymbolTree, symbol_or, DefinitionTree, InductiveTre
 use Rattle.tasks.specs.Vocabulary.{Vocabulary}
 use Rattle.tasks.specs.Typing.{LeafTyped, OneTyped, TwoTyped, ThreeTyped, TypedUnder, bound_types}
 use Rattle.tasks.specs.Valid.{IsTypeIn, HasTypes, IsFormulaOver, IsDefinition, IsInductive, AreProjections, IsConstructorOf, IsAlgebraic, IsValidBody, IsValidDecl}
-use Rattle.named_symbols.specs.Named.{head_named, named, all_named, option_named, signature_named, signatures_named, formulas_of, body_named, is_among}
+use Rattle.goal_tasks.specs.Named.{head_named, named, all_named, option_named, signature_named, signatures_named, formulas_of, body_named, is_among}
 use Rattle.valid_tasks.specs.Named.{LeafNames, OneNames, TwoNames, ThreeNames, TreeNames, EntryNames, NumberNames, DefinitionNames, InductiveNames, ConNames, AlgebraicNames, BodyNames}
 use Rattle.valid_tasks.proofs.Moved.{declaration_moves, formula_moved}
 

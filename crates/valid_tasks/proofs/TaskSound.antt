@@ -12,7 +12,7 @@ use Rattle.tasks.specs.Rigid.{rigid_symbol}
 use Rattle.tasks.specs.Vocabulary.{Vocabulary, of_task, passes, is_empty, is_constructor_kind}
 use Rattle.tasks.specs.Valid.{IsFormula, IsTypeOver, IsValidDecl, IsRigidEntry, AreInts, IsValid}
 use Rattle.tasks.proofs.Declared.{contains_step, any_iff, maker_made, made_maker, made_usable}
-use Rattle.named_symbols.specs.Named.{named, body_named, declarations_named, is_among}
+use Rattle.goal_tasks.specs.Named.{named, body_named, declarations_named, is_among}
 use Rattle.elab_parts.specs.Entries.{builtin}
 use Rattle.valid_tasks.specs.Lists.{is_built, after}
 use Rattle.valid_tasks.proofs.Algebraics.{got}

@@ -7,9 +7,9 @@ use Rattle.tasks.specs.declared.signature.SymbolInfo.{SymbolInfo}
 use Rattle.tasks.specs.Task.{SymbolTree, symbol_or}
 use Rattle.tasks.specs.Meaning.{symbol_at, symbols_at, SymbolHeld}
 use Rattle.tasks.proofs.Growth.{symbol_later, symbols_later, symbol_held_later}
-use Rattle.symbol_maps.specs.Mapped.{Map}
-use Rattle.symbol_maps.specs.Meaning.{map_at}
-use Rattle.symbol_maps.proofs.Steps.{map_held, map_stays, known_on, known_back}
+use Rattle.clones.specs.Mapped.{Map}
+use Rattle.clones.specs.Meaning.{map_at}
+use Rattle.clones.proofs.Steps.{map_held, map_stays, known_on, known_back}
 use Rattle.clones.specs.Copies.{entry_copied}
 use Rattle.clone_copies.specs.Entries.{entries_copied}
 use Rattle.clone_copies.proofs.Passed.{no_ok, no_value}

@@ -1,7 +1,7 @@
 use Rattle.std.proofs.Common.{◌≡◌, take, All}
 use Rattle.trees.specs.Node.{Grows}
 use Rattle.tasks.specs.Meaning.{symbols_at, SymbolHeld}
-use Rattle.symbol_maps.specs.Meaning.{map_at, AreKnown}
+use Rattle.clones.specs.Meaning.{map_at, AreKnown}
 use Rattle.clone_copies.specs.Entries.{entries_copied}
 use Rattle.clone_copies.proofs.entries.copy_entries.Given as goal
 

@@ -4,10 +4,10 @@ use Rattle.trees.specs.Node.{Grows}
 use Rattle.trees.specs.Tree.{Tree}
 use Rattle.trees.proofs.Nodes.{Grows_trans}
 use Rattle.tasks.specs.Meaning.{symbols_at}
-use Rattle.scope_moves.specs.declared.moves.Move.{Move}
-use Rattle.symbol_maps.specs.Mapped.{Map}
-use Rattle.symbol_maps.specs.Meaning.{map_at}
-use Rattle.symbol_maps.proofs.Steps.{map_held, map_stays, known_on, known_back}
+use Rattle.theory_states.specs.declared.moves.Move.{Move}
+use Rattle.clones.specs.Mapped.{Map}
+use Rattle.clones.specs.Meaning.{map_at}
+use Rattle.clones.proofs.Steps.{map_held, map_stays, known_on, known_back}
 use Rattle.clone_copies.specs.Moves.{IsMoveMapped, MoveHeld}
 use Rattle.clone_copies.proofs.Moved.{move_grows, move_held_grows, each_more}
 use Rattle.clone_copies.proofs.Passed.{no_ok, no_value}

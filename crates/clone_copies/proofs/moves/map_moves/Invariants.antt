@@ -2,8 +2,8 @@ use Rattle.std.proofs.Common.{◌≡◌, ℕ, ◌<◌, List, length, get_or}
 use Rattle.trees.specs.Tree.{Tree}
 use Rattle.trees.specs.Node.{Grows}
 use Rattle.tasks.specs.Meaning.{symbols_at}
-use Rattle.scope_moves.specs.declared.moves.Move.{Move}
-use Rattle.symbol_maps.specs.Meaning.{map_at, AreKnown}
+use Rattle.theory_states.specs.declared.moves.Move.{Move}
+use Rattle.clones.specs.Meaning.{map_at, AreKnown}
 use Rattle.clone_copies.specs.Moves.{IsMoveMapped}
 use Rattle.clone_copies.proofs.moves.map_moves.Given as goal
 

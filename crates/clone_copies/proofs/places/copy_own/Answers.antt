@@ -5,9 +5,9 @@ use Rattle.trees.specs.Node.{Grows}
 use Rattle.tasks.specs.declared.declaration.Decl.{Decl}
 use Rattle.tasks.specs.Task.{DeclarationTree}
 use Rattle.tasks.specs.Meaning.{declaration_at, declarations_at}
-use Rattle.symbol_maps.specs.Mapped.{Map}
-use Rattle.symbol_maps.specs.Meaning.{map_at}
-use Rattle.symbol_maps.proofs.Steps.{map_stays, known_later, ok_any}
+use Rattle.clones.specs.Mapped.{Map}
+use Rattle.clones.specs.Meaning.{map_at}
+use Rattle.clones.proofs.Steps.{map_stays, known_later, ok_any}
 use Rattle.clones.specs.Copies.{declaration_copied}
 use Rattle.theory_states.specs.States.{StateTree}
 use Rattle.theory_states.proofs.Growing.{held_grows}

@@ -4,7 +4,7 @@ use Rattle.std.proofs.lemmas.List.{at_drop_more}
 use Rattle.trees.specs.Node.{Grows}
 use Rattle.trees.proofs.Nodes.{Grows_trans}
 use Rattle.tasks.specs.Meaning.{declaration_at, declarations_at}
-use Rattle.symbol_maps.proofs.Steps.{map_held, known_on, known_back}
+use Rattle.clones.proofs.Steps.{map_held, known_on, known_back}
 use Rattle.theory_states.specs.States.{StateTree}
 use Rattle.clone_copies.specs.Places.{Copying, with_place, with_places}
 use Rattle.clone_copies.specs.Meaning.{copying_at, bare_at}

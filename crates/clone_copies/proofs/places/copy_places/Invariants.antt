@@ -1,6 +1,6 @@
 use Rattle.std.proofs.Common.{◌≡◌, ◌≤◌, drop, length}
 use Rattle.trees.specs.Node.{Grows}
-use Rattle.symbol_maps.specs.Meaning.{map_at, AreKnown}
+use Rattle.clones.specs.Meaning.{map_at, AreKnown}
 use Rattle.theory_states.specs.Meaning.{StateHeld}
 use Rattle.clone_copies.specs.Places.{with_places}
 use Rattle.clone_copies.specs.Meaning.{copying_at, bare_at}

@@ -4,8 +4,8 @@ use Rattle.trees.specs.Tree.{Tree}
 use Rattle.trees.specs.Node.{Grows}
 use Rattle.tasks.specs.Meaning.{symbols_at}
 use Rattle.tasks.proofs.Growth.{decl_held_later}
-use Rattle.symbol_maps.specs.Meaning.{map_at}
-use Rattle.symbol_maps.proofs.Steps.{map_held, map_stays, known_on}
+use Rattle.clones.specs.Meaning.{map_at}
+use Rattle.clones.proofs.Steps.{map_held, map_stays, known_on}
 use Rattle.elab_parts.proofs.Entering.{entries_stay, signature_grows}
 use Rattle.clone_elements.specs.declared.plans.Side.{Side as CodeSide}
 use Rattle.clone_elements.specs.Plans.{SideTree, with_side, with_sides}

@@ -6,9 +6,9 @@ use Rattle.trees.specs.Node.{tree_at, Holds, Grows}
 use Rattle.trees.proofs.Nodes.{Grows_trans}
 use Rattle.tasks.specs.Meaning.{trees_at}
 use Rattle.tasks.proofs.Growth.{tree_later, trees_later, all_held_later}
-use Rattle.symbol_maps.specs.Mapped.{Map, mapped}
-use Rattle.symbol_maps.specs.Meaning.{map_at}
-use Rattle.symbol_maps.proofs.Steps.{map_held, map_stays, known_on, known_back}
+use Rattle.clones.specs.Mapped.{Map, mapped}
+use Rattle.clones.specs.Meaning.{map_at}
+use Rattle.clones.proofs.Steps.{map_held, map_stays, known_on, known_back}
 use Rattle.clone_elements.proofs.Compared.{cons_tells}
 use Rattle.clone_elements.proofs.elements.+same_types.Goals as goal
 

@@ -4,8 +4,8 @@ use Rattle.std.proofs.Math.ListN.{length-map}
 use Rattle.trees.specs.Tree.{Tree}
 use Rattle.tasks.specs.Task.{SymbolTree}
 use Rattle.tasks.specs.Meaning.{symbol_at, symbols_at}
-use Rattle.symbol_maps.specs.Mapped.{Map}
-use Rattle.symbol_maps.specs.Meaning.{map_at}
+use Rattle.clones.specs.Mapped.{Map}
+use Rattle.clones.specs.Meaning.{map_at}
 use Rattle.clone_elements.specs.Left.{Origin}
 use Rattle.clone_elements.specs.Plans.{SideTree, no_fates, kept, map_of, tried_map, types_replaced}
 use Rattle.clone_elements.specs.Elements.{SidesTold}

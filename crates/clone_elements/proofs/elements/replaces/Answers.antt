@@ -1,7 +1,7 @@
 use Rattle.std.proofs.Common.{◌≡◌, true, false, get_or, sym, ap, subst₂, ◌∙◌}
 use Rattle.tasks.specs.Task.{SymbolTree, symbol_or}
 use Rattle.tasks.specs.Meaning.{symbols_at}
-use Rattle.symbol_maps.specs.Meaning.{map_at}
+use Rattle.clones.specs.Meaning.{map_at}
 use Rattle.clone_elements.specs.Elements.{is_kind_of_word, IsSameSignature}
 use Rattle.clone_elements.proofs.Looked.{typed_held}
 use Rattle.clone_elements.proofs.Compared.{no_ok, no_value}

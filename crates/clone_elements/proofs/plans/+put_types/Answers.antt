@@ -2,7 +2,7 @@ use Rattle.std.proofs.Common.{◌≡◌, ◌∷◌, suc, List, All, length, ap, 
 use Rattle.std.proofs.lemmas.Result.{on_ok_weaker}
 use Rattle.trees.specs.Tree.{Tree}
 use Rattle.trees.specs.Node.{tree_at}
-use Rattle.symbol_maps.specs.Meaning.{map_at}
+use Rattle.clones.specs.Meaning.{map_at}
 use Rattle.elab_walk.specs.Drafts.{HoldsType}
 use Rattle.clone_elements.specs.declared.plans.TypeFor.{TypeFor}
 use Rattle.clone_elements.specs.Plans.{with_type, with_mapped_types}

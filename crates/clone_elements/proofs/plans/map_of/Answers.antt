@@ -1,5 +1,5 @@
 use Rattle.std.proofs.Common.{◌≡◌, ap, ◌∙◌}
-use Rattle.symbol_maps.specs.Meaning.{map_at}
+use Rattle.clones.specs.Meaning.{map_at}
 use Rattle.clone_elements.specs.Plans.{same_map, with_numbers, with_symbols, with_mapped_types}
 use Rattle.clone_elements.specs.Meaning.{type_pairs_at, symbol_pairs}
 use Rattle.clone_elements.proofs.Compared.{no_value}

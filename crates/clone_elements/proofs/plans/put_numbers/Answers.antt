@@ -1,6 +1,6 @@
 use Rattle.std.proofs.Common.{◌+◌, ℕ, List, drop, sym, ap, ◌∙◌, arith}
 use Rattle.std.proofs.lemmas.List.{at_drop_more}
-use Rattle.symbol_maps.specs.Meaning.{map_at}
+use Rattle.clones.specs.Meaning.{map_at}
 use Rattle.clone_elements.specs.Plans.{with_numbers}
 use Rattle.clone_elements.proofs.Compared.{no_ok}
 use Rattle.clone_elements.proofs.plans.put_numbers.Goals as goal

@@ -1,9 +1,9 @@
 use Rattle.std.proofs.Common.{◌<◌, ℕ, List, All, get_or, length, sym, ap, subst, ◌∙◌}
 use Rattle.theory_states.specs.declared.states.Known.{Known}
 use Rattle.trees.proofs.Nodes.{Grows_trans}
-use Rattle.scope_moves.specs.declared.moves.Move.{Move}
-use Rattle.symbol_maps.specs.Meaning.{map_at}
-use Rattle.symbol_maps.proofs.Steps.{map_held, known_on}
+use Rattle.theory_states.specs.declared.moves.Move.{Move}
+use Rattle.clones.specs.Meaning.{map_at}
+use Rattle.clones.proofs.Steps.{map_held, known_on}
 use Rattle.clone_copies.specs.Moves.{MoveHeld}
 use Rattle.clone_theories.proofs.Kept.{moves_held_later}
 use Rattle.clone_theories.proofs.Contents.{moves_are_held, visible_below, copies_kept, held_made, contents}

@@ -2,9 +2,9 @@ use Rattle.std.proofs.Common.{◌≡◌, ◌++◌, ℕ, List, ap, ◌∙◌}
 use Rattle.trees.specs.Node.{Grows}
 use Rattle.tasks.specs.Task.{SymbolTree}
 use Rattle.tasks.specs.Meaning.{symbols_at}
-use Rattle.symbol_maps.specs.Mapped.{Map}
-use Rattle.symbol_maps.specs.Meaning.{map_at}
-use Rattle.symbol_maps.proofs.Steps.{map_held, map_stays, known_on, known_back}
+use Rattle.clones.specs.Mapped.{Map}
+use Rattle.clones.specs.Meaning.{map_at}
+use Rattle.clones.proofs.Steps.{map_held, map_stays, known_on, known_back}
 use Rattle.elab_parts.proofs.Entering.{entries_stay, signature_grows}
 use Rattle.clone_copies.specs.Entries.{entries_copied}
 use Rattle.clone_theories.proofs.Kept.{all_held, signature_made, moves_held_later, moves_grow}

@@ -1,8 +1,8 @@
 use Rattle.std.proofs.Common.{◌≡◌, List, sym, ap, subst, ◌∙◌}
 use Rattle.std.specs.Option.{option_copied}
-use Rattle.scope_moves.specs.declared.moves.Move.{Move}
+use Rattle.theory_states.specs.declared.moves.Move.{Move}
 use Rattle.syntax_why.specs.Lexeme.{Word}
-use Rattle.symbol_maps.proofs.Steps.{ok_any, ok_both}
+use Rattle.clones.proofs.Steps.{ok_any, ok_both}
 use Rattle.theory_states.specs.Meaning.{state_at}
 use Rattle.clone_theories.specs.Cloned.{within_of, with_names}
 use Rattle.clone_theories.specs.Owned.{known_theory_at}

@@ -4,7 +4,7 @@ use Rattle.tasks.specs.Task.{DeclarationTree}
 use Rattle.tasks.specs.Meaning.{symbols_at}
 use Rattle.tasks.proofs.Growth.{decl_held_later, declarations_later}
 use Rattle.syntax_why.specs.SurfaceDeclarations.{element_of}
-use Rattle.symbol_maps.proofs.Steps.{ok_any, ok_both}
+use Rattle.clones.proofs.Steps.{ok_any, ok_both}
 use Rattle.elab_parts.proofs.Entering.{extended_grows}
 use Rattle.clone_elements.specs.Left.{Origin}
 use Rattle.clone_elements.specs.Rights.{rights_tuples}

@@ -3,7 +3,7 @@ use Rattle.tasks.specs.declared.declaration.Alg.{Alg}
 use Rattle.tasks.specs.Meaning.{algebraic_at, AlgebraicHeld}
 use Rattle.clones.specs.Copies.{algebraic_mapped}
 use Rattle.trees.proofs.Nodes.{Grows_trans}
-use Rattle.symbol_maps.proofs.Steps.{map_held, known_on}
+use Rattle.clones.proofs.Steps.{map_held, known_on}
 use Rattle.clones.proofs.Stays.{alg_stays, alg_held}
 use Rattle.clones.proofs.Loops.{copied_none, copied_all, copied_next}
 use Rattle.clones.proofs.Loops.{no_ok, no_value}

@@ -5,7 +5,7 @@ use Rattle.tasks.specs.Meaning.{definition_at}
 use Rattle.clones.specs.Copies.{DefHeld}
 use Rattle.clones.specs.Copies.{definition_mapped}
 use Rattle.trees.proofs.Nodes.{Grows_trans}
-use Rattle.symbol_maps.proofs.Steps.{map_held, known_on}
+use Rattle.clones.proofs.Steps.{map_held, known_on}
 use Rattle.clones.proofs.Stays.{def_stays, def_held}
 use Rattle.clones.proofs.Loops.{copied_none, copied_all, copied_next}
 use Rattle.clones.proofs.Loops.{no_ok, no_value}

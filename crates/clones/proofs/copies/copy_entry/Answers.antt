@@ -5,9 +5,9 @@ use Rattle.trees.specs.Node.{tree_at, Grows}
 use Rattle.tasks.specs.Task.{SymbolTree}
 use Rattle.tasks.specs.Meaning.{trees_at}
 use Rattle.tasks.proofs.Growth.{trees_later, symbol_later, symbol_held_later}
-use Rattle.symbol_maps.specs.Mapped.{Map, mapped}
-use Rattle.symbol_maps.specs.Meaning.{map_at}
-use Rattle.symbol_maps.proofs.Steps.{map_held, map_stays, known_on, known_back}
+use Rattle.clones.specs.Mapped.{Map, mapped}
+use Rattle.clones.specs.Meaning.{map_at}
+use Rattle.clones.proofs.Steps.{map_held, map_stays, known_on, known_back}
 use Rattle.clones.proofs.Loops.{no_ok, no_value}
 use Rattle.clones.proofs.copies.copy_entry.Goals as goal
 

@@ -1,5 +1,5 @@
 use Rattle.std.proofs.Common.{◌≡◌, map, take}
-use Rattle.symbol_maps.specs.Meaning.{map_at}
+use Rattle.clones.specs.Meaning.{map_at}
 use Rattle.clones.proofs.copies.map_symbols.Given as goal
 
 abbrev pub invariant-loop-symbol : goal.invariant-loop-symbol

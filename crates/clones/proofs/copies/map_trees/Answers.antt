@@ -2,9 +2,9 @@ use Rattle.std.proofs.Common.{get_or, map, All, sym, ap, subst, ◌∙◌, List}
 use Rattle.std.proofs.lemmas.List.{get_or_default}
 use Rattle.trees.specs.declared.TermId.{TermId}
 use Rattle.trees.specs.Node.{tree_at, Holds}
-use Rattle.symbol_maps.specs.Mapped.{mapped}
+use Rattle.clones.specs.Mapped.{mapped}
 use Rattle.trees.proofs.Nodes.{Grows_trans}
-use Rattle.symbol_maps.proofs.Steps.{map_held, known_on}
+use Rattle.clones.proofs.Steps.{map_held, known_on}
 use Rattle.clones.proofs.Stays.{tree_stays, tree_held}
 use Rattle.clones.proofs.Loops.{copied_none, copied_all, copied_next}
 use Rattle.clones.proofs.Loops.{no_ok, no_value}

@@ -1,6 +1,6 @@
 use Rattle.std.proofs.Common.{take}
 use Rattle.trees.specs.Node.{tree_at, Holds}
-use Rattle.symbol_maps.specs.Mapped.{mapped}
+use Rattle.clones.specs.Mapped.{mapped}
 use Rattle.clones.proofs.Loops.{Copied}
 use Rattle.clones.proofs.copies.map_trees.Given as goal
 

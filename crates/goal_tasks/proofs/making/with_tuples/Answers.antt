@@ -5,8 +5,8 @@ use Rattle.trees.specs.Node.{tree_at}
 use Rattle.tasks.specs.declared.declaration.Decl.{Decl}
 use Rattle.tasks.specs.Task.{DeclarationTree}
 use Rattle.tasks.specs.Meaning.{symbols_at, declaration_at, declarations_at, DeclHeld}
-use Rattle.named_symbols.specs.Named.{named, declarations_named}
-use Rattle.named_symbols.specs.Gathered.{GainsSymbols}
+use Rattle.goal_tasks.specs.Named.{named, declarations_named}
+use Rattle.goal_tasks.specs.Gathered.{GainsSymbols}
 use Rattle.goal_tasks.proofs.TuplesMade.{tuples_same}
 use Rattle.goal_tasks.proofs.Passed.{no_value}
 use Rattle.goal_tasks.proofs.making.with_tuples.Goals as goal

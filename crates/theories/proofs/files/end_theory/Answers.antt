@@ -1,5 +1,5 @@
 use Rattle.std.proofs.Common.{◌≡◌, ◌<◌, ℕ, List, map, length, All, sym, ap, subst, ◌∙◌}
-use Rattle.scope_moves.specs.declared.moves.Move.{Move}
+use Rattle.theory_states.specs.declared.moves.Move.{Move}
 use Rattle.goal_tasks.specs.Meaning.{goal_at}
 use Rattle.theory_states.specs.declared.states.Known.{Known}
 use Rattle.theory_states.specs.declared.states.Typed.{Typed}

@@ -13,7 +13,7 @@ use Rattle.side_conditions.specs.Sides.{IsSideFault, bodies}
 use Rattle.theory_states.specs.declared.states.Opened.{Opened}
 use Rattle.theory_states.specs.Meaning.{state_at}
 use Rattle.theory_states.specs.Uses.{OrMemory}
-use Rattle.sound_states.specs.Typed.{state_setting}
+use Rattle.valid_tasks.specs.TypedStates.{state_setting}
 use Rattle.theory_declarations.specs.Declared.{IsDeclaredFault, of_sides}
 use Rattle.theory_declarations.specs.Faults.{side_fault}
 use Rattle.theory_declarations.proofs.Typed.{setting_typed}

@@ -2,7 +2,7 @@ use Rattle.std.proofs.Common.{refl, sym, subst}
 use Rattle.syntax_why.specs.SurfaceDeclarations.{decl_of}
 use Rattle.theory_states.specs.declared.states.Opened.{Opened}
 use Rattle.valid_tasks.proofs.Quoted.{quoted_in}
-use Rattle.sound_states.specs.Sound.{IsSoundState}
+use Rattle.valid_tasks.specs.Sound.{IsSoundState}
 use Rattle.theory_declarations.proofs.Named.{named_held, known_state, is_declared, is_typed}
 use Rattle.theory_declarations.proofs.Sound.{declared_sound}
 use Rattle.theory_declarations.proofs.Passed.{no_ok}

@@ -1,0 +1,27 @@
+use Rattle.std.proofs.Common.{List, All, sym, ap, subst, ◌∙◌}
+use Rattle.trees.specs.declared.TermId.{TermId}
+use Rattle.trees.specs.Node.{Holds}
+use Rattle.tasks.specs.declared.declaration.Ind.{Ind}
+use Rattle.tasks.specs.Task.{InductiveTree}
+use Rattle.tasks.specs.Meaning.{trees_at, inductive_at, InductiveHeld}
+use Rattle.goal_tasks.specs.Named.{named, all_named}
+use Rattle.goal_tasks.specs.Gathered.{Walks}
+use Rattle.goal_tasks.proofs.Lists.{walks_step, flat_more_all}
+use Rattle.goal_tasks.proofs.Steps.{walks_none}
+use Rattle.goal_tasks.proofs.declarations.note_clauses.Goals as goal
+
+pub loop-inductive-init : goal.loop-inductive-init
+loop-inductive-init c = walks_none c.args.store.now _ _ c.requires.walk
+
+pub note_trees-requires-clause-held : goal.note_trees-requires-clause-held
+note_trees-requires-clause-held c =
+    let s = c.args.store.now in
+    let h : InductiveHeld s c.inductive-item.result = subst (InductiveHeld s) (sym c.inductive-item.is) (c.requires.held c.loop-inductive.inductive-index c.inductive-item.result c.loop-inductive-test.true) in
+    subst (λ (z : List TermId). All (Holds s) z) (sym c.as_slice.ensures) h.clauses
+
+pub loop-inductive-preserved : goal.loop-inductive-preserved
+loop-inductive-preserved c =
+    let s = c.args.store.now in
+    let q = c.as_slice.ensures ∙ ap (λ (i : Ind). i.clauses) c.inductive-item.is in
+    walks_step s _ _ _ _ _ _ _ _ (flat_more_all named (λ (i : InductiveTree). i.clauses) (inductive_at s) c.args.inductives.now c.loop-inductive.inductive-index c.inductive-item.result c.loop-inductive-test.true) c.loop-inductive.invariant
+    (subst (λ (z : List TermId). Walks s c.loop-inductive.found.keys c.note_trees.new.found.keys c.note_trees.new.done.keys (all_named (trees_at s z))) q c.in_ok-note_trees.ensures)

@@ -1,4 +1,0 @@
-pub mod Same
-pub mod OutcomeSame
-pub mod StateSame
-pub mod Steps

@@ -1,6 +1,0 @@
-use Rattle.std.proofs.Common.{◌≡◌, drop}
-use Rattle.scope_moves.specs.Moves.{replayed}
-use Rattle.scope_moves.proofs.moves.replay.Given as goal
-
-abbrev pub invariant-loop-step : goal.invariant-loop-step
-invariant-loop-step l = replayed (drop l.step-index l.moves) l.scope ≡ replayed l.moves l.initial.scope

@@ -1,5 +1,0 @@
-use Rattle.sound_states.proofs.Declarations.{declaration_valid}
-use Rattle.sound_states.proofs.copies.copies_valid.Goals as goal
-
-pub returns : goal.returns
-returns k = λ v w m theory within d morphism sound all h. declaration_valid v w m morphism sound theory within d all h

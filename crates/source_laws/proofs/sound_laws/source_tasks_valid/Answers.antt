@@ -1,6 +1,0 @@
-use Rattle.source_laws.proofs.Sources.{source_sound}
-use Rattle.source_laws.proofs.SourceGoals.{task_valid}
-use Rattle.source_laws.proofs.sound_laws.source_tasks_valid.Goals as goal
-
-pub returns : goal.returns
-returns u = λ text ts file s all theory name t are only h is. task_valid all theory name t (source_sound text ts file s all are only h) is

@@ -1,5 +1,0 @@
-use Rattle.source_laws.proofs.WordSources.{names_words}
-use Rattle.source_laws.proofs.words_laws.names_words.Goals as goal
-
-pub returns : goal.returns
-returns u = λ text ts file s all theory g t h only of task. names_words text ts file s all theory g t h only of task

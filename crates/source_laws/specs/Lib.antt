@@ -1,4 +1,0 @@
-pub mod Plain
-pub mod Sources
-pub mod Lexemes
-pub mod Names

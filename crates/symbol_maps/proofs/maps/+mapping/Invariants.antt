@@ -1,8 +1,0 @@
-use Rattle.std.proofs.Common.{◌+◌, ◌*◌}
-use Rattle.symbol_maps.proofs.maps.+mapping.Given as goal
-
-abbrev pub decreases-map_known : goal.decreases-map_known
-decreases-map_known l = 2 * l.e.0 + 1
-
-abbrev pub decreases-map_parts : goal.decreases-map_parts
-decreases-map_parts l = 2 * l.e.0

@@ -1,0 +1,195 @@
+-- Over what may be named after declarations, the types on the right sides of elements are types, and the symbols are symbols.
+use Rattle.std.proofs.Common.{◌≡◌, ◌⊎◌, inl, inr, ℕ, ◌-◌, ◌<◌, ◌≤◌, ◌&&◌, ◌||◌, not, Bool, true, false, List, [], ◌∷◌, ◌++◌, length, slice_get, Contains, All, Option, Some, None, IfSome, IsTrue, option_map, unwrap_or, refl, sym, ap, subst, ◌∙◌, arith, append_assoc, append-nil}
+use Rattle.std.specs.Option.{is_some}
+use Rattle.std.specs.Str.{bytes_eq}
+use Rattle.std.proofs.lemmas.List.Elements.{All-nil, All-cons, All-head, All-tail, Contains-append_cases}
+use Rattle.trees.specs.Tree.{Tree}
+use Rattle.tasks.specs.declared.signature.SymbolKind.{SymbolKind}
+use Rattle.tasks.specs.declared.signature.SymbolKind.TheVariants.{Constructor}
+use Rattle.tasks.specs.Task.{SymbolTree, int_symbol, DeclarationTree}
+use Rattle.tasks.specs.Roles.{is_constructor, maker, role_by}
+use Rattle.tasks.specs.Vocabulary.{Vocabulary, passes, is_empty, is_constructor_kind}
+use Rattle.tasks.specs.Valid.{IsTypeIn}
+use Rattle.names_space.specs.Names.{ScopeNames, find_name, number_of}
+use Rattle.names_space.specs.declared.Table.TheVariants.{Symbols}
+use Rattle.names_space.specs.declared.TypeName.{TypeName}
+use Rattle.syntax_why.specs.Lexeme.{Word}
+use Rattle.syntax_why.specs.declared.names.Name.{Name}
+use Rattle.syntax_why.specs.Declarations.{Element, type_element, symbol_element, prop_element, all_axioms}
+use Rattle.elab_names.specs.Abstract.{texts_of_names, type_expression, text_of_own}
+use Rattle.elab_names.specs.Faults.{first_of}
+use Rattle.elab_names.specs.declared.NamingFault.{NamingFault}
+use Rattle.elab_variables.specs.Seen.{form_seen}
+use Rattle.elab_walk.specs.Pieces.{type_at}
+use Rattle.elab_parts.specs.Elaborated.{unseen}
+use Rattle.elab_parts.specs.Entries.{builtin, wanting_tuples}
+use Rattle.elab_parts.specs.Outcomes.{Setting, over}
+use Rattle.valid_tasks.specs.Signature.{with_entries}
+use Rattle.valid_tasks.specs.Scopes.{is_projection_kind, IsNamedBy, NamesNew, IsSubvocabulary, AgreeBelow, IsSymbolNumber, IsTypedThing, AreTypedScopes}
+use Rattle.valid_tasks.proofs.Words.{self_word}
+use Rattle.valid_tasks.proofs.Signed.{some_at}
+use Rattle.valid_tasks.proofs.Scopes.{found_thing}
+use Rattle.valid_tasks.proofs.Extended.{further, in_either, slice_below, slice_all, entries_part, type_more}
+use Rattle.valid_tasks.specs.Valid.{IsTypedSetting}
+use Rattle.valid_tasks.specs.Lists.{is_built, after}
+use Rattle.valid_tasks.proofs.Made.{tuples_built}
+use Rattle.valid_tasks.proofs.Joined.{matched_usable}
+use Rattle.valid_tasks.proofs.Places.{none_here}
+use Rattle.valid_tasks.proofs.Vocabularies.{left_of}
+use Rattle.valid_tasks.proofs.CopiedRights.{right_typed}
+use Rattle.clone_elements.specs.Left.{Origin, symbol_at_place}
+use Rattle.clone_elements.specs.Rights.{RightTree, type_right, symbol_right, no_right, symbol_missing, called_symbol, right_made, right_fault, right_tuples, rights_tuples, rights_fault}
+use Rattle.clone_elements.specs.Plans.{SideTree, sides_made, symbol_for, symbols_replaced}
+use Rattle.valid_tasks.specs.Sides.{IsTypedRight, IsTypedSide}
+use Rattle.theories.proofs.Elements.{only_here}
+
+-- ---- with further entries
+module _ (xs ys : List SymbolTree) (ds : List DeclarationTree) where
+  front_same : (k : ℕ) → k < length xs → slice_get xs k ≡ slice_get (xs ++ ys) k
+  front_same k l = let q = some_at xs k int_symbol l in q ∙ sym (further xs ys k _ q)
+
+  pub agree : AgreeBelow (after xs [] ds) (after (xs ++ ys) [] ds) (length xs)
+  agree = record {
+    rigid = λ k l. refl;
+    usable = λ k l. ap (λ (o : Option SymbolTree). passes is_built o || is_some (maker ds k)) (front_same k l);
+    matched = λ k l. ap (λ (o : Option SymbolTree). passes (λ (e : SymbolTree). is_built e && is_constructor_kind e.kind) o || is_constructor (role_by k (maker ds k))) (front_same k l);
+  }
+
+-- ---- entries of tuples may be named
+stands : (x y z : Bool) → z ≡ true → IsTrue (x && not (y && z)) → IsTrue (z && not y)
+stands x y false e h = absurd (cc)
+stands true true true e h = absurd (let z : false ≡ true = h in cc)
+stands true false true e h = refl
+stands false y true e h = absurd (let z : false ≡ true = h in cc)
+
+con_built : (e : SymbolTree) → bytes_eq e.theory builtin ≡ true → e.kind ≡ Constructor → IsTrue (is_built e && is_constructor_kind e.kind)
+con_built e b z =
+    ap (λ (x : Bool). (x && not (is_projection_kind e.kind)) && is_constructor_kind e.kind) b
+    ∙ ap (λ (j : SymbolKind). (true && not (is_projection_kind j)) && is_constructor_kind j) z
+
+tuples_named : (pre zs rest : List SymbolTree) (ds : List DeclarationTree) → All (λ (e : SymbolTree). e.theory ≡ builtin) zs → NamesNew (after ((pre ++ zs) ++ rest) [] ds) (length pre) (pre ++ zs)
+tuples_named pre zs rest ds built k e l q = of (in_either pre zs k e q)
+  where
+    all : List SymbolTree
+    all = (pre ++ zs) ++ rest
+
+    at : slice_get all k ≡ Some e
+    at = further (pre ++ zs) rest k e q
+
+    by : e.theory ≡ builtin → IsNamedBy (after all [] ds) k e
+    by p =
+        let b : bytes_eq e.theory builtin ≡ true = ap (λ (t : Word). bytes_eq t builtin) p ∙ self_word builtin in
+        record {
+          usable = λ h. left_of (passes is_built (slice_get all k)) (is_some (maker ds k)) (subst (λ (o : Option SymbolTree). IsTrue (passes is_built o)) (sym at) (stands (not (is_empty e.theory)) (is_projection_kind e.kind) (bytes_eq e.theory builtin) b h));
+          matched = λ z. left_of (passes (λ (i : SymbolTree). is_built i && is_constructor_kind i.kind) (slice_get all k)) (is_constructor (role_by k (maker ds k)))
+              (subst (λ (o : Option SymbolTree). IsTrue (passes (λ (i : SymbolTree). is_built i && is_constructor_kind i.kind) o)) (sym at) (con_built e b z));
+          pattern = λ m. matched_usable all ds k m;
+        }
+
+    of : (slice_get pre k ≡ Some e) ⊎ ((length pre ≤ k) × (slice_get zs (k - length pre) ≡ Some e)) → IsNamedBy (after all [] ds) k e
+    of (inl z) = absurd (let b = slice_below pre k e z in omega (arith, b, l))
+    of (inr z) = by (slice_all (λ (i : SymbolTree). i.theory ≡ builtin) zs built (k - length pre) e z.1)
+
+-- ---- types on right sides
+first_none : (a b : Option NamingFault) → first_of a b ≡ None → (a ≡ None) × (b ≡ None)
+first_none None b q = (refl, q)
+first_none (Some f) b q = absurd (cc)
+
+texts_count : (vs : List Name) → length (texts_of_names vs) ≡ length vs
+texts_count [] = refl
+texts_count (v ∷ vs) = let h = texts_count vs in omega (arith, h)
+
+right_more : (v w : Vocabulary) → IsSubvocabulary v w → (e : Element) (r : RightTree) → IsTypedRight v e r → IsTypedRight w e r
+right_more v w part (type_element i c vs f) (type_right ty) h = type_more v w part (length vs) ty h
+right_more v w part (type_element i c vs f) (symbol_right k) h = tt
+right_more v w part (type_element i c vs f) no_right h = tt
+right_more v w part (symbol_element i s c d) r h = tt
+right_more v w part (prop_element i k c) r h = tt
+right_more v w part (all_axioms i) r h = tt
+
+module _ (all : List SymbolTree) (ds : List DeclarationTree) where
+  abbrev w : Vocabulary
+  w = after all [] ds
+
+  record IsTypedElement (c : Setting) (e : Element) : Type 0 where
+    right : IsTypedRight (with_entries w (c.symbols ++ right_tuples c.symbols e)) e (right_made c.trees c.symbols c.scope e)
+    setting : IsTypedSetting w (record c { symbols = c.symbols ++ right_tuples c.symbols e })
+
+  without : (c : Setting) → IsTypedSetting w c → IsTypedSetting w (record c { symbols = c.symbols ++ [] })
+  without c h = subst (λ (es : List SymbolTree). IsTypedSetting w (record c { symbols = es })) (sym (append-nil c.symbols)) h
+
+  element_typed : (c : Setting) (e : Element) (rest : List SymbolTree) → (c.symbols ++ right_tuples c.symbols e) ++ rest ≡ all → IsTypedSetting w c → right_fault c.trees c.symbols c.scope e ≡ None → IsTypedElement c e
+  element_typed c (type_element i d vs f) rest whole h q =
+      let ys = wanting_tuples c.symbols (form_seen unseen (type_expression f)).widths in
+      let news : NamesNew w (length c.symbols) (c.symbols ++ ys) =
+      subst (λ (es : List SymbolTree). NamesNew (after es [] ds) (length c.symbols) (c.symbols ++ ys)) whole (tuples_named c.symbols ys rest ds (tuples_built c.symbols (form_seen unseen (type_expression f)).widths)) in
+      let z = right_typed w c (texts_of_names vs) (type_expression f) h q news in
+      record {
+        right = subst (λ (n : ℕ). IsTypeIn (with_entries w (c.symbols ++ ys)) n (type_at (over c.trees (c.symbols ++ ys) c.scope (texts_of_names vs)) (type_expression f))) (texts_count vs) z.type;
+        setting = record { theory = h.theory; source = h.source; signature = z.signature; scopes = z.scopes };
+      }
+  element_typed c (symbol_element i s d e) rest whole h q = record { right = tt; setting = without c h }
+  element_typed c (prop_element i k d) rest whole h q = record { right = tt; setting = without c h }
+  element_typed c (all_axioms i) rest whole h q = record { right = tt; setting = without c h }
+
+  pub sides_after : (places : Word → Option ℕ) (es : List Element) (c : Setting) (rest : List SymbolTree) → (c.symbols ++ rights_tuples c.symbols es) ++ rest ≡ all → IsTypedSetting w c → rights_fault c.trees c.symbols c.scope es ≡ None
+      → All (IsTypedSide w) (sides_made places c.trees c.symbols c.scope es)
+  sides_after places [] c rest whole h q = All-nil (IsTypedSide w)
+  sides_after places (e ∷ es) c rest whole h q =
+      let p = first_none (right_fault c.trees c.symbols c.scope e) (rights_fault c.trees (c.symbols ++ right_tuples c.symbols e) c.scope es) q in
+      let more = right_tuples c.symbols e in
+      let now = c.symbols ++ more in
+      let later = rights_tuples now es in
+      let same : (now ++ later) ++ rest ≡ all = ap (λ (zs : List SymbolTree). zs ++ rest) (append_assoc c.symbols more later) ∙ whole in
+      let split : now ++ (later ++ rest) ≡ all = sym (append_assoc now later rest) ∙ same in
+      let x = element_typed c e (later ++ rest) split h p.0 in
+      let part : IsSubvocabulary (with_entries w now) w = subst (λ (zs : List SymbolTree). IsSubvocabulary (with_entries w now) (with_entries w zs)) split (entries_part w now (later ++ rest)) in
+      All-cons (IsTypedSide w) _ (sides_made places c.trees now c.scope es)
+      (right_more (with_entries w now) w part e (right_made c.trees c.symbols c.scope e) x.right)
+      (sides_after places es (record c { symbols = now }) rest same x.setting p.1)
+
+-- ---- symbols on right sides
+module _ (v : Vocabulary) (s : List Tree) (names : ScopeNames) (scopes : AreTypedScopes v s names) where
+  abbrev RightSymbol : RightTree → Type 0
+  RightSymbol (symbol_right k) = IsSymbolNumber v k
+  RightSymbol r = Unit {0}
+
+  numbered : (o : Option TypeName) → IfSome o (IsTypedThing v s Symbols) → IfSome (option_map number_of o) (IsSymbolNumber v)
+  numbered None h = tt
+  numbered (Some t) h = h
+
+  named_symbol : (token : ℕ) (o : Option ℕ) → symbol_missing token o ≡ None → IfSome o (IsSymbolNumber v) → IsSymbolNumber v (unwrap_or o 0)
+  named_symbol token None q h = absurd (cc)
+  named_symbol token (Some k) q h = h
+
+  right_symbol : (symbols : List SymbolTree) (e : Element) → right_fault s symbols names e ≡ None → RightSymbol (right_made s symbols names e)
+  right_symbol symbols (type_element i c vs f) q = tt
+  right_symbol symbols (symbol_element i w c d) q = named_symbol d.at (called_symbol names d) q (numbered (find_name names Symbols (d.scopes ++ text_of_own d.own ∷ [])) (found_thing (IsTypedThing v s) names scopes Symbols (d.scopes ++ text_of_own d.own ∷ [])))
+  right_symbol symbols (prop_element i k c) q = tt
+  right_symbol symbols (all_axioms i) q = tt
+
+  abbrev SideSymbol : SideTree → Type 0
+  SideSymbol x = RightSymbol x.right
+
+  sides_symbols : (places : Word → Option ℕ) (es : List Element) (symbols : List SymbolTree) → rights_fault s symbols names es ≡ None → All SideSymbol (sides_made places s symbols names es)
+  sides_symbols places [] symbols q = All-nil SideSymbol
+  sides_symbols places (e ∷ es) symbols q =
+      let p = first_none (right_fault s symbols names e) (rights_fault s (symbols ++ right_tuples symbols e) names es) q in
+      All-cons SideSymbol _ (sides_made places s (symbols ++ right_tuples symbols e) names es) (right_symbol symbols e p.0) (sides_symbols places es (symbols ++ right_tuples symbols e) p.1)
+
+  pair_symbol : (t : Origin) (left : Option ℕ) (r : RightTree) (p : ℕ × ℕ) → RightSymbol r → Contains (symbol_for t left r) p → IsSymbolNumber v p.1
+  pair_symbol t (Some place) (symbol_right k) p h c = let e : (symbol_at_place t.decls place, k) ≡ p = only_here _ p c in subst (λ (q : ℕ × ℕ). IsSymbolNumber v q.1) e h
+  pair_symbol t (Some place) (type_right ty) p h c = absurd (none_here p c)
+  pair_symbol t (Some place) no_right p h c = absurd (none_here p c)
+  pair_symbol t None r p h c = absurd (none_here p c)
+
+  pairs_symbols : (t : Origin) (xs : List SideTree) → All SideSymbol xs → (p : ℕ × ℕ) → Contains (symbols_replaced t xs) p → IsSymbolNumber v p.1
+  pairs_symbols t [] h p c = absurd (none_here p c)
+  pairs_symbols t (x ∷ xs) h p c = of (Contains-append_cases (symbol_for t x.left x.right) (symbols_replaced t xs) p c) (λ z. pairs_symbols t xs (All-tail SideSymbol x xs h) p z)
+    where
+      of : Contains (symbol_for t x.left x.right) p ⊎ Contains (symbols_replaced t xs) p → (Contains (symbols_replaced t xs) p → IsSymbolNumber v p.1) → IsSymbolNumber v p.1
+      of (inl z) f = pair_symbol t x.left x.right p (All-head SideSymbol x xs h) z
+      of (inr z) f = f z
+
+  pub right_numbers : (places : Word → Option ℕ) (t : Origin) (es : List Element) (symbols : List SymbolTree) → rights_fault s symbols names es ≡ None → (p : ℕ × ℕ) → Contains (symbols_replaced t (sides_made places s symbols names es)) p → IsSymbolNumber v p.1
+  right_numbers places t es symbols q p c = pairs_symbols t (sides_made places s symbols names es) (sides_symbols places es symbols q) p c

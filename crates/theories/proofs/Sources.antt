@@ -1,0 +1,119 @@
+-- The theories of the embedded library are sound, and then those of a source.
+use Rattle.std.proofs.Common.{◌≡◌, ℕ, ◌+◌, Bool, true, false, List, [], ◌∷◌, ◌++◌, length, Option, Some, None, refl, sym, subst}
+use Rattle.std.specs.Prelude.{◌||◌}
+use Rattle.std.specs.Str.{bytes_eq}
+use Rattle.std.specs.Option.{is_some}
+use Rattle.std.proofs.lemmas.List.Elements.{All-nil}
+use Rattle.trees.specs.Tree.{Tree}
+use Rattle.tokens_why.specs.declared.token.Token.{Token}
+use Rattle.tokens_why.specs.Tokens.{AreTokens}
+use Rattle.tokens_why.specs.declared.terminal.Terminal.TheVariants as t
+use Rattle.tasks.specs.Vocabulary.{is_empty}
+use Rattle.syntax_why.specs.Lexeme.{mark, lx, rest}
+use Rattle.syntax_why.specs.Declarations.{SyntaxDeclarations, SyntaxTheory, heading, write_decls, write_theory, write_file}
+use Rattle.syntax_why.specs.DeclarationRules.{AreLevelDecls, IsLevelFile}
+use Rattle.syntax_why.specs.declared.declarations.File.{File}
+use Rattle.syntax_why.specs.SurfaceDeclarations.{file_of}
+use Rattle.recognise_why.specs.Sources.{IsOnlyFile}
+use Rattle.std_theories.specs.Library.{LibraryEntry, AreFilesOf, library}
+use Rattle.elab_parts.specs.Entries.{builtin}
+use Rattle.valid_tasks.proofs.QuotedTokens.{tokens_quoted}
+use Rattle.goal_tasks.specs.Theories.{TheoriesTree}
+use Rattle.valid_tasks.specs.Placed.{ArePlaced}
+use Rattle.theory_states.specs.States.{KnownTree, StateTree, known_named, opened_empty}
+use Rattle.valid_tasks.specs.TypedStates.{AreTypedTheories}
+use Rattle.valid_tasks.proofs.Keeping.{theories_same, begun_typed, ended_typed}
+use Rattle.valid_tasks.specs.Sound.{AreSoundTheories}
+use Rattle.valid_tasks.proofs.Begun.{begins, ends, nothing_sound}
+use Rattle.theories.specs.Plain.{IsPlainKnown, ArePlainTheories}
+use Rattle.theories.proofs.Plain.{begins_plain, ends_plain}
+use Rattle.theories.specs.Files.{IsTheoryBegun, IsEnded, is_path_taken, IsNewTheoryBy, AreTypedInBy, IsRestarted, AreEmbeddedInBy, AreEmbeddedBy, nothing_known}
+use Rattle.theories.specs.Sound.{AreSoundlyTyped, SoundTheoriesOf}
+use Rattle.theories.proofs.Ending.{nothing_typed, int_placed}
+use Rattle.theories.proofs.Paths.{new_path}
+use Rattle.theories.specs.Sources.{AreSoundIn}
+use Rattle.theories.proofs.SourceSteps.{AreQuoted, tail_of, front_of, back_of, IsGood, decls_good}
+
+-- ---- between theories
+pub record AreGood (c : StateTree) : Type 0 where
+  pub typed : AreTypedTheories c
+  pub placed : ArePlaced c.symbols
+  pub plain : ArePlainTheories c.decls c.known
+  pub sound : AreSoundTheories c.trees c.symbols c.decls c.known
+
+none_of : (o : Option KnownTree) → is_some o ≡ false → o ≡ None
+none_of None q = refl
+none_of (Some k) q = absurd (cc)
+
+right_false : (a b : Bool) → (a || b) ≡ false → b ≡ false
+right_false true b h = absurd (cc)
+right_false false b h = h
+
+-- no theory has a path that isn't taken
+not_known : (path : List ℕ) (known : List KnownTree) → is_path_taken path known ≡ false → known_named known path ≡ None
+not_known path known h = none_of (known_named known path) (right_false (bytes_eq path builtin) (is_some (known_named known path)) (right_false (is_empty path) (bytes_eq path builtin || is_some (known_named known path)) h))
+
+begun_good : (path : List ℕ) (c c' : StateTree) → is_path_taken path c.known ≡ false → IsTheoryBegun path c c' → AreGood c → IsGood c'
+begun_good path c c' new e h =
+    let p = new_path path c.known new in
+    subst IsGood (sym e) (record {
+      typed = begun_typed c path (c.number + 1) p.named p.other h.typed;
+      placed = h.placed;
+      plain = begins_plain c.trees c.symbols c.decls c.known path (c.number + 1) h.plain;
+      sound = begins c.trees c.symbols c.decls c.known path (c.number + 1) h.sound p.named p.other (not_known path c.known new);
+    })
+
+ended_good : (c c' : StateTree) → IsEnded c c' → IsGood c → AreGood c'
+ended_good c c' e h = subst AreGood (sym e) (record {
+  typed = ended_typed c (opened_empty []) c.number h.typed;
+  placed = h.placed;
+  plain = ends_plain c h.plain;
+  sound = ends c h.sound;
+})
+
+new_good : (path : List ℕ) (ds : SyntaxDeclarations) (c c' : StateTree) → AreLevelDecls ds → AreQuoted (write_decls ds) → IsNewTheoryBy AreSoundlyTyped path ds c c' → AreGood c → AreGood c'
+new_good path ds c c' w q u h =
+    let x = u.typed in
+    ended_good x.second.between c' x.second.second (decls_good ds x.between x.second.between w q x.second.first (begun_good path c x.between u.new x.first h))
+
+restarted_good : (c c' : StateTree) → IsRestarted c c' → AreGood c → AreGood c'
+restarted_good c c' e h = subst AreGood (sym e) (record { typed = theories_same c c.opened 0 h.typed; placed = h.placed; plain = h.plain; sound = h.sound })
+
+-- ---- theories one after another
+inside : (x : SyntaxTheory) → AreQuoted (write_theory x) → AreQuoted (write_decls x.decls)
+inside x q =
+    let more = write_decls x.decls ++ (mark t.EndWord ∷ []) in
+    front_of (write_decls x.decls) (mark t.EndWord ∷ []) (tail_of (lx t.Uident x.name.text) more (tail_of (mark (heading x.is_module)) (lx t.Uident x.name.text ∷ more) q))
+
+theories_good : (xs : List SyntaxTheory) (c c' : StateTree) → IsLevelFile xs → AreQuoted (write_file xs) → AreTypedInBy AreSoundlyTyped xs c c' → AreGood c → AreGood c'
+theories_good [] c c' w q u h = subst AreGood u h
+theories_good (x ∷ xs) c c' w q u h =
+    theories_good xs u.between c' w.1 (back_of (write_theory x) (write_file xs) q) u.second
+    (new_good x.name.text x.decls c u.between w.0 (inside x (front_of (write_theory x) (write_file xs) q)) u.first h)
+
+embedded_good : (path : List ℕ) (xs : List SyntaxTheory) (c c' : StateTree) → IsLevelFile xs → AreQuoted (write_file xs) → AreEmbeddedInBy AreSoundlyTyped path xs c c' → AreGood c → AreGood c'
+embedded_good path [] c c' w q u h = subst AreGood u h
+embedded_good path (x ∷ xs) c c' w q u h =
+    embedded_good path xs u.between c' w.1 (back_of (write_theory x) (write_file xs) q) u.second
+    (restarted_good u.first.between u.between u.first.second (new_good path x.decls c u.first.between w.0 (inside x (front_of (write_theory x) (write_file xs) q)) u.first.first h))
+
+-- ---- files
+quoted_file : (text : List ℕ) (ts : List Token) (xs : List SyntaxTheory) → AreTokens text ts → IsOnlyFile (rest text ts 0) xs → AreQuoted (write_file xs)
+quoted_file text ts xs are only = subst AreQuoted (sym only.of.tokens) (tokens_quoted text ts 0 are)
+
+files_good : (es : List LibraryEntry) (fs : List (List ℕ × File)) (c c' : StateTree) → AreFilesOf es fs → AreEmbeddedBy AreSoundlyTyped fs c c' → AreGood c → AreGood c'
+files_good [] [] c c' a u h = subst AreGood u h
+files_good [] (f ∷ fs) c c' a u h = absurd a
+files_good (e ∷ es) [] c c' a u h = absurd a
+files_good (e ∷ es) (f ∷ fs) c c' a u h =
+    files_good es fs u.between c' a.2 u.second
+    (embedded_good f.0 (file_of f.1) c u.between a.1.only.of.right (quoted_file e.1 a.1.tokens (file_of f.1) a.1.are a.1.only) u.first h)
+
+nothing_good : (s : List Tree) → AreGood (nothing_known s)
+nothing_good s = record { typed = nothing_typed s; placed = int_placed; plain = All-nil (IsPlainKnown []); sound = nothing_sound s }
+
+pub source_sound : (text : List ℕ) (ts : List Token) (file : List SyntaxTheory) (s : List Tree) (all : TheoriesTree) → AreTokens text ts → IsOnlyFile (rest text ts 0) file → SoundTheoriesOf s file all → AreSoundIn all
+source_sound text ts file s all are only h =
+    let b : AreGood h.before = files_good library h.library.files (nothing_known s) h.before h.library.are h.library.typed (nothing_good s) in
+    let a : AreGood h.after = theories_good file h.before h.after only.of.right (quoted_file text ts file are only) h.typed b in
+    record { state = h.after; embedded = length h.before.known; are = h.are; ints = h.ints; sound = a.sound }

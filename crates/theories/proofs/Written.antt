@@ -1,0 +1,172 @@
+-- The names that a declaration makes are texts of its tokens.
+use Rattle.std.proofs.Common.{codes, List, [], ◌∷◌, ◌++◌, map, All, Some, None, refl, arith}
+use Rattle.std.specs.Option.{IfSome}
+use Rattle.std.specs.List.{AllByRecursion}
+use Rattle.std.proofs.lemmas.List.Elements.{All-weaker}
+use Rattle.tokens_why.specs.declared.terminal.Terminal.{Terminal}
+use Rattle.tokens_why.specs.declared.terminal.Terminal.TheVariants as t
+use Rattle.syntax_why.specs.Lexeme.{Word, Lexeme, mark, lx}
+use Rattle.syntax_why.specs.Forms.{Own, lower, upper, infix_op, prefix_op, star, scoped, write_own, write_called, write_form, form_row}
+use Rattle.syntax_why.specs.Forms as surface
+use Rattle.syntax_why.specs.Trees.{SyntaxTree, write, bar_before, type_part}
+use Rattle.syntax_why.specs.Declarations.{variable_row, param_row, definition, write_member, other_members, write_constructor, constructor_tail, constructor_list, write_algebraic, algebraic_tail, write_clause, clause_list, write_inductive, inductive_tail, prop_word, type_equation, write_decl}
+use Rattle.syntax_why.specs.Declarations as source
+use Rattle.elab_names.specs.Abstract.{expression, spelled, prefix_name, infix_name, text_of_own}
+use Rattle.elab_parts.specs.Declarations.{GroupMember, AlgebraicConstructor, AlgebraicType, Declaration, abstract_type, alias, algebraic, member_group, inductive, proposition_declaration, declaration, symbol, group_member, constructor, algebraic_type, inductive_predicate}
+use Rattle.elab_inductives.specs.Inductives.{as_members}
+use Rattle.elab_terms.specs.Outcomes.{proposition_seen}
+use Rattle.written_files.specs.Named.{IsLineWord}
+use Rattle.theories.specs.Lexemes.{SaysWord, IsWordLexeme, AreWordLexemes}
+use Rattle.theories.proofs.Words.{past_space, joined}
+use Rattle.valid_tasks.proofs.Variables.{VariableAs, IsVariable, tail_of, front_of, back_of, variables_told}
+
+-- ---- what is named
+abbrev pub ConstructorsNamed : List AlgebraicConstructor → Type 0
+ConstructorsNamed ks = AllByRecursion (λ (k : AlgebraicConstructor). IsLineWord k.called.name) ks
+
+pub record IsTypeNamed (a : AlgebraicType) : Type 0 where
+  pub name : IsLineWord a.called.name
+  pub constructors : ConstructorsNamed a.constructors
+
+abbrev pub TypesNamed : List AlgebraicType → Type 0
+TypesNamed ts = AllByRecursion IsTypeNamed ts
+
+abbrev pub MembersNamed : List GroupMember → Type 0
+MembersNamed ms = AllByRecursion (λ (m : GroupMember). IsLineWord m.called.name) ms
+
+-- the entries that a declaration makes have words, a proposition's are its type variables
+abbrev pub IsNamed : Declaration → Type 0
+IsNamed (abstract_type x vs) = IsLineWord x.name
+IsNamed (alias x vs f) = Unit {0}
+IsNamed (algebraic ts) = TypesNamed ts
+IsNamed (member_group ms) = MembersNamed ms
+IsNamed (inductive ds) = MembersNamed (as_members ds)
+IsNamed (proposition_declaration k x e) = All IsLineWord (proposition_seen e).vars
+
+-- ---- lists of tokens
+abbrev Are : List Lexeme → Type 0
+Are = AreWordLexemes
+
+tail_at : (x : Lexeme) (xs : List Lexeme) → Are (x ∷ xs) → Are xs
+tail_at = tail_of IsWordLexeme
+
+front_at : (xs ys : List Lexeme) → Are (xs ++ ys) → Are xs
+front_at = front_of IsWordLexeme
+
+back_at : (xs ys : List Lexeme) → Are (xs ++ ys) → Are ys
+back_at = back_of IsWordLexeme
+
+-- ---- names
+spelled_word : (o : Terminal) (w : Word) → SaysWord o w → IsLineWord (spelled o w)
+spelled_word t.Equal w h = past_space (codes "=") refl
+spelled_word t.Minus w h = past_space (codes "-") refl
+spelled_word t.Operator1 w h = h
+spelled_word t.Operator2 w h = h
+spelled_word t.Operator3 w h = h
+spelled_word t.Operator4 w h = h
+spelled_word t.PrefixOperator w h = h
+spelled_word _ w h = past_space [] refl
+
+prefix_word : (w : Word) → IsLineWord w → IsLineWord (prefix_name w)
+prefix_word w h = joined w (codes "_") h (past_space (codes "_") refl)
+
+infix_word : (o : Terminal) (w : Word) → SaysWord o w → IsLineWord (infix_name o w)
+infix_word t.PrefixOperator w h = prefix_word w h
+infix_word o w h = spelled_word o w h
+
+own_word : (o : Own) → Are (write_own o) → IsLineWord (text_of_own o)
+own_word (lower w) q = q 0 (lx t.Lident w) (omega arith)
+own_word (upper w) q = q 0 (lx t.Uident w) (omega arith)
+own_word (infix_op o w) q = infix_word o w (q 1 (lx o w) (omega arith))
+own_word (prefix_op o w) q = prefix_word (spelled o w) (spelled_word o w (q 1 (lx o w) (omega arith)))
+own_word star q = past_space (codes "*") refl
+
+called_word : (c : surface.Called) → Are (write_called c) → IsLineWord (symbol c).name
+called_word c q = own_word c.own (back_at (scoped c.scopes) (write_own c.own) q)
+
+-- ---- type variables
+variable_from : (x : Terminal) (w : Word) → SaysWord x w → VariableAs IsLineWord x w
+variable_from t.TyVar w h = h
+variable_from _ w h = tt
+
+pub proposition_words : (e : SyntaxTree) → Are (write e) → All IsLineWord (proposition_seen (expression e)).vars
+proposition_words e q = variables_told IsLineWord e (All-weaker IsWordLexeme (IsVariable IsLineWord) (λ l h. variable_from l.terminal l.text h) (write e) q)
+
+-- ---- algebraic types
+constructor_named : (c : source.Constructor) (rest : List Lexeme) → Are (write_constructor c ++ rest) → IsLineWord (constructor c).called.name
+constructor_named c rest q = q 0 (lx t.Uident c.name.text) (omega arith)
+
+others_named : (cs : List source.Constructor) → Are (constructor_tail cs) → ConstructorsNamed (map constructor cs)
+others_named [] q = tt
+others_named (c ∷ cs) q =
+    let r = tail_at (mark t.Bar) (write_constructor c ++ constructor_tail cs) q in
+    (constructor_named c (constructor_tail cs) r, others_named cs (back_at (write_constructor c) (constructor_tail cs) r))
+
+constructors_named : (cs : List source.Constructor) → Are (constructor_list cs) → ConstructorsNamed (map constructor cs)
+constructors_named [] q = tt
+constructors_named (c ∷ cs) q = (constructor_named c (constructor_tail cs) q, others_named cs (back_at (write_constructor c) (constructor_tail cs) q))
+
+type_named : (a : source.Algebraic) → Are (write_algebraic a) → IsTypeNamed (algebraic_type a)
+type_named a q =
+    let last = bar_before a.bar ++ constructor_list a.constructors in
+    let r = back_at (variable_row a.vars) (mark t.Equal ∷ last) (tail_at (lx t.Lident a.name.text) (variable_row a.vars ++ (mark t.Equal ∷ last)) q) in
+    record {
+      name = q 0 (lx t.Lident a.name.text) (omega arith);
+      constructors = constructors_named a.constructors (back_at (bar_before a.bar) (constructor_list a.constructors) (tail_at (mark t.Equal) last r));
+    }
+
+other_types_named : (as_ : List source.Algebraic) → Are (algebraic_tail as_) → TypesNamed (map algebraic_type as_)
+other_types_named [] q = tt
+other_types_named (a ∷ as_) q =
+    let r = tail_at (mark t.WithWord) (write_algebraic a ++ algebraic_tail as_) q in
+    (type_named a (front_at (write_algebraic a) (algebraic_tail as_) r), other_types_named as_ (back_at (write_algebraic a) (algebraic_tail as_) r))
+
+-- ---- functions, predicates and constants
+other_members_named : (ds : List source.Member) → Are (other_members ds) → MembersNamed (map group_member ds)
+other_members_named [] q = tt
+other_members_named (d ∷ ds) q =
+    let r = tail_at (mark t.WithWord) (write_member d ++ other_members ds) q in
+    let own = front_at (write_member d) (other_members ds) r in
+    let params = param_row d.params ++ (type_part d.result ++ (mark t.Equal ∷ write d.body)) in
+    (called_word d.name (front_at (write_called d.name) params own), other_members_named ds (back_at (write_member d) (other_members ds) r))
+
+-- ---- inductive predicates
+predicate_named : (d : source.Inductive) → Are (write_inductive d) → IsLineWord (inductive_predicate d).called.name
+predicate_named d q = called_word d.name (front_at (write_called d.name) (param_row d.params ++ (mark t.Equal ∷ (bar_before d.bar ++ clause_list d.clauses))) q)
+
+other_predicates_named : (ds : List source.Inductive) → Are (inductive_tail ds) → MembersNamed (as_members (map inductive_predicate ds))
+other_predicates_named [] q = tt
+other_predicates_named (d ∷ ds) q =
+    let r = tail_at (mark t.WithWord) (write_inductive d ++ inductive_tail ds) q in
+    (predicate_named d (front_at (write_inductive d) (inductive_tail ds) r), other_predicates_named ds (back_at (write_inductive d) (inductive_tail ds) r))
+
+-- ---- declarations
+pub names_written : (d : source.SyntaxDeclaration) → Are (write_decl d) → IfSome (declaration d) IsNamed
+names_written (source.type_decl a n vs None) q = q 1 (lx t.Lident n.text) (omega arith)
+names_written (source.type_decl a n vs (Some f)) q = tt
+names_written (source.algebraic_decl a []) q = tt
+names_written (source.algebraic_decl a (x ∷ xs)) q =
+    let r = tail_at (mark t.TypeWord) (write_algebraic x ++ algebraic_tail xs) q in
+    (type_named x (front_at (write_algebraic x) (algebraic_tail xs) r), other_types_named xs (back_at (write_algebraic x) (algebraic_tail xs) r))
+names_written (source.function_decl a c ps f e ms) q =
+    let last = definition e ++ other_members ms in
+    let typed = mark t.Colon ∷ (write_form f ++ last) in
+    let r = tail_at (mark t.FunctionWord) (write_called c ++ (param_row ps ++ typed)) q in
+    let u = tail_at (mark t.Colon) (write_form f ++ last) (back_at (param_row ps) typed (back_at (write_called c) (param_row ps ++ typed) r)) in
+    (called_word c (front_at (write_called c) (param_row ps ++ typed) r), other_members_named ms (back_at (definition e) (other_members ms) (back_at (write_form f) last u)))
+names_written (source.predicate_decl a c ps e ms) q =
+    let last = definition e ++ other_members ms in
+    let r = tail_at (mark t.PredicateWord) (write_called c ++ (param_row ps ++ last)) q in
+    let u = back_at (param_row ps) last (back_at (write_called c) (param_row ps ++ last) r) in
+    (called_word c (front_at (write_called c) (param_row ps ++ last) r), other_members_named ms (back_at (definition e) (other_members ms) u))
+names_written (source.constant_decl a c f e) q =
+    let typed = mark t.Colon ∷ (write_form f ++ definition e) in
+    (called_word c (front_at (write_called c) typed (tail_at (mark t.ConstantWord) (write_called c ++ typed) q)), tt)
+names_written (source.inductive_decl a []) q = tt
+names_written (source.inductive_decl a (x ∷ xs)) q =
+    let r = tail_at (mark t.InductiveWord) (write_inductive x ++ inductive_tail xs) q in
+    (predicate_named x (front_at (write_inductive x) (inductive_tail xs) r), other_predicates_named xs (back_at (write_inductive x) (inductive_tail xs) r))
+names_written (source.prop_decl a k c e) q = proposition_words e (tail_at (mark t.Colon) (write e) (back_at (write_called c) (mark t.Colon ∷ write e) (tail_at (mark (prop_word k)) (write_called c ++ (mark t.Colon ∷ write e)) q)))
+names_written (source.use_decl a l p n) q = tt
+names_written (source.clone_decl a l p n es) q = tt
+names_written (source.scope_decl a n ds) q = tt

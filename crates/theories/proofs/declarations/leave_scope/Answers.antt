@@ -1,0 +1,8 @@
+use Rattle.theories.proofs.Passed.{no_ok}
+use Rattle.theories.proofs.declarations.leave_scope.Goals as goal
+
+pub returns-in_err-push-clause-ok : goal.returns-in_err-push-clause-ok
+returns-in_err-push-clause-ok c = no_ok _ _ c.from_residual.result c.from_residual.ensures.1
+
+pub returns-in_err-push-clause-right : goal.returns-in_err-push-clause-right
+returns-in_err-push-clause-right c = no_ok _ _ c.from_residual.result c.from_residual.ensures.1

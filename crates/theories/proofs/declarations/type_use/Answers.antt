@@ -1,0 +1,35 @@
+use Rattle.std.proofs.Common.{◌+◌}
+use Rattle.std.proofs.lemmas.Result.{err_from_is_err_and}
+use Rattle.theory_states.specs.Meaning.{state_at}
+use Rattle.valid_tasks.proofs.Keeping.{used_typed}
+use Rattle.theories.proofs.Passing.{passed_right}
+use Rattle.theories.proofs.Passed.{no_ok}
+use Rattle.theories.proofs.declarations.type_use.Goals as goal
+
+pub returns-in_err-use_theory-clause-err : goal.returns-in_err-use_theory-clause-err
+returns-in_err-use_theory-clause-err c =
+    let p = err_from_is_err_and c.from_residual.result c.from_residual.ensures.1 in
+    rw (p.1, p.2) (c.in_err-use_theory.ensures.err c.args.store.now)
+
+pub returns-clause-right : goal.returns-clause-right
+returns-clause-right c =
+    let s = c.args.store.now in
+    let t = c.args.typed.now in
+    let o = c.use_theory.new.open in
+    passed_right s t o c.pass.new.open (o.count + 1) c.in_ok-pass.ensures (record {
+      held = c.in_ok-use_theory.ensures.held s c.requires.held;
+      typed = used_typed c.args.link c.args.path.now c.args.alias.now (state_at s t c.args.open.now) (state_at s t o) (c.in_ok-use_theory.ensures.ok s) c.requires.typed;
+      placed = c.requires.placed;
+    })
+
+pub returns-in_err-use_theory-clause-ok : goal.returns-in_err-use_theory-clause-ok
+returns-in_err-use_theory-clause-ok c = no_ok _ _ c.from_residual.result c.from_residual.ensures.1
+
+pub returns-in_err-use_theory-clause-right : goal.returns-in_err-use_theory-clause-right
+returns-in_err-use_theory-clause-right c = no_ok _ _ c.from_residual.result c.from_residual.ensures.1
+
+pub returns-in_err-pass-clause-ok : goal.returns-in_err-pass-clause-ok
+returns-in_err-pass-clause-ok c = no_ok _ _ c.from_residual-in_err-pass.result c.from_residual-in_err-pass.ensures.1
+
+pub returns-in_err-pass-clause-right : goal.returns-in_err-pass-clause-right
+returns-in_err-pass-clause-right c = no_ok _ _ c.from_residual-in_err-pass.result c.from_residual-in_err-pass.ensures.1

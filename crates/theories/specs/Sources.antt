@@ -1,0 +1,16 @@
+-- Theories over one signature that are sound.
+use Rattle.std.specs.Prelude.{◌≡◌, ℕ}
+use Rattle.tasks.specs.Valid.{AreInts}
+use Rattle.goal_tasks.specs.Theories.{TheoriesTree}
+use Rattle.theory_states.specs.States.{StateTree}
+use Rattle.valid_tasks.specs.Sound.{AreSoundTheories}
+use Rattle.theories.specs.Ints.{int_entries}
+use Rattle.theories.specs.Files.{theories_of}
+
+-- they are those that are known in a state, where all that is known is sound
+pub record AreSoundIn (all : TheoriesTree) : Type 0 where
+  pub state : StateTree
+  pub embedded : ℕ
+  pub are : all ≡ theories_of embedded state
+  pub ints : AreInts state.symbols int_entries
+  pub sound : AreSoundTheories state.trees state.symbols state.decls state.known

@@ -1,0 +1,63 @@
+// What is known while the theories of a source are typed stays sound where a theory is cloned.
+ghost use Rattle.std.specs.Prelude.{ℕ, List, [], ◌∷◌, ◌++◌, All, Option};
+ghost use Rattle.trees.specs.Tree.{Tree};
+ghost use Rattle.tasks.specs.Task.{SymbolTree, DeclarationTree};
+ghost use Rattle.names_space.specs.Names.{ScopeNames};
+ghost use Rattle.theory_states.specs.declared.moves.Move.{Move};
+ghost use Rattle.syntax_why.specs.Declarations.{SyntaxDeclaration, Element};
+ghost use Rattle.syntax_why.specs.declared.names.Name.{Name};
+ghost use Rattle.syntax_why.specs.declared.names.Path.{Path};
+ghost use Rattle.syntax_why.specs.declared.declarations.Link.{Link};
+ghost use Rattle.theory_states.specs.States.{KnownTree, StateTree, opened_empty, known_as};
+ghost use Rattle.theory_states.specs.Uses.{IsTheoryUsed};
+ghost use Rattle.valid_tasks.specs.TypedStates.{IsTypedState};
+ghost use Rattle.valid_tasks.specs.Sound.{IsSoundState};
+ghost use Rattle.theory_declarations.specs.Declared.{IsDeclared};
+ghost use Rattle.valid_tasks.specs.Placed.{ArePlaced};
+ghost use Rattle.clone_theories.specs.Cloned.{IsCloned};
+ghost use Rattle.valid_tasks.specs.Unaliased.{IsPlainMove};
+ghost use Rattle.theories.specs.Plain.{ArePlainTheories, IsPlainState};
+
+/// A law: a typed state that is sound stays so where a theory is cloned, if entries without a theory are
+/// those of type variables and the state is plain: no name of a symbol stands for an alias, and each
+/// axiom is a proposition; then it stays plain too.
+pub fn cloned_sound()
+    ensures sound { (link : Link) (p : Path) (alias : Option Name) (es : List Element)
+        (c next : StateTree) → IsCloned link p alias es c next → IsTypedState c
+        → ArePlaced c.symbols → IsPlainState c → IsSoundState c → IsSoundState next }
+    ensures plain { (link : Link) (p : Path) (alias : Option Name) (es : List Element)
+        (c next : StateTree) → IsCloned link p alias es c next → IsTypedState c
+        → ArePlaced c.symbols → IsPlainState c → IsSoundState c → IsPlainState next }
+{}
+
+/// A law: a theory begins and ends plainly among plain ones, and a plain state stays so where a theory is
+/// used, with other scopes and further plain moves, and where a declaration is typed.
+pub fn stays_plain()
+    ensures begins { (s : List Tree) (symbols : List SymbolTree) (decls : List DeclarationTree)
+        (ts : List KnownTree) (path : List ℕ) (number : ℕ) → ArePlainTheories decls ts
+        → IsPlainState (record {
+          trees = s;
+          symbols = symbols;
+          decls = decls;
+          known = ts;
+          opened = opened_empty path;
+          number = number;
+        }) }
+    ensures ends { (c : StateTree) → IsPlainState c
+        → ArePlainTheories c.decls (c.known ++ known_as c.opened ∷ []) }
+    ensures used { (link : Link) (p : Path) (alias : Option Name) (c next : StateTree)
+        → IsPlainState c → IsTheoryUsed link p alias c next → IsPlainState next }
+    ensures scoped { (c : StateTree) (within : List ℕ) (names : ScopeNames) (moves : List Move)
+        (number : ℕ) → IsPlainState c → All IsPlainMove moves
+        → IsPlainState (record c {
+          opened = record c.opened {
+            within = within;
+            scope = names;
+            moves = c.opened.moves ++ moves;
+          };
+          number = number;
+        }) }
+    ensures declared { (d : SyntaxDeclaration) (c next : StateTree) → IsDeclared d c next
+        → IsPlainState c
+        → IsPlainState next }
+{}

@@ -1,0 +1,26 @@
+-- Types on the right sides of elements are types over the signature.
+use Rattle.std.proofs.Common.{◌≡◌, false, List, length, None, sym, ◌∙◌}
+use Rattle.tasks.specs.Vocabulary.{Vocabulary}
+use Rattle.syntax_why.specs.Lexeme.{Word}
+use Rattle.elab_names.specs.Abstract.{TypeExpression}
+use Rattle.elab_names.specs.Faults.{form_fault}
+use Rattle.elab_variables.specs.Seen.{form_seen}
+use Rattle.elab_parts.specs.Elaborated.{unseen}
+use Rattle.elab_parts.specs.Outcomes.{Setting, around}
+use Rattle.elab_parts.proofs.Alike.{form_alike}
+use Rattle.valid_tasks.specs.Scopes.{NamesNew}
+use Rattle.valid_tasks.proofs.Widths.{form_tuples}
+use Rattle.valid_tasks.specs.Valid.{IsTypedSetting}
+use Rattle.valid_tasks.proofs.Settings.{inside_scopes, inside_typed, world, tuples, same_names, form_in}
+use Rattle.valid_tasks.specs.Rights.{with_tuples, IsTypedForm}
+
+pub right_typed : (base : Vocabulary) (c : Setting) (vars : List Word) (f : TypeExpression) → IsTypedSetting base c → form_fault (around c vars) false f ≡ None → NamesNew base (length c.symbols) (with_tuples c f) → IsTypedForm base c vars f
+right_typed base c vars f h q news =
+    let seen = form_seen unseen f in
+    let w = world base c h seen vars in
+    let resolved : form_fault w false f ≡ None = sym (form_alike (around c vars) w (same_names base c h seen vars).forms false f) ∙ q in
+    record {
+      type = form_in base c h seen news vars f resolved (form_tuples base w f unseen (tuples base c h seen news vars));
+      signature = inside_typed base c h seen news;
+      scopes = inside_scopes base c h seen;
+    }

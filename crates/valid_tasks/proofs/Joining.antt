@@ -1,0 +1,170 @@
+-- A declaration of another theory is in a clone as it is among those of other theories alone.
+use Rattle.std.proofs.Common.{◌≡◌, ◌⊎◌, inl, inr, ℕ, ◌&&◌, zero, suc, cond, Bool, true, false, List, [], ◌∷◌, ◌++◌, get_or, slice_get, Contains, Option, Some, None, IsSomeAnd, IsTrue, refl, sym, ap, subst, ◌∙◌, arith, append-nil}
+use Rattle.std.specs.Option.{is_some}
+use Rattle.std.proofs.lemmas.List.Elements.{All-contains, All-contains_itself, Contains-get_or, Contains-append_left, Contains-append_right, Contains-append_cases}
+use Rattle.tasks.specs.declared.signature.SymbolKind.TheVariants.{Kind, Constructor}
+use Rattle.tasks.specs.Task.{SymbolTree, symbol_or, int_symbol, DeclarationTree, made, made_by}
+use Rattle.tasks.specs.Roles.{is_constructor, is_made_by, maker, role_in, role_by}
+use Rattle.tasks.specs.Vocabulary.{Vocabulary, passes, is_constructor_kind}
+use Rattle.tasks.specs.Typing.{IsTypeSymbol}
+use Rattle.tasks.specs.Valid.{IsValidDecl}
+use Rattle.tasks.proofs.Declared.{none_in, any_iff, made_maker}
+use Rattle.clones.specs.Mapped.{Map}
+use Rattle.valid_tasks.specs.Scopes.{IsSubvocabulary}
+use Rattle.valid_tasks.proofs.Signed.{some_at}
+use Rattle.valid_tasks.specs.Lists.{is_built, after}
+use Rattle.valid_tasks.proofs.Lists.{or_more, list_valid}
+use Rattle.valid_tasks.proofs.Stays.{declaration_stays}
+use Rattle.valid_tasks.specs.Tasks.{IsOwnSymbol, IsOfTheory, AreSound}
+use Rattle.valid_tasks.proofs.Distinct.{IsDistinct, pairs_distinct, distinct_both}
+use Rattle.valid_tasks.proofs.TupleDecls.{made_both}
+use Rattle.valid_tasks.proofs.Grown.{more_part, sound_more}
+use Rattle.valid_tasks.proofs.TaskSound.{each_made, maker_all}
+use Rattle.valid_tasks.specs.Cloning.{IsImage, IsCloning, IsFixed, KeepsBuilt}
+use Rattle.valid_tasks.proofs.Vocabularies.{right_of, usable_cases, made_below, typed_list}
+use Rattle.valid_tasks.proofs.Copied.{distinct_middle}
+use Rattle.valid_tasks.proofs.Taken.{cloning_left, cloning_taken}
+use Rattle.valid_tasks.proofs.Others.{stays_type, stays_symbol, stays_pattern}
+
+-- ---- who makes a symbol
+cases_of : (x d : DeclarationTree) (xs : List DeclarationTree) → Contains (x ∷ xs) d → (x ≡ d) ⊎ Contains xs d
+cases_of x d xs (zero, l, e) = inl e
+cases_of x d xs (suc j, l, e) = inr (j, omega (arith, l), e)
+
+pub into_made : (ds : List DeclarationTree) (d : DeclarationTree) (k : ℕ) → Contains ds d → Contains (made_by d.body) k → Contains (made ds) k
+into_made ds d k h i = each_made ds h.0 d h.1 k (subst (λ (e : DeclarationTree). Contains (made_by e.body) k) (sym h.2) i)
+
+pub apart_from : (xs ys : List ℕ) (k : ℕ) → IsDistinct (xs ++ ys) → Contains xs k → Contains ys k → ⊥
+apart_from [] ys k h a b = none_in k a
+apart_from (x ∷ xs) ys k h (zero, l, e) b = h.0 (Contains-append_right xs ys x (let q : x ≡ k = e in subst (λ (i : ℕ). Contains ys i) (sym q) b))
+apart_from (x ∷ xs) ys k h (suc j, l, e) b = apart_from xs ys k h.1 (j, omega (arith, l), e) b
+
+distinct_rest : (xs ys : List ℕ) → IsDistinct (xs ++ ys) → IsDistinct ys
+distinct_rest [] ys h = h
+distinct_rest (x ∷ xs) ys h = distinct_rest xs ys h.1
+
+pub maker_found : (ds : List DeclarationTree) (k : ℕ) (b : DeclarationTree) → maker ds k ≡ Some b → Contains ds b × Contains (made_by b.body) k
+maker_found ds k b q = maker_all (Contains ds) ds k b (All-contains_itself ds) q
+
+pub maker_is : (ds : List DeclarationTree) (k : ℕ) (b : DeclarationTree) → IsDistinct (made ds) → Contains ds b → Contains (made_by b.body) k → maker ds k ≡ Some b
+maker_is [] k b h i j = absurd (omega (arith, i.1))
+maker_is (x ∷ ds) k b h i j = of (is_made_by k x.body) refl (cases_of x b ds i) (λ z. maker_is ds k b (distinct_rest (made_by x.body) (made ds) h) z j)
+  where
+    of : (t : Bool) → is_made_by k x.body ≡ t → (x ≡ b) ⊎ Contains ds b → (Contains ds b → maker ds k ≡ Some b) → cond t (Some x) (maker ds k) ≡ Some b
+    of true q (inl e) f = ap Some e
+    of true q (inr z) f = absurd (apart_from (made_by x.body) (made ds) k h ((any_iff k (made_by x.body)).0 q) (into_made ds b k z j))
+    of false q (inl e) f = absurd (let u : is_made_by k x.body ≡ true = (any_iff k (made_by x.body)).1 (subst (λ (d : DeclarationTree). Contains (made_by d.body) k) (sym e) j) in let v : true ≡ false = sym u ∙ q in cc)
+    of false q (inr z) f = f z
+
+-- declarations among others, of which no symbol is made twice
+module _ (symbols : List SymbolTree) (small big : List DeclarationTree) (distinct : IsDistinct (made big)) (among : (b : DeclarationTree) → Contains small b → Contains big b) where
+  maker_same : (k : ℕ) (b : DeclarationTree) → maker small k ≡ Some b → maker big k ≡ Some b
+  maker_same k b q = let x = maker_found small k b q in maker_is big k b distinct (among b x.0) x.1
+
+  made_there : (k : ℕ) (o : Option DeclarationTree) → maker small k ≡ o → IsTrue (is_some o) → IsTrue (is_some (maker big k))
+  made_there k None z h = absurd (let u : true ≡ false = sym h in cc)
+  made_there k (Some b) z h = let y = maker_same k b z in rw y refl
+
+  role_there : (k : ℕ) (o : Option DeclarationTree) → maker small k ≡ o → IsTrue (is_constructor (role_by k o)) → IsTrue (is_constructor (role_by k (maker big k)))
+  role_there k None z h = absurd (let u : true ≡ false = sym h in cc)
+  role_there k (Some b) z h = let y = maker_same k b z in rw y h
+
+  pub among_part : IsSubvocabulary (after symbols [] small) (after symbols [] big)
+  among_part = record {
+    entries = λ k e q. q;
+    rigid = λ k e q h. h;
+    usable = λ k e q h. or_more _ (is_some (maker small k)) (is_some (maker big k)) (made_there k (maker small k) refl) h;
+    matched = λ k e q h. or_more _ (is_constructor (role_by k (maker small k))) (is_constructor (role_by k (maker big k))) (role_there k (maker small k) refl) h;
+  }
+
+-- ---- a declaration of another theory
+module _ (xs more : List SymbolTree) (pre olds : List DeclarationTree) (m : Map) (keeps : KeepsBuilt xs m) (now : List DeclarationTree) (h : IsCloning xs pre m (xs ++ more) now) (d : DeclarationTree)
+    (whole : AreSound xs (pre ++ d ∷ [])) (alone : AreSound xs (olds ++ d ∷ [])) (fixed : (k : ℕ) → Contains (made (olds ++ d ∷ [])) k → IsFixed m k) (there : (b : DeclarationTree) → Contains olds b → Contains now b) where
+  abbrev v : Vocabulary
+  v = after xs [] (olds ++ d ∷ [])
+
+  abbrev all : List SymbolTree
+  all = xs ++ more
+
+  fixed_at : (k n : ℕ) → IsTypeSymbol v k n → IsFixed m k
+  fixed_at k n t = by (slice_get xs k) refl t.1 (usable_cases xs (olds ++ d ∷ []) k t.0)
+    where
+      by : (o : Option SymbolTree) → slice_get xs k ≡ o → IsSomeAnd o (λ e. (e.kind ≡ Kind) × (n ≡ e.vars)) → IsTrue (passes is_built (slice_get xs k)) ⊎ Contains (made (olds ++ d ∷ [])) k → IsFixed m k
+      by None q x c = absurd x
+      by (Some e) q x (inl b) = keeps k e q (subst (λ (o : Option SymbolTree). IsTrue (passes is_built o)) q b)
+      by (Some e) q x (inr c) = fixed k c
+
+  own_made : (k : ℕ) → Contains (made_by d.body) k → Contains (made (olds ++ d ∷ [])) k
+  own_made k c = into_made (olds ++ d ∷ []) d k (Contains-append_right olds (d ∷ []) d (0, omega arith, refl)) c
+
+  entry_at : (k : ℕ) → Contains (made_by d.body) k → slice_get xs k ≡ Some (symbol_or xs k)
+  entry_at k c = some_at xs k int_symbol (made_below xs (olds ++ d ∷ []) alone k (own_made k c))
+
+  usable_at : (k : ℕ) → Contains (made_by d.body) k → IsTrue (v.usable k)
+  usable_at k c = right_of (passes is_built (slice_get xs k)) (is_some (maker (olds ++ d ∷ []) k)) (made_maker k (olds ++ d ∷ []) (own_made k c))
+
+  matched_at : (k : ℕ) → Contains (made_by d.body) k → IsTrue (is_constructor (role_in k d.body)) → IsTrue (v.matched k)
+  matched_at k c r =
+      let is : maker (olds ++ d ∷ []) k ≡ Some d = maker_is (olds ++ d ∷ []) k d (pairs_distinct (made (olds ++ d ∷ [])) alone.once) (Contains-append_right olds (d ∷ []) d (0, omega arith, refl)) c in
+      right_of (passes (λ (e : SymbolTree). is_built e && is_constructor_kind e.kind) (slice_get xs k)) (is_constructor (role_by k (maker (olds ++ d ∷ []) k)))
+      (subst (λ (o : Option DeclarationTree). IsTrue (is_constructor (role_by k o))) (sym is) r)
+
+  module _ (big : List DeclarationTree) (distinct : IsDistinct (made big)) (among : (b : DeclarationTree) → Contains (olds ++ d ∷ []) b → Contains big b) where
+    part : IsSubvocabulary v (after all [] big)
+    part =
+        let a = more_part xs more [] (olds ++ d ∷ []) in
+        let b = among_part all (olds ++ d ∷ []) big distinct among in
+        record {
+          entries = λ k e q. b.entries k e (a.entries k e q);
+          rigid = λ k e q r. b.rigid k e (a.entries k e q) (a.rigid k e q r);
+          usable = λ k e q u. b.usable k e (a.entries k e q) (a.usable k e q u);
+          matched = λ k e q u. b.matched k e (a.entries k e q) (a.matched k e q u);
+        }
+
+    image : (k : ℕ) → Contains (made_by d.body) k → IsImage (after all [] big) m (symbol_or xs k) k (is_constructor (role_in k d.body))
+    image k c =
+        let e = symbol_or xs k in
+        let q = entry_at k c in
+        let f = fixed k (own_made k c) in
+        record {
+          type = λ z. stays_type v (after all [] big) part m fixed_at k e q f (usable_at k c) z;
+          symbol = λ z. stays_symbol v (after all [] big) part m fixed_at k e q f (usable_at k c) (typed_list xs (olds ++ d ∷ []) alone k e q (inl (usable_at k c)) z) z;
+          constructor = λ r z. stays_pattern v (after all [] big) part m fixed_at k e q f (matched_at k c r) (typed_list xs (olds ++ d ∷ []) alone k e q (inl (usable_at k c)) (λ i. let y : Constructor ≡ Kind = sym z ∙ i in cc)) z;
+        }
+
+    valid_there : IsValidDecl (after all [] big) d
+    valid_there = declaration_stays v (after all [] big) part d (All-contains (IsValidDecl v) (olds ++ d ∷ []) d (list_valid xs [] (olds ++ d ∷ []) alone.valid) (Contains-append_right olds (d ∷ []) d (0, omega arith, refl)))
+
+  -- it is there
+  pub cloning_present : Contains now d → IsCloning xs (pre ++ d ∷ []) m all now
+  cloning_present c = cloning_left xs pre m all now h d whole (image now (pairs_distinct (made now) h.sound.once) both)
+    where
+      both : (b : DeclarationTree) → Contains (olds ++ d ∷ []) b → Contains now b
+      both b i = of (Contains-append_cases olds (d ∷ []) b i)
+        where
+          of : Contains olds b ⊎ Contains (d ∷ []) b → Contains now b
+          of (inl z) = there b z
+          of (inr z) = last (cases_of d b [] z)
+            where
+              last : (d ≡ b) ⊎ Contains [] b → Contains now b
+              last (inl e) = subst (λ (x : DeclarationTree). Contains now x) e c
+              last (inr n) = absurd (omega (arith, n.1))
+
+  -- it comes after them
+  pub cloning_joined : ((k : ℕ) → Contains (made now) k → Contains (made_by d.body) k → ⊥) → IsCloning xs (pre ++ d ∷ []) m all (now ++ d ∷ [])
+  cloning_joined apart =
+      let own : IsDistinct (made_by d.body) = distinct_middle (made olds) (made_by d.body) [] (subst IsDistinct (made_both olds (d ∷ [])) (pairs_distinct (made (olds ++ d ∷ [])) alone.once)) in
+      let both_made : made (now ++ d ∷ []) ≡ made now ++ made_by d.body = made_both now (d ∷ []) ∙ ap (λ (ks : List ℕ). made now ++ ks) (append-nil (made_by d.body)) in
+      let distinct : IsDistinct (made (now ++ d ∷ [])) = subst IsDistinct (sym both_made) (distinct_both (made now) (made_by d.body) (pairs_distinct (made now) h.sound.once) own apart) in
+      let later : AreSound all (olds ++ d ∷ []) = sound_more xs more (olds ++ d ∷ []) alone h.sound.built in
+      let place : Contains (olds ++ d ∷ []) d = Contains-append_right olds (d ∷ []) d (0, omega arith, refl) in
+      cloning_taken xs pre m all now h d whole (valid_there (now ++ d ∷ []) distinct both)
+      (λ i j l. All-contains (IsOwnSymbol all) (made (olds ++ d ∷ [])) (get_or (made_by d.body) i j) later.own (own_made (get_or (made_by d.body) i j) (Contains-get_or (made_by d.body) i j l)))
+      (All-contains (IsOfTheory all) (olds ++ d ∷ []) d later.theories place) own apart (image (now ++ d ∷ []) distinct both)
+    where
+      both : (b : DeclarationTree) → Contains (olds ++ d ∷ []) b → Contains (now ++ d ∷ []) b
+      both b i = of (Contains-append_cases olds (d ∷ []) b i)
+        where
+          of : Contains olds b ⊎ Contains (d ∷ []) b → Contains (now ++ d ∷ []) b
+          of (inl z) = Contains-append_left now (d ∷ []) b (there b z)
+          of (inr z) = Contains-append_right now (d ∷ []) b z

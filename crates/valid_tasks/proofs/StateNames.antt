@@ -1,0 +1,33 @@
+-- The name of a symbol stands for a symbol under a morphism.
+use Rattle.std.proofs.Common.{◌≡◌, ◌≢◌, ℕ, ◌<◌, zero, suc, List, [], ◌∷◌, length, slice_get, IsSomeAnd, refl, sym, ◌∙◌, arith}
+use Rattle.tasks.specs.declared.signature.SymbolKind.{SymbolKind}
+use Rattle.tasks.specs.declared.signature.SymbolKind.TheVariants.{Kind, Predicate}
+use Rattle.tasks.specs.Task.{SymbolTree, symbol_or, int_symbol}
+use Rattle.tasks.specs.Vocabulary.{Vocabulary}
+use Rattle.tasks.specs.Typing.{MakesTerms}
+use Rattle.clones.specs.Mapped.{Map}
+use Rattle.valid_tasks.specs.Scopes.{IsSymbolNumber}
+use Rattle.valid_tasks.proofs.Signed.{some_at}
+use Rattle.valid_tasks.specs.Morphisms.{KindBecomes, HasMappedTypes, IsMorphism}
+
+slice_there : (es : List SymbolTree) (k : ℕ) (P : SymbolTree → Type 0) → IsSomeAnd (slice_get es k) P → (k < length es) × P (symbol_or es k)
+slice_there [] k P h = absurd h
+slice_there (e ∷ es) zero P h = (omega arith, h)
+slice_there (e ∷ es) (suc k) P h = let r = slice_there es k P h in (let l = r.0 in omega (arith, l), r.1)
+
+terms_kind : (j : SymbolKind) → MakesTerms j → j ≢ Kind
+terms_kind Kind t e = t
+terms_kind Predicate t e = t
+terms_kind _ t e = cc
+
+stays_symbol : (k j : SymbolKind) → KindBecomes k j → k ≢ Kind → j ≢ Kind
+stays_symbol Kind j b n e = n refl
+stays_symbol Predicate j b n e = let z : Predicate ≡ Kind = sym b ∙ e in cc
+stays_symbol _ j b n e = terms_kind j b e
+
+pub symbol_becomes : (v w : Vocabulary) (m : Map) (k : ℕ) → IsMorphism v w m → IsSymbolNumber v k → IsSymbolNumber w (m.symbols k)
+symbol_becomes v w m k h s =
+    let e = symbol_or v.symbols k in
+    let x = h.symbols k e (some_at v.symbols k int_symbol s.there) s.usable s.kind in
+    let r = slice_there w.symbols (m.symbols k) (λ j. KindBecomes e.kind j.kind × HasMappedTypes m e j) x.1 in
+    record { there = r.0; usable = x.0; kind = stays_symbol e.kind (symbol_or w.symbols (m.symbols k)).kind r.1.0 s.kind }
