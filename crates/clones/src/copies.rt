@@ -3,10 +3,11 @@
 ghost use Rattle.std.specs.Prelude.{◌≡◌, ◌++◌, map, All, IfOk, IfSome, OnOk};
 ghost use Rattle.std.specs.Option.{option_map};
 ghost use Rattle.trees.specs.Node.{tree_at, Holds, Grows};
-ghost use Rattle.tasks.specs.Meaning.{trees_at, symbol_at, definition_at, definitions_at, inductive_at, inductives_at, con_at, cons_at, algebraic_at, algebraics_at, body_at, declaration_at, SymbolHeld, InductiveHeld, ConHeld, AlgebraicHeld, BodyHeld, DeclHeld};
+ghost use Rattle.tasks.specs.Task.{Defines, Induces, Constructs};
+ghost use Rattle.tasks.specs.Meaning.{trees_at, symbol_at, definitions_at, inductives_at, cons_at, algebraics_at, body_at, declaration_at, SymbolHeld, InductiveHeld, ConHeld, AlgebraicHeld, BodyHeld, DeclHeld};
 ghost use Rattle.clones.specs.Mapped.{mapped};
 ghost use Rattle.clones.specs.Meaning.{map_at, MapHeld, AreKnown};
-ghost use Rattle.clones.specs.Copies.{DefHeld, definition_mapped, inductive_mapped, con_mapped, algebraic_mapped, body_mapped, declaration_copied, entry_copied};
+ghost use Rattle.clones.specs.Copies.{DefHeld, con_mapped, body_mapped, declaration_copied, entry_copied};
 
 use crate::maps::{Known, SymbolMap, map_symbol, map_tree};
 use outside::{Seq, Text};
@@ -40,100 +41,56 @@ fn map_trees(
     Ok(Seq::from_vec(out))
 }
 
-// A copy of a definition.
-fn copy_def(
-    alloc: Global,
-    store: &mut Store,
-    morphism: &SymbolMap,
-    known: &mut Known,
-    def: Def,
-) -> Result<Def, AllocError>
-    requires map_held { MapHeld store.old morphism.now }
-    requires known { AreKnown (map_at store.old morphism.now) store.old known.old }
-    requires held { DefHeld store.old def }
-    ensures tree { IfOk result (λ v. definition_at store.new v
-        ≡ definition_mapped (map_at store.old morphism.now) (definition_at store.old def)) }
-    ensures new_held { IfOk result (DefHeld store.new) }
-    ensures new_known { OnOk result (AreKnown (map_at store.old morphism.now) store.new known.new) }
-    ensures grows { Grows store.old store.new }
-{
-    let symbol = map_symbol(store, morphism, def.symbol);
-    let equation = map_tree(alloc, store, morphism, known, def.equation)?;
-    Ok(Def { symbol, equation })
-}
-
-// Copies of definitions.
+// Copies of definitions, as what a declaration says.
 fn copy_defs(
     alloc: Global,
     store: &mut Store,
     morphism: &SymbolMap,
     known: &mut Known,
     defs: &[Def],
-) -> Result<Seq<Def>, AllocError>
+) -> Result<Body, AllocError>
     requires map_held { MapHeld store.old morphism.now }
     requires known { AreKnown (map_at store.old morphism.now) store.old known.old }
     requires held { All (DefHeld store.old) defs.now }
-    ensures tree { IfOk result (λ v. definitions_at store.new v
-        ≡ map (definition_mapped (map_at store.old morphism.now))
-        (definitions_at store.old defs.now)) }
-    ensures new_held { IfOk result (All (DefHeld store.new)) }
+    ensures tree { IfOk result (λ v. body_at store.new v ≡ body_mapped
+        (map_at store.old morphism.now) (Defines (definitions_at store.old defs.now))) }
+    ensures new_held { IfOk result (BodyHeld store.new) }
     ensures new_known { OnOk result (AreKnown (map_at store.old morphism.now) store.new known.new) }
     ensures grows { Grows store.old store.new }
 {
     let mut out = Vec::new(alloc);
     for def in defs {
-        let copy = copy_def(alloc, store, morphism, known, *def)?;
-        out.push(copy)?;
+        let symbol = map_symbol(store, morphism, def.symbol);
+        let equation = map_tree(alloc, store, morphism, known, def.equation)?;
+        out.push(Def { symbol, equation })?;
     }
-    Ok(Seq::from_vec(out))
+    Ok(Body::Defs(Seq::from_vec(out)))
 }
 
-// A copy of a predicate with its clauses.
-fn copy_ind(
-    alloc: Global,
-    store: &mut Store,
-    morphism: &SymbolMap,
-    known: &mut Known,
-    ind: &Ind,
-) -> Result<Ind, AllocError>
-    requires map_held { MapHeld store.old morphism.now }
-    requires known { AreKnown (map_at store.old morphism.now) store.old known.old }
-    requires held { InductiveHeld store.old ind.now }
-    ensures tree { IfOk result (λ v. inductive_at store.new v
-        ≡ inductive_mapped (map_at store.old morphism.now) (inductive_at store.old ind.now)) }
-    ensures new_held { IfOk result (InductiveHeld store.new) }
-    ensures new_known { OnOk result (AreKnown (map_at store.old morphism.now) store.new known.new) }
-    ensures grows { Grows store.old store.new }
-{
-    let symbol = map_symbol(store, morphism, ind.symbol);
-    let clauses = map_trees(alloc, store, morphism, known, ind.clauses.as_slice())?;
-    Ok(Ind { symbol, clauses })
-}
-
-// Copies of predicates with their clauses.
+// Copies of predicates with their clauses, as what a declaration says.
 fn copy_inds(
     alloc: Global,
     store: &mut Store,
     morphism: &SymbolMap,
     known: &mut Known,
     inds: &[Ind],
-) -> Result<Seq<Ind>, AllocError>
+) -> Result<Body, AllocError>
     requires map_held { MapHeld store.old morphism.now }
     requires known { AreKnown (map_at store.old morphism.now) store.old known.old }
     requires held { All (InductiveHeld store.old) inds.now }
-    ensures tree { IfOk result (λ v. inductives_at store.new v
-        ≡ map (inductive_mapped (map_at store.old morphism.now))
-        (inductives_at store.old inds.now)) }
-    ensures new_held { IfOk result (All (InductiveHeld store.new)) }
+    ensures tree { IfOk result (λ v. body_at store.new v ≡ body_mapped
+        (map_at store.old morphism.now) (Induces (inductives_at store.old inds.now))) }
+    ensures new_held { IfOk result (BodyHeld store.new) }
     ensures new_known { OnOk result (AreKnown (map_at store.old morphism.now) store.new known.new) }
     ensures grows { Grows store.old store.new }
 {
     let mut out = Vec::new(alloc);
     for ind in inds {
-        let copy = copy_ind(alloc, store, morphism, known, ind)?;
-        out.push(copy)?;
+        let symbol = map_symbol(store, morphism, ind.symbol);
+        let clauses = map_trees(alloc, store, morphism, known, ind.clauses.as_slice())?;
+        out.push(Ind { symbol, clauses })?;
     }
-    Ok(Seq::from_vec(out))
+    Ok(Body::Inductives(Seq::from_vec(out)))
 }
 
 // What symbols become.
@@ -150,33 +107,6 @@ fn map_symbols(
         out.push(map_symbol(store, morphism, *symbol))?;
     }
     Ok(Seq::from_vec(out))
-}
-
-// A copy of a constructor.
-fn copy_con(
-    alloc: Global,
-    store: &mut Store,
-    morphism: &SymbolMap,
-    known: &mut Known,
-    con: &Con,
-) -> Result<Con, AllocError>
-    requires map_held { MapHeld store.old morphism.now }
-    requires known { AreKnown (map_at store.old morphism.now) store.old known.old }
-    requires held { ConHeld store.old con.now }
-    ensures tree { IfOk result (λ v. con_at store.new v
-        ≡ con_mapped (map_at store.old morphism.now) (con_at store.old con.now)) }
-    ensures new_held { IfOk result (ConHeld store.new) }
-    ensures new_known { OnOk result (AreKnown (map_at store.old morphism.now) store.new known.new) }
-    ensures grows { Grows store.old store.new }
-{
-    let symbol = map_symbol(store, morphism, con.symbol);
-    let projections = map_symbols(alloc, store, morphism, con.projections.as_slice())?;
-    let fields = map_trees(alloc, store, morphism, known, con.fields.as_slice())?;
-    Ok(Con {
-        symbol,
-        fields,
-        projections,
-    })
 }
 
 // Copies of constructors.
@@ -198,58 +128,42 @@ fn copy_cons(
 {
     let mut out = Vec::new(alloc);
     for con in cons {
-        let copy = copy_con(alloc, store, morphism, known, con)?;
-        out.push(copy)?;
+        let symbol = map_symbol(store, morphism, con.symbol);
+        let projections = map_symbols(alloc, store, morphism, con.projections.as_slice())?;
+        let fields = map_trees(alloc, store, morphism, known, con.fields.as_slice())?;
+        out.push(Con {
+            symbol,
+            fields,
+            projections,
+        })?;
     }
     Ok(Seq::from_vec(out))
 }
 
-// A copy of an algebraic type.
-fn copy_alg(
-    alloc: Global,
-    store: &mut Store,
-    morphism: &SymbolMap,
-    known: &mut Known,
-    alg: &Alg,
-) -> Result<Alg, AllocError>
-    requires map_held { MapHeld store.old morphism.now }
-    requires known { AreKnown (map_at store.old morphism.now) store.old known.old }
-    requires held { AlgebraicHeld store.old alg.now }
-    ensures tree { IfOk result (λ v. algebraic_at store.new v
-        ≡ algebraic_mapped (map_at store.old morphism.now) (algebraic_at store.old alg.now)) }
-    ensures new_held { IfOk result (AlgebraicHeld store.new) }
-    ensures new_known { OnOk result (AreKnown (map_at store.old morphism.now) store.new known.new) }
-    ensures grows { Grows store.old store.new }
-{
-    let symbol = map_symbol(store, morphism, alg.symbol);
-    let cons = copy_cons(alloc, store, morphism, known, alg.cons.as_slice())?;
-    Ok(Alg { symbol, cons })
-}
-
-// Copies of algebraic types.
+// Copies of algebraic types, as what a declaration says.
 fn copy_algs(
     alloc: Global,
     store: &mut Store,
     morphism: &SymbolMap,
     known: &mut Known,
     algs: &[Alg],
-) -> Result<Seq<Alg>, AllocError>
+) -> Result<Body, AllocError>
     requires map_held { MapHeld store.old morphism.now }
     requires known { AreKnown (map_at store.old morphism.now) store.old known.old }
     requires held { All (AlgebraicHeld store.old) algs.now }
-    ensures tree { IfOk result (λ v. algebraics_at store.new v
-        ≡ map (algebraic_mapped (map_at store.old morphism.now))
-        (algebraics_at store.old algs.now)) }
-    ensures new_held { IfOk result (All (AlgebraicHeld store.new)) }
+    ensures tree { IfOk result (λ v. body_at store.new v ≡ body_mapped
+        (map_at store.old morphism.now) (Constructs (algebraics_at store.old algs.now))) }
+    ensures new_held { IfOk result (BodyHeld store.new) }
     ensures new_known { OnOk result (AreKnown (map_at store.old morphism.now) store.new known.new) }
     ensures grows { Grows store.old store.new }
 {
     let mut out = Vec::new(alloc);
     for alg in algs {
-        let copy = copy_alg(alloc, store, morphism, known, alg)?;
-        out.push(copy)?;
+        let symbol = map_symbol(store, morphism, alg.symbol);
+        let cons = copy_cons(alloc, store, morphism, known, alg.cons.as_slice())?;
+        out.push(Alg { symbol, cons })?;
     }
-    Ok(Seq::from_vec(out))
+    Ok(Body::Algebraics(Seq::from_vec(out)))
 }
 
 // A copy of what a declaration says.
@@ -272,18 +186,9 @@ fn copy_body(
     match body {
         Body::TypeSymbol(symbol) => Ok(Body::TypeSymbol(map_symbol(store, morphism, *symbol))),
         Body::Symbol(symbol) => Ok(Body::Symbol(map_symbol(store, morphism, *symbol))),
-        Body::Defs(defs) => {
-            let defs = copy_defs(alloc, store, morphism, known, defs.as_slice())?;
-            Ok(Body::Defs(defs))
-        }
-        Body::Inductives(inds) => {
-            let inds = copy_inds(alloc, store, morphism, known, inds.as_slice())?;
-            Ok(Body::Inductives(inds))
-        }
-        Body::Algebraics(algs) => {
-            let algs = copy_algs(alloc, store, morphism, known, algs.as_slice())?;
-            Ok(Body::Algebraics(algs))
-        }
+        Body::Defs(defs) => copy_defs(alloc, store, morphism, known, defs.as_slice()),
+        Body::Inductives(inds) => copy_inds(alloc, store, morphism, known, inds.as_slice()),
+        Body::Algebraics(algs) => copy_algs(alloc, store, morphism, known, algs.as_slice()),
         Body::Prop(formula) => {
             let formula = map_tree(alloc, store, morphism, known, *formula)?;
             Ok(Body::Prop(formula))
@@ -379,10 +284,10 @@ pub fn copy_entry(
     ensures new_known { OnOk result (AreKnown (map_at store.old morphism.now) store.new known.new) }
     ensures grows { Grows store.old store.new }
 {
-    let theory = Text::from_slice(alloc, theory)?;
-    let name = name_within(alloc, within, &info.name)?;
     let args = map_trees(alloc, store, morphism, known, info.args.as_slice())?;
     let result_type = map_result(alloc, store, morphism, known, info.result)?;
+    let theory = Text::from_slice(alloc, theory)?;
+    let name = name_within(alloc, within, &info.name)?;
     Ok(SymbolInfo {
         theory,
         name,

@@ -95,28 +95,6 @@ fn push_members(store: &Store, list: TermId, out: &mut Vec<TermId>) -> Result<()
     }
 }
 
-// A type, with the members of a list for its type variables.
-fn apply_type(
-    alloc: Global,
-    store: &mut Store,
-    ty: TermId,
-    args: TermId,
-) -> Result<TermId, AllocError>
-    requires ty_held { Holds store.old ty }
-    requires sort { sort_of (tree_at store.old ty) ≡ Sort.Kind }
-    requires args_held { Holds store.old args }
-    requires types { IsList Sort.Kind (tree_at store.old args) }
-    ensures held { IfOk result (Holds store.new) }
-    ensures tree { IfOk result (λ id. tree_at store.new id
-        ≡ inst_types (tree_at store.old ty) (members (tree_at store.old args))) }
-    ensures kind { IfOk result (λ id. sort_of (tree_at store.new id) ≡ Sort.Kind) }
-    ensures grows { Grows store.old store.new }
-{
-    let mut types = Vec::new(alloc);
-    push_members(store, args, &mut types)?;
-    inst_types(alloc, store, ty, types.as_slice())
-}
-
 // A type symbol at mapped arguments.
 fn map_type(
     alloc: Global,
@@ -136,7 +114,11 @@ fn map_type(
     ensures grows { Grows store.old store.new }
 {
     match map.types.get(&symbol) {
-        Some(ty) => apply_type(alloc, store, *ty, args),
+        Some(ty) => {
+            let mut types = Vec::new(alloc);
+            push_members(store, args, &mut types)?;
+            inst_types(alloc, store, *ty, types.as_slice())
+        }
         None => {
             let new = map_symbol(store, map, symbol);
             store.add(Node::TyApp(new, args))
@@ -169,9 +151,9 @@ fn map_one(
     }
 }
 
-// The mapped tree, which is made once.
+/// The mapped tree. What is made is remembered, so that several trees under one map share their parts. Only want of memory refuses.
 #[cycle(mapping)]
-fn map_known(
+pub fn map_tree(
     alloc: Global,
     store: &mut Store,
     map: &SymbolMap,
@@ -215,38 +197,19 @@ fn map_parts(
     match node.parts() {
         Parts::None => Ok(e),
         Parts::One(a) => {
-            let x = map_known(alloc, store, map, known, a)?;
+            let x = map_tree(alloc, store, map, known, a)?;
             map_one(alloc, store, map, node, x)
         }
         Parts::Two(a, b) => {
-            let x = map_known(alloc, store, map, known, a)?;
-            let y = map_known(alloc, store, map, known, b)?;
+            let x = map_tree(alloc, store, map, known, a)?;
+            let y = map_tree(alloc, store, map, known, b)?;
             remake(store, map, node, Parts::Two(x, y))
         }
         Parts::Three(a, b, c) => {
-            let x = map_known(alloc, store, map, known, a)?;
-            let y = map_known(alloc, store, map, known, b)?;
-            let z = map_known(alloc, store, map, known, c)?;
+            let x = map_tree(alloc, store, map, known, a)?;
+            let y = map_tree(alloc, store, map, known, b)?;
+            let z = map_tree(alloc, store, map, known, c)?;
             remake(store, map, node, Parts::Three(x, y, z))
         }
     }
-}
-
-/// The mapped tree. What is made is remembered, so that several trees under one map share their parts. Only want of memory refuses.
-pub fn map_tree(
-    alloc: Global,
-    store: &mut Store,
-    map: &SymbolMap,
-    known: &mut Known,
-    e: TermId,
-) -> Result<TermId, AllocError>
-    requires map_held { MapHeld store.old map.now }
-    requires held { Holds store.old e }
-    requires known { AreKnown (map_at store.old map.now) store.old known.old }
-    ensures mapped { IfOk result (IsMapped (map_at store.old map.now) (tree_at store.old e)
-        store.new) }
-    ensures known { OnOk result (AreKnown (map_at store.old map.now) store.new known.new) }
-    ensures grows { Grows store.old store.new }
-{
-    map_known(alloc, store, map, known, e)
 }

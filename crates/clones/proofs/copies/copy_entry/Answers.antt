@@ -1,10 +1,11 @@
-use Rattle.std.proofs.Common.{◌≡◌, List, map, ap, ◌∙◌}
+use Rattle.std.proofs.Common.{◌≡◌, List, map, All, sym, ap, subst, ◌∙◌}
 use Rattle.std.specs.Option.{option_map}
 use Rattle.trees.specs.declared.TermId.{TermId}
-use Rattle.trees.specs.Node.{tree_at, Grows}
+use Rattle.trees.specs.Node.{tree_at, Holds, Grows}
+use Rattle.trees.proofs.Nodes.{Grows_trans}
 use Rattle.tasks.specs.Task.{SymbolTree}
 use Rattle.tasks.specs.Meaning.{trees_at}
-use Rattle.tasks.proofs.Growth.{trees_later, symbol_later, symbol_held_later}
+use Rattle.tasks.proofs.Growth.{trees_later, all_held_later, symbol_later, symbol_held_later}
 use Rattle.clones.specs.Mapped.{Map, mapped}
 use Rattle.clones.specs.Meaning.{map_at}
 use Rattle.clones.proofs.Steps.{map_held, map_stays, known_on, known_back}
@@ -39,14 +40,57 @@ returns-clause-tree c =
 pub returns-clause-new_known : goal.returns-clause-new_known
 returns-clause-new_known c = known_back c.args.morphism.now c.args.store.now c.map_trees.new.store c.in_ok-args.ensures.grows c.requires.map_held c.map_result.new.store c.map_result.new.known c.in_ok-result_type.ensures.new_known
 
+pub map_trees-requires-clause-map_held : goal.map_trees-requires-clause-map_held
+map_trees-requires-clause-map_held c = c.requires.map_held
+
+pub map_trees-requires-clause-known : goal.map_trees-requires-clause-known
+map_trees-requires-clause-known c = c.requires.known
+
+pub map_trees-requires-clause-held : goal.map_trees-requires-clause-held
+map_trees-requires-clause-held c = subst (λ (z : List TermId). All (Holds c.args.store.now) z) (sym c.as_slice.ensures) c.requires.held.args
+
+pub returns-clause-new_held : goal.returns-clause-new_held
+returns-clause-new_held c =
+    record { args = all_held_later c.map_trees.new.store c.map_result.new.store c.map_result.ensures.grows c.in_ok-args.args c.in_ok-args.ensures.new_held; result = c.in_ok-result_type.ensures.new_held }
+
+pub returns-clause-grows : goal.returns-clause-grows
+returns-clause-grows c = Grows_trans c.args.store.now c.map_trees.new.store c.map_result.new.store c.map_trees.ensures.grows c.map_result.ensures.grows
+
+pub returns-in_err-args-clause-tree : goal.returns-in_err-args-clause-tree
+returns-in_err-args-clause-tree c = no_value _ _ c.from_residual.result c.from_residual.ensures.1
+
+pub returns-in_err-args-clause-new_held : goal.returns-in_err-args-clause-new_held
+returns-in_err-args-clause-new_held c = no_value _ _ c.from_residual.result c.from_residual.ensures.1
+
+pub returns-in_err-args-clause-new_known : goal.returns-in_err-args-clause-new_known
+returns-in_err-args-clause-new_known c = no_ok _ _ c.from_residual.result c.from_residual.ensures.1
+
+pub returns-in_err-args-clause-grows : goal.returns-in_err-args-clause-grows
+returns-in_err-args-clause-grows c = c.map_trees.ensures.grows
+
+pub returns-in_err-result_type-clause-tree : goal.returns-in_err-result_type-clause-tree
+returns-in_err-result_type-clause-tree c = no_value _ _ c.from_residual-in_err-result_type.result c.from_residual-in_err-result_type.ensures.1
+
+pub returns-in_err-result_type-clause-new_held : goal.returns-in_err-result_type-clause-new_held
+returns-in_err-result_type-clause-new_held c = no_value _ _ c.from_residual-in_err-result_type.result c.from_residual-in_err-result_type.ensures.1
+
+pub returns-in_err-result_type-clause-new_known : goal.returns-in_err-result_type-clause-new_known
+returns-in_err-result_type-clause-new_known c = no_ok _ _ c.from_residual-in_err-result_type.result c.from_residual-in_err-result_type.ensures.1
+
+pub returns-in_err-result_type-clause-grows : goal.returns-in_err-result_type-clause-grows
+returns-in_err-result_type-clause-grows c = Grows_trans c.args.store.now c.map_trees.new.store c.map_result.new.store c.map_trees.ensures.grows c.map_result.ensures.grows
+
 pub returns-in_err-theory-clause-tree : goal.returns-in_err-theory-clause-tree
-returns-in_err-theory-clause-tree c = no_value _ _ c.from_residual.result c.from_residual.ensures.1
+returns-in_err-theory-clause-tree c = no_value _ _ c.from_residual-in_err-theory.result c.from_residual-in_err-theory.ensures.1
 
 pub returns-in_err-theory-clause-new_held : goal.returns-in_err-theory-clause-new_held
-returns-in_err-theory-clause-new_held c = no_value _ _ c.from_residual.result c.from_residual.ensures.1
+returns-in_err-theory-clause-new_held c = no_value _ _ c.from_residual-in_err-theory.result c.from_residual-in_err-theory.ensures.1
 
 pub returns-in_err-theory-clause-new_known : goal.returns-in_err-theory-clause-new_known
-returns-in_err-theory-clause-new_known c = no_ok _ _ c.from_residual.result c.from_residual.ensures.1
+returns-in_err-theory-clause-new_known c = no_ok _ _ c.from_residual-in_err-theory.result c.from_residual-in_err-theory.ensures.1
+
+pub returns-in_err-theory-clause-grows : goal.returns-in_err-theory-clause-grows
+returns-in_err-theory-clause-grows c = Grows_trans c.args.store.now c.map_trees.new.store c.map_result.new.store c.map_trees.ensures.grows c.map_result.ensures.grows
 
 pub returns-in_err-name-clause-tree : goal.returns-in_err-name-clause-tree
 returns-in_err-name-clause-tree c = no_value _ _ c.from_residual-in_err-name.result c.from_residual-in_err-name.ensures.1
@@ -57,20 +101,5 @@ returns-in_err-name-clause-new_held c = no_value _ _ c.from_residual-in_err-name
 pub returns-in_err-name-clause-new_known : goal.returns-in_err-name-clause-new_known
 returns-in_err-name-clause-new_known c = no_ok _ _ c.from_residual-in_err-name.result c.from_residual-in_err-name.ensures.1
 
-pub returns-in_err-args-clause-tree : goal.returns-in_err-args-clause-tree
-returns-in_err-args-clause-tree c = no_value _ _ c.from_residual-in_err-args.result c.from_residual-in_err-args.ensures.1
-
-pub returns-in_err-args-clause-new_held : goal.returns-in_err-args-clause-new_held
-returns-in_err-args-clause-new_held c = no_value _ _ c.from_residual-in_err-args.result c.from_residual-in_err-args.ensures.1
-
-pub returns-in_err-args-clause-new_known : goal.returns-in_err-args-clause-new_known
-returns-in_err-args-clause-new_known c = no_ok _ _ c.from_residual-in_err-args.result c.from_residual-in_err-args.ensures.1
-
-pub returns-in_err-result_type-clause-tree : goal.returns-in_err-result_type-clause-tree
-returns-in_err-result_type-clause-tree c = no_value _ _ c.from_residual-in_err-result_type.result c.from_residual-in_err-result_type.ensures.1
-
-pub returns-in_err-result_type-clause-new_held : goal.returns-in_err-result_type-clause-new_held
-returns-in_err-result_type-clause-new_held c = no_value _ _ c.from_residual-in_err-result_type.result c.from_residual-in_err-result_type.ensures.1
-
-pub returns-in_err-result_type-clause-new_known : goal.returns-in_err-result_type-clause-new_known
-returns-in_err-result_type-clause-new_known c = no_ok _ _ c.from_residual-in_err-result_type.result c.from_residual-in_err-result_type.ensures.1
+pub returns-in_err-name-clause-grows : goal.returns-in_err-name-clause-grows
+returns-in_err-name-clause-grows c = Grows_trans c.args.store.now c.map_trees.new.store c.map_result.new.store c.map_trees.ensures.grows c.map_result.ensures.grows

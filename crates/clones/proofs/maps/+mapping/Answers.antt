@@ -2,18 +2,19 @@ use Rattle.std.proofs.Common.{◌≡◌, ◌<◌, rules, sym, ap, subst, ◌∙�
 use Rattle.trees.specs.Tree.{Tree, One, Two, Three}
 use Rattle.trees.specs.Node.{tree_at, Holds, Grows, assemble, head_of_node}
 use Rattle.trees.specs.Sorts.{Fits}
-use Rattle.trees.proofs.Nodes.{Grows_trans}
+use Rattle.trees.proofs.Nodes.{Grows_refl, Grows_trans}
 use Rattle.clones.specs.Mapped.{Map, one_mapped, head_mapped}
 use Rattle.clones.specs.Meaning.{map_at, MapHeld, IsAlike, IsMapped, AreKnown}
 use Rattle.clones.proofs.Alike.{two_fits, three_fits, two_alike, three_alike, alike_then, one_over, one_moved}
 use Rattle.clones.proofs.Steps.{map_stays, map_held, mapped_later, known_later, known_more, known_on, known_back, mapped_back, one_made, two_made, three_made, ok_any, ok_both}
+use Rattle.clones.proofs.Loops.{no_ok, no_value}
 use Rattle.clones.proofs.maps.+mapping.Goals as goal
 
-pub map_known-returns-in-Some-clause-mapped : goal.map_known-returns-in-Some-clause-mapped
-map_known-returns-in-Some-clause-mapped t c = (c.requires.known.each c.args.e.0 c.in-Some.made.now (sym c.in-Some.ensures.value)).1
+pub map_tree-returns-in-Some-clause-mapped : goal.map_tree-returns-in-Some-clause-mapped
+map_tree-returns-in-Some-clause-mapped t c = (c.requires.known.each c.args.e.0 c.in-Some.made.now (sym c.in-Some.ensures.value)).1
 
-pub map_known-returns-clause-known : goal.map_known-returns-clause-known
-map_known-returns-clause-known t c =
+pub map_tree-returns-clause-known : goal.map_tree-returns-clause-known
+map_tree-returns-clause-known t c =
     let s = c.args.store.now in
     let s1 = c.map_parts.new.store in
     let m = map_at s c.args.map.now in
@@ -23,7 +24,7 @@ map_known-returns-clause-known t c =
     known_more m s1 c.map_parts.new.known c.insert.new.self c.args.e c.in_ok-made.made c.in_ok-made.ensures.known there is c.in_ok-insert.ensures.updates.0
 
 pub map_parts-map_one-requires-clause-map_held : goal.map_parts-map_one-requires-clause-map_held
-map_parts-map_one-requires-clause-map_held t c = map_held c.args.store.now c.map_known.new.store c.in_ok-x-in-One.ensures.grows c.args.map.now c.requires.map_held
+map_parts-map_one-requires-clause-map_held t c = map_held c.args.store.now c.map_tree.new.store c.in_ok-x-in-One.ensures.grows c.args.map.now c.requires.map_held
 
 pub map_parts-map_one-requires-clause-fits : goal.map_parts-map_one-requires-clause-fits
 map_parts-map_one-requires-clause-fits t c =
@@ -35,7 +36,7 @@ map_parts-map_one-requires-clause-fits t c =
 pub map_parts-returns-in_ok-x-in-One-clause-mapped : goal.map_parts-returns-in_ok-x-in-One-clause-mapped
 map_parts-returns-in_ok-x-in-One-clause-mapped t c =
     let s = c.args.store.now in
-    let s1 = c.map_known.new.store in
+    let s1 = c.map_tree.new.store in
     let s2 = c.map_one.new.store in
     let m = map_at s c.args.map.now in
     let h = head_of_node c.node-node.result in
@@ -55,25 +56,25 @@ map_parts-returns-in_ok-x-in-One-clause-mapped t c =
     c.map_one.ensures.alike
 
 pub map_parts-returns-in_ok-x-in-One-clause-known : goal.map_parts-returns-in_ok-x-in-One-clause-known
-map_parts-returns-in_ok-x-in-One-clause-known t c = ok_any c.map_one.result (known_later (map_at c.args.store.now c.args.map.now) c.map_known.new.store c.map_one.new.store c.map_known.new.known c.map_one.ensures.grows c.in_ok-x-in-One.ensures.known)
+map_parts-returns-in_ok-x-in-One-clause-known t c = ok_any c.map_one.result (known_later (map_at c.args.store.now c.args.map.now) c.map_tree.new.store c.map_one.new.store c.map_tree.new.known c.map_one.ensures.grows c.in_ok-x-in-One.ensures.known)
 
-pub map_parts-map_known-requires-in-Two-2 : goal.map_parts-map_known-requires-in-Two-2
-map_parts-map_known-requires-in-Two-2 t c =
+pub map_parts-map_tree-requires-in-Two-2 : goal.map_parts-map_tree-requires-in-Two-2
+map_parts-map_tree-requires-in-Two-2 t c =
     let s = c.args.store.now in
-    let s1 = c.map_known-in-Two.new.store in
+    let s1 = c.map_tree-in-Two.new.store in
     let m = c.args.map.now in
     let w : Grows s s1 = c.in_ok-x-in-Two.ensures.grows in
     let below : (c.in-Two.a.0 < c.args.e.0) × (c.in-Two.b.0 < c.args.e.0) = rw (← c.in-Two.ensures) at c.node-node.ensures.below in
     let b_held : Holds s1 c.in-Two.b = omega (arith, below.1, c.requires.held, w.longer) in
     let held : MapHeld s1 m = map_held s s1 w m c.requires.map_held in
-    let known : AreKnown (map_at s1 m) s1 c.map_known-in-Two.new.known = known_on m s s1 w c.requires.map_held c.map_known-in-Two.new.known c.in_ok-x-in-Two.ensures.known in
+    let known : AreKnown (map_at s1 m) s1 c.map_tree-in-Two.new.known = known_on m s s1 w c.requires.map_held c.map_tree-in-Two.new.known c.in_ok-x-in-Two.ensures.known in
     search rules
 
 pub map_parts-remake-requires-clause-fits : goal.map_parts-remake-requires-clause-fits
 map_parts-remake-requires-clause-fits t c =
     let s = c.args.store.now in
-    let s1 = c.map_known-in-Two.new.store in
-    let s2 = c.map_known-in-Two-2.new.store in
+    let s1 = c.map_tree-in-Two.new.store in
+    let s2 = c.map_tree-in-Two-2.new.store in
     let m = c.args.map.now in
     let h = head_of_node c.node-node.result in
     let a = tree_at s c.in-Two.a in
@@ -90,8 +91,8 @@ map_parts-remake-requires-clause-fits t c =
 pub map_parts-returns-in_ok-y-in-Two-clause-mapped : goal.map_parts-returns-in_ok-y-in-Two-clause-mapped
 map_parts-returns-in_ok-y-in-Two-clause-mapped t c =
     let s = c.args.store.now in
-    let s1 = c.map_known-in-Two.new.store in
-    let s2 = c.map_known-in-Two-2.new.store in
+    let s1 = c.map_tree-in-Two.new.store in
+    let s2 = c.map_tree-in-Two-2.new.store in
     let s3 = c.remake.new.store in
     let m = c.args.map.now in
     let h = head_of_node c.node-node.result in
@@ -119,49 +120,49 @@ pub map_parts-returns-in_ok-y-in-Two-clause-known : goal.map_parts-returns-in_ok
 map_parts-returns-in_ok-y-in-Two-clause-known t c =
     let s = c.args.store.now in
     let m = c.args.map.now in
-    let back = known_back m s c.map_known-in-Two.new.store c.in_ok-x-in-Two.ensures.grows c.requires.map_held c.map_known-in-Two-2.new.store c.map_known-in-Two-2.new.known c.in_ok-y-in-Two.ensures.known in
-    ok_any c.remake.result (known_later (map_at s m) c.map_known-in-Two-2.new.store c.remake.new.store c.map_known-in-Two-2.new.known c.remake.ensures.grows back)
+    let back = known_back m s c.map_tree-in-Two.new.store c.in_ok-x-in-Two.ensures.grows c.requires.map_held c.map_tree-in-Two-2.new.store c.map_tree-in-Two-2.new.known c.in_ok-y-in-Two.ensures.known in
+    ok_any c.remake.result (known_later (map_at s m) c.map_tree-in-Two-2.new.store c.remake.new.store c.map_tree-in-Two-2.new.known c.remake.ensures.grows back)
 
-pub map_parts-map_known-requires-in-Three-2 : goal.map_parts-map_known-requires-in-Three-2
-map_parts-map_known-requires-in-Three-2 t c =
+pub map_parts-map_tree-requires-in-Three-2 : goal.map_parts-map_tree-requires-in-Three-2
+map_parts-map_tree-requires-in-Three-2 t c =
     let s = c.args.store.now in
-    let s1 = c.map_known-in-Three.new.store in
+    let s1 = c.map_tree-in-Three.new.store in
     let m = c.args.map.now in
     let w : Grows s s1 = c.in_ok-x-in-Three.ensures.grows in
     let below : (c.in-Three.a.0 < c.args.e.0) × (c.in-Three.b.0 < c.args.e.0) × (c.in-Three.c.0 < c.args.e.0) = rw (← c.in-Three.ensures) at c.node-node.ensures.below in
     let b_held : Holds s1 c.in-Three.b = omega (arith, below.1, c.requires.held, w.longer) in
     let held : MapHeld s1 m = map_held s s1 w m c.requires.map_held in
-    let known : AreKnown (map_at s1 m) s1 c.map_known-in-Three.new.known = known_on m s s1 w c.requires.map_held c.map_known-in-Three.new.known c.in_ok-x-in-Three.ensures.known in
+    let known : AreKnown (map_at s1 m) s1 c.map_tree-in-Three.new.known = known_on m s s1 w c.requires.map_held c.map_tree-in-Three.new.known c.in_ok-x-in-Three.ensures.known in
     search rules
 
-pub map_parts-map_known-requires-in-Three-3 : goal.map_parts-map_known-requires-in-Three-3
-map_parts-map_known-requires-in-Three-3 t c =
+pub map_parts-map_tree-requires-in-Three-3 : goal.map_parts-map_tree-requires-in-Three-3
+map_parts-map_tree-requires-in-Three-3 t c =
     let s = c.args.store.now in
-    let s1 = c.map_known-in-Three.new.store in
+    let s1 = c.map_tree-in-Three.new.store in
     let m = c.args.map.now in
     let w : Grows s s1 = c.in_ok-x-in-Three.ensures.grows in
     let below : (c.in-Three.a.0 < c.args.e.0) × (c.in-Three.b.0 < c.args.e.0) × (c.in-Three.c.0 < c.args.e.0) = rw (← c.in-Three.ensures) at c.node-node.ensures.below in
-    let s2 = c.map_known-in-Three-2.new.store in
+    let s2 = c.map_tree-in-Three-2.new.store in
     let w2 : Grows s1 s2 = c.in_ok-y-in-Three.ensures.grows in
     let w02 : Grows s s2 = Grows_trans s s1 s2 w w2 in
-    let back : AreKnown (map_at s m) s2 c.map_known-in-Three-2.new.known = known_back m s s1 w c.requires.map_held s2 c.map_known-in-Three-2.new.known c.in_ok-y-in-Three.ensures.known in
+    let back : AreKnown (map_at s m) s2 c.map_tree-in-Three-2.new.known = known_back m s s1 w c.requires.map_held s2 c.map_tree-in-Three-2.new.known c.in_ok-y-in-Three.ensures.known in
     let d_held : Holds s2 c.in-Three.c = omega (arith, below.2, c.requires.held, w02.longer) in
     let held : MapHeld s2 m = map_held s s2 w02 m c.requires.map_held in
-    let known : AreKnown (map_at s2 m) s2 c.map_known-in-Three-2.new.known = known_on m s s2 w02 c.requires.map_held c.map_known-in-Three-2.new.known back in
+    let known : AreKnown (map_at s2 m) s2 c.map_tree-in-Three-2.new.known = known_on m s s2 w02 c.requires.map_held c.map_tree-in-Three-2.new.known back in
     search rules
 
 pub map_parts-remake-requires-in-Three-clause-fits : goal.map_parts-remake-requires-in-Three-clause-fits
 map_parts-remake-requires-in-Three-clause-fits t c =
     let s = c.args.store.now in
-    let s1 = c.map_known-in-Three.new.store in
+    let s1 = c.map_tree-in-Three.new.store in
     let m = c.args.map.now in
     let w : Grows s s1 = c.in_ok-x-in-Three.ensures.grows in
     let below : (c.in-Three.a.0 < c.args.e.0) × (c.in-Three.b.0 < c.args.e.0) × (c.in-Three.c.0 < c.args.e.0) = rw (← c.in-Three.ensures) at c.node-node.ensures.below in
-    let s2 = c.map_known-in-Three-2.new.store in
+    let s2 = c.map_tree-in-Three-2.new.store in
     let w2 : Grows s1 s2 = c.in_ok-y-in-Three.ensures.grows in
     let w02 : Grows s s2 = Grows_trans s s1 s2 w w2 in
-    let back : AreKnown (map_at s m) s2 c.map_known-in-Three-2.new.known = known_back m s s1 w c.requires.map_held s2 c.map_known-in-Three-2.new.known c.in_ok-y-in-Three.ensures.known in
-    let s3 = c.map_known-in-Three-3.new.store in
+    let back : AreKnown (map_at s m) s2 c.map_tree-in-Three-2.new.known = known_back m s s1 w c.requires.map_held s2 c.map_tree-in-Three-2.new.known c.in_ok-y-in-Three.ensures.known in
+    let s3 = c.map_tree-in-Three-3.new.store in
     let w3 : Grows s2 s3 = c.in_ok-z-in-Three.ensures.grows in
     let h = head_of_node c.node-node.result in
     let a = tree_at s c.in-Three.a in
@@ -182,15 +183,15 @@ map_parts-remake-requires-in-Three-clause-fits t c =
 pub map_parts-returns-in_ok-z-in-Three-clause-mapped : goal.map_parts-returns-in_ok-z-in-Three-clause-mapped
 map_parts-returns-in_ok-z-in-Three-clause-mapped t c =
     let s = c.args.store.now in
-    let s1 = c.map_known-in-Three.new.store in
+    let s1 = c.map_tree-in-Three.new.store in
     let m = c.args.map.now in
     let w : Grows s s1 = c.in_ok-x-in-Three.ensures.grows in
     let below : (c.in-Three.a.0 < c.args.e.0) × (c.in-Three.b.0 < c.args.e.0) × (c.in-Three.c.0 < c.args.e.0) = rw (← c.in-Three.ensures) at c.node-node.ensures.below in
-    let s2 = c.map_known-in-Three-2.new.store in
+    let s2 = c.map_tree-in-Three-2.new.store in
     let w2 : Grows s1 s2 = c.in_ok-y-in-Three.ensures.grows in
     let w02 : Grows s s2 = Grows_trans s s1 s2 w w2 in
-    let back : AreKnown (map_at s m) s2 c.map_known-in-Three-2.new.known = known_back m s s1 w c.requires.map_held s2 c.map_known-in-Three-2.new.known c.in_ok-y-in-Three.ensures.known in
-    let s3 = c.map_known-in-Three-3.new.store in
+    let back : AreKnown (map_at s m) s2 c.map_tree-in-Three-2.new.known = known_back m s s1 w c.requires.map_held s2 c.map_tree-in-Three-2.new.known c.in_ok-y-in-Three.ensures.known in
+    let s3 = c.map_tree-in-Three-3.new.store in
     let w3 : Grows s2 s3 = c.in_ok-z-in-Three.ensures.grows in
     let h = head_of_node c.node-node.result in
     let a = tree_at s c.in-Three.a in
@@ -218,14 +219,113 @@ map_parts-returns-in_ok-z-in-Three-clause-mapped t c =
 pub map_parts-returns-in_ok-z-in-Three-clause-known : goal.map_parts-returns-in_ok-z-in-Three-clause-known
 map_parts-returns-in_ok-z-in-Three-clause-known t c =
     let s = c.args.store.now in
-    let s1 = c.map_known-in-Three.new.store in
+    let s1 = c.map_tree-in-Three.new.store in
     let m = c.args.map.now in
     let w : Grows s s1 = c.in_ok-x-in-Three.ensures.grows in
     let below : (c.in-Three.a.0 < c.args.e.0) × (c.in-Three.b.0 < c.args.e.0) × (c.in-Three.c.0 < c.args.e.0) = rw (← c.in-Three.ensures) at c.node-node.ensures.below in
-    let s2 = c.map_known-in-Three-2.new.store in
+    let s2 = c.map_tree-in-Three-2.new.store in
     let w2 : Grows s1 s2 = c.in_ok-y-in-Three.ensures.grows in
     let w02 : Grows s s2 = Grows_trans s s1 s2 w w2 in
-    let back : AreKnown (map_at s m) s2 c.map_known-in-Three-2.new.known = known_back m s s1 w c.requires.map_held s2 c.map_known-in-Three-2.new.known c.in_ok-y-in-Three.ensures.known in
-    let s3 = c.map_known-in-Three-3.new.store in
-    let known : AreKnown (map_at s m) s3 c.map_known-in-Three-3.new.known = known_back m s s2 w02 c.requires.map_held s3 c.map_known-in-Three-3.new.known c.in_ok-z-in-Three.ensures.known in
-    ok_any c.remake-in-Three.result (known_later (map_at s m) s3 c.remake-in-Three.new.store c.map_known-in-Three-3.new.known c.remake-in-Three.ensures.grows known)
+    let back : AreKnown (map_at s m) s2 c.map_tree-in-Three-2.new.known = known_back m s s1 w c.requires.map_held s2 c.map_tree-in-Three-2.new.known c.in_ok-y-in-Three.ensures.known in
+    let s3 = c.map_tree-in-Three-3.new.store in
+    let known : AreKnown (map_at s m) s3 c.map_tree-in-Three-3.new.known = known_back m s s2 w02 c.requires.map_held s3 c.map_tree-in-Three-3.new.known c.in_ok-z-in-Three.ensures.known in
+    ok_any c.remake-in-Three.result (known_later (map_at s m) s3 c.remake-in-Three.new.store c.map_tree-in-Three-3.new.known c.remake-in-Three.ensures.grows known)
+
+pub map_tree-returns-in-Some-clause-known : goal.map_tree-returns-in-Some-clause-known
+map_tree-returns-in-Some-clause-known t c = c.requires.known
+
+pub map_tree-returns-in-Some-clause-grows : goal.map_tree-returns-in-Some-clause-grows
+map_tree-returns-in-Some-clause-grows t c = Grows_refl c.args.store.now
+
+pub map_tree-returns-in_err-made-clause-mapped : goal.map_tree-returns-in_err-made-clause-mapped
+map_tree-returns-in_err-made-clause-mapped t c = no_value _ _ c.from_residual.result c.from_residual.ensures.1
+
+pub map_tree-returns-in_err-made-clause-known : goal.map_tree-returns-in_err-made-clause-known
+map_tree-returns-in_err-made-clause-known t c = no_ok _ _ c.from_residual.result c.from_residual.ensures.1
+
+pub map_tree-returns-in_err-made-clause-grows : goal.map_tree-returns-in_err-made-clause-grows
+map_tree-returns-in_err-made-clause-grows t c = c.map_parts.ensures.grows
+
+pub map_tree-returns-in_err-insert-clause-mapped : goal.map_tree-returns-in_err-insert-clause-mapped
+map_tree-returns-in_err-insert-clause-mapped t c = no_value _ _ c.from_residual-in_err-insert.result c.from_residual-in_err-insert.ensures.1
+
+pub map_tree-returns-in_err-insert-clause-known : goal.map_tree-returns-in_err-insert-clause-known
+map_tree-returns-in_err-insert-clause-known t c = no_ok _ _ c.from_residual-in_err-insert.result c.from_residual-in_err-insert.ensures.1
+
+pub map_tree-returns-in_err-insert-clause-grows : goal.map_tree-returns-in_err-insert-clause-grows
+map_tree-returns-in_err-insert-clause-grows t c = c.map_parts.ensures.grows
+
+pub map_tree-returns-clause-mapped : goal.map_tree-returns-clause-mapped
+map_tree-returns-clause-mapped t c = c.in_ok-made.ensures.mapped
+
+pub map_tree-returns-clause-grows : goal.map_tree-returns-clause-grows
+map_tree-returns-clause-grows t c = c.map_parts.ensures.grows
+
+pub map_parts-returns-in_err-x-in-One-clause-mapped : goal.map_parts-returns-in_err-x-in-One-clause-mapped
+map_parts-returns-in_err-x-in-One-clause-mapped t c = no_value _ _ c.from_residual.result c.from_residual.ensures.1
+
+pub map_parts-returns-in_err-x-in-One-clause-known : goal.map_parts-returns-in_err-x-in-One-clause-known
+map_parts-returns-in_err-x-in-One-clause-known t c = no_ok _ _ c.from_residual.result c.from_residual.ensures.1
+
+pub map_parts-returns-in_err-x-in-One-clause-grows : goal.map_parts-returns-in_err-x-in-One-clause-grows
+map_parts-returns-in_err-x-in-One-clause-grows t c = c.map_tree.ensures.grows
+
+pub map_parts-returns-in_err-x-in-Two-clause-mapped : goal.map_parts-returns-in_err-x-in-Two-clause-mapped
+map_parts-returns-in_err-x-in-Two-clause-mapped t c = no_value _ _ c.from_residual-in_err-x-in-Two.result c.from_residual-in_err-x-in-Two.ensures.1
+
+pub map_parts-returns-in_err-x-in-Two-clause-known : goal.map_parts-returns-in_err-x-in-Two-clause-known
+map_parts-returns-in_err-x-in-Two-clause-known t c = no_ok _ _ c.from_residual-in_err-x-in-Two.result c.from_residual-in_err-x-in-Two.ensures.1
+
+pub map_parts-returns-in_err-x-in-Two-clause-grows : goal.map_parts-returns-in_err-x-in-Two-clause-grows
+map_parts-returns-in_err-x-in-Two-clause-grows t c = c.map_tree-in-Two.ensures.grows
+
+pub map_parts-returns-in_err-y-in-Two-clause-mapped : goal.map_parts-returns-in_err-y-in-Two-clause-mapped
+map_parts-returns-in_err-y-in-Two-clause-mapped t c = no_value _ _ c.from_residual-in_err-y-in-Two.result c.from_residual-in_err-y-in-Two.ensures.1
+
+pub map_parts-returns-in_err-y-in-Two-clause-known : goal.map_parts-returns-in_err-y-in-Two-clause-known
+map_parts-returns-in_err-y-in-Two-clause-known t c = no_ok _ _ c.from_residual-in_err-y-in-Two.result c.from_residual-in_err-y-in-Two.ensures.1
+
+pub map_parts-returns-in_err-y-in-Two-clause-grows : goal.map_parts-returns-in_err-y-in-Two-clause-grows
+map_parts-returns-in_err-y-in-Two-clause-grows t c = Grows_trans c.args.store.now c.map_tree-in-Two.new.store c.map_tree-in-Two-2.new.store c.map_tree-in-Two.ensures.grows c.map_tree-in-Two-2.ensures.grows
+
+pub map_parts-returns-in_err-x-in-Three-clause-mapped : goal.map_parts-returns-in_err-x-in-Three-clause-mapped
+map_parts-returns-in_err-x-in-Three-clause-mapped t c = no_value _ _ c.from_residual-in_err-x-in-Three.result c.from_residual-in_err-x-in-Three.ensures.1
+
+pub map_parts-returns-in_err-x-in-Three-clause-known : goal.map_parts-returns-in_err-x-in-Three-clause-known
+map_parts-returns-in_err-x-in-Three-clause-known t c = no_ok _ _ c.from_residual-in_err-x-in-Three.result c.from_residual-in_err-x-in-Three.ensures.1
+
+pub map_parts-returns-in_err-x-in-Three-clause-grows : goal.map_parts-returns-in_err-x-in-Three-clause-grows
+map_parts-returns-in_err-x-in-Three-clause-grows t c = c.map_tree-in-Three.ensures.grows
+
+pub map_parts-returns-in_err-y-in-Three-clause-mapped : goal.map_parts-returns-in_err-y-in-Three-clause-mapped
+map_parts-returns-in_err-y-in-Three-clause-mapped t c = no_value _ _ c.from_residual-in_err-y-in-Three.result c.from_residual-in_err-y-in-Three.ensures.1
+
+pub map_parts-returns-in_err-y-in-Three-clause-known : goal.map_parts-returns-in_err-y-in-Three-clause-known
+map_parts-returns-in_err-y-in-Three-clause-known t c = no_ok _ _ c.from_residual-in_err-y-in-Three.result c.from_residual-in_err-y-in-Three.ensures.1
+
+pub map_parts-returns-in_err-y-in-Three-clause-grows : goal.map_parts-returns-in_err-y-in-Three-clause-grows
+map_parts-returns-in_err-y-in-Three-clause-grows t c = Grows_trans c.args.store.now c.map_tree-in-Three.new.store c.map_tree-in-Three-2.new.store c.map_tree-in-Three.ensures.grows c.map_tree-in-Three-2.ensures.grows
+
+pub map_parts-returns-in_err-z-in-Three-clause-mapped : goal.map_parts-returns-in_err-z-in-Three-clause-mapped
+map_parts-returns-in_err-z-in-Three-clause-mapped t c = no_value _ _ c.from_residual-in_err-z-in-Three.result c.from_residual-in_err-z-in-Three.ensures.1
+
+pub map_parts-returns-in_err-z-in-Three-clause-known : goal.map_parts-returns-in_err-z-in-Three-clause-known
+map_parts-returns-in_err-z-in-Three-clause-known t c = no_ok _ _ c.from_residual-in_err-z-in-Three.result c.from_residual-in_err-z-in-Three.ensures.1
+
+pub map_parts-returns-in_err-z-in-Three-clause-grows : goal.map_parts-returns-in_err-z-in-Three-clause-grows
+map_parts-returns-in_err-z-in-Three-clause-grows t c = Grows_trans c.args.store.now c.map_tree-in-Three-2.new.store c.map_tree-in-Three-3.new.store (Grows_trans c.args.store.now c.map_tree-in-Three.new.store c.map_tree-in-Three-2.new.store c.map_tree-in-Three.ensures.grows c.map_tree-in-Three-2.ensures.grows) c.map_tree-in-Three-3.ensures.grows
+
+pub map_parts-returns-in-None-clause-known : goal.map_parts-returns-in-None-clause-known
+map_parts-returns-in-None-clause-known t c = c.requires.known
+
+pub map_parts-returns-in-None-clause-grows : goal.map_parts-returns-in-None-clause-grows
+map_parts-returns-in-None-clause-grows t c = Grows_refl c.args.store.now
+
+pub map_parts-returns-in_ok-x-in-One-clause-grows : goal.map_parts-returns-in_ok-x-in-One-clause-grows
+map_parts-returns-in_ok-x-in-One-clause-grows t c = Grows_trans c.args.store.now c.map_tree.new.store c.map_one.new.store c.map_tree.ensures.grows c.map_one.ensures.grows
+
+pub map_parts-returns-in_ok-y-in-Two-clause-grows : goal.map_parts-returns-in_ok-y-in-Two-clause-grows
+map_parts-returns-in_ok-y-in-Two-clause-grows t c = Grows_trans c.args.store.now c.map_tree-in-Two-2.new.store c.remake.new.store (Grows_trans c.args.store.now c.map_tree-in-Two.new.store c.map_tree-in-Two-2.new.store c.map_tree-in-Two.ensures.grows c.map_tree-in-Two-2.ensures.grows) c.remake.ensures.grows
+
+pub map_parts-returns-in_ok-z-in-Three-clause-grows : goal.map_parts-returns-in_ok-z-in-Three-clause-grows
+map_parts-returns-in_ok-z-in-Three-clause-grows t c = Grows_trans c.args.store.now c.map_tree-in-Three-3.new.store c.remake-in-Three.new.store (Grows_trans c.args.store.now c.map_tree-in-Three-2.new.store c.map_tree-in-Three-3.new.store (Grows_trans c.args.store.now c.map_tree-in-Three.new.store c.map_tree-in-Three-2.new.store c.map_tree-in-Three.ensures.grows c.map_tree-in-Three-2.ensures.grows) c.map_tree-in-Three-3.ensures.grows) c.remake-in-Three.ensures.grows
