@@ -98,25 +98,6 @@ fn note_trees(
     Ok(())
 }
 
-// Notes what is in the types of an entry.
-fn note_entry(
-    store: &Store,
-    found: &mut IndexSet<usize>,
-    done: &mut IndexSet<usize>,
-    info: &SymbolInfo,
-) -> Result<(), AllocError>
-    requires walk { AreGathered store.now found.old.keys done.old.keys }
-    requires held { SymbolHeld store.now info.now }
-    ensures { OnOk result (Walks store.now found.old.keys found.new.keys done.new.keys
-        (signature_named (symbol_at store.now info.now))) }
-{
-    note_trees(store, found, done, info.args.as_slice())?;
-    match info.result {
-        Some(ty) => note_tree(store, found, done, ty),
-        None => Ok(()),
-    }
-}
-
 // Notes what is in the types of the symbol with this number, if there is one.
 fn note_symbol(
     store: &Store,
@@ -131,7 +112,13 @@ fn note_symbol(
         (signature_named (symbol_or (symbols_at store.now sig.now.symbols) symbol))) }
 {
     match sig.symbols.get(symbol) {
-        Some(info) => note_entry(store, found, done, info),
+        Some(info) => {
+            note_trees(store, found, done, info.args.as_slice())?;
+            match info.result {
+                Some(ty) => note_tree(store, found, done, ty),
+                None => Ok(()),
+            }
+        }
         None => Ok(()),
     }
 }
@@ -206,7 +193,7 @@ fn note_said(
     match body {
         Body::Defs(defs) => note_equations(store, found, done, defs.as_slice()),
         Body::Inductives(inductives) => note_clauses(store, found, done, inductives.as_slice()),
-        Body::Prop(formula) => note_trees(store, found, done, &[*formula]),
+        Body::Prop(formula) => note_tree(store, found, done, *formula),
         _ => Ok(()),
     }
 }
@@ -231,26 +218,48 @@ fn note_declaration(
     note_said(store, found, done, &decl.body)
 }
 
-// Notes what is in declarations.
-fn note_declarations(
+// Notes what is in declarations, in the types of what they make, and then in a goal.
+fn note_task(
     alloc: Global,
     store: &Store,
     sig: &Signature,
     found: &mut IndexSet<usize>,
     done: &mut IndexSet<usize>,
     decls: &[Decl],
+    goal: TermId,
 ) -> Result<(), AllocError>
     requires walk { AreGathered store.now found.old.keys done.old.keys }
     requires symbols_held { All (SymbolHeld store.now) sig.now.symbols }
     requires held { All (DeclHeld store.now) decls.now }
+    requires goal_held { Holds store.now goal }
     ensures { OnOk result (Walks store.now found.old.keys found.new.keys done.new.keys
         (declarations_named (symbols_at store.now sig.now.symbols)
-        (declarations_at store.now decls.now))) }
+        (declarations_at store.now decls.now) ++ named (tree_at store.now goal))) }
 {
     for decl in decls {
         note_declaration(alloc, store, sig, found, done, decl)?;
     }
-    Ok(())
+    note_tree(store, found, done, goal)
+}
+
+// Puts the symbols that are in declarations, in the types of what they make, and in a goal into a set.
+fn gather_named(
+    alloc: Global,
+    store: &Store,
+    sig: &Signature,
+    found: &mut IndexSet<usize>,
+    decls: &[Decl],
+    goal: TermId,
+) -> Result<(), AllocError>
+    requires symbols_held { All (SymbolHeld store.now) sig.now.symbols }
+    requires held { All (DeclHeld store.now) decls.now }
+    requires goal_held { Holds store.now goal }
+    ensures { OnOk result (GainsSymbols found.old.keys found.new.keys
+        (declarations_named (symbols_at store.now sig.now.symbols)
+        (declarations_at store.now decls.now) ++ named (tree_at store.now goal))) }
+{
+    let mut done = IndexSet::new(alloc);
+    note_task(alloc, store, sig, found, &mut done, decls, goal)
 }
 
 /// The symbols that are in declarations, in the types of what they make, and in a goal. Only want of memory refuses.
@@ -269,8 +278,6 @@ pub fn named_in(
         (declarations_at store.now decls.now) ++ named (tree_at store.now goal))) }
 {
     let mut found = IndexSet::new(alloc);
-    let mut done = IndexSet::new(alloc);
-    note_declarations(alloc, store, sig, &mut found, &mut done, decls)?;
-    note_tree(store, &mut found, &mut done, goal)?;
+    gather_named(alloc, store, sig, &mut found, decls, goal)?;
     Ok(found)
 }

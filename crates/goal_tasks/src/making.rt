@@ -6,7 +6,7 @@ ghost use Rattle.tasks.specs.Meaning.{declarations_at, symbols_at, task_at, Symb
 ghost use Rattle.goal_tasks.specs.Named.{named, declarations_named};
 ghost use Rattle.goal_tasks.specs.Theories.{theory_named, goal_named};
 ghost use Rattle.goal_tasks.specs.Tuples.{tuples_in};
-ghost use Rattle.goal_tasks.specs.Tasks.{declarations_before, task_for, IsTaskOf};
+ghost use Rattle.goal_tasks.specs.Tasks.{task_for, IsTaskOf};
 ghost use Rattle.goal_tasks.specs.Meaning.{goal_at, theory_at, theories_at, placed, GoalHeld, TheoryHeld, AllTheoriesHeld, AreTuples};
 
 use crate::declarations::named_in;
@@ -61,24 +61,26 @@ fn declarations_at(
     Ok(out)
 }
 
-// The declarations that are before a goal of a theory.
-fn decls_before(
+// The declarations of the tuples that occur in declarations or in a goal.
+fn tuple_decls(
     alloc: Global,
     store: &Store,
-    decls: &Seq<Decl>,
-    theory: &Theory,
-    goal: &GoalAt,
+    sig: &Signature,
+    own: &[Decl],
+    goal: TermId,
 ) -> Result<Vec<Decl>, AllocError>
-    requires decls_held { All (DeclHeld store.now) decls.now }
-    requires theory_held { TheoryHeld store.now decls.now theory.now }
+    requires symbols_held { All (SymbolHeld store.now) sig.now.symbols }
+    requires tuples { AreTuples (symbols_at store.now sig.now.symbols) }
+    requires held { All (DeclHeld store.now) own.now }
+    requires goal_held { Holds store.now goal }
     ensures tree { IfOk result (λ v. declarations_at store.now v.items
-        ≡ declarations_before (theory_at store.now decls.now theory.now)
-        (goal_at store.now goal.now)) }
-    ensures held { IfOk result (λ v. All (DeclHeld store.now) v.items) }
+        ≡ tuples_in (symbols_at store.now sig.now.symbols)
+        (declarations_named (symbols_at store.now sig.now.symbols)
+        (declarations_at store.now own.now) ++ named (tree_at store.now goal))) }
+    ensures new_held { IfOk result (λ v. All (DeclHeld store.now) v.items) }
 {
-    let _ = store;
-    let own = declarations_at(alloc, decls, theory.visible.as_slice(), goal.before)?;
-    Ok(own)
+    let found = named_in(alloc, store, sig, own, goal)?;
+    tuples_in(alloc, store, sig, &found)
 }
 
 // Declarations after those of the tuples that occur in them or in a goal.
@@ -100,10 +102,31 @@ fn with_tuples(
         ++ declarations_at store.now own.items) }
     ensures new_held { IfOk result (All (DeclHeld store.now)) }
 {
-    let found = named_in(alloc, store, sig, own.as_slice(), goal)?;
-    let mut decls = Seq::from_vec(tuples_in(alloc, store, sig, &found)?);
+    let mut decls = Seq::from_vec(tuple_decls(alloc, store, sig, own.as_slice(), goal)?);
     decls.append(Seq::from_vec(own))?;
     Ok(decls)
+}
+
+// The declarations of the task of a goal of a theory.
+fn task_decls(
+    alloc: Global,
+    store: &Store,
+    all: &Theories,
+    theory: &Theory,
+    goal: &GoalAt,
+) -> Result<Seq<Decl>, AllocError>
+    requires held { AllTheoriesHeld store.now all.now }
+    requires tuples { AreTuples (symbols_at store.now all.now.sig.value.symbols) }
+    requires theory_held { TheoryHeld store.now all.now.decls theory.now }
+    requires goal_held { GoalHeld store.now goal.now }
+    ensures tree { IfOk result (λ v. declarations_at store.now v
+        ≡ (task_for (theories_at store.now all.now) (theory_at store.now all.now.decls theory.now)
+        (goal_at store.now goal.now)).decls) }
+    ensures new_held { IfOk result (All (DeclHeld store.now)) }
+{
+    let decls = &all.decls;
+    let own = declarations_at(alloc, decls, theory.visible.as_slice(), goal.before)?;
+    with_tuples(alloc, store, &all.sig, own, goal.prop)
 }
 
 // The task of a goal of a theory.
@@ -123,8 +146,7 @@ fn make_task(
         (goal_at store.now goal.now)) }
     ensures new_held { IfOk result (TaskHeld store.now) }
 {
-    let own = decls_before(alloc, store, &all.decls, theory, goal)?;
-    let decls = with_tuples(alloc, store, &all.sig, own, goal.prop)?;
+    let decls = task_decls(alloc, store, all, theory, goal)?;
     Ok(Task {
         sig: all.sig.clone()?,
         rigid: goal.rigid.clone()?,

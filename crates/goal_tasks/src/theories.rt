@@ -55,30 +55,6 @@ fn has_path(store: &Store, decls: &Seq<Decl>, theory: &Theory, path: &[u8]) -> b
     theory.path.as_slice() == path
 }
 
-// The first theory with this path, from a place on.
-fn theory_from<'a>(
-    store: &Store,
-    decls: &Seq<Decl>,
-    list: &'a [Theory],
-    from: usize,
-    path: &[u8],
-) -> Option<&'a Theory>
-    requires { All (TheoryHeld store.now decls.now) list.now }
-    ensures tree { option_map (λ t. theory_at store.now decls.now t.now) result
-        ≡ find (has_path path.now) (drop from (map (theory_at store.now decls.now) list.now)) }
-    ensures held { IfSome result (λ t. TheoryHeld store.now decls.now t.now) }
-{
-    let mut at = from;
-    while at < list.len() {
-        let theory = &list[at];
-        if has_path(store, decls, theory, path) {
-            return Some(theory);
-        }
-        at += 1;
-    }
-    None
-}
-
 /// The theory of the source with this path.
 pub(crate) fn find_theory<'a>(store: &Store, all: &'a Theories, path: &[u8]) -> Option<&'a Theory>
     requires { All (TheoryHeld store.now all.now.decls) all.now.list }
@@ -87,7 +63,16 @@ pub(crate) fn find_theory<'a>(store: &Store, all: &'a Theories, path: &[u8]) -> 
         (map (theory_at store.now all.now.decls) all.now.list)) }
     ensures held { IfSome result (λ t. TheoryHeld store.now all.now.decls t.now) }
 {
-    theory_from(store, &all.decls, all.list.as_slice(), all.embedded, path)
+    let list = all.list.as_slice();
+    let mut at = all.embedded;
+    while at < list.len() {
+        let theory = &list[at];
+        if has_path(store, &all.decls, theory, path) {
+            return Some(theory);
+        }
+        at += 1;
+    }
+    None
 }
 
 // Whether a goal has this name.

@@ -179,8 +179,10 @@ fn push_tuple(
             if occurs(found, symbol) {
                 let decl = tuple_decl(alloc, store, sig, width, symbol)?;
                 out.push(decl)?;
+                Ok(())
+            } else {
+                Ok(())
             }
-            Ok(())
         }
         None => Ok(()),
     }

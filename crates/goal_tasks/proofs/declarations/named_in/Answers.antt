@@ -1,8 +1,9 @@
-use Rattle.std.proofs.Common.{◌≡◌, [], rules}
-use Rattle.goal_tasks.proofs.Steps.{walks_then, gains_from_none}
+use Rattle.goal_tasks.proofs.Passed.{no_value}
+use Rattle.goal_tasks.proofs.Steps.{gains_from_none}
 use Rattle.goal_tasks.proofs.declarations.named_in.Goals as goal
 
+pub returns-in_err-gather_named : goal.returns-in_err-gather_named
+returns-in_err-gather_named c = no_value _ _ c.from_residual.result c.from_residual.ensures.1
+
 pub returns : goal.returns
-returns c =
-    let none : c.new-found.result.keys ≡ [] = search rules in
-    gains_from_none _ _ _ none (walks_then c.args.store.now _ _ _ _ _ _ _ c.in_ok-note_declarations.ensures c.in_ok-note_tree.ensures).gains
+returns c = gains_from_none _ _ _ c.new-found.ensures.empty c.in_ok-gather_named.ensures

@@ -1,13 +1,15 @@
 use Rattle.std.proofs.Common.{List, All, sym, ap, subst, ◌∙◌}
+use Rattle.std.proofs.lemmas.List.{take_all}
 use Rattle.trees.specs.declared.TermId.{TermId}
 use Rattle.trees.specs.Node.{Holds}
 use Rattle.tasks.specs.declared.declaration.Ind.{Ind}
-use Rattle.tasks.specs.Task.{InductiveTree}
-use Rattle.tasks.specs.Meaning.{trees_at, inductive_at, InductiveHeld}
-use Rattle.goal_tasks.specs.Named.{named, all_named}
+use Rattle.tasks.specs.Task.{InductiveTree, Induces}
+use Rattle.tasks.specs.Meaning.{trees_at, inductive_at, InductiveHeld, inductives_at}
+use Rattle.goal_tasks.specs.Named.{named, all_named, formulas_of}
 use Rattle.goal_tasks.specs.Gathered.{Walks}
 use Rattle.goal_tasks.proofs.Lists.{walks_step, flat_more_all}
 use Rattle.goal_tasks.proofs.Steps.{walks_none}
+use Rattle.goal_tasks.proofs.Passed.{no_ok}
 use Rattle.goal_tasks.proofs.declarations.note_clauses.Goals as goal
 
 pub loop-inductive-init : goal.loop-inductive-init
@@ -25,3 +27,15 @@ loop-inductive-preserved c =
     let q = c.as_slice.ensures ∙ ap (λ (i : Ind). i.clauses) c.inductive-item.is in
     walks_step s _ _ _ _ _ _ _ _ (flat_more_all named (λ (i : InductiveTree). i.clauses) (inductive_at s) c.args.inductives.now c.loop-inductive.inductive-index c.inductive-item.result c.loop-inductive-test.true) c.loop-inductive.invariant
     (subst (λ (z : List TermId). Walks s c.loop-inductive.found.keys c.note_trees.new.found.keys c.note_trees.new.done.keys (all_named (trees_at s z))) q c.in_ok-note_trees.ensures)
+
+pub note_trees-requires-clause-walk : goal.note_trees-requires-clause-walk
+note_trees-requires-clause-walk c = c.loop-inductive.invariant.is_done
+
+pub returns-in_err-note_trees : goal.returns-in_err-note_trees
+returns-in_err-note_trees c = no_ok _ _ c.from_residual.result c.from_residual.ensures.1
+
+pub returns : goal.returns
+returns c =
+    let s = c.args.store.now in
+    let l = c.loop-inductive in
+    subst (λ (is : List Ind). Walks s c.args.found.now.keys l.found.keys l.done.keys (all_named (formulas_of (Induces (inductives_at s is))))) (take_all l.inductive-index c.args.inductives.now c.loop-inductive-test.false) l.invariant

@@ -1,5 +1,7 @@
-use Rattle.std.proofs.Common.{◌<◌, ◌++◌, List, length, get_or, slice_get, option_to_list, refl, sym, ap, ◌∙◌, arith}
+use Rattle.std.proofs.Common.{◌<◌, ◌++◌, List, length, get_or, slice_get, option_to_list, refl, sym, ap, ◌∙◌, arith, ◌≡◌, ℕ, min, take}
+use Rattle.std.proofs.lemmas.List.{take_min}
 use Rattle.tasks.specs.declared.declaration.Decl.{Decl}
+use Rattle.goal_tasks.specs.Meaning.{placed}
 use Rattle.goal_tasks.proofs.Placed.{placed_more}
 use Rattle.goal_tasks.proofs.Passed.{no_value}
 use Rattle.goal_tasks.proofs.making.declarations_at.Goals as goal
@@ -14,3 +16,11 @@ loop-at-preserved c =
 
 pub returns-in_err-push_placed : goal.returns-in_err-push_placed
 returns-in_err-push_placed c = no_value _ _ c.from_residual.result c.from_residual.ensures.1
+
+pub returns : goal.returns
+returns c =
+    let ds = c.args.decls.now in
+    let ks = c.args.places.now in
+    let l = c.loop-at in
+    let end : l.at ≡ min c.args.count (length ks) = omega (arith, c.min-end.ensures, c.loop-at-test.false) in
+    l.invariant ∙ ap (λ (n : ℕ). placed ds (take n ks)) end ∙ ap (placed ds) (take_min c.args.count ks)

@@ -1,3 +1,5 @@
+use Rattle.std.proofs.Common.{◌≡◌, length, ap, ◌∙◌, arith}
+use Rattle.std.specs.List.{range_with_len}
 use Rattle.goal_tasks.proofs.TuplesMade.{numbers_more}
 use Rattle.goal_tasks.proofs.Passed.{no_value}
 use Rattle.goal_tasks.proofs.tuples.numbers.Goals as goal
@@ -7,3 +9,9 @@ loop-number-preserved c = numbers_more c.args.from c.loop-number.number c.loop-n
 
 pub returns-in_err-push : goal.returns-in_err-push
 returns-in_err-push c = no_value _ _ c.from_residual.result c.from_residual.ensures.1
+
+pub returns : goal.returns
+returns c =
+    let l = c.loop-number in
+    let count : length l.all.items ≡ c.args.count = omega (arith, l.invariant.1, c.loop-number-test.false) in
+    c.from_vec.ensures ∙ l.invariant.0 ∙ ap (range_with_len c.args.from) count

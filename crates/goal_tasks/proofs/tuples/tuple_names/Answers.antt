@@ -1,12 +1,18 @@
-use Rattle.std.proofs.Common.{◌≡◌, ◌+◌, ◌<◌, ◌++◌, ◌∷◌, [], List, true, false, length, drop, get_or, subst, ap, ◌∙◌}
+use Rattle.std.proofs.Common.{◌≡◌, ◌+◌, ◌<◌, ◌++◌, ◌∷◌, [], List, true, false, length, drop, get_or, subst, ap, ◌∙◌, Option, Some, None, refl, sym, ℕ}
+use Rattle.std.proofs.lemmas.List.{drop_all}
 use Rattle.tasks.specs.Meaning.{symbol_at, symbols_at}
 use Rattle.tasks.specs.declared.signature.SymbolInfo.{SymbolInfo}
 use Rattle.goal_tasks.specs.declared.tuples.TupleName.{TupleName}
 use Rattle.goal_tasks.specs.Tuples.{symbol_of_width}
 use Rattle.elab_names.specs.Naming.{is_tuple, tuple_from}
 use Rattle.goal_tasks.proofs.TupleNames.{or_number, names_more, names_same}
+use Rattle.goal_tasks.proofs.Passed.{no_value}
 use Rattle.goal_tasks.proofs.tuples.tuple_names.Goals.{then-is_tuple+in_ok-push, else-is_tuple}
 use Rattle.goal_tasks.proofs.tuples.tuple_names.Goals as goal
+
+or_nothing : (m : Option ℕ) → or_number m None ≡ m
+or_nothing None = refl
+or_nothing (Some k) = refl
 
 pub loop-symbol-preserved : goal.loop-symbol-preserved
 loop-symbol-preserved c =
@@ -25,3 +31,12 @@ loop-symbol-preserved c =
           let q : c.if-is_tuple.names.items ≡ old = ap (λ v. v.items) w.names-is in
           ap (λ (ts : List TupleName). or_number (symbol_of_width ts n) (tuple_from n (i + 1) (symbols_at s (drop (i + 1) xs)))) q ∙ (names_same s i xs d l old n f ∙ c.loop-symbol.invariant s n)
     ]
+
+pub returns-in_err-push : goal.returns-in_err-push
+returns-in_err-push c = no_value _ _ c.from_residual.result c.from_residual.ensures.1
+
+pub returns : goal.returns
+returns c = λ s n.
+    let l = c.loop-symbol in
+    let m = symbol_of_width l.names.items n in
+    sym (or_nothing m) ∙ ap (λ (xs : List SymbolInfo). or_number m (tuple_from n l.symbol (symbols_at s xs))) (sym (drop_all l.symbol c.args.symbols.now c.loop-symbol-test.false)) ∙ l.invariant s n

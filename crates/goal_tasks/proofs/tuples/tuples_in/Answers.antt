@@ -1,7 +1,8 @@
-use Rattle.std.proofs.Common.{◌++◌, ℕ, List, Option, sym, ap, ◌∙◌}
+use Rattle.std.proofs.Common.{◌++◌, ℕ, List, Option, sym, ap, ◌∙◌, ◌≡◌, length, arith}
+use Rattle.std.proofs.lemmas.List.{length-map}
 use Rattle.tasks.specs.declared.signature.SymbolInfo.{SymbolInfo}
 use Rattle.tasks.specs.Task.{DeclarationTree}
-use Rattle.tasks.specs.Meaning.{symbols_at}
+use Rattle.tasks.specs.Meaning.{symbols_at, symbol_at}
 use Rattle.goal_tasks.specs.declared.tuples.TupleName.{TupleName}
 use Rattle.elab_parts.specs.Entries.{tuple_in}
 use Rattle.goal_tasks.specs.Tuples.{symbol_of_width, tuples_of}
@@ -39,3 +40,19 @@ returns-in_err-push_tuple-clause-tree c = no_value _ _ c.from_residual-in_err-pu
 
 pub returns-in_err-push_tuple-clause-held : goal.returns-in_err-push_tuple-clause-held
 returns-in_err-push_tuple-clause-held c = no_value _ _ c.from_residual-in_err-push_tuple.result c.from_residual-in_err-push_tuple.ensures.1
+
+pub push_tuple-requires-clause-symbols_held : goal.push_tuple-requires-clause-symbols_held
+push_tuple-requires-clause-symbols_held c = c.requires.symbols_held
+
+pub push_tuple-requires-clause-held : goal.push_tuple-requires-clause-held
+push_tuple-requires-clause-held c = c.loop-width.invariant.1
+
+pub returns-clause-tree : goal.returns-clause-tree
+returns-clause-tree c =
+    let s = c.args.store.now in
+    let xs = c.args.sig.now.symbols in
+    let whole : c.loop-width.width ≡ length (symbols_at s xs) = omega (arith, length-map xs (symbol_at s), ap length c.as_slice-symbols.ensures, c.loop-width-test.false) in
+    c.loop-width.invariant.0 ∙ ap (tuples_below (symbols_at s xs) c.args.found.now.keys) whole
+
+pub returns-clause-held : goal.returns-clause-held
+returns-clause-held c = c.loop-width.invariant.1

@@ -2,10 +2,10 @@ use Rattle.std.proofs.Common.{◌≡◌, ◌-◌, length, map, drop}
 use Rattle.std.specs.List.{find}
 use Rattle.goal_tasks.specs.Theories.{has_path}
 use Rattle.goal_tasks.specs.Meaning.{theory_at}
-use Rattle.goal_tasks.proofs.theories.theory_from.Given as goal
+use Rattle.goal_tasks.proofs.theories.find_theory.Given as goal
 
 abbrev pub invariant-loop-at : goal.invariant-loop-at
-invariant-loop-at l = find (has_path l.path) (map (theory_at l.store l.decls) (drop l.at l.list)) ≡ find (has_path l.path) (map (theory_at l.store l.decls) (drop l.from l.list))
+invariant-loop-at l = find (has_path l.path) (map (theory_at l.store l.all.decls) (drop l.at l.list)) ≡ find (has_path l.path) (map (theory_at l.store l.all.decls) (drop l.all.embedded l.list))
 
 abbrev pub decreases-loop-at : goal.decreases-loop-at
 decreases-loop-at l = length l.list - l.at
