@@ -117,13 +117,7 @@ pub fn hand_on(link: Link, moves: &[Move], out: &mut Vec<Move>) -> Result<(), Al
     ensures { OnOk result (out.new.items ≡ out.old.items ++ handed link moves.now) }
 {
     match link {
-        Link::Export => {
-            for step in moves {
-                let copy = step.clone()?;
-                out.push(copy)?;
-            }
-            Ok(())
-        }
+        Link::Export => out.extend_with_clones(moves),
         _ => Ok(()),
     }
 }

@@ -60,25 +60,6 @@ fn has_path(known: &Known, path: &[u8]) -> bool
     known.theory.path.as_slice() == path
 }
 
-// The place of the first theory with this path.
-fn place_of(list: &[Known], path: &[u8]) -> Option<usize>
-    ensures none { IfNone result ((s : List Tree) → known_named (map (known_at s) list.now) path.now
-        ≡ None) }
-    ensures found { IfSome result (λ k. (s : List Tree) → slice_get (map (known_at s) list.now) k
-        ≡ known_named (map (known_at s) list.now) path.now) }
-    ensures within { IfSome result (λ k. k < length list.now) }
-{
-    let mut at = 0;
-    while at < list.len() {
-        let known = &list[at];
-        if has_path(known, path) {
-            return Some(at);
-        }
-        at += 1;
-    }
-    None
-}
-
 impl Typed {
     /// The place of the first theory with this path.
     pub fn theory_place(&self, path: &[u8]) -> Option<usize>
@@ -89,7 +70,16 @@ impl Typed {
             self.now.known) k ≡ known_named (map (known_at s) self.now.known) path.now) }
         ensures within { IfSome result (λ k. k < length self.now.known) }
     {
-        place_of(self.known.as_slice(), path)
+        let list = self.known.as_slice();
+        let mut at = 0;
+        while at < list.len() {
+            let known = &list[at];
+            if has_path(known, path) {
+                return Some(at);
+            }
+            at += 1;
+        }
+        None
     }
 }
 
@@ -100,10 +90,11 @@ impl Opened {
         ensures number { IfOk result (λ o. o.count ≡ count) }
         ensures held { IfOk result (λ o. (s : List Tree) (n : ℕ) → OpenedHeld s n o) }
     {
+        let scope = Scope::new(alloc)?;
         Ok(Opened {
             path,
             within: Vec::new(alloc),
-            scope: Scope::new(alloc)?,
+            scope,
             visible: IndexSet::new(alloc),
             goals: Seq::new(alloc),
             axioms: Seq::new(alloc),
