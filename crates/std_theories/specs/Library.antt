@@ -77,6 +77,13 @@ pub record IsFileOfText (text : List ℕ) (file : File) : Type 0 where
   pub are : AreTokens text tokens
   pub only : IsOnlyFile (rest text tokens 0) (file_of file)
 
+-- the file of an entry comes after others, with its path
+pub record IsFilePushed (e : LibraryEntry) (old new : List (List ℕ × File)) : Type 0 where
+  pub file : List ℕ × File
+  pub is : new ≡ old ++ file ∷ []
+  pub path : file.0 ≡ e.0
+  pub written : IsFileOfText e.1 file.1
+
 -- the files of the entries, each with its path, in order
 abbrev pub AreFilesOf : List LibraryEntry → List (List ℕ × File) → Type 0
 AreFilesOf [] [] = Unit {0}

@@ -1,8 +1,7 @@
 // The trees of the embedded library.
 // They depend on the library's texts and the reader of sources; the tables of theories depend on them.
-ghost use Rattle.std.specs.Prelude.{◌≡◌, ◌++◌, ℕ, List, map, IfOk, OnOk};
-ghost use Rattle.syntax_why.specs.declared.declarations.File.{File as SurfaceFile};
-ghost use Rattle.std_theories.specs.Library.{AreFilesOf, IsFileOfText, library_entry, library};
+ghost use Rattle.std.specs.Prelude.{◌≡◌, map, IfOk, OnOk};
+ghost use Rattle.std_theories.specs.Library.{AreFilesOf, IsFileOfText, IsFilePushed, library_entry, library};
 
 use crate::texts::{Entry, LIBRARY};
 use outside::Text;
@@ -24,24 +23,21 @@ fn file_of_text(alloc: Global, text: &[u8]) -> Result<File, AllocError>
     }
 }
 
-/// Puts the files of entries after others.
-fn push_files(
-    alloc: Global,
-    entries: &[Entry],
-    out: &mut Vec<(Text, File)>,
-) -> Result<(), AllocError>
-    ensures { OnOk result ((fs : List (List ℕ × SurfaceFile))
-        × (out.new.items ≡ out.old.items ++ fs) × AreFilesOf (map library_entry entries.now) fs) }
+/// Puts the file of an entry after others.
+fn push_file(alloc: Global, entry: &Entry, out: &mut Vec<(Text, File)>) -> Result<(), AllocError>
+    ensures { OnOk result (IsFilePushed (library_entry entry.now) out.old.items out.new.items) }
 {
-    match entries.split_first() {
-        Some((first, rest)) => {
-            let path = Text::from_slice(alloc, first.0.as_bytes())?;
-            let file = file_of_text(alloc, first.1.as_bytes())?;
-            out.push((path, file))?;
-            push_files(alloc, rest, out)
-        }
-        None => Ok(()),
-    }
+    let path = Text::from_slice(alloc, entry.0.as_bytes())?;
+    let file = file_of_text(alloc, entry.1.as_bytes())?;
+    out.push((path, file))?;
+    Ok(())
+}
+
+/// The entries of the library.
+fn entries() -> &'static [Entry]
+    ensures { map library_entry result.now ≡ library }
+{
+    &LIBRARY
 }
 
 /// The files of the embedded library, each with the path of its theory, in the order in which its theories are known: `int.Int`,
@@ -53,7 +49,10 @@ pub fn library_files(alloc: Global) -> Result<Vec<(Text, File)>, AllocError>
     ensures { IfOk result (λ fs. AreFilesOf library fs.items) }
 {
     let mut files = Vec::new(alloc);
-    push_files(alloc, &LIBRARY, &mut files)?;
+    let all = entries();
+    for entry in all {
+        push_file(alloc, entry, &mut files)?;
+    }
     Ok(files)
 }
 

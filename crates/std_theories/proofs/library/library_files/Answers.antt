@@ -1,0 +1,12 @@
+use Rattle.std_theories.proofs.Files.{files_next, files_all}
+use Rattle.std_theories.proofs.Passed.{no_value}
+use Rattle.std_theories.proofs.library.library_files.Goals as goal
+
+pub loop-entry-preserved : goal.loop-entry-preserved
+loop-entry-preserved c = files_next c.entries-all.result.now c.loop-entry.entry-index _ c.loop-entry.files.items c.push_file.new.out.items c.loop-entry-test.true c.loop-entry.invariant c.in_ok-push_file.ensures
+
+pub returns : goal.returns
+returns c = files_all c.entries-all.result.now c.loop-entry.entry-index c.loop-entry.files.items c.loop-entry-test.false c.loop-entry.invariant c.entries-all.ensures
+
+pub returns-in_err-push_file : goal.returns-in_err-push_file
+returns-in_err-push_file c = no_value _ _ c.from_residual.result c.from_residual.ensures.1
