@@ -447,6 +447,15 @@ fn has_all(sides: &[Side<'_>]) -> bool
     }
 }
 
+// The symbols of all own declarations, in order.
+fn own_symbols(alloc: Global, source: &Source<'_>) -> Result<Vec<usize>, AllocError>
+    ensures { IfOk result (λ v. (s : List Tree) → v.items ≡ kept (origin_at s source.now)
+        no_fates) }
+{
+    let none: Fates = IndexMap::new(alloc);
+    kept_symbols(alloc, source, &none)
+}
+
 // The map by which signatures are compared: types that aren't replaced count as their copies.
 fn tried_map(
     alloc: Global,
@@ -461,28 +470,50 @@ fn tried_map(
         (length sig.now.symbols) (kept (origin_at store.now source.now) no_fates)) }
     ensures held { IfOk result (MapHeld store.now) }
 {
-    let none: Fates = IndexMap::new(alloc);
-    let all = kept_symbols(alloc, source, &none)?;
+    let all = own_symbols(alloc, source)?;
     map_of(alloc, store, types, &[], sig.symbols.len(), all.as_slice())
 }
 
-// The fates of the declarations that elements name, under a map of types, or the first element that is wrong.
+// The first element that is wrong, and the fates by those before it.
+fn find_wrong(
+    alloc: Global,
+    store: &mut Store,
+    trial: &Trial<'_>,
+    fates: &mut Fates,
+    sides: &[Side<'_>],
+) -> Result<Option<usize>, AllocError>
+    requires trial { TrialHeld store.old trial.now }
+    requires sides { All (SideHeld store.old) sides.now }
+    ensures told { IfOk result (SidesTold (symbols_at store.old trial.now.sig.now.symbols)
+        (origin_at store.old trial.now.source.now) (map_at store.old trial.now.morphism.now)
+        (fates_at fates.old) (sides_at store.old sides.now)) }
+    ensures fates { IfOk result (λ o. o ≡ None → fates_at fates.new
+        ≡ with_sides (sides_at store.old sides.now) (fates_at fates.old)) }
+    ensures grows { Grows store.old store.new }
+{
+    let mut known = no_trees(alloc);
+    check_sides(alloc, store, trial, &mut known, fates, sides)
+}
+
+// The fates of the declarations that elements name are entered, under a map of types, unless an element is wrong.
 fn check_elements<'a>(
     alloc: Global,
     store: &mut Store,
     sig: &'a Signature,
     source: &'a Source<'a>,
     morphism: &'a SymbolMap,
+    fates: &mut Fates,
     sides: &[Side<'_>],
-) -> Result<Fates, ElementFault>
+) -> Result<(), ElementFault>
     requires signature { IsSignature store.old sig.now.symbols }
     requires decls { All (DeclHeld store.old) source.now.decls.now }
     requires map_held { MapHeld store.old morphism.now }
+    requires none { fates_at fates.old ≡ no_fates }
     requires sides { All (SideHeld store.old) sides.now }
     ensures right { OnOk result (SidesTold (symbols_at store.old sig.now.symbols)
         (origin_at store.old source.now) (map_at store.old morphism.now) no_fates
         (sides_at store.old sides.now) None) }
-    ensures fates { IfOk result (λ f. fates_at f ≡ fates_of (sides_at store.old sides.now)) }
+    ensures fates { OnOk result (fates_at fates.new ≡ fates_of (sides_at store.old sides.now)) }
     ensures err { IfErr result (IsElementRefused (symbols_at store.old sig.now.symbols)
         (origin_at store.old source.now) (map_at store.old morphism.now)
         (sides_at store.old sides.now)) }
@@ -493,35 +524,35 @@ fn check_elements<'a>(
         source,
         morphism,
     };
-    let mut fates: Fates = IndexMap::new(alloc);
-    let mut known = no_trees(alloc);
-    match check_sides(alloc, store, &trial, &mut known, &mut fates, sides)? {
+    match find_wrong(alloc, store, &trial, fates, sides)? {
         Some(token) => Err(ElementFault::BadSubstitution { token }),
-        None => Ok(fates),
+        None => Ok(()),
     }
 }
 
-// The fates of the declarations that elements name, with the types for type symbols, or the first element that is wrong.
+// The fates of the declarations that elements name are entered, with the types for type symbols, unless an element is wrong.
 fn find_fates(
     alloc: Global,
     store: &mut Store,
     sig: &Signature,
     source: &Source<'_>,
     types: &[TypeFor],
+    fates: &mut Fates,
     sides: &[Side<'_>],
-) -> Result<Fates, ElementFault>
+) -> Result<(), ElementFault>
     requires signature { IsSignature store.old sig.now.symbols }
     requires decls { All (DeclHeld store.old) source.now.decls.now }
     requires held { All (TypeForHeld store.old) types.now }
     requires types { type_pairs_at store.old types.now ≡ types_replaced
         (symbols_at store.old sig.now.symbols) (origin_at store.old source.now)
         (sides_at store.old sides.now) }
+    requires none { fates_at fates.old ≡ no_fates }
     requires sides { All (SideHeld store.old) sides.now }
     ensures right { OnOk result (SidesTold (symbols_at store.old sig.now.symbols)
         (origin_at store.old source.now) (tried_map (symbols_at store.old sig.now.symbols)
         (origin_at store.old source.now) (sides_at store.old sides.now)) no_fates
         (sides_at store.old sides.now) None) }
-    ensures fates { IfOk result (λ f. fates_at f ≡ fates_of (sides_at store.old sides.now)) }
+    ensures fates { OnOk result (fates_at fates.new ≡ fates_of (sides_at store.old sides.now)) }
     ensures err { IfErr result (IsElementRefused (symbols_at store.old sig.now.symbols)
         (origin_at store.old source.now) (tried_map (symbols_at store.old sig.now.symbols)
         (origin_at store.old source.now) (sides_at store.old sides.now))
@@ -529,7 +560,7 @@ fn find_fates(
     ensures grows { Grows store.old store.new }
 {
     let morphism = tried_map(alloc, store, sig, source, types)?;
-    check_elements(alloc, store, sig, source, &morphism, sides)
+    check_elements(alloc, store, sig, source, &morphism, fates, sides)
 }
 
 /// What the elements of a clone replace, or the first element that is wrong. Beside that only want of memory refuses.
@@ -558,7 +589,16 @@ pub fn make_plan(
     let types = types_replaced(alloc, sig, source, sides)?;
     let mut symbols = Vec::new(alloc);
     push_symbols(source, &mut symbols, sides)?;
-    let fates = find_fates(alloc, store, sig, source, types.as_slice(), sides)?;
+    let mut fates: Fates = IndexMap::new(alloc);
+    find_fates(
+        alloc,
+        store,
+        sig,
+        source,
+        types.as_slice(),
+        &mut fates,
+        sides,
+    )?;
     Ok(Plan {
         types,
         symbols,

@@ -201,6 +201,24 @@ fn push_types(
     push_types(sig, source, fates, types, rest)
 }
 
+// The types for the type symbols of the elements that are right, after others, where no element is before them.
+fn push_all_types(
+    alloc: Global,
+    sig: &Signature,
+    source: &Source<'_>,
+    types: &mut Vec<TypeFor>,
+    sides: &[Side<'_>],
+) -> Result<(), AllocError>
+    ensures types { OnOk result ((s : List Tree) → type_pairs_at s types.new.items ≡ type_pairs_at s
+        types.old.items ++ types_replaced (symbols_at s sig.now.symbols) (origin_at s source.now)
+        (sides_at s sides.now)) }
+    ensures held { OnOk result ((s : List Tree) → All (TypeForHeld s) types.old.items → All
+        (SideHeld s) sides.now → All (TypeForHeld s) types.new.items) }
+{
+    let mut fates: Fates = IndexMap::new(alloc);
+    push_types(sig, source, &mut fates, types, sides)
+}
+
 /// The types for the type symbols of the elements that are right. Only want of memory refuses.
 pub fn types_replaced(
     alloc: Global,
@@ -213,9 +231,8 @@ pub fn types_replaced(
     ensures held { IfOk result (λ v. (s : List Tree) → All (SideHeld s) sides.now → All
         (TypeForHeld s) v.items) }
 {
-    let mut fates: Fates = IndexMap::new(alloc);
     let mut types = Vec::new(alloc);
-    push_types(sig, source, &mut fates, &mut types, sides)?;
+    push_all_types(alloc, sig, source, &mut types, sides)?;
     Ok(types)
 }
 
@@ -309,6 +326,26 @@ fn put_types(store: &Store, morphism: &mut SymbolMap, types: &[TypeFor]) -> Resu
     put_types(store, morphism, rest)
 }
 
+// Further symbols become the numbers from one on, symbols others, and type symbols types; of equal ones the last counts.
+fn fill_map(
+    store: &Store,
+    morphism: &mut SymbolMap,
+    types: &[TypeFor],
+    symbols: &[SymbolFor],
+    first: usize,
+    others: &[usize],
+) -> Result<(), AllocError>
+    requires { All (TypeForHeld store.now) types.now }
+    ensures is { OnOk result (map_at store.now morphism.new ≡ with_mapped_types
+        (type_pairs_at store.now types.now) (with_symbols (symbol_pairs symbols.now)
+        (with_numbers first others.now (map_at store.now morphism.old)))) }
+    ensures held { OnOk result (MapHeld store.now morphism.old → MapHeld store.now morphism.new) }
+{
+    put_numbers(morphism, first, others)?;
+    put_symbols(morphism, symbols)?;
+    put_types(store, morphism, types)
+}
+
 /// The map under which type symbols become types, symbols others, and further ones the numbers from one on. Only want of memory
 /// refuses.
 pub fn map_of(
@@ -325,8 +362,6 @@ pub fn map_of(
     ensures held { IfOk result (MapHeld store.now) }
 {
     let mut morphism = SymbolMap::new(alloc);
-    put_numbers(&mut morphism, first, others)?;
-    put_symbols(&mut morphism, symbols)?;
-    put_types(store, &mut morphism, types)?;
+    fill_map(store, &mut morphism, types, symbols, first, others)?;
     Ok(morphism)
 }

@@ -81,6 +81,26 @@ fn check_type(
     check_form(alloc, ty, &world)
 }
 
+// The entries of the tuples of a type, after those of the signature.
+fn enter_tuples(
+    alloc: Global,
+    store: &mut Store,
+    sig: &mut Signature,
+    ty: &TypeTree,
+) -> Result<(), AllocError>
+    requires { IsSignature store.old sig.old.symbols }
+    ensures entries { OnOk result (IsExtended store.old sig.old store.new sig.new
+        (type_tuples (symbols_at store.old sig.old.symbols) (type_expression_of ty.now))) }
+    ensures grows { Grows store.old store.new }
+{
+    let mut seen = Seen {
+        vars: Seq::new(alloc),
+        widths: Seq::new(alloc),
+    };
+    enter_form(alloc, &mut seen, ty)?;
+    push_tuples(alloc, store, sig, seen.widths.as_slice())
+}
+
 // The type that a form stands for with these type variables, and the entries of its tuples.
 fn make_type(
     alloc: Global,
@@ -104,12 +124,7 @@ fn make_type(
         (type_expression_of ty.now) ≡ None → TyVarsBelow (length vars.now) (tree_at store.new id)) }
     ensures grows { Grows store.old store.new }
 {
-    let mut seen = Seen {
-        vars: Seq::new(alloc),
-        widths: Seq::new(alloc),
-    };
-    enter_form(alloc, &mut seen, ty)?;
-    push_tuples(alloc, store, sig, seen.widths.as_slice())?;
+    enter_tuples(alloc, store, sig, ty)?;
     let world = world_over(sig, scope, vars, false);
     type_of_form(alloc, store, &world, ty)
 }

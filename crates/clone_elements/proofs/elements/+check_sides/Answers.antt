@@ -1,17 +1,19 @@
-use Rattle.std.proofs.Common.{◌≡◌, ◌∷◌, inl, suc, List, All, None, get_or, length, ap, subst, ◌∙◌, arith}
+use Rattle.std.proofs.Common.{◌≡◌, ◌∷◌, inl, suc, List, All, None, get_or, length, ap, subst, ◌∙◌, arith, inr, Some, refl}
 use Rattle.std.proofs.lemmas.Result.{IfOk-weaker}
+use Rattle.trees.proofs.Nodes.{Grows_refl, Grows_trans}
 use Rattle.trees.specs.Tree.{Tree}
 use Rattle.trees.specs.Node.{Grows}
 use Rattle.tasks.specs.Meaning.{symbols_at}
 use Rattle.tasks.proofs.Growth.{decl_held_later}
+use Rattle.elab_parts.proofs.Entering.{entries_stay, signature_grows}
 use Rattle.clones.specs.Meaning.{map_at}
 use Rattle.clones.proofs.Steps.{map_held, map_stays, known_on}
-use Rattle.elab_parts.proofs.Entering.{entries_stay, signature_grows}
 use Rattle.clone_elements.specs.declared.plans.Side.{Side as CodeSide}
 use Rattle.clone_elements.specs.Plans.{SideTree, with_side, with_sides}
 use Rattle.clone_elements.specs.Elements.{SideTold}
 use Rattle.clone_elements.specs.Origins.{origin_at}
 use Rattle.clone_elements.specs.Meaning.{side_at, sides_at, SideHeld, fates_at}
+use Rattle.clone_elements.proofs.Compared.{no_value}
 use Rattle.clone_elements.proofs.Growing.{sides_stay, sides_grow}
 use Rattle.clone_elements.proofs.Told.{told_moved, origin_stays}
 use Rattle.clone_elements.proofs.elements.+check_sides.Goals as goal
@@ -65,3 +67,47 @@ returns-in_ok-enter_side-in-None-clause-fates t c =
     let rest = c.in-Some.rest.now in
     let held = tail_held s c.args.sides.now rest first c.in-Some.ensures.cases.0 c.requires.sides in
     rw c.in-Some.ensures.cases.0 (IfOk-weaker c.check_sides.result _ _ (λ it g e. g e ∙ (ap (λ (z : List SideTree). with_sides z (fates_at c.enter_side.new.fates)) (sides_stay s s1 c.check_side.ensures.grows rest held) ∙ ap (with_sides (sides_at s rest)) (c.in_ok-enter_side-in-None.ensures s))) c.check_sides.ensures.fates)
+
+pub check_side-requires-clause-trial : goal.check_side-requires-clause-trial
+check_side-requires-clause-trial t c = c.requires.trial
+
+pub check_side-requires-clause-known : goal.check_side-requires-clause-known
+check_side-requires-clause-known t c = c.requires.known
+
+pub returns-in_err-token-clause-told : goal.returns-in_err-token-clause-told
+returns-in_err-token-clause-told t c = no_value _ _ c.from_residual.result c.from_residual.ensures.1
+
+pub returns-in_err-token-clause-fates : goal.returns-in_err-token-clause-fates
+returns-in_err-token-clause-fates t c = no_value _ _ c.from_residual.result c.from_residual.ensures.1
+
+pub returns-in_err-token-clause-grows : goal.returns-in_err-token-clause-grows
+returns-in_err-token-clause-grows t c = c.check_side.ensures.grows
+
+pub returns-in_err-enter_side-in-None-clause-told : goal.returns-in_err-enter_side-in-None-clause-told
+returns-in_err-enter_side-in-None-clause-told t c = no_value _ _ c.from_residual-in_err-enter_side-in-None.result c.from_residual-in_err-enter_side-in-None.ensures.1
+
+pub returns-in_err-enter_side-in-None-clause-fates : goal.returns-in_err-enter_side-in-None-clause-fates
+returns-in_err-enter_side-in-None-clause-fates t c = no_value _ _ c.from_residual-in_err-enter_side-in-None.result c.from_residual-in_err-enter_side-in-None.ensures.1
+
+pub returns-in_err-enter_side-in-None-clause-grows : goal.returns-in_err-enter_side-in-None-clause-grows
+returns-in_err-enter_side-in-None-clause-grows t c = c.check_side.ensures.grows
+
+pub returns-in_ok-enter_side-in-None-clause-grows : goal.returns-in_ok-enter_side-in-None-clause-grows
+returns-in_ok-enter_side-in-None-clause-grows t c = Grows_trans c.args.store.now c.check_side.new.store c.check_sides.new.store c.check_side.ensures.grows c.check_sides.ensures.grows
+
+pub returns-in_default-clause-grows : goal.returns-in_default-clause-grows
+returns-in_default-clause-grows t c = Grows_refl c.args.store.now
+
+pub returns-in-Some-2-clause-grows : goal.returns-in-Some-2-clause-grows
+returns-in-Some-2-clause-grows t c = c.check_side.ensures.grows
+
+pub returns-in-Some-2-clause-fates : goal.returns-in-Some-2-clause-fates
+returns-in-Some-2-clause-fates t c = λ e. absurd (cc)
+
+pub returns-in-Some-2-clause-told : goal.returns-in-Some-2-clause-told
+returns-in-Some-2-clause-told t c =
+    let s = c.args.store.now in
+    let x = c.args.trial.now in
+    let told : SideTold (symbols_at s x.sig.now.symbols) (origin_at s x.source.now) (map_at s x.morphism.now) (fates_at c.args.fates.now) (side_at s c.in-Some.first.now) (Some c.in-Some-2.token) =
+    subst (SideTold (symbols_at s x.sig.now.symbols) (origin_at s x.source.now) (map_at s x.morphism.now) (fates_at c.args.fates.now) (side_at s c.in-Some.first.now)) c.in-Some-2.is c.in_ok-token.ensures.told in
+    rw c.in-Some.ensures.cases.0 (inr (c.in-Some-2.token, refl, told))

@@ -3,13 +3,13 @@ use Rattle.std.proofs.lemmas.Result.{IfOk-weaker, on_ok_weaker}
 use Rattle.trees.specs.declared.TermId.{TermId}
 use Rattle.trees.specs.Tree.{Tree}
 use Rattle.trees.specs.Node.{tree_at, Holds, Grows}
-use Rattle.trees.proofs.Nodes.{Grows_trans}
+use Rattle.trees.proofs.Nodes.{Grows_trans, Grows_refl}
 use Rattle.tasks.specs.Meaning.{trees_at}
 use Rattle.tasks.proofs.Growth.{tree_later, trees_later, all_held_later}
 use Rattle.clones.specs.Mapped.{Map, mapped}
 use Rattle.clones.specs.Meaning.{map_at}
 use Rattle.clones.proofs.Steps.{map_held, map_stays, known_on, known_back}
-use Rattle.clone_elements.proofs.Compared.{cons_tells}
+use Rattle.clone_elements.proofs.Compared.{cons_tells, no_ok, no_value}
 use Rattle.clone_elements.proofs.elements.+same_types.Goals as goal
 
 tail_held : (s : List Tree) (xs ys : List TermId) (y : TermId) → xs ≡ y ∷ ys → All (Holds s) xs → All (Holds s) ys
@@ -81,3 +81,18 @@ returns-else-same-clause-known t c = c.in_ok-made.ensures.known
 
 pub returns-else-same-clause-grows : goal.returns-else-same-clause-grows
 returns-else-same-clause-grows t c = c.map_tree.ensures.grows
+
+pub returns-in_default-clause-grows : goal.returns-in_default-clause-grows
+returns-in_default-clause-grows t c = Grows_refl c.args.store.now
+
+pub returns-in_default-split_first-clause-grows : goal.returns-in_default-split_first-clause-grows
+returns-in_default-split_first-clause-grows t c = Grows_refl c.args.store.now
+
+pub returns-in_err-made-clause-same : goal.returns-in_err-made-clause-same
+returns-in_err-made-clause-same t c = no_value _ _ c.from_residual.result c.from_residual.ensures.1
+
+pub returns-in_err-made-clause-known : goal.returns-in_err-made-clause-known
+returns-in_err-made-clause-known t c = no_ok _ _ c.from_residual.result c.from_residual.ensures.1
+
+pub returns-in_err-made-clause-grows : goal.returns-in_err-made-clause-grows
+returns-in_err-made-clause-grows t c = c.map_tree.ensures.grows

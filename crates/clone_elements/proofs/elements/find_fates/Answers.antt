@@ -1,6 +1,7 @@
 use Rattle.std.proofs.Common.{◌≡◌, [], ℕ, List, None, length, sym, ap, subst, ◌∙◌}
 use Rattle.std.specs.Prelude.{OnOk, IfErr}
 use Rattle.std.proofs.Math.ListN.{length-map}
+use Rattle.trees.proofs.Nodes.{Grows_refl}
 use Rattle.trees.specs.Tree.{Tree}
 use Rattle.tasks.specs.Task.{SymbolTree}
 use Rattle.tasks.specs.Meaning.{symbol_at, symbols_at}
@@ -11,7 +12,7 @@ use Rattle.clone_elements.specs.Plans.{SideTree, no_fates, kept, map_of, tried_m
 use Rattle.clone_elements.specs.Elements.{SidesTold}
 use Rattle.clone_elements.specs.Origins.{origin_at}
 use Rattle.clone_elements.specs.Meaning.{sides_at, IsElementRefused}
-use Rattle.clone_elements.proofs.Compared.{no_ok, no_value}
+use Rattle.clone_elements.proofs.Compared.{no_ok}
 use Rattle.clone_elements.proofs.elements.find_fates.Goals as goal
 
 -- the map over these types is the one by which signatures are compared
@@ -61,4 +62,10 @@ pub returns-in_err-morphism-clause-right : goal.returns-in_err-morphism-clause-r
 returns-in_err-morphism-clause-right c = no_ok _ _ c.from_residual.result c.from_residual.ensures.1
 
 pub returns-in_err-morphism-clause-fates : goal.returns-in_err-morphism-clause-fates
-returns-in_err-morphism-clause-fates c = no_value _ _ c.from_residual.result c.from_residual.ensures.1
+returns-in_err-morphism-clause-fates c = no_ok _ _ c.from_residual.result c.from_residual.ensures.1
+
+pub returns-in_err-morphism-clause-grows : goal.returns-in_err-morphism-clause-grows
+returns-in_err-morphism-clause-grows c = Grows_refl c.args.store.now
+
+pub check_elements-requires-clause-none : goal.check_elements-requires-clause-none
+check_elements-requires-clause-none c = c.requires.none

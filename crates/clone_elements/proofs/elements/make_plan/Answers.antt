@@ -1,12 +1,13 @@
 use Rattle.std.proofs.Common.{◌≡◌, ◌++◌, [], ℕ, List, All, sym, ap, subst, ◌∙◌}
+use Rattle.trees.proofs.Nodes.{Grows_refl}
 use Rattle.tasks.specs.Meaning.{symbols_at}
 use Rattle.clone_elements.specs.declared.plans.TypeFor.{TypeFor}
 use Rattle.clone_elements.specs.Plans.{tried_map, symbols_replaced}
 use Rattle.clone_elements.specs.Origins.{origin_at}
 use Rattle.clone_elements.specs.Meaning.{sides_at, type_pairs_at, symbol_pairs, TypeForHeld, IsElementRefused}
-use Rattle.clone_elements.proofs.Compared.{err_passed}
+use Rattle.clone_elements.proofs.Looked.{empty_fates}
 use Rattle.clone_elements.proofs.Growing.{types_for_stay, types_for_grow}
-use Rattle.clone_elements.proofs.Compared.{no_ok, no_value}
+use Rattle.clone_elements.proofs.Compared.{err_passed, no_ok, no_value}
 use Rattle.clone_elements.proofs.elements.make_plan.Goals as goal
 
 pub find_fates-requires-clause-signature : goal.find_fates-requires-clause-signature
@@ -24,19 +25,19 @@ find_fates-requires-clause-types c = ap (type_pairs_at c.args.store.now) c.as_sl
 pub find_fates-requires-clause-sides : goal.find_fates-requires-clause-sides
 find_fates-requires-clause-sides c = c.requires.sides
 
-pub returns-in_err-fates-clause-err : goal.returns-in_err-fates-clause-err
-returns-in_err-fates-clause-err c =
+pub returns-in_err-find_fates-clause-err : goal.returns-in_err-find_fates-clause-err
+returns-in_err-find_fates-clause-err c =
     let s = c.args.store.now in
     let symbols = symbols_at s c.args.sig.now.symbols in
     let o = origin_at s c.args.source.now in
     let xs = sides_at s c.args.sides.now in
-    err_passed (IsElementRefused symbols o (tried_map symbols o xs) xs) c.from_residual-in_err-fates.result c.in_err-fates.field-0.0 c.from_residual-in_err-fates.ensures.1 c.in_err-fates.ensures.err
+    err_passed (IsElementRefused symbols o (tried_map symbols o xs) xs) c.from_residual-in_err-find_fates.result c.in_err-find_fates.field-0.0 c.from_residual-in_err-find_fates.ensures.1 c.in_err-find_fates.ensures.err
 
-pub returns-in_err-fates-clause-grows : goal.returns-in_err-fates-clause-grows
-returns-in_err-fates-clause-grows c = c.find_fates.ensures.grows
+pub returns-in_err-find_fates-clause-grows : goal.returns-in_err-find_fates-clause-grows
+returns-in_err-find_fates-clause-grows c = c.find_fates.ensures.grows
 
 pub returns-clause-right : goal.returns-clause-right
-returns-clause-right c = c.in_ok-fates.ensures.right
+returns-clause-right c = c.in_ok-find_fates.ensures.right
 
 pub returns-clause-plan : goal.returns-clause-plan
 returns-clause-plan c =
@@ -51,7 +52,7 @@ returns-clause-plan c =
       types = types_for_stay s s2 w ids held ∙ c.in_ok-types.ensures.types s;
       held = types_for_grow s s2 w ids held;
       symbols = c.in_ok-push_symbols.ensures s ∙ ap (λ (z : List (ℕ × ℕ)). z ++ symbols_replaced o (sides_at s c.args.sides.now)) none;
-      fates = c.in_ok-fates.ensures.fates;
+      fates = c.in_ok-find_fates.ensures.fates;
       all = c.has_all.ensures s;
     }
 
@@ -70,8 +71,20 @@ returns-in_err-push_symbols-clause-right c = no_ok _ _ c.from_residual-in_err-pu
 pub returns-in_err-push_symbols-clause-plan : goal.returns-in_err-push_symbols-clause-plan
 returns-in_err-push_symbols-clause-plan c = no_value _ _ c.from_residual-in_err-push_symbols.result c.from_residual-in_err-push_symbols.ensures.1
 
-pub returns-in_err-fates-clause-right : goal.returns-in_err-fates-clause-right
-returns-in_err-fates-clause-right c = no_ok _ _ c.from_residual-in_err-fates.result c.from_residual-in_err-fates.ensures.1
+pub returns-in_err-find_fates-clause-right : goal.returns-in_err-find_fates-clause-right
+returns-in_err-find_fates-clause-right c = no_ok _ _ c.from_residual-in_err-find_fates.result c.from_residual-in_err-find_fates.ensures.1
 
-pub returns-in_err-fates-clause-plan : goal.returns-in_err-fates-clause-plan
-returns-in_err-fates-clause-plan c = no_value _ _ c.from_residual-in_err-fates.result c.from_residual-in_err-fates.ensures.1
+pub returns-in_err-find_fates-clause-plan : goal.returns-in_err-find_fates-clause-plan
+returns-in_err-find_fates-clause-plan c = no_value _ _ c.from_residual-in_err-find_fates.result c.from_residual-in_err-find_fates.ensures.1
+
+pub returns-in_err-types-clause-grows : goal.returns-in_err-types-clause-grows
+returns-in_err-types-clause-grows c = Grows_refl c.args.store.now
+
+pub returns-in_err-push_symbols-clause-grows : goal.returns-in_err-push_symbols-clause-grows
+returns-in_err-push_symbols-clause-grows c = Grows_refl c.args.store.now
+
+pub returns-clause-err : goal.returns-clause-err
+returns-clause-err c = tt
+
+pub find_fates-requires-clause-none : goal.find_fates-requires-clause-none
+find_fates-requires-clause-none c = empty_fates c.new-fates.result c.new-fates.ensures.empty

@@ -53,3 +53,6 @@ returns-in_err-same-clause-same c = no_value _ _ c.from_residual.result c.from_r
 
 pub returns-in_err-same-clause-known : goal.returns-in_err-same-clause-known
 returns-in_err-same-clause-known c = no_ok _ _ c.from_residual.result c.from_residual.ensures.1
+
+pub returns-in_err-same-clause-grows : goal.returns-in_err-same-clause-grows
+returns-in_err-same-clause-grows c = c.same_signature.ensures.grows

@@ -65,3 +65,9 @@ returns-in_err-results-clause-same c = no_value _ _ c.from_residual-in_err-resul
 
 pub returns-in_err-results-clause-known : goal.returns-in_err-results-clause-known
 returns-in_err-results-clause-known c = no_ok _ _ c.from_residual-in_err-results.result c.from_residual-in_err-results.ensures.1
+
+pub returns-in_err-args-clause-grows : goal.returns-in_err-args-clause-grows
+returns-in_err-args-clause-grows c = c.same_types.ensures.grows
+
+pub returns-in_err-results-clause-grows : goal.returns-in_err-results-clause-grows
+returns-in_err-results-clause-grows c = Grows_trans c.args.store.now c.same_types.new.store c.same_result.new.store c.same_types.ensures.grows c.same_result.ensures.grows

@@ -3,7 +3,6 @@ use Rattle.std.proofs.lemmas.Result.{IfOk-weaker}
 use Rattle.clone_elements.specs.Plans.{no_fates, kept, map_of}
 use Rattle.clone_elements.specs.Origins.{origin_at}
 use Rattle.clone_elements.specs.Meaning.{type_pairs_at}
-use Rattle.clone_elements.proofs.Looked.{empty_fates}
 use Rattle.clone_elements.proofs.Compared.{no_value}
 use Rattle.clone_elements.proofs.elements.tried_map.Goals as goal
 
@@ -12,7 +11,7 @@ returns-clause-is c =
     let s = c.args.store.now in
     let ts = type_pairs_at s c.args.types.now in
     let o = origin_at s c.args.source.now in
-    let all : c.as_slice.result.now ≡ kept o no_fates = c.as_slice.ensures.value ∙ (c.in_ok-all.ensures s ∙ ap (kept o) (empty_fates c.new-none.result c.new-none.ensures.empty)) in
+    let all : c.as_slice.result.now ≡ kept o no_fates = c.as_slice.ensures.value ∙ c.in_ok-all.ensures s in
     IfOk-weaker c.map_of.result _ _ (λ m h. h ∙ (ap (λ (n : ℕ). map_of ts [] n c.as_slice.result.now) c.len.ensures ∙ ap (map_of ts [] _) all)) c.map_of.ensures.is
 
 pub returns-in_err-all-clause-is : goal.returns-in_err-all-clause-is
@@ -20,3 +19,6 @@ returns-in_err-all-clause-is c = no_value _ _ c.from_residual.result c.from_resi
 
 pub returns-in_err-all-clause-held : goal.returns-in_err-all-clause-held
 returns-in_err-all-clause-held c = no_value _ _ c.from_residual.result c.from_residual.ensures.1
+
+pub returns-clause-held : goal.returns-clause-held
+returns-clause-held c = c.map_of.ensures.held

@@ -6,6 +6,7 @@ use Rattle.syntax_why.specs.SurfaceDeclarations.{element_of}
 use Rattle.clone_elements.specs.Plans.{PlacedFates, type_for, with_side, replaced_types}
 use Rattle.clone_elements.specs.Origins.{origin_at}
 use Rattle.clone_elements.specs.Meaning.{right_at, side_at, sides_at, fates_at, type_pairs_at}
+use Rattle.clone_elements.proofs.Compared.{no_ok}
 use Rattle.clone_elements.proofs.plans.+push_types.Goals as goal
 
 pub returns-clause-types : goal.returns-clause-types
@@ -24,3 +25,15 @@ returns-clause-types t c =
 
 pub returns-clause-held : goal.returns-clause-held
 returns-clause-held t c = rw c.in-Some.ensures.cases.0 (on_ok_weaker c.push_types.result (λ h s a b. h s (c.in_ok-push_type.ensures.held s a (b 0 c.in-Some.first.now (omega arith)).right) (λ k d l. b (suc k) d (omega arith))) c.push_types.ensures.held)
+
+pub returns-in_err-push_type-clause-types : goal.returns-in_err-push_type-clause-types
+returns-in_err-push_type-clause-types t c = no_ok _ _ c.from_residual.result c.from_residual.ensures.1
+
+pub returns-in_err-push_type-clause-held : goal.returns-in_err-push_type-clause-held
+returns-in_err-push_type-clause-held t c = no_ok _ _ c.from_residual.result c.from_residual.ensures.1
+
+pub returns-in_err-enter_side-clause-types : goal.returns-in_err-enter_side-clause-types
+returns-in_err-enter_side-clause-types t c = no_ok _ _ c.from_residual-in_err-enter_side.result c.from_residual-in_err-enter_side.ensures.1
+
+pub returns-in_err-enter_side-clause-held : goal.returns-in_err-enter_side-clause-held
+returns-in_err-enter_side-clause-held t c = no_ok _ _ c.from_residual-in_err-enter_side.result c.from_residual-in_err-enter_side.ensures.1

@@ -2,7 +2,14 @@ use Rattle.std.proofs.Common.{ap, ◌∙◌}
 use Rattle.std.proofs.lemmas.Result.{on_ok_weaker}
 use Rattle.clone_elements.specs.Plans.{with_symbols}
 use Rattle.clone_elements.specs.Meaning.{symbol_pairs}
+use Rattle.clone_elements.proofs.Compared.{no_ok}
 use Rattle.clone_elements.proofs.plans.+put_symbols.Goals as goal
 
 pub returns-clause-is : goal.returns-clause-is
 returns-clause-is t c = rw c.in-Some.ensures.cases.0 (on_ok_weaker c.put_symbols.result (λ h s. h s ∙ ap (with_symbols (symbol_pairs c.in-Some.rest.now)) (c.in_ok-put_symbol.ensures.is s)) c.put_symbols.ensures.is)
+
+pub returns-in_err-put_symbol-clause-is : goal.returns-in_err-put_symbol-clause-is
+returns-in_err-put_symbol-clause-is t c = no_ok _ _ c.from_residual.result c.from_residual.ensures.1
+
+pub returns-in_err-put_symbol-clause-held : goal.returns-in_err-put_symbol-clause-held
+returns-in_err-put_symbol-clause-held t c = no_ok _ _ c.from_residual.result c.from_residual.ensures.1

@@ -2,11 +2,12 @@ use Rattle.std.proofs.Common.{◌≡◌, ◌∷◌, suc, List, All, length, ap, 
 use Rattle.std.proofs.lemmas.Result.{on_ok_weaker}
 use Rattle.trees.specs.Tree.{Tree}
 use Rattle.trees.specs.Node.{tree_at}
-use Rattle.clones.specs.Meaning.{map_at}
 use Rattle.elab_walk.specs.Drafts.{HoldsType}
+use Rattle.clones.specs.Meaning.{map_at}
 use Rattle.clone_elements.specs.declared.plans.TypeFor.{TypeFor}
 use Rattle.clone_elements.specs.Plans.{with_type, with_mapped_types}
 use Rattle.clone_elements.specs.Meaning.{type_pairs_at, TypeForHeld}
+use Rattle.clone_elements.proofs.Compared.{no_ok}
 use Rattle.clone_elements.proofs.plans.+put_types.Goals as goal
 
 first_held : (s : List Tree) (ps qs : List TypeFor) (p : TypeFor) → ps ≡ p ∷ qs → All (TypeForHeld s) ps → HoldsType s p.ty
@@ -33,3 +34,9 @@ returns-clause-is t c =
 
 pub returns-clause-held : goal.returns-clause-held
 returns-clause-held t c = on_ok_weaker c.put_types.result (λ h m. h (c.in_ok-add_type.ensures.held m)) c.put_types.ensures.held
+
+pub returns-in_err-add_type-clause-is : goal.returns-in_err-add_type-clause-is
+returns-in_err-add_type-clause-is t c = no_ok _ _ c.from_residual.result c.from_residual.ensures.1
+
+pub returns-in_err-add_type-clause-held : goal.returns-in_err-add_type-clause-held
+returns-in_err-add_type-clause-held t c = no_ok _ _ c.from_residual.result c.from_residual.ensures.1

@@ -1,5 +1,6 @@
 use Rattle.std.proofs.Common.{◌++◌, ◌+◌, ℕ, List, drop, get_or, sym, ap, ◌∙◌, append_assoc}
-use Rattle.std.proofs.lemmas.List.{at_drop_more}
+use Rattle.std.proofs.lemmas.List.{at_drop_more, at_drop_all}
+use mathlib.Core.List.{append-nil}
 use Rattle.clone_elements.specs.Plans.{kept_at, kept_of}
 use Rattle.clone_elements.specs.Origins.{origin_at}
 use Rattle.clone_elements.specs.Meaning.{fates_at}
@@ -18,3 +19,12 @@ loop-place-preserved c = λ s.
 
 pub returns-in_err-push_kept : goal.returns-in_err-push_kept
 returns-in_err-push_kept c = no_value _ _ c.from_residual.result c.from_residual.ensures.1
+
+pub loop-place-init : goal.loop-place-init
+loop-place-init c =
+    λ s. ap (λ (z : List ℕ). z ++ kept_of (origin_at s c.args.source.now) (fates_at c.args.fates.now) c.args.source.now.own.now) c.new-out.ensures.items
+
+pub returns : goal.returns
+returns c =
+    λ s. let out = c.loop-place.out.items in
+    sym (append-nil out) ∙ (sym (at_drop_all (λ (ys : List ℕ). out ++ kept_of (origin_at s c.args.source.now) (fates_at c.args.fates.now) ys) c.args.source.now.own.now c.loop-place.place-index c.loop-place-test.false) ∙ c.loop-place.invariant s)

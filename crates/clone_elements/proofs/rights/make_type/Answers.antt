@@ -1,106 +1,77 @@
-use Rattle.std.proofs.Common.{◌≡◌, ℕ, ◌++◌, List, length, sym, ap, subst, ◌∙◌}
+use Rattle.std.proofs.Common.{◌≡◌, ◌++◌, List, length, sym, ap, subst, ◌∙◌}
 use Rattle.std.proofs.lemmas.Result.{IfOk-weaker}
-use Rattle.trees.proofs.Nodes.{Grows_refl, Grows_trans}
+use Rattle.trees.proofs.Nodes.{Grows_trans}
 use Rattle.trees.specs.Facts.{TyVarsBelow}
 use Rattle.tasks.specs.Task.{SymbolTree}
 use Rattle.tasks.specs.Meaning.{symbols_at}
 use Rattle.elab_names.specs.Abstract.{type_expression_of}
 use Rattle.elab_names.specs.Naming.{where_at}
 use Rattle.elab_names.specs.Where.{Where}
-use Rattle.elab_variables.specs.Seen.{SeenTree, form_seen}
-use Rattle.elab_variables.specs.Entered.{seen_at}
 use Rattle.elab_walk.specs.Pieces.{type_at}
-use Rattle.elab_parts.specs.Entries.{wanting_tuples, IsExtended}
 use Rattle.elab_parts.specs.Outcomes.{over}
 use Rattle.elab_parts.proofs.Entering.{extended_grows}
 use Rattle.elab_parts.proofs.Tupled.{over_extended, form_within, scopes_extended}
-use Rattle.elab_parts.specs.Elaborated.{unseen}
+use Rattle.clone_elements.specs.Rights.{type_tuples}
 use Rattle.clone_elements.proofs.Compared.{always, no_ok, no_value}
 use Rattle.clone_elements.proofs.rights.make_type.Goals as goal
 
+pub enter_tuples-requires : goal.enter_tuples-requires
+enter_tuples-requires c = c.requires.signature
+
 pub returns-clause-entries : goal.returns-clause-entries
-returns-clause-entries c =
-    let s = c.args.store.now in
-    let g = c.args.sig.now in
-    let f = type_expression_of c.args.ty.now in
-    let q : seen_at c.enter_form.new.seen ≡ form_seen unseen f = rw (c.new.ensures, c.new-2.ensures) at c.in_ok-enter_form.ensures in
-    let ext = subst (λ (ws : List ℕ). IsExtended s g c.push_tuples.new.store c.push_tuples.new.sig (wanting_tuples (symbols_at s g.symbols) ws)) (c.as_slice.ensures ∙ ap (λ (v : SeenTree). v.widths) q) c.in_ok-push_tuples.ensures.entries in
-    always c.type_of_form.result (extended_grows (wanting_tuples (symbols_at s g.symbols) (form_seen unseen f).widths) c.type_of_form.ensures.grows ext)
+returns-clause-entries c = always c.type_of_form.result (extended_grows (type_tuples (symbols_at c.args.store.now c.args.sig.now.symbols) (type_expression_of c.args.ty.now)) c.type_of_form.ensures.grows c.in_ok-enter_tuples.ensures.entries)
 
 pub returns-clause-tree : goal.returns-clause-tree
 returns-clause-tree c =
     let s = c.args.store.now in
-    let s1 = c.push_tuples.new.store in
+    let s1 = c.enter_tuples.new.store in
     let g = c.args.sig.now in
-    let g1 = c.push_tuples.new.sig in
     let names = c.args.scope.now in
     let vars = c.args.vars.now in
     let f = type_expression_of c.args.ty.now in
-    let more : List SymbolTree = wanting_tuples (symbols_at s g.symbols) (form_seen unseen f).widths in
-    let q : seen_at c.enter_form.new.seen ≡ form_seen unseen f = rw (c.new.ensures, c.new-2.ensures) at c.in_ok-enter_form.ensures in
-    let ext : IsExtended s g s1 g1 more = subst (λ (ws : List ℕ). IsExtended s g s1 g1 (wanting_tuples (symbols_at s g.symbols) ws)) (c.as_slice.ensures ∙ ap (λ (v : SeenTree). v.widths) q) c.in_ok-push_tuples.ensures.entries in
-    let is : where_at s1 c.world_over-world.result ≡ over s (symbols_at s g.symbols ++ more) names vars = c.world_over-world.ensures.names s1 ∙ over_extended s s1 c.push_tuples.ensures.grows g g1 more names c.requires.signature c.requires.scopes ext vars in
+    let more : List SymbolTree = type_tuples (symbols_at s g.symbols) f in
+    let is : where_at s1 c.world_over-world.result ≡ over s (symbols_at s g.symbols ++ more) names vars =
+    c.world_over-world.ensures.names s1 ∙ over_extended s s1 c.enter_tuples.ensures.grows g c.enter_tuples.new.sig more names c.requires.signature c.requires.scopes c.in_ok-enter_tuples.ensures.entries vars in
     IfOk-weaker c.type_of_form.result _ _ (λ id h. h ∙ ap (λ (v : Where). type_at v f) is) c.type_of_form.ensures.tree
 
 pub returns-clause-below : goal.returns-clause-below
 returns-clause-below c =
     let s = c.args.store.now in
-    let s1 = c.push_tuples.new.store in
+    let s1 = c.enter_tuples.new.store in
     let g = c.args.sig.now in
-    let g1 = c.push_tuples.new.sig in
+    let g1 = c.enter_tuples.new.sig in
     let names = c.args.scope.now in
     let vars = c.args.vars.now in
     let f = type_expression_of c.args.ty.now in
-    let more : List SymbolTree = wanting_tuples (symbols_at s g.symbols) (form_seen unseen f).widths in
-    let q : seen_at c.enter_form.new.seen ≡ form_seen unseen f = rw (c.new.ensures, c.new-2.ensures) at c.in_ok-enter_form.ensures in
-    let ext : IsExtended s g s1 g1 more = subst (λ (ws : List ℕ). IsExtended s g s1 g1 (wanting_tuples (symbols_at s g.symbols) ws)) (c.as_slice.ensures ∙ ap (λ (v : SeenTree). v.widths) q) c.in_ok-push_tuples.ensures.entries in
-    let is : where_at s1 c.world_over-world.result ≡ over s (symbols_at s g.symbols ++ more) names vars = c.world_over-world.ensures.names s1 ∙ over_extended s s1 c.push_tuples.ensures.grows g g1 more names c.requires.signature c.requires.scopes ext vars in
-    IfOk-weaker c.type_of_form.result _ _ (λ id h right. subst (TyVarsBelow (length vars)) (sym (h ∙ ap (λ (v : Where). type_at v f) is)) (form_within s s1 c.push_tuples.ensures.grows g g1 more names c.requires.signature c.requires.scopes ext vars f right)) c.type_of_form.ensures.tree
-
-pub push_tuples-requires : goal.push_tuples-requires
-push_tuples-requires c = c.requires.signature
+    let more : List SymbolTree = type_tuples (symbols_at s g.symbols) f in
+    let ext = c.in_ok-enter_tuples.ensures.entries in
+    let is : where_at s1 c.world_over-world.result ≡ over s (symbols_at s g.symbols ++ more) names vars = c.world_over-world.ensures.names s1 ∙ over_extended s s1 c.enter_tuples.ensures.grows g g1 more names c.requires.signature c.requires.scopes ext vars in
+    IfOk-weaker c.type_of_form.result _ _ (λ id h right. subst (TyVarsBelow (length vars)) (sym (h ∙ ap (λ (v : Where). type_at v f) is)) (form_within s s1 c.enter_tuples.ensures.grows g g1 more names c.requires.signature c.requires.scopes ext vars f right)) c.type_of_form.ensures.tree
 
 pub type_of_form-requires : goal.type_of_form-requires
 type_of_form-requires c =
     let s = c.args.store.now in
-    let s1 = c.push_tuples.new.store in
-    let g = c.args.sig.now in
-    let g1 = c.push_tuples.new.sig in
-    let ext = c.in_ok-push_tuples.ensures.entries in
-    c.world_over-world.ensures.held s1 ext.signature (scopes_extended s s1 c.push_tuples.ensures.grows g g1 _ c.args.scope.now c.requires.signature c.requires.scopes ext)
+    let s1 = c.enter_tuples.new.store in
+    let ext = c.in_ok-enter_tuples.ensures.entries in
+    c.world_over-world.ensures.held s1 ext.signature (scopes_extended s s1 c.enter_tuples.ensures.grows c.args.sig.now c.enter_tuples.new.sig _ c.args.scope.now c.requires.signature c.requires.scopes ext)
 
 pub returns-clause-held : goal.returns-clause-held
 returns-clause-held c = c.type_of_form.ensures.held
 
 pub returns-clause-grows : goal.returns-clause-grows
-returns-clause-grows c = Grows_trans c.args.store.now c.push_tuples.new.store c.type_of_form.new.store c.push_tuples.ensures.grows c.type_of_form.ensures.grows
+returns-clause-grows c = Grows_trans c.args.store.now c.enter_tuples.new.store c.type_of_form.new.store c.enter_tuples.ensures.grows c.type_of_form.ensures.grows
 
-pub returns-in_err-enter_form-clause-grows : goal.returns-in_err-enter_form-clause-grows
-returns-in_err-enter_form-clause-grows c = Grows_refl c.args.store.now
+pub returns-in_err-enter_tuples-clause-entries : goal.returns-in_err-enter_tuples-clause-entries
+returns-in_err-enter_tuples-clause-entries c = no_ok _ _ c.from_residual.result c.from_residual.ensures.1
 
-pub returns-in_err-push_tuples-clause-grows : goal.returns-in_err-push_tuples-clause-grows
-returns-in_err-push_tuples-clause-grows c = c.push_tuples.ensures.grows
+pub returns-in_err-enter_tuples-clause-held : goal.returns-in_err-enter_tuples-clause-held
+returns-in_err-enter_tuples-clause-held c = no_value _ _ c.from_residual.result c.from_residual.ensures.1
 
-pub returns-in_err-enter_form-clause-entries : goal.returns-in_err-enter_form-clause-entries
-returns-in_err-enter_form-clause-entries c = no_ok _ _ c.from_residual.result c.from_residual.ensures.1
+pub returns-in_err-enter_tuples-clause-tree : goal.returns-in_err-enter_tuples-clause-tree
+returns-in_err-enter_tuples-clause-tree c = no_value _ _ c.from_residual.result c.from_residual.ensures.1
 
-pub returns-in_err-enter_form-clause-held : goal.returns-in_err-enter_form-clause-held
-returns-in_err-enter_form-clause-held c = no_value _ _ c.from_residual.result c.from_residual.ensures.1
+pub returns-in_err-enter_tuples-clause-below : goal.returns-in_err-enter_tuples-clause-below
+returns-in_err-enter_tuples-clause-below c = no_value _ _ c.from_residual.result c.from_residual.ensures.1
 
-pub returns-in_err-enter_form-clause-tree : goal.returns-in_err-enter_form-clause-tree
-returns-in_err-enter_form-clause-tree c = no_value _ _ c.from_residual.result c.from_residual.ensures.1
-
-pub returns-in_err-enter_form-clause-below : goal.returns-in_err-enter_form-clause-below
-returns-in_err-enter_form-clause-below c = no_value _ _ c.from_residual.result c.from_residual.ensures.1
-
-pub returns-in_err-push_tuples-clause-entries : goal.returns-in_err-push_tuples-clause-entries
-returns-in_err-push_tuples-clause-entries c = no_ok _ _ c.from_residual-in_err-push_tuples.result c.from_residual-in_err-push_tuples.ensures.1
-
-pub returns-in_err-push_tuples-clause-held : goal.returns-in_err-push_tuples-clause-held
-returns-in_err-push_tuples-clause-held c = no_value _ _ c.from_residual-in_err-push_tuples.result c.from_residual-in_err-push_tuples.ensures.1
-
-pub returns-in_err-push_tuples-clause-tree : goal.returns-in_err-push_tuples-clause-tree
-returns-in_err-push_tuples-clause-tree c = no_value _ _ c.from_residual-in_err-push_tuples.result c.from_residual-in_err-push_tuples.ensures.1
-
-pub returns-in_err-push_tuples-clause-below : goal.returns-in_err-push_tuples-clause-below
-returns-in_err-push_tuples-clause-below c = no_value _ _ c.from_residual-in_err-push_tuples.result c.from_residual-in_err-push_tuples.ensures.1
+pub returns-in_err-enter_tuples-clause-grows : goal.returns-in_err-enter_tuples-clause-grows
+returns-in_err-enter_tuples-clause-grows c = c.enter_tuples.ensures.grows

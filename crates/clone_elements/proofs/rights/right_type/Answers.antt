@@ -1,3 +1,4 @@
+use Rattle.trees.proofs.Nodes.{Grows_refl}
 use Rattle.clone_elements.proofs.Compared.{no_ok, no_value}
 use Rattle.clone_elements.proofs.rights.right_type.Goals as goal
 
@@ -45,3 +46,30 @@ returns-in_err-id-clause-below c = no_value _ _ c.from_residual-in_err-id.result
 
 pub returns-in_err-id-clause-free : goal.returns-in_err-id-clause-free
 returns-in_err-id-clause-free c = no_ok _ _ c.from_residual-in_err-id.result c.from_residual-in_err-id.ensures.1
+
+pub returns-in_err-vars-clause-grows : goal.returns-in_err-vars-clause-grows
+returns-in_err-vars-clause-grows c = Grows_refl c.args.store.now
+
+pub returns-in_err-check_type-clause-grows : goal.returns-in_err-check_type-clause-grows
+returns-in_err-check_type-clause-grows c = Grows_refl c.args.store.now
+
+pub make_type-requires-clause-signature : goal.make_type-requires-clause-signature
+make_type-requires-clause-signature c = c.requires.signature
+
+pub make_type-requires-clause-scopes : goal.make_type-requires-clause-scopes
+make_type-requires-clause-scopes c = c.requires.scopes
+
+pub returns-in_err-id-clause-grows : goal.returns-in_err-id-clause-grows
+returns-in_err-id-clause-grows c = c.make_type.ensures.grows
+
+pub returns-clause-entries : goal.returns-clause-entries
+returns-clause-entries c = c.in_ok-id.ensures.entries
+
+pub returns-clause-held : goal.returns-clause-held
+returns-clause-held c = c.in_ok-id.ensures.held
+
+pub returns-clause-err : goal.returns-clause-err
+returns-clause-err c = tt
+
+pub returns-clause-grows : goal.returns-clause-grows
+returns-clause-grows c = c.make_type.ensures.grows

@@ -2,6 +2,7 @@ use Rattle.std.proofs.Common.{◌≡◌, ◌∷◌, ◌++◌, [], ℕ, List, Opt
 use Rattle.std.proofs.lemmas.List.{map-append}
 use Rattle.std.proofs.lemmas.List.Elements.{All-push}
 use Rattle.std.proofs.lemmas.Result.{on_ok_weaker}
+use Rattle.trees.proofs.Nodes.{Grows_refl, Grows_trans}
 use Rattle.tasks.specs.Task.{SymbolTree}
 use Rattle.tasks.specs.Meaning.{symbols_at}
 use Rattle.syntax_why.specs.Lexeme.{Word}
@@ -9,14 +10,17 @@ use Rattle.syntax_why.specs.Declarations.{Element}
 use Rattle.syntax_why.specs.SurfaceDeclarations.{element_of}
 use Rattle.elab_names.specs.Naming.{Tells}
 use Rattle.elab_names.proofs.Told.{of_rest}
+use Rattle.elab_parts.proofs.Entering.{extended_both}
+use Rattle.elab_parts.specs.Entries.{IsExtended}
 use Rattle.elab_parts.proofs.Overs.{some_entry}
 use Rattle.elab_parts.proofs.Tupled.{scopes_extended}
 use Rattle.clone_elements.specs.declared.plans.Side.{Side as CodeSide}
 use Rattle.clone_elements.specs.Left.{place_by, element_key}
-use Rattle.clone_elements.specs.Rights.{right_tuples, right_made, right_fault, rights_fault}
+use Rattle.clone_elements.specs.Rights.{right_tuples, right_made, right_fault, rights_fault, rights_tuples}
 use Rattle.clone_elements.specs.Plans.{SideTree, sides_made}
 use Rattle.clone_elements.specs.Origins.{place_at}
 use Rattle.clone_elements.specs.Meaning.{side_at, sides_at, SideHeld}
+use Rattle.clone_elements.proofs.Compared.{no_ok}
 use Rattle.clone_elements.proofs.Growing.{sides_stay, sides_grow}
 use Rattle.clone_elements.proofs.Sided.{sides_made_stay, rights_fault_stay}
 use Rattle.clone_elements.proofs.sides.+push_sides.Goals as goal
@@ -77,3 +81,65 @@ returns-clause-told t c =
     let later : rights_fault s1 (symbols_at s1 c.right_side.new.sig.symbols) names es ≡ rights_fault s (symbols ++ right_tuples symbols e) names es =
     ap (λ (z : List SymbolTree). rights_fault s1 z names es) ext.symbols ∙ rights_fault_stay s s1 c.right_side.ensures.grows (length c.args.sig.now.symbols) names c.requires.scopes (some_entry s c.args.sig.now.symbols c.requires.signature) (symbols ++ right_tuples symbols e) es in
     rw c.in-Some.ensures.cases.0 (of_rest c.push_sides.result (right_fault s symbols names e) (rights_fault s (symbols ++ right_tuples symbols e) names es) free (subst (Tells c.push_sides.result) later c.push_sides.ensures.told))
+
+pub returns-in_default-clause-grows : goal.returns-in_default-clause-grows
+returns-in_default-clause-grows t c = Grows_refl c.args.store.now
+
+pub right_side-requires-clause-signature : goal.right_side-requires-clause-signature
+right_side-requires-clause-signature t c = c.requires.signature
+
+pub right_side-requires-clause-scopes : goal.right_side-requires-clause-scopes
+right_side-requires-clause-scopes t c = c.requires.scopes
+
+pub returns-in_err-right-clause-entries : goal.returns-in_err-right-clause-entries
+returns-in_err-right-clause-entries t c = no_ok _ _ c.from_residual.result c.from_residual.ensures.1
+
+pub returns-in_err-right-clause-held : goal.returns-in_err-right-clause-held
+returns-in_err-right-clause-held t c = no_ok _ _ c.from_residual.result c.from_residual.ensures.1
+
+pub returns-in_err-right-clause-sides : goal.returns-in_err-right-clause-sides
+returns-in_err-right-clause-sides t c = no_ok _ _ c.from_residual.result c.from_residual.ensures.1
+
+pub returns-in_err-right-clause-grows : goal.returns-in_err-right-clause-grows
+returns-in_err-right-clause-grows t c = c.right_side.ensures.grows
+
+pub returns-in_err-left-clause-entries : goal.returns-in_err-left-clause-entries
+returns-in_err-left-clause-entries t c = no_ok _ _ c.from_residual-in_err-left.result c.from_residual-in_err-left.ensures.1
+
+pub returns-in_err-left-clause-held : goal.returns-in_err-left-clause-held
+returns-in_err-left-clause-held t c = no_ok _ _ c.from_residual-in_err-left.result c.from_residual-in_err-left.ensures.1
+
+pub returns-in_err-left-clause-sides : goal.returns-in_err-left-clause-sides
+returns-in_err-left-clause-sides t c = no_ok _ _ c.from_residual-in_err-left.result c.from_residual-in_err-left.ensures.1
+
+pub returns-in_err-left-clause-grows : goal.returns-in_err-left-clause-grows
+returns-in_err-left-clause-grows t c = c.right_side.ensures.grows
+
+pub returns-in_err-push-clause-entries : goal.returns-in_err-push-clause-entries
+returns-in_err-push-clause-entries t c = no_ok _ _ c.from_residual-in_err-push.result c.from_residual-in_err-push.ensures.1
+
+pub returns-in_err-push-clause-held : goal.returns-in_err-push-clause-held
+returns-in_err-push-clause-held t c = no_ok _ _ c.from_residual-in_err-push.result c.from_residual-in_err-push.ensures.1
+
+pub returns-in_err-push-clause-sides : goal.returns-in_err-push-clause-sides
+returns-in_err-push-clause-sides t c = no_ok _ _ c.from_residual-in_err-push.result c.from_residual-in_err-push.ensures.1
+
+pub returns-in_err-push-clause-grows : goal.returns-in_err-push-clause-grows
+returns-in_err-push-clause-grows t c = c.right_side.ensures.grows
+
+pub returns-clause-held : goal.returns-clause-held
+returns-clause-held t c = c.push_sides.ensures.held
+
+pub returns-clause-grows : goal.returns-clause-grows
+returns-clause-grows t c = Grows_trans c.args.store.now c.right_side.new.store c.push_sides.new.store c.right_side.ensures.grows c.push_sides.ensures.grows
+
+pub returns-clause-entries : goal.returns-clause-entries
+returns-clause-entries t c =
+    let s1 = c.right_side.new.store in
+    let first = c.in-Some.first in
+    let symbols = symbols_at c.args.store.now c.args.sig.now.symbols in
+    let es : List Element = map element_of c.in-Some.rest.now in
+    let more : List SymbolTree = right_tuples symbols (element_of first.now) in
+    let ext = c.in_ok-right.ensures.entries first.now.at in
+    rw c.in-Some.ensures.cases.0 (on_ok_weaker c.push_sides.result (λ h.
+    extended_both more (rights_tuples (symbols ++ more) es) ext (subst (λ (z : List SymbolTree). IsExtended s1 c.right_side.new.sig c.push_sides.new.store c.push_sides.new.sig (rights_tuples z es)) ext.symbols h)) c.push_sides.ensures.entries)

@@ -12,3 +12,27 @@ returns-in_err-push_sides-clause-sides c = no_value _ _ c.from_residual.result c
 
 pub returns-in_err-push_sides-clause-free : goal.returns-in_err-push_sides-clause-free
 returns-in_err-push_sides-clause-free c = no_ok _ _ c.from_residual.result c.from_residual.ensures.1
+
+pub push_sides-requires-clause-signature : goal.push_sides-requires-clause-signature
+push_sides-requires-clause-signature c = c.requires.signature
+
+pub push_sides-requires-clause-scopes : goal.push_sides-requires-clause-scopes
+push_sides-requires-clause-scopes c = c.requires.scopes
+
+pub returns-in_err-push_sides-clause-grows : goal.returns-in_err-push_sides-clause-grows
+returns-in_err-push_sides-clause-grows c = c.push_sides.ensures.grows
+
+pub returns-clause-entries : goal.returns-clause-entries
+returns-clause-entries c = c.in_ok-push_sides.ensures.entries
+
+pub returns-clause-held : goal.returns-clause-held
+returns-clause-held c = c.in_ok-push_sides.ensures.held
+
+pub returns-clause-free : goal.returns-clause-free
+returns-clause-free c = c.in_ok-push_sides.ensures.told
+
+pub returns-clause-err : goal.returns-clause-err
+returns-clause-err c = tt
+
+pub returns-clause-grows : goal.returns-clause-grows
+returns-clause-grows c = c.push_sides.ensures.grows
