@@ -1,34 +1,31 @@
 -- States without their trees: as the store grows, with one more declaration, axiom or goal.
-use Rattle.std.proofs.Common.{◌≡◌, ℕ, ◌+◌, ◌<◌, List, [], ◌∷◌, ◌++◌, map, length, get_or, All, refl, sym, ap, subst, ◌∙◌, arith}
+use Rattle.std.proofs.Common.{◌≡◌, ℕ, List, [], ◌∷◌, ◌++◌, map, length, All, sym, ap, subst, ◌∙◌}
 use Rattle.std.proofs.lemmas.List.{map-append}
 use Rattle.std.proofs.lemmas.List.Elements.{All-push}
 use Rattle.std.proofs.Math.ListN.{length-map}
-use Rattle.trees.specs.declared.TermId.{TermId}
 use Rattle.trees.specs.Tree.{Tree}
-use Rattle.trees.specs.Node.{tree_at, Holds, Grows}
-use Rattle.trees.specs.Binding.{inst_types}
+use Rattle.trees.specs.Node.{Grows}
 use Rattle.tasks.specs.Task.{SymbolTree, DeclarationTree, Says}
 use Rattle.tasks.specs.Rigid.{rigid_symbol}
 use Rattle.tasks.specs.declared.signature.Signature.{Signature}
 use Rattle.tasks.specs.Meaning.{symbol_at, symbols_at, declaration_at, declarations_at}
-use Rattle.tasks.proofs.Growth.{map_agree, declarations_later}
-use Rattle.elab_parts.specs.Entries.{IsSignature, IsExtended}
+use Rattle.tasks.proofs.Growth.{declarations_later}
+use Rattle.elab_parts.specs.Entries.{IsExtended}
 use Rattle.elab_parts.proofs.Entering.{entries_stay, signature_grows}
 use Rattle.goal_tasks.specs.declared.theories.GoalAt.{GoalAt}
 use Rattle.goal_tasks.specs.Theories.{GoalTree}
 use Rattle.goal_tasks.specs.Meaning.{goal_at, GoalHeld}
 use Rattle.theory_states.specs.declared.states.AxiomAt.{AxiomAt}
-use Rattle.theory_states.specs.declared.states.Known.{Known}
 use Rattle.theory_states.specs.declared.states.Opened.{Opened}
 use Rattle.theory_states.specs.declared.states.Typed.{Typed}
-use Rattle.theory_states.specs.States.{KnownTree, OpenedTree, StateTree, joined_places, with_declaration}
-use Rattle.theory_states.specs.Meaning.{known_at, opened_at, state_at, TypedHeld, OpenedHeld, StateHeld}
-use Rattle.theory_states.proofs.Growing.{state_grows, held_grows, typed_held_later, all_known_stay}
+use Rattle.theory_states.specs.States.{KnownTree, StateTree, joined_places, with_declaration}
+use Rattle.theory_states.specs.Meaning.{known_at, opened_at, state_at, StateHeld}
+use Rattle.theory_states.proofs.Growing.{state_grows, held_grows, all_known_stay}
 use Rattle.clones.specs.Mapped.{Map}
-use Rattle.clones.specs.Meaning.{map_at, MapHeld}
+use Rattle.clones.specs.Meaning.{MapHeld}
 use Rattle.clones.proofs.Steps.{map_stays}
 use Rattle.clone_copies.specs.declared.places.Job.{Job}
-use Rattle.clone_copies.specs.Places.{Copying, axiom_at, with_copied_axiom, goal_of, goal_with, next_numbers, rigid_types, with_joined}
+use Rattle.clone_copies.specs.Places.{Copying, axiom_at, with_copied_axiom, goal_of, goal_with, next_numbers, with_joined}
 use Rattle.clone_copies.specs.Meaning.{copying_at, bare_at}
 
 abbrev pub bare : StateTree → StateTree

@@ -1,5 +1,5 @@
 -- Moves that are mapped stay so as the store grows; one more move.
-use Rattle.std.proofs.Common.{◌≡◌, ℕ, ◌<◌, ◌+◌, List, [], ◌∷◌, ◌++◌, length, get_or, Option, Some, None, refl, sym, ap, subst, ◌∙◌, arith, below_more}
+use Rattle.std.proofs.Common.{◌≡◌, ℕ, ◌<◌, ◌+◌, List, [], ◌∷◌, ◌++◌, length, get_or, Option, Some, None, sym, ap, subst, ◌∙◌, arith, below_more}
 use Rattle.std.proofs.lemmas.List.{get_or_append_left, get_or_push, get_or_default}
 use Rattle.trees.specs.Tree.{Tree}
 use Rattle.trees.specs.Node.{tree_at, Grows}

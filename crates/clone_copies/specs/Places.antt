@@ -1,8 +1,8 @@
 -- The copies of a theory's declarations, and the others joined at their places; what an axiom becomes (Why3 manual, "theory cloning").
 use Rattle.std.specs.Prelude.{ℕ, ◌+◌, if◌then◌else◌, Bool, List, [], ◌∷◌, ◌++◌, map, length, Option, Some, None}
-use Rattle.trees.specs.Tree.{Tree, Leaf, HTyRigid}
+use Rattle.trees.specs.Tree.{Tree}
 use Rattle.trees.specs.Binding.{inst_types}
-use Rattle.tasks.specs.Task.{SymbolTree, BodyTree, MakesType, Makes, Defines, Induces, Constructs, Says, DeclarationTree}
+use Rattle.tasks.specs.Task.{BodyTree, MakesType, Makes, Defines, Induces, Constructs, Says, DeclarationTree}
 use Rattle.tasks.specs.Rigid.{rigid_symbol}
 use Rattle.syntax_why.specs.Lexeme.{Word}
 use Rattle.syntax_why.specs.declared.declarations.PropKind.{PropKind}
@@ -11,7 +11,7 @@ use Rattle.clones.specs.Mapped.{Map}
 use Rattle.clones.specs.Copies.{declaration_copied}
 use Rattle.goal_tasks.specs.Theories.{GoalTree}
 use Rattle.theory_states.specs.declared.states.AxiomAt.{AxiomAt}
-use Rattle.theory_states.specs.States.{StateTree, OpenedTree, joined_places, with_declaration}
+use Rattle.theory_states.specs.States.{StateTree, joined_places, with_declaration}
 use Rattle.clone_elements.specs.Left.{decl_or}
 use Rattle.clone_elements.specs.Plans.{PlacedFates, is_replaced, kind_or}
 use Rattle.clone_copies.specs.Origins.{Axioms, is_own}

@@ -5,7 +5,7 @@ ghost use Rattle.indexmap.specs.IndexMap.{get};
 ghost use Rattle.trees.specs.Tree.{Tree};
 ghost use Rattle.tasks.specs.Meaning.{declarations_at};
 ghost use Rattle.theory_states.specs.Meaning.{known_at};
-ghost use Rattle.clone_copies.specs.Origins.{is_own, own_at, own_places, axioms_at};
+ghost use Rattle.clone_copies.specs.Origins.{is_own, own_at, own_places, with_axioms, axioms_at};
 
 use indexmap::IndexMap;
 use outside::{Seq, Text};
@@ -64,6 +64,21 @@ pub(crate) fn copy_names(alloc: Global, names: &[Text]) -> Result<Seq<Text>, All
     Ok(Seq::from_vec(all))
 }
 
+// The names of the type variables of axioms, by the places of these, over what is there.
+fn enter_axioms(
+    alloc: Global,
+    places: &mut IndexMap<usize, Seq<Text>>,
+    axioms: &[AxiomAt],
+) -> Result<(), AllocError>
+    ensures { OnOk result (get nat_eq places.new ≡ with_axioms axioms.now (get nat_eq places.old)) }
+{
+    for it in axioms {
+        let names = copy_names(alloc, it.vars.as_slice())?;
+        places.insert(it.decl, names)?;
+    }
+    Ok(())
+}
+
 /// The names of the type variables of axioms, by the places of these. Only want of memory refuses.
 pub fn axioms_of(
     alloc: Global,
@@ -72,9 +87,6 @@ pub fn axioms_of(
     ensures { IfOk result (λ m. get nat_eq m ≡ axioms_at axioms.now) }
 {
     let mut places: IndexMap<usize, Seq<Text>> = IndexMap::new(alloc);
-    for it in axioms {
-        let names = copy_names(alloc, it.vars.as_slice())?;
-        places.insert(it.decl, names)?;
-    }
+    enter_axioms(alloc, &mut places, axioms)?;
     Ok(places)
 }

@@ -120,8 +120,8 @@ fn push_axiom(
     ensures held { OnOk result (StateHeld store.now typed.new open.new) }
 {
     let _ = store;
-    let vars = copy_names(alloc, vars)?;
     let place = push_decl(typed, open, copy)?;
+    let vars = copy_names(alloc, vars)?;
     open.axioms.push(AxiomAt { decl: place, vars })?;
     Ok(())
 }
@@ -186,6 +186,11 @@ fn push_goal(
     }
 }
 
+// Drops a declaration. A caller that calls it on each way out has no code for the declaration's parts.
+fn drop_decl(decl: Decl) {
+    let _ = &decl;
+}
+
 // An axiom's copy, as one of the kinds.
 fn push_kind(
     alloc: Global,
@@ -205,12 +210,21 @@ fn push_kind(
 {
     match kind {
         PropKind::Axiom => push_axiom(alloc, store, typed, open, vars, copy),
-        PropKind::Lemma => {
-            push_goal(alloc, store, typed, open, vars, &copy)?;
-            push_decl(typed, open, copy)?;
-            Ok(())
+        PropKind::Lemma => match push_goal(alloc, store, typed, open, vars, &copy) {
+            Ok(()) => {
+                push_decl(typed, open, copy)?;
+                Ok(())
+            }
+            Err(fault) => {
+                drop_decl(copy);
+                Err(fault)
+            }
+        },
+        PropKind::Goal => {
+            let pushed = push_goal(alloc, store, typed, open, vars, &copy);
+            drop_decl(copy);
+            pushed
         }
-        PropKind::Goal => push_goal(alloc, store, typed, open, vars, &copy),
     }
 }
 

@@ -1,4 +1,4 @@
-use Rattle.std.proofs.Common.{◌≡◌, ◌++◌, List, All, get_or, sym, ap, subst, ◌∙◌}
+use Rattle.std.proofs.Common.{◌++◌, List, All, get_or, sym, ap, subst, ◌∙◌}
 use Rattle.std.proofs.lemmas.List.{map-append}
 use Rattle.std.proofs.lemmas.List.Elements.{All-append}
 use Rattle.std.proofs.lemmas.Result.{on_ok_weaker}
@@ -34,3 +34,21 @@ returns-in_err-copies-clause-held c = no_ok _ _ c.from_residual.result c.from_re
 
 pub returns-in_err-copies-clause-known : goal.returns-in_err-copies-clause-known
 returns-in_err-copies-clause-known c = no_ok _ _ c.from_residual.result c.from_residual.ensures.1
+
+pub copy_entries-requires-clause-int : goal.copy_entries-requires-clause-int
+copy_entries-requires-clause-int c = c.requires.int
+
+pub copy_entries-requires-clause-entries : goal.copy_entries-requires-clause-entries
+copy_entries-requires-clause-entries c = c.requires.entries
+
+pub copy_entries-requires-clause-map_held : goal.copy_entries-requires-clause-map_held
+copy_entries-requires-clause-map_held c = c.requires.map_held
+
+pub copy_entries-requires-clause-known : goal.copy_entries-requires-clause-known
+copy_entries-requires-clause-known c = c.requires.known
+
+pub returns-in_err-copies-clause-grows : goal.returns-in_err-copies-clause-grows
+returns-in_err-copies-clause-grows c = c.copy_entries.ensures.grows
+
+pub returns-clause-grows : goal.returns-clause-grows
+returns-clause-grows c = c.copy_entries.ensures.grows

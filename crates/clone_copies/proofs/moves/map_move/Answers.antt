@@ -1,3 +1,4 @@
+use Rattle.trees.proofs.Nodes.{Grows_refl}
 use Rattle.clone_copies.proofs.Passed.{no_ok, no_value}
 use Rattle.clone_copies.proofs.moves.map_move.Goals as goal
 
@@ -18,3 +19,36 @@ returns-in_err-name-in-Opens-clause-is c = no_value _ _ c.from_residual-in_err-n
 
 pub returns-in_err-name-in-Opens-clause-known : goal.returns-in_err-name-in-Opens-clause-known
 returns-in_err-name-in-Opens-clause-known c = no_ok _ _ c.from_residual-in_err-name-in-Opens.result c.from_residual-in_err-name-in-Opens.ensures.1
+
+pub map_thing-requires-clause-map_held : goal.map_thing-requires-clause-map_held
+map_thing-requires-clause-map_held c = c.requires.map_held
+
+pub map_thing-requires-clause-known : goal.map_thing-requires-clause-known
+map_thing-requires-clause-known c = c.requires.known
+
+pub returns-in_err-made-in-Brings-clause-grows : goal.returns-in_err-made-in-Brings-clause-grows
+returns-in_err-made-in-Brings-clause-grows c = c.map_thing.ensures.grows
+
+pub returns-in_err-name-in-Brings-clause-grows : goal.returns-in_err-name-in-Brings-clause-grows
+returns-in_err-name-in-Brings-clause-grows c = c.map_thing.ensures.grows
+
+pub returns-in_err-name-in-Opens-clause-grows : goal.returns-in_err-name-in-Opens-clause-grows
+returns-in_err-name-in-Opens-clause-grows c = Grows_refl c.args.store.now
+
+pub returns-in_ok-name-in-Brings-clause-known : goal.returns-in_ok-name-in-Brings-clause-known
+returns-in_ok-name-in-Brings-clause-known c = c.in_ok-made-in-Brings.ensures.known
+
+pub returns-in_ok-name-in-Brings-clause-grows : goal.returns-in_ok-name-in-Brings-clause-grows
+returns-in_ok-name-in-Brings-clause-grows c = c.map_thing.ensures.grows
+
+pub returns-in_ok-name-in-Opens-clause-known : goal.returns-in_ok-name-in-Opens-clause-known
+returns-in_ok-name-in-Opens-clause-known c = c.requires.known
+
+pub returns-in_ok-name-in-Opens-clause-grows : goal.returns-in_ok-name-in-Opens-clause-grows
+returns-in_ok-name-in-Opens-clause-grows c = Grows_refl c.args.store.now
+
+pub returns-in-Closes-clause-known : goal.returns-in-Closes-clause-known
+returns-in-Closes-clause-known c = c.requires.known
+
+pub returns-in-Closes-clause-grows : goal.returns-in-Closes-clause-grows
+returns-in-Closes-clause-grows c = Grows_refl c.args.store.now

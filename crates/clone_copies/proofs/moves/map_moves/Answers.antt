@@ -1,7 +1,6 @@
-use Rattle.std.proofs.Common.{◌≡◌, ◌<◌, ◌+◌, ℕ, List, All, length, get_or, sym, ap, subst, ◌∙◌, arith}
+use Rattle.std.proofs.Common.{◌<◌, ◌+◌, ℕ, length, get_or, sym, ap, subst, ◌∙◌, arith}
 use Rattle.std.proofs.lemmas.List.{length_push}
 use Rattle.trees.specs.Node.{Grows}
-use Rattle.trees.specs.Tree.{Tree}
 use Rattle.trees.proofs.Nodes.{Grows_trans}
 use Rattle.tasks.specs.Meaning.{symbols_at}
 use Rattle.theory_states.specs.declared.moves.Move.{Move}
@@ -63,3 +62,15 @@ returns-in_err-push-clause-are c = no_value _ _ c.from_residual-in_err-push.resu
 
 pub returns-in_err-push-clause-known : goal.returns-in_err-push-clause-known
 returns-in_err-push-clause-known c = no_ok _ _ c.from_residual-in_err-push.result c.from_residual-in_err-push.ensures.1
+
+pub returns-in_err-copy-clause-grows : goal.returns-in_err-copy-clause-grows
+returns-in_err-copy-clause-grows c = Grows_trans c.args.store.now c.loop-step.store c.map_move.new.store c.loop-step.invariant.grows c.map_move.ensures.grows
+
+pub returns-in_err-push-clause-grows : goal.returns-in_err-push-clause-grows
+returns-in_err-push-clause-grows c = Grows_trans c.args.store.now c.loop-step.store c.map_move.new.store c.loop-step.invariant.grows c.map_move.ensures.grows
+
+pub returns-clause-known : goal.returns-clause-known
+returns-clause-known c = c.loop-step.invariant.known
+
+pub returns-clause-grows : goal.returns-clause-grows
+returns-clause-grows c = c.loop-step.invariant.grows

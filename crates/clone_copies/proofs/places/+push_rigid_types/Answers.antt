@@ -8,6 +8,7 @@ use Rattle.elab_walk.specs.Drafts.{HoldsType}
 use Rattle.elab_walk.proofs.Growing.{types_stay, types_more}
 use Rattle.elab_walk.proofs.Taking.{mapped_more}
 use Rattle.clone_copies.specs.Places.{rigid_types}
+use Rattle.clone_copies.proofs.Passed.{no_ok}
 use Rattle.clone_copies.proofs.places.+push_rigid_types.Goals as goal
 
 pub returns-clause-trees : goal.returns-clause-trees
@@ -29,3 +30,21 @@ returns-clause-held t c = c.push_rigid_types.ensures.held
 
 pub returns-clause-grows : goal.returns-clause-grows
 returns-clause-grows t c = Grows_trans c.args.store.now c.add.new.self c.push_rigid_types.new.store c.add.ensures.grows c.push_rigid_types.ensures.grows
+
+pub returns-in_err-ty-clause-held : goal.returns-in_err-ty-clause-held
+returns-in_err-ty-clause-held t c = no_ok _ _ c.from_residual.result c.from_residual.ensures.1
+
+pub returns-in_err-ty-clause-trees : goal.returns-in_err-ty-clause-trees
+returns-in_err-ty-clause-trees t c = no_ok _ _ c.from_residual.result c.from_residual.ensures.1
+
+pub returns-in_err-ty-clause-grows : goal.returns-in_err-ty-clause-grows
+returns-in_err-ty-clause-grows t c = c.add.ensures.grows
+
+pub returns-in_err-push-clause-held : goal.returns-in_err-push-clause-held
+returns-in_err-push-clause-held t c = no_ok _ _ c.from_residual-in_err-push.result c.from_residual-in_err-push.ensures.1
+
+pub returns-in_err-push-clause-trees : goal.returns-in_err-push-clause-trees
+returns-in_err-push-clause-trees t c = no_ok _ _ c.from_residual-in_err-push.result c.from_residual-in_err-push.ensures.1
+
+pub returns-in_err-push-clause-grows : goal.returns-in_err-push-clause-grows
+returns-in_err-push-clause-grows t c = c.add.ensures.grows

@@ -1,16 +1,15 @@
 use Rattle.std.proofs.Common.{◌≡◌, ℕ, cond, Bool, false, List, get_or, sym, ap, ◌∙◌}
 use Rattle.std.proofs.lemmas.List.{get_or-map}
 use Rattle.std.proofs.lemmas.Result.{on_ok_weaker}
+use Rattle.trees.proofs.Nodes.{Grows_refl, Grows_trans}
 use Rattle.trees.specs.Node.{Grows}
 use Rattle.tasks.specs.declared.declaration.Decl.{Decl}
 use Rattle.tasks.specs.Task.{DeclarationTree}
 use Rattle.tasks.specs.Meaning.{declaration_at, declarations_at}
-use Rattle.clones.specs.Mapped.{Map}
-use Rattle.clones.specs.Meaning.{map_at}
-use Rattle.clones.proofs.Steps.{map_stays, known_later, ok_any}
-use Rattle.clones.specs.Copies.{declaration_copied}
-use Rattle.theory_states.specs.States.{StateTree}
 use Rattle.theory_states.proofs.Growing.{held_grows}
+use Rattle.clones.specs.Meaning.{map_at}
+use Rattle.clones.proofs.Steps.{known_later, ok_any}
+use Rattle.clones.specs.Copies.{declaration_copied}
 use Rattle.clone_elements.specs.Left.{decl_or, no_declaration}
 use Rattle.clone_elements.specs.Plans.{is_replaced}
 use Rattle.clone_copies.specs.Places.{Copying, with_copy, copy_of}
@@ -57,3 +56,30 @@ returns-in_err-copy-clause-held c = no_ok _ _ c.from_residual.result c.from_resi
 
 pub returns-in_err-copy-clause-known : goal.returns-in_err-copy-clause-known
 returns-in_err-copy-clause-known c = no_ok _ _ c.from_residual.result c.from_residual.ensures.1
+
+pub push_copy-requires-clause-copy_held : goal.push_copy-requires-clause-copy_held
+push_copy-requires-clause-copy_held c = c.in_ok-copy.ensures.new_held
+
+pub copy_decl-requires-clause-map_held : goal.copy_decl-requires-clause-map_held
+copy_decl-requires-clause-map_held c = c.requires.map_held
+
+pub copy_decl-requires-clause-known : goal.copy_decl-requires-clause-known
+copy_decl-requires-clause-known c = c.requires.known
+
+pub returns-clause-held : goal.returns-clause-held
+returns-clause-held c = c.push_copy.ensures.held
+
+pub returns-clause-grows : goal.returns-clause-grows
+returns-clause-grows c = Grows_trans c.args.store.now c.copy_decl.new.store c.push_copy.new.store c.copy_decl.ensures.grows c.push_copy.ensures.grows
+
+pub returns-in_err-copy-clause-grows : goal.returns-in_err-copy-clause-grows
+returns-in_err-copy-clause-grows c = c.copy_decl.ensures.grows
+
+pub returns-then-is_replaced-clause-held : goal.returns-then-is_replaced-clause-held
+returns-then-is_replaced-clause-held c = c.requires.held
+
+pub returns-then-is_replaced-clause-known : goal.returns-then-is_replaced-clause-known
+returns-then-is_replaced-clause-known c = c.requires.known
+
+pub returns-then-is_replaced-clause-grows : goal.returns-then-is_replaced-clause-grows
+returns-then-is_replaced-clause-grows c = Grows_refl c.args.store.now

@@ -4,8 +4,8 @@ use Rattle.std.proofs.lemmas.List.{at_drop_more}
 use Rattle.trees.specs.Node.{Grows}
 use Rattle.trees.proofs.Nodes.{Grows_trans}
 use Rattle.tasks.specs.Meaning.{declaration_at, declarations_at}
-use Rattle.clones.proofs.Steps.{map_held, known_on, known_back}
 use Rattle.theory_states.specs.States.{StateTree}
+use Rattle.clones.proofs.Steps.{map_held, known_on, known_back}
 use Rattle.clone_copies.specs.Places.{Copying, with_place, with_places}
 use Rattle.clone_copies.specs.Meaning.{copying_at, bare_at}
 use Rattle.clone_copies.proofs.Bare.{copying_stays}
@@ -55,3 +55,18 @@ returns-in_err-copy_place-clause-held c = no_ok _ _ c.from_residual.result c.fro
 
 pub returns-in_err-copy_place-clause-known : goal.returns-in_err-copy_place-clause-known
 returns-in_err-copy_place-clause-known c = no_ok _ _ c.from_residual.result c.from_residual.ensures.1
+
+pub copy_place-requires-clause-held : goal.copy_place-requires-clause-held
+copy_place-requires-clause-held c = c.loop-place.invariant.held
+
+pub returns-in_err-copy_place-clause-grows : goal.returns-in_err-copy_place-clause-grows
+returns-in_err-copy_place-clause-grows c = Grows_trans c.args.store.now c.loop-place.store c.copy_place.new.store c.loop-place.invariant.grows c.copy_place.ensures.grows
+
+pub returns-clause-held : goal.returns-clause-held
+returns-clause-held c = c.loop-place.invariant.held
+
+pub returns-clause-known : goal.returns-clause-known
+returns-clause-known c = c.loop-place.invariant.known
+
+pub returns-clause-grows : goal.returns-clause-grows
+returns-clause-grows c = c.loop-place.invariant.grows

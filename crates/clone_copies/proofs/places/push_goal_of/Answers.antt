@@ -1,4 +1,5 @@
-use Rattle.std.proofs.Common.{◌≡◌, ℕ, List, length, sym, ap, ◌∙◌}
+use Rattle.std.proofs.Common.{◌≡◌, ℕ, List, length, ap, ◌∙◌}
+use Rattle.trees.proofs.Nodes.{Grows_refl}
 use Rattle.trees.specs.Node.{tree_at}
 use Rattle.trees.specs.Binding.{inst_types}
 use Rattle.goal_tasks.specs.declared.theories.GoalAt.{GoalAt}
@@ -52,3 +53,18 @@ returns-in_err-push-clause-state c = no_ok _ _ c.from_residual-in_err-push.resul
 
 pub returns-in_err-push-clause-held : goal.returns-in_err-push-clause-held
 returns-in_err-push-clause-held c = no_ok _ _ c.from_residual-in_err-push.result c.from_residual-in_err-push.ensures.1
+
+pub returns-in_err-push_rigid-clause-grows : goal.returns-in_err-push_rigid-clause-grows
+returns-in_err-push_rigid-clause-grows c = Grows_refl c.args.store.now
+
+pub returns-in_err-prop-clause-grows : goal.returns-in_err-prop-clause-grows
+returns-in_err-prop-clause-grows c = c.at_rigid.ensures.grows
+
+pub returns-in_err-name-clause-grows : goal.returns-in_err-name-clause-grows
+returns-in_err-name-clause-grows c = c.at_rigid.ensures.grows
+
+pub returns-in_err-push-clause-grows : goal.returns-in_err-push-clause-grows
+returns-in_err-push-clause-grows c = c.at_rigid.ensures.grows
+
+pub returns-clause-grows : goal.returns-clause-grows
+returns-clause-grows c = c.at_rigid.ensures.grows
