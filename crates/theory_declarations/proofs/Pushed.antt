@@ -1,5 +1,5 @@
 -- A goal, an axiom or declarations more.
-use Rattle.std.proofs.Common.{◌≡◌, List, [], ◌∷◌, ◌++◌, map, slice_get, remove, Some, sym, ap, subst, ◌∙◌, append-nil}
+use Rattle.std.proofs.Common.{◌≡◌, ◌<◌, List, [], ◌∷◌, ◌++◌, map, length, slice_get, remove, Some, refl, sym, ap, subst, ◌∙◌, append-nil, arith}
 use Rattle.std.proofs.lemmas.List.{map-append}
 use Rattle.std.proofs.lemmas.List.Elements.{All-push}
 use Rattle.trees.specs.Tree.{Tree}
@@ -20,6 +20,11 @@ first_of (y ∷ xs) ys x h r =
     let e : ys ≡ xs = r in
     let f : Some y ≡ Some x = h in
     cc
+
+-- one that isn't empty has an item
+pub some_left : {X : Type 0} (xs : List X) → (xs ≡ [] → ⊥) → 0 < length xs
+some_left [] f = absurd (f refl)
+some_left (x ∷ xs) f = omega arith
 
 abbrev pub with_goals : List GoalTree → StateTree → StateTree
 with_goals gs c = record c { opened = record c.opened { goals = c.opened.goals ++ gs } }

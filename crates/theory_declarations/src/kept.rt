@@ -5,12 +5,11 @@ ghost use Rattle.trees.specs.Node.{Grows};
 ghost use Rattle.tasks.specs.Meaning.{declarations_at, DeclHeld};
 ghost use Rattle.syntax_why.specs.SurfaceDeclarations.{decl_of};
 ghost use Rattle.elab_names.specs.Abstract.{expression_of};
-ghost use Rattle.elab_terms.specs.Outcomes.{proposition_seen};
 ghost use Rattle.theory_states.specs.States.{with_declarations};
 ghost use Rattle.theory_states.specs.Meaning.{state_at, StateHeld};
-ghost use Rattle.theory_declarations.specs.Declared.{with_proposed, proposition_in, known_by};
+ghost use Rattle.theory_declarations.specs.Declared.{proposition_in, known_by};
 
-use crate::proposed::push_proposition;
+use crate::proposed::push_proposed;
 use elab_parts::Elaborated;
 use outside::Seq;
 use std::alloc::{AllocError, Global};
@@ -38,55 +37,26 @@ fn proposition_in(decl: &DeclTree) -> Option<(PropKind, &Expr)>
     }
 }
 
-// Further declarations, in order.
+// Further declarations, in order, which are taken out.
 fn push_decls(
     store: &Store,
     typed: &mut Typed,
     open: &mut Opened,
-    decls: Seq<Decl>,
+    decls: &mut Seq<Decl>,
 ) -> Result<(), AllocError>
-    requires decls { All (DeclHeld store.now) decls }
+    requires decls { All (DeclHeld store.now) decls.old }
     requires state { StateHeld store.now typed.old open.old }
     ensures state { OnOk result (state_at store.now typed.new open.new ≡ with_declarations
-        (declarations_at store.now decls) (state_at store.now typed.old open.old)) }
+        (declarations_at store.now decls.old) (state_at store.now typed.old open.old)) }
     ensures held { OnOk result (StateHeld store.now typed.new open.new) }
     ensures typed { OnOk result (typed.new ≡ record typed.old { decls = typed.new.decls }) }
 {
-    let mut rest = decls;
-    if rest.is_empty() {
+    if decls.is_empty() {
         return Ok(());
     }
-    let first = rest.remove(0);
+    let first = decls.remove(0);
     push_decl(typed, open, first)?;
-    push_decls(store, typed, open, rest)
-}
-
-// What the declarations of a proposition leave, of which there is one.
-fn push_proposed(
-    alloc: Global,
-    store: &mut Store,
-    typed: &mut Typed,
-    open: &mut Opened,
-    kind: PropKind,
-    e: &Expr,
-    decls: Seq<Decl>,
-    rigid: Seq<usize>,
-) -> Result<(), AllocError>
-    requires decls { All (DeclHeld store.old) decls }
-    requires state { StateHeld store.old typed.old open.old }
-    ensures state { OnOk result (state_at store.new typed.new open.new ≡ with_proposed kind
-        (proposition_seen (expression_of e.now)).vars rigid (declarations_at store.old decls)
-        (record (state_at store.old typed.old open.old) { trees = store.new })) }
-    ensures held { OnOk result (StateHeld store.new typed.new open.new) }
-    ensures typed { OnOk result (typed.new ≡ record typed.old { decls = typed.new.decls }) }
-    ensures grows { Grows store.old store.new }
-{
-    let mut rest = decls;
-    if rest.is_empty() {
-        return Ok(());
-    }
-    let first = rest.remove(0);
-    push_proposition(alloc, store, typed, open, kind, e, first, rigid)
+    push_decls(store, typed, open, decls)
 }
 
 /// What a declaration leaves after that is elaborated. Only want of memory refuses.
@@ -107,9 +77,13 @@ pub(crate) fn push_made(
     ensures typed { OnOk result (typed.new ≡ record typed.old { decls = typed.new.decls }) }
     ensures grows { Grows store.old store.new }
 {
-    let Elaborated { decls, rigid, .. } = made;
+    let Elaborated {
+        mut decls,
+        rigid,
+        ..
+    } = made;
     match proposition_in(decl) {
-        Some((kind, e)) => push_proposed(alloc, store, typed, open, kind, e, decls, rigid),
-        None => push_decls(store, typed, open, decls),
+        Some((kind, e)) => push_proposed(alloc, store, typed, open, kind, e, &mut decls, rigid),
+        None => push_decls(store, typed, open, &mut decls),
     }
 }

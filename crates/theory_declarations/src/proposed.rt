@@ -148,8 +148,8 @@ fn push_axiom(
     ensures typed { OnOk result (typed.new ≡ record typed.old { decls = typed.new.decls }) }
 {
     let _ = store;
-    let vars = variables_of(alloc, e)?;
     let place = push_decl(typed, open, decl)?;
+    let vars = variables_of(alloc, e)?;
     open.axioms.push(AxiomAt { decl: place, vars })?;
     Ok(())
 }
@@ -177,26 +177,30 @@ fn push_lemma(
     Ok(())
 }
 
-/// What the declaration of a proposition leaves. Only want of memory refuses.
-pub(crate) fn push_proposition(
+/// What the declarations of a proposition leave, of which there is one. Only want of memory refuses.
+pub(crate) fn push_proposed(
     alloc: Global,
     store: &mut Store,
     typed: &mut Typed,
     open: &mut Opened,
     kind: PropKind,
     e: &Expr,
-    decl: Decl,
+    decls: &mut Seq<Decl>,
     rigid: Seq<usize>,
 ) -> Result<(), AllocError>
-    requires decl { DeclHeld store.old decl }
+    requires decls { All (DeclHeld store.old) decls.old }
     requires state { StateHeld store.old typed.old open.old }
-    ensures state { OnOk result (state_at store.new typed.new open.new ≡ with_proposition kind
-        (proposition_seen (expression_of e.now)).vars rigid (declaration_at store.old decl)
+    ensures state { OnOk result (state_at store.new typed.new open.new ≡ with_proposed kind
+        (proposition_seen (expression_of e.now)).vars rigid (declarations_at store.old decls.old)
         (record (state_at store.old typed.old open.old) { trees = store.new })) }
     ensures held { OnOk result (StateHeld store.new typed.new open.new) }
     ensures typed { OnOk result (typed.new ≡ record typed.old { decls = typed.new.decls }) }
     ensures grows { Grows store.old store.new }
 {
+    if decls.is_empty() {
+        return Ok(());
+    }
+    let decl = decls.remove(0);
     match kind {
         PropKind::Axiom => push_axiom(alloc, store, typed, open, e, decl),
         PropKind::Lemma => push_lemma(alloc, store, typed, open, decl, rigid),

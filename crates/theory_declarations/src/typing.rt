@@ -71,25 +71,24 @@ fn elaborate_next(
     }
 }
 
-// The side conditions of what is made, in the declaration of a number.
+// What is made, whose side conditions are right, in the declaration of a number.
 fn check_made(
     alloc: Global,
     store: &Store,
     sig: &Signature,
-    made: &Elaborated,
+    made: Elaborated,
     decl: usize,
-) -> Result<(), SourceFault>
+) -> Result<Elaborated, SourceFault>
     requires symbols { All (SymbolHeld store.now) sig.now.symbols }
-    requires matches { All (IsMatch store.now (symbols_at store.now sig.now.symbols))
-        made.now.matches }
-    requires held { All (DeclHeld store.now) made.now.decls }
+    requires matches { All (IsMatch store.now (symbols_at store.now sig.now.symbols)) made.matches }
+    requires held { All (DeclHeld store.now) made.decls }
+    ensures same { IfOk result (λ m. m ≡ made) }
     ensures covered { IfOk result (λ _. All (IsCovered (symbols_at store.now sig.now.symbols))
-        (map (match_at store.now) made.now.matches)) }
+        (map (match_at store.now) made.matches)) }
     ensures checked { IfOk result (λ _. All (HasNoFault (symbols_at store.now sig.now.symbols))
-        (bodies (declarations_at store.now made.now.decls))) }
+        (bodies (declarations_at store.now made.decls))) }
     ensures refused { IfErr result (IsRefusedFor decl (symbols_at store.now sig.now.symbols)
-        (map (match_at store.now) made.now.matches)
-        (bodies (declarations_at store.now made.now.decls))) }
+        (map (match_at store.now) made.matches) (bodies (declarations_at store.now made.decls))) }
 {
     match check_sides(
         alloc,
@@ -98,7 +97,7 @@ fn check_made(
         made.matches.as_slice(),
         made.decls.as_slice(),
     ) {
-        Ok(()) => Ok(()),
+        Ok(()) => Ok(made),
         Err(fault) => Err(side_fault(decl, fault)),
     }
 }
@@ -123,8 +122,7 @@ fn elaborate_checked(
 {
     let made = elaborate_next(alloc, store, &mut typed.sig, open, decl)?;
     store.laws();
-    check_made(alloc, store, &typed.sig, &made, open.count)?;
-    Ok(made)
+    check_made(alloc, store, &typed.sig, made, open.count)
 }
 
 /// A declaration of the open theory that is no `use`, `clone` or `scope`: what it makes is known afterwards, or its first fault is

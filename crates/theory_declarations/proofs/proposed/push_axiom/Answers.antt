@@ -33,23 +33,23 @@ returns-clause-held c =
     let h : StateHeld c.args.store.now c.push_decl.new.typed c.push_decl.new.open = c.in_ok-place.ensures.held c.args.store.now c.requires.state c.requires.decl in
     record { typed = h.typed; opened = record { visible = h.opened.visible; goals = h.opened.goals } }
 
-pub returns-in_err-vars-clause-state : goal.returns-in_err-vars-clause-state
-returns-in_err-vars-clause-state c = no_ok _ _ c.from_residual.result c.from_residual.ensures.1
-
-pub returns-in_err-vars-clause-held : goal.returns-in_err-vars-clause-held
-returns-in_err-vars-clause-held c = no_ok _ _ c.from_residual.result c.from_residual.ensures.1
-
-pub returns-in_err-vars-clause-typed : goal.returns-in_err-vars-clause-typed
-returns-in_err-vars-clause-typed c = no_ok _ _ c.from_residual.result c.from_residual.ensures.1
-
 pub returns-in_err-place-clause-state : goal.returns-in_err-place-clause-state
-returns-in_err-place-clause-state c = no_ok _ _ c.from_residual-in_err-place.result c.from_residual-in_err-place.ensures.1
+returns-in_err-place-clause-state c = no_ok _ _ c.from_residual.result c.from_residual.ensures.1
 
 pub returns-in_err-place-clause-held : goal.returns-in_err-place-clause-held
-returns-in_err-place-clause-held c = no_ok _ _ c.from_residual-in_err-place.result c.from_residual-in_err-place.ensures.1
+returns-in_err-place-clause-held c = no_ok _ _ c.from_residual.result c.from_residual.ensures.1
 
 pub returns-in_err-place-clause-typed : goal.returns-in_err-place-clause-typed
-returns-in_err-place-clause-typed c = no_ok _ _ c.from_residual-in_err-place.result c.from_residual-in_err-place.ensures.1
+returns-in_err-place-clause-typed c = no_ok _ _ c.from_residual.result c.from_residual.ensures.1
+
+pub returns-in_err-vars-clause-state : goal.returns-in_err-vars-clause-state
+returns-in_err-vars-clause-state c = no_ok _ _ c.from_residual-in_err-vars.result c.from_residual-in_err-vars.ensures.1
+
+pub returns-in_err-vars-clause-held : goal.returns-in_err-vars-clause-held
+returns-in_err-vars-clause-held c = no_ok _ _ c.from_residual-in_err-vars.result c.from_residual-in_err-vars.ensures.1
+
+pub returns-in_err-vars-clause-typed : goal.returns-in_err-vars-clause-typed
+returns-in_err-vars-clause-typed c = no_ok _ _ c.from_residual-in_err-vars.result c.from_residual-in_err-vars.ensures.1
 
 pub returns-in_err-push-clause-state : goal.returns-in_err-push-clause-state
 returns-in_err-push-clause-state c = no_ok _ _ c.from_residual-in_err-push.result c.from_residual-in_err-push.ensures.1

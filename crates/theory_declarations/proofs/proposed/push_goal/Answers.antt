@@ -8,7 +8,8 @@ use Rattle.goal_tasks.specs.Theories.{GoalTree}
 use Rattle.goal_tasks.specs.Meaning.{goal_at}
 use Rattle.theory_states.specs.Meaning.{state_at}
 use Rattle.theory_declarations.specs.Declared.{known_formula, to_prove, goals_said}
-use Rattle.theory_declarations.proofs.Pushed.{with_goals, goal_pushed, goal_held}
+use Rattle.trees.proofs.Nodes.{Grows_refl}
+use Rattle.theory_declarations.proofs.Pushed.{with_goals, no_goals, goal_pushed, goal_held}
 use Rattle.theory_declarations.proofs.Passed.{no_ok}
 use Rattle.theory_declarations.proofs.proposed.push_goal.Goals as goal
 
@@ -45,3 +46,32 @@ returns-in_err-name-clause-state c = no_ok _ _ c.from_residual-in_err-name.resul
 
 pub returns-in_err-name-clause-held : goal.returns-in_err-name-clause-held
 returns-in_err-name-clause-held c = no_ok _ _ c.from_residual-in_err-name.result c.from_residual-in_err-name.ensures.1
+
+pub formula_of-requires : goal.formula_of-requires
+formula_of-requires c = c.requires.decl
+
+pub returns-in_default-clause-held : goal.returns-in_default-clause-held
+returns-in_default-clause-held c = c.requires.state
+
+pub returns-in_default-clause-grows : goal.returns-in_default-clause-grows
+returns-in_default-clause-grows c = Grows_refl c.args.store.now
+
+pub formula_to_prove-requires : goal.formula_to_prove-requires
+formula_to_prove-requires c = c.in-Some.ensures.held
+
+pub returns-in_err-prop-clause-grows : goal.returns-in_err-prop-clause-grows
+returns-in_err-prop-clause-grows c = c.formula_to_prove.ensures.grows
+
+pub returns-in_err-name-clause-grows : goal.returns-in_err-name-clause-grows
+returns-in_err-name-clause-grows c = c.formula_to_prove.ensures.grows
+
+pub returns-clause-grows : goal.returns-clause-grows
+returns-clause-grows c = c.formula_to_prove.ensures.grows
+
+pub returns-in_default-clause-state : goal.returns-in_default-clause-state
+returns-in_default-clause-state c =
+    let s = c.args.store.now in
+    let o = c.args.open.now in
+    let before = state_at s c.args.typed.now o in
+    let name = (declaration_at s c.args.decl.now).name in
+    no_goals before ∙ ap (λ (p : Option Tree). with_goals (goals_said c.args.kind (length o.visible.keys) c.args.rigid name p) before) c.in_default.ensures.tree

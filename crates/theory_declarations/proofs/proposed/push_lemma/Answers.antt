@@ -35,3 +35,24 @@ returns-in_err-push_decl-clause-held c = no_ok _ _ c.from_residual-in_err-push_d
 
 pub returns-in_err-push_decl-clause-typed : goal.returns-in_err-push_decl-clause-typed
 returns-in_err-push_decl-clause-typed c = no_ok _ _ c.from_residual-in_err-push_decl.result c.from_residual-in_err-push_decl.ensures.1
+
+pub push_goal-requires-clause-decl : goal.push_goal-requires-clause-decl
+push_goal-requires-clause-decl c = c.requires.decl
+
+pub push_goal-requires-clause-state : goal.push_goal-requires-clause-state
+push_goal-requires-clause-state c = c.requires.state
+
+pub returns-in_err-push_goal-clause-grows : goal.returns-in_err-push_goal-clause-grows
+returns-in_err-push_goal-clause-grows c = c.push_goal.ensures.grows
+
+pub push_decl-requires : goal.push_decl-requires
+push_decl-requires c = c.in_ok-push_goal.ensures.held.opened.visible
+
+pub returns-in_err-push_decl-clause-grows : goal.returns-in_err-push_decl-clause-grows
+returns-in_err-push_decl-clause-grows c = c.push_goal.ensures.grows
+
+pub returns-clause-typed : goal.returns-clause-typed
+returns-clause-typed c = c.in_ok-push_decl.ensures.typed
+
+pub returns-clause-grows : goal.returns-clause-grows
+returns-clause-grows c = c.push_goal.ensures.grows

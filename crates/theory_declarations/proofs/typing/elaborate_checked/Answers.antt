@@ -1,4 +1,5 @@
-use Rattle.std.proofs.Common.{◌≡◌, ℕ, ◌++◌, ap, subst, ◌∙◌}
+use Rattle.std.proofs.Common.{◌≡◌, ℕ, ◌++◌, ap, subst, ◌∙◌, refl, Result, Ok, Err, IfOk, sym}
+use Rattle.std.proofs.lemmas.Result.{IfErr-weaker}
 use Rattle.std.proofs.Math.ListN.{length-map}
 use Rattle.tasks.specs.Meaning.{symbol_at, symbols_at}
 use Rattle.tasks.specs.Vocabulary.{of_signature}
@@ -20,6 +21,10 @@ use Rattle.theory_declarations.proofs.Typed.{setting_typed}
 use Rattle.theory_declarations.proofs.Refused.{or_memory, logical_parts, told, refused_by, matches_are}
 use Rattle.theory_declarations.proofs.Passed.{no_value}
 use Rattle.theory_declarations.proofs.typing.elaborate_checked.Goals as goal
+
+all_ok : {T E : Type 0} (r : Result T E) (x : T) (A B : Type 0) (P : T → Type 0) → IfOk r (λ v. v ≡ x) → IfOk r (λ _. A) → IfOk r (λ _. B) → (A → B → P x) → IfOk r P
+all_ok (Ok v) x A B P e a b f = subst P (sym e) (f a b)
+all_ok (Err e) x A B P q a b f = tt
 
 pub elaborate_next-requires-clause-scopes : goal.elaborate_next-requires-clause-scopes
 elaborate_next-requires-clause-scopes c =
@@ -49,8 +54,47 @@ check_made-requires-clause-matches c =
     let e : IsElaborated (state_setting before) p.0 sig s1 sig1 names made = told (λ (x : Declaration). IsElaborated (state_setting before) x sig s1 sig1 names made) d p.0 p.1 c.in_ok-made.ensures.ok in
     matches_are s1 (symbols_at s1 sig1.symbols) made.matches c.in_ok-made.ensures.kept.matches (matches_fitting (state_setting before) p.0 sig s1 sig1 names made (setting_typed before c.requires.typed) c.elaborate_next.ensures.grows e)
 
-pub returns-in_err-check_made-clause-err : goal.returns-in_err-check_made-clause-err
-returns-in_err-check_made-clause-err c =
+pub returns-in_err-made-clause-ok : goal.returns-in_err-made-clause-ok
+returns-in_err-made-clause-ok c = no_value _ _ c.from_residual.result c.from_residual.ensures.1
+
+pub elaborate_next-requires-clause-signature : goal.elaborate_next-requires-clause-signature
+elaborate_next-requires-clause-signature c = c.requires.state.typed.signature
+
+pub elaborate_next-requires-clause-logical : goal.elaborate_next-requires-clause-logical
+elaborate_next-requires-clause-logical c = c.requires.logical
+
+pub returns-in_err-made-clause-count : goal.returns-in_err-made-clause-count
+returns-in_err-made-clause-count c = ap (λ (i : Opened). i.count) c.elaborate_next.ensures.opened
+
+pub returns-in_err-made-clause-grows : goal.returns-in_err-made-clause-grows
+returns-in_err-made-clause-grows c = c.elaborate_next.ensures.grows
+
+pub check_made-requires-clause-held : goal.check_made-requires-clause-held
+check_made-requires-clause-held c = c.in_ok-made.ensures.kept.decls
+
+pub returns-clause-ok : goal.returns-clause-ok
+returns-clause-ok c =
+    let d = decl_of c.args.decl.now in
+    let before = state_at c.args.store.now c.args.typed.now c.args.open.now in
+    let sig = c.args.typed.now.sig in
+    let s1 = c.elaborate_next.new.store in
+    let sig1 = c.elaborate_next.new.sig in
+    let names = c.elaborate_next.new.open.scope in
+    let made = c.in_ok-made.made in
+    let p = logical_parts d c.requires.logical in
+    all_ok c.check_made.result made _ _ _ c.check_made.ensures.same c.check_made.ensures.covered c.check_made.ensures.checked (λ a b. record {
+      parts = p.0;
+      of = p.1;
+      elaborated = told (λ (x : Declaration). IsElaborated (state_setting before) x sig s1 sig1 names made) d p.0 p.1 c.in_ok-made.ensures.ok;
+      kept = c.in_ok-made.ensures.kept;
+      covered = a;
+      checked = b;
+      typed = refl;
+      opened = c.elaborate_next.ensures.opened;
+    })
+
+pub returns-clause-err : goal.returns-clause-err
+returns-clause-err c =
     let d = decl_of c.args.decl.now in
     let before = state_at c.args.store.now c.args.typed.now c.args.open.now in
     let sig = c.args.typed.now.sig in
@@ -61,14 +105,13 @@ returns-in_err-check_made-clause-err c =
     let p = logical_parts d c.requires.logical in
     let e : IsElaborated (state_setting before) p.0 sig s1 sig1 names made = told (λ (x : Declaration). IsElaborated (state_setting before) x sig s1 sig1 names made) d p.0 p.1 c.in_ok-made.ensures.ok in
     let o = e.outcome in
-    let x = c.in_err-check_made.ensures.refused in
-    let side : IsSideFault (before.symbols ++ o.symbols) o.matches (bodies o.decls) x.0 = rw (e.symbols_are, e.matches, e.decls) at x.1 in
     let number : c.elaborate_next.new.open.count ≡ c.args.open.now.count = ap (λ (i : Opened). i.count) c.elaborate_next.ensures.opened in
-    let k = or_memory (IsDeclaredFault d before) c.in_err-check_made.field-0.0 (of_sides p.0 s1 o x.0 p.1 c.elaborate_next.ensures.grows e.is e.named side (x.2 ∙ ap (λ (n : ℕ). side_fault n x.0) number)) in
-    if_err c.from_residual-in_err-check_made.result _ (OrMemory (IsDeclaredFault d before)) c.from_residual-in_err-check_made.ensures.1 (λ f h. rw h k)
+    IfErr-weaker c.check_made.result _ (OrMemory (IsDeclaredFault d before)) (λ f x.
+    let side : IsSideFault (before.symbols ++ o.symbols) o.matches (bodies o.decls) x.0 = rw (e.symbols_are, e.matches, e.decls) at x.1 in
+    or_memory (IsDeclaredFault d before) f (of_sides p.0 s1 o x.0 p.1 c.elaborate_next.ensures.grows e.is e.named side (x.2 ∙ ap (λ (n : ℕ). side_fault n x.0) number))) c.check_made.ensures.refused
 
-pub returns-in_err-made-clause-ok : goal.returns-in_err-made-clause-ok
-returns-in_err-made-clause-ok c = no_value _ _ c.from_residual.result c.from_residual.ensures.1
+pub returns-clause-count : goal.returns-clause-count
+returns-clause-count c = ap (λ (i : Opened). i.count) c.elaborate_next.ensures.opened
 
-pub returns-in_err-check_made-clause-ok : goal.returns-in_err-check_made-clause-ok
-returns-in_err-check_made-clause-ok c = no_value _ _ c.from_residual-in_err-check_made.result c.from_residual-in_err-check_made.ensures.1
+pub returns-clause-grows : goal.returns-clause-grows
+returns-clause-grows c = c.elaborate_next.ensures.grows
