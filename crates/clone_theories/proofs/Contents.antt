@@ -31,13 +31,21 @@ use Rattle.clone_theories.specs.declared.copying.Renaming.{Renaming}
 use Rattle.clone_theories.specs.declared.own.Own.{Own}
 use Rattle.clone_theories.specs.Owned.{known_theory_at}
 use Rattle.clone_theories.specs.Planned.{planned_kept, planned_map, planned}
-use Rattle.clone_theories.specs.Copied.{IsRenaming, IsKeptEntry, entries_made, with_made, IsCopyReady, AreContents}
+use Rattle.clone_theories.specs.Copied.{IsRenaming, IsPlannedRenaming, IsKeptEntry, entries_made, with_made, IsCopyReady, AreContents}
 use Rattle.clone_theories.proofs.Kept.{moves_grow}
 use Rattle.clone_theories.proofs.Stages.{theory_is, origin_is, state_tupled, held_tupled}
 
+-- the map that is made with what elements are read by
+pub planned_renaming : (s : List Tree) (t : Typed) (o : Opened) (k : ℕ) (own : Own) (plan : Plan) (within : Word) → IsCopyReady s t o k own plan within
+    → (source : Source) → source.decls.now ≡ t.decls → source.own.now ≡ own.places.items → source.axioms.now ≡ own.axioms
+    → (made : Renaming) → IsRenaming s (planned_map s (symbols_at s t.sig.symbols) (origin_at s source) plan) (planned_kept (origin_at s source) plan) made → IsPlannedRenaming s t k plan made
+planned_renaming s t o k own plan within r source decls_are own_is axioms_are made m =
+    let ds = declarations_at s t.decls in
+    let origin : origin_at s source ≡ origin_of ds (known_theory_at s t k) = origin_is s (known_theory_at s t k) own source ds (ap (declarations_at s) decls_are) own_is axioms_are r.own in
+    subst (λ (z : Origin). IsRenaming s (planned_map s (symbols_at s t.sig.symbols) z plan) (planned_kept z plan) made) origin m
+
 module _ (s : List Tree) (t : Typed) (o : Opened) (k : ℕ) (own : Own) (plan : Plan) (within : Word) (r : IsCopyReady s t o k own plan within)
-    (source : Source) (decls_are : source.decls.now ≡ t.decls) (own_is : source.own.now ≡ own.places.items) (axioms_are : source.axioms.now ≡ own.axioms)
-    (made : Renaming) (m : IsRenaming s (planned_map s (symbols_at s t.sig.symbols) (origin_at s source) plan) (planned_kept (origin_at s source) plan) made)
+    (made : Renaming) (m : IsPlannedRenaming s t k plan made)
     (known : Known) (is : known ≡ get_or t.known k known) where
   abbrev c : StateTree
   c = state_at s t o
@@ -51,14 +59,11 @@ module _ (s : List Tree) (t : Typed) (o : Opened) (k : ℕ) (own : Own) (plan : 
   here : theory ≡ known_at s known
   here = theory_is s t k known r.there is
 
-  origin : origin_at s source ≡ origin_of c.decls theory
-  origin = origin_is s theory own source c.decls (ap (declarations_at s) decls_are) own_is axioms_are r.own
-
   map_is : map_at s made.morphism ≡ x.mapping
-  map_is = m.is ∙ ap (λ (z : Origin). planned_map s c.symbols z plan) origin
+  map_is = m.is
 
   symbols_are : made.symbols.items ≡ planned_kept (origin_of c.decls theory) plan
-  symbols_are = m.symbols ∙ ap (λ (z : Origin). planned_kept z plan) origin
+  symbols_are = m.symbols
 
   pub moves_are_held : All (MoveHeld s) known.moves
   moves_are_held = subst (λ (z : KnownTree). All (MoveHeld s) z.moves) here r.moves

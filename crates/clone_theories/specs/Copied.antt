@@ -4,7 +4,7 @@ use Rattle.trees.specs.Tree.{Tree}
 use Rattle.trees.specs.Sorts.{sort_of}
 use Rattle.trees.specs.declared.Sort.TheVariants.{Kind}
 use Rattle.tasks.specs.Task.{SymbolTree}
-use Rattle.tasks.specs.Meaning.{declarations_at}
+use Rattle.tasks.specs.Meaning.{symbols_at, declarations_at}
 use Rattle.theory_states.specs.declared.moves.Move.{Move}
 use Rattle.syntax_why.specs.Lexeme.{Word}
 use Rattle.syntax_why.specs.declared.declarations.Link.{Link}
@@ -26,13 +26,18 @@ use Rattle.clone_theories.specs.declared.copying.Renaming.{Renaming}
 use Rattle.clone_theories.specs.declared.own.Own.{Own}
 use Rattle.clone_theories.specs.Cloned.{with_names}
 use Rattle.clone_theories.specs.Owned.{IsOwnOf, known_theory_at}
-use Rattle.clone_theories.specs.Planned.{planned}
+use Rattle.clone_theories.specs.Planned.{planned_kept, planned_map, planned}
 
 -- the map of a clone, and the symbols that become new ones, in order
 pub record IsRenaming (s : List Tree) (m : Map) (ks : List ℕ) (r : Renaming) : Type 0 where
   pub is : map_at s r.morphism ≡ m
   pub held : MapHeld s r.morphism
   pub symbols : r.symbols.items ≡ ks
+
+-- the map by which elements replace what a theory has, of the theory at a place
+abbrev pub IsPlannedRenaming : List Tree → Typed → ℕ → Plan → Renaming → Type 0
+IsPlannedRenaming s t k p =
+    IsRenaming s (planned_map s (symbols_at s t.sig.symbols) (origin_of (declarations_at s t.decls) (known_theory_at s t k)) p) (planned_kept (origin_of (declarations_at s t.decls) (known_theory_at s t k)) p)
 
 -- ---- entries as a signature keeps them
 -- the types of an entry are types

@@ -14,7 +14,7 @@ ghost use Rattle.clone_copies.specs.Moves.{AreMovesMapped, MoveHeld};
 ghost use Rattle.clone_theories.specs.Cloned.{within_of};
 ghost use Rattle.clone_theories.specs.Owned.{known_theory_at};
 ghost use Rattle.clone_theories.specs.Planned.{planned_kept, planned_map, planned};
-ghost use Rattle.clone_theories.specs.Copied.{IsRenaming, IsKeptEntry, IsCopyReady, AreContents, IsTheoryCopied};
+ghost use Rattle.clone_theories.specs.Copied.{IsRenaming, IsPlannedRenaming, IsKeptEntry, IsCopyReady, AreContents, IsTheoryCopied};
 
 use crate::own::{Own, source_of, within_of};
 use clone_copies::{Job, copy_places, map_moves, push_entries};
@@ -100,6 +100,59 @@ fn copy_symbols(
     Ok(mapped)
 }
 
+// The copies of a theory's symbols and declarations under a map, and the names that they pass on. Only want of memory refuses.
+fn copy_renamed(
+    alloc: Global,
+    store: &mut Store,
+    typed: &mut Typed,
+    open: &mut Opened,
+    theory: usize,
+    own: &Own,
+    plan: &Plan,
+    within: &[u8],
+    made: &Renaming,
+    trees: &mut Trees,
+) -> Result<Vec<Move>, AllocError>
+    requires ready { IsCopyReady store.old typed.old open.old theory own.now plan.now within.now }
+    requires made { IsPlannedRenaming store.old typed.old theory plan.now made.now }
+    requires known { AreKnown (map_at store.old made.now.morphism) store.old trees.old }
+    ensures copies { IfOk result (λ v. AreContents (known_theory_at store.old typed.old theory)
+        (planned store.old (state_at store.old typed.old open.old)
+        (known_theory_at store.old typed.old theory) plan.now within.now) v.items
+        (state_at store.old typed.old open.old) (state_at store.new typed.new open.new)) }
+    ensures held { OnOk result (StateHeld store.new typed.new open.new) }
+    ensures grows { Grows store.old store.new }
+{
+    let known = &typed.known.as_slice()[theory];
+    let moves = copy_symbols(
+        alloc,
+        store,
+        &mut typed.sig,
+        made,
+        trees,
+        known.moves.as_slice(),
+        open.path.as_slice(),
+        within,
+    )?;
+    let job = Job {
+        path: own.path.as_slice(),
+        axioms: &own.axioms,
+        plan,
+        morphism: &made.morphism,
+        within,
+    };
+    copy_places(
+        alloc,
+        store,
+        typed,
+        open,
+        &job,
+        trees,
+        own.visible.as_slice(),
+    )?;
+    Ok(moves)
+}
+
 // The copies of a theory's symbols and declarations, and the names that they pass on. Only want of memory refuses.
 fn copy_contents(
     alloc: Global,
@@ -122,34 +175,9 @@ fn copy_contents(
     let source = source_of(typed.decls.as_slice(), own);
     let made = rename(alloc, store, &typed.sig, &source, plan)?;
     let mut trees = no_trees(alloc);
-    let known = &typed.known.as_slice()[theory];
-    let moves = copy_symbols(
-        alloc,
-        store,
-        &mut typed.sig,
-        &made,
-        &mut trees,
-        known.moves.as_slice(),
-        open.path.as_slice(),
-        within,
-    )?;
-    let job = Job {
-        path: own.path.as_slice(),
-        axioms: &own.axioms,
-        plan,
-        morphism: &made.morphism,
-        within,
-    };
-    copy_places(
-        alloc,
-        store,
-        typed,
-        open,
-        &job,
-        &mut trees,
-        own.visible.as_slice(),
-    )?;
-    Ok(moves)
+    copy_renamed(
+        alloc, store, typed, open, theory, own, plan, within, &made, &mut trees,
+    )
 }
 
 /// The copies of a theory, whose names come into scopes as by `use`. Only want of memory refuses.
