@@ -4,6 +4,7 @@ ghost use Rattle.std.specs.Prelude.{◌≡◌, ◌+◌, map, IfErr, OnOk};
 ghost use Rattle.trees.specs.Node.{Grows};
 ghost use Rattle.syntax_why.specs.SurfaceDeclarations.{decl_of, decls, element_of};
 ghost use Rattle.elab_terms.specs.Outcomes.{IsLogical};
+ghost use Rattle.theory_states.specs.declared.fault.SourceFault.TheVariants.{Memory};
 ghost use Rattle.theory_states.specs.Meaning.{known_at, state_at};
 ghost use Rattle.theory_states.specs.Uses.{OrMemory, IsTheoryUsed, IsUnknownTheory};
 ghost use Rattle.theory_declarations.specs.Declared.{IsDeclaredFault};
@@ -15,22 +16,23 @@ ghost use Rattle.theories.specs.Right.{IsStateRight};
 use clone_theories::clone_theory;
 use elab_terms::is_logical;
 use names_space::NameFault;
-use std::alloc::{AllocError, Global};
+use std::alloc::Global;
 use syntax_why::{DeclNode, DeclTree, ElemTree, Link, Name, Path};
 use term_store::Store;
 use theory_declarations::type_declaration;
 use theory_states::{Move, Opened, SourceFault, Typed, leave, use_theory};
 
 // The next declaration has the next number.
-fn pass(open: &mut Opened) -> Result<(), AllocError>
-    ensures { OnOk result (open.new ≡ record open.old { count = open.old.count + 1 }) }
+fn pass(open: &mut Opened) -> Result<(), SourceFault>
+    ensures ok { OnOk result (open.new ≡ record open.old { count = open.old.count + 1 }) }
+    ensures err { IfErr result (λ fault. fault ≡ Memory) }
 {
     match open.count.checked_add(1) {
         Some(next) => {
             open.count = next;
             Ok(())
         }
-        None => Err(AllocError),
+        None => Err(SourceFault::Memory),
     }
 }
 
@@ -52,8 +54,7 @@ fn type_logical(
     ensures grows { Grows store.old store.new }
 {
     type_declaration(alloc, store, typed, open, decl)?;
-    pass(open)?;
-    Ok(())
+    pass(open)
 }
 
 // A theory is used.
@@ -75,8 +76,7 @@ fn type_use(
 {
     let _ = store;
     use_theory(alloc, typed, open, link, path, alias)?;
-    pass(open)?;
-    Ok(())
+    pass(open)
 }
 
 // A theory is cloned.
@@ -101,8 +101,7 @@ fn type_clone(
     ensures grows { Grows store.old store.new }
 {
     clone_theory(alloc, store, typed, open, link, path, alias, elements)?;
-    pass(open)?;
-    Ok(())
+    pass(open)
 }
 
 // A scope of this name is opened.
@@ -144,11 +143,12 @@ fn leave_scope(
     typed: &Typed,
     open: &mut Opened,
     outer: Vec<u8>,
-) -> Result<(), AllocError>
+) -> Result<(), SourceFault>
     requires { IsStateRight store.now typed.now open.old }
     ensures ok { OnOk result (IsLeft outer.items (state_at store.now typed.now open.old)
         (state_at store.now typed.now open.new)) }
     ensures right { OnOk result (IsStateRight store.now typed.now open.new) }
+    ensures err { IfErr result (λ fault. fault ≡ Memory) }
 {
     let _ = store;
     let _ = typed;
@@ -183,8 +183,7 @@ fn type_decl(
             let outer = Vec::from_slice(alloc, open.within.as_slice())?;
             enter_scope(store, typed, open, name)?;
             type_decls(alloc, store, typed, open, within.as_slice())?;
-            leave_scope(store, typed, open, outer)?;
-            Ok(())
+            leave_scope(store, typed, open, outer)
         }
         DeclNode::UseTheory(link, path, alias) => {
             type_use(alloc, store, typed, open, *link, path, alias)

@@ -6,6 +6,7 @@ ghost use Rattle.trees.specs.Node.{Grows};
 ghost use Rattle.tasks.specs.Meaning.{symbols_at};
 ghost use Rattle.syntax_why.specs.SurfaceDeclarations.{theory_of as source_of, file_of};
 ghost use Rattle.goal_tasks.specs.Meaning.{theories_at, AllTheoriesHeld, AreTuples};
+ghost use Rattle.theory_states.specs.declared.fault.SourceFault.TheVariants.{Memory};
 ghost use Rattle.theory_states.specs.declared.states.Known.{Known as KnownCode};
 ghost use Rattle.theory_states.specs.Meaning.{known_at, state_at};
 ghost use Rattle.theory_states.specs.Uses.{OrMemory};
@@ -48,22 +49,24 @@ fn begin_theory(
     }
 }
 
-// The open theory ends. The number of the next declaration is given.
+// The open theory ends. The number of the next declaration is given. Only want of memory refuses.
 fn end_theory(
     alloc: Global,
     store: &Store,
     typed: &mut Typed,
     ended: Opened,
-) -> Result<usize, AllocError>
+) -> Result<usize, SourceFault>
     requires { IsStateRight store.now typed.old ended }
     ensures ok { IfOk result (λ n. IsEnded (state_at store.now typed.old ended)
         (between_at store.now typed.new n)) }
     ensures right { OnOk result (AreTheoriesRight store.now typed.new) }
+    ensures err { IfErr result (λ fault. fault ≡ Memory) }
 {
     let _ = store;
+    // Copied before the parts of the theory are named, so that one value is dropped where there is no memory.
+    let visible = Seq::from_slice(alloc, ended.visible.as_slice())?;
     let Opened {
         path,
-        visible,
         goals,
         axioms,
         moves,
@@ -72,7 +75,7 @@ fn end_theory(
     } = ended;
     let theory = Theory {
         path,
-        visible: Seq::from_slice(alloc, visible.as_slice())?,
+        visible,
         goals,
     };
     typed.known.push(Known {
@@ -104,7 +107,7 @@ fn type_theory(
 {
     let mut open = begin_theory(alloc, store, typed, path, count)?;
     type_decls(alloc, store, typed, &mut open, theory.decls.as_slice())?;
-    Ok(end_theory(alloc, store, typed, open)?)
+    end_theory(alloc, store, typed, open)
 }
 
 // Whether a path is that of a theory, or of what is built in.
@@ -250,18 +253,19 @@ fn theories_alone(alloc: Global, known: Vec<Known>) -> Result<Seq<Theory>, Alloc
     Ok(list)
 }
 
-// The theories of a signature, of which so many are embedded.
+// The theories of a signature, of which so many are embedded. Only want of memory refuses.
 fn collect(
     alloc: Global,
     store: &Store,
     typed: Typed,
     embedded: usize,
-) -> Result<Theories, AllocError>
+) -> Result<Theories, SourceFault>
     requires { AreTheoriesRight store.now typed }
     ensures ok { IfOk result (λ all. (n : ℕ) → theories_at store.now all ≡ theories_of embedded
         (between_at store.now typed n)) }
     ensures held { IfOk result (AllTheoriesHeld store.now) }
     ensures tuples { IfOk result (λ all. AreTuples (symbols_at store.now all.sig.value.symbols)) }
+    ensures err { IfErr result (λ fault. fault ≡ Memory) }
 {
     let _ = store;
     let Typed { sig, decls, known } = typed;
@@ -299,5 +303,5 @@ pub fn type_file(alloc: Global, store: &mut Store, file: &File) -> Result<Theori
     if !are_ints(store, typed.sig.symbols.as_slice()) {
         return Err(SourceFault::Memory);
     }
-    Ok(collect(alloc, store, typed, embedded)?)
+    collect(alloc, store, typed, embedded)
 }

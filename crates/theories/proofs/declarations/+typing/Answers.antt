@@ -14,6 +14,7 @@ use Rattle.clone_theories.specs.Cloned.{IsCloneFault}
 use Rattle.theories.specs.Typing.{IsTwice, IsLeft, AreFaulty, IsDeclarationFault}
 use Rattle.theories.specs.Sound.{AreSoundlyTyped}
 use Rattle.theories.proofs.Walking.{walk_begins, walk_next, walk_fails, walk_ends, logical_typed, logical_fault, fault_so, answer_so}
+use Rattle.theories.proofs.Passed.{only_memory}
 use Rattle.theories.proofs.declarations.+typing.Goals as goal
 
 pub type_decl-returns-in_err-enter_scope-in-ScopeDecl-clause-err : goal.type_decl-returns-in_err-enter_scope-in-ScopeDecl-clause-err
@@ -34,21 +35,24 @@ type_decl-returns-in_err-type_decls-in-ScopeDecl-clause-err t c =
     λ f h. inr (record { between = b; first = c.in_ok-enter_scope-in-ScopeDecl.ensures.ok; fault = h }) in
     rw (p.1, p.2, e) (fault_so k c.in_err-type_decls-in-ScopeDecl.field-0.0 (rw c.as_slice-in-ScopeDecl.ensures at c.in_err-type_decls-in-ScopeDecl.ensures.err))
 
-pub type_decl-returns-in_ok-leave_scope-in-ScopeDecl-clause-ok : goal.type_decl-returns-in_ok-leave_scope-in-ScopeDecl-clause-ok
-type_decl-returns-in_ok-leave_scope-in-ScopeDecl-clause-ok t c =
+pub type_decl-returns-in_ok-type_decls-in-ScopeDecl-clause-ok : goal.type_decl-returns-in_ok-type_decls-in-ScopeDecl-clause-ok
+type_decl-returns-in_ok-type_decls-in-ScopeDecl-clause-ok t c =
     let e = decl_is c.args.decl.now (dv.ScopeDecl c.in-ScopeDecl.name c.in-ScopeDecl.within) c.in-ScopeDecl.is ∙ decl_of_node-ScopeDecl c.in-ScopeDecl.name c.in-ScopeDecl.within c.args.decl.now.at in
     let b = state_at c.args.store.now c.args.typed.now c.enter_scope.new.open in
     let d = state_at c.type_decls.new.store c.type_decls.new.typed c.type_decls.new.open in
     let outer : c.in_ok-outer-in-ScopeDecl.outer.items ≡ c.args.open.now.within.items = c.in_ok-outer-in-ScopeDecl.ensures.items ∙ c.as_slice.ensures.value in
-    rw e (record {
+    rw e (on_ok_weaker c.leave_scope.result (λ q. record {
       between = b;
       first = c.in_ok-enter_scope-in-ScopeDecl.ensures.ok;
       second = record {
         between = d;
         first = subst (λ (ds : List DeclTree). AreSoundlyTyped (decls (map decl_of ds)) b d) c.as_slice-in-ScopeDecl.ensures c.in_ok-type_decls-in-ScopeDecl.ensures.ok;
-        second = subst (λ (w : List ℕ). IsLeft w d (state_at c.type_decls.new.store c.type_decls.new.typed c.leave_scope.new.open)) outer c.in_ok-leave_scope-in-ScopeDecl.ensures.ok;
+        second = subst (λ (w : List ℕ). IsLeft w d (state_at c.type_decls.new.store c.type_decls.new.typed c.leave_scope.new.open)) outer q;
       };
-    })
+    }) c.leave_scope.ensures.ok)
+
+pub type_decl-returns-in_ok-type_decls-in-ScopeDecl-clause-err : goal.type_decl-returns-in_ok-type_decls-in-ScopeDecl-clause-err
+type_decl-returns-in_ok-type_decls-in-ScopeDecl-clause-err t c = only_memory (IsDeclarationFault (decl_of c.args.decl.now) (state_at c.args.store.now c.args.typed.now c.args.open.now)) c.leave_scope.result c.leave_scope.ensures.err
 
 pub type_decl-returns-in-UseTheory-clause-ok : goal.type_decl-returns-in-UseTheory-clause-ok
 type_decl-returns-in-UseTheory-clause-ok t c =
@@ -124,14 +128,11 @@ type_decl-leave_scope-requires t c = c.in_ok-type_decls-in-ScopeDecl.ensures.rig
 pub type_decl-returns-in_err-type_decls-in-ScopeDecl-clause-grows : goal.type_decl-returns-in_err-type_decls-in-ScopeDecl-clause-grows
 type_decl-returns-in_err-type_decls-in-ScopeDecl-clause-grows t c = c.type_decls.ensures.grows
 
-pub type_decl-returns-in_err-leave_scope-in-ScopeDecl-clause-grows : goal.type_decl-returns-in_err-leave_scope-in-ScopeDecl-clause-grows
-type_decl-returns-in_err-leave_scope-in-ScopeDecl-clause-grows t c = c.type_decls.ensures.grows
+pub type_decl-returns-in_ok-type_decls-in-ScopeDecl-clause-right : goal.type_decl-returns-in_ok-type_decls-in-ScopeDecl-clause-right
+type_decl-returns-in_ok-type_decls-in-ScopeDecl-clause-right t c = c.leave_scope.ensures.right
 
-pub type_decl-returns-in_ok-leave_scope-in-ScopeDecl-clause-right : goal.type_decl-returns-in_ok-leave_scope-in-ScopeDecl-clause-right
-type_decl-returns-in_ok-leave_scope-in-ScopeDecl-clause-right t c = c.in_ok-leave_scope-in-ScopeDecl.ensures.right
-
-pub type_decl-returns-in_ok-leave_scope-in-ScopeDecl-clause-grows : goal.type_decl-returns-in_ok-leave_scope-in-ScopeDecl-clause-grows
-type_decl-returns-in_ok-leave_scope-in-ScopeDecl-clause-grows t c = c.type_decls.ensures.grows
+pub type_decl-returns-in_ok-type_decls-in-ScopeDecl-clause-grows : goal.type_decl-returns-in_ok-type_decls-in-ScopeDecl-clause-grows
+type_decl-returns-in_ok-type_decls-in-ScopeDecl-clause-grows t c = c.type_decls.ensures.grows
 
 pub type_decl-type_use-requires : goal.type_decl-type_use-requires
 type_decl-type_use-requires t c = c.requires

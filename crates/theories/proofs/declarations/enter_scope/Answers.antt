@@ -1,11 +1,14 @@
 use Rattle.std.proofs.Common.{◌+◌, refl, sym, subst}
+use Rattle.std.proofs.lemmas.Result.{err_from_is_err_and}
 use Rattle.tasks.specs.Vocabulary.{of_signature}
 use Rattle.tasks.specs.Meaning.{symbols_at}
 use Rattle.valid_tasks.specs.Scopes.{AreTypedScopes}
 use Rattle.theory_states.specs.declared.states.Opened.{Opened}
+use Rattle.theory_states.specs.Meaning.{state_at}
+use Rattle.theories.specs.Typing.{IsTwice}
 use Rattle.theories.specs.Right.{IsStateRight}
 use Rattle.theories.proofs.Passing.{scoped_right, opened_scopes, opens_moves}
-use Rattle.theories.proofs.Passed.{no_ok}
+use Rattle.theories.proofs.Passed.{no_ok, memory_so}
 use Rattle.theories.proofs.declarations.enter_scope.Goals as goal
 
 pub returns-clause-right : goal.returns-clause-right
@@ -16,7 +19,7 @@ returns-clause-right c =
     let o' : Opened = record o { within = c.push.new.self; scope = c.open_name.new.self; moves = c.push-2.new.self; count = o.count + 1 } in
     let scopes = subst (AreTypedScopes (of_signature (symbols_at s t.sig.symbols)) s) (sym c.in-Ok.ensures.ok) (opened_scopes s t o c.requires c.as_slice.result.now) in
     let moves = opens_moves s t o c.requires c.in_ok-clone.field-0 c.push-2.new.self.items c.in_ok-push-2.ensures.items in
-    subst (IsStateRight s t) (sym c.in_ok-pass.ensures) (scoped_right s t o o' refl scopes moves c.requires)
+    subst (IsStateRight s t) (sym c.in_ok-pass.ensures.ok) (scoped_right s t o o' refl scopes moves c.requires)
 
 pub returns-in_err-extend_from_slice-clause-ok : goal.returns-in_err-extend_from_slice-clause-ok
 returns-in_err-extend_from_slice-clause-ok c = no_ok _ _ c.from_residual.result c.from_residual.ensures.1
@@ -47,3 +50,8 @@ returns-in_err-pass-clause-ok c = no_ok _ _ c.from_residual-in_err-pass.result c
 
 pub returns-in_err-pass-clause-right : goal.returns-in_err-pass-clause-right
 returns-in_err-pass-clause-right c = no_ok _ _ c.from_residual-in_err-pass.result c.from_residual-in_err-pass.ensures.1
+
+pub returns-in_err-pass-clause-err : goal.returns-in_err-pass-clause-err
+returns-in_err-pass-clause-err c =
+    let p = err_from_is_err_and c.from_residual-in_err-pass.result c.from_residual-in_err-pass.ensures.1 in
+    rw (p.1, p.2) (memory_so (IsTwice c.args.name.now (state_at c.args.store.now c.args.typed.now c.args.open.now)) c.in_err-pass.field-0.0 c.in_err-pass.ensures.err)

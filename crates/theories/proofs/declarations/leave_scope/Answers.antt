@@ -1,4 +1,4 @@
-use Rattle.theories.proofs.Passed.{no_ok}
+use Rattle.theories.proofs.Passed.{no_ok, is_memory}
 use Rattle.theories.proofs.declarations.leave_scope.Goals as goal
 
 pub returns-in_err-push-clause-ok : goal.returns-in_err-push-clause-ok
@@ -6,3 +6,6 @@ returns-in_err-push-clause-ok c = no_ok _ _ c.from_residual.result c.from_residu
 
 pub returns-in_err-push-clause-right : goal.returns-in_err-push-clause-right
 returns-in_err-push-clause-right c = no_ok _ _ c.from_residual.result c.from_residual.ensures.1
+
+pub returns-in_err-push-clause-err : goal.returns-in_err-push-clause-err
+returns-in_err-push-clause-err c = is_memory c.from_residual.result c.from_residual.ensures.1

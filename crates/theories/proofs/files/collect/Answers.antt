@@ -6,7 +6,7 @@ use Rattle.goal_tasks.specs.Meaning.{AreTuples}
 use Rattle.theory_states.specs.declared.states.Known.{Known}
 use Rattle.theories.specs.Ints.{int_entries}
 use Rattle.theories.proofs.Ending.{collected_is, collected_held, symbols_held}
-use Rattle.theories.proofs.Passed.{no_value}
+use Rattle.theories.proofs.Passed.{no_value, is_memory}
 use Rattle.theories.proofs.files.collect.Goals as goal
 
 pub returns-clause-ok : goal.returns-clause-ok
@@ -52,3 +52,9 @@ returns-in_err-new-clause-held c = no_value _ _ c.from_residual-in_err-new.resul
 
 pub returns-in_err-new-clause-tuples : goal.returns-in_err-new-clause-tuples
 returns-in_err-new-clause-tuples c = no_value _ _ c.from_residual-in_err-new.result c.from_residual-in_err-new.ensures.1
+
+pub returns-in_err-list-clause-err : goal.returns-in_err-list-clause-err
+returns-in_err-list-clause-err c = is_memory c.from_residual.result c.from_residual.ensures.1
+
+pub returns-in_err-new-clause-err : goal.returns-in_err-new-clause-err
+returns-in_err-new-clause-err c = is_memory c.from_residual-in_err-new.result c.from_residual-in_err-new.ensures.1

@@ -1,6 +1,6 @@
 use Rattle.std.proofs.Common.{ℕ, List, map, refl, subst}
 use Rattle.std.proofs.lemmas.Result.{err_from_is_err_and}
-use Rattle.trees.proofs.Nodes.{Grows_trans}
+use Rattle.trees.proofs.Nodes.{Grows_refl, Grows_trans}
 use Rattle.syntax_why.specs.declared.declarations.TheoryTree.{TheoryTree}
 use Rattle.syntax_why.specs.Declarations.{SyntaxTheory}
 use Rattle.syntax_why.specs.SurfaceDeclarations.{theory_of}
@@ -12,8 +12,8 @@ use Rattle.theories.specs.Sound.{AreSoundlyTyped}
 use Rattle.theories.specs.Right.{between_at}
 use Rattle.theories.proofs.Forgetting.{embedded_forgotten, first_so}
 use Rattle.theories.proofs.Walking.{fault_so}
-use Rattle.theories.proofs.Lists.{list_next, list_fails, list_ends, steps_map, fault_map}
-use Rattle.theories.proofs.Passed.{no_ok}
+use Rattle.theories.proofs.Lists.{list_begins, list_next, list_fails, list_ends, steps_map, fault_map}
+use Rattle.theories.proofs.Passed.{no_ok, no_memory}
 use Rattle.theories.proofs.files.type_embedded.Goals as goal
 
 pub returns-clause-ok : goal.returns-clause-ok
@@ -66,3 +66,25 @@ returns-in_err-type_new-clause-ok c = no_ok _ _ c.from_residual-in_err-type_new.
 
 pub returns-in_err-type_new-clause-right : goal.returns-in_err-type_new-clause-right
 returns-in_err-type_new-clause-right c = no_ok _ _ c.from_residual-in_err-type_new.result c.from_residual-in_err-type_new.ensures.1
+
+pub loop-theory-init : goal.loop-theory-init
+loop-theory-init c = record {
+  right = c.requires;
+  grows = Grows_refl c.args.store.now;
+  walk = list_begins (λ (t : TheoryTree). IsEmbeddedBy AreSoundlyTyped c.args.path.now (theory_of t)) (λ (t : TheoryTree). IsNewFault c.args.path.now (theory_of t).name.at (theory_of t).decls) (between_at c.args.store.now c.args.typed.now 0) c.args.theories.now;
+}
+
+pub returns-clause-right : goal.returns-clause-right
+returns-clause-right c = c.loop-theory.invariant.right
+
+pub returns-clause-grows : goal.returns-clause-grows
+returns-clause-grows c = c.loop-theory.invariant.grows
+
+pub returns-in_err-clone-clause-err : goal.returns-in_err-clone-clause-err
+returns-in_err-clone-clause-err c = no_memory (AreEmbeddedFaultyIn c.args.path.now (map theory_of c.args.theories.now) (between_at c.args.store.now c.args.typed.now 0)) c.from_residual.result c.from_residual.ensures.1
+
+pub returns-in_err-clone-clause-grows : goal.returns-in_err-clone-clause-grows
+returns-in_err-clone-clause-grows c = c.loop-theory.invariant.grows
+
+pub returns-in_err-type_new-clause-grows : goal.returns-in_err-type_new-clause-grows
+returns-in_err-type_new-clause-grows c = Grows_trans c.args.store.now c.loop-theory.store c.type_new.new.store c.loop-theory.invariant.grows c.type_new.ensures.grows

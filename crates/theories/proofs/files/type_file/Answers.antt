@@ -1,18 +1,22 @@
-use Rattle.std.proofs.Common.{◌≡◌, ℕ, List, map, length, inr, sym, ap, subst, ◌∙◌}
-use Rattle.std.proofs.lemmas.Result.{err_from_is_err_and}
+use Rattle.std.proofs.Common.{◌≡◌, ℕ, List, map, length, inl, inr, sym, ap, subst, ◌∙◌}
+use Rattle.std.proofs.lemmas.Result.{err_from_is_err_and, IfOk-weaker}
 use Rattle.std.proofs.lemmas.List.{length-map}
+use Rattle.trees.proofs.Nodes.{Grows_refl, Grows_trans}
 use Rattle.tasks.specs.Meaning.{symbols_at}
 use Rattle.tasks.specs.Valid.{AreInts}
 use Rattle.tasks.specs.declared.signature.SymbolInfo.{SymbolInfo}
 use Rattle.syntax_why.specs.SurfaceDeclarations.{file_of}
+use Rattle.goal_tasks.specs.declared.theories.Theories.{Theories}
+use Rattle.goal_tasks.specs.Meaning.{theories_at}
 use Rattle.theory_states.specs.declared.fault.SourceFault.{SourceFault}
 use Rattle.theory_states.specs.Meaning.{known_at}
 use Rattle.theories.specs.Ints.{int_entries}
-use Rattle.theories.specs.Files.{AreFaultyIn, theories_of, IsFirstSourceFault}
+use Rattle.theories.specs.Files.{AreFaultyIn, theories_of, TheoriesOf, IsLibraryFault, IsFirstSourceFault}
+use Rattle.theories.specs.Sound.{SoundTheoriesOf}
 use Rattle.theories.specs.Right.{between_at}
 use Rattle.theories.proofs.Forgetting.{library_forgotten, forgotten}
 use Rattle.theories.proofs.Walking.{fault_so}
-use Rattle.theories.proofs.Passed.{no_value}
+use Rattle.theories.proofs.Passed.{no_value, only_memory, no_memory}
 use Rattle.theories.proofs.files.type_file.Goals as goal
 
 pub type_library-requires-clause-right : goal.type_library-requires-clause-right
@@ -27,17 +31,39 @@ returns-clause-sound c =
     let done = rw c.as_slice.ensures at c.in_ok-type_theories.ensures.ok in
     let after = between_at s' t' done.0 in
     let count : c.len-embedded.result ≡ length (map (known_at s) t.known) = c.len-embedded.ensures ∙ sym (length-map t.known (known_at s)) in
-    record {
+    let P : Theories → Type 0 = λ all. (n : ℕ) → theories_at s' all ≡ theories_of c.len-embedded.result (between_at s' t' n) in
+    let Q : Theories → Type 0 = λ all. SoundTheoriesOf c.args.store.now (file_of c.args.file.now) (theories_at s' all) in
+    let k : (all : Theories) → P all → Q all = λ all h. record {
       before = between_at s t 0;
       library = c.in_ok-type_library.ensures.ok;
       after = after;
       typed = done.1;
       ints = subst (λ (xs : List SymbolInfo). AreInts (symbols_at s' xs) int_entries) c.as_slice-2.ensures (c.are_ints.ensures c.if-not-are_ints.false);
-      are = c.in_ok-collect.ensures.ok done.0 ∙ ap (λ (n : ℕ). theories_of n after) count;
-    }
+      are = h done.0 ∙ ap (λ (n : ℕ). theories_of n after) count;
+    } in
+    IfOk-weaker c.collect.result P Q k c.collect.ensures.ok
 
 pub returns-clause-ok : goal.returns-clause-ok
-returns-clause-ok c = forgotten c.args.store.now (file_of c.args.file.now) _ (returns-clause-sound c)
+returns-clause-ok c =
+    let s = c.args.store.now in
+    let s' = c.type_theories.new.store in
+    let source = file_of c.args.file.now in
+    let P : Theories → Type 0 = λ all. SoundTheoriesOf s source (theories_at s' all) in
+    let Q : Theories → Type 0 = λ all. TheoriesOf s source (theories_at s' all) in
+    let k : (all : Theories) → P all → Q all = λ all h. forgotten s source (theories_at s' all) h in
+    IfOk-weaker c.collect.result P Q k (returns-clause-sound c)
+
+pub returns-clause-held : goal.returns-clause-held
+returns-clause-held c = c.collect.ensures.held
+
+pub returns-clause-tuples : goal.returns-clause-tuples
+returns-clause-tuples c = c.collect.ensures.tuples
+
+pub returns-clause-err : goal.returns-clause-err
+returns-clause-err c = only_memory (IsFirstSourceFault c.args.store.now (file_of c.args.file.now)) c.collect.result c.collect.ensures.err
+
+pub returns-clause-grows : goal.returns-clause-grows
+returns-clause-grows c = Grows_trans c.args.store.now c.type_library.new.store c.type_theories.new.store c.type_library.ensures.grows c.type_theories.ensures.grows
 
 pub returns-in_err-type_theories-clause-err : goal.returns-in_err-type_theories-clause-err
 returns-in_err-type_theories-clause-err c =
@@ -84,14 +110,22 @@ returns-in_err-type_theories-clause-held c = no_value _ _ c.from_residual-in_err
 pub returns-in_err-type_theories-clause-tuples : goal.returns-in_err-type_theories-clause-tuples
 returns-in_err-type_theories-clause-tuples c = no_value _ _ c.from_residual-in_err-type_theories.result c.from_residual-in_err-type_theories.ensures.1
 
-pub returns-in_err-collect-clause-ok : goal.returns-in_err-collect-clause-ok
-returns-in_err-collect-clause-ok c = no_value _ _ c.from_residual-in_err-collect.result c.from_residual-in_err-collect.ensures.1
+pub returns-in_err-typed-clause-err : goal.returns-in_err-typed-clause-err
+returns-in_err-typed-clause-err c = no_memory (IsFirstSourceFault c.args.store.now (file_of c.args.file.now)) c.from_residual.result c.from_residual.ensures.1
 
-pub returns-in_err-collect-clause-sound : goal.returns-in_err-collect-clause-sound
-returns-in_err-collect-clause-sound c = no_value _ _ c.from_residual-in_err-collect.result c.from_residual-in_err-collect.ensures.1
+pub returns-in_err-typed-clause-grows : goal.returns-in_err-typed-clause-grows
+returns-in_err-typed-clause-grows c = Grows_refl c.args.store.now
 
-pub returns-in_err-collect-clause-held : goal.returns-in_err-collect-clause-held
-returns-in_err-collect-clause-held c = no_value _ _ c.from_residual-in_err-collect.result c.from_residual-in_err-collect.ensures.1
+pub returns-in_err-type_library-clause-err : goal.returns-in_err-type_library-clause-err
+returns-in_err-type_library-clause-err c =
+    let p = err_from_is_err_and c.from_residual-in_err-type_library.result c.from_residual-in_err-type_library.ensures.1 in
+    let s = c.args.store.now in
+    let source = file_of c.args.file.now in
+    let k : (f : SourceFault) → IsLibraryFault s f → IsFirstSourceFault s source f = λ f h. inl h in
+    rw (p.1, p.2) (fault_so k c.in_err-type_library.field-0.0 c.in_err-type_library.ensures.err)
 
-pub returns-in_err-collect-clause-tuples : goal.returns-in_err-collect-clause-tuples
-returns-in_err-collect-clause-tuples c = no_value _ _ c.from_residual-in_err-collect.result c.from_residual-in_err-collect.ensures.1
+pub returns-in_err-type_library-clause-grows : goal.returns-in_err-type_library-clause-grows
+returns-in_err-type_library-clause-grows c = c.type_library.ensures.grows
+
+pub returns-in_err-type_theories-clause-grows : goal.returns-in_err-type_theories-clause-grows
+returns-in_err-type_theories-clause-grows c = Grows_trans c.args.store.now c.type_library.new.store c.type_theories.new.store c.type_library.ensures.grows c.type_theories.ensures.grows

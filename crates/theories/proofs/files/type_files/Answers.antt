@@ -1,6 +1,6 @@
 use Rattle.std.proofs.Common.{ℕ, List}
 use Rattle.std.proofs.lemmas.Result.{err_from_is_err_and}
-use Rattle.trees.proofs.Nodes.{Grows_trans}
+use Rattle.trees.proofs.Nodes.{Grows_refl, Grows_trans}
 use Rattle.syntax_why.specs.declared.declarations.File.{File}
 use Rattle.syntax_why.specs.SurfaceDeclarations.{file_of}
 use Rattle.theory_states.specs.declared.fault.SourceFault.{SourceFault}
@@ -9,7 +9,7 @@ use Rattle.theories.specs.Files.{AreEmbeddedInBy, AreEmbeddedIn, AreEmbeddedFaul
 use Rattle.theories.specs.Sound.{AreSoundlyTyped}
 use Rattle.theories.specs.Right.{between_at}
 use Rattle.theories.proofs.Walking.{fault_so}
-use Rattle.theories.proofs.Lists.{list_next, list_fails, list_ends}
+use Rattle.theories.proofs.Lists.{list_begins, list_next, list_fails, list_ends}
 use Rattle.theories.proofs.Forgetting.{file_forgotten, first_so}
 use Rattle.theories.proofs.Passed.{no_ok}
 use Rattle.theories.proofs.files.type_files.Goals as goal
@@ -57,3 +57,19 @@ returns-in_err-type_embedded-clause-ok c = no_ok _ _ c.from_residual.result c.fr
 
 pub returns-in_err-type_embedded-clause-right : goal.returns-in_err-type_embedded-clause-right
 returns-in_err-type_embedded-clause-right c = no_ok _ _ c.from_residual.result c.from_residual.ensures.1
+
+pub loop-path-init : goal.loop-path-init
+loop-path-init c = record {
+  right = c.requires;
+  grows = Grows_refl c.args.store.now;
+  walk = list_begins (λ (f : List ℕ × File). AreEmbeddedInBy AreSoundlyTyped f.0 (file_of f.1)) (λ (f : List ℕ × File). AreEmbeddedFaultyIn f.0 (file_of f.1)) (between_at c.args.store.now c.args.typed.now 0) c.args.files.now;
+}
+
+pub returns-clause-right : goal.returns-clause-right
+returns-clause-right c = c.loop-path.invariant.right
+
+pub returns-clause-grows : goal.returns-clause-grows
+returns-clause-grows c = c.loop-path.invariant.grows
+
+pub returns-in_err-type_embedded-clause-grows : goal.returns-in_err-type_embedded-clause-grows
+returns-in_err-type_embedded-clause-grows c = Grows_trans c.args.store.now c.loop-path.store c.type_embedded.new.store c.loop-path.invariant.grows c.type_embedded.ensures.grows

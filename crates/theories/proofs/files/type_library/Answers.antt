@@ -1,12 +1,13 @@
 use Rattle.std.proofs.Common.{sym, subst}
 use Rattle.std.proofs.lemmas.Result.{on_ok_weaker}
+use Rattle.trees.proofs.Nodes.{Grows_refl}
 use Rattle.theory_states.specs.States.{StateTree}
 use Rattle.std_theories.specs.Library.{AreFilesOf, library}
 use Rattle.theories.specs.Files.{AreEmbeddedBy, AreEmbeddedFaulty, IsLibraryFault}
 use Rattle.theories.specs.Sound.{AreSoundlyTyped}
 use Rattle.theories.specs.Right.{between_at}
 use Rattle.theories.proofs.Walking.{answer_so}
-use Rattle.theories.proofs.Passed.{no_ok}
+use Rattle.theories.proofs.Passed.{no_ok, no_memory}
 use Rattle.theories.proofs.files.type_library.Goals as goal
 
 pub returns-clause-ok : goal.returns-clause-ok
@@ -29,3 +30,15 @@ returns-in_err-files-clause-ok c = no_ok _ _ c.from_residual.result c.from_resid
 
 pub returns-in_err-files-clause-right : goal.returns-in_err-files-clause-right
 returns-in_err-files-clause-right c = no_ok _ _ c.from_residual.result c.from_residual.ensures.1
+
+pub returns-clause-right : goal.returns-clause-right
+returns-clause-right c = c.type_files-done.ensures.right
+
+pub returns-clause-grows : goal.returns-clause-grows
+returns-clause-grows c = c.type_files-done.ensures.grows
+
+pub returns-in_err-files-clause-err : goal.returns-in_err-files-clause-err
+returns-in_err-files-clause-err c = no_memory (IsLibraryFault c.args.store.now) c.from_residual.result c.from_residual.ensures.1
+
+pub returns-in_err-files-clause-grows : goal.returns-in_err-files-clause-grows
+returns-in_err-files-clause-grows c = Grows_refl c.args.store.now

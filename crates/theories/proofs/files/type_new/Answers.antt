@@ -36,3 +36,9 @@ returns-clause-err c =
     let ds = (theory_of c.args.theory.now).decls in
     let new : is_path_taken c.args.path b.known ≡ false = ap (λ (p : List ℕ). is_path_taken p b.known) (sym c.as_slice.ensures) ∙ sym c.is_taken.ensures ∙ c.if-is_taken.false in
     answer_so (IsTheoryFault c.args.path ds b) (IsNewFault c.args.path c.args.theory.now.name.at ds b) (λ f h. inside new h) c.type_theory.result c.type_theory.ensures.err
+
+pub returns-clause-right : goal.returns-clause-right
+returns-clause-right c = c.type_theory.ensures.right
+
+pub returns-clause-grows : goal.returns-clause-grows
+returns-clause-grows c = c.type_theory.ensures.grows

@@ -1,6 +1,6 @@
 use Rattle.std.proofs.Common.{ℕ, List, map, subst}
 use Rattle.std.proofs.lemmas.Result.{err_from_is_err_and}
-use Rattle.trees.proofs.Nodes.{Grows_trans}
+use Rattle.trees.proofs.Nodes.{Grows_refl, Grows_trans}
 use Rattle.syntax_why.specs.declared.declarations.TheoryTree.{TheoryTree}
 use Rattle.syntax_why.specs.Declarations.{SyntaxTheory}
 use Rattle.syntax_why.specs.SurfaceDeclarations.{theory_of}
@@ -12,8 +12,8 @@ use Rattle.theories.specs.Sound.{AreSoundlyTyped}
 use Rattle.theories.specs.Right.{between_at}
 use Rattle.theories.proofs.Forgetting.{new_forgotten, first_so}
 use Rattle.theories.proofs.Walking.{fault_so}
-use Rattle.theories.proofs.Lists.{list_next, list_fails, list_ends, steps_map, fault_map}
-use Rattle.theories.proofs.Passed.{no_ok}
+use Rattle.theories.proofs.Lists.{list_begins, list_next, list_fails, list_ends, steps_map, fault_map}
+use Rattle.theories.proofs.Passed.{no_ok, no_memory}
 use Rattle.theories.proofs.files.type_theories.Goals as goal
 
 abbrev N : SyntaxTheory → StateTree → StateTree → Type 0
@@ -69,3 +69,21 @@ returns-in_err-count-clause-ok c = no_ok _ _ c.from_residual-in_err-count.result
 
 pub returns-in_err-count-clause-right : goal.returns-in_err-count-clause-right
 returns-in_err-count-clause-right c = no_ok _ _ c.from_residual-in_err-count.result c.from_residual-in_err-count.ensures.1
+
+pub loop-theory-init : goal.loop-theory-init
+loop-theory-init c = record { right = c.requires; grows = Grows_refl c.args.store.now; walk = list_begins R F (between_at c.args.store.now c.args.typed.now 0) c.args.theories.now }
+
+pub returns-clause-right : goal.returns-clause-right
+returns-clause-right c = c.loop-theory.invariant.right
+
+pub returns-clause-grows : goal.returns-clause-grows
+returns-clause-grows c = c.loop-theory.invariant.grows
+
+pub returns-in_err-path-clause-err : goal.returns-in_err-path-clause-err
+returns-in_err-path-clause-err c = no_memory (AreFaultyIn (map theory_of c.args.theories.now) (between_at c.args.store.now c.args.typed.now 0)) c.from_residual.result c.from_residual.ensures.1
+
+pub returns-in_err-path-clause-grows : goal.returns-in_err-path-clause-grows
+returns-in_err-path-clause-grows c = c.loop-theory.invariant.grows
+
+pub returns-in_err-count-clause-grows : goal.returns-in_err-count-clause-grows
+returns-in_err-count-clause-grows c = Grows_trans c.args.store.now c.loop-theory.store c.type_new.new.store c.loop-theory.invariant.grows c.type_new.ensures.grows
