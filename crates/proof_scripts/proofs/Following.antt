@@ -1,5 +1,5 @@
 -- How scripts are followed: line by line, over drafts that grow.
-use Rattle.std.proofs.Common.{◌≡◌, ℕ, zero, suc, ◌+◌, ◌≤◌, List, [], ◌∷◌, ◌++◌, map, length, slice_get, take, drop, All, Option, Some, None, refl, sym, ap, subst, ◌∙◌, append_assoc, arith}
+use Rattle.std.proofs.Common.{◌≡◌, ℕ, zero, suc, ◌+◌, ◌≤◌, List, [], ◌∷◌, ◌++◌, map, length, slice_get, take, drop, All, Option, Some, None, Result, Ok, Err, IfOk, IsErrAnd, refl, sym, ap, subst, ◌∙◌, append_assoc, arith}
 use Rattle.std.proofs.lemmas.List.{map-append, length-map, length-append}
 use Rattle.std.proofs.lemmas.List.Elements.{All-cons, All-nil}
 use Rattle.tasks.specs.Valid.{IsGroundFormula}
@@ -160,29 +160,17 @@ module _ (d d1 : DraftTree) (x : Extends d d1) where
 
 -- ---- the first line
 module _ (d : DraftTree) (f t : List Tree) (ts : List (List Tree)) (s : List Tree) (ls rest : List Line) (l : Line) (q : ls ≡ l ∷ rest) where
-  opened : Follows d f (lines_at s ls) (t ∷ ts) → Follows d f (script_line_at s l ∷ lines_at s rest) (t ∷ ts)
+  pub opened : Follows d f (lines_at s ls) (t ∷ ts) → Follows d f (script_line_at s l ∷ lines_at s rest) (t ∷ ts)
   opened h = subst (λ (z : List Line). Follows d f (lines_at s z) (t ∷ ts)) q h
-
-  pub line_here : (m : Line) → l ≡ m → Follows d f (lines_at s ls) (t ∷ ts) → Follows d f (script_line_at s m ∷ lines_at s rest) (t ∷ ts)
-  line_here m e h = subst (λ (z : Line). Follows d f (script_line_at s z ∷ lines_at s rest) (t ∷ ts)) e (opened h)
 
   pub given_here : (k n : ℕ) → l ≡ line.Given k n → Follows d f (lines_at s ls) (t ∷ ts) → IsGiven d f t k n × Follows d f (lines_at s rest) ts
   given_here k n e h = subst (λ (z : Line). Follows d f (script_line_at s z ∷ lines_at s rest) (t ∷ ts)) e (opened h)
-
-  pub rule_here : (w : Word) (a b : Option Formulas) → l ≡ line.By w a b → Follows d f (lines_at s ls) (t ∷ ts)
-      → IsByRule d.task (f ++ t) (word_rule s w) (added_at s a ++ added_at s b) × Follows d f (lines_at s rest) ((sequents_under t (added_at s a) ++ sequents_under t (added_at s b)) ++ ts)
-  rule_here w a b e h =
-      let o : Follows d f (RuleLine (word_rule s w) (added_at s a) (added_at s b) ∷ lines_at s rest) (t ∷ ts) = subst (λ (z : Line). Follows d f (script_line_at s z ∷ lines_at s rest) (t ∷ ts)) e (opened h) in
-      (o.0, subst (Follows d f (lines_at s rest)) (sym (append_assoc (sequents_under t (added_at s a)) (sequents_under t (added_at s b)) ts)) o.1)
 
   pub first_held : LinesHeld d ls → LineHeld d l
   first_held h = subst (LinesHeld d) q h 0 l (omega arith)
 
   pub rest_held : LinesHeld d ls → LinesHeld d rest
   rest_held h = λ k z m. subst (LinesHeld d) q h (suc k) z (omega arith)
-
-  drop_lines : (n : ℕ) → drop (suc n) (lines_at s ls) ≡ drop n (lines_at s rest)
-  drop_lines n = ap (λ (z : List Line). drop (suc n) (lines_at s z)) q
 
 -- one line is used, and others after it
 pub consumes_more : (f t : List Tree) (s : List Tree) (ls rest : List Line) (l : Line) (q : ls ≡ l ∷ rest) (n : ℕ) (us : List (List Tree))
@@ -206,7 +194,10 @@ consumes_both f s ls behind ts us m n q a b = record {
       subst (λ (z : List LineTree). Follows d f z r) (ap (drop n) (sym moved) ∙ drop_drop n m (lines_at s ls)) second;
 }
 
--- what is left for a second premise
+-- what is left for a first premise, and for a second one
+pub first_follows : (d : DraftTree) (f : List Tree) (ls : List LineTree) (ts us : List (List Tree)) → CanFollow d f ls (ts ++ us) → CanFollow d f ls ts
+first_follows d f ls ts us c = record { rest = us ++ c.rest; follows = subst (Follows d f ls) (append_assoc ts us c.rest) c.follows }
+
 pub second_follows : (d : DraftTree) (f : List Tree) (s : List Tree) (ls behind : List Line) (ts us : List (List Tree)) (m : ℕ) → behind ≡ drop m ls → Consumes f (lines_at s ls) ts m
     → (c : CanFollow d f (lines_at s ls) (ts ++ us)) → Follows d f (lines_at s behind) (us ++ c.rest)
 second_follows d f s ls behind ts us m q a c =
@@ -295,3 +286,8 @@ front_formulas d ids before n e f = (formulas_by d before (drop n ids) ids (spli
 
 pub back_formulas : (d : DraftTree) (ids last : List TermId) (n : ℕ) → last ≡ drop n ids → AreFormulas d ids → AreFormulas d last
 back_formulas d ids last n e f = (formulas_by d (take n ids) last ids (split_is ids (take n ids) last n refl e) f).1
+
+-- ---- what is said of a value doesn't matter after a fault
+pub no_value : {T E : Type 0} (P : T → Type 0) (Q : E → Type 0) (r : Result T E) → IsErrAnd r Q → IfOk r P
+no_value P Q (Ok v) h = absurd h
+no_value P Q (Err e) h = tt

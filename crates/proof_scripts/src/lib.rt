@@ -3,6 +3,7 @@
 #![tactic(auto)]
 
 mod line;
+mod opening;
 mod script;
 mod sides;
 

@@ -4,7 +4,7 @@ ghost use Rattle.trees.specs.Tree.{Tree};
 ghost use Rattle.rule_rows.specs.Meaning.{rule_at, RuleHeld};
 ghost use Rattle.proof_scripts.specs.Scripts.{word_rule, WordHeld, ids_of};
 
-use evidence::{failing_rule, holding_rule};
+use evidence::{failing_rule, holding_rule, join_lists};
 use rule_rows::Rule;
 use std::alloc::{AllocError, Global};
 use trees::{Op, TermId};
@@ -75,13 +75,8 @@ pub(crate) fn tail_with(
 ) -> Result<Vec<TermId>, AllocError>
     ensures { IfOk result (λ v. v.items ≡ tail.now ++ ids_of added) }
 {
-    let mut all = Vec::from_slice(alloc, tail)?;
     match added {
-        Formulas::One(a) => all.push(a)?,
-        Formulas::Two(a, b) => {
-            all.push(a)?;
-            all.push(b)?;
-        }
+        Formulas::One(a) => join_lists(alloc, tail, &[a]),
+        Formulas::Two(a, b) => join_lists(alloc, tail, &[a, b]),
     }
-    Ok(all)
 }

@@ -1,19 +1,15 @@
 // Steps by the lines of a script.
-ghost use Rattle.std.specs.Prelude.{◌≡◌, ◌+◌, ◌<◌, ◌≤◌, ◌++◌, [], ◌∷◌, List, All, length, slice_get, IfOk};
-ghost use Rattle.trees.specs.Tree.{Tree};
-ghost use Rattle.trees.specs.Node.{tree_at};
-ghost use Rattle.tasks.specs.Task.{neg};
+ghost use Rattle.std.specs.Prelude.{◌≡◌, ◌+◌, ◌<◌, ◌≤◌, ◌++◌, [], ◌∷◌, All, length, IfOk};
 ghost use Rattle.tasks.specs.Meaning.{trees_at};
-ghost use Rattle.evidence.specs.Drafts.{Extends, Refutes, RefuteAll, AreFormulas, IsFormulaAt};
-ghost use Rattle.proof_scripts.specs.Scripts.{word_rule, WordHeld, added_ids, added_at, sequents_under, lines_at, LinesHeld, IsByRule, IsGiven, Follows, CanFollow, HoldingLine, FailingLine, CutLine};
+ghost use Rattle.evidence.specs.Drafts.{Extends, Refutes, AreFormulas};
+ghost use Rattle.proof_scripts.specs.Scripts.{word_rule, WordHeld, added_ids, added_at, sequents_under, lines_at, LinesHeld, IsByRule, IsGiven, Follows, CanFollow};
 ghost use Rattle.proof_scripts.specs.Derived.{Consumes, ConsumesBehind, RefuteUnder};
 
 use crate::line::{Formulas, Line, Word, rule_of, tail_with};
-use crate::sides::{negate_both, where_false, where_true};
-use evidence::{Draft, by_rule, keep_but, negation};
+use crate::opening::open_line;
+use evidence::{Draft, by_rule, keep_but};
 use std::alloc::AllocError;
-use term_store::Grow;
-use trees::{Node, Op, TermId};
+use trees::TermId;
 
 // A step, and how many lines it took.
 #[derive(Clone, Copy)]
@@ -71,18 +67,26 @@ fn walk(
                     used: 1,
                 })
             }
-            Line::By(word, first, second) => {
-                by_word(draft, front, tail, *word, *first, *second, rest)
+            _ => {
+                let opened = open_line(draft, front, tail, *line)?;
+                let mut steps = Vec::new(draft.allocator());
+                by_word(
+                    draft,
+                    front,
+                    tail,
+                    opened.0,
+                    opened.1.first,
+                    opened.1.second,
+                    rest,
+                    &mut steps,
+                )
             }
-            Line::Holding(op, place) => by_holding(draft, front, tail, *op, *place, rest),
-            Line::Failing(op, place) => by_failing(draft, front, tail, *op, *place, rest),
-            Line::Cut(formula) => by_cut(draft, front, tail, *formula, rest),
         },
         None => Err(AllocError),
     }
 }
 
-// The same by a rule, over the lines after it.
+// The same by a rule, over the lines after it, where no premise has a step yet.
 #[cycle(walk)]
 fn by_word(
     draft: &mut Draft,
@@ -92,6 +96,7 @@ fn by_word(
     first: Option<Formulas>,
     second: Option<Formulas>,
     lines: &[Line],
+    premises: &mut Vec<usize>,
 ) -> Result<Derived, AllocError>
     requires front { AreFormulas draft.old front.now }
     requires tail { AreFormulas draft.old tail.now }
@@ -107,6 +112,7 @@ fn by_word(
         (lines_at draft.old.trees lines.now)
         (sequents_under (trees_at draft.old.trees tail.now) (added_at draft.old.trees first)
         ++ sequents_under (trees_at draft.old.trees tail.now) (added_at draft.old.trees second)) }
+    requires none { premises.old.items ≡ [] }
     ensures refutes { IfOk result (λ r. Refutes draft.new r.step
         (trees_at draft.old.trees front.now ++ trees_at draft.old.trees tail.now)) }
     ensures used { IfOk result (λ r. ConsumesBehind
@@ -117,150 +123,14 @@ fn by_word(
     ensures within { IfOk result (λ r. r.used ≤ length lines.now + 1) }
     ensures grows { Extends draft.old draft.new }
 {
-    let mut premises = Vec::new(draft.allocator());
-    let one = premise(draft, front, tail, first, lines, &mut premises)?;
+    let one = premise(draft, front, tail, first, lines, premises)?;
     let (_, behind) = lines.split_at(one);
-    let two = premise(draft, front, tail, second, behind, &mut premises)?;
-    let step = by_rule(draft, front, tail, rule_of(word), &premises)?;
+    let two = premise(draft, front, tail, second, behind, premises)?;
+    let step = by_rule(draft, front, tail, rule_of(word), premises)?;
     Ok(Derived {
         step,
         used: 1 + one + two,
     })
-}
-
-// The same by the rule on a connective of the tail, at a place, over the lines after it.
-#[cycle(walk)]
-fn by_holding(
-    draft: &mut Draft,
-    front: &[TermId],
-    tail: &[TermId],
-    op: Op,
-    place: usize,
-    lines: &[Line],
-) -> Result<Derived, AllocError>
-    requires front { AreFormulas draft.old front.now }
-    requires tail { AreFormulas draft.old tail.now }
-    requires lines { LinesHeld draft.old lines.now }
-    requires follow { CanFollow draft.old (trees_at draft.old.trees front.now)
-        (HoldingLine op place ∷ lines_at draft.old.trees lines.now)
-        (trees_at draft.old.trees tail.now ∷ []) }
-    ensures refutes { IfOk result (λ r. Refutes draft.new r.step
-        (trees_at draft.old.trees front.now ++ trees_at draft.old.trees tail.now)) }
-    ensures used { IfOk result (λ r. Consumes (trees_at draft.old.trees front.now)
-        (HoldingLine op place ∷ lines_at draft.old.trees lines.now)
-        (trees_at draft.old.trees tail.now ∷ []) r.used) }
-    ensures within { IfOk result (λ r. r.used ≤ length lines.now + 1) }
-    ensures grows { Extends draft.old draft.new }
-{
-    match draft.store().node(tail[place]) {
-        Node::Join(_, a, b) => {
-            let both = negate_both(draft, a, b)?;
-            let sides = where_true(op, both);
-            let word = Word::Holding(op, front.len() + place);
-            by_word(draft, front, tail, word, sides.first, sides.second, lines)
-        }
-        _ => Err(AllocError),
-    }
-}
-
-// The same by the rule on the negation of a connective of the tail, at a place, over the lines after it.
-#[cycle(walk)]
-fn by_failing(
-    draft: &mut Draft,
-    front: &[TermId],
-    tail: &[TermId],
-    op: Op,
-    place: usize,
-    lines: &[Line],
-) -> Result<Derived, AllocError>
-    requires front { AreFormulas draft.old front.now }
-    requires tail { AreFormulas draft.old tail.now }
-    requires lines { LinesHeld draft.old lines.now }
-    requires follow { CanFollow draft.old (trees_at draft.old.trees front.now)
-        (FailingLine op place ∷ lines_at draft.old.trees lines.now)
-        (trees_at draft.old.trees tail.now ∷ []) }
-    ensures refutes { IfOk result (λ r. Refutes draft.new r.step
-        (trees_at draft.old.trees front.now ++ trees_at draft.old.trees tail.now)) }
-    ensures used { IfOk result (λ r. Consumes (trees_at draft.old.trees front.now)
-        (FailingLine op place ∷ lines_at draft.old.trees lines.now)
-        (trees_at draft.old.trees tail.now ∷ []) r.used) }
-    ensures within { IfOk result (λ r. r.used ≤ length lines.now + 1) }
-    ensures grows { Extends draft.old draft.new }
-{
-    match draft.store().node(tail[place]) {
-        Node::Not(whole) => by_failed(draft, front, tail, op, place, whole, lines),
-        _ => Err(AllocError),
-    }
-}
-
-// The same, where the formula that is negated is known.
-#[cycle(walk)]
-fn by_failed(
-    draft: &mut Draft,
-    front: &[TermId],
-    tail: &[TermId],
-    op: Op,
-    place: usize,
-    whole: TermId,
-    lines: &[Line],
-) -> Result<Derived, AllocError>
-    requires front { AreFormulas draft.old front.now }
-    requires tail { AreFormulas draft.old tail.now }
-    requires whole { IsFormulaAt draft.old whole }
-    requires there { slice_get (trees_at draft.old.trees tail.now) place
-        ≡ Some (neg (tree_at draft.old.trees whole)) }
-    requires within { place < length tail.now }
-    requires lines { LinesHeld draft.old lines.now }
-    requires follow { CanFollow draft.old (trees_at draft.old.trees front.now)
-        (FailingLine op place ∷ lines_at draft.old.trees lines.now)
-        (trees_at draft.old.trees tail.now ∷ []) }
-    ensures refutes { IfOk result (λ r. Refutes draft.new r.step
-        (trees_at draft.old.trees front.now ++ trees_at draft.old.trees tail.now)) }
-    ensures used { IfOk result (λ r. Consumes (trees_at draft.old.trees front.now)
-        (FailingLine op place ∷ lines_at draft.old.trees lines.now)
-        (trees_at draft.old.trees tail.now ∷ []) r.used) }
-    ensures within { IfOk result (λ r. r.used ≤ length lines.now + 1) }
-    ensures grows { Extends draft.old draft.new }
-{
-    match draft.store().node(whole) {
-        Node::Join(_, a, b) => {
-            let both = negate_both(draft, a, b)?;
-            let sides = where_false(op, both);
-            let word = Word::Failing(op, front.len() + place);
-            by_word(draft, front, tail, word, sides.first, sides.second, lines)
-        }
-        _ => Err(AllocError),
-    }
-}
-
-// The same by a cut, over the lines after it.
-#[cycle(walk)]
-fn by_cut(
-    draft: &mut Draft,
-    front: &[TermId],
-    tail: &[TermId],
-    formula: TermId,
-    lines: &[Line],
-) -> Result<Derived, AllocError>
-    requires front { AreFormulas draft.old front.now }
-    requires tail { AreFormulas draft.old tail.now }
-    requires formula { IsFormulaAt draft.old formula }
-    requires lines { LinesHeld draft.old lines.now }
-    requires follow { CanFollow draft.old (trees_at draft.old.trees front.now)
-        (CutLine (tree_at draft.old.trees formula) ∷ lines_at draft.old.trees lines.now)
-        (trees_at draft.old.trees tail.now ∷ []) }
-    ensures refutes { IfOk result (λ r. Refutes draft.new r.step
-        (trees_at draft.old.trees front.now ++ trees_at draft.old.trees tail.now)) }
-    ensures used { IfOk result (λ r. Consumes (trees_at draft.old.trees front.now)
-        (CutLine (tree_at draft.old.trees formula) ∷ lines_at draft.old.trees lines.now)
-        (trees_at draft.old.trees tail.now ∷ []) r.used) }
-    ensures within { IfOk result (λ r. r.used ≤ length lines.now + 1) }
-    ensures grows { Extends draft.old draft.new }
-{
-    let negated = negation(draft, formula)?;
-    let yes = Some(Formulas::One(formula));
-    let no = Some(Formulas::One(negated));
-    by_word(draft, front, tail, Word::Cut(formula), yes, no, lines)
 }
 
 // Adds the number of a step for the premise, where there is one, by the first lines.

@@ -1,0 +1,96 @@
+// The rule that a line means, with what its premises add.
+ghost use Rattle.std.specs.Prelude.{IfOk};
+ghost use Rattle.tasks.specs.Meaning.{trees_at};
+ghost use Rattle.evidence.specs.Drafts.{AddsTrees, AreFormulas};
+ghost use Rattle.proof_scripts.specs.Scripts.{script_line_at, LineHeld, HoldingLine, FailingLine};
+ghost use Rattle.proof_scripts.specs.Derived.{CanOpen, IsLineOpened};
+
+use crate::line::{Formulas, Line, Sides, Word};
+use crate::sides::{negate_both, where_false, where_true};
+use evidence::{Draft, negation};
+use std::alloc::AllocError;
+use term_store::Grow;
+use trees::{Node, Op, TermId};
+
+// The rule of a line, with what its premises add; an earlier step has none.
+pub(crate) fn open_line(
+    draft: &mut Draft,
+    front: &[TermId],
+    tail: &[TermId],
+    line: Line,
+) -> Result<(Word, Sides), AllocError>
+    requires tail { AreFormulas draft.old tail.now }
+    requires line { LineHeld draft.old line }
+    requires opens { CanOpen draft.old (trees_at draft.old.trees front.now)
+        (trees_at draft.old.trees tail.now) (script_line_at draft.old.trees line) }
+    ensures opened { IfOk result (λ r. IsLineOpened draft.new (trees_at draft.old.trees front.now)
+        (trees_at draft.old.trees tail.now) (script_line_at draft.old.trees line) r.0 r.1) }
+    ensures grows { AddsTrees draft.old draft.new }
+{
+    match line {
+        Line::Given(_, _) => Err(AllocError),
+        Line::By(word, first, second) => Ok((word, Sides { first, second })),
+        Line::Holding(op, place) => open_holding(draft, front, tail, op, place),
+        Line::Failing(op, place) => open_failing(draft, front, tail, op, place),
+        Line::Cut(formula) => {
+            let negated = negation(draft, formula)?;
+            let first = Some(Formulas::One(formula));
+            let second = Some(Formulas::One(negated));
+            Ok((Word::Cut(formula), Sides { first, second }))
+        }
+    }
+}
+
+// The rule on a connective of the tail, at a place.
+fn open_holding(
+    draft: &mut Draft,
+    front: &[TermId],
+    tail: &[TermId],
+    op: Op,
+    place: usize,
+) -> Result<(Word, Sides), AllocError>
+    requires tail { AreFormulas draft.old tail.now }
+    requires opens { CanOpen draft.old (trees_at draft.old.trees front.now)
+        (trees_at draft.old.trees tail.now) (HoldingLine op place) }
+    ensures opened { IfOk result (λ r. IsLineOpened draft.new (trees_at draft.old.trees front.now)
+        (trees_at draft.old.trees tail.now) (HoldingLine op place) r.0 r.1) }
+    ensures grows { AddsTrees draft.old draft.new }
+{
+    match draft.store().node(tail[place]) {
+        Node::Join(_, a, b) => {
+            let both = negate_both(draft, a, b)?;
+            Ok((Word::Holding(op, front.len() + place), where_true(op, both)))
+        }
+        _ => Err(AllocError),
+    }
+}
+
+// The rule on the negation of a connective of the tail, at a place.
+fn open_failing(
+    draft: &mut Draft,
+    front: &[TermId],
+    tail: &[TermId],
+    op: Op,
+    place: usize,
+) -> Result<(Word, Sides), AllocError>
+    requires tail { AreFormulas draft.old tail.now }
+    requires opens { CanOpen draft.old (trees_at draft.old.trees front.now)
+        (trees_at draft.old.trees tail.now) (FailingLine op place) }
+    ensures opened { IfOk result (λ r. IsLineOpened draft.new (trees_at draft.old.trees front.now)
+        (trees_at draft.old.trees tail.now) (FailingLine op place) r.0 r.1) }
+    ensures grows { AddsTrees draft.old draft.new }
+{
+    match draft.store().node(tail[place]) {
+        Node::Not(whole) => match draft.store().node(whole) {
+            Node::Join(_, a, b) => {
+                let both = negate_both(draft, a, b)?;
+                Ok((
+                    Word::Failing(op, front.len() + place),
+                    where_false(op, both),
+                ))
+            }
+            _ => Err(AllocError),
+        },
+        _ => Err(AllocError),
+    }
+}
