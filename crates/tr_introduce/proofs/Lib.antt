@@ -1,4 +1,5 @@
 pub mod Introduced
+pub mod Passed
 pub mod Moving
 pub mod Opening
 pub mod Tasks

@@ -1,11 +1,12 @@
 -- Declarations that are kept, and propositions that are looked for among them, one declaration more.
-use Rattle.std.proofs.Common.{◌≡◌, ℕ, suc, ◌+◌, ◌-◌, ◌<◌, ◌≤◌, Bool, true, false, ◌&&◌, ◌||◌, if◌then◌else◌, List, [], ◌∷◌, ◌++◌, length, get_or, drop, slice_get, refl, sym, ap, ◌∙◌, append_assoc, arith}
+use Rattle.std.proofs.Common.{◌≡◌, ℕ, suc, ◌+◌, ◌-◌, ◌<◌, ◌≤◌, Bool, true, false, ◌&&◌, ◌||◌, if◌then◌else◌, List, [], ◌∷◌, ◌++◌, length, get_or, drop, slice_get, All, refl, sym, ap, subst, ◌∙◌, append_assoc, arith}
 use Rattle.std.specs.List.{list_any}
-use Rattle.std.proofs.lemmas.List.{append-nil, at_drop_more, at_drop_all}
+use Rattle.std.proofs.lemmas.List.{append-nil, map-append, at_drop_more, at_drop_all}
+use Rattle.std.proofs.lemmas.List.Elements.{All-push}
 use Rattle.trees.specs.Tree.{Tree}
 use Rattle.tasks.specs.declared.declaration.Decl.{Decl}
 use Rattle.tasks.specs.Task.{DeclarationTree, BodyTree, MakesType, Makes, Defines, Induces, Constructs, Says, PropositionTree, said_by, props_of}
-use Rattle.tasks.specs.Meaning.{declaration_at, declarations_at}
+use Rattle.tasks.specs.Meaning.{declaration_at, declarations_at, DeclHeld}
 use Rattle.tr_introduce.specs.Remove.{is_proposition, is_declaration_named, is_removed, kept_decls}
 use Rattle.tr_introduce.specs.declared.removal.Seek.{Seek}
 use Rattle.tr_introduce.specs.Sought.{Found, PassesDeclaration}
@@ -20,6 +21,19 @@ any_further f xs i x l q t = at_drop_more (list_any f) xs i x l ∙ ap (λ z. f 
 choice_moves : (r : Bool) (d : DeclarationTree) (xs : List DeclarationTree) → (if r then [] else d ∷ []) ++ xs ≡ (if r then xs else d ∷ xs)
 choice_moves true d xs = refl
 choice_moves false d xs = refl
+
+-- a declaration that is removed, and a copy of one that is kept
+module _ (s : List Tree) (old new : List Decl) (copy decl : Decl) where
+  pub kept_same : (r : Bool) → r ≡ true → declarations_at s old ≡ declarations_at s old ++ (if r then [] else declaration_at s decl ∷ [])
+  kept_same r e = sym (ap (λ (b : Bool). declarations_at s old ++ (if b then [] else declaration_at s decl ∷ [])) e ∙ append-nil (declarations_at s old))
+
+  pub kept_pushed : (r : Bool) → new ≡ old ++ copy ∷ [] → copy ≡ decl → r ≡ false → declarations_at s new ≡ declarations_at s old ++ (if r then [] else declaration_at s decl ∷ [])
+  kept_pushed r p q e =
+      ap (declarations_at s) p ∙ map-append (declaration_at s) old (copy ∷ []) ∙ ap (λ (z : Decl). declarations_at s old ++ declaration_at s z ∷ []) q
+      ∙ ap (λ (b : Bool). declarations_at s old ++ (if b then [] else declaration_at s decl ∷ [])) (sym e)
+
+  pub held_pushed : new ≡ old ++ copy ∷ [] → copy ≡ decl → All (DeclHeld s) old → DeclHeld s decl → All (DeclHeld s) new
+  held_pushed p q a h = subst (All (DeclHeld s)) (sym p) (All-push (DeclHeld s) old copy a (subst (DeclHeld s) (sym q) h))
 
 -- one declaration more
 pub kept_more : (s : List Tree) (props : List (List ℕ × List ℕ)) (decls : List Decl) (i : ℕ) (decl : Decl) (old new : List DeclarationTree) → i < length decls → decl ≡ get_or decls i decl

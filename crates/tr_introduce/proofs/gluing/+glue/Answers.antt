@@ -7,13 +7,14 @@ use Rattle.trees.specs.Binding.{inst, Param}
 use Rattle.tasks.specs.Task.{neg}
 use Rattle.tasks.specs.Meaning.{trees_at}
 use Rattle.evidence.specs.Drafts.{Refutes}
-use Rattle.evidence.specs.Laws.{Extends_trans, AddsTrees_extends}
+use Rattle.evidence.specs.Laws.{Extends_trans, AddsTrees_extends, AddsTrees_refl}
 use Rattle.evidence.proofs.Formulas.{same, formulas_later, formula_later}
 use Rattle.tr_introduce.specs.Introduce.{prefix}
 use Rattle.tr_introduce.specs.Steps.{AreParamsBelow}
 use Rattle.tr_introduce.proofs.Introduced.{prefix_inst}
 use Rattle.tr_introduce.proofs.Moving.{wider_formulas, neg_back}
-use Rattle.tr_introduce.proofs.Opening.{opened_formula, opened_below, opened_ends, premise_formula, conclusion_formula, wider_trees, wider_below, wider_ends}
+use Rattle.tr_introduce.proofs.Opening.{opened_formula, opened_below, opened_ends, premise_formula, conclusion_formula, wider_trees, wider_below, wider_ends, kind, ends_here}
+use Rattle.tr_introduce.proofs.Passed.{no_value}
 use Rattle.tr_introduce.proofs.gluing.+glue.Goals as goal
 
 pub glue_universal-glue_goal-requires : goal.glue_universal-glue_goal-requires
@@ -145,3 +146,69 @@ glue_implication-returns-clause-refutes t c =
 
 pub glue_implication-returns-clause-grows : goal.glue_implication-returns-clause-grows
 glue_implication-returns-clause-grows t c = Extends_trans _ _ _ c.in_ok-step.ensures.grows c.refute_implication.ensures.grows
+
+pub glue_goal-glue_universal-requires : goal.glue_goal-glue_universal-requires
+glue_goal-glue_universal-requires t c =
+    let b = rw c.store.ensures at c.in-Universal.ensures in
+    (omega arith, (c.requires.front, (c.requires.goal, (b.0, (b.1, (b.2, (c.requires.below, c.requires.end)))))))
+
+pub glue_goal-returns-in-Universal-clause-refutes : goal.glue_goal-returns-in-Universal-clause-refutes
+glue_goal-returns-in-Universal-clause-refutes t c = c.glue_universal.ensures.refutes
+
+pub glue_goal-returns-in-Universal-clause-grows : goal.glue_goal-returns-in-Universal-clause-grows
+glue_goal-returns-in-Universal-clause-grows t c = c.glue_universal.ensures.grows
+
+pub glue_goal-glue_implication-requires : goal.glue_goal-glue_implication-requires
+glue_goal-glue_implication-requires t c =
+    let b = rw c.store.ensures at c.in-Implication.ensures in
+    (omega arith, (c.requires.front, (c.requires.goal, (b.0, (b.1, (b.2, (c.requires.below, c.requires.end)))))))
+
+pub glue_goal-returns-in-Implication-clause-refutes : goal.glue_goal-returns-in-Implication-clause-refutes
+glue_goal-returns-in-Implication-clause-refutes t c = c.glue_implication.ensures.refutes
+
+pub glue_goal-returns-in-Implication-clause-grows : goal.glue_goal-returns-in-Implication-clause-grows
+glue_goal-returns-in-Implication-clause-grows t c = c.glue_implication.ensures.grows
+
+pub glue_goal-returns-in-Neither-clause-refutes : goal.glue_goal-returns-in-Neither-clause-refutes
+glue_goal-returns-in-Neither-clause-refutes t c =
+    let d = c.args.draft.now in
+    ends_here d (trees_at d.trees c.args.front.now) (tree_at d.trees c.args.goal) c.args.number c.args.end (rw c.store.ensures at c.in-Neither.ensures) c.requires.end
+
+pub glue_goal-returns-in-Neither-clause-grows : goal.glue_goal-returns-in-Neither-clause-grows
+glue_goal-returns-in-Neither-clause-grows t c = AddsTrees_extends _ _ (AddsTrees_refl _)
+
+pub glue_universal-open_body-requires-clause-kind : goal.glue_universal-open_body-requires-clause-kind
+glue_universal-open_body-requires-clause-kind t c = kind c.args.draft.now c.args.goal c.args.ty c.args.body c.requires.goal c.requires.tree
+
+pub glue_universal-returns-in_err-goal_at-clause-grows : goal.glue_universal-returns-in_err-goal_at-clause-grows
+glue_universal-returns-in_err-goal_at-clause-grows t c = AddsTrees_extends _ _ c.open_body.ensures.grows
+
+pub glue_universal-returns-in_err-step-clause-grows : goal.glue_universal-returns-in_err-step-clause-grows
+glue_universal-returns-in_err-step-clause-grows t c = Extends_trans _ _ _ (AddsTrees_extends _ _ c.in_ok-goal_at.ensures.grows) c.glue_goal.ensures.grows
+
+pub glue_universal-refute_universal-requires-clause-goal : goal.glue_universal-refute_universal-requires-clause-goal
+glue_universal-refute_universal-requires-clause-goal t c =
+    let d = c.args.draft.now in
+    let x = Extends_trans d c.open_body.new.g c.glue_goal.new.draft (AddsTrees_extends _ _ c.in_ok-goal_at.ensures.grows) c.in_ok-step.ensures.grows in
+    formula_later d c.glue_goal.new.draft x c.args.goal c.requires.goal
+
+pub glue_implication-returns-in_err-wider-clause-grows : goal.glue_implication-returns-in_err-wider-clause-grows
+glue_implication-returns-in_err-wider-clause-grows t c = AddsTrees_extends _ _ (AddsTrees_refl _)
+
+pub glue_implication-returns-in_err-step-clause-grows : goal.glue_implication-returns-in_err-step-clause-grows
+glue_implication-returns-in_err-step-clause-grows t c = c.glue_goal.ensures.grows
+
+pub glue_implication-refute_implication-requires-clause-goal : goal.glue_implication-refute_implication-requires-clause-goal
+glue_implication-refute_implication-requires-clause-goal t c = formula_later c.args.draft.now c.glue_goal.new.draft c.in_ok-step.ensures.grows c.args.goal c.requires.goal
+
+pub glue_implication-returns-in_err-wider-clause-refutes : goal.glue_implication-returns-in_err-wider-clause-refutes
+glue_implication-returns-in_err-wider-clause-refutes t c = no_value _ _ c.from_residual.result c.from_residual.ensures.1
+
+pub glue_implication-returns-in_err-step-clause-refutes : goal.glue_implication-returns-in_err-step-clause-refutes
+glue_implication-returns-in_err-step-clause-refutes t c = no_value _ _ c.from_residual-in_err-step.result c.from_residual-in_err-step.ensures.1
+
+pub glue_universal-returns-in_err-goal_at-clause-refutes : goal.glue_universal-returns-in_err-goal_at-clause-refutes
+glue_universal-returns-in_err-goal_at-clause-refutes t c = no_value _ _ c.from_residual.result c.from_residual.ensures.1
+
+pub glue_universal-returns-in_err-step-clause-refutes : goal.glue_universal-returns-in_err-step-clause-refutes
+glue_universal-returns-in_err-step-clause-refutes t c = no_value _ _ c.from_residual-in_err-step.result c.from_residual-in_err-step.ensures.1

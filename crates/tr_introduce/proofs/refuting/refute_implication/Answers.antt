@@ -7,8 +7,9 @@ use Rattle.tasks.specs.Task.{neg}
 use Rattle.tasks.specs.Meaning.{trees_at}
 use Rattle.evidence.specs.Drafts.{Refutes}
 use Rattle.evidence.specs.Laws.{Extends_trans, AddsTrees_extends}
-use Rattle.evidence.proofs.Formulas.{formulas_later, one_formula}
+use Rattle.evidence.proofs.Formulas.{formulas_later, one_formula, formula_later, two_formulas}
 use Rattle.tr_introduce.proofs.Moving.{regroup, failing_at, under_later, end_back}
+use Rattle.tr_introduce.proofs.Passed.{no_value}
 use Rattle.tr_introduce.proofs.refuting.refute_implication.Goals as goal
 
 pub keep_but-requires-clause-front : goal.keep_but-requires-clause-front
@@ -58,3 +59,36 @@ returns-clause-refutes c =
 
 pub returns-clause-grows : goal.returns-clause-grows
 returns-clause-grows c = Extends_trans _ _ _ (Extends_trans _ _ _ (AddsTrees_extends _ _ c.in_ok-no_goal.ensures.grows) c.in_ok-kept.ensures.grows) c.by_failing.ensures.grows
+
+pub returns-in_err-no_goal-clause-refutes : goal.returns-in_err-no_goal-clause-refutes
+returns-in_err-no_goal-clause-refutes c = no_value _ _ c.from_residual.result c.from_residual.ensures.1
+
+pub returns-in_err-kept-clause-refutes : goal.returns-in_err-kept-clause-refutes
+returns-in_err-kept-clause-refutes c = no_value _ _ c.from_residual-in_err-kept.result c.from_residual-in_err-kept.ensures.1
+
+pub negation-requires : goal.negation-requires
+negation-requires c = c.requires.goal
+
+pub returns-in_err-no_goal-clause-grows : goal.returns-in_err-no_goal-clause-grows
+returns-in_err-no_goal-clause-grows c = AddsTrees_extends _ _ c.negation.ensures.grows
+
+pub returns-in_err-kept-clause-grows : goal.returns-in_err-kept-clause-grows
+returns-in_err-kept-clause-grows c = Extends_trans _ _ _ (AddsTrees_extends _ _ c.in_ok-no_goal.ensures.grows) c.keep_but.ensures.grows
+
+pub keep_but-requires-clause-middle : goal.keep_but-requires-clause-middle
+keep_but-requires-clause-middle c = one_formula c.negation.new.draft c.in_ok-no_goal.no_goal c.in_ok-no_goal.ensures.formula
+
+pub keep_but-requires-clause-last : goal.keep_but-requires-clause-last
+keep_but-requires-clause-last c =
+    let d = c.args.draft.now in
+    let d1 = c.negation.new.draft in
+    let x = AddsTrees_extends d d1 c.in_ok-no_goal.ensures.grows in
+    let n = c.last_formula-no_conclusion in
+    two_formulas d1 c.args.premise n.result (formula_later d d1 x c.args.premise c.requires.premise) (formula_later d d1 x n.result n.ensures.formula)
+
+pub by_failing-requires-clause-tail : goal.by_failing-requires-clause-tail
+by_failing-requires-clause-tail c =
+    let d1 = c.negation.new.draft in
+    let d2 = c.keep_but.new.draft in
+    let g = c.in_ok-no_goal.no_goal in
+    one_formula d2 g (formula_later d1 d2 c.in_ok-kept.ensures.grows g c.in_ok-no_goal.ensures.formula)

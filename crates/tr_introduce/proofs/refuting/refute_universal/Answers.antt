@@ -11,6 +11,7 @@ use Rattle.evidence.specs.Laws.{Extends_trans, AddsTrees_extends}
 use Rattle.evidence.proofs.Formulas.{same, formulas_later, formula_later, one_formula}
 use Rattle.tr_introduce.proofs.Moving.{regroup, end_later, end_back}
 use Rattle.tr_introduce.proofs.Opening.{new_below}
+use Rattle.tr_introduce.proofs.Passed.{no_value}
 use Rattle.tr_introduce.proofs.refuting.refute_universal.Goals as goal
 
 pub keep_but-requires-clause-front : goal.keep_but-requires-clause-front
@@ -85,3 +86,21 @@ returns-clause-refutes c =
 
 pub returns-clause-grows : goal.returns-clause-grows
 returns-clause-grows c = Extends_trans _ _ _ (Extends_trans _ _ _ (AddsTrees_extends _ _ c.in_ok-no_goal.ensures.grows) c.in_ok-kept.ensures.grows) c.by_not_forall.ensures.grows
+
+pub returns-in_err-no_goal-clause-refutes : goal.returns-in_err-no_goal-clause-refutes
+returns-in_err-no_goal-clause-refutes c = no_value _ _ c.from_residual.result c.from_residual.ensures.1
+
+pub returns-in_err-kept-clause-refutes : goal.returns-in_err-kept-clause-refutes
+returns-in_err-kept-clause-refutes c = no_value _ _ c.from_residual-in_err-kept.result c.from_residual-in_err-kept.ensures.1
+
+pub negation-requires : goal.negation-requires
+negation-requires c = c.requires.goal
+
+pub returns-in_err-no_goal-clause-grows : goal.returns-in_err-no_goal-clause-grows
+returns-in_err-no_goal-clause-grows c = AddsTrees_extends _ _ c.negation.ensures.grows
+
+pub returns-in_err-kept-clause-grows : goal.returns-in_err-kept-clause-grows
+returns-in_err-kept-clause-grows c = Extends_trans _ _ _ (AddsTrees_extends _ _ c.in_ok-no_goal.ensures.grows) c.keep_but.ensures.grows
+
+pub keep_but-requires-clause-middle : goal.keep_but-requires-clause-middle
+keep_but-requires-clause-middle c = one_formula c.negation.new.draft c.in_ok-no_goal.no_goal c.in_ok-no_goal.ensures.formula

@@ -1,6 +1,7 @@
 use Rattle.std.proofs.Common.{sym, subst}
 use Rattle.tasks.specs.Meaning.{declarations_at, DeclHeld}
-use Rattle.tr_introduce.proofs.Removed.{kept_more}
+use Rattle.tr_introduce.proofs.Removed.{kept_more, kept_all}
+use Rattle.tr_introduce.proofs.Passed.{no_value}
 use Rattle.tr_introduce.proofs.removal.kept_decls.Goals as goal
 
 pub loop-decl-preserved : goal.loop-decl-preserved
@@ -12,3 +13,15 @@ loop-decl-preserved c =
       kept = λ s. kept_more s c.args.props.now c.args.decls.now i decl (declarations_at s c.loop-decl.kept.items) (declarations_at s c.keep_decl.new.kept.items) l c.decl-item.is (c.in_ok-keep_decl.ensures.kept s) (c.loop-decl.invariant.kept s);
       held = λ s a. c.in_ok-keep_decl.ensures.held s (c.loop-decl.invariant.held s a) (subst (DeclHeld s) (sym c.decl-item.is) (a i decl l));
     }
+
+pub returns-in_err-keep_decl-clause-kept : goal.returns-in_err-keep_decl-clause-kept
+returns-in_err-keep_decl-clause-kept c = no_value _ _ c.from_residual.result c.from_residual.ensures.1
+
+pub returns-in_err-keep_decl-clause-held : goal.returns-in_err-keep_decl-clause-held
+returns-in_err-keep_decl-clause-held c = no_value _ _ c.from_residual.result c.from_residual.ensures.1
+
+pub returns-clause-kept : goal.returns-clause-kept
+returns-clause-kept c = λ s. kept_all s c.args.props.now c.args.decls.now c.loop-decl.decl-index (declarations_at s c.loop-decl.kept.items) c.loop-decl-test.false (c.loop-decl.invariant.kept s)
+
+pub returns-clause-held : goal.returns-clause-held
+returns-clause-held c = c.loop-decl.invariant.held

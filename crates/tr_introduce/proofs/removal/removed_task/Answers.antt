@@ -4,6 +4,7 @@ use Rattle.tasks.specs.declared.declaration.Decl.{Decl}
 use Rattle.tasks.specs.Task.{DeclarationTree}
 use Rattle.tasks.specs.Meaning.{declarations_at, task_at, DeclHeld}
 use Rattle.tr_introduce.specs.Remove.{kept_decls}
+use Rattle.tr_introduce.proofs.Passed.{no_value}
 use Rattle.tr_introduce.proofs.removal.removed_task.Goals as goal
 
 pub returns-clause-task : goal.returns-clause-task
@@ -14,3 +15,9 @@ returns-clause-task c =
 pub returns-clause-held : goal.returns-clause-held
 returns-clause-held c =
     IfOk-weaker c.with_decls.result _ _ (λ t w s h. w.held s h (c.in_ok-decls.ensures.held s (subst (λ (ds : List Decl). All (DeclHeld s) ds) (sym c.as_slice.ensures) h.decls))) c.with_decls.ensures
+
+pub returns-in_err-decls-clause-task : goal.returns-in_err-decls-clause-task
+returns-in_err-decls-clause-task c = no_value _ _ c.from_residual.result c.from_residual.ensures.1
+
+pub returns-in_err-decls-clause-held : goal.returns-in_err-decls-clause-held
+returns-in_err-decls-clause-held c = no_value _ _ c.from_residual.result c.from_residual.ensures.1

@@ -1,13 +1,13 @@
-use Rattle.std.proofs.Common.{◌++◌, ◌∷◌, [], List, sym, ap, subst}
+use Rattle.std.proofs.Common.{◌++◌, ◌∷◌, [], List, sym, ap, subst, get_or}
 use Rattle.std.proofs.lemmas.Result.{IfOk-weaker}
 use Rattle.trees.specs.declared.TermId.{TermId}
 use Rattle.trees.specs.Tree.{Tree}
 use Rattle.trees.specs.Node.{tree_at}
 use Rattle.tasks.specs.Task.{neg, start}
-use Rattle.tasks.specs.Meaning.{trees_at}
+use Rattle.tasks.specs.Meaning.{trees_at, tasks_at}
 use Rattle.evidence.specs.Drafts.{Refutes, AreFormulas}
-use Rattle.tr_introduce.specs.Steps.{AreParamsBelow}
-use Rattle.tr_introduce.proofs.Tasks.{own_locals, own_goal, own_below}
+use Rattle.tr_introduce.specs.Steps.{AreParamsBelow, EndsDraftAt}
+use Rattle.tr_introduce.proofs.Tasks.{own_locals, own_goal, own_below, own_end, end_there}
 use Rattle.tr_introduce.proofs.introducing.IntroduceTransform.glue.Goals as goal
 
 pub glue_goal-requires-clause-front : goal.glue_goal-requires-clause-front
@@ -29,3 +29,19 @@ returns-clause-refutes c =
     IfOk-weaker c.glue_goal.result _ _ (λ k r.
     let s = subst (λ (z : List TermId). Refutes c.glue_goal.new.draft k (trees_at d.trees z ++ neg (tree_at d.trees from.goal) ∷ [])) c.as_slice.ensures r in
     subst (λ (z : List Tree). Refutes c.glue_goal.new.draft k z) (ap start c.requires.own.is) s) c.glue_goal.ensures.refutes
+
+pub bounds-ends-0 : goal.bounds-ends-0
+bounds-ends-0 c =
+    let d = c.args.draft.now in
+    end_there d c.args.ends.now (tasks_at d.trees c.args.to.now.items) c.requires.gives c.requires.ends
+
+pub glue_goal-requires-clause-end : goal.glue_goal-requires-clause-end
+glue_goal-requires-clause-end c =
+    let d = c.args.draft.now in
+    let from = c.args.from.now in
+    let n = c.len-number.result in
+    let e = own_end d from n c.args.ends.now (tasks_at d.trees c.args.to.now.items) c.len-number.ensures c.requires.own c.requires.gives c.requires.ends in
+    subst (λ (z : List TermId). EndsDraftAt d (get_or c.args.ends.now 0 0) (trees_at d.trees z) (tree_at d.trees from.goal) n) (sym c.as_slice.ensures) e
+
+pub returns-clause-grows : goal.returns-clause-grows
+returns-clause-grows c = c.glue_goal.ensures.grows

@@ -7,3 +7,15 @@ pub fact_lemma-requires-clause-fact : goal.fact_lemma-requires-clause-fact
 fact_lemma-requires-clause-fact c =
     let d = c.args.draft.now in
     fact_left c.args.self.now.props d.task (task_at d.trees c.args.to.now) c.args.name c.old_name-old.result (trees_at d.trees c.args.types.now) (tree_at d.trees c.args.formula) c.requires.stage.among (rw c.as_slice.ensures at c.old_name-old.ensures) c.requires.fact
+
+pub fact_lemma-requires-clause-types_held : goal.fact_lemma-requires-clause-types_held
+fact_lemma-requires-clause-types_held c = c.requires.types_held
+
+pub fact_lemma-requires-clause-formula : goal.fact_lemma-requires-clause-formula
+fact_lemma-requires-clause-formula c = c.requires.formula
+
+pub returns-clause-refutes : goal.returns-clause-refutes
+returns-clause-refutes c = c.fact_lemma.ensures.refutes
+
+pub returns-clause-grows : goal.returns-clause-grows
+returns-clause-grows c = c.fact_lemma.ensures.grows

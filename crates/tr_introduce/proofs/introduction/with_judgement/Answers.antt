@@ -1,0 +1,11 @@
+use Rattle.tr_introduce.proofs.Passed.{no_value}
+use Rattle.tr_introduce.proofs.introduction.with_judgement.Goals as goal
+
+pub returns-in_err-clone : goal.returns-in_err-clone
+returns-in_err-clone c = no_value _ _ c.from_residual.result c.from_residual.ensures.1
+
+pub returns-in_err-clone-2 : goal.returns-in_err-clone-2
+returns-in_err-clone-2 c = no_value _ _ c.from_residual-in_err-clone-2.result c.from_residual-in_err-clone-2.ensures.1
+
+pub returns-in_err-clone_each : goal.returns-in_err-clone_each
+returns-in_err-clone_each c = no_value _ _ c.from_residual-in_err-clone_each.result c.from_residual-in_err-clone_each.ensures.1
