@@ -1,3 +1,4 @@
+pub mod Passed
 pub mod Instances
 pub mod Scripts
 pub mod Moving

@@ -1,10 +1,10 @@
 -- What steps refute over drafts that have grown.
-use Rattle.std.proofs.Common.{◌≡◌, ℕ, inr, List, [], ◌∷◌, ◌++◌, length, sym, ◌∙◌}
+use Rattle.std.proofs.Common.{◌≡◌, ℕ, inr, List, [], ◌∷◌, ◌++◌, length, sym, ap, ◌∙◌}
 use Rattle.std.proofs.lemmas.List.{length-map}
 use Rattle.std.proofs.lemmas.List.Elements.{All-cons, All-nil}
 use Rattle.trees.specs.declared.TermId.{TermId}
-use Rattle.trees.specs.Tree.{Tree}
-use Rattle.trees.specs.Node.{tree_at}
+use Rattle.trees.specs.Tree.{Tree, Head, Two}
+use Rattle.trees.specs.Node.{tree_at, Holds}
 use Rattle.tasks.specs.Task.{neg}
 use Rattle.tasks.specs.Meaning.{trees_at}
 use Rattle.kernel.specs.Right.{IsGroundExpression}
@@ -43,3 +43,9 @@ front_length s front = length-map front (tree_at s)
 -- a formula of sequents is a formula of the task
 pub expression_at : (d : DraftTree) (id : TermId) → IsFormulaAt d id → IsGroundExpression d.task (tree_at d.trees id)
 expression_at d id f = record { sort = inr f.ground.sort; typed = f.ground.typed; ground = f.ground.ground }
+
+-- a tree of two parts, over a draft that has grown
+pub two_later : (d d1 : DraftTree) (x : Extends d d1) (h : Head) (id a b : TermId) → Holds d.trees id → Holds d.trees a → Holds d.trees b → tree_at d.trees id ≡ Two h (tree_at d.trees a) (tree_at d.trees b)
+    → tree_at d1.trees id ≡ Two h (tree_at d1.trees a) (tree_at d1.trees b)
+two_later d d1 x h id a b p q r e =
+    x.trees.same id.0 p ∙ e ∙ sym (ap (λ (z : Tree). Two h z (tree_at d1.trees b)) (x.trees.same a.0 q) ∙ ap (Two h (tree_at d.trees a)) (x.trees.same b.0 r))

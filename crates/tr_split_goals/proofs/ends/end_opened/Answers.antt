@@ -34,3 +34,12 @@ derive-requires-clause-follow c =
     let f = c.requires.front in
     let e = subst (λ (z : Tree). Refutes d c.args.end (trees_at s F ++ neg z ∷ [])) c.requires.whole_is c.requires.end in
     rw (c.requires.no_inner_is, c.requires.inner_is, c.requires.whole_is) (opened_follows d (trees_at s F) _ (front_length s F) (tree_at s c.args.ty) (tree_at s c.args.part) (tree_at s c.args.term) c.args.end c.requires.type_is c.requires.term e)
+
+pub derive-requires-clause-front : goal.derive-requires-clause-front
+derive-requires-clause-front c = c.requires.front
+
+pub returns-clause-refutes : goal.returns-clause-refutes
+returns-clause-refutes c = c.derive.ensures.refutes
+
+pub returns-clause-grows : goal.returns-clause-grows
+returns-clause-grows c = c.derive.ensures.grows

@@ -36,3 +36,12 @@ derive-requires-clause-follow c =
     let b = tree_at s c.args.part in
     let e = subst (λ (z : Tree). Refutes d c.args.end (trees_at s F ++ neg z ∷ [])) c.requires.whole_is c.requires.end in
     rw (c.requires.no_part_is, c.requires.whole_is) (under_follows d (trees_at s F) _ (front_length s F) h b c.args.end e)
+
+pub derive-requires-clause-front : goal.derive-requires-clause-front
+derive-requires-clause-front c = c.requires.front
+
+pub returns-clause-refutes : goal.returns-clause-refutes
+returns-clause-refutes c = c.derive.ensures.refutes
+
+pub returns-clause-grows : goal.returns-clause-grows
+returns-clause-grows c = c.derive.ensures.grows

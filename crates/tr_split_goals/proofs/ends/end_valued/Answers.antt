@@ -42,3 +42,12 @@ derive-requires-clause-follow c =
     let g : IsGroundExpression d.task (Two HLet v b) = subst (IsGroundExpression d.task) c.requires.whole_is (expression_at d c.args.whole c.requires.whole) in
     let q : sort_of (Two HLet v b) ≡ Formula = ap sort_of (sym c.requires.whole_is) ∙ c.requires.whole.ground.sort in
     rw (c.requires.no_inner_is, c.requires.defined_is, c.requires.inner_is, c.requires.whole_is) (valued_follows d (trees_at s F) _ (front_length s F) v b c.args.end g q e)
+
+pub derive-requires-clause-front : goal.derive-requires-clause-front
+derive-requires-clause-front c = c.requires.front
+
+pub returns-clause-refutes : goal.returns-clause-refutes
+returns-clause-refutes c = c.derive.ensures.refutes
+
+pub returns-clause-grows : goal.returns-clause-grows
+returns-clause-grows c = c.derive.ensures.grows

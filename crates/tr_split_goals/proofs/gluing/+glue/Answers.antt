@@ -2,12 +2,12 @@ use Rattle.std.proofs.Common.{◌≡◌, ◌∙◌, ◌++◌, ◌∷◌, [], ℕ
 use Rattle.std.proofs.lemmas.Result.{IfOk-weaker}
 use Rattle.std.proofs.lemmas.List.{length-append}
 use Rattle.trees.specs.declared.Op.TheVariants.{And, AndThen, Imp}
-use Rattle.trees.specs.Tree.{Tree, Two, Three, HJoin, HIf}
+use Rattle.trees.specs.Tree.{Tree, Two, Three, HJoin, HIf, HForall, HLet}
 use Rattle.trees.specs.Binding.{Param}
 use Rattle.tasks.specs.Task.{neg}
-use Rattle.trees.specs.Node.{tree_at}
+use Rattle.trees.specs.Node.{tree_at, Holds}
 use Rattle.tasks.specs.Meaning.{trees_at}
-use Rattle.evidence.specs.Laws.{Extends_trans, AddsTrees_extends}
+use Rattle.evidence.specs.Laws.{Extends_trans, AddsTrees_extends, AddsTrees_refl, AddsTrees_trans}
 use Rattle.evidence.proofs.Formulas.{same, formulas_later, formula_later}
 use Rattle.tr_split.specs.Split.{imp, split}
 use Rattle.tr_split.specs.Glue.{EndsOfParts}
@@ -17,6 +17,8 @@ use Rattle.tr_split_goals.specs.Goals.{AreParamsBelow, splits}
 use Rattle.evidence.specs.Drafts.{Extends}
 use Rattle.evidence.proofs.Rules.{refutes_later}
 use Rattle.tr_split_goals.proofs.Values.{left_below, joined_below, premise_below, below_later, same_parts, opened_splits, valued_splits, new_below, then_below, else_below}
+use Rattle.tr_split_goals.proofs.Passed.{no_value}
+use Rattle.tr_split_goals.proofs.Moving.{two_later}
 use Rattle.tr_split_goals.proofs.gluing.+glue.Goals as goal
 
 -- ---- a conjunction
@@ -716,3 +718,342 @@ glue_if-returns-clause-grows t c =
     let f4 = formulas_later d n4 y F c.requires.front in
     let z : Extends d n5 = Extends_trans d n4 n5 y x5 in
     Extends_trans _ _ _ z c.refute_if.ensures.grows
+
+pub glue_goal-returns-in-True-clause-refutes : goal.glue_goal-returns-in-True-clause-refutes
+glue_goal-returns-in-True-clause-refutes t c = c.refute_true.ensures.refutes
+
+pub glue_goal-returns-in-True-clause-grows : goal.glue_goal-returns-in-True-clause-grows
+glue_goal-returns-in-True-clause-grows t c = c.refute_true.ensures.grows
+
+pub glue_goal-returns-in-Join-clause-refutes : goal.glue_goal-returns-in-Join-clause-refutes
+glue_goal-returns-in-Join-clause-refutes t c = c.glue_joined.ensures.refutes
+
+pub glue_goal-returns-in-Join-clause-grows : goal.glue_goal-returns-in-Join-clause-grows
+glue_goal-returns-in-Join-clause-grows t c = c.glue_joined.ensures.grows
+
+pub glue_goal-returns-in-Forall-clause-refutes : goal.glue_goal-returns-in-Forall-clause-refutes
+glue_goal-returns-in-Forall-clause-refutes t c = c.glue_forall.ensures.refutes
+
+pub glue_goal-returns-in-Forall-clause-grows : goal.glue_goal-returns-in-Forall-clause-grows
+glue_goal-returns-in-Forall-clause-grows t c = c.glue_forall.ensures.grows
+
+pub glue_goal-returns-in-Let-clause-refutes : goal.glue_goal-returns-in-Let-clause-refutes
+glue_goal-returns-in-Let-clause-refutes t c = c.glue_let.ensures.refutes
+
+pub glue_goal-returns-in-Let-clause-grows : goal.glue_goal-returns-in-Let-clause-grows
+glue_goal-returns-in-Let-clause-grows t c = c.glue_let.ensures.grows
+
+pub glue_goal-returns-in-If-clause-refutes : goal.glue_goal-returns-in-If-clause-refutes
+glue_goal-returns-in-If-clause-refutes t c = c.glue_if.ensures.refutes
+
+pub glue_goal-returns-in-If-clause-grows : goal.glue_goal-returns-in-If-clause-grows
+glue_goal-returns-in-If-clause-grows t c = c.glue_if.ensures.grows
+
+pub glue_goal-returns-in_default-clause-grows : goal.glue_goal-returns-in_default-clause-grows
+glue_goal-returns-in_default-clause-grows t c = AddsTrees_extends _ _ (AddsTrees_refl _)
+
+pub glue_goal-node-requires : goal.glue_goal-node-requires
+glue_goal-node-requires t c = rw c.store.ensures c.requires.goal.held
+
+pub glue_goal-refute_true-requires-clause-front : goal.glue_goal-refute_true-requires-clause-front
+glue_goal-refute_true-requires-clause-front t c = c.requires.front
+
+pub glue_goal-refute_true-requires-clause-goal : goal.glue_goal-refute_true-requires-clause-goal
+glue_goal-refute_true-requires-clause-goal t c = c.requires.goal
+
+pub glue_goal-refute_true-requires-clause-tree : goal.glue_goal-refute_true-requires-clause-tree
+glue_goal-refute_true-requires-clause-tree t c = rw c.store.ensures at c.in-True.ensures.tree
+
+pub glue_joined-returns-in-And-clause-refutes : goal.glue_joined-returns-in-And-clause-refutes
+glue_joined-returns-in-And-clause-refutes t c = c.glue_and.ensures.refutes
+
+pub glue_joined-returns-in-And-clause-grows : goal.glue_joined-returns-in-And-clause-grows
+glue_joined-returns-in-And-clause-grows t c = c.glue_and.ensures.grows
+
+pub glue_joined-returns-in-AndThen-clause-refutes : goal.glue_joined-returns-in-AndThen-clause-refutes
+glue_joined-returns-in-AndThen-clause-refutes t c = c.glue_and_then.ensures.refutes
+
+pub glue_joined-returns-in-AndThen-clause-grows : goal.glue_joined-returns-in-AndThen-clause-grows
+glue_joined-returns-in-AndThen-clause-grows t c = c.glue_and_then.ensures.grows
+
+pub glue_joined-returns-in-Imp-clause-refutes : goal.glue_joined-returns-in-Imp-clause-refutes
+glue_joined-returns-in-Imp-clause-refutes t c = c.glue_imp.ensures.refutes
+
+pub glue_joined-returns-in-Imp-clause-grows : goal.glue_joined-returns-in-Imp-clause-grows
+glue_joined-returns-in-Imp-clause-grows t c = c.glue_imp.ensures.grows
+
+pub glue_joined-returns-in-Iff-clause-refutes : goal.glue_joined-returns-in-Iff-clause-refutes
+glue_joined-returns-in-Iff-clause-refutes t c = c.glue_iff.ensures.refutes
+
+pub glue_joined-returns-in-Iff-clause-grows : goal.glue_joined-returns-in-Iff-clause-grows
+glue_joined-returns-in-Iff-clause-grows t c = c.glue_iff.ensures.grows
+
+pub glue_joined-returns-in-Or-clause-grows : goal.glue_joined-returns-in-Or-clause-grows
+glue_joined-returns-in-Or-clause-grows t c = AddsTrees_extends _ _ (AddsTrees_refl _)
+
+pub glue_joined-glue_iff-requires-clause-front : goal.glue_joined-glue_iff-requires-clause-front
+glue_joined-glue_iff-requires-clause-front t c = c.requires.front
+
+pub glue_joined-glue_iff-requires-clause-goal : goal.glue_joined-glue_iff-requires-clause-goal
+glue_joined-glue_iff-requires-clause-goal t c = c.requires.goal
+
+pub glue_joined-glue_iff-requires-clause-ends : goal.glue_joined-glue_iff-requires-clause-ends
+glue_joined-glue_iff-requires-clause-ends t c = c.requires.ends
+
+pub glue_and-returns-in_err-left-clause-grows : goal.glue_and-returns-in_err-left-clause-grows
+glue_and-returns-in_err-left-clause-grows t c = c.glue_two.ensures.grows
+
+pub glue_two-returns-in_err-left-clause-grows : goal.glue_two-returns-in_err-left-clause-grows
+glue_two-returns-in_err-left-clause-grows t c = c.glue_goal.ensures.grows
+
+pub glue_and_then-returns-in_err-implied-clause-grows : goal.glue_and_then-returns-in_err-implied-clause-grows
+glue_and_then-returns-in_err-implied-clause-grows t c = AddsTrees_extends _ _ c.connect.ensures.grows
+
+pub glue_and_then-returns-in_err-left-clause-grows : goal.glue_and_then-returns-in_err-left-clause-grows
+glue_and_then-returns-in_err-left-clause-grows t c = Extends_trans _ _ _ (AddsTrees_extends _ _ c.in_ok-implied.ensures.grows) c.glue_two.ensures.grows
+
+pub glue_and-refute_and-requires-clause-goal : goal.glue_and-refute_and-requires-clause-goal
+glue_and-refute_and-requires-clause-goal t c = formula_later c.args.draft.now c.glue_two.new.draft c.in_ok-left.ensures.grows c.args.goal c.requires.goal
+
+pub glue_imp-ends_over-requires-clause-front : goal.glue_imp-ends_over-requires-clause-front
+glue_imp-ends_over-requires-clause-front t c = c.requires.front
+
+pub glue_imp-returns-in_err-made-clause-grows : goal.glue_imp-returns-in_err-made-clause-grows
+glue_imp-returns-in_err-made-clause-grows t c = c.ends_over.ensures.grows
+
+pub glue_imp-returns-in_err-wider-clause-grows : goal.glue_imp-returns-in_err-wider-clause-grows
+glue_imp-returns-in_err-wider-clause-grows t c = c.in_ok-made.ensures.grows
+
+pub glue_forall-open_universal-requires-clause-front : goal.glue_forall-open_universal-requires-clause-front
+glue_forall-open_universal-requires-clause-front t c = c.requires.front
+
+pub glue_forall-open_universal-requires-clause-goal : goal.glue_forall-open_universal-requires-clause-goal
+glue_forall-open_universal-requires-clause-goal t c = c.requires.goal
+
+pub glue_forall-open_universal-requires-clause-tree : goal.glue_forall-open_universal-requires-clause-tree
+glue_forall-open_universal-requires-clause-tree t c = c.requires.tree
+
+pub glue_forall-open_universal-requires-clause-body_held : goal.glue_forall-open_universal-requires-clause-body_held
+glue_forall-open_universal-requires-clause-body_held t c = c.requires.body_held
+
+pub glue_forall-open_universal-requires-clause-below : goal.glue_forall-open_universal-requires-clause-below
+glue_forall-open_universal-requires-clause-below t c = c.requires.below
+
+pub glue_forall-open_universal-requires-clause-ends : goal.glue_forall-open_universal-requires-clause-ends
+glue_forall-open_universal-requires-clause-ends t c = c.requires.ends
+
+pub glue_forall-open_universal-requires-clause-ty_held : goal.glue_forall-open_universal-requires-clause-ty_held
+glue_forall-open_universal-requires-clause-ty_held t c = c.requires.ty_held
+
+pub glue_forall-returns-in_err-inner-clause-grows : goal.glue_forall-returns-in_err-inner-clause-grows
+glue_forall-returns-in_err-inner-clause-grows t c = c.open_universal.ensures.grows
+
+pub glue_let-open_valued-requires-clause-front : goal.glue_let-open_valued-requires-clause-front
+glue_let-open_valued-requires-clause-front t c = c.requires.front
+
+pub glue_let-open_valued-requires-clause-goal : goal.glue_let-open_valued-requires-clause-goal
+glue_let-open_valued-requires-clause-goal t c = c.requires.goal
+
+pub glue_let-open_valued-requires-clause-tree : goal.glue_let-open_valued-requires-clause-tree
+glue_let-open_valued-requires-clause-tree t c = c.requires.tree
+
+pub glue_let-open_valued-requires-clause-body_held : goal.glue_let-open_valued-requires-clause-body_held
+glue_let-open_valued-requires-clause-body_held t c = c.requires.body_held
+
+pub glue_let-open_valued-requires-clause-below : goal.glue_let-open_valued-requires-clause-below
+glue_let-open_valued-requires-clause-below t c = c.requires.below
+
+pub glue_let-open_valued-requires-clause-ends : goal.glue_let-open_valued-requires-clause-ends
+glue_let-open_valued-requires-clause-ends t c = c.requires.ends
+
+pub glue_let-open_valued-requires-clause-value_held : goal.glue_let-open_valued-requires-clause-value_held
+glue_let-open_valued-requires-clause-value_held t c = c.requires.value_held
+
+pub glue_let-returns-in_err-inner-clause-grows : goal.glue_let-returns-in_err-inner-clause-grows
+glue_let-returns-in_err-inner-clause-grows t c = c.open_valued.ensures.grows
+
+pub glue_forall-returns-then-number-eq18446744073709551615-clause-grows : goal.glue_forall-returns-then-number-eq18446744073709551615-clause-grows
+glue_forall-returns-then-number-eq18446744073709551615-clause-grows t c = AddsTrees_extends _ _ (AddsTrees_refl _)
+
+pub glue_if-negation-requires : goal.glue_if-negation-requires
+glue_if-negation-requires t c = c.requires.cond
+
+pub glue_if-returns-in_err-no_cond-clause-grows : goal.glue_if-returns-in_err-no_cond-clause-grows
+glue_if-returns-in_err-no_cond-clause-grows t c = AddsTrees_extends _ _ c.negation.ensures.grows
+
+pub glue_if-returns-in_err-there-clause-grows : goal.glue_if-returns-in_err-there-clause-grows
+glue_if-returns-in_err-there-clause-grows t c = AddsTrees_extends _ _ (AddsTrees_trans _ _ _ c.in_ok-no_cond.ensures.grows c.connect.ensures.grows)
+
+pub glue_if-returns-in_err-away-clause-grows : goal.glue_if-returns-in_err-away-clause-grows
+glue_if-returns-in_err-away-clause-grows t c = AddsTrees_extends _ _ (AddsTrees_trans _ _ _ (AddsTrees_trans _ _ _ c.in_ok-no_cond.ensures.grows c.in_ok-there.ensures.grows) c.connect-2.ensures.grows)
+
+pub glue_if-returns-in_err-defined-clause-grows : goal.glue_if-returns-in_err-defined-clause-grows
+glue_if-returns-in_err-defined-clause-grows t c = AddsTrees_extends _ _ (AddsTrees_trans _ _ _ (AddsTrees_trans _ _ _ (AddsTrees_trans _ _ _ c.in_ok-no_cond.ensures.grows c.in_ok-there.ensures.grows) c.in_ok-away.ensures.grows) c.if_equation.ensures.grows)
+
+pub glue_and-refute_and-requires-clause-tree : goal.glue_and-refute_and-requires-clause-tree
+glue_and-refute_and-requires-clause-tree t c =
+    let d = c.args.draft.now in
+    let j = c.requires.joins in
+    let q : Holds d.trees c.args.a = omega (arith, j.below.0, c.requires.goal.held) in
+    let r : Holds d.trees c.args.b = omega (arith, j.below.1, c.requires.goal.held) in
+    two_later d c.glue_two.new.draft c.in_ok-left.ensures.grows (HJoin And) c.args.goal c.args.a c.args.b c.requires.goal.held q r j.tree
+
+pub glue_and_then-refute_and_then-requires-clause-goal : goal.glue_and_then-refute_and_then-requires-clause-goal
+glue_and_then-refute_and_then-requires-clause-goal t c =
+    let d = c.args.draft.now in
+    let d1 = c.connect.new.draft in
+    let d2 = c.glue_two.new.draft in
+    let x2 = c.in_ok-left.ensures.grows in
+    let x = Extends_trans d d1 d2 (AddsTrees_extends d d1 c.in_ok-implied.ensures.grows) x2 in
+    formula_later d d2 x c.args.goal c.requires.goal
+
+pub glue_and_then-refute_and_then-requires-clause-tree : goal.glue_and_then-refute_and_then-requires-clause-tree
+glue_and_then-refute_and_then-requires-clause-tree t c =
+    let d = c.args.draft.now in
+    let j = c.requires.joins in
+    let q : Holds d.trees c.args.a = omega (arith, j.below.0, c.requires.goal.held) in
+    let r : Holds d.trees c.args.b = omega (arith, j.below.1, c.requires.goal.held) in
+    let d1 = c.connect.new.draft in
+    let d2 = c.glue_two.new.draft in
+    let x2 = c.in_ok-left.ensures.grows in
+    let x = Extends_trans d d1 d2 (AddsTrees_extends d d1 c.in_ok-implied.ensures.grows) x2 in
+    two_later d d2 x (HJoin AndThen) c.args.goal c.args.a c.args.b c.requires.goal.held q r j.tree
+
+pub glue_and_then-refute_and_then-requires-clause-implied : goal.glue_and_then-refute_and_then-requires-clause-implied
+glue_and_then-refute_and_then-requires-clause-implied t c = formula_later c.connect.new.draft c.glue_two.new.draft c.in_ok-left.ensures.grows c.in_ok-implied.implied c.in_ok-implied.ensures.formula
+
+pub glue_let-refute_let-requires-clause-defined : goal.glue_let-refute_let-requires-clause-defined
+glue_let-refute_let-requires-clause-defined t c = c.in_ok-defined.ensures.formula
+
+pub glue_forall-refute_forall-requires-clause-no_inner : goal.glue_forall-refute_forall-requires-clause-no_inner
+glue_forall-refute_forall-requires-clause-no_inner t c = c.in_ok-no_inner.ensures.formula
+
+pub glue_forall-refute_forall-requires-clause-goal : goal.glue_forall-refute_forall-requires-clause-goal
+glue_forall-refute_forall-requires-clause-goal t c =
+    let d = c.args.draft.now in
+    let d1 = c.open_universal.new.draft in
+    let d2 = c.glue_goal.new.draft in
+    let d3 = c.negation.new.draft in
+    let x = Extends_trans d d2 d3 (Extends_trans d d1 d2 c.in_ok-inner.ensures.grows c.in_ok-step.ensures.grows) (AddsTrees_extends d2 d3 c.in_ok-no_inner.ensures.grows) in
+    formula_later d d3 x c.args.goal c.requires.goal
+
+pub glue_forall-refute_forall-requires-clause-tree : goal.glue_forall-refute_forall-requires-clause-tree
+glue_forall-refute_forall-requires-clause-tree t c =
+    let d = c.args.draft.now in
+    let d1 = c.open_universal.new.draft in
+    let d2 = c.glue_goal.new.draft in
+    let d3 = c.negation.new.draft in
+    let x = Extends_trans d d2 d3 (Extends_trans d d1 d2 c.in_ok-inner.ensures.grows c.in_ok-step.ensures.grows) (AddsTrees_extends d2 d3 c.in_ok-no_inner.ensures.grows) in
+    two_later d d3 x HForall c.args.goal c.args.ty c.args.body c.requires.goal.held c.requires.ty_held c.requires.body_held c.requires.tree
+
+pub glue_let-refute_let-requires-clause-goal : goal.glue_let-refute_let-requires-clause-goal
+glue_let-refute_let-requires-clause-goal t c =
+    let d = c.args.draft.now in
+    let d1 = c.open_valued.new.draft in
+    let d2 = c.glue_goal.new.draft in
+    let d3 = c.connect.new.draft in
+    let x = Extends_trans d d2 d3 (Extends_trans d d1 d2 c.in_ok-inner.ensures.grows c.in_ok-step.ensures.grows) (AddsTrees_extends d2 d3 c.in_ok-defined.ensures.grows) in
+    formula_later d d3 x c.args.goal c.requires.goal
+
+pub glue_let-refute_let-requires-clause-tree : goal.glue_let-refute_let-requires-clause-tree
+glue_let-refute_let-requires-clause-tree t c =
+    let d = c.args.draft.now in
+    let d1 = c.open_valued.new.draft in
+    let d2 = c.glue_goal.new.draft in
+    let d3 = c.connect.new.draft in
+    let x = Extends_trans d d2 d3 (Extends_trans d d1 d2 c.in_ok-inner.ensures.grows c.in_ok-step.ensures.grows) (AddsTrees_extends d2 d3 c.in_ok-defined.ensures.grows) in
+    two_later d d3 x HLet c.args.goal c.args.value c.args.body c.requires.goal.held c.requires.value_held c.requires.body_held c.requires.tree
+
+pub glue_forall-negation-requires : goal.glue_forall-negation-requires
+glue_forall-negation-requires t c = formula_later c.open_universal.new.draft c.glue_goal.new.draft c.in_ok-step.ensures.grows c.in_ok-inner.inner c.in_ok-inner.ensures.formula
+
+pub glue_let-connect-requires-clause-a : goal.glue_let-connect-requires-clause-a
+glue_let-connect-requires-clause-a t c =
+    let d = c.args.draft.now in
+    let d2 = c.glue_goal.new.draft in
+    formula_later d d2 (Extends_trans d c.open_valued.new.draft d2 c.in_ok-inner.ensures.grows c.in_ok-step.ensures.grows) c.args.goal c.requires.goal
+
+pub glue_let-connect-requires-clause-b : goal.glue_let-connect-requires-clause-b
+glue_let-connect-requires-clause-b t c = formula_later c.open_valued.new.draft c.glue_goal.new.draft c.in_ok-step.ensures.grows c.in_ok-inner.inner c.in_ok-inner.ensures.formula
+
+pub glue_imp-refute_imp-requires-clause-goal : goal.glue_imp-refute_imp-requires-clause-goal
+glue_imp-refute_imp-requires-clause-goal t c =
+    let d = c.args.draft.now in
+    let d1 = c.ends_over.new.draft in
+    let d2 = c.glue_goal.new.draft in
+    let x = Extends_trans d d1 d2 c.in_ok-made.ensures.grows c.in_ok-step.ensures.grows in
+    formula_later d d2 x c.args.goal c.requires.goal
+
+pub glue_imp-refute_imp-requires-clause-tree : goal.glue_imp-refute_imp-requires-clause-tree
+glue_imp-refute_imp-requires-clause-tree t c =
+    let d = c.args.draft.now in
+    let d1 = c.ends_over.new.draft in
+    let d2 = c.glue_goal.new.draft in
+    let x = Extends_trans d d1 d2 c.in_ok-made.ensures.grows c.in_ok-step.ensures.grows in
+    let j = c.requires.joins in
+    let q : Holds d.trees c.args.a = omega (arith, j.below.0, c.requires.goal.held) in
+    let r : Holds d.trees c.args.b = omega (arith, j.below.1, c.requires.goal.held) in
+    two_later d d2 x (HJoin Imp) c.args.goal c.args.a c.args.b c.requires.goal.held q r j.tree
+
+pub glue_and-returns-in_err-left-clause-refutes : goal.glue_and-returns-in_err-left-clause-refutes
+glue_and-returns-in_err-left-clause-refutes t c = no_value _ _ c.from_residual.result c.from_residual.ensures.1
+
+pub glue_and_then-returns-in_err-implied-clause-refutes : goal.glue_and_then-returns-in_err-implied-clause-refutes
+glue_and_then-returns-in_err-implied-clause-refutes t c = no_value _ _ c.from_residual.result c.from_residual.ensures.1
+
+pub glue_and_then-returns-in_err-left-clause-refutes : goal.glue_and_then-returns-in_err-left-clause-refutes
+glue_and_then-returns-in_err-left-clause-refutes t c = no_value _ _ c.from_residual-in_err-left.result c.from_residual-in_err-left.ensures.1
+
+pub glue_forall-returns-in_err-inner-clause-refutes : goal.glue_forall-returns-in_err-inner-clause-refutes
+glue_forall-returns-in_err-inner-clause-refutes t c = no_value _ _ c.from_residual.result c.from_residual.ensures.1
+
+pub glue_forall-returns-in_err-step-clause-refutes : goal.glue_forall-returns-in_err-step-clause-refutes
+glue_forall-returns-in_err-step-clause-refutes t c = no_value _ _ c.from_residual-in_err-step.result c.from_residual-in_err-step.ensures.1
+
+pub glue_forall-returns-in_err-no_inner-clause-refutes : goal.glue_forall-returns-in_err-no_inner-clause-refutes
+glue_forall-returns-in_err-no_inner-clause-refutes t c = no_value _ _ c.from_residual-in_err-no_inner.result c.from_residual-in_err-no_inner.ensures.1
+
+pub glue_if-returns-in_err-no_cond-clause-refutes : goal.glue_if-returns-in_err-no_cond-clause-refutes
+glue_if-returns-in_err-no_cond-clause-refutes t c = no_value _ _ c.from_residual.result c.from_residual.ensures.1
+
+pub glue_if-returns-in_err-there-clause-refutes : goal.glue_if-returns-in_err-there-clause-refutes
+glue_if-returns-in_err-there-clause-refutes t c = no_value _ _ c.from_residual-in_err-there.result c.from_residual-in_err-there.ensures.1
+
+pub glue_if-returns-in_err-away-clause-refutes : goal.glue_if-returns-in_err-away-clause-refutes
+glue_if-returns-in_err-away-clause-refutes t c = no_value _ _ c.from_residual-in_err-away.result c.from_residual-in_err-away.ensures.1
+
+pub glue_if-returns-in_err-defined-clause-refutes : goal.glue_if-returns-in_err-defined-clause-refutes
+glue_if-returns-in_err-defined-clause-refutes t c = no_value _ _ c.from_residual-in_err-defined.result c.from_residual-in_err-defined.ensures.1
+
+pub glue_if-returns-in_err-left-clause-refutes : goal.glue_if-returns-in_err-left-clause-refutes
+glue_if-returns-in_err-left-clause-refutes t c = no_value _ _ c.from_residual-in_err-left.result c.from_residual-in_err-left.ensures.1
+
+pub glue_imp-returns-in_err-made-clause-refutes : goal.glue_imp-returns-in_err-made-clause-refutes
+glue_imp-returns-in_err-made-clause-refutes t c = no_value _ _ c.from_residual.result c.from_residual.ensures.1
+
+pub glue_imp-returns-in_err-wider-clause-refutes : goal.glue_imp-returns-in_err-wider-clause-refutes
+glue_imp-returns-in_err-wider-clause-refutes t c = no_value _ _ c.from_residual-in_err-wider.result c.from_residual-in_err-wider.ensures.1
+
+pub glue_imp-returns-in_err-step-clause-refutes : goal.glue_imp-returns-in_err-step-clause-refutes
+glue_imp-returns-in_err-step-clause-refutes t c = no_value _ _ c.from_residual-in_err-step.result c.from_residual-in_err-step.ensures.1
+
+pub glue_let-returns-in_err-inner-clause-refutes : goal.glue_let-returns-in_err-inner-clause-refutes
+glue_let-returns-in_err-inner-clause-refutes t c = no_value _ _ c.from_residual.result c.from_residual.ensures.1
+
+pub glue_let-returns-in_err-step-clause-refutes : goal.glue_let-returns-in_err-step-clause-refutes
+glue_let-returns-in_err-step-clause-refutes t c = no_value _ _ c.from_residual-in_err-step.result c.from_residual-in_err-step.ensures.1
+
+pub glue_let-returns-in_err-defined-clause-refutes : goal.glue_let-returns-in_err-defined-clause-refutes
+glue_let-returns-in_err-defined-clause-refutes t c = no_value _ _ c.from_residual-in_err-defined.result c.from_residual-in_err-defined.ensures.1
+
+pub glue_two-returns-in_err-left-clause-left : goal.glue_two-returns-in_err-left-clause-left
+glue_two-returns-in_err-left-clause-left t c = no_value _ _ c.from_residual.result c.from_residual.ensures.1
+
+pub glue_two-returns-in_err-left-clause-right : goal.glue_two-returns-in_err-left-clause-right
+glue_two-returns-in_err-left-clause-right t c = no_value _ _ c.from_residual.result c.from_residual.ensures.1
+
+pub glue_two-returns-in_err-right-clause-left : goal.glue_two-returns-in_err-right-clause-left
+glue_two-returns-in_err-right-clause-left t c = no_value _ _ c.from_residual-in_err-right.result c.from_residual-in_err-right.ensures.1
+
+pub glue_two-returns-in_err-right-clause-right : goal.glue_two-returns-in_err-right-clause-right
+glue_two-returns-in_err-right-clause-right t c = no_value _ _ c.from_residual-in_err-right.result c.from_residual-in_err-right.ensures.1

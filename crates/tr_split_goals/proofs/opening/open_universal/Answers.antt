@@ -4,13 +4,14 @@ use Rattle.trees.specs.Node.{tree_at}
 use Rattle.trees.specs.Binding.{inst, Param}
 use Rattle.tasks.specs.Meaning.{trees_at}
 use Rattle.evidence.specs.Drafts.{Extends}
-use Rattle.evidence.specs.Laws.{Extends_trans, AddsTrees_extends}
+use Rattle.evidence.specs.Laws.{Extends_trans, AddsTrees_extends, AddsTrees_trans}
 use Rattle.evidence.proofs.Formulas.{same, formulas_later, formula_later}
 use Rattle.tr_split.specs.Split.{split}
 use Rattle.tr_split_goals.specs.declared.over.Over.TheVariants as stands
 use Rattle.tr_split_goals.specs.Over.{wholes, inners}
 use Rattle.tr_split_goals.proofs.Inner.{opened_formula}
-use Rattle.tr_split_goals.proofs.Opened.{param_at, opened_split, wholes_ends, inner_ends}
+use Rattle.tr_split_goals.proofs.Opened.{param_at, opened_split, wholes_ends, inner_ends, kind}
+use Rattle.tr_split_goals.proofs.Passed.{no_value}
 use Rattle.tr_split_goals.proofs.opening.open_universal.Goals as goal
 
 pub ends_over-requires-clause-front : goal.ends_over-requires-clause-front
@@ -95,3 +96,63 @@ returns-clause-ends c =
     let q : inners d2.trees (stands.Universal c.args.ty param) (tree_at d2.trees c.args.body) ≡ split (tree_at d3.trees id) =
     ap (λ (z : Tree). map (λ (v : Tree). inst v z) (split (tree_at d2.trees c.args.body))) p2 ∙ ap (λ (z : Tree). map (λ (v : Tree). inst v P) (split z)) b2 ∙ sym (opened_split d c.args.goal c.args.ty c.args.body c.requires.goal c.requires.tree P) ∙ ap split (sym i3) in
     inner_ends d d3 c.in_ok-made.made.items (trees_at d.trees F) (trees_at d2.trees F) (split (tree_at d3.trees id)) (inners d2.trees (stands.Universal c.args.ty param) (tree_at d2.trees c.args.body)) (same d d2 y F c.requires.front) q c.in_ok-made.ensures.ends
+
+pub returns-in_err-param-clause-formula : goal.returns-in_err-param-clause-formula
+returns-in_err-param-clause-formula c = no_value _ _ c.from_residual.result c.from_residual.ensures.1
+
+pub returns-in_err-param-clause-is : goal.returns-in_err-param-clause-is
+returns-in_err-param-clause-is c = no_value _ _ c.from_residual.result c.from_residual.ensures.1
+
+pub returns-in_err-param-clause-below : goal.returns-in_err-param-clause-below
+returns-in_err-param-clause-below c = no_value _ _ c.from_residual.result c.from_residual.ensures.1
+
+pub returns-in_err-param-clause-ends : goal.returns-in_err-param-clause-ends
+returns-in_err-param-clause-ends c = no_value _ _ c.from_residual.result c.from_residual.ensures.1
+
+pub returns-in_err-inner-clause-formula : goal.returns-in_err-inner-clause-formula
+returns-in_err-inner-clause-formula c = no_value _ _ c.from_residual-in_err-inner.result c.from_residual-in_err-inner.ensures.1
+
+pub returns-in_err-inner-clause-is : goal.returns-in_err-inner-clause-is
+returns-in_err-inner-clause-is c = no_value _ _ c.from_residual-in_err-inner.result c.from_residual-in_err-inner.ensures.1
+
+pub returns-in_err-inner-clause-below : goal.returns-in_err-inner-clause-below
+returns-in_err-inner-clause-below c = no_value _ _ c.from_residual-in_err-inner.result c.from_residual-in_err-inner.ensures.1
+
+pub returns-in_err-inner-clause-ends : goal.returns-in_err-inner-clause-ends
+returns-in_err-inner-clause-ends c = no_value _ _ c.from_residual-in_err-inner.result c.from_residual-in_err-inner.ensures.1
+
+pub returns-in_err-made-clause-formula : goal.returns-in_err-made-clause-formula
+returns-in_err-made-clause-formula c = no_value _ _ c.from_residual-in_err-made.result c.from_residual-in_err-made.ensures.1
+
+pub returns-in_err-made-clause-is : goal.returns-in_err-made-clause-is
+returns-in_err-made-clause-is c = no_value _ _ c.from_residual-in_err-made.result c.from_residual-in_err-made.ensures.1
+
+pub returns-in_err-made-clause-below : goal.returns-in_err-made-clause-below
+returns-in_err-made-clause-below c = no_value _ _ c.from_residual-in_err-made.result c.from_residual-in_err-made.ensures.1
+
+pub returns-in_err-made-clause-ends : goal.returns-in_err-made-clause-ends
+returns-in_err-made-clause-ends c = no_value _ _ c.from_residual-in_err-made.result c.from_residual-in_err-made.ensures.1
+
+pub parameter-requires-clause-held : goal.parameter-requires-clause-held
+parameter-requires-clause-held c = c.requires.ty_held
+
+pub instance-requires-clause-by_held : goal.instance-requires-clause-by_held
+instance-requires-clause-by_held c = c.in_ok-param.ensures.held
+
+pub instance-requires-clause-closed : goal.instance-requires-clause-closed
+instance-requires-clause-closed c = c.in_ok-param.ensures.closed
+
+pub returns-in_err-param-clause-grows : goal.returns-in_err-param-clause-grows
+returns-in_err-param-clause-grows c = AddsTrees_extends _ _ c.parameter.ensures.grows
+
+pub returns-in_err-inner-clause-grows : goal.returns-in_err-inner-clause-grows
+returns-in_err-inner-clause-grows c = AddsTrees_extends _ _ (AddsTrees_trans _ _ _ c.in_ok-param.ensures.grows c.instance.ensures.grows)
+
+pub returns-in_err-made-clause-grows : goal.returns-in_err-made-clause-grows
+returns-in_err-made-clause-grows c = Extends_trans _ _ _ (AddsTrees_extends _ _ (AddsTrees_trans _ _ _ c.in_ok-param.ensures.grows c.in_ok-inner.ensures.grows)) c.ends_over.ensures.grows
+
+pub returns-clause-grows : goal.returns-clause-grows
+returns-clause-grows c = Extends_trans _ _ _ (AddsTrees_extends _ _ (AddsTrees_trans _ _ _ c.in_ok-param.ensures.grows c.in_ok-inner.ensures.grows)) c.in_ok-made.ensures.grows
+
+pub parameter-requires-clause-kind : goal.parameter-requires-clause-kind
+parameter-requires-clause-kind c = kind c.args.draft.now c.args.goal c.args.ty c.args.body c.requires.goal c.requires.tree

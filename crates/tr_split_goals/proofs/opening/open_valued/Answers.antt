@@ -3,7 +3,7 @@ use Rattle.trees.specs.Tree.{Tree, Two, HLet}
 use Rattle.trees.specs.Node.{tree_at}
 use Rattle.trees.specs.Binding.{inst}
 use Rattle.tasks.specs.Meaning.{trees_at}
-use Rattle.evidence.specs.Laws.{AddsTrees_extends}
+use Rattle.evidence.specs.Laws.{AddsTrees_extends, Extends_trans}
 use Rattle.evidence.proofs.Formulas.{same, formulas_later, formula_later}
 use Rattle.instances.specs.Instances.{IsInstance}
 use Rattle.tr_split.specs.Split.{split}
@@ -13,6 +13,7 @@ use Rattle.tr_split_goals.proofs.Inner.{valued_formula}
 use Rattle.tr_split_goals.proofs.Opened.{valued_below, valued_split, wholes_ends, inner_ends}
 use Rattle.tr_split_goals.proofs.Overs.{over_later}
 use Rattle.tr_split_goals.proofs.Values.{value_at}
+use Rattle.tr_split_goals.proofs.Passed.{no_value}
 use Rattle.tr_split_goals.proofs.opening.open_valued.Goals as goal
 
 pub instance-requires-clause-closed : goal.instance-requires-clause-closed
@@ -100,3 +101,42 @@ returns-clause-ends c =
     let q : inners d1.trees (stands.Value c.args.value) (tree_at d1.trees c.args.body) ≡ split (tree_at d2.trees id) =
     ap (λ (z : Tree). map (λ (v : Tree). inst v z) (split (tree_at d1.trees c.args.body))) v1 ∙ ap (λ (z : Tree). map (λ (v : Tree). inst v V) (split z)) b1 ∙ sym (valued_split d c.args.goal c.args.value c.args.body c.requires.goal c.requires.tree V) ∙ ap split (sym i2) in
     inner_ends d d2 c.in_ok-made.made.items (trees_at d.trees F) (trees_at d1.trees F) (split (tree_at d2.trees id)) (inners d1.trees (stands.Value c.args.value) (tree_at d1.trees c.args.body)) (same d d1 x1 F c.requires.front) q c.in_ok-made.ensures.ends
+
+pub returns-in_err-inner-clause-formula : goal.returns-in_err-inner-clause-formula
+returns-in_err-inner-clause-formula c = no_value _ _ c.from_residual.result c.from_residual.ensures.1
+
+pub returns-in_err-inner-clause-is : goal.returns-in_err-inner-clause-is
+returns-in_err-inner-clause-is c = no_value _ _ c.from_residual.result c.from_residual.ensures.1
+
+pub returns-in_err-inner-clause-below : goal.returns-in_err-inner-clause-below
+returns-in_err-inner-clause-below c = no_value _ _ c.from_residual.result c.from_residual.ensures.1
+
+pub returns-in_err-inner-clause-ends : goal.returns-in_err-inner-clause-ends
+returns-in_err-inner-clause-ends c = no_value _ _ c.from_residual.result c.from_residual.ensures.1
+
+pub returns-in_err-made-clause-formula : goal.returns-in_err-made-clause-formula
+returns-in_err-made-clause-formula c = no_value _ _ c.from_residual-in_err-made.result c.from_residual-in_err-made.ensures.1
+
+pub returns-in_err-made-clause-is : goal.returns-in_err-made-clause-is
+returns-in_err-made-clause-is c = no_value _ _ c.from_residual-in_err-made.result c.from_residual-in_err-made.ensures.1
+
+pub returns-in_err-made-clause-below : goal.returns-in_err-made-clause-below
+returns-in_err-made-clause-below c = no_value _ _ c.from_residual-in_err-made.result c.from_residual-in_err-made.ensures.1
+
+pub returns-in_err-made-clause-ends : goal.returns-in_err-made-clause-ends
+returns-in_err-made-clause-ends c = no_value _ _ c.from_residual-in_err-made.result c.from_residual-in_err-made.ensures.1
+
+pub instance-requires-clause-body_held : goal.instance-requires-clause-body_held
+instance-requires-clause-body_held c = c.requires.body_held
+
+pub instance-requires-clause-by_held : goal.instance-requires-clause-by_held
+instance-requires-clause-by_held c = c.requires.value_held
+
+pub returns-in_err-inner-clause-grows : goal.returns-in_err-inner-clause-grows
+returns-in_err-inner-clause-grows c = AddsTrees_extends _ _ c.instance.ensures.grows
+
+pub returns-in_err-made-clause-grows : goal.returns-in_err-made-clause-grows
+returns-in_err-made-clause-grows c = Extends_trans _ _ _ (AddsTrees_extends _ _ c.in_ok-inner.ensures.grows) c.ends_over.ensures.grows
+
+pub returns-clause-grows : goal.returns-clause-grows
+returns-clause-grows c = Extends_trans _ _ _ (AddsTrees_extends _ _ c.in_ok-inner.ensures.grows) c.in_ok-made.ensures.grows

@@ -10,6 +10,7 @@ use Rattle.tr_split.specs.Split.{split}
 use Rattle.tr_split.specs.Glue.{sequent_of_part}
 use Rattle.tr_split_goals.specs.Over.{whole_of, inner_of, extra_of, inners}
 use Rattle.tr_split_goals.proofs.Overs.{over_later, whole_end, inner_end, all_ends}
+use Rattle.tr_split_goals.proofs.Passed.{no_value}
 use Rattle.tr_split_goals.proofs.over.ends_over.Goals as goal
 
 pub part_end-requires-clause-front : goal.part_end-requires-clause-front
@@ -59,3 +60,9 @@ returns-in_err-step-clause-grows c = Extends_trans _ _ _ c.loop-end.invariant.gr
 
 pub returns-in_err-push-clause-grows : goal.returns-in_err-push-clause-grows
 returns-in_err-push-clause-grows c = Extends_trans _ _ _ c.loop-end.invariant.grows c.part_end.ensures.grows
+
+pub returns-in_err-step-clause-ends : goal.returns-in_err-step-clause-ends
+returns-in_err-step-clause-ends c = no_value _ _ c.from_residual.result c.from_residual.ensures.1
+
+pub returns-in_err-push-clause-ends : goal.returns-in_err-push-clause-ends
+returns-in_err-push-clause-ends c = no_value _ _ c.from_residual-in_err-push.result c.from_residual-in_err-push.ensures.1

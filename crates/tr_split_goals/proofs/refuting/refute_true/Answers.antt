@@ -7,11 +7,12 @@ use Rattle.tasks.specs.Task.{neg}
 use Rattle.tasks.specs.Meaning.{trees_at}
 use Rattle.evidence.specs.Drafts.{AreFormulas}
 use Rattle.evidence.specs.Laws.{Extends_trans, AddsTrees_extends}
-use Rattle.evidence.proofs.Formulas.{formulas_later}
+use Rattle.evidence.proofs.Formulas.{formulas_later, one_formula}
 use Rattle.proof_scripts.specs.declared.line.Word.TheVariants as word
 use Rattle.proof_scripts.specs.declared.line.Line.TheVariants as line
 use Rattle.tr_split_goals.proofs.Moving.{end_back, front_length, lines_held}
 use Rattle.tr_split_goals.proofs.Scripts.{true_at}
+use Rattle.tr_split_goals.proofs.Passed.{no_value}
 use Rattle.tr_split_goals.proofs.refuting.refute_true.Goals as goal
 
 pub derive-requires-clause-front : goal.derive-requires-clause-front
@@ -46,3 +47,15 @@ returns-clause-refutes c =
 
 pub returns-clause-grows : goal.returns-clause-grows
 returns-clause-grows c = Extends_trans _ _ _ (AddsTrees_extends _ _ c.in_ok-no_goal.ensures.grows) c.derive.ensures.grows
+
+pub returns-in_err-no_goal-clause-refutes : goal.returns-in_err-no_goal-clause-refutes
+returns-in_err-no_goal-clause-refutes c = no_value _ _ c.from_residual.result c.from_residual.ensures.1
+
+pub negation-requires : goal.negation-requires
+negation-requires c = c.requires.goal
+
+pub returns-in_err-no_goal-clause-grows : goal.returns-in_err-no_goal-clause-grows
+returns-in_err-no_goal-clause-grows c = AddsTrees_extends _ _ c.negation.ensures.grows
+
+pub derive-requires-clause-tail : goal.derive-requires-clause-tail
+derive-requires-clause-tail c = one_formula c.negation.new.draft c.in_ok-no_goal.no_goal c.in_ok-no_goal.ensures.formula

@@ -41,3 +41,6 @@ returns-clause-refutes c =
     IfOk-weaker c.glue_goal.result _ _ (λ k r.
     let s = subst (λ (z : List TermId). Refutes c.glue_goal.new.draft k (trees_at d.trees z ++ neg (tree_at d.trees from.goal) ∷ [])) c.as_slice.ensures r in
     subst (λ (z : List Tree). Refutes c.glue_goal.new.draft k z) (ap start c.requires.own.is) s) c.glue_goal.ensures.refutes
+
+pub returns-clause-grows : goal.returns-clause-grows
+returns-clause-grows c = c.glue_goal.ensures.grows
