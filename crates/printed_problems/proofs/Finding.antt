@@ -1,18 +1,19 @@
 -- A bare symbol is found by the places of all that are bare.
-use Rattle.std.proofs.Common.{◌≡◌, ℕ, ◌+◌, ◌<◌, ◌≤◌, suc, zero, Bool, true, false, ◌&&◌, ◌||◌, if◌then◌else◌, List, [], ◌∷◌, ◌++◌, map, length, get_or, drop, All, Option, Some, None, refl, sym, ap, subst, ◌∙◌, arith}
-use Rattle.std.proofs.lemmas.List.{get_or-map, length-map, drop_more, drop_all}
+use Rattle.std.proofs.Common.{◌≡◌, ℕ, ◌+◌, ◌<◌, suc, Bool, true, false, ◌&&◌, ◌||◌, if◌then◌else◌, List, [], ◌∷◌, ◌++◌, map, length, get_or, drop, All, Option, Some, None, Result, Ok, Err, IfOk, refl, sym, ap, subst, ◌∙◌, arith}
+use Rattle.std.proofs.lemmas.List.{get_or-map, length-map, drop_more}
 use Rattle.std.proofs.lemmas.List.Elements.{All-nil, All-cons, All-weaker}
+use Rattle.trees.specs.Tree.{Tree}
 use Rattle.tasks.specs.Meaning.{task_at}
-use Rattle.name_tables.specs.Occurrences.{Occurrence}
+use Rattle.name_tables.specs.Occurrences.{Occurrence, in_type}
 use Rattle.name_tables.specs.Tables.{is_same, distinct, problem_things}
 use Rattle.name_tables.specs.Seen.{occurrence_at, seen_occurrences, has, with_one, with_all}
-use Rattle.name_tables.proofs.Gathering.{same_occurrence, has_push, with_one_there, with_one_new}
+use Rattle.name_tables.proofs.Gathering.{same_occurrence, has_push}
 use Rattle.name_tables.proofs.Distinct.{distinct_is}
 use Rattle.printed_problems.specs.declared.checks.Checker.{Checker}
 use Rattle.printed_problems.specs.declared.fault.PrintFault.{PrintFault}
 use Rattle.printed_problems.specs.Problems.{places_from}
-use Rattle.printed_problems.specs.Faults.{is_bare, is_bare_in, place_where, at_place, syntax_fault}
-use Rattle.printed_problems.specs.Checks.{CanCheck, is_seen, first_where, bare_fault, the_task}
+use Rattle.printed_problems.specs.Faults.{is_bare, is_bare_in, place_where, at_place, syntax_fault, print_fault_or_else, first_print_fault, printed_type_fault}
+use Rattle.printed_problems.specs.Checks.{CanCheck, MeetsFault, MeetsSeen, is_seen, first_where, bare_fault, the_task}
 
 or_false : (b : Bool) → b ≡ (b || false)
 or_false true = refl
@@ -99,9 +100,18 @@ syntax_is c can seen os e =
     let same : (o : Occurrence) → is_bare_in d t (seen_occurrences c.store.now seen) o ≡ is_bare_in d t os o = λ o. ap (λ b. is_bare d t o && b) (ap (λ z. has z o) e ∙ has_distinct os o) in
     ap at_place (found_bare c can (seen_occurrences c.store.now seen) ∙ place_agree (is_bare_in d t (seen_occurrences c.store.now seen)) (is_bare_in d t os) same 0 (problem_things t))
 
+pub seen_meets : {E X : Type 0} (c : Checker) → CanCheck c → (seen : Result (List (ℕ × ℕ)) E) (os : List Occurrence) (r : Result X PrintFault) → IfOk seen (λ v. seen_occurrences c.store.now v ≡ distinct os)
+    → MeetsSeen c seen r → MeetsFault r (syntax_fault c.driver.now (the_task c) os)
+seen_meets c can (Ok v) os r e m = subst (MeetsFault r) (syntax_is c can v os e) m
+seen_meets c can (Err x) os r e m = m (syntax_fault c.driver.now (the_task c) os)
+
 -- where none is bare there is no fault
 pub syntax_none : (c : Checker) → CanCheck c → (os : List Occurrence) → c.bare.now ≡ [] → syntax_fault c.driver.now (the_task c) os ≡ None
 syntax_none c can os e = ap at_place (sym (found_bare c can os) ∙ ap (first_where (is_seen c.store.now c.things.now os)) e)
+
+pub types_none : (c : Checker) → CanCheck c → c.bare.now ≡ [] → (types : List Tree) → first_print_fault (map (printed_type_fault c.driver.now (the_task c)) types) ≡ None
+types_none c can e [] = refl
+types_none c can e (x ∷ xs) = ap (λ g. print_fault_or_else g (first_print_fault (map (printed_type_fault c.driver.now (the_task c)) xs))) (syntax_none c can (in_type x) e) ∙ types_none c can e xs
 
 -- a search from a place on
 pub first_later : (h : ℕ → Bool) (ps : List ℕ) (i d : ℕ) (all : Option ℕ) → i < length ps → h (get_or ps i d) ≡ false → first_where h (drop i ps) ≡ all → first_where h (drop (i + 1) ps) ≡ all

@@ -1,15 +1,16 @@
 -- The first fault of a list, one after the other.
-use Rattle.std.proofs.Common.{◌≡◌, ℕ, ◌+◌, ◌<◌, ◌≤◌, List, [], ◌∷◌, ◌++◌, map, length, get_or, drop, Option, Some, None, refl, sym, ap, subst, ◌∙◌, Result}
-use Rattle.std.proofs.lemmas.List.{drop_more, drop_all, map-append, length-map}
+use Rattle.std.proofs.Common.{◌≡◌, ℕ, ◌+◌, ◌<◌, ◌≤◌, ◌==◌, true, not, if◌then◌else◌, List, [], ◌∷◌, ◌++◌, map, length, get_or, drop, Option, Some, None, refl, sym, ap, subst, ◌∙◌, Result, Ok, Err, OnOk, IfOk, IsErrAnd}
+use Rattle.std.proofs.lemmas.List.{drop_more, drop_all, map-append}
 use Rattle.trees.specs.declared.TermId.{TermId}
-use Rattle.trees.specs.Tree.{Tree}
+use Rattle.trees.specs.Tree.{Tree, above_ty_vars}
 use Rattle.trees.specs.Node.{tree_at}
 use Rattle.tasks.specs.declared.declaration.Decl.{Decl}
 use Rattle.tasks.specs.Task.{TaskTree}
 use Rattle.tasks.specs.Meaning.{trees_at, declaration_at, declarations_at}
+use Rattle.name_tables.specs.Occurrences.{occurrences}
 use Rattle.driver_parts.specs.declared.driver.Driver.{Driver}
 use Rattle.printed_problems.specs.declared.fault.PrintFault.{PrintFault}
-use Rattle.printed_problems.specs.Faults.{print_fault_or_else, first_print_fault, printed_body_fault, printed_type_fault, formula_fault, declaration_faults, print_fault}
+use Rattle.printed_problems.specs.Faults.{has_forms, syntax_fault, print_fault_or_else, first_print_fault, printed_body_fault, printed_type_fault, formula_fault, declaration_faults, print_fault}
 use Rattle.printed_problems.specs.declared.fault.PrintFault.TheVariants.{Memory, Polymorphic, Unprintable, NoSyntax}
 use Rattle.printed_problems.specs.Checks.{IsDueFault, MeetsFault}
 
@@ -58,6 +59,27 @@ parts_of_task d t =
 pub else_none : (f : Option PrintFault) → print_fault_or_else f None ≡ f
 else_none None = refl
 else_none (Some f) = refl
+
+-- a fault that is handed on, and one that matters to no clause
+pub meets_fault : {X : Type 0} (r : Result X PrintFault) (due : Option PrintFault) (f : PrintFault) → IsErrAnd r (λ e. e ≡ f) → IsDueFault f due → MeetsFault r due
+meets_fault (Ok x) due f h m = absurd h
+meets_fault (Err e) due f h m = subst (λ g. IsDueFault g due) (sym h) m
+
+pub no_ok : {T E : Type 0} (P : Type 0) (Q : E → Type 0) (r : Result T E) → IsErrAnd r Q → OnOk r P
+no_ok P Q (Ok v) h = absurd h
+no_ok P Q (Err e) h = tt
+
+pub no_value : {T E : Type 0} (P : T → Type 0) (Q : E → Type 0) (r : Result T E) → IsErrAnd r Q → IfOk r P
+no_value P Q (Ok v) h = absurd h
+no_value P Q (Err e) h = tt
+
+pub ok_any : {X E P : Type 0} (r : Result X E) → P → OnOk r P
+ok_any (Ok x) p = p
+ok_any (Err e) p = tt
+
+-- what is said of a formula whose forms are there and that has no type variable
+pub formula_rest : (d : Driver) (t : TaskTree) (n : ℕ) (e : Tree) → has_forms d.printer e ≡ true → above_ty_vars e ≡ 0 → formula_fault d t n e ≡ syntax_fault d t (occurrences e)
+formula_rest d t n e h k = (λ i. if not (h i) then Some (Unprintable n) else (if not (k i == 0) then Some (Polymorphic n) else syntax_fault d t (occurrences e)))
 
 pub meets_same : {X : Type 0} (r : Result X PrintFault) (due other : Option PrintFault) → due ≡ other → MeetsFault r due → MeetsFault r other
 meets_same r due other e m = subst (MeetsFault r) e m

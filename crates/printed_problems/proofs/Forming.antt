@@ -1,11 +1,11 @@
 -- Terms whose forms a printer has.
-use Rattle.std.proofs.Common.{◌≡◌, ℕ, Bool, true, false, ◌&&◌, ◌||◌, nat_eq, if◌then◌else◌, List, [], ◌∷◌, ◌++◌, get_or, IsTrue, refl, sym, ap, subst, ◌∙◌, arith}
+use Rattle.std.proofs.Common.{◌≡◌, ℕ, Bool, true, false, ◌&&◌, ◌||◌, nat_eq, if◌then◌else◌, List, [], ◌∷◌, ◌++◌, get_or, refl, sym, ap, subst, ◌∙◌, arith}
 use Rattle.std.specs.List.{list_any}
 use Rattle.std.proofs.lemmas.Bool.Decides.{nat_tests}
 use Rattle.trees.specs.declared.Parts.{Parts}
 use Rattle.trees.specs.declared.Parts.TheVariants as parts
 use Rattle.trees.specs.Tree.{Tree, Leaf, One, Two, Three, Head, HEnd, head_of}
-use Rattle.trees.specs.Node.{assemble}
+use Rattle.trees.specs.Node.{tree_at, assemble}
 use Rattle.driver_items.specs.declared.kinds.Printer.{Printer}
 use Rattle.printed_problems.specs.Faults.{has_head, has_forms}
 use Rattle.printed_problems.specs.Checks.{HaveForms, parts_have_forms}
@@ -20,6 +20,25 @@ forms_of_parts p (Leaf h) = and_true (has_head p h)
 forms_of_parts p (One h a) = refl
 forms_of_parts p (Two h a b) = refl
 forms_of_parts p (Three h a b c) = refl
+
+pub forms_are : (p : Printer) (e : Tree) (a b : Bool) → has_head p (head_of e) ≡ a → parts_have_forms p e ≡ b → (a && b) ≡ has_forms p e
+forms_are p e a b h k = (λ i. sym h i && sym k i) ∙ forms_of_parts p e
+
+-- the children by their numbers
+abbrev pub parts_formed : Printer → List Tree → Parts → Bool
+parts_formed p s parts.None = true
+parts_formed p s (parts.One a) = has_forms p (tree_at s a)
+parts_formed p s (parts.Two a b) = has_forms p (tree_at s a) && has_forms p (tree_at s b)
+parts_formed p s (parts.Three a b c) = has_forms p (tree_at s a) && (has_forms p (tree_at s b) && has_forms p (tree_at s c))
+
+assembled_formed : (p : Printer) (s : List Tree) (h : Head) (ps : Parts) → parts_formed p s ps ≡ parts_have_forms p (assemble s h ps)
+assembled_formed p s h parts.None = refl
+assembled_formed p s h (parts.One a) = refl
+assembled_formed p s h (parts.Two a b) = refl
+assembled_formed p s h (parts.Three a b c) = refl
+
+pub formed_parts : (p : Printer) (s : List Tree) (e : Tree) (h : Head) (ps qs : Parts) → e ≡ assemble s h ps → qs ≡ ps → parts_formed p s qs ≡ parts_have_forms p e
+formed_parts p s e h ps qs is same = ap (parts_formed p s) same ∙ assembled_formed p s h ps ∙ sym (ap (parts_have_forms p) is)
 
 pub forms_there : (p : Printer) (s : List Tree) (ids : List ℕ) (id : ℕ) → HaveForms p s ids → list_any (nat_eq id) ids ≡ true → has_forms p (get_or s id (Leaf HEnd)) ≡ true
 forms_there p s [] id h e = absurd (cc)
@@ -46,6 +65,3 @@ head_of_assembled s h parts.None = refl
 head_of_assembled s h (parts.One a) = refl
 head_of_assembled s h (parts.Two a b) = refl
 head_of_assembled s h (parts.Three a b c) = refl
-
-pub all_forms : (p : Printer) (e : Tree) → has_head p (head_of e) ≡ true → parts_have_forms p e ≡ true → true ≡ has_forms p e
-all_forms p e h k = (λ i. sym h i && sym k i) ∙ forms_of_parts p e

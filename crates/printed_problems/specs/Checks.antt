@@ -58,5 +58,10 @@ first_where test (p ∷ ps) = if test p then Some p else first_where test ps
 abbrev pub bare_fault : Checker → List (ℕ × ℕ) → Option PrintFault
 bare_fault c seen = at_place (first_where (is_seen c.store.now c.things.now (seen_occurrences c.store.now seen)) c.bare.now)
 
+-- a look among what occurs, where there was memory to find that
+abbrev pub MeetsSeen : {E X : Type 0} → Checker → Result (List (ℕ × ℕ)) E → Result X PrintFault → Type 0
+MeetsSeen c (Ok seen) r = MeetsFault r (bare_fault c seen)
+MeetsSeen c (Err e) r = (due : Option PrintFault) → MeetsFault r due
+
 abbrev pub the_task : Checker → TaskTree
 the_task c = task_at c.store.now c.task.now

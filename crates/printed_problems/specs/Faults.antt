@@ -1,5 +1,5 @@
 -- Why a task can't be printed: its first fault, declaration by declaration, then the types of the parameters, the locals, the goal.
-use Rattle.std.specs.Prelude.{ℕ, ◌+◌, ◌&&◌, ◌||◌, ◌==◌, Bool, true, false, not, if◌then◌else◌, List, [], ◌∷◌, ◌++◌, map, length, Option, Some, None}
+use Rattle.std.specs.Prelude.{ℕ, ◌+◌, ◌&&◌, ◌==◌, Bool, true, false, not, if◌then◌else◌, List, [], ◌∷◌, ◌++◌, map, length, Option, Some, None}
 use Rattle.trees.specs.Tree.{Tree, Leaf, One, Two, Three, Head, HLet, HIf, HCase, above_ty_vars}
 use Rattle.driver_items.specs.declared.kinds.Printer.{Printer}
 use Rattle.driver_items.specs.declared.kinds.Printer.TheVariants.{Smt, Tff}

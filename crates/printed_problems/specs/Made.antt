@@ -1,16 +1,16 @@
 -- What the calls promise that put a problem together.
-use Rattle.std.specs.Prelude.{◌≡◌, ℕ, Bool, if◌then◌else◌, List, [], ◌∷◌, ◌++◌, map, All, Option}
+use Rattle.std.specs.Prelude.{◌≡◌, ℕ, Bool, true, false, if◌then◌else◌, List, [], ◌∷◌, ◌++◌, map, All, Option}
 use Rattle.std.specs.List.{list_any}
 use Rattle.trees.specs.declared.TermId.{TermId}
 use Rattle.trees.specs.Tree.{Tree}
 use Rattle.trees.specs.Node.{tree_at, Holds}
-use Rattle.tasks.specs.Task.{BodyTree, Says, props_of}
-use Rattle.tasks.specs.Meaning.{trees_at, declarations_at, task_at, DeclHeld}
+use Rattle.tasks.specs.Task.{BodyTree, DeclarationTree, Says, props_of}
+use Rattle.tasks.specs.Meaning.{trees_at, declarations_at, task_at}
 use Rattle.tasks.specs.declared.declaration.Decl.{Decl}
 use Rattle.tasks.specs.declared.task.Task.{Task}
 use Rattle.driver_parts.specs.declared.driver.Driver.{Driver}
 use Rattle.printed_problems.specs.declared.printed.Problem.{Problem}
-use Rattle.printed_problems.specs.Problems.{is_of_theory, of_theories, texts_where, formula_of, preludes, ProblemTree}
+use Rattle.printed_problems.specs.Problems.{is_of_theory, general, of_theories, texts_where, formula_of, preludes, ProblemTree}
 
 -- whatever the store
 abbrev pub HasTheory : List Decl → List ℕ → Bool → Type 0
@@ -19,11 +19,16 @@ HasTheory ds path told = (s : List Tree) → told ≡ list_any (is_of_theory pat
 abbrev pub text_if : List ℕ → Bool → List (List ℕ)
 text_if text told = if told then text ∷ [] else []
 
-abbrev pub IsSpecial : List Decl → Option (List ℕ) → Bool → Type 0
-IsSpecial ds path told = (s : List Tree) → told ≡ of_theories (declarations_at s ds) path
+-- which preludes are asked for
+abbrev pub is_told : Bool → List DeclarationTree → Option (List ℕ) → Bool
+is_told true ds = of_theories ds
+is_told false ds = general
 
-abbrev pub PushesSpecial : List Decl → List (Option (List ℕ) × List ℕ) → List (List ℕ) → List (List ℕ) → Type 0
-PushesSpecial ds from old new = (s : List Tree) → new ≡ old ++ texts_where (of_theories (declarations_at s ds)) from
+abbrev pub IsPreludeTold : List Decl → Bool → Option (List ℕ) → Bool → Type 0
+IsPreludeTold ds special path told = (s : List Tree) → told ≡ is_told special (declarations_at s ds) path
+
+abbrev pub PushesTold : List Decl → Bool → List (Option (List ℕ) × List ℕ) → List (List ℕ) → List (List ℕ) → Type 0
+PushesTold ds special from old new = (s : List Tree) → new ≡ old ++ texts_where (is_told special (declarations_at s ds)) from
 
 abbrev pub ArePreludes : Driver → Task → List (List ℕ) → Type 0
 ArePreludes d t made = (s : List Tree) → made ≡ preludes d (task_at s t)

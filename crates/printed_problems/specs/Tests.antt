@@ -1,5 +1,5 @@
 -- What is asked of the things of a table.
-use Rattle.std.specs.Prelude.{◌≡◌, ℕ, Bool, if◌then◌else◌, List, [], ◌∷◌, ◌++◌}
+use Rattle.std.specs.Prelude.{◌≡◌, ℕ, Bool, if◌then◌else◌, List, [], ◌∷◌}
 use Rattle.trees.specs.Tree.{Tree}
 use Rattle.tasks.specs.Task.{TaskTree, symbol_or}
 use Rattle.tasks.specs.Meaning.{symbols_at, task_at}
@@ -26,9 +26,6 @@ IsQuestionAnswered q d t k told = (s : List Tree) (types : Tree) → told ≡ as
 
 abbrev pub place_if : ℕ → Bool → List ℕ
 place_if place told = if told then place ∷ [] else []
-
-abbrev pub PushesIf : Question → Driver → Task → ℕ → ℕ → List ℕ → List ℕ → Type 0
-PushesIf q d t k place old new = (s : List Tree) (types : Tree) → new ≡ old ++ place_if place (asks q d (task_at s t) (occurrence k types))
 
 abbrev pub ArePlaces : Question → Driver → Task → List (ℕ × ℕ) → List ℕ → Type 0
 ArePlaces q d t keys places = (s : List Tree) → places ≡ places_from (asks q d (task_at s t)) 0 (seen_occurrences s keys)

@@ -1,18 +1,17 @@
 // The first fault of a task, declaration by declaration.
-ghost use Rattle.std.specs.Prelude.{◌≡◌, ◌<◌, length, map, All, OnOk};
+ghost use Rattle.std.specs.Prelude.{map, All, IfOk, OnOk};
 ghost use Rattle.trees.specs.Node.{tree_at, Holds};
 ghost use Rattle.tasks.specs.Meaning.{trees_at, body_at, declarations_at, BodyHeld, DeclHeld};
-ghost use Rattle.name_tables.specs.Occurrences.{occurrences};
-ghost use Rattle.name_tables.specs.Seen.{seen_occurrences, KeysHeld};
-ghost use Rattle.printed_problems.specs.Faults.{formula_fault, printed_body_fault, printed_type_fault, declaration_faults, first_print_fault, print_fault, syntax_fault};
-ghost use Rattle.printed_problems.specs.Checks.{MeetsFault, HaveForms, CanCheck, is_seen, bare_fault, the_task};
+ghost use Rattle.name_tables.specs.Seen.{KeysHeld};
+ghost use Rattle.printed_problems.specs.Faults.{formula_fault, printed_body_fault, printed_type_fault, declaration_faults, first_print_fault, print_fault};
+ghost use Rattle.printed_problems.specs.Checks.{MeetsFault, HaveForms, CanCheck, MeetsSeen, bare_fault, the_task};
 
 use crate::fault::PrintFault;
 use crate::forms::has_forms;
 use driver_parts::Driver;
 use indexmap::IndexSet;
 use name_tables::Things;
-use std::alloc::Global;
+use std::alloc::{AllocError, Global};
 use tasks::{Body, Decl, Task};
 use term_store::Store;
 use trees::TermId;
@@ -28,61 +27,31 @@ pub struct Checker<'a> {
     pub bare: &'a [usize],
 }
 
-// Whether the thing at a place is among what occurs.
-fn is_seen(c: &Checker<'_>, seen: &Things, place: usize) -> bool
-    requires can { CanCheck c.now }
-    requires seen_held { KeysHeld c.now.store.now seen.now }
-    requires within { place < length c.now.things.now }
-    ensures { result ≡ is_seen c.now.store.now c.now.things.now
-        (seen_occurrences c.now.store.now seen.now)
-        place }
-{
-    let keys = c.things.as_slice();
-    seen.contains(c.store, keys[place])
-}
-
 // Whether a bare symbol is among what occurs; the one at the least place is told.
 fn check_bare(c: &Checker<'_>, seen: &Things) -> Result<(), PrintFault>
     requires can { CanCheck c.now }
     requires seen_held { KeysHeld c.now.store.now seen.now }
     ensures { MeetsFault result (bare_fault c.now seen.now) }
 {
+    let keys = c.things.as_slice();
     for place in c.bare {
-        if is_seen(c, seen, *place) {
+        if seen.contains(c.store, keys[*place]) {
             return Err(PrintFault::NoSyntax { symbol: *place });
         }
     }
     Ok(())
 }
 
-// Whether a bare symbol is in a type.
-fn check_type(alloc: Global, c: &Checker<'_>, ty: TermId) -> Result<(), PrintFault>
+// Whether a bare symbol is among what occurs, where there was memory to find that.
+fn check_seen(c: &Checker<'_>, seen: Result<Things, AllocError>) -> Result<(), PrintFault>
     requires can { CanCheck c.now }
-    requires held { Holds c.now.store.now ty }
-    ensures { MeetsFault result (printed_type_fault c.now.driver.now (the_task c.now)
-        (tree_at c.now.store.now
-        ty)) }
+    requires held { IfOk seen (KeysHeld c.now.store.now) }
+    ensures { MeetsSeen c.now seen result }
 {
-    if c.bare.is_empty() {
-        return Ok(());
+    match seen {
+        Ok(seen) => check_bare(c, &seen),
+        Err(_) => Err(PrintFault::Memory),
     }
-    let seen = Things::of_type(alloc, c.store, ty)?;
-    check_bare(c, &seen)
-}
-
-// Whether a bare symbol occurs in a formula.
-fn check_syntax(alloc: Global, c: &Checker<'_>, e: TermId) -> Result<(), PrintFault>
-    requires can { CanCheck c.now }
-    requires held { Holds c.now.store.now e }
-    ensures { MeetsFault result (syntax_fault c.now.driver.now (the_task c.now)
-        (occurrences (tree_at
-        c.now.store.now e))) }
-{
-    if c.bare.is_empty() {
-        return Ok(());
-    }
-    let seen = Things::of_term(alloc, c.store, e)?;
-    check_bare(c, &seen)
 }
 
 // The fault of a formula that is the declaration of a number.
@@ -106,7 +75,10 @@ fn check_formula(
     if c.store.above_type_variables(e) != 0 {
         return Err(PrintFault::Polymorphic { decl: number });
     }
-    check_syntax(alloc, c, e)
+    if c.bare.is_empty() {
+        return Ok(());
+    }
+    check_seen(c, Things::of_term(alloc, c.store, e))
 }
 
 // The fault of the declaration of a number.
@@ -164,8 +136,11 @@ fn check_types(alloc: Global, c: &Checker<'_>, types: &[TermId]) -> Result<(), P
         (map (printed_type_fault c.now.driver.now (the_task c.now))
         (trees_at c.now.store.now types.now))) }
 {
+    if c.bare.is_empty() {
+        return Ok(());
+    }
     for ty in types {
-        check_type(alloc, c, *ty)?;
+        check_seen(c, Things::of_type(alloc, c.store, *ty))?;
     }
     Ok(())
 }
@@ -192,15 +167,24 @@ fn check_formulas(
     Ok(())
 }
 
+// The first fault of a task, given terms whose forms the printer has.
+fn check_parts(alloc: Global, c: &Checker<'_>, done: &mut IndexSet<usize>) -> Result<(), PrintFault>
+    requires can { CanCheck c.now }
+    requires done { HaveForms c.now.driver.now.printer c.now.store.now done.old.keys }
+    ensures { MeetsFault result (print_fault c.now.driver.now (the_task c.now)) }
+{
+    let decls = c.task.decls.as_slice();
+    check_declarations(alloc, c, done, decls)?;
+    check_types(alloc, c, c.task.params.as_slice())?;
+    check_formulas(alloc, c, done, decls.len(), c.task.locals.as_slice())?;
+    check_formula(alloc, c, done, decls.len(), c.task.goal)
+}
+
 /// The first fault of a task.
 pub(crate) fn check_task(alloc: Global, c: &Checker<'_>) -> Result<(), PrintFault>
     requires { CanCheck c.now }
     ensures { MeetsFault result (print_fault c.now.driver.now (the_task c.now)) }
 {
     let mut done = IndexSet::new(alloc);
-    let decls = c.task.decls.as_slice();
-    check_declarations(alloc, c, &mut done, decls)?;
-    check_types(alloc, c, c.task.params.as_slice())?;
-    check_formulas(alloc, c, &mut done, decls.len(), c.task.locals.as_slice())?;
-    check_formula(alloc, c, &mut done, decls.len(), c.task.goal)
+    check_parts(alloc, c, &mut done)
 }

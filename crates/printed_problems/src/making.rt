@@ -1,14 +1,13 @@
 // The problem of a task under a driver.
-ghost use Rattle.std.specs.Prelude.{◌≡◌, ◌++◌, All, IfOk, OnOk};
-ghost use Rattle.std.specs.Str.{bytes_eq};
+ghost use Rattle.std.specs.Prelude.{◌≡◌, ◌++◌, All, IfOk, OnOk, None};
 ghost use Rattle.trees.specs.Node.{Holds};
 ghost use Rattle.tasks.specs.Meaning.{trees_at, body_at, task_at, BodyHeld, DeclHeld, TaskHeld};
 ghost use Rattle.name_tables.specs.Tables.{problem_things};
 ghost use Rattle.name_tables.specs.Seen.{seen_occurrences, KeysHeld};
-ghost use Rattle.printed_problems.specs.Problems.{general, texts_where, problem_of};
+ghost use Rattle.printed_problems.specs.Problems.{problem_of};
 ghost use Rattle.printed_problems.specs.Faults.{print_fault};
 ghost use Rattle.printed_problems.specs.Checks.{MeetsFault};
-ghost use Rattle.printed_problems.specs.Made.{problem_at, ProblemHeld, HasTheory, text_if, IsSpecial, PushesSpecial, ArePreludes, AreNumberedFacts, said_formulas, IsProblem};
+ghost use Rattle.printed_problems.specs.Made.{problem_at, ProblemHeld, HasTheory, text_if, IsPreludeTold, PushesTold, ArePreludes, AreNumberedFacts, said_formulas};
 
 use crate::checks::{Checker, check_task};
 use crate::fault::PrintFault;
@@ -22,18 +21,12 @@ use tasks::{Body, Decl, Task};
 use term_store::Store;
 use trees::TermId;
 
-fn is_of_theory(decl: &Decl, path: &[u8]) -> bool
-    ensures { result ≡ bytes_eq decl.now.theory path.now }
-{
-    decl.theory.as_slice() == path
-}
-
 // Whether a theory has a declaration among these.
 fn has_theory(decls: &[Decl], path: &[u8]) -> bool
     ensures { HasTheory decls.now path.now result }
 {
     for decl in decls {
-        if is_of_theory(decl, path) {
+        if decl.theory.as_slice() == path {
             return true;
         }
     }
@@ -56,41 +49,31 @@ fn push_if(
     Ok(())
 }
 
-// Appends the preludes without a theory.
-fn push_general(
-    alloc: Global,
-    from: &[(Option<Text>, Text)],
-    made: &mut Vec<Text>,
-) -> Result<(), AllocError>
-    ensures { OnOk result (made.new.items ≡ made.old.items ++ texts_where general from.now) }
+// Whether a prelude is asked for: a special one, that of a theory with a declaration among these, or one without a theory.
+fn is_told(decls: &[Decl], special: bool, path: &Option<Text>) -> bool
+    ensures { IsPreludeTold decls.now special path.now result }
 {
-    for prelude in from {
-        push_if(alloc, prelude.0.is_none(), &prelude.1, made)?;
+    if !special {
+        return path.is_none();
     }
-    Ok(())
-}
-
-// Whether a prelude is that of a theory with a declaration among these.
-fn is_special(decls: &[Decl], path: &Option<Text>) -> bool
-    ensures { IsSpecial decls.now path.now result }
-{
     match path {
         Some(theory) => has_theory(decls, theory.as_slice()),
         None => false,
     }
 }
 
-// Appends the preludes of theories with a declaration among these.
-fn push_special(
+// Appends the preludes of theories with a declaration among these, or those without a theory.
+fn push_preludes(
     alloc: Global,
     decls: &[Decl],
+    special: bool,
     from: &[(Option<Text>, Text)],
     made: &mut Vec<Text>,
 ) -> Result<(), AllocError>
-    ensures { OnOk result (PushesSpecial decls.now from.now made.old.items made.new.items) }
+    ensures { OnOk result (PushesTold decls.now special from.now made.old.items made.new.items) }
 {
     for prelude in from {
-        push_if(alloc, is_special(decls, &prelude.0), &prelude.1, made)?;
+        push_if(alloc, is_told(decls, special, &prelude.0), &prelude.1, made)?;
     }
     Ok(())
 }
@@ -101,8 +84,9 @@ fn preludes_of(alloc: Global, driver: &Driver, task: &Task) -> Result<Seq<Text>,
 {
     let mut made = Vec::new(alloc);
     let from = driver.preludes.as_slice();
-    push_general(alloc, from, &mut made)?;
-    push_special(alloc, task.decls.as_slice(), from, &mut made)?;
+    let decls = task.decls.as_slice();
+    push_preludes(alloc, decls, false, from, &mut made)?;
+    push_preludes(alloc, decls, true, from, &mut made)?;
     Ok(Seq::from_vec(made))
 }
 
@@ -141,20 +125,22 @@ fn problem_by(
     task: &Task,
     driver: &Driver,
     things: &Things,
-) -> Result<Problem, AllocError>
+) -> Result<Problem, PrintFault>
     requires held { TaskHeld store.now task.now }
     requires things_held { KeysHeld store.now things.now }
     requires things { seen_occurrences store.now things.now
         ≡ problem_things (task_at store.now task.now) }
-    ensures { IfOk result (IsProblem store.now
-        (problem_of driver.now (task_at store.now task.now))) }
+    ensures problem { IfOk result (λ p. problem_at store.now p ≡ problem_of driver.now (task_at
+        store.now task.now)) }
+    ensures held { IfOk result (ProblemHeld store.now) }
+    ensures memory { MeetsFault result None }
 {
     let symbols = places_of(alloc, driver, task, things, Question::IsDeclared)?;
     let sorts = places_of(alloc, driver, task, things, Question::IsSort)?;
-    let names = names_of(alloc, store, task, things)?;
-    let preludes = preludes_of(alloc, driver, task)?;
     let facts = facts_of(alloc, store, task.decls.as_slice())?;
     let locals = Seq::from_slice(alloc, task.locals.as_slice())?;
+    let names = names_of(alloc, store, task, things)?;
+    let preludes = preludes_of(alloc, driver, task)?;
     Ok(Problem {
         names: Seq::from_vec(names),
         preludes,
@@ -166,19 +152,22 @@ fn problem_by(
     })
 }
 
-// Whether a task can be printed.
-fn check(
+// The problem of a task with these things, or its first fault.
+fn problem_of_things(
     alloc: Global,
     store: &Store,
     task: &Task,
     driver: &Driver,
     things: &Things,
-) -> Result<(), PrintFault>
+) -> Result<Problem, PrintFault>
     requires held { TaskHeld store.now task.now }
     requires things_held { KeysHeld store.now things.now }
     requires things { seen_occurrences store.now things.now
         ≡ problem_things (task_at store.now task.now) }
-    ensures { MeetsFault result (print_fault driver.now (task_at store.now task.now)) }
+    ensures problem { IfOk result (λ p. problem_at store.now p ≡ problem_of driver.now (task_at
+        store.now task.now)) }
+    ensures held { IfOk result (ProblemHeld store.now) }
+    ensures due { MeetsFault result (print_fault driver.now (task_at store.now task.now)) }
 {
     let bare = places_of(alloc, driver, task, things, Question::IsBare)?;
     let checker = Checker {
@@ -188,7 +177,8 @@ fn check(
         things,
         bare: bare.as_slice(),
     };
-    check_task(alloc, &checker)
+    check_task(alloc, &checker)?;
+    problem_by(alloc, store, task, driver, things)
 }
 
 /// The problem of a task under a driver, or its first fault: declaration by declaration, then the types of the parameters, the
@@ -206,8 +196,8 @@ pub fn problem(
     ensures held { IfOk result (ProblemHeld store.now) }
     ensures due { MeetsFault result (print_fault driver.now (task_at store.now task.now)) }
 {
-    let things = Things::of_problem(alloc, store, task)?;
-    check(alloc, store, task, driver, &things)?;
-    let made = problem_by(alloc, store, task, driver, &things)?;
-    Ok(made)
+    match Things::of_problem(alloc, store, task) {
+        Ok(things) => problem_of_things(alloc, store, task, driver, &things),
+        Err(_) => Err(PrintFault::Memory),
+    }
 }

@@ -1,6 +1,6 @@
 // Which things of a table are asked for, by place.
-ghost use Rattle.std.specs.Prelude.{◌≡◌, IfOk, OnOk};
-ghost use Rattle.printed_problems.specs.Tests.{IsKindOf, IsQuestionAnswered, PushesIf, ArePlaces};
+ghost use Rattle.std.specs.Prelude.{◌≡◌, IfOk};
+ghost use Rattle.printed_problems.specs.Tests.{IsKindOf, IsQuestionAnswered, ArePlaces};
 
 use crate::templates::has_template;
 use driver_parts::Driver;
@@ -45,25 +45,6 @@ fn asks(driver: &Driver, task: &Task, question: Question, symbol: usize) -> bool
     }
 }
 
-// Appends a place, if the answer for the symbol that is there is yes.
-fn push_if(
-    driver: &Driver,
-    task: &Task,
-    question: Question,
-    symbol: usize,
-    place: usize,
-    places: &mut Vec<usize>,
-) -> Result<(), AllocError>
-    ensures { OnOk result (PushesIf question driver.now task.now symbol place places.old.items
-        places.new.items) }
-{
-    if !asks(driver, task, question, symbol) {
-        return Ok(());
-    }
-    places.push(place)?;
-    Ok(())
-}
-
 /// The places of the things for which the answer is yes.
 pub(crate) fn places_of(
     alloc: Global,
@@ -77,7 +58,9 @@ pub(crate) fn places_of(
     let mut places = Vec::new(alloc);
     let keys = things.as_slice();
     for place in 0..keys.len() {
-        push_if(driver, task, question, keys[place].0, place, &mut places)?;
+        if asks(driver, task, question, keys[place].0) {
+            places.push(place)?;
+        }
     }
     Ok(places)
 }

@@ -1,4 +1,4 @@
-use Rattle.std.proofs.Common.{◌≡◌, ℕ, List, All, map, ap, subst, sym, ◌∙◌, rules}
+use Rattle.std.proofs.Common.{List, All, map, ap, refl, subst, sym, ◌∙◌}
 use Rattle.trees.specs.declared.TermId.{TermId}
 use Rattle.trees.specs.Node.{Holds}
 use Rattle.tasks.specs.declared.declaration.Decl.{Decl}
@@ -7,6 +7,8 @@ use Rattle.tasks.specs.Meaning.{trees_at, declarations_at, task_at}
 use Rattle.name_tables.specs.Tables.{names_of}
 use Rattle.name_tables.specs.Seen.{seen_occurrences}
 use Rattle.printed_problems.specs.Problems.{is_sort, is_declared_symbol, places_from, formula_of}
+use Rattle.printed_problems.specs.declared.fault.PrintFault.TheVariants.{Memory}
+use Rattle.printed_problems.proofs.First.{meets_fault, no_value}
 use Rattle.printed_problems.proofs.making.problem_by.Goals as goal
 
 pub returns : goal.returns
@@ -22,12 +24,7 @@ returns c =
     let facts = c.in_ok-facts.ensures.are ∙ ap (λ (z : List Decl). map formula_of (props_of (declarations_at s z))) c.as_slice.ensures in
     let same = c.in_ok-locals.ensures ∙ c.as_slice-2.ensures in
     record {
-      held = record {
-        facts = c.in_ok-facts.ensures.held;
-        locals = subst (λ (z : List TermId). All (Holds s) z) (sym same) c.requires.held.locals;
-        goal = c.requires.held.goal;
-      };
-      is = (λ i. record {
+      problem = (λ i. record {
         names = names i;
         preludes = c.in_ok-preludes.ensures s i;
         sorts = sorts i;
@@ -36,4 +33,40 @@ returns c =
         locals = trees_at s (same i);
         goal = t.goal;
       });
+      held = record {
+        facts = c.in_ok-facts.ensures.held;
+        locals = subst (λ (z : List TermId). All (Holds s) z) (sym same) c.requires.held.locals;
+        goal = c.requires.held.goal;
+      };
+      memory = refl;
     }
+
+pub returns-in_err-symbols : goal.returns-in_err-symbols
+returns-in_err-symbols c =
+    let r = c.from_residual in
+    record { problem = no_value _ _ r.result r.ensures.1; held = no_value _ _ r.result r.ensures.1; memory = meets_fault r.result _ Memory r.ensures.1 tt }
+
+pub returns-in_err-sorts : goal.returns-in_err-sorts
+returns-in_err-sorts c =
+    let r = c.from_residual-in_err-sorts in
+    record { problem = no_value _ _ r.result r.ensures.1; held = no_value _ _ r.result r.ensures.1; memory = meets_fault r.result _ Memory r.ensures.1 tt }
+
+pub returns-in_err-facts : goal.returns-in_err-facts
+returns-in_err-facts c =
+    let r = c.from_residual-in_err-facts in
+    record { problem = no_value _ _ r.result r.ensures.1; held = no_value _ _ r.result r.ensures.1; memory = meets_fault r.result _ Memory r.ensures.1 tt }
+
+pub returns-in_err-locals : goal.returns-in_err-locals
+returns-in_err-locals c =
+    let r = c.from_residual-in_err-locals in
+    record { problem = no_value _ _ r.result r.ensures.1; held = no_value _ _ r.result r.ensures.1; memory = meets_fault r.result _ Memory r.ensures.1 tt }
+
+pub returns-in_err-names : goal.returns-in_err-names
+returns-in_err-names c =
+    let r = c.from_residual-in_err-names in
+    record { problem = no_value _ _ r.result r.ensures.1; held = no_value _ _ r.result r.ensures.1; memory = meets_fault r.result _ Memory r.ensures.1 tt }
+
+pub returns-in_err-preludes : goal.returns-in_err-preludes
+returns-in_err-preludes c =
+    let r = c.from_residual-in_err-preludes in
+    record { problem = no_value _ _ r.result r.ensures.1; held = no_value _ _ r.result r.ensures.1; memory = meets_fault r.result _ Memory r.ensures.1 tt }
