@@ -3,9 +3,8 @@ ghost use Rattle.std.specs.Prelude.{All, OnOk};
 ghost use Rattle.std.specs.List.{flat_map};
 ghost use Rattle.trees.specs.Node.{tree_at, Holds};
 ghost use Rattle.tasks.specs.Meaning.{trees_at, symbols_at, SymbolHeld};
-ghost use Rattle.printed_terms.specs.Texts.{sort_text};
 ghost use Rattle.printed_terms.specs.Meaning.{printing, CanPrint, Appends};
-ghost use Rattle.smt_texts.specs.Text.{smt_head_line, smt_sort_line, smt_parameter_line, smt_result_text, smt_rank_line, smt_symbol_line, smt_parameter_lines, assertion, smt_goal_line};
+ghost use Rattle.smt_texts.specs.Text.{smt_head_line, smt_sort_line, smt_result_text, smt_rank_line, smt_symbol_line, smt_parameter_lines, assertion, smt_goal_line};
 
 use printed_terms::{
     Rank, TermPrinter, push_formula, push_name_at, push_number, push_parameter, push_sort,
@@ -31,17 +30,6 @@ pub(crate) fn push_head(
     out.extend_from_slice(b"\n")
 }
 
-// Appends the line that declares a type.
-fn push_sort_line(c: &TermPrinter<'_>, out: &mut Vec<u8>, place: usize) -> Result<(), AllocError>
-    ensures { OnOk result (Appends out.old.items (smt_sort_line (printing c.now) place)
-        out.new.items) }
-{
-    out.extend_from_slice(b"(declare-sort ")?;
-    push_name_at(c, out, place)?;
-    out.extend_from_slice(b" 0)\n")?;
-    Ok(())
-}
-
 /// Appends the lines that declare types.
 pub(crate) fn push_sort_lines(
     c: &TermPrinter<'_>,
@@ -53,7 +41,9 @@ pub(crate) fn push_sort_lines(
         out.new.items) }
 {
     for place in places {
-        push_sort_line(c, out, *place)?;
+        out.extend_from_slice(b"(declare-sort ")?;
+        push_name_at(c, out, *place)?;
+        out.extend_from_slice(b" 0)\n")?;
     }
     Ok(())
 }
@@ -91,8 +81,7 @@ fn push_rank(
     push_sorts(c, out, b" ", rank.args.as_slice())?;
     out.extend_from_slice(b") ")?;
     push_result(c, out, rank.result)?;
-    out.extend_from_slice(b")\n")?;
-    Ok(())
+    out.extend_from_slice(b")\n")
 }
 
 // Appends the line that declares what is at a place of the table.
@@ -134,26 +123,6 @@ pub(crate) fn push_symbol_lines(
     Ok(())
 }
 
-// Appends the line that declares a parameter.
-fn push_parameter_line(
-    c: &TermPrinter<'_>,
-    out: &mut Vec<u8>,
-    number: usize,
-    ty: TermId,
-) -> Result<(), AllocError>
-    requires can { CanPrint c.now }
-    requires held { Holds c.now.store.now ty }
-    ensures { OnOk result (Appends out.old.items (smt_parameter_line number
-        (sort_text (printing c.now) (tree_at c.now.store.now ty))) out.new.items) }
-{
-    out.extend_from_slice(b"(declare-fun ")?;
-    push_parameter(c.alloc, out, number)?;
-    out.extend_from_slice(b" () ")?;
-    push_sort(c, out, ty)?;
-    out.extend_from_slice(b")\n")?;
-    Ok(())
-}
-
 /// Appends the lines that declare parameters.
 pub(crate) fn push_parameter_lines(
     c: &TermPrinter<'_>,
@@ -166,21 +135,13 @@ pub(crate) fn push_parameter_lines(
         c.now.store.now types.now)) out.new.items) }
 {
     for number in 0..types.len() {
-        push_parameter_line(c, out, number, types[number])?;
+        out.extend_from_slice(b"(declare-fun ")?;
+        push_parameter(c.alloc, out, number)?;
+        out.extend_from_slice(b" () ")?;
+        push_sort(c, out, types[number])?;
+        out.extend_from_slice(b")\n")?;
     }
     Ok(())
-}
-
-// Appends the assertion of a formula, as a line.
-fn push_assertion(c: &TermPrinter<'_>, out: &mut Vec<u8>, e: TermId) -> Result<(), AllocError>
-    requires can { CanPrint c.now }
-    requires held { Holds c.now.store.now e }
-    ensures { OnOk result (Appends out.old.items (assertion (printing c.now) (tree_at
-        c.now.store.now e)) out.new.items) }
-{
-    out.extend_from_slice(b"(assert ")?;
-    push_formula(c, out, e)?;
-    out.extend_from_slice(b")\n")
 }
 
 /// Appends the assertions of formulas.
@@ -195,7 +156,9 @@ pub(crate) fn push_assertions(
         c.now.store.now formulas.now)) out.new.items) }
 {
     for formula in formulas {
-        push_assertion(c, out, *formula)?;
+        out.extend_from_slice(b"(assert ")?;
+        push_formula(c, out, *formula)?;
+        out.extend_from_slice(b")\n")?;
     }
     Ok(())
 }
@@ -209,6 +172,5 @@ pub(crate) fn push_goal(c: &TermPrinter<'_>, out: &mut Vec<u8>, e: TermId) -> Re
 {
     out.extend_from_slice(b"(assert (not ")?;
     push_formula(c, out, e)?;
-    out.extend_from_slice(b"))\n")?;
-    Ok(())
+    out.extend_from_slice(b"))\n")
 }

@@ -45,8 +45,7 @@ fn push_problem(
     push_assertions(c, out, problem.facts.as_slice())?;
     push_assertions(c, out, problem.locals.as_slice())?;
     push_goal(c, out, problem.goal)?;
-    out.extend_from_slice(b"(check-sat)\n")?;
-    Ok(())
+    out.extend_from_slice(b"(check-sat)\n")
 }
 
 /// The text of a task's problem under a driver, as a part of so many, counted from 1. Only want of memory refuses.

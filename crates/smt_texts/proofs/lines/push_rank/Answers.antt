@@ -3,7 +3,7 @@ use Rattle.printed_terms.specs.Texts.{joined}
 use Rattle.printed_terms.specs.Ranks.{sorts_at}
 use Rattle.printed_terms.specs.Meaning.{printing}
 use Rattle.smt_texts.specs.Text.{smt_result_text}
-use Rattle.smt_texts.proofs.Joins.{then_piece}
+use Rattle.smt_texts.proofs.Joins.{then_piece, last_piece, ok_items, no_ok}
 use Rattle.smt_texts.proofs.lines.push_rank.Goals as goal
 
 pub returns : goal.returns
@@ -14,7 +14,7 @@ returns c =
     let name = c.args.name.now in
     let sorts = joined (codes " ") (sorts_at p c.args.rank.now.args) in
     let result = smt_result_text p c.args.rank.now.result in
-    then_piece o _ _ (start ++ name ++ codes " (" ++ sorts ++ codes ") " ++ result) (codes ")\n")
+    last_piece c.extend_from_slice-5.result o _ _ (start ++ name ++ codes " (" ++ sorts ++ codes ") " ++ result) (codes ")\n")
     (then_piece o _ _ (start ++ name ++ codes " (" ++ sorts ++ codes ") ") result
     (then_piece o _ _ (start ++ name ++ codes " (" ++ sorts) (codes ") ")
     (then_piece o _ _ (start ++ name ++ codes " (") sorts
@@ -22,4 +22,22 @@ returns c =
     (then_piece o _ _ start name c.in_ok-extend_from_slice.ensures.items c.in_ok-extend_from_slice-2.ensures.items)
     c.in_ok-extend_from_slice-3.ensures.items)
     (c.in_ok-push_sorts.ensures ∙ ap (λ (z : List ℕ). c.extend_from_slice-3.new.self.items ++ joined (codes " ") (sorts_at p z)) c.as_slice.ensures))
-    c.in_ok-extend_from_slice-4.ensures.items) c.in_ok-push_result.ensures) c.in_ok-extend_from_slice-5.ensures.items
+    c.in_ok-extend_from_slice-4.ensures.items) c.in_ok-push_result.ensures) (ok_items c.extend_from_slice-5.result _ _ _ c.extend_from_slice-5.ensures.items)
+
+pub returns-in_err-extend_from_slice : goal.returns-in_err-extend_from_slice
+returns-in_err-extend_from_slice c = no_ok _ _ c.from_residual.result c.from_residual.ensures.1
+
+pub returns-in_err-extend_from_slice-2 : goal.returns-in_err-extend_from_slice-2
+returns-in_err-extend_from_slice-2 c = no_ok _ _ c.from_residual-in_err-extend_from_slice-2.result c.from_residual-in_err-extend_from_slice-2.ensures.1
+
+pub returns-in_err-extend_from_slice-3 : goal.returns-in_err-extend_from_slice-3
+returns-in_err-extend_from_slice-3 c = no_ok _ _ c.from_residual-in_err-extend_from_slice-3.result c.from_residual-in_err-extend_from_slice-3.ensures.1
+
+pub returns-in_err-push_sorts : goal.returns-in_err-push_sorts
+returns-in_err-push_sorts c = no_ok _ _ c.from_residual-in_err-push_sorts.result c.from_residual-in_err-push_sorts.ensures.1
+
+pub returns-in_err-extend_from_slice-4 : goal.returns-in_err-extend_from_slice-4
+returns-in_err-extend_from_slice-4 c = no_ok _ _ c.from_residual-in_err-extend_from_slice-4.result c.from_residual-in_err-extend_from_slice-4.ensures.1
+
+pub returns-in_err-push_result : goal.returns-in_err-push_result
+returns-in_err-push_result c = no_ok _ _ c.from_residual-in_err-push_result.result c.from_residual-in_err-push_result.ensures.1

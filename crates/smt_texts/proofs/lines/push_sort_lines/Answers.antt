@@ -1,8 +1,22 @@
+use Rattle.std.proofs.Common.{◌++◌, codes, get_or}
+use Rattle.printed_terms.specs.Texts.{name_at}
 use Rattle.printed_terms.specs.Meaning.{printing}
 use Rattle.smt_texts.specs.Text.{smt_sort_line}
-use Rattle.smt_texts.proofs.Joins.{lines_step}
+use Rattle.smt_texts.proofs.Joins.{then_piece, lines_step, no_ok}
 use Rattle.smt_texts.proofs.lines.push_sort_lines.Goals as goal
 
 pub loop-place-preserved : goal.loop-place-preserved
 loop-place-preserved c =
-    lines_step (smt_sort_line (printing c.args.c.now)) c.args.places.now c.loop-place.place-index _ c.loop-place.out.items _ _ c.loop-place-test.true c.in_ok-push_sort_line.ensures c.loop-place.invariant
+    let p = printing c.args.c.now in
+    let name = name_at p (get_or c.args.places.now c.loop-place.place-index 0) in
+    lines_step (smt_sort_line p) c.args.places.now c.loop-place.place-index 0 c.loop-place.out.items _ _ c.loop-place-test.true
+    (then_piece _ _ _ (codes "(declare-sort ") (name ++ codes " 0)\n") c.in_ok-extend_from_slice.ensures.items (then_piece _ _ _ name (codes " 0)\n") c.in_ok-push_name_at.ensures c.in_ok-extend_from_slice-2.ensures.items)) c.loop-place.invariant
+
+pub returns-in_err-extend_from_slice : goal.returns-in_err-extend_from_slice
+returns-in_err-extend_from_slice c = no_ok _ _ c.from_residual.result c.from_residual.ensures.1
+
+pub returns-in_err-push_name_at : goal.returns-in_err-push_name_at
+returns-in_err-push_name_at c = no_ok _ _ c.from_residual-in_err-push_name_at.result c.from_residual-in_err-push_name_at.ensures.1
+
+pub returns-in_err-extend_from_slice-2 : goal.returns-in_err-extend_from_slice-2
+returns-in_err-extend_from_slice-2 c = no_ok _ _ c.from_residual-in_err-extend_from_slice-2.result c.from_residual-in_err-extend_from_slice-2.ensures.1

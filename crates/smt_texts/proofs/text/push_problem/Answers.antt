@@ -7,7 +7,7 @@ use Rattle.tasks.specs.Meaning.{trees_at, symbols_at}
 use Rattle.printed_terms.specs.Problems.{line}
 use Rattle.printed_terms.specs.Meaning.{printing}
 use Rattle.smt_texts.specs.Text.{smt_head_line, smt_sort_line, smt_symbol_line, smt_parameter_lines, assertion, smt_goal_line}
-use Rattle.smt_texts.proofs.Joins.{then_piece}
+use Rattle.smt_texts.proofs.Joins.{then_piece, last_piece, ok_items, no_ok}
 use Rattle.smt_texts.proofs.text.push_problem.Goals as goal
 
 pub returns : goal.returns
@@ -27,7 +27,7 @@ returns c =
     let told = smt_goal_line p (tree_at s problem.goal) in
     let head = smt_head_line c.args.part c.args.parts in
     let o = c.args.out.now.items in
-    then_piece o _ _ (head ++ preludes ++ sorts ++ lines ++ params ++ facts ++ locals ++ told) (codes "(check-sat)\n")
+    last_piece c.extend_from_slice.result o _ _ (head ++ preludes ++ sorts ++ lines ++ params ++ facts ++ locals ++ told) (codes "(check-sat)\n")
     (then_piece o _ _ (head ++ preludes ++ sorts ++ lines ++ params ++ facts ++ locals) told
     (then_piece o _ _ (head ++ preludes ++ sorts ++ lines ++ params ++ facts) locals
     (then_piece o _ _ (head ++ preludes ++ sorts ++ lines ++ params) facts
@@ -41,4 +41,28 @@ returns c =
     (c.in_ok-push_parameter_lines.ensures ∙ ap (λ (z : List TermId). c.push_symbol_lines.new.out.items ++ smt_parameter_lines p 0 (trees_at s z)) c.as_slice-5.ensures))
     (c.in_ok-push_assertions.ensures ∙ ap (λ (z : List TermId). c.push_parameter_lines.new.out.items ++ flat_map (assertion p) (trees_at s z)) c.as_slice-6.ensures))
     (c.in_ok-push_assertions-2.ensures ∙ ap (λ (z : List TermId). c.push_assertions.new.out.items ++ flat_map (assertion p) (trees_at s z)) c.as_slice-7.ensures))
-    c.in_ok-push_goal.ensures) c.in_ok-extend_from_slice.ensures.items
+    c.in_ok-push_goal.ensures) (ok_items c.extend_from_slice.result _ _ _ c.extend_from_slice.ensures.items)
+
+pub returns-in_err-push_head : goal.returns-in_err-push_head
+returns-in_err-push_head c = no_ok _ _ c.from_residual.result c.from_residual.ensures.1
+
+pub returns-in_err-push_preludes : goal.returns-in_err-push_preludes
+returns-in_err-push_preludes c = no_ok _ _ c.from_residual-in_err-push_preludes.result c.from_residual-in_err-push_preludes.ensures.1
+
+pub returns-in_err-push_sort_lines : goal.returns-in_err-push_sort_lines
+returns-in_err-push_sort_lines c = no_ok _ _ c.from_residual-in_err-push_sort_lines.result c.from_residual-in_err-push_sort_lines.ensures.1
+
+pub returns-in_err-push_symbol_lines : goal.returns-in_err-push_symbol_lines
+returns-in_err-push_symbol_lines c = no_ok _ _ c.from_residual-in_err-push_symbol_lines.result c.from_residual-in_err-push_symbol_lines.ensures.1
+
+pub returns-in_err-push_parameter_lines : goal.returns-in_err-push_parameter_lines
+returns-in_err-push_parameter_lines c = no_ok _ _ c.from_residual-in_err-push_parameter_lines.result c.from_residual-in_err-push_parameter_lines.ensures.1
+
+pub returns-in_err-push_assertions : goal.returns-in_err-push_assertions
+returns-in_err-push_assertions c = no_ok _ _ c.from_residual-in_err-push_assertions.result c.from_residual-in_err-push_assertions.ensures.1
+
+pub returns-in_err-push_assertions-2 : goal.returns-in_err-push_assertions-2
+returns-in_err-push_assertions-2 c = no_ok _ _ c.from_residual-in_err-push_assertions-2.result c.from_residual-in_err-push_assertions-2.ensures.1
+
+pub returns-in_err-push_goal : goal.returns-in_err-push_goal
+returns-in_err-push_goal c = no_ok _ _ c.from_residual-in_err-push_goal.result c.from_residual-in_err-push_goal.ensures.1
