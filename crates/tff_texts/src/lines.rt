@@ -1,16 +1,17 @@
 // The lines of a problem.
-ghost use Rattle.std.specs.Prelude.{All, OnOk};
+ghost use Rattle.std.specs.Prelude.{◌≡◌, slice_get, All, OnOk};
 ghost use Rattle.std.specs.List.{flat_map};
 ghost use Rattle.trees.specs.Node.{tree_at, Holds};
 ghost use Rattle.tasks.specs.Meaning.{trees_at, symbols_at, SymbolHeld};
-ghost use Rattle.printed_terms.specs.Texts.{sort_text};
+ghost use Rattle.printed_terms.specs.Texts.{text_of_entry};
 ghost use Rattle.printed_terms.specs.Ranks.{sorts_at};
 ghost use Rattle.printed_terms.specs.Meaning.{printing, CanPrint, Appends};
-ghost use Rattle.tff_texts.specs.Text.{tff_head_line, tff_typed, tff_sort_line, arguments_text, tff_result_text, tff_rank_line, tff_symbol_line, tff_parameter_line, tff_parameter_lines, axiom_line, axiom_lines, tff_goal_line};
+ghost use Rattle.tff_texts.specs.Text.{tff_head_line, tff_typed, tff_sort_line, arguments_text, tff_result_text, tff_rank_line, tff_symbol_line, tff_parameter_lines, axiom_lines, tff_goal_line};
 
+use name_entries::NameEntry;
 use printed_terms::{
-    Rank, TermPrinter, push_formula, push_name_at, push_number, push_parameter, push_sort,
-    push_sort_at, push_sorts, rank_of,
+    Rank, TermPrinter, push_formula, push_number, push_parameter, push_sort, push_sort_at,
+    push_sorts, rank_of,
 };
 use std::alloc::{AllocError, Global};
 use tasks::SymbolInfo;
@@ -40,20 +41,17 @@ fn push_typed(out: &mut Vec<u8>, name: &[u8]) -> Result<(), AllocError>
     out.extend_from_slice(name)?;
     out.extend_from_slice(b", type, ")?;
     out.extend_from_slice(name)?;
-    out.extend_from_slice(b": ")?;
-    Ok(())
+    out.extend_from_slice(b": ")
 }
 
-// Appends the line that declares a type.
-fn push_sort_line(c: &TermPrinter<'_>, out: &mut Vec<u8>, place: usize) -> Result<(), AllocError>
-    ensures { OnOk result (Appends out.old.items (tff_sort_line (printing c.now) place)
-        out.new.items) }
+// The name at a place of the table.
+fn name_at(names: &[NameEntry], place: usize) -> &[u8]
+    ensures { result.now ≡ text_of_entry (slice_get names.now place) }
 {
-    let mut name = Vec::new(c.alloc);
-    push_name_at(c, &mut name, place)?;
-    push_typed(out, name.as_slice())?;
-    out.extend_from_slice(b"$tType).\n")?;
-    Ok(())
+    match names.get(place) {
+        Some(entry) => entry.name.as_slice(),
+        None => b"",
+    }
 }
 
 /// Appends the lines that declare types.
@@ -67,7 +65,8 @@ pub(crate) fn push_sort_lines(
         out.new.items) }
 {
     for place in places {
-        push_sort_line(c, out, *place)?;
+        push_typed(out, name_at(c.names, *place))?;
+        out.extend_from_slice(b"$tType).\n")?;
     }
     Ok(())
 }
@@ -126,8 +125,7 @@ fn push_rank(
     push_typed(out, name)?;
     push_arguments(c, out, rank.args.as_slice())?;
     push_result(c, out, rank.result)?;
-    out.extend_from_slice(b").\n")?;
-    Ok(())
+    out.extend_from_slice(b").\n")
 }
 
 // Appends the line that declares what is at a place of the table.
@@ -169,26 +167,6 @@ pub(crate) fn push_symbol_lines(
     Ok(())
 }
 
-// Appends the line that declares a parameter.
-fn push_parameter_line(
-    c: &TermPrinter<'_>,
-    out: &mut Vec<u8>,
-    number: usize,
-    ty: TermId,
-) -> Result<(), AllocError>
-    requires can { CanPrint c.now }
-    requires held { Holds c.now.store.now ty }
-    ensures { OnOk result (Appends out.old.items (tff_parameter_line number (sort_text
-        (printing c.now) (tree_at c.now.store.now ty))) out.new.items) }
-{
-    let mut name = Vec::new(c.alloc);
-    push_parameter(c.alloc, &mut name, number)?;
-    push_typed(out, name.as_slice())?;
-    push_sort(c, out, ty)?;
-    out.extend_from_slice(b").\n")?;
-    Ok(())
-}
-
 /// Appends the lines that declare parameters.
 pub(crate) fn push_parameter_lines(
     c: &TermPrinter<'_>,
@@ -201,28 +179,14 @@ pub(crate) fn push_parameter_lines(
         c.now.store.now types.now)) out.new.items) }
 {
     for number in 0..types.len() {
-        push_parameter_line(c, out, number, types[number])?;
+        out.extend_from_slice(b"tff(")?;
+        push_parameter(c.alloc, out, number)?;
+        out.extend_from_slice(b", type, ")?;
+        push_parameter(c.alloc, out, number)?;
+        out.extend_from_slice(b": ")?;
+        push_sort(c, out, types[number])?;
+        out.extend_from_slice(b").\n")?;
     }
-    Ok(())
-}
-
-// Appends an axiom with a number.
-fn push_axiom(
-    c: &TermPrinter<'_>,
-    out: &mut Vec<u8>,
-    number: usize,
-    e: TermId,
-) -> Result<(), AllocError>
-    requires can { CanPrint c.now }
-    requires held { Holds c.now.store.now e }
-    ensures { OnOk result (Appends out.old.items (axiom_line (printing c.now) number (tree_at
-        c.now.store.now e)) out.new.items) }
-{
-    out.extend_from_slice(b"tff(ax_")?;
-    push_number(c.alloc, out, number)?;
-    out.extend_from_slice(b", axiom, ")?;
-    push_formula(c, out, e)?;
-    out.extend_from_slice(b").\n")?;
     Ok(())
 }
 
@@ -238,7 +202,11 @@ pub(crate) fn push_axioms(
         c.now.store.now formulas.now)) out.new.items) }
 {
     for number in 0..formulas.len() {
-        push_axiom(c, out, number, formulas[number])?;
+        out.extend_from_slice(b"tff(ax_")?;
+        push_number(c.alloc, out, number)?;
+        out.extend_from_slice(b", axiom, ")?;
+        push_formula(c, out, formulas[number])?;
+        out.extend_from_slice(b").\n")?;
     }
     Ok(())
 }
@@ -252,6 +220,5 @@ pub(crate) fn push_goal(c: &TermPrinter<'_>, out: &mut Vec<u8>, e: TermId) -> Re
 {
     out.extend_from_slice(b"tff(goal, conjecture, ")?;
     push_formula(c, out, e)?;
-    out.extend_from_slice(b").\n")?;
-    Ok(())
+    out.extend_from_slice(b").\n")
 }

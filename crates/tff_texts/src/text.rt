@@ -61,8 +61,7 @@ fn push_problem(
     )?;
     push_parameter_lines(c, out, task.params.as_slice())?;
     push_premises(c, out, problem)?;
-    push_goal(c, out, problem.goal)?;
-    Ok(())
+    push_goal(c, out, problem.goal)
 }
 
 /// The text of a task's problem under a driver, as a part of so many, counted from 1. Only want of memory refuses.

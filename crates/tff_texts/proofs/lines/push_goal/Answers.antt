@@ -2,12 +2,18 @@ use Rattle.std.proofs.Common.{◌++◌, codes}
 use Rattle.trees.specs.Node.{tree_at}
 use Rattle.printed_terms.specs.Texts.{formula_text}
 use Rattle.printed_terms.specs.Meaning.{printing}
-use Rattle.tff_texts.proofs.Joins.{then_piece}
+use Rattle.tff_texts.proofs.Joins.{then_piece, last_piece, ok_items, no_ok}
 use Rattle.tff_texts.proofs.lines.push_goal.Goals as goal
 
 pub returns : goal.returns
 returns c =
     let o = c.args.out.now.items in
     let formula = formula_text (printing c.args.c.now) (tree_at c.args.c.now.store.now c.args.e) in
-    then_piece o _ _ (codes "tff(goal, conjecture, " ++ formula) (codes ").\n")
-    (then_piece o _ _ (codes "tff(goal, conjecture, ") formula c.in_ok-extend_from_slice.ensures.items c.in_ok-push_formula.ensures) c.in_ok-extend_from_slice-2.ensures.items
+    last_piece c.extend_from_slice-2.result o _ _ (codes "tff(goal, conjecture, " ++ formula) (codes ").\n")
+    (then_piece o _ _ (codes "tff(goal, conjecture, ") formula c.in_ok-extend_from_slice.ensures.items c.in_ok-push_formula.ensures) (ok_items c.extend_from_slice-2.result _ _ _ c.extend_from_slice-2.ensures.items)
+
+pub returns-in_err-extend_from_slice : goal.returns-in_err-extend_from_slice
+returns-in_err-extend_from_slice c = no_ok _ _ c.from_residual.result c.from_residual.ensures.1
+
+pub returns-in_err-push_formula : goal.returns-in_err-push_formula
+returns-in_err-push_formula c = no_ok _ _ c.from_residual-in_err-push_formula.result c.from_residual-in_err-push_formula.ensures.1

@@ -7,7 +7,7 @@ use Rattle.tasks.specs.Meaning.{trees_at, symbols_at}
 use Rattle.printed_terms.specs.Problems.{line}
 use Rattle.printed_terms.specs.Meaning.{printing}
 use Rattle.tff_texts.specs.Text.{tff_head_line, tff_sort_line, tff_symbol_line, tff_parameter_lines, axiom_lines, tff_goal_line}
-use Rattle.tff_texts.proofs.Joins.{then_piece}
+use Rattle.tff_texts.proofs.Joins.{then_piece, last_piece, no_ok}
 use Rattle.tff_texts.proofs.text.push_problem.Goals as goal
 
 pub returns : goal.returns
@@ -26,7 +26,7 @@ returns c =
     let told = tff_goal_line p (tree_at s problem.goal) in
     let head = tff_head_line c.args.part c.args.parts in
     let o = c.args.out.now.items in
-    then_piece o _ _ (head ++ preludes ++ sorts ++ lines ++ params ++ premises) told
+    last_piece c.push_goal.result o _ _ (head ++ preludes ++ sorts ++ lines ++ params ++ premises) told
     (then_piece o _ _ (head ++ preludes ++ sorts ++ lines ++ params) premises
     (then_piece o _ _ (head ++ preludes ++ sorts ++ lines) params
     (then_piece o _ _ (head ++ preludes ++ sorts) lines
@@ -37,4 +37,22 @@ returns c =
     (c.in_ok-push_symbol_lines.ensures ∙ (λ i. c.push_sort_lines.new.out.items ++ flat_map (tff_symbol_line p (symbols_at s (symbols_are i))) (c.as_slice-4.ensures i))))
     (c.in_ok-push_parameter_lines.ensures ∙ ap (λ (z : List TermId). c.push_symbol_lines.new.out.items ++ tff_parameter_lines p 0 (trees_at s z)) c.as_slice-5.ensures))
     c.in_ok-push_premises.ensures)
-    c.in_ok-push_goal.ensures
+    c.push_goal.ensures
+
+pub returns-in_err-push_head : goal.returns-in_err-push_head
+returns-in_err-push_head c = no_ok _ _ c.from_residual.result c.from_residual.ensures.1
+
+pub returns-in_err-push_preludes : goal.returns-in_err-push_preludes
+returns-in_err-push_preludes c = no_ok _ _ c.from_residual-in_err-push_preludes.result c.from_residual-in_err-push_preludes.ensures.1
+
+pub returns-in_err-push_sort_lines : goal.returns-in_err-push_sort_lines
+returns-in_err-push_sort_lines c = no_ok _ _ c.from_residual-in_err-push_sort_lines.result c.from_residual-in_err-push_sort_lines.ensures.1
+
+pub returns-in_err-push_symbol_lines : goal.returns-in_err-push_symbol_lines
+returns-in_err-push_symbol_lines c = no_ok _ _ c.from_residual-in_err-push_symbol_lines.result c.from_residual-in_err-push_symbol_lines.ensures.1
+
+pub returns-in_err-push_parameter_lines : goal.returns-in_err-push_parameter_lines
+returns-in_err-push_parameter_lines c = no_ok _ _ c.from_residual-in_err-push_parameter_lines.result c.from_residual-in_err-push_parameter_lines.ensures.1
+
+pub returns-in_err-push_premises : goal.returns-in_err-push_premises
+returns-in_err-push_premises c = no_ok _ _ c.from_residual-in_err-push_premises.result c.from_residual-in_err-push_premises.ensures.1

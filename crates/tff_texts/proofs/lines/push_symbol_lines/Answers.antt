@@ -1,0 +1,12 @@
+use Rattle.tasks.specs.Meaning.{symbols_at}
+use Rattle.printed_terms.specs.Meaning.{printing}
+use Rattle.tff_texts.specs.Text.{tff_symbol_line}
+use Rattle.tff_texts.proofs.Joins.{lines_step, no_ok}
+use Rattle.tff_texts.proofs.lines.push_symbol_lines.Goals as goal
+
+pub loop-place-preserved : goal.loop-place-preserved
+loop-place-preserved c =
+    lines_step (tff_symbol_line (printing c.args.c.now) (symbols_at c.args.c.now.store.now c.args.symbols.now)) c.args.places.now c.loop-place.place-index _ c.loop-place.out.items _ _ c.loop-place-test.true c.in_ok-push_symbol_line.ensures c.loop-place.invariant
+
+pub returns-in_err-push_symbol_line : goal.returns-in_err-push_symbol_line
+returns-in_err-push_symbol_line c = no_ok _ _ c.from_residual.result c.from_residual.ensures.1
