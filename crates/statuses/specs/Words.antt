@@ -1,6 +1,7 @@
 -- The shape of the words.
-use Rattle.std.specs.Prelude.{ℕ, Bool, true, false, not, List, [], ◌∷◌, Option, Some, None, if◌then◌else◌, ◌==◌, ◌&&◌, codes}
+use Rattle.std.specs.Prelude.{ℕ, Bool, true, false, not, List, [], ◌∷◌, length, Option, Some, None, if◌then◌else◌, nat_le, ◌==◌, ◌&&◌, codes}
 use Rattle.std.specs.Str.{bytes_eq}
+use Rattle.statuses.specs.declared.words.Row.{Row}
 use Rattle.statuses.specs.declared.words.Command.{Command}
 use Rattle.statuses.specs.declared.words.Command.TheVariants.{Print, Names, Check, Lift}
 
@@ -13,24 +14,39 @@ abbrev pub all_plain : List (List ℕ) → Bool
 all_plain [] = true
 all_plain (w ∷ ws) = is_plain_word w && all_plain ws
 
--- `print SRC DRV THEORY GOAL`, `names SRC DRV THEORY GOAL` and `check SRC THEORY GOAL DER`
-abbrev pub four_of : Command → List (List ℕ) → Option Command
-four_of command (src ∷ drv ∷ theory ∷ goal ∷ []) = Some command
-four_of command _ = None
+-- A command's name, how many operands come after it, and whether any number more may.
+pub record CommandRow : Type 0 where
+  pub name : List ℕ
+  pub operands : ℕ
+  pub more : Bool
+  pub command : Command
 
--- `lift SRC DRV THEORY GOAL REF...`
-abbrev pub lift_of : List (List ℕ) → Option Command
-lift_of (src ∷ drv ∷ theory ∷ goal ∷ refs) = Some Lift
-lift_of _ = None
+-- the row that a row of the code's table shows
+abbrev pub command_row : Row → CommandRow
+command_row row = record { name = row.name.now; operands = row.operands; more = row.more; command = row.command }
+
+-- The operands of `print` and `names` are SRC DRV THEORY GOAL, those of `check` SRC THEORY GOAL DER, and those of
+-- `lift` SRC DRV THEORY GOAL REF...
+abbrev pub command_rows : List CommandRow
+command_rows =
+    record { name = codes "print"; operands = 4; more = false; command = Print }
+    ∷ record { name = codes "names"; operands = 4; more = false; command = Names }
+    ∷ record { name = codes "check"; operands = 4; more = false; command = Check }
+    ∷ record { name = codes "lift"; operands = 4; more = true; command = Lift }
+    ∷ []
+
+-- Whether so many operands may come after the row's command.
+abbrev pub fits_row : CommandRow → ℕ → Bool
+fits_row row n = if row.more then nat_le row.operands n else (row.operands == n)
+
+-- the command of the first row with the name, if so many operands may come after it
+abbrev pub command_among : List CommandRow → List ℕ → ℕ → Option Command
+command_among [] name n = None
+command_among (row ∷ rows) name n = if bytes_eq name row.name then (if fits_row row n then Some row.command else None) else command_among rows name n
 
 -- the command with this name and these operands
 abbrev pub command_named : List ℕ → List (List ℕ) → Option Command
-command_named name operands =
-    if bytes_eq name (codes "print") then four_of Print operands
-    else (if bytes_eq name (codes "names") then four_of Names operands
-    else (if bytes_eq name (codes "check") then four_of Check operands
-    else (if bytes_eq name (codes "lift") then lift_of operands
-    else None)))
+command_named name operands = command_among command_rows name (length operands)
 
 -- the command of the words: the program's name, a command and its operands
 abbrev pub command_of : List (List ℕ) → Option Command

@@ -1,7 +1,7 @@
 // The words: the program's name, a command and its operands.
 // They depend on nothing; a run asks them first.
 ghost use Rattle.std.specs.Prelude.{◌≡◌, map, string_bytes};
-ghost use Rattle.statuses.specs.Words.{command_of, is_plain_word, all_plain, four_of, lift_of, command_named};
+ghost use Rattle.statuses.specs.Words.{command_of, is_plain_word, all_plain, command_row, command_among, command_named};
 
 /// A command that is built.
 #[derive(Clone, Copy)]
@@ -37,40 +37,63 @@ fn all_plain(words: &[String]) -> bool
     true
 }
 
-// Four operands.
-fn read_four(command: Command, operands: &[String]) -> Option<Command>
-    ensures { result ≡ four_of command (map string_bytes operands.now) }
-{
-    match operands {
-        [_, _, _, _] => Some(command),
-        _ => None,
-    }
+// A row of the table of commands: a name, how many operands come after it, and whether any number more may.
+#[derive(Clone, Copy)]
+struct Row {
+    name: &'static str,
+    operands: usize,
+    more: bool,
+    command: Command,
 }
 
-// `lift SRC DRV THEORY GOAL REF...`.
-fn read_lift(operands: &[String]) -> Option<Command>
-    ensures { result ≡ lift_of (map string_bytes operands.now) }
+const COMMANDS: [Row; 4] = [
+    Row {
+        name: "print",
+        operands: 4,
+        more: false,
+        command: Command::Print,
+    },
+    Row {
+        name: "names",
+        operands: 4,
+        more: false,
+        command: Command::Names,
+    },
+    Row {
+        name: "check",
+        operands: 4,
+        more: false,
+        command: Command::Check,
+    },
+    Row {
+        name: "lift",
+        operands: 4,
+        more: true,
+        command: Command::Lift,
+    },
+];
+
+// The command of the first row with the name, if so many operands may come after it.
+fn find_command(rows: &[Row], name: &str, operands: usize) -> Option<Command>
+    ensures { result ≡ command_among (map command_row rows.now) name.now operands }
 {
-    match operands {
-        [_, _, _, _, ..] => Some(Command::Lift),
-        _ => None,
+    for row in rows {
+        if name == row.name {
+            let fits = if row.more {
+                row.operands <= operands
+            } else {
+                row.operands == operands
+            };
+            return if fits { Some(row.command) } else { None };
+        }
     }
+    None
 }
 
 fn read_named(name: &str, operands: &[String]) -> Option<Command>
     ensures { result ≡ command_named name.now (map string_bytes operands.now) }
 {
-    if name == "print" {
-        read_four(Command::Print, operands)
-    } else if name == "names" {
-        read_four(Command::Names, operands)
-    } else if name == "check" {
-        read_four(Command::Check, operands)
-    } else if name == "lift" {
-        read_lift(operands)
-    } else {
-        None
-    }
+    find_command(&COMMANDS, name, operands.len())
 }
 
 /// The command of the words, if they have the shape of one.
