@@ -6,6 +6,7 @@ use explain::{ExplainFault, explain_words};
 use outside::{HostLibrary, HostSink, PutFault, Sink};
 use std::alloc::Global;
 use std::env;
+use std::io::ErrorKind;
 use std::process::ExitCode;
 
 // The words, the program's name first; none where there is no memory for them. Words that are no text count as none
@@ -21,7 +22,13 @@ fn words_of(rt: &HostRuntime, alloc: Global) -> Option<Vec<String>> {
             }
             Some(words)
         }
-        Err(_) => Some(words),
+        Err(e) => {
+            if e.kind() == ErrorKind::InvalidData {
+                Some(words)
+            } else {
+                None
+            }
+        }
     }
 }
 
