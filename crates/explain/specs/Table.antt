@@ -1,4 +1,4 @@
--- The table of faults: what comes after a code, and its words (docs/FORMATS.md, "Faults").
+-- The table of faults: what comes after a code, and its words (crates/fault_rows/data/FAULTS.md).
 use Rattle.std.specs.Prelude.{ℕ, List, Option, Some, None, if◌then◌else◌, ◌==◌, codes}
 use Rattle.explain.specs.declared.table.Counts.{Counts}
 use Rattle.explain.specs.declared.table.Counts.TheVariants.{Nothing, Bytes, Tokens, Lines}
@@ -52,5 +52,5 @@ row_of code = if code == 10 then fault_row 1 Bytes (codes "no token begins here,
     else (if code == 81 then fault_row 2 Nothing (codes "declaration or form that the printer lacks")
     else (if code == 82 then fault_row 2 Nothing (codes "symbol without a template")
     else (if code == 90 then fault_row 2 Nothing (codes "another number of refutations than of problems")
-    else (if code == 91 then fault_row 2 Lines (codes "wrong line; behind the last line: the steps don't end in the start")
+    else (if code == 91 then fault_row 2 Lines (codes "wrong line; after the last line: the steps don't end in the start")
     else None))))))))))))))))))))))))))))))))))

@@ -107,7 +107,7 @@ pub(crate) fn row_of(code: usize) -> Option<Row>
         91 => make_row(
             2,
             Counts::Lines,
-            "wrong line; behind the last line: the steps don't end in the start",
+            "wrong line; after the last line: the steps don't end in the start",
         ),
         _ => None,
     }

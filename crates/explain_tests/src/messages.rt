@@ -137,12 +137,12 @@ static MESSAGES: [(&str, &[usize], &str); 49] = [
     (
         "e sym p_1\ne not 00\n",
         &[91, 1, 2],
-        "f:2: wrong line; behind the last line: the steps don't end in the start (refused: 91 1 2)\ne not 00\n",
+        "f:2: wrong line; after the last line: the steps don't end in the start (refused: 91 1 2)\ne not 00\n",
     ),
     (
         "e sym p_1\n",
         &[91, 2, 2],
-        "f:2: wrong line; behind the last line: the steps don't end in the start (refused: 91 2 2)\n",
+        "f:2: wrong line; after the last line: the steps don't end in the start (refused: 91 2 2)\n",
     ),
     // no code, no such code, other numbers
     ("a", &[], ""),
