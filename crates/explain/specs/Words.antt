@@ -36,14 +36,19 @@ abbrev pub bytes_of : {E : Type 0} → Result (Vec ℕ Global) E → Result (Lis
 bytes_of (Ok bytes) = Ok bytes.items
 bytes_of (Err e) = Err e
 
--- what a fault in a file comes to: the message over the file's bytes, or why there is none
+-- No fetch failed: neither count has changed.
+abbrev pub CountsStay : LibraryState → LibraryState → Type 0
+CountsStay old new = (new.faults ≡ old.faults) × (new.absents ≡ old.absents)
+
+-- What a fault in a file comes to: the message over the file's bytes, or why there is none. A fetch that failed is
+-- what is told.
 abbrev pub FileGives : List ℕ → List ℕ → LibraryState → LibraryState → Result (List ℕ) ExplainFault → Type 0
-FileGives name fault old new (Ok text) =
-    (bytes : List ℕ) × IfSome old.files (λ files. IsFront (files name) 18446744073709551615 bytes) × Explains name bytes fault (Some text)
-FileGives name fault old new (Err Memory) = Unit {0}
-FileGives name fault old new (Err Usage) = row_for fault ≡ None
-FileGives name fault old new (Err Absent) = IsSome (row_for fault) × Rose old.absents new.absents
-FileGives name fault old new (Err ReadFault) = IsSome (row_for fault) × Rose old.faults new.faults
+FileGives name fault old new (Ok text) = CountsStay old new
+    × ((bytes : List ℕ) × IfSome old.files (λ files. IsFront (files name) 18446744073709551615 bytes) × Explains name bytes fault (Some text))
+FileGives name fault old new (Err Memory) = CountsStay old new
+FileGives name fault old new (Err Usage) = CountsStay old new × (row_for fault ≡ None)
+FileGives name fault old new (Err Absent) = (new.faults ≡ old.faults) × IsSome (row_for fault) × Rose old.absents new.absents
+FileGives name fault old new (Err ReadFault) = (new.absents ≡ old.absents) × IsSome (row_for fault) × Rose old.faults new.faults
 
 abbrev pub IsMisused : Result (List ℕ) ExplainFault → Type 0
 IsMisused (Err Usage) = Unit {0}
@@ -51,7 +56,7 @@ IsMisused (Err Memory) = Unit {0}
 IsMisused _ = ⊥
 
 abbrev pub GivesBy : Option (List ℕ) → List ℕ → LibraryState → LibraryState → Result (List ℕ) ExplainFault → Type 0
-GivesBy None name old new r = IsMisused r
+GivesBy None name old new r = CountsStay old new × IsMisused r
 GivesBy (Some fault) name old new r = FileGives name fault old new r
 
 -- what the words come to
