@@ -1,22 +1,22 @@
 -- The row of a rule that cites no fact is that of a task that has the same symbols, and makes what a group of the one makes as the same.
-use Rattle.std.proofs.Common.{◌≡◌, ◌≢◌, ℕ, List, [], ◌∷◌, ◌++◌, map, Option, None, IsTrue, inl, inr, refl, sym, ap, subst, ◌∙◌}
+use Rattle.std.proofs.Common.{◌≡◌, ◌≢◌, ℕ, List, [], ◌∷◌, ◌++◌, map, Option, IsTrue, inl, inr, refl, sym, ap, subst, ◌∙◌}
 use Rattle.std.specs.Prelude.{pos, ◌+ℤ◌, IsSomeAnd, slice_get, Contains}
 use Rattle.std.proofs.lemmas.List.Elements.{Contains-append_left, Contains-append_right, Contains-append_cases}
 use Rattle.trees.specs.declared.ints.Ints.{Ints}
 use Rattle.trees.specs.Tree.{Tree, Leaf, One, Two, Three, Head, HEq, HFun, HNum, HCase, HCell, HArm, HPatCon}
 use Rattle.trees.specs.Sorts.{type_of}
+use Rattle.trees.specs.Facts.{Each}
 use Rattle.tasks.specs.Task.{TaskTree, ConstructorTree, SymbolTree, made, declared, symbol_or}
 use Rattle.tasks.specs.Roles.{RoleTree, AlgebraicRole, ProjectionRole, role, is_constructor}
 use Rattle.tasks.specs.Vocabulary.{of_task}
 use Rattle.tasks.specs.Typing.{ThreeTyped, TypedUnder, bound_types}
 use Rattle.tasks.specs.Equations.{cells}
-use Rattle.tasks.specs.Inversion.{conjunction_with, or_true}
+use Rattle.tasks.specs.Conjunctions.{conjunction}
+use Rattle.tasks.specs.MatchTests.{result_at, field, fields, rebuilt, projections_by, constructor_projections, parts, top, other_terms, con_equation, one_tests, two_tests, three_tests, tests, test, one_binds, three_binds, pattern_terms, bind}
 use Rattle.tasks.proofs.Declared.{contains_step, contains_cases}
 use Rattle.linear_leaf.specs.Linear.{ClosesLinear}
-use Rattle.linear_leaf.specs.Valuations.{Each}
 use Rattle.rule_rows.specs.Trees.{RuleTree, rule_trees, RDistinct, RLinear, RReplace, RMatchDef, RFact, RDef, RClause, RInv, RCase, RInject, RProject, RTrichotomy, RBound}
 use Rattle.rule_rows.specs.Forms.{equation_sides, match_of, application_parts, type_applied, equal, comparison}
-use Rattle.rule_rows.specs.Patterns.{result_at, field, fields, rebuilt, projections_by, constructor_projections, parts, top, other_terms, con_equation, one_tests, two_tests, three_tests, tests, test, one_binds, three_binds, pattern_terms, bind}
 use Rattle.rule_rows.specs.Rows.{IsRuleRow, Adds, Constructors, DeclaresFour, DeclaresInts, equal_each, unfolded, constructors, projected}
 use Rattle.kernel.specs.Right.{IsGroundExpression}
 use Rattle.evidence.specs.Facts.{CitesNone}
@@ -48,19 +48,16 @@ module _ (t u : TaskTree) (kept : KeepsDeclared u t) where
   equation_same : (k : ℕ) (types s : Tree) → IsTrue (is_constructor (role t k)) → con_equation t k types s ≡ con_equation u k types s
   equation_same k types s c = ap (λ (x : Tree). Two HEq s x) (ap (λ (js : List ℕ). rebuilt t k js types s) (projections_same k c) ∙ rebuilt_same k (constructor_projections u k) types s)
 
-  three_same : (h : Head) (a b c : Tree) (ss : List Tree) (inner behind : Option Tree) → ThreeTyped (of_task t) h a b c → three_tests t h a ss inner behind ≡ three_tests u h a ss inner behind
-  three_same (HPatCon k) a b c ss inner behind y = ap (λ (x : Tree). conjunction_with x inner) (equation_same k a (top ss) y.0)
-  three_same _ a b c ss inner behind y = refl
+  three_same : (h : Head) (a b c : Tree) (ss inner : List Tree) → ThreeTyped (of_task t) h a b c → three_tests t h a ss inner ≡ three_tests u h a ss inner
+  three_same (HPatCon k) a b c ss inner y = ap (λ (x : Tree). x ∷ inner) (equation_same k a (top ss) y.0)
+  three_same _ a b c ss inner y = refl
 
-  tests_same : (types : List Tree) (p : Tree) (ss : List Tree) (behind : Option Tree) → TypedUnder (of_task t) types p → tests t p ss behind ≡ tests u p ss behind
-  tests_same types (Leaf h) ss behind y = refl
-  tests_same types (One h p) ss behind y = ap (λ (x : Option Tree). one_tests h x behind) (tests_same types p ss behind y.2)
-  tests_same types (Two h p q) ss behind y =
-      ap (λ (x : Option Tree). two_tests h x behind)
-      (tests_same types p (top ss ∷ []) (tests t q (other_terms ss) behind) y.2 ∙ ap (tests u p (top ss ∷ [])) (tests_same (bound_types h p ++ types) q (other_terms ss) behind y.3))
-  tests_same types (Three h a p c) ss behind y =
-      ap (λ (x : Option Tree). three_tests t h a ss x behind) (ap (λ (x : List Tree). tests t p x behind) (parts_same h a p c ss y.1) ∙ tests_same types p (parts u h a ss) behind y.3)
-      ∙ three_same h a p c ss (tests u p (parts u h a ss) behind) behind y.1
+  tests_same : (types : List Tree) (p : Tree) (ss : List Tree) → TypedUnder (of_task t) types p → tests t p ss ≡ tests u p ss
+  tests_same types (Leaf h) ss y = refl
+  tests_same types (One h p) ss y = ap (one_tests h) (tests_same types p ss y.2)
+  tests_same types (Two h p q) ss y = cc (tests_same types p (top ss ∷ []) y.2, tests_same (bound_types h p ++ types) q (other_terms ss) y.3)
+  tests_same types (Three h a p c) ss y =
+      ap (three_tests t h a ss) (ap (tests t p) (parts_same h a p c ss y.1) ∙ tests_same types p (parts u h a ss) y.3) ∙ three_same h a p c ss (tests u p (parts u h a ss)) y.1
 
   binds_same : (types : List Tree) (p : Tree) (ss : List Tree) → TypedUnder (of_task t) types p → pattern_terms t p ss ≡ pattern_terms u p ss
   binds_same types (Leaf h) ss y = refl
@@ -69,7 +66,7 @@ module _ (t u : TaskTree) (kept : KeepsDeclared u t) where
   binds_same types (Three h a p c) ss y = ap (three_binds h) (ap (pattern_terms t p) (parts_same h a p c ss y.1) ∙ binds_same types p (parts u h a ss) y.3)
 
   test_same : (types : List Tree) (p s : Tree) → TypedUnder (of_task t) types p → test t p s ≡ test u p s
-  test_same types p s y = ap or_true (tests_same types p (s ∷ []) None y)
+  test_same types p s y = ap conjunction (tests_same types p (s ∷ []) y)
 
   role_same : (k : ℕ) → IsGrouped (role t k) → role u k ≡ role t k
   role_same k g = kept.groups k g

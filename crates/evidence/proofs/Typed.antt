@@ -3,6 +3,7 @@ use Rattle.std.proofs.Common.{ℕ, ◌==◌, List, [], ◌∷◌, All, IsTrue, i
 use Rattle.std.specs.List.{list_any}
 use Rattle.std.proofs.lemmas.List.Elements.{All-weaker}
 use Rattle.trees.specs.Tree.{Tree}
+use Rattle.trees.specs.Facts.{Each}
 use Rattle.tasks.specs.Task.{TaskTree, made, neg}
 use Rattle.tasks.specs.Roles.{RoleTree, PlainRole, DefinedRole, InductiveRole, AlgebraicRole, ConstructorRole, ProjectionRole, role, is_constructor}
 use Rattle.tasks.specs.Vocabulary.{of_task}
@@ -10,7 +11,6 @@ use Rattle.tasks.specs.Valid.{IsGroundFormula, IsTypeOver}
 use Rattle.tasks.proofs.Declared.{contains_step, contains_cases, usable_made, made_usable}
 use Rattle.tasks.proofs.Moved.{IsWithin, typed_within}
 use Rattle.rule_rows.specs.Rows.{IsTemplate}
-use Rattle.linear_leaf.specs.Valuations.{Each}
 use Rattle.kernel.specs.Right.{IsGroundExpression}
 use Rattle.evidence.specs.Stages.{IsGrouped, KeepsDeclared}
 

@@ -3,9 +3,9 @@ use Rattle.std.specs.Prelude.{◌≡◌, ℕ, ◌+◌, zero, suc, List, [], ◌�
 use Rattle.trees.specs.declared.Op.{Op}
 use Rattle.trees.specs.declared.Op.TheVariants.{And, AndThen, Or, OrElse, Imp, Iff}
 use Rattle.trees.specs.Tree.{Tree}
+use Rattle.trees.specs.Facts.{Each}
 use Rattle.tasks.specs.Task.{TaskTree}
 use Rattle.tasks.specs.Valid.{IsTypeOver}
-use Rattle.linear_leaf.specs.Valuations.{Each}
 use Rattle.rule_rows.specs.Trees.{RuleTree, RAnd, RNotAnd, RAndThen, RNotAndThen, ROr, RNotOr, ROrElse, RNotOrElse, RImp, RNotImp, RIff, RNotIff, rule_trees, rule_types}
 use Rattle.rule_rows.specs.Forms.{negated, connected}
 use Rattle.rule_rows.specs.Rows.{IsRuleRow, where_true, where_false}

@@ -19,53 +19,6 @@ use std::alloc::{AllocError, Global};
 use tasks::{Fact, Task};
 use trees::TermId;
 
-// A copy of a rule.
-fn copy_of(rule: &Rule) -> Result<Rule, AllocError>
-    ensures { IfOk result (λ r. r ≡ rule.now) }
-{
-    Ok(match rule {
-        Rule::Linear(uses) => Rule::Linear(uses.clone()?),
-        Rule::Keep(places) => Rule::Keep(places.clone()?),
-        Rule::Fact(k, types) => Rule::Fact(*k, types.clone()?),
-        Rule::Def(k, types) => Rule::Def(*k, types.clone()?),
-        Rule::Clause(k, c, types) => Rule::Clause(*k, *c, types.clone()?),
-        Rule::Inv(k, types) => Rule::Inv(*k, types.clone()?),
-        Rule::False(i) => Rule::False(*i),
-        Rule::NotTrue(i) => Rule::NotTrue(*i),
-        Rule::Clash(i, j) => Rule::Clash(*i, *j),
-        Rule::Irrefl(i) => Rule::Irrefl(*i),
-        Rule::Distinct(i) => Rule::Distinct(*i),
-        Rule::NotNot(i) => Rule::NotNot(*i),
-        Rule::And(i) => Rule::And(*i),
-        Rule::NotAnd(i) => Rule::NotAnd(*i),
-        Rule::AndThen(i) => Rule::AndThen(*i),
-        Rule::NotAndThen(i) => Rule::NotAndThen(*i),
-        Rule::Or(i) => Rule::Or(*i),
-        Rule::NotOr(i) => Rule::NotOr(*i),
-        Rule::OrElse(i) => Rule::OrElse(*i),
-        Rule::NotOrElse(i) => Rule::NotOrElse(*i),
-        Rule::Imp(i) => Rule::Imp(*i),
-        Rule::NotImp(i) => Rule::NotImp(*i),
-        Rule::Iff(i) => Rule::Iff(*i),
-        Rule::NotIff(i) => Rule::NotIff(*i),
-        Rule::Forall(i, j) => Rule::Forall(*i, *j),
-        Rule::NotForall(i, j) => Rule::NotForall(*i, *j),
-        Rule::Exists(i, j) => Rule::Exists(*i, *j),
-        Rule::NotExists(i, j) => Rule::NotExists(*i, *j),
-        Rule::Cut(i) => Rule::Cut(*i),
-        Rule::Refl(i) => Rule::Refl(*i),
-        Rule::Replace(i, j, e) => Rule::Replace(*i, *j, *e),
-        Rule::LetDef(i) => Rule::LetDef(*i),
-        Rule::IfDef(i) => Rule::IfDef(*i),
-        Rule::MatchDef(i) => Rule::MatchDef(*i),
-        Rule::Case(i) => Rule::Case(*i),
-        Rule::Inject(i) => Rule::Inject(*i),
-        Rule::Project(i) => Rule::Project(*i),
-        Rule::Trichotomy(i, j) => Rule::Trichotomy(*i, *j),
-        Rule::Bound(i, j) => Rule::Bound(*i, *j),
-    })
-}
-
 // The numbers of premises in a draft.
 fn renumber_premises(
     alloc: Global,
@@ -92,7 +45,7 @@ fn lift_other(step: &Step, premises: Seq<usize>, draft: &mut Draft) -> Result<us
     ensures grows { Extends draft.old draft.new }
 {
     let sequent = step.sequent.clone()?;
-    let rule = copy_of(&step.rule)?;
+    let rule = step.rule.clone()?;
     draft.push(Step {
         sequent,
         rule,

@@ -1,13 +1,13 @@
 // The parts of an inversion formula at types, told without making them: a clause gives a disjunct, its premises and the equations
 // on its conclusion's arguments the conjuncts.
 // They depend on the store and on instances of types; the inversion formula depends on them.
-ghost use Rattle.std.specs.Prelude.{◌≡◌, ◌↔◌, ◌+◌, ◌<◌, length, None, Some, All, IsTrue, IfSome, IfNone};
-ghost use Rattle.std.specs.Option.{option_map};
+ghost use Rattle.std.specs.Prelude.{◌≡◌, ◌↔◌, ◌+◌, ◌<◌, [], length, All, IsTrue, IfSome, IfNone};
 ghost use Rattle.trees.specs.Tree.{Tree, Leaf, Two, HEq, HTrue, HJoin};
 ghost use Rattle.trees.specs.Node.{tree_at, Holds};
 ghost use Rattle.trees.specs.Binding.{Bound, inst_types};
+ghost use Rattle.tasks.specs.Conjunctions.{conjunction};
 ghost use Rattle.tasks.specs.Equations.{cells, type_variables, bound_variables};
-ghost use Rattle.tasks.specs.Inversion.{argument_equations, clause_parts, or_true, given_by, given_by_any};
+ghost use Rattle.tasks.specs.Inversion.{argument_equations, clause_parts, given_by, given_by_any};
 ghost use Rattle.tasks.specs.Meaning.{trees_at};
 ghost use Rattle.rule_rows.specs.Meaning.{PairHeld};
 
@@ -91,11 +91,22 @@ fn is_equation(
     }
 }
 
+// Whether a tree is `true`.
+fn is_true(store: &Store, made: TermId) -> bool
+    requires { Holds store.now made }
+    ensures { IsTrue result ↔ (tree_at store.now made ≡ Leaf HTrue) }
+{
+    match store.node(made) {
+        Node::True => true,
+        _ => false,
+    }
+}
+
 // Whether there are no equations on a list of arguments.
 fn no_equations(store: &Store, under: usize, args: &[TermId], list: TermId) -> bool
     requires list_held { Holds store.now list }
     ensures { IsTrue result ↔ (argument_equations under
-        (bound_variables (trees_at store.now args.now)) (tree_at store.now list) ≡ None) }
+        (bound_variables (trees_at store.now args.now)) (tree_at store.now list) ≡ []) }
 {
     let _ = under;
     match args.split_first() {
@@ -107,7 +118,7 @@ fn no_equations(store: &Store, under: usize, args: &[TermId], list: TermId) -> b
     }
 }
 
-// Whether a tree is the equations on a list of arguments, at types.
+// Whether a tree is the conjunction of the equations on a list of arguments, at types.
 fn are_equations(
     store: &Store,
     types: &[TermId],
@@ -120,10 +131,10 @@ fn are_equations(
     requires args_held { All (Holds store.now) args.now }
     requires list_held { Holds store.now list }
     requires held { Holds store.now made }
-    ensures { IsTrue result ↔ (Some (tree_at store.now made)
-        ≡ option_map (λ e. inst_types e (trees_at store.now types.now))
-        (argument_equations under (bound_variables (trees_at store.now args.now))
-        (tree_at store.now list))) }
+    ensures { IsTrue result ↔ (tree_at store.now made
+        ≡ inst_types (conjunction (argument_equations under
+        (bound_variables (trees_at store.now args.now)) (tree_at store.now list)))
+        (trees_at store.now types.now)) }
 {
     match args.split_first() {
         Some((ty, rest)) => match store.node(list) {
@@ -142,9 +153,9 @@ fn are_equations(
                     None => false,
                 }
             },
-            _ => false,
+            _ => is_true(store, made),
         },
-        None => false,
+        None => is_true(store, made),
     }
 }
 
@@ -152,7 +163,7 @@ fn are_equations(
 fn no_parts(store: &Store, under: usize, args: &[TermId], clause: TermId) -> bool
     requires clause_held { Holds store.now clause }
     ensures { IsTrue result ↔ (clause_parts under (bound_variables (trees_at store.now args.now))
-        (tree_at store.now clause) ≡ None) }
+        (tree_at store.now clause) ≡ []) }
 {
     match store.node(clause) {
         Node::Pred(_, _, list) => no_equations(store, under, args, list),
@@ -161,7 +172,7 @@ fn no_parts(store: &Store, under: usize, args: &[TermId], clause: TermId) -> boo
     }
 }
 
-// Whether a tree is the premises of a clause and the equations on its conclusion's arguments, at types.
+// Whether a tree is the conjunction of the premises of a clause and the equations on its conclusion's arguments, at types.
 fn are_parts(
     store: &Store,
     types: &[TermId],
@@ -174,16 +185,16 @@ fn are_parts(
     requires args_held { All (Holds store.now) args.now }
     requires clause_held { Holds store.now clause }
     requires held { Holds store.now made }
-    ensures { IsTrue result ↔ (Some (tree_at store.now made)
-        ≡ option_map (λ e. inst_types e (trees_at store.now types.now))
-        (clause_parts under (bound_variables (trees_at store.now args.now))
-        (tree_at store.now clause))) }
+    ensures { IsTrue result ↔ (tree_at store.now made
+        ≡ inst_types (conjunction (clause_parts under
+        (bound_variables (trees_at store.now args.now)) (tree_at store.now clause)))
+        (trees_at store.now types.now)) }
 {
     match store.node(clause) {
         Node::Pred(_, _, list) => are_equations(store, types, under, args, list, made),
         Node::Join(connective, a, b) => {
             if connective != Op::Imp {
-                return false;
+                return is_true(store, made);
             }
             if no_parts(store, under, args, b) {
                 return is_put(store, types, a, made);
@@ -198,41 +209,7 @@ fn are_parts(
                 None => false,
             }
         },
-        _ => false,
-    }
-}
-
-// Whether a tree is their conjunction, at types: `true` where there is nothing.
-fn is_conjunction(
-    store: &Store,
-    types: &[TermId],
-    under: usize,
-    args: &[TermId],
-    clause: TermId,
-    made: TermId,
-) -> bool
-    requires types_held { All (Holds store.now) types.now }
-    requires args_held { All (Holds store.now) args.now }
-    requires clause_held { Holds store.now clause }
-    requires held { Holds store.now made }
-    ensures { IsTrue result ↔ (tree_at store.now made
-        ≡ inst_types (or_true (clause_parts under (bound_variables (trees_at store.now args.now))
-        (tree_at store.now clause))) (trees_at store.now types.now)) }
-{
-    if no_parts(store, under, args, clause) {
-        return is_true(store, made);
-    }
-    are_parts(store, types, under, args, clause, made)
-}
-
-// Whether a tree is `true`.
-fn is_true(store: &Store, made: TermId) -> bool
-    requires { Holds store.now made }
-    ensures { IsTrue result ↔ (tree_at store.now made ≡ Leaf HTrue) }
-{
-    match store.node(made) {
-        Node::True => true,
-        _ => false,
+        _ => is_true(store, made),
     }
 }
 
@@ -264,7 +241,7 @@ fn is_given(
             },
             _ => false,
         },
-        _ => is_conjunction(store, types, under, args, clause, made),
+        _ => are_parts(store, types, under, args, clause, made),
     }
 }
 

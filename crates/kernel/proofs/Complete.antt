@@ -7,7 +7,7 @@ use Rattle.rule_rows.specs.declared.rule.Rule.TheVariants.{Fact, Def, Clause, In
 use Rattle.rule_rows.specs.Trees.{RuleTree, RReplace, StepTree, rule_trees, rule_types, sequents}
 use Rattle.rule_rows.specs.Rows.{IsRuleRow}
 use Rattle.kernel.specs.Right.{IsRight}
-use Rattle.rule_rows.specs.Meaning.{rule_at, RuleHeld, step_at}
+use Rattle.rule_rows.specs.Meaning.{rule_at, types_in, RuleHeld, step_at}
 use Rattle.std.proofs.Common.{◌≡◌, ◌↔◌, ◌⊎◌, ◌==◌, ℕ, ◌<◌, Bool, true, IsTrue, refl, sym, ◌∙◌, List, [], ◌∷◌, length, get_or, slice_get, All, Option, Some, None, arith}
 use Rattle.std.proofs.lemmas.Bool.Decides.{nat_tests}
 use Rattle.std.specs.Prelude.{IsSomeAnd}
@@ -23,13 +23,13 @@ use Rattle.rule_rows.proofs.Sequents.{All-unmap}
 use Rattle.trees.specs.declared.Sort.TheVariants.{Kind, Term, Formula}
 use Rattle.trees.specs.Tree.{Tree, loose}
 use Rattle.trees.specs.Sorts.{sort_of}
+use Rattle.trees.specs.Facts.{Each}
 use Rattle.tasks.specs.Task.{TaskTree}
 use Rattle.tasks.specs.Vocabulary.{of_task}
 use Rattle.tasks.specs.Typing.{IsTyped}
 use Rattle.tasks.specs.Valid.{IsGround, IsGroundFormula, IsTypeOver}
-use Rattle.linear_leaf.specs.Valuations.{Each}
 use Rattle.kernel.specs.Right.{IsGroundExpression}
-use Rattle.kernel.specs.Open.{OpenIn, TemplateIsOpen, StepIsOpen, IsComplete, EachClosed, types_in}
+use Rattle.kernel.specs.Open.{OpenIn, TemplateIsOpen, StepIsOpen, IsComplete, EachClosed}
 
 is_zero : (l : ℕ) → (l == 0) ≡ true → l ≡ 0
 is_zero l h = grind (arith, nat_tests)

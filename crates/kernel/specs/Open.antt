@@ -1,20 +1,18 @@
 -- A step whose trees are typed as far as they go. A line of a step file makes such a tree from earlier ones, and where no
 -- variable is open it is well typed.
-use Rattle.std.specs.Prelude.{◌≡◌, List, [], ◌∷◌, All}
+use Rattle.std.specs.Prelude.{◌≡◌, List, All}
 use Rattle.trees.specs.declared.TermId.{TermId}
 use Rattle.trees.specs.Tree.{Tree, loose}
 use Rattle.trees.specs.Node.{tree_at}
+use Rattle.trees.specs.Facts.{Each}
 use Rattle.tasks.specs.Task.{TaskTree}
 use Rattle.tasks.specs.Vocabulary.{of_task}
 use Rattle.tasks.specs.Valid.{IsGround}
 use Rattle.tasks.specs.Typing.{IsTyped}
 use Rattle.tasks.specs.Open.{OpenTyped}
 use Rattle.rule_rows.specs.declared.rule.Step.{Step}
-use Rattle.rule_rows.specs.declared.rule.Rule.{Rule}
-use Rattle.rule_rows.specs.declared.rule.Rule.TheVariants.{Fact, Def, Clause, Inv}
 use Rattle.rule_rows.specs.Trees.{RuleTree, RReplace, rule_trees}
-use Rattle.rule_rows.specs.Meaning.{rule_at}
-use Rattle.linear_leaf.specs.Valuations.{Each}
+use Rattle.rule_rows.specs.Meaning.{rule_at, types_in}
 
 -- a tree is typed as far as it goes; the tree of a number is
 abbrev pub OpenIn : TaskTree → Tree → Type 0
@@ -27,14 +25,6 @@ IsOpen t s a = OpenIn t (tree_at s a)
 abbrev pub TemplateIsOpen : TaskTree → RuleTree → Type 0
 TemplateIsOpen t (RReplace i j e) = OpenIn t e
 TemplateIsOpen t _ = Unit {0}
-
--- the types that a rule names
-abbrev pub types_in : Rule → List TermId
-types_in (Fact k types) = types
-types_in (Def k types) = types
-types_in (Clause k c types) = types
-types_in (Inv k types) = types
-types_in _ = []
 
 -- so are all trees of a step
 pub record StepIsOpen (t : TaskTree) (s : List Tree) (step : Step) : Type 0 where
@@ -49,5 +39,4 @@ IsComplete t e = IsTyped t e × IsGround e
 
 -- each is closed
 abbrev pub EachClosed : List Tree → Type 0
-EachClosed [] = Unit {0}
-EachClosed (e ∷ es) = (loose e ≡ 0) × EachClosed es
+EachClosed es = Each (λ e. loose e ≡ 0) es

@@ -3,10 +3,10 @@ use Rattle.std.specs.Prelude.{◌≡◌, ◌⊎◌, ℕ, ◌<◌, ◌≤◌, ◌
 use Rattle.trees.specs.declared.Sort.TheVariants.{Term, Formula}
 use Rattle.trees.specs.Tree.{Tree}
 use Rattle.trees.specs.Sorts.{sort_of}
+use Rattle.trees.specs.Facts.{Each}
 use Rattle.tasks.specs.Task.{TaskTree, start}
 use Rattle.tasks.specs.Typing.{IsTyped}
 use Rattle.tasks.specs.Valid.{IsGround, IsGroundFormula, IsTypeOver}
-use Rattle.linear_leaf.specs.Valuations.{Each}
 use Rattle.rule_rows.specs.Trees.{StepTree, rule_trees, rule_types, step_or, sequents}
 use Rattle.rule_rows.specs.Rows.{IsRuleRow}
 

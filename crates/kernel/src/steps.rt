@@ -11,7 +11,7 @@ ghost use Rattle.kernel.specs.Right.{IsRight, Closes, IsWrongAt, last_starts};
 ghost use Rattle.kernel.specs.Open.{StepIsOpen};
 
 use crate::rows::row_holds;
-use crate::typed::{are_sentences, are_types, names_right, step_is_open, types_in};
+use crate::typed::{are_sentences, are_types, names_right, step_is_open};
 use rule_rows::{Not, Step, Tried, is_wider};
 use tasks::{Lookup, Task};
 use term_store::Store;
@@ -48,7 +48,7 @@ pub fn right_typed_step(store: &Store, look: &Lookup<'_>, before: &[Step], step:
     if !names_right(store, task, &step.rule) {
         return false;
     }
-    if !are_types(store, task, types_in(&step.rule)) {
+    if !are_types(store, task, step.rule.types()) {
         return false;
     }
     if !all_earlier(premises, before.len()) {

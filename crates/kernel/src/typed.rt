@@ -2,15 +2,15 @@
 // It depends on typing; the checker of a step depends on it.
 ghost use Rattle.std.specs.Prelude.{◌≡◌, ◌↔◌, ◌⊎◌, All, IsTrue};
 ghost use Rattle.trees.specs.Node.{tree_at, Holds};
+ghost use Rattle.trees.specs.Facts.{Each};
 ghost use Rattle.tasks.specs.Meaning.{task_at, trees_at, TaskHeld};
 ghost use Rattle.tasks.specs.Open.{OpenTyped};
 ghost use Rattle.tasks.specs.Valid.{IsGroundFormula, IsTypeOver};
 ghost use Rattle.typing.specs.Named.{vocabulary_at, VocabularyHeld};
 ghost use Rattle.rule_rows.specs.Trees.{rule_trees};
 ghost use Rattle.rule_rows.specs.Meaning.{rule_at, RuleHeld, StepHeld};
-ghost use Rattle.linear_leaf.specs.Valuations.{Each};
 ghost use Rattle.kernel.specs.Right.{IsGroundExpression};
-ghost use Rattle.kernel.specs.Open.{OpenIn, IsOpen, IsComplete, StepIsOpen, TemplateIsOpen, types_in};
+ghost use Rattle.kernel.specs.Open.{OpenIn, IsOpen, IsComplete, StepIsOpen, TemplateIsOpen};
 
 use rule_rows::{Rule, Step};
 use tasks::{Lookup, Task};
@@ -109,20 +109,7 @@ pub(crate) fn step_is_open(store: &Store, task: &Task, step: &Step) -> bool
     if !template_is_open(store, task, &step.rule) {
         return false;
     }
-    are_open(store, task, types_in(&step.rule))
-}
-
-// The types that a rule names.
-pub(crate) fn types_in(rule: &Rule) -> &[TermId]
-    ensures { result.now ≡ types_in rule.now }
-{
-    match rule {
-        Rule::Fact(_, types) => types.as_slice(),
-        Rule::Def(_, types) => types.as_slice(),
-        Rule::Clause(_, _, types) => types.as_slice(),
-        Rule::Inv(_, types) => types.as_slice(),
-        _ => &[],
-    }
+    are_open(store, task, step.rule.types())
 }
 
 // Whether a tree that is typed as far as it goes is well typed and free of schematic types.

@@ -4,8 +4,8 @@ use Rattle.std.proofs.Math.IntN.{ℤ, pos, negsuc, ◌+ℤ◌, ◌-ℤ◌, ◌*�
 use Rattle.std.proofs.lemmas.Int.{ints}
 use Rattle.trees.specs.Tree.{Tree, Leaf, One, Two, Three, HEnd, HNum, HCell, HFun}
 use Rattle.trees.specs.declared.ints.Ints.{Ints}
+use Rattle.trees.specs.Facts.{Each}
 use Rattle.linear_leaf.specs.Linear.{Sum, constant_sum, negated_or_same, with_two, product_by, both_have, sum, negated_sum, atom, reading, SumOperation, Add, Subtract, Multiply, Other, sum_operation}
-use Rattle.linear_leaf.specs.Valuations.{Each}
 use Rattle.linear_leaf.proofs.Integers.{mul-add, mul-sub, mul-swap}
 use Rattle.linear_leaf.proofs.Same.{Same, same, both_same}
 

@@ -5,8 +5,9 @@ use Rattle.std.specs.Prelude.{◌<ℤ◌}
 use Rattle.std.proofs.lemmas.Int.{ints}
 use Rattle.trees.specs.Tree.{Tree}
 use Rattle.trees.specs.declared.ints.Ints.{Ints}
+use Rattle.trees.specs.Facts.{Each}
 use Rattle.linear_leaf.specs.Linear.{Bounded, bounded_at, addend, reading, part, total, weight, AreUses, ClosesLinear}
-use Rattle.linear_leaf.specs.Valuations.{Each, one_at, unit, same_tree, part_atoms, use_atoms, Cancels}
+use Rattle.linear_leaf.specs.Valuations.{one_at, unit, same_tree, part_atoms, use_atoms, Cancels}
 use Rattle.linear_leaf.proofs.Integers.{mul-sub, mul-one}
 use Rattle.linear_leaf.proofs.Affine.{Line, Lies, affine, line_add, line_neg, line_by, line_flat, all_left, all_right}
 use Rattle.linear_leaf.proofs.SameTree.{same_is, same_refl}

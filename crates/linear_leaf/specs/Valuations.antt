@@ -24,11 +24,6 @@ abbrev pub one_at : Option Tree → Tree → ℤ
 one_at None e = pos 0
 one_at (Some p) e = unit (same_tree p e)
 
--- so of each
-abbrev pub Each : (Tree → Type 0) → List Tree → Type 0
-Each P [] = Unit {0}
-Each P (e ∷ es) = P e × Each P es
-
 -- the atoms of the formulas that are used
 abbrev pub part_atoms : Ints → Option Bounded → List Tree
 part_atoms z (Some b) = (reading z zeros b.left).atoms ++ (reading z zeros b.right).atoms

@@ -4,8 +4,9 @@ ghost use Rattle.std.specs.Prelude.{◌≡◌, ◌↔◌, ℕ, ℤ, ◌≤◌, �
 ghost use Rattle.std.specs.Option.{option_map};
 ghost use Rattle.trees.specs.Tree.{Tree};
 ghost use Rattle.trees.specs.Node.{tree_at, Holds};
+ghost use Rattle.trees.specs.Facts.{Each};
 ghost use Rattle.linear_leaf.specs.Linear.{comparison_bound, uncompared, addend, pair_of, bounded, bounded_at, reading, difference, heft, zeros, IsRightMultiplier, AreUses, part, total, weight_of, weight, ClosesLinear};
-ghost use Rattle.linear_leaf.specs.Valuations.{one_at, Each, Cancels, part_atoms, use_atoms};
+ghost use Rattle.linear_leaf.specs.Valuations.{one_at, Cancels, part_atoms, use_atoms};
 ghost use Rattle.linear_leaf.specs.Uses.{bound_at, BoundHeld, leaf_sequent, LeafHeld, IsLight, constant_of, CancelsIn, pair_at};
 
 use crate::terms::{Summand, has_atom, minus, plus, times, top_of, value, weigh};

@@ -1,6 +1,5 @@
 pub mod Trees
 pub mod Forms
-pub mod Patterns
 pub mod Rows
 pub mod Terms
 pub mod Meaning

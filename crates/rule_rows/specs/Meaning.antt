@@ -1,5 +1,5 @@
 -- What rules and steps in a store stand for, and what is tried of a rule at a step. That their numbers are held is said apart.
-use Rattle.std.specs.Prelude.{◌≡◌, ℕ, ◌<◌, List, map, length, All}
+use Rattle.std.specs.Prelude.{◌≡◌, ℕ, ◌<◌, List, [], map, length, All}
 use Rattle.trees.specs.declared.TermId.{TermId}
 use Rattle.trees.specs.Tree.{Tree, loose}
 use Rattle.trees.specs.Node.{tree_at, Holds}
@@ -54,6 +54,14 @@ rule_at s (Inject i) = RInject i
 rule_at s (Project e) = RProject (tree_at s e)
 rule_at s (Trichotomy a b) = RTrichotomy (tree_at s a) (tree_at s b)
 rule_at s (Bound e n) = RBound (tree_at s e) n
+
+-- the types that a rule names
+abbrev pub types_in : Rule → List TermId
+types_in (Fact k types) = types
+types_in (Def k types) = types
+types_in (Clause k c types) = types
+types_in (Inv k types) = types
+types_in _ = []
 
 -- the numbers in a rule are held
 abbrev pub RuleHeld : List Tree → Rule → Type 0

@@ -15,10 +15,10 @@ use Rattle.tasks.specs.Inversion.{inversion}
 use Rattle.tasks.specs.Vocabulary.{of_task}
 use Rattle.tasks.specs.Typing.{TypedUnder, members}
 use Rattle.tasks.specs.Valid.{IsGround}
+use Rattle.tasks.specs.MatchTests.{bind, test, rebuilt}
 use Rattle.linear_leaf.specs.Linear.{ClosesLinear}
 use Rattle.rule_rows.specs.Trees.{RuleTree, RFalse, RNotTrue, RClash, RIrrefl, RDistinct, RLinear, RNotNot, RAnd, RNotAnd, RAndThen, RNotAndThen, ROr, RNotOr, ROrElse, RNotOrElse, RImp, RNotImp, RIff, RNotIff, RForall, RNotForall, RExists, RNotExists, RCut, RKeep, RRefl, RReplace, RLetDef, RIfDef, RMatchDef, RFact, RDef, RClause, RInv, RCase, RInject, RProject, RTrichotomy, RBound}
 use Rattle.rule_rows.specs.Forms.{negated, connected, universal, existential, equation_sides, let_of, if_of, match_of, application_parts, type_applied, equal, alike, by_cases, comparison}
-use Rattle.rule_rows.specs.Patterns.{bind, test, rebuilt}
 
 -- The premises' sequents are the step's own with these formulas after it.
 abbrev pub Adds : List Tree → List (List Tree) → List (List Tree) → Type 0

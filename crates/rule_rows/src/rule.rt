@@ -1,6 +1,10 @@
 // Rules and steps.
 // They depend on the terms' numbers; the checker, drafts and step files depend on them.
+ghost use Rattle.std.specs.Prelude.{◌≡◌};
+ghost use Rattle.rule_rows.specs.Meaning.{types_in};
+
 use outside::Seq;
+use std::alloc::AllocError;
 use trees::TermId;
 
 /// A rule of the tableau calculus, with its places in the sequent and its trees, in the order of the table.
@@ -84,6 +88,69 @@ pub enum Rule {
     Trichotomy(TermId, TermId),
     /// An integer at most a literal, or at least the next one.
     Bound(TermId, i128),
+}
+
+impl Clone for Rule {
+    ghost is_clone = { λ a b. b ≡ a };
+
+    fn clone(&self) -> Result<Rule, AllocError> {
+        Ok(match self {
+            Rule::Linear(uses) => Rule::Linear(uses.clone()?),
+            Rule::Keep(places) => Rule::Keep(places.clone()?),
+            Rule::Fact(k, types) => Rule::Fact(*k, types.clone()?),
+            Rule::Def(k, types) => Rule::Def(*k, types.clone()?),
+            Rule::Clause(k, c, types) => Rule::Clause(*k, *c, types.clone()?),
+            Rule::Inv(k, types) => Rule::Inv(*k, types.clone()?),
+            Rule::False(i) => Rule::False(*i),
+            Rule::NotTrue(i) => Rule::NotTrue(*i),
+            Rule::Clash(i, j) => Rule::Clash(*i, *j),
+            Rule::Irrefl(i) => Rule::Irrefl(*i),
+            Rule::Distinct(i) => Rule::Distinct(*i),
+            Rule::NotNot(i) => Rule::NotNot(*i),
+            Rule::And(i) => Rule::And(*i),
+            Rule::NotAnd(i) => Rule::NotAnd(*i),
+            Rule::AndThen(i) => Rule::AndThen(*i),
+            Rule::NotAndThen(i) => Rule::NotAndThen(*i),
+            Rule::Or(i) => Rule::Or(*i),
+            Rule::NotOr(i) => Rule::NotOr(*i),
+            Rule::OrElse(i) => Rule::OrElse(*i),
+            Rule::NotOrElse(i) => Rule::NotOrElse(*i),
+            Rule::Imp(i) => Rule::Imp(*i),
+            Rule::NotImp(i) => Rule::NotImp(*i),
+            Rule::Iff(i) => Rule::Iff(*i),
+            Rule::NotIff(i) => Rule::NotIff(*i),
+            Rule::Forall(i, j) => Rule::Forall(*i, *j),
+            Rule::NotForall(i, j) => Rule::NotForall(*i, *j),
+            Rule::Exists(i, j) => Rule::Exists(*i, *j),
+            Rule::NotExists(i, j) => Rule::NotExists(*i, *j),
+            Rule::Cut(i) => Rule::Cut(*i),
+            Rule::Refl(i) => Rule::Refl(*i),
+            Rule::Replace(i, j, e) => Rule::Replace(*i, *j, *e),
+            Rule::LetDef(i) => Rule::LetDef(*i),
+            Rule::IfDef(i) => Rule::IfDef(*i),
+            Rule::MatchDef(i) => Rule::MatchDef(*i),
+            Rule::Case(i) => Rule::Case(*i),
+            Rule::Inject(i) => Rule::Inject(*i),
+            Rule::Project(i) => Rule::Project(*i),
+            Rule::Trichotomy(i, j) => Rule::Trichotomy(*i, *j),
+            Rule::Bound(i, j) => Rule::Bound(*i, *j),
+        })
+    }
+}
+
+impl Rule {
+    /// The types that it names.
+    pub fn types(&self) -> &[TermId]
+        ensures { result.now ≡ types_in self.now }
+    {
+        match self {
+            Rule::Fact(_, types) => types.as_slice(),
+            Rule::Def(_, types) => types.as_slice(),
+            Rule::Clause(_, _, types) => types.as_slice(),
+            Rule::Inv(_, types) => types.as_slice(),
+            _ => &[],
+        }
+    }
 }
 
 /// A sequent, the rule that refutes it, and the earlier steps that the rule takes.

@@ -4,12 +4,12 @@ ghost use Rattle.std.specs.Prelude.{◌≡◌, ◌≤◌, ◌↔◌, IsTrue, IfO
 ghost use Rattle.std.specs.Option.{ForSome};
 ghost use Rattle.trees.specs.Tree.{height};
 ghost use Rattle.trees.specs.Node.{tree_at, Holds, Grows};
+ghost use Rattle.trees.specs.Facts.{Each};
 ghost use Rattle.tasks.specs.Meaning.{task_at, TaskHeld};
 ghost use Rattle.tasks.specs.Looking.{IsIndexOf};
-ghost use Rattle.linear_leaf.specs.Valuations.{Each};
 ghost use Rattle.rule_rows.specs.Trees.{rule_trees};
 ghost use Rattle.rule_rows.specs.Meaning.{rule_at, step_at, steps_at, StepHeld, StepsHeld};
-ghost use Rattle.kernel.specs.Open.{OpenIn, StepIsOpen, TemplateIsOpen, types_in};
+ghost use Rattle.kernel.specs.Open.{OpenIn, StepIsOpen, TemplateIsOpen};
 ghost use Rattle.kernel.specs.Right.{IsRight};
 ghost use Rattle.tree_lines.specs.Made.{IsNamesOf};
 ghost use Rattle.step_lines.specs.Made.{IsMadeThing, ThingHeld, thing_at};
@@ -123,19 +123,6 @@ fn template_marked(store: &Store, task: &Task, marks: &[bool], rule: &Rule) -> b
     }
 }
 
-// The types that a rule names.
-fn rule_types(rule: &Rule) -> &[TermId]
-    ensures { result.now ≡ types_in rule.now }
-{
-    match rule {
-        Rule::Fact(_, types) => types.as_slice(),
-        Rule::Def(_, types) => types.as_slice(),
-        Rule::Clause(_, _, types) => types.as_slice(),
-        Rule::Inv(_, types) => types.as_slice(),
-        _ => &[],
-    }
-}
-
 // Whether all trees of a step are marked.
 fn step_marked(store: &Store, task: &Task, marks: &[bool], step: &Step) -> bool
     requires { AreMarkedTyped (task_at store.now task.now) store.now marks.now }
@@ -144,7 +131,7 @@ fn step_marked(store: &Store, task: &Task, marks: &[bool], step: &Step) -> bool
     are_marked(store, task, marks, step.sequent.as_slice())
         && names_marked(store, task, marks, &step.rule)
         && template_marked(store, task, marks, &step.rule)
-        && are_marked(store, task, marks, rule_types(&step.rule))
+        && are_marked(store, task, marks, step.rule.types())
 }
 
 // Whether a step is right. Trees that are marked aren't typed again; where one isn't, all of the step's are.

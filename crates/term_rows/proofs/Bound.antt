@@ -9,7 +9,7 @@ use Rattle.std.proofs.lemmas.Bool.Decides.{nat_tests}
 use Rattle.trees.proofs.Many.{left_at, right_at, length_joined, many_at, many_above, default_at}
 use Rattle.tasks.specs.Task.{TaskTree, symbol_or}
 use Rattle.tasks.specs.Typing.{members}
-use Rattle.rule_rows.specs.Patterns.{result_at, field, fields, constructor_projections, parts, top, other_terms, one_binds, two_binds, three_binds, pattern_terms}
+use Rattle.tasks.specs.MatchTests.{result_at, field, fields, constructor_projections, parts, top, other_terms, one_binds, two_binds, three_binds, pattern_terms}
 use Rattle.term_rows.specs.Matches.{from_last}
 
 -- ---- as many as the pattern binds

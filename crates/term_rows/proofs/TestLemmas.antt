@@ -1,9 +1,10 @@
 -- The tests of a constructor's pattern, by what the code has of its term; and a test by its conjunction.
-use Rattle.std.proofs.Common.{◌≡◌, ◌↔◌, ℕ, List, true, Option, Some, None, IfSome, refl, sym, ap, ◌∙◌}
-use Rattle.trees.specs.Tree.{Tree, Leaf, Three, HTrue, HPatCon}
+use Rattle.std.proofs.Common.{◌≡◌, ◌↔◌, ℕ, List, [], ◌∷◌, ◌++◌, Option, Some, None, IfSome, refl, sym, ap, ◌∙◌}
+use Rattle.trees.specs.Tree.{Tree, Leaf, Two, Three, HTrue, HCell, HPatCon}
 use Rattle.tasks.specs.Task.{TaskTree}
-use Rattle.tasks.specs.Inversion.{conjunction_with, or_true}
-use Rattle.rule_rows.specs.Patterns.{tests, top, constructor_projections, fields, con_equation}
+use Rattle.tasks.specs.Conjunctions.{conjunction}
+use Rattle.tasks.specs.MatchTests.{tests, top, other_terms, constructor_projections, fields, con_equation}
+use Rattle.term_rows.specs.Conjuncts.{conjunction_with, conjunction_before}
 
 pub if_some : {X : Type 0} (o : Option X) (P Q : X → Type 0) → ((x : X) → P x → Q x) → IfSome o P → IfSome o Q
 if_some None P Q f h = tt
@@ -12,30 +13,52 @@ if_some (Some x) P Q f h = f x h
 pub un_some : {X : Type 0} (a b : X) → Some a ≡ Some b → a ≡ b
 un_some a b h = cc
 
+before_joined : (xs ys : List Tree) (left : Option Tree) → conjunction_before (xs ++ ys) left ≡ conjunction_before xs (conjunction_before ys left)
+before_joined [] ys left = refl
+before_joined (x ∷ xs) ys left = ap (conjunction_with x) (before_joined xs ys left)
+
+-- the tests of a list of patterns: those of the first, then those of the others
+module _ (t : TaskTree) (p first more a : Tree) (ss others : List Tree) (e : p ≡ Two HCell first more) (q : a ≡ top ss) (o : others ≡ other_terms ss) where
+  list_here : (left : Option Tree) → conjunction_before (tests t p ss) left ≡ conjunction_before (tests t first (a ∷ [])) (conjunction_before (tests t more others) left)
+  list_here left = rw (e, q, o) (before_joined (tests t first (top ss ∷ [])) (tests t more (other_terms ss)) left)
+
+  pub is_list : (m rest left : Option Tree) → m ≡ conjunction_before (tests t first (a ∷ [])) rest → rest ≡ conjunction_before (tests t more others) left → m ≡ conjunction_before (tests t p ss) left
+  is_list m rest left h i = h ∙ ap (conjunction_before (tests t first (a ∷ []))) i ∙ sym (list_here left)
+
+  pub from_list : (m left : Option Tree) → m ≡ conjunction_before (tests t p ss) left → m ≡ conjunction_before (tests t first (a ∷ [])) (conjunction_before (tests t more others) left)
+  from_list m left h = h ∙ list_here left
+
+-- and those of a constructor's pattern
 module _ (t : TaskTree) (k : ℕ) (types parts ty p a : Tree) (ss : List Tree) (js : List ℕ) (e : p ≡ Three (HPatCon k) types parts ty) (q : a ≡ top ss) (j : js ≡ constructor_projections t k) where
   abbrev pub inner : Option Tree → Option Tree
-  inner behind = tests t parts (fields t js types a) behind
+  inner left = conjunction_before (tests t parts (fields t js types a)) left
 
-  pub tests_here : (behind : Option Tree) → tests t p ss behind ≡ conjunction_with (con_equation t k types a) (inner behind)
-  tests_here behind = rw (e, q, j) refl
+  pub tests_here : (left : Option Tree) → conjunction_before (tests t p ss) left ≡ conjunction_with (con_equation t k types a) (inner left)
+  tests_here left = rw (e, q, j) refl
 
-  pub is_here : (m n behind : Option Tree) → m ≡ conjunction_with (con_equation t k types a) n → n ≡ inner behind → m ≡ tests t p ss behind
-  is_here m n behind h i = h ∙ ap (conjunction_with (con_equation t k types a)) i ∙ sym (tests_here behind)
+  pub is_here : (m n left : Option Tree) → m ≡ conjunction_with (con_equation t k types a) n → n ≡ inner left → m ≡ conjunction_before (tests t p ss) left
+  is_here m n left h i = h ∙ ap (conjunction_with (con_equation t k types a)) i ∙ sym (tests_here left)
 
-  pub from_here : (m behind : Option Tree) → m ≡ tests t p ss behind → m ≡ conjunction_with (con_equation t k types a) (inner behind)
-  from_here m behind h = h ∙ tests_here behind
+  pub from_here : (m left : Option Tree) → m ≡ conjunction_before (tests t p ss) left → m ≡ conjunction_with (con_equation t k types a) (inner left)
+  from_here m left h = h ∙ tests_here left
+
+-- where nothing is left, it is the conjunction of the list
+whole : (a : Tree) (more : List Tree) → conjunction_before (a ∷ more) None ≡ Some (conjunction (a ∷ more))
+whole a [] = refl
+whole a (b ∷ more) = ap (conjunction_with a) (whole b more)
 
 -- a tree is the test where it is the conjunction, or is `true` and nothing is asked
-pub some_test : (m : Tree) (q : Option Tree) → Some m ≡ q → m ≡ or_true q
-some_test m q e = rw (← e) refl
+pub some_test : (m : Tree) (as' : List Tree) → Some m ≡ conjunction_before as' None → m ≡ conjunction as'
+some_test m [] e = absurd (cc)
+some_test m (a ∷ more) e = un_some m (conjunction (a ∷ more)) (e ∙ whole a more)
 
-same_some : (m n : Tree) → m ≡ n → Some m ≡ Some n
-same_some m n e = ap (λ (x : Tree). Some x) e
+is_before : (m a : Tree) (more : List Tree) → m ≡ conjunction (a ∷ more) → Some m ≡ conjunction_before (a ∷ more) None
+is_before m a more e = ap (λ (x : Tree). Some x) e ∙ sym (whole a more)
 
-pub true_test : (m : Tree) (q : Option Tree) → m ≡ Leaf HTrue → (Some m ≡ q → ⊥) → (None ≡ q) ↔ (m ≡ or_true q)
-true_test m None e n = (λ h. e, λ h. refl)
-true_test m (Some b) e n = (λ h. absurd (cc), λ h. absurd (n (same_some m b h)))
+pub true_test : (m : Tree) (as' : List Tree) → m ≡ Leaf HTrue → (Some m ≡ conjunction_before as' None → ⊥) → (None ≡ conjunction_before as' None) ↔ (m ≡ conjunction as')
+true_test m [] e n = (λ h. e, λ h. refl)
+true_test m (a ∷ more) e n = (λ h. absurd (let k : None ≡ Some (conjunction (a ∷ more)) = h ∙ whole a more in cc), λ h. absurd (n (is_before m a more h)))
 
-pub other_test : (m : Tree) (q : Option Tree) → (m ≡ Leaf HTrue → ⊥) → (Some m ≡ q → ⊥) → m ≡ or_true q → ⊥
-other_test m None e n h = e h
-other_test m (Some b) e n h = n (same_some m b h)
+pub other_test : (m : Tree) (as' : List Tree) → (m ≡ Leaf HTrue → ⊥) → (Some m ≡ conjunction_before as' None → ⊥) → m ≡ conjunction as' → ⊥
+other_test m [] e n h = e h
+other_test m (a ∷ more) e n h = n (is_before m a more h)

@@ -3,7 +3,7 @@ use Rattle.std.specs.Prelude.{List, [], ◌∷◌}
 use Rattle.trees.specs.Tree.{Tree, Leaf, HEnd}
 use Rattle.trees.specs.Node.{tree_at, Holds}
 use Rattle.tasks.specs.Task.{TaskTree}
-use Rattle.rule_rows.specs.Patterns.{field, fields}
+use Rattle.tasks.specs.MatchTests.{field, fields}
 use Rattle.term_rows.specs.declared.asked.Asked.{Asked, Nothing, Whole, Field'}
 use Rattle.term_rows.specs.declared.asked.AskedList.{AskedList}
 use Rattle.term_rows.specs.declared.asked.AskedList.TheVariants.{One, Fields}

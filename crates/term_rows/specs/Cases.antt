@@ -6,9 +6,9 @@ use Rattle.trees.specs.Node.{tree_at, Holds}
 use Rattle.tasks.specs.declared.declaration.Con.{Con}
 use Rattle.tasks.specs.Task.{ConstructorTree}
 use Rattle.tasks.specs.Meaning.{con_at}
+use Rattle.tasks.specs.MatchTests.{rebuilt}
 use Rattle.rule_rows.specs.declared.tried.Tried.{Tried}
 use Rattle.rule_rows.specs.Forms.{equal}
-use Rattle.rule_rows.specs.Patterns.{rebuilt}
 use Rattle.rule_rows.specs.Meaning.{TriedHeld, task_of}
 use Rattle.term_rows.specs.declared.cases.Rebuilt.{Rebuilt}
 

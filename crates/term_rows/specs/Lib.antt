@@ -1,3 +1,4 @@
 pub mod Asked
+pub mod Conjuncts
 pub mod Cases
 pub mod Matches

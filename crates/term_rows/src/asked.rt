@@ -4,7 +4,7 @@ ghost use Rattle.std.specs.Prelude.{◌≡◌, ◌↔◌, Some, IsTrue};
 ghost use Rattle.trees.specs.Node.{tree_at, Holds};
 ghost use Rattle.tasks.specs.Task.{symbol_or};
 ghost use Rattle.tasks.specs.Equations.{cells};
-ghost use Rattle.rule_rows.specs.Patterns.{result_at, fields, rebuilt, constructor_projections, top, other_terms};
+ghost use Rattle.tasks.specs.MatchTests.{result_at, fields, rebuilt, constructor_projections, top, other_terms};
 ghost use Rattle.rule_rows.specs.Meaning.{task_of, TriedHeld};
 ghost use Rattle.term_rows.specs.Asked.{asked_at, AskedHeld, list_at, ListHeld};
 

@@ -4,7 +4,7 @@ ghost use Rattle.std.specs.Prelude.{◌≡◌, ◌↔◌, ◌<◌, ◌≤◌, Is
 ghost use Rattle.trees.specs.Tree.{pat_vars, loose};
 ghost use Rattle.trees.specs.Node.{tree_at, Holds};
 ghost use Rattle.trees.specs.Binding.{Bound, instantiating_many};
-ghost use Rattle.rule_rows.specs.Patterns.{pattern_terms, bind};
+ghost use Rattle.tasks.specs.MatchTests.{pattern_terms, bind};
 ghost use Rattle.rule_rows.specs.Meaning.{task_of, TriedHeld};
 ghost use Rattle.term_rows.specs.Asked.{list_at, ListHeld};
 ghost use Rattle.term_rows.specs.Matches.{from_last, IsTriedReady};

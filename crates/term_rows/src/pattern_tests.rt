@@ -4,9 +4,9 @@ ghost use Rattle.std.specs.Prelude.{◌≡◌, ◌↔◌, ◌∷◌, [], Option,
 ghost use Rattle.std.specs.Option.{option_map};
 ghost use Rattle.trees.specs.Tree.{Tree};
 ghost use Rattle.trees.specs.Node.{tree_at, Holds};
-ghost use Rattle.tasks.specs.Inversion.{conjunction_with};
-ghost use Rattle.rule_rows.specs.Patterns.{tests, test, con_equation};
+ghost use Rattle.tasks.specs.MatchTests.{tests, test, con_equation};
 ghost use Rattle.rule_rows.specs.Meaning.{task_of, TriedHeld};
+ghost use Rattle.term_rows.specs.Conjuncts.{conjunction_with, conjunction_before};
 ghost use Rattle.term_rows.specs.Asked.{asked_at, AskedHeld, list_at, ListHeld};
 
 use crate::asked::{Asked, AskedList, first_asked, is_asked, is_rebuilt, other_asked, projections};
@@ -87,13 +87,13 @@ fn after_tests(
     requires list { ListHeld x.now.store.now list }
     requires made { IfSome made (Holds x.now.store.now) }
     ensures is { IfSome result (λ r. option_map (tree_at x.now.store.now) made
-        ≡ tests (task_of x.now) (tree_at x.now.store.now pattern)
-        (list_at (task_of x.now) x.now.store.now list.entry)
+        ≡ conjunction_before (tests (task_of x.now) (tree_at x.now.store.now pattern)
+        (list_at (task_of x.now) x.now.store.now list.entry))
         (option_map (tree_at x.now.store.now) r)) }
-    ensures can { (behind : Option Tree) → option_map (tree_at x.now.store.now) made
-        ≡ tests (task_of x.now) (tree_at x.now.store.now pattern)
-        (list_at (task_of x.now) x.now.store.now list.entry) behind
-        → option_map (λ r. option_map (tree_at x.now.store.now) r) result ≡ Some behind }
+    ensures can { (left : Option Tree) → option_map (tree_at x.now.store.now) made
+        ≡ conjunction_before (tests (task_of x.now) (tree_at x.now.store.now pattern)
+        (list_at (task_of x.now) x.now.store.now list.entry)) left
+        → option_map (λ r. option_map (tree_at x.now.store.now) r) result ≡ Some left }
     ensures held { IfSome result (λ r. IfSome r (Holds x.now.store.now)) }
 {
     match x.store.node(pattern) {
@@ -140,8 +140,9 @@ fn is_tests(x: &Tried<'_>, pattern: TermId, term: TermId, made: Option<TermId>) 
     requires pattern_held { Holds x.now.store.now pattern }
     requires term_held { Holds x.now.store.now term }
     requires made { IfSome made (Holds x.now.store.now) }
-    ensures { IsTrue result ↔ (option_map (tree_at x.now.store.now) made ≡ tests (task_of x.now)
-        (tree_at x.now.store.now pattern) (tree_at x.now.store.now term ∷ []) None) }
+    ensures { IsTrue result ↔ (option_map (tree_at x.now.store.now) made
+        ≡ conjunction_before (tests (task_of x.now) (tree_at x.now.store.now pattern)
+        (tree_at x.now.store.now term ∷ [])) None) }
 {
     let asked = Asked::Whole(term);
     is_spent(after_tests(x, pattern, AskedList::One(&asked), made))

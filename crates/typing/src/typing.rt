@@ -321,21 +321,13 @@ pub fn well_typed(store: &Store, task: &Task, e: TermId) -> bool
     is_typed_over(store, &Vocabulary::OfTask(&look), e)
 }
 
-/// Whether no schematic type variable is in a tree.
+/// Whether no schematic type variable is in a tree: told by what the store keeps of it.
+#[tactic(auto, using(crate::proofs::Ground::told_ground))]
 pub fn is_ground(store: &Store, e: TermId) -> bool
     requires { Holds store.now e }
     ensures { IsTrue result ↔ IsGround (tree_at store.now e) }
 {
-    let node = store.node(e);
-    if let Node::TyVar(_) = node {
-        return false;
-    }
-    match node.parts() {
-        Parts::None => true,
-        Parts::One(a) => is_ground(store, a),
-        Parts::Two(a, b) => is_ground(store, a) && is_ground(store, b),
-        Parts::Three(a, b, c) => is_ground(store, a) && is_ground(store, b) && is_ground(store, c),
-    }
+    store.above_type_variables(e) == 0
 }
 
 /// Whether a tree is a formula that may be in a sequent: closed, typed in the task and free of schematic types.

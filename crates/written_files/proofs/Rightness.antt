@@ -11,12 +11,12 @@ use Rattle.tasks.specs.Vocabulary.{Vocabulary, of_task}
 use Rattle.tasks.specs.Open.{OpenTyped}
 use Rattle.tasks.specs.Valid.{IsGround}
 use Rattle.tasks.proofs.Closing.{typed_open}
-use Rattle.linear_leaf.specs.Valuations.{Each}
 use Rattle.rule_rows.specs.Trees.{RuleTree, RReplace, StepTree, rule_trees, rule_types, step_or, sequents}
 use Rattle.trees.specs.Binding.{inst}
 use Rattle.rule_rows.specs.Forms.{equation_sides}
 use Rattle.rule_rows.specs.Rows.{IsRuleRow, IsTemplate, Adds}
 use Rattle.trees.specs.Sorts.{type_of}
+use Rattle.trees.specs.Facts.{Each}
 use Rattle.kernel.specs.Right.{IsGroundExpression, IsRight, AreRight}
 use Rattle.kernel.specs.Open.{OpenIn}
 use Rattle.step_files.specs.Lines.{IsGoodTree}

@@ -1,8 +1,8 @@
-use Rattle.std.proofs.Common.{rules}
+use Rattle.std.proofs.Common.{rules, ◌∙◌}
 use Rattle.trees.specs.Node.{tree_at, Holds}
 use Rattle.tasks.specs.Meaning.{trees_at}
 use Rattle.rule_rows.proofs.Sequents.{no, not_so}
-use Rattle.fact_rows.proofs.Cells.{all_rest, no_first}
+use Rattle.fact_rows.proofs.Cells.{all_rest, more_at, no_first}
 use Rattle.fact_rows.proofs.parts.+are_equations.Goals as goal
 
 pub returns-then-not-is_equation : goal.returns-then-not-is_equation
@@ -21,3 +21,10 @@ are_equations-requires t c = (
     (all_rest (Holds c.args.store.now) c.args.args.now c.in-Some.rest.now c.in-Some.ty.now c.in-Some.ensures.cases.0 c.requires.args_held, (search rules, search rules)),
   ),
 )
+
+pub returns-in-None-sides : goal.returns-in-None-sides
+returns-in-None-sides t c =
+    let s = c.args.store.now in
+    let more = more_at s c.args.under c.args.args.now c.in-Some.rest.now c.in-Some.ty.now c.args.list c.in-Cell.a c.in-Cell.more c.in-Some.ensures.cases.0 c.in-Cell.ensures.tree
+    (trees_at s c.args.types.now) (not_so c.no_equations.result c.no_equations.ensures c.if-no_equations.false) in
+    no (λ h. c.in-None-sides.ensures.none _ _ (h ∙ more))

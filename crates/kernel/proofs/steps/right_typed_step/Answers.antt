@@ -19,13 +19,13 @@ row_holds-requires-clause-tried c =
 pub returns-then-not-are_types : goal.returns-then-not-are_types
 returns-then-not-are_types c =
     let s = c.args.store.now in
-    no (λ x. not_so c.are_types.result c.are_types.ensures c.if-not-are_types.true (rw (c.types_in.ensures, ← types_named s c.args.step.now.rule) x.types))
+    no (λ x. not_so c.are_types.result c.are_types.ensures c.if-not-are_types.true (rw (c.types.ensures, ← types_named s c.args.step.now.rule) x.types))
 
 pub returns : goal.returns
 returns c =
     let s = c.args.store.now in
-    step_right (task_at s c.args.look.now.task.now) (steps_at s c.args.before.now) s c.args.step.now c.as_slice-sequent.result.now c.types_in.result.now c.as_slice-premises.result.now c.row_holds.result
-    c.as_slice-sequent.ensures c.types_in.ensures c.as_slice-premises.ensures
+    step_right (task_at s c.args.look.now.task.now) (steps_at s c.args.before.now) s c.args.step.now c.as_slice-sequent.result.now c.types.result.now c.as_slice-premises.result.now c.row_holds.result
+    c.as_slice-sequent.ensures c.types.ensures c.as_slice-premises.ensures
     (so c.are_sentences.result c.are_sentences.ensures c.if-not-are_sentences.false)
     (so c.names_right.result c.names_right.ensures c.if-not-names_right.false)
     (so c.are_types.result c.are_types.ensures c.if-not-are_types.false)

@@ -2,9 +2,9 @@ use Rattle.std.proofs.Common.{◌≡◌, ◌↔◌, ◌<◌, ◌≤◌, List, Is
 use Rattle.trees.specs.Tree.{Tree, loose}
 use Rattle.trees.specs.Binding.{instantiating_many}
 use Rattle.trees.specs.Node.{tree_at}
+use Rattle.tasks.specs.MatchTests.{bind}
 use Rattle.binders.proofs.Telling.{left_told, is_above, bound_told}
 use Rattle.binders.proofs.Reading.{many_left}
-use Rattle.rule_rows.specs.Patterns.{bind}
 use Rattle.rule_rows.specs.Meaning.{task_of}
 use Rattle.term_rows.proofs.binds.BindingsPut.is_put.Goals as goal
 

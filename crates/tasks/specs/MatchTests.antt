@@ -7,7 +7,7 @@ use Rattle.tasks.specs.Task.{TaskTree, symbol_or}
 use Rattle.tasks.specs.Roles.{RoleTree, ConstructorRole, role}
 use Rattle.tasks.specs.Typing.{members}
 use Rattle.tasks.specs.Equations.{cells}
-use Rattle.tasks.specs.Inversion.{conjunction_with, or_true}
+use Rattle.tasks.specs.Conjunctions.{conjunction}
 
 -- the result type of an entry at a list of types; the empty list where it has none, or one that isn't closed, as each type is
 abbrev pub result_at : Option Tree → Tree → Tree
@@ -56,29 +56,29 @@ parts t _ types ss = []
 abbrev pub con_equation : TaskTree → ℕ → Tree → Tree → Tree
 con_equation t k types s = Two HEq s (rebuilt t k (constructor_projections t k) types s)
 
-abbrev pub one_tests : Head → Option Tree → Option Tree → Option Tree
-one_tests HPatAlias inner behind = inner
-one_tests _ inner behind = behind
+abbrev pub one_tests : Head → List Tree → List Tree
+one_tests HPatAlias inner = inner
+one_tests _ inner = []
 
-abbrev pub two_tests : Head → Option Tree → Option Tree → Option Tree
-two_tests HCell first behind = first
-two_tests _ first behind = behind
+abbrev pub two_tests : Head → List Tree → List Tree → List Tree
+two_tests HCell first more = first ++ more
+two_tests _ first more = []
 
-abbrev pub three_tests : TaskTree → Head → Tree → List Tree → Option Tree → Option Tree → Option Tree
-three_tests t (HPatCon k) types ss inner behind = conjunction_with (con_equation t k types (top ss)) inner
-three_tests t _ types ss inner behind = behind
+abbrev pub three_tests : TaskTree → Head → Tree → List Tree → List Tree → List Tree
+three_tests t (HPatCon k) types ss inner = con_equation t k types (top ss) ∷ inner
+three_tests t _ types ss inner = []
 
--- The equations that make a list of terms match a pattern, or a list of patterns, as a conjunction nested to the right with what
--- comes after it: of each constructor's pattern, that the term is that constructor on its own fields.
-abbrev pub tests : TaskTree → Tree → List Tree → Option Tree → Option Tree
-tests t (Leaf h) ss behind = behind
-tests t (One h p) ss behind = one_tests h (tests t p ss behind) behind
-tests t (Two h p q) ss behind = two_tests h (tests t p (top ss ∷ []) (tests t q (other_terms ss) behind)) behind
-tests t (Three h a p c) ss behind = three_tests t h a ss (tests t p (parts t h a ss) behind) behind
+-- The equations that make a list of terms match a pattern, or a list of patterns, in reading order: of each constructor's pattern,
+-- that the term is that constructor on its own fields.
+abbrev pub tests : TaskTree → Tree → List Tree → List Tree
+tests t (Leaf h) ss = []
+tests t (One h p) ss = one_tests h (tests t p ss)
+tests t (Two h p q) ss = two_tests h (tests t p (top ss ∷ [])) (tests t q (other_terms ss))
+tests t (Three h a p c) ss = three_tests t h a ss (tests t p (parts t h a ss))
 
--- the test of a pattern: `true` where nothing is asked
+-- the test of a pattern, asked of a term
 abbrev pub test : TaskTree → Tree → Tree → Tree
-test t p s = or_true (tests t p (s ∷ []) None)
+test t p s = conjunction (tests t p (s ∷ []))
 
 abbrev pub one_binds : Head → List Tree → List Tree → List Tree
 one_binds HPatVar inner ss = top ss ∷ []
@@ -100,5 +100,6 @@ pattern_terms t (One h p) ss = one_binds h (pattern_terms t p ss) ss
 pattern_terms t (Two h p q) ss = two_binds h (pattern_terms t p (top ss ∷ [])) (pattern_terms t q (other_terms ss))
 pattern_terms t (Three h a p c) ss = three_binds h (pattern_terms t p (parts t h a ss))
 
+-- those for a pattern, asked of a term
 abbrev pub bind : TaskTree → Tree → Tree → List Tree
 bind t p s = pattern_terms t p (s ∷ [])
