@@ -1,12 +1,12 @@
 -- What names, operators and type variables in code stand for, and what the walk of names answers.
-use Rattle.std.specs.Prelude.{◌≡◌, ℕ, suc, codes, ◌==◌, ◌&&◌, Bool, cond, List, [], ◌∷◌, ◌++◌, length, reverse, Option, Some, None, Result, Ok, Err}
+use Rattle.std.specs.Prelude.{◌≡◌, ℕ, codes, cond, List, [], ◌∷◌, ◌++◌, reverse, Option, Some, None, Result, Ok, Err}
 use Rattle.std.specs.Option.{option_map}
 use Rattle.std.specs.Str.{bytes_eq}
 use Rattle.trees.specs.Tree.{Tree}
 use Rattle.trees.specs.Node.{tree_at}
 use Rattle.tasks.specs.Meaning.{symbols_at}
 use Rattle.tasks.specs.Task.{SymbolTree}
-use Rattle.tasks.specs.Vocabulary.{is_constructor_kind}
+pub use Rattle.tasks.specs.Entries.{builtin, is_tuple, tuple_from, tuple_in}
 use Rattle.syntax_why.specs.Lexeme.{Word}
 use Rattle.syntax_why.specs.Surface.{own_of, op_of}
 use Rattle.names_space.specs.Names.{ScopeNames, find_number, find_name}
@@ -42,21 +42,6 @@ type_named names qs x = or_int qs x (find_name names Types (qs ++ x ∷ []))
 abbrev pub meaning_at : List Tree → TypeName → MeaningTree
 meaning_at s (stands.Entry k) = Stands k
 meaning_at s (stands.Alias vars ty) = Abbreviates vars (tree_at s (record { 0 = ty }))
-
--- ---- tuples
-abbrev pub builtin : Word
-builtin = codes "BuiltIn"
-
-abbrev pub is_tuple : ℕ → SymbolTree → Bool
-is_tuple n e = is_constructor_kind e.kind && (bytes_eq e.theory builtin && (e.vars == n && length e.args == n))
-
--- the first constructor of tuples of a width, counted from k
-abbrev pub tuple_from : ℕ → ℕ → List SymbolTree → Option ℕ
-tuple_from n k [] = None
-tuple_from n k (e ∷ es) = cond (is_tuple n e) (Some k) (tuple_from n (suc k) es)
-
-abbrev pub tuple_in : List SymbolTree → ℕ → Option ℕ
-tuple_in symbols n = tuple_from n 0 symbols
 
 -- ---- what names mean in code
 abbrev pub where_at : List Tree → World → Where

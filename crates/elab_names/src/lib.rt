@@ -19,7 +19,7 @@ pub use patterns::{check_pattern, check_patterns};
 use std::alloc::{AllocError, AllocFailed};
 pub use triggers::{Trigger, TriggerHead, names_predicate, trigger_of};
 pub use type_names::check_form;
-pub use world::{World, is_tuple, tuple_among, variable_named};
+pub use world::{World, variable_named};
 
 /// What is wrong with the names of a declaration.
 #[derive(Clone, Copy)]

@@ -5,7 +5,6 @@ ghost use Rattle.std.specs.Prelude.{◌≡◌, List, [], ◌∷◌, ◌++◌, no
 ghost use Rattle.std.specs.Option.{is_some};
 ghost use Rattle.trees.specs.Tree.{Tree};
 ghost use Rattle.tasks.specs.Meaning.{symbol_at};
-ghost use Rattle.tasks.specs.Vocabulary.{is_constructor_kind};
 ghost use Rattle.elab_names.specs.Abstract.{more_alternatives, abstract_pattern_of, patterns_of, first_form, side_by_side, alternatives_of};
 ghost use Rattle.elab_names.specs.Where.{place_of};
 ghost use Rattle.elab_names.specs.Faults.{fault_if, first_of, constructor_entry_fault, constructor_fault, pattern_fault, patterns_fault, pattern_names, patterns_names, all_among, same_names, later_fault, alternatives_fault};
@@ -20,24 +19,14 @@ use crate::world::{World, variable_named};
 use outside::{Seq, Text};
 use std::alloc::{AllocError, Global};
 use syntax_why::{Pat, PatNode};
-use tasks::{SymbolInfo, SymbolKind};
-
-pub(crate) fn is_constructor(kind: SymbolKind) -> bool
-    ensures { result ≡ is_constructor_kind kind }
-{
-    match kind {
-        SymbolKind::Constructor => true,
-        SymbolKind::Kind | SymbolKind::Function => false,
-        SymbolKind::Predicate | SymbolKind::Projection => false,
-    }
-}
+use tasks::{SymbolInfo, is_constructor_kind};
 
 // An entry in the place of a constructor of so many parts.
 fn check_constructor_entry(token: usize, count: usize, info: &SymbolInfo) -> Result<(), NamingFault>
     ensures { (s : List Tree) → Tells result (constructor_entry_fault token count
         (symbol_at s info.now)) }
 {
-    refuse_if(!is_constructor(info.kind), NamingFault::WrongKind { token })?;
+    refuse_if(!is_constructor_kind(info.kind), NamingFault::WrongKind { token })?;
     refuse_if(info.args.len() != count, NamingFault::Arity { token })
 }
 

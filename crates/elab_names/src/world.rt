@@ -1,15 +1,11 @@
 // What names mean where a declaration stands.
 // It depends on signatures and scopes; the walks of names and of trees look names up here.
-ghost use Rattle.std.specs.Prelude.{◌≡◌, ◌<◌, List, length, IfSome};
-ghost use Rattle.trees.specs.Tree.{Tree};
-ghost use Rattle.tasks.specs.Meaning.{symbol_at, symbols_at};
+ghost use Rattle.std.specs.Prelude.{◌≡◌, ◌<◌, length, IfSome};
 ghost use Rattle.elab_names.specs.Where.{place_of};
-ghost use Rattle.elab_names.specs.Naming.{is_tuple, tuple_in};
 
-use crate::patterns::is_constructor;
 use names_space::{Scope, Table, TypeName};
 use outside::Text;
-use tasks::SymbolInfo;
+use tasks::{SymbolInfo, tuple_among};
 
 /// The signature, the scopes, and the declaration's type variables by number. Where `new_vars` is
 /// true any other type variable is new, and else it isn't there.
@@ -21,33 +17,12 @@ pub struct World<'a> {
     pub new_vars: bool,
 }
 
-/// Whether an entry is a constructor of tuples of a width.
-pub fn is_tuple(info: &SymbolInfo, width: usize) -> bool
-    ensures { (s : List Tree) → is_tuple width (symbol_at s info.now) ≡ result }
-{
-    is_constructor(info.kind)
-        && info.theory.as_slice() == b"BuiltIn".as_slice()
-        && info.vars == width
-        && info.args.len() == width
-}
-
-/// The first constructor of tuples of a width among the entries of a signature.
-pub fn tuple_among(symbols: &[SymbolInfo], width: usize) -> Option<usize>
-    ensures { (s : List Tree) → tuple_in (symbols_at s symbols.now) width ≡ result }
-{
-    for (number, info) in symbols.iter().enumerate() {
-        if is_tuple(info, width) {
-            return Some(number);
-        }
-    }
-    None
-}
-
 impl World<'_> {
     ghost use Rattle.std.specs.Prelude.{◌≡◌, List};
     ghost use Rattle.trees.specs.Tree.{Tree};
     ghost use Rattle.tasks.specs.Meaning.{symbols_at};
-    ghost use Rattle.elab_names.specs.Naming.{symbol_named, type_named, tuple_in};
+    ghost use Rattle.tasks.specs.Entries.{tuple_in};
+    ghost use Rattle.elab_names.specs.Naming.{symbol_named, type_named};
 
     /// The entry for which a symbol's name after its scopes stands.
     pub fn symbol_named(&self, scopes: &[Text], name: &[u8]) -> Option<usize>

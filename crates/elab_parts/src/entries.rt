@@ -12,11 +12,10 @@ ghost use Rattle.elab_walk.specs.Scoped.{IsScopedEntry};
 ghost use Rattle.elab_walk.specs.Drafts.{HoldsType, SymbolTyped};
 ghost use Rattle.elab_parts.specs.Entries.{type_entry, projections, constructor_entries, tuple_entries, is_tuple, tuple_in, wanting_tuple, wanting_tuples, IsSignature, IsExtended};
 
-use elab_names::tuple_among;
 use elab_walk::list_of;
 use outside::{Seq, Text};
 use std::alloc::{AllocError, Global};
-use tasks::{Signature, SymbolInfo, SymbolKind};
+use tasks::{Signature, SymbolInfo, SymbolKind, tuple_among};
 use term_store::{Grow, Store};
 use trees::{Node, TermId};
 

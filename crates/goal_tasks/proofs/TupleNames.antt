@@ -8,7 +8,7 @@ use Rattle.tasks.specs.declared.signature.SymbolInfo.{SymbolInfo}
 use Rattle.tasks.specs.Task.{SymbolTree}
 use Rattle.tasks.specs.Meaning.{symbol_at, symbols_at}
 use Rattle.tasks.specs.Vocabulary.{is_constructor_kind}
-use Rattle.elab_names.specs.Naming.{builtin, is_tuple, tuple_from}
+use Rattle.tasks.specs.Entries.{builtin, is_tuple, tuple_from}
 use Rattle.goal_tasks.specs.Tuples.{symbol_of_width}
 use Rattle.goal_tasks.specs.declared.tuples.TupleName.{TupleName}
 

@@ -10,7 +10,7 @@ use Rattle.tasks.specs.Equations.{type_variables}
 use Rattle.tasks.specs.Valid.{own_type}
 use Rattle.tasks.specs.declared.signature.SymbolInfo.{SymbolInfo}
 use Rattle.tasks.specs.Meaning.{symbol_at, symbols_at}
-use Rattle.elab_parts.specs.Entries.{builtin, projections, tuple_entries, tuple_in}
+use Rattle.tasks.specs.Entries.{builtin, projections, tuple_entries, tuple_in}
 use Rattle.goal_tasks.specs.Named.{is_among}
 use Rattle.goal_tasks.specs.Gathered.{GainsSymbols}
 use Rattle.goal_tasks.specs.Tuples.{tuples_of, tuples_in, tuple_declaration}

@@ -5,7 +5,7 @@ use Rattle.trees.specs.Node.{tree_at, Holds}
 use Rattle.tasks.specs.declared.declaration.Decl.{Decl}
 use Rattle.tasks.specs.Task.{SymbolTree}
 use Rattle.tasks.specs.Meaning.{symbols_at, declarations_at, SymbolHeld, DeclHeld}
-use Rattle.elab_parts.specs.Entries.{tuple_in, tuple_entries}
+use Rattle.tasks.specs.Entries.{tuple_in, tuple_entries}
 use Rattle.goal_tasks.specs.declared.theories.GoalAt.{GoalAt}
 use Rattle.goal_tasks.specs.declared.theories.Theory.{Theory}
 use Rattle.goal_tasks.specs.declared.theories.Theories.{Theories}

@@ -4,7 +4,7 @@ use Rattle.std.specs.List.{flat_map, range_with_len}
 use Rattle.std.specs.Fmt.{decimal}
 use Rattle.tasks.specs.Task.{SymbolTree, ConstructorTree, AlgebraicTree, Constructs, DeclarationTree}
 use Rattle.tasks.specs.Equations.{type_variables}
-use Rattle.elab_parts.specs.Entries.{builtin, tuple_in}
+use Rattle.tasks.specs.Entries.{builtin, tuple_in}
 use Rattle.goal_tasks.specs.Named.{is_among}
 use Rattle.goal_tasks.specs.declared.tuples.TupleName.{TupleName}
 

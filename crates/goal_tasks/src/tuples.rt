@@ -5,15 +5,14 @@ ghost use Rattle.std.specs.List.{range_with_len};
 ghost use Rattle.tasks.specs.Task.{symbol_or};
 ghost use Rattle.tasks.specs.Meaning.{symbol_at, symbols_at, con_at, algebraics_at, declaration_at, declarations_at, SymbolHeld, ConHeld, AlgebraicHeld, DeclHeld};
 ghost use Rattle.trees.specs.Tree.{Tree};
-ghost use Rattle.elab_names.specs.Naming.{tuple_in};
+ghost use Rattle.tasks.specs.Entries.{tuple_in};
 ghost use Rattle.goal_tasks.specs.Tuples.{symbol_of_width, tuple_constructor, tuple_algebraic, tuple_declaration, tuple_occurs, tuples_of, tuples_in};
 ghost use Rattle.goal_tasks.specs.Meaning.{IsTupleAt, AreTuples};
 
-use elab_names::is_tuple;
 use indexmap::IndexSet;
 use outside::{Seq, Text};
 use std::alloc::{AllocError, Global};
-use tasks::{Alg, Body, Con, Decl, Signature, SymbolInfo};
+use tasks::{Alg, Body, Con, Decl, Signature, SymbolInfo, is_tuple};
 use term_store::Store;
 
 // So many numbers from one on.

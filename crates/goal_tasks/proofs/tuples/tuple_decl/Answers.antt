@@ -2,7 +2,7 @@ use Rattle.std.proofs.Common.{◌≡◌, ℕ, ◌++◌, codes, List, ap, ◌∙�
 use Rattle.std.specs.Fmt.{decimal}
 use Rattle.tasks.specs.Task.{SymbolTree, AlgebraicTree, Constructs, DeclarationTree}
 use Rattle.tasks.specs.Meaning.{algebraics_at, symbols_at}
-use Rattle.elab_parts.specs.Entries.{builtin}
+use Rattle.tasks.specs.Entries.{builtin}
 use Rattle.goal_tasks.proofs.Passed.{no_value}
 use Rattle.goal_tasks.proofs.TuplesMade.{entry_within, type_name}
 use Rattle.goal_tasks.proofs.tuples.tuple_decl.Goals as goal

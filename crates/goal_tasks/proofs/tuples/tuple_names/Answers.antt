@@ -4,7 +4,7 @@ use Rattle.tasks.specs.Meaning.{symbol_at, symbols_at}
 use Rattle.tasks.specs.declared.signature.SymbolInfo.{SymbolInfo}
 use Rattle.goal_tasks.specs.declared.tuples.TupleName.{TupleName}
 use Rattle.goal_tasks.specs.Tuples.{symbol_of_width}
-use Rattle.elab_names.specs.Naming.{is_tuple, tuple_from}
+use Rattle.tasks.specs.Entries.{is_tuple, tuple_from}
 use Rattle.goal_tasks.proofs.TupleNames.{or_number, names_more, names_same}
 use Rattle.goal_tasks.proofs.Passed.{no_value}
 use Rattle.goal_tasks.proofs.tuples.tuple_names.Goals.{then-is_tuple+in_ok-push, else-is_tuple}

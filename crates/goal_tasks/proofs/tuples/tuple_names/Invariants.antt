@@ -2,7 +2,7 @@ use Rattle.std.proofs.Common.{◌≡◌, ℕ, List, drop}
 use Rattle.trees.specs.Tree.{Tree}
 use Rattle.tasks.specs.Meaning.{symbols_at}
 use Rattle.goal_tasks.specs.Tuples.{symbol_of_width}
-use Rattle.elab_names.specs.Naming.{tuple_from, tuple_in}
+use Rattle.tasks.specs.Entries.{tuple_from, tuple_in}
 use Rattle.goal_tasks.proofs.TupleNames.{or_number}
 use Rattle.goal_tasks.proofs.tuples.tuple_names.Given as goal
 

@@ -4,7 +4,7 @@ use Rattle.tasks.specs.declared.signature.SymbolInfo.{SymbolInfo}
 use Rattle.tasks.specs.Task.{DeclarationTree}
 use Rattle.tasks.specs.Meaning.{symbols_at, symbol_at}
 use Rattle.goal_tasks.specs.declared.tuples.TupleName.{TupleName}
-use Rattle.elab_parts.specs.Entries.{tuple_in}
+use Rattle.tasks.specs.Entries.{tuple_in}
 use Rattle.goal_tasks.specs.Tuples.{symbol_of_width, tuples_of}
 use Rattle.goal_tasks.proofs.TuplesMade.{tuples_below, tuples_more, tuple_there}
 use Rattle.goal_tasks.proofs.Passed.{no_value}
