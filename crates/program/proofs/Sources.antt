@@ -1,7 +1,7 @@
 -- What the laws of sources say of the task of a source's goal.
 use Rattle.tasks.specs.Task.{TaskTree}
 use Rattle.tasks.specs.Valid.{IsValid}
-use Rattle.written_files.specs.Named.{NamesAreWords}
+use Rattle.tasks.specs.Words.{NamesAreWords}
 use Rattle.theories.proofs.Forgetting.{forgotten}
 use Rattle.theories.proofs.Sources.{source_sound}
 use Rattle.theories.proofs.SourceGoals.{task_valid}

@@ -6,7 +6,7 @@ ghost use Rattle.tasks.specs.Valid.{IsValid};
 ghost use Rattle.evidence.specs.Stages.{parts_at, PartsHeld};
 ghost use Rattle.stages.specs.Listing.{stages_of};
 ghost use Rattle.stages.specs.Lifted.{IsDerived};
-ghost use Rattle.written_files.specs.Named.{NamesAreWords};
+ghost use Rattle.tasks.specs.Words.{NamesAreWords};
 ghost use Rattle.program.specs.Lifted.{AreRefutedUnder, IsLifted};
 
 use outside::Seq;

@@ -3,7 +3,7 @@
 ghost use Rattle.std.specs.Prelude.{IfOk};
 ghost use Rattle.tasks.specs.Meaning.{task_at, TaskHeld};
 ghost use Rattle.tasks.specs.Valid.{IsValid};
-ghost use Rattle.written_files.specs.Named.{NamesAreWords};
+ghost use Rattle.tasks.specs.Words.{NamesAreWords};
 ghost use Rattle.fault_order.specs.Answers.{Answers};
 ghost use Rattle.source_goals.specs.Order.{GoalUnder};
 ghost use Rattle.source_goals.specs.Values.{next_in, setting_in};

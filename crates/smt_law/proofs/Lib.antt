@@ -16,3 +16,4 @@ pub mod Telling
 pub mod Whole
 pub mod Shipped
 pub mod Spelt
+pub mod Scoped

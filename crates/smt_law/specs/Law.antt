@@ -6,6 +6,7 @@ use Rattle.driver_items.specs.declared.kinds.Printer.TheVariants.{Smt}
 use Rattle.driver_parts.specs.declared.driver.Driver.{Driver}
 use Rattle.tasks.specs.Task.{SymbolTree, TaskTree}
 use Rattle.tasks.specs.Valid.{IsValid}
+use Rattle.tasks.specs.Words.{NamesAreScoped}
 use Rattle.name_entries.specs.declared.names.NameEntry.{NameEntry}
 use Rattle.name_tables.specs.Spelling.{own_name}
 use Rattle.name_tables.specs.Tables.{problem_things, problem_names}
@@ -81,3 +82,7 @@ pub record IsOrdinary (e : SymbolTree) : Type 0 where
 -- the names of a table are spelt where those of the symbols are ordinary
 abbrev pub NamesAreSpelt : Type 0
 NamesAreSpelt = (t : TaskTree) → length (problem_things t) ≤ 2 ^ 64 → All IsOrdinary t.symbols → All IsEntrySpelt (problem_names t)
+
+-- and where those of the symbols are made as the names in a source are
+abbrev pub ScopedNamesAreSpelt : Type 0
+ScopedNamesAreSpelt = (t : TaskTree) → length (problem_things t) ≤ 2 ^ 64 → NamesAreScoped t → All IsEntrySpelt (problem_names t)

@@ -2,17 +2,19 @@
 //! It needs the texts of problems and S-expressions; nothing needs it.
 #![tactic(auto)]
 
-ghost use Rattle.smt_law.specs.Law.{LawOfTexts, NamesAreSpelt};
+ghost use Rattle.smt_law.specs.Law.{LawOfTexts, NamesAreSpelt, ScopedNamesAreSpelt};
 ghost use Rattle.smt_law.specs.Shipped.{ShippedArePlain};
 
 /// The law of texts, for readers to cite: where the templates of a driver are plain, two problems of
 /// one signature and one table, with the same preludes and part numbers, that have the same text in
 /// SMT-LIB have the same list of facts followed by locals, and the same goal; `&&` is read as `/\`
 /// and `||` as `\/`. The templates of `drivers/smt_syntax.drv` are plain over every valid task, and
-/// the names of a table are as the law wants them where those of the symbols are ordinary. It does
-/// nothing when it runs.
+/// the names of a table are as the law wants them where those of the symbols are ordinary, as are
+/// those of the task of each goal of a source (`theories::names_words`, `scoped`). It does nothing
+/// when it runs.
 pub fn law_of_texts()
     ensures law { LawOfTexts }
     ensures shipped { ShippedArePlain }
     ensures spelt { NamesAreSpelt }
+    ensures scoped { ScopedNamesAreSpelt }
 {}

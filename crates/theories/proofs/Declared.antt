@@ -15,7 +15,7 @@ use Rattle.theory_states.specs.declared.states.AxiomAt.{AxiomAt}
 use Rattle.theory_states.specs.States.{StateTree, with_declaration, with_declarations}
 use Rattle.valid_tasks.specs.TypedStates.{state_setting}
 use Rattle.theory_declarations.specs.Declared.{with_proposed, proposition_in, known_by, with_named, IsDeclared}
-use Rattle.written_files.specs.Named.{IsLineWord}
+use Rattle.tasks.specs.Words.{IsScopedName}
 use Rattle.theories.specs.Lexemes.{AreWordLexemes}
 use Rattle.theories.specs.Names.{HasWordNames}
 use Rattle.theories.proofs.Tuples.{HasWord}
@@ -23,14 +23,14 @@ use Rattle.theories.proofs.Written.{IsNamed, names_written}
 use Rattle.theories.proofs.Outcomes.{outcome_words}
 
 abbrev pub HasWordVariables : AxiomAt → Type 0
-HasWordVariables a = All IsLineWord a.vars
+HasWordVariables a = All IsScopedName a.vars
 
 -- ---- what becomes known
 declarations_words : (ds : List DeclarationTree) (c : StateTree) → HasWordNames c → HasWordNames (with_declarations ds c)
 declarations_words [] c h = h
 declarations_words (d ∷ ds) c h = declarations_words ds (with_declaration d c) (record { symbols = h.symbols; within = h.within; axioms = h.axioms; known = h.known })
 
-proposed_words : (k : PropKind) (vars : List Word) (rigid : List ℕ) (ds : List DeclarationTree) (c : StateTree) → All IsLineWord vars → HasWordNames c → HasWordNames (with_proposed k vars rigid ds c)
+proposed_words : (k : PropKind) (vars : List Word) (rigid : List ℕ) (ds : List DeclarationTree) (c : StateTree) → All IsScopedName vars → HasWordNames c → HasWordNames (with_proposed k vars rigid ds c)
 proposed_words k vars rigid [] c w h = h
 proposed_words kind.Axiom vars rigid (d ∷ ds) c w h = record {
   symbols = h.symbols;
@@ -42,7 +42,7 @@ proposed_words kind.Lemma vars rigid (d ∷ ds) c w h = record { symbols = h.sym
 proposed_words kind.Goal vars rigid (d ∷ ds) c w h = record { symbols = h.symbols; within = h.within; axioms = h.axioms; known = h.known }
 
 abbrev Seen : Option (PropKind × Expression) → Type 0
-Seen o = IfSome o (λ (p : PropKind × Expression). All IsLineWord (proposition_seen p.1).vars)
+Seen o = IfSome o (λ (p : PropKind × Expression). All IsScopedName (proposition_seen p.1).vars)
 
 known_words : (o : Option (PropKind × Expression)) (rigid : List ℕ) (ds : List DeclarationTree) (c : StateTree) → Seen o → HasWordNames c → HasWordNames (known_by o rigid ds c)
 known_words None rigid ds c w h = declarations_words ds c h

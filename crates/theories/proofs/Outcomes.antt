@@ -17,23 +17,23 @@ use Rattle.elab_groups.specs.Groups.{group_signatures}
 use Rattle.elab_inductives.specs.Inductives.{as_members, before_inductives, inductives_seen}
 use Rattle.elab_types.specs.Algebraics.{group_seen, type_entries, constructors_entries, group_trees, group_entries}
 use Rattle.elab_terms.specs.Outcomes.{alias_seen, proposition_seen, rigid_names, IsOutcome}
-use Rattle.written_files.specs.Named.{IsLineWord}
+use Rattle.tasks.specs.Words.{IsScopedName}
 use Rattle.theories.specs.Names.{HaveWords}
 use Rattle.theories.proofs.Words.{joined}
 use Rattle.theories.proofs.Tuples.{HasWord, constructor_words, tuples_words}
 use Rattle.theories.proofs.Written.{ConstructorsNamed, TypesNamed, MembersNamed, IsNamed}
 
 -- ---- type variables
-pub rigid_words : (vs : List Word) → All IsLineWord vs → HaveWords (map rigid_symbol vs)
+pub rigid_words : (vs : List Word) → All IsScopedName vs → HaveWords (map rigid_symbol vs)
 rigid_words [] h = All-nil HasWord
 rigid_words (v ∷ vs) h = All-cons HasWord (rigid_symbol v) (map rigid_symbol vs) (h 0 v (omega arith)) (rigid_words vs (λ k d l. h (suc k) d (omega (arith, l))))
 
-own_names : (k : PropKind) (vs : List Word) → All IsLineWord vs → All IsLineWord (rigid_names k vs)
-own_names kind.Axiom vs h = All-nil IsLineWord
+own_names : (k : PropKind) (vs : List Word) → All IsScopedName vs → All IsScopedName (rigid_names k vs)
+own_names kind.Axiom vs h = All-nil IsScopedName
 own_names kind.Lemma vs h = h
 own_names kind.Goal vs h = h
 
-module _ (theory within : Word) (inner : IsLineWord within) where
+module _ (theory within : Word) (inner : IsScopedName within) where
   -- ---- functions and predicates
   signed_words : (ms : List GroupMember) (gs : List SignatureTree) → MembersNamed ms → HaveWords (signed_entries theory within ms gs)
   signed_words [] gs h = All-nil HasWord
@@ -62,7 +62,7 @@ module _ (theory within : Word) (inner : IsLineWord within) where
       (constructors_words (length a.vars) (own_type y.symbol (length a.vars)) a.constructors y.cons h.0.constructors) (group_words ts ys h.1)
 
 -- ---- all declarations
-module _ (c : Setting) (s : List Tree) (inner : IsLineWord c.within) where
+module _ (c : Setting) (s : List Tree) (inner : IsScopedName c.within) where
   tuples_then : (o : Outcome) (ns : List ℕ) (own : List SymbolTree) → o.symbols ≡ wanting_tuples c.symbols ns ++ own → HaveWords own → HaveWords o.symbols
   tuples_then o ns own q h = rw q (All-append HasWord (wanting_tuples c.symbols ns) own (tuples_words ns c.symbols) h)
 

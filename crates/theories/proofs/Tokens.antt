@@ -1,5 +1,5 @@
--- The tokens of a text have no space and no line feed.
-use Rattle.std.proofs.Common.{◌≡◌, ℕ, ◌<◌, ◌&&◌, ◌||◌, nat_eq, nat_lt, Bool, true, false, if◌then◌else◌, codes, List, [], ◌∷◌, drop, All, Option, Some, None, refl, subst, arith}
+-- The tokens of a text are names, but for integers.
+use Rattle.std.proofs.Common.{◌≡◌, ℕ, ◌<◌, ◌&&◌, ◌||◌, nat_eq, not, Bool, true, false, if◌then◌else◌, codes, List, [], ◌∷◌, drop, All, Option, Some, None, refl, subst, ap, ◌∙◌, arith}
 use Rattle.std.specs.List.{list_all}
 use Rattle.std.proofs.lemmas.Bool.{eqb-true}
 use Rattle.std.proofs.lemmas.Bool.Decides.{nat_tests}
@@ -17,36 +17,50 @@ use Rattle.tokens_why.specs.Strings.{word_kind, run_kind, mark_kind, marks_kind,
 use Rattle.tokens_why.specs.Terminals.{terminal_of}
 use Rattle.tokens_why.specs.Tokens.{text_of, Stop, whole, Reads, AreTokens}
 use Rattle.syntax_why.specs.Lexeme.{Word, said, lexeme, rest}
-use Rattle.written_files.specs.Named.{IsPlainByte, IsLineWord}
+use Rattle.tasks.specs.Words.{IsScopedName}
 use Rattle.theories.specs.Lexemes.{SaysWord, IsWordLexeme, AreWordLexemes}
-use Rattle.theories.proofs.Words.{plain, both, above}
+use Rattle.theories.proofs.Words.{both, joins, negated, all_to, implied, is_number_byte, is_part_byte, empty_name, part}
 
 -- ---- bytes of words and operators
-letter_past : (c : ℕ) → is_letter c ≡ true → 32 < c
-letter_past c e = grind (arith, nat_tests)
+letter_low : (c : ℕ) → is_letter c ≡ true → c < 128
+letter_low c e = grind (arith, nat_tests)
 
-word_past : (c : ℕ) → is_word_byte c ≡ true → 32 < c
-word_past c e = grind (arith, nat_tests)
+word_low : (c : ℕ) → is_word_byte c ≡ true → c < 128
+word_low c e = grind (arith, nat_tests)
 
-one_past : (cs : List ℕ) (c : ℕ) → list_all (λ x. nat_lt 32 x) cs ≡ true → is_one_of cs c ≡ true → 32 < c
-one_past [] c h e = absurd (cc)
-one_past (x ∷ xs) c h e =
-    let b = both (nat_lt 32 x) (list_all (λ y. nat_lt 32 y) xs) h in
-    at (nat_eq c x) refl e (above x b.0) (λ d. one_past xs c b.1 d)
+lower_low : (c : ℕ) → is_lower c ≡ true → c < 128
+lower_low c e = grind (arith, nat_tests)
+
+letter_part : (c : ℕ) → is_letter c ≡ true → is_part_byte c ≡ true
+letter_part c e = implied is_letter is_part_byte refl c (letter_low c e) e
+
+letter_no_number : (c : ℕ) → is_letter c ≡ true → is_number_byte c ≡ false
+letter_no_number c e = negated (is_number_byte c) (implied is_letter (λ x. not (is_number_byte x)) refl c (letter_low c e) e)
+
+word_part : (c : ℕ) → is_word_byte c ≡ true → is_part_byte c ≡ true
+word_part c e = implied is_word_byte is_part_byte refl c (word_low c e) e
+
+lower_part : (c : ℕ) → is_lower c ≡ true → is_part_byte c ≡ true
+lower_part c e = implied is_lower is_part_byte refl c (lower_low c e) e
+
+one_of : (q : ℕ → Bool) (cs : List ℕ) (c : ℕ) → list_all q cs ≡ true → is_one_of cs c ≡ true → q c ≡ true
+one_of q [] c h e = absurd (cc)
+one_of q (x ∷ xs) c h e =
+    let b = both (q x) (list_all q xs) h in
+    at (nat_eq c x) refl e b.0 (λ d. one_of q xs c b.1 d)
   where
-    at : (b : Bool) → nat_eq c x ≡ b → (b || is_one_of xs c) ≡ true → 32 < x → (is_one_of xs c ≡ true → 32 < c) → 32 < c
-    at true q e h more = let i = eqb-true c x q in omega (arith, i, h)
-    at false q e h more = more e
+    at : (b : Bool) → nat_eq c x ≡ b → (b || is_one_of xs c) ≡ true → q x ≡ true → (is_one_of xs c ≡ true → q c ≡ true) → q c ≡ true
+    at true i e h more = ap q (eqb-true c x i) ∙ h
+    at false i e h more = more e
 
-operator_past : (c : ℕ) → is_operator_byte c ≡ true → 32 < c
-operator_past c e = one_past (codes "!$&?@^#=<>~+-*/\\%") c refl e
+operator_part : (c : ℕ) → is_operator_byte c ≡ true → is_part_byte c ≡ true
+operator_part c e = one_of is_part_byte (codes "!$&?@^#=<>~+-*/\\%") c refl e
 
-all_plain : (p : ℕ → Bool) → ((c : ℕ) → p c ≡ true → 32 < c) → (w : Word) → list_all p w ≡ true → IsLineWord w
-all_plain p h [] e = All-nil IsPlainByte
-all_plain p h (c ∷ cs) e = let b = both (p c) (list_all p cs) e in All-cons IsPlainByte c cs (plain c (h c b.0)) (all_plain p h cs b.1)
+operator_no_number : (c : ℕ) → is_operator_byte c ≡ true → is_number_byte c ≡ false
+operator_no_number c e = negated (is_number_byte c) (one_of (λ x. not (is_number_byte x)) (codes "!$&?@^#=<>~+-*/\\%") c refl e)
 
 -- ---- what a terminal says of a word
-said_word : (x : Terminal) (w : Word) → IsLineWord w → SaysWord x (said x w)
+said_word : (x : Terminal) (w : Word) → IsScopedName w → SaysWord x (said x w)
 said_word t.Lident w h = h
 said_word t.Uident w h = h
 said_word t.TyVar w h = h
@@ -56,7 +70,7 @@ said_word t.Operator2 w h = h
 said_word t.Operator3 w h = h
 said_word t.Operator4 w h = h
 said_word t.PrefixOperator w h = h
-said_word _ w h = All-nil IsPlainByte
+said_word _ w h = empty_name
 
 abbrev SaysIn : Option TokenKind → Type 0
 SaysIn None = Unit {0}
@@ -68,7 +82,7 @@ either false x y p q = q
 
 mark_says : (b : ℕ) → SaysIn (mark_kind b)
 mark_says b =
-    let no = All-nil IsPlainByte in
+    let no = empty_name in
     either (nat_eq b 40) (Some k.LParen) _ (λ w. no) (either (nat_eq b 41) (Some k.RParen) _ (λ w. no) (either (nat_eq b 91) (Some k.LBrack) _ (λ w. no) (either (nat_eq b 93) (Some k.RBrack) _ (λ w. no)
     (either (nat_eq b 123) (Some k.LBrace) _ (λ w. no) (either (nat_eq b 125) (Some k.RBrace) _ (λ w. no) (either (nat_eq b 44) (Some k.Comma) _ (λ w. no) (either (nat_eq b 46) (Some k.Dot) _ (λ w. no)
     (either (nat_eq b 58) (Some k.Colon) _ (λ w. no) (either (nat_eq b 59) (Some k.Semi) _ (λ w. no) (either (nat_eq b 124) (Some k.Bar) None (λ w. no) tt))))))))))
@@ -76,8 +90,8 @@ mark_says b =
 marks_says : (bs : List ℕ) → SaysIn (marks_kind bs)
 marks_says [] = tt
 marks_says (a ∷ []) = mark_says a
-marks_says (a ∷ b ∷ []) = either (nat_eq a 124 && nat_eq b 124) (Some k.OrOr) None (λ w. All-nil IsPlainByte) tt
-marks_says (a ∷ b ∷ c ∷ []) = either ((nat_eq a 40 && nat_eq b 42) && nat_eq c 41) (Some k.StarName) None (λ w. All-nil IsPlainByte) tt
+marks_says (a ∷ b ∷ []) = either (nat_eq a 124 && nat_eq b 124) (Some k.OrOr) None (λ w. empty_name) tt
+marks_says (a ∷ b ∷ c ∷ []) = either ((nat_eq a 40 && nat_eq b 42) && nat_eq c 41) (Some k.StarName) None (λ w. empty_name) tt
 marks_says (a ∷ b ∷ c ∷ d ∷ bs) = tt
 
 some_says : (o : Option TokenKind) (x : TokenKind) → o ≡ Some x → SaysIn o → (w : Word) → SaysWord (terminal_of x) (said (terminal_of x) w)
@@ -116,27 +130,24 @@ lead_sign false false true e q = absurd (cc)
 lead_sign false false false true q = refl
 lead_sign false false false false q = absurd (cc)
 
-variable_word : (bs : List ℕ) → is_variable_name bs ≡ true → IsLineWord bs
-variable_word [] q = All-nil IsPlainByte
-variable_word (a ∷ bs) q =
+variable_part : (bs : List ℕ) → is_variable_name bs ≡ true → list_all is_part_byte bs ≡ true
+variable_part [] q = refl
+variable_part (a ∷ bs) q =
     let m = both (is_lower a && list_all is_word_byte bs) _ q in
     let n = both (is_lower a) (list_all is_word_byte bs) m.0 in
-    All-cons IsPlainByte a bs (plain a (lower_past a n.0)) (all_plain is_word_byte word_past bs n.1)
-  where
-    lower_past : (c : ℕ) → is_lower c ≡ true → 32 < c
-    lower_past c e = grind (arith, nat_tests)
+    joins (is_part_byte a) (list_all is_part_byte bs) (lower_part a n.0) (all_to is_word_byte is_part_byte word_part bs n.1)
 
 lead_says : (l : Lead) (a : ℕ) (bs : List ℕ) (x : TokenKind) → lead_of a ≡ l → string_kind_by l a bs ≡ Some x → SaysWord (terminal_of x) (said (terminal_of x) (a ∷ bs))
 lead_says Letter a bs x l q =
-    let past = letter_past a (lead_letter (is_letter a) (nat_eq a 39) (is_digit a) (is_operator_byte a) l) in
-    said_word (terminal_of x) (a ∷ bs) (All-cons IsPlainByte a bs (plain a past) (all_plain is_word_byte word_past bs (only_true (list_all is_word_byte bs) (word_kind (a ∷ bs)) x q)))
+    let first = lead_letter (is_letter a) (nat_eq a 39) (is_digit a) (is_operator_byte a) l in
+    said_word (terminal_of x) (a ∷ bs) (part a bs (letter_no_number a first) (letter_part a first) (all_to is_word_byte is_part_byte word_part bs (only_true (list_all is_word_byte bs) (word_kind (a ∷ bs)) x q)))
 lead_says Quote a bs x l q =
     let i = eqb-true a 39 (lead_quote (is_letter a) (nat_eq a 39) (is_digit a) (is_operator_byte a) l) in
-    said_word (terminal_of x) (a ∷ bs) (All-cons IsPlainByte a bs (plain a (omega (arith, i))) (variable_word bs (only_true (is_variable_name bs) k.TyVar x q)))
+    said_word (terminal_of x) (a ∷ bs) (part a bs (ap is_number_byte i) (ap is_part_byte i) (variable_part bs (only_true (is_variable_name bs) k.TyVar x q)))
 lead_says Digit a bs x l q = subst (λ (y : TokenKind). SaysWord (terminal_of y) (said (terminal_of y) (a ∷ bs))) (only_kind (is_literal (a ∷ bs)) k.Int x q) tt
 lead_says Sign a bs x l q =
-    let past = operator_past a (lead_sign (is_letter a) (nat_eq a 39) (is_digit a) (is_operator_byte a) l) in
-    said_word (terminal_of x) (a ∷ bs) (All-cons IsPlainByte a bs (plain a past) (all_plain is_operator_byte operator_past bs (only_true (list_all is_operator_byte bs) (run_kind (a ∷ bs)) x q)))
+    let first = lead_sign (is_letter a) (nat_eq a 39) (is_digit a) (is_operator_byte a) l in
+    said_word (terminal_of x) (a ∷ bs) (part a bs (operator_no_number a first) (operator_part a first) (all_to is_operator_byte is_part_byte operator_part bs (only_true (list_all is_operator_byte bs) (run_kind (a ∷ bs)) x q)))
 lead_says Mark a bs x l q = some_says (marks_kind (a ∷ bs)) x q (marks_says (a ∷ bs)) (a ∷ bs)
 
 kind_says : (w : Word) (x : TokenKind) → kind_of w ≡ Some x → SaysWord (terminal_of x) (said (terminal_of x) w)

@@ -1,6 +1,7 @@
 -- The entries of constructors and of tuples have words as names.
-use Rattle.std.proofs.Common.{ℕ, suc, zero, codes, List, [], ◌∷◌, ◌++◌, length, Option, Some, None, refl, arith}
+use Rattle.std.proofs.Common.{ℕ, suc, zero, codes, List, [], ◌∷◌, ◌++◌, length, Option, Some, None, refl, sym, subst, arith}
 use Rattle.std.specs.Fmt.{decimal}
+use Rattle.std.proofs.lemmas.List.{append_assoc}
 use Rattle.std.proofs.lemmas.List.Elements.{All-nil, All-cons, All-append}
 use Rattle.trees.specs.Tree.{Tree}
 use Rattle.tasks.specs.declared.signature.SymbolKind.TheVariants.{Constructor, Projection}
@@ -9,31 +10,31 @@ use Rattle.tasks.specs.Equations.{type_variables}
 use Rattle.tasks.specs.Valid.{own_type}
 use Rattle.syntax_why.specs.Lexeme.{Word}
 use Rattle.elab_parts.specs.Entries.{builtin, type_entry, projection_name, projections, constructor_entries, tuple_entries, tuple_in, wanting_tuple, wanting_tuples}
-use Rattle.written_files.specs.Named.{IsLineWord}
+use Rattle.tasks.specs.Words.{IsScopedName}
 use Rattle.theories.specs.Names.{HaveWords}
-use Rattle.theories.proofs.Words.{past_space, joined, decimal_word}
+use Rattle.theories.proofs.Words.{written_name, joined, number_after, numbered}
 
 abbrev pub HasWord : SymbolTree → Type 0
-HasWord e = IsLineWord e.name
+HasWord e = IsScopedName e.name
 
-projection_word : (constructor : Word) (i : ℕ) → IsLineWord constructor → IsLineWord (projection_name constructor i)
-projection_word constructor i h = joined (constructor ++ codes "'") (decimal i) (joined constructor (codes "'") h (past_space (codes "'") refl)) (decimal_word i)
+projection_word : (constructor : Word) (i : ℕ) → IsScopedName constructor → IsScopedName (projection_name constructor i)
+projection_word constructor i h = subst IsScopedName (sym (append_assoc constructor (codes "'") (decimal i))) (joined constructor (codes "'" ++ decimal i) h (numbered (codes "'") i refl (number_after 39 i refl)))
 
-projections_words : (theory constructor : Word) (vars : ℕ) (type : Tree) (i : ℕ) (fs : List Tree) → IsLineWord constructor → HaveWords (projections theory constructor vars type i fs)
+projections_words : (theory constructor : Word) (vars : ℕ) (type : Tree) (i : ℕ) (fs : List Tree) → IsScopedName constructor → HaveWords (projections theory constructor vars type i fs)
 projections_words theory constructor vars type i [] h = All-nil HasWord
 projections_words theory constructor vars type i (f ∷ fs) h =
     All-cons HasWord (record { theory = theory; name = projection_name constructor i; kind = Projection; vars = vars; args = type ∷ []; result = Some f }) (projections theory constructor vars type (suc i) fs)
     (projection_word constructor i h) (projections_words theory constructor vars type (suc i) fs h)
 
-pub constructor_words : (theory name : Word) (vars : ℕ) (type : Tree) (fields : List Tree) → IsLineWord name → HaveWords (constructor_entries theory name vars type fields)
+pub constructor_words : (theory name : Word) (vars : ℕ) (type : Tree) (fields : List Tree) → IsScopedName name → HaveWords (constructor_entries theory name vars type fields)
 constructor_words theory name vars type fields h =
     All-cons HasWord (record { theory = theory; name = name; kind = Constructor; vars = vars; args = fields; result = Some type }) (projections theory name vars type 1 fields) h (projections_words theory name vars type 1 fields h)
 
 tuple_words : (k n : ℕ) → HaveWords (tuple_entries k n)
 tuple_words k n =
     All-cons HasWord (type_entry builtin (codes "tuple" ++ decimal n) n) (constructor_entries builtin (codes "Tuple" ++ decimal n) n (own_type k n) (type_variables 0 n))
-    (joined (codes "tuple") (decimal n) (past_space (codes "tuple") refl) (decimal_word n))
-    (constructor_words builtin (codes "Tuple" ++ decimal n) n (own_type k n) (type_variables 0 n) (joined (codes "Tuple") (decimal n) (past_space (codes "Tuple") refl) (decimal_word n)))
+    (numbered (codes "tuple") n refl (number_after 101 n refl))
+    (constructor_words builtin (codes "Tuple" ++ decimal n) n (own_type k n) (type_variables 0 n) (numbered (codes "Tuple") n refl (number_after 101 n refl)))
 
 wanting_words : (symbols : List SymbolTree) (n : ℕ) (o : Option ℕ) → HaveWords (wanting_tuple symbols n o)
 wanting_words symbols n None = tuple_words (length symbols) n
@@ -46,7 +47,7 @@ tuples_words (n ∷ ns) symbols =
     All-append HasWord more (wanting_tuples (symbols ++ more) ns) (wanting_words symbols n (tuple_in symbols n)) (tuples_words ns (symbols ++ more))
 
 -- an entry of a signature, or `int`
-pub symbol_word : (symbols : List SymbolTree) (k : ℕ) → HaveWords symbols → IsLineWord (symbol_or symbols k).name
-symbol_word [] k h = past_space (codes "int") refl
+pub symbol_word : (symbols : List SymbolTree) (k : ℕ) → HaveWords symbols → IsScopedName (symbol_or symbols k).name
+symbol_word [] k h = written_name (codes "int") refl
 symbol_word (e ∷ es) zero h = h 0 e (omega arith)
 symbol_word (e ∷ es) (suc k) h = symbol_word es k (λ j d l. h (suc j) d (omega (arith, l)))

@@ -11,10 +11,10 @@ use Rattle.syntax_why.specs.Declarations.{SyntaxDeclaration, SyntaxDeclarations,
 use Rattle.theory_states.specs.States.{StateTree}
 use Rattle.theory_states.specs.Uses.{last_part, alias_text, IsTheoryUsed}
 use Rattle.theories.specs.Typing.{IsPassed, IsOpened, IsDeclarationTyped, AreDeclarationsTyped}
-use Rattle.written_files.specs.Named.{IsLineWord}
+use Rattle.tasks.specs.Words.{IsScopedName}
 use Rattle.theories.specs.Lexemes.{IsWordLexeme, AreWordLexemes}
 use Rattle.theories.specs.Names.{HasWordNames}
-use Rattle.theories.proofs.Words.{past_space, joined}
+use Rattle.theories.proofs.Words.{written_name, joined}
 use Rattle.valid_tasks.proofs.Variables.{tail_of, front_of, back_of}
 use Rattle.theories.proofs.Declared.{declared_words}
 use Rattle.theories.proofs.WordCloned.{cloned_words}
@@ -32,20 +32,20 @@ back_at : (xs ys : List Lexeme) → Are (xs ++ ys) → Are ys
 back_at = back_of IsWordLexeme
 
 -- ---- a path, and a name after `as`
-parts_words : (w : Word) (ws : List Word) → Are (path_from w ws) → All IsLineWord (w ∷ ws)
-parts_words w [] q = All-cons IsLineWord w [] (q 0 (lx t.Uident w) (omega arith)) (All-nil IsLineWord)
-parts_words w (v ∷ ws) q = All-cons IsLineWord w (v ∷ ws) (q 0 (lx t.Lident w) (omega arith)) (parts_words v ws (tail_at (mark t.Dot) (path_from v ws) (tail_at (lx t.Lident w) (mark t.Dot ∷ path_from v ws) q)))
+parts_words : (w : Word) (ws : List Word) → Are (path_from w ws) → All IsScopedName (w ∷ ws)
+parts_words w [] q = All-cons IsScopedName w [] (q 0 (lx t.Uident w) (omega arith)) (All-nil IsScopedName)
+parts_words w (v ∷ ws) q = All-cons IsScopedName w (v ∷ ws) (q 0 (lx t.Lident w) (omega arith)) (parts_words v ws (tail_at (mark t.Dot) (path_from v ws) (tail_at (lx t.Lident w) (mark t.Dot ∷ path_from v ws) q)))
 
-part_word : (ps : List Word) (k : ℕ) → All IsLineWord ps → IsLineWord (unwrap_or (slice_get ps k) [])
-part_word [] k h = past_space [] refl
+part_word : (ps : List Word) (k : ℕ) → All IsScopedName ps → IsScopedName (unwrap_or (slice_get ps k) [])
+part_word [] k h = written_name [] refl
 part_word (p ∷ ps) zero h = h 0 p (omega arith)
 part_word (p ∷ ps) (suc k) h = part_word ps k (λ j d l. h (suc j) d (omega (arith, l)))
 
-last_word : (ps : List Word) → Are (write_path ps) → IsLineWord (last_part ps)
-last_word [] q = past_space [] refl
+last_word : (ps : List Word) → Are (write_path ps) → IsScopedName (last_part ps)
+last_word [] q = written_name [] refl
 last_word (p ∷ ps) q = part_word (p ∷ ps) (length (p ∷ ps) - 1) (parts_words p ps q)
 
-alias_word : (n : Option Name) → Are (renamed n) → IfSome (alias_text n) IsLineWord
+alias_word : (n : Option Name) → Are (renamed n) → IfSome (alias_text n) IsScopedName
 alias_word None q = tt
 alias_word (Some n) q = q 1 (lx t.Uident n.text) (omega arith)
 
@@ -56,10 +56,10 @@ passed_words c c' e h = subst HasWordNames (sym e) (record { symbols = h.symbols
 used_words : (l : Link) (p : Path) (n : Option Name) (c c' : StateTree) → IsTheoryUsed l p n c c' → HasWordNames c → HasWordNames c'
 used_words l p n c c' u h = subst HasWordNames (sym u.is) (record { symbols = h.symbols; within = h.within; axioms = h.axioms; known = h.known })
 
-opened_words : (n : Name) (c c' : StateTree) → IsLineWord n.text → IsOpened n c c' → HasWordNames c → HasWordNames c'
+opened_words : (n : Name) (c c' : StateTree) → IsScopedName n.text → IsOpened n c c' → HasWordNames c → HasWordNames c'
 opened_words n c c' w o h = subst HasWordNames (sym o.is) (record {
   symbols = h.symbols;
-  within = joined c.opened.within (n.text ++ codes ".") h.within (joined n.text (codes ".") w (past_space (codes ".") refl));
+  within = joined c.opened.within (n.text ++ codes ".") h.within (joined n.text (codes ".") w (written_name (codes ".") refl));
   axioms = h.axioms;
   known = h.known;
 })

@@ -28,9 +28,9 @@ use Rattle.clone_copies.specs.Origins.{Axioms, no_axioms, with_axioms, origin_of
 use Rattle.clone_copies.specs.Entries.{entries_copied}
 use Rattle.clone_copies.specs.Places.{Copying, goal_with, with_copied_goal, with_kind, with_copy, copy_of, with_joined, with_own, with_place, with_places}
 use Rattle.clone_theories.specs.Cloned.{symbols_tupled, sides_in, map_in, within_of, copying_in, with_copied_entries, IsCloned}
-use Rattle.written_files.specs.Named.{IsLineWord}
+use Rattle.tasks.specs.Words.{IsScopedName}
 use Rattle.theories.specs.Names.{HaveWords, HaveWordVariables, HasWordNames}
-use Rattle.theories.proofs.Words.{past_space, joined}
+use Rattle.theories.proofs.Words.{written_name, joined}
 use Rattle.theories.proofs.Tuples.{HasWord, tuples_words, symbol_word}
 use Rattle.theories.proofs.Outcomes.{rigid_words}
 use Rattle.theories.proofs.Declared.{HasWordVariables}
@@ -46,12 +46,12 @@ found_has P test (y ∷ ys) x a e = found_by P (test y) y x (find test ys) (All-
 
 -- the type variables of axioms by their places
 abbrev Told : Axioms → Type 0
-Told f = (k : ℕ) → IfSome (f k) (All IsLineWord)
+Told f = (k : ℕ) → IfSome (f k) (All IsScopedName)
 
 told_more : (a : AxiomAt) (f : Axioms) → HasWordVariables a → Told f → Told (λ q. if a.decl == q then Some a.vars else f q)
 told_more a f w h k = at (a.decl == k) (h k)
   where
-    at : (b : Bool) → IfSome (f k) (All IsLineWord) → IfSome (if b then Some a.vars else f k) (All IsLineWord)
+    at : (b : Bool) → IfSome (f k) (All IsScopedName) → IfSome (if b then Some a.vars else f k) (All IsScopedName)
     at true m = w
     at false m = m
 
@@ -70,13 +70,13 @@ rights_words : (es : List Element) (symbols : List SymbolTree) → HaveWords (ri
 rights_words [] symbols = All-nil HasWord
 rights_words (e ∷ es) symbols = All-append HasWord (right_tuples symbols e) (rights_tuples (symbols ++ right_tuples symbols e) es) (right_words symbols e) (rights_words es (symbols ++ right_tuples symbols e))
 
-copies_words : (symbols : List SymbolTree) (m : Map) (theory within : Word) (ks : List ℕ) → IsLineWord within → HaveWords symbols → HaveWords (entries_copied symbols m theory within ks)
+copies_words : (symbols : List SymbolTree) (m : Map) (theory within : Word) (ks : List ℕ) → IsScopedName within → HaveWords symbols → HaveWords (entries_copied symbols m theory within ks)
 copies_words symbols m theory within [] w h = All-nil HasWord
 copies_words symbols m theory within (k ∷ ks) w h =
     All-cons HasWord (entry_copied m theory within (symbol_or symbols k)) (entries_copied symbols m theory within ks)
     (joined within (symbol_or symbols k).name w (symbol_word symbols k h)) (copies_words symbols m theory within ks w h)
 
-entries_words : (c : StateTree) (t : KnownTree) (es : List Element) (within : Word) → IsLineWord within → HasWordNames c → HasWordNames (with_copied_entries c t es within)
+entries_words : (c : StateTree) (t : KnownTree) (es : List Element) (within : Word) → IsScopedName within → HasWordNames c → HasWordNames (with_copied_entries c t es within)
 entries_words c t es within w h =
     let tupled = symbols_tupled c es in
     let all = All-append HasWord c.symbols (rights_tuples c.symbols es) h.symbols (rights_words es c.symbols) in
@@ -92,7 +92,7 @@ entries_words c t es within w h =
 visible_words : (d : DeclarationTree) (c : StateTree) → HasWordNames c → HasWordNames (with_declaration d c)
 visible_words d c h = record { symbols = h.symbols; within = h.within; axioms = h.axioms; known = h.known }
 
-goal_words : (vars : List Word) (name : Word) (b : BodyTree) (c : StateTree) → All IsLineWord vars → HasWordNames c → HasWordNames (goal_with vars name b c)
+goal_words : (vars : List Word) (name : Word) (b : BodyTree) (c : StateTree) → All IsScopedName vars → HasWordNames c → HasWordNames (goal_with vars name b c)
 goal_words vars name (Says e) c w h = record { symbols = All-append HasWord c.symbols (map rigid_symbol vars) h.symbols (rigid_words vars w); within = h.within; axioms = h.axioms; known = h.known }
 goal_words vars name (MakesType k) c w h = h
 goal_words vars name (Makes k) c w h = h
@@ -100,7 +100,7 @@ goal_words vars name (Defines ds) c w h = h
 goal_words vars name (Induces ds) c w h = h
 goal_words vars name (Constructs ds) c w h = h
 
-kind_words : (k : PropKind) (vars : List Word) (d : DeclarationTree) (c : StateTree) → All IsLineWord vars → HasWordNames c → HasWordNames (with_kind k vars d c)
+kind_words : (k : PropKind) (vars : List Word) (d : DeclarationTree) (c : StateTree) → All IsScopedName vars → HasWordNames c → HasWordNames (with_kind k vars d c)
 kind_words kind.Axiom vars d c w h = record {
   symbols = h.symbols;
   within = h.within;
@@ -111,7 +111,7 @@ kind_words kind.Lemma vars d c w h = visible_words d (with_copied_goal vars d c)
 kind_words kind.Goal vars d c w h = goal_words vars d.name d.body c w h
 
 module _ (x : Copying) (told : Told x.axioms) where
-  copy_words : (k : ℕ) (o : Option (List Word)) (d : DeclarationTree) (c : StateTree) → IfSome o (All IsLineWord) → HasWordNames c → HasWordNames (with_copy x k o d c)
+  copy_words : (k : ℕ) (o : Option (List Word)) (d : DeclarationTree) (c : StateTree) → IfSome o (All IsScopedName) → HasWordNames c → HasWordNames (with_copy x k o d c)
   copy_words k None d c w h = visible_words d c h
   copy_words k (Some vars) d c w h = kind_words (kind_or (x.fates k) x.all) vars d c w h
 
@@ -128,16 +128,16 @@ module _ (x : Copying) (told : Told x.axioms) where
   places_words (k ∷ ks) c h = places_words ks (with_place x k c) (place_words k (is_own c.decls x.path k) c h)
 
 -- ---- the clone
-scope_word : (last : Word) (alias : Option Word) (within : Word) → IsLineWord last → IfSome alias IsLineWord → IsLineWord within → IsLineWord (within ++ (name_or last alias ++ codes "."))
-scope_word last None within w a h = joined within (last ++ codes ".") h (joined last (codes ".") w (past_space (codes ".") refl))
-scope_word last (Some n) within w a h = joined within (n ++ codes ".") h (joined n (codes ".") a (past_space (codes ".") refl))
+scope_word : (last : Word) (alias : Option Word) (within : Word) → IsScopedName last → IfSome alias IsScopedName → IsScopedName within → IsScopedName (within ++ (name_or last alias ++ codes "."))
+scope_word last None within w a h = joined within (last ++ codes ".") h (joined last (codes ".") w (written_name (codes ".") refl))
+scope_word last (Some n) within w a h = joined within (n ++ codes ".") h (joined n (codes ".") a (written_name (codes ".") refl))
 
-within_word : (l : Link) (last : Word) (alias : Option Word) (within : Word) → IsLineWord last → IfSome alias IsLineWord → IsLineWord within → IsLineWord (within_of l last alias within)
+within_word : (l : Link) (last : Word) (alias : Option Word) (within : Word) → IsScopedName last → IfSome alias IsScopedName → IsScopedName within → IsScopedName (within_of l last alias within)
 within_word link.Export last alias within w a h = h
 within_word link.Import last alias within w a h = scope_word last alias within w a h
 within_word link.Bare last alias within w a h = scope_word last alias within w a h
 
-pub cloned_words : (l : Link) (p : Path) (alias : Option Name) (es : List Element) (c c' : StateTree) → IsLineWord (last_part p.parts) → IfSome (alias_text alias) IsLineWord → IsCloned l p alias es c c' → HasWordNames c → HasWordNames c'
+pub cloned_words : (l : Link) (p : Path) (alias : Option Name) (es : List Element) (c c' : StateTree) → IsScopedName (last_part p.parts) → IfSome (alias_text alias) IsScopedName → IsCloned l p alias es c c' → HasWordNames c → HasWordNames c'
 cloned_words l p alias es c c' last other e h =
     let within = within_of l (last_part p.parts) (alias_text alias) c.opened.within in
     let inner = within_word l (last_part p.parts) (alias_text alias) c.opened.within last other h.within in

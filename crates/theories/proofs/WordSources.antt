@@ -1,11 +1,11 @@
--- Names are words in the task of a goal of a source.
+-- The names of symbols in the task of a goal of a source.
 use Rattle.std.proofs.Common.{◌≡◌, ℕ, ◌+◌, codes, List, [], ◌∷◌, ◌++◌, Option, Some, None, IsSomeAnd, refl, sym, subst, ap}
-use Rattle.std.proofs.lemmas.List.Elements.{All-nil, All-cons, All-push}
+use Rattle.std.proofs.lemmas.List.Elements.{All-nil, All-cons, All-push, All-weaker}
 use Rattle.trees.specs.Tree.{Tree}
 use Rattle.tokens_why.specs.declared.token.Token.{Token}
 use Rattle.tokens_why.specs.declared.terminal.Terminal.TheVariants as t
 use Rattle.tokens_why.specs.Tokens.{AreTokens}
-use Rattle.tasks.specs.Task.{TaskTree, int_symbol}
+use Rattle.tasks.specs.Task.{SymbolTree, TaskTree, int_symbol}
 use Rattle.syntax_why.specs.Lexeme.{Lexeme, mark, lx, rest}
 use Rattle.syntax_why.specs.Declarations.{SyntaxDeclarations, SyntaxTheory, heading, write_decls, write_theory, write_file}
 use Rattle.syntax_why.specs.declared.declarations.File.{File}
@@ -17,10 +17,10 @@ use Rattle.goal_tasks.specs.Tasks.{task_for, IsTaskOf}
 use Rattle.theory_states.specs.States.{KnownTree, StateTree, known_as, opened_empty}
 use Rattle.theories.specs.Typing.{AreDeclarationsTyped}
 use Rattle.theories.specs.Files.{IsNewTheory, AreTypedIn, AreEmbeddedIn, AreEmbeddedBy, nothing_known, TheoriesOf}
-use Rattle.written_files.specs.Named.{NamesAreWords}
+use Rattle.tasks.specs.Words.{IsLineWord, NamesAreWords, NamesAreScoped}
 use Rattle.theories.specs.Lexemes.{IsWordLexeme, AreWordLexemes}
 use Rattle.theories.specs.Names.{HaveWords, HaveWordVariables, HasWordNames}
-use Rattle.theories.proofs.Words.{past_space}
+use Rattle.theories.proofs.Words.{written_name, line_word}
 use Rattle.theories.proofs.Tokens.{tokens_words}
 use Rattle.valid_tasks.proofs.Variables.{tail_of, front_of, back_of}
 use Rattle.theories.proofs.Tuples.{HasWord}
@@ -35,10 +35,10 @@ HasAxiomWords k = HaveWordVariables k.axioms
 
 -- ---- a theory
 begun_words : (c : StateTree) (path : List ℕ) (n : ℕ) → HasWordNames c → HasWordNames (record c { opened = opened_empty path; number = n })
-begun_words c path n h = record { symbols = h.symbols; within = past_space [] refl; axioms = All-nil HasWordVariables; known = h.known }
+begun_words c path n h = record { symbols = h.symbols; within = written_name [] refl; axioms = All-nil HasWordVariables; known = h.known }
 
 ended_words : (c : StateTree) → HasWordNames c → HasWordNames (record c { known = c.known ++ known_as c.opened ∷ []; opened = opened_empty [] })
-ended_words c h = record { symbols = h.symbols; within = past_space [] refl; axioms = All-nil HasWordVariables; known = All-push HasAxiomWords c.known (known_as c.opened) h.known h.axioms }
+ended_words c h = record { symbols = h.symbols; within = written_name [] refl; axioms = All-nil HasWordVariables; known = All-push HasAxiomWords c.known (known_as c.opened) h.known h.axioms }
 
 theory_words : (path : List ℕ) (ds : SyntaxDeclarations) (c c' : StateTree) → Are (write_decls ds) → IsNewTheory path ds c c' → HasWordNames c → HasWordNames c'
 theory_words path ds c c' q s h =
@@ -80,7 +80,7 @@ library_words (e ∷ es) (f ∷ fs) c c' a s h =
     library_words es fs s.between c' a.2 s.second (embedded_words f.0 (file_of f.1) c s.between q s.first h)
 
 nothing_words : (s : List Tree) → HasWordNames (nothing_known s)
-nothing_words s = record { symbols = All-cons HasWord int_symbol [] (past_space (codes "int") refl) (All-nil HasWord); within = past_space [] refl; axioms = All-nil HasWordVariables; known = All-nil HasAxiomWords }
+nothing_words s = record { symbols = All-cons HasWord int_symbol [] (written_name (codes "int") refl) (All-nil HasWord); within = written_name [] refl; axioms = All-nil HasWordVariables; known = All-nil HasAxiomWords }
 
 theories_words : (text : List ℕ) (ts : List Token) (file : List SyntaxTheory) (s : List Tree) (all : TheoriesTree) → AreTokens text ts → IsOnlyFile (rest text ts 0) file → TheoriesOf s file all → HaveWords all.symbols
 theories_words text ts file s all h only of =
@@ -89,13 +89,16 @@ theories_words text ts file s all h only of =
     subst HaveWords (sym (ap (λ (x : TheoriesTree). x.symbols) of.are)) after.symbols
 
 -- ---- the task of a goal
-goal_words : (all : TheoriesTree) (th : KnownTheoryTree) (o : Option GoalTree) (task : TaskTree) → IsSomeAnd o (λ g. task ≡ task_for all th g) → HaveWords all.symbols → NamesAreWords task
+goal_words : (all : TheoriesTree) (th : KnownTheoryTree) (o : Option GoalTree) (task : TaskTree) → IsSomeAnd o (λ g. task ≡ task_for all th g) → HaveWords all.symbols → NamesAreScoped task
 goal_words all th None task e h = absurd e
-goal_words all th (Some g) task e h = subst NamesAreWords (sym e) h
+goal_words all th (Some g) task e h = subst NamesAreScoped (sym e) h
 
-task_words : (all : TheoriesTree) (o : Option KnownTheoryTree) (goal : List ℕ) (task : TaskTree) → IsSomeAnd o (λ th. IsSomeAnd (goal_named th goal) (λ g. task ≡ task_for all th g)) → HaveWords all.symbols → NamesAreWords task
+task_words : (all : TheoriesTree) (o : Option KnownTheoryTree) (goal : List ℕ) (task : TaskTree) → IsSomeAnd o (λ th. IsSomeAnd (goal_named th goal) (λ g. task ≡ task_for all th g)) → HaveWords all.symbols → NamesAreScoped task
 task_words all None goal task e h = absurd e
 task_words all (Some th) goal task e h = goal_words all th (goal_named th goal) task e h
 
+pub names_scoped : (text : List ℕ) (ts : List Token) (file : List SyntaxTheory) (s : List Tree) (all : TheoriesTree) (theory goal : List ℕ) (task : TaskTree) → AreTokens text ts → IsOnlyFile (rest text ts 0) file → TheoriesOf s file all → IsTaskOf all theory goal task → NamesAreScoped task
+names_scoped text ts file s all theory goal task h only of is = task_words all (theory_named all theory) goal task is (theories_words text ts file s all h only of)
+
 pub names_words : (text : List ℕ) (ts : List Token) (file : List SyntaxTheory) (s : List Tree) (all : TheoriesTree) (theory goal : List ℕ) (task : TaskTree) → AreTokens text ts → IsOnlyFile (rest text ts 0) file → TheoriesOf s file all → IsTaskOf all theory goal task → NamesAreWords task
-names_words text ts file s all theory goal task h only of is = task_words all (theory_named all theory) goal task is (theories_words text ts file s all h only of)
+names_words text ts file s all theory goal task h only of is = All-weaker HasWord (λ (e : SymbolTree). IsLineWord e.name) (λ e w. line_word e.name w) task.symbols (names_scoped text ts file s all theory goal task h only of is)

@@ -6,42 +6,42 @@ use Rattle.std.proofs.lemmas.List.Elements.{All-weaker}
 use Rattle.tokens_why.specs.declared.terminal.Terminal.{Terminal}
 use Rattle.tokens_why.specs.declared.terminal.Terminal.TheVariants as t
 use Rattle.syntax_why.specs.Lexeme.{Word, Lexeme, mark, lx}
-use Rattle.syntax_why.specs.Forms.{Own, lower, upper, infix_op, prefix_op, star, scoped, write_own, write_called, write_form, form_row}
+use Rattle.syntax_why.specs.Forms.{Own, lower, upper, infix_op, prefix_op, star, scoped, write_own, write_called, write_form}
 use Rattle.syntax_why.specs.Forms as surface
 use Rattle.syntax_why.specs.Trees.{SyntaxTree, write, bar_before, type_part}
-use Rattle.syntax_why.specs.Declarations.{variable_row, param_row, definition, write_member, other_members, write_constructor, constructor_tail, constructor_list, write_algebraic, algebraic_tail, write_clause, clause_list, write_inductive, inductive_tail, prop_word, type_equation, write_decl}
+use Rattle.syntax_why.specs.Declarations.{variable_row, param_row, definition, write_member, other_members, write_constructor, constructor_tail, constructor_list, write_algebraic, algebraic_tail, clause_list, write_inductive, inductive_tail, prop_word, write_decl}
 use Rattle.syntax_why.specs.Declarations as source
 use Rattle.elab_names.specs.Abstract.{expression, spelled, prefix_name, infix_name, text_of_own}
 use Rattle.elab_parts.specs.Declarations.{GroupMember, AlgebraicConstructor, AlgebraicType, Declaration, abstract_type, alias, algebraic, member_group, inductive, proposition_declaration, declaration, symbol, group_member, constructor, algebraic_type, inductive_predicate}
 use Rattle.elab_inductives.specs.Inductives.{as_members}
 use Rattle.elab_terms.specs.Outcomes.{proposition_seen}
-use Rattle.written_files.specs.Named.{IsLineWord}
+use Rattle.tasks.specs.Words.{IsScopedName}
 use Rattle.theories.specs.Lexemes.{SaysWord, IsWordLexeme, AreWordLexemes}
-use Rattle.theories.proofs.Words.{past_space, joined}
+use Rattle.theories.proofs.Words.{written_name, joined}
 use Rattle.valid_tasks.proofs.Variables.{VariableAs, IsVariable, tail_of, front_of, back_of, variables_told}
 
 -- ---- what is named
 abbrev pub ConstructorsNamed : List AlgebraicConstructor → Type 0
-ConstructorsNamed ks = AllByRecursion (λ (k : AlgebraicConstructor). IsLineWord k.called.name) ks
+ConstructorsNamed ks = AllByRecursion (λ (k : AlgebraicConstructor). IsScopedName k.called.name) ks
 
 pub record IsTypeNamed (a : AlgebraicType) : Type 0 where
-  pub name : IsLineWord a.called.name
+  pub name : IsScopedName a.called.name
   pub constructors : ConstructorsNamed a.constructors
 
 abbrev pub TypesNamed : List AlgebraicType → Type 0
 TypesNamed ts = AllByRecursion IsTypeNamed ts
 
 abbrev pub MembersNamed : List GroupMember → Type 0
-MembersNamed ms = AllByRecursion (λ (m : GroupMember). IsLineWord m.called.name) ms
+MembersNamed ms = AllByRecursion (λ (m : GroupMember). IsScopedName m.called.name) ms
 
 -- the entries that a declaration makes have words, a proposition's are its type variables
 abbrev pub IsNamed : Declaration → Type 0
-IsNamed (abstract_type x vs) = IsLineWord x.name
+IsNamed (abstract_type x vs) = IsScopedName x.name
 IsNamed (alias x vs f) = Unit {0}
 IsNamed (algebraic ts) = TypesNamed ts
 IsNamed (member_group ms) = MembersNamed ms
 IsNamed (inductive ds) = MembersNamed (as_members ds)
-IsNamed (proposition_declaration k x e) = All IsLineWord (proposition_seen e).vars
+IsNamed (proposition_declaration k x e) = All IsScopedName (proposition_seen e).vars
 
 -- ---- lists of tokens
 abbrev Are : List Lexeme → Type 0
@@ -57,43 +57,43 @@ back_at : (xs ys : List Lexeme) → Are (xs ++ ys) → Are ys
 back_at = back_of IsWordLexeme
 
 -- ---- names
-spelled_word : (o : Terminal) (w : Word) → SaysWord o w → IsLineWord (spelled o w)
-spelled_word t.Equal w h = past_space (codes "=") refl
-spelled_word t.Minus w h = past_space (codes "-") refl
+spelled_word : (o : Terminal) (w : Word) → SaysWord o w → IsScopedName (spelled o w)
+spelled_word t.Equal w h = written_name (codes "=") refl
+spelled_word t.Minus w h = written_name (codes "-") refl
 spelled_word t.Operator1 w h = h
 spelled_word t.Operator2 w h = h
 spelled_word t.Operator3 w h = h
 spelled_word t.Operator4 w h = h
 spelled_word t.PrefixOperator w h = h
-spelled_word _ w h = past_space [] refl
+spelled_word _ w h = written_name [] refl
 
-prefix_word : (w : Word) → IsLineWord w → IsLineWord (prefix_name w)
-prefix_word w h = joined w (codes "_") h (past_space (codes "_") refl)
+prefix_word : (w : Word) → IsScopedName w → IsScopedName (prefix_name w)
+prefix_word w h = joined w (codes "_") h (written_name (codes "_") refl)
 
-infix_word : (o : Terminal) (w : Word) → SaysWord o w → IsLineWord (infix_name o w)
+infix_word : (o : Terminal) (w : Word) → SaysWord o w → IsScopedName (infix_name o w)
 infix_word t.PrefixOperator w h = prefix_word w h
 infix_word o w h = spelled_word o w h
 
-own_word : (o : Own) → Are (write_own o) → IsLineWord (text_of_own o)
+own_word : (o : Own) → Are (write_own o) → IsScopedName (text_of_own o)
 own_word (lower w) q = q 0 (lx t.Lident w) (omega arith)
 own_word (upper w) q = q 0 (lx t.Uident w) (omega arith)
 own_word (infix_op o w) q = infix_word o w (q 1 (lx o w) (omega arith))
 own_word (prefix_op o w) q = prefix_word (spelled o w) (spelled_word o w (q 1 (lx o w) (omega arith)))
-own_word star q = past_space (codes "*") refl
+own_word star q = written_name (codes "*") refl
 
-called_word : (c : surface.Called) → Are (write_called c) → IsLineWord (symbol c).name
+called_word : (c : surface.Called) → Are (write_called c) → IsScopedName (symbol c).name
 called_word c q = own_word c.own (back_at (scoped c.scopes) (write_own c.own) q)
 
 -- ---- type variables
-variable_from : (x : Terminal) (w : Word) → SaysWord x w → VariableAs IsLineWord x w
+variable_from : (x : Terminal) (w : Word) → SaysWord x w → VariableAs IsScopedName x w
 variable_from t.TyVar w h = h
 variable_from _ w h = tt
 
-pub proposition_words : (e : SyntaxTree) → Are (write e) → All IsLineWord (proposition_seen (expression e)).vars
-proposition_words e q = variables_told IsLineWord e (All-weaker IsWordLexeme (IsVariable IsLineWord) (λ l h. variable_from l.terminal l.text h) (write e) q)
+pub proposition_words : (e : SyntaxTree) → Are (write e) → All IsScopedName (proposition_seen (expression e)).vars
+proposition_words e q = variables_told IsScopedName e (All-weaker IsWordLexeme (IsVariable IsScopedName) (λ l h. variable_from l.terminal l.text h) (write e) q)
 
 -- ---- algebraic types
-constructor_named : (c : source.Constructor) (rest : List Lexeme) → Are (write_constructor c ++ rest) → IsLineWord (constructor c).called.name
+constructor_named : (c : source.Constructor) (rest : List Lexeme) → Are (write_constructor c ++ rest) → IsScopedName (constructor c).called.name
 constructor_named c rest q = q 0 (lx t.Uident c.name.text) (omega arith)
 
 others_named : (cs : List source.Constructor) → Are (constructor_tail cs) → ConstructorsNamed (map constructor cs)
@@ -131,7 +131,7 @@ other_members_named (d ∷ ds) q =
     (called_word d.name (front_at (write_called d.name) params own), other_members_named ds (back_at (write_member d) (other_members ds) r))
 
 -- ---- inductive predicates
-predicate_named : (d : source.Inductive) → Are (write_inductive d) → IsLineWord (inductive_predicate d).called.name
+predicate_named : (d : source.Inductive) → Are (write_inductive d) → IsScopedName (inductive_predicate d).called.name
 predicate_named d q = called_word d.name (front_at (write_called d.name) (param_row d.params ++ (mark t.Equal ∷ (bar_before d.bar ++ clause_list d.clauses))) q)
 
 other_predicates_named : (ds : List source.Inductive) → Are (inductive_tail ds) → MembersNamed (as_members (map inductive_predicate ds))

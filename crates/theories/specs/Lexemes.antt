@@ -1,14 +1,14 @@
--- Texts of tokens that are words of a line of a step file.
+-- Texts of tokens that are names.
 use Rattle.std.specs.Prelude.{List, All}
 use Rattle.tokens_why.specs.declared.terminal.Terminal.{Terminal}
 use Rattle.tokens_why.specs.declared.terminal.Terminal.TheVariants as t
 use Rattle.syntax_why.specs.Lexeme.{Word, Lexeme}
-use Rattle.written_files.specs.Named.{IsLineWord}
+use Rattle.tasks.specs.Words.{IsScopedName}
 
 -- the text of a name or an operator, and of what has none; that of an integer is its value, and no text
 abbrev pub SaysWord : Terminal → Word → Type 0
 SaysWord t.Int w = Unit {0}
-SaysWord _ w = IsLineWord w
+SaysWord _ w = IsScopedName w
 
 abbrev pub IsWordLexeme : Lexeme → Type 0
 IsWordLexeme l = SaysWord l.terminal l.text

@@ -1,4 +1,4 @@
-// Names of symbols in the task of a goal of a source have no space and no line feed, so that they can be written in a line.
+// Names of symbols in the task of a goal of a source: their bytes, and that none of their parts begins with a digit.
 ghost use Rattle.std.specs.Prelude.{ℕ, List};
 ghost use Rattle.trees.specs.Tree.{Tree};
 ghost use Rattle.tokens_why.specs.declared.token.Token.{Token};
@@ -10,12 +10,17 @@ ghost use Rattle.recognise_why.specs.Sources.{IsOnlyFile};
 ghost use Rattle.goal_tasks.specs.Theories.{TheoriesTree};
 ghost use Rattle.goal_tasks.specs.Tasks.{IsTaskOf};
 ghost use Rattle.theories.specs.Files.{TheoriesOf};
-ghost use Rattle.written_files.specs.Named.{NamesAreWords};
+ghost use Rattle.tasks.specs.Words.{NamesAreWords, NamesAreScoped};
 
-/// A law: each name of a symbol in the task of a goal of a source is a word of a line.
+/// A law: each name of a symbol in the task of a goal of a source is a word of a line; it is made of letters, digits, `_`, `'`,
+/// characters of operators and dots, and no part of it, between dots, begins with a digit.
 pub fn names_words()
-    ensures { (text : List ℕ) (ts : List Token) (file : List SyntaxTheory) (s : List Tree)
+    ensures words { (text : List ℕ) (ts : List Token) (file : List SyntaxTheory) (s : List Tree)
         (all : TheoriesTree) (theory goal : List ℕ) (t : TaskTree) → AreTokens text ts
         → IsOnlyFile (rest text ts 0) file → TheoriesOf s file all → IsTaskOf all theory goal t
         → NamesAreWords t }
+    ensures scoped { (text : List ℕ) (ts : List Token) (file : List SyntaxTheory) (s : List Tree)
+        (all : TheoriesTree) (theory goal : List ℕ) (t : TaskTree) → AreTokens text ts
+        → IsOnlyFile (rest text ts 0) file → TheoriesOf s file all → IsTaskOf all theory goal t
+        → NamesAreScoped t }
 {}

@@ -7,7 +7,8 @@ use Rattle.name_entries.specs.declared.names.NameEntry.{NameEntry}
 use Rattle.rule_rows.specs.Trees.{StepTree}
 use Rattle.kernel.specs.Right.{AreRight}
 use Rattle.name_tables.specs.Tables.{task_names, NamesDiffer}
-use Rattle.written_files.specs.Named.{AreWords, AreNamed, IsLow, AreLow, NamesAreWords}
+use Rattle.tasks.specs.Words.{NamesAreWords}
+use Rattle.written_files.specs.Named.{AreWords, AreNamed, IsLow, AreLow}
 use Rattle.written_files.proofs.TaskNames.{steps_named, names_words}
 
 no_tallest : (e : Tree) → IsLow None e

@@ -26,7 +26,8 @@ use Rattle.tree_lines.specs.Words.{LineWord, number, at_number, each, pairs, one
 use Rattle.tree_lines.specs.Named.{NameMeaning, entry_named, meaning, named_type_at}
 use Rattle.tree_lines.specs.Lines.{Earlier, SymbolUse, use_by, symbol_number, application_tree, constructor_pattern_tree, pattern_words, pattern_node_words, pattern_word, expression_words, expression_names, expression_word, one_tree, two_tree, variable_tree, match_tree, type, pattern_at, expression_at, meaning_types, use_of, named_use, used_on, type_of_line, pattern_by, pattern_of_line, match_by_words, plain_by, expression_by, expression_of_line}
 use Rattle.step_lines.specs.Steps.{Thing, TypeOf, PatternOf, ExpressionOf, StepOf, is_colon, before_colon, after_colon, step_by, argument, then_argument, arguments, rule_arguments, own_types, rule_named, rule_of_words, step_ended, step_of_line, line_made}
-use Rattle.written_files.specs.Named.{IsLineWord, AreWords}
+use Rattle.tasks.specs.Words.{IsLineWord}
+use Rattle.written_files.specs.Named.{AreWords}
 use Rattle.written_files.proofs.StepBack.{name_found, found_name}
 
 -- what a step in a chain was

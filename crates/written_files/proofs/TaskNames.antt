@@ -36,7 +36,8 @@ use Rattle.name_tables.specs.Tables.{is_same, distinct, is_in, thing_of, occurre
 use Rattle.tree_writing.specs.Spelt.{IsSpelt}
 use Rattle.tree_writing.specs.Naming.{type_name}
 use Rattle.tree_writing.specs.Whole.{TopNamed}
-use Rattle.written_files.specs.Named.{IsPlainByte, IsLineWord, IsName, AreWords, NamesAreWords, rule_symbols, step_trees, IsNamedTree, IsNamedStep, AreNamed}
+use Rattle.tasks.specs.Words.{IsPlainByte, IsLineWord, NamesAreWords}
+use Rattle.written_files.specs.Named.{IsName, AreWords, rule_symbols, step_trees, IsNamedTree, IsNamedStep, AreNamed}
 use Rattle.written_files.proofs.Plain.{past_plain}
 use Rattle.written_files.proofs.Rightness.{part_open, part_ground, step_open, step_ground, same_default}
 

@@ -26,7 +26,8 @@ use Rattle.tree_writing.specs.Parts.{StandsIn}
 use Rattle.tree_writing.specs.Text.{spaced, line_text, whole_text}
 use Rattle.tree_writing.specs.Whole.{letter, tree_by, with_tree, nothing_before, TreeLine, line_bytes, ReadTrees, IsWritten}
 use Rattle.written_files.specs.declared.words.Lines.{Lines}
-use Rattle.written_files.specs.Named.{IsLineWord, AreWords}
+use Rattle.tasks.specs.Words.{IsLineWord}
+use Rattle.written_files.specs.Named.{AreWords}
 use Rattle.written_files.specs.Words.{StepBack}
 use Rattle.written_files.specs.Written.{joined_words, ReadsTo, IsText, read_with, AddsSteps, AddsFirst}
 use Rattle.written_files.proofs.Plain.{line_plain}

@@ -4,7 +4,7 @@ use Rattle.std.specs.Option.{ForSome}
 use Rattle.trees.specs.Tree.{Tree, height}
 use Rattle.trees.specs.Sorts.{sort_of, IsExpression}
 use Rattle.trees.specs.declared.Sort.TheVariants.{Kind}
-use Rattle.tasks.specs.Task.{TaskTree, SymbolTree}
+use Rattle.tasks.specs.Words.{IsLineWord}
 use Rattle.rule_words.specs.Arguments.{ArgumentTree, AExpression, AType}
 use Rattle.rule_rows.specs.Trees.{RuleTree, RForall, RNotExists, RCut, RRefl, RReplace, RLetDef, RIfDef, RMatchDef, RDef, RClause, RInv, RCase, RProject, RTrichotomy, RBound, StepTree, rule_types}
 use Rattle.name_entries.specs.declared.names.NameOf.TheVariants.{Symbol}
@@ -12,14 +12,6 @@ use Rattle.name_entries.specs.declared.names.NameEntry.{NameEntry}
 use Rattle.tree_writing.specs.Spelt.{IsSpelt}
 use Rattle.tree_writing.specs.Parts.{IsSubtree}
 use Rattle.tree_writing.specs.Whole.{TopNamed}
-
--- no space and no line feed
-abbrev pub IsPlainByte : ℕ → Type 0
-IsPlainByte c = (c ≢ 32) × (c ≢ 10)
-
--- a word of a line: such bytes are in it
-abbrev pub IsLineWord : List ℕ → Type 0
-IsLineWord w = All IsPlainByte w
 
 -- a word that isn't the colon of steps
 pub record IsName (w : List ℕ) : Type 0 where
@@ -95,7 +87,3 @@ pub record IsSortedStep (st : StepTree) : Type 0 where
 
 abbrev pub AreSorted : List StepTree → Type 0
 AreSorted steps = All IsSortedStep steps
-
--- the names of a task's symbols have no space and no line feed
-abbrev pub NamesAreWords : TaskTree → Type 0
-NamesAreWords t = All (λ (e : SymbolTree). IsLineWord e.name) t.symbols

@@ -4,7 +4,8 @@ ghost use Rattle.std.specs.Prelude.{◌≡◌, ◌↔◌, [], All, IsTrue, codes
 ghost use Rattle.name_entries.specs.declared.names.NameOf.TheVariants.{Symbol};
 ghost use Rattle.rule_rows.specs.Meaning.{rule_at, steps_at};
 ghost use Rattle.tree_writing.specs.Spelt.{IsSpelt, AreNamesOf};
-ghost use Rattle.written_files.specs.Named.{IsPlainByte, IsLineWord, IsName, AreWords, rule_symbols, SymbolsNamed};
+ghost use Rattle.tasks.specs.Words.{IsPlainByte, IsLineWord};
+ghost use Rattle.written_files.specs.Named.{IsName, AreWords, rule_symbols, SymbolsNamed};
 
 use name_entries::{NameEntry, NameOf};
 use rule_rows::{Rule, Step};

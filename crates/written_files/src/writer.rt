@@ -9,7 +9,8 @@ ghost use Rattle.rule_rows.specs.Meaning.{steps_at, StepsHeld};
 ghost use Rattle.kernel.specs.Right.{Closes};
 ghost use Rattle.name_tables.specs.Tables.{task_names};
 ghost use Rattle.step_files.specs.Lines.{StepsOf};
-ghost use Rattle.written_files.specs.Named.{AreWords, SymbolsNamed, AreNamed, AreLow, AreSorted, NamesAreWords};
+ghost use Rattle.tasks.specs.Words.{NamesAreWords};
+ghost use Rattle.written_files.specs.Named.{AreWords, SymbolsNamed, AreNamed, AreLow, AreSorted};
 ghost use Rattle.written_files.specs.Words.{StepReady};
 ghost use Rattle.written_files.specs.Written.{AddsSteps, StepsReadBack};
 

@@ -1,7 +1,8 @@
--- All three are lemmas.
+-- All are lemmas.
 use Rattle.smt_law.proofs.Whole.{law}
 use Rattle.smt_law.proofs.Shipped.{plain}
 use Rattle.smt_law.proofs.Spelt.{names_are_spelt}
+use Rattle.smt_law.proofs.Scoped.{scoped_names_are_spelt}
 use Rattle.smt_law.proofs.law_of_texts.Goals as goal
 
 pub returns-clause-law : goal.returns-clause-law
@@ -12,3 +13,6 @@ returns-clause-shipped c = plain
 
 pub returns-clause-spelt : goal.returns-clause-spelt
 returns-clause-spelt c = names_are_spelt
+
+pub returns-clause-scoped : goal.returns-clause-scoped
+returns-clause-scoped c = scoped_names_are_spelt

@@ -9,7 +9,7 @@ use Rattle.rule_rows.specs.Meaning.{steps_at, StepsHeld}
 use Rattle.kernel.specs.Right.{Closes}
 use Rattle.evidence.specs.Stages.{parts_at}
 use Rattle.stages.specs.Lifted.{HandedHasSequents}
-use Rattle.written_files.specs.Named.{NamesAreWords}
+use Rattle.tasks.specs.Words.{NamesAreWords}
 use Rattle.program.proofs.Lifting.{lifted_of}
 use Rattle.program.proofs.derivation.lifted_text.Goals as goal
 
