@@ -4,9 +4,10 @@ use Rattle.std.specs.Borrow.{Bor}
 use Rattle.tokens_why.specs.Tokens.{AreTokens}
 use Rattle.tokens_why.specs.declared.token.Token.{Token}
 use Rattle.syntax_why.specs.declared.declarations.File.{File}
-use Rattle.syntax_why.specs.Lexeme.{rest}
+use Rattle.syntax_why.specs.Lexeme.{rest, terminals}
 use Rattle.syntax_why.specs.SurfaceDeclarations.{file_of}
-use Rattle.recognise_why.specs.Sources.{IsOnlyFile}
+use Rattle.recognise_why.specs.Depth.{IsShallow}
+use Rattle.recognise_why.specs.Sources.{IsOnlyFile, IsSource}
 
 -- a path, and the text of its file
 abbrev pub LibraryEntry : Type 0
@@ -70,6 +71,13 @@ library =
 -- the entries of the code's table
 abbrev pub library_entry : Bor (List ℕ) × Bor (List ℕ) → LibraryEntry
 library_entry e = (e.0.now, e.1.now)
+
+-- a text that is a source, and isn't nested too deep
+pub record IsSourceText (text : List ℕ) : Type 0 where
+  pub tokens : List Token
+  pub are : AreTokens text tokens
+  pub shallow : IsShallow (terminals (rest text tokens 0))
+  pub source : IsSource (rest text tokens 0)
 
 -- the file that a text writes, with the place of each part
 pub record IsFileOfText (text : List ℕ) (file : File) : Type 0 where

@@ -5,4 +5,4 @@
 mod library;
 mod texts;
 
-pub use library::{drop_file, drop_files, library_files};
+pub use library::{drop_file, drop_files, library_files, texts_are_sources};

@@ -1,30 +1,55 @@
 // The trees of the embedded library.
 // They depend on the library's texts and the reader of sources; the tables of theories depend on them.
-ghost use Rattle.std.specs.Prelude.{◌≡◌, map, IfOk, OnOk};
-ghost use Rattle.std_theories.specs.Library.{AreFilesOf, IsFileOfText, IsFilePushed, library_entry, library};
+ghost use Rattle.std.specs.Prelude.{◌≡◌, map, All, IfOk, OnOk};
+ghost use Rattle.tokens_why.specs.Tokens.{AreTokens};
+ghost use Rattle.std_theories.specs.Library.{LibraryEntry, AreFilesOf, IsSourceText, IsFileOfText, IsFilePushed, library_entry, library};
 
 use crate::texts::{Entry, LIBRARY};
 use outside::Text;
-use parse_decls::parse;
+use parse_decls::{SyntaxFault, parse};
 use std::alloc::{AllocError, Global};
 use syntax_why::File;
-use tokens_why::lex;
+use tokens_why::{LexFault, Token, lex};
+
+/// The tokens of a text of the library.
+fn tokens_of_text(alloc: Global, text: &[u8]) -> Result<Vec<Token>, AllocError>
+    requires { IsSourceText text.now }
+    ensures { IfOk result (λ ts. AreTokens text.now ts.items) }
+{
+    match lex(alloc, text) {
+        Ok(tokens) => Ok(tokens),
+        Err(LexFault::Memory) => Err(AllocError),
+        Err(LexFault::Lexical { .. } | LexFault::BigLiteral { .. }) => unreachable!(),
+    }
+}
+
+/// What is wanting where a text of the library has no file.
+fn wanting(fault: SyntaxFault) -> AllocError
+    requires { fault ≡ SyntaxFault.Memory }
+{
+    match fault {
+        SyntaxFault::Memory => AllocError,
+        SyntaxFault::TooDeep { .. } => unreachable!(),
+        SyntaxFault::Syntax { .. } => unreachable!(),
+        SyntaxFault::ProgramDecl { .. } => unreachable!(),
+    }
+}
 
 /// The file of a text of the library.
 fn file_of_text(alloc: Global, text: &[u8]) -> Result<File, AllocError>
+    requires { IsSourceText text.now }
     ensures { IfOk result (IsFileOfText text.now) }
 {
-    let Ok(tokens) = lex(alloc, text) else {
-        return Err(AllocError);
-    };
+    let tokens = tokens_of_text(alloc, text)?;
     match parse(alloc, tokens.as_slice(), text) {
         Ok(file) => Ok(file),
-        Err(_) => Err(AllocError),
+        Err(fault) => Err(wanting(fault)),
     }
 }
 
 /// Puts the file of an entry after others.
 fn push_file(alloc: Global, entry: &Entry, out: &mut Vec<(Text, File)>) -> Result<(), AllocError>
+    requires { IsSourceText (library_entry entry.now).1 }
     ensures { OnOk result (IsFilePushed (library_entry entry.now) out.old.items out.new.items) }
 {
     let path = Text::from_slice(alloc, entry.0.as_bytes())?;
@@ -55,6 +80,11 @@ pub fn library_files(alloc: Global) -> Result<Vec<(Text, File)>, AllocError>
     }
     Ok(files)
 }
+
+/// A law: each text of the library is a source, and isn't nested too deep.
+pub fn texts_are_sources()
+    ensures { All (λ (e : LibraryEntry). IsSourceText e.1) library }
+{}
 
 /// Lets the files of the library go, for a caller that is to have no code for their parts.
 pub fn drop_files(files: Vec<(Text, File)>) {

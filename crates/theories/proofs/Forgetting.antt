@@ -77,6 +77,5 @@ forgotten s source all h = record {
   library = library_forgotten s h.before h.library;
   after = h.after;
   typed = source_forgotten source h.before h.after h.typed;
-  ints = h.ints;
   are = h.are;
 }

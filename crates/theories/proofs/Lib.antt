@@ -22,6 +22,10 @@ pub mod SourceLists
 pub mod SourceSteps
 pub mod Sources
 pub mod SourceGoals
+pub mod IntSteps
+pub mod IntEntries
+pub mod IntGrowth
+pub mod IntLibrary
 mod Words
 mod Tokens
 mod Tuples

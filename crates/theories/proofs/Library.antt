@@ -1,30 +1,19 @@
 -- The files of the library are those of its texts, so that there is one tree for each.
-use Rattle.std.proofs.Common.{◌≡◌, ℕ, List, [], ◌∷◌, ◌++◌, refl, sym, subst, subst₂, ◌∙◌, append_assoc, append-nil, inl, inr}
+use Rattle.std.proofs.Common.{◌≡◌, ℕ, List, [], ◌∷◌, sym, subst, subst₂, ◌∙◌, inl, inr}
 use Rattle.tokens_why.specs.declared.token.Token.{Token}
-use Rattle.tokens_why.specs.Tokens.{Reads, AreTokens}
-use Rattle.tokens_why.specs.Tokens as text
-use Rattle.tokens_why.proofs.TurnLemmas.{Turn, first, turn, Reading, stopped}
 use Rattle.syntax_why.specs.Lexeme.{rest}
 use Rattle.syntax_why.specs.Declarations.{SyntaxTheory}
 use Rattle.syntax_why.specs.declared.declarations.File.{File}
 use Rattle.syntax_why.specs.SurfaceDeclarations.{file_of}
 use Rattle.recognise_why.specs.Sources.{IsOnlyFile}
 use Rattle.std_theories.specs.Library.{LibraryEntry, IsFileOfText, AreFilesOf}
+use Rattle.std_theories.proofs.Readings.{one_tokens}
 use Rattle.theory_states.specs.declared.fault.SourceFault.{SourceFault}
 use Rattle.theory_states.specs.States.{StateTree}
 use Rattle.theories.specs.Typing.{Steps}
 use Rattle.theories.specs.Files.{AreEmbeddedIn, AreEmbeddedFaultyIn, AreEmbeddedFaulty}
 
--- ---- a text has one reading
-reading_from : (bytes : List ℕ) (at : ℕ) (stop : text.Stop) (found ts : List Token) → Turn bytes at found → Reads bytes stop at ts → Reading bytes stop (found ++ ts)
-reading_from bytes at stop found [] h r = subst (Reading bytes stop) (sym (append-nil found)) (stopped bytes at stop found r h)
-reading_from bytes at stop found (t ∷ ts) h r =
-    let more : Turn bytes t.end (found ++ t ∷ []) = turn bytes at t found (found ++ t ∷ []) (r.0, r.1) r.2 refl h in
-    subst (Reading bytes stop) (append_assoc found (t ∷ []) ts) (reading_from bytes t.end stop (found ++ t ∷ []) ts more r.3)
-
-one_tokens : (bytes : List ℕ) (ts us : List Token) → AreTokens bytes ts → AreTokens bytes us → ts ≡ us
-one_tokens bytes ts us a b = sym ((reading_from bytes 0 text.whole [] ts (first bytes) a).only text.whole us b).1
-
+-- ---- a text has one file
 one_file : (bytes : List ℕ) (f g : File) → IsFileOfText bytes f → IsFileOfText bytes g → file_of f ≡ file_of g
 one_file bytes f g a b =
     let there : IsOnlyFile (rest bytes b.tokens 0) (file_of f) = subst (λ (ts : List Token). IsOnlyFile (rest bytes ts 0) (file_of f)) (one_tokens bytes a.tokens b.tokens a.are b.are) a.only in

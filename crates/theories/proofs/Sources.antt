@@ -31,6 +31,9 @@ use Rattle.theories.specs.Files.{IsTheoryBegun, IsEnded, is_path_taken, IsNewThe
 use Rattle.theories.specs.Sound.{AreSoundlyTyped, SoundTheoriesOf}
 use Rattle.theories.proofs.Ending.{nothing_typed, int_placed}
 use Rattle.theories.proofs.Paths.{new_path}
+use Rattle.theories.proofs.Forgetting.{source_forgotten, library_forgotten}
+use Rattle.theories.proofs.IntGrowth.{source_ints}
+use Rattle.theories.proofs.IntLibrary.{library_ints}
 use Rattle.theories.specs.Sources.{AreSoundIn}
 use Rattle.theories.proofs.SourceSteps.{AreQuoted, tail_of, front_of, back_of, IsGood, decls_good}
 
@@ -116,4 +119,10 @@ pub source_sound : (text : List ℕ) (ts : List Token) (file : List SyntaxTheory
 source_sound text ts file s all are only h =
     let b : AreGood h.before = files_good library h.library.files (nothing_known s) h.before h.library.are h.library.typed (nothing_good s) in
     let a : AreGood h.after = theories_good file h.before h.after only.of.right (quoted_file text ts file are only) h.typed b in
-    record { state = h.after; embedded = length h.before.known; are = h.are; ints = h.ints; sound = a.sound }
+    record {
+      state = h.after;
+      embedded = length h.before.known;
+      are = h.are;
+      ints = source_ints file h.before h.after (source_forgotten file h.before h.after h.typed) (library_ints s h.before (library_forgotten s h.before h.library));
+      sound = a.sound;
+    }

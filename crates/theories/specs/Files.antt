@@ -5,7 +5,6 @@ use Rattle.std.specs.Str.{bytes_eq}
 use Rattle.trees.specs.Tree.{Tree}
 use Rattle.tasks.specs.Task.{int_symbol}
 use Rattle.tasks.specs.Vocabulary.{is_empty}
-use Rattle.tasks.specs.Valid.{AreInts}
 use Rattle.syntax_why.specs.Declarations.{SyntaxDeclarations, SyntaxTheory}
 use Rattle.syntax_why.specs.declared.declarations.File.{File}
 use Rattle.syntax_why.specs.SurfaceDeclarations.{file_of}
@@ -114,13 +113,12 @@ pub record TheoriesBy (T : SyntaxDeclarations → StateTree → StateTree → Ty
   pub library : IsLibraryTypedBy T s before
   pub after : StateTree
   pub typed : AreTypedInBy T source before after
-  pub ints : AreInts after.symbols int_entries
   pub are : all ≡ theories_of (length before.known) after
 
 abbrev pub TheoriesOf : List Tree → List SyntaxTheory → TheoriesTree → Type 0
 TheoriesOf = TheoriesBy AreDeclarationsTyped
 
--- the first fault: one of the library, which has none, or one of the source
+-- the first fault: one of the library, which as rows show has none, or one of the source
 pub record IsLibraryFault (s : List Tree) (f : SourceFault) : Type 0 where
   pub files : List (List ℕ × File)
   pub are : AreFilesOf library files

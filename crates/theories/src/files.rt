@@ -15,7 +15,7 @@ ghost use Rattle.theories.specs.Sound.{AreSoundlyTyped, SoundTheoriesOf};
 ghost use Rattle.theories.specs.Right.{IsStateRight, between_at, AreTheoriesRight, IsPath};
 
 use crate::declarations::type_decls;
-use crate::ints::{are_ints, int_entries};
+use crate::ints::int_entries;
 use elab_terms::begin;
 use goal_tasks::{Theories, Theory};
 use outside::{Seq, Text};
@@ -299,9 +299,5 @@ pub fn type_file(alloc: Global, store: &mut Store, file: &File) -> Result<Theori
     type_library(alloc, store, &mut typed)?;
     let embedded = typed.known.len();
     type_theories(alloc, store, &mut typed, file.theories.as_slice())?;
-    // The library's first theory is int.Int, after `int`.
-    if !are_ints(store, typed.sig.symbols.as_slice()) {
-        return Err(SourceFault::Memory);
-    }
     collect(alloc, store, typed, embedded)
 }

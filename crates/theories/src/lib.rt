@@ -1,5 +1,5 @@
 //! The theories of a source: use, clone, scopes, and the embedded library. Laws: they are sound and determined, the task
-//! of each goal is valid, and the names of its symbols are words of a line.
+//! of each goal is valid, the names of its symbols are words of a line, and the entries of int.Int come first in its signature.
 //! It depends on the typing of declarations and on copies of theories; the program types its sources by it.
 #![tactic(auto)]
 
@@ -17,6 +17,7 @@ mod words_laws;
 pub use cloned_laws::{cloned_sound, stays_plain};
 pub use determined_laws::{clone_determined, declarations_determined, theories_determined};
 pub use files::type_file;
+pub use ints::ints_known;
 pub use names_laws::{finds_same, names_stay_same, same_later};
 pub use outcomes_laws::{outcomes_same, refusals_same};
 pub use sound_laws::{source_tasks_valid, theories_sound};

@@ -1,16 +1,12 @@
-use Rattle.std.proofs.Common.{◌≡◌, ℕ, List, map, length, inl, inr, sym, ap, subst, ◌∙◌}
+use Rattle.std.proofs.Common.{◌≡◌, ℕ, map, length, inl, inr, sym, ap, ◌∙◌}
 use Rattle.std.proofs.lemmas.Result.{err_from_is_err_and, IfOk-weaker}
 use Rattle.std.proofs.lemmas.List.{length-map}
 use Rattle.trees.proofs.Nodes.{Grows_refl, Grows_trans}
-use Rattle.tasks.specs.Meaning.{symbols_at}
-use Rattle.tasks.specs.Valid.{AreInts}
-use Rattle.tasks.specs.declared.signature.SymbolInfo.{SymbolInfo}
 use Rattle.syntax_why.specs.SurfaceDeclarations.{file_of}
 use Rattle.goal_tasks.specs.declared.theories.Theories.{Theories}
 use Rattle.goal_tasks.specs.Meaning.{theories_at}
 use Rattle.theory_states.specs.declared.fault.SourceFault.{SourceFault}
 use Rattle.theory_states.specs.Meaning.{known_at}
-use Rattle.theories.specs.Ints.{int_entries}
 use Rattle.theories.specs.Files.{AreFaultyIn, theories_of, TheoriesOf, IsLibraryFault, IsFirstSourceFault}
 use Rattle.theories.specs.Sound.{SoundTheoriesOf}
 use Rattle.theories.specs.Right.{between_at}
@@ -38,7 +34,6 @@ returns-clause-sound c =
       library = c.in_ok-type_library.ensures.ok;
       after = after;
       typed = done.1;
-      ints = subst (λ (xs : List SymbolInfo). AreInts (symbols_at s' xs) int_entries) c.as_slice-2.ensures (c.are_ints.ensures c.if-not-are_ints.false);
       are = h done.0 ∙ ap (λ (n : ℕ). theories_of n after) count;
     } in
     IfOk-weaker c.collect.result P Q k c.collect.ensures.ok
