@@ -4,8 +4,10 @@ lists of patterns. `tools/source-rows` writes them behind its own.
 First come the rows of crates/source_rows/declarations, as they are there. Of the random theories the first COUNT have four
 declarations that are well typed. Each further one has one name, type or number of arguments changed in one of those
 declarations, behind those before it. The elaborator here is plain: it gathers all faults of names and takes the one at the
-first token, it unifies by substitution on trees, and it looks for a type that is left open node by node. A thousand lists of
-patterns come last, ten in a line: each is exhaustive where each shape that is deeper than its patterns is met.
+first token, it unifies by substitution on trees, and it looks for a type that is left open node by node. Then come a thousand
+lists of patterns, ten in a line: each is exhaustive where each shape that is deeper than its patterns is met. Last come
+theories with several faults of names in one declaration: after two to four changes, or in a `let` one in the pattern and one
+in the value.
 """
 import copy
 import inspect
@@ -388,7 +390,7 @@ class Elaborator:
     def raise_first(self):
         if self.faults:
             token, _, word = min(self.faults)
-            raise Fault(word, token)
+            raise Fault(word, token, len({at for at, _, _ in self.faults}))
 
     def made(self, table, names, new):
         for token, name in names:
@@ -1313,7 +1315,7 @@ class Generator:
         return ["all", binders, [], made] if binders else made
 
 
-# ---- one change
+# ---- changes
 def lists_of(x, found):
     if isinstance(x, list):
         found.append(x)
@@ -1392,13 +1394,13 @@ def strings_of(x):
     return {x} if isinstance(x, str) else set().union(*map(strings_of, x)) if isinstance(x, list) else set()
 
 
-def change(rng, declarations):
-    """Changes one name, type or number of arguments of the last of these declarations."""
+def change(rng, declarations, part=None):
+    """Changes one name, type or number of arguments of the last of these declarations, or of a part of it."""
     found = strings_of(declarations) | set("pqtuxAB")
     words = sorted(w for w in found if w.isalpha() and len(w) < 3 and w not in ("if", "eq", "op", "as", "ex"))
     words += ["nope", "Nope"]
     found = []
-    lists_of(declarations[-1], found)
+    lists_of(part or declarations[-1], found)
     for _ in range(200):
         kind = rng.choice([change_name, change_type, change_arity])
         if any(kind(rng, x, words) for x in rng.sample(found, min(8, len(found))) if x and isinstance(x[0], str)):
@@ -1413,6 +1415,71 @@ def changed(rng, declarations):
         if not answer_of(Theory(), source_of(other)[1]).startswith("Made"):
             break
     return other
+
+
+def fault_of_names(declarations):
+    """The first fault of names: its declaration, its token, and how many tokens are at fault there; or None."""
+    for k, d in enumerate(source_of(declarations)[1]):
+        theory = Theory() if k == 0 else theory
+        try:
+            Elaborator(theory).declaration(d)
+        except Fault as f:
+            return (k, *f.args[1:]) if f.args[2:] else None
+    return None
+
+
+def changed_often(rng, declarations):
+    """The declarations with two to four changes of the last one, such that names at several tokens are wrong, or None."""
+    for _ in range(10):
+        other = copy.deepcopy(declarations)
+        for _ in range(rng.randint(2, 4)):
+            change(rng, other)
+        fault = fault_of_names(other)
+        if fault and fault[2] > 1:
+            return other
+    return None
+
+
+def let_of_pattern(rng, declarations):
+    """The declarations, and after them a goal that is a `let` of a pattern with parts, or None."""
+    theory = Theory()
+    answer_of(theory, source_of(declarations)[1])
+    inner = Generator(rng, theory)
+    name = inner.fresh("jklmno", theory.propositions)
+    t, bound = inner.subject(), []
+    pattern = inner.pattern(t, 2, bound)
+    try:
+        body = ["letp", pattern, inner.term(t, [], 2), inner.formula(bound, 1)]
+    except (LookupError, RecursionError, ValueError):
+        return None
+    return declarations + [["prop", "goal", name, body]] if pattern[-1] and pattern[0] in "kt" else None
+
+
+def changed_let(rng, declarations):
+    """The same with a change in the value, and one in the pattern that is told before it, or None."""
+    right = let_of_pattern(rng, declarations)
+    for _ in range(20 if right else 0):
+        other = copy.deepcopy(right)
+        _, pattern, value, _ = other[-1][3]
+        change(rng, other, value)
+        later = fault_of_names(other)
+        change(rng, other, pattern)
+        first = fault_of_names(other)
+        if later and first and first[:2] < later[:2]:
+            return other
+    return None
+
+
+def rows_of_faults(rng, rows, count):
+    """So many sources with several faults of names, half of them at a `let` of a pattern."""
+    heads = [row[: k + 1] for row in rows for k in range(len(row))]
+    made = {}
+    while len(made) < count:
+        other = (changed_often if len(made) % 2 else changed_let)(rng, rng.choice(heads))
+        if other:
+            text, annotated = source_of(other)
+            made[text] = answer_of(Theory(), annotated)
+    return list(made.items())
 
 
 def source_of(declarations):
@@ -1551,5 +1618,6 @@ def declaration_rows(seed, count):
     pairs = [(text, answer_of(Theory(), annotated)) for text, annotated in made]
     shapes = {kind: shapes_of(kind, 5) for kind in CONSTRUCTORS}
     pairs += [cover_rows(rng, shapes) for _ in range(100)]
+    pairs += rows_of_faults(rng, rows[:count], 150)
     pairs = rows_by_hand(f"{TOP}/crates/source_rows/declarations") + pairs
     return [(f"last {text}", answer) for text, answer in pairs]

@@ -110,6 +110,3 @@ last_place symbols t x found (k ∷ ks) = last_place symbols t x (place_after sy
 abbrev pub place_by : (Word → Option ℕ) → Option Word → Option ℕ
 place_by places None = None
 place_by places (Some x) = places x
-
-abbrev pub left_place : List SymbolTree → Origin → Element → Option ℕ
-left_place symbols t e = place_by (λ x. last_place symbols t x None t.own) (element_key e)

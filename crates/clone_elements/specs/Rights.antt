@@ -77,10 +77,6 @@ abbrev pub rights_fault : List Tree → List SymbolTree → ScopeNames → List 
 rights_fault s symbols names [] = None
 rights_fault s symbols names (e ∷ es) = first_of (right_fault s symbols names e) (rights_fault s (symbols ++ right_tuples symbols e) names es)
 
-abbrev pub rights_made : List Tree → List SymbolTree → ScopeNames → List Element → List RightTree
-rights_made s symbols names [] = []
-rights_made s symbols names (e ∷ es) = right_made s symbols names e ∷ rights_made s (symbols ++ right_tuples symbols e) names es
-
 -- the type on the right of an element has its type variables alone
 abbrev pub IsWithin : Element → RightTree → Type 0
 IsWithin (type_element i c vs f) (type_right ty) = TyVarsBelow (length vs) ty

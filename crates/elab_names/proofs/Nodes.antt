@@ -1,5 +1,5 @@
 -- The abstract syntax at each kind of node.
-use Rattle.std.proofs.Common.{◌≡◌, ℤ, List, [], ◌∷◌, map, length, get_or, Bool, Option, Some, None, option_map, refl, ap, ◌∙◌}
+use Rattle.std.proofs.Common.{◌≡◌, ℤ, List, [], ◌∷◌, map, length, get_or, Bool, false, Option, Some, None, option_map, refl, ap, ◌∙◌}
 use Rattle.std.specs.List.{slice_get}
 use Rattle.syntax_why.specs.declared.names.OpName.{OpName}
 use Rattle.syntax_why.specs.declared.names.QName.{QName}
@@ -111,11 +111,11 @@ branches_are (b ∷ bs) =
     ap (λ (a : code.Arm). more_branches (branch_alternatives a.alternatives) (expression a.body) (match_branches (code.branches (map code.arm_of bs)))) (arm_of-fields b)
     ∙ ap (more_branches (alternatives_of b.alternatives) (expression_of b.body)) (branches_are bs)
 
-pub expression_at-Match : (e : Expr) (es : List Expr) (bar : Bool) (bs : List BranchTree) → e.node ≡ ev.Match es bar bs → expression_of e ≡ match_expression e.at.main (grouped (first_tree (code.trees (map code.tree_of es))) (expressions_of es)) (branches_of bs)
+pub expression_at-Match : (e : Expr) (es : List Expr) (bar : Bool) (bs : List BranchTree) → e.node ≡ ev.Match es bar bs → expression_of e ≡ match_expression e.at.main false (grouped (first_tree (code.trees (map code.tree_of es))) (expressions_of es)) (branches_of bs)
 expression_at-Match e es bar bs is =
     ap expression (tree_is e (ev.Match es bar bs) is ∙ tree_of_node-Match es bar bs e.at)
-    ∙ (ap (λ (xs : Expressions). match_expression e.at.main (grouped (first_tree (code.trees (map code.tree_of es))) xs) (match_branches (code.branches (map code.arm_of bs)))) (expressions_are es)
-    ∙ ap (match_expression e.at.main (grouped (first_tree (code.trees (map code.tree_of es))) (expressions_of es))) (branches_are bs))
+    ∙ (ap (λ (xs : Expressions). match_expression e.at.main false (grouped (first_tree (code.trees (map code.tree_of es))) xs) (match_branches (code.branches (map code.arm_of bs)))) (expressions_are es)
+    ∙ ap (match_expression e.at.main false (grouped (first_tree (code.trees (map code.tree_of es))) (expressions_of es))) (branches_are bs))
 
 pub triggers_at-Some : (g : Option TriggerTree) (t : TriggerTree) → g ≡ Some t → triggers_of g ≡ expressions_of (out-TriggerTree t).terms
 triggers_at-Some g t is = ap triggers_of is ∙ ap (λ (x : code.Terms). expressions x.terms) (terms_of-fields t) ∙ expressions_are (out-TriggerTree t).terms

@@ -1,5 +1,5 @@
 -- The abstract syntax of an operator between two operands and of a `let`, by what the code finds them to be.
-use Rattle.std.proofs.Common.{◌≡◌, List, Option, Some, None, ap, ◌∙◌}
+use Rattle.std.proofs.Common.{◌≡◌, true, List, Option, Some, None, ap, ◌∙◌}
 use Rattle.syntax_why.specs.declared.names.OpName.{OpName}
 use Rattle.syntax_why.specs.declared.patterns.Pat.{Pat}
 use Rattle.syntax_why.specs.declared.expressions.Expr.{Expr}
@@ -17,5 +17,5 @@ pub bound_as : (e : Expr) (ps : List Pat) (a b : Expr) → e.node ≡ ev.Let ps 
 bound_as e ps a b is x q = expression_at-Let e ps a b is ∙ ap (λ (o : Option Word). let_by o e.at.main (code.patterns ps) (expression_of a) (expression_of b)) q
 
 pub matched_as : (e : Expr) (ps : List Pat) (a b : Expr) → e.node ≡ ev.Let ps a b → let_name (code.patterns ps) ≡ None
-    → expression_of e ≡ match_expression e.at.main (expression_of a) (more_branches (more_alternatives (first_form (code.patterns ps)) (side_by_side (code.patterns ps)) no_alternatives) (expression_of b) no_branches)
+    → expression_of e ≡ match_expression e.at.main true (expression_of a) (more_branches (more_alternatives (first_form (code.patterns ps)) (side_by_side (code.patterns ps)) no_alternatives) (expression_of b) no_branches)
 matched_as e ps a b is q = expression_at-Let e ps a b is ∙ ap (λ (o : Option Word). let_by o e.at.main (code.patterns ps) (expression_of a) (expression_of b)) q

@@ -43,7 +43,7 @@ abbrev call : ℕ → Word → Expression → Expression
 call i x e = applied_expression i [] x (more_expressions e no_expressions)
 
 abbrev matching : Alternatives → Expression → Expression
-matching ps b = match_expression 0 (name 1 (codes "c")) (more_branches ps b no_branches)
+matching ps b = match_expression 0 false (name 1 (codes "c")) (more_branches ps b no_branches)
 
 abbrev one : Pattern → Alternatives
 one p = more_alternatives 3 p no_alternatives
@@ -107,6 +107,16 @@ too_many_parts = refl
 
 twice : formula_fault (matching (one (cons 3 (variable_pattern 4 (codes "x")) (variable_pattern 5 (codes "x")))) (name 7 (codes "r"))) ≡ Some (Duplicate 5)
 twice = refl
+
+-- `let Cons x x = r in p r`, and `let Cons x y = r in p r`: the pattern is before the value, and the value before the body
+abbrev let_of : Pattern → Option NamingFault
+let_of p = formula_fault (match_expression 0 true (name 6 (codes "r")) (more_branches (one p) (call 8 (codes "p") (name 9 (codes "r"))) no_branches))
+
+pattern_first : let_of (cons 1 (variable_pattern 2 (codes "x")) (variable_pattern 3 (codes "x"))) ≡ Some (Duplicate 3)
+pattern_first = refl
+
+value_second : let_of (cons 1 (variable_pattern 2 (codes "x")) (variable_pattern 3 (codes "y"))) ≡ Some (Unknown 6)
+value_second = refl
 
 -- `Cons x _ as x`
 twice_as : formula_fault (matching (one (alias_pattern (cons 3 (variable_pattern 4 (codes "x")) (wildcard_pattern 5)) 7 (codes "x"))) (name 9 (codes "r"))) ≡ Some (Duplicate 7)

@@ -1,21 +1,23 @@
 -- Faults of parts, told of the whole.
-use Rattle.std.proofs.Common.{◌≡◌, ℕ, suc, Bool, false, List, [], ◌∷◌, ◌++◌, reverse, length, get_or, sym, ap, ◌∙◌, Option, Some, None, Result, Ok, Err, refl}
+use Rattle.std.proofs.Common.{◌≡◌, ℕ, suc, Bool, true, false, List, [], ◌∷◌, ◌++◌, reverse, length, get_or, sym, ap, ◌∙◌, Option, Some, None, Result, Ok, Err, refl}
 use Rattle.std.specs.Prelude.{OnOk}
 use Rattle.std.specs.Result.{IsErrAnd}
 use mathlib.Core.List.{append-nil}
 use Rattle.elab_names.specs.declared.NamingFault.{NamingFault}
 use Rattle.elab_names.specs.declared.NamingFault.TheVariants.{Memory, Unknown, Duplicate, WrongKind, Arity}
 use Rattle.syntax_why.specs.declared.expressions.Expr.{Expr}
+use Rattle.syntax_why.specs.declared.expressions.ExprNode.TheVariants as ev
 use Rattle.syntax_why.specs.declared.types.TypeTree.{TypeTree}
 use Rattle.syntax_why.specs.declared.patterns.Pat.{Pat}
 use Rattle.syntax_why.specs.Forms as surface
 use Rattle.syntax_why.specs.Lexeme.{Word}
 use Rattle.syntax_why.specs.Surface as code
-use Rattle.elab_names.specs.Abstract.{Expression, Expressions, no_expressions, more_expressions, Patterns, no_patterns, more_patterns, Alternatives, MatchBranches, no_branches, more_branches, OperatorMeaning, connective_operator, equality_operator, symbol_operator, operated, let_by, TypeExpressions, no_types, more_types, tuple_expression, count_expressions, count_forms, count_patterns, grouped_forms, grouped_patterns, grouped, first_form, side_by_side, forms_of, expression_of, expressions_of, patterns_of}
+use Rattle.elab_names.specs.Abstract.{Expression, Expressions, no_expressions, more_expressions, Patterns, no_patterns, more_patterns, Pattern, Alternatives, no_alternatives, more_alternatives, match_expression, MatchBranches, no_branches, more_branches, OperatorMeaning, connective_operator, equality_operator, symbol_operator, operated, let_by, let_name, TypeExpressions, no_types, more_types, tuple_expression, count_expressions, count_forms, count_patterns, grouped_forms, grouped_patterns, grouped, first_form, side_by_side, forms_of, expression_of, expressions_of, patterns_of}
 use Rattle.elab_names.specs.Where.{Where}
 use Rattle.elab_names.specs.Faults.{first_of, name_fault, form_fault, forms_fault, fault, faults, pattern_fault, patterns_fault, pattern_names, patterns_names, alternatives_fault, alternatives_names, branch_fault, branches_fault, trigger_head, operator_head, trigger_other, token}
-use Rattle.elab_names.specs.Naming.{Tells}
+use Rattle.elab_names.specs.Naming.{Tells, as_result}
 use Rattle.elab_names.proofs.Nodes.{patterns_are}
+use Rattle.elab_names.proofs.Operated.{matched_as}
 
 -- the fault of a first part is the whole's
 pub of_first : (e : NamingFault) (x y : Option NamingFault) → Tells (Err e) x → Tells (Err e) (first_of x y)
@@ -43,6 +45,15 @@ no_memory (Err e) x h = rw h tt
 pub on_ok : {P : Type 0} (r : Result Unit NamingFault) → P → OnOk r P
 on_ok (Ok v) p = p
 on_ok (Err e) p = tt
+
+-- an answer that is a fault or none
+pub tells : (r : Result Unit NamingFault) (x : Option NamingFault) → r ≡ as_result x → Tells r x
+tells r None h = rw h refl
+tells r (Some Memory) h = rw h tt
+tells r (Some (Unknown t)) h = rw h refl
+tells r (Some (Duplicate t)) h = rw h refl
+tells r (Some (WrongKind t)) h = rw h refl
+tells r (Some (Arity t)) h = rw h refl
 
 -- the number of arguments
 pub counted : (es : List Expr) → count_expressions (expressions_of es) ≡ length es
@@ -106,6 +117,24 @@ pub let_token : (o : Option Word) (i : ℕ) (ps : surface.SyntaxForms) (a b : Ex
 let_token None i ps a b = refl
 let_token (Some x) i ps a b = refl
 
+pattern_then : (x y z : Option NamingFault) → first_of (first_of x None) (first_of y (first_of (first_of x None) (first_of z None))) ≡ first_of x (first_of y z)
+pattern_then (Some f) y z = refl
+pattern_then None (Some f) z = refl
+pattern_then None None z = first_none z
+
+-- the pattern, then the value, then the body
+pub let_fault : (w : Where) (o : Bool) (ls : List Word) (due : Bool) (i j : ℕ) (p : Pattern) (e b : Expression)
+    → fault w o ls due (match_expression i true e (more_branches (more_alternatives j p no_alternatives) b no_branches))
+    ≡ first_of (pattern_fault w [] p) (first_of (fault w o ls false e) (fault w o (reverse (pattern_names p) ++ ls) due b))
+let_fault w o ls due i j p e b = pattern_then (pattern_fault w [] p) (fault w o ls false e) (fault w o (reverse (pattern_names p) ++ ls) due b)
+
+pub let_as : (e : Expr) (ps : List Pat) (a b : Expr) → e.node ≡ ev.Let ps a b → let_name (code.patterns ps) ≡ None → (w : Where) (o : Bool) (ls : List Word) (due : Bool)
+    → fault w o ls due (expression_of e)
+    ≡ first_of (pattern_fault w [] (side_by_side (code.patterns ps))) (first_of (fault w o ls false (expression_of a)) (fault w o (reverse (pattern_names (side_by_side (code.patterns ps))) ++ ls) due (expression_of b)))
+let_as e ps a b is q w o ls due =
+    ap (fault w o ls due) (matched_as e ps a b is q)
+    ∙ let_fault w o ls due e.at.main (first_form (code.patterns ps)) (side_by_side (code.patterns ps)) (expression_of a) (expression_of b)
+
 -- ---- values of a `match`
 pub due_group : (w : Where) (o : Bool) (ls : List Word) (i : ℕ) (es : Expressions) → faults w o ls es ≡ fault w o ls false (grouped i es)
 due_group w o ls i no_expressions = refl
@@ -144,6 +173,3 @@ three (Some f) y z = refl
 pub branch_first : (w : Where) (o : Bool) (ls : List Word) (due : Bool) (ps : Alternatives) (b : Expression) (bs : MatchBranches)
     → first_of (branch_fault w o ls due ps b) (branches_fault w o ls due bs) ≡ branches_fault w o ls due (more_branches ps b bs)
 branch_first w o ls due ps b bs = three (alternatives_fault w ps) (fault w o (reverse (alternatives_names ps) ++ ls) due b) (branches_fault w o ls due bs)
-
-pub one_branch : (w : Where) (o : Bool) (ls : List Word) (due : Bool) (ps : Alternatives) (b : Expression) → branch_fault w o ls due ps b ≡ branches_fault w o ls due (more_branches ps b no_branches)
-one_branch w o ls due ps b = sym (first_none (branch_fault w o ls due ps b)) ∙ branch_first w o ls due ps b no_branches

@@ -71,8 +71,8 @@ mutual
     equality_expression : ℕ → Bool → Expression → Expression → Expression
     if_expression : ℕ → Expression → Expression → Expression → Expression
     let_expression : ℕ → Word → Expression → Expression → Expression
-    -- a `match`, or a `let` of a pattern
-    match_expression : ℕ → Expression → MatchBranches → Expression
+    -- a `match`, or with `true` a `let` of a pattern: its one branch, whose pattern is before the value
+    match_expression : ℕ → Bool → Expression → MatchBranches → Expression
     -- `forall` or else `exists`, with its triggers
     quantified_expression : ℕ → Bool → List BoundNames → Expressions → Expression → Expression
 
@@ -242,7 +242,7 @@ let_name _ = None
 
 abbrev pub let_by : Option Word → ℕ → surface.SyntaxForms → Expression → Expression → Expression
 let_by (Some x) i ps e f = let_expression i x e f
-let_by None i ps e f = match_expression i e (more_branches (more_alternatives (first_form ps) (side_by_side ps) no_alternatives) f no_branches)
+let_by None i ps e f = match_expression i true e (more_branches (more_alternatives (first_form ps) (side_by_side ps) no_alternatives) f no_branches)
 
 abbrev mutual
   pub expression : tree.SyntaxTree → Expression
@@ -256,7 +256,7 @@ abbrev mutual
   expression (tree.negation a e) = not_expression a.main (expression e)
   expression (tree.binary a e o f) = operated a.main (expression e) (operator_meaning o.terminal o.text) (expression f)
   expression (tree.choice a c e f) = if_expression a.main (expression c) (expression e) (expression f)
-  expression (tree.cases a es bar bs) = match_expression a.main (grouped (first_tree es) (expressions es)) (match_branches bs)
+  expression (tree.cases a es bar bs) = match_expression a.main false (grouped (first_tree es) (expressions es)) (match_branches bs)
   expression (tree.binding a ps e f) = let_by (let_name ps) a.main ps (expression e) (expression f)
   expression (tree.quantified a all bs g e) = quantified_expression a.main all (map binder bs) (triggers g) (expression e)
 

@@ -136,6 +136,11 @@ abbrev pub alternatives_names : Alternatives → List Word
 alternatives_names no_alternatives = []
 alternatives_names (more_alternatives i p ps) = pattern_names p
 
+-- the pattern of a `let` is before its value
+abbrev pub first_pattern_fault : Where → Bool → MatchBranches → Option NamingFault
+first_pattern_fault w true (more_branches ps b bs) = alternatives_fault w ps
+first_pattern_fault w _ bs = None
+
 -- whether a branch has an alternative
 abbrev pub has_alternative : MatchBranches → Bool
 has_alternative no_branches = false
@@ -175,7 +180,7 @@ token (connected_expression i a o b) = i
 token (equality_expression i same a b) = i
 token (if_expression i c a b) = i
 token (let_expression i x a b) = i
-token (match_expression i e bs) = i
+token (match_expression i is_let e bs) = i
 token (quantified_expression i all bs gs b) = i
 
 abbrev pub makes_formulas : Where → Option ℕ → Bool
@@ -207,7 +212,8 @@ abbrev mutual
   fault w open_ ls due (equality_expression i same a b) = first_of (fault w open_ ls false a) (first_of (fault_if (not due) (WrongKind i)) (fault w open_ ls false b))
   fault w open_ ls due (if_expression i c a b) = first_of (fault w open_ ls true c) (first_of (fault w open_ ls due a) (fault w open_ ls due b))
   fault w open_ ls due (let_expression i x a b) = first_of (fault w open_ ls false a) (fault w open_ (x ∷ ls) due b)
-  fault w open_ ls due (match_expression i e bs) = first_of (fault w open_ ls false e) (first_of (fault_if (not (has_alternative bs)) (WrongKind i)) (branches_fault w open_ ls due bs))
+  fault w open_ ls due (match_expression i is_let e bs) =
+      first_of (first_pattern_fault w is_let bs) (first_of (fault w open_ ls false e) (first_of (fault_if (not (has_alternative bs)) (WrongKind i)) (branches_fault w open_ ls due bs)))
   fault w open_ ls due (quantified_expression i all bs gs b) = first_of (fault_if (not due) (WrongKind i)) (first_of (binders_fault w open_ bs) (first_of (triggers_fault w open_ (reverse (bound_names bs) ++ ls) gs) (fault w open_ (reverse (bound_names bs) ++ ls) true b)))
 
   pub faults : Where → Bool → List Word → Expressions → Option NamingFault

@@ -73,6 +73,11 @@ head_at (head.Equality same) = trigger_equality same
 head_at head.Other = trigger_other
 
 -- ---- answers
+-- a fault or none as an answer
+abbrev pub as_result : Option NamingFault → Result Unit NamingFault
+as_result None = Ok tt
+as_result (Some f) = Err f
+
 -- it tells the first fault, or that there is none; want of memory tells nothing
 abbrev pub Tells : Result Unit NamingFault → Option NamingFault → Type 0
 Tells (Ok v) f = f ≡ None

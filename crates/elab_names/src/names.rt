@@ -14,7 +14,7 @@ ghost use Rattle.syntax_why.specs.Surface as code;
 use crate::NamingFault;
 use crate::bound::{Names, is_variable};
 use crate::operators::{Operation, infix_operation, own_name, prefix_operator};
-use crate::patterns::check_alternatives;
+use crate::patterns::{check_alternatives, check_patterns};
 use crate::triggers::{is_formula_head, is_predicate, trigger_of};
 use crate::type_names::{check_binders, check_form, refuse_if};
 use crate::world::World;
@@ -185,9 +185,12 @@ pub fn check(
                 check(alloc, body.get(), world, &inside, due)
             }
             None => {
+                let pattern = patterns.as_slice();
+                let mut bound = Seq::new(alloc);
+                check_patterns(alloc, pattern, world, &mut bound)?;
                 check(alloc, value.get(), world, names, false)?;
-                let first = patterns.as_slice();
-                check_under(alloc, body.get(), first, &[], world, names, due)
+                let inside = Names::Among(bound.as_slice(), &*names);
+                check(alloc, body.get(), world, &inside, due)
             }
         },
         ExprNode::Quant(_, binders, triggers, body) => {

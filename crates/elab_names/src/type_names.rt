@@ -1,11 +1,11 @@
 // The names of types and type variables in reading order.
 // They depend on what names mean; the walk of an expression's names depends on them.
-ghost use Rattle.std.specs.Prelude.{List, Some, option_map};
+ghost use Rattle.std.specs.Prelude.{◌≡◌, List, Some, option_map};
 ghost use Rattle.trees.specs.Tree.{Tree};
 ghost use Rattle.elab_names.specs.Abstract.{variable_type, type_expression_of, forms_of, bound_names_of, binders_of};
 ghost use Rattle.elab_names.specs.Where.{Stands};
 ghost use Rattle.elab_names.specs.Faults.{fault_if, meaning_fault, form_fault, forms_fault, type_fault, binders_fault};
-ghost use Rattle.elab_names.specs.Naming.{where_at, meaning_at, type_named, Tells};
+ghost use Rattle.elab_names.specs.Naming.{where_at, meaning_at, type_named, Tells, as_result};
 
 use crate::NamingFault;
 use crate::operators::own_name;
@@ -17,7 +17,7 @@ use syntax_why::{BinderTree, TypeNode, TypeTree};
 
 /// A fault, if a test says so.
 pub fn refuse_if(test: bool, fault: NamingFault) -> Result<(), NamingFault>
-    ensures { Tells result (fault_if test fault) }
+    ensures { result ≡ as_result (fault_if test fault) }
 {
     if test { Err(fault) } else { Ok(()) }
 }

@@ -7,7 +7,7 @@ use Rattle.syntax_why.specs.Lexeme.{Word}
 use Rattle.elab_names.specs.Abstract.{TypeExpression, TypeExpressions, variable_type, composed_type, product_type, no_types, more_types, Pattern, Patterns, wildcard_pattern, variable_pattern, constructor_pattern, tuple_pattern, alias_pattern, no_patterns, more_patterns, Alternatives, no_alternatives, more_alternatives, BoundNames, Expression, Expressions, MatchBranches, applied_expression, infix_expression, integer_expression, true_expression, false_expression, tuple_expression, cast_expression, not_expression, connected_expression, equality_expression, if_expression, let_expression, match_expression, quantified_expression, no_expressions, more_expressions, no_branches, more_branches, count_forms, count_patterns, count_expressions}
 use Rattle.elab_names.specs.declared.NamingFault.{NamingFault}
 use Rattle.elab_names.specs.declared.NamingFault.TheVariants.{Unknown, Duplicate, WrongKind, Arity}
-use Rattle.elab_names.specs.Faults.{first_of, fault_if, meaning_fault, form_fault, forms_fault, differ, is_predicate, symbol_fault, local_fault, is_variable, name_fault, type_fault, binders_fault, bound_names, constructor_fault, pattern_names, pattern_fault, patterns_fault, same_names, later_fault, alternatives_fault, alternatives_names, has_alternative, TriggerHeadTree, trigger_named, trigger_equality, trigger_other, trigger_head, makes_formulas, is_formula_head, is_formula_trigger, fault, faults, triggers_fault, branches_fault}
+use Rattle.elab_names.specs.Faults.{first_of, fault_if, meaning_fault, form_fault, forms_fault, differ, is_predicate, symbol_fault, local_fault, is_variable, name_fault, type_fault, binders_fault, bound_names, constructor_fault, pattern_names, pattern_fault, patterns_fault, same_names, later_fault, alternatives_fault, alternatives_names, first_pattern_fault, has_alternative, TriggerHeadTree, trigger_named, trigger_equality, trigger_other, trigger_head, makes_formulas, is_formula_head, is_formula_trigger, fault, faults, triggers_fault, branches_fault}
 use Rattle.elab_names.specs.Where.{Where, MeaningTree, Stands, Abbreviates, place_of}
 use Rattle.elab_parts.specs.Alike.{meaning_arity, EntryShape, shape, TypesAlike, AreScopesAlike}
 
@@ -121,6 +121,11 @@ module _ (w v : Where) (a : AreScopesAlike w v) where
   alternatives_alike no_alternatives = refl
   alternatives_alike (more_alternatives i p ps) = both (pattern_alike [] p) (later_alike (pattern_names p) ps)
 
+  first_pattern_alike : (is_let : Bool) (bs : MatchBranches) → first_pattern_fault w is_let bs ≡ first_pattern_fault v is_let bs
+  first_pattern_alike true (more_branches ps b bs) = alternatives_alike ps
+  first_pattern_alike true no_branches = refl
+  first_pattern_alike false bs = refl
+
   -- ---- terms and formulas
   mutual
     pub alike : (e : Expression) (o : Bool) (ls : List Word) (due : Bool) → fault w o ls due e ≡ fault v o ls due e
@@ -136,7 +141,7 @@ module _ (w v : Where) (a : AreScopesAlike w v) where
     alike (equality_expression i same a b) o ls due = both (alike a o ls false) (later (fault_if (not due) (WrongKind i)) (alike b o ls false))
     alike (if_expression i c a b) o ls due = both (alike c o ls true) (both (alike a o ls due) (alike b o ls due))
     alike (let_expression i x a b) o ls due = both (alike a o ls false) (alike b o (x ∷ ls) due)
-    alike (match_expression i e bs) o ls due = both (alike e o ls false) (later (fault_if (not (has_alternative bs)) (WrongKind i)) (branches_alike bs o ls due))
+    alike (match_expression i is_let e bs) o ls due = both (first_pattern_alike is_let bs) (both (alike e o ls false) (later (fault_if (not (has_alternative bs)) (WrongKind i)) (branches_alike bs o ls due)))
     alike (quantified_expression i all bs gs b) o ls due =
         let inside = reverse (bound_names bs) ++ ls in
         later (fault_if (not due) (WrongKind i)) (both (binders_alike w v a.forms o bs) (both (triggers_alike gs o inside) (alike b o inside true)))

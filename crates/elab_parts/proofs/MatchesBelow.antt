@@ -123,7 +123,7 @@ module _ (w : Where) (sc : IsScoped w) where
         let value = piece w ls (n + 1) (Some (unknown n)) a in
         let body = piece w (local x (unknown n) ∷ ls) (unknown_after (n + 1) value) t b in
         led n (n + 1) [] (i ∷ []) (follow value.notes body.notes) refl (followed (n + 1) value.notes body.notes (matches_bounded a ls (n + 1) (Some (unknown n))) (matches_bounded b (local x (unknown n) ∷ ls) (unknown_after (n + 1) value) t))
-    matches_bounded (match_expression i e bs) ls n t =
+    matches_bounded (match_expression i is_let e bs) ls n t =
         let subject = piece w ls (n + 1) (Some (unknown n)) e in
         let j = unknown_after (n + 1) subject in
         let r = branches_arms w ls j (unknown n) t bs in

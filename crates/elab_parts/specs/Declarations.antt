@@ -1,6 +1,6 @@
 -- Declarations in abstract syntax: what each makes, and its first fault of names (Why3 manual, "logical declarations").
-use Rattle.std.specs.Prelude.{ℕ, Bool, true, false, cond, ◌||◌, List, [], ◌∷◌, ◌++◌, map, reverse, Option, Some, None, option_map}
-use Rattle.std.specs.Option.{is_some, is_none}
+use Rattle.std.specs.Prelude.{ℕ, Bool, true, false, cond, ◌||◌, List, [], ◌∷◌, ◌++◌, map, Option, Some, None, option_map}
+use Rattle.std.specs.Option.{is_some}
 use Rattle.std.specs.Str.{bytes_eq}
 use Rattle.syntax_why.specs.Lexeme.{Word}
 use Rattle.syntax_why.specs.declared.names.Name.{Name}
@@ -13,7 +13,7 @@ use Rattle.names_space.specs.Names.{same_table}
 use Rattle.elab_names.specs.Abstract.{TypeExpression, TypeExpressions, Expression, type_expression, type_expressions, expression, text_of_own}
 use Rattle.elab_names.specs.declared.NamingFault.{NamingFault}
 use Rattle.elab_names.specs.declared.NamingFault.TheVariants.{Duplicate}
-use Rattle.elab_names.specs.Faults.{first_of, fault_if, form_fault, forms_fault, type_fault, fault}
+use Rattle.elab_names.specs.Faults.{first_of, fault_if, form_fault, forms_fault, fault}
 use Rattle.elab_variables.specs.Seen.{SeenTree, form_seen, type_seen, seen}
 use Rattle.elab_names.specs.Where.{Where, place_of}
 use Rattle.elab_parts.specs.Elaborated.{unseen}
@@ -179,16 +179,6 @@ abbrev pub params_fault : Where → List Parameter → Option NamingFault
 params_fault w [] = None
 params_fault w (p ∷ ps) = first_of (form_fault w true p.of_type) (params_fault w ps)
 
-abbrev pub named_body_fault : Where → List Word → Bool → Option Expression → Option NamingFault
-named_body_fault w ls due None = None
-named_body_fault w ls due (Some e) = fault w false ls due e
-
-abbrev pub named_members_fault : Where → List GroupMember → Option NamingFault
-named_members_fault w [] = None
-named_members_fault w (m ∷ ms) =
-    first_of (params_fault w m.params)
-    (first_of (type_fault w true m.result) (first_of (named_body_fault (with_vars w (own_variables m)) (reverse (words (names_of_parameters m.params))) (is_none m.result) m.body) (named_members_fault w ms)))
-
 abbrev pub constructors_fault : Where → List AlgebraicConstructor → Option NamingFault
 constructors_fault w [] = None
 constructors_fault w (c ∷ cs) = first_of (forms_fault w false c.fields) (constructors_fault w cs)
@@ -205,16 +195,3 @@ clauses_fault w (c ∷ cs) = first_of (fault w true [] true c.prop) (clauses_fau
 abbrev pub inductives_fault : Where → List InductivePredicate → Option NamingFault
 inductives_fault w [] = None
 inductives_fault w (d ∷ ds) = first_of (params_fault w d.params) (first_of (clauses_fault w d.clauses) (inductives_fault w ds))
-
--- `around` is where the declaration's names aren't there yet, `inside` where they are: an alias names earlier types alone
-abbrev pub uses_fault : Where → Where → Declaration → Option NamingFault
-uses_fault around inside (abstract_type c vs) = None
-uses_fault around inside (alias c vs f) = form_fault (with_vars around (words vs)) false f
-uses_fault around inside (algebraic ts) = types_fault inside ts
-uses_fault around inside (member_group ms) = named_members_fault inside ms
-uses_fault around inside (inductive ds) = inductives_fault inside ds
-uses_fault around inside (proposition_declaration k c e) = fault around true [] true e
-
--- the first fault of names: of those that it makes, then of those that it uses
-abbrev pub declaration_fault : (Table → Word → Bool) → Where → Where → Declaration → Option NamingFault
-declaration_fault declared around inside d = first_of (made_fault declared [] (made_names d)) (uses_fault around inside d)

@@ -8,7 +8,7 @@ use Rattle.elab_names.specs.Abstract.{TypeExpression, TypeExpressions, variable_
 use Rattle.elab_names.specs.declared.NamingFault.{NamingFault}
 use Rattle.elab_names.specs.declared.NamingFault.TheVariants.{Unknown, WrongKind}
 use Rattle.elab_names.specs.Where.{Where, MeaningTree, Stands, Abbreviates, place_of}
-use Rattle.elab_names.specs.Faults.{first_of, fault_if, meaning_fault, form_fault, forms_fault, symbol_fault, local_fault, is_variable, name_fault, type_fault, binders_fault, bound_names, constructor_fault, pattern_fault, patterns_fault, pattern_names, later_fault, alternatives_fault, alternatives_names, TriggerHeadTree, trigger_named, trigger_equality, trigger_other, trigger_head, makes_formulas, is_formula_head, is_formula_trigger, fault, faults, triggers_fault, branches_fault, has_alternative}
+use Rattle.elab_names.specs.Faults.{first_of, fault_if, meaning_fault, form_fault, forms_fault, symbol_fault, local_fault, is_variable, name_fault, type_fault, binders_fault, bound_names, constructor_fault, pattern_fault, patterns_fault, pattern_names, later_fault, alternatives_fault, alternatives_names, TriggerHeadTree, trigger_named, trigger_equality, trigger_other, trigger_head, makes_formulas, is_formula_head, is_formula_trigger, fault, faults, triggers_fault, branches_fault, first_pattern_fault, has_alternative}
 use Rattle.elab_variables.specs.Seen.{SeenTree, with_variable, with_width, form_seen, forms_seen, type_seen, binders_seen, pattern_seen, patterns_seen, alternatives_seen, seen, all_seen, branches_seen}
 use Rattle.elab_names.proofs.Placed.{one_more}
 
@@ -120,7 +120,7 @@ mutual
   some_more (equality_expression i same a b) s u h = some_more b (seen s a) u (some_more a s u h)
   some_more (if_expression i c a b) s u h = some_more b (seen (seen s c) a) u (some_more a (seen s c) u (some_more c s u h))
   some_more (let_expression i x a b) s u h = some_more b (seen s a) u (some_more a s u h)
-  some_more (match_expression i e bs) s u h = branches_more bs (seen s e) u (some_more e s u h)
+  some_more (match_expression i is_let e bs) s u h = branches_more bs (seen s e) u (some_more e s u h)
   some_more (quantified_expression i all bs gs b) s u h = some_more b (all_seen (binders_seen s bs) gs) u (all_more gs (binders_seen s bs) u (binders_more bs s u h))
 
   all_more : (es : Expressions) (s : SeenTree) → Stay s (all_seen s es)
@@ -185,6 +185,11 @@ module _ (w : Where) (vs : List Word) where
   alternatives_same no_alternatives = refl
   alternatives_same (more_alternatives i p ps) = cc (pattern_same p [], later_same ps (pattern_names p))
 
+  first_pattern_closed : (is_let : Bool) (bs : MatchBranches) → first_pattern_fault w is_let bs ≡ None → first_pattern_fault with_vars is_let bs ≡ None
+  first_pattern_closed true (more_branches ps b bs) h = alternatives_same ps ∙ h
+  first_pattern_closed true no_branches h = refl
+  first_pattern_closed false bs h = refl
+
   mutual
     form_closed : (f : TypeExpression) (s : SeenTree) → form_fault w true f ≡ None → AreIn (form_seen s f).vars vs → form_fault with_vars false f ≡ None
     form_closed (variable_type i v) s h k = ap (λ (b : Bool). fault_if b (Unknown i)) (none_not (place_of v vs) (k v (with_has v s)))
@@ -247,10 +252,11 @@ module _ (w : Where) (vs : List Word) where
     closed (let_expression i x a b) s ls due h k =
         let p = none_both (fault w true ls false a) (fault w true (x ∷ ls) due b) h in
         both_none _ _ (closed a s ls false p.0 (λ v m. k v (some_more b (seen s a) v m))) (closed b (seen s a) (x ∷ ls) due p.1 k)
-    closed (match_expression i e bs) s ls due h k =
-        let p = none_both (fault w true ls false e) (first_of (fault_if (not (has_alternative bs)) (WrongKind i)) (branches_fault w true ls due bs)) h in
+    closed (match_expression i is_let e bs) s ls due h k =
+        let o = none_both (first_pattern_fault w is_let bs) (first_of (fault w true ls false e) (first_of (fault_if (not (has_alternative bs)) (WrongKind i)) (branches_fault w true ls due bs))) h in
+        let p = none_both (fault w true ls false e) (first_of (fault_if (not (has_alternative bs)) (WrongKind i)) (branches_fault w true ls due bs)) o.1 in
         let q = none_both (fault_if (not (has_alternative bs)) (WrongKind i)) (branches_fault w true ls due bs) p.1 in
-        both_none _ _ (closed e s ls false p.0 (λ v m. k v (branches_more bs (seen s e) v m))) (both_none _ _ q.0 (branches_closed bs (seen s e) ls due q.1 k))
+        both_none _ _ (first_pattern_closed is_let bs o.0) (both_none _ _ (closed e s ls false p.0 (λ v m. k v (branches_more bs (seen s e) v m))) (both_none _ _ q.0 (branches_closed bs (seen s e) ls due q.1 k)))
     closed (quantified_expression i all bs gs b) s ls due h k =
         let inside = reverse (bound_names bs) ++ ls in
         let s1 = binders_seen s bs in

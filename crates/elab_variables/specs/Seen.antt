@@ -68,7 +68,7 @@ abbrev mutual
   seen s (equality_expression i same a b) = seen (seen s a) b
   seen s (if_expression i c a b) = seen (seen (seen s c) a) b
   seen s (let_expression i x a b) = seen (seen s a) b
-  seen s (match_expression i e bs) = branches_seen (seen s e) bs
+  seen s (match_expression i is_let e bs) = branches_seen (seen s e) bs
   seen s (quantified_expression i all bs gs b) = seen (all_seen (binders_seen s bs) gs) b
 
   pub all_seen : SeenTree → Expressions → SeenTree

@@ -213,8 +213,8 @@ module _ (w : Where) (sc : IsScoped w) where
         let y = piece w inside j t b in
         two_below (n + 1) (n + length (i ∷ (x.notes.takers ++ y.notes.takers))) x y (omega (arith, length-append x.notes.takers y.notes.takers)) (bounded a ls (n + 1) (Some (unknown n)) ns false (locals_more ls n (n + 1) (omega arith) h) (omega arith) (omega (arith, o)) p.0)
         (bounded b inside j t (v ∷ ns) due (omega arith, locals_more ls n j (omega arith) h) (wanted_more t n j (omega arith) k) (omega (arith, o)) p.1)
-    bounded (match_expression i e bs) ls n t ns due h k o f =
-        let p = in_cases w ns due i e bs f in
+    bounded (match_expression i is_let e bs) ls n t ns due h k o f =
+        let p = in_cases w ns due i is_let e bs f in
         let x = piece w ls (n + 1) (Some (unknown n)) e in
         let j = unknown_after (n + 1) x in
         let r = branches_arms w ls j (unknown n) t bs in

@@ -21,7 +21,7 @@ use Rattle.elab_names.proofs.Nodes.{patterns_are}
 use Rattle.elab_names.specs.Abstract.{first_form, side_by_side, grouped_patterns, patterns_of, Patterns, wildcard_pattern, variable_pattern, constructor_pattern, tuple_pattern, alias_pattern, no_patterns, more_patterns, Alternatives, no_alternatives, more_alternatives, Expression, MatchBranches, match_expression, no_branches, more_branches, count_patterns}
 use Rattle.elab_names.specs.declared.NamingFault.TheVariants.{WrongKind}
 use Rattle.elab_names.specs.declared.world.World.{World}
-use Rattle.elab_names.specs.Faults.{fault_if, fault, branches_fault, alternatives_fault, alternatives_names, pattern_names, patterns_names, has_alternative}
+use Rattle.elab_names.specs.Faults.{fault_if, fault, branches_fault, alternatives_fault, alternatives_names, pattern_names, patterns_names, first_pattern_fault, has_alternative}
 use Rattle.elab_names.specs.Naming.{where_at}
 use Rattle.elab_names.specs.Where.{Where}
 use Rattle.elab_walk.specs.declared.draft.Draft.{Draft}
@@ -62,9 +62,10 @@ first_names w n t no_alternatives = refl
 first_names w n t (more_alternatives i p ps) = pattern_variables w None n t p
 
 -- ---- no fault in a whole, none in its parts
-pub in_cases : (w : Where) (ls : List Word) (b : Bool) (i : ℕ) (e : Expression) (bs : MatchBranches) → fault w false ls b (match_expression i e bs) ≡ None → (fault w false ls false e ≡ None) × (has_alternative bs ≡ true) × (branches_fault w false ls b bs ≡ None)
-in_cases w ls b i e bs h =
-    let p = none_both (fault w false ls false e) _ h in
+pub in_cases : (w : Where) (ls : List Word) (b : Bool) (i : ℕ) (is_let : Bool) (e : Expression) (bs : MatchBranches) → fault w false ls b (match_expression i is_let e bs) ≡ None → (fault w false ls false e ≡ None) × (has_alternative bs ≡ true) × (branches_fault w false ls b bs ≡ None)
+in_cases w ls b i is_let e bs h =
+    let o = none_both (first_pattern_fault w is_let bs) _ h in
+    let p = none_both (fault w false ls false e) _ o.1 in
     let q = none_both (fault_if (not (has_alternative bs)) (WrongKind i)) _ p.1 in
     (p.0, must_be (has_alternative bs) (WrongKind i) q.0, q.1)
 
@@ -286,15 +287,15 @@ module _ {s s1 : List Tree} {d d1 : Draft} {w : World} {ls : Locals} {vs : List 
   pub branch_locals : reverse (map (local_at s1) vs) ++ locals_at s1 ls ≡ reverse (first_variables (alternatives_pieces (where_at s w) n t ps)) ++ locals_at s ls
   branch_locals = cc (a.locals, locals_stay s s1 g ls set.locals)
 
-pub match_walked : {s : List Tree} {d : Draft} {w : World} {ls : Locals} {t : Option TermId} (i : ℕ) (e : Expression) (bs : MatchBranches) → CanWalk s d w ls t (match_expression i e bs)
+pub match_walked : {s : List Tree} {d : Draft} {w : World} {ls : Locals} {t : Option TermId} (i : ℕ) (is_let : Bool) (e : Expression) (bs : MatchBranches) → CanWalk s d w ls t (match_expression i is_let e bs)
     → {s1 s2 s3 s4 : List Tree} {d1 d2 d3 d4 d5 : Draft} {ty x y id : TermId} {ids : List TermId} (place : ℕ) → place ≡ length d.matches → IsNoted s d s d1 (with_match i [])
     → tree_at s1 ty ≡ Leaf (HTyVar (length d1.takers)) → HoldsType s1 ty → IsNoted s d1 s1 d2 (noted [] (i ∷ [])) → Grows s s1
     → IsWalked (piece (where_at s1 w) (locals_at s1 ls) (length d2.takers) (Some (tree_at s1 ty)) e) Term s1 d2 s2 d3 x → Grows s1 s2
     → AreArms (branches_arms (where_at s2 w) (locals_at s2 ls) (length d3.takers) (tree_at s2 ty) (option_map (tree_at s2) t) bs) (due t) s2 d3 [] s3 d4 ids y → Grows s2 s3
     → d5.equations ≡ d4.equations → d5.takers ≡ d4.takers → d5.matches ≡ slice_set d4.matches place (record { token = i; patterns = ids })
     → IsMade s3 d5 s4 (Two HCase (tree_at s3 x) (tree_at s3 y)) id
-    → IsWalked (piece (where_at s w) (locals_at s ls) (length d.takers) (option_map (tree_at s) t) (match_expression i e bs)) (due t) s d s4 d5 id
-match_walked {s} {d} {w} {ls} {t} i e bs can {s1} {s2} {s3} {s4} {d1} {d2} {d3} {d4} {d5} {ty} {x} {y} {id} {ids} place p n1 u hu n2 g1 a g2 r g3 qe qt qm m =
+    → IsWalked (piece (where_at s w) (locals_at s ls) (length d.takers) (option_map (tree_at s) t) (match_expression i is_let e bs)) (due t) s d s4 d5 id
+match_walked {s} {d} {w} {ls} {t} i is_let e bs can {s1} {s2} {s3} {s4} {d1} {d2} {d3} {d4} {d5} {ty} {x} {y} {id} {ids} place p n1 u hu n2 g1 a g2 r g3 qe qt qm m =
     let n : ℕ = length d.takers in
     let len1 : length d1.takers ≡ n = next n1 ∙ (let z : n + 0 ≡ n = omega arith in z) in
     let len2 : length d2.takers ≡ n + 1 = next n2 ∙ ap (λ (j : ℕ). j + 1) len1 in
@@ -311,7 +312,7 @@ match_walked {s} {d} {w} {ls} {t} i e bs can {s1} {s2} {s3} {s4} {d1} {d2} {d3} 
     let noted5 : IsNoted s d s3 d5 (follow (with_match i (trees_at s3 ids)) rest) = filled_noted i place ids rest p noted4 arm.patterns qe qt qm in
     let done : IsNoted s d s3 d5 (follow (with_match i whole.patterns) rest) = noted_as noted5 (follow (with_match i whole.patterns) rest) (ap (λ (ts : List Tree). follow (with_match i ts) rest) arm.trees) in
     let inside : tree_at s3 x ≡ subject.tree = tree_at-grows s2 s3 x g3 sub.held ∙ sub.tree in
-    let cell : head_of (tree_at s3 y) ≡ HCell = ap head_of arm.tree ∙ has_arm (where_at s w) (locals_at s ls) (unknown n) (option_map (tree_at s) t) bs (unknown_after (n + 1) subject) (in_cases (where_at s w) (names_of_locals ls) (is_due t) i e bs can.resolved).1 in
+    let cell : head_of (tree_at s3 y) ≡ HCell = ap head_of arm.tree ∙ has_arm (where_at s w) (locals_at s ls) (unknown n) (option_map (tree_at s) t) bs (unknown_after (n + 1) subject) (in_cases (where_at s w) (names_of_locals ls) (is_due t) i is_let e bs can.resolved).1 in
     record {
       held = m.held;
       tree = m.tree ∙ cc (inside, arm.tree);

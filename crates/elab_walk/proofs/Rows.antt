@@ -1,5 +1,5 @@
 -- The definitions on small sources: by computation alone.
-use Rattle.std.proofs.Common.{◌≡◌, ℕ, zero, suc, pos, true, cond, List, [], ◌∷◌, Option, Some, None, refl, codes}
+use Rattle.std.proofs.Common.{◌≡◌, ℕ, zero, suc, pos, true, false, cond, List, [], ◌∷◌, Option, Some, None, refl, codes}
 use Rattle.std.specs.Str.{bytes_eq}
 use Rattle.trees.specs.Tree.{Tree, Leaf, One, Two, HTyVar, HTyApp, HEnd, HBound, HEq, HForall, HLet, HPatVar}
 use Rattle.trees.specs.Sorts.{int_type}
@@ -86,7 +86,7 @@ alias_type : type_at here (composed_type 0 [] (codes "pair") (more_types (compos
 alias_type = refl
 
 -- `match c with x -> p x end`: the match with its pattern is before those of its parts
-match_notes : (piece here [] 0 None (match_expression 2 (name 3 (codes "c")) (more_branches (more_alternatives 5 (variable_pattern 5 (codes "x")) no_alternatives) (applied_expression 7 [] (codes "p") (more_expressions (name 8 (codes "x")) no_expressions)) no_branches))).notes.matches
+match_notes : (piece here [] 0 None (match_expression 2 false (name 3 (codes "c")) (more_branches (more_alternatives 5 (variable_pattern 5 (codes "x")) no_alternatives) (applied_expression 7 [] (codes "p") (more_expressions (name 8 (codes "x")) no_expressions)) no_branches))).notes.matches
     ≡ (2, One HPatVar (unknown 0) ∷ []) ∷ []
 match_notes = refl
 

@@ -229,7 +229,7 @@ abbrev mutual
   piece w ls n t (let_expression i x a b) =
       let value = piece w ls (n + 1) (Some (unknown n)) a in
       noted_before (noted [] (i ∷ [])) (both_pieces (Two HLet) value (piece w (local x (unknown n) ∷ ls) (unknown_after (n + 1) value) t b))
-  piece w ls n t (match_expression i e bs) =
+  piece w ls n t (match_expression i is_let e bs) =
       let subject = piece w ls (n + 1) (Some (unknown n)) e in
       match_piece i subject (branches_arms w ls (unknown_after (n + 1) subject) (unknown n) t bs)
   piece w ls n t (quantified_expression i all bs gs b) =

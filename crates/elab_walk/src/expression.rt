@@ -477,12 +477,12 @@ fn walk_match(
     wanted: Option<TermId>,
 ) -> Result<TermId, AllocError>
     requires { CanWalk store.old draft.old world.now locals.now wanted
-        (match_expression token (grouped
+        (match_expression token false (grouped
         (first_tree (code.trees (map code.tree_of values.now))) (expressions_of values.now))
         (branches_of branches.now)) }
     ensures walked { IfOk result (IsWalked (piece (where_at store.old world.now)
         (locals_at store.old locals.now) (length draft.old.takers)
-        (option_map (tree_at store.old) wanted) (match_expression token (grouped (first_tree
+        (option_map (tree_at store.old) wanted) (match_expression token false (grouped (first_tree
         (code.trees (map code.tree_of values.now))) (expressions_of values.now))
         (branches_of branches.now))) (due wanted) store.old draft.old store.new draft.new) }
     ensures grows { Grows store.old store.new }
@@ -521,15 +521,16 @@ fn walk_matched(
     locals: &Locals<'_>,
     wanted: Option<TermId>,
 ) -> Result<TermId, AllocError>
-    requires { CanWalk store.old draft.old world.now locals.now wanted (match_expression token
+    requires { CanWalk store.old draft.old world.now locals.now wanted (match_expression token true
         (expression_of value.now) (more_branches (more_alternatives (first_form
         (code.patterns pattern.now)) (side_by_side (code.patterns pattern.now)) no_alternatives)
         (expression_of body.now) no_branches)) }
     ensures walked { IfOk result (IsWalked (piece (where_at store.old world.now)
         (locals_at store.old locals.now) (length draft.old.takers)
-        (option_map (tree_at store.old) wanted) (match_expression token (expression_of value.now)
-        (more_branches (more_alternatives (first_form (code.patterns pattern.now)) (side_by_side
-        (code.patterns pattern.now)) no_alternatives) (expression_of body.now) no_branches)))
+        (option_map (tree_at store.old) wanted) (match_expression token true
+        (expression_of value.now) (more_branches (more_alternatives (first_form
+        (code.patterns pattern.now)) (side_by_side (code.patterns pattern.now)) no_alternatives)
+        (expression_of body.now) no_branches)))
         (due wanted) store.old draft.old store.new draft.new) }
     ensures grows { Grows store.old store.new }
 {

@@ -1,4 +1,4 @@
-// The theories of a source are determined: a source has one list of theories, or one first fault, whatever store its types are put into.
+// The theories of a source are determined: a source has at most one list of theories and at most one first fault, whatever store its types are put into.
 ghost use Rattle.std.specs.Prelude.{◌≡◌, ◌≢◌, List, Option};
 ghost use Rattle.trees.specs.Tree.{Tree};
 ghost use Rattle.syntax_why.specs.Declarations.{SyntaxDeclarations, Element, SyntaxTheory};
@@ -13,19 +13,21 @@ ghost use Rattle.clone_theories.specs.Cloned.{IsCloned, IsCloneFault};
 ghost use Rattle.theories.specs.Typing.{AreDeclarationsTyped, AreFaulty};
 ghost use Rattle.theories.specs.Files.{TheoriesOf, IsFirstSourceFault};
 
-/// A law: a theory is cloned in one way, or the clone has one first fault.
+/// A law: a theory is cloned in at most one way, or the clone has at most one first fault, and not
+/// both.
 pub fn clone_determined()
     ensures { (link : Link) (p : Path) (alias : Option Name) (es : List Element)
         → IsOneStep (IsCloned link p alias es) (IsCloneFault p es) }
 {}
 
-/// A law: the declarations of a theory are typed in one way, or have one first fault.
+/// A law: the declarations of a theory are typed in at most one way, or have at most one first
+/// fault, and not both.
 pub fn declarations_determined()
     ensures { (ds : SyntaxDeclarations) → IsOneStep (AreDeclarationsTyped ds) (AreFaulty ds) }
 {}
 
-/// A law: a source has one list of theories, or one first fault, and not both. Want of memory is no
-/// fault here.
+/// A law: a source has at most one list of theories and at most one first fault, and not both. Want
+/// of memory is no fault here.
 pub fn theories_determined()
     ensures one { (s t : List Tree) (file : List SyntaxTheory) (a b : TheoriesTree)
         → TheoriesOf s file a → TheoriesOf t file b → a ≡ b }

@@ -1,4 +1,4 @@
-// The elaboration of a declaration is determined: where it is alike over two stores, it has the same outcome, or the same first fault.
+// The elaboration of a declaration is determined: where it is alike over two stores, it has at most one outcome and one first fault.
 ghost use Rattle.std.specs.Prelude.{◌≡◌, ◌≢◌, List, None};
 ghost use Rattle.trees.specs.Tree.{Tree};
 ghost use Rattle.trees.specs.Node.{Grows};
@@ -19,8 +19,8 @@ pub fn outcomes_same()
         → IsOutcome d t x p → IsSameOutcome s t o p }
 {}
 
-/// A law: where a declaration stands alike, it has one first fault of names and types, and none
-/// where it has an outcome and no fault of names. Want of memory is no such fault.
+/// A law: where a declaration stands alike, it has at most one first fault of names and types, and
+/// none where it has an outcome and no fault of names. Want of memory is no such fault.
 pub fn refusals_same()
     ensures one { (c d : Setting) (x : Declaration) (f g : ElabFault) → IsSameSetting c d
         → IsRefusal c x f → IsRefusal d x g → f ≢ Memory → g ≢ Memory → f ≡ g }

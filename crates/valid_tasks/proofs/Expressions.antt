@@ -218,8 +218,8 @@ module _ (base : Vocabulary) (w : Where) (good : IsWellFormed base w) (rigid : â
           typed = Î» f o s j. let_typed (sig base w) (assigned_types rigid f ls) (option_map (at f o) t) (at f o (unknown n)) (at f o value.tree) (at f o body.tree)
               (x.typed f o (first_solved rigid f value.notes.equations body.notes.equations s) j.0) (y.typed f o (rest_solved rigid f value.notes.equations body.notes.equations s) j.1);
         }
-    sound (match_expression i e bs) ls n t h k u q =
-        let p = in_cases w (names ls) (is_none t) i e bs q in
+    sound (match_expression i is_let e bs) ls n t h k u q =
+        let p = in_cases w (names ls) (is_none t) i is_let e bs q in
         let subject = piece w ls (n + 1) (Some (unknown n)) e in
         let rest = branches_arms w ls (unknown_after (n + 1) subject) (unknown n) t bs in
         let x = sound e ls (n + 1) (Some (unknown n)) h tt u.0 p.0 in

@@ -454,8 +454,8 @@ module _ (P : ℕ → Type 0) where
           let c = owned a ls (n + 1) (Some (unknown n)) ns false h o p.0 (front (n + 1) x.notes.takers y.notes.takers g) in
           let d = owned b inside (unknown_after (n + 1) x) t (v ∷ ns) due (o, h) k p.1 (back (n + 1) x.notes.takers y.notes.takers g) in
           record { tree = (c.tree, d.tree); equations = both_equations x.notes.equations y.notes.equations c.equations d.equations }
-      owned (match_expression i e bs) ls n t ns due h k q f =
-          let p = in_cases w ns due i e bs q in
+      owned (match_expression i is_let e bs) ls n t ns due h k q f =
+          let p = in_cases w ns due i is_let e bs q in
           let x = piece w ls (n + 1) (Some (unknown n)) e in
           let r = branches_arms w ls (unknown_after (n + 1) x) (unknown n) t bs in
           let o : P n = first n i (x.notes.takers ++ r.notes.takers) f in

@@ -92,7 +92,7 @@ mutual
   grows (equality_expression i same a b) s = λ n h. grows b (seen s a) n (grows a s n h)
   grows (if_expression i c a b) s = λ n h. grows b (seen (seen s c) a) n (grows a (seen s c) n (grows c s n h))
   grows (let_expression i x a b) s = λ n h. grows b (seen s a) n (grows a s n h)
-  grows (match_expression i e bs) s = λ n h. branches_grow bs (seen s e) n (grows e s n h)
+  grows (match_expression i is_let e bs) s = λ n h. branches_grow bs (seen s e) n (grows e s n h)
   grows (quantified_expression i all bs gs b) s = λ n h. grows b (all_seen (binders_seen s bs) gs) n (all_grow gs (binders_seen s bs) n (binders_grow bs s n h))
 
   all_grow : (es : Expressions) (s : SeenTree) → IsWithin s (all_seen s es)
@@ -168,7 +168,7 @@ module _ (base : Vocabulary) (w : Where) where
         let p = two_tuples a b t (λ h. tuples_seen a t h) (λ h. tuples_seen b (seen t a) h) g in
         (tuples_seen c s (λ n h. g n (grows b (seen t a) n (grows a t n h))), p.0, p.1)
     tuples_seen (let_expression i x a b) s g = two_tuples a b s (λ h. tuples_seen a s h) (λ h. tuples_seen b (seen s a) h) g
-    tuples_seen (match_expression i e bs) s g = (tuples_seen e s (λ n h. g n (branches_grow bs (seen s e) n h)), branches_tuples bs (seen s e) g)
+    tuples_seen (match_expression i is_let e bs) s g = (tuples_seen e s (λ n h. g n (branches_grow bs (seen s e) n h)), branches_tuples bs (seen s e) g)
     tuples_seen (quantified_expression i all bs gs b) s g =
         let t = binders_seen s bs in
         let u = all_seen t gs in

@@ -88,7 +88,7 @@ abbrev mutual
   HasTuples base w (equality_expression i same a b) = HasTuples base w a × HasTuples base w b
   HasTuples base w (if_expression i c a b) = HasTuples base w c × HasTuples base w a × HasTuples base w b
   HasTuples base w (let_expression i x a b) = HasTuples base w a × HasTuples base w b
-  HasTuples base w (match_expression i e bs) = HasTuples base w e × BranchesTuples base w bs
+  HasTuples base w (match_expression i is_let e bs) = HasTuples base w e × BranchesTuples base w bs
   HasTuples base w (quantified_expression i all bs gs b) = BindersTuples base w bs × HaveTuples base w gs × HasTuples base w b
 
   pub HaveTuples : Vocabulary → Where → Expressions → Type 0

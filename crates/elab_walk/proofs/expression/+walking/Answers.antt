@@ -295,7 +295,7 @@ pub walk-returns-in-None-clause-walked : goal.walk-returns-in-None-clause-walked
 walk-returns-in-None-clause-walked t c =
     let s = c.args.store.now in
     let is = matched_as c.args.e.now c.in-Let.patterns c.in-Let.value c.in-Let.body c.in-Let.is (rw (c.as_slice-in-Let.ensures, c.in-None.is) at c.let_name.ensures) in
-    let make : List Pat → Expr → Expr → Expression = λ ps a b. match_expression c.args.e.now.at.main (expression_of a) (more_branches (more_alternatives (first_form (code.patterns ps)) (side_by_side (code.patterns ps)) no_alternatives) (expression_of b) no_branches) in
+    let make : List Pat → Expr → Expr → Expression = λ ps a b. match_expression c.args.e.now.at.main true (expression_of a) (more_branches (more_alternatives (first_form (code.patterns ps)) (side_by_side (code.patterns ps)) no_alternatives) (expression_of b) no_branches) in
     let same = is ∙ (ap (λ (ps : List Pat). make ps c.in-Let.value c.in-Let.body) (sym c.as_slice-patterns.ensures) ∙ (ap (λ (a : Expr). make c.as_slice-patterns.result.now a c.in-Let.body) (sym c.get-value.ensures) ∙ ap (λ (b : Expr). make c.as_slice-patterns.result.now c.get-value.result.now b) (sym c.get-body.ensures))) in
     subst (λ (x : Expression). IfOk c.walk_matched.result (IsWalked (piece (where_at s c.args.world.now) (locals_at s c.args.locals.now) (length c.args.draft.now.takers) (option_map (tree_at s) c.args.wanted) x) (due c.args.wanted) s c.args.draft.now c.walk_matched.new.store c.walk_matched.new.draft)) (sym same) c.walk_matched.ensures.walked
 
@@ -308,7 +308,7 @@ pub walk-returns-in-Match-clause-walked : goal.walk-returns-in-Match-clause-walk
 walk-returns-in-Match-clause-walked t c =
     let s = c.args.store.now in
     let is = expression_at-Match c.args.e.now c.in-Match.values c.in-Match.field-1 c.in-Match.branches c.in-Match.is in
-    let make : List Expr → List BranchTree → Expression = λ xs bs. match_expression c.args.e.now.at.main (grouped (first_tree (code.trees (map code.tree_of xs))) (expressions_of xs)) (branches_of bs) in
+    let make : List Expr → List BranchTree → Expression = λ xs bs. match_expression c.args.e.now.at.main false (grouped (first_tree (code.trees (map code.tree_of xs))) (expressions_of xs)) (branches_of bs) in
     let same = is ∙ (ap (λ (xs : List Expr). make xs c.in-Match.branches) (sym c.as_slice-values.ensures) ∙ ap (λ (bs : List BranchTree). make c.as_slice-values.result.now bs) (sym c.as_slice-branches.ensures)) in
     subst (λ (x : Expression). IfOk c.walk_match.result (IsWalked (piece (where_at s c.args.world.now) (locals_at s c.args.locals.now) (length c.args.draft.now.takers) (option_map (tree_at s) c.args.wanted) x) (due c.args.wanted) s c.args.draft.now c.walk_match.new.store c.walk_match.new.draft)) (sym same) c.walk_match.ensures.walked
 
@@ -546,13 +546,13 @@ walk_terms-returns-clause-noted t c =
 pub walk_match-walk_group-requires : goal.walk_match-walk_group-requires
 walk_match-walk_group-requires t c =
     let w = where_at c.args.store.now c.args.world.now in
-    let h = in_cases w (names_of_locals c.args.locals.now) (is_due c.args.wanted) c.args.token (grouped (first_tree (code.trees (map code.tree_of c.args.values.now))) (expressions_of c.args.values.now)) (branches_of c.args.branches.now) c.requires.resolved in
+    let h = in_cases w (names_of_locals c.args.locals.now) (is_due c.args.wanted) c.args.token false (grouped (first_tree (code.trees (map code.tree_of c.args.values.now))) (expressions_of c.args.values.now)) (branches_of c.args.branches.now) c.requires.resolved in
     let none' = ap (λ (i : ℕ). fault w false (names_of_locals c.args.locals.now) false (grouped i (expressions_of c.args.values.now))) c.first_token-first.ensures ∙ h.0 in
     (omega arith, go_on c.requires.set c.new_unknown.ensures.grows c.in_ok-ty.ensures.noted.ready c.in_ok-ty.ensures.held none')
 
 pub walk_match-walk_branches-requires : goal.walk_match-walk_branches-requires
 walk_match-walk_branches-requires t c =
-    let h = in_cases (where_at c.args.store.now c.args.world.now) (names_of_locals c.args.locals.now) (is_due c.args.wanted) c.args.token (grouped (first_tree (code.trees (map code.tree_of c.args.values.now))) (expressions_of c.args.values.now)) (branches_of c.args.branches.now) c.requires.resolved in
+    let h = in_cases (where_at c.args.store.now c.args.world.now) (names_of_locals c.args.locals.now) (is_due c.args.wanted) c.args.token false (grouped (first_tree (code.trees (map code.tree_of c.args.values.now))) (expressions_of c.args.values.now)) (branches_of c.args.branches.now) c.requires.resolved in
     let g = Grows_trans _ _ _ c.new_unknown.ensures.grows c.walk_group.ensures.grows in (
       omega arith,
       record {
@@ -569,7 +569,7 @@ walk_match-returns-clause-walked t c =
     let u = c.in_ok-ty.ensures in
     let a = rw c.first_token-first.ensures at c.in_ok-subject.ensures.walked in
     let r = rw c.new-patterns.ensures at c.in_ok-arms.ensures.arms in
-    IfOk-weaker c.make.result _ _ (λ id m. match_walked c.args.token (grouped (first_tree (code.trees (map code.tree_of c.args.values.now))) (expressions_of c.args.values.now)) (branches_of c.args.branches.now) c.requires c.in_ok-place.place c.in_ok-place.ensures.place c.in_ok-place.ensures.noted u.tree u.held u.noted c.new_unknown.ensures.grows a c.walk_group.ensures.grows r c.walk_branches.ensures.grows c.fill.ensures.equations c.fill.ensures.takers c.fill.ensures.matches m) c.make.ensures.made
+    IfOk-weaker c.make.result _ _ (λ id m. match_walked c.args.token false (grouped (first_tree (code.trees (map code.tree_of c.args.values.now))) (expressions_of c.args.values.now)) (branches_of c.args.branches.now) c.requires c.in_ok-place.place c.in_ok-place.ensures.place c.in_ok-place.ensures.noted u.tree u.held u.noted c.new_unknown.ensures.grows a c.walk_group.ensures.grows r c.walk_branches.ensures.grows c.fill.ensures.equations c.fill.ensures.takers c.fill.ensures.matches m) c.make.ensures.made
 
 pub walk_branch-walk-requires : goal.walk_branch-walk-requires
 walk_branch-walk-requires t c =
@@ -639,12 +639,12 @@ walk_branch-returns-clause-arms t c =
 
 pub walk_matched-walk-requires : goal.walk_matched-walk-requires
 walk_matched-walk-requires t c =
-    let h = in_cases (where_at c.args.store.now c.args.world.now) (names_of_locals c.args.locals.now) (is_due c.args.wanted) c.args.token (expression_of c.args.value.now) (more_branches (more_alternatives (first_form (code.patterns c.args.pattern.now)) (side_by_side (code.patterns c.args.pattern.now)) no_alternatives) (expression_of c.args.body.now) no_branches) c.requires.resolved in
+    let h = in_cases (where_at c.args.store.now c.args.world.now) (names_of_locals c.args.locals.now) (is_due c.args.wanted) c.args.token true (expression_of c.args.value.now) (more_branches (more_alternatives (first_form (code.patterns c.args.pattern.now)) (side_by_side (code.patterns c.args.pattern.now)) no_alternatives) (expression_of c.args.body.now) no_branches) c.requires.resolved in
     (omega arith, go_on c.requires.set c.new_unknown.ensures.grows c.in_ok-ty.ensures.noted.ready c.in_ok-ty.ensures.held h.0)
 
 pub walk_matched-walk_branch-requires : goal.walk_matched-walk_branch-requires
 walk_matched-walk_branch-requires t c =
-    let h = in_cases (where_at c.args.store.now c.args.world.now) (names_of_locals c.args.locals.now) (is_due c.args.wanted) c.args.token (expression_of c.args.value.now) (more_branches (more_alternatives (first_form (code.patterns c.args.pattern.now)) (side_by_side (code.patterns c.args.pattern.now)) no_alternatives) (expression_of c.args.body.now) no_branches) c.requires.resolved in
+    let h = in_cases (where_at c.args.store.now c.args.world.now) (names_of_locals c.args.locals.now) (is_due c.args.wanted) c.args.token true (expression_of c.args.value.now) (more_branches (more_alternatives (first_form (code.patterns c.args.pattern.now)) (side_by_side (code.patterns c.args.pattern.now)) no_alternatives) (expression_of c.args.body.now) no_branches) c.requires.resolved in
     let g = Grows_trans _ _ _ c.new_unknown.ensures.grows c.walk.ensures.grows in (
       omega arith,
       record {
@@ -660,7 +660,7 @@ pub walk_matched-returns-clause-walked : goal.walk_matched-returns-clause-walked
 walk_matched-returns-clause-walked t c =
     let u = c.in_ok-ty.ensures in
     let r = rw c.new-patterns.ensures at c.in_ok-arms.ensures.arms in
-    IfOk-weaker c.make.result _ _ (λ id m. match_walked c.args.token (expression_of c.args.value.now) (more_branches (more_alternatives (first_form (code.patterns c.args.pattern.now)) (side_by_side (code.patterns c.args.pattern.now)) no_alternatives) (expression_of c.args.body.now) no_branches) c.requires c.in_ok-place.place c.in_ok-place.ensures.place c.in_ok-place.ensures.noted u.tree u.held u.noted c.new_unknown.ensures.grows c.in_ok-subject.ensures.walked c.walk.ensures.grows r c.walk_branch.ensures.grows c.fill.ensures.equations c.fill.ensures.takers c.fill.ensures.matches m) c.make.ensures.made
+    IfOk-weaker c.make.result _ _ (λ id m. match_walked c.args.token true (expression_of c.args.value.now) (more_branches (more_alternatives (first_form (code.patterns c.args.pattern.now)) (side_by_side (code.patterns c.args.pattern.now)) no_alternatives) (expression_of c.args.body.now) no_branches) c.requires c.in_ok-place.place c.in_ok-place.ensures.place c.in_ok-place.ensures.noted u.tree u.held u.noted c.new_unknown.ensures.grows c.in_ok-subject.ensures.walked c.walk.ensures.grows r c.walk_branch.ensures.grows c.fill.ensures.equations c.fill.ensures.takers c.fill.ensures.matches m) c.make.ensures.made
 
 pub walk_branches-returns-in_default-clause-arms : goal.walk_branches-returns-in_default-clause-arms
 walk_branches-returns-in_default-clause-arms t c =
@@ -733,7 +733,7 @@ walk_match-make-requires-clause-fits t c =
     let subject = c.in_ok-subject.ensures.walked in
     let arms = c.in_ok-arms.ensures.arms in
     let bs = branches_of c.args.branches.now in
-    let h = in_cases (where_at c.args.store.now c.args.world.now) (names_of_locals c.args.locals.now) (is_due c.args.wanted) c.args.token (grouped (first_tree (code.trees (map code.tree_of c.args.values.now))) (expressions_of c.args.values.now)) bs c.requires.resolved in
+    let h = in_cases (where_at c.args.store.now c.args.world.now) (names_of_locals c.args.locals.now) (is_due c.args.wanted) c.args.token false (grouped (first_tree (code.trees (map code.tree_of c.args.values.now))) (expressions_of c.args.values.now)) bs c.requires.resolved in
     let cell = has_arm (where_at s2 c.args.world.now) (locals_at s2 c.args.locals.now) (tree_at s2 c.in_ok-ty.ty) (option_map (tree_at s2) c.args.wanted) bs (length c.walk_group.new.draft.takers) h.1 in
     case_fits (tree_at s3 c.in_ok-subject.subject) (tree_at s3 c.in_ok-arms.arms) (grown_sort s2 s3 c.walk_branches.ensures.grows subject.held subject.sort) arms.branches (ap head_of arms.tree ∙ cell)
 
