@@ -1,16 +1,20 @@
 -- Variables in another order, over plain trees.
-use Rattle.std.proofs.Common.{◌≡◌, ℕ, ◌+◌, ◌-◌, ◌<◌, ◌≤◌, nat_lt, if◌then◌else◌, zero, suc, Bool, true, false, List, [], ◌∷◌, length, get_or, refl, ap, ◌∙◌, arith}
-use Rattle.std.specs.List.{All, AllByRecursion}
-use Rattle.std.proofs.lemmas.List.Elements.{recursion_from_All}
+use Rattle.std.proofs.Common.{◌≡◌, ℕ, ◌+◌, ◌-◌, ◌<◌, ◌≤◌, min, nat_lt, nat_eq, if◌then◌else◌, zero, suc, Bool, true, false, ◌&&◌, ◌||◌, List, [], ◌∷◌, ◌++◌, length, get_or, Result, Ok, Err, IfOk, refl, ap, subst, ◌∙◌, arith}
+use Rattle.std.specs.List.{list_any}
 use Rattle.std.proofs.lemmas.Bool.Decides.{nat_tests}
-use Rattle.trees.specs.Tree.{Tree, Leaf, One, Two, Three, Head, HBound, HParam, HTyVar, HForall, HExists, HLet, HArm, pat_vars, binders, binders_over, size, loose, above_params, above_ty_vars}
+use Rattle.trees.specs.Tree.{Tree, Leaf, One, Two, Three, Head, HEnd, HBound, HParam, HTyVar, head_of, binders_over, loose, above_params, above_ty_vars}
+use Rattle.trees.specs.declared.Parts.{Parts}
+use Rattle.trees.specs.declared.Parts.TheVariants as parts
+use Rattle.trees.specs.Node.{assemble}
 use Rattle.trees.specs.Binding.{Bound, change, leaf_by, one_by}
-use Rattle.trees.specs.Facts.{IndicesFit, index_fits}
+use Rattle.trees.specs.Facts.{IndicesFit}
+use Rattle.trees.specs.Sorts.{WellSorted}
 use Rattle.trees.proofs.Above.{KeepsBelow, change_left}
-use Rattle.trees.proofs.Sizes.{pat_vars_le}
+use Rattle.trees.proofs.Sizes.{sorted_fits}
 use Rattle.binders.specs.Depth.{IsDepth}
+use Rattle.binders.specs.Known.{same_pair}
 use Rattle.elab_walk.specs.Patterns.{reordering}
-use Rattle.elab_walk.specs.Reordered.{IsInOrder}
+use Rattle.elab_walk.specs.Reordered.{IsInOrder, HeadFits, ReorderedFits, AllReorderedFit}
 
 -- ---- at a variable
 pub low_place : (ps : List ℕ) (d i : ℕ) (ty : Tree) → i < d → (reordering ps).bound d i ty ≡ Bound i ty
@@ -38,52 +42,72 @@ pub reorder_left : (ps : List ℕ) (depth : ℕ) (e : Tree) → loose e ≤ dept
 reorder_left ps depth e l d i = change_left (reordering ps) 0 (above_params e) (above_ty_vars e) (below_reordering ps (above_params e) (above_ty_vars e)) d e (omega arith) (omega arith) (omega arith)
 
 -- ---- the indices of what is made fit
-binders_le : (h : Head) (n s : ℕ) → n ≤ s → 1 ≤ s → binders h n ≤ s
-binders_le HForall n s l k = k
-binders_le HExists n s l k = k
-binders_le HLet n s l k = k
-binders_le HArm n s l k = l
-binders_le _ n s l k = omega arith
+module _ (ps : List ℕ) (depth : ℕ) where
+  -- a tree that the binders around it close
+  pub left_fits : (e : Tree) → WellSorted e → loose e ≤ depth → ReorderedFits ps depth e
+  left_fits e w l d i = rw (reorder_left ps depth e l d i) (sorted_fits e w)
 
-size_some : (e : Tree) → 1 ≤ size e
-size_some (Leaf h) = omega arith
-size_some (One h a) = omega arith
-size_some (Two h a b) = omega arith
-size_some (Three h a b c) = omega arith
+  leaf_fits : (h : Head) → IndicesFit (leaf_by (reordering ps) h)
+  leaf_fits (HTyVar j) = tt
+  leaf_fits _ = tt
 
-place_at : (most : ℕ) (ps : List ℕ) → AllByRecursion (λ p. p ≤ most) ps → (k : ℕ) → get_or ps k 0 ≤ most
-place_at most [] h k = omega arith
-place_at most (p ∷ ps) h zero = h.0
-place_at most (p ∷ ps) h (suc k) = place_at most ps h.1 k
+  -- from the children
+  module _ (e : Tree) where
+    pub leaf_fit : (h : Head) → e ≡ Leaf h → ReorderedFits ps depth e
+    leaf_fit h q = rw q (λ d i. leaf_fits h)
 
-module _ (most : ℕ) (ps : List ℕ) (small : (k : ℕ) → get_or ps k 0 ≤ most) where
-  leaf_fit : (h : Head) → IndicesFit (leaf_by (reordering ps) h)
-  leaf_fit (HTyVar j) = tt
-  leaf_fit _ = tt
+    pub one_fit : (h : Head) (a : Tree) → e ≡ One h a → WellSorted e → HeadFits ps depth (head_of e) → ReorderedFits ps depth a → ReorderedFits ps depth e
+    one_fit h a q w k f =
+        let g : HeadFits ps depth h = subst (λ (x : Tree). HeadFits ps depth (head_of x)) q k in
+        let n : IndicesFit (One h a) = subst (λ (x : Tree). IndicesFit x) q (sorted_fits e w) in
+        rw q (λ d i. g d (change (reordering ps) d a) i n.0 (f d i))
 
-  bound_fit : (d i : ℕ) (x : Tree) → d + most < 18446744073709551615 → i < 18446744073709551615 → IndicesFit x → IndicesFit ((reordering ps).bound d i x)
-  bound_fit d i x l k f = of (nat_lt i d) (nat_lt i (d + length ps))
-    where
-      of : (b c : Bool) → IndicesFit (Bound (if b then i else (if c then d + get_or ps (i - d) 0 else i)) x)
-      of true c = (k, f)
-      of false true = (let p = small (i - d) in omega (arith, p), f)
-      of false false = (k, f)
+    pub two_fit : (h : Head) (a b : Tree) (under : ℕ) → e ≡ Two h a b → under ≡ min (depth + min (binders_over h a) 18446744073709551615) 18446744073709551615
+        → ReorderedFits ps depth a → ReorderedFits ps under b → ReorderedFits ps depth e
+    two_fit h a b under q u f g = rw q (λ d i. (f d i, g (d + binders_over h a) (omega (arith, u, i))))
 
-  one_fit : (d : ℕ) (h : Head) (x : Tree) → d + most < 18446744073709551615 → index_fits h → IndicesFit x → IndicesFit (one_by (reordering ps) d h x)
-  one_fit d (HBound i) x l k f = bound_fit d i x l k f
-  one_fit d (HParam n) x l k f = (tt, f)
-  one_fit d h x l k f = (k, f)
+    pub three_fit : (h : Head) (a b c : Tree) → e ≡ Three h a b c → ReorderedFits ps depth a → ReorderedFits ps depth b → ReorderedFits ps depth c → ReorderedFits ps depth e
+    three_fit h a b c q f g k = rw q (λ d i. (f d i, g d i, k d i))
 
-  fit_under : (d : ℕ) (e : Tree) → d + size e + most < 18446744073709551615 → IndicesFit e → IndicesFit (change (reordering ps) d e)
-  fit_under d (Leaf h) l f = leaf_fit h
-  fit_under d (One h a) l f = one_fit d h (change (reordering ps) d a) (omega arith) f.0 (fit_under d a (omega arith) f.1)
-  fit_under d (Two h a b) l f =
-      let n : binders_over h a ≤ size a = binders_le h (pat_vars a) (size a) (pat_vars_le a) (size_some a) in
-      (fit_under d a (omega arith) f.0, fit_under (d + binders_over h a) b (omega arith) f.1)
-  fit_under d (Three h a b c) l f = (fit_under d a (omega arith) f.0, fit_under d b (omega arith) f.1, fit_under d c (omega arith) f.2)
+pub own_head : (s : List Tree) (e : Tree) (h : Head) (ps : Parts) → e ≡ assemble s h ps → head_of e ≡ h
+own_head s e h parts.None q = ap head_of q
+own_head s e h (parts.One a) q = ap head_of q
+own_head s e h (parts.Two a b) q = ap head_of q
+own_head s e h (parts.Three a b c) q = ap head_of q
 
-pub reordered_fits : (most : ℕ) (ps : List ℕ) (e : Tree) → All (λ p. p ≤ most) ps → size e + most < 18446744073709551615 → IndicesFit e → IndicesFit (change (reordering ps) 0 e)
-reordered_fits most ps e h l f = fit_under most ps (place_at most ps (recursion_from_All (λ p. p ≤ most) ps h)) 0 e (omega arith) f
+-- what was looked at
+both_true : (a b : Bool) → a && b ≡ true → (a ≡ true) × (b ≡ true)
+both_true true true e = (refl, refl)
+both_true true false e = absurd (cc)
+both_true false b e = absurd (cc)
+
+pub fits_there : (ps : List ℕ) (s : List Tree) (ks : List (ℕ × ℕ)) (n depth : ℕ) → AllReorderedFit ps s ks → list_any (same_pair (n, depth)) ks ≡ true → ReorderedFits ps depth (get_or s n (Leaf HEnd))
+fits_there ps s [] n depth h e = absurd (cc)
+fits_there ps s (k ∷ ks) n depth h e = elim (same_pair (n, depth) k) as (λ b. same_pair (n, depth) k ≡ b → (b || list_any (same_pair (n, depth)) ks) ≡ true → ReorderedFits ps depth (get_or s n (Leaf HEnd))) [
+  | true ↦ λ q _.
+      let p = both_true (nat_eq n k.0) (nat_eq depth k.1) q in
+      let number : k.0 ≡ n = grind (arith, nat_tests, p.0) in
+      let binders : k.1 ≡ depth = grind (arith, nat_tests, p.1) in
+      rw (← number, ← binders) h.0
+  | false ↦ λ q more. fits_there ps s ks n depth h.1 more
+] refl e
+
+fits_push : (ps : List ℕ) (s : List Tree) (ks : List (ℕ × ℕ)) (n depth : ℕ) → AllReorderedFit ps s ks → ReorderedFits ps depth (get_or s n (Leaf HEnd)) → AllReorderedFit ps s (ks ++ (n, depth) ∷ [])
+fits_push ps s [] n depth h f = (f, tt)
+fits_push ps s (k ∷ ks) n depth h f = (h.0, fits_push ps s ks n depth h.1 f)
+
+-- and one more
+pub fits_more : (ps : List ℕ) (s : List Tree) (ks new : List (ℕ × ℕ)) (n depth : ℕ) → AllReorderedFit ps s ks → ReorderedFits ps depth (get_or s n (Leaf HEnd))
+    → new ≡ (if list_any (same_pair (n, depth)) ks then ks else ks ++ (n, depth) ∷ []) → AllReorderedFit ps s new
+fits_more ps s ks new n depth h f e = rw e (by (list_any (same_pair (n, depth)) ks))
+  where
+    by : (b : Bool) → AllReorderedFit ps s (if b then ks else ks ++ (n, depth) ∷ [])
+    by true = h
+    by false = fits_push ps s ks n depth h f
+
+pub looked : {X E : Type 0} (r : Result X E) (P Q : Type 0) → (P → Q) → IfOk r (λ _. P) → IfOk r (λ _. Q)
+looked (Ok x) P Q f p = f p
+looked (Err e) P Q f p = tt
 
 -- ---- places in order
 in_order_at : (n : ℕ) (ps : List ℕ) → IsInOrder n ps → (k : ℕ) → k < length ps → get_or ps k 0 ≡ n + k

@@ -1,16 +1,18 @@
 // A tree under the same variables in another order.
 // It depends on the walk of the binding functions; the arms of branches depend on it.
-ghost use Rattle.std.specs.Prelude.{refl, ◌≡◌, ◌≤◌, All, IsTrue, IfOk};
-ghost use Rattle.trees.specs.Node.{tree_at, node_tree, parts_of, AreBelow, Holds, Grows};
+ghost use Rattle.std.specs.Prelude.{refl, ◌≡◌, IsTrue, IfOk};
+ghost use Rattle.trees.specs.Tree.{head_of};
+ghost use Rattle.trees.specs.Node.{tree_at, node_tree, head_of_node, parts_of, AreBelow, Holds, Grows};
 ghost use Rattle.trees.specs.Sorts.{sort_of, Fits, WellSorted};
 ghost use Rattle.trees.specs.Binding.{change};
 ghost use Rattle.elab_walk.specs.Patterns.{reordering};
-ghost use Rattle.elab_walk.specs.Reordered.{sorts_reordering, IsInOrder};
+ghost use Rattle.elab_walk.specs.Reordered.{sorts_reordering, IsInOrder, HeadFits, AllReorderedFit, IsLookedAt};
 
 use binders::{Visit, change_tree};
+use indexmap::IndexSet;
 use std::alloc::{AllocError, Global};
 use term_store::{Grow, Store};
-use trees::{Node, TermId};
+use trees::{Node, Parts, TermId};
 
 /// The innermost variables have other places.
 #[derive(Drop)]
@@ -64,16 +66,85 @@ impl<'a> Visit for Reordering<'a> {
     }
 }
 
-// The greatest of some places, or 0.
-fn greatest_place(places: &[usize]) -> usize
-    ensures { All (λ p. p ≤ result) places.now }
+// Whether the index of a node below so many binders stays below the greatest number where the innermost variables have these
+// places.
+fn keeps_index(node: Node, depth: usize, places: &[usize]) -> bool
+    ensures { IsTrue result → HeadFits places.now depth (head_of_node node) }
 {
-    match places.split_first() {
-        Some((first, rest)) => {
-            let most = greatest_place(rest);
-            if *first < most { most } else { *first }
+    match node {
+        Node::Bound(index, _) => {
+            index < depth
+                || index - depth >= places.len()
+                || places[index - depth] < usize::MAX - depth
         }
-        None => 0,
+        _ => true,
+    }
+}
+
+// Looks at a tree below so many binders, at each part once below each number of them. That an index would be the greatest number
+// in the new order is want of memory.
+#[cycle(look)]
+fn look_at(
+    store: &Store,
+    places: &[usize],
+    seen: &mut IndexSet<(usize, usize)>,
+    e: TermId,
+    depth: usize,
+) -> Result<(), AllocError>
+    requires seen { AllReorderedFit places.now store.now seen.old.keys }
+    requires held { Holds store.now e }
+    ensures { IfOk result (λ _. IsLookedAt places.now store.now depth (tree_at store.now e)
+        seen.new.keys) }
+{
+    let node = store.node(e);
+    if store.loose(e) <= depth {
+        return Ok(());
+    }
+    if seen.contains(&(e.0, depth)) {
+        return Ok(());
+    }
+    if !keeps_index(node, depth, places) {
+        return Err(AllocError);
+    }
+    look_at_parts(store, places, seen, e, depth)?;
+    seen.insert((e.0, depth))?;
+    Ok(())
+}
+
+// Looks at the children of a tree whose own index stays below the greatest number.
+#[cycle(look)]
+fn look_at_parts(
+    store: &Store,
+    places: &[usize],
+    seen: &mut IndexSet<(usize, usize)>,
+    e: TermId,
+    depth: usize,
+) -> Result<(), AllocError>
+    requires seen { AllReorderedFit places.now store.now seen.old.keys }
+    requires held { Holds store.now e }
+    requires own { HeadFits places.now depth (head_of (tree_at store.now e)) }
+    ensures { IfOk result (λ _. IsLookedAt places.now store.now depth (tree_at store.now e)
+        seen.new.keys) }
+{
+    let node = store.node(e);
+    match node.parts() {
+        Parts::None => Ok(()),
+        Parts::One(a) => look_at(store, places, seen, a, depth),
+        Parts::Two(a, b) => {
+            look_at(store, places, seen, a, depth)?;
+            look_at(
+                store,
+                places,
+                seen,
+                b,
+                depth.saturating_add(store.binders(node, a)),
+            )
+        }
+        Parts::Three(a, b, c) => {
+            look_at(store, places, seen, a, depth)?;
+            look_at(store, places, seen, b, depth)?;
+            look_at(store, places, seen, c, depth)
+        }
     }
 }
 
@@ -95,8 +166,8 @@ fn is_in_order(places: &[usize], from: usize) -> bool
     }
 }
 
-/// The tree in which the innermost variables have these places. A tree of more nodes than there are numbers is want of memory,
-/// but where the places are in order.
+/// The tree in which the innermost variables have these places. That an index would be the greatest number, below nearly as many
+/// binders as there are numbers, is want of memory.
 pub fn reorder(
     alloc: Global,
     store: &mut Store,
@@ -114,10 +185,6 @@ pub fn reorder(
     if is_in_order(places, 0) {
         return Ok(body);
     }
-    let room = u64::MAX - greatest_place(places) as u64;
-    if store.size(body) >= room {
-        return Err(AllocError);
-    }
-    store.laws();
+    look_at(store, places, &mut IndexSet::new(alloc), body, 0)?;
     change_tree(alloc, store, &Reordering { places }, body)
 }
