@@ -9,7 +9,7 @@ use Rattle.trees.specs.declared.TermId.{TermId}
 use Rattle.trees.specs.declared.Sort.{Sort}
 use Rattle.trees.specs.declared.Sort.TheVariants as sort
 use Rattle.trees.specs.Tree.{Tree, Leaf, HEnd}
-use Rattle.trees.specs.Node.{tree_at}
+use Rattle.trees.specs.Node.{tree_at, Holds}
 use Rattle.trees.specs.Sorts.{sort_of}
 use Rattle.tasks.specs.Task.{TaskTree}
 use Rattle.tasks.specs.Meaning.{trees_at}
@@ -29,7 +29,7 @@ use Rattle.tree_writing.specs.declared.writer.Trees.{Trees}
 use Rattle.tree_writing.specs.Referring.{AreLines, line_at, trees_of_sort}
 use Rattle.tree_writing.specs.Parts.{StandsIn, IsMarked}
 use Rattle.tree_writing.specs.Text.{spaced, line_text, whole_text}
-use Rattle.tree_writing.specs.Whole.{kind_of_sort, IsOfKind, letter, LineBack, tree_by, with_tree, nothing_before, TreeLine, line_bytes, ReadTrees, HaveLines, count_of, AreCounted, CountsLine, TreesHeld, IsNextLine, next_tree, IsWritingOf}
+use Rattle.tree_writing.specs.Whole.{kind_of_sort, IsOfKind, letter, LineBack, tree_by, with_tree, nothing_before, TreeLine, line_bytes, ReadTrees, of_kind, Differ, HaveLesser, HaveLines, count_of, AreCounted, CountsLine, TreesHeld, IsNextLine, next_tree, IsWritingOf}
 
 further : {X : Type 0} (xs ys : List X) (i : ℕ) (a : X) → slice_get xs i ≡ Some a → slice_get (xs ++ ys) i ≡ Some a
 further [] ys i a h = absurd (cc)
@@ -49,12 +49,6 @@ place_of_more [] a b (suc i) h = absurd (cc)
 place_of_more (x ∷ xs) a b zero h = inl h
 place_of_more (x ∷ xs) a b (suc i) h = elim (place_of_more xs a b i h) [ inl e ↦ inl e | inr p ↦ inr (ap suc p.0, p.1) ]
 
--- the trees of a kind
-abbrev of_kind : LineKind → Earlier → List Tree
-of_kind kind.Type r = r.types
-of_kind kind.Pattern r = r.patterns
-of_kind kind.Expression r = r.expressions
-
 sort_list : (x : Sort) (k : LineKind) (r : Earlier) → kind_of_sort x ≡ Some k → trees_of_sort x r ≡ of_kind k r
 sort_list sort.Kind k r e = let s : kind.Type ≡ k = cc in ap (λ (j : LineKind). of_kind j r) s
 sort_list sort.Pattern k r e = let s : kind.Pattern ≡ k = cc in ap (λ (j : LineKind). of_kind j r) s
@@ -67,6 +61,36 @@ own_more : (k : LineKind) (r : Earlier) (e : Tree) → of_kind k (with_tree k r 
 own_more kind.Type r e = refl
 own_more kind.Pattern r e = refl
 own_more kind.Expression r e = refl
+
+-- what holds of each kind holds with one more tree
+each_more : (P : List Tree → Type 0) (k : LineKind) (r : Earlier) (e : Tree) → ((j : LineKind) → P (of_kind j r)) → P (of_kind k r ++ e ∷ []) → (j : LineKind) → P (of_kind j (with_tree k r e))
+each_more P kind.Type r e h own kind.Type = own
+each_more P kind.Type r e h own kind.Pattern = h kind.Pattern
+each_more P kind.Type r e h own kind.Expression = h kind.Expression
+each_more P kind.Pattern r e h own kind.Type = h kind.Type
+each_more P kind.Pattern r e h own kind.Pattern = own
+each_more P kind.Pattern r e h own kind.Expression = h kind.Expression
+each_more P kind.Expression r e h own kind.Type = h kind.Type
+each_more P kind.Expression r e h own kind.Pattern = h kind.Pattern
+each_more P kind.Expression r e h own kind.Expression = own
+
+-- a tree that isn't there yet
+differ_more : (es : List Tree) (e : Tree) → Differ es → ((i : ℕ) → slice_get es i ≡ Some e → ⊥) → Differ (es ++ e ∷ [])
+differ_more es e h none i j a p q = elim (place_of_more es e a i p) [
+  | inl x ↦ elim (place_of_more es e a j q) [ inl y ↦ h i j a x y | inr y ↦ absurd (none i (x ∙ ap (λ (t : Tree). Some t) (sym y.1))) ]
+  | inr x ↦ elim (place_of_more es e a j q) [ inl y ↦ absurd (none j (y ∙ ap (λ (t : Tree). Some t) (sym x.1))) | inr y ↦ x.0 ∙ sym y.0 ]
+]
+
+lesser_later : (s : List Tree) (n : ℕ) (es : List Tree) → HaveLesser s n es → HaveLesser s (n + 1) es
+lesser_later s n es h i e p = let b = h i e p in (b.0, omega (arith, b.1), b.2)
+
+lesser_more : (s : List Tree) (n : ℕ) (es : List Tree) (e : Tree) → get_or s n (Leaf HEnd) ≡ e → HaveLesser s n es → HaveLesser s (n + 1) (es ++ e ∷ [])
+lesser_more s n es e is h i a p = elim (place_of_more es e a i p) [ inl x ↦ lesser_later s n es h i a x | inr x ↦ (n, omega arith, is ∙ x.1) ]
+
+no_trees : (k : LineKind) (i : ℕ) (e : Tree) → slice_get (of_kind k nothing_before) i ≡ Some e → ⊥
+no_trees kind.Type i e h = cc
+no_trees kind.Pattern i e h = cc
+no_trees kind.Expression i e h = cc
 
 -- what stood at a place still does
 kept_types : (k : LineKind) (r : Earlier) (e a : Tree) (n : ℕ) → slice_get r.types n ≡ Some a → slice_get (with_tree k r e).types n ≡ Some a
@@ -172,6 +196,7 @@ writing_none x w text numbers a b c = record {
     earlier = nothing_before;
     is = text;
     numbered = λ id n h. absurd (nothing id n (ap (λ (l : List (Option ℕ)). line_at l id) (sym numbers) ∙ h));
+    once = λ k i j e h g. absurd (no_trees k i e h);
     back = λ t u. refl;
   };
   counted = record {
@@ -180,6 +205,7 @@ writing_none x w text numbers a b c = record {
     expressions = sym c;
     few = few;
   };
+  lesser = λ k i e h. absurd (no_trees k i e h);
   there = λ i k l. absurd (omega (arith, l, ap (λ (z : List (Option ℕ)). length z) numbers));
 } where
   nothing : (id : TermId) (n : ℕ) → line_at [] id ≡ Some n → ⊥
@@ -205,9 +231,11 @@ writing_past x old new text numbers a b c none h = record {
     earlier = h.written.earlier;
     is = text ∙ h.written.is;
     numbered = subst (λ (l : List (Option ℕ)). AreLines x.store.now l h.written.earlier) (sym numbers) (lines_past x.store.now old.numbers.items h.written.earlier h.written.numbered);
+    once = h.written.once;
     back = h.written.back;
   };
   counted = counted_same h.written.earlier old new a b c (omega (arith, long)) h.counted;
+  lesser = λ k. subst (λ (n : ℕ). HaveLesser x.store.now n (of_kind k h.written.earlier)) (sym long) (lesser_later x.store.now (length old.numbers.items) (of_kind k h.written.earlier) (h.lesser k));
   there = λ i k l next. at i k next (below_or i (length old.numbers.items) (omega (arith, l, long)));
 } where
   long : length new.numbers.items ≡ length old.numbers.items + 1
@@ -218,17 +246,22 @@ writing_past x old new text numbers a b c none h = record {
   at i k next (inr e) = absurd (none k (subst (λ (j : ℕ). IsNextLine x j k) e next))
 
 -- the line of the next tree has been written
-pub writing_more : (x : Trees) (old mid new : Writing) (k : LineKind) (m : ℕ) (words : List LineWord) → TreesHeld x → IsNextLine x (length old.numbers.items) k → m ≡ count_of k old → mid.text.items ≡ old.text.items ++ line_text (letter k) words → mid.numbers.items ≡ old.numbers.items ++ Some m ∷ []
+pub writing_more : (x : Trees) (old mid new : Writing) (k : LineKind) (m : ℕ) (words : List LineWord) → TreesHeld x → ((a b : TermId) → Holds x.store.now a → Holds x.store.now b → tree_at x.store.now a ≡ tree_at x.store.now b → a ≡ b) → IsNextLine x (length old.numbers.items) k → m ≡ count_of k old → mid.text.items ≡ old.text.items ++ line_text (letter k) words → mid.numbers.items ≡ old.numbers.items ++ Some m ∷ []
     → mid.types ≡ old.types → mid.patterns ≡ old.patterns → mid.expressions ≡ old.expressions → CountsLine k mid new → LineBack x.store.now x.table.now old.numbers.items k (next_tree x old) words → IsWritingOf x old → IsWritingOf x new
-writing_more x old mid new k m words held next count text numbers a b c counts back h = record {
+writing_more x old mid new k m words held apart next count text numbers a b c counts back h = record {
   written = record {
     lines = h.written.lines ++ line_of k words ∷ [];
     earlier = with_tree k h.written.earlier (next_tree x old);
     is = counts.text ∙ text ∙ ap (λ (l : List ℕ). l ++ line_text (letter k) words) h.written.is ∙ sym (ap whole_text (map_push line_bytes h.written.lines (line_of k words)) ∙ whole_more (map line_bytes h.written.lines) (line_bytes (line_of k words)));
     numbered = subst (λ (l : List (Option ℕ)). AreLines x.store.now l (with_tree k h.written.earlier (next_tree x old))) (sym all)
         (lines_more x.store.now old.numbers.items h.written.earlier k m (count ∙ kind_count k h.written.earlier old h.counted) next.kind h.written.numbered);
+    once = each_more Differ k h.written.earlier (next_tree x old) h.written.once (differ_more (of_kind k h.written.earlier) (next_tree x old) (h.written.once k) new_tree);
     back = λ t u. reads_more t x.table.now (trees_at x.store.now x.roots.now) nothing_before h.written.lines h.written.earlier (line_of k words) (next_tree x old) (h.written.back t u) (back t h.written.earlier (u (next_tree x old) stands) h.written.numbered) stands;
   };
+  lesser = λ j. subst (λ (n : ℕ). HaveLesser x.store.now n (of_kind j (with_tree k h.written.earlier (next_tree x old)))) (sym long)
+      (each_more (HaveLesser x.store.now (length old.numbers.items + 1)) k h.written.earlier (next_tree x old)
+      (λ i. lesser_later x.store.now (length old.numbers.items) (of_kind i h.written.earlier) (h.lesser i))
+      (lesser_more x.store.now (length old.numbers.items) (of_kind k h.written.earlier) (next_tree x old) refl (h.lesser k)) j);
   counted = record { types = now.0; patterns = now.1; expressions = now.2; few = λ j. omega (arith, counts.few j, few j, long) };
   there = λ i j l n. at i j n (below_or i (length old.numbers.items) (omega (arith, l, long)));
 } where
@@ -248,6 +281,15 @@ writing_more x old mid new k m words held next count text numbers a b c counts b
   few kind.Type = omega (arith, h.counted.few kind.Type, a)
   few kind.Pattern = omega (arith, h.counted.few kind.Pattern, b)
   few kind.Expression = omega (arith, h.counted.few kind.Expression, c)
+
+  -- the next tree has no line yet
+  new_tree : (i : ℕ) → slice_get (of_kind k h.written.earlier) i ≡ Some (next_tree x old) → ⊥
+  new_tree i e =
+      let b = h.lesser k i (next_tree x old) e in
+      let next_held = held.marks.first.held (length old.numbers.items) next.mark in
+      let same = apart (record { 0 = b.0 }) (record { 0 = length old.numbers.items }) (omega (arith, b.1, next_held)) next_held b.2 in
+      let equal : b.0 ≡ length old.numbers.items = ap (λ (id : TermId). id.0) same in
+      omega (arith, b.1, equal)
 
   stands : StandsIn (trees_at x.store.now x.roots.now) (next_tree x old)
   stands = held.marks.first.parts (length old.numbers.items) next.mark

@@ -100,13 +100,24 @@ abbrev pub ReadTrees : TaskTree → List NameEntry → List Tree → Earlier →
 ReadTrees t table roots r [] end = r ≡ end
 ReadTrees t table roots r (l ∷ ls) end = (e : Tree) × (tree_by t table r l.kind l.words ≡ Some e) × StandsIn roots e × ReadTrees t table roots (with_tree l.kind r e) ls end
 
--- A text of lines, which are read back as trees that are in these, in a task that has the symbols of these so; and each tree
--- that has a line is at its number.
+-- the trees of a kind
+abbrev pub of_kind : LineKind → Earlier → List Tree
+of_kind kind.Type r = r.types
+of_kind kind.Pattern r = r.patterns
+of_kind kind.Expression r = r.expressions
+
+-- no tree is there twice
+abbrev pub Differ : List Tree → Type 0
+Differ es = (i j : ℕ) (e : Tree) → slice_get es i ≡ Some e → slice_get es j ≡ Some e → i ≡ j
+
+-- A text of lines, which are read back as trees that are in these, in a task that has the symbols of these so; each tree that
+-- has a line is at its number; and no two lines make the same tree.
 pub record IsWritten (s : List Tree) (table : List NameEntry) (roots : List Tree) (text : List ℕ) (numbers : List (Option ℕ)) : Type 0 where
   pub lines : List TreeLine
   pub earlier : Earlier
   pub is : text ≡ whole_text (map line_bytes lines)
   pub numbered : AreLines s numbers earlier
+  pub once : (k : LineKind) → Differ (of_kind k earlier)
   pub back : (t : TaskTree) → ((e : Tree) → StandsIn roots e → IsUsed t e) → ReadTrees t table roots nothing_before lines earlier
 
 -- each of these that is no list and no branch has a line
@@ -150,8 +161,13 @@ pub record IsNextLine (x : Trees) (i : ℕ) (k : LineKind) : Type 0 where
 abbrev pub next_tree : Trees → Writing → Tree
 next_tree x w = get_or x.store.now (length w.numbers.items) (Leaf HEnd)
 
+-- each of these has a number below this one
+abbrev pub HaveLesser : List Tree → ℕ → List Tree → Type 0
+HaveLesser s n es = (i : ℕ) (e : Tree) → slice_get es i ≡ Some e → (j : ℕ) × (j < n) × (get_or s j (Leaf HEnd) ≡ e)
+
 -- the first trees of a store have been written, as far as they are marked
 pub record IsWritingOf (x : Trees) (w : Writing) : Type 0 where
   pub written : IsWritten x.store.now x.table.now (trees_at x.store.now x.roots.now) w.text.items w.numbers.items
   pub counted : AreCounted written.earlier w
+  pub lesser : (k : LineKind) → HaveLesser x.store.now (length w.numbers.items) (of_kind k written.earlier)
   pub there : (i : ℕ) (k : LineKind) → i < length w.numbers.items → IsNextLine x i k → (n : ℕ) × (slice_get w.numbers.items i ≡ Some (Some n))

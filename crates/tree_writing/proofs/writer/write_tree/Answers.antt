@@ -33,5 +33,5 @@ returns-clause-writing c =
     let back = subst (λ (j : ℕ). LineBack s x.table.now numbers c.args.kind (get_or s j (Leaf HEnd)) words) n
     (subst (λ (l : List (Option ℕ)). LineBack s x.table.now l c.args.kind (get_or s c.len.result (Leaf HEnd)) words) c.deref.ensures.value c.in_ok-words.ensures) in
     let text = c.in_ok-push_line.ensures ∙ ap (λ (w : LineWord). old.text.items ++ line_text w (words_of c.deref-2.result.now)) c.letter.ensures ∙ ap (λ l. old.text.items ++ line_text (letter c.args.kind) (words_of l)) c.deref-2.ensures.value in
-    writing_more x old (record { text = c.push_line.new.text; numbers = c.push.new.self; types = old.types; patterns = old.patterns; expressions = old.expressions }) c.add_one.new.w c.args.kind c.count-number.result words c.requires.trees c.requires.next
+    writing_more x old (record { text = c.push_line.new.text; numbers = c.push.new.self; types = old.types; patterns = old.patterns; expressions = old.expressions }) c.add_one.new.w c.args.kind c.count-number.result words c.requires.trees c.laws.ensures.apart c.requires.next
     (c.count-number.ensures ∙ count_same c.args.kind old (record { text = c.push_line.new.text; numbers = old.numbers; types = old.types; patterns = old.patterns; expressions = old.expressions }) refl refl refl) text c.in_ok-push.ensures.items refl refl refl c.add_one.ensures back c.requires.writing
