@@ -4,14 +4,17 @@ use Rattle.trees.specs.Tree.{Tree}
 use Rattle.trees.specs.Node.{Holds}
 use Rattle.binders.specs.Visits.{HoldTypes}
 use Rattle.tasks.specs.Task.{TaskTree}
-use Rattle.tasks.specs.Meaning.{trees_at}
+use Rattle.tasks.specs.Meaning.{trees_at, TaskHeld}
+use Rattle.tasks.specs.Looking.{IsIndexOf}
 use Rattle.rule_rows.specs.Meaning.{steps_at, StepsHeld}
 use Rattle.name_entries.specs.declared.names.NameEntry.{NameEntry}
+use Rattle.tree_lines.specs.Made.{IsNamesOf}
 use Rattle.step_lines.specs.declared.thing.MadeThing.{MadeThing}
 use Rattle.step_lines.specs.declared.thing.MadeThing.TheVariants as made
 use Rattle.step_lines.specs.Steps.{Thing}
 use Rattle.step_files.specs.declared.fault.ReadFault.{ReadFault}
 use Rattle.step_files.specs.declared.fault.ReadFault.TheVariants.{Memory, WrongLine}
+use Rattle.step_files.specs.declared.good.Reader.{Reader}
 use Rattle.step_files.specs.declared.read.Read.{Read}
 use Rattle.step_files.specs.Lines.{Reading, reading_of, line_thing, IsGood, FirstWrong}
 
@@ -24,6 +27,12 @@ pub record ReadHeld (s : List Tree) (r : Read) : Type 0 where
   pub patterns : All (Holds s) r.patterns.items
   pub expressions : All (Holds s) r.expressions.items
   pub steps : StepsHeld s r.steps.items
+
+-- what lines are read with: a task whose numbers are held, with its index, and a table with its names
+pub record ReaderHeld (s : List Tree) (x : Reader) : Type 0 where
+  pub task : TaskHeld s x.task.now
+  pub index : IsIndexOf x.index.now x.task.now
+  pub names : IsNamesOf x.names.now x.table.now
 
 -- a line makes this thing, and it is good
 pub record MakesGood (t : TaskTree) (names : List NameEntry) (tallest : Option ℕ) (r : Reading) (line : List ℕ) (x : Thing) : Type 0 where

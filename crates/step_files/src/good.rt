@@ -4,18 +4,16 @@ ghost use Rattle.std.specs.Prelude.{◌≡◌, ◌≤◌, ◌↔◌, IsTrue, IfO
 ghost use Rattle.std.specs.Option.{ForSome};
 ghost use Rattle.trees.specs.Tree.{height};
 ghost use Rattle.trees.specs.Node.{tree_at, Holds, Grows};
-ghost use Rattle.trees.specs.Facts.{Each};
-ghost use Rattle.tasks.specs.Meaning.{task_at, TaskHeld};
-ghost use Rattle.tasks.specs.Looking.{IsIndexOf};
+ghost use Rattle.tasks.specs.Meaning.{task_at};
+ghost use Rattle.linear_leaf.specs.Valuations.{Each};
 ghost use Rattle.rule_rows.specs.Trees.{rule_trees};
 ghost use Rattle.rule_rows.specs.Meaning.{rule_at, step_at, steps_at, StepHeld, StepsHeld};
 ghost use Rattle.kernel.specs.Open.{OpenIn, StepIsOpen, TemplateIsOpen};
 ghost use Rattle.kernel.specs.Right.{IsRight};
-ghost use Rattle.tree_lines.specs.Made.{IsNamesOf};
 ghost use Rattle.step_lines.specs.Made.{IsMadeThing, ThingHeld, thing_at};
 ghost use Rattle.step_files.specs.Marks.{AreMarkedTyped};
 ghost use Rattle.step_files.specs.Lines.{IsGoodTree, IsGood, LineIsRight, line_thing};
-ghost use Rattle.step_files.specs.Reading.{MakesGood, ReadHeld, reading_at};
+ghost use Rattle.step_files.specs.Reading.{ReaderHeld, MakesGood, ReadHeld, reading_at};
 
 use crate::marks::{are_marked, has_mark, is_open};
 use crate::read::Read;
@@ -29,6 +27,16 @@ use tasks::{Index, Lookup, Task};
 use term_store::Store;
 use tree_lines::{Known, Names};
 use trees::{Parts, TermId};
+
+/// What lines are read with: a task with its index, a table with its names, and the height that no tree may pass.
+#[derive(Clone, Copy)]
+pub(crate) struct Reader<'a> {
+    pub task: &'a Task,
+    pub index: &'a Index,
+    pub table: &'a [NameEntry],
+    pub names: &'a Names,
+    pub tallest: Option<u64>,
+}
 
 // Whether a tree is no taller than so many nodes.
 fn is_no_taller(store: &Store, id: TermId, most: u64) -> bool
@@ -70,25 +78,22 @@ fn is_low(store: &Store, tallest: Option<u64>, id: TermId) -> bool
 // Whether a tree is so, and typed as far as it goes.
 fn is_good_tree(
     store: &Store,
-    task: &Task,
-    index: &Index,
+    x: &Reader<'_>,
     marks: &mut Vec<bool>,
-    tallest: Option<u64>,
     id: TermId,
 ) -> Result<bool, AllocError>
-    requires task { TaskHeld store.now task.now }
-    requires index { IsIndexOf index.now task.now }
+    requires reader { ReaderHeld store.now x.now }
     requires held { Holds store.now id }
-    requires marks { AreMarkedTyped (task_at store.now task.now) store.now marks.old.items }
-    ensures good { IfOk result (λ b. IsTrue b
-        ↔ IsGoodTree (task_at store.now task.now) tallest (tree_at store.now id)) }
-    ensures marks { OnOk result (AreMarkedTyped (task_at store.now task.now) store.now
+    requires marks { AreMarkedTyped (task_at store.now x.now.task.now) store.now marks.old.items }
+    ensures good { IfOk result (λ b. IsTrue b ↔ IsGoodTree (task_at store.now x.now.task.now)
+        x.now.tallest (tree_at store.now id)) }
+    ensures marks { OnOk result (AreMarkedTyped (task_at store.now x.now.task.now) store.now
         marks.new.items) }
 {
-    if !is_low(store, tallest, id) {
+    if !is_low(store, x.tallest, id) {
         return Ok(false);
     }
-    is_open(store, task, index, marks, id)
+    is_open(store, x.task, x.index, marks, id)
 }
 
 // Whether the terms and formulas that a rule names are marked.
@@ -135,54 +140,43 @@ fn step_marked(store: &Store, task: &Task, marks: &[bool], step: &Step) -> bool
 }
 
 // Whether a step is right. Trees that are marked aren't typed again; where one isn't, all of the step's are.
-fn is_right(
-    store: &Store,
-    task: &Task,
-    index: &Index,
-    marks: &[bool],
-    before: &[Step],
-    step: &Step,
-) -> bool
-    requires task { TaskHeld store.now task.now }
-    requires index { IsIndexOf index.now task.now }
-    requires marks { AreMarkedTyped (task_at store.now task.now) store.now marks.now }
+fn is_right(store: &Store, x: &Reader<'_>, marks: &[bool], before: &[Step], step: &Step) -> bool
+    requires reader { ReaderHeld store.now x.now }
+    requires marks { AreMarkedTyped (task_at store.now x.now.task.now) store.now marks.now }
     requires before_held { StepsHeld store.now before.now }
     requires step_held { StepHeld store.now step.now }
-    ensures { IsTrue result ↔ IsRight (task_at store.now task.now)
+    ensures { IsTrue result ↔ IsRight (task_at store.now x.now.task.now)
         (steps_at store.now before.now) (step_at store.now step.now) }
 {
-    if !step_marked(store, task, marks, step) {
-        return right_step(store, task, before, step);
+    if !step_marked(store, x.task, marks, step) {
+        return right_step(store, x.task, before, step);
     }
-    let look = Lookup::with_index(task, index);
+    let look = Lookup::with_index(x.task, x.index);
     right_typed_step(store, &look, before, step)
 }
 
 // Whether a thing is good over the steps before it.
 fn is_good(
     store: &Store,
-    task: &Task,
-    index: &Index,
+    x: &Reader<'_>,
     marks: &mut Vec<bool>,
-    tallest: Option<u64>,
     before: &[Step],
     thing: &MadeThing,
 ) -> Result<bool, AllocError>
-    requires task { TaskHeld store.now task.now }
-    requires index { IsIndexOf index.now task.now }
-    requires marks { AreMarkedTyped (task_at store.now task.now) store.now marks.old.items }
+    requires reader { ReaderHeld store.now x.now }
+    requires marks { AreMarkedTyped (task_at store.now x.now.task.now) store.now marks.old.items }
     requires before_held { StepsHeld store.now before.now }
     requires thing_held { ThingHeld store.now thing.now }
-    ensures good { IfOk result (λ b. IsTrue b ↔ IsGood (task_at store.now task.now) tallest
-        (steps_at store.now before.now) (thing_at store.now thing.now)) }
-    ensures marks { OnOk result (AreMarkedTyped (task_at store.now task.now) store.now
+    ensures good { IfOk result (λ b. IsTrue b ↔ IsGood (task_at store.now x.now.task.now)
+        x.now.tallest (steps_at store.now before.now) (thing_at store.now thing.now)) }
+    ensures marks { OnOk result (AreMarkedTyped (task_at store.now x.now.task.now) store.now
         marks.new.items) }
 {
     match thing {
-        MadeThing::Type(ty) => is_good_tree(store, task, index, marks, tallest, *ty),
-        MadeThing::Pattern(p) => is_good_tree(store, task, index, marks, tallest, *p),
-        MadeThing::Expression(e) => is_good_tree(store, task, index, marks, tallest, *e),
-        MadeThing::Derived(step) => Ok(is_right(store, task, index, marks, before, step)),
+        MadeThing::Type(ty) => is_good_tree(store, x, marks, *ty),
+        MadeThing::Pattern(p) => is_good_tree(store, x, marks, *p),
+        MadeThing::Expression(e) => is_good_tree(store, x, marks, *e),
+        MadeThing::Derived(step) => Ok(is_right(store, x, marks, before, step)),
     }
 }
 
@@ -190,65 +184,56 @@ fn is_good(
 fn line_thing(
     alloc: Global,
     store: &mut Store,
-    task: &Task,
-    table: &[NameEntry],
-    names: &Names,
+    x: &Reader<'_>,
     read: &Read,
     line: &[u8],
 ) -> Result<Option<MadeThing>, AllocError>
-    requires task { TaskHeld store.old task.now }
-    requires names { IsNamesOf names.now table.now }
+    requires reader { ReaderHeld store.old x.now }
     requires read { ReadHeld store.old read.now }
     ensures made { IfOk result (IsMadeThing store.new
-        (line_thing (task_at store.old task.now) table.now
+        (line_thing (task_at store.old x.now.task.now) x.now.table.now
         (reading_at store.old read.now).earlier line.now)) }
     ensures grows { Grows store.old store.new }
 {
     let words = split(alloc, line)?;
-    let x = Known {
-        task,
-        table,
-        names,
+    let known = Known {
+        task: x.task,
+        table: x.table,
+        names: x.names,
         types: &read.types,
         patterns: &read.patterns,
         expressions: &read.expressions,
     };
-    made_by_line(alloc, store, &x, &words)
+    made_by_line(alloc, store, &known, &words)
 }
 
 /// What a line makes, where the line is right over what was read so far.
 pub(crate) fn right_thing(
     alloc: Global,
     store: &mut Store,
-    task: &Task,
-    index: &Index,
-    table: &[NameEntry],
-    names: &Names,
-    tallest: Option<u64>,
+    x: &Reader<'_>,
     read: &Read,
     marks: &mut Vec<bool>,
     line: &[u8],
 ) -> Result<Option<MadeThing>, AllocError>
-    requires task { TaskHeld store.old task.now }
-    requires index { IsIndexOf index.now task.now }
-    requires names { IsNamesOf names.now table.now }
+    requires reader { ReaderHeld store.old x.now }
     requires read { ReadHeld store.old read.now }
-    requires marks { AreMarkedTyped (task_at store.old task.now) store.old marks.old.items }
+    requires marks { AreMarkedTyped (task_at store.old x.now.task.now) store.old marks.old.items }
     ensures none { IfOk result (λ o. IfNone o
-        (LineIsRight (task_at store.old task.now) table.now tallest (reading_at store.old read.now)
-        line.now → ⊥)) }
+        (LineIsRight (task_at store.old x.now.task.now) x.now.table.now x.now.tallest
+        (reading_at store.old read.now) line.now → ⊥)) }
     ensures some { IfOk result (λ o. IfSome o
-        (λ x. MakesGood (task_at store.old task.now) table.now tallest
-        (reading_at store.old read.now) line.now (thing_at store.new x))) }
+        (λ thing. MakesGood (task_at store.old x.now.task.now) x.now.table.now x.now.tallest
+        (reading_at store.old read.now) line.now (thing_at store.new thing))) }
     ensures held { IfOk result (λ o. IfSome o (ThingHeld store.new)) }
     ensures marks { OnOk result
-        (AreMarkedTyped (task_at store.old task.now) store.new marks.new.items) }
+        (AreMarkedTyped (task_at store.old x.now.task.now) store.new marks.new.items) }
     ensures grows { Grows store.old store.new }
 {
-    let Some(thing) = line_thing(alloc, store, task, table, names, read, line)? else {
+    let Some(thing) = line_thing(alloc, store, x, read, line)? else {
         return Ok(None);
     };
-    if is_good(store, task, index, marks, tallest, &read.steps, &thing)? {
+    if is_good(store, x, marks, &read.steps, &thing)? {
         Ok(Some(thing))
     } else {
         Ok(None)

@@ -11,7 +11,7 @@ ghost use Rattle.step_files.specs.Reading.{IsReadFault};
 ghost use Rattle.step_files.specs.declared.fault.ReadFault.TheVariants.{WrongLine};
 
 use crate::fault::ReadFault;
-use crate::good::right_thing;
+use crate::good::{Reader, right_thing};
 use crate::read::{Read, into_steps, keep};
 use crate::words::lines;
 use kernel::ends_in_start;
@@ -70,10 +70,15 @@ pub(crate) fn read_whole(
     };
     let mut marks = Vec::new(alloc);
     for i in 0..all.len() {
+        let x = Reader {
+            task,
+            index: &index,
+            table,
+            names: &names,
+            tallest,
+        };
         let line = line_at(&all, i);
-        let made = right_thing(
-            alloc, store, task, &index, table, &names, tallest, &read, &mut marks, line,
-        )?;
+        let made = right_thing(alloc, store, &x, &read, &mut marks, line)?;
         let Some(thing) = made else {
             return Err(wrong_after(i));
         };

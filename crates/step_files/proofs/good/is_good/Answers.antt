@@ -10,14 +10,14 @@ use Rattle.step_files.proofs.good.is_good.Goals as goal
 pub returns-in-Type-clause-good : goal.returns-in-Type-clause-good
 returns-in-Type-clause-good c =
     let s = c.args.store.now in
-    subst (λ (x : MadeThing). IfOk c.is_good_tree.result (λ b. IsTrue b ↔ IsGood (task_at s c.args.task.now) c.args.tallest (steps_at s c.args.before.now) (thing_at s x))) (sym c.in-Type.is) c.is_good_tree.ensures.good
+    subst (λ (x : MadeThing). IfOk c.is_good_tree.result (λ b. IsTrue b ↔ IsGood (task_at s c.args.x.now.task.now) c.args.x.now.tallest (steps_at s c.args.before.now) (thing_at s x))) (sym c.in-Type.is) c.is_good_tree.ensures.good
 
 pub returns-in-Pattern-clause-good : goal.returns-in-Pattern-clause-good
 returns-in-Pattern-clause-good c =
     let s = c.args.store.now in
-    subst (λ (x : MadeThing). IfOk c.is_good_tree-in-Pattern.result (λ b. IsTrue b ↔ IsGood (task_at s c.args.task.now) c.args.tallest (steps_at s c.args.before.now) (thing_at s x))) (sym c.in-Pattern.is) c.is_good_tree-in-Pattern.ensures.good
+    subst (λ (x : MadeThing). IfOk c.is_good_tree-in-Pattern.result (λ b. IsTrue b ↔ IsGood (task_at s c.args.x.now.task.now) c.args.x.now.tallest (steps_at s c.args.before.now) (thing_at s x))) (sym c.in-Pattern.is) c.is_good_tree-in-Pattern.ensures.good
 
 pub returns-in-Expression-clause-good : goal.returns-in-Expression-clause-good
 returns-in-Expression-clause-good c =
     let s = c.args.store.now in
-    subst (λ (x : MadeThing). IfOk c.is_good_tree-in-Expression.result (λ b. IsTrue b ↔ IsGood (task_at s c.args.task.now) c.args.tallest (steps_at s c.args.before.now) (thing_at s x))) (sym c.in-Expression.is) c.is_good_tree-in-Expression.ensures.good
+    subst (λ (x : MadeThing). IfOk c.is_good_tree-in-Expression.result (λ b. IsTrue b ↔ IsGood (task_at s c.args.x.now.task.now) c.args.x.now.tallest (steps_at s c.args.before.now) (thing_at s x))) (sym c.in-Expression.is) c.is_good_tree-in-Expression.ensures.good

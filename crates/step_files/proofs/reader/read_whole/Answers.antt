@@ -16,8 +16,12 @@ use Rattle.step_files.proofs.Progress.{stands_wrong, stands_read, stands_unfinis
 use Rattle.step_files.proofs.Growth.{next_held, next_stands, moved}
 use Rattle.step_files.proofs.reader.read_whole.Goals as goal
 
-pub right_thing-requires-clause-task : goal.right_thing-requires-clause-task
-right_thing-requires-clause-task c = task_held_later c.args.store.now c.loop-i.store c.loop-i.invariant.grows c.args.task.now c.requires
+pub right_thing-requires-clause-reader : goal.right_thing-requires-clause-reader
+right_thing-requires-clause-reader c = record {
+  task = task_held_later c.args.store.now c.loop-i.store c.loop-i.invariant.grows c.args.task.now c.requires;
+  index = c.in_ok-index.ensures;
+  names = c.in_ok-names.ensures;
+}
 
 pub right_thing-requires-clause-marks : goal.right_thing-requires-clause-marks
 right_thing-requires-clause-marks c =
