@@ -16,5 +16,6 @@ mod words;
 pub use expressions::line_expression;
 pub use known::{Known, thing, things_at};
 pub use names::{Named, Names, meaning_of};
+pub use nodes::type_list;
 pub use patterns::{line_pattern, line_type};
 pub use words::number_of_word;

@@ -39,8 +39,8 @@ pub(crate) fn tree_of(store: &mut Store, node: Option<Node>) -> Result<Option<Te
     }
 }
 
-/// The list of types.
-pub(crate) fn type_list(store: &mut Store, types: &[TermId]) -> Result<TermId, AllocError>
+/// The list of types that are in the store. Out of memory is its one refusal.
+pub fn type_list(store: &mut Store, types: &[TermId]) -> Result<TermId, AllocError>
     requires { HoldTypes store.old types.now }
     ensures held { IfOk result (Holds store.new) }
     ensures tree { IfOk result (λ id. tree_at store.new id ≡ cells (trees_at store.old types.now)) }

@@ -4,7 +4,6 @@ ghost use Rattle.std.specs.Prelude.{◌≡◌, ◌+◌, ◌<◌, List, length, I
 ghost use Rattle.std.specs.Option.{option_map};
 ghost use Rattle.trees.specs.Tree.{Tree};
 ghost use Rattle.trees.specs.Node.{tree_at, Holds, Grows};
-ghost use Rattle.binders.specs.Visits.{HoldTypes};
 ghost use Rattle.tasks.specs.Meaning.{trees_at};
 ghost use Rattle.tree_lines.specs.Named.{cells};
 ghost use Rattle.tree_lines.specs.Made.{IsNamesOf};
@@ -14,7 +13,7 @@ use name_entries::{NameEntry, NameOf};
 use std::alloc::{AllocError, Global};
 use std::collections::HashMap;
 use term_store::{Grow, Store};
-use tree_lines::{Names, meaning_of};
+use tree_lines::{Names, meaning_of, type_list};
 use trees::{Node, TermId};
 
 /// A name of a symbol, and whether the symbol is whole under it.
@@ -40,22 +39,6 @@ fn lookup_key(symbol: NameOf, list: TermId) -> (usize, usize, usize)
         NameOf::Rigid(k) => (1, k, list.0),
         NameOf::Symbol(k) => (2, k, list.0),
     }
-}
-
-// The list of types.
-fn type_list(store: &mut Store, types: &[TermId]) -> Result<TermId, AllocError>
-    requires { HoldTypes store.old types.now }
-    ensures held { IfOk result (Holds store.new) }
-    ensures tree { IfOk result (λ id. tree_at store.new id ≡ cells (trees_at store.old types.now)) }
-    ensures grows { Grows store.old store.new }
-{
-    let mut list = store.add(Node::End)?;
-    let mut i = types.len();
-    while i > 0 {
-        i -= 1;
-        list = store.add(Node::Cell(types[i], list))?;
-    }
-    Ok(list)
 }
 
 // Adds the name at a place, where it is for something.
