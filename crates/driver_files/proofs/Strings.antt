@@ -5,10 +5,13 @@ use Rattle.std.specs.Str.{IsUtf8, is_utf8}
 use Rattle.std.proofs.lemmas.Str.{IsUtf8-from_is_utf8}
 use Rattle.tokens_why.specs.Bytes.{is_letter, is_digit, is_word_byte, is_operator_byte}
 use Rattle.tokens_why.specs.Gap.{one_more}
+use Rattle.tokens_why.specs.Strings.{kind_of}
+use Rattle.tokens_why.specs.declared.token.TokenKind.{TokenKind}
+use Rattle.tokens_why.specs.declared.token.TokenKind.TheVariants as source
 use Rattle.driver_tokens.specs.declared.terminal.DriverTerminal.{DriverTerminal}
 use Rattle.driver_tokens.specs.declared.terminal.DriverTerminal.TheVariants as t
 use Rattle.driver_tokens.specs.Strings.{quoted}
-use Rattle.driver_tokens.specs.Tokens.{DriverLexeme, gap_length, number_length, string_length, mark_length, token_length, open_or_star, driver_terminal_of, driver_lexeme, after_gap, lexed, driver_lexemes}
+use Rattle.driver_tokens.specs.Tokens.{DriverLexeme, gap_length, number_length, string_length, mark_length, token_length, open_or_star, operator_of, driver_terminal_of, driver_lexeme, after_gap, lexed, driver_lexemes}
 use Rattle.driver_items.specs.Items.{string_value_of}
 use Rattle.driver_files.proofs.Texts.{said-text}
 
@@ -69,6 +72,12 @@ no-open : (bs : List ℕ) → open_or_star bs ≡ t.Text → ⊥
 no-open [] e = cc
 no-open (b ∷ bs) e = cc
 
+no-operator : (k : Option TokenKind) → operator_of k ≡ t.Text → ⊥
+no-operator (Some source.Equal) e = cc
+no-operator (Some source.Minus) e = cc
+no-operator (Some (source.Operator level prefix)) e = cc
+no-operator _ e = cc
+
 no-mark : (p q r s : Bool) (o : DriverTerminal) → (o ≡ t.Text → ⊥) → cond p o (cond q t.Close (cond r t.Dot (cond s t.Comma t.Nothing))) ≡ t.Text → ⊥
 no-mark true q r s o n e = n e
 no-mark false true r s o n e = cc
@@ -84,7 +93,7 @@ string-token : (a n : ℕ) (bs : List ℕ) → suc n ≡ token_length (a ∷ bs)
 string-token a n bs e k =
     let l = peel (is_letter a) _ _ t.Text k (λ x. cc) in
     let d = peel (is_digit a) _ _ t.Text l.1 (λ x. cc) in
-    let o = peel (is_operator_byte a) _ _ t.Text d.1 (λ x. cc) in
+    let o = peel (is_operator_byte a) _ _ t.Text d.1 (no-operator (kind_of (a ∷ take n bs))) in
     let u = quote-first (nat_eq a 40) (nat_eq a 41) (nat_eq a 46) (nat_eq a 44) (nat_eq a 34) (open_or_star (take n bs)) (no-open (take n bs)) o.1 in
     by-quoted a n bs (quoted false bs) refl
     (e

@@ -23,6 +23,13 @@ no_end = refl
 no_operator : driver_lines (codes "theory T syntax function (foo) end") ≡ Err 26
 no_operator = refl
 
+-- a connective is no operator, and a longer run is one
+connective : driver_lines (codes "meta foo function (<->)") ≡ Err 19
+connective = refl
+
+operator : driver_lines (codes "meta m prop (<->>) x") ≡ Err 19
+operator = refl
+
 -- a number has no zero in front
 zero : driver_lines (codes "meta x 007") ≡ Err 8
 zero = refl

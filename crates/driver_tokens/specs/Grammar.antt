@@ -9,7 +9,7 @@ use Rattle.driver_tokens.specs.declared.terminal.NameKind.{NameKind}
 use Rattle.driver_tokens.specs.declared.terminal.DriverTerminal.{DriverTerminal}
 use Rattle.driver_tokens.specs.declared.terminal.DriverTerminal.TheVariants as t
 
--- a name: words with dots after them, and a word, `(*)`, `( OP )` or `( OP _ )`
+-- a name: words with dots after them, and a word, `(*)`, `( OP )` or `( OP _ )`, where OP is an operator of sources
 pub data DriverName : Type 0 where
   scoped_name : DriverWord → DriverName → DriverName
   word_name : DriverWord → DriverName

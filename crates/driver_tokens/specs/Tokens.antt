@@ -4,6 +4,9 @@ use Rattle.std.specs.List.{prefix_len}
 use Rattle.std.specs.Str.{is_utf8}
 use Rattle.tokens_why.specs.Bytes.{is_blank, is_digit, is_letter, is_word_byte, is_operator_byte}
 use Rattle.tokens_why.specs.Gap.{comment, opens_comment, has_star_name}
+use Rattle.tokens_why.specs.Strings.{kind_of}
+use Rattle.tokens_why.specs.declared.token.TokenKind.{TokenKind}
+use Rattle.tokens_why.specs.declared.token.TokenKind.TheVariants as source
 use Rattle.driver_tokens.specs.Strings.{quoted}
 use Rattle.driver_tokens.specs.Words.{word_of}
 use Rattle.driver_tokens.specs.declared.bytes.Run.{Run}
@@ -57,12 +60,19 @@ mark_of a bs = if nat_eq a 34 then t.Text
     else (if nat_eq a 46 then t.Dot
     else (if nat_eq a 44 then t.Comma else t.Nothing))))
 
+-- a run of operator characters, by its kind in sources: a connective is no operator
+abbrev pub operator_of : Option TokenKind → DriverTerminal
+operator_of (Some source.Equal) = t.Operator
+operator_of (Some source.Minus) = t.Operator
+operator_of (Some (source.Operator level prefix)) = t.Operator
+operator_of _ = t.Nothing
+
 -- what the text of a token is; the empty text is none
 abbrev pub driver_terminal_of : List ℕ → DriverTerminal
 driver_terminal_of [] = t.Nothing
 driver_terminal_of (a ∷ bs) = if is_letter a then t.Word (word_of (a ∷ bs))
     else (if is_digit a then t.Number
-    else (if is_operator_byte a then t.Operator
+    else (if is_operator_byte a then operator_of (kind_of (a ∷ bs))
     else mark_of a bs))
 
 -- a token, with the byte at which it begins and its text

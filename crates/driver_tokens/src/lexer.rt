@@ -2,8 +2,9 @@
 // They depend on gaps, strings and words; the lines depend on them.
 ghost use Rattle.std.specs.Prelude.{false, ◌≡◌, ◌<◌, ◌≤◌, ◌+◌, length, drop, map, IfOk};
 ghost use Rattle.tokens_why.specs.Gap.{byte_in};
+ghost use Rattle.tokens_why.specs.Strings.{kind_of};
 ghost use Rattle.driver_tokens.specs.Strings.{quoted};
-ghost use Rattle.driver_tokens.specs.Tokens.{lexeme_in, driver_lexemes, mark_length, mark_of, number_length, string_length, driver_terminal_of, token_length};
+ghost use Rattle.driver_tokens.specs.Tokens.{lexeme_in, driver_lexemes, mark_length, mark_of, number_length, operator_of, string_length, driver_terminal_of, token_length};
 ghost use Rattle.driver_tokens.specs.Words.{driver_words};
 
 use crate::bytes::{Run, run_end};
@@ -13,7 +14,9 @@ use crate::terminal::DriverTerminal;
 use crate::token::DriverToken;
 use crate::words::{DriverWords, driver_words, word_of};
 use std::alloc::{AllocError, Global};
-use tokens_why::{is_digit, is_letter, is_operator_byte, is_star_name, opens_comment};
+use tokens_why::{
+    TokenKind, is_digit, is_letter, is_operator_byte, is_star_name, kind_of_text, opens_comment,
+};
 
 fn number_end(text: &[u8], start: usize) -> usize
     requires { start < length text.now }
@@ -103,6 +106,18 @@ fn mark_of(word: &[u8]) -> DriverTerminal
     }
 }
 
+/// What a run of operator characters is: an operator, or a connective, which no driver has.
+fn operator_of(run: &[u8]) -> DriverTerminal
+    ensures { result ≡ operator_of (kind_of run.now) }
+{
+    match kind_of_text(run) {
+        Some(TokenKind::Equal | TokenKind::Minus | TokenKind::Operator(_, _)) => {
+            DriverTerminal::Operator
+        }
+        _ => DriverTerminal::Nothing,
+    }
+}
+
 /// What the text of a token is.
 fn terminal_of(words: &DriverWords, word: &[u8]) -> DriverTerminal
     requires { words.now ≡ driver_words }
@@ -117,7 +132,7 @@ fn terminal_of(words: &DriverWords, word: &[u8]) -> DriverTerminal
     } else if is_digit(first) {
         DriverTerminal::Number
     } else if is_operator_byte(first) {
-        DriverTerminal::Operator
+        operator_of(word)
     } else {
         mark_of(word)
     }

@@ -39,7 +39,7 @@ pub enum DriverWord {
     Other,
 }
 
-/// The terminal symbols of driver files. `Nothing` is a byte with which no token begins.
+/// The terminal symbols of driver files. `Nothing` is a byte with which no token begins, or a connective of sources.
 #[derive(Clone, Copy)]
 pub enum DriverTerminal {
     Word(DriverWord),
