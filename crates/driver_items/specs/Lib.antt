@@ -1,4 +1,5 @@
 pub mod Items
 pub mod Names
 pub mod Symbols
+pub mod Syntaxes
 pub mod Templates

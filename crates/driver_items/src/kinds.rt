@@ -1,12 +1,32 @@
-// Printers, transformations, and pieces of templates.
+// Printers with the syntax of each, transformations, and pieces of templates.
 // They depend on the thin collections; names and templates depend on them.
+ghost use Rattle.std.specs.Prelude.{◌≡◌};
+ghost use Rattle.driver_items.specs.Syntaxes.{syntax_of};
+
 use outside::Text;
 
-/// The printers, by the syntax of their problems.
+/// The printers, by their words: `smtv2` and `tptp-tff0`.
 #[derive(Clone, Copy)]
 pub enum Printer {
     Smt,
     Tff,
+}
+
+/// The syntaxes of printed problems: SMT-LIB 2.6, and TFF0 of TPTP.
+#[derive(Clone, Copy)]
+pub enum Syntax {
+    Smt,
+    Tff,
+}
+
+/// The syntax in which a printer writes terms and formulas.
+pub fn syntax_of(printer: Printer) -> Syntax
+    ensures { result ≡ syntax_of printer }
+{
+    match printer {
+        Printer::Smt => Syntax::Smt,
+        Printer::Tff => Syntax::Tff,
+    }
 }
 
 /// The transformations, by their words.

@@ -10,7 +10,7 @@ mod symbols;
 mod templates;
 
 pub use items::{name_of, part, string_of};
-pub use kinds::{Piece, Printer, Trans};
+pub use kinds::{Piece, Printer, Syntax, Trans, syntax_of};
 pub use names::{printer_of, trans_of};
 pub use symbols::{Target, has_proposition, is_known, target_of};
 pub use templates::template_of;

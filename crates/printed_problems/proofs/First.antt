@@ -8,6 +8,7 @@ use Rattle.tasks.specs.declared.declaration.Decl.{Decl}
 use Rattle.tasks.specs.Task.{TaskTree}
 use Rattle.tasks.specs.Meaning.{trees_at, declaration_at, declarations_at}
 use Rattle.name_tables.specs.Occurrences.{occurrences}
+use Rattle.driver_items.specs.Syntaxes.{syntax_of}
 use Rattle.driver_parts.specs.declared.driver.Driver.{Driver}
 use Rattle.printed_problems.specs.declared.fault.PrintFault.{PrintFault}
 use Rattle.printed_problems.specs.Faults.{has_forms, syntax_fault, print_fault_or_else, first_print_fault, printed_body_fault, printed_type_fault, formula_fault, declaration_faults, print_fault}
@@ -78,7 +79,7 @@ ok_any (Ok x) p = p
 ok_any (Err e) p = tt
 
 -- what is said of a formula whose forms are there and that has no type variable
-pub formula_rest : (d : Driver) (t : TaskTree) (n : ℕ) (e : Tree) → has_forms d.printer e ≡ true → above_ty_vars e ≡ 0 → formula_fault d t n e ≡ syntax_fault d t (occurrences e)
+pub formula_rest : (d : Driver) (t : TaskTree) (n : ℕ) (e : Tree) → has_forms (syntax_of d.printer) e ≡ true → above_ty_vars e ≡ 0 → formula_fault d t n e ≡ syntax_fault d t (occurrences e)
 formula_rest d t n e h k = (λ i. if not (h i) then Some (Unprintable n) else (if not (k i == 0) then Some (Polymorphic n) else syntax_fault d t (occurrences e)))
 
 pub meets_same : {X : Type 0} (r : Result X PrintFault) (due other : Option PrintFault) → due ≡ other → MeetsFault r due → MeetsFault r other

@@ -6,7 +6,7 @@ use Rattle.trees.specs.declared.Parts.{Parts}
 use Rattle.trees.specs.declared.Parts.TheVariants as parts
 use Rattle.trees.specs.Tree.{Tree, Leaf, One, Two, Three, Head, HEnd, head_of}
 use Rattle.trees.specs.Node.{tree_at, assemble}
-use Rattle.driver_items.specs.declared.kinds.Printer.{Printer}
+use Rattle.driver_items.specs.declared.kinds.Syntax.{Syntax}
 use Rattle.printed_problems.specs.Faults.{has_head, has_forms}
 use Rattle.printed_problems.specs.Checks.{HaveForms, parts_have_forms}
 
@@ -15,44 +15,44 @@ and_true true = refl
 and_true false = refl
 
 -- the operator at the top, and the children
-pub forms_of_parts : (p : Printer) (e : Tree) → (has_head p (head_of e) && parts_have_forms p e) ≡ has_forms p e
+pub forms_of_parts : (p : Syntax) (e : Tree) → (has_head p (head_of e) && parts_have_forms p e) ≡ has_forms p e
 forms_of_parts p (Leaf h) = and_true (has_head p h)
 forms_of_parts p (One h a) = refl
 forms_of_parts p (Two h a b) = refl
 forms_of_parts p (Three h a b c) = refl
 
-pub forms_are : (p : Printer) (e : Tree) (a b : Bool) → has_head p (head_of e) ≡ a → parts_have_forms p e ≡ b → (a && b) ≡ has_forms p e
+pub forms_are : (p : Syntax) (e : Tree) (a b : Bool) → has_head p (head_of e) ≡ a → parts_have_forms p e ≡ b → (a && b) ≡ has_forms p e
 forms_are p e a b h k = (λ i. sym h i && sym k i) ∙ forms_of_parts p e
 
 -- the children by their numbers
-abbrev pub parts_formed : Printer → List Tree → Parts → Bool
+abbrev pub parts_formed : Syntax → List Tree → Parts → Bool
 parts_formed p s parts.None = true
 parts_formed p s (parts.One a) = has_forms p (tree_at s a)
 parts_formed p s (parts.Two a b) = has_forms p (tree_at s a) && has_forms p (tree_at s b)
 parts_formed p s (parts.Three a b c) = has_forms p (tree_at s a) && (has_forms p (tree_at s b) && has_forms p (tree_at s c))
 
-assembled_formed : (p : Printer) (s : List Tree) (h : Head) (ps : Parts) → parts_formed p s ps ≡ parts_have_forms p (assemble s h ps)
+assembled_formed : (p : Syntax) (s : List Tree) (h : Head) (ps : Parts) → parts_formed p s ps ≡ parts_have_forms p (assemble s h ps)
 assembled_formed p s h parts.None = refl
 assembled_formed p s h (parts.One a) = refl
 assembled_formed p s h (parts.Two a b) = refl
 assembled_formed p s h (parts.Three a b c) = refl
 
-pub formed_parts : (p : Printer) (s : List Tree) (e : Tree) (h : Head) (ps qs : Parts) → e ≡ assemble s h ps → qs ≡ ps → parts_formed p s qs ≡ parts_have_forms p e
+pub formed_parts : (p : Syntax) (s : List Tree) (e : Tree) (h : Head) (ps qs : Parts) → e ≡ assemble s h ps → qs ≡ ps → parts_formed p s qs ≡ parts_have_forms p e
 formed_parts p s e h ps qs is same = ap (parts_formed p s) same ∙ assembled_formed p s h ps ∙ sym (ap (parts_have_forms p) is)
 
-pub forms_there : (p : Printer) (s : List Tree) (ids : List ℕ) (id : ℕ) → HaveForms p s ids → list_any (nat_eq id) ids ≡ true → has_forms p (get_or s id (Leaf HEnd)) ≡ true
+pub forms_there : (p : Syntax) (s : List Tree) (ids : List ℕ) (id : ℕ) → HaveForms p s ids → list_any (nat_eq id) ids ≡ true → has_forms p (get_or s id (Leaf HEnd)) ≡ true
 forms_there p s [] id h e = absurd (cc)
 forms_there p s (j ∷ ids) id h e = elim (nat_eq id j) as (λ b. nat_eq id j ≡ b → (b || list_any (nat_eq id) ids) ≡ true → has_forms p (get_or s id (Leaf HEnd)) ≡ true) [
   | true ↦ λ q _. let same : j ≡ id = grind (arith, nat_tests) in subst (λ n. has_forms p (get_or s n (Leaf HEnd)) ≡ true) same h.0
   | false ↦ λ q more. forms_there p s ids id h.1 more
 ] refl e
 
-forms_push : (p : Printer) (s : List Tree) (ids : List ℕ) (id : ℕ) → HaveForms p s ids → has_forms p (get_or s id (Leaf HEnd)) ≡ true → HaveForms p s (ids ++ id ∷ [])
+forms_push : (p : Syntax) (s : List Tree) (ids : List ℕ) (id : ℕ) → HaveForms p s ids → has_forms p (get_or s id (Leaf HEnd)) ≡ true → HaveForms p s (ids ++ id ∷ [])
 forms_push p s [] id h k = (k, tt)
 forms_push p s (j ∷ ids) id h k = (h.0, forms_push p s ids id h.1 k)
 
 -- one more
-pub forms_marked : (p : Printer) (s : List Tree) (ids new : List ℕ) (id : ℕ) → HaveForms p s ids → has_forms p (get_or s id (Leaf HEnd)) ≡ true → new ≡ (if list_any (nat_eq id) ids then ids else ids ++ id ∷ [])
+pub forms_marked : (p : Syntax) (s : List Tree) (ids new : List ℕ) (id : ℕ) → HaveForms p s ids → has_forms p (get_or s id (Leaf HEnd)) ≡ true → new ≡ (if list_any (nat_eq id) ids then ids else ids ++ id ∷ [])
     → HaveForms p s new
 forms_marked p s ids new id h k e = rw e (by (list_any (nat_eq id) ids))
   where

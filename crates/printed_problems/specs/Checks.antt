@@ -1,7 +1,8 @@
 -- What the calls promise that look for a fault.
 use Rattle.std.specs.Prelude.{◌≡◌, ℕ, Bool, true, ◌&&◌, if◌then◌else◌, List, [], ◌∷◌, get_or, IsTrue, Option, Some, None, Result, Ok, Err}
 use Rattle.trees.specs.Tree.{Tree, Leaf, One, Two, Three, HEnd}
-use Rattle.driver_items.specs.declared.kinds.Printer.{Printer}
+use Rattle.driver_items.specs.declared.kinds.Syntax.{Syntax}
+use Rattle.driver_items.specs.Syntaxes.{syntax_of}
 use Rattle.tasks.specs.Task.{TaskTree}
 use Rattle.name_tables.specs.Tables.{problem_things}
 use Rattle.tasks.specs.Meaning.{task_at, TaskHeld}
@@ -22,18 +23,18 @@ abbrev pub MeetsFault : {X : Type 0} → Result X PrintFault → Option PrintFau
 MeetsFault (Ok x) due = due ≡ None
 MeetsFault (Err f) due = IsDueFault f due
 
--- the printer has all forms of these terms
-abbrev pub HaveForms : Printer → List Tree → List ℕ → Type 0
+-- the syntax has all forms of these terms
+abbrev pub HaveForms : Syntax → List Tree → List ℕ → Type 0
 HaveForms p s [] = Unit {0}
 HaveForms p s (id ∷ ids) = IsTrue (has_forms p (get_or s id (Leaf HEnd))) × HaveForms p s ids
 
 -- it is told whether there are all forms, and what was looked at has them
-pub record LooksAt (p : Printer) (s : List Tree) (due told : Bool) (ids : List ℕ) : Type 0 where
+pub record LooksAt (p : Syntax) (s : List Tree) (due told : Bool) (ids : List ℕ) : Type 0 where
   pub is : told ≡ due
   pub done : HaveForms p s ids
 
 -- whether the children of a term have all forms
-abbrev pub parts_have_forms : Printer → Tree → Bool
+abbrev pub parts_have_forms : Syntax → Tree → Bool
 parts_have_forms p (Leaf h) = true
 parts_have_forms p (One h a) = has_forms p a
 parts_have_forms p (Two h a b) = has_forms p a && has_forms p b
@@ -62,6 +63,10 @@ bare_fault c seen = at_place (first_where (is_seen c.store.now c.things.now (see
 abbrev pub MeetsSeen : {E X : Type 0} → Checker → Result (List (ℕ × ℕ)) E → Result X PrintFault → Type 0
 MeetsSeen c (Ok seen) r = MeetsFault r (bare_fault c seen)
 MeetsSeen c (Err e) r = (due : Option PrintFault) → MeetsFault r due
+
+-- the syntax of the driver's printer has all forms of these terms
+abbrev pub AreFormed : Checker → List ℕ → Type 0
+AreFormed c = HaveForms (syntax_of c.driver.now.printer) c.store.now
 
 abbrev pub the_task : Checker → TaskTree
 the_task c = task_at c.store.now c.task.now

@@ -1,8 +1,9 @@
 -- Why a task can't be printed: its first fault, declaration by declaration, then the types of the parameters, the locals, the goal.
 use Rattle.std.specs.Prelude.{ℕ, ◌+◌, ◌&&◌, ◌==◌, Bool, true, false, not, if◌then◌else◌, List, [], ◌∷◌, ◌++◌, map, length, Option, Some, None}
 use Rattle.trees.specs.Tree.{Tree, Leaf, One, Two, Three, Head, HLet, HIf, HCase, above_ty_vars}
-use Rattle.driver_items.specs.declared.kinds.Printer.{Printer}
-use Rattle.driver_items.specs.declared.kinds.Printer.TheVariants.{Smt, Tff}
+use Rattle.driver_items.specs.declared.kinds.Syntax.{Syntax}
+use Rattle.driver_items.specs.Syntaxes.{syntax_of}
+use Rattle.driver_items.specs.declared.kinds.Syntax.TheVariants.{Smt, Tff}
 use Rattle.driver_parts.specs.declared.driver.Driver.{Driver}
 use Rattle.tasks.specs.Task.{TaskTree, DeclarationTree, BodyTree, MakesType, Makes, Defines, Induces, Constructs, Says}
 use Rattle.name_tables.specs.Occurrences.{Occurrence, occurrences, in_type}
@@ -12,19 +13,19 @@ use Rattle.printed_problems.specs.declared.fault.PrintFault.{PrintFault}
 use Rattle.printed_problems.specs.declared.fault.PrintFault.TheVariants.{Unprintable, Polymorphic, NoSyntax}
 use Rattle.printed_problems.specs.Templates.{has_template}
 
-abbrev pub is_smt : Printer → Bool
+abbrev pub is_smt : Syntax → Bool
 is_smt Smt = true
 is_smt Tff = false
 
 -- SMT-LIB has every form of a term or formula but a match; TFF0 has no match, no `let` and no `if`
-abbrev pub has_head : Printer → Head → Bool
+abbrev pub has_head : Syntax → Head → Bool
 has_head p HCase = false
 has_head p HLet = is_smt p
 has_head p HIf = is_smt p
 has_head p _ = true
 
--- whether a printer has all forms of a term or formula
-abbrev pub has_forms : Printer → Tree → Bool
+-- whether a syntax has all forms of a term or formula
+abbrev pub has_forms : Syntax → Tree → Bool
 has_forms p (Leaf h) = has_head p h
 has_forms p (One h a) = has_head p h && has_forms p a
 has_forms p (Two h a b) = has_head p h && (has_forms p a && has_forms p b)
@@ -53,7 +54,7 @@ syntax_fault d t os = at_place (place_where (is_bare_in d t os) 0 (problem_thing
 -- of a formula that is the declaration of a number, or a local or the goal after all of them
 abbrev pub formula_fault : Driver → TaskTree → ℕ → Tree → Option PrintFault
 formula_fault d t n e =
-    if not (has_forms d.printer e) then Some (Unprintable n)
+    if not (has_forms (syntax_of d.printer) e) then Some (Unprintable n)
     else (if not (above_ty_vars e == 0) then Some (Polymorphic n) else syntax_fault d t (occurrences e))
 
 -- what defines symbols or makes algebraic types has no text

@@ -4,7 +4,7 @@ ghost use Rattle.trees.specs.Node.{tree_at, Holds};
 ghost use Rattle.tasks.specs.Meaning.{trees_at, body_at, declarations_at, BodyHeld, DeclHeld};
 ghost use Rattle.name_tables.specs.Seen.{KeysHeld};
 ghost use Rattle.printed_problems.specs.Faults.{formula_fault, printed_body_fault, printed_type_fault, declaration_faults, first_print_fault, print_fault};
-ghost use Rattle.printed_problems.specs.Checks.{MeetsFault, HaveForms, CanCheck, MeetsSeen, bare_fault, the_task};
+ghost use Rattle.printed_problems.specs.Checks.{MeetsFault, AreFormed, CanCheck, MeetsSeen, bare_fault, the_task};
 
 use crate::fault::PrintFault;
 use crate::forms::has_forms;
@@ -63,11 +63,11 @@ fn check_formula(
     e: TermId,
 ) -> Result<(), PrintFault>
     requires can { CanCheck c.now }
-    requires done { HaveForms c.now.driver.now.printer c.now.store.now done.old.keys }
+    requires done { AreFormed c.now done.old.keys }
     requires held { Holds c.now.store.now e }
     ensures due { MeetsFault result (formula_fault c.now.driver.now (the_task c.now) number (tree_at
         c.now.store.now e)) }
-    ensures done { OnOk result (HaveForms c.now.driver.now.printer c.now.store.now done.new.keys) }
+    ensures done { OnOk result (AreFormed c.now done.new.keys) }
 {
     if !has_forms(c.store, c.driver.printer, done, e)? {
         return Err(PrintFault::Unprintable { decl: number });
@@ -90,12 +90,12 @@ fn check_body(
     body: &Body,
 ) -> Result<(), PrintFault>
     requires can { CanCheck c.now }
-    requires done { HaveForms c.now.driver.now.printer c.now.store.now done.old.keys }
+    requires done { AreFormed c.now done.old.keys }
     requires held { BodyHeld c.now.store.now body.now }
     ensures due { MeetsFault result (printed_body_fault c.now.driver.now (the_task c.now) number
         (body_at
         c.now.store.now body.now)) }
-    ensures done { OnOk result (HaveForms c.now.driver.now.printer c.now.store.now done.new.keys) }
+    ensures done { OnOk result (AreFormed c.now done.new.keys) }
 {
     match body {
         Body::TypeSymbol(_) => Ok(()),
@@ -115,12 +115,12 @@ fn check_declarations(
     decls: &[Decl],
 ) -> Result<(), PrintFault>
     requires can { CanCheck c.now }
-    requires done { HaveForms c.now.driver.now.printer c.now.store.now done.old.keys }
+    requires done { AreFormed c.now done.old.keys }
     requires held { All (DeclHeld c.now.store.now) decls.now }
     ensures due { MeetsFault result (first_print_fault
         (declaration_faults c.now.driver.now (the_task c.now) 0
         (declarations_at c.now.store.now decls.now))) }
-    ensures done { OnOk result (HaveForms c.now.driver.now.printer c.now.store.now done.new.keys) }
+    ensures done { OnOk result (AreFormed c.now done.new.keys) }
 {
     for number in 0..decls.len() {
         check_body(alloc, c, done, number, &decls[number].body)?;
@@ -154,12 +154,12 @@ fn check_formulas(
     formulas: &[TermId],
 ) -> Result<(), PrintFault>
     requires can { CanCheck c.now }
-    requires done { HaveForms c.now.driver.now.printer c.now.store.now done.old.keys }
+    requires done { AreFormed c.now done.old.keys }
     requires held { All (Holds c.now.store.now) formulas.now }
     ensures due { MeetsFault result (first_print_fault
         (map (formula_fault c.now.driver.now (the_task c.now)
         number) (trees_at c.now.store.now formulas.now))) }
-    ensures done { OnOk result (HaveForms c.now.driver.now.printer c.now.store.now done.new.keys) }
+    ensures done { OnOk result (AreFormed c.now done.new.keys) }
 {
     for formula in formulas {
         check_formula(alloc, c, done, number, *formula)?;
@@ -170,7 +170,7 @@ fn check_formulas(
 // The first fault of a task, given terms whose forms the printer has.
 fn check_parts(alloc: Global, c: &Checker<'_>, done: &mut IndexSet<usize>) -> Result<(), PrintFault>
     requires can { CanCheck c.now }
-    requires done { HaveForms c.now.driver.now.printer c.now.store.now done.old.keys }
+    requires done { AreFormed c.now done.old.keys }
     ensures { MeetsFault result (print_fault c.now.driver.now (the_task c.now)) }
 {
     let decls = c.task.decls.as_slice();

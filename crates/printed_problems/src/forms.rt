@@ -1,27 +1,28 @@
 // Whether a printer has all forms of a term. A term that is shared is looked at once.
 ghost use Rattle.std.specs.Prelude.{◌≡◌, IfOk};
 ghost use Rattle.trees.specs.Node.{tree_at, head_of_node, Holds};
+ghost use Rattle.driver_items.specs.Syntaxes.{syntax_of};
 ghost use Rattle.printed_problems.specs.Faults.{is_smt, has_head, has_forms};
 ghost use Rattle.printed_problems.specs.Checks.{HaveForms, LooksAt, parts_have_forms};
 
-use driver_items::Printer;
+use driver_items::{Printer, Syntax, syntax_of};
 use indexmap::IndexSet;
 use std::alloc::AllocError;
 use term_store::Store;
 use trees::{Node, Parts, TermId};
 
 fn is_smt(printer: Printer) -> bool
-    ensures { result ≡ is_smt printer }
+    ensures { result ≡ is_smt (syntax_of printer) }
 {
-    match printer {
-        Printer::Smt => true,
-        Printer::Tff => false,
+    match syntax_of(printer) {
+        Syntax::Smt => true,
+        Syntax::Tff => false,
     }
 }
 
 // Whether a printer has the form of a node.
 fn has_head(printer: Printer, node: Node) -> bool
-    ensures { result ≡ has_head printer (head_of_node node) }
+    ensures { result ≡ has_head (syntax_of printer) (head_of_node node) }
 {
     match node {
         Node::Case(_, _) => false,
@@ -39,10 +40,10 @@ pub(crate) fn has_forms(
     done: &mut IndexSet<usize>,
     e: TermId,
 ) -> Result<bool, AllocError>
-    requires done { HaveForms printer store.now done.old.keys }
+    requires done { HaveForms (syntax_of printer) store.now done.old.keys }
     requires held { Holds store.now e }
-    ensures { IfOk result (λ b. LooksAt printer store.now (has_forms printer (tree_at store.now e))
-        b done.new.keys) }
+    ensures { IfOk result (λ b. LooksAt (syntax_of printer) store.now (has_forms (syntax_of printer)
+        (tree_at store.now e)) b done.new.keys) }
 {
     if done.contains(&e.0) {
         return Ok(true);
@@ -65,10 +66,10 @@ fn parts_have_forms(
     done: &mut IndexSet<usize>,
     e: TermId,
 ) -> Result<bool, AllocError>
-    requires done { HaveForms printer store.now done.old.keys }
+    requires done { HaveForms (syntax_of printer) store.now done.old.keys }
     requires held { Holds store.now e }
-    ensures { IfOk result (λ b. LooksAt printer store.now (parts_have_forms printer (tree_at
-        store.now e)) b done.new.keys) }
+    ensures { IfOk result (λ b. LooksAt (syntax_of printer) store.now (parts_have_forms
+        (syntax_of printer) (tree_at store.now e)) b done.new.keys) }
 {
     match store.node(e).parts() {
         Parts::None => Ok(true),

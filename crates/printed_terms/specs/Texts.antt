@@ -8,7 +8,8 @@ use Rattle.trees.specs.Tree.{Tree, Leaf, One, Two, Three, Head, HTyApp, HTyRigid
 use Rattle.name_entries.specs.declared.names.NameEntry.{NameEntry}
 use Rattle.driver_items.specs.declared.kinds.Piece.{Piece}
 use Rattle.driver_parts.specs.declared.driver.Driver.{Driver}
-use Rattle.driver_items.specs.declared.kinds.Printer.{Printer}
+use Rattle.driver_items.specs.declared.kinds.Syntax.{Syntax}
+use Rattle.driver_items.specs.Syntaxes.{syntax_of}
 use Rattle.name_tables.specs.Occurrences.{Occurrence, occurrence, whole_occurrence}
 use Rattle.name_tables.specs.Tables.{occurrence_place}
 use Rattle.printed_problems.specs.Templates.{template_of, by_pieces}
@@ -23,6 +24,10 @@ pub record Printing : Type 0 where
   pub driver : Driver
   pub things : List Occurrence
   pub names : List NameEntry
+
+-- the syntax of its driver's printer
+abbrev pub printing_syntax : Printing → Syntax
+printing_syntax p = syntax_of p.driver.printer
 
 abbrev pub text_of_entry : Option NameEntry → List ℕ
 text_of_entry None = []
@@ -46,11 +51,11 @@ joined separator [] = []
 joined separator (a ∷ more) = a ++ each_behind separator more
 
 -- a form with its parts
-abbrev pub form_text : Printer → Form → List (List ℕ) → List ℕ
+abbrev pub form_text : Syntax → Form → List (List ℕ) → List ℕ
 form_text syntax form parts = opening syntax form ++ joined (part_separator syntax form) parts ++ codes ")"
 
 -- a name alone, or with arguments
-abbrev pub application_text : Printer → List ℕ → List (List ℕ) → List ℕ
+abbrev pub application_text : Syntax → List ℕ → List (List ℕ) → List ℕ
 application_text syntax name [] = name
 application_text syntax name (a ∷ more) = before_name syntax ++ name ++ after_name syntax ++ joined (between_arguments syntax) (a ∷ more) ++ codes ")"
 
@@ -61,10 +66,10 @@ by_template (Some pieces) args other = by_pieces pieces args
 
 -- a symbol at types, with arguments
 abbrev pub symbol_text : Printing → Occurrence → List (List ℕ) → List ℕ
-symbol_text p o args = by_template (template_of p.driver o.symbol) args (application_text p.driver.printer (printed_name p o) args)
+symbol_text p o args = by_template (template_of p.driver o.symbol) args (application_text (printing_syntax p) (printed_name p o) args)
 
 abbrev pub equality_text : Driver → List (List ℕ) → List ℕ
-equality_text d sides = by_template d.eq_template sides (form_text d.printer Equality sides)
+equality_text d sides = by_template d.eq_template sides (form_text (syntax_of d.printer) Equality sides)
 
 -- the sort of a type symbol that is at a place of the table; the arguments are part of what the name stands for
 abbrev pub sort_by : Printing → ℕ → ℕ → List (List ℕ) → List ℕ
@@ -108,26 +113,26 @@ abbrev pub sort_text : Printing → Tree → List ℕ
 sort_text p type = (printed_sort p type).text
 
 -- the variable of the binder with so many binders around it
-abbrev pub variable_text : Printer → ℕ → List ℕ
+abbrev pub variable_text : Syntax → ℕ → List ℕ
 variable_text syntax d = variable_letter syntax ++ decimal d
 
 abbrev pub parameter : ℕ → List ℕ
 parameter n = codes "c" ++ decimal n
 
 -- a binder under so many others, with its variable's sort or value, and its body
-abbrev pub bound_text : Printer → Binder → ℕ → List ℕ → List ℕ → List ℕ
+abbrev pub bound_text : Syntax → Binder → ℕ → List ℕ → List ℕ → List ℕ
 bound_text syntax b d bound body = binder_opening syntax b ++ variable_text syntax d ++ before_bound syntax ++ bound ++ before_body syntax ++ body ++ codes ")"
 
 abbrev pub leaf_text : Printing → Head → Printed
-leaf_text p HTrue = printed_text (truth_text p.driver.printer true)
-leaf_text p HFalse = printed_text (truth_text p.driver.printer false)
+leaf_text p HTrue = printed_text (truth_text (printing_syntax p) true)
+leaf_text p HFalse = printed_text (truth_text (printing_syntax p) false)
 leaf_text p (HNum z) = printed_text (signed_decimal z)
 leaf_text p _ = printed_nothing
 
 abbrev pub one_text : Printing → ℕ → Head → Printed → Printed
-one_text p d (HBound i) a = printed_text (variable_text p.driver.printer (d - suc i))
+one_text p d (HBound i) a = printed_text (variable_text (printing_syntax p) (d - suc i))
 one_text p d (HParam n) a = printed_text (parameter n)
-one_text p d HNot a = printed_text (form_text p.driver.printer Negation (a.text ∷ []))
+one_text p d HNot a = printed_text (form_text (printing_syntax p) Negation (a.text ∷ []))
 one_text p d _ a = printed_nothing
 
 -- the second child is under the binder, where there is one
@@ -135,15 +140,15 @@ abbrev pub two_text : Printing → ℕ → Head → Tree → Printed → Printed
 two_text p d HCell first a b = with_member a b
 two_text p d (HPred k) types a b = printed_text (symbol_text p (occurrence k types) b.members)
 two_text p d HEq left a b = printed_text (equality_text p.driver (a.text ∷ b.text ∷ []))
-two_text p d (HJoin op) left a b = printed_text (form_text p.driver.printer (Connected op) (a.text ∷ b.text ∷ []))
-two_text p d HForall type a b = printed_text (bound_text p.driver.printer ForAll d (sort_text p type) b.text)
-two_text p d HExists type a b = printed_text (bound_text p.driver.printer ThereIs d (sort_text p type) b.text)
-two_text p d HLet value a b = printed_text (bound_text p.driver.printer LetIn d a.text b.text)
+two_text p d (HJoin op) left a b = printed_text (form_text (printing_syntax p) (Connected op) (a.text ∷ b.text ∷ []))
+two_text p d HForall type a b = printed_text (bound_text (printing_syntax p) ForAll d (sort_text p type) b.text)
+two_text p d HExists type a b = printed_text (bound_text (printing_syntax p) ThereIs d (sort_text p type) b.text)
+two_text p d HLet value a b = printed_text (bound_text (printing_syntax p) LetIn d a.text b.text)
 two_text p d _ first a b = printed_nothing
 
 abbrev pub three_text : Printing → Head → Tree → Printed → Printed → Printed → Printed
 three_text p (HFun k) types a b c = printed_text (symbol_text p (occurrence k types) b.members)
-three_text p HIf condition a b c = printed_text (form_text p.driver.printer Conditional (a.text ∷ b.text ∷ c.text ∷ []))
+three_text p HIf condition a b c = printed_text (form_text (printing_syntax p) Conditional (a.text ∷ b.text ∷ c.text ∷ []))
 three_text p _ first a b c = printed_nothing
 
 -- how many binders are around the second child

@@ -2,21 +2,21 @@
 -- conjunctions are one word, and both disjunctions.
 use Rattle.std.specs.Prelude.{ℕ, Bool, true, false, List, [], codes}
 use Rattle.trees.specs.declared.Op.TheVariants.{And, AndThen, Or, OrElse, Imp, Iff}
-use Rattle.driver_items.specs.declared.kinds.Printer.{Printer}
-use Rattle.driver_items.specs.declared.kinds.Printer.TheVariants.{Smt, Tff}
+use Rattle.driver_items.specs.declared.kinds.Syntax.{Syntax}
+use Rattle.driver_items.specs.declared.kinds.Syntax.TheVariants.{Smt, Tff}
 use Rattle.printed_terms.specs.declared.words.Form.{Form}
 use Rattle.printed_terms.specs.declared.words.Form.TheVariants.{Negation, Connected, Equality, Conditional}
 use Rattle.printed_terms.specs.declared.words.Binder.{Binder}
 use Rattle.printed_terms.specs.declared.words.Binder.TheVariants.{ForAll, ThereIs, LetIn}
 
-abbrev pub truth_text : Printer → Bool → List ℕ
+abbrev pub truth_text : Syntax → Bool → List ℕ
 truth_text Smt true = codes "true"
 truth_text Smt false = codes "false"
 truth_text Tff true = codes "$true"
 truth_text Tff false = codes "$false"
 
 -- what is before the parts of a form; after them stands `)`
-abbrev pub opening : Printer → Form → List ℕ
+abbrev pub opening : Syntax → Form → List ℕ
 opening Smt Negation = codes "(not "
 opening Smt (Connected And) = codes "(and "
 opening Smt (Connected AndThen) = codes "(and "
@@ -30,7 +30,7 @@ opening Tff Negation = codes "(~ "
 opening Tff _ = codes "("
 
 -- what is between two parts of a form
-abbrev pub part_separator : Printer → Form → List ℕ
+abbrev pub part_separator : Syntax → Form → List ℕ
 part_separator Smt _ = codes " "
 part_separator Tff (Connected And) = codes " & "
 part_separator Tff (Connected AndThen) = codes " & "
@@ -42,7 +42,7 @@ part_separator Tff Equality = codes " = "
 part_separator Tff _ = []
 
 -- what is before a binder's variable, between it and its sort or value, and before its body
-abbrev pub binder_opening : Printer → Binder → List ℕ
+abbrev pub binder_opening : Syntax → Binder → List ℕ
 binder_opening Smt ForAll = codes "(forall (("
 binder_opening Smt ThereIs = codes "(exists (("
 binder_opening Smt LetIn = codes "(let (("
@@ -50,28 +50,28 @@ binder_opening Tff ForAll = codes "(! ["
 binder_opening Tff ThereIs = codes "(? ["
 binder_opening Tff LetIn = []
 
-abbrev pub before_bound : Printer → List ℕ
+abbrev pub before_bound : Syntax → List ℕ
 before_bound Smt = codes " "
 before_bound Tff = codes ": "
 
-abbrev pub before_body : Printer → List ℕ
+abbrev pub before_body : Syntax → List ℕ
 before_body Smt = codes ")) "
 before_body Tff = codes "] : "
 
 -- a bound variable's letter
-abbrev pub variable_letter : Printer → List ℕ
+abbrev pub variable_letter : Syntax → List ℕ
 variable_letter Smt = codes "x"
 variable_letter Tff = codes "X"
 
 -- what is before and after the name of a symbol with arguments, and between these
-abbrev pub before_name : Printer → List ℕ
+abbrev pub before_name : Syntax → List ℕ
 before_name Smt = codes "("
 before_name Tff = []
 
-abbrev pub after_name : Printer → List ℕ
+abbrev pub after_name : Syntax → List ℕ
 after_name Smt = codes " "
 after_name Tff = codes "("
 
-abbrev pub between_arguments : Printer → List ℕ
+abbrev pub between_arguments : Syntax → List ℕ
 between_arguments Smt = codes " "
 between_arguments Tff = codes ","

@@ -8,7 +8,7 @@ ghost use Rattle.printed_terms.specs.Meaning.{printing, CanPrint, Appends};
 ghost use Rattle.printed_problems.specs.Templates.{template_in};
 
 use crate::words::letter;
-use driver_items::{Piece, Printer};
+use driver_items::{Piece, Syntax};
 use driver_parts::Driver;
 use name_entries::NameEntry;
 use name_tables::Things;
@@ -78,7 +78,7 @@ pub fn push_number(alloc: Global, out: &mut Vec<u8>, number: usize) -> Result<()
 pub(crate) fn push_variable(
     alloc: Global,
     out: &mut Vec<u8>,
-    syntax: Printer,
+    syntax: Syntax,
     depth: usize,
 ) -> Result<(), AllocError>
     ensures { OnOk result (Appends out.old.items (variable_text syntax depth) out.new.items) }

@@ -5,7 +5,7 @@ ghost use Rattle.trees.specs.Node.{tree_at, Holds};
 ghost use Rattle.tasks.specs.Meaning.{trees_at};
 ghost use Rattle.name_tables.specs.Occurrences.{occurrence};
 ghost use Rattle.printed_problems.specs.Templates.{by_pieces};
-ghost use Rattle.printed_terms.specs.Texts.{each_behind, joined, form_text, application_text, printed_name, symbol_text, equality_text, bound_text, sort_text, printed, term_text, formula_text};
+ghost use Rattle.printed_terms.specs.Texts.{printing_syntax, each_behind, joined, form_text, application_text, printed_name, symbol_text, equality_text, bound_text, sort_text, printed, term_text, formula_text};
 ghost use Rattle.printed_terms.specs.declared.words.Binder.TheVariants.{LetIn};
 ghost use Rattle.printed_terms.specs.Meaning.{printing, CanPrint, Appends};
 
@@ -16,7 +16,7 @@ use crate::words::{
     Binder, Form, before_body, before_bound, before_name, behind_name, between_arguments,
     binder_opening, opening, separator, truth,
 };
-use driver_items::Piece;
+use driver_items::{Piece, syntax_of};
 use std::alloc::AllocError;
 use trees::{Node, TermId};
 
@@ -34,7 +34,7 @@ fn push_term(
     ensures { OnOk result (Appends out.old.items (term_text (printing c.now) depth (tree_at
         c.now.store.now e)) out.new.items) }
 {
-    let syntax = c.driver.printer;
+    let syntax = syntax_of(c.driver.printer);
     match c.store.node(e) {
         Node::True => out.extend_from_slice(truth(syntax, true)),
         Node::False => out.extend_from_slice(truth(syntax, false)),
@@ -125,11 +125,11 @@ fn push_enclosed(
     requires held { Holds c.now.store.now below }
     requires deep { depth + below.0 ≤ usize.MAX }
     requires below { All (λ (id : TermId). id.0 < below.0) args.now }
-    ensures { OnOk result (Appends out.old.items (form_text c.now.driver.now.printer form
+    ensures { OnOk result (Appends out.old.items (form_text (printing_syntax (printing c.now)) form
         (map (term_text (printing c.now) depth) (trees_at c.now.store.now args.now)))
         out.new.items) }
 {
-    let syntax = c.driver.printer;
+    let syntax = syntax_of(c.driver.printer);
     out.extend_from_slice(opening(syntax, form))?;
     push_joined(c, out, separator(syntax, form), args, below, depth)?;
     out.extend_from_slice(b")")
@@ -204,15 +204,15 @@ fn push_applied(
     requires held { Holds c.now.store.now below }
     requires deep { depth + below.0 ≤ usize.MAX }
     requires below { All (λ (id : TermId). id.0 < below.0) args.now }
-    ensures { OnOk result (Appends out.old.items (application_text c.now.driver.now.printer
-        (printed_name (printing c.now) (occurrence symbol (tree_at c.now.store.now types)))
-        (map (term_text (printing c.now) depth) (trees_at c.now.store.now args.now)))
-        out.new.items) }
+    ensures { OnOk result (Appends out.old.items (application_text
+        (printing_syntax (printing c.now)) (printed_name (printing c.now) (occurrence symbol
+        (tree_at c.now.store.now types))) (map (term_text (printing c.now) depth) (trees_at
+        c.now.store.now args.now))) out.new.items) }
 {
     if args.is_empty() {
         return push_name(c, out, symbol, types);
     }
-    let syntax = c.driver.printer;
+    let syntax = syntax_of(c.driver.printer);
     out.extend_from_slice(before_name(syntax))?;
     push_name(c, out, symbol, types)?;
     out.extend_from_slice(behind_name(syntax))?;
@@ -288,11 +288,12 @@ fn push_quantified(
     requires type_held { Holds c.now.store.now ty }
     requires held { Holds c.now.store.now body }
     requires deep { depth + 1 + body.0 ≤ usize.MAX }
-    ensures { OnOk result (Appends out.old.items (bound_text c.now.driver.now.printer binder depth
-        (sort_text (printing c.now) (tree_at c.now.store.now ty)) (term_text (printing c.now)
-        (depth + 1) (tree_at c.now.store.now body))) out.new.items) }
+    ensures { OnOk result (Appends out.old.items (bound_text
+        (printing_syntax (printing c.now)) binder depth (sort_text (printing c.now)
+        (tree_at c.now.store.now ty)) (term_text (printing c.now) (depth + 1)
+        (tree_at c.now.store.now body))) out.new.items) }
 {
-    let syntax = c.driver.printer;
+    let syntax = syntax_of(c.driver.printer);
     out.extend_from_slice(binder_opening(syntax, binder))?;
     push_variable(c.alloc, out, syntax, depth)?;
     out.extend_from_slice(before_bound(syntax))?;
@@ -316,11 +317,12 @@ fn push_let(
     requires held { Holds c.now.store.now body }
     requires value_deep { depth + value.0 ≤ usize.MAX }
     requires deep { depth + 1 + body.0 ≤ usize.MAX }
-    ensures { OnOk result (Appends out.old.items (bound_text c.now.driver.now.printer LetIn depth
-        (term_text (printing c.now) depth (tree_at c.now.store.now value)) (term_text
+    ensures { OnOk result (Appends out.old.items (bound_text
+        (printing_syntax (printing c.now)) LetIn depth (term_text (printing c.now) depth
+        (tree_at c.now.store.now value)) (term_text
         (printing c.now) (depth + 1) (tree_at c.now.store.now body))) out.new.items) }
 {
-    let syntax = c.driver.printer;
+    let syntax = syntax_of(c.driver.printer);
     out.extend_from_slice(binder_opening(syntax, Binder::LetIn))?;
     push_variable(c.alloc, out, syntax, depth)?;
     out.extend_from_slice(before_bound(syntax))?;

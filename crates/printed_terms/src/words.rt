@@ -1,10 +1,10 @@
 // The words of both syntaxes.
 ghost use Rattle.std.specs.Prelude.{◌≡◌};
-ghost use Rattle.driver_items.specs.declared.kinds.Printer.TheVariants.{Smt, Tff};
+ghost use Rattle.driver_items.specs.declared.kinds.Syntax.TheVariants.{Smt, Tff};
 ghost use Rattle.printed_terms.specs.declared.words.Form.TheVariants.{Connected};
 ghost use Rattle.printed_terms.specs.Words.{truth_text, opening, part_separator, binder_opening, before_bound, before_body, variable_letter, before_name, after_name, between_arguments};
 
-use driver_items::Printer;
+use driver_items::Syntax;
 use trees::Op;
 
 /// A form with parts in it.
@@ -24,14 +24,14 @@ pub enum Binder {
     LetIn,
 }
 
-pub(crate) fn truth(syntax: Printer, value: bool) -> &'static [u8]
+pub(crate) fn truth(syntax: Syntax, value: bool) -> &'static [u8]
     ensures { result.now ≡ truth_text syntax value }
 {
     match (syntax, value) {
-        (Printer::Smt, true) => b"true",
-        (Printer::Smt, false) => b"false",
-        (Printer::Tff, true) => b"$true",
-        (Printer::Tff, false) => b"$false",
+        (Syntax::Smt, true) => b"true",
+        (Syntax::Smt, false) => b"false",
+        (Syntax::Tff, true) => b"$true",
+        (Syntax::Tff, false) => b"$false",
     }
 }
 
@@ -62,13 +62,13 @@ fn smt_opening(form: Form) -> &'static [u8]
 }
 
 /// What is before the parts of a form.
-pub(crate) fn opening(syntax: Printer, form: Form) -> &'static [u8]
+pub(crate) fn opening(syntax: Syntax, form: Form) -> &'static [u8]
     ensures { result.now ≡ opening syntax form }
 {
     match (syntax, form) {
-        (Printer::Smt, _) => smt_opening(form),
-        (Printer::Tff, Form::Negation) => b"(~ ",
-        (Printer::Tff, _) => b"(",
+        (Syntax::Smt, _) => smt_opening(form),
+        (Syntax::Tff, Form::Negation) => b"(~ ",
+        (Syntax::Tff, _) => b"(",
     }
 }
 
@@ -87,87 +87,87 @@ fn op_between(op: Op) -> &'static [u8]
 }
 
 /// What is between two parts of a form.
-pub(crate) fn separator(syntax: Printer, form: Form) -> &'static [u8]
+pub(crate) fn separator(syntax: Syntax, form: Form) -> &'static [u8]
     ensures { result.now ≡ part_separator syntax form }
 {
     match (syntax, form) {
-        (Printer::Smt, _) => b" ",
-        (Printer::Tff, Form::Connected(op)) => op_between(op),
-        (Printer::Tff, Form::Equality) => b" = ",
-        (Printer::Tff, _) => b"",
+        (Syntax::Smt, _) => b" ",
+        (Syntax::Tff, Form::Connected(op)) => op_between(op),
+        (Syntax::Tff, Form::Equality) => b" = ",
+        (Syntax::Tff, _) => b"",
     }
 }
 
 /// What is before a binder's variable.
-pub(crate) fn binder_opening(syntax: Printer, binder: Binder) -> &'static [u8]
+pub(crate) fn binder_opening(syntax: Syntax, binder: Binder) -> &'static [u8]
     ensures { result.now ≡ binder_opening syntax binder }
 {
     match (syntax, binder) {
-        (Printer::Smt, Binder::ForAll) => b"(forall ((",
-        (Printer::Smt, Binder::ThereIs) => b"(exists ((",
-        (Printer::Smt, Binder::LetIn) => b"(let ((",
-        (Printer::Tff, Binder::ForAll) => b"(! [",
-        (Printer::Tff, Binder::ThereIs) => b"(? [",
-        (Printer::Tff, Binder::LetIn) => b"",
+        (Syntax::Smt, Binder::ForAll) => b"(forall ((",
+        (Syntax::Smt, Binder::ThereIs) => b"(exists ((",
+        (Syntax::Smt, Binder::LetIn) => b"(let ((",
+        (Syntax::Tff, Binder::ForAll) => b"(! [",
+        (Syntax::Tff, Binder::ThereIs) => b"(? [",
+        (Syntax::Tff, Binder::LetIn) => b"",
     }
 }
 
 /// What is between a binder's variable and its sort or value.
-pub(crate) fn before_bound(syntax: Printer) -> &'static [u8]
+pub(crate) fn before_bound(syntax: Syntax) -> &'static [u8]
     ensures { result.now ≡ before_bound syntax }
 {
     match syntax {
-        Printer::Smt => b" ",
-        Printer::Tff => b": ",
+        Syntax::Smt => b" ",
+        Syntax::Tff => b": ",
     }
 }
 
 /// What is before a binder's body.
-pub(crate) fn before_body(syntax: Printer) -> &'static [u8]
+pub(crate) fn before_body(syntax: Syntax) -> &'static [u8]
     ensures { result.now ≡ before_body syntax }
 {
     match syntax {
-        Printer::Smt => b")) ",
-        Printer::Tff => b"] : ",
+        Syntax::Smt => b")) ",
+        Syntax::Tff => b"] : ",
     }
 }
 
 /// The letter of a bound variable.
-pub(crate) fn letter(syntax: Printer) -> &'static [u8]
+pub(crate) fn letter(syntax: Syntax) -> &'static [u8]
     ensures { result.now ≡ variable_letter syntax }
 {
     match syntax {
-        Printer::Smt => b"x",
-        Printer::Tff => b"X",
+        Syntax::Smt => b"x",
+        Syntax::Tff => b"X",
     }
 }
 
 /// What is before the name of a symbol with arguments.
-pub(crate) fn before_name(syntax: Printer) -> &'static [u8]
+pub(crate) fn before_name(syntax: Syntax) -> &'static [u8]
     ensures { result.now ≡ before_name syntax }
 {
     match syntax {
-        Printer::Smt => b"(",
-        Printer::Tff => b"",
+        Syntax::Smt => b"(",
+        Syntax::Tff => b"",
     }
 }
 
 /// What is between a name and its arguments.
-pub(crate) fn behind_name(syntax: Printer) -> &'static [u8]
+pub(crate) fn behind_name(syntax: Syntax) -> &'static [u8]
     ensures { result.now ≡ after_name syntax }
 {
     match syntax {
-        Printer::Smt => b" ",
-        Printer::Tff => b"(",
+        Syntax::Smt => b" ",
+        Syntax::Tff => b"(",
     }
 }
 
 /// What is between two arguments.
-pub(crate) fn between_arguments(syntax: Printer) -> &'static [u8]
+pub(crate) fn between_arguments(syntax: Syntax) -> &'static [u8]
     ensures { result.now ≡ between_arguments syntax }
 {
     match syntax {
-        Printer::Smt => b" ",
-        Printer::Tff => b",",
+        Syntax::Smt => b" ",
+        Syntax::Tff => b",",
     }
 }

@@ -5,7 +5,7 @@ use Rattle.trees.specs.declared.Op.{Op}
 use Rattle.trees.specs.declared.Op.TheVariants.{And, AndThen, Or, OrElse, Imp, Iff}
 use Rattle.trees.specs.Tree.{Tree, Leaf, One, Two, Three, Head, HCell, HBound, HParam, HNum, HFun, HPred, HEq, HTrue, HFalse, HNot, HJoin, HForall, HExists, HLet, HIf}
 use Rattle.tasks.specs.Vocabulary.{Vocabulary}
-use Rattle.driver_items.specs.declared.kinds.Printer.TheVariants.{Smt}
+use Rattle.driver_items.specs.declared.kinds.Syntax.TheVariants.{Smt}
 use Rattle.name_tables.specs.Occurrences.{Occurrence, occurrence}
 use Rattle.name_tables.specs.Tables.{thing_of}
 use Rattle.printed_problems.specs.Templates.{has_template}

@@ -17,8 +17,8 @@ use Rattle.tasks.specs.Task.{symbol_or}
 use Rattle.tasks.specs.Typing.{members, option_list, bound_types, IsUse, HasResult, MakesTerms}
 use Rattle.tasks.specs.Equations.{cells}
 use Rattle.tasks.proofs.Closing.{typed_sorted}
-use Rattle.driver_items.specs.declared.kinds.Printer.{Printer}
-use Rattle.driver_items.specs.declared.kinds.Printer.TheVariants.{Smt}
+use Rattle.driver_items.specs.declared.kinds.Syntax.{Syntax}
+use Rattle.driver_items.specs.declared.kinds.Syntax.TheVariants.{Smt}
 use Rattle.name_tables.specs.Occurrences.{occurrence, in_type, in_types_of, occurrences, of_two}
 use Rattle.name_tables.specs.Tables.{thing_of}
 use Rattle.printed_problems.specs.Problems.{is_kind}
@@ -83,8 +83,8 @@ module _ (c : Known) (r : IsReader c) (d : ℕ) (types : List Tree) where
 
   -- ---- leaves
   leaf_writes : (h : Head) → Writes (leaf_text c.printing h) (leaf_read h)
-  leaf_writes HTrue = record { text = ap (λ (x : Printer). truth_text x true) r.smt; members = refl }
-  leaf_writes HFalse = record { text = ap (λ (x : Printer). truth_text x false) r.smt; members = refl }
+  leaf_writes HTrue = record { text = ap (λ (x : Syntax). truth_text x true) r.smt; members = refl }
+  leaf_writes HFalse = record { text = ap (λ (x : Syntax). truth_text x false) r.smt; members = refl }
   leaf_writes (HNum z) = record { text = refl; members = refl }
   leaf_writes _ = record { text = refl; members = refl }
 
@@ -110,7 +110,7 @@ module _ (c : Known) (r : IsReader c) (d : ℕ) (types : List Tree) where
 
   -- ---- one child
   one_writes : (h : Head) (a : Tree) → Writes (printed c.printing d a) (read c d a) → Writes (one_text c.printing d h (printed c.printing d a)) (one_read d h (read c d a))
-  one_writes (HBound k) a t = record { text = ap (λ (x : Printer). variable_text x (d - suc k)) r.smt; members = refl }
+  one_writes (HBound k) a t = record { text = ap (λ (x : Syntax). variable_text x (d - suc k)) r.smt; members = refl }
   one_writes (HParam n) a t = record { text = refl; members = refl }
   one_writes HNot a t = record { text = (λ j. form_text (r.smt j) Negation (t.text j ∷ [])) ∙ negation_is (read c d a).one; members = refl }
   one_writes _ a t = record { text = refl; members = refl }

@@ -15,7 +15,8 @@ use Rattle.tasks.proofs.Closing.{typed_sorted}
 use Rattle.linear_leaf.specs.Valuations.{same_tree}
 use Rattle.linear_leaf.proofs.SameTree.{and_left, and_right, same_is}
 use Rattle.driver_items.specs.declared.kinds.Piece.{Piece}
-use Rattle.driver_items.specs.declared.kinds.Printer.TheVariants.{Smt}
+use Rattle.driver_items.specs.Syntaxes.{syntax_of}
+use Rattle.driver_items.specs.declared.kinds.Syntax.TheVariants.{Smt}
 use Rattle.name_entries.specs.declared.names.NameEntry.{NameEntry}
 use Rattle.name_tables.specs.Occurrences.{Occurrence, occurrence, whole_occurrence, in_type}
 use Rattle.name_tables.specs.Tables.{is_same, occurrence_place, thing_of}
@@ -41,7 +42,7 @@ pub record IsNamed (c : Known) (o : Occurrence) : Type 0 where
   pub no_equals : named.name ≢ codes "="
 
 pub record IsReader (c : Known) : Type 0 where
-  pub smt : c.printing.driver.printer ≡ Smt
+  pub smt : syntax_of c.printing.driver.printer ≡ Smt
   pub plain : ArePlain c.printing.driver c.vocabulary.symbols c.printing.names c.words
   pub params : length c.params ≤ 2 ^ 64
   pub named : (o : Occurrence) → IsThere c o → IsNamed c o

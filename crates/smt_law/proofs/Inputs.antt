@@ -7,7 +7,7 @@ use Rattle.tasks.specs.Valid.{ParametersOf}
 use Rattle.tasks.proofs.Counts.{bound_count}
 use Rattle.tasks.proofs.Closing.{typed_sorted}
 use Rattle.linear_leaf.proofs.SameTree.{and_left, and_right}
-use Rattle.driver_items.specs.declared.kinds.Printer.TheVariants.{Smt}
+use Rattle.driver_items.specs.declared.kinds.Syntax.TheVariants.{Smt}
 use Rattle.name_tables.specs.Occurrences.{of_one, of_two, of_three, occurrences}
 use Rattle.name_tables.specs.Seen.{AreIn}
 use Rattle.printed_problems.specs.Faults.{has_head, has_forms}

@@ -4,8 +4,9 @@ use Rattle.std.proofs.lemmas.Bool.Decides.{Decides-eqb}
 use Rattle.trees.specs.declared.Sort.TheVariants.{Formula}
 use Rattle.trees.specs.Tree.{Tree, Leaf, One, Two, Three, Head, HTyVar, HParam, above_ty_vars}
 use Rattle.trees.specs.Sorts.{sort_of}
-use Rattle.driver_items.specs.declared.kinds.Printer.{Printer}
-use Rattle.driver_items.specs.declared.kinds.Printer.TheVariants.{Smt}
+use Rattle.driver_items.specs.declared.kinds.Syntax.{Syntax}
+use Rattle.driver_items.specs.Syntaxes.{syntax_of}
+use Rattle.driver_items.specs.declared.kinds.Syntax.TheVariants.{Smt}
 use Rattle.driver_parts.specs.declared.driver.Driver.{Driver}
 use Rattle.tasks.specs.Task.{TaskTree, DeclarationTree, BodyTree, MakesType, Makes, Defines, Induces, Constructs, Says, PropositionTree, said_by, props_of, props}
 use Rattle.tasks.specs.Vocabulary.{of_task}
@@ -103,7 +104,7 @@ no_parameters types (One h a) p = (none_of types h a p.0, no_parameters types a 
 no_parameters types (Two h a b) p = (no_parameters types a p.0, no_parameters types b p.1)
 no_parameters types (Three h a b c) p = (no_parameters types a p.0, no_parameters types b p.1, no_parameters types c p.2)
 
-module _ (d : Driver) (words : Words) (t : TaskTree) (smt : d.printer ≡ Smt) (p : IsPrinted d t) where
+module _ (d : Driver) (words : Words) (t : TaskTree) (smt : syntax_of d.printer ≡ Smt) (p : IsPrinted d t) where
   pub record IsFormed (e : Tree) : Type 0 where
     pub sort : sort_of e ≡ Formula
     pub typed : TypedUnder (of_task t) [] e
@@ -115,14 +116,14 @@ module _ (d : Driver) (words : Words) (t : TaskTree) (smt : d.printer ≡ Smt) (
   ground_told n e true k h = (Decides-eqb (above_ty_vars e) 0).0 k
   ground_told n e false k h = absurd (cc)
 
-  forms_told : (n : ℕ) (e : Tree) (b : Bool) → has_forms d.printer e ≡ b → (if not b then Some (Unprintable n) else (if not (above_ty_vars e == 0) then Some (Polymorphic n) else syntax_fault d t (occurrences e))) ≡ None
+  forms_told : (n : ℕ) (e : Tree) (b : Bool) → has_forms (syntax_of d.printer) e ≡ b → (if not b then Some (Unprintable n) else (if not (above_ty_vars e == 0) then Some (Polymorphic n) else syntax_fault d t (occurrences e))) ≡ None
       → (has_forms Smt e ≡ true) × (above_ty_vars e ≡ 0)
-  forms_told n e true k h = (ap (λ (x : Printer). has_forms x e) (sym smt) ∙ k, ground_told n e (above_ty_vars e == 0) refl h)
+  forms_told n e true k h = (ap (λ (x : Syntax). has_forms x e) (sym smt) ∙ k, ground_told n e (above_ty_vars e == 0) refl h)
   forms_told n e false k h = absurd (cc)
 
   formed : (n : ℕ) (params : List Tree) (vars : ℕ) (e : Tree) → IsFormulaOver (of_task t) params vars e → ParametersOf t.params e → formula_fault d t n e ≡ None → IsFormed e
   formed n params vars e f q h =
-      let told = forms_told n e (has_forms d.printer e) refl h in
+      let told = forms_told n e (has_forms (syntax_of d.printer) e) refl h in
       record { sort = f.sort; typed = f.typed; parameters = q; forms = told.0; ground = told.1 }
 
   body_formed : (n : ℕ) (x : DeclarationTree) (b : BodyTree) → IsValidBody (of_task t) x.vars b → printed_body_fault d t n b ≡ None → EachOf (λ (q : PropositionTree). IsFormed q.formula) (said_by x b)

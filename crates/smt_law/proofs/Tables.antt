@@ -5,7 +5,8 @@ use Rattle.std.proofs.lemmas.Bool.Decides.{nat_tests}
 use Rattle.std.proofs.lemmas.Option.{get_or_from_slice_get, slice_get_within}
 use Rattle.std.proofs.lemmas.List.{get_or_append_left}
 use Rattle.std.proofs.lemmas.List.Elements.{Contains-append_left}
-use Rattle.driver_items.specs.declared.kinds.Printer.TheVariants.{Smt}
+use Rattle.driver_items.specs.Syntaxes.{syntax_of}
+use Rattle.driver_items.specs.declared.kinds.Syntax.TheVariants.{Smt}
 use Rattle.driver_parts.specs.declared.driver.Driver.{Driver}
 use Rattle.tasks.specs.Task.{TaskTree, symbol_or, declared, made}
 use Rattle.tasks.specs.Vocabulary.{of_task}
@@ -102,7 +103,7 @@ made_is t k once (inr c) =
       | false ↦ ap (λ b. is_rigid_name (if b then Rigid k else Symbol k)) n
     ]
 
-module _ (d : Driver) (words : Words) (t : TaskTree) (smt : d.printer ≡ Smt) (plain : ArePlain d t.symbols (problem_names t) words) (p : IsPrinted d t) where
+module _ (d : Driver) (words : Words) (t : TaskTree) (smt : syntax_of d.printer ≡ Smt) (plain : ArePlain d t.symbols (problem_names t) words) (p : IsPrinted d t) where
   abbrev things : List Occurrence
   things = problem_things t
 

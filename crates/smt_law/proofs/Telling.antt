@@ -1,7 +1,8 @@
 -- The text of a problem by lines of expressions, and what a reader makes of these.
 use Rattle.std.proofs.Common.{◌≡◌, ℕ, ◌+◌, ◌≤◌, ◌^◌, List, [], ◌∷◌, ◌++◌, map, length, codes, flat_map, refl, ap, ◌∙◌, arith, inr}
 use Rattle.trees.specs.Tree.{Tree}
-use Rattle.driver_items.specs.declared.kinds.Printer.TheVariants.{Smt}
+use Rattle.driver_items.specs.Syntaxes.{syntax_of}
+use Rattle.driver_items.specs.declared.kinds.Syntax.TheVariants.{Smt}
 use Rattle.driver_parts.specs.declared.driver.Driver.{Driver}
 use Rattle.tasks.specs.Task.{TaskTree}
 use Rattle.name_tables.specs.Tables.{problem_names}
@@ -83,7 +84,7 @@ module _ (c : Known) where
   types_back (e ∷ es) t = (λ i. t.0.back i ∷ types_back es t.1 i)
 
 -- ---- the problem of a task
-module _ (d : Driver) (words : Words) (t : TaskTree) (smt : d.printer ≡ Smt) (plain : ArePlain d t.symbols (problem_names t) words) (p : IsPrinted d t) where
+module _ (d : Driver) (words : Words) (t : TaskTree) (smt : syntax_of d.printer ≡ Smt) (plain : ArePlain d t.symbols (problem_names t) words) (p : IsPrinted d t) where
   abbrev pub knows : Known
   knows = known d words t
 

@@ -5,8 +5,9 @@ use Rattle.std.specs.Fmt.{decimal}
 use Rattle.trees.specs.declared.Op.{Op}
 use Rattle.trees.specs.declared.Op.TheVariants.{And, AndThen, Or, OrElse, Imp, Iff}
 use Rattle.driver_items.specs.declared.kinds.Piece.{Piece}
-use Rattle.driver_items.specs.declared.kinds.Printer.{Printer}
-use Rattle.driver_items.specs.declared.kinds.Printer.TheVariants.{Smt}
+use Rattle.driver_items.specs.declared.kinds.Syntax.{Syntax}
+use Rattle.driver_items.specs.Syntaxes.{syntax_of}
+use Rattle.driver_items.specs.declared.kinds.Syntax.TheVariants.{Smt}
 use Rattle.printed_problems.specs.Templates.{template_of, has_template}
 use Rattle.printed_terms.specs.declared.words.Form.TheVariants.{Negation, Connected, Equality, Conditional}
 use Rattle.printed_terms.specs.declared.words.Binder.{Binder}
@@ -53,17 +54,17 @@ pub record Writes (p : Printed) (r : Read) : Type 0 where
 -- ---- symbols and equality
 module _ (c : Known) (r : IsReader c) where
   symbol_by : (o : Occurrence) (t : Option (List Piece)) → template_of c.printing.driver o.symbol ≡ t → (s : Sexp) → (is_some t ≡ true → length (texts_of s) ≡ arity c.vocabulary.symbols o.symbol)
-      → by_template t (texts_of s) (application_text c.printing.driver.printer (printed_name c.printing o) (texts_of s)) ≡ write_sexp (called (if is_some t then c.words.of_symbol o.symbol else printed_name c.printing o) s)
-  symbol_by o None e s n = ap (λ (x : Printer). application_text x (printed_name c.printing o) (texts_of s)) r.smt ∙ applied_is (printed_name c.printing o) s
+      → by_template t (texts_of s) (application_text (syntax_of c.printing.driver.printer) (printed_name c.printing o) (texts_of s)) ≡ write_sexp (called (if is_some t then c.words.of_symbol o.symbol else printed_name c.printing o) s)
+  symbol_by o None e s n = ap (λ (x : Syntax). application_text x (printed_name c.printing o) (texts_of s)) r.smt ∙ applied_is (printed_name c.printing o) s
   symbol_by o (Some pieces) e s n = (r.plain.each o.symbol pieces e).shape (texts_of s) (n refl) ∙ applied_is (c.words.of_symbol o.symbol) s
 
   pub symbol_is : (o : Occurrence) (s : Sexp) → (has_template c.printing.driver o.symbol ≡ true → length (texts_of s) ≡ arity c.vocabulary.symbols o.symbol) → symbol_text c.printing o (texts_of s) ≡ write_sexp (called (word_of c o) s)
   symbol_is o s n = symbol_by o (template_of c.printing.driver o.symbol) refl s n
 
-  equality_by : (t : Option (List Piece)) → c.printing.driver.eq_template ≡ t → (a b : Sexp) → by_template t (write_sexp a ∷ write_sexp b ∷ []) (form_text c.printing.driver.printer Equality (write_sexp a ∷ write_sexp b ∷ [])) ≡ write_sexp (two_called c.words.of_equality a b)
+  equality_by : (t : Option (List Piece)) → c.printing.driver.eq_template ≡ t → (a b : Sexp) → by_template t (write_sexp a ∷ write_sexp b ∷ []) (form_text (syntax_of c.printing.driver.printer) Equality (write_sexp a ∷ write_sexp b ∷ [])) ≡ write_sexp (two_called c.words.of_equality a b)
   equality_by None e a b =
       let word : c.words.of_equality ≡ codes "=" = subst (λ t. EqualityIsPlain c.printing.names c.words.of_equality t) e r.plain.equality in
-      ap (λ (x : Printer). form_text x Equality (write_sexp a ∷ write_sexp b ∷ [])) r.smt ∙ two_is (codes "=") a b ∙ ap (λ w. write_sexp (two_called w a b)) (sym word)
+      ap (λ (x : Syntax). form_text x Equality (write_sexp a ∷ write_sexp b ∷ [])) r.smt ∙ two_is (codes "=") a b ∙ ap (λ w. write_sexp (two_called w a b)) (sym word)
   equality_by (Some pieces) e a b =
       let shape = subst (λ t. EqualityIsPlain c.printing.names c.words.of_equality t) e r.plain.equality in
       shape.0 (write_sexp a ∷ write_sexp b ∷ []) refl ∙ applied_is c.words.of_equality (Then a (Then b Nothing))

@@ -3,7 +3,8 @@ use Rattle.std.proofs.Common.{◌≡◌, ℕ, false, subst, List, [], ◌∷◌,
 use Rattle.std.proofs.lemmas.List.Concat.{flat_map-append}
 use Rattle.trees.specs.Tree.{Tree, Leaf, HEnd}
 use Rattle.trees.specs.declared.ints.Ints.{Ints}
-use Rattle.driver_items.specs.declared.kinds.Printer.TheVariants.{Smt}
+use Rattle.driver_items.specs.Syntaxes.{syntax_of}
+use Rattle.driver_items.specs.declared.kinds.Syntax.TheVariants.{Smt}
 use Rattle.driver_parts.specs.declared.driver.Driver.{Driver}
 use Rattle.tasks.specs.Task.{SymbolTree, TaskTree}
 use Rattle.tasks.specs.Vocabulary.{Vocabulary}
@@ -74,7 +75,7 @@ premises_of d t = (problem_of d t).facts ++ (problem_of d t).locals
 abbrev commands_of : Driver → Words → TaskTree → List Sexp
 commands_of d words t = commands (known d words t) t.params (premises_of d t) t.goal
 
-module _ (d : Driver) (words : Words) (t : TaskTree) (smt : d.printer ≡ Smt) (plain : ArePlain d t.symbols (problem_names t) words) (p : IsPrinted d t) where
+module _ (d : Driver) (words : Words) (t : TaskTree) (smt : syntax_of d.printer ≡ Smt) (plain : ArePlain d t.symbols (problem_names t) words) (p : IsPrinted d t) where
   text_is : (k n : ℕ) → smt_text d t (problem_of d t) k n ≡ front_of d k n t ++ lines (commands_of d words t)
   text_is k n =
       let c = known d words t in
@@ -92,7 +93,7 @@ module _ (d : Driver) (words : Words) (t : TaskTree) (smt : d.printer ≡ Smt) (
   proper = commands_proper (known d words t) t.params (premises_of d t) t.goal p.params (types_told d words t smt plain p) (premises_told d words t smt plain p) (goal_told d words t smt plain p)
 
 -- ---- two problems
-module _ (d : Driver) (words : Words) (t u : TaskTree) (k n : ℕ) (smt : d.printer ≡ Smt) (plain : ArePlain d t.symbols (problem_names t) words) (p : IsPrinted d t) (q : IsPrinted d u) (a : AreAlike d t u)
+module _ (d : Driver) (words : Words) (t u : TaskTree) (k n : ℕ) (smt : syntax_of d.printer ≡ Smt) (plain : ArePlain d t.symbols (problem_names t) words) (p : IsPrinted d t) (q : IsPrinted d u) (a : AreAlike d t u)
     (same : smt_text d t (problem_of d t) k n ≡ smt_text d u (problem_of d u) k n) where
   plain_too : ArePlain d u.symbols (problem_names u) words
   plain_too = subst (λ (s : List SymbolTree). ArePlain d s (problem_names u) words) a.symbols (subst (λ (ns : List NameEntry). ArePlain d t.symbols ns words) a.names plain)

@@ -2,7 +2,8 @@
 use Rattle.std.specs.Prelude.{◌≡◌, ℕ, ◌<◌, ◌≤◌, ◌^◌, Bool, false, List, [], ◌∷◌, ◌++◌, map, length, All, None, ℤ, pos, negsuc}
 use Rattle.std.specs.List.{list_any}
 use Rattle.trees.specs.Tree.{Tree, Leaf, One, Two, Three, Head, HNum, height}
-use Rattle.driver_items.specs.declared.kinds.Printer.TheVariants.{Smt}
+use Rattle.driver_items.specs.Syntaxes.{syntax_of}
+use Rattle.driver_items.specs.declared.kinds.Syntax.TheVariants.{Smt}
 use Rattle.driver_parts.specs.declared.driver.Driver.{Driver}
 use Rattle.tasks.specs.Task.{SymbolTree, TaskTree}
 use Rattle.tasks.specs.Valid.{IsValid}
@@ -67,7 +68,7 @@ pub record TellTheSame (d : Driver) (t u : TaskTree) : Type 0 where
 
 abbrev pub LawOfTexts : Type 0
 LawOfTexts =
-    (d : Driver) (words : Words) (t u : TaskTree) (k n : ℕ) → d.printer ≡ Smt → ArePlain d t.symbols (problem_names t) words → IsPrinted d t → IsPrinted d u → AreAlike d t u
+    (d : Driver) (words : Words) (t u : TaskTree) (k n : ℕ) → syntax_of d.printer ≡ Smt → ArePlain d t.symbols (problem_names t) words → IsPrinted d t → IsPrinted d u → AreAlike d t u
     → smt_text d t (problem_of d t) k n ≡ smt_text d u (problem_of d u) k n → TellTheSame d t u
 
 abbrev pub begins_digit : List ℕ → Bool

@@ -2,7 +2,7 @@
 use Rattle.std.specs.Prelude.{◌≡◌, ◌≢◌, ℕ, ◌==◌, ◌||◌, ◌&&◌, nat_le, Bool, true, false, if◌then◌else◌, List, [], ◌∷◌, length, All, codes, Option, Some, None, IsTrue, bytes_eq}
 use Rattle.std.specs.List.{list_any}
 use Rattle.driver_items.specs.declared.kinds.Piece.{Piece}
-use Rattle.driver_items.specs.declared.kinds.Printer.TheVariants.{Smt}
+use Rattle.driver_items.specs.declared.kinds.Syntax.TheVariants.{Smt}
 use Rattle.driver_parts.specs.declared.driver.Driver.{Driver}
 use Rattle.tasks.specs.Task.{SymbolTree, symbol_or}
 use Rattle.name_entries.specs.declared.names.NameEntry.{NameEntry}

@@ -2,6 +2,7 @@ use Rattle.std.proofs.Common.{◌≡◌, true, false, ◌&&◌, refl, sym, ap, s
 use Rattle.trees.specs.declared.Parts.TheVariants as parts
 use Rattle.trees.specs.Tree.{Tree, head_of}
 use Rattle.trees.specs.Node.{tree_at, head_of_node, parts_of}
+use Rattle.driver_items.specs.Syntaxes.{syntax_of}
 use Rattle.printed_problems.specs.Faults.{has_head, has_forms}
 use Rattle.printed_problems.specs.Checks.{LooksAt, parts_have_forms}
 use Rattle.printed_problems.proofs.First.{no_value}
@@ -11,14 +12,14 @@ use Rattle.printed_problems.proofs.forms.+forms.Goals as goal
 pub has_forms-returns-then-contains : goal.has_forms-returns-then-contains
 has_forms-returns-then-contains t c =
     record {
-      is = sym (forms_there c.args.printer c.args.store.now c.args.done.now.keys c.args.e.0 c.requires.done (sym c.contains.ensures ∙ c.if-contains.true));
+      is = sym (forms_there (syntax_of c.args.printer) c.args.store.now c.args.done.now.keys c.args.e.0 c.requires.done (sym c.contains.ensures ∙ c.if-contains.true));
       done = c.requires.done;
     }
 
 pub has_forms-returns-then-not-has_head : goal.has_forms-returns-then-not-has_head
 has_forms-returns-then-not-has_head t c =
     let s = c.args.store.now in
-    let p = c.args.printer in
+    let p = syntax_of c.args.printer in
     let e = tree_at s c.args.e in
     let node = c.node.result in
     let top : has_head p (head_of e) ≡ false =
@@ -31,7 +32,7 @@ has_forms-returns-in_err-parts_have_forms t c = no_value _ _ c.from_residual.res
 pub has_forms-returns-then-not-branch : goal.has_forms-returns-then-not-branch
 has_forms-returns-then-not-branch t c =
     let s = c.args.store.now in
-    let p = c.args.printer in
+    let p = syntax_of c.args.printer in
     let e = tree_at s c.args.e in
     let node = c.node.result in
     let top : has_head p (head_of e) ≡ true =
@@ -45,7 +46,7 @@ has_forms-returns-in_err-insert t c = no_value _ _ c.from_residual-in_err-insert
 pub has_forms-returns : goal.has_forms-returns
 has_forms-returns t c =
     let s = c.args.store.now in
-    let p = c.args.printer in
+    let p = syntax_of c.args.printer in
     let e = tree_at s c.args.e in
     let node = c.node.result in
     let top : has_head p (head_of e) ≡ true =
@@ -57,7 +58,7 @@ has_forms-returns t c =
 pub parts_have_forms-returns-in-None : goal.parts_have_forms-returns-in-None
 parts_have_forms-returns-in-None t c =
     let s = c.args.store.now in
-    let p = c.args.printer in
+    let p = syntax_of c.args.printer in
     let e = tree_at s c.args.e in
     let node = c.node.result in
     record { is = formed_parts p s e (head_of_node node) (parts_of node) parts.None c.node.ensures.tree c.in-None.ensures; done = c.requires.done }
@@ -65,7 +66,7 @@ parts_have_forms-returns-in-None t c =
 pub parts_have_forms-returns-in-One : goal.parts_have_forms-returns-in-One
 parts_have_forms-returns-in-One t c =
     let s = c.args.store.now in
-    let p = c.args.printer in
+    let p = syntax_of c.args.printer in
     let e = tree_at s c.args.e in
     let node = c.node.result in
     let due : has_forms p (tree_at s c.in-One.a) ≡ parts_have_forms p e = formed_parts p s e (head_of_node node) (parts_of node) (parts.One c.in-One.a) c.node.ensures.tree c.in-One.ensures in
@@ -77,7 +78,7 @@ parts_have_forms-returns-in_err-has_forms-in-Two t c = no_value _ _ c.from_resid
 pub parts_have_forms-returns-then-not-branch : goal.parts_have_forms-returns-then-not-branch
 parts_have_forms-returns-then-not-branch t c =
     let s = c.args.store.now in
-    let p = c.args.printer in
+    let p = syntax_of c.args.printer in
     let e = tree_at s c.args.e in
     let node = c.node.result in
     let looked = c.in_ok-has_forms-in-Two.ensures in
@@ -87,7 +88,7 @@ parts_have_forms-returns-then-not-branch t c =
 pub parts_have_forms-returns-else-not-branch : goal.parts_have_forms-returns-else-not-branch
 parts_have_forms-returns-else-not-branch t c =
     let s = c.args.store.now in
-    let p = c.args.printer in
+    let p = syntax_of c.args.printer in
     let e = tree_at s c.args.e in
     let node = c.node.result in
     let on = sym c.in_ok-has_forms-in-Two.ensures.is ∙ c.if-not-branch.false in
@@ -100,7 +101,7 @@ parts_have_forms-returns-in_err-has_forms-in-Three t c = no_value _ _ c.from_res
 pub parts_have_forms-returns-then-not-branch-2 : goal.parts_have_forms-returns-then-not-branch-2
 parts_have_forms-returns-then-not-branch-2 t c =
     let s = c.args.store.now in
-    let p = c.args.printer in
+    let p = syntax_of c.args.printer in
     let e = tree_at s c.args.e in
     let node = c.node.result in
     let looked = c.in_ok-has_forms-in-Three.ensures in
@@ -113,7 +114,7 @@ parts_have_forms-returns-in_err-has_forms-in-Three-2 t c = no_value _ _ c.from_r
 pub parts_have_forms-returns-then-not-branch-3 : goal.parts_have_forms-returns-then-not-branch-3
 parts_have_forms-returns-then-not-branch-3 t c =
     let s = c.args.store.now in
-    let p = c.args.printer in
+    let p = syntax_of c.args.printer in
     let e = tree_at s c.args.e in
     let node = c.node.result in
     let looked = c.in_ok-has_forms-in-Three-2.ensures in
@@ -124,7 +125,7 @@ parts_have_forms-returns-then-not-branch-3 t c =
 pub parts_have_forms-returns-else-not-branch-3 : goal.parts_have_forms-returns-else-not-branch-3
 parts_have_forms-returns-else-not-branch-3 t c =
     let s = c.args.store.now in
-    let p = c.args.printer in
+    let p = syntax_of c.args.printer in
     let e = tree_at s c.args.e in
     let node = c.node.result in
     let on = sym c.in_ok-has_forms-in-Three.ensures.is ∙ c.if-not-branch-2.false in
