@@ -15,5 +15,6 @@ pub mod Same
 pub mod Telling
 pub mod Whole
 pub mod Shipped
+pub mod ShippedRead
 pub mod Spelt
 pub mod Scoped

@@ -1,9 +1,17 @@
 -- The templates of drivers/smt_syntax.drv, as they are read over the signature of a task.
-use Rattle.std.specs.Prelude.{◌≡◌, ℕ, ◌==◌, if◌then◌else◌, List, [], ◌∷◌, codes, map, Option, Some, None}
+use Rattle.std.specs.Prelude.{◌≡◌, ℕ, ◌==◌, true, if◌then◌else◌, List, [], ◌∷◌, ◌++◌, codes, map, Option, Some, None, IsOkAnd}
+use Rattle.outside.specs.State.{Files}
 use Rattle.trees.specs.declared.ints.Ints.{Ints}
 use Rattle.driver_items.specs.declared.kinds.Piece.{Piece}
 use Rattle.driver_items.specs.Templates as read
+use Rattle.driver_items.specs.declared.kinds.Printer.TheVariants.{Smt}
+use Rattle.driver_items.specs.declared.symbols.Target.TheVariants.{Entry}
+use Rattle.driver_items.specs.Symbols.{NamedTheories, is_known, target_of}
+use Rattle.driver_tokens.specs.declared.terminal.NameKind.{NameKind}
+use Rattle.driver_tokens.specs.declared.terminal.NameKind.TheVariants.{Function, Predicate}
+use Rattle.driver_files.specs.Reading.{driver_named}
 use Rattle.driver_parts.specs.declared.driver.Driver.{Driver}
+use Rattle.tasks.specs.declared.signature.SymbolInfo.{SymbolInfo}
 use Rattle.tasks.specs.Task.{TaskTree}
 use Rattle.tasks.specs.Valid.{IsValid}
 use Rattle.name_tables.specs.Tables.{problem_names}
@@ -55,3 +63,38 @@ shipped_words ints = record { of_symbol = (λ k. if k == 0 then codes "Int" else
 -- they are plain
 abbrev pub ShippedArePlain : Type 0
 ShippedArePlain = (d : Driver) (t : TaskTree) → IsValid t → HasShippedTemplates d t.ints → ArePlain d t.symbols (problem_names t) (shipped_words t.ints)
+
+-- the file itself
+abbrev pub shipped_text : List ℕ
+shipped_text = codes "prelude \"(set-logic UFNIA)\"\nprinter \"smtv2\"\nvalid \"^unsat\"\n"
+    ++ codes "theory BuiltIn syntax type int \"Int\" syntax predicate (=) \"(= %1 %2)\" end\ntheory int.Int\n"
+    ++ codes "  syntax function (-_) \"(- %1)\"     syntax function (+) \"(+ %1 %2)\"\n"
+    ++ codes "  syntax function (-) \"(- %1 %2)\"   syntax function (*) \"(* %1 %2)\"\n"
+    ++ codes "  syntax predicate (<) \"(< %1 %2)\"  syntax predicate (<=) \"(<= %1 %2)\"\n"
+    ++ codes "  syntax predicate (>) \"(> %1 %2)\"  syntax predicate (>=) \"(>= %1 %2)\"\n  remove allprops\nend\n"
+
+-- the entries of the theory int.Int in a source: those after the type `int`
+abbrev pub first_entries : Ints
+first_entries = record { neg = 1; add = 2; sub = 3; mul = 4; lt = 5; le = 6; gt = 7; ge = 8 }
+
+-- the entry of a name of int.Int, which has so many arguments
+abbrev pub IsIntName : List SymbolInfo → NameKind → List ℕ → ℕ → ℕ → Type 0
+IsIntName symbols kind name entry arity = target_of symbols (codes "int.Int") kind name ≡ Some (Entry entry, arity)
+
+-- the theory int.Int is known, and its names stand for these entries
+pub record KnowsInts (symbols : List SymbolInfo) (theories : NamedTheories) (z : Ints) : Type 0 where
+  pub known : is_known theories (codes "int.Int") ≡ true
+  pub neg : IsIntName symbols Function (codes "-_") z.neg 1
+  pub add : IsIntName symbols Function (codes "+") z.add 2
+  pub sub : IsIntName symbols Function (codes "-") z.sub 2
+  pub mul : IsIntName symbols Function (codes "*") z.mul 2
+  pub lt : IsIntName symbols Predicate (codes "<") z.lt 2
+  pub le : IsIntName symbols Predicate (codes "<=") z.le 2
+  pub gt : IsIntName symbols Predicate (codes ">") z.gt 2
+  pub ge : IsIntName symbols Predicate (codes ">=") z.ge 2
+
+-- the driver that is read from the file has them
+abbrev pub ShippedAreRead : Type 0
+ShippedAreRead =
+    (symbols : List SymbolInfo) (theories : NamedTheories) (files : Files) (name : List ℕ) → KnowsInts symbols theories first_entries → files name ≡ Some shipped_text
+    → IsOkAnd (driver_named symbols theories name files None) (λ d. (d.printer ≡ Smt) × HasShippedTemplates d (Some first_entries))
