@@ -2,5 +2,7 @@ pub mod Kept
 pub mod Typed
 pub mod Rules
 pub mod Formulas
+pub mod FactNames
+pub mod FactsListed
 pub mod Moved
 pub mod Lifted

@@ -12,7 +12,7 @@ use Rattle.tasks.specs.Vocabulary.{of_task}
 use Rattle.tasks.specs.Typing.{ThreeTyped, TypedUnder, bound_types}
 use Rattle.tasks.specs.Equations.{cells}
 use Rattle.tasks.specs.Conjunctions.{conjunction}
-use Rattle.tasks.specs.MatchTests.{result_at, field, fields, rebuilt, projections_by, constructor_projections, parts, top, other_terms, con_equation, one_tests, two_tests, three_tests, tests, test, one_binds, three_binds, pattern_terms, bind}
+use Rattle.tasks.specs.MatchTests.{result_at, field, fields, rebuilt, projections_by, constructor_projections, parts, top, other_terms, con_equation, one_tests, three_tests, tests, test, one_binds, three_binds, pattern_terms, bind}
 use Rattle.tasks.proofs.Declared.{contains_step, contains_cases}
 use Rattle.linear_leaf.specs.Linear.{ClosesLinear}
 use Rattle.rule_rows.specs.Trees.{RuleTree, rule_trees, RDistinct, RLinear, RReplace, RMatchDef, RFact, RDef, RClause, RInv, RCase, RInject, RProject, RTrichotomy, RBound}

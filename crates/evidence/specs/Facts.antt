@@ -1,6 +1,6 @@
 -- The facts of a task by the names by which steps cite them: its propositions, the equations of its definitions, and the clauses
 -- and inversion formulas of its inductive predicates.
-use Rattle.std.specs.Prelude.{◌≡◌, ℕ, List, length, slice_get, All, Option, IsSomeAnd}
+use Rattle.std.specs.Prelude.{◌≡◌, ℕ, List, length, slice_get, All, Contains, Option, Some, IfSome, IsSomeAnd}
 use Rattle.std.specs.Option.{option_map, option_and_then}
 use Rattle.trees.specs.Tree.{Tree}
 use Rattle.trees.specs.Binding.{inst_types}
@@ -8,6 +8,7 @@ use Rattle.tasks.specs.declared.facts.Fact.{Fact}
 use Rattle.tasks.specs.declared.facts.Fact.TheVariants as fact
 use Rattle.tasks.specs.Task.{TaskTree, PropositionTree, props, symbol_or}
 use Rattle.tasks.specs.Roles.{role}
+use Rattle.tasks.specs.Facts.{FactTree, facts}
 use Rattle.tasks.specs.Inversion.{inversion}
 use Rattle.tasks.specs.Valid.{IsTypeOver}
 use Rattle.rule_rows.specs.Trees.{RuleTree, RFact, RDef, RClause, RInv}
@@ -23,6 +24,17 @@ fact_named t (fact.Proposition k) = slice_get (props t) k
 fact_named t (fact.Equation k) = option_map (at_symbol t k) (equation (role t k))
 fact_named t (fact.Clause k c) = option_map (at_symbol t k) (option_and_then (λ cs. slice_get cs c) (clauses (role t k)))
 fact_named t (fact.Inversion k) = option_map (λ cs. at_symbol t k (inversion k (symbol_or t.symbols k) cs)) (clauses (role t k))
+
+-- a fact of the task's list is that of its name
+abbrev pub IsNamed : TaskTree → FactTree → Type 0
+IsNamed t f = fact_named t f.name ≡ Some (record { vars = f.vars; formula = f.formula })
+
+-- and the fact of a name is in the list
+abbrev pub fact_of : Fact → PropositionTree → FactTree
+fact_of name p = record { name = name; vars = p.vars; formula = p.formula }
+
+abbrev pub IsListed : TaskTree → Fact → Type 0
+IsListed t name = IfSome (fact_named t name) (λ p. Contains (facts t) (fact_of name p))
 
 -- the rule that cites it
 abbrev pub citing : Fact → List Tree → RuleTree

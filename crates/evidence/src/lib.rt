@@ -5,6 +5,7 @@
 mod by;
 mod draft;
 mod lift;
+mod names;
 mod stage;
 
 pub use by::{
@@ -13,4 +14,5 @@ pub use by::{
 };
 pub use draft::Draft;
 pub use lift::lift_stage;
+pub use names::facts_named;
 pub use stage::{StageFault, Transform};
