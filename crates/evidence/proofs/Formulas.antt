@@ -22,7 +22,7 @@ use Rattle.rule_rows.specs.Meaning.{step_at, steps_at, StepHeld, StepsHeld}
 use Rattle.rule_rows.proofs.Sequents.{All-unmap}
 use Rattle.kernel.specs.Right.{AreRight, last_starts}
 use Rattle.kernel.proofs.Places.{step_or-at}
-use Rattle.evidence.specs.Drafts.{DraftTree, Extends, Refutes, IsFormulaAt, AreFormulas}
+use Rattle.evidence.specs.Drafts.{DraftTree, Extends, Refutes, IsFormulaAt, AreFormulas, IsKept}
 use Rattle.evidence.specs.Rules.{NamesOwn, RefuteAdded, RefuteHolding, RefuteFailing, Clash, holding_rule, failing_rule, counted}
 use Rattle.evidence.specs.Facts.{citing, IsFact}
 use Rattle.evidence.proofs.Rules.{refutes_later, clash_row, holding_row, failing_row, cut_row, fact_row}
@@ -189,6 +189,13 @@ but_kept front middle last =
     ap (λ (z : ℕ). map (slice_get s) (counted z (length last))) (sym n) ∙ ap (λ (z : List Tree). map (slice_get z) (counted (length (front ++ middle)) (length last))) (sym e) ∙ two' in
     map-append (λ (z : Tree). Some z) front last ∙ cc (one, two) ∙ sym (map-append (slice_get s) (counted 0 (length front)) (counted (length front + length middle) (length last)))
 
+-- a sequent in three parts
+pub whole_trees : (d : DraftTree) (front middle last tail ids : List TermId) → tail ≡ middle ++ last → ids ≡ front ++ tail
+    → trees_at d.trees ids ≡ trees_at d.trees front ++ (trees_at d.trees middle ++ trees_at d.trees last)
+whole_trees d front middle last tail ids is whole =
+    let t : trees_at d.trees tail ≡ trees_at d.trees middle ++ trees_at d.trees last = ap (trees_at d.trees) is ∙ map-append (tree_at d.trees) middle last in
+    ap (trees_at d.trees) whole ∙ map-append (tree_at d.trees) front tail ∙ ap (λ (z : List Tree). trees_at d.trees front ++ z) t
+
 pub counted_more : (from n : ℕ) → counted from (n + 1) ≡ counted from n ++ (from + n) ∷ []
 counted_more from zero = let e : from + 0 ≡ from = omega arith in ap (λ (z : ℕ). z ∷ []) (sym e)
 counted_more from (suc n) =
@@ -196,21 +203,21 @@ counted_more from (suc n) =
     let h : from + 1 + n ≡ from + suc n = omega arith in
     ap (counted from) e ∙ ap (λ (z : List ℕ). from ∷ z) (counted_more (from + 1) n ∙ ap (λ (z : ℕ). counted (from + 1) n ++ z ∷ []) h)
 
-pub but_added : (d : DraftTree) (front middle last ds : List TermId) (empty first places : List ℕ) (k : ℕ) → Refutes d k (trees_at d.trees front ++ trees_at d.trees last)
-    → ds ≡ middle ++ last → empty ≡ [] → first ≡ empty ++ counted 0 (length front)
-    → places ≡ first ++ counted (length front + length middle) (length last) → RefuteAdded d (trees_at d.trees front ++ trees_at d.trees ds) (RKeep places) (k ∷ [])
-but_added d front middle last ds empty first places k r is none e g =
+pub but_kept_at : (d : DraftTree) (front middle last tail ids : List TermId) (empty first places : List ℕ) (k : ℕ) → Refutes d k (trees_at d.trees front ++ trees_at d.trees last)
+    → tail ≡ middle ++ last → ids ≡ front ++ tail → empty ≡ [] → first ≡ empty ++ counted 0 (length front)
+    → places ≡ first ++ counted (length front + length middle) (length last) → IsKept d (trees_at d.trees ids) places k
+but_kept_at d front middle last tail ids empty first places k r is whole none e g =
     let F = trees_at d.trees front in
     let M = trees_at d.trees middle in
     let L = trees_at d.trees last in
-    let t : trees_at d.trees ds ≡ M ++ L = ap (trees_at d.trees) is ∙ map-append (tree_at d.trees) middle last in
+    let t : trees_at d.trees ids ≡ F ++ (M ++ L) = whole_trees d front middle last tail ids is whole in
     let a : length F ≡ length front = length-map front (tree_at d.trees) in
     let b : length M ≡ length middle = length-map middle (tree_at d.trees) in
     let c : length L ≡ length last = length-map last (tree_at d.trees) in
     let one : first ≡ counted 0 (length F) = e ∙ ap (λ (z : List ℕ). z ++ counted 0 (length front)) none ∙ ap (counted 0) (sym a) in
     let two : counted (length front + length middle) (length last) ≡ counted (length F + length M) (length L) = cc (a, b, c) in
     let p : places ≡ counted 0 (length F) ++ counted (length F + length M) (length L) = g ∙ cc (one, two) in
-    rw (t, p) (record { sequents = (F ++ L) ∷ []; refuted = (r, tt); row = but_kept F M L })
+    rw (t, p) (record { kept = F ++ L; are = but_kept F M L; refutes = r })
 
 pub both_formulas : (d : DraftTree) (middle last ds : List TermId) → ds ≡ middle ++ last → AreFormulas d middle → AreFormulas d last → AreFormulas d ds
 both_formulas d middle last ds e f g =
@@ -246,15 +253,18 @@ last_at d steps k x seq z front last h e right is same' r =
 pub cut_names : (d : DraftTree) (a : TermId) → IsFormulaAt d a → NamesOwn d.task (RCut (tree_at d.trees a))
 cut_names d a f = record { trees = (as_expression d.task (tree_at d.trees a) f.ground, tt); types = All-nil (IsTypeOver d.task 0) }
 
-pub cut_added : (d : DraftTree) (front tail : List TermId) (a : TermId) (j k : ℕ) → IsFormulaAt d a → Refutes d j ((trees_at d.trees front ++ trees_at d.trees tail) ++ tree_at d.trees a ∷ [])
-    → Refutes d k ((trees_at d.trees front ++ trees_at d.trees tail) ++ neg (tree_at d.trees a) ∷ []) → RefuteAdded d (trees_at d.trees front ++ trees_at d.trees tail) (RCut (tree_at d.trees a)) (j ∷ k ∷ [])
-cut_added d front tail a j k f r q =
-    let s = trees_at d.trees front ++ trees_at d.trees tail in
+pub cut_added : (d : DraftTree) (ids : List TermId) (a : TermId) (j k : ℕ) → IsFormulaAt d a → Refutes d j (trees_at d.trees ids ++ tree_at d.trees a ∷ [])
+    → Refutes d k (trees_at d.trees ids ++ neg (tree_at d.trees a) ∷ []) → RefuteAdded d (trees_at d.trees ids) (RCut (tree_at d.trees a)) (j ∷ k ∷ [])
+cut_added d ids a j k f r q =
+    let s = trees_at d.trees ids in
     record {
       sequents = (s ++ tree_at d.trees a ∷ []) ∷ (s ++ neg (tree_at d.trees a) ∷ []) ∷ [];
       refuted = (r, (q, tt));
       row = cut_row d.task s (tree_at d.trees a) f.ground.sort;
     }
+
+pub kept_added : (d : DraftTree) (s : List Tree) (places : List ℕ) (k : ℕ) → IsKept d s places k → RefuteAdded d s (RKeep places) (k ∷ [])
+kept_added d s places k g = record { sequents = g.kept ∷ []; refuted = (g.refutes, tt); row = g.are }
 
 pub citing_names : (from : TaskTree) (name : Fact) (types : List Tree) → All (IsTypeOver from 0) types → NamesOwn from (citing name types)
 citing_names from (fact.Proposition k) types a = record { trees = tt; types = a }

@@ -1,6 +1,6 @@
 -- Steps that are lifted are right.
 use Rattle.std.proofs.Common.{◌≡◌, ℕ, ◌<◌, ◌≤◌, List, [], ◌∷◌, ◌++◌, ◌+◌, ◌-◌, Option, None, Some, IsSomeAnd, length, map, get_or, slice_get, take, All, inl, inr, refl, sym, ap, subst, ◌∙◌, arith}
-use Rattle.std.proofs.lemmas.List.{append-nil, length-map, length-append, get_or_append_left, get_or-map, take-map, length-take-le, get_or-take}
+use Rattle.std.proofs.lemmas.List.{length-map, length-append, get_or_append_left, get_or-map, take-map, length-take-le, get_or-take}
 use Rattle.std.proofs.lemmas.List.Elements.{All-map, All-head}
 use Rattle.std.proofs.lemmas.Option.{get_or_from_slice_get, slice_get_within}
 use Rattle.std.proofs.lemmas.Bool.{cases_lt}
@@ -98,21 +98,21 @@ formulas_lifted d t ids kept h m = record { held = h; ground = formulas_moved t 
 
 -- ---- a cut on a fact, over a draft that has grown
 module _ (d d2 : DraftTree) (x : Extends d d2) (ids : List TermId) (f : AreFormulas d ids) where
-  pub cut_yes : (a : TermId) (j : ℕ) → IsFormulaAt d a → Refutes d j (trees_at d.trees ids ++ tree_at d.trees a ∷ []) → Refutes d2 j ((trees_at d2.trees ids ++ []) ++ tree_at d2.trees a ∷ [])
+  pub cut_yes : (a : TermId) (j : ℕ) → IsFormulaAt d a → Refutes d j (trees_at d.trees ids ++ tree_at d.trees a ∷ []) → Refutes d2 j (trees_at d2.trees ids ++ tree_at d2.trees a ∷ [])
   cut_yes a j g r =
-      let e : trees_at d2.trees ids ++ [] ≡ trees_at d.trees ids = append-nil (trees_at d2.trees ids) ∙ same d d2 x ids f in
+      let e : trees_at d2.trees ids ≡ trees_at d.trees ids = same d d2 x ids f in
       let b : tree_at d2.trees a ≡ tree_at d.trees a = x.trees.same a.0 g.held in
       rw (e, b) (refutes_later d d2 x j _ r)
 
   pub cut_no : (d1 : DraftTree) (y : Extends d d1) (a n : TermId) (k : ℕ) → IsFormulaAt d a → tree_at d1.trees n ≡ neg (tree_at d.trees a) → Refutes d2 k (trees_at d1.trees ids ++ tree_at d1.trees n ∷ [])
-      → Refutes d2 k ((trees_at d2.trees ids ++ []) ++ neg (tree_at d2.trees a) ∷ [])
+      → Refutes d2 k (trees_at d2.trees ids ++ neg (tree_at d2.trees a) ∷ [])
   cut_no d1 y a n k g e r =
-      let q : trees_at d2.trees ids ++ [] ≡ trees_at d1.trees ids = append-nil (trees_at d2.trees ids) ∙ same d d2 x ids f ∙ sym (same d d1 y ids f) in
+      let q : trees_at d2.trees ids ≡ trees_at d1.trees ids = same d d2 x ids f ∙ sym (same d d1 y ids f) in
       let b : neg (tree_at d2.trees a) ≡ tree_at d1.trees n = ap neg (x.trees.same a.0 g.held) ∙ sym e in
       rw (q, b) r
 
-  pub cut_done : (d3 : DraftTree) (k : ℕ) → Refutes d3 k (trees_at d2.trees ids ++ []) → Refutes d3 k (trees_at d.trees ids)
-  cut_done d3 k r = record { within = r.within; is = r.is ∙ append-nil (trees_at d2.trees ids) ∙ same d d2 x ids f }
+  pub cut_done : (d3 : DraftTree) (k : ℕ) → Refutes d3 k (trees_at d2.trees ids) → Refutes d3 k (trees_at d.trees ids)
+  cut_done d3 k r = record { within = r.within; is = r.is ∙ same d d2 x ids f }
 
 pub lemma_later : (d d1 : DraftTree) (x : Extends d d1) (n a : TermId) (k : ℕ) → tree_at d1.trees n ≡ neg (tree_at d.trees a) → Refutes d k (neg (tree_at d.trees a) ∷ []) → Refutes d1 k (tree_at d1.trees n ∷ [])
 lemma_later d d1 x n a k e r = rw e (refutes_later d d1 x k _ r)

@@ -1,5 +1,5 @@
 -- What a draft is, in trees, how drafts grow, and which of their steps and formulas are spoken of.
-use Rattle.std.specs.Prelude.{◌≡◌, ℕ, ◌<◌, List, [], ◌∷◌, ◌++◌, length, All, refl}
+use Rattle.std.specs.Prelude.{◌≡◌, ℕ, ◌<◌, List, [], ◌∷◌, ◌++◌, length, map, slice_get, All, Some, refl}
 use Rattle.std.specs.Coded.{Coded, code_by, coded×}
 use Rattle.trees.specs.declared.TermId.{TermId}
 use Rattle.trees.specs.Tree.{Tree}
@@ -8,7 +8,7 @@ use Rattle.trees.specs.Coding.{trees_code}
 use Rattle.tasks.specs.Task.{TaskTree}
 use Rattle.tasks.specs.Valid.{IsGroundFormula}
 use Rattle.tasks.specs.Meaning.{trees_at}
-use Rattle.rule_rows.specs.Trees.{StepTree, step_or}
+use Rattle.rule_rows.specs.Trees.{RCut, RKeep, StepTree, step_or}
 use Rattle.rule_rows.specs.Codes.{steps_code}
 use Rattle.tasks.specs.Codes.{task_code}
 
@@ -61,3 +61,16 @@ pub record HasLast (d : DraftTree) (k : ℕ) : Type 0 where
   pub front : List Tree
   pub last : Tree
   pub refutes : Refutes d k (front ++ last ∷ [])
+
+-- a step of the draft refutes the formulas at these places of a sequent
+pub record IsKept (d : DraftTree) (sequent : List Tree) (places : List ℕ) (k : ℕ) : Type 0 where
+  pub kept : List Tree
+  pub are : map Some kept ≡ map (slice_get sequent) places
+  pub refutes : Refutes d k kept
+
+-- the step that cuts a sequent on a formula, and the one that keeps places of a sequent
+abbrev pub cut_step : List Tree → Tree → ℕ → ℕ → StepTree
+cut_step sequent formula j k = record { sequent = sequent; rule = RCut formula; premises = j ∷ k ∷ [] }
+
+abbrev pub keep_step : List Tree → List ℕ → ℕ → StepTree
+keep_step sequent places k = record { sequent = sequent; rule = RKeep places; premises = k ∷ [] }

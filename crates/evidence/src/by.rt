@@ -185,31 +185,6 @@ pub fn by_failing(
     by_rule(draft, front, tail, rule, premises)
 }
 
-/// A cut: `yes` refutes the sequent with the formula after it, `no` the sequent with the formula's negation.
-pub fn by_cut(
-    draft: &mut Draft,
-    front: &[TermId],
-    tail: &[TermId],
-    formula: TermId,
-    yes: usize,
-    no: usize,
-) -> Result<usize, AllocError>
-    requires front { AreFormulas draft.old front.now }
-    requires tail { AreFormulas draft.old tail.now }
-    requires formula { IsFormulaAt draft.old formula }
-    requires yes { Refutes draft.old yes
-        ((trees_at draft.old.trees front.now ++ trees_at draft.old.trees tail.now)
-        ++ tree_at draft.old.trees formula ∷ []) }
-    requires no { Refutes draft.old no
-        ((trees_at draft.old.trees front.now ++ trees_at draft.old.trees tail.now)
-        ++ neg (tree_at draft.old.trees formula) ∷ []) }
-    ensures refutes { IfOk result (λ k. Refutes draft.new k
-        (trees_at draft.old.trees front.now ++ trees_at draft.old.trees tail.now)) }
-    ensures grows { Extends draft.old draft.new }
-{
-    by_rule(draft, front, tail, Rule::Cut(formula), &[yes, no])
-}
-
 // Adds so many numbers from this one on.
 fn count_on(places: &mut Vec<usize>, from: usize, many: usize) -> Result<(), AllocError>
     requires { from + many ≤ usize.MAX }
@@ -245,13 +220,8 @@ pub fn keep_but(
     count_on(&mut places, 0, front.len())?;
     count_on(&mut places, front.len() + middle.len(), last.len())?;
     let tail = join_lists(alloc, middle, last)?;
-    by_rule(
-        draft,
-        front,
-        &tail,
-        Rule::Keep(Seq::from_vec(places)),
-        &[step],
-    )
+    let sequent = join_lists(alloc, front, &tail)?;
+    draft.keep(&sequent, &places, step)
 }
 
 // The rule that cites a fact.

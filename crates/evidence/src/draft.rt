@@ -1,14 +1,19 @@
-// Drafts: a store, a task, and steps that are right for it.
+// Drafts: a store, a task, and steps that are right for it, with the steps that are remembered of formulas.
 // It depends on the kernel's right steps; the transformations and `lift_stage` push their steps here.
-ghost use Rattle.std.specs.Prelude.{◌≡◌, [], ◌∷◌, ◌++◌, length, All, IfOk, OnErr};
+ghost use Rattle.std.specs.Prelude.{◌≡◌, [], ◌∷◌, ◌++◌, length, All, IfOk, OnErr, IfSome};
+ghost use Rattle.trees.specs.Node.{tree_at, Holds};
+ghost use Rattle.tasks.specs.Task.{neg};
 ghost use Rattle.tasks.specs.Meaning.{trees_at, task_at, TaskHeld};
 ghost use Rattle.tasks.specs.Valid.{IsValid};
 ghost use Rattle.kernel.specs.Right.{IsRight, AreRight};
 ghost use Rattle.rule_rows.specs.Meaning.{step_at, steps_at, StepHeld, StepsHeld};
-ghost use Rattle.evidence.specs.Drafts.{Extends, AddsTrees, Refutes};
+ghost use Rattle.evidence.specs.Drafts.{Extends, AddsTrees, Refutes, IsFormulaAt, AreFormulas};
+ghost use Rattle.evidence.specs.Drafts.{IsKept, cut_step, keep_step};
 ghost use Rattle.evidence.specs.Laws.{AddsTrees_refl, AddsTrees_trans, AddsTrees_trees};
 
-use rule_rows::Step;
+use indexmap::IndexMap;
+use outside::Seq;
+use rule_rows::{Rule, Step};
 use std::alloc::{AllocError, Global};
 use std::marker::Model;
 use std::rc::Rc;
@@ -22,6 +27,8 @@ pub struct Draft {
     store: Store,
     task: Rc<Task>,
     steps: Vec<Step>,
+    // By a formula's number, a step whose sequent is the formula's negation, alone.
+    lemmas: IndexMap<usize, usize>,
     alloc: Global,
 }
 
@@ -42,7 +49,7 @@ impl Model for Draft {
       steps = steps_at a.store a.steps.items;
     } };
 
-    ghost invariant = { λ a. IsDraft a.store a.task.value a.steps.items };
+    ghost invariant = { λ a. IsDraft a.store a.task.value a.steps.items a.lemmas.entries };
 }
 
 impl Draft {
@@ -56,6 +63,7 @@ impl Draft {
             store,
             task,
             steps: Vec::new(alloc),
+            lemmas: IndexMap::new(alloc),
             alloc,
         }
     }
@@ -89,6 +97,7 @@ impl Draft {
             store,
             task: _,
             steps,
+            lemmas: _,
             alloc: _,
         } = self;
         (store, steps)
@@ -97,6 +106,27 @@ impl Draft {
     /// Where memory comes from.
     pub fn allocator(&self) -> Global {
         self.alloc
+    }
+
+    /// The step that is remembered of a formula: its sequent is the formula's negation, alone.
+    pub fn lemma_of(&self, formula: TermId) -> Option<usize>
+        ensures { IfSome result (λ k. Refutes self.now k
+            (neg (tree_at self.now.trees formula) ∷ [])) }
+    {
+        match self.lemmas.get(&formula.0) {
+            Some(step) => Some(*step),
+            None => None,
+        }
+    }
+
+    /// Remembers a step of a formula, whose sequent is the formula's negation, alone.
+    pub fn remember_lemma(&mut self, formula: TermId, step: usize) -> Result<(), AllocError>
+        requires held { Holds self.old.trees formula }
+        requires refutes { Refutes self.old step (neg (tree_at self.old.trees formula) ∷ []) }
+        ensures unchanged { self.new ≡ self.old }
+    {
+        self.lemmas.insert(formula.0, step)?;
+        Ok(())
     }
 
     /// Puts a right step at the end, and gives its number.
@@ -114,6 +144,74 @@ impl Draft {
         let number = self.steps.len();
         self.steps.push(step)?;
         Ok(number)
+    }
+
+    /// Puts a step at the end that refutes a sequent by a cut, and gives its number: `yes` refutes the sequent with the
+    /// formula after it, `no` the sequent with the formula's negation.
+    pub fn cut(
+        &mut self,
+        sequent: &[TermId],
+        formula: TermId,
+        yes: usize,
+        no: usize,
+    ) -> Result<usize, AllocError>
+        requires sequent { AreFormulas self.old sequent.now }
+        requires formula { IsFormulaAt self.old formula }
+        requires yes { Refutes self.old yes (trees_at self.old.trees sequent.now
+            ++ tree_at self.old.trees formula ∷ []) }
+        requires no { Refutes self.old no (trees_at self.old.trees sequent.now
+            ++ neg (tree_at self.old.trees formula) ∷ []) }
+        ensures number { IfOk result (λ k. k ≡ length self.old.steps) }
+        ensures pushed { IfOk result (λ _. self.new
+            ≡ record self.old {
+              steps = self.old.steps ++ cut_step
+                  (trees_at self.old.trees sequent.now) (tree_at self.old.trees formula) yes no ∷ [];
+            }) }
+        ensures unchanged { OnErr result (self.new ≡ self.old) }
+        ensures refutes { IfOk result (λ k. Refutes self.new k
+            (trees_at self.old.trees sequent.now)) }
+        ensures grows { Extends self.old self.new }
+    {
+        let alloc = self.allocator();
+        let sequent = Seq::from_slice(alloc, sequent)?;
+        let premises = Seq::from_slice(alloc, &[yes, no])?;
+        self.push(Step {
+            sequent,
+            rule: Rule::Cut(formula),
+            premises,
+        })
+    }
+
+    /// Puts a step at the end that refutes a sequent by some of its formulas, and gives its number: the given step refutes
+    /// the formulas at these places of the sequent, in the order of the places.
+    pub fn keep(
+        &mut self,
+        sequent: &[TermId],
+        places: &[usize],
+        step: usize,
+    ) -> Result<usize, AllocError>
+        requires sequent { AreFormulas self.old sequent.now }
+        requires kept { IsKept self.old (trees_at self.old.trees sequent.now) places.now step }
+        ensures number { IfOk result (λ k. k ≡ length self.old.steps) }
+        ensures pushed { IfOk result (λ _. self.new
+            ≡ record self.old {
+              steps = self.old.steps ++ keep_step
+                  (trees_at self.old.trees sequent.now) places.now step ∷ [];
+            }) }
+        ensures unchanged { OnErr result (self.new ≡ self.old) }
+        ensures refutes { IfOk result (λ k. Refutes self.new k
+            (trees_at self.old.trees sequent.now)) }
+        ensures grows { Extends self.old self.new }
+    {
+        let alloc = self.allocator();
+        let sequent = Seq::from_slice(alloc, sequent)?;
+        let places = Seq::from_slice(alloc, places)?;
+        let premises = Seq::from_slice(alloc, &[step])?;
+        self.push(Step {
+            sequent,
+            rule: Rule::Keep(places),
+            premises,
+        })
     }
 }
 

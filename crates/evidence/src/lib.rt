@@ -9,7 +9,7 @@ mod names;
 mod stage;
 
 pub use by::{
-    by_clash, by_cut, by_fact, by_failing, by_holding, by_rule, fact_lemma, failing_rule, finish,
+    by_clash, by_fact, by_failing, by_holding, by_rule, fact_lemma, failing_rule, finish,
     holding_rule, join_lists, keep_but, last_formula, negation,
 };
 pub use draft::Draft;

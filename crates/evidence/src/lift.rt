@@ -8,10 +8,10 @@ ghost use Rattle.tasks.specs.Meaning.{trees_at, task_at, tasks_at, TasksHeld};
 ghost use Rattle.kernel.specs.Right.{IsRight, AreRight, Closes};
 ghost use Rattle.rule_rows.specs.Meaning.{rule_at, RuleHeld, step_at, steps_at, StepHeld, StepsHeld};
 ghost use Rattle.evidence.specs.Drafts.{Extends, Refutes, IsFormulaAt, AreFormulas};
-ghost use Rattle.evidence.specs.Facts.{citing, CitesNone};
+ghost use Rattle.evidence.specs.Facts.{citing, CitesNone, IsFact};
 ghost use Rattle.evidence.specs.Stages.{Gives, IsOwnTask, InStage, StandFor, HasSequents, Cites, parts_at, PartsHeld, PartsClose};
 
-use crate::by::{by_cut, keep_but, last_formula, negation};
+use crate::by::{keep_but, last_formula, negation};
 use crate::{Draft, Transform};
 use outside::Seq;
 use rule_rows::{Rule, Step};
@@ -89,7 +89,36 @@ fn cut_on(
 {
     let no_fact = negation(draft, formula)?;
     let without = keep_but(draft, &[], sequent, &[no_fact], lemma)?;
-    by_cut(draft, sequent, &[], formula, with_fact, without)
+    draft.cut(sequent, formula, with_fact, without)
+}
+
+// A step whose sequent is the negation of a fact of a task, alone: the one that is remembered, or a new one.
+fn lemma_for<T: Transform>(
+    stage: &T,
+    from: &Task,
+    to: &Task,
+    name: Fact,
+    types: &[TermId],
+    formula: TermId,
+    draft: &mut Draft,
+) -> Result<usize, AllocError>
+    requires stage { InStage (T.equation stage.now) draft.old from.now to.now }
+    requires types_held { All (Holds draft.old.trees) types.now }
+    requires formula { IsFormulaAt draft.old formula }
+    requires fact { IsFact draft.old.task (task_at draft.old.trees to.now) name
+        (trees_at draft.old.trees types.now) (tree_at draft.old.trees formula) }
+    ensures refutes { IfOk result (λ k. Refutes draft.new k
+        (neg (tree_at draft.old.trees formula) ∷ [])) }
+    ensures grows { Extends draft.old draft.new }
+{
+    match draft.lemma_of(formula) {
+        Some(lemma) => Ok(lemma),
+        None => {
+            let lemma = stage.fact(from, to, name, types, formula, draft)?;
+            draft.remember_lemma(formula, lemma)?;
+            Ok(lemma)
+        }
+    }
 }
 
 // A step that cites a fact of a task, in a draft of the task that it was made from.
@@ -113,7 +142,7 @@ fn lift_cited<T: Transform>(
     ensures grows { Extends draft.old draft.new }
 {
     let formula = last_formula(draft, with_fact);
-    let lemma = stage.fact(from, to, name, types, formula, draft)?;
+    let lemma = lemma_for(stage, from, to, name, types, formula, draft)?;
     cut_on(draft, sequent, formula, with_fact, lemma)
 }
 

@@ -20,26 +20,23 @@ keep_but-requires-clause-step c =
 pub returns-in_err-without-clause-grows : goal.returns-in_err-without-clause-grows
 returns-in_err-without-clause-grows c = Extends_trans _ _ _ (AddsTrees_extends _ _ c.in_ok-no_fact.ensures.grows) c.keep_but.ensures.grows
 
-pub by_cut-requires-clause-front : goal.by_cut-requires-clause-front
-by_cut-requires-clause-front c =
+pub cut-requires-clause-sequent : goal.cut-requires-clause-sequent
+cut-requires-clause-sequent c =
     let x = Extends_trans c.args.draft.now c.negation.new.draft c.keep_but.new.draft (AddsTrees_extends _ _ c.in_ok-no_fact.ensures.grows) c.in_ok-without.ensures.grows in
     formulas_later c.args.draft.now c.keep_but.new.draft x c.args.sequent.now c.requires.sequent
 
-pub by_cut-requires-clause-tail : goal.by_cut-requires-clause-tail
-by_cut-requires-clause-tail c = none_formulas c.keep_but.new.draft
-
-pub by_cut-requires-clause-formula : goal.by_cut-requires-clause-formula
-by_cut-requires-clause-formula c =
+pub cut-requires-clause-formula : goal.cut-requires-clause-formula
+cut-requires-clause-formula c =
     let x = Extends_trans c.args.draft.now c.negation.new.draft c.keep_but.new.draft (AddsTrees_extends _ _ c.in_ok-no_fact.ensures.grows) c.in_ok-without.ensures.grows in
     formula_later c.args.draft.now c.keep_but.new.draft x c.args.formula c.requires.formula
 
-pub by_cut-requires-clause-yes : goal.by_cut-requires-clause-yes
-by_cut-requires-clause-yes c =
+pub cut-requires-clause-yes : goal.cut-requires-clause-yes
+cut-requires-clause-yes c =
     let x = Extends_trans c.args.draft.now c.negation.new.draft c.keep_but.new.draft (AddsTrees_extends _ _ c.in_ok-no_fact.ensures.grows) c.in_ok-without.ensures.grows in
     cut_yes c.args.draft.now c.keep_but.new.draft x c.args.sequent.now c.requires.sequent c.args.formula c.args.with_fact c.requires.formula c.requires.taken
 
-pub by_cut-requires-clause-no : goal.by_cut-requires-clause-no
-by_cut-requires-clause-no c =
+pub cut-requires-clause-no : goal.cut-requires-clause-no
+cut-requires-clause-no c =
     let d = c.args.draft.now in
     let d1 = c.negation.new.draft in
     let y = AddsTrees_extends d d1 c.in_ok-no_fact.ensures.grows in
@@ -50,7 +47,7 @@ pub returns-clause-refutes : goal.returns-clause-refutes
 returns-clause-refutes c =
     let d = c.args.draft.now in
     let x = Extends_trans d c.negation.new.draft c.keep_but.new.draft (AddsTrees_extends _ _ c.in_ok-no_fact.ensures.grows) c.in_ok-without.ensures.grows in
-    IfOk-weaker c.by_cut.result _ _ (λ k r. cut_done d c.keep_but.new.draft x c.args.sequent.now c.requires.sequent c.by_cut.new.draft k r) c.by_cut.ensures.refutes
+    IfOk-weaker c.cut.result _ _ (λ k r. cut_done d c.keep_but.new.draft x c.args.sequent.now c.requires.sequent c.cut.new.self k r) c.cut.ensures.refutes
 
 pub returns-clause-grows : goal.returns-clause-grows
-returns-clause-grows c = Extends_trans _ _ _ (Extends_trans _ _ _ (AddsTrees_extends _ _ c.in_ok-no_fact.ensures.grows) c.in_ok-without.ensures.grows) c.by_cut.ensures.grows
+returns-clause-grows c = Extends_trans _ _ _ (Extends_trans _ _ _ (AddsTrees_extends _ _ c.in_ok-no_fact.ensures.grows) c.in_ok-without.ensures.grows) c.cut.ensures.grows

@@ -14,22 +14,22 @@ use Rattle.evidence.proofs.lift.lift_cited.Goals as goal
 pub last_formula-formula-requires : goal.last_formula-formula-requires
 last_formula-formula-requires g c = record { front = trees_at c.args.draft.now.trees c.args.sequent.now; last = c.requires.cites.formula; refutes = c.requires.cites.taken }
 
-pub fact-requires-clause-fact : goal.fact-requires-clause-fact
-fact-requires-clause-fact g c =
+pub lemma_for-requires-clause-fact : goal.lemma_for-requires-clause-fact
+lemma_for-requires-clause-fact g c =
     let d = c.args.draft.now in
     let e = c.last_formula-formula.ensures.is (trees_at d.trees c.args.sequent.now) c.requires.cites.formula c.requires.cites.taken in
     subst (λ (z : Tree). IsFact d.task (task_at d.trees c.args.to.now) c.args.name (trees_at d.trees c.args.types.now) z) (sym e) c.requires.cites.fact
 
 pub cut_on-requires-clause-sequent : goal.cut_on-requires-clause-sequent
-cut_on-requires-clause-sequent g c = formulas_later c.args.draft.now c.fact.new.draft c.in_ok-lemma.ensures.grows c.args.sequent.now c.requires.sequent
+cut_on-requires-clause-sequent g c = formulas_later c.args.draft.now c.lemma_for.new.draft c.in_ok-lemma.ensures.grows c.args.sequent.now c.requires.sequent
 
 pub cut_on-requires-clause-formula : goal.cut_on-requires-clause-formula
-cut_on-requires-clause-formula g c = formula_later c.args.draft.now c.fact.new.draft c.in_ok-lemma.ensures.grows c.last_formula-formula.result c.last_formula-formula.ensures.formula
+cut_on-requires-clause-formula g c = formula_later c.args.draft.now c.lemma_for.new.draft c.in_ok-lemma.ensures.grows c.last_formula-formula.result c.last_formula-formula.ensures.formula
 
 pub cut_on-requires-clause-taken : goal.cut_on-requires-clause-taken
 cut_on-requires-clause-taken g c =
     let d = c.args.draft.now in
-    let d1 = c.fact.new.draft in
+    let d1 = c.lemma_for.new.draft in
     let x = c.in_ok-lemma.ensures.grows in
     let a = c.last_formula-formula.result in
     let e = c.last_formula-formula.ensures.is (trees_at d.trees c.args.sequent.now) c.requires.cites.formula c.requires.cites.taken in
@@ -38,14 +38,14 @@ cut_on-requires-clause-taken g c =
 
 pub cut_on-requires-clause-proved : goal.cut_on-requires-clause-proved
 cut_on-requires-clause-proved g c =
-    let d1 = c.fact.new.draft in
+    let d1 = c.lemma_for.new.draft in
     let b = c.in_ok-lemma.ensures.grows.trees.same _ c.last_formula-formula.ensures.formula.held in
     subst (λ (z : Tree). Refutes d1 c.in_ok-lemma.lemma (neg z ∷ [])) (sym b) c.in_ok-lemma.ensures.refutes
 
 pub returns-clause-refutes : goal.returns-clause-refutes
 returns-clause-refutes g c =
     let d = c.args.draft.now in
-    let d1 = c.fact.new.draft in
+    let d1 = c.lemma_for.new.draft in
     let e = same d d1 c.in_ok-lemma.ensures.grows c.args.sequent.now c.requires.sequent in
     IfOk-weaker c.cut_on.result _ _ (λ k r. subst (λ (z : List Tree). Refutes c.cut_on.new.draft k z) e r) c.cut_on.ensures.refutes
 
