@@ -1,26 +1,29 @@
 -- How scripts are followed: line by line, over drafts that grow.
-use Rattle.std.proofs.Common.{◌≡◌, ℕ, zero, suc, ◌+◌, ◌≤◌, List, [], ◌∷◌, ◌++◌, map, length, slice_get, take, drop, All, Option, Some, None, Result, Ok, Err, IfOk, IsErrAnd, refl, sym, ap, subst, ◌∙◌, append_assoc, arith}
+use Rattle.std.proofs.Common.{◌≡◌, ℕ, zero, suc, ◌+◌, ◌<◌, ◌≤◌, List, [], ◌∷◌, ◌++◌, map, length, slice_get, take, drop, All, Option, Some, None, Result, Ok, Err, IfOk, IsErrAnd, refl, sym, ap, subst, ◌∙◌, append_assoc, arith}
 use Rattle.std.proofs.lemmas.List.{map-append, length-map, length-append}
 use Rattle.std.proofs.lemmas.List.Elements.{All-cons, All-nil}
+use Rattle.std.proofs.lemmas.Option.{slice_get_within}
 use Rattle.tasks.specs.Valid.{IsGroundFormula}
 use Rattle.trees.specs.declared.TermId.{TermId}
 use Rattle.trees.specs.Tree.{Tree}
 use Rattle.trees.specs.Node.{tree_at, Holds}
 use Rattle.tasks.specs.Task.{TaskTree, neg}
 use Rattle.tasks.specs.Meaning.{trees_at}
-use Rattle.rule_rows.specs.Trees.{RuleTree, RCut, RForall, RLetDef, RIfDef}
+use Rattle.rule_rows.specs.Trees.{RuleTree, RCut, RForall, RLetDef, RIfDef, RMatchDef, RNotExists, RReplace, RRefl, RProject}
 use Rattle.rule_rows.specs.Forms.{negated, connected}
 use Rattle.rule_rows.specs.Rows.{IsRuleRow, where_true, where_false}
-use Rattle.evidence.specs.Drafts.{DraftTree, Extends, Refutes, RefuteAll, AreFormulas}
+use Rattle.evidence.specs.Drafts.{DraftTree, Extends, Refutes, RefuteAll, AreFormulas, IsKept}
 use Rattle.evidence.specs.Rules.{RefuteAdded}
 use Rattle.evidence.proofs.Rules.{refutes_later, some_map}
-use Rattle.evidence.proofs.Formulas.{same, formulas_later, formula_later, both_formulas}
+use Rattle.evidence.proofs.Formulas.{same, formulas_later, formula_later, both_formulas, behind_ids}
 use Rattle.proof_scripts.specs.declared.line.Word.{Word}
 use Rattle.proof_scripts.specs.declared.line.Word.TheVariants as word
 use Rattle.proof_scripts.specs.declared.line.Formulas.{Formulas}
+use Rattle.proof_scripts.specs.declared.line.Places.{Places}
+use Rattle.proof_scripts.specs.declared.line.Places.TheVariants as places
 use Rattle.proof_scripts.specs.declared.line.Line.{Line}
 use Rattle.proof_scripts.specs.declared.line.Line.TheVariants as line
-use Rattle.proof_scripts.specs.Scripts.{LineTree, GivenLine, RuleLine, HoldingLine, FailingLine, CutLine, word_rule, WordHeld, ids_of, added_ids, added_at, script_line_at, lines_at, LineHeld, LinesHeld, sequents_under, IsGiven, IsByRule, Follows, CanFollow}
+use Rattle.proof_scripts.specs.Scripts.{LineTree, GivenLine, KeptLine, RuleLine, HoldingLine, FailingLine, CutLine, word_rule, WordHeld, ids_of, added_ids, added_at, script_line_at, lines_at, LineHeld, LinesHeld, sequents_under, IsGiven, places_of, PlacesFit, IsByRule, Follows, CanFollow}
 use Rattle.proof_scripts.specs.Derived.{Consumes, RefuteUnder}
 
 abbrev cut_line : Tree → LineTree
@@ -37,6 +40,21 @@ word_rule_let e = RLetDef e
 
 abbrev word_rule_if : Tree → RuleTree
 word_rule_if e = RIfDef e
+
+abbrev word_rule_match : Tree → RuleTree
+word_rule_match e = RMatchDef e
+
+abbrev word_rule_not_exists : ℕ → Tree → RuleTree
+word_rule_not_exists i e = RNotExists i e
+
+abbrev word_rule_refl : Tree → RuleTree
+word_rule_refl e = RRefl e
+
+abbrev word_rule_project : Tree → RuleTree
+word_rule_project e = RProject e
+
+abbrev word_rule_replace : ℕ → ℕ → Tree → RuleTree
+word_rule_replace i j e = RReplace i j e
 
 map_drop : {A B : Type 0} (f : A → B) (n : ℕ) (xs : List A) → map f (drop n xs) ≡ drop n (map f xs)
 map_drop f zero xs = refl
@@ -79,6 +97,9 @@ module _ (d d1 : DraftTree) (x : Extends d d1) where
   given_later : (f t : List Tree) (k n : ℕ) → IsGiven d f t k n → IsGiven d1 f t k n
   given_later f t k n g = record { before = g.before; last = g.last; is = g.is; as_many = g.as_many; refutes = refutes_later d d1 x k _ g.refutes }
 
+  kept_later : (s : List Tree) (ps : List ℕ) (k : ℕ) → IsKept d s ps k → IsKept d1 s ps k
+  kept_later s ps k g = record { kept = g.kept; are = g.are; refutes = refutes_later d d1 x k _ g.refutes }
+
   by_rule_later : (s : List Tree) (r : RuleTree) (added : List (List Tree)) → IsByRule d.task s r added → IsByRule d1.task s r added
   by_rule_later s r added g = subst (λ (t : TaskTree). IsByRule t s r added) (sym x.task) g
 
@@ -86,11 +107,13 @@ module _ (d d1 : DraftTree) (x : Extends d d1) where
   follows_later f [] [] h = tt
   follows_later f [] (t ∷ ts) h = h
   follows_later f (GivenLine k n ∷ ls) [] h = h
+  follows_later f (KeptLine k ps ∷ ls) [] h = h
   follows_later f (RuleLine r a b ∷ ls) [] h = h
   follows_later f (HoldingLine op i ∷ ls) [] h = h
   follows_later f (FailingLine op i ∷ ls) [] h = h
   follows_later f (CutLine a ∷ ls) [] h = h
   follows_later f (GivenLine k n ∷ ls) (t ∷ ts) h = (given_later f t k n h.0, follows_later f ls ts h.1)
+  follows_later f (KeptLine k ps ∷ ls) (t ∷ ts) h = (kept_later t ps k h.0, follows_later f ls ts h.1)
   follows_later f (RuleLine r a b ∷ ls) (t ∷ ts) h = (by_rule_later (f ++ t) r (a ++ b) h.0, follows_later f ls (sequents_under t a ++ (sequents_under t b ++ ts)) h.1)
   follows_later f (HoldingLine op i ∷ ls) (t ∷ ts) h =
       some_map (connected (slice_get t i)) _ _ (λ p z. (z.0, follows_later f ls (sequents_under t (where_true op p.1 p.2) ++ ts) z.1)) h
@@ -111,6 +134,16 @@ module _ (d d1 : DraftTree) (x : Extends d d1) where
   word_later (word.NotForall i n) h = tt
   word_later (word.LetDef e) h = held_later e h
   word_later (word.IfDef e) h = held_later e h
+  word_later (word.MatchDef e) h = held_later e h
+  word_later (word.NotNot i) h = tt
+  word_later (word.Irrefl i) h = tt
+  word_later (word.Exists i n) h = tt
+  word_later (word.NotExists i t) h = held_later t h
+  word_later (word.Replace i j e) h = held_later e h
+  word_later (word.False i) h = tt
+  word_later (word.Refl e) h = held_later e h
+  word_later (word.Distinct i) h = tt
+  word_later (word.Project e) h = held_later e h
 
   pub word_same : (w : Word) → WordHeld d.trees w → word_rule d1.trees w ≡ word_rule d.trees w
   word_same (word.NotTrue i) h = refl
@@ -122,6 +155,16 @@ module _ (d d1 : DraftTree) (x : Extends d d1) where
   word_same (word.NotForall i n) h = refl
   word_same (word.LetDef e) h = ap (λ z. word_rule_let z) (x.trees.same e.0 h)
   word_same (word.IfDef e) h = ap (λ z. word_rule_if z) (x.trees.same e.0 h)
+  word_same (word.MatchDef e) h = ap (λ z. word_rule_match z) (x.trees.same e.0 h)
+  word_same (word.NotNot i) h = refl
+  word_same (word.Irrefl i) h = refl
+  word_same (word.Exists i n) h = refl
+  word_same (word.NotExists i t) h = ap (λ z. word_rule_not_exists i z) (x.trees.same t.0 h)
+  word_same (word.Replace i j e) h = ap (λ z. word_rule_replace i j z) (x.trees.same e.0 h)
+  word_same (word.False i) h = refl
+  word_same (word.Refl e) h = ap (λ z. word_rule_refl z) (x.trees.same e.0 h)
+  word_same (word.Distinct i) h = refl
+  word_same (word.Project e) h = ap (λ z. word_rule_project z) (x.trees.same e.0 h)
 
   pub added_later : (fs : Option Formulas) → All (AreFormulas d) (added_ids fs) → All (AreFormulas d1) (added_ids fs)
   added_later None a = All-nil (AreFormulas d1)
@@ -133,6 +176,7 @@ module _ (d d1 : DraftTree) (x : Extends d d1) where
 
   line_later : (l : Line) → LineHeld d l → LineHeld d1 l
   line_later (line.Given k n) h = tt
+  line_later (line.Kept k ps) h = tt
   line_later (line.Holding op i) h = tt
   line_later (line.Failing op i) h = tt
   line_later (line.Cut a) h = formula_later d d1 x a h
@@ -140,6 +184,7 @@ module _ (d d1 : DraftTree) (x : Extends d d1) where
 
   line_same : (l : Line) → LineHeld d l → script_line_at d1.trees l ≡ script_line_at d.trees l
   line_same (line.Given k n) h = refl
+  line_same (line.Kept k ps) h = refl
   line_same (line.Holding op i) h = refl
   line_same (line.Failing op i) h = refl
   line_same (line.Cut a) h = ap cut_line (x.trees.same a.0 h.held)
@@ -250,6 +295,48 @@ rule_added d d1 d2 x f t r a b none one two k n g u v =
       refuted = subst (λ (ks : List ℕ). RefuteAll d2 ks (sequents_under (f ++ t) (a ++ b))) (sym all) (subst (RefuteAll d2 (u.more ++ v.more)) both (refute_both d2 u.more v.more _ _ first second));
       row = subst (λ (z : TaskTree). IsRuleRow z (f ++ t) r (sequents_under (f ++ t) (a ++ b))) (sym k) g.row;
     }
+
+-- ---- places of the tail
+within_tail : (t : List Tree) (i : ℕ) (a : Tree) → Some a ≡ slice_get t i → i < length t
+within_tail t i a e = slice_get_within t i a (sym e)
+
+-- so many formulas before the tail and its places are no more than a number can tell
+pub kept_fits : (n m : ℕ) (t : List Tree) (p : Places) (kept : List Tree) → length t ≡ m → n + m ≤ 18446744073709551615 → map Some kept ≡ map (slice_get t) (places_of p) → PlacesFit n p
+kept_fits n m t (places.One i) (a ∷ []) q l e = let x : Some a ≡ slice_get t i = cc in let w = within_tail t i a x in omega arith
+kept_fits n m t (places.One i) [] q l e = absurd (cc)
+kept_fits n m t (places.One i) (a ∷ b ∷ r) q l e = absurd (cc)
+kept_fits n m t (places.Two i j) (a ∷ b ∷ []) q l e =
+    let x : Some a ≡ slice_get t i = cc in
+    let y : Some b ≡ slice_get t j = cc in
+    let v = within_tail t i a x in
+    let w = within_tail t j b y in
+    (omega arith, omega arith)
+kept_fits n m t (places.Two i j) [] q l e = absurd (cc)
+kept_fits n m t (places.Two i j) (a ∷ []) q l e = absurd (cc)
+kept_fits n m t (places.Two i j) (a ∷ b ∷ c ∷ r) q l e = absurd (cc)
+kept_fits n m t (places.Three i j k) (a ∷ b ∷ c ∷ []) q l e =
+    let x : Some a ≡ slice_get t i = cc in
+    let y : Some b ≡ slice_get t j = cc in
+    let z : Some c ≡ slice_get t k = cc in
+    let u = within_tail t i a x in
+    let v = within_tail t j b y in
+    let w = within_tail t k c z in
+    (omega arith, omega arith, omega arith)
+kept_fits n m t (places.Three i j k) [] q l e = absurd (cc)
+kept_fits n m t (places.Three i j k) (a ∷ []) q l e = absurd (cc)
+kept_fits n m t (places.Three i j k) (a ∷ b ∷ []) q l e = absurd (cc)
+kept_fits n m t (places.Three i j k) (a ∷ b ∷ c ∷ d ∷ r) q l e = absurd (cc)
+
+-- the formulas at places of the tail are those at the later places of the sequent
+places_behind : (d : DraftTree) (front : List TermId) (t : List Tree) (ps : List ℕ) → map (slice_get (trees_at d.trees front ++ t)) (map (λ i. length front + i) ps) ≡ map (slice_get t) ps
+places_behind d front t [] = refl
+places_behind d front t (i ∷ ps) = cc (behind_ids d front t i, places_behind d front t ps)
+
+pub kept_behind : (d : DraftTree) (front tail ids : List TermId) (ps qs : List ℕ) (k : ℕ) → ids ≡ front ++ tail → qs ≡ map (λ i. length front + i) ps → IsKept d (trees_at d.trees tail) ps k → IsKept d (trees_at d.trees ids) qs k
+kept_behind d front tail ids ps qs k e q g =
+    let T = trees_at d.trees tail in
+    let s : trees_at d.trees ids ≡ trees_at d.trees front ++ T = ap (trees_at d.trees) e ∙ map-append (tree_at d.trees) front tail in
+    rw (s, q) (record { kept = g.kept; are = g.are ∙ sym (places_behind d front T ps); refutes = g.refutes })
 
 -- ---- the end of the tail
 module _ (d : DraftTree) (f : List Tree) (tail before last : List TermId) (k n at : ℕ) (g : IsGiven d f (trees_at d.trees tail) k n) where

@@ -1,28 +1,32 @@
 -- Scripts of derivations: a list of lines, each of which says by what rule a sequent is refuted and which formulas each premise adds
 -- to it. The lines come in the order in which the sequents open: a premise's lines follow its step's line.
-use Rattle.std.specs.Prelude.{◌≡◌, ℕ, List, [], ◌∷◌, ◌++◌, map, length, slice_get, All, Option, Some, None, IsSomeAnd}
+use Rattle.std.specs.Prelude.{◌≡◌, ◌≤◌, ◌+◌, ℕ, List, [], ◌∷◌, ◌++◌, map, length, slice_get, All, Option, Some, None, IsSomeAnd}
 use Rattle.trees.specs.declared.TermId.{TermId}
 use Rattle.trees.specs.Tree.{Tree}
 use Rattle.trees.specs.Node.{tree_at, Holds}
 use Rattle.trees.specs.declared.Op.{Op}
 use Rattle.tasks.specs.Task.{TaskTree, neg}
 use Rattle.tasks.specs.Meaning.{trees_at}
-use Rattle.rule_rows.specs.Trees.{RuleTree, RNotTrue, RClash, RCut, RForall, RNotForall, RLetDef, RIfDef}
+use Rattle.rule_rows.specs.Trees.{RuleTree, RNotTrue, RClash, RCut, RForall, RNotForall, RLetDef, RIfDef, RMatchDef, RNotNot, RIrrefl, RExists, RNotExists, RReplace, RFalse, RRefl, RDistinct, RProject}
 use Rattle.rule_rows.specs.Forms.{negated, connected}
 use Rattle.rule_rows.specs.Rows.{IsRuleRow, where_true, where_false}
-use Rattle.evidence.specs.Drafts.{DraftTree, Refutes, AreFormulas, IsFormulaAt}
+use Rattle.evidence.specs.Drafts.{DraftTree, Refutes, AreFormulas, IsFormulaAt, IsKept}
 use Rattle.evidence.specs.Rules.{NamesOwn, holding_rule, failing_rule}
 use Rattle.proof_scripts.specs.declared.line.Word.{Word}
 use Rattle.proof_scripts.specs.declared.line.Word.TheVariants as word
 use Rattle.proof_scripts.specs.declared.line.Formulas.{Formulas}
 use Rattle.proof_scripts.specs.declared.line.Formulas.TheVariants as formulas
+use Rattle.proof_scripts.specs.declared.line.Places.{Places}
+use Rattle.proof_scripts.specs.declared.line.Places.TheVariants as places
 use Rattle.proof_scripts.specs.declared.line.Line.{Line}
 use Rattle.proof_scripts.specs.declared.line.Line.TheVariants as line
 
--- a line in trees: an earlier step that refutes the front and so many formulas at the end; a rule, with the formulas that each
--- premise adds, in two lists of at most one premise; the rule on a connective, or on its negation, at a place of the tail; a cut
+-- a line in trees: an earlier step that refutes the front and so many formulas at the end; one that refutes the formulas at some places
+-- of the tail; a rule, with the formulas that each premise adds, in two lists of at most one premise; the rule on a connective, or on
+-- its negation, at a place of the tail; a cut
 pub data LineTree : Type 0 where
   GivenLine : (step count : ℕ) → LineTree
+  KeptLine : (step : ℕ) → (places : List ℕ) → LineTree
   RuleLine : (rule : RuleTree) → (first second : List (List Tree)) → LineTree
   HoldingLine : (op : Op) → (place : ℕ) → LineTree
   FailingLine : (op : Op) → (place : ℕ) → LineTree
@@ -39,12 +43,27 @@ word_rule s (word.Forall i t) = RForall i (tree_at s t)
 word_rule s (word.NotForall i n) = RNotForall i n
 word_rule s (word.LetDef e) = RLetDef (tree_at s e)
 word_rule s (word.IfDef e) = RIfDef (tree_at s e)
+word_rule s (word.MatchDef e) = RMatchDef (tree_at s e)
+word_rule s (word.NotNot i) = RNotNot i
+word_rule s (word.Irrefl i) = RIrrefl i
+word_rule s (word.Exists i n) = RExists i n
+word_rule s (word.NotExists i t) = RNotExists i (tree_at s t)
+word_rule s (word.Replace i j e) = RReplace i j (tree_at s e)
+word_rule s (word.False i) = RFalse i
+word_rule s (word.Refl e) = RRefl (tree_at s e)
+word_rule s (word.Distinct i) = RDistinct i
+word_rule s (word.Project e) = RProject (tree_at s e)
 
 abbrev pub WordHeld : List Tree → Word → Type 0
 WordHeld s (word.Cut a) = Holds s a
 WordHeld s (word.Forall i t) = Holds s t
 WordHeld s (word.LetDef e) = Holds s e
 WordHeld s (word.IfDef e) = Holds s e
+WordHeld s (word.MatchDef e) = Holds s e
+WordHeld s (word.NotExists i t) = Holds s t
+WordHeld s (word.Replace i j e) = Holds s e
+WordHeld s (word.Refl e) = Holds s e
+WordHeld s (word.Project e) = Holds s e
 WordHeld s _ = Unit {0}
 
 abbrev pub ids_of : Formulas → List TermId
@@ -59,8 +78,20 @@ added_ids (Some fs) = ids_of fs ∷ []
 abbrev pub added_at : List Tree → Option Formulas → List (List Tree)
 added_at s fs = map (trees_at s) (added_ids fs)
 
+abbrev pub places_of : Places → List ℕ
+places_of (places.One i) = i ∷ []
+places_of (places.Two i j) = i ∷ j ∷ []
+places_of (places.Three i j k) = i ∷ j ∷ k ∷ []
+
+-- so many places more before them are no more than a number can tell
+abbrev pub PlacesFit : ℕ → Places → Type 0
+PlacesFit n (places.One i) = n + i ≤ 18446744073709551615
+PlacesFit n (places.Two i j) = (n + i ≤ 18446744073709551615) × (n + j ≤ 18446744073709551615)
+PlacesFit n (places.Three i j k) = (n + i ≤ 18446744073709551615) × (n + j ≤ 18446744073709551615) × (n + k ≤ 18446744073709551615)
+
 abbrev pub script_line_at : List Tree → Line → LineTree
 script_line_at s (line.Given k n) = GivenLine k n
+script_line_at s (line.Kept k ps) = KeptLine k (places_of ps)
 script_line_at s (line.By w a b) = RuleLine (word_rule s w) (added_at s a) (added_at s b)
 script_line_at s (line.Holding op i) = HoldingLine op i
 script_line_at s (line.Failing op i) = FailingLine op i
@@ -72,6 +103,7 @@ lines_at s ls = map (script_line_at s) ls
 -- the numbers of a line are those of formulas and trees of the draft
 abbrev pub LineHeld : DraftTree → Line → Type 0
 LineHeld d (line.Given k n) = Unit {0}
+LineHeld d (line.Kept k ps) = Unit {0}
 LineHeld d (line.By w a b) = WordHeld d.trees w × All (AreFormulas d) (added_ids a) × All (AreFormulas d) (added_ids b)
 LineHeld d (line.Holding op i) = Unit {0}
 LineHeld d (line.Failing op i) = Unit {0}
@@ -103,6 +135,7 @@ Follows d f [] [] = Unit {0}
 Follows d f [] (t ∷ ts) = ⊥
 Follows d f (l ∷ ls) [] = ⊥
 Follows d f (GivenLine k n ∷ ls) (t ∷ ts) = IsGiven d f t k n × Follows d f ls ts
+Follows d f (KeptLine k ps ∷ ls) (t ∷ ts) = IsKept d t ps k × Follows d f ls ts
 Follows d f (RuleLine r a b ∷ ls) (t ∷ ts) = IsByRule d.task (f ++ t) r (a ++ b) × Follows d f ls (sequents_under t a ++ (sequents_under t b ++ ts))
 Follows d f (HoldingLine op i ∷ ls) (t ∷ ts) = IsSomeAnd (connected (slice_get t i)) (λ p. (p.0 ≡ op) × Follows d f ls (sequents_under t (where_true op p.1 p.2) ++ ts))
 Follows d f (FailingLine op i ∷ ls) (t ∷ ts) = IsSomeAnd (connected (negated (slice_get t i))) (λ p. (p.0 ≡ op) × Follows d f ls (sequents_under t (where_false op p.1 p.2) ++ ts))

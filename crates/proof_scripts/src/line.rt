@@ -21,6 +21,24 @@ pub enum Word {
     NotForall(usize, usize),
     LetDef(TermId),
     IfDef(TermId),
+    MatchDef(TermId),
+    NotNot(usize),
+    Irrefl(usize),
+    Exists(usize, usize),
+    NotExists(usize, TermId),
+    Replace(usize, usize, TermId),
+    False(usize),
+    Refl(TermId),
+    Distinct(usize),
+    Project(TermId),
+}
+
+/// Places of the tail, as many as an earlier step has formulas.
+#[derive(Clone, Copy)]
+pub enum Places {
+    One(usize),
+    Two(usize, usize),
+    Three(usize, usize, usize),
 }
 
 /// The formulas that a premise adds.
@@ -30,12 +48,13 @@ pub enum Formulas {
     Two(TermId, TermId),
 }
 
-/// A line: an earlier step that refutes the front and so many formulas at the end of the tail; a rule, with what each of its premises
-/// adds, of which it has at most two; or a rule on a connective, or on its negation, at a place of the tail, or a cut, whose premises
-/// add what the rule says.
+/// A line: an earlier step that refutes the front and so many formulas at the end of the tail; one that refutes the formulas at some
+/// places of the tail, without the front; a rule, with what each of its premises adds, of which it has at most two; or a rule on a
+/// connective, or on its negation, at a place of the tail, or a cut, whose premises add what the rule says.
 #[derive(Clone, Copy)]
 pub enum Line {
     Given(usize, usize),
+    Kept(usize, Places),
     By(Word, Option<Formulas>, Option<Formulas>),
     Holding(Op, usize),
     Failing(Op, usize),
@@ -64,6 +83,16 @@ pub(crate) fn rule_of(word: Word) -> Rule
         Word::NotForall(i, n) => Rule::NotForall(i, n),
         Word::LetDef(e) => Rule::LetDef(e),
         Word::IfDef(e) => Rule::IfDef(e),
+        Word::MatchDef(e) => Rule::MatchDef(e),
+        Word::NotNot(i) => Rule::NotNot(i),
+        Word::Irrefl(i) => Rule::Irrefl(i),
+        Word::Exists(i, n) => Rule::Exists(i, n),
+        Word::NotExists(i, t) => Rule::NotExists(i, t),
+        Word::Replace(i, j, e) => Rule::Replace(i, j, e),
+        Word::False(i) => Rule::False(i),
+        Word::Refl(e) => Rule::Refl(e),
+        Word::Distinct(i) => Rule::Distinct(i),
+        Word::Project(e) => Rule::Project(e),
     }
 }
 

@@ -3,7 +3,7 @@ ghost use Rattle.std.specs.Prelude.{IfOk};
 ghost use Rattle.tasks.specs.Meaning.{trees_at};
 ghost use Rattle.evidence.specs.Drafts.{AddsTrees, AreFormulas};
 ghost use Rattle.proof_scripts.specs.Scripts.{script_line_at, LineHeld, HoldingLine, FailingLine};
-ghost use Rattle.proof_scripts.specs.Derived.{CanOpen, IsLineOpened};
+ghost use Rattle.proof_scripts.specs.Derived.{CanOpen, HasRule, IsLineOpened};
 
 use crate::line::{Formulas, Line, Sides, Word};
 use crate::sides::{negate_both, where_false, where_true};
@@ -12,7 +12,7 @@ use std::alloc::AllocError;
 use term_store::Grow;
 use trees::{Node, Op, TermId};
 
-// The rule of a line, with what its premises add; an earlier step has none.
+// The rule of a line that has one, with what its premises add.
 pub(crate) fn open_line(
     draft: &mut Draft,
     front: &[TermId],
@@ -21,6 +21,7 @@ pub(crate) fn open_line(
 ) -> Result<(Word, Sides), AllocError>
     requires tail { AreFormulas draft.old tail.now }
     requires line { LineHeld draft.old line }
+    requires rule { HasRule (script_line_at draft.old.trees line) }
     requires opens { CanOpen draft.old (trees_at draft.old.trees front.now)
         (trees_at draft.old.trees tail.now) (script_line_at draft.old.trees line) }
     ensures opened { IfOk result (λ r. IsLineOpened draft.new (trees_at draft.old.trees front.now)
@@ -28,7 +29,8 @@ pub(crate) fn open_line(
     ensures grows { AddsTrees draft.old draft.new }
 {
     match line {
-        Line::Given(_, _) => Err(AllocError),
+        Line::Given(_, _) => unreachable!(),
+        Line::Kept(_, _) => unreachable!(),
         Line::By(word, first, second) => Ok((word, Sides { first, second })),
         Line::Holding(op, place) => open_holding(draft, front, tail, op, place),
         Line::Failing(op, place) => open_failing(draft, front, tail, op, place),
@@ -61,7 +63,7 @@ fn open_holding(
             let both = negate_both(draft, a, b)?;
             Ok((Word::Holding(op, front.len() + place), where_true(op, both)))
         }
-        _ => Err(AllocError),
+        _ => unreachable!(),
     }
 }
 
@@ -89,8 +91,8 @@ fn open_failing(
                     where_false(op, both),
                 ))
             }
-            _ => Err(AllocError),
+            _ => unreachable!(),
         },
-        _ => Err(AllocError),
+        _ => unreachable!(),
     }
 }

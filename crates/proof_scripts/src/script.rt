@@ -1,14 +1,14 @@
 // Steps by the lines of a script.
-ghost use Rattle.std.specs.Prelude.{◌≡◌, ◌+◌, ◌<◌, ◌≤◌, ◌++◌, [], ◌∷◌, All, length, IfOk};
+ghost use Rattle.std.specs.Prelude.{◌≡◌, ◌+◌, ◌<◌, ◌≤◌, ◌++◌, [], ◌∷◌, All, length, map, IfOk};
 ghost use Rattle.tasks.specs.Meaning.{trees_at};
-ghost use Rattle.evidence.specs.Drafts.{Extends, Refutes, AreFormulas};
-ghost use Rattle.proof_scripts.specs.Scripts.{word_rule, WordHeld, added_ids, added_at, sequents_under, lines_at, LinesHeld, IsByRule, IsGiven, Follows, CanFollow};
+ghost use Rattle.evidence.specs.Drafts.{Extends, Refutes, AreFormulas, IsKept};
+ghost use Rattle.proof_scripts.specs.Scripts.{word_rule, WordHeld, added_ids, added_at, sequents_under, lines_at, LinesHeld, IsByRule, IsGiven, places_of, PlacesFit, Follows, CanFollow};
 ghost use Rattle.proof_scripts.specs.Derived.{Consumes, ConsumesBehind, RefuteUnder};
 
-use crate::line::{Formulas, Line, Word, rule_of, tail_with};
+use crate::line::{Formulas, Line, Places, Word, rule_of, tail_with};
 use crate::opening::open_line;
-use evidence::{Draft, by_rule, keep_but};
-use std::alloc::AllocError;
+use evidence::{Draft, by_rule, join_lists, keep_but};
+use std::alloc::{AllocError, Global};
 use trees::TermId;
 
 // A step, and how many lines it took.
@@ -36,6 +36,39 @@ fn by_given(
 {
     let (before, last) = tail.split_at(tail.len() - count);
     keep_but(draft, front, before, last, step)
+}
+
+// Places of a tail, where there are so many formulas before it.
+fn places_after(alloc: Global, before: usize, places: Places) -> Result<Vec<usize>, AllocError>
+    requires { PlacesFit before places }
+    ensures { IfOk result (λ v. v.items ≡ map (λ i. before + i) (places_of places)) }
+{
+    match places {
+        Places::One(i) => Vec::from_slice(alloc, &[before + i]),
+        Places::Two(i, j) => Vec::from_slice(alloc, &[before + i, before + j]),
+        Places::Three(i, j, k) => { Vec::from_slice(alloc, &[before + i, before + j, before + k]) }
+    }
+}
+
+// By an earlier step that refutes the formulas at these places of the tail.
+fn by_kept(
+    draft: &mut Draft,
+    front: &[TermId],
+    tail: &[TermId],
+    step: usize,
+    places: Places,
+) -> Result<usize, AllocError>
+    requires front { AreFormulas draft.old front.now }
+    requires tail { AreFormulas draft.old tail.now }
+    requires kept { IsKept draft.old (trees_at draft.old.trees tail.now) (places_of places) step }
+    ensures refutes { IfOk result (λ k. Refutes draft.new k
+        (trees_at draft.old.trees front.now ++ trees_at draft.old.trees tail.now)) }
+    ensures grows { Extends draft.old draft.new }
+{
+    let alloc = draft.allocator();
+    let places = places_after(alloc, front.len(), places)?;
+    let sequent = join_lists(alloc, front, tail)?;
+    draft.keep(&sequent, &places, step)
 }
 
 // A step for the front and the tail by the first lines.
@@ -67,6 +100,13 @@ fn walk(
                     used: 1,
                 })
             }
+            Line::Kept(step, places) => {
+                let made = by_kept(draft, front, tail, *step, *places)?;
+                Ok(Derived {
+                    step: made,
+                    used: 1,
+                })
+            }
             _ => {
                 let opened = open_line(draft, front, tail, *line)?;
                 let mut steps = Vec::new(draft.allocator());
@@ -82,7 +122,7 @@ fn walk(
                 )
             }
         },
-        None => Err(AllocError),
+        None => unreachable!(),
     }
 }
 

@@ -149,9 +149,6 @@ walk-returns-in_ok-opened-in_default-clause-within t c = IfOk-weaker c.by_word.r
 pub walk-returns-in_ok-opened-in_default-clause-grows : goal.walk-returns-in_ok-opened-in_default-clause-grows
 walk-returns-in_ok-opened-in_default-clause-grows t c = Extends_trans _ _ _ (AddsTrees_extends _ _ c.in_ok-opened-in_default.ensures.grows) c.by_word.ensures.grows
 
-pub walk-returns-in-None-clause-grows : goal.walk-returns-in-None-clause-grows
-walk-returns-in-None-clause-grows t c = AddsTrees_extends _ _ (AddsTrees_refl _)
-
 pub premise-walk-requires : goal.premise-walk-requires
 premise-walk-requires t c =
     let d = c.args.draft.now in
