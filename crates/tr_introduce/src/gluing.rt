@@ -1,5 +1,5 @@
 // From a step that refutes what was introduced from a goal, one that refutes the goal's negation.
-ghost use Rattle.std.specs.Prelude.{◌≡◌, ◌++◌, [], ◌∷◌, IfOk};
+ghost use Rattle.std.specs.Prelude.{◌≡◌, ◌++◌, [], ◌∷◌, length, IfOk};
 ghost use Rattle.trees.specs.Tree.{Two, HForall, HJoin};
 ghost use Rattle.trees.specs.Node.{tree_at, Holds};
 ghost use Rattle.tasks.specs.Task.{neg};
@@ -15,32 +15,32 @@ use std::alloc::AllocError;
 use term_store::Grow;
 use trees::{Op, TermId};
 
-// From a step that refutes what is introduced from the goal over these formulas, where parameters count from this number, one that
-// refutes the formulas and the negated goal.
+// From a step that refutes what is introduced from the goal over these formulas, where parameters have these types so far, one
+// that refutes the formulas and the negated goal.
 #[cycle(glue)]
 pub(crate) fn glue_goal(
     draft: &mut Draft,
     front: &[TermId],
     goal: TermId,
-    number: usize,
+    params: &[TermId],
     end: usize,
 ) -> Result<usize, AllocError>
     requires front { AreFormulas draft.old front.now }
     requires goal { IsFormulaAt draft.old goal }
-    requires below { AreParamsBelow number (trees_at draft.old.trees front.now)
+    requires below { AreParamsBelow (length params.now) (trees_at draft.old.trees front.now)
         (tree_at draft.old.trees goal) }
     requires end { EndsDraftAt draft.old end (trees_at draft.old.trees front.now)
-        (tree_at draft.old.trees goal) number }
+        (tree_at draft.old.trees goal) (length params.now) }
     ensures refutes { IfOk result (λ k. Refutes draft.new k
         (trees_at draft.old.trees front.now ++ neg (tree_at draft.old.trees goal) ∷ [])) }
     ensures grows { Extends draft.old draft.new }
 {
     match beginning_of(draft.store(), goal) {
         Beginning::Universal(ty, body) => {
-            glue_universal(draft, front, goal, ty, body, number, end)
+            glue_universal(draft, front, goal, ty, body, params, end)
         }
         Beginning::Implication(premise, conclusion) => {
-            glue_implication(draft, front, goal, premise, conclusion, number, end)
+            glue_implication(draft, front, goal, premise, conclusion, params, end)
         }
         Beginning::Neither => Ok(end),
     }
@@ -54,7 +54,7 @@ fn glue_universal(
     goal: TermId,
     ty: TermId,
     body: TermId,
-    number: usize,
+    params: &[TermId],
     end: usize,
 ) -> Result<usize, AllocError>
     requires front { AreFormulas draft.old front.now }
@@ -63,20 +63,19 @@ fn glue_universal(
         ≡ Two HForall (tree_at draft.old.trees ty) (tree_at draft.old.trees body) }
     requires ty_held { Holds draft.old.trees ty }
     requires body_held { Holds draft.old.trees body }
-    requires below { AreParamsBelow number (trees_at draft.old.trees front.now)
+    requires below { AreParamsBelow (length params.now) (trees_at draft.old.trees front.now)
         (tree_at draft.old.trees goal) }
     requires end { EndsDraftAt draft.old end (trees_at draft.old.trees front.now)
-        (tree_at draft.old.trees goal) number }
+        (tree_at draft.old.trees goal) (length params.now) }
     ensures refutes { IfOk result (λ k. Refutes draft.new k
         (trees_at draft.old.trees front.now ++ neg (tree_at draft.old.trees goal) ∷ [])) }
     ensures grows { Extends draft.old draft.new }
 {
-    if number == usize::MAX {
-        return Err(AllocError);
-    }
+    let number = params.len();
     let alloc = draft.allocator();
     let goal_at = open_body(alloc, draft, number, ty, body)?;
-    let step = glue_goal(draft, front, goal_at, number + 1, end)?;
+    let wider = join_lists(alloc, params, &[ty])?;
+    let step = glue_goal(draft, front, goal_at, &wider, end)?;
     refute_universal(draft, front, goal, number, step)
 }
 
@@ -88,7 +87,7 @@ fn glue_implication(
     goal: TermId,
     premise: TermId,
     conclusion: TermId,
-    number: usize,
+    params: &[TermId],
     end: usize,
 ) -> Result<usize, AllocError>
     requires front { AreFormulas draft.old front.now }
@@ -98,15 +97,15 @@ fn glue_implication(
         (tree_at draft.old.trees conclusion) }
     requires premise_held { Holds draft.old.trees premise }
     requires conclusion_held { Holds draft.old.trees conclusion }
-    requires below { AreParamsBelow number (trees_at draft.old.trees front.now)
+    requires below { AreParamsBelow (length params.now) (trees_at draft.old.trees front.now)
         (tree_at draft.old.trees goal) }
     requires end { EndsDraftAt draft.old end (trees_at draft.old.trees front.now)
-        (tree_at draft.old.trees goal) number }
+        (tree_at draft.old.trees goal) (length params.now) }
     ensures refutes { IfOk result (λ k. Refutes draft.new k
         (trees_at draft.old.trees front.now ++ neg (tree_at draft.old.trees goal) ∷ [])) }
     ensures grows { Extends draft.old draft.new }
 {
     let wider = join_lists(draft.allocator(), front, &[premise])?;
-    let step = glue_goal(draft, &wider, conclusion, number, end)?;
+    let step = glue_goal(draft, &wider, conclusion, params, end)?;
     refute_implication(draft, front, goal, premise, step)
 }

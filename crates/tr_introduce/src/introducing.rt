@@ -57,8 +57,8 @@ impl Transform for Introduce {
         draft: &mut Draft,
     ) -> Result<usize, AllocError> {
         let _ = to;
-        let number = from.params.len();
-        glue_goal(draft, from.locals.as_slice(), from.goal, number, ends[0])
+        let params = from.params.as_slice();
+        glue_goal(draft, from.locals.as_slice(), from.goal, params, ends[0])
     }
 
     ghost keeps = { λ _ t ts valid gives. introduce_keeps t ts valid gives };

@@ -50,19 +50,19 @@ fn joined_count(op: Op, left: usize, right: usize) -> usize
     }
 }
 
-// From steps that refute the parts of the goal over these formulas, whose parameters are below this number, one that refutes the
-// formulas and the negated goal.
+// From steps that refute the parts of the goal over these formulas, whose parameters have these types and no others are in them,
+// one that refutes the formulas and the negated goal.
 #[cycle(glue)]
 pub(crate) fn glue_goal(
     draft: &mut Draft,
     front: &[TermId],
     goal: TermId,
-    number: usize,
+    params: &[TermId],
     ends: &[usize],
 ) -> Result<usize, AllocError>
     requires front { AreFormulas draft.old front.now }
     requires goal { IsFormulaAt draft.old goal }
-    requires below { AreParamsBelow number (trees_at draft.old.trees front.now)
+    requires below { AreParamsBelow (length params.now) (trees_at draft.old.trees front.now)
         (tree_at draft.old.trees goal) }
     requires ends { EndsOfParts draft.old ends.now (trees_at draft.old.trees front.now)
         (split (tree_at draft.old.trees goal)) }
@@ -72,10 +72,10 @@ pub(crate) fn glue_goal(
 {
     match draft.store().node(goal) {
         Node::True => refute_true(draft, front, goal),
-        Node::Join(op, a, b) => glue_joined(draft, front, goal, op, a, b, number, ends),
-        Node::Forall(ty, body) => glue_forall(draft, front, goal, ty, body, number, ends),
-        Node::Let(value, body) => glue_let(draft, front, goal, value, body, number, ends),
-        Node::If(cond, a, b) => glue_if(draft, front, goal, cond, a, b, number, ends),
+        Node::Join(op, a, b) => glue_joined(draft, front, goal, op, a, b, params, ends),
+        Node::Forall(ty, body) => glue_forall(draft, front, goal, ty, body, params, ends),
+        Node::Let(value, body) => glue_let(draft, front, goal, value, body, params, ends),
+        Node::If(cond, a, b) => glue_if(draft, front, goal, cond, a, b, params, ends),
         _ => Ok(ends[0]),
     }
 }
@@ -89,13 +89,13 @@ fn glue_joined(
     op: Op,
     a: TermId,
     b: TermId,
-    number: usize,
+    params: &[TermId],
     ends: &[usize],
 ) -> Result<usize, AllocError>
     requires front { AreFormulas draft.old front.now }
     requires goal { IsFormulaAt draft.old goal }
     requires joins { Joins draft.old.trees goal op a b }
-    requires below { AreParamsBelow number (trees_at draft.old.trees front.now)
+    requires below { AreParamsBelow (length params.now) (trees_at draft.old.trees front.now)
         (tree_at draft.old.trees goal) }
     requires ends { EndsOfParts draft.old ends.now (trees_at draft.old.trees front.now)
         (split (tree_at draft.old.trees goal)) }
@@ -104,9 +104,9 @@ fn glue_joined(
     ensures grows { Extends draft.old draft.new }
 {
     match op {
-        Op::And => glue_and(draft, front, goal, a, b, number, ends),
-        Op::AndThen => glue_and_then(draft, front, goal, a, b, number, ends),
-        Op::Imp => glue_imp(draft, front, goal, a, b, number, ends),
+        Op::And => glue_and(draft, front, goal, a, b, params, ends),
+        Op::AndThen => glue_and_then(draft, front, goal, a, b, params, ends),
+        Op::Imp => glue_imp(draft, front, goal, a, b, params, ends),
         Op::Iff => glue_iff(draft, front, goal, a, b, ends),
         Op::Or | Op::OrElse => Ok(ends[0]),
     }
@@ -119,15 +119,15 @@ fn glue_two(
     front: &[TermId],
     a: TermId,
     b: TermId,
-    number: usize,
+    params: &[TermId],
     ends: &[usize],
 ) -> Result<(usize, usize), AllocError>
     requires front { AreFormulas draft.old front.now }
     requires a { IsFormulaAt draft.old a }
     requires b { IsFormulaAt draft.old b }
-    requires below_a { AreParamsBelow number (trees_at draft.old.trees front.now)
+    requires below_a { AreParamsBelow (length params.now) (trees_at draft.old.trees front.now)
         (tree_at draft.old.trees a) }
-    requires below_b { AreParamsBelow number (trees_at draft.old.trees front.now)
+    requires below_b { AreParamsBelow (length params.now) (trees_at draft.old.trees front.now)
         (tree_at draft.old.trees b) }
     requires ends { EndsOfParts draft.old ends.now (trees_at draft.old.trees front.now)
         (split (tree_at draft.old.trees a) ++ split (tree_at draft.old.trees b)) }
@@ -139,8 +139,8 @@ fn glue_two(
 {
     let count = part_count(draft.store(), a);
     let (first, second) = ends.split_at(count);
-    let left = glue_goal(draft, front, a, number, first)?;
-    let right = glue_goal(draft, front, b, number, second)?;
+    let left = glue_goal(draft, front, a, params, first)?;
+    let right = glue_goal(draft, front, b, params, second)?;
     Ok((left, right))
 }
 
@@ -152,13 +152,13 @@ fn glue_and(
     goal: TermId,
     a: TermId,
     b: TermId,
-    number: usize,
+    params: &[TermId],
     ends: &[usize],
 ) -> Result<usize, AllocError>
     requires front { AreFormulas draft.old front.now }
     requires goal { IsFormulaAt draft.old goal }
     requires joins { Joins draft.old.trees goal Op.And a b }
-    requires below { AreParamsBelow number (trees_at draft.old.trees front.now)
+    requires below { AreParamsBelow (length params.now) (trees_at draft.old.trees front.now)
         (tree_at draft.old.trees goal) }
     requires ends { EndsOfParts draft.old ends.now (trees_at draft.old.trees front.now)
         (split (tree_at draft.old.trees goal)) }
@@ -166,7 +166,7 @@ fn glue_and(
         (trees_at draft.old.trees front.now ++ neg (tree_at draft.old.trees goal) ∷ [])) }
     ensures grows { Extends draft.old draft.new }
 {
-    let (left, right) = glue_two(draft, front, a, b, number, ends)?;
+    let (left, right) = glue_two(draft, front, a, b, params, ends)?;
     refute_and(draft, front, goal, a, b, left, right)
 }
 
@@ -178,13 +178,13 @@ fn glue_and_then(
     goal: TermId,
     a: TermId,
     b: TermId,
-    number: usize,
+    params: &[TermId],
     ends: &[usize],
 ) -> Result<usize, AllocError>
     requires front { AreFormulas draft.old front.now }
     requires goal { IsFormulaAt draft.old goal }
     requires joins { Joins draft.old.trees goal Op.AndThen a b }
-    requires below { AreParamsBelow number (trees_at draft.old.trees front.now)
+    requires below { AreParamsBelow (length params.now) (trees_at draft.old.trees front.now)
         (tree_at draft.old.trees goal) }
     requires ends { EndsOfParts draft.old ends.now (trees_at draft.old.trees front.now)
         (split (tree_at draft.old.trees goal)) }
@@ -193,7 +193,7 @@ fn glue_and_then(
     ensures grows { Extends draft.old draft.new }
 {
     let implied = connect(draft, Op::Imp, a, b)?;
-    let (left, right) = glue_two(draft, front, a, implied, number, ends)?;
+    let (left, right) = glue_two(draft, front, a, implied, params, ends)?;
     refute_and_then(draft, front, goal, a, b, implied, left, right)
 }
 
@@ -205,13 +205,13 @@ fn glue_imp(
     goal: TermId,
     a: TermId,
     b: TermId,
-    number: usize,
+    params: &[TermId],
     ends: &[usize],
 ) -> Result<usize, AllocError>
     requires front { AreFormulas draft.old front.now }
     requires goal { IsFormulaAt draft.old goal }
     requires joins { Joins draft.old.trees goal Op.Imp a b }
-    requires below { AreParamsBelow number (trees_at draft.old.trees front.now)
+    requires below { AreParamsBelow (length params.now) (trees_at draft.old.trees front.now)
         (tree_at draft.old.trees goal) }
     requires ends { EndsOfParts draft.old ends.now (trees_at draft.old.trees front.now)
         (split (tree_at draft.old.trees goal)) }
@@ -221,7 +221,7 @@ fn glue_imp(
 {
     let made = ends_over(draft, front, Over::Hypothesis(a), b, ends)?;
     let wider = join_lists(draft.allocator(), front, &[a])?;
-    let step = glue_goal(draft, &wider, b, number, &made)?;
+    let step = glue_goal(draft, &wider, b, params, &made)?;
     refute_imp(draft, front, goal, a, b, step)
 }
 
@@ -256,7 +256,7 @@ fn glue_forall(
     goal: TermId,
     ty: TermId,
     body: TermId,
-    number: usize,
+    params: &[TermId],
     ends: &[usize],
 ) -> Result<usize, AllocError>
     requires front { AreFormulas draft.old front.now }
@@ -265,7 +265,7 @@ fn glue_forall(
         ≡ Two HForall (tree_at draft.old.trees ty) (tree_at draft.old.trees body) }
     requires ty_held { Holds draft.old.trees ty }
     requires body_held { Holds draft.old.trees body }
-    requires below { AreParamsBelow number (trees_at draft.old.trees front.now)
+    requires below { AreParamsBelow (length params.now) (trees_at draft.old.trees front.now)
         (tree_at draft.old.trees goal) }
     requires ends { EndsOfParts draft.old ends.now (trees_at draft.old.trees front.now)
         (split (tree_at draft.old.trees goal)) }
@@ -273,11 +273,10 @@ fn glue_forall(
         (trees_at draft.old.trees front.now ++ neg (tree_at draft.old.trees goal) ∷ [])) }
     ensures grows { Extends draft.old draft.new }
 {
-    if number == usize::MAX {
-        return Err(AllocError);
-    }
+    let number = params.len();
     let (inner, made) = open_universal(draft, front, goal, ty, body, number, ends)?;
-    let step = glue_goal(draft, front, inner, number + 1, &made)?;
+    let wider = join_lists(draft.allocator(), params, &[ty])?;
+    let step = glue_goal(draft, front, inner, &wider, &made)?;
     let no_inner = negation(draft, inner)?;
     refute_forall(draft, front, goal, ty, body, inner, no_inner, number, step)
 }
@@ -290,7 +289,7 @@ fn glue_let(
     goal: TermId,
     value: TermId,
     body: TermId,
-    number: usize,
+    params: &[TermId],
     ends: &[usize],
 ) -> Result<usize, AllocError>
     requires front { AreFormulas draft.old front.now }
@@ -299,7 +298,7 @@ fn glue_let(
         ≡ Two HLet (tree_at draft.old.trees value) (tree_at draft.old.trees body) }
     requires value_held { Holds draft.old.trees value }
     requires body_held { Holds draft.old.trees body }
-    requires below { AreParamsBelow number (trees_at draft.old.trees front.now)
+    requires below { AreParamsBelow (length params.now) (trees_at draft.old.trees front.now)
         (tree_at draft.old.trees goal) }
     requires ends { EndsOfParts draft.old ends.now (trees_at draft.old.trees front.now)
         (split (tree_at draft.old.trees goal)) }
@@ -307,8 +306,8 @@ fn glue_let(
         (trees_at draft.old.trees front.now ++ neg (tree_at draft.old.trees goal) ∷ [])) }
     ensures grows { Extends draft.old draft.new }
 {
-    let (inner, made) = open_valued(draft, front, goal, value, body, number, ends)?;
-    let step = glue_goal(draft, front, inner, number, &made)?;
+    let (inner, made) = open_valued(draft, front, goal, value, body, params.len(), ends)?;
+    let step = glue_goal(draft, front, inner, params, &made)?;
     let defined = connect(draft, Op::Iff, goal, inner)?;
     refute_let(draft, front, goal, value, body, inner, defined, step)
 }
@@ -322,7 +321,7 @@ fn glue_if(
     cond: TermId,
     a: TermId,
     b: TermId,
-    number: usize,
+    params: &[TermId],
     ends: &[usize],
 ) -> Result<usize, AllocError>
     requires front { AreFormulas draft.old front.now }
@@ -333,7 +332,7 @@ fn glue_if(
     requires cond { IsFormulaAt draft.old cond }
     requires a { IsFormulaAt draft.old a }
     requires b { IsFormulaAt draft.old b }
-    requires below { AreParamsBelow number (trees_at draft.old.trees front.now)
+    requires below { AreParamsBelow (length params.now) (trees_at draft.old.trees front.now)
         (tree_at draft.old.trees goal) }
     requires ends { EndsOfParts draft.old ends.now (trees_at draft.old.trees front.now)
         (split (tree_at draft.old.trees goal)) }
@@ -345,7 +344,7 @@ fn glue_if(
     let there = connect(draft, Op::Imp, cond, a)?;
     let away = connect(draft, Op::Imp, no_cond, b)?;
     let defined = if_equation(draft, goal, cond, no_cond, a, b)?;
-    let (left, right) = glue_two(draft, front, there, away, number, ends)?;
+    let (left, right) = glue_two(draft, front, there, away, params, ends)?;
     refute_if(
         draft, front, goal, cond, a, b, there, away, defined, left, right,
     )

@@ -53,8 +53,8 @@ impl Transform for Split {
         draft: &mut Draft,
     ) -> Result<usize, AllocError> {
         let _ = to;
-        let number = from.params.len();
-        glue_goal(draft, from.locals.as_slice(), from.goal, number, ends)
+        let params = from.params.as_slice();
+        glue_goal(draft, from.locals.as_slice(), from.goal, params, ends)
     }
 
     ghost keeps = { λ _ t ts valid gives. split_keeps t ts valid gives };

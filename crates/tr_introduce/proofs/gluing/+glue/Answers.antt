@@ -1,4 +1,5 @@
-use Rattle.std.proofs.Common.{◌≡◌, ◌+◌, ◌∷◌, ◌++◌, [], List, suc, sym, ap, subst, ◌∙◌, arith}
+use Rattle.std.proofs.Common.{◌≡◌, ℕ, ◌+◌, ◌∷◌, ◌++◌, [], List, length, suc, sym, ap, subst, ◌∙◌, arith}
+use Rattle.std.proofs.lemmas.List.{length-append}
 use Rattle.std.proofs.lemmas.Result.{IfOk-weaker}
 use Rattle.trees.specs.declared.Op.TheVariants.{Imp}
 use Rattle.trees.specs.Tree.{Tree, Two, HJoin}
@@ -10,7 +11,7 @@ use Rattle.evidence.specs.Drafts.{Refutes}
 use Rattle.evidence.specs.Laws.{Extends_trans, AddsTrees_extends, AddsTrees_refl}
 use Rattle.evidence.proofs.Formulas.{same, formulas_later, formula_later}
 use Rattle.tr_introduce.specs.Introduce.{prefix}
-use Rattle.tr_introduce.specs.Steps.{AreParamsBelow}
+use Rattle.tr_introduce.specs.Steps.{AreParamsBelow, EndsDraftAt}
 use Rattle.tr_introduce.proofs.Introduced.{prefix_inst}
 use Rattle.tr_introduce.proofs.Moving.{wider_formulas, neg_back}
 use Rattle.tr_introduce.proofs.Opening.{opened_formula, opened_below, opened_ends, premise_formula, conclusion_formula, wider_trees, wider_below, wider_ends, kind, ends_here}
@@ -27,17 +28,18 @@ glue_universal-glue_goal-requires t c =
     let id = c.in_ok-goal_at.goal_at in
     let x = AddsTrees_extends d d1 o.grows in
     let is = c.requires.tree in
-    let m : prefix (tree_at d1.trees id) ≡ prefix (tree_at d.trees c.args.body) = ap prefix o.tree ∙ prefix_inst c.args.number (tree_at d.trees c.args.ty) (tree_at d.trees c.args.body) in
+    let one : length c.args.params.now + 1 ≡ length c.deref.result.now = sym (ap length (c.deref.ensures.value ∙ c.in_ok-wider.ensures) ∙ length-append c.args.params.now (c.args.ty ∷ [])) in
+    let m : prefix (tree_at d1.trees id) ≡ prefix (tree_at d.trees c.args.body) = ap prefix o.tree ∙ prefix_inst (length c.args.params.now) (tree_at d.trees c.args.ty) (tree_at d.trees c.args.body) in
     let n : prefix (tree_at d.trees c.args.goal) ≡ suc (prefix (tree_at d.trees c.args.body)) = ap prefix is in
-    let b = opened_below d c.args.goal c.args.ty c.args.body f is (trees_at d.trees F) c.args.number (tree_at d1.trees id) c.requires.below o.keeps in (
+    let b = opened_below d c.args.goal c.args.ty c.args.body f is (trees_at d.trees F) (length c.args.params.now) (tree_at d1.trees id) c.requires.below o.keeps in (
       omega (arith, m, n),
       (
         formulas_later d d1 x F c.requires.front,
         (
-          opened_formula d c.args.goal c.args.ty c.args.body f is d1 id c.args.number x.task o.held o.keeps,
+          opened_formula d c.args.goal c.args.ty c.args.body f is d1 id (length c.args.params.now) x.task o.held o.keeps,
           (
-            subst (λ (es : List Tree). AreParamsBelow (c.args.number + 1) es (tree_at d1.trees id)) (sym (same d d1 x F c.requires.front)) b,
-            opened_ends d c.args.goal c.args.ty c.args.body f is d1 F c.args.number c.args.end (tree_at d1.trees id) x c.requires.front c.requires.end o.tree,
+            subst (λ (n : ℕ). AreParamsBelow n (trees_at d1.trees F) (tree_at d1.trees id)) one (subst (λ (es : List Tree). AreParamsBelow (length c.args.params.now + 1) es (tree_at d1.trees id)) (sym (same d d1 x F c.requires.front)) b),
+            subst (EndsDraftAt d1 c.args.end (trees_at d1.trees F) (tree_at d1.trees id)) one (opened_ends d c.args.goal c.args.ty c.args.body f is d1 F (length c.args.params.now) c.args.end (tree_at d1.trees id) x c.requires.front c.requires.end o.tree),
           ),
         ),
       ),
@@ -55,7 +57,7 @@ glue_universal-refute_universal-requires-clause-below t c =
     let d2 = c.glue_goal.new.draft in
     let x = Extends_trans d c.open_body.new.g d2 (AddsTrees_extends _ _ c.in_ok-goal_at.ensures.grows) c.in_ok-step.ensures.grows in
     let e : tree_at d2.trees c.args.goal ≡ tree_at d.trees c.args.goal = x.trees.same c.args.goal.0 c.requires.goal.held in
-    subst (λ (es : List Tree). AreParamsBelow c.args.number es (tree_at d2.trees c.args.goal)) (sym (same d d2 x c.args.front.now c.requires.front)) (subst (AreParamsBelow c.args.number (trees_at d.trees c.args.front.now)) (sym e) c.requires.below)
+    subst (λ (es : List Tree). AreParamsBelow (length c.args.params.now) es (tree_at d2.trees c.args.goal)) (sym (same d d2 x c.args.front.now c.requires.front)) (subst (AreParamsBelow (length c.args.params.now) (trees_at d.trees c.args.front.now)) (sym e) c.requires.below)
 
 pub glue_universal-refute_universal-requires-clause-opened : goal.glue_universal-refute_universal-requires-clause-opened
 glue_universal-refute_universal-requires-clause-opened t c =
@@ -69,7 +71,7 @@ glue_universal-refute_universal-requires-clause-opened t c =
     let x = Extends_trans d d1 d2 x1 c.in_ok-step.ensures.grows in
     let g : tree_at d2.trees c.args.goal ≡ tree_at d.trees c.args.goal = x.trees.same c.args.goal.0 c.requires.goal.held in
     let f : trees_at d1.trees F ≡ trees_at d2.trees F = same d d1 x1 F c.requires.front ∙ sym (same d d2 x F c.requires.front) in
-    let q : trees_at d1.trees F ++ neg (tree_at d1.trees id) ∷ [] ≡ trees_at d2.trees F ++ neg (inst (tree_at d.trees c.args.body) (Param c.args.number (tree_at d.trees c.args.ty))) ∷ [] = cc (f, o.tree) in
+    let q : trees_at d1.trees F ++ neg (tree_at d1.trees id) ∷ [] ≡ trees_at d2.trees F ++ neg (inst (tree_at d.trees c.args.body) (Param (length c.args.params.now) (tree_at d.trees c.args.ty))) ∷ [] = cc (f, o.tree) in
     record {
       ty = tree_at d.trees c.args.ty;
       body = tree_at d.trees c.args.body;
@@ -103,7 +105,7 @@ glue_implication-glue_goal-requires t c =
         wider_formulas d F w a e c.requires.front (premise_formula d F w c.args.goal a b f is e c.requires.premise_held),
         (
           conclusion_formula d F w c.args.goal a b f is e c.requires.conclusion_held,
-          (wider_below d F w c.args.goal a b f is e c.args.number c.requires.below, wider_ends d F w c.args.goal a b f is e c.args.number c.args.end c.requires.end),
+          (wider_below d F w c.args.goal a b f is e (length c.args.params.now) c.requires.below, wider_ends d F w c.args.goal a b f is e (length c.args.params.now) c.args.end c.requires.end),
         ),
       ),
     )
@@ -172,7 +174,7 @@ glue_goal-returns-in-Implication-clause-grows t c = c.glue_implication.ensures.g
 pub glue_goal-returns-in-Neither-clause-refutes : goal.glue_goal-returns-in-Neither-clause-refutes
 glue_goal-returns-in-Neither-clause-refutes t c =
     let d = c.args.draft.now in
-    ends_here d (trees_at d.trees c.args.front.now) (tree_at d.trees c.args.goal) c.args.number c.args.end (rw c.store.ensures at c.in-Neither.ensures) c.requires.end
+    ends_here d (trees_at d.trees c.args.front.now) (tree_at d.trees c.args.goal) (length c.args.params.now) c.args.end (rw c.store.ensures at c.in-Neither.ensures) c.requires.end
 
 pub glue_goal-returns-in-Neither-clause-grows : goal.glue_goal-returns-in-Neither-clause-grows
 glue_goal-returns-in-Neither-clause-grows t c = AddsTrees_extends _ _ (AddsTrees_refl _)

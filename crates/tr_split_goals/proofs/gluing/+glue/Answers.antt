@@ -64,8 +64,8 @@ glue_two-glue_goal-requires-2 t c =
     let second = ends_right d c.args.ends.now c.split_at.result.1.now (trees_at d.trees F) xs ys c.part_count-count.result c.requires.ends c.split_at.ensures.back n in
     let later = ends_later d d1 x F c.requires.front c.split_at.result.1.now ys second in
     let f : trees_at d1.trees F ≡ trees_at d.trees F = same d d1 x F c.requires.front in
-    let below : AreParamsBelow c.args.number (trees_at d1.trees F) (tree_at d1.trees b) =
-    subst (λ (z : List Tree). AreParamsBelow c.args.number z (tree_at d1.trees b)) (sym f) (subst (AreParamsBelow c.args.number (trees_at d.trees F)) (sym e) c.requires.below_b) in (
+    let below : AreParamsBelow (length c.args.params.now) (trees_at d1.trees F) (tree_at d1.trees b) =
+    subst (λ (z : List Tree). AreParamsBelow (length c.args.params.now) z (tree_at d1.trees b)) (sym f) (subst (AreParamsBelow (length c.args.params.now) (trees_at d.trees F)) (sym e) c.requires.below_b) in (
       omega (arith, m),
       (
         formulas_later d d1 x F c.requires.front,
@@ -105,7 +105,7 @@ glue_and_then-glue_two-requires t c =
     let ma : splits (tree_at d1.trees c.args.a) ≡ splits A = ap splits ea in
     let mi : splits (tree_at d1.trees c.in_ok-implied.implied) ≡ suc (splits B) = ap splits ei in
     let mg : splits (tree_at d.trees c.args.goal) ≡ suc (suc (splits A + splits B)) = ap splits j.tree in
-    let l : AreParamsBelow c.args.number (trees_at d.trees F) (Two (HJoin AndThen) A B) = subst (AreParamsBelow c.args.number (trees_at d.trees F)) j.tree c.requires.below in
+    let l : AreParamsBelow (length c.args.params.now) (trees_at d.trees F) (Two (HJoin AndThen) A B) = subst (AreParamsBelow (length c.args.params.now) (trees_at d.trees F)) j.tree c.requires.below in
     let e : EndsOfParts d c.args.ends.now (trees_at d.trees F) (split A ++ map (imp A) (split B)) = subst (EndsOfParts d c.args.ends.now (trees_at d.trees F)) (ap split j.tree) c.requires.ends in
     let sa : split (tree_at d1.trees c.args.a) ≡ split A = ap split ea in
     let si : split (tree_at d1.trees c.in_ok-implied.implied) ≡ map (imp A) (split B) = ap split ei in
@@ -118,9 +118,9 @@ glue_and_then-glue_two-requires t c =
           (
             c.in_ok-implied.ensures.formula,
             (
-              below_later d d1 x F c.requires.front c.args.number A (tree_at d1.trees c.args.a) ea (left_below c.args.number (trees_at d.trees F) AndThen A B l),
+              below_later d d1 x F c.requires.front (length c.args.params.now) A (tree_at d1.trees c.args.a) ea (left_below (length c.args.params.now) (trees_at d.trees F) AndThen A B l),
               (
-                below_later d d1 x F c.requires.front c.args.number (Two (HJoin Imp) A B) (tree_at d1.trees c.in_ok-implied.implied) ei (joined_below c.args.number (trees_at d.trees F) AndThen Imp A B l),
+                below_later d d1 x F c.requires.front (length c.args.params.now) (Two (HJoin Imp) A B) (tree_at d1.trees c.in_ok-implied.implied) ei (joined_below (length c.args.params.now) (trees_at d.trees F) AndThen Imp A B l),
                 subst (EndsOfParts d1 c.args.ends.now (trees_at d1.trees F)) q (ends_later d d1 x F c.requires.front c.args.ends.now (split A ++ map (imp A) (split B)) e),
               ),
             ),
@@ -207,9 +207,9 @@ glue_imp-glue_goal-requires t c =
     let e1 : trees_at d1.trees c.deref.result.now ≡ trees_at d.trees F ++ A ∷ [] = wider_is d d1 x F c.deref.result.now a w c.requires.front s.left in
     let m : splits (tree_at d1.trees b) ≡ splits B = ap splits b1 in
     let mg : splits (tree_at d.trees c.args.goal) ≡ suc (splits B) = ap splits j.tree in
-    let l : AreParamsBelow c.args.number (trees_at d.trees F) (Two (HJoin Imp) A B) = subst (AreParamsBelow c.args.number (trees_at d.trees F)) j.tree c.requires.below in
-    let k : AreParamsBelow c.args.number (trees_at d.trees F ++ A ∷ []) B = premise_below c.args.number (trees_at d.trees F) Imp A B l in
-    let below : AreParamsBelow c.args.number (trees_at d1.trees c.deref.result.now) (tree_at d1.trees b) = subst (λ (z : List Tree). AreParamsBelow c.args.number z (tree_at d1.trees b)) (sym e1) (subst (AreParamsBelow c.args.number (trees_at d.trees F ++ A ∷ [])) (sym b1) k) in
+    let l : AreParamsBelow (length c.args.params.now) (trees_at d.trees F) (Two (HJoin Imp) A B) = subst (AreParamsBelow (length c.args.params.now) (trees_at d.trees F)) j.tree c.requires.below in
+    let k : AreParamsBelow (length c.args.params.now) (trees_at d.trees F ++ A ∷ []) B = premise_below (length c.args.params.now) (trees_at d.trees F) Imp A B l in
+    let below : AreParamsBelow (length c.args.params.now) (trees_at d1.trees c.deref.result.now) (tree_at d1.trees b) = subst (λ (z : List Tree). AreParamsBelow (length c.args.params.now) z (tree_at d1.trees b)) (sym e1) (subst (AreParamsBelow (length c.args.params.now) (trees_at d.trees F ++ A ∷ [])) (sym b1) k) in
     let made = subst (λ (z : List ℕ). EndsOfParts d1 z (trees_at d.trees F ++ A ∷ []) (map (λ (y : Tree). y) (split B))) (sym c.deref-2.ensures.value) c.in_ok-made.ensures.ends in
     let p : map (λ (y : Tree). y) (split B) ≡ split (tree_at d1.trees b) = same_parts d.trees a (split B) ∙ sym (ap split b1) in (
       omega (arith, m, mg),
@@ -324,12 +324,14 @@ glue_forall-glue_goal-requires t c =
     let id = c.in_ok-inner.inner in
     let X = tree_at d.trees c.args.ty in
     let B = tree_at d.trees c.args.body in
-    let m : splits (tree_at d1.trees id) ≡ splits B = ap splits c.in_ok-inner.ensures.is ∙ opened_splits d c.args.goal c.args.ty c.args.body c.requires.goal c.requires.tree (Param c.args.number X) in
+    let m : splits (tree_at d1.trees id) ≡ splits B = ap splits c.in_ok-inner.ensures.is ∙ opened_splits d c.args.goal c.args.ty c.args.body c.requires.goal c.requires.tree (Param (length c.args.params.now) X) in
     let mg : splits (tree_at d.trees c.args.goal) ≡ suc (splits B) = ap splits c.requires.tree in
     let f : trees_at d1.trees F ≡ trees_at d.trees F = same d d1 x F c.requires.front in
-    let below = subst (λ (z : List Tree). AreParamsBelow (c.args.number + 1) z (tree_at d1.trees id)) (sym f) c.in_ok-inner.ensures.below in
-    let made = subst (λ (z : List ℕ). EndsOfParts d1 z (trees_at d.trees F) (split (tree_at d1.trees id))) (sym c.deref.ensures.value) c.in_ok-inner.ensures.ends in
-    let ends = subst (λ (z : List Tree). EndsOfParts d1 c.deref.result.now z (split (tree_at d1.trees id))) (sym f) made in
+    let one : length c.deref.result.now ≡ length c.args.params.now + 1 = ap length (c.deref.ensures.value ∙ c.in_ok-wider.ensures) ∙ length-append c.args.params.now (c.args.ty ∷ []) in
+    let opened = subst (λ (z : List Tree). AreParamsBelow (length c.args.params.now + 1) z (tree_at d1.trees id)) (sym f) c.in_ok-inner.ensures.below in
+    let below = subst (λ (n : ℕ). AreParamsBelow n (trees_at d1.trees F) (tree_at d1.trees id)) (sym one) opened in
+    let made = subst (λ (z : List ℕ). EndsOfParts d1 z (trees_at d.trees F) (split (tree_at d1.trees id))) (sym c.deref-2.ensures.value) c.in_ok-inner.ensures.ends in
+    let ends = subst (λ (z : List Tree). EndsOfParts d1 c.deref-2.result.now z (split (tree_at d1.trees id))) (sym f) made in
     (omega (arith, m, mg), (formulas_later d d1 x F c.requires.front, (c.in_ok-inner.ensures.formula, (below, ends))))
 
 pub glue_forall-returns-in_err-step-clause-grows : goal.glue_forall-returns-in_err-step-clause-grows
@@ -392,7 +394,7 @@ glue_forall-refute_forall-requires-clause-new t c =
     let y1 : Extends d1 d3 = Extends_trans d1 d2 d3 x2 x3 in
     let f1 = formulas_later d d1 x F c.requires.front in
     let g : tree_at d3.trees c.args.goal ≡ tree_at d.trees c.args.goal = y.trees.same c.args.goal.0 c.requires.goal.held in
-    new_below c.args.number (trees_at d3.trees F) (tree_at d3.trees c.args.goal) (below_later d d3 y F c.requires.front c.args.number (tree_at d.trees c.args.goal) (tree_at d3.trees c.args.goal) g c.requires.below)
+    new_below (length c.args.params.now) (trees_at d3.trees F) (tree_at d3.trees c.args.goal) (below_later d d3 y F c.requires.front (length c.args.params.now) (tree_at d.trees c.args.goal) (tree_at d3.trees c.args.goal) g c.requires.below)
 
 pub glue_forall-returns-clause-refutes : goal.glue_forall-returns-clause-refutes
 glue_forall-returns-clause-refutes t c =
@@ -445,7 +447,7 @@ glue_let-glue_goal-requires t c =
     let m : splits (tree_at d1.trees id) ≡ splits B = ap splits c.in_ok-inner.ensures.is ∙ valued_splits d c.args.goal c.args.value c.args.body c.requires.goal c.requires.tree (X) in
     let mg : splits (tree_at d.trees c.args.goal) ≡ suc (splits B) = ap splits c.requires.tree in
     let f : trees_at d1.trees F ≡ trees_at d.trees F = same d d1 x F c.requires.front in
-    let below = subst (λ (z : List Tree). AreParamsBelow (c.args.number) z (tree_at d1.trees id)) (sym f) c.in_ok-inner.ensures.below in
+    let below = subst (λ (z : List Tree). AreParamsBelow (length c.args.params.now) z (tree_at d1.trees id)) (sym f) c.in_ok-inner.ensures.below in
     let made = subst (λ (z : List ℕ). EndsOfParts d1 z (trees_at d.trees F) (split (tree_at d1.trees id))) (sym c.deref.ensures.value) c.in_ok-inner.ensures.ends in
     let ends = subst (λ (z : List Tree). EndsOfParts d1 c.deref.result.now z (split (tree_at d1.trees id))) (sym f) made in
     (omega (arith, m, mg), (formulas_later d d1 x F c.requires.front, (c.in_ok-inner.ensures.formula, (below, ends))))
@@ -570,7 +572,7 @@ glue_if-glue_two-requires t c =
     let mt : splits (tree_at n4.trees there) ≡ suc (splits A) = ap splits et in
     let mw : splits (tree_at n4.trees away) ≡ suc (splits B) = ap splits ew in
     let mg : splits (tree_at d.trees c.args.goal) ≡ suc (suc (suc (splits A + splits B))) = ap splits c.requires.tree in
-    let l : AreParamsBelow c.args.number (trees_at d.trees F) (Three HIf C A B) = subst (AreParamsBelow c.args.number (trees_at d.trees F)) c.requires.tree c.requires.below in
+    let l : AreParamsBelow (length c.args.params.now) (trees_at d.trees F) (Three HIf C A B) = subst (AreParamsBelow (length c.args.params.now) (trees_at d.trees F)) c.requires.tree c.requires.below in
     let e : EndsOfParts d c.args.ends.now (trees_at d.trees F) (map (imp C) (split A) ++ map (imp (neg C)) (split B)) = subst (EndsOfParts d c.args.ends.now (trees_at d.trees F)) (ap split c.requires.tree) c.requires.ends in
     let st : split (tree_at n4.trees there) ≡ map (imp C) (split A) = ap split et in
     let sw : split (tree_at n4.trees away) ≡ map (imp (neg C)) (split B) = ap split ew in
@@ -583,9 +585,9 @@ glue_if-glue_two-requires t c =
           (
             wf,
             (
-              below_later d n4 y F c.requires.front c.args.number (Two (HJoin Imp) C A) (tree_at n4.trees there) et (then_below c.args.number (trees_at d.trees F) C A B l),
+              below_later d n4 y F c.requires.front (length c.args.params.now) (Two (HJoin Imp) C A) (tree_at n4.trees there) et (then_below (length c.args.params.now) (trees_at d.trees F) C A B l),
               (
-                below_later d n4 y F c.requires.front c.args.number (Two (HJoin Imp) (neg C) B) (tree_at n4.trees away) ew (else_below c.args.number (trees_at d.trees F) C A B l),
+                below_later d n4 y F c.requires.front (length c.args.params.now) (Two (HJoin Imp) (neg C) B) (tree_at n4.trees away) ew (else_below (length c.args.params.now) (trees_at d.trees F) C A B l),
                 subst (EndsOfParts n4 c.args.ends.now (trees_at n4.trees F)) q (ends_later d n4 y F c.requires.front c.args.ends.now (map (imp C) (split A) ++ map (imp (neg C)) (split B)) e),
               ),
             ),
@@ -871,9 +873,6 @@ glue_let-open_valued-requires-clause-value_held t c = c.requires.value_held
 
 pub glue_let-returns-in_err-inner-clause-grows : goal.glue_let-returns-in_err-inner-clause-grows
 glue_let-returns-in_err-inner-clause-grows t c = c.open_valued.ensures.grows
-
-pub glue_forall-returns-then-number-eq18446744073709551615-clause-grows : goal.glue_forall-returns-then-number-eq18446744073709551615-clause-grows
-glue_forall-returns-then-number-eq18446744073709551615-clause-grows t c = AddsTrees_extends _ _ (AddsTrees_refl _)
 
 pub glue_if-negation-requires : goal.glue_if-negation-requires
 glue_if-negation-requires t c = c.requires.cond

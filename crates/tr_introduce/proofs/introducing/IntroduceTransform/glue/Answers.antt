@@ -1,4 +1,4 @@
-use Rattle.std.proofs.Common.{◌++◌, ◌∷◌, [], List, sym, ap, subst, get_or}
+use Rattle.std.proofs.Common.{◌++◌, ◌∷◌, [], List, length, sym, ap, subst, get_or}
 use Rattle.std.proofs.lemmas.Result.{IfOk-weaker}
 use Rattle.trees.specs.declared.TermId.{TermId}
 use Rattle.trees.specs.Tree.{Tree}
@@ -20,7 +20,8 @@ pub glue_goal-requires-clause-below : goal.glue_goal-requires-clause-below
 glue_goal-requires-clause-below c =
     let d = c.args.draft.now in
     let from = c.args.from.now in
-    subst (λ (z : List TermId). AreParamsBelow c.len-number.result (trees_at d.trees z) (tree_at d.trees from.goal)) (sym c.as_slice.ensures) (own_below d from c.len-number.result c.len-number.ensures c.requires.own)
+    subst (λ (z : List TermId). AreParamsBelow (length c.as_slice-params.result.now) (trees_at d.trees z) (tree_at d.trees from.goal)) (sym c.as_slice.ensures)
+    (own_below d from (length c.as_slice-params.result.now) (ap length c.as_slice-params.ensures) c.requires.own)
 
 pub returns-clause-refutes : goal.returns-clause-refutes
 returns-clause-refutes c =
@@ -39,8 +40,8 @@ pub glue_goal-requires-clause-end : goal.glue_goal-requires-clause-end
 glue_goal-requires-clause-end c =
     let d = c.args.draft.now in
     let from = c.args.from.now in
-    let n = c.len-number.result in
-    let e = own_end d from n c.args.ends.now (tasks_at d.trees c.args.to.now.items) c.len-number.ensures c.requires.own c.requires.gives c.requires.ends in
+    let n = length c.as_slice-params.result.now in
+    let e = own_end d from n c.args.ends.now (tasks_at d.trees c.args.to.now.items) (ap length c.as_slice-params.ensures) c.requires.own c.requires.gives c.requires.ends in
     subst (λ (z : List TermId). EndsDraftAt d (get_or c.args.ends.now 0 0) (trees_at d.trees z) (tree_at d.trees from.goal) n) (sym c.as_slice.ensures) e
 
 pub returns-clause-grows : goal.returns-clause-grows

@@ -1,4 +1,4 @@
-use Rattle.std.proofs.Common.{◌≡◌, ◌++◌, ◌∷◌, [], List, sym, ap, subst}
+use Rattle.std.proofs.Common.{◌≡◌, ◌++◌, ◌∷◌, [], List, length, sym, ap, subst}
 use Rattle.std.proofs.lemmas.Result.{IfOk-weaker}
 use Rattle.trees.specs.declared.TermId.{TermId}
 use Rattle.trees.specs.Tree.{Tree}
@@ -24,7 +24,8 @@ pub glue_goal-requires-clause-below : goal.glue_goal-requires-clause-below
 glue_goal-requires-clause-below c =
     let d = c.args.draft.now in
     let from = c.args.from.now in
-    subst (λ (z : List TermId). AreParamsBelow c.len-number.result (trees_at d.trees z) (tree_at d.trees from.goal)) (sym c.as_slice.ensures) (own_below d from c.len-number.result c.len-number.ensures c.requires.own)
+    subst (λ (z : List TermId). AreParamsBelow (length c.as_slice-params.result.now) (trees_at d.trees z) (tree_at d.trees from.goal)) (sym c.as_slice.ensures)
+    (own_below d from (length c.as_slice-params.result.now) (ap length c.as_slice-params.ensures) c.requires.own)
 
 pub glue_goal-requires-clause-ends : goal.glue_goal-requires-clause-ends
 glue_goal-requires-clause-ends c =
