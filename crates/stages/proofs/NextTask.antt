@@ -1,5 +1,5 @@
 -- One derivation more of those of the tasks of a stage.
-use Rattle.std.proofs.Common.{◌≡◌, ◌∙◌, ◌<◌, ◌≤◌, ◌+◌, ℕ, List, [], ◌∷◌, ◌++◌, length, map, get_or, take, drop, ap, sym, subst, arith}
+use Rattle.std.proofs.Common.{◌≡◌, ◌∙◌, ◌<◌, ◌≤◌, ◌+◌, ℕ, List, [], ◌∷◌, ◌++◌, length, get_or, take, drop, ap, sym, subst, arith}
 use Rattle.std.proofs.lemmas.List.{length-map, map-append, drop-map}
 use Rattle.std.proofs.lemmas.List.Elements.{All-push}
 use Rattle.trees.specs.Tree.{Tree}
@@ -10,15 +10,13 @@ use Rattle.tasks.specs.Meaning.{task_at, tasks_at, TasksHeld}
 use Rattle.rule_rows.specs.declared.rule.Step.{Step}
 use Rattle.rule_rows.specs.Meaning.{steps_at, StepsHeld}
 use Rattle.rule_rows.specs.Trees.{StepTree}
-use Rattle.evidence.specs.Stages.{TaskEquation, Gives, PartsClose, PartsHeld, parts_at}
+use Rattle.evidence.specs.Stages.{TaskEquation, PartsClose, PartsHeld, parts_at}
 use Rattle.kernel.specs.Right.{Closes}
 use Rattle.stages.specs.declared.lifting.Derived.{Derived}
-use Rattle.stages.specs.declared.transformation.Transformation.{Transformation}
-use Rattle.stages.specs.Transformations.{equation_of}
 use Rattle.stages.specs.Lifted.{HandedHasSequents, ListsHaveSequents, IsDerived}
-use Rattle.stages.specs.Levels.{AreRefutedOnce, AreRefutedFrom, IsFrontClosed, IsNextLevel, IsSoFar}
+use Rattle.stages.specs.Levels.{IsRefutedFirst, AreRefutedFirst, IsDerivedFirst, IsSoFar}
 use Rattle.stages.proofs.CarriedTasks.{rest_from}
-use Rattle.stages.proofs.Levels.{next_closed, far_more, from_none}
+use Rattle.stages.proofs.Levels.{next_refuted, far_more}
 use Rattle.stages.proofs.Sequents.{have_alone}
 use Rattle.stages.proofs.Copies.{parts_later, parts_held_later}
 
@@ -33,18 +31,18 @@ module _ (equation : TaskEquation) (s0 s : List Tree) (g : Grows s0 s) (tasks : 
   pub used_within : Far → used ≤ length parts
   used_within f = omega (arith, f.within, length-map parts (steps_at s0))
 
-  -- the next refutations refute what the next task becomes
-  pub next_front : (t : Task) → TasksHeld s0 tasks → PartsHeld s0 parts → t ≡ get_or tasks i t → i < length tasks → Far
-      → (us : List TaskTree) → Gives equation (task_at s t) us → IsFrontClosed us (parts_at s (drop used parts))
-  next_front t th ph is l f us e =
+  -- the next refutations are those of the next task
+  pub next_task : (t : Task) → TasksHeld s0 tasks → PartsHeld s0 parts → t ≡ get_or tasks i t → i < length tasks → Far
+      → IsRefutedFirst equation (task_at s t) (parts_at s (drop used parts))
+  next_task t th ph is l f =
       let here = rest_from s0 s g tasks i t th is l in
-      let left : AreRefutedOnce equation (task_at s t ∷ drop (i + 1) (tasks_at s0 tasks)) (drop used (parts_at s0 parts)) =
-      subst (λ (z : List TaskTree). AreRefutedOnce equation z (drop used (parts_at s0 parts))) here f.left in
-      subst (λ (z : List (List StepTree)). IsFrontClosed us z) (sym (left_parts ph)) (next_closed equation (task_at s t) (drop (i + 1) (tasks_at s0 tasks)) us (drop used (parts_at s0 parts)) left e)
+      let left : AreRefutedFirst equation (task_at s t ∷ drop (i + 1) (tasks_at s0 tasks)) (drop used (parts_at s0 parts)) =
+      subst (λ (z : List TaskTree). AreRefutedFirst equation z (drop used (parts_at s0 parts))) here f.left in
+      subst (λ (z : List (List StepTree)). IsRefutedFirst equation (task_at s t) z) (sym (left_parts ph)) (next_refuted equation (task_at s t) (drop (i + 1) (tasks_at s0 tasks)) (drop used (parts_at s0 parts)) left)
 
   -- and are one derivation more
   pub far_next : (t : Task) (r : Derived × ℕ) → TasksHeld s0 tasks → PartsHeld s0 parts → PartsHeld s lists → t ≡ get_or tasks i t → i < length tasks → Far
-      → IsNextLevel equation s (task_at s t) (parts_at s (drop used parts)) r
+      → IsDerivedFirst equation s (task_at s t) (parts_at s (drop used parts)) r
       → IsSoFar equation (tasks_at s0 tasks) (parts_at s0 parts) (i + 1) (used + r.1) (parts_at r.0.store (lists ++ r.0.steps ∷ []))
   far_next t r th ph lh is l f n =
       let here = rest_from s0 s g tasks i t th is l in
@@ -58,13 +56,8 @@ module _ (equation : TaskEquation) (s0 s : List Tree) (g : Grows s0 s) (tasks : 
       subst (λ (m : ℕ). IsSoFar equation (tasks_at s0 tasks) (parts_at s0 parts) (i + 1) (used + m) (parts_at r.0.store (lists ++ r.0.steps ∷ []))) (sym n.count)
       (subst (λ (z : List (List StepTree)). IsSoFar equation (tasks_at s0 tasks) (parts_at s0 parts) (i + 1) (used + length n.tasks) z) (sym trees) more)
 
-  pub held_next : (r : Derived × ℕ) (t : TaskTree) (handed : List (List StepTree)) → PartsHeld s lists → IsNextLevel equation s t handed r → PartsHeld r.0.store (lists ++ r.0.steps ∷ [])
+  pub held_next : (r : Derived × ℕ) (t : TaskTree) (handed : List (List StepTree)) → PartsHeld s lists → IsDerivedFirst equation s t handed r → PartsHeld r.0.store (lists ++ r.0.steps ∷ [])
   held_next r t handed lh n = All-push (StepsHeld r.0.store) lists r.0.steps (parts_held_later s r.0.store n.derived.grows lists lh) n.derived.held
-
--- without stages
-pub stages_none : (stages : List Transformation) (ts : List TaskTree) (handed : List (List StepTree)) → length stages ≡ 0 → AreRefutedFrom (map equation_of stages) ts handed → PartsClose ts handed
-stages_none [] ts handed l r = from_none ts handed r
-stages_none (x ∷ xs) ts handed l r = absurd (omega arith)
 
 -- one list alone
 pub alone_of : (s : List Tree) (t : TaskTree) (handed : List (List StepTree)) (store : List Tree) (lists : List (List Step)) (steps : List Step) → Grows s store → PartsHeld store lists

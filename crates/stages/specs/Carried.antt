@@ -39,3 +39,8 @@ carried (equation ∷ equations) n ts = and_then (at_stage n (carried_once equat
 -- a task carried through stages, the first of which has number 0
 abbrev pub carried_task : List TaskEquation → TaskTree → Result (List TaskTree) StageRefusal
 carried_task equations t = carried equations 0 (t ∷ [])
+
+-- the tasks that a task becomes by equations in order, however large they are
+abbrev pub through : List TaskEquation → TaskEquation
+through [] t = Ok (t ∷ [])
+through (equation ∷ equations) t = and_then (equation t) (all_tasks (through equations))

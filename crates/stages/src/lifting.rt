@@ -1,26 +1,25 @@
 // Refutations of the tasks that a task becomes, brought back through the stages to a derivation of the task.
 // It depends on the laws of the transformations that are built; the program depends on it.
-ghost use Rattle.std.specs.Prelude.{List, Ok, IfOk, map};
+ghost use Rattle.std.specs.Prelude.{◌∷◌, IfOk, map};
 ghost use Rattle.trees.specs.Node.{Grows};
-ghost use Rattle.tasks.specs.Task.{TaskTree};
 ghost use Rattle.tasks.specs.Meaning.{task_at, tasks_at, TaskHeld, TasksHeld};
 ghost use Rattle.tasks.specs.Valid.{IsValid};
 ghost use Rattle.kernel.specs.Right.{last_starts};
 ghost use Rattle.evidence.specs.Drafts.{Extends};
 ghost use Rattle.evidence.specs.Stages.{Gives, IsOwnTask, PartsClose, PartsHeld, parts_at};
 ghost use Rattle.stages.specs.Transformations.{equation_of};
+ghost use Rattle.stages.specs.Carried.{through};
 ghost use Rattle.stages.specs.Steps.{AreTasks, IsCopy};
 ghost use Rattle.stages.specs.Lifted.{AreDerived, AreRefuted, HandedHasSequents, IsDerived};
-ghost use Rattle.stages.specs.Levels.{AreRefutedFrom, AreRefutedOnce, IsFrontClosed, IsNextLevel};
+ghost use Rattle.stages.specs.Levels.{GivesSome, IsFrontClosed, IsRefutedFirst, AreRefutedFirst};
+ghost use Rattle.stages.specs.Levels.{IsDerivedFirst, AreDerivedFirst};
 
-use crate::carrying::carry_once;
 use crate::transformation::Transformation;
-use evidence::{Draft, Transform, finish, lift_stage};
+use evidence::{Draft, StageFault, Transform, finish, lift_stage};
 use outside::Seq;
 use rule_rows::Step;
 use std::alloc::{AllocError, Global};
 use std::rc::Rc;
-use std::slice::from_ref;
 use tasks::Task;
 use term_store::Store;
 
@@ -100,7 +99,7 @@ fn lift_one(
 }
 
 // The tasks that a task becomes by a stage, where it becomes some.
-fn tasks_again(
+fn tasks_of(
     alloc: Global,
     store: &mut Store,
     stage: &Transformation,
@@ -108,6 +107,7 @@ fn tasks_again(
 ) -> Result<Vec<Task>, AllocError>
     requires held { TaskHeld store.old task.now }
     requires valid { IsValid (task_at store.old task.now) }
+    requires gives { GivesSome (equation_of stage.now) (task_at store.old task.now) }
     ensures held { IfOk result (λ ts. TasksHeld store.new ts.items) }
     ensures tasks { IfOk result (λ ts. Gives (equation_of stage.now) (task_at store.old task.now)
         (tasks_at store.new ts.items)) }
@@ -115,53 +115,91 @@ fn tasks_again(
 {
     match stage.apply(alloc, store, task) {
         Ok(to) => Ok(to),
-        Err(_) => Err(AllocError),
+        Err(StageFault::Memory) => Err(AllocError),
+        Err(StageFault::Misplaced { decl: _ }) => unreachable!(),
+        Err(StageFault::TooLarge) => unreachable!(),
     }
 }
 
-// The derivation of one task more, from the refutations that come next, and how many those are.
-fn lift_next(
+// The derivation of a task, from the first of the refutations, those of the tasks that it becomes by a last stage, and how many
+// those are.
+fn lift_last(
     alloc: Global,
     store: Store,
     stage: &Transformation,
+    task: &Task,
+    to: &Vec<Task>,
+    rest: &[Seq<Step>],
+) -> Result<(Derived, usize), AllocError>
+    requires held { TaskHeld store task.now }
+    requires valid { IsValid (task_at store task.now) }
+    requires to_held { TasksHeld store to.now.items }
+    requires gives { Gives (equation_of stage.now) (task_at store task.now)
+        (tasks_at store to.now.items) }
+    requires rest_held { PartsHeld store rest.now }
+    requires front { IsFrontClosed (tasks_at store to.now.items) (parts_at store rest.now) }
+    ensures { IfOk result (IsDerivedFirst (equation_of stage.now) store (task_at store task.now)
+        (parts_at store rest.now)) }
+{
+    let count = to.len();
+    let derived = lift_one(alloc, store, stage, task, to, &rest[..count])?;
+    Ok((derived, count))
+}
+
+// The derivation of a task, from the first of the refutations, those of the tasks that it becomes by a stage and later ones, and
+// how many those are.
+#[cycle(lift)]
+fn lift_task(
+    alloc: Global,
+    store: Store,
+    stage: &Transformation,
+    later: &[Transformation],
     task: &Task,
     rest: &[Seq<Step>],
 ) -> Result<(Derived, usize), AllocError>
     requires held { TaskHeld store task.now }
     requires valid { IsValid (task_at store task.now) }
     requires rest_held { PartsHeld store rest.now }
-    requires close { (us : List TaskTree)
-        → Gives (equation_of stage.now) (task_at store task.now) us
-        → IsFrontClosed us (parts_at store rest.now) }
-    ensures { IfOk result (IsNextLevel (equation_of stage.now) store (task_at store task.now)
-        (parts_at store rest.now)) }
+    requires refuted { IsRefutedFirst (through (map equation_of (stage.now ∷ later.now)))
+        (task_at store task.now) (parts_at store rest.now) }
+    ensures { IfOk result (IsDerivedFirst (through (map equation_of (stage.now ∷ later.now))) store
+        (task_at store task.now) (parts_at store rest.now)) }
 {
     let mut store = store;
-    let to = tasks_again(alloc, &mut store, stage, task)?;
-    let count = to.len();
-    let derived = lift_one(alloc, store, stage, task, &to, &rest[..count])?;
-    Ok((derived, count))
+    let to = tasks_of(alloc, &mut store, stage, task)?;
+    match later.split_first() {
+        None => lift_last(alloc, store, stage, task, &to, rest),
+        Some((next, others)) => {
+            let (lifted, count) = lift_tasks(alloc, store, next, others, &to, rest)?;
+            let Parts { store, lists } = lifted;
+            let derived = lift_one(alloc, store, stage, task, &to, &lists)?;
+            Ok((derived, count))
+        }
+    }
 }
 
-// The derivations of tasks, from refutations of the tasks that they become by a stage.
-fn lift_level(
+// The derivations of tasks, each from the refutations that come next.
+#[cycle(lift)]
+fn lift_tasks(
     alloc: Global,
     store: Store,
     stage: &Transformation,
+    later: &[Transformation],
     tasks: &[Task],
-    parts: &[Seq<Step>],
-) -> Result<Parts, AllocError>
+    rest: &[Seq<Step>],
+) -> Result<(Parts, usize), AllocError>
     requires tasks { AreTasks store tasks.now }
-    requires parts_held { PartsHeld store parts.now }
-    requires refuted { AreRefutedOnce (equation_of stage.now) (tasks_at store tasks.now)
-        (parts_at store parts.now) }
-    ensures { IfOk result (AreDerived store (tasks_at store tasks.now) (parts_at store parts.now)) }
+    requires rest_held { PartsHeld store rest.now }
+    requires refuted { AreRefutedFirst (through (map equation_of (stage.now ∷ later.now)))
+        (tasks_at store tasks.now) (parts_at store rest.now) }
+    ensures { IfOk result (AreDerivedFirst (through (map equation_of (stage.now ∷ later.now))) store
+        (tasks_at store tasks.now) (parts_at store rest.now)) }
 {
     let mut store = store;
     let mut lists = Vec::with_capacity(alloc, tasks.len())?;
     let mut used = 0;
     for i in 0..tasks.len() {
-        let (derived, count) = lift_next(alloc, store, stage, &tasks[i], &parts[used..])?;
+        let (derived, count) = lift_task(alloc, store, stage, later, &tasks[i], &rest[used..])?;
         let Derived {
             store: grown,
             steps,
@@ -170,40 +208,7 @@ fn lift_level(
         store = grown;
         used += count;
     }
-    Ok(Parts { store, lists })
-}
-
-// The derivations of tasks, from refutations of the tasks that they become by stages.
-fn lift_from(
-    alloc: Global,
-    store: Store,
-    stages: &[Transformation],
-    tasks: &[Task],
-    parts: Vec<Seq<Step>>,
-) -> Result<Parts, AllocError>
-    requires tasks { AreTasks store tasks.now }
-    requires parts_held { PartsHeld store parts.items }
-    requires refuted { AreRefutedFrom (map equation_of stages.now) (tasks_at store tasks.now)
-        (parts_at store parts.items) }
-    ensures { IfOk result (AreDerived store (tasks_at store tasks.now)
-        (parts_at store parts.items)) }
-{
-    match stages.split_first() {
-        None => Ok(Parts {
-            store,
-            lists: parts,
-        }),
-        Some((stage, later)) => {
-            let mut store = store;
-            match carry_once(alloc, &mut store, stage, 0, tasks) {
-                Ok(next) => {
-                    let lifted = lift_from(alloc, store, later, &next, parts)?;
-                    lift_level(alloc, lifted.store, stage, tasks, &lifted.lists)
-                }
-                Err(_) => Err(AllocError),
-            }
-        }
-    }
+    Ok((Parts { store, lists }, used))
 }
 
 /// A derivation of a task, from refutations of the tasks that it becomes by stages, in order. For each step of a refutation it has
@@ -223,9 +228,16 @@ pub fn lift(
     requires refuted { AreRefuted stages.now (task_at store task.now) (parts_at store parts.items) }
     ensures { IfOk result (IsDerived store (task_at store task.now) (parts_at store parts.items)) }
 {
-    let lifted = lift_from(alloc, store, stages, from_ref(task), parts)?;
-    let Parts { store, lists } = lifted;
-    let mut lists = lists;
-    let steps = lists.remove(0);
-    Ok(Derived { store, steps })
+    match stages.split_first() {
+        None => {
+            let mut parts = parts;
+            let steps = parts.remove(0);
+            Ok(Derived { store, steps })
+        }
+        Some((stage, later)) => {
+            let (derived, count) = lift_task(alloc, store, stage, later, task, &parts)?;
+            let _ = count;
+            Ok(derived)
+        }
+    }
 }
