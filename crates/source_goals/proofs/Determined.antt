@@ -3,10 +3,15 @@ use Rattle.std.proofs.Common.{Ok, Err, sym, ap, ◌∙◌}
 use Rattle.goal_tasks.specs.Theories.{TheoriesTree}
 use Rattle.fault_order.specs.Order.{RunStop}
 use Rattle.theories.proofs.SameSources.{one_theories, theories_apart, one_fault}
-use Rattle.source_goals.specs.Order.{source_stop, AreDetermined}
+use Rattle.source_goals.specs.Order.{AreDetermined}
+use Rattle.source_goals.proofs.Faults.{source_stop, first_stop}
 
 pub determined : AreDetermined
 determined file (Ok a) (Ok b) x y = ap (λ (z : TheoriesTree). Ok z) (one_theories x.0 y.0 file a b x.1 y.1)
-determined file (Ok a) (Err stop) x y = absurd (theories_apart x.0 y.trees file a y.its x.1 y.first y.told)
-determined file (Err stop) (Ok b) x y = absurd (theories_apart y.0 x.trees file b x.its y.1 x.first x.told)
-determined file (Err stop) (Err other) x y = ap (λ (z : RunStop). Err z) (x.is ∙ ap source_stop (one_fault x.trees y.trees file x.its y.its x.first y.first x.told y.told) ∙ sym y.is)
+determined file (Ok a) (Err stop) x y = let n = first_stop file stop y in absurd (theories_apart x.0 n.first.0 file a n.its x.1 n.first.1 n.told)
+determined file (Err stop) (Ok b) x y = let n = first_stop file stop x in absurd (theories_apart y.0 n.first.0 file b n.its y.1 n.first.1 n.told)
+determined file (Err stop) (Err other) x y =
+    let n = first_stop file stop x in
+    let m = first_stop file other y in
+    let same = one_fault n.first.0 m.first.0 file n.its m.its n.first.1 m.first.1 n.told m.told in
+    ap (λ (z : RunStop). Err z) (n.is ∙ ap source_stop same ∙ sym m.is)

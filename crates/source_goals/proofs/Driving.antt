@@ -1,18 +1,17 @@
 -- The reader of drivers, as a part of a run.
-use Rattle.std.proofs.Common.{◌≡◌, ℕ, List, Option, Some, None, Result, Ok, Err, ap, sym}
+use Rattle.std.proofs.Common.{◌≡◌, ℕ, List, Option, Some, None, Result, Ok, Err}
 use Rattle.outside.specs.State.{Files, LibraryState}
 use Rattle.tasks.specs.declared.signature.SymbolInfo.{SymbolInfo}
 use Rattle.driver_items.specs.Symbols.{NamedTheories}
 use Rattle.driver_parts.specs.declared.driver.Driver.{Driver}
 use Rattle.driver_parts.specs.declared.fault.DriverFault.{DriverFault}
 use Rattle.driver_parts.specs.declared.fault.DriverFault.TheVariants as f
-use Rattle.driver_files.specs.Reading.{DriverStop, ReadsAs, driver_named, ReachesReading as DriverReaches}
-use Rattle.driver_files.specs.Reading as driver
+use Rattle.driver_files.specs.Reading.{ReadsAs, driver_named, ReachesReading as DriverReaches}
 use Rattle.fault_order.specs.Answers.{Answers, Reaches}
 use Rattle.fault_order.specs.declared.faults.RunFault.{RunFault}
 use Rattle.fault_order.proofs.Meeting.{told}
 use Rattle.source_goals.specs.Known.{KnownByDriver, IsKnownAs}
-use Rattle.source_goals.specs.Order.{DriverOf, or_driver_stop}
+use Rattle.source_goals.specs.Order.{DriverOf}
 use Rattle.source_goals.specs.Values.{driver_fault, next_after_driver}
 
 abbrev pub driver_in : Result Driver DriverFault → Result Driver RunFault
@@ -24,35 +23,32 @@ reached None n h = tt
 reached (Some k) n h = h
 
 module _ (known : KnownByDriver) (ss : List SymbolInfo) (ts : NamedTheories) (name : List ℕ) (k : IsKnownAs known ss ts) where
-  is : (files : Files) (limit : Option ℕ) (r : Result Driver DriverStop) → driver_named ss ts name files limit ≡ r → DriverOf known name files limit (or_driver_stop r)
-  is files limit r e = (ss, ts, k, sym (ap or_driver_stop e))
-
   pub driver_answers : (s0 s1 : LibraryState) (r : Result Driver DriverFault) → ReadsAs (driver_named ss ts name) 1 (λ d. d.next_file) s0 s1 r → Answers (DriverOf known name) 1 next_after_driver s0 s1 (driver_in r)
   driver_answers s0 s1 (Ok d) a = record {
     files = a.files;
     meets = (
       record { faults = a.meets.0.faults; absents = a.meets.0.absents },
       a.meets.1,
-      told s0.files _ _ (λ files h limit reach. is files limit (Ok d) (h limit (reached limit d.next_file reach))) a.meets.2,
+      told s0.files _ _ (λ files h limit reach. (ss, ts, k, h limit (reached limit d.next_file reach))) a.meets.2,
     );
   }
   driver_answers s0 s1 (Err f.Memory) a = record { files = a.files; meets = record { faults = a.meets.faults; absents = a.meets.absents } }
   driver_answers s0 s1 (Err (f.Absent file)) a = record {
     files = a.files;
-    meets = (record { faults = a.meets.0.faults; later = a.meets.0.later; rose = a.meets.0.rose }, told s0.files _ _ (λ files h. is files None (Err (driver.file_absent file)) h) a.meets.1);
+    meets = (record { faults = a.meets.0.faults; later = a.meets.0.later; rose = a.meets.0.rose }, told s0.files _ _ (λ files h. (ss, ts, k, h)) a.meets.1);
   }
   driver_answers s0 s1 (Err (f.ReadFault file)) a = record {
     files = a.files;
     meets = (
       record { absents = a.meets.0.absents; later = a.meets.0.later; rose = a.meets.0.rose },
       a.meets.1,
-      told s0.files _ _ (λ files h. (h.0, is files (Some file) (Err (driver.file_unread file h.0)) h.1, h.2)) a.meets.2,
+      told s0.files _ _ (λ files h. (h.0, (ss, ts, k, h.1), h.2)) a.meets.2,
     );
   }
-  driver_answers s0 s1 (Err (f.TooLong file)) a = record { files = a.files; meets = (record { faults = a.meets.0.faults; absents = a.meets.0.absents }, told s0.files _ _ (λ files h. is files None (Err (driver.file_refused (f.TooLong file))) h) a.meets.1) }
-  driver_answers s0 s1 (Err (f.DriverSyntax file byte)) a = record { files = a.files; meets = (record { faults = a.meets.0.faults; absents = a.meets.0.absents }, told s0.files _ _ (λ files h. is files None (Err (driver.file_refused (f.DriverSyntax file byte))) h) a.meets.1) }
-  driver_answers s0 s1 (Err (f.UnknownTransformation file byte)) a = record { files = a.files; meets = (record { faults = a.meets.0.faults; absents = a.meets.0.absents }, told s0.files _ _ (λ files h. is files None (Err (driver.file_refused (f.UnknownTransformation file byte))) h) a.meets.1) }
-  driver_answers s0 s1 (Err (f.BadTemplate file byte)) a = record { files = a.files; meets = (record { faults = a.meets.0.faults; absents = a.meets.0.absents }, told s0.files _ _ (λ files h. is files None (Err (driver.file_refused (f.BadTemplate file byte))) h) a.meets.1) }
-  driver_answers s0 s1 (Err (f.UnknownSymbol file byte)) a = record { files = a.files; meets = (record { faults = a.meets.0.faults; absents = a.meets.0.absents }, told s0.files _ _ (λ files h. is files None (Err (driver.file_refused (f.UnknownSymbol file byte))) h) a.meets.1) }
-  driver_answers s0 s1 (Err (f.ImportCycle file byte)) a = record { files = a.files; meets = (record { faults = a.meets.0.faults; absents = a.meets.0.absents }, told s0.files _ _ (λ files h. is files None (Err (driver.file_refused (f.ImportCycle file byte))) h) a.meets.1) }
-  driver_answers s0 s1 (Err (f.UnknownPrinter file byte)) a = record { files = a.files; meets = (record { faults = a.meets.0.faults; absents = a.meets.0.absents }, told s0.files _ _ (λ files h. is files None (Err (driver.file_refused (f.UnknownPrinter file byte))) h) a.meets.1) }
+  driver_answers s0 s1 (Err (f.TooLong file)) a = record { files = a.files; meets = (record { faults = a.meets.0.faults; absents = a.meets.0.absents }, told s0.files _ _ (λ files h. (ss, ts, k, h)) a.meets.1) }
+  driver_answers s0 s1 (Err (f.DriverSyntax file byte)) a = record { files = a.files; meets = (record { faults = a.meets.0.faults; absents = a.meets.0.absents }, told s0.files _ _ (λ files h. (ss, ts, k, h)) a.meets.1) }
+  driver_answers s0 s1 (Err (f.UnknownTransformation file byte)) a = record { files = a.files; meets = (record { faults = a.meets.0.faults; absents = a.meets.0.absents }, told s0.files _ _ (λ files h. (ss, ts, k, h)) a.meets.1) }
+  driver_answers s0 s1 (Err (f.BadTemplate file byte)) a = record { files = a.files; meets = (record { faults = a.meets.0.faults; absents = a.meets.0.absents }, told s0.files _ _ (λ files h. (ss, ts, k, h)) a.meets.1) }
+  driver_answers s0 s1 (Err (f.UnknownSymbol file byte)) a = record { files = a.files; meets = (record { faults = a.meets.0.faults; absents = a.meets.0.absents }, told s0.files _ _ (λ files h. (ss, ts, k, h)) a.meets.1) }
+  driver_answers s0 s1 (Err (f.ImportCycle file byte)) a = record { files = a.files; meets = (record { faults = a.meets.0.faults; absents = a.meets.0.absents }, told s0.files _ _ (λ files h. (ss, ts, k, h)) a.meets.1) }
+  driver_answers s0 s1 (Err (f.UnknownPrinter file byte)) a = record { files = a.files; meets = (record { faults = a.meets.0.faults; absents = a.meets.0.absents }, told s0.files _ _ (λ files h. (ss, ts, k, h)) a.meets.1) }

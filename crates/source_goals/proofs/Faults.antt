@@ -1,5 +1,5 @@
 -- What a refusal of a step says, at the fault that is told.
-use Rattle.std.proofs.Common.{◌≡◌, ◌↔◌, ℕ, List, Result, Err, refl, subst}
+use Rattle.std.proofs.Common.{◌≡◌, ◌≢◌, ◌↔◌, ℕ, List, Result, Err, refl, subst}
 use Rattle.trees.specs.Tree.{Tree}
 use Rattle.tokens_why.specs.Tokens.{LexicalAt, BigLiteralAt, UnlessMemory}
 use Rattle.tokens_why.specs.declared.fault.LexFault.{LexFault}
@@ -10,7 +10,9 @@ use Rattle.theory_states.specs.declared.fault.SourceFault.TheVariants as of_sour
 use Rattle.theory_states.specs.Uses.{OrMemory}
 use Rattle.theories.specs.Files.{IsFirstSourceFault}
 use Rattle.fault_order.specs.Answers.{IsStageAnswer}
-use Rattle.source_goals.specs.Order.{Declares}
+use Rattle.fault_order.specs.Order.{RunStop, refused, misused}
+use Rattle.fault_order.specs.declared.faults.Fault.TheVariants as of_run
+use Rattle.source_goals.specs.Order.{HasFirstFault, HasNoTheories, Declares}
 use Rattle.source_goals.specs.Values.{source_fault}
 
 abbrev refusal : (V : Type 0) → LexFault → Result V LexFault
@@ -32,16 +34,56 @@ big_literal_at V bytes fault byte is says = let at : SaysBig V bytes (BigLiteral
 -- the first fault of a file's theories
 pub no_theories : (s : List Tree) (file : List SyntaxTheory) (f : SourceFault) → OrMemory (IsFirstSourceFault s file) f → IsStageAnswer (Declares file) (Err (source_fault f))
 no_theories s file of_source.Memory h = tt
-no_theories s file (of_source.Unknown decl token) h = record { trees = s; its = of_source.Unknown decl token; told = λ e. cc; first = h; is = refl }
-no_theories s file (of_source.Duplicate decl token) h = record { trees = s; its = of_source.Duplicate decl token; told = λ e. cc; first = h; is = refl }
-no_theories s file (of_source.WrongKind decl token) h = record { trees = s; its = of_source.WrongKind decl token; told = λ e. cc; first = h; is = refl }
-no_theories s file (of_source.Arity decl token) h = record { trees = s; its = of_source.Arity decl token; told = λ e. cc; first = h; is = refl }
-no_theories s file (of_source.Clash decl k) h = record { trees = s; its = of_source.Clash decl k; told = λ e. cc; first = h; is = refl }
-no_theories s file (of_source.Undetermined decl token) h = record { trees = s; its = of_source.Undetermined decl token; told = λ e. cc; first = h; is = refl }
-no_theories s file (of_source.NotExhaustive decl token) h = record { trees = s; its = of_source.NotExhaustive decl token; told = λ e. cc; first = h; is = refl }
-no_theories s file (of_source.BadClause decl clause) h = record { trees = s; its = of_source.BadClause decl clause; told = λ e. cc; first = h; is = refl }
-no_theories s file (of_source.NotPositive decl clause) h = record { trees = s; its = of_source.NotPositive decl clause; told = λ e. cc; first = h; is = refl }
-no_theories s file (of_source.NotStructural decl) h = record { trees = s; its = of_source.NotStructural decl; told = λ e. cc; first = h; is = refl }
-no_theories s file (of_source.GroupTooWide decl) h = record { trees = s; its = of_source.GroupTooWide decl; told = λ e. cc; first = h; is = refl }
-no_theories s file (of_source.Uninhabited decl) h = record { trees = s; its = of_source.Uninhabited decl; told = λ e. cc; first = h; is = refl }
-no_theories s file (of_source.BadSubstitution decl token) h = record { trees = s; its = of_source.BadSubstitution decl token; told = λ e. cc; first = h; is = refl }
+no_theories s file (of_source.Unknown decl token) h = (s, h)
+no_theories s file (of_source.Duplicate decl token) h = (s, h)
+no_theories s file (of_source.WrongKind decl token) h = (s, h)
+no_theories s file (of_source.Arity decl token) h = (s, h)
+no_theories s file (of_source.Clash decl k) h = (s, h)
+no_theories s file (of_source.Undetermined decl token) h = (s, h)
+no_theories s file (of_source.NotExhaustive decl token) h = (s, h)
+no_theories s file (of_source.BadClause decl clause) h = (s, h)
+no_theories s file (of_source.NotPositive decl clause) h = (s, h)
+no_theories s file (of_source.NotStructural decl) h = (s, h)
+no_theories s file (of_source.GroupTooWide decl) h = (s, h)
+no_theories s file (of_source.Uninhabited decl) h = (s, h)
+no_theories s file (of_source.BadSubstitution decl token) h = (s, h)
+
+-- the stop of a run that a fault of a source is; none is want of memory
+abbrev pub source_stop : SourceFault → RunStop
+source_stop of_source.Memory = misused
+source_stop (of_source.Unknown decl token) = refused (of_run.Unknown decl token)
+source_stop (of_source.Duplicate decl token) = refused (of_run.Duplicate decl token)
+source_stop (of_source.WrongKind decl token) = refused (of_run.WrongKind decl token)
+source_stop (of_source.Arity decl token) = refused (of_run.Arity decl token)
+source_stop (of_source.Clash decl k) = refused (of_run.Clash decl k)
+source_stop (of_source.Undetermined decl token) = refused (of_run.Undetermined decl token)
+source_stop (of_source.NotExhaustive decl token) = refused (of_run.NotExhaustive decl token)
+source_stop (of_source.BadClause decl clause) = refused (of_run.BadClause decl clause)
+source_stop (of_source.NotPositive decl clause) = refused (of_run.NotPositive decl clause)
+source_stop (of_source.NotStructural decl) = refused (of_run.NotStructural decl)
+source_stop (of_source.GroupTooWide decl) = refused (of_run.GroupTooWide decl)
+source_stop (of_source.Uninhabited decl) = refused (of_run.Uninhabited decl)
+source_stop (of_source.BadSubstitution decl token) = refused (of_run.BadSubstitution decl token)
+
+-- a first fault, told as a stop of a run
+pub record FirstStop (file : List SyntaxTheory) (stop : RunStop) : Type 0 where
+  pub its : SourceFault
+  pub told : its ≢ of_source.Memory
+  pub first : HasFirstFault file its
+  pub is : stop ≡ source_stop its
+
+pub first_stop : (file : List SyntaxTheory) (stop : RunStop) → HasNoTheories file stop → FirstStop file stop
+first_stop file (refused (of_run.Unknown decl token)) h = record { its = of_source.Unknown decl token; told = λ e. cc; first = h; is = refl }
+first_stop file (refused (of_run.Duplicate decl token)) h = record { its = of_source.Duplicate decl token; told = λ e. cc; first = h; is = refl }
+first_stop file (refused (of_run.WrongKind decl token)) h = record { its = of_source.WrongKind decl token; told = λ e. cc; first = h; is = refl }
+first_stop file (refused (of_run.Arity decl token)) h = record { its = of_source.Arity decl token; told = λ e. cc; first = h; is = refl }
+first_stop file (refused (of_run.Clash decl k)) h = record { its = of_source.Clash decl k; told = λ e. cc; first = h; is = refl }
+first_stop file (refused (of_run.Undetermined decl token)) h = record { its = of_source.Undetermined decl token; told = λ e. cc; first = h; is = refl }
+first_stop file (refused (of_run.NotExhaustive decl token)) h = record { its = of_source.NotExhaustive decl token; told = λ e. cc; first = h; is = refl }
+first_stop file (refused (of_run.BadClause decl clause)) h = record { its = of_source.BadClause decl clause; told = λ e. cc; first = h; is = refl }
+first_stop file (refused (of_run.NotPositive decl clause)) h = record { its = of_source.NotPositive decl clause; told = λ e. cc; first = h; is = refl }
+first_stop file (refused (of_run.NotStructural decl)) h = record { its = of_source.NotStructural decl; told = λ e. cc; first = h; is = refl }
+first_stop file (refused (of_run.GroupTooWide decl)) h = record { its = of_source.GroupTooWide decl; told = λ e. cc; first = h; is = refl }
+first_stop file (refused (of_run.Uninhabited decl)) h = record { its = of_source.Uninhabited decl; told = λ e. cc; first = h; is = refl }
+first_stop file (refused (of_run.BadSubstitution decl token)) h = record { its = of_source.BadSubstitution decl token; told = λ e. cc; first = h; is = refl }
+first_stop file _ h = absurd h

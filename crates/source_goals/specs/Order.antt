@@ -1,6 +1,6 @@
 -- From a source's bytes to the task of a goal and the driver that it goes through, or what is first in the way: the bytes'
 -- tokens, their file, its theories; the driver; then the theory and the goal by their names.
-use Rattle.std.specs.Prelude.{◌≡◌, ◌≢◌, ℕ, List, Option, Some, None, Result, Ok, Err}
+use Rattle.std.specs.Prelude.{◌≡◌, ℕ, List, Option, Some, None, Result, Ok, Err}
 use Rattle.trees.specs.Tree.{Tree}
 use Rattle.tasks.specs.Task.{TaskTree}
 use Rattle.tasks.specs.declared.signature.SymbolInfo.{SymbolInfo}
@@ -12,7 +12,6 @@ use Rattle.recognise_why.specs.Depth.{IsTooDeep, IsShallow}
 use Rattle.recognise_why.specs.Sources.{IsFileFault, IsOnlyFile, IsProgramDecl}
 use Rattle.driver_items.specs.Symbols.{NamedTheories as NamedTheories}
 use Rattle.driver_parts.specs.declared.driver.Driver.{Driver}
-use Rattle.driver_parts.specs.declared.fault.DriverFault.{DriverFault}
 use Rattle.driver_parts.specs.declared.fault.DriverFault.TheVariants as driver_fault
 use Rattle.driver_files.specs.Reading.{DriverStop, driver_named}
 use Rattle.driver_files.specs.Reading as driver
@@ -22,7 +21,7 @@ use Rattle.theory_states.specs.declared.fault.SourceFault.{SourceFault}
 use Rattle.theory_states.specs.declared.fault.SourceFault.TheVariants as source_fault
 use Rattle.theories.specs.Files.{TheoriesOf, IsFirstSourceFault}
 use Rattle.fault_order.specs.declared.faults.Fault.TheVariants as fault
-use Rattle.fault_order.specs.Order.{RunStop, refused, absent, unread, misused, Stage, Answer, After, HasOneAnswer, StageMeaning, ShortFile}
+use Rattle.fault_order.specs.Order.{RunStop, refused, absent, unread, Stage, Answer, After, HasOneAnswer, StageMeaning, ShortFile}
 use Rattle.source_goals.specs.Known.{KnownByDriver, known_of, IsKnownAs}
 
 -- ---- the theories of a source
@@ -49,30 +48,26 @@ abbrev pub Parses : List Lexeme → Stage (List SyntaxTheory)
 Parses xs (Ok file) = IsShallow (terminals xs) × IsOnlyFile xs file
 Parses xs (Err stop) = IsNoFile xs stop
 
--- 20 to 40, as faults of a run
-abbrev pub source_stop : SourceFault → RunStop
-source_stop source_fault.Memory = misused
-source_stop (source_fault.Unknown decl token) = refused (fault.Unknown decl token)
-source_stop (source_fault.Duplicate decl token) = refused (fault.Duplicate decl token)
-source_stop (source_fault.WrongKind decl token) = refused (fault.WrongKind decl token)
-source_stop (source_fault.Arity decl token) = refused (fault.Arity decl token)
-source_stop (source_fault.Clash decl k) = refused (fault.Clash decl k)
-source_stop (source_fault.Undetermined decl token) = refused (fault.Undetermined decl token)
-source_stop (source_fault.NotExhaustive decl token) = refused (fault.NotExhaustive decl token)
-source_stop (source_fault.BadClause decl clause) = refused (fault.BadClause decl clause)
-source_stop (source_fault.NotPositive decl clause) = refused (fault.NotPositive decl clause)
-source_stop (source_fault.NotStructural decl) = refused (fault.NotStructural decl)
-source_stop (source_fault.GroupTooWide decl) = refused (fault.GroupTooWide decl)
-source_stop (source_fault.Uninhabited decl) = refused (fault.Uninhabited decl)
-source_stop (source_fault.BadSubstitution decl token) = refused (fault.BadSubstitution decl token)
+-- over some store, this is the first fault of a file's theories
+abbrev pub HasFirstFault : List SyntaxTheory → SourceFault → Type 0
+HasFirstFault file f = (trees : List Tree) × IsFirstSourceFault trees file f
 
--- the first fault of a file's theories, typed over some store
-pub record HasNoTheories (file : List SyntaxTheory) (stop : RunStop) : Type 0 where
-  pub trees : List Tree
-  pub its : SourceFault
-  pub told : its ≢ source_fault.Memory
-  pub first : IsFirstSourceFault trees file its
-  pub is : stop ≡ source_stop its
+-- why a file has no theories: 20 to 40, at its first fault
+abbrev pub HasNoTheories : List SyntaxTheory → RunStop → Type 0
+HasNoTheories file (refused (fault.Unknown decl token)) = HasFirstFault file (source_fault.Unknown decl token)
+HasNoTheories file (refused (fault.Duplicate decl token)) = HasFirstFault file (source_fault.Duplicate decl token)
+HasNoTheories file (refused (fault.WrongKind decl token)) = HasFirstFault file (source_fault.WrongKind decl token)
+HasNoTheories file (refused (fault.Arity decl token)) = HasFirstFault file (source_fault.Arity decl token)
+HasNoTheories file (refused (fault.Clash decl k)) = HasFirstFault file (source_fault.Clash decl k)
+HasNoTheories file (refused (fault.Undetermined decl token)) = HasFirstFault file (source_fault.Undetermined decl token)
+HasNoTheories file (refused (fault.NotExhaustive decl token)) = HasFirstFault file (source_fault.NotExhaustive decl token)
+HasNoTheories file (refused (fault.BadClause decl clause)) = HasFirstFault file (source_fault.BadClause decl clause)
+HasNoTheories file (refused (fault.NotPositive decl clause)) = HasFirstFault file (source_fault.NotPositive decl clause)
+HasNoTheories file (refused (fault.NotStructural decl)) = HasFirstFault file (source_fault.NotStructural decl)
+HasNoTheories file (refused (fault.GroupTooWide decl)) = HasFirstFault file (source_fault.GroupTooWide decl)
+HasNoTheories file (refused (fault.Uninhabited decl)) = HasFirstFault file (source_fault.Uninhabited decl)
+HasNoTheories file (refused (fault.BadSubstitution decl token)) = HasFirstFault file (source_fault.BadSubstitution decl token)
+HasNoTheories file _ = ⊥
 
 -- the theories of a file
 abbrev pub Declares : List SyntaxTheory → Stage TheoriesTree
@@ -113,32 +108,24 @@ abbrev pub Goal : List ℕ → List ℕ → List ℕ → StageMeaning TaskTree
 Goal src theory goal files limit = After (SourceTheoriesOf src files limit) (TaskOf theory goal)
 
 -- ---- the driver
--- 15 and 50 to 55, as faults of a run
-abbrev pub driver_refused : DriverFault → RunStop
-driver_refused driver_fault.Memory = misused
-driver_refused (driver_fault.Absent file) = absent file
-driver_refused (driver_fault.ReadFault file) = misused
-driver_refused (driver_fault.TooLong file) = refused (fault.TooLong file)
-driver_refused (driver_fault.DriverSyntax file byte) = refused (fault.DriverSyntax file byte)
-driver_refused (driver_fault.UnknownTransformation file byte) = refused (fault.UnknownTransformation file byte)
-driver_refused (driver_fault.BadTemplate file byte) = refused (fault.BadTemplate file byte)
-driver_refused (driver_fault.UnknownSymbol file byte) = refused (fault.UnknownSymbol file byte)
-driver_refused (driver_fault.ImportCycle file byte) = refused (fault.ImportCycle file byte)
-driver_refused (driver_fault.UnknownPrinter file byte) = refused (fault.UnknownPrinter file byte)
-
-abbrev pub driver_stop : DriverStop → RunStop
-driver_stop (driver.file_refused its) = driver_refused its
-driver_stop (driver.file_absent file) = absent file
-driver_stop (driver.file_unread file name) = unread file name
-
-abbrev pub or_driver_stop : Result Driver DriverStop → Result Driver RunStop
-or_driver_stop (Ok d) = Ok d
-or_driver_stop (Err stop) = Err (driver_stop stop)
+-- what the reading of a driver's files gives is the driver, or why there is none: a file that is absent or can't be read, or 15 and 50 to 55
+abbrev pub IsDriverOr : Result Driver DriverStop → Stage Driver
+IsDriverOr found (Ok d) = found ≡ Ok d
+IsDriverOr found (Err (absent file)) = found ≡ Err (driver.file_absent file)
+IsDriverOr found (Err (unread file name)) = found ≡ Err (driver.file_unread file name)
+IsDriverOr found (Err (refused (fault.TooLong file))) = found ≡ Err (driver.file_refused (driver_fault.TooLong file))
+IsDriverOr found (Err (refused (fault.DriverSyntax file byte))) = found ≡ Err (driver.file_refused (driver_fault.DriverSyntax file byte))
+IsDriverOr found (Err (refused (fault.UnknownTransformation file byte))) = found ≡ Err (driver.file_refused (driver_fault.UnknownTransformation file byte))
+IsDriverOr found (Err (refused (fault.BadTemplate file byte))) = found ≡ Err (driver.file_refused (driver_fault.BadTemplate file byte))
+IsDriverOr found (Err (refused (fault.UnknownSymbol file byte))) = found ≡ Err (driver.file_refused (driver_fault.UnknownSymbol file byte))
+IsDriverOr found (Err (refused (fault.ImportCycle file byte))) = found ≡ Err (driver.file_refused (driver_fault.ImportCycle file byte))
+IsDriverOr found (Err (refused (fault.UnknownPrinter file byte))) = found ≡ Err (driver.file_refused (driver_fault.UnknownPrinter file byte))
+IsDriverOr found (Err _) = ⊥
 
 -- the driver of a file, whose number is 1, over what is known
 abbrev pub DriverOf : KnownByDriver → List ℕ → StageMeaning Driver
 DriverOf known drv files limit r =
-    (symbols : List SymbolInfo) × (theories : NamedTheories) × IsKnownAs known symbols theories × (r ≡ or_driver_stop (driver_named symbols theories drv files limit))
+    (symbols : List SymbolInfo) × (theories : NamedTheories) × IsKnownAs known symbols theories × IsDriverOr (driver_named symbols theories drv files limit) r
 
 -- ---- a goal under a driver
 -- a goal's task, and the driver that it goes through
