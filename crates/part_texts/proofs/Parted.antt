@@ -9,7 +9,6 @@ use Rattle.tasks.specs.Task.{SymbolTree, int_symbol, TaskTree, symbol_or}
 use Rattle.tasks.specs.Meaning.{symbol_at, symbols_at, task_at, tasks_at}
 use Rattle.driver_parts.specs.declared.driver.Driver.{Driver}
 use Rattle.name_entries.specs.declared.names.NameEntry.{NameEntry}
-use Rattle.name_tables.specs.Tables.{problem_names}
 use Rattle.printed_problems.specs.declared.fault.PrintFault.{PrintFault}
 use Rattle.printed_problems.specs.declared.printed.Problem.{Problem}
 use Rattle.printed_problems.specs.Faults.{print_fault}
@@ -40,18 +39,18 @@ texts_step s d tasks i t old new all is l e so =
     ap (λ z. z ++ rest) e ∙ append_assoc old (part_text d (i + 1) n (task_at s t)) rest
     ∙ ap (λ (ts : List Task). old ++ texts_from d (i + 1) n (tasks_at s ts)) (sym (left_at tasks i t is l)) ∙ so
 
-pub names_step : (s : List Tree) (tasks : List Task) (i : ℕ) (t : Task) (symbols : List SymbolTree) (names : List NameEntry) (old new all : List ℕ) → t ≡ get_or tasks i t → i < length tasks
-    → names ≡ problem_names (task_at s t) → symbols ≡ (task_at s t).symbols
+pub names_step : (s : List Tree) (d : Driver) (tasks : List Task) (i : ℕ) (t : Task) (symbols : List SymbolTree) (names : List NameEntry) (old new all : List ℕ) → t ≡ get_or tasks i t → i < length tasks
+    → names ≡ (problem_of d (task_at s t)).names → symbols ≡ (task_at s t).symbols
     → new ≡ old ++ name_text (i + 1) (length tasks) symbols names
-    → old ++ names_from (i + 1) (length tasks) (tasks_at s (drop i tasks)) ≡ all
-    → new ++ names_from (i + 1 + 1) (length tasks) (tasks_at s (drop (i + 1) tasks)) ≡ all
-names_step s tasks i t symbols names old new all is l its their e so =
+    → old ++ names_from d (i + 1) (length tasks) (tasks_at s (drop i tasks)) ≡ all
+    → new ++ names_from d (i + 1 + 1) (length tasks) (tasks_at s (drop (i + 1) tasks)) ≡ all
+names_step s d tasks i t symbols names old new all is l its their e so =
     let n = length tasks in
-    let rest = names_from (i + 1 + 1) n (tasks_at s (drop (i + 1) tasks)) in
-    let own = name_text (i + 1) n (task_at s t).symbols (problem_names (task_at s t)) in
+    let rest = names_from d (i + 1 + 1) n (tasks_at s (drop (i + 1) tasks)) in
+    let own = name_text (i + 1) n (task_at s t).symbols (problem_of d (task_at s t)).names in
     let f : new ≡ old ++ own = e ∙ ap (λ (ks : List SymbolTree). old ++ name_text (i + 1) n ks names) their ∙ ap (λ (ns : List NameEntry). old ++ name_text (i + 1) n (task_at s t).symbols ns) its in
     ap (λ z. z ++ rest) f ∙ append_assoc old own rest
-    ∙ ap (λ (ts : List Task). old ++ names_from (i + 1) n (tasks_at s ts)) (sym (left_at tasks i t is l)) ∙ so
+    ∙ ap (λ (ts : List Task). old ++ names_from d (i + 1) n (tasks_at s ts)) (sym (left_at tasks i t is l)) ∙ so
 
 -- there are as many problems as tasks
 pub as_many : (s : List Tree) (d : Driver) (tasks : List Task) (ps : List Problem) → AreProblems s d (tasks_at s tasks) ps → length ps ≡ length tasks
@@ -73,7 +72,7 @@ problem_there s d tasks ps i t p a t_is p_is l =
       is = sym left ∙ ap (λ (qs : List ProblemTree). get_or qs i due) a.are ∙ right;
     }
 
-pub names_there : (s : List Tree) (d : Driver) (t : TaskTree) (p : Problem) → IsProblem s (problem_of d t) p → p.names ≡ problem_names t
+pub names_there : (s : List Tree) (d : Driver) (t : TaskTree) (p : Problem) → IsProblem s (problem_of d t) p → p.names ≡ (problem_of d t).names
 names_there s d t p h = ap (λ (q : ProblemTree). q.names) h.is
 
 -- one problem more

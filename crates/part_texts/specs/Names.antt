@@ -8,7 +8,8 @@ use Rattle.name_entries.specs.declared.names.NameOf.{NameOf}
 use Rattle.name_entries.specs.declared.names.NameOf.TheVariants.{Int, Rigid, Symbol}
 use Rattle.name_entries.specs.declared.names.NameEntry.{NameEntry}
 use Rattle.name_tables.specs.Spelling.{own_name, is_spelt_byte}
-use Rattle.name_tables.specs.Tables.{problem_names}
+use Rattle.driver_parts.specs.declared.driver.Driver.{Driver}
+use Rattle.printed_problems.specs.Problems.{problem_of}
 
 -- a name without scopes that begins with an operator's character is an operator's
 abbrev pub is_operator_name : List ℕ → Bool
@@ -55,10 +56,10 @@ part_head part parts = codes "; " ++ decimal part ++ codes " of " ++ decimal par
 abbrev pub name_text : ℕ → ℕ → List SymbolTree → List NameEntry → List ℕ
 name_text part parts symbols names = part_head part parts ++ flat_map (entry_line symbols names) names
 
-abbrev pub names_from : ℕ → ℕ → List TaskTree → List ℕ
-names_from part parts [] = []
-names_from part parts (t ∷ ts) = name_text part parts t.symbols (problem_names t) ++ names_from (part + 1) parts ts
+abbrev pub names_from : Driver → ℕ → ℕ → List TaskTree → List ℕ
+names_from d part parts [] = []
+names_from d part parts (t ∷ ts) = name_text part parts t.symbols (problem_of d t).names ++ names_from d (part + 1) parts ts
 
--- the tables of the problems of parts
-abbrev pub name_texts : List TaskTree → List ℕ
-name_texts ts = names_from 1 (length ts) ts
+-- the tables of the problems of parts under a driver
+abbrev pub name_texts : Driver → List TaskTree → List ℕ
+name_texts d ts = names_from d 1 (length ts) ts

@@ -230,7 +230,8 @@ pub fn name_texts(
     requires held { TasksHeld store.now tasks.now }
     requires problems { AreProblems store.now driver.now (tasks_at store.now tasks.now)
         problems.now }
-    ensures { IfOk result (λ v. v.items ≡ name_texts (tasks_at store.now tasks.now)) }
+    ensures { IfOk result (λ v. v.items ≡ name_texts driver.now (tasks_at store.now
+        tasks.now)) }
 {
     let _ = store;
     let _ = driver;

@@ -1,5 +1,5 @@
 -- The files of refutations, read one after another.
-use Rattle.std.proofs.Common.{◌≡◌, ◌≤◌, ◌<◌, ◌+◌, ◌-◌, ◌∙◌, ℕ, zero, suc, List, [], ◌∷◌, ◌++◌, length, get_or, map, All, Result, Ok, Err, String, Global, string_bytes, inl, inr, refl, sym, ap, subst, arith, add-one}
+use Rattle.std.proofs.Common.{◌≡◌, ◌≤◌, ◌<◌, ◌+◌, ◌-◌, ◌∙◌, ℕ, zero, suc, List, [], ◌∷◌, ◌++◌, length, get_or, map, Result, Ok, Err, String, Global, string_bytes, inl, inr, refl, sym, ap, subst, arith, add-one}
 use Rattle.std.proofs.lemmas.List.{length-append, get_or-map, get_or_append_left}
 use Rattle.std.proofs.lemmas.List.Elements.{All-append, All-cons, All-nil}
 use Rattle.std.proofs.lemmas.Bool.{cases_lt}
@@ -17,6 +17,7 @@ use Rattle.rule_rows.specs.Meaning.{steps_at, StepsHeld}
 use Rattle.kernel.proofs.Growth.{steps_later, steps_held_later}
 use Rattle.evidence.specs.Stages.{task_or, no_task, parts_at, part_or, PartsHeld, PartsClose}
 use Rattle.kernel.specs.Right.{Closes}
+use Rattle.driver_parts.specs.declared.driver.Driver.{Driver}
 use Rattle.fault_order.specs.Answers.{Answers}
 use Rattle.fault_order.specs.Order.{StageMeaning, Answer, After}
 use Rattle.program.specs.Order.{PartFile, FirstFiles, name_with_number}
@@ -75,46 +76,46 @@ close_all parts handed n e a = record { as_many = a.as_many ∙ e; each = λ i l
 pub name_at : (names : List (String Global)) (i : ℕ) (x : String Global) (name : List ℕ) → x ≡ get_or names i x → i < length names → name ≡ string_bytes x → name ≡ name_with_number (map string_bytes names) i
 name_at names i x name is l e = e ∙ ap string_bytes is ∙ sym (get_or-map string_bytes names i x [] l)
 
-module _ (first : ℕ) (parts : List TaskTree) (names : List (List ℕ)) where
+module _ (d : Driver) (parts : List TaskTree) (names : List (List ℕ)) where
   -- what is left after the first k files
-  abbrev next_file : ℕ → List (List StepTree) → StageMeaning (List (List StepTree))
-  next_file k handed files limit = After (PartFile first k (task_or parts k) (name_with_number names k) files limit) (λ steps. Answer (Ok (handed ++ steps ∷ [])))
+  abbrev file_after : ℕ → List (List StepTree) → StageMeaning (List (List StepTree))
+  file_after k handed files limit = After (PartFile d k (task_or parts k) (name_with_number names k) files limit) (λ steps. Answer (Ok (handed ++ steps ∷ [])))
 
   abbrev added : List (List StepTree) → List StepTree → StageMeaning (List (List StepTree))
   added handed steps files limit = Answer (Ok (handed ++ steps ∷ []))
 
-module _ (first : ℕ) (parts : List TaskTree) (names : List (List ℕ)) {s0 s1 s2 : LibraryState} where
+module _ (d : Driver) (parts : List TaskTree) (names : List (List ℕ)) {s0 s1 s2 : LibraryState} where
   -- one file more
-  pub files_more : (k : ℕ) (handed : List (List StepTree)) (steps : List StepTree) → Answers (FirstFiles first parts names k) first (λ _. k + first) s0 s1 (Ok handed)
-      → Answers (PartFile first k (task_or parts k) (name_with_number names k)) (k + first) (λ _. k + first + 1) s1 s2 (Ok steps)
-      → Answers (FirstFiles first parts names (k + 1)) first (λ _. k + 1 + first) s0 s2 (Ok (handed ++ steps ∷ []))
+  pub files_more : (k : ℕ) (handed : List (List StepTree)) (steps : List StepTree) → Answers (FirstFiles d parts names k) d.next_file (λ _. k + d.next_file) s0 s1 (Ok handed)
+      → Answers (PartFile d k (task_or parts k) (name_with_number names k)) (k + d.next_file) (λ _. k + d.next_file + 1) s1 s2 (Ok steps)
+      → Answers (FirstFiles d parts names (k + 1)) d.next_file (λ _. k + 1 + d.next_file) s0 s2 (Ok (handed ++ steps ∷ []))
   files_more k handed steps one two =
-      let e : k + first + 1 ≡ k + 1 + first = omega arith in
+      let e : k + d.next_file + 1 ≡ k + 1 + d.next_file = omega arith in
       let r : Result (List (List StepTree)) RunFault = Ok (handed ++ steps ∷ []) in
-      let whole : Answers (FirstFiles first parts names (suc k)) first (λ _. k + first + 1) s0 s2 r = answers_then (next_file first parts names k) one (answers_then (added first parts names handed) two (answers_value {next = λ _. k + first + 1} (omega arith) (λ files limit. refl))) in
-      let here : Answers (FirstFiles first parts names (k + 1)) first (λ _. k + first + 1) s0 s2 r = subst (λ (n : ℕ). Answers (FirstFiles first parts names n) first (λ _. k + first + 1) s0 s2 r) (sym (add-one k)) whole in
-      subst (λ (n : ℕ). Answers (FirstFiles first parts names (k + 1)) first (λ _. n) s0 s2 r) e here
+      let whole : Answers (FirstFiles d parts names (suc k)) d.next_file (λ _. k + d.next_file + 1) s0 s2 r = answers_then (file_after d parts names k) one (answers_then (added d parts names handed) two (answers_value {next = λ _. k + d.next_file + 1} (omega arith) (λ files limit. refl))) in
+      let here : Answers (FirstFiles d parts names (k + 1)) d.next_file (λ _. k + d.next_file + 1) s0 s2 r = subst (λ (n : ℕ). Answers (FirstFiles d parts names n) d.next_file (λ _. k + d.next_file + 1) s0 s2 r) (sym (add-one k)) whole in
+      subst (λ (n : ℕ). Answers (FirstFiles d parts names (k + 1)) d.next_file (λ _. n) s0 s2 r) e here
 
-module _ (first : ℕ) (parts : List TaskTree) (names : List (List ℕ)) {s0 s1 : LibraryState} {e : RunFault} where
-  stop_on : (d m : ℕ) (next : List (List StepTree) → ℕ) → Answers (FirstFiles first parts names m) first next s0 s1 (Err e) → Answers (FirstFiles first parts names (d + m)) first next s0 s1 (Err e)
-  stop_on zero m next one = let q : m ≡ 0 + m = omega arith in subst (λ (n : ℕ). Answers (FirstFiles first parts names n) first next s0 s1 (Err e)) q one
-  stop_on (suc d) m next one =
-      let q : suc (d + m) ≡ suc d + m = omega arith in
-      subst (λ (n : ℕ). Answers (FirstFiles first parts names n) first next s0 s1 (Err e)) q (answers_stop (next_file first parts names (d + m)) next (stop_on d m next one))
+module _ (d : Driver) (parts : List TaskTree) (names : List (List ℕ)) {s0 s1 : LibraryState} {e : RunFault} where
+  stop_on : (k m : ℕ) (next : List (List StepTree) → ℕ) → Answers (FirstFiles d parts names m) d.next_file next s0 s1 (Err e) → Answers (FirstFiles d parts names (k + m)) d.next_file next s0 s1 (Err e)
+  stop_on zero m next one = let q : m ≡ 0 + m = omega arith in subst (λ (n : ℕ). Answers (FirstFiles d parts names n) d.next_file next s0 s1 (Err e)) q one
+  stop_on (suc k) m next one =
+      let q : suc (k + m) ≡ suc k + m = omega arith in
+      subst (λ (n : ℕ). Answers (FirstFiles d parts names n) d.next_file next s0 s1 (Err e)) q (answers_stop (file_after d parts names (k + m)) next (stop_on k m next one))
 
-  pub stop_later : (m n : ℕ) (next : List (List StepTree) → ℕ) → m ≤ n → Answers (FirstFiles first parts names m) first next s0 s1 (Err e) → Answers (FirstFiles first parts names n) first next s0 s1 (Err e)
+  pub stop_later : (m n : ℕ) (next : List (List StepTree) → ℕ) → m ≤ n → Answers (FirstFiles d parts names m) d.next_file next s0 s1 (Err e) → Answers (FirstFiles d parts names n) d.next_file next s0 s1 (Err e)
   stop_later m n next l one =
       let q : n - m + m ≡ n = omega arith in
-      subst (λ (z : ℕ). Answers (FirstFiles first parts names z) first next s0 s1 (Err e)) q (stop_on (n - m) m next one)
+      subst (λ (z : ℕ). Answers (FirstFiles d parts names z) d.next_file next s0 s1 (Err e)) q (stop_on (n - m) m next one)
 
 -- a file stops
-pub files_stop : (first : ℕ) (parts : List TaskTree) (names : List (List ℕ)) {s0 s1 s2 : LibraryState} {e : RunFault} (k n : ℕ) (handed : List (List StepTree)) → k < n → Answers (FirstFiles first parts names k) first (λ _. k + first) s0 s1 (Ok handed)
-    → Answers (PartFile first k (task_or parts k) (name_with_number names k)) (k + first) (λ _. k + first + 1) s1 s2 (Err e)
-    → Answers (FirstFiles first parts names n) first (λ _. n + first) s0 s2 (Err e)
-files_stop first parts names {s0 = s0} {s1 = s1} {s2 = s2} {e = e} k n handed l one two =
-    let whole : Answers (FirstFiles first parts names (suc k)) first (λ _. n + first) s0 s2 (Err e) =
-    answers_then (next_file first parts names k) one (answers_stop (added first parts names handed) (λ _. n + first) two) in
-    stop_later first parts names (suc k) n (λ _. n + first) (omega arith) whole
+pub files_stop : (d : Driver) (parts : List TaskTree) (names : List (List ℕ)) {s0 s1 s2 : LibraryState} {e : RunFault} (k n : ℕ) (handed : List (List StepTree)) → k < n → Answers (FirstFiles d parts names k) d.next_file (λ _. k + d.next_file) s0 s1 (Ok handed)
+    → Answers (PartFile d k (task_or parts k) (name_with_number names k)) (k + d.next_file) (λ _. k + d.next_file + 1) s1 s2 (Err e)
+    → Answers (FirstFiles d parts names n) d.next_file (λ _. n + d.next_file) s0 s2 (Err e)
+files_stop d parts names {s0 = s0} {s1 = s1} {s2 = s2} {e = e} k n handed l one two =
+    let whole : Answers (FirstFiles d parts names (suc k)) d.next_file (λ _. n + d.next_file) s0 s2 (Err e) =
+    answers_then (file_after d parts names k) one (answers_stop (added d parts names handed) (λ _. n + d.next_file) two) in
+    stop_later d parts names (suc k) n (λ _. n + d.next_file) (omega arith) whole
 
 -- want of memory after what was read
 pub lost_after : {A B C : Type 0} {first : StageMeaning A} {second : StageMeaning B} (whole : StageMeaning C) {start two three : ℕ} {f : A → ℕ} {h : B → ℕ} (next : C → ℕ) {s0 s1 s2 : LibraryState} {a : A} {b : B}

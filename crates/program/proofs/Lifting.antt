@@ -8,6 +8,7 @@ use Rattle.name_tables.specs.Tables.{task_names}
 use Rattle.step_files.specs.Lines.{StepsOf}
 use Rattle.stages.specs.Lifted.{HandedHasSequents}
 use Rattle.program.specs.Lifted.{IsLifted}
+use Rattle.driver_parts.specs.declared.driver.Driver.{Driver}
 use Rattle.fault_order.specs.Answers.{Answers, IsStageAnswer}
 use Rattle.fault_order.specs.Order.{RunStop, refused, StageMeaning, Answer}
 use Rattle.source_goals.specs.Order.{GoalSettingTree}
@@ -28,36 +29,36 @@ counted_not parts n e =
     let t : (length parts == n) ≡ false = grind (arith, nat_tests) in
     rw t refl
 
-module _ (first : ℕ) (names : List (List ℕ)) (parts : List TaskTree) where
+module _ (d : Driver) (names : List (List ℕ)) (parts : List TaskTree) where
   -- another number of files than of parts
   pub count_refused : {s : LibraryState} (next : List (List StepTree) → ℕ) (want have : ℕ) → want ≡ length parts → have ≡ length names → want ≢ have
-      → Answers (Handed first names parts) first next s s (Err (run_fault.Refused (PartCount want have)))
+      → Answers (Handed d names parts) d.next_file next s s (Err (run_fault.Refused (PartCount want have)))
   count_refused {s = s} next want have w h n =
       let stop : RunStop = refused (PartCount want have) in
       let unlike : length parts ≢ length names = λ e. n (w ∙ e ∙ sym h) in
       let is : Err stop ≡ if_counted parts (length names) =
       ap (λ (z : ℕ). Err (refused (PartCount z have))) w ∙ ap (λ (z : ℕ). Err (refused (PartCount (length parts) z))) h ∙ counted_not parts (length names) unlike in
-      answers_refused {meaning = Handed first names parts} {start = first} {next = next} {s = s} {fault = PartCount want have} (λ files. inl (stop, is, refl))
+      answers_refused {meaning = Handed d names parts} {start = d.next_file} {next = next} {s = s} {fault = PartCount want have} (λ files. inl (stop, is, refl))
 
   abbrev reading : List TaskTree → StageMeaning (List (List StepTree))
-  reading counted files limit = FirstFiles first counted names (length names) files limit
+  reading counted files limit = FirstFiles d counted names (length names) files limit
 
   -- as many files as parts, which are read
   pub handed_answers : {s0 s1 : LibraryState} {r : Result (List (List StepTree)) RunFault} (n : ℕ) → length parts ≡ n → n ≡ length names
-      → Answers (FirstFiles first parts names n) first (λ _. n + first) s0 s1 r → Answers (Handed first names parts) first (λ _. n + first) s0 s1 r
+      → Answers (FirstFiles d parts names n) d.next_file (λ _. n + d.next_file) s0 s1 r → Answers (Handed d names parts) d.next_file (λ _. n + d.next_file) s0 s1 r
   handed_answers {s0 = s0} {s1 = s1} {r = r} n l e one =
-      let here : Answers (FirstFiles first parts names (length names)) first (λ _. n + first) s0 s1 r = subst (λ (k : ℕ). Answers (FirstFiles first parts names k) first (λ _. n + first) s0 s1 r) e one in
-      let counts : Answers (λ files limit. Answer (if_counted parts (length names))) first (λ _. first) s0 s0 (Ok parts) =
-      answers_value {start = first} {next = λ _. first} (omega arith) (λ files limit. counted_all parts (length names) (l ∙ e)) in
+      let here : Answers (FirstFiles d parts names (length names)) d.next_file (λ _. n + d.next_file) s0 s1 r = subst (λ (k : ℕ). Answers (FirstFiles d parts names k) d.next_file (λ _. n + d.next_file) s0 s1 r) e one in
+      let counts : Answers (λ files limit. Answer (if_counted parts (length names))) d.next_file (λ _. d.next_file) s0 s0 (Ok parts) =
+      answers_value {start = d.next_file} {next = λ _. d.next_file} (omega arith) (λ files limit. counted_all parts (length names) (l ∙ e)) in
       answers_then reading counts here
 
 module _ (names : List (List ℕ)) (g : GoalSettingTree) where
   abbrev handing : List TaskTree → StageMeaning (List (List StepTree))
-  handing parts = Handed g.driver.next_file names parts
+  handing parts = Handed g.driver names parts
 
   -- the parts, and then their refutations
   pub read_after : {s0 s1 : LibraryState} {r : Result (List (List StepTree)) RunFault} (next : List (List StepTree) → ℕ) (parts : List TaskTree) → IsStageAnswer (PrintableParts g) (Ok parts)
-      → Answers (Handed g.driver.next_file names parts) g.driver.next_file next s0 s1 r → Answers (RefutationsRead names g) g.driver.next_file next s0 s1 r
+      → Answers (Handed g.driver names parts) g.driver.next_file next s0 s1 r → Answers (RefutationsRead names g) g.driver.next_file next s0 s1 r
   read_after {s0 = s0} next parts h one = answers_then handing (answers_stage (PrintableParts g) g.driver.next_file s0 (Ok parts) h) one
 
   pub read_stop : {s : LibraryState} (next : List (List StepTree) → ℕ) (e : RunFault) → IsStageAnswer (PrintableParts g) (Err e) → Answers (RefutationsRead names g) g.driver.next_file next s s (Err e)

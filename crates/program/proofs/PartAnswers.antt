@@ -1,5 +1,5 @@
 -- The parts of a task, as steps of a run.
-use Rattle.std.proofs.Common.{◌≡◌, ◌⊎◌, ℕ, List, Option, Some, None, Result, Ok, Err, inl, inr, ap, sym, subst, map}
+use Rattle.std.proofs.Common.{◌≡◌, ◌⊎◌, ◌∙◌, ℕ, List, None, Result, Ok, Err, inl, inr, refl, ap, sym, subst, map}
 use Rattle.tasks.specs.Task.{TaskTree}
 use Rattle.rule_rows.specs.Trees.{StepTree}
 use Rattle.evidence.specs.Stages.{PartsClose}
@@ -17,7 +17,7 @@ use Rattle.part_texts.specs.Problems.{IsPartFault, first_fault}
 use Rattle.fault_order.specs.Answers.{IsStageAnswer}
 use Rattle.fault_order.specs.Order.{RunStop, Stage, Answer}
 use Rattle.source_goals.specs.Order.{GoalSettingTree}
-use Rattle.program.specs.Order.{or_not_built, or_stage_refused, unless_fault, Carried, Printable, PrintableParts}
+use Rattle.program.specs.Order.{or_not_built, or_stage_refused, Carried, Printable, PrintableParts}
 use Rattle.program.specs.Lifted.{AreRefutedUnder}
 use Rattle.program.specs.Values.{carry_fault, part_fault}
 use Rattle.fault_order.proofs.Stages.{gives_then, gives_stop}
@@ -28,17 +28,18 @@ list_stopped said (of_carry.NotBuilt stage) h = sym (ap or_not_built h)
 list_stopped said (of_carry.Misplaced stage decl) h = absurd h
 list_stopped said (of_carry.TooLarge stage) h = absurd h
 
+-- stages that are listed are refused for want of memory alone
+pub only_memory : (said : Result (List Transformation) ℕ) (stages : List Transformation) (e : CarryFault) → said ≡ Ok stages → IsListFault said e → e ≡ of_carry.Memory
+only_memory said stages of_carry.Memory is h = refl
+only_memory said stages (of_carry.NotBuilt stage) is h = let bad : Ok stages ≡ Err stage = sym is ∙ h in absurd (cc)
+only_memory said stages (of_carry.Misplaced stage decl) is h = absurd h
+only_memory said stages (of_carry.TooLarge stage) is h = absurd h
+
 carry_stopped : (said : Result (List TaskTree) StageRefusal) (e : CarryFault) → IsCarryFault said e → IsStageAnswer (Answer (or_stage_refused said)) (Err (carry_fault e))
 carry_stopped said of_carry.Memory h = tt
 carry_stopped said (of_carry.NotBuilt stage) h = absurd h
 carry_stopped said (of_carry.Misplaced stage decl) h = sym (ap or_stage_refused h)
 carry_stopped said (of_carry.TooLarge stage) h = sym (ap or_stage_refused h)
-
-part_stopped : (due : Option PartFault) (ts : List TaskTree) (e : PartFault) → IsPartFault due e → IsStageAnswer (Answer (unless_fault due ts)) (Err (part_fault e))
-part_stopped due ts of_part.Memory h = tt
-part_stopped due ts (of_part.Polymorphic part decl) h = sym (ap (λ (o : Option PartFault). unless_fault o ts) h)
-part_stopped due ts (of_part.Unprintable part decl) h = sym (ap (λ (o : Option PartFault). unless_fault o ts) h)
-part_stopped due ts (of_part.NoSyntax part symbol) h = sym (ap (λ (o : Option PartFault). unless_fault o ts) h)
 
 module _ (g : GoalSettingTree) where
   abbrev carrying : List Transformation → Stage (List TaskTree)
@@ -58,10 +59,13 @@ module _ (g : GoalSettingTree) where
 
 module _ (d : Driver) (ts : List TaskTree) where
   pub printable_ok : first_fault d 1 ts ≡ None → IsStageAnswer (Printable d ts) (Ok ts)
-  printable_ok e = sym (ap (λ (o : Option PartFault). unless_fault o ts) e)
+  printable_ok e = (e, refl)
 
   pub printable_err : (e : PartFault) → IsPartFault (first_fault d 1 ts) e → IsStageAnswer (Printable d ts) (Err (part_fault e))
-  printable_err e h = part_stopped (first_fault d 1 ts) ts e h
+  printable_err of_part.Memory h = tt
+  printable_err (of_part.Polymorphic part decl) h = h
+  printable_err (of_part.Unprintable part decl) h = h
+  printable_err (of_part.NoSyntax part symbol) h = h
 
 built_back : (said : Result (List Transformation) ℕ) (stages : List Transformation) → Ok stages ≡ or_not_built said → said ≡ Ok stages
 built_back (Ok x) stages e = let same : stages ≡ x = cc in ap (λ (z : List Transformation). Ok z) (sym same)
@@ -70,10 +74,6 @@ built_back (Err n) stages e = absurd (cc)
 carried_back : (said : Result (List TaskTree) StageRefusal) (ts : List TaskTree) → Ok ts ≡ or_stage_refused said → said ≡ Ok ts
 carried_back (Ok x) ts e = let same : ts ≡ x = cc in ap (λ (z : List TaskTree). Ok z) (sym same)
 carried_back (Err r) ts e = absurd (cc)
-
-printed_back : (due : Option PartFault) (us ts : List TaskTree) → Ok ts ≡ unless_fault due us → ts ≡ us
-printed_back None us ts e = cc
-printed_back (Some fault) us ts e = absurd (cc)
 
 module _ (g : GoalSettingTree) (ts : List TaskTree) (handed : List (List StepTree)) (close : PartsClose ts handed) where
   carried_refuted : (us : List TaskTree) → ts ≡ us
@@ -94,7 +94,7 @@ module _ (g : GoalSettingTree) (ts : List TaskTree) (handed : List (List StepTre
   -- refutations of the parts are those of the task under its driver
   parts_refuted : ((stop : RunStop) × Carried g (Err stop) × (Ok ts ≡ Err stop)) ⊎ ((us : List TaskTree) × Carried g (Ok us) × Printable g.driver us (Ok ts)) → AreRefutedUnder g.driver g.task handed
   parts_refuted (inl x) = absurd (cc)
-  parts_refuted (inr x) = carried_refuted x.0 (printed_back (first_fault g.driver 1 x.0) x.0 ts x.2) x.1
+  parts_refuted (inr x) = carried_refuted x.0 x.2.1 x.1
 
   pub refuted_under : IsStageAnswer (PrintableParts g) (Ok ts) → AreRefutedUnder g.driver g.task handed
   refuted_under h = parts_refuted h

@@ -3,7 +3,7 @@
 -- derivation of the goal from the goal's own theory; every other file is refused at its first wrong line, every other source for its
 -- first named fault. What the words and the files ask for, and the order of faults, is `AnswerOf`; here is which status comes of it,
 -- and what the sinks gain.
-use Rattle.std.specs.Prelude.{◌≡◌, ◌<◌, ◌⊎◌, ℕ, IfSome, List, None, Result, Ok, Err}
+use Rattle.std.specs.Prelude.{◌≡◌, ◌≢◌, ◌<◌, ◌⊎◌, ℕ, IfSome, List, None, Result, Ok, Err}
 use Rattle.outside.specs.State.{LibraryState, SinkState, Gains, GainsPrefix, Rose}
 use Rattle.fault_order.specs.Order.{RunStop, refused, absent, unread, misused}
 use Rattle.fault_order.specs.Answers.{Still, OneAbsent, OneFault, StopsAt}
@@ -57,15 +57,13 @@ SinkFails (Err e) a b = Rose a.err.faults b.err.faults
 
 -- Each status comes only so.
 abbrev pub Cause : List (List ℕ) → Outside → Outside → Status → Type 0
-Cause words a b status.Done = (text : List ℕ) × Asks words a.library (Ok text) × TakesText a.out text b.out × (b.err ≡ a.err)
-Cause words a b (status.Refused fault) = Asks words a.library (Err (refused fault)) × (b.out ≡ a.out) × TakesText a.err (status_line (status.Refused fault)) b.err
-Cause words a b status.Usage = (command_of words ≡ None) × (b.out ≡ a.out) × TakesText a.err (status_line status.Usage) b.err
-Cause words a b (status.Absent file) = Rose a.library.absents b.library.absents
-    × Asks words a.library (Err (absent file)) × (b.out ≡ a.out) × TakesText a.err (status_line (status.Absent file)) b.err
-Cause words a b (status.ReadFault file) = Rose a.library.faults b.library.faults
-    × IsUnread words a.library b.library file × (b.out ≡ a.out) × TakesText a.err (status_line (status.ReadFault file)) b.err
+Cause words a b status.Done = Still a.library b.library × (text : List ℕ) × Asks words a.library (Ok text) × TakesText a.out text b.out × (b.err ≡ a.err)
+Cause words a b (status.Refused fault) = Still a.library b.library × Asks words a.library (Err (refused fault)) × (b.out ≡ a.out) × TakesText a.err (status_line (status.Refused fault)) b.err
+Cause words a b status.Usage = Still a.library b.library × (command_of words ≡ None) × (b.out ≡ a.out) × TakesText a.err (status_line status.Usage) b.err
+Cause words a b (status.Absent file) = OneAbsent a.library b.library × Asks words a.library (Err (absent file)) × (b.out ≡ a.out) × TakesText a.err (status_line (status.Absent file)) b.err
+Cause words a b (status.ReadFault file) = OneFault a.library b.library × IsUnread words a.library b.library file × (b.out ≡ a.out) × TakesText a.err (status_line (status.ReadFault file)) b.err
 Cause words a b status.Memory = (due : Result (List ℕ) Status) × IsDue words a.library b.library due × GainsPart due a b
-Cause words a b status.WriteFault = (due : Result (List ℕ) Status) × IsDue words a.library b.library due × GainsPart due a b × SinkFails due a b
+Cause words a b status.WriteFault = (due : Result (List ℕ) Status) × (due ≢ Err status.Memory) × IsDue words a.library b.library due × GainsPart due a b × SinkFails due a b
 
 -- the status of a text, or of what is in its way
 abbrev pub status_of : Result (List ℕ) RunStop → Status

@@ -2,14 +2,15 @@
 // It depends on the goal's task and on the checker; the top call depends on it.
 ghost use Rattle.tasks.specs.Meaning.{task_at, TaskHeld};
 ghost use Rattle.fault_order.specs.Answers.{Answers, EndsAs, IsStageAnswer, result_bytes};
+ghost use Rattle.program.specs.Only.{IsOnlyAnswer};
 ghost use Rattle.program.specs.Order.{CheckText, Checks, Derivation};
 
-use fault_order::{Fault, RunFault, fetch_whole};
+use crate::steps::read_steps;
+use fault_order::{RunFault, fetch_whole};
 use name_tables::task_names;
 use outside::Library;
 use source_goals::find_task;
 use std::alloc::Global;
-use step_files::{ReadFault, StepReader};
 use tasks::Task;
 use term_store::Store;
 
@@ -24,17 +25,8 @@ fn check_steps(
     ensures { IsStageAnswer (Checks (task_at store.old task.now) bytes.now) (result_bytes result) }
 {
     let names = task_names(alloc, store, task)?;
-    let mut reader = StepReader::new(alloc, None);
-    if reader.feed(store, task, &names, bytes).is_err() {
-        return Err(RunFault::Memory);
-    }
-    match reader.finish(store, task, &names) {
-        Ok(_) => Ok(Vec::from_slice(alloc, b"accepted\n")?),
-        Err(ReadFault::Memory) => Err(RunFault::Memory),
-        Err(ReadFault::WrongLine { line }) => {
-            Err(RunFault::Refused(Fault::WrongLine { part: 1, line }))
-        }
-    }
+    let _ = read_steps(alloc, store, task, &names, None, 1, bytes)?;
+    Ok(Vec::from_slice(alloc, b"accepted\n")?)
 }
 
 // Fetches and checks the file of a derivation of a task.
@@ -65,8 +57,10 @@ pub fn check_goal<L: Library>(
     goal: &str,
     der: &str,
 ) -> Result<Vec<u8>, RunFault>
-    ensures { EndsAs (CheckText src.now theory.now goal.now der.now) (L.state lib.old)
+    ensures answers { EndsAs (CheckText src.now theory.now goal.now der.now) (L.state lib.old)
         (L.state lib.new) (result_bytes result) }
+    ensures only { IsOnlyAnswer (CheckText src.now theory.now goal.now der.now) (L.state lib.old)
+        (result_bytes result) }
 {
     let mut store = Store::new(alloc)?;
     let task = find_task(alloc, lib, &mut store, src, theory, goal)?;

@@ -12,7 +12,7 @@ ghost use Rattle.program.specs.Lifted.{AreRefutedUnder, IsLifted};
 use outside::Seq;
 use rule_rows::Step;
 use source_goals::GoalSetting;
-use stages::{Derived, lift, stages_of};
+use stages::{CarryFault, Derived, lift, stages_of};
 use std::alloc::{AllocError, Global};
 use term_store::Store;
 use written_files::write_derivation;
@@ -34,7 +34,11 @@ fn derive_task(
 {
     match stages_of(alloc, &setting.driver, &setting.task) {
         Ok(stages) => lift(alloc, store, &stages, &setting.task, handed),
-        Err(_) => Err(AllocError),
+        Err(CarryFault::Memory) => Err(AllocError),
+        // The task was carried through these stages, so each of them is built.
+        Err(CarryFault::NotBuilt { .. }) => unreachable!(),
+        Err(CarryFault::Misplaced { .. }) => unreachable!(),
+        Err(CarryFault::TooLarge { .. }) => unreachable!(),
     }
 }
 

@@ -5,9 +5,11 @@ ghost use Rattle.trees.specs.Node.{Grows};
 ghost use Rattle.tasks.specs.Meaning.{task_at, tasks_at, TaskHeld, TasksHeld};
 ghost use Rattle.tasks.specs.Valid.{IsValid};
 ghost use Rattle.evidence.specs.Stages.{PartsClose, PartsHeld, parts_at};
-ghost use Rattle.tasks.specs.Words.{NamesAreWords};
+ghost use Rattle.written_files.specs.Named.{NamesAreWords};
+ghost use Rattle.part_texts.specs.Problems.{AreProblems};
 ghost use Rattle.fault_order.specs.Answers.{Answers, EndsAs, result_bytes};
 ghost use Rattle.program.specs.Order.{Handed, Lifting, LiftText, RefutationsRead};
+ghost use Rattle.program.specs.Only.{IsOnlyStop};
 ghost use Rattle.program.specs.Lifted.{AreRefutedUnder};
 ghost use Rattle.program.specs.Values.{handed_in, setting_at};
 
@@ -15,8 +17,10 @@ use crate::derivation::lifted_text;
 use crate::parts::find_parts;
 use crate::refutations::read_files;
 use crate::setting::valid_setting;
+use driver_parts::Driver;
 use fault_order::{Fault, RunFault};
 use outside::{Library, Seq};
+use printed_problems::Problem;
 use rule_rows::Step;
 use source_goals::GoalSetting;
 use std::alloc::Global;
@@ -38,26 +42,29 @@ fn count_files(parts: usize, files: usize) -> Result<(), RunFault>
     }
 }
 
-// The refutations of parts, in files with the numbers from `first` on, where there are as many files as parts.
+// The refutations of parts, in the files after those of the driver, where there are as many files as parts.
 fn read_counted<L: Library>(
     alloc: Global,
     lib: &mut L,
     store: &mut Store,
+    driver: &Driver,
     parts: &[Task],
-    first: usize,
+    problems: &[Problem],
     refs: &[String],
 ) -> Result<Vec<Seq<Step>>, RunFault>
     requires held { TasksHeld store.old parts.now }
-    ensures answers { Answers (Handed first (map string_bytes refs.now) (tasks_at store.old
-        parts.now)) first (λ _. length refs.now + first) (L.state lib.old) (L.state lib.new)
-        (handed_in store.new result) }
+    requires problems { AreProblems store.old driver.now (tasks_at store.old parts.now)
+        problems.now }
+    ensures answers { Answers (Handed driver.now (map string_bytes refs.now) (tasks_at store.old
+        parts.now)) driver.now.next_file (λ _. length refs.now + driver.now.next_file)
+        (L.state lib.old) (L.state lib.new) (handed_in store.new result) }
     ensures held { IfOk result (λ v. PartsHeld store.new v.items) }
     ensures refuted { IfOk result (λ v. PartsClose (tasks_at store.old parts.now)
         (parts_at store.new v.items)) }
     ensures grows { Grows store.old store.new }
 {
     count_files(parts.len(), refs.len())?;
-    read_files(alloc, lib, store, parts, first, refs)
+    read_files(alloc, lib, store, driver, parts, problems, refs)
 }
 
 // The refutations of the parts of a task.
@@ -84,8 +91,9 @@ fn read_handed<L: Library>(
         alloc,
         lib,
         store,
+        &setting.driver,
         &parts.tasks,
-        setting.driver.next_file,
+        &parts.problems,
         refs,
     )
 }
@@ -124,8 +132,10 @@ pub fn lift_goal<L: Library>(
     goal: &str,
     refs: &[String],
 ) -> Result<Vec<u8>, RunFault>
-    ensures { EndsAs (LiftText src.now drv.now theory.now goal.now (map string_bytes refs.now))
-        (L.state lib.old) (L.state lib.new) (result_bytes result) }
+    ensures answers { EndsAs (LiftText src.now drv.now theory.now goal.now (map string_bytes
+        refs.now)) (L.state lib.old) (L.state lib.new) (result_bytes result) }
+    ensures only { IsOnlyStop (LiftText src.now drv.now theory.now goal.now (map string_bytes
+        refs.now)) (L.state lib.old) (result_bytes result) }
 {
     let mut store = Store::new(alloc)?;
     let found = valid_setting(alloc, lib, &mut store, src, drv, theory, goal)?;

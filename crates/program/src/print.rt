@@ -4,6 +4,7 @@ ghost use Rattle.tasks.specs.Meaning.{task_at, TaskHeld};
 ghost use Rattle.tasks.specs.Valid.{IsValid};
 ghost use Rattle.fault_order.specs.Answers.{EndsAs, IsStageAnswer, result_bytes};
 ghost use Rattle.program.specs.Order.{NamesText, ProblemTables, PrintText, ProblemTexts};
+ghost use Rattle.program.specs.Only.{IsOnlyAnswer};
 ghost use Rattle.program.specs.Values.{setting_at};
 
 use crate::parts::find_parts;
@@ -52,8 +53,10 @@ pub fn print_goal<L: Library>(
     theory: &str,
     goal: &str,
 ) -> Result<Vec<u8>, RunFault>
-    ensures { EndsAs (PrintText src.now drv.now theory.now goal.now) (L.state lib.old)
+    ensures answers { EndsAs (PrintText src.now drv.now theory.now goal.now) (L.state lib.old)
         (L.state lib.new) (result_bytes result) }
+    ensures only { IsOnlyAnswer (PrintText src.now drv.now theory.now goal.now) (L.state lib.old)
+        (result_bytes result) }
 {
     let mut store = Store::new(alloc)?;
     let found = valid_setting(alloc, lib, &mut store, src, drv, theory, goal)?;
@@ -69,8 +72,10 @@ pub fn names_goal<L: Library>(
     theory: &str,
     goal: &str,
 ) -> Result<Vec<u8>, RunFault>
-    ensures { EndsAs (NamesText src.now drv.now theory.now goal.now) (L.state lib.old)
+    ensures answers { EndsAs (NamesText src.now drv.now theory.now goal.now) (L.state lib.old)
         (L.state lib.new) (result_bytes result) }
+    ensures only { IsOnlyAnswer (NamesText src.now drv.now theory.now goal.now) (L.state lib.old)
+        (result_bytes result) }
 {
     let mut store = Store::new(alloc)?;
     let found = valid_setting(alloc, lib, &mut store, src, drv, theory, goal)?;

@@ -5,80 +5,55 @@ ghost use Rattle.trees.specs.Node.{Grows};
 ghost use Rattle.tasks.specs.Meaning.{task_at, tasks_at, TaskHeld, TasksHeld};
 ghost use Rattle.rule_rows.specs.Meaning.{steps_at, StepsHeld};
 ghost use Rattle.evidence.specs.Stages.{parts_at, PartsHeld};
-ghost use Rattle.fault_order.specs.Answers.{Answers, IsStageAnswer};
-ghost use Rattle.program.specs.Order.{RefutesPart, PartFile, FirstFiles};
+ghost use Rattle.printed_problems.specs.Problems.{problem_of};
+ghost use Rattle.part_texts.specs.Problems.{AreProblems};
+ghost use Rattle.fault_order.specs.Answers.{Answers};
+ghost use Rattle.program.specs.Order.{PartFile, FirstFiles};
 ghost use Rattle.kernel.specs.Right.{Closes};
 ghost use Rattle.evidence.specs.Stages.{PartsClose};
 ghost use Rattle.program.specs.Values.{steps_in, handed_in};
 
-use fault_order::{Fault, RunFault, fetch_short};
-use name_tables::problem_names;
+use crate::steps::read_steps;
+use driver_parts::Driver;
+use fault_order::{RunFault, fetch_short};
+use name_entries::NameEntry;
 use outside::{Library, Seq};
+use printed_problems::Problem;
 use rule_rows::Step;
 use std::alloc::Global;
-use step_files::{ReadFault, StepReader};
 use tasks::Task;
 use term_store::Store;
 
 // The greatest height of a formula in a file of refutations.
 const TALLEST: u64 = 2000;
 
-// Reads a refutation of the part with this number, counted from 1, to its end.
-fn read_refutation(
-    alloc: Global,
-    store: &mut Store,
-    part: &Task,
-    number: usize,
-    bytes: &[u8],
-) -> Result<Vec<Step>, RunFault>
-    requires held { TaskHeld store.old part.now }
-    ensures steps { IsStageAnswer (RefutesPart number (task_at store.old part.now) bytes.now)
-        (steps_in store.new result) }
-    ensures held { IfOk result (λ v. StepsHeld store.new v.items) }
-    ensures refutes { IfOk result (λ v. Closes (task_at store.old part.now)
-        (steps_at store.new v.items)) }
-    ensures grows { Grows store.old store.new }
-{
-    let names = problem_names(alloc, store, part)?;
-    let mut reader = StepReader::new(alloc, Some(TALLEST));
-    if reader.feed(store, part, &names, bytes).is_err() {
-        return Err(RunFault::Memory);
-    }
-    match reader.finish(store, part, &names) {
-        Ok(steps) => Ok(steps),
-        Err(ReadFault::Memory) => Err(RunFault::Memory),
-        Err(ReadFault::WrongLine { line }) => Err(RunFault::Refused(Fault::WrongLine {
-            part: number,
-            line,
-        })),
-    }
-}
-
 // Fetches and reads the file of a part, which is counted from 0 here.
 fn read_file<L: Library>(
     alloc: Global,
     lib: &mut L,
     store: &mut Store,
+    driver: &Driver,
     part: &Task,
-    first: usize,
+    names: &[NameEntry],
     place: usize,
     name: &str,
 ) -> Result<Vec<Step>, RunFault>
     requires held { TaskHeld store.old part.now }
-    ensures answers { Answers (PartFile first place (task_at store.old part.now) name.now)
-        (place + first) (λ _. place + first + 1) (L.state lib.old) (L.state lib.new)
-        (steps_in store.new result) }
+    requires names { names.now ≡ (problem_of driver.now (task_at store.old part.now)).names }
+    ensures answers { Answers (PartFile driver.now place (task_at store.old part.now) name.now)
+        (place + driver.now.next_file) (λ _. place + driver.now.next_file + 1) (L.state lib.old)
+        (L.state lib.new) (steps_in store.new result) }
     ensures held { IfOk result (λ v. StepsHeld store.new v.items) }
     ensures refutes { IfOk result (λ v. Closes (task_at store.old part.now)
         (steps_at store.new v.items)) }
     ensures grows { Grows store.old store.new }
 {
-    if usize::MAX - first <= place {
+    if usize::MAX - driver.next_file <= place {
         // The names of so many files find no memory.
         return Err(RunFault::Memory);
     }
-    let bytes = fetch_short(lib, place + first, name)?;
-    read_refutation(alloc, store, part, place + 1, &bytes)
+    let bytes = fetch_short(lib, place + driver.next_file, name)?;
+    read_steps(alloc, store, part, names, Some(TALLEST), place + 1, &bytes)
 }
 
 /// The steps of the files of refutations, each of which is fetched and read before the next one. There are as many
@@ -87,15 +62,19 @@ pub(crate) fn read_files<L: Library>(
     alloc: Global,
     lib: &mut L,
     store: &mut Store,
+    driver: &Driver,
     parts: &[Task],
-    first: usize,
+    problems: &[Problem],
     names: &[String],
 ) -> Result<Vec<Seq<Step>>, RunFault>
     requires as_many { length parts.now ≡ length names.now }
     requires held { TasksHeld store.old parts.now }
-    ensures answers { Answers (FirstFiles first (tasks_at store.old parts.now)
-        (map string_bytes names.now) (length names.now)) first (λ _. length names.now + first)
-        (L.state lib.old) (L.state lib.new) (handed_in store.new result) }
+    requires problems { AreProblems store.old driver.now (tasks_at store.old parts.now)
+        problems.now }
+    ensures answers { Answers (FirstFiles driver.now (tasks_at store.old parts.now)
+        (map string_bytes names.now) (length names.now)) driver.now.next_file
+        (λ _. length names.now + driver.now.next_file) (L.state lib.old) (L.state lib.new)
+        (handed_in store.new result) }
     ensures held { IfOk result (λ v. PartsHeld store.new v.items) }
     ensures refuted { IfOk result (λ v. PartsClose (tasks_at store.old parts.now)
         (parts_at store.new v.items)) }
@@ -107,8 +86,9 @@ pub(crate) fn read_files<L: Library>(
             alloc,
             lib,
             store,
+            driver,
             &parts[place],
-            first,
+            problems[place].names.as_slice(),
             place,
             names[place].as_str(),
         )?;

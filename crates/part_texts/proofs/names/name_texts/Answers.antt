@@ -15,6 +15,6 @@ loop-place-preserved c =
     let p = c.index-problems-place.result in
     let own : c.deref.result.now ≡ t.sig.value = search rules in
     let symbols : symbols_at s c.deref.result.now.symbols ≡ (task_at s t).symbols = ap (λ (g : Signature). symbols_at s g.symbols) own in
-    names_step s tasks i t (symbols_at s c.deref.result.now.symbols) c.as_slice-names.result.now c.loop-place.out.items c.push_names.new.out.items _ c.index-tasks-place.is c.loop-place-test.true
+    names_step s d tasks i t (symbols_at s c.deref.result.now.symbols) c.as_slice-names.result.now c.loop-place.out.items c.push_names.new.out.items _ c.index-tasks-place.is c.loop-place-test.true
     (c.as_slice-names.ensures ∙ ap (λ (q : Problem). q.names) (sym c.index-problems-place.is) ∙ names_there s d (task_at s t) p (problem_there s d tasks c.args.problems.now i t p c.requires.problems c.index-tasks-place.is c.index-problems-place.is c.loop-place-test.true))
     symbols (c.in_ok-push_names.ensures s) c.loop-place.invariant

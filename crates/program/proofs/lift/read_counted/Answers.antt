@@ -13,7 +13,7 @@ returns-clause-answers g c =
     let names = map string_bytes c.args.refs.now in
     let parts = tasks_at c.args.store.now c.args.parts.now in
     let e : length c.args.parts.now ≡ n = search rules in
-    handed_answers c.args.first names parts n (length-map c.args.parts.now (task_at c.args.store.now) ∙ e) (sym (length-map c.args.refs.now string_bytes)) c.read_files.ensures.answers
+    handed_answers c.args.driver.now names parts n (length-map c.args.parts.now (task_at c.args.store.now) ∙ e) (sym (length-map c.args.refs.now string_bytes)) c.read_files.ensures.answers
 
 pub returns-in_err-count_files-clause-answers : goal.returns-in_err-count_files-clause-answers
 returns-in_err-count_files-clause-answers g c =
@@ -22,6 +22,6 @@ returns-in_err-count_files-clause-answers g c =
     let parts = tasks_at c.args.store.now c.args.parts.now in
     let want : length c.args.parts.now ≡ length parts = sym (length-map c.args.parts.now (task_at c.args.store.now)) in
     let files : n ≡ length names = sym (length-map c.args.refs.now string_bytes) in
-    let refused = count_refused c.args.first names parts {s = g.L.Library.state c.args.lib.now} (λ _. n + c.args.first) (length c.args.parts.now) n want files c.in_err-count_files.ensures.0 in
-    let whole = subst (λ (e : RunFault). Answers (Handed c.args.first names parts) c.args.first (λ _. n + c.args.first) (g.L.Library.state c.args.lib.now) (g.L.Library.state c.args.lib.now) (Err e)) (sym c.in_err-count_files.ensures.1) refused in
+    let refused = count_refused c.args.driver.now names parts {s = g.L.Library.state c.args.lib.now} (λ _. n + c.args.driver.now.next_file) (length c.args.parts.now) n want files c.in_err-count_files.ensures.0 in
+    let whole = subst (λ (e : RunFault). Answers (Handed c.args.driver.now names parts) c.args.driver.now.next_file (λ _. n + c.args.driver.now.next_file) (g.L.Library.state c.args.lib.now) (g.L.Library.state c.args.lib.now) (Err e)) (sym c.in_err-count_files.ensures.1) refused in
     search rules

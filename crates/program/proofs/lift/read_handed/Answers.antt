@@ -25,7 +25,7 @@ returns-clause-answers g c =
     let s = c.find_parts.new.store in
     let parts = c.in_ok-parts.parts.tasks.items in
     let r = handed_in c.read_counted.new.store c.read_counted.result in
-    let read = subst (λ (ts : List Task). Answers (Handed x.driver.next_file names (tasks_at s ts)) x.driver.next_file (λ _. n) (g.L.Library.state c.args.lib.now) (g.L.Library.state c.read_counted.new.lib) r)
+    let read = subst (λ (ts : List Task). Answers (Handed x.driver names (tasks_at s ts)) x.driver.next_file (λ _. n) (g.L.Library.state c.args.lib.now) (g.L.Library.state c.read_counted.new.lib) r)
     c.deref.ensures.value c.read_counted.ensures.answers in
     read_after names x (λ _. n) (tasks_at s parts) c.in_ok-parts.ensures.parts read
 

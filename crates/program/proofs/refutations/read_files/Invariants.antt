@@ -9,7 +9,7 @@ use Rattle.program.proofs.refutations.read_files.Given as goal
 
 abbrev pub invariant-loop-place : goal.invariant-loop-place
 invariant-loop-place g l = record {
-  answers : Answers (FirstFiles l.first (tasks_at l.initial.store l.parts) (map string_bytes l.names) l.place) l.first (λ _. l.place + l.first) (g.L.Library.state l.initial.lib) (g.L.Library.state l.lib) (Ok (parts_at l.store l.handed.items));
+  answers : Answers (FirstFiles l.driver (tasks_at l.initial.store l.parts) (map string_bytes l.names) l.place) l.driver.next_file (λ _. l.place + l.driver.next_file) (g.L.Library.state l.initial.lib) (g.L.Library.state l.lib) (Ok (parts_at l.store l.handed.items));
   held : PartsHeld l.store l.handed.items;
   close : FirstClose (tasks_at l.initial.store l.parts) (parts_at l.store l.handed.items) l.place;
   grows : Grows l.initial.store l.store;
