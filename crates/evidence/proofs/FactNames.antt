@@ -16,7 +16,7 @@ use Rattle.tasks.specs.Inversion.{inversion}
 use Rattle.tasks.specs.Valid.{IsValid}
 use Rattle.tasks.proofs.Declared.{contains_cases, contains_step, none_in, any_iff}
 use Rattle.rule_rows.specs.Rows.{equation, clauses}
-use Rattle.evidence.specs.Facts.{at_symbol, fact_named, IsNamed}
+use Rattle.evidence.specs.Facts.{at_symbol, fact_named, IsFoundByName}
 
 -- ---- what a list contains
 pub first_or_rest : {A : Type 0} (y x : A) (xs : List A) → Contains (x ∷ xs) y → (x ≡ y) ⊎ Contains xs y
@@ -318,9 +318,9 @@ module _ (t : TaskTree) (valid : IsValid t) where
     role_is : (k : ℕ) → Contains (made_by d.body) k → role t k ≡ role_in k d.body
     role_is k h = ap (role_by k) (ap (λ (ds : List DeclarationTree). maker ds k) is ∙ maker_after before rest d k (subst (λ (ds : List DeclarationTree). Apart (made ds)) is all_apart) h)
 
-    body_named : (b : BodyTree) → d.body ≡ b → (x : FactTree) → Contains (body_facts t.symbols (length (props_of before)) d.vars b) x → IsNamed t x
+    body_named : (b : BodyTree) → d.body ≡ b → (x : FactTree) → Contains (body_facts t.symbols (length (props_of before)) d.vars b) x → IsFoundByName t x
     body_named (Says a) q x h = elim (first_or_rest x _ [] h) [
-      | inl e ↦ subst (IsNamed t) e (
+      | inl e ↦ subst (IsFoundByName t) e (
           ap (λ (ds : List DeclarationTree). slice_get (props_of ds) (length (props_of before))) is
           ∙ ap (λ (ps : List PropositionTree). slice_get ps (length (props_of before))) (props_append before (d ∷ rest) ∙ ap (λ (b : BodyTree). props_of before ++ (said_by d b ++ props_of rest)) q)
           ∙ after (props_of before) (record { vars = d.vars; formula = a }) (props_of rest))
@@ -332,7 +332,7 @@ module _ (t : TaskTree) (valid : IsValid t) where
         let c : Contains (made_by d.body) k = subst (λ (b : BodyTree). Contains (made_by b) k) (sym q) (map_contains (λ (m : DefinitionTree). m.symbol) ds r.0 r.1) in
         let a : Apart (map (λ (m : DefinitionTree). m.symbol) ds) = subst (λ (b : BodyTree). Apart (made_by b)) q group_apart in
         let is_role : role t k ≡ DefinedRole r.0.equation = role_is k c ∙ ap (role_in k) q ∙ defined_member k ds r.0 a r.1 refl in
-        subst (IsNamed t) r.2 (ap (λ (z : RoleTree). option_map (at_symbol t k) (equation z)) is_role)
+        subst (IsFoundByName t) r.2 (ap (λ (z : RoleTree). option_map (at_symbol t k) (equation z)) is_role)
     body_named (Induces is') q x h = by (Contains-append_cases (all_clause_facts t.symbols is') (map (inversion_fact t.symbols) is') x h)
       where
         member_role : (m : InductiveTree) → Contains is' m → role t m.symbol ≡ InductiveRole m.clauses
@@ -346,7 +346,7 @@ module _ (t : TaskTree) (valid : IsValid t) where
             ap (λ (z : RoleTree). option_map (at_symbol t k) (option_and_then (λ cs. slice_get cs place) (clauses z))) r
             ∙ ap (option_map (at_symbol t k)) e ∙ ap (λ (n : ℕ). Some (record { vars = n; formula = x.formula })) (sym v)
 
-        by : Contains (all_clause_facts t.symbols is') x ⊎ Contains (map (inversion_fact t.symbols) is') x → IsNamed t x
+        by : Contains (all_clause_facts t.symbols is') x ⊎ Contains (map (inversion_fact t.symbols) is') x → IsFoundByName t x
         by (inl c) =
             let r = all_clauses_listed t.symbols is' x c in
             let n : 0 + r.at.place ≡ r.at.place = omega arith in
@@ -354,12 +354,12 @@ module _ (t : TaskTree) (valid : IsValid t) where
         by (inr c) =
             let r = mapped_from (inversion_fact t.symbols) is' x c in
             let k = r.0.symbol in
-            subst (IsNamed t) r.2 (ap (λ (z : RoleTree). option_map (λ cs. at_symbol t k (inversion k (symbol_or t.symbols k) cs)) (clauses z)) (member_role r.0 r.1))
+            subst (IsFoundByName t) r.2 (ap (λ (z : RoleTree). option_map (λ cs. at_symbol t k (inversion k (symbol_or t.symbols k) cs)) (clauses z)) (member_role r.0 r.1))
     body_named (MakesType k) q x h = absurd (nothing_in x h)
     body_named (Makes k) q x h = absurd (nothing_in x h)
     body_named (Constructs ts) q x h = absurd (nothing_in x h)
 
-  named_from : (before ds : List DeclarationTree) → t.decls ≡ before ++ ds → (x : FactTree) → Contains (facts_from t.symbols (length (props_of before)) ds) x → IsNamed t x
+  named_from : (before ds : List DeclarationTree) → t.decls ≡ before ++ ds → (x : FactTree) → Contains (facts_from t.symbols (length (props_of before)) ds) x → IsFoundByName t x
   named_from before [] is x h = absurd (nothing_in x h)
   named_from before (d ∷ ds) is x h = elim (Contains-append_cases (body_facts t.symbols (length (props_of before)) d.vars d.body) (facts_from t.symbols (length (props_of before) + said_in d.body) ds) x h) [
     | inl c ↦ body_named before ds d is d.body refl x c
@@ -370,8 +370,8 @@ module _ (t : TaskTree) (valid : IsValid t) where
         named_from (before ++ d ∷ []) ds (is ∙ sym (append_assoc before (d ∷ []) ds)) x (subst (λ (m : ℕ). Contains (facts_from t.symbols m ds) x) (sym n) c)
   ]
 
-  pub all_named : All (IsNamed t) (facts t)
-  all_named = all_of (IsNamed t) (facts t) (named_from [] t.decls refl)
+  pub all_named : All (IsFoundByName t) (facts t)
+  all_named = all_of (IsFoundByName t) (facts t) (named_from [] t.decls refl)
 
   pub names_apart : AllPairs (λ (x y : FactTree). x.name ≢ y.name) (facts t)
   names_apart = all_pairs (facts t) (facts_differ t.symbols 0 t.decls all_apart)

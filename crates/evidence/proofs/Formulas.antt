@@ -22,7 +22,7 @@ use Rattle.rule_rows.specs.Meaning.{step_at, steps_at, StepHeld, StepsHeld}
 use Rattle.rule_rows.proofs.Sequents.{All-unmap}
 use Rattle.kernel.specs.Right.{AreRight, last_starts}
 use Rattle.kernel.proofs.Places.{step_or-at}
-use Rattle.evidence.specs.Drafts.{DraftTree, Extends, Refutes, IsFormulaAt, AreFormulas, IsKept}
+use Rattle.evidence.specs.Drafts.{DraftTree, Extends, Refutes, IsFormulaAt, AreFormulas, RefutesAt}
 use Rattle.evidence.specs.Rules.{NamesOwn, RefuteAdded, RefuteHolding, RefuteFailing, Clash, holding_rule, failing_rule, counted}
 use Rattle.evidence.specs.Facts.{citing, IsFact}
 use Rattle.evidence.proofs.Rules.{refutes_later, clash_row, holding_row, failing_row, cut_row, fact_row}
@@ -205,7 +205,7 @@ counted_more from (suc n) =
 
 pub but_kept_at : (d : DraftTree) (front middle last tail ids : List TermId) (empty first places : List ℕ) (k : ℕ) → Refutes d k (trees_at d.trees front ++ trees_at d.trees last)
     → tail ≡ middle ++ last → ids ≡ front ++ tail → empty ≡ [] → first ≡ empty ++ counted 0 (length front)
-    → places ≡ first ++ counted (length front + length middle) (length last) → IsKept d (trees_at d.trees ids) places k
+    → places ≡ first ++ counted (length front + length middle) (length last) → RefutesAt d (trees_at d.trees ids) places k
 but_kept_at d front middle last tail ids empty first places k r is whole none e g =
     let F = trees_at d.trees front in
     let M = trees_at d.trees middle in
@@ -263,7 +263,7 @@ cut_added d ids a j k f r q =
       row = cut_row d.task s (tree_at d.trees a) f.ground.sort;
     }
 
-pub kept_added : (d : DraftTree) (s : List Tree) (places : List ℕ) (k : ℕ) → IsKept d s places k → RefuteAdded d s (RKeep places) (k ∷ [])
+pub kept_added : (d : DraftTree) (s : List Tree) (places : List ℕ) (k : ℕ) → RefutesAt d s places k → RefuteAdded d s (RKeep places) (k ∷ [])
 kept_added d s places k g = record { sequents = g.kept ∷ []; refuted = (g.refutes, tt); row = g.are }
 
 pub citing_names : (from : TaskTree) (name : Fact) (types : List Tree) → All (IsTypeOver from 0) types → NamesOwn from (citing name types)

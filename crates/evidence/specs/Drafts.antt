@@ -63,7 +63,7 @@ pub record HasLast (d : DraftTree) (k : ℕ) : Type 0 where
   pub refutes : Refutes d k (front ++ last ∷ [])
 
 -- a step of the draft refutes the formulas at these places of a sequent
-pub record IsKept (d : DraftTree) (sequent : List Tree) (places : List ℕ) (k : ℕ) : Type 0 where
+pub record RefutesAt (d : DraftTree) (sequent : List Tree) (places : List ℕ) (k : ℕ) : Type 0 where
   pub kept : List Tree
   pub are : map Some kept ≡ map (slice_get sequent) places
   pub refutes : Refutes d k kept

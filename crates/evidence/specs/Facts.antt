@@ -26,8 +26,8 @@ fact_named t (fact.Clause k c) = option_map (at_symbol t k) (option_and_then (λ
 fact_named t (fact.Inversion k) = option_map (λ cs. at_symbol t k (inversion k (symbol_or t.symbols k) cs)) (clauses (role t k))
 
 -- a fact of the task's list is that of its name
-abbrev pub IsNamed : TaskTree → FactTree → Type 0
-IsNamed t f = fact_named t f.name ≡ Some (record { vars = f.vars; formula = f.formula })
+abbrev pub IsFoundByName : TaskTree → FactTree → Type 0
+IsFoundByName t f = fact_named t f.name ≡ Some (record { vars = f.vars; formula = f.formula })
 
 -- and the fact of a name is in the list
 abbrev pub fact_of : Fact → PropositionTree → FactTree

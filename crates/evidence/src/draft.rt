@@ -8,7 +8,7 @@ ghost use Rattle.tasks.specs.Valid.{IsValid};
 ghost use Rattle.kernel.specs.Right.{IsRight, AreRight};
 ghost use Rattle.rule_rows.specs.Meaning.{step_at, steps_at, StepHeld, StepsHeld};
 ghost use Rattle.evidence.specs.Drafts.{Extends, AddsTrees, Refutes, IsFormulaAt, AreFormulas};
-ghost use Rattle.evidence.specs.Drafts.{IsKept, cut_step, keep_step};
+ghost use Rattle.evidence.specs.Drafts.{RefutesAt, cut_step, keep_step};
 ghost use Rattle.evidence.specs.Laws.{AddsTrees_refl, AddsTrees_trans, AddsTrees_trees};
 
 use indexmap::IndexMap;
@@ -164,8 +164,8 @@ impl Draft {
         ensures number { IfOk result (λ k. k ≡ length self.old.steps) }
         ensures pushed { IfOk result (λ _. self.new
             ≡ record self.old {
-              steps = self.old.steps ++ cut_step
-                  (trees_at self.old.trees sequent.now) (tree_at self.old.trees formula) yes no ∷ [];
+              steps = self.old.steps ++ cut_step (trees_at self.old.trees sequent.now)
+                  (tree_at self.old.trees formula) yes no ∷ [];
             }) }
         ensures unchanged { OnErr result (self.new ≡ self.old) }
         ensures refutes { IfOk result (λ k. Refutes self.new k
@@ -191,7 +191,7 @@ impl Draft {
         step: usize,
     ) -> Result<usize, AllocError>
         requires sequent { AreFormulas self.old sequent.now }
-        requires kept { IsKept self.old (trees_at self.old.trees sequent.now) places.now step }
+        requires kept { RefutesAt self.old (trees_at self.old.trees sequent.now) places.now step }
         ensures number { IfOk result (λ k. k ≡ length self.old.steps) }
         ensures pushed { IfOk result (λ _. self.new
             ≡ record self.old {

@@ -5,7 +5,7 @@ ghost use Rattle.trees.specs.Node.{Grows};
 ghost use Rattle.tasks.specs.Meaning.{task_at, tasks_at, TaskHeld, TasksHeld};
 ghost use Rattle.tasks.specs.Valid.{IsValid};
 ghost use Rattle.evidence.specs.Stages.{PartsClose, PartsHeld, parts_at};
-ghost use Rattle.written_files.specs.Named.{NamesAreWords};
+ghost use Rattle.tasks.specs.Words.{NamesAreWords};
 ghost use Rattle.part_texts.specs.Problems.{AreProblems};
 ghost use Rattle.fault_order.specs.Answers.{Answers, EndsAs, result_bytes};
 ghost use Rattle.program.specs.Order.{Handed, Lifting, LiftText, RefutationsRead};

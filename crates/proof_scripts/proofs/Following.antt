@@ -12,7 +12,7 @@ use Rattle.tasks.specs.Meaning.{trees_at}
 use Rattle.rule_rows.specs.Trees.{RuleTree, RCut, RForall, RLetDef, RIfDef, RMatchDef, RNotExists, RReplace, RRefl, RProject}
 use Rattle.rule_rows.specs.Forms.{negated, connected}
 use Rattle.rule_rows.specs.Rows.{IsRuleRow, where_true, where_false}
-use Rattle.evidence.specs.Drafts.{DraftTree, Extends, Refutes, RefuteAll, AreFormulas, IsKept}
+use Rattle.evidence.specs.Drafts.{DraftTree, Extends, Refutes, RefuteAll, AreFormulas, RefutesAt}
 use Rattle.evidence.specs.Rules.{RefuteAdded}
 use Rattle.evidence.proofs.Rules.{refutes_later, some_map}
 use Rattle.evidence.proofs.Formulas.{same, formulas_later, formula_later, both_formulas, behind_ids}
@@ -97,7 +97,7 @@ module _ (d d1 : DraftTree) (x : Extends d d1) where
   given_later : (f t : List Tree) (k n : ℕ) → IsGiven d f t k n → IsGiven d1 f t k n
   given_later f t k n g = record { before = g.before; last = g.last; is = g.is; as_many = g.as_many; refutes = refutes_later d d1 x k _ g.refutes }
 
-  kept_later : (s : List Tree) (ps : List ℕ) (k : ℕ) → IsKept d s ps k → IsKept d1 s ps k
+  kept_later : (s : List Tree) (ps : List ℕ) (k : ℕ) → RefutesAt d s ps k → RefutesAt d1 s ps k
   kept_later s ps k g = record { kept = g.kept; are = g.are; refutes = refutes_later d d1 x k _ g.refutes }
 
   by_rule_later : (s : List Tree) (r : RuleTree) (added : List (List Tree)) → IsByRule d.task s r added → IsByRule d1.task s r added
@@ -332,7 +332,7 @@ places_behind : (d : DraftTree) (front : List TermId) (t : List Tree) (ps : List
 places_behind d front t [] = refl
 places_behind d front t (i ∷ ps) = cc (behind_ids d front t i, places_behind d front t ps)
 
-pub kept_behind : (d : DraftTree) (front tail ids : List TermId) (ps qs : List ℕ) (k : ℕ) → ids ≡ front ++ tail → qs ≡ map (λ i. length front + i) ps → IsKept d (trees_at d.trees tail) ps k → IsKept d (trees_at d.trees ids) qs k
+pub kept_behind : (d : DraftTree) (front tail ids : List TermId) (ps qs : List ℕ) (k : ℕ) → ids ≡ front ++ tail → qs ≡ map (λ i. length front + i) ps → RefutesAt d (trees_at d.trees tail) ps k → RefutesAt d (trees_at d.trees ids) qs k
 kept_behind d front tail ids ps qs k e q g =
     let T = trees_at d.trees tail in
     let s : trees_at d.trees ids ≡ trees_at d.trees front ++ T = ap (trees_at d.trees) e ∙ map-append (tree_at d.trees) front tail in

@@ -10,7 +10,7 @@ use Rattle.tasks.specs.Meaning.{trees_at}
 use Rattle.rule_rows.specs.Trees.{RuleTree, RNotTrue, RClash, RCut, RForall, RNotForall, RLetDef, RIfDef, RMatchDef, RNotNot, RIrrefl, RExists, RNotExists, RReplace, RFalse, RRefl, RDistinct, RProject}
 use Rattle.rule_rows.specs.Forms.{negated, connected}
 use Rattle.rule_rows.specs.Rows.{IsRuleRow, where_true, where_false}
-use Rattle.evidence.specs.Drafts.{DraftTree, Refutes, AreFormulas, IsFormulaAt, IsKept}
+use Rattle.evidence.specs.Drafts.{DraftTree, Refutes, AreFormulas, IsFormulaAt, RefutesAt}
 use Rattle.evidence.specs.Rules.{NamesOwn, holding_rule, failing_rule}
 use Rattle.proof_scripts.specs.declared.line.Word.{Word}
 use Rattle.proof_scripts.specs.declared.line.Word.TheVariants as word
@@ -135,7 +135,7 @@ Follows d f [] [] = Unit {0}
 Follows d f [] (t ∷ ts) = ⊥
 Follows d f (l ∷ ls) [] = ⊥
 Follows d f (GivenLine k n ∷ ls) (t ∷ ts) = IsGiven d f t k n × Follows d f ls ts
-Follows d f (KeptLine k ps ∷ ls) (t ∷ ts) = IsKept d t ps k × Follows d f ls ts
+Follows d f (KeptLine k ps ∷ ls) (t ∷ ts) = RefutesAt d t ps k × Follows d f ls ts
 Follows d f (RuleLine r a b ∷ ls) (t ∷ ts) = IsByRule d.task (f ++ t) r (a ++ b) × Follows d f ls (sequents_under t a ++ (sequents_under t b ++ ts))
 Follows d f (HoldingLine op i ∷ ls) (t ∷ ts) = IsSomeAnd (connected (slice_get t i)) (λ p. (p.0 ≡ op) × Follows d f ls (sequents_under t (where_true op p.1 p.2) ++ ts))
 Follows d f (FailingLine op i ∷ ls) (t ∷ ts) = IsSomeAnd (connected (negated (slice_get t i))) (λ p. (p.0 ≡ op) × Follows d f ls (sequents_under t (where_false op p.1 p.2) ++ ts))

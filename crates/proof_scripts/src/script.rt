@@ -1,7 +1,7 @@
 // Steps by the lines of a script.
 ghost use Rattle.std.specs.Prelude.{◌≡◌, ◌+◌, ◌<◌, ◌≤◌, ◌++◌, [], ◌∷◌, All, length, map, IfOk};
 ghost use Rattle.tasks.specs.Meaning.{trees_at};
-ghost use Rattle.evidence.specs.Drafts.{Extends, Refutes, AreFormulas, IsKept};
+ghost use Rattle.evidence.specs.Drafts.{Extends, Refutes, AreFormulas, RefutesAt};
 ghost use Rattle.proof_scripts.specs.Scripts.{word_rule, WordHeld, added_ids, added_at, sequents_under, lines_at, LinesHeld, IsByRule, IsGiven, places_of, PlacesFit, Follows, CanFollow};
 ghost use Rattle.proof_scripts.specs.Derived.{Consumes, ConsumesBehind, RefuteUnder};
 
@@ -60,7 +60,8 @@ fn by_kept(
 ) -> Result<usize, AllocError>
     requires front { AreFormulas draft.old front.now }
     requires tail { AreFormulas draft.old tail.now }
-    requires kept { IsKept draft.old (trees_at draft.old.trees tail.now) (places_of places) step }
+    requires kept { RefutesAt draft.old
+        (trees_at draft.old.trees tail.now) (places_of places) step }
     ensures refutes { IfOk result (λ k. Refutes draft.new k
         (trees_at draft.old.trees front.now ++ trees_at draft.old.trees tail.now)) }
     ensures grows { Extends draft.old draft.new }

@@ -2,7 +2,7 @@
 //! It needs the texts of problems, S-expressions and the reading of drivers; nothing needs it.
 #![tactic(auto)]
 
-ghost use Rattle.smt_law.specs.Law.{LawOfTexts, NamesAreSpelt};
+ghost use Rattle.smt_law.specs.Law.{LawOfTexts, NamesAreSpelt, ScopedNamesAreSpelt};
 ghost use Rattle.smt_law.specs.Shipped.{ShippedArePlain, ShippedAreRead};
 
 /// The law of texts, for readers to cite: where the templates of a driver are plain, two problems of
@@ -10,8 +10,9 @@ ghost use Rattle.smt_law.specs.Shipped.{ShippedArePlain, ShippedAreRead};
 /// SMT-LIB have the same list of facts followed by locals, and the same goal; `&&` is read as `/\`
 /// and `||` as `\/`. The templates of `drivers/smt_syntax.drv` are plain over every valid task, and
 /// a driver that is read from this file has them, where the names of int.Int stand for the entries 1
-/// to 8. The names of a table are as the law wants them where those of the symbols are ordinary. It
-/// does nothing when it runs.
+/// to 8. The names of a table are as the law wants them where those of the symbols are ordinary, as
+/// are those of the task of each goal of a source (`theories::names_words`, `scoped`). It does
+/// nothing when it runs.
 pub fn law_of_texts()
     ensures law { LawOfTexts }
     ensures shipped { ShippedArePlain }

@@ -12,7 +12,7 @@ use Rattle.stage_limits.specs.Limits.{limited}
 use Rattle.stage_limits.specs.Laws.{limited_gives}
 use Rattle.stages.specs.declared.transformation.Transformation.{Transformation}
 use Rattle.stages.specs.Transformations.{equation_of}
-use Rattle.stages.specs.Carried.{and_then, map_ok, all_tasks, carried_once, at_stage, carried, through}
+use Rattle.stages.specs.Carried.{and_then, map_ok, all_tasks, carried_once, at_stage, carried, carries}
 use Rattle.stages.specs.Lifted.{HandedHasSequents, OneHasSequent, AreRefuted}
 use Rattle.stages.specs.Levels.{GivesSome, IsFrontClosed, IsRefutedFirst, AreRefutedFirst, IsSoFar}
 use Rattle.stages.proofs.Sequents.{have_more}
@@ -70,18 +70,18 @@ all_split f (t ∷ ts) us vs a =
 
 -- ---- equations in order
 -- an equation before others
-composed : (e : TaskEquation) (es : List TaskEquation) (ts vs us : List TaskTree) → all_tasks e ts ≡ Ok vs → all_tasks (through es) vs ≡ Ok us → all_tasks (through (e ∷ es)) ts ≡ Ok us
-composed e es [] vs us a b = let n : vs ≡ [] = cc in subst (λ (z : List TaskTree). all_tasks (through es) z ≡ Ok us) n b
+composed : (e : TaskEquation) (es : List TaskEquation) (ts vs us : List TaskTree) → all_tasks e ts ≡ Ok vs → all_tasks (carries es) vs ≡ Ok us → all_tasks (carries (e ∷ es)) ts ≡ Ok us
+composed e es [] vs us a b = let n : vs ≡ [] = cc in subst (λ (z : List TaskTree). all_tasks (carries es) z ≡ Ok us) n b
 composed e es (t ∷ ts) vs us a b =
     let p = all_first e t ts vs a in
-    let q = all_split (through es) p.first p.later us (subst (λ (z : List TaskTree). all_tasks (through es) z ≡ Ok us) p.joined b) in
-    let here : through (e ∷ es) t ≡ Ok q.first = rw p.gives q.first_is in
-    all_join (through (e ∷ es)) t ts q.first q.later here (composed e es ts p.later q.later p.become q.later_is) ∙ ap (λ (z : List TaskTree). Ok z) (sym q.joined)
+    let q = all_split (carries es) p.first p.later us (subst (λ (z : List TaskTree). all_tasks (carries es) z ≡ Ok us) p.joined b) in
+    let here : carries (e ∷ es) t ≡ Ok q.first = rw p.gives q.first_is in
+    all_join (carries (e ∷ es)) t ts q.first q.later here (composed e es ts p.later q.later p.become q.later_is) ∙ ap (λ (z : List TaskTree). Ok z) (sym q.joined)
 
 -- no equation
-through_none : (ts : List TaskTree) → all_tasks (through []) ts ≡ Ok ts
+through_none : (ts : List TaskTree) → all_tasks (carries []) ts ≡ Ok ts
 through_none [] = refl
-through_none (t ∷ ts) = all_join (through []) t ts (t ∷ []) ts refl (through_none ts)
+through_none (t ∷ ts) = all_join (carries []) t ts (t ∷ []) ts refl (through_none ts)
 
 once_all : (equation : TaskEquation) (ts us : List TaskTree) → carried_once equation ts ≡ Ok us → all_tasks equation ts ≡ Ok us
 once_all equation ts us e = by (all_tasks equation ts) refl e
@@ -91,32 +91,32 @@ once_all equation ts us e = by (all_tasks equation ts) refl e
     by (Err q) is h = absurd (cc)
 
 -- tasks that are small enough are those that the equations give
-carried_through : (es : List TaskEquation) (n : ℕ) (ts us : List TaskTree) → carried es n ts ≡ Ok us → all_tasks (through es) ts ≡ Ok us
+carried_through : (es : List TaskEquation) (n : ℕ) (ts us : List TaskTree) → carried es n ts ≡ Ok us → all_tasks (carries es) ts ≡ Ok us
 carried_through [] n ts us h = let e : ts ≡ us = cc in through_none ts ∙ ap (λ (z : List TaskTree). Ok z) e
 carried_through (e ∷ es) n ts us h = by (carried_once e ts) refl h (λ vs q. carried_through es (n + 1) vs us q)
   where
     by : (r : Result (List TaskTree) Refusal) → carried_once e ts ≡ r → and_then (at_stage n r) (carried es (n + 1)) ≡ Ok us
-        → ((vs : List TaskTree) → carried es (n + 1) vs ≡ Ok us → all_tasks (through es) vs ≡ Ok us) → all_tasks (through (e ∷ es)) ts ≡ Ok us
+        → ((vs : List TaskTree) → carried es (n + 1) vs ≡ Ok us → all_tasks (carries es) vs ≡ Ok us) → all_tasks (carries (e ∷ es)) ts ≡ Ok us
     by (Ok vs) is q rest = composed e es ts vs us (once_all e ts vs is) (rest vs q)
     by (Err r) is q rest = absurd (cc)
 
 -- the first equation gives some tasks, and the others what all give
-pub through_first : (e : TaskEquation) (es : List TaskEquation) (t : TaskTree) (vs : List TaskTree) → through (e ∷ es) t ≡ Ok vs → GivesSome e t
+pub through_first : (e : TaskEquation) (es : List TaskEquation) (t : TaskTree) (vs : List TaskTree) → carries (e ∷ es) t ≡ Ok vs → GivesSome e t
 through_first e es t vs h = by (e t) refl h
   where
-    by : (r : Result (List TaskTree) Refusal) → e t ≡ r → and_then r (all_tasks (through es)) ≡ Ok vs → GivesSome e t
+    by : (r : Result (List TaskTree) Refusal) → e t ≡ r → and_then r (all_tasks (carries es)) ≡ Ok vs → GivesSome e t
     by (Ok us) is q = record { tasks = us; gives = is }
     by (Err r) is q = absurd (cc)
 
-pub through_rest : (e : TaskEquation) (es : List TaskEquation) (t : TaskTree) (us vs : List TaskTree) → e t ≡ Ok us → through (e ∷ es) t ≡ Ok vs → all_tasks (through es) us ≡ Ok vs
+pub through_rest : (e : TaskEquation) (es : List TaskEquation) (t : TaskTree) (us vs : List TaskTree) → e t ≡ Ok us → carries (e ∷ es) t ≡ Ok vs → all_tasks (carries es) us ≡ Ok vs
 through_rest e es t us vs a h = rw a at h
 
 pub same_given : (r : Result (List TaskTree) Refusal) (us vs : List TaskTree) → r ≡ Ok us → r ≡ Ok vs → us ≡ vs
 same_given r us vs a b = cc
 
 -- where no stage is left
-pub last_gives : (later : List Transformation) (us vs : List TaskTree) → length later ≡ 0 → all_tasks (through (map equation_of later)) us ≡ Ok vs → vs ≡ us
-last_gives [] us vs n h = same_given (all_tasks (through []) us) vs us h (through_none us)
+pub last_gives : (later : List Transformation) (us vs : List TaskTree) → length later ≡ 0 → all_tasks (carries (map equation_of later)) us ≡ Ok vs → vs ≡ us
+last_gives [] us vs n h = same_given (all_tasks (carries []) us) vs us h (through_none us)
 last_gives (x ∷ xs) us vs n h = absurd (omega arith)
 
 -- ---- which refutations are of which tasks
@@ -248,9 +248,9 @@ far_more f ts handed i used lists t us steps far l at e c h =
     by_head d = cc
 
 -- ---- a task and its stages
-pub begin_refuted : (stages : List Transformation) (t : TaskTree) (handed : List (List StepTree)) → AreRefuted stages t handed → IsRefutedFirst (through (map equation_of stages)) t handed
+pub begin_refuted : (stages : List Transformation) (t : TaskTree) (handed : List (List StepTree)) → AreRefuted stages t handed → IsRefutedFirst (carries (map equation_of stages)) t handed
 begin_refuted stages t handed r =
-    let p = all_first (through (map equation_of stages)) t [] r.tasks (carried_through (map equation_of stages) 0 (t ∷ []) r.tasks r.becomes) in
+    let p = all_first (carries (map equation_of stages)) t [] r.tasks (carried_through (map equation_of stages) 0 (t ∷ []) r.tasks r.becomes) in
     let none : p.later ≡ [] = same_given (Ok []) p.later [] p.become refl in
     let all : r.tasks ≡ p.first = p.joined ∙ ap (λ (z : List TaskTree). p.first ++ z) none ∙ append-nil p.first in
     let close : PartsClose p.first handed = subst (λ (z : List TaskTree). PartsClose z handed) all r.close in
@@ -262,11 +262,11 @@ begin_refuted stages t handed r =
     }
 
 -- all lists are those of what a task becomes
-pub all_taken : (stages : List Transformation) (t : TaskTree) (handed : List (List StepTree)) (us : List TaskTree) (n : ℕ) → AreRefuted stages t handed → through (map equation_of stages) t ≡ Ok us → n ≡ length us → take n handed ≡ handed
+pub all_taken : (stages : List Transformation) (t : TaskTree) (handed : List (List StepTree)) (us : List TaskTree) (n : ℕ) → AreRefuted stages t handed → carries (map equation_of stages) t ≡ Ok us → n ≡ length us → take n handed ≡ handed
 all_taken stages t handed us n r e q =
-    let p = all_first (through (map equation_of stages)) t [] r.tasks (carried_through (map equation_of stages) 0 (t ∷ []) r.tasks r.becomes) in
+    let p = all_first (carries (map equation_of stages)) t [] r.tasks (carried_through (map equation_of stages) 0 (t ∷ []) r.tasks r.becomes) in
     let none : p.later ≡ [] = same_given (Ok []) p.later [] p.become refl in
-    let same : p.first ≡ us = same_given (through (map equation_of stages) t) p.first us p.gives e in
+    let same : p.first ≡ us = same_given (carries (map equation_of stages) t) p.first us p.gives e in
     let all : r.tasks ≡ us = p.joined ∙ ap (λ (z : List TaskTree). p.first ++ z) none ∙ append-nil p.first ∙ same in
     take_all n handed (omega (arith, r.close.as_many, ap length all, q))
 

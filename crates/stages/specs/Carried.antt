@@ -41,6 +41,6 @@ abbrev pub carried_task : List TaskEquation → TaskTree → Result (List TaskTr
 carried_task equations t = carried equations 0 (t ∷ [])
 
 -- the tasks that a task becomes by equations in order, however large they are
-abbrev pub through : List TaskEquation → TaskEquation
-through [] t = Ok (t ∷ [])
-through (equation ∷ equations) t = and_then (equation t) (all_tasks (through equations))
+abbrev pub carries : List TaskEquation → TaskEquation
+carries [] t = Ok (t ∷ [])
+carries (equation ∷ equations) t = and_then (equation t) (all_tasks (carries equations))

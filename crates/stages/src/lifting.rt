@@ -8,7 +8,7 @@ ghost use Rattle.kernel.specs.Right.{last_starts};
 ghost use Rattle.evidence.specs.Drafts.{Extends};
 ghost use Rattle.evidence.specs.Stages.{Gives, IsOwnTask, PartsClose, PartsHeld, parts_at};
 ghost use Rattle.stages.specs.Transformations.{equation_of};
-ghost use Rattle.stages.specs.Carried.{through};
+ghost use Rattle.stages.specs.Carried.{carries};
 ghost use Rattle.stages.specs.Steps.{AreTasks, IsCopy};
 ghost use Rattle.stages.specs.Lifted.{AreDerived, AreRefuted, HandedHasSequents, IsDerived};
 ghost use Rattle.stages.specs.Levels.{GivesSome, IsFrontClosed, IsRefutedFirst, AreRefutedFirst};
@@ -160,9 +160,9 @@ fn lift_task(
     requires held { TaskHeld store task.now }
     requires valid { IsValid (task_at store task.now) }
     requires rest_held { PartsHeld store rest.now }
-    requires refuted { IsRefutedFirst (through (map equation_of (stage.now ∷ later.now)))
+    requires refuted { IsRefutedFirst (carries (map equation_of (stage.now ∷ later.now)))
         (task_at store task.now) (parts_at store rest.now) }
-    ensures { IfOk result (IsDerivedFirst (through (map equation_of (stage.now ∷ later.now))) store
+    ensures { IfOk result (IsDerivedFirst (carries (map equation_of (stage.now ∷ later.now))) store
         (task_at store task.now) (parts_at store rest.now)) }
 {
     let mut store = store;
@@ -190,9 +190,9 @@ fn lift_tasks(
 ) -> Result<(Parts, usize), AllocError>
     requires tasks { AreTasks store tasks.now }
     requires rest_held { PartsHeld store rest.now }
-    requires refuted { AreRefutedFirst (through (map equation_of (stage.now ∷ later.now)))
+    requires refuted { AreRefutedFirst (carries (map equation_of (stage.now ∷ later.now)))
         (tasks_at store tasks.now) (parts_at store rest.now) }
-    ensures { IfOk result (AreDerivedFirst (through (map equation_of (stage.now ∷ later.now))) store
+    ensures { IfOk result (AreDerivedFirst (carries (map equation_of (stage.now ∷ later.now))) store
         (tasks_at store tasks.now) (parts_at store rest.now)) }
 {
     let mut store = store;

@@ -23,8 +23,8 @@ fn tokens_of_text(alloc: Global, text: &[u8]) -> Result<Vec<Token>, AllocError>
     }
 }
 
-/// What is wanting where a text of the library has no file.
-fn wanting(fault: SyntaxFault) -> AllocError
+/// The error for the one fault that a text of the library can have.
+fn memory_error(fault: SyntaxFault) -> AllocError
     requires { fault ≡ SyntaxFault.Memory }
 {
     match fault {
@@ -43,7 +43,7 @@ fn file_of_text(alloc: Global, text: &[u8]) -> Result<File, AllocError>
     let tokens = tokens_of_text(alloc, text)?;
     match parse(alloc, tokens.as_slice(), text) {
         Ok(file) => Ok(file),
-        Err(fault) => Err(wanting(fault)),
+        Err(fault) => Err(memory_error(fault)),
     }
 }
 

@@ -4,8 +4,8 @@ ghost use Rattle.std.specs.Prelude.{◌≡◌, ◌≤◌, ◌↔◌, IsTrue, IfO
 ghost use Rattle.std.specs.Option.{ForSome};
 ghost use Rattle.trees.specs.Tree.{height};
 ghost use Rattle.trees.specs.Node.{tree_at, Holds, Grows};
+ghost use Rattle.trees.specs.Facts.{Each};
 ghost use Rattle.tasks.specs.Meaning.{task_at};
-ghost use Rattle.linear_leaf.specs.Valuations.{Each};
 ghost use Rattle.rule_rows.specs.Trees.{rule_trees};
 ghost use Rattle.rule_rows.specs.Meaning.{rule_at, step_at, steps_at, StepHeld, StepsHeld};
 ghost use Rattle.kernel.specs.Open.{OpenIn, StepIsOpen, TemplateIsOpen};

@@ -118,7 +118,7 @@ pub record TheoriesBy (T : SyntaxDeclarations → StateTree → StateTree → Ty
 abbrev pub TheoriesOf : List Tree → List SyntaxTheory → TheoriesTree → Type 0
 TheoriesOf = TheoriesBy AreDeclarationsTyped
 
--- the first fault: one of the library, which has none as rows show, or one of the source
+-- the first fault: one of the library, which as rows show has none, or one of the source
 pub record IsLibraryFault (s : List Tree) (f : SourceFault) : Type 0 where
   pub files : List (List ℕ × File)
   pub are : AreFilesOf library files

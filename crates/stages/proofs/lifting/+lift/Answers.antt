@@ -17,7 +17,7 @@ use Rattle.stages.specs.declared.transformation.Transformation.{Transformation}
 use Rattle.stages.specs.declared.lifting.Derived.{Derived}
 use Rattle.stages.specs.Transformations.{equation_of}
 use Rattle.stages.specs.Kept.{keeps_of}
-use Rattle.stages.specs.Carried.{all_tasks, through}
+use Rattle.stages.specs.Carried.{all_tasks, carries}
 use Rattle.stages.specs.Steps.{AreTasks}
 use Rattle.stages.specs.Lifted.{HandedHasSequents, ListsHaveSequents}
 use Rattle.stages.specs.Levels.{IsFrontClosed, IsRefutedFirst, IsDerivedFirst, IsSoFar}
@@ -102,8 +102,8 @@ lift_task-lift_tasks-requires t c =
           parts_held_later s s1 g c.args.rest.now c.requires.rest_held,
           record {
             tasks = r.tasks;
-            become = ap (λ (ts : List Task). all_tasks (through (map equation_of (c.in-Some.next.now ∷ c.in-Some.others.now))) (tasks_at s1 ts)) is
-                ∙ subst (λ (xs : List Transformation). all_tasks (through (map equation_of xs)) us ≡ Ok r.tasks) first rest;
+            become = ap (λ (ts : List Task). all_tasks (carries (map equation_of (c.in-Some.next.now ∷ c.in-Some.others.now))) (tasks_at s1 ts)) is
+                ∙ subst (λ (xs : List Transformation). all_tasks (carries (map equation_of xs)) us ≡ Ok r.tasks) first rest;
             front = subst (λ (z : List (List StepTree)). IsFrontClosed r.tasks z) (sym (parts_later s s1 g c.args.rest.now c.requires.rest_held)) r.front;
           },
         ),
@@ -169,9 +169,9 @@ lift_task-returns t c =
     let first : c.args.later.now ≡ c.in-Some.next.now ∷ c.in-Some.others.now = search rules in
     let rest = through_rest e (map equation_of c.args.later.now) (task_at s c.args.task.now) us r.tasks c.in_ok-to.ensures.tasks r.gives in
     let es = map equation_of (c.in-Some.next.now ∷ c.in-Some.others.now) in
-    let here : all_tasks (through es) us ≡ Ok r.tasks = subst (λ (xs : List Transformation). all_tasks (through (map equation_of xs)) us ≡ Ok r.tasks) first rest in
-    let there : all_tasks (through es) us ≡ Ok d.tasks = ap (λ (ts : List Task). all_tasks (through es) (tasks_at s1 ts)) (sym c.deref.ensures.value) ∙ d.become in
-    let same : d.tasks ≡ r.tasks = same_given (all_tasks (through es) us) d.tasks r.tasks there here in
+    let here : all_tasks (carries es) us ≡ Ok r.tasks = subst (λ (xs : List Transformation). all_tasks (carries (map equation_of xs)) us ≡ Ok r.tasks) first rest in
+    let there : all_tasks (carries es) us ≡ Ok d.tasks = ap (λ (ts : List Task). all_tasks (carries es) (tasks_at s1 ts)) (sym c.deref.ensures.value) ∙ d.become in
+    let same : d.tasks ≡ r.tasks = same_given (all_tasks (carries es) us) d.tasks r.tasks there here in
     let own = task_later s up.store g c.args.task.now c.requires.held in
     let handed : parts_at s1 c.args.rest.now ≡ parts_at s c.args.rest.now = parts_later s s1 c.in_ok-to.ensures.grows c.args.rest.now c.requires.rest_held in
     let made = c.in_ok-derived-in-Some.derived in
@@ -194,7 +194,7 @@ lift_task-returns t c =
 -- ---- the loop
 pub lift_tasks-loop-i-init : goal.lift_tasks-loop-i-init
 lift_tasks-loop-i-init t c =
-    let f = through (map equation_of (c.args.stage.now ∷ c.args.later.now)) in
+    let f = carries (map equation_of (c.args.stage.now ∷ c.args.later.now)) in
     let s = c.args.store in
     let ts = tasks_at s c.args.tasks.now in
     let none : c.in_ok-lists.lists.items ≡ [] = search rules in
@@ -206,7 +206,7 @@ lift_tasks-loop-i-init t c =
 
 pub lift_tasks-lift_task-requires : goal.lift_tasks-lift_task-requires
 lift_tasks-lift_task-requires t c =
-    let f = through (map equation_of (c.args.stage.now ∷ c.args.later.now)) in
+    let f = carries (map equation_of (c.args.stage.now ∷ c.args.later.now)) in
     let s0 = c.args.store in
     let s = c.loop-i.store in
     let g = c.loop-i.invariant.grows in
@@ -230,7 +230,7 @@ lift_tasks-lift_task-requires t c =
 
 pub lift_tasks-loop-i-preserved : goal.lift_tasks-loop-i-preserved
 lift_tasks-loop-i-preserved t c =
-    let f = through (map equation_of (c.args.stage.now ∷ c.args.later.now)) in
+    let f = carries (map equation_of (c.args.stage.now ∷ c.args.later.now)) in
     let s0 = c.args.store in
     let s = c.loop-i.store in
     let g = c.loop-i.invariant.grows in
@@ -253,7 +253,7 @@ lift_tasks-loop-i-preserved t c =
 
 pub lift_tasks-overflow_add-used : goal.lift_tasks-overflow_add-used
 lift_tasks-overflow_add-used t c =
-    let f = through (map equation_of (c.args.stage.now ∷ c.args.later.now)) in
+    let f = carries (map equation_of (c.args.stage.now ∷ c.args.later.now)) in
     let s0 = c.args.store in
     let s = c.loop-i.store in
     let rest = c.args.rest.now in
@@ -272,7 +272,7 @@ lift_tasks-returns t c =
     let all : take c.loop-i.i ts ≡ ts = take_all c.loop-i.i ts (omega (arith, c.loop-i-test.false, length-map c.args.tasks.now (task_at s0))) in
     record {
       tasks = far.tasks;
-      become = subst (λ (z : List TaskTree). all_tasks (through (map equation_of (c.args.stage.now ∷ c.args.later.now))) z ≡ Ok far.tasks) all far.become;
+      become = subst (λ (z : List TaskTree). all_tasks (carries (map equation_of (c.args.stage.now ∷ c.args.later.now))) z ≡ Ok far.tasks) all far.become;
       count = far.count;
       derived = record {
         grows = c.loop-i.invariant.grows;

@@ -6,7 +6,7 @@ use Rattle.rule_rows.specs.Trees.{StepTree}
 use Rattle.evidence.specs.Stages.{PartsHeld, parts_at}
 use Rattle.stages.specs.declared.transformation.Transformation.{Transformation}
 use Rattle.stages.specs.Transformations.{equation_of}
-use Rattle.stages.specs.Carried.{through}
+use Rattle.stages.specs.Carried.{carries}
 use Rattle.stages.specs.Lifted.{IsDerived}
 use Rattle.stages.specs.Levels.{IsRefutedFirst}
 use Rattle.stages.proofs.Sequents.{have_own}
@@ -31,8 +31,8 @@ lift_task-requires-clause-refuted c =
     let t = task_at s c.args.task.now in
     let first : c.args.stages.now ≡ c.in-Some.stage.now ∷ c.in-Some.later.now = search rules in
     let r = begin_refuted c.args.stages.now t (parts_at s c.args.parts.items) c.requires.refuted in
-    subst (λ (z : List (List Step)). IsRefutedFirst (through (map equation_of (c.in-Some.stage.now ∷ c.in-Some.later.now))) t (parts_at s z)) (sym c.deref.ensures.value)
-    (subst (λ (xs : List Transformation). IsRefutedFirst (through (map equation_of xs)) t (parts_at s c.args.parts.items)) first r)
+    subst (λ (z : List (List Step)). IsRefutedFirst (carries (map equation_of (c.in-Some.stage.now ∷ c.in-Some.later.now))) t (parts_at s z)) (sym c.deref.ensures.value)
+    (subst (λ (xs : List Transformation). IsRefutedFirst (carries (map equation_of xs)) t (parts_at s c.args.parts.items)) first r)
 
 pub returns-in_ok-derived-in-Some : goal.returns-in_ok-derived-in-Some
 returns-in_ok-derived-in-Some c =
@@ -41,7 +41,7 @@ returns-in_ok-derived-in-Some c =
     let handed = parts_at s c.args.parts.items in
     let first : c.args.stages.now ≡ c.in-Some.stage.now ∷ c.in-Some.later.now = search rules in
     let d = c.in_ok-derived-in-Some.ensures in
-    let gives = subst (λ (xs : List Transformation). through (map equation_of xs) t ≡ Ok d.tasks) (sym first) d.gives in
+    let gives = subst (λ (xs : List Transformation). carries (map equation_of xs) t ≡ Ok d.tasks) (sym first) d.gives in
     let n = c.in_ok-derived-in-Some.count in
     let all : take n (parts_at s c.deref.result.now) ≡ handed =
     ap (λ (z : List (List Step)). take n (parts_at s z)) c.deref.ensures.value ∙ all_taken c.args.stages.now t handed d.tasks n c.requires.refuted gives d.count in
