@@ -9,7 +9,7 @@ ghost use Rattle.clones.specs.Meaning.{map_at, MapHeld, AreKnown};
 ghost use Rattle.clone_copies.specs.Entries.{entries_copied};
 
 use clone_elements::entry_or;
-use clones::{Known, SymbolMap, copy_entry};
+use clones::{MappedTrees, SymbolMap, copy_entry};
 use outside::Seq;
 use std::alloc::{AllocError, Global};
 use tasks::{Signature, SymbolInfo};
@@ -21,7 +21,7 @@ fn copy_entries(
     store: &mut Store,
     sig: &Signature,
     morphism: &SymbolMap,
-    known: &mut Known,
+    known: &mut MappedTrees,
     theory: &[u8],
     within: &[u8],
     symbols: &[usize],
@@ -52,7 +52,7 @@ pub fn push_entries(
     store: &mut Store,
     sig: &mut Signature,
     morphism: &SymbolMap,
-    known: &mut Known,
+    known: &mut MappedTrees,
     theory: &[u8],
     within: &[u8],
     symbols: &[usize],

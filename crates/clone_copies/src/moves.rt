@@ -11,7 +11,7 @@ ghost use Rattle.elab_walk.specs.Drafts.{HoldsType};
 ghost use Rattle.clone_copies.specs.Moves.{IsAliasOf, IsTypeMapped, IsThingMapped, IsMoveMapped, AreMovesMapped, IsThingHeld, MoveHeld};
 
 use clone_elements::vars_of;
-use clones::{Known, SymbolMap, map_symbol, map_tree};
+use clones::{MappedTrees, SymbolMap, map_symbol, map_tree};
 use names_space::{Table, TypeName};
 use std::alloc::{AllocError, Global};
 use tasks::Signature;
@@ -43,7 +43,7 @@ fn map_alias(
     alloc: Global,
     store: &mut Store,
     morphism: &SymbolMap,
-    known: &mut Known,
+    known: &mut MappedTrees,
     vars: usize,
     ty: TermId,
 ) -> Result<TypeName, AllocError>
@@ -65,7 +65,7 @@ fn map_thing(
     store: &mut Store,
     sig: &Signature,
     morphism: &SymbolMap,
-    known: &mut Known,
+    known: &mut MappedTrees,
     table: Table,
     thing: TypeName,
 ) -> Result<TypeName, AllocError>
@@ -106,7 +106,7 @@ fn map_move(
     store: &mut Store,
     sig: &Signature,
     morphism: &SymbolMap,
-    known: &mut Known,
+    known: &mut MappedTrees,
     step: &Move,
 ) -> Result<Move, AllocError>
     requires map_held { MapHeld store.old morphism.now }
@@ -137,7 +137,7 @@ pub fn map_moves(
     store: &mut Store,
     sig: &Signature,
     morphism: &SymbolMap,
-    known: &mut Known,
+    known: &mut MappedTrees,
     moves: &[Move],
 ) -> Result<Vec<Move>, AllocError>
     requires map_held { MapHeld store.old morphism.now }

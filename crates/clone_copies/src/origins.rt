@@ -11,7 +11,7 @@ use indexmap::IndexMap;
 use outside::{Seq, Text};
 use std::alloc::{AllocError, Global};
 use tasks::Decl;
-use theory_states::{AxiomAt, Known};
+use theory_states::{AxiomAt, KnownTheory};
 
 /// Whether the declaration at a place is of the theory with this path.
 pub fn is_own(decls: &[Decl], path: &[u8], place: usize) -> bool
@@ -40,7 +40,11 @@ fn push_own(
 }
 
 /// The places of a theory's own declarations, in order. Only want of memory refuses.
-pub fn own_places(alloc: Global, decls: &[Decl], known: &Known) -> Result<Vec<usize>, AllocError>
+pub fn own_places(
+    alloc: Global,
+    decls: &[Decl],
+    known: &KnownTheory,
+) -> Result<Vec<usize>, AllocError>
     ensures { IfOk result (λ v. (s : List Tree) → v.items ≡ own_places (declarations_at s decls.now)
         (known_at s known.now)) }
 {

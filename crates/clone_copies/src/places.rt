@@ -19,7 +19,7 @@ ghost use Rattle.clone_copies.specs.Meaning.{copying_at, bare_at};
 use crate::origins::{copy_names, is_own};
 use binders::inst_types;
 use clone_elements::{Fate, Plan, is_replaced};
-use clones::{Known as Trees, SymbolMap, copy_decl};
+use clones::{MappedTrees as Trees, SymbolMap, copy_decl};
 use elab_parts::push_entry;
 use goal_tasks::GoalAt;
 use indexmap::IndexMap;

@@ -7,7 +7,7 @@ use Rattle.tasks.specs.Meaning.{DeclHeld}
 use Rattle.tasks.proofs.Growth.{declarations_later}
 use Rattle.std.proofs.Common.{All}
 use Rattle.clones.specs.Mapped.{Map}
-use Rattle.clone_elements.specs.declared.left.Source.{Source}
+use Rattle.clone_elements.specs.declared.left.ClonedTheory.{ClonedTheory}
 use Rattle.clone_elements.specs.Left.{Origin}
 use Rattle.clone_elements.specs.Plans.{SideTree, PlacedFates}
 use Rattle.clone_elements.specs.Elements.{SidesTold}
@@ -21,5 +21,5 @@ told_moved a b o p m n f g xs ys it qa qo qm qf qx h =
     let h4 : SidesTold b p n g xs it = subst (λ (z : PlacedFates). SidesTold b p n z xs it) qf h3 in
     subst (λ (z : List SideTree). SidesTold b p n g z it) qx h4
 
-pub origin_stays : (s t : List Tree) → Grows s t → (x : Source) → All (DeclHeld s) x.decls.now → origin_at t x ≡ origin_at s x
+pub origin_stays : (s t : List Tree) → Grows s t → (x : ClonedTheory) → All (DeclHeld s) x.decls.now → origin_at t x ≡ origin_at s x
 origin_stays s t w x h = ap (λ (ds : List DeclarationTree). let it : Origin = record { decls = ds; own = x.own.now; axioms = (origin_at s x).axioms } in it) (declarations_later s t w x.decls.now h)

@@ -7,11 +7,11 @@ use Rattle.indexmap.specs.IndexMap.{get}
 use Rattle.trees.specs.Tree.{Tree}
 use Rattle.tasks.specs.Meaning.{declarations_at}
 use Rattle.syntax_why.specs.Lexeme.{Word}
-use Rattle.clone_elements.specs.declared.left.Source.{Source}
+use Rattle.clone_elements.specs.declared.left.ClonedTheory.{ClonedTheory}
 use Rattle.clone_elements.specs.declared.left.LeftNames.{LeftNames}
 use Rattle.clone_elements.specs.Left.{Origin}
 
-abbrev pub origin_at : List Tree → Source → Origin
+abbrev pub origin_at : List Tree → ClonedTheory → Origin
 origin_at s x = record { decls = declarations_at s x.decls.now; own = x.own.now; axioms = λ k. is_some (get nat_eq x.axioms.now k) }
 
 -- the place that a table has at a key

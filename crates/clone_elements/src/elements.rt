@@ -15,13 +15,13 @@ ghost use Rattle.clone_elements.specs.Elements.{left_token, right_token, has_var
 ghost use Rattle.clone_elements.specs.Origins.{origin_at};
 ghost use Rattle.clone_elements.specs.Meaning.{right_at, side_at, sides_at, SideHeld, fates_at, type_pairs_at, symbol_pairs, TypeForHeld, TrialHeld, IsElementRefused, IsPlan};
 
-use crate::left::Source;
+use crate::left::ClonedTheory;
 use crate::plans::{
     Fates, Side, SymbolFor, TypeFor, enter_side, kept_symbols, map_of, symbol_at_place,
     types_replaced, vars_of,
 };
 use crate::rights::Right;
-use clones::{Known, SymbolMap, map_tree, no_trees};
+use clones::{MappedTrees, SymbolMap, map_tree, no_trees};
 use indexmap::IndexMap;
 use std::alloc::{AllocError, AllocFailed, Global};
 use syntax_why::{ElemNode, ElemTree, SymbolWord};
@@ -71,7 +71,7 @@ pub struct Plan {
 #[derive(Clone, Copy)]
 struct Trial<'a> {
     sig: &'a Signature,
-    source: &'a Source<'a>,
+    source: &'a ClonedTheory<'a>,
     morphism: &'a SymbolMap,
 }
 
@@ -172,7 +172,7 @@ fn same_types(
     alloc: Global,
     store: &mut Store,
     morphism: &SymbolMap,
-    known: &mut Known,
+    known: &mut MappedTrees,
     types: &[TermId],
     others: &[TermId],
 ) -> Result<bool, AllocError>
@@ -205,7 +205,7 @@ fn same_result(
     alloc: Global,
     store: &mut Store,
     morphism: &SymbolMap,
-    known: &mut Known,
+    known: &mut MappedTrees,
     ty: Option<TermId>,
     other: Option<TermId>,
 ) -> Result<bool, AllocError>
@@ -248,7 +248,7 @@ fn same_signature(
     alloc: Global,
     store: &mut Store,
     morphism: &SymbolMap,
-    known: &mut Known,
+    known: &mut MappedTrees,
     info: &SymbolInfo,
     other: &SymbolInfo,
 ) -> Result<bool, AllocError>
@@ -272,7 +272,7 @@ fn replaces(
     alloc: Global,
     store: &mut Store,
     trial: &Trial<'_>,
-    known: &mut Known,
+    known: &mut MappedTrees,
     word: SymbolWord,
     place: usize,
     other: usize,
@@ -299,7 +299,7 @@ fn is_right(
     alloc: Global,
     store: &mut Store,
     trial: &Trial<'_>,
-    known: &mut Known,
+    known: &mut MappedTrees,
     side: &Side<'_>,
 ) -> Result<bool, AllocError>
     requires trial { TrialHeld store.old trial.now }
@@ -332,7 +332,7 @@ fn check_side(
     alloc: Global,
     store: &mut Store,
     trial: &Trial<'_>,
-    known: &mut Known,
+    known: &mut MappedTrees,
     fates: &Fates,
     side: &Side<'_>,
 ) -> Result<Option<usize>, AllocError>
@@ -360,7 +360,7 @@ fn check_sides(
     alloc: Global,
     store: &mut Store,
     trial: &Trial<'_>,
-    known: &mut Known,
+    known: &mut MappedTrees,
     fates: &mut Fates,
     sides: &[Side<'_>],
 ) -> Result<Option<usize>, AllocError>
@@ -388,7 +388,7 @@ fn check_sides(
 
 // The symbols that elements replace by others, after others.
 fn push_symbols(
-    source: &Source<'_>,
+    source: &ClonedTheory<'_>,
     symbols: &mut Vec<SymbolFor>,
     sides: &[Side<'_>],
 ) -> Result<(), AllocError>
@@ -404,7 +404,7 @@ fn push_symbols(
 
 // The symbol that an element replaces by another, after others.
 fn push_symbol(
-    source: &Source<'_>,
+    source: &ClonedTheory<'_>,
     symbols: &mut Vec<SymbolFor>,
     side: &Side<'_>,
 ) -> Result<(), AllocError>
@@ -448,7 +448,7 @@ fn has_all(sides: &[Side<'_>]) -> bool
 }
 
 // The symbols of all own declarations, in order.
-fn own_symbols(alloc: Global, source: &Source<'_>) -> Result<Vec<usize>, AllocError>
+fn own_symbols(alloc: Global, source: &ClonedTheory<'_>) -> Result<Vec<usize>, AllocError>
     ensures { IfOk result (λ v. (s : List Tree) → v.items ≡ kept (origin_at s source.now)
         no_fates) }
 {
@@ -461,7 +461,7 @@ fn tried_map(
     alloc: Global,
     store: &Store,
     sig: &Signature,
-    source: &Source<'_>,
+    source: &ClonedTheory<'_>,
     types: &[TypeFor],
 ) -> Result<SymbolMap, AllocError>
     requires { All (TypeForHeld store.now) types.now }
@@ -500,7 +500,7 @@ fn check_elements<'a>(
     alloc: Global,
     store: &mut Store,
     sig: &'a Signature,
-    source: &'a Source<'a>,
+    source: &'a ClonedTheory<'a>,
     morphism: &'a SymbolMap,
     fates: &mut Fates,
     sides: &[Side<'_>],
@@ -535,7 +535,7 @@ fn find_fates(
     alloc: Global,
     store: &mut Store,
     sig: &Signature,
-    source: &Source<'_>,
+    source: &ClonedTheory<'_>,
     types: &[TypeFor],
     fates: &mut Fates,
     sides: &[Side<'_>],
@@ -568,7 +568,7 @@ pub fn make_plan(
     alloc: Global,
     store: &mut Store,
     sig: &Signature,
-    source: &Source<'_>,
+    source: &ClonedTheory<'_>,
     sides: &[Side<'_>],
 ) -> Result<Plan, ElementFault>
     requires signature { IsSignature store.old sig.now.symbols }

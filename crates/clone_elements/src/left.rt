@@ -29,7 +29,7 @@ pub enum Abstract {
 /// The theory that is cloned: all declarations, the places of its own ones in order, and the places of its axioms, each with the
 /// names of its type variables.
 #[derive(Clone, Copy)]
-pub struct Source<'a> {
+pub struct ClonedTheory<'a> {
     pub decls: &'a [Decl],
     pub own: &'a [usize],
     pub axioms: &'a IndexMap<usize, Seq<Text>>,
@@ -140,7 +140,11 @@ fn kind_of_word(word: SymbolWord) -> Abstract
 
 impl LeftNames {
     /// The own declarations of a theory that elements may name. Only want of memory refuses.
-    pub fn new(alloc: Global, sig: &Signature, source: &Source<'_>) -> Result<LeftNames, AllocError>
+    pub fn new(
+        alloc: Global,
+        sig: &Signature,
+        source: &ClonedTheory<'_>,
+    ) -> Result<LeftNames, AllocError>
         ensures { IfOk result (λ n. (s : List Tree) (x : List ℕ) → place_at n x
             ≡ last_place (symbols_at s sig.now.symbols) (origin_at s source.now) x None
             source.now.own.now) }
@@ -159,7 +163,7 @@ impl LeftNames {
         &mut self,
         alloc: Global,
         sig: &Signature,
-        source: &Source<'_>,
+        source: &ClonedTheory<'_>,
         place: usize,
     ) -> Result<(), AllocError>
         ensures { OnOk result ((s : List Tree) (x : List ℕ) → place_at self.new x

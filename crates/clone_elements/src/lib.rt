@@ -9,7 +9,7 @@ mod rights;
 mod sides;
 
 pub use elements::{ElementFault, Plan, entry_or, make_plan};
-pub use left::{Abstract, LeftNames, Source};
+pub use left::{Abstract, ClonedTheory, LeftNames};
 pub use plans::{
     Fate, Fates, Side, SymbolFor, TypeFor, is_replaced, kept_symbols, map_of, vars_of,
 };

@@ -13,7 +13,7 @@ ghost use Rattle.clone_elements.specs.Plans.{element_fate, with_side, is_replace
 ghost use Rattle.clone_elements.specs.Origins.{origin_at};
 ghost use Rattle.clone_elements.specs.Meaning.{right_at, RightHeld, side_at, sides_at, SideHeld, fates_at, type_pairs_at, symbol_pairs, TypeForHeld};
 
-use crate::left::Source;
+use crate::left::ClonedTheory;
 use crate::rights::Right;
 use clones::SymbolMap;
 use indexmap::IndexMap;
@@ -127,7 +127,7 @@ pub fn symbol_at_place(decls: &[Decl], place: usize) -> usize
 // The type for the type symbol at a place, if an element with so many type variables is right, after others.
 fn push_type_at(
     sig: &Signature,
-    source: &Source<'_>,
+    source: &ClonedTheory<'_>,
     fates: &Fates,
     types: &mut Vec<TypeFor>,
     place: usize,
@@ -152,7 +152,7 @@ fn push_type_at(
 // The type for the type symbol of an element, if it is right, after others.
 fn push_type(
     sig: &Signature,
-    source: &Source<'_>,
+    source: &ClonedTheory<'_>,
     fates: &Fates,
     types: &mut Vec<TypeFor>,
     side: &Side<'_>,
@@ -182,7 +182,7 @@ fn push_type(
 // The types for the type symbols of the elements that are right, after others.
 fn push_types(
     sig: &Signature,
-    source: &Source<'_>,
+    source: &ClonedTheory<'_>,
     fates: &mut Fates,
     types: &mut Vec<TypeFor>,
     sides: &[Side<'_>],
@@ -205,7 +205,7 @@ fn push_types(
 fn push_all_types(
     alloc: Global,
     sig: &Signature,
-    source: &Source<'_>,
+    source: &ClonedTheory<'_>,
     types: &mut Vec<TypeFor>,
     sides: &[Side<'_>],
 ) -> Result<(), AllocError>
@@ -223,7 +223,7 @@ fn push_all_types(
 pub fn types_replaced(
     alloc: Global,
     sig: &Signature,
-    source: &Source<'_>,
+    source: &ClonedTheory<'_>,
     sides: &[Side<'_>],
 ) -> Result<Vec<TypeFor>, AllocError>
     ensures types { IfOk result (λ v. (s : List Tree) → type_pairs_at s v.items ≡ types_replaced
@@ -239,7 +239,7 @@ pub fn types_replaced(
 // The symbols of the declaration at a place, unless it is replaced, after others.
 fn push_kept(
     alloc: Global,
-    source: &Source<'_>,
+    source: &ClonedTheory<'_>,
     fates: &Fates,
     out: &mut Vec<usize>,
     place: usize,
@@ -260,7 +260,7 @@ fn push_kept(
 /// The symbols of own declarations that aren't replaced, in order. Only want of memory refuses.
 pub fn kept_symbols(
     alloc: Global,
-    source: &Source<'_>,
+    source: &ClonedTheory<'_>,
     fates: &Fates,
 ) -> Result<Vec<usize>, AllocError>
     ensures { IfOk result (λ v. (s : List Tree) → v.items ≡ kept (origin_at s source.now)

@@ -12,13 +12,13 @@ use Rattle.clones.specs.Mapped.{Map}
 use Rattle.clones.specs.Meaning.{map_at}
 use Rattle.clones.proofs.Steps.{map_stays}
 use Rattle.elab_parts.specs.Entries.{IsExtended}
-use Rattle.theory_states.specs.declared.states.Known.{Known}
+use Rattle.theory_states.specs.declared.states.KnownTheory.{KnownTheory}
 use Rattle.theory_states.specs.declared.states.Opened.{Opened}
 use Rattle.theory_states.specs.declared.states.Typed.{Typed}
 use Rattle.theory_states.specs.States.{KnownTree, StateTree}
 use Rattle.theory_states.specs.Meaning.{known_at, state_at, StateHeld}
 use Rattle.clone_elements.specs.declared.elements.Plan.{Plan}
-use Rattle.clone_elements.specs.declared.left.Source.{Source}
+use Rattle.clone_elements.specs.declared.left.ClonedTheory.{ClonedTheory}
 use Rattle.clone_elements.specs.Left.{Origin}
 use Rattle.clone_elements.specs.Origins.{origin_at}
 use Rattle.clone_elements.specs.Meaning.{fates_at}
@@ -37,7 +37,7 @@ use Rattle.clone_theories.proofs.Stages.{theory_is, origin_is, state_tupled, hel
 
 -- the map that is made with what elements are read by
 pub planned_renaming : (s : List Tree) (t : Typed) (o : Opened) (k : ℕ) (own : Own) (plan : Plan) (within : Word) → IsCopyReady s t o k own plan within
-    → (source : Source) → source.decls.now ≡ t.decls → source.own.now ≡ own.places.items → source.axioms.now ≡ own.axioms
+    → (source : ClonedTheory) → source.decls.now ≡ t.decls → source.own.now ≡ own.places.items → source.axioms.now ≡ own.axioms
     → (made : Renaming) → IsRenaming s (planned_map s (symbols_at s t.sig.symbols) (origin_at s source) plan) (planned_kept (origin_at s source) plan) made → IsPlannedRenaming s t k plan made
 planned_renaming s t o k own plan within r source decls_are own_is axioms_are made m =
     let ds = declarations_at s t.decls in
@@ -46,7 +46,7 @@ planned_renaming s t o k own plan within r source decls_are own_is axioms_are ma
 
 module _ (s : List Tree) (t : Typed) (o : Opened) (k : ℕ) (own : Own) (plan : Plan) (within : Word) (r : IsCopyReady s t o k own plan within)
     (made : Renaming) (m : IsPlannedRenaming s t k plan made)
-    (known : Known) (is : known ≡ get_or t.known k known) where
+    (known : KnownTheory) (is : known ≡ get_or t.known k known) where
   abbrev c : StateTree
   c = state_at s t o
 
@@ -70,7 +70,7 @@ module _ (s : List Tree) (t : Typed) (o : Opened) (k : ℕ) (own : Own) (plan : 
 
   pub visible_below : All (λ (p : ℕ). p < length t.decls) own.visible
   visible_below =
-      let there : All (λ (p : ℕ). p < length t.decls) known.theory.visible = subst (λ (z : Known). All (λ (p : ℕ). p < length t.decls) z.theory.visible) (sym is) (r.held.typed.known k known r.there).visible in
+      let there : All (λ (p : ℕ). p < length t.decls) known.theory.visible = subst (λ (z : KnownTheory). All (λ (p : ℕ). p < length t.decls) z.theory.visible) (sym is) (r.held.typed.known k known r.there).visible in
       subst (All (λ (p : ℕ). p < length t.decls)) (sym (r.own.visible ∙ ap (λ (z : KnownTree). z.visible) here)) there
 
   module _ (path : Word) (path_is : path ≡ o.path) where

@@ -15,14 +15,14 @@ use Rattle.syntax_why.specs.Lexeme.{Word}
 use Rattle.syntax_why.specs.declared.declarations.Link.{Link}
 use Rattle.syntax_why.specs.Declarations.{Element}
 use Rattle.elab_parts.specs.Entries.{IsExtended}
-use Rattle.theory_states.specs.declared.states.Known.{Known}
+use Rattle.theory_states.specs.declared.states.KnownTheory.{KnownTheory}
 use Rattle.theory_states.specs.declared.states.Opened.{Opened}
 use Rattle.theory_states.specs.declared.states.Typed.{Typed}
 use Rattle.theory_states.specs.States.{KnownTree, StateTree}
 use Rattle.theory_states.specs.Meaning.{known_at, opened_at, state_at, OpenedHeld, StateHeld}
 use Rattle.theory_states.proofs.Growing.{state_grows, held_grows, all_known_stay}
 use Rattle.clone_elements.specs.declared.elements.Plan.{Plan}
-use Rattle.clone_elements.specs.declared.left.Source.{Source}
+use Rattle.clone_elements.specs.declared.left.ClonedTheory.{ClonedTheory}
 use Rattle.clone_elements.specs.Left.{Origin}
 use Rattle.clone_elements.specs.Plans.{kept, map_of}
 use Rattle.clone_elements.specs.Origins.{origin_at}
@@ -38,10 +38,10 @@ use Rattle.clone_theories.specs.Copied.{with_theory_copies, AreContents, IsTheor
 use Rattle.clone_theories.proofs.Putting.{trees_put}
 
 -- ---- the theory at a place
-pub theory_is : (s : List Tree) (t : Typed) (k : ℕ) (x : Known) → k < length t.known → x ≡ get_or t.known k x → known_theory_at s t k ≡ known_at s x
+pub theory_is : (s : List Tree) (t : Typed) (k : ℕ) (x : KnownTheory) → k < length t.known → x ≡ get_or t.known k x → known_theory_at s t k ≡ known_at s x
 theory_is s t k x l q = get_or-map (known_at s) t.known k x no_theory l ∙ ap (known_at s) (sym q)
 
-pub origin_is : (s : List Tree) (t : KnownTree) (own : Own) (x : Source) (ds : List DeclarationTree) → declarations_at s x.decls.now ≡ ds → x.own.now ≡ own.places.items → x.axioms.now ≡ own.axioms → IsOwnOf ds t own → origin_at s x ≡ origin_of ds t
+pub origin_is : (s : List Tree) (t : KnownTree) (own : Own) (x : ClonedTheory) (ds : List DeclarationTree) → declarations_at s x.decls.now ≡ ds → x.own.now ≡ own.places.items → x.axioms.now ≡ own.axioms → IsOwnOf ds t own → origin_at s x ≡ origin_of ds t
 origin_is s t own x ds d p a h =
     let mk : List DeclarationTree → List ℕ → Axioms → Origin = λ e ks f. record { decls = e; own = ks; axioms = λ k. is_some (f k) } in
     let f : get nat_eq x.axioms.now ≡ axioms_at t.axioms = ap (get nat_eq) a ∙ h.axioms in

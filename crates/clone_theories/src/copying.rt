@@ -18,8 +18,8 @@ ghost use Rattle.clone_theories.specs.Copied.{IsRenaming, IsPlannedRenaming, IsK
 
 use crate::own::{Own, source_of, within_of};
 use clone_copies::{Job, copy_places, map_moves, push_entries};
-use clone_elements::{Plan, Source, kept_symbols, map_of};
-use clones::{Known as Trees, SymbolMap, no_trees};
+use clone_elements::{ClonedTheory, Plan, kept_symbols, map_of};
+use clones::{MappedTrees as Trees, SymbolMap, no_trees};
 use std::alloc::{AllocError, Global};
 use syntax_why::Link;
 use tasks::Signature;
@@ -38,7 +38,7 @@ fn rename(
     alloc: Global,
     store: &Store,
     sig: &Signature,
-    source: &Source<'_>,
+    source: &ClonedTheory<'_>,
     plan: &Plan,
 ) -> Result<Renaming, AllocError>
     requires { All (TypeForHeld store.now) plan.now.types.items }

@@ -12,13 +12,13 @@ ghost use Rattle.clone_theories.specs.Cloned.{within_of};
 ghost use Rattle.clone_theories.specs.Owned.{IsOwnOf};
 
 use clone_copies::{axioms_of, own_places};
-use clone_elements::Source;
+use clone_elements::ClonedTheory;
 use indexmap::IndexMap;
 use outside::{Seq, Text};
 use std::alloc::{AllocError, Global};
 use syntax_why::Link;
 use tasks::Decl;
-use theory_states::Known;
+use theory_states::KnownTheory;
 
 /// The path of a theory, the places of its visible declarations and of its own ones, in order, and its axioms by their places, with the
 /// names of their type variables.
@@ -31,7 +31,7 @@ pub(crate) struct Own {
 }
 
 /// What a theory has of its own. Only want of memory refuses.
-pub(crate) fn own_of(alloc: Global, decls: &[Decl], known: &Known) -> Result<Own, AllocError>
+pub(crate) fn own_of(alloc: Global, decls: &[Decl], known: &KnownTheory) -> Result<Own, AllocError>
     ensures { IfOk result (λ o. (s : List Tree) → IsOwnOf (declarations_at s decls.now)
         (known_at s known.now) o) }
 {
@@ -48,12 +48,12 @@ pub(crate) fn own_of(alloc: Global, decls: &[Decl], known: &Known) -> Result<Own
 }
 
 /// The theory as it is read by elements.
-pub(crate) fn source_of<'a>(decls: &'a [Decl], own: &'a Own) -> Source<'a>
+pub(crate) fn source_of<'a>(decls: &'a [Decl], own: &'a Own) -> ClonedTheory<'a>
     ensures decls { result.decls.now ≡ decls.now }
     ensures own { result.own.now ≡ own.now.places.items }
     ensures axioms { result.axioms.now ≡ own.now.axioms }
 {
-    Source {
+    ClonedTheory {
         decls,
         own: own.places.as_slice(),
         axioms: &own.axioms,

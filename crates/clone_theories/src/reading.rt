@@ -14,7 +14,7 @@ ghost use Rattle.clone_elements.specs.Origins.{origin_at};
 ghost use Rattle.clone_theories.specs.Cloned.{naming, sides_over, IsNamesFault, IsElementFault};
 ghost use Rattle.clone_theories.specs.Planned.{AreElementsRead, IsElementsFault};
 
-use clone_elements::{ElementFault, LeftNames, Plan, Side, Source, make_plan, sides_of};
+use clone_elements::{ClonedTheory, ElementFault, LeftNames, Plan, Side, make_plan, sides_of};
 use elab_names::NamingFault;
 use names_space::Scope;
 use std::alloc::Global;
@@ -43,7 +43,7 @@ fn read_sides<'a>(
     store: &mut Store,
     sig: &mut Signature,
     scope: &Scope,
-    source: &Source<'_>,
+    source: &ClonedTheory<'_>,
     number: usize,
     elements: &'a [ElemTree],
 ) -> Result<Vec<Side<'a>>, SourceFault>
@@ -73,7 +73,7 @@ fn plan_of(
     alloc: Global,
     store: &mut Store,
     sig: &Signature,
-    source: &Source<'_>,
+    source: &ClonedTheory<'_>,
     number: usize,
     sides: &[Side<'_>],
 ) -> Result<Plan, SourceFault>
@@ -107,7 +107,7 @@ pub(crate) fn plan_elements(
     store: &mut Store,
     sig: &mut Signature,
     scope: &Scope,
-    source: &Source<'_>,
+    source: &ClonedTheory<'_>,
     number: usize,
     elements: &[ElemTree],
 ) -> Result<Plan, SourceFault>

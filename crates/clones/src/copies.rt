@@ -9,7 +9,7 @@ ghost use Rattle.clones.specs.Mapped.{mapped};
 ghost use Rattle.clones.specs.Meaning.{map_at, MapHeld, AreKnown};
 ghost use Rattle.clones.specs.Copies.{DefHeld, con_mapped, body_mapped, declaration_copied, entry_copied};
 
-use crate::maps::{Known, SymbolMap, map_symbol, map_tree};
+use crate::maps::{MappedTrees, SymbolMap, map_symbol, map_tree};
 use outside::{Seq, Text};
 use std::alloc::{AllocError, Global};
 use tasks::{Alg, Body, Con, Decl, Def, Ind, SymbolInfo};
@@ -21,7 +21,7 @@ fn map_trees(
     alloc: Global,
     store: &mut Store,
     morphism: &SymbolMap,
-    known: &mut Known,
+    known: &mut MappedTrees,
     trees: &[TermId],
 ) -> Result<Seq<TermId>, AllocError>
     requires map_held { MapHeld store.old morphism.now }
@@ -46,7 +46,7 @@ fn copy_defs(
     alloc: Global,
     store: &mut Store,
     morphism: &SymbolMap,
-    known: &mut Known,
+    known: &mut MappedTrees,
     defs: &[Def],
 ) -> Result<Body, AllocError>
     requires map_held { MapHeld store.old morphism.now }
@@ -72,7 +72,7 @@ fn copy_inds(
     alloc: Global,
     store: &mut Store,
     morphism: &SymbolMap,
-    known: &mut Known,
+    known: &mut MappedTrees,
     inds: &[Ind],
 ) -> Result<Body, AllocError>
     requires map_held { MapHeld store.old morphism.now }
@@ -114,7 +114,7 @@ fn copy_cons(
     alloc: Global,
     store: &mut Store,
     morphism: &SymbolMap,
-    known: &mut Known,
+    known: &mut MappedTrees,
     cons: &[Con],
 ) -> Result<Seq<Con>, AllocError>
     requires map_held { MapHeld store.old morphism.now }
@@ -145,7 +145,7 @@ fn copy_algs(
     alloc: Global,
     store: &mut Store,
     morphism: &SymbolMap,
-    known: &mut Known,
+    known: &mut MappedTrees,
     algs: &[Alg],
 ) -> Result<Body, AllocError>
     requires map_held { MapHeld store.old morphism.now }
@@ -171,7 +171,7 @@ fn copy_body(
     alloc: Global,
     store: &mut Store,
     morphism: &SymbolMap,
-    known: &mut Known,
+    known: &mut MappedTrees,
     body: &Body,
 ) -> Result<Body, AllocError>
     requires map_held { MapHeld store.old morphism.now }
@@ -211,7 +211,7 @@ pub fn copy_decl(
     alloc: Global,
     store: &mut Store,
     morphism: &SymbolMap,
-    known: &mut Known,
+    known: &mut MappedTrees,
     theory: &[u8],
     within: &[u8],
     decl: &Decl,
@@ -242,7 +242,7 @@ fn map_result(
     alloc: Global,
     store: &mut Store,
     morphism: &SymbolMap,
-    known: &mut Known,
+    known: &mut MappedTrees,
     ty: Option<TermId>,
 ) -> Result<Option<TermId>, AllocError>
     requires map_held { MapHeld store.old morphism.now }
@@ -269,7 +269,7 @@ pub fn copy_entry(
     alloc: Global,
     store: &mut Store,
     morphism: &SymbolMap,
-    known: &mut Known,
+    known: &mut MappedTrees,
     theory: &[u8],
     within: &[u8],
     info: &SymbolInfo,

@@ -8,4 +8,4 @@ mod maps;
 
 pub use copies::{copy_decl, copy_entry};
 pub use making::no_trees;
-pub use maps::{Known, SymbolMap, map_symbol, map_tree};
+pub use maps::{MappedTrees, SymbolMap, map_symbol, map_tree};

@@ -7,14 +7,14 @@ ghost use Rattle.trees.specs.Sorts.{sort_of};
 ghost use Rattle.clones.specs.Mapped.{Map};
 ghost use Rattle.clones.specs.Meaning.{map_at, MapHeld, AreKnown};
 
-use crate::{Known, SymbolMap};
+use crate::{MappedTrees, SymbolMap};
 use indexmap::IndexMap;
 use std::alloc::{AllocError, Global};
 use term_store::Store;
 use trees::{Sort, TermId};
 
 /// No mapped trees. It takes no memory.
-pub fn no_trees(alloc: Global) -> Known
+pub fn no_trees(alloc: Global) -> MappedTrees
     ensures { (m : Map) (s : List Tree) → AreKnown m s result }
 {
     IndexMap::new(alloc)

@@ -25,7 +25,7 @@ pub struct SymbolMap {
 }
 
 /// The mapped trees so far, by the numbers of the trees.
-pub type Known = IndexMap<usize, TermId>;
+pub type MappedTrees = IndexMap<usize, TermId>;
 
 /// What a symbol becomes. No memory is taken.
 pub fn map_symbol(store: &Store, map: &SymbolMap, symbol: usize) -> usize
@@ -157,7 +157,7 @@ pub fn map_tree(
     alloc: Global,
     store: &mut Store,
     map: &SymbolMap,
-    known: &mut Known,
+    known: &mut MappedTrees,
     e: TermId,
 ) -> Result<TermId, AllocError>
     requires map_held { MapHeld store.old map.now }
@@ -182,7 +182,7 @@ fn map_parts(
     alloc: Global,
     store: &mut Store,
     map: &SymbolMap,
-    known: &mut Known,
+    known: &mut MappedTrees,
     e: TermId,
 ) -> Result<TermId, AllocError>
     requires map_held { MapHeld store.old map.now }

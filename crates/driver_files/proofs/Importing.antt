@@ -12,7 +12,7 @@ use Rattle.driver_items.specs.declared.kinds.Trans.{Trans}
 use Rattle.driver_items.specs.declared.symbols.Target.{Target}
 use Rattle.driver_parts.specs.declared.fault.DriverFault.{DriverFault}
 use Rattle.driver_parts.specs.declared.fault.DriverFault.TheVariants as f
-use Rattle.driver_parts.specs.declared.parts.Parts.{Parts}
+use Rattle.driver_parts.specs.declared.parts.DriverParts.{DriverParts}
 use Rattle.driver_parts.specs.Items.{DriverItem, prelude, printer, transformation, file_import, block, end_of_block, template, removal, removal_of_all, silent, item_of}
 use Rattle.driver_parts.specs.Steps.{Read, printer_read, staged, templated, targeted, removed, block_step, item_in_block, item_step, MeetsResult}
 use Rattle.driver_files.specs.declared.reading.Progress.{Progress}
@@ -25,23 +25,23 @@ abbrev IsPlainRead : Read → Type 0
 IsPlainRead (Ok p) = Unit {0}
 IsPlainRead (Err e) = IsPlain e
 
-plain-printed : (file byte : ℕ) (p : Parts) (o : Option Printer) → IsPlainRead (printer_read file byte p o)
+plain-printed : (file byte : ℕ) (p : DriverParts) (o : Option Printer) → IsPlainRead (printer_read file byte p o)
 plain-printed file byte p (Some x) = tt
 plain-printed file byte p None = tt
 
-plain-staged : (file byte : ℕ) (p : Parts) (o : Option Trans) → IsPlainRead (staged file byte p o)
+plain-staged : (file byte : ℕ) (p : DriverParts) (o : Option Trans) → IsPlainRead (staged file byte p o)
 plain-staged file byte p (Some x) = tt
 plain-staged file byte p None = tt
 
-plain-templated : (file byte : ℕ) (p : Parts) (t : Target) (o : Option (List Piece)) → IsPlainRead (templated file byte p t o)
+plain-templated : (file byte : ℕ) (p : DriverParts) (t : Target) (o : Option (List Piece)) → IsPlainRead (templated file byte p t o)
 plain-templated file byte p t (Some x) = tt
 plain-templated file byte p t None = tt
 
-plain-targeted : (file name_byte byte : ℕ) (text : List ℕ) (p : Parts) (o : Option (Target × ℕ)) → IsPlainRead (targeted file name_byte byte text p o)
+plain-targeted : (file name_byte byte : ℕ) (text : List ℕ) (p : DriverParts) (o : Option (Target × ℕ)) → IsPlainRead (targeted file name_byte byte text p o)
 plain-targeted file name_byte byte text p (Some t) = plain-templated file byte p t.0 (template_pieces text t.1)
 plain-targeted file name_byte byte text p None = tt
 
-plain-removed : (file byte : ℕ) (p : Parts) (path name : List ℕ) (b : Bool) → IsPlainRead (removed file byte p path name b)
+plain-removed : (file byte : ℕ) (p : DriverParts) (path name : List ℕ) (b : Bool) → IsPlainRead (removed file byte p path name b)
 plain-removed file byte p path name true = tt
 plain-removed file byte p path name false = tt
 
@@ -50,19 +50,19 @@ plain-if true x y h k = h
 plain-if false x y h k = k
 
 module _ (symbols : List SymbolInfo) (theories : NamedTheories) (file : ℕ) where
-  plain-block : (path : List ℕ) (item : DriverItem) (p : Parts) → IsPlainRead (block_step symbols theories file path item p)
+  plain-block : (path : List ℕ) (item : DriverItem) (p : DriverParts) → IsPlainRead (block_step symbols theories file path item p)
   plain-block path (template kind name_byte name byte text) p = plain-targeted file name_byte byte text p (target_of symbols path kind name)
   plain-block path (removal byte name) p = plain-removed file byte p path name (has_proposition theories path name)
   plain-block path removal_of_all p = tt
   plain-block path (prelude text) p = tt
   plain-block path _ p = tt
 
-  plain-in : (path : Option (List ℕ)) (item : DriverItem) (p : Parts) → IsPlainRead (item_in_block symbols theories file path item p)
+  plain-in : (path : Option (List ℕ)) (item : DriverItem) (p : DriverParts) → IsPlainRead (item_in_block symbols theories file path item p)
   plain-in None (prelude text) p = tt
   plain-in None _ p = tt
   plain-in (Some path) item p = plain-if (is_known theories path) (block_step symbols theories file path item p) (Ok p) (plain-block path item p) tt
 
-  plain-step : (path : Option (List ℕ)) (item : DriverItem) (p : Parts) → IsPlainRead (item_step symbols theories file path item p)
+  plain-step : (path : Option (List ℕ)) (item : DriverItem) (p : DriverParts) → IsPlainRead (item_step symbols theories file path item p)
   plain-step path (printer byte word) p = plain-printed file byte p (printer_of word)
   plain-step path (transformation byte word) p = plain-staged file byte p (trans_of word)
   plain-step path (prelude text) p = plain-in path (prelude text) p
@@ -102,10 +102,10 @@ module _ (symbols : List SymbolInfo) (theories : NamedTheories) where
       (import-read file byte its name opened room p e h)
       (subst (λ v. ReadsAs (FileMeaning symbols theories v opened name p) p.next next_of old new r) same k)
 
-  abbrev done : Progress → Parts → Progress
+  abbrev done : Progress → DriverParts → Progress
   done p parts = record p { parts = parts }
 
-  step_ok : (at : ReadingPlace) (path : Option (List ℕ)) (l : List DriverLexeme) (p : Progress) (parts : Parts) (s : LibraryState) → NoImport (item_of l) → item_step symbols theories at.file path (item_of l) p.parts ≡ Ok parts → ReadsAs (OneLineMeaning symbols theories at path l p) p.next next_of s s (Ok (done p parts))
+  step_ok : (at : ReadingPlace) (path : Option (List ℕ)) (l : List DriverLexeme) (p : Progress) (parts : DriverParts) (s : LibraryState) → NoImport (item_of l) → item_step symbols theories at.file path (item_of l) p.parts ≡ Ok parts → ReadsAs (OneLineMeaning symbols theories at path l p) p.next next_of s s (Ok (done p parts))
   step_ok at path l p parts s n e =
       told_value (OneLineMeaning symbols theories at path l p) p.next next_of s (done p parts)
       (λ g limit. no-import at path (item_of l) p n g limit ∙ ap (with_parts p) e) (omega arith)
@@ -117,7 +117,7 @@ module _ (symbols : List SymbolInfo) (theories : NamedTheories) where
       (λ g. no-import at path (item_of l) p n g None ∙ ap (with_parts p) h)
 
   -- a line that is no import
-  pub plain-line : {X : Type 0} (at : ReadingPlace) (path : Option (List ℕ)) (l : List DriverLexeme) (p : Progress) (parts : Parts) (r : Result X DriverFault) (s : LibraryState) → NoImport (item_of l) → MeetsResult r parts (item_step symbols theories at.file path (item_of l) p.parts) → ReadsAs (OneLineMeaning symbols theories at path l p) p.next next_of s s (with_progress r (done p parts))
+  pub plain-line : {X : Type 0} (at : ReadingPlace) (path : Option (List ℕ)) (l : List DriverLexeme) (p : Progress) (parts : DriverParts) (r : Result X DriverFault) (s : LibraryState) → NoImport (item_of l) → MeetsResult r parts (item_step symbols theories at.file path (item_of l) p.parts) → ReadsAs (OneLineMeaning symbols theories at path l p) p.next next_of s s (with_progress r (done p parts))
   plain-line at path l p parts (Ok x) s n h = step_ok at path l p parts s n h
   plain-line at path l p parts (Err f.Memory) s n h = told_memory (OneLineMeaning symbols theories at path l p) p.next next_of s
   plain-line at path l p parts (Err (f.Absent file)) s n h = step_err at path l p (f.Absent file) s n h

@@ -11,7 +11,7 @@ use Rattle.driver_parts.specs.declared.driver.Driver.{Driver}
 use Rattle.driver_items.specs.declared.kinds.Printer.{Printer}
 use Rattle.driver_parts.specs.declared.fault.DriverFault.{DriverFault}
 use Rattle.driver_parts.specs.declared.fault.DriverFault.TheVariants as f
-use Rattle.driver_parts.specs.declared.parts.Parts.{Parts}
+use Rattle.driver_parts.specs.declared.parts.DriverParts.{DriverParts}
 use Rattle.driver_files.specs.declared.reading.Progress.{Progress}
 use Rattle.driver_parts.specs.Items.{DriverItem, file_import, item_of}
 use Rattle.driver_parts.specs.Parts.{no_parts, driver_of}
@@ -90,7 +90,7 @@ import read place byte name progress =
     if nat_eq place.room 0 || is_named_among place.opened name then Err (file_refused (f.ImportCycle place.file byte))
     else (if is_named_among progress.whole name then Ok progress else read place.opened name progress)
 
-abbrev pub with_parts : Progress → Result Parts DriverFault → DriverOutcome Progress
+abbrev pub with_parts : Progress → Result DriverParts DriverFault → DriverOutcome Progress
 with_parts progress (Ok parts) = Ok (record progress { parts = parts })
 with_parts progress (Err e) = Err (file_refused e)
 

@@ -13,7 +13,7 @@ ghost use Rattle.driver_files.specs.Reading as spec;
 use crate::fetching::{fetch_file, lines_of};
 use crate::names::{is_among, is_cycle, name_from};
 use driver_items::{name_of, part, string_of};
-use driver_parts::{Driver, DriverFault, Parts, driver_of, no_parts, take_line};
+use driver_parts::{Driver, DriverFault, DriverParts, driver_of, no_parts, take_line};
 use driver_tokens::{DriverTerminal, DriverText, DriverToken, DriverWord, Heading};
 use outside::{Library, Seq, Text};
 use std::alloc::{AllocError, Global};
@@ -25,7 +25,7 @@ const ROOM: usize = 31;
 /// How far a driver is read.
 #[derive(Drop)]
 pub struct Progress {
-    pub parts: Parts,
+    pub parts: DriverParts,
     /// The files that were read whole.
     pub whole: Seq<Text>,
     /// The number of the next file.

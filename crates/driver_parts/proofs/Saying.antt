@@ -11,7 +11,7 @@ use Rattle.driver_items.specs.Items.{written_name}
 use Rattle.driver_parts.specs.Items.{block, silent, template_by, removed_by, syntax_by, removal_by, item_by, item_alone, item_of, end_of_block}
 use Rattle.tasks.specs.declared.signature.SymbolInfo.{SymbolInfo}
 use Rattle.driver_items.specs.Symbols.{NamedTheories, is_known}
-use Rattle.driver_parts.specs.declared.parts.Parts.{Parts}
+use Rattle.driver_parts.specs.declared.parts.DriverParts.{DriverParts}
 use Rattle.driver_parts.specs.Steps.{Read, item_step}
 use Rattle.driver_parts.specs.Lines.{syntax_in, remove_in, item_in}
 
@@ -80,26 +80,26 @@ two-tokens text (x ∷ []) d e le = absurd (omega arith)
 two-tokens text (x ∷ y ∷ zs) d e le = item-same text x.terminal y (x ∷ y ∷ zs)
 
 -- lines that change nothing
-abbrev kept : Parts → Read
+abbrev kept : DriverParts → Read
 kept p = Ok p
 
-same-both : (b : Bool) (p : Parts) → cond b (Ok p) (Ok p) ≡ kept p
+same-both : (b : Bool) (p : DriverParts) → cond b (Ok p) (Ok p) ≡ kept p
 same-both true p = refl
 same-both false p = refl
 
-silent-step : (symbols : List SymbolInfo) (theories : NamedTheories) (file : ℕ) (path : Option (List ℕ)) (p : Parts) → item_step symbols theories file path silent p ≡ Ok p
+silent-step : (symbols : List SymbolInfo) (theories : NamedTheories) (file : ℕ) (path : Option (List ℕ)) (p : DriverParts) → item_step symbols theories file path silent p ≡ Ok p
 silent-step symbols theories file None p = refl
 silent-step symbols theories file (Some path) p = same-both (is_known theories path) p
 
-end-step : (symbols : List SymbolInfo) (theories : NamedTheories) (file : ℕ) (path : Option (List ℕ)) (p : Parts) → item_step symbols theories file path end_of_block p ≡ Ok p
+end-step : (symbols : List SymbolInfo) (theories : NamedTheories) (file : ℕ) (path : Option (List ℕ)) (p : DriverParts) → item_step symbols theories file path end_of_block p ≡ Ok p
 end-step symbols theories file None p = refl
 end-step symbols theories file (Some path) p = same-both (is_known theories path) p
 
-alone-step : (symbols : List SymbolInfo) (theories : NamedTheories) (file : ℕ) (path : Option (List ℕ)) (p : Parts) (x : DriverTerminal) → item_step symbols theories file path (item_alone x) p ≡ Ok p
+alone-step : (symbols : List SymbolInfo) (theories : NamedTheories) (file : ℕ) (path : Option (List ℕ)) (p : DriverParts) (x : DriverTerminal) → item_step symbols theories file path (item_alone x) p ≡ Ok p
 alone-step symbols theories file path p (t.Word w.End) = end-step symbols theories file path p
 alone-step symbols theories file path p _ = silent-step symbols theories file path p
 
-pub short-line : (symbols : List SymbolInfo) (theories : NamedTheories) (file : ℕ) (path : Option (List ℕ)) (p : Parts) (text : List ℕ) (line : List DriverToken) → length line < 2 → item_step symbols theories file path (item_of (map (lexeme_in text) line)) p ≡ Ok p
+pub short-line : (symbols : List SymbolInfo) (theories : NamedTheories) (file : ℕ) (path : Option (List ℕ)) (p : DriverParts) (text : List ℕ) (line : List DriverToken) → length line < 2 → item_step symbols theories file path (item_of (map (lexeme_in text) line)) p ≡ Ok p
 short-line symbols theories file path p text [] lt = silent-step symbols theories file path p
 short-line symbols theories file path p text (x ∷ []) lt = alone-step symbols theories file path p x.terminal
 short-line symbols theories file path p text (x ∷ y ∷ zs) lt = absurd (omega arith)

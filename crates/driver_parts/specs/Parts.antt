@@ -5,12 +5,12 @@ use Rattle.driver_items.specs.declared.kinds.Piece.{Piece}
 use Rattle.driver_items.specs.declared.kinds.Piece.TheVariants.{Literal, Argument}
 use Rattle.driver_items.specs.declared.kinds.Printer.{Printer}
 use Rattle.driver_items.specs.declared.kinds.Trans.{Trans}
-use Rattle.driver_parts.specs.declared.parts.Parts.{Parts}
+use Rattle.driver_parts.specs.declared.parts.DriverParts.{DriverParts}
 use Rattle.driver_items.specs.declared.symbols.Target.{Target}
 use Rattle.driver_items.specs.declared.symbols.Target.TheVariants.{Int, Equality, Entry}
 
 -- nothing
-abbrev pub no_parts : Parts
+abbrev pub no_parts : DriverParts
 no_parts = record { printer = None; stages = []; removed = []; all_removed = []; templates = []; int_template = None; eq_template = None; preludes = [] }
 
 -- the bytes of a template without arguments
@@ -24,28 +24,28 @@ abbrev pub with_template_at : List (ℕ × List Piece) → ℕ → List Piece �
 with_template_at [] entry pieces = (entry, pieces) ∷ []
 with_template_at (t ∷ ts) entry pieces = if nat_eq t.0 entry then (entry, pieces) ∷ ts else t ∷ with_template_at ts entry pieces
 
-abbrev pub with_template : Parts → Target → List Piece → Parts
+abbrev pub with_template : DriverParts → Target → List Piece → DriverParts
 with_template parts Int pieces = record parts { int_template = Some (literal_of pieces) }
 with_template parts Equality pieces = record parts { eq_template = Some pieces }
 with_template parts (Entry entry) pieces = record parts { templates = with_template_at parts.templates entry pieces }
 
-abbrev pub with_stage : Parts → Trans → Parts
+abbrev pub with_stage : DriverParts → Trans → DriverParts
 with_stage parts stage = record parts { stages = parts.stages ++ stage ∷ [] }
 
-abbrev pub with_printer : Parts → Printer → Parts
+abbrev pub with_printer : DriverParts → Printer → DriverParts
 with_printer parts printer = record parts { printer = Some printer }
 
-abbrev pub with_removed : Parts → List ℕ → List ℕ → Parts
+abbrev pub with_removed : DriverParts → List ℕ → List ℕ → DriverParts
 with_removed parts path name = record parts { removed = parts.removed ++ (path, name) ∷ [] }
 
-abbrev pub with_all_removed : Parts → List ℕ → Parts
+abbrev pub with_all_removed : DriverParts → List ℕ → DriverParts
 with_all_removed parts path = record parts { all_removed = parts.all_removed ++ path ∷ [] }
 
-abbrev pub with_prelude : Parts → Option (List ℕ) → List ℕ → Parts
+abbrev pub with_prelude : DriverParts → Option (List ℕ) → List ℕ → DriverParts
 with_prelude parts path text = record parts { preludes = parts.preludes ++ (path, text) ∷ [] }
 
 -- the driver of parts, with a printer and the number of the next file
-abbrev pub driver_of : Parts → Printer → ℕ → Driver
+abbrev pub driver_of : DriverParts → Printer → ℕ → Driver
 driver_of parts printer next_file = record {
   printer = printer;
   stages = parts.stages;

@@ -9,5 +9,5 @@ mod steps;
 
 pub use driver::Driver;
 pub use fault::DriverFault;
-pub use parts::{Parts, driver_of, no_parts};
+pub use parts::{DriverParts, driver_of, no_parts};
 pub use steps::take_line;

@@ -11,7 +11,7 @@ use std::alloc::{AllocError, Global};
 
 /// The parts of a driver.
 #[derive(Drop)]
-pub struct Parts {
+pub struct DriverParts {
     pub printer: Option<Printer>,
     pub stages: Seq<Trans>,
     pub removed: Seq<(Text, Text)>,
@@ -23,10 +23,10 @@ pub struct Parts {
 }
 
 /// Nothing has been read.
-pub fn no_parts(alloc: Global) -> Parts
+pub fn no_parts(alloc: Global) -> DriverParts
     ensures { result ≡ spec.no_parts }
 {
-    Parts {
+    DriverParts {
         printer: None,
         stages: Seq::new(alloc),
         removed: Seq::new(alloc),
@@ -83,7 +83,7 @@ fn set_entry(
 /// The template of a symbol; the last one counts.
 pub fn set_template(
     alloc: Global,
-    parts: &mut Parts,
+    parts: &mut DriverParts,
     target: Target,
     pieces: Seq<Piece>,
 ) -> Result<(), AllocError>
@@ -103,10 +103,10 @@ pub fn set_template(
 }
 
 /// The driver of its parts, with a printer.
-pub fn driver_of(parts: Parts, printer: Printer, next_file: usize) -> Driver
+pub fn driver_of(parts: DriverParts, printer: Printer, next_file: usize) -> Driver
     ensures { result ≡ spec.driver_of parts printer next_file }
 {
-    let Parts {
+    let DriverParts {
         printer: _,
         stages,
         removed,

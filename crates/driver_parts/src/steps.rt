@@ -12,7 +12,7 @@ ghost use Rattle.driver_parts.specs.Steps as spec;
 ghost use Rattle.driver_parts.specs.Steps.{MeetsResult};
 
 use crate::fault::DriverFault;
-use crate::parts::{Parts, set_template};
+use crate::parts::{DriverParts, set_template};
 use driver_items::{
     Target, has_proposition, is_known, name_of, part, printer_of, string_of, target_of,
     template_of, trans_of,
@@ -26,7 +26,7 @@ fn set_printer(
     alloc: Global,
     file: usize,
     text: &[u8],
-    parts: &mut Parts,
+    parts: &mut DriverParts,
     string: DriverToken,
 ) -> Result<(), DriverFault>
     ensures { MeetsResult result parts.new
@@ -50,7 +50,7 @@ fn push_stage(
     alloc: Global,
     file: usize,
     text: &[u8],
-    parts: &mut Parts,
+    parts: &mut DriverParts,
     string: DriverToken,
 ) -> Result<(), DriverFault>
     ensures { MeetsResult result parts.new (spec.staged file string.start parts.old (names.trans_of
@@ -74,7 +74,7 @@ fn put_template(
     alloc: Global,
     file: usize,
     byte: usize,
-    parts: &mut Parts,
+    parts: &mut DriverParts,
     target: Target,
     arity: usize,
     template: &[u8],
@@ -97,7 +97,7 @@ fn put_named(
     file: usize,
     name_byte: usize,
     byte: usize,
-    parts: &mut Parts,
+    parts: &mut DriverParts,
     target: Option<(Target, usize)>,
     template: &[u8],
 ) -> Result<(), DriverFault>
@@ -121,7 +121,7 @@ fn take_template(
     file: usize,
     text: &[u8],
     path: &[u8],
-    parts: &mut Parts,
+    parts: &mut DriverParts,
     kind: NameKind,
     line: &[DriverToken],
 ) -> Result<(), DriverFault>
@@ -156,7 +156,7 @@ fn take_removal(
     file: usize,
     text: &[u8],
     path: &[u8],
-    parts: &mut Parts,
+    parts: &mut DriverParts,
     line: &[DriverToken],
 ) -> Result<(), DriverFault>
     ensures { MeetsResult result parts.new (spec.block_step symbols.now theories.now file path.now
@@ -179,7 +179,7 @@ fn take_removal(
     }
 }
 
-fn push_all_removed(alloc: Global, path: &[u8], parts: &mut Parts) -> Result<(), DriverFault>
+fn push_all_removed(alloc: Global, path: &[u8], parts: &mut DriverParts) -> Result<(), DriverFault>
     ensures { MeetsResult result parts.new (Ok (with_all_removed parts.old path.now)) }
 {
     let path = Text::from_slice(alloc, path)?;
@@ -191,7 +191,7 @@ fn push_prelude(
     alloc: Global,
     text: &[u8],
     path: Option<&[u8]>,
-    parts: &mut Parts,
+    parts: &mut DriverParts,
     string: DriverToken,
 ) -> Result<(), DriverFault>
     ensures { MeetsResult result parts.new (Ok (with_prelude parts.old (option_map (λ p. p.now)
@@ -214,7 +214,7 @@ fn block_line(
     file: usize,
     text: &[u8],
     path: &[u8],
-    parts: &mut Parts,
+    parts: &mut DriverParts,
     first: DriverTerminal,
     second: DriverToken,
     line: &[DriverToken],
@@ -247,7 +247,7 @@ fn top_line(
     theories: &[(String, Vec<String>)],
     file: usize,
     text: &[u8],
-    parts: &mut Parts,
+    parts: &mut DriverParts,
     first: DriverTerminal,
     second: DriverToken,
     line: &[DriverToken],
@@ -272,7 +272,7 @@ fn take_two(
     file: usize,
     text: &[u8],
     block: &Option<Text>,
-    parts: &mut Parts,
+    parts: &mut DriverParts,
     first: DriverTerminal,
     second: DriverToken,
     line: &[DriverToken],
@@ -314,7 +314,7 @@ pub fn take_line(
     file: usize,
     text: &[u8],
     block: &Option<Text>,
-    parts: &mut Parts,
+    parts: &mut DriverParts,
     line: &[DriverToken],
 ) -> Result<(), DriverFault>
     ensures { MeetsResult result parts.new

@@ -4,8 +4,8 @@ use Rattle.std.specs.List.{flat_map}
 use Rattle.driver_tokens.specs.declared.terminal.DriverTerminal.{DriverTerminal}
 use Rattle.driver_tokens.specs.declared.machine.DriverState.{DriverState}
 use Rattle.driver_tokens.specs.declared.machine.DriverState.TheVariants as q
-use Rattle.driver_tokens.specs.declared.machine.Move.{Move}
-use Rattle.driver_tokens.specs.declared.machine.Move.TheVariants as m
+use Rattle.driver_tokens.specs.declared.machine.Transition.{Transition}
+use Rattle.driver_tokens.specs.declared.machine.Transition.TheVariants as m
 use Rattle.driver_tokens.specs.Machine.{machine_step, state_may_end, ending, within, begins, moves_from, runs, put, put_all, cut}
 use Rattle.driver_tokens.proofs.Complete.{run, is_taken}
 
@@ -35,7 +35,7 @@ image-ending : {A B : Type 0} (f : A → B) (b : Bool) → ending b ≡ image f 
 image-ending f true = refl
 image-ending f false = refl
 
-image-moved : {A B : Type 0} (f : A → B) (g : B → DriverTerminal) (x : A) (xs : List A) (y : Move) → ((s : DriverState) → runs g s (map f xs) ≡ image f (runs (λ a. g (f a)) s xs)) → moves_from (f x) (map f xs) y (λ s. runs g s (map f xs)) ≡ image f (moves_from x xs y (λ s. runs (λ a. g (f a)) s xs))
+image-moved : {A B : Type 0} (f : A → B) (g : B → DriverTerminal) (x : A) (xs : List A) (y : Transition) → ((s : DriverState) → runs g s (map f xs) ≡ image f (runs (λ a. g (f a)) s xs)) → moves_from (f x) (map f xs) y (λ s. runs g s (map f xs)) ≡ image f (moves_from x xs y (λ s. runs (λ a. g (f a)) s xs))
 image-moved f g x xs m.Stuck h = refl
 image-moved f g x xs (m.Within s) h = ap (within (f x)) (h s) ∙ image-within f x _
 image-moved f g x xs (m.Begins s) h = ap (begins (f x)) (h s) ∙ image-begins f x _
@@ -79,7 +79,7 @@ ending_flat false c e = cc
 abbrev Flat : {A : Type 0} → (A → DriverTerminal) → List A → Type 0
 Flat {A} g xs = (s : DriverState) (c : List A × List (List A)) → runs g s xs ≡ Ok c → flat c ≡ xs
 
-moved_flat : {A : Type 0} (g : A → DriverTerminal) (x : A) (xs : List A) → Flat g xs → (y : Move) (c : List A × List (List A)) → moves_from x xs y (λ s. runs g s xs) ≡ Ok c → flat c ≡ x ∷ xs
+moved_flat : {A : Type 0} (g : A → DriverTerminal) (x : A) (xs : List A) → Flat g xs → (y : Transition) (c : List A × List (List A)) → moves_from x xs y (λ s. runs g s xs) ≡ Ok c → flat c ≡ x ∷ xs
 moved_flat g x xs h m.Stuck c e = cc
 moved_flat g x xs h (m.Within s) c e = let i = within_ok x (runs g s xs) c e in ap flat (sym i.2) ∙ ap (λ v. x ∷ v) (h s i.0 i.1)
 moved_flat g x xs h (m.Begins s) c e = let i = begins_ok x (runs g s xs) c e in ap flat (sym i.2) ∙ ap (λ v. x ∷ v) (h s i.0 i.1)
@@ -130,7 +130,7 @@ ending_stuck g s false e i h = from_nil (sym nil)
 abbrev Stucks : {A : Type 0} → (A → DriverTerminal) → List A → Type 0
 Stucks {A} g xs = (s : DriverState) (e : List A) → runs g s xs ≡ Err e → Stuck g s xs e
 
-moved_stuck : {A : Type 0} (g : A → DriverTerminal) (x : A) (xs : List A) → Stucks g xs → (s : DriverState) (y : Move) (e : List A) → machine_step s (g x) ≡ y → moves_from x xs y (λ n. runs g n xs) ≡ Err e → Stuck g s (x ∷ xs) e
+moved_stuck : {A : Type 0} (g : A → DriverTerminal) (x : A) (xs : List A) → Stucks g xs → (s : DriverState) (y : Transition) (e : List A) → machine_step s (g x) ≡ y → moves_from x xs y (λ n. runs g n xs) ≡ Err e → Stuck g s (x ∷ xs) e
 moved_stuck g x xs h s m.Stuck e i j = from_all cc
   where
     from_all : e ≡ x ∷ xs → Stuck g s (x ∷ xs) e

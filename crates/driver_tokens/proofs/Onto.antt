@@ -6,7 +6,7 @@ use Rattle.driver_tokens.specs.declared.terminal.DriverTerminal.{DriverTerminal}
 use Rattle.driver_tokens.specs.declared.token.DriverToken.{DriverToken}
 use Rattle.driver_tokens.specs.declared.file.DriverLine.{DriverLine}
 use Rattle.driver_tokens.specs.declared.machine.DriverState.{DriverState}
-use Rattle.driver_tokens.specs.declared.machine.Move.TheVariants as m
+use Rattle.driver_tokens.specs.declared.machine.Transition.TheVariants as m
 use Rattle.driver_tokens.specs.Machine.{machine_step, within, begins, moves_from, runs, put, put_all, cut}
 use Rattle.driver_tokens.specs.File.{with_line, tokens_of_lines}
 use Rattle.driver_tokens.proofs.Cutting.{Ends}

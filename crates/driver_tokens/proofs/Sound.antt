@@ -8,8 +8,8 @@ use Rattle.driver_tokens.specs.declared.machine.Owner.{Owner}
 use Rattle.driver_tokens.specs.declared.machine.Owner.TheVariants as o
 use Rattle.driver_tokens.specs.declared.machine.DriverState.{DriverState}
 use Rattle.driver_tokens.specs.declared.machine.DriverState.TheVariants as q
-use Rattle.driver_tokens.specs.declared.machine.Move.{Move}
-use Rattle.driver_tokens.specs.declared.machine.Move.TheVariants as m
+use Rattle.driver_tokens.specs.declared.machine.Transition.{Transition}
+use Rattle.driver_tokens.specs.declared.machine.Transition.TheVariants as m
 use Rattle.driver_tokens.specs.Machine.{line_word, line_move, state_after, machine_step, state_may_end, ending, within, begins, moves_from, runs}
 use Rattle.driver_tokens.specs.Grammar.{DriverName, scoped_name, word_name, star_name, infix_operator, prefix_operator, string_value, number_value, value_argument, kind_argument, proposition_argument, by_string, by_word, GrammarLine, heading_line, prelude_line, answer_line, meta_line, theory_line, end_of_block_line, template_line, removal_line, removal_of_all_line, are_lines, write_name}
 use Rattle.driver_tokens.proofs.Rests.{Lines, After, Rest, Cut, cut_of, written}
@@ -18,7 +18,7 @@ use Rattle.driver_tokens.proofs.Rests.{Lines, After, Rest, Cut, cut_of, written}
 abbrev pub From : (s : DriverState) → Cut → Type 0
 From s c = (r : Rest s) × (written s r ≡ c)
 
-abbrev Back : DriverState → DriverTerminal → Move → Type 0
+abbrev Back : DriverState → DriverTerminal → Transition → Type 0
 Back s x m.Stuck = Unit {0}
 Back s x (m.Within n) = (r : Rest n) → From s (cut_of (x ∷ (written n r).0) (written n r).1)
 Back s x (m.Begins n) = (r : Rest n) → From s (cut_of [] ((x ∷ (written n r).0) ∷ (written n r).1))
@@ -27,7 +27,7 @@ Back s x (m.Begins n) = (r : Rest n) → From s (cut_of [] ((x ∷ (written n r)
 abbrev Passes : DriverState → DriverState → Type 0
 Passes s t = (r : Rest s) → From t (written s r)
 
-passed : (s t : DriverState) → Passes s t → (x : DriverTerminal) (y : Move) → Back s x y → Back t x y
+passed : (s t : DriverState) → Passes s t → (x : DriverTerminal) (y : Transition) → Back s x y → Back t x y
 passed s t p x m.Stuck b = tt
 passed s t p x (m.Within n) b = λ r. let f = b r in let g = p f.0 in (g.0, g.1 ∙ f.1)
 passed s t p x (m.Begins n) b = λ r. let f = b r in let g = p f.0 in (g.0, g.1 ∙ f.1)
@@ -247,7 +247,7 @@ begins_ok x (Err d) c e = cc
 abbrev pub Sound : List DriverTerminal → Type 0
 Sound xs = (s : DriverState) (c : Cut) → runs (λ x. x) s xs ≡ Ok c → From s c
 
-by_move : (x : DriverTerminal) (xs : List DriverTerminal) → Sound xs → (s : DriverState) (c : Cut) (y : Move) → Back s x y → moves_from x xs y (λ n. runs (λ z. z) n xs) ≡ Ok c → From s c
+by_move : (x : DriverTerminal) (xs : List DriverTerminal) → Sound xs → (s : DriverState) (c : Cut) (y : Transition) → Back s x y → moves_from x xs y (λ n. runs (λ z. z) n xs) ≡ Ok c → From s c
 by_move x xs ih s c m.Stuck b e = cc
 by_move x xs ih s c (m.Within n) b e =
     let i = within_ok x (runs (λ z. z) n xs) c e in

@@ -8,10 +8,10 @@ use Rattle.driver_tokens.specs.declared.machine.Owner.{Owner}
 use Rattle.driver_tokens.specs.declared.machine.Owner.TheVariants as o
 use Rattle.driver_tokens.specs.declared.machine.DriverState.{DriverState}
 use Rattle.driver_tokens.specs.declared.machine.DriverState.TheVariants as q
-use Rattle.driver_tokens.specs.declared.machine.Move.{Move}
-use Rattle.driver_tokens.specs.declared.machine.Move.TheVariants as m
+use Rattle.driver_tokens.specs.declared.machine.Transition.{Transition}
+use Rattle.driver_tokens.specs.declared.machine.Transition.TheVariants as m
 
-abbrev pub line_word : Bool → DriverWord → Move
+abbrev pub line_word : Bool → DriverWord → Transition
 line_word b w.Prelude = m.Begins (q.LineText b)
 line_word b w.Meta = m.Begins (q.MetaName b)
 line_word false (w.Heading h) = m.Begins (q.LineText false)
@@ -22,73 +22,73 @@ line_word true w.Syntax = m.Begins q.NameKind
 line_word true w.Remove = m.Begins q.Removal
 line_word b _ = m.Stuck
 
-abbrev pub line_move : Bool → DriverTerminal → Move
+abbrev pub line_move : Bool → DriverTerminal → Transition
 line_move b (t.Word s) = line_word b s
 line_move b _ = m.Stuck
 
-abbrev pub path_word : DriverTerminal → Move
+abbrev pub path_word : DriverTerminal → Transition
 path_word (t.Word s) = m.Within q.Path
 path_word _ = m.Stuck
 
-abbrev pub path : DriverTerminal → Move
+abbrev pub path : DriverTerminal → Transition
 path t.Dot = m.Within q.PathWord
 path x = line_move true x
 
-abbrev pub line_text_move : Bool → DriverTerminal → Move
+abbrev pub line_text_move : Bool → DriverTerminal → Transition
 line_text_move b t.Text = m.Within (q.Lines b)
 line_text_move b _ = m.Stuck
 
-abbrev pub meta_name : Bool → DriverTerminal → Move
+abbrev pub meta_name : Bool → DriverTerminal → Transition
 meta_name b t.Text = m.Within (q.Arguments b)
 meta_name b (t.Word s) = m.Within (q.Arguments b)
 meta_name b _ = m.Stuck
 
-abbrev pub argument_word : Bool → DriverWord → Move
+abbrev pub argument_word : Bool → DriverWord → Transition
 argument_word b (w.Kind k) = m.Within (q.Name (o.Meta b))
 argument_word b w.Prop = m.Within (q.Name (o.Meta b))
 argument_word b _ = m.Stuck
 
-abbrev pub argument_move : Bool → DriverTerminal → Move
+abbrev pub argument_move : Bool → DriverTerminal → Transition
 argument_move b t.Text = m.Within (q.MoreArguments b)
 argument_move b t.Number = m.Within (q.MoreArguments b)
 argument_move b (t.Word s) = argument_word b s
 argument_move b _ = m.Stuck
 
-abbrev pub or_move : Move → Move → Move
+abbrev pub or_move : Transition → Transition → Transition
 or_move m.Stuck y = y
 or_move x y = x
 
-abbrev pub arguments_move : Bool → DriverTerminal → Move
+abbrev pub arguments_move : Bool → DriverTerminal → Transition
 arguments_move b x = or_move (argument_move b x) (line_move b x)
 
-abbrev pub more_arguments : Bool → DriverTerminal → Move
+abbrev pub more_arguments : Bool → DriverTerminal → Transition
 more_arguments b t.Comma = m.Within (q.Argument b)
 more_arguments b x = line_move b x
 
-abbrev pub value : DriverTerminal → Move
+abbrev pub value : DriverTerminal → Transition
 value t.Text = m.Within q.Values
 value t.Number = m.Within q.Values
 value _ = m.Stuck
 
-abbrev pub values : DriverTerminal → Move
+abbrev pub values : DriverTerminal → Transition
 values t.Text = m.Within q.Values
 values t.Number = m.Within q.Values
 values x = line_move false x
 
-abbrev pub name_kind_word : DriverWord → Move
+abbrev pub name_kind_word : DriverWord → Transition
 name_kind_word (w.Kind k) = m.Within (q.Name o.Syntax)
 name_kind_word _ = m.Stuck
 
-abbrev pub name_kind : DriverTerminal → Move
+abbrev pub name_kind : DriverTerminal → Transition
 name_kind (t.Word s) = name_kind_word s
 name_kind _ = m.Stuck
 
-abbrev pub removal_word : DriverWord → Move
+abbrev pub removal_word : DriverWord → Transition
 removal_word w.Prop = m.Within (q.Name o.Remove)
 removal_word w.Allprops = m.Within (q.Lines true)
 removal_word _ = m.Stuck
 
-abbrev pub removal_move : DriverTerminal → Move
+abbrev pub removal_move : DriverTerminal → Transition
 removal_move (t.Word s) = removal_word s
 removal_move _ = m.Stuck
 
@@ -97,39 +97,39 @@ state_after o.Syntax = q.LineText true
 state_after o.Remove = q.Lines true
 state_after (o.Meta b) = q.MoreArguments b
 
-abbrev pub step_behind : Owner → DriverTerminal → Move
+abbrev pub step_behind : Owner → DriverTerminal → Transition
 step_behind o.Syntax x = line_text_move true x
 step_behind o.Remove x = line_move true x
 step_behind (o.Meta b) x = more_arguments b x
 
-abbrev pub name_move : Owner → DriverTerminal → Move
+abbrev pub name_move : Owner → DriverTerminal → Transition
 name_move o (t.Word s) = m.Within (q.NameDot o)
 name_move o t.Open = m.Within (q.Operator o)
 name_move o t.Star = m.Within (state_after o)
 name_move o _ = m.Stuck
 
-abbrev pub name_dot : Owner → DriverTerminal → Move
+abbrev pub name_dot : Owner → DriverTerminal → Transition
 name_dot o t.Dot = m.Within (q.Name o)
 name_dot o x = step_behind o x
 
-abbrev pub operator : Owner → DriverTerminal → Move
+abbrev pub operator : Owner → DriverTerminal → Transition
 operator o t.Operator = m.Within (q.OperatorEnd o)
 operator o _ = m.Stuck
 
-abbrev pub operator_end_word : Owner → DriverWord → Move
+abbrev pub operator_end_word : Owner → DriverWord → Transition
 operator_end_word o w.Line = m.Within (q.OperatorClose o)
 operator_end_word o _ = m.Stuck
 
-abbrev pub operator_end : Owner → DriverTerminal → Move
+abbrev pub operator_end : Owner → DriverTerminal → Transition
 operator_end o t.Close = m.Within (state_after o)
 operator_end o (t.Word s) = operator_end_word o s
 operator_end o _ = m.Stuck
 
-abbrev pub operator_close : Owner → DriverTerminal → Move
+abbrev pub operator_close : Owner → DriverTerminal → Transition
 operator_close o t.Close = m.Within (state_after o)
 operator_close o _ = m.Stuck
 
-abbrev pub machine_step : DriverState → DriverTerminal → Move
+abbrev pub machine_step : DriverState → DriverTerminal → Transition
 machine_step (q.Lines b) = line_move b
 machine_step q.PathWord = path_word
 machine_step q.Path = path
@@ -170,7 +170,7 @@ abbrev pub begins : {A : Type 0} → A → Result (List A × List (List A)) (Lis
 begins x (Ok w) = Ok ([], (x ∷ w.0) ∷ w.1)
 begins x (Err e) = Err e
 
-abbrev pub moves_from : {A : Type 0} → A → List A → Move → (DriverState → Result (List A × List (List A)) (List A)) → Result (List A × List (List A)) (List A)
+abbrev pub moves_from : {A : Type 0} → A → List A → Transition → (DriverState → Result (List A × List (List A)) (List A)) → Result (List A × List (List A)) (List A)
 moves_from x xs m.Stuck next = Err (x ∷ xs)
 moves_from x xs (m.Within s) next = within x (next s)
 moves_from x xs (m.Begins s) next = begins x (next s)

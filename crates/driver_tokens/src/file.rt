@@ -6,7 +6,7 @@ ghost use Rattle.driver_tokens.specs.Lines.{AreOnlyLines};
 
 use crate::fault::DriverSyntaxFault;
 use crate::lexer::lex_driver;
-use crate::machine::{DriverState, Move, may_end, step};
+use crate::machine::{DriverState, Transition, may_end, step};
 use crate::token::DriverToken;
 use std::alloc::{AllocError, Global};
 
@@ -46,9 +46,9 @@ fn cut(
     let mut first = 0;
     for (i, token) in tokens.iter().enumerate() {
         match step(state, token.terminal) {
-            Move::Stuck => return Err(DriverSyntaxFault::Syntax { byte: token.start }),
-            Move::Within(next) => state = next,
-            Move::Begins(next) => {
+            Transition::Stuck => return Err(DriverSyntaxFault::Syntax { byte: token.start }),
+            Transition::Within(next) => state = next,
+            Transition::Begins(next) => {
                 put_line(&mut lines, first, i)?;
                 first = i;
                 state = next;

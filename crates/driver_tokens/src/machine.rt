@@ -51,141 +51,145 @@ pub enum DriverState {
 
 /// What a token does to a state: it can't be there, or it goes on in a line, or it begins one.
 #[derive(Clone, Copy)]
-pub enum Move {
+pub enum Transition {
     Stuck,
     Within(DriverState),
     Begins(DriverState),
 }
 
-fn line_word(in_block: bool, word: DriverWord) -> Move
+fn line_word(in_block: bool, word: DriverWord) -> Transition
     ensures { result ≡ spec.line_word in_block word }
 {
     match (in_block, word) {
-        (_, DriverWord::Prelude) => Move::Begins(DriverState::LineText(in_block)),
-        (_, DriverWord::Meta) => Move::Begins(DriverState::MetaName(in_block)),
-        (false, DriverWord::Heading(_)) => Move::Begins(DriverState::LineText(false)),
-        (false, DriverWord::Answer) => Move::Begins(DriverState::Value),
-        (false, DriverWord::Theory) => Move::Begins(DriverState::PathWord),
-        (true, DriverWord::End) => Move::Begins(DriverState::Lines(false)),
-        (true, DriverWord::Syntax) => Move::Begins(DriverState::NameKind),
-        (true, DriverWord::Remove) => Move::Begins(DriverState::Removal),
-        _ => Move::Stuck,
+        (_, DriverWord::Prelude) => Transition::Begins(DriverState::LineText(in_block)),
+        (_, DriverWord::Meta) => Transition::Begins(DriverState::MetaName(in_block)),
+        (false, DriverWord::Heading(_)) => Transition::Begins(DriverState::LineText(false)),
+        (false, DriverWord::Answer) => Transition::Begins(DriverState::Value),
+        (false, DriverWord::Theory) => Transition::Begins(DriverState::PathWord),
+        (true, DriverWord::End) => Transition::Begins(DriverState::Lines(false)),
+        (true, DriverWord::Syntax) => Transition::Begins(DriverState::NameKind),
+        (true, DriverWord::Remove) => Transition::Begins(DriverState::Removal),
+        _ => Transition::Stuck,
     }
 }
 
-fn line(in_block: bool, x: DriverTerminal) -> Move
+fn line(in_block: bool, x: DriverTerminal) -> Transition
     ensures { result ≡ spec.line_move in_block x }
 {
     match x {
         DriverTerminal::Word(word) => line_word(in_block, word),
-        _ => Move::Stuck,
+        _ => Transition::Stuck,
     }
 }
 
-fn path_word(x: DriverTerminal) -> Move
+fn path_word(x: DriverTerminal) -> Transition
     ensures { result ≡ spec.path_word x }
 {
     match x {
-        DriverTerminal::Word(_) => Move::Within(DriverState::Path),
-        _ => Move::Stuck,
+        DriverTerminal::Word(_) => Transition::Within(DriverState::Path),
+        _ => Transition::Stuck,
     }
 }
 
-fn path(x: DriverTerminal) -> Move
+fn path(x: DriverTerminal) -> Transition
     ensures { result ≡ spec.path x }
 {
     match x {
-        DriverTerminal::Dot => Move::Within(DriverState::PathWord),
+        DriverTerminal::Dot => Transition::Within(DriverState::PathWord),
         _ => line(true, x),
     }
 }
 
-fn line_text(in_block: bool, x: DriverTerminal) -> Move
+fn line_text(in_block: bool, x: DriverTerminal) -> Transition
     ensures { result ≡ spec.line_text_move in_block x }
 {
     match x {
-        DriverTerminal::Text => Move::Within(DriverState::Lines(in_block)),
-        _ => Move::Stuck,
+        DriverTerminal::Text => Transition::Within(DriverState::Lines(in_block)),
+        _ => Transition::Stuck,
     }
 }
 
-fn meta_name(in_block: bool, x: DriverTerminal) -> Move
+fn meta_name(in_block: bool, x: DriverTerminal) -> Transition
     ensures { result ≡ spec.meta_name in_block x }
 {
     match x {
         DriverTerminal::Text | DriverTerminal::Word(_) => {
-            Move::Within(DriverState::Arguments(in_block))
+            Transition::Within(DriverState::Arguments(in_block))
         }
-        _ => Move::Stuck,
+        _ => Transition::Stuck,
     }
 }
 
-fn argument(in_block: bool, x: DriverTerminal) -> Move
+fn argument(in_block: bool, x: DriverTerminal) -> Transition
     ensures { result ≡ spec.argument_move in_block x }
 {
     match x {
         DriverTerminal::Text | DriverTerminal::Number => {
-            Move::Within(DriverState::MoreArguments(in_block))
+            Transition::Within(DriverState::MoreArguments(in_block))
         }
         DriverTerminal::Word(DriverWord::Kind(_)) | DriverTerminal::Word(DriverWord::Prop) => {
-            Move::Within(DriverState::Name(Owner::Meta(in_block)))
+            Transition::Within(DriverState::Name(Owner::Meta(in_block)))
         }
-        _ => Move::Stuck,
+        _ => Transition::Stuck,
     }
 }
 
-fn arguments(in_block: bool, x: DriverTerminal) -> Move
+fn arguments(in_block: bool, x: DriverTerminal) -> Transition
     ensures { result ≡ spec.arguments_move in_block x }
 {
     match argument(in_block, x) {
-        Move::Stuck => line(in_block, x),
+        Transition::Stuck => line(in_block, x),
         taken => taken,
     }
 }
 
-fn more_arguments(in_block: bool, x: DriverTerminal) -> Move
+fn more_arguments(in_block: bool, x: DriverTerminal) -> Transition
     ensures { result ≡ spec.more_arguments in_block x }
 {
     match x {
-        DriverTerminal::Comma => Move::Within(DriverState::Argument(in_block)),
+        DriverTerminal::Comma => Transition::Within(DriverState::Argument(in_block)),
         _ => line(in_block, x),
     }
 }
 
-fn value(x: DriverTerminal) -> Move
+fn value(x: DriverTerminal) -> Transition
     ensures { result ≡ spec.value x }
 {
     match x {
-        DriverTerminal::Text | DriverTerminal::Number => Move::Within(DriverState::Values),
-        _ => Move::Stuck,
+        DriverTerminal::Text | DriverTerminal::Number => Transition::Within(DriverState::Values),
+        _ => Transition::Stuck,
     }
 }
 
-fn values(x: DriverTerminal) -> Move
+fn values(x: DriverTerminal) -> Transition
     ensures { result ≡ spec.values x }
 {
     match x {
-        DriverTerminal::Text | DriverTerminal::Number => Move::Within(DriverState::Values),
+        DriverTerminal::Text | DriverTerminal::Number => Transition::Within(DriverState::Values),
         _ => line(false, x),
     }
 }
 
-fn name_kind(x: DriverTerminal) -> Move
+fn name_kind(x: DriverTerminal) -> Transition
     ensures { result ≡ spec.name_kind x }
 {
     match x {
-        DriverTerminal::Word(DriverWord::Kind(_)) => Move::Within(DriverState::Name(Owner::Syntax)),
-        _ => Move::Stuck,
+        DriverTerminal::Word(DriverWord::Kind(_)) => Transition::Within(DriverState::Name(
+            Owner::Syntax,
+        )),
+        _ => Transition::Stuck,
     }
 }
 
-fn removal(x: DriverTerminal) -> Move
+fn removal(x: DriverTerminal) -> Transition
     ensures { result ≡ spec.removal_move x }
 {
     match x {
-        DriverTerminal::Word(DriverWord::Prop) => Move::Within(DriverState::Name(Owner::Remove)),
-        DriverTerminal::Word(DriverWord::Allprops) => Move::Within(DriverState::Lines(true)),
-        _ => Move::Stuck,
+        DriverTerminal::Word(DriverWord::Prop) => Transition::Within(DriverState::Name(
+            Owner::Remove,
+        )),
+        DriverTerminal::Word(DriverWord::Allprops) => Transition::Within(DriverState::Lines(true)),
+        _ => Transition::Stuck,
     }
 }
 
@@ -200,7 +204,7 @@ fn state_after(owner: Owner) -> DriverState
     }
 }
 
-fn step_behind(owner: Owner, x: DriverTerminal) -> Move
+fn step_behind(owner: Owner, x: DriverTerminal) -> Transition
     ensures { result ≡ spec.step_behind owner x }
 {
     match owner {
@@ -210,56 +214,58 @@ fn step_behind(owner: Owner, x: DriverTerminal) -> Move
     }
 }
 
-fn name(owner: Owner, x: DriverTerminal) -> Move
+fn name(owner: Owner, x: DriverTerminal) -> Transition
     ensures { result ≡ spec.name_move owner x }
 {
     match x {
-        DriverTerminal::Word(_) => Move::Within(DriverState::NameDot(owner)),
-        DriverTerminal::Open => Move::Within(DriverState::Operator(owner)),
-        DriverTerminal::Star => Move::Within(state_after(owner)),
-        _ => Move::Stuck,
+        DriverTerminal::Word(_) => Transition::Within(DriverState::NameDot(owner)),
+        DriverTerminal::Open => Transition::Within(DriverState::Operator(owner)),
+        DriverTerminal::Star => Transition::Within(state_after(owner)),
+        _ => Transition::Stuck,
     }
 }
 
-fn name_dot(owner: Owner, x: DriverTerminal) -> Move
+fn name_dot(owner: Owner, x: DriverTerminal) -> Transition
     ensures { result ≡ spec.name_dot owner x }
 {
     match x {
-        DriverTerminal::Dot => Move::Within(DriverState::Name(owner)),
+        DriverTerminal::Dot => Transition::Within(DriverState::Name(owner)),
         _ => step_behind(owner, x),
     }
 }
 
-fn operator(owner: Owner, x: DriverTerminal) -> Move
+fn operator(owner: Owner, x: DriverTerminal) -> Transition
     ensures { result ≡ spec.operator owner x }
 {
     match x {
-        DriverTerminal::Operator => Move::Within(DriverState::OperatorEnd(owner)),
-        _ => Move::Stuck,
+        DriverTerminal::Operator => Transition::Within(DriverState::OperatorEnd(owner)),
+        _ => Transition::Stuck,
     }
 }
 
-fn operator_end(owner: Owner, x: DriverTerminal) -> Move
+fn operator_end(owner: Owner, x: DriverTerminal) -> Transition
     ensures { result ≡ spec.operator_end owner x }
 {
     match x {
-        DriverTerminal::Close => Move::Within(state_after(owner)),
-        DriverTerminal::Word(DriverWord::Line) => Move::Within(DriverState::OperatorClose(owner)),
-        _ => Move::Stuck,
+        DriverTerminal::Close => Transition::Within(state_after(owner)),
+        DriverTerminal::Word(DriverWord::Line) => Transition::Within(DriverState::OperatorClose(
+            owner,
+        )),
+        _ => Transition::Stuck,
     }
 }
 
-fn operator_close(owner: Owner, x: DriverTerminal) -> Move
+fn operator_close(owner: Owner, x: DriverTerminal) -> Transition
     ensures { result ≡ spec.operator_close owner x }
 {
     match x {
-        DriverTerminal::Close => Move::Within(state_after(owner)),
-        _ => Move::Stuck,
+        DriverTerminal::Close => Transition::Within(state_after(owner)),
+        _ => Transition::Stuck,
     }
 }
 
 /// What a token does to a state.
-pub fn step(state: DriverState, x: DriverTerminal) -> Move
+pub fn step(state: DriverState, x: DriverTerminal) -> Transition
     ensures { result ≡ spec.machine_step state x }
 {
     match state {

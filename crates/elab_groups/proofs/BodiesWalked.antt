@@ -12,7 +12,7 @@ use Rattle.syntax_why.specs.Lexeme.{Word}
 use Rattle.elab_names.specs.Abstract.{Expression}
 use Rattle.elab_names.specs.Faults.{fault}
 use Rattle.elab_names.specs.Where.{Where}
-use Rattle.elab_walk.specs.declared.draft.Draft.{Draft}
+use Rattle.elab_walk.specs.declared.draft.Constraints.{Constraints}
 use Rattle.elab_walk.specs.Patterns.{LocalTree}
 use Rattle.elab_walk.specs.Pieces.{NotedTree, piece}
 use Rattle.elab_walk.specs.Drafts.{IsReady, IsWalked, due}
@@ -25,11 +25,11 @@ use Rattle.elab_members.specs.Members.{SignatureTree, words_of_parameters, body_
 use Rattle.elab_groups.specs.Groups.{typed_locals, body_piece, member_piece, member_pieces, pieces_trees}
 use Rattle.elab_groups.specs.Bodies.{IsBodyWalked, AreBodiesWalked, AreDefined, sorts_due}
 
-pub walked_none : (s : List Tree) (d : Draft) (ids : List TermId) (ms : List GroupMember) (its : List Signed) → (length ms ≡ length its → its ≡ []) → IsReady s d → All (Holds s) ids → AreBodiesWalked [] ms its s d ids s d ids
+pub walked_none : (s : List Tree) (d : Constraints) (ids : List TermId) (ms : List GroupMember) (its : List Signed) → (length ms ≡ length its → its ≡ []) → IsReady s d → All (Holds s) ids → AreBodiesWalked [] ms its s d ids s d ids
 walked_none s d ids ms its e r h = record { held = h; trees = sym (append-nil (trees_at s ids)); sorts = λ l k. ap sorts_due (sym (e l)); noted = nothing_noted s d r }
 
 -- one body, and those after it
-pub walked_first : {s s1 s2 : List Tree} {d d1 d2 : Draft} {p : NotedTree} {ps : List NotedTree} {id : TermId} {ids ids2 : List TermId} → Grows s s1 → All (Holds s) ids → (m : GroupMember) (ms : List GroupMember) (it : Signed) (its : List Signed)
+pub walked_first : {s s1 s2 : List Tree} {d d1 d2 : Constraints} {p : NotedTree} {ps : List NotedTree} {id : TermId} {ids ids2 : List TermId} → Grows s s1 → All (Holds s) ids → (m : GroupMember) (ms : List GroupMember) (it : Signed) (its : List Signed)
     → IsBodyWalked p s d s1 d1 id → (is_some m.body ≡ true → sort_of (tree_at s1 id) ≡ due it.result)
     → AreBodiesWalked ps ms its s1 d1 (ids ++ id ∷ []) s2 d2 ids2 → AreBodiesWalked (p ∷ ps) (m ∷ ms) (it ∷ its) s d ids s2 d2 ids2
 walked_first {s} {s1} {s2} {d} {d1} {d2} {p} {ps} {id} {ids} {ids2} g h m ms it its one sort rest = record {
@@ -46,12 +46,12 @@ walked_first {s} {s1} {s2} {d} {d1} {d2} {p} {ps} {id} {ids} {ids2} g h m ms it 
 
 -- ---- one body
 -- a member without a body
-pub walked_end : (w : Where) (n : ℕ) (m : GroupMember) (g : SignatureTree) (s s1 : List Tree) (d : Draft) (id : TermId) → m.body ≡ None → IsReady s d → Grows s s1 → Holds s1 id → tree_at s1 id ≡ Leaf HEnd → IsBodyWalked (member_piece w n m g) s d s1 d id
+pub walked_end : (w : Where) (n : ℕ) (m : GroupMember) (g : SignatureTree) (s s1 : List Tree) (d : Constraints) (id : TermId) → m.body ≡ None → IsReady s d → Grows s s1 → Holds s1 id → tree_at s1 id ≡ Leaf HEnd → IsBodyWalked (member_piece w n m g) s d s1 d id
 walked_end w n m g s s1 d id e r grows h t =
     subst (λ (b : Option Expression). IsBodyWalked (body_piece (with_vars w g.vars) (reverse (typed_locals (words_of_parameters m.params) g.args)) n g.result b) s d s1 d id) (sym e)
     (record { held = h; tree = t; noted = noted_before (nothing_noted s d r) grows })
 
-pub walked_body : (w v : Where) (n : ℕ) (m : GroupMember) (g : SignatureTree) (b : Expression) (ls : List LocalTree) (k : Sort) (s s1 : List Tree) (d d1 : Draft) (id : TermId) → m.body ≡ Some b → v ≡ with_vars w g.vars → ls ≡ reverse (typed_locals (words_of_parameters m.params) g.args)
+pub walked_body : (w v : Where) (n : ℕ) (m : GroupMember) (g : SignatureTree) (b : Expression) (ls : List LocalTree) (k : Sort) (s s1 : List Tree) (d d1 : Constraints) (id : TermId) → m.body ≡ Some b → v ≡ with_vars w g.vars → ls ≡ reverse (typed_locals (words_of_parameters m.params) g.args)
     → IsWalked (piece v ls n g.result b) k s d s1 d1 id → IsBodyWalked (member_piece w n m g) s d s1 d1 id
 walked_body w v n m g b ls k s s1 d d1 id e q l h =
     let here = reverse (typed_locals (words_of_parameters m.params) g.args) in
@@ -68,10 +68,10 @@ pieces_none : (w : Where) (n : ℕ) (ms : List GroupMember) → member_pieces w 
 pieces_none w n [] = refl
 pieces_none w n (m ∷ ms) = refl
 
-pub none_walked : (w : Where) (n : ℕ) (gs : List SignatureTree) (s : List Tree) (d : Draft) (ids : List TermId) (ms : List GroupMember) (its : List Signed) → ms ≡ [] → IsReady s d → All (Holds s) ids → AreBodiesWalked (member_pieces w n ms gs) ms its s d ids s d ids
+pub none_walked : (w : Where) (n : ℕ) (gs : List SignatureTree) (s : List Tree) (d : Constraints) (ids : List TermId) (ms : List GroupMember) (its : List Signed) → ms ≡ [] → IsReady s d → All (Holds s) ids → AreBodiesWalked (member_pieces w n ms gs) ms its s d ids s d ids
 none_walked w n gs s d ids ms its e r h = subst (λ (xs : List GroupMember). AreBodiesWalked (member_pieces w n xs gs) xs its s d ids s d ids) (sym e) (walked_none s d ids [] its (λ l. no_elements its (sym l)) r h)
 
-pub unsigned_walked : (w : Where) (n : ℕ) (gs : List SignatureTree) (s : List Tree) (d : Draft) (ids : List TermId) (ms : List GroupMember) (its : List Signed) → gs ≡ [] → its ≡ [] → IsReady s d → All (Holds s) ids → AreBodiesWalked (member_pieces w n ms gs) ms its s d ids s d ids
+pub unsigned_walked : (w : Where) (n : ℕ) (gs : List SignatureTree) (s : List Tree) (d : Constraints) (ids : List TermId) (ms : List GroupMember) (its : List Signed) → gs ≡ [] → its ≡ [] → IsReady s d → All (Holds s) ids → AreBodiesWalked (member_pieces w n ms gs) ms its s d ids s d ids
 unsigned_walked w n gs s d ids ms its e f r h =
     let p : member_pieces w n ms gs ≡ [] = ap (member_pieces w n ms) e ∙ pieces_none w n ms in
     subst (λ (ps : List NotedTree). AreBodiesWalked ps ms its s d ids s d ids) (sym p) (walked_none s d ids ms its (λ l. f) r h)

@@ -11,7 +11,7 @@ use Rattle.trees.specs.Facts.{TyVarsBelow}
 use Rattle.tasks.specs.Meaning.{trees_at, declarations_at, DeclHeld}
 use Rattle.syntax_why.specs.Lexeme.{Word}
 use Rattle.elab_names.specs.Where.{Where}
-use Rattle.elab_walk.specs.declared.draft.Draft.{Draft}
+use Rattle.elab_walk.specs.declared.draft.Constraints.{Constraints}
 use Rattle.elab_walk.specs.Patterns.{Notes, taken}
 use Rattle.elab_walk.specs.Pieces.{NotedTree}
 use Rattle.elab_walk.specs.Drafts.{IsReady, IsNoted, MatchHeld, match_at, due}
@@ -46,13 +46,13 @@ AllHaveBodies [] = Unit {0}
 AllHaveBodies (m ∷ ms) = is_some m.body ≡ true → AreDefined ms
 
 -- the number of the piece's tree, and its notes after those that were there
-pub record IsBodyWalked (p : NotedTree) (s : List Tree) (d : Draft) (s' : List Tree) (d' : Draft) (id : TermId) : Type 0 where
+pub record IsBodyWalked (p : NotedTree) (s : List Tree) (d : Constraints) (s' : List Tree) (d' : Constraints) (id : TermId) : Type 0 where
   pub held : Holds s' id
   pub tree : tree_at s' id ≡ p.tree
   pub noted : IsNoted s d s' d' p.notes
 
 -- of pieces in order, after those that are there
-pub record AreBodiesWalked (ps : List NotedTree) (ms : List GroupMember) (its : List Signed) (s : List Tree) (d : Draft) (ids : List TermId) (s' : List Tree) (d' : Draft) (ids' : List TermId) : Type 0 where
+pub record AreBodiesWalked (ps : List NotedTree) (ms : List GroupMember) (its : List Signed) (s : List Tree) (d : Constraints) (ids : List TermId) (s' : List Tree) (d' : Constraints) (ids' : List TermId) : Type 0 where
   pub held : All (Holds s') ids'
   pub trees : trees_at s' ids' ≡ trees_at s ids ++ pieces_trees ps
   pub sorts : length ms ≡ length its → AreDefined ms → map sort_of (pieces_trees ps) ≡ sorts_due its

@@ -13,7 +13,7 @@ ghost use Rattle.elab_groups.specs.Bodies.{IsBodyWalked, AreBodiesWalked};
 
 use elab_members::{MemberSource, Signed, over_vars, push_param_names};
 use elab_names::World;
-use elab_walk::{Draft, Local, Locals, walk};
+use elab_walk::{Constraints, Local, Locals, walk};
 use outside::Text;
 use std::alloc::{AllocError, Global};
 use term_store::{Grow, Store};
@@ -48,7 +48,7 @@ fn push_locals<'a>(
 fn walk_body(
     alloc: Global,
     store: &mut Store,
-    draft: &mut Draft,
+    draft: &mut Constraints,
     world: &World<'_>,
     m: &MemberSource<'_>,
     signed: &Signed,
@@ -82,7 +82,7 @@ fn walk_body(
 pub fn walk_bodies(
     alloc: Global,
     store: &mut Store,
-    draft: &mut Draft,
+    draft: &mut Constraints,
     world: &World<'_>,
     ids: &mut Vec<TermId>,
     members: &[MemberSource<'_>],

@@ -18,7 +18,7 @@ use crate::bodies::walk_bodies;
 use elab_members::{MemberSource, Signed};
 use elab_names::World;
 use elab_parts::{TypingFault, put_matches, put_trees, solve_draft};
-use elab_walk::{Draft, MatchAt, start_draft};
+use elab_walk::{Constraints, MatchAt, start_draft};
 use outside::Seq;
 use std::alloc::Global;
 use term_store::Store;
@@ -36,7 +36,7 @@ fn solve_bodies(
     alloc: Global,
     store: &mut Store,
     rigid: usize,
-    draft: &Draft,
+    draft: &Constraints,
     ids: &[TermId],
 ) -> Result<Bodies, TypingFault>
     requires ready { IsReady store.old draft.now }

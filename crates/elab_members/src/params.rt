@@ -13,7 +13,7 @@ ghost use Rattle.elab_members.specs.Members.{signature_seen, type_copies, parame
 ghost use Rattle.elab_members.specs.Sources.{parameters_of, result_form};
 
 use elab_names::{NamingFault, World, check_form};
-use elab_parts::{Written, gather};
+use elab_parts::{NamedToken, gather};
 use elab_variables::{Seen, enter_form};
 use elab_walk::type_of_form;
 use outside::Seq;
@@ -128,7 +128,7 @@ pub fn kind_of(of_type: Option<&TypeTree>) -> SymbolKind
 
 /// The names of parameters, after those that are there.
 pub fn gather_params<'a>(
-    list: &mut Vec<Written<'a>>,
+    list: &mut Vec<NamedToken<'a>>,
     params: &'a [ParamTree],
 ) -> Result<(), AllocError>
     ensures { OnOk result (map written_token_name list.new.items

@@ -26,7 +26,10 @@ fn check_constructor_entry(token: usize, count: usize, info: &SymbolInfo) -> Res
     ensures { (s : List Tree) → Tells result (constructor_entry_fault token count
         (symbol_at s info.now)) }
 {
-    refuse_if(!is_constructor_kind(info.kind), NamingFault::WrongKind { token })?;
+    refuse_if(
+        !is_constructor_kind(info.kind),
+        NamingFault::WrongKind { token },
+    )?;
     refuse_if(info.args.len() != count, NamingFault::Arity { token })
 }
 

@@ -25,7 +25,7 @@ use Rattle.unify_types.specs.Value.{value_of}
 use Rattle.unify_types.proofs.Assigning.{assign-rigid, assign-unknown}
 use Rattle.unify_types.proofs.Bridge.{is_instance}
 use Rattle.elab_walk.specs.Patterns.{Notes, follow, taken}
-use Rattle.elab_walk.specs.declared.draft.Draft.{Draft}
+use Rattle.elab_walk.specs.declared.draft.Constraints.{Constraints}
 use Rattle.elab_walk.specs.declared.draft.MatchAt.{MatchAt}
 use Rattle.elab_walk.specs.Pieces.{NotedTree}
 use Rattle.elab_walk.specs.Drafts.{instances, IsReady, IsNoted, notes_at, match_at, MatchHeld}
@@ -164,17 +164,17 @@ module _ (s : List Tree) (r : ℕ) (ns : Notes) (types : List TermId) (a : AreSo
   matches_at_types (m ∷ ms) b = cc (trees_at_types m.1 b.0, matches_at_types ms b.1)
 
 -- the notes of a draft without equations and matches, after so many takers
-pub begun_behind : {s s1 : List Tree} {d d1 : Draft} {b : Notes} (r : ℕ) → d.equations ≡ [] → length d.takers ≡ r → d.matches ≡ [] → IsNoted s d s1 d1 b → notes_after r (notes_at s1 d1) ≡ b
+pub begun_behind : {s s1 : List Tree} {d d1 : Constraints} {b : Notes} (r : ℕ) → d.equations ≡ [] → length d.takers ≡ r → d.matches ≡ [] → IsNoted s d s1 d1 b → notes_after r (notes_at s1 d1) ≡ b
 begun_behind {s} {s1} {d} {d1} {b} r e n m h = begun r (notes_at s d) b (notes_at s1 d1) h.notes (ap (equations_at s) e) n (ap (map (match_at s)) m)
 
-pub begun_ready : (s : List Tree) (d : Draft) → d.equations ≡ [] → d.matches ≡ [] → IsReady s d
+pub begun_ready : (s : List Tree) (d : Constraints) → d.equations ≡ [] → d.matches ≡ [] → IsReady s d
 begun_ready s d e m = record {
   equations = subst (HoldEquations s) (sym e) (λ k x l. absurd (omega arith));
   matches = subst (All (MatchHeld s)) (sym m) (All-nil (MatchHeld s));
 }
 
 -- a draft has the takers that it began with
-pub few_takers : {s s1 : List Tree} {d d1 : Draft} {b : Notes} (r : ℕ) → length d.takers ≡ r → IsNoted s d s1 d1 b → r ≤ length d1.takers
+pub few_takers : {s s1 : List Tree} {d d1 : Constraints} {b : Notes} (r : ℕ) → length d.takers ≡ r → IsNoted s d s1 d1 b → r ≤ length d1.takers
 few_takers r n h = omega (arith, next h)
 
 -- a formula that was walked in the store s1, at the types of the store s2; the stores s3 and s4 have its tree and its matches

@@ -12,7 +12,7 @@ ghost use Rattle.std.specs.Prelude.{◌≡◌};
 
 pub use entries::{join_words, push_constructor, push_entry, push_tuples, push_type, variables};
 pub use made::{Elaborated, Place, declare, naming_fault, typing_fault};
-pub use names::{Written, find_repeated, gather, texts_of, world_over};
+pub use names::{NamedToken, find_repeated, gather, texts_of, world_over};
 pub use solution::{Formula, TypingFault, put_matches, put_trees, solve_draft, solve_formula};
 use std::alloc::{AllocError, AllocFailed};
 

@@ -24,13 +24,13 @@ use tasks::Signature;
 
 /// A name with its token.
 #[derive(Clone, Copy)]
-pub struct Written<'a> {
+pub struct NamedToken<'a> {
     pub at: usize,
     pub text: &'a [u8],
 }
 
 /// Names, after those that are there.
-pub fn gather<'a>(list: &mut Vec<Written<'a>>, names: &'a [Name]) -> Result<(), AllocError>
+pub fn gather<'a>(list: &mut Vec<NamedToken<'a>>, names: &'a [Name]) -> Result<(), AllocError>
     ensures { OnOk result (map written_token_name list.new.items
         ≡ map written_token_name list.old.items ++ map word
         names.now) }
@@ -38,7 +38,7 @@ pub fn gather<'a>(list: &mut Vec<Written<'a>>, names: &'a [Name]) -> Result<(), 
     let Some((first, rest)) = names.split_first() else {
         return Ok(());
     };
-    list.push(Written {
+    list.push(NamedToken {
         at: first.at,
         text: first.text.as_slice(),
     })?;
@@ -46,7 +46,7 @@ pub fn gather<'a>(list: &mut Vec<Written<'a>>, names: &'a [Name]) -> Result<(), 
 }
 
 // Whether a name is among these.
-fn is_among(list: &[Written<'_>], name: &[u8]) -> bool
+fn is_among(list: &[NamedToken<'_>], name: &[u8]) -> bool
     ensures { result ≡ is_some (place_of name.now (words (map written_token_name list.now))) }
 {
     match list.split_first() {
@@ -56,7 +56,7 @@ fn is_among(list: &[Written<'_>], name: &[u8]) -> bool
 }
 
 /// The token of the second of two equal names in a list.
-pub fn find_repeated(list: &[Written<'_>]) -> Option<usize>
+pub fn find_repeated(list: &[NamedToken<'_>]) -> Option<usize>
     ensures { option_map Duplicate result ≡ list_fault [] (map written_token_name list.now) }
 {
     for (number, name) in list.iter().enumerate() {

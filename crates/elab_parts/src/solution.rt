@@ -14,7 +14,7 @@ ghost use Rattle.elab_parts.specs.Values.{AreKinds, IsTypeNumbered, AreSolutionV
 
 use binders::inst_types;
 use elab_names::World;
-use elab_walk::{Draft, Locals, MatchAt, start_draft, walk};
+use elab_walk::{Constraints, Locals, MatchAt, start_draft, walk};
 use outside::Seq;
 use std::alloc::{AllocError, AllocFailed, Global};
 use syntax_why::Expr;
@@ -117,7 +117,7 @@ pub fn solve_draft(
     alloc: Global,
     store: &mut Store,
     rigid: usize,
-    draft: &Draft,
+    draft: &Constraints,
 ) -> Result<Vec<TermId>, TypingFault>
     requires ready { IsReady store.old draft.now }
     requires own { rigid ≤ length draft.now.takers }

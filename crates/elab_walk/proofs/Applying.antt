@@ -9,7 +9,7 @@ use Rattle.elab_names.specs.Abstract.{Expression, Expressions, BoundNames, appli
 use Rattle.elab_names.specs.Faults.{faults, fault_if, name_fault}
 use Rattle.elab_names.specs.declared.NamingFault.TheVariants.{WrongKind}
 use Rattle.elab_names.specs.declared.world.World.{World}
-use Rattle.elab_walk.specs.declared.draft.Draft.{Draft}
+use Rattle.elab_walk.specs.declared.draft.Constraints.{Constraints}
 use Rattle.elab_walk.specs.declared.locals.Locals.{Locals}
 use Rattle.elab_names.specs.Naming.{where_at}
 use Rattle.elab_walk.specs.Drafts.{CanWalk, CanUse, names_of_locals, is_due}
@@ -22,11 +22,11 @@ pub apply_same : (i : ℕ) {qs qs' : List Word} {x x' : Word} {es es' : Expressi
 apply_same i {qs' = qs'} {x = x} {x' = x'} {es = es} a b c = ap (λ (q : List Word). applied_expression i q x es) a ∙ (ap (λ (y : Word). applied_expression i qs' y es) b ∙ ap (applied_expression i qs' x') c)
 
 -- told of an expression in other words
-pub can_as : {s : List Tree} {d : Draft} {w : World} {ls : Locals} {t : Option TermId} {e e' : Expression} → e ≡ e' → CanWalk s d w ls t e → CanWalk s d w ls t e'
+pub can_as : {s : List Tree} {d : Constraints} {w : World} {ls : Locals} {t : Option TermId} {e e' : Expression} → e ≡ e' → CanWalk s d w ls t e → CanWalk s d w ls t e'
 can_as {s} {d} {w} {ls} {t} q c = subst (CanWalk s d w ls t) q c
 
 -- an operator between two is a name before them
-pub can_infix : {s : List Tree} {d : Draft} {w : World} {ls : Locals} {t : Option TermId} (i : ℕ) (x : Word) (a b : Expression) → CanWalk s d w ls t (infix_expression i x a b) → CanWalk s d w ls t (applied_expression i [] x (more_expressions a (more_expressions b no_expressions)))
+pub can_infix : {s : List Tree} {d : Constraints} {w : World} {ls : Locals} {t : Option TermId} (i : ℕ) (x : Word) (a b : Expression) → CanWalk s d w ls t (infix_expression i x a b) → CanWalk s d w ls t (applied_expression i [] x (more_expressions a (more_expressions b no_expressions)))
 can_infix {s} {w = w} {ls = ls} {t = t} i x a b c = record { set = c.set; wanted = c.wanted; resolved = in_infixed (where_at s w) false (names_of_locals ls) (is_due t) i x a b c.resolved }
 
 -- one alone counts as itself
@@ -36,17 +36,17 @@ first_size (x ∷ []) d h = omega arith
 first_size (x ∷ y ∷ zs) d h = absurd (cc)
 
 -- a use's operands have no fault where the use has none
-pub can_use : {s : List Tree} {d : Draft} {w : World} {ls : Locals} {t : Option TermId} (i : ℕ) (qs : List Word) (x : Word) (es : Expressions) → CanWalk s d w ls t (applied_expression i qs x es) → CanUse s d w ls t es
+pub can_use : {s : List Tree} {d : Constraints} {w : World} {ls : Locals} {t : Option TermId} (i : ℕ) (qs : List Word) (x : Word) (es : Expressions) → CanWalk s d w ls t (applied_expression i qs x es) → CanUse s d w ls t es
 can_use {s} {w = w} {ls = ls} {t = t} i qs x es c = record { set = c.set; wanted = c.wanted; resolved = (none_both (name_fault (where_at s w) (names_of_locals ls) (is_due t) i qs x (count_expressions es)) (faults (where_at s w) false (names_of_locals ls) es) c.resolved).1 }
 
-pub can_tuple : {s : List Tree} {d : Draft} {w : World} {ls : Locals} {t : Option TermId} (i : ℕ) (es : Expressions) → CanWalk s d w ls t (tuple_expression i es) → CanUse s d w ls t es
+pub can_tuple : {s : List Tree} {d : Constraints} {w : World} {ls : Locals} {t : Option TermId} (i : ℕ) (es : Expressions) → CanWalk s d w ls t (tuple_expression i es) → CanUse s d w ls t es
 can_tuple {s} {w = w} {ls = ls} {t = t} i es c = record { set = c.set; wanted = c.wanted; resolved = (in_tuple (where_at s w) false (names_of_locals ls) (is_due t) i es c.resolved).1 }
 
 -- under quantifiers a formula is due
-pub quantified_due : {s : List Tree} {d : Draft} {w : World} {ls : Locals} {t : Option TermId} (i : ℕ) (all : Bool) (bs : List BoundNames) (gs : Expressions) (e : Expression) → CanWalk s d w ls t (quantified_expression i all bs gs e) → is_due t ≡ true
+pub quantified_due : {s : List Tree} {d : Constraints} {w : World} {ls : Locals} {t : Option TermId} (i : ℕ) (all : Bool) (bs : List BoundNames) (gs : Expressions) (e : Expression) → CanWalk s d w ls t (quantified_expression i all bs gs e) → is_due t ≡ true
 quantified_due {t = t} i all bs gs e c = must_be (is_due t) _ (none_both (fault_if (not (is_due t)) (WrongKind i)) _ c.resolved).0
 
-pub can_quantify : {s : List Tree} {d : Draft} {w : World} {ls : Locals} {t : Option TermId} (i : ℕ) (all : Bool) (bs : List BoundNames) (gs : Expressions) (e : Expression) → CanWalk s d w ls t (quantified_expression i all bs gs e) → CanWalk s d w ls None (quantified_expression i all bs gs e)
+pub can_quantify : {s : List Tree} {d : Constraints} {w : World} {ls : Locals} {t : Option TermId} (i : ℕ) (all : Bool) (bs : List BoundNames) (gs : Expressions) (e : Expression) → CanWalk s d w ls t (quantified_expression i all bs gs e) → CanWalk s d w ls None (quantified_expression i all bs gs e)
 can_quantify {s} {w = w} {ls = ls} {t = t} i all bs gs e c = record { set = c.set; wanted = tt; resolved = rw (quantified_due i all bs gs e c) at c.resolved }
 
 pub equality_sort : (same : Bool) (a b : Tree) → sort_of (equality same a b) ≡ Formula

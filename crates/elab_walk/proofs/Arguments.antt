@@ -26,7 +26,7 @@ use Rattle.elab_names.specs.Naming.{where_at}
 use Rattle.elab_names.specs.Where.{Where, place_of}
 use Rattle.elab_walk.specs.declared.locals.Local.{Local}
 use Rattle.elab_walk.specs.declared.locals.Locals.{Locals, Outside, Inside'}
-use Rattle.elab_walk.specs.declared.draft.Draft.{Draft}
+use Rattle.elab_walk.specs.declared.draft.Constraints.{Constraints}
 use Rattle.elab_walk.specs.Patterns.{LocalTree, NumberedEntry, entry_of, at_unknowns, rest_of}
 use Rattle.elab_walk.specs.Pieces.{NotedTree, piece, pieces, symbol_piece, bare_piece, both_pieces, variable_named, found_local, Use, Local', Symbol', use_of_name, use_or, used_piece, use_vars, parameters, symbol_at_types, local_piece, names}
 use Rattle.elab_walk.specs.Drafts.{HoldsType, symbol_got, IsReady, IsMade, IsWalked, AreWalked, IsBegun, CanWalk, CanUse, CanWalkAll, instances, local_at, local_name, locals_at, names_of_locals, due}
@@ -73,13 +73,13 @@ term_of_local w s ls b i qs c es p h f =
     let l : local_fault b i (count_expressions es) ≡ None = rw v at n.0 in
     not_if b (WrongKind i) (none_both (fault_if b (WrongKind i)) (fault_if (not (count_expressions es == 0)) (Arity i)) l).0
 
-pub local_walked : (w : Where) (ls : List LocalTree) (n : ℕ) (t : Option Tree) (i : ℕ) (qs : List Word) (c : Word) (es : Expressions) {p : ℕ} {ty : Tree} {k : Sort} {s s1 : List Tree} {d d1 : Draft} {id : TermId}
+pub local_walked : (w : Where) (ls : List LocalTree) (n : ℕ) (t : Option Tree) (i : ℕ) (qs : List Word) (c : Word) (es : Expressions) {p : ℕ} {ty : Tree} {k : Sort} {s s1 : List Tree} {d d1 : Constraints} {id : TermId}
     → found_local qs c ls ≡ Some (p, ty) → IsWalked (local_piece p ty t) k s d s1 d1 id → IsWalked (piece w ls n t (applied_expression i qs c es)) k s d s1 d1 id
 local_walked w ls n t i qs c es {p} {ty} {k} {s} {s1} {d} {d1} {id} f a =
     let q : Local' p ty ≡ use_of_name w ls qs c = ap (λ (x : Option (ℕ × Tree)). use_or x (Symbol' (entry_of w.symbols (w.names qs c)))) (sym f) in
     subst (λ (u : Use). IsWalked (used_piece n t i u (pieces w ls (n + use_vars u) (parameters n u) es)) k s d s1 d1 id) q a
 
-pub symbol_walked : (w : Where) (ls : List LocalTree) (n : ℕ) (t : Option Tree) (i : ℕ) (qs : List Word) (c : Word) (es : Expressions) {k : Sort} {s s1 : List Tree} {d d1 : Draft} {id : TermId}
+pub symbol_walked : (w : Where) (ls : List LocalTree) (n : ℕ) (t : Option Tree) (i : ℕ) (qs : List Word) (c : Word) (es : Expressions) {k : Sort} {s s1 : List Tree} {d d1 : Constraints} {id : TermId}
     → found_local qs c ls ≡ None → IsWalked (symbol_piece w ls n t i (entry_of w.symbols (w.names qs c)) es) k s d s1 d1 id → IsWalked (piece w ls n t (applied_expression i qs c es)) k s d s1 d1 id
 symbol_walked w ls n t i qs c es {k} {s} {s1} {d} {d1} {id} f a =
     let q : Symbol' (entry_of w.symbols (w.names qs c)) ≡ use_of_name w ls qs c = ap (λ (x : Option (ℕ × Tree)). use_or x (Symbol' (entry_of w.symbols (w.names qs c)))) (sym f) in
@@ -101,11 +101,11 @@ got_one {A} P xs k h = of xs (recursion_from_All P xs h) k
     of (y ∷ ys) g (suc j) = of ys g.1 j
 
 -- ---- arguments
-pub go_all : {s : List Tree} {d : Draft} {w : World} {ls : Locals} {t : Option TermId} {es : Expressions} → CanUse s d w ls t es
-    → {s' : List Tree} {d' : Draft} {ts : List TermId} → Grows s s' → IsReady s' d' → All (HoldsType s') ts → CanWalkAll s' d' w ls ts es
+pub go_all : {s : List Tree} {d : Constraints} {w : World} {ls : Locals} {t : Option TermId} {es : Expressions} → CanUse s d w ls t es
+    → {s' : List Tree} {d' : Constraints} {ts : List TermId} → Grows s s' → IsReady s' d' → All (HoldsType s') ts → CanWalkAll s' d' w ls ts es
 go_all {s} {w = w} can {s'} g r h = record { set = set_on can.set g r; wanted = h; resolved = rw (world_stays s s' g w can.set.world) can.resolved }
 
-pub go_first : {s : List Tree} {d : Draft} {w : World} {ls : Locals} {ts : List TermId} {e : Expression} {es : Expressions} → CanWalkAll s d w ls ts (more_expressions e es) → (ty : TermId) → HoldsType s ty → CanWalk s d w ls (Some ty) e
+pub go_first : {s : List Tree} {d : Constraints} {w : World} {ls : Locals} {ts : List TermId} {e : Expression} {es : Expressions} → CanWalkAll s d w ls ts (more_expressions e es) → (ty : TermId) → HoldsType s ty → CanWalk s d w ls (Some ty) e
 go_first {s} {w = w} {ls = ls} {e = e} {es} c ty h = record {
   set = c.set;
   wanted = h;
@@ -116,8 +116,8 @@ pub rest_all : {A : Type 0} (P : A → Type 0) (xs : List A) → All P xs → Al
 rest_all P [] h = h
 rest_all P (x ∷ xs) h = λ k d l. h (suc k) d (omega (arith, l))
 
-pub go_rest : {s : List Tree} {d : Draft} {w : World} {ls : Locals} {ts : List TermId} {e : Expression} {es : Expressions} → CanWalkAll s d w ls ts (more_expressions e es)
-    → {s' : List Tree} {d' : Draft} → Grows s s' → IsReady s' d' → CanWalkAll s' d' w ls (rest_of ts) es
+pub go_rest : {s : List Tree} {d : Constraints} {w : World} {ls : Locals} {ts : List TermId} {e : Expression} {es : Expressions} → CanWalkAll s d w ls ts (more_expressions e es)
+    → {s' : List Tree} {d' : Constraints} → Grows s s' → IsReady s' d' → CanWalkAll s' d' w ls (rest_of ts) es
 go_rest {s} {w = w} {ls = ls} {ts} {e} {es} c {s'} g r = record {
   set = set_on c.set g r;
   wanted = types_grow s s' g (rest_of ts) (rest_all (HoldsType s) ts c.wanted);
@@ -129,8 +129,8 @@ rest_trees s [] = refl
 rest_trees s (x ∷ xs) = refl
 
 -- the pieces of the rest, told by what the whole began with
-pub as_rest : {s : List Tree} {d : Draft} {w : World} {ls : Locals} {ts : List TermId} {e : Expression} {es : Expressions} → CanWalkAll s d w ls ts (more_expressions e es)
-    → {s1 : List Tree} → Grows s s1 → {d1 : Draft} {s2 : List Tree} {d2 : Draft} {x : TermId} (n : ℕ) → length d1.takers ≡ n
+pub as_rest : {s : List Tree} {d : Constraints} {w : World} {ls : Locals} {ts : List TermId} {e : Expression} {es : Expressions} → CanWalkAll s d w ls ts (more_expressions e es)
+    → {s1 : List Tree} → Grows s s1 → {d1 : Constraints} {s2 : List Tree} {d2 : Constraints} {x : TermId} (n : ℕ) → length d1.takers ≡ n
     → AreWalked (pieces (where_at s1 w) (locals_at s1 ls) (length d1.takers) (trees_at s1 (rest_of ts)) es) s1 d1 s2 d2 x
     → AreWalked (pieces (where_at s w) (locals_at s ls) n (rest_of (trees_at s ts)) es) s1 d1 s2 d2 x
 as_rest {s} {w = w} {ls = ls} {ts} {es = es} c {s1} g {d1} {s2} {d2} {x} n l h =
@@ -138,10 +138,10 @@ as_rest {s} {w = w} {ls = ls} {ts} {es = es} c {s1} g {d1} {s2} {d2} {x} n l h =
     let same : pieces (where_at s1 w) (locals_at s1 ls) (length d1.takers) (trees_at s1 (rest_of ts)) es ≡ pieces (where_at s w) (locals_at s ls) n (rest_of (trees_at s ts)) es = cc (world_stays s s1 g w c.set.world, locals_stay s s1 g ls c.set.locals, l, t) in
     subst (λ (p : NotedTree). AreWalked p s1 d1 s2 d2 x) same h
 
-pub walked_end : {s s1 : List Tree} {d : Draft} {id : TermId} → IsMade s d s1 (Leaf HEnd) id → AreWalked (bare_piece (Leaf HEnd)) s d s1 d id
+pub walked_end : {s s1 : List Tree} {d : Constraints} {id : TermId} → IsMade s d s1 (Leaf HEnd) id → AreWalked (bare_piece (Leaf HEnd)) s d s1 d id
 walked_end m = record { walked = walked_bare m refl; terms = rw m.tree (refl, inl refl) }
 
-pub walked_cell : {p q : NotedTree} {s s1 s2 s3 : List Tree} {d d1 d2 : Draft} {x y id : TermId} → IsWalked p Term s d s1 d1 x → AreWalked q s1 d1 s2 d2 y → Grows s1 s2
+pub walked_cell : {p q : NotedTree} {s s1 s2 s3 : List Tree} {d d1 d2 : Constraints} {x y id : TermId} → IsWalked p Term s d s1 d1 x → AreWalked q s1 d1 s2 d2 y → Grows s1 s2
     → IsMade s2 d2 s3 (Two HCell (tree_at s2 x) (tree_at s2 y)) id → AreWalked (both_pieces (Two HCell) p q) s d s3 d2 id
 walked_cell {s1 = s1} {s2 = s2} a b g m = record {
   walked = walked_both (Two HCell) a b.walked g m refl;
@@ -159,8 +159,8 @@ at_sort k ts None s a = refl
 at_sort k ts (Some w) s a = refl
 
 -- a use of an entry
-pub used_walked : {s : List Tree} {d : Draft} {w : World} {ls : Locals} {t : Option TermId} {i : ℕ} {es : Expressions} → CanUse s d w ls t es
-    → {s1 s2 s3 s4 : List Tree} {d1 d3 : Draft} {types : List TermId} {x id : TermId} (ids args : List TermId) (k : ℕ) (e : SymbolTree) (c : NumberedEntry)
+pub used_walked : {s : List Tree} {d : Constraints} {w : World} {ls : Locals} {t : Option TermId} {i : ℕ} {es : Expressions} → CanUse s d w ls t es
+    → {s1 s2 s3 s4 : List Tree} {d1 d3 : Constraints} {types : List TermId} {x id : TermId} (ids args : List TermId) (k : ℕ) (e : SymbolTree) (c : NumberedEntry)
     → symbol_or (where_at s w).symbols k ≡ e → entry_of (where_at s w).symbols (Some k) ≡ c → IsBegun s d s1 d1 i e (option_map (tree_at s) t) types → Grows s s1 → Grows s1 s2
     → trees_at s2 ids ≡ instances (trees_at s1 types) (trees_at s1 args) → trees_at s1 args ≡ e.args
     → AreWalked (pieces (where_at s2 w) (locals_at s2 ls) (length d1.takers) (trees_at s2 ids) es) s2 d1 s3 d3 x → Grows s2 s3

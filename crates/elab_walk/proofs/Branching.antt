@@ -24,7 +24,7 @@ use Rattle.elab_names.specs.declared.world.World.{World}
 use Rattle.elab_names.specs.Faults.{fault_if, fault, branches_fault, alternatives_fault, alternatives_names, pattern_names, patterns_names, first_pattern_fault, has_alternative}
 use Rattle.elab_names.specs.Naming.{where_at}
 use Rattle.elab_names.specs.Where.{Where}
-use Rattle.elab_walk.specs.declared.draft.Draft.{Draft}
+use Rattle.elab_walk.specs.declared.draft.Constraints.{Constraints}
 use Rattle.elab_walk.specs.declared.locals.Local.{Local}
 use Rattle.elab_walk.specs.declared.locals.Locals.{Locals}
 use Rattle.elab_walk.specs.declared.patterns.BranchPatterns.{BranchPatterns}
@@ -108,7 +108,7 @@ pub branch_stays : (s s' : List Tree) → Grows s s' → (b : BranchPatterns) �
 branch_stays s s' g b h e e' q = cc (tree_at-grows s s' b.first g h.first.held, later_stay s s' g b.later h.later, q)
 
 -- ---- later alternatives
-pub later_none : (first : List LocalTree) {s : List Tree} {d : Draft} (ls : List LaterPattern) → All (LaterHeld s) ls → IsNoted s d s d no_notes → AreLater [] first s d ls s d ls
+pub later_none : (first : List LocalTree) {s : List Tree} {d : Constraints} (ls : List LaterPattern) → All (LaterHeld s) ls → IsNoted s d s d no_notes → AreLater [] first s d ls s d ls
 later_none first {s} ls h n = record { held = h; are = sym (append-nil (map (later_at s) ls)); noted = n }
 
 mapped_later : (s : List Tree) (ls : List LaterPattern) (l : LaterPattern) → map (later_at s) (ls ++ l ∷ []) ≡ map (later_at s) ls ++ later_at s l ∷ []
@@ -118,7 +118,7 @@ mapped_later s (x ∷ xs) l = ap (λ (r : List (Tree × List ℕ)). later_at s x
 pub later_pushed : {s s1 : List Tree} (ls : List LaterPattern) (l : LaterPattern) → Grows s s1 → All (LaterHeld s) ls → LaterHeld s1 l → All (LaterHeld s1) (ls ++ l ∷ [])
 later_pushed {s} {s1} ls l g h k = All-append (LaterHeld s1) ls (l ∷ []) (later_grows s s1 g ls h) (All-cons (LaterHeld s1) l [] k (All-nil (LaterHeld s1)))
 
-pub later_more : {m : Matched} {ms : List Matched} {first : List LocalTree} {s s1 s2 : List Tree} {d d1 d2 : Draft} {ls ls' : List LaterPattern} (l : LaterPattern)
+pub later_more : {m : Matched} {ms : List Matched} {first : List LocalTree} {s s1 s2 : List Tree} {d d1 d2 : Constraints} {ls ls' : List LaterPattern} (l : LaterPattern)
     → Grows s s1 → All (LaterHeld s) ls → IsLater m first s d s1 d1 l → AreLater ms first s1 d1 (ls ++ l ∷ []) s2 d2 ls' → AreLater (m ∷ ms) first s d ls s2 d2 ls'
 later_more {m} {ms} {first} {s} {s1} {ls = ls} l g h a b = record {
   held = b.held;
@@ -139,7 +139,7 @@ later_trees : (s : List Tree) (ls : List LaterPattern) → map (λ (p : Tree × 
 later_trees s [] = refl
 later_trees s (l ∷ ls) = ap (λ (r : List Tree). tree_at s l.pattern ∷ r) (later_trees s ls)
 
-pub alternatives_made : {m : Matched} {ms : List Matched} {s s1 s2 : List Tree} {d d1 d2 : Draft} {id : TermId} {locals : List Local} {ls : List LaterPattern}
+pub alternatives_made : {m : Matched} {ms : List Matched} {s s1 s2 : List Tree} {d d1 d2 : Constraints} {id : TermId} {locals : List Local} {ls : List LaterPattern}
     → HoldsPattern s1 id → tree_at s1 id ≡ m.tree → All (λ (l : Local). HoldsType s1 l.ty) locals → map (local_at s1) locals ≡ m.variables → IsNoted s d s1 d1 m.notes
     → Grows s1 s2 → AreLater ms m.variables s1 d1 [] s2 d2 ls → All (λ (l : Local). HoldsType s2 l.ty) locals → AreDraftedAlternatives (m ∷ ms) s d s2 d2 locals (record { first = id; later = ls })
 alternatives_made {m} {ms} {s1 = s1} {s2 = s2} {id = id} {locals} {ls} p t h v n g a k =
@@ -154,7 +154,7 @@ alternatives_made {m} {ms} {s1 = s1} {s2 = s2} {id = id} {locals} {ls} p t h v n
     }
 
 -- of a later alternative, whose variables stand by themselves
-pub later_made : {m : Matched} {s s1 : List Tree} {d d1 : Draft} {own : List Local} {id : TermId} {places : List ℕ} (first : List Local) → Grows s s1 → All (λ (l : Local). HoldsType s l.ty) first
+pub later_made : {m : Matched} {s s1 : List Tree} {d d1 : Constraints} {own : List Local} {id : TermId} {places : List ℕ} (first : List Local) → Grows s s1 → All (λ (l : Local). HoldsType s l.ty) first
     → IsMatched m s d [] s1 d1 own id → places ≡ places_among (reverse (map (local_at s1) first)) (reverse (map (local_at s1) own)) → IsLater m (map (local_at s) first) s d s1 d1 (record { pattern = id; places = places })
 later_made {m} {s} {s1} {own = own} {places = places} first g h a p =
     let vars : map (local_at s1) own ≡ m.variables = a.bound.locals in
@@ -168,8 +168,8 @@ last_reversed s rest last = ap reverse (mapped_both s rest (last ∷ [])) ∙ re
 pub side_is : (ps : List Pat) → side_by_side (code.patterns ps) ≡ grouped_patterns (first_form (code.patterns ps)) (patterns_of ps)
 side_is ps = ap (grouped_patterns (first_form (code.patterns ps))) (patterns_are ps)
 
-pub as_later : {s : List Tree} {w : World} (ty : TermId) → WorldHeld s w → HoldsType s ty → {s1 : List Tree} → Grows s s1 → {d1 : Draft} (vs : List Local) (vars : List LocalTree) (n : ℕ) (ps : Alternatives) → map (local_at s1) vs ≡ vars → length d1.takers ≡ n
-    → {ls : List LaterPattern} {s2 : List Tree} {d2 : Draft} {ls2 : List LaterPattern}
+pub as_later : {s : List Tree} {w : World} (ty : TermId) → WorldHeld s w → HoldsType s ty → {s1 : List Tree} → Grows s s1 → {d1 : Constraints} (vs : List Local) (vars : List LocalTree) (n : ℕ) (ps : Alternatives) → map (local_at s1) vs ≡ vars → length d1.takers ≡ n
+    → {ls : List LaterPattern} {s2 : List Tree} {d2 : Constraints} {ls2 : List LaterPattern}
     → AreLater (later_pieces (where_at s1 w) (map (local_at s1) vs) (length d1.takers) (tree_at s1 ty) ps) (map (local_at s1) vs) s1 d1 ls s2 d2 ls2 → AreLater (later_pieces (where_at s w) vars n (tree_at s ty) ps) vars s1 d1 ls s2 d2 ls2
 as_later {s} {w} ty world wanted {s1} g {d1} vs vars n ps own l {ls} {s2} {d2} {ls2} h =
     let same : later_pieces (where_at s1 w) (map (local_at s1) vs) (length d1.takers) (tree_at s1 ty) ps ≡ later_pieces (where_at s w) vars n (tree_at s ty) ps = cc (world_stays s s1 g w world, own, l, type_stays s s1 g ty wanted) in
@@ -202,7 +202,7 @@ numbers_held {s} {s1} g ids b h p = All-append (Holds s1) ids _ (ids_grow s s1 g
     each (l ∷ ls) k = All-cons (Holds s1) l.pattern _ (let z = k 0 l (omega arith) in z.held) (each ls (λ j e i. k (suc j) e (omega (arith, i))))
 
 -- the arms of a branch before those of others
-pub branch_walked : {ms : List Matched} {p : NotedTree} {rest : Arms} {k : Sort} {s s1 s2 s3 s4 : List Tree} {d d1 d2 d3 : Draft} {locals : List Local} {b : BranchPatterns} {ids ids2 : List TermId} {body list id : TermId}
+pub branch_walked : {ms : List Matched} {p : NotedTree} {rest : Arms} {k : Sort} {s s1 s2 s3 s4 : List Tree} {d d1 d2 d3 : Constraints} {locals : List Local} {b : BranchPatterns} {ids ids2 : List TermId} {body list id : TermId}
     → All (Holds s) ids → Grows s s1 → AreDraftedAlternatives ms s d s1 d1 locals b → IsWalked p k s1 d1 s2 d2 body → Grows s1 s2
     → AreArms rest k s2 d2 (ids ++ b.first ∷ map (λ (l : LaterPattern). l.pattern) b.later) s3 d3 ids2 list → Grows s2 s3
     → Holds s4 id → tree_at s4 id ≡ cells_onto (branch_arms s3 b (tree_at s3 body)) (tree_at s3 list) → IsList Branch (tree_at s4 id) → yield (tree_at s3 body) ≡ k → Grows s3 s4
@@ -239,15 +239,15 @@ pub case_fits : (a b : Tree) → sort_of a ≡ Term → IsList Branch b → head
 case_fits a b h l q = ((h, l), q)
 
 -- the arms of branches, told by what the whole began with
-pub as_arms : {s : List Tree} {d : Draft} {w : World} {ls : Locals} → IsSet s d w ls → {s1 : List Tree} → Grows s s1 → {d1 : Draft} (wanted' : Option TermId) (subject : TermId) (bs : MatchBranches)
-    → (n : ℕ) (u : Tree) (t : Option Tree) → length d1.takers ≡ n → tree_at s1 subject ≡ u → option_map (tree_at s1) wanted' ≡ t → {k : Sort} {ps : List TermId} {s2 : List Tree} {d2 : Draft} {ps2 : List TermId} {x : TermId}
+pub as_arms : {s : List Tree} {d : Constraints} {w : World} {ls : Locals} → IsSet s d w ls → {s1 : List Tree} → Grows s s1 → {d1 : Constraints} (wanted' : Option TermId) (subject : TermId) (bs : MatchBranches)
+    → (n : ℕ) (u : Tree) (t : Option Tree) → length d1.takers ≡ n → tree_at s1 subject ≡ u → option_map (tree_at s1) wanted' ≡ t → {k : Sort} {ps : List TermId} {s2 : List Tree} {d2 : Constraints} {ps2 : List TermId} {x : TermId}
     → AreArms (branches_arms (where_at s1 w) (locals_at s1 ls) (length d1.takers) (tree_at s1 subject) (option_map (tree_at s1) wanted') bs) k s1 d1 ps s2 d2 ps2 x → AreArms (branches_arms (where_at s w) (locals_at s ls) n u t bs) k s1 d1 ps s2 d2 ps2 x
 as_arms {s} {w = w} {ls = ls} c {s1} g {d1} wanted' subject bs n u t l o q {k} {ps} {s2} {d2} {ps2} {x} h =
     let same : branches_arms (where_at s1 w) (locals_at s1 ls) (length d1.takers) (tree_at s1 subject) (option_map (tree_at s1) wanted') bs ≡ branches_arms (where_at s w) (locals_at s ls) n u t bs = cc (world_stays s s1 g w c.world, locals_stay s s1 g ls c.locals, l, o, q) in
     subst (λ (a : Arms). AreArms a k s1 d1 ps s2 d2 ps2 x) same h
 
 -- a branch without alternatives makes no arm
-pub branch_dropped : {p : NotedTree} {rest : Arms} {k l : Sort} {s s1 s2 : List Tree} {d d1 d2 : Draft} {ids ids2 : List TermId} {body id : TermId}
+pub branch_dropped : {p : NotedTree} {rest : Arms} {k l : Sort} {s s1 s2 : List Tree} {d d1 d2 : Constraints} {ids ids2 : List TermId} {body id : TermId}
     → All (Holds s) ids → IsWalked p l s d s1 d1 body → Grows s s1 → AreArms rest k s1 d1 ids s2 d2 ids2 id → AreArms (with_branch [] p rest) k s d ids s2 d2 ids2 id
 branch_dropped {rest = rest} {s = s} {s1 = s1} {ids = ids} h w g r = record {
   held = r.held;
@@ -259,7 +259,7 @@ branch_dropped {rest = rest} {s = s} {s1 = s1} {ids = ids} h w g r = record {
   noted = more_noted w.noted r.noted;
 }
 
-pub no_arms : {k : Sort} {s s1 : List Tree} {d : Draft} (ids : List TermId) {id : TermId} → Grows s s1 → All (Holds s) ids → IsMade s d s1 (Leaf HEnd) id → AreArms (record { trees = []; patterns = []; notes = no_notes }) k s d ids s1 d ids id
+pub no_arms : {k : Sort} {s s1 : List Tree} {d : Constraints} (ids : List TermId) {id : TermId} → Grows s s1 → All (Holds s) ids → IsMade s d s1 (Leaf HEnd) id → AreArms (record { trees = []; patterns = []; notes = no_notes }) k s d ids s1 d ids id
 no_arms {k} {s} {s1} {d} ids {id} g h m = record {
   held = m.held;
   tree = m.tree;
@@ -274,7 +274,7 @@ no_arms {k} {s} {s1} {d} ids {id} g h m = record {
     no_cell e = cc
 
 -- under the variables of the first alternative
-module _ {s s1 : List Tree} {d d1 : Draft} {w : World} {ls : Locals} {vs : List Local} {b : BranchPatterns} (n : ℕ) (t : Tree) (ps : Alternatives) (set : IsSet s d w ls) (g : Grows s s1)
+module _ {s s1 : List Tree} {d d1 : Constraints} {w : World} {ls : Locals} {vs : List Local} {b : BranchPatterns} (n : ℕ) (t : Tree) (ps : Alternatives) (set : IsSet s d w ls) (g : Grows s s1)
     (a : AreDraftedAlternatives (alternatives_pieces (where_at s w) n t ps) s d s1 d1 vs b) where
   pub branch_names : reverse (map local_name vs) ++ names_of_locals ls ≡ reverse (alternatives_names ps) ++ names_of_locals ls
   branch_names =
@@ -287,8 +287,8 @@ module _ {s s1 : List Tree} {d d1 : Draft} {w : World} {ls : Locals} {vs : List 
   pub branch_locals : reverse (map (local_at s1) vs) ++ locals_at s1 ls ≡ reverse (first_variables (alternatives_pieces (where_at s w) n t ps)) ++ locals_at s ls
   branch_locals = cc (a.locals, locals_stay s s1 g ls set.locals)
 
-pub match_walked : {s : List Tree} {d : Draft} {w : World} {ls : Locals} {t : Option TermId} (i : ℕ) (is_let : Bool) (e : Expression) (bs : MatchBranches) → CanWalk s d w ls t (match_expression i is_let e bs)
-    → {s1 s2 s3 s4 : List Tree} {d1 d2 d3 d4 d5 : Draft} {ty x y id : TermId} {ids : List TermId} (place : ℕ) → place ≡ length d.matches → IsNoted s d s d1 (with_match i [])
+pub match_walked : {s : List Tree} {d : Constraints} {w : World} {ls : Locals} {t : Option TermId} (i : ℕ) (is_let : Bool) (e : Expression) (bs : MatchBranches) → CanWalk s d w ls t (match_expression i is_let e bs)
+    → {s1 s2 s3 s4 : List Tree} {d1 d2 d3 d4 d5 : Constraints} {ty x y id : TermId} {ids : List TermId} (place : ℕ) → place ≡ length d.matches → IsNoted s d s d1 (with_match i [])
     → tree_at s1 ty ≡ Leaf (HTyVar (length d1.takers)) → HoldsType s1 ty → IsNoted s d1 s1 d2 (noted [] (i ∷ [])) → Grows s s1
     → IsWalked (piece (where_at s1 w) (locals_at s1 ls) (length d2.takers) (Some (tree_at s1 ty)) e) Term s1 d2 s2 d3 x → Grows s1 s2
     → AreArms (branches_arms (where_at s2 w) (locals_at s2 ls) (length d3.takers) (tree_at s2 ty) (option_map (tree_at s2) t) bs) (due t) s2 d3 [] s3 d4 ids y → Grows s2 s3

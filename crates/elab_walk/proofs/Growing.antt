@@ -18,7 +18,7 @@ use Rattle.elab_names.specs.Where.{MeaningTree}
 use Rattle.elab_names.specs.declared.world.World.{World}
 use Rattle.elab_walk.specs.declared.locals.Local.{Local}
 use Rattle.elab_walk.specs.declared.locals.Locals.{Locals, Outside, Inside'}
-use Rattle.elab_walk.specs.declared.draft.Draft.{Draft}
+use Rattle.elab_walk.specs.declared.draft.Constraints.{Constraints}
 use Rattle.elab_walk.specs.declared.draft.MatchAt.{MatchAt}
 use Rattle.elab_walk.specs.Drafts.{HoldsType, IsReady, MatchHeld, match_at, notes_at, MeaningHeld, SymbolTyped, WorldHeld, LocalsHeld, local_at, locals_at}
 
@@ -55,7 +55,7 @@ module _ (s s' : List Tree) (g : Grows s s') where
     right_kind = rw (tree_at-grows s s' e.right g h.right_held) h.right_kind;
   }
 
-  pub ready_grows : (d : Draft) → IsReady s d → IsReady s' d
+  pub ready_grows : (d : Constraints) → IsReady s d → IsReady s' d
   ready_grows d h = record {
     equations = λ k e l. equation_grows (get_or d.equations k e) (h.equations k e l);
     matches = λ k m l. λ j p i. held_grows (get_or (get_or d.matches k m).patterns j p) (h.matches k m l j p i);
@@ -71,7 +71,7 @@ module _ (s s' : List Tree) (g : Grows s s') where
   match_stays : (m : MatchAt) → MatchHeld s m → match_at s' m ≡ match_at s m
   match_stays m h = cc (map_same (tree_at s') (tree_at s) m.patterns (λ k e l. tree_at-grows s s' (get_or m.patterns k e) g (h k e l)))
 
-  pub notes_stay : (d : Draft) → IsReady s d → notes_at s' d ≡ notes_at s d
+  pub notes_stay : (d : Constraints) → IsReady s d → notes_at s' d ≡ notes_at s d
   notes_stay d h = cc (equations_stay d.equations h.equations, map_same (match_at s') (match_at s) d.matches (λ k e l. match_stays _ (h.matches k e l)))
 
   -- ---- names

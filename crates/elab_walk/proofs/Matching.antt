@@ -17,7 +17,7 @@ use Rattle.elab_names.specs.Abstract.{Patterns, grouped_patterns, tuple_pattern,
 use Rattle.elab_names.specs.declared.world.World.{World}
 use Rattle.elab_names.specs.Naming.{where_at}
 use Rattle.elab_names.specs.Where.{Where}
-use Rattle.elab_walk.specs.declared.draft.Draft.{Draft}
+use Rattle.elab_walk.specs.declared.draft.Constraints.{Constraints}
 use Rattle.elab_walk.specs.declared.locals.Local.{Local}
 use Rattle.elab_walk.specs.declared.patterns.Alternative.{Alternative}
 use Rattle.elab_walk.specs.declared.patterns.Alternative.TheVariants.{First, Later}
@@ -39,10 +39,10 @@ earlier_grows s s' g First h = tt
 earlier_grows s s' g (Later ls) h = each_grows s s' g ls.now h
 
 -- ---- variables after others
-pub none_bound : {s s1 : List Tree} {d d1 : Draft} {n : Notes} (ls : List Local) → Grows s s1 → All (λ (l : Local). HoldsType s l.ty) ls → IsNoted s d s1 d1 n → AreBound s d ls s1 d1 ls n []
+pub none_bound : {s s1 : List Tree} {d d1 : Constraints} {n : Notes} (ls : List Local) → Grows s s1 → All (λ (l : Local). HoldsType s l.ty) ls → IsNoted s d s1 d1 n → AreBound s d ls s1 d1 ls n []
 none_bound {s} {s1} ls g h n = record { held = each_grows s s1 g ls h; locals = each_stays s s1 g ls h ∙ sym (append-nil (map (local_at s) ls)); noted = n }
 
-pub more_bound : {s s1 s2 : List Tree} {d d1 d2 : Draft} {ls ls1 ls2 : List Local} {n m : Notes} {xs ys : List LocalTree}
+pub more_bound : {s s1 s2 : List Tree} {d d1 d2 : Constraints} {ls ls1 ls2 : List Local} {n m : Notes} {xs ys : List LocalTree}
     → AreBound s d ls s1 d1 ls1 n xs → AreBound s1 d1 ls1 s2 d2 ls2 m ys → AreBound s d ls s2 d2 ls2 (follow n m) (xs ++ ys)
 more_bound {s} {ls = ls} {xs = xs} {ys} a b = record {
   held = b.held;
@@ -51,26 +51,26 @@ more_bound {s} {ls = ls} {xs = xs} {ys} a b = record {
 }
 
 -- one variable
-pub one_bound : {s : List Tree} {d d1 : Draft} {n : Notes} (ls : List Local) (l : Local) → All (λ (x : Local). HoldsType s x.ty) ls → HoldsType s l.ty → IsNoted s d s d1 n → AreBound s d ls s d1 (ls ++ l ∷ []) n (local_at s l ∷ [])
+pub one_bound : {s : List Tree} {d d1 : Constraints} {n : Notes} (ls : List Local) (l : Local) → All (λ (x : Local). HoldsType s x.ty) ls → HoldsType s l.ty → IsNoted s d s d1 n → AreBound s d ls s d1 (ls ++ l ∷ []) n (local_at s l ∷ [])
 one_bound {s} ls l h k n = record { held = held_more s s (Grows_refl s) ls l h k; locals = mapped_both s ls (l ∷ []); noted = n }
 
 -- where the store grows after, and where it grew before
-pub bound_grows : {s s1 s2 : List Tree} {d d1 : Draft} {ls ls1 : List Local} {n : Notes} {xs : List LocalTree} → AreBound s d ls s1 d1 ls1 n xs → Grows s1 s2 → AreBound s d ls s2 d1 ls1 n xs
+pub bound_grows : {s s1 s2 : List Tree} {d d1 : Constraints} {ls ls1 : List Local} {n : Notes} {xs : List LocalTree} → AreBound s d ls s1 d1 ls1 n xs → Grows s1 s2 → AreBound s d ls s2 d1 ls1 n xs
 bound_grows {s1 = s1} {s2 = s2} {ls1 = ls1} a g = record { held = each_grows s1 s2 g ls1 a.held; locals = each_stays s1 s2 g ls1 a.held ∙ a.locals; noted = noted_before a.noted g }
 
-pub bound_behind : {s s1 s2 : List Tree} {d d1 : Draft} {ls ls1 : List Local} {n : Notes} {xs : List LocalTree} → Grows s s1 → IsReady s d → All (λ (l : Local). HoldsType s l.ty) ls → AreBound s1 d ls s2 d1 ls1 n xs → AreBound s d ls s2 d1 ls1 n xs
+pub bound_behind : {s s1 s2 : List Tree} {d d1 : Constraints} {ls ls1 : List Local} {n : Notes} {xs : List LocalTree} → Grows s s1 → IsReady s d → All (λ (l : Local). HoldsType s l.ty) ls → AreBound s1 d ls s2 d1 ls1 n xs → AreBound s d ls s2 d1 ls1 n xs
 bound_behind {s} {s1} {ls = ls} {xs = xs} g r h a = record { held = a.held; locals = a.locals ∙ ap (λ (ys : List LocalTree). ys ++ xs) (each_stays s s1 g ls h); noted = noted_after g r a.noted }
 
 -- ---- what a further walk asks for
-pub match_on : {s : List Tree} {d : Draft} {w : World} {ls : List Local} {ty : TermId} {a : Alternative} → CanMatch s d w ls ty a
-    → {s' : List Tree} {d' : Draft} {ls' : List Local} {ids : List TermId} → Grows s s' → IsReady s' d' → All (λ (l : Local). HoldsType s' l.ty) ls' → All (HoldsType s') ids → CanMatchAll s' d' w ls' ids a
+pub match_on : {s : List Tree} {d : Constraints} {w : World} {ls : List Local} {ty : TermId} {a : Alternative} → CanMatch s d w ls ty a
+    → {s' : List Tree} {d' : Constraints} {ls' : List Local} {ids : List TermId} → Grows s s' → IsReady s' d' → All (λ (l : Local). HoldsType s' l.ty) ls' → All (HoldsType s') ids → CanMatchAll s' d' w ls' ids a
 match_on {s} {w = w} {a = a} c {s'} g r h k = record { world = world_grows s s' g w c.world; ready = r; held = h; wanted = k; earlier = earlier_grows s s' g a c.earlier }
 
-pub match_first : {s : List Tree} {d : Draft} {w : World} {ls : List Local} {ids : List TermId} {a : Alternative} → CanMatchAll s d w ls ids a → (ty : TermId) → HoldsType s ty → CanMatch s d w ls ty a
+pub match_first : {s : List Tree} {d : Constraints} {w : World} {ls : List Local} {ids : List TermId} {a : Alternative} → CanMatchAll s d w ls ids a → (ty : TermId) → HoldsType s ty → CanMatch s d w ls ty a
 match_first c ty h = record { world = c.world; ready = c.ready; held = c.held; wanted = h; earlier = c.earlier }
 
-pub match_rest : {s : List Tree} {d : Draft} {w : World} {ls : List Local} {ids : List TermId} {a : Alternative} → CanMatchAll s d w ls ids a
-    → {s' : List Tree} {d' : Draft} {ls' : List Local} → Grows s s' → IsReady s' d' → All (λ (l : Local). HoldsType s' l.ty) ls' → CanMatchAll s' d' w ls' (rest_of ids) a
+pub match_rest : {s : List Tree} {d : Constraints} {w : World} {ls : List Local} {ids : List TermId} {a : Alternative} → CanMatchAll s d w ls ids a
+    → {s' : List Tree} {d' : Constraints} {ls' : List Local} → Grows s s' → IsReady s' d' → All (λ (l : Local). HoldsType s' l.ty) ls' → CanMatchAll s' d' w ls' (rest_of ids) a
 match_rest {s} {w = w} {ids = ids} {a} c {s'} g r h = record {
   world = world_grows s s' g w c.world;
   ready = r;
@@ -80,29 +80,29 @@ match_rest {s} {w = w} {ids = ids} {a} c {s'} g r h = record {
 }
 
 -- ---- the patterns of parts, told by what the whole began with
-pub as_matched : {s : List Tree} {w : World} (a : Alternative) → WorldHeld s w → EarlierHeld s a → {s1 : List Tree} → Grows s s1 → {d1 : Draft} (ty : TermId) (n : ℕ) (t : Tree) (p : abstract.Pattern)
-    → length d1.takers ≡ n → tree_at s1 ty ≡ t → {ls1 : List Local} {s2 : List Tree} {d2 : Draft} {ls2 : List Local} {x : TermId}
+pub as_matched : {s : List Tree} {w : World} (a : Alternative) → WorldHeld s w → EarlierHeld s a → {s1 : List Tree} → Grows s s1 → {d1 : Constraints} (ty : TermId) (n : ℕ) (t : Tree) (p : abstract.Pattern)
+    → length d1.takers ≡ n → tree_at s1 ty ≡ t → {ls1 : List Local} {s2 : List Tree} {d2 : Constraints} {ls2 : List Local} {x : TermId}
     → IsMatched (pattern_piece (where_at s1 w) (earlier_variables s1 a) (length d1.takers) (tree_at s1 ty) p) s1 d1 ls1 s2 d2 ls2 x → IsMatched (pattern_piece (where_at s w) (earlier_variables s a) n t p) s1 d1 ls1 s2 d2 ls2 x
 as_matched {s} {w} a world earlier {s1} g {d1} ty n t p l q {ls1} {s2} {d2} {ls2} {x} h =
     let same : pattern_piece (where_at s1 w) (earlier_variables s1 a) (length d1.takers) (tree_at s1 ty) p ≡ pattern_piece (where_at s w) (earlier_variables s a) n t p = cc (world_stays s s1 g w world, earlier_stays s s1 g a earlier, l, q) in
     subst (λ (m : Matched). IsMatched m s1 d1 ls1 s2 d2 ls2 x) same h
 
-pub as_all_matched : {s : List Tree} {w : World} (a : Alternative) → WorldHeld s w → EarlierHeld s a → {s1 : List Tree} → Grows s s1 → {d1 : Draft} (ids : List TermId) (n : ℕ) (ts : List Tree) (ps : Patterns)
-    → length d1.takers ≡ n → trees_at s1 ids ≡ ts → {ls1 : List Local} {s2 : List Tree} {d2 : Draft} {ls2 : List Local} {x : TermId}
+pub as_all_matched : {s : List Tree} {w : World} (a : Alternative) → WorldHeld s w → EarlierHeld s a → {s1 : List Tree} → Grows s s1 → {d1 : Constraints} (ids : List TermId) (n : ℕ) (ts : List Tree) (ps : Patterns)
+    → length d1.takers ≡ n → trees_at s1 ids ≡ ts → {ls1 : List Local} {s2 : List Tree} {d2 : Constraints} {ls2 : List Local} {x : TermId}
     → AreMatched (patterns_piece (where_at s1 w) (earlier_variables s1 a) (length d1.takers) (trees_at s1 ids) ps) s1 d1 ls1 s2 d2 ls2 x → AreMatched (patterns_piece (where_at s w) (earlier_variables s a) n ts ps) s1 d1 ls1 s2 d2 ls2 x
 as_all_matched {s} {w} a world earlier {s1} g {d1} ids n ts ps l q {ls1} {s2} {d2} {ls2} {x} h =
     let same : patterns_piece (where_at s1 w) (earlier_variables s1 a) (length d1.takers) (trees_at s1 ids) ps ≡ patterns_piece (where_at s w) (earlier_variables s a) n ts ps = cc (world_stays s s1 g w world, earlier_stays s s1 g a earlier, l, q) in
     subst (λ (m : Matched). AreMatched m s1 d1 ls1 s2 d2 ls2 x) same h
 
 -- ---- what is made
-pub matched_made : {s s1 s2 : List Tree} {d d1 : Draft} {ls ls1 : List Local} {n : Notes} {vs : List LocalTree} {e : Tree} {id : TermId}
+pub matched_made : {s s1 s2 : List Tree} {d d1 : Constraints} {ls ls1 : List Local} {n : Notes} {vs : List LocalTree} {e : Tree} {id : TermId}
     → AreBound s d ls s1 d1 ls1 n vs → Grows s1 s2 → IsMade s1 d1 s2 e id → sort_of e ≡ Pattern → (e' : Tree) → e ≡ e' → IsMatched (matched_piece e' n vs) s d ls s2 d1 ls1 id
 matched_made b g m o e' q = record { held = m.held; tree = m.tree ∙ q; sort = ap sort_of m.tree ∙ o; bound = bound_grows b g }
 
-pub matched_end : {s s1 : List Tree} {d : Draft} {ls : List Local} {id : TermId} → Grows s s1 → IsReady s d → All (λ (l : Local). HoldsType s l.ty) ls → IsMade s d s1 (Leaf HEnd) id → AreMatched (matched_piece (Leaf HEnd) no_notes []) s d ls s1 d ls id
+pub matched_end : {s s1 : List Tree} {d : Constraints} {ls : List Local} {id : TermId} → Grows s s1 → IsReady s d → All (λ (l : Local). HoldsType s l.ty) ls → IsMade s d s1 (Leaf HEnd) id → AreMatched (matched_piece (Leaf HEnd) no_notes []) s d ls s1 d ls id
 matched_end {s} {d = d} {ls = ls} g r h m = record { held = m.held; tree = m.tree; patterns = rw m.tree (refl, inl refl); bound = none_bound ls g h (noted_before (nothing_noted s d r) g) }
 
-pub matched_cell : {p q : Matched} {s s1 s2 s3 : List Tree} {d d1 d2 : Draft} {ls ls1 ls2 : List Local} {x y id : TermId}
+pub matched_cell : {p q : Matched} {s s1 s2 s3 : List Tree} {d d1 d2 : Constraints} {ls ls1 ls2 : List Local} {x y id : TermId}
     → IsMatched p s d ls s1 d1 ls1 x → AreMatched q s1 d1 ls1 s2 d2 ls2 y → Grows s1 s2 → Grows s2 s3 → IsMade s2 d2 s3 (Two HCell (tree_at s2 x) (tree_at s2 y)) id
     → AreMatched (matched_piece (Two HCell p.tree q.tree) (follow p.notes q.notes) (p.variables ++ q.variables)) s d ls s3 d2 ls2 id
 matched_cell {s1 = s1} {s2 = s2} {x = x} a b g h m = record {
@@ -118,8 +118,8 @@ pattern_cell_fits a b h l = ((λ e. no_list (sym h ∙ e), rw h l), tt)
     no_list : Pattern ≡ sorts.List → ⊥
     no_list e = cc
 
-pub constructor_matched : {s : List Tree} {d : Draft} {w : World} {ls : List Local} {ty : TermId} {a : Alternative} {token : ℕ} (ps : Patterns) → CanMatch s d w ls ty a
-    → {s1 s2 s3 s4 s5 : List Tree} {d1 d3 : Draft} {types : List TermId} {x id : TermId} {ls3 : List Local} (ids args : List TermId) (list : TermId) (k : ℕ) (e : SymbolTree) (c : NumberedEntry)
+pub constructor_matched : {s : List Tree} {d : Constraints} {w : World} {ls : List Local} {ty : TermId} {a : Alternative} {token : ℕ} (ps : Patterns) → CanMatch s d w ls ty a
+    → {s1 s2 s3 s4 s5 : List Tree} {d1 d3 : Constraints} {types : List TermId} {x id : TermId} {ls3 : List Local} (ids args : List TermId) (list : TermId) (k : ℕ) (e : SymbolTree) (c : NumberedEntry)
     → symbol_or (where_at s w).symbols k ≡ e → entry_of (where_at s w).symbols (Some k) ≡ c → IsBegun s d s1 d1 token e (Some (tree_at s ty)) types → Grows s s1 → Grows s1 s2
     → trees_at s2 ids ≡ instances (trees_at s1 types) (trees_at s1 args) → trees_at s1 args ≡ e.args
     → AreMatched (patterns_piece (where_at s2 w) (earlier_variables s2 a) (length d1.takers) (trees_at s2 ids) ps) s2 d1 ls s3 d3 ls3 x → Grows s2 s3

@@ -9,7 +9,7 @@ use Rattle.trees.specs.Node.{tree_at, Holds, Grows}
 use Rattle.tasks.specs.Meaning.{trees_at}
 use Rattle.unify_types.specs.declared.Equation.{Equation}
 use Rattle.unify_types.specs.Pairs.{HoldsEquation, equations_at}
-use Rattle.elab_walk.specs.declared.draft.Draft.{Draft}
+use Rattle.elab_walk.specs.declared.draft.Constraints.{Constraints}
 use Rattle.elab_walk.specs.declared.draft.MatchAt.{MatchAt}
 use Rattle.elab_walk.specs.Patterns.{Notes, noted, with_match, no_notes, follow, taken}
 use Rattle.elab_walk.specs.Drafts.{HoldsType, IsReady, IsMade, IsNoted, MatchHeld, match_at, notes_at}
@@ -36,25 +36,25 @@ pub noted_both : (es fs : List (Tree × Tree)) (ts us : List ℕ) → follow (no
 noted_both es fs ts us = refl
 
 -- ---- of drafts
-pub nothing_noted : (s : List Tree) (d : Draft) → IsReady s d → IsNoted s d s d no_notes
+pub nothing_noted : (s : List Tree) (d : Constraints) → IsReady s d → IsNoted s d s d no_notes
 nothing_noted s d r = record { notes = sym (follow_nothing (notes_at s d)); ready = r }
 
-pub more_noted : {s s1 s2 : List Tree} {d d1 d2 : Draft} {a b : Notes} → IsNoted s d s1 d1 a → IsNoted s1 d1 s2 d2 b → IsNoted s d s2 d2 (follow a b)
+pub more_noted : {s s1 s2 : List Tree} {d d1 d2 : Constraints} {a b : Notes} → IsNoted s d s1 d1 a → IsNoted s1 d1 s2 d2 b → IsNoted s d s2 d2 (follow a b)
 more_noted {s} {d = d} {a = a} {b = b} x y = record { notes = y.notes ∙ ap (λ (n : Notes). follow n b) x.notes ∙ follow_all (notes_at s d) a b; ready = y.ready }
 
 -- where the store grew before
-pub noted_after : {s s1 s2 : List Tree} {d d1 : Draft} {a : Notes} → Grows s s1 → IsReady s d → IsNoted s1 d s2 d1 a → IsNoted s d s2 d1 a
+pub noted_after : {s s1 s2 : List Tree} {d d1 : Constraints} {a : Notes} → Grows s s1 → IsReady s d → IsNoted s1 d s2 d1 a → IsNoted s d s2 d1 a
 noted_after {s} {s1} {d = d} {a = a} g r x = record { notes = x.notes ∙ ap (λ (n : Notes). follow n a) (notes_stay s s1 g d r); ready = x.ready }
 
 -- where the store grows after
-pub noted_before : {s s1 s2 : List Tree} {d d1 : Draft} {a : Notes} → IsNoted s d s1 d1 a → Grows s1 s2 → IsNoted s d s2 d1 a
+pub noted_before : {s s1 s2 : List Tree} {d d1 : Constraints} {a : Notes} → IsNoted s d s1 d1 a → Grows s1 s2 → IsNoted s d s2 d1 a
 noted_before {s1 = s1} {s2 = s2} {d1 = d1} x g = record { notes = notes_stay s1 s2 g d1 x.ready ∙ x.notes; ready = ready_grows s1 s2 g d1 x.ready }
 
-pub noted_as : {s s1 : List Tree} {d d1 : Draft} {a : Notes} → IsNoted s d s1 d1 a → (b : Notes) → a ≡ b → IsNoted s d s1 d1 b
+pub noted_as : {s s1 : List Tree} {d d1 : Constraints} {a : Notes} → IsNoted s d s1 d1 a → (b : Notes) → a ≡ b → IsNoted s d s1 d1 b
 noted_as {s} {d = d} x b e = record { notes = x.notes ∙ ap (follow (notes_at s d)) e; ready = x.ready }
 
 -- the next unknown after notes
-pub next : {s s1 : List Tree} {d d1 : Draft} {a : Notes} → IsNoted s d s1 d1 a → length d1.takers ≡ length d.takers + taken a
+pub next : {s s1 : List Tree} {d d1 : Constraints} {a : Notes} → IsNoted s d s1 d1 a → length d1.takers ≡ length d.takers + taken a
 next {s} {d = d} {a = a} x = ap taken x.notes ∙ taken_both (notes_at s d) a
 
 -- ---- one more
@@ -62,7 +62,7 @@ pairs_more : (s : List Tree) (es : List Equation) (e : Equation) → equations_a
 pairs_more s [] e = refl
 pairs_more s (x ∷ xs) e = cc (pairs_more s xs e)
 
-pub unknown_noted : {s s1 : List Tree} {d d1 : Draft} {e : Tree} {id : TermId} {token : ℕ} → IsMade s d s1 e id
+pub unknown_noted : {s s1 : List Tree} {d d1 : Constraints} {e : Tree} {id : TermId} {token : ℕ} → IsMade s d s1 e id
     → d1.equations ≡ d.equations → d1.takers ≡ d.takers ++ token ∷ [] → d1.matches ≡ d.matches → IsNoted s d s1 d1 (noted [] (token ∷ []))
 unknown_noted {s} {s1} {d} {d1} {token = token} m e t q = record {
   notes =
@@ -71,7 +71,7 @@ unknown_noted {s} {s1} {d} {d1} {token = token} m e t q = record {
   ready = record { equations = rw e m.ready.equations; matches = rw q m.ready.matches };
 }
 
-pub equation_noted : {s : List Tree} {d d1 : Draft} {left right : TermId} → IsReady s d → HoldsType s left → HoldsType s right
+pub equation_noted : {s : List Tree} {d d1 : Constraints} {left right : TermId} → IsReady s d → HoldsType s left → HoldsType s right
     → d1.equations ≡ d.equations ++ record { left = left; right = right } ∷ [] → d1.takers ≡ d.takers → d1.matches ≡ d.matches
     → IsNoted s d s d1 (noted ((tree_at s left, tree_at s right) ∷ []) [])
 equation_noted {s} {d} {d1} {left} {right} r h k e t q = record {
@@ -83,7 +83,7 @@ equation_noted {s} {d} {d1} {left} {right} r h k e t q = record {
   };
 }
 
-pub match_noted : {s : List Tree} {d d1 : Draft} {token : ℕ} (ps : List TermId) → IsReady s d → ps ≡ [] → d1.equations ≡ d.equations → d1.takers ≡ d.takers
+pub match_noted : {s : List Tree} {d d1 : Constraints} {token : ℕ} (ps : List TermId) → IsReady s d → ps ≡ [] → d1.equations ≡ d.equations → d1.takers ≡ d.takers
     → d1.matches ≡ d.matches ++ record { token = token; patterns = ps } ∷ [] → IsNoted s d s d1 (with_match token [])
 match_noted {s} {d} {d1} {token} ps r z e t q = record {
   notes = cc (ap (equations_at s) e ∙ sym (append-nil (equations_at s d.equations)), t ∙ sym (append-nil d.takers), ap (map (match_at s)) (q ∙ ap (λ (x : List TermId). d.matches ++ record { token = token; patterns = x } ∷ []) z) ∙ matches_more d.matches (record { token = token; patterns = [] }));
@@ -102,7 +102,7 @@ put_among : (s : List Tree) (before : List (ℕ × List Tree)) (hole : ℕ × Li
     → map (match_at s) ms ≡ before ++ hole ∷ after → length before ≡ k → map (match_at s) (slice_set ms k m) ≡ before ++ match_at s m ∷ after
 put_among s before hole after ms m k h l = map-set (match_at s) ms k m ∙ (ap (λ (xs : List (ℕ × List Tree)). slice_set xs k (match_at s m)) h ∙ set_at before hole after (match_at s m) k l)
 
-pub filled_noted : {s s1 : List Tree} {d d1 d2 : Draft} (token place : ℕ) (ids : List TermId) (rest : Notes) → place ≡ length d.matches → IsNoted s d s1 d1 (follow (with_match token []) rest) → All (Holds s1) ids
+pub filled_noted : {s s1 : List Tree} {d d1 d2 : Constraints} (token place : ℕ) (ids : List TermId) (rest : Notes) → place ≡ length d.matches → IsNoted s d s1 d1 (follow (with_match token []) rest) → All (Holds s1) ids
     → d2.equations ≡ d1.equations → d2.takers ≡ d1.takers → d2.matches ≡ slice_set d1.matches place (record { token = token; patterns = ids })
     → IsNoted s d s1 d2 (follow (with_match token (trees_at s1 ids)) rest)
 filled_noted {s} {s1} {d} {d1} {d2} token place ids rest p n h e t q =
@@ -120,7 +120,7 @@ pub no_elements : {A : Type 0} (xs : List A) → length xs ≡ 0 → xs ≡ []
 no_elements [] h = refl
 no_elements (x ∷ xs) h = absurd (omega (arith, h))
 
-pub matches_more : {s s1 : List Tree} {d d1 : Draft} {a : Notes} → IsNoted s d s1 d1 a → length d1.matches ≡ length d.matches + length a.matches
+pub matches_more : {s s1 : List Tree} {d d1 : Constraints} {a : Notes} → IsNoted s d s1 d1 a → length d1.matches ≡ length d.matches + length a.matches
 matches_more {s} {s1} {d} {d1} {a} n =
     let e : length (map (match_at s1) d1.matches) ≡ length (map (match_at s) d.matches ++ a.matches) = ap (λ (x : Notes). length x.matches) n.notes in
     omega (arith, e, length-map d1.matches (match_at s1), length-map d.matches (match_at s), length-append (map (match_at s) d.matches) a.matches)

@@ -17,7 +17,7 @@ use Rattle.elab_names.specs.Naming.{where_at}
 use Rattle.elab_names.specs.Where.{Where}
 use Rattle.elab_walk.specs.declared.locals.Local.{Local}
 use Rattle.elab_walk.specs.declared.locals.Locals.{Locals}
-use Rattle.elab_walk.specs.declared.draft.Draft.{Draft}
+use Rattle.elab_walk.specs.declared.draft.Constraints.{Constraints}
 use Rattle.elab_walk.specs.Patterns.{noted, no_notes, follow, taken, LocalTree}
 use Rattle.elab_walk.specs.Pieces.{NotedTree, unknown_after, piece, noted_before, unknown, triggers_notes, trigger_wanted, trigger_taken, quantify, bound, binder_locals, binder_vars, binders_vars, untyped, locals_of_type, type_at, names}
 use Rattle.elab_walk.specs.Drafts.{HoldsType, IsMade, IsNoted, IsBound, IsWalked, IsSet, LocalsHeld, local_at, local_name, locals_at, names_of_locals}
@@ -62,7 +62,7 @@ in_quantified w ls b i all bs gs e h =
     (q.0, r.0, r.1)
 
 -- ---- under the variables of binders: what is in the store s1 after they are bound
-module _ {s s1 : List Tree} {d d1 : Draft} {w : World} {ls : Locals} {vs : List Local} {i : ℕ} (bs : List BoundNames) (set : IsSet s d w ls) (g : Grows s s1)
+module _ {s s1 : List Tree} {d d1 : Constraints} {w : World} {ls : Locals} {vs : List Local} {i : ℕ} (bs : List BoundNames) (set : IsSet s d w ls) (g : Grows s s1)
     (b : IsBound s d [] s1 d1 vs i (binders_vars bs) (bound (where_at s w) (length d.takers) bs)) where
   pub inside_names : reverse (map local_name vs) ++ names_of_locals ls ≡ reverse (bound_names bs) ++ names_of_locals ls
   inside_names =
@@ -82,7 +82,7 @@ module _ {s s1 : List Tree} {d d1 : Draft} {w : World} {ls : Locals} {vs : List 
 pub triggers_as : (w w' : Where) (ls ls' : List LocalTree) (n n' : ℕ) (gs : Expressions) → w ≡ w' → ls ≡ ls' → n ≡ n' → triggers_notes w ls n gs ≡ triggers_notes w' ls' n' gs
 triggers_as w w' ls ls' n n' gs a b c = cc (a, b, c)
 
-pub quantified_walked : (w : Where) (ls : List LocalTree) (i : ℕ) (all : Bool) (bs : List BoundNames) (gs : Expressions) (e : Expression) {s s1 s2 s3 s4 : List Tree} {d d1 d2 d3 : Draft} {vs : List Local} {x id : TermId}
+pub quantified_walked : (w : Where) (ls : List LocalTree) (i : ℕ) (all : Bool) (bs : List BoundNames) (gs : Expressions) (e : Expression) {s s1 s2 s3 s4 : List Tree} {d d1 d2 d3 : Constraints} {vs : List Local} {x id : TermId}
     → IsBound s d [] s1 d1 vs i (binders_vars bs) (bound w (length d.takers) bs)
     → IsNoted s1 d1 s2 d2 (triggers_notes w (reverse (bound w (length d.takers) bs) ++ ls) (length d.takers + binders_vars bs) gs) → Grows s1 s2
     → IsWalked (piece w (reverse (bound w (length d.takers) bs) ++ ls) (length d.takers + binders_vars bs + taken (triggers_notes w (reverse (bound w (length d.takers) bs) ++ ls) (length d.takers + binders_vars bs) gs)) None e) Formula s2 d2 s3 d3 x
@@ -98,7 +98,7 @@ pub in_triggers : (w : Where) (ls : List Word) (e : Expression) (es : Expression
 in_triggers w ls e es h = none_both (fault w false ls (is_formula_trigger w ls e) e) (triggers_fault w false ls es) h
 
 -- what a first trigger notes, before those of the others
-pub trigger_walked : (w : Where) (ls : List LocalTree) (e : Expression) (es : Expressions) {k : Sort} {s s1 s2 s3 : List Tree} {d d1 d2 d3 : Draft} {x : TermId} {t : Option Tree}
+pub trigger_walked : (w : Where) (ls : List LocalTree) (e : Expression) (es : Expressions) {k : Sort} {s s1 s2 s3 : List Tree} {d d1 d2 d3 : Constraints} {x : TermId} {t : Option Tree}
     → t ≡ trigger_wanted w ls (length d.takers) e → IsNoted s d s1 d1 (trigger_taken w ls e) → IsWalked (piece w ls (length d1.takers) t e) k s1 d1 s2 d2 x
     → ((n : ℕ) → length d2.takers ≡ n → IsNoted s2 d2 s3 d3 (triggers_notes w ls n es)) → IsNoted s d s3 d3 (triggers_notes w ls (length d.takers) (more_expressions e es))
 trigger_walked w ls e es {k} {s} {s1} {s2} {s3} {d} {d1} {d2} {d3} {x} {t} q a b rest = at (is_formula_trigger w (names ls) e) q a

@@ -6,7 +6,7 @@ use Rattle.trees.specs.Tree.{Tree, Leaf, HTyVar}
 use Rattle.trees.specs.Node.{tree_at, Grows}
 use Rattle.tasks.specs.Meaning.{trees_at}
 use Rattle.tasks.specs.Equations.{type_variables}
-use Rattle.elab_walk.specs.declared.draft.Draft.{Draft}
+use Rattle.elab_walk.specs.declared.draft.Constraints.{Constraints}
 use Rattle.elab_walk.specs.Patterns.{noted}
 use Rattle.elab_walk.specs.Drafts.{HoldsType, IsReady, IsNoted, IsTaken}
 use Rattle.elab_walk.proofs.Growing.{types_stay, types_more}
@@ -26,11 +26,11 @@ pub mapped_more : (s : List Tree) (ids : List TermId) (x : TermId) → trees_at 
 mapped_more s [] x = refl
 mapped_more s (id ∷ ids) x = ap (λ (ts : List Tree). tree_at s id ∷ ts) (mapped_more s ids x)
 
-pub taken_none : (s : List Tree) (d : Draft) (token : ℕ) → IsReady s d → IsTaken s d s d token 0 []
+pub taken_none : (s : List Tree) (d : Constraints) (token : ℕ) → IsReady s d → IsTaken s d s d token 0 []
 taken_none s d token r = record { held = All-nil (HoldsType s); trees = refl; noted = nothing_noted s d r }
 
-pub taken_more : (s : List Tree) (d : Draft) (s1 : List Tree) (d1 : Draft) (token k : ℕ) (ids : List TermId) → IsTaken s d s1 d1 token k ids
-    → (s2 : List Tree) (d2 : Draft) (x : TermId) → Grows s1 s2 → HoldsType s2 x → tree_at s2 x ≡ Leaf (HTyVar (length d1.takers)) → IsNoted s1 d1 s2 d2 (noted [] (token ∷ []))
+pub taken_more : (s : List Tree) (d : Constraints) (s1 : List Tree) (d1 : Constraints) (token k : ℕ) (ids : List TermId) → IsTaken s d s1 d1 token k ids
+    → (s2 : List Tree) (d2 : Constraints) (x : TermId) → Grows s1 s2 → HoldsType s2 x → tree_at s2 x ≡ Leaf (HTyVar (length d1.takers)) → IsNoted s1 d1 s2 d2 (noted [] (token ∷ []))
     → IsTaken s d s2 d2 token (k + 1) (ids ++ x ∷ [])
 taken_more s d s1 d1 token k ids t s2 d2 x g h e n =
     let l : length d1.takers ≡ length d.takers + k = next t.noted ∙ ap (λ (m : ℕ). length d.takers + m) (count_replicate k token) in

@@ -8,7 +8,7 @@ use Rattle.trees.specs.Node.{tree_at, Grows}
 use Rattle.trees.specs.Binding.{inst_types}
 use Rattle.tasks.specs.Task.{SymbolTree}
 use Rattle.tasks.specs.Meaning.{trees_at}
-use Rattle.elab_walk.specs.declared.draft.Draft.{Draft}
+use Rattle.elab_walk.specs.declared.draft.Constraints.{Constraints}
 use Rattle.elab_walk.specs.Patterns.{noted, follow, at_unknowns, result_or_int}
 use Rattle.elab_walk.specs.Pieces.{wanting}
 use Rattle.elab_walk.specs.Drafts.{HoldsType, IsReady, IsMade, IsNoted, IsTaken, IsBegun, instances}
@@ -17,10 +17,10 @@ use Rattle.elab_walk.proofs.Noting.{more_noted, noted_as, noted_before}
 use Rattle.elab_walk.proofs.Taking.{mapped_more}
 
 -- a node over a store that grew, told by what the draft was
-pub made_after : {s s1 s2 : List Tree} {d : Draft} {e : Tree} {id : TermId} → Grows s s1 → IsReady s d → IsMade s1 d s2 e id → (e' : Tree) → e ≡ e' → IsMade s d s2 e' id
+pub made_after : {s s1 s2 : List Tree} {d : Constraints} {e : Tree} {id : TermId} → Grows s s1 → IsReady s d → IsMade s1 d s2 e id → (e' : Tree) → e ≡ e' → IsMade s d s2 e' id
 made_after {s} {s1} {d = d} g r m e' q = record { held = m.held; tree = m.tree ∙ q; notes = m.notes ∙ notes_stay s s1 g d r; ready = m.ready }
 
-pub begun_use : {s s1 s2 : List Tree} {d d1 d2 : Draft} {token : ℕ} (e : SymbolTree) {ids : List TermId} (ty : TermId) (t t2 : Option Tree)
+pub begun_use : {s s1 s2 : List Tree} {d d1 d2 : Constraints} {token : ℕ} (e : SymbolTree) {ids : List TermId} (ty : TermId) (t t2 : Option Tree)
     → IsTaken s d s1 d1 token e.vars ids → Grows s1 s2 → IsNoted s2 d1 s2 d2 (noted (wanting (tree_at s2 ty) t2) [])
     → tree_at s2 ty ≡ at_unknowns (length d.takers) e (result_or_int e.result) → t2 ≡ t → IsBegun s d s2 d2 token e t ids
 begun_use {s} {s1} {s2} {d} {d1} {token = token} e {ids} ty t t2 a g n h o =

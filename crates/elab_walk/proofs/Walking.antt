@@ -21,7 +21,7 @@ use Rattle.elab_names.specs.Naming.{where_at}
 use Rattle.elab_names.specs.Where.{Where}
 use Rattle.elab_walk.specs.declared.locals.Local.{Local}
 use Rattle.elab_walk.specs.declared.locals.Locals.{Locals}
-use Rattle.elab_walk.specs.declared.draft.Draft.{Draft}
+use Rattle.elab_walk.specs.declared.draft.Constraints.{Constraints}
 use Rattle.elab_walk.specs.Patterns.{Notes, LocalTree}
 use Rattle.elab_walk.specs.Pieces.{NotedTree, piece, bare_piece, piece_under, both_pieces, noted_before}
 use Rattle.elab_walk.specs.Drafts.{HoldsType, IsReady, IsMade, IsNoted, IsWalked, IsSet, CanWalk, LocalsHeld, local_at, locals_at, names_of_locals, is_due, due}
@@ -48,27 +48,27 @@ pub must_be : (b : Bool) (f : NamingFault) → fault_if (not b) f ≡ None → b
 must_be b f h = not_not b (not_if (not b) f h)
 
 -- ---- what a further walk asks for
-pub set_on : {s : List Tree} {d : Draft} {w : World} {ls : Locals} → IsSet s d w ls → {s' : List Tree} {d' : Draft} → Grows s s' → IsReady s' d' → IsSet s' d' w ls
+pub set_on : {s : List Tree} {d : Constraints} {w : World} {ls : Locals} → IsSet s d w ls → {s' : List Tree} {d' : Constraints} → Grows s s' → IsReady s' d' → IsSet s' d' w ls
 set_on {s} {w = w} {ls = ls} c {s'} g r = record { world = world_grows s s' g w c.world; locals = locals_grow s s' g ls c.locals; ready = r }
 
-pub set_inside : {s : List Tree} {d : Draft} {w : World} {ls : Locals} → IsSet s d w ls → {s' : List Tree} {d' : Draft} (inside : Locals) → Grows s s' → IsReady s' d' → LocalsHeld s' inside → IsSet s' d' w inside
+pub set_inside : {s : List Tree} {d : Constraints} {w : World} {ls : Locals} → IsSet s d w ls → {s' : List Tree} {d' : Constraints} (inside : Locals) → Grows s s' → IsReady s' d' → LocalsHeld s' inside → IsSet s' d' w inside
 set_inside {s} {w = w} c {s'} inside g r h = record { world = world_grows s s' g w c.world; locals = h; ready = r }
 
 -- of a part
-pub go_on : {s : List Tree} {d : Draft} {w : World} {ls : Locals} → IsSet s d w ls
-    → {s' : List Tree} {d' : Draft} {wanted' : Option TermId} {e' : Expression} → Grows s s' → IsReady s' d' → IfSome wanted' (HoldsType s')
+pub go_on : {s : List Tree} {d : Constraints} {w : World} {ls : Locals} → IsSet s d w ls
+    → {s' : List Tree} {d' : Constraints} {wanted' : Option TermId} {e' : Expression} → Grows s s' → IsReady s' d' → IfSome wanted' (HoldsType s')
     → fault (where_at s w) false (names_of_locals ls) (is_due wanted') e' ≡ None → CanWalk s' d' w ls wanted' e'
 go_on {s} {w = w} c {s'} g r h f = record { set = set_on c g r; wanted = h; resolved = rw (world_stays s s' g w c.world) f }
 
 -- under further variables
-pub go_inside : {s : List Tree} {d : Draft} {w : World} {ls : Locals} → IsSet s d w ls
-    → {s' : List Tree} {d' : Draft} {wanted' : Option TermId} (inside : Locals) {e' : Expression} → Grows s s' → IsReady s' d' → LocalsHeld s' inside → IfSome wanted' (HoldsType s')
+pub go_inside : {s : List Tree} {d : Constraints} {w : World} {ls : Locals} → IsSet s d w ls
+    → {s' : List Tree} {d' : Constraints} {wanted' : Option TermId} (inside : Locals) {e' : Expression} → Grows s s' → IsReady s' d' → LocalsHeld s' inside → IfSome wanted' (HoldsType s')
     → fault (where_at s w) false (names_of_locals inside) (is_due wanted') e' ≡ None → CanWalk s' d' w inside wanted' e'
 go_inside {s} {w = w} c {s'} inside g r h k f = record { set = set_inside c inside g r h; wanted = k; resolved = rw (world_stays s s' g w c.world) f }
 
 -- the piece of a part, told by what the whole began with
-pub as_begun : {s : List Tree} {d : Draft} {w : World} {ls : Locals} → IsSet s d w ls
-    → {s1 : List Tree} → Grows s s1 → {d1 : Draft} (wanted' : Option TermId) (e' : Expression) {k : Sort} {s2 : List Tree} {d2 : Draft} {x : TermId}
+pub as_begun : {s : List Tree} {d : Constraints} {w : World} {ls : Locals} → IsSet s d w ls
+    → {s1 : List Tree} → Grows s s1 → {d1 : Constraints} (wanted' : Option TermId) (e' : Expression) {k : Sort} {s2 : List Tree} {d2 : Constraints} {x : TermId}
     → (n : ℕ) (t : Option Tree) → length d1.takers ≡ n → option_map (tree_at s1) wanted' ≡ t
     → IsWalked (piece (where_at s1 w) (locals_at s1 ls) (length d1.takers) (option_map (tree_at s1) wanted') e') k s1 d1 s2 d2 x
     → IsWalked (piece (where_at s w) (locals_at s ls) n t e') k s1 d1 s2 d2 x
@@ -76,8 +76,8 @@ as_begun {s} {w = w} {ls = ls} c {s1} g {d1} wanted' e' {k} {s2} {d2} {x} n t l 
     let same : piece (where_at s1 w) (locals_at s1 ls) (length d1.takers) (option_map (tree_at s1) wanted') e' ≡ piece (where_at s w) (locals_at s ls) n t e' = cc (world_stays s s1 g w c.world, locals_stay s s1 g ls c.locals, l, q) in
     subst (λ (p : NotedTree). IsWalked p k s1 d1 s2 d2 x) same h
 
-pub as_inside : {s : List Tree} {d : Draft} {w : World} {ls : Locals} → IsSet s d w ls
-    → {s1 : List Tree} → Grows s s1 → {d1 : Draft} (wanted' : Option TermId) (e' : Expression) {k : Sort} {s2 : List Tree} {d2 : Draft} {x : TermId}
+pub as_inside : {s : List Tree} {d : Constraints} {w : World} {ls : Locals} → IsSet s d w ls
+    → {s1 : List Tree} → Grows s s1 → {d1 : Constraints} (wanted' : Option TermId) (e' : Expression) {k : Sort} {s2 : List Tree} {d2 : Constraints} {x : TermId}
     → (inside ls' : List LocalTree) (n : ℕ) (t : Option Tree) → length d1.takers ≡ n → inside ≡ ls' → option_map (tree_at s1) wanted' ≡ t
     → IsWalked (piece (where_at s1 w) inside (length d1.takers) (option_map (tree_at s1) wanted') e') k s1 d1 s2 d2 x
     → IsWalked (piece (where_at s w) ls' n t e') k s1 d1 s2 d2 x
@@ -95,7 +95,7 @@ one_inside s l x u old new a b c = cc
 
 -- ---- what the walks give
 -- no part
-pub walked_bare : {e : Tree} {k : Sort} {s s1 : List Tree} {d : Draft} {id : TermId} → IsMade s d s1 e id → sort_of e ≡ k → IsWalked (bare_piece e) k s d s1 d id
+pub walked_bare : {e : Tree} {k : Sort} {s s1 : List Tree} {d : Constraints} {id : TermId} → IsMade s d s1 e id → sort_of e ≡ k → IsWalked (bare_piece e) k s d s1 d id
 walked_bare m o = record {
   held = m.held;
   tree = m.tree;
@@ -104,7 +104,7 @@ walked_bare m o = record {
 }
 
 -- one part
-pub walked_under : (f : Tree → Tree) {p : NotedTree} {k k' : Sort} {s s1 s2 : List Tree} {d d1 : Draft} {x id : TermId}
+pub walked_under : (f : Tree → Tree) {p : NotedTree} {k k' : Sort} {s s1 s2 : List Tree} {d d1 : Constraints} {x id : TermId}
     → IsWalked p k s d s1 d1 x → IsMade s1 d1 s2 (f (tree_at s1 x)) id → sort_of (f (tree_at s1 x)) ≡ k' → IsWalked (piece_under f p) k' s d s2 d1 id
 walked_under f a m o = record {
   held = m.held;
@@ -114,7 +114,7 @@ walked_under f a m o = record {
 }
 
 -- two parts
-pub walked_both : (f : Tree → Tree → Tree) {p q : NotedTree} {k l m : Sort} {s s1 s2 s3 : List Tree} {d d1 d2 : Draft} {x y id : TermId}
+pub walked_both : (f : Tree → Tree → Tree) {p q : NotedTree} {k l m : Sort} {s s1 s2 s3 : List Tree} {d d1 d2 : Constraints} {x y id : TermId}
     → IsWalked p k s d s1 d1 x → IsWalked q l s1 d1 s2 d2 y → Grows s1 s2 → IsMade s2 d2 s3 (f (tree_at s2 x) (tree_at s2 y)) id
     → sort_of (f (tree_at s2 x) (tree_at s2 y)) ≡ m → IsWalked (both_pieces f p q) m s d s3 d2 id
 walked_both f {s1 = s1} {s2 = s2} {x = x} a b g m o = record {
@@ -125,7 +125,7 @@ walked_both f {s1 = s1} {s2 = s2} {x = x} a b g m o = record {
 }
 
 -- three parts
-pub walked_choice : {p q r : NotedTree} {k : Sort} {s s1 s2 s3 s4 : List Tree} {d d1 d2 d3 : Draft} {x y z id : TermId}
+pub walked_choice : {p q r : NotedTree} {k : Sort} {s s1 s2 s3 s4 : List Tree} {d d1 d2 d3 : Constraints} {x y z id : TermId}
     → IsWalked p Formula s d s1 d1 x → IsWalked q k s1 d1 s2 d2 y → Grows s1 s2 → IsWalked r k s2 d2 s3 d3 z → Grows s2 s3
     → IsMade s3 d3 s4 (Three HIf (tree_at s3 x) (tree_at s3 y) (tree_at s3 z)) id → sort_of (Three HIf (tree_at s3 x) (tree_at s3 y) (tree_at s3 z)) ≡ k
     → IsWalked (both_pieces (λ a b. b) p (both_pieces (λ a b. Three HIf p.tree a b) q r)) k s d s4 d3 id
@@ -137,7 +137,7 @@ walked_choice {s1 = s1} {s2 = s2} {s3 = s3} {x = x} {y = y} a b g c h m o = reco
 }
 
 -- what a node notes before its parts
-pub walked_after : {p : NotedTree} {k : Sort} {s s1 s2 : List Tree} {d d1 d2 : Draft} {id : TermId} {n : Notes}
+pub walked_after : {p : NotedTree} {k : Sort} {s s1 s2 : List Tree} {d d1 d2 : Constraints} {id : TermId} {n : Notes}
     → IsNoted s d s1 d1 n → IsWalked p k s1 d1 s2 d2 id → IsWalked (noted_before n p) k s d s2 d2 id
 walked_after n a = record { held = a.held; tree = a.tree; sort = a.sort; noted = more_noted n a.noted }
 

@@ -9,7 +9,7 @@ ghost use Rattle.elab_names.specs.Naming.{where_at};
 ghost use Rattle.elab_walk.specs.Pieces.{quantify, locals_of_type, untyped, binder_locals, binder_vars, binders_vars, bound};
 ghost use Rattle.elab_walk.specs.Drafts.{HoldsType, WorldHeld, IsReady, IsMade, IsBound, local_at};
 
-use crate::draft::{Draft, make, new_unknown};
+use crate::draft::{Constraints, make, new_unknown};
 use crate::locals::Local;
 use crate::types::type_of_form;
 use elab_names::World;
@@ -21,7 +21,7 @@ use trees::{Node, TermId};
 /// A formula under quantifiers, the first one outermost.
 pub fn quantify(
     store: &mut Store,
-    draft: &Draft,
+    draft: &Constraints,
     all: bool,
     bound: &[Local<'_>],
     body: TermId,
@@ -50,7 +50,7 @@ pub fn quantify(
 #[tactic(auto, using(crate::proofs::Binding::bound_none, crate::proofs::Binding::bound_first))]
 fn bind_typed<'a>(
     store: &Store,
-    draft: &Draft,
+    draft: &Constraints,
     locals: &mut Vec<Local<'a>>,
     names: &'a [Name],
     ty: TermId,
@@ -74,7 +74,7 @@ fn bind_typed<'a>(
 /// Variables each of which takes an unknown, at a token.
 fn bind_untyped<'a>(
     store: &mut Store,
-    draft: &mut Draft,
+    draft: &mut Constraints,
     locals: &mut Vec<Local<'a>>,
     names: &'a [Name],
     token: usize,
@@ -101,7 +101,7 @@ fn bind_untyped<'a>(
 fn bind_one<'a>(
     alloc: Global,
     store: &mut Store,
-    draft: &mut Draft,
+    draft: &mut Constraints,
     locals: &mut Vec<Local<'a>>,
     binder: &'a BinderTree,
     world: &World<'_>,
@@ -130,7 +130,7 @@ fn bind_one<'a>(
 pub fn bind<'a>(
     alloc: Global,
     store: &mut Store,
-    draft: &mut Draft,
+    draft: &mut Constraints,
     locals: &mut Vec<Local<'a>>,
     binders: &'a [BinderTree],
     world: &World<'_>,

@@ -24,14 +24,14 @@ pub struct MatchAt {
 /// The equations in order; for each type variable the token of the node that takes it, those of the declaration's own first;
 /// and the matches in order.
 #[derive(Drop)]
-pub struct Draft {
+pub struct Constraints {
     pub equations: Seq<Equation>,
     pub takers: Seq<usize>,
     pub matches: Seq<MatchAt>,
 }
 
 /// A draft without equations, for a declaration with so many type variables.
-pub fn start_draft(alloc: Global, rigid: usize) -> Result<Draft, AllocError>
+pub fn start_draft(alloc: Global, rigid: usize) -> Result<Constraints, AllocError>
     ensures equations { IfOk result (λ d. d.equations ≡ []) }
     ensures takers { IfOk result (λ d. length d.takers ≡ rigid) }
     ensures matches { IfOk result (λ d. d.matches ≡ []) }
@@ -40,7 +40,7 @@ pub fn start_draft(alloc: Global, rigid: usize) -> Result<Draft, AllocError>
     for _own in 0..rigid {
         takers.push(0)?;
     }
-    Ok(Draft {
+    Ok(Constraints {
         equations: Seq::new(alloc),
         takers: Seq::from_vec(takers),
         matches: Seq::new(alloc),
@@ -49,7 +49,7 @@ pub fn start_draft(alloc: Global, rigid: usize) -> Result<Draft, AllocError>
 
 /// A node more in the store; the draft stays.
 #[tactic(auto, using(crate::proofs::Growing::ready_grows, crate::proofs::Growing::notes_stay))]
-pub fn make(store: &mut Store, draft: &Draft, node: Node) -> Result<TermId, AllocError>
+pub fn make(store: &mut Store, draft: &Constraints, node: Node) -> Result<TermId, AllocError>
     requires held { AreBelow (length store.old) (parts_of node) }
     requires fits { Fits (node_tree store.old node) }
     requires ready { IsReady store.old draft.now }
@@ -61,7 +61,11 @@ pub fn make(store: &mut Store, draft: &Draft, node: Node) -> Result<TermId, Allo
 
 /// A new unknown, which the node at a token takes.
 #[tactic(auto, using(crate::proofs::Noting::unknown_noted))]
-pub fn new_unknown(store: &mut Store, draft: &mut Draft, token: usize) -> Result<TermId, AllocError>
+pub fn new_unknown(
+    store: &mut Store,
+    draft: &mut Constraints,
+    token: usize,
+) -> Result<TermId, AllocError>
     requires ready { IsReady store.old draft.old }
     ensures held { IfOk result (HoldsType store.new) }
     ensures tree { IfOk result (λ id. tree_at store.new id ≡ Leaf (HTyVar (length
@@ -80,7 +84,7 @@ pub fn new_unknown(store: &mut Store, draft: &mut Draft, token: usize) -> Result
 pub fn unknowns(
     alloc: Global,
     store: &mut Store,
-    draft: &mut Draft,
+    draft: &mut Constraints,
     token: usize,
     count: usize,
 ) -> Result<Vec<TermId>, AllocError>
@@ -101,7 +105,7 @@ pub fn unknowns(
 #[tactic(auto, using(crate::proofs::Noting::equation_noted))]
 fn add_equation(
     store: &Store,
-    draft: &mut Draft,
+    draft: &mut Constraints,
     left: TermId,
     right: TermId,
 ) -> Result<(), AllocError>
@@ -122,7 +126,7 @@ fn add_equation(
 #[tactic(auto, using(crate::proofs::Noting::nothing_noted))]
 pub fn equate(
     store: &Store,
-    draft: &mut Draft,
+    draft: &mut Constraints,
     left: TermId,
     wanted: Option<TermId>,
 ) -> Result<(), AllocError>
@@ -143,7 +147,7 @@ pub fn equate(
 pub fn reserve(
     alloc: Global,
     store: &Store,
-    draft: &mut Draft,
+    draft: &mut Constraints,
     token: usize,
 ) -> Result<usize, AllocError>
     requires ready { IsReady store.now draft.old }
@@ -159,7 +163,7 @@ pub fn reserve(
 }
 
 /// The match at a place has these patterns.
-pub fn fill(draft: &mut Draft, place: usize, token: usize, patterns: Seq<TermId>)
+pub fn fill(draft: &mut Constraints, place: usize, token: usize, patterns: Seq<TermId>)
     requires { place < length draft.old.matches }
     ensures equations { draft.new.equations ≡ draft.old.equations }
     ensures takers { draft.new.takers ≡ draft.old.takers }

@@ -15,7 +15,7 @@ ghost use Rattle.elab_walk.specs.Drafts.{HoldsType, locals_at, due, is_due, oper
 
 use crate::arms::{push_arms, push_patterns};
 use crate::bound::{bind, quantify};
-use crate::draft::{Draft, equate, fill, make, new_unknown, reserve};
+use crate::draft::{Constraints, equate, fill, make, new_unknown, reserve};
 use crate::locals::{Local, Locals, local_named};
 use crate::operands::{Operands, split_operands};
 use crate::patterns::walk_alternatives;
@@ -41,7 +41,7 @@ fn literal_value(value: &i128) -> i128
 // A literal.
 fn walk_literal(
     store: &mut Store,
-    draft: &mut Draft,
+    draft: &mut Constraints,
     wanted: Option<TermId>,
     value: &i128,
 ) -> Result<TermId, AllocError>
@@ -62,7 +62,7 @@ fn walk_literal(
 // An equality, or with `false` its negation.
 fn make_equality(
     store: &mut Store,
-    draft: &Draft,
+    draft: &Constraints,
     same: bool,
     left: TermId,
     right: TermId,
@@ -89,7 +89,7 @@ fn make_equality(
 pub fn walk(
     alloc: Global,
     store: &mut Store,
-    draft: &mut Draft,
+    draft: &mut Constraints,
     e: &Expr,
     world: &World<'_>,
     locals: &Locals<'_>,
@@ -245,7 +245,7 @@ pub fn walk(
 fn walk_use(
     alloc: Global,
     store: &mut Store,
-    draft: &mut Draft,
+    draft: &mut Constraints,
     token: usize,
     scopes: &[Text],
     name: &[u8],
@@ -280,7 +280,7 @@ fn walk_use(
 fn walk_symbol(
     alloc: Global,
     store: &mut Store,
-    draft: &mut Draft,
+    draft: &mut Constraints,
     token: usize,
     symbol: Option<usize>,
     operands: Operands<'_>,
@@ -316,7 +316,7 @@ fn walk_symbol(
 fn walk_all(
     alloc: Global,
     store: &mut Store,
-    draft: &mut Draft,
+    draft: &mut Constraints,
     operands: Operands<'_>,
     world: &World<'_>,
     locals: &Locals<'_>,
@@ -351,7 +351,7 @@ fn walk_all(
 fn walk_group(
     alloc: Global,
     store: &mut Store,
-    draft: &mut Draft,
+    draft: &mut Constraints,
     token: usize,
     list: &[Expr],
     world: &World<'_>,
@@ -381,7 +381,7 @@ fn walk_group(
 fn walk_quantified(
     alloc: Global,
     store: &mut Store,
-    draft: &mut Draft,
+    draft: &mut Constraints,
     token: usize,
     all: bool,
     binders: &[BinderTree],
@@ -413,7 +413,7 @@ fn walk_quantified(
 fn walk_triggers(
     alloc: Global,
     store: &mut Store,
-    draft: &mut Draft,
+    draft: &mut Constraints,
     triggers: &Option<TriggerTree>,
     world: &World<'_>,
     locals: &Locals<'_>,
@@ -434,7 +434,7 @@ fn walk_triggers(
 fn walk_terms(
     alloc: Global,
     store: &mut Store,
-    draft: &mut Draft,
+    draft: &mut Constraints,
     list: &[Expr],
     world: &World<'_>,
     locals: &Locals<'_>,
@@ -468,7 +468,7 @@ fn first_token(values: &[Expr]) -> usize
 fn walk_match(
     alloc: Global,
     store: &mut Store,
-    draft: &mut Draft,
+    draft: &mut Constraints,
     token: usize,
     values: &[Expr],
     branches: &[BranchTree],
@@ -512,7 +512,7 @@ fn walk_match(
 fn walk_matched(
     alloc: Global,
     store: &mut Store,
-    draft: &mut Draft,
+    draft: &mut Constraints,
     token: usize,
     pattern: &[Pat],
     value: &Expr,
@@ -561,7 +561,7 @@ fn walk_matched(
 fn walk_branches(
     alloc: Global,
     store: &mut Store,
-    draft: &mut Draft,
+    draft: &mut Constraints,
     patterns: &mut Seq<TermId>,
     list: &[BranchTree],
     subject: TermId,
@@ -603,7 +603,7 @@ fn walk_branches(
 fn walk_branch(
     alloc: Global,
     store: &mut Store,
-    draft: &mut Draft,
+    draft: &mut Constraints,
     patterns: &mut Seq<TermId>,
     first: &[Pat],
     rest: &[Seq<Pat>],

@@ -14,7 +14,7 @@ mod triggers;
 mod types;
 mod uses;
 
-pub use draft::{Draft, MatchAt, start_draft};
+pub use draft::{Constraints, MatchAt, start_draft};
 pub use expression::walk;
 pub use locals::{Local, Locals};
 pub use types::{list_of, put_types, type_of_form};

@@ -10,7 +10,7 @@ ghost use Rattle.elab_names.specs.Naming.{where_at};
 ghost use Rattle.elab_walk.specs.Patterns.{local, variable_equations, local_type, noted, entry_of, pattern_piece, patterns_piece, constructor_piece, place_among, places_among, later_pieces, alternatives_pieces};
 ghost use Rattle.elab_walk.specs.Drafts.{HoldsType, IsReady, IsNoted, AreBound, local_at, earlier_variables, EarlierHeld, CanMatch, CanMatchAll, IsMatched, AreMatched, WorldHeld, LaterHeld, IsLater, AreLater, AreDraftedAlternatives};
 
-use crate::draft::{Draft, equate, make};
+use crate::draft::{Constraints, equate, make};
 use crate::locals::Local;
 use crate::types::{entry_at, entry_number, int, list_of};
 use crate::uses::{begin_use, entry_args, first_type, other_types, types_put};
@@ -50,7 +50,7 @@ fn type_among(store: &Store, locals: &[Local<'_>], name: &[u8]) -> TermId
 // The equation of a variable of a later alternative.
 fn equate_variable(
     store: &Store,
-    draft: &mut Draft,
+    draft: &mut Constraints,
     name: &[u8],
     ty: TermId,
     alternative: Alternative<'_>,
@@ -74,7 +74,7 @@ fn equate_variable(
 // A variable of a type after those that are there.
 fn bind_variable<'a>(
     store: &Store,
-    draft: &mut Draft,
+    draft: &mut Constraints,
     locals: &mut Vec<Local<'a>>,
     name: &'a [u8],
     ty: TermId,
@@ -99,7 +99,7 @@ fn bind_variable<'a>(
 pub fn walk_pattern<'a>(
     alloc: Global,
     store: &mut Store,
-    draft: &mut Draft,
+    draft: &mut Constraints,
     locals: &mut Vec<Local<'a>>,
     p: &'a Pat,
     world: &World<'_>,
@@ -167,7 +167,7 @@ pub fn walk_pattern<'a>(
 fn walk_constructor<'a>(
     alloc: Global,
     store: &mut Store,
-    draft: &mut Draft,
+    draft: &mut Constraints,
     locals: &mut Vec<Local<'a>>,
     token: usize,
     symbol: Option<usize>,
@@ -208,7 +208,7 @@ fn walk_constructor<'a>(
 fn walk_patterns<'a>(
     alloc: Global,
     store: &mut Store,
-    draft: &mut Draft,
+    draft: &mut Constraints,
     locals: &mut Vec<Local<'a>>,
     list: &'a [Pat],
     world: &World<'_>,
@@ -247,7 +247,7 @@ fn walk_patterns<'a>(
 pub fn walk_grouped<'a>(
     alloc: Global,
     store: &mut Store,
-    draft: &mut Draft,
+    draft: &mut Constraints,
     locals: &mut Vec<Local<'a>>,
     token: usize,
     list: &'a [Pat],
@@ -350,7 +350,7 @@ fn push_places(
 fn walk_one_later(
     alloc: Global,
     store: &mut Store,
-    draft: &mut Draft,
+    draft: &mut Constraints,
     list: &[Pat],
     world: &World<'_>,
     ty: TermId,
@@ -389,7 +389,7 @@ fn walk_one_later(
 fn walk_later(
     alloc: Global,
     store: &mut Store,
-    draft: &mut Draft,
+    draft: &mut Constraints,
     list: &[Seq<Pat>],
     world: &World<'_>,
     ty: TermId,
@@ -419,7 +419,7 @@ fn walk_later(
 pub fn walk_alternatives<'a>(
     alloc: Global,
     store: &mut Store,
-    draft: &mut Draft,
+    draft: &mut Constraints,
     locals: &mut Vec<Local<'a>>,
     first: &'a [Pat],
     rest: &[Seq<Pat>],

@@ -9,7 +9,7 @@ ghost use Rattle.elab_names.specs.Naming.{where_at, head_at};
 ghost use Rattle.elab_walk.specs.Pieces.{trigger_wanted, trigger_taken};
 ghost use Rattle.elab_walk.specs.Drafts.{HoldsType, locals_at, names_of_locals, is_due, IsReady, IsNoted};
 
-use crate::draft::{Draft, new_unknown};
+use crate::draft::{Constraints, new_unknown};
 use crate::locals::{Locals, local_named};
 use elab_names::{TriggerHead, World, names_predicate, own_name, prefix_operator, trigger_of};
 use outside::Text;
@@ -63,7 +63,7 @@ fn is_formula_head(
 pub fn trigger_type(
     alloc: Global,
     store: &mut Store,
-    draft: &mut Draft,
+    draft: &mut Constraints,
     e: &Expr,
     world: &World<'_>,
     locals: &Locals<'_>,

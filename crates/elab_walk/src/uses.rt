@@ -11,7 +11,7 @@ ghost use Rattle.elab_walk.specs.Patterns.{first_or_int, rest_of};
 ghost use Rattle.elab_walk.specs.Pieces.{local_piece, symbol_at_types};
 ghost use Rattle.elab_walk.specs.Drafts.{HoldsType, SymbolTyped, due, is_due, IsReady, IsMade, IsWalked, IsBegun, instances, symbol_got};
 
-use crate::draft::{Draft, equate, make, unknowns};
+use crate::draft::{Constraints, equate, make, unknowns};
 use crate::types::{int, list_of, put_types, result_type};
 use std::alloc::{AllocError, Global};
 use tasks::SymbolInfo;
@@ -21,7 +21,7 @@ use trees::{Node, TermId};
 /// A variable of a place and a type. More places than there are numbers are want of memory.
 pub fn walk_local(
     store: &mut Store,
-    draft: &mut Draft,
+    draft: &mut Constraints,
     place: usize,
     ty: TermId,
     wanted: Option<TermId>,
@@ -68,7 +68,7 @@ pub fn entry_args(info: Option<&SymbolInfo>) -> &[TermId]
 pub fn begin_use(
     alloc: Global,
     store: &mut Store,
-    draft: &mut Draft,
+    draft: &mut Constraints,
     token: usize,
     info: Option<&SymbolInfo>,
     wanted: Option<TermId>,
@@ -113,7 +113,7 @@ pub fn types_put(
 /// A symbol at types before arguments: a term of a type, or a formula.
 pub fn finish_use(
     store: &mut Store,
-    draft: &Draft,
+    draft: &Constraints,
     symbol: usize,
     types: &[TermId],
     args: TermId,

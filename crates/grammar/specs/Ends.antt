@@ -1,7 +1,7 @@
 -- Where a token string ends, where tokens are none, and what completes them.
 use Rattle.std.specs.Prelude.{ℕ, ◌≡◌, ◌+◌, ◌≤◌, ◌<◌, Bool, true, false, List, [], ◌∷◌, ◌++◌, Option, Some, None, length, take}
 use Rattle.grammar.specs.Common.{Terminal, Symbol}
-use Rattle.grammar.specs.declared.ends.Fault.{Fault}
+use Rattle.grammar.specs.declared.ends.SyntaxEnd.{SyntaxEnd}
 use Rattle.grammar.specs.Machine.{run, accepts, is_taken}
 
 -- The first n terminals are taken, and the next one, if there is one, is not.
@@ -28,6 +28,6 @@ pub record IsFault (k : List Symbol) (xs : List Terminal) (other : Terminal) (n 
   pub none : accepts k xs ≡ false
   pub other_stands : stands ≡ is_taken (run k (take n xs ++ other ∷ []))
 
-abbrev pub IsFirstFault : List Symbol → List Terminal → Terminal → Option Fault → Type 0
+abbrev pub IsFirstFault : List Symbol → List Terminal → Terminal → Option SyntaxEnd → Type 0
 IsFirstFault k xs other None = accepts k xs ≡ true
 IsFirstFault k xs other (Some f) = IsFault k xs other f.place f.other_stands

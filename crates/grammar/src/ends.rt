@@ -14,7 +14,7 @@ use tokens_why::Terminal;
 /// The first `place` of them begin one, and with the next token, where there is one, they begin none. `other_stands` says
 /// whether the other terminal that was asked for could come after the first `place`.
 #[derive(Clone, Copy)]
-pub struct Fault {
+pub struct SyntaxEnd {
     pub place: usize,
     pub other_stands: bool,
 }
@@ -100,7 +100,7 @@ pub fn first_fault(
     start: Symbol,
     tokens: &[Terminal],
     other: Terminal,
-) -> Result<Option<Fault>, AllocError>
+) -> Result<Option<SyntaxEnd>, AllocError>
     ensures { IfOk result (IsFirstFault (start ∷ []) tokens.now other) }
 {
     let place = count_taken(alloc, start, tokens)?;
@@ -111,7 +111,7 @@ pub fn first_fault(
                 return Ok(None);
             }
             let other_stands = take_token(&mut stack, other)?;
-            Ok(Some(Fault {
+            Ok(Some(SyntaxEnd {
                 place,
                 other_stands,
             }))

@@ -10,6 +10,6 @@ mod symbols;
 mod table;
 
 pub use accept::is_same;
-pub use ends::{Fault, complete_tokens, first_fault, longest_length};
+pub use ends::{SyntaxEnd, complete_tokens, first_fault, longest_length};
 pub use operators::{is_infix, need_of, prec_of, right_of};
 pub use symbols::Symbol;

@@ -7,7 +7,7 @@ use Rattle.trees.specs.Tree.{Tree}
 use Rattle.trees.specs.Node.{Holds}
 use Rattle.tasks.specs.Task.{SymbolTree, symbol_or}
 use Rattle.tasks.specs.Meaning.{trees_at}
-use Rattle.match_cover.specs.declared.shape.Shape.{Shape as StoredShape}
+use Rattle.match_cover.specs.declared.shape.ValueShape.{ValueShape as StoredShape}
 use Rattle.match_cover.specs.Shapes.{ShapeTree, unspecified, built, Shapes, no_shapes, more_shapes, Meets, IsPattern, HaveOneType, AreExhaustive, Escapes}
 use Rattle.match_cover.specs.Tables.{IsTable, Answered, unknowns, specialized, tails, Splits, effort}
 use Rattle.match_cover.specs.Meaning.{shape_of, shapes_of, first_shapes, shapes_after, table_at, TableHeld, single_pattern}

@@ -1,15 +1,15 @@
 -- Shapes in code, one by one.
 use Rattle.std.proofs.Common.{◌≡◌, ℕ, zero, suc, ◌+◌, ◌≤◌, List, [], ◌∷◌, ◌++◌, length, take, drop, refl, sym, ap, ◌∙◌, arith}
-use Rattle.match_cover.specs.declared.shape.Shape.{Shape as StoredShape, Shape-F}
-use Rattle.match_cover.specs.declared.shape.Shape.TheViews.{roll-Shape}
-use Rattle.match_cover.specs.declared.shape.Shape.TheFolds.{fold-roll-Shape}
+use Rattle.match_cover.specs.declared.shape.ValueShape.{ValueShape as StoredShape, ValueShape-F}
+use Rattle.match_cover.specs.declared.shape.ValueShape.TheViews.{roll-ValueShape}
+use Rattle.match_cover.specs.declared.shape.ValueShape.TheFolds.{fold-roll-ValueShape}
 use Rattle.match_cover.specs.Shapes.{ShapeTree, unspecified, built, Shapes, no_shapes, more_shapes}
 use Rattle.match_cover.specs.Tables.{unknowns, number_of_shapes, append_shapes}
 use Rattle.match_cover.specs.Meaning.{known, shape_step, shape_of, shapes_of, first_shapes, shapes_after}
 
-pub shape_of-roll : (r : Shape-F StoredShape) → shape_of (roll-Shape r) ≡ known r.con (shapes_of r.parts)
+pub shape_of-roll : (r : ValueShape-F StoredShape) → shape_of (roll-ValueShape r) ≡ known r.con (shapes_of r.parts)
 unfolding shape_of
-shape_of-roll r = fold-roll-Shape ShapeTree shape_step r
+shape_of-roll r = fold-roll-ValueShape ShapeTree shape_step r
 
 pub unknowns_push : (xs : List StoredShape) (s : StoredShape) (n : ℕ) → shapes_of xs ≡ unknowns n → shape_of s ≡ unspecified → shapes_of (xs ++ s ∷ []) ≡ unknowns (n + 1)
 unknowns_push [] s zero e u = ap (λ x. more_shapes x no_shapes) u

@@ -4,7 +4,7 @@ use Rattle.trees.specs.declared.TermId.{TermId}
 use Rattle.trees.specs.Tree.{Tree}
 use Rattle.trees.specs.Node.{Holds}
 use Rattle.tasks.specs.Meaning.{trees_at}
-use Rattle.match_cover.specs.declared.shape.Shape.{Shape as StoredShape, Shape-F, fold-Shape}
+use Rattle.match_cover.specs.declared.shape.ValueShape.{ValueShape as StoredShape, ValueShape-F, fold-ValueShape}
 use Rattle.match_cover.specs.Shapes.{ShapeTree, unspecified, built, Shapes, no_shapes, more_shapes}
 
 abbrev pub shapes : List ShapeTree → Shapes
@@ -15,12 +15,12 @@ abbrev pub known : Option ℕ → Shapes → ShapeTree
 known None ss = unspecified
 known (Some k) ss = built k ss
 
-abbrev pub shape_step : Shape-F ShapeTree → ShapeTree
+abbrev pub shape_step : ValueShape-F ShapeTree → ShapeTree
 shape_step f = known f.con (shapes f.parts)
 
 -- the shape that a stored one stands for
 unfoldable pub shape_of : StoredShape → ShapeTree
-shape_of = fold-Shape ShapeTree shape_step
+shape_of = fold-ValueShape ShapeTree shape_step
 
 abbrev pub shapes_of : List StoredShape → Shapes
 shapes_of ss = shapes (map shape_of ss)

@@ -9,7 +9,7 @@ ghost use Rattle.match_cover.specs.Shapes.{unspecified, IsPattern, HaveOneType, 
 ghost use Rattle.match_cover.specs.Tables.{IsTable, Answered, Splits};
 ghost use Rattle.match_cover.specs.Meaning.{shape_of, shapes_of, table_at, TableHeld, single_pattern};
 
-use crate::Shape;
+use crate::ValueShape;
 use crate::constructors::constructors_of;
 use crate::patterns::{column_told, specialize_rows};
 use crate::shape::{behind_unknown, unknown_shape, unknowns, with_built};
@@ -57,7 +57,7 @@ fn missed_shapes(
     rows: &[Seq<TermId>],
     at: usize,
     columns: usize,
-) -> Result<Option<Vec<Shape>>, AllocError>
+) -> Result<Option<Vec<ValueShape>>, AllocError>
     requires held { TableHeld store.now rows.now }
     requires symbols_held { All (SymbolHeld store.now) sig.now.symbols }
     requires fits { at + columns ≤ usize.MAX }
@@ -123,7 +123,7 @@ pub fn cover(
     store: &Store,
     sig: &Signature,
     patterns: &[TermId],
-) -> Result<Option<Shape>, AllocError>
+) -> Result<Option<ValueShape>, AllocError>
     requires held { All (Holds store.now) patterns.now }
     requires symbols_held { All (SymbolHeld store.now) sig.now.symbols }
     requires patterns { All (IsPattern (symbols_at store.now sig.now.symbols))

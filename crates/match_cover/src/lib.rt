@@ -9,4 +9,4 @@ mod shape;
 
 pub use constructors::are_own_variables;
 pub use exhaustive::cover;
-pub use shape::Shape;
+pub use shape::ValueShape;

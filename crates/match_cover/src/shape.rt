@@ -11,18 +11,18 @@ use std::alloc::{AllocError, Global};
 
 /// How far a value is known: not at all where it has no constructor, else its constructor with a shape for each field.
 #[derive(Drop)]
-pub struct Shape {
+pub struct ValueShape {
     /// The constructor's entry in the signature.
     pub con: Option<usize>,
     /// The shapes of the fields, in order; none of an unspecified shape.
-    pub parts: Seq<Shape>,
+    pub parts: Seq<ValueShape>,
 }
 
 // The unspecified shape.
-pub(crate) fn unknown_shape(alloc: Global) -> Shape
+pub(crate) fn unknown_shape(alloc: Global) -> ValueShape
     ensures { shape_of result ≡ unspecified }
 {
-    Shape {
+    ValueShape {
         con: None,
         parts: Seq::new(alloc),
     }
@@ -30,7 +30,7 @@ pub(crate) fn unknown_shape(alloc: Global) -> Shape
 
 // So many unspecified shapes.
 #[tactic(auto, using(crate::proofs::Shapes::unknowns_push))]
-pub(crate) fn unknowns(alloc: Global, count: usize) -> Result<Vec<Shape>, AllocError>
+pub(crate) fn unknowns(alloc: Global, count: usize) -> Result<Vec<ValueShape>, AllocError>
     ensures { IfOk result (λ v. shapes_of v.items ≡ unknowns count) }
 {
     let mut shapes = Vec::new(alloc);
@@ -41,7 +41,11 @@ pub(crate) fn unknowns(alloc: Global, count: usize) -> Result<Vec<Shape>, AllocE
 }
 
 // Shapes after another one.
-fn with_first(alloc: Global, first: Shape, mut rest: Vec<Shape>) -> Result<Vec<Shape>, AllocError>
+fn with_first(
+    alloc: Global,
+    first: ValueShape,
+    mut rest: Vec<ValueShape>,
+) -> Result<Vec<ValueShape>, AllocError>
     ensures { IfOk result (λ v. v.items ≡ first ∷ rest.items) }
 {
     let mut all = Vec::new(alloc);
@@ -53,8 +57,8 @@ fn with_first(alloc: Global, first: Shape, mut rest: Vec<Shape>) -> Result<Vec<S
 // Shapes after an unspecified one, if they are there.
 pub(crate) fn behind_unknown(
     alloc: Global,
-    shapes: Option<Vec<Shape>>,
-) -> Result<Option<Vec<Shape>>, AllocError>
+    shapes: Option<Vec<ValueShape>>,
+) -> Result<Option<Vec<ValueShape>>, AllocError>
     ensures { IfOk result (λ o. option_map (λ v. shapes_of v.items) o
         ≡ option_map (more_shapes unspecified) (option_map (λ v. shapes_of v.items) shapes)) }
 {
@@ -68,10 +72,10 @@ pub(crate) fn behind_unknown(
 }
 
 // A constructor on shapes.
-fn build_shape(con: usize, parts: Vec<Shape>) -> Shape
+fn build_shape(con: usize, parts: Vec<ValueShape>) -> ValueShape
     ensures { shape_of result ≡ built con (shapes_of parts.items) }
 {
-    Shape {
+    ValueShape {
         con: Some(con),
         parts: Seq::from_vec(parts),
     }
@@ -83,8 +87,8 @@ pub(crate) fn with_built(
     alloc: Global,
     con: usize,
     arity: usize,
-    mut shapes: Vec<Shape>,
-) -> Result<Vec<Shape>, AllocError>
+    mut shapes: Vec<ValueShape>,
+) -> Result<Vec<ValueShape>, AllocError>
     requires { arity ≤ vec_len shapes }
     ensures { IfOk result (λ v. shapes_of v.items
         ≡ more_shapes (built con (first_shapes arity (shapes_of shapes.items)))

@@ -6,12 +6,12 @@ ghost use Rattle.recognise_why.specs.Expressions.{EndsAt, IsExpressionRefusal};
 
 use crate::fault::SyntaxFault;
 use crate::spans::terminals_from;
-use grammar::{Fault, Symbol, first_fault, longest_length};
+use grammar::{Symbol, SyntaxEnd, first_fault, longest_length};
 use std::alloc::{AllocError, Global};
 use tokens_why::{Terminal, Token};
 
 /// Where terminals that are no expression go wrong.
-fn expression_fault(alloc: Global, terminals: &[Terminal]) -> Result<Fault, AllocError>
+fn expression_fault(alloc: Global, terminals: &[Terminal]) -> Result<SyntaxEnd, AllocError>
     requires { accepts (symbol.Expr 0 ∷ []) terminals.now ≡ false }
     ensures { IfOk result (λ f. IsFault (symbol.Expr 0 ∷ []) terminals.now OtherWord f.place
         f.other_stands) }

@@ -10,7 +10,7 @@ ghost use Rattle.recognise_why.specs.Spans.{terminals_of};
 use crate::depth::too_deep;
 use crate::fault::SyntaxFault;
 use crate::spans::terminals;
-use grammar::{Fault, Symbol, first_fault};
+use grammar::{Symbol, SyntaxEnd, first_fault};
 use std::alloc::Global;
 use tokens_why::{Terminal, Token};
 
@@ -22,7 +22,7 @@ fn begins_program(terminal: Terminal) -> bool
 }
 
 /// The answer for a fault: that of a program's declaration, where a scope could be in its place.
-fn answer(found: &[Terminal], fault: Fault) -> SyntaxFault
+fn answer(found: &[Terminal], fault: SyntaxEnd) -> SyntaxFault
     requires shallow { IsShallow found.now }
     requires fault { IsFault (symbol.File ∷ []) found.now ScopeWord fault.place fault.other_stands }
     ensures { (text : List ℕ) (ts : List Token) → terminals_of ts ≡ found.now → IsSyntaxRefusal

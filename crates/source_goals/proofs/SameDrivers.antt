@@ -18,7 +18,7 @@ use Rattle.driver_tokens.specs.File.{driver_lines}
 use Rattle.driver_items.specs.declared.symbols.Target.{Target}
 use Rattle.driver_items.specs.declared.symbols.Target.TheVariants.{Entry}
 use Rattle.driver_items.specs.Symbols.{NamedTheories, NamedTheory, is_builtin, is_path, theory_with_path, is_known, is_named_kind, is_symbol_named, by_kind, target_or_later, entry_from, builtin_of, target_of, among, among_those, has_proposition}
-use Rattle.driver_parts.specs.declared.parts.Parts.{Parts}
+use Rattle.driver_parts.specs.declared.parts.DriverParts.{DriverParts}
 use Rattle.driver_parts.specs.Items.{DriverItem, prelude, printer, transformation, file_import, block, end_of_block, template, removal, removal_of_all, silent, item_of}
 use Rattle.driver_parts.specs.Steps.{targeted, removed, block_step, item_in_block, item_step, block_behind}
 use Rattle.driver_files.specs.declared.reading.Progress.{Progress}
@@ -35,7 +35,7 @@ then_same a (Ok x) f g e h = ap (λ z. z then f) e ∙ h x
 then_same a (Err x) f g e h = ap (λ z. z then f) e
 
 module _ (ss rs : List SymbolInfo) (ts us : NamedTheories) (k : TellSame ss rs ts us) where
-  block_same : (file : ℕ) (path : List ℕ) (item : DriverItem) (parts : Parts) → block_step ss ts file path item parts ≡ block_step rs us file path item parts
+  block_same : (file : ℕ) (path : List ℕ) (item : DriverItem) (parts : DriverParts) → block_step ss ts file path item parts ≡ block_step rs us file path item parts
   block_same file path (template n b name c text) parts = ap (targeted file b c text parts) (k.targets path n name)
   block_same file path (removal b name) parts = ap (removed file b parts path name) (k.propositions path name)
   block_same file path removal_of_all parts = refl
@@ -47,7 +47,7 @@ module _ (ss rs : List SymbolInfo) (ts us : NamedTheories) (k : TellSame ss rs t
   block_same file path end_of_block parts = refl
   block_same file path silent parts = refl
 
-  outside_same : (file : ℕ) (item : DriverItem) (parts : Parts) → item_in_block ss ts file None item parts ≡ item_in_block rs us file None item parts
+  outside_same : (file : ℕ) (item : DriverItem) (parts : DriverParts) → item_in_block ss ts file None item parts ≡ item_in_block rs us file None item parts
   outside_same file (template n b name c text) parts = refl
   outside_same file (removal b name) parts = refl
   outside_same file removal_of_all parts = refl
@@ -59,12 +59,12 @@ module _ (ss rs : List SymbolInfo) (ts us : NamedTheories) (k : TellSame ss rs t
   outside_same file end_of_block parts = refl
   outside_same file silent parts = refl
 
-  in_block_same : (file : ℕ) (path : Option (List ℕ)) (item : DriverItem) (parts : Parts) → item_in_block ss ts file path item parts ≡ item_in_block rs us file path item parts
+  in_block_same : (file : ℕ) (path : Option (List ℕ)) (item : DriverItem) (parts : DriverParts) → item_in_block ss ts file path item parts ≡ item_in_block rs us file path item parts
   in_block_same file None item parts = outside_same file item parts
   in_block_same file (Some path) item parts =
       ap (λ b. if b then block_step ss ts file path item parts else Ok parts) (k.known path) ∙ ap (λ r. if is_known us path then r else Ok parts) (block_same file path item parts)
 
-  step_same : (file : ℕ) (path : Option (List ℕ)) (item : DriverItem) (parts : Parts) → item_step ss ts file path item parts ≡ item_step rs us file path item parts
+  step_same : (file : ℕ) (path : Option (List ℕ)) (item : DriverItem) (parts : DriverParts) → item_step ss ts file path item parts ≡ item_step rs us file path item parts
   step_same file path (printer b w) parts = refl
   step_same file path (transformation b w) parts = refl
   step_same file path (template n b name c text) parts = in_block_same file path (template n b name c text) parts

@@ -8,7 +8,7 @@ ghost use Rattle.side_conditions.specs.Sides.{IsMatch};
 use decl_checks::CheckFault;
 use elab_terms::Elaborated;
 use elab_walk::MatchAt;
-use match_cover::{Shape, cover};
+use match_cover::{ValueShape, cover};
 use row_texts::put_numbered;
 use side_conditions::{SideFault, check_sides};
 use std::alloc::{AllocError, Global};
@@ -92,7 +92,7 @@ fn are_matches(store: &Store, sig: &Signature, matches: &[MatchAt]) -> bool
 }
 
 // A shape: its constructor before its fields, `_` where it isn't known.
-fn put_shape(alloc: Global, text: &mut String, shape: &Shape) -> Result<(), AllocError> {
+fn put_shape(alloc: Global, text: &mut String, shape: &ValueShape) -> Result<(), AllocError> {
     match shape.con {
         Some(con) => put_numbered(alloc, text, " ", con)?,
         None => text.push_str(" _")?,

@@ -6,7 +6,7 @@ use Rattle.rule_rows.specs.Trees.{StepTree}
 use Rattle.evidence.specs.Stages.{TaskEquation, Gives, PartsClose}
 use Rattle.stages.specs.Carried.{all_tasks}
 use Rattle.stages.specs.declared.lifting.Derived.{Derived}
-use Rattle.stages.specs.declared.lifting.Parts.{Parts}
+use Rattle.stages.specs.declared.lifting.PartSteps.{PartSteps}
 use Rattle.stages.specs.Lifted.{ListsHaveSequents, IsDerived, AreDerived}
 
 -- the equation gives some tasks
@@ -39,7 +39,7 @@ pub record IsDerivedFirst (equation : TaskEquation) (s : List Tree) (t : TaskTre
   pub derived : IsDerived s t (take r.1 handed) r.0
 
 -- and so are tasks
-pub record AreDerivedFirst (equation : TaskEquation) (s : List Tree) (ts : List TaskTree) (handed : List (List StepTree)) (r : Parts × ℕ) : Type 0 where
+pub record AreDerivedFirst (equation : TaskEquation) (s : List Tree) (ts : List TaskTree) (handed : List (List StepTree)) (r : PartSteps × ℕ) : Type 0 where
   pub tasks : List TaskTree
   pub become : all_tasks equation ts ≡ Ok tasks
   pub count : r.1 ≡ length tasks

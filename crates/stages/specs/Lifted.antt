@@ -9,7 +9,7 @@ use Rattle.kernel.specs.Right.{Closes}
 use Rattle.evidence.specs.Stages.{PartsClose, PartsHeld, parts_at, part_or}
 use Rattle.stages.specs.declared.transformation.Transformation.{Transformation}
 use Rattle.stages.specs.declared.lifting.Derived.{Derived}
-use Rattle.stages.specs.declared.lifting.Parts.{Parts}
+use Rattle.stages.specs.declared.lifting.PartSteps.{PartSteps}
 use Rattle.stages.specs.Transformations.{equation_of}
 use Rattle.stages.specs.Carried.{carried_task}
 
@@ -42,7 +42,7 @@ pub record IsDerived (s : List Tree) (t : TaskTree) (handed : List (List StepTre
   pub sequents : HandedHasSequents (steps_at d.store d.steps) handed
 
 -- and so for tasks
-pub record AreDerived (s : List Tree) (ts : List TaskTree) (handed : List (List StepTree)) (p : Parts) : Type 0 where
+pub record AreDerived (s : List Tree) (ts : List TaskTree) (handed : List (List StepTree)) (p : PartSteps) : Type 0 where
   pub grows : Grows s p.store
   pub held : PartsHeld p.store p.lists.items
   pub close : PartsClose ts (parts_at p.store p.lists.items)

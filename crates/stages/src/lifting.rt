@@ -32,7 +32,7 @@ pub struct Derived {
 
 /// Lists of steps, one for each task, with the store that holds their trees.
 #[derive(Drop)]
-pub struct Parts {
+pub struct PartSteps {
     pub store: Store,
     pub lists: Vec<Seq<Step>>,
 }
@@ -171,7 +171,7 @@ fn lift_task(
         None => lift_last(alloc, store, stage, task, &to, rest),
         Some((next, others)) => {
             let (lifted, count) = lift_tasks(alloc, store, next, others, &to, rest)?;
-            let Parts { store, lists } = lifted;
+            let PartSteps { store, lists } = lifted;
             let derived = lift_one(alloc, store, stage, task, &to, &lists)?;
             Ok((derived, count))
         }
@@ -187,7 +187,7 @@ fn lift_tasks(
     later: &[Transformation],
     tasks: &[Task],
     rest: &[Seq<Step>],
-) -> Result<(Parts, usize), AllocError>
+) -> Result<(PartSteps, usize), AllocError>
     requires tasks { AreTasks store tasks.now }
     requires rest_held { PartsHeld store rest.now }
     requires refuted { AreRefutedFirst (carries (map equation_of (stage.now ∷ later.now)))
@@ -208,7 +208,7 @@ fn lift_tasks(
         store = grown;
         used += count;
     }
-    Ok((Parts { store, lists }, used))
+    Ok((PartSteps { store, lists }, used))
 }
 
 /// A derivation of a task, from refutations of the tasks that it becomes by stages, in order. For each step of a refutation it has

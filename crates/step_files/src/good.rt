@@ -25,7 +25,7 @@ use std::alloc::{AllocError, Global};
 use step_lines::{MadeThing, made_by_line};
 use tasks::{Index, Lookup, Task};
 use term_store::Store;
-use tree_lines::{Known, Names};
+use tree_lines::{EarlierLines, TableNames};
 use trees::{Parts, TermId};
 
 /// What lines are read with: a task with its index, a table with its names, and the height that no tree may pass.
@@ -34,7 +34,7 @@ pub(crate) struct Reader<'a> {
     pub task: &'a Task,
     pub index: &'a Index,
     pub table: &'a [NameEntry],
-    pub names: &'a Names,
+    pub names: &'a TableNames,
     pub tallest: Option<u64>,
 }
 
@@ -196,7 +196,7 @@ fn line_thing(
     ensures grows { Grows store.old store.new }
 {
     let words = split(alloc, line)?;
-    let known = Known {
+    let known = EarlierLines {
         task: x.task,
         table: x.table,
         names: x.names,

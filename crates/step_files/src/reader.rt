@@ -20,7 +20,7 @@ use rule_rows::Step;
 use std::alloc::{AllocError, Global};
 use tasks::{Index, Task};
 use term_store::Store;
-use tree_lines::Names;
+use tree_lines::TableNames;
 
 // The line after so many is wrong.
 fn wrong_after(count: usize) -> ReadFault
@@ -60,7 +60,7 @@ pub(crate) fn read_whole(
     ensures grows { Grows store.old store.new }
 {
     let index = Index::new(alloc, task)?;
-    let names = Names::new(alloc, table)?;
+    let names = TableNames::new(alloc, table)?;
     let all = lines(alloc, bytes)?;
     let mut read = Read {
         types: Vec::new(alloc),

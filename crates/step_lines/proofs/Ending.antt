@@ -14,7 +14,7 @@ use Rattle.rule_words.specs.declared.argument.Argument.{Argument}
 use Rattle.rule_words.specs.declared.argument.ArgumentKind.{ArgumentKind}
 use Rattle.rule_words.specs.Arguments.{ArgumentTree, argument_at, arguments_at}
 use Rattle.rule_words.specs.Forms.{KindsOf}
-use Rattle.tree_lines.specs.declared.known.Known.{Known}
+use Rattle.tree_lines.specs.declared.known.EarlierLines.{EarlierLines}
 use Rattle.tree_lines.specs.Words.{LineWord, texts, number, at_number, each}
 use Rattle.tree_lines.specs.Lines.{Earlier}
 use Rattle.tree_lines.specs.Made.{KnownHeld, earlier_at}
@@ -53,7 +53,7 @@ three_lists s all first own rest e =
     ap (arguments_at s) e ∙ map-append (argument_at s) first (own ++ rest) ∙ ap (λ l. arguments_at s first ++ l) (map-append (argument_at s) own rest)
 
 -- what was known says the same in a grown store
-module _ (s s' : List Tree) (g : Grows s s') (x : Known) (h : KnownHeld s x) where
+module _ (s s' : List Tree) (g : Grows s s') (x : EarlierLines) (h : KnownHeld s x) where
   pub arguments_same : (ks again : List ArgumentKind) (ws : List LineWord) → arguments (task_at s' x.task.now) x.table.now (earlier_at s' x) ks again ws ≡ arguments (task_at s x.task.now) x.table.now (earlier_at s x) ks again ws
   arguments_same ks again ws =
       ap (λ t. arguments t x.table.now (earlier_at s' x) ks again ws) (task_later s s' g x.task.now h.task) ∙ ap (λ r. arguments (task_at s x.task.now) x.table.now r ks again ws) (earlier_later s s' g x h)

@@ -17,11 +17,11 @@ use name_entries::NameOf;
 use rule_words::{Argument, ArgumentKind};
 use std::alloc::{AllocError, Global};
 use term_store::Store;
-use tree_lines::{Known, meaning_of, number_of_word, thing};
+use tree_lines::{EarlierLines, meaning_of, number_of_word, thing};
 use trees::TermId;
 
 // The symbol that a name stands for.
-fn symbol_named(x: &Known<'_>, word: &[u8]) -> Option<usize>
+fn symbol_named(x: &EarlierLines<'_>, word: &[u8]) -> Option<usize>
     requires { IsNamesOf x.now.names.now x.now.table.now }
     ensures { result ≡ option_and_then (λ e. symbol_number e.symbol)
         (entry_named x.now.table.now word.now) }
@@ -34,7 +34,12 @@ fn symbol_named(x: &Known<'_>, word: &[u8]) -> Option<usize>
 
 // The argument of a kind that a word writes.
 #[tactic(auto, unfolding(rule_words::specs::Arguments::argument_at, rule_words::specs::Arguments::ArgumentHeld), using(tree_lines::proofs::Growing::types_held))]
-fn word_argument(store: &Store, x: &Known<'_>, kind: ArgumentKind, word: &[u8]) -> Option<Argument>
+fn word_argument(
+    store: &Store,
+    x: &EarlierLines<'_>,
+    kind: ArgumentKind,
+    word: &[u8],
+) -> Option<Argument>
     requires { KnownHeld store.now x.now }
     ensures tree { option_map (argument_at store.now) result
         ≡ argument (task_at store.now x.now.task.now) x.now.table.now (earlier_at store.now x.now)
@@ -64,7 +69,7 @@ fn next_of<'a>(left: &'a [ArgumentKind], again: &'a [ArgumentKind]) -> &'a [Argu
 pub(crate) fn word_arguments(
     alloc: Global,
     store: &Store,
-    x: &Known<'_>,
+    x: &EarlierLines<'_>,
     kinds: &[ArgumentKind],
     again: &[ArgumentKind],
     words: &[&[u8]],
@@ -117,7 +122,7 @@ fn type_arguments(
 fn types_of_name(
     alloc: Global,
     store: &mut Store,
-    x: &Known<'_>,
+    x: &EarlierLines<'_>,
     word: &[u8],
 ) -> Result<Vec<Argument>, AllocError>
     requires { KnownHeld store.old x.now }
@@ -136,7 +141,7 @@ fn types_of_name(
 pub(crate) fn types_of_first(
     alloc: Global,
     store: &mut Store,
-    x: &Known<'_>,
+    x: &EarlierLines<'_>,
     kinds: &[ArgumentKind],
     words: &[&[u8]],
 ) -> Result<Vec<Argument>, AllocError>

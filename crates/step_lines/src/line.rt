@@ -13,14 +13,14 @@ use crate::thing::MadeThing;
 use crate::words::is;
 use std::alloc::{AllocError, Global};
 use term_store::Store;
-use tree_lines::{Known, line_expression, line_pattern, line_type};
+use tree_lines::{EarlierLines, line_expression, line_pattern, line_type};
 
 /// What a line makes, by its words; none where they make nothing, or a tree whose parts don't fit. Only want of memory
 /// refuses.
 pub fn made_by_line(
     alloc: Global,
     store: &mut Store,
-    x: &Known<'_>,
+    x: &EarlierLines<'_>,
     words: &[&[u8]],
 ) -> Result<Option<MadeThing>, AllocError>
     requires { KnownHeld store.old x.now }

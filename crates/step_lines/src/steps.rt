@@ -19,7 +19,7 @@ use rule_rows::{Rule, Step};
 use rule_words::{Argument, RuleName, kinds_of, name_of_word, rule_of};
 use std::alloc::{AllocError, Global};
 use term_store::Store;
-use tree_lines::{Known, things_at};
+use tree_lines::{EarlierLines, things_at};
 use trees::TermId;
 
 // Three lists of arguments as one.
@@ -39,7 +39,7 @@ fn join_arguments(
 fn all_arguments(
     alloc: Global,
     store: &mut Store,
-    x: &Known<'_>,
+    x: &EarlierLines<'_>,
     name: RuleName,
     words: &[&[u8]],
 ) -> Result<Option<Vec<Argument>>, AllocError>
@@ -66,7 +66,7 @@ fn all_arguments(
 fn rule_by_name(
     alloc: Global,
     store: &mut Store,
-    x: &Known<'_>,
+    x: &EarlierLines<'_>,
     name: RuleName,
     words: &[&[u8]],
 ) -> Result<Option<Rule>, AllocError>
@@ -87,7 +87,7 @@ fn rule_by_name(
 fn words_rule(
     alloc: Global,
     store: &mut Store,
-    x: &Known<'_>,
+    x: &EarlierLines<'_>,
     words: &[&[u8]],
 ) -> Result<Option<Rule>, AllocError>
     requires { KnownHeld store.old x.now }
@@ -110,7 +110,7 @@ fn words_rule(
 fn end_step(
     alloc: Global,
     store: &mut Store,
-    x: &Known<'_>,
+    x: &EarlierLines<'_>,
     sequent: Vec<TermId>,
     words: &[&[u8]],
 ) -> Result<Option<Step>, AllocError>
@@ -142,7 +142,7 @@ fn end_step(
 pub(crate) fn line_step(
     alloc: Global,
     store: &mut Store,
-    x: &Known<'_>,
+    x: &EarlierLines<'_>,
     words: &[&[u8]],
 ) -> Result<Option<Step>, AllocError>
     requires { KnownHeld store.old x.now }

@@ -16,7 +16,7 @@ use rule_rows::Step;
 use std::alloc::{AllocError, Global};
 use tasks::Task;
 use term_store::Store;
-use tree_lines::Names;
+use tree_lines::TableNames;
 
 // What a name stands for: `int` for the number 0, a type variable of the goal for a number after `!`, else a symbol.
 fn meaning_of(word: &str) -> NameOf {
@@ -105,7 +105,7 @@ fn put_lines(
     requires { TaskHeld store.old task.now }
 {
     let table = table_of(alloc, lines, "n ")?;
-    let names = Names::new(alloc, &table)?;
+    let names = TableNames::new(alloc, &table)?;
     let mut read = Read {
         types: Vec::new(alloc),
         patterns: Vec::new(alloc),

@@ -19,7 +19,7 @@ use std::alloc::{AllocError, Global};
 use step_lines::{MadeThing, made_by_line};
 use tasks::Task;
 use term_store::Store;
-use tree_lines::{Known, Names};
+use tree_lines::{EarlierLines, TableNames};
 
 // An argument of a rule: the letter of its kind, and its number or its tree.
 fn put_argument(
@@ -135,7 +135,7 @@ fn made_by(
     store: &mut Store,
     task: &Task,
     table: &[NameEntry],
-    names: &Names,
+    names: &TableNames,
     read: &Read,
     line: &[u8],
 ) -> Result<Option<MadeThing>, AllocError>
@@ -145,7 +145,7 @@ fn made_by(
     ensures grows { Grows store.old store.new }
     ensures held { IfOk result (λ o. IfSome o (ThingHeld store.new)) }
 {
-    let known = Known {
+    let known = EarlierLines {
         task,
         table,
         names,
@@ -165,7 +165,7 @@ pub(crate) fn put_line(
     store: &mut Store,
     task: &Task,
     table: &[NameEntry],
-    names: &Names,
+    names: &TableNames,
     read: &mut Read,
     line: &[u8],
 ) -> Result<(), AllocError>

@@ -23,7 +23,7 @@ use Rattle.goal_tasks.specs.Theories.{KnownTheoryTree, TheoriesTree}
 use Rattle.goal_tasks.specs.declared.theories.Theory.{Theory}
 use Rattle.tasks.specs.declared.signature.Signature.{Signature}
 use Rattle.goal_tasks.specs.Meaning.{placed, goal_at, theory_at, TheoryHeld}
-use Rattle.theory_states.specs.declared.states.Known.{Known}
+use Rattle.theory_states.specs.declared.states.KnownTheory.{KnownTheory}
 use Rattle.theory_states.specs.declared.states.Opened.{Opened}
 use Rattle.theory_states.specs.declared.states.Typed.{Typed}
 use Rattle.theory_states.specs.States.{KnownTree, OpenedTree, StateTree, at_places, known_as, opened_empty}
@@ -48,7 +48,7 @@ begun_right s t path n o e q held p h = record {
 }
 
 -- it ends
-module _ (s : List Tree) (t t' : Typed) (o : Opened) (k : Known) (e : t' ≡ record t { known = t.known ++ k ∷ [] }) (q : known_at s k ≡ known_as (opened_at s o)) where
+module _ (s : List Tree) (t t' : Typed) (o : Opened) (k : KnownTheory) (e : t' ≡ record t { known = t.known ++ k ∷ [] }) (q : known_at s k ≡ known_as (opened_at s o)) where
   known_more : (n : ℕ) → between_at s t' n ≡ record (between_at s t n) { known = map (known_at s) t.known ++ known_as (opened_at s o) ∷ [] }
   known_more n =
       ap (λ (x : Typed). between_at s x n) e
@@ -84,12 +84,12 @@ placed_are s ds (k ∷ ks) =
     one (e ∷ es) zero = refl
     one (e ∷ es) (suc j) = one es j
 
-theory_is : (s : List Tree) (ds : List Decl) (k : Known) → theory_at s ds k.theory ≡ record { path = k.theory.path; decls = at_places (declarations_at s ds) k.theory.visible; goals = map (goal_at s) k.theory.goals }
+theory_is : (s : List Tree) (ds : List Decl) (k : KnownTheory) → theory_at s ds k.theory ≡ record { path = k.theory.path; decls = at_places (declarations_at s ds) k.theory.visible; goals = map (goal_at s) k.theory.goals }
 theory_is s ds k = ap (λ (xs : List DeclarationTree). let it : KnownTheoryTree = record { path = k.theory.path; decls = xs; goals = map (goal_at s) k.theory.goals } in it) (placed_are s ds k.theory.visible)
 
-pub theories_are : (s : List Tree) (t : Typed) (n : ℕ) (ks : List Known) → map (theory_at s t.decls) (map (λ (k : Known). k.theory) ks) ≡ map (visible_theory (between_at s t n)) (map (known_at s) ks)
+pub theories_are : (s : List Tree) (t : Typed) (n : ℕ) (ks : List KnownTheory) → map (theory_at s t.decls) (map (λ (k : KnownTheory). k.theory) ks) ≡ map (visible_theory (between_at s t n)) (map (known_at s) ks)
 theories_are s t n [] = refl
-theories_are s t n (k ∷ ks) = ap (λ (x : KnownTheoryTree). x ∷ map (theory_at s t.decls) (map (λ (j : Known). j.theory) ks)) (theory_is s t.decls k) ∙ ap (λ (xs : List KnownTheoryTree). visible_theory (between_at s t n) (known_at s k) ∷ xs) (theories_are s t n ks)
+theories_are s t n (k ∷ ks) = ap (λ (x : KnownTheoryTree). x ∷ map (theory_at s t.decls) (map (λ (j : KnownTheory). j.theory) ks)) (theory_is s t.decls k) ∙ ap (λ (xs : List KnownTheoryTree). visible_theory (between_at s t n) (known_at s k) ∷ xs) (theories_are s t n ks)
 
 option_held : (s : List Tree) (o : Option TermId) → IfSome o (HoldsType s) → IfSome o (Holds s)
 option_held s None h = tt
@@ -98,7 +98,7 @@ option_held s (Some x) h = h.held
 pub symbols_held : (s : List Tree) (is : List SymbolInfo) → All (SymbolTyped s) is → All (SymbolHeld s) is
 symbols_held s is a = λ k d l. let one = a k d l in record { args = λ i x h. (one.args i x h).held; result = option_held s (get_or is k d).result one.result }
 
-pub theories_held : (s : List Tree) (ds : List Decl) (ks : List Known) → All (KnownTheoryHeld s (length ds)) ks → AllByRecursion (TheoryHeld s ds) (map (λ (k : Known). k.theory) ks)
+pub theories_held : (s : List Tree) (ds : List Decl) (ks : List KnownTheory) → All (KnownTheoryHeld s (length ds)) ks → AllByRecursion (TheoryHeld s ds) (map (λ (k : KnownTheory). k.theory) ks)
 theories_held s ds [] a = tt
 theories_held s ds (k ∷ ks) a = (let one = a 0 k (omega arith) in record { visible = one.visible; goals = one.goals }, theories_held s ds ks (λ i x h. a (suc i) x (omega arith)))
 
@@ -118,7 +118,7 @@ begin_is s t p q r =
     let mk : List SymbolTree → List DeclarationTree → List KnownTree → StateTree = λ a b k. record { trees = s; symbols = a; decls = b; known = k; opened = opened_empty []; number = 0 } in
     ap (λ (a : List SymbolTree). mk a (declarations_at s t.decls) (map (known_at s) t.known)) p
     ∙ ap (λ (ds : List Decl). mk (int_symbol ∷ []) (declarations_at s ds) (map (known_at s) t.known)) q
-    ∙ ap (λ (ks : List Known). mk (int_symbol ∷ []) [] (map (known_at s) ks)) r
+    ∙ ap (λ (ks : List KnownTheory). mk (int_symbol ∷ []) [] (map (known_at s) ks)) r
 
 pub int_placed : ArePlaced (int_symbol ∷ [])
 int_placed = All-push IsPlacedEntry [] int_symbol (All-nil IsPlacedEntry) (λ e. absurd (cc))
@@ -135,11 +135,11 @@ begin_right s t sig p q r = record {
 }
 
 -- ---- what is collected
-pub collected_is : (s : List Tree) (t : Typed) (g : Signature) (list : List Theory) (embedded n : ℕ) → g ≡ record { symbols = t.sig.symbols; ints = Some int_entries } → list ≡ map (λ (k : Known). k.theory) t.known
+pub collected_is : (s : List Tree) (t : Typed) (g : Signature) (list : List Theory) (embedded n : ℕ) → g ≡ record { symbols = t.sig.symbols; ints = Some int_entries } → list ≡ map (λ (k : KnownTheory). k.theory) t.known
     → (let it : TheoriesTree = record { symbols = symbols_at s g.symbols; ints = g.ints; embedded = embedded; list = map (theory_at s t.decls) list } in it) ≡ theories_of embedded (between_at s t n)
 collected_is s t g list embedded n p q =
     ap (λ (x : Signature). let it : TheoriesTree = record { symbols = symbols_at s x.symbols; ints = x.ints; embedded = embedded; list = map (theory_at s t.decls) list } in it) p
     ∙ ap (λ (ts : List KnownTheoryTree). let it : TheoriesTree = record { symbols = symbols_at s t.sig.symbols; ints = Some int_entries; embedded = embedded; list = ts } in it) (ap (map (theory_at s t.decls)) q ∙ theories_are s t n t.known)
 
-pub collected_held : (s : List Tree) (t : Typed) (list : List Theory) → list ≡ map (λ (k : Known). k.theory) t.known → TypedHeld s t → All (TheoryHeld s t.decls) list
-collected_held s t list q h = subst (All (TheoryHeld s t.decls)) (sym q) (All-from_recursion (TheoryHeld s t.decls) (map (λ (k : Known). k.theory) t.known) (theories_held s t.decls t.known h.known))
+pub collected_held : (s : List Tree) (t : Typed) (list : List Theory) → list ≡ map (λ (k : KnownTheory). k.theory) t.known → TypedHeld s t → All (TheoryHeld s t.decls) list
+collected_held s t list q h = subst (All (TheoryHeld s t.decls)) (sym q) (All-from_recursion (TheoryHeld s t.decls) (map (λ (k : KnownTheory). k.theory) t.known) (theories_held s t.decls t.known h.known))

@@ -7,7 +7,7 @@ ghost use Rattle.tasks.specs.Meaning.{symbols_at};
 ghost use Rattle.syntax_why.specs.SurfaceDeclarations.{theory_of as source_of, file_of};
 ghost use Rattle.goal_tasks.specs.Meaning.{theories_at, AllTheoriesHeld, AreTuples};
 ghost use Rattle.theory_states.specs.declared.fault.SourceFault.TheVariants.{Memory};
-ghost use Rattle.theory_states.specs.declared.states.Known.{Known as KnownCode};
+ghost use Rattle.theory_states.specs.declared.states.KnownTheory.{KnownTheory as KnownCode};
 ghost use Rattle.theory_states.specs.Meaning.{known_at, state_at};
 ghost use Rattle.theory_states.specs.Uses.{OrMemory};
 ghost use Rattle.theories.specs.Files.{IsTheoryBegun, IsEnded, IsTypedTheoryBy, IsTheoryFault, is_path_taken, IsNewTheoryBy, IsNewFault, AreTypedInBy, AreFaultyIn, AreEmbeddedInBy, AreEmbeddedFaultyIn, AreEmbeddedBy, AreEmbeddedFaulty, nothing_known, IsLibraryTypedBy, IsLibraryFault, theories_of, TheoriesOf, IsFirstSourceFault};
@@ -25,7 +25,7 @@ use std_theories::{drop_files, library_files};
 use syntax_why::{File, TheoryTree};
 use tasks::Signature;
 use term_store::Store;
-use theory_states::{Known, Opened, SourceFault, Typed};
+use theory_states::{KnownTheory, Opened, SourceFault, Typed};
 
 // A theory begins, whose header has this number.
 fn begin_theory(
@@ -78,7 +78,7 @@ fn end_theory(
         visible,
         goals,
     };
-    typed.known.push(Known {
+    typed.known.push(KnownTheory {
         theory,
         axioms,
         moves: Seq::from_vec(moves),
@@ -242,12 +242,12 @@ fn type_theories(
 }
 
 // The theories without the names that they pass on.
-fn theories_alone(alloc: Global, known: Vec<Known>) -> Result<Seq<Theory>, AllocError>
+fn theories_alone(alloc: Global, known: Vec<KnownTheory>) -> Result<Seq<Theory>, AllocError>
     ensures { IfOk result (λ list. list ≡ map (λ (k : KnownCode). k.theory) known.items) }
 {
     let mut list = Seq::new(alloc);
     for one in known {
-        let Known { theory, .. } = one;
+        let KnownTheory { theory, .. } = one;
         list.push(theory)?;
     }
     Ok(list)

@@ -9,7 +9,7 @@ use Rattle.elab_parts.proofs.Entering.{entries_stay, signature_grows}
 use Rattle.goal_tasks.specs.declared.theories.GoalAt.{GoalAt}
 use Rattle.goal_tasks.specs.Theories.{GoalTree}
 use Rattle.goal_tasks.specs.Meaning.{goal_at, GoalHeld}
-use Rattle.theory_states.specs.declared.states.Known.{Known}
+use Rattle.theory_states.specs.declared.states.KnownTheory.{KnownTheory}
 use Rattle.theory_states.specs.declared.states.Opened.{Opened}
 use Rattle.theory_states.specs.declared.states.Typed.{Typed}
 use Rattle.theory_states.specs.States.{KnownTree, OpenedTree, StateTree}
@@ -25,10 +25,10 @@ module _ (s s' : List Tree) (g : Grows s s') where
   goals_held : (xs : List GoalAt) → All (GoalHeld s) xs → All (GoalHeld s') xs
   goals_held xs a = λ k d h. held_later s s' g (get_or xs k d).prop (a k d h)
 
-  known_stays : (n : ℕ) (k : Known) → KnownTheoryHeld s n k → known_at s' k ≡ known_at s k
+  known_stays : (n : ℕ) (k : KnownTheory) → KnownTheoryHeld s n k → known_at s' k ≡ known_at s k
   known_stays n k h = ap (λ (gs : List GoalTree). let it : KnownTree = record { path = k.theory.path; visible = k.theory.visible; axioms = k.axioms; goals = gs; moves = k.moves } in it) (goals_stay k.theory.goals h.goals)
 
-  pub all_known_stay : (n : ℕ) (ks : List Known) → All (KnownTheoryHeld s n) ks → map (known_at s') ks ≡ map (known_at s) ks
+  pub all_known_stay : (n : ℕ) (ks : List KnownTheory) → All (KnownTheoryHeld s n) ks → map (known_at s') ks ≡ map (known_at s) ks
   all_known_stay n ks a = map_agree (known_at s') (known_at s) ks (λ k d h. known_stays n (get_or ks k d) (a k d h))
 
   opened_stays : (n : ℕ) (o : Opened) → OpenedHeld s n o → opened_at s' o ≡ opened_at s o

@@ -9,7 +9,7 @@ use Rattle.tasks.specs.Task.{DeclarationTree}
 use Rattle.tasks.specs.Meaning.{symbols_at, declaration_at, declarations_at, DeclHeld}
 use Rattle.goal_tasks.specs.Meaning.{GoalHeld}
 use Rattle.elab_parts.specs.Entries.{IsSignature}
-use Rattle.theory_states.specs.declared.states.Known.{Known}
+use Rattle.theory_states.specs.declared.states.KnownTheory.{KnownTheory}
 use Rattle.theory_states.specs.declared.states.Opened.{Opened}
 use Rattle.theory_states.specs.declared.states.Typed.{Typed}
 use Rattle.theory_states.specs.States.{StateTree, with_declaration, joined_places}
@@ -58,7 +58,7 @@ module _ (t : Typed) (o : Opened) (d : Decl) (ks : List ℕ) (below : All (λ (k
       ∙ ap (mk (declarations_at s t.decls ++ declaration_at s d ∷ [])) (r ∙ visible_pushed s)
 
 -- places of a theory before are joined, and names are brought in
-pub joined_held : (s : List Tree) (t : Typed) (o o1 o2 : Opened) (k : Known) (place : ℕ) → place < length t.known → k ≡ get_or t.known place k → o1 ≡ record o { visible = o1.visible } → o1.visible.keys ≡ joined_places o.visible.keys k.theory.visible → o2 ≡ record o1 { scope = o2.scope; moves = o2.moves } → StateHeld s t o → StateHeld s t o2
+pub joined_held : (s : List Tree) (t : Typed) (o o1 o2 : Opened) (k : KnownTheory) (place : ℕ) → place < length t.known → k ≡ get_or t.known place k → o1 ≡ record o { visible = o1.visible } → o1.visible.keys ≡ joined_places o.visible.keys k.theory.visible → o2 ≡ record o1 { scope = o2.scope; moves = o2.moves } → StateHeld s t o → StateHeld s t o2
 joined_held s t o o1 o2 k place l q e v f h =
     let one : KnownTheoryHeld s (length t.decls) k = subst (KnownTheoryHeld s (length t.decls)) (sym q) (h.typed.known place k l) in
     let keys : o2.visible.keys ≡ joined_places o.visible.keys k.theory.visible = ap (λ (x : Opened). x.visible.keys) f ∙ v in

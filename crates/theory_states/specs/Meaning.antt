@@ -4,12 +4,12 @@ use Rattle.trees.specs.Tree.{Tree}
 use Rattle.tasks.specs.Meaning.{symbols_at, declarations_at, DeclHeld}
 use Rattle.goal_tasks.specs.Meaning.{goal_at, GoalHeld}
 use Rattle.elab_parts.specs.Entries.{IsSignature}
-use Rattle.theory_states.specs.declared.states.Known.{Known}
+use Rattle.theory_states.specs.declared.states.KnownTheory.{KnownTheory}
 use Rattle.theory_states.specs.declared.states.Opened.{Opened}
 use Rattle.theory_states.specs.declared.states.Typed.{Typed}
 use Rattle.theory_states.specs.States.{KnownTree, OpenedTree, StateTree}
 
-abbrev pub known_at : List Tree → Known → KnownTree
+abbrev pub known_at : List Tree → KnownTheory → KnownTree
 known_at s k = record { path = k.theory.path; visible = k.theory.visible; axioms = k.axioms; goals = map (goal_at s) k.theory.goals; moves = k.moves }
 
 abbrev pub opened_at : List Tree → Opened → OpenedTree
@@ -19,7 +19,7 @@ abbrev pub state_at : List Tree → Typed → Opened → StateTree
 state_at s t o = record { trees = s; symbols = symbols_at s t.sig.symbols; decls = declarations_at s t.decls; known = map (known_at s) t.known; opened = opened_at s o; number = o.count }
 
 -- the numbers in a theory are held, over so many declarations
-pub record KnownTheoryHeld (s : List Tree) (count : ℕ) (k : Known) : Type 0 where
+pub record KnownTheoryHeld (s : List Tree) (count : ℕ) (k : KnownTheory) : Type 0 where
   pub visible : All (λ (p : ℕ). p < count) k.theory.visible
   pub goals : All (GoalHeld s) k.theory.goals
 

@@ -23,7 +23,7 @@ pub struct AxiomAt {
 
 /// A theory that is typed, with its axioms and the names that it passes on.
 #[derive(Drop)]
-pub struct Known {
+pub struct KnownTheory {
     pub theory: Theory,
     pub axioms: Seq<AxiomAt>,
     pub moves: Seq<Move>,
@@ -34,7 +34,7 @@ pub struct Known {
 pub struct Typed {
     pub sig: Signature,
     pub decls: Seq<Decl>,
-    pub known: Seq<Known>,
+    pub known: Seq<KnownTheory>,
 }
 
 /// The theory that is open.
@@ -54,7 +54,7 @@ pub struct Opened {
 }
 
 // Whether a theory has this path.
-fn has_path(known: &Known, path: &[u8]) -> bool
+fn has_path(known: &KnownTheory, path: &[u8]) -> bool
     ensures { (s : List Tree) → result ≡ known_has_path path.now (known_at s known.now) }
 {
     known.theory.path.as_slice() == path

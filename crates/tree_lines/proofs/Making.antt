@@ -14,7 +14,7 @@ use Rattle.tasks.specs.Task.{TaskTree}
 use Rattle.tasks.specs.Meaning.{trees_at, task_at}
 use Rattle.tasks.proofs.Growth.{all_held_later, trees_later, task_held_later, task_later}
 use Rattle.name_entries.specs.declared.names.NameEntry.{NameEntry}
-use Rattle.tree_lines.specs.declared.known.Known.{Known}
+use Rattle.tree_lines.specs.declared.known.EarlierLines.{EarlierLines}
 use Rattle.tree_lines.specs.Words.{LineWord, texts, number, at_number, each}
 use Rattle.tree_lines.specs.Named.{NameMeaning, meaning, named_type_at}
 use Rattle.tree_lines.specs.Lines.{Earlier, meaning_types, named_use, used_on, type_of_line}
@@ -98,7 +98,7 @@ pub slice_left : {A : Type 0} (c : ℕ) (ws : List A) → take (length ws - c) (
 slice_left c ws = take_all (length ws - c) (drop c ws) (omega (arith, length-drop c ws))
 
 -- what was known goes on to be
-module _ (s s' : List Tree) (g : Grows s s') (x : Known) (h : KnownHeld s x) where
+module _ (s s' : List Tree) (g : Grows s s') (x : EarlierLines) (h : KnownHeld s x) where
   pub known_later : KnownHeld s' x
   known_later = record {
     task = task_held_later s s' g x.task.now h.task;

@@ -11,9 +11,9 @@ use Rattle.trees.specs.Sorts.{WellSorted, sort_of}
 use Rattle.binders.specs.Visits.{HoldTypes}
 use Rattle.tasks.specs.Meaning.{trees_at, symbol_at, TaskHeld}
 use Rattle.name_entries.specs.declared.names.NameEntry.{NameEntry}
-use Rattle.tree_lines.specs.declared.names.Names.{Names}
+use Rattle.tree_lines.specs.declared.names.TableNames.{TableNames}
 use Rattle.tree_lines.specs.declared.names.Named.{Named}
-use Rattle.tree_lines.specs.declared.known.Known.{Known}
+use Rattle.tree_lines.specs.declared.known.EarlierLines.{EarlierLines}
 use Rattle.tree_lines.specs.declared.uses.Applied.{Applied}
 use Rattle.tree_lines.specs.Named.{NameMeaning, entry_named}
 use Rattle.tree_lines.specs.Lines.{Earlier, SymbolUse}
@@ -28,18 +28,18 @@ abbrev pub IsTypeHeld : List Tree → TermId → Type 0
 IsTypeHeld s id = Holds s id × (sort_of (tree_at s id) ≡ Kind)
 
 -- the places of the entries by their names
-abbrev pub IsNamesOf : Names → List NameEntry → Type 0
+abbrev pub IsNamesOf : TableNames → List NameEntry → Type 0
 IsNamesOf n table = (name : List ℕ) → option_and_then (slice_get table) (get_by (λ k. bytes_eq name k.items) n.places) ≡ entry_named table name
 
 -- what a name stands for
 abbrev pub named_meaning : List Tree → Named → NameMeaning
 named_meaning s n = record { symbol = n.symbol; types = trees_at s n.types.items }
 
-abbrev pub earlier_at : List Tree → Known → Earlier
+abbrev pub earlier_at : List Tree → EarlierLines → Earlier
 earlier_at s x = record { types = trees_at s x.types.now; patterns = trees_at s x.patterns.now; expressions = trees_at s x.expressions.now }
 
 -- what is known before a line is held
-pub record KnownHeld (s : List Tree) (x : Known) : Type 0 where
+pub record KnownHeld (s : List Tree) (x : EarlierLines) : Type 0 where
   pub task : TaskHeld s x.task.now
   pub names : IsNamesOf x.names.now x.table.now
   pub types : HoldTypes s x.types.now

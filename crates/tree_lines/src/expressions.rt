@@ -13,7 +13,7 @@ ghost use Rattle.tree_lines.specs.Made.{IsTreeMade, KnownHeld, branch_at, earlie
 
 use crate::forms::{if_node, integer_node, lone_node, one_node, two_node, variable_node};
 use crate::kinds::{NodeWord, find_expression_word};
-use crate::known::{Known, pairs_at, thing};
+use crate::known::{EarlierLines, pairs_at, thing};
 use crate::nodes::{add_node, tree_of};
 use crate::uses::{tree_of_use, use_of_words};
 use std::alloc::{AllocError, Global};
@@ -83,7 +83,7 @@ fn case_of_branches(
 fn match_of_words(
     alloc: Global,
     store: &mut Store,
-    x: &Known<'_>,
+    x: &EarlierLines<'_>,
     words: &[&[u8]],
 ) -> Result<Option<TermId>, AllocError>
     requires { KnownHeld store.old x.now }
@@ -108,7 +108,7 @@ fn match_of_words(
 fn expression_of_symbol(
     alloc: Global,
     store: &mut Store,
-    x: &Known<'_>,
+    x: &EarlierLines<'_>,
     words: &[&[u8]],
 ) -> Result<Option<TermId>, AllocError>
     requires { KnownHeld store.old x.now }
@@ -124,7 +124,7 @@ fn expression_of_symbol(
 }
 
 // The node of a word other than `sym` and `match`.
-fn plain_node(store: &Store, x: &Known<'_>, word: NodeWord, words: &[&[u8]]) -> Option<Node>
+fn plain_node(store: &Store, x: &EarlierLines<'_>, word: NodeWord, words: &[&[u8]]) -> Option<Node>
     requires { KnownHeld store.now x.now }
     ensures tree { option_map (node_tree store.now) result
         ≡ plain_by (task_at store.now x.now.task.now) x.now.table.now (earlier_at store.now x.now)
@@ -148,7 +148,7 @@ fn plain_node(store: &Store, x: &Known<'_>, word: NodeWord, words: &[&[u8]]) -> 
 // The term or formula of a word other than `sym` and `match`.
 fn plain_expression(
     store: &mut Store,
-    x: &Known<'_>,
+    x: &EarlierLines<'_>,
     word: NodeWord,
     words: &[&[u8]],
 ) -> Result<Option<TermId>, AllocError>
@@ -166,7 +166,7 @@ fn plain_expression(
 fn expression_of_word(
     alloc: Global,
     store: &mut Store,
-    x: &Known<'_>,
+    x: &EarlierLines<'_>,
     word: NodeWord,
     words: &[&[u8]],
 ) -> Result<Option<TermId>, AllocError>
@@ -188,7 +188,7 @@ fn expression_of_word(
 pub fn line_expression(
     alloc: Global,
     store: &mut Store,
-    x: &Known<'_>,
+    x: &EarlierLines<'_>,
     words: &[&[u8]],
 ) -> Result<Option<TermId>, AllocError>
     requires { KnownHeld store.old x.now }

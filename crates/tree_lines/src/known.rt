@@ -6,7 +6,7 @@ ghost use Rattle.trees.specs.Node.{tree_at, Holds};
 ghost use Rattle.tasks.specs.Meaning.{trees_at};
 ghost use Rattle.tree_lines.specs.Words.{at_number, each, pairs, texts};
 
-use crate::names::Names;
+use crate::names::TableNames;
 use crate::words::number_of_word;
 use name_entries::NameEntry;
 use std::alloc::{AllocError, Global};
@@ -17,10 +17,10 @@ use trees::TermId;
 /// What is known before a line: the task, the table with its names, and what the lines so far have made, each kind counted
 /// from 0.
 #[derive(Clone, Copy)]
-pub struct Known<'a> {
+pub struct EarlierLines<'a> {
     pub task: &'a Task,
     pub table: &'a [NameEntry],
-    pub names: &'a Names,
+    pub names: &'a TableNames,
     pub types: &'a [TermId],
     pub patterns: &'a [TermId],
     pub expressions: &'a [TermId],

@@ -14,8 +14,8 @@ mod uses;
 mod words;
 
 pub use expressions::line_expression;
-pub use known::{Known, thing, things_at};
-pub use names::{Named, Names, meaning_of};
+pub use known::{EarlierLines, thing, things_at};
+pub use names::{Named, TableNames, meaning_of};
 pub use nodes::type_list;
 pub use patterns::{line_pattern, line_type};
 pub use words::number_of_word;

@@ -26,13 +26,13 @@ pub struct Named {
 
 /// The names of a table: the place of the first entry with each name.
 #[derive(Drop)]
-pub struct Names {
+pub struct TableNames {
     pub places: HashMap<Vec<u8>, usize>,
 }
 
-impl Names {
+impl TableNames {
     /// The names of a table. Only want of memory refuses.
-    pub fn new(alloc: Global, table: &[NameEntry]) -> Result<Names, AllocError>
+    pub fn new(alloc: Global, table: &[NameEntry]) -> Result<TableNames, AllocError>
         ensures { IfOk result (λ n. IsNamesOf n table.now) }
     {
         let mut places = HashMap::new(alloc);
@@ -42,7 +42,7 @@ impl Names {
             let name = Vec::from_slice(alloc, table[i].name.as_slice())?;
             places.insert(name, i)?;
         }
-        Ok(Names { places })
+        Ok(TableNames { places })
     }
 
     /// The first entry with a name.
@@ -171,7 +171,7 @@ fn types_of_entries(
 pub fn meaning_of(
     alloc: Global,
     store: &mut Store,
-    names: &Names,
+    names: &TableNames,
     table: &[NameEntry],
     name: &[u8],
 ) -> Result<Option<Named>, AllocError>

@@ -11,7 +11,7 @@ ghost use Rattle.tree_lines.specs.Made.{IsTreeMade, IsTypeHeld, KnownHeld, earli
 
 use crate::forms::one_node;
 use crate::kinds::{NodeWord, find_pattern_word};
-use crate::known::Known;
+use crate::known::EarlierLines;
 use crate::names::{meaning_of, type_of_symbol};
 use crate::nodes::tree_of;
 use crate::uses::{all_types, pattern_of_use, use_of_words};
@@ -23,7 +23,7 @@ use trees::TermId;
 pub fn line_type(
     alloc: Global,
     store: &mut Store,
-    x: &Known<'_>,
+    x: &EarlierLines<'_>,
     words: &[&[u8]],
 ) -> Result<Option<TermId>, AllocError>
     requires { KnownHeld store.old x.now }
@@ -50,7 +50,7 @@ pub fn line_type(
 fn pattern_of_symbol(
     alloc: Global,
     store: &mut Store,
-    x: &Known<'_>,
+    x: &EarlierLines<'_>,
     words: &[&[u8]],
 ) -> Result<Option<TermId>, AllocError>
     requires { KnownHeld store.old x.now }
@@ -85,7 +85,7 @@ fn pattern_of_one(
 fn pattern_of_word(
     alloc: Global,
     store: &mut Store,
-    x: &Known<'_>,
+    x: &EarlierLines<'_>,
     word: NodeWord,
     words: &[&[u8]],
 ) -> Result<Option<TermId>, AllocError>
@@ -107,7 +107,7 @@ fn pattern_of_word(
 pub fn line_pattern(
     alloc: Global,
     store: &mut Store,
-    x: &Known<'_>,
+    x: &EarlierLines<'_>,
     words: &[&[u8]],
 ) -> Result<Option<TermId>, AllocError>
     requires { KnownHeld store.old x.now }

@@ -11,7 +11,7 @@ ghost use Rattle.tree_lines.specs.Named.{cells};
 ghost use Rattle.tree_lines.specs.Lines.{meaning_types, use_of, named_use, used_on, use_trees, term_of, application_tree, constructor_pattern_tree};
 ghost use Rattle.tree_lines.specs.Made.{IsTreeMade, KnownHeld, UseHeld, AreTrees, earlier_at, named_meaning, use_at};
 
-use crate::known::{Known, things_at};
+use crate::known::{EarlierLines, things_at};
 use crate::names::{Named, meaning_of};
 use crate::nodes::{add_node, cell_list, type_list};
 use binders::inst_types;
@@ -34,7 +34,7 @@ pub(crate) struct Applied<'a> {
 pub(crate) fn all_types(
     alloc: Global,
     store: &Store,
-    x: &Known<'_>,
+    x: &EarlierLines<'_>,
     named: Named,
     words: &[&[u8]],
 ) -> Result<Option<Vec<TermId>>, AllocError>
@@ -58,7 +58,7 @@ pub(crate) fn all_types(
 fn use_of_symbol<'a>(
     alloc: Global,
     store: &Store,
-    x: &Known<'_>,
+    x: &EarlierLines<'_>,
     parts: &[TermId],
     named: Named,
     words: &[&[u8]],
@@ -91,7 +91,7 @@ fn use_of_symbol<'a>(
 }
 
 // The entry of a symbol.
-fn symbol_entry<'a>(store: &Store, x: &Known<'a>, symbol: usize) -> Option<&'a SymbolInfo>
+fn symbol_entry<'a>(store: &Store, x: &EarlierLines<'a>, symbol: usize) -> Option<&'a SymbolInfo>
     requires { KnownHeld store.now x.now }
     ensures tree { option_map (λ i. symbol_at store.now i.now) result
         ≡ slice_get (task_at store.now x.now.task.now).symbols symbol }
@@ -105,7 +105,7 @@ fn symbol_entry<'a>(store: &Store, x: &Known<'a>, symbol: usize) -> Option<&'a S
 fn use_of_meaning<'a>(
     alloc: Global,
     store: &Store,
-    x: &Known<'a>,
+    x: &EarlierLines<'a>,
     parts: &[TermId],
     words: &[&[u8]],
     named: Named,
@@ -132,7 +132,7 @@ fn use_of_meaning<'a>(
 pub(crate) fn use_of_words<'a>(
     alloc: Global,
     store: &mut Store,
-    x: &Known<'a>,
+    x: &EarlierLines<'a>,
     parts: &[TermId],
     words: &[&[u8]],
 ) -> Result<Option<Applied<'a>>, AllocError>

@@ -15,4 +15,4 @@ mod writer;
 
 pub use referring::{find_line, line_number, push_numbers};
 pub use spelling::{Spelling, SymbolNames};
-pub use writer::{LineKind, Written, push_line, written_trees};
+pub use writer::{LineKind, WrittenLines, push_line, written_trees};

@@ -13,7 +13,7 @@ use name_entries::{NameEntry, NameOf};
 use std::alloc::{AllocError, Global};
 use std::collections::HashMap;
 use term_store::{Grow, Store};
-use tree_lines::{Names, meaning_of, type_list};
+use tree_lines::{TableNames, meaning_of, type_list};
 use trees::{Node, TermId};
 
 /// A name of a symbol, and whether the symbol is whole under it.
@@ -45,7 +45,7 @@ fn lookup_key(symbol: NameOf, list: TermId) -> (usize, usize, usize)
 fn add_name(
     alloc: Global,
     store: &mut Store,
-    names: &Names,
+    names: &TableNames,
     table: &[NameEntry],
     places: &mut HashMap<(usize, usize, usize), usize>,
     place: usize,
@@ -69,7 +69,7 @@ impl SymbolNames {
     pub fn new(
         alloc: Global,
         store: &mut Store,
-        names: &Names,
+        names: &TableNames,
         table: &[NameEntry],
     ) -> Result<SymbolNames, AllocError>
         requires { IsNamesOf names.now table.now }

@@ -31,7 +31,7 @@ pub enum LineKind {
 
 /// The text of the lines of trees, and the number of each tree's line by its number in the store.
 #[derive(Drop)]
-pub struct Written {
+pub struct WrittenLines {
     pub text: Vec<u8>,
     pub numbers: Vec<Option<usize>>,
 }
@@ -279,7 +279,7 @@ pub fn written_trees(
     names: &SymbolNames,
     table: &[NameEntry],
     roots: &[TermId],
-) -> Result<Option<Written>, AllocError>
+) -> Result<Option<WrittenLines>, AllocError>
     requires names { AreNamesOf store.now table.now names.now }
     requires held { All (Holds store.now) roots.now }
     ensures written { IfOk result (λ o. IfSome o (λ w. IsWritten store.now table.now
@@ -306,7 +306,7 @@ pub fn written_trees(
                 patterns: _,
                 expressions: _,
             } = w;
-            Ok(Some(Written { text, numbers }))
+            Ok(Some(WrittenLines { text, numbers }))
         }
         None => Ok(None),
     }

@@ -7,7 +7,7 @@ use crate::names::{MEMORY, table};
 use std::alloc::Global;
 use std::process::Abort;
 use term_store::{Grow, Store};
-use tree_lines::Names;
+use tree_lines::TableNames;
 use tree_writing::{SymbolNames, find_line, push_line, push_numbers, written_trees};
 use trees::{Node, Op, TermId};
 
@@ -114,7 +114,7 @@ fn held_of(rt: &impl Abort, alloc: Global, store: &Store, ids: &[TermId]) -> Vec
 fn each_is_written(rt: &impl Abort, alloc: Global, rows: &[(&[TermId], usize, &str)]) {
     let mut store = filled_store(rt, alloc);
     let table = table(rt, alloc);
-    let names = Names::new(alloc, &table).expect(rt, MEMORY);
+    let names = TableNames::new(alloc, &table).expect(rt, MEMORY);
     let symbols = SymbolNames::new(alloc, &mut store, &names, &table).expect(rt, MEMORY);
     for (ids, number, text) in rows {
         let roots = held_of(rt, alloc, &store, ids);
@@ -139,7 +139,7 @@ fn lines_are_written(rt: HostRuntime) {
 fn each_lacks_a_name(rt: &impl Abort, alloc: Global, rows: &[&[TermId]]) {
     let mut store = filled_store(rt, alloc);
     let table = table(rt, alloc);
-    let names = Names::new(alloc, &table).expect(rt, MEMORY);
+    let names = TableNames::new(alloc, &table).expect(rt, MEMORY);
     let symbols = SymbolNames::new(alloc, &mut store, &names, &table).expect(rt, MEMORY);
     for ids in rows {
         let roots = held_of(rt, alloc, &store, ids);

@@ -6,7 +6,7 @@ use outside::{Seq, Text};
 use std::alloc::Global;
 use std::process::Abort;
 use term_store::{Grow, Store};
-use tree_lines::Names;
+use tree_lines::TableNames;
 use tree_writing::SymbolNames;
 use trees::{Node, TermId};
 
@@ -90,7 +90,7 @@ pub(crate) fn table(rt: &impl Abort, alloc: Global) -> Vec<NameEntry> {
 fn each_is_found(rt: &impl Abort, alloc: Global, rows: &[(NameOf, usize, &str, bool)]) {
     let mut store = filled_store(rt, alloc);
     let table = table(rt, alloc);
-    let names = Names::new(alloc, &table).expect(rt, MEMORY);
+    let names = TableNames::new(alloc, &table).expect(rt, MEMORY);
     let symbols = SymbolNames::new(alloc, &mut store, &names, &table).expect(rt, MEMORY);
     for (symbol, list, name, whole) in rows {
         let list = TermId(*list);
@@ -106,7 +106,7 @@ fn each_is_found(rt: &impl Abort, alloc: Global, rows: &[(NameOf, usize, &str, b
 fn each_is_missing(rt: &impl Abort, alloc: Global, rows: &[(NameOf, usize)]) {
     let mut store = filled_store(rt, alloc);
     let table = table(rt, alloc);
-    let names = Names::new(alloc, &table).expect(rt, MEMORY);
+    let names = TableNames::new(alloc, &table).expect(rt, MEMORY);
     let symbols = SymbolNames::new(alloc, &mut store, &names, &table).expect(rt, MEMORY);
     for (symbol, list) in rows {
         let list = TermId(*list);

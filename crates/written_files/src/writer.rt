@@ -23,8 +23,8 @@ use rule_rows::Step;
 use std::alloc::{AllocError, Global};
 use tasks::Task;
 use term_store::Store;
-use tree_lines::Names;
-use tree_writing::{SymbolNames, Written, push_line, written_trees};
+use tree_lines::TableNames;
+use tree_writing::{SymbolNames, WrittenLines, push_line, written_trees};
 
 // Appends the lines of steps.
 fn push_steps(
@@ -67,7 +67,7 @@ fn steps_text(
     let Some(written) = written_trees(alloc, store, names, table, &roots)? else {
         return Ok(None);
     };
-    let Written { text, numbers } = written;
+    let WrittenLines { text, numbers } = written;
     let mut text = text;
     let x = Lines {
         store,
@@ -100,7 +100,7 @@ pub fn written_steps(
     if !are_words(table) {
         return Ok(None);
     }
-    let index = Names::new(alloc, table)?;
+    let index = TableNames::new(alloc, table)?;
     let names = SymbolNames::new(alloc, store, &index, table)?;
     if !name_symbols(store, &names, table, steps) {
         return Ok(None);

@@ -8,7 +8,7 @@ use Rattle.syntax_why.specs.SurfaceDeclarations.{element_of}
 use Rattle.elab_parts.specs.Entries.{AreScopes}
 use Rattle.elab_parts.proofs.Solving.{if_err}
 use Rattle.valid_tasks.proofs.Settings.{scopes_of}
-use Rattle.theory_states.specs.declared.states.Known.{Known}
+use Rattle.theory_states.specs.declared.states.KnownTheory.{KnownTheory}
 use Rattle.theory_states.specs.States.{KnownTree}
 use Rattle.theory_states.specs.Meaning.{known_at, state_at}
 use Rattle.theory_states.specs.Uses.{OrMemory}
@@ -41,7 +41,7 @@ copy_theory-requires c =
     let t = c.args.typed.now in
     let k = c.args.theory in
     let known = c.index-as_slice-theory.result in
-    let got : known ≡ get_or t.known k known = c.index-as_slice-theory.is ∙ ap (λ (ks : List Known). get_or ks k known) c.as_slice.ensures in
+    let got : known ≡ get_or t.known k known = c.index-as_slice-theory.is ∙ ap (λ (ks : List KnownTheory). get_or ks k known) c.as_slice.ensures in
     let there : known_theory_at s t k ≡ known_at s known = theory_is s t k known c.requires.there got in
     let is_own : IsOwnOf (declarations_at s t.decls) (known_theory_at s t k) c.in_ok-own.own =
     subst (λ (ds : List Decl). IsOwnOf (declarations_at s ds) (known_theory_at s t k) c.in_ok-own.own) c.as_slice-2.ensures (subst (λ (z : KnownTree). IsOwnOf (declarations_at s c.as_slice-2.result.now) z c.in_ok-own.own) (sym there) (c.in_ok-own.ensures s)) in
@@ -56,7 +56,7 @@ returns-clause-ok c =
     let t = c.args.typed.now in
     let k = c.args.theory in
     let known = c.index-as_slice-theory.result in
-    let got : known ≡ get_or t.known k known = c.index-as_slice-theory.is ∙ ap (λ (ks : List Known). get_or ks k known) c.as_slice.ensures in
+    let got : known ≡ get_or t.known k known = c.index-as_slice-theory.is ∙ ap (λ (ks : List KnownTheory). get_or ks k known) c.as_slice.ensures in
     let there : known_theory_at s t k ≡ known_at s known = theory_is s t k known c.requires.there got in
     let is_own : IsOwnOf (declarations_at s t.decls) (known_theory_at s t k) c.in_ok-own.own =
     subst (λ (ds : List Decl). IsOwnOf (declarations_at s ds) (known_theory_at s t k) c.in_ok-own.own) c.as_slice-2.ensures (subst (λ (z : KnownTree). IsOwnOf (declarations_at s c.as_slice-2.result.now) z c.in_ok-own.own) (sym there) (c.in_ok-own.ensures s)) in
@@ -73,7 +73,7 @@ returns-in_err-plan-clause-err c =
     let t = c.args.typed.now in
     let k = c.args.theory in
     let known = c.index-as_slice-theory.result in
-    let got : known ≡ get_or t.known k known = c.index-as_slice-theory.is ∙ ap (λ (ks : List Known). get_or ks k known) c.as_slice.ensures in
+    let got : known ≡ get_or t.known k known = c.index-as_slice-theory.is ∙ ap (λ (ks : List KnownTheory). get_or ks k known) c.as_slice.ensures in
     let there : known_theory_at s t k ≡ known_at s known = theory_is s t k known c.requires.there got in
     let is_own : IsOwnOf (declarations_at s t.decls) (known_theory_at s t k) c.in_ok-own.own =
     subst (λ (ds : List Decl). IsOwnOf (declarations_at s ds) (known_theory_at s t k) c.in_ok-own.own) c.as_slice-2.ensures (subst (λ (z : KnownTree). IsOwnOf (declarations_at s c.as_slice-2.result.now) z c.in_ok-own.own) (sym there) (c.in_ok-own.ensures s)) in

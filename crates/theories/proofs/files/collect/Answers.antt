@@ -3,7 +3,7 @@ use Rattle.trees.specs.declared.ints.Ints.{Ints}
 use Rattle.tasks.specs.declared.signature.Signature.{Signature}
 use Rattle.tasks.specs.Meaning.{symbols_at, SymbolHeld}
 use Rattle.goal_tasks.specs.Meaning.{AreTuples}
-use Rattle.theory_states.specs.declared.states.Known.{Known}
+use Rattle.theory_states.specs.declared.states.KnownTheory.{KnownTheory}
 use Rattle.theories.specs.Ints.{int_entries}
 use Rattle.theories.proofs.Ending.{collected_is, collected_held, symbols_held}
 use Rattle.theories.proofs.Passed.{no_value, is_memory}
@@ -13,7 +13,7 @@ pub returns-clause-ok : goal.returns-clause-ok
 returns-clause-ok c = λ n.
     let t = c.args.typed in
     let v : c.in_ok-new.field-0.value ≡ record { symbols = t.sig.symbols; ints = Some int_entries } = c.in_ok-new.ensures.ok ∙ ap (λ (i : Ints). let it : Signature = record { symbols = t.sig.symbols; ints = Some i } in it) c.int_entries.ensures in
-    let q : c.in_ok-list.list ≡ map (λ (k : Known). k.theory) t.known = c.in_ok-list.ensures ∙ ap (map (λ (k : Known). k.theory)) c.into_vec.ensures in
+    let q : c.in_ok-list.list ≡ map (λ (k : KnownTheory). k.theory) t.known = c.in_ok-list.ensures ∙ ap (map (λ (k : KnownTheory). k.theory)) c.into_vec.ensures in
     collected_is c.args.store.now t c.in_ok-new.field-0.value c.in_ok-list.list c.args.embedded n v q
 
 pub returns-clause-held : goal.returns-clause-held
@@ -21,7 +21,7 @@ returns-clause-held c =
     let s = c.args.store.now in
     let t = c.args.typed in
     let v : c.in_ok-new.field-0.value ≡ record { symbols = t.sig.symbols; ints = Some int_entries } = c.in_ok-new.ensures.ok ∙ ap (λ (i : Ints). let it : Signature = record { symbols = t.sig.symbols; ints = Some i } in it) c.int_entries.ensures in
-    let q : c.in_ok-list.list ≡ map (λ (k : Known). k.theory) t.known = c.in_ok-list.ensures ∙ ap (map (λ (k : Known). k.theory)) c.into_vec.ensures in
+    let q : c.in_ok-list.list ≡ map (λ (k : KnownTheory). k.theory) t.known = c.in_ok-list.ensures ∙ ap (map (λ (k : KnownTheory). k.theory)) c.into_vec.ensures in
     record {
       symbols = subst (λ (g : Signature). All (SymbolHeld s) g.symbols) (sym v) (symbols_held s t.sig.symbols c.requires.held.signature.typed);
       decls = c.requires.held.decls;

@@ -2,7 +2,7 @@ use Rattle.std.proofs.Common.{◌≡◌, ℕ, List, Option, sym, ap, subst, ◌�
 use Rattle.std.specs.Prelude.{IfSome, IfNone, flat_map}
 use Rattle.tasks.specs.Meaning.{trees_at}
 use Rattle.rule_rows.specs.Meaning.{steps_at}
-use Rattle.tree_writing.specs.declared.writer.Written.{Written}
+use Rattle.tree_writing.specs.declared.writer.WrittenLines.{WrittenLines}
 use Rattle.tree_writing.specs.Whole.{IsWritten, HaveLines, LacksName}
 use Rattle.written_files.specs.declared.words.Lines.{Lines}
 use Rattle.written_files.specs.Named.{step_trees}
@@ -14,7 +14,7 @@ returns-in_default-clause-none c =
     let s = c.args.store.now in
     let roots = trees_at s c.deref.result.now in
     let are : roots ≡ flat_map step_trees (steps_at s c.args.steps.now) = ap (trees_at s) c.deref.ensures.value ∙ c.in_ok-roots.ensures.trees in
-    let lacks = subst (λ (o : Option Written). IfNone o (LacksName c.args.table.now roots)) c.in_default.is c.in_ok-written.ensures.none in
+    let lacks = subst (λ (o : Option WrittenLines). IfNone o (LacksName c.args.table.now roots)) c.in_default.is c.in_ok-written.ensures.none in
     no_name c.args.table.now (steps_at s c.args.steps.now) roots are lacks
 
 pub push_steps-requires-clause-ready : goal.push_steps-requires-clause-ready
@@ -23,7 +23,7 @@ push_steps-requires-clause-ready c =
     let x : Lines = record { store = c.args.store; table = c.args.table; names = c.args.names; numbers = c.deref-2.result } in
     let roots = trees_at s c.deref.result.now in
     let are : roots ≡ flat_map step_trees (steps_at s c.args.steps.now) = ap (trees_at s) c.deref.ensures.value ∙ c.in_ok-roots.ensures.trees in
-    let some = subst (λ (o : Option Written). IfSome o (λ w. HaveLines s w.numbers.items roots)) c.in-Some.is c.in_ok-written.ensures.lines in
+    let some = subst (λ (o : Option WrittenLines). IfSome o (λ w. HaveLines s w.numbers.items roots)) c.in-Some.is c.in_ok-written.ensures.lines in
     let lines = subst (λ (l : List (Option ℕ)). HaveLines s l roots) (sym c.deref-2.ensures.value) some in
     steps_ready x (steps_at s c.args.steps.now) roots are c.requires.names lines c.requires.sorted c.requires.symbols
 
@@ -34,6 +34,6 @@ returns-clause-some c =
     let roots = trees_at s c.deref.result.now in
     let are : roots ≡ flat_map step_trees (steps_at s c.args.steps.now) = ap (trees_at s) c.deref.ensures.value ∙ c.in_ok-roots.ensures.trees in
     let start = c.in-Some.written.text.items in
-    let some = subst (λ (o : Option Written). IfSome o (λ w. IsWritten s c.args.table.now roots w.text.items w.numbers.items)) c.in-Some.is c.in_ok-written.ensures.written in
+    let some = subst (λ (o : Option WrittenLines). IfSome o (λ w. IsWritten s c.args.table.now roots w.text.items w.numbers.items)) c.in-Some.is c.in_ok-written.ensures.written in
     let written = subst (λ (l : List (Option ℕ)). IsWritten s c.args.table.now roots start l) (sym c.deref-2.ensures.value) some in
     finished x c.args.steps.now roots start c.push_steps.new.text.items are written c.requires.words c.in_ok-push_steps.ensures

@@ -3,7 +3,7 @@ use Rattle.std.specs.Option.{option_and_then}
 use Rattle.std.specs.HashMap.{get_by}
 use Rattle.std.specs.Str.{bytes_eq}
 use Rattle.tree_lines.specs.Named.{entry_named}
-use Rattle.tree_lines.proofs.names.Names.new.Given as goal
+use Rattle.tree_lines.proofs.names.TableNames.new.Given as goal
 
 abbrev pub invariant-loop-i : goal.invariant-loop-i
 invariant-loop-i l = record {
