@@ -1,4 +1,3 @@
 pub mod Bare
 pub mod Moved
 pub mod Longer
-mod Passed

@@ -17,11 +17,6 @@ module _ {X : Type 0} where
   pub cons_tells : (r : Bool) (a b : X) (as_ bs : List X) → a ≡ b → IsTrue r ↔ (as_ ≡ bs) → IsTrue r ↔ (a ∷ as_ ≡ b ∷ bs)
   cons_tells r a b as_ bs p h = (λ t. cons_same a b as_ bs p (h.0 t), λ q. h.1 (cons_rest a b as_ bs q))
 
--- what is known is known after Ok
-pub always : {T E P : Type 0} (r : Result T E) → P → OnOk r P
-always (Ok x) p = p
-always (Err e) p = tt
-
 pub on_both : {T E P Q R : Type 0} (r : Result T E) → (P → Q → R) → OnOk r P → OnOk r Q → OnOk r R
 on_both (Ok x) f p q = f p q
 on_both (Err e) f p q = tt
@@ -30,12 +25,3 @@ on_both (Err e) f p q = tt
 pub err_passed : {T E : Type 0} (P : E → Type 0) (r : Result T E) (g : E) → IsErrAnd r (λ (e : E). e ≡ g) → P g → IfErr r P
 err_passed P (Ok v) g h p = tt
 err_passed P (Err e) g h p = subst P (sym h) p
-
--- what is said of a value doesn't matter after a fault
-pub no_ok : {T E : Type 0} (P : Type 0) (Q : E → Type 0) (r : Result T E) → IsErrAnd r Q → OnOk r P
-no_ok P Q (Ok v) h = absurd h
-no_ok P Q (Err e) h = tt
-
-pub no_value : {T E : Type 0} (P : T → Type 0) (Q : E → Type 0) (r : Result T E) → IsErrAnd r Q → IfOk r P
-no_value P Q (Ok v) h = absurd h
-no_value P Q (Err e) h = tt

@@ -17,11 +17,6 @@ got_some f [] k x z h = absurd (cc)
 got_some f (y ∷ ys) zero x z h = cc
 got_some f (y ∷ ys) (suc k) x z h = got_some f ys k x z h
 
-pub got_none : {X Y : Type 0} (f : X → Y) (xs : List X) (k : ℕ) (z : Y) → slice_get xs k ≡ None → get_or (map f xs) k z ≡ z
-got_none f [] k z h = refl
-got_none f (y ∷ ys) zero z h = absurd (cc)
-got_none f (y ∷ ys) (suc k) z h = got_none f ys k z h
-
 pub first_is : {X Y : Type 0} (f : X → Y) (xs : List X) (d : X) (y : Y) → slice_get (map f xs) 0 ≡ Some y → f (get_or xs 0 d) ≡ y
 first_is f [] d y h = absurd (cc)
 first_is f (x ∷ xs) d y h = cc

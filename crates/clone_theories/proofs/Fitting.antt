@@ -12,11 +12,11 @@ use Rattle.names_space.specs.declared.TypeName.TheVariants as stands
 use Rattle.theory_states.specs.declared.moves.Move.{Move}
 use Rattle.theory_states.specs.declared.moves.Move.TheVariants.{Brings, Opens, Closes}
 use Rattle.valid_tasks.specs.Scopes.{IsTypedEntry, IsTypedThing}
-use Rattle.valid_tasks.proofs.Settings.{below_of}
 use Rattle.valid_tasks.specs.Moves.{IsTypedMove, AreTypedMoves}
 use Rattle.clone_copies.specs.Moves.{IsThingHeld, MoveHeld}
 use Rattle.clone_theories.specs.Copied.{IsKeptEntry}
 use Rattle.clone_theories.proofs.Kept.{IsKind}
+use Rattle.tasks.proofs.TypeInstances.{below as below_of}
 
 -- ---- typed entries
 module _ (v : Vocabulary) where

@@ -19,6 +19,7 @@ use Rattle.elab_parts.specs.Entries.{IsSignature}
 use Rattle.clone_copies.specs.Moves.{MoveHeld, AreMovesMapped}
 use Rattle.clone_copies.proofs.Moved.{move_grows, move_held_grows}
 use Rattle.clone_theories.specs.Copied.{HasKinds, IsKeptEntry}
+use Rattle.elab_parts.proofs.Entering.{first_stays}
 
 all_of_map : {X Y : Type 0} (P : Y → Type 0) (f : X → Y) (xs : List X) → All P (map f xs) → All (λ (x : X). P (f x)) xs
 all_of_map P f xs h = λ k d l. subst P (get_or-map f xs k d (f d) l) (h k (f d) (omega (arith, l, length-map xs f)))
@@ -54,10 +55,6 @@ module _ (s : List Tree) where
 
   pub all_held : (is : List SymbolInfo) → IsSignature s is → All (SymbolHeld s) is
   all_held is h = λ k d l. let one = h.typed k d l in record { args = λ j e m. (one.args j e m).held; result = result_held (get_or is k d).result one.result }
-
-first_stays : {A : Type 0} (xs ys : List A) (x : A) → slice_get xs 0 ≡ Some x → slice_get (xs ++ ys) 0 ≡ Some x
-first_stays [] ys x h = absurd (cc)
-first_stays (z ∷ xs) ys x h = h
 
 -- with the entries of copies
 pub signature_made : (s t : List Tree) (old new : List SymbolInfo) (copies : List SymbolTree) → IsSignature s old → symbols_at t new ≡ symbols_at s old ++ copies → All (SymbolHeld t) new → All IsKeptEntry copies → IsSignature t new

@@ -7,4 +7,3 @@ mod Stages
 mod Contents
 mod Begun
 pub mod TypedClone
-mod Passed

@@ -29,7 +29,7 @@ use Rattle.elab_names.specs.Abstract.{text_of_own}
 use Rattle.elab_names.specs.Faults.{first_of}
 use Rattle.elab_names.specs.declared.NamingFault.{NamingFault}
 use Rattle.valid_tasks.specs.Scopes.{IsSubvocabulary, IsTypeNumber, IsSymbolNumber, IsTypeName, IsTypedThing, IsTypedEntry, IsTypedSignature, AreTypedScopes}
-use Rattle.valid_tasks.proofs.Extended.{slice_below, scopes_part}
+use Rattle.valid_tasks.proofs.Extended.{scopes_part}
 use Rattle.valid_tasks.proofs.Scopes.{found_thing}
 use Rattle.valid_tasks.specs.Valid.{IsTypedSetting}
 use Rattle.valid_tasks.specs.Built.{IsBuiltRight}
@@ -54,32 +54,15 @@ use Rattle.valid_tasks.specs.Placed.{IsPlacedEntry, ArePlaced}
 use Rattle.valid_tasks.specs.Sides.{with_rights, copies_made, with_copies}
 use Rattle.valid_tasks.proofs.Numbers.{symbol_of}
 use Rattle.valid_tasks.proofs.Rights.{all_typed, rights_built, entries_more}
-use Rattle.valid_tasks.proofs.Mapped.{maps_types}
+use Rattle.valid_tasks.proofs.Mapped.{maps_types, behind, copied_at, only_here}
 use Rattle.valid_tasks.proofs.Copies.{all_copies_typed, all_placed, rigids_placed}
 use Rattle.clone_theories.specs.Cloned.{symbols_tupled, sides_in, map_in, within_of, copying_in, with_copied_entries, with_names, IsCloned}
+use Rattle.valid_tasks.proofs.Begun.{slice_or as or_at}
+use Rattle.valid_tasks.proofs.Used.{is_part_itself as same_part}
+use Rattle.valid_tasks.proofs.Places.{none_here}
+use Rattle.valid_tasks.proofs.Declarations.{below as slice_below}
 
 -- ---- lists
-none_here : {X : Type 0} (x : X) → Contains [] x → ⊥
-none_here x c = omega (arith, c.1)
-
-only_here : {X : Type 0} (y x : X) → Contains (y ∷ []) x → y ≡ x
-only_here y x (zero, l, e) = e
-only_here y x (suc j, l, e) = absurd (omega (arith, l))
-
-behind : (xs ys : List SymbolTree) (i n : ℕ) → n ≡ length xs + i → slice_get (xs ++ ys) n ≡ slice_get ys i
-behind [] ys i n q = ap (slice_get ys) (omega (arith, q))
-behind (x ∷ xs) ys i zero q = absurd (omega (arith, q))
-behind (x ∷ xs) ys i (suc n) q = behind xs ys i n (omega (arith, q))
-
-copied_at : (f : ℕ → SymbolTree) (ks : List ℕ) (i k : ℕ) → slice_get ks i ≡ Some k → slice_get (map f ks) i ≡ Some (f k)
-copied_at f [] i k q = absurd (cc)
-copied_at f (j ∷ ks) zero k q = let e : j ≡ k = cc in ap (λ (n : ℕ). Some (f n)) e
-copied_at f (j ∷ ks) (suc i) k q = copied_at f ks i k q
-
-or_at : (es : List SymbolTree) (k : ℕ) (e : SymbolTree) → slice_get es k ≡ Some e → symbol_or es k ≡ e
-or_at [] k e q = absurd (cc)
-or_at (x ∷ es) zero e q = cc
-or_at (x ∷ es) (suc k) e q = or_at es k e q
 
 -- ---- more entries
 module _ (xs ys : List SymbolTree) where
@@ -169,8 +152,6 @@ module _ (v w : Vocabulary) (m : Map) (maps : MapsTypes v w m) (symbol_becomes :
   moves_typed xs ys h z = λ k d l. let n = z.count in let b : k < length xs = omega (arith, n, l) in move_typed (get_or xs k d) (get_or ys k d) (h k d b) (z.each k d b)
 
 -- ---- states
-same_part : (v : Vocabulary) → IsSubvocabulary v v
-same_part v = record { entries = λ k e q. q; rigid = λ k e q h. h; usable = λ k e q h. h; matched = λ k e q h. h }
 
 state_over : (c : StateTree) (s : List Tree) (ys : List SymbolTree) → Grows c.trees s → IsTypedSignature (of_signature (c.symbols ++ ys)) (c.symbols ++ ys) → IsBuiltRight (c.symbols ++ ys) → IsTypedState c → IsTypedState (record c { trees = s; symbols = c.symbols ++ ys })
 state_over c s ys g signature built h =
@@ -277,7 +258,7 @@ found_by : {X : Type 0} (P : X → Type 0) (b : Bool) (y x : X) (r : Option X) �
 found_by P true y x r h k e = let i : y ≡ x = cc in subst P i h
 found_by P false y x r h k e = k e
 
-found_has : {X : Type 0} (P : X → Type 0) (test : X → Bool) (xs : List X) (x : X) → All P xs → find test xs ≡ Some x → P x
+pub found_has : {X : Type 0} (P : X → Type 0) (test : X → Bool) (xs : List X) (x : X) → All P xs → find test xs ≡ Some x → P x
 found_has P test [] x a e = absurd (cc)
 found_has P test (y ∷ ys) x a e = found_by P (test y) y x (find test ys) (All-head P y ys a) (λ k. found_has P test ys x (All-tail P y ys a) k) e
 

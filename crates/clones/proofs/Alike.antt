@@ -4,15 +4,9 @@ use Rattle.trees.specs.declared.Sort.{Sort}
 use Rattle.trees.specs.declared.Sort.TheVariants.{Kind, List}
 use Rattle.trees.specs.Tree.{Tree, One, Two, Three, Head, HTyApp, HFun, HPred, HPatCon, HEnd, HCell, HArm, HCase, head_of}
 use Rattle.trees.specs.Sorts.{one_sort, two_sort, three_sort, yield, top_sort, sort_of, two_first, first_sort, OneFits, TwoFits, ThreeFits, Fits, CaseHasBranch}
-use Rattle.trees.proofs.Sorts.{first_sort_none}
+use Rattle.trees.proofs.Sorts.{first_sort_none, top_kind}
 use Rattle.clones.specs.Mapped.{head_mapped}
 use Rattle.clones.specs.Meaning.{IsAlike}
-
-top_kind : (h : Head) (s : Sort) → top_sort h s ≡ Kind → s ≡ Kind
-top_kind HEnd s e = absurd (cc)
-top_kind HCell s e = absurd (cc)
-top_kind HArm s e = absurd (cc)
-top_kind _ s e = e
 
 module _ (f : ℕ → ℕ) where
   one_same : (h : Head) → one_sort (head_mapped f h) ≡ one_sort h

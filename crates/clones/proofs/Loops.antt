@@ -46,12 +46,3 @@ module _ {X Y S : Type 0} (at : List Tree → X → Y) (Held : List Tree → X �
           is = ap (map (at t)) p ∙ map-append (at t) out (y ∷ []) ∙ ap (λ (v : Y). map (at t) out ++ v ∷ []) same ∙ ap (λ (z : List Y). z ++ copy m0 (at s0 x) ∷ []) old ∙ sym more;
           held = subst (All (Held t)) (sym p) (All-push (Held t) out y held_out hy);
         }
-
--- what is said of a value doesn't matter after a fault
-pub no_ok : {T E : Type 0} (P : Type 0) (Q : E → Type 0) (r : Result T E) → IsErrAnd r Q → OnOk r P
-no_ok P Q (Ok v) h = absurd h
-no_ok P Q (Err e) h = tt
-
-pub no_value : {T E : Type 0} (P : T → Type 0) (Q : E → Type 0) (r : Result T E) → IsErrAnd r Q → IfOk r P
-no_value P Q (Ok v) h = absurd h
-no_value P Q (Err e) h = tt

@@ -111,10 +111,6 @@ pub ok_any : {A E : Type 0} (r : Result A E) {P : Type 0} → P → OnOk r P
 ok_any (Ok x) p = p
 ok_any (Err e) p = tt
 
-pub ok_both : {A E : Type 0} (r : Result A E) (P Q T : A → Type 0) → ((x : A) → P x → Q x → T x) → IfOk r P → IfOk r Q → IfOk r T
-ok_both (Ok x) P Q T f p q = f x p q
-ok_both (Err e) P Q T f p q = tt
-
 -- ---- a map with one more type
 pub held_more : {S : Type 0} (s : List Tree) (old new : IndexMap ℕ TermId S) (j : ℕ) (ty : TermId) → Holds s ty → sort_of (tree_at s ty) ≡ Kind
     → ((q : ℕ) → get nat_eq new q ≡ cond (nat_eq j q) (Some ty) (get nat_eq old q))

@@ -6,7 +6,7 @@ use Rattle.decl_checks.specs.declared.fault.CheckFault.{CheckFault}
 use Rattle.decl_checks.specs.declared.fault.CheckFault.TheVariants.{Memory, BadClause, NotPositive, NotStructural, GroupTooWide, Uninhabited}
 use Rattle.decl_checks.proofs.Firsts.{not_all, one_first}
 
-right_not : (symbols : List SymbolTree) (b : BodyTree) (f : CheckFault) → HasNoFault symbols b → HasFault symbols b f → ⊥
+pub right_not : (symbols : List SymbolTree) (b : BodyTree) (f : CheckFault) → HasNoFault symbols b → HasFault symbols b f → ⊥
 right_not symbols (Induces is) (BadClause n) r f = not_all (ClauseHasForm symbols (group_of is)) (all_clauses is) n f r.form
 right_not symbols (Induces is) (NotPositive n) r f = not_all (ClauseIsPositive (group_of is)) (all_clauses is) n f.1 r.positive
 right_not symbols (Defines ds) GroupTooWide r f = (let l = r.narrow f.0 in omega (arith, f.1))
@@ -14,7 +14,7 @@ right_not symbols (Defines ds) NotStructural r f = f.2 (r.structural f.0)
 right_not symbols (Constructs ts) Uninhabited r f = f r
 right_not symbols _ _ r f = f
 
-one_fault : (symbols : List SymbolTree) (b : BodyTree) (f g : CheckFault) → HasFault symbols b f → HasFault symbols b g → f ≡ g
+pub one_fault : (symbols : List SymbolTree) (b : BodyTree) (f g : CheckFault) → HasFault symbols b f → HasFault symbols b g → f ≡ g
 one_fault symbols (Induces is) (BadClause n) (BadClause m) f g = ap BadClause (one_first (ClauseHasForm symbols (group_of is)) (all_clauses is) n m f g)
 one_fault symbols (Induces is) (BadClause n) (NotPositive m) f g = absurd (not_all (ClauseHasForm symbols (group_of is)) (all_clauses is) n f g.0)
 one_fault symbols (Induces is) (NotPositive n) (BadClause m) f g = absurd (not_all (ClauseHasForm symbols (group_of is)) (all_clauses is) m g f.0)

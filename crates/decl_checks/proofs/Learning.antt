@@ -8,6 +8,7 @@ use Rattle.tasks.specs.declared.signature.SymbolInfo.{SymbolInfo}
 use Rattle.decl_checks.specs.declared.standing.Standing.{Standing}
 use Rattle.decl_checks.specs.declared.standing.Standing.TheVariants.{Other}
 use Rattle.decl_checks.specs.Structure.{bound_index, standing_by, standing, through, is_tuple_constructor, components, parts_bound, bound_to, stands}
+use Rattle.trees.proofs.Indices.{eqb_true as same_number, eqb_other as other_number}
 
 -- ---- an entry that isn't there
 pub absent : (s : List Tree) (is : List SymbolInfo) (k : ℕ) → slice_get is k ≡ None → symbol_or (symbols_at s is) k ≡ int_symbol
@@ -22,11 +23,6 @@ present s (j ∷ is) zero i e = let q : j ≡ i = cc in ap (symbol_at s) q
 present s (j ∷ is) (suc k) i e = present s is k i e
 
 -- ---- tuples that are written out
-same_number : (f c : ℕ) → f ≡ c → (f == c) ≡ true
-same_number f c e = grind (arith, nat_tests)
-
-other_number : (f c : ℕ) → (f ≡ c → ⊥) → (f == c) ≡ false
-other_number f c e = grind (arith, nat_tests)
 
 chosen : (a b : Bool) (x : Tree) → a ≡ true → b ≡ true → (if a && b then Some x else None) ≡ Some x
 chosen true true x p q = refl

@@ -5,17 +5,11 @@ use Rattle.std.specs.Str.{IsUtf8}
 use Rattle.std.proofs.lemmas.Bool.Decides.{nat_tests}
 use Rattle.std.proofs.lemmas.Str.{IsUtf8-nil, IsUtf8-append, IsUtf8-take, IsCharBoundary-after_ascii, utf8_lossy-IsUtf8}
 use Rattle.driver_files.specs.Reading.{folder, name_from}
+use Rattle.std.proofs.lemmas.Bool.{or_parts as neither}
+use Rattle.word_tables.proofs.SearchLemmas.{bool-cases as either}
 
 abbrev slashes : List ℕ → Bool
 slashes bs = list_any (λ b. nat_eq b 47) bs
-
-either : (b : Bool) → (b ≡ true) ⊎ (b ≡ false)
-either true = inl refl
-either false = inr refl
-
-neither : (p q : Bool) → (p || q) ≡ false → (p ≡ false) × (q ≡ false)
-neither true q e = absurd (cc)
-neither false q e = (refl, e)
 
 first : (p q : Bool) → (p || q) ≡ true → q ≡ false → p ≡ true
 first true q e h = refl

@@ -14,10 +14,7 @@ use Rattle.driver_tokens.specs.Strings.{quoted}
 use Rattle.driver_tokens.specs.Tokens.{DriverLexeme, gap_length, number_length, string_length, mark_length, token_length, open_or_star, operator_of, driver_terminal_of, driver_lexeme, after_gap, lexed, driver_lexemes}
 use Rattle.driver_items.specs.Items.{string_value_of}
 use Rattle.driver_files.proofs.Texts.{said-text}
-
-either : (b : Bool) → (b ≡ true) ⊎ (b ≡ false)
-either true = inl refl
-either false = inr refl
+use Rattle.word_tables.proofs.SearchLemmas.{bool-cases as either}
 
 -- the bytes between the quotes
 abbrev inside : List ℕ → List ℕ

@@ -6,10 +6,7 @@ use Rattle.std.proofs.lemmas.Bool.{cases_lt}
 use Rattle.std.proofs.lemmas.Bool.Decides.{nat_tests}
 use Rattle.std.proofs.lemmas.Str.{IsUtf8-nil, IsUtf8-append, IsUtf8-encode, encode_ascii}
 use Rattle.driver_tokens.specs.Strings.{escaped, bytes_said, string_says}
-
-either : (b : Bool) → (b ≡ true) ⊎ (b ≡ false)
-either true = inl refl
-either false = inr refl
+use Rattle.plain_laws.proofs.Bools.{and_both as both-true}
 
 -- bytes above ASCII
 abbrev High : List ℕ → Type 0
@@ -65,10 +62,6 @@ text-if false xs ys h k = k
 
 escaped-text : (c : ℕ) → c < 128 → IsUtf8 (escaped c)
 escaped-text c lt = text-if (nat_eq c 34 || nat_eq c 92) (c ∷ []) _ (one c lt) (text-if (nat_eq c 110) (10 ∷ []) (92 ∷ c ∷ []) (one 10 (omega arith)) (IsUtf8-append (92 ∷ []) (c ∷ []) (one 92 (omega arith)) (one c lt)))
-
-both-true : (p q : Bool) → (p && q) ≡ true → (p ≡ true) × (q ≡ true)
-both-true true q e = (refl, e)
-both-true false q e = absurd (cc)
 
 abbrev Says : List ℕ → Type 0
 Says bs = IsUtf8 (bytes_said false bs) × IsUtf8 (bytes_said true bs)

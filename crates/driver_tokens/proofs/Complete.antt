@@ -13,6 +13,7 @@ use Rattle.driver_tokens.specs.declared.machine.DriverState.TheVariants as q
 use Rattle.driver_tokens.specs.Machine.{state_after, within, begins, runs}
 use Rattle.driver_tokens.specs.Grammar.{DriverName, scoped_name, word_name, star_name, infix_operator, prefix_operator, Value, string_value, number_value, MetaArgument, value_argument, kind_argument, proposition_argument, by_string, by_word, GrammarLine, heading_line, prelude_line, answer_line, meta_line, theory_line, end_of_block_line, template_line, removal_line, removal_of_all_line, are_lines, may_be_in_block, in_block, write_name, write_value, write_argument, write_more, write_arguments, write_driver_path, write_line}
 use Rattle.driver_tokens.proofs.Rests.{Cut, cut_of, join}
+use Rattle.plain_laws.proofs.Bools.{and_first as and_left, and_second as and_right}
 
 abbrev pub run : DriverState → List DriverTerminal → Result Cut (List DriverTerminal)
 run = runs (λ x. x)
@@ -143,14 +144,6 @@ line_taken true (removal_line n) m xs ls i = ap (begins (t.Word w.Remove)) (ap (
 line_taken false (removal_line n) m xs ls i = cc
 line_taken true removal_of_all_line m xs ls i = ap (begins (t.Word w.Remove)) (ap (within (t.Word w.Allprops)) i)
 line_taken false removal_of_all_line m xs ls i = cc
-
-and_left : (a b : Bool) → (a && b) ≡ true → a ≡ true
-and_left true b e = refl
-and_left false b e = cc
-
-and_right : (a b : Bool) → (a && b) ≡ true → b ≡ true
-and_right true b e = e
-and_right false b e = cc
 
 -- what can be written is taken, with these lines
 pub complete : (b : Bool) (ls : List GrammarLine) → are_lines b ls ≡ true → Taken (q.Lines b) (flat_map write_line ls) (cut_of [] (map write_line ls))

@@ -19,10 +19,11 @@ use Rattle.elab_parts.specs.declared.solution.TypingFault.{TypingFault}
 use Rattle.elab_parts.specs.Elaborated.{IsTypingFault}
 use Rattle.elab_parts.specs.Values.{AreSolvedTypes, notes_after, match_instance}
 use Rattle.elab_parts.proofs.MatchesBelow.{MatchesBelow}
-use Rattle.elab_parts.proofs.Putting.{trees_stay, matches_stay, hold_types}
+use Rattle.elab_parts.proofs.Putting.{trees_stay, matches_stay}
 use Rattle.elab_parts.proofs.Solving.{trees_at_types, matches_at_types}
 use Rattle.elab_groups.specs.Groups.{AreSolved}
 use Rattle.elab_groups.specs.Bodies.{AreBounded}
+use Rattle.elab_walk.proofs.Forming.{hold_types}
 
 -- walked in the store s1, at the types of the store s2; the stores s3 and s4 have the trees and the matches
 pub group_solved : (s1 s2 s3 s4 : List Tree) → Grows s1 s2 → Grows s2 s3 → Grows s3 s4 → (r : ℕ) (ns : Notes) (types : List TermId) → AreSolvedTypes s2 r ns types
@@ -62,7 +63,3 @@ bounded_moved k r n ns ts us p q e h =
     let a : AreBounded r ns ts = subst (AreBounded r ns) (sym e) h in
     let b : AreBounded r (notes_after r n) ts = subst (λ (x : Notes). AreBounded r x ts) (sym q) a in
     subst (λ (i : ℕ). AreBounded i (notes_after i n) ts) (sym p) b
-
-pub if_ok_both : {T E : Type 0} (r : Result T E) (P Q R : T → Type 0) → ((x : T) → P x → Q x → R x) → IfOk r P → IfOk r Q → IfOk r R
-if_ok_both (Ok x) P Q R f p q = f x p q
-if_ok_both (Err e) P Q R f p q = tt

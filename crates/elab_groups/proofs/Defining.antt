@@ -17,7 +17,7 @@ use Rattle.tasks.specs.Meaning.{trees_at, definition_at, declaration_at, declara
 use Rattle.syntax_why.specs.declared.expressions.Expr.{Expr}
 use Rattle.elab_names.specs.Abstract.{Expression, expression_of}
 use Rattle.elab_walk.specs.Drafts.{due}
-use Rattle.elab_walk.proofs.Growing.{map_same, held_grows}
+use Rattle.elab_walk.proofs.Growing.{held_grows}
 use Rattle.elab_parts.specs.Declarations.{GroupMember}
 use Rattle.elab_parts.proofs.Putting.{all_first, all_rest, trees_stay, all_held}
 use Rattle.elab_members.specs.declared.signing.Signed.{Signed}
@@ -26,6 +26,7 @@ use Rattle.elab_members.specs.Sources.{signed_at, SignedHeld}
 use Rattle.elab_members.proofs.SignaturesHeld.{all_signed_stay}
 use Rattle.elab_groups.specs.Groups.{definitions, group_body}
 use Rattle.elab_groups.specs.Bodies.{IsBody, AreBodies, AreDefined, AllHaveBodies, sorts_due}
+use Rattle.tasks.proofs.Growth.{map_agree as map_same}
 
 abbrev pub DefHeld : List Tree → Def → Type 0
 DefHeld s d = Holds s d.equation

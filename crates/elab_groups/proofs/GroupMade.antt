@@ -21,7 +21,7 @@ use Rattle.elab_parts.specs.declared.made.Place.{Place}
 use Rattle.elab_parts.specs.Declarations.{GroupMember, made_by_members, made_fault}
 use Rattle.elab_parts.specs.Entries.{IsSignature, AreScopes}
 use Rattle.elab_parts.specs.Outcomes.{Setting, over, setting, declared_in, IsKept}
-use Rattle.elab_parts.proofs.Entering.{entries_stay, signature_grows}
+use Rattle.elab_parts.proofs.Entering.{entries_stay, signature_grows, first_stays}
 use Rattle.elab_parts.proofs.Overs.{some_entry, over_stays}
 use Rattle.elab_parts.proofs.Refused.{no_fault}
 use Rattle.elab_parts.proofs.Scopes.{scopes_grow}
@@ -32,10 +32,6 @@ use Rattle.elab_members.proofs.MembersNamed.{members_types, members_scopes, entr
 use Rattle.elab_members.proofs.MembersScoped.{members_scoped, signatures_scoped, members_resolved}
 use Rattle.elab_groups.specs.Groups.{group_tuples, before_group, group_signatures, group_scope, within_group, group_used, group_fault, group_decls, BodiesSolved, IsGroup, IsGroupElaborated}
 use Rattle.elab_groups.specs.Bodies.{IsGroupMade}
-
-first_stays : {A : Type 0} (xs ys : List A) (x : A) → slice_get xs 0 ≡ Some x → slice_get (xs ++ ys) 0 ≡ Some x
-first_stays [] ys x h = absurd (cc)
-first_stays (z ∷ xs) ys x h = h
 
 module _ (p : Place) (s s1 : List Tree) (grows : Grows s s1) (g g1 : Signature) (names : ScopeNames) (ms : List GroupMember) (it : Signatures) (sig : IsSignature s g.symbols) (scopes : AreScopes s (length g.symbols) names)
     (e : IsEntered (setting p s g names) (before_group (setting p s g names) ms) ms g s1 g1 it) where

@@ -19,7 +19,7 @@ use Rattle.elab_parts.specs.Declarations.{InductivePredicate, made_by_inductives
 use Rattle.elab_parts.specs.Elaborated.{unseen}
 use Rattle.elab_parts.specs.Entries.{IsSignature, AreScopes}
 use Rattle.elab_parts.specs.Outcomes.{Setting, over, setting, declared_in, tuples_wanting, IsKept}
-use Rattle.elab_parts.proofs.Entering.{entries_stay, signature_grows}
+use Rattle.elab_parts.proofs.Entering.{entries_stay, signature_grows, first_stays}
 use Rattle.elab_parts.proofs.Overs.{some_entry, over_stays}
 use Rattle.elab_parts.proofs.Refused.{no_fault}
 use Rattle.elab_parts.proofs.Scopes.{scopes_grow}
@@ -33,10 +33,6 @@ use Rattle.elab_inductives.specs.Inductives.{inductives_seen, as_member, as_memb
 use Rattle.elab_inductives.specs.Sources.{AreInductivesMade}
 use Rattle.elab_inductives.proofs.InductivesNamed.{inductives_types, inductives_scopes}
 use Rattle.elab_inductives.proofs.ClausesResolved.{members_right, formulas_resolved}
-
-first_stays : {A : Type 0} (xs ys : List A) (x : A) → slice_get xs 0 ≡ Some x → slice_get (xs ++ ys) 0 ≡ Some x
-first_stays [] ys x h = absurd (cc)
-first_stays (z ∷ xs) ys x h = h
 
 module _ (p : Place) (s s1 : List Tree) (grows : Grows s s1) (g g1 : Signature) (names : ScopeNames) (ds : List InductivePredicate) (it : Signatures) (sig : IsSignature s g.symbols) (scopes : AreScopes s (length g.symbols) names)
     (e : IsEntered (setting p s g names) (before_inductives (setting p s g names) ds) (as_members ds) g s1 g1 it) where

@@ -15,8 +15,10 @@ use Rattle.elab_names.specs.Faults.{first_of, fault_if}
 use Rattle.elab_names.specs.Where.{place_of}
 use Rattle.elab_parts.specs.Declarations.{InductiveClause, InductivePredicate, Made, makes, binds_names, names_of_parameters, list_fault, made_before, made_by_clauses, made_by_inductives, made_fault}
 use Rattle.elab_parts.specs.Outcomes.{declared_in}
-use Rattle.elab_members.proofs.NamesMade.{Same, or_true, more_same, among_first, among_last, first_assoc}
+use Rattle.elab_members.proofs.NamesMade.{Same, more_same, among_first, among_last}
 use Rattle.elab_inductives.specs.Inductives.{with_clauses, clause_names, clauses_made, inductives_made}
+use Rattle.std.proofs.lemmas.Bool.{or_right as or_true}
+use Rattle.elab_names.proofs.Told.{three as first_assoc}
 
 abbrev among : List Word → Word → Bool
 among ws x = is_some (place_of x ws)

@@ -40,7 +40,7 @@ types_count w (p ∷ ps) =
     let b = length-append (parameter_words p.names) (words_of_parameters ps) in
     omega (arith, a, b, copies_count (type_at w p.of_type) p.names, types_count w ps)
 
-same_kind : (w : Where) (r : Option TypeExpression) → is_none r ≡ is_none (option_map (type_at w) r)
+pub same_kind : (w : Where) (r : Option TypeExpression) → is_none r ≡ is_none (option_map (type_at w) r)
 same_kind w None = refl
 same_kind w (Some f) = refl
 

@@ -16,18 +16,13 @@ use Rattle.elab_names.proofs.Placed.{one_more}
 use Rattle.elab_parts.specs.Declarations.{GroupMember, Made, makes, binds_names, names_of_parameters, list_fault, made_before, made_by_members, made_fault}
 use Rattle.elab_parts.specs.Outcomes.{declared_in}
 use Rattle.elab_members.specs.Members.{member_made, members_made}
+use Rattle.outside.proofs.Bools.{or_grouped as or_assoc}
+use Rattle.elab_names.proofs.Told.{three as first_assoc}
+use Rattle.std.proofs.lemmas.Bool.{or_right as or_true}
 
 -- ---- what is declared and what is before count together
 abbrev pub Same : (d d' : Word → Bool) (b b' : Word → Bool) → Type 0
 Same d d' b b' = (x : Word) → (d x || b x) ≡ (d' x || b' x)
-
-pub or_true : (a b : Bool) → b ≡ true → (a || b) ≡ true
-or_true true b h = refl
-or_true false b h = h
-
-or_assoc : (a b c : Bool) → ((a || b) || c) ≡ (a || (b || c))
-or_assoc true b c = refl
-or_assoc false b c = refl
 
 -- one more name on both sides
 pub more_same : (d b d' b' e : Bool) → (d || b) ≡ (d' || b') → (d || (e || b)) ≡ (d' || (e || b'))
@@ -55,13 +50,6 @@ among_last x y (w ∷ ws) =
     ∙ (ap (λ (b : Bool). b || is_some (place_of x ws)) (or_swap (bytes_eq w x) (bytes_eq y x)) ∙ (or_assoc (bytes_eq y x) (bytes_eq w x) (is_some (place_of x ws)) ∙ ap (λ (b : Bool). bytes_eq y x || b) (sym (among_first x w ws))))))
 
 -- ---- the definition, member by member
-first_alone : (a : Option NamingFault) → first_of a None ≡ a
-first_alone None = refl
-first_alone (Some f) = refl
-
-pub first_assoc : (a b c : Option NamingFault) → first_of (first_of a b) c ≡ first_of a (first_of b c)
-first_assoc None b c = refl
-first_assoc (Some f) b c = refl
 
 told_by : (declared : Table → Word → Bool) (d : Word → Bool) (before : List Made) (ws : List Word) → Same (declared Symbols) d (λ x. made_before Symbols x before) (λ x. is_some (place_of x ws))
     → (ms : List GroupMember) → made_fault declared before (made_by_members ms) ≡ members_made d ws ms

@@ -17,6 +17,7 @@ use Rattle.elab_walk.proofs.Walking.{none_both}
 use Rattle.elab_parts.specs.Elaborated.{unseen}
 use Rattle.elab_parts.specs.Declarations.{TokenName, Parameter, words, params_seen, params_fault, with_vars}
 use Rattle.elab_members.specs.Members.{type_copies, parameter_types, signature_seen}
+use Rattle.elab_names.proofs.Told.{three as first_assoc, first_none as first_alone}
 
 -- parameters and a result as the binders of a formula
 abbrev pub as_binder : Parameter → BoundNames
@@ -25,14 +26,6 @@ as_binder p = record { names = words p.names; of_type = Some p.of_type }
 abbrev pub as_binders : List Parameter → Option TypeExpression → List BoundNames
 as_binders [] r = record { names = []; of_type = r } ∷ []
 as_binders (p ∷ ps) r = as_binder p ∷ as_binders ps r
-
-first_alone : (a : Option NamingFault) → first_of a None ≡ a
-first_alone None = refl
-first_alone (Some f) = refl
-
-first_assoc : (a b c : Option NamingFault) → first_of (first_of a b) c ≡ first_of a (first_of b c)
-first_assoc None b c = refl
-first_assoc (Some f) b c = refl
 
 bound_fault : (w : Where) (ps : List Parameter) (r : Option TypeExpression) → first_of (params_fault w ps) (type_fault w true r) ≡ binders_fault w true (as_binders ps r)
 bound_fault w [] r = sym (first_alone (type_fault w true r))

@@ -12,11 +12,12 @@ use Rattle.syntax_why.specs.Lexeme.{Word}
 use Rattle.elab_names.specs.Where.{Where}
 use Rattle.elab_walk.specs.Pieces.{type_at}
 use Rattle.elab_walk.specs.Drafts.{HoldsType, SymbolTyped}
-use Rattle.elab_walk.proofs.Growing.{map_same, types_stay, types_grow, wanted_stays, wanted_grows}
+use Rattle.elab_walk.proofs.Growing.{types_stay, types_grow, wanted_stays, wanted_grows}
 use Rattle.elab_parts.specs.Declarations.{GroupMember, own_variables, with_vars}
 use Rattle.elab_members.specs.declared.signing.Signed.{Signed}
 use Rattle.elab_members.specs.Members.{SignatureTree, signature_of, parameter_types}
 use Rattle.elab_members.specs.Sources.{signed_at, SignedHeld}
+use Rattle.tasks.proofs.Growth.{map_agree as map_same}
 
 module _ (s s' : List Tree) (g : Grows s s') where
   pub signed_stays : (it : Signed) → SignedHeld s it → signed_at s' it ≡ signed_at s it

@@ -17,7 +17,7 @@ use Rattle.elab_names.specs.Faults.{fault}
 abbrev entry : Word → SymbolKind → ℕ → List Tree → SymbolTree
 entry name kind vars args = record { theory = codes "T"; name = name; kind = kind; vars = vars; args = args; result = None }
 
-abbrev called : {A : Type 0} → List (Word × A) → List Word → Word → Option A
+abbrev pub called : {A : Type 0} → List (Word × A) → List Word → Word → Option A
 called [] qs x = None
 called (p ∷ ps) [] x = cond (bytes_eq p.0 x) (Some p.1) (called ps [] x)
 called (p ∷ ps) (q ∷ qs) x = None

@@ -78,7 +78,7 @@ first_alone r None h = h
 first_alone r (Some f) h = h
 
 -- ---- what is in parentheses
-first_none : (x : Option NamingFault) → first_of x None ≡ x
+pub first_none : (x : Option NamingFault) → first_of x None ≡ x
 first_none None = refl
 first_none (Some f) = refl
 
@@ -166,7 +166,7 @@ pub whole_names : (ps : List Pat) → patterns_names (patterns_of ps) ≡ patter
 whole_names ps = group_names (first_form (code.patterns ps)) (patterns_of ps) ∙ ap (λ (q : Patterns). pattern_names (grouped_patterns (first_form (code.patterns ps)) q)) (sym (patterns_are ps))
 
 -- ---- branches
-three : (x y z : Option NamingFault) → first_of (first_of x y) z ≡ first_of x (first_of y z)
+pub three : (x y z : Option NamingFault) → first_of (first_of x y) z ≡ first_of x (first_of y z)
 three None y z = refl
 three (Some f) y z = refl
 

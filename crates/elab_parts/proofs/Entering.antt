@@ -17,10 +17,11 @@ use Rattle.tasks.specs.Rigid.{rigid_symbol}
 use Rattle.tasks.specs.Equations.{type_variables}
 use Rattle.elab_walk.specs.Scoped.{IsScopedEntry}
 use Rattle.elab_walk.specs.Drafts.{HoldsType, SymbolTyped}
-use Rattle.elab_walk.proofs.Growing.{map_same, type_grows, types_stay, wanted_stays, wanted_grows}
+use Rattle.elab_walk.proofs.Growing.{type_grows, types_stay, wanted_stays, wanted_grows}
 use Rattle.elab_walk.proofs.Below.{variables_all, cells_below}
 use Rattle.tasks.specs.Valid.{own_type}
 use Rattle.elab_parts.specs.Entries.{type_entry, constructor_entries, builtin, tuple_entries, tuple_in, wanting_tuple, wanting_tuples, IsSignature, IsExtended}
+use Rattle.tasks.proofs.Growth.{map_agree as map_same}
 
 module _ (s s' : List Tree) (g : Grows s s') where
   entry_stays : (i : SymbolInfo) → SymbolTyped s i → symbol_at s' i ≡ symbol_at s i
@@ -49,7 +50,7 @@ extended_both {s} {a = a} xs ys h k = record {
   ints = k.ints ∙ h.ints;
 }
 
-first_stays : {A : Type 0} (xs ys : List A) (x : A) → slice_get xs 0 ≡ Some x → slice_get (xs ++ ys) 0 ≡ Some x
+pub first_stays : {A : Type 0} (xs ys : List A) (x : A) → slice_get xs 0 ≡ Some x → slice_get (xs ++ ys) 0 ≡ Some x
 first_stays [] ys x h = absurd (cc)
 first_stays (z ∷ xs) ys x h = h
 
@@ -71,11 +72,6 @@ pub extended_grows : {s s1 s2 : List Tree} {a b : Signature} (xs : List SymbolTr
 extended_grows {s} {s1} {s2} {a} {b} xs g h = record { symbols = entries_stay s1 s2 g b.symbols h.signature ∙ h.symbols; signature = signature_grows s1 s2 g b.symbols h.signature; ints = h.ints }
 
 -- ---- tuples
-pub variables_last : (n k : ℕ) → type_variables n (suc k) ≡ type_variables n k ++ Leaf (HTyVar (n + k)) ∷ []
-variables_last n zero = ap (λ (m : ℕ). Leaf (HTyVar m) ∷ []) (let e : n ≡ n + 0 = omega arith in e)
-variables_last n (suc k) =
-    let e : n + 1 + k ≡ n + suc k = omega arith in
-    ap (λ (ts : List Tree). Leaf (HTyVar n) ∷ ts) (variables_last (n + 1) k ∙ ap (λ (m : ℕ). type_variables (n + 1) k ++ Leaf (HTyVar m) ∷ []) e)
 
 pub variables_below : (n : ℕ) → All (TyVarsBelow n) (type_variables 0 n)
 variables_below n = All-from_recursion (TyVarsBelow n) (type_variables 0 n) (variables_all 0 n n (omega arith))

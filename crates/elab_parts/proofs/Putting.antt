@@ -12,8 +12,9 @@ use Rattle.binders.specs.Visits.{HoldTypes}
 use Rattle.tasks.specs.Meaning.{trees_at}
 use Rattle.elab_walk.specs.declared.draft.MatchAt.{MatchAt}
 use Rattle.elab_walk.specs.Drafts.{HoldsType, MatchHeld, match_at, instances}
-use Rattle.elab_walk.proofs.Growing.{map_same, held_grows, types_stay}
+use Rattle.elab_walk.proofs.Growing.{held_grows, types_stay}
 use Rattle.elab_parts.specs.Values.{match_instance}
+use Rattle.tasks.proofs.Growth.{map_agree as map_same}
 
 module _ (s s' : List Tree) (g : Grows s s') where
   pub trees_stay : (ids : List TermId) → All (Holds s) ids → trees_at s' ids ≡ trees_at s ids
@@ -64,10 +65,3 @@ all_first P xs y ys e h = (subst (All P) e h) 0 y (let m : 0 < length (y ∷ ys)
 
 pub all_rest : {A : Type 0} (P : A → Type 0) (xs : List A) (y : A) (ys : List A) → xs ≡ y ∷ ys → All P xs → All P ys
 all_rest P xs y ys e h = λ k d l. (subst (All P) e h) (suc k) d (let m : suc k < length (y ∷ ys) = omega arith in m)
-
-hold_each : (s : List Tree) (ids : List TermId) → AllByRecursion (HoldsType s) ids → HoldTypes s ids
-hold_each s [] h = tt
-hold_each s (id ∷ ids) h = ((h.0.held, h.0.kind), hold_each s ids h.1)
-
-pub hold_types : (s : List Tree) (ids : List TermId) → All (HoldsType s) ids → HoldTypes s ids
-hold_types s ids h = hold_each s ids (recursion_from_All (HoldsType s) ids h)

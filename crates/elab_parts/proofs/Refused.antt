@@ -13,15 +13,9 @@ use Rattle.elab_parts.specs.declared.solution.TypingFault.{TypingFault}
 use Rattle.elab_parts.specs.declared.solution.TypingFault.TheVariants as types
 use Rattle.elab_parts.specs.Elaborated.{IsTypingFault, elab_naming_fault, elab_typing_fault}
 use Rattle.elab_parts.specs.Outcomes.{IsNameRefused, IsRefusalFor, wants_memory, of_names, of_types}
+use Rattle.elab_names.proofs.Told.{of_first as told_made}
 
 -- ---- faults of names
--- of the names that it makes
-pub told_made : (f : NamingFault) (a b : Option NamingFault) → Tells (Err f) a → Tells (Err f) (first_of a b)
-told_made names.Memory a b h = tt
-told_made (names.Unknown t) a b h = rw h refl
-told_made (names.Duplicate t) a b h = rw h refl
-told_made (names.WrongKind t) a b h = rw h refl
-told_made (names.Arity t) a b h = rw h refl
 
 -- of those that it uses
 pub told_used : (f : NamingFault) (a b : Option NamingFault) → a ≡ None → Tells (Err f) b → Tells (Err f) (first_of a b)

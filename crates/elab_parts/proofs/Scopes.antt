@@ -25,21 +25,8 @@ use Rattle.trees.specs.Facts.{TyVarsBelow}
 use Rattle.elab_parts.specs.Alike.{meaning_arity, shape, AreScopesAlike}
 use Rattle.elab_parts.specs.Entries.{IsTypeNameMeaning, IsThing, IsEntry, AreScopes, builtin, is_tuple, tuple_from, tuple_in}
 use Rattle.elab_parts.specs.Outcomes.{over}
-
-and_left : (a b : Bool) → (a && b) ≡ true → a ≡ true
-and_left true b h = refl
-and_left false b h = absurd (cc)
-
-and_right : (a b : Bool) → (a && b) ≡ true → b ≡ true
-and_right true b h = h
-and_right false b h = absurd (cc)
-
-same_is : (a b : Table) → same_table a b ≡ true → a ≡ b
-same_is Types Types h = refl
-same_is Symbols Symbols h = refl
-same_is Propositions Propositions h = refl
-same_is Scopes Scopes h = refl
-same_is _ _ h = absurd (cc)
+use Rattle.plain_laws.proofs.Bools.{and_first as and_left, and_second as and_right}
+use Rattle.names_space.proofs.Listed.{same_table_is as same_is}
 
 -- ---- what is found is the thing of an entry
 module _ (s : List Tree) (n : ℕ) where

@@ -10,18 +10,8 @@ use Rattle.elab_parts.specs.declared.solution.TypingFault.{TypingFault}
 use Rattle.elab_parts.specs.Declarations.{word, words}
 use Rattle.elab_parts.specs.Elaborated.{IsSolved, IsTypingFault}
 
--- what is known is known after Ok
-pub always : {T E P : Type 0} (r : Result T E) → P → OnOk r P
-always (Ok x) p = p
-always (Err e) p = tt
-
 pub solved_over : (w v : Where) (m n : ℕ) (e : Expression) (tree : Tree) (ms : List (ℕ × List Tree)) → w ≡ v → m ≡ n → IsSolved m (piece w [] m None e) tree ms → IsSolved n (piece v [] n None e) tree ms
 solved_over w v m n e tree ms p q h = subst (λ (x : Where). IsSolved n (piece x [] n None e) tree ms) p (subst (λ (k : ℕ). IsSolved k (piece w [] k None e) tree ms) q h)
 
 pub fault_over : (w v : Where) (m n : ℕ) (e : Expression) (f : TypingFault) → w ≡ v → m ≡ n → IsTypingFault m (piece w [] m None e).notes f → IsTypingFault n (piece v [] n None e).notes f
 fault_over w v m n e f p q h = subst (λ (x : Where). IsTypingFault n (piece x [] n None e).notes f) p (subst (λ (k : ℕ). IsTypingFault k (piece w [] k None e).notes f) q h)
-
--- the texts of names
-pub words_texts : (ns : List Name) → words (map word ns) ≡ texts_of_names ns
-words_texts [] = refl
-words_texts (n ∷ ns) = ap (λ ws. n.text ∷ ws) (words_texts ns)

@@ -34,11 +34,11 @@ use Rattle.elab_types.proofs.Counted.{types_length}
 use Rattle.elab_types.proofs.Placed.{scopes_types, stays_over}
 
 -- ---- so many entries
-projections_length : (theory x : Word) (n : ℕ) (t : Tree) (i : ℕ) (fs : List Tree) → length (projections theory x n t i fs) ≡ length fs
+pub projections_length : (theory x : Word) (n : ℕ) (t : Tree) (i : ℕ) (fs : List Tree) → length (projections theory x n t i fs) ≡ length fs
 projections_length theory x n t i [] = refl
 projections_length theory x n t i (f ∷ fs) = ap suc (projections_length theory x n t (suc i) fs)
 
-cons_length : (theory within : Word) (v : ℕ) (t : Tree) (w : Where) (n : ℕ) (ks : List AlgebraicConstructor) → length (constructors_entries theory within v t ks (constructor_trees w n ks)) ≡ entry_count ks
+pub cons_length : (theory within : Word) (v : ℕ) (t : Tree) (w : Where) (n : ℕ) (ks : List AlgebraicConstructor) → length (constructors_entries theory within v t ks (constructor_trees w n ks)) ≡ entry_count ks
 cons_length theory within v t w n [] = refl
 cons_length theory within v t w n (k ∷ ks) =
     let fs = types_at w k.fields in

@@ -15,16 +15,13 @@ use Rattle.elab_parts.specs.Outcomes.{declared_in}
 use Rattle.elab_parts.proofs.Alike.{both}
 use Rattle.elab_types.specs.Algebraics.{constructors_made, constructor_words, types_made, group_made}
 use Rattle.elab_types.proofs.Declared.{is_among, some_step, among_append}
+use Rattle.elab_names.proofs.Told.{three as first_assoc}
 
 swapped : (b q : Bool) → (b || q) ≡ (q || (b || false))
 swapped true true = refl
 swapped true false = refl
 swapped false true = refl
 swapped false false = refl
-
-first_assoc : (a b c : Option NamingFault) → first_of (first_of a b) c ≡ first_of a (first_of b c)
-first_assoc None b c = refl
-first_assoc (Some f) b c = refl
 
 -- the names of a table that were made before
 abbrev AreBefore : Table → List Made → List Word → Type 0

@@ -17,11 +17,12 @@ use Rattle.elab_names.specs.Where.{Where}
 use Rattle.elab_walk.specs.Pieces.{types_at}
 use Rattle.elab_walk.specs.Scoped.{IsScoped}
 use Rattle.elab_walk.proofs.Below.{forms_below}
-use Rattle.elab_walk.proofs.Growing.{map_same, types_grow, types_stay}
+use Rattle.elab_walk.proofs.Growing.{types_grow, types_stay}
 use Rattle.elab_walk.proofs.Walking.{none_both}
 use Rattle.elab_parts.specs.Declarations.{AlgebraicConstructor, AlgebraicType, words, with_vars, constructors_fault, types_fault}
 use Rattle.elab_types.specs.Algebraics.{entry_count, constructor_trees, algebraic_trees}
 use Rattle.elab_types.specs.Held.{ConTyped, AlgTyped, AreConsWithin, AreWithin}
+use Rattle.tasks.proofs.Growth.{map_agree as map_same}
 
 module _ (s s' : List Tree) (g : Grows s s') where
   con_grows : (c : Con) → ConTyped s c → ConTyped s' c

@@ -11,6 +11,7 @@ use Rattle.elab_names.specs.Where.{Where, MeaningTree, Stands, Abbreviates, plac
 use Rattle.elab_names.specs.Faults.{first_of, fault_if, meaning_fault, form_fault, forms_fault, symbol_fault, local_fault, is_variable, name_fault, type_fault, binders_fault, bound_names, constructor_fault, pattern_fault, patterns_fault, pattern_names, later_fault, alternatives_fault, alternatives_names, TriggerHeadTree, trigger_named, trigger_equality, trigger_other, trigger_head, makes_formulas, is_formula_head, is_formula_trigger, fault, faults, triggers_fault, branches_fault, first_pattern_fault, has_alternative}
 use Rattle.elab_variables.specs.Seen.{SeenTree, with_variable, with_width, form_seen, forms_seen, type_seen, binders_seen, pattern_seen, patterns_seen, alternatives_seen, seen, all_seen, branches_seen}
 use Rattle.elab_names.proofs.Placed.{one_more}
+use Rattle.plain_laws.proofs.Lists.{bytes_same}
 
 abbrev IsIn : Word → List Word → Type 0
 IsIn v vs = is_some (place_of v vs) ≡ true
@@ -29,9 +30,6 @@ none_both (Some f) y h = absurd (cc)
 
 both_none : (x y : Option NamingFault) → x ≡ None → y ≡ None → first_of x y ≡ None
 both_none x y p q = rw p q
-
-bytes_same : (xs : List ℕ) → bytes_eq xs xs ≡ true
-bytes_same xs = (bytes_eq-Decides xs xs).1 refl
 
 head_or : (b : Bool) (x : Option ℕ) → b ≡ true → is_some (cond b (Some 0) x) ≡ true
 head_or true x h = refl

@@ -35,7 +35,7 @@ use Rattle.elab_walk.proofs.Noting.{next, count_replicate, more_noted, noted_aft
 use Rattle.elab_walk.proofs.Walking.{none_both, not_if, set_on, walked_both, walked_bare, grown_sort}
 
 -- ---- names of variables
-names_both : (xs ys : List LocalTree) → names (xs ++ ys) ≡ names xs ++ names ys
+pub names_both : (xs ys : List LocalTree) → names (xs ++ ys) ≡ names xs ++ names ys
 names_both [] ys = refl
 names_both (x ∷ xs) ys = ap (λ (r : List Word). x.name ∷ r) (names_both xs ys)
 
@@ -47,18 +47,18 @@ pub names_locals : (s : List Tree) (ls : Locals) → names (locals_at s ls) ≡ 
 names_locals s Outside = refl
 names_locals s (Inside' ls p outer) = names_both (reverse (map (local_at s) ls.now)) (locals_at s outer) ∙ cc (names_reverse s ls.now, names_locals s outer)
 
-either_way : (b : Bool) (z : ℕ × Tree) (p : Option ℕ) (q : Option (ℕ × Tree)) → is_some p ≡ is_some q → is_some (cond b (Some 0) (option_map suc p)) ≡ is_some (cond b (Some z) (option_map (λ (r : ℕ × Tree). (suc r.0, r.1)) q))
+pub either_way : (b : Bool) (z : ℕ × Tree) (p : Option ℕ) (q : Option (ℕ × Tree)) → is_some p ≡ is_some q → is_some (cond b (Some 0) (option_map suc p)) ≡ is_some (cond b (Some z) (option_map (λ (r : ℕ × Tree). (suc r.0, r.1)) q))
 either_way true z p q h = refl
 either_way false z None None h = refl
 either_way false z None (Some r) h = h
 either_way false z (Some k) None h = h
 either_way false z (Some k) (Some r) h = refl
 
-variable_name : (c : Word) (xs : List LocalTree) → is_some (place_of c (names xs)) ≡ is_some (variable_named c xs)
+pub variable_name : (c : Word) (xs : List LocalTree) → is_some (place_of c (names xs)) ≡ is_some (variable_named c xs)
 variable_name c [] = refl
 variable_name c (x ∷ xs) = either_way (bytes_eq x.name c) (0, x.type) (place_of c (names xs)) (variable_named c xs) (variable_name c xs)
 
-found_name : (qs : List Word) (c : Word) (xs : List LocalTree) → is_variable qs c (names xs) ≡ is_some (found_local qs c xs)
+pub found_name : (qs : List Word) (c : Word) (xs : List LocalTree) → is_variable qs c (names xs) ≡ is_some (found_local qs c xs)
 found_name [] c xs = variable_name c xs
 found_name (q ∷ qs) c xs = refl
 

@@ -18,11 +18,7 @@ use Rattle.elab_names.specs.Where.{Where, MeaningTree, Stands, Abbreviates, plac
 use Rattle.elab_walk.specs.Patterns.{LocalTree, at_unknowns, result_or_int, first_or_int, rest_of, entry_of, reordering}
 use Rattle.elab_walk.specs.Pieces.{type_at, types_at, applied_meaning, variable_at, Use, Local', Symbol', variable_named, found_local, use_of_name, use_or, use_vars, parameters, symbol_at_types, untyped, locals_of_type, binder_locals, binder_vars, binders_vars, bound, quantify}
 use Rattle.elab_walk.specs.Scoped.{IsScoped, IsScopedEntry, IsScopedMeaning}
-use Rattle.elab_walk.proofs.Walking.{none_both, not_if}
-
-not_not : (b : Bool) → not b ≡ false → b ≡ true
-not_not true h = refl
-not_not false h = absurd (cc)
+use Rattle.elab_walk.proofs.Walking.{none_both, not_if, not_not}
 
 leaf_more : (h : Head) (m n : ℕ) → m ≤ n → leaf_below h m → leaf_below h n
 leaf_more (HTyVar j) m n l b = omega arith

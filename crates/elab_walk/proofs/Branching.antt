@@ -32,16 +32,15 @@ use Rattle.elab_walk.specs.declared.patterns.LaterPattern.{LaterPattern}
 use Rattle.elab_walk.specs.Patterns.{Notes, no_notes, noted, with_match, follow, taken, LocalTree, local, entry_of, Matched, pattern_piece, patterns_piece, part_types, first_or_int, rest_of, alternatives_pieces, later_pieces, first_variables, pattern_trees, places_among, arms, later_arms, reordered, cells_onto}
 use Rattle.elab_walk.specs.Pieces.{NotedTree, unknown_after, piece, unknown, Arms, with_branch, branches_arms, names}
 use Rattle.elab_walk.specs.Drafts.{HoldsType, WorldHeld, HoldsPattern, LaterHeld, PatternsHeld, IsMade, IsNoted, IsMatched, IsWalked, IsSet, CanWalk, LocalsHeld, IsLater, AreLater, AreDraftedAlternatives, AreArms, later_at, later_of, later_arm, branch_trees, branch_arms, local_at, local_name, locals_at, names_of_locals, is_due, due}
-use Rattle.elab_walk.proofs.Growing.{map_same, held_grows, world_stays, locals_stay, locals_grow, each_stays, type_stays, wanted_stays}
+use Rattle.elab_walk.proofs.Growing.{held_grows, world_stays, locals_stay, locals_grow, each_stays, type_stays, wanted_stays}
 use Rattle.elab_walk.proofs.Noting.{follow_nothing, more_noted, noted_as, noted_before, next, filled_noted}
 use Rattle.elab_walk.proofs.Walking.{none_both, must_be, as_begun}
 use Rattle.elab_walk.proofs.Quantified.{local_names}
 use Rattle.elab_walk.proofs.Binding.{mapped_both}
+use Rattle.elab_walk.proofs.Arguments.{names_both}
+use Rattle.tasks.proofs.Growth.{map_agree as map_same}
 
 -- ---- the names that patterns bind
-names_both : (xs ys : List LocalTree) → names (xs ++ ys) ≡ names xs ++ names ys
-names_both [] ys = refl
-names_both (x ∷ xs) ys = ap (λ (r : List Word). x.name ∷ r) (names_both xs ys)
 
 mutual
   pub pattern_variables : (w : Where) (first : Option (List LocalTree)) (n : ℕ) (t : Tree) (p : abstract.Pattern) → names (pattern_piece w first n t p).variables ≡ pattern_names p

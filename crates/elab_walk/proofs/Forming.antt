@@ -47,7 +47,7 @@ group_many w (t ∷ []) h = absurd (h refl)
 group_many w (t ∷ u ∷ us) h = refl
 
 -- ---- types by their numbers
-hold_each : (s : List Tree) (ids : List TermId) → AllByRecursion (HoldsType s) ids → HoldTypes s ids
+pub hold_each : (s : List Tree) (ids : List TermId) → AllByRecursion (HoldsType s) ids → HoldTypes s ids
 hold_each s [] h = tt
 hold_each s (id ∷ ids) h = ((h.0.held, h.0.kind), hold_each s ids h.1)
 

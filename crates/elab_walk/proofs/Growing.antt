@@ -21,14 +21,12 @@ use Rattle.elab_walk.specs.declared.locals.Locals.{Locals, Outside, Inside'}
 use Rattle.elab_walk.specs.declared.draft.Constraints.{Constraints}
 use Rattle.elab_walk.specs.declared.draft.MatchAt.{MatchAt}
 use Rattle.elab_walk.specs.Drafts.{HoldsType, IsReady, MatchHeld, match_at, notes_at, MeaningHeld, SymbolTyped, WorldHeld, LocalsHeld, local_at, locals_at}
+use Rattle.tasks.proofs.Growth.{map_agree as map_same}
 
 -- functions that agree at each element of a list
 mapped_same : {A B : Type 0} (f g : A → B) (xs : List A) → AllByRecursion (λ x. f x ≡ g x) xs → map f xs ≡ map g xs
 mapped_same f g [] h = refl
 mapped_same f g (x ∷ xs) h = cc (h.0, mapped_same f g xs h.1)
-
-pub map_same : {A B : Type 0} (f g : A → B) (xs : List A) → All (λ x. f x ≡ g x) xs → map f xs ≡ map g xs
-map_same f g xs h = mapped_same f g xs (recursion_from_All (λ x. f x ≡ g x) xs h)
 
 module _ (s s' : List Tree) (g : Grows s s') where
   pub held_grows : (id : TermId) → Holds s id → Holds s' id

@@ -24,11 +24,9 @@ use Rattle.elab_walk.specs.Drafts.{HoldsType, IsMade, IsNoted, IsBound, IsWalked
 use Rattle.elab_walk.proofs.Growing.{locals_stay, locals_grow, each_stays}
 use Rattle.elab_walk.proofs.Noting.{more_noted, noted_as, next, count_replicate}
 use Rattle.elab_walk.proofs.Walking.{none_both, walked_under, walked_after}
+use Rattle.elab_walk.proofs.Arguments.{names_both}
 
 -- ---- names
-names_both : (xs ys : List LocalTree) → names (xs ++ ys) ≡ names xs ++ names ys
-names_both [] ys = refl
-names_both (x ∷ xs) ys = ap (λ (r : List Word). x.name ∷ r) (names_both xs ys)
 
 untyped_names : (n : ℕ) (xs : List Word) → names (untyped n xs) ≡ xs
 untyped_names n [] = refl

@@ -15,6 +15,7 @@ use Rattle.binders.specs.Depth.{IsDepth}
 use Rattle.binders.specs.Known.{same_pair}
 use Rattle.elab_walk.specs.Patterns.{reordering}
 use Rattle.elab_walk.specs.Reordered.{IsInOrder, HeadFits, ReorderedFits, AllReorderedFit}
+use Rattle.binders.proofs.Rebuilt.{both_true}
 
 -- ---- at a variable
 pub low_place : (ps : List ℕ) (d i : ℕ) (ty : Tree) → i < d → (reordering ps).bound d i ty ≡ Bound i ty
@@ -74,12 +75,6 @@ own_head s e h parts.None q = ap head_of q
 own_head s e h (parts.One a) q = ap head_of q
 own_head s e h (parts.Two a b) q = ap head_of q
 own_head s e h (parts.Three a b c) q = ap head_of q
-
--- what was looked at
-both_true : (a b : Bool) → a && b ≡ true → (a ≡ true) × (b ≡ true)
-both_true true true e = (refl, refl)
-both_true true false e = absurd (cc)
-both_true false b e = absurd (cc)
 
 pub fits_there : (ps : List ℕ) (s : List Tree) (ks : List (ℕ × ℕ)) (n depth : ℕ) → AllReorderedFit ps s ks → list_any (same_pair (n, depth)) ks ≡ true → ReorderedFits ps depth (get_or s n (Leaf HEnd))
 fits_there ps s [] n depth h e = absurd (cc)

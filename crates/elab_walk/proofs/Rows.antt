@@ -12,6 +12,7 @@ use Rattle.elab_names.specs.Abstract.{composed_type, no_types, more_types, Patte
 use Rattle.elab_names.specs.Where.{Where, Stands, Abbreviates}
 use Rattle.elab_walk.specs.Patterns.{local, alternatives_pieces, all_notes, reordered}
 use Rattle.elab_walk.specs.Pieces.{piece, type_at}
+use Rattle.elab_names.proofs.Rows.{called}
 
 abbrev entry : Word → SymbolKind → ℕ → List Tree → Option Tree → SymbolTree
 entry name kind vars args result = record { theory = codes "T"; name = name; kind = kind; vars = vars; args = args; result = result }
@@ -27,11 +28,6 @@ list_of a = One (HTyApp 5) (cells (a ∷ []))
 
 abbrev pair_of : Tree → Tree → Tree
 pair_of a b = One (HTyApp 8) (cells (a ∷ b ∷ []))
-
-abbrev called : {A : Type 0} → List (Word × A) → List Word → Word → Option A
-called [] qs x = None
-called (p ∷ ps) [] x = cond (bytes_eq p.0 x) (Some p.1) (called ps [] x)
-called (p ∷ ps) (q ∷ qs) x = None
 
 abbrev pair_at : ℕ → Option ℕ
 pair_at (suc (suc zero)) = Some 9

@@ -12,7 +12,7 @@ use Rattle.elab_walk.specs.Drafts.{HoldsType, IsReady, IsNoted, IsTaken}
 use Rattle.elab_walk.proofs.Growing.{types_stay, types_more}
 use Rattle.elab_walk.proofs.Noting.{nothing_noted, more_noted, noted_as, next, count_replicate}
 
-variables_more : (n k : ℕ) → type_variables n (suc k) ≡ type_variables n k ++ Leaf (HTyVar (n + k)) ∷ []
+pub variables_more : (n k : ℕ) → type_variables n (suc k) ≡ type_variables n k ++ Leaf (HTyVar (n + k)) ∷ []
 variables_more n zero = ap (λ (m : ℕ). Leaf (HTyVar m) ∷ []) (let e : n ≡ n + 0 = omega arith in e)
 variables_more n (suc k) =
     let e : n + 1 + k ≡ n + suc k = omega arith in

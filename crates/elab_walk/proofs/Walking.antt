@@ -40,7 +40,7 @@ pub not_if : (b : Bool) (f : NamingFault) → fault_if b f ≡ None → b ≡ fa
 not_if true f h = absurd (cc)
 not_if false f h = refl
 
-not_not : (b : Bool) → not b ≡ false → b ≡ true
+pub not_not : (b : Bool) → not b ≡ false → b ≡ true
 not_not true h = refl
 not_not false h = absurd (cc)
 

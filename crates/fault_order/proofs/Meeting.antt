@@ -8,10 +8,7 @@ use Rattle.fault_order.specs.declared.faults.Fault.{Fault}
 use Rattle.fault_order.specs.declared.faults.Fault.TheVariants.{TooLong}
 use Rattle.fault_order.specs.declared.faults.RunFault.{RunFault}
 use Rattle.fault_order.specs.declared.faults.RunFault.TheVariants as run_fault
-
-pub told : {A : Type 0} (o : Option A) (P Q : A → Type 0) → ((x : A) → P x → Q x) → IfSome o P → IfSome o Q
-told None P Q f p = tt
-told (Some x) P Q f p = f x p
+use Rattle.plain_laws.proofs.Options.{if_some as told}
 
 pub told_both : {A : Type 0} (o : Option A) (P Q R : A → Type 0) → ((x : A) → P x → Q x → R x) → IfSome o P → IfSome o Q → IfSome o R
 told_both None P Q R f p q = tt

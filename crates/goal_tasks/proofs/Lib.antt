@@ -1,6 +1,5 @@
-mod Placed
-mod TuplesMade
-mod Passed
+pub mod Placed
+pub mod TuplesMade
 mod TupleNames
 mod Steps
 mod Lists

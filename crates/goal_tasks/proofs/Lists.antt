@@ -6,12 +6,7 @@ use Rattle.std.proofs.lemmas.List.Concat.{flat_map-append}
 use Rattle.trees.specs.Tree.{Tree}
 use Rattle.goal_tasks.specs.Gathered.{Walks}
 use Rattle.goal_tasks.proofs.Steps.{walks_then}
-
-pub flat_take : {X A : Type 0} (f : X → List A) (xs : List X) (i : ℕ) (d : X) → i < length xs → flat_map f (take (i + 1) xs) ≡ flat_map f (take i xs) ++ f (get_or xs i d)
-flat_take f xs i d h = ap (flat_map f) (take_more xs i d h) ∙ flat_map-append f (take i xs) (get_or xs i d ∷ []) ∙ ap (λ z. flat_map f (take i xs) ++ z) (append-nil (f (get_or xs i d)))
-
-pub flat_more : {X Y A : Type 0} (f : Y → List A) (g : X → Y) (xs : List X) (i : ℕ) (d : X) → i < length xs → flat_map f (map g (take (i + 1) xs)) ≡ flat_map f (map g (take i xs)) ++ f (g (get_or xs i d))
-flat_more f g xs i d h = ap (flat_map f) (map_more g xs i d h) ∙ flat_map-append f (map g (take i xs)) (g (get_or xs i d) ∷ []) ∙ ap (λ z. flat_map f (map g (take i xs)) ++ z) (append-nil (f (g (get_or xs i d))))
+use Rattle.plain_laws.proofs.Lists.{flat_more}
 
 pub walks_step : (s : List Tree) (a b c d e old one new : List ℕ) → new ≡ old ++ one → Walks s a b d old → Walks s b c e one → Walks s a c e new
 walks_step s a b c d e old one new q h k = rw q (walks_then s a b c d e old one h k)

@@ -10,27 +10,13 @@ use Rattle.trees.specs.declared.Parts.TheVariants as parts
 use Rattle.trees.specs.Node.{tree_at, node_tree, assemble, head_of_node, parts_of}
 use Rattle.goal_tasks.specs.Named.{head_named, named, inner_named, is_among}
 use Rattle.goal_tasks.specs.Gathered.{GainsSymbols, AreAmong, AreGathered, Walks}
-
-or_none : (a : Bool) → a ≡ (a || false)
-or_none true = refl
-or_none false = refl
-
-or_joined : (a b c : Bool) → ((a || b) || c) ≡ (a || (b || c))
-or_joined true b c = refl
-or_joined false b c = refl
+use Rattle.outside.proofs.Bools.{or_grouped as or_joined, or_false as or_none}
+use Rattle.std.proofs.lemmas.Bool.{or_left, or_right}
 
 or_there : (a b : Bool) → (b ≡ true → a ≡ true) → a ≡ (a || b)
 or_there true b h = refl
 or_there false true h = h refl
 or_there false false h = refl
-
-or_left : (a b : Bool) → a ≡ true → (a || b) ≡ true
-or_left true b h = refl
-or_left false b h = absurd (cc)
-
-or_right : (a b : Bool) → b ≡ true → (a || b) ≡ true
-or_right true b h = refl
-or_right false b h = h
 
 or_cases : (a b : Bool) {P : Type 0} → (a || b) ≡ true → (a ≡ true → P) → (b ≡ true → P) → P
 or_cases true b h f g = f refl

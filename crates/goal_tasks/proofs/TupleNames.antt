@@ -11,6 +11,7 @@ use Rattle.tasks.specs.Vocabulary.{is_constructor_kind}
 use Rattle.tasks.specs.Entries.{builtin, is_tuple, tuple_from}
 use Rattle.goal_tasks.specs.Tuples.{symbol_of_width}
 use Rattle.goal_tasks.specs.declared.tuples.TupleName.{TupleName}
+use Rattle.outside.proofs.Bools.{and_true}
 
 -- the first of two answers
 abbrev pub or_number : Option ℕ → Option ℕ → Option ℕ
@@ -34,10 +35,6 @@ last_false false b c = refl
 own_width : (n : ℕ) (e : SymbolTree) (b : Bool) → (e.vars == n) ≡ b → is_tuple n e ≡ (b && is_tuple e.vars e)
 own_width n e true q = subst (λ (k : ℕ). is_tuple k e ≡ is_tuple e.vars e) (eqb-true e.vars n q) refl
 own_width n e false q = ap (λ (b : Bool). is_constructor_kind e.kind && (bytes_eq e.theory builtin && (b && length e.args == n))) q ∙ last_false (is_constructor_kind e.kind) (bytes_eq e.theory builtin) (length e.args == n)
-
-and_true : (b : Bool) → (b && true) ≡ b
-and_true true = refl
-and_true false = refl
 
 and_false : (b : Bool) → (b && false) ≡ false
 and_false true = refl

@@ -21,7 +21,7 @@ projections_count : (theory constructor : List ℕ) (vars : ℕ) (type : Tree) (
 projections_count theory constructor vars type i [] = refl
 projections_count theory constructor vars type i (f ∷ fs) = ap suc (projections_count theory constructor vars type (suc i) fs)
 
-variables_count : (from n : ℕ) → length (type_variables from n) ≡ n
+pub variables_count : (from n : ℕ) → length (type_variables from n) ≡ n
 variables_count from zero = refl
 variables_count from (suc n) = ap suc (variables_count (from + 1) n)
 

@@ -7,6 +7,7 @@ use Rattle.trees.proofs.Above.{type_left}
 use Rattle.trees.proofs.Laws.{shift_closed}
 use Rattle.trees.proofs.Many.{many_below, many_at, many_above, cases_many, inst_is_many}
 use Rattle.tasks.specs.Valid.{VariablesBelow, LeafBelow, ParametersOf, OneOf}
+use Rattle.tasks.proofs.TypeInstances.{further as longer}
 
 -- what is put in for a variable: a variable, or one of the terms
 module _ (env : List Tree) (closed : (k : ℕ) (e : Tree) → k < length env → loose (get_or env k e) ≡ 0) where
@@ -99,10 +100,6 @@ module _ (t : Tree) (closed : loose t ≡ 0) where
       subst (λ (z : Tree). above_params z ≤ m) (inst_is_many e t) (above_at (t ∷ []) (one_each (λ z. loose z ≡ 0) closed) m (one_each (λ z. above_params z ≤ m) x) 0 e l)
 
 -- ---- parameters of a list of types are below its length, and stay those of a longer list
-longer : (types more : List Tree) (n : ℕ) (a : Tree) → slice_get types n ≡ Some a → slice_get (types ++ more) n ≡ Some a
-longer [] more n a h = absurd (cc)
-longer (x ∷ xs) more zero a h = h
-longer (x ∷ xs) more (suc n) a h = longer xs more n a h
 
 one_longer : (types more : List Tree) (h : Head) (a : Tree) → OneOf types h a → OneOf (types ++ more) h a
 one_longer types more (HParam n) a p = longer types more n a p
@@ -114,7 +111,7 @@ parameters_longer types more (One h a) p = (one_longer types more h a p.0, param
 parameters_longer types more (Two h a b) p = (parameters_longer types more a p.0, parameters_longer types more b p.1)
 parameters_longer types more (Three h a b c) p = (parameters_longer types more a p.0, parameters_longer types more b p.1, parameters_longer types more c p.2)
 
-slot : (types : List Tree) (n : ℕ) (a : Tree) → slice_get types n ≡ Some a → n < length types
+pub slot : (types : List Tree) (n : ℕ) (a : Tree) → slice_get types n ≡ Some a → n < length types
 slot [] n a h = absurd (cc)
 slot (x ∷ xs) zero a h = omega arith
 slot (x ∷ xs) (suc n) a h = omega (arith, slot xs n a h)

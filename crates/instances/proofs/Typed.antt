@@ -7,7 +7,7 @@ use Rattle.trees.specs.Binding.{change, leaf_by, inst, instantiating_many, inst_
 use Rattle.trees.specs.Sorts.{Fits, sort_of, yield_type, type_of, top_type, two_type, IsList}
 use Rattle.trees.specs.Facts.{PutsSorts}
 use Rattle.trees.proofs.Sorts.{sort_of-change, one_fits, two_fits, three_fits}
-use Rattle.trees.proofs.Types.{OnlyTypes, only_types, AreKinds}
+use Rattle.trees.proofs.Types.{OnlyTypes, only_types, AreKinds, three_no_cell, one_no_cell}
 use Rattle.trees.proofs.Above.{types_left}
 use Rattle.trees.proofs.Laws.{shift_closed}
 use Rattle.trees.proofs.Many.{many_below, many_at, many_above, cases_many, inst_is_many}
@@ -17,17 +17,14 @@ use Rattle.tasks.specs.Typing.{members, entry, IsTypeSymbol, IsUse, HasResult, o
 use Rattle.tasks.proofs.Closing.{typed_sorted, typed_closed}
 use Rattle.tasks.proofs.Counts.{bound_count}
 use Rattle.instances.specs.Instances.{IsTermOf, AreFor}
+use Rattle.tasks.proofs.TypeInstances.{further, one_further, typed_further}
+use Rattle.instances.proofs.Kept.{slot as within}
 
 -- ---- places of lists
 pub present : (xs : List Tree) (i : ℕ) → i < length xs → (x : Tree) × (slice_get xs i ≡ Some x)
 present [] i l = absurd (omega arith)
 present (x ∷ xs) zero l = (x, refl)
 present (x ∷ xs) (suc i) l = present xs i (omega arith)
-
-within : (xs : List Tree) (i : ℕ) (x : Tree) → slice_get xs i ≡ Some x → i < length xs
-within [] i x h = absurd (cc)
-within (y ∷ xs) zero x h = omega arith
-within (y ∷ xs) (suc i) x h = omega (arith, within xs i x h)
 
 slice_left : (xs ys : List Tree) (i : ℕ) (x : Tree) → i < length xs → slice_get (xs ++ ys) i ≡ Some x → slice_get xs i ≡ Some x
 slice_left [] ys i x l h = absurd (omega arith)
@@ -40,23 +37,6 @@ slice_right (y ∷ xs) ys zero j x q h = absurd (omega arith)
 slice_right (y ∷ xs) ys (suc i) j x q h = slice_right xs ys i j x (omega arith) h
 
 -- ---- what is typed stays typed under more binders; a type is typed under any
-further : (types more : List Tree) (i : ℕ) (a : Tree) → slice_get types i ≡ Some a → slice_get (types ++ more) i ≡ Some a
-further [] more i a h = absurd (cc)
-further (x ∷ xs) more zero a h = h
-further (x ∷ xs) more (suc i) a h = further xs more i a h
-
-one_further : (t : Vocabulary) (types more : List Tree) (h : Head) (a : Tree) → OneTyped t types h a → OneTyped t (types ++ more) h a
-one_further t types more (HBound i) a x = further types more i a x
-one_further t types more (HTyApp k) a x = x
-one_further t types more _ a x = tt
-
-pub typed_further : (t : Vocabulary) (types more : List Tree) (e : Tree) → TypedUnder t types e → TypedUnder t (types ++ more) e
-typed_further t types more (Leaf h) x = x
-typed_further t types more (One h a) x = (x.0, one_further t types more h a x.1, typed_further t types more a x.2)
-typed_further t types more (Two h a b) x =
-    let under : TypedUnder t ((bound_types h a ++ types) ++ more) b = typed_further t (bound_types h a ++ types) more b x.3 in
-    (x.0, x.1, typed_further t types more a x.2, rw append_assoc at under)
-typed_further t types more (Three h a b c) x = (x.0, x.1, typed_further t types more a x.2, typed_further t types more b x.3, typed_further t types more c x.4)
 
 kind_one : (t : Vocabulary) (types more : List Tree) (h : Head) (a : Tree) (n : ℕ) → h ≡ HTyApp n → OneTyped t types h a → OneTyped t more h a
 kind_one t types more (HBound i) a n q x = absurd (cc)
@@ -121,14 +101,6 @@ branches_like type first other (Two HCell (Two HArm p e) bs) s q x = ((x.0.0, x.
 branches_like type first other (Two HCell b bs) s q x = absurd x.0
 branches_like type first other (Two _ a b) s q x = tt
 branches_like type first other (Three h a b c) s q x = tt
-
-one_no_cell : (h : Head) (a : Tree) → Fits (One h a) → h ≡ HCell → ⊥
-one_no_cell HCell a f e = f
-one_no_cell _ a f e = cc
-
-three_no_cell : (h : Head) (a b c : Tree) → Fits (Three h a b c) → h ≡ HCell → ⊥
-three_no_cell HCell a b c f e = f
-three_no_cell _ a b c f e = cc
 
 -- a term that is put in for a variable of this type, below binders of these types
 record IsPut (v : Vocabulary) (bs : List Tree) (ty t : Tree) : Type 0 where

@@ -12,7 +12,7 @@ use Rattle.std.specs.Char.{digit_value}
 use Rattle.std.specs.Str.Parse.{AllDigits, digits_value_after, digits_value}
 use Rattle.integer_words.specs.Integers.{number_from, number_below, negative, integer}
 
-value_grows : (n : ℕ) (ds : List ℕ) → n ≤ digits_value_after 10 n ds
+pub value_grows : (n : ℕ) (ds : List ℕ) → n ≤ digits_value_after 10 n ds
 value_grows n [] = omega arith
 value_grows n (c ∷ cs) = omega (arith, value_grows (n * 10 + digit_value c) cs)
 

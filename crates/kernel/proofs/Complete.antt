@@ -30,9 +30,7 @@ use Rattle.tasks.specs.Typing.{IsTyped}
 use Rattle.tasks.specs.Valid.{IsGround, IsGroundFormula, IsTypeOver}
 use Rattle.kernel.specs.Right.{IsGroundExpression}
 use Rattle.kernel.specs.Open.{OpenIn, TemplateIsOpen, StepIsOpen, IsComplete, EachClosed}
-
-is_zero : (l : ℕ) → (l == 0) ≡ true → l ≡ 0
-is_zero l h = grind (arith, nat_tests)
+use Rattle.term_rows.proofs.Bound.{zero_of as is_zero}
 
 module _ (t : TaskTree) (e : Tree) where
   -- where no variable is open

@@ -14,6 +14,7 @@ use Rattle.tasks.specs.Vocabulary.{Vocabulary, of_signature}
 use Rattle.tasks.specs.Typing.{members, IsUse, HasResult, TypedUnder}
 use Rattle.match_cover.specs.Shapes.{type_arguments, field_types, Builds, without_aliases}
 use Rattle.match_cover.specs.Tables.{BareFits, RowFits}
+use Rattle.plain_laws.proofs.Options.{some_and as some_parts}
 
 -- ---- what is of the sort of patterns is a pattern
 expression_yield : (h : Head) (s : Sort) → IsExpression (top_sort h s) → top_sort h s ≡ s
@@ -84,7 +85,7 @@ branches_yield v types (Two _ a b) l c x = absurd (cc)
 branches_yield v types (Three h a b c) l d x = let f = subst (λ g. Fits (Three g a b c)) d x.0 in absurd f
 
 -- ---- the type of a pattern is what it yields
-pattern_top : (h : Head) (s : Sort) (o : Option Tree) → top_sort h s ≡ Pattern → top_type h o ≡ o
+pub pattern_top : (h : Head) (s : Sort) (o : Option Tree) → top_sort h s ≡ Pattern → top_type h o ≡ o
 pattern_top HCell s o e = absurd (cc)
 pattern_top HArm s o e = absurd (cc)
 pattern_top _ s o e = refl
@@ -114,9 +115,6 @@ pattern_fits symbols t (Three HIf a b d) k x e = absurd (yields_no_pattern b x.0
 pattern_fits symbols t (Three _ a b d) k x e = absurd (cc)
 
 -- ---- the types of a constructor's parts
-some_parts : {X : Type 0} (o : Option X) (P : X → Type 0) → IsSomeAnd o P → (e : X) × (o ≡ Some e) × P e
-some_parts None P h = absurd h
-some_parts (Some e) P h = (e, refl, h)
 
 -- a symbol's own type variables become the types that are put in
 put_in : (tys : List Tree) (n from : ℕ) → from + n ≡ length tys → members (change (typing tys) 0 (cells (type_variables from n))) ≡ drop from tys

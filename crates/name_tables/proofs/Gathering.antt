@@ -5,10 +5,12 @@ use Rattle.std.proofs.lemmas.List.Folds.{list_any-append}
 use Rattle.std.proofs.lemmas.Bool.Decides.{nat_tests, Decides-eqb}
 use Rattle.trees.specs.Tree.{Tree}
 use Rattle.linear_leaf.specs.Valuations.{same_tree}
-use Rattle.linear_leaf.proofs.SameTree.{and_left, and_right, same_is, same_refl}
+use Rattle.linear_leaf.proofs.SameTree.{same_is, same_refl}
 use Rattle.name_tables.specs.Occurrences.{Occurrence, occurrence, in_type}
 use Rattle.name_tables.specs.Tables.{is_same}
 use Rattle.name_tables.specs.Seen.{has, with_one, with_all, AreIn, TypesAreIn, HasTypeArguments}
+use Rattle.std.proofs.lemmas.Bool.{or_left, or_right}
+use Rattle.plain_laws.proofs.Bools.{and_first as and_left, and_second as and_right}
 
 -- the test tells whether two are equal
 pub same_occurrence : (o p : Occurrence) → is_same o p ≡ true → o ≡ p
@@ -19,14 +21,6 @@ same_occurrence o p h =
 
 pub same_itself : (o : Occurrence) → is_same o o ≡ true
 same_itself o = let k = (Decides-eqb o.symbol o.symbol).1 refl in let t = same_refl o.types in rw (k, t) refl
-
-or_right : (a b : Bool) → b ≡ true → (a || b) ≡ true
-or_right true b h = refl
-or_right false b h = h
-
-or_left : (a b : Bool) → a ≡ true → (a || b) ≡ true
-or_left true b h = refl
-or_left false b h = absurd (cc)
 
 or_none : (a : Bool) → (a || false) ≡ a
 or_none true = refl

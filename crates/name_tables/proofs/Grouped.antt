@@ -15,7 +15,7 @@ use Rattle.name_tables.proofs.Gathering.{same_occurrence, with_one_there, with_o
 use Rattle.name_tables.proofs.Distinct.{distinct_is}
 
 -- one that is in a list of what is there, is there
-has_in : (zs os : List Occurrence) (o : Occurrence) → AreIn zs os → has os o ≡ true → has zs o ≡ true
+pub has_in : (zs os : List Occurrence) (o : Occurrence) → AreIn zs os → has os o ≡ true → has zs o ≡ true
 has_in zs [] o h e = absurd (cc)
 has_in zs (q ∷ qs) o h e = elim (is_same o q) as (λ b. is_same o q ≡ b → (b || has qs o) ≡ true → has zs o ≡ true) [
   | true ↦ λ k _. subst (λ (z : Occurrence). has zs z ≡ true) (sym (same_occurrence o q k)) h.0
@@ -23,7 +23,7 @@ has_in zs (q ∷ qs) o h e = elim (is_same o q) as (λ b. is_same o q ≡ b → 
 ] refl e
 
 -- what passes a test stays in the filter
-has_filter : (p : Occurrence → Bool) (xs : List Occurrence) (o : Occurrence) → p o ≡ true → has xs o ≡ true → has (filter p xs) o ≡ true
+pub has_filter : (p : Occurrence → Bool) (xs : List Occurrence) (o : Occurrence) → p o ≡ true → has xs o ≡ true → has (filter p xs) o ≡ true
 has_filter p [] o h e = e
 has_filter p (x ∷ xs) o h e = elim (is_same o x) as (λ b. is_same o x ≡ b → (b || has xs o) ≡ true → has (filter p (x ∷ xs)) o ≡ true) [
   | true ↦ λ k _.

@@ -15,12 +15,6 @@ use Rattle.name_tables.specs.Own.{said_occurrences}
 use Rattle.name_tables.specs.Seen.{seen_occurrences, with_all, Sees, WalksTerms, GainsKeys}
 use Rattle.name_tables.proofs.Steps.{gains_then, sees_then, walks_then}
 
-pub flat_take : {X A : Type 0} (f : X → List A) (xs : List X) (i : ℕ) (d : X) → i < length xs → flat_map f (take (i + 1) xs) ≡ flat_map f (take i xs) ++ f (get_or xs i d)
-flat_take f xs i d h = ap (flat_map f) (take_more xs i d h) ∙ flat_map-append f (take i xs) (get_or xs i d ∷ []) ∙ ap (λ z. flat_map f (take i xs) ++ z) (append-nil (f (get_or xs i d)))
-
-pub flat_more : {X Y A : Type 0} (f : Y → List A) (g : X → Y) (xs : List X) (i : ℕ) (d : X) → i < length xs → flat_map f (map g (take (i + 1) xs)) ≡ flat_map f (map g (take i xs)) ++ f (g (get_or xs i d))
-flat_more f g xs i d h = ap (flat_map f) (map_more g xs i d h) ∙ flat_map-append f (map g (take i xs)) (g (get_or xs i d) ∷ []) ∙ ap (λ z. flat_map f (map g (take i xs)) ++ z) (append-nil (f (g (get_or xs i d))))
-
 -- what occurs in what declarations say
 abbrev pub propositions : List DeclarationTree → List Occurrence
 propositions ds = flat_map in_proposition (props_of ds)

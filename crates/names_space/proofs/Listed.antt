@@ -15,6 +15,7 @@ use Rattle.names_space.specs.declared.entries.Stored.{Stored}
 use Rattle.names_space.specs.declared.entries.Item.{Item}
 use Rattle.names_space.specs.Names.{ScopeEntry, is_named, same_table, latest, is_declared, imported}
 use Rattle.names_space.specs.Kept.{stored_entry, entries_before, latest_first, brought_entry, brought_before, was_declared, meaning_thing, with_meaning, latest_meaning, meaning_in, stored_meaning, KeepBefore, meanings_of, IsKeptMap}
+use Rattle.plain_laws.proofs.Lists.{bytes_apart as apart, bytes_are as bytes_eq_is, bytes_same as bytes_eq_refl, other_entries}
 
 pub same_table_is : (t u : Table) → same_table t u ≡ true → t ≡ u
 same_table_is Types Types h = refl
@@ -39,12 +40,6 @@ same_table_refl Types = refl
 same_table_refl Symbols = refl
 same_table_refl Propositions = refl
 same_table_refl Scopes = refl
-
-pub bytes_eq_is : (xs ys : List ℕ) → bytes_eq xs ys ≡ true → xs ≡ ys
-bytes_eq_is xs ys h = (bytes_eq-Decides xs ys).0 h
-
-pub bytes_eq_refl : (xs : List ℕ) → bytes_eq xs xs ≡ true
-bytes_eq_refl xs = (bytes_eq-Decides xs xs).1 refl
 
 thing_at : (b : Bool) (e : ScopeEntry) (m : Option Meaning) (rest : Option TypeName) → meaning_thing m ≡ rest → meaning_thing (cond b (with_meaning e m) m) ≡ cond b (Some e.thing) rest
 thing_at true e m rest h = refl
@@ -121,14 +116,6 @@ drop-append-rest p es = grind (arith, common_steps)
 
 pub drop-brought_before : (es : List ScopeEntry) (xs : List Item) → drop (length (brought_before es xs) - length es) (brought_before es xs) ≡ es
 drop-brought_before es xs = rw (brought_before-append es xs) (drop-append-rest (brought_before [] xs) es)
-
--- what a query for another key finds
-other_entries : {K X : Type 0} (eq : K → K → Bool) (test : K → Bool) (old new : List (K × X)) → KeepsOthers eq test old new → (other : K → Bool) → IsKeyTest eq other → AreApart test other → lookup other new ≡ lookup other old
-unfolding KeepsOthers
-other_entries eq test old new h = h
-
-apart : (name q key : List ℕ) → bytes_eq name q ≡ false → bytes_eq name key ≡ true → bytes_eq q key ≡ false
-apart name q key differs same = nat_list_eq_equiv.symm q key ∙ sym (nat_list_eq_equiv.congr name key q same) ∙ differs
 
 -- what a map has at a name, after a change at one
 pub updates_name : {Y X S : Type 0} (name : List ℕ) (old new : HashMap (Vec ℕ Y) X S) (w : Option X) → UpdatesBy (λ x y. bytes_eq x.items y.items) (λ k. bytes_eq name k.items) old new w

@@ -2,22 +2,6 @@
 use Rattle.std.proofs.Common.{◌≡◌, Bool, true, false, ◌&&◌, ◌||◌, refl}
 pub use Rattle.std.proofs.lemmas.Bool.{cases_Bool, not-false, and_from, and_parts, and_right, or_left, or_right, or_cases, or_parts}
 
-pub first_of_and : (a b : Bool) → (a && b) ≡ true → a ≡ true
-first_of_and true b h = refl
-first_of_and false b h = h
-
-pub second_of_and : (a b : Bool) → (a && b) ≡ true → b ≡ true
-second_of_and true b h = h
-second_of_and false b h = absurd (cc)
-
-pub first_of_or : (a b : Bool) → (a || b) ≡ false → a ≡ false
-first_of_or true b h = h
-first_of_or false b h = refl
-
-pub second_of_or : (a b : Bool) → (a || b) ≡ false → b ≡ false
-second_of_or true b h = absurd (cc)
-second_of_or false b h = h
-
 pub and_true : (b : Bool) → (b && true) ≡ b
 and_true true = refl
 and_true false = refl

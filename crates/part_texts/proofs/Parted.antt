@@ -19,10 +19,7 @@ use Rattle.part_texts.specs.declared.fault.PartFault.TheVariants as part_fault
 use Rattle.part_texts.specs.Problems.{part_fault_at, or_later, first_fault, IsPartFault, AreProblems}
 use Rattle.part_texts.specs.Texts.{part_text, texts_from}
 use Rattle.part_texts.specs.Names.{name_text, names_from}
-
--- what is left from a place on
-pub left_at : {X : Type 0} (xs : List X) (i : ℕ) (x : X) → x ≡ get_or xs i x → i < length xs → drop i xs ≡ x ∷ drop (i + 1) xs
-left_at xs i x is l = drop_more xs i x l ∙ ap (λ z. z ∷ drop (i + 1) xs) (sym is)
+use Rattle.plain_laws.proofs.Lists.{drop_at as left_at}
 
 pub flat_step : {X : Type 0} (f : X → List ℕ) (xs : List X) (i : ℕ) (x : X) (old new all : List ℕ) → x ≡ get_or xs i x → i < length xs → new ≡ old ++ f x
     → old ++ flat_map f (drop i xs) ≡ all → new ++ flat_map f (drop (i + 1) xs) ≡ all

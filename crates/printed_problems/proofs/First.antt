@@ -66,18 +66,6 @@ pub meets_fault : {X : Type 0} (r : Result X PrintFault) (due : Option PrintFaul
 meets_fault (Ok x) due f h m = absurd h
 meets_fault (Err e) due f h m = subst (λ g. IsDueFault g due) (sym h) m
 
-pub no_ok : {T E : Type 0} (P : Type 0) (Q : E → Type 0) (r : Result T E) → IsErrAnd r Q → OnOk r P
-no_ok P Q (Ok v) h = absurd h
-no_ok P Q (Err e) h = tt
-
-pub no_value : {T E : Type 0} (P : T → Type 0) (Q : E → Type 0) (r : Result T E) → IsErrAnd r Q → IfOk r P
-no_value P Q (Ok v) h = absurd h
-no_value P Q (Err e) h = tt
-
-pub ok_any : {X E P : Type 0} (r : Result X E) → P → OnOk r P
-ok_any (Ok x) p = p
-ok_any (Err e) p = tt
-
 -- what is said of a formula whose forms are there and that has no type variable
 pub formula_rest : (d : Driver) (t : TaskTree) (n : ℕ) (e : Tree) → has_forms (syntax_of d.printer) e ≡ true → above_ty_vars e ≡ 0 → formula_fault d t n e ≡ syntax_fault d t (occurrences e)
 formula_rest d t n e h k = (λ i. if not (h i) then Some (Unprintable n) else (if not (k i == 0) then Some (Polymorphic n) else syntax_fault d t (occurrences e)))

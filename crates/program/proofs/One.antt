@@ -22,20 +22,16 @@ use Rattle.fault_order.specs.declared.faults.RunFault.TheVariants as run_fault
 use Rattle.fault_order.specs.Order.{RunStop, refused, absent, misused, Stage, StageMeaning, Answer, After, fetched, if_short, ShortFile, WholeFile, HasOneAnswer}
 use Rattle.source_goals.specs.Order.{Goal, GoalSettingTree, GoalUnder, AreDetermined}
 use Rattle.program.specs.Order.{or_not_built, or_stage_refused, Carried, Printable, PrintableParts, ProblemTexts, ProblemTables, PrintText, NamesText, accepted, AreSteps, Checks, Derivation, CheckText, if_counted, RefutesPart, PartFile, name_with_number, FirstFiles, Lifts, Handed, RefutationsRead, Lifting, LiftText, word_with_number, TextOf, AnswerBy, AnswerOf}
-use Rattle.fault_order.proofs.Meeting.{told}
 use Rattle.fault_order.proofs.OneStage.{one_answer, one_after}
 use Rattle.program.specs.Only.{IsDueAlone, IsOnlyAnswer, IsOnlyStop}
-use Rattle.source_goals.proofs.OneSource.{one_goal}
+use Rattle.source_goals.proofs.OneSource.{one_goal, one_short_file}
 use Rattle.source_goals.proofs.OneSetting.{one_setting}
 use Rattle.program.proofs.Checking.{one_outcome, one_wrong, one_list}
 use Rattle.statuses.specs.Words.{command_of}
 use Rattle.fault_order.specs.declared.faults.Fault.TheVariants.{Polymorphic, Unprintable, NoSyntax, WrongLine}
 use Rattle.statuses.specs.declared.words.Command.{Command}
 use Rattle.statuses.specs.declared.words.Command.TheVariants.{Print, Names, Check, Lift}
-
-one_short_file : (file : ℕ) (name : List ℕ) (files : Files) (limit : Option ℕ) → HasOneAnswer (ShortFile file name files limit)
-one_short_file file name files limit =
-    one_after (Answer (fetched file name 67108865 files limit)) (λ bytes. Answer (if_short file bytes)) (one_answer _) (λ bytes. one_answer _)
+use Rattle.plain_laws.proofs.Options.{if_some as told}
 
 one_carried : (g : GoalSettingTree) → HasOneAnswer (Carried g)
 one_carried g = one_after (Answer (or_not_built (stages_of g.driver g.task))) (λ stages. Answer (or_stage_refused (carried_task (map equation_of stages) g.task))) (one_answer _) (λ stages. one_answer _)

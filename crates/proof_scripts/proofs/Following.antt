@@ -25,6 +25,7 @@ use Rattle.proof_scripts.specs.declared.line.Line.{Line}
 use Rattle.proof_scripts.specs.declared.line.Line.TheVariants as line
 use Rattle.proof_scripts.specs.Scripts.{LineTree, GivenLine, KeptLine, RuleLine, HoldingLine, FailingLine, CutLine, word_rule, WordHeld, ids_of, added_ids, added_at, script_line_at, lines_at, LineHeld, LinesHeld, sequents_under, IsGiven, places_of, PlacesFit, IsByRule, Follows, CanFollow}
 use Rattle.proof_scripts.specs.Derived.{Consumes, RefuteUnder}
+use Rattle.plain_laws.proofs.Lists.{All-left, All-right}
 
 abbrev cut_line : Tree → LineTree
 cut_line a = CutLine a
@@ -76,13 +77,6 @@ drop_drop n (suc m) [] = drop_none n (suc m + n)
 drop_drop n (suc m) (x ∷ xs) = let e : suc m + n ≡ suc (m + n) = omega arith in drop_drop n m xs ∙ ap (λ k. drop k (x ∷ xs)) (sym e)
 
 -- ---- lists
-All-left : {A : Type 0} (P : A → Type 0) (xs ys : List A) → All P (xs ++ ys) → All P xs
-All-left P [] ys a = All-nil P
-All-left P (x ∷ xs) ys a = All-cons P x xs (a 0 x (omega arith)) (All-left P xs ys (λ k d l. a (suc k) d (omega arith)))
-
-All-right : {A : Type 0} (P : A → Type 0) (xs ys : List A) → All P (xs ++ ys) → All P ys
-All-right P [] ys a = a
-All-right P (x ∷ xs) ys a = All-right P xs ys (λ k d l. a (suc k) d (omega arith))
 
 take_drop : {A : Type 0} (n : ℕ) (xs : List A) → take n xs ++ drop n xs ≡ xs
 take_drop zero xs = refl
@@ -375,6 +369,3 @@ pub back_formulas : (d : DraftTree) (ids last : List TermId) (n : ℕ) → last 
 back_formulas d ids last n e f = (formulas_by d (take n ids) last ids (split_is ids (take n ids) last n refl e) f).1
 
 -- ---- what is said of a value doesn't matter after a fault
-pub no_value : {T E : Type 0} (P : T → Type 0) (Q : E → Type 0) (r : Result T E) → IsErrAnd r Q → IfOk r P
-no_value P Q (Ok v) h = absurd h
-no_value P Q (Err e) h = tt

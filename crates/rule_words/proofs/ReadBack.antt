@@ -105,10 +105,10 @@ unfolding ArgumentHeld
 pairs-held s [] = tt
 pairs-held s (p ∷ ps) = (tt, (tt, pairs-held s ps))
 
-first_of : {X : Type 0} (P : X → Type 0) (x : X) (xs : List X) → All P (x ∷ xs) → P x
+pub first_of : {X : Type 0} (P : X → Type 0) (x : X) (xs : List X) → All P (x ∷ xs) → P x
 first_of P x xs h = h 0 x (omega arith)
 
-rest_of : {X : Type 0} (P : X → Type 0) (x : X) (xs : List X) → All P (x ∷ xs) → All P xs
+pub rest_of : {X : Type 0} (P : X → Type 0) (x : X) (xs : List X) → All P (x ∷ xs) → All P xs
 rest_of P x xs h k d lt = h (suc k) d (omega arith)
 
 types-held : (s : List Tree) (ys : List TermId) → All (Holds s) ys → ArgumentsHeld s (map made.Type ys)

@@ -3,6 +3,7 @@ use Rattle.std.proofs.Common.{◌≡◌, ℕ, ◌==◌, ◌||◌, Bool, true, fa
 use Rattle.std.specs.List.{list_any}
 use Rattle.std.proofs.lemmas.Bool.Decides.{nat_tests}
 use Rattle.s_expressions.specs.Sexps.{Sexp, SexpWord, Group, Nothing, Then, written_sexp, breaks, IsWord, IsOne, IsProperList, Ends}
+use Rattle.plain_laws.proofs.Bools.{or_first as or_left, or_second as or_right}
 
 -- ---- the first byte and the rest
 first_byte : (c e : ℕ) (cs es : List ℕ) → c ∷ cs ≡ e ∷ es → c ≡ e
@@ -17,14 +18,6 @@ no_bytes c cs h = let n : 0 ≡ length (c ∷ cs) = ap length h in absurd (omega
 -- a byte can't both break and not
 one_byte : (c e : ℕ) → c ≡ e → breaks c ≡ true → breaks e ≡ false → ⊥
 one_byte c e h on off = let q : true ≡ false = sym on ∙ ap breaks h ∙ off in absurd (cc)
-
-or_left : (a b : Bool) → (a || b) ≡ false → a ≡ false
-or_left true b h = absurd (cc)
-or_left false b h = refl
-
-or_right : (a b : Bool) → (a || b) ≡ false → b ≡ false
-or_right true b h = absurd (cc)
-or_right false b h = h
 
 -- ---- words
 words_apart : (v w r q : List ℕ) → list_any breaks v ≡ false → list_any breaks w ≡ false → Ends r → Ends q → v ++ r ≡ w ++ q → (v ≡ w) × (r ≡ q)

@@ -32,12 +32,14 @@ use Rattle.smt_law.specs.Plain.{arity}
 use Rattle.smt_law.specs.Reading.{read_op, tree_as_read}
 use Rattle.smt_law.proofs.Forms.{Known, called, two_called, word_of, bound_read, op_word, leaf_read, one_read, two_read, three_read, read}
 use Rattle.smt_law.proofs.Back.{is_formula_sort, is_formula, equation, word_tree, group_tree, back}
-use Rattle.smt_law.proofs.Words.{number_word, variable_word, parameter_word, decimal_value, free_role, or_right, its_word}
+use Rattle.smt_law.proofs.Words.{number_word, variable_word, parameter_word, decimal_value, free_role}
 use Rattle.smt_law.proofs.Kept.{sort_kept, type_kept}
 use Rattle.smt_law.proofs.Found.{IsReader, IsThere, IsSort, sort_is, entry_has, in_first, in_rest, equality_free}
 use Rattle.smt_law.proofs.Texts.{Writes, texts_of, symbol_is, equality_is, negation_is, connected_is, conditional_is, bound_is}
 use Rattle.smt_law.proofs.Inputs.{Input, input_one, input_left, input_right, input_first, input_second, input_third}
 use Rattle.smt_law.proofs.Symbols.{IsUsed, used_by, term_no_type, symbol_proper, predicate_back, function_back}
+use Rattle.std.proofs.lemmas.Bool.{or_right}
+use Rattle.plain_laws.proofs.Lists.{bytes_same as its_word}
 
 -- ---- sorts
 kind_no : {X : Type 0} → IsExpression Kind → X

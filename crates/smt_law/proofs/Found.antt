@@ -13,7 +13,7 @@ use Rattle.tasks.specs.Task.{SymbolTree, symbol_or, int_symbol}
 use Rattle.tasks.specs.Typing.{members, TypedUnder}
 use Rattle.tasks.proofs.Closing.{typed_sorted}
 use Rattle.linear_leaf.specs.Valuations.{same_tree}
-use Rattle.linear_leaf.proofs.SameTree.{and_left, and_right, same_is}
+use Rattle.linear_leaf.proofs.SameTree.{same_is}
 use Rattle.driver_items.specs.declared.kinds.Piece.{Piece}
 use Rattle.driver_items.specs.Syntaxes.{syntax_of}
 use Rattle.driver_items.specs.declared.kinds.Syntax.TheVariants.{Smt}
@@ -29,7 +29,10 @@ use Rattle.printed_terms.proofs.Members.{sort_members}
 use Rattle.smt_law.specs.Plain.{IsFreeWord, IsPlainWord, ArePlain, EqualityIsPlain, is_type, arity}
 use Rattle.smt_law.proofs.Forms.{Known, word_of}
 use Rattle.smt_law.proofs.Back.{first_where, at_none, is_called, is_type_called, is_symbol_called, is_rigid, type_at, type_called}
-use Rattle.smt_law.proofs.Words.{or_right, same_word, its_word, and_true, equals_free}
+use Rattle.smt_law.proofs.Words.{equals_free}
+use Rattle.plain_laws.proofs.Bools.{and_first as and_left, and_second as and_right}
+use Rattle.std.proofs.lemmas.Bool.{or_right, and_from as and_true}
+use Rattle.plain_laws.proofs.Lists.{bytes_are as same_word, bytes_same as its_word}
 
 abbrev pub IsThere : Known → Occurrence → Type 0
 IsThere c o = has c.printing.things o ≡ true

@@ -6,7 +6,6 @@ use Rattle.tasks.specs.Typing.{TypedUnder, bound_types}
 use Rattle.tasks.specs.Valid.{ParametersOf}
 use Rattle.tasks.proofs.Counts.{bound_count}
 use Rattle.tasks.proofs.Closing.{typed_sorted}
-use Rattle.linear_leaf.proofs.SameTree.{and_left, and_right}
 use Rattle.driver_items.specs.declared.kinds.Syntax.TheVariants.{Smt}
 use Rattle.name_tables.specs.Occurrences.{of_one, of_two, of_three, occurrences}
 use Rattle.name_tables.specs.Seen.{AreIn}
@@ -15,6 +14,7 @@ use Rattle.printed_terms.specs.Texts.{depth_under}
 use Rattle.smt_law.specs.Law.{LiteralsFit}
 use Rattle.smt_law.proofs.Forms.{Known}
 use Rattle.smt_law.proofs.Found.{in_first, in_rest}
+use Rattle.plain_laws.proofs.Bools.{and_first as and_left, and_second as and_right}
 
 pub record Input (c : Known) (d : ℕ) (types : List Tree) (e : Tree) : Type 0 where
   pub depth : d ≡ length types

@@ -13,6 +13,7 @@ use Rattle.s_expressions.specs.Sexps.{breaks}
 use Rattle.smt_law.specs.Plain.{is_decimal_digit, begins_number}
 use Rattle.smt_law.specs.Law.{IsEntrySpelt, begins_digit, IsOrdinary, NamesAreSpelt}
 use Rattle.smt_law.proofs.Words.{or_false, digits_whole, letter_no_number}
+use Rattle.plain_laws.proofs.Bools.{or_first as first_false, or_second as rest_false}
 
 -- ---- no byte breaks a word
 abbrev whole : List ℕ → Bool
@@ -20,14 +21,6 @@ whole bs = list_any breaks bs
 
 joined : (xs ys : List ℕ) → whole xs ≡ false → whole ys ≡ false → whole (xs ++ ys) ≡ false
 joined xs ys h k = list_any-append breaks xs ys ∙ or_false (whole xs) (whole ys) h k
-
-first_false : (a b : Bool) → (a || b) ≡ false → a ≡ false
-first_false true b h = absurd (cc)
-first_false false b h = refl
-
-rest_false : (a b : Bool) → (a || b) ≡ false → b ≡ false
-rest_false true b h = absurd (cc)
-rest_false false b h = h
 
 AllWhole : List (ℕ × List ℕ) → Type 0
 AllWhole [] = Unit {0}

@@ -20,32 +20,14 @@ use Rattle.name_tables.specs.Tables.{is_same, is_interpreted, is_of_ints, symbol
 use Rattle.name_tables.specs.Seen.{has, AreIn}
 use Rattle.name_tables.proofs.Gathering.{same_occurrence, same_itself, added_in}
 use Rattle.name_tables.proofs.Distinct.{distinct_is}
-use Rattle.smt_law.proofs.Words.{or_left, or_right, and_true}
 use Rattle.smt_law.proofs.Found.{entry_has, empty_types}
+use Rattle.name_tables.proofs.Grouped.{has_in as there_in, has_filter as in_filter}
+use Rattle.std.proofs.lemmas.Bool.{or_left, or_right, and_from as and_true}
 
 -- ---- lists
-pub there_in : (os xs : List Occurrence) (o : Occurrence) → AreIn os xs → has xs o ≡ true → has os o ≡ true
-there_in os [] o a h = absurd (cc)
-there_in os (x ∷ xs) o a h = elim (is_same o x) as (λ b. is_same o x ≡ b → (b || has xs o) ≡ true → has os o ≡ true) [
-  | true ↦ λ e _. subst (λ (z : Occurrence). has os z ≡ true) (sym (same_occurrence o x e)) a.0
-  | false ↦ λ e k. there_in os xs o a.1 k
-] refl h
 
 pub in_distinct : (xs : List Occurrence) (o : Occurrence) → has xs o ≡ true → has (distinct xs) o ≡ true
 in_distinct xs o h = there_in (distinct xs) xs o (subst (λ (z : List Occurrence). AreIn z xs) (distinct_is xs) (added_in [] xs)) h
-
-in_filter : (p : Occurrence → Bool) (xs : List Occurrence) (o : Occurrence) → p o ≡ true → has xs o ≡ true → has (filter p xs) o ≡ true
-in_filter p [] o t h = absurd (cc)
-in_filter p (x ∷ xs) o t h = elim (is_same o x) as (λ b. is_same o x ≡ b → (b || has xs o) ≡ true → has (cond (p x) (x ∷ filter p xs) (filter p xs)) o ≡ true) [
-  | true ↦ λ e _.
-      let q : p x ≡ true = ap p (sym (same_occurrence o x e)) ∙ t in
-      ap (λ b. has (cond b (x ∷ filter p xs) (filter p xs)) o) q ∙ or_left (is_same o x) (has (filter p xs) o) e
-  | false ↦ λ e k. more (p x) (in_filter p xs o t k)
-] refl h
-  where
-    more : (b : Bool) → has (filter p xs) o ≡ true → has (cond b (x ∷ filter p xs) (filter p xs)) o ≡ true
-    more true k = or_right (is_same o x) (has (filter p xs) o) k
-    more false k = k
 
 in_one_of : (f : ℕ → List Occurrence) (ks : List ℕ) (k : ℕ) (o : Occurrence) → is_in k ks ≡ true → has (f k) o ≡ true → has (flat_map f ks) o ≡ true
 in_one_of f [] k o i h = absurd (cc)

@@ -12,26 +12,11 @@ use Rattle.s_expressions.specs.Sexps.{IsWord, breaks}
 use Rattle.smt_law.specs.Plain.{is_decimal_digit, all_digits, begins_number, is_local, syntax_words, is_reserved, IsFreeWord}
 use Rattle.smt_law.specs.Law.{integer_fits}
 use Rattle.smt_law.proofs.Back.{Number, Local, Syntax, Free, role, negative, integer_of}
+use Rattle.std.proofs.lemmas.Bool.{and_from as and_true, or_left, and_right as and_second, or_right}
 
 pub or_false : (a b : Bool) → a ≡ false → b ≡ false → (a || b) ≡ false
 or_false true b h k = absurd (cc)
 or_false false b h k = k
-
-pub or_left : (a b : Bool) → a ≡ true → (a || b) ≡ true
-or_left true b h = refl
-or_left false b h = absurd (cc)
-
-pub or_right : (a b : Bool) → b ≡ true → (a || b) ≡ true
-or_right true b h = refl
-or_right false b h = h
-
-pub and_true : (a b : Bool) → a ≡ true → b ≡ true → (a && b) ≡ true
-and_true true b h k = k
-and_true false b h k = absurd (cc)
-
-pub and_second : (a b : Bool) → b ≡ false → (a && b) ≡ false
-and_second true b h = h
-and_second false b h = refl
 
 -- ---- roles
 pub free_role : (w : List ℕ) → IsFreeWord w → role w ≡ Free
@@ -168,12 +153,6 @@ other_word w v h = elim (bytes_eq w v) as (λ b. bytes_eq w v ≡ b → b ≡ fa
   | true ↦ λ e. absurd (h ((bytes_eq-Decides w v).0 e))
   | false ↦ λ e. refl
 ] refl
-
-pub same_word : (w v : List ℕ) → bytes_eq w v ≡ true → w ≡ v
-same_word w v h = (bytes_eq-Decides w v).0 h
-
-pub its_word : (w : List ℕ) → bytes_eq w w ≡ true
-its_word w = (bytes_eq-Decides w w).1 refl
 
 none_of : (w : List ℕ) (vs : List (List ℕ)) → has_underscore w ≡ true → list_any has_underscore vs ≡ false → list_any (bytes_eq w) vs ≡ false
 none_of w [] h k = refl

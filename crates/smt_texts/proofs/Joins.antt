@@ -8,29 +8,12 @@ use Rattle.trees.specs.Node.{tree_at}
 use Rattle.tasks.specs.Meaning.{trees_at}
 use Rattle.printed_terms.specs.Texts.{Printing, sort_text}
 use Rattle.smt_texts.specs.Text.{smt_parameter_line, smt_parameter_lines}
-
--- a piece, and then the rest
-pub then_piece : (o p q a rest : List ℕ) → p ≡ o ++ a → q ≡ p ++ rest → q ≡ o ++ (a ++ rest)
-then_piece o p q a rest e f = f ∙ ap (λ z. z ++ rest) e ∙ append_assoc o a rest
+use Rattle.plain_laws.proofs.Lists.{then_piece}
 
 -- the last piece, where a fault leaves nothing to say
 pub last_piece : {X E : Type 0} (r : Result X E) (o p q a rest : List ℕ) → p ≡ o ++ a → OnOk r (q ≡ p ++ rest) → OnOk r (q ≡ o ++ (a ++ rest))
 last_piece (Ok x) o p q a rest e f = then_piece o p q a rest e f
 last_piece (Err x) o p q a rest e f = tt
-
-pub ok_items : {X E : Type 0} (r : Result X E) (q a b : List ℕ) → q ≡ (if is_ok r then a else b) → OnOk r (q ≡ a)
-ok_items (Ok x) q a b e = e
-ok_items (Err x) q a b e = tt
-
-pub no_ok : {T E : Type 0} (P : Type 0) (Q : E → Type 0) (r : Result T E) → IsErrAnd r Q → OnOk r P
-no_ok P Q (Ok v) h = absurd h
-no_ok P Q (Err e) h = tt
-
--- the line of one thing, and then those of the others
-pub lines_step : {X : Type 0} (f : X → List ℕ) (xs : List X) (i : ℕ) (d : X) (old new all : List ℕ) → i < length xs → new ≡ old ++ f (get_or xs i d) → old ++ flat_map f (drop i xs) ≡ all → new ++ flat_map f (drop (i + 1) xs) ≡ all
-lines_step f xs i d old new all h e so =
-    let rest = flat_map f (drop (i + 1) xs) in
-    ap (λ z. z ++ rest) e ∙ append_assoc old (f (get_or xs i d)) rest ∙ ap (λ z. old ++ z) (ap (flat_map f) (sym (drop_more xs i d h))) ∙ so
 
 pub mapped_step : (f : Tree → List ℕ) (s : List Tree) (ids : List TermId) (i : ℕ) (d : TermId) (old new all : List ℕ) → i < length ids → new ≡ old ++ f (tree_at s (get_or ids i d)) → old ++ flat_map f (trees_at s (drop i ids)) ≡ all
     → new ++ flat_map f (trees_at s (drop (i + 1) ids)) ≡ all

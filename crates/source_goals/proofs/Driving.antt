@@ -9,10 +9,10 @@ use Rattle.driver_parts.specs.declared.fault.DriverFault.TheVariants as f
 use Rattle.driver_files.specs.Reading.{ReadsAs, driver_named, ReachesReading as DriverReaches}
 use Rattle.fault_order.specs.Answers.{Answers, Reaches}
 use Rattle.fault_order.specs.declared.faults.RunFault.{RunFault}
-use Rattle.fault_order.proofs.Meeting.{told}
 use Rattle.source_goals.specs.Known.{KnownByDriver, IsKnownAs}
 use Rattle.source_goals.specs.Order.{DriverOf}
 use Rattle.source_goals.specs.Values.{driver_fault, next_after_driver}
+use Rattle.plain_laws.proofs.Options.{if_some as told}
 
 abbrev pub driver_in : Result Driver DriverFault → Result Driver RunFault
 driver_in (Ok d) = Ok d

@@ -14,15 +14,7 @@ use Rattle.goal_tasks.specs.declared.theories.Theories.{Theories}
 use Rattle.goal_tasks.specs.declared.theories.Theory.{Theory}
 use Rattle.goal_tasks.specs.Meaning.{placed, theory_at, theories_at}
 use Rattle.source_goals.specs.Known.{said_name, own_proposition_name, own_names, known_theory, known_of, named_bytes, IsKnownAs, said_names, own_in, own_names_at, names_in, theory_in}
-
-placed-append : (ds : List Decl) (xs ys : List ℕ) → placed ds (xs ++ ys) ≡ placed ds xs ++ placed ds ys
-placed-append ds [] ys = refl
-placed-append ds (x ∷ xs) ys = ap (λ (z : List Decl). option_to_list (slice_get ds x) ++ z) (placed-append ds xs ys) ∙ sym (append_assoc (option_to_list (slice_get ds x)) (placed ds xs) (placed ds ys))
-
-placed_more : (ds : List Decl) (ks : List ℕ) (i k : ℕ) → i < length ks → k ≡ get_or ks i 0 → placed ds (take (i + 1) ks) ≡ placed ds (take i ks) ++ option_to_list (slice_get ds k)
-placed_more ds ks i k h e =
-    ap (placed ds) (take_more ks i 0 h) ∙ placed-append ds (take i ks) (get_or ks i 0 ∷ []) ∙ ap (λ (z : List Decl). placed ds (take i ks) ++ z) (append-nil (option_to_list (slice_get ds (get_or ks i 0))))
-    ∙ ap (λ (z : ℕ). placed ds (take i ks) ++ option_to_list (slice_get ds z)) (sym e)
+use Rattle.goal_tasks.proofs.Placed.{placed-append, placed_more}
 
 module _ (path : List ℕ) where
   names_at : (o : Option Decl) → names_in path (option_to_list o) ≡ own_names_at path o

@@ -17,13 +17,7 @@ use Rattle.fault_order.specs.declared.faults.Fault.TheVariants.{Lexical, BigLite
 use Rattle.fault_order.specs.Order.{RunStop, refused, misused, Answer, HasOneAnswer, fetched, if_short, ShortFile}
 use Rattle.source_goals.specs.Order.{HasNoTokens, Lexes, IsNoFile, Parses, Declares, AreDetermined, FileTheories, SourceTheories, SourceTheoriesOf, TaskOf, Goal}
 use Rattle.fault_order.proofs.OneStage.{one_answer, one_after}
-
--- the reading of a text is the one that it has
-reading_from : (bytes : List ℕ) (at : ℕ) (stop : text.Stop) (found ts : List Token) → Turn bytes at found → Reads bytes stop at ts → Reading bytes stop (found ++ ts)
-reading_from bytes at stop found [] h r = subst (Reading bytes stop) (sym (append-nil found)) (stopped bytes at stop found r h)
-reading_from bytes at stop found (t ∷ ts) h r =
-    let more : Turn bytes t.end (found ++ t ∷ []) = turn bytes at t found (found ++ t ∷ []) (r.0, r.1) r.2 refl h in
-    subst (Reading bytes stop) (append_assoc found (t ∷ []) ts) (reading_from bytes t.end stop (found ++ t ∷ []) ts more r.3)
+use Rattle.std_theories.proofs.Readings.{reading_from}
 
 reading : (bytes : List ℕ) (stop : text.Stop) (ts : List Token) → Reads bytes stop 0 ts → Reading bytes stop ts
 reading bytes stop ts r = reading_from bytes 0 stop [] ts (first bytes) r
@@ -122,7 +116,7 @@ module _ (bytes : List ℕ) (tokens : List Token) where
       let m = no_file other b in
       ap (λ (z : RunStop). Err z) (n.is ∙ ap why_stop (one_why n.why m.why n.holds m.holds) ∙ sym m.is)
 
-one_short_file : (file : ℕ) (name : List ℕ) (files : Files) (limit : Option ℕ) → HasOneAnswer (ShortFile file name files limit)
+pub one_short_file : (file : ℕ) (name : List ℕ) (files : Files) (limit : Option ℕ) → HasOneAnswer (ShortFile file name files limit)
 one_short_file file name files limit =
     one_after (Answer (fetched file name 67108865 files limit)) (λ bytes. Answer (if_short file bytes)) (one_answer _) (λ bytes. one_answer _)
 

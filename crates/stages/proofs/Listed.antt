@@ -9,9 +9,7 @@ use Rattle.stages.specs.declared.fault.CarryFault.{CarryFault}
 use Rattle.stages.specs.declared.fault.CarryFault.TheVariants as fault
 use Rattle.stages.specs.declared.transformation.Transformation.{Transformation}
 use Rattle.stages.specs.Listing.{name_if, removed_of, with_built_stage, built_from, after_stages, AreStagesPushed, IsPushedOne}
-
-left_at : {X : Type 0} (xs : List X) (i : ℕ) (x : X) → x ≡ get_or xs i x → i < length xs → drop i xs ≡ x ∷ drop (i + 1) xs
-left_at xs i x is l = drop_more xs i x l ∙ ap (λ z. z ∷ drop (i + 1) xs) (sym is)
+use Rattle.plain_laws.proofs.Lists.{drop_at as left_at}
 
 pub removed_step : (s : List Tree) (paths : List (List ℕ)) (decls : List Decl) (i : ℕ) (d : Decl) (old new all : List (List ℕ × List ℕ)) → d ≡ get_or decls i d → i < length decls
     → new ≡ old ++ name_if paths (declaration_at s d) → old ++ removed_of paths (declarations_at s (drop i decls)) ≡ all

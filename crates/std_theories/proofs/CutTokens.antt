@@ -18,14 +18,7 @@ use Rattle.tokens_why.specs.Tokens.{IsToken, LiteralFits, whole, Reads, AreToken
 use Rattle.tokens_why.proofs.LongestLemmas.{span-at, class-span}
 use Rattle.tokens_why.proofs.TokenLemmas.{by-lead, variable-at, decimal-at, star-at, mark-at}
 use Rattle.std_theories.proofs.Cut.{Front, front_by, front, is_int, fits, token, then_cut, cut_front, cut, tokens_of}
-
-both : (a b : Bool) → (a && b) ≡ true → (a ≡ true) × (b ≡ true)
-both true b e = (refl, e)
-both false b e = absurd (cc)
-
-negated : (a : Bool) → not a ≡ true → a ≡ false
-negated true h = absurd (cc)
-negated false h = refl
+use Rattle.plain_laws.proofs.Bools.{and_both as both, negated}
 
 -- ---- the token in front
 abbrev Is : List ℕ → Front → Type 0

@@ -1,5 +1,4 @@
 pub mod Files
-mod Passed
 pub mod Readings
 pub mod Cut
 pub mod CutTokens

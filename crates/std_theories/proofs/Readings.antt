@@ -6,7 +6,7 @@ use Rattle.tokens_why.specs.Tokens.{Reads, AreTokens}
 use Rattle.tokens_why.specs.Tokens as text
 use Rattle.tokens_why.proofs.TurnLemmas.{Turn, first, turn, Reading, stopped}
 
-reading_from : (bytes : List ℕ) (at : ℕ) (stop : text.Stop) (found ts : List Token) → Turn bytes at found → Reads bytes stop at ts → Reading bytes stop (found ++ ts)
+pub reading_from : (bytes : List ℕ) (at : ℕ) (stop : text.Stop) (found ts : List Token) → Turn bytes at found → Reads bytes stop at ts → Reading bytes stop (found ++ ts)
 reading_from bytes at stop found [] h r = subst (Reading bytes stop) (sym (append-nil found)) (stopped bytes at stop found r h)
 reading_from bytes at stop found (t ∷ ts) h r =
     let more : Turn bytes t.end (found ++ t ∷ []) = turn bytes at t found (found ++ t ∷ []) (r.0, r.1) r.2 refl h in

@@ -18,10 +18,7 @@ use Rattle.std_theories.specs.Library.{LibraryEntry, IsSourceText, library}
 use Rattle.std_theories.proofs.Readings.{one_tokens}
 use Rattle.std_theories.proofs.Cut.{tokens_of}
 use Rattle.std_theories.proofs.CutTokens.{are_tokens}
-
-both : (a b : Bool) → (a && b) ≡ true → (a ≡ true) × (b ≡ true)
-both true b e = (refl, e)
-both false b e = absurd (cc)
+use Rattle.plain_laws.proofs.Bools.{and_both as both}
 
 -- ---- how deep tokens are nested
 abbrev shallow : List ℕ → List Terminal → Bool

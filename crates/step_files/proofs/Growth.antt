@@ -29,13 +29,7 @@ use Rattle.step_files.specs.declared.read.Read.{Read}
 use Rattle.step_files.specs.Lines.{Reading, reading_of, IsGood, LineIsRight, line_thing, reading_with}
 use Rattle.step_files.specs.Reading.{ReadHeld, reading_at, MakesGood, IsReadKept}
 use Rattle.step_files.proofs.Progress.{Stands, stands_next}
-
--- a tree that is typed as far as it goes is well sorted
-pub open_sorted : (v : Vocabulary) (e : Tree) → OpenTyped v e → WellSorted e
-open_sorted v (Leaf h) o = o.0
-open_sorted v (One h a) o = (o.0, open_sorted v a o.2)
-open_sorted v (Two h a b) o = (o.0, open_sorted v a o.2, open_sorted v b o.3)
-open_sorted v (Three h a b c) o = (o.0, open_sorted v a o.2, open_sorted v b o.3, open_sorted v c o.4)
+use Rattle.tasks.proofs.Closing.{open_sorted}
 
 pub good_fits : (t : TaskTree) (tallest : Option ℕ) (before : List StepTree) (x : Thing) → IsGood t tallest before x → ThingFits x
 good_fits t tallest before (TypeOf e) g = open_sorted (of_task t) e g.typed

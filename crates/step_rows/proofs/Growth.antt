@@ -44,11 +44,6 @@ read_later s s' g r h = record {
   steps = steps_held_later s s' g r.steps.items h.steps;
 }
 
--- a fact that holds anyway
-pub on_ok : {X E : Type 0} (r : Result X E) (P : Type 0) → P → OnOk r P
-on_ok (Ok x) P h = h
-on_ok (Err e) P h = tt
-
 -- one thing more
 pub kept_held : (s : List Tree) (r r' : Read) → RowReadHeld s r → (x : MadeThing) → IsThingKept x r r' → ThingHeld s x → RowReadHeld s r'
 kept_held s r r' h (made.Type y) k t = record {

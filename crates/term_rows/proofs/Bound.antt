@@ -71,7 +71,7 @@ member_closed (Three h a b c) j k o = absurd o
 are_types : (e : Tree) → OnlyTypes e → AreTypes (members e)
 are_types e o = record { closed = λ j. (member_closed e j j o).0; no_vars = λ j. (member_closed e j j o).1 }
 
-zero_of : (n : ℕ) → (n == 0) ≡ true → n ≡ 0
+pub zero_of : (n : ℕ) → (n == 0) ≡ true → n ≡ 0
 zero_of n e = grind (arith, nat_tests)
 
 result_by : (r types : Tree) (b : Bool) → (loose r == 0) ≡ b → OnlyTypes types → loose (if b then inst_types r (members types) else Leaf HEnd) ≡ 0

@@ -6,10 +6,6 @@ use Rattle.tasks.specs.Conjunctions.{conjunction}
 use Rattle.tasks.specs.MatchTests.{tests, top, other_terms, constructor_projections, fields, con_equation}
 use Rattle.term_rows.specs.Conjuncts.{conjunction_with, conjunction_before}
 
-pub if_some : {X : Type 0} (o : Option X) (P Q : X → Type 0) → ((x : X) → P x → Q x) → IfSome o P → IfSome o Q
-if_some None P Q f h = tt
-if_some (Some x) P Q f h = f x h
-
 pub un_some : {X : Type 0} (a b : X) → Some a ≡ Some b → a ≡ b
 un_some a b h = cc
 

@@ -15,7 +15,6 @@ use Rattle.theory_states.specs.declared.moves.Move.{Move}
 use Rattle.theory_states.specs.Moves.{brought, handed}
 use Rattle.elab_walk.specs.Scoped.{IsScopedEntry}
 use Rattle.valid_tasks.specs.Scopes.{IsSubvocabulary}
-use Rattle.valid_tasks.proofs.Signed.{some_at}
 use Rattle.valid_tasks.specs.Moves.{AreTypedMoves}
 use Rattle.valid_tasks.proofs.MovedScopes.{moves_more}
 use Rattle.valid_tasks.specs.Lists.{after}
@@ -27,7 +26,6 @@ use Rattle.theory_states.specs.States.{KnownTree, StateTree, at_places, visible_
 use Rattle.theory_states.specs.Uses.{path_text, last_part, alias_text}
 use Rattle.valid_tasks.specs.TypedStates.{IsTypedState}
 use Rattle.valid_tasks.specs.Sound.{IsSoundAmong, IsSoundAxiom, IsSoundKnown, IsApart, IsSoundState}
-use Rattle.valid_tasks.proofs.Places.{later}
 use Rattle.valid_tasks.specs.Steps.{CopyStep, declarations_of, made_from}
 use Rattle.valid_tasks.proofs.CloneSteps.{clone_sound}
 use Rattle.valid_tasks.specs.Cloned.{IsAfterClone, IsSoundClone}
@@ -45,12 +43,15 @@ use Rattle.valid_tasks.specs.PlaceSteps.{copy_steps_at}
 use Rattle.valid_tasks.proofs.PlaceSteps.{places_made, cloned_places}
 use Rattle.valid_tasks.proofs.Moves.{moves_become}
 use Rattle.theories.specs.Plain.{IsSaid, IsPlainAxiom, IsPlainTheory, IsPlainKnown, ArePlainTheories, IsPlainState}
-use Rattle.theories.proofs.KnownLists.{front_all, found_in}
-use Rattle.theories.proofs.Numbers.{same_number}
 use Rattle.theories.proofs.Steps.{steps_declarations, steps_taken}
 use Rattle.theories.proofs.Fits.{tupled_built, keeps}
 use Rattle.theories.proofs.Plain.{handed_plain, moves_mapped, known_more, opened_more}
 use Rattle.theories.proofs.Goals.{IsSaidAt, IsReached, all_reached, built, scoped, is_clone}
+use Rattle.std.proofs.lemmas.Option.{slice_get-get_or as some_at}
+use Rattle.valid_tasks.proofs.Numbers.{later}
+use Rattle.plain_laws.proofs.Lists.{All-left as front_all}
+use Rattle.valid_tasks.proofs.Scoped.{found_in}
+use Rattle.plain_laws.proofs.Bools.{same_number}
 
 -- ---- lists
 count_places : (ds : List DeclarationTree) (ks : List ℕ) → All (λ (k : ℕ). k < length ds) ks → length (at_places ds ks) ≡ length ks

@@ -19,28 +19,17 @@ use Rattle.clone_elements.specs.Rights.{RightTree, type_right, symbol_right, no_
 use Rattle.clone_elements.specs.Plans.{SideTree, PlacedFates, element_fate, with_fate, with_side, with_sides, is_replaced, type_with, type_for, replaced_types, symbol_for, symbols_replaced}
 use Rattle.clone_elements.specs.Elements.{has_vars, is_wrong, is_kind_of_word, IsSameSignature, IsRightSide, SideTold, SidesTold}
 use Rattle.valid_tasks.specs.Sides.{IsTypedRight, IsTypedSide}
-use Rattle.theories.proofs.Numbers.{same_number, itself}
 use Rattle.theories.proofs.Lefts.{IsKindOf, IsLeftType, IsLeftSymbol, IsLeft, IsFormed, IsRead}
-
-pub only_here : {X : Type 0} (y x : X) → Contains (y ∷ []) x → y ≡ x
-only_here y x c = of (cases_of y x [] c)
-  where
-    of : (y ≡ x) ⊎ Contains [] x → y ≡ x
-    of (inl e) = e
-    of (inr n) = absurd (none_here x n)
+use Rattle.std.proofs.lemmas.Bool.{or_parts as right_both}
+use Rattle.elab_walk.proofs.Walking.{not_not as not_false}
+use Rattle.valid_tasks.proofs.Mapped.{only_here}
+use Rattle.plain_laws.proofs.Bools.{same_number}
+use Rattle.valid_tasks.proofs.Widths.{same_width as itself}
 
 pub is_replaced_as : (o : Option Fate) → is_replaced o ≡ true → o ≡ Some Replaced
 is_replaced_as (Some Replaced) q = refl
 is_replaced_as (Some (Becomes k)) q = absurd (cc)
 is_replaced_as None q = absurd (cc)
-
-right_both : (a b : Bool) → (a || b) ≡ false → (a ≡ false) × (b ≡ false)
-right_both true b q = absurd (cc)
-right_both false b q = (refl, q)
-
-not_false : (a : Bool) → not a ≡ false → a ≡ true
-not_false true q = refl
-not_false false q = absurd (cc)
 
 none_of : {X : Type 0} (o : Option X) → is_some o ≡ false → is_none o ≡ true
 none_of None q = refl

@@ -19,7 +19,6 @@ use Rattle.syntax_why.specs.declared.declarations.PropKind.TheVariants as kind
 use Rattle.clones.specs.Copies.{entry_copied}
 use Rattle.elab_parts.specs.Entries.{builtin}
 use Rattle.valid_tasks.specs.Scopes.{is_projection_kind, IsSubvocabulary, IsSymbolNumber}
-use Rattle.valid_tasks.proofs.Signed.{some_at}
 use Rattle.valid_tasks.proofs.Extended.{further}
 use Rattle.valid_tasks.specs.Valid.{IsTypedSetting}
 use Rattle.valid_tasks.specs.Lists.{is_built, after}
@@ -32,10 +31,10 @@ use Rattle.valid_tasks.specs.Morphisms.{TypeBecomes, KindBecomes, HasMappedTypes
 use Rattle.theory_states.specs.States.{KnownTree, StateTree, visible_in, visible_now}
 use Rattle.valid_tasks.specs.TypedStates.{state_setting, IsTypedState}
 use Rattle.valid_tasks.specs.Sound.{IsSoundKnown, IsApart, IsSoundState}
-use Rattle.valid_tasks.proofs.Places.{here, later, in_places}
+use Rattle.valid_tasks.proofs.Places.{here, in_places}
 use Rattle.valid_tasks.specs.Cloning.{IsImage, BecomesNew, IsFixed, KeepsBuilt}
 use Rattle.valid_tasks.specs.Steps.{copies, leaves, joins, StepFits}
-use Rattle.valid_tasks.proofs.Vocabularies.{slice_or, made_below}
+use Rattle.valid_tasks.proofs.Vocabularies.{made_below}
 use Rattle.valid_tasks.proofs.Trials.{signatures_agree}
 use Rattle.clone_elements.specs.Left.{Origin, no_declaration, decl_or, last_place}
 use Rattle.clone_elements.specs.Rights.{rights_tuples, rights_fault}
@@ -56,17 +55,12 @@ use Rattle.theories.proofs.Elements.{HasType, HasSymbol, IsSymbolReplaced, types
 use Rattle.theories.proofs.Owned.{own_in, own_there, makes_in, own_visible, one_place, makes_own, makes_below}
 use Rattle.theories.proofs.Maps.{IsMadeOwn, type_makes, symbol_makes, fixed, copied_type, copied_at, copied_alone, pair_of, replaced_type, replaced_symbol, symbol_from, agrees as maps_agree}
 use Rattle.theories.proofs.Rights.{agree, sides_after, right_numbers}
+use Rattle.valid_tasks.proofs.Mapped.{behind, copied_at as copied_there}
+use Rattle.std.proofs.lemmas.Option.{slice_get-get_or as some_at}
+use Rattle.valid_tasks.proofs.Numbers.{later}
+use Rattle.valid_tasks.proofs.Begun.{slice_or}
 
 -- ---- lists
-behind : (xs ys : List SymbolTree) (i n : ℕ) → n ≡ length xs + i → slice_get (xs ++ ys) n ≡ slice_get ys i
-behind [] ys i n q = ap (slice_get ys) (omega (arith, q))
-behind (x ∷ xs) ys i zero q = absurd (omega (arith, q))
-behind (x ∷ xs) ys i (suc n) q = behind xs ys i n (omega (arith, q))
-
-copied_there : (f : ℕ → SymbolTree) (ks : List ℕ) (i k : ℕ) → slice_get ks i ≡ Some k → slice_get (map f ks) i ≡ Some (f k)
-copied_there f [] i k q = absurd (cc)
-copied_there f (j ∷ ks) zero k q = let e : j ≡ k = cc in ap (λ (n : ℕ). Some (f n)) e
-copied_there f (j ∷ ks) (suc i) k q = copied_there f ks i k q
 
 type_vars : (xs : List SymbolTree) (k n : ℕ) → IsSomeAnd (slice_get xs k) (λ (e : SymbolTree). (e.kind ≡ Kind) × (n ≡ e.vars)) → n ≡ (symbol_or xs k).vars
 type_vars [] k n h = absurd h

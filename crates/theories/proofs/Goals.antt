@@ -54,14 +54,13 @@ use Rattle.valid_tasks.proofs.Copies.{all_copies_typed}
 use Rattle.clone_theories.specs.Cloned.{symbols_tupled, sides_in, map_in, AreTold, copying_in, with_copied_entries}
 use Rattle.valid_tasks.specs.PlaceSteps.{copy_steps_at}
 use Rattle.theories.specs.Plain.{IsSaid, IsPlainAxiom}
-use Rattle.theories.proofs.KnownLists.{front_all, last_at, plain_more}
+use Rattle.theories.proofs.KnownLists.{last_at, plain_more}
 use Rattle.theories.proofs.Steps.{step_is, steps_declarations, steps_taken, steps_both, right_after, made_both}
 use Rattle.theories.proofs.Fits.{says_nothing, source_sound, tupled_built, tupled_setting, keeps, steps_fit}
+use Rattle.valid_tasks.proofs.Further.{axiom_more as axiom_grown}
+use Rattle.plain_laws.proofs.Lists.{All-left as front_all}
 
 -- ---- lists
-rigids_source : (vs : List Word) → All IsOfSource (map rigid_symbol vs)
-rigids_source [] = All-nil IsOfSource
-rigids_source (x ∷ vs) = All-cons IsOfSource (rigid_symbol x) (map rigid_symbol vs) refl (rigids_source vs)
 
 rigids_scoped : (vs : List Word) → All IsScopedEntry (map rigid_symbol vs)
 rigids_scoped [] = All-nil IsScopedEntry
@@ -79,16 +78,6 @@ or_front (d ∷ ds) es (suc k) l = or_front ds es k (omega (arith, l))
 -- a goal among more declarations, over more entries
 pub among_grown : (symbols more : List SymbolTree) (ds es : List DeclarationTree) (g : GoalTree) → IsBuiltRight (symbols ++ more) → IsSoundAmong symbols ds g → IsSoundAmong (symbols ++ more) (ds ++ es) g
 among_grown symbols more ds es g built h = among_more (symbols ++ more) ds es g (record { before = h.before; sound = behind_more symbols more (take g.before ds) g h.sound built })
-
-pub axiom_grown : (decls new : List DeclarationTree) (a : AxiomAt) → IsSoundAxiom decls a → IsSoundAxiom (decls ++ new) a
-axiom_grown decls new a h = record {
-  there = let l = h.there in let n = length-append decls new in omega (arith, l, n);
-  count = λ d q.
-      let x = there decls a.decl h.there in
-      let z : Some x.0 ≡ Some d = sym (further decls new a.decl x.0 x.1) ∙ q in
-      h.count d (x.1 ∙ z);
-  quoted = h.quoted;
-}
 
 -- an axiom's declaration, with the names of its type variables
 pub record IsSaidAt (decls : List DeclarationTree) (p : ℕ) (vars : List Word) : Type 0 where

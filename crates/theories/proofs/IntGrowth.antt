@@ -26,14 +26,10 @@ use Rattle.clone_theories.specs.Cloned.{symbols_tupled, sides_in, map_in, within
 use Rattle.theories.specs.Ints.{int_entries}
 use Rattle.theories.specs.Typing.{IsDeclarationTyped, AreDeclarationsTyped}
 use Rattle.theories.specs.Files.{IsNewTheory, AreTypedIn, AreEmbeddedIn, AreEmbeddedBy}
+use Rattle.valid_tasks.proofs.Extended.{further as get_more}
 
 abbrev pub HasInts : StateTree → Type 0
 HasInts c = AreInts c.symbols int_entries
-
-get_more : (xs ys : List SymbolTree) (k : ℕ) (e : SymbolTree) → slice_get xs k ≡ Some e → slice_get (xs ++ ys) k ≡ Some e
-get_more [] ys k e h = absurd (cc)
-get_more (x ∷ xs) ys zero e h = h
-get_more (x ∷ xs) ys (suc k) e h = get_more xs ys k e h
 
 ints_more : (xs ys : List SymbolTree) → AreInts xs int_entries → AreInts (xs ++ ys) int_entries
 ints_more xs ys h = record {

@@ -13,13 +13,15 @@ use Rattle.syntax_why.specs.declared.declarations.SymbolWord.TheVariants as word
 use Rattle.syntax_why.specs.Declarations.{Element, type_element, symbol_element, prop_element, all_axioms}
 use Rattle.valid_tasks.proofs.Words.{same_word}
 use Rattle.valid_tasks.specs.Morphisms.{KindBecomes}
-use Rattle.valid_tasks.proofs.Places.{here, later}
+use Rattle.valid_tasks.proofs.Places.{here}
 use Rattle.clone_elements.specs.declared.left.Abstract.{Abstract}
 use Rattle.clone_elements.specs.declared.left.Abstract.TheVariants as abstract
 use Rattle.clone_elements.specs.Left.{Origin, decl_or, called_text, kind_of_symbol, kind_of_word, kind_of_proposition, kind_of_body, kind_letter, key, key_with, left_key, element_key, is_key, place_after, last_place, place_by}
 use Rattle.clone_elements.specs.Rights.{RightTree, type_right, symbol_right, no_right, right_made, right_tuples}
 use Rattle.clone_elements.specs.Plans.{SideTree, sides_made}
 use Rattle.clone_elements.specs.Elements.{is_kind_of_word}
+use Rattle.valid_tasks.proofs.Lefts.{keyed, not_axiom, not_type}
+use Rattle.valid_tasks.proofs.Numbers.{later}
 
 -- ---- the last declaration with a key
 pub record IsNamed (symbols : List SymbolTree) (o : Origin) (x : Word) (place : ℕ) : Type 0 where
@@ -47,21 +49,8 @@ pub record IsKindOf (w : SymbolWord) (k : SymbolKind) : Type 0 where
   pub has : kind_of_symbol k ≡ Some kind
   pub same : kind_letter (kind_of_word w) ≡ kind_letter kind
 
-keyed : (x y : Abstract) (name own : Word) → is_key (key x name) (key_with own (Some y)) ≡ true → kind_letter x ≡ kind_letter y
-keyed x y name own q = let same : kind_letter y ∷ own ≡ kind_letter x ∷ name = same_word (key y own) (key x name) q in cc
-
 no_key : {X : Type 0} → false ≡ true → X
 no_key q = absurd (cc)
-
-not_type : (w : SymbolWord) → kind_letter (kind_of_word w) ≢ kind_letter abstract.Type
-not_type word.Predicate q = absurd (omega (arith, q))
-not_type word.Function q = absurd (omega (arith, q))
-not_type word.Constant q = absurd (omega (arith, q))
-
-not_axiom : (w : SymbolWord) → kind_letter (kind_of_word w) ≢ kind_letter abstract.Axiom
-not_axiom word.Predicate q = absurd (omega (arith, q))
-not_axiom word.Function q = absurd (omega (arith, q))
-not_axiom word.Constant q = absurd (omega (arith, q))
 
 type_of_symbol : (k : SymbolKind) (name own : Word) → is_key (key abstract.Type name) (key_with own (kind_of_symbol k)) ≡ true → ⊥
 type_of_symbol symbol.Kind name own q = no_key q

@@ -4,14 +4,11 @@ use Rattle.std.proofs.Common.{◌≡◌, ◌⊎◌, inl, inr, ℕ, ◌+◌, ◌=
 use Rattle.std.proofs.lemmas.Bool.Decides.{nat_tests}
 use Rattle.trees.specs.Tree.{Tree}
 use Rattle.clones.specs.Mapped.{Map}
-use Rattle.valid_tasks.proofs.Places.{none_here, cases_of, here, later}
+use Rattle.valid_tasks.proofs.Places.{none_here, cases_of, here}
 use Rattle.clone_elements.specs.Plans.{same_map, with_symbol, with_type, with_numbers, with_symbols, with_mapped_types, map_of}
-
-pub same_number : (a b : ℕ) → (a == b) ≡ true → a ≡ b
-same_number a b q = grind (arith, nat_tests)
-
-pub itself : (a : ℕ) → (a == a) ≡ true
-itself a = grind (arith, nat_tests)
+use Rattle.plain_laws.proofs.Bools.{same_number}
+use Rattle.valid_tasks.proofs.Numbers.{types_leave, symbols_leave, numbers_leave, later}
+use Rattle.valid_tasks.proofs.Widths.{same_width as itself}
 
 -- ---- numbers from one on
 pub record IsAt (n : ℕ) (ks : List ℕ) (k j : ℕ) : Type 0 where
@@ -95,17 +92,6 @@ types_at (p ∷ ps) m k = of (types_at ps (with_type p.0 p.1 m) k)
     of (inr h) = by h.0 (p.0 == k) refl h.1
 
 -- ---- each leaves the others
-types_leave : (ps : List (ℕ × Tree)) (m : Map) (k : ℕ) → (with_mapped_types ps m).symbols k ≡ m.symbols k
-types_leave [] m k = refl
-types_leave (p ∷ ps) m k = types_leave ps (with_type p.0 p.1 m) k
-
-symbols_leave : (ps : List (ℕ × ℕ)) (m : Map) (k : ℕ) → (with_symbols ps m).types k ≡ m.types k
-symbols_leave [] m k = refl
-symbols_leave (p ∷ ps) m k = symbols_leave ps (with_symbol p.0 p.1 m) k
-
-numbers_leave : (n : ℕ) (ks : List ℕ) (m : Map) (k : ℕ) → (with_numbers n ks m).types k ≡ m.types k
-numbers_leave n [] m k = refl
-numbers_leave n (j ∷ ks) m k = numbers_leave (n + 1) ks (with_symbol j n m) k
 
 types_same : (ps : List (ℕ × Tree)) (a b : Map) (k : ℕ) → a.types k ≡ b.types k → (with_mapped_types ps a).types k ≡ (with_mapped_types ps b).types k
 types_same [] a b k q = q

@@ -3,17 +3,18 @@ use Rattle.std.proofs.Common.{◌≡◌, ◌⊎◌, inl, inr, ℕ, ◌<◌, if�
 use Rattle.std.proofs.lemmas.List.Elements.{All-contains, Contains-append_left, Contains-append_right, Contains-append_cases}
 use Rattle.tasks.specs.Task.{SymbolTree, DeclarationTree, made, made_by}
 use Rattle.syntax_why.specs.Lexeme.{Word}
-use Rattle.valid_tasks.proofs.Signed.{some_at}
 use Rattle.valid_tasks.specs.Tasks.{IsOwnSymbol, AreSound}
 use Rattle.valid_tasks.proofs.Distinct.{IsDistinct, pairs_distinct}
 use Rattle.valid_tasks.proofs.TupleDecls.{made_both}
 use Rattle.theory_states.specs.States.{KnownTree, at_places}
-use Rattle.valid_tasks.proofs.Places.{none_here, cases_of, here, later, in_places}
+use Rattle.valid_tasks.proofs.Places.{none_here, cases_of, here, in_places}
 use Rattle.valid_tasks.proofs.Vocabularies.{made_below}
-use Rattle.valid_tasks.proofs.Joining.{into_made, apart_from}
 use Rattle.clone_elements.specs.Left.{Origin, no_declaration, decl_or}
 use Rattle.clone_elements.specs.Plans.{PlacedFates, is_replaced, kept_at, kept_of}
 use Rattle.clone_copies.specs.Origins.{is_own, own_at, own_among, origin_of}
+use Rattle.valid_tasks.proofs.Joined.{distinct_last as back_distinct, into_made, distinct_apart as apart_from}
+use Rattle.std.proofs.lemmas.Option.{slice_get-get_or as some_at}
+use Rattle.valid_tasks.proofs.Numbers.{later}
 
 -- ---- own places
 module _ (ds : List DeclarationTree) (path : Word) where
@@ -69,9 +70,6 @@ module _ (o : Origin) (fates : PlacedFates) where
       of (inr x) f = Contains-append_right (kept_at o fates j) (kept_of o fates ks) k (f x)
 
 -- ---- places of symbols
-back_distinct : (xs ys : List ℕ) → IsDistinct (xs ++ ys) → IsDistinct ys
-back_distinct [] ys d = d
-back_distinct (x ∷ xs) ys d = back_distinct xs ys d.1
 
 below_made : (ds : List DeclarationTree) (p k : ℕ) → Contains (made_by (decl_or ds p).body) k → p < length ds
 below_made [] p k c = absurd (none_here k c)

@@ -4,14 +4,6 @@ use Rattle.theory_states.specs.declared.fault.SourceFault.{SourceFault}
 use Rattle.theory_states.specs.declared.fault.SourceFault.TheVariants.{Memory}
 use Rattle.theory_states.specs.Uses.{OrMemory}
 
-pub no_ok : {T E : Type 0} (P : Type 0) (Q : E → Type 0) (r : Result T E) → IsErrAnd r Q → OnOk r P
-no_ok P Q (Ok v) h = absurd h
-no_ok P Q (Err e) h = tt
-
-pub no_value : {T E : Type 0} (P : T → Type 0) (Q : E → Type 0) (r : Result T E) → IsErrAnd r Q → IfOk r P
-no_value P Q (Ok v) h = absurd h
-no_value P Q (Err e) h = tt
-
 pub only_memory : {T : Type 0} (P : SourceFault → Type 0) (r : Result T SourceFault) → IfErr r (λ (f : SourceFault). f ≡ Memory) → IfErr r (OrMemory P)
 only_memory P (Ok v) h = tt
 only_memory P (Err f) h = subst (OrMemory P) (sym h) tt

@@ -8,14 +8,7 @@ use Rattle.elab_parts.specs.Entries.{builtin}
 use Rattle.theory_states.specs.States.{KnownTree, known_named}
 use Rattle.theories.specs.Files.{is_path_taken}
 use Rattle.theories.specs.Right.{IsPath}
-
-or_left : (a b : Bool) → (a || b) ≡ false → a ≡ false
-or_left true b h = absurd (cc)
-or_left false b h = refl
-
-or_right : (a b : Bool) → (a || b) ≡ false → b ≡ false
-or_right true b h = absurd (cc)
-or_right false b h = h
+use Rattle.plain_laws.proofs.Bools.{or_first as or_left, or_second as or_right}
 
 pub new_path : (path : List ℕ) (known : List KnownTree) → is_path_taken path known ≡ false → IsPath path
 new_path path known h = record {

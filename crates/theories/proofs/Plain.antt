@@ -33,7 +33,8 @@ use Rattle.theory_declarations.specs.Declared.{with_declared_goal, with_axiom, w
 use Rattle.clone_copies.specs.Moves.{IsThingMapped, IsMoveMapped, AreMovesMapped}
 use Rattle.valid_tasks.specs.Unaliased.{IsPlainThing, IsPlainMove}
 use Rattle.theories.specs.Plain.{IsSaid, IsPlainAxiom, IsPlainTheory, IsPlainKnown, ArePlainTheories, IsPlainState}
-use Rattle.theories.proofs.KnownLists.{last_at, plain_more, found_in}
+use Rattle.theories.proofs.KnownLists.{last_at, plain_more}
+use Rattle.valid_tasks.proofs.Scoped.{found_in}
 
 -- ---- moves
 pub handed_plain : (link : Link) (ms : List Move) → All IsPlainMove ms → All IsPlainMove (handed link ms)

@@ -27,21 +27,23 @@ use Rattle.elab_parts.specs.Outcomes.{Setting, over}
 use Rattle.valid_tasks.specs.Signature.{with_entries}
 use Rattle.valid_tasks.specs.Scopes.{is_projection_kind, IsNamedBy, NamesNew, IsSubvocabulary, AgreeBelow, IsSymbolNumber, IsTypedThing, AreTypedScopes}
 use Rattle.valid_tasks.proofs.Words.{self_word}
-use Rattle.valid_tasks.proofs.Signed.{some_at}
 use Rattle.valid_tasks.proofs.Scopes.{found_thing}
-use Rattle.valid_tasks.proofs.Extended.{further, in_either, slice_below, slice_all, entries_part, type_more}
+use Rattle.valid_tasks.proofs.Extended.{further, in_either, slice_all, entries_part, type_more}
 use Rattle.valid_tasks.specs.Valid.{IsTypedSetting}
 use Rattle.valid_tasks.specs.Lists.{is_built, after}
 use Rattle.valid_tasks.proofs.Made.{tuples_built}
 use Rattle.valid_tasks.proofs.Joined.{matched_usable}
 use Rattle.valid_tasks.proofs.Places.{none_here}
-use Rattle.valid_tasks.proofs.Vocabularies.{left_of}
 use Rattle.valid_tasks.proofs.CopiedRights.{right_typed}
 use Rattle.clone_elements.specs.Left.{Origin, symbol_at_place}
 use Rattle.clone_elements.specs.Rights.{RightTree, type_right, symbol_right, no_right, symbol_missing, called_symbol, right_made, right_fault, right_tuples, rights_tuples, rights_fault}
 use Rattle.clone_elements.specs.Plans.{SideTree, sides_made, symbol_for, symbols_replaced}
 use Rattle.valid_tasks.specs.Sides.{IsTypedRight, IsTypedSide}
-use Rattle.theories.proofs.Elements.{only_here}
+use Rattle.valid_tasks.proofs.Rights.{right_more, texts_count}
+use Rattle.std.proofs.lemmas.Option.{slice_get-get_or as some_at}
+use Rattle.valid_tasks.proofs.Declarations.{below as slice_below}
+use Rattle.valid_tasks.proofs.Names.{or_left as left_of}
+use Rattle.valid_tasks.proofs.Mapped.{only_here}
 
 -- ---- with further entries
 module _ (xs ys : List SymbolTree) (ds : List DeclarationTree) where
@@ -94,18 +96,6 @@ tuples_named pre zs rest ds built k e l q = of (in_either pre zs k e q)
 first_none : (a b : Option NamingFault) → first_of a b ≡ None → (a ≡ None) × (b ≡ None)
 first_none None b q = (refl, q)
 first_none (Some f) b q = absurd (cc)
-
-texts_count : (vs : List Name) → length (texts_of_names vs) ≡ length vs
-texts_count [] = refl
-texts_count (v ∷ vs) = let h = texts_count vs in omega (arith, h)
-
-right_more : (v w : Vocabulary) → IsSubvocabulary v w → (e : Element) (r : RightTree) → IsTypedRight v e r → IsTypedRight w e r
-right_more v w part (type_element i c vs f) (type_right ty) h = type_more v w part (length vs) ty h
-right_more v w part (type_element i c vs f) (symbol_right k) h = tt
-right_more v w part (type_element i c vs f) no_right h = tt
-right_more v w part (symbol_element i s c d) r h = tt
-right_more v w part (prop_element i k c) r h = tt
-right_more v w part (all_axioms i) r h = tt
 
 module _ (all : List SymbolTree) (ds : List DeclarationTree) where
   abbrev w : Vocabulary

@@ -29,7 +29,7 @@ use Rattle.theories.proofs.SameDeclared.{known_by_same, named_same}
 setting_same : (c d : StateTree) → IsSameState c d → IsSameSetting (state_setting c) (state_setting d)
 setting_same c d h = record { theory = h.opened.path; within = h.opened.within; decl = h.number; symbols = h.symbols; scope = h.opened.scope }
 
-turned : (c d : StateTree) → IsSameState c d → IsSameState d c
+pub turned : (c d : StateTree) → IsSameState c d → IsSameState d c
 turned c d h = state_turned c.trees d.trees c d h
 
 one_part : (o : Option Declaration) (x y : Declaration) → o ≡ Some x → o ≡ Some y → x ≡ y

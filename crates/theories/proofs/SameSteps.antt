@@ -7,13 +7,11 @@ use Rattle.theories.specs.Typing.{ThenStep, FaultThen, Steps, FirstFault}
 use Rattle.theories.specs.StateSame.{IsSameState}
 use Rattle.theories.specs.Steps.{IsOneStep}
 use Rattle.theories.proofs.Later.{state_turned}
+use Rattle.theories.proofs.SameDeclarations.{turned}
 
 -- a step that has no fault
 abbrev pub KeepsSame : (StateTree → StateTree → Type 0) → Type 0
 KeepsSame R = (c d c' d' : StateTree) → IsSameState c d → R c c' → R d d' → IsSameState c' d'
-
-pub turned : (c d : StateTree) → IsSameState c d → IsSameState d c
-turned c d h = state_turned c.trees d.trees c d h
 
 -- a step that is a function of the state
 pub same_by : (f : StateTree → StateTree) → ((c d : StateTree) → IsSameState c d → IsSameState (f c) (f d)) → KeepsSame (λ c c'. c' ≡ f c)

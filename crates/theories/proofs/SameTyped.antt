@@ -22,9 +22,9 @@ use Rattle.theories.proofs.Finding.{declared_same}
 use Rattle.theories.specs.StateSame.{IsSameState}
 use Rattle.theories.specs.Steps.{IsOneStep}
 use Rattle.theories.proofs.Known.{use_one}
-use Rattle.theories.proofs.SameDeclarations.{declared_step}
+use Rattle.theories.proofs.SameDeclarations.{declared_step, turned}
 use Rattle.theories.proofs.SameCloned.{clone_step}
-use Rattle.theories.proofs.SameSteps.{KeepsSame, turned, same_by, first_one, either_step}
+use Rattle.theories.proofs.SameSteps.{KeepsSame, same_by, first_one, either_step}
 
 -- ---- the next number
 pub passed_same : KeepsSame IsPassed

@@ -12,6 +12,7 @@ use Rattle.side_conditions.specs.declared.sides.SideFault.{SideFault}
 use Rattle.side_conditions.specs.declared.sides.SideFault.TheVariants as side
 use Rattle.side_conditions.specs.Sides.{IsCovered, IsFirstOpenMatch, IsFirstCheckFault, IsSideFault}
 use Rattle.theories.proofs.StateLists.{without_or, one_without}
+use Rattle.decl_checks.proofs.Exact.{one_fault, right_not as fault_or}
 
 -- ---- what is wrong with clauses, definitions and types
 data ClauseWrong (symbols : List SymbolTree) (group : List ℕ) (cs : List OwnClause) (f : CheckFault) : Type 0 where
@@ -63,30 +64,6 @@ type_wrong ts check.NotStructural h = absurd h
 type_wrong ts check.GroupTooWide h = absurd h
 
 -- ---- of one declaration
-fault_or : (symbols : List SymbolTree) (b : BodyTree) (f : CheckFault) → HasNoFault symbols b → HasFault symbols b f → ⊥
-fault_or symbols (Induces is) f n h = of (clause_wrong symbols (group_of is) (all_clauses is) f h)
-  where
-    of : ClauseWrong symbols (group_of is) (all_clauses is) f → ⊥
-    of (form k e i) = without_or (ClauseHasForm symbols (group_of is)) (all_clauses is) k n.form i
-    of (positive k e a i) = without_or (ClauseIsPositive (group_of is)) (all_clauses is) k n.positive i
-fault_or symbols (Defines ds) f n h = of (definition_wrong symbols ds f h)
-  where
-    of : DefinitionWrong symbols ds f → ⊥
-    of (wide e r l) = above_or 4096 (choices symbols ds) l (n.narrow r)
-    of (structure e r l none) = none (n.structural r)
-fault_or symbols (Constructs ts) f n h = (type_wrong ts f h).1 n
-fault_or symbols (MakesType k) f n h = h
-fault_or symbols (Makes k) f n h = h
-fault_or symbols (Says e) f n h = h
-
-one_fault : (symbols : List SymbolTree) (b : BodyTree) (f g : CheckFault) → HasFault symbols b f → HasFault symbols b g → f ≡ g
-one_fault symbols (Induces is) f g h k =
-    one_clause symbols (group_of is) (all_clauses is) f g (clause_wrong symbols (group_of is) (all_clauses is) f h) (clause_wrong symbols (group_of is) (all_clauses is) g k)
-one_fault symbols (Defines ds) f g h k = one_definition symbols ds f g (definition_wrong symbols ds f h) (definition_wrong symbols ds g k)
-one_fault symbols (Constructs ts) f g h k = (type_wrong ts f h).0 ∙ sym (type_wrong ts g k).0
-one_fault symbols (MakesType n) f g h k = absurd h
-one_fault symbols (Makes n) f g h k = absurd h
-one_fault symbols (Says e) f g h k = absurd h
 
 -- ---- of all
 module _ (symbols : List SymbolTree) where

@@ -36,6 +36,7 @@ use Rattle.theories.proofs.IntGrowth.{source_ints}
 use Rattle.theories.proofs.IntLibrary.{library_ints}
 use Rattle.theories.specs.Sources.{AreSoundIn}
 use Rattle.theories.proofs.SourceSteps.{AreQuoted, tail_of, front_of, back_of, IsGood, decls_good}
+use Rattle.plain_laws.proofs.Bools.{or_second as right_false}
 
 -- ---- between theories
 pub record AreGood (c : StateTree) : Type 0 where
@@ -47,10 +48,6 @@ pub record AreGood (c : StateTree) : Type 0 where
 none_of : (o : Option KnownTree) → is_some o ≡ false → o ≡ None
 none_of None q = refl
 none_of (Some k) q = absurd (cc)
-
-right_false : (a b : Bool) → (a || b) ≡ false → b ≡ false
-right_false true b h = absurd (cc)
-right_false false b h = h
 
 -- no theory has a path that isn't taken
 not_known : (path : List ℕ) (known : List KnownTree) → is_path_taken path known ≡ false → known_named known path ≡ None

@@ -6,13 +6,11 @@ use Rattle.clones.specs.Mapped.{Map}
 use Rattle.syntax_why.specs.Lexeme.{Word}
 use Rattle.syntax_why.specs.declared.declarations.PropKind.{PropKind}
 use Rattle.syntax_why.specs.declared.declarations.PropKind.TheVariants as kind
-use Rattle.valid_tasks.proofs.Signed.{some_at}
 use Rattle.theory_states.specs.States.{at_places}
 use Rattle.valid_tasks.specs.Sound.{others}
 use Rattle.valid_tasks.specs.Cloning.{IsMadeRight, AreMadeRight}
 use Rattle.valid_tasks.specs.Steps.{CopyStep, leaves, joins, declaration_of, declarations_of, taken_of, made_of, made_from, IsClone}
 use Rattle.valid_tasks.proofs.Vocabularies.{made_below}
-use Rattle.valid_tasks.proofs.Joining.{into_made}
 use Rattle.valid_tasks.proofs.ClonedGoals.{right_more}
 use Rattle.valid_tasks.proofs.StateOthers.{made_right_of}
 use Rattle.clone_elements.specs.Left.{no_declaration, decl_or}
@@ -20,6 +18,8 @@ use Rattle.clone_elements.specs.Plans.{is_replaced, kind_or}
 use Rattle.clone_copies.specs.Origins.{is_own}
 use Rattle.clone_copies.specs.Places.{Copying}
 use Rattle.valid_tasks.specs.PlaceSteps.{step_as, step_of, copy_step_at, copy_steps_at}
+use Rattle.std.proofs.lemmas.Option.{slice_get-get_or as some_at}
+use Rattle.valid_tasks.proofs.Joined.{into_made}
 
 module _ (x : Copying) (ds : List DeclarationTree) where
   of_kind : (k : PropKind) (d : DeclarationTree) → declaration_of (step_as k d) ≡ d

@@ -1,7 +1,7 @@
 -- The tokens of a text are names, but for integers.
 use Rattle.std.proofs.Common.{◌≡◌, ℕ, ◌<◌, ◌&&◌, ◌||◌, nat_eq, not, Bool, true, false, if◌then◌else◌, codes, List, [], ◌∷◌, drop, All, Option, Some, None, refl, subst, ap, ◌∙◌, arith}
 use Rattle.std.specs.List.{list_all}
-use Rattle.std.proofs.lemmas.Bool.{eqb-true}
+use Rattle.std.proofs.lemmas.Bool.{eqb-true, and_from as joins}
 use Rattle.std.proofs.lemmas.Bool.Decides.{nat_tests}
 use Rattle.std.proofs.lemmas.List.Elements.{All-nil, All-cons, All-map, All-drop}
 use Rattle.tokens_why.specs.declared.token.Token.{Token}
@@ -19,7 +19,8 @@ use Rattle.tokens_why.specs.Tokens.{text_of, Stop, whole, Reads, AreTokens}
 use Rattle.syntax_why.specs.Lexeme.{Word, said, lexeme, rest}
 use Rattle.tasks.specs.Words.{IsScopedName}
 use Rattle.theories.specs.Lexemes.{SaysWord, IsWordLexeme, AreWordLexemes}
-use Rattle.theories.proofs.Words.{both, joins, negated, all_to, implied, is_number_byte, is_part_byte, empty_name, part}
+use Rattle.theories.proofs.Words.{all_to, implied, is_number_byte, is_part_byte, empty_name, part}
+use Rattle.plain_laws.proofs.Bools.{and_both as both, negated}
 
 -- ---- bytes of words and operators
 letter_low : (c : ℕ) → is_letter c ≡ true → c < 128

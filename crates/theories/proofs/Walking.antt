@@ -13,6 +13,7 @@ use Rattle.theory_declarations.specs.Declared.{IsDeclaredFault}
 use Rattle.theories.specs.Typing.{ThenStep, IsPassed, IsDeclarationFault, AreFaulty}
 use Rattle.theories.specs.Sound.{IsSoundlyDeclared, IsSoundlyTyped, AreSoundlyTyped}
 use Rattle.theories.proofs.Forgetting.{decl_forgotten}
+use Rattle.clone_theories.proofs.Faults.{or_weaker as or_memory}
 
 -- what is typed from the start of all declarations, where the rest is typed from here, and so their faults
 pub record Walk (c0 c : StateTree) (rest all : SyntaxDeclarations) : Type 0 where
@@ -71,21 +72,6 @@ logical_fault (clone_decl a k p n es) l c e h = absurd l
 logical_fault (scope_decl a n ds) l c e h = absurd l
 
 -- ---- faults
-or_memory : (P Q : SourceFault → Type 0) → ((f : SourceFault) → P f → Q f) → (f : SourceFault) → OrMemory P f → OrMemory Q f
-or_memory P Q k Memory h = tt
-or_memory P Q k (Unknown d i) h = k (Unknown d i) h
-or_memory P Q k (Duplicate d i) h = k (Duplicate d i) h
-or_memory P Q k (WrongKind d i) h = k (WrongKind d i) h
-or_memory P Q k (Arity d i) h = k (Arity d i) h
-or_memory P Q k (Clash d i) h = k (Clash d i) h
-or_memory P Q k (Undetermined d i) h = k (Undetermined d i) h
-or_memory P Q k (NotExhaustive d i) h = k (NotExhaustive d i) h
-or_memory P Q k (BadClause d i) h = k (BadClause d i) h
-or_memory P Q k (NotPositive d i) h = k (NotPositive d i) h
-or_memory P Q k (NotStructural d) h = k (NotStructural d) h
-or_memory P Q k (GroupTooWide d) h = k (GroupTooWide d) h
-or_memory P Q k (Uninhabited d) h = k (Uninhabited d) h
-or_memory P Q k (BadSubstitution d i) h = k (BadSubstitution d i) h
 
 -- another fault's meaning follows, of a fault and of an answer
 pub fault_so : {P Q : SourceFault → Type 0} → ((f : SourceFault) → P f → Q f) → (f : SourceFault) → OrMemory P f → OrMemory Q f

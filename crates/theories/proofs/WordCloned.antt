@@ -34,15 +34,9 @@ use Rattle.theories.proofs.Words.{written_name, joined}
 use Rattle.theories.proofs.Tuples.{HasWord, tuples_words, symbol_word}
 use Rattle.theories.proofs.Outcomes.{rigid_words}
 use Rattle.theories.proofs.Declared.{HasWordVariables}
+use Rattle.clone_theories.proofs.TypedClone.{found_has}
 
 -- ---- the theory
-found_by : {X : Type 0} (P : X → Type 0) (b : Bool) (y x : X) (r : Option X) → P y → (r ≡ Some x → P x) → cond b (Some y) r ≡ Some x → P x
-found_by P true y x r h k e = let i : y ≡ x = cc in subst P i h
-found_by P false y x r h k e = k e
-
-found_has : {X : Type 0} (P : X → Type 0) (test : X → Bool) (xs : List X) (x : X) → All P xs → find test xs ≡ Some x → P x
-found_has P test [] x a e = absurd (cc)
-found_has P test (y ∷ ys) x a e = found_by P (test y) y x (find test ys) (All-head P y ys a) (λ k. found_has P test ys x (All-tail P y ys a) k) e
 
 -- the type variables of axioms by their places
 abbrev Told : Axioms → Type 0

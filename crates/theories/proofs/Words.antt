@@ -6,27 +6,14 @@ use Rattle.std.proofs.lemmas.Bool.Decides.{nat_tests}
 use Rattle.std.proofs.lemmas.List.Elements.{All-nil, All-cons}
 use Rattle.std.proofs.lemmas.List.Folds.{list_all-append}
 use Rattle.tasks.specs.Words.{IsPlainByte, IsLineWord, is_name_byte, has_no_number, IsScopedName}
+use Rattle.std.proofs.lemmas.Bool.{and_from as joins, and_right as right_false}
+use Rattle.plain_laws.proofs.Bools.{and_both as both, negated}
 
 -- ---- tests
-pub both : (a b : Bool) → (a && b) ≡ true → (a ≡ true) × (b ≡ true)
-both true b e = (refl, e)
-both false b e = absurd (cc)
-
-pub joins : (a b : Bool) → a ≡ true → b ≡ true → (a && b) ≡ true
-joins true b h k = k
-joins false b h k = absurd (cc)
 
 left_false : (a b : Bool) → a ≡ false → (a && b) ≡ false
 left_false true b h = absurd (cc)
 left_false false b h = refl
-
-right_false : (a b : Bool) → b ≡ false → (a && b) ≡ false
-right_false true b h = h
-right_false false b h = refl
-
-pub negated : (a : Bool) → not a ≡ true → a ≡ false
-negated true h = absurd (cc)
-negated false h = refl
 
 denied : (a : Bool) → a ≡ false → not a ≡ true
 denied true h = absurd (cc)

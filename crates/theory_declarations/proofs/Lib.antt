@@ -3,5 +3,4 @@ mod Named
 mod Refused
 mod Pushed
 mod Sound
-mod Passed
 mod Appended

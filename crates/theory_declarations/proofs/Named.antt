@@ -37,7 +37,8 @@ use Rattle.theory_states.proofs.Growing.{held_grows, state_grows}
 use Rattle.valid_tasks.specs.TypedStates.{state_setting, IsTypedState}
 use Rattle.theory_declarations.specs.Declared.{proposition_in, known_by, with_named, IsDeclared}
 use Rattle.theory_declarations.specs.Steps.{IsNextState}
-use Rattle.theory_declarations.proofs.Typed.{declared_typed, signature_part, setting_typed, trees_typed, known_typed}
+use Rattle.theory_declarations.proofs.Typed.{declared_typed, setting_typed, trees_typed, known_typed}
+use Rattle.valid_tasks.proofs.Rights.{entries_more as signature_part}
 
 -- an outcome over a store that has grown
 pub outcome_stays : (c : Setting) (s s' : List Tree) → Grows s s' → (x : Declaration) (o : Outcome) → IsOutcome c s x o → IsOutcome c s' x o

@@ -36,10 +36,6 @@ logical_parts (source.use_decl a k p n) l = absurd l
 logical_parts (source.clone_decl a k p n es) l = absurd l
 logical_parts (source.scope_decl a n ds) l = absurd l
 
-pub some_weaker : {X : Type 0} (o : Option X) (P Q : X → Type 0) → ((x : X) → P x → Q x) → IfSome o P → IfSome o Q
-some_weaker None P Q f h = tt
-some_weaker (Some x) P Q f h = f x h
-
 pub told : (P : Declaration → Type 0) (d : source.SyntaxDeclaration) (x : Declaration) → declaration d ≡ Some x → IfSome (declaration d) P → P x
 told P d x q h = let Q : Option Declaration → Type 0 = λ o. IfSome o P in subst Q q h
 

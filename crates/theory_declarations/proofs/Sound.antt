@@ -51,8 +51,10 @@ use Rattle.valid_tasks.proofs.Places.{places_count}
 use Rattle.valid_tasks.proofs.Further.{state_further}
 use Rattle.theory_declarations.specs.Declared.{to_prove, proposition_in, known_by, with_named}
 use Rattle.theory_declarations.specs.Steps.{IsNextState, AreQuoted}
-use Rattle.theory_declarations.proofs.Typed.{declared_typed, same_part}
+use Rattle.theory_declarations.proofs.Typed.{declared_typed}
 use Rattle.theory_declarations.proofs.Named.{bodies_pass}
+use Rattle.valid_tasks.proofs.PlaceSteps.{first_of as last_of}
+use Rattle.valid_tasks.proofs.Used.{is_part_itself as same_part}
 
 -- ---- a formula without type variables at types
 module _ (tys : List Tree) where
@@ -76,10 +78,6 @@ take_front zero [] ys q = refl
 take_front zero (x ∷ xs) ys q = absurd (omega (arith, q))
 take_front (suc n) [] ys q = absurd (omega (arith, q))
 take_front (suc n) (x ∷ xs) ys q = ap (λ (r : List _). x ∷ r) (take_front n xs ys (omega (arith, q)))
-
-last_of : (xs : List DeclarationTree) (x : DeclarationTree) → slice_get (xs ++ x ∷ []) (length xs) ≡ Some x
-last_of [] x = refl
-last_of (y ∷ xs) x = last_of xs x
 
 axiom_last : (xs : List DeclarationTree) (x : DeclarationTree) (vs : List Word) → x.vars ≡ length vs → All IsQuoted vs → IsSoundAxiom (xs ++ x ∷ []) (record { decl = length xs; vars = vs })
 axiom_last xs x vs q h = record {

@@ -30,6 +30,7 @@ use Rattle.theory_states.specs.declared.states.AxiomAt.{AxiomAt}
 use Rattle.theory_states.specs.States.{StateTree, with_declaration, with_declarations}
 use Rattle.valid_tasks.specs.TypedStates.{state_setting, IsTypedState}
 use Rattle.theory_declarations.specs.Declared.{with_declared_goal, with_proposition, with_proposed, known_by}
+use Rattle.valid_tasks.proofs.Used.{is_part_itself as same_part}
 
 -- ---- moves of names of a typed scope
 module _ (v : Vocabulary) (s : List Tree) (names : ScopeNames) (h : AreTypedScopes v s names) where
@@ -60,20 +61,10 @@ module _ (v : Vocabulary) (s : List Tree) (names : ScopeNames) (h : AreTypedScop
   declared_typed d = of_typed (declaration d)
 
 -- ---- more entries
-pub signature_part : (xs ys : List SymbolTree) → IsSubvocabulary (of_signature xs) (of_signature (xs ++ ys))
-signature_part xs ys = record {
-  entries = λ k e q. further xs ys k e q;
-  rigid = λ k e q h. let z = further xs ys k e q in rw z (rw q at h);
-  usable = λ k e q h. let z = further xs ys k e q in rw z (rw q at h);
-  matched = λ k e q h. let z = further xs ys k e q in rw z (rw q at h);
-}
 
 -- ---- states
 pub setting_typed : (c : StateTree) → IsTypedState c → IsTypedSetting (of_signature c.symbols) (state_setting c)
 setting_typed c h = record { theory = h.theory; source = h.source; signature = h.theories.signature; scopes = h.scopes }
-
-pub same_part : (v : Vocabulary) → IsSubvocabulary v v
-same_part v = record { entries = λ k e q. q; rigid = λ k e q h. h; usable = λ k e q h. h; matched = λ k e q h. h }
 
 -- over a store that has grown
 pub trees_typed : (c : StateTree) (s : List Tree) → Grows c.trees s → IsTypedState c → IsTypedState (record c { trees = s })

@@ -1,4 +1,3 @@
-pub mod Passed
 pub mod Instances
 pub mod Scripts
 pub mod Moving

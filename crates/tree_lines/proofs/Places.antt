@@ -10,17 +10,7 @@ use Rattle.std.specs.Str.{bytes_eq}
 use Rattle.std.proofs.lemmas.Slice.Eq.{bytes_eq-Decides}
 use Rattle.name_entries.specs.declared.names.NameEntry.{NameEntry}
 use Rattle.tree_lines.specs.Named.{entry_named}
-
-bytes_eq_is : (a b : List ℕ) → bytes_eq a b ≡ true → a ≡ b
-bytes_eq_is a b h = (bytes_eq-Decides a b).0 h
-
--- what a query for another key finds
-other_entries : {K X : Type 0} (eq : K → K → Bool) (test : K → Bool) (old new : List (K × X)) → KeepsOthers eq test old new → (other : K → Bool) → IsKeyTest eq other → AreApart test other → lookup other new ≡ lookup other old
-unfolding KeepsOthers
-other_entries eq test old new h = h
-
-apart : (name q key : List ℕ) → bytes_eq name q ≡ false → bytes_eq name key ≡ true → bytes_eq q key ≡ false
-apart name q key differs same = nat_list_eq_equiv.symm q key ∙ sym (nat_list_eq_equiv.congr name key q same) ∙ differs
+use Rattle.plain_laws.proofs.Lists.{bytes_apart as apart, bytes_are as bytes_eq_is, other_entries}
 
 -- what a map has at a name, after a change at one
 updates_name : {Y X S : Type 0} (name : List ℕ) (old new : HashMap (Vec ℕ Y) X S) (w : Option X) → UpdatesBy (λ x y. bytes_eq x.items y.items) (λ k. bytes_eq name k.items) old new w

@@ -8,5 +8,5 @@ pub mod UsedBack
 pub mod BranchesBack
 pub mod Dispatch
 mod MarkedParts
-mod Sorting
-mod Whole
+pub mod Sorting
+pub mod Whole

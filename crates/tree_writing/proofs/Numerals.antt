@@ -9,10 +9,7 @@ use Rattle.std.specs.Char.{digit_value}
 use Rattle.std.specs.Str.Parse.{AllDigits, digits_value_after, digits_value}
 use Rattle.integer_words.specs.Integers.{number_from}
 use Rattle.tree_lines.specs.Words.{number}
-
-value_grows : (n : ℕ) (ds : List ℕ) → n ≤ digits_value_after 10 n ds
-value_grows n [] = omega arith
-value_grows n (c ∷ cs) = omega (arith, value_grows (n * 10 + digit_value c) cs)
+use Rattle.integer_words.proofs.Decimals.{value_grows}
 
 one_digit : (n c : ℕ) → 48 ≤ c → c ≤ 57 → n * 10 + (c - 48) < 18446744073709551616
     → ((nat_le 48 c && nat_le c 57) && nat_lt (n * 10 + (c - 48)) 18446744073709551616) ≡ true

@@ -18,6 +18,7 @@ use Rattle.tree_writing.specs.Parts.{IsMarked, HasMark, ChildrenMarked}
 use Rattle.tree_writing.specs.Whole.{kind_of_sort, IsOfKind, TopNamed, KindLines}
 use Rattle.tree_writing.proofs.Partly.{rest_list}
 use Rattle.tree_writing.proofs.BranchesBack.{leaf_arm, one_arm, two_is_arm, three_arm}
+use Rattle.trees.proofs.Types.{expression_yield}
 
 -- what an expression yields is one
 yield_same : (h : Head) (y : Sort) → IsExpression (top_sort h y) → top_sort h y ≡ y
@@ -28,9 +29,6 @@ yield_same HCell y (inr e) = absurd (cc)
 yield_same HArm y (inl e) = absurd (cc)
 yield_same HArm y (inr e) = absurd (cc)
 yield_same _ y e = refl
-
-pub expression_yield : (b : Tree) → IsExpression (sort_of b) → IsExpression (yield b)
-expression_yield b e = subst IsExpression (yield_same (head_of b) (yield b) e) e
 
 -- so is what a branch yields, and a list of branches
 branch_yield : (x : Tree) → WellSorted x → sort_of x ≡ sort.Branch → IsExpression (yield x)
@@ -221,7 +219,7 @@ sort_expression _ e = absurd (cc)
 pub is_writable : (e : Tree) → WellSorted e → IsOfKind kind.Expression e → IsWritable e
 is_writable e w k = writable e w (sort_expression (sort_of e) k)
 
-expression_kind : (e : Tree) → IsExpression (sort_of e) → IsOfKind kind.Expression e
+pub expression_kind : (e : Tree) → IsExpression (sort_of e) → IsOfKind kind.Expression e
 expression_kind e (inl k) = ap kind_of_sort k
 expression_kind e (inr k) = ap kind_of_sort k
 

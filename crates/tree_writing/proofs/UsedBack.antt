@@ -54,11 +54,11 @@ each_length {A} {B} f (x ∷ xs) ys e = at (f x) (each f xs) refl e (λ zs k. ea
       let same : y ∷ zs ≡ ys = cc in
       ap suc (more zs is) ∙ ap length same
 
-take_front : {A : Type 0} (xs ys : List A) → take (length xs) (xs ++ ys) ≡ xs
+pub take_front : {A : Type 0} (xs ys : List A) → take (length xs) (xs ++ ys) ≡ xs
 take_front [] ys = refl
 take_front (x ∷ xs) ys = ap (λ l. x ∷ l) (take_front xs ys)
 
-drop_front : {A : Type 0} (xs ys : List A) → drop (length xs) (xs ++ ys) ≡ ys
+pub drop_front : {A : Type 0} (xs ys : List A) → drop (length xs) (xs ++ ys) ≡ ys
 drop_front [] ys = refl
 drop_front (x ∷ xs) ys = drop_front xs ys
 
@@ -130,10 +130,6 @@ module _ (s : List Tree) (table : List NameEntry) (lines : List (Option ℕ)) (t
           at kind.Function m = refl
           at kind.Constructor m = refl
           at kind.Projection m = refl
-
-pub some_and : {A : Type 0} (o : Option A) (P : A → Type 0) → IsSomeAnd o P → (x : A) × (o ≡ Some x) × P x
-some_and None P h = absurd h
-some_and (Some x) P h = (x, refl, h)
 
 -- patterns of one part
 module _ (s : List Tree) (lines : List (Option ℕ)) (t : TaskTree) (table : List NameEntry) (r : Earlier) (are : AreLines s lines r) (a : Tree) (ws : List LineWord) where

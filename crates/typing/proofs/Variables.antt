@@ -9,6 +9,7 @@ use Rattle.tasks.specs.Typing.{pattern_types, option_list}
 use Rattle.tasks.specs.Open.{VariableHas, VariablesHave, one_has}
 use Rattle.tasks.proofs.Counts.{pattern_count}
 use Rattle.typing.specs.Variables.{HasAt, CanHave, HaveAt, CanHaveAll}
+use Rattle.binders.proofs.Rebuilt.{deeper}
 
 one_closed : (d : ℕ) (ty : Tree) (h : Head) (a : Tree) → loose (One h a) ≤ d → one_has d ty h a
 one_closed d ty (HBound i) a l = λ q. absurd (omega arith)
@@ -41,9 +42,6 @@ module _ (depth i : ℕ) (ty a e : Tree) (w : WellSorted e) (q : e ≡ One (HBou
 
   pub bound_can : i ≡ depth → CanHave depth ty e → a ≡ ty
   bound_can m c = let v : VariableHas c.d ty (One (HBound i) a) = rw q at c.is in v.0 (omega (arith, c.is_depth, sorted.0.1))
-
-deeper : (depth under d : ℕ) (h : Head) (a : Tree) → IsUnder depth under h a → IsDepth depth d → IsDepth under (d + binders_over h a)
-deeper depth under d h a u i = omega (arith, u.is, i)
 
 module _ (depth under : ℕ) (ty a b e : Tree) (h : Head) (q : e ≡ Two h a b) (u : IsUnder depth under h a) where
   pub two_at : HasAt depth ty a → HasAt under ty b → HasAt depth ty e

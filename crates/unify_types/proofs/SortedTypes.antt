@@ -5,7 +5,7 @@ use Rattle.trees.specs.declared.Sort.{Sort}
 use Rattle.trees.specs.declared.Sort.TheVariants.{Kind}
 use Rattle.trees.specs.declared.Sort.TheVariants as sort
 use Rattle.trees.specs.Sorts.{sort_of, first_sort, WellSorted, IsList, IsListOf, LeafFits, Fits}
-use Rattle.trees.proofs.Types.{OnlyTypes, only_types}
+use Rattle.trees.proofs.Types.{OnlyTypes, only_types, kind_first}
 use Rattle.unify_types.specs.Assigned.{IsType, IsTypeOrTypes, leaf_typed}
 use Rattle.unify_types.specs.Pairs.{IsKind}
 
@@ -39,10 +39,6 @@ one_list _ a o e = let q = o.0.1 in absurd (cc)
 pair_no_type : (h : Head) (a b : Tree) → OnlyTypes (Two h a b) → sort_of (Two h a b) ≡ Kind → ⊥
 pair_no_type HCell a b o e = cc
 pair_no_type _ a b o e = let q = o.0 in cc
-
-kind_first : (s : Sort) → (Some s ≡ None) ⊎ (Some s ≡ Some Kind) → s ≡ Kind
-kind_first s (inl e) = absurd (cc)
-kind_first s (inr e) = cc
 
 -- a list of types begins with a type, and goes on as one
 cell_kinds : (h : Head) (a b : Tree) → Fits (Two h a b) → OnlyTypes (Two h a b) → IsList Kind (Two h a b) → (h ≡ HCell) × ((sort_of a ≡ Kind) × IsList Kind b)

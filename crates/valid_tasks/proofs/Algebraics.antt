@@ -22,6 +22,8 @@ use Rattle.valid_tasks.specs.Signature.{with_entries}
 use Rattle.valid_tasks.specs.Scopes.{IsNamedBy, NamesNew, IsTypedEntry, IsTypedSignature, IsTypeNumber, IsSymbolNumber, IsTypedThing, AreTypedScopes}
 use Rattle.valid_tasks.proofs.Scopes.{scopes_more, typed_entry, OnTypes}
 use Rattle.valid_tasks.proofs.Tuples.{own_in, constructor_typed}
+use Rattle.elab_types.proofs.Made.{cons_length as count_cons, projections_length as count_projections}
+use Rattle.elab_types.proofs.Counted.{types_length}
 
 -- ---- entries at numbers, which may be named
 pub record IsThere (base : Vocabulary) (all : List SymbolTree) (k : ℕ) (e : SymbolTree) : Type 0 where
@@ -32,7 +34,7 @@ abbrev pub EntriesAt : Vocabulary → List SymbolTree → ℕ → List SymbolTre
 EntriesAt base all n [] = Unit {0}
 EntriesAt base all n (e ∷ es) = IsThere base all n e × EntriesAt base all (n + 1) es
 
-at_end : (xs ys : List SymbolTree) (e : SymbolTree) (k : ℕ) → k ≡ length xs → slice_get (xs ++ e ∷ ys) k ≡ Some e
+pub at_end : (xs ys : List SymbolTree) (e : SymbolTree) (k : ℕ) → k ≡ length xs → slice_get (xs ++ e ∷ ys) k ≡ Some e
 at_end [] ys e k q = rw q refl
 at_end (x ∷ xs) ys e zero q = absurd (omega (arith, q))
 at_end (x ∷ xs) ys e (suc k) q = at_end xs ys e k (omega (arith, q))
@@ -57,22 +59,6 @@ got (x ∷ xs) zero e q = (omega arith, cc)
 got (x ∷ xs) (suc k) e q = let r = got xs k e q in (omega (arith, r.0), r.1)
 
 -- ---- how many
-pub types_length : (w : Where) (fs : TypeExpressions) → length (types_at w fs) ≡ count_forms fs
-types_length w no_types = refl
-types_length w (more_types f fs) = ap suc (types_length w fs)
-
-count_projections : (theory name : Word) (vars : ℕ) (t : Tree) (i : ℕ) (fs : List Tree) → length (projections theory name vars t i fs) ≡ length fs
-count_projections theory name vars t i [] = refl
-count_projections theory name vars t i (f ∷ fs) = ap suc (count_projections theory name vars t (suc i) fs)
-
-pub count_cons : (theory within : Word) (vars : ℕ) (t : Tree) (w : Where) (n : ℕ) (ks : List ConstructorOf) → length (constructors_entries theory within vars t ks (constructor_trees w n ks)) ≡ entry_count ks
-count_cons theory within vars t w n [] = refl
-count_cons theory within vars t w n (k ∷ ks) =
-    let fs = types_at w k.fields in
-    let one = constructor_entries theory (within ++ k.called.name) vars t fs in
-    let rest = constructors_entries theory within vars t ks (constructor_trees w (n + (count_forms k.fields + 1)) ks) in
-    let p : length (projections theory (within ++ k.called.name) vars t 1 fs) ≡ length fs = count_projections theory (within ++ k.called.name) vars t 1 fs in
-    omega (arith, length-append one rest, p, types_length w k.fields, count_cons theory within vars t w (n + (count_forms k.fields + 1)) ks)
 
 module _ (theory within : Word) (named : is_empty theory ≡ false) where
   -- ---- over a signature that has them

@@ -23,7 +23,7 @@ use Rattle.elab_walk.proofs.Below.{both_all}
 use Rattle.elab_walk.proofs.Branching.{pattern_variables}
 use Rattle.valid_tasks.specs.Signature.{IsWellFormed, AlternativesTuples}
 use Rattle.valid_tasks.specs.Typed.{assigned_types}
-use Rattle.valid_tasks.proofs.Words.{same_word, self_word, is_in, is_in_reverse, AreNew, pattern_new, both_true, among_count}
+use Rattle.valid_tasks.proofs.Words.{same_word, self_word, is_in, is_in_reverse, AreNew, pattern_new, among_count}
 use Rattle.valid_tasks.proofs.Over.{IsOver, IsGood}
 use Rattle.valid_tasks.proofs.Forms.{TypedAs}
 use Rattle.valid_tasks.proofs.Sound.{IsPatternAt, AreNoted, both_noted, none_noted, first_solved, rest_solved, LocalsOver, sig}
@@ -32,14 +32,12 @@ use Rattle.valid_tasks.proofs.Arms.{AreArms, arm_typed, order_assigned}
 use Rattle.valid_tasks.proofs.Reordering.{sort_at, type_at, reordered_good}
 use Rattle.valid_tasks.proofs.Reordering as order
 use Rattle.tasks.proofs.Closing.{typed_sorted}
+use Rattle.elab_walk.proofs.Arguments.{names_both}
+use Rattle.plain_laws.proofs.Bools.{and_both as both_true}
 
 pub reversed_all : {A : Type 0} (P : A → Type 0) (xs : List A) → AllByRecursion P xs → AllByRecursion P (reverse xs)
 reversed_all P [] h = tt
 reversed_all P (x ∷ xs) h = rw (reverse-cons x xs) (both_all P (reverse xs) (x ∷ []) (reversed_all P xs h.1) (h.0, tt))
-
-pub names_both : (xs ys : List LocalTree) → names (xs ++ ys) ≡ names xs ++ names ys
-names_both [] ys = refl
-names_both (x ∷ xs) ys = ap (λ (r : List Word). x.name ∷ r) (names_both xs ys)
 
 pub names_reverse : (xs : List LocalTree) → names (reverse xs) ≡ reverse (names xs)
 names_reverse [] = refl

@@ -16,9 +16,8 @@ use Rattle.tasks.specs.Valid.{own_type}
 use Rattle.elab_walk.specs.Scoped.{IsScopedEntry}
 use Rattle.elab_parts.specs.Entries.{builtin, is_tuple, type_entry}
 use Rattle.valid_tasks.specs.Scopes.{is_projection_kind, IsTypedEntry, IsTypedSignature, IsTypedThing}
-use Rattle.valid_tasks.proofs.Words.{both_true, self_word}
+use Rattle.valid_tasks.proofs.Words.{self_word}
 use Rattle.valid_tasks.proofs.Tuples.{variables_in, own_in, type_entry_typed, constructor_typed}
-use Rattle.valid_tasks.proofs.Signed.{some_at}
 use Rattle.names_space.specs.Names.{ScopeEntry}
 use Rattle.valid_tasks.specs.Moves.{IsTypedMove}
 use Rattle.valid_tasks.specs.Lists.{is_built, after}
@@ -33,10 +32,14 @@ use Rattle.valid_tasks.proofs.Distinct.{distinct_pairs}
 use Rattle.theory_states.specs.States.{KnownTree, StateTree, at_places, opened_empty, known_as, known_named}
 use Rattle.valid_tasks.specs.Whole.{IsWhole}
 use Rattle.valid_tasks.specs.Sound.{IsSoundAxiom, IsSoundAmong, IsSoundTheory, IsSoundKnown, IsSoundOpened, paths, IsSoundState, AreSoundTheories}
-use Rattle.valid_tasks.proofs.Places.{none_here, cases_of, later, from_places, slice_in}
+use Rattle.valid_tasks.proofs.Places.{none_here, cases_of, from_places, slice_in}
+use Rattle.valid_tasks.proofs.Names.{or_left as left_true}
+use Rattle.plain_laws.proofs.Bools.{and_both as both_true}
+use Rattle.std.proofs.lemmas.Option.{slice_get-get_or as some_at}
+use Rattle.valid_tasks.proofs.Numbers.{later}
 
 -- ---- what is built in is typed
-slice_or : (es : List SymbolTree) (k : ℕ) (e : SymbolTree) → slice_get es k ≡ Some e → symbol_or es k ≡ e
+pub slice_or : (es : List SymbolTree) (k : ℕ) (e : SymbolTree) → slice_get es k ≡ Some e → symbol_or es k ≡ e
 slice_or [] k e q = absurd (cc)
 slice_or (x ∷ xs) zero e q = cc
 slice_or (x ∷ xs) (suc k) e q = slice_or xs k e q
@@ -44,10 +47,6 @@ slice_or (x ∷ xs) (suc k) e q = slice_or xs k e q
 or_none : (a : Bool) → IsTrue (a || false) → IsTrue a
 or_none true h = refl
 or_none false h = h
-
-left_true : (a b : Bool) → IsTrue a → IsTrue (a || b)
-left_true true b h = refl
-left_true false b h = absurd (let e : true ≡ false = sym h in cc)
 
 module _ (symbols : List SymbolTree) (built : IsBuiltRight symbols) where
   abbrev v : Vocabulary

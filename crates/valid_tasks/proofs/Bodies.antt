@@ -46,8 +46,10 @@ use Rattle.valid_tasks.proofs.Solutions.{own_same, kept, kept_over, kept_kind, k
 use Rattle.valid_tasks.proofs.Widths.{IsWithin, type_grows, grows, form_grows, tuples_seen}
 use Rattle.valid_tasks.proofs.Scopes.{over_well_formed}
 use Rattle.valid_tasks.proofs.Tuples.{tuple_of}
-use Rattle.valid_tasks.proofs.Settings.{below_of, of_below, over_scoped}
+use Rattle.valid_tasks.proofs.Settings.{of_below, over_scoped}
 use Rattle.valid_tasks.proofs.Owned.{leaf_in, VariablesIn, LocalsIn, EquationsIn, Takes, PieceIn, below_in, reversed_in, owned}
+use Rattle.trees.proofs.Indices.{ltb_true as test_lt, ltb_false as test_le}
+use Rattle.tasks.proofs.TypeInstances.{below as below_of}
 
 -- ---- what is seen stays
 pub params_grow : (ps : List Parameter) (s : SeenTree) → IsWithin s (params_seen s ps)
@@ -212,12 +214,6 @@ typed_as : (v : Vocabulary) (xs types : List Tree) (o r : Option Tree) (e : Tree
 typed_as v xs types o r e n q z x own =
     let y : TypedAs v types r e = rw (sym q, sym z) x in
     record { typed = record { typed = y.0.0; sort = y.1.0; type = y.1.1; parameters = y.0.1 }; variables = own }
-
-test_lt : (a b : ℕ) → a < b → nat_lt a b ≡ true
-test_lt a b l = grind arith
-
-test_le : (a b : ℕ) → b ≤ a → nat_lt a b ≡ false
-test_le a b l = grind arith
 
 -- ---- where the entries and names of a group are there
 module _ (base : Vocabulary) (s : List Tree) (whole : List SymbolTree) (typed : IsTypedSignature base whole) (names' : ScopeNames) (scopes : AreTypedScopes (with_entries base whole) s names') (all_seen : SeenTree)

@@ -13,23 +13,16 @@ use Rattle.valid_tasks.specs.Joined.{has_theory}
 use Rattle.valid_tasks.proofs.Distinct.{IsDistinct, pairs_distinct}
 use Rattle.valid_tasks.proofs.TupleDecls.{made_both}
 use Rattle.valid_tasks.proofs.Grown.{front_sound}
-use Rattle.valid_tasks.proofs.Places.{in_theory}
 use Rattle.valid_tasks.specs.Cloning.{IsImage, BecomesNew, IsFixed, IsCloning}
 use Rattle.valid_tasks.specs.Steps.{CopyStep, copies, leaves, joins, declaration_of, declarations_of, taken_of, made_of, made_from, StepFits, IsClone}
-use Rattle.valid_tasks.proofs.Vocabularies.{slice_or, made_below}
+use Rattle.valid_tasks.proofs.Vocabularies.{made_below}
 use Rattle.valid_tasks.proofs.Extending.{image_more}
 use Rattle.valid_tasks.proofs.Copied.{made_mapped, in_mapped, cloning_copied}
 use Rattle.valid_tasks.proofs.Taken.{cloning_left}
 use Rattle.valid_tasks.proofs.Others.{cloning_begun}
-use Rattle.valid_tasks.proofs.Joining.{into_made, apart_from, cloning_present, cloning_joined}
-
-from_made : (ds : List DeclarationTree) (k : ℕ) → Contains (made ds) k → (d : DeclarationTree) × (Contains ds d) × Contains (made_by d.body) k
-from_made [] k c = absurd (omega (arith, c.1))
-from_made (x ∷ ds) k c = of (Contains-append_cases (made_by x.body) (made ds) k c) (λ i. from_made ds k i)
-  where
-    of : Contains (made_by x.body) k ⊎ Contains (made ds) k → (Contains (made ds) k → (d : DeclarationTree) × (Contains ds d) × Contains (made_by d.body) k) → (d : DeclarationTree) × (Contains (x ∷ ds) d) × Contains (made_by d.body) k
-    of (inl i) f = (x, (0, omega arith, refl), i)
-    of (inr i) f = let y = f i in (y.0, (suc y.1.0, let l = y.1.1 in omega (arith, l), y.1.2), y.2)
+use Rattle.valid_tasks.proofs.Joining.{cloning_present, cloning_joined}
+use Rattle.valid_tasks.proofs.Joined.{from_made, theory_there as in_theory, into_made, distinct_apart as apart_from}
+use Rattle.valid_tasks.proofs.Begun.{slice_or}
 
 taken_both : (ss us : List CopyStep) → taken_of (ss ++ us) ≡ taken_of ss ++ taken_of us
 taken_both [] us = refl

@@ -23,7 +23,7 @@ use Rattle.valid_tasks.specs.Built.{IsBuiltRight}
 use Rattle.valid_tasks.specs.Joined.{has_theory, fresh, Agree}
 use Rattle.valid_tasks.specs.Tasks.{AreSound}
 use Rattle.valid_tasks.proofs.Grown.{more_part, sound_more, behind_more}
-use Rattle.valid_tasks.proofs.Joined.{later_sound}
+use Rattle.valid_tasks.proofs.Joined.{later_sound, into_made}
 use Rattle.theory_states.specs.declared.states.AxiomAt.{AxiomAt}
 use Rattle.theory_states.specs.States.{KnownTree, StateTree, visible_in, visible_now}
 use Rattle.valid_tasks.specs.Whole.{IsWhole}
@@ -34,7 +34,6 @@ use Rattle.valid_tasks.proofs.Further.{slice_either, known_further, apart_furthe
 use Rattle.valid_tasks.specs.Cloning.{IsMadeRight, AreMadeRight, IsCloning}
 use Rattle.valid_tasks.specs.Steps.{CopyStep, declarations_of, taken_of, made_from, IsClone}
 use Rattle.valid_tasks.proofs.Vocabularies.{made_below}
-use Rattle.valid_tasks.proofs.Joining.{into_made}
 use Rattle.valid_tasks.proofs.CopiedSignatures.{made_right, signature_of}
 use Rattle.valid_tasks.proofs.ClonedGoals.{right_more}
 use Rattle.valid_tasks.proofs.CloneSteps.{clone_sound}

@@ -11,18 +11,18 @@ use Rattle.tasks.specs.Valid.{IsQuoted, IsFormulaOver}
 use Rattle.elab_walk.specs.Scoped.{IsScopedEntry}
 use Rattle.valid_tasks.specs.Scopes.{IsSubvocabulary, IsTypedSignature}
 use Rattle.valid_tasks.specs.Lists.{after}
-use Rattle.valid_tasks.proofs.Propositions.{formula_more}
+use Rattle.valid_tasks.proofs.Propositions.{formula_more, count_rigid as count_types}
 use Rattle.elab_terms.specs.Outcomes.{entry_numbers, rigid_types}
 use Rattle.valid_tasks.specs.Built.{IsBuiltRight}
 use Rattle.valid_tasks.specs.Tasks.{AreSound, IsQuotedAt, IsSoundAfter}
 use Rattle.valid_tasks.proofs.Distinct.{distinct_pairs}
 use Rattle.valid_tasks.proofs.Kept.{IsOfSource, source_kept}
 use Rattle.valid_tasks.proofs.Grown.{more_part, sound_more}
-use Rattle.valid_tasks.proofs.NextGoal.{quoted_entries, entries_distinct, count_types, at_types}
+use Rattle.valid_tasks.proofs.NextGoal.{quoted_entries, entries_distinct, at_types}
 use Rattle.valid_tasks.specs.Cloning.{IsMadeRight, AreMadeRight}
 use Rattle.valid_tasks.proofs.Vocabularies.{made_below}
-use Rattle.valid_tasks.proofs.Joining.{into_made}
 use Rattle.valid_tasks.proofs.CopiedSignatures.{signature_of}
+use Rattle.valid_tasks.proofs.Joined.{into_made}
 
 rigids_of : (vs : List (List ℕ)) → All IsOfSource (map rigid_symbol vs)
 rigids_of [] = All-nil IsOfSource

@@ -9,11 +9,11 @@ use Rattle.tasks.specs.Typing.{IsTypeSymbol}
 use Rattle.tasks.specs.Valid.{IsTypeIn}
 use Rattle.clones.specs.Mapped.{Map, mapped}
 use Rattle.valid_tasks.specs.Scopes.{IsTypeNumber, IsSymbolNumber, IsAliased}
-use Rattle.valid_tasks.proofs.Signed.{some_at}
 use Rattle.valid_tasks.specs.Morphisms.{TypeBecomes, MapsTypes}
 use Rattle.valid_tasks.proofs.CopiedTypes.{type_in_mapped}
+use Rattle.std.proofs.lemmas.Option.{slice_get-get_or as some_at}
 
-slice_there : (es : List SymbolTree) (k : ℕ) (P : SymbolTree → Type 0) → IsSomeAnd (slice_get es k) P → (k < length es) × P (symbol_or es k)
+pub slice_there : (es : List SymbolTree) (k : ℕ) (P : SymbolTree → Type 0) → IsSomeAnd (slice_get es k) P → (k < length es) × P (symbol_or es k)
 slice_there [] k P h = absurd h
 slice_there (e ∷ es) zero P h = (omega arith, h)
 slice_there (e ∷ es) (suc k) P h = let r = slice_there es k P h in (let l = r.0 in omega (arith, l), r.1)

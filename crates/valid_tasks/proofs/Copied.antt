@@ -24,15 +24,13 @@ use Rattle.valid_tasks.proofs.Distinct.{IsDistinct, distinct_pairs, pairs_distin
 use Rattle.valid_tasks.proofs.TupleDecls.{made_both}
 use Rattle.valid_tasks.proofs.Grown.{then_valid, front_distinct}
 use Rattle.valid_tasks.specs.Morphisms.{TypeBecomes, KindBecomes, HasMappedTypes, IsMorphism, IsCopied}
-use Rattle.valid_tasks.proofs.Declarations.{declaration_valid}
+use Rattle.valid_tasks.proofs.Declarations.{declaration_valid, below as slice_below}
 use Rattle.valid_tasks.specs.Cloning.{IsImage, BecomesNew, IsCloning}
-use Rattle.valid_tasks.proofs.Vocabularies.{right_of, slice_or, typed_list, made_below}
+use Rattle.valid_tasks.proofs.Vocabularies.{typed_list, made_below}
 use Rattle.valid_tasks.proofs.Extending.{morphism_more, morphism_next}
-
-slice_below : (es : List SymbolTree) (k : ℕ) (e : SymbolTree) → slice_get es k ≡ Some e → k < length es
-slice_below [] k e q = absurd (cc)
-slice_below (x ∷ xs) zero e q = omega arith
-slice_below (x ∷ xs) (suc k) e q = let l = slice_below xs k e q in omega arith
+use Rattle.valid_tasks.proofs.Joined.{distinct_last}
+use Rattle.valid_tasks.proofs.Names.{or_right as right_of}
+use Rattle.valid_tasks.proofs.Begun.{slice_or}
 
 module _ {X : Type 0} (P : X → Type 0) where
   front : (xs ys : List X) → All P (xs ++ ys) → All P xs
@@ -42,10 +40,6 @@ module _ {X : Type 0} (P : X → Type 0) where
   back : (xs ys : List X) → All P (xs ++ ys) → All P ys
   back [] ys h = h
   back (x ∷ xs) ys h = back xs ys (All-tail P x (xs ++ ys) h)
-
-distinct_last : (xs ys : List ℕ) → IsDistinct (xs ++ ys) → IsDistinct ys
-distinct_last [] ys h = h
-distinct_last (x ∷ xs) ys h = distinct_last xs ys h.1
 
 pub distinct_middle : (xs ys zs : List ℕ) → IsDistinct (xs ++ (ys ++ zs)) → IsDistinct ys
 distinct_middle xs ys zs h = front_distinct ys zs (distinct_last xs (ys ++ zs) h)

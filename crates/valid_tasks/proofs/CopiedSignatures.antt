@@ -14,18 +14,18 @@ use Rattle.clones.specs.Mapped.{Map, mapped}
 use Rattle.clones.specs.Copies.{declaration_copied, entry_copied}
 use Rattle.elab_walk.specs.Scoped.{IsScopedEntry}
 use Rattle.valid_tasks.specs.Scopes.{is_projection_kind, IsTypedEntry, IsTypedSignature}
-use Rattle.valid_tasks.proofs.Signed.{some_at}
 use Rattle.valid_tasks.proofs.Extended.{entry_more}
 use Rattle.valid_tasks.specs.Lists.{is_built, after}
 use Rattle.valid_tasks.proofs.Lists.{list_part, list_valid}
 use Rattle.valid_tasks.specs.Tasks.{IsOwnSymbol, AreSound}
 use Rattle.valid_tasks.proofs.Distinct.{pairs_distinct}
-use Rattle.valid_tasks.proofs.Joined.{matched_usable}
-use Rattle.valid_tasks.proofs.Begun.{built_typed}
+use Rattle.valid_tasks.proofs.Joined.{matched_usable, into_made, maker_found, maker_is}
+use Rattle.valid_tasks.proofs.Begun.{built_typed, slice_or}
 use Rattle.valid_tasks.specs.Cloning.{BecomesNew, IsMadeRight, AreMadeRight}
-use Rattle.valid_tasks.proofs.Vocabularies.{right_of, slice_or, usable_cases, made_below}
+use Rattle.valid_tasks.proofs.Vocabularies.{usable_cases, made_below}
 use Rattle.valid_tasks.proofs.Copied.{made_mapped, role_mapped}
-use Rattle.valid_tasks.proofs.Joining.{into_made, maker_found, maker_is}
+use Rattle.std.proofs.lemmas.Option.{slice_get-get_or as some_at}
+use Rattle.valid_tasks.proofs.Names.{or_right as right_of}
 
 not_built : (symbols : List SymbolTree) (k : ℕ) → IsOwnSymbol symbols k → is_built (symbol_or symbols k) ≡ false
 not_built symbols k o = ap (λ (b : Bool). b && not (is_projection_kind (symbol_or symbols k).kind)) o.other

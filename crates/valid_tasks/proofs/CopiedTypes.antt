@@ -16,6 +16,7 @@ use Rattle.clones.specs.Mapped.{Map, head_mapped, type_mapped, mapped}
 use Rattle.valid_tasks.specs.Morphisms.{HasMappedTypes, MapsTypes, TypeBecomes}
 use Rattle.valid_tasks.proofs.Over.{IsOver, AreOver, leaf_over, one_over, two_over, type_over, over_good}
 use Rattle.valid_tasks.proofs.Instances.{inst_over}
+use Rattle.tasks.proofs.TypeInstances.{below}
 
 -- ---- what a type isn't
 module _ (w : Vocabulary) where
@@ -103,13 +104,6 @@ module _ (w : Vocabulary) where
   members_inst zs (Two HCell a b) o = ap (λ l. inst_types a zs ∷ l) (members_inst zs b o.2)
   members_inst zs (Two _ a b) o = absurd o.0
   members_inst zs (Three h a b c) o = absurd o
-
-pub below : (n : ℕ) (e : Tree) → VariablesBelow n e → TyVarsBelow n e
-below n (Leaf (HTyVar j)) x = x
-below n (Leaf _) x = tt
-below n (One h a) x = below n a x
-below n (Two h a b) x = (below n a x.0, below n b x.1)
-below n (Three h a b c) x = (below n a x.0, below n b x.1, below n c x.2)
 
 -- ---- type variables at types
 abbrev AllBelow : ℕ → List Tree → Type 0

@@ -28,6 +28,7 @@ use Rattle.valid_tasks.specs.Placed.{IsPlacedEntry, ArePlaced}
 use Rattle.valid_tasks.specs.Sides.{with_rights, left_sides_at, copies_made, with_copies}
 use Rattle.valid_tasks.proofs.Rights.{all_typed}
 use Rattle.valid_tasks.proofs.Mapped.{maps_types}
+use Rattle.valid_tasks.proofs.Entries.{result_mapped}
 
 -- ---- an entry of a typed signature
 module _ (symbols : List SymbolTree) (typed : IsTypedSignature (of_signature symbols) symbols) (placed : ArePlaced symbols) where
@@ -62,9 +63,6 @@ module _ (symbols : List SymbolTree) (typed : IsTypedSignature (of_signature sym
       of (inr q) = subst (IsTypedEntry v) (sym q) int_typed
 
 -- ---- its copy
-result_mapped : (m : Map) (r : Option Tree) → IsSomeAnd r (λ t. Unit {0}) → IsSomeAnd (option_map (mapped m) r) (λ t. Unit {0})
-result_mapped m None h = absurd h
-result_mapped m (Some t) h = tt
 
 copy_typed : (v w : Vocabulary) (m : Map) (theory within : Word) (e : SymbolTree) → MapsTypes v w m → IsTypedEntry v e → IsTypedEntry w (entry_copied m theory within e)
 copy_typed v w m theory within e maps h = record {

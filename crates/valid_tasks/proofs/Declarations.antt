@@ -29,7 +29,7 @@ module _ {X : Type 0} (P : X → Type 0) where
   unmap {Y} f [] h = All-nil (λ (y : Y). P (f y))
   unmap {Y} f (y ∷ ys) h = All-cons (λ (z : Y). P (f z)) y ys (All-head P (f y) (map f ys) h) (unmap f ys (All-tail P (f y) (map f ys) h))
 
-below : (es : List SymbolTree) (k : ℕ) (e : SymbolTree) → slice_get es k ≡ Some e → k < length es
+pub below : (es : List SymbolTree) (k : ℕ) (e : SymbolTree) → slice_get es k ≡ Some e → k < length es
 below [] k e q = absurd (cc)
 below (x ∷ xs) zero e q = omega arith
 below (x ∷ xs) (suc k) e q = let l = below xs k e q in omega arith

@@ -18,8 +18,9 @@ use Rattle.tasks.specs.Valid.{VariablesBelow, IsTypeIn, IsFormulaOver, IsSignatu
 use Rattle.unify_types.proofs.Assigning.{assign-same, assign-variables}
 use Rattle.valid_tasks.specs.Typed.{IsTypedAs, IsTypedIn}
 use Rattle.valid_tasks.proofs.Over.{AreOver, type_over}
-use Rattle.valid_tasks.proofs.Instances.{variables_over, count_variables, put, put_assigns}
+use Rattle.valid_tasks.proofs.Instances.{variables_over, put, put_assigns}
 use Rattle.valid_tasks.proofs.Forms.{TypedAs, ListTyped, variable_typed, equality_typed, joined_typed, quantifier_typed, end_typed, cell_typed, predicate_typed, function_typed}
+use Rattle.goal_tasks.proofs.TuplesMade.{variables_count as count_variables}
 
 -- ---- a type at the type variables in order is itself
 variable_got : (m k j : ℕ) → get_or (type_variables m k) j (TyVar (m + j)) ≡ TyVar (m + j)

@@ -11,15 +11,16 @@ use Rattle.clones.specs.Mapped.{Map, mapped}
 use Rattle.clones.specs.Copies.{entry_copied}
 use Rattle.elab_parts.specs.Entries.{builtin}
 use Rattle.valid_tasks.specs.Scopes.{NamesNew, AgreeBelow, IsTypedEntry, IsTypedSignature}
-use Rattle.valid_tasks.proofs.Signed.{some_at}
-use Rattle.valid_tasks.proofs.Extended.{further, slice_below, slice_all, in_either, signature_more, signature_agrees}
+use Rattle.valid_tasks.proofs.Extended.{further, slice_all, in_either, signature_more, signature_agrees}
 use Rattle.valid_tasks.specs.Built.{IsBuiltRight}
 use Rattle.valid_tasks.proofs.Kept.{IsOfSource, source_kept}
 use Rattle.valid_tasks.specs.Morphisms.{MapsTypes}
 use Rattle.valid_tasks.proofs.CopiedTypes.{types_copied}
 use Rattle.valid_tasks.specs.Entries.{copied_entries, IsStanding, IsGrounded}
+use Rattle.std.proofs.lemmas.Option.{slice_get-get_or as some_at}
+use Rattle.valid_tasks.proofs.Declarations.{below as slice_below}
 
-both_true : (a b : Bool) → IsTrue (a && b) → IsTrue a
+pub both_true : (a b : Bool) → IsTrue (a && b) → IsTrue a
 both_true true b h = refl
 both_true false b h = absurd (let e : true ≡ false = sym h in cc)
 
@@ -66,7 +67,7 @@ module _ (xs ys : List SymbolTree) (h : IsTypedSignature (of_signature xs) xs) (
       }
 
 -- ---- copies
-result_mapped : (m : Map) (o : Option Tree) → IsSomeAnd o (λ t. Unit {0}) → IsSomeAnd (option_map (mapped m) o) (λ t. Unit {0})
+pub result_mapped : (m : Map) (o : Option Tree) → IsSomeAnd o (λ t. Unit {0}) → IsSomeAnd (option_map (mapped m) o) (λ t. Unit {0})
 result_mapped m None h = h
 result_mapped m (Some t) h = tt
 

@@ -27,9 +27,10 @@ use Rattle.valid_tasks.proofs.Over.{IsOver, AreOver, over_assigned}
 use Rattle.valid_tasks.proofs.Forms.{TypedAs, number_typed, truth_typed, falsity_typed, negation_typed, joined_typed, equality_typed, choice_typed, quantifier_typed, let_typed}
 use Rattle.valid_tasks.proofs.Instances.{cells_assigned}
 use Rattle.valid_tasks.proofs.Arms.{IsArm, AreArms, match_typed}
-use Rattle.valid_tasks.proofs.Alternatives.{names_both, names_reverse, alternatives_sound}
+use Rattle.valid_tasks.proofs.Alternatives.{names_reverse, alternatives_sound}
 use Rattle.valid_tasks.proofs.Signed.{int_over, form_over}
 use Rattle.valid_tasks.proofs.Sound.{IsPatternAt, AreNoted, noted_sound, both_noted, none_noted, suc_same, more_over, first_solved, rest_solved, LocalsOver, both_locals, WantedOver, first_over, rest_over, parameters_count, usable_over, sig, named_usable, tuple_usable, IsSound, AreSound, no_arguments, more_arguments, two_arguments, used_sound}
+use Rattle.elab_walk.proofs.Arguments.{names_both}
 
 pub names_inside : (vs ls : List LocalTree) (ns : List Word) → names vs ≡ ns → names (reverse vs ++ ls) ≡ reverse ns ++ names ls
 names_inside vs ls ns q = names_both (reverse vs) ls ∙ ap (λ (r : List Word). r ++ names ls) (names_reverse vs ∙ ap reverse q)
@@ -38,7 +39,7 @@ cells_fit : (ts : List Tree) → IndicesFit (cells ts) → AllByRecursion Indice
 cells_fit [] h = tt
 cells_fit (t ∷ ts) h = (h.0, cells_fit ts h.1)
 
-split_all : {A : Type 0} (P : A → Type 0) (xs ys : List A) → AllByRecursion P (xs ++ ys) → AllByRecursion P xs × AllByRecursion P ys
+pub split_all : {A : Type 0} (P : A → Type 0) (xs ys : List A) → AllByRecursion P (xs ++ ys) → AllByRecursion P xs × AllByRecursion P ys
 split_all P [] ys h = (tt, h)
 split_all P (x ∷ xs) ys h = let k = split_all P xs ys h.1 in ((h.0, k.0), k.1)
 

@@ -19,9 +19,12 @@ use Rattle.names_space.specs.declared.TypeName.TheVariants as stands
 use Rattle.elab_walk.specs.Scoped.{IsScopedEntry}
 use Rattle.elab_parts.specs.Entries.{builtin, is_tuple}
 use Rattle.valid_tasks.specs.Signature.{with_entries}
-use Rattle.valid_tasks.proofs.Words.{same_word, both_true}
-use Rattle.valid_tasks.proofs.Signed.{some_at, entry_scoped}
+use Rattle.valid_tasks.proofs.Words.{same_word}
+use Rattle.valid_tasks.proofs.Signed.{entry_scoped}
 use Rattle.valid_tasks.specs.Scopes.{is_projection_kind, is_nameable, NamesNew, IsSubvocabulary, AgreeBelow, IsTypedEntry, IsTypedSignature, IsTypeNumber, IsSymbolNumber, IsAliased, IsTypedThing, AreTypedScopes}
+use Rattle.valid_tasks.proofs.Declarations.{below as slice_below}
+use Rattle.plain_laws.proofs.Bools.{and_both as both_true}
+use Rattle.std.proofs.lemmas.Option.{slice_get-get_or as some_at}
 
 module _ (v w : Vocabulary) (h : IsSubvocabulary v w) where
   some_more : (k : ℕ) (o : Option SymbolTree) (P : SymbolTree → Type 0) → entry v k ≡ o → IsSomeAnd o P → IsSomeAnd (entry w k) P
@@ -86,11 +89,6 @@ in_either (x ∷ xs) ys (suc k) e h = of (in_either xs ys k e h)
     of : (slice_get xs k ≡ Some e) ⊎ ((length xs ≤ k) × (slice_get ys (k - length xs) ≡ Some e)) → (slice_get xs k ≡ Some e) ⊎ ((length (x ∷ xs) ≤ suc k) × (slice_get ys (suc k - length (x ∷ xs)) ≡ Some e))
     of (inl q) = inl q
     of (inr q) = let z : suc k - suc (length xs) ≡ k - length xs = omega arith in inr (omega (arith, q.0), ap (slice_get ys) z ∙ q.1)
-
-pub slice_below : (es : List SymbolTree) (k : ℕ) (e : SymbolTree) → slice_get es k ≡ Some e → k < length es
-slice_below [] k e q = absurd (cc)
-slice_below (x ∷ xs) zero e q = omega arith
-slice_below (x ∷ xs) (suc k) e q = let l = slice_below xs k e q in omega arith
 
 pub slice_all : (P : SymbolTree → Type 0) (es : List SymbolTree) → All P es → (k : ℕ) (e : SymbolTree) → slice_get es k ≡ Some e → P e
 slice_all P [] h k e q = absurd (cc)

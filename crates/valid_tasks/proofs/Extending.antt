@@ -17,11 +17,10 @@ use Rattle.valid_tasks.proofs.Lists.{maker_both}
 use Rattle.valid_tasks.proofs.TupleDecls.{made_both}
 use Rattle.valid_tasks.specs.Morphisms.{TypeBecomes, KindBecomes, HasMappedTypes, IsMorphism}
 use Rattle.valid_tasks.specs.Cloning.{IsImage}
-use Rattle.valid_tasks.proofs.Vocabularies.{either, left_of, right_of, slice_or, usable_cases}
-
-found : (o : Option SymbolTree) (P : SymbolTree → Type 0) → IsSomeAnd o P → (e : SymbolTree) × ((o ≡ Some e) × P e)
-found None P h = absurd h
-found (Some e) P h = (e, (refl, h))
+use Rattle.valid_tasks.proofs.Vocabularies.{either, usable_cases}
+use Rattle.valid_tasks.proofs.Trees.{found}
+use Rattle.valid_tasks.proofs.Names.{or_left as left_of, or_right as right_of}
+use Rattle.valid_tasks.proofs.Begun.{slice_or}
 
 -- ---- a vocabulary that may name more
 module _ (w w' : Vocabulary) (part : IsSubvocabulary w w') where

@@ -12,14 +12,11 @@ use Rattle.tasks.specs.Typing.{members, entry, IsRigid, IsTypeSymbol}
 use Rattle.tasks.specs.Valid.{VariablesBelow}
 use Rattle.unify_types.specs.Assigned.{Variable, assign, IsTypeOrTypes, leaf_typed, one_typed, two_typed}
 use Rattle.valid_tasks.proofs.Over.{IsOver, leaf_over, one_over, two_over, members_assigned}
+use Rattle.valid_tasks.proofs.Entries.{both_true as left}
 
 -- ---- tests
 both : (a b : Bool) → IsTrue a → IsTrue b → IsTrue (a && b)
 both a b x y = rw (x, y) refl
-
-left : (a b : Bool) → IsTrue (a && b) → IsTrue a
-left true b x = refl
-left false b x = x
 
 right : (a b : Bool) → IsTrue (a && b) → IsTrue b
 right true b x = x

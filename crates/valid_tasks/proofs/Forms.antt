@@ -14,6 +14,7 @@ use Rattle.tasks.specs.Vocabulary.{Vocabulary}
 use Rattle.tasks.specs.Typing.{pattern_types, members, entry, MakesTerms, IsUse, HasResult, TwoTyped, option_list, bound_types}
 use Rattle.valid_tasks.specs.Typed.{due_sort}
 use Rattle.valid_tasks.proofs.Over.{IsOver, IsGood, AreOver, over_good, cells_over, members_cells}
+use Rattle.match_cover.proofs.Fields.{pattern_top as top_pattern}
 
 abbrev pub IsWanted : Option Tree → Tree → Type 0
 IsWanted t e = (sort_of e ≡ due_sort t) × (type_of e ≡ t)
@@ -40,12 +41,6 @@ yields t e w =
 abbrev pub if_all : Bool → Tree → Tree → Tree
 if_all true t b = Two HForall t b
 if_all false t b = Two HExists t b
-
--- a pattern's type is what it yields
-top_pattern : (h : Head) (s : Sort) (o : Option Tree) → top_sort h s ≡ Pattern → top_type h o ≡ o
-top_pattern HCell s o q = absurd (cc)
-top_pattern HArm s o q = absurd (cc)
-top_pattern _ s o q = refl
 
 pub pattern_yields : (e : Tree) → sort_of e ≡ Pattern → type_of e ≡ yield_type e
 pattern_yields e q = top_pattern (head_of e) (yield e) (yield_type e) q

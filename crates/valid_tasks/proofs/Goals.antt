@@ -35,6 +35,7 @@ use Rattle.valid_tasks.proofs.Stays.{declaration_stays}
 use Rattle.valid_tasks.proofs.Propositions.{proposition_typed}
 use Rattle.valid_tasks.proofs.Elaborated.{elaborated_valid}
 use Rattle.valid_tasks.proofs.Steps.{none_of, or_none, setting, news, longer}
+use Rattle.valid_tasks.proofs.Algebraics.{at_end}
 
 -- ---- numbers of rigid type variables
 far_numbers : (n k : ℕ) (names : List Word) → k < n → list_any (λ j. j == k) (entry_numbers n names) ≡ false
@@ -47,11 +48,6 @@ far_numbers n k (x ∷ names) l = let q = unequal n k l in rw q (far_numbers (n 
 pub all_among : (xs ks : List ℕ) → ((k : ℕ) → Contains xs k → Contains ks k) → All (λ (k : ℕ). IsTrue (list_any (λ j. j == k) ks)) xs
 all_among [] ks f = All-nil (λ (k : ℕ). IsTrue (list_any (λ j. j == k) ks))
 all_among (x ∷ xs) ks f = All-cons (λ (k : ℕ). IsTrue (list_any (λ j. j == k) ks)) x xs ((any_iff x ks).1 (f x (contains_step x x xs (inl refl)))) (all_among xs ks (λ k h. f k (contains_step x k xs (inr h))))
-
-pub at_end : (xs ys : List SymbolTree) (e : SymbolTree) (k : ℕ) → k ≡ length xs → slice_get (xs ++ e ∷ ys) k ≡ Some e
-at_end [] ys e k q = rw q refl
-at_end (x ∷ xs) ys e ℕ.zero q = absurd (omega (arith, q))
-at_end (x ∷ xs) ys e (suc k) q = at_end xs ys e k (omega (arith, q))
 
 pub rigid_entries : (xs : List SymbolTree) (names : List Word) (k : ℕ) → k ≡ length xs → All (IsRigidAt (xs ++ map rigid_symbol names)) (entry_numbers k names)
 rigid_entries xs [] k q = All-nil (IsRigidAt (xs ++ []))

@@ -36,6 +36,7 @@ use Rattle.valid_tasks.proofs.Settings.{inside, of_below}
 use Rattle.valid_tasks.proofs.Algebraics.{EntriesAt, got}
 use Rattle.valid_tasks.proofs.Bodies.{params_grow, BodiesSeen, AreSigned, AreBodied, bodies_valid, bodies_patterns}
 use Rattle.valid_tasks.proofs.Standing.{entry_of, number_of_member, signature_at, AreSeen, whole, own_entries, outer, inner, whole_typed, entries_here, old_scopes, seen_tuples, count_signed}
+use Rattle.valid_tasks.proofs.Expressions.{split_all}
 
 -- ---- what is seen
 clauses_grow : (cs : List InductiveClause) (s : SeenTree) → IsWithin s (clauses_seen s cs)
@@ -85,10 +86,6 @@ clauses_typed : (v : Vocabulary) (d : InductivePredicate) (cs : List InductiveCl
 clauses_typed v d [] gs bs h = (tt, h)
 clauses_typed v d (c ∷ cs) gs [] h = (tt, none_bodied v gs)
 clauses_typed v d (c ∷ cs) gs (b ∷ bs) h = let r = clauses_typed v d cs gs bs h.1 in (((λ i. (h.0 i).typed), r.0), r.1)
-
-split_all : {A : Type 0} (P : A → Type 0) (xs ys : List A) → AllByRecursion P (xs ++ ys) → AllByRecursion P xs × AllByRecursion P ys
-split_all P [] ys h = (tt, h)
-split_all P (x ∷ xs) ys h = let k = split_all P xs ys h.1 in ((h.0, k.0), k.1)
 
 module _ (v : Vocabulary) (group : List ℕ) (k : ℕ) where
   abbrev vars : ℕ

@@ -46,10 +46,6 @@ module _ (v : Vocabulary) where
   all_assigned_over r f g [] o = tt
   all_assigned_over r f g (t ∷ ts) o = (over_assigned v r f g true t o.0, all_assigned_over r f g ts o.1)
 
-pub count_variables : (n k : ℕ) → length (type_variables n k) ≡ k
-count_variables n zero = refl
-count_variables n (suc k) = ap suc (count_variables (n + 1) k)
-
 -- ---- at assigned unknowns
 module _ (r : ℕ) (f : ℕ → Tree) where
   pub cells_assigned : (ts : List Tree) → assign r f (cells ts) ≡ cells (map (assign r f) ts)

@@ -12,7 +12,6 @@ use Rattle.tasks.specs.Valid.{IsValidDecl}
 use Rattle.tasks.proofs.Declared.{none_in, any_iff, maker_made, made_maker}
 use Rattle.valid_tasks.specs.Scopes.{IsSubvocabulary, IsTypedEntry, IsTypedSignature}
 use Rattle.valid_tasks.proofs.Extended.{further, entry_more}
-use Rattle.valid_tasks.proofs.Signed.{some_at}
 use Rattle.valid_tasks.proofs.Words.{self_word}
 use Rattle.valid_tasks.specs.Lists.{is_built, after, AreValidAfter}
 use Rattle.valid_tasks.proofs.Lists.{or_more, list_part}
@@ -23,6 +22,7 @@ use Rattle.valid_tasks.proofs.Distinct.{IsDistinct, distinct_pairs, pairs_distin
 use Rattle.valid_tasks.proofs.TupleDecls.{made_both}
 use Rattle.valid_tasks.proofs.TaskSound.{each_made, maker_all}
 use Rattle.valid_tasks.proofs.Grown.{own_below, more_part, sound_more, then_valid, front_distinct}
+use Rattle.std.proofs.lemmas.Option.{slice_get-get_or as some_at}
 
 -- ---- declarations in lists
 cases_of : (x d : DeclarationTree) (xs : List DeclarationTree) → Contains (x ∷ xs) d → (d ≡ x) ⊎ Contains xs d
@@ -33,7 +33,7 @@ step_of : (x d : DeclarationTree) (xs : List DeclarationTree) → (d ≡ x) ⊎ 
 step_of x d xs (inl e) = (0, omega arith, sym e)
 step_of x d xs (inr h) = (suc h.0, let l = h.1 in omega (arith, l), h.2)
 
-from_made : (ds : List DeclarationTree) (k : ℕ) → Contains (made ds) k → (d : DeclarationTree) × (Contains ds d) × Contains (made_by d.body) k
+pub from_made : (ds : List DeclarationTree) (k : ℕ) → Contains (made ds) k → (d : DeclarationTree) × (Contains ds d) × Contains (made_by d.body) k
 from_made [] k h = absurd (none_in k h)
 from_made (x ∷ ds) k h = of (Contains-append_cases (made_by x.body) (made ds) k h) (λ i. from_made ds k i)
   where
@@ -41,23 +41,23 @@ from_made (x ∷ ds) k h = of (Contains-append_cases (made_by x.body) (made ds) 
     of (inl i) f = (x, step_of x x ds (inl refl), i)
     of (inr i) f = let y = f i in (y.0, step_of x y.0 ds (inr y.1), y.2)
 
-into_made : (ds : List DeclarationTree) (d : DeclarationTree) (k : ℕ) → Contains ds d → Contains (made_by d.body) k → Contains (made ds) k
+pub into_made : (ds : List DeclarationTree) (d : DeclarationTree) (k : ℕ) → Contains ds d → Contains (made_by d.body) k → Contains (made ds) k
 into_made ds d k h i = each_made ds h.0 d h.1 k (subst (λ (e : DeclarationTree). Contains (made_by e.body) k) (sym h.2) i)
 
-maker_found : (ds : List DeclarationTree) (k : ℕ) (b : DeclarationTree) → maker ds k ≡ Some b → Contains ds b × Contains (made_by b.body) k
+pub maker_found : (ds : List DeclarationTree) (k : ℕ) (b : DeclarationTree) → maker ds k ≡ Some b → Contains ds b × Contains (made_by b.body) k
 maker_found ds k b q = maker_all (Contains ds) ds k b (All-contains_itself ds) q
 
-distinct_apart : (xs ys : List ℕ) (k : ℕ) → IsDistinct (xs ++ ys) → Contains xs k → Contains ys k → ⊥
+pub distinct_apart : (xs ys : List ℕ) (k : ℕ) → IsDistinct (xs ++ ys) → Contains xs k → Contains ys k → ⊥
 distinct_apart [] ys k h a b = none_in k a
 distinct_apart (x ∷ xs) ys k h (zero, l, e) b = h.0 (Contains-append_right xs ys x (let q : x ≡ k = e in subst (λ (i : ℕ). Contains ys i) (sym q) b))
 distinct_apart (x ∷ xs) ys k h (suc j, l, e) b = distinct_apart xs ys k h.1 (j, omega (arith, l), e) b
 
-distinct_last : (xs ys : List ℕ) → IsDistinct (xs ++ ys) → IsDistinct ys
+pub distinct_last : (xs ys : List ℕ) → IsDistinct (xs ++ ys) → IsDistinct ys
 distinct_last [] ys h = h
 distinct_last (x ∷ xs) ys h = distinct_last xs ys h.1
 
 -- where no symbol is made twice, who makes one is found
-maker_is : (ds : List DeclarationTree) (k : ℕ) (b : DeclarationTree) → IsDistinct (made ds) → Contains ds b → Contains (made_by b.body) k → maker ds k ≡ Some b
+pub maker_is : (ds : List DeclarationTree) (k : ℕ) (b : DeclarationTree) → IsDistinct (made ds) → Contains ds b → Contains (made_by b.body) k → maker ds k ≡ Some b
 maker_is [] k b h i j = absurd (omega (arith, i.1))
 maker_is (x ∷ ds) k b h i j = of (is_made_by k x.body) refl (cases_of x b ds i) (λ z. maker_is ds k b (distinct_last (made_by x.body) (made ds) h) z j)
   where
@@ -108,7 +108,7 @@ module _ (p : DeclarationTree → Bool) where
       of false i = i
 
 -- ---- two lists
-theory_there : (ds : List DeclarationTree) (d : DeclarationTree) → Contains ds d → has_theory ds d.theory ≡ true
+pub theory_there : (ds : List DeclarationTree) (d : DeclarationTree) → Contains ds d → has_theory ds d.theory ≡ true
 theory_there [] d h = absurd (omega (arith, h.1))
 theory_there (x ∷ ds) d h = of (cases_of x d ds h) (λ z. theory_there ds d z)
   where

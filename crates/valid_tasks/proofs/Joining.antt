@@ -11,7 +11,6 @@ use Rattle.tasks.specs.Valid.{IsValidDecl}
 use Rattle.tasks.proofs.Declared.{none_in, any_iff, made_maker}
 use Rattle.clones.specs.Mapped.{Map}
 use Rattle.valid_tasks.specs.Scopes.{IsSubvocabulary}
-use Rattle.valid_tasks.proofs.Signed.{some_at}
 use Rattle.valid_tasks.specs.Lists.{is_built, after}
 use Rattle.valid_tasks.proofs.Lists.{or_more, list_valid}
 use Rattle.valid_tasks.proofs.Stays.{declaration_stays}
@@ -21,40 +20,18 @@ use Rattle.valid_tasks.proofs.TupleDecls.{made_both}
 use Rattle.valid_tasks.proofs.Grown.{more_part, sound_more}
 use Rattle.valid_tasks.proofs.TaskSound.{each_made, maker_all}
 use Rattle.valid_tasks.specs.Cloning.{IsImage, IsCloning, IsFixed, KeepsBuilt}
-use Rattle.valid_tasks.proofs.Vocabularies.{right_of, usable_cases, made_below, typed_list}
+use Rattle.valid_tasks.proofs.Vocabularies.{usable_cases, made_below, typed_list}
 use Rattle.valid_tasks.proofs.Copied.{distinct_middle}
 use Rattle.valid_tasks.proofs.Taken.{cloning_left, cloning_taken}
 use Rattle.valid_tasks.proofs.Others.{stays_type, stays_symbol, stays_pattern}
+use Rattle.valid_tasks.proofs.Joined.{distinct_apart as apart_from, distinct_last as distinct_rest, into_made, maker_found, maker_is}
+use Rattle.std.proofs.lemmas.Option.{slice_get-get_or as some_at}
+use Rattle.valid_tasks.proofs.Names.{or_right as right_of}
 
 -- ---- who makes a symbol
 cases_of : (x d : DeclarationTree) (xs : List DeclarationTree) → Contains (x ∷ xs) d → (x ≡ d) ⊎ Contains xs d
 cases_of x d xs (zero, l, e) = inl e
 cases_of x d xs (suc j, l, e) = inr (j, omega (arith, l), e)
-
-pub into_made : (ds : List DeclarationTree) (d : DeclarationTree) (k : ℕ) → Contains ds d → Contains (made_by d.body) k → Contains (made ds) k
-into_made ds d k h i = each_made ds h.0 d h.1 k (subst (λ (e : DeclarationTree). Contains (made_by e.body) k) (sym h.2) i)
-
-pub apart_from : (xs ys : List ℕ) (k : ℕ) → IsDistinct (xs ++ ys) → Contains xs k → Contains ys k → ⊥
-apart_from [] ys k h a b = none_in k a
-apart_from (x ∷ xs) ys k h (zero, l, e) b = h.0 (Contains-append_right xs ys x (let q : x ≡ k = e in subst (λ (i : ℕ). Contains ys i) (sym q) b))
-apart_from (x ∷ xs) ys k h (suc j, l, e) b = apart_from xs ys k h.1 (j, omega (arith, l), e) b
-
-distinct_rest : (xs ys : List ℕ) → IsDistinct (xs ++ ys) → IsDistinct ys
-distinct_rest [] ys h = h
-distinct_rest (x ∷ xs) ys h = distinct_rest xs ys h.1
-
-pub maker_found : (ds : List DeclarationTree) (k : ℕ) (b : DeclarationTree) → maker ds k ≡ Some b → Contains ds b × Contains (made_by b.body) k
-maker_found ds k b q = maker_all (Contains ds) ds k b (All-contains_itself ds) q
-
-pub maker_is : (ds : List DeclarationTree) (k : ℕ) (b : DeclarationTree) → IsDistinct (made ds) → Contains ds b → Contains (made_by b.body) k → maker ds k ≡ Some b
-maker_is [] k b h i j = absurd (omega (arith, i.1))
-maker_is (x ∷ ds) k b h i j = of (is_made_by k x.body) refl (cases_of x b ds i) (λ z. maker_is ds k b (distinct_rest (made_by x.body) (made ds) h) z j)
-  where
-    of : (t : Bool) → is_made_by k x.body ≡ t → (x ≡ b) ⊎ Contains ds b → (Contains ds b → maker ds k ≡ Some b) → cond t (Some x) (maker ds k) ≡ Some b
-    of true q (inl e) f = ap Some e
-    of true q (inr z) f = absurd (apart_from (made_by x.body) (made ds) k h ((any_iff k (made_by x.body)).0 q) (into_made ds b k z j))
-    of false q (inl e) f = absurd (let u : is_made_by k x.body ≡ true = (any_iff k (made_by x.body)).1 (subst (λ (d : DeclarationTree). Contains (made_by d.body) k) (sym e) j) in let v : true ≡ false = sym u ∙ q in cc)
-    of false q (inr z) f = f z
 
 -- declarations among others, of which no symbol is made twice
 module _ (symbols : List SymbolTree) (small big : List DeclarationTree) (distinct : IsDistinct (made big)) (among : (b : DeclarationTree) → Contains small b → Contains big b) where

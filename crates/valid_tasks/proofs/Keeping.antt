@@ -34,7 +34,7 @@ renamed_typed c o n p scopes moves h = record {
 }
 
 -- what is found in a list has what all of it have
-found_by : {X : Type 0} (P : X → Type 0) (b : Bool) (y x : X) (r : Option X) → P y → (r ≡ Some x → P x) → cond b (Some y) r ≡ Some x → P x
+pub found_by : {X : Type 0} (P : X → Type 0) (b : Bool) (y x : X) (r : Option X) → P y → (r ≡ Some x → P x) → cond b (Some y) r ≡ Some x → P x
 found_by P true y x r h k e = let i : y ≡ x = cc in subst P i h
 found_by P false y x r h k e = k e
 

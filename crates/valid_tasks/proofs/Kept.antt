@@ -12,11 +12,12 @@ use Rattle.tasks.specs.Valid.{own_type}
 use Rattle.syntax_why.specs.Lexeme.{Word}
 use Rattle.elab_parts.specs.Entries.{projections, builtin, tuple_entries, is_tuple, tuple_from, tuple_in, wanting_tuple, wanting_tuples}
 use Rattle.valid_tasks.specs.Scopes.{is_projection_kind}
-use Rattle.valid_tasks.proofs.Instances.{count_variables}
 use Rattle.valid_tasks.proofs.Extended.{further, in_either, slice_all}
 use Rattle.valid_tasks.specs.Lists.{is_built}
 use Rattle.goal_tasks.specs.Meaning.{IsTupleAt, AreTuples}
 use Rattle.valid_tasks.specs.Built.{IsOfTuple, IsBuiltRight}
+use Rattle.elab_types.proofs.Made.{projections_length as projections_count}
+use Rattle.goal_tasks.proofs.TuplesMade.{variables_count as count_variables}
 
 -- ---- the first constructor of a width, in two lists
 found_front : (n k c : ℕ) (xs ys : List SymbolTree) → tuple_from n k xs ≡ Some c → tuple_from n k (xs ++ ys) ≡ Some c
@@ -71,9 +72,6 @@ take_whole (suc n) [] q = absurd (omega (arith, q))
 take_whole (suc n) (x ∷ xs) q = ap (λ (r : List SymbolTree). x ∷ r) (take_whole n xs (omega (arith, q)))
 
 -- ---- the entries of a width after others
-projections_count : (theory constructor : Word) (vars : ℕ) (t : Tree) (i : ℕ) (fs : List Tree) → length (projections theory constructor vars t i fs) ≡ length fs
-projections_count theory constructor vars t i [] = refl
-projections_count theory constructor vars t i (f ∷ fs) = ap suc (projections_count theory constructor vars t (suc i) fs)
 
 no_projection : (theory constructor : Word) (vars : ℕ) (t : Tree) (i : ℕ) (fs : List Tree) → All (λ (e : SymbolTree). e.kind ≡ Projection) (projections theory constructor vars t i fs)
 no_projection theory constructor vars t i [] = All-nil (λ (e : SymbolTree). e.kind ≡ Projection)

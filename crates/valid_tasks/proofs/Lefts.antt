@@ -31,17 +31,17 @@ module _ (symbols : List SymbolTree) (t : Origin) (x : Word) where
 abbrev pub IsOther : SymbolTree → Type 0
 IsOther e = e.kind ≢ symbol.Kind
 
-not_type : (w : SymbolWord) → kind_letter (kind_of_word w) ≢ kind_letter abstract.Type
+pub not_type : (w : SymbolWord) → kind_letter (kind_of_word w) ≢ kind_letter abstract.Type
 not_type word.Predicate q = absurd (omega (arith, q))
 not_type word.Function q = absurd (omega (arith, q))
 not_type word.Constant q = absurd (omega (arith, q))
 
-not_axiom : (w : SymbolWord) → kind_letter (kind_of_word w) ≢ kind_letter abstract.Axiom
+pub not_axiom : (w : SymbolWord) → kind_letter (kind_of_word w) ≢ kind_letter abstract.Axiom
 not_axiom word.Predicate q = absurd (omega (arith, q))
 not_axiom word.Function q = absurd (omega (arith, q))
 not_axiom word.Constant q = absurd (omega (arith, q))
 
-keyed : (x y : Abstract) (name own : Word) → is_key (key x name) (key_with own (Some y)) ≡ true → kind_letter x ≡ kind_letter y
+pub keyed : (x y : Abstract) (name own : Word) → is_key (key x name) (key_with own (Some y)) ≡ true → kind_letter x ≡ kind_letter y
 keyed x y name own q = let same : kind_letter y ∷ own ≡ kind_letter x ∷ name = same_word (key y own) (key x name) q in cc
 
 module _ (symbols : List SymbolTree) (w : SymbolWord) (name : Word) where

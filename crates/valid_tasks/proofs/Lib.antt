@@ -66,7 +66,7 @@ pub mod Begun
 pub mod Further
 pub mod Scoped
 pub mod Numbers
-mod Lefts
+pub mod Lefts
 pub mod Rights
 pub mod Mapped
 pub mod Copies

@@ -17,7 +17,8 @@ use Rattle.elab_parts.specs.Declarations.{GroupMember, InductivePredicate}
 use Rattle.elab_members.specs.Members.{SignatureTree, signed_entries, symbol_kind_of}
 use Rattle.elab_groups.specs.Groups.{definitions}
 use Rattle.elab_inductives.specs.Inductives.{induced}
-use Rattle.valid_tasks.proofs.Extended.{in_either, slice_all, slice_below}
+use Rattle.valid_tasks.proofs.Extended.{in_either, slice_all}
+use Rattle.valid_tasks.proofs.Declarations.{below as slice_below}
 
 -- ---- what a new entry is
 abbrev IsTupleEntry : SymbolTree → Type 0

@@ -18,9 +18,12 @@ use Rattle.elab_walk.specs.Pieces.{types_at}
 use Rattle.elab_parts.specs.Declarations.{AlgebraicConstructor as ConstructorOf, AlgebraicType, words, with_vars}
 use Rattle.elab_parts.specs.Entries.{projections}
 use Rattle.elab_types.specs.Algebraics.{entry_count, group_count, numbering_from, type_entries, constructor_trees, algebraic_trees, constructors_entries, group_entries}
-use Rattle.valid_tasks.proofs.Extended.{in_either, slice_all, slice_below}
-use Rattle.valid_tasks.proofs.Algebraics.{types_length, count_cons}
+use Rattle.valid_tasks.proofs.Extended.{in_either, slice_all}
 use Rattle.valid_tasks.proofs.Made.{HasFrom, from_step, AreBetween, wider, one_between, no_numbers, AreNew}
+use Rattle.elab_types.proofs.Made.{projections_length as count_projections, cons_length as count_cons}
+use Rattle.trees.proofs.Indices.{eqb_true as equal}
+use Rattle.valid_tasks.proofs.Declarations.{below as slice_below}
+use Rattle.elab_types.proofs.Counted.{types_length}
 
 -- ---- numbers in order
 both_from : (xs ys : List ℕ) (n m a b : ℕ) → m ≡ n + a → HasFrom xs n a → HasFrom ys m b → HasFrom (xs ++ ys) n (a + b)
@@ -106,9 +109,6 @@ group_between w b i n m (a ∷ ts) l o p q =
 differ : (a k : ℕ) → a < k → (a == k) ≡ false
 differ a k l = grind (arith, nat_tests)
 
-equal : (a k : ℕ) → a ≡ k → (a == k) ≡ true
-equal a k q = grind (arith, nat_tests)
-
 no_position : (n i k : ℕ) (ts : List Tree) → n + length ts ≤ k → position_from (λ j. j == k) i (numbering_from n ts) ≡ None
 no_position n i k [] l = refl
 no_position n i k (t ∷ ts) l = let q = differ n k (omega arith) in rw q (no_position (n + 1) (i + 1) k ts (omega arith))
@@ -130,10 +130,6 @@ cons_plain w n k (x ∷ ks) l =
 kinds_differ : (theory name : Word) (vars : ℕ) (t : Tree) (i : ℕ) (fs : List Tree) → All (λ (e : SymbolTree). e.kind ≡ Constructor → ⊥) (projections theory name vars t i fs)
 kinds_differ theory name vars t i [] = All-nil (λ (e : SymbolTree). e.kind ≡ Constructor → ⊥)
 kinds_differ theory name vars t i (f ∷ fs) = All-cons (λ (e : SymbolTree). e.kind ≡ Constructor → ⊥) _ (projections theory name vars t (suc i) fs) (λ q. cc) (kinds_differ theory name vars t (suc i) fs)
-
-count_projections : (theory name : Word) (vars : ℕ) (t : Tree) (i : ℕ) (fs : List Tree) → length (projections theory name vars t i fs) ≡ length fs
-count_projections theory name vars t i [] = refl
-count_projections theory name vars t i (f ∷ fs) = ap suc (count_projections theory name vars t (suc i) fs)
 
 module _ (theory within : Word) where
   -- past the first constructor

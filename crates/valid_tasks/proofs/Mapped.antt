@@ -26,36 +26,27 @@ use Rattle.valid_tasks.specs.Sides.{IsTypedRight, IsTypedSide, with_rights, left
 use Rattle.valid_tasks.proofs.Numbers.{symbol_of, type_of}
 use Rattle.valid_tasks.proofs.Lefts.{IsOther, named_other}
 use Rattle.valid_tasks.proofs.Rights.{entries_more, rights_typed}
+use Rattle.valid_tasks.proofs.Begun.{slice_or as or_at}
+use Rattle.valid_tasks.proofs.Places.{cases_of, none_here}
 
 -- ---- lists
-none_here : {X : Type 0} (x : X) → Contains [] x → ⊥
-none_here x c = omega (arith, c.1)
 
-cases_of : {X : Type 0} (y x : X) (xs : List X) → Contains (y ∷ xs) x → (y ≡ x) ⊎ Contains xs x
-cases_of y x xs (zero, l, e) = inl e
-cases_of y x xs (suc j, l, e) = inr (j, omega (arith, l), e)
-
-only_here : {X : Type 0} (y x : X) → Contains (y ∷ []) x → y ≡ x
+pub only_here : {X : Type 0} (y x : X) → Contains (y ∷ []) x → y ≡ x
 only_here y x c = of (cases_of y x [] c)
   where
     of : (y ≡ x) ⊎ Contains [] x → y ≡ x
     of (inl e) = e
     of (inr n) = absurd (none_here x n)
 
-behind : (xs ys : List SymbolTree) (i n : ℕ) → n ≡ length xs + i → slice_get (xs ++ ys) n ≡ slice_get ys i
+pub behind : (xs ys : List SymbolTree) (i n : ℕ) → n ≡ length xs + i → slice_get (xs ++ ys) n ≡ slice_get ys i
 behind [] ys i n q = ap (slice_get ys) (omega (arith, q))
 behind (x ∷ xs) ys i zero q = absurd (omega (arith, q))
 behind (x ∷ xs) ys i (suc n) q = behind xs ys i n (omega (arith, q))
 
-copied_at : (f : ℕ → SymbolTree) (ks : List ℕ) (i k : ℕ) → slice_get ks i ≡ Some k → slice_get (map f ks) i ≡ Some (f k)
+pub copied_at : (f : ℕ → SymbolTree) (ks : List ℕ) (i k : ℕ) → slice_get ks i ≡ Some k → slice_get (map f ks) i ≡ Some (f k)
 copied_at f [] i k q = absurd (cc)
 copied_at f (j ∷ ks) zero k q = let e : j ≡ k = cc in ap (λ (n : ℕ). Some (f n)) e
 copied_at f (j ∷ ks) (suc i) k q = copied_at f ks i k q
-
-or_at : (es : List SymbolTree) (k : ℕ) (e : SymbolTree) → slice_get es k ≡ Some e → symbol_or es k ≡ e
-or_at [] k e q = absurd (cc)
-or_at (x ∷ es) zero e q = cc
-or_at (x ∷ es) (suc k) e q = or_at es k e q
 
 -- before further entries it is a type too
 kind_before : (xs ys : List SymbolTree) (k : ℕ) (e : SymbolTree) → slice_get (xs ++ ys) k ≡ Some e → e.kind ≡ Kind → (symbol_or xs k).kind ≡ Kind

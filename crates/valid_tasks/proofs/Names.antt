@@ -13,7 +13,7 @@ use Rattle.goal_tasks.specs.Named.{head_named, named, all_named, option_named, s
 use Rattle.valid_tasks.specs.Named.{LeafNames, OneNames, TwoNames, ThreeNames, TreeNames, EntryNames, NumberNames, DefinitionNames, InductiveNames, ConNames, AlgebraicNames, BodyNames}
 use Rattle.valid_tasks.proofs.Moved.{declaration_moves, formula_moved}
 
-same_number : (k : ℕ) → nat_eq k k ≡ true
+pub same_number : (k : ℕ) → nat_eq k k ≡ true
 same_number k = grind arith
 
 pub or_left : (a b : Bool) → IsTrue a → IsTrue (a || b)

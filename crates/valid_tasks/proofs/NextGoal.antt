@@ -29,15 +29,16 @@ use Rattle.valid_tasks.proofs.Extended.{entry_more, agrees_part, signature_agree
 use Rattle.valid_tasks.specs.Valid.{IsTypedSetting, HaveNoFault, IsValidElaborated}
 use Rattle.valid_tasks.specs.Lists.{after, MakesBelow, IsNextGoal}
 use Rattle.valid_tasks.proofs.Stays.{declaration_stays}
-use Rattle.valid_tasks.proofs.Propositions.{rigid_formula}
+use Rattle.valid_tasks.proofs.Propositions.{rigid_formula, count_rigid as count_types}
 use Rattle.valid_tasks.proofs.Elaborated.{elaborated_valid}
 use Rattle.valid_tasks.proofs.Steps.{setting, news}
-use Rattle.valid_tasks.proofs.Goals.{all_among, at_end, nothing_more, next_goal}
+use Rattle.valid_tasks.proofs.Goals.{all_among, nothing_more, next_goal}
 use Rattle.goal_tasks.specs.Theories.{GoalTree}
 use Rattle.valid_tasks.specs.Tasks.{AreSound, IsQuotedAt, IsToProve, IsGoalSaid, IsSoundAfter}
 use Rattle.valid_tasks.proofs.Distinct.{IsDistinct, distinct_pairs}
 use Rattle.valid_tasks.proofs.Once.{distinct_step}
 use Rattle.valid_tasks.proofs.Next.{front_kept}
+use Rattle.valid_tasks.proofs.Algebraics.{at_end}
 
 -- ---- type variables of a proposition
 entries_between : (k : ℕ) (vs : List Word) → All (λ (i : ℕ). (k ≤ i) × (i < k + length vs)) (entry_numbers k vs)
@@ -61,10 +62,6 @@ quoted_entries xs (x ∷ vs) k q h =
     let rest = quoted_entries (xs ++ e ∷ []) vs (k + 1) (omega (arith, q, length-append xs (e ∷ []))) (λ i d l. h (suc i) d (omega (arith, l))) in
     All-cons (IsQuotedAt (xs ++ e ∷ map rigid_symbol vs)) k (entry_numbers (k + 1) vs) (record { name = x; quoted = h 0 x (omega arith); entry = at_end xs (map rigid_symbol vs) e k q })
     (subst (λ (es : List SymbolTree). All (IsQuotedAt es) (entry_numbers (k + 1) vs)) same rest)
-
-pub count_types : (k : ℕ) (vs : List Word) → length (rigid_types (entry_numbers k vs)) ≡ length vs
-count_types k [] = refl
-count_types k (x ∷ vs) = ap suc (count_types (k + 1) vs)
 
 -- ---- variables below more
 leaf_below : (n : ℕ) (h : Head) → LeafBelow 0 h → LeafBelow n h

@@ -5,14 +5,12 @@ use Rattle.std.proofs.lemmas.Bool.Decides.{nat_tests}
 use Rattle.trees.specs.Tree.{Tree}
 use Rattle.clones.specs.Mapped.{Map}
 use Rattle.clone_elements.specs.Plans.{same_map, with_symbol, with_type, with_numbers, with_symbols, with_mapped_types, map_of}
-
-same_number : (a b : ℕ) → (a == b) ≡ true → a ≡ b
-same_number a b q = grind (arith, nat_tests)
+use Rattle.plain_laws.proofs.Bools.{same_number}
 
 here : {X : Type 0} (x : X) (xs : List X) → Contains (x ∷ xs) x
 here x xs = (0, omega arith, refl)
 
-later : {X : Type 0} (y x : X) (xs : List X) → Contains xs x → Contains (y ∷ xs) x
+pub later : {X : Type 0} (y x : X) (xs : List X) → Contains xs x → Contains (y ∷ xs) x
 later y x xs h = (suc h.0, let l = h.1 in omega (arith, l), h.2)
 
 -- ---- numbers of symbols
@@ -48,15 +46,15 @@ module _ (Q : ℕ → Tree → Type 0) where
   types_have (p ∷ ps) m f h = types_have ps (with_type p.0 p.1 m) (λ q c. f q (later p q ps c)) (type_has p.0 p.1 m (f p (here p ps)) h)
 
 -- ---- each leaves the others
-types_leave : (ps : List (ℕ × Tree)) (m : Map) (k : ℕ) → (with_mapped_types ps m).symbols k ≡ m.symbols k
+pub types_leave : (ps : List (ℕ × Tree)) (m : Map) (k : ℕ) → (with_mapped_types ps m).symbols k ≡ m.symbols k
 types_leave [] m k = refl
 types_leave (p ∷ ps) m k = types_leave ps (with_type p.0 p.1 m) k
 
-symbols_leave : (ps : List (ℕ × ℕ)) (m : Map) (k : ℕ) → (with_symbols ps m).types k ≡ m.types k
+pub symbols_leave : (ps : List (ℕ × ℕ)) (m : Map) (k : ℕ) → (with_symbols ps m).types k ≡ m.types k
 symbols_leave [] m k = refl
 symbols_leave (p ∷ ps) m k = symbols_leave ps (with_symbol p.0 p.1 m) k
 
-numbers_leave : (n : ℕ) (ks : List ℕ) (m : Map) (k : ℕ) → (with_numbers n ks m).types k ≡ m.types k
+pub numbers_leave : (n : ℕ) (ks : List ℕ) (m : Map) (k : ℕ) → (with_numbers n ks m).types k ≡ m.types k
 numbers_leave n [] m k = refl
 numbers_leave n (j ∷ ks) m k = numbers_leave (n + 1) ks (with_symbol j n m) k
 

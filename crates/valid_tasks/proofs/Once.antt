@@ -20,12 +20,12 @@ use Rattle.elab_inductives.specs.Inductives.{as_member, as_members, inductives_s
 use Rattle.elab_types.specs.Algebraics.{entry_count, group_seen, first_type, first_constructor, numbering_from, type_entries, constructor_trees, algebraic_trees, group_trees, group_entries, group_outcome}
 use Rattle.elab_types.specs.Algebraics as group
 use Rattle.elab_terms.specs.Outcomes.{type_outcome, IsOutcome}
-use Rattle.valid_tasks.proofs.Algebraics.{types_length}
 use Rattle.valid_tasks.proofs.Standing.{count_signed}
 use Rattle.valid_tasks.proofs.Made.{AreBetween, wider, one_between, no_numbers, signed_length, defined_between, induced_between}
 use Rattle.valid_tasks.proofs.MadeTypes.{numbers_between, cons_between, group_between, group_length, count_types}
 use Rattle.valid_tasks.proofs.Distinct.{IsDistinct, distinct_both}
 use Rattle.valid_tasks.proofs.TaskOutcomes.{OfTheory, signed_of, types_of, group_of}
+use Rattle.elab_types.proofs.Counted.{types_length}
 
 -- ---- numbers that follow one another
 between_at : (n m : ℕ) (ks : List ℕ) (k : ℕ) → AreBetween n m ks → Contains ks k → (n ≤ k) × (k < m)
@@ -172,7 +172,7 @@ group_once c ts o q =
     (group_between w i i m (i + length (T ++ G)) ts (omega arith) (omega arith) (omega (arith, all, many, long)) (omega (arith, all, many, long)))
     (group_distinct w i m ts (omega arith))
 
-body_between : (m : GroupMember) (ks : List GroupMember) (gs : List SignatureTree) (bs : List Tree) (k : ℕ) (b : Option Expression) → length gs ≡ length (m ∷ ks) → AreBetween k (k + length gs) (made_by (group_body b k gs bs))
+pub body_between : (m : GroupMember) (ks : List GroupMember) (gs : List SignatureTree) (bs : List Tree) (k : ℕ) (b : Option Expression) → length gs ≡ length (m ∷ ks) → AreBetween k (k + length gs) (made_by (group_body b k gs bs))
 body_between m ks gs bs k None q = one_between k k (k + length gs) [] (omega arith) (omega (arith, q)) (no_numbers k (k + length gs))
 body_between m ks gs bs k (Some e) q = defined_between k (k + length gs) gs bs (omega arith)
 

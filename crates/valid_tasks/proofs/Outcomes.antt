@@ -23,6 +23,7 @@ use Rattle.elab_terms.specs.Outcomes.{type_outcome, alias_seen, IsAlias, proposi
 use Rattle.valid_tasks.proofs.Standing.{count_signed}
 use Rattle.valid_tasks.proofs.Made.{HasFrom, AreBetween, wider, no_numbers, one_between, AreNew, both_new, none_new, tuples_new, rigids_new, signed_new, signed_length, defined_from, induced_from, defined_between, induced_between}
 use Rattle.valid_tasks.proofs.MadeTypes.{group_between, group_length, types_new, group_new, count_types}
+use Rattle.valid_tasks.proofs.Once.{body_between}
 
 pub record IsMade (c : Setting) (o : Outcome) : Type 0 where
   pub new : AreNew o.decls (length c.symbols) o.symbols
@@ -115,10 +116,6 @@ body_from m ks gs bs k None z a q l =
     let alone = ap length (a z) in
     λ j h. (0, omega arith, omega (arith, alone, q, h))
 body_from m ks gs bs k (Some e) z a q l = defined_from k gs bs l
-
-body_between : (m : GroupMember) (ks : List GroupMember) (gs : List SignatureTree) (bs : List Tree) (k : ℕ) (b : Option Expression) → length gs ≡ length (m ∷ ks) → AreBetween k (k + length gs) (made_by (group_body b k gs bs))
-body_between m ks gs bs k None q = one_between k k (k + length gs) [] (omega arith) (omega (arith, q)) (no_numbers k (k + length gs))
-body_between m ks gs bs k (Some e) q = defined_between k (k + length gs) gs bs (omega arith)
 
 module _ (c : Setting) (tuples : List SymbolTree) (theory within : Word) (ms : List GroupMember) (gs : List SignatureTree) (count : length gs ≡ length ms) (o : Outcome) (symbols : o.symbols ≡ tuples ++ signed_entries theory within ms gs)
     (built : AreNew o.decls (length c.symbols) tuples) (ks : List ℕ) (are : made o.decls ≡ ks) (one : length o.decls ≤ 1) (k : ℕ) (at : k ≡ length c.symbols + length tuples) where

@@ -53,7 +53,7 @@ bind_over : (v : Vocabulary) (first : Option (List LocalTree)) (x : Word) (t : T
 bind_over v None x t i h o = tt
 bind_over v (Some ls) x t i h o = ((type_in_over v x ls i h, o), tt)
 
-constructor_is : (k : SymbolKind) → is_constructor_kind k ≡ true → k ≡ Constructor
+pub constructor_is : (k : SymbolKind) → is_constructor_kind k ≡ true → k ≡ Constructor
 constructor_is Constructor q = refl
 constructor_is _ q = absurd (cc)
 

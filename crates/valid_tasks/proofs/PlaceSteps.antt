@@ -20,12 +20,14 @@ use Rattle.clone_copies.specs.Places.{Copying, goal_with, with_copied_goal, with
 use Rattle.valid_tasks.specs.Cloned.{AreClonedPlaces}
 use Rattle.theory_states.specs.States.{KnownTree, StateTree, at_places, visible_now}
 use Rattle.valid_tasks.specs.Whole.{IsWhole}
-use Rattle.valid_tasks.proofs.Places.{none_here, cases_of, here, later, there, further, at_both, in_places, from_places, in_theory, places_grown, places_agree, joined_new}
+use Rattle.valid_tasks.proofs.Places.{none_here, cases_of, here, there, further, at_both, in_places, from_places, places_grown, places_agree, joined_new, in_any}
 use Rattle.valid_tasks.specs.Steps.{leaves, joins, made_of, made_from}
 use Rattle.valid_tasks.specs.PlaceSteps.{step_as, step_of, copy_step_at, copy_steps_at}
+use Rattle.valid_tasks.proofs.Numbers.{later}
+use Rattle.valid_tasks.proofs.Joined.{theory_there as in_theory}
 
 -- ---- declarations by places
-first_of : (xs : List DeclarationTree) (y : DeclarationTree) → slice_get (xs ++ y ∷ []) (length xs) ≡ Some y
+pub first_of : (xs : List DeclarationTree) (y : DeclarationTree) → slice_get (xs ++ y ∷ []) (length xs) ≡ Some y
 first_of [] y = refl
 first_of (x ∷ xs) y = first_of xs y
 
@@ -33,18 +35,6 @@ or_is : (ds : List DeclarationTree) (k : ℕ) (d : DeclarationTree) → slice_ge
 or_is [] k d q = absurd (cc)
 or_is (x ∷ ds) zero d q = cc
 or_is (x ∷ ds) (suc k) d q = or_is ds k d q
-
-in_any : (k : ℕ) (ks : List ℕ) → Contains ks k → list_any (nat_eq k) ks ≡ true
-in_any k [] c = absurd (none_here k c)
-in_any k (j ∷ ks) c = of (cases_of j k ks c) (λ h. in_any k ks h)
-  where
-    right : (b c : Bool) → c ≡ true → (b || c) ≡ true
-    right true c q = refl
-    right false c q = q
-
-    of : (j ≡ k) ⊎ Contains ks k → (Contains ks k → list_any (nat_eq k) ks ≡ true) → (nat_eq k j || list_any (nat_eq k) ks) ≡ true
-    of (inl e) f = let q : nat_eq k j ≡ true = grind (arith, nat_tests) in rw q refl
-    of (inr h) f = right (nat_eq k j) (list_any (nat_eq k) ks) (f h)
 
 -- a goal changes no declarations
 goal_same : (vars : List (List ℕ)) (name : List ℕ) (b : BodyTree) (c : StateTree) → ((goal_with vars name b c).decls ≡ c.decls) × ((goal_with vars name b c).opened.visible ≡ c.opened.visible) × ((goal_with vars name b c).opened.path ≡ c.opened.path)

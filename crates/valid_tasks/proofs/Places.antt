@@ -12,6 +12,9 @@ use Rattle.theory_states.specs.States.{at_places, joined_places}
 use Rattle.valid_tasks.specs.Joined.{has_theory, fresh, Agree}
 use Rattle.valid_tasks.proofs.Distinct.{IsDistinct}
 use Rattle.valid_tasks.specs.Whole.{IsWhole}
+use Rattle.valid_tasks.proofs.Joined.{theory_there as in_theory}
+use Rattle.valid_tasks.proofs.Names.{same_number as itself}
+use Rattle.valid_tasks.proofs.Numbers.{later}
 
 -- ---- lists of numbers
 pub none_here : {X : Type 0} (x : X) → Contains [] x → ⊥
@@ -24,14 +27,8 @@ cases_of y x xs (suc j, l, e) = inr (j, omega (arith, l), e)
 pub here : {X : Type 0} (x : X) (xs : List X) → Contains (x ∷ xs) x
 here x xs = (0, omega arith, refl)
 
-pub later : {X : Type 0} (y x : X) (xs : List X) → Contains xs x → Contains (y ∷ xs) x
-later y x xs h = (suc h.0, let l = h.1 in omega (arith, l), h.2)
-
 same_number : (a b : ℕ) → nat_eq a b ≡ true → a ≡ b
 same_number a b q = grind (arith, nat_tests)
-
-itself : (a : ℕ) → nat_eq a a ≡ true
-itself a = grind (arith, nat_tests)
 
 any_in : (k : ℕ) (ks : List ℕ) → list_any (nat_eq k) ks ≡ true → Contains ks k
 any_in k [] q = absurd (cc)
@@ -41,7 +38,7 @@ any_in k (j ∷ ks) q = of (nat_eq k j) refl q (λ h. any_in k ks h)
     of true z h f = subst (λ (i : ℕ). Contains (j ∷ ks) i) (sym (same_number k j z)) (here j ks)
     of false z h f = later j k ks (f h)
 
-in_any : (k : ℕ) (ks : List ℕ) → Contains ks k → list_any (nat_eq k) ks ≡ true
+pub in_any : (k : ℕ) (ks : List ℕ) → Contains ks k → list_any (nat_eq k) ks ≡ true
 in_any k [] c = absurd (none_here k c)
 in_any k (j ∷ ks) c = of (cases_of j k ks c) (λ h. in_any k ks h)
   where
@@ -151,18 +148,6 @@ theory_in (x ∷ ds) t q = of (bytes_eq x.theory t) refl q (λ h. theory_in ds t
     of : (b : Bool) → bytes_eq x.theory t ≡ b → (b || has_theory ds t) ≡ true → (has_theory ds t ≡ true → (d : DeclarationTree) × (Contains ds d) × (bytes_eq d.theory t ≡ true)) → (d : DeclarationTree) × (Contains (x ∷ ds) d) × (bytes_eq d.theory t ≡ true)
     of true z h f = (x, here x ds, z)
     of false z h f = let r = f h in (r.0, later x r.0 ds r.1, r.2)
-
-pub in_theory : (ds : List DeclarationTree) (d : DeclarationTree) → Contains ds d → has_theory ds d.theory ≡ true
-in_theory [] d c = absurd (none_here d c)
-in_theory (x ∷ ds) d c = of (cases_of x d ds c) (λ h. in_theory ds d h)
-  where
-    right : (b c : Bool) → c ≡ true → (b || c) ≡ true
-    right true c q = refl
-    right false c q = q
-
-    of : (x ≡ d) ⊎ Contains ds d → (Contains ds d → has_theory ds d.theory ≡ true) → (bytes_eq x.theory d.theory || has_theory ds d.theory) ≡ true
-    of (inl e) f = let q : bytes_eq x.theory d.theory ≡ true = ap (λ (i : DeclarationTree). bytes_eq i.theory d.theory) e ∙ self_word d.theory in rw q refl
-    of (inr h) f = right (bytes_eq x.theory d.theory) (has_theory ds d.theory) (f h)
 
 module _ (ds : List DeclarationTree) where
   abbrev one_at : ℕ → List DeclarationTree

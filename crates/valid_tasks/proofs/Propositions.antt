@@ -38,6 +38,7 @@ use Rattle.valid_tasks.proofs.Scopes.{scopes_more}
 use Rattle.valid_tasks.proofs.Extended.{entries_part, news_front, news_later, typed_more, signature_more, scopes_extended}
 use Rattle.valid_tasks.specs.Valid.{IsTypedSetting, IsTypedOutcome, IsValidOutcome, DeclsFit, MayNameRigid}
 use Rattle.valid_tasks.proofs.Settings.{inside, inside_typed, inside_scopes, world, formed, tuples, same_names}
+use Rattle.valid_tasks.proofs.Algebraics.{at_end}
 
 -- ---- a formula at closed types
 module _ (tys : List Tree) where
@@ -93,11 +94,6 @@ rigids_typed : (v : Vocabulary) (names : List Word) → All (IsTypedEntry v) (ma
 rigids_typed v [] = All-nil (IsTypedEntry v)
 rigids_typed v (x ∷ xs) = All-cons (IsTypedEntry v) (rigid_symbol x) (map rigid_symbol xs) (rigid_typed v x) (rigids_typed v xs)
 
-at_end : (xs ys : List SymbolTree) (e : SymbolTree) (k : ℕ) → k ≡ length xs → slice_get (xs ++ e ∷ ys) k ≡ Some e
-at_end [] ys e k q = rw q refl
-at_end (x ∷ xs) ys e zero q = absurd (omega (arith, q))
-at_end (x ∷ xs) ys e (suc k) q = at_end xs ys e k (omega (arith, q))
-
 -- each is a type of its own
 rigid_in : (base : Vocabulary) (xs : List SymbolTree) (names : List Word) (k : ℕ) → k ≡ length xs → All (λ (i : ℕ). IsTrue (base.rigid i)) (entry_numbers k names) → All (IsTypeIn (with_entries base (xs ++ map rigid_symbol names)) 0) (rigid_types (entry_numbers k names))
 rigid_in base xs [] k q may = All-nil (IsTypeIn (with_entries base (xs ++ [])) 0)
@@ -112,7 +108,7 @@ rigid_in base xs (x ∷ names) k q may =
     All-cons (IsTypeIn v 0) (Leaf (HTyRigid k)) (rigid_types (entry_numbers (k + 1) names)) (record { sort = refl; typed = (tt, is); variables = tt })
     (subst (λ (es : List SymbolTree). All (IsTypeIn (with_entries base es) 0) (rigid_types (entry_numbers (k + 1) names))) same rest)
 
-count_rigid : (k : ℕ) (names : List Word) → length (rigid_types (entry_numbers k names)) ≡ length names
+pub count_rigid : (k : ℕ) (names : List Word) → length (rigid_types (entry_numbers k names)) ≡ length names
 count_rigid k [] = refl
 count_rigid k (x ∷ names) = ap suc (count_rigid (k + 1) names)
 

@@ -16,6 +16,7 @@ use Rattle.tasks.proofs.Counts.{bound_count}
 use Rattle.elab_walk.specs.Patterns.{reordering}
 use Rattle.elab_walk.specs.Reordered.{sorts_reordering}
 use Rattle.valid_tasks.proofs.Over.{IsGood}
+use Rattle.tasks.proofs.TypeInstances.{further}
 
 module _ (places : List ℕ) where
   abbrev pub at : ℕ → Tree → Tree
@@ -183,11 +184,6 @@ behind : (xs ys : List Tree) (i k : ℕ) → i ≡ length xs + k → slice_get (
 behind [] ys i k q = ap (slice_get ys) (omega (arith, q))
 behind (x ∷ xs) ys zero k q = absurd (omega (arith, q))
 behind (x ∷ xs) ys (suc i) k q = behind xs ys i k (omega (arith, q))
-
-further : (xs ys : List Tree) (i : ℕ) (a : Tree) → slice_get xs i ≡ Some a → slice_get (xs ++ ys) i ≡ Some a
-further [] ys i a h = absurd (cc)
-further (x ∷ xs) ys zero a h = h
-further (x ∷ xs) ys (suc i) a h = further xs ys i a h
 
 first_part : (xs ys : List Tree) (i : ℕ) → i < length xs → slice_get (xs ++ ys) i ≡ slice_get xs i
 first_part [] ys i l = absurd (omega arith)

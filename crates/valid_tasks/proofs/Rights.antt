@@ -18,8 +18,7 @@ use Rattle.elab_parts.specs.Entries.{builtin, wanting_tuples}
 use Rattle.elab_parts.specs.Outcomes.{Setting, over, around}
 use Rattle.elab_parts.proofs.Alike.{form_alike}
 use Rattle.valid_tasks.specs.Scopes.{IsNamedBy, NamesNew, IsSubvocabulary, AgreeBelow}
-use Rattle.valid_tasks.proofs.Signed.{some_at}
-use Rattle.valid_tasks.proofs.Extended.{further, in_either, slice_below, slice_all, type_more}
+use Rattle.valid_tasks.proofs.Extended.{further, in_either, slice_all, type_more}
 use Rattle.valid_tasks.proofs.Widths.{form_tuples}
 use Rattle.valid_tasks.specs.Valid.{IsTypedSetting}
 use Rattle.valid_tasks.proofs.Begin.{agrees}
@@ -30,6 +29,8 @@ use Rattle.valid_tasks.proofs.Kept.{all_kept}
 use Rattle.clone_elements.specs.Rights.{RightTree, type_right, symbol_right, no_right, right_tuples, right_fault, right_made, rights_tuples, rights_fault}
 use Rattle.clone_elements.specs.Plans.{sides_made}
 use Rattle.valid_tasks.specs.Sides.{IsTypedRight, IsTypedSide, with_rights}
+use Rattle.std.proofs.lemmas.Option.{slice_get-get_or as some_at}
+use Rattle.valid_tasks.proofs.Declarations.{below as slice_below}
 
 -- ---- more entries
 pub entries_more : (xs ys : List SymbolTree) → IsSubvocabulary (of_signature xs) (of_signature (xs ++ ys))
@@ -39,10 +40,6 @@ entries_more xs ys = record {
   usable = λ k e q h. let z = further xs ys k e q in rw z (rw q at h);
   matched = λ k e q h. let z = further xs ys k e q in rw z (rw q at h);
 }
-
-front_of : (a b : Bool) → IsTrue (a && b) → IsTrue a
-front_of true b h = refl
-front_of false b h = h
 
 -- further entries that have the theory of what is built in
 module _ (xs ys : List SymbolTree) (built : All (λ (e : SymbolTree). e.theory ≡ builtin) ys) where
@@ -101,7 +98,7 @@ first_none : (a b : Option NamingFault) → first_of a b ≡ None → (a ≡ Non
 first_none None b q = (refl, q)
 first_none (Some f) b q = absurd (cc)
 
-texts_count : (vs : List Name) → length (texts_of_names vs) ≡ length vs
+pub texts_count : (vs : List Name) → length (texts_of_names vs) ≡ length vs
 texts_count [] = refl
 texts_count (v ∷ vs) = let h = texts_count vs in omega (arith, h)
 
@@ -134,7 +131,7 @@ all_typed (e ∷ es) c h q =
     let z = all_typed es (record c { symbols = c.symbols ++ more }) (element_typed c e h p.0).setting p.1 in
     subst (λ (all : List SymbolTree). IsTypedSetting (of_signature all) (record c { symbols = all })) (append_assoc c.symbols more (rights_tuples (c.symbols ++ more) es)) z
 
-right_more : (v w : Vocabulary) → IsSubvocabulary v w → (e : Element) (r : RightTree) → IsTypedRight v e r → IsTypedRight w e r
+pub right_more : (v w : Vocabulary) → IsSubvocabulary v w → (e : Element) (r : RightTree) → IsTypedRight v e r → IsTypedRight w e r
 right_more v w part (type_element i c vs f) (type_right ty) h = type_more v w part (length vs) ty h
 right_more v w part (type_element i c vs f) (symbol_right k) h = tt
 right_more v w part (type_element i c vs f) no_right h = tt

@@ -13,8 +13,8 @@ use Rattle.elab_walk.specs.Pieces.{piece}
 use Rattle.elab_parts.specs.Elaborated.{IsSolved, IsFixedUnknown}
 use Rattle.valid_tasks.specs.Signature.{IsSymbol, IsWellFormed}
 use Rattle.valid_tasks.specs.Typed.{IsNamedExpression}
-use Rattle.valid_tasks.proofs.Signed.{some_at}
 use Rattle.valid_tasks.proofs.Solutions.{solved_formula}
+use Rattle.std.proofs.lemmas.Option.{slice_get-get_or as some_at}
 
 abbrev constant : SymbolTree
 constant = record { theory = codes "T"; name = codes "c"; kind = Function; vars = 0; args = []; result = Some int_type }

@@ -19,11 +19,11 @@ use Rattle.valid_tasks.proofs.TaskSound.{task_valid}
 use Rattle.theory_states.specs.States.{KnownTree, StateTree, at_places, visible_now, known_has_path, known_named}
 use Rattle.theory_states.specs.Uses.{path_text, last_part, alias_text, theory_used, IsTheoryUsed}
 use Rattle.valid_tasks.specs.Sound.{IsSoundAmong, IsSoundTheory, IsSoundKnown, IsApart, IsSoundOpened, IsSoundState}
-use Rattle.valid_tasks.proofs.Places.{later}
 use Rattle.valid_tasks.proofs.Used.{used_sound}
+use Rattle.valid_tasks.proofs.Numbers.{later}
 
 -- ---- a use
-found_in : (ts : List KnownTree) (path : List ℕ) (t : KnownTree) → known_named ts path ≡ Some t → Contains ts t
+pub found_in : (ts : List KnownTree) (path : List ℕ) (t : KnownTree) → known_named ts path ≡ Some t → Contains ts t
 found_in [] path t q = absurd (cc)
 found_in (x ∷ ts) path t q = of (known_has_path path x) q (λ r. found_in ts path t r)
   where

@@ -16,15 +16,9 @@ use Rattle.elab_names.specs.Naming.{or_int, type_named, meaning_at}
 use Rattle.elab_parts.specs.Outcomes.{over}
 use Rattle.valid_tasks.specs.Signature.{with_entries, IsSymbol, IsMeaning, IsWellFormed}
 use Rattle.valid_tasks.specs.Scopes.{IsTypedEntry, IsTypedSignature, IsTypeNumber, IsSymbolNumber, IsTypeName, IsTypedThing, AreTypedScopes}
-use Rattle.valid_tasks.proofs.Words.{both_true}
-use Rattle.valid_tasks.proofs.Signed.{some_at}
-
-same_is : (a b : Table) → same_table a b ≡ true → a ≡ b
-same_is Types Types h = refl
-same_is Symbols Symbols h = refl
-same_is Propositions Propositions h = refl
-same_is Scopes Scopes h = refl
-same_is _ _ h = absurd (cc)
+use Rattle.names_space.proofs.Listed.{same_table_is as same_is}
+use Rattle.plain_laws.proofs.Bools.{and_both as both_true}
+use Rattle.std.proofs.lemmas.Option.{slice_get-get_or as some_at}
 
 -- ---- what is found is the thing of an entry
 module _ (P : Table → TypeName → Type 0) where

@@ -27,22 +27,14 @@ use Rattle.elab_parts.proofs.Scopes.{alike_more, tuples_below}
 use Rattle.valid_tasks.specs.Signature.{with_entries, IsMeaning, IsWellFormed, HasTuple, FormTuples}
 use Rattle.valid_tasks.specs.Scopes.{IsTypedSignature, NamesNew, IsTypedThing, AreTypedScopes}
 use Rattle.valid_tasks.proofs.Over.{over_good}
-use Rattle.valid_tasks.proofs.Signed.{form_over}
+use Rattle.valid_tasks.proofs.Signed.{form_over, leaf_is_below as leaf_below_of}
 use Rattle.valid_tasks.proofs.Scopes.{over_well_formed}
 use Rattle.valid_tasks.proofs.Extended.{scopes_extended}
 use Rattle.valid_tasks.proofs.Tuples.{tuples_typed, tuples_there, tuple_of}
 use Rattle.valid_tasks.specs.Valid.{IsTypedSetting}
+use Rattle.tasks.proofs.TypeInstances.{below as below_of}
 
 -- ---- type variables below a number, in both words
-leaf_below_of : (n : ℕ) (h : Head) → LeafBelow n h → leaf_below h n
-leaf_below_of n (HTyVar j) x = x
-leaf_below_of n _ x = tt
-
-pub below_of : (n : ℕ) (e : Tree) → VariablesBelow n e → TyVarsBelow n e
-below_of n (Leaf h) x = leaf_below_of n h x
-below_of n (One h a) x = below_of n a x
-below_of n (Two h a b) x = (below_of n a x.0, below_of n b x.1)
-below_of n (Three h a b c) x = (below_of n a x.0, below_of n b x.1, below_of n c x.2)
 
 of_leaf_below : (n : ℕ) (h : Head) → leaf_below h n → LeafBelow n h
 of_leaf_below n (HTyVar j) x = x

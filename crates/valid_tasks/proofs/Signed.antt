@@ -24,17 +24,15 @@ use Rattle.elab_walk.specs.Pieces.{type_at, types_at, applied_meaning, variable_
 use Rattle.elab_walk.proofs.Walking.{none_both, must_be}
 use Rattle.valid_tasks.specs.Signature.{with_entries, IsSymbol, IsTuple, IsMeaning, IsWellFormed, FormTuples, FormsTuples}
 use Rattle.valid_tasks.proofs.Over.{IsOver, AreOver, type_over, cells_over, members_cells}
-use Rattle.valid_tasks.proofs.Instances.{inst_over, variables_over, count_variables, inst_assigned}
+use Rattle.valid_tasks.proofs.Instances.{inst_over, variables_over, inst_assigned}
+use Rattle.elab_types.proofs.Counted.{types_length as count_types}
+use Rattle.tasks.proofs.TypeInstances.{below as is_below}
+use Rattle.std.proofs.lemmas.Option.{slice_get-get_or as some_at}
+use Rattle.goal_tasks.proofs.TuplesMade.{variables_count as count_variables}
 
-leaf_is_below : (n : ℕ) (h : Head) → LeafBelow n h → leaf_below h n
+pub leaf_is_below : (n : ℕ) (h : Head) → LeafBelow n h → leaf_below h n
 leaf_is_below n (HTyVar j) x = x
 leaf_is_below n _ x = tt
-
-pub is_below : (n : ℕ) (e : Tree) → VariablesBelow n e → TyVarsBelow n e
-is_below n (Leaf h) x = leaf_is_below n h x
-is_below n (One h a) x = is_below n a x
-is_below n (Two h a b) x = (is_below n a x.0, is_below n b x.1)
-is_below n (Three h a b c) x = (is_below n a x.0, is_below n b x.1, is_below n c x.2)
 
 -- an entry of types over a vocabulary has its own type variables alone
 result_scoped : (v : Vocabulary) (n : ℕ) (r : Option Tree) → IfSome r (IsTypeIn v n) → IfSome r (TyVarsBelow n)
@@ -44,11 +42,6 @@ result_scoped v n (Some t) x = is_below n t x.variables
 pub entry_scoped : (v : Vocabulary) (e : SymbolTree) → HasTypes v e → IsScopedEntry e
 entry_scoped v e h = record { args = λ k d l. is_below e.vars (get_or e.args k d) (h.args k d l).variables; result = result_scoped v e.vars e.result h.result }
 
-pub some_at : {A : Type 0} (xs : List A) (k : ℕ) (d : A) → k < length xs → slice_get xs k ≡ Some (get_or xs k d)
-some_at [] k d l = absurd (omega arith)
-some_at (x ∷ xs) zero d l = refl
-some_at (x ∷ xs) (suc k) d l = some_at xs k d (omega arith)
-
 pub is_predicate_kind : (k : SymbolKind) → is_predicate k ≡ true → k ≡ Predicate
 is_predicate_kind Predicate q = refl
 is_predicate_kind _ q = absurd (cc)
@@ -57,10 +50,6 @@ pub makes_terms : (k : SymbolKind) → k ≢ Kind → is_predicate k ≡ false �
 makes_terms Kind n q = n refl
 makes_terms Predicate n q = absurd (cc)
 makes_terms _ n q = tt
-
-count_types : (w : Where) (fs : TypeExpressions) → length (types_at w fs) ≡ count_forms fs
-count_types w no_types = refl
-count_types w (more_types f fs) = ap suc (count_types w fs)
 
 -- an entry, by its number, of types over the vocabulary
 pub record IsEntry (v : Vocabulary) (e : NumberedEntry) : Type 0 where

@@ -30,9 +30,11 @@ use Rattle.elab_walk.proofs.Walking.{none_both, not_if, must_be}
 use Rattle.valid_tasks.specs.Signature.{with_entries, IsSymbol, IsTuple, IsWellFormed, HasTuple}
 use Rattle.valid_tasks.specs.Typed.{assigned_types}
 use Rattle.valid_tasks.proofs.Over.{IsGood, IsOver, AreOver, type_over, over_assigned}
-use Rattle.valid_tasks.proofs.Instances.{inst_over, variables_over, count_variables, cells_assigned, all_assigned_over}
+use Rattle.valid_tasks.proofs.Instances.{inst_over, variables_over, cells_assigned, all_assigned_over}
 use Rattle.valid_tasks.proofs.Forms.{TypedAs, ListTyped, variable_typed, predicate_typed, function_typed, end_typed, cell_typed}
 use Rattle.valid_tasks.proofs.Signed.{IsEntry, named_symbol, parameters_over, instance_at, at_assigned, parameters_assigned, is_predicate_kind, makes_terms}
+use Rattle.elab_walk.proofs.Arguments.{either_way, found_name}
+use Rattle.goal_tasks.proofs.TuplesMade.{variables_count as count_variables}
 
 pub suc_same : {m n : ℕ} → suc m ≡ suc n → m ≡ n
 suc_same h = omega (arith, h)
@@ -79,21 +81,6 @@ variable_found v x (l ∷ ls) h = of (bytes_eq l.name x) (variable_named x ls) (
 is_found : (v : Vocabulary) (qs : List Word) (x : Word) (ls : List LocalTree) → LocalsOver v ls → IsFound v ls (found_local qs x ls)
 is_found v [] x ls h = variable_found v x ls h
 is_found v (q ∷ qs) x ls h = tt
-
-either_way : (b : Bool) (z : ℕ × Tree) (p : Option ℕ) (q : Option (ℕ × Tree)) → is_some p ≡ is_some q → is_some (cond b (Some 0) (option_map suc p)) ≡ is_some (cond b (Some z) (option_map (λ (r : ℕ × Tree). (suc r.0, r.1)) q))
-either_way true z p q h = refl
-either_way false z None None h = refl
-either_way false z None (Some r) h = h
-either_way false z (Some k) None h = h
-either_way false z (Some k) (Some r) h = refl
-
-variable_name : (c : Word) (xs : List LocalTree) → is_some (place_of c (names xs)) ≡ is_some (variable_named c xs)
-variable_name c [] = refl
-variable_name c (x ∷ xs) = either_way (bytes_eq x.name c) (0, x.type) (place_of c (names xs)) (variable_named c xs) (variable_name c xs)
-
-found_name : (qs : List Word) (c : Word) (xs : List LocalTree) → is_variable qs c (names xs) ≡ is_some (found_local qs c xs)
-found_name [] c xs = variable_name c xs
-found_name (q ∷ qs) c xs = refl
 
 -- ---- what is due
 abbrev pub KindFits : Bool → SymbolKind → Type 0

@@ -40,6 +40,7 @@ use Rattle.valid_tasks.proofs.Settings.{inside, inside_typed, inside_scopes, sco
 use Rattle.valid_tasks.proofs.Signatures.{SignatureIn, signature_in}
 use Rattle.valid_tasks.proofs.Algebraics.{IsThere, EntriesAt, entries_at, got}
 use Rattle.valid_tasks.proofs.Bodies.{AreSigned, signed_more}
+use Rattle.elab_members.proofs.MembersScoped.{same_kind}
 
 no_kind : (f : Option TypeExpression) → symbol_kind_of f ≢ Kind
 no_kind None = λ q. cc
@@ -91,9 +92,6 @@ module _ (theory within : Word) (named : is_empty theory ≡ false) where
         members_scoped s ms gs (suc k) (with_name Symbols m.called.name (stands.Entry k) true names) (omega (arith, n)) next (scopes_more (IsTypedThing v s) names Symbols m.called.name (stands.Entry k) true (number_of_member m g k h.0) x)
 
 -- ---- a group where it is
-same_kind : (w : Where) (r : Option TypeExpression) → is_none r ≡ is_none (option_map (type_at w) r)
-same_kind w None = refl
-same_kind w (Some f) = refl
 
 pub count_signed : (w : Where) (ms : List GroupMember) → length (map (signature_of w) ms) ≡ length ms
 count_signed w [] = refl

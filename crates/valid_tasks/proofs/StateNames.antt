@@ -7,13 +7,9 @@ use Rattle.tasks.specs.Vocabulary.{Vocabulary}
 use Rattle.tasks.specs.Typing.{MakesTerms}
 use Rattle.clones.specs.Mapped.{Map}
 use Rattle.valid_tasks.specs.Scopes.{IsSymbolNumber}
-use Rattle.valid_tasks.proofs.Signed.{some_at}
 use Rattle.valid_tasks.specs.Morphisms.{KindBecomes, HasMappedTypes, IsMorphism}
-
-slice_there : (es : List SymbolTree) (k : ℕ) (P : SymbolTree → Type 0) → IsSomeAnd (slice_get es k) P → (k < length es) × P (symbol_or es k)
-slice_there [] k P h = absurd h
-slice_there (e ∷ es) zero P h = (omega arith, h)
-slice_there (e ∷ es) (suc k) P h = let r = slice_there es k P h in (let l = r.0 in omega (arith, l), r.1)
+use Rattle.valid_tasks.proofs.ClonedNames.{slice_there}
+use Rattle.std.proofs.lemmas.Option.{slice_get-get_or as some_at}
 
 terms_kind : (j : SymbolKind) → MakesTerms j → j ≢ Kind
 terms_kind Kind t e = t

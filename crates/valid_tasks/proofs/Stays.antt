@@ -7,10 +7,10 @@ use Rattle.tasks.specs.Clauses.{IsClauseOf}
 use Rattle.tasks.specs.Vocabulary.{Vocabulary}
 use Rattle.tasks.specs.Valid.{HasTypes, IsFormulaOver, IsTypeEntry, IsSignatureOf, IsDefinition, IsInductive, IsProjectionOf, AreProjections, IsConstructorOf, IsAlgebraic, IsValidBody, IsValidDecl}
 use Rattle.valid_tasks.specs.Scopes.{IsSubvocabulary}
-use Rattle.valid_tasks.proofs.Signed.{some_at}
 use Rattle.valid_tasks.proofs.Extended.{types_more}
 use Rattle.valid_tasks.proofs.Algebraics.{got}
 use Rattle.valid_tasks.proofs.Propositions.{formula_more}
+use Rattle.std.proofs.lemmas.Option.{slice_get-get_or as some_at}
 
 module _ (v w : Vocabulary) (part : IsSubvocabulary v w) where
   abbrev xs : List SymbolTree

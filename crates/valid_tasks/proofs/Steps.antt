@@ -14,7 +14,7 @@ use Rattle.tasks.specs.Meaning.{symbols_at, declarations_at, DeclHeld}
 use Rattle.tasks.specs.Roles.{is_constructor, maker, role_by}
 use Rattle.tasks.specs.Vocabulary.{Vocabulary, passes, is_constructor_kind}
 use Rattle.tasks.specs.Valid.{IsValidDecl}
-use Rattle.tasks.proofs.Declared.{maker_made, made_maker}
+use Rattle.tasks.proofs.Declared.{maker_made, made_maker, con_maker as con_some}
 use Rattle.names_space.specs.Names.{ScopeNames}
 use Rattle.syntax_why.specs.declared.declarations.PropKind.TheVariants as kind
 use Rattle.syntax_why.specs.Declarations as source
@@ -24,8 +24,7 @@ use Rattle.elab_parts.specs.Declarations.{Declaration, group_member, declaration
 use Rattle.elab_parts.specs.Outcomes.{Setting, Outcome}
 use Rattle.elab_terms.specs.Outcomes.{IsElaborated}
 use Rattle.valid_tasks.specs.Scopes.{is_projection_kind, IsNamedBy, NamesNew, AgreeBelow}
-use Rattle.valid_tasks.proofs.Signed.{some_at}
-use Rattle.valid_tasks.proofs.Extended.{further, in_either, slice_below}
+use Rattle.valid_tasks.proofs.Extended.{further, in_either}
 use Rattle.valid_tasks.specs.Valid.{IsTypedSetting, HaveNoFault, MayNameRigid, IsValidElaborated}
 use Rattle.valid_tasks.specs.Lists.{is_built, after, AreValidAfter, MakesBelow, IsGroupWhole, IsNoGoal, IsNextDeclaration}
 use Rattle.valid_tasks.proofs.Begin.{agrees}
@@ -33,6 +32,8 @@ use Rattle.valid_tasks.proofs.Lists.{or_more, maker_both}
 use Rattle.valid_tasks.proofs.Made.{IsOwn, IsNewEntry}
 use Rattle.valid_tasks.proofs.Outcomes.{IsMade, IsAlone, outcome_made}
 use Rattle.valid_tasks.proofs.Elaborated.{elaborated_valid}
+use Rattle.std.proofs.lemmas.Option.{slice_get-get_or as some_at}
+use Rattle.valid_tasks.proofs.Declarations.{below as slice_below}
 
 -- ---- makers
 pub none_of : (o : Option DeclarationTree) → (IsTrue (is_some o) → ⊥) → o ≡ None
@@ -68,9 +69,6 @@ not_before n m k ds h l = none_of (maker ds k) (λ t.
     omega (arith, l, y, e))
 
 -- ---- constructors may be used
-con_some : (k : ℕ) (o : Option DeclarationTree) → IsTrue (is_constructor (role_by k o)) → IsTrue (is_some o)
-con_some k None h = absurd (let e : true ≡ false = sym h in cc)
-con_some k (Some d) h = refl
 
 first_true : (a b c : Bool) → IsTrue ((a && b) || c) → IsTrue (a || c)
 first_true true b c h = refl

@@ -23,7 +23,7 @@ use Rattle.elab_terms.specs.Outcomes.{alias_seen, proposition_seen, rigid_names,
 use Rattle.valid_tasks.specs.Built.{IsOfTuple, IsBuiltRight}
 use Rattle.valid_tasks.proofs.Kept.{IsOfSource, all_kept}
 
-rigids_of : (names : List Word) → All IsOfSource (map rigid_symbol names)
+pub rigids_of : (names : List Word) → All IsOfSource (map rigid_symbol names)
 rigids_of [] = All-nil IsOfSource
 rigids_of (x ∷ xs) = All-cons IsOfSource (rigid_symbol x) (map rigid_symbol xs) refl (rigids_of xs)
 

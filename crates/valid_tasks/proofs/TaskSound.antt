@@ -11,7 +11,7 @@ use Rattle.tasks.specs.Roles.{is_constructor, is_made_by, maker, role_in, role_b
 use Rattle.tasks.specs.Rigid.{rigid_symbol}
 use Rattle.tasks.specs.Vocabulary.{Vocabulary, of_task, passes, is_empty, is_constructor_kind}
 use Rattle.tasks.specs.Valid.{IsFormula, IsTypeOver, IsValidDecl, IsRigidEntry, AreInts, IsValid}
-use Rattle.tasks.proofs.Declared.{contains_step, any_iff, maker_made, made_maker, made_usable}
+use Rattle.tasks.proofs.Declared.{contains_step, any_iff, maker_made, made_maker, made_usable, con_maker}
 use Rattle.goal_tasks.specs.Named.{named, body_named, declarations_named, is_among}
 use Rattle.elab_parts.specs.Entries.{builtin}
 use Rattle.valid_tasks.specs.Lists.{is_built, after}
@@ -26,6 +26,7 @@ use Rattle.valid_tasks.proofs.Names.{or_left, or_right, Within, left_in, right_i
 use Rattle.valid_tasks.proofs.Distinct.{IsDistinct, distinct_pairs, pairs_distinct, distinct_both}
 use Rattle.valid_tasks.proofs.TupleDecls.{made_both, made_are, tuple_valid}
 use Rattle.valid_tasks.proofs.TupleLists.{IsTupleDecl, IsTupleEntry, entry_is, tuples_are, occurring_made, tuples_distinct}
+use Rattle.valid_tasks.proofs.Patterns.{constructor_is as con_kind}
 
 -- ---- who makes a symbol
 pub each_made : (ds : List DeclarationTree) (i : ℕ) (d : DeclarationTree) → i < length ds → (k : ℕ) → Contains (made_by (get_or ds i d).body) k → Contains (made ds) k
@@ -47,17 +48,6 @@ maker_some ds k h = of (maker ds k) (made_maker k ds h)
     of : (o : Option DeclarationTree) → IsTrue (is_some o) → (d : DeclarationTree) × (o ≡ Some d)
     of None t = absurd (let e : true ≡ false = sym t in cc)
     of (Some d) t = (d, refl)
-
-con_maker : (k : ℕ) (o : Option DeclarationTree) → IsTrue (is_constructor (role_by k o)) → IsTrue (is_some o)
-con_maker k None h = absurd (let e : true ≡ false = sym h in cc)
-con_maker k (Some d) h = refl
-
-con_kind : (s : SymbolKind) → is_constructor_kind s ≡ true → s ≡ Constructor
-con_kind Constructor q = refl
-con_kind Kind q = absurd (let e : true ≡ false = sym q in cc)
-con_kind Function q = absurd (let e : true ≡ false = sym q in cc)
-con_kind Predicate q = absurd (let e : true ≡ false = sym q in cc)
-con_kind Projection q = absurd (let e : true ≡ false = sym q in cc)
 
 -- the constructor of a width is made as one
 tuple_role : (n c k : ℕ) → 0 < c → k ≡ c → IsTrue (is_constructor (role_in k (tuple_declaration n (c - 1)).body))

@@ -22,33 +22,16 @@ use Rattle.clones.proofs.Alike.{alike_itself, kinds_alike, one_alike, two_alike,
 use Rattle.valid_tasks.specs.Morphisms.{HasMappedTypes, KindBecomes, IsMorphism, AreTyped}
 use Rattle.valid_tasks.proofs.Over.{IsOver, sorted_over, type_over, over_good}
 use Rattle.valid_tasks.proofs.CopiedTypes.{over_members, over_yields, over_untyped, over_variables, over_branches, over_mapped, inst_mapped, variables_over}
+use Rattle.tasks.proofs.TypeInstances.{some_kept, terms_not_kind, list_map, top_map}
 
-some_kept : (o : Option SymbolTree) (P Q : SymbolTree → Type 0) → ((e : SymbolTree) → o ≡ Some e → P e → Q e) → IsSomeAnd o P → IsSomeAnd o Q
-some_kept None P Q f h = h
-some_kept (Some e) P Q f h = f e refl h
-
-found : (o : Option SymbolTree) (P : SymbolTree → Type 0) → IsSomeAnd o P → (e : SymbolTree) × ((o ≡ Some e) × P e)
+pub found : (o : Option SymbolTree) (P : SymbolTree → Type 0) → IsSomeAnd o P → (e : SymbolTree) × ((o ≡ Some e) × P e)
 found None P h = absurd h
 found (Some e) P h = (e, (refl, h))
-
-terms_not_kind : (k : SymbolKind) → MakesTerms k → k ≢ kinds.Kind
-terms_not_kind kinds.Kind x e = x
-terms_not_kind Predicate x e = x
-terms_not_kind _ x e = cc
 
 terms_become : (k j : SymbolKind) → KindBecomes k j → MakesTerms k → MakesTerms j
 terms_become kinds.Kind j b x = absurd x
 terms_become Predicate j b x = absurd x
 terms_become _ j b x = b
-
-list_map : (f : Tree → Tree) (o : Option Tree) → option_list (option_map f o) ≡ map f (option_list o)
-list_map f None = refl
-list_map f (Some x) = refl
-
-top_map : (f : Tree → Tree) (h : Head) (o : Option Tree) → top_type h (option_map f o) ≡ option_map f (top_type h o)
-top_map f HCell o = refl
-top_map f HArm o = refl
-top_map f _ o = refl
 
 module _ (f : ℕ → ℕ) where
   top_same : (h : Head) (o : Option Tree) → top_type (head_mapped f h) o ≡ top_type h o

@@ -14,12 +14,12 @@ use Rattle.tasks.specs.Valid.{own_type, IsTypeIn, AreProjections, IsConstructorO
 use Rattle.tasks.proofs.Declared.{contains_cases, contains_step}
 use Rattle.syntax_why.specs.Lexeme.{Word}
 use Rattle.elab_parts.specs.Entries.{type_entry, projections, builtin, tuple_entries}
-use Rattle.valid_tasks.proofs.Signed.{some_at}
-use Rattle.valid_tasks.proofs.Instances.{count_variables}
 use Rattle.valid_tasks.proofs.Tuples.{own_in, variables_in}
 use Rattle.goal_tasks.specs.Tuples.{tuple_constructor, tuple_algebraic, tuple_declaration}
 use Rattle.goal_tasks.specs.Meaning.{IsTupleAt}
 use Rattle.valid_tasks.proofs.Kept.{within}
+use Rattle.std.proofs.lemmas.Option.{slice_get-get_or as some_at}
+use Rattle.goal_tasks.proofs.TuplesMade.{variables_count as count_variables}
 
 -- ---- what lists of declarations make
 pub made_both : (xs ys : List DeclarationTree) → made (xs ++ ys) ≡ made xs ++ made ys

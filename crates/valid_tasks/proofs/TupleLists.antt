@@ -10,7 +10,6 @@ use Rattle.tasks.specs.Valid.{own_type}
 use Rattle.tasks.proofs.Declared.{none_in}
 use Rattle.syntax_why.specs.Lexeme.{Word}
 use Rattle.elab_parts.specs.Entries.{type_entry, projections, builtin, tuple_in}
-use Rattle.valid_tasks.proofs.Instances.{count_variables}
 use Rattle.valid_tasks.proofs.Algebraics.{got}
 use Rattle.goal_tasks.specs.Tuples.{tuple_declaration, tuple_occurs, tuples_of, tuples_in}
 use Rattle.goal_tasks.specs.Meaning.{IsTupleAt}
@@ -18,6 +17,7 @@ use Rattle.valid_tasks.specs.Built.{IsBuiltRight}
 use Rattle.valid_tasks.proofs.Kept.{within}
 use Rattle.valid_tasks.proofs.Distinct.{IsDistinct, distinct_both, range_contains, range_distinct}
 use Rattle.valid_tasks.proofs.TupleDecls.{made_both, made_flat, in_range, type_is, constructor_is, projection_is, made_are, made_cases}
+use Rattle.goal_tasks.proofs.TuplesMade.{variables_count as count_variables}
 
 -- ---- the declaration of a width
 pub record IsTupleDecl (symbols : List SymbolTree) (d : DeclarationTree) : Type 0 where

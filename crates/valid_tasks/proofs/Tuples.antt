@@ -17,11 +17,12 @@ use Rattle.elab_variables.specs.Seen.{has_width}
 use Rattle.elab_parts.specs.Entries.{type_entry, projections, constructor_entries, builtin, tuple_entries, is_tuple, tuple_from, tuple_in, wanting_tuple, wanting_tuples}
 use Rattle.valid_tasks.specs.Signature.{with_entries, IsTuple}
 use Rattle.valid_tasks.specs.Scopes.{NamesNew, IsTypedEntry, IsTypedSignature}
-use Rattle.valid_tasks.proofs.Words.{both_true}
 use Rattle.valid_tasks.proofs.Over.{IsOver, over_good, cells_over, members_cells}
-use Rattle.valid_tasks.proofs.Instances.{variables_over, count_variables}
+use Rattle.valid_tasks.proofs.Instances.{variables_over}
 use Rattle.valid_tasks.proofs.Extended.{signature_more, news_front, news_later}
 use Rattle.valid_tasks.proofs.Scopes.{typed_entry}
+use Rattle.plain_laws.proofs.Bools.{and_both as both_true}
+use Rattle.goal_tasks.proofs.TuplesMade.{variables_count as count_variables}
 
 -- ---- a type symbol at its own type variables
 module _ (v : Vocabulary) where

@@ -30,8 +30,7 @@ use Rattle.elab_types.specs.Algebraics.{group_seen, type_entries, group_trees, g
 use Rattle.elab_terms.specs.Outcomes.{alias_seen, proposition_seen, rigid_names, entry_numbers, IsProposition, IsOutcome, IsElaborated}
 use Rattle.valid_tasks.specs.Scopes.{is_projection_kind, IsNamedBy, NamesNew, AgreeBelow}
 use Rattle.valid_tasks.specs.Typed.{IsPatternOf, ArePatterns}
-use Rattle.valid_tasks.proofs.Signed.{some_at}
-use Rattle.valid_tasks.proofs.Extended.{further, in_either, slice_below, slice_all}
+use Rattle.valid_tasks.proofs.Extended.{further, in_either, slice_all}
 use Rattle.valid_tasks.specs.Valid.{IsTypedSetting, HaveNoFault, MayNameRigid}
 use Rattle.valid_tasks.specs.Lists.{IsRigidAt}
 use Rattle.valid_tasks.proofs.Begin.{agrees}
@@ -40,6 +39,9 @@ use Rattle.valid_tasks.proofs.Elaborated.{elaborated_valid, elaborated_patterns}
 use Rattle.valid_tasks.proofs.Goals.{rigid_entries}
 use Rattle.valid_tasks.specs.TaskTyped.{IsFitMatch, IsTypedOver}
 use Rattle.valid_tasks.proofs.TaskOutcomes.{OfTheory, signed_of, types_of, group_of}
+use Rattle.valid_tasks.proofs.Entries.{both_true as first_of}
+use Rattle.std.proofs.lemmas.Option.{slice_get-get_or as some_at}
+use Rattle.valid_tasks.proofs.Declarations.{below as slice_below}
 
 -- ---- new entries: a constructor has a theory
 abbrev IsPlaced : SymbolTree → Type 0
@@ -78,9 +80,6 @@ module _ (c : Setting) (s : List Tree) (named : is_empty c.theory ≡ false) whe
       tuples_then o (inductives_seen unseen ds).widths es e.symbols (own_placed es (signed_of c.theory c.within (as_members ds) gs))
 
 -- ---- they may be named
-first_of : (a b : Bool) → IsTrue (a && b) → IsTrue a
-first_of true b h = refl
-first_of false b h = h
 
 constructor_of : (k : SymbolKind) → IsTrue (is_constructor_kind k) → k ≡ Constructor
 constructor_of Constructor h = refl

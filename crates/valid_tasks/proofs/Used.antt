@@ -24,10 +24,9 @@ use Rattle.valid_tasks.proofs.Joined.{later_sound, first_part, second_part, late
 use Rattle.theory_states.specs.States.{KnownTree, OpenedTree, at_places, joined_places}
 use Rattle.theory_states.specs.Uses.{theory_used}
 use Rattle.valid_tasks.specs.Sound.{is_other, others, IsSoundAmong, IsSoundTheory, IsSoundOpened}
-use Rattle.valid_tasks.proofs.Places.{cases_of, here, later, joined_cases, joined_old, joined_distinct, places_agree, places_joined, joined_whole}
-
-pub grows_itself : (s : List Tree) → Grows s s
-grows_itself s = record { longer = omega arith; same = λ k l. refl }
+use Rattle.valid_tasks.proofs.Places.{cases_of, here, joined_cases, joined_old, joined_distinct, places_agree, places_joined, joined_whole}
+use Rattle.trees.proofs.Nodes.{Grows_refl as grows_itself}
+use Rattle.valid_tasks.proofs.Numbers.{later}
 
 pub is_part_itself : (v : Vocabulary) → IsSubvocabulary v v
 is_part_itself v = record { entries = λ k e q. q; rigid = λ k e q h. h; usable = λ k e q h. h; matched = λ k e q h. h }

@@ -17,24 +17,11 @@ use Rattle.valid_tasks.specs.Tasks.{IsOwnSymbol, AreSound}
 use Rattle.valid_tasks.proofs.Grown.{own_below}
 use Rattle.valid_tasks.proofs.Joined.{matched_usable}
 use Rattle.valid_tasks.specs.Morphisms.{AreTyped}
-use Rattle.valid_tasks.proofs.Begun.{entry_built}
+use Rattle.valid_tasks.proofs.Begun.{entry_built, slice_or}
 
 pub either : (a b : Bool) → IsTrue (a || b) → IsTrue a ⊎ IsTrue b
 either true b h = inl refl
 either false b h = inr h
-
-pub left_of : (a b : Bool) → IsTrue a → IsTrue (a || b)
-left_of true b h = refl
-left_of false b h = absurd (let e : true ≡ false = sym h in cc)
-
-pub right_of : (a b : Bool) → IsTrue b → IsTrue (a || b)
-right_of true b h = refl
-right_of false b h = h
-
-pub slice_or : (es : List SymbolTree) (k : ℕ) (e : SymbolTree) → slice_get es k ≡ Some e → symbol_or es k ≡ e
-slice_or [] k e q = absurd (cc)
-slice_or (x ∷ xs) zero e q = cc
-slice_or (x ∷ xs) (suc k) e q = slice_or xs k e q
 
 module _ (xs : List SymbolTree) (ds : List DeclarationTree) where
   abbrev v : Vocabulary

@@ -10,7 +10,7 @@ use Rattle.valid_tasks.specs.Signature.{HasTuple, FormTuples, FormsTuples, Binde
 abbrev pub IsWithin : SeenTree → SeenTree → Type 0
 IsWithin s t = (n : ℕ) → has_width n s.widths ≡ true → has_width n t.widths ≡ true
 
-same_width : (n : ℕ) → (n == n) ≡ true
+pub same_width : (n : ℕ) → (n == n) ≡ true
 same_width n = eq-eqb n n refl
 
 width_both : (n : ℕ) (xs ys : List ℕ) → has_width n xs ≡ true → has_width n (xs ++ ys) ≡ true

@@ -11,6 +11,9 @@ use Rattle.elab_names.specs.declared.NamingFault.TheVariants.{Duplicate}
 use Rattle.elab_names.specs.Faults.{fault_if, pattern_names, patterns_names, constructor_fault, pattern_fault, patterns_fault, all_among}
 use Rattle.elab_names.specs.Where.{Where, place_of}
 use Rattle.elab_walk.proofs.Walking.{none_both, not_if}
+use Rattle.elab_types.proofs.Declared.{or_assoc}
+use Rattle.plain_laws.proofs.Bools.{and_both as both_true}
+use Rattle.std.proofs.lemmas.Bool.{or_parts as neither}
 
 pub same_word : (x y : Word) → bytes_eq x y ≡ true → x ≡ y
 same_word x y h = (bytes_eq-Decides x y).0 h
@@ -29,10 +32,6 @@ is_in_cons x y ys = of (bytes_eq y x) (place_of x ys)
     of false None = refl
     of false (Some k) = refl
 
-or_assoc : (a b c : Bool) → (a || (b || c)) ≡ ((a || b) || c)
-or_assoc true b c = refl
-or_assoc false b c = refl
-
 pub is_in_both : (x : Word) (ys zs : List Word) → is_in x (ys ++ zs) ≡ (is_in x ys || is_in x zs)
 is_in_both x [] zs = refl
 is_in_both x (y ∷ ys) zs = is_in_cons x y (ys ++ zs) ∙ ap (λ (b : Bool). bytes_eq y x || b) (is_in_both x ys zs) ∙ or_assoc (bytes_eq y x) (is_in x ys) (is_in x zs) ∙ ap (λ (b : Bool). b || is_in x zs) (sym (is_in_cons x y ys))
@@ -48,10 +47,6 @@ is_in_reverse x [] = refl
 is_in_reverse x (y ∷ ys) =
     ap (is_in x) (reverse-cons y ys) ∙ is_in_both x (reverse ys) (y ∷ []) ∙ ap (λ (b : Bool). is_in x (reverse ys) || b) (is_in_cons x y [])
     ∙ or_swap (is_in x (reverse ys)) (bytes_eq y x) ∙ ap (λ (b : Bool). bytes_eq y x || b) (is_in_reverse x ys) ∙ sym (is_in_cons x y ys)
-
-neither : (a b : Bool) → (a || b) ≡ false → (a ≡ false) × (b ≡ false)
-neither true b h = absurd (cc)
-neither false b h = (refl, h)
 
 -- ---- new names
 -- each is new after those that are seen and the earlier ones
@@ -122,10 +117,6 @@ still_in x y (z ∷ zs) n h = of (bytes_eq z x) refl (sym (is_in_cons y z zs) �
     of : (b : Bool) → bytes_eq z x ≡ b → (bytes_eq z y || is_in y zs) ≡ true → (is_in y zs ≡ true → is_in y (without x zs) ≡ true) → is_in y (cond b zs (z ∷ without x zs)) ≡ true
     of true q k f = let e : z ≡ x = same_word z x q in let m : bytes_eq z y ≡ false = rw e n in rw m at k
     of false q k f = is_in_cons y z (without x zs) ∙ kept (bytes_eq z y) k f
-
-pub both_true : (a b : Bool) → (a && b) ≡ true → (a ≡ true) × (b ≡ true)
-both_true true b k = (refl, k)
-both_true false b k = absurd (cc)
 
 all_still : (x : Word) (xs ys : List Word) → AllByRecursion (λ y. bytes_eq x y ≡ false) xs → all_among xs ys ≡ true → all_among xs (without x ys) ≡ true
 all_still x [] ys a h = refl

@@ -7,6 +7,8 @@ use Rattle.std.proofs.lemmas.Bool.Decides.{nat_tests}
 use Rattle.std.specs.List.{position_from}
 use Rattle.std.proofs.lemmas.Bool.{eqb-true, eq-eqb}
 use Rattle.word_tables.specs.Words.{ascends, texts, is_same_word, place_in_words, Finds}
+use Rattle.plain_laws.proofs.Bools.{and_first as and-left, and_second as and-right}
+use Rattle.std.proofs.lemmas.Option.{slice_get-get_or as get-some}
 
 -- the words from `low` up to `high` are those that may still be the one
 pub record Between (word : List ℕ) (words : List (List ℕ)) (low high : ℕ) : Type 0 where
@@ -14,11 +16,6 @@ pub record Between (word : List ℕ) (words : List (List ℕ)) (low high : ℕ) 
   pub within : high ≤ length words
   pub below : (i : ℕ) → i < low → slice_cmp nat_cmp (get_or words i []) word ≡ Less
   pub above : (i : ℕ) → high ≤ i → i < length words → slice_cmp nat_cmp (get_or words i []) word ≡ Greater
-
-pub get-some : {X : Type 0} (xs : List X) (i : ℕ) (d : X) → i < length xs → slice_get xs i ≡ Some (get_or xs i d)
-get-some [] i d lt = absurd (omega arith)
-get-some (x ∷ xs) zero d lt = refl
-get-some (x ∷ xs) (suc i) d lt = get-some xs i d (omega arith)
 
 pub some-get : {X : Type 0} (xs : List X) (i : ℕ) (d x : X) → slice_get xs i ≡ Some x → (i < length xs) × (get_or xs i d ≡ x)
 some-get [] i d x e = cc
@@ -46,15 +43,7 @@ lt-cases a b = grind arith
 compare-cases : (a b : ℕ) → (a ≡ b) ⊎ ((a < b) ⊎ (b < a))
 compare-cases a b = grind arith
 
-and-left : (a b : Bool) → (a && b) ≡ true → a ≡ true
-and-left true b e = refl
-and-left false b e = cc
-
-and-right : (a b : Bool) → (a && b) ≡ true → b ≡ true
-and-right true b e = e
-and-right false b e = cc
-
-bool-cases : (b : Bool) → (b ≡ true) ⊎ (b ≡ false)
+pub bool-cases : (b : Bool) → (b ≡ true) ⊎ (b ≡ false)
 bool-cases true = inl refl
 bool-cases false = inr refl
 

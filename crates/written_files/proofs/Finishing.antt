@@ -17,7 +17,9 @@ use Rattle.written_files.specs.Named.{AreWords, rule_expressions, step_trees, Is
 use Rattle.written_files.specs.Words.{StepReady}
 use Rattle.written_files.specs.Written.{read_with, AddsSteps, StepsReadBack}
 use Rattle.written_files.proofs.Texts.{trees_text, text_read}
-use Rattle.written_files.proofs.Rightness.{all_used, all_good, all_stand, flat_all, all_flat, front_all, back_all}
+use Rattle.written_files.proofs.Rightness.{all_used, all_good, all_stand, flat_all, all_flat}
+use Rattle.tree_writing.proofs.Sorting.{expression_kind as kind_expression}
+use Rattle.plain_laws.proofs.Lists.{All-left as front_all, All-right as back_all}
 
 pub finished : (x : Lines) (steps : List Step) (roots : List Tree) (start new : List ℕ) → roots ≡ flat_map step_trees (steps_at x.store.now steps) → IsWritten x.store.now x.table.now roots start x.numbers.now → AreWords x.table.now → AddsSteps x steps start new → StepsReadBack x.table.now (steps_at x.store.now steps) new
 finished x steps roots start new are written words adds t tallest closes low =
@@ -31,10 +33,6 @@ pub no_name : (table : List NameEntry) (steps : List StepTree) (roots : List Tre
 no_name table steps roots are lacks named =
     let a = flat_all (IsNamedTree table) step_trees steps (λ k d l. (named k d l).trees) in
     lacks (all_stand (TopNamed table) roots (subst (All (IsNamedTree table)) (sym are) a))
-
-kind_expression : (e : Tree) → IsExpression (sort_of e) → IsOfKind kind.Expression e
-kind_expression e (inl h) = ap kind_of_sort h
-kind_expression e (inr h) = ap kind_of_sort h
 
 pub steps_ready : (x : Lines) (steps : List StepTree) (roots : List Tree) → roots ≡ flat_map step_trees steps → AreNamesOf x.store.now x.table.now x.names.now → HaveLines x.store.now x.numbers.now roots → AreSorted steps → All (SymbolsNamed x.table.now) steps → All (StepReady x) steps
 steps_ready x steps roots are names lines sorted symbols k d l =

@@ -27,9 +27,3 @@ only P x b h = (λ t. All-cons P x [] (h.0 t) (All-nil P), λ a. h.1 (a 0 x (ome
 
 pub no_true : (b : Bool) → b ≡ false → IsTrue b → ⊥
 no_true b e t = let f : false ≡ true = sym e ∙ t in cc
-
--- whether a name was found
-pub found_iff : (table : List NameEntry) (symbol : NameOf) (types : List Tree) (list : Tree) (o : Option Spelling) (b : Bool) → b ≡ is_some o → list ≡ cells types → IfSome o (λ (w : Spelling). (ts : List Tree) → list ≡ cells ts → Spells table symbol ts w.name.now w.whole)
-    → ((ts : List Tree) → list ≡ cells ts → IsSpelt table symbol ts → IsSome o) → (IsTrue b → IsSpelt table symbol types) × (IsSpelt table symbol types → IsTrue b)
-found_iff table symbol types list None b e is spells found = (λ t. let f : false ≡ true = sym e ∙ t in absurd (cc), λ h. let f : false ≡ true = found types is h in absurd (cc))
-found_iff table symbol types list (Some w) b e is spells found = (λ t. record { name = w.name.now; whole = w.whole; spells = spells types is }, λ h. e)

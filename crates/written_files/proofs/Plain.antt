@@ -29,6 +29,7 @@ use Rattle.step_lines.specs.Steps.{Thing, TypeOf, PatternOf, ExpressionOf, StepO
 use Rattle.tasks.specs.Words.{IsLineWord}
 use Rattle.written_files.specs.Named.{AreWords}
 use Rattle.written_files.proofs.StepBack.{name_found, found_name}
+use Rattle.plain_laws.proofs.Bools.{and_both as both, same_number}
 
 -- what a step in a chain was
 pub then_some : {A B : Type 0} (f : A → Option B) (o : Option A) (y : B) → option_and_then f o ≡ Some y → (x : A) × (o ≡ Some x) × (f x ≡ Some y)
@@ -80,10 +81,6 @@ at_plain things w x e = let m = then_some (slice_get things) (number w) x e in n
 abbrev past_space : List ℕ → Bool
 past_space w = list_all (λ c. nat_lt 32 c) w
 
-both : (a b : Bool) → (a && b) ≡ true → (a ≡ true) × (b ≡ true)
-both true b e = (refl, e)
-both false b e = absurd (cc)
-
 above : (c : ℕ) → nat_lt 32 c ≡ true → 32 < c
 above c e = grind (arith, nat_tests)
 
@@ -96,9 +93,6 @@ past_plain (c ∷ cs) e =
 
 abbrev all_past : List (List ℕ) → Bool
 all_past ws = list_all past_space ws
-
-same_number : (x y : ℕ) → (x == y) ≡ true → x ≡ y
-same_number x y e = grind (arith, nat_tests)
 
 same_word : (v w : LineWord) → is_same_word v w ≡ true → v ≡ w
 same_word [] [] e = refl

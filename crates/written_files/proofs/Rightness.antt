@@ -23,6 +23,8 @@ use Rattle.step_files.specs.Lines.{IsGoodTree}
 use Rattle.tree_writing.specs.Used.{IsUsed}
 use Rattle.tree_writing.specs.Parts.{IsSubtree, StandsIn}
 use Rattle.written_files.specs.Named.{rule_expressions, step_trees, IsSortedStep, AreSorted, IsLow, AreLow}
+use Rattle.plain_laws.proofs.Lists.{All-left as front_all, All-right as back_all}
+use Rattle.rule_words.proofs.ReadBack.{first_of, rest_of}
 
 -- a part is typed as far as it goes
 pub part_open : (v : Vocabulary) (x e : Tree) → IsSubtree x e → OpenTyped v e → OpenTyped v x
@@ -135,21 +137,6 @@ module _ (t : TaskTree) where
 
   pub steps_open : (steps : List StepTree) → AreRight t steps → All (λ (st : StepTree). All (OpenIn t) (step_trees st)) steps
   steps_open steps h k d l = subst (λ (st : StepTree). All (OpenIn t) (step_trees st)) (same_default steps k d l) (step_open (take k steps) (step_or steps k) (h k l))
-
--- what holds of the trees of each step holds of all, and the other way round
-first_of : {X : Type 0} (P : X → Type 0) (x : X) (xs : List X) → All P (x ∷ xs) → P x
-first_of P x xs a = a 0 x (omega arith)
-
-rest_of : {X : Type 0} (P : X → Type 0) (x : X) (xs : List X) → All P (x ∷ xs) → All P xs
-rest_of P x xs a k d h = a (suc k) d (omega arith)
-
-pub front_all : {X : Type 0} (P : X → Type 0) (xs ys : List X) → All P (xs ++ ys) → All P xs
-front_all P [] ys a = All-nil P
-front_all P (x ∷ xs) ys a = All-cons P x xs (first_of P x (xs ++ ys) a) (front_all P xs ys (rest_of P x (xs ++ ys) a))
-
-pub back_all : {X : Type 0} (P : X → Type 0) (xs ys : List X) → All P (xs ++ ys) → All P ys
-back_all P [] ys a = a
-back_all P (x ∷ xs) ys a = back_all P xs ys (rest_of P x (xs ++ ys) a)
 
 pub flat_all : {X Y : Type 0} (P : Y → Type 0) (f : X → List Y) (xs : List X) → All (λ x. All P (f x)) xs → All P (flat_map f xs)
 flat_all P f [] a = All-nil P

@@ -22,14 +22,7 @@ use Rattle.tree_lines.specs.Lines.{Earlier, symbol_number}
 use Rattle.step_lines.specs.Steps.{is_colon, before_colon, after_colon, step_by, types_named, own_types, argument, then_argument, arguments, rule_arguments, rule_named, rule_of_words, step_ended, step_of_line}
 use Rattle.written_files.specs.Named.{IsName, AreWords}
 use Rattle.written_files.specs.Words.{WritesArgument, WriteArguments, NoColon}
-
-take_front : {X : Type 0} (xs ys : List X) → take (length xs) (xs ++ ys) ≡ xs
-take_front [] ys = refl
-take_front (x ∷ xs) ys = ap (λ l. x ∷ l) (take_front xs ys)
-
-drop_front : {X : Type 0} (xs ys : List X) → drop (length xs) (xs ++ ys) ≡ ys
-drop_front [] ys = refl
-drop_front (x ∷ xs) ys = drop_front xs ys
+use Rattle.tree_writing.proofs.UsedBack.{drop_front, take_front}
 
 before_back : (us vs : List LineWord) → NoColon us → before_colon (us ++ codes ":" ∷ vs) ≡ us
 before_back [] vs h = refl

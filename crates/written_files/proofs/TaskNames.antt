@@ -40,6 +40,7 @@ use Rattle.tasks.specs.Words.{IsPlainByte, IsLineWord, NamesAreWords}
 use Rattle.written_files.specs.Named.{IsName, AreWords, rule_symbols, step_trees, IsNamedTree, IsNamedStep, AreNamed}
 use Rattle.written_files.proofs.Plain.{past_plain}
 use Rattle.written_files.proofs.Rightness.{part_open, part_ground, step_open, step_ground, same_default}
+use Rattle.plain_laws.proofs.Bools.{and_both as both, same_number}
 
 -- ---- each symbol of a task is in its table
 record HasThing (os : List Occurrence) (k : ℕ) : Type 0 where
@@ -48,13 +49,6 @@ record HasThing (os : List Occurrence) (k : ℕ) : Type 0 where
   pub there : slice_get os place ≡ Some thing
   pub symbol : thing.symbol ≡ k
   pub types : thing.types ≡ Leaf HEnd
-
-both : (a b : Bool) → (a && b) ≡ true → (a ≡ true) × (b ≡ true)
-both true b e = (refl, e)
-both false b e = absurd (cc)
-
-same_number : (x y : ℕ) → (x == y) ≡ true → x ≡ y
-same_number x y e = grind (arith, nat_tests)
 
 kept : {X : Type 0} (p : X → Bool) (os : List X) (i : ℕ) (o : X) → slice_get os i ≡ Some o → p o ≡ true → (j : ℕ) × (slice_get (filter p os) j ≡ Some o)
 kept p [] i o e t = absurd (cc)

@@ -31,16 +31,12 @@ use Rattle.written_files.specs.Named.{AreWords}
 use Rattle.written_files.specs.Words.{StepBack}
 use Rattle.written_files.specs.Written.{joined_words, ReadsTo, IsText, read_with, AddsSteps, AddsFirst}
 use Rattle.written_files.proofs.Plain.{line_plain}
+use Rattle.tree_writing.proofs.Whole.{whole_more}
+use Rattle.rule_words.proofs.ReadBack.{first_of, rest_of}
 
 -- no line feed
 abbrev NoFeed : List ℕ → Type 0
 NoFeed l = All (λ c. c ≢ 10) l
-
-rest_of : {X : Type 0} (P : X → Type 0) (x : X) (xs : List X) → All P (x ∷ xs) → All P xs
-rest_of P x xs a k d h = a (suc k) d (omega arith)
-
-first_of : {X : Type 0} (P : X → Type 0) (x : X) (xs : List X) → All P (x ∷ xs) → P x
-first_of P x xs a = a 0 x (omega arith)
 
 no_space : (w : List ℕ) → IsLineWord w → All (λ c. (c == 32) ≡ false) w
 no_space w a k d h = let n = (a k d h).0 in grind (arith, nat_tests)
@@ -61,10 +57,6 @@ line_front (c ∷ cs) rest a =
 lines_back : (ls : List (List ℕ)) → All NoFeed ls → lines_of (whole_text ls) ≡ ls
 lines_back [] a = refl
 lines_back (l ∷ ls) a = line_front l (whole_text ls) (first_of NoFeed l ls a) ∙ ap (λ m. l ∷ m) (lines_back ls (rest_of NoFeed l ls a))
-
-whole_more : (ls : List (List ℕ)) (l : List ℕ) → whole_text (ls ++ l ∷ []) ≡ whole_text ls ++ (l ++ (10 ∷ []))
-whole_more [] l = refl
-whole_more (m ∷ ms) l = ap (λ (z : List ℕ). m ++ (10 ∷ z)) (whole_more ms l) ∙ sym (append_assoc m (10 ∷ whole_text ms) (l ++ (10 ∷ [])))
 
 word_feed : (w : List ℕ) → IsLineWord w → NoFeed w
 word_feed w a k d h = (a k d h).1

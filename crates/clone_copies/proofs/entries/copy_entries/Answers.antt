@@ -12,8 +12,8 @@ use Rattle.clones.specs.Meaning.{map_at}
 use Rattle.clones.proofs.Steps.{map_held, map_stays, known_on, known_back}
 use Rattle.clones.specs.Copies.{entry_copied}
 use Rattle.clone_copies.specs.Entries.{entries_copied}
-use Rattle.clone_copies.proofs.Passed.{no_ok, no_value}
 use Rattle.clone_copies.proofs.entries.copy_entries.Goals as goal
+use Rattle.outside.proofs.Passed.{no_ok, no_value}
 
 pub copy_entry-requires-clause-map_held : goal.copy_entry-requires-clause-map_held
 copy_entry-requires-clause-map_held c = map_held c.args.store.now c.loop-symbol.store c.loop-symbol.invariant.grows c.args.morphism.now c.requires.map_held

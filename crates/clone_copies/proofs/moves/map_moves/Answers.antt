@@ -9,8 +9,8 @@ use Rattle.clones.specs.Meaning.{map_at}
 use Rattle.clones.proofs.Steps.{map_held, map_stays, known_on, known_back}
 use Rattle.clone_copies.specs.Moves.{IsMoveMapped, MoveHeld}
 use Rattle.clone_copies.proofs.Moved.{move_grows, move_held_grows, each_more}
-use Rattle.clone_copies.proofs.Passed.{no_ok, no_value}
 use Rattle.clone_copies.proofs.moves.map_moves.Goals as goal
+use Rattle.outside.proofs.Passed.{no_ok, no_value}
 
 pub map_move-requires-clause-map_held : goal.map_move-requires-clause-map_held
 map_move-requires-clause-map_held c = map_held c.args.store.now c.loop-step.store c.loop-step.invariant.grows c.args.morphism.now c.requires.map_held

@@ -3,8 +3,8 @@ use Rattle.std.proofs.lemmas.List.{at_drop_more}
 use Rattle.indexmap.specs.IndexMap.{get}
 use Rattle.theory_states.specs.declared.states.AxiomAt.{AxiomAt}
 use Rattle.clone_copies.specs.Origins.{Axioms, with_axioms}
-use Rattle.clone_copies.proofs.Passed.{no_ok}
 use Rattle.clone_copies.proofs.origins.enter_axioms.Goals as goal
+use Rattle.outside.proofs.Passed.{no_ok}
 
 pub loop-it-preserved : goal.loop-it-preserved
 loop-it-preserved c =

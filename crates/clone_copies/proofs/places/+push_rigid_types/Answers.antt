@@ -8,8 +8,8 @@ use Rattle.elab_walk.specs.Drafts.{HoldsType}
 use Rattle.elab_walk.proofs.Growing.{types_stay, types_more}
 use Rattle.elab_walk.proofs.Taking.{mapped_more}
 use Rattle.clone_copies.specs.Places.{rigid_types}
-use Rattle.clone_copies.proofs.Passed.{no_ok}
 use Rattle.clone_copies.proofs.places.+push_rigid_types.Goals as goal
+use Rattle.outside.proofs.Passed.{no_ok}
 
 pub returns-clause-trees : goal.returns-clause-trees
 returns-clause-trees t c =

@@ -5,10 +5,10 @@ use Rattle.trees.specs.Node.{tree_at}
 use Rattle.trees.specs.Binding.{inst_types}
 use Rattle.trees.proofs.Nodes.{tree_at-grows}
 use Rattle.tasks.specs.Meaning.{trees_at}
-use Rattle.elab_parts.proofs.Putting.{hold_types}
 use Rattle.clone_copies.specs.Places.{rigid_types}
-use Rattle.clone_copies.proofs.Passed.{no_value}
 use Rattle.clone_copies.proofs.places.at_rigid.Goals as goal
+use Rattle.elab_walk.proofs.Forming.{hold_types}
+use Rattle.outside.proofs.Passed.{no_value}
 
 pub inst_types-requires-clause-types : goal.inst_types-requires-clause-types
 inst_types-requires-clause-types c = rw c.as_slice.ensures.value (hold_types c.push_rigid_types.new.store c.push_rigid_types.new.types.items c.in_ok-push_rigid_types.ensures.held)

@@ -15,8 +15,8 @@ use Rattle.clone_elements.specs.Plans.{is_replaced}
 use Rattle.clone_copies.specs.Places.{Copying, with_copy, copy_of}
 use Rattle.clone_copies.specs.Meaning.{copying_at, bare_at}
 use Rattle.clone_copies.proofs.Bare.{bare_grows, copying_stays}
-use Rattle.clone_copies.proofs.Passed.{no_ok}
 use Rattle.clone_copies.proofs.places.copy_own.Goals as goal
+use Rattle.outside.proofs.Passed.{no_ok}
 
 pub push_copy-requires-clause-held : goal.push_copy-requires-clause-held
 push_copy-requires-clause-held c = held_grows c.args.store.now c.copy_decl.new.store c.copy_decl.ensures.grows c.args.typed.now c.args.open.now c.requires.held

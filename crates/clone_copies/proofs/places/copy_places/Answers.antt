@@ -10,8 +10,8 @@ use Rattle.clone_copies.specs.Places.{Copying, with_place, with_places}
 use Rattle.clone_copies.specs.Meaning.{copying_at, bare_at}
 use Rattle.clone_copies.proofs.Bare.{copying_stays}
 use Rattle.clone_copies.proofs.Longer.{place_longer}
-use Rattle.clone_copies.proofs.Passed.{no_ok}
 use Rattle.clone_copies.proofs.places.copy_places.Goals as goal
+use Rattle.outside.proofs.Passed.{no_ok}
 
 pub copy_place-requires-clause-map_held : goal.copy_place-requires-clause-map_held
 copy_place-requires-clause-map_held c = map_held c.args.store.now c.loop-place.store c.loop-place.invariant.grows c.args.job.now.morphism.now c.requires.map_held

@@ -6,8 +6,8 @@ use Rattle.goal_tasks.specs.declared.theories.GoalAt.{GoalAt}
 use Rattle.goal_tasks.specs.Meaning.{goal_at}
 use Rattle.clone_copies.specs.Places.{next_numbers, rigid_types, goal_of}
 use Rattle.clone_copies.proofs.Bare.{goal_bare, goal_held}
-use Rattle.clone_copies.proofs.Passed.{no_ok}
 use Rattle.clone_copies.proofs.places.push_goal_of.Goals as goal
+use Rattle.outside.proofs.Passed.{no_ok}
 
 pub returns-clause-state : goal.returns-clause-state
 returns-clause-state c =

@@ -8,8 +8,8 @@ use Rattle.theory_states.specs.States.{with_declaration}
 use Rattle.clone_copies.specs.Places.{with_copied_goal, with_kind}
 use Rattle.clone_copies.specs.Meaning.{bare_at}
 use Rattle.clone_copies.proofs.Bare.{declared_bare}
-use Rattle.clone_copies.proofs.Passed.{no_ok}
 use Rattle.clone_copies.proofs.places.push_kind.Goals as goal
+use Rattle.outside.proofs.Passed.{no_ok}
 
 pub returns-in_ok-push_decl-in-Ok-clause-state : goal.returns-in_ok-push_decl-in-Ok-clause-state
 returns-in_ok-push_decl-in-Ok-clause-state c =

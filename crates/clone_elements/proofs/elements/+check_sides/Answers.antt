@@ -13,10 +13,10 @@ use Rattle.clone_elements.specs.Plans.{SideTree, with_side, with_sides}
 use Rattle.clone_elements.specs.Elements.{SideTold}
 use Rattle.clone_elements.specs.Origins.{origin_at}
 use Rattle.clone_elements.specs.Meaning.{side_at, sides_at, SideHeld, fates_at}
-use Rattle.clone_elements.proofs.Compared.{no_value}
 use Rattle.clone_elements.proofs.Growing.{sides_stay, sides_grow}
 use Rattle.clone_elements.proofs.Told.{told_moved, origin_stays}
 use Rattle.clone_elements.proofs.elements.+check_sides.Goals as goal
+use Rattle.outside.proofs.Passed.{no_value}
 
 tail_held : (s : List Tree) (xs ys : List CodeSide) (y : CodeSide) → xs ≡ y ∷ ys → All (SideHeld s) xs → All (SideHeld s) ys
 tail_held s xs ys y q h = let g : All (SideHeld s) (y ∷ ys) = subst (All (SideHeld s)) q h in λ k d l. g (suc k) d (omega arith)

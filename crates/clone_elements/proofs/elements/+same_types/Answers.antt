@@ -9,8 +9,9 @@ use Rattle.tasks.proofs.Growth.{tree_later, trees_later, all_held_later}
 use Rattle.clones.specs.Mapped.{Map, mapped}
 use Rattle.clones.specs.Meaning.{map_at}
 use Rattle.clones.proofs.Steps.{map_held, map_stays, known_on, known_back}
-use Rattle.clone_elements.proofs.Compared.{cons_tells, no_ok, no_value}
+use Rattle.clone_elements.proofs.Compared.{cons_tells}
 use Rattle.clone_elements.proofs.elements.+same_types.Goals as goal
+use Rattle.outside.proofs.Passed.{no_ok, no_value}
 
 tail_held : (s : List Tree) (xs ys : List TermId) (y : TermId) → xs ≡ y ∷ ys → All (Holds s) xs → All (Holds s) ys
 tail_held s xs ys y q h = let g : All (Holds s) (y ∷ ys) = subst (All (Holds s)) q h in λ k d l. g (suc k) d (omega arith)

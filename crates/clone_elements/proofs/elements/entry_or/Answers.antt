@@ -3,8 +3,9 @@ use Rattle.std.proofs.lemmas.Option.{slice_get_within, get_or_from_slice_get}
 use Rattle.tasks.specs.declared.signature.SymbolInfo.{SymbolInfo}
 use Rattle.tasks.specs.Task.{int_symbol}
 use Rattle.tasks.specs.Meaning.{symbol_at, SymbolHeld}
-use Rattle.clone_elements.proofs.Looked.{got_some, got_none, first_is}
+use Rattle.clone_elements.proofs.Looked.{got_some, first_is}
 use Rattle.clone_elements.proofs.elements.entry_or.Goals as goal
+use Rattle.plain_laws.proofs.Lists.{got_none}
 
 pub returns-in-None-clause-entry : goal.returns-in-None-clause-entry
 returns-in-None-clause-entry c = λ s e.

@@ -12,8 +12,8 @@ use Rattle.clone_elements.specs.Plans.{SideTree, no_fates, kept, map_of, tried_m
 use Rattle.clone_elements.specs.Elements.{SidesTold}
 use Rattle.clone_elements.specs.Origins.{origin_at}
 use Rattle.clone_elements.specs.Meaning.{sides_at, IsElementRefused}
-use Rattle.clone_elements.proofs.Compared.{no_ok}
 use Rattle.clone_elements.proofs.elements.find_fates.Goals as goal
+use Rattle.outside.proofs.Passed.{no_ok}
 
 -- the map over these types is the one by which signatures are compared
 tried_is : (symbols : List SymbolTree) (o : Origin) (xs : List SideTree) (m : Map) (ts : List (ℕ × Tree)) (n : ℕ) → ts ≡ types_replaced symbols o xs → n ≡ length symbols → m ≡ map_of ts [] n (kept o no_fates) → m ≡ tried_map symbols o xs

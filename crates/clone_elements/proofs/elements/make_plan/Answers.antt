@@ -7,8 +7,9 @@ use Rattle.clone_elements.specs.Origins.{origin_at}
 use Rattle.clone_elements.specs.Meaning.{sides_at, type_pairs_at, symbol_pairs, TypeForHeld, IsElementRefused}
 use Rattle.clone_elements.proofs.Looked.{empty_fates}
 use Rattle.clone_elements.proofs.Growing.{types_for_stay, types_for_grow}
-use Rattle.clone_elements.proofs.Compared.{err_passed, no_ok, no_value}
+use Rattle.clone_elements.proofs.Compared.{err_passed}
 use Rattle.clone_elements.proofs.elements.make_plan.Goals as goal
+use Rattle.outside.proofs.Passed.{no_ok, no_value}
 
 pub find_fates-requires-clause-signature : goal.find_fates-requires-clause-signature
 find_fates-requires-clause-signature c = c.requires.signature

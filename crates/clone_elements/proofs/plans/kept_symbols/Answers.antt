@@ -4,8 +4,8 @@ use mathlib.Core.List.{append-nil}
 use Rattle.clone_elements.specs.Plans.{kept_at, kept_of}
 use Rattle.clone_elements.specs.Origins.{origin_at}
 use Rattle.clone_elements.specs.Meaning.{fates_at}
-use Rattle.clone_elements.proofs.Compared.{no_value}
 use Rattle.clone_elements.proofs.plans.kept_symbols.Goals as goal
+use Rattle.outside.proofs.Passed.{no_value}
 
 pub loop-place-preserved : goal.loop-place-preserved
 loop-place-preserved c = λ s.

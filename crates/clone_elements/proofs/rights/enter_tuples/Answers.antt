@@ -6,8 +6,8 @@ use Rattle.elab_variables.specs.Seen.{SeenTree, form_seen}
 use Rattle.elab_variables.specs.Entered.{seen_at}
 use Rattle.elab_parts.specs.Elaborated.{unseen}
 use Rattle.elab_parts.specs.Entries.{wanting_tuples, IsExtended}
-use Rattle.clone_elements.proofs.Compared.{no_ok}
 use Rattle.clone_elements.proofs.rights.enter_tuples.Goals as goal
+use Rattle.outside.proofs.Passed.{no_ok}
 
 pub push_tuples-requires : goal.push_tuples-requires
 push_tuples-requires c = c.requires

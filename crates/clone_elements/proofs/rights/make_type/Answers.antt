@@ -12,8 +12,9 @@ use Rattle.elab_parts.specs.Outcomes.{over}
 use Rattle.elab_parts.proofs.Entering.{extended_grows}
 use Rattle.elab_parts.proofs.Tupled.{over_extended, form_within, scopes_extended}
 use Rattle.clone_elements.specs.Rights.{type_tuples}
-use Rattle.clone_elements.proofs.Compared.{always, no_ok, no_value}
 use Rattle.clone_elements.proofs.rights.make_type.Goals as goal
+use Rattle.plain_laws.proofs.Results.{ok_any as always}
+use Rattle.outside.proofs.Passed.{no_ok, no_value}
 
 pub enter_tuples-requires : goal.enter_tuples-requires
 enter_tuples-requires c = c.requires.signature

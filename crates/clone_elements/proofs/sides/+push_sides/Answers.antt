@@ -20,10 +20,10 @@ use Rattle.clone_elements.specs.Rights.{right_tuples, right_made, right_fault, r
 use Rattle.clone_elements.specs.Plans.{SideTree, sides_made}
 use Rattle.clone_elements.specs.Origins.{place_at}
 use Rattle.clone_elements.specs.Meaning.{side_at, sides_at, SideHeld}
-use Rattle.clone_elements.proofs.Compared.{no_ok}
 use Rattle.clone_elements.proofs.Growing.{sides_stay, sides_grow}
 use Rattle.clone_elements.proofs.Sided.{sides_made_stay, rights_fault_stay}
 use Rattle.clone_elements.proofs.sides.+push_sides.Goals as goal
+use Rattle.outside.proofs.Passed.{no_ok}
 
 pub push_sides-requires : goal.push_sides-requires
 push_sides-requires t c =

@@ -2,8 +2,8 @@ use Rattle.std.proofs.Common.{◌∙◌}
 use Rattle.trees.proofs.Nodes.{Grows_refl}
 use Rattle.clones.specs.Meaning.{map_at}
 use Rattle.clone_theories.proofs.Contents.{planned_renaming}
-use Rattle.clone_theories.proofs.Passed.{no_ok, no_value}
 use Rattle.clone_theories.proofs.copying.copy_contents.Goals as goal
+use Rattle.outside.proofs.Passed.{no_ok, no_value}
 
 pub rename-requires : goal.rename-requires
 rename-requires c = c.requires.types

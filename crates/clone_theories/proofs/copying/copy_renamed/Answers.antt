@@ -6,8 +6,8 @@ use Rattle.clones.proofs.Steps.{map_held, known_on}
 use Rattle.clone_copies.specs.Moves.{MoveHeld}
 use Rattle.clone_theories.proofs.Kept.{moves_held_later}
 use Rattle.clone_theories.proofs.Contents.{moves_are_held, visible_below, copies_kept, held_made, contents}
-use Rattle.clone_theories.proofs.Passed.{no_ok, no_value}
 use Rattle.clone_theories.proofs.copying.copy_renamed.Goals as goal
+use Rattle.outside.proofs.Passed.{no_ok, no_value}
 
 pub copy_symbols-requires-clause-signature : goal.copy_symbols-requires-clause-signature
 copy_symbols-requires-clause-signature c = c.requires.ready.held.typed.signature

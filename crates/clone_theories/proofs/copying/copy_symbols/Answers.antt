@@ -8,8 +8,8 @@ use Rattle.clones.proofs.Steps.{map_held, map_stays, known_on, known_back}
 use Rattle.elab_parts.proofs.Entering.{entries_stay, signature_grows}
 use Rattle.clone_copies.specs.Entries.{entries_copied}
 use Rattle.clone_theories.proofs.Kept.{all_held, signature_made, moves_held_later, moves_grow}
-use Rattle.clone_theories.proofs.Passed.{no_ok, no_value}
 use Rattle.clone_theories.proofs.copying.copy_symbols.Goals as goal
+use Rattle.outside.proofs.Passed.{no_ok, no_value}
 
 pub push_entries-requires-clause-int : goal.push_entries-requires-clause-int
 push_entries-requires-clause-int c = (signature_grows c.args.store.now c.map_moves.new.store c.map_moves.ensures.grows c.args.sig.now.symbols c.requires.signature).int

@@ -6,8 +6,8 @@ use Rattle.clone_elements.specs.Plans.{map_of}
 use Rattle.clone_elements.specs.Origins.{origin_at}
 use Rattle.clone_elements.specs.Meaning.{type_pairs_at, symbol_pairs}
 use Rattle.clone_theories.specs.Planned.{planned_kept}
-use Rattle.clone_theories.proofs.Passed.{no_value}
 use Rattle.clone_theories.proofs.copying.rename.Goals as goal
+use Rattle.outside.proofs.Passed.{no_value}
 
 pub returns : goal.returns
 returns c =

@@ -9,8 +9,8 @@ use Rattle.tasks.specs.Task.{BodyTree, MakesType, Makes, Defines, Induces, Const
 use Rattle.tasks.specs.Meaning.{definitions_at, inductives_at, algebraics_at, body_at, InductiveHeld, AlgebraicHeld, BodyHeld}
 use Rattle.clones.specs.Meaning.{map_at}
 use Rattle.clones.specs.Copies.{DefHeld, body_mapped}
-use Rattle.clones.proofs.Loops.{no_ok, no_value}
 use Rattle.clones.proofs.copies.copy_body.Goals as goal
+use Rattle.outside.proofs.Passed.{no_ok, no_value}
 
 pub copy_defs-requires-clause-map_held : goal.copy_defs-requires-clause-map_held
 copy_defs-requires-clause-map_held c = c.requires.map_held

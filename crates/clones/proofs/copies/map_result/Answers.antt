@@ -5,8 +5,8 @@ use Rattle.trees.specs.Tree.{Tree}
 use Rattle.trees.specs.Node.{tree_at, Holds}
 use Rattle.clones.specs.Mapped.{mapped}
 use Rattle.clones.specs.Meaning.{map_at}
-use Rattle.clones.proofs.Loops.{no_ok, no_value}
 use Rattle.clones.proofs.copies.map_result.Goals as goal
+use Rattle.outside.proofs.Passed.{no_ok, no_value}
 
 pub map_tree-requires-clause-map_held : goal.map_tree-requires-clause-map_held
 map_tree-requires-clause-map_held c = c.requires.map_held

@@ -6,8 +6,9 @@ use Rattle.clones.specs.Mapped.{mapped}
 use Rattle.trees.proofs.Nodes.{Grows_trans}
 use Rattle.clones.proofs.Steps.{map_held, known_on}
 use Rattle.clones.proofs.Stays.{tree_stays, tree_held}
-use Rattle.clones.proofs.Loops.{copied_none, copied_all, copied_next, no_ok, no_value}
+use Rattle.clones.proofs.Loops.{copied_none, copied_all, copied_next}
 use Rattle.clones.proofs.copies.map_trees.Goals as goal
+use Rattle.outside.proofs.Passed.{no_ok, no_value}
 
 abbrev none : TermId
 none = record { 0 = 0 }

@@ -17,8 +17,9 @@ use Rattle.elab_groups.specs.declared.solving.Bodies.{Bodies}
 use Rattle.elab_groups.specs.Groups.{most_variables, bodies_pieces, pieces_notes, pieces_trees, BodiesSolved}
 use Rattle.elab_groups.specs.Bodies.{AreDefined, AreBodies, AreBodiesWalked, BodiesHeld}
 use Rattle.elab_groups.proofs.BodiesBelow.{bodies_bounded}
-use Rattle.elab_groups.proofs.BodiesSolved.{solved_moved, fault_moved, bounded_moved, if_ok_both}
+use Rattle.elab_groups.proofs.BodiesSolved.{solved_moved, fault_moved, bounded_moved}
 use Rattle.elab_groups.proofs.solving.solve_group.Goals as goal
+use Rattle.plain_laws.proofs.Results.{if_ok_both}
 
 pub walk_bodies-requires-clause-ready : goal.walk_bodies-requires-clause-ready
 walk_bodies-requires-clause-ready c = begun_ready c.args.store.now c.in_ok-draft.draft c.in_ok-draft.ensures.equations c.in_ok-draft.ensures.matches

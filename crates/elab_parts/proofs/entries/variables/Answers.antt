@@ -7,8 +7,7 @@ use Rattle.tasks.specs.Meaning.{trees_at}
 use Rattle.tasks.specs.Equations.{type_variables}
 use Rattle.elab_walk.specs.Drafts.{HoldsType}
 use Rattle.elab_walk.proofs.Growing.{types_more, types_stay}
-use Rattle.elab_walk.proofs.Taking.{mapped_more}
-use Rattle.elab_parts.proofs.Entering.{variables_last}
+use Rattle.elab_walk.proofs.Taking.{mapped_more, variables_more as variables_last}
 use Rattle.elab_parts.proofs.entries.variables.Goals as goal
 
 pub loop-number-preserved : goal.loop-number-preserved

@@ -2,8 +2,9 @@ use Rattle.std.proofs.Common.{length, ap, arith}
 use Rattle.std.proofs.lemmas.Result.{on_ok_weaker}
 use Rattle.trees.specs.Node.{Holds}
 use Rattle.elab_walk.proofs.Growing.{types_grow}
-use Rattle.elab_parts.proofs.Putting.{all_rest, all_held, held_more, put_step, hold_types}
+use Rattle.elab_parts.proofs.Putting.{all_rest, all_held, held_more, put_step}
 use Rattle.elab_parts.proofs.solution.+put_trees.Goals as goal
+use Rattle.elab_walk.proofs.Forming.{hold_types}
 
 pub inst_types-requires-clause-types : goal.inst_types-requires-clause-types
 inst_types-requires-clause-types t c = hold_types c.args.store.now c.args.types.now c.requires.types

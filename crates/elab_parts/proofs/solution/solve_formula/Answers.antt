@@ -13,9 +13,9 @@ use Rattle.tasks.specs.Meaning.{trees_at}
 use Rattle.elab_parts.specs.Elaborated.{IsTypingFault}
 use Rattle.elab_parts.specs.Values.{AreSolvedTypes, notes_after, match_instance}
 use Rattle.elab_parts.proofs.MatchesBelow.{MatchesBelow, matches_bounded}
-use Rattle.elab_parts.proofs.Putting.{hold_types}
 use Rattle.elab_parts.proofs.Solving.{begun_behind, begun_ready, formula_solved, if_err}
 use Rattle.elab_parts.proofs.solution.solve_formula.Goals as goal
+use Rattle.elab_walk.proofs.Forming.{hold_types}
 
 pub walk-requires : goal.walk-requires
 walk-requires c = record {

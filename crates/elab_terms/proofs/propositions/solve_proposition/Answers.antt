@@ -10,8 +10,9 @@ use Rattle.elab_parts.specs.Entries.{wanting_tuples, IsExtended}
 use Rattle.elab_parts.specs.Outcomes.{over}
 use Rattle.elab_parts.proofs.Entering.{extended_grows}
 use Rattle.elab_parts.proofs.Tupled.{over_extended, formula_resolved}
-use Rattle.elab_terms.proofs.Over.{always, solved_over, fault_over}
+use Rattle.elab_terms.proofs.Over.{solved_over, fault_over}
 use Rattle.elab_terms.proofs.propositions.solve_proposition.Goals as goal
+use Rattle.plain_laws.proofs.Results.{ok_any as always}
 
 pub solve_formula-requires-clause-resolved : goal.solve_formula-requires-clause-resolved
 solve_formula-requires-clause-resolved c =

@@ -18,9 +18,9 @@ use Rattle.elab_parts.specs.Entries.{wanting_tuples}
 use Rattle.elab_parts.specs.Outcomes.{over, setting, declared_in, IsKept}
 use Rattle.elab_parts.proofs.Refused.{made_refusal, used_refusal}
 use Rattle.elab_terms.specs.Outcomes.{alias_seen, IsElaborated, IsRefusal}
-use Rattle.elab_terms.proofs.Over.{words_texts}
 use Rattle.elab_terms.proofs.TypesMade.{alias_elaborated, alias_kept}
 use Rattle.elab_terms.proofs.types.elaborate_alias.Goals as goal
+use Rattle.elab_types.proofs.Counted.{words_texts}
 
 pub returns-in-Ok-used-clause-ok : goal.returns-in-Ok-used-clause-ok
 returns-in-Ok-used-clause-ok c =

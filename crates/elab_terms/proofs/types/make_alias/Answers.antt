@@ -14,8 +14,8 @@ use Rattle.elab_parts.specs.Outcomes.{over}
 use Rattle.elab_parts.proofs.Entering.{extended_grows}
 use Rattle.elab_parts.proofs.Tupled.{over_extended, form_within}
 use Rattle.elab_terms.specs.Outcomes.{alias_seen}
-use Rattle.elab_terms.proofs.Over.{always}
 use Rattle.elab_terms.proofs.types.make_alias.Goals as goal
+use Rattle.plain_laws.proofs.Results.{ok_any as always}
 
 pub returns-clause-entries : goal.returns-clause-entries
 returns-clause-entries c =

@@ -1,9 +1,10 @@
 use Rattle.std.proofs.Common.{rules, ◌∙◌}
 use Rattle.trees.specs.Node.{tree_at, Holds}
 use Rattle.tasks.specs.Meaning.{trees_at}
-use Rattle.rule_rows.proofs.Sequents.{no, not_so}
+use Rattle.rule_rows.proofs.Sequents.{not_so}
 use Rattle.fact_rows.proofs.Cells.{all_rest, more_at, no_first}
 use Rattle.fact_rows.proofs.parts.+are_equations.Goals as goal
+use Rattle.tasks.proofs.Declared.{no}
 
 pub returns-then-not-is_equation : goal.returns-then-not-is_equation
 returns-then-not-is_equation t c =

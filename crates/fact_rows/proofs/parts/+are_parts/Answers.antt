@@ -3,9 +3,10 @@ use Rattle.trees.specs.declared.Op.TheVariants.{Imp}
 use Rattle.trees.specs.Node.{tree_at}
 use Rattle.tasks.specs.Equations.{bound_variables}
 use Rattle.tasks.specs.Meaning.{trees_at}
-use Rattle.rule_rows.proofs.Sequents.{so, no, not_so}
+use Rattle.rule_rows.proofs.Sequents.{so, not_so}
 use Rattle.fact_rows.proofs.Putting.{parts_at, both_parts}
 use Rattle.fact_rows.proofs.parts.+are_parts.Goals as goal
+use Rattle.tasks.proofs.Declared.{no}
 
 pub returns-else-not-is_put : goal.returns-else-not-is_put
 returns-else-not-is_put t c =

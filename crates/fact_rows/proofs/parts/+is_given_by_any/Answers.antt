@@ -1,9 +1,9 @@
 use Rattle.std.proofs.Common.{rules, ◌∙◌, length}
 use Rattle.trees.specs.Node.{tree_at, Holds}
-use Rattle.rule_rows.proofs.Sequents.{no}
 use Rattle.fact_rows.proofs.Lists.{not_empty}
 use Rattle.fact_rows.proofs.Cells.{all_rest, more_clauses}
 use Rattle.fact_rows.proofs.parts.+is_given_by_any.Goals as goal
+use Rattle.tasks.proofs.Declared.{no}
 
 pub is_given_by_any-requires : goal.is_given_by_any-requires
 is_given_by_any-requires t c = (

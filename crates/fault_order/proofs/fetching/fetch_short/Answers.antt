@@ -4,8 +4,9 @@ use Rattle.outside.specs.State.{IsFront}
 use Rattle.fault_order.specs.Answers.{Reaches}
 use Rattle.fault_order.specs.Order.{ShortFile, refused}
 use Rattle.fault_order.specs.declared.faults.Fault.TheVariants.{TooLong}
-use Rattle.fault_order.proofs.Meeting.{told, short_file-ok, short_file-long, if_short-long}
+use Rattle.fault_order.proofs.Meeting.{short_file-ok, short_file-long, if_short-long}
 use Rattle.fault_order.proofs.fetching.fetch_short.Goals as goal
+use Rattle.plain_laws.proofs.Options.{if_some as told}
 
 pub returns-then-len-eq-MOST : goal.returns-then-len-eq-MOST
 returns-then-len-eq-MOST g c =

@@ -9,8 +9,8 @@ use Rattle.goal_tasks.specs.Named.{named, all_named, formulas_of}
 use Rattle.goal_tasks.specs.Gathered.{Walks}
 use Rattle.goal_tasks.proofs.Lists.{walks_step, flat_more_all}
 use Rattle.goal_tasks.proofs.Steps.{walks_none}
-use Rattle.goal_tasks.proofs.Passed.{no_ok}
 use Rattle.goal_tasks.proofs.declarations.note_clauses.Goals as goal
+use Rattle.outside.proofs.Passed.{no_ok}
 
 pub loop-inductive-init : goal.loop-inductive-init
 loop-inductive-init c = walks_none c.args.store.now _ _ c.requires.walk

@@ -4,9 +4,9 @@ use Rattle.tasks.specs.Task.{made_by}
 use Rattle.tasks.specs.Meaning.{symbols_at, body_at}
 use Rattle.goal_tasks.specs.Named.{signatures_named}
 use Rattle.goal_tasks.specs.Gathered.{Walks}
-use Rattle.goal_tasks.proofs.Passed.{no_ok}
 use Rattle.goal_tasks.proofs.Steps.{walks_then}
 use Rattle.goal_tasks.proofs.declarations.note_declaration.Goals as goal
+use Rattle.outside.proofs.Passed.{no_ok}
 
 pub returns-in_err-made : goal.returns-in_err-made
 returns-in_err-made c = no_ok _ _ c.from_residual.result c.from_residual.ensures.1

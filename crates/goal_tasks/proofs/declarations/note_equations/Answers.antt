@@ -7,8 +7,8 @@ use Rattle.goal_tasks.specs.Named.{named, all_named, formulas_of}
 use Rattle.goal_tasks.specs.Gathered.{Walks}
 use Rattle.goal_tasks.proofs.Lists.{walks_step, flat_more_each}
 use Rattle.goal_tasks.proofs.Steps.{walks_none}
-use Rattle.goal_tasks.proofs.Passed.{no_ok}
 use Rattle.goal_tasks.proofs.declarations.note_equations.Goals as goal
+use Rattle.outside.proofs.Passed.{no_ok}
 
 pub loop-def-init : goal.loop-def-init
 loop-def-init c = walks_none c.args.store.now _ _ c.requires.walk

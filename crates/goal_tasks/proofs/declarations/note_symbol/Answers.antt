@@ -8,10 +8,10 @@ use Rattle.tasks.specs.Task.{SymbolTree, symbol_or, int_symbol}
 use Rattle.tasks.specs.Meaning.{trees_at, symbol_at, symbols_at, SymbolHeld}
 use Rattle.goal_tasks.specs.Named.{all_named, option_named, signature_named}
 use Rattle.goal_tasks.specs.Gathered.{Walks}
-use Rattle.goal_tasks.proofs.Passed.{no_ok}
 use Rattle.goal_tasks.proofs.Lists.{walks_step}
 use Rattle.goal_tasks.proofs.Steps.{walks_none}
 use Rattle.goal_tasks.proofs.declarations.note_symbol.Goals as goal
+use Rattle.outside.proofs.Passed.{no_ok}
 
 missing : (s : List Tree) (xs : List SymbolInfo) (k : ℕ) → None ≡ slice_get xs k → int_symbol ≡ symbol_or (symbols_at s xs) k
 missing s [] k e = refl

@@ -4,10 +4,11 @@ use Rattle.tasks.specs.Task.{symbol_or}
 use Rattle.tasks.specs.Meaning.{symbols_at}
 use Rattle.goal_tasks.specs.Named.{signature_named, signatures_named}
 use Rattle.goal_tasks.specs.Gathered.{Walks}
-use Rattle.goal_tasks.proofs.Lists.{walks_step, flat_take}
+use Rattle.goal_tasks.proofs.Lists.{walks_step}
 use Rattle.goal_tasks.proofs.Steps.{walks_none}
-use Rattle.goal_tasks.proofs.Passed.{no_ok}
 use Rattle.goal_tasks.proofs.declarations.note_symbols.Goals as goal
+use Rattle.plain_laws.proofs.Lists.{flat_take}
+use Rattle.outside.proofs.Passed.{no_ok}
 
 pub loop-symbol-init : goal.loop-symbol-init
 loop-symbol-init c = walks_none c.args.store.now _ _ c.requires.walk

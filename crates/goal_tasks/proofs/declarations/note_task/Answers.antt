@@ -6,10 +6,11 @@ use Rattle.tasks.specs.Task.{DeclarationTree}
 use Rattle.tasks.specs.Meaning.{symbols_at, body_at, declaration_at, declarations_at}
 use Rattle.goal_tasks.specs.Named.{body_named, declarations_named}
 use Rattle.goal_tasks.specs.Gathered.{Walks}
-use Rattle.goal_tasks.proofs.Lists.{walks_step, flat_more}
+use Rattle.goal_tasks.proofs.Lists.{walks_step}
 use Rattle.goal_tasks.proofs.Steps.{walks_none, walks_then}
-use Rattle.goal_tasks.proofs.Passed.{no_ok}
 use Rattle.goal_tasks.proofs.declarations.note_task.Goals as goal
+use Rattle.plain_laws.proofs.Lists.{flat_more}
+use Rattle.outside.proofs.Passed.{no_ok}
 
 pub loop-decl-init : goal.loop-decl-init
 loop-decl-init c = walks_none c.args.store.now _ _ c.requires.walk

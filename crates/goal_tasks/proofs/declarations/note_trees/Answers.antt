@@ -4,10 +4,11 @@ use Rattle.trees.specs.declared.TermId.{TermId}
 use Rattle.trees.specs.Node.{tree_at, trees_at}
 use Rattle.goal_tasks.specs.Named.{named, all_named}
 use Rattle.goal_tasks.specs.Gathered.{Walks}
-use Rattle.goal_tasks.proofs.Lists.{walks_step, flat_more}
+use Rattle.goal_tasks.proofs.Lists.{walks_step}
 use Rattle.goal_tasks.proofs.Steps.{walks_none}
-use Rattle.goal_tasks.proofs.Passed.{no_ok}
 use Rattle.goal_tasks.proofs.declarations.note_trees.Goals as goal
+use Rattle.plain_laws.proofs.Lists.{flat_more}
+use Rattle.outside.proofs.Passed.{no_ok}
 
 abbrev no_id : TermId
 no_id = record { 0 = 0 }

@@ -3,8 +3,8 @@ use Rattle.std.proofs.lemmas.List.{take_min}
 use Rattle.tasks.specs.declared.declaration.Decl.{Decl}
 use Rattle.goal_tasks.specs.Meaning.{placed}
 use Rattle.goal_tasks.proofs.Placed.{placed_more}
-use Rattle.goal_tasks.proofs.Passed.{no_value}
 use Rattle.goal_tasks.proofs.making.declarations_at.Goals as goal
+use Rattle.outside.proofs.Passed.{no_value}
 
 pub loop-at-preserved : goal.loop-at-preserved
 loop-at-preserved c =

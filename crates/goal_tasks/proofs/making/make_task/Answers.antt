@@ -7,8 +7,8 @@ use Rattle.tasks.specs.Task.{DeclarationTree, TaskTree}
 use Rattle.tasks.specs.Meaning.{trees_at, symbols_at, declarations_at, SymbolHeld}
 use Rattle.goal_tasks.specs.Tasks.{task_for}
 use Rattle.goal_tasks.specs.Meaning.{goal_at, theory_at, theories_at}
-use Rattle.goal_tasks.proofs.Passed.{no_value}
 use Rattle.goal_tasks.proofs.making.make_task.Goals as goal
+use Rattle.outside.proofs.Passed.{no_value}
 
 pub task_decls-requires-clause-held : goal.task_decls-requires-clause-held
 task_decls-requires-clause-held c = c.requires.held

@@ -1,8 +1,8 @@
 use Rattle.std.proofs.Common.{◌++◌, Option, option_to_list, sym, ap, ◌∙◌}
 use Rattle.std.proofs.lemmas.List.{append-nil}
 use Rattle.tasks.specs.declared.declaration.Decl.{Decl}
-use Rattle.goal_tasks.proofs.Passed.{no_ok}
 use Rattle.goal_tasks.proofs.making.push_placed.Goals as goal
+use Rattle.outside.proofs.Passed.{no_ok}
 
 pub returns-in-None : goal.returns-in-None
 returns-in-None c = sym (append-nil c.args.out.now.items) ∙ ap (λ (z : Option Decl). c.args.out.now.items ++ option_to_list z) c.in-None.ensures.value

@@ -9,8 +9,8 @@ use Rattle.goal_tasks.specs.Named.{named, declarations_named}
 use Rattle.goal_tasks.specs.Tuples.{tuples_in}
 use Rattle.goal_tasks.specs.Meaning.{placed, AreTuples}
 use Rattle.goal_tasks.proofs.Placed.{before_is, placed_all}
-use Rattle.goal_tasks.proofs.Passed.{no_value}
 use Rattle.goal_tasks.proofs.making.task_decls.Goals as goal
+use Rattle.outside.proofs.Passed.{no_value}
 
 pub returns-in_err-own-clause-tree : goal.returns-in_err-own-clause-tree
 returns-in_err-own-clause-tree c = no_value _ _ c.from_residual.result c.from_residual.ensures.1

@@ -4,8 +4,8 @@ use Rattle.trees.specs.Node.{tree_at}
 use Rattle.tasks.specs.Meaning.{symbols_at, declarations_at}
 use Rattle.goal_tasks.specs.Named.{named, declarations_named}
 use Rattle.goal_tasks.proofs.TuplesMade.{tuples_same}
-use Rattle.goal_tasks.proofs.Passed.{no_value}
 use Rattle.goal_tasks.proofs.making.tuple_decls.Goals as goal
+use Rattle.outside.proofs.Passed.{no_value}
 
 pub named_in-requires-clause-symbols_held : goal.named_in-requires-clause-symbols_held
 named_in-requires-clause-symbols_held c = c.requires.symbols_held

@@ -7,8 +7,8 @@ use Rattle.tasks.specs.Task.{DeclarationTree}
 use Rattle.tasks.specs.Meaning.{symbols_at, declaration_at, declarations_at, DeclHeld}
 use Rattle.goal_tasks.specs.Named.{named, declarations_named}
 use Rattle.goal_tasks.specs.Tuples.{tuples_in}
-use Rattle.goal_tasks.proofs.Passed.{no_value}
 use Rattle.goal_tasks.proofs.making.with_tuples.Goals as goal
+use Rattle.outside.proofs.Passed.{no_value}
 
 pub tuple_decls-requires-clause-symbols_held : goal.tuple_decls-requires-clause-symbols_held
 tuple_decls-requires-clause-symbols_held c = c.requires.symbols_held

@@ -1,8 +1,8 @@
 use Rattle.std.proofs.Common.{◌≡◌, length, ap, ◌∙◌, arith}
 use Rattle.std.specs.List.{range_with_len}
 use Rattle.goal_tasks.proofs.TuplesMade.{numbers_more}
-use Rattle.goal_tasks.proofs.Passed.{no_value}
 use Rattle.goal_tasks.proofs.tuples.numbers.Goals as goal
+use Rattle.outside.proofs.Passed.{no_value}
 
 pub loop-number-preserved : goal.loop-number-preserved
 loop-number-preserved c = numbers_more c.args.from c.loop-number.number c.loop-number.all.items c.push.new.self.items c.in_ok-push.ensures.items c.loop-number.invariant

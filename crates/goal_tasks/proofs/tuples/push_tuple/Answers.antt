@@ -6,8 +6,8 @@ use Rattle.tasks.specs.Task.{DeclarationTree}
 use Rattle.tasks.specs.Meaning.{symbols_at, declaration_at, declarations_at, DeclHeld}
 use Rattle.goal_tasks.specs.Tuples.{tuple_declaration, tuples_of}
 use Rattle.goal_tasks.specs.Meaning.{IsTupleAt}
-use Rattle.goal_tasks.proofs.Passed.{no_ok}
 use Rattle.goal_tasks.proofs.tuples.push_tuple.Goals as goal
+use Rattle.outside.proofs.Passed.{no_ok}
 
 pub tuple_decl-requires-clause-symbols_held : goal.tuple_decl-requires-clause-symbols_held
 tuple_decl-requires-clause-symbols_held c = c.requires.symbols_held

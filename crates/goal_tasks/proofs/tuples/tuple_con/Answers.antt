@@ -7,8 +7,8 @@ use Rattle.tasks.specs.Task.{SymbolTree, ConstructorTree}
 use Rattle.tasks.specs.Equations.{type_variables}
 use Rattle.tasks.specs.Meaning.{trees_at, symbols_at}
 use Rattle.goal_tasks.proofs.TuplesMade.{entry_within, con_args}
-use Rattle.goal_tasks.proofs.Passed.{no_value}
 use Rattle.goal_tasks.proofs.tuples.tuple_con.Goals as goal
+use Rattle.outside.proofs.Passed.{no_value}
 
 pub prove-unreachable-requires : goal.prove-unreachable-requires
 prove-unreachable-requires c =

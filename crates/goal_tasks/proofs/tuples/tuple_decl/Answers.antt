@@ -3,9 +3,9 @@ use Rattle.std.specs.Fmt.{decimal}
 use Rattle.tasks.specs.Task.{SymbolTree, AlgebraicTree, Constructs, DeclarationTree}
 use Rattle.tasks.specs.Meaning.{algebraics_at, symbols_at}
 use Rattle.tasks.specs.Entries.{builtin}
-use Rattle.goal_tasks.proofs.Passed.{no_value}
 use Rattle.goal_tasks.proofs.TuplesMade.{entry_within, type_name}
 use Rattle.goal_tasks.proofs.tuples.tuple_decl.Goals as goal
+use Rattle.outside.proofs.Passed.{no_value}
 
 pub returns-in_err-name-clause-tree : goal.returns-in_err-name-clause-tree
 returns-in_err-name-clause-tree c = no_value _ _ c.from_residual.result c.from_residual.ensures.1

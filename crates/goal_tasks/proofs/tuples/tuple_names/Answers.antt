@@ -6,9 +6,9 @@ use Rattle.goal_tasks.specs.declared.tuples.TupleName.{TupleName}
 use Rattle.goal_tasks.specs.Tuples.{symbol_of_width}
 use Rattle.tasks.specs.Entries.{is_tuple, tuple_from}
 use Rattle.goal_tasks.proofs.TupleNames.{or_number, names_more, names_same}
-use Rattle.goal_tasks.proofs.Passed.{no_value}
 use Rattle.goal_tasks.proofs.tuples.tuple_names.Goals.{then-is_tuple+in_ok-push, else-is_tuple}
 use Rattle.goal_tasks.proofs.tuples.tuple_names.Goals as goal
+use Rattle.outside.proofs.Passed.{no_value}
 
 or_nothing : (m : Option ℕ) → or_number m None ≡ m
 or_nothing None = refl

@@ -1,5 +1,5 @@
-use Rattle.goal_tasks.proofs.Passed.{no_value}
 use Rattle.goal_tasks.proofs.tuples.tuple_types.Goals as goal
+use Rattle.outside.proofs.Passed.{no_value}
 
 pub returns-in_err-con-clause-tree : goal.returns-in_err-con-clause-tree
 returns-in_err-con-clause-tree c = no_value _ _ c.from_residual.result c.from_residual.ensures.1

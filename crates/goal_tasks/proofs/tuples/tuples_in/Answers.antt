@@ -7,8 +7,8 @@ use Rattle.goal_tasks.specs.declared.tuples.TupleName.{TupleName}
 use Rattle.tasks.specs.Entries.{tuple_in}
 use Rattle.goal_tasks.specs.Tuples.{symbol_of_width, tuples_of}
 use Rattle.goal_tasks.proofs.TuplesMade.{tuples_below, tuples_more, tuple_there}
-use Rattle.goal_tasks.proofs.Passed.{no_value}
 use Rattle.goal_tasks.proofs.tuples.tuples_in.Goals as goal
+use Rattle.outside.proofs.Passed.{no_value}
 
 pub push_tuple-requires-clause-at : goal.push_tuple-requires-clause-at
 push_tuple-requires-clause-at c =

@@ -8,8 +8,9 @@ use Rattle.name_tables.specs.Tables.{names_of}
 use Rattle.name_tables.specs.Seen.{seen_occurrences}
 use Rattle.printed_problems.specs.Problems.{is_sort, is_declared_symbol, places_from, formula_of}
 use Rattle.printed_problems.specs.declared.fault.PrintFault.TheVariants.{Memory}
-use Rattle.printed_problems.proofs.First.{meets_fault, no_value}
+use Rattle.printed_problems.proofs.First.{meets_fault}
 use Rattle.printed_problems.proofs.making.problem_by.Goals as goal
+use Rattle.outside.proofs.Passed.{no_value}
 
 pub returns : goal.returns
 returns c =

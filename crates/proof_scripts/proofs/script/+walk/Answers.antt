@@ -7,8 +7,9 @@ use Rattle.evidence.proofs.Formulas.{same, formulas_later, back}
 use Rattle.proof_scripts.specs.declared.line.Formulas.{Formulas}
 use Rattle.proof_scripts.specs.Scripts.{word_rule, ids_of, added_ids, added_at, lines_at, sequents_under, CanFollow}
 use Rattle.proof_scripts.specs.Derived.{Consumes, RefuteUnder}
-use Rattle.proof_scripts.proofs.Following.{follows_later, word_later, word_same, added_later, added_same, lines_later, lines_same, opened, given_here, first_held, rest_held, consumes_more, consumes_none, consumes_both, first_follows, second_follows, behind_held, wider_formulas, wider_follows, wider_consumes, wider_refute, rule_added, no_value}
+use Rattle.proof_scripts.proofs.Following.{follows_later, word_later, word_same, added_later, added_same, lines_later, lines_same, opened, given_here, first_held, rest_held, consumes_more, consumes_none, consumes_both, first_follows, second_follows, behind_held, wider_formulas, wider_follows, wider_consumes, wider_refute, rule_added}
 use Rattle.proof_scripts.proofs.script.+walk.Goals as goal
+use Rattle.outside.proofs.Passed.{no_value}
 
 pub walk-by_given-requires-clause-given : goal.walk-by_given-requires-clause-given
 walk-by_given-requires-clause-given t c =

@@ -5,9 +5,9 @@ use Rattle.trees.specs.Node.{tree_at}
 use Rattle.trees.specs.Sorts.{sort_of}
 use Rattle.tasks.specs.Valid.{IsGround}
 use Rattle.rule_rows.specs.Meaning.{task_of}
-use Rattle.rule_rows.proofs.Sequents.{no}
 use Rattle.rule_rows.proofs.Templates.{template_is, template_can}
 use Rattle.rule_rows.proofs.equality.is_template.Goals as goal
+use Rattle.tasks.proofs.Declared.{no}
 
 pub returns-then-loose-gt1 : goal.returns-then-loose-gt1
 returns-then-loose-gt1 c =

@@ -1,8 +1,10 @@
 use Rattle.std.proofs.Common.{◌++◌, codes}
 use Rattle.printed_terms.specs.Meaning.{printing}
 use Rattle.smt_texts.specs.Text.{assertion}
-use Rattle.smt_texts.proofs.Joins.{then_piece, mapped_step, no_ok}
+use Rattle.smt_texts.proofs.Joins.{mapped_step}
 use Rattle.smt_texts.proofs.lines.push_assertions.Goals as goal
+use Rattle.plain_laws.proofs.Lists.{then_piece}
+use Rattle.outside.proofs.Passed.{no_ok}
 
 pub loop-formula-preserved : goal.loop-formula-preserved
 loop-formula-preserved c =

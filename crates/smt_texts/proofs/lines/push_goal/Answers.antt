@@ -2,8 +2,10 @@ use Rattle.std.proofs.Common.{◌++◌, codes}
 use Rattle.trees.specs.Node.{tree_at}
 use Rattle.printed_terms.specs.Texts.{formula_text}
 use Rattle.printed_terms.specs.Meaning.{printing}
-use Rattle.smt_texts.proofs.Joins.{last_piece, ok_items, no_ok}
+use Rattle.smt_texts.proofs.Joins.{last_piece}
 use Rattle.smt_texts.proofs.lines.push_goal.Goals as goal
+use Rattle.plain_laws.proofs.Results.{ok_items}
+use Rattle.outside.proofs.Passed.{no_ok}
 
 pub returns : goal.returns
 returns c =

@@ -1,8 +1,10 @@
 use Rattle.std.proofs.Common.{◌++◌, codes}
 use Rattle.printed_terms.specs.Texts.{parameter}
 use Rattle.printed_terms.specs.Meaning.{printing}
-use Rattle.smt_texts.proofs.Joins.{then_piece, parameter_step, no_ok}
+use Rattle.smt_texts.proofs.Joins.{parameter_step}
 use Rattle.smt_texts.proofs.lines.push_parameter_lines.Goals as goal
+use Rattle.plain_laws.proofs.Lists.{then_piece}
+use Rattle.outside.proofs.Passed.{no_ok}
 
 pub loop-number-preserved : goal.loop-number-preserved
 loop-number-preserved c =

@@ -3,8 +3,11 @@ use Rattle.printed_terms.specs.Texts.{joined}
 use Rattle.printed_terms.specs.Ranks.{sorts_at}
 use Rattle.printed_terms.specs.Meaning.{printing}
 use Rattle.smt_texts.specs.Text.{smt_result_text}
-use Rattle.smt_texts.proofs.Joins.{then_piece, last_piece, ok_items, no_ok}
+use Rattle.smt_texts.proofs.Joins.{last_piece}
 use Rattle.smt_texts.proofs.lines.push_rank.Goals as goal
+use Rattle.plain_laws.proofs.Lists.{then_piece}
+use Rattle.plain_laws.proofs.Results.{ok_items}
+use Rattle.outside.proofs.Passed.{no_ok}
 
 pub returns : goal.returns
 returns c =

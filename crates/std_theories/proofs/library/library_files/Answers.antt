@@ -1,8 +1,8 @@
 use Rattle.std_theories.proofs.Files.{files_next, files_all}
 use Rattle.std_theories.specs.Library.{library_entry}
 use Rattle.std_theories.proofs.Sources.{entry_source}
-use Rattle.std_theories.proofs.Passed.{no_value}
 use Rattle.std_theories.proofs.library.library_files.Goals as goal
+use Rattle.outside.proofs.Passed.{no_value}
 
 pub push_file-requires : goal.push_file-requires
 push_file-requires c = entry_source library_entry c.entries-all.result.now c.loop-entry.entry-index _ c.entries-all.ensures c.loop-entry-test.true

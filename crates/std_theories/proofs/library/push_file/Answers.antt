@@ -1,7 +1,7 @@
 use Rattle.std.proofs.Common.{subst, ◌∙◌}
 use Rattle.std_theories.specs.Library.{IsFileOfText}
-use Rattle.std_theories.proofs.Passed.{no_ok}
 use Rattle.std_theories.proofs.library.push_file.Goals as goal
+use Rattle.outside.proofs.Passed.{no_ok}
 
 pub returns : goal.returns
 returns c = record {

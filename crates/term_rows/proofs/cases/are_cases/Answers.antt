@@ -5,8 +5,9 @@ use Rattle.tasks.specs.Meaning.{con_at}
 use Rattle.rule_rows.specs.Meaning.{steps_at, sequent_of, premises_of}
 use Rattle.rule_rows.specs.Trees.{step_or}
 use Rattle.rule_rows.proofs.Behind.{each_behind, one_behind}
-use Rattle.rule_rows.proofs.Sequents.{yes, no, not_so, map_twice}
+use Rattle.rule_rows.proofs.Sequents.{not_so, map_twice}
 use Rattle.term_rows.proofs.cases.are_cases.Goals as goal
+use Rattle.tasks.proofs.Declared.{yes, no}
 
 pub returns-then-not-is_wider : goal.returns-then-not-is_wider
 returns-then-not-is_wider c =

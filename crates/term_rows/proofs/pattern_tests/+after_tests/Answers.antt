@@ -6,8 +6,9 @@ use Rattle.rule_rows.specs.Meaning.{task_of}
 use Rattle.term_rows.specs.Asked.{list_at}
 use Rattle.term_rows.specs.Asked as asked
 use Rattle.term_rows.specs.Conjuncts.{conjunction_before}
-use Rattle.term_rows.proofs.TestLemmas.{if_some, un_some, is_list, from_list, inner, is_here, from_here}
+use Rattle.term_rows.proofs.TestLemmas.{un_some, is_list, from_list, inner, is_here, from_here}
 use Rattle.term_rows.proofs.pattern_tests.+after_tests.Goals as goal
+use Rattle.plain_laws.proofs.Options.{if_some}
 
 pub returns-in-Some-after_equation-clause-is : goal.returns-in-Some-after_equation-clause-is
 returns-in-Some-after_equation-clause-is t c =

@@ -3,9 +3,10 @@ use Rattle.trees.specs.Tree.{Leaf, HTrue}
 use Rattle.trees.specs.Node.{tree_at}
 use Rattle.tasks.specs.MatchTests.{tests}
 use Rattle.rule_rows.specs.Meaning.{task_of}
-use Rattle.rule_rows.proofs.Sequents.{no, not_so}
+use Rattle.rule_rows.proofs.Sequents.{not_so}
 use Rattle.term_rows.proofs.TestLemmas.{other_test}
 use Rattle.term_rows.proofs.pattern_tests.is_test.Goals as goal
+use Rattle.tasks.proofs.Declared.{no}
 
 pub returns-in_default : goal.returns-in_default
 returns-in_default c =

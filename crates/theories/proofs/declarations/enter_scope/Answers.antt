@@ -8,8 +8,9 @@ use Rattle.theory_states.specs.Meaning.{state_at}
 use Rattle.theories.specs.Typing.{IsTwice}
 use Rattle.theories.specs.Right.{IsStateRight}
 use Rattle.theories.proofs.Passing.{scoped_right, opened_scopes, opens_moves}
-use Rattle.theories.proofs.Passed.{no_ok, memory_so}
+use Rattle.theories.proofs.Passed.{memory_so}
 use Rattle.theories.proofs.declarations.enter_scope.Goals as goal
+use Rattle.outside.proofs.Passed.{no_ok}
 
 pub returns-clause-right : goal.returns-clause-right
 returns-clause-right c =

@@ -4,8 +4,9 @@ use Rattle.syntax_why.specs.SurfaceDeclarations.{element_of}
 use Rattle.theory_states.specs.Meaning.{state_at}
 use Rattle.clone_theories.specs.Cloned.{IsCloneFault}
 use Rattle.theories.proofs.Passing.{passed_right, passed_is}
-use Rattle.theories.proofs.Passed.{no_ok, only_memory}
+use Rattle.theories.proofs.Passed.{only_memory}
 use Rattle.theories.proofs.declarations.type_clone.Goals as goal
+use Rattle.outside.proofs.Passed.{no_ok}
 
 pub returns-clause-right : goal.returns-clause-right
 returns-clause-right c =

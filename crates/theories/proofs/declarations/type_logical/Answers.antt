@@ -5,8 +5,9 @@ use Rattle.theory_states.specs.Meaning.{state_at}
 use Rattle.theory_declarations.specs.Declared.{IsDeclaredFault}
 use Rattle.theories.proofs.Passing.{passed_right, passed_is}
 use Rattle.theories.proofs.Placing.{declared_placed}
-use Rattle.theories.proofs.Passed.{no_ok, only_memory}
+use Rattle.theories.proofs.Passed.{only_memory}
 use Rattle.theories.proofs.declarations.type_logical.Goals as goal
+use Rattle.outside.proofs.Passed.{no_ok}
 
 pub returns-clause-ok : goal.returns-clause-ok
 returns-clause-ok c =

@@ -4,8 +4,9 @@ use Rattle.theory_states.specs.Meaning.{known_at, state_at}
 use Rattle.theory_states.specs.Uses.{IsUnknownTheory}
 use Rattle.valid_tasks.proofs.Keeping.{used_typed}
 use Rattle.theories.proofs.Passing.{passed_right, passed_is}
-use Rattle.theories.proofs.Passed.{no_ok, only_memory}
+use Rattle.theories.proofs.Passed.{only_memory}
 use Rattle.theories.proofs.declarations.type_use.Goals as goal
+use Rattle.outside.proofs.Passed.{no_ok}
 
 pub returns-in_err-use_theory-clause-err : goal.returns-in_err-use_theory-clause-err
 returns-in_err-use_theory-clause-err c =

@@ -6,8 +6,9 @@ use Rattle.goal_tasks.specs.Meaning.{AreTuples}
 use Rattle.theory_states.specs.declared.states.KnownTheory.{KnownTheory}
 use Rattle.theories.specs.Ints.{int_entries}
 use Rattle.theories.proofs.Ending.{collected_is, collected_held, symbols_held}
-use Rattle.theories.proofs.Passed.{no_value, is_memory}
+use Rattle.theories.proofs.Passed.{is_memory}
 use Rattle.theories.proofs.files.collect.Goals as goal
+use Rattle.outside.proofs.Passed.{no_value}
 
 pub returns-clause-ok : goal.returns-clause-ok
 returns-clause-ok c = λ n.

@@ -6,8 +6,9 @@ use Rattle.theory_states.specs.declared.states.Typed.{Typed}
 use Rattle.theory_states.specs.States.{KnownTree, known_as}
 use Rattle.theory_states.specs.Meaning.{known_at, opened_at, KnownTheoryHeld}
 use Rattle.theories.proofs.Ending.{ended_is, ended_right}
-use Rattle.theories.proofs.Passed.{no_ok, no_value, is_memory}
+use Rattle.theories.proofs.Passed.{is_memory}
 use Rattle.theories.proofs.files.end_theory.Goals as goal
+use Rattle.outside.proofs.Passed.{no_ok, no_value}
 
 pub returns-clause-right : goal.returns-clause-right
 returns-clause-right c =

@@ -13,8 +13,9 @@ use Rattle.theories.specs.Right.{between_at}
 use Rattle.theories.proofs.Forgetting.{embedded_forgotten, first_so}
 use Rattle.theories.proofs.Walking.{fault_so}
 use Rattle.theories.proofs.Lists.{list_begins, list_next, list_fails, list_ends, steps_map, fault_map}
-use Rattle.theories.proofs.Passed.{no_ok, no_memory}
+use Rattle.theories.proofs.Passed.{no_memory}
 use Rattle.theories.proofs.files.type_embedded.Goals as goal
+use Rattle.outside.proofs.Passed.{no_ok}
 
 pub returns-clause-ok : goal.returns-clause-ok
 returns-clause-ok c =

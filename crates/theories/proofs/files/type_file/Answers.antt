@@ -12,8 +12,9 @@ use Rattle.theories.specs.Sound.{SoundTheoriesOf}
 use Rattle.theories.specs.Right.{between_at}
 use Rattle.theories.proofs.Forgetting.{library_forgotten, forgotten}
 use Rattle.theories.proofs.Walking.{fault_so}
-use Rattle.theories.proofs.Passed.{no_value, only_memory, no_memory}
+use Rattle.theories.proofs.Passed.{only_memory, no_memory}
 use Rattle.theories.proofs.files.type_file.Goals as goal
+use Rattle.outside.proofs.Passed.{no_value}
 
 pub type_library-requires-clause-right : goal.type_library-requires-clause-right
 type_library-requires-clause-right c = c.in_ok-typed.ensures.right c.args.store.now

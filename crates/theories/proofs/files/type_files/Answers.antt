@@ -11,8 +11,8 @@ use Rattle.theories.specs.Right.{between_at}
 use Rattle.theories.proofs.Walking.{fault_so}
 use Rattle.theories.proofs.Lists.{list_begins, list_next, list_fails, list_ends}
 use Rattle.theories.proofs.Forgetting.{file_forgotten, first_so}
-use Rattle.theories.proofs.Passed.{no_ok}
 use Rattle.theories.proofs.files.type_files.Goals as goal
+use Rattle.outside.proofs.Passed.{no_ok}
 
 pub returns-clause-ok : goal.returns-clause-ok
 returns-clause-ok c =

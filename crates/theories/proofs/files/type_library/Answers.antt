@@ -7,8 +7,9 @@ use Rattle.theories.specs.Files.{AreEmbeddedBy, AreEmbeddedFaulty, IsLibraryFaul
 use Rattle.theories.specs.Sound.{AreSoundlyTyped}
 use Rattle.theories.specs.Right.{between_at}
 use Rattle.theories.proofs.Walking.{answer_so}
-use Rattle.theories.proofs.Passed.{no_ok, no_memory}
+use Rattle.theories.proofs.Passed.{no_memory}
 use Rattle.theories.proofs.files.type_library.Goals as goal
+use Rattle.outside.proofs.Passed.{no_ok}
 
 pub returns-clause-ok : goal.returns-clause-ok
 returns-clause-ok c =

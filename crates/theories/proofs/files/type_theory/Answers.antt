@@ -10,8 +10,9 @@ use Rattle.theories.specs.Files.{IsEnded, IsTypedTheoryBy, IsTheoryFault}
 use Rattle.theories.specs.Sound.{AreSoundlyTyped}
 use Rattle.theories.specs.Right.{between_at}
 use Rattle.theories.proofs.Walking.{fault_so}
-use Rattle.theories.proofs.Passed.{no_ok, no_value, only_memory, no_memory}
+use Rattle.theories.proofs.Passed.{only_memory, no_memory}
 use Rattle.theories.proofs.files.type_theory.Goals as goal
+use Rattle.outside.proofs.Passed.{no_ok, no_value}
 
 pub returns-in_err-open-clause-ok : goal.returns-in_err-open-clause-ok
 returns-in_err-open-clause-ok c = no_value _ _ c.from_residual.result c.from_residual.ensures.1

@@ -4,8 +4,8 @@ use Rattle.syntax_why.specs.SurfaceDeclarations.{declared_name, param_of, clause
 use Rattle.elab_parts.specs.Declarations.{symbol, parameter_of, names_of_parameters, clause, inductive_predicate, made_by_clauses, made_by_inductives}
 use Rattle.theory_declarations.specs.Made.{moves_made}
 use Rattle.theory_declarations.proofs.Appended.{on_ok, name_then_both}
-use Rattle.theory_declarations.proofs.Passed.{no_ok}
 use Rattle.theory_declarations.proofs.made.+push_inductives.Goals as goal
+use Rattle.outside.proofs.Passed.{no_ok}
 
 pub returns : goal.returns
 returns t c =

@@ -4,8 +4,8 @@ use Rattle.syntax_why.specs.SurfaceDeclarations.{constructor_of, algebraic_of}
 use Rattle.elab_parts.specs.Declarations.{word, constructor, algebraic_type, made_by_constructors, made_type_names}
 use Rattle.theory_declarations.specs.Made.{moves_made}
 use Rattle.theory_declarations.proofs.Appended.{on_ok, name_then_both}
-use Rattle.theory_declarations.proofs.Passed.{no_ok}
 use Rattle.theory_declarations.proofs.made.+push_types.Goals as goal
+use Rattle.outside.proofs.Passed.{no_ok}
 
 pub returns : goal.returns
 returns t c =

@@ -10,8 +10,8 @@ use Rattle.theory_states.specs.Meaning.{state_at}
 use Rattle.theory_declarations.specs.Declared.{known_formula, to_prove, goals_said}
 use Rattle.trees.proofs.Nodes.{Grows_refl}
 use Rattle.theory_declarations.proofs.Pushed.{with_goals, no_goals, goal_pushed, goal_held}
-use Rattle.theory_declarations.proofs.Passed.{no_ok}
 use Rattle.theory_declarations.proofs.proposed.push_goal.Goals as goal
+use Rattle.outside.proofs.Passed.{no_ok}
 
 pub returns-clause-state : goal.returns-clause-state
 returns-clause-state c =

@@ -19,8 +19,8 @@ use Rattle.theory_states.specs.Uses.{OrMemory}
 use Rattle.theory_declarations.specs.Declared.{proposition_in, with_proposition, known_by, IsDeclaredFault}
 use Rattle.theory_declarations.proofs.Named.{named_held, known_state, is_declared, is_typed}
 use Rattle.theory_declarations.proofs.Sound.{declared_sound}
-use Rattle.theory_declarations.proofs.Passed.{no_ok}
 use Rattle.theory_declarations.proofs.typing.type_declaration.Goals as goal
+use Rattle.outside.proofs.Passed.{no_ok}
 
 -- what becomes known by a declaration leaves its number
 declarations_number : (ds : List DeclarationTree) (c : StateTree) → (with_declarations ds c).number ≡ c.number

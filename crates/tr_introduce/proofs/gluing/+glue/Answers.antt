@@ -15,8 +15,8 @@ use Rattle.tr_introduce.specs.Steps.{AreParamsBelow, EndsDraftAt}
 use Rattle.tr_introduce.proofs.Introduced.{prefix_inst}
 use Rattle.tr_introduce.proofs.Moving.{wider_formulas, neg_back}
 use Rattle.tr_introduce.proofs.Opening.{opened_formula, opened_below, opened_ends, premise_formula, conclusion_formula, wider_trees, wider_below, wider_ends, kind, ends_here}
-use Rattle.tr_introduce.proofs.Passed.{no_value}
 use Rattle.tr_introduce.proofs.gluing.+glue.Goals as goal
+use Rattle.outside.proofs.Passed.{no_value}
 
 pub glue_universal-glue_goal-requires : goal.glue_universal-glue_goal-requires
 glue_universal-glue_goal-requires t c =

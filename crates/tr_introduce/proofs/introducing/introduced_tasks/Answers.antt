@@ -1,7 +1,7 @@
-use Rattle.tr_introduce.proofs.Passed.{no_value}
 use Rattle.trees.proofs.Nodes.{Grows_refl}
 use Rattle.tr_introduce.proofs.Tasks.{one_more, one_held}
 use Rattle.tr_introduce.proofs.introducing.introduced_tasks.Goals as goal
+use Rattle.outside.proofs.Passed.{no_value}
 
 pub returns-in_err-tasks-clause-held : goal.returns-in_err-tasks-clause-held
 returns-in_err-tasks-clause-held c = no_value _ _ c.from_residual.result c.from_residual.ensures.1

@@ -5,9 +5,9 @@ use Rattle.trees.specs.Binding.{inst, Param}
 use Rattle.trees.proofs.Nodes.{Grows_refl, Grows_trans}
 use Rattle.tr_introduce.specs.Introduce.{prefix}
 use Rattle.tr_introduce.proofs.Introduced.{prefix_inst, held_universal, is_universal, is_implication, held_implication, of_neither}
-use Rattle.tr_introduce.proofs.Passed.{no_value}
 use Rattle.tasks.specs.Meaning.{trees_at}
 use Rattle.tr_introduce.proofs.introduction.+introduce.Goals as goal
+use Rattle.outside.proofs.Passed.{no_value}
 
 pub introduce-requires : goal.introduce-requires
 introduce-requires t c =

@@ -7,9 +7,9 @@ use Rattle.tasks.specs.Meaning.{task_at}
 use Rattle.tasks.proofs.Growth.{task_held_later, task_later}
 use Rattle.tr_introduce.specs.Introduce.{Judgement, introduced, judgement_of, with_judgement, judgement_at, prefix}
 use Rattle.tr_introduce.proofs.Introduced.{nothing_left}
-use Rattle.tr_introduce.proofs.Passed.{no_value}
 use Rattle.trees.proofs.Nodes.{Grows_refl}
 use Rattle.tr_introduce.proofs.introduction.introduced_task.Goals as goal
+use Rattle.outside.proofs.Passed.{no_value}
 
 pub returns-clause-held : goal.returns-clause-held
 returns-clause-held c =

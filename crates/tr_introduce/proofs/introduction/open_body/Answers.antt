@@ -1,4 +1,3 @@
-use Rattle.tr_introduce.proofs.Passed.{no_value}
 use Rattle.std.proofs.Common.{◌≡◌, ap, subst, ◌∙◌, arith}
 use Rattle.std.proofs.lemmas.Result.{IfOk-weaker}
 use Rattle.trees.specs.Tree.{Tree}
@@ -6,6 +5,7 @@ use Rattle.trees.specs.Node.{tree_at, Grows}
 use Rattle.trees.specs.Binding.{inst, Param}
 use Rattle.instances.specs.Instances.{IsInstance}
 use Rattle.tr_introduce.proofs.introduction.open_body.Goals as goal
+use Rattle.outside.proofs.Passed.{no_value}
 
 pub returns-in_err-made-clause-held : goal.returns-in_err-made-clause-held
 returns-in_err-made-clause-held g c = no_value _ _ c.from_residual.result c.from_residual.ensures.1

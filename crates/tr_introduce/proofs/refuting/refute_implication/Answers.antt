@@ -9,8 +9,8 @@ use Rattle.evidence.specs.Drafts.{Refutes}
 use Rattle.evidence.specs.Laws.{Extends_trans, AddsTrees_extends}
 use Rattle.evidence.proofs.Formulas.{formulas_later, one_formula, formula_later, two_formulas}
 use Rattle.tr_introduce.proofs.Moving.{regroup, failing_at, under_later, end_back}
-use Rattle.tr_introduce.proofs.Passed.{no_value}
 use Rattle.tr_introduce.proofs.refuting.refute_implication.Goals as goal
+use Rattle.outside.proofs.Passed.{no_value}
 
 pub keep_but-requires-clause-front : goal.keep_but-requires-clause-front
 keep_but-requires-clause-front c = formulas_later c.args.draft.now c.negation.new.draft (AddsTrees_extends _ _ c.in_ok-no_goal.ensures.grows) c.args.front.now c.requires.front

@@ -11,8 +11,8 @@ use Rattle.evidence.specs.Laws.{Extends_trans, AddsTrees_extends}
 use Rattle.evidence.proofs.Formulas.{same, formulas_later, formula_later, one_formula}
 use Rattle.tr_introduce.proofs.Moving.{regroup, end_later, end_back}
 use Rattle.tr_introduce.proofs.Opening.{new_below}
-use Rattle.tr_introduce.proofs.Passed.{no_value}
 use Rattle.tr_introduce.proofs.refuting.refute_universal.Goals as goal
+use Rattle.outside.proofs.Passed.{no_value}
 
 pub keep_but-requires-clause-front : goal.keep_but-requires-clause-front
 keep_but-requires-clause-front c = formulas_later c.args.draft.now c.negation.new.draft (AddsTrees_extends _ _ c.in_ok-no_goal.ensures.grows) c.args.front.now c.requires.front

@@ -1,7 +1,7 @@
-use Rattle.tr_introduce.proofs.Passed.{no_ok}
 use Rattle.std.proofs.Common.{sym, ◌∙◌}
 use Rattle.tr_introduce.proofs.Removed.{kept_same, kept_pushed, held_pushed}
 use Rattle.tr_introduce.proofs.removal.keep_decl.Goals as goal
+use Rattle.outside.proofs.Passed.{no_ok}
 
 pub returns-in_err-clone-clause-kept : goal.returns-in_err-clone-clause-kept
 returns-in_err-clone-clause-kept c = no_ok _ _ c.from_residual.result c.from_residual.ensures.1

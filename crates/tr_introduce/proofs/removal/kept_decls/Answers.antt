@@ -1,8 +1,8 @@
 use Rattle.std.proofs.Common.{sym, subst}
 use Rattle.tasks.specs.Meaning.{declarations_at, DeclHeld}
 use Rattle.tr_introduce.proofs.Removed.{kept_more, kept_all}
-use Rattle.tr_introduce.proofs.Passed.{no_value}
 use Rattle.tr_introduce.proofs.removal.kept_decls.Goals as goal
+use Rattle.outside.proofs.Passed.{no_value}
 
 pub loop-decl-preserved : goal.loop-decl-preserved
 loop-decl-preserved c =

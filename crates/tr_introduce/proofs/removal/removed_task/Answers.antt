@@ -4,8 +4,8 @@ use Rattle.tasks.specs.declared.declaration.Decl.{Decl}
 use Rattle.tasks.specs.Task.{DeclarationTree}
 use Rattle.tasks.specs.Meaning.{declarations_at, task_at, DeclHeld}
 use Rattle.tr_introduce.specs.Remove.{kept_decls}
-use Rattle.tr_introduce.proofs.Passed.{no_value}
 use Rattle.tr_introduce.proofs.removal.removed_task.Goals as goal
+use Rattle.outside.proofs.Passed.{no_value}
 
 pub returns-clause-task : goal.returns-clause-task
 returns-clause-task c =

@@ -1,5 +1,5 @@
-use Rattle.tr_introduce.proofs.Passed.{no_value}
 use Rattle.tr_introduce.proofs.removal.with_decls.Goals as goal
+use Rattle.outside.proofs.Passed.{no_value}
 
 pub returns-in_err-clone : goal.returns-in_err-clone
 returns-in_err-clone c = no_value _ _ c.from_residual.result c.from_residual.ensures.1

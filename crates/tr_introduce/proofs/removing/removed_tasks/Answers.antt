@@ -1,6 +1,6 @@
-use Rattle.tr_introduce.proofs.Passed.{no_value}
 use Rattle.tr_introduce.proofs.Tasks.{one_more, one_held}
 use Rattle.tr_introduce.proofs.removing.removed_tasks.Goals as goal
+use Rattle.outside.proofs.Passed.{no_value}
 
 pub returns-in_err-tasks-clause-tasks : goal.returns-in_err-tasks-clause-tasks
 returns-in_err-tasks-clause-tasks c = no_value _ _ c.from_residual.result c.from_residual.ensures.1

@@ -17,9 +17,9 @@ use Rattle.tr_split_goals.specs.Goals.{AreParamsBelow, splits}
 use Rattle.evidence.specs.Drafts.{Extends}
 use Rattle.evidence.proofs.Rules.{refutes_later}
 use Rattle.tr_split_goals.proofs.Values.{left_below, joined_below, premise_below, below_later, same_parts, opened_splits, valued_splits, new_below, then_below, else_below}
-use Rattle.tr_split_goals.proofs.Passed.{no_value}
 use Rattle.tr_split_goals.proofs.Moving.{two_later}
 use Rattle.tr_split_goals.proofs.gluing.+glue.Goals as goal
+use Rattle.outside.proofs.Passed.{no_value}
 
 -- ---- a conjunction
 pub glue_and-refute_and-requires-clause-front : goal.glue_and-refute_and-requires-clause-front

@@ -12,8 +12,8 @@ use Rattle.tr_split.specs.Split.{imp, split}
 use Rattle.tr_split.specs.Glue.{EndsOfParts}
 use Rattle.tr_split.proofs.Pieces.{sides_of, neg_back}
 use Rattle.tr_split_goals.proofs.Moving.{moved, two_later}
-use Rattle.tr_split_goals.proofs.Passed.{no_value}
 use Rattle.tr_split_goals.proofs.gluing.glue_iff.Goals as goal
+use Rattle.outside.proofs.Passed.{no_value}
 
 pub refute_iff-requires-clause-front : goal.refute_iff-requires-clause-front
 refute_iff-requires-clause-front c =

@@ -11,8 +11,8 @@ use Rattle.tr_split_goals.specs.declared.over.Over.TheVariants as stands
 use Rattle.tr_split_goals.specs.Over.{wholes, inners}
 use Rattle.tr_split_goals.proofs.Inner.{opened_formula}
 use Rattle.tr_split_goals.proofs.Opened.{param_at, opened_split, wholes_ends, inner_ends, kind}
-use Rattle.tr_split_goals.proofs.Passed.{no_value}
 use Rattle.tr_split_goals.proofs.opening.open_universal.Goals as goal
+use Rattle.outside.proofs.Passed.{no_value}
 
 pub ends_over-requires-clause-front : goal.ends_over-requires-clause-front
 ends_over-requires-clause-front c =

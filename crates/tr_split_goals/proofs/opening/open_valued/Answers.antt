@@ -13,8 +13,8 @@ use Rattle.tr_split_goals.proofs.Inner.{valued_formula}
 use Rattle.tr_split_goals.proofs.Opened.{valued_below, valued_split, wholes_ends, inner_ends}
 use Rattle.tr_split_goals.proofs.Overs.{over_later}
 use Rattle.tr_split_goals.proofs.Values.{value_at}
-use Rattle.tr_split_goals.proofs.Passed.{no_value}
 use Rattle.tr_split_goals.proofs.opening.open_valued.Goals as goal
+use Rattle.outside.proofs.Passed.{no_value}
 
 pub instance-requires-clause-closed : goal.instance-requires-clause-closed
 instance-requires-clause-closed c = (value_at c.args.draft.now c.args.goal c.args.value c.args.body c.requires.goal c.requires.tree c.requires.value_held).term.closed

@@ -10,8 +10,8 @@ use Rattle.tr_split.specs.Split.{split}
 use Rattle.tr_split.specs.Glue.{sequent_of_part}
 use Rattle.tr_split_goals.specs.Over.{whole_of, inner_of, extra_of, inners}
 use Rattle.tr_split_goals.proofs.Overs.{over_later, whole_end, inner_end, all_ends}
-use Rattle.tr_split_goals.proofs.Passed.{no_value}
 use Rattle.tr_split_goals.proofs.over.ends_over.Goals as goal
+use Rattle.outside.proofs.Passed.{no_value}
 
 pub part_end-requires-clause-front : goal.part_end-requires-clause-front
 part_end-requires-clause-front c = formulas_later c.args.draft.now c.loop-end.draft c.loop-end.invariant.grows c.args.front.now c.requires.front

@@ -10,9 +10,9 @@ use Rattle.evidence.proofs.Formulas.{same, formulas_later, formula_later}
 use Rattle.tr_split.specs.Split.{imp}
 use Rattle.tr_split_goals.proofs.Moving.{moved}
 use Rattle.tr_split_goals.proofs.Inner.{neg_same}
-use Rattle.tr_split_goals.proofs.Passed.{no_value}
 use Rattle.tr_split.specs.Glue.{IsNegation, IsImplication}
 use Rattle.tr_split_goals.proofs.over.part_under.Goals as goal
+use Rattle.outside.proofs.Passed.{no_value}
 
 pub end_under-requires-clause-front : goal.end_under-requires-clause-front
 end_under-requires-clause-front c =

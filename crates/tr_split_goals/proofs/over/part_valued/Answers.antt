@@ -10,11 +10,11 @@ use Rattle.evidence.specs.Laws.{Extends_trans, AddsTrees_extends, AddsTrees_tran
 use Rattle.evidence.proofs.Formulas.{same, formulas_later, formula_later}
 use Rattle.tr_split_goals.proofs.Moving.{moved}
 use Rattle.tr_split_goals.proofs.Inner.{neg_same, valued_formula}
-use Rattle.tr_split_goals.proofs.Passed.{no_value}
 use Rattle.tr_split.specs.Glue.{IsNegation}
 use Rattle.tr_split_goals.specs.Over.{IsBinding}
 use Rattle.trees.specs.declared.Op.TheVariants.{Iff}
 use Rattle.tr_split_goals.proofs.over.part_valued.Goals as goal
+use Rattle.outside.proofs.Passed.{no_value}
 
 pub negation-requires : goal.negation-requires
 negation-requires c =

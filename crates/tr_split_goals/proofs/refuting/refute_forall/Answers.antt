@@ -15,8 +15,8 @@ use Rattle.proof_scripts.specs.declared.line.Formulas.TheVariants as formulas
 use Rattle.proof_scripts.specs.declared.line.Line.TheVariants as line
 use Rattle.tr_split_goals.proofs.Moving.{end_back, moved, front_length, lines_held}
 use Rattle.tr_split_goals.proofs.Scripts.{forall_at}
-use Rattle.tr_split_goals.proofs.Passed.{no_value}
 use Rattle.tr_split_goals.proofs.refuting.refute_forall.Goals as goal
+use Rattle.outside.proofs.Passed.{no_value}
 
 pub derive-requires-clause-front : goal.derive-requires-clause-front
 derive-requires-clause-front c = formulas_later c.args.draft.now c.negation.new.draft (AddsTrees_extends _ _ c.in_ok-no_goal.ensures.grows) c.args.front.now c.requires.front

@@ -4,9 +4,10 @@ use Rattle.trees.specs.Node.{tree_at}
 use Rattle.trees.specs.Sorts.{Fits}
 use Rattle.tree_writing.specs.Referring.{words_of}
 use Rattle.tree_writing.specs.Used.{IsUsed}
-use Rattle.tree_writing.proofs.UsedBack.{fun_back, pred_back, some_and}
+use Rattle.tree_writing.proofs.UsedBack.{fun_back, pred_back}
 use Rattle.tree_writing.proofs.Reading.{if_ok}
 use Rattle.tree_writing.proofs.used.applied_words.Goals as goal
+use Rattle.plain_laws.proofs.Options.{some_and}
 
 pub returns-in-Fun : goal.returns-in-Fun
 returns-in-Fun c =

@@ -4,9 +4,10 @@ use Rattle.trees.specs.Node.{tree_at}
 use Rattle.trees.specs.Sorts.{Fits}
 use Rattle.tree_writing.specs.Referring.{words_of}
 use Rattle.tree_writing.specs.Used.{IsUsed, HasPatternForm}
-use Rattle.tree_writing.proofs.UsedBack.{any_back, var_back, alias_back, con_back, some_and, no_other_pattern}
+use Rattle.tree_writing.proofs.UsedBack.{any_back, var_back, alias_back, con_back, no_other_pattern}
 use Rattle.tree_writing.proofs.Reading.{if_ok}
 use Rattle.tree_writing.proofs.used.pattern_words.Goals as goal
+use Rattle.plain_laws.proofs.Options.{some_and}
 
 pub unreachable-requires : goal.unreachable-requires
 unreachable-requires c =

@@ -5,8 +5,9 @@ use Rattle.rule_rows.specs.declared.rule.Rule.{Rule}
 use Rattle.rule_rows.specs.Meaning.{rule_at}
 use Rattle.tree_writing.specs.Spelt.{IsSpelt}
 use Rattle.written_files.specs.Named.{rule_symbols}
-use Rattle.written_files.proofs.Naming.{only, found_iff}
+use Rattle.written_files.proofs.Naming.{only}
 use Rattle.written_files.proofs.named.names_symbol.Goals as goal
+use Rattle.tree_writing.proofs.Whole.{found_iff}
 
 pub returns-in-Def : goal.returns-in-Def
 returns-in-Def c =
